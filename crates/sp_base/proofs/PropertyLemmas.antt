@@ -1,0 +1,206 @@
+-- Lists of properties in the order of their names: what a search, a write and a removal make of them.
+use Rattle.std.proofs.Common.{◌≡◌, ℕ, zero, suc, ◌+◌, ◌<◌, Bool, true, false, not, ◌&&◌, T, List, [], ◌∷◌, ◌++◌, Some, None, length, get_or, take, drop, refl, sym, ◌∙◌, ap, subst, arith, add-one}
+use Rattle.std.proofs.lemmas.List.{take-append-drop, take-set, drop-set}
+use Rattle.std.proofs.Math.Seq.{drop-cons}
+use Rattle.std.proofs.Common.{cond}
+use Rattle.std.proofs.Math.ListN.{set}
+use Rattle.std.specs.List.{remove}
+use Rattle.std.specs.Ordering.{is_lt, is_eq, eq_by_cmp, ordering_reverse}
+use Rattle.std.specs.declared.cmp.Ordering.{Ordering}
+use Rattle.std.specs.declared.cmp.Ordering.TheVariants.{Less, Equal, Greater}
+use Rattle.std.specs.Cmp.{IsTotalOrder}
+use Rattle.std.specs.Cmp.Lexicographic.{nat_list_cmp_total}
+use Rattle.std.specs.FinMap.{slice_cmp-IsAntisymmetric, nat_cmp-IsAntisymmetric}
+use Rattle.std.specs.FinMap.Entries.{put, find, is_sorted, below_all, where_key, by_order}
+use Rattle.std.proofs.lemmas.Cmp.{tied_itself}
+use Rattle.sp_base.specs.declared.value.Value.{Value}
+use Rattle.sp_base.specs.Properties.{by_name, all_before, IsAt, IsGap}
+
+abbrev Props : Type 0
+Props = List (List ℕ × Value)
+
+both : (a b : Bool) → T a → T b → T (a && b)
+both true b p q = q
+both false b p q = p
+
+first : (a b : Bool) → T (a && b) → T a
+first true b p = tt
+first false b p = p
+
+second : (a b : Bool) → T (a && b) → T b
+second true b p = p
+second false b p = absurd p
+
+less_is : (o : Ordering) → T (is_lt o) → o ≡ Less
+less_is Less p = refl
+less_is Equal p = absurd p
+less_is Greater p = absurd p
+
+is_less : (o : Ordering) → o ≡ Less → T (is_lt o)
+is_less o e = subst (λ r. T (is_lt r)) (sym e) tt
+
+total : IsTotalOrder by_name
+total = nat_list_cmp_total
+
+pub same_name : (x y : List ℕ) → by_name x y ≡ Equal → x ≡ y
+same_name = slice_cmp-IsAntisymmetric nat_cmp-IsAntisymmetric
+
+greater_back : (x y : List ℕ) → by_name x y ≡ Less → by_name y x ≡ Greater
+greater_back x y e = total.antisymm y x ∙ ap ordering_reverse e
+
+pub less_back : (x y : List ℕ) → by_name x y ≡ Greater → by_name y x ≡ Less
+less_back x y e = total.antisymm y x ∙ ap ordering_reverse e
+
+below_less : (x y : List ℕ) (es : Props) → by_name x y ≡ Less → T (below_all by_name y es) → T (below_all by_name x es)
+below_less x y [] p h = tt
+below_less x y (e ∷ es) p h =
+    both _ _ (is_less _ (total.trans x y e.0 p (less_is _ (first _ _ h)))) (below_less x y es p (second _ _ h))
+
+below_at : (x : List ℕ) (es : Props) (i : ℕ) (d : List ℕ × Value) → T (below_all by_name x es) → i < length es → d ≡ get_or es i d → by_name x d.0 ≡ Less
+below_at x [] i d h lt is = absurd (omega (arith, lt))
+below_at x (e ∷ es) zero d h lt is = ap (λ (p : List ℕ × Value). by_name x p.0) is ∙ less_is _ (first _ _ h)
+below_at x (e ∷ es) (suc i) d h lt is = below_at x es i d (second _ _ h) (omega (arith, lt)) is
+
+-- the names up to one that is before this one are before it
+before_to : (name : List ℕ) (es : Props) (i : ℕ) (d : List ℕ × Value) → T (is_sorted by_name es) → i < length es → d ≡ get_or es i d
+    → by_name d.0 name ≡ Less → all_before name (take (suc i) es)
+before_to name [] i d s lt is less = absurd (omega (arith, lt))
+before_to name (e ∷ es) zero d s lt is less = both _ _ (is_less _ (ap (λ (p : List ℕ × Value). by_name p.0 name) (sym is) ∙ less)) tt
+before_to name (e ∷ es) (suc i) d s lt is less =
+    let shorter : i < length es = omega (arith, lt) in
+    both _ _ (is_less _ (total.trans e.0 d.0 name (below_at e.0 es i d (first _ _ s) shorter is) less))
+    (before_to name es i d (second _ _ s) shorter is less)
+
+pub before_more : (name : List ℕ) (es : Props) (i : ℕ) (d : List ℕ × Value) → T (is_sorted by_name es) → i < length es → d ≡ get_or es i d
+    → by_name name d.0 ≡ Greater → all_before name (take (i + 1) es)
+before_more name es i d s lt is greater = rw (add-one) (before_to name es i d s lt is (less_back name d.0 greater))
+
+-- the names from one on that is behind this one are behind it
+pub behind_from : (name : List ℕ) (es : Props) (i : ℕ) (d : List ℕ × Value) → T (is_sorted by_name es) → i < length es → d ≡ get_or es i d
+    → by_name name d.0 ≡ Less → T (below_all by_name name (drop i es))
+behind_from name [] i d s lt is less = absurd (omega (arith, lt))
+behind_from name (e ∷ es) zero d s lt is less =
+    let here = ap (λ (p : List ℕ × Value). by_name name p.0) (sym is) ∙ less in
+    both _ _ (is_less _ here) (below_less name e.0 es here (first _ _ s))
+behind_from name (e ∷ es) (suc i) d s lt is less = behind_from name es i d (second _ _ s) (omega (arith, lt)) is less
+
+before_name : (es : Props) (i : ℕ) (d : List ℕ × Value) → T (is_sorted by_name es) → i < length es → d ≡ get_or es i d → all_before d.0 (take i es)
+before_name [] i d s lt is = absurd (omega (arith, lt))
+before_name (e ∷ es) zero d s lt is = tt
+before_name (e ∷ es) (suc i) d s lt is =
+    let shorter : i < length es = omega (arith, lt) in
+    both _ _ (is_less _ (below_at e.0 es i d (first _ _ s) shorter is)) (before_name es i d (second _ _ s) shorter is)
+
+parts_at : (es : Props) (i : ℕ) (d : List ℕ × Value) → i < length es → d ≡ get_or es i d → es ≡ take i es ++ d ∷ drop (i + 1) es
+parts_at es i d lt is =
+    sym (take-append-drop i es) ∙ ap (λ rest. take i es ++ rest) (drop-cons es i d lt ∙ ap (λ p. p ∷ drop (suc i) es) (sym is))
+    ∙ ap (λ n. take i es ++ d ∷ drop n es) (sym (add-one i))
+
+one_item : (es : Props) (i : ℕ) (d e : List ℕ × Value) → i < length es → d ≡ get_or es i d → e ≡ get_or es i e → e ≡ d
+one_item [] i d e lt is same = absurd (omega (arith, lt))
+one_item (x ∷ es) zero d e lt is same = same ∙ sym is
+one_item (x ∷ es) (suc i) d e lt is same = one_item es i d e (omega (arith, lt)) is same
+
+pub found_at : (name : List ℕ) (es : Props) (i : ℕ) (d : List ℕ × Value) → T (is_sorted by_name es) → i < length es → d ≡ get_or es i d
+    → by_name name d.0 ≡ Equal → IsAt name es i
+found_at name es i (key, value) s lt is tie =
+    let same = same_name name key tie in
+    record {
+      value = value;
+      within = lt;
+      before = subst (λ n. all_before n (take i es)) (sym same) (before_name es i (key, value) s lt is);
+      parts = parts_at es i (key, value) lt is ∙ ap (λ n. take i es ++ (n, value) ∷ drop (i + 1) es) (sym same);
+      item = λ p at. one_item es i (key, value) p lt is at ∙ ap (λ (n : List ℕ). (n, value)) (sym same);
+    }
+
+-- look-ups, writes and removals at a place
+find_front : (name : List ℕ) (front rest : Props) → all_before name front → find by_name name (front ++ rest) ≡ find by_name name rest
+find_front name [] rest h = refl
+find_front name (e ∷ front) rest h =
+    ap (λ o. cond (is_eq o) (Some e.1) (find by_name name (front ++ rest))) (greater_back e.0 name (less_is _ (first _ _ h)))
+    ∙ find_front name front rest (second _ _ h)
+
+find_behind : (name : List ℕ) (rest : Props) → T (below_all by_name name rest) → find by_name name rest ≡ None
+find_behind name [] h = refl
+find_behind name (e ∷ rest) h =
+    ap (λ o. cond (is_eq o) (Some e.1) (find by_name name rest)) (less_is _ (first _ _ h)) ∙ find_behind name rest (second _ _ h)
+
+put_front : (name : List ℕ) (value : Value) (front rest : Props) → all_before name front → put by_name name value (front ++ rest) ≡ front ++ put by_name name value rest
+put_front name value [] rest h = refl
+put_front name value (e ∷ front) rest h =
+    ap (λ o. by_order o ((name, value) ∷ e ∷ (front ++ rest)) ((e.0, value) ∷ (front ++ rest)) (e ∷ put by_name name value (front ++ rest)))
+    (greater_back e.0 name (less_is _ (first _ _ h)))
+    ∙ ap (λ es. e ∷ es) (put_front name value front rest (second _ _ h))
+
+put_behind : (name : List ℕ) (value : Value) (rest : Props) → T (below_all by_name name rest) → put by_name name value rest ≡ (name, value) ∷ rest
+put_behind name value [] h = refl
+put_behind name value (e ∷ rest) h =
+    ap (λ o. by_order o ((name, value) ∷ e ∷ rest) ((e.0, value) ∷ rest) (e ∷ put by_name name value rest)) (less_is _ (first _ _ h))
+
+abbrev is_other : List ℕ → List ℕ → Bool
+is_other name key = not (eq_by_cmp by_name name key)
+
+others_front : (name : List ℕ) (front rest : Props) → all_before name front → where_key by_name (is_other name) (front ++ rest) ≡ front ++ where_key by_name (is_other name) rest
+others_front name [] rest h = refl
+others_front name (e ∷ front) rest h =
+    ap (λ o. cond (not (is_eq o)) (e ∷ where_key by_name (is_other name) (front ++ rest)) (where_key by_name (is_other name) (front ++ rest)))
+    (greater_back e.0 name (less_is _ (first _ _ h)))
+    ∙ ap (λ es. e ∷ es) (others_front name front rest (second _ _ h))
+
+others_behind : (name : List ℕ) (rest : Props) → T (below_all by_name name rest) → where_key by_name (is_other name) rest ≡ rest
+others_behind name [] h = refl
+others_behind name (e ∷ rest) h =
+    ap (λ o. cond (not (is_eq o)) (e ∷ where_key by_name (is_other name) rest) (where_key by_name (is_other name) rest)) (less_is _ (first _ _ h))
+    ∙ ap (λ es. e ∷ es) (others_behind name rest (second _ _ h))
+
+sorted_rest : (front rest : Props) → T (is_sorted by_name (front ++ rest)) → T (is_sorted by_name rest)
+sorted_rest [] rest h = h
+sorted_rest (e ∷ front) rest h = sorted_rest front rest (second _ _ h)
+
+pub find_at : (name : List ℕ) (es : Props) (i : ℕ) → (p : IsAt name es i) → find by_name name es ≡ Some p.value
+find_at name es i p =
+    ap (find by_name name) p.parts ∙ find_front name (take i es) ((name, p.value) ∷ drop (i + 1) es) p.before
+    ∙ ap (λ o. cond (is_eq o) (Some p.value) (find by_name name (drop (i + 1) es))) (tied_itself total name)
+
+pub find_gap : (name : List ℕ) (es : Props) (i : ℕ) → IsGap name es i → find by_name name es ≡ None
+find_gap name es i p =
+    ap (find by_name name) (sym (take-append-drop i es)) ∙ find_front name (take i es) (drop i es) p.before ∙ find_behind name (drop i es) p.behind
+
+pub put_at : (name : List ℕ) (value : Value) (es : Props) (i : ℕ) → IsAt name es i → put by_name name value es ≡ take i es ++ (name, value) ∷ drop (i + 1) es
+put_at name value es i p =
+    ap (put by_name name value) p.parts ∙ put_front name value (take i es) ((name, p.value) ∷ drop (i + 1) es) p.before
+    ∙ ap (λ o. take i es ++ by_order o ((name, value) ∷ (name, p.value) ∷ drop (i + 1) es) ((name, value) ∷ drop (i + 1) es)
+    ((name, p.value) ∷ put by_name name value (drop (i + 1) es))) (tied_itself total name)
+
+pub put_gap : (name : List ℕ) (value : Value) (es : Props) (i : ℕ) → IsGap name es i → put by_name name value es ≡ take i es ++ (name, value) ∷ drop i es
+put_gap name value es i p =
+    ap (put by_name name value) (sym (take-append-drop i es)) ∙ put_front name value (take i es) (drop i es) p.before
+    ∙ ap (λ rest. take i es ++ rest) (put_behind name value (drop i es) p.behind)
+
+pub others_at : (name : List ℕ) (es : Props) (i : ℕ) → IsAt name es i → T (is_sorted by_name es)
+    → where_key by_name (is_other name) es ≡ take i es ++ drop (i + 1) es
+others_at name es i p s =
+    let rest = drop (i + 1) es in
+    let sorted = sorted_rest (take i es) ((name, p.value) ∷ rest) (subst (λ list. T (is_sorted by_name list)) p.parts s) in
+    ap (where_key by_name (is_other name)) p.parts ∙ others_front name (take i es) ((name, p.value) ∷ rest) p.before
+    ∙ ap (λ o. take i es ++ cond (not (is_eq o)) ((name, p.value) ∷ where_key by_name (is_other name) rest) (where_key by_name (is_other name) rest)) (tied_itself total name)
+    ∙ ap (λ list. take i es ++ list) (others_behind name rest (first _ _ sorted))
+
+pub others_gap : (name : List ℕ) (es : Props) (i : ℕ) → IsGap name es i → where_key by_name (is_other name) es ≡ es
+others_gap name es i p =
+    ap (where_key by_name (is_other name)) (sym (take-append-drop i es)) ∙ others_front name (take i es) (drop i es) p.before
+    ∙ ap (λ rest. take i es ++ rest) (others_behind name (drop i es) p.behind) ∙ take-append-drop i es
+
+pub set_at : (name : List ℕ) (value : Value) (es : Props) (i : ℕ) (d : List ℕ × Value) → IsAt name es i → d ≡ get_or es i d
+    → set es i (d.0, value) ≡ put by_name name value es
+set_at name value es i d p is =
+    ap (λ (e : List ℕ × Value). set es i (e.0, value)) (p.item d is)
+    ∙ sym (take-append-drop i (set es i (name, value)))
+    ∙ ap (λ front. front ++ drop i (set es i (name, value))) (take-set es i (name, value))
+    ∙ ap (λ rest. take i es ++ rest) (drop-set es i (name, value) p.within) ∙ sym (put_at name value es i p)
+
+pub value_at : (name : List ℕ) (es : Props) (i : ℕ) (d : List ℕ × Value) → IsAt name es i → d ≡ get_or es i d → Some d.1 ≡ find by_name name es
+value_at name es i d p is = ap (λ (e : List ℕ × Value). Some e.1) (p.item d is) ∙ sym (find_at name es i p)
+
+pub remove_at : (name : List ℕ) (es : Props) (i : ℕ) → IsAt name es i → T (is_sorted by_name es) → remove es i ≡ where_key by_name (is_other name) es
+remove_at name es i p s = ap (λ n. take i es ++ drop n es) (sym (add-one i)) ∙ sym (others_at name es i p s)

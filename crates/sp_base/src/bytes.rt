@@ -1,0 +1,44 @@
+ghost use Rattle.std.specs.Prelude.{◌≡◌, IfOk};
+
+use crate::Mem;
+use std::alloc::Global;
+use std::marker::Model;
+
+/// Owned bytes.
+#[derive(Drop)]
+pub struct ByteBuf {
+    bytes: Vec<u8>,
+}
+
+impl Model for ByteBuf {
+    ghost use Rattle.std.specs.Prelude.{List, ℕ};
+
+    ghost Value = { List ℕ };
+
+    ghost view = { λ b. b.bytes.items };
+}
+
+impl ByteBuf {
+    /// A copy of bytes.
+    pub fn of(alloc: Global, bytes: &[u8]) -> Mem<ByteBuf>
+        ensures { IfOk result (λ b. b ≡ bytes.now) }
+    {
+        Ok(ByteBuf {
+            bytes: Vec::from_slice(alloc, bytes)?,
+        })
+    }
+
+    pub fn bytes(&self) -> &[u8]
+        ensures { result.now ≡ self.now }
+    {
+        self.bytes.as_slice()
+    }
+}
+
+impl From<Vec<u8>> for ByteBuf {
+    ghost from_gives = { λ bytes b. b ≡ bytes.items };
+
+    fn from(bytes: Vec<u8>) -> ByteBuf {
+        ByteBuf { bytes }
+    }
+}

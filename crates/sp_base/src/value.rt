@@ -1,0 +1,31 @@
+ghost use Rattle.std.specs.Prelude.{◌≡◌, IfOk};
+
+use crate::items::{LongList, TextList, TruthList};
+use crate::{Mem, TextBuf};
+use std::alloc::Global;
+
+/// The value of a property: a text, a number, a truth, or a list of one kind of these.
+#[derive(Drop)]
+pub enum Value {
+    Text(TextBuf),
+    Long(i64),
+    Truth(bool),
+    Texts(TextList),
+    Longs(LongList),
+    Truths(TruthList),
+}
+
+impl Value {
+    pub fn duplicate(&self, alloc: Global) -> Mem<Value>
+        ensures { IfOk result (λ v. v ≡ self.now) }
+    {
+        Ok(match self {
+            Value::Text(text) => Value::Text(text.duplicate(alloc)?),
+            Value::Long(number) => Value::Long(*number),
+            Value::Truth(truth) => Value::Truth(*truth),
+            Value::Texts(texts) => Value::Texts(texts.duplicate(alloc)?),
+            Value::Longs(numbers) => Value::Longs(numbers.duplicate(alloc)?),
+            Value::Truths(truths) => Value::Truths(truths.duplicate(alloc)?),
+        })
+    }
+}

@@ -1,6 +1,6 @@
 ghost use Rattle.std.specs.Prelude.{◌≡◌, ◌==◌, [], ◌∷◌, ◌++◌, IfOk, OnOk, OnErr, option_copied, slice_get, length};
 
-use crate::{Mem, TextBuf};
+use crate::{Mem, Path, TextBuf};
 use std::alloc::Global;
 use std::marker::Model;
 
@@ -17,6 +17,8 @@ pub type NameList = Items<TextBuf>;
 pub type LongList = Items<i64>;
 
 pub type TruthList = Items<bool>;
+
+pub type PathList = Items<Path>;
 /// The numbers of calls, counted from 1.
 pub type CallList = Items<u64>;
 

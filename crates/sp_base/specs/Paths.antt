@@ -1,0 +1,92 @@
+use Rattle.std.specs.Prelude.{◌==◌, ◌&&◌, ◌||◌, ◌++◌, ◌-◌, ◌+◌, ℕ, Bool, not, nat_eq, nat_lt, nat_le, if◌then◌else◌, List, [], ◌∷◌, Option, Some, None, Result, Ok, Err, codes, drop, take, length, flat_map, map}
+use Rattle.std.specs.List.{list_any, list_all, position, slice_split, starts_with}
+use Rattle.std.specs.Cmp.Lexicographic.{pointwise, slice_cmp}
+use Rattle.std.specs.Ordering.{nat_cmp}
+use Rattle.std.specs.declared.cmp.Ordering.{Ordering}
+use Rattle.sp_base.specs.declared.path.PathFault.{PathFault}
+use Rattle.sp_base.specs.declared.path.PathFault.TheVariants.{NotAbsolute, EmptySegment, DotSegment, LongSegment, TooDeep}
+
+-- paths are ordered segment by segment, and segments by their bytes
+abbrev pub by_path : List (List ℕ) → List (List ℕ) → Ordering
+by_path = slice_cmp (slice_cmp nat_cmp)
+
+abbrev pub is_empty : List ℕ → Bool
+is_empty seg = length seg == 0
+
+-- `.` and `..` name no segment
+abbrev pub is_dots : List ℕ → Bool
+is_dots seg = pointwise nat_eq seg (codes ".") || pointwise nat_eq seg (codes "..")
+
+-- a segment has at most 200 bytes
+abbrev pub is_long : List ℕ → Bool
+is_long seg = nat_lt 200 (length seg)
+
+abbrev pub has_slash : List ℕ → Bool
+has_slash seg = list_any (λ b. b == 47) seg
+
+-- a name that may be a segment
+abbrev pub seg_ok : List ℕ → Bool
+seg_ok name = not (is_empty name) && (not (is_dots name) && (not (is_long name) && not (has_slash name)))
+
+-- segments that make a path: at most 64
+abbrev pub is_path : List (List ℕ) → Bool
+is_path segs = list_all seg_ok segs && nat_le (length segs) 64
+
+-- why pieces are no path: an empty piece, else a dot piece, else the first long one, else their number
+abbrev pub size_fault : Option ℕ → ℕ → Option PathFault
+size_fault (Some place) n = Some (LongSegment place)
+size_fault None n = if nat_lt 64 n then Some TooDeep else None
+
+abbrev pub fault_of : List (List ℕ) → Option PathFault
+fault_of segs = if list_any is_empty segs then Some EmptySegment else (if list_any is_dots segs then Some DotSegment else size_fault (position is_long segs) (length segs))
+
+abbrev pub unless_fault : Option PathFault → List (List ℕ) → Result (List (List ℕ)) PathFault
+unless_fault None segs = Ok segs
+unless_fault (Some fault) segs = Err fault
+
+-- the path of these pieces
+abbrev pub checked : List (List ℕ) → Result (List (List ℕ)) PathFault
+checked segs = unless_fault (fault_of segs) segs
+
+-- the pieces of a text between its slashes
+abbrev pub pieces : List ℕ → List (List ℕ)
+pieces text = slice_split (λ b. b == 47) text
+
+-- the path that a text spells: `/`, or a slash before each segment
+abbrev pub path_of : List ℕ → Result (List (List ℕ)) PathFault
+path_of [] = Err NotAbsolute
+path_of (b ∷ text) = if b == 47 then (if is_empty text then Ok [] else checked (pieces text)) else Err NotAbsolute
+
+-- the path with a name behind it
+abbrev pub child_of : List (List ℕ) → List ℕ → Result (List (List ℕ)) PathFault
+child_of segs name = checked (segs ++ pieces name)
+
+-- one path behind another
+abbrev pub join_of : List (List ℕ) → List (List ℕ) → Result (List (List ℕ)) PathFault
+join_of segs rest = checked (segs ++ rest)
+
+abbrev pub parent_of : List (List ℕ) → List (List ℕ)
+parent_of segs = take (length segs - 1) segs
+
+-- the text that spells a path
+abbrev pub text_of : List (List ℕ) → List ℕ
+text_of [] = codes "/"
+text_of (seg ∷ segs) = flat_map (λ s. 47 ∷ s) (seg ∷ segs)
+
+-- the first path begins with all segments of the second
+abbrev pub is_under : List (List ℕ) → List (List ℕ) → Bool
+is_under path other = starts_with (pointwise nat_eq) path other
+
+-- a namespace prefix written for URLs: `_jcr_content` is `jcr:content`
+abbrev pub has_mangled : List ℕ → List ℕ → Bool
+has_mangled prefix seg = starts_with nat_eq seg (95 ∷ prefix ++ 95 ∷ []) && nat_lt (length prefix + 2) (length seg)
+
+abbrev pub unmangled_by : List ℕ → List ℕ → List ℕ
+unmangled_by prefix seg = prefix ++ 58 ∷ drop (length prefix + 2) seg
+
+abbrev pub unmangled_seg : List ℕ → List ℕ
+unmangled_seg seg = if has_mangled (codes "jcr") seg then unmangled_by (codes "jcr") seg else (if has_mangled (codes "sling") seg then unmangled_by (codes "sling") seg
+    else (if has_mangled (codes "nt") seg then unmangled_by (codes "nt") seg else (if has_mangled (codes "cq") seg then unmangled_by (codes "cq") seg else seg)))
+
+abbrev pub unmangled : List (List ℕ) → List (List ℕ)
+unmangled segs = map unmangled_seg segs

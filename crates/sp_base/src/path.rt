@@ -1,0 +1,245 @@
+ghost use Rattle.std.specs.Prelude.{◌≡◌, ◌≢◌, ◌++◌, ◌↔◌, [], T, List, ℕ, not, nat_eq, refl, IfOk, IfErr, IsTrue, Some, Ok, Err, length, take, option_copied, slice_get};
+ghost use Rattle.std.specs.List.{list_all};
+ghost use Rattle.std.specs.Cmp.{partial_equiv_from_equiv, partial_order_from_agreeing_total};
+ghost use Rattle.std.specs.Cmp.Lexicographic.{slice_cmp, lists_total, nat_list_cmp_total};
+ghost use Rattle.std.specs.Ordering.{nat_cmp, eq_by_cmp};
+ghost use Rattle.std.proofs.lemmas.Cmp.{eq_by_cmp_equiv};
+ghost use Rattle.sp_base.specs.Paths.{by_path, path_of, child_of, join_of, parent_of, text_of, is_under, is_path, checked, has_slash};
+ghost use Rattle.sp_base.specs.declared.path.PathFault.TheVariants.{NoMemory as no_memory};
+
+use crate::segments::{add_pieces, fault_of};
+use crate::{Mem, NoMemory, TextBuf};
+use std::alloc::{AllocError, AllocFailed, Global};
+use std::cmp::Ordering;
+use std::marker::Model;
+
+/// Why a text is no path.
+#[derive(Clone, Copy, PartialEq, Eq, Debug, Drop)]
+pub enum PathFault {
+    /// There is no slash in front.
+    NotAbsolute,
+    /// A segment is empty.
+    EmptySegment,
+    /// A segment is `.` or `..`.
+    DotSegment,
+    /// The segment at this place, counted from 0, has more than 200 bytes.
+    LongSegment(usize),
+    /// There are more than 64 segments.
+    TooDeep,
+    NoMemory,
+}
+
+impl From<NoMemory> for PathFault {
+    ghost from_gives = { λ _ e. e ≡ no_memory };
+
+    fn from(_fault: NoMemory) -> PathFault {
+        PathFault::NoMemory
+    }
+}
+
+impl From<AllocError> for PathFault {
+    ghost from_gives = { λ _ e. e ≡ no_memory };
+
+    fn from(_fault: AllocError) -> PathFault {
+        PathFault::NoMemory
+    }
+}
+
+impl<T: Drop> From<AllocFailed<T>> for PathFault {
+    ghost from_gives = { λ _ e. e ≡ no_memory };
+
+    fn from(_fault: AllocFailed<T>) -> PathFault {
+        PathFault::NoMemory
+    }
+}
+
+/// An absolute path. Contracts see the list of its segments; the root has none.
+#[derive(Drop)]
+pub struct Path {
+    segs: Vec<TextBuf>,
+}
+
+impl Model for Path {
+    ghost use Rattle.std.specs.Prelude.{List, ℕ, IsTrue};
+
+    ghost Value = { List (List ℕ) };
+
+    ghost use Rattle.sp_base.specs.Paths.{is_path};
+
+    ghost view = { λ p. p.segs.items };
+
+    ghost invariant = { λ p. IsTrue (is_path p.segs.items) };
+}
+
+impl Path {
+    pub fn root(alloc: Global) -> Path
+        ensures { result ≡ [] }
+    {
+        Path {
+            segs: Vec::new(alloc),
+        }
+    }
+
+    /// The path that a text spells: `/` is the root, and otherwise a slash stands before each segment. The faults are
+    /// looked for in the order of the enum.
+    pub fn read(alloc: Global, text: &str) -> Result<Path, PathFault>
+        ensures ok { IfOk result (λ p. path_of text.now ≡ Ok p) }
+        ensures err { IfErr result (λ e. e ≢ PathFault.NoMemory → path_of text.now ≡ Err e) }
+    {
+        let Some(rest) = text.strip_prefix('/') else {
+            return Err(PathFault::NotAbsolute);
+        };
+        if rest.is_empty() {
+            return Ok(Path::root(alloc));
+        }
+        let mut segs = Vec::new(alloc);
+        add_pieces(alloc, &mut segs, rest)?;
+        made(segs)
+    }
+
+    /// The path with a name behind it. A name with a slash in it adds a segment for each of its pieces.
+    pub fn child(&self, alloc: Global, name: &str) -> Result<Path, PathFault>
+        ensures ok { IfOk result (λ p. child_of self.now name.now ≡ Ok p) }
+        ensures err { IfErr result (λ e. e ≢ PathFault.NoMemory → child_of self.now name.now ≡ Err e) }
+    {
+        let mut segs = copied(alloc, &self.segs)?;
+        add_pieces(alloc, &mut segs, name)?;
+        made(segs)
+    }
+
+    /// The segments of a further path behind these.
+    pub fn join(&self, alloc: Global, rest: &Path) -> Result<Path, PathFault>
+        ensures ok { IfOk result (λ p. join_of self.now rest.now ≡ Ok p) }
+        ensures err { IfErr result (λ e. e ≢ PathFault.NoMemory → join_of self.now rest.now ≡ Err e) }
+    {
+        let mut segs = copied(alloc, &self.segs)?;
+        for seg in &rest.segs {
+            segs.push(seg.duplicate(alloc)?)?;
+        }
+        made(segs)
+    }
+
+    /// The path without its last segment. The root's parent is the root.
+    pub fn parent(&self, alloc: Global) -> Mem<Path>
+        ensures { IfOk result (λ p. p ≡ parent_of self.now) }
+    {
+        self.first(alloc, self.segs.len().saturating_sub(1))
+    }
+
+    /// The first segments, or all where there are fewer.
+    pub fn first(&self, alloc: Global, n: usize) -> Mem<Path>
+        ensures { IfOk result (λ p. p ≡ take n self.now) }
+    {
+        let kept = n.min(self.segs.len());
+        Ok(Path {
+            segs: copied(alloc, &self.segs[..kept])?,
+        })
+    }
+
+    pub fn duplicate(&self, alloc: Global) -> Mem<Path>
+        ensures { IfOk result (λ p. p ≡ self.now) }
+    {
+        Ok(Path {
+            segs: copied(alloc, &self.segs)?,
+        })
+    }
+
+    /// The text that spells the path.
+    pub fn text(&self, alloc: Global) -> Mem<TextBuf>
+        ensures { IfOk result (λ t. t ≡ text_of self.now) }
+    {
+        if self.segs.is_empty() {
+            return TextBuf::of(alloc, "/");
+        }
+        let mut text = String::new(alloc);
+        for seg in &self.segs {
+            text.push_str("/")?;
+            text.push_str(seg.text())?;
+        }
+        Ok(TextBuf::from(text))
+    }
+
+    /// How many segments there are, at most 64.
+    pub fn depth(&self) -> usize
+        ensures depth { result ≡ length self.now }
+        ensures valid { IsTrue (is_path self.now) }
+    {
+        self.segs.len()
+    }
+
+    /// Whether the path begins with all segments of the other.
+    pub fn is_under(&self, other: &Path) -> bool
+        ensures { result ≡ is_under self.now other.now }
+    {
+        self.segs.starts_with(other.segs.as_slice())
+    }
+
+    /// The segment at a place, counted from 0.
+    pub fn seg(&self, n: usize) -> Option<&str>
+        ensures { option_copied result ≡ slice_get self.now n }
+    {
+        match self.segs.get(n) {
+            Some(seg) => Some(seg.text()),
+            None => None,
+        }
+    }
+}
+
+impl PartialEq for Path {
+    ghost eq = { eq_by_cmp (slice_cmp (slice_cmp nat_cmp)) };
+
+    ghost laws = { partial_equiv_from_equiv (eq_by_cmp_equiv (lists_total nat_list_cmp_total)) };
+
+    fn eq(&self, other: &Path) -> bool {
+        self.cmp(other).is_eq()
+    }
+}
+
+impl Eq for Path {
+    ghost laws = { eq_by_cmp_equiv (lists_total nat_list_cmp_total) };
+}
+
+impl PartialOrd for Path {
+    ghost partial_cmp = { λ x y. Some (slice_cmp (slice_cmp nat_cmp) x y) };
+
+    ghost laws = { partial_order_from_agreeing_total (slice_cmp (slice_cmp nat_cmp)) (lists_total nat_list_cmp_total) (λ x y. refl) (λ x y. refl) };
+
+    fn partial_cmp(&self, other: &Path) -> Option<Ordering> {
+        Some(self.cmp(other))
+    }
+}
+
+impl Ord for Path {
+    ghost cmp = { slice_cmp (slice_cmp nat_cmp) };
+
+    ghost total = { lists_total nat_list_cmp_total };
+
+    ghost matches_partial_cmp = { λ x y. refl };
+
+    ghost matches_eq = { λ x y. refl };
+
+    fn cmp(&self, other: &Path) -> Ordering {
+        self.segs.cmp(&other.segs)
+    }
+}
+
+// The path of these pieces, in which no slash stands.
+fn made(segs: Vec<TextBuf>) -> Result<Path, PathFault>
+    requires { T (list_all (λ seg. not (has_slash seg)) segs.items) }
+    ensures { result ≡ checked segs.items }
+{
+    match fault_of(&segs) {
+        Some(fault) => Err(fault),
+        None => Ok(Path { segs }),
+    }
+}
+
+fn copied(alloc: Global, segs: &[TextBuf]) -> Mem<Vec<TextBuf>>
+    ensures { IfOk result (λ copy. copy.items ≡ segs.now) }
+{
+    let mut copy = Vec::new(alloc);
+    for seg in segs {
+        copy.push(seg.duplicate(alloc)?)?;
+    }
+    Ok(copy)
+}

@@ -1,11 +1,13 @@
 -- Pieces of a text have no slash, and pieces without a fault are a path.
-use Rattle.std.proofs.Common.{Ok, Err, ◌≡◌, ◌≢◌, ℕ, zero, suc, ◌+◌, ◌≤◌, Bool, true, false, cond, not, ◌&&◌, ◌||◌, T, List, [], ◌∷◌, ◌++◌, Option, Some, None, length, take, refl, sym, ◌∙◌, ap, subst, arith, nat_lt, ◌==◌, nat_le}
+use Rattle.std.proofs.Common.{IfOk, IfErr, Result, codes, map, lit≤, lit<, length-append, ◌<◌, drop, nat_eq, Ok, Err, ◌≡◌, ◌≢◌, ℕ, zero, suc, ◌+◌, ◌≤◌, Bool, true, false, cond, not, ◌&&◌, ◌||◌, T, List, [], ◌∷◌, ◌++◌, Option, Some, None, length, take, refl, sym, ◌∙◌, ap, subst, arith, nat_lt, ◌==◌, nat_le}
 use Rattle.std.proofs.lemmas.Bool.Decides.{nat_tests}
 use Rattle.std.proofs.lemmas.Iterator.Adapters.{position_from-zero}
-use Rattle.std.proofs.lemmas.List.{length-take}
-use Rattle.std.specs.List.{list_all, list_any, position, position_from, onto_first}
+use Rattle.std.proofs.lemmas.List.{length-take, take-append-drop, take_at, length-drop, length-map}
+use Rattle.std.specs.Cmp.Lexicographic.{bytes_decides}
+use Rattle.std.specs.List.{list_all, list_any, position, position_from, onto_first, starts_with}
+use Rattle.sp_base.specs.declared.path.PathFault.{PathFault}
 use Rattle.sp_base.specs.declared.path.PathFault.TheVariants.{NotAbsolute, EmptySegment, DotSegment, TooDeep}
-use Rattle.sp_base.specs.Paths.{seg_ok, is_empty, is_dots, is_long, has_slash, pieces, fault_of, size_fault, is_path, path_of, checked}
+use Rattle.sp_base.specs.Paths.{seg_ok, is_empty, is_dots, is_long, has_slash, pieces, fault_of, size_fault, is_path, path_of, child_of, checked, unless_fault, is_mangled, unmangled_by, unmangled_seg}
 
 both : (a b : Bool) → T a → T b → T (a && b)
 both true b p q = q
@@ -144,3 +146,155 @@ of_pieces text rest e full = ap path_of e ∙ ap (λ t. cond t (Ok []) (checked 
 
 pub of_root : (text rest : List ℕ) → text ≡ 47 ∷ rest → is_empty rest ≡ true → path_of text ≡ Ok []
 of_root text rest e none = ap path_of e ∙ ap (λ t. cond t (Ok []) (checked (pieces rest))) none
+
+-- a text without a slash is its one piece
+pieces_whole : (name : List ℕ) → has_slash name ≡ false → pieces name ≡ name ∷ []
+pieces_whole [] h = refl
+pieces_whole (b ∷ name) h =
+    ap (λ t. cond t ([] ∷ pieces name) (onto_first b (pieces name))) (or_first _ _ h) ∙ ap (onto_first b) (pieces_whole name (or_second _ _ h))
+
+not_is : (a : Bool) → T (not a) → a ≡ false
+not_is true h = absurd h
+not_is false h = refl
+
+ok_whole : (name : List ℕ) → seg_ok name ≡ true → pieces name ≡ name ∷ []
+ok_whole name h = pieces_whole name (not_is _ (ok_lacks name (true_test (seg_ok name) h)))
+
+made_is : (fault : Option PathFault) (segs p : List (List ℕ)) → unless_fault fault segs ≡ Ok p → p ≡ segs
+made_is None segs p e = cc (e)
+made_is (Some fault) segs p e = absurd (cc (e))
+
+pub child_whole : (segs : List (List ℕ)) (name : List ℕ) (p : List (List ℕ)) → child_of segs name ≡ Ok p → seg_ok name ≡ true → p ≡ segs ++ name ∷ []
+child_whole segs name p e ok = made_is (fault_of (segs ++ pieces name)) (segs ++ pieces name) p e ∙ ap (λ more. segs ++ more) (ok_whole name ok)
+
+any_none : (p : List ℕ → Bool) (segs : List (List ℕ)) → ((seg : List ℕ) → T (seg_ok seg) → p seg ≡ false) → T (list_all seg_ok segs) → list_any p segs ≡ false
+any_none p [] none h = refl
+any_none p (seg ∷ segs) none h = ap (λ t. t || list_any p segs) (none seg (first _ _ h)) ∙ any_none p segs none (second _ _ h)
+
+none_long : (segs : List (List ℕ)) (n : ℕ) → list_any is_long segs ≡ false → position_from is_long n segs ≡ None
+none_long [] n e = refl
+none_long (seg ∷ segs) n e =
+    ap (λ t. cond t (Some n) (position_from is_long (n + 1) segs)) (or_first _ _ e) ∙ none_long segs (n + 1) (or_second _ _ e)
+
+no_fault : (segs : List (List ℕ)) → T (list_all seg_ok segs) → length segs ≤ 64 → fault_of segs ≡ None
+no_fault segs h small =
+    let empty = any_none is_empty segs (λ seg ok. not_is _ (first (not (is_empty seg)) _ ok)) h in
+    let dots = any_none is_dots segs (λ seg ok. not_is _ (first (not (is_dots seg)) _ (second (not (is_empty seg)) _ ok))) h in
+    let long = any_none is_long segs (λ seg ok. not_is _ (first (not (is_long seg)) _ (second (not (is_dots seg)) _ (second (not (is_empty seg)) _ ok)))) h in
+    let few : nat_lt 64 (length segs) ≡ false = grind (arith, nat_tests) in
+    ap (λ t. cond t (Some EmptySegment) (cond (list_any is_dots segs) (Some DotSegment) (size_fault (position is_long segs) (length segs)))) empty
+    ∙ ap (λ t. cond t (Some DotSegment) (size_fault (position is_long segs) (length segs))) dots
+    ∙ ap (λ o. size_fault o (length segs)) (position_from-zero is_long segs ∙ none_long segs 0 long)
+    ∙ ap (λ t. cond t (Some TooDeep) None) few
+
+pub child_fits : (segs : List (List ℕ)) (name : List ℕ) → is_path segs ≡ true → seg_ok name ≡ true → length segs < 64 → child_of segs name ≡ Ok (segs ++ name ∷ [])
+child_fits segs name path ok less =
+    let each = all-append seg_ok segs (name ∷ []) (first _ _ (true_test (is_path segs) path)) (both _ _ (true_test (seg_ok name) ok) tt) in
+    let small : length (segs ++ name ∷ []) ≤ 64 = omega (arith, length-append segs (name ∷ []), less) in
+    ap (λ more. checked (segs ++ more)) (ok_whole name ok) ∙ ap (λ fault. unless_fault fault (segs ++ name ∷ [])) (no_fault (segs ++ name ∷ []) each small)
+
+pub no_fault_left : (segs : List (List ℕ)) (name : List ℕ) (e : PathFault) → is_path segs ≡ true → child_of segs name ≡ Err e → seg_ok name ≡ true → length segs < 64 → ⊥
+no_fault_left segs name e path h ok less = cc (h, child_fits segs name path ok less)
+
+-- whether a segment begins with a mark, by what stripping the mark answers
+lacks_mark : (mark seg : List ℕ) → ((rest : List ℕ) → seg ≢ mark ++ rest) → starts_with nat_eq seg mark ≡ false
+lacks_mark mark seg lacks =
+    let k = length mark in
+    elim (starts_with nat_eq seg mark) as (λ b. starts_with nat_eq seg mark ≡ b → b ≡ false) [
+      | true ↦ λ e. absurd (lacks (drop k seg) (sym (take-append-drop k seg) ∙ ap (λ front. front ++ drop k seg) (sym ((bytes_decides mark (take k seg)).0 e))))
+      | false ↦ λ e. refl
+    ] refl
+
+has_mark : (mark seg : List ℕ) → seg ≡ mark ++ drop (length mark) seg → starts_with nat_eq seg mark ≡ true
+has_mark mark seg e =
+    let front : mark ≡ take (length mark) seg = sym (ap (take (length mark)) e ∙ take_at mark (drop (length mark) seg) (length mark) refl) in
+    (bytes_decides mark (take (length mark) seg)).1 front
+
+at_most : (m n : ℕ) → n ≤ m → nat_lt m n ≡ false
+at_most m n h = grind (arith, nat_tests)
+
+longer : (m n k : ℕ) → (k == 0) ≡ false → n ≡ m + k → nat_lt m n ≡ true
+longer m n k h e = grind (arith, nat_tests)
+
+pub not_mangled : (mark seg : List ℕ) → ((rest : List ℕ) → seg ≢ mark ++ rest) → is_mangled mark seg ≡ false
+not_mangled mark seg lacks = ap (λ b. b && nat_lt (length mark) (length seg)) (lacks_mark mark seg lacks)
+
+pub mangled_alone : (mark seg : List ℕ) → seg ≡ mark ++ drop (length mark) seg → (length (drop (length mark) seg) == 0) ≡ true → is_mangled mark seg ≡ false
+mangled_alone mark seg e none =
+    let zero_left = test_eq (length (drop (length mark) seg)) 0 none in
+    let long : nat_lt (length mark) (length seg) ≡ false =
+    at_most (length mark) (length seg) (omega (arith, zero_left, ap length e, length-append mark (drop (length mark) seg))) in
+    ap (λ b. b && nat_lt (length mark) (length seg)) (has_mark mark seg e) ∙ long
+
+pub mangled_on : (mark seg : List ℕ) → seg ≡ mark ++ drop (length mark) seg → (length (drop (length mark) seg) == 0) ≡ false → is_mangled mark seg ≡ true
+mangled_on mark seg e some =
+    let long : nat_lt (length mark) (length seg) ≡ true = longer (length mark) (length seg) (length (drop (length mark) seg)) some (ap length e ∙ length-append mark (drop (length mark) seg)) in
+    ap (λ b. b && nat_lt (length mark) (length seg)) (has_mark mark seg e) ∙ long
+
+pub IfOk-from : {A E : Type 0} (r : Result A E) {P : A → Type 0} → ((x : A) → r ≡ Ok x → P x) → IfOk r P
+IfOk-from (Ok x) h = h x refl
+IfOk-from (Err e) h = tt
+
+pub IfErr-from : {A E : Type 0} (r : Result A E) {P : E → Type 0} → ((e : E) → r ≡ Err e → P e) → IfErr r P
+IfErr-from (Ok x) h = tt
+IfErr-from (Err e) h = h e refl
+
+-- unmangling keeps a path a path
+lacks-drop : (n : ℕ) (seg : List ℕ) → has_slash seg ≡ false → has_slash (drop n seg) ≡ false
+lacks-drop zero [] h = refl
+lacks-drop (suc n) [] h = refl
+lacks-drop zero (b ∷ seg) h = h
+lacks-drop (suc n) (b ∷ seg) h = lacks-drop n seg (or_second _ _ h)
+
+lacks-append : (a b : List ℕ) → has_slash a ≡ false → has_slash b ≡ false → has_slash (a ++ b) ≡ false
+lacks-append [] b h k = k
+lacks-append (x ∷ a) b h k = ap (λ t. t || has_slash (a ++ b)) (or_first _ _ h) ∙ lacks-append a b (or_second _ _ h) k
+
+short_left : (n : ℕ) → T (not (nat_lt 200 n)) → n ≤ 200
+short_left n h = let e = not_is (nat_lt 200 n) h in grind (arith, nat_tests)
+
+not_empty : (n : ℕ) → 0 < n → (n == 0) ≡ false
+not_empty n h = grind (arith, nat_tests)
+
+kept : (mark prefix seg : List ℕ) → 0 < length prefix → is_dots (unmangled_by mark prefix seg) ≡ false
+    → length prefix ≤ length mark → length prefix ≤ 200 → has_slash prefix ≡ false → T (seg_ok seg) → T (seg_ok (unmangled_by mark prefix seg))
+kept mark prefix seg full dots le small slash h =
+    let rest = second (not (is_dots seg)) _ (second (not (is_empty seg)) _ h) in
+    let long = short_left (length seg) (first (not (is_long seg)) _ rest) in
+    let lacks = not_is (has_slash seg) (second (not (is_long seg)) _ rest) in
+    let size : length (prefix ++ drop (length mark) seg) ≤ 200 =
+    omega (arith, long, le, small, length-append prefix (drop (length mark) seg), length-drop (length mark) seg) in
+    both _ _ (is_not _ (not_empty (length (prefix ++ drop (length mark) seg)) (omega (arith, full, length-append prefix (drop (length mark) seg))))) (both _ _ (is_not _ dots) (both _ _ (is_not _ (at_most 200 (length (prefix ++ drop (length mark) seg)) size))
+    (is_not _ (lacks-append prefix (drop (length mark) seg) slash (lacks-drop (length mark) seg lacks)))))
+
+unmangled_ok : (seg : List ℕ) → T (seg_ok seg) → T (seg_ok (unmangled_seg seg))
+unmangled_ok seg h =
+    elim (is_mangled (codes "_jcr_") seg) as (λ a. T (seg_ok (cond a (unmangled_by (codes "_jcr_") (codes "jcr:") seg)
+    (cond (is_mangled (codes "_sling_") seg) (unmangled_by (codes "_sling_") (codes "sling:") seg)
+    (cond (is_mangled (codes "_nt_") seg) (unmangled_by (codes "_nt_") (codes "nt:") seg)
+    (cond (is_mangled (codes "_cq_") seg) (unmangled_by (codes "_cq_") (codes "cq:") seg) seg)))))) [
+      | true ↦ kept (codes "_jcr_") (codes "jcr:") seg (lit< tt) refl (lit≤ tt) (lit≤ tt) refl h
+      | false ↦ elim (is_mangled (codes "_sling_") seg) as (λ a. T (seg_ok (cond a (unmangled_by (codes "_sling_") (codes "sling:") seg)
+          (cond (is_mangled (codes "_nt_") seg) (unmangled_by (codes "_nt_") (codes "nt:") seg)
+          (cond (is_mangled (codes "_cq_") seg) (unmangled_by (codes "_cq_") (codes "cq:") seg) seg))))) [
+            | true ↦ kept (codes "_sling_") (codes "sling:") seg (lit< tt) refl (lit≤ tt) (lit≤ tt) refl h
+            | false ↦ elim (is_mangled (codes "_nt_") seg) as (λ a. T (seg_ok (cond a (unmangled_by (codes "_nt_") (codes "nt:") seg)
+                (cond (is_mangled (codes "_cq_") seg) (unmangled_by (codes "_cq_") (codes "cq:") seg) seg)))) [
+                  | true ↦ kept (codes "_nt_") (codes "nt:") seg (lit< tt) refl (lit≤ tt) (lit≤ tt) refl h
+                  | false ↦ elim (is_mangled (codes "_cq_") seg) as (λ a. T (seg_ok (cond a (unmangled_by (codes "_cq_") (codes "cq:") seg) seg))) [
+                    | true ↦ kept (codes "_cq_") (codes "cq:") seg (lit< tt) refl (lit≤ tt) (lit≤ tt) refl h
+                    | false ↦ h
+                  ]
+                ]
+          ]
+    ]
+
+all_unmangled : (segs : List (List ℕ)) → T (list_all seg_ok segs) → T (list_all seg_ok (map unmangled_seg segs))
+all_unmangled [] h = tt
+all_unmangled (seg ∷ segs) h = both _ _ (unmangled_ok seg (first _ _ h)) (all_unmangled segs (second _ _ h))
+
+pub unmangled_path : (segs : List (List ℕ)) → is_path segs ≡ true → is_path (map unmangled_seg segs) ≡ true
+unmangled_path segs h =
+    let t = true_test (is_path segs) h in
+    let few : length (map unmangled_seg segs) ≤ 64 = omega (arith, small_back (length segs) (second _ _ t), length-map segs unmangled_seg) in
+    test_true _ (both _ _ (all_unmangled segs (first _ _ t)) (small_le (length (map unmangled_seg segs)) few))

@@ -1,4 +1,4 @@
-use Rattle.std.specs.Prelude.{◌==◌, ◌&&◌, ◌||◌, ◌++◌, ◌-◌, ◌+◌, ℕ, Bool, not, nat_eq, nat_lt, nat_le, if◌then◌else◌, List, [], ◌∷◌, Option, Some, None, Result, Ok, Err, codes, drop, take, length, flat_map, map}
+use Rattle.std.specs.Prelude.{◌==◌, ◌&&◌, ◌||◌, ◌++◌, ◌-◌, ℕ, Bool, not, nat_eq, nat_lt, nat_le, if◌then◌else◌, List, [], ◌∷◌, Option, Some, None, Result, Ok, Err, codes, drop, take, length, flat_map, map}
 use Rattle.std.specs.List.{list_any, list_all, position, slice_split, starts_with}
 use Rattle.std.specs.Cmp.Lexicographic.{pointwise, slice_cmp}
 use Rattle.std.specs.Ordering.{nat_cmp}
@@ -77,16 +77,19 @@ text_of (seg ∷ segs) = flat_map (λ s. 47 ∷ s) (seg ∷ segs)
 abbrev pub is_under : List (List ℕ) → List (List ℕ) → Bool
 is_under path other = starts_with (pointwise nat_eq) path other
 
--- a namespace prefix written for URLs: `_jcr_content` is `jcr:content`
-abbrev pub has_mangled : List ℕ → List ℕ → Bool
-has_mangled prefix seg = starts_with nat_eq seg (95 ∷ prefix ++ 95 ∷ []) && nat_lt (length prefix + 2) (length seg)
+-- the segment begins with a mark such as `_jcr_`, and goes on
+abbrev pub is_mangled : List ℕ → List ℕ → Bool
+is_mangled mark seg = starts_with nat_eq seg mark && nat_lt (length mark) (length seg)
 
-abbrev pub unmangled_by : List ℕ → List ℕ → List ℕ
-unmangled_by prefix seg = prefix ++ 58 ∷ drop (length prefix + 2) seg
+abbrev pub unmangled_by : List ℕ → List ℕ → List ℕ → List ℕ
+unmangled_by mark prefix seg = prefix ++ drop (length mark) seg
 
+-- the segment with its namespace prefix as it stands in the repository: `_jcr_content` is `jcr:content`
 abbrev pub unmangled_seg : List ℕ → List ℕ
-unmangled_seg seg = if has_mangled (codes "jcr") seg then unmangled_by (codes "jcr") seg else (if has_mangled (codes "sling") seg then unmangled_by (codes "sling") seg
-    else (if has_mangled (codes "nt") seg then unmangled_by (codes "nt") seg else (if has_mangled (codes "cq") seg then unmangled_by (codes "cq") seg else seg)))
+unmangled_seg seg = if is_mangled (codes "_jcr_") seg then unmangled_by (codes "_jcr_") (codes "jcr:") seg
+    else (if is_mangled (codes "_sling_") seg then unmangled_by (codes "_sling_") (codes "sling:") seg
+    else (if is_mangled (codes "_nt_") seg then unmangled_by (codes "_nt_") (codes "nt:") seg
+    else (if is_mangled (codes "_cq_") seg then unmangled_by (codes "_cq_") (codes "cq:") seg else seg)))
 
 abbrev pub unmangled : List (List ℕ) → List (List ℕ)
 unmangled segs = map unmangled_seg segs

@@ -1,6 +1,6 @@
 ghost use Rattle.std.specs.Prelude.{◌≡◌, IfOk};
 
-use crate::Mem;
+use crate::{Mem, TextBuf};
 use std::alloc::Global;
 use std::marker::Model;
 
@@ -40,5 +40,15 @@ impl From<Vec<u8>> for ByteBuf {
 
     fn from(bytes: Vec<u8>) -> ByteBuf {
         ByteBuf { bytes }
+    }
+}
+
+impl From<TextBuf> for ByteBuf {
+    ghost from_gives = { λ text b. b ≡ text };
+
+    fn from(text: TextBuf) -> ByteBuf {
+        ByteBuf {
+            bytes: text.into_bytes(),
+        }
     }
 }

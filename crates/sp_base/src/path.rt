@@ -1,13 +1,13 @@
-ghost use Rattle.std.specs.Prelude.{◌≡◌, ◌≢◌, ◌++◌, ◌↔◌, [], T, List, ℕ, not, nat_eq, refl, IfOk, IfErr, IsTrue, Some, Ok, Err, length, take, option_copied, slice_get};
+ghost use Rattle.std.specs.Prelude.{◌≡◌, ◌≢◌, ◌<◌, ◌∷◌, ◌++◌, ◌↔◌, [], T, List, ℕ, not, nat_eq, refl, IfOk, IfErr, IsTrue, Some, Ok, Err, length, take, option_copied, slice_get};
 ghost use Rattle.std.specs.List.{list_all};
 ghost use Rattle.std.specs.Cmp.{partial_equiv_from_equiv, partial_order_from_agreeing_total};
 ghost use Rattle.std.specs.Cmp.Lexicographic.{slice_cmp, lists_total, nat_list_cmp_total};
 ghost use Rattle.std.specs.Ordering.{nat_cmp, eq_by_cmp};
 ghost use Rattle.std.proofs.lemmas.Cmp.{eq_by_cmp_equiv};
-ghost use Rattle.sp_base.specs.Paths.{by_path, path_of, child_of, join_of, parent_of, text_of, is_under, is_path, checked, has_slash};
+ghost use Rattle.sp_base.specs.Paths.{by_path, seg_ok, path_of, child_of, join_of, parent_of, text_of, unmangled, is_under, is_path, checked, has_slash};
 ghost use Rattle.sp_base.specs.declared.path.PathFault.TheVariants.{NoMemory as no_memory};
 
-use crate::segments::{add_pieces, fault_of};
+use crate::segments::{add_pieces, fault_of, unmangled_seg};
 use crate::{Mem, NoMemory, TextBuf};
 use std::alloc::{AllocError, AllocFailed, Global};
 use std::cmp::Ordering;
@@ -101,6 +101,10 @@ impl Path {
     pub fn child(&self, alloc: Global, name: &str) -> Result<Path, PathFault>
         ensures ok { IfOk result (λ p. child_of self.now name.now ≡ Ok p) }
         ensures err { IfErr result (λ e. e ≢ PathFault.NoMemory → child_of self.now name.now ≡ Err e) }
+
+        // A segment under a path of fewer than 64 is one segment more.
+        ensures whole { IfOk result (λ p. IsTrue (seg_ok name.now) → p ≡ self.now ++ name.now ∷ []) }
+        ensures fits { IfErr result (λ e. IsTrue (seg_ok name.now) → length self.now < 64 → e ≡ PathFault.NoMemory) }
     {
         let mut segs = copied(alloc, &self.segs)?;
         add_pieces(alloc, &mut segs, name)?;
@@ -134,6 +138,18 @@ impl Path {
         Ok(Path {
             segs: copied(alloc, &self.segs[..kept])?,
         })
+    }
+
+    /// The path with each segment `_P_Q` read as `P:Q`, where P is jcr, sling, nt or cq and Q is not empty: Sling's mangling of
+    /// namespace prefixes in URLs.
+    pub fn unmangled(&self, alloc: Global) -> Mem<Path>
+        ensures { IfOk result (λ p. p ≡ unmangled self.now) }
+    {
+        let mut segs = Vec::new(alloc);
+        for seg in &self.segs {
+            segs.push(unmangled_seg(alloc, seg.text())?)?;
+        }
+        Ok(Path { segs })
     }
 
     pub fn duplicate(&self, alloc: Global) -> Mem<Path>

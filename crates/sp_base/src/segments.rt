@@ -1,6 +1,6 @@
-ghost use Rattle.std.specs.Prelude.{◌≡◌, ◌++◌, map, IfOk, OnOk};
+ghost use Rattle.std.specs.Prelude.{◌≡◌, ◌++◌, true, false, map, drop, length, IfOk, OnOk, IfSome, IfNone};
 ghost use Rattle.std.specs.List.{list_any, position};
-ghost use Rattle.sp_base.specs.Paths.{seg_ok, is_empty, is_dots, is_long, has_slash, pieces, fault_of, size_fault};
+ghost use Rattle.sp_base.specs.Paths.{seg_ok, is_empty, is_dots, is_long, has_slash, pieces, fault_of, size_fault, is_mangled, unmangled_seg};
 
 use crate::{Mem, PathFault, TextBuf};
 use std::alloc::{AllocError, Global};
@@ -86,4 +86,40 @@ fn split(alloc: Global, text: &str) -> Result<Vec<&str>, AllocError>
     ensures { IfOk result (λ parts. map (λ part. part.now) parts.items ≡ pieces text.now) }
 {
     text.split('/').collect(alloc)
+}
+
+// What follows a mark such as `_jcr_`, where something does.
+fn behind<'a>(seg: &'a str, mark: &str) -> Option<&'a str>
+    ensures some { IfSome result (λ rest. (is_mangled mark.now seg.now ≡ true) × (rest.now ≡ drop (length mark.now) seg.now)) }
+    ensures none { IfNone result (is_mangled mark.now seg.now ≡ false) }
+{
+    match seg.strip_prefix(mark) {
+        Some(rest) if !rest.is_empty() => Some(rest),
+        _ => None,
+    }
+}
+
+fn joined(alloc: Global, prefix: &str, rest: &str) -> Mem<TextBuf>
+    ensures { IfOk result (λ t. t ≡ prefix.now ++ rest.now) }
+{
+    let mut text = String::from_str(alloc, prefix)?;
+    text.push_str(rest)?;
+    Ok(TextBuf::from(text))
+}
+
+// A segment with its namespace prefix as it stands in the repository.
+pub fn unmangled_seg(alloc: Global, seg: &str) -> Mem<TextBuf>
+    ensures { IfOk result (λ t. t ≡ unmangled_seg seg.now) }
+{
+    if let Some(rest) = behind(seg, "_jcr_") {
+        joined(alloc, "jcr:", rest)
+    } else if let Some(rest) = behind(seg, "_sling_") {
+        joined(alloc, "sling:", rest)
+    } else if let Some(rest) = behind(seg, "_nt_") {
+        joined(alloc, "nt:", rest)
+    } else if let Some(rest) = behind(seg, "_cq_") {
+        joined(alloc, "cq:", rest)
+    } else {
+        TextBuf::of(alloc, seg)
+    }
 }

@@ -38,6 +38,12 @@ impl TextBuf {
         self.text.as_str()
     }
 
+    pub(crate) fn into_bytes(self) -> Vec<u8>
+        ensures { result.items ≡ self }
+    {
+        self.text.into_bytes()
+    }
+
     pub fn duplicate(&self, alloc: Global) -> Mem<TextBuf>
         ensures { IfOk result (λ t. t ≡ self.now) }
     {

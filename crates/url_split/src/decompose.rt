@@ -1,0 +1,110 @@
+ghost use Rattle.std.specs.Prelude.{◌≡◌, ◌++◌, ◌∷◌, [], map, filter, not, ◌==◌, length, IfOk, IfSome, IfNone};
+ghost use Rattle.std.specs.List.{slice_split, before_first};
+ghost use Rattle.url_split.specs.Split.{IsSplit, IsLost, IsReading, IsBehind, is_dot, is_slash, selectors_of, extension_of, suffix_of};
+
+use crate::Known;
+use sp_base::{Mem, NoMemory, Path, PathFault, TextBuf, TextList};
+use std::alloc::{AllocError, Global};
+
+/// What a URL's path says of the resource and of how it is asked for.
+#[derive(Drop)]
+pub struct Parts {
+    /// The resource path.
+    pub path: Path,
+    /// The selectors in their order, none of them empty.
+    pub selectors: TextList,
+    /// The extension, empty where there is none.
+    pub extension: TextBuf,
+    /// The suffix with the slash in front, empty where there is none.
+    pub suffix: TextBuf,
+}
+
+/// Takes a decoded path text apart. The resource path is the longest front that ends at a dot or at the text's end and names a
+/// known path; where no front does there is none.
+pub fn split<K: Known>(alloc: Global, known: &K, text: &str) -> Mem<Option<Parts>>
+    ensures some { IfOk result (λ o. IfSome o (λ parts. IsSplit (K.known known.now) text.now parts)) }
+    ensures none { IfOk result (λ o. IfNone o (IsLost (K.known known.now) text.now)) }
+{
+    let mut front = text;
+    loop {
+        if let Some(path) = known_path(alloc, known, front)? {
+            return Ok(Some(parts_behind(alloc, path, &text[front.len()..])?));
+        }
+        match front.rfind('.') {
+            Some(at) => front = &front[..at],
+            None => return Ok(None),
+        }
+    }
+}
+
+// The path that a text spells, where it is known.
+fn known_path<K: Known>(alloc: Global, known: &K, text: &str) -> Mem<Option<Path>>
+    ensures { IfOk result (λ o. IsReading (K.known known.now) text.now o) }
+{
+    match Path::read(alloc, text) {
+        Ok(path) => {
+            if known.has(alloc, &path)? {
+                Ok(Some(path))
+            } else {
+                Ok(None)
+            }
+        }
+        Err(PathFault::NoMemory) => Err(NoMemory),
+        Err(_) => Ok(None),
+    }
+}
+
+// The parts of what stands behind the resource path: nothing, or a text that begins with a dot.
+fn parts_behind(alloc: Global, path: Path, rest: &str) -> Mem<Parts>
+    requires { IsBehind rest.now }
+    ensures path { IfOk result (λ parts. parts.path ≡ path) }
+    ensures selectors { IfOk result (λ parts. parts.selectors ≡ selectors_of rest.now) }
+    ensures extension { IfOk result (λ parts. parts.extension ≡ extension_of rest.now) }
+    ensures suffix { IfOk result (λ parts. parts.suffix ≡ suffix_of rest.now) }
+{
+    let Some(rest) = rest.strip_prefix('.') else {
+        return Ok(Parts {
+            path,
+            selectors: TextList::new(alloc),
+            extension: TextBuf::of(alloc, "")?,
+            suffix: TextBuf::of(alloc, "")?,
+        });
+    };
+    let (dotted, suffix) = cut_at_slash(rest);
+    let mut pieces = pieces_of(alloc, dotted)?;
+    let extension = pieces.pop().unwrap_or("");
+    Ok(Parts {
+        path,
+        selectors: full_pieces(alloc, &pieces)?,
+        extension: TextBuf::of(alloc, extension)?,
+        suffix: TextBuf::of(alloc, suffix)?,
+    })
+}
+
+fn cut_at_slash(text: &str) -> (&str, &str)
+    ensures front { result.0.now ≡ before_first is_slash text.now }
+    ensures rest { text.now ≡ result.0.now ++ result.1.now }
+{
+    match text.find('/') {
+        Some(at) => (&text[..at], &text[at..]),
+        None => (text, ""),
+    }
+}
+
+fn pieces_of(alloc: Global, text: &str) -> Result<Vec<&str>, AllocError>
+    ensures { IfOk result (λ pieces. map (λ piece. piece.now) pieces.items ≡ slice_split is_dot text.now) }
+{
+    text.split('.').collect(alloc)
+}
+
+fn full_pieces(alloc: Global, pieces: &[&str]) -> Mem<TextList>
+    ensures { IfOk result (λ list. list ≡ filter (λ piece. not (length piece == 0)) (map (λ piece. piece.now) pieces.now)) }
+{
+    let mut full = TextList::new(alloc);
+    for piece in pieces {
+        if !piece.is_empty() {
+            full.push(TextBuf::of(alloc, piece)?)?;
+        }
+    }
+    Ok(full)
+}

@@ -1,0 +1,8 @@
+//! The decomposition of a URL's path into resource path, selectors, extension and suffix (Apache Sling, "URL decomposition").
+#![tactic(auto)]
+
+mod decompose;
+mod lookup;
+
+pub use decompose::{Parts, split};
+pub use lookup::Known;

@@ -4,3 +4,4 @@ pub mod Created
 pub mod KidPaths
 pub mod Changed
 pub mod Updated
+pub mod InOrder

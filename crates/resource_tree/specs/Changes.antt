@@ -1,9 +1,10 @@
 -- What each change makes of the content, and the first cause for which it is refused.
-use Rattle.std.specs.Prelude.{◌++◌, ◌∷◌, [], ℕ, Bool, List, Option, Some, None, is_some, is_none, nat_le, length, option_map, false, if◌then◌else◌}
+use Rattle.std.specs.Prelude.{◌++◌, ◌∷◌, [], ℕ, Bool, List, Option, Some, None, is_some, is_none, nat_le, length, option_map, false, not, if◌then◌else◌}
 use Rattle.std.specs.BTreeMap.{insert_entry}
-use Rattle.std.specs.FinMap.Entries.{put}
+use Rattle.std.specs.FinMap.Entries.{put, where_key}
 use Rattle.std.specs.Map.{set_value}
 use Rattle.std.specs.Option.{option_map_or}
+use Rattle.std.specs.Ordering.{eq_by_cmp}
 use Rattle.sp_base.specs.Names.{by_name}
 use Rattle.sp_base.specs.declared.value.Value.{Value}
 use Rattle.resource_tree.specs.declared.nodes.Node.{Node}
@@ -63,3 +64,21 @@ abbrev pub set_fault : Content → List (List ℕ) → List ℕ → Option TreeF
 set_fault tree path name =
     if is_none (node_at tree path) then Some (NoSuch path)
     else (if is_some (node_at tree (kid path name)) then Some (Taken (kid path name)) else None)
+
+-- ---- a value that is taken away
+
+-- the node without the value under a name
+abbrev pub without_value : List ℕ → Node → Node
+without_value name node = record node { props = where_key by_name (λ key. not (eq_by_cmp by_name name key)) node.props }
+
+-- the content without the value under a name of the node at a path
+abbrev pub cleared : Content → List (List ℕ) → List ℕ → Content
+cleared tree path name = change_at tree path (without_value name)
+
+-- the same by look-ups
+abbrev pub cleared_at : Content → List (List ℕ) → List ℕ → List (List ℕ) → Option Node
+cleared_at tree path name q = if same_path path q then option_map (without_value name) (node_at tree q) else node_at tree q
+
+-- why no value is taken away there: the node isn't there
+abbrev pub unset_fault : Content → List (List ℕ) → Option TreeFault
+unset_fault tree path = if is_none (node_at tree path) then Some (NoSuch path) else None

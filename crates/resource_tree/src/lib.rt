@@ -5,6 +5,7 @@
 #![tactic(auto)]
 
 mod create;
+mod duplicate;
 mod faults;
 mod nodes;
 mod properties;

@@ -2,7 +2,7 @@ ghost use Rattle.std.specs.Prelude.{◌≡◌, ◌≢◌, ℕ, List, None, Some,
 ghost use Rattle.std.specs.BTreeMap.{IsOrdered};
 ghost use Rattle.sp_base.specs.Paths.{is_path, seg_ok};
 ghost use Rattle.resource_tree.specs.Content.{by_path, kid, node_at};
-ghost use Rattle.resource_tree.specs.Changes.{change_at, set_fault, updated, updated_at, with_value};
+ghost use Rattle.resource_tree.specs.Changes.{change_at, cleared, cleared_at, has_prop_at, set_fault, unset_fault, updated, updated_at, with_value, without_value};
 
 use crate::nodes::Nodes;
 use crate::{Tree, TreeFault};
@@ -28,6 +28,21 @@ impl Tree {
         self.check_set(alloc, path, name)?;
         set_value(&mut self.nodes, alloc, path, name, value)?;
         Ok(())
+    }
+
+    /// Takes a property of a node away. The answer says whether it was there.
+    pub fn unset(&mut self, alloc: Global, path: &Path, name: &str) -> Result<bool, TreeFault>
+        ensures allowed { OnOk result (unset_fault self.old path.now ≡ None) }
+        ensures was { IfOk result (λ was. was ≡ has_prop_at self.old path.now name.now) }
+        ensures ok { OnOk result (self.new ≡ cleared self.old path.now name.now) }
+        ensures look_ups { OnOk result ((q : List (List ℕ)) → node_at self.new q ≡ cleared_at self.old path.now name.now q) }
+        ensures err { IfErr result (λ e. e ≢ TreeFault.NoMemory → unset_fault self.old path.now ≡ Some e) }
+        ensures unchanged { OnErr result (self.new ≡ self.old) }
+    {
+        if !self.nodes.contains_key(path) {
+            return Err(TreeFault::NoSuch(path.duplicate(alloc)?));
+        }
+        Ok(clear_value(&mut self.nodes, path, name))
     }
 
     // Whether a value may be set under a name.
@@ -73,4 +88,16 @@ fn set_value(nodes: &mut Nodes, alloc: Global, path: &Path, name: &str, value: V
         return Ok(());
     };
     node.props.put(alloc, name, value)
+}
+
+// Takes a property of the node at a path away, if they are there. The answer says whether they were.
+fn clear_value(nodes: &mut Nodes, path: &Path, name: &str) -> bool
+    ensures was { result ≡ has_prop_at nodes.old.entries path.now name.now }
+    ensures after { nodes.new.entries ≡ change_at nodes.old.entries path.now (without_value name.now) }
+    ensures ordered { IsOrdered by_path nodes.new }
+{
+    let Some(node) = nodes.get_mut(path) else {
+        return false;
+    };
+    node.props.remove(name)
 }

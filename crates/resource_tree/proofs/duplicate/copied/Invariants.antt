@@ -1,0 +1,6 @@
+use Rattle.std.proofs.Common.{◌≡◌, map}
+use Rattle.std.specs.Map.Iter.{deref_pair}
+use Rattle.resource_tree.proofs.duplicate.copied.Given as goal
+
+abbrev pub invariant-loop-path : goal.invariant-loop-path
+invariant-loop-path l = l.copy.entries ≡ map deref_pair l.yielded

@@ -1,0 +1,92 @@
+ghost use Rattle.std.specs.Prelude.{◌≡◌, ◌≢◌, ◌-◌, ℕ, List, None, Some, OnOk, OnErr, IfOk, IfErr, IsTrue, length, option_copied, slice_get};
+ghost use Rattle.std.specs.BTreeMap.{insert_entry, IsOrdered};
+ghost use Rattle.sp_base.specs.Paths.{is_path};
+ghost use Rattle.resource_tree.specs.Content.{by_path, node_at, parent_of, empty_node, kid};
+ghost use Rattle.resource_tree.specs.Changes.{change_at, create_fault, created, created_at, with_kid};
+
+use crate::nodes::{Node, Nodes};
+use crate::{Tree, TreeFault};
+use sp_base::{Mem, Path, TextBuf};
+use std::alloc::Global;
+
+/// The most nodes of a tree.
+const MOST_NODES: usize = 200_000;
+
+impl Tree {
+    /// Makes a node without properties and kids. It stands last among the kids of its parent.
+    pub fn create(&mut self, alloc: Global, path: &Path) -> Result<(), TreeFault>
+        ensures allowed { OnOk result (create_fault self.old path.now ≡ None) }
+        ensures ok { OnOk result (self.new ≡ created self.old path.now) }
+        ensures look_ups { OnOk result ((q : List (List ℕ)) → node_at self.new q ≡ created_at self.old path.now q) }
+        ensures err { IfErr result (λ e. e ≢ TreeFault.NoMemory → create_fault self.old path.now ≡ Some e) }
+        ensures unchanged { OnErr result (self.new ≡ self.old) }
+    {
+        let parent = path.parent(alloc)?;
+        self.check_create(alloc, path, &parent)?;
+        let Some(name) = last_segment(path) else {
+            return Err(TreeFault::Exists(path.duplicate(alloc)?));
+        };
+        let name = TextBuf::of(alloc, name)?;
+        add_node(&mut self.nodes, alloc, path, &parent, name)?;
+        Ok(())
+    }
+
+    // Whether a node may be made.
+    fn check_create(&self, alloc: Global, path: &Path, parent: &Path) -> Result<(), TreeFault>
+        requires { parent.now ≡ parent_of path.now }
+        ensures ok { OnOk result (create_fault self.now path.now ≡ None) }
+        ensures err { IfErr result (λ e. e ≢ TreeFault.NoMemory → create_fault self.now path.now ≡ Some e) }
+    {
+        let Some(above) = self.nodes.get(parent) else {
+            return Err(TreeFault::NoSuch(parent.duplicate(alloc)?));
+        };
+        if self.nodes.contains_key(path) {
+            return Err(TreeFault::Exists(path.duplicate(alloc)?));
+        }
+        let Some(name) = last_segment(path) else {
+            return Err(TreeFault::Exists(path.duplicate(alloc)?));
+        };
+        if above.props.get(name).is_some() {
+            return Err(TreeFault::Taken(path.duplicate(alloc)?));
+        }
+        if self.nodes.len() >= MOST_NODES {
+            return Err(TreeFault::FullTree);
+        }
+        Ok(())
+    }
+}
+
+// The last segment of a path, which the root has not.
+fn last_segment(path: &Path) -> Option<&str>
+    ensures valid { IsTrue (is_path path.now) }
+    ensures segment { option_copied result ≡ slice_get path.now (length path.now - 1) }
+{
+    path.seg(path.depth().saturating_sub(1))
+}
+
+// Adds an empty node, and its name to its parent's kids.
+fn add_node(nodes: &mut Nodes, alloc: Global, path: &Path, parent: &Path, name: TextBuf) -> Mem<()>
+    requires { node_at nodes.old.entries path.now ≡ None }
+    ensures ok { OnOk result (nodes.new.entries ≡ change_at (insert_entry by_path nodes.old.entries path.now empty_node) parent.now (with_kid name)) }
+    ensures err { OnErr result (nodes.new.entries ≡ nodes.old.entries) }
+    ensures ordered { OnOk result (IsOrdered by_path nodes.new) }
+{
+    nodes.insert(path.duplicate(alloc)?, Node::empty(alloc))?;
+    let named = add_kid(nodes, parent, name);
+    if named.is_err() {
+        nodes.remove(path);
+    }
+    named
+}
+
+// Adds a name to the kids of the node at a path, if it is there.
+fn add_kid(nodes: &mut Nodes, path: &Path, name: TextBuf) -> Mem<()>
+    ensures ok { OnOk result (nodes.new.entries ≡ change_at nodes.old.entries path.now (with_kid name)) }
+    ensures err { OnErr result (nodes.new.entries ≡ nodes.old.entries) }
+    ensures ordered { IsOrdered by_path nodes.new }
+{
+    let Some(node) = nodes.get_mut(path) else {
+        return Ok(());
+    };
+    node.kids.push(name)
+}

@@ -1,0 +1,16 @@
+//! The content of a site as a tree of nodes with properties: a finite map from paths to nodes.
+//!
+//! Each path's parent is there, the kids of a node are exactly the last segments of the paths one
+//! segment longer, each once, and no kid has the name of a property of its node.
+#![tactic(auto)]
+
+mod create;
+mod duplicate;
+mod faults;
+mod nodes;
+mod properties;
+mod tree;
+
+pub use faults::TreeFault;
+pub use nodes::Node;
+pub use tree::Tree;

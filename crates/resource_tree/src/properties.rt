@@ -1,0 +1,103 @@
+ghost use Rattle.std.specs.Prelude.{◌≡◌, ◌≢◌, ℕ, List, None, Some, OnOk, OnErr, IfOk, IfErr, IsTrue, MatchOption, false};
+ghost use Rattle.std.specs.BTreeMap.{IsOrdered};
+ghost use Rattle.sp_base.specs.Paths.{is_path, seg_ok};
+ghost use Rattle.resource_tree.specs.Content.{by_path, kid, node_at};
+ghost use Rattle.resource_tree.specs.Changes.{change_at, cleared, cleared_at, has_prop_at, set_fault, unset_fault, updated, updated_at, with_value, without_value};
+
+use crate::nodes::Nodes;
+use crate::{Tree, TreeFault};
+use sp_base::{Mem, NoMemory, Path, PathFault, Value};
+use std::alloc::Global;
+
+impl Tree {
+    /// Sets a property of a node. The name is one that may be a segment of a path.
+    pub fn set(
+        &mut self,
+        alloc: Global,
+        path: &Path,
+        name: &str,
+        value: Value,
+    ) -> Result<(), TreeFault>
+        requires { IsTrue (seg_ok name.now) }
+        ensures allowed { OnOk result (set_fault self.old path.now name.now ≡ None) }
+        ensures ok { OnOk result (self.new ≡ updated self.old path.now name.now value) }
+        ensures look_ups { OnOk result ((q : List (List ℕ)) → node_at self.new q ≡ updated_at self.old path.now name.now value q) }
+        ensures err { IfErr result (λ e. e ≢ TreeFault.NoMemory → set_fault self.old path.now name.now ≡ Some e) }
+        ensures unchanged { OnErr result (self.new ≡ self.old) }
+    {
+        self.check_set(alloc, path, name)?;
+        set_value(&mut self.nodes, alloc, path, name, value)?;
+        Ok(())
+    }
+
+    /// Takes a property of a node away. The answer says whether it was there.
+    pub fn unset(&mut self, alloc: Global, path: &Path, name: &str) -> Result<bool, TreeFault>
+        ensures allowed { OnOk result (unset_fault self.old path.now ≡ None) }
+        ensures was { IfOk result (λ was. was ≡ has_prop_at self.old path.now name.now) }
+        ensures ok { OnOk result (self.new ≡ cleared self.old path.now name.now) }
+        ensures look_ups { OnOk result ((q : List (List ℕ)) → node_at self.new q ≡ cleared_at self.old path.now name.now q) }
+        ensures err { IfErr result (λ e. e ≢ TreeFault.NoMemory → unset_fault self.old path.now ≡ Some e) }
+        ensures unchanged { OnErr result (self.new ≡ self.old) }
+    {
+        if !self.nodes.contains_key(path) {
+            return Err(TreeFault::NoSuch(path.duplicate(alloc)?));
+        }
+        Ok(clear_value(&mut self.nodes, path, name))
+    }
+
+    // Whether a value may be set under a name.
+    fn check_set(&self, alloc: Global, path: &Path, name: &str) -> Result<(), TreeFault>
+        requires { IsTrue (seg_ok name.now) }
+        ensures ok { OnOk result (set_fault self.now path.now name.now ≡ None) }
+        ensures err { IfErr result (λ e. e ≢ TreeFault.NoMemory → set_fault self.now path.now name.now ≡ Some e) }
+    {
+        if !self.nodes.contains_key(path) {
+            return Err(TreeFault::NoSuch(path.duplicate(alloc)?));
+        }
+        let Some(kid) = kid_path(alloc, path, name)? else {
+            return Ok(());
+        };
+        if self.nodes.contains_key(&kid) {
+            return Err(TreeFault::Taken(kid));
+        }
+        Ok(())
+    }
+}
+
+// The path of a kid of this name, where the name makes one.
+fn kid_path(alloc: Global, path: &Path, name: &str) -> Mem<Option<Path>>
+    requires { IsTrue (seg_ok name.now) }
+    ensures { IfOk result (λ kid_path. MatchOption kid_path (is_path (kid path.now name.now) ≡ false) (λ p. p ≡ kid path.now name.now)) }
+{
+    match path.child(alloc, name) {
+        Ok(kid) => Ok(Some(kid)),
+        Err(fault) => match fault {
+            PathFault::NoMemory => Err(NoMemory),
+            _ => Ok(None),
+        },
+    }
+}
+
+// Sets a property of the node at a path, if it is there.
+fn set_value(nodes: &mut Nodes, alloc: Global, path: &Path, name: &str, value: Value) -> Mem<()>
+    ensures ok { OnOk result (nodes.new.entries ≡ change_at nodes.old.entries path.now (with_value name.now value)) }
+    ensures err { OnErr result (nodes.new.entries ≡ nodes.old.entries) }
+    ensures ordered { IsOrdered by_path nodes.new }
+{
+    let Some(node) = nodes.get_mut(path) else {
+        return Ok(());
+    };
+    node.props.put(alloc, name, value)
+}
+
+// Takes a property of the node at a path away, if they are there. The answer says whether they were.
+fn clear_value(nodes: &mut Nodes, path: &Path, name: &str) -> bool
+    ensures was { result ≡ has_prop_at nodes.old.entries path.now name.now }
+    ensures after { nodes.new.entries ≡ change_at nodes.old.entries path.now (without_value name.now) }
+    ensures ordered { IsOrdered by_path nodes.new }
+{
+    let Some(node) = nodes.get_mut(path) else {
+        return false;
+    };
+    node.props.remove(name)
+}

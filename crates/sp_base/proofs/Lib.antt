@@ -1,2 +1,3 @@
 pub mod PropertyLemmas
 pub mod PathLemmas
+pub mod TypedLemmas

@@ -3,16 +3,21 @@
 
 mod answer;
 mod bytes;
+mod hint;
 mod items;
 mod memory;
 mod path;
 mod property_list;
 mod segments;
+#[cfg(test)]
+mod tests;
 mod text;
+mod typed;
 mod value;
 
 pub use answer::{Answer, Mark};
 pub use bytes::ByteBuf;
+pub use hint::{Hint, HintKind, ValueFault};
 pub use items::{CallList, Items, LongList, NameList, PathList, TextList, TruthList};
 pub use memory::{Mem, NoMemory};
 pub use path::{Path, PathFault};

@@ -1,0 +1,54 @@
+ghost use Rattle.std.specs.Prelude.{◌≡◌};
+ghost use Rattle.sp_base.specs.declared.hint.ValueFault.TheVariants.{NoMemory as no_memory};
+
+use crate::NoMemory;
+use std::alloc::{AllocError, AllocFailed};
+
+/// The kind of value that words are to become.
+#[derive(Clone, Copy, PartialEq, Eq, Debug, Drop)]
+pub enum HintKind {
+    Text,
+    Long,
+    Truth,
+}
+
+/// What words are to become: one value of a kind, or a list of these.
+#[derive(Clone, Copy, PartialEq, Eq, Debug, Drop)]
+pub struct Hint {
+    pub kind: HintKind,
+    pub many: bool,
+}
+
+/// Why words are no such value.
+#[derive(Clone, Copy, PartialEq, Eq, Debug, Drop)]
+pub enum ValueFault {
+    /// One value is wanted, and there are this many words.
+    WrongCount(usize),
+    /// The word at this place, counted from 0, is the first that is no number.
+    NotANumber(usize),
+    NoMemory,
+}
+
+impl From<NoMemory> for ValueFault {
+    ghost from_gives = { λ _ e. e ≡ no_memory };
+
+    fn from(_fault: NoMemory) -> ValueFault {
+        ValueFault::NoMemory
+    }
+}
+
+impl From<AllocError> for ValueFault {
+    ghost from_gives = { λ _ e. e ≡ no_memory };
+
+    fn from(_fault: AllocError) -> ValueFault {
+        ValueFault::NoMemory
+    }
+}
+
+impl<T: Drop> From<AllocFailed<T>> for ValueFault {
+    ghost from_gives = { λ _ e. e ≡ no_memory };
+
+    fn from(_fault: AllocFailed<T>) -> ValueFault {
+        ValueFault::NoMemory
+    }
+}

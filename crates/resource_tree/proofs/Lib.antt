@@ -5,3 +5,5 @@ pub mod KidPaths
 pub mod Changed
 pub mod Updated
 pub mod InOrder
+pub mod KidOrder
+pub mod Ordered

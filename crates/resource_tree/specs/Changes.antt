@@ -1,5 +1,5 @@
 -- What each change makes of the content, and the first cause for which it is refused.
-use Rattle.std.specs.Prelude.{◌++◌, ◌∷◌, [], ℕ, Bool, List, Option, Some, None, is_some, is_none, nat_le, length, option_map, false, not, if◌then◌else◌}
+use Rattle.std.specs.Prelude.{◌++◌, ◌∷◌, [], ℕ, Bool, List, Option, Some, None, is_some, is_none, nat_le, length, option_map, false, not, unwrap_or, ◌==◌, if◌then◌else◌}
 use Rattle.std.specs.BTreeMap.{insert_entry}
 use Rattle.std.specs.FinMap.Entries.{put, where_key}
 use Rattle.std.specs.Map.{set_value}
@@ -9,7 +9,9 @@ use Rattle.sp_base.specs.Names.{by_name}
 use Rattle.sp_base.specs.declared.value.Value.{Value}
 use Rattle.resource_tree.specs.declared.nodes.Node.{Node}
 use Rattle.resource_tree.specs.declared.faults.TreeFault.{TreeFault}
-use Rattle.resource_tree.specs.declared.faults.TreeFault.TheVariants.{NoSuch, Exists, Taken, FullTree}
+use Rattle.resource_tree.specs.declared.faults.TreeFault.TheVariants.{NoSuch, RootFixed, NoSibling, Exists, Taken, FullTree}
+use Rattle.resource_tree.specs.declared.places.Place.{Place}
+use Rattle.resource_tree.specs.Kids.{kids_in_order}
 use Rattle.resource_tree.specs.Content.{Content, by_path, same_path, node_at, kid, parent_of, name_of, prop_at, empty_node}
 
 -- the content with another node at a path
@@ -82,3 +84,43 @@ cleared_at tree path name q = if same_path path q then option_map (without_value
 -- why no value is taken away there: the node isn't there
 abbrev pub unset_fault : Content → List (List ℕ) → Option TreeFault
 unset_fault tree path = if is_none (node_at tree path) then Some (NoSuch path) else None
+
+-- ---- a kid in another place
+
+-- the node with other kids
+abbrev pub with_kids : List (List ℕ) → Node → Node
+with_kids kids node = record node { kids = kids }
+
+-- the node with one of its kids in another place
+abbrev pub with_order : List ℕ → Place → Node → Node
+with_order name place node = with_kids (unwrap_or (kids_in_order name place node.kids) node.kids) node
+
+-- the content with a node in another place among its parent's kids
+abbrev pub reordered : Content → List (List ℕ) → Place → Content
+reordered tree path place = change_at tree (parent_of path) (with_order (name_of path) place)
+
+-- the same by look-ups
+abbrev pub reordered_at : Content → List (List ℕ) → Place → List (List ℕ) → Option Node
+reordered_at tree path place q =
+    if same_path (parent_of path) q then option_map (with_order (name_of path) place) (node_at tree q) else node_at tree q
+
+-- the kids of the node at a path
+abbrev pub kids_at : Content → List (List ℕ) → List (List ℕ)
+kids_at tree path = option_map_or (λ node. node.kids) (node_at tree path) []
+
+-- whether the place is one among the other kids of the path's parent
+abbrev pub has_place_at : Content → List (List ℕ) → Place → Bool
+has_place_at tree path place = is_some (kids_in_order (name_of path) place (kids_at tree (parent_of path)))
+
+-- why a node isn't taken from its place: it isn't there, or it is the root
+abbrev pub fixed_fault : Content → List (List ℕ) → Option TreeFault
+fixed_fault tree path =
+    if is_none (node_at tree path) then Some (NoSuch path)
+    else (if length path == 0 then Some RootFixed else None)
+
+-- why a node isn't put in another place: it is fixed, or the one that the place names isn't another kid of its parent
+abbrev pub order_fault : Content → List (List ℕ) → Place → Option TreeFault
+order_fault tree path place =
+    if is_none (node_at tree path) then Some (NoSuch path)
+    else (if length path == 0 then Some RootFixed
+    else (if has_place_at tree path place then None else Some NoSibling))

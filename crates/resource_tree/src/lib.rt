@@ -7,10 +7,14 @@
 mod create;
 mod duplicate;
 mod faults;
+mod kids;
 mod nodes;
+mod order;
+mod places;
 mod properties;
 mod tree;
 
 pub use faults::TreeFault;
 pub use nodes::Node;
+pub use places::Place;
 pub use tree::Tree;

@@ -7,3 +7,6 @@ pub mod Updated
 pub mod InOrder
 pub mod KidOrder
 pub mod Ordered
+pub mod Under
+pub mod UnderRow
+pub mod Removed

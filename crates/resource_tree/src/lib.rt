@@ -12,6 +12,7 @@ mod nodes;
 mod order;
 mod places;
 mod properties;
+mod remove;
 mod tree;
 
 pub use faults::TreeFault;

@@ -13,6 +13,8 @@ mod order;
 mod places;
 mod properties;
 mod remove;
+#[cfg(test)]
+mod tests;
 mod tree;
 
 pub use faults::TreeFault;

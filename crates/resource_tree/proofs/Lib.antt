@@ -1,7 +1,11 @@
 pub mod PathLemmas
 pub mod NodeLookups
 pub mod Created
-pub mod KidPaths
 pub mod Changed
 pub mod Updated
 pub mod InOrder
+pub mod KidOrder
+pub mod Ordered
+pub mod Under
+pub mod UnderRow
+pub mod Removed

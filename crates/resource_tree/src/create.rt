@@ -57,7 +57,7 @@ impl Tree {
 }
 
 // The last segment of a path, which the root has not.
-fn last_segment(path: &Path) -> Option<&str>
+pub(crate) fn last_segment(path: &Path) -> Option<&str>
     ensures valid { IsTrue (is_path path.now) }
     ensures segment { option_copied result ≡ slice_get path.now (length path.now - 1) }
 {

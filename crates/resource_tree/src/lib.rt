@@ -7,10 +7,17 @@
 mod create;
 mod duplicate;
 mod faults;
+mod kids;
 mod nodes;
+mod order;
+mod places;
 mod properties;
+mod remove;
+#[cfg(test)]
+mod tests;
 mod tree;
 
 pub use faults::TreeFault;
 pub use nodes::Node;
+pub use places::Place;
 pub use tree::Tree;

@@ -1,0 +1,68 @@
+ghost use Rattle.std.specs.Prelude.{◌≡◌, ◌≢◌, ◌-◌, ℕ, List, None, Some, OnOk, OnErr, IfOk, IfErr, IsTrue, length, unwrap_or};
+ghost use Rattle.std.specs.BTreeMap.{IsOrdered};
+ghost use Rattle.sp_base.specs.Paths.{is_path};
+ghost use Rattle.resource_tree.specs.Content.{by_path, node_at, parent_of};
+ghost use Rattle.resource_tree.specs.Changes.{change_at, fixed_fault, kids_at, order_fault, reordered, reordered_at, with_kids};
+
+use crate::create::last_segment;
+use crate::kids::kids_in_order;
+use crate::nodes::Nodes;
+use crate::{Place, Tree, TreeFault};
+use sp_base::{Path, TextBuf, TextList};
+use std::alloc::Global;
+
+impl Tree {
+    /// Puts a node in another place among the kids of its parent.
+    pub fn order(&mut self, alloc: Global, path: &Path, place: &Place) -> Result<(), TreeFault>
+        ensures allowed { OnOk result (order_fault self.old path.now place.now ≡ None) }
+        ensures ok { OnOk result (self.new ≡ reordered self.old path.now place.now) }
+        ensures look_ups { OnOk result ((q : List (List ℕ)) → node_at self.new q ≡ reordered_at self.old path.now place.now q) }
+        ensures err { IfErr result (λ e. e ≢ TreeFault.NoMemory → order_fault self.old path.now place.now ≡ Some e) }
+        ensures unchanged { OnErr result (self.new ≡ self.old) }
+    {
+        let parent = path.parent(alloc)?;
+        self.check_fixed(alloc, path)?;
+        let Some(name) = last_segment(path) else {
+            return Err(TreeFault::RootFixed);
+        };
+        let Some(kids) = kids_in_order(alloc, kids_at(&self.nodes, &parent), name, place)? else {
+            return Err(TreeFault::NoSibling);
+        };
+        set_kids(&mut self.nodes, &parent, kids);
+        Ok(())
+    }
+
+    // Whether a node may be taken from its place.
+    pub(crate) fn check_fixed(&self, alloc: Global, path: &Path) -> Result<(), TreeFault>
+        ensures ok { OnOk result (fixed_fault self.now path.now ≡ None) }
+        ensures err { IfErr result (λ e. e ≢ TreeFault.NoMemory → fixed_fault self.now path.now ≡ Some e) }
+    {
+        if !self.nodes.contains_key(path) {
+            return Err(TreeFault::NoSuch(path.duplicate(alloc)?));
+        }
+        if path.depth() == 0 {
+            return Err(TreeFault::RootFixed);
+        }
+        Ok(())
+    }
+}
+
+// The kids of the node at a path.
+pub(crate) fn kids_at<'a>(nodes: &'a Nodes, path: &Path) -> &'a [TextBuf]
+    ensures { result.now ≡ kids_at nodes.now.entries path.now }
+{
+    match nodes.get(path) {
+        Some(node) => node.kids.as_slice(),
+        None => &[],
+    }
+}
+
+// Gives the node at a path other kids, if it is there.
+pub(crate) fn set_kids(nodes: &mut Nodes, path: &Path, kids: TextList)
+    ensures after { nodes.new.entries ≡ change_at nodes.old.entries path.now (with_kids kids) }
+    ensures ordered { IsOrdered by_path nodes.new }
+{
+    if let Some(node) = nodes.get_mut(path) {
+        node.kids = kids;
+    }
+}

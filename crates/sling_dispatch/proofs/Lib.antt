@@ -1,0 +1,12 @@
+pub mod LineLaws
+pub mod Refusals
+pub mod ActLaws
+pub mod ReadingActs
+pub mod BodyLaws
+pub mod Limits
+pub mod Writing
+pub mod Texts
+pub mod Sessions
+pub mod Meanings
+pub mod OneReading
+pub mod Completeness

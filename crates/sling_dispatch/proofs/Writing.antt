@@ -1,0 +1,24 @@
+use Rattle.std.proofs.Common.{◌≡◌, ◌+◌, ◌-◌, ◌++◌, ℕ, List, [], Option, Some, None, length, take, drop, sym, ◌∙◌, ap, refl, arith, append_assoc}
+use Rattle.std.proofs.lemmas.List.{take-append-drop, take_rest, append-nil, drop-take, take-take}
+use Rattle.sp_outside.specs.Told.{added}
+
+pub added-added : (held : Option (List ℕ)) (a b : List ℕ) → added (added held a) b ≡ added held (a ++ b)
+added-added None a b = refl
+added-added (Some old) a b = ap Some (append_assoc old a b)
+
+pub added-nothing : (held : Option (List ℕ)) → added held [] ≡ held
+added-nothing None = refl
+added-nothing (Some old) = ap Some (append-nil old)
+
+-- taking so many, and then so many of the rest
+pub take_in_two : (at n : ℕ) (bytes : List ℕ) → take (at + n) bytes ≡ take at bytes ++ take n (drop at bytes)
+take_in_two at n bytes =
+    sym (take-append-drop at (take (at + n) bytes))
+    ∙ ap (λ t. t ++ drop at (take (at + n) bytes)) (take-take at (at + n) bytes (omega arith))
+    ∙ ap (λ t. take at bytes ++ t) (drop-take at n bytes)
+
+pub wrote_more : (old mid new : Option (List ℕ)) (bytes : List ℕ) (at n : ℕ) → mid ≡ added old (take at bytes)
+    → new ≡ added mid (take n (take (length bytes - at) (drop at bytes))) → new ≡ added old (take (at + n) bytes)
+wrote_more old mid new bytes at n e h =
+    h ∙ ap (λ t. added mid (take n t)) (take_rest bytes at) ∙ ap (λ m. added m (take n (drop at bytes))) e
+    ∙ added-added old (take at bytes) (take n (drop at bytes)) ∙ ap (added old) (sym (take_in_two at n bytes))

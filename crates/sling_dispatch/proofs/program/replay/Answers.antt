@@ -1,0 +1,27 @@
+use Rattle.std.proofs.Common.{◌++◌, ◌∷◌, [], codes, refl}
+use Rattle.sling_dispatch.specs.Endings.{seen, IsDueAt, IsDueIn, RefusalLine}
+use Rattle.sling_dispatch.specs.declared.ending.Ending.TheVariants.{Refused}
+use Rattle.sling_dispatch.proofs.Meanings.{means_weaker, in_text, refused_text, told_line, out_of_memory}
+use Rattle.sling_dispatch.proofs.program.replay.Goals as goal
+
+pub returns-in-Ok : goal.returns-in-Ok
+returns-in-Ok g c =
+    let s = c.in-Ok.scenario in
+    means_weaker (IsDueIn s) (IsDueAt c.args.text.now) (in_text c.args.text.now s c.in-Ok.ensures.ok) c.session.result
+    (seen (g.K.Sink.held c.args.sink.now) (g.K.Sink.held c.session.new.sink) (g.K.Sink.faults c.args.sink.now) (g.K.Sink.faults c.session.new.sink))
+    c.session.ensures
+
+pub returns-in-Err-Line : goal.returns-in-Err-Line
+returns-in-Err-Line g c =
+    let text = c.args.text.now in
+    let r = rw c.in-Err-Line.field-0-is at c.in-Err-Line.ensures.err in
+    let due = refused_text text _ r.0 in
+    told_line (IsDueAt text) RefusalLine Refused c.say.result (codes "scenario refused" ++ 10 ∷ [])
+    (seen (g.K.Sink.held c.args.sink.now) (g.K.Sink.held c.say.new.sink) (g.K.Sink.faults c.args.sink.now) (g.K.Sink.faults c.say.new.sink))
+    due (λ w. (due, w)) refl c.say.ensures
+
+pub returns-in-Err-NoMemory : goal.returns-in-Err-NoMemory
+returns-in-Err-NoMemory g c =
+    let held = g.K.Sink.held c.args.sink.now in
+    let count = g.K.Sink.faults c.args.sink.now in
+    out_of_memory (IsDueAt c.args.text.now) tt (seen held held count count) refl refl

@@ -1,0 +1,12 @@
+pub mod Lines
+pub mod Languages
+pub mod Scenario
+pub mod Reading
+pub mod Targets
+pub mod Rendering
+pub mod Transcript
+pub mod Runs
+pub mod Fronts
+pub mod Streams
+pub mod Faults
+pub mod Endings

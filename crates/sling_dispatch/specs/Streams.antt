@@ -1,0 +1,10 @@
+use Rattle.std.specs.Prelude.{◌≡◌, ℕ, Result, Ok, Err}
+use Rattle.sp_outside.specs.Causes.{Rose}
+use Rattle.sling_dispatch.specs.declared.streams.ReadFault.{ReadFault}
+use Rattle.sling_dispatch.specs.declared.streams.ReadFault.TheVariants.{Failed, NoMemory}
+
+-- Failed comes only where the count rose, and any other answer leaves the count.
+abbrev pub HasReadCause : {T : Type 0} → ℕ → ℕ → Result T ReadFault → Type 0
+HasReadCause before after (Ok _) = after ≡ before
+HasReadCause before after (Err Failed) = Rose before after
+HasReadCause before after (Err NoMemory) = after ≡ before

@@ -1,0 +1,38 @@
+ghost use Rattle.std.specs.Prelude.{◌≡◌};
+ghost use Rattle.sling_dispatch.specs.Endings.{status_of};
+
+/// How a run ends.
+#[derive(Clone, Copy, PartialEq, Eq, Debug, Drop)]
+pub enum Ending {
+    /// The scenario was run to its end.
+    Done,
+    /// The words are none that the program knows.
+    Usage,
+    SourceFailed,
+    SinkFailed,
+    /// The source's bytes are no scenario.
+    Refused,
+    /// The content has no reading.
+    ContentRefused,
+    /// A target isn't of a form that is built.
+    NotBuilt,
+    NoMemory,
+}
+
+impl Ending {
+    /// The exit status.
+    pub fn status(self) -> u8
+        ensures { result ≡ status_of self }
+    {
+        match self {
+            Ending::Done => 0,
+            Ending::Usage => 2,
+            Ending::SourceFailed => 3,
+            Ending::SinkFailed => 4,
+            Ending::Refused => 5,
+            Ending::ContentRefused => 6,
+            Ending::NotBuilt => 12,
+            Ending::NoMemory => 70,
+        }
+    }
+}

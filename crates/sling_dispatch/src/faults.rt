@@ -1,0 +1,50 @@
+//! How a fault of a content is written.
+ghost use Rattle.std.specs.Prelude.{◌≡◌, ◌++◌, ◌↔◌, ◌∷◌, [], IfOk, OnOk, IsTrue, codes};
+ghost use Rattle.sling_dispatch.specs.Faults.{placed, fault_text};
+ghost use Rattle.sling_dispatch.specs.Endings.{text_of, ContentLine};
+
+use crate::transcript::push;
+use content_json::ContentFault;
+use sp_base::{Mem, Path};
+use std::alloc::Global;
+
+pub fn is_memory(fault: &ContentFault) -> bool
+    ensures { IsTrue result ↔ (fault.now ≡ ContentFault.NoMemory) }
+{
+    matches!(fault, ContentFault::NoMemory)
+}
+
+fn push_placed(alloc: Global, out: &mut Vec<u8>, name: &[u8], path: &Path) -> Mem<()>
+    ensures { OnOk result (out.new.items ≡ out.old.items ++ placed name.now path.now) }
+{
+    push(out, name)?;
+    push(out, b" at ")?;
+    let text = path.text(alloc)?;
+    push(out, text.text().as_bytes())
+}
+
+fn push_fault(alloc: Global, out: &mut Vec<u8>, fault: &ContentFault) -> Mem<()>
+    ensures { OnOk result (out.new.items ≡ out.old.items ++ fault_text fault.now) }
+{
+    match fault {
+        ContentFault::NotJson => push(out, b"NotJson"),
+        ContentFault::NotObject => push(out, b"NotObject"),
+        ContentFault::BadName(path) => push_placed(alloc, out, b"BadName", path),
+        ContentFault::BadNumber(path) => push_placed(alloc, out, b"BadNumber", path),
+        ContentFault::MixedArray(path) => push_placed(alloc, out, b"MixedArray", path),
+        ContentFault::BadOrder(path) => push_placed(alloc, out, b"BadOrder", path),
+        ContentFault::TooBig => push(out, b"TooBig"),
+        ContentFault::NoMemory => Ok(()),
+    }
+}
+
+// The line of a content that is refused.
+pub fn content_line(alloc: Global, fault: &ContentFault) -> Mem<Vec<u8>>
+    ensures { IfOk result (λ text. text.items ≡ text_of (ContentLine fault.now)) }
+{
+    let mut text = Vec::new(alloc);
+    push(&mut text, b"content refused: ")?;
+    push_fault(alloc, &mut text, fault)?;
+    push(&mut text, b"\n")?;
+    Ok(text)
+}

@@ -1,0 +1,9 @@
+use sp_base::{Answer, Items};
+
+/// What happens in an event.
+#[derive(Drop)]
+pub enum Note {
+    Answer(Answer),
+}
+
+pub type NoteList = Items<Note>;

@@ -1,0 +1,157 @@
+ghost use Rattle.std.specs.Prelude.{◌≡◌, ◌≢◌, ◌↔◌, ◌++◌, ◌∷◌, [], ℕ, List, Ok, Err, map, codes, IsTrue, IfOk};
+ghost use Rattle.content_json.specs.ContentOf.{content as content_of};
+ghost use Rattle.sling_dispatch.specs.declared.ending.Ending.{Ending};
+ghost use Rattle.sling_dispatch.specs.Fronts.{IsNext};
+ghost use Rattle.sling_dispatch.specs.Endings.{Means, IsDue, IsDueAt, IsDueIn, IsDueOf, IsContentOr, Tells, IsReplay, seen, status_of};
+
+use crate::ending::Ending;
+use crate::faults::{content_line, is_memory};
+use crate::front::Front;
+use crate::lines::same;
+use crate::reader::read_limited;
+use crate::scenario::{Act, Scenario, ScenarioFault, Step};
+use crate::streams::{ReadFault, read_whole, write_all};
+use crate::targets::are_built;
+use crate::transcript::write_notes;
+use content_json::{ContentFault, read_tree};
+use resource_tree::Tree;
+use sp_base::Mem;
+use sp_outside::{Sink, SinkFault, Source};
+use std::alloc::Global;
+
+// The most bytes that a scenario has.
+const MOST: usize = 67_108_864;
+
+/// Does what the words say, and gives the exit status.
+pub fn run<S: Source, K: Sink>(alloc: Global, words: &[&str], source: &mut S, sink: &mut K) -> u8
+    ensures { (e : Ending) × (result ≡ status_of e) × Means
+        (IsDue (record {
+          words = map (λ w. w.now) words.now;
+          source = seen (S.left source.old) (S.left source.new) (S.faults source.old) (S.faults source.new);
+        }))
+        e (seen (K.held sink.old) (K.held sink.new) (K.faults sink.old) (K.faults sink.new)) }
+{
+    ending(alloc, words, source, sink).status()
+}
+
+fn ending<S: Source, K: Sink>(alloc: Global, words: &[&str], source: &mut S, sink: &mut K) -> Ending
+    ensures { Means
+        (IsDue (record {
+          words = map (λ w. w.now) words.now;
+          source = seen (S.left source.old) (S.left source.new) (S.faults source.old) (S.faults source.new);
+        }))
+        result (seen (K.held sink.old) (K.held sink.new) (K.faults sink.old) (K.faults sink.new)) }
+{
+    if !is_replay(words) {
+        return say(sink, b"usage: replay\n", Ending::Usage);
+    }
+    match read_whole(alloc, source, MOST) {
+        Ok(text) => replay(alloc, &text, sink),
+        Err(ReadFault::Failed) => say(sink, b"source failed\n", Ending::SourceFailed),
+        Err(ReadFault::NoMemory) => Ending::NoMemory,
+    }
+}
+
+fn is_replay(words: &[&str]) -> bool
+    ensures { IsTrue result ↔ IsReplay (map (λ w. w.now) words.now) }
+{
+    match words {
+        [word] => same(word.as_bytes(), b"replay"),
+        _ => false,
+    }
+}
+
+// Writes a text, after which the run ends so.
+fn say<K: Sink>(sink: &mut K, text: &[u8], good: Ending) -> Ending
+    ensures { Tells good text.now result (seen (K.held sink.old) (K.held sink.new) (K.faults sink.old) (K.faults sink.new)) }
+{
+    match write_all(sink, text) {
+        Ok(()) => good,
+        Err(SinkFault::Failed) => Ending::SinkFailed,
+        Err(SinkFault::NoMemory) => Ending::NoMemory,
+    }
+}
+
+// Runs the scenario that a text spells.
+fn replay<K: Sink>(alloc: Global, text: &[u8], sink: &mut K) -> Ending
+    ensures { Means (IsDueAt text.now) result (seen (K.held sink.old) (K.held sink.new) (K.faults sink.old) (K.faults sink.new)) }
+{
+    match read_limited(alloc, text, MOST) {
+        Ok(scenario) => session(alloc, &scenario, sink),
+        Err(ScenarioFault::Line(_)) => say(sink, b"scenario refused\n", Ending::Refused),
+        Err(ScenarioFault::NoMemory) => Ending::NoMemory,
+    }
+}
+
+// Runs a scenario.
+fn session<K: Sink>(alloc: Global, scenario: &Scenario, sink: &mut K) -> Ending
+    ensures { Means (IsDueIn scenario.now) result (seen (K.held sink.old) (K.held sink.new) (K.faults sink.old) (K.faults sink.new)) }
+{
+    match read_tree(alloc, scenario.content.bytes()) {
+        Ok(tree) => perform(alloc, tree, scenario, sink),
+        Err(fault) => refuse_content(alloc, &fault, sink),
+    }
+}
+
+// Says why the content is refused.
+fn refuse_content<K: Sink>(alloc: Global, fault: &ContentFault, sink: &mut K) -> Ending
+    ensures { Means (IsContentOr fault.now) result (seen (K.held sink.old) (K.held sink.new) (K.faults sink.old) (K.faults sink.new)) }
+{
+    if is_memory(fault) {
+        return Ending::NoMemory;
+    }
+    match content_line(alloc, fault) {
+        Ok(line) => say(sink, &line, Ending::ContentRefused),
+        Err(_) => Ending::NoMemory,
+    }
+}
+
+// Runs a scenario whose content has this reading.
+fn perform<K: Sink>(alloc: Global, tree: Tree, scenario: &Scenario, sink: &mut K) -> Ending
+    requires { content_of scenario.now.content ≡ Ok tree }
+    ensures { Means (IsDueIn scenario.now) result (seen (K.held sink.old) (K.held sink.new) (K.faults sink.old) (K.faults sink.new)) }
+{
+    match are_built(alloc, scenario.acts.as_slice()) {
+        Ok(true) => play(alloc, tree, scenario, sink),
+        Ok(false) => say(sink, b"not built\n", Ending::NotBuilt),
+        Err(_) => Ending::NoMemory,
+    }
+}
+
+// Makes the events of a scenario, and writes its transcript event by event.
+fn play<K: Sink>(alloc: Global, tree: Tree, scenario: &Scenario, sink: &mut K) -> Ending
+    requires { content_of scenario.now.content ≡ Ok tree }
+    ensures { Means (IsDueOf scenario.now) result (seen (K.held sink.old) (K.held sink.new) (K.faults sink.old) (K.faults sink.new)) }
+{
+    let mut front = Front { content: tree };
+    let mut event = 0;
+    for act in scenario.acts.as_slice() {
+        event += 1;
+        let text = match event_of(alloc, &mut front, event, step_of(act)) {
+            Ok(text) => text,
+            Err(_) => return Ending::NoMemory,
+        };
+        match write_all(sink, &text) {
+            Ok(()) => {}
+            Err(SinkFault::Failed) => return Ending::SinkFailed,
+            Err(SinkFault::NoMemory) => return Ending::NoMemory,
+        }
+    }
+    Ending::Done
+}
+
+fn step_of(act: &Act) -> &Step
+    ensures { act.now ≡ Act.Do result.now }
+{
+    match act {
+        Act::Do(step) => step,
+    }
+}
+
+// The lines of the next event.
+fn event_of(alloc: Global, front: &mut Front, event: u64, step: &Step) -> Mem<Vec<u8>>
+    ensures { IfOk result (λ text. IsNext front.old step.now front.new event text.items) }
+{
+    let notes = front.step(alloc, step)?;
+    write_notes(alloc, event, notes.as_slice())
+}

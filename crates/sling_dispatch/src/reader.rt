@@ -1,0 +1,160 @@
+//! Reads a scenario by its grammar.
+ghost use Rattle.std.specs.Prelude.{[], ◌≡◌, ◌≢◌, ◌+◌, ◌≤◌, ◌<◌, ◌^◌, ◌++◌, ◌∷◌, ℕ, List, IfOk, IfErr, IfSome, IfNone, MatchResult, IsTrue, length, take, drop, codes};
+ghost use Rattle.std.specs.List.{list_all};
+ghost use Rattle.sling_dispatch.specs.Lines.{newlines, joined, AreLines};
+ghost use Rattle.sling_dispatch.specs.Languages.{IsRefused};
+ghost use Rattle.sling_dispatch.specs.Scenario.{is_visible, is_target, act_line, IsAct, AreActs, AreBlock, act_lines, Spells, IsScenario, Acts};
+ghost use Rattle.sling_dispatch.specs.Reading.{Refuses, RefusesWithin, SpellsBody, IsBody, EndsBlock, IfLine, shifted};
+ghost use Rattle.sling_dispatch.specs.declared.scenario.ScenarioFault.TheVariants.{Line, NoMemory as no_memory};
+
+use crate::lines::{behind_line, count_newlines, first_line, same};
+use crate::scenario::{Act, ActList, Scenario, ScenarioFault, Step};
+use sp_base::{ByteBuf, Items, Mem, TextBuf};
+use std::alloc::Global;
+use std::str;
+
+fn all_visible(text: &[u8]) -> bool
+    ensures { result ≡ list_all is_visible text.now }
+{
+    text.iter().all(|b| *b >= 33 && *b <= 126)
+}
+
+fn is_word(text: &[u8]) -> bool
+    ensures { result ≡ is_target text.now }
+{
+    !text.is_empty() && all_visible(text)
+}
+
+fn visible_text(alloc: Global, bytes: &[u8]) -> Mem<TextBuf>
+    requires { IsTrue (list_all is_visible bytes.now) }
+    ensures { IfOk result (λ t. t ≡ bytes.now) }
+{
+    match str::from_utf8(bytes) {
+        Ok(text) => TextBuf::of(alloc, text),
+        Err(_) => unreachable!(),
+    }
+}
+
+// The act that a line spells.
+fn read_act(alloc: Global, line: &[u8]) -> Mem<Option<Act>>
+    ensures some { IfOk result (λ o. IfSome o (λ act. IsAct act × (line.now ≡ act_line act))) }
+    ensures none { IfOk result (λ o. IfNone o ((act : Act) → IsAct act → line.now ≢ act_line act)) }
+{
+    match line.strip_prefix(b"direct ") {
+        Some(target) if is_word(target) => {
+            let text = visible_text(alloc, target)?;
+            Ok(Some(Act::Do(Step::Direct(text))))
+        }
+        _ => Ok(None),
+    }
+}
+
+// What is read where the line `end` was passed.
+fn ended(acts: ActList, after: &[u8], passed: u64) -> Result<ActList, ScenarioFault>
+    requires { passed + 1 < 2 ^ 64 }
+    ensures { MatchResult result (λ list. (list ≡ acts) × (after.now ≡ [])) (λ e. (e ≡ Line (passed + 1)) × (after.now ≢ [])) }
+{
+    if after.is_empty() {
+        Ok(acts)
+    } else {
+        Err(ScenarioFault::Line(passed + 1))
+    }
+}
+
+// Reads acts up to the end.
+fn read_acts(alloc: Global, text: &[u8]) -> Result<ActList, ScenarioFault>
+    ensures ok { IfOk result (λ acts. AreActs acts × (text.now ≡ joined (act_lines acts))) }
+    ensures err { IfErr result (Refuses Acts text.now) }
+{
+    let mut acts = Items::new(alloc);
+    let mut rest = text;
+    let mut passed = 0;
+    while let Some((line, after)) = first_line(rest) {
+        if same(line, b"end") {
+            return ended(acts, after, passed);
+        }
+        let Some(act) = read_act(alloc, line)? else {
+            return Err(ScenarioFault::Line(passed));
+        };
+        acts.push(act)?;
+        rest = after;
+        passed += 1;
+    }
+    Err(ScenarioFault::Line(passed))
+}
+
+// Where a block ends, and how many lines it has; or how many lines stand before the place of the refusal.
+fn block_end(text: &[u8]) -> Result<(usize, u64), u64>
+    ensures ok { IfOk result (λ p. EndsBlock text.now p.0 p.1) }
+    ensures err { IfErr result (λ n. IsRefused IsBody text.now n × (n ≤ length text.now)) }
+{
+    let mut rest = text;
+    let mut passed = 0;
+    while let Some((line, after)) = first_line(rest) {
+        if same(line, b".") {
+            return Ok((text.len() - rest.len(), passed));
+        }
+        rest = after;
+        passed += 1;
+    }
+    Err(passed)
+}
+
+// The same fault, so many lines further down.
+fn later(fault: ScenarioFault, lines: u64) -> ScenarioFault
+    requires { IfLine fault (λ n. n + lines < 2 ^ 64) }
+    ensures { result ≡ shifted fault lines }
+{
+    match fault {
+        ScenarioFault::Line(n) => ScenarioFault::Line(n + lines),
+        ScenarioFault::NoMemory => ScenarioFault::NoMemory,
+    }
+}
+
+// Reads the part behind the head.
+fn read_body(alloc: Global, text: &[u8]) -> Result<Scenario, ScenarioFault>
+    ensures ok { IfOk result (λ s. SpellsBody text.now s) }
+    ensures err { IfErr result (Refuses IsBody text.now) }
+{
+    let (at, passed) = match block_end(text) {
+        Ok(end) => end,
+        Err(n) => return Err(ScenarioFault::Line(n)),
+    };
+    let content = ByteBuf::of(alloc, &text[..at])?;
+    match read_acts(alloc, &text[at + 2..]) {
+        Ok(acts) => Ok(Scenario { content, acts }),
+        Err(fault) => Err(later(fault, passed + 1)),
+    }
+}
+
+// The scenario that a text spells, or the line at which it is refused.
+fn read_scenario(alloc: Global, text: &[u8]) -> Result<Scenario, ScenarioFault>
+    ensures ok { IfOk result (λ s. Spells text.now s) }
+    ensures err { IfErr result (Refuses IsScenario text.now) }
+{
+    let Some(first) = behind_line(text, b"scenario 1") else {
+        return Err(ScenarioFault::Line(0));
+    };
+    let Some(body) = behind_line(first, b"content") else {
+        return Err(ScenarioFault::Line(1));
+    };
+    match read_body(alloc, body) {
+        Ok(scenario) => Ok(scenario),
+        Err(fault) => Err(later(fault, 2)),
+    }
+}
+
+// The same where a scenario has at most so many bytes. The text is all of them, or more than these.
+pub fn read_limited(alloc: Global, text: &[u8], limit: usize) -> Result<Scenario, ScenarioFault>
+    ensures ok { IfOk result (λ s. Spells text.now s × (length text.now ≤ limit)) }
+    ensures err { IfErr result (RefusesWithin limit IsScenario text.now) }
+{
+    if text.len() <= limit {
+        return read_scenario(alloc, text);
+    }
+    let front = &text[..limit];
+    let Err(fault) = read_scenario(alloc, front) else {
+        return Err(ScenarioFault::Line(count_newlines(front)));
+    };
+    Err(fault)
+}

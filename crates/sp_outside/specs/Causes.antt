@@ -1,0 +1,24 @@
+use Rattle.std.specs.Prelude.{◌≡◌, ◌+◌, ◌≤◌, ℕ, Result, Ok, Err, min}
+use Rattle.sp_outside.specs.declared.source.SourceFault.{SourceFault}
+use Rattle.sp_outside.specs.declared.source.SourceFault.TheVariants.{Failed as source_failed}
+use Rattle.sp_outside.specs.declared.sink.SinkFault.{SinkFault}
+use Rattle.sp_outside.specs.declared.sink.SinkFault.TheVariants.{Failed as sink_failed, NoMemory}
+
+-- one more, in a count that stands still at the end of its type
+abbrev pub next : ℕ → ℕ
+next count = min (count + 1) 18446744073709551615
+
+-- a count of faults rose, or stands at the end of its type
+abbrev pub Rose : ℕ → ℕ → Type 0
+Rose before after = next before ≤ after
+
+-- Failed comes only where the count rose, and any other answer leaves the count.
+abbrev pub HasSourceCause : {T : Type 0} → ℕ → ℕ → Result T SourceFault → Type 0
+HasSourceCause before after (Ok _) = after ≡ before
+HasSourceCause before after (Err source_failed) = Rose before after
+
+-- the same of a sink, where want of memory leaves the count too
+abbrev pub HasSinkCause : {T : Type 0} → ℕ → ℕ → Result T SinkFault → Type 0
+HasSinkCause before after (Ok _) = after ≡ before
+HasSinkCause before after (Err sink_failed) = Rose before after
+HasSinkCause before after (Err NoMemory) = after ≡ before

@@ -1,0 +1,9 @@
+pub mod NameLemmas
+pub mod OrderLemmas
+pub mod PathLemmas
+pub mod Under
+pub mod NodeLemmas
+pub mod KidLemmas
+pub mod PlantLemmas
+pub mod MemberLemmas
+pub mod MapLemmas

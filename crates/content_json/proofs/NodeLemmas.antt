@@ -1,0 +1,93 @@
+-- Where the nodes of an object stand.
+use Rattle.std.proofs.Common.{◌≡◌, ◌≢◌, ℕ, Bool, true, false, cond, not, ◌&&◌, ◌||◌, ⊎_elim, List, [], ◌∷◌, ◌++◌, Option, Some, None, is_some, if◌then◌else◌, refl, sym, ap, ◌∙◌, subst, arith}
+use Rattle.std.specs.List.{list_any}
+use Rattle.std.specs.Option.{option_or}
+use Rattle.std.specs.Str.{bytes_eq}
+use Rattle.std.specs.Cmp.Lexicographic.{same_text}
+use Rattle.std.proofs.lemmas.Bool.{cases_Bool, true≢false, false≢true}
+use Rattle.serde_json.specs.Data.{Data, null, boolean, number, string, array, object, Members, no_members, member}
+use Rattle.resource_tree.specs.declared.nodes.Node.{Node}
+use Rattle.resource_tree.specs.Content.{Content, node_at, same_path, kid}
+use Rattle.content_json.specs.Names.{is_order, is_object, is_kid_member, kid_names}
+use Rattle.content_json.specs.Nodes.{node_of, nodes_in, nodes_below}
+use Rattle.content_json.specs.Paths.{begins}
+use Rattle.content_json.proofs.Under.{same_path_is, same_path_itself, begins_itself, begins-parent, begins-not_parent}
+
+pub node_at-append : (a b : Content) (q : List (List ℕ)) → node_at (a ++ b) q ≡ option_or (node_at a q) (node_at b q)
+node_at-append [] b q = refl
+node_at-append (e ∷ a) b q = elim (same_path q e.0) as (λ t. cond t (Some e.1) (node_at (a ++ b) q) ≡ option_or (cond t (Some e.1) (node_at a q)) (node_at b q)) [ true ↦ refl | false ↦ node_at-append a b q ]
+
+not_below_kid : (path q : List (List ℕ)) (k : List ℕ) → begins path q ≡ false → begins (kid path k) q ≡ false
+not_below_kid path q k h = ⊎_elim (λ e. absurd (true≢false (sym (begins-parent path q k e) ∙ h))) (λ e. e) (cases_Bool (begins (kid path k) q))
+
+pub not_same : (path q : List (List ℕ)) → begins path q ≡ false → same_path q path ≡ false
+not_same path q h = ⊎_elim (λ e. absurd (true≢false (sym (begins_itself path) ∙ ap (begins path) (sym (same_path_is q path e)) ∙ h))) (λ e. e) (cases_Bool (same_path q path))
+
+none_unless : (b : Bool) (nodes : Content) (q : List (List ℕ)) → node_at nodes q ≡ None → node_at (if b then [] else nodes) q ≡ None
+none_unless true nodes q h = refl
+none_unless false nodes q h = h
+
+-- no node stands elsewhere
+mutual
+  pub none_in : (path q : List (List ℕ)) (d : Data) → begins path q ≡ false → node_at (nodes_in path d) q ≡ None
+  none_in path q null h = refl
+  none_in path q (boolean b) h = refl
+  none_in path q (number n) h = refl
+  none_in path q (string s) h = refl
+  none_in path q (array ds) h = refl
+  none_in path q (object ms) h = rw (not_same path q h) (none_below path q ms h)
+
+  pub none_below : (path q : List (List ℕ)) (ms : Members) → begins path q ≡ false → node_at (nodes_below path ms) q ≡ None
+  none_below path q no_members h = refl
+  none_below path q (member name d ms) h =
+      node_at-append (if is_order name then [] else nodes_in (kid path name) d) (nodes_below path ms) q
+      ∙ rw (none_unless (is_order name) (nodes_in (kid path name) d) q (none_in (kid path name) q d (not_below_kid path q name h))) (none_below path q ms h)
+
+-- nor at the path of the object itself
+pub none_at_parent : (path : List (List ℕ)) (ms : Members) → node_at (nodes_below path ms) path ≡ None
+none_at_parent path no_members = refl
+none_at_parent path (member name d ms) =
+    node_at-append (if is_order name then [] else nodes_in (kid path name) d) (nodes_below path ms) path
+    ∙ rw (none_unless (is_order name) (nodes_in (kid path name) d) path (none_in (kid path name) path d (begins-not_parent path name))) (none_at_parent path ms)
+
+is_some-or : (a b : Option Node) → is_some b ≡ true → is_some (option_or a b) ≡ true
+is_some-or None b h = h
+is_some-or (Some x) b h = refl
+
+is_some-first : (a b : Option Node) → is_some a ≡ true → is_some (option_or a b) ≡ true
+is_some-first None b h = absurd (false≢true h)
+is_some-first (Some x) b h = refl
+
+never : (b : Bool) → (b && false) ≡ true → ⊥
+never true h = false≢true h
+never false h = false≢true h
+
+here_in : (path : List (List ℕ)) (name : List ℕ) (d : Data) → is_kid_member name d ≡ true → is_some (node_at (if is_order name then [] else nodes_in (kid path name) d) (kid path name)) ≡ true
+here_in path name null h = absurd (never _ h)
+here_in path name (boolean b) h = absurd (never _ h)
+here_in path name (number n) h = absurd (never _ h)
+here_in path name (string s) h = absurd (never _ h)
+here_in path name (array ds) h = absurd (never _ h)
+here_in path name (object ms) h = elim (is_order name) as (λ t. (not t && true) ≡ true → is_some (node_at (if t then [] else nodes_in (kid path name) (object ms)) (kid path name)) ≡ true) [
+  | true ↦ λ no_kid. absurd (false≢true no_kid)
+  | false ↦ λ _. rw (same_path_itself (kid path name)) refl
+] h
+
+or_split : (a b : Bool) → (a || b) ≡ true → a ≡ false → b ≡ true
+or_split true b h e = absurd (true≢false e)
+or_split false b h e = h
+
+-- each kid has its node
+pub kid_is_there : (path : List (List ℕ)) (k : List ℕ) (ms : Members) → list_any (bytes_eq k) (kid_names ms) ≡ true → is_some (node_at (nodes_below path ms) (kid path k)) ≡ true
+kid_is_there path k no_members h = absurd (false≢true h)
+kid_is_there path k (member name d ms) h =
+    let here : Content = if is_order name then [] else nodes_in (kid path name) d in
+    let later = λ (e : list_any (bytes_eq k) (kid_names ms) ≡ true). is_some-or (node_at here (kid path k)) (node_at (nodes_below path ms) (kid path k)) (kid_is_there path k ms e) in
+    ap is_some (node_at-append here (nodes_below path ms) (kid path k))
+    ∙ elim (is_kid_member name d) as (λ t. is_kid_member name d ≡ t → list_any (bytes_eq k) (if t then name ∷ kid_names ms else kid_names ms) ≡ true → is_some (option_or (node_at here (kid path k)) (node_at (nodes_below path ms) (kid path k))) ≡ true) [
+      | true ↦ λ is among. ⊎_elim
+        (λ e. is_some-first (node_at here (kid path k)) (node_at (nodes_below path ms) (kid path k)) (subst (λ (n : List ℕ). is_some (node_at here (kid path n)) ≡ true) (sym (same_text k name (sym e))) (here_in path name d is)))
+        (λ e. later (or_split (bytes_eq k name) (list_any (bytes_eq k) (kid_names ms)) among e))
+        (cases_Bool (bytes_eq k name))
+      | false ↦ λ is among. later among
+    ] refl h

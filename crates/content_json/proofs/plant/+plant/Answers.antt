@@ -1,0 +1,102 @@
+use Rattle.std.proofs.Common.{◌≡◌, ℕ, List, [], ◌∷◌, ◌++◌, true, false, None, string_bytes, sym, ap, ◌∙◌, subst, append_assoc, length, length-append, arith, refl}
+use Rattle.std.specs.List.Sorted.{IsStrictlySortedBy}
+use Rattle.std.specs.Map.{keys_of}
+use Rattle.std.specs.String.{string_cmp}
+use Rattle.std.proofs.lemmas.Result.{on_ok_weaker}
+use Rattle.serde_json.specs.Data.{object}
+use Rattle.serde_json.specs.View.{view, members_view}
+use Rattle.serde_json.proofs.Views.{Entry, view-Object}
+use Rattle.resource_tree.specs.Content.{kid, node_at}
+use Rattle.content_json.specs.Names.{has_bad_name, is_order, is_plain, is_kid_member}
+use Rattle.content_json.specs.Faults.{own_fault, fault_in, fault_below, member_fault, has_good_order}
+use Rattle.content_json.specs.Nodes.{add_props, kids_of}
+use Rattle.content_json.specs.Planting.{with_kids_at}
+use Rattle.content_json.proofs.NameLemmas.{has_bad_name-from_own_fault, has_good_order-from_own_fault, none_of_both, may_stand-first, plain_unless_order, has_bad_name-rest, faultless_value}
+use Rattle.content_json.proofs.PathLemmas.{child_of-plain, child_of-fits}
+use Rattle.content_json.proofs.KidLemmas.{kids_plain, kids_within}
+use Rattle.content_json.proofs.PlantLemmas.{kid_fresh, all_planted}
+use Rattle.content_json.proofs.MemberLemmas.{still_fresh, kid_among, one_more_member}
+use Rattle.content_json.proofs.plant.+plant.Goals as goal
+
+pub plant-make_kids-requires-clause-plain : goal.plant-make_kids-requires-clause-plain
+plant-make_kids-requires-clause-plain t c =
+    let ms = members_view c.args.members.now.entries in
+    let own = (none_of_both (own_fault ms) (fault_below ms) c.requires.faultless).0 in
+    rw c.in_ok-kids_of.ensures (kids_plain ms (has_good_order-from_own_fault ms own) (has_bad_name-from_own_fault ms own))
+
+pub plant-plant_members-requires : goal.plant-plant_members-requires
+plant-plant_members-requires t c =
+    let ms = members_view c.args.members.now.entries in
+    let parts = none_of_both (own_fault ms) (fault_below ms) c.requires.faultless in
+    let made = rw c.in_ok-kids_of.ensures at c.in_ok-make_kids.ensures in (
+      omega (arith, c.decreases),
+      (
+        λ k among. kid_fresh c.args.tree.now c.make_kids-2.new.tree c.set_props.new.tree c.args.path.now (add_props [] ms) ms k c.requires.fresh made c.in_ok-set_props.ensures among,
+        (has_bad_name-from_own_fault ms parts.0, parts.1)
+      )
+    )
+
+pub plant-returns : goal.plant-returns
+plant-returns t c =
+    let ms = members_view c.args.members.now.entries in
+    let own = (none_of_both (own_fault ms) (fault_below ms) c.requires.faultless).0 in
+    let made = rw c.in_ok-kids_of.ensures at c.in_ok-make_kids.ensures in
+    on_ok_weaker c.plant_members.result
+    (λ below. all_planted c.args.tree.now c.make_kids-2.new.tree c.set_props.new.tree c.plant_members.new.tree c.args.path.now ms (kids_within ms (has_good_order-from_own_fault ms own)) made c.in_ok-set_props.ensures below)
+    c.plant_members.ensures
+
+pub plant_member-plant-requires : goal.plant_member-plant-requires
+plant_member-plant-requires t c =
+
+    let name = c.args.name.now in
+    let other : is_order name ≡ false = sym c.is_order.ensures ∙ c.if-is_order.false in
+    let shown : view c.args.value.now ≡ object (members_view c.in-Object.members.entries) = ap view c.in-Object.is ∙ view-Object c.in-Object.members in
+    let path : c.in-Ok.kid ≡ kid c.args.path.now name = child_of-plain c.args.path.now name c.in-Ok.kid (plain_unless_order (is_order name) (is_plain name) c.requires.1.1.1.0 other) c.in-Ok.ensures.ok in (
+      (let size = child_of-fits c.args.path.now name c.in-Ok.kid c.in-Ok.ensures.ok in let longer = ap length path ∙ length-append c.args.path.now (name ∷ []) in omega (arith, size, longer, c.requires.1.0)),
+      (rw path (c.requires.1.1.0 (rw (other, shown) refl)), sym (ap fault_in shown) ∙ faultless_value name (view c.args.value.now) other c.requires.1.1.1.1)
+    )
+
+pub plant_member-returns : goal.plant_member-returns
+plant_member-returns t c =
+    let name = c.args.name.now in
+    let other : is_order name ≡ false = sym c.is_order.ensures ∙ c.if-is_order.false in
+    let shown : view c.args.value.now ≡ object (members_view c.in-Object.members.entries) = ap view c.in-Object.is ∙ view-Object c.in-Object.members in
+    let path : c.in-Ok.kid ≡ kid c.args.path.now name = child_of-plain c.args.path.now name c.in-Ok.kid (plain_unless_order (is_order name) (is_plain name) c.requires.1.1.1.0 other) c.in-Ok.ensures.ok in
+    on_ok_weaker c.plant.result (λ within q. within q ∙ rw (path, other, shown) refl) c.plant.ensures
+
+pub plant_members-plant_member-requires : goal.plant_members-plant_member-requires
+plant_members-plant_member-requires t c = (
+  omega (arith, c.decreases),
+  (let inv = c.loop-name.invariant in
+    let e : Entry = (c.in-Some.name.now, c.in-Some.value.now) in
+    let left = c.next.new.self in
+    let steps : c.loop-name.name-iterator ≡ e ∷ left = c.in-Some.ensures.steps in
+    let all : c.args.members.now.entries ≡ inv.0 ++ e ∷ left = inv.1 ∙ ap (λ es. inv.0 ++ es) steps in
+    let sorted = subst (λ es. IsStrictlySortedBy string_cmp (keys_of es)) all c.iter-name-items.ensures.ordered in
+    let name : c.as_str.result.now ≡ string_bytes e.0 = c.as_str.ensures.value in
+    let plain : has_bad_name (members_view (e ∷ left)) ≡ false = ap (λ es. has_bad_name (members_view es)) (sym steps) ∙ inv.3 in
+    let faultless : fault_below (members_view (e ∷ left)) ≡ None = ap (λ es. fault_below (members_view es)) (sym steps) ∙ inv.4 in
+    rw name (
+      λ is. still_fresh c.args.tree.now c.loop-name.tree c.args.path.now inv.0 e left sorted inv.2 (c.requires.fresh (string_bytes e.0) (rw all (kid_among inv.0 e left is))),
+      (may_stand-first (string_bytes e.0) (view e.1) (members_view left) plain, (none_of_both (member_fault (string_bytes e.0) (view e.1)) (fault_below (members_view left)) faultless).0)
+    )),
+)
+
+pub plant_members-loop-name-preserved : goal.plant_members-loop-name-preserved
+plant_members-loop-name-preserved t c =
+    let inv = c.loop-name.invariant in
+    let e : Entry = (c.in-Some.name.now, c.in-Some.value.now) in
+    let left = c.next.new.self in
+    let steps : c.loop-name.name-iterator ≡ e ∷ left = c.in-Some.ensures.steps in
+    let all : c.args.members.now.entries ≡ inv.0 ++ e ∷ left = inv.1 ∙ ap (λ es. inv.0 ++ es) steps in
+    let sorted = subst (λ es. IsStrictlySortedBy string_cmp (keys_of es)) all c.iter-name-items.ensures.ordered in
+    let name : c.as_str.result.now ≡ string_bytes e.0 = c.as_str.ensures.value in
+    let plain : has_bad_name (members_view (e ∷ left)) ≡ false = ap (λ es. has_bad_name (members_view es)) (sym steps) ∙ inv.3 in
+    let faultless : fault_below (members_view (e ∷ left)) ≡ None = ap (λ es. fault_below (members_view es)) (sym steps) ∙ inv.4 in
+    let put = rw name at c.in_ok-plant_member.ensures in (
+      inv.0 ++ e ∷ [],
+      all ∙ sym (append_assoc inv.0 (e ∷ []) left),
+      one_more_member c.args.tree.now c.loop-name.tree c.plant_member.new.tree c.args.path.now inv.0 e left sorted inv.2 put,
+      has_bad_name-rest (string_bytes e.0) (view e.1) (members_view left) plain,
+      (none_of_both (member_fault (string_bytes e.0) (view e.1)) (fault_below (members_view left)) faultless).1,
+    )

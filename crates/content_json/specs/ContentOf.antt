@@ -1,0 +1,50 @@
+-- The content that bytes stand for, or the first fault that they have.
+use Rattle.std.specs.Prelude.{ℕ, suc, List, [], ◌∷◌, Bool, ◌||◌, nat_lt, if◌then◌else◌, Option, Some, None, Result, Ok, Err}
+use Rattle.std.specs.FinMap.Entries.{put}
+use Rattle.std.specs.Str.{is_utf8}
+use Rattle.serde_json.specs.Data.{Data, null, boolean, number, string, array, object, Members}
+use Rattle.serde_json.specs.Read.{read}
+use Rattle.resource_tree.specs.Content.{Content, by_path}
+use Rattle.content_json.specs.declared.fault.Cause.{Cause}
+use Rattle.content_json.specs.declared.fault.Cause.TheVariants as cause
+use Rattle.content_json.specs.declared.fault.Found.{Found}
+use Rattle.content_json.specs.declared.fault.ContentFault.{ContentFault}
+use Rattle.content_json.specs.declared.fault.ContentFault.TheVariants.{NotJson, NotObject, BadName, BadNumber, MixedArray, BadOrder, TooBig}
+use Rattle.content_json.specs.Faults.{fault_in}
+use Rattle.content_json.specs.Nodes.{nodes_in, count_below, is_deeper_below}
+
+-- the JSON that bytes are (RFC 8259), if they are
+abbrev pub json_of : List ℕ → Option Data
+json_of bytes = if is_utf8 bytes then read bytes else None
+
+-- more than 200,000 nodes, the root among them, or one below 64 levels
+abbrev pub is_too_big : Members → Bool
+is_too_big ms = nat_lt 200000 (suc (count_below ms)) || is_deeper_below 64 ms
+
+abbrev pub refused_by : Cause → List (List ℕ) → ContentFault
+refused_by cause.BadName path = BadName path
+refused_by cause.BadNumber path = BadNumber path
+refused_by cause.MixedArray path = MixedArray path
+refused_by cause.BadOrder path = BadOrder path
+
+-- the finite map of nodes at their paths
+abbrev pub map_of : Content → Content
+map_of [] = []
+map_of (e ∷ nodes) = put by_path e.0 e.1 (map_of nodes)
+
+-- a fault is told before the size is looked at
+abbrev pub unless_found : Option Found → Members → Result Content ContentFault
+unless_found (Some found) ms = Err (refused_by found.cause found.place)
+unless_found None ms = if is_too_big ms then Err TooBig else Ok (map_of (nodes_in [] (object ms)))
+
+abbrev pub content_in : Option Data → Result Content ContentFault
+content_in None = Err NotJson
+content_in (Some null) = Err NotObject
+content_in (Some (boolean b)) = Err NotObject
+content_in (Some (number n)) = Err NotObject
+content_in (Some (string s)) = Err NotObject
+content_in (Some (array ds)) = Err NotObject
+content_in (Some (object ms)) = unless_found (fault_in (object ms)) ms
+
+abbrev pub content : List ℕ → Result Content ContentFault
+content bytes = content_in (json_of bytes)

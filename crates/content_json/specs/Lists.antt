@@ -1,0 +1,69 @@
+-- What an array may hold: texts, numbers or truths, all of one kind.
+use Rattle.std.specs.Prelude.{ℕ, ℤ, List, [], ◌∷◌, Bool, true, false, not, ◌&&◌, if◌then◌else◌, Option, Some, None, is_some, is_none, option_and_then, option_map}
+use Rattle.std.specs.Option.{option_or, option_map_or}
+use Rattle.std.specs.List.{filter_map}
+use Rattle.serde_json.specs.Data.{Data, null, boolean, number, string, array, object, Items, no_items, item}
+use Rattle.serde_json.specs.Find.{as_bool, as_number, as_str, as_i64}
+use Rattle.sp_base.specs.declared.value.Value.{Value}
+use Rattle.sp_base.specs.declared.value.Value.TheVariants.{Text, Long, Truth, Texts, Longs, Truths}
+use Rattle.content_json.specs.declared.fault.Cause.{Cause}
+use Rattle.content_json.specs.declared.fault.Cause.TheVariants.{BadNumber, MixedArray}
+use Rattle.content_json.specs.declared.kind.Kind.{Kind}
+use Rattle.content_json.specs.declared.kind.Kind.TheVariants as kind
+
+abbrev pub kind_of : Data → Option Kind
+kind_of null = None
+kind_of (boolean b) = Some kind.Truth
+kind_of (number n) = Some kind.Long
+kind_of (string s) = Some kind.Text
+kind_of (array ds) = None
+kind_of (object ms) = None
+
+abbrev pub is_of : Kind → Data → Bool
+is_of kind.Text d = is_some (as_str d)
+is_of kind.Long d = is_some (as_number d)
+is_of kind.Truth d = is_some (as_bool d)
+
+-- the number of a value that is one in 64 bits with a sign
+abbrev pub as_long : Data → Option ℤ
+as_long d = option_and_then as_i64 (as_number d)
+
+abbrev pub is_bad_number : Data → Bool
+is_bad_number d = is_some (as_number d) && is_none (as_long d)
+
+-- what one item has against it in an array of a kind
+abbrev pub item_cause : Kind → Data → Option Cause
+item_cause k d = if is_bad_number d then Some BadNumber else (if is_of k d then None else Some MixedArray)
+
+-- the first that an item has against it
+abbrev pub items_cause : Kind → Items → Option Cause
+items_cause k no_items = None
+items_cause k (item d ds) = option_or (item_cause k d) (items_cause k ds)
+
+-- an array is of the kind of its first item
+abbrev pub array_cause : Items → Option Cause
+array_cause no_items = None
+array_cause (item d ds) = option_map_or (λ k. items_cause k (item d ds)) (kind_of d) (Some MixedArray)
+
+abbrev pub list_of : Items → List Data
+list_of no_items = []
+list_of (item d ds) = d ∷ list_of ds
+
+abbrev pub list_value : Kind → Items → Value
+list_value kind.Text ds = Texts (filter_map as_str (list_of ds))
+list_value kind.Long ds = Longs (filter_map as_long (list_of ds))
+list_value kind.Truth ds = Truths (filter_map as_bool (list_of ds))
+
+-- an array without items is one of texts
+abbrev pub array_value : Items → Value
+array_value no_items = Texts []
+array_value (item d ds) = option_map_or (λ k. list_value k (item d ds)) (kind_of d) (Texts [])
+
+-- the value of a property; `null` is none, and an object is a kid
+abbrev pub value_of : Data → Option Value
+value_of null = None
+value_of (boolean b) = Some (Truth b)
+value_of (number n) = option_map Long (as_i64 n)
+value_of (string s) = Some (Text s)
+value_of (array ds) = Some (array_value ds)
+value_of (object ms) = None

@@ -1,0 +1,25 @@
+-- A tree while an object is put in: look-ups after each step.
+use Rattle.std.specs.Prelude.{ℕ, List, [], ◌∷◌, Option, Some, None, option_map, if◌then◌else◌}
+use Rattle.std.specs.List.{list_any}
+use Rattle.std.specs.Option.{option_or}
+use Rattle.serde_json.specs.Data.{Data}
+use Rattle.sp_base.specs.declared.value.Value.{Value}
+use Rattle.resource_tree.specs.declared.nodes.Node.{Node}
+use Rattle.resource_tree.specs.Content.{Content, node_at, kid, same_path, empty_node}
+
+-- the node at a path has such kids, which are empty nodes
+abbrev pub with_kids_at : Content → List (List ℕ) → List (List ℕ) → List (List ℕ) → Option Node
+with_kids_at tree path kids q =
+    if same_path path q then Some (record { props = []; kids = kids })
+    else (if list_any (λ name. same_path (kid path name) q) kids then Some empty_node else node_at tree q)
+
+abbrev pub set_props : List (List ℕ × Value) → Node → Node
+set_props props node = record node { props = props }
+
+-- the node at a path has such properties
+abbrev pub with_props_at : Content → List (List ℕ) → List (List ℕ × Value) → List (List ℕ) → Option Node
+with_props_at tree path props q = if same_path path q then option_map (set_props props) (node_at tree q) else node_at tree q
+
+-- the tree with other nodes in it
+abbrev pub with_nodes_at : Content → Content → List (List ℕ) → Option Node
+with_nodes_at tree nodes q = option_or (node_at nodes q) (node_at tree q)

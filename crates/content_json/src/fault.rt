@@ -1,0 +1,62 @@
+use sp_base::{NoMemory, Path};
+use std::alloc::{AllocError, AllocFailed};
+
+/// Why bytes are no content. A path of more than 64 segments is cut to its first 64.
+#[derive(Drop)]
+pub enum ContentFault {
+    /// The bytes are no JSON text (RFC 8259), a number in it is too large for a double, or it nests
+    /// deeper than 127.
+    NotJson,
+    /// The top of the text isn't an object.
+    NotObject,
+    /// A name in the object at the path is no segment of a path, or begins with `:` and isn't `:order`.
+    BadName(Path),
+    /// The member at the path is a number that isn't an integer of 64 bits with a sign, or an array
+    /// whose first bad item is one.
+    BadNumber(Path),
+    /// The member at the path is an array whose first bad item is of another kind than the first.
+    MixedArray(Path),
+    /// The member `:order` of the object at the path isn't an array of distinct names of its kids.
+    BadOrder(Path),
+    /// There are more than 200,000 nodes, or one below 64 levels.
+    TooBig,
+    NoMemory,
+}
+
+impl From<NoMemory> for ContentFault {
+    ghost use Rattle.std.specs.Prelude.{◌≡◌};
+    ghost use Rattle.content_json.specs.declared.fault.ContentFault.{ContentFault};
+
+    ghost from_gives = { λ _ fault. fault ≡ ContentFault.NoMemory };
+
+    fn from(_fault: NoMemory) -> ContentFault {
+        ContentFault::NoMemory
+    }
+}
+
+impl From<AllocError> for ContentFault {
+    ghost use Rattle.std.specs.Prelude.{◌≡◌};
+    ghost use Rattle.content_json.specs.declared.fault.ContentFault.{ContentFault};
+
+    ghost from_gives = { λ _ fault. fault ≡ ContentFault.NoMemory };
+
+    fn from(_fault: AllocError) -> ContentFault {
+        ContentFault::NoMemory
+    }
+}
+
+/// What is against a member.
+#[derive(Clone, Copy, PartialEq, Eq, Debug, Drop)]
+pub(crate) enum Cause {
+    BadName,
+    BadNumber,
+    MixedArray,
+    BadOrder,
+}
+
+/// A fault, and its place below the value that is looked at.
+#[derive(Drop)]
+pub(crate) struct Found {
+    pub(crate) cause: Cause,
+    pub(crate) place: Path,
+}

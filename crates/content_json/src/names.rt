@@ -1,0 +1,42 @@
+ghost use Rattle.std.specs.Prelude.{◌≡◌};
+ghost use Rattle.serde_json.specs.View.{view, members_view};
+ghost use Rattle.content_json.specs.Names.{is_order, is_plain, has_bad_name, is_object, is_kid};
+
+use serde_json::{Map, Value};
+use sp_base::seg_ok;
+
+pub(crate) const ORDER: &str = ":order";
+
+pub(crate) fn is_order(name: &str) -> bool
+    ensures { result ≡ is_order name.now }
+{
+    name == ORDER
+}
+
+fn is_plain(name: &str) -> bool
+    ensures { result ≡ is_plain name.now }
+{
+    seg_ok(name) && !name.starts_with(':')
+}
+
+/// Whether a name of a member may not stand in content.
+pub(crate) fn has_bad_name(members: &Map<String, Value>) -> bool
+    ensures { result ≡ has_bad_name (members_view members.now.entries) }
+{
+    for (name, _) in members.iter() {
+        if !is_order(name.as_str()) && !is_plain(name.as_str()) {
+            return true;
+        }
+    }
+    false
+}
+
+/// Whether the member of a name is an object.
+pub(crate) fn is_kid(members: &Map<String, Value>, name: &str) -> bool
+    ensures { result ≡ is_kid (members_view members.now.entries) name.now }
+{
+    match members.get(name) {
+        Some(value) => value.is_object(),
+        None => false,
+    }
+}

@@ -1,0 +1,91 @@
+ghost use Rattle.std.specs.Prelude.{◌≡◌, ◌≢◌, None, Some, Ok, Err, [], IfOk, IfErr};
+ghost use Rattle.serde_json.specs.Data.{object};
+ghost use Rattle.serde_json.specs.View.{view, members_view};
+ghost use Rattle.content_json.specs.Faults.{fault_in};
+ghost use Rattle.content_json.specs.Nodes.{nodes_in};
+ghost use Rattle.content_json.specs.ContentOf.{json_of, is_too_big, refused_by, map_of, content};
+
+use crate::fault::{Cause, Found};
+use crate::measure::{is_deeper_below, room_beside};
+use crate::plant::plant;
+use crate::search::fault_in;
+use crate::ContentFault;
+use resource_tree::Tree;
+use serde_json::{Map, Value};
+use sp_base::{Mem, Path};
+use std::alloc::Global;
+
+/// The most nodes that content may have, the root among them.
+const MOST_NODES: usize = 200_000;
+
+/// The most levels below the root.
+const MOST_LEVELS: usize = 64;
+
+/// Reads content from a JSON text (RFC 8259) whose top is an object, the root. A member with an object is
+/// a kid, one with a text, an integer, a truth or an array of one kind of these a property, and one with
+/// `null` is nothing. The member `:order` names the kids that come first; the others follow in the order of
+/// their bytes. Of several faults the first is told: in an object its names, then `:order`, then its
+/// members in the order of their bytes, each with all below it; the size is looked at last.
+pub fn read_tree(alloc: Global, bytes: &[u8]) -> Result<Tree, ContentFault>
+    ensures ok { IfOk result (λ tree. content bytes.now ≡ Ok tree) }
+    ensures err { IfErr result (λ fault. fault ≢ ContentFault.NoMemory → content bytes.now ≡ Err fault) }
+{
+    let json = json_of(alloc, bytes)?;
+    let Value::Object(members) = &json else {
+        return Err(ContentFault::NotObject);
+    };
+    if let Some(found) = fault_in(alloc, &json)? {
+        return Err(refused_by(found));
+    }
+    if is_too_big(members) {
+        return Err(ContentFault::TooBig);
+    }
+    Ok(built(alloc, members)?)
+}
+
+// The JSON that the bytes are.
+fn json_of(alloc: Global, bytes: &[u8]) -> Result<Value, ContentFault>
+    ensures ok { IfOk result (λ json. json_of bytes.now ≡ Some (view json)) }
+    ensures err { IfErr result (λ fault. fault ≢ ContentFault.NoMemory → (fault ≡ ContentFault.NotJson) × (json_of bytes.now ≡ None)) }
+{
+    match Value::from_slice(alloc, bytes) {
+        Ok(json) => Ok(json),
+        Err(fault) => {
+            if fault.is_memory() {
+                Err(ContentFault::NoMemory)
+            } else {
+                Err(ContentFault::NotJson)
+            }
+        }
+    }
+}
+
+fn refused_by(found: Found) -> ContentFault
+    ensures { result ≡ refused_by found.cause found.place }
+{
+    let Found { cause, place } = found;
+    match cause {
+        Cause::BadName => ContentFault::BadName(place),
+        Cause::BadNumber => ContentFault::BadNumber(place),
+        Cause::MixedArray => ContentFault::MixedArray(place),
+        Cause::BadOrder => ContentFault::BadOrder(place),
+    }
+}
+
+fn is_too_big(members: &Map<String, Value>) -> bool
+    ensures { result ≡ is_too_big (members_view members.now.entries) }
+{
+    room_beside(members, MOST_NODES - 1).is_none() || is_deeper_below(members, MOST_LEVELS)
+}
+
+// The tree of an object without a fault.
+fn built(alloc: Global, members: &Map<String, Value>) -> Mem<Tree>
+    requires { fault_in (object (members_view members.now.entries)) ≡ None }
+    ensures { IfOk result (λ tree. tree ≡ map_of (nodes_in [] (object (members_view members.now.entries)))) }
+{
+    let mut tree = Tree::new(alloc)?;
+    plant(alloc, &mut tree, &Path::root(alloc), members)?;
+    // `len` says that the nodes stand in the order of their paths, so that equal look-ups make equal trees.
+    let _ = tree.len();
+    Ok(tree)
+}

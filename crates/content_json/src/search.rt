@@ -1,0 +1,94 @@
+// The first fault of content: in an object its names, then `:order`, then its members in the order of
+// their names' bytes, each with all below it.
+ghost use Rattle.std.specs.Prelude.{◌≡◌, IfOk, IsTrue, false};
+ghost use Rattle.serde_json.specs.View.{view, members_view};
+ghost use Rattle.content_json.specs.Names.{has_bad_name, is_plain};
+ghost use Rattle.content_json.specs.Faults.{own_fault, fault_in, fault_below, in_member, here};
+
+use crate::fault::{Cause, Found};
+use crate::kind::array_cause;
+use crate::names::{has_bad_name, is_order};
+use crate::order::has_good_order;
+use serde_json::{Map, Value};
+use sp_base::{Mem, NoMemory, Path};
+use std::alloc::Global;
+
+fn here(alloc: Global, cause: Cause) -> Found
+    ensures { result ≡ here cause }
+{
+    Found {
+        cause,
+        place: Path::root(alloc),
+    }
+}
+
+// The fault seen from the object that has it in its member of this name.
+fn in_member(alloc: Global, name: &str, found: &Found) -> Mem<Found>
+    requires { IsTrue (is_plain name.now) }
+    ensures { IfOk result (λ f. f ≡ in_member name.now found.now) }
+{
+    let Ok(top) = Path::root(alloc).child(alloc, name) else {
+        return Err(NoMemory);
+    };
+    let Ok(place) = top.join(alloc, &found.place.first(alloc, 63)?) else {
+        return Err(NoMemory);
+    };
+    Ok(Found {
+        cause: found.cause,
+        place,
+    })
+}
+
+fn own_fault(alloc: Global, members: &Map<String, Value>) -> Mem<Option<Found>>
+    ensures { IfOk result (λ found. found ≡ own_fault (members_view members.now.entries)) }
+{
+    if has_bad_name(members) {
+        return Ok(Some(here(alloc, Cause::BadName)));
+    }
+    if has_good_order(alloc, members)? {
+        Ok(None)
+    } else {
+        Ok(Some(here(alloc, Cause::BadOrder)))
+    }
+}
+
+/// The first fault of a value.
+#[cycle(fault)]
+pub(crate) fn fault_in(alloc: Global, value: &Value) -> Mem<Option<Found>>
+    ensures { IfOk result (λ found. found ≡ fault_in (view value.now)) }
+{
+    match value {
+        Value::Null | Value::Bool(_) | Value::String(_) => Ok(None),
+        Value::Number(number) => {
+            if number.as_i64().is_some() {
+                Ok(None)
+            } else {
+                Ok(Some(here(alloc, Cause::BadNumber)))
+            }
+        }
+        Value::Array(items) => match array_cause(items.as_slice()) {
+            Some(cause) => Ok(Some(here(alloc, cause))),
+            None => Ok(None),
+        },
+        Value::Object(members) => match own_fault(alloc, members)? {
+            Some(found) => Ok(Some(found)),
+            None => fault_below(alloc, members),
+        },
+    }
+}
+
+// The first fault of the members, whose names may all stand in content.
+#[cycle(fault)]
+fn fault_below(alloc: Global, members: &Map<String, Value>) -> Mem<Option<Found>>
+    requires { has_bad_name (members_view members.now.entries) ≡ false }
+    ensures { IfOk result (λ found. found ≡ fault_below (members_view members.now.entries)) }
+{
+    for (name, value) in members.iter() {
+        if !is_order(name.as_str()) {
+            if let Some(found) = fault_in(alloc, value)? {
+                return Ok(Some(in_member(alloc, name.as_str(), &found)?));
+            }
+        }
+    }
+    Ok(None)
+}

@@ -1,0 +1,5 @@
+pub mod Token
+pub mod Read
+pub mod Value
+pub mod Print
+pub mod Expression

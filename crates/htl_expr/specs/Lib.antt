@@ -3,3 +3,4 @@ pub mod Read
 pub mod Value
 pub mod Print
 pub mod Expression
+pub mod Grammar

@@ -10,7 +10,7 @@ use Rattle.htl_expr.specs.declared.reader.Nest.{Nest}
 use Rattle.htl_expr.specs.declared.reader.Nest.TheVariants as nest
 use Rattle.htl_expr.specs.declared.reader.Link.{Link}
 use Rattle.htl_expr.specs.declared.reader.Link.TheVariants as link
-use Rattle.htl_expr.specs.Token.{Outcome, ◌>>=◌, skip, is_at, is_digit, is_name_start, is_quote, cut, word_len, expect, twice, literal, field, number, string, begins_relation, comparison, context_string}
+use Rattle.htl_expr.specs.Token.{Outcome, ◌>>=◌, skip, is_at, is_digit, is_name_start, is_quote, cut, in_word, run_len, expect, twice, literal, field, number, string, begins_relation, comparison, context_string}
 
 abbrev pub accessed : Node → List (List ℕ) → Node
 accessed e [] = e
@@ -79,7 +79,7 @@ module _ (depth : ℕ) (awaits_colon : Bool) where
   simple (c ∷ t) =
       if is_quote c then (string (c ∷ t) >>= λ x. Ok (n.Text x.0, x.1))
       else if is_digit c || c == 45 then (number (c ∷ t) >>= λ x. Ok (n.Number x.0, x.1))
-      else if is_name_start c then (let x = cut (word_len (c ∷ t)) (c ∷ t) in named x.0 x.1)
+      else if is_name_start c then (let x = cut (run_len in_word (c ∷ t)) (c ∷ t) in named x.0 x.1)
       else Err (Unexpected (length (c ∷ t)))
 
   -- Inside, what stands one level deeper is read; the text begins at the byte that nests it.

@@ -78,15 +78,20 @@ literal (c ∷ w) t = if is_at c t then literal w (drop 1 t) else Err (Unexpecte
 abbrev pub cut : ℕ → List ℕ → List ℕ × List ℕ
 cut len t = (take len t, skip (drop len t))
 
--- how many bytes at the front are of a name
-unfoldable pub word_len : List ℕ → ℕ
-word_len [] = 0
-word_len (c ∷ t) = if is_word c then suc (word_len t) else 0
+-- the text goes on with a byte of a name
+abbrev pub in_word : List ℕ → Bool
+in_word [] = false
+in_word (c ∷ t) = is_word c
 
--- and of a field, in which a colon may stand before a letter
-unfoldable pub field_len : List ℕ → ℕ
-field_len [] = 0
-field_len (c ∷ t) = if is_word c || (c == 58 && begins is_letter t) then suc (field_len t) else 0
+-- or with one of a field, in which a colon may stand before a letter
+abbrev pub in_field : List ℕ → Bool
+in_field [] = false
+in_field (c ∷ t) = is_word c || (c == 58 && begins is_letter t)
+
+-- how many bytes go on at the front
+unfoldable pub run_len : (List ℕ → Bool) → List ℕ → ℕ
+run_len goes_on [] = 0
+run_len goes_on (c ∷ t) = if goes_on (c ∷ t) then suc (run_len goes_on t) else 0
 
 -- A colon behind a field might go on with a letter: where none may stand there otherwise, the byte behind it is the one that is wrong.
 abbrev pub field_end : Bool → List ℕ → List ℕ → Outcome (List ℕ)
@@ -94,16 +99,19 @@ field_end awaits_colon name rest = if is_at 58 rest && not awaits_colon then Err
 
 unfoldable pub field : Bool → List ℕ → Outcome (List ℕ)
 field awaits_colon t =
-    if begins is_name_start t then field_end awaits_colon (take (field_len t) t) (drop (field_len t) t)
+    if begins is_name_start t then field_end awaits_colon (take (run_len in_field t) t) (drop (run_len in_field t) t)
     else Err (Unexpected (length t))
 
 -- ---- numbers
 
+-- a number with one more digit
+abbrev pub next_value : ℕ → ℕ → ℕ
+next_value value c = value * 10 + (c - 48)
+
 -- digits are read as long as their number is within the limit
 unfoldable pub digits : ℕ → ℕ → List ℕ → ℕ × List ℕ
 digits limit value [] = (value, [])
-digits limit value (c ∷ t) =
-    if is_digit c && nat_le (value * 10 + (c - 48)) limit then digits limit (value * 10 + (c - 48)) t else (value, c ∷ t)
+digits limit value (c ∷ t) = if is_digit c && nat_le (next_value value c) limit then digits limit (next_value value c) t else (value, c ∷ t)
 
 abbrev pub and_blanks : ℕ × List ℕ → ℕ × List ℕ
 and_blanks x = (x.0, skip x.1)

@@ -1,6 +1,8 @@
 ghost use Rattle.std.specs.Prelude.{◌≡◌, ◌≢◌, IfOk, IfErr, Ok, Err};
 ghost use Rattle.htl_expr.specs.declared.fault.ExprFault.TheVariants.{NoMemory as WantOfMemory};
-ghost use Rattle.htl_expr.specs.Expression.{expression};
+ghost use Rattle.htl_expr.specs.declared.node.Written.{Written};
+ghost use Rattle.htl_expr.specs.Grammar.{Whole};
+ghost use Rattle.htl_expr.specs.Expression.{expression, IsReadAs};
 ghost use Rattle.htl_expr.specs.Value.{value_of};
 ghost use Rattle.htl_expr.specs.Print.{print_of};
 
@@ -35,6 +37,11 @@ impl Model for Expr {
 impl Expr {
     /// Reads a text as an expression (HTL specification 1.4, section 1.1). The empty text is an expression too.
     pub fn read(alloc: Global, text: &str) -> Result<Expr, ExprFault>
+        // What is read is in the grammar.
+        ensures found { IfOk result (λ e. Whole text.now e) }
+        // What is in the grammar is read as that tree, so a text has one tree.
+        ensures only { (written : Written) → Whole text.now written → IsReadAs written result }
+        // Which tree, or which fault, by reading from left to right.
         ensures ok { IfOk result (λ e. expression text.now ≡ Ok e) }
         ensures err { IfErr result (λ fault. fault ≢ WantOfMemory → expression text.now ≡ Err fault) }
     {

@@ -15,3 +15,6 @@ pub use expr::Expr;
 pub use fault::ExprFault;
 pub use node::{Context, Node, Relation, Written};
 pub use out::{Out, Scope};
+
+#[cfg(test)]
+mod tests;

@@ -1,8 +1,10 @@
 //! Reads an expression from left to right.
 
-ghost use Rattle.std.specs.Prelude.{◌≡◌, [], length, IfOk};
+ghost use Rattle.std.specs.Prelude.{◌≡◌, [], length, IfOk, Ok};
 ghost use Rattle.htl_expr.specs.Token.{Gives};
 ghost use Rattle.htl_expr.specs.Read as spec;
+ghost use Rattle.htl_expr.specs.Grammar.{Whole};
+ghost use Rattle.htl_expr.specs.declared.node.Written.{Written};
 
 use crate::node::{Node, Written};
 use crate::stop::Stop;
@@ -432,9 +434,8 @@ fn first_choice(alloc: Global, text: &[u8]) -> Result<(Node, &[u8]), Stop>
     choice(alloc, DEPTH, false, text)
 }
 
-/// Reads a whole text.
 #[tactic(auto, unfolding(crate::specs::Read::read))]
-pub fn read(alloc: Global, text: &[u8]) -> Result<Written, Stop>
+fn whole(alloc: Global, text: &[u8]) -> Result<Written, Stop>
     ensures { Gives (λ w. w) result (spec.read text.now) }
 {
     let (node, rest) = first_choice(alloc, skip(text))?;
@@ -449,4 +450,13 @@ pub fn read(alloc: Global, text: &[u8]) -> Result<Written, Stop>
     } else {
         Err(Stop::Unexpected(rest.len()))
     }
+}
+
+/// Reads a whole text.
+pub fn read(alloc: Global, text: &[u8]) -> Result<Written, Stop>
+    ensures found { IfOk result (λ w. Whole text.now w) }
+    ensures only { (w : Written) → Whole text.now w → Gives (λ v. v) result (Ok w) }
+    ensures exact { Gives (λ w. w) result (spec.read text.now) }
+{
+    whole(alloc, text)
 }

@@ -151,9 +151,9 @@ pub fn text_of(alloc: Global, bytes: &[u8]) -> Mem<TextBuf>
     }
 }
 
-#[tactic(auto, unfolding(crate::specs::Token::word_len))]
+#[tactic(auto, unfolding(crate::specs::Token::run_len))]
 fn word_len(text: &[u8]) -> usize
-    ensures value { result ≡ spec.word_len text.now }
+    ensures value { result ≡ spec.run_len spec.in_word text.now }
     ensures within { result ≤ length text.now }
 {
     let mut len = 0;
@@ -169,15 +169,15 @@ fn word_len(text: &[u8]) -> usize
 }
 
 pub fn word(text: &[u8]) -> (&[u8], &[u8])
-    ensures { (result.0.now, result.1.now) ≡ spec.cut (spec.word_len text.now) text.now }
+    ensures { (result.0.now, result.1.now) ≡ spec.cut (spec.run_len spec.in_word text.now) text.now }
 {
     let (front, rest) = text.split_at(word_len(text));
     (front, skip(rest))
 }
 
-#[tactic(auto, unfolding(crate::specs::Token::field_len))]
+#[tactic(auto, unfolding(crate::specs::Token::run_len))]
 fn field_len(text: &[u8]) -> usize
-    ensures value { result ≡ spec.field_len text.now }
+    ensures value { result ≡ spec.run_len spec.in_field text.now }
     ensures within { result ≤ length text.now }
 {
     let mut len = 0;

@@ -3,6 +3,8 @@
 
 mod decompose;
 mod lookup;
+#[cfg(test)]
+mod tests;
 
 pub use decompose::{Parts, split};
 pub use lookup::Known;

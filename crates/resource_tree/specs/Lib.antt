@@ -1,3 +1,4 @@
 pub mod Content
 pub mod Kids
 pub mod Changes
+pub mod Seen

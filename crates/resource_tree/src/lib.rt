@@ -8,6 +8,7 @@ mod create;
 mod duplicate;
 mod faults;
 mod kids;
+mod look;
 mod nodes;
 mod order;
 mod places;
@@ -18,6 +19,7 @@ mod tests;
 mod tree;
 
 pub use faults::TreeFault;
+pub use look::{Look, Res};
 pub use nodes::Node;
 pub use places::Place;
 pub use tree::Tree;

@@ -1,11 +1,9 @@
 -- What is in the grammar is read.
-use Rattle.std.proofs.Common.{◌≡◌, ◌≤◌, ◌<◌, ℕ, zero, suc, ◌+◌, ℤ, Bool, true, false, cond, not, ◌||◌, ◌&&◌, eqb, List, [], ◌∷◌, ◌++◌, take, drop, length, Option, Some, None, Result, Ok, Err, refl, ap, sym, subst, ◌∙◌, rules, arith, append_assoc}
+use Rattle.std.proofs.Common.{◌≡◌, ◌≤◌, ◌<◌, ℕ, zero, suc, ℤ, Bool, true, false, cond, not, ◌||◌, ◌&&◌, eqb, List, [], ◌∷◌, ◌++◌, length, Option, Some, None, Ok, refl, ap, ◌∙◌, rules, arith, append_assoc}
 use Rattle.std.specs.Prelude.{codes, is_none}
 use Rattle.std.specs.Str.{bytes_eq}
 use Rattle.std.proofs.lemmas.List.{append-nil, length-append}
 use Rattle.std.proofs.lemmas.Bool.Decides.{nat_tests}
-use Rattle.htl_expr.specs.declared.stop.Stop.{Stop}
-use Rattle.htl_expr.specs.declared.stop.Stop.TheVariants.{Unexpected, TooDeep}
 use Rattle.htl_expr.specs.declared.node.Node.{Node}
 use Rattle.htl_expr.specs.declared.node.Node.TheVariants as n
 use Rattle.htl_expr.specs.declared.node.Context.{Context}
@@ -15,12 +13,12 @@ use Rattle.htl_expr.specs.declared.reader.Nest.{Nest}
 use Rattle.htl_expr.specs.declared.reader.Nest.TheVariants as nest
 use Rattle.htl_expr.specs.declared.reader.Link.{Link}
 use Rattle.htl_expr.specs.declared.reader.Link.TheVariants as link
-use Rattle.htl_expr.specs.Token.{Outcome, ◌>>=◌, skip, is_at, is_blank, begins, expect, twice, literal, string, number, field, cut, run_len, in_word, comparison, begins_relation, context_string, is_digit, is_name_start, is_quote}
+use Rattle.htl_expr.specs.Token.{Outcome, skip, is_at, is_blank, begins, literal, string, number, cut, run_len, in_word, begins_relation, is_digit, is_name_start, is_quote}
 use Rattle.htl_expr.specs.Read as spec
 use Rattle.htl_expr.specs.Grammar.{Byte, Twice, Run, Name, Field, Digits, Number, Quoted, Compares, Part, Choice, Either, Both, Compare, Negation, Atom, Start, Items, Reads, More, Access, Accesses, Joint, part_of, is_reserved, JoinOption, ContextOption, ContextString, String, Options, Whole}
 use Rattle.htl_expr.specs.Grammar as g
 use Rattle.htl_expr.proofs.Tools.{answer}
-use Rattle.htl_expr.proofs.TokenSound.{eqb_is, at_parts}
+use Rattle.htl_expr.proofs.TokenSound.{at_parts}
 use Rattle.htl_expr.proofs.TokenAgain as again
 use Rattle.htl_expr.proofs.TokenAgain.{ColonFits, apart, or_left, or_right, at_here, behind, expect_again}
 
@@ -367,8 +365,10 @@ module _ (depth : ℕ) (awaits_colon : Bool) where
       digit_or_sign : (s : List ℕ) (z : ℤ) (r : List ℕ) → Number s z r → begins (λ c. is_digit c || eqb c 45) s ≡ true
       digit_or_sign s _ r (g.plain {value = v} d) = wider is_digit (λ c. is_digit c || eqb c 45) s (λ c h. rw h refl) (again.digits_begin _ s v r d)
       digit_or_sign s _ r (g.negative at d) = rw at refl
+
       no_quote : (c : ℕ) → (is_digit c || eqb c 45) ≡ true → is_quote c ≡ false
       no_quote c h = grind (arith, nat_tests)
+
       go : (s : List ℕ) → begins (λ c. is_digit c || eqb c 45) s ≡ true → number s ≡ Ok (z, r) → spec.simple depth awaits_colon s ≡ Ok (n.Number z, r)
       go [] h e = absurd cc
       go (c ∷ s) h e = rw (no_quote c h, h, e) refl

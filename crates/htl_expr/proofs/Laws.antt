@@ -1,5 +1,5 @@
 -- What a run of the reader says.
-use Rattle.std.proofs.Common.{◌≡◌, List, ℕ, Result, Ok, Err, refl, ap, sym, subst, ◌∙◌}
+use Rattle.std.proofs.Common.{◌≡◌, List, ℕ, Result, Ok, Err, sym, subst, ◌∙◌}
 use Rattle.std.specs.Prelude.{IfOk}
 use Rattle.htl_expr.specs.declared.stop.Stop.{Stop}
 use Rattle.htl_expr.specs.declared.node.Written.{Written}

@@ -1,25 +1,23 @@
 -- What is read is in the grammar.
-use Rattle.std.proofs.Common.{◌≡◌, ℕ, zero, suc, Bool, true, false, cond, ◌||◌, ◌&&◌, eqb, List, [], ◌∷◌, ◌++◌, drop, length, Option, Some, None, Result, Ok, Err, refl, ap, sym, subst, ◌∙◌, ◌⊎◌, inl, inr, rules, append_assoc, arith}
+use Rattle.std.proofs.Common.{◌≡◌, ℕ, zero, suc, Bool, true, false, cond, ◌||◌, ◌&&◌, eqb, List, [], ◌∷◌, ◌++◌, drop, length, Option, Some, None, Ok, Err, refl, ap, sym, subst, ◌∙◌, inl, inr, rules, append_assoc}
 use Rattle.std.specs.Prelude.{codes, is_none}
 use Rattle.std.specs.Str.{bytes_eq}
 use Rattle.std.proofs.lemmas.List.{append-nil}
-use Rattle.htl_expr.specs.declared.stop.Stop.{Stop}
-use Rattle.htl_expr.specs.declared.stop.Stop.TheVariants.{Unexpected, TooDeep}
+use Rattle.htl_expr.specs.declared.stop.Stop.TheVariants.{Unexpected}
 use Rattle.htl_expr.specs.declared.node.Node.{Node}
 use Rattle.htl_expr.specs.declared.node.Node.TheVariants as n
 use Rattle.htl_expr.specs.declared.node.Context.{Context}
-use Rattle.htl_expr.specs.declared.node.Relation.{Relation}
 use Rattle.htl_expr.specs.declared.node.Written.{Written}
 use Rattle.htl_expr.specs.declared.reader.Nest.{Nest}
 use Rattle.htl_expr.specs.declared.reader.Nest.TheVariants as nest
 use Rattle.htl_expr.specs.declared.reader.Link.{Link}
 use Rattle.htl_expr.specs.declared.reader.Link.TheVariants as link
-use Rattle.htl_expr.specs.Token.{Outcome, ◌>>=◌, skip, is_at, expect, twice, literal, string, number, field, cut, run_len, in_word, comparison, begins_relation, context_string, is_digit, is_name_start, is_quote}
+use Rattle.htl_expr.specs.Token.{Outcome, ◌>>=◌, skip, is_at, expect, literal, string, number, comparison, begins_relation, context_string, is_digit, is_name_start, is_quote}
 use Rattle.htl_expr.specs.Read as spec
 use Rattle.htl_expr.specs.Grammar.{Byte, Name, Part, Choice, Either, Both, Compare, Negation, Atom, Start, Items, Reads, More, Access, Accesses, Joint, part_of, is_reserved, JoinOption, ContextOption, ContextString, String, Options, Whole}
 use Rattle.htl_expr.specs.Grammar as g
 use Rattle.htl_expr.proofs.Tools.{bind_ok, chosen, ok_is}
-use Rattle.htl_expr.proofs.TokenSound.{byte_sound, eqb_is, expect_sound, twice_sound, literal_sound, name_sound, field_sound, number_sound, string_sound, comparison_sound, context_string_sound}
+use Rattle.htl_expr.proofs.TokenSound.{byte_sound, expect_sound, twice_sound, literal_sound, name_sound, field_sound, number_sound, string_sound, comparison_sound, context_string_sound}
 
 abbrev pub Gave : Part → ℕ → List ℕ → Node × List ℕ → Type 0
 Gave part depth s p = Reads part depth s p.0 p.1
@@ -307,18 +305,22 @@ option_sound had s p e =
           let r = bind_ok (literal (codes "join") s) (λ r. expect 61 (skip r) >>= λ t. string t >>= λ x. Ok (record had { join = Some x.0 }, x.1)) p h.1 in
           let t = bind_ok (expect 61 (skip r.0)) (λ t. string t >>= λ x. Ok (record had { join = Some x.0 }, x.1)) p r.2 in
           let x = bind_ok (string t.0) (λ x. Ok (record had { join = Some x.0 }, x.1)) p t.2 in
-          subst (AddsTo had s) (ok_is _ _ x.2)
-          (refl, joins had.join had.context s x.0.0 x.0.1 (both_true _ _ h.0)
-          (record { behind = r.0; text = t.0; parts = literal_sound (codes "join") s r.0 r.1; sign = expect_sound 61 (skip r.0) t.0 t.1; word = string_sound t.0 x.0 x.1 }))
+          subst (AddsTo had s) (ok_is _ _ x.2) (
+            refl,
+            joins had.join had.context s x.0.0 x.0.1 (both_true _ _ h.0)
+                (record { behind = r.0; text = t.0; parts = literal_sound (codes "join") s r.0 r.1; sign = expect_sound 61 (skip r.0) t.0 t.1; word = string_sound t.0 x.0 x.1 }),
+          )
       | inr h ↦
           elim (chosen (is_none had.context && is_at 99 s) _ _ _ h.1) [
             | inl k ↦
                 let r = bind_ok (literal (codes "context") s) (λ r. expect 61 (skip r) >>= λ t. context_string t >>= λ x. Ok (record had { context = Some x.0 }, x.1)) p k.1 in
                 let t = bind_ok (expect 61 (skip r.0)) (λ t. context_string t >>= λ x. Ok (record had { context = Some x.0 }, x.1)) p r.2 in
                 let x = bind_ok (context_string t.0) (λ x. Ok (record had { context = Some x.0 }, x.1)) p t.2 in
-                subst (AddsTo had s) (ok_is _ _ x.2)
-                (refl, contexts had.join had.context s x.0.0 x.0.1 (both_true _ _ k.0)
-                (record { behind = r.0; text = t.0; parts = literal_sound (codes "context") s r.0 r.1; sign = expect_sound 61 (skip r.0) t.0 t.1; word = context_string_sound t.0 x.0 x.1 }))
+                subst (AddsTo had s) (ok_is _ _ x.2) (
+                  refl,
+                  contexts had.join had.context s x.0.0 x.0.1 (both_true _ _ k.0)
+                      (record { behind = r.0; text = t.0; parts = literal_sound (codes "context") s r.0 r.1; sign = expect_sound 61 (skip r.0) t.0 t.1; word = context_string_sound t.0 x.0 x.1 }),
+                )
             | inr k ↦ absurd cc
           ]
     ]
@@ -344,13 +346,17 @@ options_sound e s p w =
           let a = option_sound (spec.plain e) (skip (drop 1 s)) x.0 x.1 in
           elim (chosen (is_at 44 x.0.1) _ _ _ x.2) [
             | inl k ↦
-                let a' = option_sound x.0.0 (skip (drop 1 x.0.1)) p k.1 in
-                (a'.0 ∙ a.0, λ last. two_options s _ _ _ _ _ _ _ (byte_sound 64 s h.0) a.1 (byte_sound 44 x.0.1 k.0)
-                (subst (λ (r : List ℕ). Adds x.0.0.join x.0.0.context (skip (drop 1 x.0.1)) p.0.join p.0.context r) last a'.1))
+                let a' = option_sound x.0.0 (skip (drop 1 x.0.1)) p k.1 in (
+                  a'.0 ∙ a.0,
+                  λ last. two_options s _ _ _ _ _ _ _ (byte_sound 64 s h.0) a.1 (byte_sound 44 x.0.1 k.0)
+                      (subst (λ (r : List ℕ). Adds x.0.0.join x.0.0.context (skip (drop 1 x.0.1)) p.0.join p.0.context r) last a'.1),
+                )
             | inr k ↦
-                subst (Ends e s) (ok_is _ _ k.1)
-                (a.0, λ last. one_option s _ _ _ (byte_sound 64 s h.0)
-                (subst (λ (r : List ℕ). Adds None None (skip (drop 1 s)) x.0.0.join x.0.0.context r) last a.1))
+                subst (Ends e s) (ok_is _ _ k.1) (
+                  a.0,
+                  λ last. one_option s _ _ _ (byte_sound 64 s h.0)
+                      (subst (λ (r : List ℕ). Adds None None (skip (drop 1 s)) x.0.0.join x.0.0.context r) last a.1),
+                )
           ]
       | inr h ↦
           subst (Ends e s) (ok_is _ _ h.1) (refl, λ last. subst (λ (r : List ℕ). Options r None None) (sym last) g.none)

@@ -1,19 +1,17 @@
 -- A token of the grammar is read as that token.
-use Rattle.std.proofs.Common.{◌≡◌, ◌≤◌, ◌<◌, ℕ, zero, suc, ◌+◌, ◌*◌, ◌-◌, ℤ, pos, ◌-ℤ◌, Bool, true, false, cond, not, ◌||◌, ◌&&◌, eqb, List, [], ◌∷◌, ◌++◌, take, drop, length, Option, Some, None, Result, Ok, Err, refl, ap, sym, subst, ◌∙◌, rules, arith}
-use Rattle.std.specs.Prelude.{nat_le, codes}
+use Rattle.std.proofs.Common.{◌≡◌, ◌≤◌, ℕ, suc, ℤ, Bool, true, false, cond, not, ◌||◌, ◌&&◌, eqb, List, [], ◌∷◌, ◌++◌, take, drop, length, Ok, refl, ap, rules, arith}
+use Rattle.std.specs.Prelude.{nat_le}
 use Rattle.std.specs.List.{fold}
-use Rattle.std.proofs.lemmas.List.{take_at, drop_at, length-append}
+use Rattle.std.proofs.lemmas.List.{take_at, drop_at}
 use Rattle.std.proofs.lemmas.Bool.Decides.{nat_tests}
-use Rattle.htl_expr.specs.declared.stop.Stop.{Stop}
 use Rattle.htl_expr.specs.declared.node.Relation.{Relation}
 use Rattle.htl_expr.specs.declared.node.Relation.TheVariants as relation
 use Rattle.htl_expr.specs.declared.node.Context.{Context}
 use Rattle.htl_expr.specs.declared.node.Context.TheVariants as context
-use Rattle.htl_expr.specs.Token.{Outcome, ◌>>=◌, skip, is_at, begins, expect, twice, literal, cut, run_len, in_word, in_field, field, field_end, digits, and_blanks, unsigned, number, next_value, string, string_from, escaped, unescape, comparison, or_equal, begins_relation, context_in, context_named, context_word, context_string, is_blank, is_digit, is_letter, is_word, is_name_start, is_quote}
+use Rattle.htl_expr.specs.Token.{skip, is_at, begins, expect, twice, literal, cut, run_len, in_field, field, digits, unsigned, number, next_value, string, string_from, comparison, or_equal, begins_relation, context_named, context_word, context_string, is_blank, is_digit, is_name_start, is_quote}
 use Rattle.htl_expr.specs.Grammar.{Byte, Twice, GoesOn, Run, Name, Field, AreDigits, Digits, takes_digit, Number, Quoted, String, Compares, ContextString, context_text}
 use Rattle.htl_expr.specs.Grammar as g
-use Rattle.htl_expr.proofs.Tools.{answer}
-use Rattle.htl_expr.proofs.TokenSound.{eqb_is, word_start}
+use Rattle.htl_expr.proofs.TokenSound.{eqb_is}
 
 pub eqb_same : (a : ℕ) → eqb a a ≡ true
 eqb_same a = search rules

@@ -16,4 +16,3 @@ chosen false x y z e = inr (refl, e)
 
 pub ok_is : {A : Type 0} (x y : A) → answer x ≡ answer y → x ≡ y
 ok_is x y e = cc
-

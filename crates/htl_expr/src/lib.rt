@@ -15,6 +15,3 @@ pub use expr::Expr;
 pub use fault::ExprFault;
 pub use node::{Context, Node, Relation, Written};
 pub use out::{Out, Scope};
-
-#[cfg(test)]
-mod tests;

@@ -1,5 +1,5 @@
 -- The kids of an object are its members with objects.
-use Rattle.std.proofs.Common.{◌≡◌, ◌≢◌, ℕ, Bool, true, false, cond, not, ◌&&◌, ◌||◌, ⊎_elim, List, [], ◌∷◌, ◌++◌, Option, Some, None, is_some, filter, if◌then◌else◌, unwrap_or, append_assoc, refl, sym, ap, ◌∙◌, subst}
+use Rattle.std.proofs.Common.{◌≡◌, ℕ, Bool, true, false, cond, not, ◌&&◌, ◌||◌, ⊎_elim, List, [], ◌∷◌, ◌++◌, Option, Some, None, filter, if◌then◌else◌, unwrap_or, append_assoc, refl, sym, ap, ◌∙◌, subst}
 use Rattle.std.specs.List.{list_any, list_all, filter_map, cons_option}
 use Rattle.std.specs.Prelude.{option_and_then}
 use Rattle.std.specs.Option.{option_map_or}
@@ -7,7 +7,6 @@ use Rattle.std.specs.Str.{bytes_eq}
 use Rattle.std.specs.Cmp.Lexicographic.{slice_cmp, same_text}
 use Rattle.std.specs.FinMap.{nat_cmp-IsAntisymmetric, slice_cmp-IsAntisymmetric}
 use Rattle.std.specs.Ordering.{nat_cmp, match_ordering}
-use Rattle.std.specs.declared.cmp.Ordering.{Ordering}
 use Rattle.std.specs.declared.cmp.Ordering.TheVariants.{Less, Equal, Greater}
 use Rattle.std.proofs.lemmas.Bool.{cases_Bool, true≢false, false≢true}
 use Rattle.std.proofs.lemmas.List.Folds.{list_any-append}
@@ -16,7 +15,7 @@ use Rattle.serde_json.specs.Find.{as_str, as_array, get_member}
 use Rattle.content_json.specs.Names.{order_name, is_order, is_plain, has_bad_name, is_object, is_kid_member, kid_names, is_kid}
 use Rattle.content_json.specs.Lists.{list_of}
 use Rattle.content_json.specs.Faults.{names_kids, has_good_order, is_good_order}
-use Rattle.content_json.specs.Nodes.{order_items, order_names, kids_of}
+use Rattle.content_json.specs.Nodes.{order_names, kids_of}
 use Rattle.content_json.proofs.Under.{both, bytes_eq_itself}
 use Rattle.content_json.proofs.OrderLemmas.{false_from_not}
 use Rattle.content_json.proofs.NameLemmas.{is_plain-here, has_bad_name-rest}
@@ -70,7 +69,7 @@ filter_has f k (x ∷ xs) g h =
     ⊎_elim
     (λ e. subst (λ t. list_any (bytes_eq k) (cond t (x ∷ filter f xs) (filter f xs)) ≡ true) (sym (ap f (sym (same_text k x (sym e))) ∙ g)) (or_left (bytes_eq k x) (list_any (bytes_eq k) (filter f xs)) e))
     (λ e. let rest = filter_has f k xs g (or_split (bytes_eq k x) (list_any (bytes_eq k) xs) h e) in
-      elim (f x) as (λ t. list_any (bytes_eq k) (cond t (x ∷ filter f xs) (filter f xs)) ≡ true) [ true ↦ or_right (bytes_eq k x) (list_any (bytes_eq k) (filter f xs)) rest | false ↦ rest ])
+    elim (f x) as (λ t. list_any (bytes_eq k) (cond t (x ∷ filter f xs) (filter f xs)) ≡ true) [ true ↦ or_right (bytes_eq k x) (list_any (bytes_eq k) (filter f xs)) rest | false ↦ rest ])
     (cases_Bool (bytes_eq k x))
 
 -- a kid is among the kids in their order
@@ -98,7 +97,7 @@ pub kid_names_have : (k : List ℕ) (ms : Members) → is_order k ≡ false → 
 kid_names_have k no_members other h = absurd (false≢true h)
 kid_names_have k (member name d ms) other h =
     elim (slice_cmp nat_cmp k name) as (λ o. slice_cmp nat_cmp k name ≡ o → option_map_or is_object (match_ordering o (get_member k ms) (Some d) (get_member k ms)) false ≡ true
-        → list_any (bytes_eq k) (if is_kid_member name d then name ∷ kid_names ms else kid_names ms) ≡ true) [
+    → list_any (bytes_eq k) (if is_kid_member name d then name ∷ kid_names ms else kid_names ms) ≡ true) [
       | Less ↦ λ e found. later (is_kid_member name d) k name (kid_names ms) (kid_names_have k ms other found)
       | Equal ↦ λ e found. here k name d (kid_names ms) (slice_cmp-IsAntisymmetric nat_cmp-IsAntisymmetric k name e) other found
       | Greater ↦ λ e found. later (is_kid_member name d) k name (kid_names ms) (kid_names_have k ms other found)

@@ -1,6 +1,6 @@
 -- A tree is the finite map of its nodes.
-use Rattle.std.proofs.Common.{◌≡◌, ℕ, Bool, true, false, cond, ◌&&◌, T, List, [], ◌∷◌, Option, Some, None, Ordering, Less, Equal, Greater, refl, sym, ap, ◌∙◌, subst}
-use Rattle.std.specs.FinMap.Entries.{put, find, is_sorted, below_all, is_sorted-put, find-put, same_entries}
+use Rattle.std.proofs.Common.{◌≡◌, ℕ, Bool, true, false, cond, ◌&&◌, T, List, [], ◌∷◌, Option, Some, None, Less, refl, sym, ap, ◌∙◌, subst}
+use Rattle.std.specs.FinMap.Entries.{find, is_sorted, below_all, is_sorted-put, find-put, same_entries}
 use Rattle.std.specs.List.{AllByRecursion}
 use Rattle.std.specs.List.Sorted.{IsStrictlySortedBy}
 use Rattle.std.specs.Map.{keys_of}
@@ -12,7 +12,7 @@ use Rattle.resource_tree.specs.Content.{Content, by_path, same_path, node_at, ne
 use Rattle.content_json.specs.Nodes.{node_of, nodes_in, nodes_below}
 use Rattle.content_json.specs.Planting.{with_nodes_at}
 use Rattle.content_json.specs.ContentOf.{map_of}
-use Rattle.content_json.proofs.Under.{by_path_total, by_path_exact, same_path_swapped}
+use Rattle.content_json.proofs.Under.{by_path_total, by_path_exact}
 
 find_is_node_at : (q : List (List ℕ)) (es : Content) → find by_path q es ≡ node_at es q
 find_is_node_at q [] = refl

@@ -1,5 +1,5 @@
 -- The nodes of members, one member after another.
-use Rattle.std.proofs.Common.{◌≡◌, ◌≢◌, ℕ, Bool, true, false, ⊎_elim, List, [], ◌∷◌, ◌++◌, Option, Some, None, option_map, if◌then◌else◌, not, ◌&&◌, ◌||◌, string_bytes, string_cmp, nat_cmp, Ordering, Less, Equal, Greater, refl, sym, ap, ◌∙◌, subst, append_assoc}
+use Rattle.std.proofs.Common.{◌≡◌, ◌≢◌, ℕ, true, false, ⊎_elim, List, [], ◌∷◌, ◌++◌, Option, Some, None, if◌then◌else◌, string_bytes, string_cmp, nat_cmp, Less, Equal, refl, sym, ap, ◌∙◌, append_assoc}
 use Rattle.std.specs.Cmp.{tied_itself}
 use Rattle.std.specs.Cmp.Lexicographic.{slice_cmp, nat_list_cmp_total}
 use Rattle.std.specs.List.{list_any, AllByRecursion}
@@ -7,13 +7,12 @@ use Rattle.std.specs.List.Sorted.{IsStrictlySortedBy}
 use Rattle.std.specs.Map.{keys_of}
 use Rattle.std.specs.Option.{option_or}
 use Rattle.std.specs.Str.{bytes_eq}
-use Rattle.std.proofs.lemmas.Bool.{cases_Bool, true≢false, false≢true}
-use Rattle.serde_json.specs.Data.{Data, object, Members, member}
+use Rattle.std.proofs.lemmas.Bool.{cases_Bool}
 use Rattle.serde_json.specs.View.{view, members_view}
 use Rattle.serde_json.proofs.Views.{Entry}
 use Rattle.resource_tree.specs.declared.nodes.Node.{Node}
-use Rattle.resource_tree.specs.Content.{Content, node_at, kid, same_path, empty_node}
-use Rattle.content_json.specs.Names.{is_order, is_object, is_kid_member, kid_names}
+use Rattle.resource_tree.specs.Content.{Content, node_at, kid}
+use Rattle.content_json.specs.Names.{is_order, is_kid_member, kid_names}
 use Rattle.content_json.specs.Nodes.{nodes_in, nodes_below, member_nodes}
 use Rattle.content_json.specs.Paths.{begins, IsFresh}
 use Rattle.content_json.specs.Planting.{with_nodes_at}
@@ -79,9 +78,9 @@ pub one_more_member : (tree now next : Content) (path : List (List ℕ)) (done :
 one_more_member tree now next path done e more sorted was made q =
     made q ∙ rw (was q, nodes_below-push path done e, node_at-append (nodes_below path (members_view done)) (nodes_of path e) q)
     (⊎_elim
-      (λ below. swap (node_at (nodes_below path (members_view done)) q) (node_at (nodes_of path e) q) (node_at tree q) (none_of_done path q done e more sorted below))
-      (λ apart. swap_none (node_at (nodes_below path (members_view done)) q) (node_at (nodes_of path e) q) (node_at tree q) (none_outside path q e apart))
-      (cases_Bool (begins (kid path (name_of e)) q)))
+    (λ below. swap (node_at (nodes_below path (members_view done)) q) (node_at (nodes_of path e) q) (node_at tree q) (none_of_done path q done e more sorted below))
+    (λ apart. swap_none (node_at (nodes_below path (members_view done)) q) (node_at (nodes_of path e) q) (node_at tree q) (none_outside path q e apart))
+    (cases_Bool (begins (kid path (name_of e)) q)))
 
 -- where the kid of a member was fresh before the members, it is when its turn comes
 pub still_fresh : (tree now : Content) (path : List (List ℕ)) (done : List Entry) (e : Entry) (more : List Entry) → IsStrictlySortedBy string_cmp (keys_of (done ++ e ∷ more))

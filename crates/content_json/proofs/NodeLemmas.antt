@@ -1,5 +1,5 @@
 -- Where the nodes of an object stand.
-use Rattle.std.proofs.Common.{◌≡◌, ◌≢◌, ℕ, Bool, true, false, cond, not, ◌&&◌, ◌||◌, ⊎_elim, List, [], ◌∷◌, ◌++◌, Option, Some, None, is_some, if◌then◌else◌, refl, sym, ap, ◌∙◌, subst, arith}
+use Rattle.std.proofs.Common.{◌≡◌, ℕ, Bool, true, false, cond, not, ◌&&◌, ◌||◌, ⊎_elim, List, [], ◌∷◌, ◌++◌, Option, Some, None, is_some, if◌then◌else◌, refl, sym, ap, ◌∙◌, subst}
 use Rattle.std.specs.List.{list_any}
 use Rattle.std.specs.Option.{option_or}
 use Rattle.std.specs.Str.{bytes_eq}
@@ -8,8 +8,8 @@ use Rattle.std.proofs.lemmas.Bool.{cases_Bool, true≢false, false≢true}
 use Rattle.serde_json.specs.Data.{Data, null, boolean, number, string, array, object, Members, no_members, member}
 use Rattle.resource_tree.specs.declared.nodes.Node.{Node}
 use Rattle.resource_tree.specs.Content.{Content, node_at, same_path, kid}
-use Rattle.content_json.specs.Names.{is_order, is_object, is_kid_member, kid_names}
-use Rattle.content_json.specs.Nodes.{node_of, nodes_in, nodes_below}
+use Rattle.content_json.specs.Names.{is_order, is_kid_member, kid_names}
+use Rattle.content_json.specs.Nodes.{nodes_in, nodes_below}
 use Rattle.content_json.specs.Paths.{begins}
 use Rattle.content_json.proofs.Under.{same_path_is, same_path_itself, begins_itself, begins-parent, begins-not_parent}
 
@@ -86,8 +86,8 @@ kid_is_there path k (member name d ms) h =
     ap is_some (node_at-append here (nodes_below path ms) (kid path k))
     ∙ elim (is_kid_member name d) as (λ t. is_kid_member name d ≡ t → list_any (bytes_eq k) (if t then name ∷ kid_names ms else kid_names ms) ≡ true → is_some (option_or (node_at here (kid path k)) (node_at (nodes_below path ms) (kid path k))) ≡ true) [
       | true ↦ λ is among. ⊎_elim
-        (λ e. is_some-first (node_at here (kid path k)) (node_at (nodes_below path ms) (kid path k)) (subst (λ (n : List ℕ). is_some (node_at here (kid path n)) ≡ true) (sym (same_text k name (sym e))) (here_in path name d is)))
-        (λ e. later (or_split (bytes_eq k name) (list_any (bytes_eq k) (kid_names ms)) among e))
-        (cases_Bool (bytes_eq k name))
+          (λ e. is_some-first (node_at here (kid path k)) (node_at (nodes_below path ms) (kid path k)) (subst (λ (n : List ℕ). is_some (node_at here (kid path n)) ≡ true) (sym (same_text k name (sym e))) (here_in path name d is)))
+          (λ e. later (or_split (bytes_eq k name) (list_any (bytes_eq k) (kid_names ms)) among e))
+          (cases_Bool (bytes_eq k name))
       | false ↦ λ is among. later among
     ] refl h

@@ -1,5 +1,5 @@
 -- The tree after each step of planting.
-use Rattle.std.proofs.Common.{◌≡◌, ◌≢◌, ℕ, ◌+◌, ◌-◌, Bool, true, false, cond, not, ◌&&◌, ◌||◌, ⊎_elim, List, [], ◌∷◌, ◌++◌, Option, Some, None, option_map, is_some, if◌then◌else◌, length, take, get_or, refl, sym, ap, ◌∙◌, subst, arith, length-append}
+use Rattle.std.proofs.Common.{◌≡◌, ℕ, ◌-◌, Bool, true, false, ◌||◌, ⊎_elim, List, [], ◌∷◌, ◌++◌, Option, Some, None, option_map, is_some, if◌then◌else◌, length, refl, sym, ap, ◌∙◌, subst, arith, length-append}
 use Rattle.std.specs.List.{list_any, list_all}
 use Rattle.std.specs.Option.{option_or}
 use Rattle.std.specs.Str.{bytes_eq}
@@ -8,14 +8,14 @@ use Rattle.std.specs.Cmp.Lexicographic.{same_text}
 use Rattle.std.proofs.lemmas.Bool.{cases_Bool, true≢false, false≢true}
 use Rattle.std.proofs.lemmas.List.Folds.{list_any-append}
 use Rattle.std.proofs.Math.Seq.{take-append_seam, get_or-append_seam}
-use Rattle.serde_json.specs.Data.{Data, object, Members}
+use Rattle.serde_json.specs.Data.{object, Members}
 use Rattle.sp_base.specs.Names.{by_name}
 use Rattle.sp_base.specs.declared.value.Value.{Value}
 use Rattle.resource_tree.specs.declared.nodes.Node.{Node}
 use Rattle.resource_tree.specs.Content.{Content, node_at, same_path, kid, parent_of, name_of, empty_node}
 use Rattle.resource_tree.specs.Changes.{created_at, updated_at, with_kid, with_value}
 use Rattle.content_json.specs.Names.{kid_names}
-use Rattle.content_json.specs.Nodes.{node_of, kids_of, add_props, nodes_in, nodes_below}
+use Rattle.content_json.specs.Nodes.{kids_of, add_props, nodes_in, nodes_below}
 use Rattle.content_json.specs.Paths.{begins, IsFresh}
 use Rattle.content_json.specs.Planting.{with_kids_at, set_props, with_props_at, with_nodes_at}
 use Rattle.content_json.proofs.Under.{both, same_path_is, same_path_itself, same_path_swapped, same_path-kid, same_path-below, begins-parent, begins-one, begins_itself}
@@ -132,5 +132,5 @@ pub all_planted : (tree mid base next : Content) (path : List (List ℕ)) (ms : 
 all_planted tree mid base next path ms within made set below q =
     below q ∙ rw (set q, made q, same_path_swapped q path)
     (planted_by (same_path path q) (list_any (λ n. same_path (kid path n) q) (kids_of ms)) (node_at (nodes_below path ms) q) (node_at tree q) (add_props [] ms) (kids_of ms)
-      (λ e. ap (node_at (nodes_below path ms)) (sym (same_path_is path q e)) ∙ none_at_parent path ms)
-      (λ e. named_there path q ms (kids_of ms) within e))
+    (λ e. ap (node_at (nodes_below path ms)) (sym (same_path_is path q e)) ∙ none_at_parent path ms)
+    (λ e. named_there path q ms (kids_of ms) within e))

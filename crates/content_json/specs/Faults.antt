@@ -1,12 +1,12 @@
 -- The first fault of content, in the order in which faults are looked for.
-use Rattle.std.specs.Prelude.{ℕ, List, [], ◌∷◌, ◌++◌, take, Bool, true, false, not, ◌&&◌, ◌||◌, if◌then◌else◌, Option, Some, None, option_map, is_some}
+use Rattle.std.specs.Prelude.{ℕ, List, [], ◌∷◌, take, Bool, true, false, not, ◌&&◌, if◌then◌else◌, Option, Some, None, option_map, is_some}
 use Rattle.std.specs.Option.{option_or, option_map_or}
 use Rattle.std.specs.List.{list_any}
 use Rattle.std.specs.Str.{bytes_eq}
 use Rattle.serde_json.specs.Data.{Data, null, boolean, number, string, array, object, Items, no_items, item, Members, no_members, member}
 use Rattle.serde_json.specs.Find.{as_str, as_array, as_i64, get_member}
 use Rattle.content_json.specs.declared.fault.Cause.{Cause}
-use Rattle.content_json.specs.declared.fault.Cause.TheVariants.{BadName, BadNumber, MixedArray, BadOrder}
+use Rattle.content_json.specs.declared.fault.Cause.TheVariants.{BadName, BadNumber, BadOrder}
 use Rattle.content_json.specs.declared.fault.Found.{Found}
 use Rattle.content_json.specs.Names.{order_name, is_order, has_bad_name, is_kid}
 use Rattle.content_json.specs.Lists.{array_cause}

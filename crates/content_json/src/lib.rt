@@ -13,3 +13,6 @@ mod values;
 
 pub use fault::ContentFault;
 pub use read::read_tree;
+
+#[cfg(test)]
+mod tests;

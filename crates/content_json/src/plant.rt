@@ -120,7 +120,12 @@ fn set_props(alloc: Global, tree: &mut Tree, path: &Path, members: &Map<String, 
 
 /// Puts the nodes of an object without a fault in, at a path where an empty node stands.
 #[cycle(plant)]
-pub(crate) fn plant(alloc: Global, tree: &mut Tree, path: &Path, members: &Map<String, Value>) -> Mem<()>
+pub(crate) fn plant(
+    alloc: Global,
+    tree: &mut Tree,
+    path: &Path,
+    members: &Map<String, Value>,
+) -> Mem<()>
     requires fresh { IsFresh (node_at tree.old) path.now }
     requires faultless { fault_in (object (members_view members.now.entries)) ≡ None }
     ensures { OnOk result ((q : List (List ℕ)) → node_at tree.new q
@@ -133,7 +138,12 @@ pub(crate) fn plant(alloc: Global, tree: &mut Tree, path: &Path, members: &Map<S
 
 // Puts the nodes of each member in.
 #[cycle(plant)]
-fn plant_members(alloc: Global, tree: &mut Tree, path: &Path, members: &Map<String, Value>) -> Mem<()>
+fn plant_members(
+    alloc: Global,
+    tree: &mut Tree,
+    path: &Path,
+    members: &Map<String, Value>,
+) -> Mem<()>
     requires fresh { (k : List ℕ) → list_any (bytes_eq k) (kid_names (members_view members.now.entries)) ≡ true → IsFresh (node_at tree.old) (kid path.now k) }
     requires plain { has_bad_name (members_view members.now.entries) ≡ false }
     requires faultless { fault_below (members_view members.now.entries) ≡ None }

@@ -5,11 +5,11 @@ ghost use Rattle.content_json.specs.Faults.{fault_in};
 ghost use Rattle.content_json.specs.Nodes.{nodes_in};
 ghost use Rattle.content_json.specs.ContentOf.{json_of, is_too_big, refused_by, map_of, content};
 
+use crate::ContentFault;
 use crate::fault::{Cause, Found};
 use crate::measure::{is_deeper_below, room_beside};
 use crate::plant::plant;
 use crate::search::fault_in;
-use crate::ContentFault;
 use resource_tree::Tree;
 use serde_json::{Map, Value};
 use sp_base::{Mem, Path};

@@ -1,5 +1,4 @@
-use Rattle.std.proofs.Common.{◌≡◌, ℕ, List, ◌∷◌, Bool, true, false, not, refl, sym, ap, ◌∙◌, drop, length, ◌<◌, ◌+◌, add-one, drop-cons, cond, arith, Some}
-use Rattle.std.proofs.lemmas.Grind.{common_steps}
+use Rattle.std.proofs.Common.{◌≡◌, ◌∷◌, true, false, sym, ap, ◌∙◌, drop, length, ◌<◌, ◌+◌, arith, Some}
 use Rattle.std.proofs.lemmas.Map.Text.{is_eq-slice_cmp}
 use Rattle.std.specs.List.{list_any}
 use Rattle.std.specs.Str.{bytes_eq}

@@ -1,4 +1,4 @@
-use Rattle.std.proofs.Common.{◌≡◌, ℕ, List, [], ◌∷◌, ◌++◌, true, false, None, string_bytes, sym, ap, ◌∙◌, subst, append_assoc, length, length-append, arith, refl}
+use Rattle.std.proofs.Common.{◌≡◌, [], ◌∷◌, ◌++◌, false, None, string_bytes, sym, ap, ◌∙◌, subst, append_assoc, length, length-append, arith, refl}
 use Rattle.std.specs.List.Sorted.{IsStrictlySortedBy}
 use Rattle.std.specs.Map.{keys_of}
 use Rattle.std.specs.String.{string_cmp}
@@ -6,11 +6,10 @@ use Rattle.std.proofs.lemmas.Result.{on_ok_weaker}
 use Rattle.serde_json.specs.Data.{object}
 use Rattle.serde_json.specs.View.{view, members_view}
 use Rattle.serde_json.proofs.Views.{Entry, view-Object}
-use Rattle.resource_tree.specs.Content.{kid, node_at}
-use Rattle.content_json.specs.Names.{has_bad_name, is_order, is_plain, is_kid_member}
-use Rattle.content_json.specs.Faults.{own_fault, fault_in, fault_below, member_fault, has_good_order}
-use Rattle.content_json.specs.Nodes.{add_props, kids_of}
-use Rattle.content_json.specs.Planting.{with_kids_at}
+use Rattle.resource_tree.specs.Content.{kid}
+use Rattle.content_json.specs.Names.{has_bad_name, is_order, is_plain}
+use Rattle.content_json.specs.Faults.{own_fault, fault_in, fault_below, member_fault}
+use Rattle.content_json.specs.Nodes.{add_props}
 use Rattle.content_json.proofs.NameLemmas.{has_bad_name-from_own_fault, has_good_order-from_own_fault, none_of_both, may_stand-first, plain_unless_order, has_bad_name-rest, faultless_value}
 use Rattle.content_json.proofs.PathLemmas.{child_of-plain, child_of-fits}
 use Rattle.content_json.proofs.KidLemmas.{kids_plain, kids_within}
@@ -32,8 +31,8 @@ plant-plant_members-requires t c =
       omega (arith, c.decreases),
       (
         λ k among. kid_fresh c.args.tree.now c.make_kids-2.new.tree c.set_props.new.tree c.args.path.now (add_props [] ms) ms k c.requires.fresh made c.in_ok-set_props.ensures among,
-        (has_bad_name-from_own_fault ms parts.0, parts.1)
-      )
+        (has_bad_name-from_own_fault ms parts.0, parts.1),
+      ),
     )
 
 pub plant-returns : goal.plant-returns
@@ -47,13 +46,12 @@ plant-returns t c =
 
 pub plant_member-plant-requires : goal.plant_member-plant-requires
 plant_member-plant-requires t c =
-
     let name = c.args.name.now in
     let other : is_order name ≡ false = sym c.is_order.ensures ∙ c.if-is_order.false in
     let shown : view c.args.value.now ≡ object (members_view c.in-Object.members.entries) = ap view c.in-Object.is ∙ view-Object c.in-Object.members in
     let path : c.in-Ok.kid ≡ kid c.args.path.now name = child_of-plain c.args.path.now name c.in-Ok.kid (plain_unless_order (is_order name) (is_plain name) c.requires.1.1.1.0 other) c.in-Ok.ensures.ok in (
       (let size = child_of-fits c.args.path.now name c.in-Ok.kid c.in-Ok.ensures.ok in let longer = ap length path ∙ length-append c.args.path.now (name ∷ []) in omega (arith, size, longer, c.requires.1.0)),
-      (rw path (c.requires.1.1.0 (rw (other, shown) refl)), sym (ap fault_in shown) ∙ faultless_value name (view c.args.value.now) other c.requires.1.1.1.1)
+      (rw path (c.requires.1.1.0 (rw (other, shown) refl)), sym (ap fault_in shown) ∙ faultless_value name (view c.args.value.now) other c.requires.1.1.1.1),
     )
 
 pub plant_member-returns : goal.plant_member-returns
@@ -68,18 +66,18 @@ pub plant_members-plant_member-requires : goal.plant_members-plant_member-requir
 plant_members-plant_member-requires t c = (
   omega (arith, c.decreases),
   (let inv = c.loop-name.invariant in
-    let e : Entry = (c.in-Some.name.now, c.in-Some.value.now) in
-    let left = c.next.new.self in
-    let steps : c.loop-name.name-iterator ≡ e ∷ left = c.in-Some.ensures.steps in
-    let all : c.args.members.now.entries ≡ inv.0 ++ e ∷ left = inv.1 ∙ ap (λ es. inv.0 ++ es) steps in
-    let sorted = subst (λ es. IsStrictlySortedBy string_cmp (keys_of es)) all c.iter-name-items.ensures.ordered in
-    let name : c.as_str.result.now ≡ string_bytes e.0 = c.as_str.ensures.value in
-    let plain : has_bad_name (members_view (e ∷ left)) ≡ false = ap (λ es. has_bad_name (members_view es)) (sym steps) ∙ inv.3 in
-    let faultless : fault_below (members_view (e ∷ left)) ≡ None = ap (λ es. fault_below (members_view es)) (sym steps) ∙ inv.4 in
-    rw name (
-      λ is. still_fresh c.args.tree.now c.loop-name.tree c.args.path.now inv.0 e left sorted inv.2 (c.requires.fresh (string_bytes e.0) (rw all (kid_among inv.0 e left is))),
-      (may_stand-first (string_bytes e.0) (view e.1) (members_view left) plain, (none_of_both (member_fault (string_bytes e.0) (view e.1)) (fault_below (members_view left)) faultless).0)
-    )),
+      let e : Entry = (c.in-Some.name.now, c.in-Some.value.now) in
+      let left = c.next.new.self in
+      let steps : c.loop-name.name-iterator ≡ e ∷ left = c.in-Some.ensures.steps in
+      let all : c.args.members.now.entries ≡ inv.0 ++ e ∷ left = inv.1 ∙ ap (λ es. inv.0 ++ es) steps in
+      let sorted = subst (λ es. IsStrictlySortedBy string_cmp (keys_of es)) all c.iter-name-items.ensures.ordered in
+      let name : c.as_str.result.now ≡ string_bytes e.0 = c.as_str.ensures.value in
+      let plain : has_bad_name (members_view (e ∷ left)) ≡ false = ap (λ es. has_bad_name (members_view es)) (sym steps) ∙ inv.3 in
+      let faultless : fault_below (members_view (e ∷ left)) ≡ None = ap (λ es. fault_below (members_view es)) (sym steps) ∙ inv.4 in
+      rw name (
+        λ is. still_fresh c.args.tree.now c.loop-name.tree c.args.path.now inv.0 e left sorted inv.2 (c.requires.fresh (string_bytes e.0) (rw all (kid_among inv.0 e left is))),
+        (may_stand-first (string_bytes e.0) (view e.1) (members_view left) plain, (none_of_both (member_fault (string_bytes e.0) (view e.1)) (fault_below (members_view left)) faultless).0),
+      )),
 )
 
 pub plant_members-loop-name-preserved : goal.plant_members-loop-name-preserved

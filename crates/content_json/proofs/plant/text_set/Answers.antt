@@ -1,4 +1,4 @@
-use Rattle.std.proofs.Common.{◌≡◌, ℕ, List, ◌∷◌, ◌+◌, ◌<◌, Bool, true, false, cond, ◌||◌, Some, drop, length, refl, sym, ap, ◌∙◌, arith, nat_cmp, Bor}
+use Rattle.std.proofs.Common.{◌≡◌, ◌∷◌, ◌+◌, ◌<◌, ◌||◌, Some, drop, length, sym, ap, ◌∙◌, arith, nat_cmp}
 use Rattle.std.specs.BTreeSet.{contains_by}
 use Rattle.std.specs.Cmp.Lexicographic.{slice_cmp}
 use Rattle.std.specs.List.{list_any, filter_map, cons_option}
@@ -29,7 +29,7 @@ loop-item-preserved c q =
           let added = w.in_ok-insert.ensures.updates.0 (record { ref_ptr = (0, 0); now = q }) in
           rw (w.set-is, added, is_eq-slice_cmp text q)
           (moves_over (bytes_eq text q) (contains_by (λ k. slice_cmp nat_cmp q k.now) c.loop-item.set) (list_any (bytes_eq q) rest) all
-            (ap (λ t. contains_by (λ k. slice_cmp nat_cmp q k.now) c.loop-item.set || (t || list_any (bytes_eq q) rest)) (bytes_eq_swapped text q)
-              ∙ ap (λ o. contains_by (λ k. slice_cmp nat_cmp q k.now) c.loop-item.set || list_any (bytes_eq q) (cons_option o rest)) (sym is) ∙ was))
+          (ap (λ t. contains_by (λ k. slice_cmp nat_cmp q k.now) c.loop-item.set || (t || list_any (bytes_eq q) rest)) (bytes_eq_swapped text q)
+          ∙ ap (λ o. contains_by (λ k. slice_cmp nat_cmp q k.now) c.loop-item.set || list_any (bytes_eq q) (cons_option o rest)) (sym is) ∙ was))
       | in_default w ↦ rw w.set-is (ap (λ o. contains_by (λ k. slice_cmp nat_cmp q k.now) c.loop-item.set || list_any (bytes_eq q) (cons_option o rest)) w.in_default.ensures ∙ was)
     ]

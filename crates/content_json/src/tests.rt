@@ -1,0 +1,199 @@
+use crate::{ContentFault, read_tree};
+use resource_tree::Tree;
+use sp_base::{Mem, NoMemory, Path, Value};
+use std::alloc::Global;
+use std::test::Fail;
+
+// A fault's name, and its path.
+fn told(alloc: Global, name: &str, path: &Path) -> Mem<String> {
+    let mut text = String::from_str(alloc, name)?;
+    text.push_str(" ")?;
+    text.push_str(path.text(alloc)?.text())?;
+    Ok(text)
+}
+
+// How content is refused, or that it reads.
+fn answer(alloc: Global, content: &[u8]) -> Mem<String> {
+    match read_tree(alloc, content) {
+        Ok(_) => Ok(String::from_str(alloc, "reads")?),
+        Err(ContentFault::NotJson) => Ok(String::from_str(alloc, "NotJson")?),
+        Err(ContentFault::NotObject) => Ok(String::from_str(alloc, "NotObject")?),
+        Err(ContentFault::BadName(path)) => told(alloc, "BadName", &path),
+        Err(ContentFault::BadNumber(path)) => told(alloc, "BadNumber", &path),
+        Err(ContentFault::MixedArray(path)) => told(alloc, "MixedArray", &path),
+        Err(ContentFault::BadOrder(path)) => told(alloc, "BadOrder", &path),
+        Err(ContentFault::TooBig) => Ok(String::from_str(alloc, "TooBig")?),
+        Err(ContentFault::NoMemory) => Err(NoMemory),
+    }
+}
+
+// Each content, and how it is refused.
+const FAULTS: &str = r#"{ => NotJson
+{} {} => NotJson
+{"a":1e999} => NotJson
+[] => NotObject
+null => NotObject
+{} => reads
+{"a/b":null} => BadName /
+{"":1} => BadName /
+{"..":{}} => BadName /
+{":x":1} => BadName /
+{"a":{"b":{":x":{}}}} => BadName /a/b
+{"a":1.5,":x":{}} => BadName /
+{"n":9223372036854775807} => reads
+{"n":9223372036854775808} => BadNumber /n
+{"n":-9223372036854775808} => reads
+{"n":-9223372036854775809} => BadNumber /n
+{"n":1.0} => BadNumber /n
+{"n":1e2} => BadNumber /n
+{"n":-0} => BadNumber /n
+{"a":{"n":[1,9223372036854775808]}} => BadNumber /a/n
+{"t":[1.5,"a"]} => BadNumber /t
+{"t":["a",1.5]} => BadNumber /t
+{"t":[{},1.5]} => MixedArray /t
+{"t":[1,"a"]} => MixedArray /t
+{"t":[true,null]} => MixedArray /t
+{"t":[[]]} => MixedArray /t
+{"t":[],"u":[true,false],"v":null} => reads
+{"b":{},":order":null} => BadOrder /
+{"b":{},":order":{}} => BadOrder /
+{"b":{},":order":["c"]} => BadOrder /
+{"b":{},":order":["b","b"]} => BadOrder /
+{"b":{},":order":[1.5]} => BadOrder /
+{"b":1,":order":["b"]} => BadOrder /
+{"b":{},":order":["b"]} => reads
+{"b":1.5,"a":{":order":1}} => BadOrder /a
+{"a":[1,"x"],":order":3} => BadOrder /
+{"a":{"x":1.5},"b":{":order":1}} => BadNumber /a/x"#;
+
+#[test]
+fn tells_the_first_fault(rt: HostRuntime) -> Result<(), Fail> {
+    for row in FAULTS.lines() {
+        let (content, want) = row.split_once(" => ").ok_or("a bad row")?;
+        let got = answer(rt.alloc(), content.as_bytes()).or(Err("no memory"))?;
+        assert_eq!(rt; got.as_str(), want, "at {content}");
+    }
+    let not_text = answer(rt.alloc(), b"{\"a\":\"\xff\"}").or(Err("no memory"))?;
+    assert_eq!(rt; not_text.as_str(), "NotJson");
+    Ok(())
+}
+
+fn node_text(alloc: Global, tree: &Tree, path: &str) -> Mem<String> {
+    let mut text = String::new(alloc);
+    let Ok(path) = Path::read(alloc, path) else {
+        return Err(NoMemory);
+    };
+    let Some(node) = tree.node(&path) else {
+        return Ok(text);
+    };
+    for place in 0..node.props.len() {
+        if let Some((name, value)) = node.props.at(place) {
+            text.push_str(name)?;
+            text.push_str("=")?;
+            value_text(alloc, value, &mut text)?;
+            text.push_str(";")?;
+        }
+    }
+    for kid in node.kids.as_slice() {
+        text.push_str(kid.text())?;
+        text.push_str(",")?;
+    }
+    Ok(text)
+}
+
+fn value_text(alloc: Global, value: &Value, text: &mut String) -> Mem<()> {
+    match value {
+        Value::Text(one) => text.push_str(one.text())?,
+        Value::Long(one) => text.push_str(format!(in alloc; "{one}")?.as_str())?,
+        Value::Truth(one) => text.push_str(format!(in alloc; "{one}")?.as_str())?,
+        Value::Texts(all) => {
+            for one in all.as_slice() {
+                text.push_str(one.text())?;
+                text.push_str("+")?;
+            }
+        }
+        Value::Longs(all) => {
+            for one in all.as_slice() {
+                text.push_str(format!(in alloc; "{one}+")?.as_str())?;
+            }
+        }
+        Value::Truths(all) => {
+            for one in all.as_slice() {
+                text.push_str(format!(in alloc; "{one}+")?.as_str())?;
+            }
+        }
+    }
+    Ok(())
+}
+
+// Each content, a path, and the node there.
+const NODES: &str =
+    r#"{"content":{"en":{"title":"Hello","jcr:title":"Hi"}}} at /content/en => jcr:title=Hi;title=Hello;
+{"a":{"n":3,"t":[true],"k":{"x":"y"}}} at /a => n=3;t=true+;k,
+{"a":{"n":3,"t":[true],"k":{"x":"y"}}} at /a/k => x=y;
+{"c":{},"a":{},"b":{}} at / => a,b,c,
+{"c":{},"a":{},"b":{},":order":["c","b"]} at / => c,b,a,
+{"p":null,"q":[],"r":[-1,2],"s":["x",""]} at / => q=;r=-1+2+;s=x++;
+{"a\"b":{"p\\q":"\u00e9/"}} at /a"b => p\q=é/;
+{"é":{"x":true}} at /é => x=true;
+{"a":1,"a":{"x":1},"a":{"y":2}} at /a => y=2;"#;
+
+#[test]
+fn reads_nodes(rt: HostRuntime) -> Result<(), Fail> {
+    for row in NODES.lines() {
+        let (content, more) = row.split_once(" at ").ok_or("a bad row")?;
+        let (path, want) = more.split_once(" => ").ok_or("a bad row")?;
+        let Ok(tree) = read_tree(rt.alloc(), content.as_bytes()) else {
+            return Err(Fail::from("refused"));
+        };
+        let got = node_text(rt.alloc(), &tree, path).or(Err("no memory"))?;
+        assert_eq!(rt; got.as_str(), want, "at {content}");
+    }
+    Ok(())
+}
+
+// An object with so many objects in one another, and a text in the inmost.
+fn nested(alloc: Global, levels: usize, inmost: &str) -> Mem<String> {
+    let mut text = String::new(alloc);
+    for _ in 0..levels {
+        text.push_str("{\"k\":")?;
+    }
+    text.push_str(inmost)?;
+    for _ in 0..levels {
+        text.push_str("}")?;
+    }
+    Ok(text)
+}
+
+// The root, and so many kids.
+fn broad(alloc: Global, kids: usize) -> Mem<String> {
+    let mut text = String::from_str(alloc, "{\"p\":1")?;
+    for kid in 0..kids {
+        text.push_str(format!(in alloc; ",\"{kid}\":{{}}")?.as_str())?;
+    }
+    text.push_str("}")?;
+    Ok(text)
+}
+
+#[test]
+fn keeps_the_limits(rt: HostRuntime) -> Result<(), Fail> {
+    for (levels, want) in [
+        (64, "reads"),
+        (65, "TooBig"),
+        (126, "TooBig"),
+        (127, "NotJson"),
+    ] {
+        let content = nested(rt.alloc(), levels, "{}").or(Err("no memory"))?;
+        let got = answer(rt.alloc(), content.as_bytes()).or(Err("no memory"))?;
+        assert_eq!(rt; got.as_str(), want, "at {levels} levels");
+    }
+    let deep = nested(rt.alloc(), 70, "1.5").or(Err("no memory"))?;
+    let got = answer(rt.alloc(), deep.as_bytes()).or(Err("no memory"))?;
+    assert_eq!(rt; got.len(), 10 + 2 * 64, "the path is cut to 64 segments");
+    for (kids, want) in [(199_999, "reads"), (200_000, "TooBig")] {
+        let content = broad(rt.alloc(), kids).or(Err("no memory"))?;
+        let got = answer(rt.alloc(), content.as_bytes()).or(Err("no memory"))?;
+        assert_eq!(rt; got.as_str(), want, "at {kids} kids");
+    }
+    Ok(())
+}

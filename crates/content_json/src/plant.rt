@@ -74,7 +74,8 @@ fn kids_of(alloc: Global, members: &Map<String, Value>) -> Mem<TextList>
     Ok(kids)
 }
 
-// Makes a kid of the node at a path.
+// Makes a kid of the node at a path. The names, the size and the kids' being apart were looked at before,
+// so that memory alone can be wanting.
 fn make_kid(alloc: Global, tree: &mut Tree, path: &Path, name: &str) -> Mem<()>
     requires { is_plain name.now ≡ true }
     ensures { OnOk result ((q : List (List ℕ)) → node_at tree.new q ≡ created_at tree.old (kid path.now name.now) q) }

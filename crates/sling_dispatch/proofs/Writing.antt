@@ -1,6 +1,6 @@
 use Rattle.std.proofs.Common.{◌≡◌, ◌+◌, ◌-◌, ◌++◌, ℕ, List, [], Option, Some, None, length, take, drop, sym, ◌∙◌, ap, refl, arith, append_assoc}
 use Rattle.std.proofs.lemmas.List.{take-append-drop, take_rest, append-nil, drop-take, take-take}
-use Rattle.sp_outside.specs.Told.{added}
+use Rattle.sp_outside.specs.Told.{added, before_taking}
 
 pub added-added : (held : Option (List ℕ)) (a b : List ℕ) → added (added held a) b ≡ added held (a ++ b)
 added-added None a b = refl
@@ -22,3 +22,9 @@ pub wrote_more : (old mid new : Option (List ℕ)) (bytes : List ℕ) (at n : �
 wrote_more old mid new bytes at n e h =
     h ∙ ap (λ t. added mid (take n t)) (take_rest bytes at) ∙ ap (λ m. added m (take n (drop at bytes))) e
     ∙ added-added old (take at bytes) (take n (drop at bytes)) ∙ ap (added old) (sym (take_in_two at n bytes))
+
+-- what was taken first and what was taken next were taken together
+pub taken_more : (old mid new : Option (List ℕ)) (a b : List ℕ) → old ≡ before_taking a mid → mid ≡ before_taking b new
+    → old ≡ before_taking (a ++ b) new
+taken_more old mid None a b e h = e ∙ ap (before_taking a) h
+taken_more old mid (Some rest) a b e h = e ∙ ap (before_taking a) h ∙ ap Some (sym (append_assoc a b rest))

@@ -1,7 +1,9 @@
-ghost use Rattle.std.specs.Prelude.{◌≡◌, ◌≢◌, ◌↔◌, ◌++◌, ◌∷◌, [], ℕ, List, Ok, Err, map, codes, IsTrue, IfOk};
+ghost use Rattle.std.specs.Prelude.{◌≡◌, ◌≢◌, ◌↔◌, ◌++◌, ◌∷◌, ◌+◌, [], ℕ, List, Ok, Err, map, codes, IsTrue, IfOk};
 ghost use Rattle.content_json.specs.ContentOf.{content as content_of};
 ghost use Rattle.sling_dispatch.specs.declared.ending.Ending.{Ending};
 ghost use Rattle.sling_dispatch.specs.Fronts.{IsNext};
+ghost use Rattle.sling_dispatch.specs.Scenario.{most};
+ghost use Rattle.sling_dispatch.specs.Streams.{HasTaken};
 ghost use Rattle.sling_dispatch.specs.Endings.{Means, IsDue, IsDueAt, IsDueIn, IsDueOf, IsContentOr, Tells, IsReplay, seen, status_of};
 
 use crate::ending::Ending;
@@ -24,7 +26,8 @@ const MOST: usize = 67_108_864;
 
 /// Does what the words say, and gives the exit status.
 pub fn run<S: Source, K: Sink>(alloc: Global, words: &[&str], source: &mut S, sink: &mut K) -> u8
-    ensures { (e : Ending) × (result ≡ status_of e) × Means
+    ensures taken { HasTaken (most + 1) (S.left source.old) (S.left source.new) }
+    ensures ending { (e : Ending) × (result ≡ status_of e) × Means
         (IsDue (record {
           words = map (λ w. w.now) words.now;
           source = seen (S.left source.old) (S.left source.new) (S.faults source.old) (S.faults source.new);
@@ -35,7 +38,8 @@ pub fn run<S: Source, K: Sink>(alloc: Global, words: &[&str], source: &mut S, si
 }
 
 fn ending<S: Source, K: Sink>(alloc: Global, words: &[&str], source: &mut S, sink: &mut K) -> Ending
-    ensures { Means
+    ensures taken { HasTaken (most + 1) (S.left source.old) (S.left source.new) }
+    ensures ending { Means
         (IsDue (record {
           words = map (λ w. w.now) words.now;
           source = seen (S.left source.old) (S.left source.new) (S.faults source.old) (S.faults source.new);

@@ -1,7 +1,7 @@
 ghost use Rattle.std.specs.Prelude.{◌≡◌, ◌≤◌, ◌<◌, ◌+◌, ◌^◌, ℕ, IfOk, OnOk, OnErr, length, take};
 ghost use Rattle.sp_outside.specs.Told.{added, before_taking, IsAtEnd};
 ghost use Rattle.sp_outside.specs.Causes.{HasSinkCause};
-ghost use Rattle.sling_dispatch.specs.Streams.{HasReadCause};
+ghost use Rattle.sling_dispatch.specs.Streams.{HasReadCause, HasTaken};
 ghost use Rattle.sling_dispatch.specs.declared.streams.ReadFault.TheVariants.{NoMemory};
 
 use sp_outside::{Sink, SinkFault, Source};
@@ -32,6 +32,7 @@ pub fn read_whole<S: Source>(
     ensures read { IfOk result (λ text. S.left source.old ≡ before_taking text.items (S.left source.new)) }
     ensures most { IfOk result (λ text. length text.items ≤ limit + 1) }
     ensures end { IfOk result (λ text. length text.items ≤ limit → IsAtEnd (S.left source.new)) }
+    ensures taken { HasTaken (limit + 1) (S.left source.old) (S.left source.new) }
     ensures cause { HasReadCause (S.faults source.old) (S.faults source.new) result }
 {
     let mut text = Vec::new(alloc);

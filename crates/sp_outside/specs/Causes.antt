@@ -10,7 +10,7 @@ next count = min (count + 1) 18446744073709551615
 
 -- a count of faults rose, or stands at the end of its type
 abbrev pub Rose : ℕ → ℕ → Type 0
-Rose before after = next before ≤ after
+Rose before after = (before ≤ after) × (next before ≤ after)
 
 -- Failed comes only where the count rose, and any other answer leaves the count.
 abbrev pub HasSourceCause : {T : Type 0} → ℕ → ℕ → Result T SourceFault → Type 0

@@ -1,4 +1,4 @@
-ghost use Rattle.std.specs.Prelude.{None};
+ghost use Rattle.std.specs.Prelude.{◌≡◌, None};
 
 use crate::{Sink, SinkFault, Source, SourceFault};
 use std::io::{Print, Read};
@@ -11,7 +11,9 @@ pub struct RealSource<R: Read + Drop> {
 }
 
 impl<R: Read + Drop> RealSource<R> {
-    pub fn new(reader: R) -> RealSource<R> {
+    pub fn new(reader: R) -> RealSource<R>
+        ensures { ⟦<RealSource<R> as Source>⟧.faults result ≡ 0 }
+    {
         RealSource { reader, failed: 0 }
     }
 }
@@ -40,7 +42,9 @@ pub struct RealSink<R: Print + Drop> {
 }
 
 impl<R: Print + Drop> RealSink<R> {
-    pub fn new(rt: R) -> RealSink<R> {
+    pub fn new(rt: R) -> RealSink<R>
+        ensures { ⟦<RealSink<R> as Sink>⟧.faults result ≡ 0 }
+    {
         RealSink { rt, failed: 0 }
     }
 }

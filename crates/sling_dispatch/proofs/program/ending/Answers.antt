@@ -6,8 +6,8 @@ use Rattle.sling_dispatch.specs.declared.ending.Ending.TheVariants.{Usage, Sourc
 use Rattle.sling_dispatch.proofs.Meanings.{means_weaker, due_of_source, told_line, out_of_memory}
 use Rattle.sling_dispatch.proofs.program.ending.Goals as goal
 
-pub returns-then-not-is_replay : goal.returns-then-not-is_replay
-returns-then-not-is_replay g c =
+pub returns-then-not-is_replay-clause-ending : goal.returns-then-not-is_replay-clause-ending
+returns-then-not-is_replay-clause-ending g c =
     let held = g.S.Source.left c.args.source.now in
     let count = g.S.Source.faults c.args.source.now in
     let call : Call = record { words = map (λ w. w.now) c.args.words.now; source = seen held held count count } in
@@ -15,8 +15,8 @@ returns-then-not-is_replay g c =
     let due : IsDue call UsageLine = ((λ h. let k = c.is_replay.ensures.1 h in cc (k, c.if-not-is_replay.true)), (refl, refl)) in
     told_line (IsDue call) UsageLine Usage c.say.result (codes "usage: replay" ++ 10 ∷ []) sink due (λ w. (due, w)) refl c.say.ensures
 
-pub returns-in-Ok : goal.returns-in-Ok
-returns-in-Ok g c =
+pub returns-in-Ok-clause-ending : goal.returns-in-Ok-clause-ending
+returns-in-Ok-clause-ending g c =
     let words = map (λ w. w.now) c.args.words.now in
     let source = seen (g.S.Source.left c.args.source.now) (g.S.Source.left c.read_whole.new.source)
     (g.S.Source.faults c.args.source.now) (g.S.Source.faults c.read_whole.new.source) in
@@ -31,8 +31,8 @@ returns-in-Ok g c =
     (seen (g.K.Sink.held c.args.sink.now) (g.K.Sink.held c.replay.new.sink) (g.K.Sink.faults c.args.sink.now) (g.K.Sink.faults c.replay.new.sink))
     c.replay.ensures
 
-pub returns-in-Err-Failed : goal.returns-in-Err-Failed
-returns-in-Err-Failed g c =
+pub returns-in-Err-Failed-clause-ending : goal.returns-in-Err-Failed-clause-ending
+returns-in-Err-Failed-clause-ending g c =
     let source = seen (g.S.Source.left c.args.source.now) (g.S.Source.left c.read_whole.new.source)
     (g.S.Source.faults c.args.source.now) (g.S.Source.faults c.read_whole.new.source) in
     let call : Call = record { words = map (λ w. w.now) c.args.words.now; source = source } in
@@ -41,8 +41,8 @@ returns-in-Err-Failed g c =
     let due : IsDue call SourceLine = (c.is_replay.ensures.0 c.if-not-is_replay.false, cause) in
     told_line (IsDue call) SourceLine SourceFailed c.say-in-Err-Failed.result (codes "source failed" ++ 10 ∷ []) sink due (λ w. (due, w)) refl c.say-in-Err-Failed.ensures
 
-pub returns-in-Err-NoMemory : goal.returns-in-Err-NoMemory
-returns-in-Err-NoMemory g c =
+pub returns-in-Err-NoMemory-clause-ending : goal.returns-in-Err-NoMemory-clause-ending
+returns-in-Err-NoMemory-clause-ending g c =
     let source = seen (g.S.Source.left c.args.source.now) (g.S.Source.left c.read_whole.new.source)
     (g.S.Source.faults c.args.source.now) (g.S.Source.faults c.read_whole.new.source) in
     let call : Call = record { words = map (λ w. w.now) c.args.words.now; source = source } in

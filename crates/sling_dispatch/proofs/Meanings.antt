@@ -43,7 +43,7 @@ due_content s fault e Nothing d = tt
 due_content s fault e UsageLine d = d
 due_content s fault e SourceLine d = d
 due_content s fault e RefusalLine d = d
-due_content s fault e (ContentLine f) d = e d.1 ∙ ap (λ x. Err x) (sym d.0)
+due_content s fault e (ContentLine f) d = (e d.1 ∙ ap (λ x. Err x) (sym d.0), λ h. d.1 (sym d.0 ∙ h))
 due_content s fault e NotBuiltLine d = absurd d
 due_content s fault e (Events t events) d = absurd d
 
@@ -68,7 +68,7 @@ in_text text s reads Nothing d = tt
 in_text text s reads UsageLine d = d
 in_text text s reads SourceLine d = d
 in_text text s reads RefusalLine d = absurd d
-in_text text s reads (ContentLine fault) d = (s, reads, d)
+in_text text s reads (ContentLine fault) d = (d.1, s, reads, d.0)
 in_text text s reads NotBuiltLine d = (s, reads, d.0, d.1)
 in_text text s reads (Events t events) d =
     let same = sym d.0 in (
@@ -101,8 +101,8 @@ due_of_source c text is calm e end SourceLine d = absurd d
 due_of_source c text is calm e end RefusalLine d = (is, calm, told_refused text c.source.old c.source.new e end d)
 due_of_source c text is calm e end (ContentLine fault) d =
     let Q : List ℕ → Type 0 = λ bytes. (s : Scenario) × Reads bytes s × (content_of s.content ≡ Err fault) in
-    let done = end d.1.1 in
-    ((is, calm, told Q text c.source.old c.source.new e done d), done)
+    let done = end d.2.1 in
+    ((is, calm, told Q text c.source.old c.source.new e done (d.1, d.2, d.3)), done, d.0)
 due_of_source c text is calm e end NotBuiltLine d =
     let Q : List ℕ → Type 0 = λ bytes. (s : Scenario) × Reads bytes s × HasContent s × (all_built s.acts ≡ false) in
     let done = end d.1.1 in

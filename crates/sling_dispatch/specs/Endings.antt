@@ -103,6 +103,7 @@ IsDue c UsageLine = (IsReplay c.words → ⊥) × IsUntouched c.source
 IsDue c SourceLine = IsReplay c.words × HasFailed c.source
 IsDue c RefusalLine = Replays c (λ bytes. (s : Scenario) → Reads bytes s → ⊥)
 IsDue c (ContentLine fault) = Replays c (λ bytes. (s : Scenario) × Reads bytes s × (content_of s.content ≡ Err fault)) × IsAtEnd c.source.new
+    × (fault ≢ no_memory)
 IsDue c NotBuiltLine = Replays c (λ bytes. (s : Scenario) × Reads bytes s × HasContent s × (all_built s.acts ≡ false)) × IsAtEnd c.source.new
 IsDue c (Events s events) = Replays c (λ bytes. Reads bytes s × (all_built s.acts ≡ true)) × IsAtEnd c.source.new × IsRunOf s events
 
@@ -123,7 +124,7 @@ IsDueAt text Nothing = Unit {0}
 IsDueAt text UsageLine = ⊥
 IsDueAt text SourceLine = ⊥
 IsDueAt text RefusalLine = (rest : List ℕ) → (length text ≤ most → rest ≡ []) → (s : Scenario) → Reads (text ++ rest) s → ⊥
-IsDueAt text (ContentLine fault) = (s : Scenario) × Reads text s × (content_of s.content ≡ Err fault)
+IsDueAt text (ContentLine fault) = (fault ≢ no_memory) × (s : Scenario) × Reads text s × (content_of s.content ≡ Err fault)
 IsDueAt text NotBuiltLine = (s : Scenario) × Reads text s × HasContent s × (all_built s.acts ≡ false)
 IsDueAt text (Events s events) = (Reads text s × (all_built s.acts ≡ true)) × IsRunOf s events
 
@@ -133,7 +134,7 @@ IsDueIn s Nothing = Unit {0}
 IsDueIn s UsageLine = ⊥
 IsDueIn s SourceLine = ⊥
 IsDueIn s RefusalLine = ⊥
-IsDueIn s (ContentLine fault) = content_of s.content ≡ Err fault
+IsDueIn s (ContentLine fault) = (content_of s.content ≡ Err fault) × (fault ≢ no_memory)
 IsDueIn s NotBuiltLine = HasContent s × (all_built s.acts ≡ false)
 IsDueIn s (Events t events) = (t ≡ s) × (all_built s.acts ≡ true) × IsRunOf s events
 

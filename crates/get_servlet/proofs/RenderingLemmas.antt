@@ -1,18 +1,18 @@
 -- Resources as JSON, one level and one kid at a time, and how many they show.
-use Rattle.std.proofs.Common.{◌≡◌, ◌≢◌, ◌+◌, ◌-◌, ◌*◌, ◌<◌, ◌≤◌, ◌++◌, ℕ, zero, suc, List, [], ◌∷◌, length, take, get_or, Option, Some, None, Bool, true, false, cond, refl, sym, ◌∙◌, ap, subst, ⊎_elim, arith, append_assoc}
+use Rattle.std.proofs.Common.{◌≡◌, ◌+◌, ◌-◌, ◌<◌, ◌≤◌, ◌++◌, ℕ, zero, suc, List, [], ◌∷◌, length, take, get_or, Option, Some, None, Bool, true, false, cond, refl, sym, ◌∙◌, ap, subst, ⊎_elim, arith, append_assoc}
 use Rattle.std.specs.Prelude.{flat_map, sum_by, nat_le}
-use Rattle.std.proofs.lemmas.List.{take_more, append-nil, take_all}
+use Rattle.std.proofs.lemmas.List.{take_more, append-nil}
 use Rattle.std.proofs.lemmas.List.Concat.{flat_map-append}
 use Rattle.std.proofs.lemmas.Bool.{cases_lt, le-leb, lt-leb}
 use Rattle.std.proofs.lemmas.Bool.Decides.{nat_tests}
 use Rattle.std.proofs.lemmas.List.Sums.{sum_by-le-sum_by, sum_by-take-le, sum_by_push}
-use Rattle.json.specs.Json.{Json, object, Members, no_members, member}
+use Rattle.json.specs.Json.{Json, Members, no_members}
 use Rattle.json.specs.Token.{Token}
 use Rattle.json.specs.Tree.{json_tokens, members_tokens}
 use Rattle.json.specs.Print.{print}
 use Rattle.json.specs.Written.{Written}
 use Rattle.resource_tree.specs.declared.look.Res.{Res}
-use Rattle.property_json.specs.PropertyJson.{Adds, members_before, property_tokens}
+use Rattle.property_json.specs.PropertyJson.{Adds, property_tokens}
 use Rattle.property_json.proofs.ArrayLemmas.{members_are}
 use Rattle.get_servlet.specs.declared.kids.Kid.{Kid}
 use Rattle.get_servlet.specs.Rendering.{Seen, kid_of, kid_before, kid_members, json_at, json_text, kid_count, shown_at, shown, greatest_fitting, kid_tokens, kids_tokens, shown_below, left_of}
@@ -76,14 +76,14 @@ kid_more items names i item same lt is =
     ∙ ap (λ n. take i names ++ n ∷ []) (sym is)
 
 -- its tokens stand behind theirs
-pub kid_written : (seen : Seen) (depth : ℕ) (path : List (List ℕ)) (res : Res) (front names : List (List ℕ)) (name : List ℕ) (kid : Option Kid)
-    → names ≡ front ++ name ∷ [] → kid ≡ kid_of seen path res name
+pub kid_written : (seen : Seen) (depth : ℕ) (path : List (List ℕ)) (res : Res) (front names : List (List ℕ)) (name text : List ℕ) (kid : Option Kid)
+    → names ≡ front ++ name ∷ [] → text ≡ name → kid ≡ kid_of seen path res text
     → kids_tokens seen depth path res names ≡ kids_tokens seen depth path res front ++ kid_tokens name (json_at seen depth) kid
 unfolding kids_tokens
-kid_written seen depth path res front names name kid more is =
+kid_written seen depth path res front names name text kid more same is =
     let f = λ (n : List ℕ). kid_tokens n (json_at seen depth) (kid_of seen path res n) in
     ap (flat_map f) more ∙ flat_map-append f front (name ∷ []) ∙ ap (λ ts. flat_map f front ++ ts) (append-nil (f name))
-    ∙ ap (λ k. flat_map f front ++ kid_tokens name (json_at seen depth) k) (sym is)
+    ∙ ap (λ k. flat_map f front ++ kid_tokens name (json_at seen depth) k) (sym (is ∙ ap (kid_of seen path res) same))
 
 -- a kid was written: its name, and its object
 pub kid_adds : (old mid key new : Written) (front : List Token) (name : List ℕ) (json : List (List ℕ) → Res → Json) (kid : Kid) → Adds old mid front
@@ -143,13 +143,13 @@ pub shown_below-nil : (seen : Seen) (depth : ℕ) (path : List (List ℕ)) (res 
 unfolding shown_below
 shown_below-nil seen depth path res = refl
 
-pub kid_counted : (seen : Seen) (depth : ℕ) (path : List (List ℕ)) (res : Res) (front names : List (List ℕ)) (name : List ℕ) (kid : Option Kid)
-    → names ≡ front ++ name ∷ [] → kid ≡ kid_of seen path res name
+pub kid_counted : (seen : Seen) (depth : ℕ) (path : List (List ℕ)) (res : Res) (front names : List (List ℕ)) (name text : List ℕ) (kid : Option Kid)
+    → names ≡ front ++ name ∷ [] → text ≡ name → kid ≡ kid_of seen path res text
     → shown_below seen depth path res names ≡ shown_below seen depth path res front + kid_count (shown_at seen depth) kid
 unfolding shown_below
-kid_counted seen depth path res front names name kid more is =
+kid_counted seen depth path res front names name text kid more same is =
     let f = λ (n : List ℕ). kid_count (shown_at seen depth) (kid_of seen path res n) in
-    ap (sum_by f) more ∙ sum_by_push f front name ∙ ap (λ k. sum_by f front + kid_count (shown_at seen depth) k) (sym is)
+    ap (sum_by f) more ∙ sum_by_push f front name ∙ ap (λ k. sum_by f front + kid_count (shown_at seen depth) k) (sym (is ∙ ap (kid_of seen path res) same))
 
 pub shown_below-take : (seen : Seen) (depth : ℕ) (path : List (List ℕ)) (res : Res) (names : List (List ℕ)) (i : ℕ)
     → shown_below seen depth path res (take i names) ≤ shown_below seen depth path res names

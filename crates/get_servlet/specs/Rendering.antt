@@ -1,5 +1,5 @@
 -- A resource as JSON: an object of its properties and then, above depth 0, its kids in their order at a depth one less.
-use Rattle.std.specs.Prelude.{◌+◌, ◌-◌, ◌<◌, ◌++◌, ◌∷◌, ℕ, zero, suc, nat_le, if◌then◌else◌, is_some, List, [], Option, Some, None, option_map, Result, Ok, Err, flat_map, sum_by}
+use Rattle.std.specs.Prelude.{◌+◌, ◌-◌, ◌∷◌, ℕ, zero, suc, nat_le, if◌then◌else◌, is_some, List, [], Option, Some, None, option_map, Result, Ok, Err, flat_map, sum_by}
 use Rattle.std.specs.FinMap.Entries.{find}
 use Rattle.json.specs.Json.{Json, object, Members, no_members, member}
 use Rattle.json.specs.Token.{Token}

@@ -1,6 +1,6 @@
-use Rattle.std.proofs.Common.{◌≡◌, ◌+◌, ◌-◌, ◌<◌, List, ℕ, take, sym, ◌∙◌, ap, subst, arith}
+use Rattle.std.proofs.Common.{◌≡◌, ◌+◌, ◌-◌, take, sym, ◌∙◌, ap, subst, arith}
 use Rattle.std.specs.Prelude.{IfOk}
-use Rattle.get_servlet.specs.Rendering.{kid_of, kid_count, shown_at, shown_below}
+use Rattle.get_servlet.specs.Rendering.{kid_count, shown_at, shown_below}
 use Rattle.get_servlet.proofs.RenderingLemmas.{left_none, left_some, left_before, none_before, shown_at-positive, shown_at-top, left_below, shown_below-nil, kid_more, kid_counted, shown_below-take}
 use Rattle.get_servlet.proofs.measure.+measure.Goals as goal
 use Rattle.get_servlet.proofs.measure.+measure.Goals.{room_beside_kids-in-Some+in_ok-rest+in-Some-2, room_beside_kids-in_default}
@@ -30,8 +30,7 @@ room_beside_kids-returns-in-None g t c =
     let names = c.args.res.now.kids in
     let i = c.loop-name.name-index in
     let more = kid_more c.as_slice-name-items.result.now names i c.name-item.result c.as_slice-name-items.ensures (omega arith) c.name-item.is in
-    let kid = c.in_ok-kid.ensures ∙ ap (kid_of seen c.args.path.now c.args.res.now) c.text.ensures in
-    let counted = kid_counted seen c.args.depth c.args.path.now c.args.res.now (take i names) (take (i + 1) names) c.name-item.result c.in_ok-kid.field-0 more kid in
+    let counted = kid_counted seen c.args.depth c.args.path.now c.args.res.now (take i names) (take (i + 1) names) c.name-item.result c.text.result.now c.in_ok-kid.field-0 more c.text.ensures c.in_ok-kid.ensures in
     let over = none_before c.loop-name.left (shown_at seen c.args.depth c.in-Some.kid.path c.in-Some.kid.res) (sym c.in-None.is ∙ c.in_ok-rest.ensures) in
     let within = shown_below-take seen c.args.depth c.args.path.now c.args.res.now names (i + 1) in
     let same = ap count c.in-Some.is in
@@ -44,8 +43,7 @@ room_beside_kids-loop-name-preserved g t c =
     let names = c.args.res.now.kids in
     let i = c.loop-name.name-index in
     let more = kid_more c.as_slice-name-items.result.now names i c.name-item.result c.as_slice-name-items.ensures (omega arith) c.name-item.is in
-    let kid = c.in_ok-kid.ensures ∙ ap (kid_of seen c.args.path.now c.args.res.now) c.text.ensures in
-    let counted = kid_counted seen c.args.depth c.args.path.now c.args.res.now (take i names) (take (i + 1) names) c.name-item.result c.in_ok-kid.field-0 more kid in
+    let counted = kid_counted seen c.args.depth c.args.path.now c.args.res.now (take i names) (take (i + 1) names) c.name-item.result c.text.result.now c.in_ok-kid.field-0 more c.text.ensures c.in_ok-kid.ensures in
     elim c.match-branch-2.branch [
       | room_beside_kids-in-Some+in_ok-rest+in-Some-2 w ↦
           let before = left_before c.loop-name.left (shown_at seen c.args.depth w.in-Some.kid.path w.in-Some.kid.res) w.in-Some-2.rest (sym w.in-Some-2.is ∙ w.in_ok-rest.ensures) in

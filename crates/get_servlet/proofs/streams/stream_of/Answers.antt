@@ -1,4 +1,4 @@
-use Rattle.std.proofs.Common.{◌≡◌, List, ℕ, Some, sym, ◌∙◌, ap}
+use Rattle.std.proofs.Common.{Some, sym, ◌∙◌, ap}
 use Rattle.std.specs.Prelude.{codes}
 use Rattle.get_servlet.specs.Streams.{make_stream, kid_stream, kind_of, text_in, stream_of}
 use Rattle.std.specs.Prelude.{option_map}

@@ -1,8 +1,7 @@
-use Rattle.std.proofs.Common.{◌≡◌, ◌+◌, ◌-◌, ◌∷◌, ◌++◌, [], suc, take, sym, ◌∙◌, ap, subst, arith}
-use Rattle.json.specs.Json.{Json}
+use Rattle.std.proofs.Common.{◌+◌, ◌-◌, ◌∷◌, ◌++◌, [], take, sym, ◌∙◌, ap, subst, arith}
 use Rattle.json.specs.Token.{Token}
 use Rattle.property_json.specs.PropertyJson.{Adds}
-use Rattle.get_servlet.specs.Rendering.{kid_of, json_at, kid_tokens, kids_tokens}
+use Rattle.get_servlet.specs.Rendering.{json_at, kids_tokens}
 use Rattle.get_servlet.proofs.RenderingLemmas.{top_tokens, deep_tokens, object_written, nothing_written, kids_tokens-nil, kid_more, kid_written, kid_adds, no_kid_adds}
 use Rattle.get_servlet.proofs.writing.+writing.Goals as goal
 use Rattle.get_servlet.proofs.writing.+writing.Goals.{write_kids-in-Some+in_ok-key+in_ok-write_resource, write_kids-in_default}
@@ -22,8 +21,7 @@ write_kids-loop-name-preserved g t c =
     let old = c.args.writer.now in
     let front = kids_tokens seen c.args.depth c.args.path.now c.args.res.now (take i names) in
     let more = kid_more c.as_slice-name-items.result.now names i item c.as_slice-name-items.ensures (omega arith) c.name-item.is in
-    let kid = c.in_ok-kid.ensures ∙ ap (kid_of seen c.args.path.now c.args.res.now) c.text.ensures in
-    let written = kid_written seen c.args.depth c.args.path.now c.args.res.now (take i names) (take (i + 1) names) item c.in_ok-kid.field-0 more kid in
+    let written = kid_written seen c.args.depth c.args.path.now c.args.res.now (take i names) (take (i + 1) names) item c.text.result.now c.in_ok-kid.field-0 more c.text.ensures c.in_ok-kid.ensures in
     subst (Adds old c.match-branch-2.writer) (sym written) (elim c.match-branch-2.branch [
       | write_kids-in-Some+in_ok-key+in_ok-write_resource w ↦
           let mid = c.loop-name.writer in

@@ -1,0 +1,3 @@
+pub mod Rendering
+pub mod Answers
+pub mod Streams

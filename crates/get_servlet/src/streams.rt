@@ -1,0 +1,71 @@
+ghost use Rattle.std.specs.Prelude.{◌≡◌, IfOk};
+ghost use Rattle.std.specs.Option.{option_copied};
+ghost use Rattle.get_servlet.specs.Streams.{text_in, is_printable, is_kind, kind_of, stream_of};
+
+use crate::kids::kid_at;
+use resource_tree::{Look, Res};
+use sp_base::{Mem, PropList, TextBuf, Value};
+use std::alloc::Global;
+
+/// The content of a file, and its media type.
+#[derive(Drop)]
+pub struct Stream {
+    pub kind: TextBuf,
+    pub body: TextBuf,
+}
+
+// The text under a name.
+#[tactic(auto, unfolding(crate::specs::Streams::text_in))]
+fn text_in<'a>(props: &'a PropList, name: &str) -> Option<&'a TextBuf>
+    ensures { option_copied result ≡ text_in props.entry.now name.now }
+{
+    match props.get(name) {
+        Some(Value::Text(text)) => Some(text),
+        _ => None,
+    }
+}
+
+fn is_printable(text: &str) -> bool
+    ensures { result ≡ is_printable text.now }
+{
+    text.as_bytes().iter().all(|b| *b >= b' ' && *b <= b'~')
+}
+
+// Whether a text may be sent as a media type: 1 to 100 printable bytes, the first and the last no spaces.
+fn is_kind(text: &str) -> bool
+    ensures { result ≡ is_kind text.now }
+{
+    let bytes = text.as_bytes();
+    if bytes.is_empty() || bytes.len() > 100 || !is_printable(text) {
+        return false;
+    }
+    bytes[0] != b' ' && bytes[bytes.len() - 1] != b' '
+}
+
+fn kind_of(alloc: Global, text: Option<&TextBuf>) -> Mem<TextBuf>
+    ensures { IfOk result (λ kind. kind ≡ kind_of (option_copied text.entry)) }
+{
+    match text {
+        Some(text) if is_kind(text.text()) => text.duplicate(alloc),
+        _ => TextBuf::of(alloc, "application/octet-stream"),
+    }
+}
+
+/// The content of a resource that is a file (JCR 2.0, nt:file): the text `jcr:data` of its kid `jcr:content`, with the kid's
+/// `jcr:mimeType` where that may be sent, else `application/octet-stream`.
+#[tactic(auto, unfolding(crate::specs::Streams::stream_of))]
+pub fn stream_of<L: Look>(alloc: Global, look: &L, res: &Res) -> Mem<Option<Stream>>
+    ensures { IfOk result (λ stream. stream ≡ stream_of (L.seen look.now) res.now) }
+{
+    let Some(content) = kid_at(alloc, look, &res.path, "jcr:content")? else {
+        return Ok(None);
+    };
+    let props = &content.res.props;
+    let Some(body) = text_in(props, "jcr:data") else {
+        return Ok(None);
+    };
+    Ok(Some(Stream {
+        kind: kind_of(alloc, text_in(props, "jcr:mimeType"))?,
+        body: body.duplicate(alloc)?,
+    }))
+}

@@ -1,0 +1,194 @@
+use crate::{Depth, JsonAnswer, json_of, stream_of};
+use resource_tree::{Look, Place, Res, Tree, TreeFault};
+use sp_base::{NoMemory, Path, TextBuf, TruthList, Value};
+use std::alloc::{AllocError, Global};
+
+/// A refusal or want of memory where a test expects none.
+#[derive(Debug, Drop)]
+struct Failed;
+
+impl From<TreeFault> for Failed {
+    fn from(_fault: TreeFault) -> Failed {
+        Failed
+    }
+}
+
+impl From<NoMemory> for Failed {
+    fn from(_fault: NoMemory) -> Failed {
+        Failed
+    }
+}
+
+impl From<AllocError> for Failed {
+    fn from(_fault: AllocError) -> Failed {
+        Failed
+    }
+}
+
+fn at(alloc: Global, text: &str) -> Result<Path, Failed> {
+    match Path::read(alloc, text) {
+        Ok(path) => Ok(path),
+        Err(_) => Err(Failed),
+    }
+}
+
+fn seen(alloc: Global, tree: &Tree, path: &str) -> Result<Res, Failed> {
+    match tree.res(alloc, &at(alloc, path)?)? {
+        Some(res) => Ok(res),
+        None => Err(Failed),
+    }
+}
+
+// The text of an answer, or the depth to ask for instead.
+fn told(alloc: Global, answer: JsonAnswer) -> Result<String, Failed> {
+    match answer {
+        JsonAnswer::Whole(text) => Ok(String::from_str(alloc, text.text())?),
+        JsonAnswer::Over(depth) => Ok(format!(in alloc; "over {depth}")?),
+    }
+}
+
+fn json(alloc: Global, tree: &Tree, path: &str, depth: Depth) -> Result<String, Failed> {
+    let res = seen(alloc, tree, path)?;
+    told(alloc, json_of(alloc, tree, &res, depth)?)
+}
+
+// The kind and the text of a stream.
+fn stream(alloc: Global, tree: &Tree, path: &str) -> Result<String, Failed> {
+    let res = seen(alloc, tree, path)?;
+    match stream_of(alloc, tree, &res)? {
+        Some(stream) => Ok(format!(in alloc; "{} {}", stream.kind.text(), stream.body.text())?),
+        None => Ok(String::from_str(alloc, "none")?),
+    }
+}
+
+// A node with properties, and one with a property below it.
+fn small_tree(alloc: Global) -> Result<Tree, Failed> {
+    let mut tree = Tree::new(alloc)?;
+    let a = at(alloc, "/a")?;
+    let k = at(alloc, "/a/k")?;
+    tree.create(alloc, &a)?;
+    tree.create(alloc, &k)?;
+    let mut truths = TruthList::new(alloc);
+    truths.push(true)?;
+    tree.set(alloc, &a, "t", Value::Truths(truths))?;
+    tree.set(alloc, &a, "n", Value::Long(3))?;
+    tree.set(alloc, &k, "x", Value::Text(TextBuf::of(alloc, "y")?))?;
+    Ok(tree)
+}
+
+#[test]
+fn kids_stand_behind_the_properties(rt: HostRuntime) -> Result<(), Failed> {
+    let alloc = rt.alloc();
+    let tree = small_tree(alloc)?;
+    for (path, levels, want) in [
+        ("/a", 0, "{\"n\":3,\"t\":[true]}"),
+        ("/a", 1, "{\"n\":3,\"t\":[true],\"k\":{\"x\":\"y\"}}"),
+        ("/", 0, "{}"),
+        ("/", 1, "{\"a\":{\"n\":3,\"t\":[true]}}"),
+        ("/", 2, "{\"a\":{\"n\":3,\"t\":[true],\"k\":{\"x\":\"y\"}}}"),
+    ] {
+        assert_eq!(rt;
+            json(alloc, &tree, path, Depth::Levels(levels))?.as_str(),
+            want
+        );
+    }
+    assert_eq!(rt;
+        json(alloc, &tree, "/a", Depth::Infinity)?.as_str(),
+        "{\"n\":3,\"t\":[true],\"k\":{\"x\":\"y\"}}"
+    );
+    Ok(())
+}
+
+#[test]
+fn kids_stand_in_their_order(rt: HostRuntime) -> Result<(), Failed> {
+    let alloc = rt.alloc();
+    let mut tree = Tree::new(alloc)?;
+    for path in ["/z", "/a", "/m"] {
+        tree.create(alloc, &at(alloc, path)?)?;
+    }
+    let depth = Depth::Levels(1);
+    assert_eq!(rt;
+        json(alloc, &tree, "/", depth)?.as_str(),
+        "{\"z\":{},\"a\":{},\"m\":{}}"
+    );
+    tree.order(alloc, &at(alloc, "/m")?, &Place::First)?;
+    assert_eq!(rt;
+        json(alloc, &tree, "/", depth)?.as_str(),
+        "{\"m\":{},\"z\":{},\"a\":{}}"
+    );
+    Ok(())
+}
+
+#[test]
+fn a_thousand_resources_are_the_most(rt: HostRuntime) -> Result<(), Failed> {
+    let alloc = rt.alloc();
+    let mut tree = Tree::new(alloc)?;
+    tree.create(alloc, &at(alloc, "/big")?)?;
+    for number in 1000..1999 {
+        let path = format!(in alloc; "/big/k{number}")?;
+        tree.create(alloc, &at(alloc, path.as_str())?)?;
+    }
+    assert_ne!(rt;
+        json(alloc, &tree, "/big", Depth::Levels(2))?.as_str(),
+        "over 1"
+    );
+    assert_eq!(rt;
+        json(alloc, &tree, "/", Depth::Levels(3))?.as_str(),
+        "over 1"
+    );
+    tree.create(alloc, &at(alloc, "/big/last")?)?;
+    assert_eq!(rt;
+        json(alloc, &tree, "/big", Depth::Levels(2))?.as_str(),
+        "over 1"
+    );
+    assert_eq!(rt;
+        json(alloc, &tree, "/big", Depth::Infinity)?.as_str(),
+        "over 1"
+    );
+    assert_ne!(rt;
+        json(alloc, &tree, "/big", Depth::Levels(1))?.as_str(),
+        "over 1"
+    );
+    Ok(())
+}
+
+#[test]
+fn a_file_is_a_stream(rt: HostRuntime) -> Result<(), Failed> {
+    let alloc = rt.alloc();
+    let mut tree = Tree::new(alloc)?;
+    let content = at(alloc, "/logo.txt/jcr:content")?;
+    tree.create(alloc, &at(alloc, "/logo.txt")?)?;
+    assert_eq!(rt; stream(alloc, &tree, "/logo.txt")?.as_str(), "none");
+    tree.create(alloc, &content)?;
+    assert_eq!(rt; stream(alloc, &tree, "/logo.txt")?.as_str(), "none");
+    tree.set(
+        alloc,
+        &content,
+        "jcr:data",
+        Value::Text(TextBuf::of(alloc, "hey")?),
+    )?;
+    for (kind, want) in [
+        ("text/plain", "text/plain hey"),
+        ("", "application/octet-stream hey"),
+        (" a", "application/octet-stream hey"),
+        ("a ", "application/octet-stream hey"),
+        ("a b", "a b hey"),
+        ("a\nb", "application/octet-stream hey"),
+        ("~", "~ hey"),
+        ("é", "application/octet-stream hey"),
+    ] {
+        tree.set(
+            alloc,
+            &content,
+            "jcr:mimeType",
+            Value::Text(TextBuf::of(alloc, kind)?),
+        )?;
+        assert_eq!(rt; stream(alloc, &tree, "/logo.txt")?.as_str(), want);
+    }
+    tree.set(alloc, &content, "jcr:mimeType", Value::Long(7))?;
+    assert_eq!(rt;
+        stream(alloc, &tree, "/logo.txt")?.as_str(),
+        "application/octet-stream hey"
+    );
+    Ok(())
+}

@@ -130,17 +130,21 @@ order_no_kid ms ds k is kid =
     (λ e. e)
     (cases_Bool (is_order k))
 
+good_at : (ms : Members) (o : Option Data) → option_map_or (is_good_order ms) o true ≡ true → (ds : Items) → option_and_then as_array o ≡ Some ds → names_kids ms [] ds ≡ true
+good_at ms None g ds is = absurd (cc)
+good_at ms (Some d) g ds is = sym (ap (λ o. option_map_or (names_kids ms []) o false) is) ∙ g
+
+-- the items of a good order
+pub good_items : (ms : Members) → has_good_order ms ≡ true → (ds : Items) → option_and_then as_array (get_member order_name ms) ≡ Some ds → names_kids ms [] ds ≡ true
+good_items ms h ds is = good_at ms (get_member order_name ms) h ds is
+
 -- what `:order` names is among the kids
 pub order_within : (ms : Members) → has_good_order ms ≡ true → list_all (λ k. list_any (bytes_eq k) (kid_names ms)) (order_names ms) ≡ true
 order_within ms h = order_by (option_and_then as_array (get_member order_name ms)) refl
   where
-    good_at : (o : Option Data) → option_map_or (is_good_order ms) o true ≡ true → (ds : Items) → option_and_then as_array o ≡ Some ds → names_kids ms [] ds ≡ true
-    good_at None g ds is = absurd (cc)
-    good_at (Some d) g ds is = sym (ap (λ o. option_map_or (names_kids ms []) o false) is) ∙ g
-
     order_by : (o : Option Items) → option_and_then as_array (get_member order_name ms) ≡ o → list_all (λ k. list_any (bytes_eq k) (kid_names ms)) (filter_map as_str (list_of (unwrap_or o no_items))) ≡ true
     order_by None is = refl
-    order_by (Some ds) is = all_weaker (is_kid ms) (λ k. list_any (bytes_eq k) (kid_names ms)) (λ k kid. kid_names_have k ms (order_no_kid ms ds k is kid) kid) (filter_map as_str (list_of ds)) (all_kids ms [] ds (good_at (get_member order_name ms) h ds is))
+    order_by (Some ds) is = all_weaker (is_kid ms) (λ k. list_any (bytes_eq k) (kid_names ms)) (λ k kid. kid_names_have k ms (order_no_kid ms ds k is kid) kid) (filter_map as_str (list_of ds)) (all_kids ms [] ds (good_items ms h ds is))
 
 -- each kid in its order is a member with an object
 pub kids_within : (ms : Members) → has_good_order ms ≡ true → list_all (λ k. list_any (bytes_eq k) (kid_names ms)) (kids_of ms) ≡ true

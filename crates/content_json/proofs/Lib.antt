@@ -7,3 +7,7 @@ pub mod KidLemmas
 pub mod PlantLemmas
 pub mod MemberLemmas
 pub mod MapLemmas
+pub mod DistinctLemmas
+pub mod ChangeLemmas
+pub mod RoomLemmas
+pub mod SizeLemmas

@@ -36,11 +36,11 @@ nodes_below-push path [] e = append_none (nodes_of path e)
 nodes_below-push path (d ∷ done) e = ap (λ ys. nodes_of path d ++ ys) (nodes_below-push path done e) ∙ sym (append_assoc (nodes_of path d) (nodes_below path (members_view done)) (nodes_of path e))
 
 -- a member that comes before another has another name
-before : (first : Entry) (es : List Entry) (e : Entry) (more : List Entry) → AllByRecursion (λ y. string_cmp first.0 y ≡ Less) (keys_of (es ++ e ∷ more)) → string_cmp first.0 e.0 ≡ Less
+pub before : (first : Entry) (es : List Entry) (e : Entry) (more : List Entry) → AllByRecursion (λ y. string_cmp first.0 y ≡ Less) (keys_of (es ++ e ∷ more)) → string_cmp first.0 e.0 ≡ Less
 before first [] e more h = h.0
 before first (x ∷ es) e more h = before first es e more h.1
 
-name_apart : (first e : Entry) → string_cmp first.0 e.0 ≡ Less → name_of first ≢ name_of e
+pub name_apart : (first e : Entry) → string_cmp first.0 e.0 ≡ Less → name_of first ≢ name_of e
 name_apart first e less same =
     let tied : slice_cmp nat_cmp (name_of first) (name_of e) ≡ Equal = ap (slice_cmp nat_cmp (name_of first)) (sym same) ∙ tied_itself nat_list_cmp_total (name_of first) in
     absurd (cc)
@@ -70,6 +70,10 @@ swap_none (Some x) b c none = rw none refl
 none_outside : (path q : List (List ℕ)) (e : Entry) → begins (kid path (name_of e)) q ≡ false → node_at (nodes_of path e) q ≡ None
 none_outside path q e h =
     elim (is_order (name_of e)) as (λ t. node_at (if t then [] else nodes_in (kid path (name_of e)) (view e.1)) q ≡ None) [ true ↦ refl | false ↦ none_in (kid path (name_of e)) q (view e.1) h ]
+
+pub nodes_below-append : (path : List (List ℕ)) (done more : List Entry) → nodes_below path (members_view (done ++ more)) ≡ nodes_below path (members_view done) ++ nodes_below path (members_view more)
+nodes_below-append path [] more = refl
+nodes_below-append path (d ∷ done) more = ap (λ ys. nodes_of path d ++ ys) (nodes_below-append path done more) ∙ sym (append_assoc (nodes_of path d) (nodes_below path (members_view done)) (nodes_below path (members_view more)))
 
 -- one more member
 pub one_more_member : (tree now next : Content) (path : List (List ℕ)) (done : List Entry) (e : Entry) (more : List Entry) → IsStrictlySortedBy string_cmp (keys_of (done ++ e ∷ more))

@@ -58,7 +58,7 @@ is_some-first : (a b : Option Node) → is_some a ≡ true → is_some (option_o
 is_some-first None b h = absurd (false≢true h)
 is_some-first (Some x) b h = refl
 
-never : (b : Bool) → (b && false) ≡ true → ⊥
+pub never : (b : Bool) → (b && false) ≡ true → ⊥
 never true h = false≢true h
 never false h = false≢true h
 

@@ -22,11 +22,11 @@ use Rattle.content_json.proofs.Under.{both, same_path_is, same_path_itself, same
 use Rattle.content_json.proofs.NodeLemmas.{none_at_parent, kid_is_there}
 use Rattle.content_json.proofs.KidLemmas.{kids_have, or_left, or_right, or_split}
 
-parent_of-kid : (path : List (List ℕ)) (name : List ℕ) → parent_of (kid path name) ≡ path
+pub parent_of-kid : (path : List (List ℕ)) (name : List ℕ) → parent_of (kid path name) ≡ path
 parent_of-kid path name =
     let size : length (kid path name) - 1 ≡ length path = omega (arith, length-append path (name ∷ [])) in rw size (take-append_seam path (name ∷ []))
 
-name_of-kid : (path : List (List ℕ)) (name : List ℕ) → name_of (kid path name) ≡ name
+pub name_of-kid : (path : List (List ℕ)) (name : List ℕ) → name_of (kid path name) ≡ name
 name_of-kid path name =
     let size : length (kid path name) - 1 ≡ length path = omega (arith, length-append path (name ∷ [])) in rw size (get_or-append_seam path name [] [])
 
@@ -117,7 +117,7 @@ planted_by false false within old props kids none some = refl
 planted_by false true None old props kids none some = absurd (false≢true (some refl))
 planted_by false true (Some node) old props kids none some = refl
 
-named_there : (path q : List (List ℕ)) (ms : Members) (names : List (List ℕ)) → list_all (λ k. list_any (bytes_eq k) (kid_names ms)) names ≡ true → list_any (λ n. same_path (kid path n) q) names ≡ true → is_some (node_at (nodes_below path ms) q) ≡ true
+pub named_there : (path q : List (List ℕ)) (ms : Members) (names : List (List ℕ)) → list_all (λ k. list_any (bytes_eq k) (kid_names ms)) names ≡ true → list_any (λ n. same_path (kid path n) q) names ≡ true → is_some (node_at (nodes_below path ms) q) ≡ true
 named_there path q ms [] all h = absurd (false≢true h)
 named_there path q ms (n ∷ names) all h =
     let parts = both (list_any (bytes_eq n) (kid_names ms)) (list_all (λ k. list_any (bytes_eq k) (kid_names ms)) names) all in

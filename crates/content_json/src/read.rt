@@ -1,4 +1,4 @@
-ghost use Rattle.std.specs.Prelude.{◌≡◌, ◌≢◌, None, Some, Ok, Err, [], IfOk, IfErr};
+ghost use Rattle.std.specs.Prelude.{◌≡◌, ◌≢◌, None, Some, Ok, Err, [], false, IfOk, IfErr};
 ghost use Rattle.serde_json.specs.Data.{object};
 ghost use Rattle.serde_json.specs.View.{view, members_view};
 ghost use Rattle.content_json.specs.Faults.{fault_in};
@@ -80,7 +80,8 @@ fn is_too_big(members: &Map<String, Value>) -> bool
 
 // The tree of an object without a fault.
 fn built(alloc: Global, members: &Map<String, Value>) -> Mem<Tree>
-    requires { fault_in (object (members_view members.now.entries)) ≡ None }
+    requires faultless { fault_in (object (members_view members.now.entries)) ≡ None }
+    requires small { is_too_big (members_view members.now.entries) ≡ false }
     ensures { IfOk result (λ tree. tree ≡ map_of (nodes_in [] (object (members_view members.now.entries)))) }
 {
     let mut tree = Tree::new(alloc)?;

@@ -1,15 +1,16 @@
-use Rattle.std.proofs.Common.{◌≡◌, ℕ, List, [], ◌∷◌, ◌++◌, true, false, not, ◌&&◌, filter, string_bytes, nat_cmp, sym, ap, ◌∙◌}
+use Rattle.std.proofs.Common.{◌≡◌, ℕ, List, [], ◌∷◌, ◌++◌, true, false, not, ◌&&◌, filter, string_bytes, nat_cmp, sym, ap, subst, ◌∙◌, rules}
 use Rattle.std.specs.BTreeSet.{contains_by}
 use Rattle.std.specs.Cmp.Lexicographic.{slice_cmp}
-use Rattle.std.specs.List.{list_any, filter_map}
+use Rattle.std.specs.List.{list_any, filter_map, IsDistinct}
 use Rattle.std.specs.Str.{bytes_eq}
 use Rattle.serde_json.specs.Find.{as_str}
 use Rattle.serde_json.specs.View.{view, members_view}
 use Rattle.serde_json.proofs.Views.{Entry}
 use Rattle.content_json.specs.Names.{kid_names, is_kid_member}
 use Rattle.content_json.specs.Lists.{list_of}
-use Rattle.content_json.specs.Nodes.{order_names}
+use Rattle.content_json.specs.Nodes.{order_names, kids_of}
 use Rattle.content_json.proofs.KidLemmas.{kid_goes, kid_stays}
+use Rattle.content_json.proofs.DistinctLemmas.{kids_distinct}
 use Rattle.content_json.proofs.plant.kids_of.Goals as goal
 
 pub loop-name-preserved-in_ok-push : goal.loop-name-preserved-in_ok-push
@@ -41,3 +42,9 @@ loop-name-preserved c =
     let told = rw (name, among) at c.is_other_kid.ensures in
     let stays : (is_kid_member (string_bytes e.0) (view e.1) && f (string_bytes e.0)) ≡ false = sym told ∙ c.if-is_other_kid.false in
     ap (λ names. c.loop-name.kids ++ names) (sym (kid_stays f (string_bytes e.0) (view e.1) (members_view left) stays)) ∙ ap (λ es. c.loop-name.kids ++ filter f (kid_names (members_view es))) (sym steps) ∙ c.loop-name.invariant
+
+pub returns-clause-distinct : goal.returns-clause-distinct
+returns-clause-distinct c good =
+    let es = c.args.members.now.entries in
+    let kids : c.loop-name.kids ≡ kids_of (members_view es) = search rules in
+    subst (IsDistinct bytes_eq) (sym kids) (kids_distinct es c.iter-name-items.ensures.ordered good)

@@ -1,0 +1,160 @@
+-- Each kid stands once among the kids in their order, and no property has its name.
+use Rattle.std.proofs.Common.{◌≡◌, ◌≢◌, ℕ, Bool, true, false, cond, not, ◌&&◌, ◌||◌, ⊎_elim, List, [], ◌∷◌, ◌++◌, Option, Some, None, filter, if◌then◌else◌, unwrap_or, string_cmp, Less, refl, sym, ◌∙◌, subst, append_assoc}
+use Rattle.std.specs.List.{list_any, filter_map, cons_option, AllByRecursion, IsDistinct}
+use Rattle.std.specs.List.Sorted.{IsStrictlySortedBy}
+use Rattle.std.specs.Map.{keys_of}
+use Rattle.std.specs.Option.{option_map_or}
+use Rattle.std.specs.Prelude.{option_and_then}
+use Rattle.std.specs.Str.{bytes_eq}
+use Rattle.std.specs.Cmp.Lexicographic.{same_text}
+use Rattle.std.proofs.lemmas.Bool.{cases_Bool, true≢false, false≢true}
+use Rattle.std.proofs.lemmas.Map.Keys.{IsDistinct-head, IsDistinct-tail, IsDistinct-cons}
+use Rattle.serde_json.specs.Data.{Items, no_items, item, Members}
+use Rattle.serde_json.specs.Find.{as_str, as_array, get_member}
+use Rattle.serde_json.specs.View.{view, members_view}
+use Rattle.serde_json.proofs.Views.{Entry}
+use Rattle.content_json.specs.Names.{order_name, is_order, is_object, is_kid, is_kid_member, kid_names}
+use Rattle.content_json.specs.Lists.{list_of}
+use Rattle.content_json.specs.Faults.{names_kids, has_good_order}
+use Rattle.content_json.specs.Nodes.{order_names, kids_of}
+use Rattle.content_json.proofs.Under.{both, bytes_eq_swapped}
+use Rattle.content_json.proofs.OrderLemmas.{false_from_not}
+use Rattle.content_json.proofs.KidLemmas.{good_items}
+use Rattle.content_json.proofs.MemberLemmas.{name_of, name_apart, before}
+
+all_weaker : {A : Type 0} (P Q : A → Type 0) → ((x : A) → P x → Q x) → (xs : List A) → AllByRecursion P xs → AllByRecursion Q xs
+all_weaker P Q gives [] h = tt
+all_weaker P Q gives (x ∷ xs) h = (gives x h.0, all_weaker P Q gives xs h.1)
+
+all_append : {A : Type 0} (P : A → Type 0) (xs ys : List A) → AllByRecursion P xs → AllByRecursion P ys → AllByRecursion P (xs ++ ys)
+all_append P [] ys g h = h
+all_append P (x ∷ xs) ys g h = (g.0, all_append P xs ys g.1 h)
+
+all_filter : {A : Type 0} (P : A → Type 0) (f : A → Bool) (xs : List A) → AllByRecursion P xs → AllByRecursion P (filter f xs)
+all_filter P f [] h = tt
+all_filter P f (x ∷ xs) h =
+    let rest = all_filter P f xs h.1 in elim (f x) as (λ t. AllByRecursion P (cond t (x ∷ filter f xs) (filter f xs))) [ true ↦ (h.0, rest) | false ↦ rest ]
+
+pub neither : (a b : Bool) → (a || b) ≡ false → (a ≡ false) × (b ≡ false)
+neither true b h = absurd (true≢false h)
+neither false b h = (refl, h)
+
+bytes_apart : (a b : List ℕ) → a ≢ b → bytes_eq a b ≡ false
+bytes_apart a b apart = ⊎_elim (λ e. absurd (apart (same_text a b (sym e)))) (λ e. e) (cases_Bool (bytes_eq a b))
+
+distinct_append : (xs ys : List (List ℕ)) → IsDistinct bytes_eq xs → IsDistinct bytes_eq ys → AllByRecursion (λ y. list_any (bytes_eq y) xs ≡ false) ys → IsDistinct bytes_eq (xs ++ ys)
+distinct_append [] ys g h apart = h
+distinct_append (x ∷ xs) ys g h apart =
+    let here = all_weaker (λ y. list_any (bytes_eq y) (x ∷ xs) ≡ false) (λ y. bytes_eq x y ≡ false) (λ y e. bytes_eq_swapped x y ∙ (neither (bytes_eq y x) (list_any (bytes_eq y) xs) e).0) ys apart in
+    let later = all_weaker (λ y. list_any (bytes_eq y) (x ∷ xs) ≡ false) (λ y. list_any (bytes_eq y) xs ≡ false) (λ y e. (neither (bytes_eq y x) (list_any (bytes_eq y) xs) e).1) ys apart in
+    IsDistinct-cons bytes_eq x (xs ++ ys) (all_append (λ y. bytes_eq x y ≡ false) xs ys (IsDistinct-head bytes_eq x xs g) here) (distinct_append xs ys (IsDistinct-tail bytes_eq x xs g) h later)
+
+distinct_filter : (f : List ℕ → Bool) (xs : List (List ℕ)) → IsDistinct bytes_eq xs → IsDistinct bytes_eq (filter f xs)
+distinct_filter f [] h = h
+distinct_filter f (x ∷ xs) h =
+    let rest = distinct_filter f xs (IsDistinct-tail bytes_eq x xs h) in
+    elim (f x) as (λ t. IsDistinct bytes_eq (cond t (x ∷ filter f xs) (filter f xs))) [
+      | true ↦ IsDistinct-cons bytes_eq x (filter f xs) (all_filter (λ y. bytes_eq x y ≡ false) f xs (IsDistinct-head bytes_eq x xs h)) rest
+      | false ↦ rest
+    ]
+
+others_apart : (order kids : List (List ℕ)) → AllByRecursion (λ y. list_any (bytes_eq y) order ≡ false) (filter (λ name. not (list_any (bytes_eq name) order)) kids)
+others_apart order [] = tt
+others_apart order (k ∷ kids) =
+    let f = λ (name : List ℕ). not (list_any (bytes_eq name) order) in
+    let rest = others_apart order kids in
+    elim (list_any (bytes_eq k) order) as (λ t. list_any (bytes_eq k) order ≡ t → AllByRecursion (λ y. list_any (bytes_eq y) order ≡ false) (cond (not t) (k ∷ filter f kids) (filter f kids))) [
+      | true ↦ λ e. rest
+      | false ↦ λ e. (e, rest)
+    ] refl
+
+-- what `:order` names is named once, and none of it before
+named_once : (ms : Members) (before : List (List ℕ)) (ds : Items) → names_kids ms before ds ≡ true
+    → IsDistinct bytes_eq (filter_map as_str (list_of ds)) × AllByRecursion (λ y. list_any (λ other. bytes_eq other y) before ≡ false) (filter_map as_str (list_of ds))
+unfolding IsDistinct
+named_once ms before no_items h = (tt, tt)
+named_once ms before (item d ds) h =
+    let rest = filter_map as_str (list_of ds) in
+    elim (as_str d) as (λ o. option_map_or (λ name. is_kid ms name && not (list_any (λ other. bytes_eq other name) before) && names_kids ms (name ∷ before) ds) o false ≡ true
+    → IsDistinct bytes_eq (cons_option o rest) × AllByRecursion (λ y. list_any (λ other. bytes_eq other y) before ≡ false) (cons_option o rest)) [
+      | None ↦ λ g. absurd (false≢true g)
+      | Some name ↦ λ g.
+          let parts = both (is_kid ms name && not (list_any (λ other. bytes_eq other name) before)) (names_kids ms (name ∷ before) ds) g in
+          let fresh = false_from_not (list_any (λ other. bytes_eq other name) before) (both (is_kid ms name) (not (list_any (λ other. bytes_eq other name) before)) parts.0).1 in
+          let more = named_once ms (name ∷ before) ds parts.1 in
+          let here = all_weaker (λ y. list_any (λ other. bytes_eq other y) (name ∷ before) ≡ false) (λ y. bytes_eq name y ≡ false) (λ y e. (neither (bytes_eq name y) (list_any (λ other. bytes_eq other y) before) e).0) rest more.1 in
+          let later = all_weaker (λ y. list_any (λ other. bytes_eq other y) (name ∷ before) ≡ false) (λ y. list_any (λ other. bytes_eq other y) before ≡ false) (λ y e. (neither (bytes_eq name y) (list_any (λ other. bytes_eq other y) before) e).1) rest more.1 in
+          (IsDistinct-cons bytes_eq name rest here more.0, (fresh, later))
+    ] h
+
+order_distinct : (ms : Members) → has_good_order ms ≡ true → IsDistinct bytes_eq (order_names ms)
+unfolding IsDistinct
+order_distinct ms h = order_by (option_and_then as_array (get_member order_name ms)) refl
+  where
+    order_by : (o : Option Items) → option_and_then as_array (get_member order_name ms) ≡ o → IsDistinct bytes_eq (filter_map as_str (list_of (unwrap_or o no_items)))
+    order_by None is = tt
+    order_by (Some ds) is = (named_once ms [] ds (good_items ms h ds is)).0
+
+-- the kids after a member have other names
+none_after : (first : Entry) (es : List Entry) → AllByRecursion (λ y. string_cmp first.0 y ≡ Less) (keys_of es) → AllByRecursion (λ k. bytes_eq (name_of first) k ≡ false) (kid_names (members_view es))
+none_after first [] h = tt
+none_after first (e ∷ es) h =
+    let rest = none_after first es h.1 in
+    elim (is_kid_member (name_of e) (view e.1)) as (λ t. AllByRecursion (λ k. bytes_eq (name_of first) k ≡ false) (if t then name_of e ∷ kid_names (members_view es) else kid_names (members_view es))) [
+      | true ↦ (bytes_apart (name_of first) (name_of e) (name_apart first e h.0), rest)
+      | false ↦ rest
+    ]
+
+names_distinct : (es : List Entry) → IsStrictlySortedBy string_cmp (keys_of es) → IsDistinct bytes_eq (kid_names (members_view es))
+unfolding IsStrictlySortedBy IsDistinct
+names_distinct [] h = tt
+names_distinct (e ∷ es) h =
+    let rest = names_distinct es h.1 in
+    elim (is_kid_member (name_of e) (view e.1)) as (λ t. IsDistinct bytes_eq (if t then name_of e ∷ kid_names (members_view es) else kid_names (members_view es))) [
+      | true ↦ IsDistinct-cons bytes_eq (name_of e) (kid_names (members_view es)) (none_after e es h.0) rest
+      | false ↦ rest
+    ]
+
+-- no kid stands twice among the kids in their order
+pub kids_distinct : (es : List Entry) → IsStrictlySortedBy string_cmp (keys_of es) → has_good_order (members_view es) ≡ true → IsDistinct bytes_eq (kids_of (members_view es))
+kids_distinct es sorted good =
+    let ms = members_view es in
+    let order = order_names ms in
+    distinct_append order (filter (λ name. not (list_any (bytes_eq name) order)) (kid_names ms)) (order_distinct ms good) (distinct_filter (λ name. not (list_any (bytes_eq name) order)) (kid_names ms) (names_distinct es sorted)) (others_apart order (kid_names ms))
+
+none_equal : (name : List ℕ) (names : List (List ℕ)) → AllByRecursion (λ k. bytes_eq name k ≡ false) names → list_any (bytes_eq name) names ≡ false
+none_equal name [] h = refl
+none_equal name (k ∷ names) h = rw h.0 (none_equal name names h.1)
+
+and_none : (a b : Bool) → b ≡ false → (a && b) ≡ false
+and_none true b h = h
+and_none false b h = refl
+
+-- a member that is no object has no kid's name
+pub no_kid_named : (done : List Entry) (e : Entry) (more : List Entry) → IsStrictlySortedBy string_cmp (keys_of (done ++ e ∷ more)) → is_object (view e.1) ≡ false → list_any (bytes_eq (name_of e)) (kid_names (members_view (done ++ e ∷ more))) ≡ false
+unfolding IsStrictlySortedBy
+no_kid_named [] e more h other =
+    let no : is_kid_member (name_of e) (view e.1) ≡ false = and_none (not (is_order (name_of e))) (is_object (view e.1)) other in
+    rw no (none_equal (name_of e) (kid_names (members_view more)) (none_after e more h.0))
+no_kid_named (d ∷ done) e more h other =
+    let rest = no_kid_named done e more h.1 other in
+    let names = kid_names (members_view (done ++ e ∷ more)) in
+    let apart : bytes_eq (name_of e) (name_of d) ≡ false = bytes_eq_swapped (name_of e) (name_of d) ∙ bytes_apart (name_of d) (name_of e) (name_apart d e (before d done e more h.0)) in
+    elim (is_kid_member (name_of d) (view d.1)) as (λ t. list_any (bytes_eq (name_of e)) (if t then name_of d ∷ names else names) ≡ false) [
+      | true ↦ rw apart rest
+      | false ↦ rest
+    ]
+
+-- no kid has the name of a property
+abbrev pub PropsApart : List Entry → List Entry → Type 0
+PropsApart all es = AllByRecursion (λ e. is_object (view e.1) ≡ false → list_any (bytes_eq (name_of e)) (kid_names (members_view all)) ≡ false) es
+
+props_apart_from : (done more : List Entry) → IsStrictlySortedBy string_cmp (keys_of (done ++ more)) → PropsApart (done ++ more) more
+props_apart_from done [] sorted = tt
+props_apart_from done (e ∷ more) sorted =
+    let same : (done ++ e ∷ []) ++ more ≡ done ++ e ∷ more = append_assoc done (e ∷ []) more in
+    let rest = props_apart_from (done ++ e ∷ []) more (subst (λ (es : List Entry). IsStrictlySortedBy string_cmp (keys_of es)) (sym same) sorted) in
+    (no_kid_named done e more sorted, subst (λ (es : List Entry). PropsApart es more) same rest)
+
+pub props_apart : (es : List Entry) → IsStrictlySortedBy string_cmp (keys_of es) → PropsApart es es
+props_apart es sorted = props_apart_from [] es sorted

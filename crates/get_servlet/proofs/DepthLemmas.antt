@@ -113,7 +113,7 @@ same_at seen (suc low) (suc high) path res l h =
     ap (λ ms. object (members_before res.props ms))
     (members_same (kid_of seen path res) (json_at seen low) (json_at seen high) res.kids
     (λ name kid is. let below = kid_below seen path res name kid is in
-        same_at seen low high kid.path kid.res (omega (arith, below.longer, l)) (omega (arith, below.longer, h))))
+    same_at seen low high kid.path kid.res (omega (arith, below.longer, l)) (omega (arith, below.longer, h))))
 
 pub same_text : (seen : Seen) (depth : ℕ) (res : Res) → 64 ≤ depth → json_text seen depth res ≡ json_text seen 64 res
 unfolding json_text

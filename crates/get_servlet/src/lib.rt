@@ -4,6 +4,7 @@
 
 mod answer;
 mod kids;
+mod laws;
 mod measure;
 mod streams;
 #[cfg(test)]
@@ -12,4 +13,5 @@ mod writing;
 
 pub use answer::{Depth, JsonAnswer, json_of};
 pub use kids::Kid;
+pub use laws::sixty_four_levels_are_all;
 pub use streams::{Stream, stream_of};

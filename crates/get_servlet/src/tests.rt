@@ -119,54 +119,43 @@ fn kids_stand_in_their_order(rt: HostRuntime) -> Result<(), Failed> {
     Ok(())
 }
 
+// A node with so many kids.
+fn big_tree(alloc: Global, kids: u32) -> Result<Tree, Failed> {
+    let mut tree = Tree::new(alloc)?;
+    tree.create(alloc, &at(alloc, "/big")?)?;
+    for number in 0..kids {
+        let path = format!(in alloc; "/big/{number}")?;
+        tree.create(alloc, &at(alloc, path.as_str())?)?;
+    }
+    Ok(tree)
+}
+
 #[test]
 fn a_thousand_resources_are_the_most(rt: HostRuntime) -> Result<(), Failed> {
     let alloc = rt.alloc();
-    let mut tree = Tree::new(alloc)?;
-    tree.create(alloc, &at(alloc, "/big")?)?;
-    for number in 1000..1999 {
-        let path = format!(in alloc; "/big/k{number}")?;
-        tree.create(alloc, &at(alloc, path.as_str())?)?;
+    for (kids, levels, is_over) in [(999, 2, false), (1000, 1, false), (1000, 2, true)] {
+        let tree = big_tree(alloc, kids)?;
+        let text = json(alloc, &tree, "/big", Depth::Levels(levels))?;
+        assert_eq!(rt; text.as_str() == "over 1", is_over);
     }
-    assert_ne!(rt;
-        json(alloc, &tree, "/big", Depth::Levels(2))?.as_str(),
-        "over 1"
-    );
-    assert_eq!(rt;
-        json(alloc, &tree, "/", Depth::Levels(3))?.as_str(),
-        "over 1"
-    );
-    tree.create(alloc, &at(alloc, "/big/last")?)?;
-    assert_eq!(rt;
-        json(alloc, &tree, "/big", Depth::Levels(2))?.as_str(),
-        "over 1"
-    );
-    assert_eq!(rt;
-        json(alloc, &tree, "/big", Depth::Infinity)?.as_str(),
-        "over 1"
-    );
-    assert_ne!(rt;
-        json(alloc, &tree, "/big", Depth::Levels(1))?.as_str(),
-        "over 1"
-    );
     Ok(())
+}
+
+// The stream of a file whose content has such a type.
+fn stream_as(alloc: Global, kind: Value) -> Result<String, Failed> {
+    let mut tree = Tree::new(alloc)?;
+    let content = at(alloc, "/logo.txt/jcr:content")?;
+    tree.create(alloc, &at(alloc, "/logo.txt")?)?;
+    tree.create(alloc, &content)?;
+    let body = Value::Text(TextBuf::of(alloc, "hey")?);
+    tree.set(alloc, &content, "jcr:data", body)?;
+    tree.set(alloc, &content, "jcr:mimeType", kind)?;
+    stream(alloc, &tree, "/logo.txt")
 }
 
 #[test]
 fn a_file_is_a_stream(rt: HostRuntime) -> Result<(), Failed> {
     let alloc = rt.alloc();
-    let mut tree = Tree::new(alloc)?;
-    let content = at(alloc, "/logo.txt/jcr:content")?;
-    tree.create(alloc, &at(alloc, "/logo.txt")?)?;
-    assert_eq!(rt; stream(alloc, &tree, "/logo.txt")?.as_str(), "none");
-    tree.create(alloc, &content)?;
-    assert_eq!(rt; stream(alloc, &tree, "/logo.txt")?.as_str(), "none");
-    tree.set(
-        alloc,
-        &content,
-        "jcr:data",
-        Value::Text(TextBuf::of(alloc, "hey")?),
-    )?;
     for (kind, want) in [
         ("text/plain", "text/plain hey"),
         ("", "application/octet-stream hey"),
@@ -177,18 +166,12 @@ fn a_file_is_a_stream(rt: HostRuntime) -> Result<(), Failed> {
         ("~", "~ hey"),
         ("é", "application/octet-stream hey"),
     ] {
-        tree.set(
-            alloc,
-            &content,
-            "jcr:mimeType",
-            Value::Text(TextBuf::of(alloc, kind)?),
-        )?;
-        assert_eq!(rt; stream(alloc, &tree, "/logo.txt")?.as_str(), want);
+        let kind = Value::Text(TextBuf::of(alloc, kind)?);
+        assert_eq!(rt; stream_as(alloc, kind)?.as_str(), want);
     }
-    tree.set(alloc, &content, "jcr:mimeType", Value::Long(7))?;
-    assert_eq!(rt;
-        stream(alloc, &tree, "/logo.txt")?.as_str(),
-        "application/octet-stream hey"
-    );
+    let number = stream_as(alloc, Value::Long(7))?;
+    assert_eq!(rt; number.as_str(), "application/octet-stream hey");
+    let tree = small_tree(alloc)?;
+    assert_eq!(rt; stream(alloc, &tree, "/a")?.as_str(), "none");
     Ok(())
 }

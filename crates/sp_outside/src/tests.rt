@@ -93,13 +93,19 @@ impl Print for Printer {
         if writes == 2 {
             return Err(ErrorKind::Other.into());
         }
-        if writes == 3 { Ok(0) } else { Ok(bytes.len().min(1)) }
+        if writes == 3 {
+            Ok(0)
+        } else {
+            Ok(bytes.len().min(1))
+        }
     }
 }
 
 #[test]
 fn writes_for_real(rt: HostRuntime) -> Result<(), Fail> {
-    let mut sink = RealSink::new(Printer { writes: Cell::new(0) });
+    let mut sink = RealSink::new(Printer {
+        writes: Cell::new(0),
+    });
     assert_eq!(rt; sink.write(b"abc"), Ok(1));
     assert_eq!(rt; sink.write(b"bc"), Err(SinkFault::Failed));
     assert_eq!(rt; sink.write(b"bc"), Err(SinkFault::Failed));

@@ -8,7 +8,8 @@ returns-in_err-extend_from_slice-clause-taken g c =
     let text = c.loop-buffer.text.items in
     let part = take c.in-Ok.n c.read.new.into in
     let room = c.min-room.result in
-    let within : c.in-Ok.n ≤ length (take room c.loop-buffer.buffer) = c.in-Ok.ensures.within in
-    (text ++ part,
-    taken_more _ _ _ text part c.loop-buffer.invariant.read c.in-Ok.ensures.taken,
-    omega (arith, c.loop-buffer.invariant.most, within, length-append text part, length-take room c.loop-buffer.buffer, length-take c.in-Ok.n c.read.new.into))
+    let within : c.in-Ok.n ≤ length (take room c.loop-buffer.buffer) = c.in-Ok.ensures.within in (
+      text ++ part,
+      taken_more _ _ _ text part c.loop-buffer.invariant.read c.in-Ok.ensures.taken,
+      omega (arith, c.loop-buffer.invariant.most, within, length-append text part, length-take room c.loop-buffer.buffer, length-take c.in-Ok.n c.read.new.into),
+    )

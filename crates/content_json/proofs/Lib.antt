@@ -11,3 +11,4 @@ pub mod DistinctLemmas
 pub mod ChangeLemmas
 pub mod RoomLemmas
 pub mod SizeLemmas
+pub mod JoinLemmas

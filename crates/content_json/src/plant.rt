@@ -76,7 +76,7 @@ fn kids_of(alloc: Global, members: &Map<String, Value>) -> Mem<TextList>
 }
 
 // The path of a kid. Its name and the depth were looked at before.
-fn kid_path(alloc: Global, path: &Path, name: &str) -> Mem<Path>
+pub(crate) fn kid_path(alloc: Global, path: &Path, name: &str) -> Mem<Path>
     requires plain { is_plain name.now ≡ true }
     requires shallow { length path.now < 64 }
     ensures { IfOk result (λ found. found ≡ kid path.now name.now) }

@@ -1,6 +1,6 @@
 // The first fault of content: in an object its names, then `:order`, then its members in the order of
 // their names' bytes, each with all below it.
-ghost use Rattle.std.specs.Prelude.{◌≡◌, IfOk, IsTrue, false};
+ghost use Rattle.std.specs.Prelude.{◌≡◌, ◌∷◌, IfOk, IsTrue, false, take};
 ghost use Rattle.serde_json.specs.View.{view, members_view};
 ghost use Rattle.content_json.specs.Names.{has_bad_name, is_plain};
 ghost use Rattle.content_json.specs.Faults.{own_fault, fault_in, fault_below, in_member, here};
@@ -9,8 +9,9 @@ use crate::fault::{Cause, Found};
 use crate::kind::array_cause;
 use crate::names::{has_bad_name, is_order};
 use crate::order::has_good_order;
+use crate::plant::kid_path;
 use serde_json::{Map, Value};
-use sp_base::{Mem, NoMemory, Path};
+use sp_base::{Mem, NoMemory, Path, PathFault};
 use std::alloc::Global;
 
 fn here(alloc: Global, cause: Cause) -> Found
@@ -22,20 +23,39 @@ fn here(alloc: Global, cause: Cause) -> Found
     }
 }
 
+// The one fault that is left where a path may be made.
+fn want_of_memory(fault: PathFault) -> NoMemory
+    requires { fault ≡ PathFault.NoMemory }
+{
+    match fault {
+        PathFault::NoMemory => NoMemory,
+        _ => unreachable!(),
+    }
+}
+
+// A name, and behind it the first segments of a path, as many as fit.
+fn behind_name(alloc: Global, name: &str, path: &Path) -> Mem<Path>
+    requires { IsTrue (is_plain name.now) }
+    ensures { IfOk result (λ made. made ≡ take 64 (name.now ∷ path.now)) }
+{
+    let top = kid_path(alloc, &Path::root(alloc), name)?;
+    let rest = path.first(alloc, 63)?;
+    // `depth` says that these are segments of a path.
+    let _ = rest.depth();
+    match top.join(alloc, &rest) {
+        Ok(made) => Ok(made),
+        Err(fault) => Err(want_of_memory(fault)),
+    }
+}
+
 // The fault seen from the object that has it in its member of this name.
 fn in_member(alloc: Global, name: &str, found: &Found) -> Mem<Found>
     requires { IsTrue (is_plain name.now) }
     ensures { IfOk result (λ f. f ≡ in_member name.now found.now) }
 {
-    let Ok(top) = Path::root(alloc).child(alloc, name) else {
-        return Err(NoMemory);
-    };
-    let Ok(place) = top.join(alloc, &found.place.first(alloc, 63)?) else {
-        return Err(NoMemory);
-    };
     Ok(Found {
         cause: found.cause,
-        place,
+        place: behind_name(alloc, name, &found.place)?,
     })
 }
 

@@ -1,5 +1,5 @@
-ghost use Rattle.std.specs.Prelude.{◌≡◌, ℕ, List, Option, IfOk};
-ghost use Rattle.resource_tree.specs.declared.look.Res.{Res};
+ghost use Rattle.std.specs.Prelude.{◌≡◌, IfOk};
+ghost use Rattle.resource_tree.specs.Seen.{Seen};
 
 use crate::Tree;
 use sp_base::{Mem, Path, PropList, TextList};
@@ -16,7 +16,7 @@ pub struct Res {
 /// Looks resources up by their paths.
 pub trait Look {
     /// The resource at a path, if there is one.
-    ghost seen: { Self → List (List ℕ) → Option Res };
+    ghost seen: { Self → Seen };
 
     fn res(&self, alloc: Global, path: &Path) -> Mem<Option<Res>>
         ensures { IfOk result (λ o. o ≡ seen self.now path.now) };

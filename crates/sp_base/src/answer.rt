@@ -1,4 +1,4 @@
-use crate::{ByteBuf, TextBuf};
+use crate::{ByteBuf, Path, TextBuf};
 
 /// What a response says of caching, as the Cache-Control directive of its name (RFC 9111, section 5.2.2).
 #[derive(Clone, Copy, PartialEq, Eq, Debug, Drop)]
@@ -7,6 +7,23 @@ pub enum Mark {
     NoCache,
     NoStore,
     MustRevalidate,
+}
+
+/// A request as it is asked of the publisher.
+#[derive(Drop)]
+pub struct Ask {
+    /// The method as it was sent (RFC 9110, section 9.1: case counts).
+    pub method: TextBuf,
+    /// The host that is asked, without its port.
+    pub host: TextBuf,
+    pub port: u16,
+    /// The path of the target, decoded and unmangled.
+    pub path: Path,
+    /// Whether a slash at the path's end was dropped.
+    pub slash: bool,
+    /// The media type of the body, empty where there is none.
+    pub kind: TextBuf,
+    pub body: ByteBuf,
 }
 
 /// What a request is answered.

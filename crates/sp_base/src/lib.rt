@@ -15,7 +15,7 @@ mod text;
 mod typed;
 mod value;
 
-pub use answer::{Answer, Mark};
+pub use answer::{Answer, Ask, Mark};
 pub use bytes::ByteBuf;
 pub use hint::{Hint, HintKind, ValueFault};
 pub use items::{CallList, Items, LongList, NameList, PathList, TextList, TruthList};

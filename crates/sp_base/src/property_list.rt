@@ -1,7 +1,7 @@
 ghost use Rattle.std.specs.Prelude.{◌≡◌, ◌==◌, ◌<◌, ◌≤◌, [], ℕ, List, T, not, IfOk, IfErr, OnOk, OnErr, option_copied, option_map, is_some, slice_get, slice_get, length};
 ghost use Rattle.std.specs.FinMap.Entries.{put, find, is_sorted, where_key};
 ghost use Rattle.std.specs.Ordering.{eq_by_cmp};
-ghost use Rattle.sp_base.specs.Properties.{by_name, IsAt, IsGap};
+ghost use Rattle.sp_base.specs.Properties.{by_name, text_in, IsAt, IsGap};
 
 use crate::{Mem, TextBuf, Value};
 use std::alloc::Global;
@@ -56,6 +56,17 @@ impl PropList {
         match place_of(&self.props, name) {
             Ok(place) => Some(&self.props[place].1),
             Err(_) => None,
+        }
+    }
+
+    /// The text under a name, where the value there is one text.
+    #[tactic(auto, unfolding(crate::specs::Properties::text_in))]
+    pub fn text(&self, name: &str) -> Option<&TextBuf>
+        ensures { option_copied result ≡ text_in self.now name.now }
+    {
+        match self.get(name) {
+            Some(Value::Text(text)) => Some(text),
+            _ => None,
         }
     }
 

@@ -7,7 +7,8 @@ use json::Writer;
 use sp_base::{LongList, Mem, PropList, TextBuf, TextList, TruthList, Value};
 use std::alloc::{AllocError, Global};
 
-fn write_texts(writer: &mut Writer, texts: &TextList) -> Result<(), AllocError>
+/// Writes an array of texts. After want of memory some of it may be written.
+pub fn write_texts(writer: &mut Writer, texts: &TextList) -> Result<(), AllocError>
     ensures { OnOk result (Adds writer.old writer.new (json_tokens (array (items_of string texts.now)))) }
 {
     writer.begin_array()?;

@@ -57,6 +57,6 @@ write_node-returns t c =
     let ps = property_tokens node.props in
     subst (Adds old end) (sym (node_tokens tree path node c.requires.good c.requires.there))
     (more old begun end (Token.begin_object ∷ []) (ps ++ (os ++ (ks ++ last))) (token old begun Token.begin_object c.in_ok-begin_object.ensures.ok c.in_ok-begin_object.ensures.room.0)
-    (more begun mid end ps (os ++ (ks ++ last)) c.in_ok-write_properties.ensures
+    (more begun mid end ps (os ++ (ks ++ last)) c.in_ok-write_properties.ensures.tokens
     (more mid low end os (ks ++ last) c.in_ok-write_order.ensures
     (more low deep end ks last c.in_ok-write_kids.ensures (token deep end Token.end_object c.in_ok-end_object.ensures.ok c.in_ok-end_object.ensures.room.0)))))

@@ -13,7 +13,7 @@ choice path depth = path ++ codes "." ++ decimal depth ++ codes ".json"
 
 -- the targets of the depths from this one down to 0
 abbrev pub choices : List ℕ → ℕ → List (List ℕ)
-choices path most = map (choice path) (reverse (range_with_len 0 (most + 1)))
+choices path most = reverse (map (choice path) (range_with_len 0 (most + 1)))
 
 -- these as a JSON array
 unfoldable pub choices_text : List (List ℕ) → ℕ → List ℕ

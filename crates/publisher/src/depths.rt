@@ -1,21 +1,44 @@
 ghost use Rattle.std.specs.Prelude.{◌≡◌};
-ghost use Rattle.publisher.specs.Depths.{levels_named, depth_named, depth_of};
+ghost use Rattle.std.specs.Char.{is_ascii_digit};
+ghost use Rattle.std.specs.List.{list_all};
+ghost use Rattle.sp_base.specs.Typed.{are_digits};
+ghost use Rattle.publisher.specs.Depths.{is_depth, levels_named, depth_named, depth_of};
 
 use get_servlet::Depth;
 use sp_base::TextList;
 
-// The number that a selector spells: at most nine digits, the first of several no zero.
+fn all_digits(word: &str) -> bool
+    ensures { result ≡ list_all is_ascii_digit word.now }
+{
+    word.as_bytes().iter().all(|b| b.is_ascii_digit())
+}
+
+#[tactic(auto, using(crate::proofs::DepthLemmas::all_digits))]
+fn are_digits(word: &str) -> bool
+    ensures { result ≡ are_digits word.now }
+{
+    !word.is_empty() && all_digits(word)
+}
+
+// At most nine digits, the first of several no zero.
+fn is_depth(word: &str) -> bool
+    ensures { result ≡ is_depth word.now }
+{
+    if !are_digits(word) || word.len() > 9 {
+        return false;
+    }
+    word.len() == 1 || word.as_bytes()[0] != b'0'
+}
+
+// The number of levels that a selector spells.
 fn levels_named(word: &str) -> Option<u32>
     ensures { result ≡ levels_named word.now }
 {
-    let digits = word.as_bytes();
-    if digits.len() > 9 || !digits.iter().all(u8::is_ascii_digit) {
-        return None;
+    if is_depth(word) {
+        word.parse().ok()
+    } else {
+        None
     }
-    if digits.len() > 1 && digits[0] == b'0' {
-        return None;
-    }
-    word.parse().ok()
 }
 
 fn depth_named(word: &str) -> Option<Depth>

@@ -8,4 +8,4 @@ pub returns-in-Err : goal.returns-in-Err
 returns-in-Err c =
     let other : (c.args.status == 413) ≡ false = search rules in
     let no : IsStatusCode c.args.status → ⊥ = search rules in
-    sym (no_phrase c.args.status no other)
+    no_phrase c.args.status no other

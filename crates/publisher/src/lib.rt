@@ -4,6 +4,7 @@
 mod choices;
 mod depths;
 mod errors;
+mod laws;
 mod methods;
 mod pages;
 mod serving;
@@ -11,4 +12,5 @@ mod serving;
 mod tests;
 
 pub use errors::error_answer;
+pub use laws::{pages_fit, reads_depend_on_the_path};
 pub use serving::Publisher;

@@ -1,5 +1,5 @@
-use Rattle.std.proofs.Common.{◌≡◌, ◌+◌, ◌-◌, ◌≤◌, ◌++◌}
-use Rattle.publisher.specs.Choices.{choice, choices}
+use Rattle.std.proofs.Common.{◌≡◌, ◌++◌}
+use Rattle.publisher.specs.Choices.{choices}
 use Rattle.publisher.proofs.choices.choices.Given as goal
 
 abbrev pub invariant-loop-depth : goal.invariant-loop-depth

@@ -1,5 +1,5 @@
-use Rattle.std.proofs.Common.{rules, ◌≡◌, true, sym, refl, ◌∙◌, ap}
-use Rattle.publisher.specs.Depths.{is_depth, levels_named}
+use Rattle.std.proofs.Common.{rules, ◌≡◌, true, refl, ◌∙◌}
+use Rattle.publisher.specs.Depths.{is_depth}
 use Rattle.publisher.proofs.DepthLemmas.{depth_value}
 use Rattle.publisher.proofs.depths.levels_named.Goals as goal
 

@@ -1,7 +1,7 @@
 use Rattle.std.proofs.Common.{◌≡◌, ◌++◌, ◌∷◌, [], IfOk, sym, ◌∙◌, ap, subst, append_assoc}
 use Rattle.std.specs.Prelude.{codes, decimal}
 use Rattle.sp_base.specs.declared.answer.Mark.TheVariants.{Plain}
-use Rattle.publisher.specs.Errors.{answer_of, phrase_of, error_answer}
+use Rattle.publisher.specs.Errors.{answer_of, error_answer}
 use Rattle.publisher.proofs.errors.error_answer.Goals as goal
 
 pub returns : goal.returns

@@ -1,6 +1,5 @@
-use Rattle.std.proofs.Common.{rules, ◌≡◌, ◌==◌, false, sym}
+use Rattle.std.proofs.Common.{rules, ◌≡◌, ◌==◌, false}
 use Rattle.http.specs.StatusCode.{IsStatusCode}
-use Rattle.publisher.specs.Errors.{phrase_of}
 use Rattle.publisher.proofs.PhraseLemmas.{no_phrase}
 use Rattle.publisher.proofs.errors.phrase_of.Goals as goal
 

@@ -13,9 +13,10 @@ use Rattle.sp_base.specs.Paths.{is_empty, is_dots, is_long, pieces, fault_of, un
 use Rattle.sp_base.specs.declared.path.PathFault.{PathFault}
 use Rattle.sp_base.specs.declared.path.PathFault.TheVariants.{EmptySegment, DotSegment, TooDeep}
 use Rattle.resource_tree.specs.declared.look.Res.{Res}
+use Rattle.resource_tree.specs.Seen.{Seen}
 use Rattle.property_json.specs.PropertyJson.{members_before}
 use Rattle.get_servlet.specs.declared.kids.Kid.{Kid}
-use Rattle.get_servlet.specs.Rendering.{Seen, make_kid, kid_seen, kid_at, kid_of, kid_before, kid_members, json_at, json_text}
+use Rattle.get_servlet.specs.Rendering.{make_kid, kid_seen, kid_at, kid_of, kid_before, kid_members, json_at, json_text}
 
 -- ---- a path that was made has at most 64 segments
 

@@ -12,10 +12,11 @@ use Rattle.json.specs.Tree.{json_tokens, members_tokens}
 use Rattle.json.specs.Print.{print}
 use Rattle.json.specs.Written.{Written}
 use Rattle.resource_tree.specs.declared.look.Res.{Res}
+use Rattle.resource_tree.specs.Seen.{Seen}
 use Rattle.property_json.specs.PropertyJson.{Adds, property_tokens}
 use Rattle.property_json.proofs.ArrayLemmas.{members_are}
 use Rattle.get_servlet.specs.declared.kids.Kid.{Kid}
-use Rattle.get_servlet.specs.Rendering.{Seen, kid_of, kid_before, kid_members, json_at, json_text, kid_count, shown_at, shown, greatest_fitting, kid_tokens, kids_tokens, shown_below, left_of}
+use Rattle.get_servlet.specs.Rendering.{kid_of, kid_before, kid_members, json_at, json_text, kid_count, shown_at, shown, greatest_fitting, kid_tokens, kids_tokens, shown_below, left_of}
 use Rattle.get_servlet.specs.Answers.{IsOver}
 
 member_is : (name : List ℕ) (json : List (List ℕ) → Res → Json) (kid : Option Kid) (ms : Members)

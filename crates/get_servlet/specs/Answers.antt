@@ -1,11 +1,12 @@
 -- What a GET of a resource as JSON answers.
 use Rattle.std.specs.Prelude.{◌≡◌, ◌<◌, ◌≤◌, ◌||◌, ℕ, nat_le, if◌then◌else◌, List}
 use Rattle.resource_tree.specs.declared.look.Res.{Res}
+use Rattle.resource_tree.specs.Seen.{Seen}
 use Rattle.get_servlet.specs.declared.answer.Depth.{Depth}
 use Rattle.get_servlet.specs.declared.answer.Depth.TheVariants.{Levels, Infinity}
 use Rattle.get_servlet.specs.declared.answer.JsonAnswer.{JsonAnswer}
 use Rattle.get_servlet.specs.declared.answer.JsonAnswer.TheVariants.{Whole, Over}
-use Rattle.get_servlet.specs.Rendering.{Seen, json_text, shown, greatest_fitting}
+use Rattle.get_servlet.specs.Rendering.{json_text, shown, greatest_fitting}
 
 -- the levels that are asked for; a path has at most 64 segments, so 64 levels are all
 abbrev pub levels_of : Depth → ℕ

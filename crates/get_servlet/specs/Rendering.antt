@@ -1,5 +1,7 @@
 -- A resource as JSON: an object of its properties and then, above depth 0, its kids in their order at a depth one less.
-use Rattle.std.specs.Prelude.{◌+◌, ◌-◌, ◌∷◌, ℕ, zero, suc, nat_le, if◌then◌else◌, is_some, List, [], Option, Some, None, option_map, Result, Ok, Err, flat_map, sum_by}
+use Rattle.std.specs.Prelude.{◌+◌, ◌-◌, ◌∷◌, ℕ, Bool, zero, suc, nat_eq, nat_le, if◌then◌else◌, is_some, List, [], Option, Some, None, option_map, Result, Ok, Err, flat_map, sum_by}
+use Rattle.std.specs.List.{list_any}
+use Rattle.std.specs.Cmp.Lexicographic.{pointwise}
 use Rattle.std.specs.FinMap.Entries.{find}
 use Rattle.json.specs.Json.{Json, object, Members, no_members, member}
 use Rattle.json.specs.Token.{Token}
@@ -9,12 +11,9 @@ use Rattle.sp_base.specs.Names.{by_name}
 use Rattle.sp_base.specs.Paths.{child_of}
 use Rattle.sp_base.specs.declared.path.PathFault.{PathFault}
 use Rattle.resource_tree.specs.declared.look.Res.{Res}
+use Rattle.resource_tree.specs.Seen.{Seen}
 use Rattle.property_json.specs.PropertyJson.{members_before}
 use Rattle.get_servlet.specs.declared.kids.Kid.{Kid}
-
--- the resource at a path, if there is one
-abbrev pub Seen : Type 0
-Seen = List (List ℕ) → Option Res
 
 abbrev pub make_kid : List (List ℕ) → Res → Kid
 make_kid path res = record { path = path; res = res }
@@ -22,6 +21,10 @@ make_kid path res = record { path = path; res = res }
 abbrev pub kid_seen : Seen → Result (List (List ℕ)) PathFault → Option Kid
 kid_seen seen (Err e) = None
 kid_seen seen (Ok path) = option_map (make_kid path) (seen path)
+
+-- whether the list of kids has this name
+abbrev pub has_kid : Res → List ℕ → Bool
+has_kid res name = list_any (pointwise nat_eq name) res.kids
 
 -- what is seen at the path of a name
 unfoldable pub kid_at : Seen → List (List ℕ) → List ℕ → Option Kid

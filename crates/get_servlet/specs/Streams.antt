@@ -1,26 +1,13 @@
 -- The content of a resource that is a file.
-use Rattle.std.specs.Prelude.{◌==◌, ◌&&◌, ◌-◌, ℕ, Bool, not, nat_le, if◌then◌else◌, List, Option, Some, None, option_map, option_and_then, codes, length, slice_index}
+use Rattle.std.specs.Prelude.{◌==◌, ◌&&◌, ◌-◌, ℕ, Bool, not, nat_le, if◌then◌else◌, List, Option, Some, None, option_map, codes, length, slice_index}
 use Rattle.std.specs.List.{list_all}
-use Rattle.std.specs.FinMap.Entries.{find}
-use Rattle.sp_base.specs.Names.{by_name}
+use Rattle.sp_base.specs.Properties.{text_in}
 use Rattle.sp_base.specs.declared.value.Value.{Value}
-use Rattle.sp_base.specs.declared.value.Value.TheVariants.{Text, Long, Truth, Texts, Longs, Truths}
+use Rattle.resource_tree.specs.Seen.{Seen}
 use Rattle.resource_tree.specs.declared.look.Res.{Res}
 use Rattle.get_servlet.specs.declared.kids.Kid.{Kid}
 use Rattle.get_servlet.specs.declared.streams.Stream.{Stream}
-use Rattle.get_servlet.specs.Rendering.{Seen, kid_at}
-
-abbrev pub as_text : Value → Option (List ℕ)
-as_text (Text t) = Some t
-as_text (Long n) = None
-as_text (Truth b) = None
-as_text (Texts ts) = None
-as_text (Longs ns) = None
-as_text (Truths bs) = None
-
--- the text under a name
-unfoldable pub text_in : List (List ℕ × Value) → List ℕ → Option (List ℕ)
-text_in props name = option_and_then as_text (find by_name name props)
+use Rattle.get_servlet.specs.Rendering.{has_kid, kid_at}
 
 abbrev pub is_printable : List ℕ → Bool
 is_printable text = list_all (λ b. nat_le 32 b && nat_le b 126) text
@@ -46,6 +33,6 @@ abbrev pub kid_stream : Option Kid → Option Stream
 kid_stream None = None
 kid_stream (Some kid) = stream_in kid.res.props
 
--- the stream of the kid `jcr:content`
+-- the stream of the kid `jcr:content`, where the list of kids has it
 unfoldable pub stream_of : Seen → Res → Option Stream
-stream_of seen res = kid_stream (kid_at seen res.path (codes "jcr:content"))
+stream_of seen res = if has_kid res (codes "jcr:content") then kid_stream (kid_at seen res.path (codes "jcr:content")) else None

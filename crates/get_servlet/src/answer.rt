@@ -14,7 +14,7 @@ pub enum Depth {
     Infinity,
 }
 
-/// The JSON of a resource, or, where it would show more than 1,000 resources, the greatest depth to ask for instead.
+/// The JSON of a resource, or, where a text of more than one level would show more than 1,000 resources, the greatest depth to ask for instead.
 #[derive(Drop)]
 pub enum JsonAnswer {
     Whole(TextBuf),

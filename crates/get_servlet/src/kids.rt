@@ -1,6 +1,6 @@
 // The resources beneath a resource.
 ghost use Rattle.std.specs.Prelude.{◌≡◌, IfOk};
-ghost use Rattle.get_servlet.specs.Rendering.{kid_at, kid_of};
+ghost use Rattle.get_servlet.specs.Rendering.{kid_at, kid_of, has_kid};
 
 use resource_tree::{Look, Res};
 use sp_base::{Mem, NoMemory, Path, PathFault};
@@ -11,6 +11,13 @@ use std::alloc::Global;
 pub struct Kid {
     pub path: Path,
     pub res: Res,
+}
+
+/// Whether the resource's list of kids has a name.
+pub(crate) fn has_kid(res: &Res, name: &str) -> bool
+    ensures { result ≡ has_kid res.now name.now }
+{
+    res.kids.as_slice().iter().any(|kid| name == kid.text())
 }
 
 /// What is seen at the path of a name.

@@ -1,7 +1,8 @@
 //! A law of the definitions, on a function that does nothing.
 ghost use Rattle.std.specs.Prelude.{◌≡◌, ◌≤◌, ℕ};
 ghost use Rattle.resource_tree.specs.declared.look.Res.{Res};
-ghost use Rattle.get_servlet.specs.Rendering.{Seen, json_text};
+ghost use Rattle.resource_tree.specs.Seen.{Seen};
+ghost use Rattle.get_servlet.specs.Rendering.{json_text};
 
 /// A path has at most 64 segments, so whoever asks for more levels is shown no more.
 pub fn sixty_four_levels_are_all()

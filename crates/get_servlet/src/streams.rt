@@ -1,10 +1,10 @@
 ghost use Rattle.std.specs.Prelude.{◌≡◌, IfOk};
 ghost use Rattle.std.specs.Option.{option_copied};
-ghost use Rattle.get_servlet.specs.Streams.{text_in, is_printable, is_kind, kind_of, stream_of};
+ghost use Rattle.get_servlet.specs.Streams.{is_printable, is_kind, kind_of, stream_of};
 
-use crate::kids::kid_at;
+use crate::kids::{has_kid, kid_at};
 use resource_tree::{Look, Res};
-use sp_base::{Mem, PropList, TextBuf, Value};
+use sp_base::{Mem, TextBuf};
 use std::alloc::Global;
 
 /// The content of a file, and its media type.
@@ -12,17 +12,6 @@ use std::alloc::Global;
 pub struct Stream {
     pub kind: TextBuf,
     pub body: TextBuf,
-}
-
-// The text under a name.
-#[tactic(auto, unfolding(crate::specs::Streams::text_in))]
-fn text_in<'a>(props: &'a PropList, name: &str) -> Option<&'a TextBuf>
-    ensures { option_copied result ≡ text_in props.entry.now name.now }
-{
-    match props.get(name) {
-        Some(Value::Text(text)) => Some(text),
-        _ => None,
-    }
 }
 
 fn is_printable(text: &str) -> bool
@@ -57,15 +46,18 @@ fn kind_of(alloc: Global, text: Option<&TextBuf>) -> Mem<TextBuf>
 pub fn stream_of<L: Look>(alloc: Global, look: &L, res: &Res) -> Mem<Option<Stream>>
     ensures { IfOk result (λ stream. stream ≡ stream_of (L.seen look.now) res.now) }
 {
+    if !has_kid(res, "jcr:content") {
+        return Ok(None);
+    }
     let Some(content) = kid_at(alloc, look, &res.path, "jcr:content")? else {
         return Ok(None);
     };
     let props = &content.res.props;
-    let Some(body) = text_in(props, "jcr:data") else {
+    let Some(body) = props.text("jcr:data") else {
         return Ok(None);
     };
     Ok(Some(Stream {
-        kind: kind_of(alloc, text_in(props, "jcr:mimeType"))?,
+        kind: kind_of(alloc, props.text("jcr:mimeType"))?,
         body: body.duplicate(alloc)?,
     }))
 }

@@ -76,6 +76,19 @@ fn small_tree(alloc: Global) -> Result<Tree, Failed> {
     Ok(tree)
 }
 
+// A page with two properties.
+fn page_tree(alloc: Global) -> Result<Tree, Failed> {
+    let mut tree = Tree::new(alloc)?;
+    let page = at(alloc, "/content/en")?;
+    tree.create(alloc, &at(alloc, "/content")?)?;
+    tree.create(alloc, &page)?;
+    let title = Value::Text(TextBuf::of(alloc, "Hello")?);
+    tree.set(alloc, &page, "title", title)?;
+    let title = Value::Text(TextBuf::of(alloc, "Hi")?);
+    tree.set(alloc, &page, "jcr:title", title)?;
+    Ok(tree)
+}
+
 #[test]
 fn kids_stand_behind_the_properties(rt: HostRuntime) -> Result<(), Failed> {
     let alloc = rt.alloc();
@@ -95,6 +108,11 @@ fn kids_stand_behind_the_properties(rt: HostRuntime) -> Result<(), Failed> {
     assert_eq!(rt;
         json(alloc, &tree, "/a", Depth::Infinity)?.as_str(),
         "{\"n\":3,\"t\":[true],\"k\":{\"x\":\"y\"}}"
+    );
+    let page = page_tree(alloc)?;
+    assert_eq!(rt;
+        json(alloc, &page, "/content/en", Depth::Levels(0))?.as_str(),
+        "{\"jcr:title\":\"Hi\",\"title\":\"Hello\"}"
     );
     Ok(())
 }
@@ -119,36 +137,56 @@ fn kids_stand_in_their_order(rt: HostRuntime) -> Result<(), Failed> {
     Ok(())
 }
 
-// A node with so many kids.
+// A node two levels down, with so many kids.
 fn big_tree(alloc: Global, kids: u32) -> Result<Tree, Failed> {
     let mut tree = Tree::new(alloc)?;
-    tree.create(alloc, &at(alloc, "/big")?)?;
+    tree.create(alloc, &at(alloc, "/a")?)?;
+    tree.create(alloc, &at(alloc, "/a/big")?)?;
     for number in 0..kids {
-        let path = format!(in alloc; "/big/{number}")?;
+        let path = format!(in alloc; "/a/big/{number}")?;
         tree.create(alloc, &at(alloc, path.as_str())?)?;
     }
     Ok(tree)
 }
 
+// The depth to ask for instead, or `whole` for any text.
+fn size(alloc: Global, tree: &Tree, path: &str, depth: Depth) -> Result<String, Failed> {
+    let text = json(alloc, tree, path, depth)?;
+    if text.starts_with("over") {
+        Ok(text)
+    } else {
+        Ok(String::from_str(alloc, "whole")?)
+    }
+}
+
 #[test]
 fn a_thousand_resources_are_the_most(rt: HostRuntime) -> Result<(), Failed> {
     let alloc = rt.alloc();
-    for (kids, levels, is_over) in [(999, 2, false), (1000, 1, false), (1000, 2, true)] {
+    for (kids, path, depth, want) in [
+        (999, "/a/big", Depth::Levels(2), "whole"),
+        (1000, "/a/big", Depth::Levels(1), "whole"),
+        (1000, "/a/big", Depth::Levels(2), "over 1"),
+        (1000, "/", Depth::Levels(2), "whole"),
+        (1000, "/", Depth::Levels(3), "over 2"),
+        (1000, "/", Depth::Infinity, "over 2"),
+    ] {
         let tree = big_tree(alloc, kids)?;
-        let text = json(alloc, &tree, "/big", Depth::Levels(levels))?;
-        assert_eq!(rt; text.as_str() == "over 1", is_over);
+        assert_eq!(rt; size(alloc, &tree, path, depth)?.as_str(), want);
     }
     Ok(())
 }
 
-// The stream of a file whose content has such a type.
-fn stream_as(alloc: Global, kind: Value) -> Result<String, Failed> {
+fn hey(alloc: Global) -> Result<Value, Failed> {
+    Ok(Value::Text(TextBuf::of(alloc, "hey")?))
+}
+
+// The stream of a file whose content has this data and this type.
+fn stream_as(alloc: Global, data: Value, kind: Value) -> Result<String, Failed> {
     let mut tree = Tree::new(alloc)?;
     let content = at(alloc, "/logo.txt/jcr:content")?;
     tree.create(alloc, &at(alloc, "/logo.txt")?)?;
     tree.create(alloc, &content)?;
-    let body = Value::Text(TextBuf::of(alloc, "hey")?);
-    tree.set(alloc, &content, "jcr:data", body)?;
+    tree.set(alloc, &content, "jcr:data", data)?;
     tree.set(alloc, &content, "jcr:mimeType", kind)?;
     stream(alloc, &tree, "/logo.txt")
 }
@@ -165,12 +203,22 @@ fn a_file_is_a_stream(rt: HostRuntime) -> Result<(), Failed> {
         ("a\nb", "application/octet-stream hey"),
         ("~", "~ hey"),
         ("é", "application/octet-stream hey"),
+        (
+            "abcdefghijklmnopqrstuvwxyzabcdefghijklmnopqrstuvwxabcdefghijklmnopqrstuvwxyzabcdefghijklmnopqrstuvwx",
+            "abcdefghijklmnopqrstuvwxyzabcdefghijklmnopqrstuvwxabcdefghijklmnopqrstuvwxyzabcdefghijklmnopqrstuvwx hey",
+        ),
+        (
+            "abcdefghijklmnopqrstuvwxyzabcdefghijklmnopqrstuvwxabcdefghijklmnopqrstuvwxyzabcdefghijklmnopqrstuvwxc",
+            "application/octet-stream hey",
+        ),
     ] {
         let kind = Value::Text(TextBuf::of(alloc, kind)?);
-        assert_eq!(rt; stream_as(alloc, kind)?.as_str(), want);
+        assert_eq!(rt; stream_as(alloc, hey(alloc)?, kind)?.as_str(), want);
     }
-    let number = stream_as(alloc, Value::Long(7))?;
+    let number = stream_as(alloc, hey(alloc)?, Value::Long(7))?;
     assert_eq!(rt; number.as_str(), "application/octet-stream hey");
+    let none = stream_as(alloc, Value::Long(7), hey(alloc)?)?;
+    assert_eq!(rt; none.as_str(), "none");
     let tree = small_tree(alloc)?;
     assert_eq!(rt; stream(alloc, &tree, "/a")?.as_str(), "none");
     Ok(())

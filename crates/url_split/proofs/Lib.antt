@@ -1,1 +1,2 @@
 pub mod SplitLemmas
+pub mod ValueLemmas

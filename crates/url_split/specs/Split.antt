@@ -1,6 +1,8 @@
-use Rattle.std.specs.Prelude.{◌≡◌, ◌==◌, ◌<◌, ◌⊎◌, ◌-◌, ℕ, Bool, true, not, List, [], ◌∷◌, Option, Some, None, Ok, drop, take, length, filter, slice_index, slice_index_or}
+use Rattle.std.specs.Prelude.{◌≡◌, ◌==◌, ◌<◌, ◌⊎◌, ◌-◌, ◌||◌, ℕ, zero, suc, Bool, true, not, if◌then◌else◌, List, [], ◌∷◌, Option, Some, None, option_map, Result, Ok, Err, drop, take, length, filter, slice_index, slice_index_or}
+use Rattle.std.specs.Option.{option_or}
 use Rattle.std.specs.List.{slice_split, before_first}
 use Rattle.sp_base.specs.Paths.{path_of}
+use Rattle.sp_base.specs.declared.path.PathFault.{PathFault}
 use Rattle.url_split.specs.declared.decompose.Parts.{Parts}
 
 -- A text may be cut at its end and before each of its dots.
@@ -52,6 +54,33 @@ pub record IsSplit (known : List (List ℕ) → Bool) (text : List ℕ) (parts :
 -- no front leads to a known path
 abbrev pub IsLost : (List (List ℕ) → Bool) → List ℕ → Type 0
 IsLost known text = (k : ℕ) (path : List (List ℕ)) → Leads known text k path → ⊥
+
+-- The same as one answer: of the decompositions at the cuts of a text the one at the last cut.
+
+-- the resource path that a text names, where it is known
+abbrev pub known_one : (List (List ℕ) → Bool) → Result (List (List ℕ)) PathFault → Option (List (List ℕ))
+known_one known (Ok path) = if known path then Some path else None
+known_one known (Err fault) = None
+
+-- a text may be cut here
+abbrev pub is_cut : List ℕ → ℕ → Bool
+is_cut text at = at == length text || slice_index text at == 46
+
+-- the resource path that ends at a place
+abbrev pub path_to : (List (List ℕ) → Bool) → List ℕ → ℕ → Option (List (List ℕ))
+path_to known text at = if is_cut text at then known_one known (path_of (take at text)) else None
+
+-- a resource path, and the parts behind it
+abbrev pub parts_at : List ℕ → ℕ → List (List ℕ) → Parts
+parts_at text at path = record { path = path; selectors = selectors_of (drop at text); extension = extension_of (drop at text); suffix = suffix_of (drop at text) }
+
+-- what a function gives at the greatest number below this one at which it gives something
+abbrev pub at_greatest : {A : Type 0} → (ℕ → Option A) → ℕ → Option A
+at_greatest f zero = None
+at_greatest f (suc n) = option_or (f n) (at_greatest f n)
+
+unfoldable pub split_of : (List (List ℕ) → Bool) → List ℕ → Option Parts
+split_of known text = at_greatest (λ at. option_map (parts_at text at) (path_to known text at)) (suc (length text))
 
 -- nothing, or a text that begins with a dot
 abbrev pub IsBehind : List ℕ → Type 0

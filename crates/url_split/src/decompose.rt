@@ -1,6 +1,6 @@
 ghost use Rattle.std.specs.Prelude.{◌≡◌, ◌++◌, ◌∷◌, [], map, filter, not, ◌==◌, length, IfOk, IfSome, IfNone};
 ghost use Rattle.std.specs.List.{slice_split, before_first};
-ghost use Rattle.url_split.specs.Split.{IsSplit, IsLost, IsReading, IsBehind, is_dot, is_slash, selectors_of, extension_of, suffix_of};
+ghost use Rattle.url_split.specs.Split.{IsSplit, IsLost, split_of, IsReading, IsBehind, is_dot, is_slash, selectors_of, extension_of, suffix_of};
 
 use crate::Known;
 use sp_base::{Mem, NoMemory, Path, PathFault, TextBuf, TextList};
@@ -24,6 +24,7 @@ pub struct Parts {
 pub fn split<K: Known>(alloc: Global, known: &K, text: &str) -> Mem<Option<Parts>>
     ensures some { IfOk result (λ o. IfSome o (λ parts. IsSplit (K.known known.now) text.now parts)) }
     ensures none { IfOk result (λ o. IfNone o (IsLost (K.known known.now) text.now)) }
+    ensures value { IfOk result (λ o. o ≡ split_of (K.known known.now) text.now) }
 {
     let mut front = text;
     loop {

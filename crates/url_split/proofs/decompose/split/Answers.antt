@@ -1,8 +1,9 @@
-use Rattle.std.proofs.Common.{◌≡◌, ◌-◌, ◌≤◌, Some, None, lit<, take, length, sym, ◌∙◌, ap, subst, arith}
+use Rattle.std.proofs.Common.{rules, ◌≡◌, ◌-◌, ◌≤◌, Some, None, lit<, take, length, sym, ◌∙◌, ap, subst, arith}
 use Rattle.std.proofs.lemmas.List.{take-take, length-take}
 use Rattle.std.proofs.lemmas.Str.Pattern.{rfind_char}
-use Rattle.url_split.specs.Split.{IsReading, IsCut}
+use Rattle.url_split.specs.Split.{IsReading, IsCut, IsSplit}
 use Rattle.url_split.proofs.SplitLemmas.{next_cut, passed_more, lost}
+use Rattle.url_split.proofs.ValueLemmas.{split_value, lost_value}
 use Rattle.url_split.proofs.decompose.split.Goals as goal
 
 pub loop-path-preserved : goal.loop-path-preserved
@@ -34,3 +35,17 @@ returns-in-None-clause-none g c =
     let inv = c.loop-path.invariant in
     let h = rfind_char 46 c.loop-path.front.now None c.in-None.ensures.cases (lit< tt) in
     lost known c.args.text.now c.loop-path.front.now inv.front inv.within inv.passed (subst (IsReading known c.loop-path.front.now) c.in_default.is c.in_ok-path.ensures) h
+
+pub returns-in-None-clause-value : goal.returns-in-None-clause-value
+returns-in-None-clause-value g c =
+    let known = g.K.Known.known c.args.known.now in
+    let inv = c.loop-path.invariant in
+    let h = rfind_char 46 c.loop-path.front.now None c.in-None.ensures.cases (lit< tt) in
+    lost_value known c.args.text.now
+    (lost known c.args.text.now c.loop-path.front.now inv.front inv.within inv.passed (subst (IsReading known c.loop-path.front.now) c.in_default.is c.in_ok-path.ensures) h)
+
+pub returns-in-Some-clause-value : goal.returns-in-Some-clause-value
+returns-in-Some-clause-value g c =
+    let known = g.K.Known.known c.args.known.now in
+    let split : IsSplit known c.args.text.now c.in_ok-parts_behind.field-0 = search rules in
+    split_value known c.args.text.now c.in_ok-parts_behind.field-0 split

@@ -1,0 +1,4 @@
+pub mod PhraseLemmas
+pub mod DepthLemmas
+pub mod ChoiceLemmas
+pub mod RenderingLemmas

@@ -1,0 +1,83 @@
+-- What every answer has, and what an answer depends on.
+use Rattle.std.proofs.Common.{◌≡◌, ◌≢◌, ◌≤◌, ℕ, Bool, true, false, cond, List, Option, Some, None, length, nat_le, refl, sym, ◌∙◌, ap, arith}
+use Rattle.std.proofs.lemmas.Bool.Decides.{nat_tests}
+use Rattle.sp_base.specs.Paths.{text_of}
+use Rattle.sp_base.specs.declared.answer.Answer.{Answer}
+use Rattle.sp_base.specs.declared.answer.Ask.{Ask}
+use Rattle.sp_base.specs.declared.answer.Mark.{Mark}
+use Rattle.resource_tree.specs.declared.look.Res.{Res}
+use Rattle.resource_tree.specs.Content.{Content}
+use Rattle.resource_tree.specs.Seen.{Seen, res_at}
+use Rattle.url_split.specs.declared.decompose.Parts.{Parts}
+use Rattle.url_split.specs.Split.{split_of}
+use Rattle.get_servlet.specs.declared.answer.Depth.{Depth}
+use Rattle.get_servlet.specs.declared.answer.JsonAnswer.{JsonAnswer}
+use Rattle.get_servlet.specs.declared.answer.JsonAnswer.TheVariants.{Whole, Over}
+use Rattle.get_servlet.specs.declared.streams.Stream.{Stream}
+use Rattle.get_servlet.specs.Answers.{levels_of, json_answer}
+use Rattle.get_servlet.specs.Streams.{stream_of}
+use Rattle.publisher.specs.Errors.{answer_of, error_answer}
+use Rattle.publisher.specs.Depths.{depth_of}
+use Rattle.publisher.specs.Rendering.{is_read, mark_of, page_of, json_page, json_at, file_page, is_json, is_bare, resource_answer, seen_answer, found_answer, has_node, rendered}
+
+-- ---- a page isn't too long
+
+abbrev Fits : Answer → Type 0
+Fits a = a.status ≡ 200 → length a.body ≤ 4194304
+
+error_fits : (status : ℕ) → status ≢ 200 → Fits (error_answer status)
+unfolding error_answer
+error_fits status other e = absurd (other e)
+
+either : (b : Bool) (x y : Answer) → Fits x → Fits y → Fits (cond b x y)
+either true x y p q = p
+either false x y p q = q
+
+page_by : (b : Bool) (kind : List ℕ) (mark : Mark) (body : List ℕ) → nat_le (length body) 4194304 ≡ b → Fits (cond b (answer_of 200 kind mark body) (error_answer 500))
+page_by true kind mark body small e = grind (arith, nat_tests)
+page_by false kind mark body small e = error_fits 500 (λ h. absurd (omega (arith, h))) e
+
+page_fits : (kind : List ℕ) (mark : Mark) (body : List ℕ) → Fits (page_of kind mark body)
+page_fits kind mark body = page_by (nat_le (length body) 4194304) kind mark body refl
+
+json_fits : (res : Res) (answer : JsonAnswer) → Fits (json_page res answer)
+json_fits res (Whole text) = page_fits _ (mark_of res) text
+json_fits res (Over most) = λ e. absurd (omega (arith, e))
+
+depth_fits : (seen : Seen) (res : Res) (depth : Option Depth) → Fits (json_at seen res depth)
+depth_fits seen res None = error_fits 400 (λ h. absurd (omega (arith, h)))
+depth_fits seen res (Some depth) = json_fits res (json_answer seen res (levels_of depth))
+
+missing_fits : Fits (error_answer 404)
+missing_fits = error_fits 404 (λ h. absurd (omega (arith, h)))
+
+file_fits : (res : Res) (stream : Option Stream) → Fits (file_page res stream)
+file_fits res None = missing_fits
+file_fits res (Some stream) = page_fits stream.kind (mark_of res) stream.body
+
+resource_fits : (seen : Seen) (parts : Parts) (res : Res) → Fits (resource_answer seen parts res)
+resource_fits seen parts res =
+    either (is_json parts.extension) _ _ (depth_fits seen res (depth_of parts.selectors))
+    (either (is_bare parts) _ _ (file_fits res (stream_of seen res)) missing_fits)
+
+seen_fits : (seen : Seen) (parts : Parts) (res : Option Res) → Fits (seen_answer seen parts res)
+seen_fits seen parts None = missing_fits
+seen_fits seen parts (Some res) = resource_fits seen parts res
+
+found_fits : (seen : Seen) (parts : Option Parts) → Fits (found_answer seen parts)
+found_fits seen None = missing_fits
+found_fits seen (Some parts) = seen_fits seen parts (seen parts.path)
+
+pub rendered_fits : (tree : Content) (ask : Ask) → (rendered tree ask).status ≡ 200 → length (rendered tree ask).body ≤ 4194304
+unfolding rendered
+rendered_fits tree ask =
+    either (is_read ask.method) _ _ (found_fits (res_at tree) (split_of (has_node tree) (text_of ask.path)))
+    (error_fits 405 (λ h. absurd (omega (arith, h))))
+
+-- ---- the path alone counts
+
+pub same_reading : (tree : Content) (a b : Ask) → is_read a.method ≡ true → is_read b.method ≡ true → a.path ≡ b.path → rendered tree a ≡ rendered tree b
+unfolding rendered
+same_reading tree a b first second same =
+    let page = λ (path : List (List ℕ)). found_answer (res_at tree) (split_of (has_node tree) (text_of path)) in
+    ap (λ t. cond t (page a.path) (error_answer 405)) first ∙ ap page same ∙ sym (ap (λ t. cond t (page b.path) (error_answer 405)) second)

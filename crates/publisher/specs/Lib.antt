@@ -1,0 +1,4 @@
+pub mod Errors
+pub mod Depths
+pub mod Choices
+pub mod Rendering

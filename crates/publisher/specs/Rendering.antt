@@ -1,0 +1,92 @@
+-- What the publisher answers: the first of these that applies.
+use Rattle.std.specs.Prelude.{◌==◌, ◌&&◌, ◌||◌, ℕ, Bool, nat_eq, nat_le, if◌then◌else◌, is_some, List, Option, Some, None, codes, length}
+use Rattle.std.specs.Cmp.Lexicographic.{pointwise}
+use Rattle.sp_base.specs.Paths.{text_of}
+use Rattle.sp_base.specs.Properties.{text_in}
+use Rattle.sp_base.specs.declared.answer.Answer.{Answer}
+use Rattle.sp_base.specs.declared.answer.Ask.{Ask}
+use Rattle.sp_base.specs.declared.answer.Mark.{Mark}
+use Rattle.sp_base.specs.declared.answer.Mark.TheVariants.{Plain, NoCache, NoStore, MustRevalidate}
+use Rattle.resource_tree.specs.declared.look.Res.{Res}
+use Rattle.resource_tree.specs.Content.{Content, node_at}
+use Rattle.resource_tree.specs.Seen.{Seen, res_at}
+use Rattle.url_split.specs.declared.decompose.Parts.{Parts}
+use Rattle.url_split.specs.Split.{split_of}
+use Rattle.get_servlet.specs.declared.answer.Depth.{Depth}
+use Rattle.get_servlet.specs.declared.answer.JsonAnswer.{JsonAnswer}
+use Rattle.get_servlet.specs.declared.answer.JsonAnswer.TheVariants.{Whole, Over}
+use Rattle.get_servlet.specs.declared.streams.Stream.{Stream}
+use Rattle.get_servlet.specs.Answers.{levels_of, json_answer}
+use Rattle.get_servlet.specs.Streams.{stream_of}
+use Rattle.publisher.specs.Errors.{answer_of, error_answer}
+use Rattle.publisher.specs.Depths.{depth_of}
+use Rattle.publisher.specs.Choices.{choices_text}
+
+-- the method asks for a representation (RFC 9110, sections 9.3.1 and 9.3.2)
+abbrev pub is_read : List ℕ → Bool
+is_read method = pointwise nat_eq method (codes "GET") || pointwise nat_eq method (codes "HEAD")
+
+-- the mark of a name, which is that of a Cache-Control directive
+abbrev pub mark_named : List ℕ → Mark
+mark_named name = if pointwise nat_eq name (codes "no-cache") then NoCache
+    else (if pointwise nat_eq name (codes "no-store") then NoStore
+    else (if pointwise nat_eq name (codes "must-revalidate") then MustRevalidate else Plain))
+
+abbrev pub mark_in : Option (List ℕ) → Mark
+mark_in None = Plain
+mark_in (Some name) = mark_named name
+
+-- the mark that a resource has of its text property `sp:mark`
+abbrev pub mark_of : Res → Mark
+mark_of res = mark_in (text_in res.props (codes "sp:mark"))
+
+-- a representation of at most 4,194,304 bytes; a longer one is an error
+abbrev pub page_of : List ℕ → Mark → List ℕ → Answer
+page_of kind mark body = if nat_le (length body) 4194304 then answer_of 200 kind mark body else error_answer 500
+
+abbrev pub json_kind : List ℕ
+json_kind = codes "application/json;charset=utf-8"
+
+-- the JSON text, or the targets that may be asked for instead
+abbrev pub json_page : Res → JsonAnswer → Answer
+json_page res (Whole text) = page_of json_kind (mark_of res) text
+json_page res (Over most) = answer_of 300 json_kind Plain (choices_text res.path most)
+
+-- a resource as JSON at the depth that is asked for, if one is
+abbrev pub json_at : Seen → Res → Option Depth → Answer
+json_at seen res None = error_answer 400
+json_at seen res (Some depth) = json_page res (json_answer seen res (levels_of depth))
+
+-- the content of a file
+abbrev pub file_page : Res → Option Stream → Answer
+file_page res None = error_answer 404
+file_page res (Some stream) = page_of stream.kind (mark_of res) stream.body
+
+abbrev pub is_json : List ℕ → Bool
+is_json extension = pointwise nat_eq extension (codes "json")
+
+-- the URL names the resource and nothing else
+abbrev pub is_bare : Parts → Bool
+is_bare parts = length parts.selectors == 0 && (length parts.extension == 0 && length parts.suffix == 0)
+
+-- the answer of a resource: with the extension `json` its JSON, without extension, selectors and suffix its stream
+abbrev pub resource_answer : Seen → Parts → Res → Answer
+resource_answer seen parts res = if is_json parts.extension then json_at seen res (depth_of parts.selectors)
+    else (if is_bare parts then file_page res (stream_of seen res) else error_answer 404)
+
+abbrev pub seen_answer : Seen → Parts → Option Res → Answer
+seen_answer seen parts None = error_answer 404
+seen_answer seen parts (Some res) = resource_answer seen parts res
+
+-- the answer to a path that was taken apart, if it names a resource
+abbrev pub found_answer : Seen → Option Parts → Answer
+found_answer seen None = error_answer 404
+found_answer seen (Some parts) = seen_answer seen parts (seen parts.path)
+
+-- the tree has a node at the path
+abbrev pub has_node : Content → List (List ℕ) → Bool
+has_node tree path = is_some (node_at tree path)
+
+-- the answer to a request: another method than GET and HEAD isn't allowed; else the text of the path is taken apart
+unfoldable pub rendered : Content → Ask → Answer
+rendered tree ask = if is_read ask.method then found_answer (res_at tree) (split_of (has_node tree) (text_of ask.path)) else error_answer 405

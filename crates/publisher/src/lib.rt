@@ -1,0 +1,16 @@
+//! The publisher: what a request is answered on a content tree (Apache Sling, "Rendering content, default GET servlets").
+#![tactic(auto)]
+
+mod choices;
+mod depths;
+mod errors;
+mod laws;
+mod methods;
+mod pages;
+mod serving;
+#[cfg(test)]
+mod tests;
+
+pub use errors::error_answer;
+pub use laws::{pages_fit, reads_depend_on_the_path};
+pub use serving::Publisher;

@@ -1,0 +1,89 @@
+// The answers of a resource.
+ghost use Rattle.std.specs.Prelude.{◌≡◌, IfOk};
+ghost use Rattle.get_servlet.specs.Streams.{stream_of};
+ghost use Rattle.publisher.specs.Depths.{depth_of};
+ghost use Rattle.publisher.specs.Rendering.{page_of, json_page, json_at, file_page, is_bare, is_json, resource_answer};
+
+use crate::choices::choices_text;
+use crate::depths::depth_of;
+use crate::errors::{answer_of, error_answer};
+use crate::methods::mark_of;
+use get_servlet::{JsonAnswer, Stream, json_of, stream_of};
+use resource_tree::{Look, Res};
+use sp_base::{Answer, ByteBuf, Mark, Mem, TextBuf};
+use std::alloc::Global;
+use url_split::Parts;
+
+/// The most bytes of a representation.
+const MOST_BYTES: usize = 4_194_304;
+
+const JSON_KIND: &str = "application/json;charset=utf-8";
+
+// A representation, or an error where it is too long.
+fn page_of(alloc: Global, kind: &str, mark: Mark, body: TextBuf) -> Mem<Answer>
+    ensures { IfOk result (λ a. a ≡ page_of kind.now mark body) }
+{
+    if body.text().len() > MOST_BYTES {
+        return error_answer(alloc, 500);
+    }
+    answer_of(alloc, 200, kind, mark, ByteBuf::from(body))
+}
+
+fn json_page(alloc: Global, res: &Res, answer: JsonAnswer) -> Mem<Answer>
+    ensures { IfOk result (λ a. a ≡ json_page res.now answer) }
+{
+    match answer {
+        JsonAnswer::Whole(text) => page_of(alloc, JSON_KIND, mark_of(res), text),
+        JsonAnswer::Over(most) => {
+            let choices = choices_text(alloc, &res.path, most)?;
+            answer_of(alloc, 300, JSON_KIND, Mark::Plain, ByteBuf::from(choices))
+        }
+    }
+}
+
+// The resource as JSON, to the depth that the selectors ask for.
+fn json_at<L: Look>(alloc: Global, look: &L, parts: &Parts, res: &Res) -> Mem<Answer>
+    ensures { IfOk result (λ a. a ≡ json_at (L.seen look.now) res.now (depth_of parts.now.selectors)) }
+{
+    let Some(depth) = depth_of(&parts.selectors) else {
+        return error_answer(alloc, 400);
+    };
+    json_page(alloc, res, json_of(alloc, look, res, depth)?)
+}
+
+fn file_page<L: Look>(alloc: Global, look: &L, res: &Res) -> Mem<Answer>
+    ensures { IfOk result (λ a. a ≡ file_page res.now (stream_of (L.seen look.now) res.now)) }
+{
+    let Some(stream) = stream_of(alloc, look, res)? else {
+        return error_answer(alloc, 404);
+    };
+    let Stream { kind, body } = stream;
+    page_of(alloc, kind.text(), mark_of(res), body)
+}
+
+// Whether the URL names the resource and nothing else.
+fn is_bare(parts: &Parts) -> bool
+    ensures { result ≡ is_bare parts.now }
+{
+    parts.selectors.is_empty()
+        && parts.extension.text().is_empty()
+        && parts.suffix.text().is_empty()
+}
+
+/// The answer of a resource that the parts of a URL name.
+pub(crate) fn resource_answer<L: Look>(
+    alloc: Global,
+    look: &L,
+    parts: &Parts,
+    res: &Res,
+) -> Mem<Answer>
+    ensures { IfOk result (λ a. a ≡ resource_answer (L.seen look.now) parts.now res.now) }
+{
+    if parts.extension.text() == "json" {
+        return json_at(alloc, look, parts, res);
+    }
+    if is_bare(parts) {
+        return file_page(alloc, look, res);
+    }
+    error_answer(alloc, 404)
+}

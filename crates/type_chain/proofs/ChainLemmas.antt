@@ -16,7 +16,7 @@ fresh seen (type ∷ types) = cond (has_type type seen) [] (type ∷ fresh (seen
 take_one_more : (n : ℕ) (x : TypeName) (xs : List TypeName) → take (1 + n) (x ∷ xs) ≡ x ∷ take n xs
 take_one_more n x xs = let e : 1 + n ≡ suc n = omega arith in ap (λ k. take k (x ∷ xs)) e
 
-before-cons : (p : TypeName → Bool) (x : TypeName) (xs : List TypeName) → before_first p (x ∷ xs) ≡ cond (p x) [] (x ∷ before_first p xs)
+pub before-cons : (p : TypeName → Bool) (x : TypeName) (xs : List TypeName) → before_first p (x ∷ xs) ≡ cond (p x) [] (x ∷ before_first p xs)
 before-cons p x xs =
     elim (p x) as (λ t. take (cond (not t) (1 + position_or_len p xs) 0) (x ∷ xs) ≡ cond t [] (x ∷ before_first p xs)) [
       | true ↦ refl

@@ -6,12 +6,11 @@ use Rattle.content_json.specs.declared.fault.ContentFault.{ContentFault}
 use Rattle.content_json.specs.declared.fault.ContentFault.TheVariants.{NoMemory as no_memory}
 use Rattle.sling_dispatch.specs.Languages.{IsRefusedWithin}
 use Rattle.sling_dispatch.specs.Scenario.{IsScenario, Reads, most}
-use Rattle.sling_dispatch.specs.Targets.{all_built}
-use Rattle.sling_dispatch.specs.Endings.{Seen, Call, IsDueIn, IsDueOf, IsContentOr, HasContent, IsRunOf, Writing, Nothing, UsageLine, SourceLine, RefusalLine, ContentLine, NotBuiltLine, Events, text_of, Wrote, Means, Tells, IsDue, IsDueAt, IsReplay, IsCalm}
+use Rattle.sling_dispatch.specs.Endings.{Seen, Call, IsDueIn, IsDueOf, IsContentOr, HasContent, IsRunOf, Writing, Nothing, UsageLine, SourceLine, RefusalLine, ContentLine, Events, text_of, Wrote, Means, Tells, IsDue, IsDueAt, IsReplay, IsCalm}
 use Rattle.sling_dispatch.specs.declared.scenario.Scenario.{Scenario}
 use Rattle.sling_dispatch.proofs.Writing.{added-nothing}
 use Rattle.sling_dispatch.specs.declared.ending.Ending.{Ending}
-use Rattle.sling_dispatch.specs.declared.ending.Ending.TheVariants.{Done, Usage, SourceFailed, SinkFailed, Refused, ContentRefused, NotBuilt, NoMemory}
+use Rattle.sling_dispatch.specs.declared.ending.Ending.TheVariants.{Done, Usage, SourceFailed, SinkFailed, Refused, ContentRefused, NoMemory}
 
 -- what may be written here may be written there
 pub means_weaker : (D E : Writing → Type 0) → ((w : Writing) → D w → E w) → (ending : Ending) (sink : Seen (List ℕ)) → Means D ending sink → Means E ending sink
@@ -20,7 +19,6 @@ means_weaker D E to Usage sink m = (to UsageLine m.0, m.1)
 means_weaker D E to SourceFailed sink m = (to SourceLine m.0, m.1)
 means_weaker D E to Refused sink m = (to RefusalLine m.0, m.1)
 means_weaker D E to ContentRefused sink m = (m.0, to (ContentLine m.0) m.1, m.2)
-means_weaker D E to NotBuilt sink m = (to NotBuiltLine m.0, m.1)
 means_weaker D E to SinkFailed sink m = (m.0, to m.0 m.1, m.2, m.3)
 means_weaker D E to NoMemory sink m = (m.0, to m.0 m.1, m.2, m.3)
 
@@ -44,7 +42,6 @@ due_content s fault e UsageLine d = d
 due_content s fault e SourceLine d = d
 due_content s fault e RefusalLine d = d
 due_content s fault e (ContentLine f) d = (e d.1 ∙ ap (λ x. Err x) (sym d.0), λ h. d.1 (sym d.0 ∙ h))
-due_content s fault e NotBuiltLine d = absurd d
 due_content s fault e (Events t events) d = absurd d
 
 pub content_told : (s : Scenario) (fault : ContentFault) (bytes : List ℕ) (ending : Ending) (sink : Seen (List ℕ)) → bytes ≡ s.content
@@ -52,15 +49,14 @@ pub content_told : (s : Scenario) (fault : ContentFault) (bytes : List ℕ) (end
 content_told s fault bytes ending sink same e m =
     means_weaker (IsContentOr fault) (IsDueIn s) (due_content s fault (λ h. sym (ap content_of same) ∙ e h)) ending sink m
 
--- what a session writes, where the targets are built
-pub built_due : (s : Scenario) → all_built s.acts ≡ true → (w : Writing) → IsDueOf s w → IsDueIn s w
-built_due s built Nothing d = tt
-built_due s built UsageLine d = d
-built_due s built SourceLine d = d
-built_due s built RefusalLine d = d
-built_due s built (ContentLine fault) d = absurd d
-built_due s built NotBuiltLine d = absurd d
-built_due s built (Events t events) d = (d.0, built, d.1)
+-- what a session writes is written of its scenario
+pub session_due : (s : Scenario) (w : Writing) → IsDueOf s w → IsDueIn s w
+session_due s Nothing d = tt
+session_due s UsageLine d = d
+session_due s SourceLine d = d
+session_due s RefusalLine d = d
+session_due s (ContentLine fault) d = absurd d
+session_due s (Events t events) d = d
 
 -- what is written of a scenario is written of the text that spells it
 pub in_text : (text : List ℕ) (s : Scenario) → Reads text s → (w : Writing) → IsDueIn s w → IsDueAt text w
@@ -69,12 +65,8 @@ in_text text s reads UsageLine d = d
 in_text text s reads SourceLine d = d
 in_text text s reads RefusalLine d = absurd d
 in_text text s reads (ContentLine fault) d = (d.1, s, reads, d.0)
-in_text text s reads NotBuiltLine d = (s, reads, d.0, d.1)
 in_text text s reads (Events t events) d =
-    let same = sym d.0 in (
-      (subst (Reads text) same reads, subst (λ (x : Scenario). all_built x.acts ≡ true) same d.1),
-      subst (λ (x : Scenario). IsRunOf x events) same d.2,
-    )
+    let same = sym d.0 in (subst (Reads text) same reads, subst (λ (x : Scenario). IsRunOf x events) same d.1)
 
 -- a text that is refused at a line is none of a scenario
 pub refused_text : (text : List ℕ) (n : ℕ) → ((rest : List ℕ) → (length text ≤ most → rest ≡ []) → IsRefusedWithin most IsScenario (text ++ rest) n)
@@ -103,11 +95,7 @@ due_of_source c text is calm e end (ContentLine fault) d =
     let Q : List ℕ → Type 0 = λ bytes. (s : Scenario) × Reads bytes s × (content_of s.content ≡ Err fault) in
     let done = end d.2.1 in
     ((is, calm, told Q text c.source.old c.source.new e done (d.1, d.2, d.3)), done, d.0)
-due_of_source c text is calm e end NotBuiltLine d =
-    let Q : List ℕ → Type 0 = λ bytes. (s : Scenario) × Reads bytes s × HasContent s × (all_built s.acts ≡ false) in
-    let done = end d.1.1 in
-    ((is, calm, told Q text c.source.old c.source.new e done d), done)
 due_of_source c text is calm e end (Events s events) d =
-    let Q : List ℕ → Type 0 = λ bytes. Reads bytes s × (all_built s.acts ≡ true) in
-    let done = end d.0.0.1 in
+    let Q : List ℕ → Type 0 = λ bytes. Reads bytes s in
+    let done = end d.0.1 in
     ((is, calm, told Q text c.source.old c.source.new e done d.0), done, d.1)

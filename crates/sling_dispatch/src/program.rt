@@ -13,10 +13,9 @@ use crate::lines::same;
 use crate::reader::read_limited;
 use crate::scenario::{Act, Scenario, ScenarioFault, Step};
 use crate::streams::{ReadFault, read_whole, write_all};
-use crate::targets::are_built;
 use crate::transcript::write_notes;
 use content_json::{ContentFault, read_tree};
-use resource_tree::Tree;
+use publisher::Publisher;
 use sp_base::Mem;
 use sp_outside::{Sink, SinkFault, Source};
 use std::alloc::Global;
@@ -92,7 +91,7 @@ fn session<K: Sink>(alloc: Global, scenario: &Scenario, sink: &mut K) -> Ending
     ensures { Means (IsDueIn scenario.now) result (seen (K.held sink.old) (K.held sink.new) (K.faults sink.old) (K.faults sink.new)) }
 {
     match read_tree(alloc, scenario.content.bytes()) {
-        Ok(tree) => perform(alloc, tree, scenario, sink),
+        Ok(tree) => play(alloc, Publisher::new(tree), scenario, sink),
         Err(fault) => refuse_content(alloc, &fault, sink),
     }
 }
@@ -110,24 +109,12 @@ fn refuse_content<K: Sink>(alloc: Global, fault: &ContentFault, sink: &mut K) ->
     }
 }
 
-// Runs a scenario whose content has this reading.
-fn perform<K: Sink>(alloc: Global, tree: Tree, scenario: &Scenario, sink: &mut K) -> Ending
-    requires { content_of scenario.now.content ≡ Ok tree }
-    ensures { Means (IsDueIn scenario.now) result (seen (K.held sink.old) (K.held sink.new) (K.faults sink.old) (K.faults sink.new)) }
-{
-    match are_built(alloc, scenario.acts.as_slice()) {
-        Ok(true) => play(alloc, tree, scenario, sink),
-        Ok(false) => say(sink, b"not built\n", Ending::NotBuilt),
-        Err(_) => Ending::NoMemory,
-    }
-}
-
 // Makes the events of a scenario, and writes its transcript event by event.
-fn play<K: Sink>(alloc: Global, tree: Tree, scenario: &Scenario, sink: &mut K) -> Ending
-    requires { content_of scenario.now.content ≡ Ok tree }
+fn play<K: Sink>(alloc: Global, publisher: Publisher, scenario: &Scenario, sink: &mut K) -> Ending
+    requires { content_of scenario.now.content ≡ Ok publisher }
     ensures { Means (IsDueOf scenario.now) result (seen (K.held sink.old) (K.held sink.new) (K.faults sink.old) (K.faults sink.new)) }
 {
-    let mut front = Front { content: tree };
+    let mut front = Front { publisher };
     let mut event = 0;
     for act in scenario.acts.as_slice() {
         event += 1;

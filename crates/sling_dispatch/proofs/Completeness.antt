@@ -1,6 +1,7 @@
 use Rattle.std.proofs.Common.{◌≡◌, ◌<◌, ◌⊎◌, inl, inr, ℕ, List, Some, IfSome, Err, true, false, subst, refl, arith, sym, ◌∙◌, ap}
 use Rattle.content_json.specs.ContentOf.{content as content_of}
-use Rattle.sling_dispatch.specs.Scenario.{Reads}
+use Rattle.sling_dispatch.specs.Languages.{IsRefusedWithin}
+use Rattle.sling_dispatch.specs.Scenario.{IsScenario, Reads, most}
 use Rattle.sling_dispatch.specs.Endings.{Seen, Call, Means, IsDue, IsReplay, IsCalm, HasFailed, HasContent}
 use Rattle.sling_dispatch.specs.declared.scenario.Scenario.{Scenario}
 use Rattle.sling_dispatch.specs.declared.ending.Ending.{Ending}
@@ -26,7 +27,8 @@ complete c sink bytes s Usage m is told reads has bs cs bk ck = absurd (m.0.0 is
 complete c sink bytes s SourceFailed m is told reads has bs cs bk ck = absurd (calm_is_not_failed c.source bs cs m.0.1)
 complete c sink bytes s SinkFailed m is told reads has bs cs bk ck = absurd (calm_is_not_failed sink bk ck m.3)
 complete c sink bytes s Refused m is told reads has bs cs bk ck =
-    absurd (subst (λ o. IfSome o (λ t. (x : Scenario) → Reads t x → ⊥)) told m.0.2 s reads)
+    let r = subst (λ o. IfSome o (λ t. IsRefusedWithin most IsScenario t m.0)) told m.1.2 in
+    absurd (r.none ((s, reads.0), reads.1))
 complete c sink bytes s ContentRefused m is told reads has bs cs bk ck =
     let r = subst (λ o. IfSome o (λ t. (x : Scenario) × Reads t x × (content_of x.content ≡ Err m.0))) told m.1.0.2 in
     absurd (content_reads bytes s r.0 reads has r.1 m.0 r.2)

@@ -1,11 +1,13 @@
-use Rattle.std.specs.Prelude.{◌≡◌, ◌≢◌, ◌≤◌, ◌++◌, ◌⊎◌, ℕ, List, [], ◌∷◌, Option, IfSome, Ok, Err, codes, length, take}
+use Rattle.std.specs.Prelude.{◌≡◌, ◌≢◌, ◌≤◌, ◌+◌, ◌++◌, ◌⊎◌, ℕ, List, [], ◌∷◌, Option, IfSome, Ok, Err, codes, length, take}
+use Rattle.std.specs.Fmt.{decimal}
 use Rattle.sp_outside.specs.Told.{added, IsAtEnd}
 use Rattle.sp_outside.specs.Causes.{Rose}
 use Rattle.resource_tree.specs.Content.{Content}
 use Rattle.content_json.specs.ContentOf.{content as content_of}
 use Rattle.content_json.specs.declared.fault.ContentFault.{ContentFault}
 use Rattle.content_json.specs.declared.fault.ContentFault.TheVariants.{NoMemory as no_memory}
-use Rattle.sling_dispatch.specs.Scenario.{Reads, most}
+use Rattle.sling_dispatch.specs.Languages.{IsRefusedWithin}
+use Rattle.sling_dispatch.specs.Scenario.{IsScenario, Reads, most}
 use Rattle.sling_dispatch.specs.Transcript.{transcript}
 use Rattle.sling_dispatch.specs.Runs.{IsSession}
 use Rattle.sling_dispatch.specs.Faults.{fault_text}
@@ -36,12 +38,12 @@ HasFailed o = Rose o.faults_old o.faults_new
 abbrev pub IsUntouched : {T : Type 0} → Seen T → Type 0
 IsUntouched o = (o.new ≡ o.old) × IsCalm o
 
--- what a call may be writing
+-- what a call may be writing: of a refusal how many lines stand before its own, of a content its fault
 pub data Writing : Type 0 where
   Nothing : Writing
   UsageLine : Writing
   SourceLine : Writing
-  RefusalLine : Writing
+  RefusalLine : ℕ → Writing
   ContentLine : ContentFault → Writing
   Events : Scenario → List (List Note) → Writing
 
@@ -49,7 +51,7 @@ abbrev pub text_of : Writing → List ℕ
 text_of Nothing = []
 text_of UsageLine = codes "usage: replay" ++ 10 ∷ []
 text_of SourceLine = codes "source failed" ++ 10 ∷ []
-text_of RefusalLine = codes "scenario refused" ++ 10 ∷ []
+text_of (RefusalLine passed) = codes "scenario refused at line " ++ decimal (passed + 1) ++ 10 ∷ []
 text_of (ContentLine fault) = codes "content refused: " ++ fault_text fault ++ 10 ∷ []
 text_of (Events s events) = transcript events
 
@@ -67,7 +69,7 @@ Means IsDue Done sink = (s : Scenario) × (events : List (List Note)) × IsDue (
     × Wrote sink (Events s events)
 Means IsDue Usage sink = IsDue UsageLine × Wrote sink UsageLine
 Means IsDue SourceFailed sink = IsDue SourceLine × Wrote sink SourceLine
-Means IsDue Refused sink = IsDue RefusalLine × Wrote sink RefusalLine
+Means IsDue Refused sink = (passed : ℕ) × IsDue (RefusalLine passed) × Wrote sink (RefusalLine passed)
 Means IsDue ContentRefused sink = (fault : ContentFault) × IsDue (ContentLine fault) × Wrote sink (ContentLine fault)
 Means IsDue SinkFailed sink = (w : Writing) × IsDue w × WrotePrefix sink w × HasFailed sink
 Means IsDue NoMemory sink = (w : Writing) × IsDue w × WrotePrefix sink w × IsCalm sink
@@ -97,7 +99,7 @@ abbrev pub IsDue : Call → Writing → Type 0
 IsDue c Nothing = Unit {0}
 IsDue c UsageLine = (IsReplay c.words → ⊥) × IsUntouched c.source
 IsDue c SourceLine = IsReplay c.words × HasFailed c.source
-IsDue c RefusalLine = Replays c (λ bytes. (s : Scenario) → Reads bytes s → ⊥)
+IsDue c (RefusalLine passed) = Replays c (λ bytes. IsRefusedWithin most IsScenario bytes passed)
 IsDue c (ContentLine fault) = Replays c (λ bytes. (s : Scenario) × Reads bytes s × (content_of s.content ≡ Err fault)) × IsAtEnd c.source.new
     × (fault ≢ no_memory)
 IsDue c (Events s events) = Replays c (λ bytes. Reads bytes s) × IsAtEnd c.source.new × IsRunOf s events
@@ -117,7 +119,7 @@ abbrev pub IsDueAt : List ℕ → Writing → Type 0
 IsDueAt text Nothing = Unit {0}
 IsDueAt text UsageLine = ⊥
 IsDueAt text SourceLine = ⊥
-IsDueAt text RefusalLine = (rest : List ℕ) → (length text ≤ most → rest ≡ []) → (s : Scenario) → Reads (text ++ rest) s → ⊥
+IsDueAt text (RefusalLine passed) = (rest : List ℕ) → (length text ≤ most → rest ≡ []) → IsRefusedWithin most IsScenario (text ++ rest) passed
 IsDueAt text (ContentLine fault) = (fault ≢ no_memory) × (s : Scenario) × Reads text s × (content_of s.content ≡ Err fault)
 IsDueAt text (Events s events) = Reads text s × IsRunOf s events
 
@@ -126,7 +128,7 @@ abbrev pub IsDueIn : Scenario → Writing → Type 0
 IsDueIn s Nothing = Unit {0}
 IsDueIn s UsageLine = ⊥
 IsDueIn s SourceLine = ⊥
-IsDueIn s RefusalLine = ⊥
+IsDueIn s (RefusalLine passed) = ⊥
 IsDueIn s (ContentLine fault) = (content_of s.content ≡ Err fault) × (fault ≢ no_memory)
 IsDueIn s (Events t events) = (t ≡ s) × IsRunOf s events
 
@@ -135,7 +137,7 @@ abbrev pub IsDueOf : Scenario → Writing → Type 0
 IsDueOf s Nothing = Unit {0}
 IsDueOf s UsageLine = ⊥
 IsDueOf s SourceLine = ⊥
-IsDueOf s RefusalLine = ⊥
+IsDueOf s (RefusalLine passed) = ⊥
 IsDueOf s (ContentLine fault) = ⊥
 IsDueOf s (Events t events) = (t ≡ s) × IsRunOf s events
 
@@ -144,7 +146,7 @@ abbrev pub IsContentOr : ContentFault → Writing → Type 0
 IsContentOr fault Nothing = Unit {0}
 IsContentOr fault UsageLine = ⊥
 IsContentOr fault SourceLine = ⊥
-IsContentOr fault RefusalLine = ⊥
+IsContentOr fault (RefusalLine passed) = ⊥
 IsContentOr fault (ContentLine f) = (f ≡ fault) × (fault ≢ no_memory)
 IsContentOr fault (Events s events) = ⊥
 

@@ -1,13 +1,13 @@
-ghost use Rattle.std.specs.Prelude.{◌≡◌, ◌≢◌, ◌↔◌, ◌++◌, ◌∷◌, ◌+◌, [], ℕ, List, Ok, Err, map, codes, IsTrue, IfOk};
+ghost use Rattle.std.specs.Prelude.{◌≡◌, ◌≢◌, ◌↔◌, ◌++◌, ◌∷◌, ◌+◌, [], ℕ, List, Ok, Err, map, codes, IsTrue, IfOk, OnErr};
 ghost use Rattle.content_json.specs.ContentOf.{content as content_of};
 ghost use Rattle.sling_dispatch.specs.declared.ending.Ending.{Ending};
 ghost use Rattle.sling_dispatch.specs.Fronts.{IsNext};
 ghost use Rattle.sling_dispatch.specs.Scenario.{most};
 ghost use Rattle.sling_dispatch.specs.Streams.{HasTaken};
-ghost use Rattle.sling_dispatch.specs.Endings.{Means, IsDue, IsDueAt, IsDueIn, IsDueOf, IsContentOr, Tells, IsReplay, seen, status_of};
+ghost use Rattle.sling_dispatch.specs.Endings.{Means, IsDue, IsDueAt, IsDueIn, IsDueOf, IsContentOr, Tells, IsReplay, IsUntouched, seen, status_of};
 
 use crate::ending::Ending;
-use crate::faults::{content_line, is_memory};
+use crate::faults::{content_line, is_memory, refusal_line};
 use crate::front::Front;
 use crate::lines::same;
 use crate::reader::read_limited;
@@ -75,13 +75,26 @@ fn say<K: Sink>(sink: &mut K, text: &[u8], good: Ending) -> Ending
     }
 }
 
+// The same for a line, where memory was there to make it.
+fn say_line<K: Sink>(sink: &mut K, line: Mem<Vec<u8>>, good: Ending) -> Ending
+    ensures made { IfOk line (λ text. Tells good text.items result (seen (K.held sink.old) (K.held sink.new) (K.faults sink.old) (K.faults sink.new))) }
+    ensures not_made { OnErr line ((result ≡ Ending.NoMemory) × IsUntouched (seen (K.held sink.old) (K.held sink.new) (K.faults sink.old) (K.faults sink.new))) }
+{
+    match line {
+        Ok(text) => say(sink, &text, good),
+        Err(_) => Ending::NoMemory,
+    }
+}
+
 // Runs the scenario that a text spells.
 fn replay<K: Sink>(alloc: Global, text: &[u8], sink: &mut K) -> Ending
     ensures { Means (IsDueAt text.now) result (seen (K.held sink.old) (K.held sink.new) (K.faults sink.old) (K.faults sink.new)) }
 {
     match read_limited(alloc, text, MOST) {
         Ok(scenario) => session(alloc, &scenario, sink),
-        Err(ScenarioFault::Line(_)) => say(sink, b"scenario refused\n", Ending::Refused),
+        Err(ScenarioFault::Line(passed)) => {
+            say_line(sink, refusal_line(alloc, passed), Ending::Refused)
+        }
         Err(ScenarioFault::NoMemory) => Ending::NoMemory,
     }
 }
@@ -103,10 +116,7 @@ fn refuse_content<K: Sink>(alloc: Global, fault: &ContentFault, sink: &mut K) ->
     if is_memory(fault) {
         return Ending::NoMemory;
     }
-    match content_line(alloc, fault) {
-        Ok(line) => say(sink, &line, Ending::ContentRefused),
-        Err(_) => Ending::NoMemory,
-    }
+    say_line(sink, content_line(alloc, fault), Ending::ContentRefused)
 }
 
 // Makes the events of a scenario, and writes its transcript event by event.

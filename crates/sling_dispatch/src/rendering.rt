@@ -9,6 +9,7 @@ use std::alloc::Global;
 
 // The host and the port that the publisher is asked for.
 const ASKED_HOST: &str = "localhost";
+
 const ASKED_PORT: u16 = 80;
 
 fn ask_of(alloc: Global, target: Target) -> Mem<Ask>

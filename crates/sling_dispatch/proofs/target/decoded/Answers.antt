@@ -8,7 +8,7 @@ pub returns-in_ok-of-in-Ok : goal.returns-in_ok-of-in-Ok
 returns-in_ok-of-in-Ok c =
     let bytes = percent_decode c.args.path.now in
     let same : c.in_ok-of-in-Ok.field-0 ≡ bytes =
-        c.in_ok-of-in-Ok.ensures ∙ c.deref.ensures.value ∙ c.in-Ok.ensures.value ∙ c.percent_decode.ensures.bytes in
+    c.in_ok-of-in-Ok.ensures ∙ c.deref.ensures.value ∙ c.in-Ok.ensures.value ∙ c.percent_decode.ensures.bytes in
     ap Some same ∙ is_text bytes (subst IsUtf8 c.percent_decode.ensures.bytes c.in-Ok.ensures.ok_only_if_utf8)
 
 pub returns-in-Err-Utf8 : goal.returns-in-Err-Utf8

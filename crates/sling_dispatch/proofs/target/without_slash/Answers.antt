@@ -10,7 +10,7 @@ kept : (c : goal.After-text-1) → ends_in_slash c.args.text.now ≡ false
 kept c =
     let cut = strip_suffix_char 47 c.args.text.now c.strip_suffix.result c.strip_suffix.ensures.cases (omega arith) in
     elim c.in_default.branch [
-      in_default-via-in-Some+else-not-is_empty w ↦
+      | in_default-via-in-Some+else-not-is_empty w ↦
           let empty = sym w.is_empty.ensures ∙ w.if-not-is_empty.false in
           let none : length w.in-Some.path.now ≡ 0 = grind (arith, nat_tests) in
           slash_alone c.args.text.now w.in-Some.path.now (rw w.in-Some.is at cut) none

@@ -57,15 +57,6 @@ pub content_told : (s : Scenario) (fault : ContentFault) (bytes : List ℕ) (end
 content_told s fault bytes ending sink same e m =
     means_weaker (IsContentOr fault) (IsDueIn s) (due_content s fault (λ h. sym (ap content_of same) ∙ e h)) ending sink m
 
--- what a session writes is written of its scenario
-pub session_due : (s : Scenario) (w : Writing) → IsDueOf s w → IsDueIn s w
-session_due s Nothing d = tt
-session_due s UsageLine d = d
-session_due s SourceLine d = d
-session_due s (RefusalLine passed) d = d
-session_due s (ContentLine fault) d = absurd d
-session_due s (Events t events) d = d
-
 -- what is written of a scenario is written of the text that spells it
 pub in_text : (text : List ℕ) (s : Scenario) → Reads text s → (w : Writing) → IsDueIn s w → IsDueAt text w
 in_text text s reads Nothing d = tt

@@ -1,11 +1,11 @@
 use Rattle.std.proofs.Common.{◌≡◌, ◌<◌, ◌⊎◌, inl, inr, ℕ, List, Some, IfSome, Err, true, false, subst, refl, arith, sym, ◌∙◌, ap}
 use Rattle.content_json.specs.ContentOf.{content as content_of}
-use Rattle.sling_dispatch.specs.Scenario.{Reads}
-use Rattle.sling_dispatch.specs.Targets.{all_built}
+use Rattle.sling_dispatch.specs.Languages.{IsRefusedWithin}
+use Rattle.sling_dispatch.specs.Scenario.{IsScenario, Reads, most}
 use Rattle.sling_dispatch.specs.Endings.{Seen, Call, Means, IsDue, IsReplay, IsCalm, HasFailed, HasContent}
 use Rattle.sling_dispatch.specs.declared.scenario.Scenario.{Scenario}
 use Rattle.sling_dispatch.specs.declared.ending.Ending.{Ending}
-use Rattle.sling_dispatch.specs.declared.ending.Ending.TheVariants.{Done, Usage, SourceFailed, SinkFailed, Refused, ContentRefused, NotBuilt, NoMemory}
+use Rattle.sling_dispatch.specs.declared.ending.Ending.TheVariants.{Done, Usage, SourceFailed, SinkFailed, Refused, ContentRefused, NoMemory}
 use Rattle.sling_dispatch.proofs.OneReading.{one_reading}
 
 calm_is_not_failed : (o : Seen (List ℕ)) → o.faults_old < 18446744073709551615 → IsCalm o → HasFailed o → ⊥
@@ -18,26 +18,18 @@ content_reads bytes s t reads has other fault e =
     let ok = sym (ap (λ (x : Scenario). content_of x.content) same) ∙ has.1 in
     cc (ok, e)
 
-targets_are_built : (bytes : List ℕ) (s t : Scenario) → Reads bytes s → all_built s.acts ≡ true → Reads bytes t → all_built t.acts ≡ false → ⊥
-targets_are_built bytes s t reads built other e =
-    let same = one_reading bytes s t reads.0 other.0 in
-    let yes : all_built t.acts ≡ true = sym (ap (λ (x : Scenario). all_built x.acts) same) ∙ built in
-    cc (yes, e)
-
 pub complete : (c : Call) (sink : Seen (List ℕ)) (bytes : List ℕ) (s : Scenario) (ending : Ending) → Means (IsDue c) ending sink
-    → IsReplay c.words → c.source.old ≡ Some bytes → Reads bytes s → HasContent s → all_built s.acts ≡ true
+    → IsReplay c.words → c.source.old ≡ Some bytes → Reads bytes s → HasContent s
     → c.source.faults_old < 18446744073709551615 → IsCalm c.source → sink.faults_old < 18446744073709551615 → IsCalm sink
     → (ending ≡ Done) ⊎ (ending ≡ NoMemory)
-complete c sink bytes s Done m is told reads has built bs cs bk ck = inl refl
-complete c sink bytes s Usage m is told reads has built bs cs bk ck = absurd (m.0.0 is)
-complete c sink bytes s SourceFailed m is told reads has built bs cs bk ck = absurd (calm_is_not_failed c.source bs cs m.0.1)
-complete c sink bytes s SinkFailed m is told reads has built bs cs bk ck = absurd (calm_is_not_failed sink bk ck m.3)
-complete c sink bytes s Refused m is told reads has built bs cs bk ck =
-    absurd (subst (λ o. IfSome o (λ t. (x : Scenario) → Reads t x → ⊥)) told m.0.2 s reads)
-complete c sink bytes s ContentRefused m is told reads has built bs cs bk ck =
+complete c sink bytes s Done m is told reads has bs cs bk ck = inl refl
+complete c sink bytes s Usage m is told reads has bs cs bk ck = absurd (m.0.0 is)
+complete c sink bytes s SourceFailed m is told reads has bs cs bk ck = absurd (calm_is_not_failed c.source bs cs m.0.1)
+complete c sink bytes s SinkFailed m is told reads has bs cs bk ck = absurd (calm_is_not_failed sink bk ck m.3)
+complete c sink bytes s Refused m is told reads has bs cs bk ck =
+    let r = subst (λ o. IfSome o (λ t. IsRefusedWithin most IsScenario t m.0)) told m.1.2 in
+    absurd (r.none ((s, reads.0), reads.1))
+complete c sink bytes s ContentRefused m is told reads has bs cs bk ck =
     let r = subst (λ o. IfSome o (λ t. (x : Scenario) × Reads t x × (content_of x.content ≡ Err m.0))) told m.1.0.2 in
     absurd (content_reads bytes s r.0 reads has r.1 m.0 r.2)
-complete c sink bytes s NotBuilt m is told reads has built bs cs bk ck =
-    let r = subst (λ o. IfSome o (λ t. (x : Scenario) × Reads t x × HasContent x × (all_built x.acts ≡ false))) told m.0.0.2 in
-    absurd (targets_are_built bytes s r.0 reads built r.1 r.3)
-complete c sink bytes s NoMemory m is told reads has built bs cs bk ck = inr refl
+complete c sink bytes s NoMemory m is told reads has bs cs bk ck = inr refl

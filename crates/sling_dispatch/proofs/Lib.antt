@@ -10,3 +10,4 @@ pub mod Sessions
 pub mod Meanings
 pub mod OneReading
 pub mod Completeness
+pub mod TargetLemmas

@@ -1,4 +1,4 @@
-use Rattle.std.proofs.Common.{◌≡◌, ◌≢◌, ◌≤◌, ◌++◌, inl, inr, ℕ, true, false, List, [], Option, Some, None, IfSome, Err, length, take, sym, ◌∙◌, ap, subst}
+use Rattle.std.proofs.Common.{◌≡◌, ◌≢◌, ◌≤◌, ◌++◌, inl, inr, ℕ, true, false, List, [], Option, Some, None, IfSome, IfOk, OnErr, Result, Ok, Err, length, take, sym, ◌∙◌, ap, subst}
 use Rattle.std.proofs.lemmas.List.{append-nil}
 use Rattle.sp_outside.specs.Told.{added, before_taking, IsAtEnd}
 use Rattle.content_json.specs.ContentOf.{content as content_of}
@@ -6,21 +6,19 @@ use Rattle.content_json.specs.declared.fault.ContentFault.{ContentFault}
 use Rattle.content_json.specs.declared.fault.ContentFault.TheVariants.{NoMemory as no_memory}
 use Rattle.sling_dispatch.specs.Languages.{IsRefusedWithin}
 use Rattle.sling_dispatch.specs.Scenario.{IsScenario, Reads, most}
-use Rattle.sling_dispatch.specs.Targets.{all_built}
-use Rattle.sling_dispatch.specs.Endings.{Seen, Call, IsDueIn, IsDueOf, IsContentOr, HasContent, IsRunOf, Writing, Nothing, UsageLine, SourceLine, RefusalLine, ContentLine, NotBuiltLine, Events, text_of, Wrote, Means, Tells, IsDue, IsDueAt, IsReplay, IsCalm}
+use Rattle.sling_dispatch.specs.Endings.{Seen, Call, IsDueIn, IsDueOf, IsContentOr, HasContent, IsRunOf, Writing, Nothing, UsageLine, SourceLine, RefusalLine, ContentLine, Events, text_of, Wrote, Means, Tells, IsDue, IsDueAt, IsReplay, IsCalm, IsUntouched}
 use Rattle.sling_dispatch.specs.declared.scenario.Scenario.{Scenario}
 use Rattle.sling_dispatch.proofs.Writing.{added-nothing}
 use Rattle.sling_dispatch.specs.declared.ending.Ending.{Ending}
-use Rattle.sling_dispatch.specs.declared.ending.Ending.TheVariants.{Done, Usage, SourceFailed, SinkFailed, Refused, ContentRefused, NotBuilt, NoMemory}
+use Rattle.sling_dispatch.specs.declared.ending.Ending.TheVariants.{Done, Usage, SourceFailed, SinkFailed, Refused, ContentRefused, NoMemory}
 
 -- what may be written here may be written there
 pub means_weaker : (D E : Writing → Type 0) → ((w : Writing) → D w → E w) → (ending : Ending) (sink : Seen (List ℕ)) → Means D ending sink → Means E ending sink
 means_weaker D E to Done sink m = (m.0, m.1, to (Events m.0 m.1) m.2, m.3, m.4)
 means_weaker D E to Usage sink m = (to UsageLine m.0, m.1)
 means_weaker D E to SourceFailed sink m = (to SourceLine m.0, m.1)
-means_weaker D E to Refused sink m = (to RefusalLine m.0, m.1)
+means_weaker D E to Refused sink m = (m.0, to (RefusalLine m.0) m.1, m.2)
 means_weaker D E to ContentRefused sink m = (m.0, to (ContentLine m.0) m.1, m.2)
-means_weaker D E to NotBuilt sink m = (to NotBuiltLine m.0, m.1)
 means_weaker D E to SinkFailed sink m = (m.0, to m.0 m.1, m.2, m.3)
 means_weaker D E to NoMemory sink m = (m.0, to m.0 m.1, m.2, m.3)
 
@@ -38,13 +36,20 @@ told_line D w good ending text sink due whole e (inr (inl t)) =
 told_line D w good ending text sink due whole e (inr (inr t)) =
     subst (λ x. Means D x sink) (sym t.0) (w, due, (t.1.0, t.1.1 ∙ ap (λ s. added sink.old (take t.1.0 s)) e), t.2)
 
+-- The same of a text that memory may have been wanting for.
+pub told_made : {T E : Type 0} (items : T → List ℕ) (D : Writing → Type 0) (w : Writing) (good ending : Ending) (line : Result T E)
+    (sink : Seen (List ℕ)) → D Nothing → D w → (Wrote sink w → Means D good sink) → IfOk line (λ t. items t ≡ text_of w)
+    → IfOk line (λ t. Tells good (items t) ending sink) → OnErr line ((ending ≡ NoMemory) × IsUntouched sink) → Means D ending sink
+told_made items D w good ending (Ok t) sink none due whole e told untold = told_line D w good ending (items t) sink due whole e told
+told_made items D w good ending (Err x) sink none due whole e told untold =
+    subst (λ n. Means D n sink) (sym untold.0) (out_of_memory D none sink untold.1.0 untold.1.1)
+
 pub due_content : (s : Scenario) (fault : ContentFault) → (fault ≢ no_memory → content_of s.content ≡ Err fault) → (w : Writing) → IsContentOr fault w → IsDueIn s w
 due_content s fault e Nothing d = tt
 due_content s fault e UsageLine d = d
 due_content s fault e SourceLine d = d
-due_content s fault e RefusalLine d = d
+due_content s fault e (RefusalLine passed) d = d
 due_content s fault e (ContentLine f) d = (e d.1 ∙ ap (λ x. Err x) (sym d.0), λ h. d.1 (sym d.0 ∙ h))
-due_content s fault e NotBuiltLine d = absurd d
 due_content s fault e (Events t events) d = absurd d
 
 pub content_told : (s : Scenario) (fault : ContentFault) (bytes : List ℕ) (ending : Ending) (sink : Seen (List ℕ)) → bytes ≡ s.content
@@ -52,39 +57,21 @@ pub content_told : (s : Scenario) (fault : ContentFault) (bytes : List ℕ) (end
 content_told s fault bytes ending sink same e m =
     means_weaker (IsContentOr fault) (IsDueIn s) (due_content s fault (λ h. sym (ap content_of same) ∙ e h)) ending sink m
 
--- what a session writes, where the targets are built
-pub built_due : (s : Scenario) → all_built s.acts ≡ true → (w : Writing) → IsDueOf s w → IsDueIn s w
-built_due s built Nothing d = tt
-built_due s built UsageLine d = d
-built_due s built SourceLine d = d
-built_due s built RefusalLine d = d
-built_due s built (ContentLine fault) d = absurd d
-built_due s built NotBuiltLine d = absurd d
-built_due s built (Events t events) d = (d.0, built, d.1)
-
 -- what is written of a scenario is written of the text that spells it
 pub in_text : (text : List ℕ) (s : Scenario) → Reads text s → (w : Writing) → IsDueIn s w → IsDueAt text w
 in_text text s reads Nothing d = tt
 in_text text s reads UsageLine d = d
 in_text text s reads SourceLine d = d
-in_text text s reads RefusalLine d = absurd d
+in_text text s reads (RefusalLine passed) d = absurd d
 in_text text s reads (ContentLine fault) d = (d.1, s, reads, d.0)
-in_text text s reads NotBuiltLine d = (s, reads, d.0, d.1)
 in_text text s reads (Events t events) d =
-    let same = sym d.0 in (
-      (subst (Reads text) same reads, subst (λ (x : Scenario). all_built x.acts ≡ true) same d.1),
-      subst (λ (x : Scenario). IsRunOf x events) same d.2,
-    )
+    let same = sym d.0 in (subst (Reads text) same reads, subst (λ (x : Scenario). IsRunOf x events) same d.1)
 
--- a text that is refused at a line is none of a scenario
-pub refused_text : (text : List ℕ) (n : ℕ) → ((rest : List ℕ) → (length text ≤ most → rest ≡ []) → IsRefusedWithin most IsScenario (text ++ rest) n)
-    → IsDueAt text RefusalLine
-refused_text text n r = λ rest none s reads. (r rest none).none ((s, reads.0), reads.1)
-
-told_refused : (text : List ℕ) (old new : Option (List ℕ)) → old ≡ before_taking text new → (length text ≤ most → IsAtEnd new)
-    → IsDueAt text RefusalLine → IfSome old (λ bytes. (s : Scenario) → Reads bytes s → ⊥)
-told_refused text old None e end r = subst (λ o. IfSome o (λ bytes. (s : Scenario) → Reads bytes s → ⊥)) (sym e) tt
-told_refused text old (Some rest) e end r = subst (λ o. IfSome o (λ bytes. (s : Scenario) → Reads bytes s → ⊥)) (sym e) (r rest end)
+told_refused : (text : List ℕ) (passed : ℕ) (old new : Option (List ℕ)) → old ≡ before_taking text new → (length text ≤ most → IsAtEnd new)
+    → IsDueAt text (RefusalLine passed) → IfSome old (λ bytes. IsRefusedWithin most IsScenario bytes passed)
+told_refused text passed old None e end r = subst (λ o. IfSome o (λ bytes. IsRefusedWithin most IsScenario bytes passed)) (sym e) tt
+told_refused text passed old (Some rest) e end r =
+    subst (λ o. IfSome o (λ bytes. IsRefusedWithin most IsScenario bytes passed)) (sym e) (r rest end)
 
 told : (Q : List ℕ → Type 0) (text : List ℕ) (old new : Option (List ℕ)) → old ≡ before_taking text new → IsAtEnd new → Q text → IfSome old Q
 told Q text old None e end q = subst (λ o. IfSome o Q) (sym e) tt
@@ -98,16 +85,12 @@ pub due_of_source : (c : Call) (text : List ℕ) → IsReplay c.words → IsCalm
 due_of_source c text is calm e end Nothing d = tt
 due_of_source c text is calm e end UsageLine d = absurd d
 due_of_source c text is calm e end SourceLine d = absurd d
-due_of_source c text is calm e end RefusalLine d = (is, calm, told_refused text c.source.old c.source.new e end d)
+due_of_source c text is calm e end (RefusalLine passed) d = (is, calm, told_refused text passed c.source.old c.source.new e end d)
 due_of_source c text is calm e end (ContentLine fault) d =
     let Q : List ℕ → Type 0 = λ bytes. (s : Scenario) × Reads bytes s × (content_of s.content ≡ Err fault) in
     let done = end d.2.1 in
     ((is, calm, told Q text c.source.old c.source.new e done (d.1, d.2, d.3)), done, d.0)
-due_of_source c text is calm e end NotBuiltLine d =
-    let Q : List ℕ → Type 0 = λ bytes. (s : Scenario) × Reads bytes s × HasContent s × (all_built s.acts ≡ false) in
-    let done = end d.1.1 in
-    ((is, calm, told Q text c.source.old c.source.new e done d), done)
 due_of_source c text is calm e end (Events s events) d =
-    let Q : List ℕ → Type 0 = λ bytes. Reads bytes s × (all_built s.acts ≡ true) in
-    let done = end d.0.0.1 in
+    let Q : List ℕ → Type 0 = λ bytes. Reads bytes s in
+    let done = end d.0.1 in
     ((is, calm, told Q text c.source.old c.source.new e done d.0), done, d.1)

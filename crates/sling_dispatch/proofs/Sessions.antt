@@ -7,7 +7,7 @@ use Rattle.content_json.specs.ContentOf.{content as content_of}
 use Rattle.sling_dispatch.specs.Transcript.{event_text, transcript_from, transcript}
 use Rattle.sling_dispatch.specs.Runs.{World, Event, after_event, after, Run, world_of, steps_of, IsSession}
 use Rattle.sling_dispatch.specs.Fronts.{Stands, IsNext}
-use Rattle.sling_dispatch.specs.Endings.{Means, IsDueOf, Writing, Events, Seen, WroteFront, IsCalm}
+use Rattle.sling_dispatch.specs.Endings.{Means, IsDueOf, Writing, Events, Seen, WrotePrefix, IsCalm}
 use Rattle.sling_dispatch.specs.declared.scenario.Act.{Act}
 use Rattle.sling_dispatch.specs.declared.scenario.Act.TheVariants.{Do}
 use Rattle.sling_dispatch.specs.declared.scenario.Step.{Step}
@@ -54,7 +54,7 @@ pub record Played (s : Scenario) (tree : Content) (n count : ℕ) (front : Front
   pub stands : Stands front (after (world_of tree) (steps_of (take n s.acts)) events)
   pub written : new ≡ added old (transcript events)
 
-pub played_none : (s : Scenario) (tree : Content) (front : Front) (old : Option (List ℕ)) → front.content ≡ tree → Played s tree 0 0 front old old
+pub played_none : (s : Scenario) (tree : Content) (front : Front) (old : Option (List ℕ)) → front.publisher ≡ tree → Played s tree 0 0 front old old
 played_none s tree front old e = record {
   events = [];
   run = tt;
@@ -108,10 +108,10 @@ session_of : (s : Scenario) (tree : Content) (n : ℕ) (events : List (List Note
     → Run (world_of tree) (steps_of (take n s.acts)) events → IsSession s n events
 session_of s tree n events reads run = record { tree = tree; reads = reads; run = run }
 
--- only a front of the next event's lines was written
+-- only a prefix of the next event's lines was written
 pub next_broken : (s : Scenario) (tree : Content) (n count k : ℕ) (front : Front) (text : List ℕ) (sink : Seen (List ℕ)) (mid : Option (List ℕ))
     → content_of s.content ≡ Ok tree → Next s tree n count front sink.old mid text → sink.new ≡ added mid (take k text)
-    → (w : Writing) × IsDueOf s w × WroteFront sink w
+    → (w : Writing) × IsDueOf s w × WrotePrefix sink w
 next_broken s tree n count k front text sink mid reads x e =
     let long = length (transcript x.before) in (
       Events s x.events,
@@ -125,7 +125,7 @@ next_broken s tree n count k front text sink mid reads x e =
 
 -- the events so far were written, and no more
 pub played_stopped : (s : Scenario) (tree : Content) (n count : ℕ) (front : Front) (sink : Seen (List ℕ)) → content_of s.content ≡ Ok tree
-    → Played s tree n count front sink.old sink.new → (w : Writing) × IsDueOf s w × WroteFront sink w
+    → Played s tree n count front sink.old sink.new → (w : Writing) × IsDueOf s w × WrotePrefix sink w
 played_stopped s tree n count front sink reads p = (
   Events s p.events,
   (refl, (n, session_of s tree n p.events reads p.run)),

@@ -1,19 +1,20 @@
-use Rattle.std.specs.Prelude.{◌≡◌, ◌≢◌, ◌≤◌, ◌++◌, ◌⊎◌, ℕ, true, false, List, [], ◌∷◌, Option, IfSome, Ok, Err, codes, length, take}
+use Rattle.std.specs.Prelude.{◌≡◌, ◌≢◌, ◌≤◌, ◌+◌, ◌++◌, ◌⊎◌, ℕ, List, [], ◌∷◌, Option, IfSome, Ok, Err, codes, length, take}
+use Rattle.std.specs.Fmt.{decimal}
 use Rattle.sp_outside.specs.Told.{added, IsAtEnd}
 use Rattle.sp_outside.specs.Causes.{Rose}
 use Rattle.resource_tree.specs.Content.{Content}
 use Rattle.content_json.specs.ContentOf.{content as content_of}
 use Rattle.content_json.specs.declared.fault.ContentFault.{ContentFault}
 use Rattle.content_json.specs.declared.fault.ContentFault.TheVariants.{NoMemory as no_memory}
-use Rattle.sling_dispatch.specs.Scenario.{Reads, most}
-use Rattle.sling_dispatch.specs.Targets.{all_built}
+use Rattle.sling_dispatch.specs.Languages.{IsRefusedWithin}
+use Rattle.sling_dispatch.specs.Scenario.{IsScenario, Reads, most}
 use Rattle.sling_dispatch.specs.Transcript.{transcript}
 use Rattle.sling_dispatch.specs.Runs.{IsSession}
 use Rattle.sling_dispatch.specs.Faults.{fault_text}
 use Rattle.sling_dispatch.specs.declared.scenario.Scenario.{Scenario}
 use Rattle.sling_dispatch.specs.declared.note.Note.{Note}
 use Rattle.sling_dispatch.specs.declared.ending.Ending.{Ending}
-use Rattle.sling_dispatch.specs.declared.ending.Ending.TheVariants.{Done, Usage, SourceFailed, SinkFailed, Refused, ContentRefused, NotBuilt, NoMemory}
+use Rattle.sling_dispatch.specs.declared.ending.Ending.TheVariants.{Done, Usage, SourceFailed, SinkFailed, Refused, ContentRefused, NoMemory}
 
 -- an object of the outside over one call: what it told before and after, and its count of faults before and after
 pub record Seen (T : Type 0) : Type 0 where
@@ -37,32 +38,30 @@ HasFailed o = Rose o.faults_old o.faults_new
 abbrev pub IsUntouched : {T : Type 0} → Seen T → Type 0
 IsUntouched o = (o.new ≡ o.old) × IsCalm o
 
--- what a call may be writing
+-- what a call may be writing: of a refusal how many lines stand before its own, of a content its fault
 pub data Writing : Type 0 where
   Nothing : Writing
   UsageLine : Writing
   SourceLine : Writing
-  RefusalLine : Writing
+  RefusalLine : ℕ → Writing
   ContentLine : ContentFault → Writing
-  NotBuiltLine : Writing
   Events : Scenario → List (List Note) → Writing
 
 abbrev pub text_of : Writing → List ℕ
 text_of Nothing = []
 text_of UsageLine = codes "usage: replay" ++ 10 ∷ []
 text_of SourceLine = codes "source failed" ++ 10 ∷ []
-text_of RefusalLine = codes "scenario refused" ++ 10 ∷ []
+text_of (RefusalLine passed) = codes "scenario refused at line " ++ decimal (passed + 1) ++ 10 ∷ []
 text_of (ContentLine fault) = codes "content refused: " ++ fault_text fault ++ 10 ∷ []
-text_of NotBuiltLine = codes "not built" ++ 10 ∷ []
 text_of (Events s events) = transcript events
 
 -- the whole text was written
 abbrev pub Wrote : Seen (List ℕ) → Writing → Type 0
 Wrote sink w = (sink.new ≡ added sink.old (text_of w)) × IsCalm sink
 
--- a front of it was
-abbrev pub WroteFront : Seen (List ℕ) → Writing → Type 0
-WroteFront sink w = (n : ℕ) × (sink.new ≡ added sink.old (take n (text_of w)))
+-- a prefix of it was
+abbrev pub WrotePrefix : Seen (List ℕ) → Writing → Type 0
+WrotePrefix sink w = (n : ℕ) × (sink.new ≡ added sink.old (take n (text_of w)))
 
 -- What each ending says of the sink, where IsDue says what may be written.
 abbrev pub Means : (Writing → Type 0) → Ending → Seen (List ℕ) → Type 0
@@ -70,11 +69,10 @@ Means IsDue Done sink = (s : Scenario) × (events : List (List Note)) × IsDue (
     × Wrote sink (Events s events)
 Means IsDue Usage sink = IsDue UsageLine × Wrote sink UsageLine
 Means IsDue SourceFailed sink = IsDue SourceLine × Wrote sink SourceLine
-Means IsDue Refused sink = IsDue RefusalLine × Wrote sink RefusalLine
+Means IsDue Refused sink = (passed : ℕ) × IsDue (RefusalLine passed) × Wrote sink (RefusalLine passed)
 Means IsDue ContentRefused sink = (fault : ContentFault) × IsDue (ContentLine fault) × Wrote sink (ContentLine fault)
-Means IsDue NotBuilt sink = IsDue NotBuiltLine × Wrote sink NotBuiltLine
-Means IsDue SinkFailed sink = (w : Writing) × IsDue w × WroteFront sink w × HasFailed sink
-Means IsDue NoMemory sink = (w : Writing) × IsDue w × WroteFront sink w × IsCalm sink
+Means IsDue SinkFailed sink = (w : Writing) × IsDue w × WrotePrefix sink w × HasFailed sink
+Means IsDue NoMemory sink = (w : Writing) × IsDue w × WrotePrefix sink w × IsCalm sink
 
 -- these are first events of the scenario
 abbrev pub IsRunOf : Scenario → List (List Note) → Type 0
@@ -101,11 +99,10 @@ abbrev pub IsDue : Call → Writing → Type 0
 IsDue c Nothing = Unit {0}
 IsDue c UsageLine = (IsReplay c.words → ⊥) × IsUntouched c.source
 IsDue c SourceLine = IsReplay c.words × HasFailed c.source
-IsDue c RefusalLine = Replays c (λ bytes. (s : Scenario) → Reads bytes s → ⊥)
+IsDue c (RefusalLine passed) = Replays c (λ bytes. IsRefusedWithin most IsScenario bytes passed)
 IsDue c (ContentLine fault) = Replays c (λ bytes. (s : Scenario) × Reads bytes s × (content_of s.content ≡ Err fault)) × IsAtEnd c.source.new
     × (fault ≢ no_memory)
-IsDue c NotBuiltLine = Replays c (λ bytes. (s : Scenario) × Reads bytes s × HasContent s × (all_built s.acts ≡ false)) × IsAtEnd c.source.new
-IsDue c (Events s events) = Replays c (λ bytes. Reads bytes s × (all_built s.acts ≡ true)) × IsAtEnd c.source.new × IsRunOf s events
+IsDue c (Events s events) = Replays c (λ bytes. Reads bytes s) × IsAtEnd c.source.new × IsRunOf s events
 
 -- the exit status of an ending
 abbrev pub status_of : Ending → ℕ
@@ -115,7 +112,6 @@ status_of SourceFailed = 3
 status_of SinkFailed = 4
 status_of Refused = 5
 status_of ContentRefused = 6
-status_of NotBuilt = 12
 status_of NoMemory = 70
 
 -- what is written of a text that was read, behind which a longer one may go on
@@ -123,29 +119,26 @@ abbrev pub IsDueAt : List ℕ → Writing → Type 0
 IsDueAt text Nothing = Unit {0}
 IsDueAt text UsageLine = ⊥
 IsDueAt text SourceLine = ⊥
-IsDueAt text RefusalLine = (rest : List ℕ) → (length text ≤ most → rest ≡ []) → (s : Scenario) → Reads (text ++ rest) s → ⊥
+IsDueAt text (RefusalLine passed) = (rest : List ℕ) → (length text ≤ most → rest ≡ []) → IsRefusedWithin most IsScenario (text ++ rest) passed
 IsDueAt text (ContentLine fault) = (fault ≢ no_memory) × (s : Scenario) × Reads text s × (content_of s.content ≡ Err fault)
-IsDueAt text NotBuiltLine = (s : Scenario) × Reads text s × HasContent s × (all_built s.acts ≡ false)
-IsDueAt text (Events s events) = (Reads text s × (all_built s.acts ≡ true)) × IsRunOf s events
+IsDueAt text (Events s events) = Reads text s × IsRunOf s events
 
 -- what is written of a scenario
 abbrev pub IsDueIn : Scenario → Writing → Type 0
 IsDueIn s Nothing = Unit {0}
 IsDueIn s UsageLine = ⊥
 IsDueIn s SourceLine = ⊥
-IsDueIn s RefusalLine = ⊥
+IsDueIn s (RefusalLine passed) = ⊥
 IsDueIn s (ContentLine fault) = (content_of s.content ≡ Err fault) × (fault ≢ no_memory)
-IsDueIn s NotBuiltLine = HasContent s × (all_built s.acts ≡ false)
-IsDueIn s (Events t events) = (t ≡ s) × (all_built s.acts ≡ true) × IsRunOf s events
+IsDueIn s (Events t events) = (t ≡ s) × IsRunOf s events
 
 -- what a session writes
 abbrev pub IsDueOf : Scenario → Writing → Type 0
 IsDueOf s Nothing = Unit {0}
 IsDueOf s UsageLine = ⊥
 IsDueOf s SourceLine = ⊥
-IsDueOf s RefusalLine = ⊥
+IsDueOf s (RefusalLine passed) = ⊥
 IsDueOf s (ContentLine fault) = ⊥
-IsDueOf s NotBuiltLine = ⊥
 IsDueOf s (Events t events) = (t ≡ s) × IsRunOf s events
 
 -- nothing, or this line about a content
@@ -153,9 +146,8 @@ abbrev pub IsContentOr : ContentFault → Writing → Type 0
 IsContentOr fault Nothing = Unit {0}
 IsContentOr fault UsageLine = ⊥
 IsContentOr fault SourceLine = ⊥
-IsContentOr fault RefusalLine = ⊥
+IsContentOr fault (RefusalLine passed) = ⊥
 IsContentOr fault (ContentLine f) = (f ≡ fault) × (fault ≢ no_memory)
-IsContentOr fault NotBuiltLine = ⊥
 IsContentOr fault (Events s events) = ⊥
 
 -- What came of writing a text, of which good was to be the ending: that, or the sink failed, or memory did.

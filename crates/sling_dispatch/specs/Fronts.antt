@@ -7,7 +7,7 @@ use Rattle.sling_dispatch.specs.declared.note.Note.{Note}
 
 -- the front stands for this world
 abbrev pub Stands : Front → World → Type 0
-Stands f w = w.content ≡ f.content
+Stands f w = w.content ≡ f.publisher
 
 -- the step has these notes, whatever world the front stands for
 abbrev pub Extends : Front → Step → List Note → Front → Type 0

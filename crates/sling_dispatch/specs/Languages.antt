@@ -5,12 +5,12 @@ use Rattle.sling_dispatch.specs.Lines.{newlines}
 abbrev pub Begins : (List ℕ → Type 0) → List ℕ → Type 0
 Begins Text bytes = (more : List ℕ) × Text (bytes ++ more)
 
--- The bytes are no text of the language, and n newlines stand before the first byte with which they are no front of one
+-- The bytes are no text of the language, and n newlines stand before the first byte with which they are no prefix of one
 -- any more, or before their end where they end too early. So the line of the refusal is n + 1.
-pub record IsRefusedBy (Text Front : List ℕ → Type 0) (bytes : List ℕ) (n : ℕ) : Type 0 where
+pub record IsRefusedBy (Text Prefix : List ℕ → Type 0) (bytes : List ℕ) (n : ℕ) : Type 0 where
   pub none : Text bytes → ⊥
-  pub first : (at : ℕ) → at < length bytes → Front (take at bytes) → (Front (take (at + 1) bytes) → ⊥) → newlines (take at bytes) ≡ n
-  pub early : Front bytes → newlines bytes ≡ n
+  pub first : (at : ℕ) → at < length bytes → Prefix (take at bytes) → (Prefix (take (at + 1) bytes) → ⊥) → newlines (take at bytes) ≡ n
+  pub early : Prefix bytes → newlines bytes ≡ n
 
 abbrev pub IsRefused : (List ℕ → Type 0) → List ℕ → ℕ → Type 0
 IsRefused Text bytes n = IsRefusedBy Text (Begins Text) bytes n

@@ -1,20 +1,29 @@
-use Rattle.std.specs.Prelude.{◌++◌, ℕ, List, [], ◌∷◌, Option, Some, None, option_and_then, codes}
+use Rattle.std.specs.Prelude.{ℕ, List, [], Option, Some, None, codes}
 use Rattle.sp_base.specs.declared.answer.Answer.{Answer}
-use Rattle.sp_base.specs.declared.answer.Mark.TheVariants.{Plain}
-use Rattle.resource_tree.specs.Content.{Content, node_at}
-use Rattle.resource_tree.specs.declared.nodes.Node.{Node}
-use Rattle.property_json.specs.PropertyJson.{properties_text}
-use Rattle.sling_dispatch.specs.Targets.{target_path}
+use Rattle.sp_base.specs.declared.answer.Ask.{Ask}
+use Rattle.resource_tree.specs.Content.{Content}
+use Rattle.publisher.specs.Errors.{error_answer}
+use Rattle.publisher.specs.Rendering.{rendered}
+use Rattle.sling_dispatch.specs.Targets.{target_of}
+use Rattle.sling_dispatch.specs.declared.target.Target.{Target}
 
--- an answer with a kind and a body alone
-abbrev pub plain_answer : ℕ → List ℕ → List ℕ → Answer
-plain_answer status kind body = record { status = status; kind = kind; location = []; mark = Plain; body = body }
+-- what the publisher is asked for a target: a GET of it, at the one host that is asked
+abbrev pub get_of : Target → Ask
+get_of target = record {
+  method = codes "GET";
+  host = codes "localhost";
+  port = 80;
+  path = target.path;
+  slash = target.slash;
+  kind = [];
+  body = [];
+}
 
--- The answer where there is a node: its own properties as JSON. Where there is none: not found.
-abbrev pub node_answer : Option Node → Answer
-node_answer (Some node) = plain_answer 200 (codes "application/json;charset=utf-8") (properties_text node.props)
-node_answer None = plain_answer 404 (codes "text/plain;charset=utf-8") (codes "404 Not Found" ++ 10 ∷ [])
+-- the publisher's answer, or Bad Request where the target is a bad one (RFC 9110, section 15.5.1)
+abbrev pub answer_to : Content → Option Target → Answer
+answer_to content (Some target) = rendered content (get_of target)
+answer_to content None = error_answer 400
 
--- the answer to a target on a content tree
-abbrev pub rendered : Content → List ℕ → Answer
-rendered content target = node_answer (option_and_then (node_at content) (target_path target))
+-- the answer to a target that is asked past the cache
+abbrev pub direct_answer : Content → List ℕ → Answer
+direct_answer content target = answer_to content (target_of target)

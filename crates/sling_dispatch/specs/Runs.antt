@@ -1,7 +1,7 @@
 use Rattle.std.specs.Prelude.{◌≡◌, ℕ, List, [], ◌∷◌, Ok, take}
 use Rattle.resource_tree.specs.Content.{Content}
 use Rattle.content_json.specs.ContentOf.{content as content_of}
-use Rattle.sling_dispatch.specs.Rendering.{rendered}
+use Rattle.sling_dispatch.specs.Rendering.{direct_answer}
 use Rattle.sling_dispatch.specs.declared.scenario.Act.{Act}
 use Rattle.sling_dispatch.specs.declared.scenario.Act.TheVariants.{Do}
 use Rattle.sling_dispatch.specs.declared.scenario.Step.{Step}
@@ -16,7 +16,7 @@ pub record World : Type 0 where
 
 -- the notes that a step may give
 abbrev pub Event : World → Step → List Note → Type 0
-Event w (Direct target) notes = notes ≡ answered (rendered w.content target) ∷ []
+Event w (Direct target) notes = notes ≡ answered (direct_answer w.content target) ∷ []
 
 -- the world after an event
 abbrev pub after_event : World → Step → List Note → World

@@ -1,39 +1,45 @@
-use Rattle.std.specs.Prelude.{◌-◌, ◌==◌, ◌&&◌, ◌||◌, ℕ, Bool, nat_eq, if◌then◌else◌, is_ok, is_some, List, [], ◌∷◌, Option, Some, None, option_and_then, Result, Ok, Err, codes, length, take, drop}
-use Rattle.std.specs.Char.{is_ascii_alphanumeric}
-use Rattle.std.specs.Cmp.Lexicographic.{pointwise}
-use Rattle.std.specs.List.{list_all}
-use Rattle.sp_base.specs.Paths.{path_of}
-use Rattle.sp_base.specs.declared.path.PathFault.{PathFault}
-use Rattle.sling_dispatch.specs.declared.scenario.Act.{Act}
-use Rattle.sling_dispatch.specs.declared.scenario.Act.TheVariants.{Do}
-use Rattle.sling_dispatch.specs.declared.scenario.Step.TheVariants.{Direct}
+use Rattle.std.specs.Prelude.{◌+◌, ◌-◌, ◌==◌, ◌&&◌, ℕ, Bool, nat_lt, if◌then◌else◌, List, Option, Some, None, option_and_then, length, take, drop, position, slice_index}
+use Rattle.std.specs.List.{before_first}
+use Rattle.std.specs.Option.{option_map}
+use Rattle.std.specs.Result.{result_ok}
+use Rattle.std.specs.Str.{is_utf8}
+use Rattle.percent_encoding.specs.Percent.{percent_decode}
+use Rattle.sp_base.specs.Paths.{path_of, unmangled}
+use Rattle.sling_dispatch.specs.declared.target.Target.{Target}
 
--- a letter, a digit or a slash
-abbrev pub is_plain : ℕ → Bool
-is_plain b = is_ascii_alphanumeric b || (b == 47)
+-- a `?` ends the path
+abbrev pub is_mark : ℕ → Bool
+is_mark b = b == 63
 
--- the text before `.json`, where the text ends so
-abbrev pub before_json : List ℕ → Option (List ℕ)
-before_json text = if pointwise nat_eq (drop (length text - 5) text) (codes ".json") then Some (take (length text - 5) text) else None
+-- the query: what stands behind the first `?` (RFC 3986, section 3.4)
+abbrev pub query_of : List ℕ → Option (List ℕ)
+query_of target = option_map (λ at. drop (at + 1) target) (position is_mark target)
 
--- a path other than the root
-abbrev pub named_path : Result (List (List ℕ)) PathFault → Option (List (List ℕ))
-named_path (Ok []) = None
-named_path (Ok (segment ∷ path)) = Some (segment ∷ path)
-named_path (Err _) = None
+-- The path of a target is what stands before its query. Each escape in it is the byte of its two digits; a `%` that begins
+-- none, and any other byte, stands for itself (RFC 3986, section 2.1).
+abbrev pub path_text : List ℕ → List ℕ
+path_text target = percent_decode (before_first is_mark target)
 
--- the path that a target names whose part before `.json` is this
-abbrev pub front_path : List ℕ → List ℕ → Option (List (List ℕ))
-front_path target front = if list_all is_plain front && is_ok (path_of target) then named_path (path_of front) else None
+-- the text ends in a slash, and isn't the slash alone
+abbrev pub ends_in_slash : List ℕ → Bool
+ends_in_slash text = nat_lt 1 (length text) && (slice_index text (length text - 1) == 47)
 
--- The path that a target names: one or more segments of letters and digits, and behind them `.json`, where the whole
--- reads as a path. Other targets are not built yet.
-abbrev pub target_path : List ℕ → Option (List (List ℕ))
-target_path target = option_and_then (front_path target) (before_json target)
+-- the text without that slash
+abbrev pub without_slash : List ℕ → List ℕ
+without_slash text = if ends_in_slash text then take (length text - 1) text else text
 
-abbrev pub is_built : Act → Bool
-is_built (Do (Direct target)) = is_some (target_path target)
+-- the text that bytes are, where they are UTF-8
+abbrev pub as_text : List ℕ → Option (List ℕ)
+as_text bytes = if is_utf8 bytes then Some bytes else None
 
--- the targets of all acts are built
-abbrev pub all_built : List Act → Bool
-all_built acts = list_all is_built acts
+-- the path that decoded bytes spell, where they spell one
+abbrev pub spelled : List ℕ → Option (List (List ℕ))
+spelled bytes = option_and_then (λ text. result_ok (path_of (without_slash text))) (as_text bytes)
+
+-- a target with this path
+abbrev pub with_path : List ℕ → List (List ℕ) → Target
+with_path target path = record { path = unmangled path; slash = ends_in_slash (path_text target); query = query_of target }
+
+-- what a target says, or None where it is a bad one
+abbrev pub target_of : List ℕ → Option Target
+target_of target = option_map (with_path target) (spelled (path_text target))

@@ -14,8 +14,6 @@ pub enum Ending {
     Refused,
     /// The content has no reading.
     ContentRefused,
-    /// A target isn't of a form that is built.
-    NotBuilt,
     NoMemory,
 }
 
@@ -31,7 +29,6 @@ impl Ending {
             Ending::SinkFailed => 4,
             Ending::Refused => 5,
             Ending::ContentRefused => 6,
-            Ending::NotBuilt => 12,
             Ending::NoMemory => 70,
         }
     }

@@ -1,12 +1,24 @@
-//! How a fault of a content is written.
-ghost use Rattle.std.specs.Prelude.{◌≡◌, ◌++◌, ◌↔◌, ◌∷◌, [], IfOk, OnOk, IsTrue, codes};
+//! How a refusal is written.
+ghost use Rattle.std.specs.Prelude.{◌≡◌, ◌+◌, ◌<◌, ◌^◌, ◌++◌, ◌↔◌, ◌∷◌, [], IfOk, OnOk, IsTrue, codes};
 ghost use Rattle.sling_dispatch.specs.Faults.{placed, fault_text};
-ghost use Rattle.sling_dispatch.specs.Endings.{text_of, ContentLine};
+ghost use Rattle.sling_dispatch.specs.Endings.{text_of, RefusalLine, ContentLine};
 
-use crate::transcript::push;
+use crate::transcript::{push, push_number};
 use content_json::ContentFault;
 use sp_base::{Mem, Path};
 use std::alloc::Global;
+
+// The line that names the refused line of a scenario, behind so many others.
+pub fn refusal_line(alloc: Global, passed: u64) -> Mem<Vec<u8>>
+    requires { passed + 1 < 2 ^ 64 }
+    ensures { IfOk result (λ text. text.items ≡ text_of (RefusalLine passed)) }
+{
+    let mut text = Vec::new(alloc);
+    push(&mut text, b"scenario refused at line ")?;
+    push_number(alloc, &mut text, passed + 1)?;
+    push(&mut text, b"\n")?;
+    Ok(text)
+}
 
 pub fn is_memory(fault: &ContentFault) -> bool
     ensures { IsTrue result ↔ (fault.now ≡ ContentFault.NoMemory) }

@@ -1,18 +1,18 @@
 ghost use Rattle.std.specs.Prelude.{◌≡◌, ◌∷◌, [], IfOk, OnErr};
-ghost use Rattle.sling_dispatch.specs.Rendering.{rendered};
+ghost use Rattle.sling_dispatch.specs.Rendering.{direct_answer};
 ghost use Rattle.sling_dispatch.specs.Fronts.{Extends};
 
 use crate::note::{Note, NoteList};
-use crate::rendering::render;
+use crate::rendering::direct;
 use crate::scenario::Step;
-use resource_tree::Tree;
+use publisher::Publisher;
 use sp_base::{Items, Mem};
 use std::alloc::Global;
 
 /// What events act on.
 #[derive(Drop)]
 pub struct Front {
-    pub content: Tree,
+    pub publisher: Publisher,
 }
 
 impl Front {
@@ -26,11 +26,13 @@ impl Front {
         }
     }
 
-    fn direct(&self, alloc: Global, target: &str) -> Mem<NoteList>
-        ensures { IfOk result (λ notes. notes ≡ Note.Answer (rendered self.now.content target.now) ∷ []) }
+    fn direct(&mut self, alloc: Global, target: &str) -> Mem<NoteList>
+        ensures event { IfOk result (λ notes. notes ≡ Note.Answer (direct_answer self.old.publisher target.now) ∷ []) }
+        ensures unchanged { self.new ≡ self.old }
     {
+        let answer = direct(alloc, &mut self.publisher, target.as_bytes())?;
         let mut notes = Items::new(alloc);
-        notes.push(Note::Answer(render(alloc, &self.content, target)?))?;
+        notes.push(Note::Answer(answer))?;
         Ok(notes)
     }
 }

@@ -1,8 +1,7 @@
 //! Laws of the definitions, on functions that do nothing.
-ghost use Rattle.std.specs.Prelude.{◌≡◌, ◌⊎◌, ◌<◌, ℕ, List, Some, true};
+ghost use Rattle.std.specs.Prelude.{◌≡◌, ◌⊎◌, ◌<◌, ℕ, List, Some};
 ghost use Rattle.sling_dispatch.specs.Languages.{IsRefusedWithin};
 ghost use Rattle.sling_dispatch.specs.Scenario.{Spells, IsScenario, Reads, most};
-ghost use Rattle.sling_dispatch.specs.Targets.{all_built};
 ghost use Rattle.sling_dispatch.specs.Endings.{Seen, Call, Means, IsDue, IsReplay, IsCalm, HasContent};
 ghost use Rattle.sling_dispatch.specs.declared.ending.Ending.{Ending};
 ghost use Rattle.sling_dispatch.specs.declared.ending.Ending.TheVariants.{Done, NoMemory};
@@ -18,11 +17,11 @@ pub fn one_refusal()
     ensures { (text : List ℕ) (n m : ℕ) → IsRefusedWithin most IsScenario text n → IsRefusedWithin most IsScenario text m → n ≡ m }
 {}
 
-/// Where the words are right, the source's bytes are a scenario whose content has a reading and whose targets are built, and
-/// neither the source nor the sink failed, the run is done, unless memory was wanting.
+/// Where the words are right, the source's bytes are a scenario whose content has a reading, and neither the source nor the
+/// sink failed, the run is done, unless memory was wanting.
 pub fn complete()
     ensures { (c : Call) (sink : Seen (List ℕ)) (bytes : List ℕ) (s : Scenario) (ending : Ending) → Means (IsDue c) ending sink
-        → IsReplay c.words → c.source.old ≡ Some bytes → Reads bytes s → HasContent s → all_built s.acts ≡ true
+        → IsReplay c.words → c.source.old ≡ Some bytes → Reads bytes s → HasContent s
         → c.source.faults_old < 18446744073709551615 → IsCalm c.source → sink.faults_old < 18446744073709551615 → IsCalm sink
         → (ending ≡ Done) ⊎ (ending ≡ NoMemory) }
 {}

@@ -12,7 +12,7 @@ mod reader;
 mod rendering;
 mod scenario;
 mod streams;
-mod targets;
+mod target;
 #[cfg(test)]
 mod tests;
 mod transcript;

@@ -1,22 +1,21 @@
-ghost use Rattle.std.specs.Prelude.{◌≡◌, ◌≢◌, ◌↔◌, ◌++◌, ◌∷◌, ◌+◌, [], ℕ, List, Ok, Err, map, codes, IsTrue, IfOk};
+ghost use Rattle.std.specs.Prelude.{◌≡◌, ◌≢◌, ◌↔◌, ◌++◌, ◌∷◌, ◌+◌, [], ℕ, List, Ok, Err, map, codes, IsTrue, IfOk, OnErr};
 ghost use Rattle.content_json.specs.ContentOf.{content as content_of};
 ghost use Rattle.sling_dispatch.specs.declared.ending.Ending.{Ending};
 ghost use Rattle.sling_dispatch.specs.Fronts.{IsNext};
 ghost use Rattle.sling_dispatch.specs.Scenario.{most};
 ghost use Rattle.sling_dispatch.specs.Streams.{HasTaken};
-ghost use Rattle.sling_dispatch.specs.Endings.{Means, IsDue, IsDueAt, IsDueIn, IsDueOf, IsContentOr, Tells, IsReplay, seen, status_of};
+ghost use Rattle.sling_dispatch.specs.Endings.{Means, IsDue, IsDueAt, IsDueIn, IsDueOf, IsContentOr, Tells, IsReplay, IsUntouched, seen, status_of};
 
 use crate::ending::Ending;
-use crate::faults::{content_line, is_memory};
+use crate::faults::{content_line, is_memory, refusal_line};
 use crate::front::Front;
 use crate::lines::same;
 use crate::reader::read_limited;
 use crate::scenario::{Act, Scenario, ScenarioFault, Step};
 use crate::streams::{ReadFault, read_whole, write_all};
-use crate::targets::are_built;
 use crate::transcript::write_notes;
 use content_json::{ContentFault, read_tree};
-use resource_tree::Tree;
+use publisher::Publisher;
 use sp_base::Mem;
 use sp_outside::{Sink, SinkFault, Source};
 use std::alloc::Global;
@@ -76,13 +75,26 @@ fn say<K: Sink>(sink: &mut K, text: &[u8], good: Ending) -> Ending
     }
 }
 
+// The same for a line, where memory was there to make it.
+fn say_line<K: Sink>(sink: &mut K, line: Mem<Vec<u8>>, good: Ending) -> Ending
+    ensures made { IfOk line (λ text. Tells good text.items result (seen (K.held sink.old) (K.held sink.new) (K.faults sink.old) (K.faults sink.new))) }
+    ensures not_made { OnErr line ((result ≡ Ending.NoMemory) × IsUntouched (seen (K.held sink.old) (K.held sink.new) (K.faults sink.old) (K.faults sink.new))) }
+{
+    match line {
+        Ok(text) => say(sink, &text, good),
+        Err(_) => Ending::NoMemory,
+    }
+}
+
 // Runs the scenario that a text spells.
 fn replay<K: Sink>(alloc: Global, text: &[u8], sink: &mut K) -> Ending
     ensures { Means (IsDueAt text.now) result (seen (K.held sink.old) (K.held sink.new) (K.faults sink.old) (K.faults sink.new)) }
 {
     match read_limited(alloc, text, MOST) {
         Ok(scenario) => session(alloc, &scenario, sink),
-        Err(ScenarioFault::Line(_)) => say(sink, b"scenario refused\n", Ending::Refused),
+        Err(ScenarioFault::Line(passed)) => {
+            say_line(sink, refusal_line(alloc, passed), Ending::Refused)
+        }
         Err(ScenarioFault::NoMemory) => Ending::NoMemory,
     }
 }
@@ -92,7 +104,7 @@ fn session<K: Sink>(alloc: Global, scenario: &Scenario, sink: &mut K) -> Ending
     ensures { Means (IsDueIn scenario.now) result (seen (K.held sink.old) (K.held sink.new) (K.faults sink.old) (K.faults sink.new)) }
 {
     match read_tree(alloc, scenario.content.bytes()) {
-        Ok(tree) => perform(alloc, tree, scenario, sink),
+        Ok(tree) => play(alloc, Publisher::new(tree), scenario, sink),
         Err(fault) => refuse_content(alloc, &fault, sink),
     }
 }
@@ -104,30 +116,15 @@ fn refuse_content<K: Sink>(alloc: Global, fault: &ContentFault, sink: &mut K) ->
     if is_memory(fault) {
         return Ending::NoMemory;
     }
-    match content_line(alloc, fault) {
-        Ok(line) => say(sink, &line, Ending::ContentRefused),
-        Err(_) => Ending::NoMemory,
-    }
-}
-
-// Runs a scenario whose content has this reading.
-fn perform<K: Sink>(alloc: Global, tree: Tree, scenario: &Scenario, sink: &mut K) -> Ending
-    requires { content_of scenario.now.content ≡ Ok tree }
-    ensures { Means (IsDueIn scenario.now) result (seen (K.held sink.old) (K.held sink.new) (K.faults sink.old) (K.faults sink.new)) }
-{
-    match are_built(alloc, scenario.acts.as_slice()) {
-        Ok(true) => play(alloc, tree, scenario, sink),
-        Ok(false) => say(sink, b"not built\n", Ending::NotBuilt),
-        Err(_) => Ending::NoMemory,
-    }
+    say_line(sink, content_line(alloc, fault), Ending::ContentRefused)
 }
 
 // Makes the events of a scenario, and writes its transcript event by event.
-fn play<K: Sink>(alloc: Global, tree: Tree, scenario: &Scenario, sink: &mut K) -> Ending
-    requires { content_of scenario.now.content ≡ Ok tree }
+fn play<K: Sink>(alloc: Global, publisher: Publisher, scenario: &Scenario, sink: &mut K) -> Ending
+    requires { content_of scenario.now.content ≡ Ok publisher }
     ensures { Means (IsDueOf scenario.now) result (seen (K.held sink.old) (K.held sink.new) (K.faults sink.old) (K.faults sink.new)) }
 {
-    let mut front = Front { content: tree };
+    let mut front = Front { publisher };
     let mut event = 0;
     for act in scenario.acts.as_slice() {
         event += 1;

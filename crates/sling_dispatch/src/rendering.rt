@@ -1,52 +1,38 @@
-//! The answer to a target on a content tree.
-ghost use Rattle.std.specs.Prelude.{◌≡◌, ◌++◌, ◌∷◌, [], Some, None, IfOk, codes};
-ghost use Rattle.sling_dispatch.specs.Rendering.{plain_answer, node_answer, rendered};
+//! The answer to a target that is asked of the publisher, past the cache.
+ghost use Rattle.std.specs.Prelude.{◌≡◌, IfOk};
+ghost use Rattle.sling_dispatch.specs.Rendering.{get_of, direct_answer};
 
-use crate::targets::target_path;
-use property_json::object_text;
-use resource_tree::{Node, Tree};
-use sp_base::{Answer, ByteBuf, Mark, Mem, TextBuf};
+use crate::target::{Target, read_target};
+use publisher::{Publisher, error_answer};
+use sp_base::{Answer, Ask, ByteBuf, Mem, TextBuf};
 use std::alloc::Global;
 
-fn make_answer(alloc: Global, status: u16, kind: &str, body: &[u8]) -> Mem<Answer>
-    ensures { IfOk result (λ a. a ≡ plain_answer status kind.now body.now) }
+// The host and the port that the publisher is asked for.
+const ASKED_HOST: &str = "localhost";
+
+const ASKED_PORT: u16 = 80;
+
+fn ask_of(alloc: Global, target: Target) -> Mem<Ask>
+    ensures { IfOk result (λ ask. ask ≡ get_of target) }
 {
-    Ok(Answer {
-        status,
-        kind: TextBuf::of(alloc, kind)?,
-        location: TextBuf::of(alloc, "")?,
-        mark: Mark::Plain,
-        body: ByteBuf::of(alloc, body)?,
+    Ok(Ask {
+        method: TextBuf::of(alloc, "GET")?,
+        host: TextBuf::of(alloc, ASKED_HOST)?,
+        port: ASKED_PORT,
+        path: target.path,
+        slash: target.slash,
+        kind: TextBuf::of(alloc, "")?,
+        body: ByteBuf::of(alloc, b"")?,
     })
 }
 
-fn found(alloc: Global, node: &Node) -> Mem<Answer>
-    ensures { IfOk result (λ a. a ≡ node_answer (Some node.now)) }
+// Asks the publisher for a target.
+pub fn direct(alloc: Global, publisher: &mut Publisher, target: &[u8]) -> Mem<Answer>
+    ensures answer { IfOk result (λ a. a ≡ direct_answer publisher.old target.now) }
+    ensures unchanged { publisher.new ≡ publisher.old }
 {
-    let text = object_text(alloc, &node.props)?;
-    make_answer(
-        alloc,
-        200,
-        "application/json;charset=utf-8",
-        text.text().as_bytes(),
-    )
-}
-
-fn not_found(alloc: Global) -> Mem<Answer>
-    ensures { IfOk result (λ a. a ≡ node_answer None) }
-{
-    make_answer(alloc, 404, "text/plain;charset=utf-8", b"404 Not Found\n")
-}
-
-// Asks the content for a target.
-pub fn render(alloc: Global, content: &Tree, target: &str) -> Mem<Answer>
-    ensures { IfOk result (λ a. a ≡ rendered content.now target.now) }
-{
-    let Some(path) = target_path(alloc, target)? else {
-        return not_found(alloc);
-    };
-    match content.node(&path) {
-        Some(node) => found(alloc, node),
-        None => not_found(alloc),
+    match read_target(alloc, target)? {
+        Some(target) => publisher.answer(alloc, &ask_of(alloc, target)?),
+        None => error_answer(alloc, 400),
     }
 }

@@ -68,24 +68,26 @@ fn replays_scenarios(rt: HostRuntime) -> Result<(), Fail> {
 
 #[test]
 fn refuses_what_is_no_scenario(rt: HostRuntime) -> Result<(), Fail> {
-    let cases: [&[u8]; 12] = [
-        b"",
-        b"scenario 1\ncontent\n{}\n.\nope",
-        b"scenario 1\ncontent\n{}\n.\n",
-        b"scenario 1\ncontent\n{}\n.\nend",
-        b"scenario 1\ncontent\n{}\nend\n",
-        b"scenario 2\ncontent\n{}\n.\nend\n",
-        b"scenario 1\ncontents\n{}\n.\nend\n",
-        b"scenario 1\ncontent\n{}\n.\nend\n\n",
-        b"scenario 1\ncontent\n{}\n.\ndirect \nend\n",
-        b"scenario 1\ncontent\n{}\n.\ndirect /a b.json\nend\n",
-        b"scenario 1\ncontent\n{}\n.\ndirect /\xff.json\nend\n",
-        b"scenario 1\ncontent\n{}\n.\npurge\nend\n",
+    let cases: [(&[u8], u32); 13] = [
+        (b"", 1),
+        (b"scenario 1\ncontent\n{}\n.\nope", 5),
+        (b"scenario 1\ncontent\n{}\n.\n", 5),
+        (b"scenario 1\ncontent\n{}\n.\nend", 5),
+        (b"scenario 1\ncontent\n{}\nend\n", 5),
+        (b"scenario 1\ncontent\n{\n}\n.\npurge\nend\n", 6),
+        (b"scenario 2\ncontent\n{}\n.\nend\n", 1),
+        (b"scenario 1\ncontents\n{}\n.\nend\n", 2),
+        (b"scenario 1\ncontent\n{}\n.\nend\n\n", 6),
+        (b"scenario 1\ncontent\n{}\n.\ndirect \nend\n", 5),
+        (b"scenario 1\ncontent\n{}\n.\ndirect /a b.json\nend\n", 5),
+        (b"scenario 1\ncontent\n{}\n.\ndirect /\xff.json\nend\n", 5),
+        (b"scenario 1\ncontent\n{}\n.\ndirect /\ndirect/\nend\n", 6),
     ];
-    for text in cases {
+    for (text, line) in cases {
         let (status, written) = ran(rt.alloc(), &["replay"], text, &[], &[])?;
         assert_eq!(rt; status, 5, "{text:?}");
-        assert_eq!(rt; written.as_slice(), b"scenario refused\n".as_slice());
+        let wanted = format!(in rt.alloc(); "scenario refused at line {line}\n")?;
+        assert_eq!(rt; written.as_slice(), wanted.as_bytes(), "{text:?}");
     }
     Ok(())
 }
@@ -109,7 +111,6 @@ fn refuses_contents(rt: HostRuntime) -> Result<(), Fail> {
         (b"{\":mine\":{}}", b"content refused: BadName at /\n"),
     ];
     for (content, wanted) in cases {
-        // A content is refused before a target that isn't built.
         let text = scenario(rt.alloc(), content, b"direct /a\n")?;
         let (status, written) = replayed(rt.alloc(), text)?;
         assert_eq!(rt; status, 6, "{content:?}");
@@ -118,43 +119,220 @@ fn refuses_contents(rt: HostRuntime) -> Result<(), Fail> {
     Ok(())
 }
 
+// What a content is asked for, and how it answers.
 #[test]
-fn knows_the_targets_that_are_built(rt: HostRuntime) -> Result<(), Fail> {
-    let refused: [&[u8]; 11] = [
-        b"/a",
-        b"/.json",
-        b"a.json",
-        b"/a/.json",
-        b"//a.json",
-        b"/a.b.json",
-        b"/a%62.json",
-        b"/a.json/b",
-        b"/a_b.json",
-        b"/a.json?q",
-        b"/../a.json",
+fn answers_targets(rt: HostRuntime) -> Result<(), Fail> {
+    let en: &[u8] = b"{\"content\":{\"en\":{\"title\":\"Hello\",\"jcr:title\":\"Hi\"}}}";
+    let logo: &[u8] =
+        b"{\"content\":{\"logo.txt\":{\"jcr:content\":{\"jcr:data\":\"hey\",\"jcr:mimeType\":\"text/plain\"}}}}";
+    let kinds: &[u8] = b"{\"a\":{\"n\":3,\"t\":[true],\"k\":{\"x\":\"y\"}}}";
+    let dotted: &[u8] = b"{\"a\":{\"b\":{\"x\":\"b\"},\"b.s1\":{\"x\":\"s\",\"k\":{}}}}";
+    let marked: &[u8] = b"{\"a\":{\"sp:mark\":\"no-store\"}}";
+    let bad = "answer 400 \"text/plain;charset=utf-8\" - - \"400 Bad Request\\n\"";
+    let lost = "answer 404 \"text/plain;charset=utf-8\" - - \"404 Not Found\\n\"";
+    let cases: [(&[u8], &[u8], &str); 17] = [
+        (
+            en,
+            b"/content/en.json",
+            "answer 200 \"application/json;charset=utf-8\" - - \"{\\\"jcr:title\\\":\\\"Hi\\\",\\\"title\\\":\\\"Hello\\\"}\"",
+        ),
+        (en, b"/content/x.json", lost),
+        (en, b"/content/en.html", lost),
+        (en, b"/content/en", lost),
+        (
+            logo,
+            b"/content/logo.txt",
+            "answer 200 \"text/plain\" - - \"hey\"",
+        ),
+        (
+            logo,
+            b"/content/logo.txt/",
+            "answer 200 \"text/plain\" - - \"hey\"",
+        ),
+        (
+            kinds,
+            b"/a.1.json",
+            "answer 200 \"application/json;charset=utf-8\" - - \"{\\\"n\\\":3,\\\"t\\\":[true],\\\"k\\\":{\\\"x\\\":\\\"y\\\"}}\"",
+        ),
+        (
+            kinds,
+            b"/a.json",
+            "answer 200 \"application/json;charset=utf-8\" - - \"{\\\"n\\\":3,\\\"t\\\":[true]}\"",
+        ),
+        (kinds, b"/a.x.json", bad),
+        (kinds, b"/a//b", bad),
+        (
+            dotted,
+            b"/a/b.s1.json",
+            "answer 200 \"application/json;charset=utf-8\" - - \"{\\\"x\\\":\\\"s\\\"}\"",
+        ),
+        (
+            dotted,
+            b"/a/b.s1.1.json/c/d.txt",
+            "answer 200 \"application/json;charset=utf-8\" - - \"{\\\"x\\\":\\\"s\\\",\\\"k\\\":{}}\"",
+        ),
+        (
+            dotted,
+            b"/a/b.1.json",
+            "answer 200 \"application/json;charset=utf-8\" - - \"{\\\"x\\\":\\\"b\\\"}\"",
+        ),
+        (dotted, b"/a/b.s2.json", bad),
+        (dotted, b"/a/b/c/d", lost),
+        (dotted, b"/a/b./c/d", lost),
+        (
+            marked,
+            b"/a.json",
+            "answer 200 \"application/json;charset=utf-8\" - no-store \"{\\\"sp:mark\\\":\\\"no-store\\\"}\"",
+        ),
     ];
-    for target in refused {
-        let line = line_of(rt.alloc(), target)?;
-        let text = scenario(rt.alloc(), b"{}", &line)?;
-        let (status, written) = replayed(rt.alloc(), text)?;
-        assert_eq!(rt; status, 12, "{target:?}");
-        assert_eq!(rt; written.as_slice(), b"not built\n".as_slice());
-    }
-    // A segment has at most 200 bytes, and a path 64 segments.
-    for (segment, count, wanted) in [(195, 1, 0), (196, 1, 12), (1, 64, 0), (1, 65, 12)] {
-        let mut target = Vec::new(rt.alloc());
-        for _ in 0..count {
-            target.push(b'/')?;
-            for _ in 0..segment {
-                target.push(b'a')?;
-            }
-        }
-        target.extend_from_slice(b".json")?;
-        let line = line_of(rt.alloc(), &target)?;
-        let (status, _) = replayed(rt.alloc(), scenario(rt.alloc(), b"{}", &line)?)?;
-        assert_eq!(rt; status, wanted, "{count} of {segment}");
+    for (content, target, wanted) in cases {
+        let written = answered(rt.alloc(), content, target)?;
+        let wanted = format!(in rt.alloc(); "@ 1\n{wanted}\n")?;
+        assert_eq!(rt; written.as_slice(), wanted.as_bytes(), "{target:?}");
     }
     Ok(())
+}
+
+// Which resource a target names: each has its own text.
+#[test]
+fn reads_targets(rt: HostRuntime) -> Result<(), Fail> {
+    let content =
+        "{\"x\":\"root\",\"content\":{\"en\":{\"x\":\"en\"},\"a+b\":{\"x\":\"plus\"},\"5%\":{\"x\":\"percent\"},\"jcr:content\":{\"x\":\"jcr\"},\"\u{e9}\":{\"x\":\"accent\"}}}";
+    let cases: [(&[u8], u16, &str); 34] = [
+        (b"/content/en.json", 200, "en"),
+        (b"/content/%65n.json", 200, "en"),
+        (b"/content/e%6E%2ejson", 200, "en"),
+        (b"/content%2Fen.json", 200, "en"),
+        (b"/content/%2565n.json", 404, "Not Found"),
+        (b"/content/%C3%A9.json", 200, "accent"),
+        (b"/content/%E9.json", 400, "Bad Request"),
+        (b"/content/%ff", 400, "Bad Request"),
+        (b"/content/a+b.json", 200, "plus"),
+        (b"/content/a%2bb.json", 200, "plus"),
+        (b"/content/a%20b.json", 404, "Not Found"),
+        (b"/content/5%.json", 200, "percent"),
+        (b"/content/5%25.json", 200, "percent"),
+        (b"/%", 404, "Not Found"),
+        (b"/%4", 404, "Not Found"),
+        (b"/%zz", 404, "Not Found"),
+        (b"/content/en.json?q=1", 200, "en"),
+        (b"/content/en.json?", 200, "en"),
+        (b"/content/en.json?/../%ff?", 200, "en"),
+        (b"?q=1", 400, "Bad Request"),
+        (b"/content/en%3Fq.json", 404, "Not Found"),
+        (b"/.json", 200, "root"),
+        (b"/", 404, "Not Found"),
+        (b"//", 404, "Not Found"),
+        (b"///", 400, "Bad Request"),
+        (b"/content/en.json/", 200, "en"),
+        (b"/content/en.json//", 400, "Bad Request"),
+        (b"/content//en.json", 400, "Bad Request"),
+        (b"/content/./en.json", 400, "Bad Request"),
+        (b"/content/en/../en.json", 400, "Bad Request"),
+        (b"/content/%2e%2e/content/en.json", 400, "Bad Request"),
+        (b"/content/_jcr_content.json", 200, "jcr"),
+        (b"/content/jcr:content.json", 200, "jcr"),
+        (b"content/en.json", 400, "Bad Request"),
+    ];
+    for (target, status, what) in cases {
+        let written = answered(rt.alloc(), content.as_bytes(), target)?;
+        let wanted = told(rt.alloc(), status, what)?;
+        assert_eq!(rt; written.as_slice(), wanted.as_bytes(), "{target:?}");
+    }
+    Ok(())
+}
+
+// A path has at most 64 segments, and a segment at most 200 bytes, decoded and before it is unmangled.
+#[test]
+fn measures_targets(rt: HostRuntime) -> Result<(), Fail> {
+    let cases: [(&[u8], &[u8], u32, u16, &str); 8] = [
+        (b"", b"/a", 64, 404, "Not Found"),
+        (b"", b"/a", 65, 400, "Bad Request"),
+        (b"/", b"a", 200, 404, "Not Found"),
+        (b"/", b"a", 201, 400, "Bad Request"),
+        (b"/", b"%61", 200, 404, "Not Found"),
+        (b"/", b"%61", 201, 400, "Bad Request"),
+        (b"/_jcr_", b"a", 195, 404, "Not Found"),
+        (b"/_jcr_", b"a", 196, 400, "Bad Request"),
+    ];
+    for (front, unit, count, status, what) in cases {
+        let target = repeated(rt.alloc(), front, unit, count)?;
+        let written = answered(rt.alloc(), b"{}", &target)?;
+        let wanted = told(rt.alloc(), status, what)?;
+        assert_eq!(rt;
+            written.as_slice(),
+            wanted.as_bytes(),
+            "{count} of {unit:?}"
+        );
+    }
+    Ok(())
+}
+
+// At most 1,000 resources are shown below one another, and at most 4,194,304 bytes.
+#[test]
+fn measures_answers(rt: HostRuntime) -> Result<(), Fail> {
+    let json = "@ 1\nanswer 200 \"application/json;charset=utf-8\" - - \"{\\\"";
+    let choices =
+        "@ 1\nanswer 300 \"application/json;charset=utf-8\" - - \"[\\\"/content/big.1.json\\\",\\\"/content/big.0.json\\\"]\"\n";
+    let failed =
+        "@ 1\nanswer 500 \"text/plain;charset=utf-8\" - - \"500 Internal Server Error\\n\"\n";
+    let cases: [(Vec<u8>, &[u8], &str); 5] = [
+        (big(rt.alloc(), 999)?, b"/content/big.2.json", json),
+        (big(rt.alloc(), 1_000)?, b"/content/big.2.json", choices),
+        (big(rt.alloc(), 1_000)?, b"/content/big.1.json", json),
+        (long(rt.alloc(), 4_194_304)?, b"/.json", json),
+        (long(rt.alloc(), 4_194_305)?, b"/.json", failed),
+    ];
+    for (content, target, wanted) in cases {
+        let written = answered(rt.alloc(), &content, target)?;
+        assert!(rt; written.starts_with(wanted.as_bytes()), "{target:?}");
+    }
+    Ok(())
+}
+
+// What a run writes where a target is asked of a content.
+fn answered(alloc: Global, content: &[u8], target: &[u8]) -> Result<Vec<u8>, AllocError> {
+    let line = line_of(alloc, target)?;
+    let (_, written) = replayed(alloc, scenario(alloc, content, &line)?)?;
+    Ok(written)
+}
+
+// What is written of a resource with this text alone, or of an error with this phrase.
+fn told(alloc: Global, status: u16, what: &str) -> Result<String, AllocError> {
+    if status == 200 {
+        return format!(in alloc;
+            "@ 1\nanswer 200 \"application/json;charset=utf-8\" - - \"{{\\\"x\\\":\\\"{what}\\\"}}\"\n"
+        );
+    }
+    format!(in alloc;
+        "@ 1\nanswer {status} \"text/plain;charset=utf-8\" - - \"{status} {what}\\n\"\n"
+    )
+}
+
+// A text, and another so many times behind it.
+fn repeated(alloc: Global, front: &[u8], unit: &[u8], count: u32) -> Result<Vec<u8>, AllocError> {
+    let mut text = front.to_vec(alloc)?;
+    for _ in 0..count {
+        text.extend_from_slice(unit)?;
+    }
+    Ok(text)
+}
+
+// A content with a resource that has so many kids.
+fn big(alloc: Global, kids: u32) -> Result<Vec<u8>, AllocError> {
+    let mut text = b"{\"content\":{\"big\":".to_vec(alloc)?;
+    text.extend_from_slice(&wide(alloc, kids)?)?;
+    text.extend_from_slice(b"}}")?;
+    Ok(text)
+}
+
+// An object of so many bytes, with one text.
+fn long(alloc: Global, len: usize) -> Result<Vec<u8>, AllocError> {
+    let mut text = b"{\"x\":\"".to_vec(alloc)?;
+    let filler = vec![in alloc; b'a'; len.saturating_sub(8)]?;
+    text.extend_from_slice(&filler)?;
+    text.extend_from_slice(b"\"}")?;
+    Ok(text)
 }
 
 fn line_of(alloc: Global, target: &[u8]) -> Result<Vec<u8>, AllocError> {
@@ -220,11 +398,12 @@ fn padded(alloc: Global, len: usize) -> Result<Vec<u8>, AllocError> {
 
 #[test]
 fn refuses_scenarios_that_are_too_long(rt: HostRuntime) -> Result<(), Fail> {
-    let refused: &[u8] = b"scenario refused\n";
+    let last: &[u8] = b"scenario refused at line 5\n";
+    let first: &[u8] = b"scenario refused at line 1\n";
     for (text, status, wanted) in [
         (padded(rt.alloc(), 67_108_864)?, 0, b"".as_slice()),
-        (padded(rt.alloc(), 67_108_865)?, 5, refused),
-        (vec![in rt.alloc(); b'x'; 67_108_865]?, 5, refused),
+        (padded(rt.alloc(), 67_108_865)?, 5, last),
+        (vec![in rt.alloc(); b'x'; 67_108_865]?, 5, first),
     ] {
         let (got, written) = replayed(rt.alloc(), text)?;
         assert_eq!(rt; got, status);

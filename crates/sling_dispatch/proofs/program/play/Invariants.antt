@@ -4,7 +4,7 @@ use Rattle.sling_dispatch.proofs.program.play.Given as goal
 
 abbrev pub invariant-loop-act : goal.invariant-loop-act
 invariant-loop-act g l = record {
-  played : Played l.scenario l.fn.tree l.act-index l.event l.front (g.K.Sink.held l.initial.sink) (g.K.Sink.held l.sink);
+  played : Played l.scenario l.fn.publisher l.act-index l.event l.front (g.K.Sink.held l.initial.sink) (g.K.Sink.held l.sink);
   calm : g.K.Sink.faults l.sink ≡ g.K.Sink.faults l.initial.sink;
   counted : l.event ≤ l.act-index;
 }

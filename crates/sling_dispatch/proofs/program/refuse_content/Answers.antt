@@ -1,7 +1,7 @@
-use Rattle.std.proofs.Common.{◌∙◌, refl}
+use Rattle.std.proofs.Common.{refl}
 use Rattle.sling_dispatch.specs.Endings.{seen, IsContentOr, ContentLine}
 use Rattle.sling_dispatch.specs.declared.ending.Ending.TheVariants.{ContentRefused}
-use Rattle.sling_dispatch.proofs.Meanings.{told_line, out_of_memory}
+use Rattle.sling_dispatch.proofs.Meanings.{told_made, out_of_memory}
 use Rattle.sling_dispatch.proofs.program.refuse_content.Goals as goal
 
 pub returns-then-is_memory : goal.returns-then-is_memory
@@ -10,16 +10,10 @@ returns-then-is_memory g c =
     let count = g.K.Sink.faults c.args.sink.now in
     out_of_memory (IsContentOr c.args.fault.now) tt (seen held held count count) refl refl
 
-pub returns-in-Ok : goal.returns-in-Ok
-returns-in-Ok g c =
+pub returns : goal.returns
+returns g c =
     let fault = c.args.fault.now in
-    let sink = seen (g.K.Sink.held c.args.sink.now) (g.K.Sink.held c.say.new.sink) (g.K.Sink.faults c.args.sink.now) (g.K.Sink.faults c.say.new.sink) in
+    let sink = seen (g.K.Sink.held c.args.sink.now) (g.K.Sink.held c.say_line.new.sink) (g.K.Sink.faults c.args.sink.now) (g.K.Sink.faults c.say_line.new.sink) in
     let due : IsContentOr fault (ContentLine fault) = (refl, λ h. let k = c.is_memory.ensures.1 h in cc (k, c.if-is_memory.false)) in
-    told_line (IsContentOr fault) (ContentLine fault) ContentRefused c.say.result c.deref.result.now sink due (λ w. (fault, due, w))
-    (c.deref.ensures.value ∙ c.in-Ok.ensures) c.say.ensures
-
-pub returns-in-Err : goal.returns-in-Err
-returns-in-Err g c =
-    let held = g.K.Sink.held c.args.sink.now in
-    let count = g.K.Sink.faults c.args.sink.now in
-    out_of_memory (IsContentOr c.args.fault.now) tt (seen held held count count) refl refl
+    told_made (λ text. text.items) (IsContentOr fault) (ContentLine fault) ContentRefused c.say_line.result c.content_line.result sink tt due
+    (λ w. (fault, due, w)) c.content_line.ensures c.say_line.ensures.made c.say_line.ensures.not_made

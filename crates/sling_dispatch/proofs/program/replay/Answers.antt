@@ -1,7 +1,7 @@
-use Rattle.std.proofs.Common.{◌++◌, ◌∷◌, [], codes, refl}
+use Rattle.std.proofs.Common.{refl, arith}
 use Rattle.sling_dispatch.specs.Endings.{seen, IsDueAt, IsDueIn, RefusalLine}
 use Rattle.sling_dispatch.specs.declared.ending.Ending.TheVariants.{Refused}
-use Rattle.sling_dispatch.proofs.Meanings.{means_weaker, in_text, refused_text, told_line, out_of_memory}
+use Rattle.sling_dispatch.proofs.Meanings.{means_weaker, in_text, told_made, out_of_memory}
 use Rattle.sling_dispatch.proofs.program.replay.Goals as goal
 
 pub returns-in-Ok : goal.returns-in-Ok
@@ -15,10 +15,15 @@ pub returns-in-Err-Line : goal.returns-in-Err-Line
 returns-in-Err-Line g c =
     let text = c.args.text.now in
     let r = rw c.in-Err-Line.field-0-is at c.in-Err-Line.ensures.err in
-    let due = refused_text text _ r.0 in
-    told_line (IsDueAt text) RefusalLine Refused c.say.result (codes "scenario refused" ++ 10 ∷ [])
-    (seen (g.K.Sink.held c.args.sink.now) (g.K.Sink.held c.say.new.sink) (g.K.Sink.faults c.args.sink.now) (g.K.Sink.faults c.say.new.sink))
-    due (λ w. (due, w)) refl c.say.ensures
+    let passed = c.in-Err-Line.passed in
+    told_made (λ line. line.items) (IsDueAt text) (RefusalLine passed) Refused c.say_line.result c.refusal_line.result
+    (seen (g.K.Sink.held c.args.sink.now) (g.K.Sink.held c.say_line.new.sink) (g.K.Sink.faults c.args.sink.now) (g.K.Sink.faults c.say_line.new.sink))
+    tt r.0 (λ w. (passed, r.0, w)) c.refusal_line.ensures c.say_line.ensures.made c.say_line.ensures.not_made
+
+pub refusal_line-requires : goal.refusal_line-requires
+refusal_line-requires g c =
+    let r = rw c.in-Err-Line.field-0-is at c.in-Err-Line.ensures.err in
+    omega (arith, r.1)
 
 pub returns-in-Err-NoMemory : goal.returns-in-Err-NoMemory
 returns-in-Err-NoMemory g c =

@@ -1,6 +1,6 @@
 use crate::{TypeList, TypeName, chain, place_of};
 use resource_tree::{Look, Res, Tree, TreeFault};
-use sp_base::{NoMemory, Path, PathFault, TextBuf, Value};
+use sp_base::{NoMemory, Path, PathFault, TextBuf, Value, seg_ok};
 use std::alloc::{AllocError, Global};
 
 /// A refusal or want of memory where a test expects none.
@@ -46,6 +46,9 @@ fn make(alloc: Global, tree: &mut Tree, path: &Path) -> Result<(), Failed> {
 fn tree_of(alloc: Global, nodes: &[(&str, &str, &str)]) -> Result<Tree, Failed> {
     let mut tree = Tree::new(alloc)?;
     for (path, name, text) in nodes {
+        if !seg_ok(name) {
+            return Err(Failed);
+        }
         let path = Path::read(alloc, path)?;
         make(alloc, &mut tree, &path)?;
         tree.set(alloc, &path, name, Value::Text(TextBuf::of(alloc, text)?))?;

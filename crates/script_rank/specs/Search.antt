@@ -1,0 +1,43 @@
+-- What the search does step by step: it tries the namings in the order of their ranks, at each type, each place and each spelling.
+use Rattle.std.specs.Prelude.{◌++◌, ◌∷◌, [], ℕ, zero, suc, Bool, if◌then◌else◌, List, Option, Some, None, Result, Ok, Err, codes, length}
+use Rattle.sp_base.specs.Paths.{is_empty, path_of, text_of}
+use Rattle.sp_base.specs.declared.path.PathFault.{PathFault}
+use Rattle.resource_tree.specs.Content.{Content, name_of}
+use Rattle.type_chain.specs.Types.{places}
+use Rattle.type_chain.specs.Chain.{first_of}
+use Rattle.type_chain.specs.declared.type_name.TypeName.{TypeName}
+use Rattle.url_split.specs.declared.decompose.Parts.{Parts}
+use Rattle.script_rank.specs.declared.naming.Naming.{Naming}
+use Rattle.script_rank.specs.declared.naming.Naming.TheVariants.{SelectorsAndExtension, Selectors, LabelAndExtension, Extension, Label, Method}
+use Rattle.script_rank.specs.Ranking.{is_script, spellings}
+pub use Rattle.script_rank.specs.Ranking.{is_html}
+
+-- the namings after so many selectors and fewer, down to one
+unfoldable pub with_selectors : Bool → ℕ → List Naming
+with_selectors html zero = []
+with_selectors html (suc k) = SelectorsAndExtension (suc k) ∷ (if html then Selectors (suc k) ∷ with_selectors html k else with_selectors html k)
+
+abbrev pub without_selectors : Bool → List Naming
+without_selectors html = LabelAndExtension ∷ Extension ∷ (if html then Label ∷ Method ∷ [] else [])
+
+abbrev pub namings : Parts → List Naming
+namings parts = if is_empty parts.extension then [] else with_selectors (is_html parts) (length parts.selectors) ++ without_selectors (is_html parts)
+
+abbrev pub script_in : Content → Result (List (List ℕ)) PathFault → Option (List (List ℕ))
+script_in tree (Ok path) = if is_script tree path then Some path else None
+script_in tree (Err e) = None
+
+unfoldable pub script_at : Content → List (List ℕ) → List ℕ → Option (List (List ℕ))
+script_at tree place spelling = script_in tree (path_of (text_of place ++ (spelling ++ codes ".html")))
+
+unfoldable pub at_place : Content → List (List ℕ) → List (List ℕ) → Option (List (List ℕ))
+at_place tree names place = first_of (script_at tree place) names
+
+unfoldable pub at_type : Content → Parts → Naming → TypeName → Option (List (List ℕ))
+at_type tree parts naming type = first_of (at_place tree (spellings parts (name_of type.segs) naming)) (places type)
+
+unfoldable pub at_naming : Content → List TypeName → Parts → Naming → Option (List (List ℕ))
+at_naming tree chain parts naming = first_of (at_type tree parts naming) chain
+
+unfoldable pub found : Content → List TypeName → Parts → Option (List (List ℕ))
+found tree chain parts = first_of (at_naming tree chain parts) (namings parts)

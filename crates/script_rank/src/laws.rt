@@ -1,0 +1,18 @@
+//! What the ranking is: laws of the definitions, on functions that do nothing.
+ghost use Rattle.std.specs.Prelude.{◌≡◌, ℕ, List};
+ghost use Rattle.resource_tree.specs.Content.{Content};
+ghost use Rattle.type_chain.specs.declared.type_name.TypeName.{TypeName};
+ghost use Rattle.url_split.specs.declared.decompose.Parts.{Parts};
+ghost use Rattle.script_rank.specs.Ranking.{Candidate, IsBetter, IsFirst, Key};
+
+/// Of two candidates one is better, or both are one script: the keys have a strict order, and no two scripts have one key.
+pub fn tied_scripts_are_one()
+    ensures { (tree : Content) (chain : List TypeName) (parts : Parts) (p q : List (List ℕ)) (k l : Key)
+        → Candidate tree chain parts p k → Candidate tree chain parts q l → (IsBetter k l → ⊥) → (IsBetter l k → ⊥) → p ≡ q }
+{}
+
+/// One script at most ranks first.
+pub fn one_script_is_first()
+    ensures { (tree : Content) (chain : List TypeName) (parts : Parts) (p q : List (List ℕ))
+        → IsFirst tree chain parts p → IsFirst tree chain parts q → p ≡ q }
+{}

@@ -1,0 +1,15 @@
+//! Which script renders a resource (Apache Sling, "Servlets and Scripts", "Script Naming Conventions" and "Scripts Location"): of the
+//! scripts that may answer a request the one that is named most closely to it.
+#![tactic(auto)]
+
+mod laws;
+mod naming;
+mod ranking;
+mod script;
+mod spelling;
+#[cfg(test)]
+mod tests;
+
+pub use laws::{one_script_is_first, tied_scripts_are_one};
+pub use naming::Naming;
+pub use ranking::first_script;

@@ -18,7 +18,7 @@ use Rattle.get_servlet.specs.Answers.{levels_of, json_answer}
 use Rattle.get_servlet.specs.Streams.{stream_of}
 use Rattle.publisher.specs.Errors.{answer_of, error_answer}
 use Rattle.publisher.specs.Depths.{depth_of}
-use Rattle.publisher.specs.Rendering.{is_read, mark_of, page_of, json_page, json_at, file_page, is_json, is_bare, resource_answer, seen_answer, found_answer, has_node, rendered}
+use Rattle.publisher.specs.Rendering.{is_read, mark_of, page_of, json_page, json_at, file_page, is_json, is_bare, default_answer, script_for, answer_by, resource_answer, found_answer, has_node, rendered}
 
 -- ---- a page isn't too long
 
@@ -55,23 +55,27 @@ file_fits : (res : Res) (stream : Option Stream) → Fits (file_page res stream)
 file_fits res None = missing_fits
 file_fits res (Some stream) = page_fits stream.kind (mark_of res) stream.body
 
-resource_fits : (seen : Seen) (parts : Parts) (res : Res) → Fits (resource_answer seen parts res)
-resource_fits seen parts res =
+default_fits : (seen : Seen) (parts : Parts) (res : Res) → Fits (default_answer seen parts res)
+default_fits seen parts res =
     either (is_json parts.extension) _ _ (depth_fits seen res (depth_of parts.selectors))
     (either (is_bare parts) _ _ (file_fits res (stream_of seen res)) missing_fits)
 
-seen_fits : (seen : Seen) (parts : Parts) (res : Option Res) → Fits (seen_answer seen parts res)
-seen_fits seen parts None = missing_fits
-seen_fits seen parts (Some res) = resource_fits seen parts res
+by_fits : (text : Option (List ℕ)) (seen : Seen) (parts : Parts) (res : Res) → Fits (answer_by text seen parts res)
+by_fits (Some text) seen parts res = page_fits _ (mark_of res) text
+by_fits None seen parts res = default_fits seen parts res
 
-found_fits : (seen : Seen) (parts : Option Parts) → Fits (found_answer seen parts)
-found_fits seen None = missing_fits
-found_fits seen (Some parts) = seen_fits seen parts (seen parts.path)
+resource_fits : (tree : Content) (parts : Parts) (res : Option Res) → Fits (resource_answer tree parts res)
+resource_fits tree parts None = missing_fits
+resource_fits tree parts (Some res) = by_fits (script_for tree parts res) (res_at tree) parts res
+
+found_fits : (tree : Content) (parts : Option Parts) → Fits (found_answer tree parts)
+found_fits tree None = missing_fits
+found_fits tree (Some parts) = resource_fits tree parts (res_at tree parts.path)
 
 pub rendered_fits : (tree : Content) (ask : Ask) → (rendered tree ask).status ≡ 200 → length (rendered tree ask).body ≤ 4194304
 unfolding rendered
 rendered_fits tree ask =
-    either (is_read ask.method) _ _ (found_fits (res_at tree) (split_of (has_node tree) (text_of ask.path)))
+    either (is_read ask.method) _ _ (found_fits tree (split_of (has_node tree) (text_of ask.path)))
     (error_fits 405 (λ h. absurd (omega (arith, h))))
 
 -- ---- the path alone counts
@@ -79,5 +83,5 @@ rendered_fits tree ask =
 pub same_reading : (tree : Content) (a b : Ask) → is_read a.method ≡ true → is_read b.method ≡ true → a.path ≡ b.path → rendered tree a ≡ rendered tree b
 unfolding rendered
 same_reading tree a b first second same =
-    let page = λ (path : List (List ℕ)). found_answer (res_at tree) (split_of (has_node tree) (text_of path)) in
+    let page = λ (path : List (List ℕ)). found_answer tree (split_of (has_node tree) (text_of path)) in
     ap (λ t. cond t (page a.path) (error_answer 405)) first ∙ ap page same ∙ sym (ap (λ t. cond t (page b.path) (error_answer 405)) second)

@@ -1,5 +1,5 @@
 -- What the publisher answers: the first of these that applies.
-use Rattle.std.specs.Prelude.{◌==◌, ◌&&◌, ◌||◌, ℕ, Bool, nat_eq, nat_le, if◌then◌else◌, is_some, List, Option, Some, None, codes, length}
+use Rattle.std.specs.Prelude.{◌==◌, ◌&&◌, ◌||◌, ℕ, Bool, nat_eq, nat_le, if◌then◌else◌, is_some, List, Option, Some, None, option_and_then, codes, length}
 use Rattle.std.specs.Cmp.Lexicographic.{pointwise}
 use Rattle.sp_base.specs.Paths.{text_of}
 use Rattle.sp_base.specs.Properties.{text_in}
@@ -12,6 +12,9 @@ use Rattle.resource_tree.specs.Content.{Content, node_at}
 use Rattle.resource_tree.specs.Seen.{Seen, res_at}
 use Rattle.url_split.specs.declared.decompose.Parts.{Parts}
 use Rattle.url_split.specs.Split.{split_of}
+use Rattle.type_chain.specs.Chain.{chain_of}
+use Rattle.script_rank.specs.Ranking.{script_text}
+use Rattle.script_rank.specs.Search.{found as first_script}
 use Rattle.get_servlet.specs.declared.answer.Depth.{Depth}
 use Rattle.get_servlet.specs.declared.answer.JsonAnswer.{JsonAnswer}
 use Rattle.get_servlet.specs.declared.answer.JsonAnswer.TheVariants.{Whole, Over}
@@ -69,19 +72,31 @@ is_json extension = pointwise nat_eq extension (codes "json")
 abbrev pub is_bare : Parts → Bool
 is_bare parts = length parts.selectors == 0 && (length parts.extension == 0 && length parts.suffix == 0)
 
--- the answer of a resource: with the extension `json` its JSON, without extension, selectors and suffix its stream
-abbrev pub resource_answer : Seen → Parts → Res → Answer
-resource_answer seen parts res = if is_json parts.extension then json_at seen res (depth_of parts.selectors)
+-- the answer of the default GET servlet: with the extension `json` the resource as JSON, without extension, selectors and suffix its stream
+abbrev pub default_answer : Seen → Parts → Res → Answer
+default_answer seen parts res = if is_json parts.extension then json_at seen res (depth_of parts.selectors)
     else (if is_bare parts then file_page res (stream_of seen res) else error_answer 404)
 
-abbrev pub seen_answer : Seen → Parts → Option Res → Answer
-seen_answer seen parts None = error_answer 404
-seen_answer seen parts (Some res) = resource_answer seen parts res
+-- the text of the script that ranks first for a resource, if there is one
+unfoldable pub script_for : Content → Parts → Res → Option (List ℕ)
+script_for tree parts res = option_and_then (script_text tree) (first_script tree (chain_of tree res) parts)
+
+abbrev pub html_kind : List ℕ
+html_kind = codes "text/html;charset=utf-8"
+
+-- the answer of a resource: the script's text as it is, or without a script that of the default GET servlet
+abbrev pub answer_by : Option (List ℕ) → Seen → Parts → Res → Answer
+answer_by (Some text) seen parts res = page_of html_kind (mark_of res) text
+answer_by None seen parts res = default_answer seen parts res
+
+abbrev pub resource_answer : Content → Parts → Option Res → Answer
+resource_answer tree parts None = error_answer 404
+resource_answer tree parts (Some res) = answer_by (script_for tree parts res) (res_at tree) parts res
 
 -- the answer to a path that was taken apart, if it names a resource
-abbrev pub found_answer : Seen → Option Parts → Answer
-found_answer seen None = error_answer 404
-found_answer seen (Some parts) = seen_answer seen parts (seen parts.path)
+abbrev pub found_answer : Content → Option Parts → Answer
+found_answer tree None = error_answer 404
+found_answer tree (Some parts) = resource_answer tree parts (res_at tree parts.path)
 
 -- the tree has a node at the path
 abbrev pub has_node : Content → List (List ℕ) → Bool
@@ -89,4 +104,4 @@ has_node tree path = is_some (node_at tree path)
 
 -- the answer to a request: another method than GET and HEAD isn't allowed; else the text of the path is taken apart
 unfoldable pub rendered : Content → Ask → Answer
-rendered tree ask = if is_read ask.method then found_answer (res_at tree) (split_of (has_node tree) (text_of ask.path)) else error_answer 405
+rendered tree ask = if is_read ask.method then found_answer tree (split_of (has_node tree) (text_of ask.path)) else error_answer 405

@@ -1,21 +1,25 @@
 // The answers of a resource.
-ghost use Rattle.std.specs.Prelude.{◌≡◌, IfOk};
+ghost use Rattle.std.specs.Prelude.{◌≡◌, Some, IfOk, option_copied};
 ghost use Rattle.get_servlet.specs.Streams.{stream_of};
 ghost use Rattle.publisher.specs.Depths.{depth_of};
-ghost use Rattle.publisher.specs.Rendering.{page_of, json_page, json_at, file_page, is_bare, is_json, resource_answer};
+ghost use Rattle.publisher.specs.Rendering.{page_of, json_page, json_at, file_page, is_bare, is_json, default_answer, resource_answer, script_for};
 
 use crate::choices::choices_text;
 use crate::depths::depth_of;
 use crate::errors::{answer_of, error_answer};
 use crate::methods::mark_of;
 use get_servlet::{JsonAnswer, Stream, json_of, stream_of};
-use resource_tree::{Look, Res};
+use resource_tree::{Look, Res, Tree};
+use script_rank::{first_script, script_text};
 use sp_base::{Answer, ByteBuf, Mark, Mem, TextBuf};
 use std::alloc::Global;
+use type_chain::chain;
 use url_split::Parts;
 
 /// The most bytes of a representation.
 const MOST_BYTES: usize = 4_194_304;
+
+const HTML_KIND: &str = "text/html;charset=utf-8";
 
 const JSON_KIND: &str = "application/json;charset=utf-8";
 
@@ -70,14 +74,14 @@ fn is_bare(parts: &Parts) -> bool
         && parts.suffix.text().is_empty()
 }
 
-/// The answer of a resource that the parts of a URL name.
-pub(crate) fn resource_answer<L: Look>(
+// The answer of the default GET servlet.
+fn default_answer<L: Look>(
     alloc: Global,
     look: &L,
     parts: &Parts,
     res: &Res,
 ) -> Mem<Answer>
-    ensures { IfOk result (λ a. a ≡ resource_answer (L.seen look.now) parts.now res.now) }
+    ensures { IfOk result (λ a. a ≡ default_answer (L.seen look.now) parts.now res.now) }
 {
     if parts.extension.text() == "json" {
         return json_at(alloc, look, parts, res);
@@ -86,4 +90,31 @@ pub(crate) fn resource_answer<L: Look>(
         return file_page(alloc, look, res);
     }
     error_answer(alloc, 404)
+}
+
+// The text of the script that ranks first for a resource.
+#[tactic(auto, unfolding(crate::specs::Rendering::script_for))]
+fn script_for<'a>(
+    alloc: Global,
+    tree: &'a Tree,
+    parts: &Parts,
+    res: &Res,
+) -> Mem<Option<&'a TextBuf>>
+    ensures { IfOk result (λ o. option_copied o ≡ script_for tree.entry.now parts.now res.now) }
+{
+    let types = chain(alloc, tree, res)?;
+    match first_script(alloc, tree, &types, parts)? {
+        Some(script) => script_text(alloc, tree, &script),
+        None => Ok(None),
+    }
+}
+
+/// The answer of a resource that the parts of a URL name: its first script's text, or what the default GET servlet answers.
+pub(crate) fn resource_answer(alloc: Global, tree: &Tree, parts: &Parts, res: &Res) -> Mem<Answer>
+    ensures { IfOk result (λ a. a ≡ resource_answer tree.now parts.now (Some res.now)) }
+{
+    match script_for(alloc, tree, parts, res)? {
+        Some(text) => page_of(alloc, HTML_KIND, mark_of(res), text.duplicate(alloc)?),
+        None => default_answer(alloc, tree, parts, res),
+    }
 }

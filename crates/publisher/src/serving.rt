@@ -2,7 +2,7 @@ ghost use Rattle.std.specs.Prelude.{◌≡◌, IfOk};
 ghost use Rattle.resource_tree.specs.Seen.{res_at};
 ghost use Rattle.url_split.specs.Split.{split_of};
 ghost use Rattle.sp_base.specs.Paths.{text_of};
-ghost use Rattle.publisher.specs.Rendering.{has_node, found_answer, rendered};
+ghost use Rattle.publisher.specs.Rendering.{has_node, found_answer, resource_answer, rendered};
 
 use crate::errors::error_answer;
 use crate::methods::is_read;
@@ -11,7 +11,7 @@ use resource_tree::{Look, Tree};
 use sp_base::{Answer, Ask, Mem, Path};
 use std::alloc::Global;
 use std::marker::Model;
-use url_split::{Known, split};
+use url_split::{Known, Parts, split};
 
 /// Answers requests on a content tree. Contracts see the tree.
 #[derive(Drop)]
@@ -54,14 +54,21 @@ impl Publisher {
 
     // The answer to a path, which names a resource and says how it is asked for.
     fn page(&self, alloc: Global, path: &Path) -> Mem<Answer>
-        ensures { IfOk result (λ a. a ≡ found_answer (res_at self.now) (split_of (has_node self.now) (text_of path.now))) }
+        ensures { IfOk result (λ a. a ≡ found_answer self.now (split_of (has_node self.now) (text_of path.now))) }
     {
         let text = path.text(alloc)?;
-        let Some(parts) = split(alloc, self, text.text())? else {
-            return error_answer(alloc, 404);
-        };
+        match split(alloc, self, text.text())? {
+            Some(parts) => self.named(alloc, &parts),
+            None => error_answer(alloc, 404),
+        }
+    }
+
+    // The answer of the resource that a path names.
+    fn named(&self, alloc: Global, parts: &Parts) -> Mem<Answer>
+        ensures { IfOk result (λ a. a ≡ resource_answer self.now parts.now (res_at self.now parts.now.path)) }
+    {
         match self.tree.res(alloc, &parts.path)? {
-            Some(res) => resource_answer(alloc, &self.tree, &parts, &res),
+            Some(res) => resource_answer(alloc, &self.tree, parts, &res),
             None => error_answer(alloc, 404),
         }
     }

@@ -252,14 +252,28 @@ pub one_first : (tree : Content) (chain : List TypeName) (parts : Parts) (p q : 
 one_first tree chain parts p q f g =
     tied_scripts tree chain parts p q f.key g.key f.candidate g.candidate (g.best p f.key f.candidate) (f.best q g.key g.candidate)
 
+by_first : (tree : Content) (chain : List TypeName) (parts : Parts) (o : Option (List (List ℕ))) → o ≡ found tree chain parts
+    → IfSome o (λ path. IsFirst tree chain parts path)
+by_first tree chain parts (Some path) is = found_first tree chain parts path (sym is)
+by_first tree chain parts None is = tt
+
+by_none : (tree : Content) (chain : List TypeName) (parts : Parts) (o : Option (List (List ℕ))) → o ≡ found tree chain parts
+    → IfNone o (HasNoCandidate tree chain parts)
+by_none tree chain parts (Some path) is = tt
+by_none tree chain parts None is = none_found tree chain parts (sym is)
+
+pub search_first : (tree : Content) (chain : List TypeName) (parts : Parts) → IfSome (found tree chain parts) (λ path. IsFirst tree chain parts path)
+search_first tree chain parts = by_first tree chain parts (found tree chain parts) refl
+
+pub search_none : (tree : Content) (chain : List TypeName) (parts : Parts) → IfNone (found tree chain parts) (HasNoCandidate tree chain parts)
+search_none tree chain parts = by_none tree chain parts (found tree chain parts) refl
+
 pub answers_first : {E : Type 0} (tree : Content) (chain : List TypeName) (parts : Parts) (r : Result (Option (List (List ℕ))) E) → IfOk r (λ o. o ≡ found tree chain parts)
     → IfOk r (λ o. IfSome o (λ path. IsFirst tree chain parts path))
-answers_first tree chain parts (Ok (Some path)) is = found_first tree chain parts path (sym is)
-answers_first tree chain parts (Ok None) is = tt
+answers_first tree chain parts (Ok o) is = by_first tree chain parts o is
 answers_first tree chain parts (Err e) is = tt
 
 pub answers_none : {E : Type 0} (tree : Content) (chain : List TypeName) (parts : Parts) (r : Result (Option (List (List ℕ))) E) → IfOk r (λ o. o ≡ found tree chain parts)
     → IfOk r (λ o. IfNone o (HasNoCandidate tree chain parts))
-answers_none tree chain parts (Ok (Some path)) is = tt
-answers_none tree chain parts (Ok None) is = none_found tree chain parts (sym is)
+answers_none tree chain parts (Ok o) is = by_none tree chain parts o is
 answers_none tree chain parts (Err e) is = tt

@@ -75,9 +75,13 @@ abbrev pub node_of : Content → Result (List (List ℕ)) PathFault → Option N
 node_of tree (Ok path) = node_at tree path
 node_of tree (Err e) = None
 
--- whether a node is at the path whose kid `jcr:content` has a text `jcr:data`
+-- the text of a script: the text `jcr:data` of the kid `jcr:content`
+unfoldable pub script_text : Content → List (List ℕ) → Option (List ℕ)
+script_text tree path = option_and_then (λ node. text_in node.props (codes "jcr:data")) (node_of tree (child_of path (codes "jcr:content")))
+
+-- whether a node is at the path that has a script's text
 abbrev pub is_script : Content → List (List ℕ) → Bool
-is_script tree path = is_some (node_at tree path) && is_some (option_and_then (λ node. text_in node.props (codes "jcr:data")) (node_of tree (child_of path (codes "jcr:content"))))
+is_script tree path = is_some (node_at tree path) && is_some (script_text tree path)
 
 -- by what a candidate is ranked: its naming, and the places of its type in the chain, of its place among the type's, and of its
 -- spelling among the naming's

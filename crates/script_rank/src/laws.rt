@@ -1,9 +1,10 @@
 //! What the ranking is: laws of the definitions, on functions that do nothing.
-ghost use Rattle.std.specs.Prelude.{◌≡◌, ℕ, List};
+ghost use Rattle.std.specs.Prelude.{◌≡◌, ℕ, List, IfSome, IfNone};
 ghost use Rattle.resource_tree.specs.Content.{Content};
 ghost use Rattle.type_chain.specs.declared.type_name.TypeName.{TypeName};
 ghost use Rattle.url_split.specs.declared.decompose.Parts.{Parts};
-ghost use Rattle.script_rank.specs.Ranking.{Candidate, IsBetter, IsFirst, Key};
+ghost use Rattle.script_rank.specs.Ranking.{Candidate, HasNoCandidate, IsBetter, IsFirst, Key};
+ghost use Rattle.script_rank.specs.Search.{found};
 
 /// Of two candidates one is better, or both are one script: the keys have a strict order, and no two scripts have one key.
 pub fn tied_scripts_are_one()
@@ -15,4 +16,10 @@ pub fn tied_scripts_are_one()
 pub fn one_script_is_first()
     ensures { (tree : Content) (chain : List TypeName) (parts : Parts) (p q : List (List ℕ))
         → IsFirst tree chain parts p → IsFirst tree chain parts q → p ≡ q }
+{}
+
+/// What the search finds is the script that ranks first, and it finds none exactly where there is no candidate.
+pub fn search_finds_the_first()
+    ensures first { (tree : Content) (chain : List TypeName) (parts : Parts) → IfSome (found tree chain parts) (λ path. IsFirst tree chain parts path) }
+    ensures none { (tree : Content) (chain : List TypeName) (parts : Parts) → IfNone (found tree chain parts) (HasNoCandidate tree chain parts) }
 {}

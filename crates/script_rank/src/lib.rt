@@ -10,6 +10,7 @@ mod spelling;
 #[cfg(test)]
 mod tests;
 
-pub use laws::{one_script_is_first, tied_scripts_are_one};
+pub use laws::{one_script_is_first, search_finds_the_first, tied_scripts_are_one};
 pub use naming::Naming;
 pub use ranking::first_script;
+pub use script::script_text;

@@ -24,6 +24,7 @@ pub fn first_script(
 ) -> Mem<Option<Path>>
     ensures some { IfOk result (λ o. IfSome o (λ path. IsFirst tree.now chain.now parts.now path)) }
     ensures none { IfOk result (λ o. IfNone o (HasNoCandidate tree.now chain.now parts.now)) }
+    ensures value { IfOk result (λ o. o ≡ found tree.now chain.now parts.now) }
 {
     found(alloc, tree, chain, parts)
 }

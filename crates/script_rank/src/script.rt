@@ -1,10 +1,10 @@
-ghost use Rattle.std.specs.Prelude.{◌≡◌, ◌++◌, codes, IfOk, string_bytes};
+ghost use Rattle.std.specs.Prelude.{◌≡◌, ◌++◌, codes, IfOk, option_copied, string_bytes};
 ghost use Rattle.sp_base.specs.Paths.{path_of, text_of};
-ghost use Rattle.script_rank.specs.Ranking.{is_script};
+ghost use Rattle.script_rank.specs.Ranking.{is_script, script_text};
 ghost use Rattle.script_rank.specs.Search.{script_at, script_in};
 
 use resource_tree::Tree;
-use sp_base::{Mem, NoMemory, Path, PathFault};
+use sp_base::{Mem, NoMemory, Path, PathFault, TextBuf};
 use std::alloc::Global;
 
 /// The script of this spelling behind a place.
@@ -39,20 +39,28 @@ fn script_in(alloc: Global, tree: &Tree, text: &str) -> Mem<Option<Path>>
     }
 }
 
-// Whether a node is there whose content has a text.
+// Whether a node is there that has a script's text.
 fn is_script(alloc: Global, tree: &Tree, path: &Path) -> Mem<bool>
     ensures { IfOk result (λ b. b ≡ is_script tree.now path.now) }
 {
     if tree.node(path).is_none() {
         return Ok(false);
     }
+    Ok(script_text(alloc, tree, path)?.is_some())
+}
+
+/// The text of a script: the text `jcr:data` of its kid `jcr:content`.
+#[tactic(auto, unfolding(crate::specs::Ranking::script_text))]
+pub fn script_text<'a>(alloc: Global, tree: &'a Tree, path: &Path) -> Mem<Option<&'a TextBuf>>
+    ensures { IfOk result (λ o. option_copied o ≡ script_text tree.entry.now path.now) }
+{
     let content = match path.child(alloc, "jcr:content") {
         Ok(content) => content,
         Err(PathFault::NoMemory) => return Err(NoMemory),
-        Err(_) => return Ok(false),
+        Err(_) => return Ok(None),
     };
     match tree.node(&content) {
-        Some(node) => Ok(node.props.text("jcr:data").is_some()),
-        None => Ok(false),
+        Some(node) => Ok(node.props.text("jcr:data")),
+        None => Ok(None),
     }
 }

@@ -6,4 +6,5 @@ returns c =
     record {
       some = answers_first c.args.tree.now c.args.chain.now c.args.parts.now c.found.result c.found.ensures;
       none = answers_none c.args.tree.now c.args.chain.now c.args.parts.now c.found.result c.found.ensures;
+      value = c.found.ensures;
     }

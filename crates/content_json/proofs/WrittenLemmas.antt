@@ -49,7 +49,7 @@ path_there tree path good h = by (node_at tree path) refl h
     by None at there = absurd (false≢true there)
     by (Some node) at there = (good.shape.nodes path node at).is_a_path
 
-and_last : (a b : Bool) → (a && b) ≡ true → b ≡ true
+pub and_last : (a b : Bool) → (a && b) ≡ true → b ≡ true
 and_last true b h = h
 and_last false b h = absurd (false≢true h)
 

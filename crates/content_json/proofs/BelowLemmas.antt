@@ -1,5 +1,5 @@
 -- What lies below a path in a good tree.
-use Rattle.std.proofs.Common.{◌≡◌, ℕ, Bool, true, false, ⊎_elim, ◌||◌, ◌&&◌, List, [], ◌∷◌, ◌++◌, Option, Some, None, is_some, length, take, get_or, ◌<◌, ◌+◌, refl, sym, ap, ◌∙◌, subst, append_assoc, append-nil}
+use Rattle.std.proofs.Common.{◌≡◌, ℕ, Bool, true, false, ⊎_elim, ◌||◌, List, [], ◌∷◌, ◌++◌, Some, is_some, length, take, get_or, ◌<◌, ◌+◌, refl, sym, ap, ◌∙◌, subst, append_assoc, append-nil}
 use Rattle.std.specs.List.{list_any}
 use Rattle.std.specs.Str.{bytes_eq}
 use Rattle.std.specs.Cmp.Lexicographic.{same_text}

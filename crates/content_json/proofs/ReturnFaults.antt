@@ -1,5 +1,5 @@
 -- The members of a node that was written have no fault.
-use Rattle.std.proofs.Common.{◌≡◌, ℕ, suc, ◌-◌, ◌==◌, Bool, true, false, cond, not, ◌&&◌, ◌||◌, T, ⊎_elim, List, [], ◌∷◌, Option, Some, None, option_map, is_some, if◌then◌else◌, refl, sym, ap, ◌∙◌, subst}
+use Rattle.std.proofs.Common.{◌≡◌, ℕ, Bool, true, false, cond, not, ◌&&◌, ◌||◌, T, ⊎_elim, List, [], ◌∷◌, Option, Some, None, option_map, if◌then◌else◌, refl, sym, ap, ◌∙◌}
 use Rattle.std.specs.FinMap.Entries.{find, is_sorted}
 use Rattle.std.specs.List.{AllByRecursion, IsDistinct, list_any, list_all}
 use Rattle.std.specs.Map.{keys_of}
@@ -7,10 +7,9 @@ use Rattle.std.specs.Option.{option_or, option_map_or}
 use Rattle.std.specs.Ordering.{eq_by_cmp}
 use Rattle.std.specs.Str.{bytes_eq}
 use Rattle.std.specs.Cmp.Lexicographic.{same_text}
-use Rattle.std.proofs.lemmas.Bool.{cases_Bool, true≢false, false≢true}
+use Rattle.std.proofs.lemmas.Bool.{cases_Bool, false≢true}
 use Rattle.std.proofs.lemmas.Map.Keys.{IsDistinct-head, IsDistinct-tail}
-use Rattle.serde_json.specs.Data.{Data, array, string, object, Items, no_items, item, Members, no_members, member}
-use Rattle.serde_json.specs.Find.{get_member}
+use Rattle.serde_json.specs.Data.{Data, string, object, Members, no_members, member}
 use Rattle.sp_base.specs.Names.{by_name}
 use Rattle.sp_base.specs.Paths.{seg_ok}
 use Rattle.sp_base.specs.declared.value.Value.{Value}
@@ -20,15 +19,15 @@ use Rattle.resource_tree.specs.Content as content
 use Rattle.property_json.specs.PropertyJson.{has_longs}
 use Rattle.content_json.specs.declared.fault.Cause.TheVariants.{BadName as bad_name, BadOrder as bad_order}
 use Rattle.content_json.specs.Names.{order_name, is_order, is_plain, has_bad_name, is_object, is_kid}
-use Rattle.content_json.specs.Faults.{names_kids, is_good_order, has_good_order, here, in_member, own_fault, fault_in, fault_below, member_fault}
+use Rattle.content_json.specs.Faults.{names_kids, is_good_order, has_good_order, here, in_member, fault_in, fault_below, member_fault}
 use Rattle.content_json.specs.Nodes.{nodes_in, is_deeper, is_deeper_below}
 use Rattle.content_json.specs.Paths.{begins}
 use Rattle.content_json.specs.Written.{has_no_colon, keeps_kind}
 use Rattle.content_json.proofs.Under.{both, bytes_eq_itself}
-use Rattle.content_json.proofs.KidLemmas.{or_left, or_right, all_at}
+use Rattle.content_json.proofs.KidLemmas.{or_left, or_right}
 use Rattle.content_json.proofs.WrittenLemmas.{and_last}
 use Rattle.content_json.proofs.InsertLemmas.{tie_is, AllMembers}
-use Rattle.content_json.proofs.ValueLemmas.{items_from, data_of, value_faultless, value_shallow}
+use Rattle.content_json.proofs.ValueLemmas.{items_from, value_faultless, value_shallow}
 use Rattle.content_json.proofs.ReturnMembers.{members_of, IsMember, prop, order, kid, get_kid, get_order_some, get_order_none}
 
 -- what is read for a node at a path of a tree, no more than so many levels deep
@@ -108,6 +107,7 @@ module _ {tree : Content} {levels : ℕ} {path : List (List ℕ)} {f : List ℕ 
     where
       ms : Members
       ms = members_of f node
+
       by : (ks : List (List ℕ)) → node.kids ≡ ks → has_good_order (members_of f node) ≡ true
       by [] e = ap (λ o. option_map_or (is_good_order (members_of f node)) o true) (get_order_none f node n.sorted e (order_no_prop n))
       by (k ∷ ks) e =

@@ -1,5 +1,5 @@
 -- The members of a node that was written, as they are read.
-use Rattle.std.proofs.Common.{◌≡◌, ℕ, Bool, true, false, cond, not, ◌&&◌, ◌||◌, T, ⊎_elim, List, [], ◌∷◌, Option, Some, None, option_map, is_some, if◌then◌else◌, refl, sym, ap, ◌∙◌, subst}
+use Rattle.std.proofs.Common.{◌≡◌, ℕ, Bool, true, false, cond, ◌&&◌, ◌||◌, T, ⊎_elim, List, [], ◌∷◌, Option, Some, None, option_map, is_some, if◌then◌else◌, refl, sym, ap, ◌∙◌}
 use Rattle.std.specs.Prelude.{option_and_then}
 use Rattle.std.specs.Cmp.{tied_itself}
 use Rattle.std.specs.Cmp.Lexicographic.{nat_list_cmp_total, same_text}
@@ -10,9 +10,9 @@ use Rattle.std.specs.Ordering.{is_eq, is_lt, eq_by_cmp}
 use Rattle.std.specs.declared.cmp.Ordering.{Ordering}
 use Rattle.std.specs.declared.cmp.Ordering.TheVariants.{Less, Equal, Greater}
 use Rattle.std.specs.Str.{bytes_eq}
-use Rattle.std.proofs.lemmas.Bool.{cases_Bool, true≢false, false≢true}
+use Rattle.std.proofs.lemmas.Bool.{cases_Bool}
 use Rattle.json.specs.Json as json
-use Rattle.serde_json.specs.Data.{Data, array, string, object, Members, no_members, member, put}
+use Rattle.serde_json.specs.Data.{Data, array, string, Members, no_members, put}
 use Rattle.serde_json.specs.Find.{get_member}
 use Rattle.serde_json.specs.Read.{of_json, of_members}
 use Rattle.sp_base.specs.Names.{by_name}
@@ -23,7 +23,7 @@ use Rattle.property_json.specs.PropertyJson.{has_longs, members_before}
 use Rattle.content_json.specs.Names.{order_name, is_order, is_plain}
 use Rattle.content_json.specs.Written.{order_before, kid_members, has_no_colon, keeps_kind}
 use Rattle.content_json.proofs.Under.{both, bytes_eq_itself}
-use Rattle.content_json.proofs.KidLemmas.{and_true, or_left, or_right, all_at}
+use Rattle.content_json.proofs.KidLemmas.{and_true, or_left, or_right}
 use Rattle.content_json.proofs.InsertLemmas.{tie_is, get-put, AreSorted, sorted-insert_all, AllMembers, all-insert_all, insert_all}
 use Rattle.content_json.proofs.ValueLemmas.{items_from, data_of, texts_are, value_is}
 
@@ -127,6 +127,7 @@ get_kids f (k ∷ ks) ms q =
     found : (t : Bool) → bytes_eq q k ≡ true → (if t then Some (f q) else cond (bytes_eq q k) (Some (f k)) (get_member q ms)) ≡ (if bytes_eq q k || t then Some (f q) else get_member q ms)
     found true e = rw e refl
     found false e = rw e (ap (λ n. Some (f n)) (sym (same_text q k (sym e))))
+
     other : (t : Bool) → bytes_eq q k ≡ false → (if t then Some (f q) else cond (bytes_eq q k) (Some (f k)) (get_member q ms)) ≡ (if bytes_eq q k || t then Some (f q) else get_member q ms)
     other true e = rw e refl
     other false e = rw e refl

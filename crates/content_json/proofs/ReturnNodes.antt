@@ -1,42 +1,32 @@
 -- A node that was written is read as the same node, and so are those below it.
-use Rattle.std.proofs.Common.{◌≡◌, ◌≢◌, ℕ, suc, ◌-◌, ◌==◌, Bool, true, false, cond, not, ◌&&◌, ◌||◌, T, ⊎_elim, List, [], ◌∷◌, ◌++◌, Option, Some, None, option_map, is_some, filter, if◌then◌else◌, unwrap_or, refl, sym, ap, ◌∙◌, subst, append-nil}
+use Rattle.std.proofs.Common.{◌≡◌, ℕ, Bool, true, false, cond, not, ◌&&◌, T, ⊎_elim, List, [], ◌∷◌, ◌++◌, Option, Some, None, option_map, filter, if◌then◌else◌, unwrap_or, refl, sym, ap, ◌∙◌, append-nil}
 use Rattle.std.specs.Prelude.{option_and_then}
-use Rattle.std.specs.Cmp.{tied_itself}
 use Rattle.std.specs.Cmp.Lexicographic.{nat_list_cmp_total, same_text}
-use Rattle.std.specs.FinMap.{nat_cmp-IsAntisymmetric, slice_cmp-IsAntisymmetric}
 use Rattle.std.specs.FinMap.Entries as entries
 use Rattle.std.specs.FinMap.Entries.{find, is_sorted, below_all, is_sorted-put, find-put, same_entries}
-use Rattle.std.specs.List.{AllByRecursion, IsDistinct, list_any, list_all, filter_map}
-use Rattle.std.specs.Map.{keys_of}
+use Rattle.std.specs.List.{list_any, list_all, filter_map}
 use Rattle.std.specs.Option.{option_or, option_map_or}
-use Rattle.std.specs.Ordering.{is_eq, is_lt, eq_by_cmp}
-use Rattle.std.specs.declared.cmp.Ordering.{Ordering}
-use Rattle.std.specs.declared.cmp.Ordering.TheVariants.{Less, Equal, Greater}
+use Rattle.std.specs.Ordering.{is_lt, eq_by_cmp}
 use Rattle.std.specs.Str.{bytes_eq}
 use Rattle.std.proofs.lemmas.Bool.{cases_Bool, true≢false, false≢true}
-use Rattle.std.proofs.lemmas.Map.Keys.{IsDistinct-head, IsDistinct-tail, IsDistinct-cons}
-use Rattle.serde_json.specs.Data.{Data, null, boolean, number, string, array, object, Items, no_items, Members, no_members, member}
+use Rattle.serde_json.specs.Data.{Data, null, boolean, number, string, array, object, no_items, Members, no_members, member}
 use Rattle.serde_json.specs.Find.{as_str, as_array, get_member}
 use Rattle.sp_base.specs.Names.{by_name}
 use Rattle.sp_base.specs.declared.value.Value.{Value}
 use Rattle.resource_tree.specs.declared.nodes.Node.{Node}
-use Rattle.resource_tree.specs.Content.{Content, IsGood, node_at, same_path}
-use Rattle.resource_tree.specs.Content as content
+use Rattle.resource_tree.specs.Content.{Content}
 use Rattle.property_json.specs.PropertyJson.{has_longs}
-use Rattle.content_json.specs.Names.{order_name, is_order, is_object, is_kid_member, kid_names, is_kid}
+use Rattle.content_json.specs.Names.{order_name, is_order, is_object, is_kid_member, kid_names}
 use Rattle.content_json.specs.Lists.{list_of, value_of}
-use Rattle.content_json.specs.Nodes.{order_items, order_names, kids_of, add_props, node_of, nodes_in, nodes_below}
-use Rattle.content_json.specs.Paths.{begins}
+use Rattle.content_json.specs.Nodes.{order_names, kids_of, add_props, node_of}
 use Rattle.content_json.specs.Written.{has_no_colon, keeps_kind}
-use Rattle.content_json.proofs.Under.{both, bytes_eq_itself, same_path_is, same_path_itself, begins_itself, begins-parent, begins-one}
-use Rattle.content_json.proofs.KidLemmas.{or_left, or_right, or_split, all_weaker, all_at, kid_names_have}
-use Rattle.content_json.proofs.NodeLemmas.{node_at-append, none_in, none_at_parent}
-use Rattle.content_json.proofs.BelowLemmas.{below_kid}
+use Rattle.content_json.proofs.Under.{both, bytes_eq_itself}
+use Rattle.content_json.proofs.KidLemmas.{all_weaker}
 use Rattle.content_json.proofs.WrittenLemmas.{and_last}
 use Rattle.content_json.proofs.InsertLemmas.{same_name, tie_is, get-member, entries_of, AreSorted, AllMembers}
-use Rattle.content_json.proofs.ValueLemmas.{items_from, data_of, texts_back, value_back, value_no_object, value_no_nodes}
-use Rattle.content_json.proofs.ReturnMembers.{first, second, less_apart, option_or-none, members_of, members_sorted, find_below, IsMember, prop, order, kid, get_kid, get_prop, get_order_some, get_order_none}
-use Rattle.content_json.proofs.ReturnFaults.{Returns, Node-is, order_no_kid, order_no_prop, object_faultless, not_deeper_below}
+use Rattle.content_json.proofs.ValueLemmas.{data_of, texts_back, value_back, value_no_object}
+use Rattle.content_json.proofs.ReturnMembers.{first, second, less_apart, option_or-none, members_of, members_sorted, IsMember, prop, order, kid, get_kid, get_prop, get_order_some, get_order_none}
+use Rattle.content_json.proofs.ReturnFaults.{Node-is, order_no_kid, order_no_prop}
 
 -- ---- the properties that are read
 
@@ -46,6 +36,7 @@ get_below q (member k d ms) h =
     get-member q k d ms
     ∙ ap (λ t. cond t (Some d) (get_member q ms)) (sym (tie_is q k) ∙ less_apart (by_name q k) (first (is_lt (by_name q k)) (below_all by_name q (entries_of ms)) h))
     ∙ get_below q ms (second (is_lt (by_name q k)) (below_all by_name q (entries_of ms)) h)
+
 find_put : (q k : List ℕ) (v : Value) (es : List (List ℕ × Value)) → find by_name q (entries.put by_name k v es) ≡ cond (bytes_eq q k) (Some v) (find by_name q es)
 find_put q k v es = find-put by_name nat_list_cmp_total q k v es ∙ ap (λ t. cond t (Some v) (find by_name q es)) (tie_is q k)
 

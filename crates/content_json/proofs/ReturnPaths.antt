@@ -1,5 +1,5 @@
 -- The nodes that are read for a node that was written, at their paths.
-use Rattle.std.proofs.Common.{◌≡◌, ◌≢◌, ℕ, suc, ◌-◌, ◌==◌, Bool, true, false, cond, not, ◌&&◌, ◌||◌, T, ⊎_elim, List, [], ◌∷◌, ◌++◌, Option, Some, None, is_some, if◌then◌else◌, refl, sym, ap, ◌∙◌, subst, arith}
+use Rattle.std.proofs.Common.{◌≡◌, ℕ, suc, ◌-◌, Bool, true, false, cond, ◌||◌, T, ⊎_elim, List, [], ◌∷◌, ◌++◌, Option, Some, None, is_some, if◌then◌else◌, refl, sym, ap, ◌∙◌, subst, arith}
 use Rattle.std.specs.Cmp.{tied_itself}
 use Rattle.std.specs.Cmp.Lexicographic.{nat_list_cmp_total, same_text}
 use Rattle.std.specs.FinMap.Entries.{is_sorted, below_all}
@@ -18,7 +18,7 @@ use Rattle.resource_tree.specs.Content as content
 use Rattle.content_json.specs.Names.{order_name, is_order, is_kid_member, kid_names}
 use Rattle.content_json.specs.Nodes.{node_of, nodes_in, nodes_below, is_deeper_below}
 use Rattle.content_json.specs.Paths.{begins}
-use Rattle.content_json.proofs.Under.{both, bytes_eq_itself, same_path_is, same_path_itself, same_path_swapped, begins_itself, begins-parent, begins-one}
+use Rattle.content_json.proofs.Under.{bytes_eq_itself, same_path_is, same_path_itself, same_path_swapped, begins_itself, begins-parent, begins-one}
 use Rattle.content_json.proofs.KidLemmas.{or_left, or_right, or_split, kid_names_have}
 use Rattle.content_json.proofs.NodeLemmas.{none_unless, node_at-append, none_in, none_at_parent}
 use Rattle.content_json.proofs.BelowLemmas.{below_kid}
@@ -178,6 +178,7 @@ module _ {tree : Content} {levels : ℕ} {path : List (List ℕ)} {f : List ℕ 
     where
       ms : Members
       ms = members_of f node
+
       by : (o : Option Node) → node_at tree q ≡ o → same_path q path ≡ false → (if below_any path (kid_names (members_of f node)) q then node_at tree q else None) ≡ (if begins path q then node_at tree q else None)
       by None at e = ap (λ o. if below_any path (kid_names (members_of f node)) q then o else None) at ∙ nothing (below_any path (kid_names (members_of f node)) q) ∙ sym (nothing (begins path q)) ∙ ap (λ o. if begins path q then o else None) (sym at)
       by (Some m) at e =

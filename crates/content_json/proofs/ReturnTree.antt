@@ -1,10 +1,10 @@
 -- A tree that was written is read as the same tree.
-use Rattle.std.proofs.Common.{◌≡◌, ℕ, zero, suc, ◌+◌, ◌-◌, ◌≤◌, ◌<◌, Bool, true, false, ◌&&◌, ◌||◌, List, [], ◌∷◌, ◌++◌, length, nat_lt, Option, Some, None, Ok, Err, option_map, is_some, if◌then◌else◌, unwrap_or, IsUtf8, refl, sym, ap, ◌∙◌, subst, arith, append-nil, length-append}
+use Rattle.std.proofs.Common.{◌≡◌, ℕ, zero, suc, ◌+◌, ◌≤◌, Bool, true, false, ◌&&◌, ◌||◌, List, [], ◌∷◌, ◌++◌, length, Option, Some, None, Ok, Err, option_map, is_some, if◌then◌else◌, unwrap_or, IsUtf8, refl, sym, ap, ◌∙◌, subst, arith, append-nil, length-append}
 use Rattle.std.specs.Prelude.{option_and_then}
 use Rattle.std.specs.List.{list_any, list_all}
 use Rattle.std.specs.Map.{keys_of}
 use Rattle.std.specs.Option.{option_map_or}
-use Rattle.std.specs.Str.{bytes_eq, is_utf8}
+use Rattle.std.specs.Str.{bytes_eq}
 use Rattle.std.proofs.lemmas.Bool.{le-ltb, false≢true}
 use Rattle.std.proofs.lemmas.Cmp.{eq_by_cmp_equiv}
 use Rattle.std.proofs.lemmas.Map.Made.{is_some-lookup, length-le_from_is_member}
@@ -16,17 +16,16 @@ use Rattle.json.specs.Tree.{json_tokens, depth, items_depth, members_depth}
 use Rattle.json.proofs.Printed.Trees.{value-json_tokens}
 use Rattle.serde_json.specs.Data.{Data, null, object}
 use Rattle.serde_json.specs.Read.{of_json, read, max_depth}
-use Rattle.sp_base.specs.Paths.{is_path, seg_ok}
+use Rattle.sp_base.specs.Paths.{seg_ok}
 use Rattle.sp_base.specs.declared.value.Value.{Value}
 use Rattle.sp_base.specs.declared.value.Value.TheVariants.{Text, Long, Truth, Texts, Longs, Truths}
 use Rattle.resource_tree.specs.declared.nodes.Node.{Node}
 use Rattle.resource_tree.specs.Content.{Content, IsGood, node_at, same_path, kid, empty_node}
 use Rattle.resource_tree.specs.Changes.{kids_at}
-use Rattle.property_json.specs.PropertyJson.{has_longs, items_of, json_of_long, json_of_value, members_before}
+use Rattle.property_json.specs.PropertyJson.{items_of, json_of_long, json_of_value, members_before}
 use Rattle.content_json.specs.declared.fault.ContentFault.TheVariants.{TooBig}
-use Rattle.content_json.specs.Names.{is_plain}
-use Rattle.content_json.specs.Nodes.{nodes_in, count_in, count_below, is_deeper_below}
-use Rattle.content_json.specs.ContentOf.{json_of, is_too_big, map_of, unless_found, content_in, content}
+use Rattle.content_json.specs.Nodes.{nodes_in, count_below, is_deeper_below}
+use Rattle.content_json.specs.ContentOf.{json_of, map_of, unless_found, content_in, content}
 use Rattle.content_json.specs.Written.{order_before, kid_members, node_before, json_at, has_no_colon, keeps_kind, is_plain_node, is_plain_tree, AreBelow}
 use Rattle.content_json.proofs.Under.{both, by_path_total}
 use Rattle.content_json.proofs.KidLemmas.{and_true, all_at}

@@ -1,22 +1,20 @@
 -- A value that was written is read as the same value.
-use Rattle.std.proofs.Common.{◌≡◌, ℕ, ℤ, pos, negsuc, ◌^◌, Bool, true, false, List, [], ◌∷◌, Option, Some, None, option_map, is_some, if◌then◌else◌, refl, sym, ap, ◌∙◌, arith, nat_lt}
-use Rattle.std.specs.Prelude.{option_and_then, is_none, ◌&&◌}
+use Rattle.std.proofs.Common.{◌≡◌, ℕ, ℤ, pos, negsuc, ◌^◌, Bool, true, false, List, [], ◌∷◌, Some, None, option_map, refl, ap, ◌∙◌, arith}
+use Rattle.std.specs.Prelude.{option_and_then}
 use Rattle.std.specs.Fmt.{signed_decimal}
 use Rattle.std.specs.List.{filter_map, list_all}
-use Rattle.std.specs.Option.{option_or, option_map_or}
 use Rattle.std.proofs.lemmas.Bool.{ltb-true, false≢true}
 use Rattle.json.specs.Json as json
-use Rattle.serde_json.specs.Data.{Data, null, boolean, number, string, array, object, Items, no_items, item, Members}
-use Rattle.serde_json.specs.Find.{as_str, as_bool, as_number, as_i64, of_integer}
+use Rattle.serde_json.specs.Data.{Data, boolean, number, string, array, Items, no_items, item}
+use Rattle.serde_json.specs.Find.{as_str, as_bool, as_i64, of_integer}
 use Rattle.serde_json.specs.Read.{number_of, of_json, of_items}
 use Rattle.serde_json.proofs.Numbers.{number_of-decimal, number_of-negative}
 use Rattle.sp_base.specs.declared.value.Value.{Value}
 use Rattle.sp_base.specs.declared.value.Value.TheVariants.{Text, Long, Truth, Texts, Longs, Truths}
-use Rattle.resource_tree.specs.Content.{Content}
 use Rattle.property_json.specs.PropertyJson.{is_long, has_longs, items_of, json_of_long, json_of_value}
 use Rattle.content_json.specs.declared.kind.Kind.TheVariants as kind
 use Rattle.content_json.specs.Names.{is_object}
-use Rattle.content_json.specs.Lists.{as_long, item_cause, items_cause, array_cause, list_of, array_value, value_of}
+use Rattle.content_json.specs.Lists.{as_long, items_cause, list_of, value_of}
 use Rattle.content_json.specs.Faults.{here, fault_in}
 use Rattle.content_json.specs.Nodes.{nodes_in, is_deeper}
 use Rattle.content_json.specs.Written.{keeps_kind}

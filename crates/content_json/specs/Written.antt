@@ -1,5 +1,5 @@
 -- The JSON text of a tree: each node is an object of its properties, then `:order`, then its kids.
-use Rattle.std.specs.Prelude.{◌≡◌, ℕ, zero, suc, ◌-◌, ◌++◌, ◌==◌, ◌&&◌, Bool, true, not, slice_index, T, List, [], ◌∷◌, Some, flat_map, length}
+use Rattle.std.specs.Prelude.{◌≡◌, ℕ, zero, suc, ◌-◌, ◌==◌, ◌&&◌, Bool, true, not, slice_index, T, List, [], ◌∷◌, Some, flat_map, length}
 use Rattle.std.specs.FinMap.Entries.{is_sorted}
 use Rattle.std.specs.List.{list_all, list_any}
 use Rattle.std.specs.Option.{option_map_or}

@@ -4,7 +4,7 @@ use Rattle.json.specs.Token.{Token}
 use Rattle.json.specs.Tree.{json_tokens}
 use Rattle.resource_tree.specs.Content.{kid}
 use Rattle.property_json.specs.PropertyJson.{Adds, property_tokens}
-use Rattle.content_json.specs.Written.{order_tokens, whole_at, kids_tokens, AreProps, AreBelow, AreBelowKids}
+use Rattle.content_json.specs.Written.{order_tokens, whole_at, kids_tokens, AreBelow, AreBelowKids}
 use Rattle.content_json.proofs.BelowLemmas.{all_below, kid_below}
 use Rattle.content_json.proofs.WrittenLemmas.{among_items, kid_there, none_missing, path_there, node_tokens, token, more, kids_more}
 use Rattle.content_json.proofs.write.+writing.Goals as goal
@@ -42,7 +42,7 @@ write_kids-loop-name-preserved t c =
           more old mid new front (Token.key name ∷ js) c.loop-name.invariant.0
           (more mid w.key.new.self new (Token.key name ∷ []) js (token mid w.key.new.self (Token.key name) key w.in_ok-key.ensures.room.0) below) in (
             subst (λ end. Adds old end (kids_tokens tree path (take (i + 1) names))) (sym w.writer-is)
-            (subst (Adds old new) (sym (kids_more tree path items names i name same (omega arith) c.name-item.is)) written),
+                (subst (Adds old new) (sym (kids_more tree path items names i name same (omega arith) c.name-item.is)) written),
             kid_below tree path items names i name same (omega arith) c.name-item.is c.loop-name.invariant.1 (subst (AreBelow tree) place w.in_ok-write_node.ensures.props),
           )
       | write_kids-in_default w ↦ absurd (none_missing tree path c.in_ok-kid.kid c.args.node.now name c.requires.good c.requires.there (among_items items names i name same (omega arith) c.name-item.is) place w.in_default.ensures)

@@ -13,3 +13,11 @@ pub mod RoomLemmas
 pub mod SizeLemmas
 pub mod JoinLemmas
 pub mod WrittenLemmas
+pub mod BelowLemmas
+pub mod InsertLemmas
+pub mod ValueLemmas
+pub mod ReturnMembers
+pub mod ReturnFaults
+pub mod ReturnNodes
+pub mod ReturnPaths
+pub mod ReturnTree

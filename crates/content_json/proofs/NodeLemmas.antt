@@ -23,7 +23,7 @@ not_below_kid path q k h = ⊎_elim (λ e. absurd (true≢false (sym (begins-par
 pub not_same : (path q : List (List ℕ)) → begins path q ≡ false → same_path q path ≡ false
 not_same path q h = ⊎_elim (λ e. absurd (true≢false (sym (begins_itself path) ∙ ap (begins path) (sym (same_path_is q path e)) ∙ h))) (λ e. e) (cases_Bool (same_path q path))
 
-none_unless : (b : Bool) (nodes : Content) (q : List (List ℕ)) → node_at nodes q ≡ None → node_at (if b then [] else nodes) q ≡ None
+pub none_unless : (b : Bool) (nodes : Content) (q : List (List ℕ)) → node_at nodes q ≡ None → node_at (if b then [] else nodes) q ≡ None
 none_unless true nodes q h = refl
 none_unless false nodes q h = h
 

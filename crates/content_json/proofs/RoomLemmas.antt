@@ -28,7 +28,7 @@ use Rattle.content_json.proofs.NodeLemmas.{node_at-append}
 use Rattle.content_json.proofs.PlantLemmas.{named_there}
 use Rattle.content_json.proofs.MemberLemmas.{nodes_of, nodes_below-append}
 
-length-keys : (nodes : Content) → length (keys_of nodes) ≡ length nodes
+pub length-keys : (nodes : Content) → length (keys_of nodes) ≡ length nodes
 length-keys [] = refl
 length-keys (e ∷ nodes) = ap (λ n. suc n) (length-keys nodes)
 

@@ -22,7 +22,7 @@ length_unless false nodes n h = h
 
 -- there are as many nodes as are counted
 mutual
-  length-nodes_in : (path : List (List ℕ)) (d : Data) → length (nodes_in path d) ≡ count_in d
+  pub length-nodes_in : (path : List (List ℕ)) (d : Data) → length (nodes_in path d) ≡ count_in d
   length-nodes_in path null = refl
   length-nodes_in path (boolean b) = refl
   length-nodes_in path (number n) = refl

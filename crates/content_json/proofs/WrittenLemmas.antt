@@ -6,7 +6,7 @@ use Rattle.std.specs.Str.{bytes_eq}
 use Rattle.std.proofs.lemmas.Bool.{false≢true, leb-true}
 use Rattle.std.proofs.lemmas.List.{take_more, append-nil}
 use Rattle.std.proofs.lemmas.List.Concat.{flat_map-append}
-use Rattle.json.specs.Json.{Json, Members, no_members}
+use Rattle.json.specs.Json.{Members, no_members}
 use Rattle.json.specs.Token.{Token}
 use Rattle.json.specs.Tree.{json_tokens, members_tokens}
 use Rattle.json.specs.Print.{print}
@@ -17,8 +17,8 @@ use Rattle.resource_tree.specs.Content.{Content, IsGood, node_at, kid}
 use Rattle.resource_tree.specs.Changes.{kids_at}
 use Rattle.property_json.specs.PropertyJson.{Adds, property_tokens}
 use Rattle.property_json.proofs.ArrayLemmas.{members_are}
-use Rattle.content_json.specs.Written.{props_at, order_before, kid_members, node_before, json_at, written, order_tokens, whole_at, kids_tokens}
-use Rattle.content_json.proofs.Under.{both, bytes_eq_itself}
+use Rattle.content_json.specs.Written.{order_before, kid_members, node_before, json_at, written, order_tokens, whole_at, kids_tokens}
+use Rattle.content_json.proofs.Under.{bytes_eq_itself}
 use Rattle.content_json.proofs.KidLemmas.{or_left, or_right}
 
 -- ---- the kids of a good tree are there
@@ -49,7 +49,7 @@ path_there tree path good h = by (node_at tree path) refl h
     by None at there = absurd (false≢true there)
     by (Some node) at there = (good.shape.nodes path node at).is_a_path
 
-and_last : (a b : Bool) → (a && b) ≡ true → b ≡ true
+pub and_last : (a b : Bool) → (a && b) ≡ true → b ≡ true
 and_last true b h = h
 and_last false b h = absurd (false≢true h)
 

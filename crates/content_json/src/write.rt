@@ -1,10 +1,11 @@
 // Writes a tree as JSON: of each node the properties, then `:order`, then the kids.
-ghost use Rattle.std.specs.Prelude.{◌≡◌, IfOk, OnOk, IsTrue, Some};
+ghost use Rattle.std.specs.Prelude.{◌≡◌, IfOk, OnOk, IsTrue, Some, Ok, true};
 ghost use Rattle.json.specs.Tree.{json_tokens};
 ghost use Rattle.sp_base.specs.Paths.{is_path};
 ghost use Rattle.resource_tree.specs.Content.{IsGood, kid, node_at};
 ghost use Rattle.property_json.specs.PropertyJson.{Adds};
-ghost use Rattle.content_json.specs.Written.{order_tokens, whole_at, kids_tokens, written};
+ghost use Rattle.content_json.specs.ContentOf.{content};
+ghost use Rattle.content_json.specs.Written.{is_plain_tree, order_tokens, whole_at, kids_tokens, written, AreBelow, AreBelowKids};
 
 use crate::names::ORDER;
 use json::Writer;
@@ -41,7 +42,8 @@ fn write_order(writer: &mut Writer, kids: &TextList) -> Result<(), AllocError>
 fn write_node(alloc: Global, tree: &Tree, writer: &mut Writer, path: &Path, node: &Node) -> Mem<()>
     requires good { IsGood tree.now }
     requires there { node_at tree.now path.now ≡ Some node.now }
-    ensures { OnOk result (Adds writer.old writer.new (json_tokens (whole_at tree.now path.now))) }
+    ensures tokens { OnOk result (Adds writer.old writer.new (json_tokens (whole_at tree.now path.now))) }
+    ensures props { OnOk result (AreBelow tree.now path.now) }
 {
     writer.begin_object()?;
     write_properties(writer, &node.props)?;
@@ -56,7 +58,8 @@ fn write_node(alloc: Global, tree: &Tree, writer: &mut Writer, path: &Path, node
 fn write_kids(alloc: Global, tree: &Tree, writer: &mut Writer, path: &Path, node: &Node) -> Mem<()>
     requires good { IsGood tree.now }
     requires there { node_at tree.now path.now ≡ Some node.now }
-    ensures { OnOk result (Adds writer.old writer.new (kids_tokens tree.now path.now node.now.kids)) }
+    ensures tokens { OnOk result (Adds writer.old writer.new (kids_tokens tree.now path.now node.now.kids)) }
+    ensures props { OnOk result (AreBelowKids tree.now path.now node.now.kids) }
 {
     for name in node.kids.as_slice() {
         let kid = kid_path(alloc, path, name.text())?;
@@ -69,9 +72,11 @@ fn write_kids(alloc: Global, tree: &Tree, writer: &mut Writer, path: &Path, node
 }
 
 /// Writes a tree as compact JSON (RFC 8259): of each node its properties in the order of their names, then, where it has kids,
-/// the member `:order` with the names of all kids in their order, then the kids in that order.
+/// the member `:order` with the names of all kids in their order, then the kids in that order. Reading that gives the same tree,
+/// if no name in it begins with `:` and no list of numbers or truths is empty.
 pub fn write_tree(alloc: Global, tree: &Tree) -> Mem<ByteBuf>
     ensures value { IfOk result (λ bytes. bytes ≡ written tree.now) }
+    ensures read_back { IfOk result (λ bytes. is_plain_tree tree.now ≡ true → content bytes ≡ Ok tree.now) }
 {
     // `len` says that the tree is good: the root is there, and each kid.
     let _ = tree.len();

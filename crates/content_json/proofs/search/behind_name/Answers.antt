@@ -1,4 +1,4 @@
-use Rattle.std.proofs.Common.{◌≡◌, ◌≤◌, ◌++◌, ◌∷◌, [], ◌∙◌, sym, ap, length, take, arith, refl}
+use Rattle.std.proofs.Common.{◌≡◌, ◌≤◌, ◌++◌, ◌∷◌, [], ◌∙◌, ap, length, arith, refl}
 use Rattle.std.proofs.lemmas.List.{length-take}
 use Rattle.sp_base.specs.Paths.{join_of}
 use Rattle.content_json.proofs.PathLemmas.{join_of-is}

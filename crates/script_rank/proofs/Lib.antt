@@ -1,3 +1,4 @@
 pub mod NamingLemmas
+pub mod DepthLemmas
 pub mod SearchLemmas
 pub mod RankLemmas

@@ -9,7 +9,7 @@ use Rattle.url_split.specs.declared.decompose.Parts.{Parts}
 use Rattle.script_rank.specs.declared.naming.Naming.{Naming}
 use Rattle.script_rank.specs.declared.naming.Naming.TheVariants.{SelectorsAndExtension, Selectors, LabelAndExtension, Extension, Label, Method}
 use Rattle.script_rank.specs.Ranking.{IsOffered, IsAbove, Decides, selectors_in, has_extension, has_label, is_html}
-use Rattle.script_rank.specs.Search.{namings, with_selectors, without_selectors}
+use Rattle.script_rank.specs.Search.{most_selectors, namings, with_selectors, without_selectors}
 
 -- ---- the weight of a naming
 
@@ -113,9 +113,9 @@ without-falls false = ((omega arith, tt), (tt, tt))
 pub namings-fall : (parts : Parts) → Falls (namings parts)
 namings-fall parts =
     let html = is_html parts in
-    elim (is_empty parts.extension) as (λ t. Falls (if t then [] else from html (length parts.selectors) (without_selectors html))) [
+    elim (is_empty parts.extension) as (λ t. Falls (if t then [] else from html (most_selectors parts) (without_selectors html))) [
       | true ↦ tt
-      | false ↦ with-falls html (length parts.selectors) (without_selectors html) (without-below html) (without-falls html)
+      | false ↦ with-falls html (most_selectors parts) (without_selectors html) (without-below html) (without-falls html)
     ]
 
 same_Some : {A : Type 0} (x y : A) → Some x ≡ Some y → x ≡ y
@@ -161,12 +161,12 @@ some_length n e = grind (arith, nat_tests)
 pub sound : (parts : Parts) (i : ℕ) (r : Naming) → slice_get (namings parts) i ≡ Some r → (0 < length parts.extension) × IsOffered parts r
 sound parts i r e =
     let html = is_html parts in
-    let all = from html (length parts.selectors) (without_selectors html) in
+    let all = from html (most_selectors parts) (without_selectors html) in
     elim (is_empty parts.extension) as (λ t. is_empty parts.extension ≡ t → slice_get (if t then [] else all) i ≡ Some r → (0 < length parts.extension) × IsOffered parts r) [
       | true ↦ λ none h. absurd (cc)
       | false ↦ λ some h. (
         some_length (length parts.extension) some,
-        offered-at parts all i r (with-offered parts html (length parts.selectors) (without_selectors html) (λ is. is) (omega arith) (without-offered parts html (λ is. is))) h,
+        offered-at parts all i r (with-offered parts html (most_selectors parts) (without_selectors html) (λ is. is) (omega arith) (without-offered parts html (λ is. is))) h,
       )
     ] refl e
 
@@ -208,24 +208,24 @@ has_selectors (suc n) rest k some le = ⊎_elim
     (λ ne. later _ _ _ (later _ _ _ (has_selectors n rest k some (omega (arith, le, ne)))))
     (cases_eq k (suc n))
 
-among : (parts : Parts) (html : Bool) (r : Naming) → is_html parts ≡ html → IsOffered parts r → Has r (from html (length parts.selectors) (without_selectors html))
-among parts html (SelectorsAndExtension k) is h = has_both html (length parts.selectors) (without_selectors html) k h.0 h.1
-among parts true (Selectors k) is h = has_selectors (length parts.selectors) (without_selectors true) k h.0.0 h.0.1
-among parts false (Selectors k) is h = let yes = h.1 in absurd (cc (is, yes))
-among parts html LabelAndExtension is h = behind html (length parts.selectors) (without_selectors html) _ (first _ _)
-among parts html Extension is h = behind html (length parts.selectors) (without_selectors html) _ (later _ _ _ (first _ _))
-among parts true Label is h = behind true (length parts.selectors) (without_selectors true) _ (later _ _ _ (later _ _ _ (first _ _)))
-among parts false Label is h = absurd (cc (is, h))
-among parts true Method is h = behind true (length parts.selectors) (without_selectors true) _ (later _ _ _ (later _ _ _ (later _ _ _ (first _ _))))
-among parts false Method is h = absurd (cc (is, h))
+among : (parts : Parts) (html : Bool) (r : Naming) → is_html parts ≡ html → IsOffered parts r → selectors_in r ≤ 64 → Has r (from html (most_selectors parts) (without_selectors html))
+among parts html (SelectorsAndExtension k) is h few = has_both html (most_selectors parts) (without_selectors html) k h.0 (omega (arith, h.1, few))
+among parts true (Selectors k) is h few = has_selectors (most_selectors parts) (without_selectors true) k h.0.0 (omega (arith, h.0.1, few))
+among parts false (Selectors k) is h few = let yes = h.1 in absurd (cc (is, yes))
+among parts html LabelAndExtension is h few = behind html (most_selectors parts) (without_selectors html) _ (first _ _)
+among parts html Extension is h few = behind html (most_selectors parts) (without_selectors html) _ (later _ _ _ (first _ _))
+among parts true Label is h few = behind true (most_selectors parts) (without_selectors true) _ (later _ _ _ (later _ _ _ (first _ _)))
+among parts false Label is h few = absurd (cc (is, h))
+among parts true Method is h few = behind true (most_selectors parts) (without_selectors true) _ (later _ _ _ (later _ _ _ (later _ _ _ (first _ _))))
+among parts false Method is h few = absurd (cc (is, h))
 
 full : (n : ℕ) → 0 < n → (n == 0) ≡ false
 full n h = grind (arith, nat_tests)
 
-pub complete : (parts : Parts) (r : Naming) → 0 < length parts.extension → IsOffered parts r → Has r (namings parts)
-complete parts r asked offered =
+pub complete : (parts : Parts) (r : Naming) → 0 < length parts.extension → IsOffered parts r → selectors_in r ≤ 64 → Has r (namings parts)
+complete parts r asked offered few =
     let html = is_html parts in
-    subst (λ t. Has r (if t then [] else from html (length parts.selectors) (without_selectors html))) (sym (full (length parts.extension) asked)) (among parts html r refl offered)
+    subst (λ t. Has r (if t then [] else from html (most_selectors parts) (without_selectors html))) (sym (full (length parts.extension) asked)) (among parts html r refl offered few)
 
 -- ---- the namings that are added one by one
 

@@ -14,6 +14,7 @@ use Rattle.script_rank.specs.declared.naming.Naming.TheVariants.{SelectorsAndExt
 use Rattle.script_rank.specs.Ranking.{Candidate, HasNoCandidate, IsFirst, IsBetter, IsOffered, IsAbove, Decides, Key, is_script, selectors_in, has_extension, has_label, spellings}
 use Rattle.script_rank.specs.Search.{at_naming, at_place, at_type, found, namings, script_at, script_in}
 use Rattle.script_rank.proofs.NamingLemmas.{weight, better-weight, namings-fall, falls-at, sound, complete, Has}
+use Rattle.script_rank.proofs.DepthLemmas.{few_selectors}
 use Rattle.script_rank.proofs.SearchLemmas.{Hit, hit, none-at}
 
 same_Some : {A : Type 0} (x y : A) → Some x ≡ Some y → x ≡ y
@@ -71,7 +72,7 @@ module _ {tree : Content} {chain : List TypeName} {parts : Parts} {q : List (Lis
 pub none_found : (tree : Content) (chain : List TypeName) (parts : Parts) → found tree chain parts ≡ None → HasNoCandidate tree chain parts
 unfolding found
 none_found tree chain parts none path key cand =
-    let has = complete parts key.naming cand.asked cand.offered in
+    let has = complete parts key.naming cand.asked cand.offered (few_selectors cand) in
     no_naming cand key.naming refl (none-at (at_naming tree chain parts) (namings parts) none has.at key.naming has.here)
 
 -- ---- what is found, with the steps on the way to it
@@ -159,7 +160,7 @@ module _ {tree : Content} {chain : List TypeName} {parts : Parts} {path : List (
   none_better : (q : List (List ℕ)) (k : Key) (cand : Candidate tree chain parts q k) → IsBetter k key_of → ⊥
   unfolding key_of
   none_better q k cand better =
-      let has = complete parts k.naming cand.asked cand.offered in
+      let has = complete parts k.naming cand.asked cand.offered (few_selectors cand) in
       let heavy : weight w.naming.item ≤ weight k.naming = better-weight k.naming w.naming.item _ better in
       ⊎_elim
       (λ (before : has.at < w.naming.at). no_naming cand k.naming refl (w.naming.before has.at k.naming before has.here))

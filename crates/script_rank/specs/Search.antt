@@ -1,5 +1,5 @@
 -- What the search does step by step: it tries the namings in the order of their ranks, at each type, each place and each spelling.
-use Rattle.std.specs.Prelude.{◌++◌, ◌∷◌, [], ℕ, zero, suc, Bool, if◌then◌else◌, List, Option, Some, None, Result, Ok, Err, codes, length}
+use Rattle.std.specs.Prelude.{◌++◌, ◌∷◌, [], ℕ, zero, suc, Bool, if◌then◌else◌, List, Option, Some, None, Result, Ok, Err, codes, length, min}
 use Rattle.sp_base.specs.Paths.{is_empty, path_of, text_of}
 use Rattle.sp_base.specs.declared.path.PathFault.{PathFault}
 use Rattle.resource_tree.specs.Content.{Content, name_of}
@@ -20,8 +20,12 @@ with_selectors html (suc k) = SelectorsAndExtension (suc k) ∷ (if html then Se
 abbrev pub without_selectors : Bool → List Naming
 without_selectors html = LabelAndExtension ∷ Extension ∷ (if html then Label ∷ Method ∷ [] else [])
 
+-- a path has at most 64 segments, so no script is named after more selectors
+abbrev pub most_selectors : Parts → ℕ
+most_selectors parts = min (length parts.selectors) 64
+
 abbrev pub namings : Parts → List Naming
-namings parts = if is_empty parts.extension then [] else with_selectors (is_html parts) (length parts.selectors) ++ without_selectors (is_html parts)
+namings parts = if is_empty parts.extension then [] else with_selectors (is_html parts) (most_selectors parts) ++ without_selectors (is_html parts)
 
 abbrev pub script_in : Content → Result (List (List ℕ)) PathFault → Option (List (List ℕ))
 script_in tree (Ok path) = if is_script tree path then Some path else None

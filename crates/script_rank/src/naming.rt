@@ -5,6 +5,9 @@ use sp_base::Mem;
 use std::alloc::Global;
 use url_split::Parts;
 
+/// The most selectors that a script is named after: a path has no more segments.
+const MOST_SELECTORS: usize = 64;
+
 /// What of a request a script is named after.
 #[derive(Clone, Copy, Drop)]
 pub enum Naming {
@@ -37,7 +40,7 @@ pub(crate) fn namings(alloc: Global, parts: &Parts) -> Mem<Vec<Naming>>
         return Ok(list);
     }
     let html = is_html(parts);
-    add_with_selectors(&mut list, parts.selectors.len(), html)?;
+    add_with_selectors(&mut list, parts.selectors.len().min(MOST_SELECTORS), html)?;
     list.push(Naming::LabelAndExtension)?;
     list.push(Naming::Extension)?;
     if html {

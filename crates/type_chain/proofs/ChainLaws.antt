@@ -1,7 +1,7 @@
 -- The chain in the subject's words: distinct types, 32 at most before the default type, each the super type of the one before.
-use Rattle.std.proofs.Common.{◌≡◌, ◌+◌, ◌-◌, ◌<◌, ◌≤◌, ◌⊎◌, ◌++◌, ℕ, zero, suc, Bool, true, false, not, cond, ◌&&◌, ◌||◌, List, [], ◌∷◌, Option, Some, None, length, take, refl, sym, ◌∙◌, ap, subst, inl, inr, ⊎_elim, arith, length-append}
+use Rattle.std.proofs.Common.{◌≡◌, ◌+◌, ◌<◌, ◌≤◌, ◌⊎◌, ◌++◌, ℕ, zero, suc, Bool, true, false, cond, ◌||◌, List, [], ◌∷◌, Option, Some, None, length, refl, sym, ◌∙◌, ap, subst, inl, inr, ⊎_elim, arith, length-append}
 use Rattle.std.specs.Prelude.{slice_get}
-use Rattle.std.specs.List.{before_first, list_any, IsDistinct, AllByRecursion}
+use Rattle.std.specs.List.{before_first, IsDistinct, AllByRecursion}
 use Rattle.std.proofs.lemmas.List.Folds.{list_any-append}
 use Rattle.sp_base.specs.declared.value.Value.{Value}
 use Rattle.resource_tree.specs.declared.look.Res.{Res}

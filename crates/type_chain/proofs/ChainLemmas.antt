@@ -1,12 +1,12 @@
 -- Types up to the first repeat, taken one after another.
 use Rattle.std.proofs.Common.{◌≡◌, ◌+◌, ◌-◌, ◌<◌, ◌≤◌, ◌++◌, ℕ, zero, suc, Bool, true, false, not, cond, ◌||◌, List, [], ◌∷◌, Option, Some, None, length, take, refl, sym, ◌∙◌, ap, subst, arith, append_assoc, append-nil, length-append, lit≤}
 use Rattle.std.proofs.lemmas.List.Folds.{list_any-append}
-use Rattle.std.specs.List.{before_first, list_any, position_or_len, prefix_len}
+use Rattle.std.specs.List.{before_first, position_or_len}
 use Rattle.sp_base.specs.declared.value.Value.{Value}
 use Rattle.resource_tree.specs.Content.{Content}
 use Rattle.type_chain.specs.declared.type_name.TypeName.{TypeName}
 use Rattle.type_chain.specs.Types.{same_type}
-use Rattle.type_chain.specs.Chain.{has_type, until_repeat, line, line_from, own_types, super_of, super_type}
+use Rattle.type_chain.specs.Chain.{has_type, until_repeat, line, own_types, super_of, super_type}
 
 -- the types before the first that is among the earlier ones, or repeats one of these
 abbrev pub fresh : List TypeName → List TypeName → List TypeName

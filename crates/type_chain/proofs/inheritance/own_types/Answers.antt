@@ -1,5 +1,5 @@
-use Rattle.std.proofs.Common.{◌≡◌, ◌<◌, ◌≤◌, ◌∷◌, [], ◌++◌, length, refl, sym, ◌∙◌, ap, subst, None, Some, true, arith}
-use Rattle.type_chain.specs.Chain.{super_of, super_type, has_type}
+use Rattle.std.proofs.Common.{◌≡◌, ◌<◌, ◌≤◌, ◌∷◌, [], ◌++◌, length, refl, sym, ◌∙◌, ap, subst, true, arith}
+use Rattle.type_chain.specs.Chain.{super_of, has_type}
 use Rattle.type_chain.proofs.ChainLemmas.{Goes, begins, begins_with, steps, ends_with_none, ends_full, ends_before_repeat, same_goes}
 use Rattle.type_chain.proofs.inheritance.own_types.Goals as goal
 use Rattle.type_chain.proofs.inheritance.own_types.Goals.{in-Some+in_ok-push, in_default, in-Some-next+then-len-ge-MOST_TYPES, in_default-next, then-len-ge-MOST_TYPES-via-then-len-ge-MOST_TYPES, then-len-ge-MOST_TYPES-via-else-len-ge-MOST_TYPES+then-has_type}

@@ -1,0 +1,127 @@
+-- A path has at most 64 segments, so the name of no script has more selectors.
+use Rattle.std.proofs.Common.{◌≡◌, ◌+◌, ◌<◌, ◌≤◌, ◌++◌, ◌||◌, ℕ, zero, suc, Bool, true, false, cond, List, [], ◌∷◌, Option, Some, None, Result, Ok, Err, length, take, refl, sym, ◌∙◌, ap, subst, arith, length-append, nat_lt, codes}
+use Rattle.std.specs.Prelude.{◌==◌, slice_get, if◌then◌else◌, flat_map}
+use Rattle.std.specs.List.{list_any, position, slice_split, onto_first}
+use Rattle.std.proofs.lemmas.List.{length-take}
+use Rattle.std.proofs.lemmas.Bool.Decides.{nat_tests}
+use borrow.Author.Tests.{ltb-false}
+use Rattle.sp_base.specs.Paths.{is_empty, is_dots, is_long, pieces, fault_of, unless_fault, size_fault, checked, path_of, text_of}
+use Rattle.sp_base.specs.declared.path.PathFault.{PathFault}
+use Rattle.sp_base.specs.declared.path.PathFault.TheVariants.{NotAbsolute, EmptySegment, DotSegment, TooDeep}
+use Rattle.resource_tree.specs.Content.{Content, name_of}
+use Rattle.type_chain.specs.declared.type_name.TypeName.{TypeName}
+use Rattle.url_split.specs.declared.decompose.Parts.{Parts}
+use Rattle.script_rank.specs.declared.naming.Naming.{Naming}
+use Rattle.script_rank.specs.declared.naming.Naming.TheVariants.{SelectorsAndExtension, Selectors, LabelAndExtension, Extension, Label, Method}
+use Rattle.script_rank.specs.Ranking.{Candidate, IsOffered, Key, behind_slashes, selectors_in, spellings}
+
+-- ---- a path that was read has at most 64 segments
+
+fits : (deep : Bool) (n : ℕ) → nat_lt 64 n ≡ deep → (if deep then Some TooDeep else None) ≡ None → n ≤ 64
+fits true n is h = absurd (cc)
+fits false n is h = ltb-false 64 n is
+
+size_fits : (long : Option ℕ) (n : ℕ) → size_fault long n ≡ None → n ≤ 64
+size_fits None n h = fits (nat_lt 64 n) n refl h
+size_fits (Some place) n h = absurd (cc)
+
+pieces_fit : (empty dots : Bool) (long : Option ℕ) (n : ℕ) → (if empty then Some EmptySegment else (if dots then Some DotSegment else size_fault long n)) ≡ None → n ≤ 64
+pieces_fit true dots long n h = absurd (cc)
+pieces_fit false true long n h = absurd (cc)
+pieces_fit false false long n h = size_fits long n h
+
+no_fault : (fault : Option PathFault) (segs path : List (List ℕ)) → unless_fault fault segs ≡ Ok path → fault ≡ None
+no_fault None segs path h = refl
+no_fault (Some fault) segs path h = absurd (cc)
+
+checked-short : (segs path : List (List ℕ)) → checked segs ≡ Ok path → length segs ≤ 64
+checked-short segs path e =
+    pieces_fit (list_any is_empty segs) (list_any is_dots segs) (position is_long segs) (length segs) (no_fault (fault_of segs) segs path e)
+
+-- ---- so its text has at most 64 slashes
+
+abbrev is_slash : ℕ → Bool
+is_slash b = b == 47
+
+abbrev slashes : List ℕ → ℕ
+slashes [] = 0
+slashes (b ∷ text) = cond (is_slash b) (1 + slashes text) (slashes text)
+
+onto-length : (b : ℕ) (parts : List (List ℕ)) (n : ℕ) → length parts ≡ 1 + n → length (onto_first b parts) ≡ 1 + n
+onto-length b [] n e = absurd (omega (arith, e))
+onto-length b (part ∷ parts) n e = e
+
+pieces-length : (text : List ℕ) → length (pieces text) ≡ 1 + slashes text
+pieces-length [] = refl
+pieces-length (b ∷ text) =
+    elim (is_slash b) as (λ t. length (cond t ([] ∷ pieces text) (onto_first b (pieces text))) ≡ 1 + cond t (1 + slashes text) (slashes text)) [
+      | true ↦ omega (arith, pieces-length text)
+      | false ↦ onto-length b (pieces text) (slashes text) (pieces-length text)
+    ]
+
+zero_test : (n : ℕ) → (n == 0) ≡ true → n ≡ 0
+zero_test n e = grind (arith, nat_tests)
+
+root-slashes : (text : List ℕ) → is_empty text ≡ true → slashes text ≡ 0
+root-slashes [] e = refl
+root-slashes (b ∷ text) e = absurd (omega (arith, zero_test (length (b ∷ text)) e))
+
+rest-slashes : (text : List ℕ) (p : List (List ℕ)) → (if is_empty text then Ok [] else checked (pieces text)) ≡ Ok p → 1 + slashes text ≤ 64
+rest-slashes text p e =
+    elim (is_empty text) as (λ t. is_empty text ≡ t → (if t then Ok [] else checked (pieces text)) ≡ Ok p → 1 + slashes text ≤ 64) [
+      | true ↦ λ none h. omega (arith, root-slashes text none)
+      | false ↦ λ some h. omega (arith, checked-short (pieces text) p h, pieces-length text)
+    ] refl e
+
+read-slashes : (text : List ℕ) (p : List (List ℕ)) → path_of text ≡ Ok p → slashes text ≤ 64
+read-slashes [] p e = absurd (cc)
+read-slashes (b ∷ text) p e =
+    elim (is_slash b) as (λ t. (if t then (if is_empty text then Ok [] else checked (pieces text)) else Err NotAbsolute) ≡ Ok p → cond t (1 + slashes text) (slashes text) ≤ 64) [
+      | true ↦ λ h. rest-slashes text p h
+      | false ↦ λ h. absurd (cc)
+    ] e
+
+-- ---- and each selector brings a slash
+
+slashes-append : (a b : List ℕ) → slashes (a ++ b) ≡ slashes a + slashes b
+slashes-append [] b = omega arith
+slashes-append (x ∷ a) b =
+    elim (is_slash x) as (λ t. cond t (1 + slashes (a ++ b)) (slashes (a ++ b)) ≡ cond t (1 + slashes a) (slashes a) + slashes b) [
+      | true ↦ omega (arith, slashes-append a b)
+      | false ↦ slashes-append a b
+    ]
+
+behind-slashes : (xs : List (List ℕ)) → length xs ≤ slashes (flat_map (λ s. 47 ∷ s) xs)
+behind-slashes [] = omega arith
+behind-slashes (x ∷ xs) = omega (arith, slashes-append x (flat_map (λ s. 47 ∷ s) xs), behind-slashes xs)
+
+front-slashes : (parts : Parts) (k : ℕ) (rest : List ℕ) → k ≤ length parts.selectors → k ≤ slashes (behind_slashes parts k ++ rest)
+front-slashes parts k rest le =
+    omega (arith, slashes-append (behind_slashes parts k) rest, behind-slashes (take k parts.selectors), length-take k parts.selectors, le)
+
+only : (x y : List ℕ) (j : ℕ) → slice_get (x ∷ []) j ≡ Some y → x ≡ y
+only x y zero e = cc
+only x y (suc j) e = absurd (cc)
+
+spelling-slashes : (parts : Parts) (label : List ℕ) (naming : Naming) (j : ℕ) (spelling : List ℕ) → IsOffered parts naming → slice_get (spellings parts label naming) j ≡ Some spelling
+    → selectors_in naming ≤ slashes spelling
+spelling-slashes parts label (SelectorsAndExtension k) zero spelling h e =
+    let same : behind_slashes parts k ++ 46 ∷ parts.extension ≡ spelling = cc (e) in
+    subst (λ t. k ≤ slashes t) same (front-slashes parts k (46 ∷ parts.extension) h.1)
+spelling-slashes parts label (SelectorsAndExtension k) (suc j) spelling h e =
+    subst (λ t. k ≤ slashes t) (only (behind_slashes parts k ++ 47 ∷ parts.extension) spelling j e) (front-slashes parts k (47 ∷ parts.extension) h.1)
+spelling-slashes parts label (Selectors k) j spelling h e =
+    subst (λ t. k ≤ slashes t) (only (behind_slashes parts k) spelling j e)
+    (omega (arith, behind-slashes (take k parts.selectors), length-take k parts.selectors, h.0.1))
+spelling-slashes parts label LabelAndExtension j spelling h e = omega arith
+spelling-slashes parts label Extension j spelling h e = omega arith
+spelling-slashes parts label Label j spelling h e = omega arith
+spelling-slashes parts label Method j spelling h e = omega arith
+
+pub few_selectors : {tree : Content} {chain : List TypeName} {parts : Parts} {path : List (List ℕ)} {key : Key} → Candidate tree chain parts path key → selectors_in key.naming ≤ 64
+few_selectors {parts} {path} {key} cand =
+    let ending = codes ".html" in
+    let own = spelling-slashes parts (name_of cand.type.segs) key.naming key.spelling cand.spelling cand.offered cand.spelled in
+    let all = slashes-append (text_of cand.place) (cand.spelling ++ ending) in
+    let behind = slashes-append cand.spelling ending in
+    omega (arith, own, all, behind, read-slashes (text_of cand.place ++ (cand.spelling ++ ending)) path cand.reads)

@@ -12,3 +12,4 @@ pub mod ChangeLemmas
 pub mod RoomLemmas
 pub mod SizeLemmas
 pub mod JoinLemmas
+pub mod WrittenLemmas

@@ -5,3 +5,4 @@ pub mod Nodes
 pub mod Paths
 pub mod Planting
 pub mod ContentOf
+pub mod Written

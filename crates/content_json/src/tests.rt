@@ -1,4 +1,4 @@
-use crate::{ContentFault, read_tree};
+use crate::{ContentFault, read_tree, write_tree};
 use resource_tree::Tree;
 use sp_base::{Mem, NoMemory, Path, Value};
 use std::alloc::Global;
@@ -148,6 +148,39 @@ fn reads_nodes(rt: HostRuntime) -> Result<(), Fail> {
         };
         let got = node_text(rt.alloc(), &tree, path).or(Err("no memory"))?;
         assert_eq!(rt; got.as_str(), want, "at {content}");
+    }
+    Ok(())
+}
+
+// The text that the tree of a content is written as.
+fn rewritten(alloc: Global, content: &str) -> Mem<String> {
+    let Ok(tree) = read_tree(alloc, content.as_bytes()) else {
+        return Err(NoMemory);
+    };
+    let written = write_tree(alloc, &tree)?;
+    match str::from_utf8(written.bytes()) {
+        Ok(text) => Ok(String::from_str(alloc, text)?),
+        Err(_) => Err(NoMemory),
+    }
+}
+
+// Each content, and how its tree is written.
+const WRITTEN: &str = r#"{} => {}
+{"content":{"en":{"title":"Hello","jcr:title":"Hi"}}} => {":order":["content"],"content":{":order":["en"],"en":{"jcr:title":"Hi","title":"Hello"}}}
+{ "t":"x", "n":-9223372036854775808, "b":true } => {"b":true,"n":-9223372036854775808,"t":"x"}
+{"ts":["a",""],"ns":[1,-2],"bs":[false],"e":[],"v":null} => {"bs":[false],"e":[],"ns":[1,-2],"ts":["a",""]}
+{"k":{},"z":1} => {"z":1,":order":["k"],"k":{}}
+{"a\"b":{"p\\q":"\u00e9/\u0001"},"\u00e9":{}} => {":order":["a\"b","é"],"a\"b":{"p\\q":"é/\u0001"},"é":{}}
+{"c":{},"a":{},"b":{"x":{}},":order":["c","b"]} => {":order":["c","b","a"],"c":{},"b":{":order":["x"],"x":{}},"a":{}}"#;
+
+#[test]
+fn writes_what_it_reads(rt: HostRuntime) -> Result<(), Fail> {
+    for row in WRITTEN.lines() {
+        let (content, want) = row.split_once(" => ").ok_or("a bad row")?;
+        for text in [content, want] {
+            let got = rewritten(rt.alloc(), text).or(Err("refused"))?;
+            assert_eq!(rt; got.as_str(), want, "at {text}");
+        }
     }
     Ok(())
 }

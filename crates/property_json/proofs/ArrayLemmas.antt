@@ -1,6 +1,8 @@
 -- The tokens of an array and of properties, one more item at a time.
-use Rattle.std.proofs.Common.{◌≡◌, ◌+◌, ◌<◌, ◌≤◌, ◌++◌, ℕ, List, [], ◌∷◌, length, take, get_or, slice_get, Some, None, refl, sym, ◌∙◌, ap, arith, append_assoc}
+use Rattle.std.proofs.Common.{◌≡◌, ◌+◌, ◌<◌, ◌≤◌, ◌++◌, ◌^◌, ℕ, ℤ, pos, negsuc, SFits, w64, Bool, true, List, [], ◌∷◌, length, take, get_or, slice_get, Some, None, refl, sym, ◌∙◌, ap, subst, arith, append_assoc}
 use Rattle.std.specs.Prelude.{flat_map}
+use Rattle.std.specs.List.{list_all}
+use Rattle.std.proofs.lemmas.Bool.{lt-ltb, and_parts}
 use Rattle.std.proofs.lemmas.List.{take_more, append-nil, take_all}
 use Rattle.std.proofs.lemmas.List.Concat.{flat_map-append}
 use Rattle.std.proofs.lemmas.Option.{slice_get_within, get_or_from_slice_get, slice_get-get_or}
@@ -10,7 +12,7 @@ use Rattle.json.specs.Tree.{json_tokens, items_tokens, members_tokens}
 use Rattle.json.specs.Print.{print}
 use Rattle.json.specs.Written.{Written}
 use Rattle.sp_base.specs.declared.value.Value.{Value}
-use Rattle.property_json.specs.PropertyJson.{Adds, items_of, json_of_value, members_before, property_tokens, properties_text}
+use Rattle.property_json.specs.PropertyJson.{is_long, Adds, items_of, json_of_value, members_before, property_tokens, properties_text}
 
 items_are : {A : Type 0} (f : A → Json) (xs : List A) → items_tokens (items_of f xs) ≡ flat_map (λ x. json_tokens (f x)) xs ++ Token.end_array ∷ []
 items_are f [] = refl
@@ -91,3 +93,21 @@ object_is start begun mid end ps none b a e =
 pub no_place : {A : Type 0} (xs : List A) (i : ℕ) → None ≡ slice_get xs i → i < length xs → ⊥
 no_place {A} [] i e lt = omega (arith, lt)
 no_place {A} (x ∷ xs) i e lt = cc (e, slice_get-get_or (x ∷ xs) i x lt)
+
+-- ---- numbers of 64 bits
+
+pub long_is : (n : ℤ) → SFits w64 n → is_long n ≡ true
+long_is (pos n) fits = lt-ltb n (2 ^ 63) (grind arith)
+long_is (negsuc n) fits = lt-ltb n (2 ^ 63) (grind arith)
+
+list_all-push : {A : Type 0} (p : A → Bool) (xs : List A) (x : A) → list_all p xs ≡ true → p x ≡ true → list_all p (xs ++ x ∷ []) ≡ true
+list_all-push p [] x h is = rw is
+list_all-push p (y ∷ xs) x h is = let parts = and_parts (p y) (list_all p xs) h in rw (parts.0) (list_all-push p xs x parts.1 is)
+
+-- what holds of the items so far holds with one more
+pub all_more : {A : Type 0} (p : A → Bool) (xs : List A) (n : ℕ) (x : A) → list_all p (take n xs) ≡ true → n < length xs → x ≡ get_or xs n x → p x ≡ true
+    → list_all p (take (n + 1) xs) ≡ true
+all_more p xs n x h lt is holds = rw (take_more xs n x lt, sym is) (list_all-push p (take n xs) x h holds)
+
+pub all_taken : {A : Type 0} (p : A → Bool) (xs : List A) (n : ℕ) → list_all p (take n xs) ≡ true → length xs ≤ n → list_all p xs ≡ true
+all_taken p xs n h le = subst (λ ys. list_all p ys ≡ true) (take_all n xs le) h

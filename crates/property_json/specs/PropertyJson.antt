@@ -1,4 +1,5 @@
-use Rattle.std.specs.Prelude.{◌≡◌, ◌++◌, ℕ, ℤ, List, [], ◌∷◌}
+use Rattle.std.specs.Prelude.{◌≡◌, ◌++◌, ◌^◌, ℕ, ℤ, pos, negsuc, Bool, true, nat_lt, List, [], ◌∷◌}
+use Rattle.std.specs.List.{list_all}
 use Rattle.std.specs.Fmt.{signed_decimal}
 use Rattle.json.specs.Json.{Json, boolean, number, string, array, object, Items, no_items, item, Members, no_members, member}
 use Rattle.json.specs.Token.{Token}
@@ -24,6 +25,20 @@ json_of_value (Truth b) = boolean b
 json_of_value (Texts ts) = array (items_of string ts)
 json_of_value (Longs ns) = array (items_of json_of_long ns)
 json_of_value (Truths bs) = array (items_of boolean bs)
+
+-- a number of 64 bits with a sign
+abbrev pub is_long : ℤ → Bool
+is_long (pos n) = nat_lt n (2 ^ 63)
+is_long (negsuc n) = nat_lt n (2 ^ 63)
+
+-- each number in a value is one of 64 bits
+abbrev pub has_longs : Value → Bool
+has_longs (Text t) = true
+has_longs (Long n) = is_long n
+has_longs (Truth b) = true
+has_longs (Texts ts) = true
+has_longs (Longs ns) = list_all is_long ns
+has_longs (Truths bs) = true
 
 -- the properties as members, in front of further members
 abbrev pub members_before : List (List ℕ × Value) → Members → Members

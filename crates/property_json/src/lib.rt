@@ -8,4 +8,4 @@ mod tests;
 mod write;
 
 pub use laws::properties_come_first;
-pub use write::{object_text, write_properties, write_value};
+pub use write::{object_text, write_properties, write_texts, write_value};

@@ -1,4 +1,4 @@
-use crate::{Place, Tree, TreeFault};
+use crate::{Look, Place, Tree, TreeFault};
 use sp_base::{NoMemory, Path, TextBuf, Value};
 use std::alloc::Global;
 
@@ -116,6 +116,14 @@ fn refusals_tell_their_cause(rt: HostRuntime) -> Result<(), Failed> {
     }
     let answer = tree.set(alloc, &at(alloc, "/a")?, "b", Value::Truth(true));
     assert_eq!(rt; told(alloc, answer)?.as_str(), "Taken /a/b");
+    let missing = at(alloc, "/x")?;
+    let answer = tree.set(alloc, &missing, "b", Value::Truth(true));
+    assert_eq!(rt; told(alloc, answer)?.as_str(), "NoSuch /x");
+    assert!(rt; matches!(tree.unset(alloc, &missing, "b"), Err(TreeFault::NoSuch(_))));
+    let answer = tree.remove(alloc, &missing);
+    assert_eq!(rt; told(alloc, answer)?.as_str(), "NoSuch /x");
+    let answer = tree.order(alloc, &missing, &Place::First);
+    assert_eq!(rt; told(alloc, answer)?.as_str(), "NoSuch /x");
     let answer = tree.remove(alloc, &at(alloc, "/")?);
     assert_eq!(rt; told(alloc, answer)?.as_str(), "RootFixed");
     let itself = Place::Before(TextBuf::of(alloc, "b")?);
@@ -163,6 +171,14 @@ fn values_are_set_and_taken_away(rt: HostRuntime) -> Result<(), Failed> {
             Some(Value::Long(size)) => assert_eq!(rt; *size, 2),
             _ => assert!(rt; false),
         },
+        None => assert!(rt; false),
+    }
+    match tree.res(alloc, &path)? {
+        Some(res) => assert!(rt; res.props.get("size").is_some()),
+        None => assert!(rt; false),
+    }
+    match tree.node(&path) {
+        Some(node) => assert_eq!(rt; node.duplicate(alloc)?.props.len(), 1),
         None => assert!(rt; false),
     }
     assert!(rt; tree.unset(alloc, &path, "size")?);

@@ -27,7 +27,7 @@ complete c sink bytes s Usage m is told reads has bs cs bk ck = absurd (m.0.0 is
 complete c sink bytes s SourceFailed m is told reads has bs cs bk ck = absurd (calm_is_not_failed c.source bs cs m.0.1)
 complete c sink bytes s SinkFailed m is told reads has bs cs bk ck = absurd (calm_is_not_failed sink bk ck m.3)
 complete c sink bytes s Refused m is told reads has bs cs bk ck =
-    let r = subst (λ o. IfSome o (λ t. IsRefusedWithin most IsScenario t m.0)) told m.1.2 in
+    let r = subst (λ o. IfSome o (λ t. IsRefusedWithin most IsScenario t m.0)) told m.1.0.2 in
     absurd (r.none ((s, reads.0), reads.1))
 complete c sink bytes s ContentRefused m is told reads has bs cs bk ck =
     let r = subst (λ o. IfSome o (λ t. (x : Scenario) × Reads t x × (content_of x.content ≡ Err m.0))) told m.1.0.2 in

@@ -1,10 +1,12 @@
-use Rattle.std.proofs.Common.{◌≡◌, ◌≢◌, ◌≤◌, ◌++◌, inl, inr, ℕ, List, Option, Some, None, IfSome, IfOk, OnErr, Result, Ok, Err, length, take, sym, ◌∙◌, ap, subst}
+use Rattle.std.proofs.Common.{◌≡◌, ◌≢◌, ◌≤◌, ◌+◌, ◌++◌, inl, inr, ⊎_elim, arith, ℕ, List, Option, Some, None, IfSome, IfOk, OnErr, Result, Ok, Err, length, take, sym, ◌∙◌, ap, subst}
 use Rattle.std.proofs.lemmas.List.{append-nil}
+use Rattle.std.proofs.lemmas.Bool.{cases_lt}
 use Rattle.sp_outside.specs.Told.{added, before_taking, IsAtEnd}
 use Rattle.content_json.specs.ContentOf.{content as content_of}
 use Rattle.content_json.specs.declared.fault.ContentFault.{ContentFault}
 use Rattle.content_json.specs.declared.fault.ContentFault.TheVariants.{NoMemory as no_memory}
 use Rattle.sling_dispatch.specs.Languages.{IsRefusedWithin}
+use Rattle.sling_dispatch.specs.Streams.{IsReadOut}
 use Rattle.sling_dispatch.specs.Scenario.{IsScenario, Reads, most}
 use Rattle.sling_dispatch.specs.Endings.{Seen, Call, IsDueIn, IsContentOr, IsRunOf, Writing, Nothing, UsageLine, SourceLine, RefusalLine, ContentLine, Events, text_of, Wrote, Means, Tells, IsDue, IsDueAt, IsReplay, IsCalm, IsUntouched}
 use Rattle.sling_dispatch.specs.declared.scenario.Scenario.{Scenario}
@@ -73,6 +75,11 @@ told_refused text passed old None e end r = subst (λ o. IfSome o (λ bytes. IsR
 told_refused text passed old (Some rest) e end r =
     subst (λ o. IfSome o (λ bytes. IsRefusedWithin most IsScenario bytes passed)) (sym e) (r rest end)
 
+-- a text that was read up to one byte past the limit is all of the source, or that many bytes of it
+read_out : (text : List ℕ) (old new : Option (List ℕ)) → old ≡ before_taking text new → (length text ≤ most → IsAtEnd new) → length text ≤ most + 1
+    → IsReadOut (most + 1) old new
+read_out text old new e end within = ⊎_elim (λ long. inr (text, e, omega (arith, long, within))) (λ short. inl (end short)) (cases_lt most (length text))
+
 told : (Q : List ℕ → Type 0) (text : List ℕ) (old new : Option (List ℕ)) → old ≡ before_taking text new → IsAtEnd new → Q text → IfSome old Q
 told Q text old None e end q = subst (λ o. IfSome o Q) (sym e) tt
 told Q text old (Some rest) e end q =
@@ -81,16 +88,17 @@ told Q text old (Some rest) e end q =
 
 -- what may be written of the text that was read may be written by the call
 pub due_of_source : (c : Call) (text : List ℕ) → IsReplay c.words → IsCalm c.source
-    → c.source.old ≡ before_taking text c.source.new → (length text ≤ most → IsAtEnd c.source.new) → (w : Writing) → IsDueAt text w → IsDue c w
-due_of_source c text is calm e end Nothing d = tt
-due_of_source c text is calm e end UsageLine d = absurd d
-due_of_source c text is calm e end SourceLine d = absurd d
-due_of_source c text is calm e end (RefusalLine passed) d = (is, calm, told_refused text passed c.source.old c.source.new e end d)
-due_of_source c text is calm e end (ContentLine fault) d =
+    → c.source.old ≡ before_taking text c.source.new → (length text ≤ most → IsAtEnd c.source.new) → length text ≤ most + 1 → (w : Writing) → IsDueAt text w → IsDue c w
+due_of_source c text is calm e end within Nothing d = tt
+due_of_source c text is calm e end within UsageLine d = absurd d
+due_of_source c text is calm e end within SourceLine d = absurd d
+due_of_source c text is calm e end within (RefusalLine passed) d =
+    ((is, calm, told_refused text passed c.source.old c.source.new e end d), read_out text c.source.old c.source.new e end within)
+due_of_source c text is calm e end within (ContentLine fault) d =
     let Q : List ℕ → Type 0 = λ bytes. (s : Scenario) × Reads bytes s × (content_of s.content ≡ Err fault) in
     let done = end d.2.1 in
     ((is, calm, told Q text c.source.old c.source.new e done (d.1, d.2, d.3)), done, d.0)
-due_of_source c text is calm e end (Events s events) d =
+due_of_source c text is calm e end within (Events s events) d =
     let Q : List ℕ → Type 0 = λ bytes. Reads bytes s in
     let done = end d.0.1 in
     ((is, calm, told Q text c.source.old c.source.new e done d.0), done, d.1)

@@ -10,6 +10,7 @@ use Rattle.sling_dispatch.specs.Languages.{IsRefusedWithin}
 use Rattle.sling_dispatch.specs.Scenario.{IsScenario, Reads, most}
 use Rattle.sling_dispatch.specs.Transcript.{transcript}
 use Rattle.sling_dispatch.specs.Runs.{IsSession}
+use Rattle.sling_dispatch.specs.Streams.{IsReadOut}
 use Rattle.sling_dispatch.specs.Faults.{fault_text}
 use Rattle.sling_dispatch.specs.declared.scenario.Scenario.{Scenario}
 use Rattle.sling_dispatch.specs.declared.note.Note.{Note}
@@ -99,7 +100,7 @@ abbrev pub IsDue : Call → Writing → Type 0
 IsDue c Nothing = Unit {0}
 IsDue c UsageLine = (IsReplay c.words → ⊥) × IsUntouched c.source
 IsDue c SourceLine = IsReplay c.words × HasFailed c.source
-IsDue c (RefusalLine passed) = Replays c (λ bytes. IsRefusedWithin most IsScenario bytes passed)
+IsDue c (RefusalLine passed) = Replays c (λ bytes. IsRefusedWithin most IsScenario bytes passed) × IsReadOut (most + 1) c.source.old c.source.new
 IsDue c (ContentLine fault) = Replays c (λ bytes. (s : Scenario) × Reads bytes s × (content_of s.content ≡ Err fault)) × IsAtEnd c.source.new
     × (fault ≢ no_memory)
 IsDue c (Events s events) = Replays c (λ bytes. Reads bytes s) × IsAtEnd c.source.new × IsRunOf s events

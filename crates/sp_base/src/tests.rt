@@ -115,6 +115,8 @@ fn keeps_properties(rt: HostRuntime) -> Result<(), Fail> {
         Some(Value::Text(text)) => assert_eq!(rt; text.text(), "Hello"),
         _ => assert!(rt; false),
     }
+    assert!(rt; copy.text("title").is_some());
+    assert!(rt; copy.text("jcr:title").is_none());
     assert!(rt; props.remove("title"));
     assert!(rt; !props.remove("title"));
     assert!(rt; props.get("title").is_none());
@@ -129,6 +131,33 @@ fn words(alloc: Global, texts: &[&str]) -> Mem<TextList> {
         list.push(TextBuf::of(alloc, text)?)?;
     }
     Ok(list)
+}
+
+// How many items a list value has.
+fn count(value: &Value) -> usize {
+    match value {
+        Value::Texts(texts) => texts.len(),
+        Value::Longs(numbers) => numbers.len(),
+        Value::Truths(truths) => truths.len(),
+        _ => 0,
+    }
+}
+
+#[test]
+fn copies_values(rt: HostRuntime) -> Result<(), Fail> {
+    let alloc = rt.alloc();
+    let mut numbers = LongList::new(alloc);
+    numbers.push(7)?;
+    let mut truths = TruthList::new(alloc);
+    truths.push(true)?;
+    truths.push(false)?;
+    let texts = words(alloc, &["a", "b", "c"])?;
+    assert_eq!(rt; count(&Value::Longs(numbers).duplicate(alloc)?), 1);
+    assert_eq!(rt; count(&Value::Truths(truths).duplicate(alloc)?), 2);
+    assert_eq!(rt; count(&Value::Texts(texts).duplicate(alloc)?), 3);
+    let text = Value::Text(TextBuf::of(alloc, "x")?);
+    assert!(rt; matches!(text.duplicate(alloc)?, Value::Text(_)));
+    Ok(())
 }
 
 fn number(alloc: Global, word: &str) -> Result<Option<i64>, NoMemory> {

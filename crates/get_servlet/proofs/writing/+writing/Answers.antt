@@ -47,10 +47,10 @@ write_resource-returns g t c =
           let ts = kids_tokens seen (c.args.depth - 1) path res res.kids in
           let below : Adds mid low ts = subst (λ l. Adds mid l ts) (sym w.writer-is) w.in_ok-write_kids.ensures in
           subst (Adds old end) (sym tokens)
-          (object_written old begun mid low end res ts c.in_ok-begin_object.ensures.ok c.in_ok-begin_object.ensures.room.0 c.in_ok-write_properties.ensures below c.in_ok-end_object.ensures.ok c.in_ok-end_object.ensures.room.0)
+          (object_written old begun mid low end res ts c.in_ok-begin_object.ensures.ok c.in_ok-begin_object.ensures.room.0 c.in_ok-write_properties.ensures.tokens below c.in_ok-end_object.ensures.ok c.in_ok-end_object.ensures.room.0)
       | write_resource-else-depth-gt0 w ↦
           let tokens = top_tokens seen c.args.depth path res (omega (arith, w.if-depth-gt0)) in
           let below : Adds mid low [] = subst (λ l. Adds mid l []) (sym w.writer-is) (nothing_written mid) in
           subst (Adds old end) (sym tokens)
-          (object_written old begun mid low end res [] c.in_ok-begin_object.ensures.ok c.in_ok-begin_object.ensures.room.0 c.in_ok-write_properties.ensures below c.in_ok-end_object.ensures.ok c.in_ok-end_object.ensures.room.0)
+          (object_written old begun mid low end res [] c.in_ok-begin_object.ensures.ok c.in_ok-begin_object.ensures.room.0 c.in_ok-write_properties.ensures.tokens below c.in_ok-end_object.ensures.ok c.in_ok-end_object.ensures.room.0)
     ]

@@ -1,4 +1,4 @@
-use Rattle.std.proofs.Common.{◌∙◌, ◌≤◌, ◌++◌, ◌∷◌, [], map, length, List, ℕ, subst, sym, ap, refl, codes}
+use Rattle.std.proofs.Common.{◌∙◌, ◌≤◌, ◌++◌, ◌+◌, ◌∷◌, [], map, length, List, ℕ, subst, sym, ap, refl, codes}
 use Rattle.sp_outside.specs.Told.{before_taking, IsAtEnd}
 use Rattle.sling_dispatch.specs.Scenario.{most}
 use Rattle.sling_dispatch.specs.Endings.{seen, Call, IsDue, IsDueAt, UsageLine, SourceLine}
@@ -26,7 +26,8 @@ returns-in-Ok-clause-ending g c =
     means_weaker (IsDueAt text) (IsDue call)
     (due_of_source call text (c.is_replay.ensures.0 c.if-not-is_replay.false) c.in-Ok.ensures.cause
     (c.in-Ok.ensures.read ∙ ap (λ t. before_taking t source.new) (sym same))
-    (subst (λ (t : List ℕ). length t ≤ most → IsAtEnd source.new) (sym same) c.in-Ok.ensures.end))
+    (subst (λ (t : List ℕ). length t ≤ most → IsAtEnd source.new) (sym same) c.in-Ok.ensures.end)
+    (subst (λ (t : List ℕ). length t ≤ most + 1) (sym same) c.in-Ok.ensures.most))
     c.replay.result
     (seen (g.K.Sink.held c.args.sink.now) (g.K.Sink.held c.replay.new.sink) (g.K.Sink.faults c.args.sink.now) (g.K.Sink.faults c.replay.new.sink))
     c.replay.ensures

@@ -1,0 +1,84 @@
+// Writes a tree as JSON: of each node the properties, then `:order`, then the kids.
+ghost use Rattle.std.specs.Prelude.{◌≡◌, IfOk, OnOk, IsTrue, Some};
+ghost use Rattle.json.specs.Tree.{json_tokens};
+ghost use Rattle.sp_base.specs.Paths.{is_path};
+ghost use Rattle.resource_tree.specs.Content.{IsGood, kid, node_at};
+ghost use Rattle.property_json.specs.PropertyJson.{Adds};
+ghost use Rattle.content_json.specs.Written.{order_tokens, whole_at, kids_tokens, written};
+
+use crate::names::ORDER;
+use json::Writer;
+use property_json::{write_properties, write_texts};
+use resource_tree::{Node, Tree};
+use sp_base::{ByteBuf, Mem, NoMemory, Path, PathFault, TextList};
+use std::alloc::{AllocError, Global};
+
+// The path of a kid of the tree.
+fn kid_path(alloc: Global, path: &Path, name: &str) -> Mem<Path>
+    requires { IsTrue (is_path (kid path.now name.now)) }
+    ensures { IfOk result (λ found. found ≡ kid path.now name.now) }
+{
+    match path.child(alloc, name) {
+        Ok(kid) => Ok(kid),
+        Err(PathFault::NoMemory) => Err(NoMemory),
+        Err(_) => unreachable!(),
+    }
+}
+
+// Writes the names of all kids in their order, where there are some.
+fn write_order(writer: &mut Writer, kids: &TextList) -> Result<(), AllocError>
+    ensures { OnOk result (Adds writer.old writer.new (order_tokens kids.now)) }
+{
+    if kids.is_empty() {
+        return Ok(());
+    }
+    writer.key(ORDER)?;
+    write_texts(writer, kids)
+}
+
+// Writes a node and all below it. After want of memory some of it may be written.
+#[cycle(writing)]
+fn write_node(alloc: Global, tree: &Tree, writer: &mut Writer, path: &Path, node: &Node) -> Mem<()>
+    requires good { IsGood tree.now }
+    requires there { node_at tree.now path.now ≡ Some node.now }
+    ensures { OnOk result (Adds writer.old writer.new (json_tokens (whole_at tree.now path.now))) }
+{
+    writer.begin_object()?;
+    write_properties(writer, &node.props)?;
+    write_order(writer, &node.kids)?;
+    write_kids(alloc, tree, writer, path, node)?;
+    writer.end_object()?;
+    Ok(())
+}
+
+// Writes the kids of a node as members, each with all below it.
+#[cycle(writing)]
+fn write_kids(alloc: Global, tree: &Tree, writer: &mut Writer, path: &Path, node: &Node) -> Mem<()>
+    requires good { IsGood tree.now }
+    requires there { node_at tree.now path.now ≡ Some node.now }
+    ensures { OnOk result (Adds writer.old writer.new (kids_tokens tree.now path.now node.now.kids)) }
+{
+    for name in node.kids.as_slice() {
+        let kid = kid_path(alloc, path, name.text())?;
+        if let Some(node) = tree.node(&kid) {
+            writer.key(name.text())?;
+            write_node(alloc, tree, writer, &kid, node)?;
+        }
+    }
+    Ok(())
+}
+
+/// Writes a tree as compact JSON (RFC 8259): of each node its properties in the order of their names, then, where it has kids,
+/// the member `:order` with the names of all kids in their order, then the kids in that order.
+pub fn write_tree(alloc: Global, tree: &Tree) -> Mem<ByteBuf>
+    ensures value { IfOk result (λ bytes. bytes ≡ written tree.now) }
+{
+    // `len` says that the tree is good: the root is there, and each kid.
+    let _ = tree.len();
+    let mut writer = Writer::new(Vec::new(alloc));
+    let root = Path::root(alloc);
+    if let Some(node) = tree.node(&root) {
+        write_node(alloc, tree, &mut writer, &root, node)?;
+    }
+    Ok(ByteBuf::from(writer.into_inner()))
+}

@@ -1,0 +1,3 @@
+pub mod ChainLemmas
+pub mod TypeLemmas
+pub mod ChainLaws

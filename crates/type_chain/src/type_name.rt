@@ -1,0 +1,66 @@
+ghost use Rattle.std.specs.Prelude.{◌≡◌, IfOk, map, string_bytes};
+ghost use Rattle.std.specs.List.{slice_split};
+ghost use Rattle.sp_base.specs.Paths.{path_of};
+ghost use Rattle.type_chain.specs.Types.{is_colon, named, same_type, slashed, type_of};
+
+use sp_base::{Items, Mem, NoMemory, Path, PathFault};
+use std::alloc::{AllocError, Global};
+
+/// A resource type.
+#[derive(Drop)]
+pub struct TypeName {
+    /// Whether the type is a path from the root on. One that isn't stands below a search path.
+    pub rooted: bool,
+    /// The segments of the type's text.
+    pub segs: Path,
+}
+
+pub type TypeList = Items<TypeName>;
+
+impl TypeName {
+    /// The type that a text names. A colon is read as a slash; a text that spells no path but for a slash in front, or the root, names
+    /// none.
+    #[tactic(auto, unfolding(crate::specs::Types::type_of))]
+    pub fn read(alloc: Global, text: &str) -> Mem<Option<TypeName>>
+        ensures { IfOk result (λ o. o ≡ type_of text.now) }
+    {
+        let slashed = slashed(alloc, text)?;
+        if slashed.as_str().starts_with('/') {
+            return named(alloc, true, slashed.as_str());
+        }
+        let mut absolute = String::from_str(alloc, "/")?;
+        absolute.push_str(slashed.as_str())?;
+        named(alloc, false, absolute.as_str())
+    }
+
+    /// Whether both are one type.
+    pub fn is_same(&self, other: &TypeName) -> bool
+        ensures { result ≡ same_type self.now other.now }
+    {
+        self.rooted == other.rooted && self.segs == other.segs
+    }
+}
+
+// The text with its colons read as slashes.
+fn slashed(alloc: Global, text: &str) -> Mem<String>
+    ensures { IfOk result (λ s. string_bytes s ≡ slashed text.now) }
+{
+    Ok(pieces_of(alloc, text)?.join(alloc, "/")?)
+}
+
+fn pieces_of(alloc: Global, text: &str) -> Result<Vec<&str>, AllocError>
+    ensures { IfOk result (λ pieces. map (λ piece. piece.now) pieces.items ≡ slice_split is_colon text.now) }
+{
+    text.split(':').collect(alloc)
+}
+
+// The type of this path, which a text may not spell and the root is not.
+fn named(alloc: Global, rooted: bool, text: &str) -> Mem<Option<TypeName>>
+    ensures { IfOk result (λ o. o ≡ named rooted (path_of text.now)) }
+{
+    match Path::read(alloc, text) {
+        Ok(segs) if segs.depth() > 0 => Ok(Some(TypeName { rooted, segs })),
+        Err(PathFault::NoMemory) => Err(NoMemory),
+        _ => Ok(None),
+    }
+}

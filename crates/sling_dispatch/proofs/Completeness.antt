@@ -1,4 +1,4 @@
-use Rattle.std.proofs.Common.{◌≡◌, ◌<◌, ◌⊎◌, inl, inr, ℕ, List, Some, IfSome, Err, true, false, subst, refl, arith, sym, ◌∙◌, ap}
+use Rattle.std.proofs.Common.{◌≡◌, ◌<◌, ◌⊎◌, inl, inr, ℕ, List, Some, IfSome, Err, subst, refl, arith, sym, ◌∙◌, ap}
 use Rattle.content_json.specs.ContentOf.{content as content_of}
 use Rattle.sling_dispatch.specs.Languages.{IsRefusedWithin}
 use Rattle.sling_dispatch.specs.Scenario.{IsScenario, Reads, most}

@@ -11,6 +11,8 @@ mod program;
 mod reader;
 mod rendering;
 mod scenario;
+#[cfg(test)]
+mod script_tests;
 mod streams;
 mod target;
 #[cfg(test)]

@@ -291,7 +291,7 @@ fn measures_answers(rt: HostRuntime) -> Result<(), Fail> {
 }
 
 // What a run writes where a target is asked of a content.
-fn answered(alloc: Global, content: &[u8], target: &[u8]) -> Result<Vec<u8>, AllocError> {
+pub fn answered(alloc: Global, content: &[u8], target: &[u8]) -> Result<Vec<u8>, AllocError> {
     let line = line_of(alloc, target)?;
     let (_, written) = replayed(alloc, scenario(alloc, content, &line)?)?;
     Ok(written)

@@ -5,7 +5,7 @@ ghost use Rattle.type_chain.specs.Chain.{chain_of, default_type, has_type, own_t
 use crate::search_paths::places;
 use crate::{TypeList, TypeName};
 use resource_tree::{Res, Tree};
-use sp_base::{Mem, NoMemory, Path, PropList, TextBuf};
+use sp_base::{Mem, NoMemory, Path, PathFault, PropList, TextBuf};
 use std::alloc::Global;
 
 /// The most types of a chain before the default type.
@@ -139,7 +139,7 @@ fn default_type(alloc: Global) -> Mem<TypeName>
             rooted: false,
             segs,
         }),
-        // The text spells a path, so there was no memory for it.
-        Err(_) => Err(NoMemory),
+        Err(PathFault::NoMemory) => Err(NoMemory),
+        Err(_) => unreachable!(),
     }
 }

@@ -1,7 +1,7 @@
 -- A path has at most 64 segments, so the name of no script has more selectors.
-use Rattle.std.proofs.Common.{◌≡◌, ◌+◌, ◌<◌, ◌≤◌, ◌++◌, ◌||◌, ℕ, zero, suc, Bool, true, false, cond, List, [], ◌∷◌, Option, Some, None, Result, Ok, Err, length, take, refl, sym, ◌∙◌, ap, subst, arith, length-append, nat_lt, codes}
+use Rattle.std.proofs.Common.{◌≡◌, ◌+◌, ◌≤◌, ◌++◌, ℕ, zero, suc, Bool, true, false, cond, List, [], ◌∷◌, Option, Some, None, Ok, Err, length, take, refl, subst, arith, nat_lt, codes}
 use Rattle.std.specs.Prelude.{◌==◌, slice_get, if◌then◌else◌, flat_map}
-use Rattle.std.specs.List.{list_any, position, slice_split, onto_first}
+use Rattle.std.specs.List.{list_any, position, onto_first}
 use Rattle.std.proofs.lemmas.List.{length-take}
 use Rattle.std.proofs.lemmas.Bool.Decides.{nat_tests}
 use borrow.Author.Tests.{ltb-false}

@@ -1,6 +1,6 @@
 -- What is found first ranks first.
-use Rattle.std.proofs.Common.{◌≡◌, ◌≢◌, ◌+◌, ◌*◌, ◌<◌, ◌≤◌, ◌⊎◌, ◌++◌, ℕ, zero, suc, Bool, true, false, cond, List, [], ◌∷◌, Option, Some, None, Result, Ok, Err, length, refl, sym, ◌∙◌, ap, subst, ⊎_elim, inl, inr, arith, codes}
-use Rattle.std.specs.Prelude.{slice_get, if◌then◌else◌, IfOk, IfSome, IfNone}
+use Rattle.std.proofs.Common.{◌≡◌, ◌≢◌, ◌<◌, ◌≤◌, ◌++◌, ℕ, zero, suc, Bool, true, false, cond, List, Option, Some, None, Result, Ok, Err, refl, sym, ◌∙◌, ap, subst, ⊎_elim, inl, inr, arith, codes}
+use Rattle.std.specs.Prelude.{slice_get, IfOk, IfSome, IfNone}
 use Rattle.std.proofs.lemmas.Bool.{cases_eq, cases_lt}
 use Rattle.std.proofs.lemmas.Option.{cond_some}
 use Rattle.sp_base.specs.Paths.{path_of, text_of}
@@ -13,7 +13,7 @@ use Rattle.script_rank.specs.declared.naming.Naming.{Naming}
 use Rattle.script_rank.specs.declared.naming.Naming.TheVariants.{SelectorsAndExtension, Selectors, LabelAndExtension, Extension, Label, Method}
 use Rattle.script_rank.specs.Ranking.{Candidate, HasNoCandidate, IsFirst, IsBetter, IsOffered, IsAbove, Decides, Key, is_script, selectors_in, has_extension, has_label, spellings}
 use Rattle.script_rank.specs.Search.{at_naming, at_place, at_type, found, namings, script_at, script_in}
-use Rattle.script_rank.proofs.NamingLemmas.{weight, better-weight, namings-fall, falls-at, sound, complete, Has}
+use Rattle.script_rank.proofs.NamingLemmas.{weight, better-weight, namings-fall, falls-at, sound, complete}
 use Rattle.script_rank.proofs.DepthLemmas.{few_selectors}
 use Rattle.script_rank.proofs.SearchLemmas.{Hit, hit, none-at}
 

@@ -1,5 +1,5 @@
 use Rattle.std.proofs.Common.{◌≡◌, ◌-◌, ◌++◌, ◌∷◌, [], sym, ◌∙◌, ap, arith}
-use Rattle.script_rank.specs.declared.naming.Naming.TheVariants.{SelectorsAndExtension, Selectors}
+use Rattle.script_rank.specs.declared.naming.Naming.TheVariants.{Selectors}
 use Rattle.script_rank.specs.Search.{with_selectors}
 use Rattle.script_rank.proofs.NamingLemmas.{with_selectors-done, with_both, with_one}
 use Rattle.script_rank.proofs.naming.add_with_selectors.Goals as goal

@@ -11,3 +11,4 @@ pub mod Meanings
 pub mod OneReading
 pub mod Completeness
 pub mod TargetLemmas
+pub mod DirectLemmas

@@ -1,11 +1,19 @@
 //! Laws of the definitions, on functions that do nothing.
 ghost use Rattle.std.specs.Prelude.{◌≡◌, ◌⊎◌, ◌<◌, ℕ, List, Some};
+ghost use Rattle.resource_tree.specs.Content.{Content};
 ghost use Rattle.sling_dispatch.specs.Languages.{IsRefusedWithin};
+ghost use Rattle.sling_dispatch.specs.Targets.{path_text};
+ghost use Rattle.sling_dispatch.specs.Rendering.{direct_answer};
 ghost use Rattle.sling_dispatch.specs.Scenario.{Spells, IsScenario, Reads, most};
 ghost use Rattle.sling_dispatch.specs.Endings.{Seen, Call, Means, IsDue, IsReplay, IsCalm, HasContent};
 ghost use Rattle.sling_dispatch.specs.declared.ending.Ending.{Ending};
 ghost use Rattle.sling_dispatch.specs.declared.ending.Ending.TheVariants.{Done, NoMemory};
 ghost use Rattle.sling_dispatch.specs.declared.scenario.Scenario.{Scenario};
+
+/// How the path of a target is escaped doesn't matter, nor which query stands behind it.
+pub fn spellings_are_answered_alike()
+    ensures { (content : Content) (a b : List ℕ) → path_text a ≡ path_text b → direct_answer content a ≡ direct_answer content b }
+{}
 
 /// A text spells one scenario.
 pub fn one_reading()

@@ -75,12 +75,7 @@ fn is_bare(parts: &Parts) -> bool
 }
 
 // The answer of the default GET servlet.
-fn default_answer<L: Look>(
-    alloc: Global,
-    look: &L,
-    parts: &Parts,
-    res: &Res,
-) -> Mem<Answer>
+fn default_answer<L: Look>(alloc: Global, look: &L, parts: &Parts, res: &Res) -> Mem<Answer>
     ensures { IfOk result (λ a. a ≡ default_answer (L.seen look.now) parts.now res.now) }
 {
     if parts.extension.text() == "json" {

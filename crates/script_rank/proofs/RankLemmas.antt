@@ -249,6 +249,18 @@ tied_scripts tree chain parts p q k l c d a b =
     ap (λ u. path_of (text_of u ++ (c.spelling ++ codes ".html"))) place ∙ ap (λ u. path_of (text_of d.place ++ (u ++ codes ".html"))) spelling in
     same_Ok p q c.reads (text ∙ d.reads)
 
+irreflexive : (k : Key) → IsBetter k k → ⊥
+irreflexive k (inl h) = omega (arith, h)
+irreflexive k (inr (s, inl h)) = not_above (has_extension k.naming) h
+irreflexive k (inr (s, inr (e, inl h))) = not_above (has_label k.naming) h
+irreflexive k (inr (s, inr (e, inr (m, inl h)))) = omega (arith, h)
+irreflexive k (inr (s, inr (e, inr (m, inr (t, inl h))))) = omega (arith, h)
+irreflexive k (inr (s, inr (e, inr (m, inr (t, inr (p, h)))))) = omega (arith, h)
+
+pub one_key : (tree : Content) (chain : List TypeName) (parts : Parts) (p q : List (List ℕ)) (k : Key)
+    → Candidate tree chain parts p k → Candidate tree chain parts q k → p ≡ q
+one_key tree chain parts p q k c d = tied_scripts tree chain parts p q k k c d (irreflexive k) (irreflexive k)
+
 pub one_first : (tree : Content) (chain : List TypeName) (parts : Parts) (p q : List (List ℕ)) → IsFirst tree chain parts p → IsFirst tree chain parts q → p ≡ q
 one_first tree chain parts p q f g =
     tied_scripts tree chain parts p q f.key g.key f.candidate g.candidate (g.best p f.key f.candidate) (f.best q g.key g.candidate)

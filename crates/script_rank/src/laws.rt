@@ -12,6 +12,12 @@ pub fn tied_scripts_are_one()
         → Candidate tree chain parts p k → Candidate tree chain parts q l → (IsBetter k l → ⊥) → (IsBetter l k → ⊥) → p ≡ q }
 {}
 
+/// No two scripts are candidates with one key.
+pub fn one_key_is_of_one_script()
+    ensures { (tree : Content) (chain : List TypeName) (parts : Parts) (p q : List (List ℕ)) (k : Key)
+        → Candidate tree chain parts p k → Candidate tree chain parts q k → p ≡ q }
+{}
+
 /// One script at most ranks first.
 pub fn one_script_is_first()
     ensures { (tree : Content) (chain : List TypeName) (parts : Parts) (p q : List (List ℕ))

@@ -10,7 +10,9 @@ mod spelling;
 #[cfg(test)]
 mod tests;
 
-pub use laws::{one_script_is_first, search_finds_the_first, tied_scripts_are_one};
+pub use laws::{
+    one_key_is_of_one_script, one_script_is_first, search_finds_the_first, tied_scripts_are_one,
+};
 pub use naming::Naming;
 pub use ranking::first_script;
 pub use script::script_text;

@@ -2,9 +2,11 @@
 #![tactic(auto)]
 
 mod decompose;
+mod laws;
 mod lookup;
 #[cfg(test)]
 mod tests;
 
 pub use decompose::{Parts, split};
+pub use laws::the_split_is_the_longest;
 pub use lookup::Known;

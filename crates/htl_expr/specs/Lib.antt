@@ -1,0 +1,4 @@
+pub mod Tokens
+pub mod Read
+pub mod Grammar
+pub mod Fault

@@ -11,3 +11,4 @@ pub mod Complete
 pub mod Fronts
 pub mod WholeAgain
 pub mod Laws
+pub mod EscapeLemmas

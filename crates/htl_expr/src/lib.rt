@@ -6,9 +6,15 @@ mod expression;
 mod node;
 mod numbers;
 mod options;
+mod out;
+mod print;
 mod reader;
+mod scope;
 mod stop;
 mod tokens;
+mod value;
 
 pub use expression::{Context, Expr, ExprFault};
 pub use node::{Comparison, Node};
+pub use out::Out;
+pub use scope::Scope;

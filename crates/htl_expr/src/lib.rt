@@ -13,6 +13,8 @@ mod scope;
 mod stop;
 mod tokens;
 mod value;
+#[cfg(test)]
+mod value_tests;
 
 pub use expression::{Context, Expr, ExprFault};
 pub use node::{Comparison, Node};

@@ -1,5 +1,6 @@
 -- How a value is printed.
-use Rattle.std.specs.Prelude.{ℕ, ◌==◌, Bool, if◌then◌else◌, List, [], ◌∷◌, ◌++◌, Option, Some, None, codes, flat_map, unwrap_or}
+use Rattle.std.specs.Prelude.{◌≡◌, ℕ, ◌==◌, ◌||◌, Bool, true, not, if◌then◌else◌, List, [], ◌∷◌, ◌++◌, Option, Some, None, codes, flat_map, unwrap_or}
+use Rattle.std.specs.List.{list_all}
 use Rattle.std.specs.Fmt.{signed_decimal}
 use Rattle.htl_expr.specs.declared.out.Out.{Out}
 use Rattle.htl_expr.specs.declared.out.Out.TheVariants as out
@@ -35,7 +36,7 @@ reference c =
 abbrev pub escape : ℕ → List ℕ
 escape c = unwrap_or (reference c) (c ∷ [])
 
--- the text that stands between the items of a list: the option `join`, or a comma
+-- the text that stands between the items of a list: the option `join`, or a comma (HTL specification 1.4, "Array Join")
 abbrev pub join_text : Option (List ℕ) → List ℕ
 join_text None = codes ","
 join_text (Some text) = text
@@ -45,3 +46,13 @@ abbrev pub in_context : Option Context → List ℕ → List ℕ
 in_context None text = flat_map escape text
 in_context (Some context.Text) text = flat_map escape text
 in_context (Some context.Unsafe) text = text
+
+-- no character that begins a tag or ends the value of an attribute
+abbrev pub is_inert : ℕ → Bool
+is_inert c = not (c == 60 || (c == 62 || (c == 34 || c == 39)))
+
+-- what is written can't be taken for markup, unless the option `context` is 'unsafe'
+abbrev pub IsInert : Option Context → List ℕ → Type 0
+IsInert None text = list_all is_inert text ≡ true
+IsInert (Some context.Text) text = list_all is_inert text ≡ true
+IsInert (Some context.Unsafe) text = Unit {0}

@@ -111,8 +111,11 @@ fn in_context(alloc: Global, context: Option<Context>, text: TextBuf) -> Mem<Tex
 
 impl Expr {
     /// The text that the expression writes for a resource.
+    #[tactic(auto, using(crate::proofs::EscapeLemmas::is_inert_in))]
     pub fn print(&self, alloc: Global, scope: &Scope) -> Mem<TextBuf>
-        ensures { IfOk result (λ text. text ≡ print scope.now self.now) }
+        ensures exact { IfOk result (λ text. text ≡ print scope.now self.now) }
+        // Without the option `context='unsafe'` it can't be taken for markup.
+        ensures inert { IfOk result (spec.IsInert self.now.context) }
     {
         let value = self.value(alloc, scope)?;
         let text = plain(alloc, join_text(&self.join), &value)?;

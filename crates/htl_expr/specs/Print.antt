@@ -7,6 +7,7 @@ use Rattle.htl_expr.specs.declared.out.Out.TheVariants as out
 use Rattle.htl_expr.specs.declared.expression.Context.{Context}
 use Rattle.htl_expr.specs.declared.expression.Context.TheVariants as context
 
+-- a truth as it is printed
 abbrev pub truth_text : Bool → List ℕ
 truth_text b = if b then codes "true" else codes "false"
 
@@ -33,6 +34,7 @@ reference c =
     else (if c == 39 then Some (codes "&#39;")
     else None))))
 
+-- a byte as it is written: its reference, or the byte
 abbrev pub escape : ℕ → List ℕ
 escape c = unwrap_or (reference c) (c ∷ [])
 

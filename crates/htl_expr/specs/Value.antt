@@ -34,26 +34,19 @@ is_same (out.Text a) (out.Text b) = pointwise nat_eq a b
 is_same (out.List a) (out.List b) = pointwise (pointwise nat_eq) a b
 is_same _ _ = false
 
-abbrev pub compare_numbers : Comparison → ℤ → ℤ → Bool
-compare_numbers Equal a b = int_eq a b
-compare_numbers NotEqual a b = not (int_eq a b)
-compare_numbers Below a b = int_lt a b
-compare_numbers Above a b = int_lt b a
-compare_numbers AtMost a b = int_le a b
-compare_numbers AtLeast a b = int_le b a
+-- two numbers in this order; other values have none
+abbrev pub are_ordered : (ℤ → ℤ → Bool) → Out → Out → Bool
+are_ordered test (out.Long a) (out.Long b) = test a b
+are_ordered test _ _ = false
 
--- values that aren't two numbers have no order
-abbrev pub compare_others : Comparison → Out → Out → Bool
-compare_others Equal a b = is_same a b
-compare_others NotEqual a b = not (is_same a b)
-compare_others Below a b = false
-compare_others Above a b = false
-compare_others AtMost a b = false
-compare_others AtLeast a b = false
-
+-- whether a comparison holds
 abbrev pub compare : Comparison → Out → Out → Bool
-compare comparison (out.Long a) (out.Long b) = compare_numbers comparison a b
-compare comparison a b = compare_others comparison a b
+compare Equal a b = is_same a b
+compare NotEqual a b = not (is_same a b)
+compare Below a b = are_ordered int_lt a b
+compare Above a b = are_ordered int_lt b a
+compare AtMost a b = are_ordered int_le a b
+compare AtLeast a b = are_ordered int_le b a
 
 -- a && b && ..: the first that is false, else the last
 abbrev pub and_values : Out → List Out → Out
@@ -82,6 +75,7 @@ abbrev pub out_or_nothing : Option Value → Out
 out_or_nothing None = out.Nothing
 out_or_nothing (Some value) = out_of value
 
+-- the property of the resource that has this name
 abbrev pub property : Scope → List ℕ → Out
 property scope name = out_or_nothing (find by_name name scope.props)
 
@@ -96,6 +90,7 @@ abbrev pub text_or_nothing : Option (List ℕ) → Out
 text_or_nothing None = out.Nothing
 text_or_nothing (Some text) = out.Text text
 
+-- what the resource itself has under this name
 abbrev pub resource : Scope → List ℕ → Out
 resource scope name = text_or_nothing (field scope name)
 
@@ -115,6 +110,7 @@ value_step scope (Node-F.And a more) = and_values a more
 value_step scope (Node-F.Or a more) = or_values a more
 value_step scope (Node-F.Choice condition a b) = if is_true condition then a else b
 
+-- the value of a tree
 abbrev pub value : Scope → Node → Out
 value scope = fold-Node Out (value_step scope)
 

@@ -1,6 +1,6 @@
 //! What an expression gives.
 
-ghost use Rattle.std.specs.Prelude.{◌≡◌};
+ghost use Rattle.std.specs.Prelude.{◌≡◌, int_le, int_lt};
 ghost use Rattle.htl_expr.specs.Value as spec;
 
 use crate::node::Comparison;
@@ -43,27 +43,21 @@ fn is_same(a: &Out, b: &Out) -> bool
     }
 }
 
-fn compare_numbers(comparison: Comparison, a: i64, b: i64) -> bool
-    ensures { result ≡ spec.compare_numbers comparison a b }
+fn is_below(a: &Out, b: &Out) -> bool
+    ensures { result ≡ spec.are_ordered int_lt a.now b.now }
 {
-    match comparison {
-        Comparison::Equal => a == b,
-        Comparison::NotEqual => a != b,
-        Comparison::Below => a < b,
-        Comparison::Above => a > b,
-        Comparison::AtMost => a <= b,
-        Comparison::AtLeast => a >= b,
+    match (a, b) {
+        (Out::Long(a), Out::Long(b)) => *a < *b,
+        _ => false,
     }
 }
 
-// Values that aren't two numbers are compared for sameness alone.
-fn compare_others(comparison: Comparison, a: &Out, b: &Out) -> bool
-    ensures { result ≡ spec.compare_others comparison a.now b.now }
+fn is_at_most(a: &Out, b: &Out) -> bool
+    ensures { result ≡ spec.are_ordered int_le a.now b.now }
 {
-    match comparison {
-        Comparison::Equal => is_same(a, b),
-        Comparison::NotEqual => !is_same(a, b),
-        Comparison::Below | Comparison::Above | Comparison::AtMost | Comparison::AtLeast => false,
+    match (a, b) {
+        (Out::Long(a), Out::Long(b)) => *a <= *b,
+        _ => false,
     }
 }
 
@@ -71,8 +65,12 @@ fn compare_others(comparison: Comparison, a: &Out, b: &Out) -> bool
 pub(crate) fn compare(comparison: Comparison, a: &Out, b: &Out) -> bool
     ensures { result ≡ spec.compare comparison a.now b.now }
 {
-    match (a, b) {
-        (Out::Long(a), Out::Long(b)) => compare_numbers(comparison, *a, *b),
-        _ => compare_others(comparison, a, b),
+    match comparison {
+        Comparison::Equal => is_same(a, b),
+        Comparison::NotEqual => !is_same(a, b),
+        Comparison::Below => is_below(a, b),
+        Comparison::Above => is_below(b, a),
+        Comparison::AtMost => is_at_most(a, b),
+        Comparison::AtLeast => is_at_most(b, a),
     }
 }

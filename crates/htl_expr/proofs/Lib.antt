@@ -1,0 +1,14 @@
+pub mod Scan
+pub mod Strings
+pub mod Decimal
+pub mod Turns
+pub mod Tools
+pub mod TokensRead
+pub mod Sound
+pub mod WholeRead
+pub mod TokensAgain
+pub mod Complete
+pub mod Fronts
+pub mod WholeAgain
+pub mod Laws
+pub mod EscapeLemmas

@@ -1,0 +1,88 @@
+-- Steps of the loops over tokens.
+use Rattle.std.proofs.Common.{◌≡◌, ◌<◌, ◌≤◌, ◌+◌, ℕ, suc, Bool, true, false, eqb, List, [], ◌∷◌, drop, length, slice_index, refl, rules, arith, drop-drop}
+use Rattle.std.proofs.lemmas.Bool.Decides.{nat_tests}
+use Rattle.htl_expr.specs.Tokens.{begins, is_at, is_blank, is_digit, is_letter, is_word, skip, goes_on, run_len, AreAscii}
+use Rattle.htl_expr.specs.declared.tokens.NameKind.{NameKind}
+use Rattle.htl_expr.specs.declared.tokens.NameKind.TheVariants.{Name, Field}
+
+pub blank_ascii : (c : ℕ) → is_blank c ≡ true → c < 128
+blank_ascii c h = grind (arith, nat_tests)
+
+pub digit_ascii : (c : ℕ) → is_digit c ≡ true → c < 128
+digit_ascii c h = grind (arith, nat_tests)
+
+pub letter_ascii : (c : ℕ) → is_letter c ≡ true → c < 128
+letter_ascii c h = grind (arith, nat_tests)
+
+pub word_ascii : (c : ℕ) → is_word c ≡ true → c < 128
+word_ascii c h = grind (arith, nat_tests)
+
+pub at_ascii : (test : ℕ → Bool) (t : List ℕ) → ((c : ℕ) → test c ≡ true → c < 128) → begins test t ≡ true → slice_index t 0 < 128
+unfolding begins
+at_ascii test [] all h = absurd cc
+at_ascii test (c ∷ t) all h = all c h
+
+pub blank_front : (t : List ℕ) → begins is_blank t ≡ true → slice_index t 0 < 128
+blank_front t h = at_ascii is_blank t blank_ascii h
+
+pub blank_more : (t : List ℕ) → begins is_blank t ≡ true → skip (drop 1 t) ≡ skip t
+unfolding begins skip
+blank_more [] h = absurd cc
+blank_more (c ∷ t) h = rw h refl
+
+pub blank_less : (t : List ℕ) → begins is_blank t ≡ true → length (drop 1 t) < length t
+unfolding begins
+blank_less [] h = absurd cc
+blank_less (c ∷ t) h = omega arith
+
+pub blank_none : (t : List ℕ) → begins is_blank t ≡ false → skip t ≡ t
+unfolding begins skip
+blank_none [] h = refl
+blank_none (c ∷ t) h = rw h refl
+
+pub name_front : (kind : NameKind) (t : List ℕ) → goes_on kind t ≡ true → slice_index t 0 < 128
+unfolding begins goes_on
+name_front Name t h = at_ascii is_word t word_ascii h
+name_front Field [] h = absurd cc
+name_front Field (c ∷ t) h = grind (arith, nat_tests)
+
+pub run_more : (kind : NameKind) (t : List ℕ) → goes_on kind t ≡ true → run_len kind t ≡ suc (run_len kind (drop 1 t))
+unfolding run_len goes_on begins
+run_more Name [] h = absurd cc
+run_more Field [] h = absurd cc
+run_more Name (c ∷ t) h = rw h refl
+run_more Field (c ∷ t) h = rw h refl
+
+pub run_none : (kind : NameKind) (t : List ℕ) → goes_on kind t ≡ false → run_len kind t ≡ 0
+unfolding run_len
+run_none kind [] h = refl
+run_none kind (c ∷ t) h = rw h refl
+
+pub name_less : (kind : NameKind) (t : List ℕ) → goes_on kind t ≡ true → suc (length (drop 1 t)) ≡ length t
+unfolding goes_on begins
+name_less Name [] h = absurd cc
+name_less Field [] h = absurd cc
+name_less Name (c ∷ t) h = refl
+name_less Field (c ∷ t) h = refl
+
+pub at_front : (c : ℕ) (t : List ℕ) → is_at c t ≡ true → slice_index t 0 ≡ c
+unfolding is_at
+at_front c [] h = absurd cc
+at_front c (d ∷ t) h = search rules
+
+pub some_of : (t : List ℕ) → (eqb (length t) 0) ≡ false → 0 < length t
+some_of [] h = absurd cc
+some_of (c ∷ t) h = omega arith
+
+pub front_ascii : (c : ℕ) (t : List ℕ) → c < 128 → is_at c t ≡ true → slice_index t 0 < 128
+front_ascii c t lt h = rw (at_front c t h) lt
+
+pub ascii_first : (w t : List ℕ) → AreAscii w → 1 ≤ length w → is_at (slice_index w 0) t ≡ true → slice_index t 0 < 128
+ascii_first [] t a le h = absurd (omega arith)
+ascii_first (c ∷ w) t a le h = front_ascii c t a.0 h
+
+pub drop_more : (text rest : List ℕ) (len : ℕ) → rest ≡ drop len text → drop 1 rest ≡ drop (len + 1) text
+drop_more text rest len e = rw e (drop-drop 1 len text)
+
+pub minus_ascii : (t : List ℕ) → is_at 45 t ≡ true → slice_index t 0 < 128
+minus_ascii t h = front_ascii 45 t (search rules) h

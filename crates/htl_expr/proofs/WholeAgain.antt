@@ -1,0 +1,93 @@
+-- An expression of the grammar is what its text is read as.
+use Rattle.std.proofs.Common.{◌≡◌, ℕ, true, false, ◌||◌, eqb, List, [], ◌∷◌, ◌++◌, length, Option, Some, None, Ok, codes, refl, sym, rules}
+use Rattle.htl_expr.specs.declared.node.Node.{Node}
+use Rattle.htl_expr.specs.declared.expression.Context.{Context}
+use Rattle.htl_expr.specs.declared.expression.Context.TheVariants.{Text, Unsafe}
+use Rattle.htl_expr.specs.declared.expression.Expr.{Expr}
+use Rattle.htl_expr.specs.Tokens.{skip, is_at, begins, expect, literal}
+use Rattle.htl_expr.specs.Read as spec
+use Rattle.htl_expr.specs.Grammar.{Byte, Literal, ContextString, context_text, Join, InContext, Options, Tree, Whole, Reads, Choice}
+use Rattle.htl_expr.specs.Grammar as g
+use Rattle.htl_expr.proofs.TokensAgain as again
+use Rattle.htl_expr.proofs.Complete.{complete, part_at, part_some, foreign_options, Stops}
+
+literal_again : (w r : List ℕ) → literal w (w ++ r) ≡ Ok r
+unfolding literal is_at
+literal_again [] r = refl
+literal_again (c ∷ w) r = rw (again.eqb_same c) (literal_again w r)
+
+context_word_again : (c : Context) (t : List ℕ) → spec.context_word (context_text c ++ t) ≡ Ok (c, t)
+unfolding spec.context_word is_at
+context_word_again Text t = rw (literal_again (codes "text") t) refl
+context_word_again Unsafe t = rw (literal_again (codes "unsafe") t) refl
+
+context_string_again : (s : List ℕ) (c : Context) (r : List ℕ) → ContextString s c r → spec.context_string s ≡ Ok (c, r)
+unfolding spec.context_string begins
+context_string_again s c r x =
+    let close : expect x.mark (x.mark ∷ x.after) ≡ Ok r = again.expect_again x.mark (x.mark ∷ x.after) r (record { after = x.after; parts = refl; rest = x.rest }) in
+    rw (x.parts, x.is_mark, context_word_again c (x.mark ∷ x.after), close) refl
+
+join_again : (s w r : List ℕ) → Join s w r → spec.join_option s ≡ Ok (w, r)
+unfolding spec.join_option
+join_again s w r x =
+    rw (x.word.parts, literal_again (codes "join") x.word.after, sym x.word.rest, again.expect_again 61 x.behind_word x.behind_sign x.sign) (again.string_again x.behind_sign w r x.value)
+
+in_context_again : (s : List ℕ) (c : Context) (r : List ℕ) → InContext s c r → spec.context_option s ≡ Ok (c, r)
+unfolding spec.context_option
+in_context_again s c r x =
+    rw (x.word.parts, literal_again (codes "context") x.word.after, sym x.word.rest, again.expect_again 61 x.behind_word x.behind_sign x.sign) (context_string_again x.behind_sign c r x.value)
+
+join_at : (s w r : List ℕ) → Join s w r → is_at 106 s ≡ true
+unfolding is_at
+join_at s w r x = rw x.word.parts refl
+
+context_at : (s : List ℕ) (c : Context) (r : List ℕ) → InContext s c r → (is_at 106 s ≡ false) × (is_at 99 s ≡ true)
+unfolding is_at
+context_at s c r x = rw x.word.parts (refl, refl)
+
+option_join : (context : Option Context) (s w r : List ℕ) → Join s w r → spec.option (None, context) s ≡ Ok ((Some w, context), r)
+unfolding spec.option
+option_join context s w r x = rw (join_at s w r x, join_again s w r x) refl
+
+option_context : (s : List ℕ) (c : Context) (r : List ℕ) → InContext s c r → spec.option (None, None) s ≡ Ok ((None, Some c), r)
+unfolding spec.option
+option_context s c r x = rw ((context_at s c r x).0, (context_at s c r x).1, in_context_again s c r x) refl
+
+option_second : (w s : List ℕ) (c : Context) (r : List ℕ) → InContext s c r → spec.option (Some w, None) s ≡ Ok ((Some w, Some c), r)
+unfolding spec.option
+option_second w s c r x = rw ((context_at s c r x).1, in_context_again s c r x) refl
+
+options_again : (s : List ℕ) (join : Option (List ℕ)) (context : Option Context) → Options s join context → spec.options s ≡ Ok ((join, context), [])
+unfolding spec.options is_at
+options_again _ _ _ g.none = refl
+options_again s _ _ (g.join at j) = rw (again.at_here 64 s _ at, again.behind 64 s _ at, option_join None _ _ [] j) refl
+options_again s _ _ (g.context at c) = rw (again.at_here 64 s _ at, again.behind 64 s _ at, option_context _ _ [] c) refl
+options_again s _ _ (g.join_context at j comma c) =
+    rw (again.at_here 64 s _ at, again.behind 64 s _ at, option_join None _ _ _ j, again.at_here 44 _ _ comma, again.behind 44 _ _ comma) (option_second _ _ _ [] c)
+options_again s _ _ (g.context_join at c comma j) =
+    rw (again.at_here 64 s _ at, again.behind 64 s _ at, option_context _ _ _ c, again.at_here 44 _ _ comma, again.behind 44 _ _ comma) (option_join (Some _) _ _ [] j)
+
+nil_stops : Stops Choice [] × ((eqb (length {A = ℕ} []) 0 || is_at 64 []) ≡ true)
+unfolding is_at spec.access_at spec.compares
+nil_stops = ((refl, refl, refl, refl, refl), refl)
+
+at_stops : (s r : List ℕ) → Byte 64 s r → Stops Choice s × ((eqb (length s) 0 || is_at 64 s) ≡ true)
+unfolding is_at spec.access_at spec.compares
+at_stops s r b = rw b.parts ((refl, refl, refl, refl, refl), search rules)
+
+-- options or the end follow a tree
+options_stop : (s : List ℕ) (join : Option (List ℕ)) (context : Option Context) → Options s join context → Stops Choice s × ((eqb (length s) 0 || is_at 64 s) ≡ true)
+options_stop _ _ _ g.none = nil_stops
+options_stop s _ _ (g.join at j) = at_stops s _ at
+options_stop s _ _ (g.context at c) = at_stops s _ at
+options_stop s _ _ (g.join_context at j comma c) = at_stops s _ at
+options_stop s _ _ (g.context_join at c comma j) = at_stops s _ at
+
+first_tree : (s : List ℕ) (tree : Option Node) (r : List ℕ) → Tree s tree r → Stops Choice r × ((eqb (length r) 0 || is_at 64 r) ≡ true) → spec.first s ≡ Ok (tree, r)
+unfolding spec.first
+first_tree s None r e st = rw (sym e, st.1) refl
+first_tree s (Some e) r x st = rw (part_some Choice 32 s e r x tt, part_at 64 Choice 32 s e r foreign_options x tt, complete Choice 32 s e r x st.0) refl
+
+pub read_again : (s : List ℕ) (e : Expr) → Whole s e → spec.read s ≡ Ok e
+unfolding spec.read
+read_again s e w = rw (first_tree (skip s) e.node w.behind w.tree (options_stop w.behind e.join e.context w.options), options_again w.behind e.join e.context w.options) refl

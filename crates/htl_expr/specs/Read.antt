@@ -1,0 +1,224 @@
+-- Reading an expression from left to right, with the first fault that is met.
+use Rattle.std.specs.Prelude.{ℕ, zero, suc, Bool, true, false, nat_eq, if◌then◌else◌, ◌==◌, ◌||◌, ◌&&◌, List, [], ◌∷◌, ◌++◌, length, drop, Option, Some, None, is_none, Result, Ok, Err, codes, slice_index}
+use Rattle.std.specs.Cmp.Lexicographic.{pointwise}
+use Rattle.htl_expr.specs.declared.stop.Stop.{Stop}
+use Rattle.htl_expr.specs.declared.stop.Stop.TheVariants.{Unexpected, TooDeep}
+use Rattle.htl_expr.specs.declared.node.Node.{Node}
+use Rattle.htl_expr.specs.declared.node.Node.TheVariants as n
+use Rattle.htl_expr.specs.declared.node.Comparison.{Comparison}
+use Rattle.htl_expr.specs.declared.node.Comparison.TheVariants.{Equal, NotEqual, Below, Above, AtMost, AtLeast}
+use Rattle.htl_expr.specs.declared.expression.Context.{Context}
+use Rattle.htl_expr.specs.declared.expression.Context.TheVariants.{Text, Unsafe}
+use Rattle.htl_expr.specs.declared.expression.Expr.{Expr}
+use Rattle.htl_expr.specs.declared.tokens.NameKind.TheVariants.{Name, Field}
+use Rattle.htl_expr.specs.declared.reader.Inside.{Inside}
+use Rattle.htl_expr.specs.declared.reader.Inside.TheVariants.{Choice, Operand, Items}
+use Rattle.htl_expr.specs.Tokens.{Outcome, ◌>>=◌, skip, is_at, begins, is_digit, is_quote, name, expect, second, literal, string, number}
+
+-- without accesses there is no node for them
+abbrev pub accessed : Node → List (List ℕ) → Node
+accessed e [] = e
+accessed e (f ∷ fs) = n.Access e (f ∷ fs)
+
+abbrev pub and_of : Node → List Node → Node
+and_of e [] = e
+and_of e (f ∷ fs) = n.And e (f ∷ fs)
+
+abbrev pub or_of : Node → List Node → Node
+or_of e [] = e
+or_of e (f ∷ fs) = n.Or e (f ∷ fs)
+
+abbrev pub is_text : List ℕ → List ℕ → Bool
+is_text w text = pointwise nat_eq w text
+
+-- the literals `true` and `false`, or a variable
+abbrev pub word_of : List ℕ → Node
+word_of w = if is_text w (codes "true") then n.Truth true else (if is_text w (codes "false") then n.Truth false else n.Variable w)
+
+-- the names that must be followed by an access
+abbrev pub object_of : List ℕ → Option (List ℕ → Node)
+object_of w = if is_text w (codes "properties") then Some n.Property else (if is_text w (codes "resource") then Some n.Resource else None)
+
+-- ---- comparisons, of which the longest counts
+
+unfoldable pub compares : List ℕ → Bool
+compares t = is_at 61 t || (is_at 33 t || (is_at 60 t || is_at 62 t))
+
+-- `<` or `<=`, `>` or `>=`
+unfoldable pub or_equal : Comparison → Comparison → List ℕ → Comparison × List ℕ
+or_equal bare equal t = if is_at 61 (drop 1 t) then (equal, skip (drop 1 (drop 1 t))) else (bare, skip (drop 1 t))
+
+unfoldable pub comparison : List ℕ → Outcome Comparison
+comparison t =
+    if is_at 61 t then (second 61 t >>= λ r. Ok (Equal, r))
+    else if is_at 33 t then (second 61 t >>= λ r. Ok (NotEqual, r))
+    else if is_at 60 t then Ok (or_equal Below AtMost t)
+    else Ok (or_equal Above AtLeast t)
+
+-- ---- items behind the first; each turn takes a byte, so the count of bytes is enough
+
+-- what stands between the items: `&&`, `||` or `,`
+abbrev pub between : ℕ → List ℕ → Result (List ℕ) Stop
+between c t = if c == 44 then expect c t else second c t
+
+unfoldable pub chain : (List ℕ → Outcome Node) → ℕ → ℕ → List Node → List ℕ → Outcome (List Node)
+chain item c zero found t = Ok (found, t)
+chain item c (suc k) found t = if is_at c t then (do
+  r ← between c t
+  x ← item r
+  chain item c k (found ++ x.0 ∷ []) x.1) else Ok (found, t)
+
+unfoldable pub access_at : List ℕ → Bool
+access_at t = is_at 46 t || is_at 91 t
+
+-- ---- the lines of the grammar, where `depth` more levels may nest
+
+module _ (depth : ℕ) where
+  unfoldable pub bracketed : List ℕ → Outcome (List ℕ)
+  bracketed t = if depth == 0 then Err (TooDeep (length t)) else (do
+    s ← string (skip (drop 1 t))
+    r ← expect 93 s.1
+    Ok (s.0, r))
+
+  unfoldable pub access : List ℕ → Outcome (List ℕ)
+  access t = if is_at 46 t then name Field (skip (drop 1 t)) else bracketed t
+
+  unfoldable pub accesses : ℕ → List (List ℕ) → List ℕ → Outcome (List (List ℕ))
+  accesses zero found t = Ok (found, t)
+  accesses (suc k) found t = if access_at t then (access t >>= λ x. accesses k (found ++ x.0 ∷ []) x.1) else Ok (found, t)
+
+  unfoldable pub first_access : List ℕ → Outcome (List ℕ)
+  first_access t = if access_at t then access t else Err (Unexpected (length t))
+
+  abbrev pub named_of : Option (List ℕ → Node) → List ℕ → List ℕ → Outcome Node
+  named_of None w t = Ok (word_of w, t)
+  named_of (Some make) w t = first_access t >>= λ f. Ok (make f.0, f.1)
+
+  unfoldable pub named : List ℕ → Outcome Node
+  named t = name Name t >>= λ x. named_of (object_of x.0) x.0 x.1
+
+  unfoldable pub leaf : List ℕ → Outcome Node
+  leaf t =
+      if begins is_quote t then (string t >>= λ x. Ok (n.Text x.0, x.1))
+      else if is_at 45 t || begins is_digit t then (number t >>= λ x. Ok (n.Long x.0, x.1))
+      else named t
+
+  -- Inside, what nests is read; the text begins at the byte that nests it.
+  module _ (inner : Inside → List ℕ → Outcome Node) where
+    unfoldable pub start : List ℕ → Outcome Node
+    start t =
+        if is_at 40 t then (do
+          x ← inner Choice t
+          r ← expect 41 x.1
+          Ok (x.0, r))
+        else if is_at 91 t then (do
+          x ← inner Items t
+          r ← expect 93 x.1
+          Ok (x.0, r))
+        else leaf t
+
+    unfoldable pub atom : List ℕ → Outcome Node
+    atom t = do
+      x ← start t
+      fs ← accesses (length x.1) [] x.1
+      Ok (accessed x.0 fs.0, fs.1)
+
+    unfoldable pub operand : List ℕ → Outcome Node
+    operand t = if is_at 33 t then (inner Operand t >>= λ x. Ok (n.Not x.0, x.1)) else atom t
+
+    unfoldable pub compare : List ℕ → Outcome Node
+    compare t = do
+      a ← operand t
+      if compares a.1 then (do
+        op ← comparison a.1
+        b ← operand op.1
+        Ok (n.Compare op.0 a.0 b.0, b.1)) else Ok a
+
+    unfoldable pub both : List ℕ → Outcome Node
+    both t = do
+      x ← compare t
+      xs ← chain compare 38 (length x.1) [] x.1
+      Ok (and_of x.0 xs.0, xs.1)
+
+    unfoldable pub either : List ℕ → Outcome Node
+    either t = do
+      x ← both t
+      xs ← chain both 124 (length x.1) [] x.1
+      Ok (or_of x.0 xs.0, xs.1)
+
+    unfoldable pub other_choice : List ℕ → Outcome Node
+    other_choice t = if is_at 58 t then inner Choice t else Err (Unexpected (length t))
+
+    unfoldable pub choice : List ℕ → Outcome Node
+    choice t = do
+      c ← either t
+      if is_at 63 c.1 then (do
+        a ← inner Choice c.1
+        b ← other_choice a.1
+        Ok (n.Choice c.0 a.0 b.0, b.1)) else Ok c
+
+    -- the items of a list, up to the bracket that closes it
+    unfoldable pub items : List ℕ → Outcome Node
+    items t = if is_at 93 t then Ok (n.List [], t) else (do
+      x ← choice t
+      xs ← chain choice 44 (length x.1) (x.0 ∷ []) x.1
+      Ok (n.List xs.0, xs.1))
+
+    abbrev pub level : Inside → List ℕ → Outcome Node
+    level Choice = choice
+    level Operand = operand
+    level Items = items
+
+-- what stands behind the byte that nests it
+unfoldable pub nested : ℕ → Inside → List ℕ → Outcome Node
+nested zero which t = Err (TooDeep (length t))
+nested (suc depth) which t = level depth (nested depth) which (skip (drop 1 t))
+
+-- ---- options
+
+-- the join text and the context, where they are given
+abbrev pub Given : Type 0
+Given = Option (List ℕ) × Option Context
+
+unfoldable pub context_word : List ℕ → Outcome Context
+context_word t = if is_at 116 t then (literal (codes "text") t >>= λ r. Ok (Text, r)) else (literal (codes "unsafe") t >>= λ r. Ok (Unsafe, r))
+
+-- `'text'` or `'unsafe'` with either mark
+unfoldable pub context_string : List ℕ → Outcome Context
+context_string t = if begins is_quote t then (do
+  x ← context_word (drop 1 t)
+  r ← expect (slice_index t 0) x.1
+  Ok (x.0, r)) else Err (Unexpected (length t))
+
+unfoldable pub join_option : List ℕ → Outcome (List ℕ)
+join_option t = literal (codes "join") t >>= λ a. expect 61 (skip a) >>= λ b. string b
+
+unfoldable pub context_option : List ℕ → Outcome Context
+context_option t = literal (codes "context") t >>= λ a. expect 61 (skip a) >>= λ b. context_string b
+
+-- an option that isn't given yet
+unfoldable pub option : Given → List ℕ → Outcome Given
+option given t =
+    if is_none given.0 && is_at 106 t then (join_option t >>= λ x. Ok ((Some x.0, given.1), x.1))
+    else if is_none given.1 && is_at 99 t then (context_option t >>= λ x. Ok ((given.0, Some x.0), x.1))
+    else Err (Unexpected (length t))
+
+-- each option once at most
+unfoldable pub options : List ℕ → Outcome Given
+options t = if is_at 64 t then (do
+  o ← option (None, None) (skip (drop 1 t))
+  if is_at 44 o.1 then option o.0 (skip (drop 1 o.1)) else Ok o) else Ok ((None, None), t)
+
+-- nothing, or a choice in which 32 levels may nest
+unfoldable pub first : List ℕ → Outcome (Option Node)
+first t = if length t == 0 || is_at 64 t then Ok (None, t) else (choice 32 (nested 32) t >>= λ x. Ok (Some x.0, x.1))
+
+abbrev pub expr_of : Option Node → Given → Expr
+expr_of node given = record { node = node; join = given.0; context = given.1 }
+
+-- the whole text
+unfoldable pub read : List ℕ → Result Expr Stop
+read t = do
+  x ← first (skip t)
+  o ← options x.1
+  if length o.1 == 0 then Ok (expr_of x.0 o.0) else Err (Unexpected (length o.1))

@@ -1,0 +1,175 @@
+-- The tokens at the front of a text. A token is read with the blanks behind it (HTML Template Language 1.4, "Expression Language").
+use Rattle.std.specs.Prelude.{◌≡◌, ◌<◌, ℕ, ℤ, pos, neg_ℤ, suc, ◌+◌, ◌*◌, ◌-◌, Bool, true, false, ◌||◌, ◌&&◌, if◌then◌else◌, ◌==◌, nat_le, List, [], ◌∷◌, ◌++◌, length, take, drop, Option, Some, None, Result, Ok, Err, slice_index}
+use Rattle.htl_expr.specs.declared.stop.Stop.{Stop}
+use Rattle.htl_expr.specs.declared.stop.Stop.TheVariants.{Memory, Unexpected, TooDeep}
+use Rattle.htl_expr.specs.declared.tokens.NameKind.{NameKind}
+use Rattle.htl_expr.specs.declared.tokens.NameKind.TheVariants.{Name, Field}
+
+-- what was read and the text behind it, or why nothing was
+abbrev pub Outcome : Type 0 → Type 0
+Outcome A = Result (A × List ℕ) Stop
+
+infixl 10 ◌>>=◌
+-- a step, and the next one with what the first gave
+abbrev pub ◌>>=◌ : {A B : Type 0} → Result A Stop → (A → Result B Stop) → Result B Stop
+(Ok x) >>= f = f x
+(Err e) >>= f = Err e
+
+-- the reason is that of the reading, unless memory ran out
+abbrev pub Fails : {Y : Type 0} → Stop → Result Y Stop → Type 0
+Fails Memory read = Unit {0}
+Fails (Unexpected n) read = read ≡ Err (Unexpected n)
+Fails (TooDeep n) read = read ≡ Err (TooDeep n)
+
+-- what a function returned, seen by view, is what reading gives, unless memory ran out
+abbrev pub Gives : {X Y : Type 0} → (X → Y) → Result X Stop → Result Y Stop → Type 0
+Gives view (Ok x) read = read ≡ Ok (view x)
+Gives view (Err e) read = Fails e read
+
+-- spaces, tabs and line ends
+abbrev pub is_blank : ℕ → Bool
+is_blank c = c == 32 || (c == 9 || (c == 10 || c == 13))
+
+-- the text from its first byte on that is no blank
+unfoldable pub skip : List ℕ → List ℕ
+skip [] = []
+skip (c ∷ t) = if is_blank c then skip t else c ∷ t
+
+-- whether the text begins with this byte
+unfoldable pub is_at : ℕ → List ℕ → Bool
+is_at c [] = false
+is_at c (d ∷ t) = d == c
+
+abbrev pub is_digit : ℕ → Bool
+is_digit c = nat_le 48 c && nat_le c 57
+
+abbrev pub is_letter : ℕ → Bool
+is_letter c = (nat_le 65 c && nat_le c 90) || (nat_le 97 c && nat_le c 122)
+
+-- a name begins with a letter or "_"
+abbrev pub is_first : ℕ → Bool
+is_first c = is_letter c || c == 95
+
+-- and goes on with letters, digits and "_"
+abbrev pub is_word : ℕ → Bool
+is_word c = is_first c || is_digit c
+
+abbrev pub is_quote : ℕ → Bool
+is_quote c = c == 39 || c == 34
+
+-- whether the first byte passes a test
+unfoldable pub begins : (ℕ → Bool) → List ℕ → Bool
+begins test [] = false
+begins test (c ∷ t) = test c
+
+-- whether a name goes on with the next byte; a field also with ":" where a letter follows
+unfoldable pub goes_on : NameKind → List ℕ → Bool
+goes_on Name t = begins is_word t
+goes_on Field [] = false
+goes_on Field (c ∷ t) = is_word c || (c == 58 && begins is_letter t)
+
+-- how many bytes at the front belong to the name
+unfoldable pub run_len : NameKind → List ℕ → ℕ
+run_len kind [] = 0
+run_len kind (c ∷ t) = if goes_on kind (c ∷ t) then suc (run_len kind t) else 0
+
+abbrev pub done : {A : Type 0} → A → Result A Stop
+done x = Ok x
+
+-- the bytes of a name, and the text behind it
+abbrev pub run : NameKind → List ℕ → List ℕ × List ℕ
+run kind t = (take (run_len kind t) t, skip (drop (run_len kind t) t))
+
+-- a name or a field's name
+unfoldable pub name : NameKind → List ℕ → Outcome (List ℕ)
+name kind t = if begins is_first t then Ok (run kind t) else Err (Unexpected (length t))
+
+-- one byte
+unfoldable pub expect : ℕ → List ℕ → Result (List ℕ) Stop
+expect c t = if is_at c t then Ok (skip (drop 1 t)) else Err (Unexpected (length t))
+
+-- an operator of two bytes, of which the first is there
+unfoldable pub second : ℕ → List ℕ → Result (List ℕ) Stop
+second c t = expect c (drop 1 t)
+
+-- a word byte by byte
+unfoldable pub literal : List ℕ → List ℕ → Result (List ℕ) Stop
+literal [] t = Ok t
+literal (c ∷ w) t = if is_at c t then literal w (drop 1 t) else Err (Unexpected (length t))
+
+abbrev pub AreAscii : List ℕ → Type 0
+AreAscii [] = Unit {0}
+AreAscii (c ∷ w) = (c < 128) × AreAscii w
+
+-- the character that stands for itself, a line feed, a tab or a return behind a backslash
+unfoldable pub unescape : ℕ → Option ℕ
+unescape c =
+    if c == 92 || is_quote c then Some c
+    else if c == 110 then Some 10
+    else if c == 116 then Some 9
+    else if c == 114 then Some 13
+    else None
+
+abbrev pub escape_of : Option ℕ → List ℕ → Outcome ℕ
+escape_of None at = Err (Unexpected (length at))
+escape_of (Some d) at = Ok (d, drop 1 at)
+
+-- the character behind a backslash
+unfoldable pub escape : List ℕ → Outcome ℕ
+escape [] = Err (Unexpected 0)
+escape (c ∷ t) = escape_of (unescape c) (c ∷ t)
+
+-- how many bytes stand before a mark or a backslash
+unfoldable pub plain_len : ℕ → List ℕ → ℕ
+plain_len mark [] = 0
+plain_len mark (c ∷ t) = if c == mark || c == 92 then 0 else suc (plain_len mark t)
+
+abbrev pub in_front : List ℕ → Outcome (List ℕ) → Outcome (List ℕ)
+in_front front o = o >>= λ x. Ok (front ++ x.0, x.1)
+
+abbrev pub escaped : Option ℕ → List ℕ → Outcome (List ℕ) → Outcome (List ℕ)
+escaped None at rest = Err (Unexpected (length at))
+escaped (Some d) at rest = in_front (d ∷ []) rest
+
+-- a string up to the mark that closes it; the flag says that a backslash stands before
+unfoldable pub string_from : Bool → ℕ → List ℕ → Outcome (List ℕ)
+string_from is_escaped mark [] = Err (Unexpected 0)
+string_from true mark (c ∷ t) = escaped (unescape c) (c ∷ t) (string_from false mark t)
+string_from false mark (c ∷ t) =
+    if c == mark then Ok ([], skip t)
+    else if c == 92 then string_from true mark t
+    else in_front (c ∷ []) (string_from false mark t)
+
+-- a string from its mark on
+unfoldable pub string : List ℕ → Outcome (List ℕ)
+string [] = Err (Unexpected 0)
+string (c ∷ t) = if is_quote c then string_from false c t else Err (Unexpected (length (c ∷ t)))
+
+-- whether the next byte is a digit with which the number still fits
+unfoldable pub digit_fits : ℕ → ℕ → List ℕ → Bool
+digit_fits limit m [] = false
+digit_fits limit m (c ∷ t) = is_digit c && nat_le (m * 10 + (c - 48)) limit
+
+-- the longest number at the front that fits
+unfoldable pub digits_from : ℕ → ℕ → List ℕ → ℕ × List ℕ
+digits_from limit m [] = (m, [])
+digits_from limit m (c ∷ t) = if digit_fits limit m (c ∷ t) then digits_from limit (m * 10 + (c - 48)) t else (m, c ∷ t)
+
+-- the number with the next digit, where that fits
+abbrev pub next_of : ℕ → ℕ → List ℕ → Option ℕ
+next_of limit m t = if digit_fits limit m t then Some (m * 10 + (slice_index t 0 - 48)) else None
+
+-- the greatest magnitude of a number of 64 bits with a minus or without one
+abbrev pub limit : Bool → ℕ
+limit negative = if negative then 9223372036854775808 else 9223372036854775807
+
+abbrev pub signed : Bool → ℕ → ℤ
+signed negative m = if negative then neg_ℤ (pos m) else pos m
+
+-- one digit at least
+unfoldable pub digits : Bool → List ℕ → Outcome ℤ
+digits negative t = if begins is_digit t then (let x = digits_from (limit negative) 0 t in Ok (signed negative x.0, skip x.1)) else Err (Unexpected (length t))
+
+-- digits with a minus or without one
+unfoldable pub number : List ℕ → Outcome ℤ
+number t = if is_at 45 t then digits true (drop 1 t) else digits false t

@@ -1,0 +1,127 @@
+-- What an expression gives for a resource (HTL specification 1.4, "Expression Language").
+use Rattle.std.specs.Prelude.{ℕ, ℤ, pos, Bool, true, false, not, nat_eq, int_lt, int_le, ◌==◌, if◌then◌else◌, List, [], ◌∷◌, Option, Some, None, codes, length, map}
+use Rattle.std.specs.Fmt.{signed_decimal}
+use Rattle.std.specs.FinMap.Entries.{find}
+use Rattle.std.specs.Ordering.{int_eq}
+use Rattle.std.specs.Cmp.Lexicographic.{pointwise}
+use Rattle.sp_base.specs.Names.{by_name}
+use Rattle.sp_base.specs.declared.value.Value.{Value}
+use Rattle.sp_base.specs.declared.value.Value.TheVariants as stored
+use Rattle.htl_expr.specs.declared.out.Out.{Out}
+use Rattle.htl_expr.specs.declared.out.Out.TheVariants as out
+use Rattle.htl_expr.specs.declared.scope.Scope.{Scope}
+use Rattle.htl_expr.specs.declared.node.Comparison.{Comparison}
+use Rattle.htl_expr.specs.declared.node.Comparison.TheVariants.{Equal, NotEqual, Below, Above, AtMost, AtLeast}
+use Rattle.htl_expr.specs.declared.node.Node.{Node, fold-Node}
+use Rattle.htl_expr.specs.declared.node.Node.TheOpen.{Node-F}
+use Rattle.htl_expr.specs.declared.expression.Expr.{Expr}
+use Rattle.htl_expr.specs.Print.{truth_text, plain, join_text, in_context}
+
+-- nothing, false, 0, the empty text and the empty list are false
+abbrev pub is_true : Out → Bool
+is_true out.Nothing = false
+is_true (out.Truth b) = b
+is_true (out.Long n) = not (int_eq n (pos 0))
+is_true (out.Text text) = not (length text == 0)
+is_true (out.List texts) = not (length texts == 0)
+
+-- the same kind and the same content
+abbrev pub is_same : Out → Out → Bool
+is_same out.Nothing out.Nothing = true
+is_same (out.Truth a) (out.Truth b) = if a then b else not b
+is_same (out.Long a) (out.Long b) = int_eq a b
+is_same (out.Text a) (out.Text b) = pointwise nat_eq a b
+is_same (out.List a) (out.List b) = pointwise (pointwise nat_eq) a b
+is_same _ _ = false
+
+-- two numbers in this order; other values have none
+abbrev pub are_ordered : (ℤ → ℤ → Bool) → Out → Out → Bool
+are_ordered test (out.Long a) (out.Long b) = test a b
+are_ordered test _ _ = false
+
+-- whether a comparison holds
+abbrev pub compare : Comparison → Out → Out → Bool
+compare Equal a b = is_same a b
+compare NotEqual a b = not (is_same a b)
+compare Below a b = are_ordered int_lt a b
+compare Above a b = are_ordered int_lt b a
+compare AtMost a b = are_ordered int_le a b
+compare AtLeast a b = are_ordered int_le b a
+
+-- a && b && ..: the first that is false, else the last
+abbrev pub and_values : Out → List Out → Out
+and_values a [] = a
+and_values a (b ∷ bs) = if is_true a then and_values b bs else a
+
+-- a || b || ..: the first that is true, else the last
+abbrev pub or_values : Out → List Out → Out
+or_values a [] = a
+or_values a (b ∷ bs) = if is_true a then a else or_values b bs
+
+-- the items of a list literal as texts without escapes
+abbrev pub item_texts : List Out → List (List ℕ)
+item_texts items = map (plain (codes ",")) items
+
+-- a property: a text, a number, a truth, or a list with its items as texts
+abbrev pub out_of : Value → Out
+out_of (stored.Text text) = out.Text text
+out_of (stored.Long n) = out.Long n
+out_of (stored.Truth b) = out.Truth b
+out_of (stored.Texts texts) = out.List texts
+out_of (stored.Longs ns) = out.List (map signed_decimal ns)
+out_of (stored.Truths bs) = out.List (map truth_text bs)
+
+abbrev pub out_or_nothing : Option Value → Out
+out_or_nothing None = out.Nothing
+out_or_nothing (Some value) = out_of value
+
+-- the property of the resource that has this name
+abbrev pub property : Scope → List ℕ → Out
+property scope name = out_or_nothing (find by_name name scope.props)
+
+-- the path, its last segment, or the resource type
+abbrev pub field : Scope → List ℕ → Option (List ℕ)
+field scope name =
+    if pointwise nat_eq name (codes "path") then Some scope.path
+    else (if pointwise nat_eq name (codes "name") then Some scope.name
+    else (if pointwise nat_eq name (codes "resourceType") then Some scope.kind else None))
+
+abbrev pub text_or_nothing : Option (List ℕ) → Out
+text_or_nothing None = out.Nothing
+text_or_nothing (Some text) = out.Text text
+
+-- what the resource itself has under this name
+abbrev pub resource : Scope → List ℕ → Out
+resource scope name = text_or_nothing (field scope name)
+
+-- a node, with the values of the nodes that it holds
+abbrev pub value_step : Scope → Node-F Out → Out
+value_step scope (Node-F.Text text) = out.Text text
+value_step scope (Node-F.Long n) = out.Long n
+value_step scope (Node-F.Truth b) = out.Truth b
+value_step scope (Node-F.Variable name) = out.Nothing
+value_step scope (Node-F.Property name) = property scope name
+value_step scope (Node-F.Resource name) = resource scope name
+value_step scope (Node-F.List items) = out.List (item_texts items)
+value_step scope (Node-F.Access v names) = out.Nothing
+value_step scope (Node-F.Not v) = out.Truth (not (is_true v))
+value_step scope (Node-F.Compare comparison a b) = out.Truth (compare comparison a b)
+value_step scope (Node-F.And a more) = and_values a more
+value_step scope (Node-F.Or a more) = or_values a more
+value_step scope (Node-F.Choice condition a b) = if is_true condition then a else b
+
+-- the value of a tree
+abbrev pub value : Scope → Node → Out
+value scope = fold-Node Out (value_step scope)
+
+abbrev pub value_or_nothing : Scope → Option Node → Out
+value_or_nothing scope None = out.Nothing
+value_or_nothing scope (Some node) = value scope node
+
+-- the value of a whole expression; an empty one is nothing
+abbrev pub expr_value : Scope → Expr → Out
+expr_value scope e = value_or_nothing scope e.node
+
+-- the text that a whole expression writes
+abbrev pub print : Scope → Expr → List ℕ
+print scope e = in_context e.context (plain (join_text e.join) (expr_value scope e))

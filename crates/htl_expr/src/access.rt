@@ -1,0 +1,83 @@
+//! Accesses: `.name` and `["name"]`.
+
+ghost use Rattle.std.specs.Prelude.{◌≡◌, [], length, IfOk, Ok, true, false};
+ghost use Rattle.htl_expr.specs.Read as spec;
+ghost use Rattle.htl_expr.specs.Tokens as tokens;
+ghost use Rattle.htl_expr.specs.Tokens.{Gives};
+
+use crate::node::Node;
+use crate::stop::Stop;
+use crate::tokens::{NameKind, behind, expect, is_at, name, string};
+use sp_base::{TextBuf, TextList};
+use sqlite_items::Boxed;
+use std::alloc::{AllocError, Global};
+
+pub fn accessed(alloc: Global, e: Node, fields: TextList) -> Result<Node, AllocError>
+    ensures { IfOk result (λ r. r ≡ spec.accessed e fields) }
+{
+    if fields.len() == 0 {
+        return Ok(e);
+    }
+    Ok(Node::Access(Boxed::new(alloc, e)?, fields))
+}
+
+#[tactic(auto, unfolding(crate::specs::Read::access_at))]
+fn access_at(text: &str) -> bool
+    ensures { result ≡ spec.access_at text.now }
+{
+    is_at(b'.', text) || is_at(b'[', text)
+}
+
+#[tactic(auto, unfolding(crate::specs::Read::bracketed))]
+fn bracketed(alloc: Global, depth: u32, text: &str) -> Result<(TextBuf, &str), Stop>
+    requires { tokens.is_at 91 text.now ≡ true }
+    ensures { Gives (λ x. (x.0, x.1.now)) result (spec.bracketed depth text.now) }
+{
+    if depth == 0 {
+        return Err(Stop::TooDeep(text.len()));
+    }
+    let (s, rest) = string(alloc, behind(b'[', text))?;
+    let rest = expect(b']', rest)?;
+    Ok((s, rest))
+}
+
+#[tactic(auto, unfolding(crate::specs::Read::access, crate::specs::Read::access_at))]
+fn access(alloc: Global, depth: u32, text: &str) -> Result<(TextBuf, &str), Stop>
+    requires { spec.access_at text.now ≡ true }
+    ensures { Gives (λ x. (x.0, x.1.now)) result (spec.access depth text.now) }
+{
+    if is_at(b'.', text) {
+        name(alloc, NameKind::Field, behind(b'.', text))
+    } else {
+        bracketed(alloc, depth, text)
+    }
+}
+
+/// An access that has to be there.
+#[tactic(auto, unfolding(crate::specs::Read::first_access))]
+pub fn first_access(alloc: Global, depth: u32, text: &str) -> Result<(TextBuf, &str), Stop>
+    ensures { Gives (λ x. (x.0, x.1.now)) result (spec.first_access depth text.now) }
+{
+    if access_at(text) {
+        access(alloc, depth, text)
+    } else {
+        Err(Stop::Unexpected(text.len()))
+    }
+}
+
+#[tactic(auto, unfolding(crate::specs::Read::accesses))]
+pub fn accesses(alloc: Global, depth: u32, text: &str) -> Result<(TextList, &str), Stop>
+    ensures { Gives (λ x. (x.0, x.1.now)) result (spec.accesses depth (length text.now) [] text.now) }
+{
+    let mut found = TextList::new(alloc);
+    let mut rest = text;
+    for _turn in 0..text.len() {
+        if !access_at(rest) {
+            return Ok((found, rest));
+        }
+        let (field, after) = access(alloc, depth, rest)?;
+        found.push(field)?;
+        rest = after;
+    }
+    Ok((found, rest))
+}

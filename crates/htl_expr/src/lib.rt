@@ -1,0 +1,24 @@
+//! Expressions of the HTML Template Language (HTL specification 1.4, "Expression Language").
+#![tactic(auto)]
+
+mod access;
+mod expression;
+mod node;
+mod numbers;
+mod options;
+mod out;
+mod print;
+#[cfg(test)]
+mod read_tests;
+mod reader;
+mod scope;
+mod stop;
+mod tokens;
+mod value;
+#[cfg(test)]
+mod value_tests;
+
+pub use expression::{Context, Expr, ExprFault};
+pub use node::{Comparison, Node};
+pub use out::Out;
+pub use scope::Scope;

@@ -1,0 +1,346 @@
+//! The reader, line by line of the grammar.
+
+ghost use Rattle.std.specs.Prelude.{◌≡◌, ◌<◌, [], ◌∷◌, length, slice_index, IfOk, Ok, true, false};
+ghost use Rattle.htl_expr.specs.Tokens.{Gives};
+ghost use Rattle.htl_expr.specs.Tokens as tokens;
+ghost use Rattle.htl_expr.specs.Read as spec;
+
+use crate::access::{accessed, accesses, first_access};
+use crate::node::{Comparison, Node};
+use crate::numbers::number;
+use crate::stop::Stop;
+use crate::tokens::{
+    NameKind, behind, digit_at, expect, is_at, name, quote_at, second, skip, string, tail,
+};
+use sp_base::TextBuf;
+use sqlite_items::{Boxed, Items as NodeList};
+use std::alloc::{AllocError, Global};
+
+/// What nests: a choice in brackets or behind a `?`, the operand of a `!`, the items of a list.
+#[derive(Debug, Clone, Copy, Drop)]
+pub enum Inside {
+    Choice,
+    Operand,
+    Items,
+}
+
+fn and_of(alloc: Global, e: Node, more: NodeList<Node>) -> Result<Node, AllocError>
+    ensures { IfOk result (λ r. r ≡ spec.and_of e more) }
+{
+    if more.len() == 0 {
+        return Ok(e);
+    }
+    Ok(Node::And(Boxed::new(alloc, e)?, more))
+}
+
+fn or_of(alloc: Global, e: Node, more: NodeList<Node>) -> Result<Node, AllocError>
+    ensures { IfOk result (λ r. r ≡ spec.or_of e more) }
+{
+    if more.len() == 0 {
+        return Ok(e);
+    }
+    Ok(Node::Or(Boxed::new(alloc, e)?, more))
+}
+
+fn word_of(word: TextBuf) -> Node
+    ensures { result ≡ spec.word_of word }
+{
+    if word.text() == "true" {
+        Node::Truth(true)
+    } else if word.text() == "false" {
+        Node::Truth(false)
+    } else {
+        Node::Variable(word)
+    }
+}
+
+#[tactic(auto, unfolding(crate::specs::Read::compares))]
+fn compares(text: &str) -> bool
+    ensures { result ≡ spec.compares text.now }
+{
+    is_at(b'=', text) || (is_at(b'!', text) || (is_at(b'<', text) || is_at(b'>', text)))
+}
+
+/// `<` or `<=`, `>` or `>=`.
+#[tactic(auto, unfolding(crate::specs::Read::or_equal))]
+fn or_equal(bare: Comparison, equal: Comparison, text: &str) -> (Comparison, &str)
+    requires { slice_index text.now 0 < 128 }
+    ensures { (result.0, result.1.now) ≡ spec.or_equal bare equal text.now }
+{
+    let rest = tail(text);
+    if is_at(b'=', rest) {
+        (equal, behind(b'=', rest))
+    } else {
+        (bare, skip(rest))
+    }
+}
+
+#[tactic(auto, using(crate::proofs::Scan::front_ascii), unfolding(crate::specs::Read::comparison, crate::specs::Read::compares))]
+fn comparison(text: &str) -> Result<(Comparison, &str), Stop>
+    requires { spec.compares text.now ≡ true }
+    ensures { Gives (λ x. (x.0, x.1.now)) result (spec.comparison text.now) }
+{
+    if is_at(b'=', text) {
+        let rest = second(b'=', text)?;
+        Ok((Comparison::Equal, rest))
+    } else if is_at(b'!', text) {
+        let rest = second(b'=', text)?;
+        Ok((Comparison::NotEqual, rest))
+    } else if is_at(b'<', text) {
+        Ok(or_equal(Comparison::Below, Comparison::AtMost, text))
+    } else {
+        Ok(or_equal(Comparison::Above, Comparison::AtLeast, text))
+    }
+}
+
+/// A literal or a variable; `properties` and `resource` with their first access.
+#[tactic(auto, unfolding(crate::specs::Read::named))]
+fn named(alloc: Global, depth: u32, text: &str) -> Result<(Node, &str), Stop>
+    ensures { Gives (λ x. (x.0, x.1.now)) result (spec.named depth text.now) }
+{
+    let (word, rest) = name(alloc, NameKind::Name, text)?;
+    if word.text() == "properties" {
+        let (field, rest) = first_access(alloc, depth, rest)?;
+        Ok((Node::Property(field), rest))
+    } else if word.text() == "resource" {
+        let (field, rest) = first_access(alloc, depth, rest)?;
+        Ok((Node::Resource(field), rest))
+    } else {
+        Ok((word_of(word), rest))
+    }
+}
+
+#[tactic(auto, unfolding(crate::specs::Read::leaf))]
+fn leaf(alloc: Global, depth: u32, text: &str) -> Result<(Node, &str), Stop>
+    ensures { Gives (λ x. (x.0, x.1.now)) result (spec.leaf depth text.now) }
+{
+    if quote_at(text) {
+        let (s, rest) = string(alloc, text)?;
+        Ok((Node::Text(s), rest))
+    } else if is_at(b'-', text) || digit_at(text) {
+        let (n, rest) = number(text)?;
+        Ok((Node::Long(n), rest))
+    } else {
+        named(alloc, depth, text)
+    }
+}
+
+/// What stands behind the byte that nests it.
+#[cycle(reader)]
+#[tactic(auto, unfolding(crate::specs::Read::nested))]
+fn nested(alloc: Global, depth: u32, inside: Inside, text: &str) -> Result<(Node, &str), Stop>
+    requires { slice_index text.now 0 < 128 }
+    ensures { Gives (λ x. (x.0, x.1.now)) result (spec.nested depth inside text.now) }
+{
+    if depth == 0 {
+        return Err(Stop::TooDeep(text.len()));
+    }
+    let rest = skip(tail(text));
+    match inside {
+        Inside::Choice => choice(alloc, depth - 1, rest),
+        Inside::Operand => operand(alloc, depth - 1, rest),
+        Inside::Items => items(alloc, depth - 1, rest),
+    }
+}
+
+#[cycle(reader)]
+#[tactic(auto, using(crate::proofs::Scan::front_ascii), unfolding(crate::specs::Read::start))]
+fn start(alloc: Global, depth: u32, text: &str) -> Result<(Node, &str), Stop>
+    ensures { Gives (λ x. (x.0, x.1.now)) result (spec.start depth (spec.nested depth) text.now) }
+{
+    if is_at(b'(', text) {
+        let (e, rest) = nested(alloc, depth, Inside::Choice, text)?;
+        let rest = expect(b')', rest)?;
+        Ok((e, rest))
+    } else if is_at(b'[', text) {
+        let (e, rest) = nested(alloc, depth, Inside::Items, text)?;
+        let rest = expect(b']', rest)?;
+        Ok((e, rest))
+    } else {
+        leaf(alloc, depth, text)
+    }
+}
+
+#[cycle(reader)]
+#[tactic(auto, unfolding(crate::specs::Read::atom))]
+fn atom(alloc: Global, depth: u32, text: &str) -> Result<(Node, &str), Stop>
+    ensures { Gives (λ x. (x.0, x.1.now)) result (spec.atom depth (spec.nested depth) text.now) }
+{
+    let (e, rest) = start(alloc, depth, text)?;
+    let (fields, rest) = accesses(alloc, depth, rest)?;
+    Ok((accessed(alloc, e, fields)?, rest))
+}
+
+#[cycle(reader)]
+#[tactic(auto, using(crate::proofs::Scan::front_ascii), unfolding(crate::specs::Read::operand))]
+fn operand(alloc: Global, depth: u32, text: &str) -> Result<(Node, &str), Stop>
+    ensures { Gives (λ x. (x.0, x.1.now)) result (spec.operand depth (spec.nested depth) text.now) }
+{
+    if is_at(b'!', text) {
+        let (e, rest) = nested(alloc, depth, Inside::Operand, text)?;
+        return Ok((Node::Not(Boxed::new(alloc, e)?), rest));
+    }
+    atom(alloc, depth, text)
+}
+
+#[cycle(reader)]
+#[tactic(auto, unfolding(crate::specs::Read::compare))]
+fn compare(alloc: Global, depth: u32, text: &str) -> Result<(Node, &str), Stop>
+    ensures { Gives (λ x. (x.0, x.1.now)) result (spec.compare depth (spec.nested depth) text.now) }
+{
+    let (a, rest) = operand(alloc, depth, text)?;
+    if !compares(rest) {
+        return Ok((a, rest));
+    }
+    let (op, rest) = comparison(rest)?;
+    let (b, rest) = operand(alloc, depth, rest)?;
+    Ok((
+        Node::Compare(op, Boxed::new(alloc, a)?, Boxed::new(alloc, b)?),
+        rest,
+    ))
+}
+
+/// The operands behind the first one and their `&&`.
+#[cycle(reader)]
+#[tactic(auto, using(crate::proofs::Scan::front_ascii), unfolding(crate::specs::Read::chain))]
+fn more_compares(alloc: Global, depth: u32, text: &str) -> Result<(NodeList<Node>, &str), Stop>
+    ensures { Gives (λ x. (x.0, x.1.now)) result (spec.chain (spec.compare depth (spec.nested depth)) 38 (length text.now) [] text.now) }
+{
+    let mut found = NodeList::new(alloc);
+    let mut rest = text;
+    for _turn in 0..text.len() {
+        if !is_at(b'&', rest) {
+            return Ok((found, rest));
+        }
+        let after = second(b'&', rest)?;
+        let (x, after) = compare(alloc, depth, after)?;
+        found.push(x)?;
+        rest = after;
+    }
+    Ok((found, rest))
+}
+
+#[cycle(reader)]
+#[tactic(auto, unfolding(crate::specs::Read::both))]
+fn both(alloc: Global, depth: u32, text: &str) -> Result<(Node, &str), Stop>
+    ensures { Gives (λ x. (x.0, x.1.now)) result (spec.both depth (spec.nested depth) text.now) }
+{
+    let (e, rest) = compare(alloc, depth, text)?;
+    let (more, rest) = more_compares(alloc, depth, rest)?;
+    Ok((and_of(alloc, e, more)?, rest))
+}
+
+/// The operands behind the first one and their `||`.
+#[cycle(reader)]
+#[tactic(auto, using(crate::proofs::Scan::front_ascii), unfolding(crate::specs::Read::chain))]
+fn more_boths(alloc: Global, depth: u32, text: &str) -> Result<(NodeList<Node>, &str), Stop>
+    ensures { Gives (λ x. (x.0, x.1.now)) result (spec.chain (spec.both depth (spec.nested depth)) 124 (length text.now) [] text.now) }
+{
+    let mut found = NodeList::new(alloc);
+    let mut rest = text;
+    for _turn in 0..text.len() {
+        if !is_at(b'|', rest) {
+            return Ok((found, rest));
+        }
+        let after = second(b'|', rest)?;
+        let (x, after) = both(alloc, depth, after)?;
+        found.push(x)?;
+        rest = after;
+    }
+    Ok((found, rest))
+}
+
+#[cycle(reader)]
+#[tactic(auto, unfolding(crate::specs::Read::either))]
+fn either(alloc: Global, depth: u32, text: &str) -> Result<(Node, &str), Stop>
+    ensures { Gives (λ x. (x.0, x.1.now)) result (spec.either depth (spec.nested depth) text.now) }
+{
+    let (e, rest) = both(alloc, depth, text)?;
+    let (more, rest) = more_boths(alloc, depth, rest)?;
+    Ok((or_of(alloc, e, more)?, rest))
+}
+
+#[cycle(reader)]
+#[tactic(auto, using(crate::proofs::Scan::front_ascii), unfolding(crate::specs::Read::other_choice))]
+fn other_choice(alloc: Global, depth: u32, text: &str) -> Result<(Node, &str), Stop>
+    ensures { Gives (λ x. (x.0, x.1.now)) result (spec.other_choice depth (spec.nested depth) text.now) }
+{
+    if is_at(b':', text) {
+        nested(alloc, depth, Inside::Choice, text)
+    } else {
+        Err(Stop::Unexpected(text.len()))
+    }
+}
+
+#[cycle(reader)]
+#[tactic(auto, using(crate::proofs::Scan::front_ascii), unfolding(crate::specs::Read::choice))]
+fn choice(alloc: Global, depth: u32, text: &str) -> Result<(Node, &str), Stop>
+    ensures { Gives (λ x. (x.0, x.1.now)) result (spec.choice depth (spec.nested depth) text.now) }
+{
+    let (c, rest) = either(alloc, depth, text)?;
+    if !is_at(b'?', rest) {
+        return Ok((c, rest));
+    }
+    let (a, rest) = nested(alloc, depth, Inside::Choice, rest)?;
+    let (b, rest) = other_choice(alloc, depth, rest)?;
+    Ok((
+        Node::Choice(
+            Boxed::new(alloc, c)?,
+            Boxed::new(alloc, a)?,
+            Boxed::new(alloc, b)?,
+        ),
+        rest,
+    ))
+}
+
+/// The items behind the first one and their commas.
+#[cycle(reader)]
+#[tactic(auto, unfolding(crate::specs::Read::chain))]
+fn more_items(
+    alloc: Global,
+    depth: u32,
+    first: Node,
+    text: &str,
+) -> Result<(NodeList<Node>, &str), Stop>
+    ensures { Gives (λ x. (x.0, x.1.now)) result (spec.chain (spec.choice depth (spec.nested depth)) 44 (length text.now) (first ∷ []) text.now) }
+{
+    let mut found = NodeList::new(alloc);
+    found.push(first)?;
+    let mut rest = text;
+    for _turn in 0..text.len() {
+        if !is_at(b',', rest) {
+            return Ok((found, rest));
+        }
+        let after = expect(b',', rest)?;
+        let (x, after) = choice(alloc, depth, after)?;
+        found.push(x)?;
+        rest = after;
+    }
+    Ok((found, rest))
+}
+
+/// The items of a list, up to the bracket that closes it.
+#[cycle(reader)]
+#[tactic(auto, unfolding(crate::specs::Read::items))]
+fn items(alloc: Global, depth: u32, text: &str) -> Result<(Node, &str), Stop>
+    ensures { Gives (λ x. (x.0, x.1.now)) result (spec.items depth (spec.nested depth) text.now) }
+{
+    if is_at(b']', text) {
+        return Ok((Node::List(NodeList::new(alloc)), text));
+    }
+    let (first, rest) = choice(alloc, depth, text)?;
+    let (all, rest) = more_items(alloc, depth, first, rest)?;
+    Ok((Node::List(all), rest))
+}
+
+/// Nothing, or a choice in which 32 levels may nest.
+#[tactic(auto, unfolding(crate::specs::Read::first))]
+pub fn first(alloc: Global, text: &str) -> Result<(Option<Node>, &str), Stop>
+    ensures { Gives (λ x. (x.0, x.1.now)) result (spec.first text.now) }
+{
+    if text.is_empty() || is_at(b'@', text) {
+        return Ok((None, text));
+    }
+    let (e, rest) = choice(alloc, 32, text)?;
+    Ok((Some(e), rest))
+}

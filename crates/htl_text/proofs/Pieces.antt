@@ -1,5 +1,5 @@
 -- Steps of reading a template piece by piece.
-use Rattle.std.proofs.Common.{◌≡◌, ◌<◌, ◌≤◌, ◌+◌, ◌-◌, ℕ, zero, suc, Bool, true, false, cond, ◌||◌, eqb, List, [], ◌∷◌, ◌++◌, take, drop, length, Option, Some, None, Result, Ok, Err, refl, ap, sym, subst, ◌∙◌, rules, arith, append_assoc}
+use Rattle.std.proofs.Common.{◌≡◌, ◌<◌, ◌≤◌, ◌+◌, ◌-◌, ℕ, zero, suc, true, false, ◌||◌, eqb, List, [], ◌∷◌, ◌++◌, take, drop, length, Option, Some, None, Result, Ok, Err, refl, ap, sym, ◌∙◌, arith, append_assoc}
 use Rattle.std.proofs.Common.{drop-drop}
 use Rattle.std.proofs.lemmas.List.{length-append}
 use Rattle.htl_expr.specs.declared.expression.Expr.{Expr}
@@ -7,9 +7,9 @@ use Rattle.htl_expr.specs.declared.expression.ExprFault.{ExprFault}
 use Rattle.htl_expr.specs.Fault.{expression_of}
 use Rattle.htl_text.specs.declared.fault.TextFault.{TextFault}
 use Rattle.htl_text.specs.declared.piece.Piece.{Piece}
-use Rattle.htl_text.specs.declared.piece.Piece.TheVariants.{Plain, Value}
+use Rattle.htl_text.specs.declared.piece.Piece.TheVariants.{Value}
 use Rattle.htl_text.specs.declared.quotes.Quotes.TheVariants.{Outside}
-use Rattle.htl_text.specs.Template.{opens, closing, read_value, closed_value, value_at, in_front, written, before, valued, pieces, plain_pieces}
+use Rattle.htl_text.specs.Template.{opens, closing, read_value, closed_value, value_at, written, before, pieces, plain_pieces}
 use Rattle.htl_text.proofs.Steps.{skipped}
 
 abbrev Read : Type 0

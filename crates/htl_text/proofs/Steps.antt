@@ -1,15 +1,14 @@
 -- Steps over the front of a template's text.
-use Rattle.std.proofs.Common.{◌≡◌, ◌<◌, ◌≤◌, ◌+◌, ◌-◌, ℕ, zero, suc, Bool, true, false, cond, ◌||◌, ◌&&◌, eqb, List, [], ◌∷◌, ◌++◌, take, drop, length, slice_index, codes, Option, Some, None, Result, Ok, Err, refl, ap, sym, subst, ◌∙◌, rules, arith, append_assoc}
+use Rattle.std.proofs.Common.{◌≡◌, ◌<◌, ◌≤◌, ◌+◌, ◌-◌, ℕ, zero, suc, Bool, true, false, cond, ◌||◌, ◌&&◌, eqb, List, [], ◌∷◌, ◌++◌, take, drop, length, slice_index, codes, Some, Result, Ok, Err, refl, ap, sym, subst, ◌∙◌, rules, arith, append_assoc}
 use Rattle.std.specs.Str.{IsCharBoundary}
 use Rattle.std.proofs.lemmas.Bool.Decides.{nat_tests}
 use Rattle.std.proofs.lemmas.List.{append-nil, length-drop}
-use Rattle.htl_expr.specs.declared.expression.Expr.{Expr}
 use Rattle.htl_text.specs.declared.fault.TextFault.{TextFault}
 use Rattle.htl_text.specs.declared.piece.Piece.{Piece}
 use Rattle.htl_text.specs.declared.piece.Piece.TheVariants.{Plain, Value}
 use Rattle.htl_text.specs.declared.quotes.Quotes.{Quotes}
 use Rattle.htl_text.specs.declared.quotes.Quotes.TheVariants.{Outside, Inside, Escaped}
-use Rattle.htl_text.specs.Template.{is_at, opens, escapes, step, closes, closing, value_at, in_front, written, before, valued, pieces, plain_len, plain_pieces}
+use Rattle.htl_text.specs.Template.{is_at, opens, escapes, step, closes, closing, in_front, written, pieces, plain_len}
 
 written_nil : (r : Result (List Piece) TextFault) → written [] r ≡ r
 written_nil (Ok ps) = refl

@@ -1,4 +1,4 @@
-use Rattle.std.proofs.Common.{sym, ◌∙◌, string_bytes, rules, arith}
+use Rattle.std.proofs.Common.{sym, rules, arith}
 use Rattle.htl_text.proofs.Steps.{plain_boundary, plain_is, stops_is, less_is, escape, escape_is, escape_less, opens_first, opens_second}
 use Rattle.htl_text.proofs.scan.plain.Goals as goal
 

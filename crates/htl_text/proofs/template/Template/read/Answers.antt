@@ -1,4 +1,4 @@
-use Rattle.std.proofs.Common.{◌∙◌, sym, ap, rules, arith, length, ◌≡◌, ◌≢◌, Err}
+use Rattle.std.proofs.Common.{sym, rules, arith, length, ◌≡◌, ◌≢◌, Err}
 use Rattle.htl_text.specs.Template.{template_of}
 use Rattle.htl_text.specs.declared.fault.TextFault.TheVariants.{NoMemory}
 use Rattle.htl_text.proofs.Pieces.{opens_is, read_ends, read_fails, read_more}

@@ -1,0 +1,113 @@
+-- Steps of reading a template piece by piece.
+use Rattle.std.proofs.Common.{◌≡◌, ◌<◌, ◌≤◌, ◌+◌, ◌-◌, ℕ, zero, suc, true, false, ◌||◌, eqb, List, [], ◌∷◌, ◌++◌, take, drop, length, Option, Some, None, Result, Ok, Err, refl, ap, sym, ◌∙◌, arith, append_assoc}
+use Rattle.std.proofs.Common.{drop-drop}
+use Rattle.std.proofs.lemmas.List.{length-append}
+use Rattle.htl_expr.specs.declared.expression.Expr.{Expr}
+use Rattle.htl_expr.specs.declared.expression.ExprFault.{ExprFault}
+use Rattle.htl_expr.specs.Fault.{expression_of}
+use Rattle.htl_text.specs.declared.fault.TextFault.{TextFault}
+use Rattle.htl_text.specs.declared.piece.Piece.{Piece}
+use Rattle.htl_text.specs.declared.piece.Piece.TheVariants.{Value}
+use Rattle.htl_text.specs.declared.quotes.Quotes.TheVariants.{Outside}
+use Rattle.htl_text.specs.Template.{opens, closing, read_value, closed_value, value_at, written, before, pieces, plain_pieces}
+use Rattle.htl_text.proofs.Steps.{skipped}
+
+abbrev Read : Type 0
+Read = Result (List Piece) TextFault
+
+before_twice : (a b : List Piece) (r : Read) → before a (before b r) ≡ before (a ++ b) r
+before_twice a b (Ok ps) = ap Ok (sym (append_assoc a b ps))
+before_twice a b (Err f) = refl
+
+-- plain text before an expression is a piece of its own
+plain_before : (t : List ℕ) (e : Expr) (r : Read) → written t (before (Value e ∷ []) r) ≡ before (plain_pieces t) (before (Value e ∷ []) r)
+plain_before [] e (Ok ps) = refl
+plain_before (c ∷ t) e (Ok ps) = refl
+plain_before t e (Err f) = refl
+
+length_drop : (n : ℕ) (t : List ℕ) → length (drop n t) ≤ length t
+length_drop zero t = omega arith
+length_drop (suc n) [] = omega arith
+length_drop (suc n) (c ∷ t) = let x = length_drop n t in omega (arith, x)
+
+-- as many bytes are passed over as are missing
+drop_back : (n : ℕ) (t : List ℕ) → drop (length t - length (drop n t)) t ≡ drop n t
+drop_back zero t = let none : length t - length t ≡ 0 = omega arith in rw none refl
+drop_back (suc n) [] = refl
+drop_back (suc n) (c ∷ t) =
+    let less = length_drop n t in
+    let more : suc (length t) - length (drop n t) ≡ suc (length t - length (drop n t)) = omega (arith, less) in
+    rw more (drop_back n t)
+
+-- what stands behind an expression ends the text
+record Behind (t behind : List ℕ) : Type 0 where
+  n : ℕ
+  same : behind ≡ drop n t
+
+abbrev found : Expr × List ℕ → Result (Expr × List ℕ) TextFault
+found x = Ok x
+
+ok_of : (x y : Expr × List ℕ) → found x ≡ found y → x ≡ y
+ok_of x y e = cc
+
+value_behind : (place c : ℕ) (t : List ℕ) (e : Expr) (behind : List ℕ) → value_at place (c ∷ t) ≡ Ok (e, behind) → Behind t behind
+unfolding value_at
+value_behind place c t e behind h = go (closing Outside 0 (drop 1 t)) h
+  where
+    in_text : (n : ℕ) (r : Result Expr ExprFault) → read_value place (drop 1 (drop n (drop 1 t))) r ≡ Ok (e, behind) → Behind t behind
+    in_text n (Ok read) x = record { n = 1 + n + 1; same = sym (ap (λ (q : Expr × List ℕ). q.1) (ok_of _ _ x)) ∙ ap (drop 1) (drop-drop n 1 t) ∙ drop-drop 1 (1 + n) t }
+    in_text n (Err f) x = absurd cc
+
+    go : (o : Option ℕ) → closed_value place (drop 1 t) o ≡ Ok (e, behind) → Behind t behind
+    go None x = absurd cc
+    go (Some n) x = in_text n (expression_of (take n (drop 1 t))) x
+
+not_nothing : opens [] ≡ true → ⊥
+unfolding opens
+not_nothing h = absurd cc
+
+value_follows : (all : ℕ) (t : List ℕ) (e : Expr) (behind : List ℕ) → opens t ≡ true → value_at (all - length t) t ≡ Ok (e, behind) → pieces all 0 t ≡ before (Value e ∷ []) (pieces all 0 behind)
+unfolding pieces
+value_follows all [] e behind h x = absurd (not_nothing h)
+value_follows all (c ∷ t) e behind h x =
+    let b = value_behind (all - length (c ∷ t)) c t e behind x in
+    let rest : drop (length t - length behind) t ≡ behind = rw b.same (drop_back b.n t) in
+    rw (h, x) (ap (before (Value e ∷ [])) (skipped all (length t - length behind) t ∙ ap (pieces all 0) rest))
+
+value_fails : (all : ℕ) (t : List ℕ) (f : TextFault) → opens t ≡ true → value_at (all - length t) t ≡ Err f → pieces all 0 t ≡ Err f
+unfolding pieces
+value_fails all [] f h x = absurd (not_nothing h)
+value_fails all (c ∷ t) f h x = rw (h, x) refl
+
+pub opens_is : (t : List ℕ) → (eqb (length t) 0 || opens t) ≡ true → eqb (length t) 0 ≡ false → opens t ≡ true
+opens_is t h e = rw e at h
+
+-- nothing is left
+pub read_ends : (all : ℕ) (old new : List Piece) (front behind rest text : List ℕ) → eqb (length behind) 0 ≡ true → ((n : ℕ) → written front (pieces n 0 behind) ≡ pieces n 0 rest)
+    → new ≡ old ++ plain_pieces front → before old (pieces all 0 rest) ≡ pieces all 0 text → pieces all 0 text ≡ Ok new
+unfolding pieces
+read_ends all old new front [] rest text e plain en inv = sym inv ∙ ap (before old) (sym (plain all)) ∙ ap Ok (sym en)
+read_ends all old new front (c ∷ t) rest text e plain en inv = absurd (grind (arith))
+
+-- an expression is left, which has a fault
+pub read_fails : (all place : ℕ) (old : List Piece) (front behind rest text : List ℕ) (f : TextFault) → opens behind ≡ true → place ≡ all - length behind → value_at place behind ≡ Err f
+    → ((n : ℕ) → written front (pieces n 0 behind) ≡ pieces n 0 rest) → before old (pieces all 0 rest) ≡ pieces all 0 text → pieces all 0 text ≡ Err f
+read_fails all place old front behind rest text f h ep x plain inv =
+    let fails = value_fails all behind f h (rw ep at x) in
+    sym inv ∙ ap (before old) (sym (plain all)) ∙ ap (λ (r : Read). before old (written front r)) fails
+
+-- an expression is left, and a text behind it
+pub read_more : (all place : ℕ) (old mid new : List Piece) (front behind after rest text : List ℕ) (e : Expr) → opens behind ≡ true → place ≡ all - length behind → value_at place behind ≡ Ok (e, after)
+    → ((n : ℕ) → written front (pieces n 0 behind) ≡ pieces n 0 rest) → mid ≡ old ++ plain_pieces front → new ≡ mid ++ Value e ∷ [] → before old (pieces all 0 rest) ≡ pieces all 0 text
+    → before new (pieces all 0 after) ≡ pieces all 0 text
+read_more all place old mid new front behind after rest text e h ep x plain em en inv =
+    let follows = value_follows all behind e after h (rw ep at x) in
+    let later = pieces all 0 after in
+    rw (en, em) (
+    sym (before_twice (old ++ plain_pieces front) (Value e ∷ []) later)
+    ∙ sym (before_twice old (plain_pieces front) (before (Value e ∷ []) later))
+    ∙ ap (before old) (sym (plain_before front e later) ∙ ap (written front) (sym follows) ∙ plain all)
+    ∙ inv)
+
+pub too_long : (bytes old item : List ℕ) (most total : ℕ) → most < length bytes → bytes ≡ old ++ item → length old + length item ≤ total → most < total
+too_long bytes old item most total lt e le = let same : length bytes ≡ length old + length item = rw e (length-append old item) in omega (arith, lt, same, le)

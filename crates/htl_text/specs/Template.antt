@@ -1,0 +1,109 @@
+-- The pieces of a template, and the text that they write (HTL specification 1.4, "Expression Language").
+use Rattle.std.specs.Prelude.{ℕ, zero, suc, ◌+◌, ◌-◌, Bool, false, ◌||◌, ◌&&◌, ◌==◌, if◌then◌else◌, List, [], ◌∷◌, ◌++◌, length, take, drop, codes, Option, Some, None, Result, Ok, Err}
+use Rattle.std.specs.List.{flat_map}
+use Rattle.htl_expr.specs.declared.expression.Expr.{Expr}
+use Rattle.htl_expr.specs.declared.expression.ExprFault.{ExprFault}
+use Rattle.htl_expr.specs.declared.scope.Scope.{Scope}
+use Rattle.htl_expr.specs.Fault.{expression_of}
+use Rattle.htl_expr.specs.Value.{print}
+use Rattle.htl_text.specs.declared.fault.TextFault.{TextFault}
+use Rattle.htl_text.specs.declared.fault.TextFault.TheVariants.{Unclosed, BadExpr}
+use Rattle.htl_text.specs.declared.piece.Piece.{Piece}
+use Rattle.htl_text.specs.declared.piece.Piece.TheVariants.{Plain, Value}
+use Rattle.htl_text.specs.declared.quotes.Quotes.{Quotes}
+use Rattle.htl_text.specs.declared.quotes.Quotes.TheVariants.{Outside, Inside, Escaped}
+
+-- whether this byte is in front
+unfoldable pub is_at : ℕ → List ℕ → Bool
+is_at c [] = false
+is_at c (d ∷ t) = d == c
+
+-- whether "${" is in front, which opens an expression
+unfoldable pub opens : List ℕ → Bool
+opens [] = false
+opens (c ∷ t) = c == 36 && is_at 123 t
+
+-- whether "\${" is in front, which writes "${"
+unfoldable pub escapes : List ℕ → Bool
+escapes [] = false
+escapes (c ∷ t) = c == 92 && opens t
+
+-- where the next byte stands: a quote mark opens quotes, the same mark closes them, and a backslash in them takes the next byte with it
+abbrev pub step : Quotes → ℕ → Quotes
+step Outside c = if c == 39 || c == 34 then Inside c else Outside
+step (Inside mark) c = if c == mark then Outside else (if c == 92 then Escaped mark else Inside mark)
+step (Escaped mark) c = Inside mark
+
+-- a "}" outside quotes closes an expression
+abbrev pub closes : Quotes → ℕ → Bool
+closes Outside c = c == 125
+closes (Inside mark) c = false
+closes (Escaped mark) c = false
+
+-- the place of the first byte that closes an expression, where this text begins at place n
+unfoldable pub closing : Quotes → ℕ → List ℕ → Option ℕ
+closing quotes n [] = None
+closing quotes n (c ∷ t) = if closes quotes c then Some n else closing (step quotes c) (n + 1) t
+
+abbrev pub read_value : ℕ → List ℕ → Result Expr ExprFault → Result (Expr × List ℕ) TextFault
+read_value place behind (Ok e) = Ok (e, behind)
+read_value place behind (Err fault) = Err (BadExpr place)
+
+abbrev pub closed_value : ℕ → List ℕ → Option ℕ → Result (Expr × List ℕ) TextFault
+closed_value place inside None = Err (Unclosed place)
+closed_value place inside (Some n) = read_value place (drop 1 (drop n inside)) (expression_of (take n inside))
+
+-- the expression that "${" opens at a place of the template, and the text behind its "}"
+unfoldable pub value_at : ℕ → List ℕ → Result (Expr × List ℕ) TextFault
+value_at place t = closed_value place (drop 2 t) (closing Outside 0 (drop 2 t))
+
+-- plain text in front of pieces; no piece of plain text is empty, and no two stand side by side
+abbrev pub in_front : List ℕ → List Piece → List Piece
+in_front [] ps = ps
+in_front (c ∷ t) [] = Plain (c ∷ t) ∷ []
+in_front (c ∷ t) (Plain more ∷ ps) = Plain (c ∷ (t ++ more)) ∷ ps
+in_front (c ∷ t) (Value e ∷ ps) = Plain (c ∷ t) ∷ (Value e ∷ ps)
+
+abbrev pub written : List ℕ → Result (List Piece) TextFault → Result (List Piece) TextFault
+written t (Ok ps) = Ok (in_front t ps)
+written t (Err fault) = Err fault
+
+-- pieces in front of others
+abbrev pub before : List Piece → Result (List Piece) TextFault → Result (List Piece) TextFault
+before front (Ok ps) = Ok (front ++ ps)
+before front (Err fault) = Err fault
+
+abbrev pub valued : Result (Expr × List ℕ) TextFault → (List ℕ → Result (List Piece) TextFault) → Result (List Piece) TextFault
+valued (Ok x) more = before (Value x.0 ∷ []) (more x.1)
+valued (Err fault) more = Err fault
+
+-- the pieces of a text at the end of a template of so many bytes; the first bytes to skip belong to the piece before
+unfoldable pub pieces : ℕ → ℕ → List ℕ → Result (List Piece) TextFault
+pieces all skip [] = Ok []
+pieces all (suc skip) (c ∷ t) = pieces all skip t
+pieces all zero (c ∷ t) =
+    if opens (c ∷ t) then valued (value_at (all - length (c ∷ t)) (c ∷ t)) (λ behind. pieces all (length t - length behind) t)
+    else (if escapes (c ∷ t) then written (codes "${") (pieces all 2 t)
+    else written (c ∷ []) (pieces all 0 t))
+
+-- what a text is read as: its pieces, or its first fault
+abbrev pub template_of : List ℕ → Result (List Piece) TextFault
+template_of t = pieces (length t) 0 t
+
+-- how many bytes stand before the next "${" or "\${"
+unfoldable pub plain_len : List ℕ → ℕ
+plain_len [] = 0
+plain_len (c ∷ t) = if opens (c ∷ t) || escapes (c ∷ t) then 0 else suc (plain_len t)
+
+-- a text as one piece, or as none where it is empty
+abbrev pub plain_pieces : List ℕ → List Piece
+plain_pieces t = in_front t []
+
+-- what a piece writes
+abbrev pub piece_text : Scope → Piece → List ℕ
+piece_text scope (Plain t) = t
+piece_text scope (Value e) = print scope e
+
+-- the text of a template: what its pieces write, one after another
+abbrev pub text_of : Scope → List Piece → List ℕ
+text_of scope ps = flat_map (piece_text scope) ps

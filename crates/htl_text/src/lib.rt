@@ -1,0 +1,15 @@
+//! Templates: text with expressions of the HTML Template Language in it (HTL specification 1.4, "Expression Language").
+#![tactic(auto)]
+
+mod fault;
+mod piece;
+mod quotes;
+mod render;
+mod scan;
+mod template;
+#[cfg(test)]
+mod tests;
+
+pub use fault::{RenderFault, TextFault};
+pub use piece::Piece;
+pub use template::Template;

@@ -1,0 +1,86 @@
+//! Plain text, and the place where an expression opens.
+
+ghost use Rattle.std.specs.Prelude.{◌≡◌, ◌<◌, ◌≤◌, ◌||◌, ◌==◌, ℕ, true, IfOk, slice_index, drop, length};
+ghost use Rattle.htl_text.specs.Template as spec;
+
+use sp_base::{Mem, TextBuf};
+use std::alloc::Global;
+
+#[tactic(auto, unfolding(crate::specs::Template::is_at))]
+fn is_at(c: u8, text: &[u8]) -> bool
+    ensures { result ≡ spec.is_at c text.now }
+{
+    match text {
+        [] => false,
+        [d, ..] => *d == c,
+    }
+}
+
+/// Whether `${` stands in front.
+#[tactic(auto, unfolding(crate::specs::Template::opens))]
+fn opens(text: &[u8]) -> bool
+    ensures { result ≡ spec.opens text.now }
+{
+    match text {
+        [] => false,
+        [c, rest @ ..] => *c == b'$' && is_at(b'{', rest),
+    }
+}
+
+/// Whether `\${` stands in front.
+#[tactic(auto, unfolding(crate::specs::Template::escapes))]
+fn escapes(text: &[u8]) -> bool
+    ensures { result ≡ spec.escapes text.now }
+{
+    match text {
+        [] => false,
+        [c, rest @ ..] => *c == b'\\' && opens(rest),
+    }
+}
+
+/// All but the first byte, which is a character of its own.
+pub fn tail(text: &str) -> &str
+    requires { slice_index text.now 0 < 128 }
+    ensures { result.now ≡ drop 1 text.now }
+{
+    if text.is_empty() {
+        return text;
+    }
+    text.split_at(1).1
+}
+
+/// How many bytes stand before the next `${` or `\${`.
+#[tactic(auto, unfolding(crate::specs::Template::plain_len))]
+fn plain_len(text: &[u8]) -> usize
+    ensures { result ≡ spec.plain_len text.now }
+{
+    let mut len = 0;
+    let mut rest = text;
+    while let [_, later @ ..] = rest {
+        if opens(rest) || escapes(rest) {
+            return len;
+        }
+        len += 1;
+        rest = later;
+    }
+    len
+}
+
+/// The plain text in front of the next expression, and the text from there on.
+pub fn plain(alloc: Global, text: &str) -> Mem<(TextBuf, &str)>
+    ensures pieces { IfOk result (λ d. (all : ℕ) → spec.written d.0 (spec.pieces all 0 d.1.now) ≡ spec.pieces all 0 text.now) }
+    ensures ends { IfOk result (λ d. (length d.1.now == 0) || spec.opens d.1.now ≡ true) }
+    ensures less { IfOk result (λ d. length d.1.now ≤ length text.now) }
+{
+    let mut plain = String::new(alloc);
+    let mut rest = text;
+    loop {
+        let (front, behind) = rest.split_at(plain_len(rest.as_bytes()));
+        plain.push_str(front)?;
+        if !escapes(behind.as_bytes()) {
+            return Ok((TextBuf::from(plain), behind));
+        }
+        plain.push_str("${")?;
+        rest = tail(tail(tail(behind)));
+    }
+}

@@ -1,0 +1,87 @@
+//! A template, and how it is read.
+
+ghost use Rattle.std.specs.Prelude.{◌≡◌, ◌≢◌, ◌<◌, ◌++◌, true, IfOk, IfErr, OnOk, Ok, Err, length};
+ghost use Rattle.htl_text.specs.Template as spec;
+ghost use Rattle.htl_text.specs.Template.{template_of};
+
+use crate::fault::TextFault;
+use crate::piece::Piece;
+use crate::quotes::closing;
+use crate::scan::{plain, tail};
+use htl_expr::{Expr, ExprFault};
+use sp_base::{Items, Mem, TextBuf};
+use std::alloc::Global;
+use std::marker::Model;
+
+/// Text with expressions in it. Contracts see its pieces.
+#[derive(Drop)]
+pub struct Template {
+    pub(crate) pieces: Items<Piece>,
+}
+
+impl Model for Template {
+    ghost use Rattle.std.specs.Prelude.{List};
+    ghost use Rattle.std.specs.Coded.{codes};
+    ghost use Rattle.htl_expr.specs.contracts.node.Node as node;
+    ghost use Rattle.htl_text.specs.declared.piece.Piece.{Piece};
+
+    ghost Value = { List Piece };
+
+    ghost coded = { Prim.hlevel (codes, node.the_row.coded) };
+
+    ghost view = { λ t. t.pieces };
+}
+
+/// The expression that opens in front, and the text behind it.
+#[tactic(auto, unfolding(crate::specs::Template::value_at))]
+fn value(alloc: Global, place: usize, text: &str) -> Result<(Expr, &str), TextFault>
+    requires { spec.opens text.now ≡ true }
+    ensures ok { IfOk result (λ d. spec.value_at place text.now ≡ Ok (d.0, d.1.now)) }
+    ensures err { IfErr result (λ f. f ≢ TextFault.NoMemory → spec.value_at place text.now ≡ Err f) }
+    ensures less { IfOk result (λ d. length d.1.now < length text.now) }
+{
+    let inside = tail(tail(text));
+    match closing(inside.as_bytes()) {
+        None => Err(TextFault::Unclosed(place)),
+        Some(len) => {
+            let (front, behind) = inside.split_at(len);
+            match Expr::read(alloc, front) {
+                Ok(e) => Ok((e, tail(behind))),
+                Err(ExprFault::NoMemory) => Err(TextFault::NoMemory),
+                Err(ExprFault::Unexpected(_)) => Err(TextFault::BadExpr(place)),
+                Err(ExprFault::TooDeep(_)) => Err(TextFault::BadExpr(place)),
+            }
+        }
+    }
+}
+
+fn push_plain(pieces: &mut Items<Piece>, text: TextBuf) -> Mem<()>
+    ensures { OnOk result (pieces.new ≡ pieces.old ++ spec.plain_pieces text) }
+{
+    if !text.text().is_empty() {
+        pieces.push(Piece::Plain(text))?;
+    }
+    Ok(())
+}
+
+impl Template {
+    /// Reads a template. Of several faults it answers the one that comes first in the text.
+    pub fn read(alloc: Global, text: &str) -> Result<Template, TextFault>
+        ensures ok { IfOk result (λ t. template_of text.now ≡ Ok t) }
+        ensures err { IfErr result (λ f. f ≢ TextFault.NoMemory → template_of text.now ≡ Err f) }
+    {
+        let mut pieces = Items::new(alloc);
+        let mut rest = text;
+        loop {
+            let (front, behind) = plain(alloc, rest)?;
+            push_plain(&mut pieces, front)?;
+            if behind.is_empty() {
+                return Ok(Template { pieces });
+            }
+            let place = text.len().saturating_sub(behind.len());
+            let (expression, after) = value(alloc, place, behind)?;
+            pieces.push(Piece::Value(expression))?;
+            rest = after;
+        }
+    }
+}

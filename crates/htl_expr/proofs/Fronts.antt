@@ -1,5 +1,5 @@
 -- Steps over the front of a text.
-use Rattle.std.proofs.Common.{◌≡◌, ℕ, zero, suc, ◌+◌, ◌<◌, ◌≤◌, List, [], ◌∷◌, drop, length, slice_index, refl, arith, rules}
+use Rattle.std.proofs.Common.{◌≡◌, ℕ, zero, suc, ◌+◌, ◌<◌, ◌≤◌, List, [], ◌∷◌, drop, length, slice_index, refl, arith}
 use Rattle.htl_expr.specs.declared.expression.Front.{Front}
 use Rattle.htl_expr.specs.Fault.{front_of, field_step}
 

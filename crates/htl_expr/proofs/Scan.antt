@@ -1,7 +1,7 @@
 -- Steps of the loops over tokens.
-use Rattle.std.proofs.Common.{◌≡◌, ◌<◌, ◌≤◌, ◌+◌, ◌-◌, ℕ, zero, suc, Bool, true, false, cond, ◌||◌, ◌&&◌, eqb, List, [], ◌∷◌, ◌++◌, take, drop, length, slice_index, refl, ap, sym, subst, ◌∙◌, rules, arith, drop-drop}
+use Rattle.std.proofs.Common.{◌≡◌, ◌<◌, ◌≤◌, ◌+◌, ℕ, suc, Bool, true, false, eqb, List, [], ◌∷◌, drop, length, slice_index, refl, rules, arith, drop-drop}
 use Rattle.std.proofs.lemmas.Bool.Decides.{nat_tests}
-use Rattle.htl_expr.specs.Tokens.{begins, is_at, is_blank, is_digit, is_letter, is_first, is_word, is_quote, skip, goes_on, run_len, literal, AreAscii}
+use Rattle.htl_expr.specs.Tokens.{begins, is_at, is_blank, is_digit, is_letter, is_word, skip, goes_on, run_len, AreAscii}
 use Rattle.htl_expr.specs.declared.tokens.NameKind.{NameKind}
 use Rattle.htl_expr.specs.declared.tokens.NameKind.TheVariants.{Name, Field}
 

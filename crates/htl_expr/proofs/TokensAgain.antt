@@ -1,15 +1,13 @@
 -- A token of the grammar is read as that token.
-use Rattle.std.proofs.Common.{◌≡◌, ℕ, ℤ, zero, suc, ◌+◌, ◌*◌, ◌-◌, ◌<◌, ◌≤◌, Bool, true, false, cond, ◌||◌, ◌&&◌, eqb, leb, List, [], ◌∷◌, ◌++◌, take, drop, length, Option, Some, None, Result, Ok, Err, refl, ap, sym, subst, ◌∙◌, ◌⊎◌, inl, inr, rules, arith}
+use Rattle.std.proofs.Common.{◌≡◌, ℕ, ℤ, suc, ◌<◌, ◌≤◌, Bool, true, false, cond, ◌||◌, eqb, List, [], ◌∷◌, ◌++◌, drop, length, Ok, refl, ap, ◌∙◌, rules, arith}
 use Rattle.std.proofs.lemmas.List.{take_at, drop_at, length-append}
 use Rattle.std.proofs.lemmas.Bool.Decides.{nat_tests}
-use Rattle.htl_expr.specs.declared.stop.Stop.{Stop}
 use Rattle.htl_expr.specs.declared.tokens.NameKind.{NameKind}
 use Rattle.htl_expr.specs.declared.node.Comparison.{Comparison}
-use Rattle.htl_expr.specs.Tokens.{Outcome, ◌>>=◌, done, skip, is_at, begins, is_blank, expect, second, run, run_len, goes_on, name, string, string_from, escaped, unescape, is_digit, is_letter, is_first, is_word, is_quote, digit_fits, digits_from, digits, number, limit, signed}
+use Rattle.htl_expr.specs.Tokens.{skip, is_at, begins, is_blank, expect, second, run_len, goes_on, name, string, string_from, is_digit, is_first, is_quote, digits_from, digits, number, limit, signed}
 use Rattle.htl_expr.specs.Read.{comparison, compares, or_equal}
 use Rattle.htl_expr.specs.Grammar.{Byte, Operator, Bare, Named, String, Quoted, Passes, Digits, Number, Sign, Compares}
 use Rattle.htl_expr.specs.Grammar as g
-use Rattle.htl_expr.proofs.Tools.{bind_ok, chosen, ok_is}
 use Rattle.htl_expr.proofs.TokensRead.{eqb_is}
 
 pub eqb_same : (a : ℕ) → eqb a a ≡ true

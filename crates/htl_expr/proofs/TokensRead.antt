@@ -1,11 +1,10 @@
 -- What is read of a token is that token.
-use Rattle.std.proofs.Common.{◌≡◌, ℕ, ℤ, zero, suc, ◌+◌, ◌*◌, ◌-◌, Bool, true, false, cond, ◌||◌, ◌&&◌, eqb, List, [], ◌∷◌, ◌++◌, take, drop, length, Option, Some, None, Result, Ok, Err, refl, ap, sym, subst, ◌∙◌, ◌⊎◌, inl, inr, rules}
+use Rattle.std.proofs.Common.{◌≡◌, ℕ, ℤ, suc, ◌+◌, ◌*◌, ◌-◌, Bool, true, false, cond, eqb, List, [], ◌∷◌, ◌++◌, take, drop, Option, Some, None, Ok, refl, ap, sym, subst, ◌∙◌, inl, inr, rules}
 use Rattle.std.proofs.lemmas.List.{take-append-drop}
-use Rattle.htl_expr.specs.declared.stop.Stop.{Stop}
 use Rattle.htl_expr.specs.declared.tokens.NameKind.{NameKind}
 use Rattle.htl_expr.specs.declared.node.Comparison.{Comparison}
 use Rattle.htl_expr.specs.declared.node.Comparison.TheVariants.{Equal, NotEqual, Below, Above, AtMost, AtLeast}
-use Rattle.htl_expr.specs.Tokens.{Outcome, ◌>>=◌, done, skip, is_at, begins, expect, second, run, run_len, goes_on, name, string, string_from, escaped, unescape, in_front, is_digit, is_first, is_quote, digit_fits, digits_from, digits, number, limit, signed}
+use Rattle.htl_expr.specs.Tokens.{skip, is_at, begins, expect, second, run_len, goes_on, name, string, string_from, escaped, unescape, is_digit, is_first, is_quote, digit_fits, digits_from, digits, number, limit}
 use Rattle.htl_expr.specs.Read.{comparison, compares, or_equal}
 use Rattle.htl_expr.specs.Grammar.{Byte, Operator, Bare, Named, String, Quoted, Passes, Digits, Number, Sign, Compares}
 use Rattle.htl_expr.specs.Grammar as g
@@ -145,10 +144,10 @@ number_sound s p e =
 abbrev IsCompared : List ℕ → Comparison × List ℕ → Type 0
 IsCompared s q = Compares s q.0 q.1
 
-or_equal_sound : (s : List ℕ) (c : ℕ) (bare equal : Comparison) (p : Comparison × List ℕ) → is_at c s ≡ true → ((r : List ℕ) → Operator c 61 s r → Compares s equal r) → ((r : List ℕ) → Bare c s r → Compares s bare r)
-    → or_equal bare equal s ≡ p → IsCompared s p
+or_equal_sound : (s : List ℕ) (c : ℕ) (bare wide : Comparison) (p : Comparison × List ℕ) → is_at c s ≡ true → ((r : List ℕ) → Operator c 61 s r → Compares s wide r) → ((r : List ℕ) → Bare c s r → Compares s bare r)
+    → or_equal bare wide s ≡ p → IsCompared s p
 unfolding or_equal
-or_equal_sound s c bare equal p at with_equal alone e =
+or_equal_sound s c bare wide p at with_equal alone e =
     elim (chosen (is_at 61 (drop 1 s)) _ _ _ e) [
       | inl h ↦
           subst (IsCompared s) h.1

@@ -1,5 +1,5 @@
 -- One turn of each loop of the reader.
-use Rattle.std.proofs.Common.{◌≡◌, ◌≢◌, ℕ, zero, suc, ◌+◌, ◌-◌, ◌<◌, Bool, true, false, ◌||◌, List, [], ◌∷◌, ◌++◌, drop, Ok, refl, ap, sym, ◌∙◌, arith, sub-one}
+use Rattle.std.proofs.Common.{◌≡◌, ◌≢◌, ℕ, zero, suc, ◌+◌, ◌-◌, ◌<◌, true, List, [], ◌∷◌, ◌++◌, drop, Ok, refl, arith, sub-one}
 use Rattle.htl_expr.specs.declared.node.Node.{Node}
 use Rattle.htl_expr.specs.declared.reader.Inside.{Inside}
 use Rattle.htl_expr.specs.Tokens.{Outcome, is_at, skip}

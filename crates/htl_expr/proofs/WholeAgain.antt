@@ -1,11 +1,10 @@
 -- An expression of the grammar is what its text is read as.
-use Rattle.std.proofs.Common.{◌≡◌, ℕ, zero, suc, Bool, true, false, cond, ◌||◌, ◌&&◌, eqb, List, [], ◌∷◌, ◌++◌, drop, length, slice_index, Option, Some, None, is_none, Result, Ok, Err, codes, refl, ap, sym, subst, ◌∙◌, rules}
-use Rattle.htl_expr.specs.declared.stop.Stop.{Stop}
+use Rattle.std.proofs.Common.{◌≡◌, ℕ, true, false, ◌||◌, eqb, List, [], ◌∷◌, ◌++◌, length, Option, Some, None, Ok, codes, refl, sym, rules}
 use Rattle.htl_expr.specs.declared.node.Node.{Node}
 use Rattle.htl_expr.specs.declared.expression.Context.{Context}
 use Rattle.htl_expr.specs.declared.expression.Context.TheVariants.{Text, Unsafe}
 use Rattle.htl_expr.specs.declared.expression.Expr.{Expr}
-use Rattle.htl_expr.specs.Tokens.{Outcome, ◌>>=◌, skip, is_at, begins, is_quote, expect, literal, string}
+use Rattle.htl_expr.specs.Tokens.{skip, is_at, begins, expect, literal}
 use Rattle.htl_expr.specs.Read as spec
 use Rattle.htl_expr.specs.Grammar.{Byte, Literal, ContextString, context_text, Join, InContext, Options, Tree, Whole, Reads, Choice}
 use Rattle.htl_expr.specs.Grammar as g

@@ -1,5 +1,5 @@
 -- Reading an expression from left to right, with the first fault that is met.
-use Rattle.std.specs.Prelude.{ℕ, zero, suc, Bool, true, false, not, nat_eq, if◌then◌else◌, ◌==◌, ◌||◌, ◌&&◌, ◌+◌, ◌-◌, List, [], ◌∷◌, ◌++◌, length, take, drop, Option, Some, None, is_none, Result, Ok, Err, codes, slice_index}
+use Rattle.std.specs.Prelude.{ℕ, zero, suc, Bool, true, false, nat_eq, if◌then◌else◌, ◌==◌, ◌||◌, ◌&&◌, List, [], ◌∷◌, ◌++◌, length, drop, Option, Some, None, is_none, Result, Ok, Err, codes, slice_index}
 use Rattle.std.specs.Cmp.Lexicographic.{pointwise}
 use Rattle.htl_expr.specs.declared.stop.Stop.{Stop}
 use Rattle.htl_expr.specs.declared.stop.Stop.TheVariants.{Unexpected, TooDeep}
@@ -13,7 +13,7 @@ use Rattle.htl_expr.specs.declared.expression.Expr.{Expr}
 use Rattle.htl_expr.specs.declared.tokens.NameKind.TheVariants.{Name, Field}
 use Rattle.htl_expr.specs.declared.reader.Inside.{Inside}
 use Rattle.htl_expr.specs.declared.reader.Inside.TheVariants.{Choice, Operand, Items}
-use Rattle.htl_expr.specs.Tokens.{Outcome, ◌>>=◌, skip, is_at, begins, is_digit, is_first, is_quote, name, expect, second, literal, string, number}
+use Rattle.htl_expr.specs.Tokens.{Outcome, ◌>>=◌, skip, is_at, begins, is_digit, is_quote, name, expect, second, literal, string, number}
 
 -- without accesses there is no node for them
 abbrev pub accessed : Node → List (List ℕ) → Node

@@ -1,5 +1,5 @@
 -- The tokens at the front of a text. A token is read with the blanks behind it (HTML Template Language 1.4, "Expression Language").
-use Rattle.std.specs.Prelude.{◌≡◌, ◌<◌, ℕ, ℤ, pos, neg_ℤ, zero, suc, ◌+◌, ◌*◌, ◌-◌, Bool, true, false, not, ◌||◌, ◌&&◌, if◌then◌else◌, ◌==◌, nat_le, List, [], ◌∷◌, ◌++◌, length, take, drop, Option, Some, None, Result, Ok, Err, slice_index}
+use Rattle.std.specs.Prelude.{◌≡◌, ◌<◌, ℕ, ℤ, pos, neg_ℤ, suc, ◌+◌, ◌*◌, ◌-◌, Bool, true, false, ◌||◌, ◌&&◌, if◌then◌else◌, ◌==◌, nat_le, List, [], ◌∷◌, ◌++◌, length, take, drop, Option, Some, None, Result, Ok, Err, slice_index}
 use Rattle.htl_expr.specs.declared.stop.Stop.{Stop}
 use Rattle.htl_expr.specs.declared.stop.Stop.TheVariants.{Memory, Unexpected, TooDeep}
 use Rattle.htl_expr.specs.declared.tokens.NameKind.{NameKind}

@@ -8,6 +8,8 @@ mod numbers;
 mod options;
 mod out;
 mod print;
+#[cfg(test)]
+mod read_tests;
 mod reader;
 mod scope;
 mod stop;

@@ -1,5 +1,5 @@
-use Rattle.std.proofs.Common.{◌∙◌, sym, rules, List, ℕ}
-use Rattle.htl_expr.proofs.Decimal.{Next, next_some}
+use Rattle.std.proofs.Common.{◌∙◌, sym, rules}
+use Rattle.htl_expr.proofs.Decimal.{next_some}
 use Rattle.htl_expr.proofs.numbers.digits_from.Goals as goal
 
 pub tail-rest-requires : goal.tail-rest-requires

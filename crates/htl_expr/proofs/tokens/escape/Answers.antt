@@ -1,4 +1,4 @@
-use Rattle.std.proofs.Common.{◌∙◌, sym, ap, slice_index, List, ℕ}
+use Rattle.std.proofs.Common.{◌∙◌, sym}
 use Rattle.htl_expr.proofs.Strings.{unescape_ascii}
 use Rattle.htl_expr.proofs.tokens.escape.Goals as goal
 

@@ -1,4 +1,4 @@
-use Rattle.std.proofs.Common.{rules, ◌∙◌, sym}
+use Rattle.std.proofs.Common.{◌∙◌, sym}
 use Rattle.htl_expr.proofs.Scan.{ascii_first}
 use Rattle.htl_expr.proofs.tokens.literal.Goals as goal
 

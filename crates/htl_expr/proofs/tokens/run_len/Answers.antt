@@ -1,4 +1,4 @@
-use Rattle.std.proofs.Common.{arith, rules, ◌∙◌, sym, ap, subst, IsUtf8, List, ℕ}
+use Rattle.std.proofs.Common.{arith, ◌∙◌, sym, ap, subst, IsUtf8, List, ℕ}
 use Rattle.std.proofs.lemmas.Str.{IsCharBoundary-from_drop}
 use Rattle.htl_expr.proofs.Scan.{run_more, name_less, drop_more}
 use Rattle.htl_expr.proofs.tokens.run_len.Goals as goal

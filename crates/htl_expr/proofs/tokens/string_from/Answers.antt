@@ -1,4 +1,4 @@
-use Rattle.std.proofs.Common.{◌∙◌, sym, ap, rules, string_bytes, List, ℕ, ◌++◌, ◌∷◌, []}
+use Rattle.std.proofs.Common.{◌∙◌, sym, ap, rules, string_bytes, List, ℕ, ◌++◌}
 use Rattle.htl_expr.proofs.Scan.{front_ascii}
 use Rattle.htl_expr.proofs.Strings.{plain_boundary, closes_is, stops_is, escape_fails, escape_is, escape_less}
 use Rattle.htl_expr.proofs.tokens.string_from.Goals as goal

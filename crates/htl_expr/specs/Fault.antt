@@ -1,49 +1,32 @@
 -- What a text is read as, and the place where it leaves the grammar.
-use Rattle.std.specs.Prelude.{◌≡◌, ℕ, ◌+◌, ◌-◌, Bool, true, false, ◌&&◌, ◌==◌, if◌then◌else◌, List, [], ◌∷◌, length, take, drop, Result, Ok, Err}
+use Rattle.std.specs.Prelude.{◌≡◌, ℕ, ◌+◌, ◌-◌, ◌≤◌, Bool, true, false, nat_le, ◌&&◌, ◌==◌, if◌then◌else◌, List, [], ◌∷◌, ◌++◌, length, take, drop, Result, Ok, Err}
 use Rattle.htl_expr.specs.declared.stop.Stop.{Stop}
 use Rattle.htl_expr.specs.declared.stop.Stop.TheVariants as stop
-use Rattle.htl_expr.specs.declared.expression.Front.{Front}
-use Rattle.htl_expr.specs.declared.expression.Front.TheVariants as f
 use Rattle.htl_expr.specs.declared.expression.Expr.{Expr}
 use Rattle.htl_expr.specs.declared.expression.ExprFault.{ExprFault}
 use Rattle.htl_expr.specs.declared.expression.ExprFault.TheVariants.{NoMemory, Unexpected, TooDeep}
-use Rattle.htl_expr.specs.Tokens.{is_at, is_blank, is_first, is_letter, is_word}
+use Rattle.htl_expr.specs.Tokens.{is_at}
 use Rattle.htl_expr.specs.Read.{read}
+use Rattle.htl_expr.specs.Grammar.{Whole}
 
-abbrev pub behind_dot : ℕ → Front
-behind_dot c = if is_blank c then f.Dot else (if is_first c then f.Field else f.Other)
+-- a colon and a letter, with which a field's name goes on
+abbrev pub colon_letter : List ℕ
+colon_letter = 58 ∷ 98 ∷ []
 
-abbrev pub behind_name : ℕ → Front
-behind_name c = if is_word c then f.Field else (if c == 58 then f.Colon else f.Other)
+-- whether reading passes the colon, where a colon and a letter stand at the end
+abbrev pub passes : Result Expr Stop → Bool
+passes (Ok e) = true
+passes (Err stop.Memory) = false
+passes (Err (stop.Unexpected left)) = nat_le left 1
+passes (Err (stop.TooDeep left)) = false
 
-abbrev pub behind_colon : ℕ → Front
-behind_colon c = if is_letter c then f.Field else f.Other
+-- whether a colon behind a text may belong to a field's name
+abbrev pub takes_colon : List ℕ → Bool
+takes_colon t = passes (read (t ++ colon_letter))
 
-abbrev pub step_from : Front → ℕ → Front
-step_from f.Other c = f.Other
-step_from f.Dot c = behind_dot c
-step_from f.Field c = behind_name c
-step_from f.Colon c = behind_colon c
-
--- what stands in front with one byte more
-abbrev pub field_step : Front → ℕ → Front
-field_step front c = if c == 46 then f.Dot else step_from front c
-
-unfoldable pub front_of : Front → List ℕ → Front
-front_of front [] = front
-front_of front (c ∷ t) = front_of (field_step front c) t
-
-abbrev pub is_field : Front → Bool
-is_field f.Field = true
-is_field _ = false
-
--- whether a text ends with a field's name
-abbrev pub ends_field : List ℕ → Bool
-ends_field t = is_field (front_of f.Other t)
-
--- a colon right behind a field's name may belong to it: then the byte behind the colon is the one that doesn't fit
+-- where a colon may belong to a field's name, the byte behind it is the one that doesn't fit
 abbrev pub place_of : List ℕ → ℕ → ℕ
-place_of t place = if is_at 58 (drop place t) && ends_field (take place t) then place + 1 else place
+place_of t place = if is_at 58 (drop place t) && takes_colon (take place t) then place + 1 else place
 
 -- the answer of the reading, with its place counted from the front
 abbrev pub placed : List ℕ → Result Expr Stop → Result Expr ExprFault
@@ -62,3 +45,33 @@ IsReadAs e (Ok found) = found ≡ e
 IsReadAs e (Err NoMemory) = Unit {0}
 IsReadAs e (Err (Unexpected place)) = ⊥
 IsReadAs e (Err (TooDeep place)) = ⊥
+
+-- ---- the place of a fault: the least byte with which no text of the grammar goes on
+
+-- both are empty, or begin with the same byte
+abbrev pub SameHead : List ℕ → List ℕ → Type 0
+SameHead [] [] = Unit {0}
+SameHead [] (d ∷ z) = ⊥
+SameHead (c ∷ r) [] = ⊥
+SameHead (c ∷ r) (d ∷ z) = c ≡ d
+
+-- the texts have the same bytes up to this one, and this one too, or both end here
+pub record Agree (place : ℕ) (s t : List ℕ) : Type 0 where
+  pub front : take place t ≡ take place s
+  pub here : SameHead (drop place s) (drop place t)
+
+-- no text that is the same up to and with this byte is an expression
+pub record HasNone (s : List ℕ) (place : ℕ) : Type 0 where
+  pub within : place ≤ length s
+  pub none : (t : List ℕ) (e : Expr) → Agree place s t → Whole t e → ⊥
+
+-- what stands before this byte is the front of an expression
+pub record MayGoOn (s : List ℕ) (place : ℕ) : Type 0 where
+  pub more : List ℕ
+  pub tree : Expr
+  pub whole : Whole (take place s ++ more) tree
+
+abbrev pub IsFault : ExprFault → List ℕ → Type 0
+IsFault NoMemory s = Unit {0}
+IsFault (Unexpected place) s = MayGoOn s place × HasNone s place
+IsFault (TooDeep place) s = MayGoOn s place × HasNone s place

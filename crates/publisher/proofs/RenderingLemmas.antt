@@ -1,5 +1,5 @@
 -- What every answer has, and what an answer depends on.
-use Rattle.std.proofs.Common.{◌≡◌, ◌≢◌, ◌≤◌, ℕ, Bool, true, false, cond, List, Option, Some, None, length, nat_le, refl, sym, ◌∙◌, ap, arith}
+use Rattle.std.proofs.Common.{◌≡◌, ◌≢◌, ◌≤◌, ℕ, Bool, true, false, cond, List, Option, Some, None, Result, Ok, Err, length, nat_le, refl, sym, ◌∙◌, ap, arith}
 use Rattle.std.proofs.lemmas.Bool.Decides.{nat_tests}
 use Rattle.sp_base.specs.Paths.{text_of}
 use Rattle.sp_base.specs.declared.answer.Answer.{Answer}
@@ -10,6 +10,9 @@ use Rattle.resource_tree.specs.Content.{Content}
 use Rattle.resource_tree.specs.Seen.{Seen, res_at}
 use Rattle.url_split.specs.declared.decompose.Parts.{Parts}
 use Rattle.url_split.specs.Split.{split_of}
+use Rattle.htl_text.specs.declared.fault.TextFault.{TextFault}
+use Rattle.htl_text.specs.declared.piece.Piece.{Piece}
+use Rattle.htl_text.specs.Template.{template_of, text_of as written_by}
 use Rattle.get_servlet.specs.declared.answer.Depth.{Depth}
 use Rattle.get_servlet.specs.declared.answer.JsonAnswer.{JsonAnswer}
 use Rattle.get_servlet.specs.declared.answer.JsonAnswer.TheVariants.{Whole, Over}
@@ -18,7 +21,7 @@ use Rattle.get_servlet.specs.Answers.{levels_of, json_answer}
 use Rattle.get_servlet.specs.Streams.{stream_of}
 use Rattle.publisher.specs.Errors.{answer_of, error_answer}
 use Rattle.publisher.specs.Depths.{depth_of}
-use Rattle.publisher.specs.Rendering.{is_read, mark_of, page_of, json_page, json_at, file_page, is_json, is_bare, default_answer, script_for, answer_by, resource_answer, found_answer, has_node, rendered}
+use Rattle.publisher.specs.Rendering.{is_read, mark_of, page_of, json_page, json_at, file_page, is_json, is_bare, default_answer, script_for, scope_of, script_page, answer_by, resource_answer, found_answer, has_node, rendered}
 
 -- ---- a page isn't too long
 
@@ -60,8 +63,12 @@ default_fits seen parts res =
     either (is_json parts.extension) _ _ (depth_fits seen res (depth_of parts.selectors))
     (either (is_bare parts) _ _ (file_fits res (stream_of seen res)) missing_fits)
 
+script_fits : (res : Res) (read : Result (List Piece) TextFault) → Fits (script_page res read)
+script_fits res (Ok pieces) = page_fits _ (mark_of res) (written_by (scope_of res) pieces)
+script_fits res (Err fault) = error_fits 500 (λ h. absurd (omega (arith, h)))
+
 by_fits : (text : Option (List ℕ)) (seen : Seen) (parts : Parts) (res : Res) → Fits (answer_by text seen parts res)
-by_fits (Some text) seen parts res = page_fits _ (mark_of res) text
+by_fits (Some text) seen parts res = script_fits res (template_of text)
 by_fits None seen parts res = default_fits seen parts res
 
 resource_fits : (tree : Content) (parts : Parts) (res : Option Res) → Fits (resource_answer tree parts res)

@@ -1,5 +1,5 @@
 -- What the publisher answers: the first of these that applies.
-use Rattle.std.specs.Prelude.{◌==◌, ◌&&◌, ◌||◌, ℕ, Bool, nat_eq, nat_le, if◌then◌else◌, is_some, List, Option, Some, None, option_and_then, codes, length}
+use Rattle.std.specs.Prelude.{◌==◌, ◌&&◌, ◌||◌, ℕ, Bool, nat_eq, nat_le, if◌then◌else◌, is_some, List, Option, Some, None, option_and_then, Result, Ok, Err, codes, length}
 use Rattle.std.specs.Cmp.Lexicographic.{pointwise}
 use Rattle.sp_base.specs.Paths.{text_of}
 use Rattle.sp_base.specs.Properties.{text_in}
@@ -8,13 +8,17 @@ use Rattle.sp_base.specs.declared.answer.Ask.{Ask}
 use Rattle.sp_base.specs.declared.answer.Mark.{Mark}
 use Rattle.sp_base.specs.declared.answer.Mark.TheVariants.{Plain, NoCache, NoStore, MustRevalidate}
 use Rattle.resource_tree.specs.declared.look.Res.{Res}
-use Rattle.resource_tree.specs.Content.{Content, node_at}
+use Rattle.resource_tree.specs.Content.{Content, node_at, name_of}
 use Rattle.resource_tree.specs.Seen.{Seen, res_at}
 use Rattle.url_split.specs.declared.decompose.Parts.{Parts}
 use Rattle.url_split.specs.Split.{split_of}
-use Rattle.type_chain.specs.Chain.{chain_of}
+use Rattle.type_chain.specs.Chain.{chain_of, type_text}
 use Rattle.script_rank.specs.Ranking.{script_text}
 use Rattle.script_rank.specs.Search.{found as first_script}
+use Rattle.htl_expr.specs.declared.scope.Scope.{Scope}
+use Rattle.htl_text.specs.declared.fault.TextFault.{TextFault}
+use Rattle.htl_text.specs.declared.piece.Piece.{Piece}
+use Rattle.htl_text.specs.Template.{template_of, text_of as written_by}
 use Rattle.get_servlet.specs.declared.answer.Depth.{Depth}
 use Rattle.get_servlet.specs.declared.answer.JsonAnswer.{JsonAnswer}
 use Rattle.get_servlet.specs.declared.answer.JsonAnswer.TheVariants.{Whole, Over}
@@ -84,9 +88,18 @@ script_for tree parts res = option_and_then (script_text tree) (first_script tre
 abbrev pub html_kind : List ℕ
 html_kind = codes "text/html;charset=utf-8"
 
--- the answer of a resource: the script's text as it is, or without a script that of the default GET servlet
+-- what the expressions of a script are evaluated for: a resource's properties, its path, its name and its type
+abbrev pub scope_of : Res → Scope
+scope_of res = record { props = res.props; path = text_of res.path; name = name_of res.path; kind = type_text res.props }
+
+-- what a script's template writes for a resource; a text that is no template is an error
+abbrev pub script_page : Res → Result (List Piece) TextFault → Answer
+script_page res (Ok pieces) = page_of html_kind (mark_of res) (written_by (scope_of res) pieces)
+script_page res (Err fault) = error_answer 500
+
+-- the answer of a resource: what the script's template writes, or without a script the answer of the default GET servlet
 abbrev pub answer_by : Option (List ℕ) → Seen → Parts → Res → Answer
-answer_by (Some text) seen parts res = page_of html_kind (mark_of res) text
+answer_by (Some text) seen parts res = script_page res (template_of text)
 answer_by None seen parts res = default_answer seen parts res
 
 abbrev pub resource_answer : Content → Parts → Option Res → Answer

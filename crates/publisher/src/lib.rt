@@ -7,6 +7,7 @@ mod errors;
 mod laws;
 mod methods;
 mod pages;
+mod scripts;
 mod serving;
 #[cfg(test)]
 mod tests;

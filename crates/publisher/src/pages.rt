@@ -1,30 +1,27 @@
 // The answers of a resource.
-ghost use Rattle.std.specs.Prelude.{◌≡◌, Some, IfOk, option_copied};
+ghost use Rattle.std.specs.Prelude.{◌≡◌, Some, IfOk};
 ghost use Rattle.get_servlet.specs.Streams.{stream_of};
 ghost use Rattle.publisher.specs.Depths.{depth_of};
-ghost use Rattle.publisher.specs.Rendering.{page_of, json_page, json_at, file_page, is_bare, is_json, default_answer, resource_answer, script_for};
+ghost use Rattle.publisher.specs.Rendering.{page_of, json_page, json_at, file_page, is_bare, default_answer, resource_answer};
 
 use crate::choices::choices_text;
 use crate::depths::depth_of;
 use crate::errors::{answer_of, error_answer};
 use crate::methods::mark_of;
+use crate::scripts::{script_for, script_page};
 use get_servlet::{JsonAnswer, Stream, json_of, stream_of};
 use resource_tree::{Look, Res, Tree};
-use script_rank::{first_script, script_text};
 use sp_base::{Answer, ByteBuf, Mark, Mem, TextBuf};
 use std::alloc::Global;
-use type_chain::chain;
 use url_split::Parts;
 
 /// The most bytes of a representation.
 const MOST_BYTES: usize = 4_194_304;
 
-const HTML_KIND: &str = "text/html;charset=utf-8";
-
 const JSON_KIND: &str = "application/json;charset=utf-8";
 
-// A representation, or an error where it is too long.
-fn page_of(alloc: Global, kind: &str, mark: Mark, body: TextBuf) -> Mem<Answer>
+/// A representation, or an error where it is too long.
+pub(crate) fn page_of(alloc: Global, kind: &str, mark: Mark, body: TextBuf) -> Mem<Answer>
     ensures { IfOk result (λ a. a ≡ page_of kind.now mark body) }
 {
     if body.text().len() > MOST_BYTES {
@@ -87,29 +84,12 @@ fn default_answer<L: Look>(alloc: Global, look: &L, parts: &Parts, res: &Res) ->
     error_answer(alloc, 404)
 }
 
-// The text of the script that ranks first for a resource.
-#[tactic(auto, unfolding(crate::specs::Rendering::script_for))]
-fn script_for<'a>(
-    alloc: Global,
-    tree: &'a Tree,
-    parts: &Parts,
-    res: &Res,
-) -> Mem<Option<&'a TextBuf>>
-    ensures { IfOk result (λ o. option_copied o ≡ script_for tree.entry.now parts.now res.now) }
+/// The answer of a resource that the parts of a URL name: what its first script writes, or what the default GET servlet answers.
+pub(crate) fn resource_answer(alloc: Global, tree: &Tree, parts: &Parts, res: Res) -> Mem<Answer>
+    ensures { IfOk result (λ a. a ≡ resource_answer tree.now parts.now (Some res)) }
 {
-    let types = chain(alloc, tree, res)?;
-    match first_script(alloc, tree, &types, parts)? {
-        Some(script) => script_text(alloc, tree, &script),
-        None => Ok(None),
-    }
-}
-
-/// The answer of a resource that the parts of a URL name: its first script's text, or what the default GET servlet answers.
-pub(crate) fn resource_answer(alloc: Global, tree: &Tree, parts: &Parts, res: &Res) -> Mem<Answer>
-    ensures { IfOk result (λ a. a ≡ resource_answer tree.now parts.now (Some res.now)) }
-{
-    match script_for(alloc, tree, parts, res)? {
-        Some(text) => page_of(alloc, HTML_KIND, mark_of(res), text.duplicate(alloc)?),
-        None => default_answer(alloc, tree, parts, res),
+    match script_for(alloc, tree, parts, &res)? {
+        Some(text) => script_page(alloc, text.text(), res),
+        None => default_answer(alloc, tree, parts, &res),
     }
 }

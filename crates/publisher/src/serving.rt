@@ -68,7 +68,7 @@ impl Publisher {
         ensures { IfOk result (λ a. a ≡ resource_answer self.now parts.now (res_at self.now parts.now.path)) }
     {
         match self.tree.res(alloc, &parts.path)? {
-            Some(res) => resource_answer(alloc, &self.tree, parts, &res),
+            Some(res) => resource_answer(alloc, &self.tree, parts, res),
             None => error_answer(alloc, 404),
         }
     }

@@ -218,3 +218,66 @@ fn errors_are_a_line(rt: HostRuntime) -> Result<(), Failed> {
     }
     Ok(())
 }
+
+// A page `/p` with two properties, whose script is this text.
+fn scripted_site(alloc: Global, script: TextBuf) -> Result<Publisher, Failed> {
+    let mut tree = Tree::new(alloc)?;
+    for path in [
+        "/p",
+        "/apps",
+        "/apps/t",
+        "/apps/t/GET.html",
+        "/apps/t/GET.html/jcr:content",
+    ] {
+        tree.create(alloc, &at(alloc, path)?)?;
+    }
+    let page = at(alloc, "/p")?;
+    tree.set(alloc, &page, "sling:resourceType", text(alloc, "t")?)?;
+    tree.set(alloc, &page, "title", text(alloc, "A & B")?)?;
+    tree.set(alloc, &page, "sp:mark", text(alloc, "no-cache")?)?;
+    let content = at(alloc, "/apps/t/GET.html/jcr:content")?;
+    tree.set(alloc, &content, "jcr:data", Value::Text(script))?;
+    Ok(Publisher::new(tree))
+}
+
+#[test]
+fn scripts_are_templates(rt: HostRuntime) -> Result<(), Failed> {
+    let alloc = rt.alloc();
+    let failed = "500 text/plain;charset=utf-8 - 500 Internal Server Error\n";
+    for (method, script, want) in [
+        ("GET", "", "200 text/html;charset=utf-8 no-cache "),
+        (
+            "GET",
+            "<h1>${properties.title}</h1>",
+            "200 text/html;charset=utf-8 no-cache <h1>A &amp; B</h1>",
+        ),
+        (
+            "HEAD",
+            "${resource.path} ${resource.name} ${resource.resourceType}",
+            "200 text/html;charset=utf-8 no-cache /p p t",
+        ),
+        ("GET", "${properties.title", failed),
+        ("HEAD", "a${1+}", failed),
+    ] {
+        let mut site = scripted_site(alloc, TextBuf::of(alloc, script)?)?;
+        let got = asked(alloc, &mut site, method, "/p.html")?;
+        assert_eq!(rt; got.as_str(), want, "{script}");
+    }
+    Ok(())
+}
+
+#[test]
+fn pages_have_4194304_bytes_at_most(rt: HostRuntime) -> Result<(), Failed> {
+    let alloc = rt.alloc();
+    for (spare, status) in [(0usize, "200"), (1, "500")] {
+        // The expression writes 9 bytes: `A &amp; B`.
+        let mut script = String::from_str(alloc, "${properties.title}")?;
+        for _byte in 0..4_194_295 + spare {
+            script.push('x')?;
+        }
+        let mut site = scripted_site(alloc, TextBuf::from(script))?;
+        let got = asked(alloc, &mut site, "GET", "/p.html")?;
+        assert!(rt; got.starts_with(status));
+    }
+    Ok(())
+}

@@ -92,3 +92,24 @@ fn scripts_come_before_the_default_servlet(rt: HostRuntime) -> Result<(), Fail> 
     }
     Ok(())
 }
+
+#[test]
+fn scripts_are_templates(rt: HostRuntime) -> Result<(), Fail> {
+    let content: &[u8] =
+        b"{\"content\":{\"en\":{\"sling:resourceType\":\"s/page\",\"title\":\"A & B\"}},\"apps\":{\"s\":{\"page\":{\"html.html\":{\"jcr:content\":{\"jcr:data\":\"<h1>${properties.title}</h1>\"}},\"bad.html\":{\"jcr:content\":{\"jcr:data\":\"<h1>${properties.title</h1>\"}}}}}}";
+    let cases: [(&[u8], &str); 2] = [
+        (
+            b"/content/en.html",
+            "@ 1\nanswer 200 \"text/html;charset=utf-8\" - - \"<h1>A &amp; B</h1>\"\n",
+        ),
+        (
+            b"/content/en.bad.html",
+            "@ 1\nanswer 500 \"text/plain;charset=utf-8\" - - \"500 Internal Server Error\\n\"\n",
+        ),
+    ];
+    for (target, wanted) in cases {
+        let written = answered(rt.alloc(), content, target)?;
+        assert_eq!(rt; written.as_slice(), wanted.as_bytes(), "{target:?}");
+    }
+    Ok(())
+}

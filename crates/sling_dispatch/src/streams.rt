@@ -52,7 +52,7 @@ pub fn read_whole<S: Source>(
     Ok(text)
 }
 
-// Writes all of the bytes. After a fault a front of them was written.
+// Writes all of the bytes. After a fault a prefix of them was written.
 pub fn write_all<K: Sink>(sink: &mut K, bytes: &[u8]) -> Result<(), SinkFault>
     ensures ok { OnOk result (K.held sink.new ≡ added (K.held sink.old) bytes.now) }
     ensures err { OnErr result ((n : ℕ) × (K.held sink.new ≡ added (K.held sink.old) (take n bytes.now))) }

@@ -119,73 +119,82 @@ fn refuses_contents(rt: HostRuntime) -> Result<(), Fail> {
     Ok(())
 }
 
-// What a content is asked for, and how it answers.
+// Contents that are asked.
+const EN: &[u8] = b"{\"content\":{\"en\":{\"title\":\"Hello\",\"jcr:title\":\"Hi\"}}}";
+
+const LOGO: &[u8] =
+    b"{\"content\":{\"logo.txt\":{\"jcr:content\":{\"jcr:data\":\"hey\",\"jcr:mimeType\":\"text/plain\"}}}}";
+
+const KINDS: &[u8] = b"{\"a\":{\"n\":3,\"t\":[true],\"k\":{\"x\":\"y\"}}}";
+
+const DOTTED: &[u8] = b"{\"a\":{\"b\":{\"x\":\"b\"},\"b.s1\":{\"x\":\"s\",\"k\":{}}}}";
+
+const MARKED: &[u8] = b"{\"a\":{\"sp:mark\":\"no-store\"}}";
+
+const BAD: &str = "answer 400 \"text/plain;charset=utf-8\" - - \"400 Bad Request\\n\"";
+
+const LOST: &str = "answer 404 \"text/plain;charset=utf-8\" - - \"404 Not Found\\n\"";
+
+// A content, what it is asked for, and how it answers.
+const TARGETS: [(&[u8], &[u8], &str); 17] = [
+    (
+        EN,
+        b"/content/en.json",
+        "answer 200 \"application/json;charset=utf-8\" - - \"{\\\"jcr:title\\\":\\\"Hi\\\",\\\"title\\\":\\\"Hello\\\"}\"",
+    ),
+    (EN, b"/content/x.json", LOST),
+    (EN, b"/content/en.html", LOST),
+    (EN, b"/content/en", LOST),
+    (
+        LOGO,
+        b"/content/logo.txt",
+        "answer 200 \"text/plain\" - - \"hey\"",
+    ),
+    (
+        LOGO,
+        b"/content/logo.txt/",
+        "answer 200 \"text/plain\" - - \"hey\"",
+    ),
+    (
+        KINDS,
+        b"/a.1.json",
+        "answer 200 \"application/json;charset=utf-8\" - - \"{\\\"n\\\":3,\\\"t\\\":[true],\\\"k\\\":{\\\"x\\\":\\\"y\\\"}}\"",
+    ),
+    (
+        KINDS,
+        b"/a.json",
+        "answer 200 \"application/json;charset=utf-8\" - - \"{\\\"n\\\":3,\\\"t\\\":[true]}\"",
+    ),
+    (KINDS, b"/a.x.json", BAD),
+    (KINDS, b"/a//b", BAD),
+    (
+        DOTTED,
+        b"/a/b.s1.json",
+        "answer 200 \"application/json;charset=utf-8\" - - \"{\\\"x\\\":\\\"s\\\"}\"",
+    ),
+    (
+        DOTTED,
+        b"/a/b.s1.1.json/c/d.txt",
+        "answer 200 \"application/json;charset=utf-8\" - - \"{\\\"x\\\":\\\"s\\\",\\\"k\\\":{}}\"",
+    ),
+    (
+        DOTTED,
+        b"/a/b.1.json",
+        "answer 200 \"application/json;charset=utf-8\" - - \"{\\\"x\\\":\\\"b\\\"}\"",
+    ),
+    (DOTTED, b"/a/b.s2.json", BAD),
+    (DOTTED, b"/a/b/c/d", LOST),
+    (DOTTED, b"/a/b./c/d", LOST),
+    (
+        MARKED,
+        b"/a.json",
+        "answer 200 \"application/json;charset=utf-8\" - no-store \"{\\\"sp:mark\\\":\\\"no-store\\\"}\"",
+    ),
+];
+
 #[test]
 fn answers_targets(rt: HostRuntime) -> Result<(), Fail> {
-    let en: &[u8] = b"{\"content\":{\"en\":{\"title\":\"Hello\",\"jcr:title\":\"Hi\"}}}";
-    let logo: &[u8] =
-        b"{\"content\":{\"logo.txt\":{\"jcr:content\":{\"jcr:data\":\"hey\",\"jcr:mimeType\":\"text/plain\"}}}}";
-    let kinds: &[u8] = b"{\"a\":{\"n\":3,\"t\":[true],\"k\":{\"x\":\"y\"}}}";
-    let dotted: &[u8] = b"{\"a\":{\"b\":{\"x\":\"b\"},\"b.s1\":{\"x\":\"s\",\"k\":{}}}}";
-    let marked: &[u8] = b"{\"a\":{\"sp:mark\":\"no-store\"}}";
-    let bad = "answer 400 \"text/plain;charset=utf-8\" - - \"400 Bad Request\\n\"";
-    let lost = "answer 404 \"text/plain;charset=utf-8\" - - \"404 Not Found\\n\"";
-    let cases: [(&[u8], &[u8], &str); 17] = [
-        (
-            en,
-            b"/content/en.json",
-            "answer 200 \"application/json;charset=utf-8\" - - \"{\\\"jcr:title\\\":\\\"Hi\\\",\\\"title\\\":\\\"Hello\\\"}\"",
-        ),
-        (en, b"/content/x.json", lost),
-        (en, b"/content/en.html", lost),
-        (en, b"/content/en", lost),
-        (
-            logo,
-            b"/content/logo.txt",
-            "answer 200 \"text/plain\" - - \"hey\"",
-        ),
-        (
-            logo,
-            b"/content/logo.txt/",
-            "answer 200 \"text/plain\" - - \"hey\"",
-        ),
-        (
-            kinds,
-            b"/a.1.json",
-            "answer 200 \"application/json;charset=utf-8\" - - \"{\\\"n\\\":3,\\\"t\\\":[true],\\\"k\\\":{\\\"x\\\":\\\"y\\\"}}\"",
-        ),
-        (
-            kinds,
-            b"/a.json",
-            "answer 200 \"application/json;charset=utf-8\" - - \"{\\\"n\\\":3,\\\"t\\\":[true]}\"",
-        ),
-        (kinds, b"/a.x.json", bad),
-        (kinds, b"/a//b", bad),
-        (
-            dotted,
-            b"/a/b.s1.json",
-            "answer 200 \"application/json;charset=utf-8\" - - \"{\\\"x\\\":\\\"s\\\"}\"",
-        ),
-        (
-            dotted,
-            b"/a/b.s1.1.json/c/d.txt",
-            "answer 200 \"application/json;charset=utf-8\" - - \"{\\\"x\\\":\\\"s\\\",\\\"k\\\":{}}\"",
-        ),
-        (
-            dotted,
-            b"/a/b.1.json",
-            "answer 200 \"application/json;charset=utf-8\" - - \"{\\\"x\\\":\\\"b\\\"}\"",
-        ),
-        (dotted, b"/a/b.s2.json", bad),
-        (dotted, b"/a/b/c/d", lost),
-        (dotted, b"/a/b./c/d", lost),
-        (
-            marked,
-            b"/a.json",
-            "answer 200 \"application/json;charset=utf-8\" - no-store \"{\\\"sp:mark\\\":\\\"no-store\\\"}\"",
-        ),
-    ];
-    for (content, target, wanted) in cases {
+    for (content, target, wanted) in TARGETS {
         let written = answered(rt.alloc(), content, target)?;
         let wanted = format!(in rt.alloc(); "@ 1\n{wanted}\n")?;
         assert_eq!(rt; written.as_slice(), wanted.as_bytes(), "{target:?}");

@@ -95,75 +95,77 @@ const SUPER: &str = "sling:resourceSuperType";
 
 const PRIMARY: &str = "jcr:primaryType";
 
+// Properties of nodes, and the chain of the resource `/r` among them.
+const CHAINS: &[(&[(&str, &str, &str)], &str)] = &[
+    (
+        &[("/r", TYPE, "own"), ("/apps/own", SUPER, "above")],
+        "own above sling/servlet/default ",
+    ),
+    (
+        &[
+            ("/r", TYPE, "own"),
+            ("/r", SUPER, "x:y"),
+            ("/apps/own", SUPER, "z"),
+        ],
+        "own x/y sling/servlet/default ",
+    ),
+    (
+        &[
+            ("/r", TYPE, "a"),
+            ("/apps/a", SUPER, "b"),
+            ("/libs/b", SUPER, "a"),
+        ],
+        "a b sling/servlet/default ",
+    ),
+    (
+        &[
+            ("/r", TYPE, "a"),
+            ("/apps/a", TYPE, "b"),
+            ("/libs/a", SUPER, "c"),
+        ],
+        "a c sling/servlet/default ",
+    ),
+    (
+        &[
+            ("/r", TYPE, "a"),
+            ("/apps/a", SUPER, "b"),
+            ("/libs/a", SUPER, "c"),
+        ],
+        "a b sling/servlet/default ",
+    ),
+    (
+        &[
+            ("/r", TYPE, "/x/a"),
+            ("/x/a", SUPER, "c"),
+            ("/apps/x/a", SUPER, "d"),
+        ],
+        "/x/a c sling/servlet/default ",
+    ),
+    (
+        &[("/r", PRIMARY, "nt:file"), ("/apps/nt/file", SUPER, "..")],
+        "nt/file sling/servlet/default ",
+    ),
+    (
+        &[("/r", TYPE, ""), ("/r", PRIMARY, "nt:file")],
+        "sling/servlet/default ",
+    ),
+    (
+        &[
+            ("/r", "x", "y"),
+            ("/r", SUPER, "/"),
+            ("/apps/nt/unstructured", SUPER, "z"),
+        ],
+        "nt/unstructured sling/servlet/default ",
+    ),
+    (
+        &[("/r", TYPE, "sling/servlet/default")],
+        "sling/servlet/default ",
+    ),
+];
+
 #[test]
 fn types_stand_nearest_first(rt: HostRuntime) -> Result<(), Failed> {
-    let cases: &[(&[(&str, &str, &str)], &str)] = &[
-        (
-            &[("/r", TYPE, "own"), ("/apps/own", SUPER, "above")],
-            "own above sling/servlet/default ",
-        ),
-        (
-            &[
-                ("/r", TYPE, "own"),
-                ("/r", SUPER, "x:y"),
-                ("/apps/own", SUPER, "z"),
-            ],
-            "own x/y sling/servlet/default ",
-        ),
-        (
-            &[
-                ("/r", TYPE, "a"),
-                ("/apps/a", SUPER, "b"),
-                ("/libs/b", SUPER, "a"),
-            ],
-            "a b sling/servlet/default ",
-        ),
-        (
-            &[
-                ("/r", TYPE, "a"),
-                ("/apps/a", TYPE, "b"),
-                ("/libs/a", SUPER, "c"),
-            ],
-            "a c sling/servlet/default ",
-        ),
-        (
-            &[
-                ("/r", TYPE, "a"),
-                ("/apps/a", SUPER, "b"),
-                ("/libs/a", SUPER, "c"),
-            ],
-            "a b sling/servlet/default ",
-        ),
-        (
-            &[
-                ("/r", TYPE, "/x/a"),
-                ("/x/a", SUPER, "c"),
-                ("/apps/x/a", SUPER, "d"),
-            ],
-            "/x/a c sling/servlet/default ",
-        ),
-        (
-            &[("/r", PRIMARY, "nt:file"), ("/apps/nt/file", SUPER, "..")],
-            "nt/file sling/servlet/default ",
-        ),
-        (
-            &[("/r", TYPE, ""), ("/r", PRIMARY, "nt:file")],
-            "sling/servlet/default ",
-        ),
-        (
-            &[
-                ("/r", "x", "y"),
-                ("/r", SUPER, "/"),
-                ("/apps/nt/unstructured", SUPER, "z"),
-            ],
-            "nt/unstructured sling/servlet/default ",
-        ),
-        (
-            &[("/r", TYPE, "sling/servlet/default")],
-            "sling/servlet/default ",
-        ),
-    ];
-    for (nodes, want) in cases {
+    for (nodes, want) in CHAINS {
         assert_eq!(rt; chain_shown(rt.alloc(), nodes)?.as_str(), *want);
     }
     Ok(())

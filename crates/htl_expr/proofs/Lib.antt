@@ -11,3 +11,7 @@ pub mod Complete
 pub mod WholeAgain
 pub mod Laws
 pub mod EscapeLemmas
+pub mod Local
+pub mod LocalTokens
+pub mod LocalStrings
+pub mod LocalLoops

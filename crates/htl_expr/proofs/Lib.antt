@@ -15,3 +15,5 @@ pub mod Local
 pub mod LocalTokens
 pub mod LocalStrings
 pub mod LocalLoops
+pub mod LocalParts
+pub mod LocalOptions

@@ -28,11 +28,13 @@ pub front_same : (front r z : List ℕ) → SameHead r z → SameHead (front ++ 
 front_same [] r z h = h
 front_same (c ∷ front) r z h = refl
 
-pub head_in : (front r z : List ℕ) → Same r z → Same (front ++ r) (front ++ z)
+pub same_behind : (c : ℕ) (r z : List ℕ) → SameHead r z → Same (c ∷ r) (c ∷ z)
 unfolding goes_on
+same_behind c r z h = (refl, λ e. ap (λ (b : Bool). is_word c || (eqb c 58 && b)) (sym (begins_same is_letter r z h)) ∙ e)
+
+pub head_in : (front r z : List ℕ) → Same r z → Same (front ++ r) (front ++ z)
 head_in [] r z h = h
-head_in (c ∷ front) r z h =
-    (refl, λ e. ap (λ (b : Bool). is_word c || (eqb c 58 && b)) (sym (begins_same is_letter (front ++ r) (front ++ z) (front_same front r z h.0))) ∙ e)
+head_in (c ∷ front) r z h = same_behind c (front ++ r) (front ++ z) (front_same front r z h.0)
 
 pub at_same : (c : ℕ) (r z : List ℕ) → Same r z → is_at c z ≡ is_at c r
 unfolding is_at
@@ -52,7 +54,7 @@ nil_same (c ∷ z) h = absurd h.0
 
 -- the bytes at which too deep a nesting is met
 abbrev pub nests : ℕ → Bool
-nests c = eqb c 40 || (eqb c 91 || (eqb c 33 || (eqb c 63 || eqb c 58)))
+nests c = eqb c 40 || (eqb c 91 || (eqb c 33 || eqb c 63))
 
 -- the reason speaks of the text that is left
 abbrev pub IsAt : Stop → List ℕ → Type 0

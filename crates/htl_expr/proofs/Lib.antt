@@ -8,7 +8,12 @@ pub mod Sound
 pub mod WholeRead
 pub mod TokensAgain
 pub mod Complete
-pub mod Fronts
 pub mod WholeAgain
 pub mod Laws
 pub mod EscapeLemmas
+pub mod Local
+pub mod LocalTokens
+pub mod LocalStrings
+pub mod LocalLoops
+pub mod LocalParts
+pub mod LocalOptions

@@ -8,15 +8,13 @@ mod numbers;
 mod options;
 mod out;
 mod print;
-#[cfg(test)]
-mod read_tests;
 mod reader;
 mod scope;
 mod stop;
+#[cfg(test)]
+mod tests;
 mod tokens;
 mod value;
-#[cfg(test)]
-mod value_tests;
 
 pub use expression::{Context, Expr, ExprFault};
 pub use node::{Comparison, Node};

@@ -2,6 +2,7 @@
 #![tactic(auto)]
 
 mod access;
+mod escape;
 mod expression;
 mod node;
 mod numbers;

@@ -1,38 +1,105 @@
--- The bytes of a character are escaped as the character is.
-use Rattle.std.proofs.Common.{◌≡◌, ℕ, suc, ◌<◌, ◌≤◌, true, List, [], ◌∷◌, ◌++◌, Option, Some, None, length, get_or, inl, inr, refl, sym, ap₂, arith, append-nil}
+-- A text is escaped run by run, and what is written is inert.
+use Rattle.std.proofs.Common.{◌≡◌, ℕ, suc, ◌<◌, ◌≤◌, ◌-◌, Bool, true, false, cond, List, [], ◌∷◌, ◌++◌, Option, Some, None, is_some, unwrap_or, length, take, drop, slice_index, inl, inr, refl, sym, ap, ap₂, ◌∙◌, arith, append-nil, append_assoc}
 use Rattle.std.specs.List.{flat_map, list_all}
-use Rattle.std.specs.Char.{encode_utf8}
+use Rattle.std.specs.Str.{IsCharBoundary}
 use Rattle.std.proofs.lemmas.Bool.{cases_lt, cases_eq}
+use Rattle.std.proofs.lemmas.List.{length-drop}
 use Rattle.std.proofs.lemmas.List.Folds.{list_all-append}
-use Rattle.std.proofs.lemmas.Str.{inside_one}
-use Rattle.std.proofs.lemmas.Grind.{common_steps}
+use Rattle.std.proofs.lemmas.Grind.{common_steps, flat_map-append}
 use Rattle.htl_expr.specs.declared.expression.Context.{Context}
 use Rattle.htl_expr.specs.declared.expression.Context.TheVariants as context
-use Rattle.htl_expr.specs.Print.{reference, escape, is_inert, IsInert, in_context}
+use Rattle.htl_expr.specs.Print.{reference, escape, run_len, first_reference, is_inert, IsInert, in_context}
 
 escape_plain : (b : ℕ) → reference b ≡ None → escape b ≡ b ∷ []
 escape_plain b e = rw e refl
 
-all_plain : (xs : List ℕ) → ((k : ℕ) → k < length xs → reference (get_or xs k 0) ≡ None) → flat_map escape xs ≡ xs
-all_plain [] h = refl
-all_plain (x ∷ xs) h = ap₂ (λ (a b : List ℕ). a ++ b) (escape_plain x (h 0 (omega arith))) (all_plain xs (λ k below. h (suc k) (omega arith)))
+-- a run without a reference is written as it is
+pub run_step : (t : List ℕ) → flat_map escape t ≡ take (run_len t) t ++ flat_map escape (drop (run_len t) t)
+unfolding run_len
+run_step [] = refl
+run_step (c ∷ t) = go (reference c) refl (run_step t)
+  where
+    go : (o : Option (List ℕ)) → reference c ≡ o → flat_map escape t ≡ take (run_len t) t ++ flat_map escape (drop (run_len t) t)
+        → flat_map escape (c ∷ t) ≡ take (cond (is_some o) 0 (suc (run_len t))) (c ∷ t) ++ flat_map escape (drop (cond (is_some o) 0 (suc (run_len t))) (c ∷ t))
+    go (Some r) e ih = refl
+    go None e ih = ap₂ (λ (a b : List ℕ). a ++ b) (escape_plain c e) ih
+
+run_within : (t : List ℕ) → run_len t ≤ length t
+unfolding run_len
+run_within [] = omega arith
+run_within (c ∷ t) = go (is_some (reference c)) (run_within t)
+  where
+    go : (b : Bool) → run_len t ≤ length t → cond b 0 (suc (run_len t)) ≤ length (c ∷ t)
+    go true ih = omega arith
+    go false ih = omega (arith, ih)
 
 -- only bytes below 128 have a reference
 reference_high : (b : ℕ) → 128 ≤ b → reference b ≡ None
 reference_high b high = grind (arith, common_steps, high)
 
--- a byte below 128 of a character is the character
-byte_of : (c : ℕ) (k : ℕ) → k < length (encode_utf8 c) → get_or (encode_utf8 c) k 0 < 128 → c ≡ get_or (encode_utf8 c) k 0
-byte_of c k below low = inside_one c [] (encode_utf8 c) k (sym (append-nil _)) below low
-
-bytes_plain : (c : ℕ) → reference c ≡ None → (k : ℕ) → k < length (encode_utf8 c) → reference (get_or (encode_utf8 c) k 0) ≡ None
-bytes_plain c e k below = elim (cases_lt (get_or (encode_utf8 c) k 0) 128) [
-  | inl low ↦ rw (sym (byte_of c k below low)) e
-  | inr high ↦ reference_high _ high
+marked_low : (c : ℕ) (r : List ℕ) → reference c ≡ Some r → c < 128
+marked_low c r e = elim (cases_lt c 128) [
+  | inl low ↦ low
+  | inr high ↦ absurd (let none = reference_high c high in cc)
 ]
 
-pub escape_none : (c : ℕ) → reference c ≡ None → flat_map escape (encode_utf8 c) ≡ encode_utf8 c
-escape_none c e = all_plain (encode_utf8 c) (bytes_plain c e)
+-- a byte with a reference is a character of its own
+pub record Marked (t reference : List ℕ) : Type 0 where
+  pub written : flat_map escape t ≡ reference ++ flat_map escape (drop 1 t)
+  pub first : slice_index t 0 < 128
+  pub less : length (drop 1 t) < length t
+
+pub marked : (t r : List ℕ) → first_reference t ≡ Some r → Marked t r
+unfolding first_reference
+marked [] r e = absurd cc
+marked (c ∷ t) r e = record {
+  written = ap (λ (o : Option (List ℕ)). unwrap_or o (c ∷ []) ++ flat_map escape t) e;
+  first = marked_low c r e;
+  less = omega arith;
+}
+
+-- a run ends at a byte with a reference, or at the end
+run_stops : (t : List ℕ) → first_reference (drop (run_len t) t) ≡ None → drop (run_len t) t ≡ []
+unfolding run_len first_reference
+run_stops [] e = refl
+run_stops (c ∷ t) e = go (reference c) refl (run_stops t) e
+  where
+    go : (o : Option (List ℕ)) → reference c ≡ o → (first_reference (drop (run_len t) t) ≡ None → drop (run_len t) t ≡ [])
+        → first_reference (drop (cond (is_some o) 0 (suc (run_len t))) (c ∷ t)) ≡ None → drop (cond (is_some o) 0 (suc (run_len t))) (c ∷ t) ≡ []
+    go (Some r) x ih none = absurd cc
+    go None x ih none = ih none
+
+run_end : (t : List ℕ) → run_len t < length t → slice_index t (run_len t) < 128
+unfolding run_len
+run_end [] lt = absurd (omega (arith, lt))
+run_end (c ∷ t) lt = go (reference c) refl (run_end t) lt
+  where
+    go : (o : Option (List ℕ)) → reference c ≡ o → (run_len t < length t → slice_index t (run_len t) < 128)
+        → cond (is_some o) 0 (suc (run_len t)) < length (c ∷ t) → slice_index (c ∷ t) (cond (is_some o) 0 (suc (run_len t))) < 128
+    go (Some r) e ih less = marked_low c r e
+    go None e ih less = ih (omega (arith, less))
+
+pub drop_less : (n : ℕ) (t behind : List ℕ) → behind ≡ drop n t → length behind ≤ length t
+drop_less n t behind e = let l : length behind ≡ length t - n = rw e (length-drop n t) in omega (arith, l)
+
+pub run_boundary : (t : List ℕ) → IsCharBoundary t (run_len t)
+run_boundary t = (run_within t, λ lt big. let small = run_end t lt in omega (arith, small, big))
+
+-- the last run is written
+pub run_ends : (n : ℕ) (old before new rest plain run behind : List ℕ) → n ≡ run_len rest → run ≡ take n rest → behind ≡ drop n rest → first_reference behind ≡ None → new ≡ before ++ run
+    → before ++ flat_map escape rest ≡ old ++ flat_map escape plain → new ≡ old ++ flat_map escape plain
+run_ends n old before new rest plain run behind en er eb none ew inv =
+    let done = rw (eb, en) at none in
+    let last : flat_map escape rest ≡ run = run_step rest ∙ rw (run_stops rest done, er, en) (append-nil (take (run_len rest) rest)) in
+    ew ∙ sym (ap (λ (l : List ℕ). before ++ l) last) ∙ inv
+
+-- a run is written, and a reference behind it
+pub run_goes_on : (n : ℕ) (old before run_written new rest plain run behind reference : List ℕ) → n ≡ run_len rest → run ≡ take n rest → behind ≡ drop n rest → first_reference behind ≡ Some reference
+    → run_written ≡ before ++ run → new ≡ run_written ++ reference → before ++ flat_map escape rest ≡ old ++ flat_map escape plain → new ++ flat_map escape (drop 1 behind) ≡ old ++ flat_map escape plain
+run_goes_on n old before run_written new rest plain run behind reference en er eb some ew en' inv =
+    let later = flat_map escape (drop 1 behind) in
+    let rest_is : flat_map escape rest ≡ run ++ (reference ++ later) = run_step rest ∙ rw (er, en) (ap (λ (l : List ℕ). take (run_len rest) rest ++ l) (ap (flat_map escape) (sym (rw en at eb)) ∙ (marked behind reference some).written)) in
+    rw (en', ew) (append_assoc (before ++ run) reference later ∙ append_assoc before run (reference ++ later) ∙ sym (ap (λ (l : List ℕ). before ++ l) rest_is)) ∙ inv
 
 reference_inert : (b : ℕ) → list_all is_inert (escape b) ≡ true
 reference_inert b = elim (cases_eq b 38) [
@@ -60,3 +127,14 @@ pub is_inert_in : (context : Option Context) (text : List ℕ) → IsInert conte
 is_inert_in None text = escaped_inert text
 is_inert_in (Some context.Text) text = escaped_inert text
 is_inert_in (Some context.Unsafe) text = tt
+
+-- texts are written one after another in each context
+pub in_context_append : (context : Option Context) (a b : List ℕ) → in_context context (a ++ b) ≡ in_context context a ++ in_context context b
+in_context_append None a b = flat_map-append escape a b
+in_context_append (Some context.Text) a b = flat_map-append escape a b
+in_context_append (Some context.Unsafe) a b = refl
+
+pub in_context_none : (context : Option Context) → in_context context [] ≡ []
+in_context_none None = refl
+in_context_none (Some context.Text) = refl
+in_context_none (Some context.Unsafe) = refl

@@ -1,5 +1,5 @@
 -- How a value is printed.
-use Rattle.std.specs.Prelude.{◌≡◌, ℕ, ◌==◌, ◌||◌, Bool, true, not, if◌then◌else◌, List, [], ◌∷◌, ◌++◌, Option, Some, None, codes, flat_map, unwrap_or}
+use Rattle.std.specs.Prelude.{◌≡◌, ℕ, suc, is_some, ◌==◌, ◌||◌, Bool, true, not, if◌then◌else◌, List, [], ◌∷◌, ◌++◌, Option, Some, None, codes, flat_map, unwrap_or}
 use Rattle.std.specs.List.{list_all}
 use Rattle.std.specs.Fmt.{signed_decimal}
 use Rattle.htl_expr.specs.declared.out.Out.{Out}
@@ -37,6 +37,16 @@ reference c =
 -- a byte as it is written: its reference, or the byte
 abbrev pub escape : ℕ → List ℕ
 escape c = unwrap_or (reference c) (c ∷ [])
+
+-- how many bytes stand before the first that has a reference
+unfoldable pub run_len : List ℕ → ℕ
+run_len [] = 0
+run_len (c ∷ t) = if is_some (reference c) then 0 else suc (run_len t)
+
+-- the reference of the byte in front
+unfoldable pub first_reference : List ℕ → Option (List ℕ)
+first_reference [] = None
+first_reference (c ∷ t) = reference c
 
 -- the text that stands between the items of a list: the option `join`, or a comma (HTL specification 1.4, "Array Join")
 abbrev pub join_text : Option (List ℕ) → List ℕ

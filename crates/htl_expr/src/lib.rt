@@ -2,21 +2,20 @@
 #![tactic(auto)]
 
 mod access;
+mod escape;
 mod expression;
 mod node;
 mod numbers;
 mod options;
 mod out;
 mod print;
-#[cfg(test)]
-mod read_tests;
 mod reader;
 mod scope;
 mod stop;
+#[cfg(test)]
+mod tests;
 mod tokens;
 mod value;
-#[cfg(test)]
-mod value_tests;
 
 pub use expression::{Context, Expr, ExprFault};
 pub use node::{Comparison, Node};

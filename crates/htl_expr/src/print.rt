@@ -1,15 +1,17 @@
 //! How a value is printed.
 
-ghost use Rattle.std.specs.Prelude.{◌≡◌, ◌++◌, IfOk, OnOk, string_bytes, flat_map, option_map};
-ghost use Rattle.std.specs.Char.{encode_utf8};
+ghost use Rattle.std.specs.Prelude.{◌≡◌, ◌++◌, IfOk, OnOk, string_bytes, flat_map};
 ghost use Rattle.std.specs.Fmt.{signed_decimal};
 ghost use Rattle.htl_expr.specs.Print as spec;
-ghost use Rattle.htl_expr.specs.Value.{print};
+ghost use Rattle.htl_expr.specs.Value.{print, value, out_of};
 
+use crate::escape::push;
 use crate::expression::{Context, Expr};
-use crate::out::Out;
-use crate::scope::Scope;
-use sp_base::{Mem, TextBuf};
+use crate::node::Node;
+use crate::out::{Out, is_true};
+use crate::scope::{Scope, field, out_of};
+use crate::value::value;
+use sp_base::{Mem, TextBuf, Value};
 use std::alloc::Global;
 
 pub(crate) fn truth_text(truth: bool) -> &'static str
@@ -24,24 +26,105 @@ pub(crate) fn long_text(alloc: Global, number: i64) -> Mem<TextBuf>
     Ok(TextBuf::from(format!(in alloc; "{number}")?))
 }
 
-// A text and each further one behind a join text.
-fn joined_to(alloc: Global, first: &str, join: &str, more: &[TextBuf]) -> Mem<TextBuf>
-    ensures { IfOk result (λ text. text ≡ first.now ++ flat_map (λ next. join.now ++ next) more.now) }
+// The further texts of a list, each behind a join text.
+fn push_more(text: &mut String, context: Option<Context>, join: &str, more: &[TextBuf]) -> Mem<()>
+    ensures { OnOk result (string_bytes text.new ≡ string_bytes text.old ++ spec.in_context context (flat_map (λ next. join.now ++ next) more.now)) }
 {
-    let mut text = String::from_str(alloc, first)?;
     for next in more {
-        text.push_str(join)?;
-        text.push_str(next.text())?;
+        push(text, context, join)?;
+        push(text, context, next.text())?;
     }
-    Ok(TextBuf::from(text))
+    Ok(())
 }
 
-fn joined(alloc: Global, join: &str, texts: &[TextBuf]) -> Mem<TextBuf>
-    ensures { IfOk result (λ text. text ≡ spec.joined join.now texts.now) }
+#[tactic(auto, using(crate::proofs::EscapeLemmas::in_context_append, crate::proofs::EscapeLemmas::in_context_none))]
+fn push_list(text: &mut String, context: Option<Context>, join: &str, texts: &[TextBuf]) -> Mem<()>
+    ensures { OnOk result (string_bytes text.new ≡ string_bytes text.old ++ spec.in_context context (spec.joined join.now texts.now)) }
 {
     match texts {
-        [] => TextBuf::of(alloc, ""),
-        [first, more @ ..] => joined_to(alloc, first.text(), join, more),
+        [] => Ok(()),
+        [first, more @ ..] => {
+            push(text, context, first.text())?;
+            push_more(text, context, join, more)
+        }
+    }
+}
+
+#[tactic(auto, using(crate::proofs::EscapeLemmas::in_context_none))]
+fn push_value(
+    text: &mut String,
+    alloc: Global,
+    context: Option<Context>,
+    join: &str,
+    value: &Out,
+) -> Mem<()>
+    ensures { OnOk result (string_bytes text.new ≡ string_bytes text.old ++ spec.in_context context (spec.plain join.now value.now)) }
+{
+    match value {
+        Out::Nothing => Ok(()),
+        Out::Truth(truth) => push(text, context, truth_text(*truth)),
+        Out::Long(number) => push(text, context, long_text(alloc, *number)?.text()),
+        Out::Text(plain) => push(text, context, plain.text()),
+        Out::List(texts) => push_list(text, context, join, texts.as_slice()),
+    }
+}
+
+// A stored text is lent, and not copied.
+#[tactic(auto, using(crate::proofs::EscapeLemmas::in_context_none))]
+fn push_property(
+    text: &mut String,
+    alloc: Global,
+    context: Option<Context>,
+    join: &str,
+    value: &Value,
+) -> Mem<()>
+    ensures { OnOk result (string_bytes text.new ≡ string_bytes text.old ++ spec.in_context context (spec.plain join.now (out_of value.now))) }
+{
+    match value {
+        Value::Text(plain) => push(text, context, plain.text()),
+        Value::Texts(texts) => push_list(text, context, join, texts.as_slice()),
+        _ => push_value(text, alloc, context, join, &out_of(alloc, value)?),
+    }
+}
+
+/// The tree that a choice takes, which has the same value; any other tree is itself.
+fn chosen<'a>(alloc: Global, scope: &Scope, node: &'a Node) -> Mem<&'a Node>
+    ensures { IfOk result (λ taken. value scope.now taken.now ≡ value scope.now node.now) }
+{
+    match node {
+        Node::Choice(condition, a, b) => {
+            if is_true(&value(alloc, scope, condition.get())?) {
+                chosen(alloc, scope, a.get())
+            } else {
+                chosen(alloc, scope, b.get())
+            }
+        }
+        _ => Ok(node),
+    }
+}
+
+#[tactic(auto, using(crate::proofs::EscapeLemmas::in_context_none))]
+fn push_node(
+    text: &mut String,
+    alloc: Global,
+    scope: &Scope,
+    context: Option<Context>,
+    join: &str,
+    node: &Node,
+) -> Mem<()>
+    ensures { OnOk result (string_bytes text.new ≡ string_bytes text.old ++ spec.in_context context (spec.plain join.now (value scope.now node.now))) }
+{
+    match node {
+        Node::Text(plain) => push(text, context, plain.text()),
+        Node::Property(name) => match scope.props.get(name.text()) {
+            Some(value) => push_property(text, alloc, context, join, value),
+            None => Ok(()),
+        },
+        Node::Resource(name) => match field(scope, name.text()) {
+            Some(plain) => push(text, context, plain.text()),
+            None => Ok(()),
+        },
+        _ => push_value(text, alloc, context, join, &value(alloc, scope, node)?),
     }
 }
 
@@ -49,46 +132,9 @@ fn joined(alloc: Global, join: &str, texts: &[TextBuf]) -> Mem<TextBuf>
 pub(crate) fn plain(alloc: Global, join: &str, value: &Out) -> Mem<TextBuf>
     ensures { IfOk result (λ text. text ≡ spec.plain join.now value.now) }
 {
-    match value {
-        Out::Nothing => TextBuf::of(alloc, ""),
-        Out::Truth(truth) => TextBuf::of(alloc, truth_text(*truth)),
-        Out::Long(number) => long_text(alloc, *number),
-        Out::Text(text) => text.duplicate(alloc),
-        Out::List(texts) => joined(alloc, join, texts.as_slice()),
-    }
-}
-
-fn reference(c: char) -> Option<&'static str>
-    ensures { option_map (λ text. text.now) result ≡ spec.reference c }
-{
-    match c {
-        '&' => Some("&amp;"),
-        '<' => Some("&lt;"),
-        '>' => Some("&gt;"),
-        '"' => Some("&#34;"),
-        '\'' => Some("&#39;"),
-        _ => None,
-    }
-}
-
-fn push_escaped(text: &mut String, c: char) -> Mem<()>
-    ensures { OnOk result (string_bytes text.new ≡ string_bytes text.old ++ flat_map spec.escape (encode_utf8 c)) }
-{
-    match reference(c) {
-        Some(reference) => text.push_str(reference)?,
-        None => text.push(c)?,
-    }
-    Ok(())
-}
-
-fn escaped(alloc: Global, text: &str) -> Mem<TextBuf>
-    ensures { IfOk result (λ escaped. escaped ≡ flat_map spec.escape text.now) }
-{
-    let mut escaped = String::new(alloc);
-    for c in text.chars() {
-        push_escaped(&mut escaped, c)?;
-    }
-    Ok(TextBuf::from(escaped))
+    let mut text = String::new(alloc);
+    push_value(&mut text, alloc, Some(Context::Unsafe), join, value)?;
+    Ok(TextBuf::from(text))
 }
 
 fn join_text(join: &Option<TextBuf>) -> &str
@@ -100,16 +146,28 @@ fn join_text(join: &Option<TextBuf>) -> &str
     }
 }
 
-fn in_context(alloc: Global, context: Option<Context>, text: TextBuf) -> Mem<TextBuf>
-    ensures { IfOk result (λ printed. printed ≡ spec.in_context context text) }
-{
-    match context {
-        Some(Context::Unsafe) => Ok(text),
-        Some(Context::Text) | None => escaped(alloc, text.text()),
-    }
-}
-
 impl Expr {
+    #[tactic(auto, using(crate::proofs::EscapeLemmas::in_context_none))]
+    /// Writes what the expression prints for a resource behind what a text has.
+    pub fn write(&self, alloc: Global, text: &mut String, scope: &Scope) -> Mem<()>
+        ensures { OnOk result (string_bytes text.new ≡ string_bytes text.old ++ print scope.now self.now) }
+    {
+        match &self.node {
+            Some(node) => {
+                let node = chosen(alloc, scope, node)?;
+                push_node(
+                    text,
+                    alloc,
+                    scope,
+                    self.context,
+                    join_text(&self.join),
+                    node,
+                )
+            }
+            None => Ok(()),
+        }
+    }
+
     /// The text that the expression writes for a resource.
     #[tactic(auto, using(crate::proofs::EscapeLemmas::is_inert_in))]
     pub fn print(&self, alloc: Global, scope: &Scope) -> Mem<TextBuf>
@@ -117,8 +175,8 @@ impl Expr {
         // Without the option `context='unsafe'` it can't be taken for markup.
         ensures inert { IfOk result (spec.IsInert self.now.context) }
     {
-        let value = self.value(alloc, scope)?;
-        let text = plain(alloc, join_text(&self.join), &value)?;
-        in_context(alloc, self.context, text)
+        let mut text = String::new(alloc);
+        self.write(alloc, &mut text, scope)?;
+        Ok(TextBuf::from(text))
     }
 }

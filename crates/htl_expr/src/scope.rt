@@ -39,7 +39,7 @@ fn truth_texts(alloc: Global, truths: &[bool]) -> Mem<TextList>
     Ok(texts)
 }
 
-fn out_of(alloc: Global, value: &Value) -> Mem<Out>
+pub(crate) fn out_of(alloc: Global, value: &Value) -> Mem<Out>
     ensures { IfOk result (λ v. v ≡ spec.out_of value.now) }
 {
     Ok(match value {
@@ -62,7 +62,7 @@ pub(crate) fn property(alloc: Global, scope: &Scope, name: &str) -> Mem<Out>
     }
 }
 
-fn field<'a>(scope: &'a Scope, name: &str) -> Option<&'a TextBuf>
+pub(crate) fn field<'a>(scope: &'a Scope, name: &str) -> Option<&'a TextBuf>
     ensures { option_copied result ≡ spec.field scope.now name.now }
 {
     match name {

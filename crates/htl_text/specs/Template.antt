@@ -90,6 +90,11 @@ pieces all zero (c ∷ t) =
 abbrev pub template_of : List ℕ → Result (List Piece) TextFault
 template_of t = pieces (length t) 0 t
 
+-- how many bytes stand before the next "${"
+unfoldable pub opening_len : List ℕ → ℕ
+opening_len [] = 0
+opening_len (c ∷ t) = if opens (c ∷ t) then 0 else suc (opening_len t)
+
 -- how many bytes stand before the next "${" or "\${"
 unfoldable pub plain_len : List ℕ → ℕ
 plain_len [] = 0

@@ -18,7 +18,7 @@ fn push_piece(text: &mut String, alloc: Global, scope: &Scope, piece: &Piece) ->
 {
     match piece {
         Piece::Plain(plain) => text.push_str(plain.text())?,
-        Piece::Value(expression) => text.push_str(expression.print(alloc, scope)?.text())?,
+        Piece::Value(expression) => expression.write(alloc, text, scope)?,
     }
     Ok(())
 }

@@ -3,6 +3,7 @@
 ghost use Rattle.std.specs.Prelude.{◌≡◌, ◌<◌, ◌≤◌, ◌||◌, ◌==◌, ℕ, true, IfOk, slice_index, drop, length};
 ghost use Rattle.htl_text.specs.Template as spec;
 
+use memchr::memchr;
 use sp_base::{Mem, TextBuf};
 use std::alloc::Global;
 
@@ -49,21 +50,38 @@ pub fn tail(text: &str) -> &str
     text.split_at(1).1
 }
 
+fn from(place: usize, text: &[u8]) -> &[u8]
+    requires { place ≤ length text.now }
+    ensures { result.now ≡ drop place text.now }
+{
+    text.split_at(place).1
+}
+
+/// How many bytes stand before the next `${`.
+fn opening_len(text: &[u8]) -> usize
+    ensures { result ≡ spec.opening_len text.now }
+{
+    let mut rest = text;
+    while let Some(len) = memchr(b'$', rest) {
+        let front = from(len, rest);
+        if opens(front) {
+            return text.len() - front.len();
+        }
+        rest = from(1, front);
+    }
+    text.len()
+}
+
 /// How many bytes stand before the next `${` or `\${`.
-#[tactic(auto, unfolding(crate::specs::Template::plain_len))]
 fn plain_len(text: &[u8]) -> usize
     ensures { result ≡ spec.plain_len text.now }
 {
-    let mut len = 0;
-    let mut rest = text;
-    while let [_, later @ ..] = rest {
-        if opens(rest) || escapes(rest) {
-            return len;
-        }
-        len += 1;
-        rest = later;
+    let len = opening_len(text);
+    if 0 < len && escapes(from(len - 1, text)) {
+        len - 1
+    } else {
+        len
     }
-    len
 }
 
 /// The plain text in front of the next expression, and the text from there on.

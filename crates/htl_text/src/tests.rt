@@ -59,12 +59,58 @@ fn templates_are_rendered(rt: HostRuntime) -> Result<(), Failed> {
         ("<h1>${properties.html}</h1>", "<h1>&lt;b&gt;</h1>"),
         ("", ""),
         ("a${}b", "ab"),
+        ("${ }${1}${x}${2}", "12"),
+        ("<p title=\"'&>\">é</p>", "<p title=\"'&>\">é</p>"),
         ("é${'}'}${\"'}\\\"}\"}", "é}&#39;}&#34;}"),
+        ("${'\\\\'}'}", "\\'}"),
         ("$${'a'}}$\\$ \\\\${b}", "$a}$\\$ \\${b}"),
+        ("$ { $}{$$ {x} $", "$ { $}{$$ {x} $"),
+        ("\\$ \\ { \\", "\\$ \\ { \\"),
+        ("\\${", "${"),
+        ("a\\${1}\\${${1}$", "a${1}${1$"),
+        ("$${1}$\\${1}", "$1$${1}"),
     ] {
         let template = Template::read(alloc, text)?;
         assert_eq!(rt; template.render(alloc, &scope)?.text(), want);
     }
+    Ok(())
+}
+
+// A text so many times.
+fn repeated(alloc: Global, piece: &str, times: usize) -> Result<String, Failed> {
+    let mut text = String::new(alloc);
+    for _turn in 0..times {
+        text.push_str(piece)?;
+    }
+    Ok(text)
+}
+
+#[test]
+fn large_template_is_rendered(rt: HostRuntime) -> Result<(), Failed> {
+    let alloc = rt.alloc();
+    let plain = repeated(alloc, "<p>é$ {", 50)?;
+    let mut piece = String::from_str(alloc, plain.as_str())?;
+    piece.push_str("${properties.n}")?;
+    let mut written = String::from_str(alloc, plain.as_str())?;
+    written.push_str("3")?;
+    let text = repeated(alloc, piece.as_str(), 10_000)?;
+    let template = Template::read(alloc, text.as_str())?;
+    let want = repeated(alloc, written.as_str(), 10_000)?;
+    assert!(rt; template.render(alloc, &scope(alloc)?)?.text() == want.as_str());
+    Ok(())
+}
+
+#[test]
+fn longest_text_is_rendered(rt: HostRuntime) -> Result<(), Failed> {
+    let alloc = rt.alloc();
+    let scope = scope(alloc)?;
+    let mut text = repeated(alloc, "$", 4_194_303)?;
+    text.push_str("${1}")?;
+    let template = Template::read(alloc, text.as_str())?;
+    assert_eq!(rt; template.render(alloc, &scope)?.text().len(), 4_194_304);
+    text.push_str("${2}")?;
+    let template = Template::read(alloc, text.as_str())?;
+    assert!(rt; matches!(template.render(alloc, &scope), Err(RenderFault::TooLong)));
     Ok(())
 }
 
@@ -85,10 +131,24 @@ fn bad_expression(alloc: Global, text: &str) -> Option<usize> {
 #[test]
 fn first_faults_are_found(rt: HostRuntime) {
     let alloc = rt.alloc();
-    for (text, place) in [("a${", 1), ("a${'}", 1), ("b${ \"\\\"}", 1), ("é${", 2)] {
-        assert!(rt; unclosed(alloc, text) == Some(place));
+    for (text, place) in [
+        ("${", 0),
+        ("a${", 1),
+        ("a${'}", 1),
+        ("b${ \"\\\"}", 1),
+        ("é${", 2),
+        ("$$ \\${}${1}${", 11),
+    ] {
+        assert_eq!(rt; unclosed(alloc, text), Some(place));
     }
-    for (text, place) in [("a${1+}", 1), ("a${1+}${", 1), ("\\${}${'\\q'}${1 2}", 4)] {
-        assert!(rt; bad_expression(alloc, text) == Some(place));
+    for (text, place) in [
+        ("a${1+}", 1),
+        ("a${1+}${", 1),
+        ("\\${}${'\\q'}${1 2}", 4),
+        ("${1}$${x y}", 5),
+        ("${((((((((((((((((((((((((((((((((((1}", 0),
+        ("${{}}", 0),
+    ] {
+        assert_eq!(rt; bad_expression(alloc, text), Some(place));
     }
 }

@@ -1,3 +1,5 @@
 pub mod PropertyLemmas
 pub mod PathLemmas
 pub mod TypedLemmas
+pub mod PathText
+pub mod PathOrder

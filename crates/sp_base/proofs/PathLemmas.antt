@@ -5,19 +5,20 @@ use Rattle.std.proofs.lemmas.Iterator.Adapters.{position_from-zero}
 use Rattle.std.proofs.lemmas.List.{length-take, take-append-drop, take_at, length-drop, length-map}
 use Rattle.std.specs.Cmp.Lexicographic.{bytes_decides}
 use Rattle.std.specs.List.{list_all, list_any, position, position_from, onto_first, starts_with}
+use Rattle.std.specs.Option.{MatchOption, IfNone}
 use Rattle.sp_base.specs.declared.path.PathFault.{PathFault}
 use Rattle.sp_base.specs.declared.path.PathFault.TheVariants.{NotAbsolute, EmptySegment, DotSegment, TooDeep}
 use Rattle.sp_base.specs.Paths.{seg_ok, is_empty, is_dots, is_long, has_slash, pieces, fault_of, size_fault, is_path, path_of, child_of, checked, unless_fault, is_mangled, unmangled_by, unmangled_seg}
 
-both : (a b : Bool) → T a → T b → T (a && b)
+pub both : (a b : Bool) → T a → T b → T (a && b)
 both true b p q = q
 both false b p q = p
 
-first : (a b : Bool) → T (a && b) → T a
+pub first : (a b : Bool) → T (a && b) → T a
 first true b p = tt
 first false b p = p
 
-second : (a b : Bool) → T (a && b) → T b
+pub second : (a b : Bool) → T (a && b) → T b
 second true b p = p
 second false b p = absurd p
 
@@ -55,15 +56,15 @@ all-take p (x ∷ xs) zero h = tt
 all-take p (x ∷ xs) (suc n) h = both _ _ (first _ _ h) (all-take p xs n (second _ _ h))
 
 -- what the absence of each fault says
-or_first : (a b : Bool) → (a || b) ≡ false → a ≡ false
+pub or_first : (a b : Bool) → (a || b) ≡ false → a ≡ false
 or_first true b e = e
 or_first false b e = refl
 
-or_second : (a b : Bool) → (a || b) ≡ false → b ≡ false
+pub or_second : (a b : Bool) → (a || b) ≡ false → b ≡ false
 or_second true b e = absurd (subst T e tt)
 or_second false b e = e
 
-is_not : (a : Bool) → a ≡ false → T (not a)
+pub is_not : (a : Bool) → a ≡ false → T (not a)
 is_not a e = subst (λ t. T (not t)) (sym e) tt
 
 no_long : (segs : List (List ℕ)) (n : ℕ) → position_from is_long n segs ≡ None → list_any is_long segs ≡ false
@@ -130,7 +131,7 @@ path_from segs h none =
           ] refl n
     ] refl none
 
-test_eq : (a b : ℕ) → (a == b) ≡ true → a ≡ b
+pub test_eq : (a b : ℕ) → (a == b) ≡ true → a ≡ b
 test_eq a b e = grind (arith, nat_tests)
 
 pub not_absolute : (text : List ℕ) → ((rest : List ℕ) → text ≢ 47 ∷ rest) → path_of text ≡ Err NotAbsolute
@@ -153,7 +154,7 @@ pieces_whole [] h = refl
 pieces_whole (b ∷ name) h =
     ap (λ t. cond t ([] ∷ pieces name) (onto_first b (pieces name))) (or_first _ _ h) ∙ ap (onto_first b) (pieces_whole name (or_second _ _ h))
 
-not_is : (a : Bool) → T (not a) → a ≡ false
+pub not_is : (a : Bool) → T (not a) → a ≡ false
 not_is true h = absurd h
 not_is false h = refl
 
@@ -298,3 +299,7 @@ unmangled_path segs h =
     let t = true_test (is_path segs) h in
     let few : length (map unmangled_seg segs) ≤ 64 = omega (arith, small_back (length segs) (second _ _ t), length-map segs unmangled_seg) in
     test_true _ (both _ _ (all_unmangled segs (first _ _ t)) (small_le (length (map unmangled_seg segs)) few))
+
+pub IfNone-from : {A : Type 0} (r : Option A) (P : Type 0) (Q : A → Type 0) → MatchOption r P Q → IfNone r P
+IfNone-from None P Q h = h
+IfNone-from (Some x) P Q h = tt

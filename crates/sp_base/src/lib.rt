@@ -6,6 +6,7 @@ mod bytes;
 mod hint;
 mod items;
 mod memory;
+mod order;
 mod path;
 mod property_list;
 mod segments;

@@ -1,13 +1,15 @@
-ghost use Rattle.std.specs.Prelude.{◌≡◌, ◌≢◌, ◌<◌, ◌∷◌, ◌++◌, ◌↔◌, [], T, List, ℕ, not, nat_eq, refl, IfOk, IfErr, IsTrue, Some, Ok, Err, length, take, option_copied, slice_get};
-ghost use Rattle.std.specs.List.{list_all};
+ghost use Rattle.std.specs.Prelude.{◌≡◌, ◌≢◌, ◌<◌, ◌∷◌, ◌++◌, [], List, ℕ, refl, IfOk, IfErr, IsTrue, Some, Ok, Err, length, take, option_copied, slice_get, string_bytes};
 ghost use Rattle.std.specs.Cmp.{partial_equiv_from_equiv, partial_order_from_agreeing_total};
 ghost use Rattle.std.specs.Cmp.Lexicographic.{slice_cmp, lists_total, nat_list_cmp_total};
 ghost use Rattle.std.specs.Ordering.{nat_cmp, eq_by_cmp};
 ghost use Rattle.std.proofs.lemmas.Cmp.{eq_by_cmp_equiv};
-ghost use Rattle.sp_base.specs.Paths.{by_path, seg_ok, path_of, child_of, join_of, parent_of, text_of, unmangled, is_under, is_path, checked, has_slash};
+ghost use Rattle.sp_base.specs.Paths.{seg_ok, path_of, child_of, join_of, parent_of, text_of, unmangled, is_under, is_path, checked, segs_in, spelled};
 ghost use Rattle.sp_base.specs.declared.path.PathFault.TheVariants.{NoMemory as no_memory};
 
-use crate::segments::{add_pieces, fault_of, unmangled_seg};
+use crate::order::text_order;
+use crate::segments::{
+    behind_slash, first_pieces, glued, piece_at, pieces_unmangled, slashes, text_fault, text_under,
+};
 use crate::{Mem, NoMemory, TextBuf};
 use std::alloc::{AllocError, AllocFailed, Global};
 use std::cmp::Ordering;
@@ -56,19 +58,20 @@ impl<T: Drop> From<AllocFailed<T>> for PathFault {
 /// An absolute path. Contracts see the list of its segments; the root has none.
 #[derive(Drop)]
 pub struct Path {
-    segs: Vec<TextBuf>,
+    /// A slash before each segment; empty for the root.
+    text: String,
 }
 
 impl Model for Path {
-    ghost use Rattle.std.specs.Prelude.{List, ℕ, IsTrue};
+    ghost use Rattle.std.specs.Prelude.{List, ℕ, IsTrue, string_bytes, ◌≡◌};
 
     ghost Value = { List (List ℕ) };
 
-    ghost use Rattle.sp_base.specs.Paths.{is_path};
+    ghost use Rattle.sp_base.specs.Paths.{is_path, segs_in, spelled};
 
-    ghost view = { λ p. p.segs.items };
+    ghost view = { λ p. segs_in (string_bytes p.text) };
 
-    ghost invariant = { λ p. IsTrue (is_path p.segs.items) };
+    ghost invariant = { λ p. IsTrue (is_path (segs_in (string_bytes p.text))) × (spelled (segs_in (string_bytes p.text)) ≡ string_bytes p.text) };
 }
 
 impl Path {
@@ -76,7 +79,7 @@ impl Path {
         ensures { result ≡ [] }
     {
         Path {
-            segs: Vec::new(alloc),
+            text: String::new(alloc),
         }
     }
 
@@ -86,15 +89,13 @@ impl Path {
         ensures ok { IfOk result (λ p. path_of text.now ≡ Ok p) }
         ensures err { IfErr result (λ e. e ≢ PathFault.NoMemory → path_of text.now ≡ Err e) }
     {
-        let Some(rest) = text.strip_prefix('/') else {
+        let Some(rest) = behind_slash(text) else {
             return Err(PathFault::NotAbsolute);
         };
         if rest.is_empty() {
             return Ok(Path::root(alloc));
         }
-        let mut segs = Vec::new(alloc);
-        add_pieces(alloc, &mut segs, rest)?;
-        made(segs)
+        made(String::from_str(alloc, text)?)
     }
 
     /// The path with a name behind it. A name with a slash in it adds a segment for each of its pieces.
@@ -106,9 +107,7 @@ impl Path {
         ensures whole { IfOk result (λ p. IsTrue (seg_ok name.now) → p ≡ self.now ++ name.now ∷ []) }
         ensures fits { IfErr result (λ e. IsTrue (seg_ok name.now) → length self.now < 64 → e ≡ PathFault.NoMemory) }
     {
-        let mut segs = copied(alloc, &self.segs)?;
-        add_pieces(alloc, &mut segs, name)?;
-        made(segs)
+        made(glued(alloc, self.text.as_str(), "/", name)?)
     }
 
     /// The segments of a further path behind these.
@@ -116,28 +115,26 @@ impl Path {
         ensures ok { IfOk result (λ p. join_of self.now rest.now ≡ Ok p) }
         ensures err { IfErr result (λ e. e ≢ PathFault.NoMemory → join_of self.now rest.now ≡ Err e) }
     {
-        let mut segs = copied(alloc, &self.segs)?;
-        for seg in &rest.segs {
-            segs.push(seg.duplicate(alloc)?)?;
-        }
-        made(segs)
+        made(glued(alloc, self.text.as_str(), "", rest.text.as_str())?)
     }
 
     /// The path without its last segment. The root's parent is the root.
     pub fn parent(&self, alloc: Global) -> Mem<Path>
         ensures { IfOk result (λ p. p ≡ parent_of self.now) }
     {
-        self.first(alloc, self.segs.len().saturating_sub(1))
+        self.first(alloc, self.depth().saturating_sub(1))
     }
 
     /// The first segments, or all where there are fewer.
     pub fn first(&self, alloc: Global, n: usize) -> Mem<Path>
         ensures { IfOk result (λ p. p ≡ take n self.now) }
     {
-        let kept = n.min(self.segs.len());
-        Ok(Path {
-            segs: copied(alloc, &self.segs[..kept])?,
-        })
+        match behind_slash(self.text.as_str()) {
+            Some(rest) => Ok(Path {
+                text: first_pieces(alloc, rest, n)?,
+            }),
+            None => Ok(Path::root(alloc)),
+        }
     }
 
     /// The path with each segment `_P_Q` read as `P:Q`, where P is jcr, sling, nt or cq and Q is not empty: Sling's mangling of
@@ -145,18 +142,19 @@ impl Path {
     pub fn unmangled(&self, alloc: Global) -> Mem<Path>
         ensures { IfOk result (λ p. p ≡ unmangled self.now) }
     {
-        let mut segs = Vec::new(alloc);
-        for seg in &self.segs {
-            segs.push(unmangled_seg(alloc, seg.text())?)?;
+        match behind_slash(self.text.as_str()) {
+            Some(rest) => Ok(Path {
+                text: pieces_unmangled(alloc, rest)?,
+            }),
+            None => Ok(Path::root(alloc)),
         }
-        Ok(Path { segs })
     }
 
     pub fn duplicate(&self, alloc: Global) -> Mem<Path>
         ensures { IfOk result (λ p. p ≡ self.now) }
     {
         Ok(Path {
-            segs: copied(alloc, &self.segs)?,
+            text: String::from_str(alloc, self.text.as_str())?,
         })
     }
 
@@ -164,15 +162,11 @@ impl Path {
     pub fn text(&self, alloc: Global) -> Mem<TextBuf>
         ensures { IfOk result (λ t. t ≡ text_of self.now) }
     {
-        if self.segs.is_empty() {
-            return TextBuf::of(alloc, "/");
+        if self.text.is_empty() {
+            TextBuf::of(alloc, "/")
+        } else {
+            TextBuf::of(alloc, self.text.as_str())
         }
-        let mut text = String::new(alloc);
-        for seg in &self.segs {
-            text.push_str("/")?;
-            text.push_str(seg.text())?;
-        }
-        Ok(TextBuf::from(text))
     }
 
     /// How many segments there are, at most 64.
@@ -180,22 +174,22 @@ impl Path {
         ensures depth { result ≡ length self.now }
         ensures valid { IsTrue (is_path self.now) }
     {
-        self.segs.len()
+        slashes(self.text.as_str())
     }
 
     /// Whether the path begins with all segments of the other.
     pub fn is_under(&self, other: &Path) -> bool
         ensures { result ≡ is_under self.now other.now }
     {
-        self.segs.starts_with(other.segs.as_slice())
+        text_under(self.text.as_bytes(), other.text.as_bytes())
     }
 
     /// The segment at a place, counted from 0.
     pub fn seg(&self, n: usize) -> Option<&str>
         ensures { option_copied result ≡ slice_get self.now n }
     {
-        match self.segs.get(n) {
-            Some(seg) => Some(seg.text()),
+        match behind_slash(self.text.as_str()) {
+            Some(rest) => piece_at(rest, n),
             None => None,
         }
     }
@@ -235,27 +229,17 @@ impl Ord for Path {
     ghost matches_eq = { λ x y. refl };
 
     fn cmp(&self, other: &Path) -> Ordering {
-        self.segs.cmp(&other.segs)
+        text_order(self.text.as_bytes(), other.text.as_bytes())
     }
 }
 
-// The path of these pieces, in which no slash stands.
-fn made(segs: Vec<TextBuf>) -> Result<Path, PathFault>
-    requires { T (list_all (λ seg. not (has_slash seg)) segs.items) }
-    ensures { result ≡ checked segs.items }
+// The path that a text spells: a slash before each piece.
+fn made(text: String) -> Result<Path, PathFault>
+    requires { spelled (segs_in (string_bytes text)) ≡ string_bytes text }
+    ensures { result ≡ checked (segs_in (string_bytes text)) }
 {
-    match fault_of(&segs) {
+    match text_fault(text.as_str()) {
         Some(fault) => Err(fault),
-        None => Ok(Path { segs }),
+        None => Ok(Path { text }),
     }
-}
-
-fn copied(alloc: Global, segs: &[TextBuf]) -> Mem<Vec<TextBuf>>
-    ensures { IfOk result (λ copy. copy.items ≡ segs.now) }
-{
-    let mut copy = Vec::new(alloc);
-    for seg in segs {
-        copy.push(seg.duplicate(alloc)?)?;
-    }
-    Ok(copy)
 }

@@ -1,9 +1,9 @@
-ghost use Rattle.std.specs.Prelude.{◌≡◌, ◌++◌, true, false, map, drop, length, IfOk, OnOk, IfSome, IfNone};
-ghost use Rattle.std.specs.List.{list_any, position};
-ghost use Rattle.sp_base.specs.Paths.{seg_ok, is_empty, is_dots, is_long, has_slash, pieces, fault_of, size_fault, is_mangled, unmangled_seg};
+ghost use Rattle.std.specs.Prelude.{◌≡◌, ◌≢◌, ◌==◌, ◌∷◌, ◌++◌, List, ℕ, true, false, drop, take, length, IfOk, OnOk, IfSome, IfNone, option_copied, slice_get, string_bytes};
+ghost use Rattle.std.specs.List.{list_any, position, count_by};
+ghost use Rattle.sp_base.specs.Paths.{seg_ok, is_empty, is_dots, is_long, has_slash, pieces, spelled, segs_in, fault_of, size_fault, is_mangled, unmangled_seg, unmangled, text_under};
 
-use crate::{Mem, PathFault, TextBuf};
-use std::alloc::{AllocError, Global};
+use crate::{Mem, PathFault};
+use std::alloc::Global;
 
 /// The most bytes of a segment.
 const LONGEST: usize = 200;
@@ -30,22 +30,28 @@ pub fn seg_ok(name: &str) -> bool
     !name.is_empty() && (!is_dots(name) && (name.len() <= LONGEST && !has_slash(name)))
 }
 
-fn has_empty(segs: &[TextBuf]) -> bool
-    ensures { result ≡ list_any is_empty segs.now }
+fn has_empty(text: &str) -> bool
+    ensures { result ≡ list_any is_empty (pieces text.now) }
 {
-    segs.iter().any(|seg| seg.text().is_empty())
+    text.split('/').any(|piece| piece.is_empty())
 }
 
-fn has_dots(segs: &[TextBuf]) -> bool
-    ensures { result ≡ list_any is_dots segs.now }
+fn has_dots(text: &str) -> bool
+    ensures { result ≡ list_any is_dots (pieces text.now) }
 {
-    segs.iter().any(|seg| is_dots(seg.text()))
+    text.split('/').any(|piece| is_dots(piece))
 }
 
-fn first_long(segs: &[TextBuf]) -> Option<usize>
-    ensures { result ≡ position is_long segs.now }
+fn first_long(text: &str) -> Option<usize>
+    ensures { result ≡ position is_long (pieces text.now) }
 {
-    segs.iter().position(|seg| seg.text().len() > LONGEST)
+    text.split('/').position(|piece| piece.len() > LONGEST)
+}
+
+fn count(text: &str) -> usize
+    ensures { result ≡ length (pieces text.now) }
+{
+    text.split('/').count()
 }
 
 fn size_fault(long: Option<usize>, count: usize) -> Option<PathFault>
@@ -58,34 +64,90 @@ fn size_fault(long: Option<usize>, count: usize) -> Option<PathFault>
     }
 }
 
-// Why these pieces are no path.
-pub fn fault_of(segs: &[TextBuf]) -> Option<PathFault>
-    ensures { result ≡ fault_of segs.now }
+// Why the pieces of a text are no path.
+fn fault_of(text: &str) -> Option<PathFault>
+    ensures { result ≡ fault_of (pieces text.now) }
 {
-    if has_empty(segs) {
+    if has_empty(text) {
         Some(PathFault::EmptySegment)
-    } else if has_dots(segs) {
+    } else if has_dots(text) {
         Some(PathFault::DotSegment)
     } else {
-        size_fault(first_long(segs), segs.len())
+        size_fault(first_long(text), count(text))
     }
 }
 
-// Adds the pieces of a text between its slashes.
-pub fn add_pieces(alloc: Global, segs: &mut Vec<TextBuf>, text: &str) -> Mem<()>
-    ensures { OnOk result (segs.new.items ≡ segs.old.items ++ pieces text.now) }
+// Why a path's text is no path.
+pub fn text_fault(text: &str) -> Option<PathFault>
+    requires { spelled (segs_in text.now) ≡ text.now }
+    ensures { result ≡ fault_of (segs_in text.now) }
 {
-    let parts = split(alloc, text)?;
-    for part in &parts {
-        segs.push(TextBuf::of(alloc, part)?)?;
+    match behind_slash(text) {
+        Some(rest) => fault_of(rest),
+        None => None,
     }
-    Ok(())
 }
 
-fn split(alloc: Global, text: &str) -> Result<Vec<&str>, AllocError>
-    ensures { IfOk result (λ parts. map (λ part. part.now) parts.items ≡ pieces text.now) }
+pub fn behind_slash(text: &str) -> Option<&str>
+    ensures some { IfSome result (λ rest. text.now ≡ 47 ∷ rest.now) }
+    ensures none { IfNone result ((rest : List ℕ) → text.now ≢ 47 ∷ rest) }
 {
-    text.split('/').collect(alloc)
+    text.strip_prefix('/')
+}
+
+pub fn slashes(text: &str) -> usize
+    ensures { result ≡ count_by (λ b. b == 47) text.now }
+{
+    let mut found = 0;
+    for b in text.as_bytes() {
+        if *b == b'/' {
+            found += 1;
+        }
+    }
+    found
+}
+
+pub fn piece_at(text: &str, n: usize) -> Option<&str>
+    ensures { option_copied result ≡ slice_get (pieces text.now) n }
+{
+    text.split('/').nth(n)
+}
+
+pub fn glued(alloc: Global, front: &str, mark: &str, back: &str) -> Mem<String>
+    ensures { IfOk result (λ t. string_bytes t ≡ front.now ++ (mark.now ++ back.now)) }
+{
+    let length = front
+        .len()
+        .saturating_add(mark.len())
+        .saturating_add(back.len());
+    let mut text = String::with_capacity(alloc, length)?;
+    text.push_str(front)?;
+    add_both(&mut text, mark, back)?;
+    Ok(text)
+}
+
+// The first pieces, a slash before each.
+pub fn first_pieces(alloc: Global, text: &str, n: usize) -> Mem<String>
+    ensures { IfOk result (λ t. string_bytes t ≡ spelled (take n (pieces text.now))) }
+{
+    let mut front = String::with_capacity(alloc, text.len().saturating_add(1))?;
+    for piece in text.split('/').take(n) {
+        front.push_str("/")?;
+        front.push_str(piece)?;
+    }
+    Ok(front)
+}
+
+// The pieces with their namespace prefixes as they stand in the repository, a slash before each.
+pub fn pieces_unmangled(alloc: Global, text: &str) -> Mem<String>
+    ensures { IfOk result (λ t. string_bytes t ≡ spelled (unmangled (pieces text.now))) }
+{
+    let mut plain = String::with_capacity(alloc, text.len().saturating_add(1))?;
+    for piece in text.split('/') {
+        plain.push_str("/")?;
+        add_unmangled(&mut plain, piece)?;
+    }
+    Ok(plain)
 }
 
 // What follows a mark such as `_jcr_`, where something does.
@@ -99,27 +161,37 @@ fn behind<'a>(seg: &'a str, mark: &str) -> Option<&'a str>
     }
 }
 
-fn joined(alloc: Global, prefix: &str, rest: &str) -> Mem<TextBuf>
-    ensures { IfOk result (λ t. t ≡ prefix.now ++ rest.now) }
-{
-    let mut text = String::from_str(alloc, prefix)?;
-    text.push_str(rest)?;
-    Ok(TextBuf::from(text))
-}
-
-// A segment with its namespace prefix as it stands in the repository.
-pub fn unmangled_seg(alloc: Global, seg: &str) -> Mem<TextBuf>
-    ensures { IfOk result (λ t. t ≡ unmangled_seg seg.now) }
+// Adds a segment with its namespace prefix as it stands in the repository.
+fn add_unmangled(text: &mut String, seg: &str) -> Mem<()>
+    ensures { OnOk result (string_bytes text.new ≡ string_bytes text.old ++ unmangled_seg seg.now) }
 {
     if let Some(rest) = behind(seg, "_jcr_") {
-        joined(alloc, "jcr:", rest)
+        add_both(text, "jcr:", rest)
     } else if let Some(rest) = behind(seg, "_sling_") {
-        joined(alloc, "sling:", rest)
+        add_both(text, "sling:", rest)
     } else if let Some(rest) = behind(seg, "_nt_") {
-        joined(alloc, "nt:", rest)
+        add_both(text, "nt:", rest)
     } else if let Some(rest) = behind(seg, "_cq_") {
-        joined(alloc, "cq:", rest)
+        add_both(text, "cq:", rest)
     } else {
-        TextBuf::of(alloc, seg)
+        add_both(text, "", seg)
+    }
+}
+
+fn add_both(text: &mut String, prefix: &str, rest: &str) -> Mem<()>
+    ensures { OnOk result (string_bytes text.new ≡ string_bytes text.old ++ (prefix.now ++ rest.now)) }
+{
+    text.push_str(prefix)?;
+    text.push_str(rest)?;
+    Ok(())
+}
+
+// Whether a path's text begins with all segments of another.
+pub fn text_under(text: &[u8], other: &[u8]) -> bool
+    ensures { result ≡ text_under text.now other.now }
+{
+    match text.strip_prefix(other) {
+        Some(rest) => rest.is_empty() || rest[0] == b'/',
+        None => false,
     }
 }

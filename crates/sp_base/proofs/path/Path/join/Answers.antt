@@ -1,16 +1,25 @@
-use Rattle.std.proofs.Common.{◌≡◌, sym, ◌∙◌, ap, subst, T, ◌++◌, List, ℕ, take, arith}
-use Rattle.std.proofs.lemmas.List.{take_all}
-use Rattle.std.specs.List.{list_all}
-use Rattle.sp_base.proofs.PathLemmas.{lacks_slash, path_pieces, all-append}
+use Rattle.std.proofs.Common.{◌≡◌, ◌∙◌, ◌++◌, sym, ap, string_bytes, List, ℕ}
+use Rattle.sp_base.specs.Paths.{segs_in, checked, join_of}
+use Rattle.sp_base.proofs.PathLemmas.{IfOk-from, IfErr-from}
+use Rattle.sp_base.proofs.PathText.{joined_text}
 use Rattle.sp_base.proofs.path.Path.join.Goals as goal
 
 pub made-requires : goal.made-requires
 made-requires c =
-    let own = c.self.inside.segs.items in
-    let more = c.rest.inside.segs.items in
-    let first : c.in_ok-segs.segs.items ≡ own = c.in_ok-segs.ensures ∙ c.deref.ensures.value in
-    let all : take c.loop-seg.seg-index c.deref-seg-items.result.now ≡ more =
-    take_all c.loop-seg.seg-index c.deref-seg-items.result.now (omega arith) ∙ c.deref-seg-items.ensures.value in
-    let same : c.loop-seg.segs.items ≡ own ++ more = c.loop-seg.invariant ∙ ap (λ (segs : List (List ℕ)). segs ++ take c.loop-seg.seg-index c.deref-seg-items.result.now) first ∙ ap (λ (segs : List (List ℕ)). own ++ segs) all in
-    subst (λ (segs : List (List ℕ)). T (list_all lacks_slash segs)) (sym same)
-    (all-append lacks_slash own more (path_pieces own c.self.invariant) (path_pieces more c.rest.invariant))
+    (joined_text (string_bytes c.self.inside.text) (string_bytes c.rest.inside.text) (string_bytes c.in_ok-glued.field-0) c.self.invariant.0 c.rest.invariant.0 c.self.invariant.1 c.rest.invariant.1
+    (c.in_ok-glued.ensures ∙ ap (λ (t : List ℕ). t ++ c.as_str-2.result.now) c.as_str.ensures.value ∙ ap (λ (t : List ℕ). string_bytes c.self.inside.text ++ t) c.as_str-2.ensures.value)).1
+
+-- what was made is the join by its definition
+made_of : (c : goal.After-made) → c.made.result ≡ join_of c.args.self.now c.args.rest.now
+made_of c =
+    let own = string_bytes c.self.inside.text in
+    let more = string_bytes c.rest.inside.text in
+    let text = c.in_ok-glued.ensures ∙ ap (λ (t : List ℕ). t ++ c.as_str-2.result.now) c.as_str.ensures.value ∙ ap (λ (t : List ℕ). own ++ t) c.as_str-2.ensures.value in
+    c.made.ensures ∙ ap checked ((joined_text own more (string_bytes c.in_ok-glued.field-0) c.self.invariant.0 c.rest.invariant.0 c.self.invariant.1 c.rest.invariant.1 text).0
+    ∙ ap (λ (segs : List (List ℕ)). segs ++ segs_in more) c.self.view_is ∙ ap (λ (segs : List (List ℕ)). c.args.self.now ++ segs) c.rest.view_is)
+
+pub returns-clause-ok : goal.returns-clause-ok
+returns-clause-ok c = IfOk-from c.made.result (λ p e. sym (made_of c) ∙ e)
+
+pub returns-clause-err : goal.returns-clause-err
+returns-clause-err c = IfErr-from c.made.result (λ e is _. sym (made_of c) ∙ is)

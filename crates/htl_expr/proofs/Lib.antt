@@ -17,3 +17,4 @@ pub mod LocalStrings
 pub mod LocalLoops
 pub mod LocalParts
 pub mod LocalOptions
+pub mod NoneLeft

@@ -12,3 +12,6 @@ pub mod Fronts
 pub mod WholeAgain
 pub mod Laws
 pub mod EscapeLemmas
+pub mod Moves
+pub mod MovesTokens
+pub mod MovesParts

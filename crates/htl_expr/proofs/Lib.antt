@@ -15,3 +15,5 @@ pub mod EscapeLemmas
 pub mod Moves
 pub mod MovesTokens
 pub mod MovesParts
+pub mod Stuck
+pub mod StuckTokens

@@ -17,3 +17,4 @@ pub mod MovesTokens
 pub mod MovesParts
 pub mod Stuck
 pub mod StuckTokens
+pub mod StuckParts

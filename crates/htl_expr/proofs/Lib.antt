@@ -8,7 +8,6 @@ pub mod Sound
 pub mod WholeRead
 pub mod TokensAgain
 pub mod Complete
-pub mod Fronts
 pub mod WholeAgain
 pub mod Laws
 pub mod EscapeLemmas

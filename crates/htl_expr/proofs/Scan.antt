@@ -1,5 +1,7 @@
 -- Steps of the loops over tokens.
-use Rattle.std.proofs.Common.{◌≡◌, ◌<◌, ◌≤◌, ◌+◌, ℕ, suc, Bool, true, false, eqb, List, [], ◌∷◌, drop, length, slice_index, refl, rules, arith, drop-drop}
+use Rattle.std.proofs.Common.{◌≡◌, ◌<◌, ◌≤◌, ◌+◌, ℕ, suc, Bool, true, false, eqb, List, [], ◌∷◌, drop, length, slice_index, refl, ap, sym, ◌∙◌, rules, arith, drop-drop}
+use Rattle.std.specs.Str.{IsCharBoundary}
+use Rattle.std.proofs.lemmas.List.{get_or-drop}
 use Rattle.std.proofs.lemmas.Bool.Decides.{nat_tests}
 use Rattle.htl_expr.specs.Tokens.{begins, is_at, is_blank, is_digit, is_letter, is_word, skip, goes_on, run_len, AreAscii}
 use Rattle.htl_expr.specs.declared.tokens.NameKind.{NameKind}
@@ -86,3 +88,9 @@ drop_more text rest len e = rw e (drop-drop 1 len text)
 
 pub minus_ascii : (t : List ℕ) → is_at 45 t ≡ true → slice_index t 0 < 128
 minus_ascii t h = front_ascii 45 t (search rules) h
+
+pub colon_boundary : (t : List ℕ) (i : ℕ) → i ≤ length t → is_at 58 (drop i t) ≡ true → IsCharBoundary t i
+colon_boundary t i le h =
+    let at : i + 0 ≡ i = omega arith in
+    let here : slice_index t i ≡ 58 = ap (slice_index t) (sym at) ∙ sym (get_or-drop i t 0 0) ∙ at_front 58 (drop i t) h in
+    (le, λ lt big. absurd (omega (arith, here)))

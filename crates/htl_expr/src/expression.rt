@@ -5,14 +5,14 @@ ghost use Rattle.htl_expr.specs.Tokens.{Gives, is_at};
 ghost use Rattle.htl_expr.specs.Read as spec;
 ghost use Rattle.htl_expr.specs.Grammar.{Whole};
 ghost use Rattle.htl_expr.specs.declared.expression.Expr.{Expr};
-ghost use Rattle.htl_expr.specs.Fault.{field_step, front_of, is_field, ends_field, place_of, expression_of, IsReadAs};
+ghost use Rattle.htl_expr.specs.Fault.{takes_colon, place_of, expression_of, IsReadAs};
 
 use crate::node::Node;
 use crate::options::{Options, read_options};
 use crate::reader::first;
 use crate::stop::Stop;
-use crate::tokens::{is_at, is_blank, is_first, is_letter, is_word, skip};
-use sp_base::TextBuf;
+use crate::tokens::skip;
+use sp_base::{Mem, NoMemory, TextBuf};
 use std::alloc::Global;
 
 /// Why a text is no expression. A place is counted in bytes from 0.
@@ -38,97 +38,6 @@ pub struct Expr {
     pub(crate) node: Option<Node>,
     pub(crate) join: Option<TextBuf>,
     pub(crate) context: Option<Context>,
-}
-
-/// What stands in front, as far as a field's name is concerned.
-#[derive(Debug, Clone, Copy, Drop)]
-pub enum Front {
-    Other,
-    /// The dot before a field's name, and blanks.
-    Dot,
-    /// A field's name.
-    Field,
-    /// A field's name and a colon that may belong to it.
-    Colon,
-}
-
-fn field_step(front: Front, c: u8) -> Front
-    ensures { result ≡ field_step front c }
-{
-    if c == b'.' {
-        return Front::Dot;
-    }
-    match front {
-        Front::Other => Front::Other,
-        Front::Dot => {
-            if is_blank(c) {
-                Front::Dot
-            } else if is_first(c) {
-                Front::Field
-            } else {
-                Front::Other
-            }
-        }
-        Front::Field => {
-            if is_word(c) {
-                Front::Field
-            } else if c == b':' {
-                Front::Colon
-            } else {
-                Front::Other
-            }
-        }
-        Front::Colon => {
-            if is_letter(c) {
-                Front::Field
-            } else {
-                Front::Other
-            }
-        }
-    }
-}
-
-/// What a text ends with.
-#[tactic(auto, using(crate::proofs::Fronts::front_more, crate::proofs::Fronts::front_done))]
-fn front_of(text: &[u8]) -> Front
-    ensures { result ≡ front_of Front.Other text.now }
-{
-    let mut front = Front::Other;
-    for c in text {
-        front = field_step(front, *c);
-    }
-    front
-}
-
-fn is_field(front: Front) -> bool
-    ensures { result ≡ is_field front }
-{
-    match front {
-        Front::Field => true,
-        Front::Other => false,
-        Front::Dot => false,
-        Front::Colon => false,
-    }
-}
-
-/// Whether a text ends with a field's name.
-fn ends_field(text: &[u8]) -> bool
-    ensures { result ≡ ends_field text.now }
-{
-    is_field(front_of(text))
-}
-
-/// The place of a fault. A colon right behind a field's name may belong to it, so there the byte after it is the one that doesn't fit.
-fn place_of(text: &str, place: usize) -> usize
-    requires { place ≤ length text.now }
-    ensures { result ≡ place_of text.now place }
-{
-    let bytes = text.as_bytes();
-    if colon_at(&bytes[place..]) && ends_field(&bytes[..place]) {
-        place + 1
-    } else {
-        place
-    }
 }
 
 #[tactic(auto, unfolding(crate::specs::Tokens::is_at))]
@@ -158,6 +67,36 @@ fn whole(alloc: Global, text: &str) -> Result<Expr, Stop>
     }
 }
 
+/// Whether a colon behind a text may belong to a field's name: a letter behind it is then read.
+fn takes_colon(alloc: Global, front: &str) -> Mem<bool>
+    ensures { IfOk result (λ takes. takes ≡ takes_colon front.now) }
+{
+    let mut text = String::from_str(alloc, front)?;
+    text.push_str(":b")?;
+    match whole(alloc, text.as_str()) {
+        Ok(_) => Ok(true),
+        Err(Stop::Memory) => Err(NoMemory),
+        Err(Stop::Unexpected(left)) => Ok(left <= 1),
+        Err(Stop::TooDeep(_)) => Ok(false),
+    }
+}
+
+/// The place of a fault. Where a colon may belong to a field's name, the byte behind it is the one that doesn't fit.
+fn place_of(alloc: Global, text: &str, place: usize) -> Mem<usize>
+    requires { place ≤ length text.now }
+    ensures { IfOk result (λ p. p ≡ place_of text.now place) }
+{
+    if !colon_at(&text.as_bytes()[place..]) {
+        return Ok(place);
+    }
+    let (front, _rest) = text.split_at(place);
+    if takes_colon(alloc, front)? {
+        Ok(place + 1)
+    } else {
+        Ok(place)
+    }
+}
+
 impl Expr {
     /// Reads an expression.
     pub fn read(alloc: Global, text: &str) -> Result<Expr, ExprFault>
@@ -174,10 +113,12 @@ impl Expr {
         match whole(alloc, text) {
             Ok(e) => Ok(e),
             Err(Stop::Memory) => Err(ExprFault::NoMemory),
-            Err(Stop::Unexpected(left)) => Err(ExprFault::Unexpected(place_of(
-                text,
-                text.len().saturating_sub(left),
-            ))),
+            Err(Stop::Unexpected(left)) => {
+                match place_of(alloc, text, text.len().saturating_sub(left)) {
+                    Ok(place) => Err(ExprFault::Unexpected(place)),
+                    Err(NoMemory) => Err(ExprFault::NoMemory),
+                }
+            }
             Err(Stop::TooDeep(left)) => Err(ExprFault::TooDeep(text.len().saturating_sub(left))),
         }
     }

@@ -8,8 +8,8 @@ returns-in-Ok-clause-found c = read_sound c.args.text.now c.in-Ok.e c.in-Ok.ensu
 pub returns-in-Ok-clause-only : goal.returns-in-Ok-clause-only
 returns-in-Ok-clause-only c = only_ok c.args.text.now c.in-Ok.e c.in-Ok.ensures
 
-pub returns-in-Err-Unexpected-clause-only : goal.returns-in-Err-Unexpected-clause-only
-returns-in-Err-Unexpected-clause-only c = only_err c.args.text.now _ (rw c.in-Err-Unexpected.field-0-is at c.in-Err-Unexpected.ensures)
+pub returns-in-Ok-place_of-clause-only : goal.returns-in-Ok-place_of-clause-only
+returns-in-Ok-place_of-clause-only c = only_err c.args.text.now _ (rw c.in-Err-Unexpected.field-0-is at c.in-Err-Unexpected.ensures)
 
 pub returns-in-Err-TooDeep-clause-only : goal.returns-in-Err-TooDeep-clause-only
 returns-in-Err-TooDeep-clause-only c = only_err c.args.text.now _ (rw c.in-Err-TooDeep.field-0-is at c.in-Err-TooDeep.ensures)

@@ -17,3 +17,5 @@ pub mod MovesParts
 pub mod Stuck
 pub mod StuckTokens
 pub mod StuckParts
+pub mod StuckLines
+pub mod StuckOptions

@@ -19,3 +19,4 @@ pub mod StuckTokens
 pub mod StuckParts
 pub mod StuckLines
 pub mod StuckOptions
+pub mod StuckWhole

@@ -107,7 +107,7 @@ module _ (A : Type 0) (c : ℕ) (w more : List ℕ) (Q : List ℕ → List ℕ �
 
 -- ---- join
 
-abbrev SomeJoin : List ℕ → List ℕ → Type 0
+abbrev pub SomeJoin : List ℕ → List ℕ → Type 0
 SomeJoin s r = (w : List ℕ) × Join s w r
 
 join_made : (s r : List ℕ) → Then (Literal (codes "join")) (Then (Byte 61) SomeString) s r → SomeJoin s r
@@ -122,11 +122,11 @@ any_string z p = ([], empty_string z p)
 string_cut : (s : List ℕ) (d : Stop) (k : ℕ) → string s ≡ Err d → At d k → Cut SomeString s k
 string_cut s d k e a = cut_of SomeString s k (string_stuck s d k e a)
 
-join_missing : (s : List ℕ) (k : ℕ) → length s ≡ k → Cut SomeJoin s k
+pub join_missing : (s : List ℕ) (k : ℕ) → length s ≡ k → Cut SomeJoin s k
 join_missing s k e =
     cut_map (Then (Literal (codes "join")) (Then (Byte 61) SomeString)) SomeJoin s k join_made (option_missing (List ℕ) 106 (codes "oin") (39 ∷ 39 ∷ []) SomeString string j_settled operand_settled any_string string_cut s k e)
 
-join_cut : (s : List ℕ) (d : Stop) (k : ℕ) → spec.join_option s ≡ Err d → At d k → Cut SomeJoin s k
+pub join_cut : (s : List ℕ) (d : Stop) (k : ℕ) → spec.join_option s ≡ Err d → At d k → Cut SomeJoin s k
 unfolding spec.join_option
 join_cut s d k e a =
     cut_map (Then (Literal (codes "join")) (Then (Byte 61) SomeString)) SomeJoin s k join_made (option_cut (List ℕ) 106 (codes "oin") (39 ∷ 39 ∷ []) SomeString string j_settled operand_settled any_string string_cut s d k e a)
@@ -208,7 +208,7 @@ context_string_cut (c ∷ s) d k e a = elim (chosen (is_quote c) _ _ _ e) [
   | inr h ↦ context_string_missing (c ∷ s) k (at_length (length (c ∷ s)) d k h.1 a)
 ]
 
-abbrev SomeContext : List ℕ → List ℕ → Type 0
+abbrev pub SomeContext : List ℕ → List ℕ → Type 0
 SomeContext s r = (c : Context) × InContext s c r
 
 context_made : (s r : List ℕ) → Then (Literal (codes "context")) (Then (Byte 61) SomeContextString) s r → SomeContext s r
@@ -217,12 +217,12 @@ context_made s r x = (x.2.2.0, in_context_of x.2.2.0 s r (x.0, x.1, (x.2.0, x.2.
 c_settled : (z : List ℕ) → Settled (codes "context" ++ z)
 c_settled z = settled_at 99 (codes "ontext" ++ z) refl
 
-context_missing : (s : List ℕ) (k : ℕ) → length s ≡ k → Cut SomeContext s k
+pub context_missing : (s : List ℕ) (k : ℕ) → length s ≡ k → Cut SomeContext s k
 context_missing s k e =
     cut_map (Then (Literal (codes "context")) (Then (Byte 61) SomeContextString)) SomeContext s k context_made
     (option_missing Context 99 (codes "ontext") context_more SomeContextString spec.context_string c_settled context_settled any_context context_string_cut s k e)
 
-context_cut : (s : List ℕ) (d : Stop) (k : ℕ) → spec.context_option s ≡ Err d → At d k → Cut SomeContext s k
+pub context_cut : (s : List ℕ) (d : Stop) (k : ℕ) → spec.context_option s ≡ Err d → At d k → Cut SomeContext s k
 unfolding spec.context_option
 context_cut s d k e a =
     cut_map (Then (Literal (codes "context")) (Then (Byte 61) SomeContextString)) SomeContext s k context_made

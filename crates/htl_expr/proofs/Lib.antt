@@ -20,3 +20,4 @@ pub mod StuckParts
 pub mod StuckLines
 pub mod StuckOptions
 pub mod StuckWhole
+pub mod More

@@ -1,8 +1,8 @@
 -- What was read is read before other texts too: what may stand behind it, and how that goes on.
-use Rattle.std.proofs.Common.{◌≡◌, ℕ, ◌<◌, Bool, true, false, cond, ◌||◌, ◌&&◌, eqb, List, [], ◌∷◌, ◌++◌, length, refl, ap, sym, subst, ◌∙◌, ◌⊎◌, inl, inr, arith, append_assoc}
+use Rattle.std.proofs.Common.{◌≡◌, ℕ, ◌<◌, Bool, true, false, ◌||◌, ◌&&◌, eqb, List, [], ◌∷◌, ◌++◌, length, refl, ap, sym, subst, ◌∙◌, ◌⊎◌, inl, inr, arith, append_assoc}
 use Rattle.htl_expr.specs.declared.tokens.NameKind.{NameKind}
 use Rattle.htl_expr.specs.declared.tokens.NameKind.TheVariants.{Name, Field}
-use Rattle.htl_expr.specs.Tokens.{skip, is_at, begins, goes_on, is_blank, is_letter, is_first, is_digit, is_word}
+use Rattle.htl_expr.specs.Tokens.{skip, begins, goes_on, is_blank, is_letter, is_first, is_digit, is_word}
 use Rattle.htl_expr.specs.Fault.{SameHead}
 
 -- a text that makes no token before it longer
@@ -71,10 +71,6 @@ near_clear r z (inr p) = inr (fresh_settled z p)
 pub fits_near : (r z : List ℕ) → Fits r z → Near r z
 fits_near r z (inl h) = inl h.0
 fits_near r z (inr p) = inr (plain_fresh z p)
-
-pub head_in : (front r z : List ℕ) → SameHead r z → SameHead (front ++ r) (front ++ z)
-head_in [] r z h = h
-head_in (c ∷ front) r z h = refl
 
 pub begins_same : (test : ℕ → Bool) (r z : List ℕ) → SameHead r z → begins test z ≡ begins test r
 unfolding begins

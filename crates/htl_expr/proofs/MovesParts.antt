@@ -1,5 +1,5 @@
 -- Each part is read before other texts too, which makes each front that reading passed a front of a text of the grammar.
-use Rattle.std.proofs.Common.{◌≡◌, ℕ, ℤ, suc, List, [], ◌∷◌, ◌++◌, Option, Some, None, refl}
+use Rattle.std.proofs.Common.{ℕ, suc, List, [], ◌∷◌}
 use Rattle.htl_expr.specs.declared.node.Node.{Node}
 use Rattle.htl_expr.specs.declared.node.Node.TheVariants as n
 use Rattle.htl_expr.specs.declared.tokens.NameKind.TheVariants.{Name, Field}

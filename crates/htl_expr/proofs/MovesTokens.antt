@@ -1,16 +1,16 @@
 -- Each token is read before other texts too.
-use Rattle.std.proofs.Common.{◌≡◌, ℕ, ℤ, ◌+◌, ◌*◌, ◌-◌, ◌<◌, ◌≤◌, suc, Bool, true, false, cond, ◌||◌, ◌&&◌, eqb, nat_le, List, [], ◌∷◌, ◌++◌, length, Option, Some, None, codes, refl, ap, sym, subst, ◌∙◌, ◌⊎◌, inl, inr, arith, rules, append_assoc}
+use Rattle.std.proofs.Common.{◌≡◌, ℕ, ℤ, Bool, true, false, ◌||◌, ◌&&◌, eqb, List, [], ◌∷◌, ◌++◌, codes, refl, ap, sym, subst, ◌∙◌, inl, inr, arith, append_assoc}
 use Rattle.std.proofs.lemmas.Bool.Decides.{nat_tests}
 use Rattle.htl_expr.specs.declared.tokens.NameKind.{NameKind}
 use Rattle.htl_expr.specs.declared.tokens.NameKind.TheVariants.{Name, Field}
 use Rattle.htl_expr.specs.declared.node.Comparison.{Comparison}
 use Rattle.htl_expr.specs.declared.node.Comparison.TheVariants.{Equal, NotEqual, Below, Above, AtMost, AtLeast}
 use Rattle.htl_expr.specs.declared.expression.Context.{Context}
-use Rattle.htl_expr.specs.Tokens.{skip, is_at, begins, goes_on, is_blank, is_letter, is_first, is_digit, is_word, digit_fits, limit}
+use Rattle.htl_expr.specs.Tokens.{skip, is_at, begins, goes_on, is_letter, is_first, is_digit, is_word, digit_fits, limit}
 use Rattle.htl_expr.specs.Fault.{SameHead}
 use Rattle.htl_expr.specs.Grammar.{Byte, Operator, Bare, Passes, Named, Quoted, String, Digits, Sign, Number, Compares, Literal, ContextString, context_text, Join, InContext}
 use Rattle.htl_expr.specs.Grammar as g
-use Rattle.htl_expr.proofs.Moves.{Plain, Fresh, Near, Fits, near_clear, fits_near, fits_in, near_in, begins_same, ends_fit, digit_word, field_word, blanks, Moves, Steps, Jumps, Then, steps_of, at_jumps, moves_of, moves_map, steps_map, steps_steps, at_steps}
+use Rattle.htl_expr.proofs.Moves.{Plain, Near, Fits, near_clear, fits_near, fits_in, near_in, ends_fit, digit_word, field_word, blanks, Moves, Steps, Jumps, Then, steps_of, at_jumps, steps_map, steps_steps, at_steps}
 
 pub byte_jumps : (c : ℕ) (s r : List ℕ) → Byte c s r → Jumps (Byte c) s r
 byte_jumps c s r b =

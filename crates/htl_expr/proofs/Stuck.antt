@@ -1,11 +1,10 @@
 -- Where reading stops, the text before can be made a text of the grammar: how what was read and what is missing are put together.
-use Rattle.std.proofs.Common.{◌≡◌, ℕ, ◌<◌, Bool, true, false, List, [], ◌∷◌, ◌++◌, drop, length, Result, Ok, Err, refl, ap, sym, subst, ◌∙◌, ◌⊎◌, inl, inr, append_assoc}
+use Rattle.std.proofs.Common.{◌≡◌, ℕ, ◌<◌, false, List, [], ◌∷◌, ◌++◌, drop, length, Result, Ok, Err, refl, ap, sym, subst, ◌∙◌, ◌⊎◌, inl, inr, append_assoc}
 use Rattle.htl_expr.specs.declared.stop.Stop.{Stop}
 use Rattle.htl_expr.specs.declared.stop.Stop.TheVariants.{Memory, Unexpected, TooDeep}
 use Rattle.htl_expr.specs.declared.tokens.NameKind.TheVariants.{Field}
-use Rattle.htl_expr.specs.Tokens.{◌>>=◌, skip, goes_on}
-use Rattle.htl_expr.specs.Fault.{SameHead}
-use Rattle.htl_expr.proofs.Moves.{Plain, Settled, plain_fresh, Clear, Near, Fits, near_clear, fits_near, near_in, fits_in, fits_behind, clear_in, Moves, Steps, Jumps, Then}
+use Rattle.htl_expr.specs.Tokens.{◌>>=◌, goes_on}
+use Rattle.htl_expr.proofs.Moves.{Plain, plain_fresh, Clear, Near, Fits, near_clear, fits_near, near_in, fits_in, fits_behind, clear_in, Moves, Steps, Jumps, Then}
 
 -- reading stopped where k bytes were left
 abbrev pub At : Stop → ℕ → Type 0
@@ -150,12 +149,6 @@ stuck_then R Q s k tail q plain make = record {
 
 pub moves_end : (R : List ℕ → List ℕ → Type 0) (s m : List ℕ) (k : ℕ) → Moves R s m → length m ≡ k → Stuck R s k
 moves_end R s m k a e = record { front = a.front; rest = m; more = []; parts = a.parts; left = e; near = λ z p. near_in s a.front m z a.parts (inr (plain_fresh z p)); ends = λ z p. a.same z (inr p) }
-
-pub none_late : (R : List ℕ → List ℕ → Type 0) (s : List ℕ) (k : ℕ) → length s ≡ k → ((z : List ℕ) → R z z) → Late R s k
-none_late R s k e make = record {
-  stuck = record { front = []; rest = s; more = []; parts = refl; left = e; near = λ z p. inr (plain_fresh z p); ends = λ z p. make z };
-  later = λ z p. inr p;
-}
 
 -- ---- a byte that ends a name
 

@@ -1,19 +1,17 @@
 -- Options in which reading stopped can be completed.
-use Rattle.std.proofs.Common.{◌≡◌, ℕ, ◌<◌, Bool, true, false, cond, ◌&&◌, eqb, List, [], ◌∷◌, ◌++◌, drop, length, Option, Some, None, is_none, Result, Ok, Err, codes, refl, ap, sym, subst, ◌∙◌, ◌⊎◌, inl, inr, append_assoc}
+use Rattle.std.proofs.Common.{◌≡◌, ℕ, true, List, [], ◌∷◌, ◌++◌, drop, length, Result, Ok, Err, codes, refl, ap, sym, subst, ◌∙◌, inl, inr, append_assoc}
 use Rattle.htl_expr.specs.declared.stop.Stop.{Stop}
 use Rattle.htl_expr.specs.declared.expression.Context.{Context}
 use Rattle.htl_expr.specs.declared.expression.Context.TheVariants.{Text, Unsafe}
-use Rattle.htl_expr.specs.Tokens.{◌>>=◌, skip, is_at, begins, goes_on, is_quote, expect, literal, string}
+use Rattle.htl_expr.specs.Tokens.{◌>>=◌, skip, is_at, begins, is_quote, expect, literal, string}
 use Rattle.htl_expr.specs.Read as spec
-use Rattle.htl_expr.specs.Grammar.{Byte, Literal, String, ContextString, context_text, Join, InContext, Options}
-use Rattle.htl_expr.specs.Grammar as g
-use Rattle.htl_expr.specs.Fault.{SameHead}
-use Rattle.htl_expr.proofs.Tools.{bind_ok, chosen}
-use Rattle.htl_expr.proofs.TokensRead.{byte, byte_at, expect_sound}
+use Rattle.htl_expr.specs.Grammar.{Byte, Literal, ContextString, context_text, Join, InContext}
+use Rattle.htl_expr.proofs.Tools.{chosen}
+use Rattle.htl_expr.proofs.TokensRead.{byte_at, expect_sound}
 use Rattle.htl_expr.proofs.WholeRead as whole
-use Rattle.htl_expr.proofs.Moves.{Plain, Settled, settled_at, plain_settled, Clear, Near, Moves, Then, moves_of, moves_map, steps_then, none_moves, steps_map}
-use Rattle.htl_expr.proofs.MovesTokens.{byte_jumps, byte_steps, literal_jumps, JoinOf, join_of, join_steps, InContextOf, in_context_of, in_context_steps}
-use Rattle.htl_expr.proofs.Stuck.{At, at_length, bind_err, Stuck, Late, Cut, stuck_map, late_map, cut_map, cut_of, moves_late, jumps_cut, Quiet, fits_quiet}
+use Rattle.htl_expr.proofs.Moves.{Plain, Settled, settled_at, plain_settled, Then}
+use Rattle.htl_expr.proofs.MovesTokens.{byte_jumps, literal_jumps, join_of, in_context_of}
+use Rattle.htl_expr.proofs.Stuck.{At, at_length, bind_err, Cut, cut_map, cut_of, jumps_cut}
 use Rattle.htl_expr.proofs.StuckTokens.{operand, operand_settled, empty_string, byte_of, expect_missing, SomeString, string_stuck}
 
 -- ---- words
@@ -160,13 +158,16 @@ context_word_cut c s context d k quote e a =
       parts = ap (λ (t : List ℕ). c ∷ t) i.parts;
       left = i.left;
       clear = λ z p. inl refl;
-      ends = λ z p. (context, record {
-        mark = c;
-        after = z;
-        parts = ap (λ (t : List ℕ). c ∷ t) (ap (λ (t : List ℕ). i.front ++ t) (append_assoc i.tail (c ∷ []) z) ∙ word_whole w s k i (c ∷ z));
-        is_mark = quote;
-        rest = sym (plain_settled z p);
-      });
+      ends = λ z p. (
+        context,
+        record {
+          mark = c;
+          after = z;
+          parts = ap (λ (t : List ℕ). c ∷ t) (ap (λ (t : List ℕ). i.front ++ t) (append_assoc i.tail (c ∷ []) z) ∙ word_whole w s k i (c ∷ z));
+          is_mark = quote;
+          rest = sym (plain_settled z p);
+        },
+      );
     }
 
 context_close_cut : (c : ℕ) (s : List ℕ) (x : Context × List ℕ) (k : ℕ) → is_quote c ≡ true → s ≡ context_text x.0 ++ x.1 → length x.1 ≡ k → Cut SomeContextString (c ∷ s) k

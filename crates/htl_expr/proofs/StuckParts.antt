@@ -1,15 +1,14 @@
 -- Accesses, operands and chains in which reading stopped can be completed.
-use Rattle.std.proofs.Common.{◌≡◌, ℕ, zero, suc, ◌<◌, ◌≤◌, Bool, true, false, cond, ◌||◌, eqb, List, [], ◌∷◌, ◌++◌, drop, length, Option, Some, None, Ok, Err, refl, ap, sym, subst, ◌∙◌, inl, inr, arith, rules}
+use Rattle.std.proofs.Common.{◌≡◌, ℕ, zero, suc, ◌<◌, true, ◌||◌, eqb, List, [], ◌∷◌, ◌++◌, drop, length, Option, Some, None, Ok, Err, refl, inl, inr}
 use Rattle.htl_expr.specs.declared.stop.Stop.{Stop}
-use Rattle.htl_expr.specs.declared.stop.Stop.TheVariants.{Memory, Unexpected, TooDeep}
 use Rattle.htl_expr.specs.declared.node.Node.{Node}
 use Rattle.htl_expr.specs.declared.node.Node.TheVariants as n
-use Rattle.htl_expr.specs.declared.tokens.NameKind.TheVariants.{Name, Field}
-use Rattle.htl_expr.specs.Tokens.{Outcome, ◌>>=◌, skip, is_at, begins, goes_on, is_digit, is_quote, is_first, expect, second, name, number, string}
+use Rattle.htl_expr.specs.declared.tokens.NameKind.TheVariants.{Name}
+use Rattle.htl_expr.specs.Tokens.{Outcome, ◌>>=◌, skip, is_at, begins, goes_on, is_digit, is_quote, is_first, expect, name, number, string}
 use Rattle.htl_expr.specs.Read as spec
 use Rattle.htl_expr.specs.Grammar.{Byte, Operator, Named, String, Separator, And, Or, Comma, Separates, Part, part_of, Choice, Either, Both, Compare, Operand, Atom, Start, Items, Reads, More, Access, Accesses}
 use Rattle.htl_expr.specs.Grammar as g
-use Rattle.htl_expr.proofs.Tools.{bind_ok, chosen}
+use Rattle.htl_expr.proofs.Tools.{chosen}
 use Rattle.htl_expr.proofs.TokensRead.{byte, name_sound, string_sound}
 use Rattle.htl_expr.proofs.TokensAgain.{byte-short, operator-short}
 use Rattle.htl_expr.proofs.Sound as sound
@@ -111,56 +110,56 @@ accesses_stuck depth (suc fuel) found t d k e a = elim (chosen (spec.access_at t
 
 -- ---- one operand
 
-abbrev pub Some_ : Part → ℕ → List ℕ → List ℕ → Type 0
-Some_ part depth s r = (e : Node) × Reads part depth s e r
+abbrev pub SomePart : Part → ℕ → List ℕ → List ℕ → Type 0
+SomePart part depth s r = (e : Node) × Reads part depth s e r
 
 abbrev pub Sticks : Part → ℕ → (List ℕ → Outcome Node) → Type 0
-Sticks part depth f = (s : List ℕ) (d : Stop) (k : ℕ) → f s ≡ Err d → At d k → Stuck (Some_ part depth) s k
+Sticks part depth f = (s : List ℕ) (d : Stop) (k : ℕ) → f s ≡ Err d → At d k → Stuck (SomePart part depth) s k
 
-pub moves_some : (part : Part) (depth : ℕ) (s : List ℕ) (e : Node) (r : List ℕ) → Reads part depth s e r → Moves (Some_ part depth) s r
-moves_some part depth s e r x = moves_map (ReadsOf part depth e) (Some_ part depth) s r (λ s' r' y. (e, y)) (reads_moves part depth s e r x)
+pub moves_some : (part : Part) (depth : ℕ) (s : List ℕ) (e : Node) (r : List ℕ) → Reads part depth s e r → Moves (SomePart part depth) s r
+moves_some part depth s e r x = moves_map (ReadsOf part depth e) (SomePart part depth) s r (λ s' r' y. (e, y)) (reads_moves part depth s e r x)
 
-pub start_atom : (depth : ℕ) (s r : List ℕ) → Some_ Start depth s r → Some_ Atom depth s r
+pub start_atom : (depth : ℕ) (s r : List ℕ) → SomePart Start depth s r → SomePart Atom depth s r
 start_atom depth s r x = (x.0, g.atom x.1 g.none)
 
-pub atom_operand : (depth : ℕ) (s r : List ℕ) → Some_ Atom depth s r → Some_ Operand depth s r
+pub atom_operand : (depth : ℕ) (s r : List ℕ) → SomePart Atom depth s r → SomePart Operand depth s r
 atom_operand depth s r x = (x.0, g.bare x.1)
 
-pub operand_compare : (depth : ℕ) (s r : List ℕ) → Some_ Operand depth s r → Some_ Compare depth s r
+pub operand_compare : (depth : ℕ) (s r : List ℕ) → SomePart Operand depth s r → SomePart Compare depth s r
 operand_compare depth s r x = (x.0, g.single x.1)
 
-pub compare_both : (depth : ℕ) (s r : List ℕ) → Some_ Compare depth s r → Some_ Both depth s r
+pub compare_both : (depth : ℕ) (s r : List ℕ) → SomePart Compare depth s r → SomePart Both depth s r
 compare_both depth s r x = (x.0, g.both x.1 g.end)
 
-pub both_either : (depth : ℕ) (s r : List ℕ) → Some_ Both depth s r → Some_ Either depth s r
+pub both_either : (depth : ℕ) (s r : List ℕ) → SomePart Both depth s r → SomePart Either depth s r
 both_either depth s r x = (x.0, g.either x.1 g.end)
 
-pub either_choice : (depth : ℕ) (s r : List ℕ) → Some_ Either depth s r → Some_ Choice depth s r
+pub either_choice : (depth : ℕ) (s r : List ℕ) → SomePart Either depth s r → SomePart Choice depth s r
 either_choice depth s r x = (x.0, g.only x.1)
 
-one_start : (depth : ℕ) (z : List ℕ) → Plain z → Some_ Start depth (operand z) z
+one_start : (depth : ℕ) (z : List ℕ) → Plain z → SomePart Start depth (operand z) z
 one_start depth z p = (n.Text [], g.string (empty_string z p))
 
-pub one_operand : (depth : ℕ) (z : List ℕ) → Plain z → Some_ Operand depth (operand z) z
+pub one_operand : (depth : ℕ) (z : List ℕ) → Plain z → SomePart Operand depth (operand z) z
 one_operand depth z p = atom_operand depth (operand z) z (start_atom depth (operand z) z (one_start depth z p))
 
-pub one_compare : (depth : ℕ) (z : List ℕ) → Plain z → Some_ Compare depth (operand z) z
+pub one_compare : (depth : ℕ) (z : List ℕ) → Plain z → SomePart Compare depth (operand z) z
 one_compare depth z p = operand_compare depth (operand z) z (one_operand depth z p)
 
-pub one_both : (depth : ℕ) (z : List ℕ) → Plain z → Some_ Both depth (operand z) z
+pub one_both : (depth : ℕ) (z : List ℕ) → Plain z → SomePart Both depth (operand z) z
 one_both depth z p = compare_both depth (operand z) z (one_compare depth z p)
 
-pub one_choice : (depth : ℕ) (z : List ℕ) → Plain z → Some_ Choice depth (operand z) z
+pub one_choice : (depth : ℕ) (z : List ℕ) → Plain z → SomePart Choice depth (operand z) z
 one_choice depth z p = either_choice depth (operand z) z (both_either depth (operand z) z (one_both depth z p))
 
-pub start_missing : (depth : ℕ) (s : List ℕ) (k : ℕ) → length s ≡ k → Stuck (Some_ Start depth) s k
+pub start_missing : (depth : ℕ) (s : List ℕ) (k : ℕ) → length s ≡ k → Stuck (SomePart Start depth) s k
 start_missing depth s k e = record { front = []; rest = s; more = 39 ∷ 39 ∷ []; parts = refl; left = e; near = λ z p. inr (refl, refl, refl); ends = one_start depth }
 
-object_stuck : (depth : ℕ) (s w m : List ℕ) (o : Option (List ℕ → Node)) (d : Stop) (k : ℕ) → spec.object_of w ≡ o → Named Name s w m → spec.named_of depth o w m ≡ Err d → At d k → Stuck (Some_ Start depth) s k
+object_stuck : (depth : ℕ) (s w m : List ℕ) (o : Option (List ℕ → Node)) (d : Stop) (k : ℕ) → spec.object_of w ≡ o → Named Name s w m → spec.named_of depth o w m ≡ Err d → At d k → Stuck (SomePart Start depth) s k
 object_stuck depth s w m None d k o t e a = absurd cc
 object_stuck depth s w m (Some make) d k o t e a = elim (bind_err (spec.first_access depth m) (λ f. Ok (make f.0, f.1)) d e) [
   | inl at ↦
-      stuck_map (Then (NamedOf Name w) (SomeAccess depth)) (Some_ Start depth) s k (λ s' r' x. (make x.2.0, g.object x.1 o x.2.1))
+      stuck_map (Then (NamedOf Name w) (SomeAccess depth)) (SomePart Start depth) s k (λ s' r' x. (make x.2.0, g.object x.1 o x.2.1))
       (moves_stuck (NamedOf Name w) (SomeAccess depth) s m k (name_moves Name s w m t) (first_access_stuck depth m d k at a))
   | inr at ↦ absurd (let x = at.2 in cc)
 ]
@@ -181,14 +180,14 @@ unfolding spec.leaf
 leaf_stuck depth s d k e a = elim (chosen (begins is_quote s) _ _ _ e) [
   | inl h ↦
       elim (bind_err (string s) (λ x. Ok (n.Text x.0, x.1)) d h.1) [
-        | inl at ↦ stuck_map SomeString (Some_ Start depth) s k (λ s' r' x. (n.Text x.0, g.string x.1)) (string_stuck s d k at a)
+        | inl at ↦ stuck_map SomeString (SomePart Start depth) s k (λ s' r' x. (n.Text x.0, g.string x.1)) (string_stuck s d k at a)
         | inr at ↦ absurd (let x = at.2 in cc)
       ]
   | inr h ↦
       elim (chosen (is_at 45 s || begins is_digit s) _ _ _ h.1) [
         | inl j ↦
             elim (bind_err (number s) (λ x. Ok (n.Long x.0, x.1)) d j.1) [
-              | inl at ↦ stuck_map SomeNumber (Some_ Start depth) s k (λ s' r' x. (n.Long x.0, g.number x.1)) (number_stuck s d k j.0 at a)
+              | inl at ↦ stuck_map SomeNumber (SomePart Start depth) s k (λ s' r' x. (n.Long x.0, g.number x.1)) (number_stuck s d k j.0 at a)
               | inr at ↦ absurd (let x = at.2 in cc)
             ]
         | inr j ↦ named_stuck depth s d k j.1 a
@@ -226,9 +225,9 @@ SomeMore sep depth s r = (es : List Node) × More sep depth s es r
 more_then : (sep : Separator) (depth : ℕ) (x : Node) (s m : List ℕ) (es : List Node) (r : List ℕ) → More sep depth s (x ∷ []) m → More sep depth m es r → More sep depth s (x ∷ es) r
 more_then sep depth x s m es r (g.more o i g.end) y = g.more o i y
 
-module _ (sep : Separator) (depth : ℕ) (item : List ℕ → Outcome Node) (one : (z : List ℕ) → Plain z → Some_ (part_of sep) depth (operand z) z) (item_sound : sound.Sound (part_of sep) depth item)
+module _ (sep : Separator) (depth : ℕ) (item : List ℕ → Outcome Node) (one : (z : List ℕ) → Plain z → SomePart (part_of sep) depth (operand z) z) (item_sound : sound.Sound (part_of sep) depth item)
     (sticks : Sticks (part_of sep) depth item) where
-  single : (s r : List ℕ) → Then (Separates sep) (Some_ (part_of sep) depth) s r → SomeMore sep depth s r
+  single : (s r : List ℕ) → Then (Separates sep) (SomePart (part_of sep) depth) s r → SomeMore sep depth s r
   single s r x = (x.2.0 ∷ [], g.more x.1 x.2.1 g.end)
 
   pub chain_stuck : (fuel : ℕ) (found : List Node) (t : List ℕ) (d : Stop) (k : ℕ) → spec.chain item (byte_of sep) fuel found t ≡ Err d → At d k → Late (SomeMore sep depth) t k
@@ -237,13 +236,13 @@ module _ (sep : Separator) (depth : ℕ) (item : List ℕ → Outcome Node) (one
   chain_stuck (suc fuel) found t d k e a = elim (chosen (is_at (byte_of sep) t) _ _ _ e) [
     | inl h ↦
         elim (bind_err (spec.between (byte_of sep) t) (λ r. item r >>= λ x. spec.chain item (byte_of sep) fuel (found ++ x.0 ∷ []) x.1) d h.1) [
-          | inl at ↦ late_map (Then (Separates sep) (Some_ (part_of sep) depth)) (SomeMore sep depth) t k single (between_stuck sep (Some_ (part_of sep) depth) one t d k h.0 at a)
+          | inl at ↦ late_map (Then (Separates sep) (SomePart (part_of sep) depth)) (SomeMore sep depth) t k single (between_stuck sep (SomePart (part_of sep) depth) one t d k h.0 at a)
           | inr at ↦
               let op = sound.between_sound sep t at.0 h.0 at.1 in
               elim (bind_err (item at.0) (λ x. spec.chain item (byte_of sep) fuel (found ++ x.0 ∷ []) x.1) d at.2) [
                 | inl no_item ↦
-                    late_map (Then (Separates sep) (Some_ (part_of sep) depth)) (SomeMore sep depth) t k single
-                    (steps_late (Separates sep) (Some_ (part_of sep) depth) t at.0 k (separates_steps sep t at.0 op) (separates_less sep t at.0 op) (sticks at.0 d k no_item a))
+                    late_map (Then (Separates sep) (SomePart (part_of sep) depth)) (SomeMore sep depth) t k single
+                    (steps_late (Separates sep) (SomePart (part_of sep) depth) t at.0 k (separates_steps sep t at.0 op) (separates_less sep t at.0 op) (sticks at.0 d k no_item a))
                 | inr x ↦
                     let turn : More sep depth t (x.0.0 ∷ []) x.0.1 = g.more op (item_sound at.0 x.0 x.1) g.end in
                     late_map (Then (MoreOf sep depth (x.0.0 ∷ [])) (SomeMore sep depth)) (SomeMore sep depth) t k (λ s' r' y. (x.0.0 ∷ y.2.0, more_then sep depth x.0.0 s' y.0 y.2.0 r' y.1 y.2.1))

@@ -1,18 +1,17 @@
 -- Where a token is missing or was cut, it can be completed.
-use Rattle.std.proofs.Common.{◌≡◌, ℕ, ℤ, ◌<◌, suc, Bool, true, false, cond, ◌||◌, eqb, List, [], ◌∷◌, ◌++◌, drop, length, Option, Some, None, Ok, Err, refl, ap, sym, subst, ◌∙◌, inl, inr, arith, rules}
-use Rattle.std.proofs.lemmas.Bool.Decides.{nat_tests}
+use Rattle.std.proofs.Common.{◌≡◌, ℕ, ℤ, Bool, true, false, ◌||◌, eqb, List, [], ◌∷◌, ◌++◌, drop, length, Option, Some, None, Ok, Err, refl, ap, sym, subst, inl, inr}
 use Rattle.htl_expr.specs.declared.stop.Stop.{Stop}
-use Rattle.htl_expr.specs.declared.tokens.NameKind.TheVariants.{Name, Field}
+use Rattle.htl_expr.specs.declared.tokens.NameKind.TheVariants.{Field}
 use Rattle.htl_expr.specs.declared.node.Comparison.{Comparison}
-use Rattle.htl_expr.specs.declared.node.Comparison.TheVariants.{Equal, NotEqual, Below, Above, AtMost, AtLeast}
-use Rattle.htl_expr.specs.Tokens.{◌>>=◌, skip, is_at, begins, goes_on, is_blank, is_letter, is_first, is_digit, is_word, is_quote, expect, second, name, unescape, escaped, string, string_from, digits, number, digit_fits, limit}
+use Rattle.htl_expr.specs.declared.node.Comparison.TheVariants.{Equal, NotEqual}
+use Rattle.htl_expr.specs.Tokens.{is_at, begins, goes_on, is_first, is_digit, is_quote, expect, second, name, unescape, escaped, string, string_from, digits, number, digit_fits, limit}
 use Rattle.htl_expr.specs.Read as spec
 use Rattle.htl_expr.specs.Fault.{SameHead}
 use Rattle.htl_expr.specs.Grammar.{Byte, Operator, Named, Quoted, String, Number, Compares}
 use Rattle.htl_expr.specs.Grammar as g
 use Rattle.htl_expr.proofs.Tools.{chosen}
 use Rattle.htl_expr.proofs.TokensRead.{eqb_is, byte_at}
-use Rattle.htl_expr.proofs.Moves.{Plain, Settled, settled_at, plain_settled, plain_ends, Near, Fits, fits_near, Then}
+use Rattle.htl_expr.proofs.Moves.{Plain, Settled, settled_at, plain_settled, plain_ends, fits_near, Then}
 use Rattle.htl_expr.proofs.MovesTokens.{no_digit}
 use Rattle.htl_expr.proofs.Stuck.{At, at_length, bind_err, Stuck, Late, late_map, Quiet, fits_quiet}
 
@@ -154,19 +153,20 @@ SomeNumber s r = (k : ℤ) × Number s k r
 
 minus_one : (z : List ℕ) → Plain z → SomeNumber (45 ∷ 49 ∷ z) z
 unfolding begins digit_fits
-minus_one z p =
-    (_,
-    record {
-      negative = true;
-      magnitude = 1;
-      inside = 49 ∷ z;
-      after = z;
-      sign = refl;
-      first = refl;
-      body = g.digit refl (g.none (no_digit (limit true) 1 z p));
-      value = refl;
-      rest = sym (plain_settled z p);
-    })
+minus_one z p = (
+  _,
+  record {
+    negative = true;
+    magnitude = 1;
+    inside = 49 ∷ z;
+    after = z;
+    sign = refl;
+    first = refl;
+    body = g.digit refl (g.none (no_digit (limit true) 1 z p));
+    value = refl;
+    rest = sym (plain_settled z p);
+  },
+)
 
 pub number_stuck : (s : List ℕ) (d : Stop) (k : ℕ) → (is_at 45 s || begins is_digit s) ≡ true → number s ≡ Err d → At d k → Stuck SomeNumber s k
 unfolding number digits

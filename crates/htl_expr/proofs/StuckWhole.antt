@@ -1,8 +1,8 @@
 -- A whole text in which reading stopped can be completed.
-use Rattle.std.proofs.Common.{◌≡◌, ℕ, zero, suc, ◌+◌, ◌-◌, ◌≤◌, Bool, true, false, cond, ◌&&◌, ◌||◌, eqb, List, [], ◌∷◌, ◌++◌, take, drop, length, Option, Some, None, is_none, Ok, Err, refl, ap, sym, subst, ◌∙◌, ◌⊎◌, inl, inr, arith, append_assoc}
-use Rattle.std.proofs.lemmas.List.{append-nil, length-append, take_at}
+use Rattle.std.proofs.Common.{◌≡◌, ℕ, ◌-◌, true, cond, ◌||◌, eqb, List, [], ◌∷◌, ◌++◌, take, drop, length, Option, Some, None, Ok, Err, refl, ap, sym, subst, ◌∙◌, ◌⊎◌, inl, inr, arith, append_assoc}
+use Rattle.std.proofs.lemmas.List.{length-append, take_at}
 use Rattle.htl_expr.specs.declared.stop.Stop.{Stop}
-use Rattle.htl_expr.specs.declared.stop.Stop.TheVariants.{Memory, Unexpected, TooDeep}
+use Rattle.htl_expr.specs.declared.stop.Stop.TheVariants.{Unexpected}
 use Rattle.htl_expr.specs.declared.node.Node.{Node}
 use Rattle.htl_expr.specs.declared.expression.Context.{Context}
 use Rattle.htl_expr.specs.declared.expression.Expr.{Expr}
@@ -14,7 +14,7 @@ use Rattle.htl_expr.specs.Fault.{SameHead, MayGoOn}
 use Rattle.htl_expr.proofs.Tools.{bind_ok, chosen, ok_is}
 use Rattle.htl_expr.proofs.TokensRead.{byte, byte_at}
 use Rattle.htl_expr.proofs.WholeRead as whole
-use Rattle.htl_expr.proofs.Moves.{Plain, Clear, near_clear, blanks, Moves, Steps, Then, moves_map, moves_of, moves_then, steps_then, steps_steps, none_moves}
+use Rattle.htl_expr.proofs.Moves.{near_clear, blanks, Moves, Then, moves_map, moves_of, moves_then, steps_steps, none_moves}
 use Rattle.htl_expr.proofs.MovesTokens.{byte_steps, JoinOf, join_steps, InContextOf, in_context_steps}
 use Rattle.htl_expr.proofs.MovesParts.{ReadsOf, reads_moves}
 use Rattle.htl_expr.proofs.Stuck.{At, at_length, bind_err, Stuck, Late, Cut, stuck_map, late_map, cut_map, moves_stuck, moves_late, stuck_then, moves_end, Quiet, fits_quiet}

@@ -37,7 +37,7 @@ context_word_parts s p e =
           subst (WordOf s) (ok_is _ _ r.2) (literal_parts (codes "unsafe") s r.0 r.1)
     ]
 
-pub context_string_sound : (s : List ℕ) (p : Context × List ℕ) → spec.context_string s ≡ Ok p → ContextString s p.0 p.1
+context_string_sound : (s : List ℕ) (p : Context × List ℕ) → spec.context_string s ≡ Ok p → ContextString s p.0 p.1
 unfolding spec.context_string begins
 context_string_sound [] p e = absurd cc
 context_string_sound (c ∷ s) p e =
@@ -51,7 +51,7 @@ context_string_sound (c ∷ s) p e =
       | inr h ↦ absurd cc
     ]
 
-pub join_sound : (s : List ℕ) (p : List ℕ × List ℕ) → spec.join_option s ≡ Ok p → Join s p.0 p.1
+join_sound : (s : List ℕ) (p : List ℕ × List ℕ) → spec.join_option s ≡ Ok p → Join s p.0 p.1
 unfolding spec.join_option
 join_sound s p e =
     let a = bind_ok (literal (codes "join") s) (λ a. expect 61 (skip a) >>= λ b. string b) p e in
@@ -64,7 +64,7 @@ join_sound s p e =
       value = string_sound b.0 p b.2;
     }
 
-pub in_context_sound : (s : List ℕ) (p : Context × List ℕ) → spec.context_option s ≡ Ok p → InContext s p.0 p.1
+in_context_sound : (s : List ℕ) (p : Context × List ℕ) → spec.context_option s ≡ Ok p → InContext s p.0 p.1
 unfolding spec.context_option
 in_context_sound s p e =
     let a = bind_ok (literal (codes "context") s) (λ a. expect 61 (skip a) >>= λ b. spec.context_string b) p e in

@@ -31,7 +31,7 @@ Stops Items r = is_at 93 r ≡ true
 
 -- ---- what was read is taken off
 
-access-short : (depth : ℕ) (s f r : List ℕ) → Access depth s f r → length r < length s
+pub access-short : (depth : ℕ) (s f r : List ℕ) → Access depth s f r → length r < length s
 access-short _ _ _ _ (g.field b f) = omega (arith, again.byte-short _ _ _ b, again.name-short _ _ _ _ f)
 access-short _ _ _ _ (g.bracket b w c) = omega (arith, again.byte-short _ _ _ b, again.string-short _ _ _ w, again.byte-short _ _ _ c)
 

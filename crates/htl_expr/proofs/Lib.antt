@@ -21,3 +21,9 @@ pub mod StuckLines
 pub mod StuckOptions
 pub mod StuckWhole
 pub mod More
+pub mod Local
+pub mod LocalTokens
+pub mod LocalStrings
+pub mod LocalLoops
+pub mod LocalParts
+pub mod LocalOptions

@@ -101,7 +101,7 @@ access_sound depth t x at e =
       | inr h ↦ bracketed_sound depth t x (rw h.0 at at) h.1
     ]
 
-first_access_sound : (depth : ℕ) (t : List ℕ) (x : List ℕ × List ℕ) → spec.first_access depth t ≡ Ok x → Access depth t x.0 x.1
+pub first_access_sound : (depth : ℕ) (t : List ℕ) (x : List ℕ × List ℕ) → spec.first_access depth t ≡ Ok x → Access depth t x.0 x.1
 unfolding spec.first_access
 first_access_sound depth t x e =
     elim (chosen (spec.access_at t) _ _ _ e) [

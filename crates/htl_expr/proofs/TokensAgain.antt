@@ -46,7 +46,7 @@ pub second_again : (c d : ℕ) (s r : List ℕ) → Operator c d s r → second 
 unfolding second
 second_again c d s r b = rw b.parts (expect_again d (d ∷ b.after) r (record { after = b.after; parts = refl; rest = b.rest }))
 
-run_len-is : (kind : NameKind) (w after : List ℕ) → Passes kind w after → goes_on kind after ≡ false → run_len kind (w ++ after) ≡ length w
+pub run_len-is : (kind : NameKind) (w after : List ℕ) → Passes kind w after → goes_on kind after ≡ false → run_len kind (w ++ after) ≡ length w
 unfolding run_len
 run_len-is kind [] [] p e = refl
 run_len-is kind [] (c ∷ after) p e = rw e refl

@@ -35,7 +35,7 @@ second_sound c d s r at e =
     let b = expect_sound d (drop 1 s) r e in
     record { after = b.after; parts = byte_at c s at ∙ ap (λ (t : List ℕ). c ∷ t) b.parts; rest = b.rest }
 
-passes_run : (kind : NameKind) (s : List ℕ) → Passes kind (take (run_len kind s) s) (drop (run_len kind s) s)
+pub passes_run : (kind : NameKind) (s : List ℕ) → Passes kind (take (run_len kind s) s) (drop (run_len kind s) s)
 unfolding run_len
 passes_run kind [] = tt
 passes_run kind (c ∷ s) = go (goes_on kind (c ∷ s)) refl (passes_run kind s)
@@ -45,7 +45,7 @@ passes_run kind (c ∷ s) = go (goes_on kind (c ∷ s)) refl (passes_run kind s)
     go true e ih = (ap (λ (t : List ℕ). goes_on kind (c ∷ t)) (take-append-drop (run_len kind s) s) ∙ e, ih)
     go false e ih = tt
 
-ends_run : (kind : NameKind) (s : List ℕ) → goes_on kind (drop (run_len kind s) s) ≡ false
+pub ends_run : (kind : NameKind) (s : List ℕ) → goes_on kind (drop (run_len kind s) s) ≡ false
 unfolding run_len goes_on begins
 ends_run NameKind.Name [] = refl
 ends_run NameKind.Field [] = refl

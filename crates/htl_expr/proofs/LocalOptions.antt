@@ -1,0 +1,145 @@
+-- The same of options, and of the whole.
+use Rattle.std.proofs.Common.{◌≡◌, ℕ, suc, Bool, true, false, cond, ◌||◌, ◌&&◌, eqb, List, [], ◌∷◌, ◌++◌, drop, length, Option, Some, None, is_none, Result, Ok, Err, codes, refl, ap, sym, ◌∙◌, rules}
+use Rattle.htl_expr.specs.declared.stop.Stop.{Stop}
+use Rattle.htl_expr.specs.declared.stop.Stop.TheVariants.{Unexpected}
+use Rattle.htl_expr.specs.declared.node.Node.{Node}
+use Rattle.htl_expr.specs.declared.expression.Context.{Context}
+use Rattle.htl_expr.specs.declared.expression.Context.TheVariants.{Text, Unsafe}
+use Rattle.htl_expr.specs.declared.expression.Expr.{Expr}
+use Rattle.htl_expr.specs.Tokens.{Outcome, ◌>>=◌, skip, is_at, begins, expect, literal, string}
+use Rattle.htl_expr.specs.Read as spec
+use Rattle.htl_expr.proofs.TokensRead.{eqb_is}
+use Rattle.htl_expr.proofs.Local.{Same, at_same, IsAt, moved, Local, local_ext, local_bind, local_pure, local_refuse, local_if, local_drop, got, refuse}
+use Rattle.htl_expr.proofs.LocalTokens.{local_skip, local_step, local_expect, local_literal}
+use Rattle.htl_expr.proofs.LocalStrings.{local_string}
+use Rattle.htl_expr.proofs.LocalParts.{local_tree}
+
+local_context_word : Local spec.context_word
+unfolding spec.context_word
+local_context_word =
+    local_if (is_at 116) (λ t. literal (codes "text") t >>= λ r. Ok (Text, r)) (λ t. literal (codes "unsafe") t >>= λ r. Ok (Unsafe, r)) (at_same 116)
+    (local_step (literal (codes "text")) (got Text) (local_literal (codes "text")) (local_pure Text)) (local_step (literal (codes "unsafe")) (got Unsafe) (local_literal (codes "unsafe")) (local_pure Unsafe))
+
+quoted : ℕ → List ℕ → Outcome Context
+quoted mark t = spec.context_word (drop 1 t) >>= λ x. expect mark x.1 >>= λ r. Ok (x.0, r)
+
+local_quoted : (mark : ℕ) → Local (quoted mark)
+unfolding quoted
+local_quoted mark =
+    local_bind (λ t. spec.context_word (drop 1 t)) (λ c t. expect mark t >>= λ r. Ok (c, r)) (local_drop spec.context_word local_context_word)
+    (λ c. local_step (expect mark) (got c) (local_expect mark) (local_pure c))
+
+by_mark : (t : List ℕ) → cond (is_at 39 t) (quoted 39 t) (cond (is_at 34 t) (quoted 34 t) (refuse t)) ≡ spec.context_string t
+unfolding spec.context_string begins is_at quoted
+by_mark [] = refl
+by_mark (c ∷ t) = go (eqb c 39) (eqb c 34) refl refl
+  where
+    go : (a b : Bool) → eqb c 39 ≡ a → eqb c 34 ≡ b → cond a (quoted 39 (c ∷ t)) (cond b (quoted 34 (c ∷ t)) (refuse (c ∷ t))) ≡ cond (a || b) (quoted c (c ∷ t)) (refuse (c ∷ t))
+    go true b ea eb = ap (λ (m : ℕ). quoted m (c ∷ t)) (sym (eqb_is c 39 ea))
+    go false true ea eb = ap (λ (m : ℕ). quoted m (c ∷ t)) (sym (eqb_is c 34 eb))
+    go false false ea eb = refl
+
+local_context_string : Local spec.context_string
+local_context_string = local_ext (λ t. cond (is_at 39 t) (quoted 39 t) (cond (is_at 34 t) (quoted 34 t) (refuse t))) spec.context_string by_mark
+    (local_if (is_at 39) (quoted 39) (λ t. cond (is_at 34 t) (quoted 34 t) (refuse t)) (at_same 39) (local_quoted 39) (local_if (is_at 34) (quoted 34) refuse (at_same 34) (local_quoted 34) local_refuse))
+
+local_given : {A : Type 0} (word : List ℕ) (value : List ℕ → Outcome A) → Local value → Local (λ t. literal word t >>= λ a. expect 61 (skip a) >>= λ b. value b)
+local_given word value l = local_step (literal word) (λ a. expect 61 (skip a) >>= λ b. value b) (local_literal word) (local_skip (λ a. expect 61 a >>= λ b. value b) (local_step (expect 61) value (local_expect 61) l))
+
+local_join : Local spec.join_option
+unfolding spec.join_option
+local_join = local_given (codes "join") string local_string
+
+local_context : Local spec.context_option
+unfolding spec.context_option
+local_context = local_given (codes "context") spec.context_string local_context_string
+
+local_option : (given : spec.Given) → Local (spec.option given)
+unfolding spec.option
+local_option given =
+    local_if (λ t. is_none given.0 && is_at 106 t) (λ t. spec.join_option t >>= λ x. Ok ((Some x.0, given.1), x.1)) _ (λ r z h. ap (λ (b : Bool). is_none given.0 && b) (at_same 106 r z h))
+    (local_bind spec.join_option (λ w t. Ok ((Some w, given.1), t)) local_join (λ w. local_pure (Some w, given.1)))
+    (local_if (λ t. is_none given.1 && is_at 99 t) (λ t. spec.context_option t >>= λ x. Ok ((given.0, Some x.0), x.1)) refuse (λ r z h. ap (λ (b : Bool). is_none given.1 && b) (at_same 99 r z h))
+    (local_bind spec.context_option (λ c t. Ok ((given.0, Some c), t)) local_context (λ c. local_pure (given.0, Some c))) local_refuse)
+
+another : spec.Given → List ℕ → Outcome spec.Given
+another given t = cond (is_at 44 t) (spec.option given (skip (drop 1 t))) (Ok (given, t))
+
+local_another : (given : spec.Given) → Local (another given)
+unfolding another
+local_another given = local_if (is_at 44) (λ t. spec.option given (skip (drop 1 t))) (got given) (at_same 44) (local_drop (λ t. spec.option given (skip t)) (local_skip (spec.option given) (local_option given))) (local_pure given)
+
+local_options : Local spec.options
+unfolding spec.options another
+local_options =
+    local_if (is_at 64) (λ t. spec.option (None, None) (skip (drop 1 t)) >>= λ o. another o.0 o.1) (got (None, None)) (at_same 64)
+    (local_drop (λ t. spec.option (None, None) (skip t) >>= λ o. another o.0 o.1)
+    (local_bind (λ t. spec.option (None, None) (skip t)) another (local_skip (spec.option (None, None)) (local_option (None, None))) local_another)) (local_pure (None, None))
+
+-- ---- the whole
+
+abbrev at_end : List ℕ → Bool
+at_end t = eqb (length t) 0
+
+end_same : (r z : List ℕ) → Same r z → at_end z ≡ at_end r
+end_same [] [] h = refl
+end_same [] (c ∷ z) h = absurd h.0
+end_same (c ∷ r) [] h = absurd h.0
+end_same (c ∷ r) (d ∷ z) h = (let a : eqb (suc (length z)) 0 ≡ false = search rules in let b : eqb (suc (length r)) 0 ≡ false = search rules in a ∙ sym b)
+
+nothing_same : (r z : List ℕ) → Same r z → (at_end z || is_at 64 z) ≡ (at_end r || is_at 64 r)
+nothing_same r z h = rw (end_same r z h, at_same 64 r z h) refl
+
+local_first : Local spec.first
+unfolding spec.first
+local_first =
+    local_if (λ t. at_end t || is_at 64 t) (got None) (λ t. spec.choice 32 (spec.nested 32) t >>= λ x. Ok (Some x.0, x.1)) nothing_same (local_pure None)
+    (local_bind (spec.choice 32 (spec.nested 32)) (λ e t. Ok (Some e, t)) local_tree (λ e. local_pure (Some e)))
+
+ended : Option Node → List ℕ → Outcome Expr
+ended node t = spec.options t >>= λ o. cond (at_end o.1) (Ok (spec.expr_of node o.0, o.1)) (refuse o.1)
+
+local_ended : (node : Option Node) → Local (ended node)
+unfolding ended
+local_ended node = local_bind spec.options (λ given t. cond (at_end t) (Ok (spec.expr_of node given, t)) (refuse t)) local_options
+    (λ given. local_if at_end (got (spec.expr_of node given)) refuse end_same (local_pure (spec.expr_of node given)) local_refuse)
+
+-- the reading, with the text that is left
+abbrev text : List ℕ → Outcome Expr
+text t = spec.first (skip t) >>= λ x. ended x.0 x.1
+
+local_text : Local text
+local_text = local_bind (λ t. spec.first (skip t)) ended (local_skip spec.first local_first) local_ended
+
+abbrev alone : Outcome Expr → Result Expr Stop
+alone (Ok x) = Ok x.0
+alone (Err d) = Err d
+
+alone_err : (o : Outcome Expr) (d : Stop) → alone o ≡ Err d → o ≡ Err d
+alone_err (Ok x) d e = absurd cc
+alone_err (Err k) d e = (let same : ◌≡◌ {A = Result Expr Stop} (Err k) (Err d) = e in cc)
+
+past : {A : Type 0} (o : Outcome A) (f : A × List ℕ → Outcome Expr) (h : A × List ℕ → Result Expr Stop) → ((x : A × List ℕ) → alone (f x) ≡ h x) → alone (o >>= f) ≡ (o >>= h)
+past (Ok x) f h e = e x
+past (Err d) f h e = refl
+
+read_is : (t : List ℕ) → alone (text t) ≡ spec.read t
+unfolding spec.read ended
+read_is t = past (spec.first (skip t)) _ _ (λ x. past (spec.options x.1) _ _ (λ o. last (at_end o.1) (spec.expr_of x.0 o.0) o.1))
+  where
+    last : (b : Bool) (e : Expr) (r : List ℕ) → alone (cond b (Ok (e, r)) (refuse r)) ≡ cond b (Ok e) (Err (Unexpected (length r)))
+    last true e r = refl
+    last false e r = refl
+
+-- the reason for which a text is not read, and the texts that are not read for the same
+pub record Left (d : Stop) (s : List ℕ) : Type 0 where
+  pub front : List ℕ
+  pub rest : List ℕ
+  pub parts : s ≡ front ++ rest
+  pub left : IsAt d rest
+  pub same : (z : List ℕ) → Same rest z → spec.read (front ++ z) ≡ Err (moved d (length z))
+
+pub failed : (d : Stop) (s : List ℕ) → spec.read s ≡ Err d → Left d s
+failed d s e =
+    let k = local_text.err d s (alone_err (text s) d (read_is s ∙ e)) in
+    record { front = k.front; rest = k.rest; parts = k.parts; left = k.left; same = λ z w. sym (read_is (k.front ++ z)) ∙ ap alone (k.same z w) }

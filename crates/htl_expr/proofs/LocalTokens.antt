@@ -1,0 +1,246 @@
+-- The same of each token.
+use Rattle.std.proofs.Common.{◌≡◌, ℕ, ◌+◌, ◌*◌, ◌-◌, Bool, true, false, cond, ◌||◌, ◌&&◌, eqb, nat_le, List, [], ◌∷◌, ◌++◌, take, drop, length, Result, Ok, Err, refl, ap, sym, subst, ◌∙◌, inl, inr, append_assoc}
+use Rattle.std.proofs.lemmas.List.{take-append-drop, take_at, drop_at}
+use Rattle.htl_expr.specs.declared.stop.Stop.{Stop}
+use Rattle.htl_expr.specs.declared.stop.Stop.TheVariants.{Unexpected, TooDeep}
+use Rattle.htl_expr.specs.declared.tokens.NameKind.{NameKind}
+use Rattle.htl_expr.specs.declared.tokens.NameKind.TheVariants.{Name, Field}
+use Rattle.htl_expr.specs.declared.node.Comparison.{Comparison}
+use Rattle.htl_expr.specs.declared.node.Comparison.TheVariants.{Equal, NotEqual, Below, Above, AtMost, AtLeast}
+use Rattle.htl_expr.specs.Tokens.{Outcome, ◌>>=◌, skip, is_at, is_blank, begins, expect, second, literal, goes_on, run, run_len, name, is_digit, is_letter, is_word, is_first, digits, digits_from, digit_fits, limit, signed, number}
+use Rattle.htl_expr.specs.Read.{comparison, or_equal, between}
+use Rattle.htl_expr.specs.Grammar.{Passes}
+use Rattle.htl_expr.specs.Fault.{SameHead}
+use Rattle.htl_expr.proofs.Tools.{chosen, ok_is}
+use Rattle.htl_expr.proofs.TokensRead.{eqb_is, passes_run, ends_run}
+use Rattle.htl_expr.proofs.TokensAgain.{run_len-is}
+use Rattle.htl_expr.proofs.Local.{Same, begins_same, front_same, head_in, head_same, at_same, nil_same, nests, Kept, Failed, Local, local_ext, local_bind, local_pure, local_refuse, local_if, local_fixed, local_drop, got, refuse, err_is}
+
+-- ---- blanks
+
+pub record Blanks (u : List ℕ) : Type 0 where
+  pub front : List ℕ
+  pub parts : u ≡ front ++ skip u
+  pub same : (z : List ℕ) → Same (skip u) z → skip (front ++ z) ≡ z
+
+pub blanks : (u : List ℕ) → Blanks u
+unfolding skip
+blanks [] = record { front = []; parts = refl; same = λ z h. (let e : z ≡ [] = nil_same z h in rw e refl) }
+blanks (c ∷ u) = go (is_blank c) refl (blanks u)
+  where
+    here : (z : List ℕ) → is_blank c ≡ false → Same (c ∷ u) z → skip z ≡ z
+    here [] e h = absurd h.0
+    here (d ∷ z) e h = (let f : is_blank d ≡ false = ap is_blank (sym h.0) ∙ e in rw f refl)
+
+    go : (b : Bool) → is_blank c ≡ b → Blanks u → Blanks (c ∷ u)
+    go true e ih = (let k : skip (c ∷ u) ≡ skip u = rw e refl in
+        record { front = c ∷ ih.front; parts = rw k (ap (λ (t : List ℕ). c ∷ t) ih.parts); same = λ z h. (let h' : Same (skip u) z = rw k at h in rw e (ih.same z h')) })
+    go false e ih = (let k : skip (c ∷ u) ≡ c ∷ u = rw e refl in
+        record { front = []; parts = rw k refl; same = λ z h. (let h' : Same (c ∷ u) z = rw k at h in here z e h') })
+
+pub local_skip : {A : Type 0} (f : List ℕ → Outcome A) → Local f → Local (λ s. f (skip s))
+local_skip f l = record {
+  ok = λ s x r e.
+      (let k = l.ok (skip s) x r e in
+      let bl = blanks s in
+      record {
+        front = bl.front ++ k.front;
+        parts = bl.parts ∙ ap (λ (t : List ℕ). bl.front ++ t) k.parts ∙ sym (append_assoc bl.front k.front r);
+        same = λ z w. rw (append_assoc bl.front k.front z, bl.same (k.front ++ z) (subst (λ (t : List ℕ). Same t (k.front ++ z)) (sym k.parts) (head_in k.front r z w))) (k.same z w);
+      });
+  err = λ d s e.
+      (let k = l.err d (skip s) e in
+      let bl = blanks s in
+      record {
+        front = bl.front ++ k.front;
+        rest = k.rest;
+        parts = bl.parts ∙ ap (λ (t : List ℕ). bl.front ++ t) k.parts ∙ sym (append_assoc bl.front k.front k.rest);
+        left = k.left;
+        same = λ z w. rw (append_assoc bl.front k.front z, bl.same (k.front ++ z) (subst (λ (t : List ℕ). Same t (k.front ++ z)) (sym k.parts) (head_in k.front k.rest z w))) (k.same z w);
+      });
+}
+
+-- ---- behind a byte that is there
+
+abbrev pub too_deep : {A : Type 0} → List ℕ → Outcome A
+too_deep s = Err (TooDeep (length s))
+
+abbrev pub guarded : {A : Type 0} → ℕ → (List ℕ → Outcome A) → List ℕ → Outcome A
+guarded c f s = cond (is_at c s) (f s) (refuse s)
+
+at_begins : (test : ℕ → Bool) (c : ℕ) (s : List ℕ) → test c ≡ true → is_at c s ≡ true → begins test s ≡ true
+unfolding begins is_at
+at_begins test c [] t e = absurd cc
+at_begins test c (d ∷ s) t e = ap test (eqb_is d c e) ∙ t
+
+pub local_deep : {A : Type 0} (c : ℕ) → nests c ≡ true → Local (guarded {A = A} c too_deep)
+local_deep {A = A} c n = record { ok = ok; err = err }
+  where
+    ok : (s : List ℕ) (x : A) (r : List ℕ) → guarded {A = A} c too_deep s ≡ Ok (x, r) → Kept (guarded {A = A} c too_deep) s x r
+    ok s x r e = elim (chosen (is_at c s) _ _ _ e) [
+      | inl h ↦ absurd (let w = h.1 in cc)
+      | inr h ↦ absurd (let w = h.1 in cc)
+    ]
+
+    err : (d : Stop) (s : List ℕ) → guarded {A = A} c too_deep s ≡ Err d → Failed (guarded {A = A} c too_deep) d s
+    err d s e = elim (chosen (is_at c s) _ _ _ e) [
+      | inl h ↦
+          subst (λ (b : Stop). Failed (guarded {A = A} c too_deep) b s) (err_is {A = A} (TooDeep (length s)) d h.1)
+          (record { front = []; rest = s; parts = refl; left = (refl, at_begins nests c s n h.0); same = λ z w. (let t : is_at c z ≡ true = at_same c s z w ∙ h.0 in rw t refl) })
+      | inr h ↦
+          subst (λ (b : Stop). Failed (guarded {A = A} c too_deep) b s) (err_is {A = A} (Unexpected (length s)) d h.1)
+          (record { front = []; rest = s; parts = refl; left = refl; same = λ z w. (let t : is_at c z ≡ false = at_same c s z w ∙ h.0 in rw t refl) })
+    ]
+
+guarded_is : {A B : Type 0} (b : Bool) (o : Outcome A) (s : List ℕ) (h : A × List ℕ → Outcome B) (other : Outcome B) → cond b (cond b o (refuse s) >>= h) other ≡ cond b (o >>= h) other
+guarded_is true o s h other = refl
+guarded_is false o s h other = refl
+
+-- what is looked for only where the byte stands
+pub local_guarded : {A B : Type 0} (c : ℕ) (f : List ℕ → Outcome A) (g : A → List ℕ → Outcome B) (h : List ℕ → Outcome B) → Local (guarded c f) → ((x : A) → Local (g x)) → Local h
+    → Local (λ s. cond (is_at c s) (f s >>= λ x. g x.0 x.1) (h s))
+local_guarded c f g h lf lg lh =
+    local_ext (λ s. cond (is_at c s) (guarded c f s >>= λ x. g x.0 x.1) (h s)) (λ s. cond (is_at c s) (f s >>= λ x. g x.0 x.1) (h s)) (λ s. guarded_is (is_at c s) (f s) s (λ x. g x.0 x.1) (h s))
+    (local_if (is_at c) (λ s. guarded c f s >>= λ x. g x.0 x.1) h (at_same c) (local_bind (guarded c f) g lf lg) lh)
+
+-- ---- bytes, operators and words
+
+abbrev pub tagged : Result (List ℕ) Stop → Outcome (Unit {0})
+tagged (Ok r) = Ok (tt, r)
+tagged (Err e) = Err e
+
+untagged : {B : Type 0} (o : Result (List ℕ) Stop) (h : List ℕ → Outcome B) → (tagged o >>= λ x. h x.1) ≡ (o >>= λ r. h r)
+untagged (Ok r) h = refl
+untagged (Err e) h = refl
+
+pub local_step : {B : Type 0} (f : List ℕ → Result (List ℕ) Stop) (h : List ℕ → Outcome B) → Local (λ s. tagged (f s)) → Local h → Local (λ s. f s >>= λ r. h r)
+local_step {B = B} f h lf lh = local_ext (λ s. tagged (f s) >>= λ x. h x.1) (λ s. f s >>= λ r. h r) (λ s. untagged (f s) h) (local_bind (λ s. tagged (f s)) (λ _. h) lf (λ _. lh))
+
+abbrev one : List ℕ → Outcome (Unit {0})
+one s = Ok (tt, s)
+
+tagged_if : (b : Bool) (o p : Result (List ℕ) Stop) → cond b (tagged o) (tagged p) ≡ tagged (cond b o p)
+tagged_if true o p = refl
+tagged_if false o p = refl
+
+pub local_expect : (c : ℕ) → Local (λ s. tagged (expect c s))
+unfolding expect
+local_expect c = local_ext (λ s. cond (is_at c s) (one (skip (drop 1 s))) (refuse s)) (λ s. tagged (cond (is_at c s) (Ok (skip (drop 1 s))) (Err (Unexpected (length s))))) (λ s. tagged_if (is_at c s) (Ok (skip (drop 1 s))) (Err (Unexpected (length s))))
+    (local_if (is_at c) (λ s. one (skip (drop 1 s))) refuse (at_same c) (local_drop (λ s. one (skip s)) (local_skip one (local_pure tt))) local_refuse)
+
+pub local_second : (c : ℕ) → Local (λ s. tagged (second c s))
+unfolding second
+local_second c = local_drop (λ s. tagged (expect c s)) (local_expect c)
+
+pub local_between : (c : ℕ) → Local (λ s. tagged (between c s))
+local_between c = local_ext (λ s. cond (eqb c 44) (tagged (expect c s)) (tagged (second c s))) (λ s. tagged (between c s)) (λ s. tagged_if (eqb c 44) (expect c s) (second c s))
+    (local_fixed (eqb c 44) (λ s. tagged (expect c s)) (λ s. tagged (second c s)) (local_expect c) (local_second c))
+
+pub local_literal : (w : List ℕ) → Local (λ s. tagged (literal w s))
+unfolding literal
+local_literal [] = local_pure tt
+local_literal (c ∷ w) = local_ext (λ s. cond (is_at c s) (tagged (literal w (drop 1 s))) (refuse s)) (λ s. tagged (cond (is_at c s) (literal w (drop 1 s)) (Err (Unexpected (length s))))) (λ s. tagged_if (is_at c s) (literal w (drop 1 s)) (Err (Unexpected (length s))))
+    (local_if (is_at c) (λ s. tagged (literal w (drop 1 s))) refuse (at_same c) (local_drop (λ s. tagged (literal w s)) (local_literal w)) local_refuse)
+
+-- ---- names
+
+goes_same : (kind : NameKind) (r z : List ℕ) → Same r z → goes_on kind r ≡ false → goes_on kind z ≡ false
+unfolding goes_on
+goes_same Name r z h e = head_same is_word r z h ∙ e
+goes_same Field r z h e = no (goes_on Field z) refl
+  where
+    no : (b : Bool) → goes_on Field z ≡ b → b ≡ false
+    no true k = absurd (let w : goes_on Field r ≡ true = h.1 k in cc)
+    no false k = refl
+
+step_same : (kind : NameKind) (c : ℕ) (r z : List ℕ) → SameHead r z → goes_on kind (c ∷ z) ≡ goes_on kind (c ∷ r)
+unfolding goes_on begins
+step_same Name c r z h = refl
+step_same Field c r z h = ap (λ (b : Bool). is_word c || (eqb c 58 && b)) (begins_same is_letter r z h)
+
+passes_same : (kind : NameKind) (w r z : List ℕ) → SameHead r z → Passes kind w r → Passes kind w z
+passes_same kind [] r z h p = tt
+passes_same kind (c ∷ w) r z h p = (step_same kind c (w ++ r) (w ++ z) (front_same w r z h) ∙ p.0, passes_same kind w r z h p.1)
+
+abbrev run_of : NameKind → List ℕ → Outcome (List ℕ)
+run_of kind s = Ok (run kind s)
+
+local_run : (kind : NameKind) → Local (run_of kind)
+local_run kind = record { ok = ok; err = λ d s e. absurd cc }
+  where
+    kept : (s : List ℕ) → Kept (run_of kind) s (run kind s).0 (run kind s).1
+    kept s =
+        let w = take (run_len kind s) s in
+        let u = drop (run_len kind s) s in
+        let bl = blanks u in
+        record {
+          front = w ++ bl.front;
+          parts = sym (take-append-drop (run_len kind s) s) ∙ ap (λ (t : List ℕ). w ++ t) bl.parts ∙ sym (append_assoc w bl.front (skip u));
+          same = λ z h.
+              (let near : Same u (bl.front ++ z) = subst (λ (t : List ℕ). Same t (bl.front ++ z)) (sym bl.parts) (head_in bl.front (skip u) z h) in
+              let stops : goes_on kind (bl.front ++ z) ≡ false = goes_same kind u (bl.front ++ z) near (ends_run kind s) in
+              let passes : Passes kind w (bl.front ++ z) = passes_same kind w u (bl.front ++ z) near.0 (passes_run kind s) in
+              rw (append_assoc w bl.front z, run_len-is kind w (bl.front ++ z) passes stops, take_at w (bl.front ++ z) (length w) refl, drop_at w (bl.front ++ z) (length w) refl, bl.same z h) refl);
+        }
+
+    ok : (s : List ℕ) (x : List ℕ) (r : List ℕ) → run_of kind s ≡ Ok (x, r) → Kept (run_of kind) s x r
+    ok s x r e = subst (λ (q : List ℕ × List ℕ). Kept (run_of kind) s q.0 q.1) (ok_is _ _ e) (kept s)
+
+pub local_name : (kind : NameKind) → Local (name kind)
+unfolding name
+local_name kind = local_if (begins is_first) (run_of kind) refuse (head_same is_first) (local_run kind) local_refuse
+
+-- ---- numbers
+
+abbrev digits_at : ℕ → ℕ → List ℕ → Outcome ℕ
+digits_at most m s = Ok (digits_from most m s)
+
+digits_kept : (most m : ℕ) (s : List ℕ) → Kept (digits_at most m) s (digits_from most m s).0 (digits_from most m s).1
+unfolding digits_from digit_fits
+digits_kept most m [] = record { front = []; parts = refl; same = λ z h. (let e : z ≡ [] = nil_same z h in rw e refl) }
+digits_kept most m (c ∷ s) = go (digit_fits most m (c ∷ s)) refl (digits_kept most (m * 10 + (c - 48)) s)
+  where
+    here : (z : List ℕ) → digit_fits most m (c ∷ s) ≡ false → Same (c ∷ s) z → digits_at most m z ≡ Ok (m, z)
+    here [] e h = absurd h.0
+    here (d ∷ z) e h = (let k : digit_fits most m (d ∷ z) ≡ false = ap (λ (x : ℕ). is_digit x && nat_le (m * 10 + (x - 48)) most) (sym h.0) ∙ e in rw k refl)
+
+    go : (b : Bool) → digit_fits most m (c ∷ s) ≡ b → Kept (digits_at most (m * 10 + (c - 48))) s (digits_from most (m * 10 + (c - 48)) s).0 (digits_from most (m * 10 + (c - 48)) s).1
+        → Kept (digits_at most m) (c ∷ s) (cond b (digits_from most (m * 10 + (c - 48)) s) (m, c ∷ s)).0 (cond b (digits_from most (m * 10 + (c - 48)) s) (m, c ∷ s)).1
+    go true e k = record { front = c ∷ k.front; parts = ap (λ (t : List ℕ). c ∷ t) k.parts; same = λ z h. rw e (k.same z h) }
+    go false e k = record { front = []; parts = refl; same = λ z h. here z e h }
+
+local_digits_at : (most m : ℕ) → Local (digits_at most m)
+local_digits_at most m = record { ok = ok; err = λ d s e. absurd cc }
+  where
+    ok : (s : List ℕ) (x : ℕ) (r : List ℕ) → digits_at most m s ≡ Ok (x, r) → Kept (digits_at most m) s x r
+    ok s x r e = subst (λ (q : ℕ × List ℕ). Kept (digits_at most m) s q.0 q.1) (ok_is _ _ e) (digits_kept most m s)
+
+local_digits : (negative : Bool) → Local (digits negative)
+unfolding digits
+local_digits negative =
+    local_if (begins is_digit) (λ s. digits_at (limit negative) 0 s >>= λ x. Ok (signed negative x.0, skip x.1)) refuse (head_same is_digit)
+    (local_bind (digits_at (limit negative) 0) (λ k t. Ok (signed negative k, skip t)) (local_digits_at (limit negative) 0) (λ k. local_skip (got (signed negative k)) (local_pure (signed negative k)))) local_refuse
+
+pub local_number : Local number
+unfolding number
+local_number = local_if (is_at 45) (λ s. digits true (drop 1 s)) (digits false) (at_same 45) (local_drop (digits true) (local_digits true)) (local_digits false)
+
+-- ---- comparisons
+
+local_or_equal : (bare equal : Comparison) → Local (λ s. Ok (or_equal bare equal s))
+unfolding or_equal
+local_or_equal bare equal =
+    local_ext (λ s. cond (is_at 61 (drop 1 s)) (got equal (skip (drop 1 (drop 1 s)))) (got bare (skip (drop 1 s)))) (λ s. Ok (cond (is_at 61 (drop 1 s)) (equal, skip (drop 1 (drop 1 s))) (bare, skip (drop 1 s)))) (λ s. go (is_at 61 (drop 1 s)) _ _)
+    (local_drop (λ s. cond (is_at 61 s) (got equal (skip (drop 1 s))) (got bare (skip s)))
+    (local_if (is_at 61) (λ s. got equal (skip (drop 1 s))) (λ s. got bare (skip s)) (at_same 61) (local_drop (λ s. got equal (skip s)) (local_skip (got equal) (local_pure equal))) (local_skip (got bare) (local_pure bare))))
+  where
+    go : (b : Bool) (p q : Comparison × List ℕ) → ◌≡◌ {A = Outcome Comparison} (cond b (Ok p) (Ok q)) (Ok (cond b p q))
+    go true p q = refl
+    go false p q = refl
+
+pub local_comparison : Local comparison
+unfolding comparison
+local_comparison =
+    local_if (is_at 61) (λ s. second 61 s >>= λ r. Ok (Equal, r)) _ (at_same 61) (local_step (second 61) (got Equal) (local_second 61) (local_pure Equal))
+    (local_if (is_at 33) (λ s. second 61 s >>= λ r. Ok (NotEqual, r)) _ (at_same 33) (local_step (second 61) (got NotEqual) (local_second 61) (local_pure NotEqual))
+    (local_if (is_at 60) (λ s. Ok (or_equal Below AtMost s)) (λ s. Ok (or_equal Above AtLeast s)) (at_same 60) (local_or_equal Below AtMost) (local_or_equal Above AtLeast)))

@@ -4,6 +4,7 @@ use Rattle.htl_expr.specs.declared.tokens.NameKind.{NameKind}
 use Rattle.htl_expr.specs.declared.tokens.NameKind.TheVariants.{Name, Field}
 use Rattle.htl_expr.specs.Tokens.{skip, begins, goes_on, is_blank, is_letter, is_first, is_digit, is_word}
 use Rattle.htl_expr.specs.Fault.{SameHead}
+use Rattle.htl_expr.proofs.Local.{begins_same}
 
 -- a text that makes no token before it longer
 abbrev pub Plain : List ℕ → Type 0
@@ -71,13 +72,6 @@ near_clear r z (inr p) = inr (fresh_settled z p)
 pub fits_near : (r z : List ℕ) → Fits r z → Near r z
 fits_near r z (inl h) = inl h.0
 fits_near r z (inr p) = inr (plain_fresh z p)
-
-pub begins_same : (test : ℕ → Bool) (r z : List ℕ) → SameHead r z → begins test z ≡ begins test r
-unfolding begins
-begins_same test [] [] h = refl
-begins_same test [] (d ∷ z) h = absurd h
-begins_same test (c ∷ r) [] h = absurd h
-begins_same test (c ∷ r) (d ∷ z) h = ap test (sym h)
 
 letter_near : (r z : List ℕ) → Near r z → begins is_letter r ≡ false → begins is_letter z ≡ false
 unfolding begins

@@ -3,7 +3,7 @@ use Rattle.std.proofs.Common.{ℕ, suc, List, [], ◌∷◌}
 use Rattle.htl_expr.specs.declared.node.Node.{Node}
 use Rattle.htl_expr.specs.declared.node.Node.TheVariants as n
 use Rattle.htl_expr.specs.declared.tokens.NameKind.TheVariants.{Name, Field}
-use Rattle.htl_expr.specs.Grammar.{Byte, Operator, Separator, And, Or, Comma, Separates, Part, part_of, Choice, Either, Both, Compare, Operand, Atom, Start, Items, Reads, More, Access, Accesses}
+use Rattle.htl_expr.specs.Grammar.{Byte, Separator, And, Or, Comma, Separates, Part, part_of, Choice, Either, Both, Compare, Operand, Atom, Start, Items, Reads, More, Access, Accesses}
 use Rattle.htl_expr.specs.Grammar as g
 use Rattle.htl_expr.proofs.Moves.{Moves, Steps, Then, moves_of, moves_map, moves_then, steps_then, none_moves}
 use Rattle.htl_expr.proofs.MovesTokens.{byte_steps, operator_steps, compares_steps, ComparesOf, string_steps, StringOf, name_moves, NamedOf, number_moves, NumberOf}

@@ -1,9 +1,9 @@
 -- Where reading stops, the text before can be made a text of the grammar: how what was read and what is missing are put together.
-use Rattle.std.proofs.Common.{◌≡◌, ℕ, ◌<◌, false, List, [], ◌∷◌, ◌++◌, drop, length, Result, Ok, Err, refl, ap, sym, subst, ◌∙◌, ◌⊎◌, inl, inr, append_assoc}
+use Rattle.std.proofs.Common.{◌≡◌, ℕ, ◌<◌, false, List, [], ◌∷◌, ◌++◌, drop, length, Result, Err, refl, ap, sym, subst, ◌∙◌, inl, inr, append_assoc}
 use Rattle.htl_expr.specs.declared.stop.Stop.{Stop}
 use Rattle.htl_expr.specs.declared.stop.Stop.TheVariants.{Memory, Unexpected, TooDeep}
 use Rattle.htl_expr.specs.declared.tokens.NameKind.TheVariants.{Field}
-use Rattle.htl_expr.specs.Tokens.{◌>>=◌, goes_on}
+use Rattle.htl_expr.specs.Tokens.{goes_on}
 use Rattle.htl_expr.proofs.Moves.{Plain, plain_fresh, Clear, Near, Fits, near_clear, fits_near, near_in, fits_in, fits_behind, clear_in, Moves, Steps, Jumps, Then}
 
 -- reading stopped where k bytes were left
@@ -21,11 +21,6 @@ pub at_depth : {A : Type 0} (m : ℕ) (d : Stop) (k : ℕ) → ◌≡◌ {A = Re
 at_depth m Memory k e a = absurd a
 at_depth m (Unexpected n) k e a = absurd cc
 at_depth m (TooDeep n) k e a = (let same : m ≡ n = cc in same ∙ a)
-
--- which step of two stopped
-pub bind_err : {A B : Type 0} (r : Result A Stop) (f : A → Result B Stop) (d : Stop) → (r >>= f) ≡ Err d → (r ≡ Err d) ⊎ ((x : A) × (r ≡ Ok x) × (f x ≡ Err d))
-bind_err (Ok x) f d e = inr (x, refl, e)
-bind_err {B = B} (Err d') f d e = inl (let same : ◌≡◌ {A = Result B Stop} (Err d') (Err d) = e in cc)
 
 -- The text is front and what is left; front with more behind it is complete.
 pub record Stuck (R : List ℕ → List ℕ → Type 0) (s : List ℕ) (k : ℕ) : Type 0 where

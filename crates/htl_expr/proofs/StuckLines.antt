@@ -7,15 +7,16 @@ use Rattle.htl_expr.specs.declared.reader.Inside.{Inside}
 use Rattle.htl_expr.specs.declared.reader.Inside.TheVariants as i
 use Rattle.htl_expr.specs.Tokens.{Outcome, ◌>>=◌, skip, is_at, begins, expect, goes_on}
 use Rattle.htl_expr.specs.Read as spec
-use Rattle.htl_expr.specs.Grammar.{Byte, Separator, And, Or, Comma, Part, Choice, Either, Both, Compare, Operand, Atom, Start, Items, Reads, More}
+use Rattle.htl_expr.specs.Grammar.{Byte, And, Or, Comma, Part, Choice, Either, Both, Compare, Operand, Atom, Start, Items, Reads, More}
 use Rattle.htl_expr.specs.Grammar as g
 use Rattle.htl_expr.proofs.Tools.{chosen}
 use Rattle.htl_expr.proofs.TokensRead.{byte, comparison_sound}
 use Rattle.htl_expr.proofs.TokensAgain.{byte-short, compares-short}
 use Rattle.htl_expr.proofs.Sound as sound
+use Rattle.htl_expr.proofs.Local.{bind_err}
 use Rattle.htl_expr.proofs.Moves.{Plain, plain_settled, fits_near, Then, steps_map}
 use Rattle.htl_expr.proofs.MovesTokens.{byte_steps, compares_steps, ComparesOf}
-use Rattle.htl_expr.proofs.Stuck.{At, at_length, at_depth, bind_err, Stuck, Late, stuck_map, moves_stuck, steps_late, stuck_then, moves_end}
+use Rattle.htl_expr.proofs.Stuck.{At, at_length, at_depth, Stuck, Late, stuck_map, moves_stuck, steps_late, stuck_then, moves_end}
 use Rattle.htl_expr.proofs.StuckTokens.{operand, operand_settled, byte_of, byte_missing, SomeCompares, comparison_stuck}
 use Rattle.htl_expr.proofs.StuckParts as part
 use Rattle.htl_expr.proofs.StuckParts.{SomePart, Sticks, moves_some, SomeAccesses, accesses_stuck, SomeMore, chain_stuck, start_missing, leaf_stuck, square_plain, round_plain}

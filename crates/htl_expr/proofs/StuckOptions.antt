@@ -9,9 +9,10 @@ use Rattle.htl_expr.specs.Grammar.{Byte, Literal, ContextString, context_text, J
 use Rattle.htl_expr.proofs.Tools.{chosen}
 use Rattle.htl_expr.proofs.TokensRead.{byte_at, expect_sound}
 use Rattle.htl_expr.proofs.WholeRead as whole
+use Rattle.htl_expr.proofs.Local.{bind_err}
 use Rattle.htl_expr.proofs.Moves.{Plain, Settled, settled_at, plain_settled, Then}
 use Rattle.htl_expr.proofs.MovesTokens.{byte_jumps, literal_jumps, join_of, in_context_of}
-use Rattle.htl_expr.proofs.Stuck.{At, at_length, bind_err, Cut, cut_map, cut_of, jumps_cut}
+use Rattle.htl_expr.proofs.Stuck.{At, at_length, Cut, cut_map, cut_of, jumps_cut}
 use Rattle.htl_expr.proofs.StuckTokens.{operand, operand_settled, empty_string, byte_of, expect_missing, SomeString, string_stuck}
 
 -- ---- words

@@ -1,24 +1,26 @@
 -- Accesses, operands and chains in which reading stopped can be completed.
-use Rattle.std.proofs.Common.{◌≡◌, ℕ, zero, suc, ◌<◌, true, ◌||◌, eqb, List, [], ◌∷◌, ◌++◌, drop, length, Option, Some, None, Ok, Err, refl, inl, inr}
+use Rattle.std.proofs.Common.{◌≡◌, ℕ, zero, suc, true, ◌||◌, eqb, List, [], ◌∷◌, ◌++◌, drop, length, Option, Some, None, Ok, Err, refl, inl, inr}
 use Rattle.htl_expr.specs.declared.stop.Stop.{Stop}
 use Rattle.htl_expr.specs.declared.node.Node.{Node}
 use Rattle.htl_expr.specs.declared.node.Node.TheVariants as n
 use Rattle.htl_expr.specs.declared.tokens.NameKind.TheVariants.{Name}
 use Rattle.htl_expr.specs.Tokens.{Outcome, ◌>>=◌, skip, is_at, begins, goes_on, is_digit, is_quote, is_first, expect, name, number, string}
 use Rattle.htl_expr.specs.Read as spec
-use Rattle.htl_expr.specs.Grammar.{Byte, Operator, Named, String, Separator, And, Or, Comma, Separates, Part, part_of, Choice, Either, Both, Compare, Operand, Atom, Start, Items, Reads, More, Access, Accesses}
+use Rattle.htl_expr.specs.Grammar.{Byte, Named, String, Separator, And, Or, Comma, Separates, Part, part_of, Choice, Either, Both, Compare, Operand, Atom, Start, Reads, More, Access, Accesses}
 use Rattle.htl_expr.specs.Grammar as g
 use Rattle.htl_expr.proofs.Tools.{chosen}
 use Rattle.htl_expr.proofs.TokensRead.{byte, name_sound, string_sound}
-use Rattle.htl_expr.proofs.TokensAgain.{byte-short, operator-short}
+use Rattle.htl_expr.proofs.TokensAgain.{byte-short}
+use Rattle.htl_expr.proofs.Complete.{separates-short}
 use Rattle.htl_expr.proofs.Sound as sound
 use Rattle.htl_expr.proofs.Sound.{byte_of}
+use Rattle.htl_expr.proofs.Local.{bind_err}
 use Rattle.htl_expr.proofs.Moves.{Plain, settled_at, plain_settled, fits_near, Moves, Then, moves_of, moves_map}
 use Rattle.htl_expr.proofs.MovesTokens.{byte_steps, string_steps, StringOf, name_moves, NamedOf}
 use Rattle.htl_expr.proofs.MovesParts.{AccessOf, access_moves, MoreOf, more_moves, separates_steps, ReadsOf, reads_moves}
-use Rattle.htl_expr.proofs.Stuck.{At, at_length, at_depth, bind_err, Stuck, Late, stuck_map, late_map, moves_stuck, moves_late, steps_late, stuck_then, Quiet}
+use Rattle.htl_expr.proofs.Stuck.{At, at_length, at_depth, Stuck, Late, stuck_map, late_map, moves_stuck, moves_late, steps_late, stuck_then, Quiet}
 use Rattle.htl_expr.proofs.StuckTokens as token
-use Rattle.htl_expr.proofs.StuckTokens.{operand, operand_settled, empty_string, SomeString, string_stuck, SomeField, field_stuck, one_field, SomeNumber, number_stuck, byte_missing, second_missing}
+use Rattle.htl_expr.proofs.StuckTokens.{operand, empty_string, SomeString, string_stuck, SomeField, field_stuck, one_field, SomeNumber, number_stuck, byte_missing, second_missing}
 
 pub square_plain : (z : List ℕ) → Plain (93 ∷ z)
 unfolding goes_on
@@ -214,11 +216,6 @@ between_stuck Comma Q one m d k at e a = elim (chosen (is_at 44 m) _ _ _ e) [
   | inr h ↦ absurd (let x = h.0 in cc)
 ]
 
-separates_less : (sep : Separator) (s r : List ℕ) → Separates sep s r → length r < length s
-separates_less And s r o = operator-short 38 38 s r o
-separates_less Or s r o = operator-short 124 124 s r o
-separates_less Comma s r o = byte-short 44 s r o
-
 abbrev pub SomeMore : Separator → ℕ → List ℕ → List ℕ → Type 0
 SomeMore sep depth s r = (es : List Node) × More sep depth s es r
 
@@ -242,7 +239,7 @@ module _ (sep : Separator) (depth : ℕ) (item : List ℕ → Outcome Node) (one
               elim (bind_err (item at.0) (λ x. spec.chain item (byte_of sep) fuel (found ++ x.0 ∷ []) x.1) d at.2) [
                 | inl no_item ↦
                     late_map (Then (Separates sep) (SomePart (part_of sep) depth)) (SomeMore sep depth) t k single
-                    (steps_late (Separates sep) (SomePart (part_of sep) depth) t at.0 k (separates_steps sep t at.0 op) (separates_less sep t at.0 op) (sticks at.0 d k no_item a))
+                    (steps_late (Separates sep) (SomePart (part_of sep) depth) t at.0 k (separates_steps sep t at.0 op) (separates-short sep t at.0 op) (sticks at.0 d k no_item a))
                 | inr x ↦
                     let turn : More sep depth t (x.0.0 ∷ []) x.0.1 = g.more op (item_sound at.0 x.0 x.1) g.end in
                     late_map (Then (MoreOf sep depth (x.0.0 ∷ [])) (SomeMore sep depth)) (SomeMore sep depth) t k (λ s' r' y. (x.0.0 ∷ y.2.0, more_then sep depth x.0.0 s' y.0 y.2.0 r' y.1 y.2.1))

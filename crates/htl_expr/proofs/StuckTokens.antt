@@ -11,9 +11,10 @@ use Rattle.htl_expr.specs.Grammar.{Byte, Operator, Named, Quoted, String, Number
 use Rattle.htl_expr.specs.Grammar as g
 use Rattle.htl_expr.proofs.Tools.{chosen}
 use Rattle.htl_expr.proofs.TokensRead.{eqb_is, byte_at}
+use Rattle.htl_expr.proofs.Local.{bind_err}
 use Rattle.htl_expr.proofs.Moves.{Plain, Settled, settled_at, plain_settled, plain_ends, fits_near, Then}
 use Rattle.htl_expr.proofs.MovesTokens.{no_digit}
-use Rattle.htl_expr.proofs.Stuck.{At, at_length, bind_err, Stuck, Late, late_map, Quiet, fits_quiet}
+use Rattle.htl_expr.proofs.Stuck.{At, at_length, Stuck, Late, late_map, Quiet, fits_quiet}
 
 pub byte_of : (c : ℕ) (z : List ℕ) → Settled z → Byte c (c ∷ z) z
 byte_of c z e = record { after = z; parts = refl; rest = sym e }

@@ -14,10 +14,11 @@ use Rattle.htl_expr.specs.Fault.{SameHead, MayGoOn}
 use Rattle.htl_expr.proofs.Tools.{bind_ok, chosen, ok_is}
 use Rattle.htl_expr.proofs.TokensRead.{byte, byte_at}
 use Rattle.htl_expr.proofs.WholeRead as whole
+use Rattle.htl_expr.proofs.Local.{bind_err}
 use Rattle.htl_expr.proofs.Moves.{near_clear, blanks, Moves, Then, moves_map, moves_of, moves_then, steps_steps, none_moves}
 use Rattle.htl_expr.proofs.MovesTokens.{byte_steps, JoinOf, join_steps, InContextOf, in_context_steps}
 use Rattle.htl_expr.proofs.MovesParts.{ReadsOf, reads_moves}
-use Rattle.htl_expr.proofs.Stuck.{At, at_length, bind_err, Stuck, Late, Cut, stuck_map, late_map, cut_map, moves_stuck, moves_late, stuck_then, moves_end, Quiet, fits_quiet}
+use Rattle.htl_expr.proofs.Stuck.{At, at_length, Stuck, Late, Cut, stuck_map, late_map, cut_map, moves_stuck, moves_late, stuck_then, moves_end, Quiet, fits_quiet}
 use Rattle.htl_expr.proofs.StuckLines.{stuck}
 use Rattle.htl_expr.proofs.StuckOptions.{SomeJoin, join_missing, join_cut, SomeContext, context_missing, context_cut}
 

@@ -11,6 +11,16 @@ pub mod Complete
 pub mod WholeAgain
 pub mod Laws
 pub mod EscapeLemmas
+pub mod Moves
+pub mod MovesTokens
+pub mod MovesParts
+pub mod Stuck
+pub mod StuckTokens
+pub mod StuckParts
+pub mod StuckLines
+pub mod StuckOptions
+pub mod StuckWhole
+pub mod More
 pub mod Local
 pub mod LocalTokens
 pub mod LocalStrings

@@ -28,3 +28,4 @@ pub mod LocalLoops
 pub mod LocalParts
 pub mod LocalOptions
 pub mod NoneLeft
+pub mod Faults

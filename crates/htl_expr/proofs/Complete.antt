@@ -39,7 +39,7 @@ accesses-short : (depth : ℕ) (s : List ℕ) (fs : List (List ℕ)) (r : List �
 accesses-short _ _ _ _ g.none = omega arith
 accesses-short _ _ _ _ (g.more a o) = omega (arith, access-short _ _ _ _ a, accesses-short _ _ _ _ o)
 
-separates-short : (sep : Separator) (s r : List ℕ) → Separates sep s r → length r < length s
+pub separates-short : (sep : Separator) (s r : List ℕ) → Separates sep s r → length r < length s
 separates-short And s r o = again.operator-short 38 38 s r o
 separates-short Or s r o = again.operator-short 124 124 s r o
 separates-short Comma s r o = again.byte-short 44 s r o

@@ -58,7 +58,7 @@ byte_of And = 38
 byte_of Or = 124
 byte_of Comma = 44
 
-between_sound : (sep : Separator) (s r : List ℕ) → is_at (byte_of sep) s ≡ true → spec.between (byte_of sep) s ≡ Ok r → Separates sep s r
+pub between_sound : (sep : Separator) (s r : List ℕ) → is_at (byte_of sep) s ≡ true → spec.between (byte_of sep) s ≡ Ok r → Separates sep s r
 between_sound And s r at e = second_sound 38 38 s r at e
 between_sound Or s r at e = second_sound 124 124 s r at e
 between_sound Comma s r at e = expect_sound 44 s r e
@@ -157,7 +157,7 @@ leaf_sound depth s p e =
 -- ---- each part, where its own parts are sound
 
 module _ (depth : ℕ) (inner : Inside → List ℕ → Outcome Node) (deeper : Inner depth inner) where
-  start_sound : Sound Start depth (spec.start depth inner)
+  pub start_sound : Sound Start depth (spec.start depth inner)
   unfolding spec.start
   start_sound s p e =
       elim (chosen (is_at 40 s) _ _ _ e) [
@@ -196,7 +196,7 @@ module _ (depth : ℕ) (inner : Inside → List ℕ → Outcome Node) (deeper : 
         | inr h ↦ g.bare (atom_sound s p h.1)
       ]
 
-  compare_sound : Sound Compare depth (spec.compare depth inner)
+  pub compare_sound : Sound Compare depth (spec.compare depth inner)
   unfolding spec.compare
   compare_sound s p e =
       let a = bind_ok (spec.operand depth inner s) (λ a. cond (spec.compares a.1) (spec.comparison a.1 >>= λ op. spec.operand depth inner op.1 >>= λ b. Ok (n.Compare op.0 a.0 b.0, b.1)) (Ok a)) p e in
@@ -208,7 +208,7 @@ module _ (depth : ℕ) (inner : Inside → List ℕ → Outcome Node) (deeper : 
         | inr h ↦ subst (Gave Compare depth s) (ok_is _ _ h.1) (g.single (operand_sound s a.0 a.1))
       ]
 
-  both_sound : Sound Both depth (spec.both depth inner)
+  pub both_sound : Sound Both depth (spec.both depth inner)
   unfolding spec.both
   both_sound s p e =
       let x = bind_ok (spec.compare depth inner s) (λ x. spec.chain (spec.compare depth inner) 38 (length x.1) [] x.1 >>= λ xs. Ok (spec.and_of x.0 xs.0, xs.1)) p e in
@@ -216,7 +216,7 @@ module _ (depth : ℕ) (inner : Inside → List ℕ → Outcome Node) (deeper : 
       let l = chain_sound And depth (spec.compare depth inner) (length x.0.1) [] x.0.1 xs.0 compare_sound xs.1 in
       subst (Gave Both depth s) (ok_is _ _ xs.2) (g.both (compare_sound s x.0 x.1) (subst (λ (es : List Node). More And depth x.0.1 es xs.0.1) (sym l.1) l.2))
 
-  either_sound : Sound Either depth (spec.either depth inner)
+  pub either_sound : Sound Either depth (spec.either depth inner)
   unfolding spec.either
   either_sound s p e =
       let x = bind_ok (spec.both depth inner s) (λ x. spec.chain (spec.both depth inner) 124 (length x.1) [] x.1 >>= λ xs. Ok (spec.or_of x.0 xs.0, xs.1)) p e in

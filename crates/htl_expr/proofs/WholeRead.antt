@@ -25,7 +25,7 @@ literal_parts (c ∷ w) s r e =
 abbrev WordOf : List ℕ → Context × List ℕ → Type 0
 WordOf s q = s ≡ context_text q.0 ++ q.1
 
-context_word_parts : (s : List ℕ) (p : Context × List ℕ) → spec.context_word s ≡ Ok p → s ≡ context_text p.0 ++ p.1
+pub context_word_parts : (s : List ℕ) (p : Context × List ℕ) → spec.context_word s ≡ Ok p → s ≡ context_text p.0 ++ p.1
 unfolding spec.context_word
 context_word_parts s p e =
     elim (chosen (is_at 116 s) _ _ _ e) [
@@ -78,7 +78,7 @@ in_context_sound s p e =
     }
 
 -- the one option that was read
-data Adds (given : spec.Given) (s : List ℕ) : spec.Given → List ℕ → Type 0 where
+pub data Adds (given : spec.Given) (s : List ℕ) : spec.Given → List ℕ → Type 0 where
   joins : {w r : List ℕ} → given.0 ≡ None → Join s w r → Adds given s (Some w, given.1) r
   contexts : {c : Context} {r : List ℕ} → given.1 ≡ None → InContext s c r → Adds given s (given.0, Some c) r
 
@@ -86,7 +86,7 @@ none_of : {A : Type 0} (o : Option A) (b : Bool) → (is_none o && b) ≡ true �
 none_of None b e = refl
 none_of (Some x) b e = absurd cc
 
-option_sound : (given : spec.Given) (s : List ℕ) (p : spec.Given × List ℕ) → spec.option given s ≡ Ok p → Adds given s p.0 p.1
+pub option_sound : (given : spec.Given) (s : List ℕ) (p : spec.Given × List ℕ) → spec.option given s ≡ Ok p → Adds given s p.0 p.1
 unfolding spec.option
 option_sound given s p e =
     elim (chosen (is_none given.0 && is_at 106 s) _ _ _ e) [
@@ -137,7 +137,7 @@ nil_of (c ∷ s) e = absurd (let w : eqb (length (c ∷ s)) 0 ≡ false = search
 abbrev HasTree : List ℕ → Option Node × List ℕ → Type 0
 HasTree s q = Tree s q.0 q.1
 
-first_sound : (s : List ℕ) (p : Option Node × List ℕ) → spec.first s ≡ Ok p → HasTree s p
+pub first_sound : (s : List ℕ) (p : Option Node × List ℕ) → spec.first s ≡ Ok p → HasTree s p
 unfolding spec.first
 first_sound s p e =
     elim (chosen (eqb (length s) 0 || is_at 64 s) _ _ _ e) [

@@ -5,7 +5,7 @@ ghost use Rattle.htl_expr.specs.Tokens.{Gives, is_at};
 ghost use Rattle.htl_expr.specs.Read as spec;
 ghost use Rattle.htl_expr.specs.Grammar.{Whole};
 ghost use Rattle.htl_expr.specs.declared.expression.Expr.{Expr};
-ghost use Rattle.htl_expr.specs.Fault.{takes_colon, place_of, expression_of, IsReadAs};
+ghost use Rattle.htl_expr.specs.Fault.{takes_colon, place_of, expression_of, IsReadAs, IsFault};
 
 use crate::node::Node;
 use crate::options::{Options, read_options};
@@ -109,6 +109,9 @@ impl Expr {
 
         // What is in the grammar is read, unless memory runs out.
         ensures only { (e : Expr) → Whole text.now e → IsReadAs e result }
+
+        // The place of a fault is the first byte with which no expression goes on.
+        ensures fault { IfErr result (λ f. IsFault f text.now) }
     {
         match whole(alloc, text) {
             Ok(e) => Ok(e),

@@ -29,6 +29,7 @@ fn bytes_that_go_on_with_nothing(rt: HostRuntime) {
         ("a.1", 2),
         ("a[1]", 2),
         ("a:b", 1),
+        ("x.a:", 4),
         ("x.a:?", 4),
         ("x.a :b", 4),
         ("x ? properties.a:b", 18),

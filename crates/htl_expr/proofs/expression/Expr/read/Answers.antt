@@ -1,4 +1,6 @@
+use Rattle.std.proofs.Common.{rules}
 use Rattle.htl_expr.proofs.Laws.{only_ok, only_err}
+use Rattle.htl_expr.proofs.Faults.{unexpected_is, too_deep_is}
 use Rattle.htl_expr.proofs.WholeRead.{read_sound}
 use Rattle.htl_expr.proofs.expression.Expr.read.Goals as goal
 
@@ -13,3 +15,9 @@ returns-in-Ok-place_of-clause-only c = only_err c.args.text.now _ (rw c.in-Err-U
 
 pub returns-in-Err-TooDeep-clause-only : goal.returns-in-Err-TooDeep-clause-only
 returns-in-Err-TooDeep-clause-only c = only_err c.args.text.now _ (rw c.in-Err-TooDeep.field-0-is at c.in-Err-TooDeep.ensures)
+
+pub returns-in-Ok-place_of-clause-fault : goal.returns-in-Ok-place_of-clause-fault
+returns-in-Ok-place_of-clause-fault c = unexpected_is c.args.text.now _ _ (rw c.in-Err-Unexpected.field-0-is at c.in-Err-Unexpected.ensures) (search rules)
+
+pub returns-in-Err-TooDeep-clause-fault : goal.returns-in-Err-TooDeep-clause-fault
+returns-in-Err-TooDeep-clause-fault c = too_deep_is c.args.text.now _ _ (rw c.in-Err-TooDeep.field-0-is at c.in-Err-TooDeep.ensures) (search rules)

@@ -147,8 +147,8 @@ fn join_text(join: &Option<TextBuf>) -> &str
 }
 
 impl Expr {
-    #[tactic(auto, using(crate::proofs::EscapeLemmas::in_context_none))]
     /// Writes what the expression prints for a resource behind what a text has.
+    #[tactic(auto, using(crate::proofs::EscapeLemmas::in_context_none))]
     pub fn write(&self, alloc: Global, text: &mut String, scope: &Scope) -> Mem<()>
         ensures { OnOk result (string_bytes text.new ≡ string_bytes text.old ++ print scope.now self.now) }
     {

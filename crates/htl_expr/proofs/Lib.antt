@@ -9,7 +9,7 @@ pub mod WholeRead
 pub mod TokensAgain
 pub mod Complete
 pub mod WholeAgain
-pub mod Laws
+pub mod Unique
 pub mod EscapeLemmas
 pub mod Moves
 pub mod MovesTokens
@@ -29,3 +29,4 @@ pub mod LocalParts
 pub mod LocalOptions
 pub mod NoneLeft
 pub mod Faults
+pub mod Placed

@@ -11,7 +11,7 @@ use Rattle.htl_expr.specs.Read.{read}
 use Rattle.htl_expr.specs.Grammar.{Whole}
 use Rattle.htl_expr.specs.Fault.{SameHead, Agree, HasNone, colon_letter, passes, takes_colon, place_of}
 use Rattle.htl_expr.proofs.TokensRead.{eqb_is, byte_at}
-use Rattle.htl_expr.proofs.Laws.{only_err}
+use Rattle.htl_expr.proofs.Unique.{only_err}
 use Rattle.htl_expr.proofs.Local.{Same, same_behind, head_in, nests, IsAt, moved}
 use Rattle.htl_expr.proofs.LocalOptions.{Left, failed}
 

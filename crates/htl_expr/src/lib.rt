@@ -4,6 +4,7 @@
 mod access;
 mod escape;
 mod expression;
+mod laws;
 mod node;
 mod numbers;
 mod options;
@@ -18,6 +19,7 @@ mod tokens;
 mod value;
 
 pub use expression::{Context, Expr, ExprFault};
+pub use laws::the_reading_is_the_grammar;
 pub use node::{Comparison, Node};
 pub use out::Out;
 pub use scope::Scope;

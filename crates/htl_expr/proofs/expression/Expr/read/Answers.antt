@@ -1,5 +1,5 @@
 use Rattle.std.proofs.Common.{rules}
-use Rattle.htl_expr.proofs.Laws.{only_ok, only_err}
+use Rattle.htl_expr.proofs.Unique.{only_ok, only_err}
 use Rattle.htl_expr.proofs.Faults.{unexpected_is, too_deep_is}
 use Rattle.htl_expr.proofs.WholeRead.{read_sound}
 use Rattle.htl_expr.proofs.expression.Expr.read.Goals as goal

@@ -1,4 +1,4 @@
--- What a run of the reader says.
+-- A text has one expression at most.
 use Rattle.std.proofs.Common.{◌≡◌, ℕ, List, Ok, Err, sym, ◌∙◌}
 use Rattle.htl_expr.specs.declared.stop.Stop.{Stop}
 use Rattle.htl_expr.specs.declared.expression.Expr.{Expr}

@@ -1,0 +1,9 @@
+use Rattle.htl_expr.proofs.Placed.{found, only, fault}
+use Rattle.htl_expr.proofs.laws.the_reading_is_the_grammar.Goals as goal
+
+pub returns : goal.returns
+returns c = record {
+  found = found;
+  only = only;
+  fault = fault;
+}

@@ -4,7 +4,7 @@ use Rattle.std.proofs.lemmas.List.{flat_map_more, map-append}
 use Rattle.std.proofs.lemmas.List.Concat.{flat_map-append}
 use Rattle.std.proofs.lemmas.List.Splits.{length-slice_split}
 use Rattle.std.specs.List.{list_all, onto_first, count_by}
-use Rattle.sp_base.specs.Paths.{has_slash, pieces, is_path, spelled, segs_in, unmangled, unmangled_seg}
+use Rattle.sp_base.specs.Paths.{has_slash, pieces, is_path, spelled, segs_in, IsPathText, unmangled, unmangled_seg}
 use Rattle.sp_base.proofs.PathLemmas.{lacks_slash, path_pieces, pieces_lack, all-append, first, second, not_is, or_first, or_second, test_eq}
 
 -- a slash before each piece of a text is a slash and the text
@@ -47,10 +47,10 @@ segs_lack text = all-drop lacks_slash (pieces text) (pieces_lack text)
 pub segs_of : (text : List ℕ) (segs : List (List ℕ)) → text ≡ spelled segs → is_path segs ≡ true → segs_in text ≡ segs
 segs_of text segs e h = ap segs_in e ∙ segs_in-spelled segs h
 
-pub spells : (text : List ℕ) (segs : List (List ℕ)) → text ≡ spelled segs → is_path segs ≡ true → (is_path (segs_in text) ≡ true) × (spelled (segs_in text) ≡ text)
+pub spells : (text : List ℕ) (segs : List (List ℕ)) → text ≡ spelled segs → is_path segs ≡ true → IsPathText text
 spells text segs e h =
     let same = segs_of text segs e h in
-    (ap is_path same ∙ h, ap spelled same ∙ sym e)
+    record { valid = ap is_path same ∙ h; whole = ap spelled same ∙ sym e }
 
 -- a path's text begins with a slash, if it is not empty
 begins : (segs : List (List ℕ)) → pieces (spelled segs) ≡ [] ∷ segs_in (spelled segs)

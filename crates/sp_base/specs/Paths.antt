@@ -1,4 +1,4 @@
-use Rattle.std.specs.Prelude.{true, ◌==◌, ◌&&◌, ◌||◌, ◌++◌, ◌-◌, ℕ, Bool, not, nat_eq, nat_lt, nat_le, if◌then◌else◌, List, [], ◌∷◌, Option, Some, None, Result, Ok, Err, codes, drop, take, length, flat_map, map}
+use Rattle.std.specs.Prelude.{◌≡◌, IsTrue, true, ◌==◌, ◌&&◌, ◌||◌, ◌++◌, ◌-◌, ℕ, Bool, not, nat_eq, nat_lt, nat_le, if◌then◌else◌, List, [], ◌∷◌, Option, Some, None, Result, Ok, Err, codes, drop, take, length, flat_map, map}
 use Rattle.std.specs.List.{list_any, list_all, position, slice_split, starts_with}
 use Rattle.std.specs.Cmp.Lexicographic.{pointwise, slice_cmp}
 use Rattle.std.specs.Ordering.{nat_cmp}
@@ -60,6 +60,11 @@ spelled segs = flat_map (λ s. 47 ∷ s) segs
 -- the segments of such a text: the pieces behind its first slash
 abbrev pub segs_in : List ℕ → List (List ℕ)
 segs_in text = drop 1 (pieces text)
+
+-- a text that spells a path
+pub record IsPathText (text : List ℕ) : Type 0 where
+  pub valid : IsTrue (is_path (segs_in text))
+  pub whole : spelled (segs_in text) ≡ text
 
 -- bytes that differ, where a slash is below every other
 abbrev pub byte_order : ℕ → ℕ → Ordering

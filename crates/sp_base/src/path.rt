@@ -63,15 +63,15 @@ pub struct Path {
 }
 
 impl Model for Path {
-    ghost use Rattle.std.specs.Prelude.{List, ℕ, IsTrue, string_bytes, ◌≡◌};
+    ghost use Rattle.std.specs.Prelude.{List, ℕ, string_bytes};
 
     ghost Value = { List (List ℕ) };
 
-    ghost use Rattle.sp_base.specs.Paths.{is_path, segs_in, spelled};
+    ghost use Rattle.sp_base.specs.Paths.{segs_in, IsPathText};
 
     ghost view = { λ p. segs_in (string_bytes p.text) };
 
-    ghost invariant = { λ p. IsTrue (is_path (segs_in (string_bytes p.text))) × (spelled (segs_in (string_bytes p.text)) ≡ string_bytes p.text) };
+    ghost invariant = { λ p. IsPathText (string_bytes p.text) };
 }
 
 impl Path {

@@ -5,8 +5,6 @@ use Rattle.sp_base.proofs.PathText.{segs_lack}
 use Rattle.sp_base.proofs.path.made.Goals as goal
 
 pub invariant_of-result : goal.invariant_of-result
-invariant_of-result c = (
-  path_from (segs_in (string_bytes c.args.text)) (segs_lack (string_bytes c.args.text))
-      (ap (λ (t : List ℕ). fault_of (segs_in t)) (sym c.as_str.ensures.value) ∙ sym c.text_fault.ensures ∙ c.in-None.is),
-  c.requires,
-)
+invariant_of-result c =
+    let none = ap (λ (t : List ℕ). fault_of (segs_in t)) (sym c.as_str.ensures.value) ∙ sym c.text_fault.ensures ∙ c.in-None.is in
+    record { valid = path_from (segs_in (string_bytes c.args.text)) (segs_lack (string_bytes c.args.text)) none; whole = c.requires }

@@ -6,14 +6,14 @@ use Rattle.sp_base.proofs.path.Path.child.Goals as goal
 
 pub made-requires : goal.made-requires
 made-requires c =
-    (child_text (string_bytes c.self.inside.text) c.args.name.now (string_bytes c.in_ok-glued.field-0) c.self.invariant.0 c.self.invariant.1
+    (child_text (string_bytes c.self.inside.text) c.args.name.now (string_bytes c.in_ok-glued.field-0) c.self.invariant.valid c.self.invariant.whole
     (c.in_ok-glued.ensures ∙ ap (λ (t : List ℕ). t ++ 47 ∷ c.args.name.now) c.as_str.ensures.value)).1
 
 -- what was made is the child by its definition
 made_of : (c : goal.After-made) → c.made.result ≡ child_of c.args.self.now c.args.name.now
 made_of c =
     let text = c.in_ok-glued.ensures ∙ ap (λ (t : List ℕ). t ++ 47 ∷ c.args.name.now) c.as_str.ensures.value in
-    c.made.ensures ∙ ap checked ((child_text (string_bytes c.self.inside.text) c.args.name.now (string_bytes c.in_ok-glued.field-0) c.self.invariant.0 c.self.invariant.1 text).0
+    c.made.ensures ∙ ap checked ((child_text (string_bytes c.self.inside.text) c.args.name.now (string_bytes c.in_ok-glued.field-0) c.self.invariant.valid c.self.invariant.whole text).0
     ∙ ap (λ (segs : List (List ℕ)). segs ++ pieces c.args.name.now) c.self.view_is)
 
 pub returns-clause-ok : goal.returns-clause-ok
@@ -27,4 +27,4 @@ returns-clause-whole c = IfOk-from c.made.result (λ p e ok. child_whole c.args.
 
 pub returns-clause-fits : goal.returns-clause-fits
 returns-clause-fits c = IfErr-from c.made.result
-    (λ e is ok less. absurd (no_fault_left c.args.self.now c.args.name.now e (subst (λ (segs : List (List ℕ)). is_path segs ≡ true) c.self.view_is c.self.invariant.0) (sym (made_of c) ∙ is) ok less))
+    (λ e is ok less. absurd (no_fault_left c.args.self.now c.args.name.now e (subst (λ (segs : List (List ℕ)). is_path segs ≡ true) c.self.view_is c.self.invariant.valid) (sym (made_of c) ∙ is) ok less))

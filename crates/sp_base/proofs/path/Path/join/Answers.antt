@@ -6,7 +6,7 @@ use Rattle.sp_base.proofs.path.Path.join.Goals as goal
 
 pub made-requires : goal.made-requires
 made-requires c =
-    (joined_text (string_bytes c.self.inside.text) (string_bytes c.rest.inside.text) (string_bytes c.in_ok-glued.field-0) c.self.invariant.0 c.rest.invariant.0 c.self.invariant.1 c.rest.invariant.1
+    (joined_text (string_bytes c.self.inside.text) (string_bytes c.rest.inside.text) (string_bytes c.in_ok-glued.field-0) c.self.invariant.valid c.rest.invariant.valid c.self.invariant.whole c.rest.invariant.whole
     (c.in_ok-glued.ensures ∙ ap (λ (t : List ℕ). t ++ c.as_str-2.result.now) c.as_str.ensures.value ∙ ap (λ (t : List ℕ). string_bytes c.self.inside.text ++ t) c.as_str-2.ensures.value)).1
 
 -- what was made is the join by its definition
@@ -15,7 +15,7 @@ made_of c =
     let own = string_bytes c.self.inside.text in
     let more = string_bytes c.rest.inside.text in
     let text = c.in_ok-glued.ensures ∙ ap (λ (t : List ℕ). t ++ c.as_str-2.result.now) c.as_str.ensures.value ∙ ap (λ (t : List ℕ). own ++ t) c.as_str-2.ensures.value in
-    c.made.ensures ∙ ap checked ((joined_text own more (string_bytes c.in_ok-glued.field-0) c.self.invariant.0 c.rest.invariant.0 c.self.invariant.1 c.rest.invariant.1 text).0
+    c.made.ensures ∙ ap checked ((joined_text own more (string_bytes c.in_ok-glued.field-0) c.self.invariant.valid c.rest.invariant.valid c.self.invariant.whole c.rest.invariant.whole text).0
     ∙ ap (λ (segs : List (List ℕ)). segs ++ segs_in more) c.self.view_is ∙ ap (λ (segs : List (List ℕ)). c.args.self.now ++ segs) c.rest.view_is)
 
 pub returns-clause-ok : goal.returns-clause-ok

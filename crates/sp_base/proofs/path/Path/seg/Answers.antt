@@ -5,4 +5,4 @@ use Rattle.sp_base.proofs.path.Path.seg.Goals as goal
 pub returns-in-None : goal.returns-in-None
 returns-in-None c =
     let none = subst (λ (t : List ℕ). (rest : List ℕ) → t ≢ 47 ∷ rest) c.as_str.ensures.value c.in-None.ensures.none in
-    ap (λ (segs : List (List ℕ)). slice_get segs c.args.n) (sym (root_segs (string_bytes c.self.inside.text) c.self.invariant.1 none) ∙ c.self.view_is)
+    ap (λ (segs : List (List ℕ)). slice_get segs c.args.n) (sym (root_segs (string_bytes c.self.inside.text) c.self.invariant.whole none) ∙ c.self.view_is)

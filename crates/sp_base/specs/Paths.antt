@@ -58,7 +58,7 @@ abbrev pub spelled : List (List ℕ) → List ℕ
 spelled segs = flat_map (λ s. 47 ∷ s) segs
 
 -- the segments of such a text: the pieces behind its first slash
-abbrev pub segs_in : List ℕ → List (List ℕ)
+unfoldable pub segs_in : List ℕ → List (List ℕ)
 segs_in text = drop 1 (pieces text)
 
 -- a text that spells a path

@@ -1,5 +1,5 @@
-use Rattle.std.specs.Prelude.{◌≡◌, IsTrue, true, ◌==◌, ◌&&◌, ◌||◌, ◌++◌, ◌-◌, ℕ, Bool, not, nat_eq, nat_lt, nat_le, if◌then◌else◌, List, [], ◌∷◌, Option, Some, None, Result, Ok, Err, codes, drop, take, length, flat_map, map}
-use Rattle.std.specs.List.{list_any, list_all, position, slice_split, starts_with}
+use Rattle.std.specs.Prelude.{◌≡◌, IsTrue, true, ◌==◌, ◌&&◌, ◌||◌, ◌++◌, ◌+◌, ◌-◌, ℕ, Bool, not, nat_eq, nat_lt, nat_le, if◌then◌else◌, List, [], ◌∷◌, Option, Some, None, Result, Ok, Err, codes, drop, take, length, flat_map, map}
+use Rattle.std.specs.List.{list_any, list_all, position, position_from, slice_split, starts_with}
 use Rattle.std.specs.Cmp.Lexicographic.{pointwise, slice_cmp}
 use Rattle.std.specs.Ordering.{nat_cmp}
 use Rattle.std.specs.declared.cmp.Ordering.{Ordering}
@@ -40,6 +40,10 @@ size_fault None n = if nat_lt 64 n then Some TooDeep else None
 
 abbrev pub fault_of : List (List ℕ) → Option PathFault
 fault_of segs = if list_any is_empty segs then Some EmptySegment else (if list_any is_dots segs then Some DotSegment else size_fault (position is_long segs) (length segs))
+
+-- the same of segments of a path and pieces behind them
+abbrev pub fault_behind : ℕ → List (List ℕ) → Option PathFault
+fault_behind before parts = if list_any is_empty parts then Some EmptySegment else (if list_any is_dots parts then Some DotSegment else size_fault (position_from is_long before parts) (before + length parts))
 
 abbrev pub unless_fault : Option PathFault → List (List ℕ) → Result (List (List ℕ)) PathFault
 unless_fault None segs = Ok segs

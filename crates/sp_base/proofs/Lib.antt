@@ -3,3 +3,4 @@ pub mod PathLemmas
 pub mod TypedLemmas
 pub mod PathText
 pub mod PathOrder
+pub mod PathFaults

@@ -114,8 +114,11 @@ first_path segs n h =
     let shorter : length (take n segs) ≤ 64 = omega (arith, small_back (length segs) (second _ _ t), length-take n segs) in
     test_true _ (both _ _ (all-take seg_ok segs n (first _ _ t)) (small_le (length (take n segs)) shorter))
 
+pub path_ok : (segs : List (List ℕ)) → is_path segs ≡ true → T (list_all seg_ok segs)
+path_ok segs h = first _ _ (true_test (is_path segs) h)
+
 pub path_pieces : (segs : List (List ℕ)) → is_path segs ≡ true → T (list_all lacks_slash segs)
-path_pieces segs h = path_lacks segs (first _ _ (true_test (is_path segs) h))
+path_pieces segs h = path_lacks segs (path_ok segs h)
 
 pub path_from : (segs : List (List ℕ)) → T (list_all lacks_slash segs) → fault_of segs ≡ None → is_path segs ≡ true
 path_from segs h none =
@@ -172,16 +175,25 @@ any_none : (p : List ℕ → Bool) (segs : List (List ℕ)) → ((seg : List ℕ
 any_none p [] none h = refl
 any_none p (seg ∷ segs) none h = ap (λ t. t || list_any p segs) (none seg (first _ _ h)) ∙ any_none p segs none (second _ _ h)
 
-none_long : (segs : List (List ℕ)) (n : ℕ) → list_any is_long segs ≡ false → position_from is_long n segs ≡ None
+pub none_long : (segs : List (List ℕ)) (n : ℕ) → list_any is_long segs ≡ false → position_from is_long n segs ≡ None
 none_long [] n e = refl
 none_long (seg ∷ segs) n e =
     ap (λ t. cond t (Some n) (position_from is_long (n + 1) segs)) (or_first _ _ e) ∙ none_long segs (n + 1) (or_second _ _ e)
 
+pub none_empty : (segs : List (List ℕ)) → T (list_all seg_ok segs) → list_any is_empty segs ≡ false
+none_empty segs h = any_none is_empty segs (λ seg ok. not_is _ (first (not (is_empty seg)) _ ok)) h
+
+pub none_dots : (segs : List (List ℕ)) → T (list_all seg_ok segs) → list_any is_dots segs ≡ false
+none_dots segs h = any_none is_dots segs (λ seg ok. not_is _ (first (not (is_dots seg)) _ (second (not (is_empty seg)) _ ok))) h
+
+pub all_short : (segs : List (List ℕ)) → T (list_all seg_ok segs) → list_any is_long segs ≡ false
+all_short segs h = any_none is_long segs (λ seg ok. not_is _ (first (not (is_long seg)) _ (second (not (is_dots seg)) _ (second (not (is_empty seg)) _ ok)))) h
+
 no_fault : (segs : List (List ℕ)) → T (list_all seg_ok segs) → length segs ≤ 64 → fault_of segs ≡ None
 no_fault segs h small =
-    let empty = any_none is_empty segs (λ seg ok. not_is _ (first (not (is_empty seg)) _ ok)) h in
-    let dots = any_none is_dots segs (λ seg ok. not_is _ (first (not (is_dots seg)) _ (second (not (is_empty seg)) _ ok))) h in
-    let long = any_none is_long segs (λ seg ok. not_is _ (first (not (is_long seg)) _ (second (not (is_dots seg)) _ (second (not (is_empty seg)) _ ok)))) h in
+    let empty = none_empty segs h in
+    let dots = none_dots segs h in
+    let long = all_short segs h in
     let few : nat_lt 64 (length segs) ≡ false = grind (arith, nat_tests) in
     ap (λ t. cond t (Some EmptySegment) (cond (list_any is_dots segs) (Some DotSegment) (size_fault (position is_long segs) (length segs)))) empty
     ∙ ap (λ t. cond t (Some DotSegment) (size_fault (position is_long segs) (length segs))) dots

@@ -4,7 +4,7 @@ use Rattle.std.proofs.lemmas.List.{flat_map_more, map-append}
 use Rattle.std.proofs.lemmas.List.Concat.{flat_map-append}
 use Rattle.std.proofs.lemmas.List.Splits.{length-slice_split}
 use Rattle.std.specs.List.{list_all, onto_first, count_by}
-use Rattle.sp_base.specs.Paths.{has_slash, pieces, is_path, spelled, segs_in, unmangled, unmangled_seg}
+use Rattle.sp_base.specs.Paths.{has_slash, pieces, is_path, spelled, segs_in, IsPathText, unmangled, unmangled_seg}
 use Rattle.sp_base.proofs.PathLemmas.{lacks_slash, path_pieces, pieces_lack, all-append, first, second, not_is, or_first, or_second, test_eq}
 
 -- a slash before each piece of a text is a slash and the text
@@ -34,6 +34,7 @@ pieces-spelled (seg ∷ segs) h =
     ap (λ parts. [] ∷ parts) (front_piece seg (spelled segs) segs (not_is _ (first (lacks_slash seg) _ h)) (pieces-spelled segs (second (lacks_slash seg) _ h)))
 
 pub segs_in-spelled : (segs : List (List ℕ)) → is_path segs ≡ true → segs_in (spelled segs) ≡ segs
+unfolding segs_in
 segs_in-spelled segs h = ap (drop 1) (pieces-spelled segs (path_pieces segs h))
 
 all-drop : (p : List ℕ → Bool) (parts : List (List ℕ)) → T (list_all p parts) → T (list_all p (drop 1 parts))
@@ -41,26 +42,33 @@ all-drop p [] h = tt
 all-drop p (part ∷ parts) h = second (p part) _ h
 
 pub segs_lack : (text : List ℕ) → T (list_all lacks_slash (segs_in text))
+unfolding segs_in
 segs_lack text = all-drop lacks_slash (pieces text) (pieces_lack text)
 
 -- a text that spells a path keeps what the type promises
 pub segs_of : (text : List ℕ) (segs : List (List ℕ)) → text ≡ spelled segs → is_path segs ≡ true → segs_in text ≡ segs
 segs_of text segs e h = ap segs_in e ∙ segs_in-spelled segs h
 
-pub spells : (text : List ℕ) (segs : List (List ℕ)) → text ≡ spelled segs → is_path segs ≡ true → (is_path (segs_in text) ≡ true) × (spelled (segs_in text) ≡ text)
+pub spells : (text : List ℕ) (segs : List (List ℕ)) → text ≡ spelled segs → is_path segs ≡ true → IsPathText text
 spells text segs e h =
     let same = segs_of text segs e h in
-    (ap is_path same ∙ h, ap spelled same ∙ sym e)
+    record { valid = ap is_path same ∙ h; whole = ap spelled same ∙ sym e }
 
 -- a path's text begins with a slash, if it is not empty
 begins : (segs : List (List ℕ)) → pieces (spelled segs) ≡ [] ∷ segs_in (spelled segs)
+unfolding segs_in
 begins [] = refl
 begins (seg ∷ segs) = refl
 
 pub pieces_of : (text : List ℕ) → spelled (segs_in text) ≡ text → pieces text ≡ [] ∷ segs_in text
 pieces_of text e = subst (λ t. pieces t ≡ [] ∷ segs_in t) e (begins (segs_in text))
 
+pub none_in : segs_in [] ≡ []
+unfolding segs_in
+none_in = refl
+
 pub segs_behind : (text rest : List ℕ) → text ≡ 47 ∷ rest → segs_in text ≡ pieces rest
+unfolding segs_in
 segs_behind text rest e = ap segs_in e
 
 root_or_slash : (segs : List (List ℕ)) (text : List ℕ) → spelled segs ≡ text → ((rest : List ℕ) → text ≢ 47 ∷ rest) → text ≡ []
@@ -71,6 +79,7 @@ pub is_root : (text : List ℕ) → spelled (segs_in text) ≡ text → ((rest :
 is_root text e none = root_or_slash (segs_in text) text e none
 
 pub root_segs : (text : List ℕ) → spelled (segs_in text) ≡ text → ((rest : List ℕ) → text ≢ 47 ∷ rest) → segs_in text ≡ []
+unfolding segs_in
 root_segs text e none = ap segs_in (is_root text e none)
 
 -- as many segments as slashes
@@ -79,9 +88,11 @@ length-segs_in text e = omega (arith, length-slice_split (λ b. b == 47) text, a
 
 -- texts that are made
 pub slash_then : (text : List ℕ) → spelled (segs_in (47 ∷ text)) ≡ 47 ∷ text
+unfolding segs_in
 slash_then text = spelled-pieces text
 
 spelled-join : (segs more : List (List ℕ)) (text : List ℕ) → T (list_all lacks_slash segs) → T (list_all lacks_slash more) → text ≡ spelled segs ++ spelled more → (segs_in text ≡ segs ++ more) × (spelled (segs_in text) ≡ text)
+unfolding segs_in
 spelled-join segs more text h k e =
     let whole : text ≡ spelled (segs ++ more) = e ∙ sym (flat_map-append (λ s. 47 ∷ s) segs more) in
     let same : segs_in text ≡ segs ++ more = ap segs_in whole ∙ ap (drop 1) (pieces-spelled (segs ++ more) (all-append lacks_slash segs more h k)) in

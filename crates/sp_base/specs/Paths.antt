@@ -1,5 +1,5 @@
-use Rattle.std.specs.Prelude.{true, ◌==◌, ◌&&◌, ◌||◌, ◌++◌, ◌-◌, ℕ, Bool, not, nat_eq, nat_lt, nat_le, if◌then◌else◌, List, [], ◌∷◌, Option, Some, None, Result, Ok, Err, codes, drop, take, length, flat_map, map}
-use Rattle.std.specs.List.{list_any, list_all, position, slice_split, starts_with}
+use Rattle.std.specs.Prelude.{◌≡◌, IsTrue, true, ◌==◌, ◌&&◌, ◌||◌, ◌++◌, ◌+◌, ◌-◌, ℕ, Bool, not, nat_eq, nat_lt, nat_le, if◌then◌else◌, List, [], ◌∷◌, Option, Some, None, Result, Ok, Err, codes, drop, take, length, flat_map, map}
+use Rattle.std.specs.List.{list_any, list_all, position, position_from, slice_split, starts_with}
 use Rattle.std.specs.Cmp.Lexicographic.{pointwise, slice_cmp}
 use Rattle.std.specs.Ordering.{nat_cmp}
 use Rattle.std.specs.declared.cmp.Ordering.{Ordering}
@@ -41,6 +41,10 @@ size_fault None n = if nat_lt 64 n then Some TooDeep else None
 abbrev pub fault_of : List (List ℕ) → Option PathFault
 fault_of segs = if list_any is_empty segs then Some EmptySegment else (if list_any is_dots segs then Some DotSegment else size_fault (position is_long segs) (length segs))
 
+-- the same of segments of a path and pieces behind them
+abbrev pub fault_behind : ℕ → List (List ℕ) → Option PathFault
+fault_behind before parts = if list_any is_empty parts then Some EmptySegment else (if list_any is_dots parts then Some DotSegment else size_fault (position_from is_long before parts) (before + length parts))
+
 abbrev pub unless_fault : Option PathFault → List (List ℕ) → Result (List (List ℕ)) PathFault
 unless_fault None segs = Ok segs
 unless_fault (Some fault) segs = Err fault
@@ -58,8 +62,13 @@ abbrev pub spelled : List (List ℕ) → List ℕ
 spelled segs = flat_map (λ s. 47 ∷ s) segs
 
 -- the segments of such a text: the pieces behind its first slash
-abbrev pub segs_in : List ℕ → List (List ℕ)
+unfoldable pub segs_in : List ℕ → List (List ℕ)
 segs_in text = drop 1 (pieces text)
+
+-- a text that spells a path
+pub record IsPathText (text : List ℕ) : Type 0 where
+  pub valid : IsTrue (is_path (segs_in text))
+  pub whole : spelled (segs_in text) ≡ text
 
 -- bytes that differ, where a slash is below every other
 abbrev pub byte_order : ℕ → ℕ → Ordering

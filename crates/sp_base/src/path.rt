@@ -3,12 +3,13 @@ ghost use Rattle.std.specs.Cmp.{partial_equiv_from_equiv, partial_order_from_agr
 ghost use Rattle.std.specs.Cmp.Lexicographic.{slice_cmp, lists_total, nat_list_cmp_total};
 ghost use Rattle.std.specs.Ordering.{nat_cmp, eq_by_cmp};
 ghost use Rattle.std.proofs.lemmas.Cmp.{eq_by_cmp_equiv};
-ghost use Rattle.sp_base.specs.Paths.{seg_ok, path_of, child_of, join_of, parent_of, text_of, unmangled, is_under, is_path, checked, segs_in, spelled};
+ghost use Rattle.sp_base.specs.Paths.{seg_ok, path_of, child_of, join_of, parent_of, text_of, unmangled, is_under, is_path, fault_of, checked, segs_in, spelled};
 ghost use Rattle.sp_base.specs.declared.path.PathFault.TheVariants.{NoMemory as no_memory};
 
 use crate::order::text_order;
 use crate::segments::{
-    behind_slash, first_pieces, glued, piece_at, pieces_unmangled, slashes, text_fault, text_under,
+    behind_slash, fault_behind, first_pieces, glued, piece_at, pieces_unmangled, size_fault,
+    slashes, text_under,
 };
 use crate::{Mem, NoMemory, TextBuf};
 use std::alloc::{AllocError, AllocFailed, Global};
@@ -63,15 +64,15 @@ pub struct Path {
 }
 
 impl Model for Path {
-    ghost use Rattle.std.specs.Prelude.{List, ℕ, IsTrue, string_bytes, ◌≡◌};
+    ghost use Rattle.std.specs.Prelude.{List, ℕ, string_bytes};
 
     ghost Value = { List (List ℕ) };
 
-    ghost use Rattle.sp_base.specs.Paths.{is_path, segs_in, spelled};
+    ghost use Rattle.sp_base.specs.Paths.{segs_in, IsPathText};
 
     ghost view = { λ p. segs_in (string_bytes p.text) };
 
-    ghost invariant = { λ p. IsTrue (is_path (segs_in (string_bytes p.text))) × (spelled (segs_in (string_bytes p.text)) ≡ string_bytes p.text) };
+    ghost invariant = { λ p. IsPathText (string_bytes p.text) };
 }
 
 impl Path {
@@ -95,7 +96,7 @@ impl Path {
         if rest.is_empty() {
             return Ok(Path::root(alloc));
         }
-        made(String::from_str(alloc, text)?)
+        made(fault_behind(0, rest), String::from_str(alloc, text)?)
     }
 
     /// The path with a name behind it. A name with a slash in it adds a segment for each of its pieces.
@@ -107,7 +108,8 @@ impl Path {
         ensures whole { IfOk result (λ p. IsTrue (seg_ok name.now) → p ≡ self.now ++ name.now ∷ []) }
         ensures fits { IfErr result (λ e. IsTrue (seg_ok name.now) → length self.now < 64 → e ≡ PathFault.NoMemory) }
     {
-        made(glued(alloc, self.text.as_str(), "/", name)?)
+        let fault = fault_behind(self.depth(), name);
+        made(fault, glued(alloc, self.text.as_str(), "/", name)?)
     }
 
     /// The segments of a further path behind these.
@@ -115,7 +117,11 @@ impl Path {
         ensures ok { IfOk result (λ p. join_of self.now rest.now ≡ Ok p) }
         ensures err { IfErr result (λ e. e ≢ PathFault.NoMemory → join_of self.now rest.now ≡ Err e) }
     {
-        made(glued(alloc, self.text.as_str(), "", rest.text.as_str())?)
+        let fault = size_fault(None, self.depth(), rest.depth());
+        made(
+            fault,
+            glued(alloc, self.text.as_str(), "", rest.text.as_str())?,
+        )
     }
 
     /// The path without its last segment. The root's parent is the root.
@@ -233,12 +239,13 @@ impl Ord for Path {
     }
 }
 
-// The path that a text spells: a slash before each piece.
-fn made(text: String) -> Result<Path, PathFault>
-    requires { spelled (segs_in (string_bytes text)) ≡ string_bytes text }
+// The path that a text spells, unless there is a fault.
+fn made(fault: Option<PathFault>, text: String) -> Result<Path, PathFault>
+    requires fault { fault ≡ fault_of (segs_in (string_bytes text)) }
+    requires whole { spelled (segs_in (string_bytes text)) ≡ string_bytes text }
     ensures { result ≡ checked (segs_in (string_bytes text)) }
 {
-    match text_fault(text.as_str()) {
+    match fault {
         Some(fault) => Err(fault),
         None => Ok(Path { text }),
     }

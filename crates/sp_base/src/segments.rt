@@ -1,6 +1,6 @@
-ghost use Rattle.std.specs.Prelude.{◌≡◌, ◌≢◌, ◌==◌, ◌∷◌, ◌++◌, List, ℕ, true, false, drop, take, length, IfOk, OnOk, IfSome, IfNone, option_copied, slice_get, string_bytes};
-ghost use Rattle.std.specs.List.{list_any, position, count_by};
-ghost use Rattle.sp_base.specs.Paths.{seg_ok, is_empty, is_dots, is_long, has_slash, pieces, spelled, segs_in, fault_of, size_fault, is_mangled, unmangled_seg, unmangled, text_under};
+ghost use Rattle.std.specs.Prelude.{◌+◌, ◌≤◌, ◌≡◌, ◌≢◌, ◌==◌, ◌∷◌, ◌++◌, List, ℕ, true, false, drop, take, length, IfOk, OnOk, IfSome, IfNone, option_copied, slice_get, string_bytes};
+ghost use Rattle.std.specs.List.{list_any, position, position_from, count_by};
+ghost use Rattle.sp_base.specs.Paths.{seg_ok, is_empty, is_dots, is_long, has_slash, pieces, spelled, fault_behind, size_fault, is_mangled, unmangled_seg, unmangled, text_under};
 
 use crate::{Mem, PathFault};
 use std::alloc::Global;
@@ -43,9 +43,21 @@ fn has_dots(text: &str) -> bool
 }
 
 fn first_long(text: &str) -> Option<usize>
-    ensures { result ≡ position is_long (pieces text.now) }
+    ensures first { result ≡ position is_long (pieces text.now) }
+    ensures within { IfSome result (λ place. place ≤ length text.now) }
 {
     text.split('/').position(|piece| piece.len() > LONGEST)
+}
+
+// The place of the first long piece of a text, where others stand before them.
+fn long_behind(before: usize, text: &str) -> Option<usize>
+    requires { before ≤ 64 }
+    ensures { result ≡ position_from is_long before (pieces text.now) }
+{
+    match first_long(text) {
+        Some(place) => Some(before + place),
+        None => None,
+    }
 }
 
 fn count(text: &str) -> usize
@@ -54,37 +66,28 @@ fn count(text: &str) -> usize
     text.split('/').count()
 }
 
-fn size_fault(long: Option<usize>, count: usize) -> Option<PathFault>
-    ensures { result ≡ size_fault long count }
+pub fn size_fault(long: Option<usize>, before: usize, count: usize) -> Option<PathFault>
+    requires { before ≤ 64 }
+    ensures { result ≡ size_fault long (before + count) }
 {
     match long {
         Some(place) => Some(PathFault::LongSegment(place)),
-        None if count > DEEPEST => Some(PathFault::TooDeep),
+        None if count > DEEPEST - before => Some(PathFault::TooDeep),
         None => None,
     }
 }
 
-// Why the pieces of a text are no path.
-fn fault_of(text: &str) -> Option<PathFault>
-    ensures { result ≡ fault_of (pieces text.now) }
+// Why segments of a path and the pieces of a text behind them are no path.
+pub fn fault_behind(before: usize, text: &str) -> Option<PathFault>
+    requires { before ≤ 64 }
+    ensures { result ≡ fault_behind before (pieces text.now) }
 {
     if has_empty(text) {
         Some(PathFault::EmptySegment)
     } else if has_dots(text) {
         Some(PathFault::DotSegment)
     } else {
-        size_fault(first_long(text), count(text))
-    }
-}
-
-// Why a path's text is no path.
-pub fn text_fault(text: &str) -> Option<PathFault>
-    requires { spelled (segs_in text.now) ≡ text.now }
-    ensures { result ≡ fault_of (segs_in text.now) }
-{
-    match behind_slash(text) {
-        Some(rest) => fault_of(rest),
-        None => None,
+        size_fault(long_behind(before, text), before, count(text))
     }
 }
 

@@ -1,12 +1,9 @@
-use Rattle.std.proofs.Common.{sym, ◌∙◌, ap, string_bytes, List, ℕ}
-use Rattle.sp_base.specs.Paths.{segs_in, fault_of}
+use Rattle.std.proofs.Common.{sym, ◌∙◌, string_bytes}
+use Rattle.sp_base.specs.Paths.{segs_in}
 use Rattle.sp_base.proofs.PathLemmas.{path_from}
 use Rattle.sp_base.proofs.PathText.{segs_lack}
 use Rattle.sp_base.proofs.path.made.Goals as goal
 
 pub invariant_of-result : goal.invariant_of-result
-invariant_of-result c = (
-  path_from (segs_in (string_bytes c.args.text)) (segs_lack (string_bytes c.args.text))
-      (ap (λ (t : List ℕ). fault_of (segs_in t)) (sym c.as_str.ensures.value) ∙ sym c.text_fault.ensures ∙ c.in-None.is),
-  c.requires,
-)
+invariant_of-result c =
+    record { valid = path_from (segs_in (string_bytes c.args.text)) (segs_lack (string_bytes c.args.text)) (sym c.requires.fault ∙ c.in-None.is); whole = c.requires.whole }

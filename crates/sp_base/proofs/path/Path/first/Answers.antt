@@ -12,9 +12,9 @@ text_is c =
 pub invariant_of-result : goal.invariant_of-result
 invariant_of-result c =
     let own = segs_in (string_bytes c.self.inside.text) in
-    spells (string_bytes c.in_ok-first_pieces-in-Some.field-0) (take c.args.n own) (text_is c) (first_path own c.args.n c.self.invariant.0)
+    spells (string_bytes c.in_ok-first_pieces-in-Some.field-0) (take c.args.n own) (text_is c) (first_path own c.args.n c.self.invariant.valid)
 
 pub returns-in_ok-first_pieces-in-Some : goal.returns-in_ok-first_pieces-in-Some
 returns-in_ok-first_pieces-in-Some c =
     let own = segs_in (string_bytes c.self.inside.text) in
-    segs_of (string_bytes c.in_ok-first_pieces-in-Some.field-0) (take c.args.n own) (text_is c) (first_path own c.args.n c.self.invariant.0) ∙ ap (take c.args.n) c.self.view_is
+    segs_of (string_bytes c.in_ok-first_pieces-in-Some.field-0) (take c.args.n own) (text_is c) (first_path own c.args.n c.self.invariant.valid) ∙ ap (take c.args.n) c.self.view_is

@@ -12,14 +12,14 @@ text_is c =
 pub invariant_of-result : goal.invariant_of-result
 invariant_of-result c =
     let own = segs_in (string_bytes c.self.inside.text) in
-    spells (string_bytes c.in_ok-pieces_unmangled-in-Some.field-0) (unmangled own) (text_is c) (unmangled_path own c.self.invariant.0)
+    spells (string_bytes c.in_ok-pieces_unmangled-in-Some.field-0) (unmangled own) (text_is c) (unmangled_path own c.self.invariant.valid)
 
 pub returns-in_ok-pieces_unmangled-in-Some : goal.returns-in_ok-pieces_unmangled-in-Some
 returns-in_ok-pieces_unmangled-in-Some c =
     let own = segs_in (string_bytes c.self.inside.text) in
-    segs_of (string_bytes c.in_ok-pieces_unmangled-in-Some.field-0) (unmangled own) (text_is c) (unmangled_path own c.self.invariant.0) ∙ ap unmangled c.self.view_is
+    segs_of (string_bytes c.in_ok-pieces_unmangled-in-Some.field-0) (unmangled own) (text_is c) (unmangled_path own c.self.invariant.valid) ∙ ap unmangled c.self.view_is
 
 pub returns-in-None : goal.returns-in-None
 returns-in-None c =
     let none = subst (λ (t : List ℕ). (rest : List ℕ) → t ≢ 47 ∷ rest) c.as_str.ensures.value c.in-None.ensures.none in
-    c.root.ensures ∙ ap unmangled (sym (root_segs (string_bytes c.self.inside.text) c.self.invariant.1 none) ∙ c.self.view_is)
+    c.root.ensures ∙ ap unmangled (sym (root_segs (string_bytes c.self.inside.text) c.self.invariant.whole none) ∙ c.self.view_is)

@@ -71,6 +71,7 @@ pub record MayGoOn (s : List ℕ) (place : ℕ) : Type 0 where
   pub tree : Expr
   pub whole : Whole (take place s ++ more) tree
 
+-- the place is the first byte with which no expression goes on
 abbrev pub IsFault : ExprFault → List ℕ → Type 0
 IsFault NoMemory s = Unit {0}
 IsFault (Unexpected place) s = MayGoOn s place × HasNone s place

@@ -14,6 +14,7 @@ use Rattle.htl_expr.specs.Read.{accessed, and_of, or_of, word_of, object_of}
 
 -- ---- tokens, each with the blanks behind it
 
+-- a byte
 pub record Byte (c : ℕ) (s r : List ℕ) : Type 0 where
   pub after : List ℕ
   pub parts : s ≡ c ∷ after
@@ -52,6 +53,7 @@ pub data Quoted (mark : ℕ) : List ℕ → List ℕ → List ℕ → Type 0 whe
   plain : {c : ℕ} {s w after : List ℕ} → (c == mark) ≡ false → (c == 92) ≡ false → Quoted mark s w after → Quoted mark (c ∷ s) (c ∷ w) after
   escape : {c d : ℕ} {s w after : List ℕ} → unescape c ≡ Some d → Quoted mark s w after → Quoted mark (92 ∷ c ∷ s) (d ∷ w) after
 
+-- a string between two marks of one kind, and the characters that it stands for
 pub record String (s w r : List ℕ) : Type 0 where
   pub mark : ℕ
   pub inside : List ℕ
@@ -71,6 +73,7 @@ abbrev pub Sign : Bool → List ℕ → List ℕ → Type 0
 Sign true s t = s ≡ 45 ∷ t
 Sign false s t = s ≡ t
 
+-- the longest number of 64 bits at the front
 pub record Number (s : List ℕ) (k : ℤ) (r : List ℕ) : Type 0 where
   pub negative : Bool
   pub magnitude : ℕ
@@ -98,6 +101,7 @@ pub data Access : ℕ → List ℕ → List ℕ → List ℕ → Type 0 where
   field : {depth : ℕ} {s r1 f r : List ℕ} → Byte 46 s r1 → Named Field r1 f r → Access depth s f r
   bracket : {depth : ℕ} {s r1 f r2 r : List ℕ} → Byte 91 s r1 → String r1 f r2 → Byte 93 r2 r → Access (suc depth) s f r
 
+-- one access behind another
 pub data Accesses (depth : ℕ) : List ℕ → List (List ℕ) → List ℕ → Type 0 where
   none : {r : List ℕ} → Accesses depth r [] r
   more : {s f r1 : List ℕ} {fs : List (List ℕ)} {r : List ℕ} → Access depth s f r1 → Accesses depth r1 fs r → Accesses depth s (f ∷ fs) r
@@ -108,11 +112,13 @@ pub data Separator : Type 0 where
   Or : Separator
   Comma : Separator
 
+-- how a separator is spelled
 abbrev pub Separates : Separator → List ℕ → List ℕ → Type 0
 Separates And s r = Operator 38 38 s r
 Separates Or s r = Operator 124 124 s r
 Separates Comma s r = Byte 44 s r
 
+-- the parts of an expression, from the loosest to the tightest; items stand in a list literal
 pub data Part : Type 0 where
   Choice : Part
   Either : Part
@@ -162,10 +168,12 @@ pub record Literal (w s r : List ℕ) : Type 0 where
   pub parts : s ≡ w ++ after
   pub rest : r ≡ skip after
 
+-- the names of the contexts
 abbrev pub context_text : Context → List ℕ
 context_text Text = codes "text"
 context_text Unsafe = codes "unsafe"
 
+-- the name of a context between two marks of one kind
 pub record ContextString (s : List ℕ) (c : Context) (r : List ℕ) : Type 0 where
   pub mark : ℕ
   pub after : List ℕ

@@ -20,6 +20,7 @@ abbrev pub accessed : Node → List (List ℕ) → Node
 accessed e [] = e
 accessed e (f ∷ fs) = n.Access e (f ∷ fs)
 
+-- one operand is itself
 abbrev pub and_of : Node → List Node → Node
 and_of e [] = e
 and_of e (f ∷ fs) = n.And e (f ∷ fs)
@@ -28,6 +29,7 @@ abbrev pub or_of : Node → List Node → Node
 or_of e [] = e
 or_of e (f ∷ fs) = n.Or e (f ∷ fs)
 
+-- the same text
 abbrev pub is_text : List ℕ → List ℕ → Bool
 is_text w text = pointwise nat_eq w text
 
@@ -41,6 +43,7 @@ object_of w = if is_text w (codes "properties") then Some n.Property else (if is
 
 -- ---- comparisons, of which the longest counts
 
+-- a comparison begins with one of these bytes
 unfoldable pub compares : List ℕ → Bool
 compares t = is_at 61 t || (is_at 33 t || (is_at 60 t || is_at 62 t))
 
@@ -48,6 +51,7 @@ compares t = is_at 61 t || (is_at 33 t || (is_at 60 t || is_at 62 t))
 unfoldable pub or_equal : Comparison → Comparison → List ℕ → Comparison × List ℕ
 or_equal bare equal t = if is_at 61 (drop 1 t) then (equal, skip (drop 1 (drop 1 t))) else (bare, skip (drop 1 t))
 
+-- the comparison at the front
 unfoldable pub comparison : List ℕ → Outcome Comparison
 comparison t =
     if is_at 61 t then (second 61 t >>= λ r. Ok (Equal, r))
@@ -61,6 +65,7 @@ comparison t =
 abbrev pub between : ℕ → List ℕ → Result (List ℕ) Stop
 between c t = if c == 44 then expect c t else second c t
 
+-- items and what stands between them, up to a byte that begins no separator
 unfoldable pub chain : (List ℕ → Outcome Node) → ℕ → ℕ → List Node → List ℕ → Outcome (List Node)
 chain item c zero found t = Ok (found, t)
 chain item c (suc k) found t = if is_at c t then (do
@@ -68,6 +73,7 @@ chain item c (suc k) found t = if is_at c t then (do
   x ← item r
   chain item c k (found ++ x.0 ∷ []) x.1) else Ok (found, t)
 
+-- an access begins with a dot or a bracket
 unfoldable pub access_at : List ℕ → Bool
 access_at t = is_at 46 t || is_at 91 t
 
@@ -180,6 +186,7 @@ nested (suc depth) which t = level depth (nested depth) which (skip (drop 1 t))
 abbrev pub Given : Type 0
 Given = Option (List ℕ) × Option Context
 
+-- `text` or `unsafe`
 unfoldable pub context_word : List ℕ → Outcome Context
 context_word t = if is_at 116 t then (literal (codes "text") t >>= λ r. Ok (Text, r)) else (literal (codes "unsafe") t >>= λ r. Ok (Unsafe, r))
 
@@ -190,6 +197,7 @@ context_string t = if begins is_quote t then (do
   r ← expect (slice_index t 0) x.1
   Ok (x.0, r)) else Err (Unexpected (length t))
 
+-- `join` and its string, `context` and its own
 unfoldable pub join_option : List ℕ → Outcome (List ℕ)
 join_option t = literal (codes "join") t >>= λ a. expect 61 (skip a) >>= λ b. string b
 
@@ -213,6 +221,7 @@ options t = if is_at 64 t then (do
 unfoldable pub first : List ℕ → Outcome (Option Node)
 first t = if length t == 0 || is_at 64 t then Ok (None, t) else (choice 32 (nested 32) t >>= λ x. Ok (Some x.0, x.1))
 
+-- an expression of a tree and the options that are given
 abbrev pub expr_of : Option Node → Given → Expr
 expr_of node given = record { node = node; join = given.0; context = given.1 }
 

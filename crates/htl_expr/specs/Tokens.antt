@@ -40,6 +40,7 @@ unfoldable pub is_at : ℕ → List ℕ → Bool
 is_at c [] = false
 is_at c (d ∷ t) = d == c
 
+-- digits and letters are those of ASCII
 abbrev pub is_digit : ℕ → Bool
 is_digit c = nat_le 48 c && nat_le c 57
 
@@ -54,6 +55,7 @@ is_first c = is_letter c || c == 95
 abbrev pub is_word : ℕ → Bool
 is_word c = is_first c || is_digit c
 
+-- the marks that a string stands between
 abbrev pub is_quote : ℕ → Bool
 is_quote c = c == 39 || c == 34
 
@@ -73,6 +75,7 @@ unfoldable pub run_len : NameKind → List ℕ → ℕ
 run_len kind [] = 0
 run_len kind (c ∷ t) = if goes_on kind (c ∷ t) then suc (run_len kind t) else 0
 
+-- a step that reads nothing
 abbrev pub done : {A : Type 0} → A → Result A Stop
 done x = Ok x
 
@@ -97,6 +100,7 @@ unfoldable pub literal : List ℕ → List ℕ → Result (List ℕ) Stop
 literal [] t = Ok t
 literal (c ∷ w) t = if is_at c t then literal w (drop 1 t) else Err (Unexpected (length t))
 
+-- each byte is a character of its own
 abbrev pub AreAscii : List ℕ → Type 0
 AreAscii [] = Unit {0}
 AreAscii (c ∷ w) = (c < 128) × AreAscii w
@@ -110,6 +114,7 @@ unescape c =
     else if c == 114 then Some 13
     else None
 
+-- the character that an escape stands for, or the byte that begins none
 abbrev pub escape_of : Option ℕ → List ℕ → Outcome ℕ
 escape_of None at = Err (Unexpected (length at))
 escape_of (Some d) at = Ok (d, drop 1 at)
@@ -124,9 +129,11 @@ unfoldable pub plain_len : ℕ → List ℕ → ℕ
 plain_len mark [] = 0
 plain_len mark (c ∷ t) = if c == mark || c == 92 then 0 else suc (plain_len mark t)
 
+-- characters in front of what was read
 abbrev pub in_front : List ℕ → Outcome (List ℕ) → Outcome (List ℕ)
 in_front front o = o >>= λ x. Ok (front ++ x.0, x.1)
 
+-- the character of an escape in front of what was read
 abbrev pub escaped : Option ℕ → List ℕ → Outcome (List ℕ) → Outcome (List ℕ)
 escaped None at rest = Err (Unexpected (length at))
 escaped (Some d) at rest = in_front (d ∷ []) rest
@@ -163,6 +170,7 @@ next_of limit m t = if digit_fits limit m t then Some (m * 10 + (slice_index t 0
 abbrev pub limit : Bool → ℕ
 limit negative = if negative then 9223372036854775808 else 9223372036854775807
 
+-- a magnitude with its sign
 abbrev pub signed : Bool → ℕ → ℤ
 signed negative m = if negative then neg_ℤ (pos m) else pos m
 

@@ -71,6 +71,7 @@ out_of (stored.Texts texts) = out.List texts
 out_of (stored.Longs ns) = out.List (map signed_decimal ns)
 out_of (stored.Truths bs) = out.List (map truth_text bs)
 
+-- nothing, where there is no such property
 abbrev pub out_or_nothing : Option Value → Out
 out_or_nothing None = out.Nothing
 out_or_nothing (Some value) = out_of value
@@ -86,6 +87,7 @@ field scope name =
     else (if pointwise nat_eq name (codes "name") then Some scope.name
     else (if pointwise nat_eq name (codes "resourceType") then Some scope.kind else None))
 
+-- nothing, where there is no such text
 abbrev pub text_or_nothing : Option (List ℕ) → Out
 text_or_nothing None = out.Nothing
 text_or_nothing (Some text) = out.Text text
@@ -114,6 +116,7 @@ value_step scope (Node-F.Choice condition a b) = if is_true condition then a els
 abbrev pub value : Scope → Node → Out
 value scope = fold-Node Out (value_step scope)
 
+-- an expression without a tree is nothing
 abbrev pub value_or_nothing : Scope → Option Node → Out
 value_or_nothing scope None = out.Nothing
 value_or_nothing scope (Some node) = value scope node

@@ -45,10 +45,12 @@ unfoldable pub closing : Quotes → ℕ → List ℕ → Option ℕ
 closing quotes n [] = None
 closing quotes n (c ∷ t) = if closes quotes c then Some n else closing (step quotes c) (n + 1) t
 
+-- what stands between the braces as an expression, and the text behind it
 abbrev pub read_value : ℕ → List ℕ → Result Expr ExprFault → Result (Expr × List ℕ) TextFault
 read_value place behind (Ok e) = Ok (e, behind)
 read_value place behind (Err fault) = Err (BadExpr place)
 
+-- the same, by the place of the byte that closes it
 abbrev pub closed_value : ℕ → List ℕ → Option ℕ → Result (Expr × List ℕ) TextFault
 closed_value place inside None = Err (Unclosed place)
 closed_value place inside (Some n) = read_value place (drop 1 (drop n inside)) (expression_of (take n inside))
@@ -64,6 +66,7 @@ in_front (c ∷ t) [] = Plain (c ∷ t) ∷ []
 in_front (c ∷ t) (Plain more ∷ ps) = Plain (c ∷ (t ++ more)) ∷ ps
 in_front (c ∷ t) (Value e ∷ ps) = Plain (c ∷ t) ∷ (Value e ∷ ps)
 
+-- plain text in front of the pieces of the rest
 abbrev pub written : List ℕ → Result (List Piece) TextFault → Result (List Piece) TextFault
 written t (Ok ps) = Ok (in_front t ps)
 written t (Err fault) = Err fault
@@ -73,6 +76,7 @@ abbrev pub before : List Piece → Result (List Piece) TextFault → Result (Lis
 before front (Ok ps) = Ok (front ++ ps)
 before front (Err fault) = Err fault
 
+-- an expression in front of the pieces of the rest
 abbrev pub valued : Result (Expr × List ℕ) TextFault → (List ℕ → Result (List Piece) TextFault) → Result (List Piece) TextFault
 valued (Ok x) more = before (Value x.0 ∷ []) (more x.1)
 valued (Err fault) more = Err fault

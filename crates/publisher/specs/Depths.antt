@@ -10,6 +10,7 @@ use Rattle.get_servlet.specs.declared.answer.Depth.TheVariants.{Levels, Infinity
 abbrev pub is_depth : List ℕ → Bool
 is_depth word = are_digits word && (nat_le (length word) 9 && (length word == 1 || not (slice_index word 0 == 48)))
 
+-- the number of levels that a selector spells
 abbrev pub levels_named : List ℕ → Option ℕ
 levels_named word = if is_depth word then Some (digits_value 10 word) else None
 

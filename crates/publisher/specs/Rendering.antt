@@ -39,6 +39,7 @@ mark_named name = if pointwise nat_eq name (codes "no-cache") then NoCache
     else (if pointwise nat_eq name (codes "no-store") then NoStore
     else (if pointwise nat_eq name (codes "must-revalidate") then MustRevalidate else Plain))
 
+-- no text names no mark
 abbrev pub mark_in : Option (List ℕ) → Mark
 mark_in None = Plain
 mark_in (Some name) = mark_named name
@@ -102,6 +103,7 @@ abbrev pub answer_by : Option (List ℕ) → Seen → Parts → Res → Answer
 answer_by (Some text) seen parts res = script_page res (template_of text)
 answer_by None seen parts res = default_answer seen parts res
 
+-- the answer of what is seen at a path, by the script that ranks first for it
 abbrev pub resource_answer : Content → Parts → Option Res → Answer
 resource_answer tree parts None = error_answer 404
 resource_answer tree parts (Some res) = answer_by (script_for tree parts res) (res_at tree) parts res

@@ -1,15 +1,17 @@
 -- What is read as an expression, and where a fault is placed, by the answer of the reading.
-use Rattle.std.proofs.Common.{◌≡◌, ℕ, List, Result, Ok, Err, refl, ap, subst}
+use Rattle.std.proofs.Common.{◌≡◌, ◌≢◌, ℕ, List, Result, Ok, Err, refl, ap, subst}
 use Rattle.htl_expr.specs.declared.stop.Stop.{Stop}
 use Rattle.htl_expr.specs.declared.stop.Stop.TheVariants as stop
 use Rattle.htl_expr.specs.declared.expression.Expr.{Expr}
 use Rattle.htl_expr.specs.declared.expression.ExprFault.{ExprFault}
+use Rattle.htl_expr.specs.declared.expression.ExprFault.TheVariants.{NoMemory}
 use Rattle.htl_expr.specs.Read.{read}
 use Rattle.htl_expr.specs.Grammar.{Whole}
 use Rattle.htl_expr.specs.Fault.{placed, expression_of, IsFault}
 use Rattle.htl_expr.proofs.Faults.{unexpected_is, too_deep_is}
 use Rattle.htl_expr.proofs.WholeRead.{read_sound}
 use Rattle.htl_expr.proofs.WholeAgain.{read_again}
+use Rattle.htl_expr.proofs.LocalOptions.{failed}
 
 ok_read : (s : List ℕ) (r : Result Expr Stop) (e : Expr) → placed s r ≡ Ok e → r ≡ Ok e
 ok_read s (Ok x) e p = let same : ◌≡◌ {A = Result Expr ExprFault} (Ok x) (Ok e) = p in cc
@@ -34,3 +36,12 @@ only s e w = ap (placed s) (read_again s e w)
 
 pub fault : (s : List ℕ) (f : ExprFault) → expression_of s ≡ Err f → IsFault f s
 fault s f p = fault_read s (read s) f refl p
+
+none_lacks : (s : List ℕ) (r : Result Expr Stop) → read s ≡ r → placed s r ≢ Err NoMemory
+none_lacks s (Ok x) q p = absurd cc
+none_lacks s (Err stop.Memory) q p = (failed stop.Memory s q).left
+none_lacks s (Err (stop.Unexpected left)) q p = absurd cc
+none_lacks s (Err (stop.TooDeep left)) q p = absurd cc
+
+pub memory : (s : List ℕ) → expression_of s ≢ Err NoMemory
+memory s = none_lacks s (read s) refl

@@ -63,7 +63,7 @@ in_context (Some context.Unsafe) text = text
 abbrev pub is_inert : ℕ → Bool
 is_inert c = not (c == 60 || (c == 62 || (c == 34 || c == 39)))
 
--- what is written can't be taken for markup, unless the option `context` is 'unsafe'
+-- what is written begins no tag and ends no value in quotes, unless the option `context` is 'unsafe'
 abbrev pub IsInert : Option Context → List ℕ → Type 0
 IsInert None text = list_all is_inert text ≡ true
 IsInert (Some context.Text) text = list_all is_inert text ≡ true

@@ -20,7 +20,7 @@ pub enum Node {
     Text(TextBuf),
     Long(i64),
     Truth(bool),
-    /// A name other than `properties` and `resource`.
+    /// A name other than `properties`, `resource`, `true` and `false`.
     Variable(TextBuf),
     /// `properties` and its first access.
     Property(TextBuf),

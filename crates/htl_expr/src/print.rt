@@ -172,7 +172,7 @@ impl Expr {
     #[tactic(auto, using(crate::proofs::EscapeLemmas::is_inert_in))]
     pub fn print(&self, alloc: Global, scope: &Scope) -> Mem<TextBuf>
         ensures exact { IfOk result (λ text. text ≡ print scope.now self.now) }
-        // Without the option `context='unsafe'` it can't be taken for markup.
+        // Without the option `context='unsafe'` it begins no tag and ends no attribute's value that stands in quotes.
         ensures inert { IfOk result (spec.IsInert self.now.context) }
     {
         let mut text = String::new(alloc);

@@ -51,6 +51,7 @@ fn lists_hold_texts(rt: HostRuntime) -> Result<(), Failed> {
         rt.alloc(),
         &[
             ("[]", Want::List(""), ""),
+            ("['a', 1]", Want::List("a|1|"), "a,1"),
             ("[ 'a' ,1,true, x ]", Want::List("a|1|true||"), "a,1,true,"),
             ("['<', ['b', 1]]", Want::List("<|b,1|"), "&lt;,b,1"),
             ("[[]]", Want::List("|"), ""),

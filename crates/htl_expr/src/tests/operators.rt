@@ -72,6 +72,7 @@ fn chains_take_an_operand(rt: HostRuntime) -> Result<(), Failed> {
             ("'' && 'b'", Want::Text(""), ""),
             ("1 && 2 && 0 && 3", Want::Long(0), "0"),
             ("0 || x", Want::Nothing, ""),
+            ("'' || 0", Want::Long(0), "0"),
             ("0 || '' || 'c' || 'd'", Want::Text("c"), "c"),
             ("x || [] || false", Want::Truth(false), "false"),
             ("properties.none && 1", Want::List(""), ""),

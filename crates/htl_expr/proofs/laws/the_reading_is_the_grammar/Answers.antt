@@ -1,4 +1,4 @@
-use Rattle.htl_expr.proofs.Placed.{found, only, fault}
+use Rattle.htl_expr.proofs.Placed.{found, only, fault, memory}
 use Rattle.htl_expr.proofs.laws.the_reading_is_the_grammar.Goals as goal
 
 pub returns : goal.returns
@@ -6,4 +6,5 @@ returns c = record {
   found = found;
   only = only;
   fault = fault;
+  memory = memory;
 }

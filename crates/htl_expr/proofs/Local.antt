@@ -4,7 +4,7 @@ use Rattle.htl_expr.specs.declared.stop.Stop.{Stop}
 use Rattle.htl_expr.specs.declared.stop.Stop.TheVariants.{Memory, Unexpected, TooDeep}
 use Rattle.htl_expr.specs.declared.tokens.NameKind.TheVariants.{Field}
 use Rattle.htl_expr.specs.Tokens.{Outcome, ◌>>=◌, is_at, begins, goes_on, is_letter, is_word}
-use Rattle.htl_expr.specs.Fault.{SameHead}
+use Rattle.htl_expr.specs.Fault.{SameHead, nests}
 use Rattle.htl_expr.proofs.Tools.{bind_ok, chosen, ok_is}
 
 pub bind_err : {A B : Type 0} (r : Result A Stop) (f : A → Result B Stop) (d : Stop) → (r >>= f) ≡ Err d → (r ≡ Err d) ⊎ ((x : A) × (r ≡ Ok x) × (f x ≡ Err d))
@@ -51,10 +51,6 @@ nil_same [] h = refl
 nil_same (c ∷ z) h = absurd h.0
 
 -- ---- what stays the same
-
--- the bytes at which too deep a nesting is met
-abbrev pub nests : ℕ → Bool
-nests c = eqb c 40 || (eqb c 91 || (eqb c 33 || eqb c 63))
 
 -- the reason speaks of the text that is left
 abbrev pub IsAt : Stop → List ℕ → Type 0

@@ -14,7 +14,8 @@ use Rattle.htl_expr.proofs.TokensRead.{expect_sound, second_sound}
 use Rattle.htl_expr.proofs.TokensAgain.{byte-short, operator-short}
 use Rattle.htl_expr.proofs.Sound.{first_access_sound}
 use Rattle.htl_expr.proofs.Complete.{access-short}
-use Rattle.htl_expr.proofs.Local.{Same, at_same, head_same, nests, Local, local_ext, local_bind, local_pure, local_refuse, local_if, local_drop, got, refuse}
+use Rattle.htl_expr.specs.Fault.{nests}
+use Rattle.htl_expr.proofs.Local.{Same, at_same, head_same, Local, local_ext, local_bind, local_pure, local_refuse, local_if, local_drop, got, refuse}
 use Rattle.htl_expr.proofs.LocalTokens.{local_skip, local_deep, local_guarded, guarded, too_deep, local_step, local_expect, local_between, local_name, local_number, local_comparison}
 use Rattle.htl_expr.proofs.LocalStrings.{local_string}
 use Rattle.htl_expr.proofs.LocalLoops.{loop, whole_loop, local_loop}

@@ -10,11 +10,11 @@ use Rattle.htl_expr.specs.declared.node.Comparison.TheVariants.{Equal, NotEqual,
 use Rattle.htl_expr.specs.Tokens.{Outcome, ◌>>=◌, skip, is_at, is_blank, begins, expect, second, literal, goes_on, run, run_len, name, is_digit, is_letter, is_word, is_first, digits, digits_from, digit_fits, limit, signed, number}
 use Rattle.htl_expr.specs.Read.{comparison, or_equal, between}
 use Rattle.htl_expr.specs.Grammar.{Passes}
-use Rattle.htl_expr.specs.Fault.{SameHead}
+use Rattle.htl_expr.specs.Fault.{nests, SameHead}
 use Rattle.htl_expr.proofs.Tools.{chosen, ok_is}
 use Rattle.htl_expr.proofs.TokensRead.{eqb_is, passes_run, ends_run}
 use Rattle.htl_expr.proofs.TokensAgain.{run_len-is}
-use Rattle.htl_expr.proofs.Local.{Same, begins_same, front_same, head_in, head_same, at_same, nil_same, nests, Kept, Failed, Local, local_ext, local_bind, local_pure, local_refuse, local_if, local_fixed, local_drop, got, refuse, err_is}
+use Rattle.htl_expr.proofs.Local.{Same, begins_same, front_same, head_in, head_same, at_same, nil_same, Kept, Failed, Local, local_ext, local_bind, local_pure, local_refuse, local_if, local_fixed, local_drop, got, refuse, err_is}
 
 -- ---- blanks
 

@@ -9,10 +9,10 @@ use Rattle.htl_expr.specs.declared.tokens.NameKind.TheVariants.{Field}
 use Rattle.htl_expr.specs.Tokens.{is_at, begins, goes_on, is_letter, is_word}
 use Rattle.htl_expr.specs.Read.{read}
 use Rattle.htl_expr.specs.Grammar.{Whole}
-use Rattle.htl_expr.specs.Fault.{SameHead, Agree, HasNone, colon_letter, passes, takes_colon, place_of}
+use Rattle.htl_expr.specs.Fault.{nests, SameHead, Agree, HasNone, colon_letter, passes, takes_colon, place_of}
 use Rattle.htl_expr.proofs.TokensRead.{eqb_is, byte_at}
 use Rattle.htl_expr.proofs.Unique.{only_err}
-use Rattle.htl_expr.proofs.Local.{Same, same_behind, head_in, nests, IsAt, moved}
+use Rattle.htl_expr.proofs.Local.{Same, same_behind, head_in, IsAt, moved}
 use Rattle.htl_expr.proofs.LocalOptions.{Left, failed}
 
 -- a text that isn't read
@@ -155,3 +155,9 @@ pub none_deep : (s : List ℕ) (left : ℕ) → read s ≡ Err (TooDeep left) �
 none_deep s left e =
     let k = failed (TooDeep left) s e in
     subst (HasNone s) (sym (front_len (TooDeep left) s k left k.left.0)) (none_plain (TooDeep left) s k (deep_plain k.rest k.left.1))
+
+pub nests_deep : (s : List ℕ) (left : ℕ) → read s ≡ Err (TooDeep left) → begins nests (drop (length s - left) s) ≡ true
+nests_deep s left e =
+    let k = failed (TooDeep left) s e in
+    let rest_is : drop (length k.front) s ≡ k.rest = ap (λ (q : List ℕ). drop (length k.front) q) k.parts ∙ drop_at k.front k.rest (length k.front) refl in
+    ap (λ (n : ℕ). begins nests (drop n s)) (front_len (TooDeep left) s k left k.left.0) ∙ ap (begins nests) rest_is ∙ k.left.1

@@ -1,11 +1,11 @@
 -- What a text is read as, and the place where it leaves the grammar.
-use Rattle.std.specs.Prelude.{◌≡◌, ℕ, ◌+◌, ◌-◌, ◌≤◌, Bool, true, false, nat_le, ◌&&◌, if◌then◌else◌, List, [], ◌∷◌, ◌++◌, length, take, drop, Result, Ok, Err}
+use Rattle.std.specs.Prelude.{◌≡◌, ℕ, ◌+◌, ◌-◌, ◌≤◌, Bool, true, false, nat_le, ◌&&◌, ◌||◌, ◌==◌, if◌then◌else◌, List, [], ◌∷◌, ◌++◌, length, take, drop, Result, Ok, Err}
 use Rattle.htl_expr.specs.declared.stop.Stop.{Stop}
 use Rattle.htl_expr.specs.declared.stop.Stop.TheVariants as stop
 use Rattle.htl_expr.specs.declared.expression.Expr.{Expr}
 use Rattle.htl_expr.specs.declared.expression.ExprFault.{ExprFault}
 use Rattle.htl_expr.specs.declared.expression.ExprFault.TheVariants.{NoMemory, Unexpected, TooDeep}
-use Rattle.htl_expr.specs.Tokens.{is_at}
+use Rattle.htl_expr.specs.Tokens.{is_at, begins}
 use Rattle.htl_expr.specs.Read.{read}
 use Rattle.htl_expr.specs.Grammar.{Whole}
 
@@ -71,8 +71,12 @@ pub record MayGoOn (s : List ℕ) (place : ℕ) : Type 0 where
   pub tree : Expr
   pub whole : Whole (take place s ++ more) tree
 
--- the place is the first byte with which no expression goes on
+-- the bytes that nest what stands behind them: the brackets, "!" and "?"
+abbrev pub nests : ℕ → Bool
+nests c = c == 40 || (c == 91 || (c == 33 || c == 63))
+
+-- the place is the first byte with which no expression goes on; too deep is a byte that nests
 abbrev pub IsFault : ExprFault → List ℕ → Type 0
 IsFault NoMemory s = Unit {0}
 IsFault (Unexpected place) s = MayGoOn s place × HasNone s place
-IsFault (TooDeep place) s = MayGoOn s place × HasNone s place
+IsFault (TooDeep place) s = MayGoOn s place × (HasNone s place × (begins nests (drop place s) ≡ true))

@@ -1,3 +1,5 @@
+mod Closed
 mod Opening
 mod Pieces
+mod Spelled
 mod Steps

@@ -66,7 +66,7 @@ not_nothing : opens [] ≡ true → ⊥
 unfolding opens
 not_nothing h = absurd cc
 
-value_follows : (all : ℕ) (t : List ℕ) (e : Expr) (behind : List ℕ) → opens t ≡ true → value_at (all - length t) t ≡ Ok (e, behind) → pieces all 0 t ≡ before (Value e ∷ []) (pieces all 0 behind)
+pub value_follows : (all : ℕ) (t : List ℕ) (e : Expr) (behind : List ℕ) → opens t ≡ true → value_at (all - length t) t ≡ Ok (e, behind) → pieces all 0 t ≡ before (Value e ∷ []) (pieces all 0 behind)
 unfolding pieces
 value_follows all [] e behind h x = absurd (not_nothing h)
 value_follows all (c ∷ t) e behind h x =
@@ -74,7 +74,7 @@ value_follows all (c ∷ t) e behind h x =
     let rest : drop (length t - length behind) t ≡ behind = rw b.same (drop_back b.n t) in
     rw (h, x) (ap (before (Value e ∷ [])) (skipped all (length t - length behind) t ∙ ap (pieces all 0) rest))
 
-value_fails : (all : ℕ) (t : List ℕ) (f : TextFault) → opens t ≡ true → value_at (all - length t) t ≡ Err f → pieces all 0 t ≡ Err f
+pub value_fails : (all : ℕ) (t : List ℕ) (f : TextFault) → opens t ≡ true → value_at (all - length t) t ≡ Err f → pieces all 0 t ≡ Err f
 unfolding pieces
 value_fails all [] f h x = absurd (not_nothing h)
 value_fails all (c ∷ t) f h x = rw (h, x) refl

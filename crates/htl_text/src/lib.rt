@@ -2,6 +2,7 @@
 #![tactic(auto)]
 
 mod fault;
+mod laws;
 mod piece;
 mod quotes;
 mod render;
@@ -11,5 +12,6 @@ mod template;
 mod tests;
 
 pub use fault::{RenderFault, TextFault};
+pub use laws::the_pieces_are_the_text;
 pub use piece::Piece;
 pub use template::Template;

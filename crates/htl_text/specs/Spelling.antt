@@ -1,0 +1,56 @@
+-- A template's pieces as a relation between whole texts, beside the reading from left to right (HTL specification 1.4, "Expression Language").
+use Rattle.std.specs.Prelude.{◌≡◌, ◌==◌, ℕ, true, false, List, [], ◌∷◌, ◌++◌, length, codes}
+use Rattle.htl_expr.specs.declared.expression.Expr.{Expr}
+use Rattle.htl_expr.specs.Grammar.{Whole}
+use Rattle.htl_expr.specs.Tokens.{is_quote}
+use Rattle.htl_text.specs.declared.fault.TextFault.{TextFault}
+use Rattle.htl_text.specs.declared.fault.TextFault.TheVariants.{Unclosed, BadExpr, NoMemory}
+use Rattle.htl_text.specs.declared.piece.Piece.{Piece}
+use Rattle.htl_text.specs.declared.piece.Piece.TheVariants.{Value}
+use Rattle.htl_text.specs.Template.{opens, escapes, in_front}
+
+-- what stands behind a quote mark, up to and with the same mark; a backslash takes the next byte with it
+pub data Quoted (mark : ℕ) : List ℕ → Type 0 where
+  closes : Quoted mark (mark ∷ [])
+  plain : {c : ℕ} {t : List ℕ} → (c == mark) ≡ false → (c == 92) ≡ false → Quoted mark t → Quoted mark (c ∷ t)
+  escape : {c : ℕ} {t : List ℕ} → Quoted mark t → Quoted mark (92 ∷ c ∷ t)
+
+-- what may stand between the braces: whole strings, and other bytes than "}"
+pub data Inside : List ℕ → Type 0 where
+  nothing : Inside []
+  byte : {c : ℕ} {t : List ℕ} → (c == 125) ≡ false → is_quote c ≡ false → Inside t → Inside (c ∷ t)
+  string : {mark : ℕ} {w t : List ℕ} → is_quote mark ≡ true → Quoted mark w → Inside t → Inside (mark ∷ (w ++ t))
+
+-- the pieces that stand in a text in front of a rest; no two of plain text stand side by side
+pub data Spells : List ℕ → List Piece → List ℕ → Type 0 where
+  end : {rest : List ℕ} → Spells rest [] rest
+  plain : {c : ℕ} {text rest : List ℕ} {ps : List Piece} → opens (c ∷ text) ≡ false → escapes (c ∷ text) ≡ false → Spells text ps rest → Spells (c ∷ text) (in_front (c ∷ []) ps) rest
+  escaped : {text rest : List ℕ} {ps : List Piece} → Spells text ps rest → Spells (92 ∷ 36 ∷ 123 ∷ text) (in_front (codes "${") ps) rest
+  value : {inside text rest : List ℕ} {e : Expr} {ps : List Piece} → Inside inside → Whole inside e → Spells text ps rest → Spells (36 ∷ 123 ∷ (inside ++ 125 ∷ text)) (Value e ∷ ps) rest
+
+-- no "}" closes what stands behind "${"
+abbrev pub NeverCloses : List ℕ → Type 0
+NeverCloses behind = (inside text : List ℕ) → behind ≡ inside ++ 125 ∷ text → Inside inside → ⊥
+
+-- what stands behind "${" up to its "}" is no expression
+pub record HasNoExpr (behind : List ℕ) : Type 0 where
+  pub inside : List ℕ
+  pub text : List ℕ
+  pub parts : behind ≡ inside ++ 125 ∷ text
+  pub closed : Inside inside
+  pub none : (e : Expr) → Whole inside e → ⊥
+
+-- the fault of an expression by its place and by what stands behind its "${"
+abbrev pub Faults : TextFault → ℕ → List ℕ → Type 0
+Faults (Unclosed n) place behind = (n ≡ place) × NeverCloses behind
+Faults (BadExpr n) place behind = (n ≡ place) × HasNoExpr behind
+Faults NoMemory place behind = ⊥
+
+-- the first fault of a text: that of an expression which opens behind pieces
+pub record IsFirst (fault : TextFault) (text : List ℕ) : Type 0 where
+  pub front : List ℕ
+  pub behind : List ℕ
+  pub ps : List Piece
+  pub parts : text ≡ front ++ 36 ∷ 123 ∷ behind
+  pub spelled : Spells text ps (36 ∷ 123 ∷ behind)
+  pub faulty : Faults fault (length front) behind

@@ -3,6 +3,7 @@ pub mod NodeLookups
 pub mod EntriesInOrder
 pub mod HashedNodes
 pub mod HashedUnder
+pub mod Patching
 pub mod Creation
 pub mod NodeChange
 pub mod Update

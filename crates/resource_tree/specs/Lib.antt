@@ -2,5 +2,6 @@ pub mod Content
 pub mod InOrder
 pub mod Kids
 pub mod Changes
+pub mod Patches
 pub mod Seen
 pub mod Shown

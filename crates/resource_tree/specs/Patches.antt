@@ -1,0 +1,40 @@
+-- What is to stand at some paths, and the content with that over it.
+use Rattle.std.specs.Prelude.{◌++◌, ◌∷◌, [], ℕ, List, Option, Some, None, is_some, if◌then◌else◌}
+use Rattle.std.specs.BTreeMap.{insert_entry}
+use Rattle.std.specs.Map.{lookup, set_value, remove_entry}
+use Rattle.resource_tree.specs.declared.nodes.Node.{Node}
+use Rattle.resource_tree.specs.declared.patch.PatchNode.{PatchNode}
+use Rattle.resource_tree.specs.declared.patch.PatchNode.TheVariants as there
+use Rattle.resource_tree.specs.Content.{Content, by_path, same_path, node_at}
+
+-- what is to stand at each path of a patch, each path once, in the order in which they were first put
+abbrev pub Rows : Type 0
+Rows = List (List (List ℕ) × PatchNode)
+
+-- what is to stand at a path, if the patch has it
+abbrev pub row_at : Rows → List (List ℕ) → Option PatchNode
+row_at rows path = lookup (same_path path) rows
+
+-- the rows with what is to stand at a path
+abbrev pub with_row : Rows → List (List ℕ) → PatchNode → Rows
+with_row rows path node = if is_some (row_at rows path) then set_value (same_path path) rows node else rows ++ (path, node) ∷ []
+
+-- the content with one row over it
+abbrev pub over : Content → List (List ℕ) → PatchNode → Content
+over tree path (there.Node node) = insert_entry by_path tree path node
+over tree path there.Gone = remove_entry (same_path path) tree
+
+-- the content with a patch over it
+abbrev pub patching : Content → Rows → Content
+patching tree [] = tree
+patching tree (row ∷ rows) = patching (over tree row.0 row.1) rows
+
+-- the node that a row leaves at its path, where there is a row
+abbrev pub left_by : Option PatchNode → Option Node → Option Node
+left_by None old = old
+left_by (Some (there.Node node)) old = Some node
+left_by (Some there.Gone) old = None
+
+-- the content with a patch over it by look-ups
+abbrev pub patching_at : Content → Rows → List (List ℕ) → Option Node
+patching_at tree rows path = left_by (row_at rows path) (node_at tree path)

@@ -1,2 +1,3 @@
 pub mod SplitLemmas
 pub mod ValueLemmas
+pub mod WalkLemmas

@@ -4,3 +4,5 @@ pub mod TypedLemmas
 pub mod PathText
 pub mod PathOrder
 pub mod PathFaults
+pub mod PathParts
+pub mod PathPrefixes

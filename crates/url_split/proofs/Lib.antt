@@ -1,2 +1,4 @@
 pub mod SplitLemmas
 pub mod ValueLemmas
+pub mod WalkLemmas
+pub mod SpellingLemmas

@@ -28,7 +28,7 @@ cut_whole text none =
 pub behind_none : (rest : List ℕ) → IsBehind rest → ((more : List ℕ) → rest ≢ 46 ∷ more) → rest ≡ []
 behind_none rest b none = ⊎_elim (λ e. e) (λ p. absurd (none p.0 p.1)) b
 
-no_more : (text : List ℕ) (k : ℕ) → length text ≤ k → drop k text ≡ []
+pub no_more : (text : List ℕ) (k : ℕ) → length text ≤ k → drop k text ≡ []
 no_more [] zero h = refl
 no_more [] (suc k) h = refl
 no_more (b ∷ text) zero h = absurd (omega (arith, h))

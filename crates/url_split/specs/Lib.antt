@@ -1,1 +1,3 @@
 pub mod Split
+pub mod Spelling
+pub mod Walk

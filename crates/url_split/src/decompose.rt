@@ -1,9 +1,14 @@
-ghost use Rattle.std.specs.Prelude.{◌≡◌, ◌++◌, ◌∷◌, [], map, filter, not, ◌==◌, length, IfOk, IfSome, IfNone};
+ghost use Rattle.std.specs.Prelude.{◌≡◌, ◌++◌, ◌∷◌, [], map, filter, not, ◌==◌, length, None, IsTrue, true, IfOk, IfSome, IfNone};
 ghost use Rattle.std.specs.List.{slice_split, before_first};
 ghost use Rattle.url_split.specs.Split.{IsSplit, IsLost, split_of, IsReading, IsBehind, is_dot, is_slash, selectors_of, extension_of, suffix_of};
+ghost use Rattle.url_split.specs.Walk.{IsReached};
+ghost use Rattle.sp_base.specs.Paths.{is_path, text_of};
 
 use crate::Known;
-use sp_base::{Mem, NoMemory, Path, PathFault, TextBuf, TextList};
+use sp_base::{
+    MOST_SEGMENTS, Mem, NoMemory, Path, PathFault, TextBuf, TextList, a_path_and_its_text,
+    the_prefixes_of_a_path,
+};
 use std::alloc::{AllocError, Global};
 
 /// What a URL's path says of the resource and of how it is asked for.
@@ -15,25 +20,65 @@ pub struct Parts {
     pub selectors: TextList,
     /// The extension, empty where there is none.
     pub extension: TextBuf,
-    /// The suffix with the slash in front, empty where there is none.
+    /// The suffix with the slash before it, empty where there is none.
     pub suffix: TextBuf,
 }
 
-/// Takes a decoded path text apart. The resource path is the longest front that ends at a dot or at the text's end and names a
-/// known path; where no front does there is none.
+/// Takes a decoded path text apart. The resource path is the longest prefix that ends at a dot or at the text's end and names a
+/// known path; where no prefix does there is none.
 pub fn split<K: Known>(alloc: Global, known: &K, text: &str) -> Mem<Option<Parts>>
     ensures some { IfOk result (λ o. IfSome o (λ parts. IsSplit (K.known known.now) text.now parts)) }
     ensures none { IfOk result (λ o. IfNone o (IsLost (K.known known.now) text.now)) }
     ensures value { IfOk result (λ o. o ≡ split_of (K.known known.now) text.now) }
 {
-    let mut front = text;
+    if let Some(path) = known_path(alloc, known, text)? {
+        return Ok(Some(parts_after(alloc, path, "")?));
+    }
+    let start = reached(alloc, known, text)?;
+    split_before(alloc, known, text, start.text())
+}
+
+// The prefix of a text that has all dots at which a known path may end: where the text spells a path, its segments as far as
+// known paths may reach, and else the whole text.
+fn reached<K: Known>(alloc: Global, known: &K, text: &str) -> Mem<TextBuf>
+    ensures { IfOk result (λ start. IsReached (K.known known.now) text.now start) }
+{
+    a_path_and_its_text();
+    match Path::read(alloc, text) {
+        Ok(path) => reached_of(alloc, known, &path),
+        Err(PathFault::NoMemory) => Err(NoMemory),
+        Err(_) => TextBuf::of(alloc, text),
+    }
+}
+
+// The first segments of a path as far as known paths may reach, and one more.
+fn reached_of<K: Known>(alloc: Global, known: &K, path: &Path) -> Mem<TextBuf>
+    requires { IsTrue (is_path path.now) }
+    ensures { IfOk result (λ start. IsReached (K.known known.now) (text_of path.now) start) }
+{
+    a_path_and_its_text();
+    the_prefixes_of_a_path();
+    let most = known.reach(alloc, path)?.min(MOST_SEGMENTS) + 1;
+    let start = path.first(alloc, most)?.text(alloc)?;
+    Ok(start)
+}
+
+// The decomposition at the last dot of a prefix that leads to a known path, where no longer prefix does.
+fn split_before<K: Known>(alloc: Global, known: &K, text: &str, start: &str) -> Mem<Option<Parts>>
+    requires reached { IsReached (K.known known.now) text.now start.now }
+    requires unknown { IsReading (K.known known.now) text.now None }
+    ensures some { IfOk result (λ o. IfSome o (λ parts. IsSplit (K.known known.now) text.now parts)) }
+    ensures none { IfOk result (λ o. IfNone o (IsLost (K.known known.now) text.now)) }
+    ensures value { IfOk result (λ o. o ≡ split_of (K.known known.now) text.now) }
+{
+    let mut prefix = start;
     loop {
-        if let Some(path) = known_path(alloc, known, front)? {
-            return Ok(Some(parts_behind(alloc, path, &text[front.len()..])?));
-        }
-        match front.rfind('.') {
-            Some(at) => front = &front[..at],
+        match prefix.rfind('.') {
+            Some(at) => prefix = &prefix[..at],
             None => return Ok(None),
+        }
+        if let Some(path) = known_path(alloc, known, prefix)? {
+            return Ok(Some(parts_after(alloc, path, &text[prefix.len()..])?));
         }
     }
 }
@@ -55,8 +100,8 @@ fn known_path<K: Known>(alloc: Global, known: &K, text: &str) -> Mem<Option<Path
     }
 }
 
-// The parts of what stands behind the resource path: nothing, or a text that begins with a dot.
-fn parts_behind(alloc: Global, path: Path, rest: &str) -> Mem<Parts>
+// The parts of what follows the resource path: nothing, or a text that begins with a dot.
+fn parts_after(alloc: Global, path: Path, rest: &str) -> Mem<Parts>
     requires { IsBehind rest.now }
     ensures path { IfOk result (λ parts. parts.path ≡ path) }
     ensures selectors { IfOk result (λ parts. parts.selectors ≡ selectors_of rest.now) }

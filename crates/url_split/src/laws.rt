@@ -1,10 +1,28 @@
-//! What a decomposition is: a law of the definitions, on a function that does nothing.
-ghost use Rattle.std.specs.Prelude.{ℕ, Bool, List, IfSome, IfNone};
+//! What a decomposition is: laws of the definitions, on functions that do nothing.
+ghost use Rattle.std.specs.Prelude.{◌≡◌, ◌⊎◌, ◌&&◌, ◌++◌, ◌∷◌, [], ℕ, Bool, List, IsTrue, IfSome, IfNone};
+ghost use Rattle.std.specs.List.{list_all};
+ghost use Rattle.sp_base.specs.Paths.{text_of};
 ghost use Rattle.url_split.specs.Split.{IsLost, IsSplit, split_of};
+ghost use Rattle.url_split.specs.Spelling.{Spells, is_full, is_word};
+ghost use Rattle.url_split.specs.declared.decompose.Parts.{Parts};
 
-/// The answer that `split_of` names is the decomposition with the longest resource path, and it names none exactly where no front
+use sp_base::a_path_and_its_text;
+
+/// The answer that `split_of` names is the decomposition with the longest resource path, and it names none exactly where no prefix
 /// leads to a known path.
 pub fn the_split_is_the_longest()
     ensures some { (known : List (List ℕ) → Bool) (text : List ℕ) → IfSome (split_of known text) (IsSplit known text) }
     ensures none { (known : List (List ℕ) → Bool) (text : List ℕ) → IfNone (split_of known text) (IsLost known text) }
 {}
+
+/// The parts of a decomposition give its text back, but for empty selectors: the text of the resource path, the selectors and the
+/// extension with a dot before each, and the suffix. No selector is empty, none has a dot or a slash, and nor has the extension; a
+/// suffix begins with a slash.
+pub fn the_parts_give_the_text_back()
+    ensures text { (known : List (List ℕ) → Bool) (text : List ℕ) (parts : Parts) → IsSplit known text parts → (rest : List ℕ) × (text ≡ text_of parts.path ++ rest) × Spells rest parts }
+    ensures selectors { (known : List (List ℕ) → Bool) (text : List ℕ) (parts : Parts) → IsSplit known text parts → IsTrue (list_all (λ piece. is_full piece && is_word piece) parts.selectors) }
+    ensures extension { (known : List (List ℕ) → Bool) (text : List ℕ) (parts : Parts) → IsSplit known text parts → IsTrue (is_word parts.extension) }
+    ensures suffix { (known : List (List ℕ) → Bool) (text : List ℕ) (parts : Parts) → IsSplit known text parts → (parts.suffix ≡ []) ⊎ ((more : List ℕ) × (parts.suffix ≡ 47 ∷ more)) }
+{
+    a_path_and_its_text()
+}

@@ -8,5 +8,5 @@ mod lookup;
 mod tests;
 
 pub use decompose::{Parts, split};
-pub use laws::the_split_is_the_longest;
+pub use laws::{the_parts_give_the_text_back, the_split_is_the_longest};
 pub use lookup::Known;

@@ -1,11 +1,12 @@
-ghost use Rattle.std.specs.Prelude.{◌≡◌};
+ghost use Rattle.std.specs.Prelude.{◌≡◌, ◌==◌, length};
 ghost use Rattle.std.specs.List.{list_any};
 ghost use Rattle.std.specs.Ordering.{eq_by_cmp};
 ghost use Rattle.sp_base.specs.Paths.{by_path};
 
 use super::*;
-use sp_base::{Mem, Path, PathFault, PathList};
+use sp_base::{LONGEST_SEGMENT, MOST_SEGMENTS, Mem, Path, PathFault, PathList};
 use std::alloc::Global;
+use std::cell::Cell;
 use std::test::Fail;
 
 // Knows the paths of a list.
@@ -72,5 +73,48 @@ fn splits(rt: HostRuntime) -> Result<(), Fail> {
     for text in ["/a/b/c/d", "/x.html", "a/b", ""] {
         assert!(rt; shown(rt.alloc(), ab, text)?.is_none(), "{text}");
     }
+    Ok(())
+}
+
+// Knows the root alone, and counts what is looked up.
+#[derive(Drop)]
+struct Counted {
+    reach: usize,
+    look_ups: Cell<usize>,
+    bytes: Cell<usize>,
+}
+
+impl Known for Counted {
+    ghost known = { λ s p. length p == 0 };
+
+    fn has(&self, _alloc: Global, path: &Path) -> Mem<bool> {
+        self.look_ups.set(self.look_ups.get().saturating_add(1));
+        let size = path.as_text().len();
+        self.bytes.set(self.bytes.get().saturating_add(size));
+        Ok(path.depth() == 0)
+    }
+
+    fn reach(&self, _alloc: Global, _path: &Path) -> Mem<usize> {
+        Ok(self.reach)
+    }
+}
+
+#[test]
+fn looks_up_no_more_than_the_reach(rt: HostRuntime) -> Result<(), Fail> {
+    let mut text = String::new(rt.alloc());
+    for _ in 0..MOST_SEGMENTS {
+        text.push_str("/x")?;
+        for _ in 1..LONGEST_SEGMENT {
+            text.push_str(".")?;
+        }
+    }
+    let known = Counted {
+        reach: 1,
+        look_ups: Cell::new(0),
+        bytes: Cell::new(0),
+    };
+    assert!(rt; split(rt.alloc(), &known, text.as_str())?.is_none());
+    assert!(rt; known.look_ups.get() <= 1 + 2 * LONGEST_SEGMENT);
+    assert!(rt; known.bytes.get() <= text.len() + 800 * LONGEST_SEGMENT);
     Ok(())
 }

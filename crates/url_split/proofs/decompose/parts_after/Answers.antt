@@ -4,7 +4,7 @@ use Rattle.std.specs.List.{slice_split}
 use Rattle.std.proofs.lemmas.Str.Pattern.{strip_prefix_char}
 use Rattle.url_split.specs.Split.{is_dot, selectors_of, extension_of, suffix_of, but_last, last_of}
 use Rattle.url_split.proofs.SplitLemmas.{behind_none, but_last-map, last-map, some_piece}
-use Rattle.url_split.proofs.decompose.parts_behind.Goals as goal
+use Rattle.url_split.proofs.decompose.parts_after.Goals as goal
 
 pub returns-in_default-clause-selectors : goal.returns-in_default-clause-selectors
 unfolding encode

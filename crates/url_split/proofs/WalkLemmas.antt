@@ -1,0 +1,114 @@
+-- How far back a text is walked, and what has been passed.
+use Rattle.std.proofs.Common.{◌≡◌, ◌≢◌, ◌<◌, ◌≤◌, ◌+◌, ◌&&◌, ◌⊎◌, ⊎_elim, min, ℕ, Bool, true, false, T, List, Some, None, Ok, length, drop, inl, [], take, get_or, nat_le, refl, sym, ◌∙◌, ap, arith, IsTrue}
+use Rattle.std.proofs.lemmas.Bool.Decides.{nat_tests}
+use Rattle.std.proofs.lemmas.Bool.{cases_lt, cases_eq}
+use Rattle.std.proofs.lemmas.List.{length-take, get_or-take, take_all}
+use Rattle.std.specs.List.{list_all}
+use Rattle.sp_base.specs.Paths.{is_path, is_under, parent_of, path_of, seg_ok, text_of}
+use Rattle.url_split.specs.Split.{IsCut, Leads, IsReading, IsSplit, selectors_of, extension_of, suffix_of}
+use Rattle.url_split.specs.declared.decompose.Parts.{Parts}
+use Rattle.url_split.specs.Walk.{IsReached}
+use Rattle.url_split.proofs.SplitLemmas.{no_more}
+
+and_second : (a b : Bool) → (a && b) ≡ true → b ≡ true
+and_second true b e = e
+and_second false b e = absurd (cc e)
+
+few_segments : (segs : List (List ℕ)) → is_path segs ≡ true → length segs ≤ 64
+few_segments segs h = let e = and_second (list_all seg_ok segs) (nat_le (length segs) 64) h in grind (arith, nat_tests)
+
+not_cut : (text : List ℕ) (k : ℕ) → k < length text → get_or text k 0 ≡ 47 → IsCut text k → ⊥
+not_cut text k within slash cut = ⊎_elim (λ end. omega (arith, end, within)) (λ dot. omega (arith, slash, dot.1)) cut
+
+-- the first segments of a path, one more than known paths may reach above their last
+pub reached_is : (known : List (List ℕ) → Bool) (path : List (List ℕ)) (n most : ℕ) → most ≡ min n 64 + 1 → is_path path ≡ true
+    → ((other : List (List ℕ)) → known other ≡ true → is_under path (parent_of other) ≡ true → length other ≤ n + 1)
+    → ((text : List ℕ) (read : List (List ℕ)) → path_of text ≡ Ok read → is_path read ≡ true)
+    → ((whole read : List (List ℕ)) (k : ℕ) → is_path whole ≡ true → k ≤ length (text_of whole) → path_of (take k (text_of whole)) ≡ Ok read → is_under whole (parent_of read) ≡ true)
+    → ((whole read : List (List ℕ)) (k m : ℕ) → is_path whole ≡ true → k ≤ length (text_of whole) → path_of (take k (text_of whole)) ≡ Ok read → length read ≤ m → k ≤ length (text_of (take m whole)))
+    → ((whole : List (List ℕ)) (m : ℕ) → 0 < m → text_of (take m whole) ≡ take (length (text_of (take m whole))) (text_of whole))
+    → ((whole : List (List ℕ)) (m : ℕ) → 0 < m → length (text_of (take m whole)) < length (text_of whole) → get_or (text_of whole) (length (text_of (take m whole))) 0 ≡ 47)
+    → IsReached known (text_of path) (text_of (take most path))
+reached_is known path n most is valid reach reads parent within first slash =
+    let text = text_of path in
+    let start = text_of (take most path) in
+    record {
+      begins = first path most (omega (arith, is));
+      all = λ k read lo hi leads.
+          let whole : k ≤ length text = omega (arith, hi) in
+          let under = parent path read k valid whole leads.reads in
+          let deep = reach read leads.there under in
+          let few = few_segments read (reads (take k text) read leads.reads) in
+          let near = within path read k most valid whole leads.reads (omega (arith, is, deep, few)) in
+          let same : length start ≡ k = omega (arith, lo, near) in
+          not_cut text k hi (ap (λ i. get_or text i 0) (sym same) ∙ slash path most (omega (arith, is)) (omega (arith, same, hi))) leads.cut;
+    }
+
+-- a text that was tried, and the cuts before its end that lead nowhere
+pub passed_start : (known : List (List ℕ) → Bool) (text start : List ℕ) → IsReached known text start → IsReading known text None
+    → (k : ℕ) (path : List (List ℕ)) → length start ≤ k → Leads known text k path → ⊥
+passed_start known text start r none k path lo leads = ⊎_elim
+    (λ (end : k ≡ length text). none path (sym (ap path_of (ap (λ n. take n text) end ∙ take_all (length text) text (omega arith))) ∙ leads.reads) leads.there)
+    (λ (dot : (k < length text) × (get_or text k 0 ≡ 46)). r.all k path lo dot.0 leads)
+    leads.cut
+
+pub within_text : (text prefix : List ℕ) → prefix ≡ take (length prefix) text → length prefix ≤ length text
+within_text text prefix is = omega (arith, ap length is, length-take (length prefix) text)
+
+-- no cut between the last dot of a prefix and the prefix's end
+pub passed_to : (known : List (List ℕ) → Bool) (text prefix : List ℕ) (at : ℕ) → prefix ≡ take (length prefix) text
+    → ((k : ℕ) (path : List (List ℕ)) → length prefix ≤ k → Leads known text k path → ⊥)
+    → ((i : ℕ) → at < i → i < length prefix → get_or prefix i 0 ≢ 46)
+    → (k : ℕ) (path : List (List ℕ)) → at < k → Leads known text k path → ⊥
+passed_to known text prefix at is passed between k path lt leads = ⊎_elim
+    (λ (below : k < length prefix). ⊎_elim
+    (λ (end : k ≡ length text). absurd (omega (arith, end, below, within_text text prefix is)))
+    (λ (dot : (k < length text) × (get_or text k 0 ≡ 46)). between k lt below (ap (λ t. get_or t k 0) is ∙ get_or-take (length prefix) text k 0 below ∙ dot.1))
+    leads.cut)
+    (λ (above : length prefix ≤ k). passed k path above leads)
+    (cases_lt k (length prefix))
+
+-- nor at that dot, where the prefix up to it names nothing known
+pub passed_dot : (known : List (List ℕ) → Bool) (text prefix : List ℕ) → prefix ≡ take (length prefix) text → IsReading known prefix None
+    → ((k : ℕ) (path : List (List ℕ)) → length prefix < k → Leads known text k path → ⊥)
+    → (k : ℕ) (path : List (List ℕ)) → length prefix ≤ k → Leads known text k path → ⊥
+passed_dot known text prefix is none passed k path le leads = ⊎_elim
+    (λ (same : k ≡ length prefix). none path (ap path_of is ∙ ap (λ n. path_of (take n text)) (sym same) ∙ leads.reads) leads.there)
+    (λ (other : k ≢ length prefix). passed k path (omega (arith, le, other)) leads)
+    (cases_eq k (length prefix))
+
+-- nor anywhere, where the prefix has no dot
+pub passed_all : (known : List (List ℕ) → Bool) (text prefix : List ℕ) → prefix ≡ take (length prefix) text
+    → ((k : ℕ) (path : List (List ℕ)) → length prefix ≤ k → Leads known text k path → ⊥)
+    → ((i : ℕ) → i < length prefix → get_or prefix i 0 ≢ 46)
+    → (k : ℕ) (path : List (List ℕ)) → Leads known text k path → ⊥
+passed_all known text prefix is passed none k path leads = ⊎_elim
+    (λ (below : k < length prefix). ⊎_elim
+    (λ (end : k ≡ length text). absurd (omega (arith, end, below, within_text text prefix is)))
+    (λ (dot : (k < length text) × (get_or text k 0 ≡ 46)). none k below (ap (λ t. get_or t k 0) is ∙ get_or-take (length prefix) text k 0 below ∙ dot.1))
+    leads.cut)
+    (λ (above : length prefix ≤ k). passed k path above leads)
+    (cases_lt k (length prefix))
+
+-- the decomposition at a prefix that names a known path, where no longer one does
+pub split_here : (known : List (List ℕ) → Bool) (text prefix : List ℕ) (path : List (List ℕ)) (parts : Parts) → prefix ≡ take (length prefix) text → IsCut text (length prefix)
+    → ((k : ℕ) (other : List (List ℕ)) → length prefix < k → Leads known text k other → ⊥) → IsReading known prefix (Some path) → parts.path ≡ path
+    → parts.selectors ≡ selectors_of (drop (length prefix) text) → parts.extension ≡ extension_of (drop (length prefix) text) → parts.suffix ≡ suffix_of (drop (length prefix) text)
+    → IsSplit known text parts
+split_here known text prefix path parts is cut passed reading same selectors extension suffix = record {
+  at = length prefix;
+  leads = record { cut = cut; reads = sym (ap path_of is) ∙ reading.0 ∙ ap (λ p. Ok p) (sym same); there = ap known same ∙ reading.1 };
+  longest = passed;
+  selectors = selectors;
+  extension = extension;
+  suffix = suffix;
+}
+
+-- the decomposition of a text that is a known path
+pub split_whole : (known : List (List ℕ) → Bool) (text : List ℕ) (path : List (List ℕ)) (parts : Parts) → IsReading known text (Some path) → parts.path ≡ path
+    → parts.selectors ≡ selectors_of [] → parts.extension ≡ extension_of [] → parts.suffix ≡ suffix_of [] → IsSplit known text parts
+split_whole known text path parts reading same selectors extension suffix =
+    let none : drop (length text) text ≡ [] = no_more text (length text) (omega arith) in
+    split_here known text text path parts (sym (take_all (length text) text (omega arith))) (inl refl)
+    (λ k other after leads. ⊎_elim (λ (end : k ≡ length text). omega (arith, end, after)) (λ (dot : (k < length text) × (get_or text k 0 ≡ 46)). omega (arith, dot.0, after)) leads.cut)
+    reading same (selectors ∙ ap selectors_of (sym none)) (extension ∙ ap extension_of (sym none)) (suffix ∙ ap suffix_of (sym none))

@@ -1,4 +1,4 @@
--- What is found first ranks first.
+-- What the search comes to first ranks first.
 use Rattle.std.proofs.Common.{◌≡◌, ◌≢◌, ◌<◌, ◌≤◌, ◌++◌, ℕ, zero, suc, Bool, true, false, cond, List, Option, Some, None, Result, Ok, Err, refl, sym, ◌∙◌, ap, subst, ⊎_elim, inl, inr, arith, codes}
 use Rattle.std.specs.Prelude.{slice_get, IfOk, IfSome, IfNone}
 use Rattle.std.proofs.lemmas.Bool.{cases_eq, cases_lt}
@@ -24,7 +24,7 @@ same_Some x y e = cc
 one_item : {A : Type 0} (xs : List A) (i j : ℕ) (x y : A) → i ≡ j → slice_get xs i ≡ Some x → slice_get xs j ≡ Some y → x ≡ y
 one_item xs i j x y same e f = same_Some x y (sym e ∙ ap (slice_get xs) same ∙ f)
 
--- ---- a script that is found is one, and each candidate is found
+-- ---- a result of the search is a script, and the search comes to each candidate
 
 script-some : (tree : Content) (r : Result (List (List ℕ)) PathFault) (path : List (List ℕ)) → script_in tree r ≡ Some path → (r ≡ Ok path) × (is_script tree path ≡ true)
 script-some tree (Ok p) path e =
@@ -68,14 +68,14 @@ module _ {tree : Content} {chain : List TypeName} {parts : Parts} {q : List (Lis
   no_naming naming named none =
       no_type naming cand.type named refl (none-at (at_type tree parts naming) chain none k.type cand.type cand.in_chain)
 
--- with nothing found there is no candidate
-pub none_found : (tree : Content) (chain : List TypeName) (parts : Parts) → search_result tree chain parts ≡ None → HasNoCandidate tree chain parts
+-- without a result there is no candidate
+pub no_result : (tree : Content) (chain : List TypeName) (parts : Parts) → search_result tree chain parts ≡ None → HasNoCandidate tree chain parts
 unfolding search_result
-none_found tree chain parts none path key cand =
+no_result tree chain parts none path key cand =
     let has = complete parts key.naming cand.asked cand.offered (few_selectors cand) in
     no_naming cand key.naming refl (none-at (at_naming tree chain parts) (namings parts) none has.at key.naming has.here)
 
--- ---- what is found, with the steps on the way to it
+-- ---- the result, with the steps on the way to it
 
 record Way (tree : Content) (chain : List TypeName) (parts : Parts) (path : List (List ℕ)) : Type 0 where
   naming : Hit (at_naming tree chain parts) (namings parts) path
@@ -174,9 +174,9 @@ module _ {tree : Content} {chain : List TypeName} {parts : Parts} {path : List (
       (cases_eq has.at w.naming.at))
       (cases_lt has.at w.naming.at)
 
--- what is found ranks first
-pub found_first : (tree : Content) (chain : List TypeName) (parts : Parts) (path : List (List ℕ)) → search_result tree chain parts ≡ Some path → IsFirst tree chain parts path
-found_first tree chain parts path e =
+-- the result ranks first
+pub result_first : (tree : Content) (chain : List TypeName) (parts : Parts) (path : List (List ℕ)) → search_result tree chain parts ≡ Some path → IsFirst tree chain parts path
+result_first tree chain parts path e =
     let w = way tree chain parts path e in
     record { key = key_of w; candidate = candidate_of w; best = none_better w }
 
@@ -267,13 +267,13 @@ one_first tree chain parts p q f g =
 
 by_first : (tree : Content) (chain : List TypeName) (parts : Parts) (o : Option (List (List ℕ))) → o ≡ search_result tree chain parts
     → IfSome o (λ path. IsFirst tree chain parts path)
-by_first tree chain parts (Some path) is = found_first tree chain parts path (sym is)
+by_first tree chain parts (Some path) is = result_first tree chain parts path (sym is)
 by_first tree chain parts None is = tt
 
 by_none : (tree : Content) (chain : List TypeName) (parts : Parts) (o : Option (List (List ℕ))) → o ≡ search_result tree chain parts
     → IfNone o (HasNoCandidate tree chain parts)
 by_none tree chain parts (Some path) is = tt
-by_none tree chain parts None is = none_found tree chain parts (sym is)
+by_none tree chain parts None is = no_result tree chain parts (sym is)
 
 pub search_first : (tree : Content) (chain : List TypeName) (parts : Parts) → IfSome (search_result tree chain parts) (λ path. IsFirst tree chain parts path)
 search_first tree chain parts = by_first tree chain parts (search_result tree chain parts) refl

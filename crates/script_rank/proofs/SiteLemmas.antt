@@ -16,7 +16,7 @@ use Rattle.type_chain.specs.declared.type_name.TypeName.{TypeName}
 use Rattle.url_split.specs.declared.decompose.Parts.{Parts}
 use Rattle.script_rank.specs.declared.naming.Naming.{Naming}
 use Rattle.script_rank.specs.declared.naming.Naming.TheVariants.{SelectorsAndExtension, Selectors, LabelAndExtension, Extension, Label, Method}
-use Rattle.script_rank.specs.Ranking.{IsOffered, behind_slashes, spellings}
+use Rattle.script_rank.specs.Ranking.{IsOffered, after_slashes, spellings}
 use Rattle.script_rank.specs.Search.{at_naming, at_place, at_type, namings, script_at, search_result}
 use Rattle.script_rank.specs.SiteSearch.{at_site, at_sites, script_named, site_search}
 use Rattle.script_rank.proofs.NamingLemmas.{sound}
@@ -61,11 +61,11 @@ only x y (suc j) e = absurd (cc)
 
 spelling_begins : (parts : Parts) (label : List ℕ) (naming : Naming) (j : ℕ) (s : List ℕ) → IsOffered parts naming → slice_get (spellings parts label naming) j ≡ Some s → BeginsWithSlash s
 spelling_begins parts label (SelectorsAndExtension k) zero s h e =
-    let same : behind_slashes parts k ++ 46 ∷ parts.extension ≡ s = cc (e) in
+    let same : after_slashes parts k ++ 46 ∷ parts.extension ≡ s = cc (e) in
     subst BeginsWithSlash same (selectors_begin parts.selectors k (46 ∷ parts.extension) h.0 h.1)
 spelling_begins parts label (SelectorsAndExtension k) (suc j) s h e =
-    subst BeginsWithSlash (only (behind_slashes parts k ++ 47 ∷ parts.extension) s j e) (selectors_begin parts.selectors k (47 ∷ parts.extension) h.0 h.1)
-spelling_begins parts label (Selectors k) j s h e = subst BeginsWithSlash (only (behind_slashes parts k) s j e) (selectors_alone parts.selectors k h.0.0 h.0.1)
+    subst BeginsWithSlash (only (after_slashes parts k ++ 47 ∷ parts.extension) s j e) (selectors_begin parts.selectors k (47 ∷ parts.extension) h.0 h.1)
+spelling_begins parts label (Selectors k) j s h e = subst BeginsWithSlash (only (after_slashes parts k) s j e) (selectors_alone parts.selectors k h.0.0 h.0.1)
 spelling_begins parts label LabelAndExtension j s h e = subst BeginsWithSlash (only _ s j e) (_, refl)
 spelling_begins parts label Extension j s h e = subst BeginsWithSlash (only _ s j e) (_, refl)
 spelling_begins parts label Label j s h e = subst BeginsWithSlash (only _ s j e) (_, refl)

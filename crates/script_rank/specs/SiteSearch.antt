@@ -7,13 +7,13 @@ use Rattle.type_chain.specs.declared.sites.Site.{Site}
 use Rattle.url_split.specs.declared.decompose.Parts.{Parts}
 use Rattle.script_rank.specs.declared.naming.Naming.{Naming}
 use Rattle.script_rank.specs.declared.naming.Naming.TheVariants.{SelectorsAndExtension, Selectors, LabelAndExtension, Extension, Label, Method}
-use Rattle.script_rank.specs.Ranking.{behind_slashes, spellings}
+use Rattle.script_rank.specs.Ranking.{after_slashes, spellings}
 use Rattle.script_rank.specs.Search.{namings, script_in}
 
 -- the spelling of a naming with this mark before the extension
 abbrev pub spelling_with : Parts → List ℕ → Naming → List ℕ → List ℕ
-spelling_with parts label (SelectorsAndExtension k) mark = behind_slashes parts k ++ (mark ++ parts.extension)
-spelling_with parts label (Selectors k) mark = behind_slashes parts k
+spelling_with parts label (SelectorsAndExtension k) mark = after_slashes parts k ++ (mark ++ parts.extension)
+spelling_with parts label (Selectors k) mark = after_slashes parts k
 spelling_with parts label LabelAndExtension mark = 47 ∷ label ++ 46 ∷ parts.extension
 spelling_with parts label Extension mark = 47 ∷ parts.extension
 spelling_with parts label Label mark = 47 ∷ label

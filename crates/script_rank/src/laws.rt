@@ -24,7 +24,7 @@ pub fn one_script_is_first()
         → IsFirst tree chain parts p → IsFirst tree chain parts q → p ≡ q }
 {}
 
-/// What the search finds is the script that ranks first, and it finds none exactly where there is no candidate.
+/// The result of the search is the script that ranks first, and there is none exactly where there is no candidate.
 pub fn search_finds_the_first()
     ensures first { (tree : Content) (chain : List TypeName) (parts : Parts) → IfSome (search_result tree chain parts) (λ path. IsFirst tree chain parts path) }
     ensures none { (tree : Content) (chain : List TypeName) (parts : Parts) → IfNone (search_result tree chain parts) (HasNoCandidate tree chain parts) }

@@ -172,7 +172,7 @@ from-get : (tree : Content) (own above : Option TypeName) (k : ℕ) (a b : TypeN
 from-get tree None above k a b e f = line-get tree 32 above (suc k) a b e f
 from-get tree (Some own) above k a b e f = line-get tree 31 above k a b e f
 
--- both are of the list, or the second is the one behind it
+-- both are of the list, or the second is the one after it
 push-pair : (d : TypeName) (types : List TypeName) (k : ℕ) (a b : TypeName) → slice_get (types ++ d ∷ []) k ≡ Some a → slice_get (types ++ d ∷ []) (suc k) ≡ Some b
     → ((slice_get types k ≡ Some a) × (slice_get types (suc k) ≡ Some b)) ⊎ (b ≡ d)
 push-pair d [] zero a b e f = absurd (cc)

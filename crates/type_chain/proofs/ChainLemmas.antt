@@ -7,7 +7,8 @@ use Rattle.sp_base.specs.declared.value.Value.{Value}
 use Rattle.resource_tree.specs.Content.{Content}
 use Rattle.type_chain.specs.declared.type_name.TypeName.{TypeName}
 use Rattle.type_chain.specs.Types.{same_type, type_of}
-use Rattle.type_chain.specs.Chain.{has_type, until_repeat, line, only, own_types, super_of, super_text, super_type}
+use Rattle.type_chain.specs.Chain.{has_type, until_repeat, line, own_types, super_of, super_text, super_type}
+use Rattle.type_chain.specs.Sites.{only}
 
 -- the types before the first that is among the earlier ones, or repeats one of these
 abbrev pub fresh : List TypeName → List TypeName → List TypeName
@@ -71,7 +72,7 @@ fresh-none types = fresh_is [] types ∙ before_none (λ y. has_type y []) (unti
 
 -- ---- the types so far, and what of the line is left
 
--- what is left of the line, up to the first repeat, comes behind the types so far
+-- what is left of the line, up to the first repeat, comes after the types so far
 pub record Goes (tree : Content) (props : List (List ℕ × Value)) (own : Option TypeName) (types : List TypeName) (next : Option TypeName) : Type 0 where
   pub few : length types ≤ 32
   pub rest : types ++ fresh types (line tree (32 - length types) next) ≡ own_types tree props own

@@ -1,5 +1,5 @@
 -- The chain of a resource's types (Apache Sling, "Servlets and Scripts", "Resource types": resource super types).
-use Rattle.std.specs.Prelude.{ℕ, zero, suc, Bool, false, if◌then◌else◌, List, [], ◌∷◌, ◌++◌, Option, Some, None, option_and_then, unwrap_or, codes}
+use Rattle.std.specs.Prelude.{ℕ, zero, suc, Bool, false, if◌then◌else◌, List, [], ◌∷◌, ◌++◌, ◌-◌, Option, Some, None, option_and_then, unwrap_or, codes}
 use Rattle.std.specs.List.{before_first, list_any}
 use Rattle.std.specs.Option.{option_or}
 use Rattle.sp_base.specs.Properties.{text_in}
@@ -36,16 +36,20 @@ super_type tree type = option_and_then type_of (super_text tree type)
 unfoldable pub super_of : Content → List (List ℕ × Value) → Option TypeName → Option TypeName
 super_of tree props own = option_and_then type_of (option_or (own_super props) (option_and_then (super_text tree) own))
 
--- a type, its super type, the super type of that, and so on: so many at most
+-- a type, its super type, the super type of that, and so on: n at most
 unfoldable pub line : Content → ℕ → Option TypeName → List TypeName
 line tree zero next = []
 line tree (suc n) None = []
 line tree (suc n) (Some type) = type ∷ line tree n (super_type tree type)
 
--- the resource's type, its super type, and so on: 32 at most
+-- the most types of a chain before the default type
+abbrev pub most_types : ℕ
+most_types = 32
+
+-- the resource's type, its super type, and so on, up to the most
 abbrev pub line_from : Content → Option TypeName → Option TypeName → List TypeName
-line_from tree None above = line tree 32 above
-line_from tree (Some own) above = own ∷ line tree 31 above
+line_from tree None above = line tree most_types above
+line_from tree (Some own) above = own ∷ line tree (most_types - 1) above
 
 -- the types up to the first that came before
 abbrev pub until_repeat : List TypeName → List TypeName
@@ -61,11 +65,6 @@ has_type type types = list_any (λ other. same_type other type) types
 
 abbrev pub with_default : List TypeName → List TypeName
 with_default types = if has_type default_type types then types else types ++ default_type ∷ []
-
--- the type, if there is one
-abbrev pub only : Option TypeName → List TypeName
-only None = []
-only (Some type) = type ∷ []
 
 -- the types of a resource's chain before the default type
 abbrev pub own_types : Content → List (List ℕ × Value) → Option TypeName → List TypeName

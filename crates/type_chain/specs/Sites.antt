@@ -21,6 +21,11 @@ site_at tree label place = if has_kids (node_at tree place) then record { label 
 unfoldable pub sites_of : Content → TypeName → List Site
 sites_of tree type = flat_map (site_at tree (name_of type.segs)) (places type)
 
+-- the type, if there is one
+abbrev pub only : Option TypeName → List TypeName
+only None = []
+only (Some type) = type ∷ []
+
 -- the sites of types, which are paths
 abbrev pub AreSitesOf : Content → List TypeName → List Site → Type 0
 AreSitesOf tree types sites = (sites ≡ flat_map (sites_of tree) types) × (list_all (λ type. is_path type.segs) types ≡ true)

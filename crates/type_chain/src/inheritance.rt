@@ -1,8 +1,8 @@
 //! The chain of a resource's types, from its own to the one of the default servlets.
 ghost use Rattle.std.specs.Prelude.{◌≡◌, ◌++◌, ◌∷◌, [], IfOk, OnOk, option_and_then, option_copied};
 ghost use Rattle.type_chain.specs.Types.{type_of};
-ghost use Rattle.type_chain.specs.Chain.{chain_of, default_type, has_type, only, own_types, own_super, super_of, super_text, type_text, with_default};
-ghost use Rattle.type_chain.specs.Sites.{AreSitesOf};
+ghost use Rattle.type_chain.specs.Chain.{chain_of, default_type, has_type, own_types, own_super, super_of, super_text, type_text, with_default};
+ghost use Rattle.type_chain.specs.Sites.{AreSitesOf, only};
 
 use crate::sites::visit_type;
 use crate::{SiteList, TypeList, TypeName};

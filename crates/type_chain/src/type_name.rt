@@ -3,7 +3,7 @@ ghost use Rattle.std.specs.Prelude.{◌≡◌, IfOk, IsTrue, map, string_bytes};
 ghost use Rattle.std.specs.List.{slice_split};
 ghost use Rattle.sp_base.specs.Paths.{is_path, path_of};
 ghost use Rattle.resource_tree.specs.Content.{name_of};
-ghost use Rattle.type_chain.specs.Types.{is_colon, named, same_type, slashed, type_of};
+ghost use Rattle.type_chain.specs.Types.{is_colon, type_at_path, same_type, text_with_slashes, type_of};
 
 use sp_base::{Items, Mem, NoMemory, Path, PathFault};
 use std::alloc::{AllocError, Global};
@@ -26,13 +26,13 @@ impl TypeName {
     pub fn read(alloc: Global, text: &str) -> Mem<Option<TypeName>>
         ensures { IfOk result (λ o. o ≡ type_of text.now) }
     {
-        let slashed = slashed(alloc, text)?;
-        if slashed.as_str().starts_with('/') {
-            return named(alloc, true, slashed.as_str());
+        let text_with_slashes = text_with_slashes(alloc, text)?;
+        if text_with_slashes.as_str().starts_with('/') {
+            return type_at_path(alloc, true, text_with_slashes.as_str());
         }
         let mut absolute = String::from_str(alloc, "/")?;
-        absolute.push_str(slashed.as_str())?;
-        named(alloc, false, absolute.as_str())
+        absolute.push_str(text_with_slashes.as_str())?;
+        type_at_path(alloc, false, absolute.as_str())
     }
 
     /// The last segment of the type.
@@ -55,8 +55,8 @@ impl TypeName {
 }
 
 // The text with its colons read as slashes.
-fn slashed(alloc: Global, text: &str) -> Mem<String>
-    ensures { IfOk result (λ s. string_bytes s ≡ slashed text.now) }
+fn text_with_slashes(alloc: Global, text: &str) -> Mem<String>
+    ensures { IfOk result (λ s. string_bytes s ≡ text_with_slashes text.now) }
 {
     Ok(pieces_of(alloc, text)?.join(alloc, "/")?)
 }
@@ -68,8 +68,8 @@ fn pieces_of(alloc: Global, text: &str) -> Result<Vec<&str>, AllocError>
 }
 
 // The type of the path that a text spells: none where it spells no path, or the root.
-fn named(alloc: Global, rooted: bool, text: &str) -> Mem<Option<TypeName>>
-    ensures { IfOk result (λ o. o ≡ named rooted (path_of text.now)) }
+fn type_at_path(alloc: Global, rooted: bool, text: &str) -> Mem<Option<TypeName>>
+    ensures { IfOk result (λ o. o ≡ type_at_path rooted (path_of text.now)) }
 {
     match Path::read(alloc, text) {
         Ok(segs) if segs.depth() > 0 => Ok(Some(TypeName { rooted, segs })),

@@ -1,5 +1,6 @@
 use Rattle.std.proofs.Common.{◌≡◌, ◌<◌, ◌≤◌, ◌++◌, length, refl, sym, ◌∙◌, ap, subst, true, arith}
-use Rattle.type_chain.specs.Chain.{has_type, only}
+use Rattle.type_chain.specs.Chain.{has_type}
+use Rattle.type_chain.specs.Sites.{only}
 use Rattle.type_chain.proofs.ChainLemmas.{Goes, begins_only, super_is, steps, ends_with_none, ends_full, ends_before_repeat, same_goes}
 use Rattle.type_chain.proofs.inheritance.own_types.Goals as goal
 use Rattle.type_chain.proofs.inheritance.own_types.Goals.{in-Some+then-len-ge-MOST_TYPES, in_default, then-len-ge-MOST_TYPES-via-then-len-ge-MOST_TYPES, then-len-ge-MOST_TYPES-via-else-len-ge-MOST_TYPES+then-has_type}

@@ -1,7 +1,7 @@
 use Rattle.std.proofs.Common.{◌∙◌, ap, ◌∷◌, [], List, ℕ, Bor}
 use Rattle.std.specs.List.{join_by}
 use Rattle.type_chain.proofs.TypeLemmas.{joined_is}
-use Rattle.type_chain.proofs.type_name.slashed.Goals as goal
+use Rattle.type_chain.proofs.type_name.text_with_slashes.Goals as goal
 
 pub returns : goal.returns
 returns c =

@@ -13,7 +13,7 @@ use Rattle.type_chain.specs.declared.type_name.TypeName.{TypeName}
 use Rattle.url_split.specs.declared.decompose.Parts.{Parts}
 use Rattle.script_rank.specs.declared.naming.Naming.{Naming}
 use Rattle.script_rank.specs.declared.naming.Naming.TheVariants.{SelectorsAndExtension, Selectors, LabelAndExtension, Extension, Label, Method}
-use Rattle.script_rank.specs.Ranking.{Candidate, IsOffered, Key, behind_slashes, selectors_in, spellings}
+use Rattle.script_rank.specs.Ranking.{Candidate, IsOffered, Key, after_slashes, selectors_in, spellings}
 
 -- ---- a path that was read has at most 64 segments
 
@@ -91,13 +91,13 @@ slashes-append (x ∷ a) b =
       | false ↦ slashes-append a b
     ]
 
-behind-slashes : (xs : List (List ℕ)) → length xs ≤ slashes (flat_map (λ s. 47 ∷ s) xs)
-behind-slashes [] = omega arith
-behind-slashes (x ∷ xs) = omega (arith, slashes-append x (flat_map (λ s. 47 ∷ s) xs), behind-slashes xs)
+after-slashes : (xs : List (List ℕ)) → length xs ≤ slashes (flat_map (λ s. 47 ∷ s) xs)
+after-slashes [] = omega arith
+after-slashes (x ∷ xs) = omega (arith, slashes-append x (flat_map (λ s. 47 ∷ s) xs), after-slashes xs)
 
-front-slashes : (parts : Parts) (k : ℕ) (rest : List ℕ) → k ≤ length parts.selectors → k ≤ slashes (behind_slashes parts k ++ rest)
-front-slashes parts k rest le =
-    omega (arith, slashes-append (behind_slashes parts k) rest, behind-slashes (take k parts.selectors), length-take k parts.selectors, le)
+selector-slashes : (parts : Parts) (k : ℕ) (rest : List ℕ) → k ≤ length parts.selectors → k ≤ slashes (after_slashes parts k ++ rest)
+selector-slashes parts k rest le =
+    omega (arith, slashes-append (after_slashes parts k) rest, after-slashes (take k parts.selectors), length-take k parts.selectors, le)
 
 only : (x y : List ℕ) (j : ℕ) → slice_get (x ∷ []) j ≡ Some y → x ≡ y
 only x y zero e = cc
@@ -106,13 +106,13 @@ only x y (suc j) e = absurd (cc)
 spelling-slashes : (parts : Parts) (label : List ℕ) (naming : Naming) (j : ℕ) (spelling : List ℕ) → IsOffered parts naming → slice_get (spellings parts label naming) j ≡ Some spelling
     → selectors_in naming ≤ slashes spelling
 spelling-slashes parts label (SelectorsAndExtension k) zero spelling h e =
-    let same : behind_slashes parts k ++ 46 ∷ parts.extension ≡ spelling = cc (e) in
-    subst (λ t. k ≤ slashes t) same (front-slashes parts k (46 ∷ parts.extension) h.1)
+    let same : after_slashes parts k ++ 46 ∷ parts.extension ≡ spelling = cc (e) in
+    subst (λ t. k ≤ slashes t) same (selector-slashes parts k (46 ∷ parts.extension) h.1)
 spelling-slashes parts label (SelectorsAndExtension k) (suc j) spelling h e =
-    subst (λ t. k ≤ slashes t) (only (behind_slashes parts k ++ 47 ∷ parts.extension) spelling j e) (front-slashes parts k (47 ∷ parts.extension) h.1)
+    subst (λ t. k ≤ slashes t) (only (after_slashes parts k ++ 47 ∷ parts.extension) spelling j e) (selector-slashes parts k (47 ∷ parts.extension) h.1)
 spelling-slashes parts label (Selectors k) j spelling h e =
-    subst (λ t. k ≤ slashes t) (only (behind_slashes parts k) spelling j e)
-    (omega (arith, behind-slashes (take k parts.selectors), length-take k parts.selectors, h.0.1))
+    subst (λ t. k ≤ slashes t) (only (after_slashes parts k) spelling j e)
+    (omega (arith, after-slashes (take k parts.selectors), length-take k parts.selectors, h.0.1))
 spelling-slashes parts label LabelAndExtension j spelling h e = omega arith
 spelling-slashes parts label Extension j spelling h e = omega arith
 spelling-slashes parts label Label j spelling h e = omega arith
@@ -123,5 +123,5 @@ few_selectors {parts} {path} {key} cand =
     let ending = codes ".html" in
     let own = spelling-slashes parts (name_of cand.type.segs) key.naming key.spelling cand.spelling cand.offered cand.spelled in
     let all = slashes-append (text_of cand.place) (cand.spelling ++ ending) in
-    let behind = slashes-append cand.spelling ending in
-    omega (arith, own, all, behind, read-slashes (text_of cand.place ++ (cand.spelling ++ ending)) path cand.reads)
+    let after = slashes-append cand.spelling ending in
+    omega (arith, own, all, after, read-slashes (text_of cand.place ++ (cand.spelling ++ ending)) path cand.reads)

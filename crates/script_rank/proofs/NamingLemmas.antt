@@ -81,7 +81,7 @@ below-more : (m n : ℕ) (xs : List Naming) → m ≤ n → AllBelow m xs → Al
 below-more m n [] le h = tt
 below-more m n (x ∷ xs) le h = (let lt : weight x < m = h.0 in omega (arith, lt, le), below-more m n xs le h.1)
 
--- the namings of these selectors and what comes behind
+-- the namings of these selectors and what comes after
 abbrev from : Bool → ℕ → List Naming → List Naming
 from html k rest = with_selectors html k ++ rest
 

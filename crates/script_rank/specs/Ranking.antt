@@ -55,14 +55,14 @@ IsOffered parts Extension = Unit {0}
 IsOffered parts Label = IsTrue (is_html parts)
 IsOffered parts Method = IsTrue (is_html parts)
 
--- the first selectors, each behind a slash
-abbrev pub behind_slashes : Parts → ℕ → List ℕ
-behind_slashes parts k = flat_map (λ s. 47 ∷ s) (take k parts.selectors)
+-- the first selectors, each after a slash
+abbrev pub after_slashes : Parts → ℕ → List ℕ
+after_slashes parts k = flat_map (λ s. 47 ∷ s) (take k parts.selectors)
 
--- how such a name is spelled behind a place: of two spellings the one with the dot is the first
+-- how such a name is spelled after a place: of two spellings the one with the dot is the first
 abbrev pub spellings : Parts → List ℕ → Naming → List (List ℕ)
-spellings parts label (SelectorsAndExtension k) = (behind_slashes parts k ++ 46 ∷ parts.extension) ∷ (behind_slashes parts k ++ 47 ∷ parts.extension) ∷ []
-spellings parts label (Selectors k) = behind_slashes parts k ∷ []
+spellings parts label (SelectorsAndExtension k) = (after_slashes parts k ++ 46 ∷ parts.extension) ∷ (after_slashes parts k ++ 47 ∷ parts.extension) ∷ []
+spellings parts label (Selectors k) = after_slashes parts k ∷ []
 spellings parts label LabelAndExtension = (47 ∷ label ++ 46 ∷ parts.extension) ∷ []
 spellings parts label Extension = (47 ∷ parts.extension) ∷ []
 spellings parts label Label = (47 ∷ label) ∷ []
@@ -92,7 +92,7 @@ pub record Key : Type 0 where
   pub spelling : ℕ
 
 -- A candidate for a request with an extension: a script whose path is spelled by a place of a type of the chain, a slash, a spelling and `.html`.
--- A slash stands in front of each spelling.
+-- Each spelling begins with a slash.
 pub record Candidate (tree : Content) (chain : List TypeName) (parts : Parts) (path : List (List ℕ)) (key : Key) : Type 0 where
   pub type : TypeName
   pub place : List (List ℕ)

@@ -1,4 +1,5 @@
--- What the search does step by step: it tries the namings in the order of their ranks, at each type, each place and each spelling.
+-- The search as a function: it tries the namings in the order of their ranks, at each type, each place and each spelling. It names the result
+-- in the contracts of callers, and is no part of what the ranking is: that is Ranking, and the law `search_finds_the_first` ties the two.
 use Rattle.std.specs.Prelude.{◌++◌, ◌∷◌, [], ℕ, zero, suc, Bool, if◌then◌else◌, List, Option, Some, None, Result, Ok, Err, codes, length, min}
 use Rattle.sp_base.specs.Paths.{is_empty, path_of, text_of}
 use Rattle.sp_base.specs.declared.path.PathFault.{PathFault}
@@ -12,7 +13,7 @@ use Rattle.script_rank.specs.declared.naming.Naming.TheVariants.{SelectorsAndExt
 use Rattle.script_rank.specs.Ranking.{is_script, spellings}
 pub use Rattle.script_rank.specs.Ranking.{is_html}
 
--- the namings after so many selectors and fewer, down to one
+-- the namings after n selectors and fewer, down to one
 unfoldable pub with_selectors : Bool → ℕ → List Naming
 with_selectors html zero = []
 with_selectors html (suc k) = SelectorsAndExtension (suc k) ∷ (if html then Selectors (suc k) ∷ with_selectors html k else with_selectors html k)
@@ -43,5 +44,5 @@ at_type tree parts naming type = first_of (at_place tree (spellings parts (name_
 unfoldable pub at_naming : Content → List TypeName → Parts → Naming → Option (List (List ℕ))
 at_naming tree chain parts naming = first_of (at_type tree parts naming) chain
 
-unfoldable pub found : Content → List TypeName → Parts → Option (List (List ℕ))
-found tree chain parts = first_of (at_naming tree chain parts) (namings parts)
+unfoldable pub search_result : Content → List TypeName → Parts → Option (List (List ℕ))
+search_result tree chain parts = first_of (at_naming tree chain parts) (namings parts)

@@ -1,3 +1,4 @@
+//! What of a request a script is named after, the closest first.
 ghost use Rattle.std.specs.Prelude.{◌≡◌, ◌++◌, IfOk, OnOk};
 ghost use Rattle.script_rank.specs.Search.{is_html, namings, with_selectors};
 
@@ -11,9 +12,9 @@ const MOST_SELECTORS: usize = 64;
 /// What of a request a script is named after.
 #[derive(Clone, Copy, Drop)]
 pub enum Naming {
-    /// So many of the first selectors, and the extension.
+    /// The first n selectors, and the extension.
     SelectorsAndExtension(usize),
-    /// So many of the first selectors. It serves html.
+    /// The first n selectors. It serves html.
     Selectors(usize),
     /// The label of the type, which is its last segment, and the extension.
     LabelAndExtension,

@@ -1,3 +1,4 @@
-pub mod ChainLemmas
-pub mod TypeLemmas
 pub mod ChainLaws
+pub mod ChainLemmas
+pub mod StepLemmas
+pub mod TypeLemmas

@@ -1,10 +1,9 @@
 -- The chain of a resource's types (Apache Sling, "Servlets and Scripts", "Resource types": resource super types).
-use Rattle.std.specs.Prelude.{ℕ, zero, suc, Bool, false, if◌then◌else◌, List, [], ◌∷◌, ◌++◌, Option, Some, None, option_and_then, unwrap_or, codes}
+use Rattle.std.specs.Prelude.{ℕ, zero, suc, Bool, false, if◌then◌else◌, List, [], ◌∷◌, ◌++◌, ◌-◌, Option, Some, None, option_and_then, unwrap_or, codes}
 use Rattle.std.specs.List.{before_first, list_any}
 use Rattle.std.specs.Option.{option_or}
 use Rattle.sp_base.specs.Properties.{text_in}
 use Rattle.sp_base.specs.declared.value.Value.{Value}
-use Rattle.resource_tree.specs.declared.look.Res.{Res}
 use Rattle.resource_tree.specs.Content.{Content, node_at}
 use Rattle.type_chain.specs.declared.type_name.TypeName.{TypeName}
 use Rattle.type_chain.specs.Types.{make_type, type_of, same_type, places}
@@ -37,16 +36,20 @@ super_type tree type = option_and_then type_of (super_text tree type)
 unfoldable pub super_of : Content → List (List ℕ × Value) → Option TypeName → Option TypeName
 super_of tree props own = option_and_then type_of (option_or (own_super props) (option_and_then (super_text tree) own))
 
--- a type, its super type, the super type of that, and so on: so many at most
+-- a type, its super type, the super type of that, and so on: n at most
 unfoldable pub line : Content → ℕ → Option TypeName → List TypeName
 line tree zero next = []
 line tree (suc n) None = []
 line tree (suc n) (Some type) = type ∷ line tree n (super_type tree type)
 
--- the resource's type, its super type, and so on: 32 at most
+-- the most types of a chain before the default type
+abbrev pub most_types : ℕ
+most_types = 32
+
+-- the resource's type, its super type, and so on, up to the most
 abbrev pub line_from : Content → Option TypeName → Option TypeName → List TypeName
-line_from tree None above = line tree 32 above
-line_from tree (Some own) above = own ∷ line tree 31 above
+line_from tree None above = line tree most_types above
+line_from tree (Some own) above = own ∷ line tree (most_types - 1) above
 
 -- the types up to the first that came before
 abbrev pub until_repeat : List TypeName → List TypeName
@@ -67,6 +70,7 @@ with_default types = if has_type default_type types then types else types ++ def
 abbrev pub own_types : Content → List (List ℕ × Value) → Option TypeName → List TypeName
 own_types tree props own = until_repeat (line_from tree own (super_of tree props own))
 
--- the chain of a resource: its types from its own to the last before a repeat, and then the default type, unless it is there
-unfoldable pub chain_of : Content → Res → List TypeName
-chain_of tree res = with_default (own_types tree res.props (type_of (type_text res.props)))
+-- the chain of a resource with these properties: its types from its own to the last before a repeat, and then the default type, unless it is
+-- there
+unfoldable pub chain_of : Content → List (List ℕ × Value) → List TypeName
+chain_of tree props = with_default (own_types tree props (type_of (type_text props)))

@@ -1,2 +1,4 @@
 pub mod Types
 pub mod Chain
+pub mod Steps
+pub mod Sites

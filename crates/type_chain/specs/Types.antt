@@ -9,25 +9,25 @@ abbrev pub is_colon : ℕ → Bool
 is_colon b = b == 58
 
 -- a type's text, in which a colon is read as a slash
-abbrev pub slashed : List ℕ → List ℕ
-slashed text = map (λ b. if is_colon b then 47 else b) text
+abbrev pub text_with_slashes : List ℕ → List ℕ
+text_with_slashes text = map (λ b. if is_colon b then 47 else b) text
 
 abbrev pub make_type : Bool → List (List ℕ) → TypeName
 make_type rooted segs = record { rooted = rooted; segs = segs }
 
 -- the type of a path: the root is none
-abbrev pub named : Bool → Result (List (List ℕ)) PathFault → Option TypeName
-named rooted (Ok []) = None
-named rooted (Ok (seg ∷ segs)) = Some (make_type rooted (seg ∷ segs))
-named rooted (Err e) = None
+abbrev pub type_at_path : Bool → Result (List (List ℕ)) PathFault → Option TypeName
+type_at_path rooted (Ok []) = None
+type_at_path rooted (Ok (seg ∷ segs)) = Some (make_type rooted (seg ∷ segs))
+type_at_path rooted (Err e) = None
 
--- what a type's text spells: a type that begins with a slash is rooted, and of any other the slash in front is left out
+-- what a type's text spells: a type that begins with a slash is rooted, and of any other the first slash is left out
 abbrev pub type_in : List ℕ → Option TypeName
-type_in text = if slice_index text 0 == 47 then named true (path_of text) else named false (path_of (47 ∷ text))
+type_in text = if slice_index text 0 == 47 then type_at_path true (path_of text) else type_at_path false (path_of (47 ∷ text))
 
 -- the type that a text names, where it names one
 unfoldable pub type_of : List ℕ → Option TypeName
-type_of text = type_in (slashed text)
+type_of text = type_in (text_with_slashes text)
 
 -- whether two types are one
 abbrev pub same_type : TypeName → TypeName → Bool

@@ -1,30 +1,63 @@
 //! What the chain is in the subject's words: laws of the definitions, on functions that do nothing.
-ghost use Rattle.std.specs.Prelude.{◌≡◌, ◌≤◌, ◌<◌, ◌+◌, ◌⊎◌, ℕ, Some, IsTrue, length, slice_get};
+ghost use Rattle.std.specs.Prelude.{◌≡◌, ◌≤◌, ◌<◌, ◌+◌, ◌⊎◌, ℕ, false, List, Option, Some, None, IsTrue, length, slice_get, take};
 ghost use Rattle.std.specs.List.{IsDistinct};
 ghost use Rattle.resource_tree.specs.Content.{Content};
-ghost use Rattle.resource_tree.specs.declared.look.Res.{Res};
+ghost use Rattle.sp_base.specs.declared.value.Value.{Value};
 ghost use Rattle.type_chain.specs.declared.type_name.TypeName.{TypeName};
 ghost use Rattle.type_chain.specs.Types.{same_type, type_of};
-ghost use Rattle.type_chain.specs.Chain.{chain_of, default_type, has_type, super_of, super_type, type_text};
+ghost use Rattle.type_chain.specs.Chain.{chain_of, default_type, has_type, most_types, own_super, own_types, super_of, super_type, type_text, with_default};
+ghost use Rattle.type_chain.specs.Steps.{AreOwnTypes, unless_there};
 
 /// A chain begins with the resource's type, where it has one.
 pub fn the_own_type_is_first()
-    ensures { (tree : Content) (res : Res) (own : TypeName) → type_of (type_text res.props) ≡ Some own → slice_get (chain_of tree res) 0 ≡ Some own }
+    ensures { (tree : Content) (props : List (List ℕ × Value)) (own : TypeName) → type_of (type_text props) ≡ Some own → slice_get (chain_of tree props) 0 ≡ Some own }
 {}
 
-/// Behind the first type each is the super type of the one before it, or the default type.
+/// After the first type each is the super type of the one before it, or the default type.
 pub fn each_type_is_the_super_type_of_the_one_before()
-    ensures { (tree : Content) (res : Res) (k : ℕ) (type next : TypeName) → 0 < k → slice_get (chain_of tree res) k ≡ Some type → slice_get (chain_of tree res) (k + 1) ≡ Some next
+    ensures { (tree : Content) (props : List (List ℕ × Value)) (k : ℕ) (type next : TypeName) → 0 < k → slice_get (chain_of tree props) k ≡ Some type → slice_get (chain_of tree props) (k + 1) ≡ Some next
         → (super_type tree type ≡ Some next) ⊎ (next ≡ default_type) }
+{}
+
+/// The first step: after the resource's own type comes the super type that the resource's own text names, else that of its type. A
+/// resource without a type begins with the super type of its own text.
+pub fn the_super_type_of_the_resource_is_next()
+    ensures typed { (tree : Content) (props : List (List ℕ × Value)) (own next : TypeName) → type_of (type_text props) ≡ Some own → super_of tree props (Some own) ≡ Some next → same_type own next ≡ false
+        → slice_get (chain_of tree props) 1 ≡ Some next }
+    ensures untyped { (tree : Content) (props : List (List ℕ × Value)) (next : TypeName) → type_of (type_text props) ≡ None → super_of tree props None ≡ Some next → slice_get (chain_of tree props) 0 ≡ Some next }
+    ensures own_text { (tree : Content) (props : List (List ℕ × Value)) (own : Option TypeName) (text : List ℕ) → own_super props ≡ Some text → super_of tree props own ≡ type_of text }
+    ensures of_the_type { (tree : Content) (props : List (List ℕ × Value)) (own : TypeName) → own_super props ≡ None → super_of tree props (Some own) ≡ super_type tree own }
+{}
+
+/// A super type that is there follows: of a type after the first, other than the default type and the last of the most types, unless it came
+/// before.
+pub fn a_super_type_follows()
+    ensures { (tree : Content) (props : List (List ℕ × Value)) (k : ℕ) (type next : TypeName) → 0 < k → k + 1 < most_types → slice_get (chain_of tree props) k ≡ Some type → same_type type default_type ≡ false
+        → super_type tree type ≡ Some next → has_type next (take (k + 1) (chain_of tree props)) ≡ false → slice_get (chain_of tree props) (k + 1) ≡ Some next }
+{}
+
+/// Where the chain ends: after a type with no super type but one that came before, and after the most types, comes the default type, or
+/// nothing.
+pub fn the_default_type_ends_the_chain()
+    ensures { (tree : Content) (props : List (List ℕ × Value)) (k : ℕ) (type : TypeName) → 0 < k → slice_get (chain_of tree props) k ≡ Some type → same_type type default_type ≡ false
+        → (unless_there (take (k + 1) (chain_of tree props)) (super_type tree type) ≡ None) ⊎ (most_types ≤ k + 1)
+        → (slice_get (chain_of tree props) (k + 1) ≡ Some default_type) ⊎ (slice_get (chain_of tree props) (k + 1) ≡ None) }
 {}
 
 /// No type stands twice in a chain.
 pub fn no_type_repeats()
-    ensures { (tree : Content) (res : Res) → IsDistinct same_type (chain_of tree res) }
+    ensures { (tree : Content) (props : List (List ℕ × Value)) → IsDistinct same_type (chain_of tree props) }
 {}
 
 /// A chain has the default type, and at most 32 before it.
 pub fn a_chain_is_short()
-    ensures default { (tree : Content) (res : Res) → IsTrue (has_type default_type (chain_of tree res)) }
-    ensures short { (tree : Content) (res : Res) → length (chain_of tree res) ≤ 33 }
+    ensures default { (tree : Content) (props : List (List ℕ × Value)) → IsTrue (has_type default_type (chain_of tree props)) }
+    ensures short { (tree : Content) (props : List (List ℕ × Value)) → length (chain_of tree props) ≤ 33 }
+{}
+
+/// The chain is determined by its steps: the types before the default type are those, and those alone, of which the first is the
+/// resource's own type or its super type, and each is followed by the super type that it gives, up to a repeat or the bound.
+pub fn the_chain_is_determined()
+    ensures steps { (tree : Content) (props : List (List ℕ × Value)) → AreOwnTypes tree props (own_types tree props (type_of (type_text props))) }
+    ensures alone { (tree : Content) (props : List (List ℕ × Value)) (types : List TypeName) → AreOwnTypes tree props types → chain_of tree props ≡ with_default types }
 {}

@@ -1,3 +1,4 @@
+//! The places of a type below the search paths.
 ghost use Rattle.std.specs.Prelude.{◌≡◌, ◌≢◌, ◌∷◌, ◌++◌, true, IfOk, IfErr, OnOk, Ok, Err, find, is_some};
 ghost use Rattle.sp_base.specs.Paths.{checked, seg_ok};
 ghost use Rattle.resource_tree.specs.Content.{node_at};

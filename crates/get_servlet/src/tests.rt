@@ -32,7 +32,7 @@ fn at(alloc: Global, text: &str) -> Result<Path, Failed> {
     }
 }
 
-fn seen(alloc: Global, tree: &Tree, path: &str) -> Result<Res, Failed> {
+fn seen<'a>(alloc: Global, tree: &'a Tree, path: &str) -> Result<Res<'a>, Failed> {
     match tree.res(alloc, &at(alloc, path)?)? {
         Some(res) => Ok(res),
         None => Err(Failed),
@@ -44,12 +44,13 @@ fn told(alloc: Global, answer: JsonAnswer) -> Result<String, Failed> {
     match answer {
         JsonAnswer::Whole(text) => Ok(String::from_str(alloc, text.text())?),
         JsonAnswer::Over(depth) => Ok(format!(in alloc; "over {depth}")?),
+        JsonAnswer::TooLong => Ok(String::from_str(alloc, "too long")?),
     }
 }
 
 fn json(alloc: Global, tree: &Tree, path: &str, depth: Depth) -> Result<String, Failed> {
     let res = seen(alloc, tree, path)?;
-    told(alloc, json_of(alloc, tree, &res, depth)?)
+    told(alloc, json_of(alloc, tree, &res, depth, MOST_BYTES)?)
 }
 
 // The kind and the text of a stream.

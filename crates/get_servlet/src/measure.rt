@@ -84,7 +84,12 @@ pub(crate) fn is_large<L: Look>(alloc: Global, look: &L, res: &Res<'_>, depth: u
 }
 
 /// The greatest depth that is 1 or shows at most 1,000 resources.
-pub(crate) fn greatest_fitting<L: Look>(alloc: Global, look: &L, res: &Res<'_>, depth: u32) -> Mem<u32>
+pub(crate) fn greatest_fitting<L: Look>(
+    alloc: Global,
+    look: &L,
+    res: &Res<'_>,
+    depth: u32,
+) -> Mem<u32>
     requires deep { 1 < depth }
     requires large { 1000 < shown (L.seen look.now) res.now depth }
     ensures value { IfOk result (λ most. most ≡ greatest_fitting (shown (L.seen look.now) res.now) depth) }

@@ -9,8 +9,15 @@ use Rattle.get_servlet.proofs.lengths.properties_bytes.Goals.{in-Some, in_defaul
 pub loop-place-preserved : goal.loop-place-preserved
 loop-place-preserved c = elim c.match-at.branch [
   | in-Some w ↦
-      omega (arith, c.loop-place.invariant, w.saturating_add.ensures, w.value_bytes.ensures, w.saturating_add-bytes.ensures, w.bytes-is,
-      property_more c.args.props.now c.loop-place.place w.in-Some.name.now w.in-Some.value.now w.in-Some.ensures)
+      omega (
+        arith,
+        c.loop-place.invariant,
+        w.saturating_add.ensures,
+        w.value_bytes.ensures,
+        w.saturating_add-bytes.ensures,
+        w.bytes-is,
+        property_more c.args.props.now c.loop-place.place w.in-Some.name.now w.in-Some.value.now w.in-Some.ensures,
+      )
   | in_default w ↦ absurd (no_place c.args.props.now c.loop-place.place w.in_default.ensures (omega arith))
 ]
 

@@ -6,8 +6,13 @@ use Rattle.get_servlet.proofs.lengths.texts_bytes.Goals as goal
 
 pub loop-text-preserved : goal.loop-text-preserved
 loop-text-preserved c =
-    omega (arith, c.loop-text.invariant, ap length c.text.ensures, c.saturating_add-bytes.ensures,
-    least_more length c.args.texts.now c.loop-text.text-index c.text-item.result (omega arith) c.text-item.is)
+    omega (
+      arith,
+      c.loop-text.invariant,
+      ap length c.text.ensures,
+      c.saturating_add-bytes.ensures,
+      least_more length c.args.texts.now c.loop-text.text-index c.text-item.result (omega arith) c.text-item.is,
+    )
 
 pub returns : goal.returns
 returns c =

@@ -1,2 +1,8 @@
+pub mod AnswerLemmas
+pub mod BytesLemmas
+pub mod CountLemmas
 pub mod DepthLemmas
-pub mod RenderingLemmas
+pub mod KidLemmas
+pub mod ObjectLemmas
+pub mod ReadBackLemmas
+pub mod WritingLemmas

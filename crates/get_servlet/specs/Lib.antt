@@ -1,3 +1,5 @@
 pub mod Rendering
 pub mod Answers
 pub mod Streams
+pub mod Objects
+pub mod Steps

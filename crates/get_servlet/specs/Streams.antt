@@ -1,29 +1,28 @@
--- The content of a resource that is a file.
+-- The content of a resource that is a file (JCR 2.0, nt:file), and its media type.
 use Rattle.std.specs.Prelude.{◌==◌, ◌&&◌, ◌-◌, ℕ, Bool, not, nat_le, if◌then◌else◌, List, Option, Some, None, option_map, codes, length, slice_index}
 use Rattle.std.specs.List.{list_all}
 use Rattle.sp_base.specs.Properties.{text_in}
 use Rattle.sp_base.specs.declared.value.Value.{Value}
-use Rattle.resource_tree.specs.Seen.{Seen}
-use Rattle.resource_tree.specs.declared.look.Res.{Res}
+use Rattle.resource_tree.specs.Seen.{Resource, Seen}
 use Rattle.get_servlet.specs.declared.kids.Kid.{Kid}
 use Rattle.get_servlet.specs.declared.streams.Stream.{Stream}
-use Rattle.get_servlet.specs.Rendering.{has_kid, kid_at}
+use Rattle.get_servlet.specs.Rendering.{lists_kid, kid_named}
 
 abbrev pub is_printable : List ℕ → Bool
 is_printable text = list_all (λ b. nat_le 32 b && nat_le b 126) text
 
--- 1 to 100 bytes of 0x20 to 0x7E, the first and the last no spaces
-abbrev pub is_kind : List ℕ → Bool
-is_kind text = not (length text == 0) && (nat_le (length text) 100 && (is_printable text
+-- a text that may be sent as a media type: 1 to 100 bytes of 0x20 to 0x7E, the first and the last no spaces
+abbrev pub is_media_type : List ℕ → Bool
+is_media_type text = not (length text == 0) && (nat_le (length text) 100 && (is_printable text
     && (not (slice_index text 0 == 32) && not (slice_index text (length text - 1) == 32))))
 
 -- the media type of a file whose kid has this text as its type
-abbrev pub kind_of : Option (List ℕ) → List ℕ
-kind_of None = codes "application/octet-stream"
-kind_of (Some text) = if is_kind text then text else codes "application/octet-stream"
+abbrev pub media_type_of : Option (List ℕ) → List ℕ
+media_type_of None = codes "application/octet-stream"
+media_type_of (Some text) = if is_media_type text then text else codes "application/octet-stream"
 
 abbrev pub make_stream : Option (List ℕ) → List ℕ → Stream
-make_stream kind body = record { kind = kind_of kind; body = body }
+make_stream kind body = record { kind = media_type_of kind; body = body }
 
 -- the stream of these properties
 abbrev pub stream_in : List (List ℕ × Value) → Option Stream
@@ -34,5 +33,5 @@ kid_stream None = None
 kid_stream (Some kid) = stream_in kid.res.props
 
 -- the stream of the kid `jcr:content`, where the list of kids has it
-unfoldable pub stream_of : Seen → Res → Option Stream
-stream_of seen res = if has_kid res (codes "jcr:content") then kid_stream (kid_at seen res.path (codes "jcr:content")) else None
+unfoldable pub stream_of : Seen → Resource → Option Stream
+stream_of seen res = if lists_kid res (codes "jcr:content") then kid_stream (kid_named seen res.path (codes "jcr:content")) else None

@@ -1,11 +1,16 @@
+// The answer to a GET of a resource as JSON.
 ghost use Rattle.std.specs.Prelude.{◌≡◌, IfOk};
-ghost use Rattle.get_servlet.specs.Answers.{levels_of, json_answer, Answers};
+ghost use Rattle.get_servlet.specs.Answers.{levels_of, json_answer, Answers, ReadsAs};
+ghost use Rattle.get_servlet.specs.Rendering.{resource_json};
 
 use crate::measure::{greatest_fitting, is_large};
-use crate::writing::json_text;
+use crate::writing::text_answer;
 use resource_tree::{Look, Res};
 use sp_base::{Mem, TextBuf};
 use std::alloc::Global;
+
+/// The most segments of a path, below which there are no more levels.
+const MOST_LEVELS: u32 = 64;
 
 /// How many levels below a resource are asked for.
 #[derive(Clone, Copy, Drop)]
@@ -14,11 +19,14 @@ pub enum Depth {
     Infinity,
 }
 
-/// The JSON of a resource, or, where a text of more than one level would show more than 1,000 resources, the greatest depth to ask for instead.
+/// The JSON of a resource, or why it is not given.
 #[derive(Drop)]
 pub enum JsonAnswer {
     Whole(TextBuf),
+    /// A text of more than one level would show more than 1,000 resources: the greatest depth to ask for instead.
     Over(u32),
+    /// The text would have more bytes than it may.
+    TooLong,
 }
 
 fn levels_of(depth: Depth) -> u32
@@ -26,18 +34,26 @@ fn levels_of(depth: Depth) -> u32
 {
     match depth {
         Depth::Levels(levels) => levels,
-        Depth::Infinity => 64,
+        Depth::Infinity => MOST_LEVELS,
     }
 }
 
-/// A resource as JSON (Apache Sling, "Default GET servlet"): its properties, and then its kids, to the depth that is asked for.
-pub fn json_of<L: Look>(alloc: Global, look: &L, res: &Res, depth: Depth) -> Mem<JsonAnswer>
-    ensures value { IfOk result (λ answer. answer ≡ json_answer (L.seen look.now) res.now (levels_of depth)) }
-    ensures meaning { IfOk result (Answers (L.seen look.now) res.now (levels_of depth)) }
+/// A resource as JSON (Apache Sling, "Default GET servlet"): its properties, and then its kids, to the depth that is asked for,
+/// in a text of at most so many bytes.
+pub fn json_of<L: Look>(
+    alloc: Global,
+    look: &L,
+    res: &Res<'_>,
+    depth: Depth,
+    most_bytes: usize,
+) -> Mem<JsonAnswer>
+    ensures value { IfOk result (λ answer. answer ≡ json_answer (L.seen look.now) res.now (levels_of depth) most_bytes) }
+    ensures meaning { IfOk result (Answers (L.seen look.now) res.now (levels_of depth) most_bytes) }
+    ensures reads_back { IfOk result (ReadsAs (resource_json (L.seen look.now) (levels_of depth) res.now.path res.now)) }
 {
     let levels = levels_of(depth);
     if levels > 1 && is_large(alloc, look, res, levels)? {
         return Ok(JsonAnswer::Over(greatest_fitting(alloc, look, res, levels)?));
     }
-    Ok(JsonAnswer::Whole(json_text(alloc, look, res, levels)?))
+    text_answer(alloc, look, res, levels, most_bytes)
 }

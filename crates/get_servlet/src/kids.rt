@@ -1,34 +1,51 @@
-// The resources beneath a resource.
-ghost use Rattle.std.specs.Prelude.{◌≡◌, IfOk};
-ghost use Rattle.get_servlet.specs.Rendering.{kid_at, kid_of, has_kid};
+// The resources below a resource.
+ghost use Rattle.std.specs.Prelude.{◌≡◌, ◌≢◌, IfOk, IfErr, Err};
+ghost use Rattle.sp_base.specs.declared.path.PathFault.TheVariants.{NoMemory as no_memory};
+ghost use Rattle.get_servlet.specs.Rendering.{kid_named, shown_kid, lists_kid};
+ghost use Rattle.get_servlet.specs.Steps.{path_made};
 
 use resource_tree::{Look, Res};
 use sp_base::{Mem, NoMemory, Path, PathFault};
 use std::alloc::Global;
 
-/// A resource beneath another: its path, and what is seen there.
+/// A resource below another: its path, and what is seen there.
 #[derive(Drop)]
-pub struct Kid {
+pub struct Kid<'a> {
     pub path: Path,
-    pub res: Res,
+    pub res: Res<'a>,
 }
 
 /// Whether the resource's list of kids has a name.
-pub(crate) fn has_kid(res: &Res, name: &str) -> bool
-    ensures { result ≡ has_kid res.now name.now }
+pub(crate) fn lists_kid(res: &Res<'_>, name: &str) -> bool
+    ensures { result ≡ lists_kid res.now name.now }
 {
-    res.kids.as_slice().iter().any(|kid| name == kid.text())
+    res.kids().iter().any(|kid| name == kid.text())
 }
 
-/// What is seen at the path of a name.
-#[tactic(auto, unfolding(crate::specs::Rendering::kid_at))]
-pub(crate) fn kid_at<L: Look>(alloc: Global, look: &L, path: &Path, name: &str) -> Mem<Option<Kid>>
-    ensures { IfOk result (λ kid. kid ≡ kid_at (L.seen look.now) path.now name.now) }
+// The path that was made, if there is one: a path that is too deep is none, and no lack of memory.
+fn path_made(made: Result<Path, PathFault>) -> Mem<Option<Path>>
+    ensures value { IfOk result (λ path. path ≡ path_made made) }
+    ensures told { IfOk result (λ path. made ≢ Err no_memory) }
+    ensures err { IfErr result (λ e. made ≡ Err no_memory) }
 {
-    let path = match path.child(alloc, name) {
-        Ok(path) => path,
-        Err(PathFault::NoMemory) => return Err(NoMemory),
-        Err(_) => return Ok(None),
+    match made {
+        Ok(path) => Ok(Some(path)),
+        Err(PathFault::NoMemory) => Err(NoMemory),
+        Err(_) => Ok(None),
+    }
+}
+
+/// What is seen under a name, below a path.
+pub(crate) fn kid_named<'a, L: Look>(
+    alloc: Global,
+    look: &'a L,
+    path: &Path,
+    name: &str,
+) -> Mem<Option<Kid<'a>>>
+    ensures { IfOk result (λ kid. kid ≡ kid_named (L.seen look.now) path.now name.now) }
+{
+    let Some(path) = path_made(path.child(alloc, name))? else {
+        return Ok(None);
     };
     match look.res(alloc, &path)? {
         Some(res) => Ok(Some(Kid { path, res })),
@@ -36,19 +53,19 @@ pub(crate) fn kid_at<L: Look>(alloc: Global, look: &L, path: &Path, name: &str) 
     }
 }
 
-/// The kid of a name, which no property has.
-#[tactic(auto, unfolding(crate::specs::Rendering::kid_of))]
-pub(crate) fn kid_of<L: Look>(
+/// The kid that a resource shows under a name, which no property has.
+#[tactic(auto, unfolding(crate::specs::Rendering::shown_kid))]
+pub(crate) fn shown_kid<'a, L: Look>(
     alloc: Global,
-    look: &L,
+    look: &'a L,
     path: &Path,
-    res: &Res,
+    res: &Res<'_>,
     name: &str,
-) -> Mem<Option<Kid>>
-    ensures { IfOk result (λ kid. kid ≡ kid_of (L.seen look.now) path.now res.now name.now) }
+) -> Mem<Option<Kid<'a>>>
+    ensures { IfOk result (λ kid. kid ≡ shown_kid (L.seen look.now) path.now res.now name.now) }
 {
-    if res.props.get(name).is_some() {
+    if res.props().get(name).is_some() {
         return Ok(None);
     }
-    kid_at(alloc, look, path, name)
+    kid_named(alloc, look, path, name)
 }

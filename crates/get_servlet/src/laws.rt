@@ -1,10 +1,30 @@
-//! A law of the definitions, on a function that does nothing.
-ghost use Rattle.std.specs.Prelude.{◌≡◌, ◌≤◌, ℕ};
-ghost use Rattle.resource_tree.specs.declared.look.Res.{Res};
-ghost use Rattle.resource_tree.specs.Seen.{Seen};
-ghost use Rattle.get_servlet.specs.Rendering.{json_text};
+//! Laws of the definitions, on functions that do nothing.
+ghost use Rattle.std.specs.Prelude.{◌≡◌, ◌≤◌, ◌↔◌, ℕ, List, Some};
+ghost use Rattle.json.specs.Json.{document};
+ghost use Rattle.resource_tree.specs.Seen.{Resource, Seen};
+ghost use Rattle.get_servlet.specs.declared.answer.JsonAnswer.TheVariants.{Over};
+ghost use Rattle.get_servlet.specs.Answers.{json_answer, IsOver};
+ghost use Rattle.get_servlet.specs.Objects.{objects_in, HasLongs, HaveLongs};
+ghost use Rattle.get_servlet.specs.Rendering.{resource_json, json_text, shown};
 
 /// A path has at most 64 segments, so whoever asks for more levels is shown no more.
 pub fn sixty_four_levels_are_all()
-    ensures { (seen : Seen) (depth : ℕ) (res : Res) → 64 ≤ depth → json_text seen depth res ≡ json_text seen 64 res }
+    ensures { (seen : Seen) (depth : ℕ) (res : Resource) → 64 ≤ depth → json_text seen depth res ≡ json_text seen 64 res }
+{}
+
+/// The resources that are shown are the objects in the JSON: no property is an object, and each resource is one.
+pub fn shown_are_the_objects()
+    ensures { (seen : Seen) (depth : ℕ) (res : Resource) → shown seen res depth ≡ objects_in (resource_json seen depth res.path res) }
+{}
+
+/// The text is a JSON text (RFC 8259) of the very value, whatever the depth.
+pub fn texts_read_back()
+    ensures { (seen : Seen) (depth : ℕ) (res : Resource) → HasLongs res → HaveLongs seen
+        → document (json_text seen depth res) ≡ Some (resource_json seen depth res.path res) }
+{}
+
+/// A depth is named instead exactly where it is the greatest that is 1 or shows at most 1,000 resources, and the one asked for
+/// is greater and shows more.
+pub fn over_is_the_greatest_depth()
+    ensures { (seen : Seen) (res : Resource) (depth most_bytes most : ℕ) → (json_answer seen res depth most_bytes ≡ Over most) ↔ IsOver seen res depth most }
 {}

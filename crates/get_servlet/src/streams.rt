@@ -1,11 +1,15 @@
+// The content of a resource that is a file.
 ghost use Rattle.std.specs.Prelude.{◌≡◌, IfOk};
 ghost use Rattle.std.specs.Option.{option_copied};
-ghost use Rattle.get_servlet.specs.Streams.{is_printable, is_kind, kind_of, stream_of};
+ghost use Rattle.get_servlet.specs.Streams.{is_printable, is_media_type, media_type_of, stream_of};
 
-use crate::kids::{has_kid, kid_at};
+use crate::kids::{kid_named, lists_kid};
 use resource_tree::{Look, Res};
 use sp_base::{Mem, TextBuf};
 use std::alloc::Global;
+
+/// The most bytes of a media type.
+const MOST_KIND_BYTES: usize = 100;
 
 /// The content of a file, and its media type.
 #[derive(Drop)]
@@ -21,21 +25,21 @@ fn is_printable(text: &str) -> bool
 }
 
 // Whether a text may be sent as a media type: 1 to 100 printable bytes, the first and the last no spaces.
-fn is_kind(text: &str) -> bool
-    ensures { result ≡ is_kind text.now }
+fn is_media_type(text: &str) -> bool
+    ensures { result ≡ is_media_type text.now }
 {
     let bytes = text.as_bytes();
-    if bytes.is_empty() || bytes.len() > 100 || !is_printable(text) {
+    if bytes.is_empty() || bytes.len() > MOST_KIND_BYTES || !is_printable(text) {
         return false;
     }
     bytes[0] != b' ' && bytes[bytes.len() - 1] != b' '
 }
 
-fn kind_of(alloc: Global, text: Option<&TextBuf>) -> Mem<TextBuf>
-    ensures { IfOk result (λ kind. kind ≡ kind_of (option_copied text.entry)) }
+fn media_type_of(alloc: Global, text: Option<&TextBuf>) -> Mem<TextBuf>
+    ensures { IfOk result (λ kind. kind ≡ media_type_of (option_copied text.entry)) }
 {
     match text {
-        Some(text) if is_kind(text.text()) => text.duplicate(alloc),
+        Some(text) if is_media_type(text.text()) => text.duplicate(alloc),
         _ => TextBuf::of(alloc, "application/octet-stream"),
     }
 }
@@ -43,21 +47,21 @@ fn kind_of(alloc: Global, text: Option<&TextBuf>) -> Mem<TextBuf>
 /// The content of a resource that is a file (JCR 2.0, nt:file): the text `jcr:data` of its kid `jcr:content`, with the kid's
 /// `jcr:mimeType` where that may be sent, else `application/octet-stream`.
 #[tactic(auto, unfolding(crate::specs::Streams::stream_of))]
-pub fn stream_of<L: Look>(alloc: Global, look: &L, res: &Res) -> Mem<Option<Stream>>
+pub fn stream_of<L: Look>(alloc: Global, look: &L, res: &Res<'_>) -> Mem<Option<Stream>>
     ensures { IfOk result (λ stream. stream ≡ stream_of (L.seen look.now) res.now) }
 {
-    if !has_kid(res, "jcr:content") {
+    if !lists_kid(res, "jcr:content") {
         return Ok(None);
     }
-    let Some(content) = kid_at(alloc, look, &res.path, "jcr:content")? else {
+    let Some(content) = kid_named(alloc, look, res.path(), "jcr:content")? else {
         return Ok(None);
     };
-    let props = &content.res.props;
+    let props = content.res.props();
     let Some(body) = props.text("jcr:data") else {
         return Ok(None);
     };
     Ok(Some(Stream {
-        kind: kind_of(alloc, props.text("jcr:mimeType"))?,
+        kind: media_type_of(alloc, props.text("jcr:mimeType"))?,
         body: body.duplicate(alloc)?,
     }))
 }

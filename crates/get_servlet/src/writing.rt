@@ -1,64 +1,115 @@
-// A resource as JSON: its properties, and then its kids in their order.
-ghost use Rattle.std.specs.Prelude.{◌≡◌, IfOk, OnOk};
+// Writes a resource as JSON: its properties, and then its kids in their order. It stops where the text is seen to be too long.
+ghost use Rattle.std.specs.Prelude.{◌≡◌, IfOk};
 ghost use Rattle.json.specs.Tree.{json_tokens};
-ghost use Rattle.property_json.specs.PropertyJson.{Adds};
-ghost use Rattle.get_servlet.specs.Rendering.{json_at, kids_tokens, json_text};
+ghost use Rattle.get_servlet.specs.Answers.{text_within, ReadsAs};
+ghost use Rattle.get_servlet.specs.Rendering.{shown_kid, resource_json, json_text};
+ghost use Rattle.get_servlet.specs.Steps.{kid_tokens, below_tokens, Spends};
 
-use crate::kids::kid_of;
+use crate::answer::JsonAnswer;
+use crate::kids::shown_kid;
+use crate::lengths::properties_bytes;
 use json::Writer;
 use property_json::write_properties;
 use resource_tree::{Look, Res};
 use sp_base::{Mem, Path, TextBuf};
 use std::alloc::Global;
 
-// Writes a resource, and so many levels below it. After want of memory some of it may be written.
+// Writes a resource, and so many levels below it. What it leaves of a room of bytes is no less than the answer says, and
+// there is none where the text needs more. Out of memory, or there, some of it may be written.
 #[cycle(writing)]
 fn write_resource<L: Look>(
     alloc: Global,
     look: &L,
     writer: &mut Writer,
     path: &Path,
-    res: &Res,
+    res: &Res<'_>,
     depth: u32,
-) -> Mem<()>
-    ensures { OnOk result (Adds writer.old writer.new (json_tokens (json_at (L.seen look.now) depth path.now res.now))) }
+    room: usize,
+) -> Mem<Option<usize>>
+    ensures { IfOk result (λ left. Spends room left writer.old writer.new (json_tokens (resource_json (L.seen look.now) depth path.now res.now))) }
 {
+    let Some(room) = room.checked_sub(properties_bytes(res.props())) else {
+        return Ok(None);
+    };
     writer.begin_object()?;
-    write_properties(writer, &res.props)?;
-    if depth > 0 {
-        write_kids(alloc, look, writer, path, res, depth - 1)?;
-    }
+    write_properties(writer, res.props())?;
+    let Some(left) = write_kids(alloc, look, writer, path, res, depth, room)? else {
+        return Ok(None);
+    };
     writer.end_object()?;
-    Ok(())
+    Ok(Some(left))
 }
 
-// Writes the kids as members, each with so many levels below it.
+// Writes the kid of a name as a member, if it is shown, and so many levels below it.
+#[cycle(writing)]
+fn write_kid<L: Look>(
+    alloc: Global,
+    look: &L,
+    writer: &mut Writer,
+    path: &Path,
+    res: &Res<'_>,
+    name: &str,
+    depth: u32,
+    room: usize,
+) -> Mem<Option<usize>>
+    ensures { IfOk result (λ left. Spends room left writer.old writer.new (kid_tokens name.now (resource_json (L.seen look.now) depth) (shown_kid (L.seen look.now) path.now res.now name.now))) }
+{
+    let Some(kid) = shown_kid(alloc, look, path, res, name)? else {
+        return Ok(Some(room));
+    };
+    let Some(room) = room.checked_sub(name.len()) else {
+        return Ok(None);
+    };
+    writer.key(name)?;
+    write_resource(alloc, look, writer, &kid.path, &kid.res, depth, room)
+}
+
+// Writes the kids of a resource as members, and so many levels of them.
 #[cycle(writing)]
 fn write_kids<L: Look>(
     alloc: Global,
     look: &L,
     writer: &mut Writer,
     path: &Path,
-    res: &Res,
+    res: &Res<'_>,
     depth: u32,
-) -> Mem<()>
-    ensures { OnOk result (Adds writer.old writer.new (kids_tokens (L.seen look.now) depth path.now res.now res.now.kids)) }
+    room: usize,
+) -> Mem<Option<usize>>
+    ensures { IfOk result (λ left. Spends room left writer.old writer.new (below_tokens (L.seen look.now) depth path.now res.now)) }
 {
-    for name in res.kids.as_slice() {
-        if let Some(kid) = kid_of(alloc, look, path, res, name.text())? {
-            writer.key(name.text())?;
-            write_resource(alloc, look, writer, &kid.path, &kid.res, depth)?;
-        }
+    if depth == 0 {
+        return Ok(Some(room));
     }
-    Ok(())
+    let mut left = room;
+    for name in res.kids() {
+        let rest = write_kid(alloc, look, writer, path, res, name.text(), depth - 1, left)?;
+        let Some(rest) = rest else {
+            return Ok(None);
+        };
+        left = rest;
+    }
+    Ok(Some(left))
 }
 
-/// The compact text of a resource and so many levels below it.
-pub(crate) fn json_text<L: Look>(alloc: Global, look: &L, res: &Res, depth: u32) -> Mem<TextBuf>
-    ensures { IfOk result (λ t. t ≡ json_text (L.seen look.now) depth res.now) }
+/// The compact text of a resource and so many levels below it, where it is short enough.
+pub(crate) fn text_answer<L: Look>(
+    alloc: Global,
+    look: &L,
+    res: &Res<'_>,
+    depth: u32,
+    most_bytes: usize,
+) -> Mem<JsonAnswer>
+    ensures value { IfOk result (λ answer. answer ≡ text_within most_bytes (json_text (L.seen look.now) depth res.now)) }
+    ensures reads_back { IfOk result (ReadsAs (resource_json (L.seen look.now) depth res.now.path res.now)) }
 {
     let mut writer = Writer::new(Vec::new(alloc));
-    write_resource(alloc, look, &mut writer, &res.path, res, depth)?;
+    let Some(_) = write_resource(alloc, look, &mut writer, res.path(), res, depth, most_bytes)?
+    else {
+        return Ok(JsonAnswer::TooLong);
+    };
     let text = String::from_utf8(writer.into_inner()).unwrap();
-    Ok(TextBuf::from(text))
+    if text.len() > most_bytes {
+        return Ok(JsonAnswer::TooLong);
+    }
+    Ok(JsonAnswer::Whole(TextBuf::from(text)))
 }

@@ -1,7 +1,7 @@
 use Rattle.std.proofs.Common.{◌≡◌, ◌+◌, ◌-◌, ◌<◌, ◌≤◌, subst, sym, ◌∙◌, arith}
 use Rattle.std.proofs.lemmas.Bool.{ltb-true}
 use Rattle.get_servlet.specs.Rendering.{shown}
-use Rattle.get_servlet.proofs.RenderingLemmas.{over_is, greatest_from_over}
+use Rattle.get_servlet.proofs.CountLemmas.{over_is, greatest_from_over}
 use Rattle.get_servlet.proofs.measure.greatest_fitting.Goals as goal
 
 pub returns-then-branch : goal.returns-then-branch

@@ -1,56 +1,116 @@
-use Rattle.std.proofs.Common.{◌+◌, ◌-◌, ◌∷◌, ◌++◌, [], take, sym, ◌∙◌, ap, subst, arith}
-use Rattle.json.specs.Token.{Token}
-use Rattle.property_json.specs.PropertyJson.{Adds}
-use Rattle.get_servlet.specs.Rendering.{json_at, kids_tokens}
-use Rattle.get_servlet.proofs.RenderingLemmas.{top_tokens, deep_tokens, object_written, nothing_written, kids_tokens-nil, kid_more, kid_written, kid_adds, no_kid_adds}
+use Rattle.std.proofs.Common.{◌≡◌, ◌+◌, ◌-◌, ◌<◌, ◌≤◌, ◌++◌, List, ℕ, Option, Some, None, length, take, subst, sym, ◌∙◌, ap, arith}
+use Rattle.std.proofs.lemmas.List.{take_all}
+use Rattle.std.proofs.lemmas.Result.{IfOk-weaker}
+use Rattle.json.specs.Tree.{json_tokens}
+use Rattle.get_servlet.specs.Rendering.{shown_kid, resource_json}
+use Rattle.get_servlet.specs.Steps.{kid_tokens, kids_tokens, below_tokens, bytes_in, Spends}
+use Rattle.property_json.specs.PropertyJson.{property_tokens}
+use Rattle.get_servlet.proofs.WritingLemmas.{no_room, no_room_below, object_written, kid_no_room, kid_written, below_none, below_some, kids_tokens-nil, nothing_written, name_more, kids_more, kids_taken, more_spent, none_spent}
 use Rattle.get_servlet.proofs.writing.+writing.Goals as goal
-use Rattle.get_servlet.proofs.writing.+writing.Goals.{write_kids-in-Some+in_ok-key+in_ok-write_resource, write_kids-in_default}
-use Rattle.get_servlet.proofs.writing.+writing.Goals.{write_resource-then-depth-gt0+in_ok-write_kids, write_resource-else-depth-gt0}
+
+pub write_kid-returns-in_default-checked_sub : goal.write_kid-returns-in_default-checked_sub
+write_kid-returns-in_default-checked_sub g t c =
+    let json = resource_json (g.L.Look.seen c.args.look.now) c.args.depth in
+    let there = sym c.in-Some.is ∙ c.in_ok-kid.ensures in
+    subst (λ k. c.args.room < bytes_in (kid_tokens c.args.name.now json k)) there
+    (kid_no_room c.args.room c.args.name.now json c.in-Some.kid (omega (arith, c.in_default-checked_sub.ensures)))
+
+pub write_kid-returns : goal.write_kid-returns
+write_kid-returns g t c =
+    let json = resource_json (g.L.Look.seen c.args.look.now) c.args.depth in
+    let old = c.args.writer.now in
+    let new = c.write_resource.new.writer in
+    let there = sym c.in-Some.is ∙ c.in_ok-kid.ensures in
+    let is : c.in-Some-checked_sub.room + length c.args.name.now ≡ c.args.room = omega (arith, c.in-Some-checked_sub.ensures) in
+    IfOk-weaker c.write_resource.result _ _
+    (λ left s. subst (λ k. Spends c.args.room left old new (kid_tokens c.args.name.now json k)) there
+    (kid_written c.args.room c.in-Some-checked_sub.room left c.args.name.now (json_tokens (json c.in-Some.kid.path c.in-Some.kid.res)) old c.key.new.self new is c.in_ok-key.ensures.ok c.in_ok-key.ensures.room.0 s))
+    c.write_resource.ensures
+
+pub write_kids-returns-then-depth-eq0 : goal.write_kids-returns-then-depth-eq0
+write_kids-returns-then-depth-eq0 g t c =
+    subst (Spends c.args.room (Some c.args.room) c.args.writer.now c.args.writer.now)
+    (sym (below_none (g.L.Look.seen c.args.look.now) c.args.depth c.args.path.now c.args.res.now c.if-depth-eq0.true)) (nothing_written c.args.room c.args.writer.now)
 
 pub write_kids-loop-name-init : goal.write_kids-loop-name-init
 write_kids-loop-name-init g t c =
-    subst (Adds c.args.writer.now c.args.writer.now) (sym (kids_tokens-nil (g.L.Look.seen c.args.look.now) c.args.depth c.args.path.now c.args.res.now)) (nothing_written c.args.writer.now)
+    subst (Spends c.args.room (Some c.args.room) c.args.writer.now c.args.writer.now)
+    (sym (kids_tokens-nil (g.L.Look.seen c.args.look.now) (c.args.depth - 1) c.args.path.now c.args.res.now)) (nothing_written c.args.room c.args.writer.now)
+
+pub write_kids-returns-in_default : goal.write_kids-returns-in_default
+write_kids-returns-in_default g t c =
+    let seen = g.L.Look.seen c.args.look.now in
+    let path = c.args.path.now in
+    let res = c.args.res.now in
+    let names = res.kids in
+    let i = c.loop-name.name-index in
+    let text = c.text.result.now in
+    let depth = c.args.depth - 1 in
+    let mid = c.loop-name.writer in
+    let new = c.write_kid.new.writer in
+    let ts = kid_tokens text (resource_json seen depth) (shown_kid seen path res text) in
+    let first = kids_tokens seen depth path res (take i names) in
+    let more = name_more c.kids-name-items.result.now names i c.name-item.result c.kids-name-items.ensures (omega arith) c.name-item.is in
+    let tokens = kids_more seen depth path res (take i names) (take (i + 1) names) c.name-item.result text more c.text.ensures in
+    let over = subst (λ (o : Option ℕ). Spends c.loop-name.left o mid new ts) c.in_default.is c.in_ok-rest.ensures in
+    let below = below_some seen c.args.depth depth path res (omega (arith, c.if-depth-eq0.false)) in
+    omega (arith, none_spent c.args.room c.loop-name.left c.args.writer.now mid new first ts c.loop-name.invariant over, ap bytes_in tokens, kids_taken seen depth path res (i + 1), ap bytes_in below)
 
 pub write_kids-loop-name-preserved : goal.write_kids-loop-name-preserved
 write_kids-loop-name-preserved g t c =
     let seen = g.L.Look.seen c.args.look.now in
-    let json = json_at seen c.args.depth in
-    let names = c.args.res.now.kids in
+    let path = c.args.path.now in
+    let res = c.args.res.now in
+    let names = res.kids in
     let i = c.loop-name.name-index in
-    let item = c.name-item.result in
-    let old = c.args.writer.now in
-    let front = kids_tokens seen c.args.depth c.args.path.now c.args.res.now (take i names) in
-    let more = kid_more c.as_slice-name-items.result.now names i item c.as_slice-name-items.ensures (omega arith) c.name-item.is in
-    let written = kid_written seen c.args.depth c.args.path.now c.args.res.now (take i names) (take (i + 1) names) item c.text.result.now c.in_ok-kid.field-0 more c.text.ensures c.in_ok-kid.ensures in
-    subst (Adds old c.match-branch-2.writer) (sym written) (elim c.match-branch-2.branch [
-      | write_kids-in-Some+in_ok-key+in_ok-write_resource w ↦
-          let mid = c.loop-name.writer in
-          let key = w.in_ok-key.ensures.ok ∙ ap (λ n. mid.tokens ++ Token.key n ∷ []) w.text-in-Some.ensures in
-          let adds = kid_adds old mid w.key.new.self w.write_resource.new.writer front item json w.in-Some.kid c.loop-name.invariant key w.in_ok-key.ensures.room.0 w.in_ok-write_resource.ensures in
-          rw (w.writer-is, w.in-Some.is) adds
-      | write_kids-in_default w ↦ rw (w.writer-is, w.in_default.is) (no_kid_adds old c.loop-name.writer front item json c.loop-name.invariant)
-    ])
+    let text = c.text.result.now in
+    let depth = c.args.depth - 1 in
+    let mid = c.loop-name.writer in
+    let new = c.write_kid.new.writer in
+    let ts = kid_tokens text (resource_json seen depth) (shown_kid seen path res text) in
+    let first = kids_tokens seen depth path res (take i names) in
+    let more = name_more c.kids-name-items.result.now names i c.name-item.result c.kids-name-items.ensures (omega arith) c.name-item.is in
+    let tokens = kids_more seen depth path res (take i names) (take (i + 1) names) c.name-item.result text more c.text.ensures in
+    let spent = subst (λ (o : Option ℕ). Spends c.loop-name.left o mid new ts) c.in-Some.is c.in_ok-rest.ensures in
+    subst (Spends c.args.room (Some c.in-Some.rest) c.args.writer.now new) (sym tokens)
+    (more_spent c.args.room c.loop-name.left c.in-Some.rest c.args.writer.now mid new first ts c.loop-name.invariant spent)
+
+pub write_kids-returns : goal.write_kids-returns
+write_kids-returns g t c =
+    let seen = g.L.Look.seen c.args.look.now in
+    let path = c.args.path.now in
+    let res = c.args.res.now in
+    let i = c.loop-name.name-index in
+    let depth = c.args.depth - 1 in
+    let le : length res.kids ≤ i = omega (arith, ap length c.kids-name-items.ensures, c.loop-name-test.false) in
+    let below = below_some seen c.args.depth depth path res (omega (arith, c.if-depth-eq0.false)) in
+    subst (Spends c.args.room (Some c.loop-name.left) c.args.writer.now c.loop-name.writer) (sym below)
+    (subst (λ (names : List (List ℕ)). Spends c.args.room (Some c.loop-name.left) c.args.writer.now c.loop-name.writer (kids_tokens seen depth path res names)) (take_all i res.kids le) c.loop-name.invariant)
+
+pub write_resource-returns-in_default : goal.write_resource-returns-in_default
+write_resource-returns-in_default g t c =
+    let some = subst (λ ps. c.properties_bytes.result ≤ bytes_in (property_tokens ps)) c.props.ensures c.properties_bytes.ensures in
+    no_room (g.L.Look.seen c.args.look.now) c.args.depth c.args.room c.properties_bytes.result c.args.path.now c.args.res.now some (omega (arith, c.in_default.ensures))
+
+pub write_resource-returns-in_default-2 : goal.write_resource-returns-in_default-2
+write_resource-returns-in_default-2 g t c =
+    let seen = g.L.Look.seen c.args.look.now in
+    let path = c.args.path.now in
+    let res = c.args.res.now in
+    let some = subst (λ ps. c.properties_bytes.result ≤ bytes_in (property_tokens ps)) c.props.ensures c.properties_bytes.ensures in
+    let over = subst (λ (o : Option ℕ). Spends c.in-Some.room o c.write_properties.new.writer c.write_kids.new.writer (below_tokens seen c.args.depth path res)) c.in_default-2.is c.in_ok-left.ensures in
+    no_room_below seen c.args.depth c.args.room c.properties_bytes.result c.in-Some.room path res some (omega (arith, c.in-Some.ensures)) over
 
 pub write_resource-returns : goal.write_resource-returns
 write_resource-returns g t c =
     let seen = g.L.Look.seen c.args.look.now in
-    let old = c.args.writer.now in
-    let begun = c.begin_object.new.self in
-    let mid = c.write_properties.new.writer in
-    let end = c.end_object.new.self in
-    let low = c.if-depth-gt0.writer in
     let path = c.args.path.now in
     let res = c.args.res.now in
-    elim c.if-depth-gt0.branch [
-      | write_resource-then-depth-gt0+in_ok-write_kids w ↦
-          let tokens = deep_tokens seen c.args.depth (c.args.depth - 1) path res (omega (arith, w.if-depth-gt0)) in
-          let ts = kids_tokens seen (c.args.depth - 1) path res res.kids in
-          let below : Adds mid low ts = subst (λ l. Adds mid l ts) (sym w.writer-is) w.in_ok-write_kids.ensures in
-          subst (Adds old end) (sym tokens)
-          (object_written old begun mid low end res ts c.in_ok-begin_object.ensures.ok c.in_ok-begin_object.ensures.room.0 c.in_ok-write_properties.ensures.tokens below c.in_ok-end_object.ensures.ok c.in_ok-end_object.ensures.room.0)
-      | write_resource-else-depth-gt0 w ↦
-          let tokens = top_tokens seen c.args.depth path res (omega (arith, w.if-depth-gt0)) in
-          let below : Adds mid low [] = subst (λ l. Adds mid l []) (sym w.writer-is) (nothing_written mid) in
-          subst (Adds old end) (sym tokens)
-          (object_written old begun mid low end res [] c.in_ok-begin_object.ensures.ok c.in_ok-begin_object.ensures.room.0 c.in_ok-write_properties.ensures.tokens below c.in_ok-end_object.ensures.ok c.in_ok-end_object.ensures.room.0)
-    ]
+    let begun = c.begin_object.new.self in
+    let mid = c.write_properties.new.writer in
+    let low = c.write_kids.new.writer in
+    let some = subst (λ ps. c.properties_bytes.result ≤ bytes_in (property_tokens ps)) c.props.ensures c.properties_bytes.ensures in
+    let spent = subst (λ (o : Option ℕ). Spends c.in-Some.room o mid low (below_tokens seen c.args.depth path res)) c.in-Some-2.is c.in_ok-left.ensures in
+    let props = rw c.props-2.ensures at c.in_ok-write_properties.ensures.tokens in
+    object_written seen c.args.depth c.args.room c.properties_bytes.result c.in-Some.room c.in-Some-2.left path res c.args.writer.now begun mid low c.end_object.new.self
+    some (omega (arith, c.in-Some.ensures)) c.in_ok-begin_object.ensures.ok c.in_ok-begin_object.ensures.room.0 props spent c.in_ok-end_object.ensures.ok c.in_ok-end_object.ensures.room.0

@@ -1,15 +1,17 @@
-use Rattle.std.proofs.Common.{◌+◌, ◌*◌, take}
-use Rattle.property_json.specs.PropertyJson.{Adds}
-use Rattle.get_servlet.specs.Rendering.{kids_tokens}
+use Rattle.std.proofs.Common.{◌+◌, ◌-◌, ◌*◌, Some, take}
+use Rattle.get_servlet.specs.Steps.{kids_tokens, Spends}
 use Rattle.get_servlet.proofs.writing.+writing.Given as goal
 
 -- the kids so far are written
 abbrev pub invariant-write_kids-loop-name : goal.invariant-write_kids-loop-name
-invariant-write_kids-loop-name g l = Adds l.fn.writer l.writer (kids_tokens (g.L.Look.seen l.look) l.depth l.path l.res (take l.name-index l.res.kids))
+invariant-write_kids-loop-name g l = Spends l.room (Some l.left) l.fn.writer l.writer (kids_tokens (g.L.Look.seen l.look) (l.depth - 1) l.path l.res (take l.name-index l.res.kids))
 
 -- the levels that are left fall with each kid
-abbrev pub decreases-write_resource : goal.decreases-write_resource
-decreases-write_resource g l = 2 * l.depth
-
 abbrev pub decreases-write_kids : goal.decreases-write_kids
-decreases-write_kids g l = 2 * l.depth + 1
+decreases-write_kids g l = 3 * l.depth
+
+abbrev pub decreases-write_resource : goal.decreases-write_resource
+decreases-write_resource g l = 3 * l.depth + 1
+
+abbrev pub decreases-write_kid : goal.decreases-write_kid
+decreases-write_kid g l = 3 * l.depth + 2

@@ -11,4 +11,5 @@ pub mod KidOrder
 pub mod Reordering
 pub mod Under
 pub mod UnderRow
+pub mod PartLemmas
 pub mod Removal

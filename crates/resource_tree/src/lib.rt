@@ -12,6 +12,7 @@ mod look;
 mod node_map;
 mod nodes;
 mod order;
+mod part;
 mod patch;
 mod places;
 mod properties;

@@ -1,5 +1,5 @@
 // A node that is removed with all below it.
-ghost use Rattle.std.specs.Prelude.{◌≡◌, ◌≢◌, ℕ, List, None, Some, OnOk, OnErr, IfOk, IfErr, is_some, ◌&&◌};
+ghost use Rattle.std.specs.Prelude.{◌≡◌, ◌≢◌, ℕ, List, None, Some, OnOk, OnErr, IfErr, is_some, ◌&&◌};
 ghost use Rattle.std.specs.List.{list_any};
 ghost use Rattle.std.specs.List.Sorted.{IsStrictlySortedBy};
 ghost use Rattle.std.specs.Map.{keys_of};
@@ -10,6 +10,7 @@ ghost use Rattle.resource_tree.specs.Changes.{fixed_fault, removal, removal_at, 
 use crate::create::last_segment;
 use crate::kids::other_kids;
 use crate::order::{kids_at, set_kids};
+use crate::part::paths_under;
 use crate::table::Nodes;
 use crate::{Tree, TreeFault};
 use sp_base::{Mem, Path, TextList};
@@ -35,19 +36,6 @@ impl Tree {
         drop_nodes(&mut self.nodes, path, &paths);
         Ok(())
     }
-}
-
-// The paths of the nodes at a path and under it, in no order.
-fn paths_under(nodes: &Nodes, alloc: Global, path: &Path) -> Mem<Vec<Path>>
-    ensures { IfOk result (λ paths. (q : List (List ℕ)) → list_any (same_path q) paths.items ≡ (is_some (node_at nodes.now.entries q) && is_under q path.now)) }
-{
-    let mut paths = Vec::new(alloc);
-    for (below, _) in &nodes.map {
-        if below.is_under(path) {
-            paths.push(below.duplicate(alloc)?)?;
-        }
-    }
-    Ok(paths)
 }
 
 // Takes the nodes at a path and under it away, whose paths are given.

@@ -1,0 +1,60 @@
+// The paths of a part of a tree: of a node and all below it, found by the kids' names.
+ghost use Rattle.std.specs.Prelude.{◌≡◌, ◌++◌, ◌&&◌, ℕ, List, IfOk, OnOk, map, is_some, true};
+ghost use Rattle.std.specs.List.{list_any};
+ghost use Rattle.sp_base.specs.Paths.{is_under};
+ghost use Rattle.resource_tree.specs.Content.{IsTree, kid, node_at, same_path};
+ghost use Rattle.resource_tree.specs.Changes.{kids_at};
+ghost use Rattle.resource_tree.specs.Parts.{kids_below};
+
+use crate::order::kids_at;
+use crate::table::Nodes;
+use sp_base::{Mem, NoMemory, Path};
+use std::alloc::Global;
+
+/// The most levels of a tree: the root's, and one for each segment of a path.
+const MOST_LEVELS: usize = 65;
+
+// The paths of the nodes at a path and under it.
+pub(crate) fn paths_under(nodes: &Nodes, alloc: Global, path: &Path) -> Mem<Vec<Path>>
+    requires tree { IsTree (node_at nodes.now.entries) }
+    requires there { is_some (node_at nodes.now.entries path.now) ≡ true }
+    ensures { IfOk result (λ paths. (q : List (List ℕ)) → list_any (same_path q) paths.items ≡ (is_some (node_at nodes.now.entries q) && is_under q path.now)) }
+{
+    let mut paths = Vec::new(alloc);
+    let mut level = Vec::new(alloc);
+    level.push(path.duplicate(alloc)?)?;
+    for _ in 0..MOST_LEVELS {
+        let next = paths_of_kids(nodes, alloc, &level)?;
+        paths.append(&mut level)?;
+        level = next;
+    }
+    Ok(paths)
+}
+
+// The paths of the kids of the nodes at some paths.
+fn paths_of_kids(nodes: &Nodes, alloc: Global, level: &[Path]) -> Mem<Vec<Path>>
+    requires { IsTree (node_at nodes.now.entries) }
+    ensures { IfOk result (λ paths. paths.items ≡ kids_below nodes.now.entries level.now) }
+{
+    let mut paths = Vec::new(alloc);
+    for path in level {
+        push_kids(nodes, alloc, path, &mut paths)?;
+    }
+    Ok(paths)
+}
+
+// Adds the paths of the kids of the node at a path.
+fn push_kids(nodes: &Nodes, alloc: Global, path: &Path, paths: &mut Vec<Path>) -> Mem<()>
+    requires { IsTree (node_at nodes.now.entries) }
+    ensures { OnOk result (paths.new.items ≡ paths.old.items ++ map (kid path.now) (kids_at nodes.now.entries path.now)) }
+{
+    let names = kids_at(nodes, path);
+    for name in names {
+        match path.child(alloc, name.text()) {
+            Ok(below) => paths.push(below)?,
+            // In a tree each kid has a path, so this is a lack of memory.
+            Err(_) => return Err(NoMemory),
+        }
+    }
+    Ok(())
+}

@@ -8,7 +8,8 @@ use Rattle.std.proofs.lemmas.Option.{slice_get-get_or, slice_get_past}
 use Rattle.std.specs.List.{list_all, list_any, onto_first}
 use Rattle.sp_base.specs.declared.path.PathFault.{PathFault}
 use Rattle.sp_base.specs.declared.path.PathFault.TheVariants.{NotAbsolute}
-use Rattle.sp_base.specs.Paths.{has_slash, is_empty, pieces, segs_in, seg_ok, is_path, path_of, text_of, checked, unless_fault, fault_of, path_or_none, spelled}
+use Rattle.sp_base.specs.Paths.{has_slash, is_empty, pieces, seg_ok, is_path, path_of, text_of, checked, unless_fault, fault_of, path_or_none}
+use Rattle.sp_base.specs.PathTexts.{segs_in, spelled}
 use Rattle.sp_base.proofs.PathLemmas.{lacks_slash, pieces_whole, pieces_lack, path_from, path_pieces, path_ok, made_is, no_fault, small_back, second, true_test, test_eq, not_is}
 use Rattle.sp_base.proofs.PathText.{pieces-spelled, spelled-pieces, segs_in-spelled, slash_then}
 

@@ -9,7 +9,8 @@ use Rattle.std.proofs.lemmas.List.Folds.{length-flat_map-take}
 use Rattle.std.specs.Cmp.Lexicographic.{bytes_decides, pointwise}
 use Rattle.std.specs.List.{list_all, starts_with}
 use Rattle.sp_base.specs.declared.path.PathFault.{PathFault}
-use Rattle.sp_base.specs.Paths.{is_empty, pieces, is_path, path_of, parent_of, text_of, is_under, checked, unless_fault, fault_of, spelled, has_slash}
+use Rattle.sp_base.specs.Paths.{is_empty, pieces, is_path, path_of, parent_of, text_of, is_under, checked, unless_fault, fault_of, has_slash}
+use Rattle.sp_base.specs.PathTexts.{spelled}
 use Rattle.sp_base.proofs.PathLemmas.{lacks_slash, path_pieces, made_is, all-append, all-take, both, not_is, is_not, first, second, or_first, or_second}
 use Rattle.sp_base.proofs.PathText.{pieces-spelled}
 

@@ -7,7 +7,7 @@ use Rattle.std.specs.Cmp.Lexicographic.{bytes_decides}
 use Rattle.std.specs.List.{list_all, list_any, position, position_from, onto_first, starts_with}
 use Rattle.std.specs.Option.{MatchOption, IfNone}
 use Rattle.sp_base.specs.declared.path.PathFault.{PathFault}
-use Rattle.sp_base.specs.declared.path.PathFault.TheVariants.{NotAbsolute, EmptySegment, DotSegment, TooDeep}
+use Rattle.sp_base.specs.declared.path.PathFault.TheVariants.{EmptySegment, DotSegment, TooDeep}
 use Rattle.sp_base.specs.Paths.{seg_ok, is_empty, is_dots, is_long, has_slash, pieces, fault_of, size_fault, is_path, path_of, child_of, checked, unless_fault, is_mangled, unmangled_by, unmangled_seg}
 
 pub both : (a b : Bool) → T a → T b → T (a && b)

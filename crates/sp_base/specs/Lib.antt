@@ -1,4 +1,6 @@
 pub mod Names
 pub mod Properties
+pub mod PropertyPlaces
 pub mod Paths
+pub mod PathTexts
 pub mod Typed

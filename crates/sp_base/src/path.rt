@@ -3,7 +3,8 @@ ghost use Rattle.std.specs.Cmp.{partial_equiv_from_equiv, partial_order_from_agr
 ghost use Rattle.std.specs.Cmp.Lexicographic.{slice_cmp, lists_total, nat_list_cmp_total};
 ghost use Rattle.std.specs.Ordering.{nat_cmp, eq_by_cmp};
 ghost use Rattle.std.proofs.lemmas.Cmp.{eq_by_cmp_equiv};
-ghost use Rattle.sp_base.specs.Paths.{seg_ok, path_of, child_of, join_of, parent_of, text_of, unmangled, is_under, is_path, fault_of, checked, segs_in, spelled};
+ghost use Rattle.sp_base.specs.Paths.{seg_ok, path_of, child_of, join_of, parent_of, text_of, unmangled, is_under, is_path, fault_of, checked};
+ghost use Rattle.sp_base.specs.PathTexts.{segs_in, spelled};
 ghost use Rattle.sp_base.specs.declared.path.PathFault.TheVariants.{NoMemory as no_memory};
 
 use crate::order::text_order;
@@ -68,7 +69,7 @@ impl Model for Path {
 
     ghost Value = { List (List ℕ) };
 
-    ghost use Rattle.sp_base.specs.Paths.{segs_in, IsPathText};
+    ghost use Rattle.sp_base.specs.PathTexts.{segs_in, IsPathText};
 
     ghost view = { λ p. segs_in (string_bytes p.text) };
 

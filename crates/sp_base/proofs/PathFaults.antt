@@ -8,7 +8,8 @@ use Rattle.std.proofs.lemmas.List.Sums.{count_by-le-length}
 use Rattle.std.specs.List.{list_any, position, position_from, position_or_len}
 use Rattle.std.specs.Option.{option_map}
 use Rattle.sp_base.specs.declared.path.PathFault.TheVariants.{EmptySegment, DotSegment}
-use Rattle.sp_base.specs.Paths.{is_empty, is_dots, is_long, pieces, fault_of, fault_behind, size_fault, is_path}
+use Rattle.sp_base.specs.Paths.{is_empty, is_dots, is_long, pieces, fault_of, size_fault, is_path}
+use Rattle.sp_base.specs.PathTexts.{fault_behind}
 use Rattle.sp_base.proofs.PathLemmas.{or_first, or_second, none_empty, none_dots, none_long, all_short, path_ok}
 
 pub position-shift : (n m : ℕ) (parts : List (List ℕ)) → position_from is_long (n + m) parts ≡ option_map (λ i. n + i) (position_from is_long m parts)

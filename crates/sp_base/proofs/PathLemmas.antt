@@ -7,7 +7,7 @@ use Rattle.std.specs.Cmp.Lexicographic.{bytes_decides}
 use Rattle.std.specs.List.{list_all, list_any, position, position_from, onto_first, starts_with}
 use Rattle.std.specs.Option.{MatchOption, IfNone}
 use Rattle.sp_base.specs.declared.path.PathFault.{PathFault}
-use Rattle.sp_base.specs.declared.path.PathFault.TheVariants.{NotAbsolute, EmptySegment, DotSegment, TooDeep}
+use Rattle.sp_base.specs.declared.path.PathFault.TheVariants.{EmptySegment, DotSegment, TooDeep}
 use Rattle.sp_base.specs.Paths.{seg_ok, is_empty, is_dots, is_long, has_slash, pieces, fault_of, size_fault, is_path, path_of, child_of, checked, unless_fault, is_mangled, unmangled_by, unmangled_seg}
 
 pub both : (a b : Bool) → T a → T b → T (a && b)
@@ -137,19 +137,8 @@ path_from segs h none =
 pub test_eq : (a b : ℕ) → (a == b) ≡ true → a ≡ b
 test_eq a b e = grind (arith, nat_tests)
 
-pub not_absolute : (text : List ℕ) → ((rest : List ℕ) → text ≢ 47 ∷ rest) → path_of text ≡ Err NotAbsolute
-not_absolute [] none = refl
-not_absolute (b ∷ text) none =
-    elim (b == 47) as (λ t. (b == 47) ≡ t → cond t (cond (is_empty text) (Ok []) (checked (pieces text))) (Err NotAbsolute) ≡ Err NotAbsolute) [
-      | true ↦ λ e. absurd (none text (ap (λ n. n ∷ text) (test_eq b 47 e)))
-      | false ↦ λ e. refl
-    ] refl
-
 pub of_pieces : (text rest : List ℕ) → text ≡ 47 ∷ rest → is_empty rest ≡ false → path_of text ≡ checked (pieces rest)
 of_pieces text rest e full = ap path_of e ∙ ap (λ t. cond t (Ok []) (checked (pieces rest))) full
-
-pub of_root : (text rest : List ℕ) → text ≡ 47 ∷ rest → is_empty rest ≡ true → path_of text ≡ Ok []
-of_root text rest e none = ap path_of e ∙ ap (λ t. cond t (Ok []) (checked (pieces rest))) none
 
 -- a text without a slash is its one piece
 pub pieces_whole : (name : List ℕ) → has_slash name ≡ false → pieces name ≡ name ∷ []

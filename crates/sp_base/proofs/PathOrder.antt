@@ -7,7 +7,8 @@ use Rattle.std.specs.Cmp.Lexicographic.{slice_cmp, pointwise}
 use Rattle.std.specs.List.{onto_first, starts_with}
 use Rattle.std.specs.Ordering.{nat_cmp, ordering_then}
 use Rattle.std.specs.declared.cmp.Ordering.TheVariants.{Less, Equal, Greater}
-use Rattle.sp_base.specs.Paths.{pieces, segs_in, spelled, by_path, text_order, byte_order, ends_segment, text_under, is_under}
+use Rattle.sp_base.specs.Paths.{pieces, by_path, is_under}
+use Rattle.sp_base.specs.PathTexts.{segs_in, spelled, text_order, byte_order, ends_segment, text_under}
 use Rattle.sp_base.proofs.PathText.{pieces_of}
 
 some_piece : (text : List ℕ) → 0 < length (pieces text)
@@ -23,10 +24,6 @@ decided : (o s t : Ordering) → o ≢ Equal → ordering_then (ordering_then o 
 decided Less s t h = refl
 decided Equal s t h = absurd (h refl)
 decided Greater s t h = refl
-
--- the pieces of a text with one byte more in front, where a is whether it is a slash
-with_byte : Bool → ℕ → List ℕ → List (List ℕ) → List (List ℕ)
-with_byte a x p ps = cond a ([] ∷ p ∷ ps) ((x ∷ p) ∷ ps)
 
 step_cases : (x y : ℕ) (p : List ℕ) (ps : List (List ℕ)) (q : List ℕ) (qs : List (List ℕ)) (r : Ordering) (a b e : Bool) → (x == 47) ≡ a → (y == 47) ≡ b → (x == y) ≡ e → by_path (p ∷ ps) (q ∷ qs) ≡ r
     → by_path (cond a ([] ∷ p ∷ ps) ((x ∷ p) ∷ ps)) (cond b ([] ∷ q ∷ qs) ((y ∷ q) ∷ qs)) ≡ cond e r (cond a Less (cond b Greater (nat_cmp x y)))

@@ -1,16 +1,17 @@
 -- The last segment of a path's text, and how a path and its text give each other.
-use Rattle.std.proofs.Common.{◌≡◌, ◌≢◌, ◌<◌, ◌≤◌, ◌-◌, ◌+◌, ◌==◌, ◌||◌, ◌++◌, ◌∷◌, [], List, ℕ, zero, suc, Bool, true, false, cond, T, Option, Some, None, Result, Ok, Err, length, length-append, take, drop, get_or, slice_get, refl, sym, ◌∙◌, ap, subst, arith, nat_le, ◌&&◌, codes}
+use Rattle.std.proofs.Common.{◌≡◌, ◌≢◌, ◌<◌, ◌-◌, ◌+◌, ◌==◌, ◌||◌, ◌++◌, ◌∷◌, [], List, ℕ, zero, suc, Bool, true, false, cond, T, Option, Some, None, Ok, Err, length, length-append, take, drop, get_or, slice_get, refl, sym, ◌∙◌, ap, arith, ◌&&◌}
 use Rattle.std.proofs.Math.Seq.{drop-cons, get_or-append_seam}
 use Rattle.std.proofs.lemmas.Bool.Decides.{nat_tests}
 use Rattle.std.proofs.lemmas.List.{take-append-drop, get_or-drop}
 use Rattle.std.proofs.lemmas.List.Splits.{length-slice_split}
-use Rattle.std.proofs.lemmas.Option.{slice_get-get_or, slice_get_past}
-use Rattle.std.specs.List.{list_all, list_any, onto_first}
+use Rattle.std.proofs.lemmas.Option.{slice_get-get_or}
+use Rattle.std.specs.List.{list_all, onto_first}
 use Rattle.sp_base.specs.declared.path.PathFault.{PathFault}
 use Rattle.sp_base.specs.declared.path.PathFault.TheVariants.{NotAbsolute}
-use Rattle.sp_base.specs.Paths.{has_slash, is_empty, pieces, segs_in, seg_ok, is_path, path_of, text_of, checked, unless_fault, fault_of, path_or_none, spelled}
-use Rattle.sp_base.proofs.PathLemmas.{lacks_slash, pieces_whole, pieces_lack, path_from, path_pieces, path_ok, made_is, no_fault, small_back, second, true_test, test_eq, not_is}
-use Rattle.sp_base.proofs.PathText.{pieces-spelled, spelled-pieces, segs_in-spelled, slash_then}
+use Rattle.sp_base.specs.Paths.{has_slash, is_empty, pieces, seg_ok, is_path, path_of, text_of, checked, unless_fault, fault_of, path_or_none}
+use Rattle.sp_base.specs.PathTexts.{segs_in, spelled}
+use Rattle.sp_base.proofs.PathLemmas.{lacks_slash, pieces_whole, pieces_lack, path_from, path_pieces, path_ok, made_is, no_fault, small_back, second, true_test, test_eq}
+use Rattle.sp_base.proofs.PathText.{pieces-spelled, spelled-pieces}
 
 -- ---- the last segment
 

@@ -1,5 +1,5 @@
 -- The prefixes of a path's text that read as paths.
-use Rattle.std.proofs.Common.{◌≡◌, ◌<◌, ◌≤◌, ◌-◌, ◌+◌, ◌++◌, ◌∷◌, [], List, ℕ, lit<, zero, suc, Bool, true, false, cond, T, IsTrue, Option, Some, None, Result, Ok, Err, length, length-append, take, drop, get_or, nat_eq, refl, sym, ◌∙◌, ap, subst, arith, ◌⊎◌, inl, inr, ⊎_elim, ◌==◌, ◌&&◌, ◌||◌, codes}
+use Rattle.std.proofs.Common.{◌≡◌, ◌<◌, ◌≤◌, ◌-◌, ◌+◌, ◌++◌, ◌∷◌, [], List, ℕ, lit<, zero, suc, Bool, true, false, cond, T, None, Ok, length, length-append, take, drop, get_or, nat_eq, refl, sym, ◌∙◌, ap, arith, ◌⊎◌, inl, inr, ⊎_elim, ◌==◌, ◌&&◌, ◌||◌, codes}
 use Rattle.std.proofs.Math.Seq.{get_or-append_seam, take-append-add, take-append_seam}
 use Rattle.std.proofs.lemmas.Bool.{cases_lt}
 use Rattle.std.proofs.lemmas.Bool.Decides.{nat_tests}
@@ -7,9 +7,9 @@ use Rattle.std.proofs.lemmas.List.{append-nil, take-append-drop, take-append-le,
 use Rattle.std.proofs.lemmas.List.Concat.{flat_map-append}
 use Rattle.std.proofs.lemmas.List.Folds.{length-flat_map-take}
 use Rattle.std.specs.Cmp.Lexicographic.{bytes_decides, pointwise}
-use Rattle.std.specs.List.{list_all, starts_with}
-use Rattle.sp_base.specs.declared.path.PathFault.{PathFault}
-use Rattle.sp_base.specs.Paths.{is_empty, pieces, is_path, path_of, parent_of, text_of, is_under, checked, unless_fault, fault_of, spelled, has_slash}
+use Rattle.std.specs.List.{list_all}
+use Rattle.sp_base.specs.Paths.{is_empty, pieces, is_path, path_of, parent_of, text_of, is_under, checked, fault_of, has_slash}
+use Rattle.sp_base.specs.PathTexts.{spelled}
 use Rattle.sp_base.proofs.PathLemmas.{lacks_slash, path_pieces, made_is, all-append, all-take, both, not_is, is_not, first, second, or_first, or_second}
 use Rattle.sp_base.proofs.PathText.{pieces-spelled}
 

@@ -4,7 +4,8 @@ use Rattle.std.proofs.lemmas.List.{flat_map_more, map-append}
 use Rattle.std.proofs.lemmas.List.Concat.{flat_map-append}
 use Rattle.std.proofs.lemmas.List.Splits.{length-slice_split}
 use Rattle.std.specs.List.{list_all, onto_first, count_by}
-use Rattle.sp_base.specs.Paths.{has_slash, pieces, is_path, spelled, segs_in, IsPathText, unmangled, unmangled_seg}
+use Rattle.sp_base.specs.Paths.{has_slash, pieces, is_path, unmangled, unmangled_seg}
+use Rattle.sp_base.specs.PathTexts.{spelled, segs_in, IsPathText}
 use Rattle.sp_base.proofs.PathLemmas.{lacks_slash, path_pieces, pieces_lack, all-append, first, second, not_is, or_first, or_second, test_eq}
 
 -- a slash before each piece of a text is a slash and the text

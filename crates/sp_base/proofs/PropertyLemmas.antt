@@ -14,7 +14,8 @@ use Rattle.std.specs.FinMap.{slice_cmp-IsAntisymmetric, nat_cmp-IsAntisymmetric}
 use Rattle.std.specs.FinMap.Entries.{put, find, is_sorted, below_all, where_key, by_order}
 use Rattle.std.proofs.lemmas.Cmp.{tied_itself}
 use Rattle.sp_base.specs.declared.value.Value.{Value}
-use Rattle.sp_base.specs.Properties.{by_name, all_before, IsAt, IsGap}
+use Rattle.sp_base.specs.Properties.{by_name}
+use Rattle.sp_base.specs.PropertyPlaces.{all_before, IsAt, IsGap}
 
 abbrev Props : Type 0
 Props = List (List ℕ × Value)

@@ -1,5 +1,7 @@
 pub mod Names
 pub mod Properties
+pub mod PropertyPlaces
 pub mod Paths
+pub mod PathTexts
 pub mod Typed
 pub mod PathExact

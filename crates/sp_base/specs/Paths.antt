@@ -1,9 +1,9 @@
-use Rattle.std.specs.Prelude.{◌≡◌, IsTrue, true, ◌==◌, ◌&&◌, ◌||◌, ◌++◌, ◌+◌, ◌-◌, ℕ, Bool, not, nat_eq, nat_lt, nat_le, if◌then◌else◌, List, [], ◌∷◌, Option, Some, None, Result, Ok, Err, codes, drop, take, length, flat_map, map}
-use Rattle.std.specs.List.{list_any, list_all, position, position_from, slice_split, starts_with}
+-- What a path is, the text that spells it, and what is made of one.
+use Rattle.std.specs.Prelude.{◌==◌, ◌&&◌, ◌||◌, ◌++◌, ◌-◌, ℕ, Bool, not, nat_eq, nat_lt, nat_le, if◌then◌else◌, List, [], ◌∷◌, Option, Some, None, Result, Ok, Err, codes, drop, take, length, flat_map, map}
+use Rattle.std.specs.List.{list_any, list_all, position, slice_split, starts_with}
 use Rattle.std.specs.Cmp.Lexicographic.{pointwise, slice_cmp}
 use Rattle.std.specs.Ordering.{nat_cmp}
 use Rattle.std.specs.declared.cmp.Ordering.{Ordering}
-use Rattle.std.specs.declared.cmp.Ordering.TheVariants.{Less, Equal, Greater}
 use Rattle.sp_base.specs.declared.path.PathFault.{PathFault}
 use Rattle.sp_base.specs.declared.path.PathFault.TheVariants.{NotAbsolute, EmptySegment, DotSegment, LongSegment, TooDeep}
 
@@ -53,10 +53,6 @@ size_fault None n = if nat_lt most_segments n then Some TooDeep else None
 abbrev pub fault_of : List (List ℕ) → Option PathFault
 fault_of segs = if list_any is_empty segs then Some EmptySegment else (if list_any is_dots segs then Some DotSegment else size_fault (position is_long segs) (length segs))
 
--- the same of segments of a path and pieces behind them
-abbrev pub fault_behind : ℕ → List (List ℕ) → Option PathFault
-fault_behind before parts = if list_any is_empty parts then Some EmptySegment else (if list_any is_dots parts then Some DotSegment else size_fault (position_from is_long before parts) (before + length parts))
-
 abbrev pub unless_fault : Option PathFault → List (List ℕ) → Result (List (List ℕ)) PathFault
 unless_fault None segs = Ok segs
 unless_fault (Some fault) segs = Err fault
@@ -68,39 +64,6 @@ checked segs = unless_fault (fault_of segs) segs
 -- the pieces of a text between its slashes
 abbrev pub pieces : List ℕ → List (List ℕ)
 pieces text = slice_split (λ b. b == 47) text
-
--- a slash before each segment: a path's text in memory, empty for the root
-abbrev pub spelled : List (List ℕ) → List ℕ
-spelled segs = flat_map (λ s. 47 ∷ s) segs
-
--- the segments of such a text: the pieces behind its first slash
-unfoldable pub segs_in : List ℕ → List (List ℕ)
-segs_in text = drop 1 (pieces text)
-
--- a text that spells a path
-pub record IsPathText (text : List ℕ) : Type 0 where
-  pub valid : IsTrue (is_path (segs_in text))
-  pub whole : spelled (segs_in text) ≡ text
-
--- bytes that differ, where a slash is below every other
-abbrev pub byte_order : ℕ → ℕ → Ordering
-byte_order x y = if x == 47 then Less else (if y == 47 then Greater else nat_cmp x y)
-
--- texts by the first byte that differs, where the end is below every byte
-abbrev pub text_order : List ℕ → List ℕ → Ordering
-text_order [] [] = Equal
-text_order [] (y ∷ b) = Less
-text_order (x ∷ a) [] = Greater
-text_order (x ∷ a) (y ∷ b) = if x == y then text_order a b else byte_order x y
-
--- the end, or a slash
-abbrev pub ends_segment : List ℕ → Bool
-ends_segment [] = true
-ends_segment (b ∷ text) = b == 47
-
--- the first text begins with the second, and a segment ends there
-abbrev pub text_under : List ℕ → List ℕ → Bool
-text_under text other = starts_with nat_eq text other && ends_segment (drop (length other) text)
 
 -- the path that a text spells: `/`, or a slash before each segment
 abbrev pub path_of : List ℕ → Result (List (List ℕ)) PathFault

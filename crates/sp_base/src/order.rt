@@ -1,5 +1,5 @@
 ghost use Rattle.std.specs.Prelude.{◌≡◌};
-ghost use Rattle.sp_base.specs.Paths.{text_order, byte_order};
+ghost use Rattle.sp_base.specs.PathTexts.{text_order, byte_order};
 
 use std::cmp::Ordering;
 

@@ -5,7 +5,8 @@ ghost use Rattle.std.specs.Ordering.{nat_cmp, eq_by_cmp};
 ghost use Rattle.std.proofs.lemmas.Cmp.{eq_by_cmp_equiv};
 ghost use Rattle.std.specs.Hash as fed;
 ghost use Rattle.sp_base.specs.PathExact.{fed_alike};
-ghost use Rattle.sp_base.specs.Paths.{seg_ok, path_of, child_of, join_of, parent_of, text_of, unmangled, is_under, is_path, fault_of, checked, segs_in, spelled};
+ghost use Rattle.sp_base.specs.Paths.{seg_ok, path_of, child_of, join_of, parent_of, text_of, unmangled, is_under, is_path, fault_of, checked};
+ghost use Rattle.sp_base.specs.PathTexts.{segs_in, spelled};
 ghost use Rattle.sp_base.specs.declared.path.PathFault.TheVariants.{NoMemory as no_memory};
 
 use crate::order::text_order;
@@ -71,7 +72,7 @@ impl Model for Path {
 
     ghost Value = { List (List ℕ) };
 
-    ghost use Rattle.sp_base.specs.Paths.{segs_in, IsPathText};
+    ghost use Rattle.sp_base.specs.PathTexts.{segs_in, IsPathText};
 
     ghost view = { λ p. segs_in (string_bytes p.text) };
 

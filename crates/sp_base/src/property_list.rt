@@ -1,7 +1,8 @@
 ghost use Rattle.std.specs.Prelude.{◌≡◌, ◌==◌, ◌<◌, ◌≤◌, [], ℕ, List, T, not, IfOk, IfErr, OnOk, OnErr, option_copied, option_map, is_some, slice_get, slice_get, length};
 ghost use Rattle.std.specs.FinMap.Entries.{put, find, is_sorted, where_key};
 ghost use Rattle.std.specs.Ordering.{eq_by_cmp};
-ghost use Rattle.sp_base.specs.Properties.{by_name, text_in, IsAt, IsGap};
+ghost use Rattle.sp_base.specs.Properties.{by_name, text_in};
+ghost use Rattle.sp_base.specs.PropertyPlaces.{IsAt, IsGap};
 
 use crate::{Mem, TextBuf, Value};
 use std::alloc::Global;

@@ -1,6 +1,7 @@
 ghost use Rattle.std.specs.Prelude.{◌+◌, ◌-◌, ◌≤◌, ◌≡◌, ◌≢◌, ◌==◌, ◌∷◌, ◌++◌, List, ℕ, true, false, drop, take, length, IfOk, OnOk, IfSome, IfNone, option_copied, slice_get, string_bytes};
 ghost use Rattle.std.specs.List.{list_any, position, position_from, count_by};
-ghost use Rattle.sp_base.specs.Paths.{seg_ok, is_empty, is_dots, is_long, has_slash, pieces, segs_in, spelled, fault_behind, size_fault, is_mangled, unmangled_seg, unmangled, text_under};
+ghost use Rattle.sp_base.specs.Paths.{seg_ok, is_empty, is_dots, is_long, has_slash, pieces, size_fault, is_mangled, unmangled_seg, unmangled};
+ghost use Rattle.sp_base.specs.PathTexts.{segs_in, spelled, fault_behind, text_under};
 
 use crate::{Mem, PathFault};
 use std::alloc::Global;

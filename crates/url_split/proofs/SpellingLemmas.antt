@@ -1,5 +1,5 @@
 -- The selectors, the extension and the suffix of a text give it back.
-use Rattle.std.proofs.Common.{◌≡◌, ◌<◌, ◌≤◌, ◌+◌, ◌-◌, ◌==◌, ◌&&◌, ◌||◌, ◌⊎◌, ⊎_elim, inl, inr, ◌++◌, ◌∷◌, [], List, ℕ, zero, suc, Bool, true, false, cond, T, not, IsTrue, length, take, drop, get_or, filter, Ok, refl, sym, ◌∙◌, ap, subst, arith}
+use Rattle.std.proofs.Common.{◌≡◌, ◌<◌, ◌≤◌, ◌+◌, ◌-◌, ◌==◌, ◌&&◌, ◌||◌, ◌⊎◌, ⊎_elim, inl, inr, ◌++◌, ◌∷◌, [], List, ℕ, suc, Bool, true, false, cond, not, length, take, drop, get_or, filter, Ok, refl, sym, ◌∙◌, ap, subst, arith}
 use Rattle.std.proofs.Math.Seq.{drop-append_seam}
 use Rattle.std.proofs.lemmas.Bool.Decides.{nat_tests}
 use Rattle.std.proofs.lemmas.Bool.{cases_lt}
@@ -10,7 +10,7 @@ use Rattle.std.proofs.lemmas.List.Sums.{fails_before_first, passes_at_first, spl
 use Rattle.std.specs.List.{list_all, list_any, onto_first, slice_split, before_first, after_first, position_or_len}
 use Rattle.sp_base.specs.Paths.{path_of, text_of}
 use Rattle.url_split.specs.declared.decompose.Parts.{Parts}
-use Rattle.url_split.specs.Split.{IsCut, IsSplit, is_dot, is_slash, last_of, but_last, selectors_of, extension_of, suffix_of}
+use Rattle.url_split.specs.Split.{IsSplit, is_dot, is_slash, last_of, but_last, selectors_of, extension_of, suffix_of}
 use Rattle.url_split.specs.Spelling.{is_full, is_word, dotted, Spells}
 use Rattle.url_split.proofs.SplitLemmas.{no_more, cut_behind}
 

@@ -1,14 +1,13 @@
--- Where a text is cut, and what stands behind the cut.
-use Rattle.std.proofs.Common.{◌≡◌, ◌≢◌, ◌==◌, ◌-◌, ◌<◌, ◌≤◌, inl, inr, ⊎_elim, ◌++◌, ℕ, zero, suc, Bool, true, false, List, [], ◌∷◌, None, map, length, take, drop, get_or, refl, sym, ◌∙◌, ap, arith}
+-- Where a text is cut, and what follows the cut.
+use Rattle.std.proofs.Common.{◌≡◌, ◌≢◌, ◌==◌, ◌-◌, ◌<◌, ◌≤◌, inl, inr, ⊎_elim, ◌++◌, ℕ, zero, suc, Bool, true, false, List, [], ◌∷◌, map, length, take, drop, get_or, refl, sym, ◌∙◌, ap, arith}
 use Rattle.std.proofs.lemmas.Bool.Decides.{nat_tests}
-use Rattle.std.proofs.lemmas.Bool.{cases_lt, cases_eq}
 use Rattle.std.proofs.lemmas.List.{take_all, get_or-take, length-map, take-map, get_or-map, drop_at}
 use Rattle.std.proofs.lemmas.List.Splits.{length-slice_split}
 use Rattle.std.proofs.Math.Seq.{drop-cons}
 use Rattle.std.proofs.lemmas.List.Sums.{position_or_len_is}
 use Rattle.std.specs.List.{before_first, slice_split}
-use Rattle.sp_base.specs.Paths.{path_of}
-use Rattle.url_split.specs.Split.{IsCut, Leads, IsBehind, IsReading, is_slash, is_dot, but_last, last_of}
+use Rattle.url_split.specs.Split.{IsCut, is_slash, is_dot, but_last, last_of}
+use Rattle.url_split.specs.Walk.{IsBehind}
 
 is_test : (b c : ℕ) → b ≡ c → (b == c) ≡ true
 is_test b c e = grind (arith, nat_tests)
@@ -44,42 +43,12 @@ cut_behind text k c = ⊎_elim
 get_or-take-lt : (text : List ℕ) (n i : ℕ) → i < n → get_or (take n text) i 0 ≡ get_or text i 0
 get_or-take-lt text n i lt = get_or-take n text i 0 lt
 
--- the next cut from the end: nothing between it and the last leads anywhere
+-- the next cut from the end: the last dot of a prefix
 pub next_cut : (known : List (List ℕ) → Bool) (text front : List ℕ) (at : ℕ) → front ≡ take (length front) text → length front ≤ length text
     → at < length front → get_or front at 0 ≡ 46 → IsCut text at
 next_cut known text front at is within lt dot =
     let same : get_or text at 0 ≡ 46 = sym (get_or-take-lt text (length front) at lt) ∙ ap (λ t. get_or t at 0) (sym is) ∙ dot in
     inr (omega arith, same)
-
-pub passed_more : (known : List (List ℕ) → Bool) (text front : List ℕ) (at : ℕ) → front ≡ take (length front) text → length front ≤ length text
-    → ((k : ℕ) (path : List (List ℕ)) → length front < k → Leads known text k path → ⊥) → IsReading known front None
-    → ((i : ℕ) → at < i → i < length front → get_or front i 0 ≢ 46)
-    → (k : ℕ) (path : List (List ℕ)) → at < k → Leads known text k path → ⊥
-passed_more known text front at is within passed none between k path lt leads = ⊎_elim
-    (λ (below : k < length front). ⊎_elim
-    (λ (end : k ≡ length text). absurd (omega (arith, end, below, within)))
-    (λ (dot : (k < length text) × (get_or text k 0 ≡ 46)). between k lt below (ap (λ t. get_or t k 0) is ∙ get_or-take-lt text (length front) k below ∙ dot.1))
-    leads.cut)
-    (λ (above : length front ≤ k). ⊎_elim
-    (λ (same : k ≡ length front). none path (ap path_of is ∙ ap (λ n. path_of (take n text)) (sym same) ∙ leads.reads) leads.there)
-    (λ (other : k ≢ length front). passed k path (omega (arith, above, other)) leads)
-    (cases_eq k (length front)))
-    (cases_lt k (length front))
-
-pub lost : (known : List (List ℕ) → Bool) (text front : List ℕ) → front ≡ take (length front) text → length front ≤ length text
-    → ((k : ℕ) (path : List (List ℕ)) → length front < k → Leads known text k path → ⊥) → IsReading known front None
-    → ((i : ℕ) → i < length front → get_or front i 0 ≢ 46)
-    → (k : ℕ) (path : List (List ℕ)) → Leads known text k path → ⊥
-lost known text front is within passed none dots k path leads = ⊎_elim
-    (λ (below : k < length front). ⊎_elim
-    (λ (end : k ≡ length text). absurd (omega (arith, end, below, within)))
-    (λ (dot : (k < length text) × (get_or text k 0 ≡ 46)). dots k below (ap (λ t. get_or t k 0) is ∙ get_or-take-lt text (length front) k below ∙ dot.1))
-    leads.cut)
-    (λ (above : length front ≤ k). ⊎_elim
-    (λ (same : k ≡ length front). none path (ap path_of is ∙ ap (λ n. path_of (take n text)) (sym same) ∙ leads.reads) leads.there)
-    (λ (other : k ≢ length front). passed k path (omega (arith, above, other)) leads)
-    (cases_eq k (length front)))
-    (cases_lt k (length front))
 
 -- the last piece, and those before it, read off a list of references
 pub but_last-map : {A : Type 0} (f : A → List ℕ) (xs : List A) → map f (take (length xs - 1) xs) ≡ but_last (map f xs)

@@ -1,13 +1,13 @@
 -- How far back a text is walked, and what has been passed.
-use Rattle.std.proofs.Common.{◌≡◌, ◌≢◌, ◌<◌, ◌≤◌, ◌+◌, ◌&&◌, ◌⊎◌, ⊎_elim, min, ℕ, Bool, true, false, T, List, Some, None, Ok, length, drop, inl, [], take, get_or, nat_le, refl, sym, ◌∙◌, ap, arith, IsTrue}
+use Rattle.std.proofs.Common.{◌≡◌, ◌≢◌, ◌<◌, ◌≤◌, ◌+◌, ◌&&◌, ⊎_elim, min, ℕ, Bool, true, false, List, Some, None, Ok, length, drop, inl, [], take, get_or, nat_le, refl, sym, ◌∙◌, ap, arith}
 use Rattle.std.proofs.lemmas.Bool.Decides.{nat_tests}
 use Rattle.std.proofs.lemmas.Bool.{cases_lt, cases_eq}
 use Rattle.std.proofs.lemmas.List.{length-take, get_or-take, take_all}
 use Rattle.std.specs.List.{list_all}
 use Rattle.sp_base.specs.Paths.{is_path, is_under, parent_of, path_of, seg_ok, text_of}
-use Rattle.url_split.specs.Split.{IsCut, Leads, IsReading, IsSplit, selectors_of, extension_of, suffix_of}
+use Rattle.url_split.specs.Split.{IsCut, Leads, IsSplit, selectors_of, extension_of, suffix_of}
+use Rattle.url_split.specs.Walk.{IsReading, IsReached}
 use Rattle.url_split.specs.declared.decompose.Parts.{Parts}
-use Rattle.url_split.specs.Walk.{IsReached}
 use Rattle.url_split.proofs.SplitLemmas.{no_more}
 
 and_second : (a b : Bool) → (a && b) ≡ true → b ≡ true
@@ -43,14 +43,6 @@ reached_is known path n most is valid reach reads parent within first slash =
           let same : length start ≡ k = omega (arith, lo, near) in
           not_cut text k hi (ap (λ i. get_or text i 0) (sym same) ∙ slash path most (omega (arith, is)) (omega (arith, same, hi))) leads.cut;
     }
-
--- a text that was tried, and the cuts before its end that lead nowhere
-pub passed_start : (known : List (List ℕ) → Bool) (text start : List ℕ) → IsReached known text start → IsReading known text None
-    → (k : ℕ) (path : List (List ℕ)) → length start ≤ k → Leads known text k path → ⊥
-passed_start known text start r none k path lo leads = ⊎_elim
-    (λ (end : k ≡ length text). none path (sym (ap path_of (ap (λ n. take n text) end ∙ take_all (length text) text (omega arith))) ∙ leads.reads) leads.there)
-    (λ (dot : (k < length text) × (get_or text k 0 ≡ 46)). r.all k path lo dot.0 leads)
-    leads.cut
 
 pub within_text : (text prefix : List ℕ) → prefix ≡ take (length prefix) text → length prefix ≤ length text
 within_text text prefix is = omega (arith, ap length is, length-take (length prefix) text)

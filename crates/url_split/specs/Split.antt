@@ -1,3 +1,4 @@
+-- The decomposition of a path text, as a relation and as one answer.
 use Rattle.std.specs.Prelude.{◌≡◌, ◌==◌, ◌<◌, ◌⊎◌, ◌-◌, ◌||◌, ℕ, zero, suc, Bool, true, not, if◌then◌else◌, List, [], ◌∷◌, Option, Some, None, option_map, Result, Ok, Err, drop, take, length, filter, slice_index, slice_index_or}
 use Rattle.std.specs.Option.{option_or}
 use Rattle.std.specs.List.{slice_split, before_first}
@@ -9,7 +10,7 @@ use Rattle.url_split.specs.declared.decompose.Parts.{Parts}
 abbrev pub IsCut : List ℕ → ℕ → Type 0
 IsCut text at = (at ≡ length text) ⊎ ((at < length text) × (slice_index text at ≡ 46))
 
--- the front up to a cut reads as a path that is known
+-- the prefix up to a cut reads as a path that is known
 pub record Leads (known : List (List ℕ) → Bool) (text : List ℕ) (at : ℕ) (path : List (List ℕ)) : Type 0 where
   pub cut : IsCut text at
   pub reads : path_of (take at text) ≡ Ok path
@@ -28,7 +29,7 @@ last_of pieces = slice_index_or pieces (length pieces - 1) []
 abbrev pub but_last : List (List ℕ) → List (List ℕ)
 but_last pieces = take (length pieces - 1) pieces
 
--- Behind the resource path stands nothing, or a dot and a text that goes up to the next slash: its last piece is the extension,
+-- After the resource path stands nothing, or a dot and a text that goes up to the next slash: its last piece is the extension,
 -- and its other pieces that aren't empty are the selectors. What begins with that slash is the suffix.
 abbrev pub selectors_of : List ℕ → List (List ℕ)
 selectors_of [] = []
@@ -42,7 +43,7 @@ abbrev pub suffix_of : List ℕ → List ℕ
 suffix_of [] = []
 suffix_of (dot ∷ rest) = drop (length (before_first is_slash rest)) rest
 
--- the decomposition of a text: the longest front that leads to a known path, and what follows it
+-- the decomposition of a text: the longest prefix that leads to a known path, and what follows it
 pub record IsSplit (known : List (List ℕ) → Bool) (text : List ℕ) (parts : Parts) : Type 0 where
   pub at : ℕ
   pub leads : Leads known text at parts.path
@@ -51,7 +52,7 @@ pub record IsSplit (known : List (List ℕ) → Bool) (text : List ℕ) (parts :
   pub extension : parts.extension ≡ extension_of (drop at text)
   pub suffix : parts.suffix ≡ suffix_of (drop at text)
 
--- no front leads to a known path
+-- no prefix leads to a known path
 abbrev pub IsLost : (List (List ℕ) → Bool) → List ℕ → Type 0
 IsLost known text = (k : ℕ) (path : List (List ℕ)) → Leads known text k path → ⊥
 
@@ -70,7 +71,7 @@ is_cut text at = at == length text || slice_index text at == 46
 abbrev pub path_to : (List (List ℕ) → Bool) → List ℕ → ℕ → Option (List (List ℕ))
 path_to known text at = if is_cut text at then known_one known (path_of (take at text)) else None
 
--- a resource path, and the parts behind it
+-- a resource path, and the parts after it
 abbrev pub parts_at : List ℕ → ℕ → List (List ℕ) → Parts
 parts_at text at path = record { path = path; selectors = selectors_of (drop at text); extension = extension_of (drop at text); suffix = suffix_of (drop at text) }
 
@@ -81,12 +82,3 @@ at_greatest f (suc n) = option_or (f n) (at_greatest f n)
 
 unfoldable pub split_of : (List (List ℕ) → Bool) → List ℕ → Option Parts
 split_of known text = at_greatest (λ at. option_map (parts_at text at) (path_to known text at)) (suc (length text))
-
--- nothing, or a text that begins with a dot
-abbrev pub IsBehind : List ℕ → Type 0
-IsBehind rest = (rest ≡ []) ⊎ ((more : List ℕ) × (rest ≡ 46 ∷ more))
-
--- what a text reads as: the path, where it spells one that is known
-abbrev pub IsReading : (List (List ℕ) → Bool) → List ℕ → Option (List (List ℕ)) → Type 0
-IsReading known text (Some path) = (path_of text ≡ Ok path) × (known path ≡ true)
-IsReading known text None = (path : List (List ℕ)) → path_of text ≡ Ok path → known path ≡ true → ⊥

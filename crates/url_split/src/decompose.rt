@@ -1,7 +1,7 @@
 ghost use Rattle.std.specs.Prelude.{◌≡◌, ◌++◌, ◌∷◌, [], map, filter, not, ◌==◌, length, None, IsTrue, true, IfOk, IfSome, IfNone};
 ghost use Rattle.std.specs.List.{slice_split, before_first};
-ghost use Rattle.url_split.specs.Split.{IsSplit, IsLost, split_of, IsReading, IsBehind, is_dot, is_slash, selectors_of, extension_of, suffix_of};
-ghost use Rattle.url_split.specs.Walk.{IsReached};
+ghost use Rattle.url_split.specs.Split.{IsSplit, IsLost, split_of, is_dot, is_slash, selectors_of, extension_of, suffix_of};
+ghost use Rattle.url_split.specs.Walk.{IsReading, IsBehind, IsReached};
 ghost use Rattle.sp_base.specs.Paths.{is_path, text_of};
 
 use crate::Known;

@@ -1,5 +1,5 @@
 use Rattle.std.proofs.Common.{◌≡◌, ◌-◌, ◌≤◌, drop}
-use Rattle.sp_base.specs.Paths.{text_order}
+use Rattle.sp_base.specs.PathTexts.{text_order}
 use Rattle.sp_base.proofs.order.text_order.Given as goal
 
 abbrev pub invariant-loop-at : goal.invariant-loop-at

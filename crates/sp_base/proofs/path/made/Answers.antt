@@ -1,5 +1,5 @@
 use Rattle.std.proofs.Common.{sym, ◌∙◌, string_bytes}
-use Rattle.sp_base.specs.Paths.{segs_in}
+use Rattle.sp_base.specs.PathTexts.{segs_in}
 use Rattle.sp_base.proofs.PathLemmas.{path_from}
 use Rattle.sp_base.proofs.PathText.{segs_lack}
 use Rattle.sp_base.proofs.path.made.Goals as goal

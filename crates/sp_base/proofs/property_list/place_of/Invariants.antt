@@ -1,6 +1,7 @@
 use Rattle.std.proofs.Common.{◌-◌, ◌≤◌, T, length, take, drop}
 use Rattle.std.specs.FinMap.Entries.{below_all}
-use Rattle.sp_base.specs.Properties.{by_name, all_before}
+use Rattle.sp_base.specs.Properties.{by_name}
+use Rattle.sp_base.specs.PropertyPlaces.{all_before}
 use Rattle.sp_base.proofs.property_list.place_of.Given as goal
 
 abbrev pub invariant-loop-low : goal.invariant-loop-low

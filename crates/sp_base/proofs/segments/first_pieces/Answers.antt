@@ -2,7 +2,7 @@ use Rattle.std.proofs.Common.{lit<, ◌∙◌, ◌++◌, ap, string_bytes}
 use Rattle.std.proofs.lemmas.Iterator.{YieldsList-from_take}
 use Rattle.std.proofs.lemmas.Iterator.Consumers.{YieldsList-at, YieldsList-end}
 use Rattle.std.proofs.lemmas.Iterator.Splits.{YieldsList-from_str_split}
-use Rattle.sp_base.specs.Paths.{spelled}
+use Rattle.sp_base.specs.PathTexts.{spelled}
 use Rattle.sp_base.proofs.PathText.{spelled-push}
 use Rattle.sp_base.proofs.segments.first_pieces.Goals as goal
 

@@ -1,5 +1,5 @@
 use Rattle.std.proofs.Common.{◌≡◌, map, string_bytes}
-use Rattle.sp_base.specs.Paths.{spelled}
+use Rattle.sp_base.specs.PathTexts.{spelled}
 use Rattle.sp_base.proofs.segments.first_pieces.Given as goal
 
 abbrev pub invariant-loop-piece : goal.invariant-loop-piece

@@ -1,7 +1,8 @@
 use Rattle.std.proofs.Common.{lit<, ◌∙◌, ◌++◌, ap, string_bytes, List, ℕ}
 use Rattle.std.proofs.lemmas.Iterator.Consumers.{YieldsList-at, YieldsList-end}
 use Rattle.std.proofs.lemmas.Iterator.Splits.{YieldsList-from_str_split}
-use Rattle.sp_base.specs.Paths.{spelled, unmangled, unmangled_seg}
+use Rattle.sp_base.specs.Paths.{unmangled, unmangled_seg}
+use Rattle.sp_base.specs.PathTexts.{spelled}
 use Rattle.sp_base.proofs.PathText.{unmangled-push}
 use Rattle.sp_base.proofs.segments.pieces_unmangled.Goals as goal
 

@@ -1,4 +1,4 @@
-use Rattle.std.proofs.Common.{◌≡◌, ◌∙◌, sym, subst, ap, length, take, List, ℕ, arith, min, ◌+◌}
+use Rattle.std.proofs.Common.{◌∙◌, sym, subst, ap, ◌+◌}
 use Rattle.sp_base.specs.Paths.{text_of}
 use Rattle.url_split.specs.Walk.{IsReached}
 use Rattle.url_split.proofs.WalkLemmas.{reached_is}

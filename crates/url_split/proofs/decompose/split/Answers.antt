@@ -1,5 +1,5 @@
 use Rattle.std.proofs.Common.{subst}
-use Rattle.url_split.specs.Split.{IsReading}
+use Rattle.url_split.specs.Walk.{IsReading}
 use Rattle.url_split.proofs.ValueLemmas.{split_value}
 use Rattle.url_split.proofs.WalkLemmas.{split_whole}
 use Rattle.url_split.proofs.decompose.split.Goals as goal

@@ -1,7 +1,8 @@
-use Rattle.std.proofs.Common.{◌≡◌, ◌-◌, ◌≤◌, ◌<◌, Some, None, lit<, take, length, sym, ◌∙◌, ap, subst, arith, ℕ, List}
+use Rattle.std.proofs.Common.{◌≡◌, ◌-◌, ◌<◌, Some, None, lit<, take, length, sym, ◌∙◌, ap, subst, arith, ℕ, List}
 use Rattle.std.proofs.lemmas.List.{take-take, length-take}
 use Rattle.std.proofs.lemmas.Str.Pattern.{rfind_char}
-use Rattle.url_split.specs.Split.{IsReading, IsCut, Leads, selectors_of, extension_of, suffix_of}
+use Rattle.url_split.specs.Split.{IsCut, selectors_of, extension_of, suffix_of}
+use Rattle.url_split.specs.Walk.{IsReading}
 use Rattle.url_split.proofs.SplitLemmas.{next_cut}
 use Rattle.url_split.proofs.WalkLemmas.{passed_to, passed_dot, passed_all, split_here, within_text}
 use Rattle.url_split.proofs.ValueLemmas.{split_value, lost_value}

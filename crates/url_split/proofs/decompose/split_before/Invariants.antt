@@ -1,4 +1,4 @@
-use Rattle.std.proofs.Common.{◌≡◌, ◌<◌, ◌≤◌, ℕ, List, take, length}
+use Rattle.std.proofs.Common.{◌≡◌, ◌≤◌, ℕ, List, take, length}
 use denote.Text.{Utf8}
 use denote.Shadow.{shadow}
 use Rattle.url_split.specs.Split.{Leads}

@@ -1,5 +1,6 @@
 use Rattle.std.proofs.Common.{length, ◌≡◌, ◌∙◌, ◌++◌, ◌∷◌, true, sym, ap, subst, string_bytes, List, ℕ}
-use Rattle.sp_base.specs.Paths.{segs_in, fault_of, fault_behind, pieces, checked, child_of, is_path}
+use Rattle.sp_base.specs.Paths.{fault_of, pieces, checked, child_of, is_path}
+use Rattle.sp_base.specs.PathTexts.{segs_in, fault_behind}
 use Rattle.sp_base.proofs.PathLemmas.{IfOk-from, IfErr-from, child_whole, no_fault_left}
 use Rattle.sp_base.proofs.PathFaults.{fault_behind_is}
 use Rattle.sp_base.proofs.PathText.{child_text}

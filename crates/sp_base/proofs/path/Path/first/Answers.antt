@@ -1,5 +1,5 @@
 use Rattle.std.proofs.Common.{◌≡◌, ◌∙◌, sym, ap, string_bytes, List, ℕ, take}
-use Rattle.sp_base.specs.Paths.{segs_in, spelled}
+use Rattle.sp_base.specs.PathTexts.{segs_in, spelled}
 use Rattle.sp_base.proofs.PathLemmas.{first_path}
 use Rattle.sp_base.proofs.PathText.{segs_behind, segs_of, spells}
 use Rattle.sp_base.proofs.path.Path.first.Goals as goal

@@ -1,5 +1,6 @@
 use Rattle.std.proofs.Common.{◌∙◌, ap, string_bytes, List, ℕ}
-use Rattle.sp_base.specs.Paths.{text_under, is_under, segs_in}
+use Rattle.sp_base.specs.Paths.{is_under}
+use Rattle.sp_base.specs.PathTexts.{text_under, segs_in}
 use Rattle.sp_base.proofs.PathOrder.{paths_under}
 use Rattle.sp_base.proofs.path.Path.is_under.Goals as goal
 

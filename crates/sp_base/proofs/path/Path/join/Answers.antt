@@ -1,5 +1,6 @@
 use Rattle.std.proofs.Common.{length, ◌+◌, None, ◌≡◌, ◌∙◌, ◌++◌, sym, ap, string_bytes, List, ℕ}
-use Rattle.sp_base.specs.Paths.{fault_of, size_fault, segs_in, checked, join_of}
+use Rattle.sp_base.specs.Paths.{fault_of, size_fault, checked, join_of}
+use Rattle.sp_base.specs.PathTexts.{segs_in}
 use Rattle.sp_base.proofs.PathLemmas.{IfOk-from, IfErr-from}
 use Rattle.sp_base.proofs.PathFaults.{fault_behind_is, fault_behind_path}
 use Rattle.sp_base.proofs.PathText.{joined_text}

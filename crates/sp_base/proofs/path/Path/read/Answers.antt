@@ -1,5 +1,6 @@
 use Rattle.std.proofs.Common.{◌≡◌, sym, ◌∙◌, ap, subst, List, ℕ}
-use Rattle.sp_base.specs.Paths.{pieces, fault_of, segs_in, spelled, checked, path_of}
+use Rattle.sp_base.specs.Paths.{pieces, fault_of, checked, path_of}
+use Rattle.sp_base.specs.PathTexts.{segs_in, spelled}
 use Rattle.sp_base.proofs.PathLemmas.{of_pieces, IfOk-from, IfErr-from}
 use Rattle.sp_base.proofs.PathFaults.{fault_behind_none}
 use Rattle.sp_base.proofs.PathText.{slash_then, segs_behind}

@@ -1,5 +1,5 @@
 use Rattle.std.proofs.Common.{◌∙◌, ap, refl, string_bytes, []}
-use Rattle.sp_base.specs.Paths.{segs_in}
+use Rattle.sp_base.specs.PathTexts.{segs_in}
 use Rattle.sp_base.proofs.PathText.{none_in, spells}
 use Rattle.sp_base.proofs.path.Path.root.Goals as goal
 

@@ -1,5 +1,6 @@
 use Rattle.std.proofs.Common.{◌≡◌, ◌≢◌, ◌∷◌, ◌∙◌, sym, ap, subst, string_bytes, List, ℕ}
-use Rattle.sp_base.specs.Paths.{segs_in, spelled, unmangled}
+use Rattle.sp_base.specs.Paths.{unmangled}
+use Rattle.sp_base.specs.PathTexts.{segs_in, spelled}
 use Rattle.sp_base.proofs.PathLemmas.{unmangled_path}
 use Rattle.sp_base.proofs.PathText.{segs_behind, segs_of, spells, root_segs}
 use Rattle.sp_base.proofs.path.Path.unmangled.Goals as goal

@@ -1,5 +1,6 @@
 use Rattle.std.proofs.Common.{◌∙◌, ap, string_bytes, List, ℕ}
-use Rattle.sp_base.specs.Paths.{text_order, by_path, segs_in}
+use Rattle.sp_base.specs.Paths.{by_path}
+use Rattle.sp_base.specs.PathTexts.{text_order, segs_in}
 use Rattle.sp_base.proofs.PathOrder.{paths_order}
 use Rattle.sp_base.proofs.path.PathOrd.cmp.Goals as goal
 

@@ -125,73 +125,81 @@ fn the_closest_name_is_first(rt: HostRuntime) -> Result<(), Failed> {
     Ok(())
 }
 
-// The first of these scripts for html with these selectors.
-fn html(
-    alloc: Global,
-    types: &[&str],
-    scripts: &[&str],
-    selectors: &[&str],
-) -> Result<TextBuf, Failed> {
-    let extension = "html";
-    shown(
-        alloc,
-        &Case {
-            types,
-            scripts,
-            selectors,
-            extension,
-        },
-    )
+// The words of a text.
+fn words(alloc: Global, text: &str) -> Result<Vec<&str>, AllocError> {
+    let mut list = Vec::new(alloc);
+    for word in text.split(' ') {
+        if !word.is_empty() {
+            list.push(word)?;
+        }
+    }
+    Ok(list)
 }
+
+// The first of these scripts for html with these selectors.
+fn html(alloc: Global, types: &str, scripts: &str, selectors: &str) -> Result<TextBuf, Failed> {
+    let types = words(alloc, types)?;
+    let scripts = words(alloc, scripts)?;
+    let selectors = words(alloc, selectors)?;
+    let case = Case {
+        types: &types,
+        scripts: &scripts,
+        selectors: &selectors,
+        extension: "html",
+    };
+    shown(alloc, &case)
+}
+
+// Types, scripts, selectors, and the script that comes first.
+const FIRST: &[(&str, &str, &str, &str)] = &[
+    (
+        "own super",
+        "/apps/own/html.html /apps/super/print.html",
+        "print",
+        "/apps/super/print.html",
+    ),
+    (
+        "t u",
+        "/apps/t/a.html.html /libs/u/a/b.html",
+        "a b",
+        "/libs/u/a/b.html",
+    ),
+    (
+        "jobs u",
+        "/apps/jobs/jobs.html /libs/u/html.html",
+        "",
+        "/libs/u/html.html",
+    ),
+    (
+        "a/jobs b/jobs",
+        "/apps/b/jobs/jobs.html /libs/a/jobs/jobs.html",
+        "",
+        "/libs/a/jobs/jobs.html",
+    ),
+    (
+        "t",
+        "/libs/t/a.html.html /apps/t/a/html.html",
+        "a",
+        "/apps/t/a/html.html",
+    ),
+    (
+        "/x/y",
+        "/apps/x/y/html.html /x/y/GET.html",
+        "",
+        "/x/y/GET.html",
+    ),
+    (
+        "t",
+        "/apps/t/html.html/GET.html /libs/t/GET.html",
+        "a",
+        "/libs/t/GET.html",
+    ),
+    ("t", "/apps/u/html.html", "a", ""),
+];
 
 #[test]
 fn names_before_types_before_places(rt: HostRuntime) -> Result<(), Failed> {
-    let cases: &[(&[&str], &[&str], &[&str], &str)] = &[
-        (
-            &["own", "super"],
-            &["/apps/own/html.html", "/apps/super/print.html"],
-            &["print"],
-            "/apps/super/print.html",
-        ),
-        (
-            &["t", "u"],
-            &["/apps/t/a.html.html", "/libs/u/a/b.html"],
-            &["a", "b"],
-            "/libs/u/a/b.html",
-        ),
-        (
-            &["jobs", "u"],
-            &["/apps/jobs/jobs.html", "/libs/u/html.html"],
-            &[],
-            "/libs/u/html.html",
-        ),
-        (
-            &["a/jobs", "b/jobs"],
-            &["/apps/b/jobs/jobs.html", "/libs/a/jobs/jobs.html"],
-            &[],
-            "/libs/a/jobs/jobs.html",
-        ),
-        (
-            &["t"],
-            &["/libs/t/a.html.html", "/apps/t/a/html.html"],
-            &["a"],
-            "/apps/t/a/html.html",
-        ),
-        (
-            &["/x/y"],
-            &["/apps/x/y/html.html", "/x/y/GET.html"],
-            &[],
-            "/x/y/GET.html",
-        ),
-        (
-            &["t"],
-            &["/apps/t/html.html/GET.html", "/libs/t/GET.html"],
-            &["a"],
-            "/libs/t/GET.html",
-        ),
-        (&["t"], &["/apps/u/html.html"], &["a"], ""),
-    ];
-    for (types, scripts, selectors, want) in cases {
+    for (types, scripts, selectors, want) in FIRST {
         assert_eq!(rt; html(rt.alloc(), types, scripts, selectors)?.text(), *want);
     }
     Ok(())

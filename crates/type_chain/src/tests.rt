@@ -42,16 +42,39 @@ fn make(alloc: Global, tree: &mut Tree, path: &Path) -> Result<(), Failed> {
     Ok(())
 }
 
-// A tree of nodes, each with one text of a name.
-fn tree_of(alloc: Global, nodes: &[(&str, &str, &str)]) -> Result<Tree, Failed> {
+// A property by its short name in the tables.
+fn property(word: &str) -> &str {
+    match word {
+        "type" => "sling:resourceType",
+        "super" => "sling:resourceSuperType",
+        "primary" => "jcr:primaryType",
+        _ => word,
+    }
+}
+
+// Sets a property of a node, written as a path, a property and its text.
+fn put(alloc: Global, tree: &mut Tree, node: &str) -> Result<(), Failed> {
+    let Some((path, rest)) = node.split_once(' ') else {
+        return Err(Failed);
+    };
+    let Some((word, text)) = rest.split_once(' ') else {
+        return Err(Failed);
+    };
+    let name = property(word);
+    if !seg_ok(name) {
+        return Err(Failed);
+    }
+    let path = Path::read(alloc, path)?;
+    make(alloc, tree, &path)?;
+    tree.set(alloc, &path, name, Value::Text(TextBuf::of(alloc, text)?))?;
+    Ok(())
+}
+
+// A tree of nodes, with a semicolon between them.
+fn tree_of(alloc: Global, nodes: &str) -> Result<Tree, Failed> {
     let mut tree = Tree::new(alloc)?;
-    for (path, name, text) in nodes {
-        if !seg_ok(name) {
-            return Err(Failed);
-        }
-        let path = Path::read(alloc, path)?;
-        make(alloc, &mut tree, &path)?;
-        tree.set(alloc, &path, name, Value::Text(TextBuf::of(alloc, text)?))?;
+    for node in nodes.split("; ") {
+        put(alloc, &mut tree, node)?;
     }
     Ok(tree)
 }
@@ -83,102 +106,60 @@ fn shown(alloc: Global, types: &TypeList) -> Result<String, Failed> {
     Ok(text)
 }
 
-// The chain of the resource /r among these nodes.
-fn chain_shown(alloc: Global, nodes: &[(&str, &str, &str)]) -> Result<String, Failed> {
-    let tree = tree_of(alloc, nodes)?;
-    shown(alloc, &chain_of(alloc, &tree)?)
-}
-
-const TYPE: &str = "sling:resourceType";
-
-const SUPER: &str = "sling:resourceSuperType";
-
-const PRIMARY: &str = "jcr:primaryType";
-
-// Properties of nodes, and the chain of the resource `/r` among them.
-const CHAINS: &[(&[(&str, &str, &str)], &str)] = &[
+// Nodes, and the chain of the resource `/r` among them.
+const CHAINS: &[(&str, &str)] = &[
     (
-        &[("/r", TYPE, "own"), ("/apps/own", SUPER, "above")],
+        "/r type own; /apps/own super above",
         "own above sling/servlet/default ",
     ),
     (
-        &[
-            ("/r", TYPE, "own"),
-            ("/r", SUPER, "x:y"),
-            ("/apps/own", SUPER, "z"),
-        ],
+        "/r type own; /r super x:y; /apps/own super z",
         "own x/y sling/servlet/default ",
     ),
     (
-        &[
-            ("/r", TYPE, "a"),
-            ("/apps/a", SUPER, "b"),
-            ("/libs/b", SUPER, "a"),
-        ],
+        "/r type a; /apps/a super b; /libs/b super a",
         "a b sling/servlet/default ",
     ),
     (
-        &[
-            ("/r", TYPE, "a"),
-            ("/apps/a", TYPE, "b"),
-            ("/libs/a", SUPER, "c"),
-        ],
+        "/r type a; /apps/a type b; /libs/a super c",
         "a c sling/servlet/default ",
     ),
     (
-        &[
-            ("/r", TYPE, "a"),
-            ("/apps/a", SUPER, "b"),
-            ("/libs/a", SUPER, "c"),
-        ],
+        "/r type a; /apps/a super b; /libs/a super c",
         "a b sling/servlet/default ",
     ),
     (
-        &[
-            ("/r", TYPE, "/x/a"),
-            ("/x/a", SUPER, "c"),
-            ("/apps/x/a", SUPER, "d"),
-        ],
+        "/r type /x/a; /x/a super c; /apps/x/a super d",
         "/x/a c sling/servlet/default ",
     ),
     (
-        &[("/r", PRIMARY, "nt:file"), ("/apps/nt/file", SUPER, "..")],
+        "/r primary nt:file; /apps/nt/file super ..",
         "nt/file sling/servlet/default ",
     ),
+    ("/r type ; /r primary nt:file", "sling/servlet/default "),
     (
-        &[("/r", TYPE, ""), ("/r", PRIMARY, "nt:file")],
-        "sling/servlet/default ",
-    ),
-    (
-        &[
-            ("/r", "x", "y"),
-            ("/r", SUPER, "/"),
-            ("/apps/nt/unstructured", SUPER, "z"),
-        ],
+        "/r super /; /apps/nt/unstructured super z",
         "nt/unstructured sling/servlet/default ",
     ),
-    (
-        &[("/r", TYPE, "sling/servlet/default")],
-        "sling/servlet/default ",
-    ),
+    ("/r type sling/servlet/default", "sling/servlet/default "),
 ];
 
 #[test]
 fn types_stand_nearest_first(rt: HostRuntime) -> Result<(), Failed> {
     for (nodes, want) in CHAINS {
-        assert_eq!(rt; chain_shown(rt.alloc(), nodes)?.as_str(), *want);
+        let tree = tree_of(rt.alloc(), nodes)?;
+        let types = chain_of(rt.alloc(), &tree)?;
+        assert_eq!(rt; shown(rt.alloc(), &types)?.as_str(), *want);
     }
     Ok(())
 }
 
 // A resource, and types of which each stands above the one before.
 fn tower(alloc: Global, height: u32) -> Result<Tree, Failed> {
-    let mut tree = tree_of(alloc, &[("/r", TYPE, "t0")])?;
+    let mut tree = tree_of(alloc, "/r type t0")?;
     for level in 0..height {
-        let path = Path::read(alloc, format!(in alloc; "/libs/t{level}")?.as_str())?;
-        make(alloc, &mut tree, &path)?;
-        let above = TextBuf::from(format!(in alloc; "t{}", level + 1)?);
-        tree.set(alloc, &path, SUPER, Value::Text(above))?;
+        let node = format!(in alloc; "/libs/t{level} super t{}", level + 1)?;
+        put(alloc, &mut tree, node.as_str())?;
     }
     Ok(tree)
 }
@@ -197,13 +178,7 @@ fn thirty_two_types_are_the_most(rt: HostRuntime) -> Result<(), Failed> {
 #[test]
 fn apps_stand_before_libs(rt: HostRuntime) -> Result<(), Failed> {
     let alloc = rt.alloc();
-    let nodes = [
-        ("/libs/a/b", "x", ""),
-        ("/apps/c", "x", ""),
-        ("/libs/c", "x", ""),
-        ("/d", "x", ""),
-    ];
-    let tree = tree_of(alloc, &nodes)?;
+    let tree = tree_of(alloc, "/libs/a/b x y; /apps/c x y; /libs/c x y; /d x y")?;
     for (name, want) in [
         ("a:b", "/libs/a/b"),
         ("c", "/apps/c"),

@@ -7,7 +7,7 @@ use Rattle.std.proofs.lemmas.List.Concat.{flat_map-append}
 use Rattle.json.specs.Json.{Json, Members, no_members}
 use Rattle.json.specs.Token.{Token}
 use Rattle.json.specs.Tree.{json_tokens, members_tokens}
-use Rattle.json.specs.Print.{token_text, print}
+use Rattle.json.specs.Print.{print}
 use Rattle.json.specs.Written.{Written}
 use Rattle.resource_tree.specs.Seen.{Resource, Seen}
 use Rattle.property_json.specs.PropertyJson.{Adds, property_tokens}

@@ -1,13 +1,13 @@
 -- What is answered instead of a text, in the words of the greatest depth.
-use Rattle.std.proofs.Common.{◌≡◌, ◌+◌, ◌<◌, ◌≤◌, ◌||◌, ℕ, zero, suc, List, length, Bool, true, false, if◌then◌else◌, refl, sym, ◌∙◌, ap, subst, ⊎_elim, arith}
+use Rattle.std.proofs.Common.{◌≡◌, ◌<◌, ◌≤◌, ◌||◌, ℕ, zero, suc, List, length, Some, None, Bool, true, false, if◌then◌else◌, refl, sym, ap, subst, ⊎_elim, arith}
 use Rattle.std.specs.Prelude.{nat_le, ◌↔◌}
-use Rattle.std.proofs.lemmas.Bool.{leb-true, leb-false, le-leb, lt-leb, cases_lt, cases_Bool}
+use Rattle.std.proofs.lemmas.Bool.{leb-true, leb-false, le-leb, lt-leb, cases_lt}
 use Rattle.resource_tree.specs.Seen.{Resource, Seen}
-use Rattle.get_servlet.specs.declared.answer.JsonAnswer.{JsonAnswer}
 use Rattle.get_servlet.specs.declared.answer.JsonAnswer.TheVariants.{Whole, Over, TooLong}
 use Rattle.get_servlet.specs.Rendering.{json_text, shown, greatest_fitting}
 use Rattle.get_servlet.specs.Answers.{text_within, json_answer, IsOver}
-use Rattle.get_servlet.proofs.CountLemmas.{shown-grows, greatest_from_over}
+use Rattle.get_servlet.specs.Steps.{depth_instead}
+use Rattle.get_servlet.proofs.CountLemmas.{shown-grows, greatest_from_over, all_fit}
 
 -- ---- the greatest depth that fits
 
@@ -84,3 +84,33 @@ over_to seen res depth most_bytes most over =
 pub over_exactly : (seen : Seen) (res : Resource) (depth most_bytes most : ℕ) → (json_answer seen res depth most_bytes ≡ Over most) ↔ IsOver seen res depth most
 over_exactly seen res depth most_bytes most =
     (over_from seen res depth most_bytes most (nat_le depth 1) (nat_le (shown seen res depth) 1000) refl refl, over_to seen res depth most_bytes most)
+
+-- ---- the depth to ask for instead
+
+pub none_instead : (count : ℕ → ℕ) (depth : ℕ) → depth ≤ 1 → None ≡ depth_instead count depth
+none_instead count depth le = rw (le-leb depth 1 le) refl
+
+pub some_instead : (count : ℕ → ℕ) (depth : ℕ) → 1 < depth → greatest_fitting count depth < depth → Some (greatest_fitting count depth) ≡ depth_instead count depth
+some_instead count depth deep lt =
+    ⊎_elim (λ le. absurd (omega (arith, all_fit count depth (omega (arith, deep)) (omega (arith, le)), lt)))
+    (λ large. rw (lt-leb depth 1 deep, lt-leb (count depth) 1000 (omega (arith, large))) refl)
+    (cases_lt (count depth) 1001)
+
+pub fits_whole : (count : ℕ → ℕ) (depth : ℕ) → 1 < depth → depth ≤ greatest_fitting count depth → None ≡ depth_instead count depth
+fits_whole count depth deep le =
+    let most = greatest_fitting count depth in
+    let g = is_greatest count depth in
+    let same : most ≡ depth = omega (arith, le, g.within depth (omega (arith, deep)) (omega arith)) in
+    let small = subst (λ n. count n ≤ 1000) same (g.fits (omega (arith, same, deep))) in
+    rw (lt-leb depth 1 deep, le-leb (count depth) 1000 small) refl
+
+over_instead : (seen : Seen) (res : Resource) (depth most : ℕ) (shallow small : Bool) → nat_le depth 1 ≡ shallow → nat_le (shown seen res depth) 1000 ≡ small
+    → Some most ≡ (if shallow || small then None else Some (greatest_fitting (shown seen res) depth)) → IsOver seen res depth most
+over_instead seen res depth most true small s l e = absurd (cc)
+over_instead seen res depth most false true s l e = absurd (cc)
+over_instead seen res depth most false false s l e =
+    let same : greatest_fitting (shown seen res) depth ≡ most = cc in
+    subst (IsOver seen res depth) same (greatest_is_over seen res depth (leb-false depth 1 s) (leb-false (shown seen res depth) 1000 l))
+
+pub instead_is_over : (seen : Seen) (res : Resource) (depth most : ℕ) → Some most ≡ depth_instead (shown seen res) depth → IsOver seen res depth most
+instead_is_over seen res depth most e = over_instead seen res depth most (nat_le depth 1) (nat_le (shown seen res depth) 1000) refl refl e

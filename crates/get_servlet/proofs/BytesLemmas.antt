@@ -1,12 +1,12 @@
 -- How many bytes tokens take at the least, and that a text has no fewer.
 use Rattle.std.proofs.Common.{◌≡◌, ◌+◌, ◌/◌, ◌%◌, ◌≤◌, ◌<◌, ◌++◌, ℕ, zero, suc, ℤ, pos, negsuc, List, [], ◌∷◌, length, take, drop, get_or, Bool, true, false, cond, if◌then◌else◌, Some, None, slice_get, refl, sym, ◌∙◌, ap, arith, append_assoc, append-nil, length-append, take-append-drop}
-use Rattle.std.specs.Prelude.{◌==◌, flat_map, sum_by, nat_lt, codes}
+use Rattle.std.specs.Prelude.{◌==◌, flat_map, sum_by, nat_lt}
 use Rattle.std.specs.Fmt.{decimal, digits, digits_onto, digit_glyph, signed_decimal}
 use Rattle.std.proofs.lemmas.List.{take_more}
 use Rattle.std.proofs.lemmas.List.Concat.{flat_map-append}
 use Rattle.std.proofs.lemmas.List.Sums.{sum_by-cons, sum_by-append, sum_by_push}
 use Rattle.std.proofs.lemmas.Option.{slice_get_within, get_or_from_slice_get, slice_get-get_or}
-use Rattle.json.specs.Json.{Json, boolean, string, array, Items, no_items}
+use Rattle.json.specs.Json.{Json, boolean, string, array}
 use Rattle.json.specs.Token.{Token}
 use Rattle.json.specs.Tree.{json_tokens, items_tokens}
 use Rattle.json.specs.Print.{escape_letter, escape_byte, escape, quoted, token_text, separator, ends, print_from, print}

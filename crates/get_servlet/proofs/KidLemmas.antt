@@ -1,9 +1,9 @@
 -- The kid under a name, from the path that was made.
-use Rattle.std.proofs.Common.{◌≡◌, ◌≢◌, ℕ, List, Option, Some, None, Result, Ok, Err, IfOk, IfErr, refl, sym, ◌∙◌, ap}
+use Rattle.std.proofs.Common.{◌≡◌, ◌≢◌, ℕ, List, Result, Ok, Err, IfOk, IfErr, refl, ap}
 use Rattle.std.specs.Prelude.{option_map, option_and_then}
 use Rattle.sp_base.specs.declared.path.PathFault.{PathFault}
 use Rattle.sp_base.specs.declared.path.PathFault.TheVariants.{NoMemory}
-use Rattle.resource_tree.specs.Seen.{Resource, Seen}
+use Rattle.resource_tree.specs.Seen.{Seen}
 use Rattle.get_servlet.specs.Rendering.{make_kid, kid_seen}
 use Rattle.get_servlet.specs.Steps.{path_made}
 

@@ -1,12 +1,11 @@
 -- The text is read as the JSON that it was written from.
-use Rattle.std.proofs.Common.{◌≡◌, ◌+◌, ◌≤◌, ◌^◌, ℕ, zero, suc, ℤ, pos, negsuc, List, [], ◌∷◌, ◌++◌, length, Bool, true, false, Option, Some, None, if◌then◌else◌, is_some, refl, sym, ◌∙◌, ap, subst, ⊎_elim, arith, append-nil}
-use Rattle.std.specs.Prelude.{◌&&◌, option_map, option_and_then, Result, Ok, Err}
+use Rattle.std.proofs.Common.{◌≡◌, ◌+◌, ◌≤◌, ◌^◌, ℕ, zero, suc, ℤ, pos, negsuc, List, [], ◌∷◌, true, Option, Some, None, is_some, refl, sym, ◌∙◌, ap, ⊎_elim, arith, append-nil}
+use Rattle.std.specs.Prelude.{option_map, option_and_then, Result, Ok, Err}
 use Rattle.std.specs.FinMap.Entries.{find}
 use Rattle.std.specs.List.{list_all}
 use Rattle.std.proofs.lemmas.Bool.{ltb-true, and_parts, cases_lt}
-use Rattle.json.specs.Json.{Json, boolean, string, array, object, Items, Members, no_members, value, if_last, max_depth, document}
+use Rattle.json.specs.Json.{Json, boolean, string, Members, no_members, value, if_last, max_depth, document}
 use Rattle.json.specs.Lex.{tokens}
-use Rattle.json.specs.Print.{print}
 use Rattle.json.specs.Tree.{json_tokens, depth, items_depth, members_depth, HasNumbers, ItemsHaveNumbers, MembersHaveNumbers}
 use Rattle.json.proofs.Printed.Decimals.{IsNumber-signed_decimal}
 use Rattle.json.proofs.Printed.Trees.{value-json_tokens, document-print}

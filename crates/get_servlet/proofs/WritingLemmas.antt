@@ -7,11 +7,11 @@ use Rattle.std.proofs.lemmas.List.Concat.{flat_map-append}
 use Rattle.json.specs.Json.{Json, Members, no_members}
 use Rattle.json.specs.Token.{Token}
 use Rattle.json.specs.Tree.{json_tokens, members_tokens}
-use Rattle.json.specs.Print.{token_text, print}
+use Rattle.json.specs.Print.{print}
 use Rattle.json.specs.Written.{Written}
+use Rattle.sp_base.specs.declared.value.Value.{Value}
 use Rattle.resource_tree.specs.Seen.{Resource, Seen}
-use Rattle.property_json.specs.PropertyJson.{Adds, property_tokens}
-use Rattle.property_json.proofs.ArrayLemmas.{members_are}
+use Rattle.property_json.specs.PropertyJson.{Adds, members_before, property_tokens}
 use Rattle.get_servlet.specs.declared.kids.Kid.{Kid}
 use Rattle.get_servlet.specs.declared.answer.JsonAnswer.TheVariants.{Whole, TooLong}
 use Rattle.get_servlet.specs.Answers.{text_within}
@@ -34,15 +34,19 @@ kids_are kid json (name ∷ names) =
     ∙ ap (λ ts. kid_tokens name json (kid name) ++ ts) (kids_are kid json names)
     ∙ sym (append_assoc (kid_tokens name json (kid name)) (flat_map (λ n. kid_tokens n json (kid n)) names) (Token.end_object ∷ []))
 
+-- the law of `property_json`: the tokens of the properties come first
+abbrev pub ComeFirst : Type 0
+ComeFirst = (props : List (List ℕ × Value)) (members : Members) → members_tokens (members_before props members) ≡ property_tokens props ++ members_tokens members
+
 -- those of the properties and of the kids, in braces
 abbrev pub in_braces : Resource → List Token → List Token
 in_braces res ts = Token.begin_object ∷ (property_tokens res.props ++ (ts ++ Token.end_object ∷ []))
 
-pub resource_tokens : (seen : Seen) (depth : ℕ) (path : List (List ℕ)) (res : Resource) → json_tokens (resource_json seen depth path res) ≡ in_braces res (below_tokens seen depth path res)
+pub resource_tokens : ComeFirst → (seen : Seen) (depth : ℕ) (path : List (List ℕ)) (res : Resource) → json_tokens (resource_json seen depth path res) ≡ in_braces res (below_tokens seen depth path res)
 unfolding resource_json below_tokens kids_tokens
-resource_tokens seen zero path res = ap (λ ts. Token.begin_object ∷ ts) (members_are res.props no_members)
-resource_tokens seen (suc depth) path res =
-    ap (λ ts. Token.begin_object ∷ ts) (members_are res.props (members_of_kids (shown_kid seen path res) (resource_json seen depth) res.kids)
+resource_tokens come_first seen zero path res = ap (λ ts. Token.begin_object ∷ ts) (come_first res.props no_members)
+resource_tokens come_first seen (suc depth) path res =
+    ap (λ ts. Token.begin_object ∷ ts) (come_first res.props (members_of_kids (shown_kid seen path res) (resource_json seen depth) res.kids)
     ∙ ap (λ ts. property_tokens res.props ++ ts) (kids_are (shown_kid seen path res) (resource_json seen depth) res.kids))
 
 braces_bytes : (res : Resource) (ts : List Token) → bytes_in (property_tokens res.props) + bytes_in ts ≤ bytes_in (in_braces res ts)
@@ -53,16 +57,16 @@ braces_bytes res ts =
 -- ---- a resource is written
 
 -- the properties alone take more room
-pub no_room : (seen : Seen) (depth room least : ℕ) (path : List (List ℕ)) (res : Resource) → least ≤ bytes_in (property_tokens res.props) → room < least
+pub no_room : ComeFirst → (seen : Seen) (depth room least : ℕ) (path : List (List ℕ)) (res : Resource) → least ≤ bytes_in (property_tokens res.props) → room < least
     → room < bytes_in (json_tokens (resource_json seen depth path res))
-no_room seen depth room least path res some over =
-    omega (arith, some, over, braces_bytes res (below_tokens seen depth path res), ap bytes_in (resource_tokens seen depth path res))
+no_room come_first seen depth room least path res some over =
+    omega (arith, some, over, braces_bytes res (below_tokens seen depth path res), ap bytes_in (resource_tokens come_first seen depth path res))
 
 -- the kids take more than is left
-pub no_room_below : (seen : Seen) (depth room least left : ℕ) (path : List (List ℕ)) (res : Resource) → least ≤ bytes_in (property_tokens res.props) → left + least ≡ room
+pub no_room_below : ComeFirst → (seen : Seen) (depth room least left : ℕ) (path : List (List ℕ)) (res : Resource) → least ≤ bytes_in (property_tokens res.props) → left + least ≡ room
     → left < bytes_in (below_tokens seen depth path res) → room < bytes_in (json_tokens (resource_json seen depth path res))
-no_room_below seen depth room least left path res some is over =
-    omega (arith, some, is, over, braces_bytes res (below_tokens seen depth path res), ap bytes_in (resource_tokens seen depth path res))
+no_room_below come_first seen depth room least left path res some is over =
+    omega (arith, some, is, over, braces_bytes res (below_tokens seen depth path res), ap bytes_in (resource_tokens come_first seen depth path res))
 
 -- these tokens were written between the braces
 object_adds : (old begun mid low end : Written) (res : Resource) (ts : List Token)
@@ -79,14 +83,14 @@ object_adds old begun mid low end res ts b bb p k e eb =
       before = eb ∙ k.before ∙ p.before ∙ bb;
     }
 
-pub object_written : (seen : Seen) (depth room least within left : ℕ) (path : List (List ℕ)) (res : Resource) (old begun mid low end : Written)
+pub object_written : ComeFirst → (seen : Seen) (depth room least within left : ℕ) (path : List (List ℕ)) (res : Resource) (old begun mid low end : Written)
     → least ≤ bytes_in (property_tokens res.props) → within + least ≡ room
     → begun.tokens ≡ old.tokens ++ Token.begin_object ∷ [] → begun.before ≡ old.before → Adds begun mid (property_tokens res.props)
     → Spends within (Some left) mid low (below_tokens seen depth path res)
     → end.tokens ≡ low.tokens ++ Token.end_object ∷ [] → end.before ≡ low.before → Spends room (Some left) old end (json_tokens (resource_json seen depth path res))
-object_written seen depth room least within left path res old begun mid low end some is b bb p k e eb =
+object_written come_first seen depth room least within left path res old begun mid low end some is b bb p k e eb =
     let ts = below_tokens seen depth path res in
-    let tokens = resource_tokens seen depth path res in (
+    let tokens = resource_tokens come_first seen depth path res in (
       subst (Adds old end) (sym tokens) (object_adds old begun mid low end res ts b bb p k.0 e eb),
       omega (arith, some, is, k.1, braces_bytes res ts, ap bytes_in tokens),
     )

@@ -1,5 +1,5 @@
 -- What the writer and the counter do step by step. Only private functions and proofs cite this.
-use Rattle.std.specs.Prelude.{◌+◌, ◌-◌, ◌<◌, ◌≤◌, ◌∷◌, ℕ, zero, suc, nat_le, if◌then◌else◌, List, [], Option, Some, None, Result, Ok, Err, flat_map, length, sum_by}
+use Rattle.std.specs.Prelude.{◌≡◌, ◌+◌, ◌<◌, ◌≤◌, ◌||◌, ◌∷◌, ℕ, Bool, true, false, zero, suc, nat_le, if◌then◌else◌, List, [], Option, Some, None, Result, Ok, Err, flat_map, length, sum_by}
 use Rattle.json.specs.Json.{Json}
 use Rattle.json.specs.Token.{Token}
 use Rattle.json.specs.Tree.{json_tokens}
@@ -9,7 +9,7 @@ use Rattle.sp_base.specs.declared.path.PathFault.{PathFault}
 use Rattle.resource_tree.specs.Seen.{Resource, Seen}
 use Rattle.property_json.specs.PropertyJson.{Adds}
 use Rattle.get_servlet.specs.declared.kids.Kid.{Kid}
-use Rattle.get_servlet.specs.Rendering.{shown_kid, resource_json, kid_count, shown_at}
+use Rattle.get_servlet.specs.Rendering.{shown_kid, resource_json, shown_at, greatest_fitting}
 
 -- ---- kids
 
@@ -43,12 +43,38 @@ abbrev pub Spends : ℕ → Option ℕ → Written → Written → List Token �
 Spends room None old new ts = room < bytes_in ts
 Spends room (Some left) old new ts = Adds old new ts × (room ≤ left + bytes_in ts)
 
--- ---- counting
+-- ---- counting, level by level
 
--- how many resources the kids of these names show
-unfoldable pub shown_below : Seen → ℕ → List (List ℕ) → Resource → List (List ℕ) → ℕ
-shown_below seen depth path res names = sum_by (λ name. kid_count (shown_at seen depth) (shown_kid seen path res name)) names
+-- a kid, if there is one, as a list
+abbrev pub kid_list : Option Kid → List Kid
+kid_list None = []
+kid_list (Some kid) = kid ∷ []
 
--- what is left of a room, where it is enough
-abbrev pub left_of : ℕ → ℕ → Option ℕ
-left_of most n = if nat_le n most then Some (most - n) else None
+-- the kids that a resource shows under these names
+unfoldable pub kids_under : Seen → List (List ℕ) → Resource → List (List ℕ) → List Kid
+kids_under seen path res names = flat_map (λ name. kid_list (shown_kid seen path res name)) names
+
+-- the kids that a resource shows
+abbrev pub shown_kids : Seen → List (List ℕ) → Resource → List Kid
+shown_kids seen path res = kids_under seen path res res.kids
+
+-- the kids of the kids of a level
+unfoldable pub next_level : Seen → List Kid → List Kid
+next_level seen level = flat_map (λ kid. shown_kids seen kid.path kid.res) level
+
+-- how many resources the kids of a level show, each with so many levels below it
+unfoldable pub shown_among : Seen → ℕ → List Kid → ℕ
+shown_among seen depth level = sum_by (λ kid. shown_at seen depth kid.path kid.res) level
+
+-- these kids were gathered, which are no more than so many; or they are more
+abbrev pub Gathers : ℕ → Bool → List Kid → List Kid → Type 0
+Gathers most true found kids = (found ≡ kids) × (length kids ≤ most)
+Gathers most false found kids = most < length kids
+
+abbrev pub GathersAll : ℕ → Option (List Kid) → List Kid → Type 0
+GathersAll most None kids = most < length kids
+GathersAll most (Some found) kids = (found ≡ kids) × (length kids ≤ most)
+
+-- the depth to ask for instead of one above 1 that shows more than 1,000 resources
+abbrev pub depth_instead : (ℕ → ℕ) → ℕ → Option ℕ
+depth_instead count depth = if nat_le depth 1 || nat_le (count depth) 1000 then None else Some (greatest_fitting count depth)

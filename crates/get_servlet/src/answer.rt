@@ -3,7 +3,7 @@ ghost use Rattle.std.specs.Prelude.{◌≡◌, IfOk};
 ghost use Rattle.get_servlet.specs.Answers.{levels_of, json_answer, Answers, ReadsAs};
 ghost use Rattle.get_servlet.specs.Rendering.{resource_json};
 
-use crate::measure::{greatest_fitting, is_large};
+use crate::measure::depth_instead;
 use crate::writing::text_answer;
 use resource_tree::{Look, Res};
 use sp_base::{Mem, TextBuf};
@@ -52,8 +52,8 @@ pub fn json_of<L: Look>(
     ensures reads_back { IfOk result (ReadsAs (resource_json (L.seen look.now) (levels_of depth) res.now.path res.now)) }
 {
     let levels = levels_of(depth);
-    if levels > 1 && is_large(alloc, look, res, levels)? {
-        return Ok(JsonAnswer::Over(greatest_fitting(alloc, look, res, levels)?));
+    match depth_instead(alloc, look, res, levels)? {
+        Some(instead) => Ok(JsonAnswer::Over(instead)),
+        None => text_answer(alloc, look, res, levels, most_bytes),
     }
-    text_answer(alloc, look, res, levels, most_bytes)
 }

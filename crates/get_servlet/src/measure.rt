@@ -1,104 +1,110 @@
-// Counts the resources that a JSON text shows, up to the most that it may.
-ghost use Rattle.std.specs.Prelude.{◌≡◌, ◌<◌, nat_lt, IfOk};
-ghost use Rattle.get_servlet.specs.Rendering.{shown_kid, kid_count, shown_at, shown, greatest_fitting};
-ghost use Rattle.get_servlet.specs.Steps.{shown_below, left_of};
-ghost use Rattle.get_servlet.specs.Answers.{IsOver};
+// Counts the resources that a JSON text shows, level by level, up to the most that it may show: each is looked up once.
+ghost use Rattle.std.specs.Prelude.{◌≡◌, ◌<◌, ◌++◌, IfOk, OnOk, option_map};
+ghost use Rattle.get_servlet.specs.Rendering.{shown_kid, shown, greatest_fitting};
+ghost use Rattle.get_servlet.specs.Steps.{kid_list, shown_kids, next_level, Gathers, GathersAll, depth_instead};
 
-use crate::kids::shown_kid;
+use crate::kids::{Kid, shown_kid};
 use resource_tree::{Look, Res};
 use sp_base::{Mem, Path};
 use std::alloc::Global;
 
 /// The most resources that a text of more than one level shows.
-const MOST_SHOWN: u32 = 1000;
+const MOST_SHOWN: usize = 1000;
 
-// How many more resources may be shown beside this one and so many levels below it, of so many in all. There is
-// no answer where these are more.
-#[cycle(measure)]
-fn room_beside<L: Look>(
+// Adds the kid of a name to a level, where it is shown.
+fn add_kid<'a, L: Look>(
     alloc: Global,
-    look: &L,
-    path: &Path,
-    res: &Res<'_>,
-    depth: u32,
-    most: u32,
-) -> Mem<Option<u32>>
-    ensures { IfOk result (λ left. left ≡ left_of most (shown_at (L.seen look.now) depth path.now res.now)) }
-{
-    if most == 0 {
-        return Ok(None);
-    }
-    if depth == 0 {
-        return Ok(Some(most - 1));
-    }
-    room_beside_kids(alloc, look, path, res, depth - 1, most - 1)
-}
-
-// The same of the kid of a name, where it is shown.
-#[cycle(measure)]
-fn room_beside_kid<L: Look>(
-    alloc: Global,
-    look: &L,
+    look: &'a L,
     path: &Path,
     res: &Res<'_>,
     name: &str,
-    depth: u32,
-    most: u32,
-) -> Mem<Option<u32>>
-    ensures { IfOk result (λ left. left ≡ left_of most (kid_count (shown_at (L.seen look.now) depth) (shown_kid (L.seen look.now) path.now res.now name.now))) }
+    level: &mut Vec<Kid<'a>>,
+) -> Mem<()>
+    ensures { OnOk result (level.new.items ≡ level.old.items ++ kid_list (shown_kid (L.seen look.now) path.now res.now name.now)) }
 {
-    let Some(kid) = shown_kid(alloc, look, path, res, name)? else {
-        return Ok(Some(most));
-    };
-    room_beside(alloc, look, &kid.path, &kid.res, depth, most)
+    if let Some(kid) = shown_kid(alloc, look, path, res, name)? {
+        level.push(kid)?;
+    }
+    Ok(())
 }
 
-// The same of the kids of a resource, each with so many levels below it.
-#[cycle(measure)]
-fn room_beside_kids<L: Look>(
+// Adds the kids that a resource shows to a level. The answer says whether it has no more than so many then; if it would have
+// more, some of them may be added.
+fn add_kids<'a, L: Look>(
     alloc: Global,
-    look: &L,
+    look: &'a L,
     path: &Path,
     res: &Res<'_>,
-    depth: u32,
-    most: u32,
-) -> Mem<Option<u32>>
-    ensures { IfOk result (λ left. left ≡ left_of most (shown_below (L.seen look.now) depth path.now res.now res.now.kids)) }
+    level: &mut Vec<Kid<'a>>,
+    most: usize,
+) -> Mem<bool>
+    ensures { IfOk result (λ all. Gathers most all level.new.items (level.old.items ++ shown_kids (L.seen look.now) path.now res.now)) }
 {
-    let mut left = most;
     for name in res.kids() {
-        let rest = room_beside_kid(alloc, look, path, res, name.text(), depth, left)?;
-        let Some(rest) = rest else {
-            return Ok(None);
-        };
-        left = rest;
+        if level.len() > most {
+            return Ok(false);
+        }
+        add_kid(alloc, look, path, res, name.text(), level)?;
     }
-    Ok(Some(left))
+    Ok(level.len() <= most)
 }
 
-/// Whether more than 1,000 resources are shown, the first included.
-pub(crate) fn is_large<L: Look>(alloc: Global, look: &L, res: &Res<'_>, depth: u32) -> Mem<bool>
-    ensures { IfOk result (λ large. large ≡ nat_lt 1000 (shown (L.seen look.now) res.now depth)) }
+// The kids of the kids of a level, if they are no more than so many.
+fn next_level<'a, L: Look>(
+    alloc: Global,
+    look: &'a L,
+    level: &[Kid<'a>],
+    most: usize,
+) -> Mem<Option<Vec<Kid<'a>>>>
+    ensures { IfOk result (λ next. GathersAll most (option_map (λ kids. kids.items) next) (next_level (L.seen look.now) level.now)) }
 {
-    Ok(room_beside(alloc, look, res.path(), res, depth, MOST_SHOWN)?.is_none())
+    let mut next = Vec::new(alloc);
+    for kid in level {
+        if !add_kids(alloc, look, &kid.path, &kid.res, &mut next, most)? {
+            return Ok(None);
+        }
+    }
+    Ok(Some(next))
 }
 
-/// The greatest depth that is 1 or shows at most 1,000 resources.
-pub(crate) fn greatest_fitting<L: Look>(
+// The greatest depth up to this one that is 1 or shows at most 1,000 resources.
+fn greatest_fitting<L: Look>(alloc: Global, look: &L, res: &Res<'_>, depth: u32) -> Mem<u32>
+    requires deep { 1 < depth }
+    ensures { IfOk result (λ most. most ≡ greatest_fitting (shown (L.seen look.now) res.now) depth) }
+{
+    let mut room = MOST_SHOWN - 1;
+    let mut level = Vec::new(alloc);
+    if !add_kids(alloc, look, res.path(), res, &mut level, room)? {
+        return Ok(1);
+    }
+    for reached in 1..depth {
+        room -= level.len();
+        let Some(next) = next_level(alloc, look, &level, room)? else {
+            return Ok(reached);
+        };
+        if next.is_empty() {
+            return Ok(depth);
+        }
+        level = next;
+    }
+    Ok(depth)
+}
+
+/// The depth to ask for instead of one above 1 that shows more than 1,000 resources.
+pub(crate) fn depth_instead<L: Look>(
     alloc: Global,
     look: &L,
     res: &Res<'_>,
     depth: u32,
-) -> Mem<u32>
-    requires deep { 1 < depth }
-    requires large { 1000 < shown (L.seen look.now) res.now depth }
-    ensures value { IfOk result (λ most. most ≡ greatest_fitting (shown (L.seen look.now) res.now) depth) }
-    ensures meaning { IfOk result (IsOver (L.seen look.now) res.now depth) }
+) -> Mem<Option<u32>>
+    ensures { IfOk result (λ instead. instead ≡ depth_instead (shown (L.seen look.now) res.now) depth) }
 {
-    for deeper in 2..depth {
-        if is_large(alloc, look, res, deeper)? {
-            return Ok(deeper - 1);
-        }
+    if depth <= 1 {
+        return Ok(None);
     }
-    Ok(depth - 1)
+    let fitting = greatest_fitting(alloc, look, res, depth)?;
+    if fitting < depth {
+        return Ok(Some(fitting));
+    }
+    Ok(None)
 }

@@ -9,7 +9,7 @@ use crate::answer::JsonAnswer;
 use crate::kids::shown_kid;
 use crate::lengths::properties_bytes;
 use json::Writer;
-use property_json::write_properties;
+use property_json::{properties_come_first, write_properties};
 use resource_tree::{Look, Res};
 use sp_base::{Mem, Path, TextBuf};
 use std::alloc::Global;
@@ -28,6 +28,8 @@ fn write_resource<L: Look>(
 ) -> Mem<Option<usize>>
     ensures { IfOk result (λ left. Spends room left writer.old writer.new (json_tokens (resource_json (L.seen look.now) depth path.now res.now))) }
 {
+    // A law: where the tokens of the kids stand.
+    properties_come_first();
     let Some(room) = room.checked_sub(properties_bytes(res.props())) else {
         return Ok(None);
     };

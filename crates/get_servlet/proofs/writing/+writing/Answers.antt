@@ -1,4 +1,4 @@
-use Rattle.std.proofs.Common.{◌≡◌, ◌+◌, ◌-◌, ◌<◌, ◌≤◌, ◌++◌, List, ℕ, Option, Some, None, length, take, subst, sym, ◌∙◌, ap, arith}
+use Rattle.std.proofs.Common.{◌≡◌, ◌+◌, ◌-◌, ◌<◌, ◌≤◌, List, ℕ, Option, Some, length, take, subst, sym, ◌∙◌, ap, arith}
 use Rattle.std.proofs.lemmas.List.{take_all}
 use Rattle.std.proofs.lemmas.Result.{IfOk-weaker}
 use Rattle.json.specs.Tree.{json_tokens}
@@ -90,7 +90,7 @@ write_kids-returns g t c =
 pub write_resource-returns-in_default : goal.write_resource-returns-in_default
 write_resource-returns-in_default g t c =
     let some = subst (λ ps. c.properties_bytes.result ≤ bytes_in (property_tokens ps)) c.props.ensures c.properties_bytes.ensures in
-    no_room (g.L.Look.seen c.args.look.now) c.args.depth c.args.room c.properties_bytes.result c.args.path.now c.args.res.now some (omega (arith, c.in_default.ensures))
+    no_room c.properties_come_first.ensures (g.L.Look.seen c.args.look.now) c.args.depth c.args.room c.properties_bytes.result c.args.path.now c.args.res.now some (omega (arith, c.in_default.ensures))
 
 pub write_resource-returns-in_default-2 : goal.write_resource-returns-in_default-2
 write_resource-returns-in_default-2 g t c =
@@ -99,7 +99,7 @@ write_resource-returns-in_default-2 g t c =
     let res = c.args.res.now in
     let some = subst (λ ps. c.properties_bytes.result ≤ bytes_in (property_tokens ps)) c.props.ensures c.properties_bytes.ensures in
     let over = subst (λ (o : Option ℕ). Spends c.in-Some.room o c.write_properties.new.writer c.write_kids.new.writer (below_tokens seen c.args.depth path res)) c.in_default-2.is c.in_ok-left.ensures in
-    no_room_below seen c.args.depth c.args.room c.properties_bytes.result c.in-Some.room path res some (omega (arith, c.in-Some.ensures)) over
+    no_room_below c.properties_come_first.ensures seen c.args.depth c.args.room c.properties_bytes.result c.in-Some.room path res some (omega (arith, c.in-Some.ensures)) over
 
 pub write_resource-returns : goal.write_resource-returns
 write_resource-returns g t c =
@@ -112,5 +112,5 @@ write_resource-returns g t c =
     let some = subst (λ ps. c.properties_bytes.result ≤ bytes_in (property_tokens ps)) c.props.ensures c.properties_bytes.ensures in
     let spent = subst (λ (o : Option ℕ). Spends c.in-Some.room o mid low (below_tokens seen c.args.depth path res)) c.in-Some-2.is c.in_ok-left.ensures in
     let props = rw c.props-2.ensures at c.in_ok-write_properties.ensures.tokens in
-    object_written seen c.args.depth c.args.room c.properties_bytes.result c.in-Some.room c.in-Some-2.left path res c.args.writer.now begun mid low c.end_object.new.self
+    object_written c.properties_come_first.ensures seen c.args.depth c.args.room c.properties_bytes.result c.in-Some.room c.in-Some-2.left path res c.args.writer.now begun mid low c.end_object.new.self
     some (omega (arith, c.in-Some.ensures)) c.in_ok-begin_object.ensures.ok c.in_ok-begin_object.ensures.room.0 props spent c.in_ok-end_object.ensures.ok c.in_ok-end_object.ensures.room.0

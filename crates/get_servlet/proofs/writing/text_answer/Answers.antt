@@ -1,8 +1,7 @@
-use Rattle.std.proofs.Common.{◌≡◌, ◌≤◌, ◌<◌, ◌++◌, [], List, ℕ, Option, Some, length, subst, ◌∙◌, ap, arith}
+use Rattle.std.proofs.Common.{◌≡◌, ◌++◌, [], List, ℕ, Option, length, subst, ◌∙◌, ap, arith}
 use Rattle.json.specs.Lex.{tokens}
 use Rattle.json.specs.Print.{print}
 use Rattle.json.specs.Tree.{json_tokens}
-use Rattle.property_json.specs.PropertyJson.{Adds}
 use Rattle.get_servlet.specs.declared.answer.JsonAnswer.TheVariants.{Whole}
 use Rattle.get_servlet.specs.Rendering.{resource_json, json_text}
 use Rattle.get_servlet.specs.Steps.{Spends}

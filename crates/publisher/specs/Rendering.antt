@@ -49,26 +49,26 @@ abbrev pub mark_of : Res → Mark
 mark_of res = mark_in (text_in res.props (codes "sp:mark"))
 
 -- a representation of at most 4,194,304 bytes; a longer one is an error
-abbrev pub page_of : List ℕ → Mark → List ℕ → Answer
-page_of kind mark body = if nat_le (length body) 4194304 then answer_of 200 kind mark body else error_answer 500
+abbrev pub representation_of : List ℕ → Mark → List ℕ → Answer
+representation_of kind mark body = if nat_le (length body) 4194304 then answer_of 200 kind mark body else error_answer 500
 
 abbrev pub json_kind : List ℕ
 json_kind = codes "application/json;charset=utf-8"
 
 -- the JSON text, or the targets that may be asked for instead
-abbrev pub json_page : Res → JsonAnswer → Answer
-json_page res (Whole text) = page_of json_kind (mark_of res) text
-json_page res (Over most) = answer_of 300 json_kind Plain (choices_text res.path most)
+abbrev pub json_representation : Res → JsonAnswer → Answer
+json_representation res (Whole text) = representation_of json_kind (mark_of res) text
+json_representation res (Over most) = answer_of 300 json_kind Plain (choices_text res.path most)
 
 -- a resource as JSON at the depth that is asked for, if one is
-abbrev pub json_at : Seen → Res → Option Depth → Answer
-json_at seen res None = error_answer 400
-json_at seen res (Some depth) = json_page res (json_answer seen res (levels_of depth))
+abbrev pub json_to_depth : Seen → Res → Option Depth → Answer
+json_to_depth seen res None = error_answer 400
+json_to_depth seen res (Some depth) = json_representation res (json_answer seen res (levels_of depth))
 
 -- the content of a file
-abbrev pub file_page : Res → Option Stream → Answer
-file_page res None = error_answer 404
-file_page res (Some stream) = page_of stream.kind (mark_of res) stream.body
+abbrev pub file_representation : Res → Option Stream → Answer
+file_representation res None = error_answer 404
+file_representation res (Some stream) = representation_of stream.kind (mark_of res) stream.body
 
 abbrev pub is_json : List ℕ → Bool
 is_json extension = pointwise nat_eq extension (codes "json")
@@ -79,8 +79,8 @@ is_bare parts = length parts.selectors == 0 && (length parts.extension == 0 && l
 
 -- the answer of the default GET servlet: with the extension `json` the resource as JSON, without extension, selectors and suffix its stream
 abbrev pub default_answer : Seen → Parts → Res → Answer
-default_answer seen parts res = if is_json parts.extension then json_at seen res (depth_of parts.selectors)
-    else (if is_bare parts then file_page res (stream_of seen res) else error_answer 404)
+default_answer seen parts res = if is_json parts.extension then json_to_depth seen res (depth_of parts.selectors)
+    else (if is_bare parts then file_representation res (stream_of seen res) else error_answer 404)
 
 -- the text of the script that ranks first for a resource, if there is one
 unfoldable pub script_for : Content → Parts → Res → Option (List ℕ)
@@ -94,13 +94,13 @@ abbrev pub scope_of : Res → Scope
 scope_of res = record { props = res.props; path = text_of res.path; name = name_of res.path; kind = type_text res.props }
 
 -- what a script's template writes for a resource; a text that is no template is an error
-abbrev pub script_page : Res → Result (List Piece) TextFault → Answer
-script_page res (Ok pieces) = page_of html_kind (mark_of res) (written_by (scope_of res) pieces)
-script_page res (Err fault) = error_answer 500
+abbrev pub script_representation : Res → Result (List Piece) TextFault → Answer
+script_representation res (Ok pieces) = representation_of html_kind (mark_of res) (written_by (scope_of res) pieces)
+script_representation res (Err fault) = error_answer 500
 
 -- the answer of a resource: what the script's template writes, or without a script the answer of the default GET servlet
 abbrev pub answer_by : Option (List ℕ) → Seen → Parts → Res → Answer
-answer_by (Some text) seen parts res = script_page res (template_of text)
+answer_by (Some text) seen parts res = script_representation res (template_of text)
 answer_by None seen parts res = default_answer seen parts res
 
 -- the answer of what is seen at a path, by the script that ranks first for it
@@ -109,9 +109,9 @@ resource_answer tree parts None = error_answer 404
 resource_answer tree parts (Some res) = answer_by (script_for tree parts res) (res_at tree) parts res
 
 -- the answer to a path that was taken apart, if it names a resource
-abbrev pub found_answer : Content → Option Parts → Answer
-found_answer tree None = error_answer 404
-found_answer tree (Some parts) = resource_answer tree parts (res_at tree parts.path)
+abbrev pub split_answer : Content → Option Parts → Answer
+split_answer tree None = error_answer 404
+split_answer tree (Some parts) = resource_answer tree parts (res_at tree parts.path)
 
 -- the tree has a node at the path
 abbrev pub has_node : Content → List (List ℕ) → Bool
@@ -119,4 +119,4 @@ has_node tree path = is_some (node_at tree path)
 
 -- the answer to a request: another method than GET and HEAD isn't allowed; else the text of the path is taken apart
 unfoldable pub rendered : Content → Ask → Answer
-rendered tree ask = if is_read ask.method then found_answer tree (split_of (has_node tree) (text_of ask.path)) else error_answer 405
+rendered tree ask = if is_read ask.method then split_answer tree (split_of (has_node tree) (text_of ask.path)) else error_answer 405

@@ -2,11 +2,11 @@
 ghost use Rattle.std.specs.Prelude.{◌≡◌, Ok, IfOk, option_copied};
 ghost use Rattle.resource_tree.specs.Content.{name_of};
 ghost use Rattle.htl_text.specs.Template.{template_of, text_of as written_by};
-ghost use Rattle.publisher.specs.Rendering.{script_for, script_page, scope_of, page_of, html_kind};
+ghost use Rattle.publisher.specs.Rendering.{script_for, script_representation, scope_of, representation_of, html_kind};
 
 use crate::errors::error_answer;
 use crate::methods::mark_of;
-use crate::pages::page_of;
+use crate::representations::representation_of;
 use htl_expr::Scope;
 use htl_text::{RenderFault, Template, TextFault};
 use resource_tree::{Res, Tree};
@@ -58,31 +58,31 @@ fn scope_of(alloc: Global, res: Res) -> Mem<Scope>
 }
 
 // What a template writes, as a page; an error where that is too long.
-fn written_page(alloc: Global, template: &Template, scope: &Scope, mark: Mark) -> Mem<Answer>
-    ensures { IfOk result (λ a. a ≡ page_of html_kind mark (written_by scope.now template.now)) }
+fn written_representation(alloc: Global, template: &Template, scope: &Scope, mark: Mark) -> Mem<Answer>
+    ensures { IfOk result (λ a. a ≡ representation_of html_kind mark (written_by scope.now template.now)) }
 {
     match template.render(alloc, scope) {
-        Ok(body) => page_of(alloc, HTML_KIND, mark, body),
+        Ok(body) => representation_of(alloc, HTML_KIND, mark, body),
         Err(RenderFault::TooLong) => error_answer(alloc, 500),
         Err(RenderFault::NoMemory) => Err(NoMemory),
     }
 }
 
 // What a template writes for a resource.
-fn template_page(alloc: Global, template: &Template, res: Res) -> Mem<Answer>
-    ensures { IfOk result (λ a. a ≡ script_page res (Ok template.now)) }
+fn template_representation(alloc: Global, template: &Template, res: Res) -> Mem<Answer>
+    ensures { IfOk result (λ a. a ≡ script_representation res (Ok template.now)) }
 {
     let mark = mark_of(&res);
     let scope = scope_of(alloc, res)?;
-    written_page(alloc, template, &scope, mark)
+    written_representation(alloc, template, &scope, mark)
 }
 
 /// What a script's template writes for a resource; an error where the script is no template.
-pub(crate) fn script_page(alloc: Global, text: &str, res: Res) -> Mem<Answer>
-    ensures { IfOk result (λ a. a ≡ script_page res (template_of text.now)) }
+pub(crate) fn script_representation(alloc: Global, text: &str, res: Res) -> Mem<Answer>
+    ensures { IfOk result (λ a. a ≡ script_representation res (template_of text.now)) }
 {
     match Template::read(alloc, text) {
-        Ok(template) => template_page(alloc, &template, res),
+        Ok(template) => template_representation(alloc, &template, res),
         Err(TextFault::NoMemory) => Err(NoMemory),
         Err(_) => error_answer(alloc, 500),
     }

@@ -2,11 +2,11 @@ ghost use Rattle.std.specs.Prelude.{◌≡◌, IfOk};
 ghost use Rattle.resource_tree.specs.Seen.{res_at};
 ghost use Rattle.url_split.specs.Split.{split_of};
 ghost use Rattle.sp_base.specs.Paths.{text_of};
-ghost use Rattle.publisher.specs.Rendering.{has_node, found_answer, resource_answer, rendered};
+ghost use Rattle.publisher.specs.Rendering.{has_node, split_answer, resource_answer, rendered};
 
 use crate::errors::error_answer;
 use crate::methods::is_read;
-use crate::pages::resource_answer;
+use crate::representations::resource_answer;
 use resource_tree::{Look, Tree};
 use sp_base::{Answer, Ask, Mem, Path};
 use std::alloc::Global;
@@ -54,7 +54,7 @@ impl Publisher {
 
     // The answer to a path, which names a resource and says how it is asked for.
     fn page(&self, alloc: Global, path: &Path) -> Mem<Answer>
-        ensures { IfOk result (λ a. a ≡ found_answer self.now (split_of (has_node self.now) (text_of path.now))) }
+        ensures { IfOk result (λ a. a ≡ split_answer self.now (split_of (has_node self.now) (text_of path.now))) }
     {
         let text = path.text(alloc)?;
         match split(alloc, self, text.text())? {

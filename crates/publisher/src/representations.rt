@@ -2,13 +2,13 @@
 ghost use Rattle.std.specs.Prelude.{◌≡◌, Some, IfOk};
 ghost use Rattle.get_servlet.specs.Streams.{stream_of};
 ghost use Rattle.publisher.specs.Depths.{depth_of};
-ghost use Rattle.publisher.specs.Rendering.{page_of, json_page, json_at, file_page, is_bare, default_answer, resource_answer};
+ghost use Rattle.publisher.specs.Rendering.{representation_of, json_representation, json_to_depth, file_representation, is_bare, default_answer, resource_answer};
 
 use crate::choices::choices_text;
 use crate::depths::depth_of;
 use crate::errors::{answer_of, error_answer};
 use crate::methods::mark_of;
-use crate::scripts::{script_for, script_page};
+use crate::scripts::{script_for, script_representation};
 use get_servlet::{JsonAnswer, Stream, json_of, stream_of};
 use resource_tree::{Look, Res, Tree};
 use sp_base::{Answer, ByteBuf, Mark, Mem, TextBuf};
@@ -21,8 +21,8 @@ const MOST_BYTES: usize = 4_194_304;
 const JSON_KIND: &str = "application/json;charset=utf-8";
 
 /// A representation, or an error where it is too long.
-pub(crate) fn page_of(alloc: Global, kind: &str, mark: Mark, body: TextBuf) -> Mem<Answer>
-    ensures { IfOk result (λ a. a ≡ page_of kind.now mark body) }
+pub(crate) fn representation_of(alloc: Global, kind: &str, mark: Mark, body: TextBuf) -> Mem<Answer>
+    ensures { IfOk result (λ a. a ≡ representation_of kind.now mark body) }
 {
     if body.text().len() > MOST_BYTES {
         return error_answer(alloc, 500);
@@ -30,11 +30,11 @@ pub(crate) fn page_of(alloc: Global, kind: &str, mark: Mark, body: TextBuf) -> M
     answer_of(alloc, 200, kind, mark, ByteBuf::from(body))
 }
 
-fn json_page(alloc: Global, res: &Res, answer: JsonAnswer) -> Mem<Answer>
-    ensures { IfOk result (λ a. a ≡ json_page res.now answer) }
+fn json_representation(alloc: Global, res: &Res, answer: JsonAnswer) -> Mem<Answer>
+    ensures { IfOk result (λ a. a ≡ json_representation res.now answer) }
 {
     match answer {
-        JsonAnswer::Whole(text) => page_of(alloc, JSON_KIND, mark_of(res), text),
+        JsonAnswer::Whole(text) => representation_of(alloc, JSON_KIND, mark_of(res), text),
         JsonAnswer::Over(most) => {
             let choices = choices_text(alloc, &res.path, most)?;
             answer_of(alloc, 300, JSON_KIND, Mark::Plain, ByteBuf::from(choices))
@@ -43,23 +43,23 @@ fn json_page(alloc: Global, res: &Res, answer: JsonAnswer) -> Mem<Answer>
 }
 
 // The resource as JSON, to the depth that the selectors ask for.
-fn json_at<L: Look>(alloc: Global, look: &L, parts: &Parts, res: &Res) -> Mem<Answer>
-    ensures { IfOk result (λ a. a ≡ json_at (L.seen look.now) res.now (depth_of parts.now.selectors)) }
+fn json_to_depth<L: Look>(alloc: Global, look: &L, parts: &Parts, res: &Res) -> Mem<Answer>
+    ensures { IfOk result (λ a. a ≡ json_to_depth (L.seen look.now) res.now (depth_of parts.now.selectors)) }
 {
     let Some(depth) = depth_of(&parts.selectors) else {
         return error_answer(alloc, 400);
     };
-    json_page(alloc, res, json_of(alloc, look, res, depth)?)
+    json_representation(alloc, res, json_of(alloc, look, res, depth)?)
 }
 
-fn file_page<L: Look>(alloc: Global, look: &L, res: &Res) -> Mem<Answer>
-    ensures { IfOk result (λ a. a ≡ file_page res.now (stream_of (L.seen look.now) res.now)) }
+fn file_representation<L: Look>(alloc: Global, look: &L, res: &Res) -> Mem<Answer>
+    ensures { IfOk result (λ a. a ≡ file_representation res.now (stream_of (L.seen look.now) res.now)) }
 {
     let Some(stream) = stream_of(alloc, look, res)? else {
         return error_answer(alloc, 404);
     };
     let Stream { kind, body } = stream;
-    page_of(alloc, kind.text(), mark_of(res), body)
+    representation_of(alloc, kind.text(), mark_of(res), body)
 }
 
 // Whether the URL names the resource and nothing else.
@@ -76,10 +76,10 @@ fn default_answer<L: Look>(alloc: Global, look: &L, parts: &Parts, res: &Res) ->
     ensures { IfOk result (λ a. a ≡ default_answer (L.seen look.now) parts.now res.now) }
 {
     if parts.extension.text() == "json" {
-        return json_at(alloc, look, parts, res);
+        return json_to_depth(alloc, look, parts, res);
     }
     if is_bare(parts) {
-        return file_page(alloc, look, res);
+        return file_representation(alloc, look, res);
     }
     error_answer(alloc, 404)
 }
@@ -89,7 +89,7 @@ pub(crate) fn resource_answer(alloc: Global, tree: &Tree, parts: &Parts, res: Re
     ensures { IfOk result (λ a. a ≡ resource_answer tree.now parts.now (Some res)) }
 {
     match script_for(alloc, tree, parts, &res)? {
-        Some(text) => script_page(alloc, text.text(), res),
+        Some(text) => script_representation(alloc, text.text(), res),
         None => default_answer(alloc, tree, parts, &res),
     }
 }

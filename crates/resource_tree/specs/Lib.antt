@@ -2,3 +2,4 @@ pub mod Content
 pub mod Kids
 pub mod Changes
 pub mod Seen
+pub mod Shown

@@ -19,7 +19,7 @@ mod tests;
 mod tree;
 
 pub use faults::TreeFault;
-pub use look::{Look, Res};
+pub use look::{Look, Res, Shown};
 pub use nodes::Node;
 pub use places::Place;
 pub use tree::Tree;

@@ -1,5 +1,8 @@
-use crate::{Look, Place, Tree, TreeFault};
-use sp_base::{NoMemory, Path, TextBuf, Value};
+ghost use Rattle.std.specs.Prelude.{◌≡◌, ◌++◌, ◌∷◌, [], IfOk, IfSome, IsTrue, Some};
+ghost use Rattle.sp_base.specs.Paths.{seg_ok};
+
+use crate::{Look, Place, Res, Tree, TreeFault};
+use sp_base::{Mem, NoMemory, Path, TextBuf, Value};
 use std::alloc::Global;
 
 /// A refusal or want of memory where a test expects none.
@@ -174,7 +177,7 @@ fn values_are_set_and_taken_away(rt: HostRuntime) -> Result<(), Failed> {
         None => assert!(rt; false),
     }
     match tree.res(alloc, &path)? {
-        Some(res) => assert!(rt; res.props.get("size").is_some()),
+        Some(res) => assert!(rt; res.props().get("size").is_some()),
         None => assert!(rt; false),
     }
     match tree.node(&path) {
@@ -183,5 +186,39 @@ fn values_are_set_and_taken_away(rt: HostRuntime) -> Result<(), Failed> {
     }
     assert!(rt; tree.unset(alloc, &path, "size")?);
     assert!(rt; !tree.unset(alloc, &path, "size")?);
+    Ok(())
+}
+
+// The resource of a kid, where the kid is there: a caller over any look-up.
+fn kid_at<'a, L: Look>(
+    alloc: Global,
+    look: &'a L,
+    res: &Res<'_>,
+    name: &str,
+) -> Mem<Option<Res<'a>>>
+    ensures { IfOk result (λ found. IfSome found (λ kid. IsTrue (seg_ok name.now) → L.seen look.now (res.now.path ++ name.now ∷ []) ≡ Some kid)) }
+{
+    match res.path().child(alloc, name) {
+        Ok(path) => look.res(alloc, &path),
+        Err(_) => Ok(None),
+    }
+}
+
+#[test]
+fn a_resource_lends_its_node(rt: HostRuntime) -> Result<(), Failed> {
+    let alloc = rt.alloc();
+    let mut tree = tree_of(alloc, &["/a", "/a/b"])?;
+    tree.set(alloc, &at(alloc, "/a/b")?, "size", Value::Long(1))?;
+    let Some(res) = tree.res(alloc, &at(alloc, "/a")?)? else {
+        return Err(Failed);
+    };
+    assert_eq!(rt; res.kids().len(), 1);
+    match kid_at(alloc, &tree, &res, "b")? {
+        Some(kid) => {
+            assert!(rt; kid.props().get("size").is_some());
+            assert_eq!(rt; kid.path().depth(), 2);
+        }
+        None => assert!(rt; false),
+    }
     Ok(())
 }

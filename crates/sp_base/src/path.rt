@@ -3,6 +3,8 @@ ghost use Rattle.std.specs.Cmp.{partial_equiv_from_equiv, partial_order_from_agr
 ghost use Rattle.std.specs.Cmp.Lexicographic.{slice_cmp, lists_total, nat_list_cmp_total};
 ghost use Rattle.std.specs.Ordering.{nat_cmp, eq_by_cmp};
 ghost use Rattle.std.proofs.lemmas.Cmp.{eq_by_cmp_equiv};
+ghost use Rattle.std.specs.Hash as fed;
+ghost use Rattle.sp_base.specs.PathExact.{fed_alike};
 ghost use Rattle.sp_base.specs.Paths.{seg_ok, path_of, child_of, join_of, parent_of, text_of, unmangled, is_under, is_path, fault_of, checked, segs_in, spelled};
 ghost use Rattle.sp_base.specs.declared.path.PathFault.TheVariants.{NoMemory as no_memory};
 
@@ -14,6 +16,7 @@ use crate::segments::{
 use crate::{Mem, NoMemory, TextBuf};
 use std::alloc::{AllocError, AllocFailed, Global};
 use std::cmp::Ordering;
+use std::hash::{Hash, Hasher};
 use std::marker::Model;
 
 /// Why a text is no path.
@@ -213,6 +216,17 @@ impl PartialEq for Path {
 
 impl Eq for Path {
     ghost laws = { eq_by_cmp_equiv (lists_total nat_list_cmp_total) };
+}
+
+// The text as std hashes one.
+impl Hash for Path {
+    ghost hash_input = { λ p. fed.str (spelled p) };
+
+    ghost respects_eq = { fed_alike };
+
+    fn hash<H: Hasher>(&self, state: &mut H) {
+        self.text.as_str().hash(state);
+    }
 }
 
 impl PartialOrd for Path {

@@ -4,7 +4,6 @@ use Rattle.std.specs.Prelude.{slice_get}
 use Rattle.std.specs.List.{before_first, IsDistinct, AllByRecursion}
 use Rattle.std.proofs.lemmas.List.Folds.{list_any-append}
 use Rattle.sp_base.specs.declared.value.Value.{Value}
-use Rattle.resource_tree.specs.declared.look.Res.{Res}
 use Rattle.resource_tree.specs.Content.{Content}
 use Rattle.type_chain.specs.declared.type_name.TypeName.{TypeName}
 use Rattle.type_chain.specs.Types.{same_type, type_of}
@@ -43,11 +42,11 @@ with-length : (there : Bool) (types : List TypeName) → length types ≤ 32 →
 with-length true types h = omega (arith, h)
 with-length false types h = omega (arith, h, length-append types (default_type ∷ []))
 
-pub chain-length : (tree : Content) (res : Res) → length (chain_of tree res) ≤ 33
+pub chain-length : (tree : Content) (props : List (List ℕ × Value)) → length (chain_of tree props) ≤ 33
 unfolding chain_of
-chain-length tree res =
-    let types = own_types tree res.props (type_of (type_text res.props)) in
-    with-length (has_type default_type types) types (own-length tree res.props (type_of (type_text res.props)))
+chain-length tree props =
+    let types = own_types tree props (type_of (type_text props)) in
+    with-length (has_type default_type types) types (own-length tree props (type_of (type_text props)))
 
 -- ---- the default type
 
@@ -59,10 +58,10 @@ with-has : (there : Bool) (types : List TypeName) → has_type default_type type
 with-has true types e = e
 with-has false types e = list_any-append (λ other. same_type other default_type) types (default_type ∷ []) ∙ or_last (has_type default_type types)
 
-pub chain-default : (tree : Content) (res : Res) → has_type default_type (chain_of tree res) ≡ true
+pub chain-default : (tree : Content) (props : List (List ℕ × Value)) → has_type default_type (chain_of tree props) ≡ true
 unfolding chain_of
-chain-default tree res =
-    let types = own_types tree res.props (type_of (type_text res.props)) in
+chain-default tree props =
+    let types = own_types tree props (type_of (type_text props)) in
     with-has (has_type default_type types) types refl
 
 -- ---- no repeats
@@ -124,12 +123,12 @@ with-distinct : (there : Bool) (types : List TypeName) → has_type default_type
 with-distinct true types e h = h
 with-distinct false types e h = push-distinct default_type types h e
 
-pub chain-distinct : (tree : Content) (res : Res) → IsDistinct same_type (chain_of tree res)
+pub chain-distinct : (tree : Content) (props : List (List ℕ × Value)) → IsDistinct same_type (chain_of tree props)
 unfolding chain_of
-chain-distinct tree res =
-    let own = type_of (type_text res.props) in
-    let types = own_types tree res.props own in
-    with-distinct (has_type default_type types) types refl (until-distinct (line_from tree own (super_of tree res.props own)))
+chain-distinct tree props =
+    let own = type_of (type_text props) in
+    let types = own_types tree props own in
+    with-distinct (has_type default_type types) types refl (until-distinct (line_from tree own (super_of tree props own)))
 
 -- ---- each the super type of the one before
 
@@ -189,17 +188,17 @@ with-pair : (there : Bool) (types : List TypeName) (k : ℕ) (a b : TypeName) �
 with-pair true types k a b e f = inl (e, f)
 with-pair false types k a b e f = push-pair default_type types k a b e f
 
-pub chain-follows : (tree : Content) (res : Res) (k : ℕ) (a b : TypeName) → 0 < k → slice_get (chain_of tree res) k ≡ Some a → slice_get (chain_of tree res) (k + 1) ≡ Some b
+pub chain-follows : (tree : Content) (props : List (List ℕ × Value)) (k : ℕ) (a b : TypeName) → 0 < k → slice_get (chain_of tree props) k ≡ Some a → slice_get (chain_of tree props) (k + 1) ≡ Some b
     → (super_type tree a ≡ Some b) ⊎ (b ≡ default_type)
 unfolding chain_of
-chain-follows tree res zero a b more e f = absurd (omega (arith, more))
-chain-follows tree res (suc k) a b more e f =
-    let own = type_of (type_text res.props) in
-    let from = line_from tree own (super_of tree res.props own) in
-    let types = own_types tree res.props own in
+chain-follows tree props zero a b more e f = absurd (omega (arith, more))
+chain-follows tree props (suc k) a b more e f =
+    let own = type_of (type_text props) in
+    let from = line_from tree own (super_of tree props own) in
+    let types = own_types tree props own in
     let next : suc k + 1 ≡ suc (suc k) = omega arith in
     ⊎_elim
-    (λ p. inl (from-get tree own (super_of tree res.props own) k a b (until-get from (suc k) a p.0) (until-get from (suc (suc k)) b p.1)))
+    (λ p. inl (from-get tree own (super_of tree props own) k a b (until-get from (suc k) a p.0) (until-get from (suc (suc k)) b p.1)))
     (λ d. inr d)
     (with-pair (has_type default_type types) types (suc k) a b e (subst (λ n. slice_get (with_default types) n ≡ Some b) next f))
 
@@ -207,8 +206,8 @@ with-first : (there : Bool) (x : TypeName) (xs : List TypeName) → slice_get (c
 with-first true x xs = refl
 with-first false x xs = refl
 
-pub chain-first : (tree : Content) (res : Res) (own : TypeName) → type_of (type_text res.props) ≡ Some own → slice_get (chain_of tree res) 0 ≡ Some own
+pub chain-first : (tree : Content) (props : List (List ℕ × Value)) (own : TypeName) → type_of (type_text props) ≡ Some own → slice_get (chain_of tree props) 0 ≡ Some own
 unfolding chain_of
-chain-first tree res own e =
-    ap (λ o. slice_get (with_default (own_types tree res.props o)) 0) e
-    ∙ with-first (has_type default_type (own_types tree res.props (Some own))) own (before_first (same_type own) (until_repeat (line tree 31 (super_of tree res.props (Some own)))))
+chain-first tree props own e =
+    ap (λ o. slice_get (with_default (own_types tree props o)) 0) e
+    ∙ with-first (has_type default_type (own_types tree props (Some own))) own (before_first (same_type own) (until_repeat (line tree 31 (super_of tree props (Some own)))))

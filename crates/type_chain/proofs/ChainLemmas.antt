@@ -1,12 +1,13 @@
 -- Types up to the first repeat, taken one after another.
 use Rattle.std.proofs.Common.{◌≡◌, ◌+◌, ◌-◌, ◌<◌, ◌≤◌, ◌++◌, ℕ, zero, suc, Bool, true, false, not, cond, ◌||◌, List, [], ◌∷◌, Option, Some, None, length, take, refl, sym, ◌∙◌, ap, subst, arith, append_assoc, append-nil, length-append, lit≤}
+use Rattle.std.specs.Prelude.{option_and_then}
 use Rattle.std.proofs.lemmas.List.Folds.{list_any-append}
 use Rattle.std.specs.List.{before_first, position_or_len}
 use Rattle.sp_base.specs.declared.value.Value.{Value}
 use Rattle.resource_tree.specs.Content.{Content}
 use Rattle.type_chain.specs.declared.type_name.TypeName.{TypeName}
-use Rattle.type_chain.specs.Types.{same_type}
-use Rattle.type_chain.specs.Chain.{has_type, until_repeat, line, own_types, super_of, super_type}
+use Rattle.type_chain.specs.Types.{same_type, type_of}
+use Rattle.type_chain.specs.Chain.{has_type, until_repeat, line, only, own_types, super_of, super_text, super_type}
 
 -- the types before the first that is among the earlier ones, or repeats one of these
 abbrev pub fresh : List TypeName → List TypeName → List TypeName
@@ -75,11 +76,19 @@ pub record Goes (tree : Content) (props : List (List ℕ × Value)) (own : Optio
   pub few : length types ≤ 32
   pub rest : types ++ fresh types (line tree (32 - length types) next) ≡ own_types tree props own
 
-pub begins : (tree : Content) (props : List (List ℕ × Value)) → Goes tree props None [] (super_of tree props None)
+begins : (tree : Content) (props : List (List ℕ × Value)) → Goes tree props None [] (super_of tree props None)
 begins tree props = record { few = lit≤ tt; rest = fresh-none (line tree 32 (super_of tree props None)) }
 
-pub begins_with : (tree : Content) (props : List (List ℕ × Value)) (type : TypeName) → Goes tree props (Some type) (type ∷ []) (super_of tree props (Some type))
+begins_with : (tree : Content) (props : List (List ℕ × Value)) (type : TypeName) → Goes tree props (Some type) (type ∷ []) (super_of tree props (Some type))
 begins_with tree props type = record { few = lit≤ tt; rest = fresh-none (type ∷ line tree 31 (super_of tree props (Some type))) }
+
+pub begins_only : (tree : Content) (props : List (List ℕ × Value)) (own : Option TypeName) → Goes tree props own (only own) (super_of tree props own)
+begins_only tree props None = begins tree props
+begins_only tree props (Some type) = begins_with tree props type
+
+pub super_is : (tree : Content) (type : TypeName) (text : Option (List ℕ)) → text ≡ super_text tree type → option_and_then type_of text ≡ super_type tree type
+unfolding super_type
+super_is tree type text e = ap (option_and_then type_of) e
 
 line-more : (tree : Content) (n k : ℕ) (type : TypeName) → n ≡ suc k → line tree n (Some type) ≡ type ∷ line tree k (super_type tree type)
 unfolding line

@@ -4,7 +4,6 @@ use Rattle.std.specs.List.{before_first, list_any}
 use Rattle.std.specs.Option.{option_or}
 use Rattle.sp_base.specs.Properties.{text_in}
 use Rattle.sp_base.specs.declared.value.Value.{Value}
-use Rattle.resource_tree.specs.declared.look.Res.{Res}
 use Rattle.resource_tree.specs.Content.{Content, node_at}
 use Rattle.type_chain.specs.declared.type_name.TypeName.{TypeName}
 use Rattle.type_chain.specs.Types.{make_type, type_of, same_type, places}
@@ -63,10 +62,16 @@ has_type type types = list_any (λ other. same_type other type) types
 abbrev pub with_default : List TypeName → List TypeName
 with_default types = if has_type default_type types then types else types ++ default_type ∷ []
 
+-- the type, if there is one
+abbrev pub only : Option TypeName → List TypeName
+only None = []
+only (Some type) = type ∷ []
+
 -- the types of a resource's chain before the default type
 abbrev pub own_types : Content → List (List ℕ × Value) → Option TypeName → List TypeName
 own_types tree props own = until_repeat (line_from tree own (super_of tree props own))
 
--- the chain of a resource: its types from its own to the last before a repeat, and then the default type, unless it is there
-unfoldable pub chain_of : Content → Res → List TypeName
-chain_of tree res = with_default (own_types tree res.props (type_of (type_text res.props)))
+-- the chain of a resource with these properties: its types from its own to the last before a repeat, and then the default type, unless it is
+-- there
+unfoldable pub chain_of : Content → List (List ℕ × Value) → List TypeName
+chain_of tree props = with_default (own_types tree props (type_of (type_text props)))

@@ -1,10 +1,12 @@
-ghost use Rattle.std.specs.Prelude.{◌≡◌, IfOk, OnOk, option_and_then, option_copied};
+//! The chain of a resource's types, from its own to the one of the default servlets.
+ghost use Rattle.std.specs.Prelude.{◌≡◌, ◌++◌, ◌∷◌, [], IfOk, OnOk, option_and_then, option_copied};
 ghost use Rattle.type_chain.specs.Types.{type_of};
-ghost use Rattle.type_chain.specs.Chain.{chain_of, default_type, has_type, own_types, own_super, super_at, super_of, super_text, super_type, type_text, with_default};
+ghost use Rattle.type_chain.specs.Chain.{chain_of, default_type, has_type, only, own_types, own_super, super_of, super_text, type_text, with_default};
+ghost use Rattle.type_chain.specs.Sites.{AreSitesOf};
 
-use crate::search_paths::places;
-use crate::{TypeList, TypeName};
-use resource_tree::{Res, Tree};
+use crate::sites::visit_type;
+use crate::{SiteList, TypeList, TypeName};
+use resource_tree::Tree;
 use sp_base::{Mem, NoMemory, Path, PathFault, PropList, TextBuf};
 use std::alloc::Global;
 
@@ -25,90 +27,107 @@ pub fn type_text(props: &PropList) -> &str
     }
 }
 
+/// A chain of types with their sites.
+#[derive(Drop)]
+pub struct ChainWithSites {
+    pub types: TypeList,
+    pub sites: SiteList,
+}
+
+impl ChainWithSites {
+    // Adds a type with its sites, and gives the text of its super type.
+    fn add<'a>(&mut self, alloc: Global, tree: &'a Tree, name: TypeName) -> Mem<Option<&'a TextBuf>>
+        requires { AreSitesOf tree.now self.old.types self.old.sites }
+        ensures text { IfOk result (λ o. option_copied o ≡ super_text tree.entry.now name) }
+        ensures types { OnOk result (self.new.types ≡ self.old.types ++ name ∷ []) }
+        ensures sites { OnOk result (AreSitesOf tree.entry.now self.new.types self.new.sites) }
+    {
+        let text = visit_type(alloc, tree, &name, &mut self.sites)?;
+        self.types.push(name)?;
+        Ok(text)
+    }
+}
+
 /// The types whose scripts a resource is rendered by, the nearest first: its own, its super type, that one's super type, and so on, and
 /// at last `sling/servlet/default`.
+pub fn chain(alloc: Global, tree: &Tree, props: &PropList) -> Mem<TypeList>
+    ensures { IfOk result (λ list. list ≡ chain_of tree.now props.now) }
+{
+    Ok(chain_with_sites(alloc, tree, props)?.types)
+}
+
+/// The chain of a resource, and the sites of its types. Each place of each type is looked up once, for both.
 #[tactic(auto, unfolding(crate::specs::Chain::chain_of))]
-pub fn chain(alloc: Global, tree: &Tree, res: &Res) -> Mem<TypeList>
-    ensures { IfOk result (λ list. list ≡ chain_of tree.now res.now) }
+pub fn chain_with_sites(alloc: Global, tree: &Tree, props: &PropList) -> Mem<ChainWithSites>
+    ensures types { IfOk result (λ chain. chain.types ≡ chain_of tree.now props.now) }
+    ensures sites { IfOk result (λ chain. AreSitesOf tree.now chain.types chain.sites) }
 {
-    let own = TypeName::read(alloc, type_text(&res.props))?;
-    let mut types = own_types(alloc, tree, &res.props, own)?;
-    add_default(alloc, &mut types)?;
-    Ok(types)
+    let own = TypeName::read(alloc, type_text(props))?;
+    let mut chain = own_types(alloc, tree, props, own)?;
+    add_default(alloc, tree, &mut chain)?;
+    Ok(chain)
 }
 
-fn own_types(alloc: Global, tree: &Tree, props: &PropList, own: Option<TypeName>) -> Mem<TypeList>
-    ensures { IfOk result (λ list. list ≡ own_types tree.now props.now own) }
-{
-    let mut next = super_of(alloc, tree, props, &own)?;
-    let mut types = TypeList::new(alloc);
-    if let Some(own) = own {
-        types.push(own)?;
-    }
-    while let Some(name) = next {
-        if types.len() >= MOST_TYPES || has_type(&types, &name) {
-            break;
-        }
-        next = super_type(alloc, tree, &name)?;
-        types.push(name)?;
-    }
-    Ok(types)
-}
-
-// The super type of a resource with this type.
-#[tactic(auto, unfolding(crate::specs::Chain::super_of, crate::specs::Chain::super_type))]
-fn super_of(
+fn own_types(
     alloc: Global,
     tree: &Tree,
     props: &PropList,
-    own: &Option<TypeName>,
-) -> Mem<Option<TypeName>>
-    ensures { IfOk result (λ o. o ≡ super_of tree.now props.now own.now) }
+    own: Option<TypeName>,
+) -> Mem<ChainWithSites>
+    ensures types { IfOk result (λ chain. chain.types ≡ own_types tree.now props.now own) }
+    ensures sites { IfOk result (λ chain. AreSitesOf tree.now chain.types chain.sites) }
 {
-    if let Some(text) = own_super(props) {
-        return TypeName::read(alloc, text.text());
+    let mut chain = ChainWithSites {
+        types: TypeList::new(alloc),
+        sites: SiteList::new(alloc),
+    };
+    let mut next = begin(alloc, tree, props, own, &mut chain)?;
+    while let Some(name) = next {
+        if chain.types.len() >= MOST_TYPES || has_type(&chain.types, &name) {
+            break;
+        }
+        next = type_named(alloc, chain.add(alloc, tree, name)?)?;
     }
+    Ok(chain)
+}
+
+// Begins the chain with the resource's own type, and gives the super type: the resource's own text counts before those of the type's
+// places.
+#[tactic(auto, unfolding(crate::specs::Chain::super_of))]
+fn begin(
+    alloc: Global,
+    tree: &Tree,
+    props: &PropList,
+    own: Option<TypeName>,
+    chain: &mut ChainWithSites,
+) -> Mem<Option<TypeName>>
+    requires { AreSitesOf tree.now chain.old.types chain.old.sites }
+    ensures next { IfOk result (λ o. o ≡ super_of tree.entry.now props.entry.now own) }
+    ensures types { OnOk result (chain.new.types ≡ chain.old.types ++ only own) }
+    ensures sites { OnOk result (AreSitesOf tree.entry.now chain.new.types chain.new.sites) }
+{
+    let text = own_super(props);
     match own {
-        Some(own) => super_type(alloc, tree, own),
-        None => Ok(None),
+        Some(own) => {
+            let above = chain.add(alloc, tree, own)?;
+            type_named(alloc, text.or(above))
+        }
+        None => type_named(alloc, text),
     }
 }
 
-#[tactic(auto, unfolding(crate::specs::Chain::super_type))]
-fn super_type(alloc: Global, tree: &Tree, name: &TypeName) -> Mem<Option<TypeName>>
-    ensures { IfOk result (λ o. o ≡ super_type tree.now name.now) }
+// The type that a text names, if there is a text.
+fn type_named(alloc: Global, text: Option<&TextBuf>) -> Mem<Option<TypeName>>
+    ensures { IfOk result (λ o. o ≡ option_and_then type_of (option_copied text.entry)) }
 {
-    match super_text(alloc, tree, name)? {
+    match text {
         Some(text) => TypeName::read(alloc, text.text()),
         None => Ok(None),
     }
 }
 
-#[tactic(auto, unfolding(crate::specs::Chain::super_text))]
-fn super_text<'a>(alloc: Global, tree: &'a Tree, name: &TypeName) -> Mem<Option<&'a TextBuf>>
-    ensures { IfOk result (λ o. option_copied o ≡ super_text tree.entry.now name.now) }
-{
-    let places = places(alloc, name)?;
-    for place in places.as_slice() {
-        if let Some(text) = super_at(tree, place) {
-            return Ok(Some(text));
-        }
-    }
-    Ok(None)
-}
-
-#[tactic(auto, unfolding(crate::specs::Chain::super_at))]
-fn super_at<'a>(tree: &'a Tree, path: &Path) -> Option<&'a TextBuf>
-    ensures { option_copied result ≡ super_at tree.entry.now path.now }
-{
-    match tree.node(path) {
-        Some(node) => own_super(&node.props),
-        None => None,
-    }
-}
-
 #[tactic(auto, unfolding(crate::specs::Chain::own_super))]
-fn own_super(props: &PropList) -> Option<&TextBuf>
+pub(crate) fn own_super(props: &PropList) -> Option<&TextBuf>
     ensures { option_copied result ≡ own_super props.now }
 {
     props.text("sling:resourceSuperType")
@@ -120,14 +139,17 @@ fn has_type(types: &TypeList, name: &TypeName) -> bool
     types.as_slice().iter().any(|other| other.is_same(name))
 }
 
-fn add_default(alloc: Global, types: &mut TypeList) -> Mem<()>
-    ensures { OnOk result (types.new ≡ with_default types.old) }
+fn add_default(alloc: Global, tree: &Tree, chain: &mut ChainWithSites) -> Mem<()>
+    requires { AreSitesOf tree.now chain.old.types chain.old.sites }
+    ensures types { OnOk result (chain.new.types ≡ with_default chain.old.types) }
+    ensures sites { OnOk result (AreSitesOf tree.now chain.new.types chain.new.sites) }
 {
     let name = default_type(alloc)?;
-    if has_type(types, &name) {
+    if has_type(&chain.types, &name) {
         return Ok(());
     }
-    types.push(name)
+    chain.add(alloc, tree, name)?;
+    Ok(())
 }
 
 // The type of the default servlets.

@@ -5,14 +5,16 @@
 mod inheritance;
 mod laws;
 mod search_paths;
+mod sites;
 #[cfg(test)]
 mod tests;
 mod type_name;
 
-pub use inheritance::{chain, type_text};
+pub use inheritance::{ChainWithSites, chain, chain_with_sites, type_text};
 pub use laws::{
     a_chain_is_short, each_type_is_the_super_type_of_the_one_before, no_type_repeats,
     the_own_type_is_first,
 };
 pub use search_paths::{place_of, places};
+pub use sites::{Site, SiteList, type_sites};
 pub use type_name::{TypeList, TypeName};

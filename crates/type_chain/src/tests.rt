@@ -1,9 +1,9 @@
 use crate::{TypeList, TypeName, chain, place_of};
-use resource_tree::{Look, Res, Tree, TreeFault};
+use resource_tree::{Tree, TreeFault};
 use sp_base::{NoMemory, Path, PathFault, TextBuf, Value, seg_ok};
 use std::alloc::{AllocError, Global};
 
-/// A refusal or want of memory where a test expects none.
+/// A refusal, or out of memory, where a test expects none.
 #[derive(Debug, Drop)]
 struct Failed;
 
@@ -56,9 +56,10 @@ fn tree_of(alloc: Global, nodes: &[(&str, &str, &str)]) -> Result<Tree, Failed> 
     Ok(tree)
 }
 
-fn resource(alloc: Global, tree: &Tree) -> Result<Res, Failed> {
-    match tree.res(alloc, &Path::read(alloc, "/r")?)? {
-        Some(res) => Ok(res),
+// The chain of the resource /r.
+fn chain_of(alloc: Global, tree: &Tree) -> Result<TypeList, Failed> {
+    match tree.node(&Path::read(alloc, "/r")?) {
+        Some(node) => Ok(chain(alloc, tree, &node.props)?),
         None => Err(Failed),
     }
 }
@@ -72,7 +73,7 @@ fn type_shown(alloc: Global, text: &mut String, name: &TypeName) -> Result<(), F
     Ok(())
 }
 
-// The texts of the types, with a blank behind each.
+// The texts of the types, with a blank after each.
 fn shown(alloc: Global, types: &TypeList) -> Result<String, Failed> {
     let mut text = String::new(alloc);
     for name in types.as_slice() {
@@ -85,8 +86,7 @@ fn shown(alloc: Global, types: &TypeList) -> Result<String, Failed> {
 // The chain of the resource /r among these nodes.
 fn chain_shown(alloc: Global, nodes: &[(&str, &str, &str)]) -> Result<String, Failed> {
     let tree = tree_of(alloc, nodes)?;
-    let res = resource(alloc, &tree)?;
-    shown(alloc, &chain(alloc, &tree, &res)?)
+    shown(alloc, &chain_of(alloc, &tree)?)
 }
 
 const TYPE: &str = "sling:resourceType";
@@ -188,7 +188,7 @@ fn thirty_two_types_are_the_most(rt: HostRuntime) -> Result<(), Failed> {
     let alloc = rt.alloc();
     for (height, want) in [(30, 32), (31, 33), (32, 33), (40, 33)] {
         let tree = tower(alloc, height)?;
-        let types = chain(alloc, &tree, &resource(alloc, &tree)?)?;
+        let types = chain_of(alloc, &tree)?;
         assert_eq!(rt; types.len(), want);
     }
     Ok(())

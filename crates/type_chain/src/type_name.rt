@@ -1,6 +1,8 @@
-ghost use Rattle.std.specs.Prelude.{◌≡◌, IfOk, map, string_bytes};
+//! Resource types as texts name them.
+ghost use Rattle.std.specs.Prelude.{◌≡◌, IfOk, IsTrue, map, string_bytes};
 ghost use Rattle.std.specs.List.{slice_split};
-ghost use Rattle.sp_base.specs.Paths.{path_of};
+ghost use Rattle.sp_base.specs.Paths.{is_path, path_of};
+ghost use Rattle.resource_tree.specs.Content.{name_of};
 ghost use Rattle.type_chain.specs.Types.{is_colon, named, same_type, slashed, type_of};
 
 use sp_base::{Items, Mem, NoMemory, Path, PathFault};
@@ -18,8 +20,8 @@ pub struct TypeName {
 pub type TypeList = Items<TypeName>;
 
 impl TypeName {
-    /// The type that a text names. A colon is read as a slash; a text that spells no path but for a slash in front, or the root, names
-    /// none.
+    /// The type that a text names. A colon is read as a slash; a text that spells no path but for a slash before it, or the root,
+    /// names none.
     #[tactic(auto, unfolding(crate::specs::Types::type_of))]
     pub fn read(alloc: Global, text: &str) -> Mem<Option<TypeName>>
         ensures { IfOk result (λ o. o ≡ type_of text.now) }
@@ -31,6 +33,17 @@ impl TypeName {
         let mut absolute = String::from_str(alloc, "/")?;
         absolute.push_str(slashed.as_str())?;
         named(alloc, false, absolute.as_str())
+    }
+
+    /// The last segment of the type.
+    pub fn label(&self) -> &str
+        ensures label { result.now ≡ name_of self.now.segs }
+        ensures valid { IsTrue (is_path self.now.segs) }
+    {
+        match self.segs.seg(self.segs.depth().saturating_sub(1)) {
+            Some(label) => label,
+            None => "",
+        }
     }
 
     /// Whether both are one type.
@@ -54,7 +67,7 @@ fn pieces_of(alloc: Global, text: &str) -> Result<Vec<&str>, AllocError>
     text.split(':').collect(alloc)
 }
 
-// The type of this path, which a text may not spell and the root is not.
+// The type of the path that a text spells: none where it spells no path, or the root.
 fn named(alloc: Global, rooted: bool, text: &str) -> Mem<Option<TypeName>>
     ensures { IfOk result (λ o. o ≡ named rooted (path_of text.now)) }
 {

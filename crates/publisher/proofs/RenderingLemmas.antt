@@ -5,7 +5,7 @@ use Rattle.sp_base.specs.Paths.{text_of}
 use Rattle.sp_base.specs.declared.answer.Answer.{Answer}
 use Rattle.sp_base.specs.declared.answer.Ask.{Ask}
 use Rattle.sp_base.specs.declared.answer.Mark.{Mark}
-use Rattle.resource_tree.specs.declared.look.Res.{Res}
+use Rattle.resource_tree.specs.Seen.{Resource}
 use Rattle.resource_tree.specs.Content.{Content}
 use Rattle.resource_tree.specs.Seen.{Seen, res_at}
 use Rattle.url_split.specs.declared.decompose.Parts.{Parts}
@@ -43,35 +43,35 @@ page_by false kind mark body small e = error_fits 500 (λ h. absurd (omega (arit
 page_fits : (kind : List ℕ) (mark : Mark) (body : List ℕ) → Fits (representation_of kind mark body)
 page_fits kind mark body = page_by (nat_le (length body) 4194304) kind mark body refl
 
-json_fits : (res : Res) (answer : JsonAnswer) → Fits (json_representation res answer)
+json_fits : (res : Resource) (answer : JsonAnswer) → Fits (json_representation res answer)
 json_fits res (Whole text) = page_fits _ (mark_of res) text
 json_fits res (Over most) = λ e. absurd (omega (arith, e))
 
-depth_fits : (seen : Seen) (res : Res) (depth : Option Depth) → Fits (json_to_depth seen res depth)
+depth_fits : (seen : Seen) (res : Resource) (depth : Option Depth) → Fits (json_to_depth seen res depth)
 depth_fits seen res None = error_fits 400 (λ h. absurd (omega (arith, h)))
 depth_fits seen res (Some depth) = json_fits res (json_answer seen res (levels_of depth))
 
 missing_fits : Fits (error_answer 404)
 missing_fits = error_fits 404 (λ h. absurd (omega (arith, h)))
 
-file_fits : (res : Res) (stream : Option Stream) → Fits (file_representation res stream)
+file_fits : (res : Resource) (stream : Option Stream) → Fits (file_representation res stream)
 file_fits res None = missing_fits
 file_fits res (Some stream) = page_fits stream.kind (mark_of res) stream.body
 
-default_fits : (seen : Seen) (parts : Parts) (res : Res) → Fits (default_answer seen parts res)
+default_fits : (seen : Seen) (parts : Parts) (res : Resource) → Fits (default_answer seen parts res)
 default_fits seen parts res =
     either (is_json parts.extension) _ _ (depth_fits seen res (depth_of parts.selectors))
     (either (is_bare parts) _ _ (file_fits res (stream_of seen res)) missing_fits)
 
-script_fits : (res : Res) (read : Result (List Piece) TextFault) → Fits (script_representation res read)
+script_fits : (res : Resource) (read : Result (List Piece) TextFault) → Fits (script_representation res read)
 script_fits res (Ok pieces) = page_fits _ (mark_of res) (written_by (scope_of res) pieces)
 script_fits res (Err fault) = error_fits 500 (λ h. absurd (omega (arith, h)))
 
-by_fits : (text : Option (List ℕ)) (seen : Seen) (parts : Parts) (res : Res) → Fits (answer_by text seen parts res)
+by_fits : (text : Option (List ℕ)) (seen : Seen) (parts : Parts) (res : Resource) → Fits (answer_by text seen parts res)
 by_fits (Some text) seen parts res = script_fits res (template_of text)
 by_fits None seen parts res = default_fits seen parts res
 
-resource_fits : (tree : Content) (parts : Parts) (res : Option Res) → Fits (resource_answer tree parts res)
+resource_fits : (tree : Content) (parts : Parts) (res : Option Resource) → Fits (resource_answer tree parts res)
 resource_fits tree parts None = missing_fits
 resource_fits tree parts (Some res) = by_fits (script_for tree parts res) (res_at tree) parts res
 

@@ -7,24 +7,24 @@ use Rattle.sp_base.specs.declared.answer.Answer.{Answer}
 use Rattle.sp_base.specs.declared.answer.Ask.{Ask}
 use Rattle.sp_base.specs.declared.answer.Mark.{Mark}
 use Rattle.sp_base.specs.declared.answer.Mark.TheVariants.{Plain, NoCache, NoStore, MustRevalidate}
-use Rattle.resource_tree.specs.declared.look.Res.{Res}
 use Rattle.resource_tree.specs.Content.{Content, node_at, name_of}
-use Rattle.resource_tree.specs.Seen.{Seen, res_at}
+use Rattle.resource_tree.specs.Seen.{Resource, Seen, res_at}
 use Rattle.url_split.specs.declared.decompose.Parts.{Parts}
 use Rattle.url_split.specs.Split.{split_of}
 use Rattle.type_chain.specs.Chain.{chain_of, type_text}
 use Rattle.script_rank.specs.Ranking.{script_text}
 use Rattle.script_rank.specs.Search.{found as first_script}
 use Rattle.htl_expr.specs.declared.scope.Scope.{Scope}
-use Rattle.htl_text.specs.declared.fault.TextFault.{TextFault}
-use Rattle.htl_text.specs.declared.piece.Piece.{Piece}
-use Rattle.htl_text.specs.Template.{template_of, text_of as written_by}
+use Rattle.htl_text.specs.Template.{text_of as written_by}
 use Rattle.get_servlet.specs.declared.answer.Depth.{Depth}
 use Rattle.get_servlet.specs.declared.answer.JsonAnswer.{JsonAnswer}
 use Rattle.get_servlet.specs.declared.answer.JsonAnswer.TheVariants.{Whole, Over}
 use Rattle.get_servlet.specs.declared.streams.Stream.{Stream}
 use Rattle.get_servlet.specs.Answers.{levels_of, json_answer}
 use Rattle.get_servlet.specs.Streams.{stream_of}
+use Rattle.publisher.specs.declared.templates.Reading.{Reading}
+use Rattle.publisher.specs.declared.templates.Reading.TheVariants.{Parsed, Refused}
+use Rattle.publisher.specs.Readings.{reading_of}
 use Rattle.publisher.specs.Errors.{answer_of, error_answer}
 use Rattle.publisher.specs.Depths.{depth_of}
 use Rattle.publisher.specs.Choices.{choices_text}
@@ -45,7 +45,7 @@ mark_in None = Plain
 mark_in (Some name) = mark_named name
 
 -- the mark that a resource has of its text property `sp:mark`
-abbrev pub mark_of : Res → Mark
+abbrev pub mark_of : Resource → Mark
 mark_of res = mark_in (text_in res.props (codes "sp:mark"))
 
 -- a representation of at most 4,194,304 bytes; a longer one is an error
@@ -56,17 +56,17 @@ abbrev pub json_kind : List ℕ
 json_kind = codes "application/json;charset=utf-8"
 
 -- the JSON text, or the targets that may be asked for instead
-abbrev pub json_representation : Res → JsonAnswer → Answer
+abbrev pub json_representation : Resource → JsonAnswer → Answer
 json_representation res (Whole text) = representation_of json_kind (mark_of res) text
 json_representation res (Over most) = answer_of 300 json_kind Plain (choices_text res.path most)
 
 -- a resource as JSON at the depth that is asked for, if one is
-abbrev pub json_to_depth : Seen → Res → Option Depth → Answer
+abbrev pub json_to_depth : Seen → Resource → Option Depth → Answer
 json_to_depth seen res None = error_answer 400
 json_to_depth seen res (Some depth) = json_representation res (json_answer seen res (levels_of depth))
 
 -- the content of a file
-abbrev pub file_representation : Res → Option Stream → Answer
+abbrev pub file_representation : Resource → Option Stream → Answer
 file_representation res None = error_answer 404
 file_representation res (Some stream) = representation_of stream.kind (mark_of res) stream.body
 
@@ -78,33 +78,33 @@ abbrev pub is_bare : Parts → Bool
 is_bare parts = length parts.selectors == 0 && (length parts.extension == 0 && length parts.suffix == 0)
 
 -- the answer of the default GET servlet: with the extension `json` the resource as JSON, without extension, selectors and suffix its stream
-abbrev pub default_answer : Seen → Parts → Res → Answer
+abbrev pub default_answer : Seen → Parts → Resource → Answer
 default_answer seen parts res = if is_json parts.extension then json_to_depth seen res (depth_of parts.selectors)
     else (if is_bare parts then file_representation res (stream_of seen res) else error_answer 404)
 
 -- the text of the script that ranks first for a resource, if there is one
-unfoldable pub script_for : Content → Parts → Res → Option (List ℕ)
-script_for tree parts res = option_and_then (script_text tree) (first_script tree (chain_of tree res) parts)
+unfoldable pub script_for : Content → Parts → Resource → Option (List ℕ)
+script_for tree parts res = option_and_then (script_text tree) (first_script tree (chain_of tree res.props) parts)
 
 abbrev pub html_kind : List ℕ
 html_kind = codes "text/html;charset=utf-8"
 
 -- what the expressions of a script are evaluated for: a resource's properties, its path, its name and its type
-abbrev pub scope_of : Res → Scope
+abbrev pub scope_of : Resource → Scope
 scope_of res = record { props = res.props; path = text_of res.path; name = name_of res.path; kind = type_text res.props }
 
 -- what a script's template writes for a resource; a text that is no template is an error
-abbrev pub script_representation : Res → Result (List Piece) TextFault → Answer
-script_representation res (Ok pieces) = representation_of html_kind (mark_of res) (written_by (scope_of res) pieces)
-script_representation res (Err fault) = error_answer 500
+abbrev pub script_representation : Resource → Reading → Answer
+script_representation res (Parsed pieces) = representation_of html_kind (mark_of res) (written_by (scope_of res) pieces)
+script_representation res Refused = error_answer 500
 
 -- the answer of a resource: what the script's template writes, or without a script the answer of the default GET servlet
-abbrev pub answer_by : Option (List ℕ) → Seen → Parts → Res → Answer
-answer_by (Some text) seen parts res = script_representation res (template_of text)
+abbrev pub answer_by : Option (List ℕ) → Seen → Parts → Resource → Answer
+answer_by (Some text) seen parts res = script_representation res (reading_of text)
 answer_by None seen parts res = default_answer seen parts res
 
 -- the answer of what is seen at a path, by the script that ranks first for it
-abbrev pub resource_answer : Content → Parts → Option Res → Answer
+abbrev pub resource_answer : Content → Parts → Option Resource → Answer
 resource_answer tree parts None = error_answer 404
 resource_answer tree parts (Some res) = answer_by (script_for tree parts res) (res_at tree) parts res
 

@@ -9,6 +9,7 @@ mod methods;
 mod representations;
 mod scripts;
 mod serving;
+mod templates;
 #[cfg(test)]
 mod tests;
 

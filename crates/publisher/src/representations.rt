@@ -2,16 +2,21 @@
 ghost use Rattle.std.specs.Prelude.{◌≡◌, Some, IfOk};
 ghost use Rattle.get_servlet.specs.Streams.{stream_of};
 ghost use Rattle.publisher.specs.Depths.{depth_of};
-ghost use Rattle.publisher.specs.Rendering.{representation_of, json_representation, json_to_depth, file_representation, is_bare, default_answer, resource_answer};
+ghost use Rattle.resource_tree.specs.Seen.{res_at};
+ghost use Rattle.script_rank.specs.Ranking.{script_text};
+ghost use Rattle.publisher.specs.Kept.{AreReadings};
+ghost use Rattle.publisher.specs.Rendering.{answer_by, representation_of, json_representation, json_to_depth, file_representation, is_bare, default_answer, resource_answer};
 
 use crate::choices::choices_text;
 use crate::depths::depth_of;
 use crate::errors::{answer_of, error_answer};
 use crate::methods::mark_of;
-use crate::scripts::{script_for, script_representation};
+use crate::scripts::{script_of, script_representation};
+use crate::templates::{Templates, read};
 use get_servlet::{JsonAnswer, Stream, json_of, stream_of};
 use resource_tree::{Look, Res, Tree};
-use sp_base::{Answer, ByteBuf, Mark, Mem, TextBuf};
+use script_rank::script_text;
+use sp_base::{Answer, ByteBuf, Mark, Mem, Path, TextBuf};
 use std::alloc::Global;
 use url_split::Parts;
 
@@ -36,7 +41,7 @@ fn json_representation(alloc: Global, res: &Res, answer: JsonAnswer) -> Mem<Answ
     match answer {
         JsonAnswer::Whole(text) => representation_of(alloc, JSON_KIND, mark_of(res), text),
         JsonAnswer::Over(most) => {
-            let choices = choices_text(alloc, &res.path, most)?;
+            let choices = choices_text(alloc, res.path(), most)?;
             answer_of(alloc, 300, JSON_KIND, Mark::Plain, ByteBuf::from(choices))
         }
     }
@@ -84,12 +89,47 @@ fn default_answer<L: Look>(alloc: Global, look: &L, parts: &Parts, res: &Res) ->
     error_answer(alloc, 404)
 }
 
-/// The answer of a resource that the parts of a URL name: what its first script writes, or what the default GET servlet answers.
-pub(crate) fn resource_answer(alloc: Global, tree: &Tree, parts: &Parts, res: Res) -> Mem<Answer>
-    ensures { IfOk result (λ a. a ≡ resource_answer tree.now parts.now (Some res)) }
+// The answer of a resource by the script at a path, or of the default GET servlet where there is no script's text. A script is
+// read once, and its reading kept.
+fn answer_by_script(
+    alloc: Global,
+    tree: &Tree,
+    templates: &mut Templates,
+    parts: &Parts,
+    res: &Res,
+    script: Path,
+) -> Mem<Answer>
+    requires { AreReadings tree.now templates.old }
+    ensures answer { IfOk result (λ a. a ≡ answer_by (script_text tree.now script) (res_at tree.now) parts.now res.now) }
+    ensures kept { AreReadings tree.now templates.new }
 {
-    match script_for(alloc, tree, parts, &res)? {
-        Some(text) => script_representation(alloc, text.text(), res),
-        None => default_answer(alloc, tree, parts, &res),
+    if let Some(reading) = templates.get(&script) {
+        return script_representation(alloc, reading, res);
+    }
+    let Some(text) = script_text(alloc, tree, &script)? else {
+        return default_answer(alloc, tree, parts, res);
+    };
+    let reading = read(alloc, text.text())?;
+    let answer = script_representation(alloc, &reading, res)?;
+    templates.keep(script, reading);
+    Ok(answer)
+}
+
+/// The answer of a resource that the parts of a URL name: what its first script writes, or what the default GET servlet answers.
+#[tactic(auto, unfolding(crate::specs::Rendering::script_for))]
+pub(crate) fn resource_answer(
+    alloc: Global,
+    tree: &Tree,
+    templates: &mut Templates,
+    parts: &Parts,
+    res: &Res,
+) -> Mem<Answer>
+    requires { AreReadings tree.now templates.old }
+    ensures answer { IfOk result (λ a. a ≡ resource_answer tree.now parts.now (Some res.now)) }
+    ensures kept { AreReadings tree.now templates.new }
+{
+    match script_of(alloc, tree, parts, res)? {
+        Some(script) => answer_by_script(alloc, tree, templates, parts, res, script),
+        None => default_answer(alloc, tree, parts, res),
     }
 }

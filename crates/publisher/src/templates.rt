@@ -1,7 +1,8 @@
 // The templates of scripts, each read once and kept until the tree changes.
-ghost use Rattle.std.specs.Prelude.{◌≡◌, List, ℕ, [], Some, None, IfOk, OnOk, OnErr, cond, option_copied};
-ghost use Rattle.resource_tree.specs.Content.{same_path};
-ghost use Rattle.publisher.specs.Templates.{Readings, reading_at, reading_of};
+ghost use Rattle.std.specs.Prelude.{◌≡◌, ◌∷◌, List, ℕ, [], Some, IfOk, option_copied};
+ghost use Rattle.publisher.specs.declared.templates.Reading.{Reading};
+ghost use Rattle.publisher.specs.Kept.{reading_at};
+ghost use Rattle.publisher.specs.Readings.{reading_of};
 
 use htl_text::{Template, TextFault};
 use sp_base::{Mem, NoMemory, Path};
@@ -13,7 +14,7 @@ use std::marker::Model;
 /// What a script's text reads as.
 #[derive(Drop)]
 pub(crate) enum Reading {
-    Whole(Template),
+    Parsed(Template),
     /// The text is no template.
     Refused,
 }
@@ -25,9 +26,9 @@ pub(crate) struct Templates {
 }
 
 impl Model for Templates {
-    ghost use Rattle.publisher.specs.Templates.{Readings};
+    ghost use Rattle.publisher.specs.Kept.{Kept};
 
-    ghost Value = { Readings };
+    ghost Value = { Kept };
 
     ghost view = { λ t. t.readings.entries };
 }
@@ -50,7 +51,7 @@ impl Templates {
     /// Keeps a reading, if there is memory for it.
     pub(crate) fn keep(&mut self, script: Path, reading: Reading)
         ensures { (path : List (List ℕ)) (kept : Reading) → reading_at self.new path ≡ Some kept
-            → reading_at (( script, reading ) ∷ self.old) path ≡ Some kept }
+            → reading_at ((script, reading) ∷ self.old) path ≡ Some kept }
     {
         let _ = self.readings.insert(script, reading);
     }
@@ -67,7 +68,7 @@ pub(crate) fn read(alloc: Global, text: &str) -> Mem<Reading>
     ensures { IfOk result (λ reading. reading ≡ reading_of text.now) }
 {
     match Template::read(alloc, text) {
-        Ok(template) => Ok(Reading::Whole(template)),
+        Ok(template) => Ok(Reading::Parsed(template)),
         Err(TextFault::NoMemory) => Err(NoMemory),
         Err(_) => Ok(Reading::Refused),
     }

@@ -4,3 +4,4 @@ pub mod TypedLemmas
 pub mod PathText
 pub mod PathOrder
 pub mod PathFaults
+pub mod PathParts

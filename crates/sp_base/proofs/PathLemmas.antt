@@ -101,10 +101,10 @@ test_true false h = absurd h
 pub true_test : (b : Bool) → b ≡ true → T b
 true_test b e = subst T (sym e) tt
 
-small_le : (n : ℕ) → n ≤ 64 → T (nat_le n 64)
+pub small_le : (n : ℕ) → n ≤ 64 → T (nat_le n 64)
 small_le n h = true_test (nat_le n 64) (grind (arith, nat_tests))
 
-small_back : (n : ℕ) → T (nat_le n 64) → n ≤ 64
+pub small_back : (n : ℕ) → T (nat_le n 64) → n ≤ 64
 small_back n h = let e = test_true (nat_le n 64) h in grind (arith, nat_tests)
 
 -- the first segments of a path are a path
@@ -152,7 +152,7 @@ pub of_root : (text rest : List ℕ) → text ≡ 47 ∷ rest → is_empty rest 
 of_root text rest e none = ap path_of e ∙ ap (λ t. cond t (Ok []) (checked (pieces rest))) none
 
 -- a text without a slash is its one piece
-pieces_whole : (name : List ℕ) → has_slash name ≡ false → pieces name ≡ name ∷ []
+pub pieces_whole : (name : List ℕ) → has_slash name ≡ false → pieces name ≡ name ∷ []
 pieces_whole [] h = refl
 pieces_whole (b ∷ name) h =
     ap (λ t. cond t ([] ∷ pieces name) (onto_first b (pieces name))) (or_first _ _ h) ∙ ap (onto_first b) (pieces_whole name (or_second _ _ h))
@@ -164,7 +164,7 @@ not_is false h = refl
 ok_whole : (name : List ℕ) → seg_ok name ≡ true → pieces name ≡ name ∷ []
 ok_whole name h = pieces_whole name (not_is _ (ok_lacks name (true_test (seg_ok name) h)))
 
-made_is : (fault : Option PathFault) (segs p : List (List ℕ)) → unless_fault fault segs ≡ Ok p → p ≡ segs
+pub made_is : (fault : Option PathFault) (segs p : List (List ℕ)) → unless_fault fault segs ≡ Ok p → p ≡ segs
 made_is None segs p e = cc (e)
 made_is (Some fault) segs p e = absurd (cc (e))
 
@@ -189,7 +189,7 @@ none_dots segs h = any_none is_dots segs (λ seg ok. not_is _ (first (not (is_do
 pub all_short : (segs : List (List ℕ)) → T (list_all seg_ok segs) → list_any is_long segs ≡ false
 all_short segs h = any_none is_long segs (λ seg ok. not_is _ (first (not (is_long seg)) _ (second (not (is_dots seg)) _ (second (not (is_empty seg)) _ ok)))) h
 
-no_fault : (segs : List (List ℕ)) → T (list_all seg_ok segs) → length segs ≤ 64 → fault_of segs ≡ None
+pub no_fault : (segs : List (List ℕ)) → T (list_all seg_ok segs) → length segs ≤ 64 → fault_of segs ≡ None
 no_fault segs h small =
     let empty = none_empty segs h in
     let dots = none_dots segs h in

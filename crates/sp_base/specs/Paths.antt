@@ -18,9 +18,17 @@ is_empty seg = length seg == 0
 abbrev pub is_dots : List ℕ → Bool
 is_dots seg = pointwise nat_eq seg (codes ".") || pointwise nat_eq seg (codes "..")
 
+-- the most bytes of a segment
+abbrev pub longest_segment : ℕ
+longest_segment = 200
+
+-- the most segments of a path
+abbrev pub most_segments : ℕ
+most_segments = 64
+
 -- a segment has at most 200 bytes
 abbrev pub is_long : List ℕ → Bool
-is_long seg = nat_lt 200 (length seg)
+is_long seg = nat_lt longest_segment (length seg)
 
 abbrev pub has_slash : List ℕ → Bool
 has_slash seg = list_any (λ b. b == 47) seg
@@ -31,12 +39,16 @@ seg_ok name = not (is_empty name) && (not (is_dots name) && (not (is_long name) 
 
 -- segments that make a path: at most 64
 abbrev pub is_path : List (List ℕ) → Bool
-is_path segs = list_all seg_ok segs && nat_le (length segs) 64
+is_path segs = list_all seg_ok segs && nat_le (length segs) most_segments
+
+-- the segments as a path, where they make one
+abbrev pub path_or_none : List (List ℕ) → Option (List (List ℕ))
+path_or_none segs = if is_path segs then Some segs else None
 
 -- why pieces are no path: an empty piece, else a dot piece, else the first long one, else their number
 abbrev pub size_fault : Option ℕ → ℕ → Option PathFault
 size_fault (Some place) n = Some (LongSegment place)
-size_fault None n = if nat_lt 64 n then Some TooDeep else None
+size_fault None n = if nat_lt most_segments n then Some TooDeep else None
 
 abbrev pub fault_of : List (List ℕ) → Option PathFault
 fault_of segs = if list_any is_empty segs then Some EmptySegment else (if list_any is_dots segs then Some DotSegment else size_fault (position is_long segs) (length segs))

@@ -22,15 +22,15 @@ use std::marker::Model;
 /// Why a text is no path.
 #[derive(Clone, Copy, PartialEq, Eq, Debug, Drop)]
 pub enum PathFault {
-    /// There is no slash in front.
+    /// There is no slash at the beginning.
     NotAbsolute,
     /// A segment is empty.
     EmptySegment,
     /// A segment is `.` or `..`.
     DotSegment,
-    /// The segment at this place, counted from 0, has more than 200 bytes.
+    /// The segment at this place, counted from 0, has more than `LONGEST_SEGMENT` bytes.
     LongSegment(usize),
-    /// There are more than 64 segments.
+    /// There are more than `MOST_SEGMENTS` segments.
     TooDeep,
     NoMemory,
 }
@@ -102,7 +102,7 @@ impl Path {
         made(fault_behind(0, rest), String::from_str(alloc, text)?)
     }
 
-    /// The path with a name behind it. A name with a slash in it adds a segment for each of its pieces.
+    /// The path with a name after it. A name with a slash in it adds a segment for each of its pieces.
     pub fn child(&self, alloc: Global, name: &str) -> Result<Path, PathFault>
         ensures ok { IfOk result (λ p. child_of self.now name.now ≡ Ok p) }
         ensures err { IfErr result (λ e. e ≢ PathFault.NoMemory → child_of self.now name.now ≡ Err e) }
@@ -115,7 +115,7 @@ impl Path {
         made(fault, glued(alloc, self.text.as_str(), "/", name)?)
     }
 
-    /// The segments of a further path behind these.
+    /// The segments of a further path after these.
     pub fn join(&self, alloc: Global, rest: &Path) -> Result<Path, PathFault>
         ensures ok { IfOk result (λ p. join_of self.now rest.now ≡ Ok p) }
         ensures err { IfErr result (λ e. e ≢ PathFault.NoMemory → join_of self.now rest.now ≡ Err e) }
@@ -171,11 +171,26 @@ impl Path {
     pub fn text(&self, alloc: Global) -> Mem<TextBuf>
         ensures { IfOk result (λ t. t ≡ text_of self.now) }
     {
+        TextBuf::of(alloc, self.as_text())
+    }
+
+    /// The text that spells the path, lent.
+    pub fn as_text(&self) -> &str
+        ensures { result.now ≡ text_of self.now }
+    {
         if self.text.is_empty() {
-            TextBuf::of(alloc, "/")
+            "/"
         } else {
-            TextBuf::of(alloc, self.text.as_str())
+            self.text.as_str()
         }
+    }
+
+    // A slash before each segment: the text, but empty for the root.
+    pub(crate) fn spelling(&self) -> &str
+        ensures spelled { result.now ≡ spelled self.now }
+        ensures segments { segs_in result.now ≡ self.now }
+    {
+        self.text.as_str()
     }
 
     /// How many segments there are, at most 64.
@@ -239,6 +254,8 @@ impl PartialOrd for Path {
     }
 }
 
+/// Paths are ordered segment by segment, and segments by their bytes: a path stands right before all that is below it. The order of
+/// the texts' bytes is another, in which `/a-b` stands before `/a/b`.
 impl Ord for Path {
     ghost cmp = { slice_cmp (slice_cmp nat_cmp) };
 

@@ -1,15 +1,15 @@
-ghost use Rattle.std.specs.Prelude.{◌+◌, ◌≤◌, ◌≡◌, ◌≢◌, ◌==◌, ◌∷◌, ◌++◌, List, ℕ, true, false, drop, take, length, IfOk, OnOk, IfSome, IfNone, option_copied, slice_get, string_bytes};
+ghost use Rattle.std.specs.Prelude.{◌+◌, ◌-◌, ◌≤◌, ◌≡◌, ◌≢◌, ◌==◌, ◌∷◌, ◌++◌, List, ℕ, true, false, drop, take, length, IfOk, OnOk, IfSome, IfNone, option_copied, slice_get, string_bytes};
 ghost use Rattle.std.specs.List.{list_any, position, position_from, count_by};
-ghost use Rattle.sp_base.specs.Paths.{seg_ok, is_empty, is_dots, is_long, has_slash, pieces, spelled, fault_behind, size_fault, is_mangled, unmangled_seg, unmangled, text_under};
+ghost use Rattle.sp_base.specs.Paths.{seg_ok, is_empty, is_dots, is_long, has_slash, pieces, segs_in, spelled, fault_behind, size_fault, is_mangled, unmangled_seg, unmangled, text_under};
 
 use crate::{Mem, PathFault};
 use std::alloc::Global;
 
 /// The most bytes of a segment.
-const LONGEST: usize = 200;
+pub const LONGEST_SEGMENT: usize = 200;
 
 /// The most segments of a path.
-const DEEPEST: usize = 64;
+pub const MOST_SEGMENTS: usize = 64;
 
 fn is_dots(seg: &str) -> bool
     ensures { result ≡ is_dots seg.now }
@@ -27,7 +27,7 @@ fn has_slash(seg: &str) -> bool
 pub fn seg_ok(name: &str) -> bool
     ensures { result ≡ seg_ok name.now }
 {
-    !name.is_empty() && (!is_dots(name) && (name.len() <= LONGEST && !has_slash(name)))
+    !name.is_empty() && (!is_dots(name) && (name.len() <= LONGEST_SEGMENT && !has_slash(name)))
 }
 
 fn has_empty(text: &str) -> bool
@@ -46,7 +46,8 @@ fn first_long(text: &str) -> Option<usize>
     ensures first { result ≡ position is_long (pieces text.now) }
     ensures within { IfSome result (λ place. place ≤ length text.now) }
 {
-    text.split('/').position(|piece| piece.len() > LONGEST)
+    text.split('/')
+        .position(|piece| piece.len() > LONGEST_SEGMENT)
 }
 
 // The place of the first long piece of a text, where others stand before them.
@@ -72,7 +73,7 @@ pub fn size_fault(long: Option<usize>, before: usize, count: usize) -> Option<Pa
 {
     match long {
         Some(place) => Some(PathFault::LongSegment(place)),
-        None if count > DEEPEST - before => Some(PathFault::TooDeep),
+        None if count > MOST_SEGMENTS - before => Some(PathFault::TooDeep),
         None => None,
     }
 }
@@ -108,6 +109,16 @@ pub fn slashes(text: &str) -> usize
         }
     }
     found
+}
+
+// The segment after the last slash.
+pub fn last_segment(text: &str) -> Option<&str>
+    ensures { option_copied result ≡ slice_get (segs_in text.now) (length (segs_in text.now) - 1) }
+{
+    match text.rfind('/') {
+        Some(at) => Some(&text[at + 1..]),
+        None => None,
+    }
 }
 
 pub fn piece_at(text: &str, n: usize) -> Option<&str>

@@ -205,3 +205,26 @@ fn types_words(rt: HostRuntime) -> Result<(), Fail> {
     }
     Ok(())
 }
+
+#[test]
+fn makes_relatives(rt: HostRuntime) -> Result<(), Fail> {
+    let alloc = rt.alloc();
+    let root = Path::root(alloc);
+    assert!(rt; root.last().is_none());
+    assert_eq!(rt; root.as_text(), "/");
+    let page = Path::read(alloc, "/content/en")?;
+    assert_eq!(rt; page.last().unwrap_or(""), "en");
+    for name in ["", ".", "a/b"] {
+        assert!(rt; page.child_or_none(alloc, name)?.is_none(), "{name}");
+    }
+    let Some(child) = page.child_or_none(alloc, "a.b")? else {
+        assert!(rt; false);
+        return Ok(());
+    };
+    assert_eq!(rt; child.as_text(), "/content/en/a.b");
+    match page.join_or_none(alloc, &child)? {
+        Some(path) => assert_eq!(rt; path.as_text(), "/content/en/content/en/a.b"),
+        None => assert!(rt; false),
+    }
+    Ok(())
+}

@@ -1,0 +1,43 @@
+//! What is read off a path, and what is made of one: its last segment, a child, a path below another.
+ghost use Rattle.std.specs.Prelude.{◌≡◌, ◌-◌, ◌∷◌, ◌++◌, [], IfOk, length, option_copied, slice_get};
+ghost use Rattle.sp_base.specs.Paths.{path_or_none};
+
+use crate::segments::{last_segment, seg_ok};
+use crate::{MOST_SEGMENTS, Mem, NoMemory, Path, PathFault};
+use std::alloc::Global;
+
+impl Path {
+    /// The last segment; the root has none.
+    pub fn last(&self) -> Option<&str>
+        ensures { option_copied result ≡ slice_get self.now (length self.now - 1) }
+    {
+        last_segment(self.spelling())
+    }
+
+    /// The path with one segment more, where that is a path: where the name may be a segment and there are fewer than 64.
+    pub fn child_or_none(&self, alloc: Global, name: &str) -> Mem<Option<Path>>
+        ensures { IfOk result (λ o. o ≡ path_or_none (self.now ++ name.now ∷ [])) }
+    {
+        if !seg_ok(name) || self.depth() >= MOST_SEGMENTS {
+            return Ok(None);
+        }
+        match self.child(alloc, name) {
+            Ok(child) => Ok(Some(child)),
+            Err(PathFault::NoMemory) => Err(NoMemory),
+            Err(_) => unreachable!(),
+        }
+    }
+
+    /// The segments of a further path after these, where there are at most 64 in all.
+    pub fn join_or_none(&self, alloc: Global, rest: &Path) -> Mem<Option<Path>>
+        ensures { IfOk result (λ o. o ≡ path_or_none (self.now ++ rest.now)) }
+    {
+        match self.join(alloc, rest) {
+            Ok(path) => Ok(Some(path)),
+            Err(fault) => match fault {
+                PathFault::NoMemory => Err(NoMemory),
+                _ => Ok(None),
+            },
+        }
+    }
+}

@@ -14,7 +14,7 @@ use htl_expr::Scope;
 use htl_text::{RenderFault, Template};
 use resource_tree::{Res, Tree};
 use script_rank::first_script;
-use sp_base::{Answer, Mark, Mem, NoMemory, Path, TextBuf};
+use sp_base::{Answer, Mark, Mem, NoMemory, Path};
 use std::alloc::Global;
 use type_chain::{chain, type_text};
 use url_split::Parts;
@@ -33,10 +33,7 @@ pub(crate) fn script_of(alloc: Global, tree: &Tree, parts: &Parts, res: &Res) ->
 fn name_of(path: &Path) -> &str
     ensures { result.now ≡ name_of path.now }
 {
-    match path.seg(path.depth().saturating_sub(1)) {
-        Some(name) => name,
-        None => "",
-    }
+    path.last().unwrap_or("")
 }
 
 // What a template writes, as a representation; an error where that is too long.
@@ -59,10 +56,9 @@ fn written_representation(
 fn template_representation(alloc: Global, template: &Template, res: &Res) -> Mem<Answer>
     ensures { IfOk result (λ a. a ≡ representation_of html_kind (mark_of res.now) (written_by (scope_of res.now) template.now)) }
 {
-    let path = res.path().text(alloc)?;
     let scope = Scope {
         props: res.props(),
-        path: path.text(),
+        path: res.path().as_text(),
         name: name_of(res.path()),
         kind: type_text(res.props()),
     };

@@ -69,8 +69,7 @@ impl Publisher {
         if !is_read(ask.method.text()) {
             return error_answer(alloc, 405);
         }
-        let text = ask.path.text(alloc)?;
-        match split(alloc, &*self, text.text())? {
+        match split(alloc, &*self, ask.path.as_text())? {
             Some(parts) => self.named(alloc, &parts),
             None => error_answer(alloc, 404),
         }

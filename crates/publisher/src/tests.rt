@@ -103,7 +103,7 @@ fn site(alloc: Global) -> Result<Publisher, Failed> {
     tree.set(alloc, &a, "n", Value::Long(3))?;
     tree.set(alloc, &a, "sp:mark", text(alloc, "no-cache,private")?)?;
     tree.set(alloc, &at(alloc, "/a/k")?, "x", text(alloc, "y")?)?;
-    Ok(Publisher::new(tree))
+    Ok(Publisher::new(alloc, seeds, tree))
 }
 
 #[test]
@@ -172,7 +172,7 @@ fn big_site(alloc: Global, kids: u32) -> Result<Publisher, Failed> {
         let path = format!(in alloc; "/content/big/{number}")?;
         tree.create(alloc, &at(alloc, path.as_str())?)?;
     }
-    Ok(Publisher::new(tree))
+    Ok(Publisher::new(alloc, seeds, tree))
 }
 
 #[test]
@@ -237,7 +237,7 @@ fn scripted_site(alloc: Global, script: TextBuf) -> Result<Publisher, Failed> {
     tree.set(alloc, &page, "sp:mark", text(alloc, "no-cache")?)?;
     let content = at(alloc, "/apps/t/GET.html/jcr:content")?;
     tree.set(alloc, &content, "jcr:data", Value::Text(script))?;
-    Ok(Publisher::new(tree))
+    Ok(Publisher::new(alloc, seeds, tree))
 }
 
 #[test]

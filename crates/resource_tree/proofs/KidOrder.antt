@@ -12,7 +12,7 @@ use Rattle.resource_tree.specs.declared.places.Place.{Place}
 use Rattle.resource_tree.specs.Kids.{other_kids, place_among}
 use Rattle.resource_tree.specs.Content.{kid, IsTree}
 use Rattle.resource_tree.specs.Changes.{with_kids, with_order}
-use Rattle.resource_tree.proofs.Changed.{Replaces}
+use Rattle.resource_tree.proofs.NodeChange.{Replaces}
 
 abbrev same : List ℕ → List ℕ → Bool
 same = pointwise nat_eq

@@ -1,4 +1,5 @@
 pub mod Content
+pub mod InOrder
 pub mod Kids
 pub mod Changes
 pub mod Seen

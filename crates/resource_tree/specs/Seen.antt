@@ -1,5 +1,5 @@
 -- What a tree shows at a path: its node as it is.
-use Rattle.std.specs.Prelude.{ℕ, ◌×◌, List, Option, option_map}
+use Rattle.std.specs.Prelude.{ℕ, List, Option, option_map}
 use Rattle.sp_base.specs.declared.value.Value.{Value}
 use Rattle.resource_tree.specs.declared.nodes.Node.{Node}
 use Rattle.resource_tree.specs.Content.{Content, node_at}

@@ -1,5 +1,4 @@
 -- The node that a resource holds. Only the type of resources and its proofs cite this.
-use Rattle.std.specs.Prelude.{ℕ}
 use Rattle.resource_tree.specs.declared.nodes.Node.{Node}
 use Rattle.resource_tree.specs.declared.look.Shown.{Shown}
 use Rattle.resource_tree.specs.declared.look.Shown.TheVariants.{Lent, Owned}

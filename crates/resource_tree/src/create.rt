@@ -1,12 +1,16 @@
+// New nodes, and when they are refused.
 ghost use Rattle.std.specs.Prelude.{◌≡◌, ◌≢◌, ◌-◌, ℕ, List, None, Some, OnOk, OnErr, IfOk, IfErr, IsTrue, length, option_copied, slice_get};
-ghost use Rattle.std.specs.BTreeMap.{insert_entry, IsOrdered};
+ghost use Rattle.std.specs.BTreeMap.{insert_entry};
+ghost use Rattle.std.specs.List.Sorted.{IsStrictlySortedBy};
+ghost use Rattle.std.specs.Map.{keys_of};
 ghost use Rattle.sp_base.specs.Paths.{is_path};
-ghost use Rattle.resource_tree.specs.Content.{by_path, node_at, parent_of, empty_node, kid};
-ghost use Rattle.resource_tree.specs.Changes.{change_at, create_fault, created, created_at, with_kid};
+ghost use Rattle.resource_tree.specs.Content.{by_path, node_at, parent_of, empty_node, leaf, HasSegmentNames};
+ghost use Rattle.resource_tree.specs.Changes.{change_at, create_fault, creation, creation_at, with_kid};
 
-use crate::nodes::{Node, Nodes};
+use crate::nodes::Node;
+use crate::table::Nodes;
 use crate::{Tree, TreeFault};
-use sp_base::{Mem, Path, TextBuf};
+use sp_base::{Mem, Path, PropList, TextBuf};
 use std::alloc::Global;
 
 /// The most nodes of a tree.
@@ -16,8 +20,21 @@ impl Tree {
     /// Makes a node without properties and kids. It stands last among the kids of its parent.
     pub fn create(&mut self, alloc: Global, path: &Path) -> Result<(), TreeFault>
         ensures allowed { OnOk result (create_fault self.old path.now ≡ None) }
-        ensures ok { OnOk result (self.new ≡ created self.old path.now) }
-        ensures look_ups { OnOk result ((q : List (List ℕ)) → node_at self.new q ≡ created_at self.old path.now q) }
+        ensures ok { OnOk result (self.new ≡ creation self.old path.now empty_node) }
+        ensures look_ups { OnOk result ((q : List (List ℕ)) → node_at self.new q ≡ creation_at self.old path.now empty_node q) }
+        ensures err { IfErr result (λ e. e ≢ TreeFault.NoMemory → create_fault self.old path.now ≡ Some e) }
+        ensures unchanged { OnErr result (self.new ≡ self.old) }
+    {
+        self.make(alloc, path, PropList::new(alloc))
+    }
+
+    /// Makes a node with these properties and no kids. It stands last among the kids of its
+    /// parent. Each property's name is one that may be a segment of a path.
+    pub fn make(&mut self, alloc: Global, path: &Path, props: PropList) -> Result<(), TreeFault>
+        requires { HasSegmentNames props }
+        ensures allowed { OnOk result (create_fault self.old path.now ≡ None) }
+        ensures ok { OnOk result (self.new ≡ creation self.old path.now (leaf props)) }
+        ensures look_ups { OnOk result ((q : List (List ℕ)) → node_at self.new q ≡ creation_at self.old path.now (leaf props) q) }
         ensures err { IfErr result (λ e. e ≢ TreeFault.NoMemory → create_fault self.old path.now ≡ Some e) }
         ensures unchanged { OnErr result (self.new ≡ self.old) }
     {
@@ -27,7 +44,14 @@ impl Tree {
             return Err(TreeFault::Exists(path.duplicate(alloc)?));
         };
         let name = TextBuf::of(alloc, name)?;
-        add_node(&mut self.nodes, alloc, path, &parent, name)?;
+        add_node(
+            &mut self.nodes,
+            alloc,
+            path,
+            Node::leaf(alloc, props),
+            &parent,
+            name,
+        )?;
         Ok(())
     }
 
@@ -64,14 +88,21 @@ pub(crate) fn last_segment(path: &Path) -> Option<&str>
     path.seg(path.depth().saturating_sub(1))
 }
 
-// Adds an empty node, and its name to its parent's kids.
-fn add_node(nodes: &mut Nodes, alloc: Global, path: &Path, parent: &Path, name: TextBuf) -> Mem<()>
+// Adds a node, and its name to its parent's kids.
+fn add_node(
+    nodes: &mut Nodes,
+    alloc: Global,
+    path: &Path,
+    node: Node,
+    parent: &Path,
+    name: TextBuf,
+) -> Mem<()>
     requires { node_at nodes.old.entries path.now ≡ None }
-    ensures ok { OnOk result (nodes.new.entries ≡ change_at (insert_entry by_path nodes.old.entries path.now empty_node) parent.now (with_kid name)) }
+    ensures ok { OnOk result (nodes.new.entries ≡ change_at (insert_entry by_path nodes.old.entries path.now node) parent.now (with_kid name)) }
     ensures err { OnErr result (nodes.new.entries ≡ nodes.old.entries) }
-    ensures ordered { OnOk result (IsOrdered by_path nodes.new) }
+    ensures ordered { OnOk result (IsStrictlySortedBy by_path (keys_of nodes.new.entries)) }
 {
-    nodes.insert(path.duplicate(alloc)?, Node::empty(alloc))?;
+    nodes.insert(path.duplicate(alloc)?, node)?;
     let named = add_kid(nodes, parent, name);
     if named.is_err() {
         nodes.remove(path);
@@ -83,9 +114,9 @@ fn add_node(nodes: &mut Nodes, alloc: Global, path: &Path, parent: &Path, name: 
 fn add_kid(nodes: &mut Nodes, path: &Path, name: TextBuf) -> Mem<()>
     ensures ok { OnOk result (nodes.new.entries ≡ change_at nodes.old.entries path.now (with_kid name)) }
     ensures err { OnErr result (nodes.new.entries ≡ nodes.old.entries) }
-    ensures ordered { IsOrdered by_path nodes.new }
+    ensures ordered { IsStrictlySortedBy by_path (keys_of nodes.new.entries) }
 {
-    let Some(node) = nodes.get_mut(path) else {
+    let Some(node) = nodes.map.get_mut(path) else {
         return Ok(());
     };
     node.kids.push(name)

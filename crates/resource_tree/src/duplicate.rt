@@ -1,10 +1,11 @@
+// A second tree like a first.
 ghost use Rattle.std.specs.Prelude.{◌≡◌, IfOk};
 
 use crate::Tree;
-use crate::nodes::{Node, Nodes};
+use crate::nodes::Node;
+use crate::table::Nodes;
 use sp_base::Mem;
 use std::alloc::Global;
-use std::collections::BTreeMap;
 
 impl Node {
     pub fn duplicate(&self, alloc: Global) -> Mem<Node>
@@ -30,8 +31,8 @@ impl Tree {
 fn copied(alloc: Global, nodes: &Nodes) -> Mem<Nodes>
     ensures { IfOk result (λ copy. copy.entries ≡ nodes.now.entries) }
 {
-    let mut copy = BTreeMap::new(alloc);
-    for (path, node) in nodes {
+    let mut copy = Nodes::new(alloc, *nodes.map.hasher());
+    for (path, node) in &nodes.map {
         copy.insert(path.duplicate(alloc)?, node.duplicate(alloc)?)?;
     }
     Ok(copy)

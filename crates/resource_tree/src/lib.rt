@@ -9,17 +9,20 @@ mod duplicate;
 mod faults;
 mod kids;
 mod look;
+mod node_map;
 mod nodes;
 mod order;
 mod places;
 mod properties;
 mod remove;
+mod table;
 #[cfg(test)]
 mod tests;
 mod tree;
 
 pub use faults::TreeFault;
 pub use look::{Look, Res, Shown};
+pub use node_map::NodeMap;
 pub use nodes::Node;
 pub use places::Place;
 pub use tree::Tree;

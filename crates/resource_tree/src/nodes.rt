@@ -1,9 +1,9 @@
+// The nodes of a tree.
 ghost use Rattle.std.specs.Prelude.{◌≡◌};
-ghost use Rattle.resource_tree.specs.Content.{empty_node};
+ghost use Rattle.resource_tree.specs.Content.{empty_node, leaf};
 
-use sp_base::{Path, PropList, TextList};
+use sp_base::{PropList, TextList};
 use std::alloc::Global;
-use std::collections::BTreeMap;
 
 /// A node: its properties in the order of their names, and the names of its kids in their order.
 #[derive(Drop)]
@@ -21,6 +21,13 @@ impl Node {
             kids: TextList::new(alloc),
         }
     }
-}
 
-pub(crate) type Nodes = BTreeMap<Path, Node>;
+    pub(crate) fn leaf(alloc: Global, props: PropList) -> Node
+        ensures { result ≡ leaf props }
+    {
+        Node {
+            props,
+            kids: TextList::new(alloc),
+        }
+    }
+}

@@ -1,12 +1,14 @@
+// Kids in another place among their parent's.
 ghost use Rattle.std.specs.Prelude.{◌≡◌, ◌≢◌, ◌-◌, ℕ, List, None, Some, OnOk, OnErr, IfOk, IfErr, IsTrue, length, unwrap_or};
-ghost use Rattle.std.specs.BTreeMap.{IsOrdered};
+ghost use Rattle.std.specs.List.Sorted.{IsStrictlySortedBy};
+ghost use Rattle.std.specs.Map.{keys_of};
 ghost use Rattle.sp_base.specs.Paths.{is_path};
 ghost use Rattle.resource_tree.specs.Content.{by_path, node_at, parent_of};
-ghost use Rattle.resource_tree.specs.Changes.{change_at, fixed_fault, kids_at, order_fault, reordered, reordered_at, with_kids};
+ghost use Rattle.resource_tree.specs.Changes.{change_at, fixed_fault, kids_at, order_fault, reordering, reordering_at, with_kids};
 
 use crate::create::last_segment;
 use crate::kids::kids_in_order;
-use crate::nodes::Nodes;
+use crate::table::Nodes;
 use crate::{Place, Tree, TreeFault};
 use sp_base::{Path, TextBuf, TextList};
 use std::alloc::Global;
@@ -15,8 +17,8 @@ impl Tree {
     /// Puts a node in another place among the kids of its parent.
     pub fn order(&mut self, alloc: Global, path: &Path, place: &Place) -> Result<(), TreeFault>
         ensures allowed { OnOk result (order_fault self.old path.now place.now ≡ None) }
-        ensures ok { OnOk result (self.new ≡ reordered self.old path.now place.now) }
-        ensures look_ups { OnOk result ((q : List (List ℕ)) → node_at self.new q ≡ reordered_at self.old path.now place.now q) }
+        ensures ok { OnOk result (self.new ≡ reordering self.old path.now place.now) }
+        ensures look_ups { OnOk result ((q : List (List ℕ)) → node_at self.new q ≡ reordering_at self.old path.now place.now q) }
         ensures err { IfErr result (λ e. e ≢ TreeFault.NoMemory → order_fault self.old path.now place.now ≡ Some e) }
         ensures unchanged { OnErr result (self.new ≡ self.old) }
     {
@@ -60,9 +62,10 @@ pub(crate) fn kids_at<'a>(nodes: &'a Nodes, path: &Path) -> &'a [TextBuf]
 // Gives the node at a path other kids, if it is there.
 pub(crate) fn set_kids(nodes: &mut Nodes, path: &Path, kids: TextList)
     ensures after { nodes.new.entries ≡ change_at nodes.old.entries path.now (with_kids kids) }
-    ensures ordered { IsOrdered by_path nodes.new }
+    ensures ordered { IsStrictlySortedBy by_path (keys_of nodes.new.entries) }
 {
-    if let Some(node) = nodes.get_mut(path) {
-        node.kids = kids;
-    }
+    let Some(node) = nodes.map.get_mut(path) else {
+        return;
+    };
+    node.kids = kids;
 }

@@ -1,10 +1,12 @@
+// Properties that are set or taken away.
 ghost use Rattle.std.specs.Prelude.{◌≡◌, ◌≢◌, ℕ, List, None, Some, OnOk, OnErr, IfOk, IfErr, IsTrue, MatchOption, false};
-ghost use Rattle.std.specs.BTreeMap.{IsOrdered};
+ghost use Rattle.std.specs.List.Sorted.{IsStrictlySortedBy};
+ghost use Rattle.std.specs.Map.{keys_of};
 ghost use Rattle.sp_base.specs.Paths.{is_path, seg_ok};
 ghost use Rattle.resource_tree.specs.Content.{by_path, kid, node_at};
-ghost use Rattle.resource_tree.specs.Changes.{change_at, cleared, cleared_at, has_prop_at, set_fault, unset_fault, updated, updated_at, with_value, without_value};
+ghost use Rattle.resource_tree.specs.Changes.{change_at, clearing, clearing_at, has_prop_at, set_fault, unset_fault, update, update_at, with_value, without_value};
 
-use crate::nodes::Nodes;
+use crate::table::Nodes;
 use crate::{Tree, TreeFault};
 use sp_base::{Mem, NoMemory, Path, PathFault, Value};
 use std::alloc::Global;
@@ -20,8 +22,8 @@ impl Tree {
     ) -> Result<(), TreeFault>
         requires { IsTrue (seg_ok name.now) }
         ensures allowed { OnOk result (set_fault self.old path.now name.now ≡ None) }
-        ensures ok { OnOk result (self.new ≡ updated self.old path.now name.now value) }
-        ensures look_ups { OnOk result ((q : List (List ℕ)) → node_at self.new q ≡ updated_at self.old path.now name.now value q) }
+        ensures ok { OnOk result (self.new ≡ update self.old path.now name.now value) }
+        ensures look_ups { OnOk result ((q : List (List ℕ)) → node_at self.new q ≡ update_at self.old path.now name.now value q) }
         ensures err { IfErr result (λ e. e ≢ TreeFault.NoMemory → set_fault self.old path.now name.now ≡ Some e) }
         ensures unchanged { OnErr result (self.new ≡ self.old) }
     {
@@ -34,8 +36,8 @@ impl Tree {
     pub fn unset(&mut self, alloc: Global, path: &Path, name: &str) -> Result<bool, TreeFault>
         ensures allowed { OnOk result (unset_fault self.old path.now ≡ None) }
         ensures was { IfOk result (λ was. was ≡ has_prop_at self.old path.now name.now) }
-        ensures ok { OnOk result (self.new ≡ cleared self.old path.now name.now) }
-        ensures look_ups { OnOk result ((q : List (List ℕ)) → node_at self.new q ≡ cleared_at self.old path.now name.now q) }
+        ensures ok { OnOk result (self.new ≡ clearing self.old path.now name.now) }
+        ensures look_ups { OnOk result ((q : List (List ℕ)) → node_at self.new q ≡ clearing_at self.old path.now name.now q) }
         ensures err { IfErr result (λ e. e ≢ TreeFault.NoMemory → unset_fault self.old path.now ≡ Some e) }
         ensures unchanged { OnErr result (self.new ≡ self.old) }
     {
@@ -82,9 +84,9 @@ fn kid_path(alloc: Global, path: &Path, name: &str) -> Mem<Option<Path>>
 fn set_value(nodes: &mut Nodes, alloc: Global, path: &Path, name: &str, value: Value) -> Mem<()>
     ensures ok { OnOk result (nodes.new.entries ≡ change_at nodes.old.entries path.now (with_value name.now value)) }
     ensures err { OnErr result (nodes.new.entries ≡ nodes.old.entries) }
-    ensures ordered { IsOrdered by_path nodes.new }
+    ensures ordered { IsStrictlySortedBy by_path (keys_of nodes.new.entries) }
 {
-    let Some(node) = nodes.get_mut(path) else {
+    let Some(node) = nodes.map.get_mut(path) else {
         return Ok(());
     };
     node.props.put(alloc, name, value)
@@ -94,9 +96,9 @@ fn set_value(nodes: &mut Nodes, alloc: Global, path: &Path, name: &str, value: V
 fn clear_value(nodes: &mut Nodes, path: &Path, name: &str) -> bool
     ensures was { result ≡ has_prop_at nodes.old.entries path.now name.now }
     ensures after { nodes.new.entries ≡ change_at nodes.old.entries path.now (without_value name.now) }
-    ensures ordered { IsOrdered by_path nodes.new }
+    ensures ordered { IsStrictlySortedBy by_path (keys_of nodes.new.entries) }
 {
-    let Some(node) = nodes.get_mut(path) else {
+    let Some(node) = nodes.map.get_mut(path) else {
         return false;
     };
     node.props.remove(name)

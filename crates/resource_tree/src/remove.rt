@@ -1,14 +1,16 @@
-ghost use Rattle.std.specs.Prelude.{◌≡◌, ◌≢◌, ℕ, List, None, Some, OnOk, OnErr, IfOk, IfErr, filter};
-ghost use Rattle.std.specs.BTreeMap.{IsOrdered};
+// A node that is removed with all below it.
+ghost use Rattle.std.specs.Prelude.{◌≡◌, ◌≢◌, ℕ, List, None, Some, OnOk, OnErr, IfOk, IfErr, is_some, ◌&&◌};
+ghost use Rattle.std.specs.List.{list_any};
+ghost use Rattle.std.specs.List.Sorted.{IsStrictlySortedBy};
 ghost use Rattle.std.specs.Map.{keys_of};
 ghost use Rattle.sp_base.specs.Paths.{is_under};
-ghost use Rattle.resource_tree.specs.Content.{by_path, node_at};
-ghost use Rattle.resource_tree.specs.Changes.{fixed_fault, removed, removed_at, without_under};
+ghost use Rattle.resource_tree.specs.Content.{by_path, node_at, same_path};
+ghost use Rattle.resource_tree.specs.Changes.{fixed_fault, removal, removal_at, without_under};
 
 use crate::create::last_segment;
 use crate::kids::other_kids;
-use crate::nodes::Nodes;
 use crate::order::{kids_at, set_kids};
+use crate::table::Nodes;
 use crate::{Tree, TreeFault};
 use sp_base::{Mem, Path, TextList};
 use std::alloc::Global;
@@ -17,8 +19,8 @@ impl Tree {
     /// Removes a node and all below it.
     pub fn remove(&mut self, alloc: Global, path: &Path) -> Result<(), TreeFault>
         ensures allowed { OnOk result (fixed_fault self.old path.now ≡ None) }
-        ensures ok { OnOk result (self.new ≡ removed self.old path.now) }
-        ensures look_ups { OnOk result ((q : List (List ℕ)) → node_at self.new q ≡ removed_at self.old path.now q) }
+        ensures ok { OnOk result (self.new ≡ removal self.old path.now) }
+        ensures look_ups { OnOk result ((q : List (List ℕ)) → node_at self.new q ≡ removal_at self.old path.now q) }
         ensures err { IfErr result (λ e. e ≢ TreeFault.NoMemory → fixed_fault self.old path.now ≡ Some e) }
         ensures unchanged { OnErr result (self.new ≡ self.old) }
     {
@@ -35,26 +37,25 @@ impl Tree {
     }
 }
 
-// The paths of the nodes at a path and under it, which stand in a row.
+// The paths of the nodes at a path and under it, in no order.
 fn paths_under(nodes: &Nodes, alloc: Global, path: &Path) -> Mem<Vec<Path>>
-    ensures { IfOk result (λ paths. paths.items ≡ filter (λ p. is_under p path.now) (keys_of nodes.now.entries)) }
+    ensures { IfOk result (λ paths. (q : List (List ℕ)) → list_any (same_path q) paths.items ≡ (is_some (node_at nodes.now.entries q) && is_under q path.now)) }
 {
     let mut paths = Vec::new(alloc);
-    for (below, _) in nodes.range(path..) {
-        if !below.is_under(path) {
-            return Ok(paths);
+    for (below, _) in &nodes.map {
+        if below.is_under(path) {
+            paths.push(below.duplicate(alloc)?)?;
         }
-        paths.push(below.duplicate(alloc)?)?;
     }
     Ok(paths)
 }
 
 // Takes the nodes at a path and under it away, whose paths are given.
 fn drop_nodes(nodes: &mut Nodes, path: &Path, paths: &[Path])
-    requires in_order { IsOrdered by_path nodes.old }
-    requires all { paths.now ≡ filter (λ p. is_under p path.now) (keys_of nodes.old.entries) }
+    requires all { (q : List (List ℕ)) → list_any (same_path q) paths.now ≡ (is_some (node_at nodes.old.entries q) && is_under q path.now) }
+    requires in_order { IsStrictlySortedBy by_path (keys_of nodes.old.entries) }
     ensures after { nodes.new.entries ≡ without_under nodes.old.entries path.now }
-    ensures ordered { IsOrdered by_path nodes.new }
+    ensures ordered { IsStrictlySortedBy by_path (keys_of nodes.new.entries) }
 {
     for below in paths {
         nodes.remove(below);

@@ -1,11 +1,14 @@
+// Trees that are built and changed by hand.
 ghost use Rattle.std.specs.Prelude.{◌≡◌, ◌++◌, ◌∷◌, [], IfOk, IfSome, IsTrue, Some};
 ghost use Rattle.sp_base.specs.Paths.{seg_ok};
 
 use crate::{Look, Place, Res, Tree, TreeFault};
 use sp_base::{Mem, NoMemory, Path, TextBuf, Value};
 use std::alloc::Global;
+use std::hash::RandomState;
+use std::io;
 
-/// A refusal or want of memory where a test expects none.
+/// A refusal, a lack of memory or of random numbers where a test expects none.
 #[derive(Debug, Drop)]
 struct Failed;
 
@@ -21,6 +24,12 @@ impl From<NoMemory> for Failed {
     }
 }
 
+impl From<io::Error> for Failed {
+    fn from(_fault: io::Error) -> Failed {
+        Failed
+    }
+}
+
 fn at(alloc: Global, text: &str) -> Result<Path, TreeFault> {
     match Path::read(alloc, text) {
         Ok(path) => Ok(path),
@@ -29,15 +38,15 @@ fn at(alloc: Global, text: &str) -> Result<Path, TreeFault> {
 }
 
 // A tree with nodes at these paths, which are made in their order.
-fn tree_of(alloc: Global, paths: &[&str]) -> Result<Tree, TreeFault> {
-    let mut tree = Tree::new(alloc)?;
+fn tree_of(alloc: Global, seeds: RandomState, paths: &[&str]) -> Result<Tree, TreeFault> {
+    let mut tree = Tree::new(alloc, seeds)?;
     for path in paths {
         tree.create(alloc, &at(alloc, *path)?)?;
     }
     Ok(tree)
 }
 
-// The names of the kids of a node, each behind a blank.
+// The names of the kids of a node, each after a blank.
 fn kids(alloc: Global, tree: &Tree, path: &str) -> Result<String, TreeFault> {
     let mut names = String::new(alloc);
     if let Some(node) = tree.node(&at(alloc, path)?) {
@@ -59,6 +68,8 @@ fn told(alloc: Global, answer: Result<(), TreeFault>) -> Result<String, NoMemory
         Ok(()) => ("Ok", None),
         Err(TreeFault::NoSuch(path)) => ("NoSuch ", Some(path)),
         Err(TreeFault::RootFixed) => ("RootFixed", None),
+        Err(TreeFault::IntoItself) => ("IntoItself", None),
+        Err(TreeFault::TooDeep) => ("TooDeep", None),
         Err(TreeFault::Exists(path)) => ("Exists ", Some(path)),
         Err(TreeFault::Taken(path)) => ("Taken ", Some(path)),
         Err(TreeFault::NoSibling) => ("NoSibling", None),
@@ -75,7 +86,7 @@ fn told(alloc: Global, answer: Result<(), TreeFault>) -> Result<String, NoMemory
 #[test]
 fn new_kids_stand_last(rt: HostRuntime) -> Result<(), Failed> {
     let alloc = rt.alloc();
-    let tree = tree_of(alloc, &["/z", "/a", "/z/y", "/m"])?;
+    let tree = tree_of(alloc, RandomState::new(&rt)?, &["/z", "/a", "/z/y", "/m"])?;
     assert_eq!(rt; kids(alloc, &tree, "/")?.as_str(), " z a m");
     assert_eq!(rt; kids(alloc, &tree, "/z")?.as_str(), " y");
     assert_eq!(rt; tree.len(), 5);
@@ -85,7 +96,7 @@ fn new_kids_stand_last(rt: HostRuntime) -> Result<(), Failed> {
 #[test]
 fn a_kid_is_put_in_its_place(rt: HostRuntime) -> Result<(), Failed> {
     let alloc = rt.alloc();
-    let mut tree = tree_of(alloc, &["/a", "/b", "/c", "/d"])?;
+    let mut tree = tree_of(alloc, RandomState::new(&rt)?, &["/a", "/b", "/c", "/d"])?;
     let c = TextBuf::of(alloc, "c")?;
     let d = TextBuf::of(alloc, "d")?;
     for (path, place, want) in [
@@ -106,7 +117,7 @@ fn a_kid_is_put_in_its_place(rt: HostRuntime) -> Result<(), Failed> {
 #[test]
 fn refusals_tell_their_cause(rt: HostRuntime) -> Result<(), Failed> {
     let alloc = rt.alloc();
-    let mut tree = tree_of(alloc, &["/a", "/a/b"])?;
+    let mut tree = tree_of(alloc, RandomState::new(&rt)?, &["/a", "/a/b"])?;
     tree.set(alloc, &at(alloc, "/a")?, "title", Value::Long(7))?;
     for (path, want) in [
         ("/x/y", "NoSuch /x"),
@@ -141,6 +152,7 @@ fn all_below_a_node_goes_with_it(rt: HostRuntime) -> Result<(), Failed> {
     let alloc = rt.alloc();
     let mut tree = tree_of(
         alloc,
+        RandomState::new(&rt)?,
         &["/a", "/a/b", "/a/b/c", "/a/b/d", "/a/b!", "/a/bc", "/ab"],
     )?;
     let before = tree.duplicate(alloc)?;
@@ -165,7 +177,7 @@ fn all_below_a_node_goes_with_it(rt: HostRuntime) -> Result<(), Failed> {
 #[test]
 fn values_are_set_and_taken_away(rt: HostRuntime) -> Result<(), Failed> {
     let alloc = rt.alloc();
-    let mut tree = tree_of(alloc, &["/a"])?;
+    let mut tree = tree_of(alloc, RandomState::new(&rt)?, &["/a"])?;
     let path = at(alloc, "/a")?;
     tree.set(alloc, &path, "size", Value::Long(1))?;
     tree.set(alloc, &path, "size", Value::Long(2))?;
@@ -207,7 +219,7 @@ fn kid_at<'a, L: Look>(
 #[test]
 fn a_resource_lends_its_node(rt: HostRuntime) -> Result<(), Failed> {
     let alloc = rt.alloc();
-    let mut tree = tree_of(alloc, &["/a", "/a/b"])?;
+    let mut tree = tree_of(alloc, RandomState::new(&rt)?, &["/a", "/a/b"])?;
     tree.set(alloc, &at(alloc, "/a/b")?, "size", Value::Long(1))?;
     let Some(res) = tree.res(alloc, &at(alloc, "/a")?)? else {
         return Err(Failed);

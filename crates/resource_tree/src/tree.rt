@@ -1,10 +1,12 @@
+// The tree as a value: its making and its look-ups.
 ghost use Rattle.std.specs.Prelude.{◌≡◌, IfOk, length, option_copied};
 ghost use Rattle.resource_tree.specs.Content.{node_at, IsGood, new_content};
 
-use crate::nodes::{Node, Nodes};
+use crate::nodes::Node;
+use crate::table::Nodes;
 use sp_base::{Mem, Path, PropList, TextList};
 use std::alloc::Global;
-use std::collections::BTreeMap;
+use std::hash::RandomState;
 use std::marker::Model;
 
 /// The content: a finite map from paths to nodes.
@@ -25,10 +27,11 @@ impl Model for Tree {
 
 impl Tree {
     /// A tree of the root alone, which has no property and no kid.
-    pub fn new(alloc: Global) -> Mem<Tree>
+    /// The seeds key the hashes of the paths, which authors pick.
+    pub fn new(alloc: Global, seeds: RandomState) -> Mem<Tree>
         ensures { IfOk result (λ tree. tree ≡ new_content) }
     {
-        let mut nodes = BTreeMap::new(alloc);
+        let mut nodes = Nodes::new(alloc, seeds);
         nodes.insert(Path::root(alloc), Node::empty(alloc))?;
         Ok(Tree { nodes })
     }

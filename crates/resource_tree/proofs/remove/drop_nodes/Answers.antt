@@ -1,20 +1,26 @@
-use Rattle.std.proofs.Common.{◌≡◌, ◌∙◌, ap, take, length, arith, cond, None, List, ℕ}
+use Rattle.std.proofs.Common.{◌≡◌, ◌∙◌, ap, sym, take, length, arith, cond, None}
 use Rattle.std.specs.List.{list_any}
 use Rattle.std.proofs.Math.Seq.{take-length}
+use Rattle.sp_base.specs.Paths.{is_under}
 use Rattle.resource_tree.specs.Content.{same_path, node_at}
+use Rattle.resource_tree.proofs.HashedUnder.{any_kept}
 use Rattle.resource_tree.proofs.UnderRow.{dropped_more, left_at, same_left}
 use Rattle.resource_tree.proofs.remove.drop_nodes.Goals as goal
 
 pub loop-below-preserved : goal.loop-below-preserved
 loop-below-preserved c = (
   λ q. dropped_more c.args.nodes.now.entries c.loop-below.nodes.entries c.remove.new.self.entries c.args.paths.now c.loop-below.below-index c.below-item.result q c.loop-below-test.true c.below-item.is (c.loop-below.invariant.0 q)
-      (c.remove.ensures.updates.0 q),
+      (c.remove.ensures.look_ups q),
   c.remove.ensures.ordered,
 )
 
 pub returns-clause-after : goal.returns-clause-after
 returns-clause-after c =
+    let old = c.args.nodes.now.entries in
+    let path = c.args.path.now in
     let at_end : c.loop-below.below-index ≡ length c.args.paths.now = omega arith in
     let all : take c.loop-below.below-index c.args.paths.now ≡ c.args.paths.now = ap (λ i. take i c.args.paths.now) at_end ∙ take-length c.args.paths.now in
-    same_left c.args.path.now c.args.nodes.now.entries c.requires.in_order c.loop-below.nodes.entries c.loop-below.invariant.1
-    (λ q. c.loop-below.invariant.0 q ∙ ap (λ (ps : List (List (List ℕ))). cond (list_any (same_path q) ps) None (node_at c.args.nodes.now.entries q)) (all ∙ c.requires.all) ∙ left_at c.args.path.now c.args.nodes.now.entries c.requires.in_order q)
+    same_left path old c.requires.in_order c.loop-below.nodes.entries c.loop-below.invariant.1
+    (λ q. c.loop-below.invariant.0 q
+    ∙ ap (λ b. cond b None (node_at old q)) (ap (list_any (same_path q)) all ∙ c.requires.all q ∙ sym (any_kept (λ p. is_under p path) q old))
+    ∙ left_at path old c.requires.in_order q)

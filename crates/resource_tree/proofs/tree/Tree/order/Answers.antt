@@ -1,8 +1,8 @@
 use Rattle.std.proofs.Common.{◌≡◌, sym, ◌∙◌, ap, subst}
 use Rattle.resource_tree.specs.Content.{Content, IsGood, node_at, parent_of, name_of}
-use Rattle.resource_tree.specs.Changes.{reordered, with_order}
+use Rattle.resource_tree.specs.Changes.{reordering, with_order}
 use Rattle.resource_tree.proofs.NodeLookups.{node_at-change_at}
-use Rattle.resource_tree.proofs.Ordered.{CanMove, can_move, reordered_from, IsGood-reordered}
+use Rattle.resource_tree.proofs.Reordering.{CanMove, can_move, reordering_from, IsGood-reordering}
 use Rattle.resource_tree.proofs.tree.Tree.order.Goals as goal
 
 was_good : (c : goal.After-drop-parent-inside-2) → IsGood c.args.self.now
@@ -11,10 +11,10 @@ was_good c = subst (λ (t : Content). IsGood t) c.self.view_is c.self.invariant
 can : (c : goal.After-drop-parent-inside-2) → CanMove c.args.self.now c.args.path.now
 can c = can_move c.args.self.now c.args.path.now c.in_ok-check_fixed.ensures.ok
 
-is_reordered : (c : goal.After-drop-parent-inside-2) → c.set_kids.new.nodes.entries ≡ reordered c.args.self.now c.args.path.now c.args.place.now
+is_reordered : (c : goal.After-drop-parent-inside-2) → c.set_kids.new.nodes.entries ≡ reordering c.args.self.now c.args.path.now c.args.place.now
 is_reordered c =
     c.set_kids.ensures.after
-    ∙ reordered_from c.self.inside.nodes.entries c.args.self.now c.args.path.now c.in_ok-parent.parent c.args.place.now c.in-Some.name.now c.kids_at.result.now c.in-Some-2.kids (was_good c).shape (can c) c.self.view_is
+    ∙ reordering_from c.self.inside.nodes.entries c.args.self.now c.args.path.now c.in_ok-parent.parent c.args.place.now c.in-Some.name.now c.kids_at.result.now c.in-Some-2.kids (was_good c).shape (can c) c.self.view_is
     c.in_ok-parent.ensures
     c.in-Some.ensures.segment
     c.kids_at.ensures
@@ -24,7 +24,7 @@ pub returns-clause-ok : goal.returns-clause-ok
 returns-clause-ok c = is_reordered c
 
 pub invariant_of-self : goal.invariant_of-self
-invariant_of-self c = IsGood-reordered c.set_kids.new.nodes.entries c.args.self.now c.args.path.now c.args.place.now (was_good c) (can c) (is_reordered c) c.set_kids.ensures.ordered
+invariant_of-self c = IsGood-reordering c.set_kids.new.nodes.entries c.args.self.now c.args.path.now c.args.place.now (was_good c) (can c) (is_reordered c) c.set_kids.ensures.ordered
 
 pub returns-clause-look_ups : goal.returns-clause-look_ups
 returns-clause-look_ups c =

@@ -14,9 +14,9 @@ use Rattle.sp_base.specs.Names.{by_name}
 use Rattle.sp_base.specs.Paths.{seg_ok}
 use Rattle.resource_tree.specs.declared.nodes.Node.{Node}
 use Rattle.resource_tree.specs.Content.{by_path, kid, has_kid, prop_at, IsTree, IsGood, node_at, Content, empty_node}
-use Rattle.resource_tree.specs.Changes.{with_value, without_value, cleared, updated, set_fault}
-use Rattle.resource_tree.proofs.Created.{no_fault, some_from, not_none}
-use Rattle.resource_tree.proofs.Changed.{Replaces, IsGood-changed}
+use Rattle.resource_tree.specs.Changes.{with_value, without_value, clearing, update, set_fault}
+use Rattle.resource_tree.proofs.Creation.{no_fault, some_from, not_none}
+use Rattle.resource_tree.proofs.NodeChange.{Replaces, IsGood-changed}
 
 -- what is known where a value may be set
 pub record CanSet (tree : Content) (path : List (List ℕ)) (name : List ℕ) : Type 0 where
@@ -53,9 +53,9 @@ Replaces-with_value tree path name value node old can valid was =
     }
 
 -- the content with the value is good
-pub IsGood-updated : (new tree : Content) (path : List (List ℕ)) (name : List ℕ) (value : Value) → IsGood tree → set_fault tree path name ≡ None → IsTrue (seg_ok name) → new ≡ updated tree path name value
+pub IsGood-update : (new tree : Content) (path : List (List ℕ)) (name : List ℕ) (value : Value) → IsGood tree → set_fault tree path name ≡ None → IsTrue (seg_ok name) → new ≡ update tree path name value
     → IsStrictlySortedBy by_path (keys_of new) → IsGood new
-IsGood-updated new tree path name value good allowed valid same ordered =
+IsGood-update new tree path name value good allowed valid same ordered =
     let can = can_set tree path name allowed in
     let was = some_from (node_at tree path) empty_node can.there in
     IsGood-changed new tree path _ (with_value name value) good was (Replaces-with_value tree path name value _ good.shape can valid was) same ordered
@@ -85,7 +85,7 @@ Replaces-without_value at path name node old was =
     }
 
 -- the content without the value is good
-pub IsGood-cleared : (new tree : Content) (path : List (List ℕ)) (name : List ℕ) → IsGood tree → IsSome (node_at tree path) → new ≡ cleared tree path name → IsStrictlySortedBy by_path (keys_of new) → IsGood new
-IsGood-cleared new tree path name good there same ordered =
+pub IsGood-clearing : (new tree : Content) (path : List (List ℕ)) (name : List ℕ) → IsGood tree → IsSome (node_at tree path) → new ≡ clearing tree path name → IsStrictlySortedBy by_path (keys_of new) → IsGood new
+IsGood-clearing new tree path name good there same ordered =
     let was = some_from (node_at tree path) empty_node there in
     IsGood-changed new tree path _ (without_value name) good was (Replaces-without_value (node_at tree) path name _ good.shape was) same ordered

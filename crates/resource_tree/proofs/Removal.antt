@@ -1,4 +1,4 @@
--- A tree stays a tree where a node and all below it are removed.
+-- A tree stays a tree where a node and all below it are removal.
 use Rattle.std.proofs.Common.{◌≡◌, ◌≢◌, ◌-◌, ◌≤◌, ℕ, Bool, not, true, false, cond, ◌&&◌, List, [], ◌∷◌, refl, sym, ◌∙◌, ap, subst, ⊎_elim, Some, None, Option, length, arith}
 use Rattle.std.specs.Prelude.{is_some, IsSome, unwrap_or, slice_get, nat_eq}
 use Rattle.std.specs.Cmp.Lexicographic.{pointwise}
@@ -12,12 +12,12 @@ use Rattle.sp_base.specs.Paths.{is_under}
 use Rattle.resource_tree.specs.declared.nodes.Node.{Node}
 use Rattle.resource_tree.specs.Content.{by_path, kid, has_kid, IsNodeOf, IsTree, IsGood, node_at, Content, empty_node, parent_of, name_of}
 use Rattle.resource_tree.specs.Kids.{other_kids}
-use Rattle.resource_tree.specs.Changes.{change_at, with_kids, without_kid, removed, removed_at, kids_at}
+use Rattle.resource_tree.specs.Changes.{change_at, with_kids, without_kid, removal, removal_at, kids_at}
 use Rattle.resource_tree.proofs.PathLemmas.{kid_parts, cases_path, same_path_self, same_path_apart, kid_parent}
 use Rattle.resource_tree.proofs.NodeLookups.{node_at-change_at, length-change_at}
-use Rattle.resource_tree.proofs.Created.{some_from, node_unique, IsGood-from}
+use Rattle.resource_tree.proofs.Creation.{some_from, node_unique, IsGood-from}
 use Rattle.resource_tree.proofs.KidOrder.{IsDistinct-filter, list_any-other_kids}
-use Rattle.resource_tree.proofs.Ordered.{CanMove, parent_there, change_at-same}
+use Rattle.resource_tree.proofs.Reordering.{CanMove, parent_there, change_at-same}
 use Rattle.resource_tree.proofs.Under.{under_kid, under_first, under_sibling, under_own_kid}
 use Rattle.resource_tree.proofs.UnderRow.{node_at-without_under}
 
@@ -25,8 +25,8 @@ turned : (b : Bool) (o : Option Node) → cond (not b) o None ≡ cond b None o
 turned true o = refl
 turned false o = refl
 
-pub node_at-removed : (tree : Content) (path q : List (List ℕ)) → node_at (removed tree path) q ≡ removed_at tree path q
-node_at-removed tree path q =
+pub node_at-removal : (tree : Content) (path q : List (List ℕ)) → node_at (removal tree path) q ≡ removal_at tree path q
+node_at-removal tree path q =
     node_at-without_under (change_at tree (parent_of path) (without_kid (name_of path))) path q
     ∙ turned (is_under q path) _
     ∙ ap (λ o. cond (is_under q path) None o) (node_at-change_at tree (parent_of path) (without_kid (name_of path)) q)
@@ -127,28 +127,28 @@ module _ (tree : Content) (path : List (List ℕ)) (good : IsTree (node_at tree)
   under_is : (q : List (List ℕ)) (b : Bool) → is_under q (kid (parent_of path) (name_of path)) ≡ b → is_under q path ≡ b
   under_is q b e = ap (λ p. is_under q p) (sym parts) ∙ e
 
-  loses : Loses (node_at tree) (node_at (removed tree path)) (parent_of path) (name_of path) above
+  loses : Loses (node_at tree) (node_at (removal tree path)) (parent_of path) (name_of path) above
   loses = record {
     was = above_is;
-    there = node_at-removed tree path (parent_of path)
+    there = node_at-removal tree path (parent_of path)
         ∙ (let apart = under_is (parent_of path) false (under_own_kid (parent_of path) (name_of path)) in let self = same_path_self (parent_of path) in rw (apart, self, above_is));
-    gone = λ q is. node_at-removed tree path q ∙ (let under_path = under_is q true is in rw under_path);
-    others = λ q apart other. node_at-removed tree path q ∙ (let beside = under_is q false apart in let elsewhere = same_path_apart (parent_of path) q (λ e. other (sym e)) in rw (beside, elsewhere));
+    gone = λ q is. node_at-removal tree path q ∙ (let under_path = under_is q true is in rw under_path);
+    others = λ q apart other. node_at-removal tree path q ∙ (let beside = under_is q false apart in let elsewhere = same_path_apart (parent_of path) q (λ e. other (sym e)) in rw (beside, elsewhere));
   }
 
-  pub IsTree-removed : IsTree (node_at (removed tree path))
-  IsTree-removed = IsTree-lost (node_at tree) (node_at (removed tree path)) (parent_of path) (name_of path) above good loses
+  pub IsTree-removal : IsTree (node_at (removal tree path))
+  IsTree-removal = IsTree-lost (node_at tree) (node_at (removal tree path)) (parent_of path) (name_of path) above good loses
 
-  pub length-removed : length (removed tree path) ≤ length tree
-  length-removed =
+  pub length-removal : length (removal tree path) ≤ length tree
+  length-removal =
       let both = length-filter_both (λ (e : List (List ℕ) × Node). not (is_under e.0 path)) (λ e. not (not (is_under e.0 path))) (λ e. refl) (change_at tree (parent_of path) (without_kid (name_of path))) in
       let same = length-change_at tree (parent_of path) (without_kid (name_of path)) in
       omega (arith, both, same)
 
   -- the new content as the code makes it
-  pub removed_from : (old : Content) (parent : List (List ℕ)) (name : List ℕ) (kids others : List (List ℕ)) → old ≡ tree → parent ≡ parent_of path → Some name ≡ slice_get path (length path - 1) → kids ≡ kids_at old parent
+  pub removal_from : (old : Content) (parent : List (List ℕ)) (name : List ℕ) (kids others : List (List ℕ)) → old ≡ tree → parent ≡ parent_of path → Some name ≡ slice_get path (length path - 1) → kids ≡ kids_at old parent
       → others ≡ other_kids name kids → change_at old parent (with_kids others) ≡ change_at tree (parent_of path) (without_kid (name_of path))
-  removed_from old parent name kids others same up last kids_is others_is =
+  removal_from old parent name kids others same up last kids_is others_is =
       let segment : name_of path ≡ name = get_or_from_slice_get path (length path - 1) name [] (sym last) in
       let its_kids : kids ≡ above.kids =
       kids_is ∙ ap (λ (t : Content). kids_at t parent) same ∙ ap (λ p. kids_at tree p) up ∙ ap (λ o. option_map_or (λ (n : Node). n.kids) o []) above_is in
@@ -158,8 +158,8 @@ module _ (tree : Content) (path : List (List ℕ)) (good : IsTree (node_at tree)
       ∙ change_at-same tree (parent_of path) above (with_kids others) (without_kid (name_of path)) above_is (ap (λ ks. with_kids ks above) left)
 
 -- the content without the node is good
-pub IsGood-removed : (new tree : Content) (path : List (List ℕ)) → IsGood tree → CanMove tree path → new ≡ removed tree path → IsStrictlySortedBy by_path (keys_of new) → IsGood new
-IsGood-removed new tree path good can same ordered =
-    let fewer = length-removed tree path good.shape can in
+pub IsGood-removal : (new tree : Content) (path : List (List ℕ)) → IsGood tree → CanMove tree path → new ≡ removal tree path → IsStrictlySortedBy by_path (keys_of new) → IsGood new
+IsGood-removal new tree path good can same ordered =
+    let fewer = length-removal tree path good.shape can in
     let most = good.size in
-    IsGood-from new (removed tree path) same ordered (omega (arith, fewer, most)) (IsTree-removed tree path good.shape can)
+    IsGood-from new (removal tree path) same ordered (omega (arith, fewer, most)) (IsTree-removal tree path good.shape can)

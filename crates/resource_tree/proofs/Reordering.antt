@@ -10,10 +10,10 @@ use Rattle.resource_tree.specs.declared.nodes.Node.{Node}
 use Rattle.resource_tree.specs.declared.places.Place.{Place}
 use Rattle.resource_tree.specs.Content.{by_path, same_path, kid, IsTree, IsGood, node_at, Content, empty_node, parent_of, name_of}
 use Rattle.resource_tree.specs.Kids.{kids_in_order}
-use Rattle.resource_tree.specs.Changes.{change_at, with_kids, with_order, reordered, kids_at, fixed_fault}
+use Rattle.resource_tree.specs.Changes.{change_at, with_kids, with_order, reordering, kids_at, fixed_fault}
 use Rattle.resource_tree.proofs.PathLemmas.{kid_parts}
-use Rattle.resource_tree.proofs.Created.{no_fault, not_none, some_from}
-use Rattle.resource_tree.proofs.Changed.{IsGood-changed}
+use Rattle.resource_tree.proofs.Creation.{no_fault, not_none, some_from}
+use Rattle.resource_tree.proofs.NodeChange.{IsGood-changed}
 use Rattle.resource_tree.proofs.KidOrder.{Replaces-with_order}
 
 -- what is known where a node may be taken from its place
@@ -41,9 +41,9 @@ change_at-same tree path node f g was same =
     ∙ sym (ap (λ o. option_map_or (λ n. set_value (same_path path) tree (g n)) o tree) was)
 
 -- the new content as the code makes it
-pub reordered_from : (old tree : Content) (path parent : List (List ℕ)) (place : Place) (name : List ℕ) (kids new_kids : List (List ℕ)) → IsTree (node_at tree) → CanMove tree path → old ≡ tree → parent ≡ parent_of path
-    → Some name ≡ slice_get path (length path - 1) → kids ≡ kids_at old parent → Some new_kids ≡ kids_in_order name place kids → change_at old parent (with_kids new_kids) ≡ reordered tree path place
-reordered_from old tree path parent place name kids new_kids good can same above last kids_is found_is =
+pub reordering_from : (old tree : Content) (path parent : List (List ℕ)) (place : Place) (name : List ℕ) (kids new_kids : List (List ℕ)) → IsTree (node_at tree) → CanMove tree path → old ≡ tree → parent ≡ parent_of path
+    → Some name ≡ slice_get path (length path - 1) → kids ≡ kids_at old parent → Some new_kids ≡ kids_in_order name place kids → change_at old parent (with_kids new_kids) ≡ reordering tree path place
+reordering_from old tree path parent place name kids new_kids good can same above last kids_is found_is =
     let segment : name_of path ≡ name = get_or_from_slice_get path (length path - 1) name [] (sym last) in
     let was = some_from (node_at tree (parent_of path)) empty_node (parent_there tree path good can) in
     let its_kids : kids ≡ (unwrap_or (node_at tree (parent_of path)) empty_node).kids =
@@ -55,7 +55,7 @@ reordered_from old tree path parent place name kids new_kids good can same above
     (ap (λ o. with_kids (unwrap_or o (unwrap_or (node_at tree (parent_of path)) empty_node).kids) (unwrap_or (node_at tree (parent_of path)) empty_node)) in_place)
 
 -- the content with the kid in its place is good
-pub IsGood-reordered : (new tree : Content) (path : List (List ℕ)) (place : Place) → IsGood tree → CanMove tree path → new ≡ reordered tree path place → IsStrictlySortedBy by_path (keys_of new) → IsGood new
-IsGood-reordered new tree path place good can same ordered =
+pub IsGood-reordering : (new tree : Content) (path : List (List ℕ)) (place : Place) → IsGood tree → CanMove tree path → new ≡ reordering tree path place → IsStrictlySortedBy by_path (keys_of new) → IsGood new
+IsGood-reordering new tree path place good can same ordered =
     let was = some_from (node_at tree (parent_of path)) empty_node (parent_there tree path good.shape can) in
     IsGood-changed new tree (parent_of path) _ (with_order (name_of path) place) good was (Replaces-with_order (node_at tree) (parent_of path) _ (name_of path) place good.shape was (kid_there tree path can)) same ordered

@@ -1,0 +1,11 @@
+use Rattle.std.proofs.Common.{sym, ◌∙◌, ap}
+use Rattle.std.specs.Prelude.{is_some}
+use Rattle.resource_tree.proofs.EntriesInOrder.{lookup-in_order}
+use Rattle.resource_tree.specs.Content.{by_path, node_at}
+use Rattle.resource_tree.specs.InOrder.{Entries}
+use Rattle.resource_tree.proofs.PathLemmas.{by_path_total}
+use Rattle.resource_tree.proofs.table.Nodes.contains_key.Goals as goal
+
+pub returns : goal.returns
+returns c =
+    c.contains_key.ensures ∙ ap is_some (sym (lookup-in_order by_path by_path_total c.args.path.now _) ∙ ap (λ (v : Entries). node_at v.entries c.args.path.now) c.self.view_is)

@@ -1,4 +1,6 @@
-pub mod NamingLemmas
 pub mod DepthLemmas
-pub mod SearchLemmas
+pub mod NamingLemmas
+pub mod PlaceLemmas
 pub mod RankLemmas
+pub mod SearchLemmas
+pub mod SiteLemmas

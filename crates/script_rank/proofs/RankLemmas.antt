@@ -12,7 +12,7 @@ use Rattle.url_split.specs.declared.decompose.Parts.{Parts}
 use Rattle.script_rank.specs.declared.naming.Naming.{Naming}
 use Rattle.script_rank.specs.declared.naming.Naming.TheVariants.{SelectorsAndExtension, Selectors, LabelAndExtension, Extension, Label, Method}
 use Rattle.script_rank.specs.Ranking.{Candidate, HasNoCandidate, IsFirst, IsBetter, IsOffered, IsAbove, Decides, Key, is_script, selectors_in, has_extension, has_label, spellings}
-use Rattle.script_rank.specs.Search.{at_naming, at_place, at_type, found, namings, script_at, script_in}
+use Rattle.script_rank.specs.Search.{at_naming, at_place, at_type, search_result, namings, script_at, script_in}
 use Rattle.script_rank.proofs.NamingLemmas.{weight, better-weight, namings-fall, falls-at, sound, complete}
 use Rattle.script_rank.proofs.DepthLemmas.{few_selectors}
 use Rattle.script_rank.proofs.SearchLemmas.{Hit, hit, none-at}
@@ -69,8 +69,8 @@ module _ {tree : Content} {chain : List TypeName} {parts : Parts} {q : List (Lis
       no_type naming cand.type named refl (none-at (at_type tree parts naming) chain none k.type cand.type cand.in_chain)
 
 -- with nothing found there is no candidate
-pub none_found : (tree : Content) (chain : List TypeName) (parts : Parts) → found tree chain parts ≡ None → HasNoCandidate tree chain parts
-unfolding found
+pub none_found : (tree : Content) (chain : List TypeName) (parts : Parts) → search_result tree chain parts ≡ None → HasNoCandidate tree chain parts
+unfolding search_result
 none_found tree chain parts none path key cand =
     let has = complete parts key.naming cand.asked cand.offered (few_selectors cand) in
     no_naming cand key.naming refl (none-at (at_naming tree chain parts) (namings parts) none has.at key.naming has.here)
@@ -83,8 +83,8 @@ record Way (tree : Content) (chain : List TypeName) (parts : Parts) (path : List
   place : Hit (at_place tree (spellings parts (name_of type.item.segs) naming.item)) (places type.item) path
   spelling : Hit (script_at tree place.item) (spellings parts (name_of type.item.segs) naming.item) path
 
-way : (tree : Content) (chain : List TypeName) (parts : Parts) (path : List (List ℕ)) → found tree chain parts ≡ Some path → Way tree chain parts path
-unfolding found at_naming at_type at_place
+way : (tree : Content) (chain : List TypeName) (parts : Parts) (path : List (List ℕ)) → search_result tree chain parts ≡ Some path → Way tree chain parts path
+unfolding search_result at_naming at_type at_place
 way tree chain parts path e =
     let n = hit (at_naming tree chain parts) (namings parts) path e in
     let t = hit (at_type tree parts n.item) chain path n.gives in
@@ -175,7 +175,7 @@ module _ {tree : Content} {chain : List TypeName} {parts : Parts} {path : List (
       (cases_lt has.at w.naming.at)
 
 -- what is found ranks first
-pub found_first : (tree : Content) (chain : List TypeName) (parts : Parts) (path : List (List ℕ)) → found tree chain parts ≡ Some path → IsFirst tree chain parts path
+pub found_first : (tree : Content) (chain : List TypeName) (parts : Parts) (path : List (List ℕ)) → search_result tree chain parts ≡ Some path → IsFirst tree chain parts path
 found_first tree chain parts path e =
     let w = way tree chain parts path e in
     record { key = key_of w; candidate = candidate_of w; best = none_better w }
@@ -265,28 +265,28 @@ pub one_first : (tree : Content) (chain : List TypeName) (parts : Parts) (p q : 
 one_first tree chain parts p q f g =
     tied_scripts tree chain parts p q f.key g.key f.candidate g.candidate (g.best p f.key f.candidate) (f.best q g.key g.candidate)
 
-by_first : (tree : Content) (chain : List TypeName) (parts : Parts) (o : Option (List (List ℕ))) → o ≡ found tree chain parts
+by_first : (tree : Content) (chain : List TypeName) (parts : Parts) (o : Option (List (List ℕ))) → o ≡ search_result tree chain parts
     → IfSome o (λ path. IsFirst tree chain parts path)
 by_first tree chain parts (Some path) is = found_first tree chain parts path (sym is)
 by_first tree chain parts None is = tt
 
-by_none : (tree : Content) (chain : List TypeName) (parts : Parts) (o : Option (List (List ℕ))) → o ≡ found tree chain parts
+by_none : (tree : Content) (chain : List TypeName) (parts : Parts) (o : Option (List (List ℕ))) → o ≡ search_result tree chain parts
     → IfNone o (HasNoCandidate tree chain parts)
 by_none tree chain parts (Some path) is = tt
 by_none tree chain parts None is = none_found tree chain parts (sym is)
 
-pub search_first : (tree : Content) (chain : List TypeName) (parts : Parts) → IfSome (found tree chain parts) (λ path. IsFirst tree chain parts path)
-search_first tree chain parts = by_first tree chain parts (found tree chain parts) refl
+pub search_first : (tree : Content) (chain : List TypeName) (parts : Parts) → IfSome (search_result tree chain parts) (λ path. IsFirst tree chain parts path)
+search_first tree chain parts = by_first tree chain parts (search_result tree chain parts) refl
 
-pub search_none : (tree : Content) (chain : List TypeName) (parts : Parts) → IfNone (found tree chain parts) (HasNoCandidate tree chain parts)
-search_none tree chain parts = by_none tree chain parts (found tree chain parts) refl
+pub search_none : (tree : Content) (chain : List TypeName) (parts : Parts) → IfNone (search_result tree chain parts) (HasNoCandidate tree chain parts)
+search_none tree chain parts = by_none tree chain parts (search_result tree chain parts) refl
 
-pub answers_first : {E : Type 0} (tree : Content) (chain : List TypeName) (parts : Parts) (r : Result (Option (List (List ℕ))) E) → IfOk r (λ o. o ≡ found tree chain parts)
+pub answers_first : {E : Type 0} (tree : Content) (chain : List TypeName) (parts : Parts) (r : Result (Option (List (List ℕ))) E) → IfOk r (λ o. o ≡ search_result tree chain parts)
     → IfOk r (λ o. IfSome o (λ path. IsFirst tree chain parts path))
 answers_first tree chain parts (Ok o) is = by_first tree chain parts o is
 answers_first tree chain parts (Err e) is = tt
 
-pub answers_none : {E : Type 0} (tree : Content) (chain : List TypeName) (parts : Parts) (r : Result (Option (List (List ℕ))) E) → IfOk r (λ o. o ≡ found tree chain parts)
+pub answers_none : {E : Type 0} (tree : Content) (chain : List TypeName) (parts : Parts) (r : Result (Option (List (List ℕ))) E) → IfOk r (λ o. o ≡ search_result tree chain parts)
     → IfOk r (λ o. IfNone o (HasNoCandidate tree chain parts))
 answers_none tree chain parts (Ok o) is = by_none tree chain parts o is
 answers_none tree chain parts (Err e) is = tt

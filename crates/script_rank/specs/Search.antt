@@ -43,5 +43,5 @@ at_type tree parts naming type = first_of (at_place tree (spellings parts (name_
 unfoldable pub at_naming : Content → List TypeName → Parts → Naming → Option (List (List ℕ))
 at_naming tree chain parts naming = first_of (at_type tree parts naming) chain
 
-unfoldable pub found : Content → List TypeName → Parts → Option (List (List ℕ))
-found tree chain parts = first_of (at_naming tree chain parts) (namings parts)
+unfoldable pub search_result : Content → List TypeName → Parts → Option (List (List ℕ))
+search_result tree chain parts = first_of (at_naming tree chain parts) (namings parts)

@@ -4,7 +4,7 @@ ghost use Rattle.resource_tree.specs.Content.{Content};
 ghost use Rattle.type_chain.specs.declared.type_name.TypeName.{TypeName};
 ghost use Rattle.url_split.specs.declared.decompose.Parts.{Parts};
 ghost use Rattle.script_rank.specs.Ranking.{Candidate, HasNoCandidate, IsBetter, IsFirst, Key};
-ghost use Rattle.script_rank.specs.Search.{found};
+ghost use Rattle.script_rank.specs.Search.{search_result};
 
 /// Of two candidates one is better, or both are one script: the keys have a strict order, and no two scripts have one key.
 pub fn tied_scripts_are_one()
@@ -26,6 +26,6 @@ pub fn one_script_is_first()
 
 /// What the search finds is the script that ranks first, and it finds none exactly where there is no candidate.
 pub fn search_finds_the_first()
-    ensures first { (tree : Content) (chain : List TypeName) (parts : Parts) → IfSome (found tree chain parts) (λ path. IsFirst tree chain parts path) }
-    ensures none { (tree : Content) (chain : List TypeName) (parts : Parts) → IfNone (found tree chain parts) (HasNoCandidate tree chain parts) }
+    ensures first { (tree : Content) (chain : List TypeName) (parts : Parts) → IfSome (search_result tree chain parts) (λ path. IsFirst tree chain parts path) }
+    ensures none { (tree : Content) (chain : List TypeName) (parts : Parts) → IfNone (search_result tree chain parts) (HasNoCandidate tree chain parts) }
 {}

@@ -14,5 +14,5 @@ pub use laws::{
     one_key_is_of_one_script, one_script_is_first, search_finds_the_first, tied_scripts_are_one,
 };
 pub use naming::Naming;
-pub use ranking::first_script;
+pub use ranking::{first_script, script_of};
 pub use script::script_text;

@@ -1,33 +1,45 @@
-ghost use Rattle.std.specs.Prelude.{◌≡◌, ◌++◌, codes, IfOk, option_copied, string_bytes};
-ghost use Rattle.sp_base.specs.Paths.{path_of, text_of};
+//! Scripts, and their texts.
+ghost use Rattle.std.specs.Prelude.{◌≡◌, ◌==◌, true, false, codes, drop, IfOk, IfSome, IfNone, option_copied, slice_index};
+ghost use Rattle.sp_base.specs.Paths.{child_of};
 ghost use Rattle.script_rank.specs.Ranking.{is_script, script_text};
-ghost use Rattle.script_rank.specs.Search.{script_at, script_in};
+ghost use Rattle.script_rank.specs.Search.{script_in};
+ghost use Rattle.script_rank.specs.SiteSearch.{script_below};
 
 use resource_tree::Tree;
 use sp_base::{Mem, NoMemory, Path, PathFault, TextBuf};
 use std::alloc::Global;
 
-/// The script of this spelling behind a place.
-#[tactic(auto, unfolding(crate::specs::Search::script_at))]
-pub(crate) fn script_at(
+/// The script below a place by a text of a slash and a name. No script lies below the root itself.
+#[tactic(auto, unfolding(crate::specs::SiteSearch::script_below))]
+pub(crate) fn script_below(
     alloc: Global,
     tree: &Tree,
     place: &Path,
-    spelling: &str,
+    text: &str,
 ) -> Mem<Option<Path>>
-    ensures { IfOk result (λ o. o ≡ script_at tree.now place.now spelling.now) }
+    ensures { IfOk result (λ o. o ≡ script_below tree.now place.now text.now) }
 {
-    let mut text = String::from_str(alloc, place.text(alloc)?.text())?;
-    text.push_str(spelling)?;
-    text.push_str(".html")?;
-    script_in(alloc, tree, text.as_str())
+    if place.depth() == 0 {
+        return Ok(None);
+    }
+    match after_slash(text) {
+        Some(name) => script_in(alloc, tree, place, name),
+        None => Ok(None),
+    }
 }
 
-// The script at the path that a text spells.
-fn script_in(alloc: Global, tree: &Tree, text: &str) -> Mem<Option<Path>>
-    ensures { IfOk result (λ o. o ≡ script_in tree.now (path_of text.now)) }
+fn after_slash(text: &str) -> Option<&str>
+    ensures some { IfSome result (λ rest. ((slice_index text.now 0 == 47) ≡ true) × (rest.now ≡ drop 1 text.now)) }
+    ensures none { IfNone result ((slice_index text.now 0 == 47) ≡ false) }
 {
-    let path = match Path::read(alloc, text) {
+    text.strip_prefix('/')
+}
+
+// The script of this name below a place.
+fn script_in(alloc: Global, tree: &Tree, place: &Path, name: &str) -> Mem<Option<Path>>
+    ensures { IfOk result (λ o. o ≡ script_in tree.now (child_of place.now name.now)) }
+{
+    let path = match place.child(alloc, name) {
         Ok(path) => path,
         Err(PathFault::NoMemory) => return Err(NoMemory),
         Err(_) => return Ok(None),

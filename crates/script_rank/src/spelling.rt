@@ -1,46 +1,38 @@
-ghost use Rattle.std.specs.Prelude.{◌≡◌, IfOk, OnOk, ◌++◌, ◌∷◌, codes, flat_map, string_bytes, take};
-ghost use Rattle.resource_tree.specs.Content.{name_of};
-ghost use Rattle.script_rank.specs.Ranking.{spellings};
+//! How the names of scripts are spelled.
+ghost use Rattle.std.specs.Prelude.{◌≡◌, OnOk, ◌++◌, ◌∷◌, codes, flat_map, string_bytes, take};
+ghost use Rattle.script_rank.specs.SiteSearch.{spelling_with};
 
 use crate::Naming;
-use sp_base::{Mem, TextBuf, TextList};
-use std::alloc::Global;
-use type_chain::TypeName;
+use sp_base::{Mem, TextBuf};
 use url_split::Parts;
 
-/// The label of a type: its last segment.
-pub(crate) fn label(name: &TypeName) -> &str
-    ensures { result.now ≡ name_of name.now.segs }
-{
-    match name.segs.seg(name.segs.depth().saturating_sub(1)) {
-        Some(label) => label,
-        None => "",
-    }
-}
-
-/// How a script of this naming is spelled behind a place of a type with this label: with a dot before the extension, or in a folder.
-pub(crate) fn spellings(alloc: Global, parts: &Parts, label: &str, naming: Naming) -> Mem<TextList>
-    ensures { IfOk result (λ list. list ≡ spellings parts.now label.now naming) }
+/// Spells the name of a script after the place of a type with this label, with a mark between selectors and extension.
+pub(crate) fn spell(
+    text: &mut String,
+    parts: &Parts,
+    label: &str,
+    naming: Naming,
+    mark: &str,
+) -> Mem<()>
+    ensures { OnOk result (string_bytes text.new ≡ spelling_with parts.now label.now naming mark.now ++ codes ".html") }
 {
     let extension = parts.extension.text();
     let selectors = parts.selectors.as_slice();
-    let mut list = TextList::new(alloc);
+    text.clear();
     match naming {
         Naming::SelectorsAndExtension(count) => {
-            list.push(spelled(alloc, first(selectors, count), &[".", extension])?)?;
-            list.push(spelled(alloc, first(selectors, count), &["/", extension])?)?;
+            add_selectors(text, first(selectors, count))?;
+            add_texts(text, &[mark, extension, ".html"])
         }
-        Naming::Selectors(count) => list.push(spelled(alloc, first(selectors, count), &[])?)?,
-        Naming::LabelAndExtension => list.push(spelled(
-            alloc,
-            &[],
-            &["/", label, ".", extension],
-        )?)?,
-        Naming::Extension => list.push(spelled(alloc, &[], &["/", extension])?)?,
-        Naming::Label => list.push(spelled(alloc, &[], &["/", label])?)?,
-        Naming::Method => list.push(spelled(alloc, &[], &["/GET"])?)?,
+        Naming::Selectors(count) => {
+            add_selectors(text, first(selectors, count))?;
+            add_texts(text, &[".html"])
+        }
+        Naming::LabelAndExtension => add_texts(text, &["/", label, ".", extension, ".html"]),
+        Naming::Extension => add_texts(text, &["/", extension, ".html"]),
+        Naming::Label => add_texts(text, &["/", label, ".html"]),
+        Naming::Method => add_texts(text, &["/GET", ".html"]),
     }
-    Ok(list)
 }
 
 fn first(selectors: &[TextBuf], count: usize) -> &[TextBuf]
@@ -49,17 +41,22 @@ fn first(selectors: &[TextBuf], count: usize) -> &[TextBuf]
     &selectors[..count.min(selectors.len())]
 }
 
-// The selectors, each behind a slash, and these texts.
-fn spelled(alloc: Global, selectors: &[TextBuf], rest: &[&str]) -> Mem<TextBuf>
-    ensures { IfOk result (λ t. t ≡ flat_map (λ s. 47 ∷ s) selectors.now ++ flat_map (λ s. s.now) rest.now) }
+// Adds the selectors, each after a slash.
+fn add_selectors(text: &mut String, selectors: &[TextBuf]) -> Mem<()>
+    ensures { OnOk result (string_bytes text.new ≡ string_bytes text.old ++ flat_map (λ s. 47 ∷ s) selectors.now) }
 {
-    let mut text = String::new(alloc);
     for selector in selectors {
         text.push_str("/")?;
         text.push_str(selector.text())?;
     }
-    for more in rest {
-        text.push_str(more)?;
+    Ok(())
+}
+
+fn add_texts(text: &mut String, more: &[&str]) -> Mem<()>
+    ensures { OnOk result (string_bytes text.new ≡ string_bytes text.old ++ flat_map (λ s. s.now) more.now) }
+{
+    for part in more {
+        text.push_str(part)?;
     }
-    Ok(TextBuf::from(text))
+    Ok(())
 }

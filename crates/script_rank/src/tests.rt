@@ -1,11 +1,11 @@
-use crate::first_script;
+use crate::{first_script, script_of};
 use resource_tree::{Tree, TreeFault};
-use sp_base::{NoMemory, Path, PathFault, TextBuf, TextList, Value};
+use sp_base::{NoMemory, Path, PathFault, PropList, TextBuf, TextList, Value};
 use std::alloc::{AllocError, Global};
 use type_chain::{TypeList, TypeName};
 use url_split::Parts;
 
-/// A refusal or want of memory where a test expects none.
+/// A refusal, or out of memory, where a test expects none.
 #[derive(Debug, Drop)]
 struct Failed;
 
@@ -218,6 +218,40 @@ fn other_extensions_are_named(rt: HostRuntime) -> Result<(), Failed> {
             extension,
         };
         assert_eq!(rt; shown(rt.alloc(), &case)?.text(), want);
+    }
+    Ok(())
+}
+
+// The script for a resource of this type among these scripts, asked for as html.
+fn page(alloc: Global, kind: &str, scripts: &[&str]) -> Result<TextBuf, Failed> {
+    let tree = tree_of(alloc, scripts)?;
+    let mut props = PropList::new(alloc);
+    props.put(
+        alloc,
+        "sling:resourceType",
+        Value::Text(TextBuf::of(alloc, kind)?),
+    )?;
+    let parts = parts_of(alloc, &["a"], "html")?;
+    match script_of(alloc, &tree, &props, &parts)? {
+        Some(path) => Ok(path.text(alloc)?),
+        None => Ok(TextBuf::of(alloc, "")?),
+    }
+}
+
+#[test]
+fn the_chain_of_a_resource_is_searched(rt: HostRuntime) -> Result<(), Failed> {
+    let cases: &[(&str, &[&str], &str)] = &[
+        ("hr:jobs", &["/libs/hr/jobs/a.html"], "/libs/hr/jobs/a.html"),
+        (
+            "t",
+            &["/apps/sling/servlet/default/GET.html"],
+            "/apps/sling/servlet/default/GET.html",
+        ),
+        ("/", &["/html.html", "/apps/html.html"], ""),
+        ("t", &["/apps/html.html", "/libs/u/html.html"], ""),
+    ];
+    for (kind, scripts, want) in cases {
+        assert_eq!(rt; page(rt.alloc(), kind, scripts)?.text(), *want);
     }
     Ok(())
 }

@@ -1,0 +1,174 @@
+-- A text of a place, a slash and a name is read as the place with the name below it, and nothing is below a place that has no kids.
+use Rattle.std.proofs.Common.{◌≡◌, ◌≢◌, ◌<◌, ◌++◌, ◌==◌, ℕ, Bool, true, false, cond, not, ◌||◌, List, [], ◌∷◌, Option, Some, None, Ok, Err, length, refl, sym, ◌∙◌, ap, subst, arith, append_assoc, append-nil, length-append, codes}
+use Rattle.std.specs.Prelude.{flat_map, is_some, IsSome, nat_eq, slice_index, if◌then◌else◌}
+use Rattle.std.specs.Cmp.Lexicographic.{pointwise}
+use Rattle.std.specs.Option.{IfNone, MatchOption}
+use Rattle.std.specs.List.{AllByRecursion, list_all, list_any, onto_first}
+use Rattle.std.proofs.lemmas.Bool.{and_parts, true≢false}
+use Rattle.std.proofs.lemmas.Bool.Decides.{nat_tests}
+use Rattle.sp_base.specs.Paths.{checked, child_of, fault_of, has_slash, is_dots, is_empty, is_long, is_path, path_of, pieces, seg_ok, text_of, unless_fault}
+use Rattle.sp_base.specs.declared.path.PathFault.{PathFault}
+use Rattle.sp_base.specs.declared.path.PathFault.TheVariants.{EmptySegment}
+use Rattle.resource_tree.specs.Content.{Content, IsTree, kid, node_at}
+use Rattle.resource_tree.specs.declared.nodes.Node.{Node}
+use Rattle.type_chain.specs.Sites.{has_kids}
+use Rattle.script_rank.specs.Ranking.{is_script}
+use Rattle.script_rank.specs.Search.{script_at, script_in}
+use Rattle.script_rank.specs.SiteSearch.{script_below}
+
+-- ---- segments without slashes
+
+abbrev pub LackSlashes : List (List ℕ) → Type 0
+LackSlashes segs = AllByRecursion (λ seg. has_slash seg ≡ false) segs
+
+not_is : (a : Bool) → not a ≡ true → a ≡ false
+not_is true e = absurd (cc)
+not_is false e = refl
+
+seg_lacks : (seg : List ℕ) → seg_ok seg ≡ true → has_slash seg ≡ false
+seg_lacks seg ok =
+    let rest = (and_parts (not (is_empty seg)) _ ok).1 in
+    let more = (and_parts (not (is_dots seg)) _ rest).1 in
+    not_is (has_slash seg) (and_parts (not (is_long seg)) _ more).1
+
+all_lack : (segs : List (List ℕ)) → list_all seg_ok segs ≡ true → LackSlashes segs
+all_lack [] ok = tt
+all_lack (seg ∷ segs) ok =
+    let both = and_parts (seg_ok seg) (list_all seg_ok segs) ok in
+    (seg_lacks seg both.0, all_lack segs both.1)
+
+pub path_lacks : (segs : List (List ℕ)) → is_path segs ≡ true → LackSlashes segs
+path_lacks segs path = all_lack segs (and_parts (list_all seg_ok segs) _ path).0
+
+-- ---- a place's text with a name below it
+
+or_first : (a b : Bool) → (a || b) ≡ false → a ≡ false
+or_first true b e = e
+or_first false b e = refl
+
+or_second : (a b : Bool) → (a || b) ≡ false → b ≡ false
+or_second true b e = absurd (cc)
+or_second false b e = e
+
+first_piece : (seg rest : List ℕ) (parts : List (List ℕ)) → has_slash seg ≡ false → pieces rest ≡ [] ∷ parts → pieces (seg ++ rest) ≡ seg ∷ parts
+first_piece [] rest parts h e = e
+first_piece (b ∷ seg) rest parts h e =
+    ap (λ t. cond t ([] ∷ pieces (seg ++ rest)) (onto_first b (pieces (seg ++ rest)))) (or_first (b == 47) (has_slash seg) h)
+    ∙ ap (onto_first b) (first_piece seg rest parts (or_second (b == 47) (has_slash seg) h) e)
+
+abbrev spelled : List (List ℕ) → List ℕ
+spelled segs = flat_map (λ s. 47 ∷ s) segs
+
+pieces-below : (segs : List (List ℕ)) (name : List ℕ) → LackSlashes segs → pieces (spelled segs ++ 47 ∷ name) ≡ [] ∷ (segs ++ pieces name)
+pieces-below [] name lack = refl
+pieces-below (seg ∷ segs) name lack =
+    ap (λ parts. [] ∷ parts)
+    (ap pieces (append_assoc seg (spelled segs) (47 ∷ name)) ∙ first_piece seg (spelled segs ++ 47 ∷ name) (segs ++ pieces name) lack.0 (pieces-below segs name lack.1))
+
+not_zero : (n : ℕ) → 0 < n → (n == 0) ≡ false
+not_zero n some = grind (arith, nat_tests)
+
+full : (text name : List ℕ) → is_empty (text ++ 47 ∷ name) ≡ false
+full text name = not_zero (length (text ++ 47 ∷ name)) (omega (arith, length-append text (47 ∷ name)))
+
+first_drop : (x y : List (List ℕ)) → [] ∷ x ≡ [] ∷ y → x ≡ y
+first_drop x y e = cc
+
+reads_below : (seg : List ℕ) (segs : List (List ℕ)) (name : List ℕ) → LackSlashes (seg ∷ segs) → path_of (text_of (seg ∷ segs) ++ 47 ∷ name) ≡ child_of (seg ∷ segs) name
+reads_below seg segs name lack =
+    let text = (seg ++ spelled segs) ++ 47 ∷ name in
+    let same : pieces text ≡ (seg ∷ segs) ++ pieces name = first_drop _ _ (pieces-below (seg ∷ segs) name lack) in
+    ap (λ t. if t then Ok [] else checked (pieces text)) (full (seg ++ spelled segs) name) ∙ ap checked same
+
+root_none : (tree : Content) (name : List ℕ) → script_in tree (path_of (text_of [] ++ 47 ∷ name)) ≡ None
+root_none tree name = ap (λ t. script_in tree (if t then Ok [] else Err EmptySegment)) (full [] name)
+
+-- ---- the script at a place by a spelling that begins with a slash
+
+pub script_same : (tree : Content) (place : List (List ℕ)) (name : List ℕ) → LackSlashes place → script_below tree place ((47 ∷ name) ++ codes ".html") ≡ script_at tree place (47 ∷ name)
+unfolding script_below script_at
+script_same tree [] name lack = sym (root_none tree (name ++ codes ".html"))
+script_same tree (seg ∷ segs) name lack =
+    ap (λ t. if t then None else script_in tree (child_of (seg ∷ segs) (name ++ codes ".html"))) (not_zero (length (seg ∷ segs)) (omega arith))
+    ∙ ap (script_in tree) (sym (reads_below seg segs (name ++ codes ".html") lack))
+
+-- ---- nothing is below a place without kids
+
+above : {at : List (List ℕ) → Option Node} → IsTree at → (path rest : List (List ℕ)) → IsSome (at (path ++ rest)) → IsSome (at path)
+above {at} good path [] there = subst (λ p. IsSome (at p)) (append-nil path) there
+above {at} good path (name ∷ rest) there =
+    good.parents path name (above good (kid path name) rest (subst (λ p. IsSome (at p)) (sym (append_assoc path (name ∷ []) rest)) there))
+
+none_in : (xs : List (List ℕ)) (name : List ℕ) → (length xs == 0) ≡ true → list_any (pointwise nat_eq name) xs ≡ false
+none_in [] name e = refl
+none_in (x ∷ xs) name e = let none : length (x ∷ xs) ≡ 0 = grind (arith, nat_tests) in absurd (omega (arith, none))
+
+not_false : (a : Bool) → not a ≡ false → a ≡ true
+not_false true e = refl
+not_false false e = absurd (cc)
+
+no_kid : {at : List (List ℕ) → Option Node} → IsTree at → (place : List (List ℕ)) (name : List ℕ) (o : Option Node) → at place ≡ o → has_kids o ≡ false → IsSome (at (kid place name)) → ⊥
+no_kid {at} good place name None is none there = true≢false (sym (good.parents place name there) ∙ ap is_some is)
+no_kid {at} good place name (Some node) is none there =
+    true≢false (sym there ∙ sym ((good.nodes place node is).kids name) ∙ none_in node.kids name (not_false (length node.kids == 0) none))
+
+none_below : {at : List (List ℕ) → Option Node} → IsTree at → (place : List (List ℕ)) (name : List ℕ) (rest : List (List ℕ)) → has_kids (at place) ≡ false → IsSome (at (place ++ name ∷ rest)) → ⊥
+none_below {at} good place name rest none there =
+    no_kid good place name (at place) refl none (above good (kid place name) rest (subst (λ p. IsSome (at p)) (sym (append_assoc place (name ∷ []) rest)) there))
+
+no_script : (tree : Content) (path : List (List ℕ)) → (IsSome (node_at tree path) → ⊥) → is_script tree path ≡ true → ⊥
+no_script tree path none script = none (and_parts (is_some (node_at tree path)) _ script).0
+
+none_at : (tree : Content) (fault : Option PathFault) (path : List (List ℕ)) → (IsSome (node_at tree path) → ⊥) → script_in tree (unless_fault fault path) ≡ None
+none_at tree (Some fault) path none = refl
+none_at tree None path none =
+    elim (is_script tree path) as (λ t. is_script tree path ≡ t → cond t (Some path) None ≡ None) [
+      | true ↦ λ e. absurd (no_script tree path none e)
+      | false ↦ λ e. refl
+    ] refl
+
+-- a text has a piece
+abbrev HasPieces : List (List ℕ) → Type 0
+HasPieces [] = ⊥
+HasPieces (piece ∷ more) = Unit {0}
+
+onto-pieces : (b : ℕ) (parts : List (List ℕ)) → HasPieces (onto_first b parts)
+onto-pieces b [] = tt
+onto-pieces b (part ∷ parts) = tt
+
+has_pieces : (text : List ℕ) → HasPieces (pieces text)
+has_pieces [] = tt
+has_pieces (b ∷ text) =
+    elim (b == 47) as (λ t. HasPieces (cond t ([] ∷ pieces text) (onto_first b (pieces text)))) [
+      | true ↦ tt
+      | false ↦ onto-pieces b (pieces text)
+    ]
+
+none_at_pieces : (tree : Content) (place more : List (List ℕ)) → IsTree (node_at tree) → has_kids (node_at tree place) ≡ false → HasPieces more → script_in tree (checked (place ++ more)) ≡ None
+none_at_pieces tree place [] good none has = absurd has
+none_at_pieces tree place (name ∷ rest) good none has =
+    none_at tree (fault_of (place ++ name ∷ rest)) (place ++ name ∷ rest) (none_below good place name rest none)
+
+pub script_none : (tree : Content) (place : List (List ℕ)) (name : List ℕ) → IsTree (node_at tree) → has_kids (node_at tree place) ≡ false → LackSlashes place → script_at tree place (47 ∷ name) ≡ None
+unfolding script_at
+script_none tree [] name good none lack = root_none tree (name ++ codes ".html")
+script_none tree (seg ∷ segs) name good none lack =
+    ap (script_in tree) (reads_below seg segs (name ++ codes ".html") lack)
+    ∙ none_at_pieces tree (seg ∷ segs) (pieces (name ++ codes ".html")) good none (has_pieces (name ++ codes ".html"))
+
+-- ---- a text without a slash at its beginning
+
+same_byte : (a b : ℕ) → (a == b) ≡ true → a ≡ b
+same_byte a b e = grind (arith, nat_tests)
+
+begins_otherwise : (text : List ℕ) → ((rest : List ℕ) → text ≢ 47 ∷ rest) → (slice_index text 0 == 47) ≡ false
+begins_otherwise [] none = refl
+begins_otherwise (b ∷ text) none =
+    elim (b == 47) as (λ t. (b == 47) ≡ t → t ≡ false) [
+      | true ↦ λ e. absurd (none text (ap (λ n. n ∷ text) (same_byte b 47 e)))
+      | false ↦ λ e. refl
+    ] refl
+
+pub no_slash : {A : Type 0} (r : Option A) (text : List ℕ) (Q : A → Type 0) → MatchOption r ((rest : List ℕ) → text ≢ 47 ∷ rest) Q → IfNone r ((slice_index text 0 == 47) ≡ false)
+no_slash None text Q h = begins_otherwise text h
+no_slash (Some x) text Q h = tt

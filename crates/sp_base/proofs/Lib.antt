@@ -5,3 +5,4 @@ pub mod PathText
 pub mod PathOrder
 pub mod PathFaults
 pub mod PathParts
+pub mod PathPrefixes

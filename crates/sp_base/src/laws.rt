@@ -1,10 +1,19 @@
-//! How paths and their texts belong together: a law of the definitions, on a function that does nothing.
-ghost use Rattle.std.specs.Prelude.{◌≡◌, ℕ, List, IsTrue, Ok};
-ghost use Rattle.sp_base.specs.Paths.{is_path, path_of, text_of};
+//! How paths and their texts belong together: laws of the definitions, on functions that do nothing.
+ghost use Rattle.std.specs.Prelude.{◌≡◌, ◌<◌, ◌≤◌, ℕ, List, IsTrue, true, Ok, length, take, slice_index};
+ghost use Rattle.sp_base.specs.Paths.{is_path, is_under, parent_of, path_of, text_of};
 
 /// The text of a path reads as that path, and a text that reads as a path is the path's text.
 pub fn a_path_and_its_text()
     ensures read { (path : List (List ℕ)) → IsTrue (is_path path) → path_of (text_of path) ≡ Ok path }
     ensures spelled { (text : List ℕ) (path : List (List ℕ)) → path_of text ≡ Ok path → text_of path ≡ text }
     ensures valid { (text : List ℕ) (path : List (List ℕ)) → path_of text ≡ Ok path → IsTrue (is_path path) }
+{}
+
+/// A prefix of a path's text that reads as a path reads as one whose parent is the path or an ancestor of it, and it is no longer
+/// than as many first segments of the path. A slash follows these.
+pub fn the_prefixes_of_a_path()
+    ensures parent { (path read : List (List ℕ)) (n : ℕ) → IsTrue (is_path path) → n ≤ length (text_of path) → path_of (take n (text_of path)) ≡ Ok read → is_under path (parent_of read) ≡ true }
+    ensures within { (path read : List (List ℕ)) (n most : ℕ) → IsTrue (is_path path) → n ≤ length (text_of path) → path_of (take n (text_of path)) ≡ Ok read → length read ≤ most → n ≤ length (text_of (take most path)) }
+    ensures first { (path : List (List ℕ)) (n : ℕ) → 0 < n → text_of (take n path) ≡ take (length (text_of (take n path))) (text_of path) }
+    ensures slash { (path : List (List ℕ)) (n : ℕ) → 0 < n → length (text_of (take n path)) < length (text_of path) → slice_index (text_of path) (length (text_of (take n path))) ≡ 47 }
 {}

@@ -22,7 +22,7 @@ pub use answer::{Answer, Ask, Mark};
 pub use bytes::ByteBuf;
 pub use hint::{Hint, HintKind, ValueFault};
 pub use items::{CallList, Items, LongList, NameList, PathList, TextList, TruthList};
-pub use laws::a_path_and_its_text;
+pub use laws::{a_path_and_its_text, the_prefixes_of_a_path};
 pub use memory::{Mem, NoMemory};
 pub use path::{Path, PathFault};
 pub use property_list::PropList;

@@ -13,12 +13,12 @@ use Rattle.url_split.specs.declared.decompose.Parts.{Parts}
 use Rattle.url_split.specs.Split.{split_of}
 use Rattle.type_chain.specs.Chain.{chain_of, type_text}
 use Rattle.script_rank.specs.Ranking.{script_text}
-use Rattle.script_rank.specs.Search.{found as first_script}
+use Rattle.script_rank.specs.Search.{search_result as first_script}
 use Rattle.htl_expr.specs.declared.scope.Scope.{Scope}
 use Rattle.htl_text.specs.Template.{text_of as written_by}
 use Rattle.get_servlet.specs.declared.answer.Depth.{Depth}
 use Rattle.get_servlet.specs.declared.answer.JsonAnswer.{JsonAnswer}
-use Rattle.get_servlet.specs.declared.answer.JsonAnswer.TheVariants.{Whole, Over}
+use Rattle.get_servlet.specs.declared.answer.JsonAnswer.TheVariants.{Whole, Over, TooLong}
 use Rattle.get_servlet.specs.declared.streams.Stream.{Stream}
 use Rattle.get_servlet.specs.Answers.{levels_of, json_answer}
 use Rattle.get_servlet.specs.Streams.{stream_of}
@@ -48,9 +48,13 @@ mark_in (Some name) = mark_named name
 abbrev pub mark_of : Resource → Mark
 mark_of res = mark_in (text_in res.props (codes "sp:mark"))
 
+-- the most bytes of a representation
+abbrev pub most_bytes : ℕ
+most_bytes = 4194304
+
 -- a representation of at most 4,194,304 bytes; a longer one is an error
 abbrev pub representation_of : List ℕ → Mark → List ℕ → Answer
-representation_of kind mark body = if nat_le (length body) 4194304 then answer_of 200 kind mark body else error_answer 500
+representation_of kind mark body = if nat_le (length body) most_bytes then answer_of 200 kind mark body else error_answer 500
 
 abbrev pub json_kind : List ℕ
 json_kind = codes "application/json;charset=utf-8"
@@ -59,11 +63,12 @@ json_kind = codes "application/json;charset=utf-8"
 abbrev pub json_representation : Resource → JsonAnswer → Answer
 json_representation res (Whole text) = representation_of json_kind (mark_of res) text
 json_representation res (Over most) = answer_of 300 json_kind Plain (choices_text res.path most)
+json_representation res TooLong = error_answer 500
 
 -- a resource as JSON at the depth that is asked for, if one is
 abbrev pub json_to_depth : Seen → Resource → Option Depth → Answer
 json_to_depth seen res None = error_answer 400
-json_to_depth seen res (Some depth) = json_representation res (json_answer seen res (levels_of depth))
+json_to_depth seen res (Some depth) = json_representation res (json_answer seen res (levels_of depth) most_bytes)
 
 -- the content of a file
 abbrev pub file_representation : Resource → Option Stream → Answer

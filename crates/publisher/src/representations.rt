@@ -11,11 +11,11 @@ use crate::choices::choices_text;
 use crate::depths::depth_of;
 use crate::errors::{answer_of, error_answer};
 use crate::methods::mark_of;
-use crate::scripts::{script_of, script_representation};
+use crate::scripts::script_representation;
 use crate::templates::{Templates, read};
 use get_servlet::{JsonAnswer, Stream, json_of, stream_of};
 use resource_tree::{Look, Res, Tree};
-use script_rank::script_text;
+use script_rank::{script_of, script_text};
 use sp_base::{Answer, ByteBuf, Mark, Mem, Path, TextBuf};
 use std::alloc::Global;
 use url_split::Parts;
@@ -44,6 +44,7 @@ fn json_representation(alloc: Global, res: &Res, answer: JsonAnswer) -> Mem<Answ
             let choices = choices_text(alloc, res.path(), most)?;
             answer_of(alloc, 300, JSON_KIND, Mark::Plain, ByteBuf::from(choices))
         }
+        JsonAnswer::TooLong => error_answer(alloc, 500),
     }
 }
 
@@ -54,7 +55,7 @@ fn json_to_depth<L: Look>(alloc: Global, look: &L, parts: &Parts, res: &Res) -> 
     let Some(depth) = depth_of(&parts.selectors) else {
         return error_answer(alloc, 400);
     };
-    json_representation(alloc, res, json_of(alloc, look, res, depth)?)
+    json_representation(alloc, res, json_of(alloc, look, res, depth, MOST_BYTES)?)
 }
 
 fn file_representation<L: Look>(alloc: Global, look: &L, res: &Res) -> Mem<Answer>
@@ -128,7 +129,7 @@ pub(crate) fn resource_answer(
     ensures answer { IfOk result (λ a. a ≡ resource_answer tree.now parts.now (Some res.now)) }
     ensures kept { AreReadings tree.now templates.new }
 {
-    match script_of(alloc, tree, parts, res)? {
+    match script_of(alloc, tree, res.props(), parts)? {
         Some(script) => answer_by_script(alloc, tree, templates, parts, res, script),
         None => default_answer(alloc, tree, parts, res),
     }

@@ -2,9 +2,7 @@
 ghost use Rattle.std.specs.Prelude.{◌≡◌, IfOk};
 ghost use Rattle.resource_tree.specs.Content.{name_of};
 ghost use Rattle.htl_text.specs.Template.{text_of as written_by};
-ghost use Rattle.type_chain.specs.Chain.{chain_of};
-ghost use Rattle.script_rank.specs.Search.{found as first_script};
-ghost use Rattle.publisher.specs.Rendering.{html_kind, representation_of, scope_of, script_representation};
+ghost use Rattle.publisher.specs.Rendering.{html_kind, mark_of, representation_of, scope_of, script_representation};
 
 use crate::errors::error_answer;
 use crate::methods::mark_of;
@@ -12,28 +10,21 @@ use crate::representations::representation_of;
 use crate::templates::Reading;
 use htl_expr::Scope;
 use htl_text::{RenderFault, Template};
-use resource_tree::{Res, Tree};
-use script_rank::first_script;
+use resource_tree::Res;
 use sp_base::{Answer, Mark, Mem, NoMemory, Path};
 use std::alloc::Global;
-use type_chain::{chain, type_text};
-use url_split::Parts;
+use type_chain::type_text;
 
 const HTML_KIND: &str = "text/html;charset=utf-8";
-
-/// The script that ranks first for a resource.
-pub(crate) fn script_of(alloc: Global, tree: &Tree, parts: &Parts, res: &Res) -> Mem<Option<Path>>
-    ensures { IfOk result (λ o. o ≡ first_script tree.now (chain_of tree.now res.now.props) parts.now) }
-{
-    let types = chain(alloc, tree, res.props())?;
-    first_script(alloc, tree, &types, parts)
-}
 
 // The last segment of a path, empty for the root.
 fn name_of(path: &Path) -> &str
     ensures { result.now ≡ name_of path.now }
 {
-    path.last().unwrap_or("")
+    match path.last() {
+        Some(name) => name,
+        None => "",
+    }
 }
 
 // What a template writes, as a representation; an error where that is too long.

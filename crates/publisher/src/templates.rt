@@ -26,9 +26,13 @@ pub(crate) struct Templates {
 }
 
 impl Model for Templates {
+    ghost use Rattle.std.specs.Coded.{codes};
+    ghost use Rattle.htl_expr.specs.contracts.node.Node as node;
     ghost use Rattle.publisher.specs.Kept.{Kept};
 
     ghost Value = { Kept };
+
+    ghost coded = { Prim.hlevel (codes, node.the_row.coded) };
 
     ghost view = { λ t. t.readings.entries };
 }

@@ -1,3 +1,4 @@
+pub mod Bindings
 pub mod Fault
 pub mod Grammar
 pub mod Print

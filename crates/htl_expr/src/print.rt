@@ -121,7 +121,7 @@ fn push_node(
             None => Ok(()),
         },
         Node::Resource(name) => match field(scope, name.text()) {
-            Some(plain) => push(text, context, plain.text()),
+            Some(plain) => push(text, context, plain),
             None => Ok(()),
         },
         _ => push_value(text, alloc, context, join, &value(alloc, scope, node)?),

@@ -1,6 +1,6 @@
 //! The resource that an expression is evaluated for.
 
-ghost use Rattle.std.specs.Prelude.{◌≡◌, IfOk, map, option_copied};
+ghost use Rattle.std.specs.Prelude.{◌≡◌, IfOk, map, option_map};
 ghost use Rattle.std.specs.Fmt.{signed_decimal};
 ghost use Rattle.htl_expr.specs.Print.{truth_text};
 ghost use Rattle.htl_expr.specs.Value as spec;
@@ -9,14 +9,24 @@ use crate::out::Out;
 use crate::print::{long_text, truth_text};
 use sp_base::{Mem, PropList, TextBuf, TextList, Value};
 use std::alloc::Global;
+use std::marker::Model;
 
-/// The properties of a resource, its path, the last segment of its path, and its resource type.
+/// The properties of a resource, its path, the last segment of its path, and its resource type, all lent. Contracts see them as a record
+/// of the same names.
 #[derive(Drop)]
-pub struct Scope {
-    pub props: PropList,
-    pub path: TextBuf,
-    pub name: TextBuf,
-    pub kind: TextBuf,
+pub struct Scope<'a> {
+    pub props: &'a PropList,
+    pub path: &'a str,
+    pub name: &'a str,
+    pub kind: &'a str,
+}
+
+impl<'a> Model for Scope<'a> {
+    ghost use Rattle.htl_expr.specs.Bindings.{Bindings};
+
+    ghost Value = { Bindings };
+
+    ghost view = { λ s. record { props = s.props.now; path = s.path.now; name = s.name.now; kind = s.kind.now } };
 }
 
 fn long_texts(alloc: Global, numbers: &[i64]) -> Mem<TextList>
@@ -62,13 +72,13 @@ pub(crate) fn property(alloc: Global, scope: &Scope, name: &str) -> Mem<Out>
     }
 }
 
-pub(crate) fn field<'a>(scope: &'a Scope, name: &str) -> Option<&'a TextBuf>
-    ensures { option_copied result ≡ spec.field scope.now name.now }
+pub(crate) fn field<'a>(scope: &Scope<'a>, name: &str) -> Option<&'a str>
+    ensures { option_map (λ text. text.now) result ≡ spec.field scope.now name.now }
 {
     match name {
-        "path" => Some(&scope.path),
-        "name" => Some(&scope.name),
-        "resourceType" => Some(&scope.kind),
+        "path" => Some(scope.path),
+        "name" => Some(scope.name),
+        "resourceType" => Some(scope.kind),
         _ => None,
     }
 }
@@ -78,7 +88,7 @@ pub(crate) fn resource(alloc: Global, scope: &Scope, name: &str) -> Mem<Out>
     ensures { IfOk result (λ v. v ≡ spec.resource scope.now name.now) }
 {
     match field(scope, name) {
-        Some(text) => Ok(Out::Text(text.duplicate(alloc)?)),
+        Some(text) => Ok(Out::Text(TextBuf::of(alloc, text)?)),
         None => Ok(Out::Nothing),
     }
 }

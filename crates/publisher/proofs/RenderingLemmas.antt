@@ -5,25 +5,25 @@ use Rattle.sp_base.specs.Paths.{text_of}
 use Rattle.sp_base.specs.declared.answer.Answer.{Answer}
 use Rattle.sp_base.specs.declared.answer.Ask.{Ask}
 use Rattle.sp_base.specs.declared.answer.Mark.{Mark}
-use Rattle.resource_tree.specs.declared.look.Res.{Res}
 use Rattle.resource_tree.specs.Content.{Content}
-use Rattle.resource_tree.specs.Seen.{Seen, res_at}
+use Rattle.resource_tree.specs.Seen.{Resource, Seen, res_at}
 use Rattle.url_split.specs.declared.decompose.Parts.{Parts}
 use Rattle.url_split.specs.Split.{split_of}
-use Rattle.htl_text.specs.declared.fault.TextFault.{TextFault}
-use Rattle.htl_text.specs.declared.piece.Piece.{Piece}
-use Rattle.htl_text.specs.Template.{template_of, text_of as written_by}
+use Rattle.htl_text.specs.Template.{text_of as written_by}
 use Rattle.get_servlet.specs.declared.answer.Depth.{Depth}
 use Rattle.get_servlet.specs.declared.answer.JsonAnswer.{JsonAnswer}
-use Rattle.get_servlet.specs.declared.answer.JsonAnswer.TheVariants.{Whole, Over}
+use Rattle.get_servlet.specs.declared.answer.JsonAnswer.TheVariants.{Whole, Over, TooLong}
 use Rattle.get_servlet.specs.declared.streams.Stream.{Stream}
 use Rattle.get_servlet.specs.Answers.{levels_of, json_answer}
 use Rattle.get_servlet.specs.Streams.{stream_of}
+use Rattle.publisher.specs.declared.templates.Reading.{Reading}
+use Rattle.publisher.specs.declared.templates.Reading.TheVariants.{Parsed, Refused}
+use Rattle.publisher.specs.Readings.{reading_of}
 use Rattle.publisher.specs.Errors.{answer_of, error_answer}
 use Rattle.publisher.specs.Depths.{depth_of}
-use Rattle.publisher.specs.Rendering.{is_read, mark_of, page_of, json_page, json_at, file_page, is_json, is_bare, default_answer, script_for, scope_of, script_page, answer_by, resource_answer, found_answer, has_node, rendered}
+use Rattle.publisher.specs.Rendering.{is_read, mark_of, most_bytes, representation_of, json_representation, json_to_depth, file_representation, is_json, is_bare, default_answer, script_for, scope_of, script_representation, answer_by, resource_answer, split_answer, has_node, rendered}
 
--- ---- a page isn't too long
+-- ---- a representation isn't too long
 
 abbrev Fits : Answer → Type 0
 Fits a = a.status ≡ 200 → length a.body ≤ 4194304
@@ -40,42 +40,43 @@ page_by : (b : Bool) (kind : List ℕ) (mark : Mark) (body : List ℕ) → nat_l
 page_by true kind mark body small e = grind (arith, nat_tests)
 page_by false kind mark body small e = error_fits 500 (λ h. absurd (omega (arith, h))) e
 
-page_fits : (kind : List ℕ) (mark : Mark) (body : List ℕ) → Fits (page_of kind mark body)
+page_fits : (kind : List ℕ) (mark : Mark) (body : List ℕ) → Fits (representation_of kind mark body)
 page_fits kind mark body = page_by (nat_le (length body) 4194304) kind mark body refl
 
-json_fits : (res : Res) (answer : JsonAnswer) → Fits (json_page res answer)
+json_fits : (res : Resource) (answer : JsonAnswer) → Fits (json_representation res answer)
 json_fits res (Whole text) = page_fits _ (mark_of res) text
 json_fits res (Over most) = λ e. absurd (omega (arith, e))
+json_fits res TooLong = error_fits 500 (λ h. absurd (omega (arith, h)))
 
-depth_fits : (seen : Seen) (res : Res) (depth : Option Depth) → Fits (json_at seen res depth)
+depth_fits : (seen : Seen) (res : Resource) (depth : Option Depth) → Fits (json_to_depth seen res depth)
 depth_fits seen res None = error_fits 400 (λ h. absurd (omega (arith, h)))
-depth_fits seen res (Some depth) = json_fits res (json_answer seen res (levels_of depth))
+depth_fits seen res (Some depth) = json_fits res (json_answer seen res (levels_of depth) most_bytes)
 
 missing_fits : Fits (error_answer 404)
 missing_fits = error_fits 404 (λ h. absurd (omega (arith, h)))
 
-file_fits : (res : Res) (stream : Option Stream) → Fits (file_page res stream)
+file_fits : (res : Resource) (stream : Option Stream) → Fits (file_representation res stream)
 file_fits res None = missing_fits
 file_fits res (Some stream) = page_fits stream.kind (mark_of res) stream.body
 
-default_fits : (seen : Seen) (parts : Parts) (res : Res) → Fits (default_answer seen parts res)
+default_fits : (seen : Seen) (parts : Parts) (res : Resource) → Fits (default_answer seen parts res)
 default_fits seen parts res =
     either (is_json parts.extension) _ _ (depth_fits seen res (depth_of parts.selectors))
     (either (is_bare parts) _ _ (file_fits res (stream_of seen res)) missing_fits)
 
-script_fits : (res : Res) (read : Result (List Piece) TextFault) → Fits (script_page res read)
-script_fits res (Ok pieces) = page_fits _ (mark_of res) (written_by (scope_of res) pieces)
-script_fits res (Err fault) = error_fits 500 (λ h. absurd (omega (arith, h)))
+script_fits : (res : Resource) (reading : Reading) → Fits (script_representation res reading)
+script_fits res (Parsed pieces) = page_fits _ (mark_of res) (written_by (scope_of res) pieces)
+script_fits res Refused = error_fits 500 (λ h. absurd (omega (arith, h)))
 
-by_fits : (text : Option (List ℕ)) (seen : Seen) (parts : Parts) (res : Res) → Fits (answer_by text seen parts res)
-by_fits (Some text) seen parts res = script_fits res (template_of text)
+by_fits : (text : Option (List ℕ)) (seen : Seen) (parts : Parts) (res : Resource) → Fits (answer_by text seen parts res)
+by_fits (Some text) seen parts res = script_fits res (reading_of text)
 by_fits None seen parts res = default_fits seen parts res
 
-resource_fits : (tree : Content) (parts : Parts) (res : Option Res) → Fits (resource_answer tree parts res)
+resource_fits : (tree : Content) (parts : Parts) (res : Option Resource) → Fits (resource_answer tree parts res)
 resource_fits tree parts None = missing_fits
 resource_fits tree parts (Some res) = by_fits (script_for tree parts res) (res_at tree) parts res
 
-found_fits : (tree : Content) (parts : Option Parts) → Fits (found_answer tree parts)
+found_fits : (tree : Content) (parts : Option Parts) → Fits (split_answer tree parts)
 found_fits tree None = missing_fits
 found_fits tree (Some parts) = resource_fits tree parts (res_at tree parts.path)
 
@@ -90,5 +91,5 @@ rendered_fits tree ask =
 pub same_reading : (tree : Content) (a b : Ask) → is_read a.method ≡ true → is_read b.method ≡ true → a.path ≡ b.path → rendered tree a ≡ rendered tree b
 unfolding rendered
 same_reading tree a b first second same =
-    let page = λ (path : List (List ℕ)). found_answer tree (split_of (has_node tree) (text_of path)) in
+    let page = λ (path : List (List ℕ)). split_answer tree (split_of (has_node tree) (text_of path)) in
     ap (λ t. cond t (page a.path) (error_answer 405)) first ∙ ap page same ∙ sym (ap (λ t. cond t (page b.path) (error_answer 405)) second)

@@ -7,24 +7,24 @@ use Rattle.sp_base.specs.declared.answer.Answer.{Answer}
 use Rattle.sp_base.specs.declared.answer.Ask.{Ask}
 use Rattle.sp_base.specs.declared.answer.Mark.{Mark}
 use Rattle.sp_base.specs.declared.answer.Mark.TheVariants.{Plain, NoCache, NoStore, MustRevalidate}
-use Rattle.resource_tree.specs.declared.look.Res.{Res}
 use Rattle.resource_tree.specs.Content.{Content, node_at, name_of}
-use Rattle.resource_tree.specs.Seen.{Seen, res_at}
+use Rattle.resource_tree.specs.Seen.{Resource, Seen, res_at}
 use Rattle.url_split.specs.declared.decompose.Parts.{Parts}
 use Rattle.url_split.specs.Split.{split_of}
 use Rattle.type_chain.specs.Chain.{chain_of, type_text}
 use Rattle.script_rank.specs.Ranking.{script_text}
-use Rattle.script_rank.specs.Search.{found as first_script}
+use Rattle.script_rank.specs.Search.{search_result as first_script}
 use Rattle.htl_expr.specs.declared.scope.Scope.{Scope}
-use Rattle.htl_text.specs.declared.fault.TextFault.{TextFault}
-use Rattle.htl_text.specs.declared.piece.Piece.{Piece}
-use Rattle.htl_text.specs.Template.{template_of, text_of as written_by}
+use Rattle.htl_text.specs.Template.{text_of as written_by}
 use Rattle.get_servlet.specs.declared.answer.Depth.{Depth}
 use Rattle.get_servlet.specs.declared.answer.JsonAnswer.{JsonAnswer}
-use Rattle.get_servlet.specs.declared.answer.JsonAnswer.TheVariants.{Whole, Over}
+use Rattle.get_servlet.specs.declared.answer.JsonAnswer.TheVariants.{Whole, Over, TooLong}
 use Rattle.get_servlet.specs.declared.streams.Stream.{Stream}
 use Rattle.get_servlet.specs.Answers.{levels_of, json_answer}
 use Rattle.get_servlet.specs.Streams.{stream_of}
+use Rattle.publisher.specs.declared.templates.Reading.{Reading}
+use Rattle.publisher.specs.declared.templates.Reading.TheVariants.{Parsed, Refused}
+use Rattle.publisher.specs.Readings.{reading_of}
 use Rattle.publisher.specs.Errors.{answer_of, error_answer}
 use Rattle.publisher.specs.Depths.{depth_of}
 use Rattle.publisher.specs.Choices.{choices_text}
@@ -45,30 +45,35 @@ mark_in None = Plain
 mark_in (Some name) = mark_named name
 
 -- the mark that a resource has of its text property `sp:mark`
-abbrev pub mark_of : Res → Mark
+abbrev pub mark_of : Resource → Mark
 mark_of res = mark_in (text_in res.props (codes "sp:mark"))
 
+-- the most bytes of a representation
+abbrev pub most_bytes : ℕ
+most_bytes = 4194304
+
 -- a representation of at most 4,194,304 bytes; a longer one is an error
-abbrev pub page_of : List ℕ → Mark → List ℕ → Answer
-page_of kind mark body = if nat_le (length body) 4194304 then answer_of 200 kind mark body else error_answer 500
+abbrev pub representation_of : List ℕ → Mark → List ℕ → Answer
+representation_of kind mark body = if nat_le (length body) most_bytes then answer_of 200 kind mark body else error_answer 500
 
 abbrev pub json_kind : List ℕ
 json_kind = codes "application/json;charset=utf-8"
 
 -- the JSON text, or the targets that may be asked for instead
-abbrev pub json_page : Res → JsonAnswer → Answer
-json_page res (Whole text) = page_of json_kind (mark_of res) text
-json_page res (Over most) = answer_of 300 json_kind Plain (choices_text res.path most)
+abbrev pub json_representation : Resource → JsonAnswer → Answer
+json_representation res (Whole text) = representation_of json_kind (mark_of res) text
+json_representation res (Over most) = answer_of 300 json_kind Plain (choices_text res.path most)
+json_representation res TooLong = error_answer 500
 
 -- a resource as JSON at the depth that is asked for, if one is
-abbrev pub json_at : Seen → Res → Option Depth → Answer
-json_at seen res None = error_answer 400
-json_at seen res (Some depth) = json_page res (json_answer seen res (levels_of depth))
+abbrev pub json_to_depth : Seen → Resource → Option Depth → Answer
+json_to_depth seen res None = error_answer 400
+json_to_depth seen res (Some depth) = json_representation res (json_answer seen res (levels_of depth) most_bytes)
 
 -- the content of a file
-abbrev pub file_page : Res → Option Stream → Answer
-file_page res None = error_answer 404
-file_page res (Some stream) = page_of stream.kind (mark_of res) stream.body
+abbrev pub file_representation : Resource → Option Stream → Answer
+file_representation res None = error_answer 404
+file_representation res (Some stream) = representation_of stream.kind (mark_of res) stream.body
 
 abbrev pub is_json : List ℕ → Bool
 is_json extension = pointwise nat_eq extension (codes "json")
@@ -78,40 +83,40 @@ abbrev pub is_bare : Parts → Bool
 is_bare parts = length parts.selectors == 0 && (length parts.extension == 0 && length parts.suffix == 0)
 
 -- the answer of the default GET servlet: with the extension `json` the resource as JSON, without extension, selectors and suffix its stream
-abbrev pub default_answer : Seen → Parts → Res → Answer
-default_answer seen parts res = if is_json parts.extension then json_at seen res (depth_of parts.selectors)
-    else (if is_bare parts then file_page res (stream_of seen res) else error_answer 404)
+abbrev pub default_answer : Seen → Parts → Resource → Answer
+default_answer seen parts res = if is_json parts.extension then json_to_depth seen res (depth_of parts.selectors)
+    else (if is_bare parts then file_representation res (stream_of seen res) else error_answer 404)
 
 -- the text of the script that ranks first for a resource, if there is one
-unfoldable pub script_for : Content → Parts → Res → Option (List ℕ)
-script_for tree parts res = option_and_then (script_text tree) (first_script tree (chain_of tree res) parts)
+unfoldable pub script_for : Content → Parts → Resource → Option (List ℕ)
+script_for tree parts res = option_and_then (script_text tree) (first_script tree (chain_of tree res.props) parts)
 
 abbrev pub html_kind : List ℕ
 html_kind = codes "text/html;charset=utf-8"
 
 -- what the expressions of a script are evaluated for: a resource's properties, its path, its name and its type
-abbrev pub scope_of : Res → Scope
+abbrev pub scope_of : Resource → Scope
 scope_of res = record { props = res.props; path = text_of res.path; name = name_of res.path; kind = type_text res.props }
 
 -- what a script's template writes for a resource; a text that is no template is an error
-abbrev pub script_page : Res → Result (List Piece) TextFault → Answer
-script_page res (Ok pieces) = page_of html_kind (mark_of res) (written_by (scope_of res) pieces)
-script_page res (Err fault) = error_answer 500
+abbrev pub script_representation : Resource → Reading → Answer
+script_representation res (Parsed pieces) = representation_of html_kind (mark_of res) (written_by (scope_of res) pieces)
+script_representation res Refused = error_answer 500
 
 -- the answer of a resource: what the script's template writes, or without a script the answer of the default GET servlet
-abbrev pub answer_by : Option (List ℕ) → Seen → Parts → Res → Answer
-answer_by (Some text) seen parts res = script_page res (template_of text)
+abbrev pub answer_by : Option (List ℕ) → Seen → Parts → Resource → Answer
+answer_by (Some text) seen parts res = script_representation res (reading_of text)
 answer_by None seen parts res = default_answer seen parts res
 
 -- the answer of what is seen at a path, by the script that ranks first for it
-abbrev pub resource_answer : Content → Parts → Option Res → Answer
+abbrev pub resource_answer : Content → Parts → Option Resource → Answer
 resource_answer tree parts None = error_answer 404
 resource_answer tree parts (Some res) = answer_by (script_for tree parts res) (res_at tree) parts res
 
 -- the answer to a path that was taken apart, if it names a resource
-abbrev pub found_answer : Content → Option Parts → Answer
-found_answer tree None = error_answer 404
-found_answer tree (Some parts) = resource_answer tree parts (res_at tree parts.path)
+abbrev pub split_answer : Content → Option Parts → Answer
+split_answer tree None = error_answer 404
+split_answer tree (Some parts) = resource_answer tree parts (res_at tree parts.path)
 
 -- the tree has a node at the path
 abbrev pub has_node : Content → List (List ℕ) → Bool
@@ -119,4 +124,4 @@ has_node tree path = is_some (node_at tree path)
 
 -- the answer to a request: another method than GET and HEAD isn't allowed; else the text of the path is taken apart
 unfoldable pub rendered : Content → Ask → Answer
-rendered tree ask = if is_read ask.method then found_answer tree (split_of (has_node tree) (text_of ask.path)) else error_answer 405
+rendered tree ask = if is_read ask.method then split_answer tree (split_of (has_node tree) (text_of ask.path)) else error_answer 405

@@ -28,8 +28,7 @@ fn choices(alloc: Global, path: &str, most: u32) -> Mem<TextList>
 pub(crate) fn choices_text(alloc: Global, path: &Path, most: u32) -> Mem<TextBuf>
     ensures { IfOk result (λ text. text ≡ choices_text path.now most) }
 {
-    let path = path.text(alloc)?;
-    let list = Value::Texts(choices(alloc, path.text(), most)?);
+    let list = Value::Texts(choices(alloc, path.as_text(), most)?);
     let mut writer = Writer::new(Vec::new(alloc));
     write_value(&mut writer, &list)?;
     let text = String::from_utf8(writer.into_inner()).unwrap();

@@ -10,6 +10,6 @@ pub fn reads_depend_on_the_path()
 {}
 
 /// A representation has at most 4,194,304 bytes.
-pub fn pages_fit()
+pub fn representations_fit()
     ensures { (tree : Content) (ask : Ask) → (rendered tree ask).status ≡ 200 → length (rendered tree ask).body ≤ 4194304 }
 {}

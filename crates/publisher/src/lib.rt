@@ -6,12 +6,13 @@ mod depths;
 mod errors;
 mod laws;
 mod methods;
-mod pages;
+mod representations;
 mod scripts;
 mod serving;
+mod templates;
 #[cfg(test)]
 mod tests;
 
 pub use errors::error_answer;
-pub use laws::{pages_fit, reads_depend_on_the_path};
+pub use laws::{reads_depend_on_the_path, representations_fit};
 pub use serving::Publisher;

@@ -31,5 +31,5 @@ fn mark_in(name: Option<&TextBuf>) -> Mark
 pub(crate) fn mark_of(res: &Res) -> Mark
     ensures { result ≡ mark_of res.now }
 {
-    mark_in(res.props.text("sp:mark"))
+    mark_in(res.props().text("sp:mark"))
 }

@@ -2,36 +2,56 @@ ghost use Rattle.std.specs.Prelude.{◌≡◌, IfOk};
 ghost use Rattle.resource_tree.specs.Seen.{res_at};
 ghost use Rattle.url_split.specs.Split.{split_of};
 ghost use Rattle.sp_base.specs.Paths.{text_of};
-ghost use Rattle.publisher.specs.Rendering.{has_node, found_answer, resource_answer, rendered};
+ghost use Rattle.publisher.specs.Rendering.{has_node, split_answer, resource_answer, rendered};
 
 use crate::errors::error_answer;
 use crate::methods::is_read;
-use crate::pages::resource_answer;
+use crate::representations::resource_answer;
+use crate::templates::Templates;
 use resource_tree::{Look, Tree};
 use sp_base::{Answer, Ask, Mem, Path};
 use std::alloc::Global;
+use std::hash::RandomState;
 use std::marker::Model;
+use std::mem;
 use url_split::{Known, Parts, split};
 
 /// Answers requests on a content tree. Contracts see the tree.
 #[derive(Drop)]
 pub struct Publisher {
     tree: Tree,
+    templates: Templates,
 }
 
 impl Model for Publisher {
     ghost use Rattle.resource_tree.specs.Content.{Content};
+    ghost use Rattle.publisher.specs.Kept.{AreReadings};
 
     ghost Value = { Content };
 
     ghost view = { λ p. p.tree };
+
+    ghost invariant = { λ p. AreReadings p.tree p.templates };
 }
 
 impl Publisher {
-    pub fn new(tree: Tree) -> Publisher
+    /// A publisher of a tree. Readings of its scripts are kept in a map that is hashed by the seeds.
+    pub fn new(alloc: Global, seeds: RandomState, tree: Tree) -> Publisher
         ensures { result ≡ tree }
     {
-        Publisher { tree }
+        Publisher {
+            tree,
+            templates: Templates::new(alloc, seeds),
+        }
+    }
+
+    /// Puts another tree in the place of the publisher's, which is given back. What was read of scripts is forgotten.
+    pub fn replace(&mut self, tree: Tree) -> Tree
+        ensures old { result ≡ self.old }
+        ensures new { self.new ≡ tree }
+    {
+        self.templates.forget_all();
+        mem::replace(&mut self.tree, tree)
     }
 
     pub fn tree(&self) -> &Tree
@@ -49,26 +69,19 @@ impl Publisher {
         if !is_read(ask.method.text()) {
             return error_answer(alloc, 405);
         }
-        self.page(alloc, &ask.path)
-    }
-
-    // The answer to a path, which names a resource and says how it is asked for.
-    fn page(&self, alloc: Global, path: &Path) -> Mem<Answer>
-        ensures { IfOk result (λ a. a ≡ found_answer self.now (split_of (has_node self.now) (text_of path.now))) }
-    {
-        let text = path.text(alloc)?;
-        match split(alloc, self, text.text())? {
+        match split(alloc, &*self, ask.path.as_text())? {
             Some(parts) => self.named(alloc, &parts),
             None => error_answer(alloc, 404),
         }
     }
 
-    // The answer of the resource that a path names.
-    fn named(&self, alloc: Global, parts: &Parts) -> Mem<Answer>
-        ensures { IfOk result (λ a. a ≡ resource_answer self.now parts.now (res_at self.now parts.now.path)) }
+    // The answer of the resource that the parts of a URL name.
+    fn named(&mut self, alloc: Global, parts: &Parts) -> Mem<Answer>
+        ensures answer { IfOk result (λ a. a ≡ resource_answer self.old parts.now (res_at self.old parts.now.path)) }
+        ensures unchanged { self.new ≡ self.old }
     {
         match self.tree.res(alloc, &parts.path)? {
-            Some(res) => resource_answer(alloc, &self.tree, parts, res),
+            Some(res) => resource_answer(alloc, &self.tree, &mut self.templates, parts, &res),
             None => error_answer(alloc, 404),
         }
     }

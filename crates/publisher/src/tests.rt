@@ -2,6 +2,8 @@ use crate::{Publisher, error_answer};
 use resource_tree::{Tree, TreeFault};
 use sp_base::{Answer, Ask, ByteBuf, Mark, NoMemory, Path, TextBuf, TruthList, Value};
 use std::alloc::{AllocError, Global};
+use std::hash::RandomState;
+use std::io;
 
 /// A refusal or want of memory where a test expects none.
 #[derive(Debug, Drop)]
@@ -21,6 +23,12 @@ impl From<NoMemory> for Failed {
 
 impl From<AllocError> for Failed {
     fn from(_fault: AllocError) -> Failed {
+        Failed
+    }
+}
+
+impl From<io::Error> for Failed {
+    fn from(_fault: io::Error) -> Failed {
         Failed
     }
 }
@@ -73,8 +81,8 @@ fn asked(
 }
 
 // A page with a kid and marks, a file, and an object with values of other kinds.
-fn site(alloc: Global) -> Result<Publisher, Failed> {
-    let mut tree = Tree::new(alloc)?;
+fn site(alloc: Global, seeds: RandomState) -> Result<Publisher, Failed> {
+    let mut tree = Tree::new(alloc, seeds)?;
     for path in [
         "/content",
         "/content/en",
@@ -103,13 +111,13 @@ fn site(alloc: Global) -> Result<Publisher, Failed> {
     tree.set(alloc, &a, "n", Value::Long(3))?;
     tree.set(alloc, &a, "sp:mark", text(alloc, "no-cache,private")?)?;
     tree.set(alloc, &at(alloc, "/a/k")?, "x", text(alloc, "y")?)?;
-    Ok(Publisher::new(tree))
+    Ok(Publisher::new(alloc, seeds, tree))
 }
 
 #[test]
 fn requests_are_answered(rt: HostRuntime) -> Result<(), Failed> {
     let alloc = rt.alloc();
-    let mut site = site(alloc)?;
+    let mut site = site(alloc, RandomState::new(&rt)?)?;
     let bad = "400 text/plain;charset=utf-8 - 400 Bad Request\n";
     let missing = "404 text/plain;charset=utf-8 - 404 Not Found\n";
     let not_allowed = "405 text/plain;charset=utf-8 - 405 Method Not Allowed\n";
@@ -162,8 +170,8 @@ fn requests_are_answered(rt: HostRuntime) -> Result<(), Failed> {
 }
 
 // A node with so many kids and a mark.
-fn big_site(alloc: Global, kids: u32) -> Result<Publisher, Failed> {
-    let mut tree = Tree::new(alloc)?;
+fn big_site(alloc: Global, seeds: RandomState, kids: u32) -> Result<Publisher, Failed> {
+    let mut tree = Tree::new(alloc, seeds)?;
     let big = at(alloc, "/content/big")?;
     tree.create(alloc, &at(alloc, "/content")?)?;
     tree.create(alloc, &big)?;
@@ -172,12 +180,13 @@ fn big_site(alloc: Global, kids: u32) -> Result<Publisher, Failed> {
         let path = format!(in alloc; "/content/big/{number}")?;
         tree.create(alloc, &at(alloc, path.as_str())?)?;
     }
-    Ok(Publisher::new(tree))
+    Ok(Publisher::new(alloc, seeds, tree))
 }
 
 #[test]
 fn too_many_levels_are_a_choice(rt: HostRuntime) -> Result<(), Failed> {
     let alloc = rt.alloc();
+    let seeds = RandomState::new(&rt)?;
     let whole = "200 application/json;charset=utf-8 no-cache {";
     for (kids, path, want) in [
         (999, "/content/big.2.json", whole),
@@ -193,7 +202,7 @@ fn too_many_levels_are_a_choice(rt: HostRuntime) -> Result<(), Failed> {
             "300 application/json;charset=utf-8 - [\"/.2.json\",\"/.1.json\",\"/.0.json\"]",
         ),
     ] {
-        let got = asked(alloc, &mut big_site(alloc, kids)?, "GET", path)?;
+        let got = asked(alloc, &mut big_site(alloc, seeds, kids)?, "GET", path)?;
         assert!(rt; got.starts_with(want), "{got}");
     }
     Ok(())
@@ -220,8 +229,8 @@ fn errors_are_a_line(rt: HostRuntime) -> Result<(), Failed> {
 }
 
 // A page `/p` with two properties, whose script is this text.
-fn scripted_site(alloc: Global, script: TextBuf) -> Result<Publisher, Failed> {
-    let mut tree = Tree::new(alloc)?;
+fn scripted_site(alloc: Global, seeds: RandomState, script: TextBuf) -> Result<Publisher, Failed> {
+    let mut tree = Tree::new(alloc, seeds)?;
     for path in [
         "/p",
         "/apps",
@@ -237,12 +246,13 @@ fn scripted_site(alloc: Global, script: TextBuf) -> Result<Publisher, Failed> {
     tree.set(alloc, &page, "sp:mark", text(alloc, "no-cache")?)?;
     let content = at(alloc, "/apps/t/GET.html/jcr:content")?;
     tree.set(alloc, &content, "jcr:data", Value::Text(script))?;
-    Ok(Publisher::new(tree))
+    Ok(Publisher::new(alloc, seeds, tree))
 }
 
 #[test]
 fn scripts_are_templates(rt: HostRuntime) -> Result<(), Failed> {
     let alloc = rt.alloc();
+    let seeds = RandomState::new(&rt)?;
     let failed = "500 text/plain;charset=utf-8 - 500 Internal Server Error\n";
     for (method, script, want) in [
         ("GET", "", "200 text/html;charset=utf-8 no-cache "),
@@ -259,7 +269,7 @@ fn scripts_are_templates(rt: HostRuntime) -> Result<(), Failed> {
         ("GET", "${properties.title", failed),
         ("HEAD", "a${1+}", failed),
     ] {
-        let mut site = scripted_site(alloc, TextBuf::of(alloc, script)?)?;
+        let mut site = scripted_site(alloc, seeds, TextBuf::of(alloc, script)?)?;
         let got = asked(alloc, &mut site, method, "/p.html")?;
         assert_eq!(rt; got.as_str(), want, "{script}");
     }
@@ -269,13 +279,14 @@ fn scripts_are_templates(rt: HostRuntime) -> Result<(), Failed> {
 #[test]
 fn pages_have_4194304_bytes_at_most(rt: HostRuntime) -> Result<(), Failed> {
     let alloc = rt.alloc();
+    let seeds = RandomState::new(&rt)?;
     for (spare, status) in [(0usize, "200"), (1, "500")] {
         // The expression writes 9 bytes: `A &amp; B`.
         let mut script = String::from_str(alloc, "${properties.title}")?;
         for _byte in 0..4_194_295 + spare {
             script.push('x')?;
         }
-        let mut site = scripted_site(alloc, TextBuf::from(script))?;
+        let mut site = scripted_site(alloc, seeds, TextBuf::from(script))?;
         let got = asked(alloc, &mut site, "GET", "/p.html")?;
         assert!(rt; got.starts_with(status));
     }

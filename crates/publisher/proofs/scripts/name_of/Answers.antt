@@ -1,10 +1,9 @@
 use Rattle.std.proofs.Common.{◌≡◌, ◌-◌, [], length, ◌∙◌, ap}
-use Rattle.std.specs.Prelude.{unwrap_or, slice_get}
+use Rattle.std.specs.Prelude.{unwrap_or}
 use Rattle.std.proofs.lemmas.Option.{unwrap_or-slice_get}
 use Rattle.publisher.proofs.scripts.name_of.Goals as goal
 
 pub returns-in-None : goal.returns-in-None
 returns-in-None c =
     let segs = c.args.path.now in
-    let last : c.saturating_sub.result ≡ length segs - 1 = c.saturating_sub.ensures ∙ ap (λ n. n - 1) c.depth.ensures.depth in
-    ap (λ o. unwrap_or o []) (c.in-None.ensures ∙ ap (slice_get segs) last) ∙ unwrap_or-slice_get segs (length segs - 1) []
+    ap (λ o. unwrap_or o []) c.in-None.ensures ∙ unwrap_or-slice_get segs (length segs - 1) []

@@ -1,5 +1,5 @@
 use Rattle.publisher.proofs.RenderingLemmas.{rendered_fits}
-use Rattle.publisher.proofs.laws.pages_fit.Goals as goal
+use Rattle.publisher.proofs.laws.representations_fit.Goals as goal
 
 pub returns : goal.returns
 returns c = rendered_fits

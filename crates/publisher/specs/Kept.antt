@@ -1,0 +1,19 @@
+-- The readings of scripts that a publisher keeps beside its tree. What is answered needs none of it: only the publisher's type and its proofs cite this.
+use Rattle.std.specs.Prelude.{◌≡◌, ℕ, List, Option, Some, option_map}
+use Rattle.std.specs.Map.{lookup}
+use Rattle.resource_tree.specs.Content.{Content, same_path}
+use Rattle.script_rank.specs.Ranking.{script_text}
+use Rattle.publisher.specs.declared.templates.Reading.{Reading}
+use Rattle.publisher.specs.Readings.{reading_of}
+
+-- readings at the paths of scripts
+abbrev pub Kept : Type 0
+Kept = List (List (List ℕ) × Reading)
+
+abbrev pub reading_at : Kept → List (List ℕ) → Option Reading
+reading_at kept path = lookup (same_path path) kept
+
+-- each reading that is kept is that of the script at its path
+abbrev pub AreReadings : Content → Kept → Type 0
+AreReadings tree kept = (path : List (List ℕ)) (reading : Reading) → reading_at kept path ≡ Some reading
+    → option_map reading_of (script_text tree path) ≡ Some reading

@@ -1,0 +1,136 @@
+// The answers of a resource.
+ghost use Rattle.std.specs.Prelude.{◌≡◌, Some, IfOk};
+ghost use Rattle.get_servlet.specs.Streams.{stream_of};
+ghost use Rattle.publisher.specs.Depths.{depth_of};
+ghost use Rattle.resource_tree.specs.Seen.{res_at};
+ghost use Rattle.script_rank.specs.Ranking.{script_text};
+ghost use Rattle.publisher.specs.Kept.{AreReadings};
+ghost use Rattle.publisher.specs.Rendering.{answer_by, representation_of, json_representation, json_to_depth, file_representation, is_bare, default_answer, resource_answer};
+
+use crate::choices::choices_text;
+use crate::depths::depth_of;
+use crate::errors::{answer_of, error_answer};
+use crate::methods::mark_of;
+use crate::scripts::script_representation;
+use crate::templates::{Templates, read};
+use get_servlet::{JsonAnswer, Stream, json_of, stream_of};
+use resource_tree::{Look, Res, Tree};
+use script_rank::{script_of, script_text};
+use sp_base::{Answer, ByteBuf, Mark, Mem, Path, TextBuf};
+use std::alloc::Global;
+use url_split::Parts;
+
+/// The most bytes of a representation.
+const MOST_BYTES: usize = 4_194_304;
+
+const JSON_KIND: &str = "application/json;charset=utf-8";
+
+/// A representation, or an error where it is too long.
+pub(crate) fn representation_of(alloc: Global, kind: &str, mark: Mark, body: TextBuf) -> Mem<Answer>
+    ensures { IfOk result (λ a. a ≡ representation_of kind.now mark body) }
+{
+    if body.text().len() > MOST_BYTES {
+        return error_answer(alloc, 500);
+    }
+    answer_of(alloc, 200, kind, mark, ByteBuf::from(body))
+}
+
+fn json_representation(alloc: Global, res: &Res, answer: JsonAnswer) -> Mem<Answer>
+    ensures { IfOk result (λ a. a ≡ json_representation res.now answer) }
+{
+    match answer {
+        JsonAnswer::Whole(text) => representation_of(alloc, JSON_KIND, mark_of(res), text),
+        JsonAnswer::Over(most) => {
+            let choices = choices_text(alloc, res.path(), most)?;
+            answer_of(alloc, 300, JSON_KIND, Mark::Plain, ByteBuf::from(choices))
+        }
+        JsonAnswer::TooLong => error_answer(alloc, 500),
+    }
+}
+
+// The resource as JSON, to the depth that the selectors ask for.
+fn json_to_depth<L: Look>(alloc: Global, look: &L, parts: &Parts, res: &Res) -> Mem<Answer>
+    ensures { IfOk result (λ a. a ≡ json_to_depth (L.seen look.now) res.now (depth_of parts.now.selectors)) }
+{
+    let Some(depth) = depth_of(&parts.selectors) else {
+        return error_answer(alloc, 400);
+    };
+    json_representation(alloc, res, json_of(alloc, look, res, depth, MOST_BYTES)?)
+}
+
+fn file_representation<L: Look>(alloc: Global, look: &L, res: &Res) -> Mem<Answer>
+    ensures { IfOk result (λ a. a ≡ file_representation res.now (stream_of (L.seen look.now) res.now)) }
+{
+    let Some(stream) = stream_of(alloc, look, res)? else {
+        return error_answer(alloc, 404);
+    };
+    let Stream { kind, body } = stream;
+    representation_of(alloc, kind.text(), mark_of(res), body)
+}
+
+// Whether the URL names the resource and nothing else.
+fn is_bare(parts: &Parts) -> bool
+    ensures { result ≡ is_bare parts.now }
+{
+    parts.selectors.is_empty()
+        && parts.extension.text().is_empty()
+        && parts.suffix.text().is_empty()
+}
+
+// The answer of the default GET servlet.
+fn default_answer<L: Look>(alloc: Global, look: &L, parts: &Parts, res: &Res) -> Mem<Answer>
+    ensures { IfOk result (λ a. a ≡ default_answer (L.seen look.now) parts.now res.now) }
+{
+    if parts.extension.text() == "json" {
+        return json_to_depth(alloc, look, parts, res);
+    }
+    if is_bare(parts) {
+        return file_representation(alloc, look, res);
+    }
+    error_answer(alloc, 404)
+}
+
+// The answer of a resource by the script at a path, or of the default GET servlet where there is no script's text. A script is
+// read once, and its reading kept.
+fn answer_by_script(
+    alloc: Global,
+    tree: &Tree,
+    templates: &mut Templates,
+    parts: &Parts,
+    res: &Res,
+    script: Path,
+) -> Mem<Answer>
+    requires { AreReadings tree.now templates.old }
+    ensures answer { IfOk result (λ a. a ≡ answer_by (script_text tree.now script) (res_at tree.now) parts.now res.now) }
+    ensures kept { AreReadings tree.now templates.new }
+{
+    if let Some(reading) = templates.get(&script) {
+        return script_representation(alloc, reading, res);
+    }
+    let Some(text) = script_text(alloc, tree, &script)? else {
+        return default_answer(alloc, tree, parts, res);
+    };
+    let reading = read(alloc, text.text())?;
+    let answer = script_representation(alloc, &reading, res)?;
+    templates.keep(script, reading);
+    Ok(answer)
+}
+
+/// The answer of a resource that the parts of a URL name: what its first script writes, or what the default GET servlet answers.
+#[tactic(auto, unfolding(crate::specs::Rendering::script_for))]
+pub(crate) fn resource_answer(
+    alloc: Global,
+    tree: &Tree,
+    templates: &mut Templates,
+    parts: &Parts,
+    res: &Res,
+) -> Mem<Answer>
+    requires { AreReadings tree.now templates.old }
+    ensures answer { IfOk result (λ a. a ≡ resource_answer tree.now parts.now (Some res.now)) }
+    ensures kept { AreReadings tree.now templates.new }
+{
+    match script_of(alloc, tree, res.props(), parts)? {
+        Some(script) => answer_by_script(alloc, tree, templates, parts, res, script),
+        None => default_answer(alloc, tree, parts, res),
+    }
+}

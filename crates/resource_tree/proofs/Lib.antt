@@ -2,7 +2,6 @@ pub mod PathLemmas
 pub mod NodeLookups
 pub mod EntriesInOrder
 pub mod HashedNodes
-pub mod HashedUnder
 pub mod Patching
 pub mod Creation
 pub mod NodeChange
@@ -10,6 +9,6 @@ pub mod Update
 pub mod KidOrder
 pub mod Reordering
 pub mod Under
-pub mod UnderRow
+pub mod Without
 pub mod PartLemmas
 pub mod Removal

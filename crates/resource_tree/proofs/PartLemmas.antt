@@ -1,5 +1,5 @@
 -- Level by level, the paths at a path and under it are found.
-use Rattle.std.proofs.Common.{◌≡◌, ◌<◌, ◌≤◌, ◌+◌, ◌-◌, ℕ, zero, suc, Bool, true, false, ◌||◌, ◌&&◌, List, [], ◌∷◌, ◌++◌, map, take, get_or, length, length-append, refl, sym, ◌∙◌, ap, subst, arith, ⊎_elim, Some, None}
+use Rattle.std.proofs.Common.{◌≡◌, ◌<◌, ◌≤◌, ◌+◌, ◌-◌, ℕ, zero, suc, true, false, ◌||◌, ◌&&◌, List, [], ◌∷◌, ◌++◌, map, take, get_or, length, length-append, refl, sym, ◌∙◌, ap, subst, arith, ⊎_elim, Some, None}
 use Rattle.std.specs.Prelude.{is_some, IsTrue, nat_eq}
 use Rattle.std.specs.Cmp.Lexicographic.{pointwise, nat_list_eq_equiv, same_text}
 use Rattle.std.specs.List.{AllByRecursion, list_any, list_all}
@@ -7,9 +7,9 @@ use Rattle.std.specs.Option.{option_map_or}
 use Rattle.std.proofs.lemmas.Bool.{cases_Bool, false≢true, true≢false, and_parts, and_from, or_right, false_from_ne_true, leb-true}
 use Rattle.std.proofs.lemmas.List.{take_more, map-append, append-nil, append_assoc}
 use Rattle.std.proofs.lemmas.List.Folds.{list_any-append, list_all-append, list_any_at}
-use Rattle.sp_base.specs.Paths.{is_path, is_under, seg_ok}
+use Rattle.sp_base.specs.Paths.{is_under, seg_ok}
 use Rattle.resource_tree.specs.declared.nodes.Node.{Node}
-use Rattle.resource_tree.specs.Content.{Content, same_path, node_at, kid, has_kid, empty_node, IsTree}
+use Rattle.resource_tree.specs.Content.{Content, same_path, node_at, kid, empty_node, IsTree}
 use Rattle.resource_tree.specs.Changes.{kids_at}
 use Rattle.resource_tree.specs.Parts.{kids_below, levels}
 use Rattle.resource_tree.proofs.PathLemmas.{path_from_same, same_path_self}
@@ -117,11 +117,10 @@ module _ (tree : Content) (good : IsTree (node_at tree)) where
 
   kids_reached : (path p : List (List ℕ)) → Reached path p → (names : List (List ℕ)) → ((name : List ℕ) → list_any (pointwise nat_eq name) names ≡ true → there (kid p name)) → AllByRecursion (Reached path) (map (kid p) names)
   kids_reached path p r [] h = tt
-  kids_reached path p r (name ∷ names) h =
-      (
-        (h name (ap (λ b. b || list_any (pointwise nat_eq name) names) (nat_list_eq_equiv.refl name)), under_kid path p name r.1),
-        kids_reached path p r names (λ k is. h k (or_right _ _ is)),
-      )
+  kids_reached path p r (name ∷ names) h = (
+    (h name (ap (λ b. b || list_any (pointwise nat_eq name) names) (nat_list_eq_equiv.refl name)), under_kid path p name r.1),
+    kids_reached path p r names (λ k is. h k (or_right _ _ is)),
+  )
 
   below_reached : (path : List (List ℕ)) (level : List (List (List ℕ))) → AllByRecursion (Reached path) level → AllByRecursion (Reached path) (kids_below tree level)
   below_reached path [] r = tt
@@ -149,7 +148,7 @@ module _ (tree : Content) (good : IsTree (node_at tree)) where
       list_any-append (same_path (kid p name)) (map (kid x) (kids_at tree x)) (kids_below tree level)
       ∙ ⊎_elim
       (λ same. ap (λ b. b || list_any (same_path (kid p name)) (kids_below tree level))
-        (subst (λ (y : List (List ℕ)). list_any (same_path (kid p name)) (map (kid y) (kids_at tree y)) ≡ true) (path_from_same p x same) (in_map p name (kids_at tree p) named)))
+      (subst (λ (y : List (List ℕ)). list_any (same_path (kid p name)) (map (kid y) (kids_at tree y)) ≡ true) (path_from_same p x same) (in_map p name (kids_at tree p) named)))
       (λ other. or_right _ _ (in_below p name level (sym (ap (λ b. b || list_any (same_path p) level) other) ∙ is) named))
       (cases_Bool (same_path p x))
 
@@ -181,6 +180,6 @@ module _ (tree : Content) (good : IsTree (node_at tree)) where
       ap (λ p. list_any (same_path p) (levels tree 65 (path ∷ []))) (sym split.whole) ∙ complete 65 (path ∷ []) path split.rest start (ap (λ p. is_some (node_at tree p)) split.whole ∙ parts.0) short ∙ sym both)
       (λ neither.
       false_from_ne_true _ (λ found.
-        let r = all_any (Reached path) q (levels tree 65 (path ∷ [])) (sound path 65 (path ∷ []) ((at_path, under_self path), tt)) found in
-        true≢false (sym (and_from _ _ r.0 r.1) ∙ neither)) ∙ sym neither)
+      let r = all_any (Reached path) q (levels tree 65 (path ∷ [])) (sound path 65 (path ∷ []) ((at_path, under_self path), tt)) found in
+      true≢false (sym (and_from _ _ r.0 r.1) ∙ neither)) ∙ sym neither)
       (cases_Bool (is_some (node_at tree q) && is_under q path))

@@ -19,7 +19,7 @@ use Rattle.resource_tree.proofs.Creation.{some_from, node_unique, IsGood-from}
 use Rattle.resource_tree.proofs.KidOrder.{IsDistinct-filter, list_any-other_kids}
 use Rattle.resource_tree.proofs.Reordering.{CanMove, parent_there, change_at-same}
 use Rattle.resource_tree.proofs.Under.{under_kid, under_first, under_sibling, under_own_kid}
-use Rattle.resource_tree.proofs.UnderRow.{node_at-without_under}
+use Rattle.resource_tree.proofs.Without.{node_at-without_under}
 
 turned : (b : Bool) (o : Option Node) → cond (not b) o None ≡ cond b None o
 turned true o = refl

@@ -28,7 +28,7 @@ fn place_of(sibling: &TextBuf, others: &[TextBuf]) -> Option<usize>
     others.iter().position(|kid| sibling.text() == kid.text())
 }
 
-// Behind how many of the others a kid is to stand.
+// After how many of the others a kid is to stand.
 fn place_among(place: &Place, others: &[TextBuf]) -> Option<usize>
     ensures value { result ≡ place_among place.now others.now }
     ensures within { IfSome result (λ n. n ≤ length others.now) }

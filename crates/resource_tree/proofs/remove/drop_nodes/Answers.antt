@@ -1,10 +1,8 @@
-use Rattle.std.proofs.Common.{◌≡◌, ◌∙◌, ap, sym, take, length, arith, cond, None}
+use Rattle.std.proofs.Common.{◌≡◌, ◌∙◌, ap, take, length, arith, cond, None}
 use Rattle.std.specs.List.{list_any}
 use Rattle.std.proofs.Math.Seq.{take-length}
-use Rattle.sp_base.specs.Paths.{is_under}
 use Rattle.resource_tree.specs.Content.{same_path, node_at}
-use Rattle.resource_tree.proofs.HashedUnder.{any_kept}
-use Rattle.resource_tree.proofs.UnderRow.{dropped_more, left_at, same_left}
+use Rattle.resource_tree.proofs.Without.{dropped_more, left_at, same_left}
 use Rattle.resource_tree.proofs.remove.drop_nodes.Goals as goal
 
 pub loop-below-preserved : goal.loop-below-preserved
@@ -20,7 +18,5 @@ returns-clause-after c =
     let path = c.args.path.now in
     let at_end : c.loop-below.below-index ≡ length c.args.paths.now = omega arith in
     let all : take c.loop-below.below-index c.args.paths.now ≡ c.args.paths.now = ap (λ i. take i c.args.paths.now) at_end ∙ take-length c.args.paths.now in
-    same_left path old c.requires.in_order c.loop-below.nodes.entries c.loop-below.invariant.1
-    (λ q. c.loop-below.invariant.0 q
-    ∙ ap (λ b. cond b None (node_at old q)) (ap (list_any (same_path q)) all ∙ c.requires.all q ∙ sym (any_kept (λ p. is_under p path) q old))
-    ∙ left_at path old c.requires.in_order q)
+    same_left path old c.loop-below.nodes.entries c.requires.in_order c.loop-below.invariant.1
+    (λ q. c.loop-below.invariant.0 q ∙ ap (λ b. cond b None (node_at old q)) (ap (list_any (same_path q)) all ∙ c.requires.all q) ∙ left_at path old q)

@@ -8,8 +8,7 @@ use Rattle.std.proofs.lemmas.List.{take_more}
 use Rattle.std.proofs.lemmas.List.Folds.{list_any-append}
 use Rattle.resource_tree.specs.declared.nodes.Node.{Node}
 use Rattle.resource_tree.specs.Content.{Content, IsGood, node_at, same_path, kid}
-use Rattle.content_json.specs.Paths.{begins}
-use Rattle.content_json.specs.Written.{AreProps, AreBelow, AreBelowKids}
+use Rattle.content_json.specs.Steps.{begins, AreProps, AreBelow, AreBelowKids}
 use Rattle.content_json.proofs.Under.{both, same_path_is, same_path_itself, bytes_eq_itself}
 use Rattle.content_json.proofs.KidLemmas.{or_split}
 
@@ -17,7 +16,7 @@ pub begins_append : (path rest : List (List ℕ)) → begins path (path ++ rest)
 begins_append [] rest = refl
 begins_append (s ∷ path) rest = rw (bytes_eq_itself s, begins_append path rest) refl
 
-begins_split : (path q : List (List ℕ)) → begins path q ≡ true → (rest : List (List ℕ)) × (q ≡ path ++ rest)
+pub begins_split : (path q : List (List ℕ)) → begins path q ≡ true → (rest : List (List ℕ)) × (q ≡ path ++ rest)
 begins_split [] q h = (q, refl)
 begins_split (s ∷ path) [] h = absurd (false≢true h)
 begins_split (s ∷ path) (t ∷ q) h =

@@ -1,26 +1,26 @@
--- Each kid stands once among the kids in their order, and no property has its name.
-use Rattle.std.proofs.Common.{◌≡◌, ◌≢◌, ℕ, Bool, true, false, cond, not, ◌&&◌, ◌||◌, ⊎_elim, List, [], ◌∷◌, ◌++◌, Option, Some, None, filter, if◌then◌else◌, unwrap_or, string_cmp, Less, refl, sym, ◌∙◌, subst, append_assoc}
+-- Each kid stands once among the kids in their order.
+use Rattle.std.proofs.Common.{◌≡◌, ◌≢◌, ℕ, Bool, true, false, cond, not, ◌&&◌, ◌||◌, ⊎_elim, List, [], ◌∷◌, ◌++◌, Option, Some, None, filter, if◌then◌else◌, unwrap_or, T, refl, sym, ◌∙◌}
 use Rattle.std.specs.List.{list_any, filter_map, cons_option, AllByRecursion, IsDistinct}
-use Rattle.std.specs.List.Sorted.{IsStrictlySortedBy}
-use Rattle.std.specs.Map.{keys_of}
+use Rattle.std.specs.FinMap.Entries.{is_sorted, below_all}
+use Rattle.std.specs.Ordering.{is_lt}
 use Rattle.std.specs.Option.{option_map_or}
 use Rattle.std.specs.Prelude.{option_and_then}
 use Rattle.std.specs.Str.{bytes_eq}
 use Rattle.std.specs.Cmp.Lexicographic.{same_text}
 use Rattle.std.proofs.lemmas.Bool.{cases_Bool, true≢false, false≢true}
 use Rattle.std.proofs.lemmas.Map.Keys.{IsDistinct-head, IsDistinct-tail, IsDistinct-cons}
-use Rattle.serde_json.specs.Data.{Items, no_items, item, Members}
+use Rattle.serde_json.specs.Data.{Items, no_items, item, Members, no_members, member}
 use Rattle.serde_json.specs.Find.{as_str, as_array, get_member}
-use Rattle.serde_json.specs.View.{view, members_view}
-use Rattle.serde_json.proofs.Views.{Entry}
-use Rattle.content_json.specs.Names.{order_name, is_order, is_object, is_kid, is_kid_member, kid_names}
+use Rattle.sp_base.specs.Names.{by_name}
+use Rattle.content_json.specs.Names.{order_name, is_kid, is_kid_member, kid_names}
 use Rattle.content_json.specs.Lists.{list_of}
 use Rattle.content_json.specs.Faults.{names_kids, has_good_order}
 use Rattle.content_json.specs.Nodes.{order_names, kids_of}
 use Rattle.content_json.proofs.Under.{both, bytes_eq_swapped}
 use Rattle.content_json.proofs.OrderLemmas.{false_from_not}
 use Rattle.content_json.proofs.KidLemmas.{good_items}
-use Rattle.content_json.proofs.MemberLemmas.{name_of, name_apart, before}
+use Rattle.content_json.proofs.InsertLemmas.{AreSorted, entries_of, tie_is}
+use Rattle.content_json.proofs.ReturnMembers.{first, second, less_apart}
 
 all_weaker : {A : Type 0} (P Q : A → Type 0) → ((x : A) → P x → Q x) → (xs : List A) → AllByRecursion P xs → AllByRecursion Q xs
 all_weaker P Q gives [] h = tt
@@ -96,65 +96,28 @@ order_distinct ms h = order_by (option_and_then as_array (get_member order_name 
     order_by (Some ds) is = (named_once ms [] ds (good_items ms h ds is)).0
 
 -- the kids after a member have other names
-none_after : (first : Entry) (es : List Entry) → AllByRecursion (λ y. string_cmp first.0 y ≡ Less) (keys_of es) → AllByRecursion (λ k. bytes_eq (name_of first) k ≡ false) (kid_names (members_view es))
-none_after first [] h = tt
-none_after first (e ∷ es) h =
-    let rest = none_after first es h.1 in
-    elim (is_kid_member (name_of e) (view e.1)) as (λ t. AllByRecursion (λ k. bytes_eq (name_of first) k ≡ false) (if t then name_of e ∷ kid_names (members_view es) else kid_names (members_view es))) [
-      | true ↦ (bytes_apart (name_of first) (name_of e) (name_apart first e h.0), rest)
+none_after : (name : List ℕ) (ms : Members) → T (below_all by_name name (entries_of ms)) → AllByRecursion (λ k. bytes_eq name k ≡ false) (kid_names ms)
+none_after name no_members h = tt
+none_after name (member k d ms) h =
+    let rest = none_after name ms (second (is_lt (by_name name k)) (below_all by_name name (entries_of ms)) h) in
+    let apart = sym (tie_is name k) ∙ less_apart (by_name name k) (first (is_lt (by_name name k)) (below_all by_name name (entries_of ms)) h) in
+    elim (is_kid_member k d) as (λ t. AllByRecursion (λ n. bytes_eq name n ≡ false) (if t then k ∷ kid_names ms else kid_names ms)) [
+      | true ↦ (apart, rest)
       | false ↦ rest
     ]
 
-names_distinct : (es : List Entry) → IsStrictlySortedBy string_cmp (keys_of es) → IsDistinct bytes_eq (kid_names (members_view es))
-unfolding IsStrictlySortedBy IsDistinct
-names_distinct [] h = tt
-names_distinct (e ∷ es) h =
-    let rest = names_distinct es h.1 in
-    elim (is_kid_member (name_of e) (view e.1)) as (λ t. IsDistinct bytes_eq (if t then name_of e ∷ kid_names (members_view es) else kid_names (members_view es))) [
-      | true ↦ IsDistinct-cons bytes_eq (name_of e) (kid_names (members_view es)) (none_after e es h.0) rest
+names_distinct : (ms : Members) → AreSorted ms → IsDistinct bytes_eq (kid_names ms)
+unfolding IsDistinct
+names_distinct no_members h = tt
+names_distinct (member k d ms) h =
+    let rest = names_distinct ms (second (below_all by_name k (entries_of ms)) (is_sorted by_name (entries_of ms)) h) in
+    elim (is_kid_member k d) as (λ t. IsDistinct bytes_eq (if t then k ∷ kid_names ms else kid_names ms)) [
+      | true ↦ IsDistinct-cons bytes_eq k (kid_names ms) (none_after k ms (first (below_all by_name k (entries_of ms)) (is_sorted by_name (entries_of ms)) h)) rest
       | false ↦ rest
     ]
 
 -- no kid stands twice among the kids in their order
-pub kids_distinct : (es : List Entry) → IsStrictlySortedBy string_cmp (keys_of es) → has_good_order (members_view es) ≡ true → IsDistinct bytes_eq (kids_of (members_view es))
-kids_distinct es sorted good =
-    let ms = members_view es in
+pub kids_distinct : (ms : Members) → AreSorted ms → has_good_order ms ≡ true → IsDistinct bytes_eq (kids_of ms)
+kids_distinct ms sorted good =
     let order = order_names ms in
-    distinct_append order (filter (λ name. not (list_any (bytes_eq name) order)) (kid_names ms)) (order_distinct ms good) (distinct_filter (λ name. not (list_any (bytes_eq name) order)) (kid_names ms) (names_distinct es sorted)) (others_apart order (kid_names ms))
-
-none_equal : (name : List ℕ) (names : List (List ℕ)) → AllByRecursion (λ k. bytes_eq name k ≡ false) names → list_any (bytes_eq name) names ≡ false
-none_equal name [] h = refl
-none_equal name (k ∷ names) h = rw h.0 (none_equal name names h.1)
-
-and_none : (a b : Bool) → b ≡ false → (a && b) ≡ false
-and_none true b h = h
-and_none false b h = refl
-
--- a member that is no object has no kid's name
-pub no_kid_named : (done : List Entry) (e : Entry) (more : List Entry) → IsStrictlySortedBy string_cmp (keys_of (done ++ e ∷ more)) → is_object (view e.1) ≡ false → list_any (bytes_eq (name_of e)) (kid_names (members_view (done ++ e ∷ more))) ≡ false
-unfolding IsStrictlySortedBy
-no_kid_named [] e more h other =
-    let no : is_kid_member (name_of e) (view e.1) ≡ false = and_none (not (is_order (name_of e))) (is_object (view e.1)) other in
-    rw no (none_equal (name_of e) (kid_names (members_view more)) (none_after e more h.0))
-no_kid_named (d ∷ done) e more h other =
-    let rest = no_kid_named done e more h.1 other in
-    let names = kid_names (members_view (done ++ e ∷ more)) in
-    let apart : bytes_eq (name_of e) (name_of d) ≡ false = bytes_eq_swapped (name_of e) (name_of d) ∙ bytes_apart (name_of d) (name_of e) (name_apart d e (before d done e more h.0)) in
-    elim (is_kid_member (name_of d) (view d.1)) as (λ t. list_any (bytes_eq (name_of e)) (if t then name_of d ∷ names else names) ≡ false) [
-      | true ↦ rw apart rest
-      | false ↦ rest
-    ]
-
--- no kid has the name of a property
-abbrev pub PropsApart : List Entry → List Entry → Type 0
-PropsApart all es = AllByRecursion (λ e. is_object (view e.1) ≡ false → list_any (bytes_eq (name_of e)) (kid_names (members_view all)) ≡ false) es
-
-props_apart_from : (done more : List Entry) → IsStrictlySortedBy string_cmp (keys_of (done ++ more)) → PropsApart (done ++ more) more
-props_apart_from done [] sorted = tt
-props_apart_from done (e ∷ more) sorted =
-    let same : (done ++ e ∷ []) ++ more ≡ done ++ e ∷ more = append_assoc done (e ∷ []) more in
-    let rest = props_apart_from (done ++ e ∷ []) more (subst (λ (es : List Entry). IsStrictlySortedBy string_cmp (keys_of es)) (sym same) sorted) in
-    (no_kid_named done e more sorted, subst (λ (es : List Entry). PropsApart es more) same rest)
-
-pub props_apart : (es : List Entry) → IsStrictlySortedBy string_cmp (keys_of es) → PropsApart es es
-props_apart es sorted = props_apart_from [] es sorted
+    distinct_append order (filter (λ name. not (list_any (bytes_eq name) order)) (kid_names ms)) (order_distinct ms good) (distinct_filter (λ name. not (list_any (bytes_eq name) order)) (kid_names ms) (names_distinct ms sorted)) (others_apart order (kid_names ms))

@@ -70,7 +70,7 @@ get-member q k d ms =
 abbrev pub AreSorted : Members → Type 0
 AreSorted ms = T (is_sorted by_name (entries_of ms))
 
-sorted-put : (k : List ℕ) (d : Data) (ms : Members) → AreSorted ms → AreSorted (put k d ms)
+pub sorted-put : (k : List ℕ) (d : Data) (ms : Members) → AreSorted ms → AreSorted (put k d ms)
 sorted-put k d ms h = subst (λ es. T (is_sorted by_name es)) (sym (entries_of-put k d ms)) (is_sorted-put by_name nat_list_cmp_total k d (entries_of ms) h)
 
 -- ---- what holds of each member

@@ -4,12 +4,9 @@ pub mod PathLemmas
 pub mod Under
 pub mod NodeLemmas
 pub mod KidLemmas
-pub mod PlantLemmas
 pub mod MemberLemmas
 pub mod MapLemmas
 pub mod DistinctLemmas
-pub mod ChangeLemmas
-pub mod RoomLemmas
 pub mod SizeLemmas
 pub mod JoinLemmas
 pub mod WrittenLemmas
@@ -21,3 +18,9 @@ pub mod ReturnFaults
 pub mod ReturnNodes
 pub mod ReturnPaths
 pub mod ReturnTree
+pub mod InOrder
+pub mod WayLemmas
+pub mod GoodLemmas
+pub mod LawLemmas
+pub mod FaultLemmas
+pub mod PathCount

@@ -2,23 +2,20 @@
 use Rattle.std.proofs.Common.{◌≡◌, ◌≢◌, ℕ, true, false, ⊎_elim, List, [], ◌∷◌, ◌++◌, Option, Some, None, if◌then◌else◌, string_bytes, string_cmp, nat_cmp, Less, Equal, refl, sym, ap, ◌∙◌, append_assoc}
 use Rattle.std.specs.Cmp.{tied_itself}
 use Rattle.std.specs.Cmp.Lexicographic.{slice_cmp, nat_list_cmp_total}
-use Rattle.std.specs.List.{list_any, AllByRecursion}
+use Rattle.std.specs.List.{AllByRecursion}
 use Rattle.std.specs.List.Sorted.{IsStrictlySortedBy}
 use Rattle.std.specs.Map.{keys_of}
 use Rattle.std.specs.Option.{option_or}
-use Rattle.std.specs.Str.{bytes_eq}
 use Rattle.std.proofs.lemmas.Bool.{cases_Bool}
 use Rattle.serde_json.specs.View.{view, members_view}
 use Rattle.serde_json.proofs.Views.{Entry}
 use Rattle.resource_tree.specs.declared.nodes.Node.{Node}
 use Rattle.resource_tree.specs.Content.{Content, node_at, kid}
-use Rattle.content_json.specs.Names.{is_order, is_kid_member, kid_names}
-use Rattle.content_json.specs.Nodes.{nodes_in, nodes_below, member_nodes}
-use Rattle.content_json.specs.Paths.{begins, IsFresh}
-use Rattle.content_json.specs.Planting.{with_nodes_at}
-use Rattle.content_json.proofs.Under.{begins-one, begins_itself, bytes_eq_itself}
+use Rattle.content_json.specs.Names.{is_order}
+use Rattle.content_json.specs.Nodes.{nodes_in, nodes_below}
+use Rattle.content_json.specs.Steps.{member_nodes, begins, with_nodes_at}
+use Rattle.content_json.proofs.Under.{begins-one}
 use Rattle.content_json.proofs.NodeLemmas.{node_at-append, none_in}
-use Rattle.content_json.proofs.KidLemmas.{or_left, or_right}
 
 -- the name of a member
 abbrev pub name_of : Entry → List ℕ
@@ -85,22 +82,3 @@ one_more_member tree now next path done e more sorted was made q =
     (λ below. swap (node_at (nodes_below path (members_view done)) q) (node_at (nodes_of path e) q) (node_at tree q) (none_of_done path q done e more sorted below))
     (λ apart. swap_none (node_at (nodes_below path (members_view done)) q) (node_at (nodes_of path e) q) (node_at tree q) (none_outside path q e apart))
     (cases_Bool (begins (kid path (name_of e)) q)))
-
--- where the kid of a member was fresh before the members, it is when its turn comes
-pub still_fresh : (tree now : Content) (path : List (List ℕ)) (done : List Entry) (e : Entry) (more : List Entry) → IsStrictlySortedBy string_cmp (keys_of (done ++ e ∷ more))
-    → ((q : List (List ℕ)) → node_at now q ≡ with_nodes_at tree (nodes_below path (members_view done)) q) → IsFresh (node_at tree) (kid path (name_of e)) → IsFresh (node_at now) (kid path (name_of e))
-still_fresh tree now path done e more sorted was fresh = record {
-  here = was (kid path (name_of e)) ∙ rw (none_of_done path (kid path (name_of e)) done e more sorted (begins_itself (kid path (name_of e)))) fresh.here;
-  below = λ q below apart. was q ∙ rw (none_of_done path q done e more sorted below) (fresh.below q below apart);
-}
-
--- the name of a kid is among those of the kids
-pub kid_among : (done : List Entry) (e : Entry) (more : List Entry) → is_kid_member (name_of e) (view e.1) ≡ true → list_any (bytes_eq (name_of e)) (kid_names (members_view (done ++ e ∷ more))) ≡ true
-kid_among [] e more kid = rw kid (or_left (bytes_eq (name_of e) (name_of e)) (list_any (bytes_eq (name_of e)) (kid_names (members_view more))) (bytes_eq_itself (name_of e)))
-kid_among (d ∷ done) e more kid =
-    let rest = kid_among done e more kid in
-    let names = kid_names (members_view (done ++ e ∷ more)) in
-    elim (is_kid_member (name_of d) (view d.1)) as (λ t. list_any (bytes_eq (name_of e)) (if t then name_of d ∷ names else names) ≡ true) [
-      | true ↦ or_right (bytes_eq (name_of e) (name_of d)) (list_any (bytes_eq (name_of e)) names) rest
-      | false ↦ rest
-    ]

@@ -3,7 +3,8 @@ use Rattle.std.proofs.Common.{◌≡◌, ℕ, List, Bool, true, false, not, ◌|
 use Rattle.std.specs.Option.{option_or}
 use Rattle.serde_json.specs.Data.{Data, Members, member}
 use Rattle.content_json.specs.Names.{is_order, is_plain, has_bad_name}
-use Rattle.content_json.specs.Faults.{own_fault, has_good_order, in_member, fault_in, member_fault}
+use Rattle.content_json.specs.Faults.{own_fault, has_good_order, in_member, fault_in}
+use Rattle.content_json.specs.Steps.{member_fault}
 
 split : (a b rest : Bool) → (not (a || b) || rest) ≡ false → a ≡ false → b ≡ true
 split true b rest h other = absurd (cc)

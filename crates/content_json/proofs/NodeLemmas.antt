@@ -10,7 +10,7 @@ use Rattle.resource_tree.specs.declared.nodes.Node.{Node}
 use Rattle.resource_tree.specs.Content.{Content, node_at, same_path, kid}
 use Rattle.content_json.specs.Names.{is_order, is_kid_member, kid_names}
 use Rattle.content_json.specs.Nodes.{nodes_in, nodes_below}
-use Rattle.content_json.specs.Paths.{begins}
+use Rattle.content_json.specs.Steps.{begins}
 use Rattle.content_json.proofs.Under.{same_path_is, same_path_itself, begins_itself, begins-parent, begins-not_parent}
 
 pub node_at-append : (a b : Content) (q : List (List ℕ)) → node_at (a ++ b) q ≡ option_or (node_at a q) (node_at b q)

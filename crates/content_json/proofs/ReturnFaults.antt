@@ -19,9 +19,9 @@ use Rattle.resource_tree.specs.Content as content
 use Rattle.property_json.specs.PropertyJson.{has_longs}
 use Rattle.content_json.specs.declared.fault.Cause.TheVariants.{BadName as bad_name, BadOrder as bad_order}
 use Rattle.content_json.specs.Names.{order_name, is_order, is_plain, has_bad_name, is_object, is_kid}
-use Rattle.content_json.specs.Faults.{names_kids, is_good_order, has_good_order, here, in_member, fault_in, fault_below, member_fault}
+use Rattle.content_json.specs.Faults.{names_kids, is_good_order, has_good_order, here, in_member, fault_in, fault_below}
 use Rattle.content_json.specs.Nodes.{nodes_in, is_deeper, is_deeper_below}
-use Rattle.content_json.specs.Paths.{begins}
+use Rattle.content_json.specs.Steps.{member_fault, begins}
 use Rattle.content_json.specs.Written.{has_no_colon, keeps_kind}
 use Rattle.content_json.proofs.Under.{both, bytes_eq_itself}
 use Rattle.content_json.proofs.KidLemmas.{or_left, or_right}
@@ -30,7 +30,7 @@ use Rattle.content_json.proofs.InsertLemmas.{tie_is, AllMembers}
 use Rattle.content_json.proofs.ValueLemmas.{items_from, value_faultless, value_shallow}
 use Rattle.content_json.proofs.ReturnMembers.{members_of, IsMember, prop, order, kid, get_kid, get_order_some, get_order_none}
 
--- what is read for a node at a path of a tree, no more than so many levels deep
+-- what is read for a node at a path of a tree, no more than n levels deep
 pub record Returns (tree : Content) (levels : ℕ) (path : List (List ℕ)) (d : Data) : Type 0 where
   pub is_an_object : is_object d ≡ true
   pub faultless : fault_in d ≡ None

@@ -21,7 +21,7 @@ use Rattle.sp_base.specs.declared.value.Value.{Value}
 use Rattle.resource_tree.specs.declared.nodes.Node.{Node}
 use Rattle.property_json.specs.PropertyJson.{has_longs, members_before}
 use Rattle.content_json.specs.Names.{order_name, is_order, is_plain}
-use Rattle.content_json.specs.Written.{order_before, kid_members, has_no_colon, keeps_kind}
+use Rattle.content_json.specs.Written.{order_before, kids_json, has_no_colon, keeps_kind}
 use Rattle.content_json.proofs.Under.{both, bytes_eq_itself}
 use Rattle.content_json.proofs.KidLemmas.{and_true, or_left, or_right}
 use Rattle.content_json.proofs.InsertLemmas.{tie_is, get-put, AreSorted, sorted-insert_all, AllMembers, all-insert_all, insert_all}
@@ -58,18 +58,18 @@ order_read [] ms found = refl
 order_read (k ∷ ks) ms found = ap (λ o. option_and_then (λ d. of_members ms (put order_name d found)) (option_map array o)) (texts_are (k ∷ ks))
 
 kids_read : (js : List ℕ → json.Json) (f : List ℕ → Data) (ks : List (List ℕ)) (found : Members) → ((k : List ℕ) → list_any (bytes_eq k) ks ≡ true → of_json (js k) ≡ Some (f k))
-    → of_members (kid_members js ks) found ≡ Some (insert_all (kid_entries f ks) found)
+    → of_members (kids_json js ks) found ≡ Some (insert_all (kid_entries f ks) found)
 kids_read js f [] found each = refl
 kids_read js f (k ∷ ks) found each =
-    ap (option_and_then (λ d. of_members (kid_members js ks) (put k d found))) (each k (or_left (bytes_eq k k) (list_any (bytes_eq k) ks) (bytes_eq_itself k)))
+    ap (option_and_then (λ d. of_members (kids_json js ks) (put k d found))) (each k (or_left (bytes_eq k k) (list_any (bytes_eq k) ks) (bytes_eq_itself k)))
     ∙ kids_read js f ks (put k (f k) found) (λ q h. each q (or_right (bytes_eq q k) (list_any (bytes_eq q) ks) h))
 
 pub members_read : (js : List ℕ → json.Json) (f : List ℕ → Data) (node : Node) → list_all (λ p. has_longs p.1) node.props ≡ true
     → ((k : List ℕ) → list_any (bytes_eq k) node.kids ≡ true → of_json (js k) ≡ Some (f k))
-    → of_members (members_before node.props (order_before node.kids (kid_members js node.kids))) no_members ≡ Some (members_of f node)
+    → of_members (members_before node.props (order_before node.kids (kids_json js node.kids))) no_members ≡ Some (members_of f node)
 members_read js f node longs each =
-    props_read node.props (order_before node.kids (kid_members js node.kids)) no_members longs
-    ∙ order_read node.kids (kid_members js node.kids) (insert_all (prop_entries node.props) no_members)
+    props_read node.props (order_before node.kids (kids_json js node.kids)) no_members longs
+    ∙ order_read node.kids (kids_json js node.kids) (insert_all (prop_entries node.props) no_members)
     ∙ kids_read js f node.kids (insert_all (order_entries node.kids) (insert_all (prop_entries node.props) no_members)) each
 
 pub members_sorted : (f : List ℕ → Data) (node : Node) → AreSorted (members_of f node)

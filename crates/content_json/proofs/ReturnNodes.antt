@@ -18,7 +18,7 @@ use Rattle.resource_tree.specs.Content.{Content}
 use Rattle.property_json.specs.PropertyJson.{has_longs}
 use Rattle.content_json.specs.Names.{order_name, is_order, is_object, is_kid_member, kid_names}
 use Rattle.content_json.specs.Lists.{list_of, value_of}
-use Rattle.content_json.specs.Nodes.{order_names, kids_of, add_props, node_of}
+use Rattle.content_json.specs.Nodes.{order_names, kids_of, with_member, add_props, node_of_members}
 use Rattle.content_json.specs.Written.{has_no_colon, keeps_kind}
 use Rattle.content_json.proofs.Under.{both, bytes_eq_itself}
 use Rattle.content_json.proofs.KidLemmas.{all_weaker}
@@ -30,7 +30,7 @@ use Rattle.content_json.proofs.ReturnFaults.{Node-is, order_no_kid, order_no_pro
 
 -- ---- the properties that are read
 
-get_below : (q : List ℕ) (ms : Members) → T (below_all by_name q (entries_of ms)) → get_member q ms ≡ None
+pub get_below : (q : List ℕ) (ms : Members) → T (below_all by_name q (entries_of ms)) → get_member q ms ≡ None
 get_below q no_members h = refl
 get_below q (member k d ms) h =
     get-member q k d ms
@@ -40,15 +40,11 @@ get_below q (member k d ms) h =
 find_put : (q k : List ℕ) (v : Value) (es : List (List ℕ × Value)) → find by_name q (entries.put by_name k v es) ≡ cond (bytes_eq q k) (Some v) (find by_name q es)
 find_put q k v es = find-put by_name nat_list_cmp_total q k v es ∙ ap (λ t. cond t (Some v) (find by_name q es)) (tie_is q k)
 
--- the properties with a member's value
-abbrev added : List ℕ → Data → List (List ℕ × Value) → List (List ℕ × Value)
-added name d props = if is_order name then props else option_map_or (λ value. entries.put by_name name value props) (value_of d) props
-
 -- the value that a property of this name gets, if it gets one
-abbrev read_value : List ℕ → Option Data → Option Value
+abbrev pub read_value : List ℕ → Option Data → Option Value
 read_value q o = if is_order q then None else option_and_then value_of o
 
-added_other : (q name : List ℕ) (d : Data) (props : List (List ℕ × Value)) → bytes_eq q name ≡ false → find by_name q (added name d props) ≡ find by_name q props
+added_other : (q name : List ℕ) (d : Data) (props : List (List ℕ × Value)) → bytes_eq q name ≡ false → find by_name q (with_member name d props) ≡ find by_name q props
 added_other q name d props e =
     elim (is_order name) as (λ t. find by_name q (if t then props else option_map_or (λ value. entries.put by_name name value props) (value_of d) props) ≡ find by_name q props) [
       | true ↦ refl
@@ -58,7 +54,7 @@ added_other q name d props e =
       ]
     ]
 
-added_same : (q : List ℕ) (d : Data) (props : List (List ℕ × Value)) → find by_name q (added q d props) ≡ option_or (read_value q (Some d)) (find by_name q props)
+added_same : (q : List ℕ) (d : Data) (props : List (List ℕ × Value)) → find by_name q (with_member q d props) ≡ option_or (read_value q (Some d)) (find by_name q props)
 added_same q d props =
     elim (is_order q) as (λ t. find by_name q (if t then props else option_map_or (λ value. entries.put by_name q value props) (value_of d) props) ≡ option_or (if t then None else value_of d) (find by_name q props)) [
       | true ↦ refl
@@ -71,24 +67,24 @@ added_same q d props =
 no_value : (q : List ℕ) → read_value q None ≡ None
 no_value q = elim (is_order q) as (λ t. (if t then None else option_and_then value_of None) ≡ None) [ true ↦ refl | false ↦ refl ]
 
-find_added : (ms : Members) (props : List (List ℕ × Value)) (q : List ℕ) → AreSorted ms
+pub find_added : (ms : Members) (props : List (List ℕ × Value)) (q : List ℕ) → AreSorted ms
     → find by_name q (add_props props ms) ≡ option_or (read_value q (get_member q ms)) (find by_name q props)
 find_added no_members props q sorted = sym (ap (λ o. option_or o (find by_name q props)) (no_value q))
 find_added (member name d ms) props q sorted =
     let below = first (below_all by_name name (entries_of ms)) (is_sorted by_name (entries_of ms)) sorted in
-    find_added ms (added name d props) q (second (below_all by_name name (entries_of ms)) (is_sorted by_name (entries_of ms)) sorted)
+    find_added ms (with_member name d props) q (second (below_all by_name name (entries_of ms)) (is_sorted by_name (entries_of ms)) sorted)
     ∙ ⊎_elim
     (λ e. let same : q ≡ name = same_text q name (sym e) in
     let none : get_member q ms ≡ None = ap (λ n. get_member n ms) same ∙ get_below name ms below in
-    ap (λ o. option_or (read_value q o) (find by_name q (added name d props))) none
-    ∙ ap (λ o. option_or o (find by_name q (added name d props))) (no_value q)
-    ∙ ap (λ n. find by_name q (added n d props)) (sym same) ∙ added_same q d props
+    ap (λ o. option_or (read_value q o) (find by_name q (with_member name d props))) none
+    ∙ ap (λ o. option_or o (find by_name q (with_member name d props))) (no_value q)
+    ∙ ap (λ n. find by_name q (with_member n d props)) (sym same) ∙ added_same q d props
     ∙ sym (ap (λ o. option_or (read_value q o) (find by_name q props)) (get-member q name d ms ∙ ap (λ t. cond t (Some d) (get_member q ms)) e)))
     (λ e. ap (option_or (read_value q (get_member q ms))) (added_other q name d props e)
     ∙ sym (ap (λ o. option_or (read_value q o) (find by_name q props)) (get-member q name d ms ∙ ap (λ t. cond t (Some d) (get_member q ms)) e)))
     (cases_Bool (bytes_eq q name))
 
-added_sorted : (name : List ℕ) (d : Data) (props : List (List ℕ × Value)) → T (is_sorted by_name props) → T (is_sorted by_name (added name d props))
+added_sorted : (name : List ℕ) (d : Data) (props : List (List ℕ × Value)) → T (is_sorted by_name props) → T (is_sorted by_name (with_member name d props))
 added_sorted name d props h =
     elim (is_order name) as (λ t. T (is_sorted by_name (if t then props else option_map_or (λ value. entries.put by_name name value props) (value_of d) props))) [
       | true ↦ h
@@ -100,7 +96,7 @@ added_sorted name d props h =
 
 sorted_props : (ms : Members) (props : List (List ℕ × Value)) → T (is_sorted by_name props) → T (is_sorted by_name (add_props props ms))
 sorted_props no_members props h = h
-sorted_props (member name d ms) props h = sorted_props ms (added name d props) (added_sorted name d props h)
+sorted_props (member name d ms) props h = sorted_props ms (with_member name d props) (added_sorted name d props h)
 
 object_no_value : (d : Data) → is_object d ≡ true → value_of d ≡ None
 object_no_value null h = absurd (false≢true h)
@@ -186,5 +182,5 @@ module _ {tree : Content} {levels : ℕ} {path : List (List ℕ)} {f : List ℕ 
       ap (λ names. names ++ filter (λ k. not (list_any (bytes_eq k) names)) (kid_names ms)) names_back
       ∙ ap (λ rest. node.kids ++ rest) (none_left (kid_names ms) (kids_within ms n.members)) ∙ append-nil node.kids
 
-  pub node_back : node_of (members_of f node) ≡ node
+  pub node_back : node_of_members (members_of f node) ≡ node
   node_back = ap (λ ps. record { props = ps; kids = kids_of (members_of f node) }) props_back ∙ ap (λ ks. record { props = node.props; kids = ks }) kids_back

@@ -16,8 +16,8 @@ use Rattle.resource_tree.specs.declared.nodes.Node.{Node}
 use Rattle.resource_tree.specs.Content.{Content, IsGood, node_at, same_path}
 use Rattle.resource_tree.specs.Content as content
 use Rattle.content_json.specs.Names.{order_name, is_order, is_kid_member, kid_names}
-use Rattle.content_json.specs.Nodes.{node_of, nodes_in, nodes_below, is_deeper_below}
-use Rattle.content_json.specs.Paths.{begins}
+use Rattle.content_json.specs.Nodes.{node_of_members, nodes_in, nodes_below, is_deeper_below}
+use Rattle.content_json.specs.Steps.{begins}
 use Rattle.content_json.proofs.Under.{bytes_eq_itself, same_path_is, same_path_itself, same_path_swapped, begins_itself, begins-parent, begins-one}
 use Rattle.content_json.proofs.KidLemmas.{or_left, or_right, or_split, kid_names_have}
 use Rattle.content_json.proofs.NodeLemmas.{none_unless, node_at-append, none_in, none_at_parent}
@@ -102,7 +102,7 @@ no_keys : IsDistinct same_path []
 unfolding IsDistinct
 no_keys = tt
 
--- the members behind one have no node at or below it
+-- the members after one have no node at or below it
 none_later : (path q : List (List ℕ)) (name : List ℕ) (ms : Members) → T (below_all by_name name (entries_of ms)) → begins (content.kid path name) q ≡ true → node_at (nodes_below path ms) q ≡ None
 none_later path q name no_members h under = refl
 none_later path q name (member k d ms) h under =
@@ -171,9 +171,9 @@ module _ {tree : Content} {levels : ℕ} {path : List (List ℕ)} {f : List ℕ 
   nodes_back good there q =
       ⊎_elim
       (λ e. let same : q ≡ path = same_path_is q path e in
-      ap (λ t. cond t (Some (node_of ms)) (node_at (nodes_below path ms) q)) e ∙ ap (λ m. Some m) (node_back n) ∙ sym there ∙ ap (node_at tree) (sym same)
+      ap (λ t. cond t (Some (node_of_members ms)) (node_at (nodes_below path ms) q)) e ∙ ap (λ m. Some m) (node_back n) ∙ sym there ∙ ap (node_at tree) (sym same)
       ∙ sym (ap (λ t. if t then node_at tree q else None) (ap (begins path) same ∙ begins_itself path)))
-      (λ e. ap (λ t. cond t (Some (node_of ms)) (node_at (nodes_below path ms) q)) e ∙ nodes_at ms n.members q ∙ by (node_at tree q) refl e)
+      (λ e. ap (λ t. cond t (Some (node_of_members ms)) (node_at (nodes_below path ms) q)) e ∙ nodes_at ms n.members q ∙ by (node_at tree q) refl e)
       (cases_Bool (same_path q path))
     where
       ms : Members

@@ -26,12 +26,12 @@ use Rattle.property_json.specs.PropertyJson.{items_of, json_of_long, json_of_val
 use Rattle.content_json.specs.declared.fault.ContentFault.TheVariants.{TooBig}
 use Rattle.content_json.specs.Nodes.{nodes_in, count_below, is_deeper_below}
 use Rattle.content_json.specs.ContentOf.{json_of, map_of, unless_found, content_in, content}
-use Rattle.content_json.specs.Written.{order_before, kid_members, node_before, json_at, has_no_colon, keeps_kind, is_plain_node, is_plain_tree, AreBelow}
+use Rattle.content_json.specs.Written.{order_before, kids_json, node_before, node_json, has_no_colon, keeps_kind, is_plain_node, is_plain_tree}
+use Rattle.content_json.specs.Steps.{AreBelow}
 use Rattle.content_json.proofs.Under.{both, by_path_total}
 use Rattle.content_json.proofs.KidLemmas.{and_true, all_at}
-use Rattle.content_json.proofs.MapLemmas.{is_map_of}
+use Rattle.content_json.proofs.MapLemmas.{is_map_of, length-keys}
 use Rattle.content_json.proofs.SizeLemmas.{length-nodes_in}
-use Rattle.content_json.proofs.RoomLemmas.{length-keys}
 use Rattle.content_json.proofs.WrittenLemmas.{kid_there, path_there, no_kids}
 use Rattle.content_json.proofs.ReturnMembers.{members_of, members_are, members_read}
 use Rattle.content_json.proofs.ReturnFaults.{Returns, Node-is}
@@ -40,7 +40,7 @@ use Rattle.content_json.proofs.ReturnPaths.{returns_node}
 abbrev node_or : Content → List (List ℕ) → Node
 node_or tree path = unwrap_or (node_at tree path) empty_node
 
--- what is read for a node, and for so many levels below it
+-- what is read for a node, and for n levels below it
 abbrev data_at : Content → ℕ → List (List ℕ) → Data
 data_at tree zero path = object (members_of (λ k. null) (node_or tree path))
 data_at tree (suc levels) path = object (members_of (λ k. data_at tree levels (kid path k)) (node_or tree path))
@@ -104,18 +104,18 @@ module _ (tree : Content) (good : IsGood tree) (props : AreBelow tree []) (can :
 
   node_read : (path : List (List ℕ)) (js : List ℕ → json.Json) (f : List ℕ → Data) (node : Node) → node_at tree path ≡ Some node
       → ((k : List ℕ) → list_any (bytes_eq k) node.kids ≡ true → of_json (js k) ≡ Some (f k))
-      → of_json (node_before tree path (kid_members js (kids_at tree path))) ≡ Some (object (members_of f (node_or tree path)))
+      → of_json (node_before tree path (kids_json js (kids_at tree path))) ≡ Some (object (members_of f (node_or tree path)))
   node_read path js f node there each = rw there (ap (option_map object) (members_read js f node (props path node refl there).longs each))
 
-  read_at : (levels : ℕ) (path : List (List ℕ)) (node : Node) → levels + length path ≡ 64 → node_at tree path ≡ Some node → of_json (json_at tree levels path) ≡ Some (data_at tree levels path)
-  unfolding json_at
+  read_at : (levels : ℕ) (path : List (List ℕ)) (node : Node) → levels + length path ≡ 64 → node_at tree path ≡ Some node → of_json (node_json tree levels path) ≡ Some (data_at tree levels path)
+  unfolding node_json
   read_at zero path node e there =
       let bare = no_kids tree path node good there (omega (arith, e)) in
       let none : kids_at tree path ≡ [] = ap (λ o. option_map_or (λ (m : Node). m.kids) o []) there ∙ bare in
-      ap (λ names. of_json (node_before tree path (kid_members (λ k. json.null) names))) (sym none)
+      ap (λ names. of_json (node_before tree path (kids_json (λ k. json.null) names))) (sym none)
       ∙ node_read path (λ k. json.null) (λ k. null) node there (λ k h. absurd (none_among node.kids k bare h))
   read_at (suc levels) path node e there =
-      node_read path (λ k. json_at tree levels (kid path k)) (λ k. data_at tree levels (kid path k)) node there
+      node_read path (λ k. node_json tree levels (kid path k)) (λ k. data_at tree levels (kid path k)) node there
       (λ k h. let at = found (node_at tree (kid path k)) (kid_there tree path node k good there h) in
       read_at levels (kid path k) at.0 (omega (arith, e, length-append path (k ∷ []))) at.1)
 
@@ -141,21 +141,21 @@ order_depth : (ks : List (List ℕ)) (ms : json.Members) (n : ℕ) → 1 ≤ n �
 order_depth [] ms n some h = h
 order_depth (k ∷ ks) ms n some h = omega (arith, some, h, items_flat json.string (λ x. refl) ks)
 
-kids_depth : (js : List ℕ → json.Json) (ks : List (List ℕ)) (n : ℕ) → ((k : List ℕ) → depth (js k) ≤ n) → members_depth (kid_members js ks) ≤ n
+kids_depth : (js : List ℕ → json.Json) (ks : List (List ℕ)) (n : ℕ) → ((k : List ℕ) → depth (js k) ≤ n) → members_depth (kids_json js ks) ≤ n
 kids_depth js [] n h = omega arith
 kids_depth js (k ∷ ks) n h = omega (arith, h k, kids_depth js ks n h)
 
-depth_at : (tree : Content) (levels : ℕ) (path : List (List ℕ)) → depth (json_at tree levels path) ≤ levels + 2
-unfolding json_at
+depth_at : (tree : Content) (levels : ℕ) (path : List (List ℕ)) → depth (node_json tree levels path) ≤ levels + 2
+unfolding node_json
 depth_at tree zero path =
     let node = node_or tree path in
     let within = props_depth (option_map_or (λ (m : Node). m.props) (node_at tree path) []) (order_before (kids_at tree path) json.no_members) 1 (omega arith) (order_depth (kids_at tree path) json.no_members 1 (omega arith) (omega arith)) in
     omega (arith, within)
 depth_at tree (suc levels) path =
-    let js = λ (k : List ℕ). json_at tree levels (kid path k) in
+    let js = λ (k : List ℕ). node_json tree levels (kid path k) in
     let kids = kids_depth js (kids_at tree path) (levels + 2) (λ k. depth_at tree levels (kid path k)) in
-    let within = props_depth (option_map_or (λ (m : Node). m.props) (node_at tree path) []) (order_before (kids_at tree path) (kid_members js (kids_at tree path))) (levels + 2) (omega arith)
-    (order_depth (kids_at tree path) (kid_members js (kids_at tree path)) (levels + 2) (omega arith) kids) in
+    let within = props_depth (option_map_or (λ (m : Node). m.props) (node_at tree path) []) (order_before (kids_at tree path) (kids_json js (kids_at tree path))) (levels + 2) (omega arith)
+    (order_depth (kids_at tree path) (kids_json js (kids_at tree path)) (levels + 2) (omega arith) kids) in
     omega (arith, within)
 
 -- ---- the whole
@@ -163,14 +163,14 @@ depth_at tree (suc levels) path =
 abbrev whole : Option (json.Json × List Token) → Option Data
 whole o = option_and_then of_json (option_and_then (λ p. json.if_last p.0 p.1) o)
 
-pub returns_tree : (tree : Content) (bytes : List ℕ) → IsGood tree → AreBelow tree [] → is_plain_tree tree ≡ true → tokens bytes ≡ json_tokens (json_at tree 64 []) → IsUtf8 bytes
+pub returns_tree : (tree : Content) (bytes : List ℕ) → IsGood tree → AreBelow tree [] → is_plain_tree tree ≡ true → tokens bytes ≡ json_tokens (node_json tree 64 []) → IsUtf8 bytes
     → content bytes ≡ Ok tree
 returns_tree tree bytes good props can written utf8 =
     let top = found (node_at tree []) good.shape.root in
     let ms = members_of (λ k. data_at tree 63 (kid [] k)) (node_or tree []) in
     let nodes = nodes_in [] (object ms) in
     let back : Returns tree 65 [] (object ms) = returns_at tree good props can 64 [] top.0 refl top.1 in
-    let j = json_at tree 64 [] in
+    let j = node_json tree 64 [] in
     let parsed : read bytes ≡ Some (object ms) =
     ap whole (ap (json.value max_depth) (written ∙ sym (append-nil (json_tokens j))) ∙ value-json_tokens j max_depth [] (omega (arith, depth_at tree 64 [])))
     ∙ read_at tree good props can 64 [] top.0 refl top.1 in

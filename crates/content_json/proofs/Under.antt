@@ -9,7 +9,7 @@ use Rattle.std.specs.declared.cmp.Ordering.{Ordering}
 use Rattle.std.specs.declared.cmp.Ordering.TheVariants.{Less, Equal, Greater}
 use Rattle.std.proofs.lemmas.Bool.{cases_Bool, true≢false, false≢true}
 use Rattle.resource_tree.specs.Content.{by_path, same_path, kid}
-use Rattle.content_json.specs.Paths.{begins}
+use Rattle.content_json.specs.Steps.{begins}
 
 pub by_path_total : IsTotalOrder by_path
 by_path_total = lists_total nat_list_cmp_total

@@ -11,7 +11,7 @@ use Rattle.serde_json.specs.Read.{number_of, of_json, of_items}
 use Rattle.serde_json.proofs.Numbers.{number_of-decimal, number_of-negative}
 use Rattle.sp_base.specs.declared.value.Value.{Value}
 use Rattle.sp_base.specs.declared.value.Value.TheVariants.{Text, Long, Truth, Texts, Longs, Truths}
-use Rattle.property_json.specs.PropertyJson.{is_long, has_longs, items_of, json_of_long, json_of_value}
+use Rattle.property_json.specs.PropertyJson.{fits_i64, has_longs, items_of, json_of_long, json_of_value}
 use Rattle.content_json.specs.declared.kind.Kind.TheVariants as kind
 use Rattle.content_json.specs.Names.{is_object}
 use Rattle.content_json.specs.Lists.{as_long, items_cause, list_of, value_of}
@@ -38,7 +38,7 @@ data_of (Truths bs) = array (items_from boolean bs)
 
 -- ---- reading gives this data
 
-number_is : (n : ℤ) → is_long n ≡ true → number_of (signed_decimal n) ≡ Some (of_integer n)
+number_is : (n : ℤ) → fits_i64 n ≡ true → number_of (signed_decimal n) ≡ Some (of_integer n)
 number_is (pos n) h = let lt = ltb-true n (2 ^ 63) h in number_of-decimal n (omega (arith, lt))
 number_is (negsuc n) h = number_of-negative n (ltb-true n (2 ^ 63) h)
 
@@ -46,10 +46,10 @@ pub texts_are : (ts : List (List ℕ)) → of_items (items_of json.string ts) �
 texts_are [] = refl
 texts_are (t ∷ ts) = ap (option_map (item (string t))) (texts_are ts)
 
-longs_are : (ns : List ℤ) → list_all is_long ns ≡ true → of_items (items_of json_of_long ns) ≡ Some (items_from data_of_long ns)
+longs_are : (ns : List ℤ) → list_all fits_i64 ns ≡ true → of_items (items_of json_of_long ns) ≡ Some (items_from data_of_long ns)
 longs_are [] h = refl
 longs_are (n ∷ ns) h =
-    let parts = both (is_long n) (list_all is_long ns) h in
+    let parts = both (fits_i64 n) (list_all fits_i64 ns) h in
     ap (λ o. option_and_then (λ d. option_map (item d) (of_items (items_of json_of_long ns))) (option_map number o)) (number_is n parts.0)
     ∙ ap (option_map (item (data_of_long n))) (longs_are ns parts.1)
 
@@ -67,7 +67,7 @@ value_is (Truths bs) h = ap (option_map array) (truths_are bs)
 
 -- ---- which stands for the same value
 
-long_back : (n : ℤ) → is_long n ≡ true → as_i64 (of_integer n) ≡ Some n
+long_back : (n : ℤ) → fits_i64 n ≡ true → as_i64 (of_integer n) ≡ Some n
 long_back (pos n) h = rw h refl
 long_back (negsuc n) h = refl
 
@@ -75,9 +75,9 @@ pub texts_back : (ts : List (List ℕ)) → filter_map as_str (list_of (items_fr
 texts_back [] = refl
 texts_back (t ∷ ts) = ap (λ l. t ∷ l) (texts_back ts)
 
-longs_back : (ns : List ℤ) → list_all is_long ns ≡ true → filter_map as_long (list_of (items_from data_of_long ns)) ≡ ns
+longs_back : (ns : List ℤ) → list_all fits_i64 ns ≡ true → filter_map as_long (list_of (items_from data_of_long ns)) ≡ ns
 longs_back [] h = refl
-longs_back (n ∷ ns) h = let parts = both (is_long n) (list_all is_long ns) h in rw (long_back n parts.0) (ap (λ l. n ∷ l) (longs_back ns parts.1))
+longs_back (n ∷ ns) h = let parts = both (fits_i64 n) (list_all fits_i64 ns) h in rw (long_back n parts.0) (ap (λ l. n ∷ l) (longs_back ns parts.1))
 
 truths_back : (bs : List Bool) → filter_map as_bool (list_of (items_from boolean bs)) ≡ bs
 truths_back [] = refl
@@ -100,9 +100,9 @@ no_cause_texts : (ts : List (List ℕ)) → items_cause kind.Text (items_from st
 no_cause_texts [] = refl
 no_cause_texts (t ∷ ts) = no_cause_texts ts
 
-no_cause_longs : (ns : List ℤ) → list_all is_long ns ≡ true → items_cause kind.Long (items_from data_of_long ns) ≡ None
+no_cause_longs : (ns : List ℤ) → list_all fits_i64 ns ≡ true → items_cause kind.Long (items_from data_of_long ns) ≡ None
 no_cause_longs [] h = refl
-no_cause_longs (n ∷ ns) h = let parts = both (is_long n) (list_all is_long ns) h in rw (long_back n parts.0) (no_cause_longs ns parts.1)
+no_cause_longs (n ∷ ns) h = let parts = both (fits_i64 n) (list_all fits_i64 ns) h in rw (long_back n parts.0) (no_cause_longs ns parts.1)
 
 no_cause_truths : (bs : List Bool) → items_cause kind.Truth (items_from boolean bs) ≡ None
 no_cause_truths [] = refl

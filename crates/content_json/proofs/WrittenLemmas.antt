@@ -12,12 +12,13 @@ use Rattle.json.specs.Tree.{json_tokens, members_tokens}
 use Rattle.json.specs.Print.{print}
 use Rattle.json.specs.Written.{Written}
 use Rattle.sp_base.specs.Paths.{is_path, seg_ok}
+use Rattle.sp_base.specs.declared.value.Value.{Value}
 use Rattle.resource_tree.specs.declared.nodes.Node.{Node}
 use Rattle.resource_tree.specs.Content.{Content, IsGood, node_at, kid}
 use Rattle.resource_tree.specs.Changes.{kids_at}
-use Rattle.property_json.specs.PropertyJson.{Adds, property_tokens}
-use Rattle.property_json.proofs.ArrayLemmas.{members_are}
-use Rattle.content_json.specs.Written.{order_before, kid_members, node_before, json_at, written, order_tokens, whole_at, kids_tokens}
+use Rattle.property_json.specs.PropertyJson.{Adds, members_before, property_tokens}
+use Rattle.content_json.specs.Written.{order_before, kids_json, node_before, node_json, tree_text}
+use Rattle.content_json.specs.Steps.{order_tokens, whole_at, kid_tokens}
 use Rattle.content_json.proofs.Under.{bytes_eq_itself}
 use Rattle.content_json.proofs.KidLemmas.{or_left, or_right}
 
@@ -80,37 +81,41 @@ order_are [] ms = refl
 order_are (name ∷ names) ms = refl
 
 kids_are : (tree : Content) (path : List (List ℕ)) (levels : ℕ) → levels ≡ 64 - (length path + 1) → (names : List (List ℕ))
-    → members_tokens (kid_members (λ name. json_at tree levels (kid path name)) names) ≡ kids_tokens tree path names ++ Token.end_object ∷ []
+    → members_tokens (kids_json (λ name. node_json tree levels (kid path name)) names) ≡ kid_tokens tree path names ++ Token.end_object ∷ []
 kids_are tree path levels e [] = refl
 kids_are tree path levels e (name ∷ names) =
     let js = json_tokens (whole_at tree (kid path name)) in
     let same : levels ≡ 64 - length (kid path name) = omega (arith, e, length-append path (name ∷ [])) in
-    ap (λ l. Token.key name ∷ (json_tokens (json_at tree l (kid path name)) ++ members_tokens (kid_members (λ n. json_at tree levels (kid path n)) names))) same
+    ap (λ l. Token.key name ∷ (json_tokens (node_json tree l (kid path name)) ++ members_tokens (kids_json (λ n. node_json tree levels (kid path n)) names))) same
     ∙ ap (λ ts. Token.key name ∷ (js ++ ts)) (kids_are tree path levels e names)
-    ∙ ap (λ ts. Token.key name ∷ ts) (sym (append_assoc js (kids_tokens tree path names) (Token.end_object ∷ [])))
+    ∙ ap (λ ts. Token.key name ∷ ts) (sym (append_assoc js (kid_tokens tree path names) (Token.end_object ∷ [])))
 
--- the tokens of a node, in front of those of its kids
-before_are : (tree : Content) (path : List (List ℕ)) (node : Node) (ms : Members) → node_at tree path ≡ Some node
+-- properties come first among members: a law of `property_json`
+abbrev pub ComeFirst : Type 0
+ComeFirst = (props : List (List ℕ × Value)) (ms : Members) → members_tokens (members_before props ms) ≡ property_tokens props ++ members_tokens ms
+
+-- the tokens of a node, before those of its kids
+before_are : ComeFirst → (tree : Content) (path : List (List ℕ)) (node : Node) (ms : Members) → node_at tree path ≡ Some node
     → json_tokens (node_before tree path ms) ≡ Token.begin_object ∷ (property_tokens node.props ++ (order_tokens node.kids ++ members_tokens ms))
-before_are tree path node ms there =
-    rw there (ap (λ ts. Token.begin_object ∷ ts) (members_are node.props (order_before node.kids ms) ∙ ap (λ ts. property_tokens node.props ++ ts) (order_are node.kids ms)))
+before_are law tree path node ms there =
+    rw there (ap (λ ts. Token.begin_object ∷ ts) (law node.props (order_before node.kids ms) ∙ ap (λ ts. property_tokens node.props ++ ts) (order_are node.kids ms)))
 
 -- around the tokens of the kids
 abbrev node_around : Node → List Token → List Token
 node_around node ts = Token.begin_object ∷ (property_tokens node.props ++ (order_tokens node.kids ++ ts))
 
 -- of a node and all below it
-pub node_tokens : (tree : Content) (path : List (List ℕ)) (node : Node) → IsGood tree → node_at tree path ≡ Some node
-    → json_tokens (whole_at tree path) ≡ Token.begin_object ∷ (property_tokens node.props ++ (order_tokens node.kids ++ (kids_tokens tree path node.kids ++ Token.end_object ∷ [])))
-unfolding json_at
-node_tokens tree path node good there = by (64 - length path) refl
+pub node_tokens : ComeFirst → (tree : Content) (path : List (List ℕ)) (node : Node) → IsGood tree → node_at tree path ≡ Some node
+    → json_tokens (whole_at tree path) ≡ Token.begin_object ∷ (property_tokens node.props ++ (order_tokens node.kids ++ (kid_tokens tree path node.kids ++ Token.end_object ∷ [])))
+unfolding node_json
+node_tokens law tree path node good there = by (64 - length path) refl
   where
-    by : (levels : ℕ) → 64 - length path ≡ levels → json_tokens (json_at tree levels path) ≡ node_around node (kids_tokens tree path node.kids ++ Token.end_object ∷ [])
+    by : (levels : ℕ) → 64 - length path ≡ levels → json_tokens (node_json tree levels path) ≡ node_around node (kid_tokens tree path node.kids ++ Token.end_object ∷ [])
     by zero e =
         let none = no_kids tree path node good there (omega (arith, e)) in
-        before_are tree path node no_members there ∙ ap (λ names. node_around node (kids_tokens tree path names ++ Token.end_object ∷ [])) (sym none)
+        before_are law tree path node no_members there ∙ ap (λ names. node_around node (kid_tokens tree path names ++ Token.end_object ∷ [])) (sym none)
     by (suc levels) e =
-        before_are tree path node (kid_members (λ name. json_at tree levels (kid path name)) (kids_at tree path)) there
+        before_are law tree path node (kids_json (λ name. node_json tree levels (kid path name)) (kids_at tree path)) there
         ∙ ap (node_around node) (rw there (kids_are tree path levels (omega (arith, e)) node.kids))
 
 -- ---- what was written
@@ -124,9 +129,9 @@ token old new t e b = record { tokens = e; before = b }
 pub more : (old mid new : Written) (ts us : List Token) → Adds old mid ts → Adds mid new us → Adds old new (ts ++ us)
 more old mid new ts us a b = record { tokens = b.tokens ∙ ap (λ l. l ++ us) a.tokens ∙ append_assoc old.tokens ts us; before = b.before ∙ a.before }
 
--- the tokens of one more kid stand behind those of the kids so far
+-- the tokens of one more kid stand after those of the kids so far
 pub kids_more : (tree : Content) (path items names : List (List ℕ)) (i : ℕ) (name : List ℕ) → items ≡ names → i < length items → name ≡ get_or items i name
-    → kids_tokens tree path (take (i + 1) names) ≡ kids_tokens tree path (take i names) ++ (Token.key name ∷ json_tokens (whole_at tree (kid path name)))
+    → kid_tokens tree path (take (i + 1) names) ≡ kid_tokens tree path (take i names) ++ (Token.key name ∷ json_tokens (whole_at tree (kid path name)))
 kids_more tree path items names i name same lt is =
     let f = λ (n : List ℕ). Token.key n ∷ json_tokens (whole_at tree (kid path n)) in
     ap (λ ns. flat_map f (take (i + 1) ns)) (sym same)
@@ -137,6 +142,6 @@ pub root_missing : (tree : Content) (place : List (List ℕ)) → IsGood tree �
 root_missing tree place good at none = false≢true (ap is_some none ∙ ap (λ p. is_some (node_at tree p)) at ∙ good.shape.root)
 
 -- the text in an empty buffer
-pub text_is : (tree : Content) (start end : Written) → start.tokens ≡ [] → Adds start end (json_tokens (whole_at tree [])) → print end.tokens ≡ written tree
-unfolding written
+pub text_is : (tree : Content) (start end : Written) → start.tokens ≡ [] → Adds start end (json_tokens (whole_at tree [])) → print end.tokens ≡ tree_text tree
+unfolding tree_text
 text_is tree start end none a = ap print (a.tokens ∙ ap (λ ts. ts ++ json_tokens (whole_at tree [])) none)

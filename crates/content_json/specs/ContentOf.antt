@@ -1,6 +1,7 @@
 -- The content that bytes stand for, or the first fault that they have.
-use Rattle.std.specs.Prelude.{ℕ, suc, List, [], ◌∷◌, Bool, ◌||◌, nat_lt, if◌then◌else◌, Option, Some, None, Result, Ok, Err}
+use Rattle.std.specs.Prelude.{ℕ, suc, List, [], ◌∷◌, length, Bool, ◌||◌, nat_lt, if◌then◌else◌, Option, Some, None, Result, Ok, Err}
 use Rattle.std.specs.FinMap.Entries.{put}
+use Rattle.std.specs.List.{list_any}
 use Rattle.std.specs.Str.{is_utf8}
 use Rattle.serde_json.specs.Data.{Data, null, boolean, number, string, array, object, Members}
 use Rattle.serde_json.specs.Read.{read}
@@ -31,6 +32,10 @@ refused_by cause.BadOrder path = BadOrder path
 abbrev pub map_of : Content → Content
 map_of [] = []
 map_of (e ∷ nodes) = put by_path e.0 e.1 (map_of nodes)
+
+-- so it is, by the paths of the tree: more than 200,000 of them, or one of more than 64 segments
+abbrev pub exceeds_limits : Content → Bool
+exceeds_limits tree = nat_lt 200000 (length tree) || list_any (λ e. nat_lt 64 (length e.0)) tree
 
 -- a fault is told before the size is looked at
 abbrev pub unless_found : Option Found → Members → Result Content ContentFault

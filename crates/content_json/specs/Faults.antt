@@ -35,6 +35,15 @@ in_member name f = record { cause = f.cause; place = take 64 (name ∷ f.place) 
 abbrev pub own_fault : Members → Option Found
 own_fault ms = if has_bad_name ms then Some (here BadName) else (if has_good_order ms then None else Some (here BadOrder))
 
+-- what a value has against itself, whatever its members have
+abbrev pub own_cause : Data → Option Cause
+own_cause null = None
+own_cause (boolean b) = None
+own_cause (number n) = if is_some (as_i64 n) then None else Some BadNumber
+own_cause (string s) = None
+own_cause (array ds) = array_cause ds
+own_cause (object ms) = option_map (λ found. found.cause) (own_fault ms)
+
 -- the first fault of a value, and of the members of an object
 abbrev mutual
   pub fault_in : Data → Option Found
@@ -48,7 +57,3 @@ abbrev mutual
   pub fault_below : Members → Option Found
   fault_below no_members = None
   fault_below (member name d ms) = option_or (if is_order name then None else option_map (in_member name) (fault_in d)) (fault_below ms)
-
--- the first fault of a member
-abbrev pub member_fault : List ℕ → Data → Option Found
-member_fault name d = if is_order name then None else option_map (in_member name) (fault_in d)

@@ -2,7 +2,7 @@ pub mod Names
 pub mod Lists
 pub mod Faults
 pub mod Nodes
-pub mod Paths
-pub mod Planting
+pub mod Ways
 pub mod ContentOf
 pub mod Written
+pub mod Steps

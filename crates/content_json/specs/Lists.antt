@@ -11,13 +11,13 @@ use Rattle.content_json.specs.declared.fault.Cause.TheVariants.{BadNumber, Mixed
 use Rattle.content_json.specs.declared.kind.Kind.{Kind}
 use Rattle.content_json.specs.declared.kind.Kind.TheVariants as kind
 
-abbrev pub kind_of : Data → Option Kind
-kind_of null = None
-kind_of (boolean b) = Some kind.Truth
-kind_of (number n) = Some kind.Long
-kind_of (string s) = Some kind.Text
-kind_of (array ds) = None
-kind_of (object ms) = None
+abbrev pub item_kind : Data → Option Kind
+item_kind null = None
+item_kind (boolean b) = Some kind.Truth
+item_kind (number n) = Some kind.Long
+item_kind (string s) = Some kind.Text
+item_kind (array ds) = None
+item_kind (object ms) = None
 
 abbrev pub is_of : Kind → Data → Bool
 is_of kind.Text d = is_some (as_str d)
@@ -43,7 +43,7 @@ items_cause k (item d ds) = option_or (item_cause k d) (items_cause k ds)
 -- an array is of the kind of its first item
 abbrev pub array_cause : Items → Option Cause
 array_cause no_items = None
-array_cause (item d ds) = option_map_or (λ k. items_cause k (item d ds)) (kind_of d) (Some MixedArray)
+array_cause (item d ds) = option_map_or (λ k. items_cause k (item d ds)) (item_kind d) (Some MixedArray)
 
 abbrev pub list_of : Items → List Data
 list_of no_items = []
@@ -54,10 +54,14 @@ list_value kind.Text ds = Texts (filter_map as_str (list_of ds))
 list_value kind.Long ds = Longs (filter_map as_long (list_of ds))
 list_value kind.Truth ds = Truths (filter_map as_bool (list_of ds))
 
+-- the kind of the first item
+abbrev pub first_kind : Items → Option Kind
+first_kind no_items = None
+first_kind (item d ds) = item_kind d
+
 -- an array without items is one of texts
 abbrev pub array_value : Items → Value
-array_value no_items = Texts []
-array_value (item d ds) = option_map_or (λ k. list_value k (item d ds)) (kind_of d) (Texts [])
+array_value ds = option_map_or (λ k. list_value k ds) (first_kind ds) (Texts [])
 
 -- the value of a property; `null` is none, and an object is a kid
 abbrev pub value_of : Data → Option Value

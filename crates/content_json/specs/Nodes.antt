@@ -24,13 +24,17 @@ order_names ms = filter_map as_str (list_of (order_items ms))
 abbrev pub kids_of : Members → List (List ℕ)
 kids_of ms = order_names ms ++ filter (λ name. not (list_any (bytes_eq name) (order_names ms))) (kid_names ms)
 
+-- the properties, and a member's value under its name
+abbrev pub with_member : List ℕ → Data → List (List ℕ × Value) → List (List ℕ × Value)
+with_member name d props = if is_order name then props else option_map_or (λ value. put by_name name value props) (value_of d) props
+
 -- the properties, and each member's value under its name
 abbrev pub add_props : List (List ℕ × Value) → Members → List (List ℕ × Value)
 add_props props no_members = props
-add_props props (member name d ms) = add_props (if is_order name then props else option_map_or (λ value. put by_name name value props) (value_of d) props) ms
+add_props props (member name d ms) = add_props (with_member name d props) ms
 
-abbrev pub node_of : Members → Node
-node_of ms = record { props = add_props [] ms; kids = kids_of ms }
+abbrev pub node_of_members : Members → Node
+node_of_members ms = record { props = add_props [] ms; kids = kids_of ms }
 
 -- the nodes of a value at a path, and of the members of the object there: each node before those below it
 abbrev mutual
@@ -40,15 +44,11 @@ abbrev mutual
   nodes_in path (number n) = []
   nodes_in path (string s) = []
   nodes_in path (array ds) = []
-  nodes_in path (object ms) = (path, node_of ms) ∷ nodes_below path ms
+  nodes_in path (object ms) = (path, node_of_members ms) ∷ nodes_below path ms
 
   pub nodes_below : List (List ℕ) → Members → Content
   nodes_below path no_members = []
   nodes_below path (member name d ms) = (if is_order name then [] else nodes_in (kid path name) d) ++ nodes_below path ms
-
--- the nodes of a member of the object at a path
-abbrev pub member_nodes : List (List ℕ) → List ℕ → Data → Content
-member_nodes path name d = if is_order name then [] else nodes_in (kid path name) d
 
 -- how many nodes a value has, and the members of an object
 abbrev mutual
@@ -64,7 +64,7 @@ abbrev mutual
   count_below no_members = 0
   count_below (member name d ms) = (if is_order name then 0 else count_in d) + count_below ms
 
--- a node stands more than so many levels below
+-- a node stands more than n levels below
 abbrev mutual
   pub is_deeper : ℕ → Data → Bool
   is_deeper levels null = false

@@ -1,3 +1,4 @@
+// Why content is refused.
 use sp_base::{NoMemory, Path};
 use std::alloc::{AllocError, AllocFailed};
 

@@ -1,6 +1,7 @@
+// What is against the items of an array.
 ghost use Rattle.std.specs.Prelude.{◌≡◌, IfOk, Some, option_map};
 ghost use Rattle.serde_json.specs.View.{view, items_view};
-ghost use Rattle.content_json.specs.Lists.{kind_of, is_of, item_cause, items_cause, array_cause, as_long};
+ghost use Rattle.content_json.specs.Lists.{item_kind, is_of, item_cause, items_cause, array_cause, as_long};
 
 use crate::fault::Cause;
 use serde_json::Value;
@@ -13,8 +14,8 @@ pub(crate) enum Kind {
     Truth,
 }
 
-pub(crate) fn kind_of(value: &Value) -> Option<Kind>
-    ensures { result ≡ kind_of (view value.now) }
+pub(crate) fn item_kind(value: &Value) -> Option<Kind>
+    ensures { result ≡ item_kind (view value.now) }
 {
     match value {
         Value::Bool(_) => Some(Kind::Truth),
@@ -64,7 +65,7 @@ pub(crate) fn array_cause(items: &[Value]) -> Option<Cause>
     let Some(first) = items.first() else {
         return None;
     };
-    match kind_of(first) {
+    match item_kind(first) {
         Some(kind) => items_cause(kind, items),
         None => Some(Cause::MixedArray),
     }

@@ -3,16 +3,21 @@
 
 mod fault;
 mod kind;
+mod laws;
 mod measure;
 mod names;
 mod order;
-mod plant;
 mod read;
 mod search;
 mod values;
+mod walk;
 mod write;
 
 pub use fault::ContentFault;
+pub use laws::{
+    a_fault_is_at_its_place, content_is_a_tree, members_lead_to_nodes, no_fault_without_a_cause,
+    other_kids_in_byte_order, paths_decide_the_size,
+};
 pub use read::read_tree;
 pub use write::write_tree;
 

@@ -6,8 +6,7 @@ ghost use Rattle.content_json.specs.Nodes.{count_below, is_deeper_below};
 use crate::names::is_order;
 use serde_json::{Map, Value};
 
-/// How many nodes there may be beside those of the members, of so many in all. There is no answer where
-/// they have more.
+/// How many of `most` nodes are left beside those of the members. There is no answer where they have more.
 pub(crate) fn room_beside(members: &Map<String, Value>, most: usize) -> Option<usize>
     ensures { result ≡ (if nat_le (count_below (members_view members.now.entries)) most then Some (most - count_below (members_view members.now.entries)) else None) }
 {
@@ -25,7 +24,7 @@ pub(crate) fn room_beside(members: &Map<String, Value>, most: usize) -> Option<u
     Some(left)
 }
 
-/// Whether a node stands more than so many levels below.
+/// Whether a node stands more than `levels` levels below.
 pub(crate) fn is_deeper_below(members: &Map<String, Value>, levels: usize) -> bool
     ensures { result ≡ is_deeper_below levels (members_view members.now.entries) }
 {

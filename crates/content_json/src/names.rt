@@ -1,3 +1,4 @@
+// Which names of members may stand in content, and which members are kids.
 ghost use Rattle.std.specs.Prelude.{◌≡◌};
 ghost use Rattle.serde_json.specs.View.{view, members_view};
 ghost use Rattle.content_json.specs.Names.{is_order, is_plain, has_bad_name, is_object, is_kid};

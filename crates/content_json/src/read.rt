@@ -1,3 +1,4 @@
+// Reads content: the JSON, its first fault, its size, and then its nodes.
 ghost use Rattle.std.specs.Prelude.{◌≡◌, ◌≢◌, None, Some, Ok, Err, [], false, IfOk, IfErr};
 ghost use Rattle.serde_json.specs.Data.{object};
 ghost use Rattle.serde_json.specs.View.{view, members_view};
@@ -8,12 +9,13 @@ ghost use Rattle.content_json.specs.ContentOf.{json_of, is_too_big, refused_by, 
 use crate::ContentFault;
 use crate::fault::{Cause, Found};
 use crate::measure::{is_deeper_below, room_beside};
-use crate::plant::plant;
-use crate::search::fault_in;
-use resource_tree::Tree;
+use crate::search::object_fault;
+use crate::walk::add_nodes;
+use resource_tree::{NodeMap, Tree};
 use serde_json::{Map, Value};
 use sp_base::{Mem, Path};
 use std::alloc::Global;
+use std::hash::RandomState;
 
 /// The most nodes that content may have, the root among them.
 const MOST_NODES: usize = 200_000;
@@ -26,21 +28,21 @@ const MOST_LEVELS: usize = 64;
 /// `null` is nothing. The member `:order` names the kids that come first; the others follow in the order of
 /// their bytes. Of several faults the first is told: in an object its names, then `:order`, then its
 /// members in the order of their bytes, each with all below it; the size is looked at last.
-pub fn read_tree(alloc: Global, bytes: &[u8]) -> Result<Tree, ContentFault>
+pub fn read_tree(alloc: Global, seeds: RandomState, bytes: &[u8]) -> Result<Tree, ContentFault>
     ensures ok { IfOk result (λ tree. content bytes.now ≡ Ok tree) }
     ensures err { IfErr result (λ fault. fault ≢ ContentFault.NoMemory → content bytes.now ≡ Err fault) }
 {
-    let json = json_of(alloc, bytes)?;
-    let Value::Object(members) = &json else {
+    let Value::Object(members) = json_of(alloc, bytes)? else {
         return Err(ContentFault::NotObject);
     };
-    if let Some(found) = fault_in(alloc, &json)? {
+    if let Some(found) = object_fault(alloc, &members)? {
         return Err(refused_by(found));
     }
-    if is_too_big(members) {
+    if is_too_big(&members) {
         return Err(ContentFault::TooBig);
     }
-    Ok(built(alloc, members)?)
+    let nodes = nodes_of(alloc, seeds, members)?;
+    Ok(Tree::of(nodes))
 }
 
 // The JSON that the bytes are.
@@ -78,15 +80,15 @@ fn is_too_big(members: &Map<String, Value>) -> bool
     room_beside(members, MOST_NODES - 1).is_none() || is_deeper_below(members, MOST_LEVELS)
 }
 
-// The tree of an object without a fault.
-fn built(alloc: Global, members: &Map<String, Value>) -> Mem<Tree>
-    requires faultless { fault_in (object (members_view members.now.entries)) ≡ None }
-    requires small { is_too_big (members_view members.now.entries) ≡ false }
-    ensures { IfOk result (λ tree. tree ≡ map_of (nodes_in [] (object (members_view members.now.entries)))) }
+// The nodes of an object without a fault.
+fn nodes_of(alloc: Global, seeds: RandomState, members: Map<String, Value>) -> Mem<NodeMap>
+    requires faultless { fault_in (object (members_view members.entries)) ≡ None }
+    requires small { is_too_big (members_view members.entries) ≡ false }
+    ensures { IfOk result (λ nodes. nodes ≡ map_of (nodes_in [] (object (members_view members.entries)))) }
 {
-    let mut tree = Tree::new(alloc)?;
-    plant(alloc, &mut tree, &Path::root(alloc), members)?;
-    // `len` says that the nodes stand in the order of their paths, so that equal look-ups make equal trees.
-    let _ = tree.len();
-    Ok(tree)
+    let mut nodes = NodeMap::new(alloc, seeds);
+    add_nodes(alloc, &mut nodes, Path::root(alloc), members)?;
+    // `len` says that the nodes stand in the order of their paths, so that equal look-ups make equal maps.
+    let _ = nodes.len();
+    Ok(nodes)
 }

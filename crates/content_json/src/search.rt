@@ -1,6 +1,7 @@
 // The first fault of content: in an object its names, then `:order`, then its members in the order of
 // their names' bytes, each with all below it.
 ghost use Rattle.std.specs.Prelude.{◌≡◌, ◌∷◌, IfOk, IsTrue, false, take};
+ghost use Rattle.serde_json.specs.Data.{object};
 ghost use Rattle.serde_json.specs.View.{view, members_view};
 ghost use Rattle.content_json.specs.Names.{has_bad_name, is_plain};
 ghost use Rattle.content_json.specs.Faults.{own_fault, fault_in, fault_below, in_member, here};
@@ -9,7 +10,7 @@ use crate::fault::{Cause, Found};
 use crate::kind::array_cause;
 use crate::names::{has_bad_name, is_order};
 use crate::order::has_good_order;
-use crate::plant::kid_path;
+use crate::walk::kid_path;
 use serde_json::{Map, Value};
 use sp_base::{Mem, NoMemory, Path, PathFault};
 use std::alloc::Global;
@@ -24,7 +25,7 @@ fn here(alloc: Global, cause: Cause) -> Found
 }
 
 // The one fault that is left where a path may be made.
-fn want_of_memory(fault: PathFault) -> NoMemory
+fn out_of_memory(fault: PathFault) -> NoMemory
     requires { fault ≡ PathFault.NoMemory }
 {
     match fault {
@@ -33,8 +34,8 @@ fn want_of_memory(fault: PathFault) -> NoMemory
     }
 }
 
-// A name, and behind it the first segments of a path, as many as fit.
-fn behind_name(alloc: Global, name: &str, path: &Path) -> Mem<Path>
+// A name, and after it the first segments of a path, as many as fit.
+fn after_name(alloc: Global, name: &str, path: &Path) -> Mem<Path>
     requires { IsTrue (is_plain name.now) }
     ensures { IfOk result (λ made. made ≡ take 64 (name.now ∷ path.now)) }
 {
@@ -44,7 +45,7 @@ fn behind_name(alloc: Global, name: &str, path: &Path) -> Mem<Path>
     let _ = rest.depth();
     match top.join(alloc, &rest) {
         Ok(made) => Ok(made),
-        Err(fault) => Err(want_of_memory(fault)),
+        Err(fault) => Err(out_of_memory(fault)),
     }
 }
 
@@ -55,7 +56,7 @@ fn in_member(alloc: Global, name: &str, found: &Found) -> Mem<Found>
 {
     Ok(Found {
         cause: found.cause,
-        place: behind_name(alloc, name, &found.place)?,
+        place: after_name(alloc, name, &found.place)?,
     })
 }
 
@@ -72,9 +73,9 @@ fn own_fault(alloc: Global, members: &Map<String, Value>) -> Mem<Option<Found>>
     }
 }
 
-/// The first fault of a value.
+// The first fault of a value.
 #[cycle(fault)]
-pub(crate) fn fault_in(alloc: Global, value: &Value) -> Mem<Option<Found>>
+fn fault_in(alloc: Global, value: &Value) -> Mem<Option<Found>>
     ensures { IfOk result (λ found. found ≡ fault_in (view value.now)) }
 {
     match value {
@@ -90,10 +91,18 @@ pub(crate) fn fault_in(alloc: Global, value: &Value) -> Mem<Option<Found>>
             Some(cause) => Ok(Some(here(alloc, cause))),
             None => Ok(None),
         },
-        Value::Object(members) => match own_fault(alloc, members)? {
-            Some(found) => Ok(Some(found)),
-            None => fault_below(alloc, members),
-        },
+        Value::Object(members) => object_fault(alloc, members),
+    }
+}
+
+/// The first fault of an object.
+#[cycle(fault)]
+pub(crate) fn object_fault(alloc: Global, members: &Map<String, Value>) -> Mem<Option<Found>>
+    ensures { IfOk result (λ found. found ≡ fault_in (object (members_view members.now.entries))) }
+{
+    match own_fault(alloc, members)? {
+        Some(found) => Ok(Some(found)),
+        None => fault_below(alloc, members),
     }
 }
 

@@ -1,7 +1,9 @@
+// Each fault, nodes that are read, texts that are written, and the limits.
 use crate::{ContentFault, read_tree, write_tree};
 use resource_tree::Tree;
 use sp_base::{Mem, NoMemory, Path, Value};
 use std::alloc::Global;
+use std::hash::RandomState;
 use std::test::Fail;
 
 // A fault's name, and its path.
@@ -13,8 +15,8 @@ fn told(alloc: Global, name: &str, path: &Path) -> Mem<String> {
 }
 
 // How content is refused, or that it reads.
-fn answer(alloc: Global, content: &[u8]) -> Mem<String> {
-    match read_tree(alloc, content) {
+fn answer(alloc: Global, seeds: RandomState, content: &[u8]) -> Mem<String> {
+    match read_tree(alloc, seeds, content) {
         Ok(_) => Ok(String::from_str(alloc, "reads")?),
         Err(ContentFault::NotJson) => Ok(String::from_str(alloc, "NotJson")?),
         Err(ContentFault::NotObject) => Ok(String::from_str(alloc, "NotObject")?),
@@ -68,12 +70,13 @@ null => NotObject
 
 #[test]
 fn tells_the_first_fault(rt: HostRuntime) -> Result<(), Fail> {
+    let seeds = RandomState::new(&rt)?;
     for row in FAULTS.lines() {
         let (content, want) = row.split_once(" => ").ok_or("a bad row")?;
-        let got = answer(rt.alloc(), content.as_bytes()).or(Err("no memory"))?;
+        let got = answer(rt.alloc(), seeds, content.as_bytes()).or(Err("no memory"))?;
         assert_eq!(rt; got.as_str(), want, "at {content}");
     }
-    let not_text = answer(rt.alloc(), b"{\"a\":\"\xff\"}").or(Err("no memory"))?;
+    let not_text = answer(rt.alloc(), seeds, b"{\"a\":\"\xff\"}").or(Err("no memory"))?;
     assert_eq!(rt; not_text.as_str(), "NotJson");
     Ok(())
 }
@@ -140,10 +143,11 @@ const NODES: &str =
 
 #[test]
 fn reads_nodes(rt: HostRuntime) -> Result<(), Fail> {
+    let seeds = RandomState::new(&rt)?;
     for row in NODES.lines() {
         let (content, more) = row.split_once(" at ").ok_or("a bad row")?;
         let (path, want) = more.split_once(" => ").ok_or("a bad row")?;
-        let Ok(tree) = read_tree(rt.alloc(), content.as_bytes()) else {
+        let Ok(tree) = read_tree(rt.alloc(), seeds, content.as_bytes()) else {
             return Err(Fail::from("refused"));
         };
         let got = node_text(rt.alloc(), &tree, path).or(Err("no memory"))?;
@@ -153,8 +157,8 @@ fn reads_nodes(rt: HostRuntime) -> Result<(), Fail> {
 }
 
 // The text that the tree of a content is written as.
-fn rewritten(alloc: Global, content: &str) -> Mem<String> {
-    let Ok(tree) = read_tree(alloc, content.as_bytes()) else {
+fn rewritten(alloc: Global, seeds: RandomState, content: &str) -> Mem<String> {
+    let Ok(tree) = read_tree(alloc, seeds, content.as_bytes()) else {
         return Err(NoMemory);
     };
     let written = write_tree(alloc, &tree)?;
@@ -175,17 +179,18 @@ const WRITTEN: &str = r#"{} => {}
 
 #[test]
 fn writes_what_it_reads(rt: HostRuntime) -> Result<(), Fail> {
+    let seeds = RandomState::new(&rt)?;
     for row in WRITTEN.lines() {
         let (content, want) = row.split_once(" => ").ok_or("a bad row")?;
         for text in [content, want] {
-            let got = rewritten(rt.alloc(), text).or(Err("refused"))?;
+            let got = rewritten(rt.alloc(), seeds, text).or(Err("refused"))?;
             assert_eq!(rt; got.as_str(), want, "at {text}");
         }
     }
     Ok(())
 }
 
-// An object with so many objects in one another, and a text in the inmost.
+// Objects in one another, `levels` deep, and a text in the inmost.
 fn nested(alloc: Global, levels: usize, inmost: &str) -> Mem<String> {
     let mut text = String::new(alloc);
     for _ in 0..levels {
@@ -198,7 +203,7 @@ fn nested(alloc: Global, levels: usize, inmost: &str) -> Mem<String> {
     Ok(text)
 }
 
-// The root, and so many kids.
+// The root and its kids.
 fn broad(alloc: Global, kids: usize) -> Mem<String> {
     let mut text = String::from_str(alloc, "{\"p\":1")?;
     for kid in 0..kids {
@@ -210,6 +215,7 @@ fn broad(alloc: Global, kids: usize) -> Mem<String> {
 
 #[test]
 fn keeps_the_limits(rt: HostRuntime) -> Result<(), Fail> {
+    let seeds = RandomState::new(&rt)?;
     for (levels, want) in [
         (64, "reads"),
         (65, "TooBig"),
@@ -217,15 +223,15 @@ fn keeps_the_limits(rt: HostRuntime) -> Result<(), Fail> {
         (127, "NotJson"),
     ] {
         let content = nested(rt.alloc(), levels, "{}").or(Err("no memory"))?;
-        let got = answer(rt.alloc(), content.as_bytes()).or(Err("no memory"))?;
+        let got = answer(rt.alloc(), seeds, content.as_bytes()).or(Err("no memory"))?;
         assert_eq!(rt; got.as_str(), want, "at {levels} levels");
     }
     let deep = nested(rt.alloc(), 70, "1.5").or(Err("no memory"))?;
-    let got = answer(rt.alloc(), deep.as_bytes()).or(Err("no memory"))?;
+    let got = answer(rt.alloc(), seeds, deep.as_bytes()).or(Err("no memory"))?;
     assert_eq!(rt; got.len(), 10 + 2 * 64, "the path is cut to 64 segments");
     for (kids, want) in [(199_999, "reads"), (200_000, "TooBig")] {
         let content = broad(rt.alloc(), kids).or(Err("no memory"))?;
-        let got = answer(rt.alloc(), content.as_bytes()).or(Err("no memory"))?;
+        let got = answer(rt.alloc(), seeds, content.as_bytes()).or(Err("no memory"))?;
         assert_eq!(rt; got.as_str(), want, "at {kids} kids");
     }
     Ok(())

@@ -5,11 +5,12 @@ ghost use Rattle.sp_base.specs.Paths.{is_path};
 ghost use Rattle.resource_tree.specs.Content.{IsGood, kid, node_at};
 ghost use Rattle.property_json.specs.PropertyJson.{Adds};
 ghost use Rattle.content_json.specs.ContentOf.{content};
-ghost use Rattle.content_json.specs.Written.{is_plain_tree, order_tokens, whole_at, kids_tokens, written, AreBelow, AreBelowKids};
+ghost use Rattle.content_json.specs.Written.{is_plain_tree, tree_text};
+ghost use Rattle.content_json.specs.Steps.{order_tokens, whole_at, kid_tokens, AreBelow, AreBelowKids};
 
 use crate::names::ORDER;
 use json::Writer;
-use property_json::{write_properties, write_texts};
+use property_json::{properties_come_first, write_properties, write_texts};
 use resource_tree::{Node, Tree};
 use sp_base::{ByteBuf, Mem, NoMemory, Path, PathFault, TextList};
 use std::alloc::{AllocError, Global};
@@ -37,7 +38,7 @@ fn write_order(writer: &mut Writer, kids: &TextList) -> Result<(), AllocError>
     write_texts(writer, kids)
 }
 
-// Writes a node and all below it. After want of memory some of it may be written.
+// Writes a node and all below it. Out of memory, some of it may be written.
 #[cycle(writing)]
 fn write_node(alloc: Global, tree: &Tree, writer: &mut Writer, path: &Path, node: &Node) -> Mem<()>
     requires good { IsGood tree.now }
@@ -45,6 +46,7 @@ fn write_node(alloc: Global, tree: &Tree, writer: &mut Writer, path: &Path, node
     ensures tokens { OnOk result (Adds writer.old writer.new (json_tokens (whole_at tree.now path.now))) }
     ensures props { OnOk result (AreBelow tree.now path.now) }
 {
+    properties_come_first();
     writer.begin_object()?;
     write_properties(writer, &node.props)?;
     write_order(writer, &node.kids)?;
@@ -58,7 +60,7 @@ fn write_node(alloc: Global, tree: &Tree, writer: &mut Writer, path: &Path, node
 fn write_kids(alloc: Global, tree: &Tree, writer: &mut Writer, path: &Path, node: &Node) -> Mem<()>
     requires good { IsGood tree.now }
     requires there { node_at tree.now path.now ≡ Some node.now }
-    ensures tokens { OnOk result (Adds writer.old writer.new (kids_tokens tree.now path.now node.now.kids)) }
+    ensures tokens { OnOk result (Adds writer.old writer.new (kid_tokens tree.now path.now node.now.kids)) }
     ensures props { OnOk result (AreBelowKids tree.now path.now node.now.kids) }
 {
     for name in node.kids.as_slice() {
@@ -75,7 +77,7 @@ fn write_kids(alloc: Global, tree: &Tree, writer: &mut Writer, path: &Path, node
 /// the member `:order` with the names of all kids in their order, then the kids in that order. Reading that gives the same tree,
 /// if no name in it begins with `:` and no list of numbers or truths is empty.
 pub fn write_tree(alloc: Global, tree: &Tree) -> Mem<ByteBuf>
-    ensures value { IfOk result (λ bytes. bytes ≡ written tree.now) }
+    ensures value { IfOk result (λ bytes. bytes ≡ tree_text tree.now) }
     ensures read_back { IfOk result (λ bytes. is_plain_tree tree.now ≡ true → content bytes ≡ Ok tree.now) }
 {
     // `len` says that the tree is good: the root is there, and each kid.

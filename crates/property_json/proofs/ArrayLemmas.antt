@@ -12,7 +12,7 @@ use Rattle.json.specs.Tree.{json_tokens, items_tokens, members_tokens}
 use Rattle.json.specs.Print.{print}
 use Rattle.json.specs.Written.{Written}
 use Rattle.sp_base.specs.declared.value.Value.{Value}
-use Rattle.property_json.specs.PropertyJson.{is_long, Adds, items_of, json_of_value, members_before, property_tokens, properties_text}
+use Rattle.property_json.specs.PropertyJson.{fits_i64, Adds, items_of, json_of_value, members_before, property_tokens, properties_text}
 
 items_are : {A : Type 0} (f : A → Json) (xs : List A) → items_tokens (items_of f xs) ≡ flat_map (λ x. json_tokens (f x)) xs ++ Token.end_array ∷ []
 items_are f [] = refl
@@ -20,7 +20,7 @@ items_are f (x ∷ xs) =
     ap (λ ts. json_tokens (f x) ++ ts) (items_are f xs)
     ∙ sym (append_assoc (json_tokens (f x)) (flat_map (λ y. json_tokens (f y)) xs) (Token.end_array ∷ []))
 
--- so many items of an array were written, behind its bracket
+-- n items of an array were written, after its bracket
 pub record Wrote {A : Type 0} (f : A → Json) (old mid : Written) (n : ℕ) (xs : List A) : Type 0 where
   pub tokens : mid.tokens ≡ old.tokens ++ (Token.begin_array ∷ flat_map (λ x. json_tokens (f x)) (take n xs))
   pub before : mid.before ≡ old.before
@@ -96,7 +96,7 @@ no_place {A} (x ∷ xs) i e lt = cc (e, slice_get-get_or (x ∷ xs) i x lt)
 
 -- ---- numbers of 64 bits
 
-pub long_is : (n : ℤ) → SFits w64 n → is_long n ≡ true
+pub long_is : (n : ℤ) → SFits w64 n → fits_i64 n ≡ true
 long_is (pos n) fits = lt-ltb n (2 ^ 63) (grind arith)
 long_is (negsuc n) fits = lt-ltb n (2 ^ 63) (grind arith)
 

@@ -1,3 +1,4 @@
+-- The JSON of a value, and of properties as members of an object (RFC 8259).
 use Rattle.std.specs.Prelude.{◌≡◌, ◌++◌, ◌^◌, ℕ, ℤ, pos, negsuc, Bool, true, nat_lt, List, [], ◌∷◌}
 use Rattle.std.specs.List.{list_all}
 use Rattle.std.specs.Fmt.{signed_decimal}
@@ -27,20 +28,20 @@ json_of_value (Longs ns) = array (items_of json_of_long ns)
 json_of_value (Truths bs) = array (items_of boolean bs)
 
 -- a number of 64 bits with a sign
-abbrev pub is_long : ℤ → Bool
-is_long (pos n) = nat_lt n (2 ^ 63)
-is_long (negsuc n) = nat_lt n (2 ^ 63)
+abbrev pub fits_i64 : ℤ → Bool
+fits_i64 (pos n) = nat_lt n (2 ^ 63)
+fits_i64 (negsuc n) = nat_lt n (2 ^ 63)
 
 -- each number in a value is one of 64 bits
 abbrev pub has_longs : Value → Bool
 has_longs (Text t) = true
-has_longs (Long n) = is_long n
+has_longs (Long n) = fits_i64 n
 has_longs (Truth b) = true
 has_longs (Texts ts) = true
-has_longs (Longs ns) = list_all is_long ns
+has_longs (Longs ns) = list_all fits_i64 ns
 has_longs (Truths bs) = true
 
--- the properties as members, in front of further members
+-- the properties as members, before further members
 abbrev pub members_before : List (List ℕ × Value) → Members → Members
 members_before [] ms = ms
 members_before ((name, value) ∷ props) ms = member name (json_of_value value) (members_before props ms)

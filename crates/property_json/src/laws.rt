@@ -5,7 +5,7 @@ ghost use Rattle.json.specs.Tree.{members_tokens};
 ghost use Rattle.sp_base.specs.declared.value.Value.{Value};
 ghost use Rattle.property_json.specs.PropertyJson.{members_before, property_tokens};
 
-/// The tokens of an object's members are those of its properties, and then those of the members behind them.
+/// The tokens of an object's members are those of its properties, and then those of the members after them.
 pub fn properties_come_first()
     ensures { (props : List (List ℕ × Value)) (members : Members) → members_tokens (members_before props members)
         ≡ property_tokens props ++ members_tokens members }

@@ -1,3 +1,4 @@
+// A property of each kind, written.
 use super::*;
 use sp_base::{LongList, PropList, TextBuf, TextList, TruthList, Value};
 use std::test::Fail;

@@ -1,16 +1,17 @@
+// Writes values and properties as JSON.
 ghost use Rattle.std.specs.Prelude.{◌≡◌, IfOk, OnOk, T, true};
 ghost use Rattle.std.specs.FinMap.Entries.{is_sorted};
 ghost use Rattle.std.specs.List.{list_all};
 ghost use Rattle.json.specs.Json.{boolean, string, array};
 ghost use Rattle.json.specs.Tree.{json_tokens};
 ghost use Rattle.sp_base.specs.Names.{by_name};
-ghost use Rattle.property_json.specs.PropertyJson.{is_long, has_longs, Adds, items_of, json_of_long, json_of_value, property_tokens, properties_text};
+ghost use Rattle.property_json.specs.PropertyJson.{fits_i64, has_longs, Adds, items_of, json_of_long, json_of_value, property_tokens, properties_text};
 
 use json::Writer;
 use sp_base::{LongList, Mem, PropList, TextBuf, TextList, TruthList, Value};
 use std::alloc::{AllocError, Global};
 
-/// Writes an array of texts. After want of memory some of it may be written.
+/// Writes an array of texts. Out of memory, some of it may be written.
 pub fn write_texts(writer: &mut Writer, texts: &TextList) -> Result<(), AllocError>
     ensures { OnOk result (Adds writer.old writer.new (json_tokens (array (items_of string texts.now)))) }
 {
@@ -25,14 +26,14 @@ pub fn write_texts(writer: &mut Writer, texts: &TextList) -> Result<(), AllocErr
 // Writes a number, which is one of 64 bits.
 fn write_long(writer: &mut Writer, number: i64) -> Result<(), AllocError>
     ensures tokens { OnOk result (Adds writer.old writer.new (json_tokens (json_of_long number))) }
-    ensures long { is_long number ≡ true }
+    ensures long { fits_i64 number ≡ true }
 {
     writer.i64(number)
 }
 
 fn write_longs(writer: &mut Writer, numbers: &LongList) -> Result<(), AllocError>
     ensures tokens { OnOk result (Adds writer.old writer.new (json_tokens (array (items_of json_of_long numbers.now)))) }
-    ensures longs { OnOk result (list_all is_long numbers.now ≡ true) }
+    ensures longs { OnOk result (list_all fits_i64 numbers.now ≡ true) }
 {
     writer.begin_array()?;
     for number in numbers.as_slice() {
@@ -53,7 +54,7 @@ fn write_truths(writer: &mut Writer, truths: &TruthList) -> Result<(), AllocErro
     Ok(())
 }
 
-/// Writes a value. After want of memory some of it may be written.
+/// Writes a value. Out of memory, some of it may be written.
 pub fn write_value(writer: &mut Writer, value: &Value) -> Result<(), AllocError>
     ensures tokens { OnOk result (Adds writer.old writer.new (json_tokens (json_of_value value.now))) }
     ensures longs { OnOk result (has_longs value.now ≡ true) }
@@ -68,7 +69,7 @@ pub fn write_value(writer: &mut Writer, value: &Value) -> Result<(), AllocError>
     }
 }
 
-/// Writes properties as members, without the braces. After want of memory some of them may be written.
+/// Writes properties as members, without the braces. Out of memory, some of them may be written.
 pub fn write_properties(writer: &mut Writer, props: &PropList) -> Result<(), AllocError>
     ensures tokens { OnOk result (Adds writer.old writer.new (property_tokens props.now)) }
     ensures longs { OnOk result (list_all (λ p. has_longs p.1) props.now ≡ true) }

@@ -4,7 +4,7 @@ use Rattle.json.specs.Token.{Token}
 use Rattle.json.specs.Tree.{json_tokens}
 use Rattle.resource_tree.specs.Content.{kid}
 use Rattle.property_json.specs.PropertyJson.{Adds, property_tokens}
-use Rattle.content_json.specs.Written.{order_tokens, whole_at, kids_tokens, AreBelow, AreBelowKids}
+use Rattle.content_json.specs.Steps.{order_tokens, whole_at, kid_tokens, AreBelow, AreBelowKids}
 use Rattle.content_json.proofs.BelowLemmas.{all_below, kid_below}
 use Rattle.content_json.proofs.WrittenLemmas.{among_items, kid_there, none_missing, path_there, node_tokens, token, more, kids_more}
 use Rattle.content_json.proofs.write.+writing.Goals as goal
@@ -28,7 +28,7 @@ write_kids-loop-name-preserved t c =
     let name = c.name-item.result in
     let old = c.args.writer.now in
     let mid = c.loop-name.writer in
-    let front = kids_tokens tree path (take i names) in
+    let front = kid_tokens tree path (take i names) in
     let items = c.as_slice-name-items.result.now in
     let same = c.as_slice-name-items.ensures in
     let place = c.in_ok-kid.ensures ∙ ap (kid path) c.text.ensures in
@@ -41,7 +41,7 @@ write_kids-loop-name-preserved t c =
           let written : Adds old new (front ++ (Token.key name ∷ js)) =
           more old mid new front (Token.key name ∷ js) c.loop-name.invariant.0
           (more mid w.key.new.self new (Token.key name ∷ []) js (token mid w.key.new.self (Token.key name) key w.in_ok-key.ensures.room.0) below) in (
-            subst (λ end. Adds old end (kids_tokens tree path (take (i + 1) names))) (sym w.writer-is)
+            subst (λ end. Adds old end (kid_tokens tree path (take (i + 1) names))) (sym w.writer-is)
                 (subst (Adds old new) (sym (kids_more tree path items names i name same (omega arith) c.name-item.is)) written),
             kid_below tree path items names i name same (omega arith) c.name-item.is c.loop-name.invariant.1 (subst (AreBelow tree) place w.in_ok-write_node.ensures.props),
           )
@@ -60,11 +60,11 @@ write_node-returns t c =
     let deep = c.write_kids.new.writer in
     let end = c.end_object.new.self in
     let last = Token.end_object ∷ [] in
-    let ks = kids_tokens tree path node.kids in
+    let ks = kid_tokens tree path node.kids in
     let os = order_tokens node.kids in
     let ps = property_tokens node.props in
     record {
-      tokens = subst (Adds old end) (sym (node_tokens tree path node c.requires.good c.requires.there))
+      tokens = subst (Adds old end) (sym (node_tokens c.properties_come_first.ensures tree path node c.requires.good c.requires.there))
           (more old begun end (Token.begin_object ∷ []) (ps ++ (os ++ (ks ++ last))) (token old begun Token.begin_object c.in_ok-begin_object.ensures.ok c.in_ok-begin_object.ensures.room.0)
           (more begun mid end ps (os ++ (ks ++ last)) c.in_ok-write_properties.ensures.tokens
           (more mid low end os (ks ++ last) c.in_ok-write_order.ensures
@@ -79,6 +79,6 @@ write_kids-returns t c =
     let i = c.loop-name.name-index in
     let all : take i names ≡ names = take_all i names (subst (λ ns. length ns ≤ i) c.as_slice-name-items.ensures c.loop-name-test.false) in
     record {
-      tokens = subst (λ ns. Adds c.args.writer.now c.loop-name.writer (kids_tokens c.args.tree.now c.args.path.now ns)) all c.loop-name.invariant.0;
+      tokens = subst (λ ns. Adds c.args.writer.now c.loop-name.writer (kid_tokens c.args.tree.now c.args.path.now ns)) all c.loop-name.invariant.0;
       props = subst (AreBelowKids c.args.tree.now c.args.path.now) all c.loop-name.invariant.1;
     }

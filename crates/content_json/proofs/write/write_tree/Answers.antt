@@ -3,7 +3,7 @@ use Rattle.json.specs.Lex.{tokens}
 use Rattle.json.specs.Print.{print}
 use Rattle.json.specs.Tree.{json_tokens}
 use Rattle.property_json.specs.PropertyJson.{Adds}
-use Rattle.content_json.specs.Written.{whole_at, AreBelow}
+use Rattle.content_json.specs.Steps.{whole_at, AreBelow}
 use Rattle.content_json.proofs.ReturnTree.{returns_tree}
 use Rattle.content_json.proofs.WrittenLemmas.{root_missing, text_is}
 use Rattle.content_json.proofs.write.write_tree.Goals as goal

@@ -1,0 +1,68 @@
+-- What proofs and private functions need: the steps of reading and of writing.
+use Rattle.std.specs.Prelude.{◌≡◌, ◌-◌, ◌&&◌, ℕ, List, [], ◌∷◌, Bool, true, false, T, Option, Some, None, option_map, if◌then◌else◌, flat_map, length}
+use Rattle.std.specs.FinMap.Entries.{is_sorted}
+use Rattle.std.specs.List.{list_all, list_any}
+use Rattle.std.specs.Option.{option_or}
+use Rattle.std.specs.Str.{bytes_eq}
+use Rattle.json.specs.Json as json
+use Rattle.json.specs.Token.{Token}
+use Rattle.json.specs.Tree.{json_tokens}
+use Rattle.serde_json.specs.Data.{Data}
+use Rattle.sp_base.specs.Names.{by_name}
+use Rattle.sp_base.specs.declared.value.Value.{Value}
+use Rattle.resource_tree.specs.declared.nodes.Node.{Node}
+use Rattle.resource_tree.specs.Content.{Content, node_at, kid}
+use Rattle.property_json.specs.PropertyJson.{items_of, has_longs}
+use Rattle.content_json.specs.declared.fault.Found.{Found}
+use Rattle.content_json.specs.Names.{order_name, is_order}
+use Rattle.content_json.specs.Faults.{in_member, fault_in}
+use Rattle.content_json.specs.Nodes.{nodes_in}
+use Rattle.content_json.specs.Written.{node_json}
+
+-- the second path begins with the first
+abbrev pub begins : List (List ℕ) → List (List ℕ) → Bool
+begins [] q = true
+begins (s ∷ path) [] = false
+begins (s ∷ path) (t ∷ q) = bytes_eq s t && begins path q
+
+-- ---- reading
+
+-- the first fault of a member
+abbrev pub member_fault : List ℕ → Data → Option Found
+member_fault name d = if is_order name then None else option_map (in_member name) (fault_in d)
+
+-- the nodes of a member of the object at a path
+abbrev pub member_nodes : List (List ℕ) → List ℕ → Data → Content
+member_nodes path name d = if is_order name then [] else nodes_in (kid path name) d
+
+-- the node at a path of a tree with other nodes added
+abbrev pub with_nodes_at : Content → Content → List (List ℕ) → Option Node
+with_nodes_at tree nodes q = option_or (node_at nodes q) (node_at tree q)
+
+-- ---- writing
+
+-- the tokens of `:order`
+abbrev pub order_tokens : List (List ℕ) → List Token
+order_tokens [] = []
+order_tokens (name ∷ names) = Token.key order_name ∷ json_tokens (json.array (items_of json.string (name ∷ names)))
+
+-- the node at a path, and all below it
+abbrev pub whole_at : Content → List (List ℕ) → json.Json
+whole_at tree path = node_json tree (64 - length path) path
+
+-- the tokens of kids of these names
+abbrev pub kid_tokens : Content → List (List ℕ) → List (List ℕ) → List Token
+kid_tokens tree path names = flat_map (λ name. Token.key name ∷ json_tokens (whole_at tree (kid path name))) names
+
+-- properties in the order of their names, whose numbers are of 64 bits
+pub record AreProps (props : List (List ℕ × Value)) : Type 0 where
+  pub sorted : T (is_sorted by_name props)
+  pub longs : list_all (λ p. has_longs p.1) props ≡ true
+
+-- so are those of each node at a path or below it
+abbrev pub AreBelow : Content → List (List ℕ) → Type 0
+AreBelow tree path = (q : List (List ℕ)) (node : Node) → begins path q ≡ true → node_at tree q ≡ Some node → AreProps node.props
+
+-- and at or below one of these kids
+abbrev pub AreBelowKids : Content → List (List ℕ) → List (List ℕ) → Type 0
+AreBelowKids tree path names = (name : List ℕ) → list_any (bytes_eq name) names ≡ true → AreBelow tree (kid path name)

@@ -1,7 +1,7 @@
-ghost use Rattle.std.specs.Prelude.{◌≡◌, IfOk};
+ghost use Rattle.std.specs.Prelude.{◌≡◌, ◌≤◌, ◌+◌, ℕ, List, true, length, IfOk};
 ghost use Rattle.resource_tree.specs.Seen.{res_at};
 ghost use Rattle.url_split.specs.Split.{split_of};
-ghost use Rattle.sp_base.specs.Paths.{text_of};
+ghost use Rattle.sp_base.specs.Paths.{is_under, parent_of, text_of};
 ghost use Rattle.publisher.specs.Rendering.{has_node, split_answer, resource_answer, rendered};
 
 use crate::errors::error_answer;
@@ -95,4 +95,21 @@ impl Known for Publisher {
     fn has(&self, _alloc: Global, path: &Path) -> Mem<bool> {
         Ok(self.tree.node(path).is_some())
     }
+
+    fn reach(&self, alloc: Global, path: &Path) -> Mem<usize> {
+        deepest_node(alloc, &self.tree, path)
+    }
+}
+
+// The number of segments of the deepest node at a path or above it: below it no node is the last of its line.
+fn deepest_node(alloc: Global, tree: &Tree, path: &Path) -> Mem<usize>
+    ensures { IfOk result (λ n. (other : List (List ℕ)) → has_node tree.now other ≡ true → is_under path.now (parent_of other) ≡ true → length other ≤ n + 1) }
+{
+    // `len` says that the parent of each node is there.
+    let _ = tree.len();
+    let mut depth = path.depth();
+    while depth > 0 && tree.node(&path.first(alloc, depth)?).is_none() {
+        depth -= 1;
+    }
+    Ok(depth)
 }

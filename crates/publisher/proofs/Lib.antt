@@ -2,3 +2,4 @@ pub mod PhraseLemmas
 pub mod DepthLemmas
 pub mod ChoiceLemmas
 pub mod RenderingLemmas
+pub mod ReachLemmas

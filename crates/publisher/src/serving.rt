@@ -107,9 +107,11 @@ fn deepest_node(alloc: Global, tree: &Tree, path: &Path) -> Mem<usize>
 {
     // `len` says that the parent of each node is there.
     let _ = tree.len();
-    let mut depth = path.depth();
-    while depth > 0 && tree.node(&path.first(alloc, depth)?).is_none() {
-        depth -= 1;
+    let depth = path.depth();
+    for missing in 0..depth {
+        if tree.node(&path.first(alloc, depth - missing)?).is_some() {
+            return Ok(depth - missing);
+        }
     }
-    Ok(depth)
+    Ok(0)
 }

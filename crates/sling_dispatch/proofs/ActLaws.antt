@@ -2,7 +2,8 @@ use Rattle.std.proofs.Common.{◌≡◌, ◌≢◌, ◌++◌, ◌&&◌, ℕ, Boo
 use Rattle.std.proofs.lemmas.Bool.Decides.{nat_tests}
 use Rattle.std.specs.List.{list_all}
 use Rattle.sling_dispatch.specs.Lines.{newlines, joined}
-use Rattle.sling_dispatch.specs.Scenario.{is_visible, act_line, IsAct, act_lines, Acts}
+use Rattle.sling_dispatch.specs.Scenario.{is_visible, act_line, IsAct, act_lines}
+use Rattle.sling_dispatch.specs.Reading.{Acts}
 use Rattle.sling_dispatch.specs.declared.scenario.Act.{Act}
 use Rattle.sling_dispatch.specs.declared.scenario.Act.TheVariants.{Do}
 use Rattle.sling_dispatch.specs.declared.scenario.Step.TheVariants.{Direct}
@@ -30,7 +31,7 @@ newlines-act_line (Do (Direct target)) ok =
 pub act_is_not_end : (act : Act) → act_line act ≡ codes "end" → ⊥
 act_is_not_end (Do (Direct target)) e = cc
 
--- behind an act come acts
+-- after an act come acts
 pub behind_act : (act : Act) → IsAct act → (r : List ℕ) → Acts (act_line act ++ 10 ∷ r) → Acts r
 behind_act act ok r ([], oks, e) =
     absurd (act_is_not_end act (one_first_line (act_line act) (codes "end") r [] (newlines-act_line act ok) refl e).0)

@@ -1,9 +1,9 @@
 use Rattle.std.proofs.Common.{◌≡◌, ◌≢◌, ◌+◌, ◌≤◌, ◌++◌, ℕ, List, [], ◌∷◌, codes, sym, ◌∙◌, ap, subst, refl, arith, length, take, drop, append_assoc, length-append, ⊎_elim}
 use Rattle.std.proofs.lemmas.List.{take_at, drop_at}
-use Rattle.sling_dispatch.specs.Lines.{newlines, joined, AreLines, FirstLine, Lacks}
+use Rattle.sling_dispatch.specs.Lines.{newlines, joined, AreLines}
 use Rattle.sling_dispatch.specs.Languages.{IsRefused}
-use Rattle.sling_dispatch.specs.Scenario.{AreActs, AreBlock, act_lines, Acts, Spells, IsScenario}
-use Rattle.sling_dispatch.specs.Reading.{SpellsBody, IsBody, IsContent, EndsBlock, Refuses, shifted}
+use Rattle.sling_dispatch.specs.Scenario.{AreActs, AreBlock, act_lines, Spells, IsScenario}
+use Rattle.sling_dispatch.specs.Reading.{SpellsBody, IsBody, IsContent, EndsBlock, Refuses, shifted, FirstLine, Lacks, Acts}
 use Rattle.sling_dispatch.specs.declared.scenario.ScenarioFault.{ScenarioFault}
 use Rattle.sling_dispatch.specs.declared.scenario.ScenarioFault.TheVariants.{Line, NoMemory}
 use Rattle.sling_dispatch.specs.declared.scenario.Act.{Act}
@@ -11,7 +11,7 @@ use Rattle.sling_dispatch.specs.declared.scenario.Scenario.{Scenario}
 use Rattle.sling_dispatch.proofs.LineLaws.{newlines-append, one_first_line}
 use Rattle.sling_dispatch.proofs.Refusals.{refused_line, refused_end}
 use Rattle.sling_dispatch.proofs.ActLaws.{no_acts}
-use Rattle.sling_dispatch.proofs.ReadingActs.{behind_line}
+use Rattle.sling_dispatch.proofs.ReadingActs.{after_line}
 
 pub joined-append : (a b : List (List ℕ)) → joined (a ++ b) ≡ joined a ++ joined b
 joined-append [] b = refl
@@ -57,14 +57,14 @@ bodies_have_newline text one b =
     let e = ap newlines (b.1.text_is ∙ joined-append b.1.block (codes "." ∷ act_lines b.0.acts)) in
     absurd (omega (arith, e, one, newlines-append (joined b.1.block) (joined (codes "." ∷ act_lines b.0.acts))))
 
--- the reader has passed some lines of a block
-pub record PassedBlock (text rest : List ℕ) (passed : ℕ) : Type 0 where
+-- the reader has before some lines of a block
+pub record PassedBlock (text rest : List ℕ) (before : ℕ) : Type 0 where
   pub block : List (List ℕ)
   pub lines : AreLines block
   pub no_dot : AreBlock block
   pub text_is : text ≡ joined block ++ rest
-  pub refused : (n : ℕ) → IsRefused IsBody rest n → IsRefused IsBody text (passed + n)
-  pub small : passed ≤ length (joined block)
+  pub refused : (n : ℕ) → IsRefused IsBody rest n → IsRefused IsBody text (before + n)
+  pub small : before ≤ length (joined block)
 
 pub block_none : (text : List ℕ) → PassedBlock text text 0
 block_none text = record {
@@ -84,9 +84,9 @@ dots_push : (block : List (List ℕ)) (line : List ℕ) → AreBlock block → l
 dots_push [] line a b = (b, tt)
 dots_push (l ∷ block) line a b = (a.0, dots_push block line a.1 b)
 
-pub block_line : (text rest line after : List ℕ) (passed : ℕ) → PassedBlock text rest passed → FirstLine rest line after → line ≢ codes "."
-    → PassedBlock text after (passed + 1)
-block_line text rest line after passed p f other =
+pub block_line : (text rest line after : List ℕ) (before : ℕ) → PassedBlock text rest before → FirstLine rest line after → line ≢ codes "."
+    → PassedBlock text after (before + 1)
+block_line text rest line after before p f other =
     let more : joined (p.block ++ line ∷ []) ≡ joined p.block ++ (line ++ 10 ∷ []) = joined-append p.block (line ∷ []) in
     record {
       block = p.block ++ line ∷ [];
@@ -95,17 +95,17 @@ block_line text rest line after passed p f other =
       text_is = p.text_is ∙ ap (λ t. joined p.block ++ t) (f.is ∙ sym (append_assoc line (10 ∷ []) after))
           ∙ sym (append_assoc (joined p.block) (line ++ 10 ∷ []) after) ∙ ap (λ t. t ++ after) (sym more);
       refused = λ n h.
-          let r = behind_line IsBody IsBody line after n f.one (behind_block_line line f.one other) (before_block_line line f.one other)
+          let r = after_line IsBody IsBody line after n f.one (behind_block_line line f.one other) (before_block_line line f.one other)
           (joined (codes "." ∷ act_lines [])) some_body h in
-          let r1 : IsRefused IsBody text (passed + (1 + n)) = p.refused (1 + n) (subst (λ t. IsRefused IsBody t (1 + n)) (sym f.is) r) in
-          let count : passed + (1 + n) ≡ passed + 1 + n = omega arith in
+          let r1 : IsRefused IsBody text (before + (1 + n)) = p.refused (1 + n) (subst (λ t. IsRefused IsBody t (1 + n)) (sym f.is) r) in
+          let count : before + (1 + n) ≡ before + 1 + n = omega arith in
           subst (λ k. IsRefused IsBody text k) count r1;
       small = omega (arith, p.small, ap length more, length-append (joined p.block) (line ++ 10 ∷ []), length-append line (10 ∷ []));
     }
 
-pub block_ends : (text rest line after : List ℕ) (passed at : ℕ) → PassedBlock text rest passed → FirstLine rest line after → line ≡ 46 ∷ []
-    → at + length rest ≡ length text → EndsBlock text at passed
-block_ends text rest line after passed at p f e size =
+pub block_ends : (text rest line after : List ℕ) (before at : ℕ) → PassedBlock text rest before → FirstLine rest line after → line ≡ 46 ∷ []
+    → at + length rest ≡ length text → EndsBlock text at before
+block_ends text rest line after before at p f e size =
     let dot : rest ≡ 46 ∷ 10 ∷ after = f.is ∙ ap (λ l. l ++ 10 ∷ after) e in
     let whole : text ≡ joined p.block ++ 46 ∷ 10 ∷ after = p.text_is ∙ ap (λ t. joined p.block ++ t) dot in
     let long : length (joined p.block) ≡ at = omega (arith, ap length p.text_is, length-append (joined p.block) rest) in
@@ -120,26 +120,26 @@ block_ends text rest line after passed at p f e size =
       text_is = whole ∙ ap (λ t. joined p.block ++ 46 ∷ 10 ∷ t) (sym back);
       within = omega (arith, ap length dot, size);
       refused = λ n h.
-          let r = behind_line IsBody Acts (46 ∷ []) after n refl behind_dot before_dot (joined (act_lines [])) no_acts
+          let r = after_line IsBody Acts (46 ∷ []) after n refl behind_dot before_dot (joined (act_lines [])) no_acts
           (subst (λ t. IsRefused Acts t n) back h) in
-          let r1 : IsRefused IsBody text (passed + (1 + n)) = p.refused (1 + n) (subst (λ t. IsRefused IsBody t (1 + n)) (sym dot) r) in
-          let count : passed + (1 + n) ≡ passed + 1 + n = omega arith in
+          let r1 : IsRefused IsBody text (before + (1 + n)) = p.refused (1 + n) (subst (λ t. IsRefused IsBody t (1 + n)) (sym dot) r) in
+          let count : before + (1 + n) ≡ before + 1 + n = omega arith in
           subst (λ k. IsRefused IsBody text k) count r1;
       small = omega (arith, p.small, long);
     }
 
-pub block_unended : (text rest : List ℕ) (passed : ℕ) → PassedBlock text rest passed → newlines rest ≡ 0
-    → IsRefused IsBody text passed × (passed ≤ length text)
-block_unended text rest passed p one =
-    let count : passed + 0 ≡ passed = omega arith in (
+pub block_unended : (text rest : List ℕ) (before : ℕ) → PassedBlock text rest before → newlines rest ≡ 0
+    → IsRefused IsBody text before × (before ≤ length text)
+block_unended text rest before p one =
+    let count : before + 0 ≡ before = omega arith in (
       subst (λ k. IsRefused IsBody text k) count (p.refused 0 (refused_end IsBody rest one (bodies_have_newline rest one))),
       omega (arith, p.small, ap length p.text_is, length-append (joined p.block) rest),
     )
 
 -- the parts of a body make it
-pub body_whole : (text : List ℕ) (at passed : ℕ) (s : Scenario) → EndsBlock text at passed → s.content ≡ take at text → AreActs s.acts
+pub body_whole : (text : List ℕ) (at before : ℕ) (s : Scenario) → EndsBlock text at before → s.content ≡ take at text → AreActs s.acts
     → drop (at + 2) text ≡ joined (act_lines s.acts) → SpellsBody text s
-body_whole text at passed s b content oks e = record {
+body_whole text at before s b content oks e = record {
   block = b.block;
   lines = b.lines;
   no_dot = b.no_dot;
@@ -198,7 +198,7 @@ refused_at_first text l = refused_first IsScenario (codes "scenario 1") text ref
 
 behind_head : (text rest : List ℕ) (n : ℕ) → text ≡ codes "scenario 1" ++ 10 ∷ rest → IsRefused IsContent rest n → IsRefused IsScenario text (1 + n)
 behind_head text rest n e h = subst (λ t. IsRefused IsScenario t (1 + n)) (sym e)
-    (behind_line IsScenario IsContent (codes "scenario 1") rest n refl behind_first before_first
+    (after_line IsScenario IsContent (codes "scenario 1") rest n refl behind_first before_first
     (codes "content" ++ 10 ∷ joined (codes "." ∷ act_lines [])) (before_content (joined (codes "." ∷ act_lines [])) some_body) h)
 
 pub refused_at_second : (text first : List ℕ) → text ≡ codes "scenario 1" ++ 10 ∷ first → Lacks (codes "content") first → IsRefused IsScenario text 1
@@ -207,7 +207,7 @@ refused_at_second text first e l = behind_head text first 0 e (refused_first IsC
 pub refused_in_body : (text first body : List ℕ) (n : ℕ) → text ≡ codes "scenario 1" ++ 10 ∷ first → first ≡ codes "content" ++ 10 ∷ body
     → IsRefused IsBody body n → IsRefused IsScenario text (n + 2)
 refused_in_body text first body n e k h =
-    let r = behind_line IsContent IsBody (codes "content") body n refl behind_content before_content (joined (codes "." ∷ act_lines [])) some_body h in
+    let r = after_line IsContent IsBody (codes "content") body n refl behind_content before_content (joined (codes "." ∷ act_lines [])) some_body h in
     let count : 1 + (1 + n) ≡ n + 2 = omega arith in
     subst (λ m. IsRefused IsScenario text m) count (behind_head text first (1 + n) e (subst (λ t. IsRefused IsContent t (1 + n)) (sym k) r))
 

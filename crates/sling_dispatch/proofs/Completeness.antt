@@ -2,14 +2,14 @@ use Rattle.std.proofs.Common.{◌≡◌, ◌<◌, ◌⊎◌, inl, inr, ℕ, List
 use Rattle.content_json.specs.ContentOf.{content as content_of}
 use Rattle.sling_dispatch.specs.Languages.{IsRefusedWithin}
 use Rattle.sling_dispatch.specs.Scenario.{IsScenario, Reads, most}
-use Rattle.sling_dispatch.specs.Endings.{Seen, Call, Means, IsDue, IsReplay, IsCalm, HasFailed, HasContent}
+use Rattle.sling_dispatch.specs.Endings.{Told, Call, Means, IsDue, IsReplay, HasNotFailed, HasFailed, HasContent}
 use Rattle.sling_dispatch.specs.declared.scenario.Scenario.{Scenario}
 use Rattle.sling_dispatch.specs.declared.ending.Ending.{Ending}
 use Rattle.sling_dispatch.specs.declared.ending.Ending.TheVariants.{Done, Usage, SourceFailed, SinkFailed, Refused, ContentRefused, NoMemory}
 use Rattle.sling_dispatch.proofs.OneReading.{one_reading}
 
-calm_is_not_failed : (o : Seen (List ℕ)) → o.faults_old < 18446744073709551615 → IsCalm o → HasFailed o → ⊥
-calm_is_not_failed o below calm failed = omega (arith, calm, failed)
+both_failed_and_not : (o : Told (List ℕ)) → o.faults_old < 18446744073709551615 → HasNotFailed o → HasFailed o → ⊥
+both_failed_and_not o below not_failed failed = omega (arith, not_failed, failed)
 
 -- a text whose content has a reading isn't refused for its content
 content_reads : (bytes : List ℕ) (s t : Scenario) → Reads bytes s → HasContent s → Reads bytes t → (fault : _) → content_of t.content ≡ Err fault → ⊥
@@ -18,14 +18,14 @@ content_reads bytes s t reads has other fault e =
     let ok = sym (ap (λ (x : Scenario). content_of x.content) same) ∙ has.1 in
     cc (ok, e)
 
-pub complete : (c : Call) (sink : Seen (List ℕ)) (bytes : List ℕ) (s : Scenario) (ending : Ending) → Means (IsDue c) ending sink
+pub complete : (c : Call) (sink : Told (List ℕ)) (bytes : List ℕ) (s : Scenario) (ending : Ending) → Means (IsDue c) ending sink
     → IsReplay c.words → c.source.old ≡ Some bytes → Reads bytes s → HasContent s
-    → c.source.faults_old < 18446744073709551615 → IsCalm c.source → sink.faults_old < 18446744073709551615 → IsCalm sink
+    → c.source.faults_old < 18446744073709551615 → HasNotFailed c.source → sink.faults_old < 18446744073709551615 → HasNotFailed sink
     → (ending ≡ Done) ⊎ (ending ≡ NoMemory)
 complete c sink bytes s Done m is told reads has bs cs bk ck = inl refl
 complete c sink bytes s Usage m is told reads has bs cs bk ck = absurd (m.0.0 is)
-complete c sink bytes s SourceFailed m is told reads has bs cs bk ck = absurd (calm_is_not_failed c.source bs cs m.0.1)
-complete c sink bytes s SinkFailed m is told reads has bs cs bk ck = absurd (calm_is_not_failed sink bk ck m.3)
+complete c sink bytes s SourceFailed m is told reads has bs cs bk ck = absurd (both_failed_and_not c.source bs cs m.0.1)
+complete c sink bytes s SinkFailed m is told reads has bs cs bk ck = absurd (both_failed_and_not sink bk ck m.3)
 complete c sink bytes s Refused m is told reads has bs cs bk ck =
     let r = subst (λ o. IfSome o (λ t. IsRefusedWithin most IsScenario t m.0)) told m.1.0.2 in
     absurd (r.none ((s, reads.0), reads.1))

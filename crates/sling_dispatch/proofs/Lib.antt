@@ -12,3 +12,7 @@ pub mod OneReading
 pub mod Completeness
 pub mod TargetLemmas
 pub mod DirectLemmas
+pub mod Escapes
+pub mod Telling
+pub mod OneRun
+pub mod Words

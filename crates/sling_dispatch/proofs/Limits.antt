@@ -16,7 +16,7 @@ within_short A most text n short r = record {
   early = λ begins. r.early begins.0;
 }
 
--- of one that is too long, its allowed front decides
+-- of one that is too long, its allowed prefix decides
 pub within_long : (A : List ℕ → Type 0) (most : ℕ) (text : List ℕ) (n : ℕ) → most < length text
     → ((at : ℕ) → at < most → Begins A (take at text) → (Begins A (take (at + 1) text) → ⊥) → newlines (take at text) ≡ n)
     → (Begins A (take most text) → newlines (take most text) ≡ n) → IsRefusedWithin most A text n

@@ -8,14 +8,15 @@ use Rattle.content_json.specs.declared.fault.ContentFault.TheVariants.{NoMemory 
 use Rattle.sling_dispatch.specs.Languages.{IsRefusedWithin}
 use Rattle.sling_dispatch.specs.Streams.{IsReadOut}
 use Rattle.sling_dispatch.specs.Scenario.{IsScenario, Reads, most}
-use Rattle.sling_dispatch.specs.Endings.{Seen, Call, IsDueIn, IsContentOr, IsRunOf, Writing, Nothing, UsageLine, SourceLine, RefusalLine, ContentLine, Events, text_of, Wrote, Means, Tells, IsDue, IsDueAt, IsReplay, IsCalm, IsUntouched}
+use Rattle.sling_dispatch.specs.Endings.{Told, Call, IsRunOf, Writing, Nothing, UsageLine, SourceLine, RefusalLine, ContentLine, Events, text_of, Wrote, Means, IsDue, IsReplay, HasNotFailed, IsUntouched}
+use Rattle.sling_dispatch.specs.InnerEndings.{IsDueIn, IsContentOr, Tells, IsDueAt}
 use Rattle.sling_dispatch.specs.declared.scenario.Scenario.{Scenario}
 use Rattle.sling_dispatch.proofs.Writing.{added-nothing}
 use Rattle.sling_dispatch.specs.declared.ending.Ending.{Ending}
 use Rattle.sling_dispatch.specs.declared.ending.Ending.TheVariants.{Done, Usage, SourceFailed, SinkFailed, Refused, ContentRefused, NoMemory}
 
 -- what may be written here may be written there
-pub means_weaker : (D E : Writing → Type 0) → ((w : Writing) → D w → E w) → (ending : Ending) (sink : Seen (List ℕ)) → Means D ending sink → Means E ending sink
+pub means_weaker : (D E : Writing → Type 0) → ((w : Writing) → D w → E w) → (ending : Ending) (sink : Told (List ℕ)) → Means D ending sink → Means E ending sink
 means_weaker D E to Done sink m = (m.0, m.1, to (Events m.0 m.1) m.2, m.3, m.4)
 means_weaker D E to Usage sink m = (to UsageLine m.0, m.1)
 means_weaker D E to SourceFailed sink m = (to SourceLine m.0, m.1)
@@ -24,12 +25,12 @@ means_weaker D E to ContentRefused sink m = (m.0, to (ContentLine m.0) m.1, m.2)
 means_weaker D E to SinkFailed sink m = (m.0, to m.0 m.1, m.2, m.3)
 means_weaker D E to NoMemory sink m = (m.0, to m.0 m.1, m.2, m.3)
 
--- Nothing was written, and memory was wanting.
-pub out_of_memory : (D : Writing → Type 0) → D Nothing → (sink : Seen (List ℕ)) → sink.new ≡ sink.old → IsCalm sink → Means D NoMemory sink
-out_of_memory D due sink e calm = (Nothing, due, (0, e ∙ sym (added-nothing sink.old)), calm)
+-- Nothing was written, and memory ran out.
+pub out_of_memory : (D : Writing → Type 0) → D Nothing → (sink : Told (List ℕ)) → sink.new ≡ sink.old → HasNotFailed sink → Means D NoMemory sink
+out_of_memory D due sink e not_failed = (Nothing, due, (0, e ∙ sym (added-nothing sink.old)), not_failed)
 
 -- What came of writing a text that is due, of which good was to be the ending.
-pub told_line : (D : Writing → Type 0) (w : Writing) (good ending : Ending) (text : List ℕ) (sink : Seen (List ℕ)) → D w
+pub told_line : (D : Writing → Type 0) (w : Writing) (good ending : Ending) (text : List ℕ) (sink : Told (List ℕ)) → D w
     → (Wrote sink w → Means D good sink) → text ≡ text_of w → Tells good text ending sink → Means D ending sink
 told_line D w good ending text sink due whole e (inl t) =
     subst (λ x. Means D x sink) (sym t.0) (whole (t.1 ∙ ap (added sink.old) e, t.2))
@@ -38,9 +39,9 @@ told_line D w good ending text sink due whole e (inr (inl t)) =
 told_line D w good ending text sink due whole e (inr (inr t)) =
     subst (λ x. Means D x sink) (sym t.0) (w, due, (t.1.0, t.1.1 ∙ ap (λ s. added sink.old (take t.1.0 s)) e), t.2)
 
--- The same of a text that memory may have been wanting for.
+-- The same of a text for which memory may have run out.
 pub told_made : {T E : Type 0} (items : T → List ℕ) (D : Writing → Type 0) (w : Writing) (good ending : Ending) (line : Result T E)
-    (sink : Seen (List ℕ)) → D Nothing → D w → (Wrote sink w → Means D good sink) → IfOk line (λ t. items t ≡ text_of w)
+    (sink : Told (List ℕ)) → D Nothing → D w → (Wrote sink w → Means D good sink) → IfOk line (λ t. items t ≡ text_of w)
     → IfOk line (λ t. Tells good (items t) ending sink) → OnErr line ((ending ≡ NoMemory) × IsUntouched sink) → Means D ending sink
 told_made items D w good ending (Ok t) sink none due whole e told untold = told_line D w good ending (items t) sink due whole e told
 told_made items D w good ending (Err x) sink none due whole e told untold =
@@ -50,11 +51,11 @@ pub due_content : (s : Scenario) (fault : ContentFault) → (fault ≢ no_memory
 due_content s fault e Nothing d = tt
 due_content s fault e UsageLine d = d
 due_content s fault e SourceLine d = d
-due_content s fault e (RefusalLine passed) d = d
+due_content s fault e (RefusalLine before) d = d
 due_content s fault e (ContentLine f) d = (e d.1 ∙ ap (λ x. Err x) (sym d.0), λ h. d.1 (sym d.0 ∙ h))
 due_content s fault e (Events t events) d = absurd d
 
-pub content_told : (s : Scenario) (fault : ContentFault) (bytes : List ℕ) (ending : Ending) (sink : Seen (List ℕ)) → bytes ≡ s.content
+pub content_told : (s : Scenario) (fault : ContentFault) (bytes : List ℕ) (ending : Ending) (sink : Told (List ℕ)) → bytes ≡ s.content
     → (fault ≢ no_memory → content_of bytes ≡ Err fault) → Means (IsContentOr fault) ending sink → Means (IsDueIn s) ending sink
 content_told s fault bytes ending sink same e m =
     means_weaker (IsContentOr fault) (IsDueIn s) (due_content s fault (λ h. sym (ap content_of same) ∙ e h)) ending sink m
@@ -64,16 +65,16 @@ pub in_text : (text : List ℕ) (s : Scenario) → Reads text s → (w : Writing
 in_text text s reads Nothing d = tt
 in_text text s reads UsageLine d = d
 in_text text s reads SourceLine d = d
-in_text text s reads (RefusalLine passed) d = absurd d
+in_text text s reads (RefusalLine before) d = absurd d
 in_text text s reads (ContentLine fault) d = (d.1, s, reads, d.0)
 in_text text s reads (Events t events) d =
     let same = sym d.0 in (subst (Reads text) same reads, subst (λ (x : Scenario). IsRunOf x events) same d.1)
 
-told_refused : (text : List ℕ) (passed : ℕ) (old new : Option (List ℕ)) → old ≡ before_taking text new → (length text ≤ most → IsAtEnd new)
-    → IsDueAt text (RefusalLine passed) → IfSome old (λ bytes. IsRefusedWithin most IsScenario bytes passed)
-told_refused text passed old None e end r = subst (λ o. IfSome o (λ bytes. IsRefusedWithin most IsScenario bytes passed)) (sym e) tt
-told_refused text passed old (Some rest) e end r =
-    subst (λ o. IfSome o (λ bytes. IsRefusedWithin most IsScenario bytes passed)) (sym e) (r rest end)
+told_refused : (text : List ℕ) (before : ℕ) (old new : Option (List ℕ)) → old ≡ before_taking text new → (length text ≤ most → IsAtEnd new)
+    → IsDueAt text (RefusalLine before) → IfSome old (λ bytes. IsRefusedWithin most IsScenario bytes before)
+told_refused text before old None e end r = subst (λ o. IfSome o (λ bytes. IsRefusedWithin most IsScenario bytes before)) (sym e) tt
+told_refused text before old (Some rest) e end r =
+    subst (λ o. IfSome o (λ bytes. IsRefusedWithin most IsScenario bytes before)) (sym e) (r rest end)
 
 -- a text that was read up to one byte past the limit is all of the source, or that many bytes of it
 read_out : (text : List ℕ) (old new : Option (List ℕ)) → old ≡ before_taking text new → (length text ≤ most → IsAtEnd new) → length text ≤ most + 1
@@ -87,18 +88,18 @@ told Q text old (Some rest) e end q =
     subst (λ o. IfSome o Q) (sym (e ∙ ap Some whole)) q
 
 -- what may be written of the text that was read may be written by the call
-pub due_of_source : (c : Call) (text : List ℕ) → IsReplay c.words → IsCalm c.source
+pub due_of_source : (c : Call) (text : List ℕ) → IsReplay c.words → HasNotFailed c.source
     → c.source.old ≡ before_taking text c.source.new → (length text ≤ most → IsAtEnd c.source.new) → length text ≤ most + 1 → (w : Writing) → IsDueAt text w → IsDue c w
-due_of_source c text is calm e end within Nothing d = tt
-due_of_source c text is calm e end within UsageLine d = absurd d
-due_of_source c text is calm e end within SourceLine d = absurd d
-due_of_source c text is calm e end within (RefusalLine passed) d =
-    ((is, calm, told_refused text passed c.source.old c.source.new e end d), read_out text c.source.old c.source.new e end within)
-due_of_source c text is calm e end within (ContentLine fault) d =
+due_of_source c text is not_failed e end within Nothing d = tt
+due_of_source c text is not_failed e end within UsageLine d = absurd d
+due_of_source c text is not_failed e end within SourceLine d = absurd d
+due_of_source c text is not_failed e end within (RefusalLine before) d =
+    ((is, not_failed, told_refused text before c.source.old c.source.new e end d), read_out text c.source.old c.source.new e end within)
+due_of_source c text is not_failed e end within (ContentLine fault) d =
     let Q : List ℕ → Type 0 = λ bytes. (s : Scenario) × Reads bytes s × (content_of s.content ≡ Err fault) in
     let done = end d.2.1 in
-    ((is, calm, told Q text c.source.old c.source.new e done (d.1, d.2, d.3)), done, d.0)
-due_of_source c text is calm e end within (Events s events) d =
+    ((is, not_failed, told Q text c.source.old c.source.new e done (d.1, d.2, d.3)), done, d.0)
+due_of_source c text is not_failed e end within (Events s events) d =
     let Q : List ℕ → Type 0 = λ bytes. Reads bytes s in
     let done = end d.0.1 in
-    ((is, calm, told Q text c.source.old c.source.new e done d.0), done, d.1)
+    ((is, not_failed, told Q text c.source.old c.source.new e done d.0), done, d.1)

@@ -6,7 +6,7 @@ use Rattle.sling_dispatch.specs.Lines.{newlines}
 use Rattle.sling_dispatch.specs.Languages.{Begins, IsRefused}
 use Rattle.sling_dispatch.proofs.LineLaws.{newlines-append, newlines-take}
 
--- a front of a text of the language begins one
+-- a prefix of a text of the language begins one
 pub begins_front : (A : List ℕ → Type 0) (k : ℕ) (text : List ℕ) → A text → Begins A (take k text)
 begins_front A k text h = (drop k text, subst A (sym (take-append-drop k text)) h)
 
@@ -16,7 +16,7 @@ take_within k front rest other le = take-append-le k front other le ∙ sym (tak
 take_past : (k j : ℕ) (front rest : List ℕ) → k ≡ length front + j → take k (front ++ rest) ≡ front ++ take j rest
 take_past k j front rest e = ap (λ n. take n (front ++ rest)) e ∙ take-append-add front rest j
 
--- Where a text of A that begins with a front goes on as a text of B, the refusal is B's, behind the newlines of the front.
+-- Where a text of A that begins with a prefix goes on as a text of B, the refusal is B's, after the newlines of the prefix.
 pub refused_behind : (A B : List ℕ → Type 0) (front rest : List ℕ) (n : ℕ)
     → ((r : List ℕ) → A (front ++ r) → B r) → ((r : List ℕ) → B r → A (front ++ r)) → (w : List ℕ) → B w
     → IsRefused B rest n → IsRefused A (front ++ rest) (newlines front + n)

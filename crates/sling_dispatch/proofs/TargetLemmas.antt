@@ -39,7 +39,7 @@ ends_behind text e =
     sym (take_all (length text) text (omega arith)) ∙ ap (λ k. take k text) whole ∙ take_more text n 0 (omega (arith, long))
     ∙ ap (λ b. take n text ++ b ∷ []) last
 
--- a text that isn't one with a slash behind it doesn't end in one
+-- a text that isn't one with a slash after it doesn't end in one
 pub ends_otherwise : (text : List ℕ) → ((front : List ℕ) → text ≢ front ++ 47 ∷ []) → ends_in_slash text ≡ false
 ends_otherwise text other = not_true (ends_in_slash text) (λ e. other (take (length text - 1) text) (ends_behind text e))
 

@@ -1,5 +1,6 @@
 use Rattle.std.proofs.Common.{◌≡◌, ◌+◌, ◌-◌, ◌++◌, ℕ, List, [], Option, Some, None, length, take, drop, sym, ◌∙◌, ap, refl, arith, append_assoc}
 use Rattle.std.proofs.lemmas.List.{take-append-drop, take_rest, append-nil, drop-take, take-take}
+use Rattle.std.proofs.Math.Seq.{take-append-add}
 use Rattle.sp_outside.specs.Told.{added, before_taking}
 
 pub added-added : (held : Option (List ℕ)) (a b : List ℕ) → added (added held a) b ≡ added held (a ++ b)
@@ -10,7 +11,7 @@ pub added-nothing : (held : Option (List ℕ)) → added held [] ≡ held
 added-nothing None = refl
 added-nothing (Some old) = ap Some (append-nil old)
 
--- taking so many, and then so many of the rest
+-- taking some, and then some of the rest
 pub take_in_two : (at n : ℕ) (bytes : List ℕ) → take (at + n) bytes ≡ take at bytes ++ take n (drop at bytes)
 take_in_two at n bytes =
     sym (take-append-drop at (take (at + n) bytes))
@@ -28,3 +29,12 @@ pub taken_more : (old mid new : Option (List ℕ)) (a b : List ℕ) → old ≡ 
     → old ≡ before_taking (a ++ b) new
 taken_more old mid None a b e h = e ∙ ap (before_taking a) h
 taken_more old mid (Some rest) a b e h = e ∙ ap (before_taking a) h ∙ ap Some (sym (append_assoc a b rest))
+
+-- one text was added after another
+pub sent_both : (old mid new : Option (List ℕ)) (a b : List ℕ) → mid ≡ added old a → new ≡ added mid b → new ≡ added old (a ++ b)
+sent_both old mid new a b e h = h ∙ ap (λ m. added m b) e ∙ added-added old a b
+
+-- one text was added, and a prefix of another after it
+pub sent_prefix : (old mid new : Option (List ℕ)) (a b : List ℕ) (n : ℕ) → mid ≡ added old a → new ≡ added mid (take n b)
+    → new ≡ added old (take (length a + n) (a ++ b))
+sent_prefix old mid new a b n e h = sent_both old mid new a (take n b) e h ∙ ap (added old) (sym (take-append-add a b n))

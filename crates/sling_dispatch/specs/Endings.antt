@@ -1,3 +1,4 @@
+-- How a run may end, and what each ending says of the source and the sink.
 use Rattle.std.specs.Prelude.{◌≡◌, ◌≢◌, ◌≤◌, ◌+◌, ◌++◌, ◌⊎◌, ℕ, List, [], ◌∷◌, Option, IfSome, Ok, Err, codes, length, take}
 use Rattle.std.specs.Fmt.{decimal}
 use Rattle.sp_outside.specs.Told.{added, IsAtEnd}
@@ -18,28 +19,28 @@ use Rattle.sling_dispatch.specs.declared.ending.Ending.{Ending}
 use Rattle.sling_dispatch.specs.declared.ending.Ending.TheVariants.{Done, Usage, SourceFailed, SinkFailed, Refused, ContentRefused, NoMemory}
 
 -- an object of the outside over one call: what it told before and after, and its count of faults before and after
-pub record Seen (T : Type 0) : Type 0 where
+pub record Told (T : Type 0) : Type 0 where
   pub old : Option T
   pub new : Option T
   pub faults_old : ℕ
   pub faults_new : ℕ
 
-abbrev pub seen : {T : Type 0} → Option T → Option T → ℕ → ℕ → Seen T
+abbrev pub seen : {T : Type 0} → Option T → Option T → ℕ → ℕ → Told T
 seen old new faults_old faults_new = record { old = old; new = new; faults_old = faults_old; faults_new = faults_new }
 
 -- no call of it failed
-abbrev pub IsCalm : {T : Type 0} → Seen T → Type 0
-IsCalm o = o.faults_new ≡ o.faults_old
+abbrev pub HasNotFailed : {T : Type 0} → Told T → Type 0
+HasNotFailed o = o.faults_new ≡ o.faults_old
 
 -- a call of it failed
-abbrev pub HasFailed : {T : Type 0} → Seen T → Type 0
+abbrev pub HasFailed : {T : Type 0} → Told T → Type 0
 HasFailed o = Rose o.faults_old o.faults_new
 
 -- nothing was asked of it
-abbrev pub IsUntouched : {T : Type 0} → Seen T → Type 0
-IsUntouched o = (o.new ≡ o.old) × IsCalm o
+abbrev pub IsUntouched : {T : Type 0} → Told T → Type 0
+IsUntouched o = (o.new ≡ o.old) × HasNotFailed o
 
--- what a call may be writing: of a refusal how many lines stand before its own, of a content its fault
+-- what a call may be writing: of a refusal how many newlines stand before its place, of a content its fault
 pub data Writing : Type 0 where
   Nothing : Writing
   UsageLine : Writing
@@ -52,28 +53,28 @@ abbrev pub text_of : Writing → List ℕ
 text_of Nothing = []
 text_of UsageLine = codes "usage: replay" ++ 10 ∷ []
 text_of SourceLine = codes "source failed" ++ 10 ∷ []
-text_of (RefusalLine passed) = codes "scenario refused at line " ++ decimal (passed + 1) ++ 10 ∷ []
+text_of (RefusalLine before) = codes "scenario refused at line " ++ decimal (before + 1) ++ 10 ∷ []
 text_of (ContentLine fault) = codes "content refused: " ++ fault_text fault ++ 10 ∷ []
 text_of (Events s events) = transcript events
 
 -- the whole text was written
-abbrev pub Wrote : Seen (List ℕ) → Writing → Type 0
-Wrote sink w = (sink.new ≡ added sink.old (text_of w)) × IsCalm sink
+abbrev pub Wrote : Told (List ℕ) → Writing → Type 0
+Wrote sink w = (sink.new ≡ added sink.old (text_of w)) × HasNotFailed sink
 
 -- a prefix of it was
-abbrev pub WrotePrefix : Seen (List ℕ) → Writing → Type 0
+abbrev pub WrotePrefix : Told (List ℕ) → Writing → Type 0
 WrotePrefix sink w = (n : ℕ) × (sink.new ≡ added sink.old (take n (text_of w)))
 
 -- What each ending says of the sink, where IsDue says what may be written.
-abbrev pub Means : (Writing → Type 0) → Ending → Seen (List ℕ) → Type 0
+abbrev pub Means : (Writing → Type 0) → Ending → Told (List ℕ) → Type 0
 Means IsDue Done sink = (s : Scenario) × (events : List (List Note)) × IsDue (Events s events) × IsSession s (length s.acts) events
     × Wrote sink (Events s events)
 Means IsDue Usage sink = IsDue UsageLine × Wrote sink UsageLine
 Means IsDue SourceFailed sink = IsDue SourceLine × Wrote sink SourceLine
-Means IsDue Refused sink = (passed : ℕ) × IsDue (RefusalLine passed) × Wrote sink (RefusalLine passed)
+Means IsDue Refused sink = (before : ℕ) × IsDue (RefusalLine before) × Wrote sink (RefusalLine before)
 Means IsDue ContentRefused sink = (fault : ContentFault) × IsDue (ContentLine fault) × Wrote sink (ContentLine fault)
 Means IsDue SinkFailed sink = (w : Writing) × IsDue w × WrotePrefix sink w × HasFailed sink
-Means IsDue NoMemory sink = (w : Writing) × IsDue w × WrotePrefix sink w × IsCalm sink
+Means IsDue NoMemory sink = (w : Writing) × IsDue w × WrotePrefix sink w × HasNotFailed sink
 
 -- these are first events of the scenario
 abbrev pub IsRunOf : Scenario → List (List Note) → Type 0
@@ -86,21 +87,25 @@ HasContent s = (tree : Content) × (content_of s.content ≡ Ok tree)
 abbrev pub IsReplay : List (List ℕ) → Type 0
 IsReplay words = words ≡ codes "replay" ∷ []
 
+-- these are the words of the command line, where it tells them
+abbrev pub AreWordsOf : Option (List (List ℕ)) → List (List ℕ) → Type 0
+AreWordsOf told words = IfSome told (λ all. words ≡ all)
+
 -- what is seen of one call of `run`, beside the sink
 pub record Call : Type 0 where
   pub words : List (List ℕ)
-  pub source : Seen (List ℕ)
+  pub source : Told (List ℕ)
 
 -- the call replays, no read failed, and of the source's bytes, where it tells them, this holds
 abbrev pub Replays : Call → (List ℕ → Type 0) → Type 0
-Replays c P = IsReplay c.words × IsCalm c.source × IfSome c.source.old P
+Replays c P = IsReplay c.words × HasNotFailed c.source × IfSome c.source.old P
 
 -- What may be written by a call. Each line denies the causes of those before it.
 abbrev pub IsDue : Call → Writing → Type 0
 IsDue c Nothing = Unit {0}
 IsDue c UsageLine = (IsReplay c.words → ⊥) × IsUntouched c.source
 IsDue c SourceLine = IsReplay c.words × HasFailed c.source
-IsDue c (RefusalLine passed) = Replays c (λ bytes. IsRefusedWithin most IsScenario bytes passed) × IsReadOut (most + 1) c.source.old c.source.new
+IsDue c (RefusalLine before) = Replays c (λ bytes. IsRefusedWithin most IsScenario bytes before) × IsReadOut (most + 1) c.source.old c.source.new
 IsDue c (ContentLine fault) = Replays c (λ bytes. (s : Scenario) × Reads bytes s × (content_of s.content ≡ Err fault)) × IsAtEnd c.source.new
     × (fault ≢ no_memory)
 IsDue c (Events s events) = Replays c (λ bytes. Reads bytes s) × IsAtEnd c.source.new × IsRunOf s events
@@ -114,45 +119,3 @@ status_of SinkFailed = 4
 status_of Refused = 5
 status_of ContentRefused = 6
 status_of NoMemory = 70
-
--- what is written of a text that was read, behind which a longer one may go on
-abbrev pub IsDueAt : List ℕ → Writing → Type 0
-IsDueAt text Nothing = Unit {0}
-IsDueAt text UsageLine = ⊥
-IsDueAt text SourceLine = ⊥
-IsDueAt text (RefusalLine passed) = (rest : List ℕ) → (length text ≤ most → rest ≡ []) → IsRefusedWithin most IsScenario (text ++ rest) passed
-IsDueAt text (ContentLine fault) = (fault ≢ no_memory) × (s : Scenario) × Reads text s × (content_of s.content ≡ Err fault)
-IsDueAt text (Events s events) = Reads text s × IsRunOf s events
-
--- what is written of a scenario
-abbrev pub IsDueIn : Scenario → Writing → Type 0
-IsDueIn s Nothing = Unit {0}
-IsDueIn s UsageLine = ⊥
-IsDueIn s SourceLine = ⊥
-IsDueIn s (RefusalLine passed) = ⊥
-IsDueIn s (ContentLine fault) = (content_of s.content ≡ Err fault) × (fault ≢ no_memory)
-IsDueIn s (Events t events) = (t ≡ s) × IsRunOf s events
-
--- what a session writes
-abbrev pub IsDueOf : Scenario → Writing → Type 0
-IsDueOf s Nothing = Unit {0}
-IsDueOf s UsageLine = ⊥
-IsDueOf s SourceLine = ⊥
-IsDueOf s (RefusalLine passed) = ⊥
-IsDueOf s (ContentLine fault) = ⊥
-IsDueOf s (Events t events) = (t ≡ s) × IsRunOf s events
-
--- nothing, or this line about a content
-abbrev pub IsContentOr : ContentFault → Writing → Type 0
-IsContentOr fault Nothing = Unit {0}
-IsContentOr fault UsageLine = ⊥
-IsContentOr fault SourceLine = ⊥
-IsContentOr fault (RefusalLine passed) = ⊥
-IsContentOr fault (ContentLine f) = (f ≡ fault) × (fault ≢ no_memory)
-IsContentOr fault (Events s events) = ⊥
-
--- What came of writing a text, of which good was to be the ending: that, or the sink failed, or memory did.
-abbrev pub Tells : Ending → List ℕ → Ending → Seen (List ℕ) → Type 0
-Tells good text ending sink = ((ending ≡ good) × (sink.new ≡ added sink.old text) × IsCalm sink)
-    ⊎ (((ending ≡ SinkFailed) × ((n : ℕ) × (sink.new ≡ added sink.old (take n text))) × HasFailed sink)
-    ⊎ ((ending ≡ NoMemory) × ((n : ℕ) × (sink.new ≡ added sink.old (take n text))) × IsCalm sink))

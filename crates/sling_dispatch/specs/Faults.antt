@@ -1,3 +1,4 @@
+-- How a fault of a content is written.
 use Rattle.std.specs.Prelude.{◌++◌, ℕ, List, [], codes}
 use Rattle.sp_base.specs.Paths.{text_of as path_text}
 use Rattle.content_json.specs.declared.fault.ContentFault.{ContentFault}

@@ -1,3 +1,4 @@
+-- At which line bytes are refused that are no text of a language.
 use Rattle.std.specs.Prelude.{◌≡◌, ◌+◌, ◌<◌, ◌≤◌, ◌++◌, ℕ, List, length, take}
 use Rattle.sling_dispatch.specs.Lines.{newlines}
 
@@ -15,7 +16,7 @@ pub record IsRefusedBy (Text Prefix : List ℕ → Type 0) (bytes : List ℕ) (n
 abbrev pub IsRefused : (List ℕ → Type 0) → List ℕ → ℕ → Type 0
 IsRefused Text bytes n = IsRefusedBy Text (Begins Text) bytes n
 
--- the same where a text has at most so many bytes: a longer one is refused at the byte past them
+-- the same where a text has at most `most` bytes: a longer one is refused at the byte past them
 abbrev pub IsRefusedWithin : ℕ → (List ℕ → Type 0) → List ℕ → ℕ → Type 0
 IsRefusedWithin most Text bytes n =
     IsRefusedBy (λ t. Text t × (length t ≤ most)) (λ t. Begins Text t × (length t ≤ most)) bytes n

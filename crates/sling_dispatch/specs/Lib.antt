@@ -10,3 +10,4 @@ pub mod Fronts
 pub mod Streams
 pub mod Faults
 pub mod Endings
+pub mod InnerEndings

@@ -1,3 +1,4 @@
+-- Which scenario bytes spell.
 use Rattle.std.specs.Prelude.{◌≡◌, ◌≢◌, ◌≤◌, ◌++◌, ◌&&◌, ◌==◌, ℕ, Bool, not, nat_le, List, [], ◌∷◌, map, codes, IsTrue, length}
 use Rattle.std.specs.List.{list_all}
 use Rattle.sling_dispatch.specs.Lines.{joined, AreLines}
@@ -53,7 +54,3 @@ Reads bytes s = Spells bytes s × (length bytes ≤ most)
 
 abbrev pub IsScenario : List ℕ → Type 0
 IsScenario text = (s : Scenario) × Spells text s
-
--- the part behind the content
-abbrev pub Acts : List ℕ → Type 0
-Acts text = (acts : List Act) × AreActs acts × (text ≡ joined (act_lines acts))

@@ -1,3 +1,4 @@
+-- What a target says: the path that it names, and its query.
 use Rattle.std.specs.Prelude.{◌+◌, ◌-◌, ◌==◌, ◌&&◌, ℕ, Bool, nat_lt, if◌then◌else◌, List, Option, Some, None, option_and_then, length, take, drop, position, slice_index}
 use Rattle.std.specs.List.{before_first}
 use Rattle.std.specs.Option.{option_map}
@@ -11,7 +12,7 @@ use Rattle.sling_dispatch.specs.declared.target.Target.{Target}
 abbrev pub is_mark : ℕ → Bool
 is_mark b = b == 63
 
--- the query: what stands behind the first `?` (RFC 3986, section 3.4)
+-- the query: what stands after the first `?` (RFC 3986, section 3.4)
 abbrev pub query_of : List ℕ → Option (List ℕ)
 query_of target = option_map (λ at. drop (at + 1) target) (position is_mark target)
 
@@ -40,6 +41,10 @@ spelled bytes = option_and_then (λ text. result_ok (path_of (without_slash text
 abbrev pub with_path : List ℕ → List (List ℕ) → Target
 with_path target path = record { path = unmangled path; slash = ends_in_slash (path_text target); query = query_of target }
 
+-- the first byte is a slash, as it stands (RFC 9112, section 3.2.1: the origin form)
+abbrev pub begins_with_slash : List ℕ → Bool
+begins_with_slash target = slice_index target 0 == 47
+
 -- what a target says, or None where it is a bad one
 abbrev pub target_of : List ℕ → Option Target
-target_of target = option_map (with_path target) (spelled (path_text target))
+target_of target = if begins_with_slash target then option_map (with_path target) (spelled (path_text target)) else None

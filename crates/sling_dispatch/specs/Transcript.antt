@@ -1,4 +1,5 @@
-use Rattle.std.specs.Prelude.{◌+◌, ◌/◌, ◌%◌, ◌++◌, ◌==◌, ◌&&◌, ℕ, if◌then◌else◌, nat_lt, nat_le, List, [], ◌∷◌, codes, flat_map}
+-- How events are written.
+use Rattle.std.specs.Prelude.{◌+◌, ◌<◌, ◌/◌, ◌%◌, ◌++◌, ◌==◌, ◌&&◌, ℕ, if◌then◌else◌, nat_lt, nat_le, List, [], ◌∷◌, codes, flat_map}
 use Rattle.std.specs.Fmt.{decimal}
 use Rattle.sp_base.specs.declared.answer.Answer.{Answer}
 use Rattle.sp_base.specs.declared.answer.Mark.{Mark}
@@ -52,3 +53,16 @@ transcript_from n (notes ∷ events) = event_text n notes ++ transcript_from (n 
 -- the transcript of events, counted from 1
 abbrev pub transcript : List (List Note) → List ℕ
 transcript events = transcript_from 1 events
+
+-- a status has 16 bits
+abbrev pub IsWritable : Note → Type 0
+IsWritable (answered a) = a.status < 65536
+
+abbrev pub AreWritable : List Note → Type 0
+AreWritable [] = Unit {0}
+AreWritable (note ∷ notes) = IsWritable note × AreWritable notes
+
+-- each status of the events has 16 bits, as those have that the program makes
+abbrev pub EventsAreWritable : List (List Note) → Type 0
+EventsAreWritable [] = Unit {0}
+EventsAreWritable (notes ∷ events) = AreWritable notes × EventsAreWritable events

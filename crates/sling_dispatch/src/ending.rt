@@ -1,3 +1,4 @@
+//! How a run ends, and its exit status.
 ghost use Rattle.std.specs.Prelude.{◌≡◌};
 ghost use Rattle.sling_dispatch.specs.Endings.{status_of};
 

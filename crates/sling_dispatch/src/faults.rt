@@ -8,14 +8,14 @@ use content_json::ContentFault;
 use sp_base::{Mem, Path};
 use std::alloc::Global;
 
-// The line that names the refused line of a scenario, behind so many others.
-pub fn refusal_line(alloc: Global, passed: u64) -> Mem<Vec<u8>>
-    requires { passed + 1 < 2 ^ 64 }
-    ensures { IfOk result (λ text. text.items ≡ text_of (RefusalLine passed)) }
+// The line that names the refused line of a scenario: one more than the newlines before the place.
+pub fn refusal_line(alloc: Global, before: u64) -> Mem<Vec<u8>>
+    requires { before + 1 < 2 ^ 64 }
+    ensures { IfOk result (λ text. text.items ≡ text_of (RefusalLine before)) }
 {
     let mut text = Vec::new(alloc);
     push(&mut text, b"scenario refused at line ")?;
-    push_number(alloc, &mut text, passed + 1)?;
+    push_number(alloc, &mut text, before + 1)?;
     push(&mut text, b"\n")?;
     Ok(text)
 }

@@ -1,3 +1,4 @@
+//! What events act on, and what happens in them.
 ghost use Rattle.std.specs.Prelude.{◌≡◌, ◌∷◌, [], IfOk, OnErr};
 ghost use Rattle.sling_dispatch.specs.Rendering.{direct_answer};
 ghost use Rattle.sling_dispatch.specs.Fronts.{Extends};

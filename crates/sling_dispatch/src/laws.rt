@@ -2,17 +2,21 @@
 ghost use Rattle.std.specs.Prelude.{◌≡◌, ◌⊎◌, ◌<◌, ℕ, List, Some};
 ghost use Rattle.resource_tree.specs.Content.{Content};
 ghost use Rattle.sling_dispatch.specs.Languages.{IsRefusedWithin};
-ghost use Rattle.sling_dispatch.specs.Targets.{path_text};
+ghost use Rattle.sling_dispatch.specs.Targets.{begins_with_slash, path_text};
 ghost use Rattle.sling_dispatch.specs.Rendering.{direct_answer};
 ghost use Rattle.sling_dispatch.specs.Scenario.{Spells, IsScenario, Reads, most};
-ghost use Rattle.sling_dispatch.specs.Endings.{Seen, Call, Means, IsDue, IsReplay, IsCalm, HasContent};
+ghost use Rattle.sling_dispatch.specs.Endings.{Told, Call, Means, IsDue, IsReplay, HasNotFailed, HasContent};
 ghost use Rattle.sling_dispatch.specs.declared.ending.Ending.{Ending};
 ghost use Rattle.sling_dispatch.specs.declared.ending.Ending.TheVariants.{Done, NoMemory};
+ghost use Rattle.sling_dispatch.specs.Runs.{IsSession};
+ghost use Rattle.sling_dispatch.specs.Transcript.{transcript, EventsAreWritable};
+ghost use Rattle.sling_dispatch.specs.declared.note.Note.{Note};
 ghost use Rattle.sling_dispatch.specs.declared.scenario.Scenario.{Scenario};
 
-/// How the path of a target is escaped doesn't matter, nor which query stands behind it.
+/// How the path of a target is escaped doesn't matter, apart from the slash that it begins with, nor which query follows.
 pub fn spellings_are_answered_alike()
-    ensures { (content : Content) (a b : List ℕ) → path_text a ≡ path_text b → direct_answer content a ≡ direct_answer content b }
+    ensures { (content : Content) (a b : List ℕ) → begins_with_slash a ≡ begins_with_slash b → path_text a ≡ path_text b
+        → direct_answer content a ≡ direct_answer content b }
 {}
 
 /// A text spells one scenario.
@@ -26,10 +30,21 @@ pub fn one_refusal()
 {}
 
 /// Where the words are right, the source's bytes are a scenario whose content has a reading, and neither the source nor the
-/// sink failed, the run is done, unless memory was wanting.
+/// sink failed, the run is done, unless it ran out of memory.
 pub fn complete()
-    ensures { (c : Call) (sink : Seen (List ℕ)) (bytes : List ℕ) (s : Scenario) (ending : Ending) → Means (IsDue c) ending sink
+    ensures { (c : Call) (sink : Told (List ℕ)) (bytes : List ℕ) (s : Scenario) (ending : Ending) → Means (IsDue c) ending sink
         → IsReplay c.words → c.source.old ≡ Some bytes → Reads bytes s → HasContent s
-        → c.source.faults_old < 18446744073709551615 → IsCalm c.source → sink.faults_old < 18446744073709551615 → IsCalm sink
+        → c.source.faults_old < 18446744073709551615 → HasNotFailed c.source → sink.faults_old < 18446744073709551615 → HasNotFailed sink
         → (ending ≡ Done) ⊎ (ending ≡ NoMemory) }
+{}
+
+/// A scenario has one run, and so one transcript: whatever is done with its first acts has the same events.
+pub fn one_transcript()
+    ensures events { (s : Scenario) (n : ℕ) (a b : List (List Note)) → IsSession s n a → IsSession s n b → a ≡ b }
+    ensures transcript { (s : Scenario) (n : ℕ) (a b : List (List Note)) → IsSession s n a → IsSession s n b → transcript a ≡ transcript b }
+{}
+
+/// A transcript tells its events: no two lists of events are written alike.
+pub fn a_transcript_tells_its_events()
+    ensures { (a b : List (List Note)) → EventsAreWritable a → EventsAreWritable b → transcript a ≡ transcript b → a ≡ b }
 {}

@@ -1,7 +1,9 @@
+//! Lines of bytes.
 ghost use Rattle.std.specs.Prelude.{◌≡◌, ◌++◌, ◌∷◌, ◌↔◌, IsTrue, IfSome, IfNone};
-ghost use Rattle.sling_dispatch.specs.Lines.{newlines, FirstLine, Lacks};
+ghost use Rattle.sling_dispatch.specs.Lines.{newlines};
+ghost use Rattle.sling_dispatch.specs.Reading.{FirstLine, Lacks};
 
-// The first line, and the text behind its newline.
+// The first line, and the text after its newline.
 pub fn first_line(text: &[u8]) -> Option<(&[u8], &[u8])>
     ensures some { IfSome result (λ p. FirstLine text.now p.0.now p.1.now) }
     ensures none { IfNone result (newlines text.now ≡ 0) }
@@ -20,8 +22,8 @@ pub fn same(a: &[u8], b: &[u8]) -> bool
     a == b
 }
 
-// The text behind a first line that is this one.
-pub fn behind_line<'a>(text: &'a [u8], want: &[u8]) -> Option<&'a [u8]>
+// The text after a first line that is this one.
+pub fn after_line<'a>(text: &'a [u8], want: &[u8]) -> Option<&'a [u8]>
     ensures some { IfSome result (λ rest. text.now ≡ want.now ++ 10 ∷ rest.now) }
     ensures none { IfNone result (Lacks want.now text.now) }
 {

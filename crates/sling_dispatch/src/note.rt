@@ -1,3 +1,4 @@
+//! What happens in events.
 use sp_base::{Answer, Items};
 
 /// What happens in an event.

@@ -3,11 +3,11 @@ ghost use Rattle.std.specs.Prelude.{[], ◌≡◌, ◌≢◌, ◌+◌, ◌≤◌
 ghost use Rattle.std.specs.List.{list_all};
 ghost use Rattle.sling_dispatch.specs.Lines.{newlines, joined, AreLines};
 ghost use Rattle.sling_dispatch.specs.Languages.{IsRefused};
-ghost use Rattle.sling_dispatch.specs.Scenario.{is_visible, is_target, act_line, IsAct, AreActs, AreBlock, act_lines, Spells, IsScenario, Acts};
-ghost use Rattle.sling_dispatch.specs.Reading.{Refuses, RefusesWithin, SpellsBody, IsBody, EndsBlock, IfLine, shifted};
+ghost use Rattle.sling_dispatch.specs.Scenario.{is_visible, is_target, act_line, IsAct, AreActs, AreBlock, act_lines, Spells, IsScenario};
+ghost use Rattle.sling_dispatch.specs.Reading.{Refuses, RefusesWithin, SpellsBody, IsBody, EndsBlock, IfLine, shifted, Acts};
 ghost use Rattle.sling_dispatch.specs.declared.scenario.ScenarioFault.TheVariants.{Line, NoMemory as no_memory};
 
-use crate::lines::{behind_line, count_newlines, first_line, same};
+use crate::lines::{after_line, count_newlines, first_line, same};
 use crate::scenario::{Act, ActList, Scenario, ScenarioFault, Step};
 use sp_base::{ByteBuf, Items, Mem, TextBuf};
 use std::alloc::Global;
@@ -49,15 +49,15 @@ fn read_act(alloc: Global, line: &[u8]) -> Mem<Option<Act>>
     }
 }
 
-// What is read where the line `end` was passed.
-fn ended(acts: ActList, after: &[u8], passed: u64) -> Result<ActList, ScenarioFault>
-    requires { passed + 1 < 2 ^ 64 }
-    ensures { MatchResult result (λ list. (list ≡ acts) × (after.now ≡ [])) (λ e. (e ≡ Line (passed + 1)) × (after.now ≢ [])) }
+// What is read where the line `end` was before.
+fn ended(acts: ActList, after: &[u8], before: u64) -> Result<ActList, ScenarioFault>
+    requires { before + 1 < 2 ^ 64 }
+    ensures { MatchResult result (λ list. (list ≡ acts) × (after.now ≡ [])) (λ e. (e ≡ Line (before + 1)) × (after.now ≢ [])) }
 {
     if after.is_empty() {
         Ok(acts)
     } else {
-        Err(ScenarioFault::Line(passed + 1))
+        Err(ScenarioFault::Line(before + 1))
     }
 }
 
@@ -68,39 +68,39 @@ fn read_acts(alloc: Global, text: &[u8]) -> Result<ActList, ScenarioFault>
 {
     let mut acts = Items::new(alloc);
     let mut rest = text;
-    let mut passed = 0;
+    let mut before = 0;
     while let Some((line, after)) = first_line(rest) {
         if same(line, b"end") {
-            return ended(acts, after, passed);
+            return ended(acts, after, before);
         }
         let Some(act) = read_act(alloc, line)? else {
-            return Err(ScenarioFault::Line(passed));
+            return Err(ScenarioFault::Line(before));
         };
         acts.push(act)?;
         rest = after;
-        passed += 1;
+        before += 1;
     }
-    Err(ScenarioFault::Line(passed))
+    Err(ScenarioFault::Line(before))
 }
 
-// Where a block ends, and how many lines it has; or how many lines stand before the place of the refusal.
+// Where a block ends, and how many lines it has; or how many newlines stand before the place of the refusal.
 fn block_end(text: &[u8]) -> Result<(usize, u64), u64>
     ensures ok { IfOk result (λ p. EndsBlock text.now p.0 p.1) }
     ensures err { IfErr result (λ n. IsRefused IsBody text.now n × (n ≤ length text.now)) }
 {
     let mut rest = text;
-    let mut passed = 0;
+    let mut before = 0;
     while let Some((line, after)) = first_line(rest) {
         if same(line, b".") {
-            return Ok((text.len() - rest.len(), passed));
+            return Ok((text.len() - rest.len(), before));
         }
         rest = after;
-        passed += 1;
+        before += 1;
     }
-    Err(passed)
+    Err(before)
 }
 
-// The same fault, so many lines further down.
+// The same fault, lines further down.
 fn later(fault: ScenarioFault, lines: u64) -> ScenarioFault
     requires { IfLine fault (λ n. n + lines < 2 ^ 64) }
     ensures { result ≡ shifted fault lines }
@@ -111,19 +111,19 @@ fn later(fault: ScenarioFault, lines: u64) -> ScenarioFault
     }
 }
 
-// Reads the part behind the head.
+// Reads the part after the head.
 fn read_body(alloc: Global, text: &[u8]) -> Result<Scenario, ScenarioFault>
     ensures ok { IfOk result (λ s. SpellsBody text.now s) }
     ensures err { IfErr result (Refuses IsBody text.now) }
 {
-    let (at, passed) = match block_end(text) {
+    let (at, before) = match block_end(text) {
         Ok(end) => end,
         Err(n) => return Err(ScenarioFault::Line(n)),
     };
     let content = ByteBuf::of(alloc, &text[..at])?;
     match read_acts(alloc, &text[at + 2..]) {
         Ok(acts) => Ok(Scenario { content, acts }),
-        Err(fault) => Err(later(fault, passed + 1)),
+        Err(fault) => Err(later(fault, before + 1)),
     }
 }
 
@@ -132,10 +132,10 @@ fn read_scenario(alloc: Global, text: &[u8]) -> Result<Scenario, ScenarioFault>
     ensures ok { IfOk result (λ s. Spells text.now s) }
     ensures err { IfErr result (Refuses IsScenario text.now) }
 {
-    let Some(first) = behind_line(text, b"scenario 1") else {
+    let Some(first) = after_line(text, b"scenario 1") else {
         return Err(ScenarioFault::Line(0));
     };
-    let Some(body) = behind_line(first, b"content") else {
+    let Some(body) = after_line(first, b"content") else {
         return Err(ScenarioFault::Line(1));
     };
     match read_body(alloc, body) {
@@ -144,7 +144,7 @@ fn read_scenario(alloc: Global, text: &[u8]) -> Result<Scenario, ScenarioFault>
     }
 }
 
-// The same where a scenario has at most so many bytes. The text is all of them, or more than these.
+// The same where a scenario has at most `limit` bytes. The text is all of them, or more than these.
 pub fn read_limited(alloc: Global, text: &[u8], limit: usize) -> Result<Scenario, ScenarioFault>
     ensures ok { IfOk result (λ s. Spells text.now s × (length text.now ≤ limit)) }
     ensures err { IfErr result (RefusesWithin limit IsScenario text.now) }
@@ -152,9 +152,9 @@ pub fn read_limited(alloc: Global, text: &[u8], limit: usize) -> Result<Scenario
     if text.len() <= limit {
         return read_scenario(alloc, text);
     }
-    let front = &text[..limit];
-    let Err(fault) = read_scenario(alloc, front) else {
-        return Err(ScenarioFault::Line(count_newlines(front)));
+    let allowed = &text[..limit];
+    let Err(fault) = read_scenario(alloc, allowed) else {
+        return Err(ScenarioFault::Line(count_newlines(allowed)));
     };
     Err(fault)
 }

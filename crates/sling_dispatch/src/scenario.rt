@@ -1,3 +1,4 @@
+//! Scenarios, and why bytes are none.
 ghost use Rattle.std.specs.Prelude.{◌≡◌};
 ghost use Rattle.sling_dispatch.specs.declared.scenario.ScenarioFault.TheVariants.{NoMemory as no_memory};
 
@@ -11,7 +12,7 @@ pub enum Step {
     Direct(TextBuf),
 }
 
-/// A line of a scenario behind its content.
+/// A line of a scenario after its content.
 #[derive(Drop)]
 pub enum Act {
     Do(Step),
@@ -28,7 +29,7 @@ pub struct Scenario {
 
 #[derive(Clone, Copy, PartialEq, Eq, Debug, Drop)]
 pub enum ScenarioFault {
-    /// How many lines stand before the one that is refused.
+    /// How many newlines stand before the place at which the bytes are refused.
     Line(u64),
     NoMemory,
 }

@@ -1,3 +1,4 @@
+//! Scripts and templates, asked through a run.
 use crate::tests::answered;
 use std::alloc::{AllocError, Global};
 use std::test::Fail;
@@ -14,7 +15,7 @@ const SCRIPTS: [(&str, &str); 8] = [
     ("jobs", "GET.html"),
 ];
 
-// Those of a folder, from a rank on, as members behind another. The text of each is its folder and its name.
+// Those of a folder, from a rank on, as members after another. The text of each is its folder and its name.
 fn scripts_in(alloc: Global, folder: &str, first: usize) -> Result<String, AllocError> {
     let mut text = String::new(alloc);
     for (place, name) in &SCRIPTS[first.min(8)..] {

@@ -1,11 +1,16 @@
+//! Reads a source whole, and writes a text to a sink.
 ghost use Rattle.std.specs.Prelude.{◌≡◌, ◌≤◌, ◌<◌, ◌+◌, ◌^◌, ℕ, IfOk, OnOk, OnErr, length, take};
 ghost use Rattle.sp_outside.specs.Told.{added, before_taking, IsAtEnd};
 ghost use Rattle.sp_outside.specs.Causes.{HasSinkCause};
-ghost use Rattle.sling_dispatch.specs.Streams.{HasReadCause, HasTaken};
+ghost use Rattle.sling_dispatch.specs.Streams.{HasTaken};
+ghost use Rattle.sling_dispatch.specs.InnerEndings.{HasReadCause};
 ghost use Rattle.sling_dispatch.specs.declared.streams.ReadFault.TheVariants.{NoMemory};
 
 use sp_outside::{Sink, SinkFault, Source};
 use std::alloc::{AllocError, Global};
+
+// How many bytes are read at once.
+const READ_BYTES: usize = 4_096;
 
 /// Why a source wasn't read.
 #[derive(Clone, Copy, PartialEq, Eq, Debug, Drop)]
@@ -36,9 +41,9 @@ pub fn read_whole<S: Source>(
     ensures cause { HasReadCause (S.faults source.old) (S.faults source.new) result }
 {
     let mut text = Vec::new(alloc);
-    let mut buffer = [0u8; 4096];
+    let mut buffer = [0u8; READ_BYTES];
     while text.len() <= limit {
-        let room = (limit + 1 - text.len()).min(4096);
+        let room = (limit + 1 - text.len()).min(READ_BYTES);
         let part = &mut buffer[..room];
         let n = match source.read(part) {
             Ok(n) => n,

@@ -1,11 +1,11 @@
-//! Reads the target of a request, in the origin form: a path, and a query behind it (RFC 9112, section 3.2.1).
+//! Reads the target of a request, in the origin form: a path, and a query after it (RFC 9112, section 3.2.1).
 ghost use Rattle.std.specs.Prelude.{◌≡◌, IfOk, option_copied, position};
 ghost use Rattle.std.specs.List.{before_first};
 ghost use Rattle.std.specs.Option.{option_map};
 ghost use Rattle.std.specs.Result.{result_ok};
 ghost use Rattle.percent_encoding.specs.Percent.{percent_decode as decoding};
 ghost use Rattle.sp_base.specs.Paths.{path_of, unmangled};
-ghost use Rattle.sling_dispatch.specs.Targets.{is_mark, query_of, ends_in_slash, without_slash as trimmed, as_text, target_of};
+ghost use Rattle.sling_dispatch.specs.Targets.{is_mark, query_of, begins_with_slash, ends_in_slash, without_slash as trimmed, as_text, target_of};
 
 use percent_encoding::{DecodeError, percent_decode};
 use sp_base::{ByteBuf, Mem, NoMemory, Path, PathFault, TextBuf};
@@ -22,10 +22,13 @@ pub struct Target {
     pub query: Option<ByteBuf>,
 }
 
-/// Reads a target. None is a bad one, whose path isn't UTF-8 or spells no path.
+/// Reads a target. None is a bad one: it doesn't begin with a slash, or its path isn't UTF-8 or spells no path.
 pub fn read_target(alloc: Global, target: &[u8]) -> Mem<Option<Target>>
     ensures { IfOk result (λ o. o ≡ target_of target.now) }
 {
+    if !begins_with_slash(target) {
+        return Ok(None);
+    }
     let (path, query) = cut(target);
     let Some(text) = decoded(alloc, path)? else {
         return Ok(None);
@@ -36,6 +39,16 @@ pub fn read_target(alloc: Global, target: &[u8]) -> Mem<Option<Target>>
     };
     let query = copied(alloc, query)?;
     Ok(Some(Target { path, slash, query }))
+}
+
+// An escape isn't a slash here: the target is looked at as it came.
+fn begins_with_slash(target: &[u8]) -> bool
+    ensures { result ≡ begins_with_slash target.now }
+{
+    match target {
+        [first, ..] => *first == b'/',
+        [] => false,
+    }
 }
 
 // The path of a target as it came, and the query.

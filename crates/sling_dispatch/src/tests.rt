@@ -1,3 +1,4 @@
+//! The run over sources and sinks in memory, against texts that were written by hand.
 use crate::program::run;
 use sp_base::{ByteBuf, CallList};
 use sp_outside::{MemSink, MemSource};
@@ -15,7 +16,7 @@ const FIRST_TRANSCRIPT: &[u8] =
 // at once, and the sink takes 5.
 fn ran(
     alloc: Global,
-    words: &[&str],
+    words: &[&[u8]],
     text: &[u8],
     source_fails: &[u64],
     sink_fails: &[u64],
@@ -29,15 +30,15 @@ fn ran(
 }
 
 // The same for a scenario, over a source and a sink that hold back nothing.
-fn replayed(alloc: Global, text: Vec<u8>) -> Result<(u8, Vec<u8>), AllocError> {
+pub fn replayed(alloc: Global, text: Vec<u8>) -> Result<(u8, Vec<u8>), AllocError> {
     let mut source = MemSource::new(ByteBuf::from(text), CallList::new(alloc));
     let mut sink = MemSink::new(alloc, CallList::new(alloc));
-    let status = run(alloc, &["replay"], &mut source, &mut sink);
+    let status = run(alloc, &[b"replay"], &mut source, &mut sink);
     let written = sink.bytes().to_vec(alloc)?;
     Ok((status, written))
 }
 
-// A scenario with this content and this line behind it.
+// A scenario with this content and this line after it.
 fn scenario(alloc: Global, content: &[u8], line: &[u8]) -> Result<Vec<u8>, AllocError> {
     let mut text = b"scenario 1\ncontent\n".to_vec(alloc)?;
     text.extend_from_slice(content)?;
@@ -50,13 +51,14 @@ fn scenario(alloc: Global, content: &[u8], line: &[u8]) -> Result<Vec<u8>, Alloc
 #[test]
 fn replays_scenarios(rt: HostRuntime) -> Result<(), Fail> {
     let empty: &[u8] = b"scenario 1\ncontent\n{}\n.\nend\n";
-    let cases: [(&[&str], &[u8], u8, &[u8]); 6] = [
-        (&["replay"], empty, 0, b""),
-        (&["replay"], FIRST, 0, FIRST_TRANSCRIPT),
-        (&["play"], FIRST, 2, b"usage: replay\n"),
+    let cases: [(&[&[u8]], &[u8], u8, &[u8]); 7] = [
+        (&[b"replay"], empty, 0, b""),
+        (&[b"replay"], FIRST, 0, FIRST_TRANSCRIPT),
+        (&[b"play"], FIRST, 2, b"usage: replay\n"),
         (&[], FIRST, 2, b"usage: replay\n"),
-        (&["replay", "replay"], FIRST, 2, b"usage: replay\n"),
-        (&["replay "], FIRST, 2, b"usage: replay\n"),
+        (&[b"replay", b"replay"], FIRST, 2, b"usage: replay\n"),
+        (&[b"replay "], FIRST, 2, b"usage: replay\n"),
+        (&[b"\xff"], FIRST, 2, b"usage: replay\n"),
     ];
     for (words, text, status, wanted) in cases {
         let (got, written) = ran(rt.alloc(), words, text, &[], &[])?;
@@ -84,7 +86,7 @@ fn refuses_what_is_no_scenario(rt: HostRuntime) -> Result<(), Fail> {
         (b"scenario 1\ncontent\n{}\n.\ndirect /\ndirect/\nend\n", 6),
     ];
     for (text, line) in cases {
-        let (status, written) = ran(rt.alloc(), &["replay"], text, &[], &[])?;
+        let (status, written) = ran(rt.alloc(), &[b"replay"], text, &[], &[])?;
         assert_eq!(rt; status, 5, "{text:?}");
         let wanted = format!(in rt.alloc(); "scenario refused at line {line}\n")?;
         assert_eq!(rt; written.as_slice(), wanted.as_bytes(), "{text:?}");
@@ -207,7 +209,7 @@ fn answers_targets(rt: HostRuntime) -> Result<(), Fail> {
 fn reads_targets(rt: HostRuntime) -> Result<(), Fail> {
     let content =
         "{\"x\":\"root\",\"content\":{\"en\":{\"x\":\"en\"},\"a+b\":{\"x\":\"plus\"},\"5%\":{\"x\":\"percent\"},\"jcr:content\":{\"x\":\"jcr\"},\"\u{e9}\":{\"x\":\"accent\"}}}";
-    let cases: [(&[u8], u16, &str); 34] = [
+    let cases: [(&[u8], u16, &str); 36] = [
         (b"/content/en.json", 200, "en"),
         (b"/content/%65n.json", 200, "en"),
         (b"/content/e%6E%2ejson", 200, "en"),
@@ -242,6 +244,8 @@ fn reads_targets(rt: HostRuntime) -> Result<(), Fail> {
         (b"/content/_jcr_content.json", 200, "jcr"),
         (b"/content/jcr:content.json", 200, "jcr"),
         (b"content/en.json", 400, "Bad Request"),
+        (b"%2Fcontent/en.json", 400, "Bad Request"),
+        (b"%2fcontent/en.json?q=1", 400, "Bad Request"),
     ];
     for (target, status, what) in cases {
         let written = answered(rt.alloc(), content.as_bytes(), target)?;
@@ -264,8 +268,8 @@ fn measures_targets(rt: HostRuntime) -> Result<(), Fail> {
         (b"/_jcr_", b"a", 195, 404, "Not Found"),
         (b"/_jcr_", b"a", 196, 400, "Bad Request"),
     ];
-    for (front, unit, count, status, what) in cases {
-        let target = repeated(rt.alloc(), front, unit, count)?;
+    for (prefix, unit, count, status, what) in cases {
+        let target = repeated(rt.alloc(), prefix, unit, count)?;
         let written = answered(rt.alloc(), b"{}", &target)?;
         let wanted = told(rt.alloc(), status, what)?;
         assert_eq!(rt;
@@ -318,16 +322,16 @@ fn told(alloc: Global, status: u16, what: &str) -> Result<String, AllocError> {
     )
 }
 
-// A text, and another so many times behind it.
-fn repeated(alloc: Global, front: &[u8], unit: &[u8], count: u32) -> Result<Vec<u8>, AllocError> {
-    let mut text = front.to_vec(alloc)?;
+// A text, and another `count` times after it.
+fn repeated(alloc: Global, prefix: &[u8], unit: &[u8], count: u32) -> Result<Vec<u8>, AllocError> {
+    let mut text = prefix.to_vec(alloc)?;
     for _ in 0..count {
         text.extend_from_slice(unit)?;
     }
     Ok(text)
 }
 
-// A content with a resource that has so many kids.
+// A content with a resource that has `kids` kids.
 fn big(alloc: Global, kids: u32) -> Result<Vec<u8>, AllocError> {
     let mut text = b"{\"content\":{\"big\":".to_vec(alloc)?;
     text.extend_from_slice(&wide(alloc, kids)?)?;
@@ -335,7 +339,7 @@ fn big(alloc: Global, kids: u32) -> Result<Vec<u8>, AllocError> {
     Ok(text)
 }
 
-// An object of so many bytes, with one text.
+// An object of `len` bytes, with one text.
 fn long(alloc: Global, len: usize) -> Result<Vec<u8>, AllocError> {
     let mut text = b"{\"x\":\"".to_vec(alloc)?;
     let filler = vec![in alloc; b'a'; len.saturating_sub(8)]?;
@@ -351,7 +355,7 @@ fn line_of(alloc: Global, target: &[u8]) -> Result<Vec<u8>, AllocError> {
     Ok(line)
 }
 
-// An object with so many empty members.
+// An object with empty members.
 fn wide(alloc: Global, members: u32) -> Result<Vec<u8>, AllocError> {
     let mut text = b"{".to_vec(alloc)?;
     for i in 0..members {
@@ -365,7 +369,7 @@ fn wide(alloc: Global, members: u32) -> Result<Vec<u8>, AllocError> {
     Ok(text)
 }
 
-// Objects within one another, so many below the first.
+// Objects within one another, `levels` below the first.
 fn deep(alloc: Global, levels: u32) -> Result<Vec<u8>, AllocError> {
     let mut text = Vec::new(alloc);
     for _ in 0..levels {
@@ -394,7 +398,10 @@ fn refuses_contents_that_are_too_big(rt: HostRuntime) -> Result<(), Fail> {
     Ok(())
 }
 
-// A scenario of so many bytes, of which most are blanks of its content.
+// The most bytes of a scenario.
+const MOST_BYTES: usize = 67_108_864;
+
+// A scenario of `len` bytes, of which most are blanks of its content.
 fn padded(alloc: Global, len: usize) -> Result<Vec<u8>, AllocError> {
     let mut text = b"scenario 1\ncontent\n{}".to_vec(alloc)?;
     let end: &[u8] = b"\n.\nend\n";
@@ -410,9 +417,9 @@ fn refuses_scenarios_that_are_too_long(rt: HostRuntime) -> Result<(), Fail> {
     let last: &[u8] = b"scenario refused at line 5\n";
     let first: &[u8] = b"scenario refused at line 1\n";
     for (text, status, wanted) in [
-        (padded(rt.alloc(), 67_108_864)?, 0, b"".as_slice()),
-        (padded(rt.alloc(), 67_108_865)?, 5, last),
-        (vec![in rt.alloc(); b'x'; 67_108_865]?, 5, first),
+        (padded(rt.alloc(), MOST_BYTES)?, 0, b"".as_slice()),
+        (padded(rt.alloc(), MOST_BYTES + 1)?, 5, last),
+        (vec![in rt.alloc(); b'x'; MOST_BYTES + 1]?, 5, first),
     ] {
         let (got, written) = replayed(rt.alloc(), text)?;
         assert_eq!(rt; got, status);
@@ -426,11 +433,11 @@ fn ends_at_a_source_that_fails(rt: HostRuntime) -> Result<(), Fail> {
     // Each call gives 7 bytes, and the last one none.
     let last = FIRST.len().div_ceil(7) as u64 + 1;
     for call in 1..last + 2 {
-        let (status, written) = ran(rt.alloc(), &["replay"], FIRST, &[call], &[])?;
+        let (status, written) = ran(rt.alloc(), &[b"replay"], FIRST, &[call], &[])?;
         if call <= last {
             assert_eq!(rt; status, 3, "at {call}");
             assert_eq!(rt; written.as_slice(), b"source failed\n".as_slice());
-            let (status, written) = ran(rt.alloc(), &["replay"], FIRST, &[call], &[2])?;
+            let (status, written) = ran(rt.alloc(), &[b"replay"], FIRST, &[call], &[2])?;
             assert_eq!(rt; status, 4, "at {call}");
             assert_eq!(rt; written.as_slice(), b"sourc".as_slice());
         } else {
@@ -445,7 +452,7 @@ fn ends_at_a_source_that_fails(rt: HostRuntime) -> Result<(), Fail> {
 fn ends_at_a_sink_that_fails(rt: HostRuntime) -> Result<(), Fail> {
     let mut failed = 0u64;
     for call in 1..80u64 {
-        let (status, written) = ran(rt.alloc(), &["replay"], FIRST, &[], &[call])?;
+        let (status, written) = ran(rt.alloc(), &[b"replay"], FIRST, &[], &[call])?;
         assert!(rt; FIRST_TRANSCRIPT.starts_with(&written), "at {call}");
         if written.len() < FIRST_TRANSCRIPT.len() {
             assert_eq!(rt; status, 4, "at {call}");
@@ -457,7 +464,10 @@ fn ends_at_a_sink_that_fails(rt: HostRuntime) -> Result<(), Fail> {
     }
     assert!(rt; failed > 30);
     assert!(rt; failed < 79);
-    for (words, text) in [(["play"], FIRST), (["replay"], b"".as_slice())] {
+    for (words, text) in [
+        ([b"play".as_slice()], FIRST),
+        ([b"replay".as_slice()], b"".as_slice()),
+    ] {
         let (status, written) = ran(rt.alloc(), &words, text, &[], &[1])?;
         assert_eq!(rt; status, 4);
         assert_eq!(rt; written.as_slice(), b"".as_slice());

@@ -1,3 +1,4 @@
+-- When a call of the outside may answer that it failed.
 use Rattle.std.specs.Prelude.{◌≡◌, ◌+◌, ◌≤◌, ℕ, Result, Ok, Err, min}
 use Rattle.sp_outside.specs.declared.source.SourceFault.{SourceFault}
 use Rattle.sp_outside.specs.declared.source.SourceFault.TheVariants.{Failed as source_failed}
@@ -17,7 +18,7 @@ abbrev pub HasSourceCause : {T : Type 0} → ℕ → ℕ → Result T SourceFaul
 HasSourceCause before after (Ok _) = after ≡ before
 HasSourceCause before after (Err source_failed) = Rose before after
 
--- the same of a sink, where want of memory leaves the count too
+-- the same of a sink, where running out of memory leaves the count too
 abbrev pub HasSinkCause : {T : Type 0} → ℕ → ℕ → Result T SinkFault → Type 0
 HasSinkCause before after (Ok _) = after ≡ before
 HasSinkCause before after (Err sink_failed) = Rose before after

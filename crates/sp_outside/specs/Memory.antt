@@ -1,3 +1,4 @@
+-- The state of sources and sinks in memory, and what each call does to it.
 use Rattle.std.specs.Prelude.{◌++◌, ◌==◌, ℕ, Bool, true, false, List, Result, Ok, Err, take, drop}
 use Rattle.std.specs.List.{list_any}
 use Rattle.sp_outside.specs.Causes.{next}
@@ -22,11 +23,11 @@ pub record SinkState : Type 0 where
   pub calls : ℕ
   pub failed : ℕ
 
--- after so many calls, the next one is among those that fail
+-- after `calls` calls, the next one is among those that fail
 abbrev pub fails_next : List ℕ → ℕ → Bool
 fails_next fails calls = list_any (λ n. n == next calls) fails
 
--- a write failed, and not for want of memory
+-- a write failed, and not because memory ran out
 abbrev pub has_failed : {T : Type 0} → Result T SinkFault → Bool
 has_failed (Ok _) = false
 has_failed (Err Failed) = true

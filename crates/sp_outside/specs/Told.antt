@@ -1,3 +1,4 @@
+-- What objects of the outside tell of the bytes that they hold or give.
 use Rattle.std.specs.Prelude.{◌≡◌, ◌++◌, ℕ, List, [], Option, Some, None, IfSome}
 
 -- what an object holds after bytes were added to it, where it tells
@@ -5,7 +6,7 @@ abbrev pub added : Option (List ℕ) → List ℕ → Option (List ℕ)
 added None bytes = None
 added (Some held) bytes = Some (held ++ bytes)
 
--- what was left before bytes were taken from the front, where it tells
+-- what was left before bytes were taken from the beginning, where it tells
 abbrev pub before_taking : List ℕ → Option (List ℕ) → Option (List ℕ)
 before_taking bytes None = None
 before_taking bytes (Some rest) = Some (bytes ++ rest)

@@ -1,18 +1,23 @@
-//! The outside: what the program reads from and writes to, in memory and for real.
+//! The outside: the words that the program is started with, what it reads from and what it writes to, in memory and for
+//! real.
 //!
 //! Each object counts its faults. A call answers `Failed` only where that count rose in the call, and a call that answers
 //! anything else leaves it. The objects in memory tell what they hold, so that contracts can speak of it; the real ones
 //! tell nothing.
 #![tactic(auto)]
 
+#[cfg(test)]
+mod long_tests;
 mod memory;
 mod real;
 mod sink;
 mod source;
 #[cfg(test)]
 mod tests;
+mod words;
 
 pub use memory::{MemSink, MemSource};
 pub use real::{RealSink, RealSource};
 pub use sink::{Sink, SinkFault};
 pub use source::{Source, SourceFault};
+pub use words::{MemWords, RealWords, WordList, Words};

@@ -1,3 +1,4 @@
+//! Sources and sinks in memory, which tell what they hold, and of which chosen calls fail.
 ghost use Rattle.std.specs.Prelude.{◌≡◌, ◌↔◌, ◌<◌, ◌≤◌, ◌+◌, ◌++◌, ℕ, List, [], Some, Err, IfOk, IfSome, OnErr, IsTrue, is_err, min, take, drop, length};
 ghost use Rattle.sp_outside.specs.Told.{added, before_taking};
 ghost use Rattle.sp_outside.specs.Causes.{HasSourceCause, HasSinkCause};
@@ -45,7 +46,7 @@ impl MemSource {
         MemSource::in_parts(bytes, usize::MAX, fails)
     }
 
-    /// Each read gives at most so many bytes.
+    /// Each read gives at most `most` bytes.
     pub fn in_parts(bytes: ByteBuf, most: usize, fails: CallList) -> MemSource
         requires { 0 < most }
         ensures { result ≡ record { left = bytes; most = most; fails = fails; calls = 0; failed = 0 } }
@@ -92,7 +93,7 @@ impl Source for MemSource {
     }
 }
 
-// Copies bytes from place `at` on to the front of the buffer, at most `most` and as many as there is room for.
+// Copies bytes from place `at` on to the beginning of the buffer, at most `most` and as many as there is room for.
 fn give(bytes: &[u8], at: usize, most: usize, into: &mut [u8]) -> usize
     ensures given { result ≡ min (min (length (drop at bytes.now)) most) (length into.old) }
     ensures bytes { into.new ≡ take result (drop at bytes.now) ++ drop result into.old }
@@ -143,7 +144,7 @@ impl MemSink {
         MemSink::in_parts(alloc, usize::MAX, fails)
     }
 
-    /// Each write takes at most so many bytes.
+    /// Each write takes at most `most` bytes.
     pub fn in_parts(alloc: Global, most: usize, fails: CallList) -> MemSink
         requires { 0 < most }
         ensures { result ≡ record { held = []; most = most; fails = fails; calls = 0; failed = 0 } }

@@ -1,3 +1,4 @@
+//! Sources and sinks over a reader and a printer. They tell nothing.
 ghost use Rattle.std.specs.Prelude.{◌≡◌, None};
 
 use crate::{Sink, SinkFault, Source, SourceFault};

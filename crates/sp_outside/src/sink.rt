@@ -1,3 +1,4 @@
+//! Sinks: what is written to.
 ghost use Rattle.std.specs.Prelude.{◌≡◌, ◌<◌, ◌≤◌, ℕ, List, Option, IfOk, OnErr, take, length};
 ghost use Rattle.sp_outside.specs.Told.{added};
 ghost use Rattle.sp_outside.specs.Causes.{HasSinkCause};
@@ -16,7 +17,7 @@ pub trait Sink {
     /// The bytes that it holds, where the sink tells them.
     ghost held: { Self → Option (List ℕ) };
 
-    /// Takes bytes from the front of those given, at least one. A sink that would take none fails.
+    /// Takes bytes from the beginning of those given, at least one. A sink that would take none fails.
     fn write(&mut self, bytes: &[u8]) -> Result<usize, SinkFault>
         requires { 0 < length bytes.now }
         ensures some { IfOk result (λ n. 0 < n) }

@@ -1,3 +1,4 @@
+//! Sources: what is read from.
 ghost use Rattle.std.specs.Prelude.{◌≡◌, ◌↔◌, ◌<◌, ◌≤◌, ℕ, List, [], Option, IfSome, IfOk, OnErr, take, length};
 ghost use Rattle.sp_outside.specs.Told.{before_taking};
 ghost use Rattle.sp_outside.specs.Causes.{HasSourceCause};
@@ -7,7 +8,7 @@ pub enum SourceFault {
     Failed,
 }
 
-/// Bytes that are read from the front to the end.
+/// Bytes that are read from the beginning to the end.
 pub trait Source {
     /// How often a read has failed.
     ghost faults: { Self → ℕ };
@@ -15,7 +16,7 @@ pub trait Source {
     /// The bytes that are left, where the source tells them.
     ghost left: { Self → Option (List ℕ) };
 
-    /// Reads bytes into the front of the buffer: at least one, or none exactly where none is left.
+    /// Reads bytes into the beginning of the buffer: at least one, or none exactly where none is left.
     fn read(&mut self, into: &mut [u8]) -> Result<usize, SourceFault>
         requires { 0 < length into.old }
         ensures within { IfOk result (λ n. n ≤ length into.old) }

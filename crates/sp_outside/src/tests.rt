@@ -1,3 +1,4 @@
+//! The objects in memory, and the real ones over fakes that fail.
 use super::*;
 use sp_base::{ByteBuf, CallList};
 use std::cell::Cell;

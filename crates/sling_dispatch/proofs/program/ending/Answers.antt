@@ -1,7 +1,8 @@
 use Rattle.std.proofs.Common.{◌∙◌, ◌≤◌, ◌++◌, ◌+◌, ◌∷◌, [], map, length, List, ℕ, subst, sym, ap, refl, codes}
 use Rattle.sp_outside.specs.Told.{before_taking, IsAtEnd}
 use Rattle.sling_dispatch.specs.Scenario.{most}
-use Rattle.sling_dispatch.specs.Endings.{seen, Call, IsDue, IsDueAt, UsageLine, SourceLine}
+use Rattle.sling_dispatch.specs.Endings.{seen, Call, IsDue, UsageLine, SourceLine}
+use Rattle.sling_dispatch.specs.InnerEndings.{IsDueAt}
 use Rattle.sling_dispatch.specs.declared.ending.Ending.TheVariants.{Usage, SourceFailed}
 use Rattle.sling_dispatch.proofs.Meanings.{means_weaker, due_of_source, told_line, out_of_memory}
 use Rattle.sling_dispatch.proofs.program.ending.Goals as goal
@@ -20,14 +21,11 @@ returns-in-Ok-clause-ending g c =
     let words = map (λ w. w.now) c.args.words.now in
     let source = seen (g.S.Source.left c.args.source.now) (g.S.Source.left c.read_whole.new.source)
     (g.S.Source.faults c.args.source.now) (g.S.Source.faults c.read_whole.new.source) in
-    let text = c.deref.result.now in
-    let same = c.deref.ensures.value in
+    let text = c.in-Ok.text.items in
     let call : Call = record { words = words; source = source } in
     means_weaker (IsDueAt text) (IsDue call)
     (due_of_source call text (c.is_replay.ensures.0 c.if-not-is_replay.false) c.in-Ok.ensures.cause
-    (c.in-Ok.ensures.read ∙ ap (λ t. before_taking t source.new) (sym same))
-    (subst (λ (t : List ℕ). length t ≤ most → IsAtEnd source.new) (sym same) c.in-Ok.ensures.end)
-    (subst (λ (t : List ℕ). length t ≤ most + 1) (sym same) c.in-Ok.ensures.most))
+    c.in-Ok.ensures.read c.in-Ok.ensures.end c.in-Ok.ensures.most)
     c.replay.result
     (seen (g.K.Sink.held c.args.sink.now) (g.K.Sink.held c.replay.new.sink) (g.K.Sink.faults c.args.sink.now) (g.K.Sink.faults c.replay.new.sink))
     c.replay.ensures

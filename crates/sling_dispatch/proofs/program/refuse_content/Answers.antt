@@ -1,5 +1,6 @@
 use Rattle.std.proofs.Common.{refl}
-use Rattle.sling_dispatch.specs.Endings.{seen, IsContentOr, ContentLine}
+use Rattle.sling_dispatch.specs.Endings.{seen, ContentLine}
+use Rattle.sling_dispatch.specs.InnerEndings.{IsContentOr}
 use Rattle.sling_dispatch.specs.declared.ending.Ending.TheVariants.{ContentRefused}
 use Rattle.sling_dispatch.proofs.Meanings.{told_made, out_of_memory}
 use Rattle.sling_dispatch.proofs.program.refuse_content.Goals as goal

@@ -1,5 +1,6 @@
 use Rattle.std.proofs.Common.{refl, arith}
-use Rattle.sling_dispatch.specs.Endings.{seen, IsDueAt, IsDueIn, RefusalLine}
+use Rattle.sling_dispatch.specs.Endings.{seen, RefusalLine}
+use Rattle.sling_dispatch.specs.InnerEndings.{IsDueAt, IsDueIn}
 use Rattle.sling_dispatch.specs.declared.ending.Ending.TheVariants.{Refused}
 use Rattle.sling_dispatch.proofs.Meanings.{means_weaker, in_text, told_made, out_of_memory}
 use Rattle.sling_dispatch.proofs.program.replay.Goals as goal
@@ -7,18 +8,18 @@ use Rattle.sling_dispatch.proofs.program.replay.Goals as goal
 pub returns-in-Ok : goal.returns-in-Ok
 returns-in-Ok g c =
     let s = c.in-Ok.scenario in
-    means_weaker (IsDueIn s) (IsDueAt c.args.text.now) (in_text c.args.text.now s c.in-Ok.ensures.ok) c.session.result
+    means_weaker (IsDueIn s) (IsDueAt c.args.text.items) (in_text c.args.text.items s c.in-Ok.ensures.ok) c.session.result
     (seen (g.K.Sink.held c.args.sink.now) (g.K.Sink.held c.session.new.sink) (g.K.Sink.faults c.args.sink.now) (g.K.Sink.faults c.session.new.sink))
     c.session.ensures
 
 pub returns-in-Err-Line : goal.returns-in-Err-Line
 returns-in-Err-Line g c =
-    let text = c.args.text.now in
+    let text = c.args.text.items in
     let r = rw c.in-Err-Line.field-0-is at c.in-Err-Line.ensures.err in
-    let passed = c.in-Err-Line.passed in
-    told_made (λ line. line.items) (IsDueAt text) (RefusalLine passed) Refused c.say_line.result c.refusal_line.result
+    let before = c.in-Err-Line.before in
+    told_made (λ line. line.items) (IsDueAt text) (RefusalLine before) Refused c.say_line.result c.refusal_line.result
     (seen (g.K.Sink.held c.args.sink.now) (g.K.Sink.held c.say_line.new.sink) (g.K.Sink.faults c.args.sink.now) (g.K.Sink.faults c.say_line.new.sink))
-    tt r.0 (λ w. (passed, r.0, w)) c.refusal_line.ensures c.say_line.ensures.made c.say_line.ensures.not_made
+    tt r.0 (λ w. (before, r.0, w)) c.refusal_line.ensures c.say_line.ensures.made c.say_line.ensures.not_made
 
 pub refusal_line-requires : goal.refusal_line-requires
 refusal_line-requires g c =
@@ -29,4 +30,4 @@ pub returns-in-Err-NoMemory : goal.returns-in-Err-NoMemory
 returns-in-Err-NoMemory g c =
     let held = g.K.Sink.held c.args.sink.now in
     let count = g.K.Sink.faults c.args.sink.now in
-    out_of_memory (IsDueAt c.args.text.now) tt (seen held held count count) refl refl
+    out_of_memory (IsDueAt c.args.text.items) tt (seen held held count count) refl refl

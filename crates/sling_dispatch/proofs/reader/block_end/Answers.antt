@@ -8,7 +8,7 @@ returns-then-same-clause-ok c =
     let p = c.loop-line.invariant in
     let size = ap length p.text_is in
     let parts = length-append (joined p.block) c.loop-line.rest.now in
-    block_ends c.args.text.now c.loop-line.rest.now c.in-Some.line.now c.in-Some.after.now c.loop-line.passed
+    block_ends c.args.text.now c.loop-line.rest.now c.in-Some.line.now c.in-Some.after.now c.loop-line.before
     (length c.args.text.now - length c.loop-line.rest.now) p c.in-Some.ensures.some (c.same.ensures.0 c.if-same.true)
     (omega (arith, size, parts))
 

@@ -3,7 +3,7 @@ use Rattle.sling_dispatch.proofs.BodyLaws.{PassedBlock}
 use Rattle.sling_dispatch.proofs.reader.block_end.Given as goal
 
 abbrev pub invariant-loop-line : goal.invariant-loop-line
-invariant-loop-line l = PassedBlock l.text l.rest l.passed
+invariant-loop-line l = PassedBlock l.text l.rest l.before
 
 abbrev pub decreases-loop-line : goal.decreases-loop-line
 decreases-loop-line l = length l.rest

@@ -1,8 +1,8 @@
 use Rattle.std.proofs.Common.{sym, ◌∙◌, ap, subst, ◌+◌}
 use Rattle.std.proofs.lemmas.Result.{MatchResult-weaker}
 use Rattle.sling_dispatch.specs.Lines.{joined}
-use Rattle.sling_dispatch.specs.Scenario.{act_lines, AreActs, Acts}
-use Rattle.sling_dispatch.specs.Reading.{Refuses}
+use Rattle.sling_dispatch.specs.Scenario.{act_lines, AreActs}
+use Rattle.sling_dispatch.specs.Reading.{Refuses, Acts}
 use Rattle.sling_dispatch.proofs.ReadingActs.{Passed, passed_within, passed_one_more, passed_act, passed_all, refused_past_end, refused_at_line, refused_at_end}
 use Rattle.sling_dispatch.proofs.reader.read_acts.Goals as goal
 
@@ -33,7 +33,7 @@ loop-line-preserved c =
     let line = c.in-Some.line.now in
     let after = c.in-Some.after.now in
     let act = rw c.in-Some-2.is at c.in_ok-act.ensures.some in
-    subst (λ acts. Passed c.args.text.now after acts (c.loop-line.passed + 1)) (sym c.in_ok-push.ensures.ok)
+    subst (λ acts. Passed c.args.text.now after acts (c.loop-line.before + 1)) (sym c.in_ok-push.ensures.ok)
     (passed_act _ _ line after _ c.in-Some-2.act _ c.loop-line.invariant c.in-Some.ensures.some act.0 act.1)
 
 pub returns-clause-err : goal.returns-clause-err

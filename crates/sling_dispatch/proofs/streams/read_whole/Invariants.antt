@@ -6,7 +6,7 @@ abbrev pub invariant-loop-buffer : goal.invariant-loop-buffer
 invariant-loop-buffer g l = record {
   read : g.S.Source.left l.initial.source ≡ before_taking l.text.items (g.S.Source.left l.source);
   most : length l.text.items ≤ l.limit + 1;
-  calm : g.S.Source.faults l.source ≡ g.S.Source.faults l.initial.source;
+  not_failed : g.S.Source.faults l.source ≡ g.S.Source.faults l.initial.source;
 }
 
 abbrev pub decreases-loop-buffer : goal.decreases-loop-buffer

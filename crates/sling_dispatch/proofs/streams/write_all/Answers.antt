@@ -10,5 +10,5 @@ loop-at-preserved g c =
     record {
       wrote = wrote_more _ _ _ c.args.bytes.now c.loop-at.at c.in_ok-at.field-0 inv.wrote c.in_ok-at.ensures.ok;
       within = omega (arith, within, length-take (length c.args.bytes.now - c.loop-at.at) (drop c.loop-at.at c.args.bytes.now), length-drop c.loop-at.at c.args.bytes.now);
-      calm = c.in_ok-at.ensures.cause ∙ inv.calm;
+      not_failed = c.in_ok-at.ensures.cause ∙ inv.not_failed;
     }

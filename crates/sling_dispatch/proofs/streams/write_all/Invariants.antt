@@ -6,7 +6,7 @@ abbrev pub invariant-loop-at : goal.invariant-loop-at
 invariant-loop-at g l = record {
   wrote : g.K.Sink.held l.sink ≡ added (g.K.Sink.held l.initial.sink) (take l.at l.bytes);
   within : l.at ≤ length l.bytes;
-  calm : g.K.Sink.faults l.sink ≡ g.K.Sink.faults l.initial.sink;
+  not_failed : g.K.Sink.faults l.sink ≡ g.K.Sink.faults l.initial.sink;
 }
 
 abbrev pub decreases-loop-at : goal.decreases-loop-at

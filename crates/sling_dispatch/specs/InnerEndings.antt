@@ -1,0 +1,76 @@
+-- Scaffolding: what the private functions of the run promise, for proofs alone. A reader of the theorem needs none of it.
+use Rattle.std.specs.Prelude.{◌≡◌, ◌≢◌, ◌≤◌, ◌++◌, ◌⊎◌, ℕ, List, [], Result, Ok, Err, length, take}
+use Rattle.sp_outside.specs.Told.{added}
+use Rattle.sp_outside.specs.Causes.{Rose}
+use Rattle.sp_outside.specs.declared.sink.SinkFault.{SinkFault}
+use Rattle.sp_outside.specs.declared.sink.SinkFault.TheVariants.{Failed as sink_failed, NoMemory as sink_memory}
+use Rattle.resource_tree.specs.Content.{Content}
+use Rattle.content_json.specs.ContentOf.{content as content_of}
+use Rattle.content_json.specs.declared.fault.ContentFault.{ContentFault}
+use Rattle.content_json.specs.declared.fault.ContentFault.TheVariants.{NoMemory as no_memory}
+use Rattle.sling_dispatch.specs.Languages.{IsRefusedWithin}
+use Rattle.sling_dispatch.specs.Scenario.{IsScenario, Reads, most}
+use Rattle.sling_dispatch.specs.Endings.{Told, HasNotFailed, HasFailed, Writing, Nothing, UsageLine, SourceLine, RefusalLine, ContentLine, Events, Means, IsRunOf}
+use Rattle.sling_dispatch.specs.declared.scenario.Act.{Act}
+use Rattle.sling_dispatch.specs.declared.scenario.Scenario.{Scenario}
+use Rattle.sling_dispatch.specs.declared.streams.ReadFault.{ReadFault}
+use Rattle.sling_dispatch.specs.declared.streams.ReadFault.TheVariants.{Failed as read_failed, NoMemory as read_memory}
+use Rattle.sling_dispatch.specs.declared.ending.Ending.{Ending}
+use Rattle.sling_dispatch.specs.declared.ending.Ending.TheVariants.{SinkFailed, NoMemory}
+
+-- what is written of a text that was read, after which a longer one may go on
+abbrev pub IsDueAt : List ℕ → Writing → Type 0
+IsDueAt text Nothing = Unit {0}
+IsDueAt text UsageLine = ⊥
+IsDueAt text SourceLine = ⊥
+IsDueAt text (RefusalLine before) = (rest : List ℕ) → (length text ≤ most → rest ≡ []) → IsRefusedWithin most IsScenario (text ++ rest) before
+IsDueAt text (ContentLine fault) = (fault ≢ no_memory) × (s : Scenario) × Reads text s × (content_of s.content ≡ Err fault)
+IsDueAt text (Events s events) = Reads text s × IsRunOf s events
+
+-- what is written of a scenario
+abbrev pub IsDueIn : Scenario → Writing → Type 0
+IsDueIn s Nothing = Unit {0}
+IsDueIn s UsageLine = ⊥
+IsDueIn s SourceLine = ⊥
+IsDueIn s (RefusalLine before) = ⊥
+IsDueIn s (ContentLine fault) = (content_of s.content ≡ Err fault) × (fault ≢ no_memory)
+IsDueIn s (Events t events) = (t ≡ s) × IsRunOf s events
+
+-- what a session writes
+abbrev pub IsDueOf : Scenario → Writing → Type 0
+IsDueOf s Nothing = Unit {0}
+IsDueOf s UsageLine = ⊥
+IsDueOf s SourceLine = ⊥
+IsDueOf s (RefusalLine before) = ⊥
+IsDueOf s (ContentLine fault) = ⊥
+IsDueOf s (Events t events) = (t ≡ s) × IsRunOf s events
+
+-- nothing, or this line about a content
+abbrev pub IsContentOr : ContentFault → Writing → Type 0
+IsContentOr fault Nothing = Unit {0}
+IsContentOr fault UsageLine = ⊥
+IsContentOr fault SourceLine = ⊥
+IsContentOr fault (RefusalLine before) = ⊥
+IsContentOr fault (ContentLine f) = (f ≡ fault) × (fault ≢ no_memory)
+IsContentOr fault (Events s events) = ⊥
+
+-- What came of writing a text, of which good was to be the ending: that, or the sink failed, or memory did.
+abbrev pub Tells : Ending → List ℕ → Ending → Told (List ℕ) → Type 0
+Tells good text ending sink = ((ending ≡ good) × (sink.new ≡ added sink.old text) × HasNotFailed sink)
+    ⊎ (((ending ≡ SinkFailed) × ((n : ℕ) × (sink.new ≡ added sink.old (take n text))) × HasFailed sink)
+    ⊎ ((ending ≡ NoMemory) × ((n : ℕ) × (sink.new ≡ added sink.old (take n text))) × HasNotFailed sink))
+
+-- how a run ends at a fault of its sink
+abbrev pub ending_by : SinkFault → Ending
+ending_by sink_failed = SinkFailed
+ending_by sink_memory = NoMemory
+
+-- what is written where acts are played on a content, whichever scenario has them
+abbrev pub PlaysAll : Content → List Act → Ending → Told (List ℕ) → Type 0
+PlaysAll tree acts ending sink = (s : Scenario) → s.acts ≡ acts → content_of s.content ≡ Ok tree → Means (IsDueOf s) ending sink
+
+-- A read answers Failed only where the count rose, and any other answer leaves the count.
+abbrev pub HasReadCause : {T : Type 0} → ℕ → ℕ → Result T ReadFault → Type 0
+HasReadCause before after (Ok _) = after ≡ before
+HasReadCause before after (Err read_failed) = Rose before after
+HasReadCause before after (Err read_memory) = after ≡ before

@@ -10,10 +10,12 @@ use crate::program::run;
 use sp_base::{Items, Mem, NoMemory};
 use sp_outside::{Sink, Source, WordList, Words};
 use std::alloc::Global;
+use std::hash::RandomState;
 
 /// Reads the words of the command line, does what they say, and gives the exit status.
 pub fn command<W: Words, S: Source, K: Sink>(
     alloc: Global,
+    seeds: RandomState,
     line: &W,
     source: &mut S,
     sink: &mut K,
@@ -32,7 +34,7 @@ pub fn command<W: Words, S: Source, K: Sink>(
     let Ok(slices) = slices_of(alloc, &words) else {
         return Ending::NoMemory.status();
     };
-    run(alloc, &slices, source, sink)
+    run(alloc, seeds, &slices, source, sink)
 }
 
 // The words of the command line.

@@ -24,12 +24,19 @@ mod tests;
 mod transcript;
 
 use command::command;
+use ending::Ending;
 use sp_outside::{RealSink, RealSource, RealWords};
+use std::hash::RandomState;
 use std::process::ExitCode;
 
 fn main(rt: HostRuntime) -> ExitCode {
     let words = RealWords::new(&rt);
     let mut source = RealSource::new(rt.reader());
     let mut sink = RealSink::new(&rt);
-    ExitCode::from(command(rt.alloc(), &words, &mut source, &mut sink))
+    let status = match RandomState::new(&rt) {
+        Ok(seeds) => command(rt.alloc(), seeds, &words, &mut source, &mut sink),
+        // Without seeds the table of paths could be attacked.
+        Err(_) => Ending::NoMemory.status(),
+    };
+    ExitCode::from(status)
 }

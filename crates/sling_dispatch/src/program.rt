@@ -19,12 +19,14 @@ use publisher::Publisher;
 use sp_base::Mem;
 use sp_outside::{Sink, Source};
 use std::alloc::Global;
+use std::hash::RandomState;
 
 // The most bytes that a scenario has.
 const MOST: usize = 67_108_864;
 
 /// Does what the words say, and gives the exit status.
-pub fn run<S: Source, K: Sink>(alloc: Global, words: &[&[u8]], source: &mut S, sink: &mut K) -> u8
+/// The seeds key the tables of paths, which authors of content pick.
+pub fn run<S: Source, K: Sink>(alloc: Global, seeds: RandomState, words: &[&[u8]], source: &mut S, sink: &mut K) -> u8
     ensures taken { HasTaken (most + 1) (S.left source.old) (S.left source.new) }
     ensures ending { (e : Ending) × (result ≡ status_of e) × Means
         (IsDue (record {
@@ -33,11 +35,12 @@ pub fn run<S: Source, K: Sink>(alloc: Global, words: &[&[u8]], source: &mut S, s
         }))
         e (seen (K.held sink.old) (K.held sink.new) (K.faults sink.old) (K.faults sink.new)) }
 {
-    ending(alloc, words, source, sink).status()
+    ending(alloc, seeds, words, source, sink).status()
 }
 
 fn ending<S: Source, K: Sink>(
     alloc: Global,
+    seeds: RandomState,
     words: &[&[u8]],
     source: &mut S,
     sink: &mut K,
@@ -54,7 +57,7 @@ fn ending<S: Source, K: Sink>(
         return say(sink, b"usage: replay\n", Ending::Usage);
     }
     match read_whole(alloc, source, MOST) {
-        Ok(text) => replay(alloc, text, sink),
+        Ok(text) => replay(alloc, seeds, text, sink),
         Err(ReadFault::Failed) => say(sink, b"source failed\n", Ending::SourceFailed),
         Err(ReadFault::NoMemory) => Ending::NoMemory,
     }
@@ -81,11 +84,11 @@ fn say_line<K: Sink>(sink: &mut K, line: Mem<Vec<u8>>, good: Ending) -> Ending
 }
 
 // Runs the scenario that a text spells. The text is given up before the content is read.
-fn replay<K: Sink>(alloc: Global, text: Vec<u8>, sink: &mut K) -> Ending
+fn replay<K: Sink>(alloc: Global, seeds: RandomState, text: Vec<u8>, sink: &mut K) -> Ending
     ensures { Means (IsDueAt text.items) result (seen (K.held sink.old) (K.held sink.new) (K.faults sink.old) (K.faults sink.new)) }
 {
     match scenario_of(alloc, text) {
-        Ok(scenario) => session(alloc, scenario, sink),
+        Ok(scenario) => session(alloc, seeds, scenario, sink),
         Err(ScenarioFault::Line(before)) => {
             say_line(sink, refusal_line(alloc, before), Ending::Refused)
         }
@@ -102,14 +105,14 @@ fn scenario_of(alloc: Global, text: Vec<u8>) -> Result<Scenario, ScenarioFault>
 }
 
 // Runs a scenario. The bytes of its content are given up before the run begins.
-fn session<K: Sink>(alloc: Global, scenario: Scenario, sink: &mut K) -> Ending
+fn session<K: Sink>(alloc: Global, seeds: RandomState, scenario: Scenario, sink: &mut K) -> Ending
     ensures { Means (IsDueIn scenario) result (seen (K.held sink.old) (K.held sink.new) (K.faults sink.old) (K.faults sink.new)) }
 {
     let Scenario { content, acts } = scenario;
-    let read = read_tree(alloc, content.bytes());
+    let read = read_tree(alloc, seeds, content.bytes());
     drop(content);
     match read {
-        Ok(tree) => play(alloc, Publisher::new(tree), &acts, sink),
+        Ok(tree) => play(alloc, Publisher::new(alloc, seeds, tree), &acts, sink),
         Err(fault) => refuse_content(alloc, &fault, sink),
     }
 }

@@ -6,6 +6,7 @@ use sp_base::{ByteBuf, CallList};
 use sp_outside::{MemSink, MemSource, MemWords, RealSource, WordList};
 use std::alloc::{AllocError, Global};
 use std::io::{self, Read};
+use std::hash::RandomState;
 use std::test::Fail;
 
 const EVENTS: u32 = 1_000;
@@ -51,9 +52,10 @@ fn long_transcript(alloc: Global) -> Result<String, AllocError> {
 
 #[test]
 fn replays_a_thousand_events(rt: HostRuntime) -> Result<(), Fail> {
+    let seeds = RandomState::new(&rt)?;
     let text = long_scenario(rt.alloc())?;
     let wanted = long_transcript(rt.alloc())?;
-    let (status, written) = replayed(rt.alloc(), text.as_bytes().to_vec(rt.alloc())?)?;
+    let (status, written) = replayed(rt.alloc(), seeds, text.as_bytes().to_vec(rt.alloc())?)?;
     assert_eq!(rt; status, 0);
     assert!(rt; written.len() > 65_536);
     assert!(rt; written.as_slice() == wanted.as_bytes());
@@ -61,7 +63,7 @@ fn replays_a_thousand_events(rt: HostRuntime) -> Result<(), Fail> {
 }
 
 // The status of a program with these words over an empty scenario.
-fn commanded(alloc: Global, words: &[&[u8]]) -> Result<u8, Fail> {
+fn commanded(alloc: Global, seeds: RandomState, words: &[&[u8]]) -> Result<u8, Fail> {
     let mut list = WordList::new(alloc);
     for word in words {
         list.push(ByteBuf::of(alloc, word)?)?;
@@ -70,12 +72,13 @@ fn commanded(alloc: Global, words: &[&[u8]]) -> Result<u8, Fail> {
     let mut source = MemSource::new(ByteBuf::from(text), CallList::new(alloc));
     let mut sink = MemSink::new(alloc, CallList::new(alloc));
     let line = MemWords::new(list);
-    Ok(command(alloc, &line, &mut source, &mut sink))
+    Ok(command(alloc, seeds, &line, &mut source, &mut sink))
 }
 
 #[test]
 fn takes_its_words_from_the_command_line(rt: HostRuntime) -> Result<(), Fail> {
-    assert_eq!(rt; commanded(rt.alloc(), &[b"replay"])?, 0);
+    let seeds = RandomState::new(&rt)?;
+    assert_eq!(rt; commanded(rt.alloc(), seeds, &[b"replay"])?, 0);
     let wrong: [&[&[u8]]; 5] = [
         &[],
         &[b"play"],
@@ -84,7 +87,7 @@ fn takes_its_words_from_the_command_line(rt: HostRuntime) -> Result<(), Fail> {
         &[b"replay", b"replay"],
     ];
     for words in wrong {
-        assert_eq!(rt; commanded(rt.alloc(), words)?, 2);
+        assert_eq!(rt; commanded(rt.alloc(), seeds, words)?, 2);
     }
     Ok(())
 }

@@ -1,6 +1,7 @@
 //! Scripts and templates, asked through a run.
 use crate::tests::answered;
 use std::alloc::{AllocError, Global};
+use std::hash::RandomState;
 use std::test::Fail;
 
 // Scripts for `.print.a4.html` of the type `hr/jobs`, the first-ranked first: the folder that each stands in, and its name.
@@ -41,10 +42,11 @@ fn jobs(alloc: Global, first: usize) -> Result<String, AllocError> {
 
 #[test]
 fn the_first_ranked_script_answers(rt: HostRuntime) -> Result<(), Fail> {
+    let seeds = RandomState::new(&rt)?;
     let alloc = rt.alloc();
     for first in 0..9usize {
         let content = jobs(alloc, first)?;
-        let written = answered(alloc, content.as_bytes(), b"/content/j.print.a4.html")?;
+        let written = answered(alloc, seeds, content.as_bytes(), b"/content/j.print.a4.html")?;
         let wanted = match SCRIPTS.get(first) {
             Some((place, name)) => format!(in alloc;
                 "@ 1\nanswer 200 \"text/html;charset=utf-8\" - - \"{place}/{name}\"\n"
@@ -61,6 +63,7 @@ fn the_first_ranked_script_answers(rt: HostRuntime) -> Result<(), Fail> {
 
 #[test]
 fn scripts_come_before_the_default_servlet(rt: HostRuntime) -> Result<(), Fail> {
+    let seeds = RandomState::new(&rt)?;
     let inherited: &[u8] =
         b"{\"content\":{\"p\":{\"sling:resourceType\":\"own\"}},\"apps\":{\"own\":{\"sling:resourceSuperType\":\"above\",\"html.html\":{\"jcr:content\":{\"jcr:data\":\"own\"}}},\"above\":{\"print.html\":{\"jcr:content\":{\"jcr:data\":\"above\"}}}}}";
     let json: &[u8] =
@@ -88,7 +91,7 @@ fn scripts_come_before_the_default_servlet(rt: HostRuntime) -> Result<(), Fail> 
         ),
     ];
     for (content, target, wanted) in cases {
-        let written = answered(rt.alloc(), content, target)?;
+        let written = answered(rt.alloc(), seeds, content, target)?;
         assert_eq!(rt; written.as_slice(), wanted.as_bytes(), "{target:?}");
     }
     Ok(())
@@ -96,6 +99,7 @@ fn scripts_come_before_the_default_servlet(rt: HostRuntime) -> Result<(), Fail> 
 
 #[test]
 fn scripts_are_templates(rt: HostRuntime) -> Result<(), Fail> {
+    let seeds = RandomState::new(&rt)?;
     let content: &[u8] =
         b"{\"content\":{\"en\":{\"sling:resourceType\":\"s/page\",\"title\":\"A & B\"}},\"apps\":{\"s\":{\"page\":{\"html.html\":{\"jcr:content\":{\"jcr:data\":\"<h1>${properties.title}</h1>\"}},\"bad.html\":{\"jcr:content\":{\"jcr:data\":\"<h1>${properties.title</h1>\"}}}}}}";
     let cases: [(&[u8], &str); 2] = [
@@ -109,7 +113,7 @@ fn scripts_are_templates(rt: HostRuntime) -> Result<(), Fail> {
         ),
     ];
     for (target, wanted) in cases {
-        let written = answered(rt.alloc(), content, target)?;
+        let written = answered(rt.alloc(), seeds, content, target)?;
         assert_eq!(rt; written.as_slice(), wanted.as_bytes(), "{target:?}");
     }
     Ok(())

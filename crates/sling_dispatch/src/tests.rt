@@ -3,6 +3,7 @@ use crate::program::run;
 use sp_base::{ByteBuf, CallList};
 use sp_outside::{MemSink, MemSource};
 use std::alloc::{AllocError, Global};
+use std::hash::RandomState;
 use std::test::Fail;
 
 // A content and two targets, of which one names a node.
@@ -16,6 +17,7 @@ const FIRST_TRANSCRIPT: &[u8] =
 // at once, and the sink takes 5.
 fn ran(
     alloc: Global,
+    seeds: RandomState,
     words: &[&[u8]],
     text: &[u8],
     source_fails: &[u64],
@@ -24,16 +26,16 @@ fn ran(
     let bytes = ByteBuf::from(text.to_vec(alloc)?);
     let mut source = MemSource::in_parts(bytes, 7, CallList::from(source_fails.to_vec(alloc)?));
     let mut sink = MemSink::in_parts(alloc, 5, CallList::from(sink_fails.to_vec(alloc)?));
-    let status = run(alloc, words, &mut source, &mut sink);
+    let status = run(alloc, seeds, words, &mut source, &mut sink);
     let written = sink.bytes().to_vec(alloc)?;
     Ok((status, written))
 }
 
 // The same for a scenario, over a source and a sink that hold back nothing.
-pub fn replayed(alloc: Global, text: Vec<u8>) -> Result<(u8, Vec<u8>), AllocError> {
+pub fn replayed(alloc: Global, seeds: RandomState, text: Vec<u8>) -> Result<(u8, Vec<u8>), AllocError> {
     let mut source = MemSource::new(ByteBuf::from(text), CallList::new(alloc));
     let mut sink = MemSink::new(alloc, CallList::new(alloc));
-    let status = run(alloc, &[b"replay"], &mut source, &mut sink);
+    let status = run(alloc, seeds, &[b"replay"], &mut source, &mut sink);
     let written = sink.bytes().to_vec(alloc)?;
     Ok((status, written))
 }
@@ -50,6 +52,7 @@ fn scenario(alloc: Global, content: &[u8], line: &[u8]) -> Result<Vec<u8>, Alloc
 
 #[test]
 fn replays_scenarios(rt: HostRuntime) -> Result<(), Fail> {
+    let seeds = RandomState::new(&rt)?;
     let empty: &[u8] = b"scenario 1\ncontent\n{}\n.\nend\n";
     let cases: [(&[&[u8]], &[u8], u8, &[u8]); 7] = [
         (&[b"replay"], empty, 0, b""),
@@ -61,7 +64,7 @@ fn replays_scenarios(rt: HostRuntime) -> Result<(), Fail> {
         (&[b"\xff"], FIRST, 2, b"usage: replay\n"),
     ];
     for (words, text, status, wanted) in cases {
-        let (got, written) = ran(rt.alloc(), words, text, &[], &[])?;
+        let (got, written) = ran(rt.alloc(), seeds, words, text, &[], &[])?;
         assert_eq!(rt; got, status, "{words:?}");
         assert_eq!(rt; written.as_slice(), wanted);
     }
@@ -70,6 +73,7 @@ fn replays_scenarios(rt: HostRuntime) -> Result<(), Fail> {
 
 #[test]
 fn refuses_what_is_no_scenario(rt: HostRuntime) -> Result<(), Fail> {
+    let seeds = RandomState::new(&rt)?;
     let cases: [(&[u8], u32); 13] = [
         (b"", 1),
         (b"scenario 1\ncontent\n{}\n.\nope", 5),
@@ -86,7 +90,7 @@ fn refuses_what_is_no_scenario(rt: HostRuntime) -> Result<(), Fail> {
         (b"scenario 1\ncontent\n{}\n.\ndirect /\ndirect/\nend\n", 6),
     ];
     for (text, line) in cases {
-        let (status, written) = ran(rt.alloc(), &[b"replay"], text, &[], &[])?;
+        let (status, written) = ran(rt.alloc(), seeds, &[b"replay"], text, &[], &[])?;
         assert_eq!(rt; status, 5, "{text:?}");
         let wanted = format!(in rt.alloc(); "scenario refused at line {line}\n")?;
         assert_eq!(rt; written.as_slice(), wanted.as_bytes(), "{text:?}");
@@ -96,6 +100,7 @@ fn refuses_what_is_no_scenario(rt: HostRuntime) -> Result<(), Fail> {
 
 #[test]
 fn refuses_contents(rt: HostRuntime) -> Result<(), Fail> {
+    let seeds = RandomState::new(&rt)?;
     let cases: [(&[u8], &[u8]); 8] = [
         (b"[]", b"content refused: NotObject\n"),
         (b"{", b"content refused: NotJson\n"),
@@ -114,7 +119,7 @@ fn refuses_contents(rt: HostRuntime) -> Result<(), Fail> {
     ];
     for (content, wanted) in cases {
         let text = scenario(rt.alloc(), content, b"direct /a\n")?;
-        let (status, written) = replayed(rt.alloc(), text)?;
+        let (status, written) = replayed(rt.alloc(), seeds, text)?;
         assert_eq!(rt; status, 6, "{content:?}");
         assert_eq!(rt; written.as_slice(), wanted);
     }
@@ -196,8 +201,9 @@ const TARGETS: [(&[u8], &[u8], &str); 17] = [
 
 #[test]
 fn answers_targets(rt: HostRuntime) -> Result<(), Fail> {
+    let seeds = RandomState::new(&rt)?;
     for (content, target, wanted) in TARGETS {
-        let written = answered(rt.alloc(), content, target)?;
+        let written = answered(rt.alloc(), seeds, content, target)?;
         let wanted = format!(in rt.alloc(); "@ 1\n{wanted}\n")?;
         assert_eq!(rt; written.as_slice(), wanted.as_bytes(), "{target:?}");
     }
@@ -207,6 +213,7 @@ fn answers_targets(rt: HostRuntime) -> Result<(), Fail> {
 // Which resource a target names: each has its own text.
 #[test]
 fn reads_targets(rt: HostRuntime) -> Result<(), Fail> {
+    let seeds = RandomState::new(&rt)?;
     let content =
         "{\"x\":\"root\",\"content\":{\"en\":{\"x\":\"en\"},\"a+b\":{\"x\":\"plus\"},\"5%\":{\"x\":\"percent\"},\"jcr:content\":{\"x\":\"jcr\"},\"\u{e9}\":{\"x\":\"accent\"}}}";
     let cases: [(&[u8], u16, &str); 36] = [
@@ -248,7 +255,7 @@ fn reads_targets(rt: HostRuntime) -> Result<(), Fail> {
         (b"%2fcontent/en.json?q=1", 400, "Bad Request"),
     ];
     for (target, status, what) in cases {
-        let written = answered(rt.alloc(), content.as_bytes(), target)?;
+        let written = answered(rt.alloc(), seeds, content.as_bytes(), target)?;
         let wanted = told(rt.alloc(), status, what)?;
         assert_eq!(rt; written.as_slice(), wanted.as_bytes(), "{target:?}");
     }
@@ -258,6 +265,7 @@ fn reads_targets(rt: HostRuntime) -> Result<(), Fail> {
 // A path has at most 64 segments, and a segment at most 200 bytes, decoded and before it is unmangled.
 #[test]
 fn measures_targets(rt: HostRuntime) -> Result<(), Fail> {
+    let seeds = RandomState::new(&rt)?;
     let cases: [(&[u8], &[u8], u32, u16, &str); 8] = [
         (b"", b"/a", 64, 404, "Not Found"),
         (b"", b"/a", 65, 400, "Bad Request"),
@@ -270,7 +278,7 @@ fn measures_targets(rt: HostRuntime) -> Result<(), Fail> {
     ];
     for (prefix, unit, count, status, what) in cases {
         let target = repeated(rt.alloc(), prefix, unit, count)?;
-        let written = answered(rt.alloc(), b"{}", &target)?;
+        let written = answered(rt.alloc(), seeds, b"{}", &target)?;
         let wanted = told(rt.alloc(), status, what)?;
         assert_eq!(rt;
             written.as_slice(),
@@ -284,6 +292,7 @@ fn measures_targets(rt: HostRuntime) -> Result<(), Fail> {
 // At most 1,000 resources are shown below one another, and at most 4,194,304 bytes.
 #[test]
 fn measures_answers(rt: HostRuntime) -> Result<(), Fail> {
+    let seeds = RandomState::new(&rt)?;
     let json = "@ 1\nanswer 200 \"application/json;charset=utf-8\" - - \"{\\\"";
     let choices =
         "@ 1\nanswer 300 \"application/json;charset=utf-8\" - - \"[\\\"/content/big.1.json\\\",\\\"/content/big.0.json\\\"]\"\n";
@@ -297,16 +306,16 @@ fn measures_answers(rt: HostRuntime) -> Result<(), Fail> {
         (long(rt.alloc(), 4_194_305)?, b"/.json", failed),
     ];
     for (content, target, wanted) in cases {
-        let written = answered(rt.alloc(), &content, target)?;
+        let written = answered(rt.alloc(), seeds, &content, target)?;
         assert!(rt; written.starts_with(wanted.as_bytes()), "{target:?}");
     }
     Ok(())
 }
 
 // What a run writes where a target is asked of a content.
-pub fn answered(alloc: Global, content: &[u8], target: &[u8]) -> Result<Vec<u8>, AllocError> {
+pub fn answered(alloc: Global, seeds: RandomState, content: &[u8], target: &[u8]) -> Result<Vec<u8>, AllocError> {
     let line = line_of(alloc, target)?;
-    let (_, written) = replayed(alloc, scenario(alloc, content, &line)?)?;
+    let (_, written) = replayed(alloc, seeds, scenario(alloc, content, &line)?)?;
     Ok(written)
 }
 
@@ -384,6 +393,7 @@ fn deep(alloc: Global, levels: u32) -> Result<Vec<u8>, AllocError> {
 
 #[test]
 fn refuses_contents_that_are_too_big(rt: HostRuntime) -> Result<(), Fail> {
+    let seeds = RandomState::new(&rt)?;
     let too_big: &[u8] = b"content refused: TooBig\n";
     for (content, status, wanted) in [
         (wide(rt.alloc(), 199_999)?, 0, b"".as_slice()),
@@ -391,7 +401,7 @@ fn refuses_contents_that_are_too_big(rt: HostRuntime) -> Result<(), Fail> {
         (deep(rt.alloc(), 64)?, 0, b"".as_slice()),
         (deep(rt.alloc(), 65)?, 6, too_big),
     ] {
-        let (got, written) = replayed(rt.alloc(), scenario(rt.alloc(), &content, b"")?)?;
+        let (got, written) = replayed(rt.alloc(), seeds, scenario(rt.alloc(), &content, b"")?)?;
         assert_eq!(rt; got, status);
         assert_eq!(rt; written.as_slice(), wanted);
     }
@@ -414,6 +424,7 @@ fn padded(alloc: Global, len: usize) -> Result<Vec<u8>, AllocError> {
 
 #[test]
 fn refuses_scenarios_that_are_too_long(rt: HostRuntime) -> Result<(), Fail> {
+    let seeds = RandomState::new(&rt)?;
     let last: &[u8] = b"scenario refused at line 5\n";
     let first: &[u8] = b"scenario refused at line 1\n";
     for (text, status, wanted) in [
@@ -421,7 +432,7 @@ fn refuses_scenarios_that_are_too_long(rt: HostRuntime) -> Result<(), Fail> {
         (padded(rt.alloc(), MOST_BYTES + 1)?, 5, last),
         (vec![in rt.alloc(); b'x'; MOST_BYTES + 1]?, 5, first),
     ] {
-        let (got, written) = replayed(rt.alloc(), text)?;
+        let (got, written) = replayed(rt.alloc(), seeds, text)?;
         assert_eq!(rt; got, status);
         assert_eq!(rt; written.as_slice(), wanted);
     }
@@ -430,14 +441,15 @@ fn refuses_scenarios_that_are_too_long(rt: HostRuntime) -> Result<(), Fail> {
 
 #[test]
 fn ends_at_a_source_that_fails(rt: HostRuntime) -> Result<(), Fail> {
+    let seeds = RandomState::new(&rt)?;
     // Each call gives 7 bytes, and the last one none.
     let last = FIRST.len().div_ceil(7) as u64 + 1;
     for call in 1..last + 2 {
-        let (status, written) = ran(rt.alloc(), &[b"replay"], FIRST, &[call], &[])?;
+        let (status, written) = ran(rt.alloc(), seeds, &[b"replay"], FIRST, &[call], &[])?;
         if call <= last {
             assert_eq!(rt; status, 3, "at {call}");
             assert_eq!(rt; written.as_slice(), b"source failed\n".as_slice());
-            let (status, written) = ran(rt.alloc(), &[b"replay"], FIRST, &[call], &[2])?;
+            let (status, written) = ran(rt.alloc(), seeds, &[b"replay"], FIRST, &[call], &[2])?;
             assert_eq!(rt; status, 4, "at {call}");
             assert_eq!(rt; written.as_slice(), b"sourc".as_slice());
         } else {
@@ -450,9 +462,10 @@ fn ends_at_a_source_that_fails(rt: HostRuntime) -> Result<(), Fail> {
 
 #[test]
 fn ends_at_a_sink_that_fails(rt: HostRuntime) -> Result<(), Fail> {
+    let seeds = RandomState::new(&rt)?;
     let mut failed = 0u64;
     for call in 1..80u64 {
-        let (status, written) = ran(rt.alloc(), &[b"replay"], FIRST, &[], &[call])?;
+        let (status, written) = ran(rt.alloc(), seeds, &[b"replay"], FIRST, &[], &[call])?;
         assert!(rt; FIRST_TRANSCRIPT.starts_with(&written), "at {call}");
         if written.len() < FIRST_TRANSCRIPT.len() {
             assert_eq!(rt; status, 4, "at {call}");
@@ -468,7 +481,7 @@ fn ends_at_a_sink_that_fails(rt: HostRuntime) -> Result<(), Fail> {
         ([b"play".as_slice()], FIRST),
         ([b"replay".as_slice()], b"".as_slice()),
     ] {
-        let (status, written) = ran(rt.alloc(), &words, text, &[], &[1])?;
+        let (status, written) = ran(rt.alloc(), seeds, &words, text, &[], &[1])?;
         assert_eq!(rt; status, 4);
         assert_eq!(rt; written.as_slice(), b"".as_slice());
     }

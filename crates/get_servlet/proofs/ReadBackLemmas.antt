@@ -15,7 +15,7 @@ use Rattle.sp_base.specs.declared.path.PathFault.{PathFault}
 use Rattle.sp_base.specs.declared.value.Value.{Value}
 use Rattle.sp_base.specs.declared.value.Value.TheVariants.{Text, Long, Truth, Texts, Longs, Truths}
 use Rattle.resource_tree.specs.Seen.{Resource, Seen}
-use Rattle.property_json.specs.PropertyJson.{is_long, has_longs, items_of, json_of_long, json_of_value, members_before}
+use Rattle.property_json.specs.PropertyJson.{fits_i64, has_longs, items_of, json_of_long, json_of_value, members_before}
 use Rattle.get_servlet.specs.declared.kids.Kid.{Kid}
 use Rattle.get_servlet.specs.Objects.{HasLongs, HaveLongs}
 use Rattle.get_servlet.specs.Rendering.{make_kid, kid_seen, kid_named, shown_kid, kid_before, members_of_kids, resource_json, json_text}
@@ -74,7 +74,7 @@ reads_back seen levels path res text is =
 
 -- ---- each number can be printed
 
-long_number : (n : ℤ) → is_long n ≡ true → HasNumbers (json_of_long n)
+long_number : (n : ℤ) → fits_i64 n ≡ true → HasNumbers (json_of_long n)
 long_number (pos n) h = let lt = ltb-true n (2 ^ 63) h in IsNumber-signed_decimal (pos n) (omega (arith, lt))
 long_number (negsuc n) h = let lt = ltb-true n (2 ^ 63) h in IsNumber-signed_decimal (negsuc n) (omega (arith, lt))
 
@@ -82,9 +82,9 @@ items_numbers : {A : Type 0} (f : A → Json) → ((x : A) → HasNumbers (f x))
 items_numbers f each [] = tt
 items_numbers f each (x ∷ xs) = (each x, items_numbers f each xs)
 
-longs_numbers : (ns : List ℤ) → list_all is_long ns ≡ true → ItemsHaveNumbers (items_of json_of_long ns)
+longs_numbers : (ns : List ℤ) → list_all fits_i64 ns ≡ true → ItemsHaveNumbers (items_of json_of_long ns)
 longs_numbers [] h = tt
-longs_numbers (n ∷ ns) h = let parts = and_parts (is_long n) (list_all is_long ns) h in (long_number n parts.0, longs_numbers ns parts.1)
+longs_numbers (n ∷ ns) h = let parts = and_parts (fits_i64 n) (list_all fits_i64 ns) h in (long_number n parts.0, longs_numbers ns parts.1)
 
 value_numbers : (v : Value) → has_longs v ≡ true → HasNumbers (json_of_value v)
 value_numbers (Text t) h = tt

@@ -26,7 +26,13 @@ const MOST: usize = 67_108_864;
 
 /// Does what the words say, and gives the exit status.
 /// The seeds key the tables of paths, which authors of content pick.
-pub fn run<S: Source, K: Sink>(alloc: Global, seeds: RandomState, words: &[&[u8]], source: &mut S, sink: &mut K) -> u8
+pub fn run<S: Source, K: Sink>(
+    alloc: Global,
+    seeds: RandomState,
+    words: &[&[u8]],
+    source: &mut S,
+    sink: &mut K,
+) -> u8
     ensures taken { HasTaken (most + 1) (S.left source.old) (S.left source.new) }
     ensures ending { (e : Ending) × (result ≡ status_of e) × Means
         (IsDue (record {

@@ -5,8 +5,8 @@ use crate::tests::replayed;
 use sp_base::{ByteBuf, CallList};
 use sp_outside::{MemSink, MemSource, MemWords, RealSource, WordList};
 use std::alloc::{AllocError, Global};
-use std::io::{self, Read};
 use std::hash::RandomState;
+use std::io::{self, Read};
 use std::test::Fail;
 
 const EVENTS: u32 = 1_000;

@@ -46,7 +46,12 @@ fn the_first_ranked_script_answers(rt: HostRuntime) -> Result<(), Fail> {
     let alloc = rt.alloc();
     for first in 0..9usize {
         let content = jobs(alloc, first)?;
-        let written = answered(alloc, seeds, content.as_bytes(), b"/content/j.print.a4.html")?;
+        let written = answered(
+            alloc,
+            seeds,
+            content.as_bytes(),
+            b"/content/j.print.a4.html",
+        )?;
         let wanted = match SCRIPTS.get(first) {
             Some((place, name)) => format!(in alloc;
                 "@ 1\nanswer 200 \"text/html;charset=utf-8\" - - \"{place}/{name}\"\n"

@@ -32,7 +32,11 @@ fn ran(
 }
 
 // The same for a scenario, over a source and a sink that hold back nothing.
-pub fn replayed(alloc: Global, seeds: RandomState, text: Vec<u8>) -> Result<(u8, Vec<u8>), AllocError> {
+pub fn replayed(
+    alloc: Global,
+    seeds: RandomState,
+    text: Vec<u8>,
+) -> Result<(u8, Vec<u8>), AllocError> {
     let mut source = MemSource::new(ByteBuf::from(text), CallList::new(alloc));
     let mut sink = MemSink::new(alloc, CallList::new(alloc));
     let status = run(alloc, seeds, &[b"replay"], &mut source, &mut sink);
@@ -313,7 +317,12 @@ fn measures_answers(rt: HostRuntime) -> Result<(), Fail> {
 }
 
 // What a run writes where a target is asked of a content.
-pub fn answered(alloc: Global, seeds: RandomState, content: &[u8], target: &[u8]) -> Result<Vec<u8>, AllocError> {
+pub fn answered(
+    alloc: Global,
+    seeds: RandomState,
+    content: &[u8],
+    target: &[u8],
+) -> Result<Vec<u8>, AllocError> {
     let line = line_of(alloc, target)?;
     let (_, written) = replayed(alloc, seeds, scenario(alloc, content, &line)?)?;
     Ok(written)

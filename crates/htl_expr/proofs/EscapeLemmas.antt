@@ -1,14 +1,17 @@
 -- A text is escaped run by run, and what is written is inert.
-use Rattle.std.proofs.Common.{◌≡◌, ℕ, suc, ◌<◌, ◌≤◌, ◌-◌, Bool, true, false, cond, List, [], ◌∷◌, ◌++◌, Option, Some, None, is_some, unwrap_or, length, take, drop, slice_index, inl, inr, refl, sym, ap, ap₂, ◌∙◌, arith, append-nil, append_assoc}
+use Rattle.std.proofs.Common.{◌≡◌, ℕ, suc, ◌<◌, ◌≤◌, ◌-◌, Bool, true, false, cond, List, [], ◌∷◌, ◌++◌, Option, Some, None, is_some, unwrap_or, length, take, drop, slice_index, inl, inr, refl, sym, ap, ap₂, ◌∙◌, arith, append-nil, append_assoc, map}
 use Rattle.std.specs.List.{flat_map, list_all}
 use Rattle.std.specs.Str.{IsCharBoundary}
 use Rattle.std.proofs.lemmas.Bool.{cases_lt, cases_eq}
-use Rattle.std.proofs.lemmas.List.{length-drop}
+use Rattle.std.proofs.lemmas.List.{length-drop, length-append}
 use Rattle.std.proofs.lemmas.List.Folds.{list_all-append}
 use Rattle.std.proofs.lemmas.Grind.{common_steps, flat_map-append}
 use Rattle.htl_expr.specs.declared.expression.Context.{Context}
 use Rattle.htl_expr.specs.declared.expression.Context.TheVariants as context
 use Rattle.htl_expr.specs.Print.{reference, escape, run_len, first_reference, is_inert, IsInert, in_context}
+use Rattle.htl_expr.specs.Writing.{next_in, Begins, Stopped}
+use Rattle.htl_expr.specs.declared.room.WriteFault.{WriteFault}
+use Rattle.htl_expr.proofs.Writing.{begins_more, begins_later, longer}
 
 escape_plain : (b : ℕ) → reference b ≡ None → escape b ≡ b ∷ []
 escape_plain b e = rw e refl
@@ -138,3 +141,47 @@ pub in_context_none : (context : Option Context) → in_context context [] ≡ [
 in_context_none None = refl
 in_context_none (Some context.Text) = refl
 in_context_none (Some context.Unsafe) = refl
+
+-- the further items of a list are written one after another
+pub in_context_more : {X : Type 0} (context : Option Context) (join : List ℕ) (f : X → List ℕ) (xs : List X) → in_context context (flat_map (λ next. join ++ next) (map f xs)) ≡ flat_map (next_in context join f) xs
+in_context_more context join f [] = in_context_none context
+in_context_more context join f (x ∷ xs) = in_context_append context (join ++ f x) (flat_map (λ next. join ++ next) (map f xs)) ∙ ap (λ (l : List ℕ). in_context context (join ++ f x) ++ l) (in_context_more context join f xs)
+
+escape_long : (b : ℕ) → 1 ≤ length (escape b)
+escape_long b = elim (cases_eq b 38) [
+  | inl e ↦ rw e (omega arith)
+  | inr amp ↦ elim (cases_eq b 60) [
+    | inl e ↦ rw e (omega arith)
+    | inr less ↦ elim (cases_eq b 62) [
+      | inl e ↦ rw e (omega arith)
+      | inr greater ↦ elim (cases_eq b 34) [
+        | inl e ↦ rw e (omega arith)
+        | inr quote ↦ elim (cases_eq b 39) [
+          | inl e ↦ rw e (omega arith)
+          | inr apostrophe ↦ grind (arith, common_steps, amp, less, greater, quote, apostrophe)
+        ]
+      ]
+    ]
+  ]
+]
+
+-- escapes lengthen a text
+pub escaped_longer : (t : List ℕ) → length t ≤ length (flat_map escape t)
+escaped_longer [] = omega arith
+escaped_longer (b ∷ t) = let l = length-append (escape b) (flat_map escape t) in let one = escape_long b in let more = escaped_longer t in omega (arith, l, one, more)
+
+-- a run doesn't fit
+pub run_stops_at : (n most : ℕ) (f : WriteFault) (old before new rest plain run : List ℕ) → n ≡ run_len rest → run ≡ take n rest → before ++ flat_map escape rest ≡ old ++ flat_map escape plain → Begins old before
+    → Stopped most f before run new → Stopped most f old (flat_map escape plain) new
+run_stops_at n most f old before new rest plain run en er inv b w =
+    let rest_is : flat_map escape rest ≡ run ++ flat_map escape (drop (run_len rest) rest) = run_step rest ∙ rw (er, en) refl in
+    (begins_later old before new b w.0, λ known. let x = w.1 known in (x.0, rw inv at (longer most before run _ (flat_map escape rest) rest_is x.1)))
+
+-- a reference doesn't fit
+pub reference_stops_at : (n most : ℕ) (f : WriteFault) (old before run_written new rest plain run behind reference : List ℕ) → n ≡ run_len rest → run ≡ take n rest → behind ≡ drop n rest → first_reference behind ≡ Some reference
+    → run_written ≡ before ++ run → before ++ flat_map escape rest ≡ old ++ flat_map escape plain → Begins old before → Stopped most f run_written reference new → Stopped most f old (flat_map escape plain) new
+reference_stops_at n most f old before run_written new rest plain run behind reference en er eb some ew inv b w =
+    let later = flat_map escape (drop 1 behind) in
+    let rest_is : flat_map escape rest ≡ run ++ (reference ++ later) = run_step rest ∙ rw (er, en) (ap (λ (l : List ℕ). take (run_len rest) rest ++ l) (ap (flat_map escape) (sym (rw en at eb)) ∙ (marked behind reference some).written)) in
+    let same : run_written ++ (reference ++ later) ≡ old ++ flat_map escape plain = ap (λ (l : List ℕ). l ++ (reference ++ later)) ew ∙ append_assoc before run (reference ++ later) ∙ ap (λ (l : List ℕ). before ++ l) (sym rest_is) ∙ inv in
+    (begins_later old run_written new (begins_more old before run run_written b ew) w.0, λ known. let x = w.1 known in (x.0, rw same at (longer most run_written reference later (reference ++ later) refl x.1)))

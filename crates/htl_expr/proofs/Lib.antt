@@ -11,6 +11,9 @@ pub mod Complete
 pub mod WholeAgain
 pub mod Unique
 pub mod EscapeLemmas
+pub mod Writing
+pub mod Joined
+pub mod Chains
 pub mod Moves
 pub mod MovesTokens
 pub mod MovesParts

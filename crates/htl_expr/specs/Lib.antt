@@ -1,7 +1,9 @@
 pub mod Bindings
 pub mod Fault
 pub mod Grammar
+pub mod Lent
 pub mod Print
 pub mod Read
 pub mod Tokens
 pub mod Value
+pub mod Writing

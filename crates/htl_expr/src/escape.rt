@@ -1,11 +1,12 @@
 //! How a text is written in a context.
 
-ghost use Rattle.std.specs.Prelude.{◌≡◌, ◌++◌, OnOk, string_bytes, flat_map, option_map, is_some};
+ghost use Rattle.std.specs.Prelude.{◌≡◌, ◌≤◌, string_bytes, flat_map, option_map, is_some, length};
 ghost use Rattle.htl_expr.specs.Print as spec;
+ghost use Rattle.htl_expr.specs.Writing.{Wrote};
 
 use crate::expression::Context;
+use crate::room::{WriteFault, push_within};
 use crate::tokens::tail;
-use sp_base::Mem;
 
 fn reference(c: u8) -> Option<&'static str>
     ensures { option_map (λ text. text.now) result ≡ spec.reference c }
@@ -53,29 +54,46 @@ fn first_reference(text: &[u8]) -> Option<&'static str>
     }
 }
 
-// Whole runs between the five characters are pushed, which are bytes of their own.
-fn push_escaped(text: &mut String, plain: &str) -> Mem<()>
-    ensures { OnOk result (string_bytes text.new ≡ string_bytes text.old ++ flat_map spec.escape plain.now) }
+// Whole runs between the five characters are written, which are bytes of their own.
+fn push_runs(text: &mut String, most: usize, plain: &str) -> Result<(), WriteFault>
+    requires { length (string_bytes text.old) ≤ most }
+    ensures { Wrote most result (string_bytes text.old) (flat_map spec.escape plain.now) (string_bytes text.new) }
 {
     let mut rest = plain;
     loop {
-        let (run, behind) = rest.split_at(run_len(rest.as_bytes()));
-        text.push_str(run)?;
-        let Some(reference) = first_reference(behind.as_bytes()) else {
+        let (run, after) = rest.split_at(run_len(rest.as_bytes()));
+        push_within(text, most, run)?;
+        let Some(reference) = first_reference(after.as_bytes()) else {
             return Ok(());
         };
-        text.push_str(reference)?;
-        rest = tail(behind);
+        push_within(text, most, reference)?;
+        rest = tail(after);
     }
 }
 
+// Escapes only lengthen a text, so one that doesn't fit as it stands isn't looked through.
+fn push_escaped(text: &mut String, most: usize, plain: &str) -> Result<(), WriteFault>
+    requires { length (string_bytes text.old) ≤ most }
+    ensures { Wrote most result (string_bytes text.old) (flat_map spec.escape plain.now) (string_bytes text.new) }
+{
+    if plain.len() > most - text.as_str().len() {
+        return Err(WriteFault::TooLong);
+    }
+    push_runs(text, most, plain)
+}
+
 /// Writes a text, escaped unless the context is 'unsafe'.
-pub(crate) fn push(text: &mut String, context: Option<Context>, plain: &str) -> Mem<()>
-    ensures { OnOk result (string_bytes text.new ≡ string_bytes text.old ++ spec.in_context context plain.now) }
+pub(crate) fn push(
+    text: &mut String,
+    most: usize,
+    context: Option<Context>,
+    plain: &str,
+) -> Result<(), WriteFault>
+    requires { length (string_bytes text.old) ≤ most }
+    ensures { Wrote most result (string_bytes text.old) (spec.in_context context plain.now) (string_bytes text.new) }
 {
     match context {
-        Some(Context::Unsafe) => text.push_str(plain)?,
-        Some(Context::Text) | None => push_escaped(text, plain)?,
+        Some(Context::Unsafe) => push_within(text, most, plain),
+        Some(Context::Text) | None => push_escaped(text, most, plain),
     }
-    Ok(())
 }

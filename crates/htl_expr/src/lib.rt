@@ -2,15 +2,19 @@
 #![tactic(auto)]
 
 mod access;
+mod compare;
 mod escape;
 mod expression;
 mod laws;
+mod lent;
+mod lists;
 mod node;
 mod numbers;
 mod options;
 mod out;
 mod print;
 mod reader;
+mod room;
 mod scope;
 mod stop;
 #[cfg(test)]
@@ -22,4 +26,5 @@ pub use expression::{Context, Expr, ExprFault};
 pub use laws::the_reading_is_the_grammar;
 pub use node::{Comparison, Node};
 pub use out::Out;
+pub use room::WriteFault;
 pub use scope::Scope;

@@ -1,10 +1,16 @@
 //! What an expression gives.
 
-ghost use Rattle.std.specs.Prelude.{◌≡◌, int_le, int_lt};
-ghost use Rattle.htl_expr.specs.Value as spec;
+ghost use Rattle.std.specs.Prelude.{◌≡◌, ◌≢◌, IfOk, map};
+ghost use Rattle.std.specs.Fmt.{signed_decimal};
+ghost use Rattle.htl_expr.specs.Print.{truth_text};
+ghost use Rattle.htl_expr.specs.Lent.{out_of_lent, plain_item};
 
-use crate::node::Comparison;
-use sp_base::{TextBuf, TextList};
+use crate::expression::Context;
+use crate::lent::Lent;
+use crate::lists::{long_text, truth_text};
+use crate::print::push_value;
+use sp_base::{Mem, NoMemory, TextBuf, TextList};
+use std::alloc::Global;
 
 /// The value of an expression.
 #[derive(Drop)]
@@ -16,61 +22,67 @@ pub enum Out {
     List(TextList),
 }
 
-/// Nothing, false, 0, the empty text and the empty list are false, and all else is true.
-pub(crate) fn is_true(value: &Out) -> bool
-    ensures { result ≡ spec.is_true value.now }
+pub(crate) fn long_texts(alloc: Global, numbers: &[i64]) -> Mem<TextList>
+    ensures { IfOk result (λ texts. texts ≡ map signed_decimal numbers.now) }
+{
+    let mut texts = TextList::new(alloc);
+    for number in numbers {
+        texts.push(long_text(alloc, *number)?)?;
+    }
+    Ok(texts)
+}
+
+pub(crate) fn truth_texts(alloc: Global, truths: &[bool]) -> Mem<TextList>
+    ensures { IfOk result (λ texts. texts ≡ map truth_text truths.now) }
+{
+    let mut texts = TextList::new(alloc);
+    for truth in truths {
+        texts.push(TextBuf::of(alloc, truth_text(*truth))?)?;
+    }
+    Ok(texts)
+}
+
+/// The text of an item of a list literal.
+pub(crate) fn item_text(alloc: Global, item: &Lent) -> Mem<TextBuf>
+    ensures { IfOk result (λ text. text ≡ plain_item item.now) }
+{
+    let mut text = String::new(alloc);
+    match push_value(
+        &mut text,
+        alloc,
+        usize::MAX,
+        Some(Context::Unsafe),
+        ",",
+        item,
+    ) {
+        Ok(()) => Ok(TextBuf::from(text)),
+        Err(_) => Err(NoMemory),
+    }
+}
+
+pub(crate) fn item_texts(alloc: Global, items: &[Lent]) -> Mem<TextList>
+    ensures { IfOk result (λ texts. texts ≡ map plain_item items.now) }
+{
+    let mut texts = TextList::new(alloc);
+    for item in items {
+        texts.push(item_text(alloc, item)?)?;
+    }
+    Ok(texts)
+}
+
+/// A value with copies of what it has lent.
+#[tactic(auto, using(crate::proofs::Chains::items_out))]
+pub(crate) fn owned(alloc: Global, value: &Lent) -> Mem<Out>
+    ensures { IfOk result (λ v. v ≡ out_of_lent value.now) }
 {
     match value {
-        Out::Nothing => false,
-        Out::Truth(truth) => *truth,
-        Out::Long(number) => *number != 0,
-        Out::Text(text) => !text.text().is_empty(),
-        Out::List(texts) => !texts.is_empty(),
-    }
-}
-
-// Whether two values have the same kind and the same content.
-fn is_same(a: &Out, b: &Out) -> bool
-    ensures { result ≡ spec.is_same a.now b.now }
-{
-    match (a, b) {
-        (Out::Nothing, Out::Nothing) => true,
-        (Out::Truth(a), Out::Truth(b)) => *a == *b,
-        (Out::Long(a), Out::Long(b)) => *a == *b,
-        (Out::Text(a), Out::Text(b)) => *a == *b,
-        (Out::List(a), Out::List(b)) => a.as_slice() == b.as_slice(),
-        _ => false,
-    }
-}
-
-fn is_below(a: &Out, b: &Out) -> bool
-    ensures { result ≡ spec.are_ordered int_lt a.now b.now }
-{
-    match (a, b) {
-        (Out::Long(a), Out::Long(b)) => *a < *b,
-        _ => false,
-    }
-}
-
-fn is_at_most(a: &Out, b: &Out) -> bool
-    ensures { result ≡ spec.are_ordered int_le a.now b.now }
-{
-    match (a, b) {
-        (Out::Long(a), Out::Long(b)) => *a <= *b,
-        _ => false,
-    }
-}
-
-/// Whether a comparison holds between two values.
-pub(crate) fn compare(comparison: Comparison, a: &Out, b: &Out) -> bool
-    ensures { result ≡ spec.compare comparison a.now b.now }
-{
-    match comparison {
-        Comparison::Equal => is_same(a, b),
-        Comparison::NotEqual => !is_same(a, b),
-        Comparison::Below => is_below(a, b),
-        Comparison::Above => is_below(b, a),
-        Comparison::AtMost => is_at_most(a, b),
-        Comparison::AtLeast => is_at_most(b, a),
+        Lent::Nothing => Ok(Out::Nothing),
+        Lent::Truth(truth) => Ok(Out::Truth(*truth)),
+        Lent::Long(number) => Ok(Out::Long(*number)),
+        Lent::Text(text) => Ok(Out::Text(TextBuf::of(alloc, text)?)),
+        Lent::Texts(texts) => Ok(Out::List(texts.duplicate(alloc)?)),
+        Lent::Longs(numbers) => Ok(Out::List(long_texts(alloc, numbers.as_slice())?)),
+        Lent::Truths(truths) => Ok(Out::List(truth_texts(alloc, truths.as_slice())?)),
+        Lent::Items(items) => Ok(Out::List(item_texts(alloc, items.as_slice())?)),
     }
 }

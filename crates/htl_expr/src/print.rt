@@ -1,140 +1,85 @@
 //! How a value is printed.
 
-ghost use Rattle.std.specs.Prelude.{◌≡◌, ◌++◌, IfOk, OnOk, string_bytes, flat_map};
-ghost use Rattle.std.specs.Fmt.{signed_decimal};
+ghost use Rattle.std.specs.Prelude.{◌≡◌, ◌≢◌, ◌≤◌, ◌<◌, ◌++◌, IfOk, IfErr, OnOk, OnErr, string_bytes, map, length};
+ghost use Rattle.std.specs.Io.{StartsWith};
+ghost use Rattle.htl_expr.specs.Lent.{out_of_lent, plain_item};
 ghost use Rattle.htl_expr.specs.Print as spec;
-ghost use Rattle.htl_expr.specs.Value.{print, value, out_of};
+ghost use Rattle.htl_expr.specs.Value.{print};
+ghost use Rattle.htl_expr.specs.Writing.{Wrote};
 
 use crate::escape::push;
 use crate::expression::{Context, Expr};
-use crate::node::Node;
-use crate::out::{Out, is_true};
-use crate::scope::{Scope, field, out_of};
+use crate::lent::Lent;
+use crate::lists::{long_text, push_longs, push_texts, push_truths, truth_text};
+use crate::room::WriteFault;
+use crate::scope::Scope;
 use crate::value::value;
-use sp_base::{Mem, TextBuf, Value};
+use sp_base::{Mem, NoMemory, TextBuf};
 use std::alloc::Global;
 
-pub(crate) fn truth_text(truth: bool) -> &'static str
-    ensures { result.now ≡ spec.truth_text truth }
+// What stands before an item of a list literal, and its text.
+#[cycle(print)]
+#[tactic(auto, using(crate::proofs::EscapeLemmas::in_context_append))]
+fn push_next_item(
+    text: &mut String,
+    alloc: Global,
+    most: usize,
+    context: Option<Context>,
+    before: &str,
+    item: &Lent,
+) -> Result<(), WriteFault>
+    requires { length (string_bytes text.old) ≤ most }
+    ensures { Wrote most result (string_bytes text.old) (spec.in_context context (before.now ++ plain_item item.now)) (string_bytes text.new) }
 {
-    if truth { "true" } else { "false" }
+    push(text, most, context, before)?;
+    push_value(text, alloc, most, context, ",", item)
 }
 
-pub(crate) fn long_text(alloc: Global, number: i64) -> Mem<TextBuf>
-    ensures { IfOk result (λ text. text ≡ signed_decimal number) }
+// A list literal, with a join text between each two items.
+#[cycle(print)]
+fn push_items(
+    text: &mut String,
+    alloc: Global,
+    most: usize,
+    context: Option<Context>,
+    join: &str,
+    items: &[Lent],
+) -> Result<(), WriteFault>
+    requires { length (string_bytes text.old) ≤ most }
+    ensures { Wrote most result (string_bytes text.old) (spec.in_context context (spec.joined join.now (map plain_item items.now))) (string_bytes text.new) }
 {
-    Ok(TextBuf::from(format!(in alloc; "{number}")?))
-}
-
-// The further texts of a list, each behind a join text.
-fn push_more(text: &mut String, context: Option<Context>, join: &str, more: &[TextBuf]) -> Mem<()>
-    ensures { OnOk result (string_bytes text.new ≡ string_bytes text.old ++ spec.in_context context (flat_map (λ next. join.now ++ next) more.now)) }
-{
-    for next in more {
-        push(text, context, join)?;
-        push(text, context, next.text())?;
+    let mut before = "";
+    for item in items {
+        push_next_item(text, alloc, most, context, before, item)?;
+        before = join;
     }
     Ok(())
 }
 
-#[tactic(auto, using(crate::proofs::EscapeLemmas::in_context_append, crate::proofs::EscapeLemmas::in_context_none))]
-fn push_list(text: &mut String, context: Option<Context>, join: &str, texts: &[TextBuf]) -> Mem<()>
-    ensures { OnOk result (string_bytes text.new ≡ string_bytes text.old ++ spec.in_context context (spec.joined join.now texts.now)) }
-{
-    match texts {
-        [] => Ok(()),
-        [first, more @ ..] => {
-            push(text, context, first.text())?;
-            push_more(text, context, join, more)
-        }
-    }
-}
-
-#[tactic(auto, using(crate::proofs::EscapeLemmas::in_context_none))]
-fn push_value(
+/// Writes a value within a limit, with a join text between the items of a list.
+#[cycle(print)]
+#[tactic(auto, using(crate::proofs::EscapeLemmas::in_context_none, crate::proofs::Chains::items_out, crate::proofs::Chains::texts_are))]
+pub(crate) fn push_value(
     text: &mut String,
     alloc: Global,
+    most: usize,
     context: Option<Context>,
     join: &str,
-    value: &Out,
-) -> Mem<()>
-    ensures { OnOk result (string_bytes text.new ≡ string_bytes text.old ++ spec.in_context context (spec.plain join.now value.now)) }
+    value: &Lent,
+) -> Result<(), WriteFault>
+    requires { length (string_bytes text.old) ≤ most }
+    ensures { Wrote most result (string_bytes text.old) (spec.in_context context (spec.plain join.now (out_of_lent value.now))) (string_bytes text.new) }
 {
     match value {
-        Out::Nothing => Ok(()),
-        Out::Truth(truth) => push(text, context, truth_text(*truth)),
-        Out::Long(number) => push(text, context, long_text(alloc, *number)?.text()),
-        Out::Text(plain) => push(text, context, plain.text()),
-        Out::List(texts) => push_list(text, context, join, texts.as_slice()),
+        Lent::Nothing => Ok(()),
+        Lent::Truth(truth) => push(text, most, context, truth_text(*truth)),
+        Lent::Long(number) => push(text, most, context, long_text(alloc, *number)?.text()),
+        Lent::Text(plain) => push(text, most, context, plain),
+        Lent::Texts(texts) => push_texts(text, most, context, join, texts.as_slice()),
+        Lent::Longs(numbers) => push_longs(text, alloc, most, context, join, numbers.as_slice()),
+        Lent::Truths(truths) => push_truths(text, most, context, join, truths.as_slice()),
+        Lent::Items(items) => push_items(text, alloc, most, context, join, items.as_slice()),
     }
-}
-
-// A stored text is lent, and not copied.
-#[tactic(auto, using(crate::proofs::EscapeLemmas::in_context_none))]
-fn push_property(
-    text: &mut String,
-    alloc: Global,
-    context: Option<Context>,
-    join: &str,
-    value: &Value,
-) -> Mem<()>
-    ensures { OnOk result (string_bytes text.new ≡ string_bytes text.old ++ spec.in_context context (spec.plain join.now (out_of value.now))) }
-{
-    match value {
-        Value::Text(plain) => push(text, context, plain.text()),
-        Value::Texts(texts) => push_list(text, context, join, texts.as_slice()),
-        _ => push_value(text, alloc, context, join, &out_of(alloc, value)?),
-    }
-}
-
-/// The tree that a choice takes, which has the same value; any other tree is itself.
-fn chosen<'a>(alloc: Global, scope: &Scope, node: &'a Node) -> Mem<&'a Node>
-    ensures { IfOk result (λ taken. value scope.now taken.now ≡ value scope.now node.now) }
-{
-    match node {
-        Node::Choice(condition, a, b) => {
-            if is_true(&value(alloc, scope, condition.get())?) {
-                chosen(alloc, scope, a.get())
-            } else {
-                chosen(alloc, scope, b.get())
-            }
-        }
-        _ => Ok(node),
-    }
-}
-
-#[tactic(auto, using(crate::proofs::EscapeLemmas::in_context_none))]
-fn push_node(
-    text: &mut String,
-    alloc: Global,
-    scope: &Scope,
-    context: Option<Context>,
-    join: &str,
-    node: &Node,
-) -> Mem<()>
-    ensures { OnOk result (string_bytes text.new ≡ string_bytes text.old ++ spec.in_context context (spec.plain join.now (value scope.now node.now))) }
-{
-    match node {
-        Node::Text(plain) => push(text, context, plain.text()),
-        Node::Property(name) => match scope.props.get(name.text()) {
-            Some(value) => push_property(text, alloc, context, join, value),
-            None => Ok(()),
-        },
-        Node::Resource(name) => match field(scope, name.text()) {
-            Some(plain) => push(text, context, plain),
-            None => Ok(()),
-        },
-        _ => push_value(text, alloc, context, join, &value(alloc, scope, node)?),
-    }
-}
-
-/// The text of a value before it is escaped, with a join text between the items of a list.
-pub(crate) fn plain(alloc: Global, join: &str, value: &Out) -> Mem<TextBuf>
-    ensures { IfOk result (λ text. text ≡ spec.plain join.now value.now) }
-{
-    let mut text = String::new(alloc);
-    push_value(&mut text, alloc, Some(Context::Unsafe), join, value)?;
-    Ok(TextBuf::from(text))
 }
 
 fn join_text(join: &Option<TextBuf>) -> &str
@@ -147,25 +92,51 @@ fn join_text(join: &Option<TextBuf>) -> &str
 }
 
 impl Expr {
-    /// Writes what the expression prints for a resource behind what a text has.
+    // What `write` does to a text that is within the limit.
     #[tactic(auto, using(crate::proofs::EscapeLemmas::in_context_none))]
-    pub fn write(&self, alloc: Global, text: &mut String, scope: &Scope) -> Mem<()>
-        ensures { OnOk result (string_bytes text.new ≡ string_bytes text.old ++ print scope.now self.now) }
+    fn push_print(
+        &self,
+        alloc: Global,
+        text: &mut String,
+        scope: &Scope,
+        most: usize,
+    ) -> Result<(), WriteFault>
+        requires { length (string_bytes text.old) ≤ most }
+        ensures { Wrote most result (string_bytes text.old) (print scope.now self.now) (string_bytes text.new) }
     {
         match &self.node {
             Some(node) => {
-                let node = chosen(alloc, scope, node)?;
-                push_node(
+                let value = value(alloc, scope, node)?;
+                push_value(
                     text,
                     alloc,
-                    scope,
+                    most,
                     self.context,
                     join_text(&self.join),
-                    node,
+                    &value,
                 )
             }
             None => Ok(()),
         }
+    }
+
+    /// Writes what the expression prints for a resource after what a text has, if they have at most so many bytes together.
+    pub fn write(
+        &self,
+        alloc: Global,
+        text: &mut String,
+        scope: &Scope,
+        most: usize,
+    ) -> Result<(), WriteFault>
+        ensures ok { OnOk result ((string_bytes text.new ≡ string_bytes text.old ++ print scope.now self.now) × (length (string_bytes text.new) ≤ most)) }
+        ensures err { IfErr result (λ f. f ≢ WriteFault.NoMemory → (f ≡ WriteFault.TooLong) × (most < length (string_bytes text.old ++ print scope.now self.now))) }
+        // What the text had stays in front, and it grows within the limit alone.
+        ensures kept { OnErr result (StartsWith (string_bytes text.new) (string_bytes text.old)) }
+    {
+        if text.as_str().len() > most {
+            return Err(WriteFault::TooLong);
+        }
+        self.push_print(alloc, text, scope, most)
     }
 
     /// The text that the expression writes for a resource.
@@ -176,7 +147,9 @@ impl Expr {
         ensures inert { IfOk result (spec.IsInert self.now.context) }
     {
         let mut text = String::new(alloc);
-        self.write(alloc, &mut text, scope)?;
-        Ok(TextBuf::from(text))
+        match self.write(alloc, &mut text, scope, usize::MAX) {
+            Ok(()) => Ok(TextBuf::from(text)),
+            Err(_) => Err(NoMemory),
+        }
     }
 }

@@ -1,84 +1,124 @@
 //! The value of a tree.
 
-ghost use Rattle.std.specs.Prelude.{◌≡◌, IfOk, map};
+ghost use Rattle.std.specs.Prelude.{◌≡◌, IfOk, map, if◌then◌else◌};
 ghost use Rattle.htl_expr.specs.Value as spec;
+ghost use Rattle.htl_expr.specs.Lent.{out_of_lent};
 
+use crate::compare::compare;
 use crate::expression::Expr;
+use crate::lent::{Lent, is_true};
 use crate::node::Node;
-use crate::out::{Out, compare, is_true};
-use crate::print::plain;
+use crate::out::{Out, owned};
 use crate::scope::{Scope, property, resource};
-use sp_base::{Mem, TextList};
+use sp_base::Mem;
+use sqlite_items::Items;
 use std::alloc::Global;
+
+// The value of an operand, or of those before it if that is false.
+#[cycle(value)]
+fn and_next<'a>(
+    alloc: Global,
+    scope: &Scope<'a>,
+    operand: &'a Node,
+    last: Lent<'a>,
+) -> Mem<Lent<'a>>
+    ensures { IfOk result (λ v. out_of_lent v ≡ (if spec.is_true (out_of_lent last.entry) then spec.value scope.now operand.now else out_of_lent last.entry)) }
+{
+    if is_true(&last) {
+        value(alloc, scope, operand)
+    } else {
+        Ok(last)
+    }
+}
 
 // The value of the last operand, or of the first that is false.
 #[cycle(value)]
-fn and_values(alloc: Global, scope: &Scope, first: Out, more: &[Node]) -> Mem<Out>
-    ensures { IfOk result (λ v. v ≡ spec.and_values first (map (spec.value scope.now) more.now)) }
+fn and_values<'a>(
+    alloc: Global,
+    scope: &Scope<'a>,
+    more: &'a [Node],
+    first: Lent<'a>,
+) -> Mem<Lent<'a>>
+    ensures { IfOk result (λ v. out_of_lent v ≡ spec.and_values (out_of_lent first.entry) (map (spec.value scope.now) more.now)) }
 {
     let mut last = first;
     for operand in more {
-        if !is_true(&last) {
-            return Ok(last);
-        }
-        last = value(alloc, scope, operand)?;
+        last = and_next(alloc, scope, operand, last)?;
     }
     Ok(last)
+}
+
+// The value of an operand, or of those before it if that is true.
+#[cycle(value)]
+fn or_next<'a>(alloc: Global, scope: &Scope<'a>, operand: &'a Node, last: Lent<'a>) -> Mem<Lent<'a>>
+    ensures { IfOk result (λ v. out_of_lent v ≡ (if spec.is_true (out_of_lent last.entry) then out_of_lent last.entry else spec.value scope.now operand.now)) }
+{
+    if is_true(&last) {
+        Ok(last)
+    } else {
+        value(alloc, scope, operand)
+    }
 }
 
 // The value of the last operand, or of the first that is true.
 #[cycle(value)]
-fn or_values(alloc: Global, scope: &Scope, first: Out, more: &[Node]) -> Mem<Out>
-    ensures { IfOk result (λ v. v ≡ spec.or_values first (map (spec.value scope.now) more.now)) }
+fn or_values<'a>(
+    alloc: Global,
+    scope: &Scope<'a>,
+    more: &'a [Node],
+    first: Lent<'a>,
+) -> Mem<Lent<'a>>
+    ensures { IfOk result (λ v. out_of_lent v ≡ spec.or_values (out_of_lent first.entry) (map (spec.value scope.now) more.now)) }
 {
     let mut last = first;
     for operand in more {
-        if is_true(&last) {
-            return Ok(last);
-        }
-        last = value(alloc, scope, operand)?;
+        last = or_next(alloc, scope, operand, last)?;
     }
     Ok(last)
 }
 
-// The texts of the items of a list literal.
+// The values of the items of a list literal.
 #[cycle(value)]
-fn item_texts(alloc: Global, scope: &Scope, items: &[Node]) -> Mem<TextList>
-    ensures { IfOk result (λ texts. texts ≡ spec.item_texts (map (spec.value scope.now) items.now)) }
+fn item_values<'a>(alloc: Global, scope: &Scope<'a>, items: &'a [Node]) -> Mem<Items<Lent<'a>>>
+    ensures { IfOk result (λ values. map out_of_lent values ≡ map (spec.value scope.now) items.now) }
 {
-    let mut texts = TextList::new(alloc);
+    let mut values = Items::new(alloc);
     for item in items {
-        let item = value(alloc, scope, item)?;
-        texts.push(plain(alloc, ",", &item)?)?;
+        values.push(value(alloc, scope, item)?)?;
     }
-    Ok(texts)
+    Ok(values)
 }
 
+/// The value of a tree, with what the scope and the tree have lent.
 #[cycle(value)]
-pub(crate) fn value(alloc: Global, scope: &Scope, node: &Node) -> Mem<Out>
-    ensures { IfOk result (λ v. v ≡ spec.value scope.now node.now) }
+pub(crate) fn value<'a>(alloc: Global, scope: &Scope<'a>, node: &'a Node) -> Mem<Lent<'a>>
+    ensures { IfOk result (λ v. out_of_lent v ≡ spec.value scope.now node.now) }
 {
     match node {
-        Node::Text(text) => Ok(Out::Text(text.duplicate(alloc)?)),
-        Node::Long(number) => Ok(Out::Long(*number)),
-        Node::Truth(truth) => Ok(Out::Truth(*truth)),
-        Node::Variable(_) | Node::Access(_, _) => Ok(Out::Nothing),
-        Node::Property(name) => property(alloc, scope, name.text()),
-        Node::Resource(name) => resource(alloc, scope, name.text()),
-        Node::List(items) => Ok(Out::List(item_texts(alloc, scope, items.as_slice())?)),
-        Node::Not(operand) => Ok(Out::Truth(!is_true(&value(alloc, scope, operand.get())?))),
+        Node::Text(text) => Ok(Lent::Text(text.text())),
+        Node::Long(number) => Ok(Lent::Long(*number)),
+        Node::Truth(truth) => Ok(Lent::Truth(*truth)),
+        Node::Variable(_) | Node::Access(_, _) => Ok(Lent::Nothing),
+        Node::Property(name) => Ok(property(scope, name.text())),
+        Node::Resource(name) => Ok(resource(scope, name.text())),
+        Node::List(items) => Ok(Lent::Items(item_values(alloc, scope, items.as_slice())?)),
+        Node::Not(operand) => Ok(Lent::Truth(!is_true(&value(alloc, scope, operand.get())?))),
         Node::Compare(comparison, a, b) => {
             let a = value(alloc, scope, a.get())?;
             let b = value(alloc, scope, b.get())?;
-            Ok(Out::Truth(compare(*comparison, &a, &b)))
+            Ok(Lent::Truth(compare(alloc, *comparison, &a, &b)?))
         }
         Node::And(first, more) => {
-            let first = value(alloc, scope, first.get())?;
-            and_values(alloc, scope, first, more.as_slice())
+            {
+                let first = value(alloc, scope, first.get())?;
+                and_values(alloc, scope, more.as_slice(), first)
+            }
         }
         Node::Or(first, more) => {
-            let first = value(alloc, scope, first.get())?;
-            or_values(alloc, scope, first, more.as_slice())
+            {
+                let first = value(alloc, scope, first.get())?;
+                or_values(alloc, scope, more.as_slice(), first)
+            }
         }
         Node::Choice(condition, a, b) => {
             if is_true(&value(alloc, scope, condition.get())?) {
@@ -96,7 +136,7 @@ impl Expr {
         ensures { IfOk result (λ v. v ≡ spec.expr_value scope.now self.now) }
     {
         match &self.node {
-            Some(node) => value(alloc, scope, node),
+            Some(node) => owned(alloc, &value(alloc, scope, node)?),
             None => Ok(Out::Nothing),
         }
     }

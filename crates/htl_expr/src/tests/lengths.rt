@@ -1,6 +1,6 @@
 //! What is long and not deep is read, evaluated and dropped without a deep stack.
 
-use super::sample::{Failed, scope};
+use super::sample::{Failed, Sample};
 use crate::Expr;
 use std::alloc::Global;
 
@@ -16,7 +16,8 @@ fn repeated(alloc: Global, front: &str, piece: &str, end: &str) -> Result<String
 #[test]
 fn long_expressions_are_printed(rt: HostRuntime) -> Result<(), Failed> {
     let alloc = rt.alloc();
-    let scope = scope(alloc)?;
+    let sample = Sample::new(alloc)?;
+    let scope = sample.scope();
     for (front, piece, end, want) in [
         ("", "a && ", "a", ""),
         ("", "1 && ", "2", "2"),
@@ -34,7 +35,8 @@ fn long_expressions_are_printed(rt: HostRuntime) -> Result<(), Failed> {
 #[test]
 fn long_lists_are_printed(rt: HostRuntime) -> Result<(), Failed> {
     let alloc = rt.alloc();
-    let scope = scope(alloc)?;
+    let sample = Sample::new(alloc)?;
+    let scope = sample.scope();
     let e = Expr::read(alloc, repeated(alloc, "[", "12,", "a]")?.as_str())?;
     let printed = e.print(alloc, &scope)?;
     assert!(rt; printed.text() == repeated(alloc, "", "12,", "")?.as_str());

@@ -4,7 +4,7 @@ use crate::{Expr, ExprFault, Out, Scope};
 use sp_base::{LongList, NoMemory, PropList, TextBuf, TextList, TruthList, Value};
 use std::alloc::{AllocError, Global};
 
-/// Want of memory, or a fault, where a test expects none.
+/// Out of memory, or a fault, where a test expects none.
 #[derive(Debug, Drop)]
 pub struct Failed;
 
@@ -72,13 +72,27 @@ fn props(alloc: Global) -> Result<PropList, Failed> {
     Ok(props)
 }
 
-pub fn scope(alloc: Global) -> Result<Scope, Failed> {
-    Ok(Scope {
-        props: props(alloc)?,
-        path: TextBuf::of(alloc, "/content/en")?,
-        name: TextBuf::of(alloc, "en")?,
-        kind: TextBuf::of(alloc, "s/page")?,
-    })
+/// The resource of the tests.
+#[derive(Drop)]
+pub struct Sample {
+    props: PropList,
+}
+
+impl Sample {
+    pub fn new(alloc: Global) -> Result<Sample, Failed> {
+        Ok(Sample {
+            props: props(alloc)?,
+        })
+    }
+
+    pub fn scope(&self) -> Scope<'_> {
+        Scope {
+            props: &self.props,
+            path: "/content/en",
+            name: "en",
+            kind: "s/page",
+        }
+    }
 }
 
 fn listed(alloc: Global, texts: &TextList) -> Result<String, Failed> {
@@ -106,7 +120,8 @@ pub fn first_other(
     alloc: Global,
     rows: &[(&'static str, Want, &'static str)],
 ) -> Result<Option<&'static str>, Failed> {
-    let scope = scope(alloc)?;
+    let sample = Sample::new(alloc)?;
+    let scope = sample.scope();
     for (text, want, printed) in rows {
         let e = Expr::read(alloc, text)?;
         if !is_wanted(alloc, &e.value(alloc, &scope)?, *want)?

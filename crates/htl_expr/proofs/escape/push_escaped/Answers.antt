@@ -1,31 +1,11 @@
-use Rattle.std.proofs.Common.{sym, rules, arith}
-use Rattle.htl_expr.proofs.EscapeLemmas.{run_boundary, run_ends, run_goes_on, marked, drop_less}
+use Rattle.std.proofs.Common.{arith, refl, string_bytes}
+use Rattle.htl_expr.specs.Print.{escape}
+use Rattle.htl_expr.proofs.EscapeLemmas.{escaped_longer}
+use Rattle.htl_expr.proofs.Writing.{begins_same, no_room}
 use Rattle.htl_expr.proofs.escape.push_escaped.Goals as goal
 
-pub split_at-requires : goal.split_at-requires
-split_at-requires c = rw (c.run_len.ensures, c.as_bytes.ensures.value) (run_boundary c.loop-reference.rest.now)
-
-pub returns-in_default : goal.returns-in_default
-returns-in_default c =
-    let none = sym c.in_default.ensures in
-    run_ends c.run_len.result _ _ _ c.loop-reference.rest.now c.args.plain.now c.split_at.result.0.now c.split_at.result.1.now (rw c.as_bytes.ensures.value at c.run_len.ensures) c.split_at.ensures.front c.split_at.ensures.back
-    (rw c.as_bytes-in-loop-reference.ensures.value at none) c.in_ok-push_str.ensures.bytes c.loop-reference.invariant.1
-
-pub tail-rest-requires : goal.tail-rest-requires
-tail-rest-requires c =
-    let some = sym c.in-Some.ensures in
-    (marked c.split_at.result.1.now c.in-Some.reference.now (rw c.as_bytes-in-loop-reference.ensures.value at some)).first
-
-pub loop-reference-smaller : goal.loop-reference-smaller
-loop-reference-smaller c =
-    let some = sym c.in-Some.ensures in
-    let less = (marked c.split_at.result.1.now c.in-Some.reference.now (rw c.as_bytes-in-loop-reference.ensures.value at some)).less in
-    let most = drop_less c.run_len.result c.loop-reference.rest.now c.split_at.result.1.now c.split_at.ensures.back in
-    rw c.tail-rest.ensures (omega (arith, less, most))
-
-pub loop-reference-preserved : goal.loop-reference-preserved
-loop-reference-preserved c =
-    let some = sym c.in-Some.ensures in
-    let same = run_goes_on c.run_len.result _ _ _ _ c.loop-reference.rest.now c.args.plain.now c.split_at.result.0.now c.split_at.result.1.now c.in-Some.reference.now (rw c.as_bytes.ensures.value at c.run_len.ensures) c.split_at.ensures.front c.split_at.ensures.back
-    (rw c.as_bytes-in-loop-reference.ensures.value at some) c.in_ok-push_str.ensures.bytes c.in_ok-push_str-2.ensures.bytes c.loop-reference.invariant.1 in
-    (search rules, rw c.tail-rest.ensures same)
+pub returns-then-plain-most : goal.returns-then-plain-most
+returns-then-plain-most c =
+    let lt = rw c.as_str.ensures.value at c.if-plain-most.true in
+    let more = escaped_longer c.args.plain.now in
+    (begins_same _, λ _. (refl, no_room c.args.most (string_bytes c.args.text.now) _ c.requires (omega (arith, lt, more))))

@@ -1,12 +1,13 @@
 use Rattle.std.proofs.Common.{◌≡◌, drop, take, map}
-use Rattle.htl_expr.specs.Value.{and_values, or_values, item_texts, value}
+use Rattle.htl_expr.specs.Lent.{out_of_lent}
+use Rattle.htl_expr.specs.Value.{and_values, or_values, value}
 use Rattle.htl_expr.proofs.value.+value.Given as goal
 
 abbrev pub invariant-and_values-loop-operand : goal.invariant-and_values-loop-operand
-invariant-and_values-loop-operand l = and_values l.last (map (value l.fn.scope) (drop l.operand-index l.more)) ≡ and_values l.fn.first (map (value l.fn.scope) l.more)
+invariant-and_values-loop-operand l = and_values (out_of_lent l.last) (map (value l.fn.scope) (drop l.operand-index l.more)) ≡ and_values (out_of_lent l.fn.first) (map (value l.fn.scope) l.more)
 
 abbrev pub invariant-or_values-loop-operand : goal.invariant-or_values-loop-operand
-invariant-or_values-loop-operand l = or_values l.last (map (value l.fn.scope) (drop l.operand-index l.more)) ≡ or_values l.fn.first (map (value l.fn.scope) l.more)
+invariant-or_values-loop-operand l = or_values (out_of_lent l.last) (map (value l.fn.scope) (drop l.operand-index l.more)) ≡ or_values (out_of_lent l.fn.first) (map (value l.fn.scope) l.more)
 
-abbrev pub invariant-item_texts-loop-item : goal.invariant-item_texts-loop-item
-invariant-item_texts-loop-item l = l.texts ≡ item_texts (map (value l.fn.scope) (take l.item-index l.items))
+abbrev pub invariant-item_values-loop-item : goal.invariant-item_values-loop-item
+invariant-item_values-loop-item l = map out_of_lent l.values ≡ map (value l.fn.scope) (take l.item-index l.items)

@@ -1,0 +1,33 @@
+-- What values that lend stand for. Only proofs and private functions need this.
+use Rattle.std.specs.Prelude.{ℕ, List, [], codes, map}
+use Rattle.std.specs.Fmt.{signed_decimal}
+use Rattle.htl_expr.specs.declared.out.Out.{Out}
+use Rattle.htl_expr.specs.declared.out.Out.TheVariants as out
+use Rattle.htl_expr.specs.declared.lent.Lent.{Lent, fold-Lent}
+use Rattle.htl_expr.specs.declared.lent.Lent.TheOpen.{Lent-F}
+use Rattle.htl_expr.specs.Print.{truth_text, plain}
+use Rattle.htl_expr.specs.Value.{item_texts}
+
+-- a value that lends, with what its items stand for
+abbrev pub out_step : Lent-F Out → Out
+out_step Lent-F.Nothing = out.Nothing
+out_step (Lent-F.Truth b) = out.Truth b
+out_step (Lent-F.Long n) = out.Long n
+out_step (Lent-F.Text text) = out.Text text.now
+out_step (Lent-F.Texts texts) = out.List texts.now
+out_step (Lent-F.Longs ns) = out.List (map signed_decimal ns.now)
+out_step (Lent-F.Truths bs) = out.List (map truth_text bs.now)
+out_step (Lent-F.Items items) = out.List (item_texts items)
+
+-- what a value that lends stands for
+abbrev pub out_of_lent : Lent → Out
+out_of_lent = fold-Lent Out out_step
+
+-- the text of an item of a list literal
+abbrev pub plain_item : Lent → List ℕ
+plain_item value = plain (codes ",") (out_of_lent value)
+
+-- the texts of a list
+abbrev pub texts_of : Out → List (List ℕ)
+texts_of (out.List texts) = texts
+texts_of _ = []

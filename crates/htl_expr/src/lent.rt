@@ -1,0 +1,38 @@
+//! Values that lend what is stored.
+
+ghost use Rattle.std.specs.Prelude.{◌≡◌, IfOk, map};
+ghost use Rattle.htl_expr.specs.Value as values;
+ghost use Rattle.htl_expr.specs.Lent as spec;
+
+use sp_base::{LongList, TextList, TruthList};
+use sqlite_items::Items;
+
+/// The value of an expression, with what the resource and the expression have lent.
+#[derive(Drop)]
+pub(crate) enum Lent<'a> {
+    Nothing,
+    Truth(bool),
+    Long(i64),
+    Text(&'a str),
+    Texts(&'a TextList),
+    Longs(&'a LongList),
+    Truths(&'a TruthList),
+    /// The values of the items of a list literal.
+    Items(Items<Lent<'a>>),
+}
+
+/// Nothing, false, 0, the empty text and the empty list are false, and all else is true.
+pub(crate) fn is_true(value: &Lent) -> bool
+    ensures { result ≡ values.is_true (spec.out_of_lent value.now) }
+{
+    match value {
+        Lent::Nothing => false,
+        Lent::Truth(truth) => *truth,
+        Lent::Long(number) => *number != 0,
+        Lent::Text(text) => !text.is_empty(),
+        Lent::Texts(texts) => !texts.is_empty(),
+        Lent::Longs(numbers) => !numbers.is_empty(),
+        Lent::Truths(truths) => !truths.is_empty(),
+        Lent::Items(items) => items.len() != 0,
+    }
+}

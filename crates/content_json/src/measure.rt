@@ -12,8 +12,8 @@ pub(crate) fn room_beside(members: &Map<String, Value>, most: usize) -> Option<u
 {
     let mut left = most;
     for (name, value) in members.iter() {
-        if !is_order(name.as_str()) {
-            if let Value::Object(kids) = value {
+        if let Value::Object(kids) = value {
+            if !is_order(name.as_str()) {
                 if left == 0 {
                     return None;
                 }
@@ -29,11 +29,9 @@ pub(crate) fn is_deeper_below(members: &Map<String, Value>, levels: usize) -> bo
     ensures { result ≡ is_deeper_below levels (members_view members.now.entries) }
 {
     for (name, value) in members.iter() {
-        if !is_order(name.as_str()) {
-            if let Value::Object(kids) = value {
-                if levels == 0 || is_deeper_below(kids, levels - 1) {
-                    return true;
-                }
+        if let Value::Object(kids) = value {
+            if !is_order(name.as_str()) && (levels == 0 || is_deeper_below(kids, levels - 1)) {
+                return true;
             }
         }
     }

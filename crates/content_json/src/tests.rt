@@ -31,34 +31,26 @@ fn answer(alloc: Global, seeds: RandomState, content: &[u8]) -> Mem<String> {
 
 // Each content, and how it is refused.
 const FAULTS: &str = r#"{ => NotJson
-{} {} => NotJson
 {"a":1e999} => NotJson
 [] => NotObject
-null => NotObject
 {} => reads
 {"a/b":null} => BadName /
-{"":1} => BadName /
 {"..":{}} => BadName /
 {":x":1} => BadName /
 {"a":{"b":{":x":{}}}} => BadName /a/b
 {"a":1.5,":x":{}} => BadName /
 {"n":9223372036854775807} => reads
 {"n":9223372036854775808} => BadNumber /n
-{"n":-9223372036854775808} => reads
 {"n":-9223372036854775809} => BadNumber /n
 {"n":1.0} => BadNumber /n
-{"n":1e2} => BadNumber /n
 {"n":-0} => BadNumber /n
 {"a":{"n":[1,9223372036854775808]}} => BadNumber /a/n
 {"t":[1.5,"a"]} => BadNumber /t
 {"t":["a",1.5]} => BadNumber /t
 {"t":[{},1.5]} => MixedArray /t
 {"t":[1,"a"]} => MixedArray /t
-{"t":[true,null]} => MixedArray /t
-{"t":[[]]} => MixedArray /t
 {"t":[],"u":[true,false],"v":null} => reads
 {"b":{},":order":null} => BadOrder /
-{"b":{},":order":{}} => BadOrder /
 {"b":{},":order":["c"]} => BadOrder /
 {"b":{},":order":["b","b"]} => BadOrder /
 {"b":{},":order":[1.5]} => BadOrder /

@@ -3,3 +3,5 @@ pub mod DepthLemmas
 pub mod ChoiceLemmas
 pub mod RenderingLemmas
 pub mod ReachLemmas
+pub mod ScriptLaw
+pub mod KeptLemmas

@@ -22,7 +22,7 @@ prefix_of (a ∷ path) (s ∷ q) h =
     let rest = prefix_of path q parts.1 in
     record {
       same = ap (λ (p : List (List ℕ)). a ∷ p) rest.same ∙ ap (λ (t : List ℕ). t ∷ q) (sym (same_text s a (sym parts.0)));
-      within = omega (arith, rest.within)
+      within = omega (arith, rest.within);
     }
 
 -- a path other than the root is its parent's kid
@@ -33,14 +33,6 @@ kid_of_parent (s ∷ q) some =
     let within : length (s ∷ q) - 1 < length (s ∷ q) = omega arith in
     sym (take_more (s ∷ q) (length (s ∷ q) - 1) [] within) ∙ ap (λ i. take i (s ∷ q)) size ∙ take-length (s ∷ q)
 
-some_of : {A : Type 0} (o : Option A) → is_some o ≡ true → IsSome o
-some_of None h = absurd (false≢true h)
-some_of (Some x) h = tt
-
-some_is : {A : Type 0} (o : Option A) → IsSome o → is_some o ≡ true
-some_is None h = absurd h
-some_is (Some x) h = refl
-
 -- no node is at the longer prefixes
 abbrev pub NoneFrom : Content → List (List ℕ) → ℕ → Type 0
 NoneFrom tree path n = (k : ℕ) → n < k → k ≤ length path → has_node tree (take k path) ≡ false
@@ -49,11 +41,11 @@ pub reach_from : (tree : Content) (path : List (List ℕ)) (n : ℕ) → IsTree 
     → (other : List (List ℕ)) → has_node tree other ≡ true → is_under path (parent_of other) ≡ true → length other ≤ n + 1
 reach_from tree path n good none other there under =
     ⊎_elim (λ large.
-      let q = parent_of other in
-      let prefix = prefix_of path q under in
-      let size : length q ≡ length other - 1 = length-take-le (length other - 1) other (omega arith) in
-      let some : 0 < length other = omega (arith, large) in
-      let above : has_node tree q ≡ true =
-        some_is (node_at tree q) (good.parents q (name_of other) (some_of (node_at tree (kid q (name_of other))) (ap (has_node tree) (kid_of_parent other some) ∙ there))) in
-      let deep : n < length q = omega (arith, large, size) in
-      absurd (true≢false (sym above ∙ ap (has_node tree) (sym prefix.same) ∙ none (length q) deep prefix.within))) (λ small. small) (cases_lt (n + 1) (length other))
+    let q = parent_of other in
+    let prefix = prefix_of path q under in
+    let size : length q ≡ length other - 1 = length-take-le (length other - 1) other (omega arith) in
+    let some : 0 < length other = omega (arith, large) in
+    let above : has_node tree q ≡ true =
+    some_is (node_at tree q) (good.parents q (name_of other) (some_of (node_at tree (kid q (name_of other))) (ap (has_node tree) (kid_of_parent other some) ∙ there))) in
+    let deep : n < length q = omega (arith, large, size) in
+    absurd (true≢false (sym above ∙ ap (has_node tree) (sym prefix.same) ∙ none (length q) deep prefix.within))) (λ small. small) (cases_lt (n + 1) (length other))

@@ -1,5 +1,5 @@
 // The templates of scripts, each read once and kept until the tree changes.
-ghost use Rattle.std.specs.Prelude.{◌≡◌, ◌∷◌, List, ℕ, [], Some, IfOk, option_copied};
+ghost use Rattle.std.specs.Prelude.{◌≡◌, ◌⊎◌, List, ℕ, [], Some, IfOk, option_copied};
 ghost use Rattle.publisher.specs.declared.templates.Reading.{Reading};
 ghost use Rattle.publisher.specs.Kept.{reading_at};
 ghost use Rattle.publisher.specs.Readings.{reading_of};
@@ -55,7 +55,7 @@ impl Templates {
     /// Keeps a reading, if there is memory for it.
     pub(crate) fn keep(&mut self, script: Path, reading: Reading)
         ensures { (path : List (List ℕ)) (kept : Reading) → reading_at self.new path ≡ Some kept
-            → reading_at ((script, reading) ∷ self.old) path ≡ Some kept }
+            → (reading_at self.old path ≡ Some kept) ⊎ ((path ≡ script) × (kept ≡ reading)) }
     {
         let _ = self.readings.insert(script, reading);
     }

@@ -1,5 +1,5 @@
 //! What a decomposition is: laws of the definitions, on functions that do nothing.
-ghost use Rattle.std.specs.Prelude.{◌≡◌, ◌⊎◌, ◌&&◌, ◌++◌, ◌∷◌, [], ℕ, Bool, List, IsTrue, IfSome, IfNone};
+ghost use Rattle.std.specs.Prelude.{◌≡◌, ◌⊎◌, ◌&&◌, ◌++◌, ◌∷◌, [], ℕ, Bool, List, Some, IsTrue, IfSome, IfNone};
 ghost use Rattle.std.specs.List.{list_all};
 ghost use Rattle.sp_base.specs.Paths.{text_of};
 ghost use Rattle.url_split.specs.Split.{IsLost, IsSplit, split_of};
@@ -13,6 +13,7 @@ use sp_base::a_path_and_its_text;
 pub fn the_split_is_the_longest()
     ensures some { (known : List (List ℕ) → Bool) (text : List ℕ) → IfSome (split_of known text) (IsSplit known text) }
     ensures none { (known : List (List ℕ) → Bool) (text : List ℕ) → IfNone (split_of known text) (IsLost known text) }
+    ensures only { (known : List (List ℕ) → Bool) (text : List ℕ) (parts : Parts) → IsSplit known text parts → split_of known text ≡ Some parts }
 {}
 
 /// The parts of a decomposition give its text back, but for empty selectors: the text of the resource path, the selectors and the

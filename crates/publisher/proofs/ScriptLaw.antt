@@ -1,0 +1,52 @@
+-- What a script writes, from the relations that tell which script it is and what its text spells.
+use Rattle.std.proofs.Common.{◌≡◌, ℕ, Bool, true, false, cond, List, [], Option, Some, None, Ok, Err, IfSome, IfNone, length, nat_le, refl, sym, ◌∙◌, ap, arith}
+use Rattle.std.specs.Prelude.{option_and_then, Result}
+use Rattle.sp_base.specs.Paths.{text_of}
+use Rattle.sp_base.specs.declared.answer.Answer.{Answer}
+use Rattle.sp_base.specs.declared.answer.Ask.{Ask}
+use Rattle.sp_base.specs.declared.answer.Mark.{Mark}
+use Rattle.resource_tree.specs.Content.{Content}
+use Rattle.resource_tree.specs.Seen.{Resource, res_at}
+use Rattle.url_split.specs.declared.decompose.Parts.{Parts}
+use Rattle.url_split.specs.Split.{split_of}
+use Rattle.type_chain.specs.Chain.{chain_of}
+use Rattle.type_chain.specs.declared.type_name.TypeName.{TypeName}
+use Rattle.script_rank.specs.Ranking.{HasNoCandidate, IsFirst, script_text}
+use Rattle.script_rank.specs.Search.{search_result}
+use Rattle.htl_text.specs.declared.piece.Piece.{Piece}
+use Rattle.htl_text.specs.Template.{template_of, text_of as written_by}
+use Rattle.publisher.specs.Errors.{answer_of, error_answer}
+use Rattle.publisher.specs.Readings.{reading_in}
+use Rattle.publisher.specs.Rendering.{answer_by, has_node, html_kind, is_read, mark_of, most_bytes, rendered, representation_of, resource_answer, scope_of, script_for, script_representation, split_answer}
+
+-- the search gives the script that ranks first, where one does
+pub found_first : (tree : Content) (chain : List TypeName) (parts : Parts) (script : List (List ℕ)) (found : Option (List (List ℕ)))
+    → ((p q : List (List ℕ)) → IsFirst tree chain parts p → IsFirst tree chain parts q → p ≡ q)
+    → IfSome found (λ path. IsFirst tree chain parts path) → IfNone found (HasNoCandidate tree chain parts) → IsFirst tree chain parts script
+    → found ≡ Some script
+found_first tree chain parts script (Some path) one some none first = ap (λ (p : List (List ℕ)). Some p) (one path script some first)
+found_first tree chain parts script None one some none first = absurd (none script first.key first.candidate)
+
+written_body : (small : Bool) (mark : Mark) (body : List ℕ) → nat_le (length body) most_bytes ≡ small
+    → (cond small (answer_of 200 html_kind mark body) (error_answer 500)).status ≡ 200 → (cond small (answer_of 200 html_kind mark body) (error_answer 500)).body ≡ body
+unfolding error_answer
+written_body true mark body is ok = refl
+written_body false mark body is ok = absurd (omega (arith, ok))
+
+-- the answer of a resource by its first script
+pub answer_is : (tree : Content) (ask : Ask) (parts : Parts) (res : Resource) (script : List (List ℕ)) (text : List ℕ) (pieces : List Piece)
+    → is_read ask.method ≡ true → split_of (has_node tree) (text_of ask.path) ≡ Some parts → res_at tree parts.path ≡ Some res
+    → search_result tree (chain_of tree res.props) parts ≡ Some script → script_text tree script ≡ Some text → template_of text ≡ Ok pieces
+    → rendered tree ask ≡ representation_of html_kind (mark_of res) (written_by (scope_of res) pieces)
+unfolding rendered script_for
+answer_is tree ask parts res script text pieces read split there first is spelled =
+    ap (λ b. cond b (split_answer tree (split_of (has_node tree) (text_of ask.path))) (error_answer 405)) read
+    ∙ ap (split_answer tree) split
+    ∙ ap (resource_answer tree parts) there
+    ∙ ap (λ o. answer_by (option_and_then (script_text tree) o) (res_at tree) parts res) first
+    ∙ ap (λ o. answer_by o (res_at tree) parts res) is
+    ∙ ap (λ r. script_representation res (reading_in r)) spelled
+
+pub body_is : (answer : Answer) (mark : Mark) (body : List ℕ) → answer ≡ representation_of html_kind mark body → answer.status ≡ 200 → answer.body ≡ body
+body_is answer mark body is ok =
+    ap (λ (a : Answer). a.body) is ∙ written_body (nat_le (length body) most_bytes) mark body refl (sym (ap (λ (a : Answer). a.status) is) ∙ ok)

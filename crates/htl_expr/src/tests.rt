@@ -6,4 +6,5 @@ mod literals;
 mod operators;
 mod options;
 mod properties;
+mod room;
 mod sample;

@@ -1,7 +1,9 @@
 -- Steps of reading a template piece by piece.
-use Rattle.std.proofs.Common.{◌≡◌, ◌<◌, ◌≤◌, ◌+◌, ◌-◌, ℕ, zero, suc, true, false, ◌||◌, eqb, List, [], ◌∷◌, ◌++◌, take, drop, length, Option, Some, None, Result, Ok, Err, refl, ap, sym, ◌∙◌, arith, append_assoc}
+use Rattle.std.proofs.Common.{◌≡◌, ◌<◌, ◌≤◌, ◌+◌, ◌-◌, ℕ, zero, suc, true, false, ◌||◌, eqb, List, [], ◌∷◌, ◌++◌, take, drop, get_or, length, Option, Some, None, Result, Ok, Err, refl, ap, sym, ◌∙◌, arith, append_assoc}
 use Rattle.std.proofs.Common.{drop-drop}
+use Rattle.std.specs.List.{flat_map}
 use Rattle.std.proofs.lemmas.List.{length-append}
+use Rattle.std.proofs.lemmas.List.Folds.{length-flat_map-take}
 use Rattle.htl_expr.specs.declared.expression.Expr.{Expr}
 use Rattle.htl_expr.specs.declared.expression.ExprFault.{ExprFault}
 use Rattle.htl_expr.specs.Fault.{expression_of}
@@ -109,5 +111,10 @@ read_more all place old mid new front behind after rest text e h ep x plain em e
     ∙ ap (before old) (sym (plain_before front e later) ∙ ap (written front) (sym follows) ∙ plain all)
     ∙ inv)
 
-pub too_long : (bytes old item : List ℕ) (most total : ℕ) → most < length bytes → bytes ≡ old ++ item → length old + length item ≤ total → most < total
-too_long bytes old item most total lt e le = let same : length bytes ≡ length old + length item = rw e (length-append old item) in omega (arith, lt, same, le)
+-- what the pieces so far and one more write is too long already
+pub piece_too_long : {X : Type 0} (g : X → List ℕ) (xs : List X) (i : ℕ) (x : X) (most : ℕ) (old : List ℕ) → i < length xs → x ≡ get_or xs i x → old ≡ flat_map g (take i xs) → most < length (old ++ g x) → most < length (flat_map g xs)
+piece_too_long g xs i x most old lt is e long =
+    let within = rw (sym is) at (length-flat_map-take g xs i x lt) in
+    let parts = length-append old (g x) in
+    let same = ap length e in
+    omega (arith, within, parts, same, long)

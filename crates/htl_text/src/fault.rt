@@ -56,3 +56,11 @@ impl From<NoMemory> for RenderFault {
         RenderFault::NoMemory
     }
 }
+
+impl From<AllocError> for RenderFault {
+    ghost from_gives = { λ _ e. e ≡ render.NoMemory };
+
+    fn from(_fault: AllocError) -> RenderFault {
+        RenderFault::NoMemory
+    }
+}

@@ -6,21 +6,44 @@ ghost use Rattle.htl_text.specs.Template as spec;
 use crate::fault::RenderFault;
 use crate::piece::Piece;
 use crate::template::Template;
-use htl_expr::Scope;
-use sp_base::{Mem, TextBuf};
+use htl_expr::{Scope, WriteFault};
+use sp_base::TextBuf;
 use std::alloc::Global;
 
 /// The most bytes that a template may write.
 const MOST_BYTES: usize = 4_194_304;
 
-fn push_piece(text: &mut String, alloc: Global, scope: &Scope, piece: &Piece) -> Mem<()>
-    ensures { OnOk result (string_bytes text.new ≡ string_bytes text.old ++ spec.piece_text scope.now piece.now) }
+fn push_plain(text: &mut String, plain: &str) -> Result<(), RenderFault>
+    requires { length (string_bytes text.old) ≤ 4194304 }
+    ensures ok { OnOk result ((string_bytes text.new ≡ string_bytes text.old ++ plain.now) × (length (string_bytes text.new) ≤ 4194304)) }
+    ensures err { IfErr result (λ f. f ≢ RenderFault.NoMemory → (f ≡ RenderFault.TooLong) × (4194304 < length (string_bytes text.old ++ plain.now))) }
+{
+    if plain.len() > MOST_BYTES - text.as_str().len() {
+        return Err(RenderFault::TooLong);
+    }
+    text.push_str(plain)?;
+    Ok(())
+}
+
+// What a piece writes, where there is room for it.
+fn push_piece(
+    text: &mut String,
+    alloc: Global,
+    scope: &Scope,
+    piece: &Piece,
+) -> Result<(), RenderFault>
+    requires { length (string_bytes text.old) ≤ 4194304 }
+    ensures ok { OnOk result ((string_bytes text.new ≡ string_bytes text.old ++ spec.piece_text scope.now piece.now) × (length (string_bytes text.new) ≤ 4194304)) }
+    ensures err { IfErr result (λ f. f ≢ RenderFault.NoMemory → (f ≡ RenderFault.TooLong) × (4194304 < length (string_bytes text.old ++ spec.piece_text scope.now piece.now))) }
 {
     match piece {
-        Piece::Plain(plain) => text.push_str(plain.text())?,
-        Piece::Value(expression) => expression.write(alloc, text, scope)?,
+        Piece::Plain(plain) => push_plain(text, plain.text()),
+        Piece::Value(expression) => match expression.write(alloc, text, scope, MOST_BYTES) {
+            Ok(()) => Ok(()),
+            Err(WriteFault::TooLong) => Err(RenderFault::TooLong),
+            Err(WriteFault::NoMemory) => Err(RenderFault::NoMemory),
+        },
     }
-    Ok(())
 }
 
 impl Template {
@@ -31,9 +54,9 @@ impl Template {
     {
         let mut text = String::new(alloc);
         for piece in self.pieces.as_slice() {
-            push_piece(&mut text, alloc, scope, piece)?;
-            if text.as_str().len() > MOST_BYTES {
-                return Err(RenderFault::TooLong);
+            match push_piece(&mut text, alloc, scope, piece) {
+                Ok(()) => {}
+                Err(fault) => return Err(fault),
             }
         }
         Ok(TextBuf::from(text))

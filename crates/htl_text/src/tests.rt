@@ -31,7 +31,7 @@ impl From<RenderFault> for Failed {
     }
 }
 
-fn scope(alloc: Global) -> Result<Scope, Failed> {
+fn props(alloc: Global) -> Result<PropList, Failed> {
     let mut tags = TextList::new(alloc);
     tags.push(TextBuf::of(alloc, "a")?)?;
     tags.push(TextBuf::of(alloc, "b")?)?;
@@ -39,18 +39,23 @@ fn scope(alloc: Global) -> Result<Scope, Failed> {
     props.put(alloc, "tags", Value::Texts(tags))?;
     props.put(alloc, "n", Value::Long(3))?;
     props.put(alloc, "html", Value::Text(TextBuf::of(alloc, "<b>")?))?;
-    Ok(Scope {
+    Ok(props)
+}
+
+fn scope(props: &PropList) -> Scope<'_> {
+    Scope {
         props,
-        path: TextBuf::of(alloc, "/content/en")?,
-        name: TextBuf::of(alloc, "en")?,
-        kind: TextBuf::of(alloc, "s/page")?,
-    })
+        path: "/content/en",
+        name: "en",
+        kind: "s/page",
+    }
 }
 
 #[test]
 fn templates_are_rendered(rt: HostRuntime) -> Result<(), Failed> {
     let alloc = rt.alloc();
-    let scope = scope(alloc)?;
+    let props = props(alloc)?;
+    let scope = scope(&props);
     for (text, want) in [
         (
             "${properties.tags @ join=', '}|${properties.n > 2 && 'big' || 'small'}|${properties.html @ context='unsafe'}|\\${x}",
@@ -96,21 +101,46 @@ fn large_template_is_rendered(rt: HostRuntime) -> Result<(), Failed> {
     let text = repeated(alloc, piece.as_str(), 10_000)?;
     let template = Template::read(alloc, text.as_str())?;
     let want = repeated(alloc, written.as_str(), 10_000)?;
-    assert!(rt; template.render(alloc, &scope(alloc)?)?.text() == want.as_str());
+    let props = props(alloc)?;
+    assert!(rt; template.render(alloc, &scope(&props))?.text() == want.as_str());
     Ok(())
 }
 
 #[test]
 fn longest_text_is_rendered(rt: HostRuntime) -> Result<(), Failed> {
     let alloc = rt.alloc();
-    let scope = scope(alloc)?;
-    let mut text = repeated(alloc, "$", 4_194_303)?;
+    let props = props(alloc)?;
+    let scope = scope(&props);
+    let mut piece = repeated(alloc, "a", 2_046)?;
+    piece.push_str("$")?;
+    let mut text = repeated(alloc, piece.as_str(), 2_049)?;
     text.push_str("${1}")?;
     let template = Template::read(alloc, text.as_str())?;
     assert_eq!(rt; template.render(alloc, &scope)?.text().len(), 4_194_304);
     text.push_str("${2}")?;
     let template = Template::read(alloc, text.as_str())?;
     assert!(rt; matches!(template.render(alloc, &scope), Err(RenderFault::TooLong)));
+    Ok(())
+}
+
+#[test]
+fn large_property_named_often_is_too_long(rt: HostRuntime) -> Result<(), Failed> {
+    let alloc = rt.alloc();
+    let mut many = TextList::new(alloc);
+    for _turn in 0..100_000 {
+        many.push(TextBuf::of(alloc, "0123456789")?)?;
+    }
+    let mut props = PropList::new(alloc);
+    props.put(alloc, "many", Value::Texts(many))?;
+    let scope = scope(&props);
+    for piece in [
+        "${properties.many}",
+        "${[properties.many, properties.many]}",
+    ] {
+        let text = repeated(alloc, piece, 1_000)?;
+        let template = Template::read(alloc, text.as_str())?;
+        assert!(rt; matches!(template.render(alloc, &scope), Err(RenderFault::TooLong)));
+    }
     Ok(())
 }
 

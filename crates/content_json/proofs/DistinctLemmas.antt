@@ -1,13 +1,12 @@
 -- Each kid stands once among the kids in their order.
-use Rattle.std.proofs.Common.{◌≡◌, ◌≢◌, ℕ, Bool, true, false, cond, not, ◌&&◌, ◌||◌, ⊎_elim, List, [], ◌∷◌, ◌++◌, Option, Some, None, filter, if◌then◌else◌, unwrap_or, T, refl, sym, ◌∙◌}
+use Rattle.std.proofs.Common.{◌≡◌, ℕ, Bool, true, false, cond, not, ◌&&◌, ◌||◌, List, [], ◌∷◌, ◌++◌, Option, Some, None, filter, if◌then◌else◌, unwrap_or, T, refl, sym, ◌∙◌}
 use Rattle.std.specs.List.{list_any, filter_map, cons_option, AllByRecursion, IsDistinct}
 use Rattle.std.specs.FinMap.Entries.{is_sorted, below_all}
 use Rattle.std.specs.Ordering.{is_lt}
 use Rattle.std.specs.Option.{option_map_or}
 use Rattle.std.specs.Prelude.{option_and_then}
 use Rattle.std.specs.Str.{bytes_eq}
-use Rattle.std.specs.Cmp.Lexicographic.{same_text}
-use Rattle.std.proofs.lemmas.Bool.{cases_Bool, true≢false, false≢true}
+use Rattle.std.proofs.lemmas.Bool.{true≢false, false≢true}
 use Rattle.std.proofs.lemmas.Map.Keys.{IsDistinct-head, IsDistinct-tail, IsDistinct-cons}
 use Rattle.serde_json.specs.Data.{Items, no_items, item, Members, no_members, member}
 use Rattle.serde_json.specs.Find.{as_str, as_array, get_member}
@@ -38,9 +37,6 @@ all_filter P f (x ∷ xs) h =
 pub neither : (a b : Bool) → (a || b) ≡ false → (a ≡ false) × (b ≡ false)
 neither true b h = absurd (true≢false h)
 neither false b h = (refl, h)
-
-bytes_apart : (a b : List ℕ) → a ≢ b → bytes_eq a b ≡ false
-bytes_apart a b apart = ⊎_elim (λ e. absurd (apart (same_text a b (sym e)))) (λ e. e) (cases_Bool (bytes_eq a b))
 
 distinct_append : (xs ys : List (List ℕ)) → IsDistinct bytes_eq xs → IsDistinct bytes_eq ys → AllByRecursion (λ y. list_any (bytes_eq y) xs ≡ false) ys → IsDistinct bytes_eq (xs ++ ys)
 distinct_append [] ys g h apart = h

@@ -205,10 +205,6 @@ named_at name ms sound false (Some x) other at h = (sound_step name (object ms) 
 
 -- ---- the whole
 
-is_some_found : {A : Type 0} (o : Option A) → is_some o ≡ true → (x : A) × (o ≡ Some x)
-is_some_found None h = absurd (false≢true h)
-is_some_found (Some x) h = (x, refl)
-
 -- an object stands where a node does
 object_there : (o : Option Data) (node : Node) → option_and_then node_of_value o ≡ Some node → (ms : Members) × (o ≡ Some (object ms)) × (node ≡ node_of_members ms)
 object_there None node h = absurd (none_found node h)

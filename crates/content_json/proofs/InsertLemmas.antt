@@ -79,10 +79,6 @@ abbrev pub AllMembers : (List ℕ → Data → Type 0) → Members → Type 0
 AllMembers P no_members = ⊤
 AllMembers P (member k d ms) = P k d × AllMembers P ms
 
-pub all-weaker : (P Q : List ℕ → Data → Type 0) → ((k : List ℕ) (d : Data) → P k d → Q k d) → (ms : Members) → AllMembers P ms → AllMembers Q ms
-all-weaker P Q gives no_members h = tt
-all-weaker P Q gives (member k d ms) h = (gives k d h.0, all-weaker P Q gives ms h.1)
-
 all-put : (P : List ℕ → Data → Type 0) (k : List ℕ) (d : Data) (ms : Members) → P k d → AllMembers P ms → AllMembers P (put k d ms)
 all-put P k d no_members p h = (p, tt)
 all-put P k d (member l e ms) p h =

@@ -12,13 +12,11 @@ use Rattle.std.proofs.lemmas.Bool.{cases_Bool, true≢false, false≢true}
 use Rattle.std.proofs.lemmas.List.Folds.{list_any-append}
 use Rattle.serde_json.specs.Data.{Data, null, boolean, number, string, array, object, Items, no_items, item, Members, no_members, member}
 use Rattle.serde_json.specs.Find.{as_str, as_array, get_member}
-use Rattle.content_json.specs.Names.{order_name, is_order, is_plain, has_bad_name, is_object, is_kid_member, kid_names, is_kid}
+use Rattle.content_json.specs.Names.{order_name, is_order, is_object, is_kid_member, kid_names, is_kid}
 use Rattle.content_json.specs.Lists.{list_of}
 use Rattle.content_json.specs.Faults.{names_kids, has_good_order, is_good_order}
 use Rattle.content_json.specs.Nodes.{order_names, kids_of}
 use Rattle.content_json.proofs.Under.{both, bytes_eq_itself}
-use Rattle.content_json.proofs.OrderLemmas.{false_from_not}
-use Rattle.content_json.proofs.NameLemmas.{is_plain-here, has_bad_name-rest}
 
 pub or_right : (a b : Bool) → b ≡ true → (a || b) ≡ true
 or_right true b h = refl
@@ -151,19 +149,6 @@ pub kids_within : (ms : Members) → has_good_order ms ≡ true → list_all (λ
 kids_within ms h =
     all_append (λ k. list_any (bytes_eq k) (kid_names ms)) (order_names ms) (filter (λ name. not (list_any (bytes_eq name) (order_names ms))) (kid_names ms)) (order_within ms h)
     (all_filter (λ k. list_any (bytes_eq k) (kid_names ms)) (λ name. not (list_any (bytes_eq name) (order_names ms))) (kid_names ms) (all_among (kid_names ms)))
-
-plain_names : (ms : Members) → has_bad_name ms ≡ false → list_all is_plain (kid_names ms) ≡ true
-plain_names no_members h = refl
-plain_names (member name d ms) h =
-    let rest = plain_names ms (has_bad_name-rest name d ms h) in
-    elim (is_kid_member name d) as (λ t. is_kid_member name d ≡ t → list_all is_plain (if t then name ∷ kid_names ms else kid_names ms) ≡ true) [
-      | true ↦ λ is. and_true (is_plain name) (list_all is_plain (kid_names ms)) (is_plain-here name d ms h (false_from_not (is_order name) (both (not (is_order name)) (is_object d) is).0)) rest
-      | false ↦ λ is. rest
-    ] refl
-
--- the kids may stand as segments of paths
-pub kids_plain : (ms : Members) → has_good_order ms ≡ true → has_bad_name ms ≡ false → list_all is_plain (kids_of ms) ≡ true
-kids_plain ms good names = all_weaker (λ k. list_any (bytes_eq k) (kid_names ms)) is_plain (λ k among. all_at is_plain k (kid_names ms) (plain_names ms names) among) (kids_of ms) (kids_within ms good)
 
 -- a member that goes to the kids, and one that doesn't
 pub kid_goes : (f : List ℕ → Bool) (kids : List (List ℕ)) (name : List ℕ) (d : Data) (ms : Members) → (is_kid_member name d && f name) ≡ true → kids ++ filter f (kid_names (member name d ms)) ≡ (kids ++ name ∷ []) ++ filter f (kid_names ms)

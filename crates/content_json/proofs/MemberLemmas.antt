@@ -68,10 +68,6 @@ none_outside : (path q : List (List ℕ)) (e : Entry) → begins (kid path (name
 none_outside path q e h =
     elim (is_order (name_of e)) as (λ t. node_at (if t then [] else nodes_in (kid path (name_of e)) (view e.1)) q ≡ None) [ true ↦ refl | false ↦ none_in (kid path (name_of e)) q (view e.1) h ]
 
-pub nodes_below-append : (path : List (List ℕ)) (done more : List Entry) → nodes_below path (members_view (done ++ more)) ≡ nodes_below path (members_view done) ++ nodes_below path (members_view more)
-nodes_below-append path [] more = refl
-nodes_below-append path (d ∷ done) more = ap (λ ys. nodes_of path d ++ ys) (nodes_below-append path done more) ∙ sym (append_assoc (nodes_of path d) (nodes_below path (members_view done)) (nodes_below path (members_view more)))
-
 -- one more member
 pub one_more_member : (tree now next : Content) (path : List (List ℕ)) (done : List Entry) (e : Entry) (more : List Entry) → IsStrictlySortedBy string_cmp (keys_of (done ++ e ∷ more))
     → ((q : List (List ℕ)) → node_at now q ≡ with_nodes_at tree (nodes_below path (members_view done)) q) → ((q : List (List ℕ)) → node_at next q ≡ with_nodes_at now (nodes_of path e) q)

@@ -49,10 +49,6 @@ named false false rest h = absurd (cc)
 pub may_stand-first : (name : List ℕ) (d : Data) (ms : Members) → has_bad_name (member name d ms) ≡ false → (is_order name || is_plain name) ≡ true
 may_stand-first name d ms h = named (is_order name) (is_plain name) (has_bad_name ms) h
 
-pub plain_unless_order : (order plain : Bool) → (order || plain) ≡ true → order ≡ false → plain ≡ true
-plain_unless_order true plain h e = absurd (cc)
-plain_unless_order false plain h e = h
-
 none_of_map : {A B : Type 0} (f : A → B) (o : Option A) → option_map f o ≡ None → o ≡ None
 none_of_map f None h = refl
 none_of_map f (Some x) h = absurd (cc)

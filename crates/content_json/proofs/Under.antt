@@ -1,5 +1,5 @@
 -- Which paths lie below others.
-use Rattle.std.proofs.Common.{◌≡◌, ◌≢◌, ℕ, Bool, true, false, ◌&&◌, ⊎_elim, List, [], ◌∷◌, length, refl, sym, ap, ◌∙◌, arith, length-append}
+use Rattle.std.proofs.Common.{◌≡◌, ◌≢◌, ℕ, Bool, true, false, ◌&&◌, ⊎_elim, List, [], ◌∷◌, refl, sym, ap, ◌∙◌}
 use Rattle.std.specs.Cmp.{IsTotalOrder, tied_itself}
 use Rattle.std.specs.Cmp.Lexicographic.{lists_total, nat_list_cmp_total, same_text, nat_list_eq_equiv}
 use Rattle.std.specs.FinMap.{IsAntisymmetric, nat_cmp-IsAntisymmetric, slice_cmp-IsAntisymmetric}
@@ -48,13 +48,6 @@ bytes_eq_swapped a b =
     (λ e. e ∙ sym (⊎_elim (λ g. absurd (true≢false (sym (bytes_eq_itself a) ∙ ap (bytes_eq a) (sym (same_text b a (sym g))) ∙ e))) (λ g. g) (cases_Bool (bytes_eq b a))))
     (cases_Bool (bytes_eq a b))
 
-pub kid_apart : (path : List (List ℕ)) (k : List ℕ) → path ≢ kid path k
-kid_apart path k e = let size = ap length e in omega (arith, length-append path (k ∷ []), size)
-
--- the node isn't its own kid
-pub same_path-kid : (path : List (List ℕ)) (k : List ℕ) → same_path path (kid path k) ≡ false
-same_path-kid path k = same_path_apart path (kid path k) (kid_apart path k)
-
 pub begins_itself : (path : List (List ℕ)) → begins path path ≡ true
 begins_itself [] = refl
 begins_itself (s ∷ path) = rw (bytes_eq_itself s, begins_itself path) refl
@@ -82,10 +75,6 @@ begins_size [] [] k h e = false≢true h
 begins_size [] (t ∷ q) k h e = absurd (cc)
 begins_size (s ∷ path) [] k h e = false≢true h
 begins_size (s ∷ path) (t ∷ q) k h e = begins_size path q k (both _ _ h).1 (cc)
-
--- what lies below a kid isn't the parent
-pub same_path-below : (path q : List (List ℕ)) (k : List ℕ) → begins (kid path k) q ≡ true → same_path path q ≡ false
-same_path-below path q k h = same_path_apart path q (λ e. begins_size path q k h (sym e))
 
 pub begins-not_parent : (path : List (List ℕ)) (k : List ℕ) → begins (kid path k) path ≡ false
 begins-not_parent path k = ⊎_elim (λ e. absurd (begins_size path path k e refl)) (λ e. e) (cases_Bool (begins (kid path k) path))

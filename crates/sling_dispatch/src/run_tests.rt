@@ -6,7 +6,6 @@ use sp_base::{ByteBuf, CallList};
 use sp_outside::{MemSink, MemSource, MemWords, RealSource, WordList};
 use std::alloc::{AllocError, Global};
 use std::hash::RandomState;
-use std::io::{self, Read};
 use std::test::Fail;
 
 const EVENTS: u32 = 1_000;
@@ -92,47 +91,29 @@ fn takes_its_words_from_the_command_line(rt: HostRuntime) -> Result<(), Fail> {
     Ok(())
 }
 
-// Gives bytes that count up, as many at once as there is room for.
-#[derive(Drop)]
-struct Reader {
-    at: usize,
-    len: usize,
-}
-
-// Places within 251 of one another have different bytes.
-fn byte_at(place: usize) -> u8 {
-    (place % 251) as u8
-}
-
-impl Read for Reader {
-    fn read(&mut self, buf: &mut [u8]) -> io::Result<usize> {
-        let mut n = 0usize;
-        for place in buf {
-            if self.at >= self.len {
-                break;
-            }
-            *place = byte_at(self.at);
-            self.at = self.at.saturating_add(1);
-            n = n.saturating_add(1);
+// A text of digits that count up.
+fn counted(alloc: Global, len: usize) -> Result<Vec<u8>, AllocError> {
+    let mut text = String::new(alloc);
+    for i in 0..10_000u32 {
+        if text.len() >= len {
+            break;
         }
-        Ok(n)
+        let number = format!(in alloc; "{i},")?;
+        text.push_str(number.as_str())?;
     }
+    let mut bytes = text.as_bytes().to_vec(alloc)?;
+    bytes.truncate(len);
+    Ok(bytes)
 }
 
 #[test]
 fn reads_sources_around_the_buffer(rt: HostRuntime) -> Result<(), Fail> {
     for len in [4_095usize, 4_096, 4_097, 8_191, 8_192, 8_193] {
-        let mut source = RealSource::new(Reader { at: 0, len });
+        let text = counted(rt.alloc(), len)?;
+        let mut source = RealSource::new(text.as_slice());
         let read = read_whole(rt.alloc(), &mut source, 100_000);
-        assert!(rt; read.is_ok());
-        if let Ok(text) = read {
-            assert_eq!(rt; text.len(), len);
-            let whole = text
-                .iter()
-                .enumerate()
-                .all(|(place, byte)| *byte == byte_at(place));
-            assert!(rt; whole, "{len}");
-        }
+        assert_eq!(rt; text.len(), len);
+        assert!(rt; read.is_ok_and(|read| read == text), "{len}");
     }
     Ok(())
 }

@@ -87,9 +87,6 @@ over_exactly seen res depth most_bytes most =
 
 -- ---- the depth to ask for instead
 
-pub none_instead : (count : ℕ → ℕ) (depth : ℕ) → depth ≤ 1 → None ≡ depth_instead count depth
-none_instead count depth le = rw (le-leb depth 1 le) refl
-
 pub some_instead : (count : ℕ → ℕ) (depth : ℕ) → 1 < depth → greatest_fitting count depth < depth → Some (greatest_fitting count depth) ≡ depth_instead count depth
 some_instead count depth deep lt =
     ⊎_elim (λ le. absurd (omega (arith, all_fit count depth (omega (arith, deep)) (omega (arith, le)), lt)))

@@ -134,7 +134,7 @@ among_none : (seen : Seen) (depth : ℕ) → shown_among seen depth [] ≡ 0
 unfolding shown_among
 among_none seen depth = refl
 
--- the kids at this depth, and room for so many more resources than are shown above them
+-- the kids at this depth, and the room beside the resources above them
 pub record IsLevel (seen : Seen) (res : Resource) (reached room : ℕ) (level : List Kid) : Type 0 where
   pub counts : (more : ℕ) → shown seen res (reached + more) + room ≡ 1000 + shown_among seen more level
   pub fits : length level ≤ room

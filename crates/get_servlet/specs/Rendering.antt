@@ -43,7 +43,7 @@ abbrev pub members_of_kids : (List ℕ → Option Kid) → (List (List ℕ) → 
 members_of_kids kid json [] = no_members
 members_of_kids kid json (name ∷ names) = kid_before name json (kid name) (members_of_kids kid json names)
 
--- a resource, by the path that it is seen at, and so many levels below it
+-- a resource, by the path that it is seen at, and n levels below it
 unfoldable pub resource_json : Seen → ℕ → List (List ℕ) → Resource → Json
 resource_json seen zero path res = object (members_before res.props no_members)
 resource_json seen (suc depth) path res = object (members_before res.props (members_of_kids (shown_kid seen path res) (resource_json seen depth) res.kids))

@@ -29,7 +29,7 @@ kid_tokens name json (Some kid) = Token.key name ∷ json_tokens (json kid.path 
 unfoldable pub kids_tokens : Seen → ℕ → List (List ℕ) → Resource → List (List ℕ) → List Token
 kids_tokens seen depth path res names = flat_map (λ name. kid_tokens name (resource_json seen depth) (shown_kid seen path res name)) names
 
--- the tokens of the kids of a resource, so many levels of them
+-- the tokens of the kids of a resource, n levels of them
 unfoldable pub below_tokens : Seen → ℕ → List (List ℕ) → Resource → List Token
 below_tokens seen zero path res = []
 below_tokens seen (suc depth) path res = kids_tokens seen depth path res res.kids
@@ -62,11 +62,11 @@ shown_kids seen path res = kids_under seen path res res.kids
 unfoldable pub next_level : Seen → List Kid → List Kid
 next_level seen level = flat_map (λ kid. shown_kids seen kid.path kid.res) level
 
--- how many resources the kids of a level show, each with so many levels below it
+-- how many resources the kids of a level show, each with n levels below it
 unfoldable pub shown_among : Seen → ℕ → List Kid → ℕ
 shown_among seen depth level = sum_by (λ kid. shown_at seen depth kid.path kid.res) level
 
--- these kids were gathered, which are no more than so many; or they are more
+-- these kids were gathered, which are at most n; or they are more
 abbrev pub Gathers : ℕ → Bool → List Kid → List Kid → Type 0
 Gathers most true found kids = (found ≡ kids) × (length kids ≤ most)
 Gathers most false found kids = most < length kids

@@ -28,8 +28,8 @@ fn add_kid<'a, L: Look>(
     Ok(())
 }
 
-// Adds the kids that a resource shows to a level. The answer says whether it has no more than so many then; if it would have
-// more, some of them may be added.
+// Adds the kids that a resource shows to a level. The answer says whether the level has at most `most` kids then; if it would have
+// more, only some of them are added.
 fn add_kids<'a, L: Look>(
     alloc: Global,
     look: &'a L,
@@ -49,7 +49,7 @@ fn add_kids<'a, L: Look>(
     Ok(level.len() <= most)
 }
 
-// The kids of the kids of a level, if they are no more than so many.
+// The kids of the kids of a level, if they are at most `most`.
 fn next_level<'a, L: Look>(
     alloc: Global,
     look: &'a L,

@@ -14,8 +14,8 @@ use resource_tree::{Look, Res};
 use sp_base::{Mem, Path, TextBuf};
 use std::alloc::Global;
 
-// Writes a resource, and so many levels below it. What it leaves of a room of bytes is no less than the answer says, and
-// there is none where the text needs more. Out of memory, or there, some of it may be written.
+// Writes a resource, and `depth` levels below it. The text leaves no more of a room of bytes than the answer says, and none
+// is said where it needs more than the room: then, and out of memory, some of it may be written.
 #[cycle(writing)]
 fn write_resource<L: Look>(
     alloc: Global,
@@ -42,7 +42,7 @@ fn write_resource<L: Look>(
     Ok(Some(left))
 }
 
-// Writes the kid of a name as a member, if it is shown, and so many levels below it.
+// Writes the kid of a name as a member, if it is shown, and `depth` levels below it.
 #[cycle(writing)]
 fn write_kid<L: Look>(
     alloc: Global,
@@ -66,7 +66,7 @@ fn write_kid<L: Look>(
     write_resource(alloc, look, writer, &kid.path, &kid.res, depth, room)
 }
 
-// Writes the kids of a resource as members, and so many levels of them.
+// Writes the kids of a resource as members, `depth` levels of them.
 #[cycle(writing)]
 fn write_kids<L: Look>(
     alloc: Global,
@@ -93,7 +93,7 @@ fn write_kids<L: Look>(
     Ok(Some(left))
 }
 
-/// The compact text of a resource and so many levels below it, where it is short enough.
+/// The compact text of a resource and `depth` levels below it, where it is short enough.
 pub(crate) fn text_answer<L: Look>(
     alloc: Global,
     look: &L,

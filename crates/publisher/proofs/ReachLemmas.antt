@@ -1,6 +1,6 @@
 -- How deep nodes reach along a path: a node's parent is there, so none is below the first ancestor that is missing.
-use Rattle.std.proofs.Common.{◌≡◌, ◌≤◌, ◌<◌, ◌+◌, ◌-◌, ◌++◌, ℕ, Bool, true, false, List, [], ◌∷◌, IsSome, Option, Some, None, length, take, refl, sym, ◌∙◌, ap, arith, ⊎_elim}
-use Rattle.std.specs.Prelude.{is_some, nat_eq}
+use Rattle.std.proofs.Common.{◌≡◌, ◌≤◌, ◌<◌, ◌+◌, ◌-◌, ℕ, true, false, List, [], ◌∷◌, length, take, refl, sym, ◌∙◌, ap, arith, ⊎_elim}
+use Rattle.std.specs.Prelude.{nat_eq}
 use Rattle.std.specs.Cmp.Lexicographic.{pointwise, same_text}
 use Rattle.std.proofs.lemmas.Bool.{true≢false, false≢true, and_parts, cases_lt}
 use Rattle.std.proofs.lemmas.List.{take_more, length-take-le}
@@ -45,7 +45,6 @@ reach_from tree path n good none other there under =
     let prefix = prefix_of path q under in
     let size : length q ≡ length other - 1 = length-take-le (length other - 1) other (omega arith) in
     let some : 0 < length other = omega (arith, large) in
-    let above : has_node tree q ≡ true =
-    some_is (node_at tree q) (good.parents q (name_of other) (some_of (node_at tree (kid q (name_of other))) (ap (has_node tree) (kid_of_parent other some) ∙ there))) in
+    let above : has_node tree q ≡ true = good.parents q (name_of other) (ap (has_node tree) (kid_of_parent other some) ∙ there) in
     let deep : n < length q = omega (arith, large, size) in
     absurd (true≢false (sym above ∙ ap (has_node tree) (sym prefix.same) ∙ none (length q) deep prefix.within))) (λ small. small) (cases_lt (n + 1) (length other))

@@ -1,6 +1,6 @@
 -- What a script writes, from the relations that tell which script it is and what its text spells.
-use Rattle.std.proofs.Common.{◌≡◌, ℕ, Bool, true, false, cond, List, [], Option, Some, None, Ok, Err, IfSome, IfNone, length, nat_le, refl, sym, ◌∙◌, ap, arith}
-use Rattle.std.specs.Prelude.{option_and_then, Result}
+use Rattle.std.proofs.Common.{◌≡◌, ℕ, Bool, true, false, cond, List, Option, Some, None, Ok, IfSome, IfNone, length, nat_le, refl, sym, ◌∙◌, ap, arith}
+use Rattle.std.specs.Prelude.{option_and_then}
 use Rattle.sp_base.specs.Paths.{text_of}
 use Rattle.sp_base.specs.declared.answer.Answer.{Answer}
 use Rattle.sp_base.specs.declared.answer.Ask.{Ask}

@@ -1,5 +1,5 @@
 -- What the publisher answers: the first of these that applies.
-use Rattle.std.specs.Prelude.{◌==◌, ◌&&◌, ◌||◌, ℕ, Bool, nat_eq, nat_le, if◌then◌else◌, is_some, List, Option, Some, None, option_and_then, Result, Ok, Err, codes, length}
+use Rattle.std.specs.Prelude.{◌==◌, ◌&&◌, ◌||◌, ℕ, Bool, nat_eq, nat_le, if◌then◌else◌, is_some, List, Option, Some, None, option_and_then, codes, length}
 use Rattle.std.specs.Cmp.Lexicographic.{pointwise}
 use Rattle.sp_base.specs.Paths.{text_of}
 use Rattle.sp_base.specs.Properties.{text_in}

@@ -1,4 +1,3 @@
-use Rattle.std.proofs.Common.{sym}
 use Rattle.type_chain.specs.Chain.{chain_of}
 use Rattle.script_rank.specs.Search.{search_result}
 use Rattle.htl_text.specs.Template.{text_of as written_by}

@@ -1,4 +1,4 @@
-use Rattle.std.proofs.Common.{◌≡◌, ◌-◌, [], length, ◌∙◌, ap}
+use Rattle.std.proofs.Common.{◌-◌, [], length, ◌∙◌, ap}
 use Rattle.std.specs.Prelude.{unwrap_or}
 use Rattle.std.proofs.lemmas.Option.{unwrap_or-slice_get}
 use Rattle.publisher.proofs.scripts.name_of.Goals as goal

@@ -1,4 +1,4 @@
-use Rattle.std.proofs.Common.{◌≡◌, ◌+◌, ◌∙◌, List, ℕ, Some, IfSome, take, slice_get, sym, subst}
+use Rattle.std.proofs.Common.{◌≡◌, ◌+◌, List, ℕ, IfSome, take, slice_get, sym, subst}
 use Rattle.sling_dispatch.proofs.Words.{words_push}
 use Rattle.sling_dispatch.proofs.command.words_of.Goals as goal
 

@@ -1,4 +1,4 @@
-use Rattle.std.proofs.Common.{◌≡◌, ◌∙◌, ◌++◌, ◌∷◌, ◌+◌, [], Err, length, ap, sym, subst, take, arith, refl}
+use Rattle.std.proofs.Common.{◌∙◌, ◌++◌, ◌∷◌, ◌+◌, [], Err, length, ap, sym, subst, take, arith, refl}
 use Rattle.sp_outside.specs.Told.{added}
 use Rattle.sp_outside.specs.Causes.{HasSinkCause}
 use Rattle.sling_dispatch.specs.Endings.{seen}

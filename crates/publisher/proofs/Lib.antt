@@ -5,3 +5,4 @@ pub mod RenderingLemmas
 pub mod ReachLemmas
 pub mod ScriptLaw
 pub mod KeptLemmas
+pub mod StatusLemmas

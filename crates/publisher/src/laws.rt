@@ -1,5 +1,5 @@
 //! Laws of the rendering, on functions that do nothing.
-ghost use Rattle.std.specs.Prelude.{◌≡◌, ◌≤◌, [], ℕ, List, Some, true, length};
+ghost use Rattle.std.specs.Prelude.{◌≡◌, ◌≤◌, ◌<◌, [], ℕ, List, Some, true, length};
 ghost use Rattle.sp_base.specs.Paths.{text_of};
 ghost use Rattle.sp_base.specs.declared.answer.Ask.{Ask};
 ghost use Rattle.resource_tree.specs.Content.{Content};
@@ -11,6 +11,7 @@ ghost use Rattle.script_rank.specs.Ranking.{IsFirst, script_text};
 ghost use Rattle.htl_text.specs.declared.piece.Piece.{Piece};
 ghost use Rattle.htl_text.specs.Spelling.{Spells};
 ghost use Rattle.htl_text.specs.Template.{text_of as written_by};
+ghost use Rattle.publisher.specs.Errors.{error_answer};
 ghost use Rattle.publisher.specs.Rendering.{has_node, is_read, rendered, scope_of};
 
 use htl_text::the_pieces_are_the_text;
@@ -25,6 +26,12 @@ pub fn reads_depend_on_the_path()
 /// A representation has at most 4,194,304 bytes.
 pub fn representations_fit()
     ensures { (tree : Content) (ask : Ask) → (rendered tree ask).status ≡ 200 → length (rendered tree ask).body ≤ 4194304 }
+{}
+
+/// Every status has three digits at most.
+pub fn statuses_are_short()
+    ensures rendered { (tree : Content) (ask : Ask) → (rendered tree ask).status < 1000 }
+    ensures error { (status : ℕ) → (error_answer status).status ≡ status }
 {}
 
 /// A page that a script gives is what the pieces write that its text spells, for the resource: the resource is the one that the path

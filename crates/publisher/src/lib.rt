@@ -14,5 +14,7 @@ mod templates;
 mod tests;
 
 pub use errors::error_answer;
-pub use laws::{a_script_writes_its_pieces, reads_depend_on_the_path, representations_fit};
+pub use laws::{
+    a_script_writes_its_pieces, reads_depend_on_the_path, representations_fit, statuses_are_short,
+};
 pub use serving::Publisher;

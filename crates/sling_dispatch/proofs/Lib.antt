@@ -16,3 +16,4 @@ pub mod Escapes
 pub mod Telling
 pub mod OneRun
 pub mod Words
+pub mod Statuses

@@ -13,6 +13,8 @@ ghost use Rattle.sling_dispatch.specs.Transcript.{transcript, EventsAreWritable}
 ghost use Rattle.sling_dispatch.specs.declared.note.Note.{Note};
 ghost use Rattle.sling_dispatch.specs.declared.scenario.Scenario.{Scenario};
 
+use publisher::statuses_are_short;
+
 /// How the path of a target is escaped doesn't matter, apart from the slash that it begins with, nor which query follows.
 pub fn spellings_are_answered_alike()
     ensures { (content : Content) (a b : List ℕ) → begins_with_slash a ≡ begins_with_slash b → path_text a ≡ path_text b
@@ -44,7 +46,10 @@ pub fn one_transcript()
     ensures transcript { (s : Scenario) (n : ℕ) (a b : List (List Note)) → IsSession s n a → IsSession s n b → transcript a ≡ transcript b }
 {}
 
-/// A transcript tells its events: no two lists of events are written alike.
+/// A transcript tells its events: no two lists of events are written alike, where statuses have 16 bits, as those of every session have.
 pub fn a_transcript_tells_its_events()
-    ensures { (a b : List (List Note)) → EventsAreWritable a → EventsAreWritable b → transcript a ≡ transcript b → a ≡ b }
-{}
+    ensures events { (a b : List (List Note)) → EventsAreWritable a → EventsAreWritable b → transcript a ≡ transcript b → a ≡ b }
+    ensures sessions { (s t : Scenario) (n m : ℕ) (a b : List (List Note)) → IsSession s n a → IsSession t m b → transcript a ≡ transcript b → a ≡ b }
+{
+    statuses_are_short();
+}

@@ -1,0 +1,8 @@
+use Rattle.publisher.proofs.StatusLemmas.{rendered_short, errors_short}
+use Rattle.publisher.proofs.laws.statuses_are_short.Goals as goal
+
+pub returns : goal.returns
+returns c = record {
+  rendered = rendered_short;
+  error = errors_short;
+}

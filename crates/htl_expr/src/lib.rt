@@ -15,6 +15,7 @@ mod out;
 mod print;
 mod reader;
 mod room;
+mod same;
 mod scope;
 mod stop;
 #[cfg(test)]

@@ -1,5 +1,5 @@
 -- Chains of operands and the items of list literals.
-use Rattle.std.proofs.Common.{rules, ◌≡◌, ◌<◌, ◌+◌, ℕ, Bool, true, false, cond, List, [], ◌∷◌, length, drop, get_or, map, codes, refl, sym, ap, ap₂, ◌∙◌}
+use Rattle.std.proofs.Common.{◌≡◌, ◌<◌, ◌+◌, ℕ, Bool, true, false, cond, List, [], ◌∷◌, length, drop, get_or, map, codes, refl, sym, ap, ◌∙◌}
 use Rattle.std.proofs.lemmas.List.{drop_more}
 use Rattle.htl_expr.specs.declared.lent.Lent.{Lent}
 use Rattle.htl_expr.specs.declared.lent.Lent.TheVariants.{Items, rolls-Items}

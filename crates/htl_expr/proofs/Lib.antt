@@ -14,6 +14,7 @@ pub mod EscapeLemmas
 pub mod Writing
 pub mod Joined
 pub mod Chains
+pub mod SameItems
 pub mod Moves
 pub mod MovesTokens
 pub mod MovesParts

@@ -1,10 +1,9 @@
 -- Writing within a limit, one text after another.
-use Rattle.std.proofs.Common.{◌≡◌, ◌≢◌, ◌<◌, ◌≤◌, ◌+◌, ◌-◌, ℕ, List, [], ◌++◌, Result, Ok, Err, length, take, get_or, refl, sym, ap, ◌∙◌, arith, append-nil, append_assoc}
+use Rattle.std.proofs.Common.{◌≡◌, ◌<◌, ◌≤◌, ◌+◌, ◌-◌, ℕ, List, [], ◌++◌, Result, Ok, Err, length, take, get_or, sym, ap, ◌∙◌, arith, append-nil, append_assoc}
 use Rattle.std.specs.List.{flat_map}
 use Rattle.std.proofs.lemmas.List.{length-append}
 use Rattle.std.proofs.lemmas.List.Folds.{length-flat_map-take}
 use Rattle.htl_expr.specs.declared.room.WriteFault.{WriteFault}
-use Rattle.htl_expr.specs.declared.room.WriteFault.TheVariants.{TooLong, NoMemory}
 use Rattle.htl_expr.specs.Writing.{Begins, Stopped, Wrote}
 
 pub begins_same : (t : List ℕ) → Begins t t

@@ -1,5 +1,5 @@
 -- What values that lend stand for. Only proofs and private functions need this.
-use Rattle.std.specs.Prelude.{ℕ, List, [], codes, map}
+use Rattle.std.specs.Prelude.{ℕ, Bool, true, false, List, [], codes, map}
 use Rattle.std.specs.Fmt.{signed_decimal}
 use Rattle.htl_expr.specs.declared.out.Out.{Out}
 use Rattle.htl_expr.specs.declared.out.Out.TheVariants as out
@@ -31,3 +31,8 @@ plain_item value = plain (codes ",") (out_of_lent value)
 abbrev pub texts_of : Out → List (List ℕ)
 texts_of (out.List texts) = texts
 texts_of _ = []
+
+-- whether a value is a list
+abbrev pub is_list : Out → Bool
+is_list (out.List texts) = true
+is_list _ = false

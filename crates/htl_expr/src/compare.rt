@@ -1,17 +1,16 @@
 //! Comparisons of two values.
 
-ghost use Rattle.std.specs.Prelude.{◌≡◌, IfOk, Bool, nat_eq, int_le, int_lt, map};
+ghost use Rattle.std.specs.Prelude.{◌≡◌, IfOk, Bool, nat_eq, int_le, int_lt, true};
 ghost use Rattle.std.specs.Cmp.Lexicographic.{pointwise};
-ghost use Rattle.std.specs.Fmt.{signed_decimal};
-ghost use Rattle.htl_expr.specs.Print.{truth_text};
-ghost use Rattle.htl_expr.specs.Lent.{out_of_lent, texts_of};
+ghost use Rattle.htl_expr.specs.Lent as lent;
+ghost use Rattle.htl_expr.specs.Lent.{out_of_lent};
 ghost use Rattle.htl_expr.specs.Value as spec;
 ghost use Rattle.htl_expr.specs.declared.out.Out.TheVariants as out;
 
 use crate::lent::Lent;
 use crate::node::Comparison;
-use crate::out::{item_texts, long_texts, truth_texts};
-use sp_base::{Mem, TextBuf};
+use crate::same::{has_same_items, is_list};
+use sp_base::Mem;
 use std::alloc::Global;
 
 fn is_below(a: &Lent, b: &Lent) -> bool
@@ -47,40 +46,31 @@ pub(crate) fn compare(alloc: Global, comparison: Comparison, a: &Lent, b: &Lent)
 }
 
 // Whether two values have the same kind and the same content.
-#[tactic(auto, using(crate::proofs::Chains::items_out))]
 fn is_same(alloc: Global, a: &Lent, b: &Lent) -> Mem<bool>
     ensures { IfOk result (λ same. same ≡ spec.is_same (out_of_lent a.now) (out_of_lent b.now)) }
 {
-    match a {
-        Lent::Nothing => Ok(is_nothing(b)),
-        Lent::Truth(truth) => Ok(is_truth(*truth, b)),
-        Lent::Long(number) => Ok(is_long(*number, b)),
-        Lent::Text(text) => Ok(is_text(text, b)),
-        Lent::Texts(texts) => is_list(alloc, texts.as_slice(), b),
-        Lent::Longs(numbers) => is_list(
-            alloc,
-            long_texts(alloc, numbers.as_slice())?.as_slice(),
-            b,
-        ),
-        Lent::Truths(truths) => is_list(
-            alloc,
-            truth_texts(alloc, truths.as_slice())?.as_slice(),
-            b,
-        ),
-        Lent::Items(items) => is_list(alloc, item_texts(alloc, items.as_slice())?.as_slice(), b),
+    if is_list(a) {
+        return is_same_list(alloc, a, b);
     }
+    Ok(match a {
+        Lent::Nothing => is_nothing(b),
+        Lent::Truth(truth) => is_truth(*truth, b),
+        Lent::Long(number) => is_long(*number, b),
+        Lent::Text(text) => is_text(text, b),
+        _ => false,
+    })
 }
 
-#[tactic(auto, using(crate::proofs::Chains::items_out))]
-fn is_list(alloc: Global, texts: &[TextBuf], value: &Lent) -> Mem<bool>
-    ensures { IfOk result (λ same. same ≡ spec.is_same (out.List texts.now) (out_of_lent value.now)) }
+// Whether a value is a list with the same items as this one.
+#[tactic(auto, using(crate::proofs::SameItems::same_lists, crate::proofs::SameItems::same_as_no_list))]
+fn is_same_list(alloc: Global, list: &Lent, value: &Lent) -> Mem<bool>
+    requires { lent.is_list (out_of_lent list.now) ≡ true }
+    ensures { IfOk result (λ same. same ≡ spec.is_same (out_of_lent list.now) (out_of_lent value.now)) }
 {
-    match value {
-        Lent::Texts(others) => Ok(texts == others.as_slice()),
-        Lent::Longs(numbers) => Ok(texts == long_texts(alloc, numbers.as_slice())?.as_slice()),
-        Lent::Truths(truths) => Ok(texts == truth_texts(alloc, truths.as_slice())?.as_slice()),
-        Lent::Items(items) => Ok(texts == item_texts(alloc, items.as_slice())?.as_slice()),
-        _ => Ok(false),
+    if is_list(value) {
+        has_same_items(alloc, list, value)
+    } else {
+        Ok(false)
     }
 }
 

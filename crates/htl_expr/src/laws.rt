@@ -1,10 +1,13 @@
-//! What the reading is: laws of the definitions, on a function that does nothing.
+//! What the reading is, and what is written: laws of the definitions, on functions that do nothing.
 
 ghost use Rattle.std.specs.Prelude.{◌≡◌, ◌≢◌, ℕ, List, Ok, Err};
 ghost use Rattle.htl_expr.specs.declared.expression.Expr.{Expr};
 ghost use Rattle.htl_expr.specs.declared.expression.ExprFault.{ExprFault};
 ghost use Rattle.htl_expr.specs.Grammar.{Whole};
 ghost use Rattle.htl_expr.specs.Fault.{expression_of, IsFault};
+ghost use Rattle.htl_expr.specs.Print.{IsInert};
+ghost use Rattle.htl_expr.specs.Value.{print};
+ghost use Rattle.htl_expr.specs.declared.scope.Scope.{Scope};
 
 /// The reading from left to right, by which templates are defined, is the grammar: a text is read as an expression exactly where the
 /// grammar has it as that one, and the place of a fault is the first byte with which no expression goes on. It lacks no memory.
@@ -13,4 +16,9 @@ pub fn the_reading_is_the_grammar()
     ensures only { (text : List ℕ) (e : Expr) → Whole text e → expression_of text ≡ Ok e }
     ensures fault { (text : List ℕ) (f : ExprFault) → expression_of text ≡ Err f → IsFault f text }
     ensures memory { (text : List ℕ) → expression_of text ≢ Err ExprFault.NoMemory }
+{}
+
+/// Unless the option `context` is 'unsafe', what an expression writes begins no tag and ends no attribute's value that stands in quotes.
+pub fn what_is_written_is_inert()
+    ensures { (scope : Scope) (e : Expr) → IsInert e.context (print scope e) }
 {}

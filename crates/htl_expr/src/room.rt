@@ -32,7 +32,6 @@ impl From<AllocError> for WriteFault {
 }
 
 /// Writes a text where there is room for it.
-
 pub(crate) fn push_within(text: &mut String, most: usize, more: &str) -> Result<(), WriteFault>
     requires { length (string_bytes text.old) ≤ most }
     ensures { Wrote most result (string_bytes text.old) more.now (string_bytes text.new) }

@@ -11,7 +11,7 @@ use Rattle.htl_text.specs.declared.piece.Piece.{Piece}
 use Rattle.htl_text.specs.declared.piece.Piece.TheVariants.{Value}
 use Rattle.htl_text.specs.declared.quotes.Quotes.TheVariants.{Outside}
 use Rattle.htl_text.specs.Template.{is_at, opens, escapes, closing, read_value, value_at, in_front, written, before, pieces, template_of}
-use Rattle.htl_text.specs.Spelling.{Inside, Spells, HasNoExpr, Faults, IsFirst}
+use Rattle.htl_text.specs.Spelling.{Inside, SpellsTemplate, HasNoExpr, Faults, IsFirstOpening}
 use Rattle.htl_text.specs.Spelling as s
 use Rattle.htl_text.proofs.Closed.{byte_is, closed, never_closes, none_closes, value_is, value_open}
 use Rattle.htl_text.proofs.Pieces.{value_follows, value_fails}
@@ -77,7 +77,7 @@ value_read all w t e x h =
     let text = 36 ∷ 123 ∷ (w ++ 125 ∷ t) in
     value_follows all text e t (opens_there (w ++ 125 ∷ t)) (value_is (all - length text) w t x ∙ ap (read_value (all - length text) t) h)
 
-spelled_on : Only → (all : ℕ) (text : List ℕ) (ps : List Piece) (rest : List ℕ) → Spells text ps rest → Carries all text ps rest
+spelled_on : Only → (all : ℕ) (text : List ℕ) (ps : List Piece) (rest : List ℕ) → SpellsTemplate text ps rest → Carries all text ps rest
 spelled_on only all _ _ _ s.end = (λ h. h, λ f h. h)
 spelled_on only all _ _ rest (s.plain {c = c} {text = t} {ps = ps} a b x) =
     carries all (c ∷ t) t ps (in_front (c ∷ []) ps) rest (written (c ∷ [])) (plain_read all c t a b) refl (λ f. refl) (spelled_on only all t ps rest x)
@@ -90,7 +90,7 @@ pieces_end : (all : ℕ) → pieces all 0 [] ≡ Ok []
 unfolding pieces
 pieces_end all = refl
 
-pub spelled_is_read : Only → (text : List ℕ) (ps : List Piece) → Spells text ps [] → template_of text ≡ Ok ps
+pub spelled_is_read : Only → (text : List ℕ) (ps : List Piece) → SpellsTemplate text ps [] → template_of text ≡ Ok ps
 spelled_is_read only text ps x = (spelled_on only (length text) text ps [] x).0 (pieces_end (length text))
 
 -- a fault is read where it is
@@ -106,7 +106,7 @@ fault_read found (BadExpr n) place t x = ap (λ (u : List ℕ). value_at place (
     go (Err g) h = ap (λ (k : ℕ). Err (BadExpr k)) (sym x.0)
 fault_read found NoMemory place t x = absurd x
 
-pub first_is_read : Found → Only → (text : List ℕ) (f : TextFault) → IsFirst f text → template_of text ≡ Err f
+pub first_is_read : Found → Only → (text : List ℕ) (f : TextFault) → IsFirstOpening f text → template_of text ≡ Err f
 first_is_read found only text f x =
     let opening = 36 ∷ 123 ∷ x.behind in
     let size : length text ≡ length x.front + length opening = ap length x.parts ∙ length-append x.front opening in
@@ -122,16 +122,16 @@ record First (n : ℕ) (text : List ℕ) (fault : TextFault) : Type 0 where
   behind : List ℕ
   ps : List Piece
   parts : text ≡ front ++ 36 ∷ 123 ∷ behind
-  spelled : Spells text ps (36 ∷ 123 ∷ behind)
+  spelled : SpellsTemplate text ps (36 ∷ 123 ∷ behind)
   faulty : Faults fault (n + length front) behind
 
 -- what a reading says of the text
 abbrev Meaning : ℕ → List ℕ → Read → Type 0
-Meaning n text (Ok ps) = Spells text ps []
+Meaning n text (Ok ps) = SpellsTemplate text ps []
 Meaning n text (Err f) = First n text f
 
 -- a fault of what follows is one of the whole
-later : (n : ℕ) (w text after : List ℕ) (f : TextFault) (g : List Piece → List Piece) → text ≡ w ++ after → ((ps : List Piece) (rest : List ℕ) → Spells after ps rest → Spells text (g ps) rest)
+later : (n : ℕ) (w text after : List ℕ) (f : TextFault) (g : List Piece → List Piece) → text ≡ w ++ after → ((ps : List Piece) (rest : List ℕ) → SpellsTemplate after ps rest → SpellsTemplate text (g ps) rest)
     → First (n + length w) after f → First n text f
 later n w text after f g e spell x =
     let size = length-append w x.front in
@@ -236,10 +236,10 @@ means found only all (suc size) n (c ∷ t) le e = front_means found only n all 
 whole_means : Found → Only → (text : List ℕ) (r : Read) → template_of text ≡ r → Meaning 0 text r
 whole_means found only text r e = subst (Meaning 0 text) e (means found only (length text) (length text) 0 text (omega arith) (omega arith))
 
-pub read_is_spelled : Found → Only → (text : List ℕ) (ps : List Piece) → template_of text ≡ Ok ps → Spells text ps []
+pub read_is_spelled : Found → Only → (text : List ℕ) (ps : List Piece) → template_of text ≡ Ok ps → SpellsTemplate text ps []
 read_is_spelled found only text ps e = whole_means found only text (Ok ps) e
 
-pub fault_is_first : Found → Only → (text : List ℕ) (f : TextFault) → template_of text ≡ Err f → IsFirst f text
+pub fault_is_first : Found → Only → (text : List ℕ) (f : TextFault) → template_of text ≡ Err f → IsFirstOpening f text
 fault_is_first found only text f e =
     let x = whole_means found only text (Err f) e in
     let same : 0 + length x.front ≡ length x.front = omega arith in

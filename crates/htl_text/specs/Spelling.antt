@@ -22,11 +22,11 @@ pub data Inside : List ℕ → Type 0 where
   string : {mark : ℕ} {w t : List ℕ} → is_quote mark ≡ true → Quoted mark w → Inside t → Inside (mark ∷ (w ++ t))
 
 -- the pieces that stand in a text in front of a rest; no two of plain text stand side by side
-pub data Spells : List ℕ → List Piece → List ℕ → Type 0 where
-  end : {rest : List ℕ} → Spells rest [] rest
-  plain : {c : ℕ} {text rest : List ℕ} {ps : List Piece} → opens (c ∷ text) ≡ false → escapes (c ∷ text) ≡ false → Spells text ps rest → Spells (c ∷ text) (in_front (c ∷ []) ps) rest
-  escaped : {text rest : List ℕ} {ps : List Piece} → Spells text ps rest → Spells (92 ∷ 36 ∷ 123 ∷ text) (in_front (codes "${") ps) rest
-  value : {inside text rest : List ℕ} {e : Expr} {ps : List Piece} → Inside inside → Whole inside e → Spells text ps rest → Spells (36 ∷ 123 ∷ (inside ++ 125 ∷ text)) (Value e ∷ ps) rest
+pub data SpellsTemplate : List ℕ → List Piece → List ℕ → Type 0 where
+  end : {rest : List ℕ} → SpellsTemplate rest [] rest
+  plain : {c : ℕ} {text rest : List ℕ} {ps : List Piece} → opens (c ∷ text) ≡ false → escapes (c ∷ text) ≡ false → SpellsTemplate text ps rest → SpellsTemplate (c ∷ text) (in_front (c ∷ []) ps) rest
+  escaped : {text rest : List ℕ} {ps : List Piece} → SpellsTemplate text ps rest → SpellsTemplate (92 ∷ 36 ∷ 123 ∷ text) (in_front (codes "${") ps) rest
+  value : {inside text rest : List ℕ} {e : Expr} {ps : List Piece} → Inside inside → Whole inside e → SpellsTemplate text ps rest → SpellsTemplate (36 ∷ 123 ∷ (inside ++ 125 ∷ text)) (Value e ∷ ps) rest
 
 -- no "}" closes what stands behind "${"
 abbrev pub NeverCloses : List ℕ → Type 0
@@ -47,10 +47,10 @@ Faults (BadExpr n) place behind = (n ≡ place) × HasNoExpr behind
 Faults NoMemory place behind = ⊥
 
 -- the first fault of a text: that of an expression which opens behind pieces
-pub record IsFirst (fault : TextFault) (text : List ℕ) : Type 0 where
+pub record IsFirstOpening (fault : TextFault) (text : List ℕ) : Type 0 where
   pub front : List ℕ
   pub behind : List ℕ
   pub ps : List Piece
   pub parts : text ≡ front ++ 36 ∷ 123 ∷ behind
-  pub spelled : Spells text ps (36 ∷ 123 ∷ behind)
+  pub spelled : SpellsTemplate text ps (36 ∷ 123 ∷ behind)
   pub faulty : Faults fault (length front) behind

@@ -1,4 +1,6 @@
--- The pieces of a template, and the text that they write (HTL specification 1.4, "Expression Language").
+-- The pieces of a template, and the text that they write (HTL specification 1.4, "Expression Language"). `opening_len`, `plain_len`
+-- and `plain_pieces` are needed by proofs and private functions alone; `Quotes`, `step` and `closing` say how the reading finds a closing "}", for which readers
+-- have `Inside` of Spelling.antt.
 use Rattle.std.specs.Prelude.{ℕ, zero, suc, ◌+◌, ◌-◌, Bool, false, ◌||◌, ◌&&◌, ◌==◌, if◌then◌else◌, List, [], ◌∷◌, ◌++◌, length, take, drop, codes, Option, Some, None, Result, Ok, Err}
 use Rattle.std.specs.List.{flat_map}
 use Rattle.htl_expr.specs.declared.expression.Expr.{Expr}
@@ -114,5 +116,5 @@ piece_text scope (Plain t) = t
 piece_text scope (Value e) = print scope e
 
 -- the text of a template: what its pieces write, one after another
-abbrev pub text_of : Scope → List Piece → List ℕ
-text_of scope ps = flat_map (piece_text scope) ps
+abbrev pub template_output : Scope → List Piece → List ℕ
+template_output scope ps = flat_map (piece_text scope) ps

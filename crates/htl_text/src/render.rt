@@ -49,8 +49,8 @@ fn push_piece(
 impl Template {
     /// The text that the template writes for a resource, where it has at most 4,194,304 bytes.
     pub fn render(&self, alloc: Global, scope: &Scope) -> Result<TextBuf, RenderFault>
-        ensures ok { IfOk result (λ text. (text ≡ spec.text_of scope.now self.now) × (length text ≤ 4194304)) }
-        ensures err { IfErr result (λ f. f ≢ RenderFault.NoMemory → (f ≡ RenderFault.TooLong) × (4194304 < length (spec.text_of scope.now self.now))) }
+        ensures ok { IfOk result (λ text. (text ≡ spec.template_output scope.now self.now) × (length text ≤ 4194304)) }
+        ensures err { IfErr result (λ f. f ≢ RenderFault.NoMemory → (f ≡ RenderFault.TooLong) × (4194304 < length (spec.template_output scope.now self.now))) }
     {
         let mut text = String::new(alloc);
         for piece in self.pieces.as_slice() {

@@ -14,7 +14,7 @@ use Rattle.type_chain.specs.declared.type_name.TypeName.{TypeName}
 use Rattle.script_rank.specs.Ranking.{HasNoCandidate, IsFirst, script_text}
 use Rattle.script_rank.specs.Search.{search_result}
 use Rattle.htl_text.specs.declared.piece.Piece.{Piece}
-use Rattle.htl_text.specs.Template.{template_of, text_of as written_by}
+use Rattle.htl_text.specs.Template.{template_of, template_output as written_by}
 use Rattle.publisher.specs.Errors.{answer_of, error_answer}
 use Rattle.publisher.specs.Readings.{reading_in}
 use Rattle.publisher.specs.Rendering.{answer_by, has_node, html_kind, is_read, mark_of, most_bytes, rendered, representation_of, resource_answer, scope_of, script_for, script_representation, split_answer}

@@ -15,7 +15,7 @@ use Rattle.type_chain.specs.Chain.{chain_of, type_text}
 use Rattle.script_rank.specs.Ranking.{script_text}
 use Rattle.script_rank.specs.Search.{search_result as first_script}
 use Rattle.htl_expr.specs.declared.scope.Scope.{Scope}
-use Rattle.htl_text.specs.Template.{text_of as written_by}
+use Rattle.htl_text.specs.Template.{template_output as written_by}
 use Rattle.get_servlet.specs.declared.answer.Depth.{Depth}
 use Rattle.get_servlet.specs.declared.answer.JsonAnswer.{JsonAnswer}
 use Rattle.get_servlet.specs.declared.answer.JsonAnswer.TheVariants.{Whole, Over, TooLong}

@@ -9,8 +9,8 @@ ghost use Rattle.url_split.specs.Split.{IsSplit};
 ghost use Rattle.type_chain.specs.Chain.{chain_of};
 ghost use Rattle.script_rank.specs.Ranking.{IsFirst, script_text};
 ghost use Rattle.htl_text.specs.declared.piece.Piece.{Piece};
-ghost use Rattle.htl_text.specs.Spelling.{Spells};
-ghost use Rattle.htl_text.specs.Template.{text_of as written_by};
+ghost use Rattle.htl_text.specs.Spelling.{SpellsTemplate};
+ghost use Rattle.htl_text.specs.Template.{template_output as written_by};
 ghost use Rattle.publisher.specs.Errors.{error_answer};
 ghost use Rattle.publisher.specs.Rendering.{has_node, is_read, rendered, scope_of};
 
@@ -39,7 +39,7 @@ pub fn statuses_are_short()
 pub fn a_script_writes_its_pieces()
     ensures { (tree : Content) (ask : Ask) (parts : Parts) (res : Resource) (script : List (List ℕ)) (text : List ℕ) (pieces : List Piece)
         → is_read ask.method ≡ true → IsSplit (has_node tree) (text_of ask.path) parts → res_at tree parts.path ≡ Some res
-        → IsFirst tree (chain_of tree res.props) parts script → script_text tree script ≡ Some text → Spells text pieces []
+        → IsFirst tree (chain_of tree res.props) parts script → script_text tree script ≡ Some text → SpellsTemplate text pieces []
         → (rendered tree ask).status ≡ 200 → (rendered tree ask).body ≡ written_by (scope_of res) pieces }
 {
     the_split_is_the_longest();

@@ -1,7 +1,7 @@
 // Rendering by a script.
 ghost use Rattle.std.specs.Prelude.{◌≡◌, IfOk};
 ghost use Rattle.resource_tree.specs.Content.{name_of};
-ghost use Rattle.htl_text.specs.Template.{text_of as written_by};
+ghost use Rattle.htl_text.specs.Template.{template_output as written_by};
 ghost use Rattle.publisher.specs.Rendering.{html_kind, mark_of, representation_of, scope_of, script_representation};
 
 use crate::errors::error_answer;

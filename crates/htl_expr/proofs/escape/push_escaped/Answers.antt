@@ -1,5 +1,4 @@
 use Rattle.std.proofs.Common.{arith, refl, string_bytes}
-use Rattle.htl_expr.specs.Print.{escape}
 use Rattle.htl_expr.proofs.EscapeLemmas.{escaped_longer}
 use Rattle.htl_expr.proofs.Writing.{begins_same, no_room}
 use Rattle.htl_expr.proofs.escape.push_escaped.Goals as goal

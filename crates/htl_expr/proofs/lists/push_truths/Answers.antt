@@ -1,7 +1,6 @@
-use Rattle.std.proofs.Common.{string_bytes, refl, rules, arith}
 use Rattle.std.proofs.lemmas.Result.{err_from_is_err_and}
 use Rattle.htl_expr.specs.Print.{truth_text}
-use Rattle.htl_expr.proofs.Joined.{item_stops, item_stops_is, item_written_is}
+use Rattle.htl_expr.proofs.Joined.{item_stops}
 use Rattle.htl_expr.proofs.lists.push_truths.Goals as goal
 
 pub returns-in_err-push_next_truth : goal.returns-in_err-push_next_truth

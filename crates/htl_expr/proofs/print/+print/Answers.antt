@@ -1,4 +1,4 @@
-use Rattle.std.proofs.Common.{string_bytes, refl, rules, arith}
+use Rattle.std.proofs.Common.{refl, rules, arith}
 use Rattle.std.proofs.lemmas.Result.{err_from_is_err_and}
 use Rattle.htl_expr.specs.Lent.{plain_item}
 use Rattle.htl_expr.proofs.Joined.{item_stops_is, item_written_is}

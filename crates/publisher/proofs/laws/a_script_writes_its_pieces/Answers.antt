@@ -1,6 +1,6 @@
 use Rattle.type_chain.specs.Chain.{chain_of}
 use Rattle.script_rank.specs.Search.{search_result}
-use Rattle.htl_text.specs.Template.{text_of as written_by}
+use Rattle.htl_text.specs.Template.{template_output as written_by}
 use Rattle.publisher.specs.Rendering.{has_node, mark_of, rendered, scope_of}
 use Rattle.sp_base.specs.Paths.{text_of}
 use Rattle.publisher.proofs.ScriptLaw.{found_first, answer_is, body_is}

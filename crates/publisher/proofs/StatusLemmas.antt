@@ -4,7 +4,6 @@ use Rattle.sp_base.specs.Paths.{text_of}
 use Rattle.sp_base.specs.declared.answer.Answer.{Answer}
 use Rattle.sp_base.specs.declared.answer.Ask.{Ask}
 use Rattle.sp_base.specs.declared.answer.Mark.{Mark}
-use Rattle.sp_base.specs.declared.answer.Mark.TheVariants.{Plain}
 use Rattle.resource_tree.specs.Content.{Content}
 use Rattle.resource_tree.specs.Seen.{Resource, Seen, res_at}
 use Rattle.url_split.specs.declared.decompose.Parts.{Parts}

@@ -6,7 +6,7 @@ ghost use Rattle.url_split.specs.declared.decompose.Parts.{Parts};
 ghost use Rattle.script_rank.specs.Ranking.{Candidate, HasNoCandidate, IsBetter, IsFirst, Key};
 ghost use Rattle.script_rank.specs.Search.{search_result};
 
-/// Of two candidates one is better, or both are one script: the keys have a strict order, and no two scripts have one key.
+/// Two candidates of which neither is better than the other are one script.
 pub fn tied_scripts_are_one()
     ensures { (tree : Content) (chain : List TypeName) (parts : Parts) (p q : List (List ℕ)) (k l : Key)
         → Candidate tree chain parts p k → Candidate tree chain parts q l → (IsBetter k l → ⊥) → (IsBetter l k → ⊥) → p ≡ q }

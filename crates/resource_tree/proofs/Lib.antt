@@ -4,6 +4,11 @@ pub mod EntriesInOrder
 pub mod HashedNodes
 pub mod Patching
 pub mod Creation
+pub mod Copying
+pub mod PathThere
+pub mod PartThere
+pub mod CopyParts
+pub mod Copied
 pub mod NodeChange
 pub mod Update
 pub mod KidOrder

@@ -106,7 +106,7 @@ module _ (tree : Content) (good : IsTree (node_at tree)) where
   unfolding levels
   last_level n i all paths level none so_far = sym (append-nil paths) ∙ ap (λ k. paths ++ levels tree k level) (sym none) ∙ so_far
 
-  prefix : (p s : List (List ℕ)) → there (p ++ s) → there p
+  pub prefix : (p s : List (List ℕ)) → there (p ++ s) → there p
   prefix p [] is = ap (λ q. is_some (node_at tree q)) (sym (append-nil p)) ∙ is
   prefix p (name ∷ s) is = good.parents p name (prefix (kid p name) s (ap (λ q. is_some (node_at tree q)) (kid_append p name s) ∙ is))
 

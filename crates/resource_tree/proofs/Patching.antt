@@ -63,3 +63,7 @@ node_at-patching tree (r ∷ rows) q sorted once =
 pub patching-push : (tree : Content) (rows : Rows) (r : List (List ℕ) × PatchNode) → patching tree (rows ++ r ∷ []) ≡ over (patching tree rows) r.0 r.1
 patching-push tree [] r = refl
 patching-push tree (x ∷ rows) r = patching-push (over tree x.0 x.1) rows r
+
+pub sorted-patching : (tree : Content) (rows : Rows) → IsStrictlySortedBy by_path (keys_of tree) → IsStrictlySortedBy by_path (keys_of (patching tree rows))
+sorted-patching tree [] sorted = sorted
+sorted-patching tree (r ∷ rows) sorted = sorted-patching (over tree r.0 r.1) rows (sorted-over tree r.0 r.1 sorted)

@@ -4,5 +4,6 @@ pub mod Kids
 pub mod Changes
 pub mod Parts
 pub mod Patches
+pub mod Moves
 pub mod Seen
 pub mod Shown

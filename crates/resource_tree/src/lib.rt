@@ -4,6 +4,7 @@
 //! segment longer, each once, and no kid has the name of a property of its node.
 #![tactic(auto)]
 
+mod copy;
 mod create;
 mod duplicate;
 mod faults;

@@ -75,7 +75,7 @@ impl RoomyTree {
     }
 }
 
-fn put_all(nodes: &mut Nodes, patch: Patch)
+pub(crate) fn put_all(nodes: &mut Nodes, patch: Patch)
     requires { length patch ≤ nodes.old.room }
     ensures after { nodes.new.entries ≡ patching nodes.old.entries patch }
     ensures once { IsDistinct (eq_by_cmp by_path) (keys_of patch) }

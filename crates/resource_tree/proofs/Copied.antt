@@ -1,0 +1,192 @@
+-- The content with a copy in it: by look-ups, and good.
+use Rattle.std.proofs.Common.{◌≡◌, ◌≢◌, ◌+◌, ◌-◌, ◌≤◌, ◌||◌, ◌==◌, ℕ, Bool, true, false, cond, not, List, [], ◌∷◌, ◌++◌, length, refl, sym, ◌∙◌, ap, subst, Some, None, Option, ⊎_elim, arith}
+use Rattle.std.specs.Prelude.{is_some, is_none, IsSome, IsTrue, option_map, slice_get, unwrap_or, nat_lt}
+use Rattle.std.specs.Option.{option_map_or}
+use Rattle.std.specs.Ordering.{eq_by_cmp}
+use Rattle.std.specs.List.{IsDistinct}
+use Rattle.std.specs.List.Sorted.{IsStrictlySortedBy}
+use Rattle.std.specs.Map.{keys_of, set_value}
+use Rattle.std.proofs.lemmas.Bool.{cases_Bool, false≢true, true≢false, false_from_ne_true, leb-true, le-leb}
+use Rattle.std.proofs.lemmas.List.{length-map}
+use Rattle.std.proofs.lemmas.Map.{keys-set_value}
+use Rattle.std.proofs.lemmas.Option.{get_or_from_slice_get}
+use Rattle.sp_base.specs.PathExact.{exact_paths}
+use Rattle.sp_base.specs.Paths.{is_path, is_under}
+use Rattle.resource_tree.specs.declared.nodes.Node.{Node}
+use Rattle.resource_tree.specs.declared.faults.TreeFault.TheVariants.{TooDeep, FullTree}
+use Rattle.resource_tree.specs.declared.patch.PatchNode.TheVariants as there
+use Rattle.resource_tree.specs.Content.{Content, IsGood, by_path, same_path, node_at, kid, prop_at, parent_of, name_of, empty_node}
+use Rattle.resource_tree.specs.Changes.{change_at, with_kid, with_kids, kids_at, has_prop_at}
+use Rattle.resource_tree.specs.Patches.{Rows, row_at, patching, left_by}
+use Rattle.resource_tree.specs.Moves.{path_there, part, part_there, copy, copy_at, is_too_deep, target_fault, size_fault, first_fault, copy_fault}
+use Rattle.resource_tree.proofs.PathLemmas.{by_path_total, kid_parts, path_from_same, same_path_self, same_path_apart}
+use Rattle.resource_tree.proofs.NodeLookups.{node_at-change_at, length-change_at}
+use Rattle.resource_tree.proofs.EntriesInOrder.{same_in_order}
+use Rattle.resource_tree.proofs.Patching.{node_at-patching, sorted-patching}
+use Rattle.resource_tree.proofs.Creation.{no_fault, not_none, none_from, some_from, IsGood-from}
+use Rattle.resource_tree.proofs.Under.{under_own_kid}
+use Rattle.resource_tree.proofs.PartLemmas.{under_split, prefix}
+use Rattle.resource_tree.proofs.Copying.{Hangs, IsTree-hung, there-back}
+use Rattle.resource_tree.proofs.PartThere.{row_at-part_there, under_there}
+use Rattle.resource_tree.proofs.CopyParts.{in_part, once_there, length-patching}
+
+-- what is known where the target is free
+pub record IsFree (tree : Content) (source target : List (List ℕ)) : Type 0 where
+  pub source_there : IsSome (node_at tree source)
+  pub parent_there : IsSome (node_at tree (parent_of target))
+  pub not_root : target ≢ []
+  pub free : node_at tree target ≡ None
+  pub untaken : has_prop_at tree (parent_of target) (name_of target) ≡ false
+
+pub is_free : (tree : Content) (source target : List (List ℕ)) → target_fault tree source target ≡ None → IsFree tree source target
+is_free tree source target e =
+    let a = no_fault (is_none (node_at tree source)) _ _ e in
+    let b = no_fault (is_none (node_at tree (parent_of target))) _ _ a.1 in
+    let c = no_fault (length target == 0) _ _ b.1 in
+    let d = no_fault (is_under target source || is_under source target) _ _ c.1 in
+    let f = no_fault (is_some (node_at tree target)) _ _ d.1 in
+    let g = no_fault (has_prop_at tree (parent_of target) (name_of target)) _ _ f.1 in
+    record {
+      source_there = not_none _ a.0;
+      parent_there = not_none _ b.0;
+      not_root = λ root. true≢false (sym (ap (λ (p : List (List ℕ)). length p == 0) root) ∙ c.0);
+      free = none_from _ f.0;
+      untaken = g.0;
+    }
+
+not_more : (n : ℕ) → n ≤ 200000 → nat_lt 200000 n ≡ false
+not_more n small = false_from_ne_true _ (λ is. let large : 200001 ≤ n = leb-true 200001 n is in omega (arith, large, small))
+
+more : (n : ℕ) → 200001 ≤ n → nat_lt 200000 n ≡ true
+more n large = le-leb 200001 n large
+
+pub allowed : (tree : Content) (source target : List (List ℕ)) → target_fault tree source target ≡ None → is_too_deep tree source target ≡ false → length tree + length (part tree source) ≤ 200000 → copy_fault tree source target ≡ None
+allowed tree source target free fits small =
+    ap (λ f. first_fault f (size_fault tree source target)) free ∙ ap (λ b. cond b (Some TooDeep) (cond (nat_lt 200000 (length tree + length (part tree source))) (Some FullTree) None)) fits
+    ∙ ap (λ b. cond b (Some FullTree) None) (not_more _ small)
+
+pub too_deep : (tree : Content) (source target : List (List ℕ)) → target_fault tree source target ≡ None → is_too_deep tree source target ≡ true → copy_fault tree source target ≡ Some TooDeep
+too_deep tree source target free deep =
+    ap (λ f. first_fault f (size_fault tree source target)) free ∙ ap (λ b. cond b (Some TooDeep) (cond (nat_lt 200000 (length tree + length (part tree source))) (Some FullTree) None)) deep
+
+pub too_many : (tree : Content) (source target : List (List ℕ)) → target_fault tree source target ≡ None → is_too_deep tree source target ≡ false → 200001 ≤ length tree + length (part tree source) → copy_fault tree source target ≡ Some FullTree
+too_many tree source target free fits large =
+    ap (λ f. first_fault f (size_fault tree source target)) free ∙ ap (λ b. cond b (Some TooDeep) (cond (nat_lt 200000 (length tree + length (part tree source))) (Some FullTree) None)) fits
+    ∙ ap (λ b. cond b (Some FullTree) None) (more _ large)
+
+sorted-change_at : (tree : Content) (path : List (List ℕ)) (change : Node → Node) → IsStrictlySortedBy by_path (keys_of tree) → IsStrictlySortedBy by_path (keys_of (change_at tree path change))
+sorted-change_at tree path change sorted =
+    elim (node_at tree path) as (λ o. IsStrictlySortedBy by_path (keys_of (option_map_or (λ node. set_value (same_path path) tree (change node)) o tree))) [
+      | None ↦ sorted
+      | Some node ↦ subst (λ (ks : List (List (List ℕ))). IsStrictlySortedBy by_path ks) (sym (keys-set_value (same_path path) tree (change node))) sorted
+    ]
+
+left_none : (o : Option Node) → left_by (option_map there.Node o) None ≡ o
+left_none None = refl
+left_none (Some n) = refl
+
+at_parent : (u s : Bool) (a o : Option Node) (n : Node) (f g : Node → Node) → u ≡ false → s ≡ true → o ≡ Some n → f n ≡ g n
+    → cond s (option_map f (left_by (cond u (option_map there.Node a) None) o)) (left_by (cond u (option_map there.Node a) None) o) ≡ cond u a (cond s (option_map g o) o)
+at_parent true s a o n f g eu es was e = absurd (true≢false eu)
+at_parent false false a o n f g eu es was e = absurd (false≢true es)
+at_parent false true a o n f g eu es was e = ap (option_map f) was ∙ ap (λ (x : Node). Some x) e ∙ sym (ap (option_map g) was)
+
+elsewhere : (u s : Bool) (a o : Option Node) (f g : Node → Node) → u ≡ false → s ≡ false
+    → cond s (option_map f (left_by (cond u (option_map there.Node a) None) o)) (left_by (cond u (option_map there.Node a) None) o) ≡ cond u a (cond s (option_map g o) o)
+elsewhere true s a o f g eu es = absurd (true≢false eu)
+elsewhere false true a o f g eu es = absurd (true≢false es)
+elsewhere false false a o f g eu es = refl
+
+module _ (tree : Content) (source target : List (List ℕ)) (good : IsGood tree) (can : IsFree tree source target) where
+  parts : kid (parent_of target) (name_of target) ≡ target
+  parts = kid_parts target can.not_root
+
+  abbrev above : Node
+  above = unwrap_or (node_at tree (parent_of target)) empty_node
+
+  above_is : node_at tree (parent_of target) ≡ Some above
+  above_is = some_from _ empty_node can.parent_there
+
+  free_below : (q : List (List ℕ)) → is_under q target ≡ true → node_at tree q ≡ None
+  free_below q under =
+      let split = under_split target q under in
+      none_from _ (false_from_ne_true _ (λ there_. false≢true (sym (ap is_some can.free) ∙ prefix tree good.shape target split.rest (ap (λ p. is_some (node_at tree p)) split.whole ∙ there_))))
+
+  parent_apart : (q : List (List ℕ)) → is_under q target ≡ true → same_path (parent_of target) q ≡ false
+  parent_apart q under =
+      same_path_apart (parent_of target) q (λ e. true≢false (sym under ∙ ap (λ p. is_under p target) (sym e) ∙ ap (is_under (parent_of target)) (sym parts) ∙ under_own_kid (parent_of target) (name_of target)))
+
+  abbrev named : Content
+  named = change_at tree (parent_of target) (with_kid (name_of target))
+
+  pub node_at-copy : (q : List (List ℕ)) → node_at (copy tree source target) q ≡ copy_at tree source target q
+  node_at-copy q =
+      node_at-patching named (part_there tree source target) q (sorted-change_at tree (parent_of target) (with_kid (name_of target)) good.ordered) (once_there source target tree good.ordered)
+      ∙ ap (λ r. left_by r (node_at named q)) (row_at-part_there source target q tree)
+      ∙ ap (λ o. left_by (cond (is_under q target) (option_map there.Node (node_at tree (path_there target source q))) None) o) (node_at-change_at tree (parent_of target) (with_kid (name_of target)) q)
+      ∙ ⊎_elim
+      (λ under. let apart = parent_apart q under in let free = free_below q under in rw (under, apart, free) (left_none (node_at tree (path_there target source q))))
+      (λ beside. rw beside)
+      (cases_Bool (is_under q target))
+
+  module _ (rows : Rows) (once : IsDistinct (eq_by_cmp by_path) (keys_of rows)) (alike : (q : List (List ℕ)) → row_at rows q ≡ row_at (part_there tree source target) q) (kids : List (List ℕ)) (name : List ℕ) (kids_are : kids ≡ kids_at tree (parent_of target) ++ name ∷ []) (last : Some name ≡ slice_get target (length target - 1)) where
+    kid_named : with_kids kids above ≡ with_kid (name_of target) above
+    kid_named =
+        let segment : name_of target ≡ name = get_or_from_slice_get target (length target - 1) name [] (sym last) in
+        let its : kids_at tree (parent_of target) ≡ above.kids = ap (λ o. option_map_or (λ (n : Node). n.kids) o []) above_is in
+        ap (λ ks. with_kids ks above) (kids_are ∙ ap (λ ks. ks ++ name ∷ []) its ∙ ap (λ (s : List ℕ). above.kids ++ s ∷ []) (sym segment))
+
+    new_at : (q : List (List ℕ)) → node_at (change_at (patching tree rows) (parent_of target) (with_kids kids)) q ≡ copy_at tree source target q
+    new_at q =
+        let patched : node_at (patching tree rows) q ≡ left_by (cond (is_under q target) (option_map there.Node (node_at tree (path_there target source q))) None) (node_at tree q) =
+        node_at-patching tree rows q good.ordered once ∙ ap (λ r. left_by r (node_at tree q)) (alike q ∙ row_at-part_there source target q tree) in
+        node_at-change_at (patching tree rows) (parent_of target) (with_kids kids) q
+        ∙ ap (λ o. cond (same_path (parent_of target) q) (option_map (with_kids kids) o) o) patched
+        ∙ ⊎_elim
+        (λ under. let apart = parent_apart q under in let free = free_below q under in rw (under, apart, free) (left_none (node_at tree (path_there target source q))))
+        (λ beside. ⊎_elim
+        (λ same. let was : node_at tree q ≡ Some above = ap (node_at tree) (sym (path_from_same (parent_of target) q same)) ∙ above_is in at_parent (is_under q target) (same_path (parent_of target) q) (node_at tree (path_there target source q)) (node_at tree q) above (with_kids kids) (with_kid (name_of target)) beside same was kid_named)
+        (λ other. elsewhere (is_under q target) (same_path (parent_of target) q) (node_at tree (path_there target source q)) (node_at tree q) (with_kids kids) (with_kid (name_of target)) beside other)
+        (cases_Bool (same_path (parent_of target) q)))
+        (cases_Bool (is_under q target))
+
+    -- the content as the code makes it
+    pub copy_is : (new : Content) → new ≡ change_at (patching tree rows) (parent_of target) (with_kids kids) → IsStrictlySortedBy by_path (keys_of new) → new ≡ copy tree source target
+    copy_is new is sorted =
+        same_in_order by_path by_path_total exact_paths new (copy tree source target) sorted
+        (sorted-patching named (part_there tree source target) (sorted-change_at tree (parent_of target) (with_kid (name_of target)) good.ordered))
+        (λ q. ap (λ (t : Content). node_at t q) is ∙ new_at q ∙ sym (node_at-copy q))
+
+  module _ (fits : is_too_deep tree source target ≡ false) where
+    is_a_path : (q : List (List ℕ)) → is_under q target ≡ true → IsSome (node_at tree (path_there target source q)) → IsTrue (is_path q)
+    is_a_path q under there_ =
+        ⊎_elim (λ is. is)
+        (λ none. absurd (true≢false (sym (in_part source (λ p. not (is_path (path_there source target p))) (path_there target source q) tree there_ (under_there target source q) (ap not (ap is_path (there-back source target q under) ∙ none))) ∙ fits)))
+        (cases_Bool (is_path q))
+
+    below : (q : List (List ℕ)) → is_under q target ≡ true → node_at (copy tree source target) q ≡ node_at tree (path_there target source q)
+    below q under = node_at-copy q ∙ (rw under)
+
+    beside : (q : List (List ℕ)) → is_under q target ≡ false → q ≢ parent_of target → node_at (copy tree source target) q ≡ node_at tree q
+    beside q apart other = node_at-copy q ∙ (let elsewhere = same_path_apart (parent_of target) q (λ e. other (sym e)) in rw (apart, elsewhere))
+
+    hangs : Hangs (node_at tree) (node_at tree) (node_at (copy tree source target)) source (parent_of target) (name_of target) above
+    hangs = record {
+      part = can.source_there;
+      fits = subst (λ (p : List (List ℕ)). (q : List (List ℕ)) → is_under q p ≡ true → IsSome (node_at tree (path_there p source q)) → IsTrue (is_path q)) (sym parts) is_a_path;
+      was = above_is;
+      free = ap (node_at tree) parts ∙ can.free;
+      untaken = none_from _ (sym (ap (λ o. option_map_or (λ node. is_some (prop_at node (name_of target))) o false) above_is) ∙ can.untaken);
+      there = node_at-copy (parent_of target)
+          ∙ (let apart = ap (is_under (parent_of target)) (sym parts) ∙ under_own_kid (parent_of target) (name_of target) in let self = same_path_self (parent_of target) in rw (apart, self, above_is));
+      below = subst (λ (p : List (List ℕ)). (q : List (List ℕ)) → is_under q p ≡ true → node_at (copy tree source target) q ≡ node_at tree (path_there p source q)) (sym parts) below;
+      others = subst (λ (p : List (List ℕ)). (q : List (List ℕ)) → is_under q p ≡ false → q ≢ parent_of target → node_at (copy tree source target) q ≡ node_at tree q) (sym parts) beside;
+    }
+
+    -- the content with the copy is good
+    pub IsGood-copy : (new : Content) → new ≡ copy tree source target → IsStrictlySortedBy by_path (keys_of new) → length tree + length (part tree source) ≤ 200000 → IsGood new
+    IsGood-copy new same sorted small =
+        let one = length-patching named (part_there tree source target) in
+        let two = length-change_at tree (parent_of target) (with_kid (name_of target)) in
+        let three : length (part_there tree source target) ≡ length (part tree source) = length-map (part tree source) _ in
+        IsGood-from new (copy tree source target) same sorted (omega (arith, one, two, three, small)) (IsTree-hung (node_at tree) (node_at tree) (node_at (copy tree source target)) source (parent_of target) (name_of target) above good.shape good.shape hangs)

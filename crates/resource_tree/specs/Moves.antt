@@ -1,0 +1,63 @@
+-- What a copy of a node and all below it to another path makes of the content, and the first cause for which it is refused.
+use Rattle.std.specs.Prelude.{◌++◌, ◌+◌, ◌||◌, ℕ, Bool, List, Option, Some, None, is_some, is_none, not, nat_lt, length, drop, filter, map, option_map, ◌==◌, if◌then◌else◌}
+use Rattle.std.specs.List.{list_any}
+use Rattle.sp_base.specs.Paths.{is_path, is_under}
+use Rattle.resource_tree.specs.declared.nodes.Node.{Node}
+use Rattle.resource_tree.specs.declared.faults.TreeFault.{TreeFault}
+use Rattle.resource_tree.specs.declared.faults.TreeFault.TheVariants.{NoSuch, RootFixed, IntoItself, Exists, Taken, TooDeep, FullTree}
+use Rattle.resource_tree.specs.declared.patch.PatchNode.TheVariants as there
+use Rattle.resource_tree.specs.Content.{Content, same_path, node_at, parent_of, name_of}
+use Rattle.resource_tree.specs.Changes.{change_at, with_kid, has_prop_at}
+use Rattle.resource_tree.specs.Patches.{Rows, patching}
+
+-- the path at the target of one at the source
+abbrev pub path_there : List (List ℕ) → List (List ℕ) → List (List ℕ) → List (List ℕ)
+path_there source target path = target ++ drop (length source) path
+
+-- the nodes at a path and under it
+abbrev pub part : Content → List (List ℕ) → Content
+part tree path = filter (λ e. is_under e.0 path) tree
+
+-- the same at the target
+abbrev pub part_there : Content → List (List ℕ) → List (List ℕ) → Rows
+part_there tree source target = map (λ e. (path_there source target e.0, there.Node e.1)) (part tree source)
+
+-- the content with the nodes at the source and under it at the target too, which its parent names last
+abbrev pub copy : Content → List (List ℕ) → List (List ℕ) → Content
+copy tree source target = patching (change_at tree (parent_of target) (with_kid (name_of target))) (part_there tree source target)
+
+-- the same by look-ups
+abbrev pub copy_at : Content → List (List ℕ) → List (List ℕ) → List (List ℕ) → Option Node
+copy_at tree source target q =
+    if is_under q target then node_at tree (path_there target source q)
+    else (if same_path (parent_of target) q then option_map (with_kid (name_of target)) (node_at tree q) else node_at tree q)
+
+-- whether a node at the source or under it would have no path at the target, which then has more than 64 segments
+abbrev pub is_too_deep : Content → List (List ℕ) → List (List ℕ) → Bool
+is_too_deep tree source target = list_any (λ e. not (is_path (path_there source target e.0))) (part tree source)
+
+-- why the target is not free for a copy: the source or the target's parent isn't there, or the target is the root, or one of the two is under the
+-- other, or a node is there, or a property has its name
+abbrev pub target_fault : Content → List (List ℕ) → List (List ℕ) → Option TreeFault
+target_fault tree source target =
+    if is_none (node_at tree source) then Some (NoSuch source)
+    else (if is_none (node_at tree (parent_of target)) then Some (NoSuch (parent_of target))
+    else (if length target == 0 then Some RootFixed
+    else (if is_under target source || is_under source target then Some IntoItself
+    else (if is_some (node_at tree target) then Some (Exists target)
+    else (if has_prop_at tree (parent_of target) (name_of target) then Some (Taken target) else None)))))
+
+-- why a part of the content doesn't fit: a path would be too long, or there would be more than 200,000 nodes
+abbrev pub size_fault : Content → List (List ℕ) → List (List ℕ) → Option TreeFault
+size_fault tree source target =
+    if is_too_deep tree source target then Some TooDeep
+    else (if nat_lt 200000 (length tree + length (part tree source)) then Some FullTree else None)
+
+-- the first, or else the second
+abbrev pub first_fault : Option TreeFault → Option TreeFault → Option TreeFault
+first_fault (Some fault) other = Some fault
+first_fault None other = other
+
+-- why a part isn't copied: the target is not free for it, or it doesn't fit
+abbrev pub copy_fault : Content → List (List ℕ) → List (List ℕ) → Option TreeFault
+copy_fault tree source target = first_fault (target_fault tree source target) (size_fault tree source target)

@@ -5,6 +5,8 @@
 #![tactic(auto)]
 
 mod copy;
+#[cfg(test)]
+mod copy_tests;
 mod create;
 mod duplicate;
 mod faults;

@@ -10,7 +10,7 @@ use std::io;
 
 /// A refusal, a lack of memory or of random numbers where a test expects none.
 #[derive(Debug, Drop)]
-struct Failed;
+pub(crate) struct Failed;
 
 impl From<TreeFault> for Failed {
     fn from(_fault: TreeFault) -> Failed {
@@ -30,7 +30,7 @@ impl From<io::Error> for Failed {
     }
 }
 
-fn at(alloc: Global, text: &str) -> Result<Path, TreeFault> {
+pub(crate) fn at(alloc: Global, text: &str) -> Result<Path, TreeFault> {
     match Path::read(alloc, text) {
         Ok(path) => Ok(path),
         Err(_) => Err(TreeFault::NoMemory),
@@ -38,7 +38,11 @@ fn at(alloc: Global, text: &str) -> Result<Path, TreeFault> {
 }
 
 // A tree with nodes at these paths, which are made in their order.
-fn tree_of(alloc: Global, seeds: RandomState, paths: &[&str]) -> Result<Tree, TreeFault> {
+pub(crate) fn tree_of(
+    alloc: Global,
+    seeds: RandomState,
+    paths: &[&str],
+) -> Result<Tree, TreeFault> {
     let mut tree = Tree::new(alloc, seeds)?;
     for path in paths {
         tree.create(alloc, &at(alloc, *path)?)?;
@@ -47,7 +51,7 @@ fn tree_of(alloc: Global, seeds: RandomState, paths: &[&str]) -> Result<Tree, Tr
 }
 
 // The names of the kids of a node, each after a blank.
-fn kids(alloc: Global, tree: &Tree, path: &str) -> Result<String, TreeFault> {
+pub(crate) fn kids(alloc: Global, tree: &Tree, path: &str) -> Result<String, TreeFault> {
     let mut names = String::new(alloc);
     if let Some(node) = tree.node(&at(alloc, path)?) {
         for kid in node.kids.as_slice() {
@@ -63,7 +67,7 @@ fn there(alloc: Global, tree: &Tree, path: &str) -> Result<bool, TreeFault> {
 }
 
 // A refusal as its name and its path.
-fn told(alloc: Global, answer: Result<(), TreeFault>) -> Result<String, NoMemory> {
+pub(crate) fn told(alloc: Global, answer: Result<(), TreeFault>) -> Result<String, NoMemory> {
     let (name, path) = match answer {
         Ok(()) => ("Ok", None),
         Err(TreeFault::NoSuch(path)) => ("NoSuch ", Some(path)),

@@ -2,6 +2,8 @@ use crate::{first_script, script_of};
 use resource_tree::{Tree, TreeFault};
 use sp_base::{NoMemory, Path, PathFault, PropList, TextBuf, TextList, Value};
 use std::alloc::{AllocError, Global};
+use std::hash::RandomState;
+use std::io;
 use type_chain::{TypeList, TypeName};
 use url_split::Parts;
 
@@ -27,6 +29,12 @@ impl From<NoMemory> for Failed {
     }
 }
 
+impl From<io::Error> for Failed {
+    fn from(_fault: io::Error) -> Failed {
+        Failed
+    }
+}
+
 impl From<AllocError> for Failed {
     fn from(_fault: AllocError) -> Failed {
         Failed
@@ -45,8 +53,8 @@ fn make(alloc: Global, tree: &mut Tree, path: &Path) -> Result<(), Failed> {
 }
 
 // A tree of scripts whose texts are their own paths.
-fn tree_of(alloc: Global, scripts: &[&str]) -> Result<Tree, Failed> {
-    let mut tree = Tree::new(alloc)?;
+fn tree_of(alloc: Global, seeds: RandomState, scripts: &[&str]) -> Result<Tree, Failed> {
+    let mut tree = Tree::new(alloc, seeds)?;
     for script in scripts {
         let content = Path::read(alloc, script)?.child(alloc, "jcr:content")?;
         make(alloc, &mut tree, &content)?;
@@ -90,8 +98,8 @@ struct Case<'a> {
 }
 
 // The path of the first script, or nothing.
-fn shown(alloc: Global, case: &Case) -> Result<TextBuf, Failed> {
-    let tree = tree_of(alloc, case.scripts)?;
+fn shown(alloc: Global, seeds: RandomState, case: &Case) -> Result<TextBuf, Failed> {
+    let tree = tree_of(alloc, seeds, case.scripts)?;
     let chain = chain_of(alloc, case.types)?;
     let parts = parts_of(alloc, case.selectors, case.extension)?;
     match first_script(alloc, &tree, &chain, &parts)? {
@@ -102,6 +110,7 @@ fn shown(alloc: Global, case: &Case) -> Result<TextBuf, Failed> {
 
 #[test]
 fn the_closest_name_is_first(rt: HostRuntime) -> Result<(), Failed> {
+    let seeds = RandomState::new(&rt)?;
     let scripts = [
         "/apps/hr/jobs/print/a4.html.html",
         "/apps/hr/jobs/print/a4/html.html",
@@ -120,7 +129,7 @@ fn the_closest_name_is_first(rt: HostRuntime) -> Result<(), Failed> {
             selectors: &["print", "a4"],
             extension: "html",
         };
-        assert_eq!(rt; shown(rt.alloc(), &case)?.text(), scripts[removed]);
+        assert_eq!(rt; shown(rt.alloc(), seeds, &case)?.text(), scripts[removed]);
     }
     Ok(())
 }
@@ -137,7 +146,13 @@ fn words(alloc: Global, text: &str) -> Result<Vec<&str>, AllocError> {
 }
 
 // The first of these scripts for html with these selectors.
-fn html(alloc: Global, types: &str, scripts: &str, selectors: &str) -> Result<TextBuf, Failed> {
+fn html(
+    alloc: Global,
+    seeds: RandomState,
+    types: &str,
+    scripts: &str,
+    selectors: &str,
+) -> Result<TextBuf, Failed> {
     let types = words(alloc, types)?;
     let scripts = words(alloc, scripts)?;
     let selectors = words(alloc, selectors)?;
@@ -147,7 +162,7 @@ fn html(alloc: Global, types: &str, scripts: &str, selectors: &str) -> Result<Te
         selectors: &selectors,
         extension: "html",
     };
-    shown(alloc, &case)
+    shown(alloc, seeds, &case)
 }
 
 // Types, scripts, selectors, and the script that comes first.
@@ -199,14 +214,19 @@ const FIRST: &[(&str, &str, &str, &str)] = &[
 
 #[test]
 fn names_before_types_before_places(rt: HostRuntime) -> Result<(), Failed> {
+    let seeds = RandomState::new(&rt)?;
     for (types, scripts, selectors, want) in FIRST {
-        assert_eq!(rt; html(rt.alloc(), types, scripts, selectors)?.text(), *want);
+        assert_eq!(rt;
+            html(rt.alloc(), seeds, types, scripts, selectors)?.text(),
+            *want
+        );
     }
     Ok(())
 }
 
 #[test]
 fn other_extensions_are_named(rt: HostRuntime) -> Result<(), Failed> {
+    let seeds = RandomState::new(&rt)?;
     let scripts = [
         "/apps/t/GET.html",
         "/apps/t/t.html",
@@ -225,14 +245,19 @@ fn other_extensions_are_named(rt: HostRuntime) -> Result<(), Failed> {
             selectors: &["a"],
             extension,
         };
-        assert_eq!(rt; shown(rt.alloc(), &case)?.text(), want);
+        assert_eq!(rt; shown(rt.alloc(), seeds, &case)?.text(), want);
     }
     Ok(())
 }
 
 // The script for a resource of this type among these scripts, asked for as html.
-fn page(alloc: Global, kind: &str, scripts: &[&str]) -> Result<TextBuf, Failed> {
-    let tree = tree_of(alloc, scripts)?;
+fn page(
+    alloc: Global,
+    seeds: RandomState,
+    kind: &str,
+    scripts: &[&str],
+) -> Result<TextBuf, Failed> {
+    let tree = tree_of(alloc, seeds, scripts)?;
     let mut props = PropList::new(alloc);
     props.put(
         alloc,
@@ -248,6 +273,7 @@ fn page(alloc: Global, kind: &str, scripts: &[&str]) -> Result<TextBuf, Failed> 
 
 #[test]
 fn the_chain_of_a_resource_is_searched(rt: HostRuntime) -> Result<(), Failed> {
+    let seeds = RandomState::new(&rt)?;
     let cases: &[(&str, &[&str], &str)] = &[
         ("hr:jobs", &["/libs/hr/jobs/a.html"], "/libs/hr/jobs/a.html"),
         (
@@ -259,7 +285,7 @@ fn the_chain_of_a_resource_is_searched(rt: HostRuntime) -> Result<(), Failed> {
         ("t", &["/apps/html.html", "/libs/u/html.html"], ""),
     ];
     for (kind, scripts, want) in cases {
-        assert_eq!(rt; page(rt.alloc(), kind, scripts)?.text(), *want);
+        assert_eq!(rt; page(rt.alloc(), seeds, kind, scripts)?.text(), *want);
     }
     Ok(())
 }

@@ -2,6 +2,8 @@ use crate::{TypeList, TypeName, chain, place_of};
 use resource_tree::{Tree, TreeFault};
 use sp_base::{NoMemory, Path, PathFault, TextBuf, Value, seg_ok};
 use std::alloc::{AllocError, Global};
+use std::hash::RandomState;
+use std::io;
 
 /// A refusal, or out of memory, where a test expects none.
 #[derive(Debug, Drop)]
@@ -21,6 +23,12 @@ impl From<PathFault> for Failed {
 
 impl From<NoMemory> for Failed {
     fn from(_fault: NoMemory) -> Failed {
+        Failed
+    }
+}
+
+impl From<io::Error> for Failed {
+    fn from(_fault: io::Error) -> Failed {
         Failed
     }
 }
@@ -71,8 +79,8 @@ fn put(alloc: Global, tree: &mut Tree, node: &str) -> Result<(), Failed> {
 }
 
 // A tree of nodes, with a semicolon between them.
-fn tree_of(alloc: Global, nodes: &str) -> Result<Tree, Failed> {
-    let mut tree = Tree::new(alloc)?;
+fn tree_of(alloc: Global, seeds: RandomState, nodes: &str) -> Result<Tree, Failed> {
+    let mut tree = Tree::new(alloc, seeds)?;
     for node in nodes.split("; ") {
         put(alloc, &mut tree, node)?;
     }
@@ -146,8 +154,9 @@ const CHAINS: &[(&str, &str)] = &[
 
 #[test]
 fn types_stand_nearest_first(rt: HostRuntime) -> Result<(), Failed> {
+    let seeds = RandomState::new(&rt)?;
     for (nodes, want) in CHAINS {
-        let tree = tree_of(rt.alloc(), nodes)?;
+        let tree = tree_of(rt.alloc(), seeds, nodes)?;
         let types = chain_of(rt.alloc(), &tree)?;
         assert_eq!(rt; shown(rt.alloc(), &types)?.as_str(), *want);
     }
@@ -155,8 +164,8 @@ fn types_stand_nearest_first(rt: HostRuntime) -> Result<(), Failed> {
 }
 
 // A resource, and types of which each stands above the one before.
-fn tower(alloc: Global, height: u32) -> Result<Tree, Failed> {
-    let mut tree = tree_of(alloc, "/r type t0")?;
+fn tower(alloc: Global, seeds: RandomState, height: u32) -> Result<Tree, Failed> {
+    let mut tree = tree_of(alloc, seeds, "/r type t0")?;
     for level in 0..height {
         let node = format!(in alloc; "/libs/t{level} super t{}", level + 1)?;
         put(alloc, &mut tree, node.as_str())?;
@@ -166,9 +175,10 @@ fn tower(alloc: Global, height: u32) -> Result<Tree, Failed> {
 
 #[test]
 fn thirty_two_types_are_the_most(rt: HostRuntime) -> Result<(), Failed> {
+    let seeds = RandomState::new(&rt)?;
     let alloc = rt.alloc();
     for (height, want) in [(30, 32), (31, 33), (32, 33), (40, 33)] {
-        let tree = tower(alloc, height)?;
+        let tree = tower(alloc, seeds, height)?;
         let types = chain_of(alloc, &tree)?;
         assert_eq!(rt; types.len(), want);
     }
@@ -177,8 +187,13 @@ fn thirty_two_types_are_the_most(rt: HostRuntime) -> Result<(), Failed> {
 
 #[test]
 fn apps_stand_before_libs(rt: HostRuntime) -> Result<(), Failed> {
+    let seeds = RandomState::new(&rt)?;
     let alloc = rt.alloc();
-    let tree = tree_of(alloc, "/libs/a/b x y; /apps/c x y; /libs/c x y; /d x y")?;
+    let tree = tree_of(
+        alloc,
+        seeds,
+        "/libs/a/b x y; /apps/c x y; /libs/c x y; /d x y",
+    )?;
     for (name, want) in [
         ("a:b", "/libs/a/b"),
         ("c", "/apps/c"),

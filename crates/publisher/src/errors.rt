@@ -1,4 +1,3 @@
-// Answers of a media type and a body, and those of errors.
 ghost use Rattle.std.specs.Prelude.{◌≡◌, IfOk};
 ghost use Rattle.publisher.specs.Errors.{answer_of, phrase_of, error_answer};
 

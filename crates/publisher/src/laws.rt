@@ -12,7 +12,7 @@ ghost use Rattle.htl_text.specs.declared.piece.Piece.{Piece};
 ghost use Rattle.htl_text.specs.Spelling.{SpellsTemplate};
 ghost use Rattle.htl_text.specs.Template.{template_output as written_by};
 ghost use Rattle.publisher.specs.Errors.{error_answer};
-ghost use Rattle.publisher.specs.Rendering.{has_node, is_read, most_bytes, rendered, scope_of};
+ghost use Rattle.publisher.specs.Rendering.{has_node, is_read, rendered, scope_of};
 
 use htl_text::the_pieces_are_the_text;
 use script_rank::{one_script_is_first, search_finds_the_first};
@@ -25,7 +25,7 @@ pub fn reads_depend_on_the_path()
 
 /// A representation has at most 4,194,304 bytes.
 pub fn representations_fit()
-    ensures { (tree : Content) (ask : Ask) → (rendered tree ask).status ≡ 200 → length (rendered tree ask).body ≤ most_bytes }
+    ensures { (tree : Content) (ask : Ask) → (rendered tree ask).status ≡ 200 → length (rendered tree ask).body ≤ 4194304 }
 {}
 
 /// Every status has three digits at most.

@@ -1,4 +1,3 @@
-//! The publisher: a tree, the templates that were read of its scripts, and the answer to a request.
 ghost use Rattle.std.specs.Prelude.{◌≡◌, ◌≤◌, ◌+◌, ℕ, List, true, length, IfOk};
 ghost use Rattle.resource_tree.specs.Seen.{res_at};
 ghost use Rattle.url_split.specs.Split.{split_of};
@@ -102,8 +101,7 @@ impl Known for Publisher {
     }
 }
 
-// The number of segments of the deepest node at a path or above it. A node's parent is there, so none stands deeper along the path than
-// one segment below.
+// The number of segments of the deepest node at a path or above it: below it no node is the last of its line.
 fn deepest_node(alloc: Global, tree: &Tree, path: &Path) -> Mem<usize>
     ensures { IfOk result (λ n. (other : List (List ℕ)) → has_node tree.now other ≡ true → is_under path.now (parent_of other) ≡ true → length other ≤ n + 1) }
 {

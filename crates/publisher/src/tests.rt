@@ -1,4 +1,3 @@
-//! Answers compared whole, by tables of requests.
 use crate::{Publisher, error_answer};
 use resource_tree::{Tree, TreeFault};
 use sp_base::{Answer, Ask, ByteBuf, Mark, NoMemory, Path, TextBuf, TruthList, Value};
@@ -6,7 +5,7 @@ use std::alloc::{AllocError, Global};
 use std::hash::RandomState;
 use std::io;
 
-/// A refusal, or no memory, where a test expects none.
+/// A refusal or want of memory where a test expects none.
 #[derive(Debug, Drop)]
 struct Failed;
 
@@ -278,7 +277,7 @@ fn scripts_are_templates(rt: HostRuntime) -> Result<(), Failed> {
 }
 
 #[test]
-fn representations_have_4194304_bytes_at_most(rt: HostRuntime) -> Result<(), Failed> {
+fn pages_have_4194304_bytes_at_most(rt: HostRuntime) -> Result<(), Failed> {
     let alloc = rt.alloc();
     let seeds = RandomState::new(&rt)?;
     for (spare, status) in [(0usize, "200"), (1, "500")] {

@@ -139,7 +139,7 @@ broken_off tree acts n count k front mid gathered sink_failed sink p e cause = �
 broken_off tree acts n count k front mid gathered sink_memory sink p e cause = λ s same reads.
     let x = prefix_due tree acts n count k front mid gathered sink p e s same reads in (x.0, x.1, x.2, cause)
 
--- no more events are made since memory ran out, and what was gathered is written
+-- no more events are made for want of memory, and what was gathered is written
 pub played_stopped : (tree : Content) (acts : List Act) (n count : ℕ) (front : Front) (mid : Option (List ℕ)) (gathered : List ℕ) (ending : Ending)
     (sink : Told (List ℕ)) → Played tree acts n count front sink.old mid gathered
     → Tells NoMemory gathered ending (seen mid sink.new sink.faults_old sink.faults_new) → PlaysAll tree acts ending sink

@@ -25,7 +25,7 @@ some_words : (told : Option (List (List ℕ))) → (words : List (List ℕ)) × 
 some_words None = ([], tt)
 some_words (Some all) = (all, refl)
 
--- nothing was done, since memory ran out
+-- nothing was done, for want of memory
 pub words_unread : (told : Option (List (List ℕ))) (source sink : Told (List ℕ)) (status : ℕ) → status ≡ status_of NoMemory → sink.new ≡ sink.old
     → HasNotFailed sink → (words : List (List ℕ)) × AreWordsOf told words × (e : Ending) × (status ≡ status_of e)
     × Means (IsDue (record { words = words; source = source })) e sink

@@ -19,7 +19,7 @@ fn all_visible(text: &[u8]) -> bool
     text.iter().all(|b| *b >= 33 && *b <= 126)
 }
 
-fn is_target(text: &[u8]) -> bool
+fn is_word(text: &[u8]) -> bool
     ensures { result ≡ is_target text.now }
 {
     !text.is_empty() && all_visible(text)
@@ -41,7 +41,7 @@ fn read_act(alloc: Global, line: &[u8]) -> Mem<Option<Act>>
     ensures none { IfOk result (λ o. IfNone o ((act : Act) → IsAct act → line.now ≢ act_line act)) }
 {
     match line.strip_prefix(b"direct ") {
-        Some(target) if is_target(target) => {
+        Some(target) if is_word(target) => {
             let text = visible_text(alloc, target)?;
             Ok(Some(Act::Do(Step::Direct(text))))
         }

@@ -1,4 +1,4 @@
--- What a target says: the path that it names, and its query.
+-- What a target says (RFC 3986, sections 2.1, 3.3 and 3.4; RFC 9112, section 3.2.1): the path that it names, and its query.
 use Rattle.std.specs.Prelude.{◌+◌, ◌-◌, ◌==◌, ◌&&◌, ℕ, Bool, nat_lt, if◌then◌else◌, List, Option, Some, None, option_and_then, length, take, drop, position, slice_index}
 use Rattle.std.specs.List.{before_first}
 use Rattle.std.specs.Option.{option_map}

@@ -79,7 +79,7 @@ pub fn size_fault(long: Option<usize>, before: usize, count: usize) -> Option<Pa
     }
 }
 
-// Why segments of a path and the pieces of a text behind them are no path.
+// Why segments of a path and the pieces of a text after them are no path.
 pub fn fault_behind(before: usize, text: &str) -> Option<PathFault>
     requires { before ≤ 64 }
     ensures { result ≡ fault_behind before (pieces text.now) }
@@ -166,7 +166,7 @@ pub fn pieces_unmangled(alloc: Global, text: &str) -> Mem<String>
 }
 
 // What follows a mark such as `_jcr_`, where something does.
-fn behind<'a>(seg: &'a str, mark: &str) -> Option<&'a str>
+fn after_mark<'a>(seg: &'a str, mark: &str) -> Option<&'a str>
     ensures some { IfSome result (λ rest. (is_mangled mark.now seg.now ≡ true) × (rest.now ≡ drop (length mark.now) seg.now)) }
     ensures none { IfNone result (is_mangled mark.now seg.now ≡ false) }
 {
@@ -180,13 +180,13 @@ fn behind<'a>(seg: &'a str, mark: &str) -> Option<&'a str>
 fn add_unmangled(text: &mut String, seg: &str) -> Mem<()>
     ensures { OnOk result (string_bytes text.new ≡ string_bytes text.old ++ unmangled_seg seg.now) }
 {
-    if let Some(rest) = behind(seg, "_jcr_") {
+    if let Some(rest) = after_mark(seg, "_jcr_") {
         add_both(text, "jcr:", rest)
-    } else if let Some(rest) = behind(seg, "_sling_") {
+    } else if let Some(rest) = after_mark(seg, "_sling_") {
         add_both(text, "sling:", rest)
-    } else if let Some(rest) = behind(seg, "_nt_") {
+    } else if let Some(rest) = after_mark(seg, "_nt_") {
         add_both(text, "nt:", rest)
-    } else if let Some(rest) = behind(seg, "_cq_") {
+    } else if let Some(rest) = after_mark(seg, "_cq_") {
         add_both(text, "cq:", rest)
     } else {
         add_both(text, "", seg)

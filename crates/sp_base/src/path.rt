@@ -5,14 +5,14 @@ ghost use Rattle.std.specs.Ordering.{nat_cmp, eq_by_cmp};
 ghost use Rattle.std.proofs.lemmas.Cmp.{eq_by_cmp_equiv};
 ghost use Rattle.std.specs.Hash as fed;
 ghost use Rattle.sp_base.specs.PathExact.{fed_alike};
-ghost use Rattle.sp_base.specs.Paths.{seg_ok, path_of, child_of, join_of, parent_of, text_of, unmangled, is_under, is_path, fault_of, checked};
+ghost use Rattle.sp_base.specs.Paths.{seg_ok, path_of, child_of, join_of, parent_of, text_of, unmangled, mangled_of, is_under, is_path, fault_of, checked};
 ghost use Rattle.sp_base.specs.PathTexts.{segs_in, spelled};
 ghost use Rattle.sp_base.specs.declared.path.PathFault.TheVariants.{NoMemory as no_memory};
 
 use crate::order::text_order;
 use crate::segments::{
-    behind_slash, fault_behind, first_pieces, glued, piece_at, pieces_unmangled, size_fault,
-    slashes, text_under,
+    behind_slash, fault_behind, fault_in, first_pieces, glued, piece_at, pieces_mangled,
+    pieces_unmangled, size_fault, slashes, text_under,
 };
 use crate::{Mem, NoMemory, TextBuf};
 use std::alloc::{AllocError, AllocFailed, Global};
@@ -160,6 +160,21 @@ impl Path {
         }
     }
 
+    /// The path with each segment `P:Q` written `_P_Q`, where P is jcr, sling, nt or cq and Q is not empty, as in URLs. A segment of
+    /// 200 bytes grows too long.
+    pub fn mangled(&self, alloc: Global) -> Result<Path, PathFault>
+        ensures ok { IfOk result (λ p. mangled_of self.now ≡ Ok p) }
+        ensures err { IfErr result (λ e. e ≢ PathFault.NoMemory → mangled_of self.now ≡ Err e) }
+    {
+        match behind_slash(self.text.as_str()) {
+            Some(rest) => {
+                let text = pieces_mangled(alloc, rest)?;
+                made(fault_in(text.as_str()), text)
+            }
+            None => Ok(Path::root(alloc)),
+        }
+    }
+
     pub fn duplicate(&self, alloc: Global) -> Mem<Path>
         ensures { IfOk result (λ p. p ≡ self.now) }
     {
@@ -186,8 +201,8 @@ impl Path {
         }
     }
 
-    // A slash before each segment: the text, but empty for the root.
-    pub(crate) fn spelling(&self) -> &str
+    /// A slash before each segment: the text, but empty for the root.
+    pub fn spelling(&self) -> &str
         ensures spelled { result.now ≡ spelled self.now }
         ensures segments { segs_in result.now ≡ self.now }
     {

@@ -6,3 +6,4 @@ pub mod PathOrder
 pub mod PathFaults
 pub mod PathParts
 pub mod PathPrefixes
+pub mod MangledLemmas

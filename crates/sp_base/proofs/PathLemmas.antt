@@ -242,13 +242,13 @@ IfErr-from (Ok x) h = tt
 IfErr-from (Err e) h = h e refl
 
 -- unmangling keeps a path a path
-lacks-drop : (n : ℕ) (seg : List ℕ) → has_slash seg ≡ false → has_slash (drop n seg) ≡ false
+pub lacks-drop : (n : ℕ) (seg : List ℕ) → has_slash seg ≡ false → has_slash (drop n seg) ≡ false
 lacks-drop zero [] h = refl
 lacks-drop (suc n) [] h = refl
 lacks-drop zero (b ∷ seg) h = h
 lacks-drop (suc n) (b ∷ seg) h = lacks-drop n seg (or_second _ _ h)
 
-lacks-append : (a b : List ℕ) → has_slash a ≡ false → has_slash b ≡ false → has_slash (a ++ b) ≡ false
+pub lacks-append : (a b : List ℕ) → has_slash a ≡ false → has_slash b ≡ false → has_slash (a ++ b) ≡ false
 lacks-append [] b h k = k
 lacks-append (x ∷ a) b h k = ap (λ t. t || has_slash (a ++ b)) (or_first _ _ h) ∙ lacks-append a b (or_second _ _ h) k
 

@@ -1,15 +1,16 @@
 -- The order of two paths, and whether one is under the other, read off their texts.
-use Rattle.std.proofs.Common.{ℕ, Bool, true, false, cond, ◌&&◌, List, [], ◌∷◌, ◌==◌, length, drop, take, nat_eq, refl, sym, ◌∙◌, ap, ◌≡◌, ◌≢◌, ◌+◌, ◌<◌, ◌≤◌, arith, get_or, Ordering, min, ◌-◌}
+use Rattle.std.proofs.Common.{ℕ, Bool, T, true, false, cond, ◌&&◌, List, [], ◌∷◌, ◌==◌, length, drop, take, nat_eq, refl, sym, ◌∙◌, ap, ◌≡◌, ◌≢◌, ◌+◌, ◌<◌, ◌≤◌, arith, get_or, Ordering, min, ◌-◌}
 use Rattle.std.proofs.lemmas.Bool.Decides.{nat_tests}
 use Rattle.std.proofs.lemmas.List.{at_drop_more, length-drop}
 use Rattle.std.proofs.lemmas.List.Splits.{length-slice_split}
 use Rattle.std.specs.Cmp.Lexicographic.{slice_cmp, pointwise}
-use Rattle.std.specs.List.{onto_first, starts_with}
+use Rattle.std.specs.List.{list_all, onto_first, starts_with}
 use Rattle.std.specs.Ordering.{nat_cmp, ordering_then}
 use Rattle.std.specs.declared.cmp.Ordering.TheVariants.{Less, Equal, Greater}
 use Rattle.sp_base.specs.Paths.{pieces, by_path, is_under}
 use Rattle.sp_base.specs.PathTexts.{segs_in, spelled, text_order, byte_order, ends_segment, text_under}
-use Rattle.sp_base.proofs.PathText.{pieces_of}
+use Rattle.sp_base.proofs.PathLemmas.{lacks_slash}
+use Rattle.sp_base.proofs.PathText.{pieces_of, pieces-spelled}
 
 some_piece : (text : List ℕ) → 0 < length (pieces text)
 some_piece text = omega (arith, length-slice_split (λ b. b == 47) text)
@@ -108,6 +109,12 @@ pieces_under (x ∷ a) (y ∷ b) =
 pub paths_under : (a b : List ℕ) → spelled (segs_in a) ≡ a → spelled (segs_in b) ≡ b → text_under a b ≡ is_under (segs_in a) (segs_in b)
 paths_under a b e f =
     sym (pieces_under a b) ∙ ap (λ parts. starts_with (pointwise nat_eq) parts (pieces b)) (pieces_of a e) ∙ ap (λ parts. starts_with (pointwise nat_eq) ([] ∷ segs_in a) parts) (pieces_of b f)
+
+-- and so for segments without a slash
+pub segments_under : (path other : List (List ℕ)) → T (list_all lacks_slash path) → T (list_all lacks_slash other) → text_under (spelled path) (spelled other) ≡ is_under path other
+segments_under path other h k =
+    sym (pieces_under (spelled path) (spelled other)) ∙ ap (λ parts. starts_with (pointwise nat_eq) parts (pieces (spelled other))) (pieces-spelled path h)
+    ∙ ap (λ parts. starts_with (pointwise nat_eq) ([] ∷ path) parts) (pieces-spelled other k)
 
 -- the order of what is left of two texts
 pub order_more : (a b : List ℕ) (n : ℕ) → n < length a → n < length b → get_or a n 0 ≡ get_or b n 0 → text_order (drop (n + 1) a) (drop (n + 1) b) ≡ text_order (drop n a) (drop n b)

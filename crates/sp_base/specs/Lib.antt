@@ -5,3 +5,4 @@ pub mod Paths
 pub mod PathTexts
 pub mod Typed
 pub mod PathExact
+pub mod Fields

@@ -1,20 +1,24 @@
--- A path's text in memory, and how its order and its ancestors are read off it. Only proofs and private functions need these.
-use Rattle.std.specs.Prelude.{◌≡◌, ◌==◌, ◌&&◌, ◌+◌, IsTrue, true, ℕ, Bool, nat_eq, if◌then◌else◌, List, [], ◌∷◌, Option, Some, drop, length, flat_map}
-use Rattle.std.specs.List.{list_any, position_from, starts_with}
+-- A path's text in memory, and how its order and its ancestors are read off it.
+use Rattle.std.specs.Prelude.{◌≡◌, ◌==◌, ◌&&◌, ◌+◌, IsTrue, true, ℕ, Bool, nat_eq, not, if◌then◌else◌, List, [], ◌∷◌, Option, Some, drop, length, flat_map}
+use Rattle.std.specs.List.{list_any, list_all, position_from, starts_with}
 use Rattle.std.specs.Ordering.{nat_cmp}
 use Rattle.std.specs.declared.cmp.Ordering.{Ordering}
 use Rattle.std.specs.declared.cmp.Ordering.TheVariants.{Less, Equal, Greater}
 use Rattle.sp_base.specs.declared.path.PathFault.{PathFault}
 use Rattle.sp_base.specs.declared.path.PathFault.TheVariants.{EmptySegment, DotSegment}
-use Rattle.sp_base.specs.Paths.{is_empty, is_dots, is_long, is_path, pieces, size_fault}
+use Rattle.sp_base.specs.Paths.{is_empty, is_dots, is_long, has_slash, is_path, pieces, size_fault}
 
 -- why segments of a path and pieces after them are no path
-abbrev pub fault_behind : ℕ → List (List ℕ) → Option PathFault
-fault_behind before parts = if list_any is_empty parts then Some EmptySegment else (if list_any is_dots parts then Some DotSegment else size_fault (position_from is_long before parts) (before + length parts))
+abbrev pub fault_after : ℕ → List (List ℕ) → Option PathFault
+fault_after before parts = if list_any is_empty parts then Some EmptySegment else (if list_any is_dots parts then Some DotSegment else size_fault (position_from is_long before parts) (before + length parts))
 
 -- a slash before each segment: a path's text in memory, empty for the root
 abbrev pub spelled : List (List ℕ) → List ℕ
 spelled segs = flat_map (λ s. 47 ∷ s) segs
+
+-- segments without a slash, which a text with a slash before each keeps apart
+abbrev pub lack_slashes : List (List ℕ) → Bool
+lack_slashes segs = list_all (λ seg. not (has_slash seg)) segs
 
 -- the segments of such a text: the pieces after its first slash
 unfoldable pub segs_in : List ℕ → List (List ℕ)

@@ -107,3 +107,24 @@ unmangled_seg seg = if is_mangled (codes "_jcr_") seg then unmangled_by (codes "
 
 abbrev pub unmangled : List (List ℕ) → List (List ℕ)
 unmangled segs = map unmangled_seg segs
+
+-- the segment begins with a namespace prefix such as `jcr:`, and goes on
+abbrev pub is_namespaced : List ℕ → List ℕ → Bool
+is_namespaced prefix seg = starts_with nat_eq seg prefix && nat_lt (length prefix) (length seg)
+
+abbrev pub mangled_by : List ℕ → List ℕ → List ℕ → List ℕ
+mangled_by prefix mark seg = mark ++ drop (length prefix) seg
+
+-- the segment with its namespace prefix as it stands in URLs: `jcr:content` is `_jcr_content`
+abbrev pub mangled_seg : List ℕ → List ℕ
+mangled_seg seg = if is_namespaced (codes "jcr:") seg then mangled_by (codes "jcr:") (codes "_jcr_") seg
+    else (if is_namespaced (codes "sling:") seg then mangled_by (codes "sling:") (codes "_sling_") seg
+    else (if is_namespaced (codes "nt:") seg then mangled_by (codes "nt:") (codes "_nt_") seg
+    else (if is_namespaced (codes "cq:") seg then mangled_by (codes "cq:") (codes "_cq_") seg else seg)))
+
+abbrev pub mangled : List (List ℕ) → List (List ℕ)
+mangled segs = map mangled_seg segs
+
+-- the mangled path: a segment of 200 bytes may become too long
+abbrev pub mangled_of : List (List ℕ) → Result (List (List ℕ)) PathFault
+mangled_of segs = checked (mangled segs)

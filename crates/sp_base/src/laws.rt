@@ -1,6 +1,7 @@
 //! How paths and their texts belong together: laws of the definitions, on functions that do nothing.
-ghost use Rattle.std.specs.Prelude.{◌≡◌, ◌<◌, ◌≤◌, ℕ, List, IsTrue, true, Ok, length, take, slice_index};
-ghost use Rattle.sp_base.specs.Paths.{is_path, is_under, parent_of, path_of, text_of};
+ghost use Rattle.std.specs.Prelude.{◌≡◌, ◌<◌, ◌≤◌, ℕ, List, IsTrue, true, Ok, ◌∷◌, length, take, slice_index};
+ghost use Rattle.sp_base.specs.Paths.{is_path, is_under, parent_of, path_of, pieces, text_of, mangled, unmangled};
+ghost use Rattle.sp_base.specs.PathTexts.{lack_slashes, spelled, text_under};
 
 /// The text of a path reads as that path, and a text that reads as a path is the path's text.
 pub fn a_path_and_its_text()
@@ -16,4 +17,22 @@ pub fn the_prefixes_of_a_path()
     ensures within { (path read : List (List ℕ)) (n most : ℕ) → IsTrue (is_path path) → n ≤ length (text_of path) → path_of (take n (text_of path)) ≡ Ok read → length read ≤ most → n ≤ length (text_of (take most path)) }
     ensures first { (path : List (List ℕ)) (n : ℕ) → 0 < n → text_of (take n path) ≡ take (length (text_of (take n path))) (text_of path) }
     ensures slash { (path : List (List ℕ)) (n : ℕ) → 0 < n → length (text_of (take n path)) < length (text_of path) → slice_index (text_of path) (length (text_of (take n path))) ≡ 47 }
+{}
+
+/// Mangling and unmangling undo each other: of a path that is unmangled, unmangling gives its mangled form back, and however a
+/// path is spelled its mangled form is one.
+pub fn mangling_and_unmangling()
+    ensures back { (path : List (List ℕ)) → unmangled (mangled path) ≡ unmangled path }
+    ensures one { (path : List (List ℕ)) → mangled (unmangled path) ≡ mangled path }
+    ensures again { (path : List (List ℕ)) → mangled (mangled path) ≡ mangled path }
+{}
+
+/// Whether a path is under another is read off their texts. The pieces of any text may stand for segments, as a page's file after its
+/// folder.
+pub fn segments_and_their_spelling()
+    ensures under { (path other : List (List ℕ)) → IsTrue (lack_slashes path) → IsTrue (lack_slashes other) → text_under (spelled path) (spelled other) ≡ is_under path other }
+    ensures path { (path : List (List ℕ)) → IsTrue (is_path path) → IsTrue (lack_slashes path) }
+    ensures mangled { (path : List (List ℕ)) → IsTrue (lack_slashes path) → IsTrue (lack_slashes (mangled path)) }
+    ensures pieces { (text : List ℕ) → IsTrue (lack_slashes (pieces text)) }
+    ensures spelled { (text : List ℕ) → spelled (pieces text) ≡ 47 ∷ text }
 {}

@@ -18,14 +18,17 @@ mod text;
 mod typed;
 mod value;
 
-pub use answer::{Answer, Ask, Mark};
+pub use answer::{Answer, Ask, Mark, Req};
 pub use bytes::ByteBuf;
 pub use hint::{Hint, HintKind, ValueFault};
-pub use items::{CallList, Items, LongList, NameList, PathList, TextList, TruthList};
-pub use laws::{a_path_and_its_text, the_prefixes_of_a_path};
+pub use items::{CallList, HeadList, Items, LongList, NameList, PathList, TextList, TruthList};
+pub use laws::{
+    a_path_and_its_text, mangling_and_unmangling, segments_and_their_spelling,
+    the_prefixes_of_a_path,
+};
 pub use memory::{Mem, NoMemory};
 pub use path::{Path, PathFault};
 pub use property_list::PropList;
-pub use segments::{LONGEST_SEGMENT, MOST_SEGMENTS, seg_ok};
+pub use segments::{LONGEST_SEGMENT, MOST_SEGMENTS, mangled_parts, seg_ok};
 pub use text::TextBuf;
 pub use value::Value;

@@ -6,14 +6,14 @@ ghost use Rattle.std.specs.Ordering.{nat_cmp, eq_by_cmp};
 ghost use Rattle.std.proofs.lemmas.Cmp.{eq_by_cmp_equiv};
 ghost use Rattle.std.specs.Hash as fed;
 ghost use Rattle.sp_base.specs.PathExact.{fed_alike};
-ghost use Rattle.sp_base.specs.Paths.{seg_ok, path_of, child_of, join_of, parent_of, text_of, unmangled, is_under, is_path, fault_of, checked};
+ghost use Rattle.sp_base.specs.Paths.{seg_ok, path_of, child_of, join_of, parent_of, text_of, unmangled, mangled_of, is_under, is_path, fault_of, checked};
 ghost use Rattle.sp_base.specs.PathTexts.{segs_in, spelled};
 ghost use Rattle.sp_base.specs.declared.path.PathFault.TheVariants.{NoMemory as no_memory};
 
 use crate::order::text_order;
 use crate::segments::{
-    behind_slash, fault_behind, first_pieces, glued, piece_at, pieces_unmangled, size_fault,
-    slashes, text_under,
+    after_slash, fault_after, fault_in, first_pieces, glued, piece_at, pieces_mangled,
+    pieces_unmangled, size_fault, slashes, text_under,
 };
 use crate::{Mem, NoMemory, TextBuf};
 use std::alloc::{AllocError, AllocFailed, Global};
@@ -95,13 +95,13 @@ impl Path {
         ensures ok { IfOk result (λ p. path_of text.now ≡ Ok p) }
         ensures err { IfErr result (λ e. e ≢ PathFault.NoMemory → path_of text.now ≡ Err e) }
     {
-        let Some(rest) = behind_slash(text) else {
+        let Some(rest) = after_slash(text) else {
             return Err(PathFault::NotAbsolute);
         };
         if rest.is_empty() {
             return Ok(Path::root(alloc));
         }
-        made(fault_behind(0, rest), String::from_str(alloc, text)?)
+        made(fault_after(0, rest), String::from_str(alloc, text)?)
     }
 
     /// The path with a name after it. A name with a slash in it adds a segment for each of its pieces.
@@ -113,7 +113,7 @@ impl Path {
         ensures whole { IfOk result (λ p. IsTrue (seg_ok name.now) → p ≡ self.now ++ name.now ∷ []) }
         ensures fits { IfErr result (λ e. IsTrue (seg_ok name.now) → length self.now < 64 → e ≡ PathFault.NoMemory) }
     {
-        let fault = fault_behind(self.depth(), name);
+        let fault = fault_after(self.depth(), name);
         made(fault, glued(alloc, self.text.as_str(), "/", name)?)
     }
 
@@ -140,7 +140,7 @@ impl Path {
     pub fn first(&self, alloc: Global, n: usize) -> Mem<Path>
         ensures { IfOk result (λ p. p ≡ take n self.now) }
     {
-        match behind_slash(self.text.as_str()) {
+        match after_slash(self.text.as_str()) {
             Some(rest) => Ok(Path {
                 text: first_pieces(alloc, rest, n)?,
             }),
@@ -153,10 +153,25 @@ impl Path {
     pub fn unmangled(&self, alloc: Global) -> Mem<Path>
         ensures { IfOk result (λ p. p ≡ unmangled self.now) }
     {
-        match behind_slash(self.text.as_str()) {
+        match after_slash(self.text.as_str()) {
             Some(rest) => Ok(Path {
                 text: pieces_unmangled(alloc, rest)?,
             }),
+            None => Ok(Path::root(alloc)),
+        }
+    }
+
+    /// The path with each segment `P:Q` written `_P_Q`, where P is jcr, sling, nt or cq and Q is not empty, as in URLs. A segment of
+    /// 200 bytes grows too long.
+    pub fn mangled(&self, alloc: Global) -> Result<Path, PathFault>
+        ensures ok { IfOk result (λ p. mangled_of self.now ≡ Ok p) }
+        ensures err { IfErr result (λ e. e ≢ PathFault.NoMemory → mangled_of self.now ≡ Err e) }
+    {
+        match after_slash(self.text.as_str()) {
+            Some(rest) => {
+                let text = pieces_mangled(alloc, rest)?;
+                made(fault_in(text.as_str()), text)
+            }
             None => Ok(Path::root(alloc)),
         }
     }
@@ -187,8 +202,8 @@ impl Path {
         }
     }
 
-    // A slash before each segment: the text, but empty for the root.
-    pub(crate) fn spelling(&self) -> &str
+    /// A slash before each segment: the text, but empty for the root.
+    pub fn spelling(&self) -> &str
         ensures spelled { result.now ≡ spelled self.now }
         ensures segments { segs_in result.now ≡ self.now }
     {
@@ -214,7 +229,7 @@ impl Path {
     pub fn seg(&self, n: usize) -> Option<&str>
         ensures { option_copied result ≡ slice_get self.now n }
     {
-        match behind_slash(self.text.as_str()) {
+        match after_slash(self.text.as_str()) {
             Some(rest) => piece_at(rest, n),
             None => None,
         }

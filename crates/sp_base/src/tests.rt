@@ -229,3 +229,31 @@ fn makes_relatives(rt: HostRuntime) -> Result<(), Fail> {
     }
     Ok(())
 }
+
+#[test]
+fn mangles_paths(rt: HostRuntime) -> Result<(), Fail> {
+    let alloc = rt.alloc();
+    let table = [
+        ("/", "/"),
+        ("/a/jcr:content/sling:x", "/a/_jcr_content/_sling_x"),
+        ("/nt:a/cq:b:c", "/_nt_a/_cq_b:c"),
+        ("/jcr:/x:y/_jcr_a", "/jcr:/x:y/_jcr_a"),
+    ];
+    for (text, mangled) in table {
+        let path = Path::read(alloc, text)?.mangled(alloc)?;
+        assert_eq!(rt; path.as_text(), mangled);
+    }
+    Ok(())
+}
+
+#[test]
+fn keeps_fields(rt: HostRuntime) -> Result<(), Fail> {
+    let alloc = rt.alloc();
+    let mut fields = HeadList::new(alloc);
+    fields.push((TextBuf::of(alloc, "host")?, ByteBuf::of(alloc, b"a")?))?;
+    fields.push((TextBuf::of(alloc, "accept")?, ByteBuf::of(alloc, b"b")?))?;
+    fields.push((TextBuf::of(alloc, "accept")?, ByteBuf::of(alloc, b"c")?))?;
+    assert_eq!(rt; fields.field("accept").unwrap_or(b""), b"b".as_slice());
+    assert!(rt; fields.field("Accept").is_none());
+    Ok(())
+}

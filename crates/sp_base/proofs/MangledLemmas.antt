@@ -1,0 +1,159 @@
+-- Mangling a segment and unmangling it, by the namespace prefix that it begins with.
+use Rattle.std.proofs.Common.{ℕ, Bool, true, false, cond, codes, T, List, [], ◌∷◌, ◌++◌, ◌&&◌, ◌==◌, length, drop, map, take, Bor, nat_lt, refl, sym, ◌∙◌, ap, subst, ◌≡◌, arith, length-append, nat_eq}
+use Rattle.std.proofs.lemmas.Bool.Decides.{nat_tests}
+use Rattle.std.proofs.lemmas.List.{take-append-drop, map-append}
+use Rattle.std.specs.Cmp.Lexicographic.{bytes_decides}
+use Rattle.std.specs.List.{list_all, starts_with}
+use Rattle.sp_base.specs.Paths.{is_mangled, is_namespaced, mangled_seg, mangled, unmangled_seg, unmangled, pieces, is_path}
+use Rattle.sp_base.specs.PathTexts.{spelled, segs_in}
+use Rattle.sp_base.proofs.PathLemmas.{both, first, second, lacks_slash, mangled_on, pieces_lack}
+use Rattle.sp_base.proofs.PathText.{spelled-more, pieces-spelled}
+
+and_first : (a b : Bool) → (a && b) ≡ true → a ≡ true
+and_first true b e = refl
+and_first false b e = e
+
+and_second : (a b : Bool) → (a && b) ≡ true → b ≡ true
+and_second true b e = e
+and_second false b e = absurd (subst T (sym e) tt)
+
+-- a segment with a mark is the mark and one byte or more
+parts_after : (mark seg : List ℕ) (rest : List ℕ) → seg ≡ mark ++ rest → nat_lt (length mark) (length seg) ≡ true → (x : ℕ) × (more : List ℕ) × (seg ≡ mark ++ x ∷ more)
+parts_after mark seg [] e long =
+    let size : length seg ≡ length mark = ap length e ∙ length-append mark [] ∙ omega arith in
+    absurd (grind (arith, nat_tests))
+parts_after mark seg (x ∷ more) e long = (x, more, e)
+
+split_mark : (mark seg : List ℕ) → is_mangled mark seg ≡ true → (x : ℕ) × (more : List ℕ) × (seg ≡ mark ++ x ∷ more)
+split_mark mark seg h =
+    let front : mark ≡ take (length mark) seg = (bytes_decides mark (take (length mark) seg)).0 (and_first (starts_with nat_eq seg mark) _ h) in
+    parts_after mark seg (drop (length mark) seg) (sym (take-append-drop (length mark) seg) ∙ ap (λ (t : List ℕ). t ++ drop (length mark) seg) (sym front))
+    (and_second (starts_with nat_eq seg mark) _ h)
+
+then_is : {A : Type 0} (b : Bool) (x y : A) → b ≡ true → cond b x y ≡ x
+then_is b x y e = ap (λ t. cond t x y) e
+
+else_is : {A : Type 0} (b : Bool) (x y : A) → b ≡ false → cond b x y ≡ y
+else_is b x y e = ap (λ t. cond t x y) e
+
+some_left : (x : ℕ) (more : List ℕ) → (length (x ∷ more) == 0) ≡ false
+some_left x more = grind (arith, nat_tests)
+
+pub jcr_mangled : (x : ℕ) (more : List ℕ) → mangled_seg (codes "jcr:" ++ x ∷ more) ≡ codes "_jcr_" ++ x ∷ more
+jcr_mangled x more = then_is _ _ _ (mangled_on (codes "jcr:") (codes "jcr:" ++ x ∷ more) refl (some_left x more))
+
+pub sling_mangled : (x : ℕ) (more : List ℕ) → mangled_seg (codes "sling:" ++ x ∷ more) ≡ codes "_sling_" ++ x ∷ more
+sling_mangled x more = then_is _ _ _ (mangled_on (codes "sling:") (codes "sling:" ++ x ∷ more) refl (some_left x more))
+
+pub nt_mangled : (x : ℕ) (more : List ℕ) → mangled_seg (codes "nt:" ++ x ∷ more) ≡ codes "_nt_" ++ x ∷ more
+nt_mangled x more = then_is _ _ _ (mangled_on (codes "nt:") (codes "nt:" ++ x ∷ more) refl (some_left x more))
+
+pub cq_mangled : (x : ℕ) (more : List ℕ) → mangled_seg (codes "cq:" ++ x ∷ more) ≡ codes "_cq_" ++ x ∷ more
+cq_mangled x more = then_is _ _ _ (mangled_on (codes "cq:") (codes "cq:" ++ x ∷ more) refl (some_left x more))
+
+jcr_back : (x : ℕ) (more : List ℕ) → unmangled_seg (codes "_jcr_" ++ x ∷ more) ≡ codes "jcr:" ++ x ∷ more
+jcr_back x more = then_is _ _ _ (mangled_on (codes "_jcr_") (codes "_jcr_" ++ x ∷ more) refl (some_left x more))
+
+sling_back : (x : ℕ) (more : List ℕ) → unmangled_seg (codes "_sling_" ++ x ∷ more) ≡ codes "sling:" ++ x ∷ more
+sling_back x more = then_is _ _ _ (mangled_on (codes "_sling_") (codes "_sling_" ++ x ∷ more) refl (some_left x more))
+
+nt_back : (x : ℕ) (more : List ℕ) → unmangled_seg (codes "_nt_" ++ x ∷ more) ≡ codes "nt:" ++ x ∷ more
+nt_back x more = then_is _ _ _ (mangled_on (codes "_nt_") (codes "_nt_" ++ x ∷ more) refl (some_left x more))
+
+cq_back : (x : ℕ) (more : List ℕ) → unmangled_seg (codes "_cq_" ++ x ∷ more) ≡ codes "cq:" ++ x ∷ more
+cq_back x more = then_is _ _ _ (mangled_on (codes "_cq_") (codes "_cq_" ++ x ∷ more) refl (some_left x more))
+
+four_false : {A : Type 0} (a b c d : Bool) (v w x y z : A) → a ≡ false → b ≡ false → c ≡ false → d ≡ false → cond a v (cond b w (cond c x (cond d y z))) ≡ z
+four_false a b c d v w x y z e f g h = else_is a v (cond b w (cond c x (cond d y z))) e ∙ else_is b w (cond c x (cond d y z)) f ∙ else_is c x (cond d y z) g ∙ else_is d y z h
+
+-- a segment begins with one of the prefixes and goes on, or stays as it is
+pub mangled_cases : (P : List ℕ → Type 0) (seg : List ℕ) → ((x : ℕ) (more : List ℕ) → P (codes "jcr:" ++ x ∷ more)) → ((x : ℕ) (more : List ℕ) → P (codes "sling:" ++ x ∷ more))
+    → ((x : ℕ) (more : List ℕ) → P (codes "nt:" ++ x ∷ more)) → ((x : ℕ) (more : List ℕ) → P (codes "cq:" ++ x ∷ more)) → (mangled_seg seg ≡ seg → P seg) → P seg
+mangled_cases P seg jcr sling nt cq plain =
+    elim (is_namespaced (codes "jcr:") seg) as (λ t. is_namespaced (codes "jcr:") seg ≡ t → P seg) [
+      | true ↦ λ e. let w = split_mark (codes "jcr:") seg e in subst P (sym w.2) (jcr w.0 w.1)
+      | false ↦ λ e. elim (is_namespaced (codes "sling:") seg) as (λ t. is_namespaced (codes "sling:") seg ≡ t → P seg) [
+        | true ↦ λ f. let w = split_mark (codes "sling:") seg f in subst P (sym w.2) (sling w.0 w.1)
+        | false ↦ λ f. elim (is_namespaced (codes "nt:") seg) as (λ t. is_namespaced (codes "nt:") seg ≡ t → P seg) [
+          | true ↦ λ g. let w = split_mark (codes "nt:") seg g in subst P (sym w.2) (nt w.0 w.1)
+          | false ↦ λ g. elim (is_namespaced (codes "cq:") seg) as (λ t. is_namespaced (codes "cq:") seg ≡ t → P seg) [
+            | true ↦ λ h. let w = split_mark (codes "cq:") seg h in subst P (sym w.2) (cq w.0 w.1)
+            | false ↦ λ h. plain (four_false _ _ _ _ _ _ _ _ _ e f g h)
+          ] refl
+        ] refl
+      ] refl
+    ] refl
+
+-- and so for a segment as URLs spell it
+pub unmangled_cases : (P : List ℕ → Type 0) (seg : List ℕ) → ((x : ℕ) (more : List ℕ) → P (codes "_jcr_" ++ x ∷ more)) → ((x : ℕ) (more : List ℕ) → P (codes "_sling_" ++ x ∷ more))
+    → ((x : ℕ) (more : List ℕ) → P (codes "_nt_" ++ x ∷ more)) → ((x : ℕ) (more : List ℕ) → P (codes "_cq_" ++ x ∷ more)) → (unmangled_seg seg ≡ seg → P seg) → P seg
+unmangled_cases P seg jcr sling nt cq plain =
+    elim (is_mangled (codes "_jcr_") seg) as (λ t. is_mangled (codes "_jcr_") seg ≡ t → P seg) [
+      | true ↦ λ e. let w = split_mark (codes "_jcr_") seg e in subst P (sym w.2) (jcr w.0 w.1)
+      | false ↦ λ e. elim (is_mangled (codes "_sling_") seg) as (λ t. is_mangled (codes "_sling_") seg ≡ t → P seg) [
+        | true ↦ λ f. let w = split_mark (codes "_sling_") seg f in subst P (sym w.2) (sling w.0 w.1)
+        | false ↦ λ f. elim (is_mangled (codes "_nt_") seg) as (λ t. is_mangled (codes "_nt_") seg ≡ t → P seg) [
+          | true ↦ λ g. let w = split_mark (codes "_nt_") seg g in subst P (sym w.2) (nt w.0 w.1)
+          | false ↦ λ g. elim (is_mangled (codes "_cq_") seg) as (λ t. is_mangled (codes "_cq_") seg ≡ t → P seg) [
+            | true ↦ λ h. let w = split_mark (codes "_cq_") seg h in subst P (sym w.2) (cq w.0 w.1)
+            | false ↦ λ h. plain (four_false _ _ _ _ _ _ _ _ _ e f g h)
+          ] refl
+        ] refl
+      ] refl
+    ] refl
+
+back_seg : (seg : List ℕ) → unmangled_seg (mangled_seg seg) ≡ unmangled_seg seg
+back_seg seg = mangled_cases (λ s. unmangled_seg (mangled_seg s) ≡ unmangled_seg s) seg
+    (λ x more. ap unmangled_seg (jcr_mangled x more) ∙ jcr_back x more) (λ x more. ap unmangled_seg (sling_mangled x more) ∙ sling_back x more)
+    (λ x more. ap unmangled_seg (nt_mangled x more) ∙ nt_back x more) (λ x more. ap unmangled_seg (cq_mangled x more) ∙ cq_back x more)
+    (λ e. ap unmangled_seg e)
+
+again_seg : (seg : List ℕ) → mangled_seg (mangled_seg seg) ≡ mangled_seg seg
+again_seg seg = mangled_cases (λ s. mangled_seg (mangled_seg s) ≡ mangled_seg s) seg
+    (λ x more. ap mangled_seg (jcr_mangled x more) ∙ sym (jcr_mangled x more)) (λ x more. ap mangled_seg (sling_mangled x more) ∙ sym (sling_mangled x more))
+    (λ x more. ap mangled_seg (nt_mangled x more) ∙ sym (nt_mangled x more)) (λ x more. ap mangled_seg (cq_mangled x more) ∙ sym (cq_mangled x more))
+    (λ e. ap mangled_seg e)
+
+one_seg : (seg : List ℕ) → mangled_seg (unmangled_seg seg) ≡ mangled_seg seg
+one_seg seg = unmangled_cases (λ s. mangled_seg (unmangled_seg s) ≡ mangled_seg s) seg
+    (λ x more. ap mangled_seg (jcr_back x more) ∙ jcr_mangled x more) (λ x more. ap mangled_seg (sling_back x more) ∙ sling_mangled x more)
+    (λ x more. ap mangled_seg (nt_back x more) ∙ nt_mangled x more) (λ x more. ap mangled_seg (cq_back x more) ∙ cq_mangled x more)
+    (λ e. ap mangled_seg e)
+
+pub back : (path : List (List ℕ)) → unmangled (mangled path) ≡ unmangled path
+back [] = refl
+back (seg ∷ path) = λ i. back_seg seg i ∷ back path i
+
+pub again : (path : List (List ℕ)) → mangled (mangled path) ≡ mangled path
+again [] = refl
+again (seg ∷ path) = λ i. again_seg seg i ∷ again path i
+
+pub one : (path : List (List ℕ)) → mangled (unmangled path) ≡ mangled path
+one [] = refl
+one (seg ∷ path) = λ i. one_seg seg i ∷ one path i
+
+-- a mangled segment has no slash
+seg_lacks : (seg : List ℕ) → T (lacks_slash seg) → T (lacks_slash (mangled_seg seg))
+seg_lacks seg = mangled_cases (λ s. T (lacks_slash s) → T (lacks_slash (mangled_seg s))) seg
+    (λ x more h. subst (λ (s : List ℕ). T (lacks_slash s)) (sym (jcr_mangled x more)) h) (λ x more h. subst (λ (s : List ℕ). T (lacks_slash s)) (sym (sling_mangled x more)) h)
+    (λ x more h. subst (λ (s : List ℕ). T (lacks_slash s)) (sym (nt_mangled x more)) h) (λ x more h. subst (λ (s : List ℕ). T (lacks_slash s)) (sym (cq_mangled x more)) h)
+    (λ e h. subst (λ (s : List ℕ). T (lacks_slash s)) (sym e) h)
+
+pub mangled_lacks : (segs : List (List ℕ)) → T (list_all lacks_slash segs) → T (list_all lacks_slash (mangled segs))
+mangled_lacks [] h = tt
+mangled_lacks (seg ∷ segs) h = both _ _ (seg_lacks seg (first _ _ h)) (mangled_lacks segs (second _ _ h))
+
+-- the segments of the mangled text
+pub mangled_in : (text rest : List ℕ) → text ≡ spelled (mangled (pieces rest)) → (segs_in text ≡ mangled (pieces rest)) × (spelled (segs_in text) ≡ text)
+unfolding segs_in
+mangled_in text rest e =
+    let same : segs_in text ≡ mangled (pieces rest) = ap segs_in e ∙ ap (drop 1) (pieces-spelled (mangled (pieces rest)) (mangled_lacks (pieces rest) (pieces_lack rest))) in
+    (same, ap spelled same ∙ sym e)
+
+-- one piece more
+pub mangled-push : (seen : List (Bor (List ℕ))) (piece : Bor (List ℕ)) (text more : List ℕ) → text ≡ spelled (mangled (map (λ s. s.now) seen)) → more ≡ (text ++ 47 ∷ []) ++ mangled_seg piece.now
+    → more ≡ spelled (mangled (map (λ s. s.now) (seen ++ piece ∷ [])))
+mangled-push seen piece text more e is =
+    let segs = map (λ s. s.now) seen in
+    is ∙ ap (λ front. (front ++ 47 ∷ []) ++ mangled_seg piece.now) e ∙ sym (spelled-more (mangled segs) (mangled_seg piece.now))
+    ∙ ap spelled (sym (ap mangled (map-append (λ s. s.now) seen (piece ∷ [])) ∙ map-append mangled_seg segs (piece.now ∷ [])))

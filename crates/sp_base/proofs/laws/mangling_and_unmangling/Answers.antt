@@ -1,0 +1,11 @@
+use Rattle.sp_base.proofs.MangledLemmas.{back, one, again}
+use Rattle.sp_base.proofs.laws.mangling_and_unmangling.Goals as goal
+
+pub returns-clause-back : goal.returns-clause-back
+returns-clause-back c = back
+
+pub returns-clause-one : goal.returns-clause-one
+returns-clause-one c = one
+
+pub returns-clause-again : goal.returns-clause-again
+returns-clause-again c = again

@@ -1,0 +1,20 @@
+use Rattle.sp_base.proofs.PathLemmas.{test_true, true_test, path_pieces, pieces_lack}
+use Rattle.sp_base.proofs.PathOrder.{segments_under}
+use Rattle.sp_base.proofs.PathText.{spelled-pieces}
+use Rattle.sp_base.proofs.MangledLemmas.{mangled_lacks}
+use Rattle.sp_base.proofs.laws.segments_and_their_spelling.Goals as goal
+
+pub returns-clause-under : goal.returns-clause-under
+returns-clause-under c = λ path other h k. segments_under path other (true_test _ h) (true_test _ k)
+
+pub returns-clause-path : goal.returns-clause-path
+returns-clause-path c = λ path h. test_true _ (path_pieces path h)
+
+pub returns-clause-mangled : goal.returns-clause-mangled
+returns-clause-mangled c = λ path h. test_true _ (mangled_lacks path (true_test _ h))
+
+pub returns-clause-pieces : goal.returns-clause-pieces
+returns-clause-pieces c = λ text. test_true _ (pieces_lack text)
+
+pub returns-clause-spelled : goal.returns-clause-spelled
+returns-clause-spelled c = spelled-pieces

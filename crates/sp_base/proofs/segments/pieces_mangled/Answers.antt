@@ -1,0 +1,21 @@
+use Rattle.std.proofs.Common.{lit<, ◌∙◌, ◌++◌, ◌∷◌, [], ap, string_bytes, List, ℕ}
+use Rattle.std.proofs.lemmas.Iterator.Consumers.{YieldsList-at, YieldsList-end}
+use Rattle.std.proofs.lemmas.Iterator.Splits.{YieldsList-from_str_split}
+use Rattle.sp_base.specs.Paths.{mangled}
+use Rattle.sp_base.specs.PathTexts.{spelled}
+use Rattle.sp_base.proofs.MangledLemmas.{mangled-push}
+use Rattle.sp_base.proofs.segments.pieces_mangled.Goals as goal
+
+pub loop-piece-preserved : goal.loop-piece-preserved
+loop-piece-preserved c =
+    mangled-push c.loop-piece.yielded c.in-Some.piece (string_bytes c.loop-piece.spelling) (string_bytes c.add_both.new.text) c.loop-piece.invariant
+    (c.in_ok-add_both.ensures ∙ ap (λ (front : List ℕ). front ++ (c.mangled_parts.result.0.now ++ c.mangled_parts.result.1.now)) c.in_ok-push_str.ensures.bytes
+    ∙ ap (λ (back : List ℕ). (string_bytes c.loop-piece.spelling ++ 47 ∷ []) ++ back) c.mangled_parts.ensures)
+
+pub returns : goal.returns
+returns c =
+    let seen = YieldsList-end
+    (YieldsList-at c.into_iter-piece-iterator.ensures.into_iter_gives
+    (YieldsList-from_str_split 47 c.args.text.now (lit< tt) c.split-piece-items.ensures.text c.split-piece-items.ensures.has_more c.split-piece-items.ensures.pattern))
+    c.loop-piece.yielded _ c.loop-piece.yielded_by _ _ c.in-None.is c.next.ensures.steps in
+    c.loop-piece.invariant ∙ ap (λ (segs : List (List ℕ)). spelled (mangled segs)) seen.0

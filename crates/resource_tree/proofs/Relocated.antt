@@ -1,6 +1,6 @@
 -- The content with a part of it at another path: by look-ups, and good.
-use Rattle.std.proofs.Common.{◌≡◌, ◌≢◌, ◌+◌, ◌≤◌, ◌||◌, ◌&&◌, ◌==◌, ℕ, Bool, true, false, cond, not, List, [], ◌∷◌, ◌++◌, map, length, refl, sym, ◌∙◌, ap, subst, Some, None, Option, ⊎_elim, ◌⊎◌, inl, inr, arith}
-use Rattle.std.specs.Prelude.{is_some, is_none, IsSome, IsTrue, option_map, unwrap_or, filter, nat_eq}
+use Rattle.std.proofs.Common.{◌≡◌, ◌≢◌, ◌+◌, ◌-◌, ◌≤◌, ◌||◌, ◌&&◌, ◌==◌, ℕ, Bool, true, false, cond, not, List, [], ◌∷◌, ◌++◌, map, length, refl, sym, ◌∙◌, ap, subst, Some, None, Option, ⊎_elim, ◌⊎◌, inl, inr, arith}
+use Rattle.std.specs.Prelude.{is_some, is_none, IsSome, IsTrue, option_map, unwrap_or, filter, nat_eq, slice_get}
 use Rattle.std.specs.Cmp.Lexicographic.{pointwise, nat_list_eq_equiv, same_text}
 use Rattle.std.specs.Option.{option_map_or}
 use Rattle.std.specs.List.{list_any}
@@ -11,6 +11,7 @@ use Rattle.std.proofs.lemmas.List.{length-map}
 use Rattle.std.proofs.lemmas.List.Filters.{length-filter_both}
 use Rattle.std.proofs.lemmas.List.Kept.{IsStrictlySortedBy-filter}
 use Rattle.std.proofs.lemmas.Map.{keys-set_value}
+use Rattle.std.proofs.lemmas.Option.{get_or_from_slice_get}
 use Rattle.sp_base.specs.PathExact.{exact_paths}
 use Rattle.sp_base.specs.Paths.{is_path, is_under}
 use Rattle.resource_tree.specs.declared.nodes.Node.{Node}
@@ -19,7 +20,6 @@ use Rattle.resource_tree.specs.declared.faults.TreeFault.TheVariants.{NoSuch, Ro
 use Rattle.resource_tree.specs.declared.patch.PatchNode.TheVariants as there
 use Rattle.resource_tree.specs.Content.{Content, IsGood, by_path, same_path, node_at, kid, prop_at, parent_of, name_of, empty_node}
 use Rattle.resource_tree.specs.Changes.{change_at, with_kid, without_kid, has_prop_at, removal, removal_at}
-use Rattle.resource_tree.specs.Kids.{other_kids}
 use Rattle.resource_tree.specs.Patches.{left_by}
 use Rattle.resource_tree.specs.Moves.{path_there, part, part_there, is_too_deep, target_fault, first_fault, ends_fault, move_fault, relocation, relocation_at}
 use Rattle.resource_tree.specs.Parts.{both_paths, rekeying, renamed_at, unnamed_at}
@@ -82,6 +82,14 @@ ends_from_target tree source target not_root =
     again true b x y z = refl
     again false true x y z = refl
     again false false x y z = refl
+
+-- the kids' names as the code changes them
+pub names : (tree old : Content) (source target old_parent parent : List (List ℕ)) (old_name name seg : List ℕ) → old ≡ tree → old_parent ≡ parent_of source → Some old_name ≡ slice_get source (length source - 1) → parent ≡ parent_of target
+    → name ≡ seg → Some seg ≡ slice_get target (length target - 1) → (q : List (List ℕ)) → renamed_at old old_parent old_name parent name q ≡ renamed_at tree (parent_of source) (name_of source) (parent_of target) (name_of target) q
+names tree old source target old_parent parent old_name name seg same up last up_too is last_too q =
+    let from : name_of source ≡ old_name = get_or_from_slice_get source (length source - 1) old_name [] (sym last) in
+    let to : name_of target ≡ seg = get_or_from_slice_get target (length target - 1) seg [] (sym last_too) in
+    rw (same, up, up_too, is, from, to)
 
 pub allowed : (tree : Content) (source target : List (List ℕ)) → ends_fault tree source target ≡ None → is_too_deep tree source target ≡ false → move_fault tree source target ≡ None
 allowed tree source target free fits = ap (λ f. first_fault f (cond (is_too_deep tree source target) (Some TooDeep) None)) free ∙ ap (λ b. cond b (Some TooDeep) None) fits
@@ -271,8 +279,9 @@ module _ (tree : Content) (source target : List (List ℕ)) (good : IsGood tree)
       others = subst (λ (p : List (List ℕ)). (q : List (List ℕ)) → is_under q p ≡ false → q ≢ parent_of target → node_at (relocation tree source target) q ≡ node_at from q) (sym target_parts) beside;
     }
 
-    pub IsGood-relocation : (new : Content) → new ≡ relocation tree source target → IsStrictlySortedBy by_path (keys_of new) → IsGood new
-    IsGood-relocation new same sorted =
+    pub IsGood-relocation : (new : Content) → new ≡ relocation tree source target → IsGood new
+    IsGood-relocation new same =
+        let sorted = subst (λ (t : Content). IsStrictlySortedBy by_path (keys_of t)) (sym same) (sorted-patching named (part_there tree source target) sorted-named) in
         let one = length-patching named (part_there tree source target) in
         let two = length-change_at from (parent_of target) (with_kid (name_of target)) in
         let three : length (part_there tree source target) ≡ length (part tree source) = length-map (part tree source) _ in

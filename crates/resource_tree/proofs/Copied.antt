@@ -74,14 +74,14 @@ too_many tree source target free fits large =
     ap (λ f. first_fault f (size_fault tree source target)) free ∙ ap (λ b. cond b (Some TooDeep) (cond (nat_lt 200000 (length tree + length (part tree source))) (Some FullTree) None)) fits
     ∙ ap (λ b. cond b (Some FullTree) None) (more _ large)
 
-sorted-change_at : (tree : Content) (path : List (List ℕ)) (change : Node → Node) → IsStrictlySortedBy by_path (keys_of tree) → IsStrictlySortedBy by_path (keys_of (change_at tree path change))
+pub sorted-change_at : (tree : Content) (path : List (List ℕ)) (change : Node → Node) → IsStrictlySortedBy by_path (keys_of tree) → IsStrictlySortedBy by_path (keys_of (change_at tree path change))
 sorted-change_at tree path change sorted =
     elim (node_at tree path) as (λ o. IsStrictlySortedBy by_path (keys_of (option_map_or (λ node. set_value (same_path path) tree (change node)) o tree))) [
       | None ↦ sorted
       | Some node ↦ subst (λ (ks : List (List (List ℕ))). IsStrictlySortedBy by_path ks) (sym (keys-set_value (same_path path) tree (change node))) sorted
     ]
 
-left_none : (o : Option Node) → left_by (option_map there.Node o) None ≡ o
+pub left_none : (o : Option Node) → left_by (option_map there.Node o) None ≡ o
 left_none None = refl
 left_none (Some n) = refl
 
@@ -98,7 +98,7 @@ elsewhere false true a o f g eu es = absurd (true≢false es)
 elsewhere false false a o f g eu es = refl
 
 module _ (tree : Content) (source target : List (List ℕ)) (good : IsGood tree) (can : IsFree tree source target) where
-  parts : kid (parent_of target) (name_of target) ≡ target
+  pub parts : kid (parent_of target) (name_of target) ≡ target
   parts = kid_parts target can.not_root
 
   abbrev above : Node
@@ -107,12 +107,12 @@ module _ (tree : Content) (source target : List (List ℕ)) (good : IsGood tree)
   above_is : node_at tree (parent_of target) ≡ Some above
   above_is = some_from _ empty_node can.parent_there
 
-  free_below : (q : List (List ℕ)) → is_under q target ≡ true → node_at tree q ≡ None
+  pub free_below : (q : List (List ℕ)) → is_under q target ≡ true → node_at tree q ≡ None
   free_below q under =
       let split = under_split target q under in
       none_from _ (false_from_ne_true _ (λ there_. false≢true (sym (ap is_some can.free) ∙ prefix tree good.shape target split.rest (ap (λ p. is_some (node_at tree p)) split.whole ∙ there_))))
 
-  parent_apart : (q : List (List ℕ)) → is_under q target ≡ true → same_path (parent_of target) q ≡ false
+  pub parent_apart : (q : List (List ℕ)) → is_under q target ≡ true → same_path (parent_of target) q ≡ false
   parent_apart q under =
       same_path_apart (parent_of target) q (λ e. true≢false (sym under ∙ ap (λ p. is_under p target) (sym e) ∙ ap (is_under (parent_of target)) (sym parts) ∙ under_own_kid (parent_of target) (name_of target)))
 
@@ -158,7 +158,7 @@ module _ (tree : Content) (source target : List (List ℕ)) (good : IsGood tree)
         (λ q. ap (λ (t : Content). node_at t q) is ∙ new_at q ∙ sym (node_at-copy q))
 
   module _ (fits : is_too_deep tree source target ≡ false) where
-    is_a_path : (q : List (List ℕ)) → is_under q target ≡ true → IsSome (node_at tree (path_there target source q)) → IsTrue (is_path q)
+    pub is_a_path : (q : List (List ℕ)) → is_under q target ≡ true → IsSome (node_at tree (path_there target source q)) → IsTrue (is_path q)
     is_a_path q under there_ =
         ⊎_elim (λ is. is)
         (λ none. absurd (true≢false (sym (in_part source (λ p. not (is_path (path_there source target p))) (path_there target source q) tree there_ (under_there target source q) (ap not (ap is_path (there-back source target q under) ∙ none))) ∙ fits)))

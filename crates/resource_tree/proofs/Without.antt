@@ -17,7 +17,7 @@ use Rattle.resource_tree.specs.Changes.{without_under}
 use Rattle.resource_tree.proofs.PathLemmas.{path_from_same, by_path_total}
 use Rattle.resource_tree.proofs.EntriesInOrder.{same_in_order}
 
-keys_of-filter : (p : List (List ℕ) → Bool) (tree : Content) → keys_of (filter (λ e. p e.0) tree) ≡ filter p (keys_of tree)
+pub keys_of-filter : (p : List (List ℕ) → Bool) (tree : Content) → keys_of (filter (λ e. p e.0) tree) ≡ filter p (keys_of tree)
 keys_of-filter p [] = refl
 keys_of-filter p (e ∷ tree) =
     elim (p e.0) as (λ b. keys_of (cond b (e ∷ filter (λ e. p e.0) tree) (filter (λ e. p e.0) tree)) ≡ cond b (e.0 ∷ filter p (keys_of tree)) (filter p (keys_of tree))) [

@@ -2,8 +2,8 @@ pub mod Content
 pub mod InOrder
 pub mod Kids
 pub mod Changes
-pub mod Parts
 pub mod Patches
 pub mod Moves
+pub mod Parts
 pub mod Seen
 pub mod Shown

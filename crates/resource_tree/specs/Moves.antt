@@ -1,4 +1,4 @@
--- What a copy of a node and all below it to another path makes of the content, and the first cause for which it is refused.
+-- What a copy or a move of a node and all below it to another path makes of the content, and the first cause for which it is refused.
 use Rattle.std.specs.Prelude.{◌++◌, ◌+◌, ◌||◌, ℕ, Bool, List, Option, Some, None, is_some, is_none, not, nat_lt, length, drop, filter, map, option_map, ◌==◌, if◌then◌else◌}
 use Rattle.std.specs.List.{list_any}
 use Rattle.sp_base.specs.Paths.{is_path, is_under}
@@ -7,7 +7,7 @@ use Rattle.resource_tree.specs.declared.faults.TreeFault.{TreeFault}
 use Rattle.resource_tree.specs.declared.faults.TreeFault.TheVariants.{NoSuch, RootFixed, IntoItself, Exists, Taken, TooDeep, FullTree}
 use Rattle.resource_tree.specs.declared.patch.PatchNode.TheVariants as there
 use Rattle.resource_tree.specs.Content.{Content, same_path, node_at, parent_of, name_of}
-use Rattle.resource_tree.specs.Changes.{change_at, with_kid, has_prop_at}
+use Rattle.resource_tree.specs.Changes.{change_at, with_kid, has_prop_at, removal, removal_at}
 use Rattle.resource_tree.specs.Patches.{Rows, patching}
 
 -- the path at the target of one at the source
@@ -61,3 +61,26 @@ first_fault None other = other
 -- why a part isn't copied: the target is not free for it, or it doesn't fit
 abbrev pub copy_fault : Content → List (List ℕ) → List (List ℕ) → Option TreeFault
 copy_fault tree source target = first_fault (target_fault tree source target) (size_fault tree source target)
+
+-- ---- a move
+
+-- the content with the nodes at the source and under it at the target instead, which its parent names last
+abbrev pub relocation : Content → List (List ℕ) → List (List ℕ) → Content
+relocation tree source target = patching (change_at (removal tree source) (parent_of target) (with_kid (name_of target))) (part_there tree source target)
+
+-- the same by look-ups
+abbrev pub relocation_at : Content → List (List ℕ) → List (List ℕ) → List (List ℕ) → Option Node
+relocation_at tree source target q =
+    if is_under q target then node_at tree (path_there target source q)
+    else (if same_path (parent_of target) q then option_map (with_kid (name_of target)) (removal_at tree source q) else removal_at tree source q)
+
+-- why a node may not go to the target: the source is the root, or the target is not free for a copy of it either
+abbrev pub ends_fault : Content → List (List ℕ) → List (List ℕ) → Option TreeFault
+ends_fault tree source target =
+    if is_none (node_at tree source) then Some (NoSuch source)
+    else (if is_none (node_at tree (parent_of target)) then Some (NoSuch (parent_of target))
+    else (if length source == 0 then Some RootFixed else target_fault tree source target))
+
+-- why a part isn't moved: it may not go to the target, or a path would be too long. No node is one more, so the tree is never full.
+abbrev pub move_fault : Content → List (List ℕ) → List (List ℕ) → Option TreeFault
+move_fault tree source target = first_fault (ends_fault tree source target) (if is_too_deep tree source target then Some TooDeep else None)

@@ -1,5 +1,5 @@
 // New nodes, and when they are refused.
-ghost use Rattle.std.specs.Prelude.{◌≡◌, ◌≢◌, ◌-◌, ℕ, List, None, Some, OnOk, OnErr, IfOk, IfErr, IsTrue, length, option_copied, slice_get};
+ghost use Rattle.std.specs.Prelude.{◌≡◌, ◌≢◌, ◌≤◌, ◌-◌, ℕ, List, None, Some, OnOk, OnErr, IfOk, IfErr, IsTrue, length, option_copied, slice_get};
 ghost use Rattle.std.specs.BTreeMap.{insert_entry};
 ghost use Rattle.std.specs.List.Sorted.{IsStrictlySortedBy};
 ghost use Rattle.std.specs.Map.{keys_of};
@@ -111,10 +111,11 @@ fn add_node(
 }
 
 // Adds a name to the kids of the node at a path, if it is there.
-fn add_kid(nodes: &mut Nodes, path: &Path, name: TextBuf) -> Mem<()>
+pub(crate) fn add_kid(nodes: &mut Nodes, path: &Path, name: TextBuf) -> Mem<()>
     ensures ok { OnOk result (nodes.new.entries ≡ change_at nodes.old.entries path.now (with_kid name)) }
     ensures err { OnErr result (nodes.new.entries ≡ nodes.old.entries) }
     ensures ordered { IsStrictlySortedBy by_path (keys_of nodes.new.entries) }
+    ensures room { nodes.old.room ≤ nodes.new.room }
 {
     let Some(node) = nodes.map.get_mut(path) else {
         return Ok(());

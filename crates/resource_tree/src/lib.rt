@@ -19,6 +19,7 @@ mod part;
 mod patch;
 mod places;
 mod properties;
+mod relocate;
 mod remove;
 mod room;
 mod table;

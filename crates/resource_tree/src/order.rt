@@ -1,5 +1,5 @@
 // Kids in another place among their parent's.
-ghost use Rattle.std.specs.Prelude.{◌≡◌, ◌≢◌, ◌-◌, ℕ, List, None, Some, OnOk, OnErr, IfOk, IfErr, IsTrue, length, unwrap_or};
+ghost use Rattle.std.specs.Prelude.{◌≡◌, ◌≢◌, ◌≤◌, ◌-◌, ℕ, List, None, Some, OnOk, OnErr, IfOk, IfErr, IsTrue, length, unwrap_or};
 ghost use Rattle.std.specs.List.Sorted.{IsStrictlySortedBy};
 ghost use Rattle.std.specs.Map.{keys_of};
 ghost use Rattle.sp_base.specs.Paths.{is_path};
@@ -63,6 +63,7 @@ pub(crate) fn kids_at<'a>(nodes: &'a Nodes, path: &Path) -> &'a [TextBuf]
 pub(crate) fn set_kids(nodes: &mut Nodes, path: &Path, kids: TextList)
     ensures after { nodes.new.entries ≡ change_at nodes.old.entries path.now (with_kids kids) }
     ensures ordered { IsStrictlySortedBy by_path (keys_of nodes.new.entries) }
+    ensures room { nodes.old.room ≤ nodes.new.room }
 {
     let Some(node) = nodes.map.get_mut(path) else {
         return;

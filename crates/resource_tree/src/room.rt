@@ -93,6 +93,6 @@ fn put_row(nodes: &mut Nodes, path: Path, node: PatchNode)
 {
     match node {
         PatchNode::Node(node) => nodes.put_in_room(path, node),
-        PatchNode::Gone => nodes.remove(&path),
+        PatchNode::Gone => drop(nodes.remove(&path)),
     }
 }

@@ -87,12 +87,14 @@ impl Nodes {
         Ok(())
     }
 
-    pub(crate) fn remove(&mut self, path: &Path)
+    // Takes the node at a path out, if there is one.
+    pub(crate) fn remove(&mut self, path: &Path) -> Option<Node>
+        ensures value { result ≡ node_at self.old.entries path.now }
         ensures entries { self.new.entries ≡ remove_entry (same_path path.now) self.old.entries }
         ensures look_ups { (q : List (List ℕ)) → node_at self.new.entries q ≡ cond (same_path path.now q) None (node_at self.old.entries q) }
         ensures ordered { IsStrictlySortedBy by_path (keys_of self.new.entries) }
         ensures room { self.old.room ≤ self.new.room }
     {
-        let _ = self.map.remove(path);
+        self.map.remove(path)
     }
 }

@@ -9,6 +9,9 @@ use Rattle.resource_tree.specs.InOrder.{Entries}
 use Rattle.resource_tree.proofs.PathLemmas.{by_path_total}
 use Rattle.resource_tree.proofs.table.Nodes.remove.Goals as goal
 
+pub returns-clause-value : goal.returns-clause-value
+returns-clause-value c = c.remove.ensures.value ∙ sym (lookup-in_order by_path by_path_total c.args.path.now _) ∙ ap (λ (v : Entries). node_at v.entries c.args.path.now) c.self.view_is
+
 pub returns-clause-entries : goal.returns-clause-entries
 returns-clause-entries c =
     in_order-removed by_path by_path_total exact_paths c.self.inside.map.entries _ c.args.path.now c.remove.ensures.updates.0

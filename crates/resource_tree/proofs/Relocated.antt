@@ -1,0 +1,291 @@
+-- The content with a part of it at another path: by look-ups, and good.
+use Rattle.std.proofs.Common.{◌≡◌, ◌≢◌, ◌+◌, ◌-◌, ◌≤◌, ◌||◌, ◌&&◌, ◌==◌, ℕ, Bool, true, false, cond, not, List, [], ◌∷◌, ◌++◌, map, length, refl, sym, ◌∙◌, ap, subst, Some, None, Option, ⊎_elim, ◌⊎◌, inl, inr, arith}
+use Rattle.std.specs.Prelude.{is_some, is_none, IsSome, IsTrue, option_map, unwrap_or, filter, nat_eq, slice_get}
+use Rattle.std.specs.Cmp.Lexicographic.{pointwise, nat_list_eq_equiv, same_text}
+use Rattle.std.specs.Option.{option_map_or}
+use Rattle.std.specs.List.{list_any}
+use Rattle.std.specs.List.Sorted.{IsStrictlySortedBy}
+use Rattle.std.specs.Map.{keys_of, set_value}
+use Rattle.std.proofs.lemmas.Bool.{cases_Bool, and_parts, and_from, false≢true, true≢false, false_from_ne_true}
+use Rattle.std.proofs.lemmas.List.{length-map}
+use Rattle.std.proofs.lemmas.List.Filters.{length-filter_both}
+use Rattle.std.proofs.lemmas.List.Kept.{IsStrictlySortedBy-filter}
+use Rattle.std.proofs.lemmas.Map.{keys-set_value}
+use Rattle.std.proofs.lemmas.Option.{get_or_from_slice_get}
+use Rattle.sp_base.specs.PathExact.{exact_paths}
+use Rattle.sp_base.specs.Paths.{is_path, is_under}
+use Rattle.resource_tree.specs.declared.nodes.Node.{Node}
+use Rattle.resource_tree.specs.declared.faults.TreeFault.{TreeFault}
+use Rattle.resource_tree.specs.declared.faults.TreeFault.TheVariants.{NoSuch, RootFixed, TooDeep}
+use Rattle.resource_tree.specs.declared.patch.PatchNode.TheVariants as there
+use Rattle.resource_tree.specs.Content.{Content, IsGood, by_path, same_path, node_at, kid, prop_at, parent_of, name_of, empty_node}
+use Rattle.resource_tree.specs.Changes.{change_at, with_kid, without_kid, has_prop_at, removal, removal_at}
+use Rattle.resource_tree.specs.Patches.{left_by}
+use Rattle.resource_tree.specs.Moves.{path_there, part, part_there, is_too_deep, target_fault, first_fault, ends_fault, move_fault, relocation, relocation_at}
+use Rattle.resource_tree.specs.Parts.{both_paths, rekeying, renamed_at, unnamed_at}
+use Rattle.resource_tree.proofs.PathLemmas.{by_path_total, kid_parts, path_from_same, same_path_self, same_path_apart}
+use Rattle.resource_tree.proofs.NodeLookups.{node_at-change_at, length-change_at}
+use Rattle.resource_tree.proofs.EntriesInOrder.{same_in_order}
+use Rattle.resource_tree.proofs.Patching.{node_at-patching, sorted-patching}
+use Rattle.resource_tree.proofs.Creation.{no_fault, not_none, none_from, some_from, IsGood-from}
+use Rattle.resource_tree.proofs.Reordering.{CanMove}
+use Rattle.resource_tree.proofs.Removal.{node_at-removal, IsTree-removal}
+use Rattle.resource_tree.proofs.Under.{under_root, under_kid, under_own_kid, under_self}
+use Rattle.resource_tree.proofs.Without.{keys_of-filter}
+use Rattle.resource_tree.proofs.Copying.{Hangs, IsTree-hung, there-back}
+use Rattle.resource_tree.proofs.PartThere.{row_at-part_there, under_there}
+use Rattle.resource_tree.proofs.CopyParts.{once_there, length-patching}
+use Rattle.resource_tree.proofs.Copied.{IsFree, is_free, sorted-change_at, left_none, parts, free_below, parent_apart, is_a_path}
+use Rattle.resource_tree.proofs.Rekeying.{sorted-rekeying, node_at-rekeying}
+
+-- what is known where a node may go to the target
+pub record MayGo (tree : Content) (source target : List (List ℕ)) : Type 0 where
+  pub free : IsFree tree source target
+  pub source_not_root : source ≢ []
+  pub not_below : is_under target source ≡ false
+  pub not_above : is_under source target ≡ false
+
+neither : (a b : Bool) → (a || b) ≡ false → (a ≡ false) × (b ≡ false)
+neither true b h = absurd (true≢false h)
+neither false b h = (refl, h)
+
+pub free_from_ends : (tree : Content) (source target : List (List ℕ)) → ends_fault tree source target ≡ None → target_fault tree source target ≡ None
+free_from_ends tree source target e =
+    let a = no_fault (is_none (node_at tree source)) _ _ e in
+    let b = no_fault (is_none (node_at tree (parent_of target))) _ _ a.1 in
+    (no_fault (length source == 0) _ _ b.1).1
+
+pub may_go : (tree : Content) (source target : List (List ℕ)) → ends_fault tree source target ≡ None → MayGo tree source target
+may_go tree source target e =
+    let a = no_fault (is_none (node_at tree source)) _ _ e in
+    let b = no_fault (is_none (node_at tree (parent_of target))) _ _ a.1 in
+    let root = no_fault (length source == 0) _ _ b.1 in
+    let c = no_fault (is_none (node_at tree source)) _ _ root.1 in
+    let d = no_fault (is_none (node_at tree (parent_of target))) _ _ c.1 in
+    let f = no_fault (length target == 0) _ _ d.1 in
+    let g = no_fault (is_under target source || is_under source target) _ _ f.1 in
+    let beside = neither (is_under target source) (is_under source target) g.0 in
+    record {
+      free = is_free tree source target root.1;
+      source_not_root = λ is. true≢false (sym (ap (λ (p : List (List ℕ)). length p == 0) is) ∙ root.0);
+      not_below = beside.0;
+      not_above = beside.1;
+    }
+
+-- what is at the ends is asked first
+pub ends_from_target : (tree : Content) (source target : List (List ℕ)) → (length source == 0) ≡ false → ends_fault tree source target ≡ target_fault tree source target
+ends_from_target tree source target not_root =
+    ap (λ b. cond (is_none (node_at tree source)) (Some (NoSuch source)) (cond (is_none (node_at tree (parent_of target))) (Some (NoSuch (parent_of target))) (cond b (Some RootFixed) (target_fault tree source target)))) not_root
+    ∙ again (is_none (node_at tree source)) (is_none (node_at tree (parent_of target))) _ _ _
+  where
+    again : (a b : Bool) (x y z : Option TreeFault) → cond a x (cond b y (cond a x (cond b y z))) ≡ cond a x (cond b y z)
+    again true b x y z = refl
+    again false true x y z = refl
+    again false false x y z = refl
+
+-- the kids' names as the code changes them
+pub names : (tree old : Content) (source target old_parent parent : List (List ℕ)) (old_name name seg : List ℕ) → old ≡ tree → old_parent ≡ parent_of source → Some old_name ≡ slice_get source (length source - 1) → parent ≡ parent_of target
+    → name ≡ seg → Some seg ≡ slice_get target (length target - 1) → (q : List (List ℕ)) → renamed_at old old_parent old_name parent name q ≡ renamed_at tree (parent_of source) (name_of source) (parent_of target) (name_of target) q
+names tree old source target old_parent parent old_name name seg same up last up_too is last_too q =
+    let from : name_of source ≡ old_name = get_or_from_slice_get source (length source - 1) old_name [] (sym last) in
+    let to : name_of target ≡ seg = get_or_from_slice_get target (length target - 1) seg [] (sym last_too) in
+    rw (same, up, up_too, is, from, to)
+
+pub allowed : (tree : Content) (source target : List (List ℕ)) → ends_fault tree source target ≡ None → is_too_deep tree source target ≡ false → move_fault tree source target ≡ None
+allowed tree source target free fits = ap (λ f. first_fault f (cond (is_too_deep tree source target) (Some TooDeep) None)) free ∙ ap (λ b. cond b (Some TooDeep) None) fits
+
+pub too_deep : (tree : Content) (source target : List (List ℕ)) → ends_fault tree source target ≡ None → is_too_deep tree source target ≡ true → move_fault tree source target ≡ Some TooDeep
+too_deep tree source target free deep = ap (λ f. first_fault f (cond (is_too_deep tree source target) (Some TooDeep) None)) free ∙ ap (λ b. cond b (Some TooDeep) None) deep
+
+-- no path is under two of which neither is under the other
+under_both : (a b q : List (List ℕ)) → is_under q a ≡ true → is_under q b ≡ true → (is_under b a ≡ true) ⊎ (is_under a b ≡ true)
+under_both [] b q one two = inl (under_root b)
+under_both (s ∷ a) [] q one two = inr refl
+under_both (s ∷ a) (t ∷ b) [] one two = absurd (false≢true one)
+under_both (s ∷ a) (t ∷ b) (k ∷ q) one two =
+    let first = and_parts (pointwise nat_eq s k) (is_under q a) one in
+    let second = and_parts (pointwise nat_eq t k) (is_under q b) two in
+    let s_is : s ≡ k = same_text s k (sym first.0) in
+    let t_is : t ≡ k = same_text t k (sym second.0) in
+    let s_t : pointwise nat_eq s t ≡ true = ap (pointwise nat_eq s) t_is ∙ first.0 in
+    let t_s : pointwise nat_eq t s ≡ true = ap (pointwise nat_eq t) s_is ∙ second.0 in
+    ⊎_elim (λ is. inl (and_from _ _ s_t is)) (λ is. inr (and_from _ _ t_s is)) (under_both a b q first.1 second.1)
+
+none_under : (a b : Bool) (f : Node → Node) (o : Option Node) → o ≡ None → cond a None (cond b (option_map f o) o) ≡ None
+none_under true b f o e = refl
+none_under false true f None e = refl
+none_under false false f None e = refl
+none_under false b f (Some n) e = absurd (true≢false (ap is_some e))
+
+some_under : (a : Bool) (f : Node → Node) (o : Option Node) → is_some (cond a (option_map f o) o) ≡ is_some o
+some_under true f None = refl
+some_under true f (Some n) = refl
+some_under false f o = refl
+
+kept_props : (a : Bool) (old name : List ℕ) (o : Option Node) → option_map_or (λ node. is_some (prop_at node name)) (cond a (option_map (without_kid old) o) o) false ≡ option_map_or (λ node. is_some (prop_at node name)) o false
+kept_props true old name None = refl
+kept_props true old name (Some n) = refl
+kept_props false old name o = refl
+
+sorted-without : (tree : Content) (path : List (List ℕ)) → IsStrictlySortedBy by_path (keys_of tree) → IsStrictlySortedBy by_path (keys_of (filter (λ e. not (is_under e.0 path)) tree))
+sorted-without tree path sorted =
+    subst (λ (ks : List (List (List ℕ))). IsStrictlySortedBy by_path ks) (sym (keys_of-filter (λ p. not (is_under p path)) tree)) (IsStrictlySortedBy-filter by_path (λ p. not (is_under p path)) (keys_of tree) sorted)
+
+keys-change_at : (tree : Content) (path : List (List ℕ)) (change : Node → Node) → keys_of (change_at tree path change) ≡ keys_of tree
+keys-change_at tree path change =
+    elim (node_at tree path) as (λ o. keys_of (option_map_or (λ node. set_value (same_path path) tree (change node)) o tree) ≡ keys_of tree) [
+      | None ↦ refl
+      | Some node ↦ keys-set_value (same_path path) tree (change node)
+    ]
+
+length-keys : (tree : Content) → length (keys_of tree) ≡ length tree
+length-keys tree = length-map tree _
+
+-- as many as there were
+length-parts : (tree : Content) (path : List (List ℕ)) → length (removal tree path) + length (part tree path) ≡ length tree
+length-parts tree path =
+    let named = change_at tree (parent_of path) (without_kid (name_of path)) in
+    let both = length-filter_both (λ (e : List (List ℕ) × Node). not (is_under e.0 path)) (λ e. is_under e.0 path) (λ e. twice (is_under e.0 path)) named in
+    let same = length-change_at tree (parent_of path) (without_kid (name_of path)) in
+    let here : length (part named path) ≡ length (part tree path) =
+    sym (length-keys (part named path)) ∙ ap length (keys_of-filter (λ p. is_under p path) named) ∙ ap (λ ks. length (filter (λ p. is_under p path) ks)) (keys-change_at tree (parent_of path) (without_kid (name_of path)))
+    ∙ sym (ap length (keys_of-filter (λ p. is_under p path) tree)) ∙ length-keys (part tree path) in
+    omega (arith, both, same, here)
+  where
+    twice : (b : Bool) → b ≡ not (not b)
+    twice true = refl
+    twice false = refl
+
+module _ (tree : Content) (source target : List (List ℕ)) (good : IsGood tree) (can : MayGo tree source target) where
+  abbrev from : Content
+  from = removal tree source
+
+  abbrev named : Content
+  named = change_at from (parent_of target) (with_kid (name_of target))
+
+  sorted-from : IsStrictlySortedBy by_path (keys_of from)
+  sorted-from = sorted-without (change_at tree (parent_of source) (without_kid (name_of source))) source (sorted-change_at tree (parent_of source) (without_kid (name_of source)) good.ordered)
+
+  sorted-named : IsStrictlySortedBy by_path (keys_of named)
+  sorted-named = sorted-change_at from (parent_of target) (with_kid (name_of target)) sorted-from
+
+  gone_below : (q : List (List ℕ)) → is_under q target ≡ true → removal_at tree source q ≡ None
+  gone_below q under = none_under (is_under q source) (same_path (parent_of source) q) (without_kid (name_of source)) (node_at tree q) (free_below tree source target good can.free q under)
+
+  pub node_at-relocation : (q : List (List ℕ)) → node_at (relocation tree source target) q ≡ relocation_at tree source target q
+  node_at-relocation q =
+      node_at-patching named (part_there tree source target) q sorted-named (once_there source target tree good.ordered)
+      ∙ ap (λ r. left_by r (node_at named q)) (row_at-part_there source target q tree)
+      ∙ ap (λ o. left_by (cond (is_under q target) (option_map there.Node (node_at tree (path_there target source q))) None) o)
+      (node_at-change_at from (parent_of target) (with_kid (name_of target)) q ∙ ap (λ o. cond (same_path (parent_of target) q) (option_map (with_kid (name_of target)) o) o) (node_at-removal tree source q))
+      ∙ ⊎_elim
+      (λ under. let apart = parent_apart tree source target good can.free q under in let free = gone_below q under in rw (under, apart, free) (left_none (node_at tree (path_there target source q))))
+      (λ beside. rw beside)
+      (cases_Bool (is_under q target))
+
+  source_parts : kid (parent_of source) (name_of source) ≡ source
+  source_parts = kid_parts source can.source_not_root
+
+  target_parts : kid (parent_of target) (name_of target) ≡ target
+  target_parts = parts tree source target good can.free
+
+  -- neither parent is one of the nodes at the source or under it
+  source_parent_apart : is_under (parent_of source) source ≡ false
+  source_parent_apart = ap (is_under (parent_of source)) (sym source_parts) ∙ under_own_kid (parent_of source) (name_of source)
+
+  target_parent_apart : is_under (parent_of target) source ≡ false
+  target_parent_apart =
+      false_from_ne_true _ (λ is. true≢false (sym (under_kid source (parent_of target) (name_of target) is) ∙ ap (λ p. is_under p source) target_parts ∙ can.not_below))
+
+  apart : (q : List (List ℕ)) → is_under q source ≡ true → is_under q target ≡ false
+  apart q under =
+      false_from_ne_true _ (λ is. ⊎_elim (λ below. true≢false (sym below ∙ can.not_below)) (λ above. true≢false (sym above ∙ can.not_above)) (under_both source target q under is))
+
+  abbrev renamed : List (List ℕ) → Option Node
+  renamed q = renamed_at tree (parent_of source) (name_of source) (parent_of target) (name_of target) q
+
+  renamed_below : (q : List (List ℕ)) → is_under q source ≡ true → renamed q ≡ node_at tree q
+  renamed_below q under =
+      let one = same_path_apart (parent_of source) q (λ e. true≢false (sym under ∙ ap (λ p. is_under p source) (sym e) ∙ source_parent_apart)) in
+      let two = same_path_apart (parent_of target) q (λ e. true≢false (sym under ∙ ap (λ p. is_under p source) (sym e) ∙ target_parent_apart)) in
+      rw (one, two)
+
+  renamed_there : (q : List (List ℕ)) → is_some (renamed q) ≡ is_some (node_at tree q)
+  renamed_there q =
+      some_under (same_path (parent_of target) q) (with_kid (name_of target)) (unnamed_at tree (parent_of source) (name_of source) q) ∙ some_under (same_path (parent_of source) q) (without_kid (name_of source)) (node_at tree q)
+
+  -- the content as the code makes it
+  pub relocation_is : (now new : Content) (paths : List (List (List ℕ))) → ((p : List (List ℕ)) → list_any (same_path p) paths ≡ (is_some (node_at tree p) && is_under p source)) → ((q : List (List ℕ)) → node_at now q ≡ renamed q)
+      → IsStrictlySortedBy by_path (keys_of now) → new ≡ rekeying now (map (both_paths source target) paths) → new ≡ relocation tree source target
+  relocation_is now new paths all is sorted new_is =
+      let there_now : (q : List (List ℕ)) → is_some (node_at now q) ≡ is_some (node_at tree q) = λ q. ap is_some (is q) ∙ renamed_there q in
+      let all_now : (p : List (List ℕ)) → list_any (same_path p) paths ≡ (is_some (node_at now p) && is_under p source) = λ p. all p ∙ ap (λ b. b && is_under p source) (sym (there_now p)) in
+      let free_now : (q : List (List ℕ)) → is_under q target ≡ true → node_at now q ≡ None =
+      λ q under. none_from _ (there_now q ∙ ap is_some (free_below tree source target good can.free q under)) in
+      same_in_order by_path by_path_total exact_paths new (relocation tree source target)
+      (subst (λ (t : Content). IsStrictlySortedBy by_path (keys_of t)) (sym new_is) (sorted-rekeying now (map (both_paths source target) paths) sorted))
+      (sorted-patching named (part_there tree source target) sorted-named)
+      (λ q.
+      let back = path_there target source q in
+      ap (λ (t : Content). node_at t q) new_is
+      ∙ node_at-rekeying now source target apart paths all_now sorted free_now q
+      ∙ ap (λ o. cond (is_under q target) o (cond (is_under q source) None (node_at now q))) (is back ∙ renamed_below back (under_there target source q))
+      ∙ ap (λ o. cond (is_under q target) (node_at tree back) (cond (is_under q source) None o)) (is q)
+      ∙ ap (cond (is_under q target) (node_at tree back)) (gone_and_named (is_under q source) (same_path (parent_of target) q) (unnamed_at tree (parent_of source) (name_of source) q))
+      ∙ sym (node_at-relocation q))
+    where
+      gone_and_named : (u c : Bool) (o : Option Node) → cond u None (cond c (option_map (with_kid (name_of target)) o) o) ≡ cond c (option_map (with_kid (name_of target)) (cond u None o)) (cond u None o)
+      gone_and_named true true o = refl
+      gone_and_named true false o = refl
+      gone_and_named false c o = refl
+
+  -- ---- the content with the part there is good
+
+  there_above : is_some (node_at from (parent_of target)) ≡ true
+  there_above =
+      ap is_some (node_at-removal tree source (parent_of target) ∙ ap (λ u. cond u None (unnamed_at tree (parent_of source) (name_of source) (parent_of target))) target_parent_apart)
+      ∙ some_under (same_path (parent_of source) (parent_of target)) (without_kid (name_of source)) (node_at tree (parent_of target))
+      ∙ can.free.parent_there
+
+  abbrev above : Node
+  above = unwrap_or (node_at from (parent_of target)) empty_node
+
+  above_is : node_at from (parent_of target) ≡ Some above
+  above_is = some_from _ empty_node there_above
+
+  untaken : has_prop_at from (parent_of target) (name_of target) ≡ false
+  untaken =
+      ap (λ o. option_map_or (λ node. is_some (prop_at node (name_of target))) o false) (node_at-removal tree source (parent_of target) ∙ ap (λ u. cond u None (unnamed_at tree (parent_of source) (name_of source) (parent_of target))) target_parent_apart)
+      ∙ kept_props (same_path (parent_of source) (parent_of target)) (name_of source) (name_of target) (node_at tree (parent_of target))
+      ∙ can.free.untaken
+
+  below : (q : List (List ℕ)) → is_under q target ≡ true → node_at (relocation tree source target) q ≡ node_at tree (path_there target source q)
+  below q under = node_at-relocation q ∙ (rw under)
+
+  beside : (q : List (List ℕ)) → is_under q target ≡ false → q ≢ parent_of target → node_at (relocation tree source target) q ≡ node_at from q
+  beside q outside other = node_at-relocation q ∙ (let elsewhere = same_path_apart (parent_of target) q (λ e. other (sym e)) in rw (outside, elsewhere)) ∙ sym (node_at-removal tree source q)
+
+  module _ (fits : is_too_deep tree source target ≡ false) where
+    hangs : Hangs (node_at tree) (node_at from) (node_at (relocation tree source target)) source (parent_of target) (name_of target) above
+    hangs = record {
+      part = can.free.source_there;
+      fits = subst (λ (p : List (List ℕ)). (q : List (List ℕ)) → is_under q p ≡ true → IsSome (node_at tree (path_there p source q)) → IsTrue (is_path q)) (sym target_parts) (is_a_path tree source target good can.free fits);
+      was = above_is;
+      free = ap (node_at from) target_parts ∙ node_at-removal tree source target ∙ gone_below target (under_self target);
+      untaken = none_from _ (sym (ap (λ o. option_map_or (λ node. is_some (prop_at node (name_of target))) o false) above_is) ∙ untaken);
+      there = node_at-relocation (parent_of target)
+          ∙ (let outside = ap (is_under (parent_of target)) (sym target_parts) ∙ under_own_kid (parent_of target) (name_of target) in let self = same_path_self (parent_of target) in rw (outside, self) (ap (option_map (with_kid (name_of target))) (sym (node_at-removal tree source (parent_of target)) ∙ above_is)));
+      below = subst (λ (p : List (List ℕ)). (q : List (List ℕ)) → is_under q p ≡ true → node_at (relocation tree source target) q ≡ node_at tree (path_there p source q)) (sym target_parts) below;
+      others = subst (λ (p : List (List ℕ)). (q : List (List ℕ)) → is_under q p ≡ false → q ≢ parent_of target → node_at (relocation tree source target) q ≡ node_at from q) (sym target_parts) beside;
+    }
+
+    pub IsGood-relocation : (new : Content) → new ≡ relocation tree source target → IsGood new
+    IsGood-relocation new same =
+        let sorted = subst (λ (t : Content). IsStrictlySortedBy by_path (keys_of t)) (sym same) (sorted-patching named (part_there tree source target) sorted-named) in
+        let one = length-patching named (part_there tree source target) in
+        let two = length-change_at from (parent_of target) (with_kid (name_of target)) in
+        let three : length (part_there tree source target) ≡ length (part tree source) = length-map (part tree source) _ in
+        let four = length-parts tree source in
+        let most = good.size in
+        IsGood-from new (relocation tree source target) same sorted (omega (arith, one, two, three, four, most))
+        (IsTree-hung (node_at tree) (node_at from) (node_at (relocation tree source target)) source (parent_of target) (name_of target) above good.shape (IsTree-removal tree source good.shape (record { there = can.free.source_there; not_root = can.source_not_root })) hangs)

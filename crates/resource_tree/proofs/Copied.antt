@@ -18,7 +18,7 @@ use Rattle.resource_tree.specs.declared.patch.PatchNode.TheVariants as there
 use Rattle.resource_tree.specs.Content.{Content, IsGood, by_path, same_path, node_at, kid, prop_at, parent_of, name_of, empty_node}
 use Rattle.resource_tree.specs.Changes.{change_at, with_kid, with_kids, kids_at, has_prop_at}
 use Rattle.resource_tree.specs.Patches.{Rows, row_at, patching, left_by}
-use Rattle.resource_tree.specs.Moves.{path_there, part, part_there, copy, copy_at, is_too_deep, target_fault, size_fault, first_fault, copy_fault}
+use Rattle.resource_tree.specs.Moves.{path_there, part, part_there, copy, copy_at, is_too_deep, target_fault, part_size_fault, first_fault, copy_fault}
 use Rattle.resource_tree.proofs.PathLemmas.{by_path_total, kid_parts, path_from_same, same_path_self, same_path_apart}
 use Rattle.resource_tree.proofs.NodeLookups.{node_at-change_at, length-change_at}
 use Rattle.resource_tree.proofs.EntriesInOrder.{same_in_order}
@@ -62,16 +62,16 @@ more n large = le-leb 200001 n large
 
 pub allowed : (tree : Content) (source target : List (List ℕ)) → target_fault tree source target ≡ None → is_too_deep tree source target ≡ false → length tree + length (part tree source) ≤ 200000 → copy_fault tree source target ≡ None
 allowed tree source target free fits small =
-    ap (λ f. first_fault f (size_fault tree source target)) free ∙ ap (λ b. cond b (Some TooDeep) (cond (nat_lt 200000 (length tree + length (part tree source))) (Some FullTree) None)) fits
+    ap (λ f. first_fault f (part_size_fault tree source target)) free ∙ ap (λ b. cond b (Some TooDeep) (cond (nat_lt 200000 (length tree + length (part tree source))) (Some FullTree) None)) fits
     ∙ ap (λ b. cond b (Some FullTree) None) (not_more _ small)
 
 pub too_deep : (tree : Content) (source target : List (List ℕ)) → target_fault tree source target ≡ None → is_too_deep tree source target ≡ true → copy_fault tree source target ≡ Some TooDeep
 too_deep tree source target free deep =
-    ap (λ f. first_fault f (size_fault tree source target)) free ∙ ap (λ b. cond b (Some TooDeep) (cond (nat_lt 200000 (length tree + length (part tree source))) (Some FullTree) None)) deep
+    ap (λ f. first_fault f (part_size_fault tree source target)) free ∙ ap (λ b. cond b (Some TooDeep) (cond (nat_lt 200000 (length tree + length (part tree source))) (Some FullTree) None)) deep
 
 pub too_many : (tree : Content) (source target : List (List ℕ)) → target_fault tree source target ≡ None → is_too_deep tree source target ≡ false → 200001 ≤ length tree + length (part tree source) → copy_fault tree source target ≡ Some FullTree
 too_many tree source target free fits large =
-    ap (λ f. first_fault f (size_fault tree source target)) free ∙ ap (λ b. cond b (Some TooDeep) (cond (nat_lt 200000 (length tree + length (part tree source))) (Some FullTree) None)) fits
+    ap (λ f. first_fault f (part_size_fault tree source target)) free ∙ ap (λ b. cond b (Some TooDeep) (cond (nat_lt 200000 (length tree + length (part tree source))) (Some FullTree) None)) fits
     ∙ ap (λ b. cond b (Some FullTree) None) (more _ large)
 
 pub sorted-change_at : (tree : Content) (path : List (List ℕ)) (change : Node → Node) → IsStrictlySortedBy by_path (keys_of tree) → IsStrictlySortedBy by_path (keys_of (change_at tree path change))

@@ -6,7 +6,7 @@ use Rattle.resource_tree.specs.declared.nodes.Node.{Node}
 use Rattle.resource_tree.specs.declared.faults.TreeFault.{TreeFault}
 use Rattle.resource_tree.specs.declared.faults.TreeFault.TheVariants.{NoSuch, RootFixed, IntoItself, Exists, Taken, TooDeep, FullTree}
 use Rattle.resource_tree.specs.declared.patch.PatchNode.TheVariants as there
-use Rattle.resource_tree.specs.Content.{Content, same_path, node_at, parent_of, name_of}
+use Rattle.resource_tree.specs.Content.{Content, most_nodes, same_path, node_at, parent_of, name_of}
 use Rattle.resource_tree.specs.Changes.{change_at, with_kid, has_prop_at, removal, removal_at}
 use Rattle.resource_tree.specs.Patches.{Rows, patching}
 
@@ -48,10 +48,10 @@ target_fault tree source target =
     else (if has_prop_at tree (parent_of target) (name_of target) then Some (Taken target) else None)))))
 
 -- why a part of the content doesn't fit: a path would be too long, or there would be more than 200,000 nodes
-abbrev pub size_fault : Content → List (List ℕ) → List (List ℕ) → Option TreeFault
-size_fault tree source target =
+abbrev pub part_size_fault : Content → List (List ℕ) → List (List ℕ) → Option TreeFault
+part_size_fault tree source target =
     if is_too_deep tree source target then Some TooDeep
-    else (if nat_lt 200000 (length tree + length (part tree source)) then Some FullTree else None)
+    else (if nat_lt most_nodes (length tree + length (part tree source)) then Some FullTree else None)
 
 -- the first, or else the second
 abbrev pub first_fault : Option TreeFault → Option TreeFault → Option TreeFault
@@ -60,7 +60,7 @@ first_fault None other = other
 
 -- why a part isn't copied: the target is not free for it, or it doesn't fit
 abbrev pub copy_fault : Content → List (List ℕ) → List (List ℕ) → Option TreeFault
-copy_fault tree source target = first_fault (target_fault tree source target) (size_fault tree source target)
+copy_fault tree source target = first_fault (target_fault tree source target) (part_size_fault tree source target)
 
 -- ---- a move
 

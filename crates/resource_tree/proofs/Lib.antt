@@ -20,3 +20,4 @@ pub mod Removal
 pub mod Renaming
 pub mod Rekeying
 pub mod Relocated
+pub mod PatchTests

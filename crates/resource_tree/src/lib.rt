@@ -5,18 +5,20 @@
 #![tactic(auto)]
 
 mod copy;
-#[cfg(test)]
-mod copy_tests;
 mod create;
 mod duplicate;
 mod faults;
 mod kids;
 mod look;
+#[cfg(test)]
+mod move_tests;
 mod node_map;
 mod nodes;
 mod order;
 mod part;
 mod patch;
+#[cfg(test)]
+mod patch_tests;
 mod places;
 mod properties;
 mod relocate;

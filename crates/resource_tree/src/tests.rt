@@ -2,7 +2,7 @@
 ghost use Rattle.std.specs.Prelude.{◌≡◌, ◌++◌, ◌∷◌, [], IfOk, IfSome, IsTrue, Some};
 ghost use Rattle.sp_base.specs.Paths.{seg_ok};
 
-use crate::{Look, Patch, PatchNode, Place, Res, Tree, TreeFault};
+use crate::{Look, Place, Res, Tree, TreeFault};
 use sp_base::{Mem, NoMemory, Path, TextBuf, Value};
 use std::alloc::Global;
 use std::hash::RandomState;
@@ -236,29 +236,5 @@ fn a_resource_lends_its_node(rt: HostRuntime) -> Result<(), Failed> {
         }
         None => assert!(rt; false),
     }
-    Ok(())
-}
-
-#[test]
-fn a_patch_keeps_one_row_a_path(rt: HostRuntime) -> Result<(), Failed> {
-    let alloc = rt.alloc();
-    let seeds = RandomState::new(&rt)?;
-    let tree = tree_of(alloc, seeds, &["/a", "/b"])?;
-    let mut patch = Patch::new(alloc, seeds);
-    patch.put(at(alloc, "/b")?, PatchNode::Gone)?;
-    patch.put(at(alloc, "/a")?, PatchNode::Gone)?;
-    let node = match tree.node(&at(alloc, "/b")?) {
-        Some(node) => node.duplicate(alloc)?,
-        None => return Err(Failed),
-    };
-    patch.put(at(alloc, "/b")?, PatchNode::Node(node))?;
-    assert_eq!(rt; patch.len(), 2);
-    match patch.at(0) {
-        Some((path, PatchNode::Node(_))) => assert_eq!(rt; path.text(alloc)?.text(), "/b"),
-        _ => assert!(rt; false),
-    }
-    assert!(rt; matches!(patch.get(&at(alloc, "/a")?), Some(PatchNode::Gone)));
-    assert!(rt; patch.get(&at(alloc, "/c")?).is_none());
-    assert!(rt; tree.with_room(&patch).is_ok());
     Ok(())
 }

@@ -1,4 +1,4 @@
-use Rattle.std.proofs.Common.{length, ap, arith}
+use Rattle.std.proofs.Common.{◌+◌, length, ap, arith}
 use Rattle.std.proofs.lemmas.List.Sums.{sum_by-take-le}
 use Rattle.json.specs.Json.{string}
 use Rattle.get_servlet.proofs.BytesLemmas.{array_bytes, in_quotes, least_more}

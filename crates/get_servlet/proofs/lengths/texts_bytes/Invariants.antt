@@ -1,4 +1,4 @@
-use Rattle.std.proofs.Common.{◌≤◌, length, take}
+use Rattle.std.proofs.Common.{◌≤◌, ◌+◌, length, take}
 use Rattle.std.specs.Prelude.{sum_by}
 use Rattle.get_servlet.proofs.lengths.texts_bytes.Given as goal
 

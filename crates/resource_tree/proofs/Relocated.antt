@@ -1,7 +1,7 @@
 -- The content with a part of it at another path: by look-ups, and good.
-use Rattle.std.proofs.Common.{◌≡◌, ◌≢◌, ◌+◌, ◌-◌, ◌≤◌, ◌||◌, ◌&&◌, ◌==◌, ℕ, Bool, true, false, cond, not, List, [], ◌∷◌, ◌++◌, map, length, refl, sym, ◌∙◌, ap, subst, Some, None, Option, ⊎_elim, ◌⊎◌, inl, inr, arith}
+use Rattle.std.proofs.Common.{◌≡◌, ◌≢◌, ◌+◌, ◌-◌, ◌||◌, ◌&&◌, ◌==◌, ℕ, Bool, true, false, cond, not, List, [], ◌∷◌, map, length, refl, sym, ◌∙◌, ap, subst, Some, None, Option, ⊎_elim, ◌⊎◌, inl, inr, arith}
 use Rattle.std.specs.Prelude.{is_some, is_none, IsSome, IsTrue, option_map, unwrap_or, filter, nat_eq, slice_get}
-use Rattle.std.specs.Cmp.Lexicographic.{pointwise, nat_list_eq_equiv, same_text}
+use Rattle.std.specs.Cmp.Lexicographic.{pointwise, same_text}
 use Rattle.std.specs.Option.{option_map_or}
 use Rattle.std.specs.List.{list_any}
 use Rattle.std.specs.List.Sorted.{IsStrictlySortedBy}
@@ -23,16 +23,15 @@ use Rattle.resource_tree.specs.Changes.{change_at, with_kid, without_kid, has_pr
 use Rattle.resource_tree.specs.Patches.{left_by}
 use Rattle.resource_tree.specs.Moves.{path_there, part, part_there, is_too_deep, target_fault, first_fault, ends_fault, move_fault, relocation, relocation_at}
 use Rattle.resource_tree.specs.Parts.{both_paths, rekeying, renamed_at, unnamed_at}
-use Rattle.resource_tree.proofs.PathLemmas.{by_path_total, kid_parts, path_from_same, same_path_self, same_path_apart}
+use Rattle.resource_tree.proofs.PathLemmas.{by_path_total, kid_parts, same_path_self, same_path_apart}
 use Rattle.resource_tree.proofs.NodeLookups.{node_at-change_at, length-change_at}
 use Rattle.resource_tree.proofs.EntriesInOrder.{same_in_order}
 use Rattle.resource_tree.proofs.Patching.{node_at-patching, sorted-patching}
-use Rattle.resource_tree.proofs.Creation.{no_fault, not_none, none_from, some_from, IsGood-from}
-use Rattle.resource_tree.proofs.Reordering.{CanMove}
+use Rattle.resource_tree.proofs.Creation.{no_fault, none_from, some_from, IsGood-from}
 use Rattle.resource_tree.proofs.Removal.{node_at-removal, IsTree-removal}
 use Rattle.resource_tree.proofs.Under.{under_root, under_kid, under_own_kid, under_self}
 use Rattle.resource_tree.proofs.Without.{keys_of-filter}
-use Rattle.resource_tree.proofs.Copying.{Hangs, IsTree-hung, there-back}
+use Rattle.resource_tree.proofs.Copying.{Hangs, IsTree-hung}
 use Rattle.resource_tree.proofs.PartThere.{row_at-part_there, under_there}
 use Rattle.resource_tree.proofs.CopyParts.{once_there, length-patching}
 use Rattle.resource_tree.proofs.Copied.{IsFree, is_free, sorted-change_at, left_none, parts, free_below, parent_apart, is_a_path}

@@ -94,7 +94,12 @@ fn kids_and(alloc: Global, kids: &[TextBuf], name: &str) -> Mem<TextList>
 }
 
 // The path at the target of one at the source or under it, if it has at most 64 segments.
-pub(crate) fn path_there(alloc: Global, source: &Path, target: &Path, path: &Path) -> Mem<Option<Path>>
+pub(crate) fn path_there(
+    alloc: Global,
+    source: &Path,
+    target: &Path,
+    path: &Path,
+) -> Mem<Option<Path>>
     requires { IsTrue (is_path target.now) }
     ensures { IfOk result (λ o. o ≡ path_or_none (path_there source.now target.now path.now)) }
 {

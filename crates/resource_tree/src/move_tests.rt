@@ -82,7 +82,11 @@ fn refusals_come_in_their_order(rt: HostRuntime) -> Result<(), Failed> {
         let source = at(alloc, source)?;
         let got = told_both(alloc, &mut tree, &source, &at(alloc, target)?)?;
         assert_eq!(rt; got.as_str(), want, "at {row}");
-        assert_eq!(rt; listing(alloc, &tree)?.as_str(), "/ /a /c* /a/b ", "at {row}");
+        assert_eq!(rt;
+            listing(alloc, &tree)?.as_str(),
+            "/ /a /c* /a/b ",
+            "at {row}"
+        );
     }
     Ok(())
 }
@@ -124,7 +128,8 @@ fn changed(
 }
 
 // Source and target, and the tree after the copy and after the move.
-const PARTS: &str = "/a /c/b => / /a /c /a/z* /a/b /c/k /c/b /a/z/y /c/b/z* /c/b/b /c/b/z/y | / /c /c/k /c/b /c/b/z* /c/b/b /c/b/z/y 
+const PARTS: &str =
+    "/a /c/b => / /a /c /a/z* /a/b /c/k /c/b /a/z/y /c/b/z* /c/b/b /c/b/z/y | / /c /c/k /c/b /c/b/z* /c/b/b /c/b/z/y 
 /a/z /a/x => / /a /c /a/z* /a/b /a/x* /c/k /a/z/y /a/x/y | / /a /c /a/b /a/x* /c/k /a/x/y 
 /a/z /c/z => / /a /c /a/z* /a/b /c/k /c/z* /a/z/y /c/z/y | / /a /c /a/b /c/k /c/z* /c/z/y 
 /c/k /k => / /a /c /k /a/z* /a/b /c/k /a/z/y | / /a /c /k /a/z* /a/b /a/z/y ";
@@ -163,6 +168,9 @@ fn large_parts_are_copied_and_moved(rt: HostRuntime) -> Result<(), Failed> {
     assert_eq!(rt; got.as_str(), "FullTree | Ok");
     assert_eq!(rt; tree.len(), 131_073);
     assert_eq!(rt; kids(alloc, &tree, "/")?.as_str(), " b");
-    assert_eq!(rt; kids(alloc, &tree, "/b/q/p")?.as_str(), " a b c d e f g h i j k l m n o");
+    assert_eq!(rt;
+        kids(alloc, &tree, "/b/q/p")?.as_str(),
+        " a b c d e f g h i j k l m n o"
+    );
     Ok(())
 }

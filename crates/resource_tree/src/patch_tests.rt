@@ -11,12 +11,7 @@ use std::alloc::Global;
 use std::hash::RandomState;
 
 // The patch that sets a value of the node at a path.
-fn size_patch(
-    alloc: Global,
-    seeds: RandomState,
-    tree: &Tree,
-    path: &Path,
-) -> Result<Patch, Failed>
+fn size_patch(alloc: Global, seeds: RandomState, tree: &Tree, path: &Path) -> Result<Patch, Failed>
     ensures { IfOk result (λ patch. IsGood (patching tree.now patch)) }
 {
     let mut after = tree.duplicate(alloc)?;

@@ -1,4 +1,4 @@
-use Rattle.std.proofs.Common.{[], ◌∙◌, ap, refl}
+use Rattle.std.proofs.Common.{◌∙◌, ap, refl}
 use Rattle.std.specs.FinMap.Entries.{put}
 use Rattle.sp_base.specs.Names.{by_name}
 use Rattle.resource_tree.proofs.PatchTests.{HasSegmentNames-one}

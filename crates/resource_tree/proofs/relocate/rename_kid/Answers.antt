@@ -1,4 +1,4 @@
-use Rattle.std.proofs.Common.{rules, ◌≡◌, ◌≢◌, ◌∙◌, sym, ap, true, false, List, ℕ, ◌∷◌, [], ◌++◌}
+use Rattle.std.proofs.Common.{rules, ◌≡◌, ◌∙◌, sym, ap, true, false, ◌∷◌, [], ◌++◌}
 use Rattle.std.proofs.lemmas.Bool.{true≢false}
 use Rattle.resource_tree.specs.Content.{Content, same_path, node_at}
 use Rattle.resource_tree.specs.Kids.{other_kids}

@@ -1,4 +1,4 @@
-use Rattle.std.proofs.Common.{rules, ◌≡◌, ◌≢◌, ◌∙◌, sym, ap, subst, ℕ, List, None, Some, not, false}
+use Rattle.std.proofs.Common.{rules, ◌≡◌, ◌≢◌, ◌∙◌, sym, ap, subst, None, Some, not, false}
 use Rattle.std.specs.List.{list_any}
 use Rattle.sp_base.specs.Paths.{is_path}
 use Rattle.resource_tree.specs.declared.faults.TreeFault.{TreeFault}

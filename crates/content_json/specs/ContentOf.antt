@@ -1,10 +1,11 @@
--- The content that bytes stand for, or the first fault that they have.
+-- The content that bytes stand for as JSON (RFC 8259), or the first fault that they have.
 use Rattle.std.specs.Prelude.{ℕ, suc, List, [], ◌∷◌, length, Bool, ◌||◌, nat_lt, if◌then◌else◌, Option, Some, None, Result, Ok, Err}
 use Rattle.std.specs.FinMap.Entries.{put}
 use Rattle.std.specs.List.{list_any}
 use Rattle.std.specs.Str.{is_utf8}
 use Rattle.serde_json.specs.Data.{Data, null, boolean, number, string, array, object, Members}
 use Rattle.serde_json.specs.Read.{read}
+use Rattle.sp_base.specs.Paths.{most_segments}
 use Rattle.resource_tree.specs.Content.{Content, by_path}
 use Rattle.content_json.specs.declared.fault.Cause.{Cause}
 use Rattle.content_json.specs.declared.fault.Cause.TheVariants as cause
@@ -20,7 +21,7 @@ json_of bytes = if is_utf8 bytes then read bytes else None
 
 -- more than 200,000 nodes, the root among them, or one below 64 levels
 abbrev pub is_too_big : Members → Bool
-is_too_big ms = nat_lt 200000 (suc (count_below ms)) || is_deeper_below 64 ms
+is_too_big ms = nat_lt 200000 (suc (count_below ms)) || is_deeper_below most_segments ms
 
 abbrev pub refused_by : Cause → List (List ℕ) → ContentFault
 refused_by cause.BadName path = BadName path
@@ -35,7 +36,7 @@ map_of (e ∷ nodes) = put by_path e.0 e.1 (map_of nodes)
 
 -- so it is, by the paths of the tree: more than 200,000 of them, or one of more than 64 segments
 abbrev pub exceeds_limits : Content → Bool
-exceeds_limits tree = nat_lt 200000 (length tree) || list_any (λ e. nat_lt 64 (length e.0)) tree
+exceeds_limits tree = nat_lt 200000 (length tree) || list_any (λ e. nat_lt most_segments (length e.0)) tree
 
 -- a fault is told before the size is looked at
 abbrev pub unless_found : Option Found → Members → Result Content ContentFault

@@ -5,6 +5,7 @@ use Rattle.std.specs.List.{list_any}
 use Rattle.std.specs.Str.{bytes_eq}
 use Rattle.serde_json.specs.Data.{Data, null, boolean, number, string, array, object, Items, no_items, item, Members, no_members, member}
 use Rattle.serde_json.specs.Find.{as_str, as_array, as_i64, get_member}
+use Rattle.sp_base.specs.Paths.{most_segments}
 use Rattle.content_json.specs.declared.fault.Cause.{Cause}
 use Rattle.content_json.specs.declared.fault.Cause.TheVariants.{BadName, BadNumber, BadOrder}
 use Rattle.content_json.specs.declared.fault.Found.{Found}
@@ -29,7 +30,7 @@ here cause = record { cause = cause; place = [] }
 
 -- the same fault seen from the object that has it in its member of this name. A place of more than 64 names is cut
 abbrev pub in_member : List ℕ → Found → Found
-in_member name f = record { cause = f.cause; place = take 64 (name ∷ f.place) }
+in_member name f = record { cause = f.cause; place = take most_segments (name ∷ f.place) }
 
 -- what an object has against it before its members are looked at: its names, then `:order`
 abbrev pub own_fault : Members → Option Found

@@ -8,6 +8,7 @@ use Rattle.json.specs.Json as json
 use Rattle.json.specs.Token.{Token}
 use Rattle.json.specs.Tree.{json_tokens}
 use Rattle.serde_json.specs.Data.{Data}
+use Rattle.sp_base.specs.Paths.{most_segments}
 use Rattle.sp_base.specs.Names.{by_name}
 use Rattle.sp_base.specs.declared.value.Value.{Value}
 use Rattle.resource_tree.specs.declared.nodes.Node.{Node}
@@ -48,7 +49,7 @@ order_tokens (name ∷ names) = Token.key order_name ∷ json_tokens (json.array
 
 -- the node at a path, and all below it
 abbrev pub whole_at : Content → List (List ℕ) → json.Json
-whole_at tree path = node_json tree (64 - length path) path
+whole_at tree path = node_json tree (most_segments - length path) path
 
 -- the tokens of kids of these names
 abbrev pub kid_tokens : Content → List (List ℕ) → List (List ℕ) → List Token

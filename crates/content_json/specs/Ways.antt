@@ -2,6 +2,7 @@
 use Rattle.std.specs.Prelude.{◌≡◌, take, ℕ, List, [], ◌∷◌, Option, Some, None, if◌then◌else◌, option_and_then, option_map}
 use Rattle.serde_json.specs.Data.{Data}
 use Rattle.serde_json.specs.Find.{get, as_object}
+use Rattle.sp_base.specs.Paths.{most_segments}
 use Rattle.resource_tree.specs.declared.nodes.Node.{Node}
 use Rattle.content_json.specs.declared.fault.Found.{Found}
 use Rattle.content_json.specs.Names.{is_order}
@@ -22,5 +23,5 @@ pub record IsPlaced (top : Data) (found : Found) : Type 0 where
   pub way : List (List ℕ)
   pub value : Data
   pub at : way_end way top ≡ Some value
-  pub place : found.place ≡ take 64 way
+  pub place : found.place ≡ take most_segments way
   pub cause : own_cause value ≡ Some found.cause

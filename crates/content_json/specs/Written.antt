@@ -1,10 +1,11 @@
--- The JSON text of a tree: each node is an object of its properties, then `:order`, then its kids.
+-- The JSON text (RFC 8259) of a tree: each node is an object of its properties, then `:order`, then its kids.
 use Rattle.std.specs.Prelude.{ℕ, zero, suc, ◌==◌, ◌&&◌, Bool, true, not, slice_index, List, [], ◌∷◌, length}
 use Rattle.std.specs.List.{list_all}
 use Rattle.std.specs.Option.{option_map_or}
 use Rattle.json.specs.Json.{Json, string, array, object, Members, no_members, member}
 use Rattle.json.specs.Tree.{json_tokens}
 use Rattle.json.specs.Print.{print}
+use Rattle.sp_base.specs.Paths.{most_segments}
 use Rattle.sp_base.specs.declared.value.Value.{Value}
 use Rattle.sp_base.specs.declared.value.Value.TheVariants.{Text, Long, Truth, Texts, Longs, Truths}
 use Rattle.resource_tree.specs.declared.nodes.Node.{Node}
@@ -38,7 +39,7 @@ node_json tree (suc levels) path = node_before tree path (kids_json (λ name. no
 
 -- the compact text of the whole tree; a path has at most 64 segments
 unfoldable pub tree_text : Content → List ℕ
-tree_text tree = print (json_tokens (node_json tree 64 []))
+tree_text tree = print (json_tokens (node_json tree most_segments []))
 
 -- a name that doesn't begin with a colon
 abbrev pub has_no_colon : List ℕ → Bool

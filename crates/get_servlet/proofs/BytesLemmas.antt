@@ -52,14 +52,18 @@ escape_no_shorter : (s : List ℕ) → length s ≤ length (escape s)
 escape_no_shorter [] = omega arith
 escape_no_shorter (x ∷ s) = omega (arith, byte_some x, length-append (escape_byte x) (escape s), escape_no_shorter s)
 
-quoted_no_shorter : (s : List ℕ) → length s ≤ length (quoted s)
-quoted_no_shorter s = omega (arith, escape_no_shorter s, length-append (escape s) (34 ∷ []))
+quoted_longer : (s : List ℕ) → length s + 2 ≤ length (quoted s)
+quoted_longer s = omega (arith, escape_no_shorter s, length-append (escape s) (34 ∷ []))
 
 pub key_bytes : (name : List ℕ) → length name ≤ length (token_text (Token.key name))
-key_bytes name = omega (arith, quoted_no_shorter name, length-append (quoted name) (58 ∷ []))
+key_bytes name = omega (arith, quoted_longer name, length-append (quoted name) (58 ∷ []))
+
+-- with its quotes
+pub in_quotes : (text : List ℕ) → length text + 2 ≤ bytes_in (json_tokens (string text))
+in_quotes text = omega (arith, quoted_longer text, bytes-cons (Token.string text) [])
 
 pub string_bytes : (text : List ℕ) → length text ≤ bytes_in (json_tokens (string text))
-string_bytes text = omega (arith, quoted_no_shorter text, bytes-cons (Token.string text) [])
+string_bytes text = omega (arith, in_quotes text)
 
 -- ---- a number has a digit, and a truth four bytes
 

@@ -1,4 +1,4 @@
--- A resource as JSON: an object of its properties and then, above depth 0, of the kids that it shows, in their order and at a depth one less.
+-- A resource as JSON (Apache Sling, "Rendering content, default GET servlets"): an object of its properties and then, above depth 0, of the kids that it shows, in their order and at a depth one less.
 use Rattle.std.specs.Prelude.{◌+◌, ◌∷◌, ℕ, Bool, zero, suc, nat_eq, nat_le, if◌then◌else◌, is_some, List, [], Option, Some, None, option_map, Result, Ok, Err, sum_by}
 use Rattle.std.specs.List.{list_any}
 use Rattle.std.specs.Cmp.Lexicographic.{pointwise}
@@ -64,7 +64,11 @@ shown_at seen (suc depth) path res = 1 + sum_by (λ name. kid_count (shown_at se
 abbrev pub shown : Seen → Resource → ℕ → ℕ
 shown seen res depth = shown_at seen depth res.path res
 
--- the greatest depth up to this one that is 1 or shows at most 1,000 resources
+-- the most resources that a text of a depth above 1 shows
+abbrev pub most_resources : ℕ
+most_resources = 1000
+
+-- the greatest depth up to this one that is 1 or shows at most so many
 unfoldable pub greatest_fitting : (ℕ → ℕ) → ℕ → ℕ
 greatest_fitting count zero = 1
-greatest_fitting count (suc depth) = if nat_le (count (suc depth)) 1000 then suc depth else greatest_fitting count depth
+greatest_fitting count (suc depth) = if nat_le (count (suc depth)) most_resources then suc depth else greatest_fitting count depth

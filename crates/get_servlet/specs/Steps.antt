@@ -9,7 +9,7 @@ use Rattle.sp_base.specs.declared.path.PathFault.{PathFault}
 use Rattle.resource_tree.specs.Seen.{Resource, Seen}
 use Rattle.property_json.specs.PropertyJson.{Adds}
 use Rattle.get_servlet.specs.declared.kids.Kid.{Kid}
-use Rattle.get_servlet.specs.Rendering.{shown_kid, resource_json, shown_at, greatest_fitting}
+use Rattle.get_servlet.specs.Rendering.{most_resources, shown_kid, resource_json, shown_at, greatest_fitting}
 
 -- ---- kids
 
@@ -77,4 +77,4 @@ GathersAll most (Some found) kids = (found ≡ kids) × (length kids ≤ most)
 
 -- the depth to ask for instead of one above 1 that shows more than 1,000 resources
 abbrev pub depth_instead : (ℕ → ℕ) → ℕ → Option ℕ
-depth_instead count depth = if nat_le depth 1 || nat_le (count depth) 1000 then None else Some (greatest_fitting count depth)
+depth_instead count depth = if nat_le depth 1 || nat_le (count depth) most_resources then None else Some (greatest_fitting count depth)

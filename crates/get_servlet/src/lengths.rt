@@ -10,12 +10,15 @@ use sp_base::{PropList, TextBuf, Value};
 /// The bytes of `true`.
 const TRUTH_BYTES: usize = 4;
 
+/// The two quotes of a text.
+const QUOTE_BYTES: usize = 2;
+
 fn texts_bytes(texts: &[TextBuf]) -> usize
     ensures { result ≤ bytes_in (json_tokens (array (items_of string texts.now))) }
 {
     let mut bytes = 0usize;
     for text in texts {
-        bytes = bytes.saturating_add(text.text().len());
+        bytes = bytes.saturating_add(text.text().len().saturating_add(QUOTE_BYTES));
     }
     bytes
 }

@@ -1,3 +1,4 @@
+//! Templates: where they are cut, what they write, and their faults.
 use crate::{RenderFault, Template, TextFault};
 use htl_expr::Scope;
 use sp_base::{NoMemory, PropList, TextBuf, TextList, Value};

@@ -1,4 +1,4 @@
--- What may be asked for instead of too many levels.
+-- What may be asked for instead of too many levels (RFC 9110, section 15.4.1).
 use Rattle.std.specs.Prelude.{◌+◌, ◌++◌, ℕ, List, codes, decimal, map, reverse}
 use Rattle.std.specs.List.{range_with_len}
 use Rattle.json.specs.Tree.{json_tokens}
@@ -7,7 +7,7 @@ use Rattle.sp_base.specs.Paths.{text_of}
 use Rattle.sp_base.specs.declared.value.Value.TheVariants.{Texts}
 use Rattle.property_json.specs.PropertyJson.{json_of_value}
 
--- the target of JSON at a depth, behind the text of a resource's path
+-- the target of JSON at a depth, after the text of a resource's path
 abbrev pub choice : List ℕ → ℕ → List ℕ
 choice path depth = path ++ codes "." ++ decimal depth ++ codes ".json"
 

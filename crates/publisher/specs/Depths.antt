@@ -1,4 +1,4 @@
--- The depth that the selectors of a request for JSON ask for.
+-- The depth that the selectors of a request for JSON ask for (Apache Sling, "Rendering content, default GET servlets").
 use Rattle.std.specs.Prelude.{◌==◌, ◌&&◌, ◌||◌, ℕ, Bool, not, nat_eq, nat_le, if◌then◌else◌, List, [], ◌∷◌, Option, Some, None, option_map, codes, length, slice_index}
 use Rattle.std.specs.Str.Parse.{digits_value}
 use Rattle.std.specs.Cmp.Lexicographic.{pointwise}

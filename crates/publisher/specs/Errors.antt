@@ -1,4 +1,4 @@
--- Answers of a media type and a body, and those of errors.
+-- Answers of a media type and a body, and those of errors (RFC 9110, section 15).
 use Rattle.std.specs.Prelude.{◌==◌, ◌++◌, ℕ, if◌then◌else◌, List, [], ◌∷◌, codes, decimal, unwrap_or}
 use Rattle.http.specs.StatusCode.{reason_phrase}
 use Rattle.sp_base.specs.declared.answer.Answer.{Answer}

@@ -1,3 +1,4 @@
+//! The answers that only say a status.
 ghost use Rattle.std.specs.Prelude.{◌≡◌, IfOk};
 ghost use Rattle.publisher.specs.Errors.{answer_of, phrase_of, error_answer};
 

@@ -1,3 +1,4 @@
+//! The publisher: a content tree, the templates of its scripts, and the answer to a request.
 ghost use Rattle.std.specs.Prelude.{◌≡◌, ◌≤◌, ◌+◌, ℕ, List, true, length, IfOk};
 ghost use Rattle.resource_tree.specs.Seen.{res_at};
 ghost use Rattle.url_split.specs.Split.{split_of};

@@ -1,3 +1,4 @@
+//! Answers of whole requests on small contents.
 use crate::{Publisher, error_answer};
 use resource_tree::{Tree, TreeFault};
 use sp_base::{Answer, Ask, ByteBuf, Mark, NoMemory, Path, TextBuf, TruthList, Value};
@@ -5,7 +6,7 @@ use std::alloc::{AllocError, Global};
 use std::hash::RandomState;
 use std::io;
 
-/// A refusal or want of memory where a test expects none.
+/// A refusal, or out of memory, where a test expects none.
 #[derive(Debug, Drop)]
 struct Failed;
 

@@ -1,7 +1,7 @@
 -- The search as a function: it tries the namings in the order of their ranks, at each type, each place and each spelling. It names the result
 -- in the contracts of callers, and is no part of what the ranking is: that is Ranking, and the law `search_finds_the_first` ties the two.
 use Rattle.std.specs.Prelude.{◌++◌, ◌∷◌, [], ℕ, zero, suc, Bool, if◌then◌else◌, List, Option, Some, None, Result, Ok, Err, codes, length, min}
-use Rattle.sp_base.specs.Paths.{is_empty, path_of, text_of}
+use Rattle.sp_base.specs.Paths.{is_empty, most_segments, path_of, text_of}
 use Rattle.sp_base.specs.declared.path.PathFault.{PathFault}
 use Rattle.resource_tree.specs.Content.{Content, name_of}
 use Rattle.type_chain.specs.Types.{places}
@@ -23,7 +23,7 @@ without_selectors html = LabelAndExtension ∷ Extension ∷ (if html then Label
 
 -- a path has at most 64 segments, so no script is named after more selectors
 abbrev pub most_selectors : Parts → ℕ
-most_selectors parts = min (length parts.selectors) 64
+most_selectors parts = min (length parts.selectors) most_segments
 
 abbrev pub namings : Parts → List Naming
 namings parts = if is_empty parts.extension then [] else with_selectors (is_html parts) (most_selectors parts) ++ without_selectors (is_html parts)

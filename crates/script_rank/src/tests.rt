@@ -1,3 +1,4 @@
+//! The first-ranked script, for each naming and with those before it taken away.
 use crate::{first_script, script_of};
 use resource_tree::{Tree, TreeFault};
 use sp_base::{NoMemory, Path, PathFault, PropList, TextBuf, TextList, Value};

@@ -3,7 +3,7 @@ use Rattle.std.proofs.Common.{◌≡◌, ◌≢◌, ◌+◌, ◌-◌, ◌*◌, �
 use Rattle.std.specs.Prelude.{flat_map, nat_lt, nat_le}
 use Rattle.std.proofs.lemmas.Bool.{cases_eq, cases_lt}
 use Rattle.std.proofs.lemmas.Bool.Decides.{nat_tests}
-use Rattle.sling_dispatch.specs.Transcript.{hex, escape, quoted}
+use Rattle.sling_dispatch.specs.Transcript.{hex, quoted_byte, quotation}
 
 unhex : ℕ → ℕ
 unhex d = if nat_lt d 58 then d - 48 else d - 87
@@ -68,7 +68,7 @@ told_letter n letter r e apart =
     let t : eqb letter 120 ≡ false = grind (arith, nat_tests) in
     record { value = e; rest = rw t refl; begins = omega arith }
 
-told_escape : (b : ℕ) (r : List ℕ) → Spelled (escape b ++ r) b r
+told_escape : (b : ℕ) (r : List ℕ) → Spelled (quoted_byte b ++ r) b r
 unfolding named
 told_escape b r =
     told_at 34 (92 ∷ 34 ∷ []) r (told_letter 34 34 r refl (omega arith)) b _ (λ quote.
@@ -78,30 +78,30 @@ told_escape b r =
     told_at 9 (codes "\\t") r (told_letter 9 116 r refl (omega arith)) b _ (λ no_tab.
     told_other b r quote slash (nat_le 32 b && nat_le b 126))))))
 
-one_escape : (b c : ℕ) (r s : List ℕ) → escape b ++ r ≡ escape c ++ s → (b ≡ c) × (r ≡ s)
+one_escape : (b c : ℕ) (r s : List ℕ) → quoted_byte b ++ r ≡ quoted_byte c ++ s → (b ≡ c) × (r ≡ s)
 one_escape b c r s e =
     let x = told_escape b r in
     let y = told_escape c s in
     (sym x.value ∙ ap value_of e ∙ y.value, sym x.rest ∙ ap rest_of e ∙ y.rest)
 
-no_quote : (b : ℕ) (r s : List ℕ) → escape b ++ r ≡ 34 ∷ s → ⊥
+no_quote : (b : ℕ) (r s : List ℕ) → quoted_byte b ++ r ≡ 34 ∷ s → ⊥
 no_quote b r s e = (told_escape b r).begins (ap (λ t. get_or t 0 0) e)
 
-one_escaped : (x y r s : List ℕ) → flat_map escape x ++ 34 ∷ r ≡ flat_map escape y ++ 34 ∷ s → (x ≡ y) × (r ≡ s)
+one_escaped : (x y r s : List ℕ) → flat_map quoted_byte x ++ 34 ∷ r ≡ flat_map quoted_byte y ++ 34 ∷ s → (x ≡ y) × (r ≡ s)
 one_escaped [] [] r s e = (refl, cc)
 one_escaped [] (c ∷ y) r s e =
-    absurd (no_quote c (flat_map escape y ++ 34 ∷ s) r (sym (append_assoc (escape c) (flat_map escape y) (34 ∷ s)) ∙ sym e))
+    absurd (no_quote c (flat_map quoted_byte y ++ 34 ∷ s) r (sym (append_assoc (quoted_byte c) (flat_map quoted_byte y) (34 ∷ s)) ∙ sym e))
 one_escaped (b ∷ x) [] r s e =
-    absurd (no_quote b (flat_map escape x ++ 34 ∷ r) s (sym (append_assoc (escape b) (flat_map escape x) (34 ∷ r)) ∙ e))
+    absurd (no_quote b (flat_map quoted_byte x ++ 34 ∷ r) s (sym (append_assoc (quoted_byte b) (flat_map quoted_byte x) (34 ∷ r)) ∙ e))
 one_escaped (b ∷ x) (c ∷ y) r s e =
-    let head = one_escape b c (flat_map escape x ++ 34 ∷ r) (flat_map escape y ++ 34 ∷ s)
-    (sym (append_assoc (escape b) (flat_map escape x) (34 ∷ r)) ∙ e ∙ append_assoc (escape c) (flat_map escape y) (34 ∷ s)) in
+    let head = one_escape b c (flat_map quoted_byte x ++ 34 ∷ r) (flat_map quoted_byte y ++ 34 ∷ s)
+    (sym (append_assoc (quoted_byte b) (flat_map quoted_byte x) (34 ∷ r)) ∙ e ∙ append_assoc (quoted_byte c) (flat_map quoted_byte y) (34 ∷ s)) in
     let tail = one_escaped x y r s head.1 in
     (cc (head.0, tail.0), tail.1)
 
-quoted_then : (x r : List ℕ) → quoted x ++ r ≡ 34 ∷ (flat_map escape x ++ 34 ∷ r)
-quoted_then x r = ap (λ t. 34 ∷ t) (append_assoc (flat_map escape x) (34 ∷ []) r)
+quoted_then : (x r : List ℕ) → quotation x ++ r ≡ 34 ∷ (flat_map quoted_byte x ++ 34 ∷ r)
+quoted_then x r = ap (λ t. 34 ∷ t) (append_assoc (flat_map quoted_byte x) (34 ∷ []) r)
 
 -- a quoted text tells the text and where it ends
-pub one_quoted : (x y r s : List ℕ) → quoted x ++ r ≡ quoted y ++ s → (x ≡ y) × (r ≡ s)
+pub one_quoted : (x y r s : List ℕ) → quotation x ++ r ≡ quotation y ++ s → (x ≡ y) × (r ≡ s)
 one_quoted x y r s e = one_escaped x y r s (ap (drop 1) (sym (quoted_then x r) ∙ e ∙ quoted_then y s))

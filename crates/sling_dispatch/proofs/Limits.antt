@@ -2,7 +2,7 @@ use Rattle.std.proofs.Common.{◌≡◌, ◌+◌, ◌<◌, ◌≤◌, ◌++◌, 
 use Rattle.std.proofs.lemmas.List.{append-nil, take-append-le, take-take, length-take, length-take-le}
 use Rattle.std.proofs.lemmas.Bool.{cases_lt}
 use Rattle.sling_dispatch.specs.Lines.{newlines}
-use Rattle.sling_dispatch.specs.Languages.{Begins, IsRefused, IsRefusedWithin}
+use Rattle.sling_dispatch.specs.Languages.{IsPrefixIn, IsRefused, IsRefusedWithin}
 use Rattle.sling_dispatch.specs.Reading.{Refuses, RefusesWithin}
 use Rattle.sling_dispatch.specs.declared.scenario.ScenarioFault.{ScenarioFault}
 use Rattle.sling_dispatch.specs.declared.scenario.ScenarioFault.TheVariants.{Line, NoMemory}
@@ -18,8 +18,8 @@ within_short A most text n short r = record {
 
 -- of one that is too long, its allowed prefix decides
 pub within_long : (A : List ℕ → Type 0) (most : ℕ) (text : List ℕ) (n : ℕ) → most < length text
-    → ((at : ℕ) → at < most → Begins A (take at text) → (Begins A (take (at + 1) text) → ⊥) → newlines (take at text) ≡ n)
-    → (Begins A (take most text) → newlines (take most text) ≡ n) → IsRefusedWithin most A text n
+    → ((at : ℕ) → at < most → IsPrefixIn A (take at text) → (IsPrefixIn A (take (at + 1) text) → ⊥) → newlines (take at text) ≡ n)
+    → (IsPrefixIn A (take most text) → newlines (take most text) ≡ n) → IsRefusedWithin most A text n
 within_long A most text n long first early = record {
   none = λ h. absurd (omega (arith, h.1));
   first = λ at lt begins not.
@@ -28,7 +28,7 @@ within_long A most text n long first early = record {
       (λ (less : at < most). first at less begins.0 (λ h. not (h, omega (arith, length-take-le (at + 1) text (omega arith)))))
       (λ (ge : most ≤ at).
       let same : at ≡ most = omega arith in
-      ap (λ k. newlines (take k text)) same ∙ early (subst (λ k. Begins A (take k text)) same begins.0))
+      ap (λ k. newlines (take k text)) same ∙ early (subst (λ k. IsPrefixIn A (take k text)) same begins.0))
       (cases_lt at most);
   early = λ begins. absurd (omega (arith, begins.1));
 }
@@ -41,7 +41,7 @@ long_refused A most text n long r =
     (λ at less begins not.
     let here : take at (take most text) ≡ take at text = take-take at most text (omega arith) in
     let next : take (at + 1) (take most text) ≡ take (at + 1) text = take-take (at + 1) most text (omega arith) in
-    ap newlines (sym here) ∙ r.first at (omega arith) (subst (Begins A) (sym here) begins) (λ h. not (subst (Begins A) next h)))
+    ap newlines (sym here) ∙ r.first at (omega arith) (subst (IsPrefixIn A) (sym here) begins) (λ h. not (subst (IsPrefixIn A) next h)))
     (λ begins. r.early begins)
 
 pub long_whole : (A : List ℕ → Type 0) (most : ℕ) (text : List ℕ) → most < length text → A (take most text)
@@ -49,7 +49,7 @@ pub long_whole : (A : List ℕ → Type 0) (most : ℕ) (text : List ℕ) → mo
 long_whole A most text long h = within_long A most text (newlines (take most text)) long
     (λ at less begins not.
     let next : take (at + 1) (take most text) ≡ take (at + 1) text = take-take (at + 1) most text (omega arith) in
-    absurd (not (subst (Begins A) next (begins_front A (at + 1) (take most text) h))))
+    absurd (not (subst (IsPrefixIn A) next (begins_front A (at + 1) (take most text) h))))
     (λ begins. refl)
 
 newlines_short : (text : List ℕ) → newlines text ≤ length text

@@ -8,7 +8,7 @@ use Rattle.content_json.specs.declared.fault.ContentFault.TheVariants.{NoMemory 
 use Rattle.sling_dispatch.specs.Languages.{IsRefusedWithin}
 use Rattle.sling_dispatch.specs.Streams.{IsReadOut}
 use Rattle.sling_dispatch.specs.Scenario.{IsScenario, Reads, most}
-use Rattle.sling_dispatch.specs.Endings.{Told, Call, IsRunOf, Writing, Nothing, UsageLine, SourceLine, RefusalLine, ContentLine, Events, text_of, Wrote, Means, IsDue, IsReplay, HasNotFailed, IsUntouched}
+use Rattle.sling_dispatch.specs.Endings.{Told, Call, IsRunOf, Writing, Nothing, UsageLine, SourceLine, RefusalLine, ContentLine, Events, output_of, HasWritten, Means, IsDue, IsReplay, HasNotFailed, IsUntouched}
 use Rattle.sling_dispatch.specs.InnerEndings.{IsDueIn, IsContentOr, Tells, IsDueAt}
 use Rattle.sling_dispatch.specs.declared.scenario.Scenario.{Scenario}
 use Rattle.sling_dispatch.proofs.Writing.{added-nothing}
@@ -31,7 +31,7 @@ out_of_memory D due sink e not_failed = (Nothing, due, (0, e ∙ sym (added-noth
 
 -- What came of writing a text that is due, of which good was to be the ending.
 pub told_line : (D : Writing → Type 0) (w : Writing) (good ending : Ending) (text : List ℕ) (sink : Told (List ℕ)) → D w
-    → (Wrote sink w → Means D good sink) → text ≡ text_of w → Tells good text ending sink → Means D ending sink
+    → (HasWritten sink w → Means D good sink) → text ≡ output_of w → Tells good text ending sink → Means D ending sink
 told_line D w good ending text sink due whole e (inl t) =
     subst (λ x. Means D x sink) (sym t.0) (whole (t.1 ∙ ap (added sink.old) e, t.2))
 told_line D w good ending text sink due whole e (inr (inl t)) =
@@ -41,7 +41,7 @@ told_line D w good ending text sink due whole e (inr (inr t)) =
 
 -- The same of a text for which memory may have run out.
 pub told_made : {T E : Type 0} (items : T → List ℕ) (D : Writing → Type 0) (w : Writing) (good ending : Ending) (line : Result T E)
-    (sink : Told (List ℕ)) → D Nothing → D w → (Wrote sink w → Means D good sink) → IfOk line (λ t. items t ≡ text_of w)
+    (sink : Told (List ℕ)) → D Nothing → D w → (HasWritten sink w → Means D good sink) → IfOk line (λ t. items t ≡ output_of w)
     → IfOk line (λ t. Tells good (items t) ending sink) → OnErr line ((ending ≡ NoMemory) × IsUntouched sink) → Means D ending sink
 told_made items D w good ending (Ok t) sink none due whole e told untold = told_line D w good ending (items t) sink due whole e told
 told_made items D w good ending (Err x) sink none due whole e told untold =

@@ -1,6 +1,6 @@
 use Rattle.std.proofs.Common.{◌≡◌, ◌≢◌, ◌+◌, ◌≤◌, ◌++◌, ℕ, List, [], ◌∷◌, sym, ◌∙◌, ap, subst, refl, arith, length, append_assoc, length-append}
 use Rattle.std.proofs.lemmas.List.{append-nil}
-use Rattle.sling_dispatch.specs.Lines.{newlines, joined}
+use Rattle.sling_dispatch.specs.Lines.{newlines, text_of_lines}
 use Rattle.sling_dispatch.specs.Languages.{IsRefused}
 use Rattle.sling_dispatch.specs.Scenario.{act_line, IsAct, AreActs, act_lines}
 use Rattle.sling_dispatch.specs.Reading.{FirstLine, Acts}
@@ -12,7 +12,7 @@ use Rattle.sling_dispatch.proofs.ActLaws.{behind_act, before_acts, no_acts, behi
 -- the reader has before some lines, which spell these acts
 pub record Passed (text rest : List ℕ) (acts : List Act) (before : ℕ) : Type 0 where
   pub are : AreActs acts
-  pub spelled : (later : List Act) → rest ≡ joined (act_lines later) → text ≡ joined (act_lines (acts ++ later))
+  pub path_of_bytes : (later : List Act) → rest ≡ text_of_lines (act_lines later) → text ≡ text_of_lines (act_lines (acts ++ later))
   pub refused : (n : ℕ) → IsRefused Acts rest n → IsRefused Acts text (before + n)
   pub small : before + length rest ≤ length text
 
@@ -35,7 +35,7 @@ are_push (a ∷ acts) act oks ok = (oks.0, are_push acts act oks.1 ok)
 pub passed_none : (text : List ℕ) → Passed text text [] 0
 passed_none text = record {
   are = tt;
-  spelled = λ later e. e;
+  path_of_bytes = λ later e. e;
   refused = λ n h. let e : n ≡ 0 + n = omega arith in subst (λ k. IsRefused Acts text k) e h;
   small = omega arith;
 }
@@ -47,10 +47,10 @@ passed_act text rest line after acts act before p f ok e =
     let one : newlines (act_line act) ≡ 0 = sym (ap newlines e) ∙ f.one in
     record {
       are = are_push acts act p.are ok;
-      spelled = λ later h. p.spelled (act ∷ later) (here ∙ ap (λ t. act_line act ++ 10 ∷ t) h)
-          ∙ ap (λ list. joined (act_lines list)) (sym (append_assoc acts (act ∷ []) later));
+      path_of_bytes = λ later h. p.path_of_bytes (act ∷ later) (here ∙ ap (λ t. act_line act ++ 10 ∷ t) h)
+          ∙ ap (λ list. text_of_lines (act_lines list)) (sym (append_assoc acts (act ∷ []) later));
       refused = λ n h.
-          let r = after_line Acts Acts (act_line act) after n one (behind_act act ok) (before_acts act ok) (joined (act_lines [])) no_acts h in
+          let r = after_line Acts Acts (act_line act) after n one (behind_act act ok) (before_acts act ok) (text_of_lines (act_lines [])) no_acts h in
           let r1 : IsRefused Acts text (before + (1 + n)) = p.refused (1 + n) (subst (λ t. IsRefused Acts t (1 + n)) (sym here) r) in
           let count : before + (1 + n) ≡ before + 1 + n = omega arith in
           subst (λ k. IsRefused Acts text k) count r1;
@@ -62,10 +62,10 @@ passed_act text rest line after acts act before p f ok e =
 
 -- the end was before, and nothing follows
 pub passed_all : (text rest line after : List ℕ) (acts : List Act) (before : ℕ) → Passed text rest acts before
-    → FirstLine rest line after → line ≡ 101 ∷ 110 ∷ 100 ∷ [] → after ≡ [] → text ≡ joined (act_lines acts)
+    → FirstLine rest line after → line ≡ 101 ∷ 110 ∷ 100 ∷ [] → after ≡ [] → text ≡ text_of_lines (act_lines acts)
 passed_all text rest line after acts before p f e none =
-    p.spelled [] (f.is ∙ ap (λ l. l ++ 10 ∷ after) e ∙ ap (λ t. 101 ∷ 110 ∷ 100 ∷ 10 ∷ t) none)
-    ∙ ap (λ list. joined (act_lines list)) (append-nil acts)
+    p.path_of_bytes [] (f.is ∙ ap (λ l. l ++ 10 ∷ after) e ∙ ap (λ t. 101 ∷ 110 ∷ 100 ∷ 10 ∷ t) none)
+    ∙ ap (λ list. text_of_lines (act_lines list)) (append-nil acts)
 
 pub refused_past_end : (text rest line after : List ℕ) (acts : List Act) (before : ℕ) → Passed text rest acts before
     → FirstLine rest line after → line ≡ 101 ∷ 110 ∷ 100 ∷ [] → after ≢ [] → IsRefused Acts text (before + 1)

@@ -3,11 +3,11 @@ use Rattle.std.proofs.lemmas.List.{take-append-drop, take-append-le}
 use Rattle.std.proofs.lemmas.Bool.{cases_lt}
 use Rattle.std.proofs.Math.Seq.{take-append-add}
 use Rattle.sling_dispatch.specs.Lines.{newlines}
-use Rattle.sling_dispatch.specs.Languages.{Begins, IsRefused}
+use Rattle.sling_dispatch.specs.Languages.{IsPrefixIn, IsRefused}
 use Rattle.sling_dispatch.proofs.LineLaws.{newlines-append, newlines-take}
 
 -- a prefix of a text of the language begins one
-pub begins_front : (A : List ℕ → Type 0) (k : ℕ) (text : List ℕ) → A text → Begins A (take k text)
+pub begins_front : (A : List ℕ → Type 0) (k : ℕ) (text : List ℕ) → A text → IsPrefixIn A (take k text)
 begins_front A k text h = (drop k text, subst A (sym (take-append-drop k text)) h)
 
 take_within : (k : ℕ) (front rest other : List ℕ) → k ≤ length front → take k (front ++ other) ≡ take k (front ++ rest)
@@ -24,17 +24,17 @@ refused_behind A B front rest n to from w b refused = record {
   none = λ h. refused.none (to rest h);
   first = λ at lt begins not. ⊎_elim
       (λ (le : at < length front). absurd (not
-      (subst (Begins A) (take_within (at + 1) front rest w (omega arith)) (begins_front A (at + 1) (front ++ w) (from w b)))))
+      (subst (IsPrefixIn A) (take_within (at + 1) front rest w (omega arith)) (begins_front A (at + 1) (front ++ w) (from w b)))))
       (λ (ge : length front ≤ at).
       let j = at - length front in
       let here : take at (front ++ rest) ≡ front ++ take j rest = take_past at j front rest (omega arith) in
       let next : take (at + 1) (front ++ rest) ≡ front ++ take (j + 1) rest = take_past (at + 1) (j + 1) front rest (omega arith) in
-      let begins_there : Begins B (take j rest) = (
+      let begins_there : IsPrefixIn B (take j rest) = (
         begins.0,
         to (take j rest ++ begins.0)
             (subst A (ap (λ t. t ++ begins.0) here ∙ append_assoc front (take j rest) begins.0) begins.1),
       ) in
-      let not_there : Begins B (take (j + 1) rest) → ⊥ = λ h. not (
+      let not_there : IsPrefixIn B (take (j + 1) rest) → ⊥ = λ h. not (
         h.0,
         subst A (sym (ap (λ t. t ++ h.0) next ∙ append_assoc front (take (j + 1) rest) h.0)) (from (take (j + 1) rest ++ h.0) h.1),
       ) in
@@ -84,7 +84,7 @@ pub refused_more : (text : List ℕ) → text ≢ [] → IsRefused IsNothing tex
 refused_more [] some = absurd (some refl)
 refused_more (b ∷ text) some = record {
   none = λ h. cc;
-  first = λ at lt begins not. elim at as (λ k. Begins IsNothing (take k (b ∷ text)) → newlines (take k (b ∷ text)) ≡ 0) [
+  first = λ at lt begins not. elim at as (λ k. IsPrefixIn IsNothing (take k (b ∷ text)) → newlines (take k (b ∷ text)) ≡ 0) [
     | zero ↦ λ _. refl
     | suc k ↦ λ h. let e : b ∷ (take k text ++ h.0) ≡ [] = h.1 in cc
   ] begins;

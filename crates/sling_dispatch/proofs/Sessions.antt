@@ -10,7 +10,7 @@ use Rattle.content_json.specs.ContentOf.{content as content_of}
 use Rattle.sling_dispatch.specs.Transcript.{event_text, transcript_from, transcript}
 use Rattle.sling_dispatch.specs.Runs.{RunState, Event, after_event, after, Run, start_of, steps_of, IsSession}
 use Rattle.sling_dispatch.specs.Fronts.{Stands, IsNext}
-use Rattle.sling_dispatch.specs.Endings.{Writing, Events, Told, seen, WrotePrefix}
+use Rattle.sling_dispatch.specs.Endings.{Writing, Events, Told, told_of, HasWrittenPrefix}
 use Rattle.sling_dispatch.specs.InnerEndings.{IsDueOf, Tells, ending_by, PlaysAll}
 use Rattle.sling_dispatch.specs.declared.scenario.Act.{Act}
 use Rattle.sling_dispatch.specs.declared.scenario.Act.TheVariants.{Do}
@@ -118,7 +118,7 @@ session_of tree acts n events s same reads run = record {
 -- only a prefix of what was gathered was written
 prefix_due : (tree : Content) (acts : List Act) (n count k : ℕ) (front : Front) (mid : Option (List ℕ)) (gathered : List ℕ) (sink : Told (List ℕ))
     → Played tree acts n count front sink.old mid gathered → sink.new ≡ added mid (take k gathered) → (s : Scenario) → s.acts ≡ acts
-    → content_of s.content ≡ Ok tree → (w : Writing) × IsDueOf s w × WrotePrefix sink w
+    → content_of s.content ≡ Ok tree → (w : Writing) × IsDueOf s w × HasWrittenPrefix sink w
 prefix_due tree acts n count k front mid gathered sink p e s same reads =
     let long = length p.sent in (
       Events s p.events,
@@ -142,7 +142,7 @@ broken_off tree acts n count k front mid gathered sink_memory sink p e cause = �
 -- no more events are made for want of memory, and what was gathered is written
 pub played_stopped : (tree : Content) (acts : List Act) (n count : ℕ) (front : Front) (mid : Option (List ℕ)) (gathered : List ℕ) (ending : Ending)
     (sink : Told (List ℕ)) → Played tree acts n count front sink.old mid gathered
-    → Tells NoMemory gathered ending (seen mid sink.new sink.faults_old sink.faults_new) → PlaysAll tree acts ending sink
+    → Tells NoMemory gathered ending (told_of mid sink.new sink.faults_old sink.faults_new) → PlaysAll tree acts ending sink
 played_stopped tree acts n count front mid gathered ending sink p (inl t) =
     subst (λ x. PlaysAll tree acts x sink) (sym t.0)
     (broken_off tree acts n count (length gathered) front mid gathered sink_memory sink p
@@ -155,7 +155,7 @@ played_stopped tree acts n count front mid gathered ending sink p (inr (inr t)) 
 -- all acts were done, and what was gathered is written
 pub played_all : (tree : Content) (acts : List Act) (n count : ℕ) (front : Front) (mid : Option (List ℕ)) (gathered : List ℕ) (ending : Ending)
     (sink : Told (List ℕ)) → n ≡ length acts → Played tree acts n count front sink.old mid gathered
-    → Tells Done gathered ending (seen mid sink.new sink.faults_old sink.faults_new) → PlaysAll tree acts ending sink
+    → Tells Done gathered ending (told_of mid sink.new sink.faults_old sink.faults_new) → PlaysAll tree acts ending sink
 played_all tree acts n count front mid gathered ending sink whole p (inl t) =
     subst (λ x. PlaysAll tree acts x sink) (sym t.0) (λ s same reads.
     let session = session_of tree acts n p.events s same reads p.run in
@@ -173,11 +173,11 @@ played_all tree acts n count front mid gathered ending sink whole p (inr (inr t)
 
 -- what a text tells of the sink, from the call's beginning on
 pub told_from : (good : Ending) (gathered text : List ℕ) (ending : Ending) (mid : Option (List ℕ)) (faults : ℕ) (sink : Told (List ℕ)) → text ≡ gathered
-    → faults ≡ sink.faults_old → Tells good text ending (seen mid sink.new faults sink.faults_new)
-    → Tells good gathered ending (seen mid sink.new sink.faults_old sink.faults_new)
+    → faults ≡ sink.faults_old → Tells good text ending (told_of mid sink.new faults sink.faults_new)
+    → Tells good gathered ending (told_of mid sink.new sink.faults_old sink.faults_new)
 told_from good gathered text ending mid faults sink same none t =
-    subst (λ (b : List ℕ). Tells good b ending (seen mid sink.new sink.faults_old sink.faults_new)) same
-    (subst (λ (n : ℕ). Tells good text ending (seen mid sink.new n sink.faults_new)) none t)
+    subst (λ (b : List ℕ). Tells good b ending (told_of mid sink.new sink.faults_old sink.faults_new)) same
+    (subst (λ (n : ℕ). Tells good text ending (told_of mid sink.new n sink.faults_new)) none t)
 
 -- the act at a place of the list
 pub act_at : (acts items : List Act) (i : ℕ) (act : Act) → items ≡ acts → i < length items → act ≡ get_or items i act

@@ -5,7 +5,7 @@ use Rattle.std.proofs.lemmas.List.{take_all, take_more}
 use Rattle.std.proofs.lemmas.Str.{IsUtf8-from_is_utf8, is_utf8-from_IsUtf8}
 use Rattle.std.specs.List.{position_or_len, before_first}
 use Rattle.std.specs.Str.{IsUtf8, is_utf8}
-use Rattle.sling_dispatch.specs.Targets.{as_text, ends_in_slash, without_slash}
+use Rattle.sling_dispatch.specs.Targets.{utf8_text, ends_in_slash, without_slash}
 
 not_true : (b : Bool) → (b ≡ true → ⊥) → b ≡ false
 not_true true other = absurd (other refl)
@@ -52,8 +52,8 @@ slash_alone text front e none =
 pub stays : (text : List ℕ) → ends_in_slash text ≡ false → text ≡ without_slash text
 stays text e = ap (λ b. cond b (take (length text - 1) text) text) (sym e)
 
-pub is_text : (bytes : List ℕ) → IsUtf8 bytes → Some bytes ≡ as_text bytes
+pub is_text : (bytes : List ℕ) → IsUtf8 bytes → Some bytes ≡ utf8_text bytes
 is_text bytes h = ap (λ b. cond b (Some bytes) None) (sym (is_utf8-from_IsUtf8 bytes h))
 
-pub is_no_text : (bytes : List ℕ) → (IsUtf8 bytes → ⊥) → None ≡ as_text bytes
+pub is_no_text : (bytes : List ℕ) → (IsUtf8 bytes → ⊥) → None ≡ utf8_text bytes
 is_no_text bytes other = ap (λ b. cond b (Some bytes) None) (sym (not_true (is_utf8 bytes) (λ e. other (IsUtf8-from_is_utf8 bytes e))))

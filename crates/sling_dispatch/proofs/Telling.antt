@@ -11,7 +11,7 @@ use Rattle.std.proofs.lemmas.Str.Parse.{IsNumeralModel, numerals_by_value, tells
 use Rattle.sp_base.specs.declared.answer.Answer.{Answer}
 use Rattle.sp_base.specs.declared.answer.Mark.{Mark}
 use Rattle.sp_base.specs.declared.answer.Mark.TheVariants.{Plain, NoCache, NoStore, MustRevalidate}
-use Rattle.sling_dispatch.specs.Transcript.{quoted, quoted_or_dash, mark_text, answer_text, note_text, event_text, transcript_from, transcript, IsWritable, AreWritable, EventsAreWritable}
+use Rattle.sling_dispatch.specs.Transcript.{quotation, quotation_or_dash, mark_text, answer_text, note_text, event_text, transcript_from, transcript, IsWritable, AreWritable, EventsAreWritable}
 use Rattle.sling_dispatch.specs.declared.note.Note.{Note}
 use Rattle.sling_dispatch.specs.declared.note.Note.TheVariants.{Answer as answered}
 use Rattle.sling_dispatch.proofs.Escapes.{one_quoted}
@@ -49,7 +49,7 @@ abbrev dash_or : List ℕ → List ℕ → List ℕ
 dash_or [] spelling = codes "-"
 dash_or (b ∷ x) spelling = spelling
 
-dash_or_quoted : (x : List ℕ) → quoted_or_dash x ≡ dash_or x (quoted x)
+dash_or_quoted : (x : List ℕ) → quotation_or_dash x ≡ dash_or x (quotation x)
 dash_or_quoted [] = refl
 dash_or_quoted (b ∷ x) = refl
 
@@ -60,9 +60,9 @@ one_dash_or [] (c ∷ y) p q r s hp hq both e = absurd (omega (arith, ap (λ t. 
 one_dash_or (b ∷ x) [] p q r s hp hq both e = absurd (omega (arith, ap (λ t. get_or t 0 0) e, hp))
 one_dash_or (b ∷ x) (c ∷ y) p q r s hp hq both e = both e
 
-one_quoted_or_dash : (x y r s : List ℕ) → quoted_or_dash x ++ r ≡ quoted_or_dash y ++ s → (x ≡ y) × (r ≡ s)
+one_quoted_or_dash : (x y r s : List ℕ) → quotation_or_dash x ++ r ≡ quotation_or_dash y ++ s → (x ≡ y) × (r ≡ s)
 one_quoted_or_dash x y r s e =
-    one_dash_or x y (quoted x) (quoted y) r s refl refl (one_quoted x y r s)
+    one_dash_or x y (quotation x) (quotation y) r s refl refl (one_quoted x y r s)
     (sym (ap (λ t. t ++ r) (dash_or_quoted x)) ∙ e ∙ ap (λ t. t ++ s) (dash_or_quoted y))
 
 one_mark : (m n : Mark) (r s : List ℕ) → mark_text m ++ 32 ∷ r ≡ mark_text n ++ 32 ∷ s → (m ≡ n) × (r ≡ s)
@@ -98,8 +98,8 @@ parts d k l m q r =
     ∙ append_assoc d b (k ++ (32 ∷ (l ++ (32 ∷ (m ++ (32 ∷ (q ++ r)))))))
 
 answer_spread : (a : Answer) (r : List ℕ) → answer_text a ++ r
-    ≡ decimal a.status ++ (32 ∷ (quoted_or_dash a.kind ++ (32 ∷ (quoted_or_dash a.location ++ (32 ∷ (mark_text a.mark ++ (32 ∷ (quoted a.body ++ r))))))))
-answer_spread a r = parts (decimal a.status) (quoted_or_dash a.kind) (quoted_or_dash a.location) (mark_text a.mark) (quoted a.body) r
+    ≡ decimal a.status ++ (32 ∷ (quotation_or_dash a.kind ++ (32 ∷ (quotation_or_dash a.location ++ (32 ∷ (mark_text a.mark ++ (32 ∷ (quotation a.body ++ r))))))))
+answer_spread a r = parts (decimal a.status) (quotation_or_dash a.kind) (quotation_or_dash a.location) (mark_text a.mark) (quotation a.body) r
 
 same_answer : (a b : Answer) → a.status ≡ b.status → a.kind ≡ b.kind → a.location ≡ b.location → a.mark ≡ b.mark → a.body ≡ b.body → a ≡ b
 same_answer a b status kind location mark body =

@@ -25,8 +25,8 @@ pub record Told (T : Type 0) : Type 0 where
   pub faults_old : ℕ
   pub faults_new : ℕ
 
-abbrev pub seen : {T : Type 0} → Option T → Option T → ℕ → ℕ → Told T
-seen old new faults_old faults_new = record { old = old; new = new; faults_old = faults_old; faults_new = faults_new }
+abbrev pub told_of : {T : Type 0} → Option T → Option T → ℕ → ℕ → Told T
+told_of old new faults_old faults_new = record { old = old; new = new; faults_old = faults_old; faults_new = faults_new }
 
 -- no call of it failed
 abbrev pub HasNotFailed : {T : Type 0} → Told T → Type 0
@@ -49,32 +49,32 @@ pub data Writing : Type 0 where
   ContentLine : ContentFault → Writing
   Events : Scenario → List (List Note) → Writing
 
-abbrev pub text_of : Writing → List ℕ
-text_of Nothing = []
-text_of UsageLine = codes "usage: replay" ++ 10 ∷ []
-text_of SourceLine = codes "source failed" ++ 10 ∷ []
-text_of (RefusalLine before) = codes "scenario refused at line " ++ decimal (before + 1) ++ 10 ∷ []
-text_of (ContentLine fault) = codes "content refused: " ++ fault_text fault ++ 10 ∷ []
-text_of (Events s events) = transcript events
+abbrev pub output_of : Writing → List ℕ
+output_of Nothing = []
+output_of UsageLine = codes "usage: replay" ++ 10 ∷ []
+output_of SourceLine = codes "source failed" ++ 10 ∷ []
+output_of (RefusalLine before) = codes "scenario refused at line " ++ decimal (before + 1) ++ 10 ∷ []
+output_of (ContentLine fault) = codes "content refused: " ++ fault_text fault ++ 10 ∷ []
+output_of (Events s events) = transcript events
 
 -- the whole text was written
-abbrev pub Wrote : Told (List ℕ) → Writing → Type 0
-Wrote sink w = (sink.new ≡ added sink.old (text_of w)) × HasNotFailed sink
+abbrev pub HasWritten : Told (List ℕ) → Writing → Type 0
+HasWritten sink w = (sink.new ≡ added sink.old (output_of w)) × HasNotFailed sink
 
 -- a prefix of it was
-abbrev pub WrotePrefix : Told (List ℕ) → Writing → Type 0
-WrotePrefix sink w = (n : ℕ) × (sink.new ≡ added sink.old (take n (text_of w)))
+abbrev pub HasWrittenPrefix : Told (List ℕ) → Writing → Type 0
+HasWrittenPrefix sink w = (n : ℕ) × (sink.new ≡ added sink.old (take n (output_of w)))
 
 -- What each ending says of the sink, where IsDue says what may be written.
 abbrev pub Means : (Writing → Type 0) → Ending → Told (List ℕ) → Type 0
 Means IsDue Done sink = (s : Scenario) × (events : List (List Note)) × IsDue (Events s events) × IsSession s (length s.acts) events
-    × Wrote sink (Events s events)
-Means IsDue Usage sink = IsDue UsageLine × Wrote sink UsageLine
-Means IsDue SourceFailed sink = IsDue SourceLine × Wrote sink SourceLine
-Means IsDue Refused sink = (before : ℕ) × IsDue (RefusalLine before) × Wrote sink (RefusalLine before)
-Means IsDue ContentRefused sink = (fault : ContentFault) × IsDue (ContentLine fault) × Wrote sink (ContentLine fault)
-Means IsDue SinkFailed sink = (w : Writing) × IsDue w × WrotePrefix sink w × HasFailed sink
-Means IsDue NoMemory sink = (w : Writing) × IsDue w × WrotePrefix sink w × HasNotFailed sink
+    × HasWritten sink (Events s events)
+Means IsDue Usage sink = IsDue UsageLine × HasWritten sink UsageLine
+Means IsDue SourceFailed sink = IsDue SourceLine × HasWritten sink SourceLine
+Means IsDue Refused sink = (before : ℕ) × IsDue (RefusalLine before) × HasWritten sink (RefusalLine before)
+Means IsDue ContentRefused sink = (fault : ContentFault) × IsDue (ContentLine fault) × HasWritten sink (ContentLine fault)
+Means IsDue SinkFailed sink = (w : Writing) × IsDue w × HasWrittenPrefix sink w × HasFailed sink
+Means IsDue NoMemory sink = (w : Writing) × IsDue w × HasWrittenPrefix sink w × HasNotFailed sink
 
 -- these are first events of the scenario
 abbrev pub IsRunOf : Scenario → List (List Note) → Type 0
@@ -91,7 +91,7 @@ IsReplay words = words ≡ codes "replay" ∷ []
 abbrev pub AreWordsOf : Option (List (List ℕ)) → List (List ℕ) → Type 0
 AreWordsOf told words = IfSome told (λ all. words ≡ all)
 
--- what is seen of one call of `run`, beside the sink
+-- what is told of one call of `run`, beside the sink
 pub record Call : Type 0 where
   pub words : List (List ℕ)
   pub source : Told (List ℕ)

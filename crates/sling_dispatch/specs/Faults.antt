@@ -1,20 +1,20 @@
 -- How a fault of a content is written.
 use Rattle.std.specs.Prelude.{◌++◌, ℕ, List, [], codes}
-use Rattle.sp_base.specs.Paths.{text_of as path_text}
+use Rattle.sp_base.specs.Paths.{text_of}
 use Rattle.content_json.specs.declared.fault.ContentFault.{ContentFault}
 use Rattle.content_json.specs.declared.fault.ContentFault.TheVariants.{NotJson, NotObject, BadName, BadNumber, MixedArray, BadOrder, TooBig, NoMemory}
 
 -- a fault at a place of the content
-abbrev pub placed : List ℕ → List (List ℕ) → List ℕ
-placed name path = name ++ codes " at " ++ path_text path
+abbrev pub fault_at_path : List ℕ → List (List ℕ) → List ℕ
+fault_at_path name path = name ++ codes " at " ++ text_of path
 
 -- a fault of a content, by its name and its place
 abbrev pub fault_text : ContentFault → List ℕ
 fault_text NotJson = codes "NotJson"
 fault_text NotObject = codes "NotObject"
-fault_text (BadName path) = placed (codes "BadName") path
-fault_text (BadNumber path) = placed (codes "BadNumber") path
-fault_text (MixedArray path) = placed (codes "MixedArray") path
-fault_text (BadOrder path) = placed (codes "BadOrder") path
+fault_text (BadName path) = fault_at_path (codes "BadName") path
+fault_text (BadNumber path) = fault_at_path (codes "BadNumber") path
+fault_text (MixedArray path) = fault_at_path (codes "MixedArray") path
+fault_text (BadOrder path) = fault_at_path (codes "BadOrder") path
 fault_text TooBig = codes "TooBig"
 fault_text NoMemory = []

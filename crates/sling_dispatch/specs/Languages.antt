@@ -3,8 +3,8 @@ use Rattle.std.specs.Prelude.{◌≡◌, ◌+◌, ◌<◌, ◌≤◌, ◌++◌, 
 use Rattle.sling_dispatch.specs.Lines.{newlines}
 
 -- the bytes begin a text of the language
-abbrev pub Begins : (List ℕ → Type 0) → List ℕ → Type 0
-Begins Text bytes = (more : List ℕ) × Text (bytes ++ more)
+abbrev pub IsPrefixIn : (List ℕ → Type 0) → List ℕ → Type 0
+IsPrefixIn Text bytes = (more : List ℕ) × Text (bytes ++ more)
 
 -- The bytes are no text of the language, and n newlines stand before the first byte with which they are no prefix of one
 -- any more, or before their end where they end too early. So the line of the refusal is n + 1.
@@ -14,9 +14,9 @@ pub record IsRefusedBy (Text Prefix : List ℕ → Type 0) (bytes : List ℕ) (n
   pub early : Prefix bytes → newlines bytes ≡ n
 
 abbrev pub IsRefused : (List ℕ → Type 0) → List ℕ → ℕ → Type 0
-IsRefused Text bytes n = IsRefusedBy Text (Begins Text) bytes n
+IsRefused Text bytes n = IsRefusedBy Text (IsPrefixIn Text) bytes n
 
 -- the same where a text has at most `most` bytes: a longer one is refused at the byte past them
 abbrev pub IsRefusedWithin : ℕ → (List ℕ → Type 0) → List ℕ → ℕ → Type 0
 IsRefusedWithin most Text bytes n =
-    IsRefusedBy (λ t. Text t × (length t ≤ most)) (λ t. Begins Text t × (length t ≤ most)) bytes n
+    IsRefusedBy (λ t. Text t × (length t ≤ most)) (λ t. IsPrefixIn Text t × (length t ≤ most)) bytes n

@@ -7,9 +7,9 @@ newlines [] = 0
 newlines (b ∷ bytes) = (if b == 10 then 1 else 0) + newlines bytes
 
 -- lines, each with its newline
-abbrev pub joined : List (List ℕ) → List ℕ
-joined [] = []
-joined (line ∷ lines) = line ++ 10 ∷ joined lines
+abbrev pub text_of_lines : List (List ℕ) → List ℕ
+text_of_lines [] = []
+text_of_lines (line ∷ lines) = line ++ 10 ∷ text_of_lines lines
 
 -- none of them has a newline within
 abbrev pub AreLines : List (List ℕ) → Type 0

@@ -1,7 +1,7 @@
 -- Scaffolding: the languages of the parts of a scenario, for the private functions of the reader and for proofs alone. A reader
 -- of the theorem needs none of it.
 use Rattle.std.specs.Prelude.{◌≡◌, ◌≢◌, ◌⊎◌, ◌+◌, ◌≤◌, ◌++◌, ℕ, List, ◌∷◌, [], length, take, drop, codes}
-use Rattle.sling_dispatch.specs.Lines.{newlines, joined, AreLines}
+use Rattle.sling_dispatch.specs.Lines.{newlines, text_of_lines, AreLines}
 use Rattle.sling_dispatch.specs.Languages.{IsRefused, IsRefusedWithin}
 use Rattle.sling_dispatch.specs.Scenario.{AreActs, AreBlock, act_lines}
 use Rattle.sling_dispatch.specs.declared.scenario.Act.{Act}
@@ -20,7 +20,7 @@ Lacks want text = (newlines text ≡ 0) ⊎ ((line : List ℕ) × (rest : List �
 
 -- the part after the content
 abbrev pub Acts : List ℕ → Type 0
-Acts text = (acts : List Act) × AreActs acts × (text ≡ joined (act_lines acts))
+Acts text = (acts : List Act) × AreActs acts × (text ≡ text_of_lines (act_lines acts))
 
 -- the fault names the line at which the text is refused
 abbrev pub Refuses : (List ℕ → Type 0) → List ℕ → ScenarioFault → Type 0
@@ -38,9 +38,9 @@ pub record SpellsBody (text : List ℕ) (s : Scenario) : Type 0 where
   pub block : List (List ℕ)
   pub lines : AreLines block
   pub no_dot : AreBlock block
-  pub content : s.content ≡ joined block
+  pub content : s.content ≡ text_of_lines block
   pub acts : AreActs s.acts
-  pub text_is : text ≡ joined (block ++ codes "." ∷ act_lines s.acts)
+  pub text_is : text ≡ text_of_lines (block ++ codes "." ∷ act_lines s.acts)
 
 abbrev pub IsBody : List ℕ → Type 0
 IsBody text = (s : Scenario) × SpellsBody text s
@@ -54,8 +54,8 @@ pub record EndsBlock (text : List ℕ) (at before : ℕ) : Type 0 where
   pub block : List (List ℕ)
   pub lines : AreLines block
   pub no_dot : AreBlock block
-  pub content : take at text ≡ joined block
-  pub text_is : text ≡ joined block ++ 46 ∷ 10 ∷ drop (at + 2) text
+  pub content : take at text ≡ text_of_lines block
+  pub text_is : text ≡ text_of_lines block ++ 46 ∷ 10 ∷ drop (at + 2) text
   pub within : at + 2 ≤ length text
   pub refused : (n : ℕ) → IsRefused Acts (drop (at + 2) text) n → IsRefused IsBody text (before + 1 + n)
   pub small : before ≤ at
@@ -65,6 +65,6 @@ IfLine (Line n) P = P n
 IfLine NoMemory P = Unit {0}
 
 -- the same fault, lines further down
-abbrev pub shifted : ScenarioFault → ℕ → ScenarioFault
-shifted (Line n) lines = Line (n + lines)
-shifted NoMemory lines = NoMemory
+abbrev pub fault_further : ScenarioFault → ℕ → ScenarioFault
+fault_further (Line n) lines = Line (n + lines)
+fault_further NoMemory lines = NoMemory

@@ -1,7 +1,7 @@
 -- Which scenario bytes spell.
 use Rattle.std.specs.Prelude.{◌≡◌, ◌≢◌, ◌≤◌, ◌++◌, ◌&&◌, ◌==◌, ℕ, Bool, not, nat_le, List, [], ◌∷◌, map, codes, IsTrue, length}
 use Rattle.std.specs.List.{list_all}
-use Rattle.sling_dispatch.specs.Lines.{joined, AreLines}
+use Rattle.sling_dispatch.specs.Lines.{text_of_lines, AreLines}
 use Rattle.sling_dispatch.specs.declared.scenario.Act.{Act}
 use Rattle.sling_dispatch.specs.declared.scenario.Act.TheVariants.{Do}
 use Rattle.sling_dispatch.specs.declared.scenario.Step.TheVariants.{Direct}
@@ -36,13 +36,13 @@ abbrev pub act_lines : List Act → List (List ℕ)
 act_lines acts = map act_line acts ++ codes "end" ∷ []
 
 -- The text spells the scenario: its head, the lines of its content up to a dot, its acts, and the end.
-pub record Spells (text : List ℕ) (s : Scenario) : Type 0 where
+pub record SpellsScenario (text : List ℕ) (s : Scenario) : Type 0 where
   pub block : List (List ℕ)
   pub lines : AreLines block
   pub no_dot : AreBlock block
-  pub content : s.content ≡ joined block
+  pub content : s.content ≡ text_of_lines block
   pub acts : AreActs s.acts
-  pub text_is : text ≡ joined (codes "scenario 1" ∷ codes "content" ∷ (block ++ codes "." ∷ act_lines s.acts))
+  pub text_is : text ≡ text_of_lines (codes "scenario 1" ∷ codes "content" ∷ (block ++ codes "." ∷ act_lines s.acts))
 
 -- the greatest length of a scenario
 abbrev pub most : ℕ
@@ -50,7 +50,7 @@ most = 67108864
 
 -- the bytes spell the scenario, within the length allowed
 abbrev pub Reads : List ℕ → Scenario → Type 0
-Reads bytes s = Spells bytes s × (length bytes ≤ most)
+Reads bytes s = SpellsScenario bytes s × (length bytes ≤ most)
 
 abbrev pub IsScenario : List ℕ → Type 0
-IsScenario text = (s : Scenario) × Spells text s
+IsScenario text = (s : Scenario) × SpellsScenario text s

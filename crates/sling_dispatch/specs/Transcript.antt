@@ -12,19 +12,19 @@ abbrev pub hex : ℕ → ℕ
 hex n = if nat_lt n 10 then 48 + n else 87 + n
 
 -- A byte within quotes: visible bytes and blanks stand for themselves, but for the quote and the backslash.
-abbrev pub escape : ℕ → List ℕ
-escape b = if b == 34 then 92 ∷ 34 ∷ [] else (if b == 92 then 92 ∷ 92 ∷ [] else
+abbrev pub quoted_byte : ℕ → List ℕ
+quoted_byte b = if b == 34 then 92 ∷ 34 ∷ [] else (if b == 92 then 92 ∷ 92 ∷ [] else
     (if b == 13 then codes "\\r" else (if b == 10 then codes "\\n" else (if b == 9 then codes "\\t" else
     (if nat_le 32 b && nat_le b 126 then b ∷ [] else codes "\\x" ++ hex (b / 16) ∷ hex (b % 16) ∷ [])))))
 
 -- a quoted text
-abbrev pub quoted : List ℕ → List ℕ
-quoted bytes = 34 ∷ (flat_map escape bytes ++ 34 ∷ [])
+abbrev pub quotation : List ℕ → List ℕ
+quotation bytes = 34 ∷ (flat_map quoted_byte bytes ++ 34 ∷ [])
 
 -- a quoted text, or a dash where there is none
-abbrev pub quoted_or_dash : List ℕ → List ℕ
-quoted_or_dash [] = codes "-"
-quoted_or_dash (b ∷ bytes) = quoted (b ∷ bytes)
+abbrev pub quotation_or_dash : List ℕ → List ℕ
+quotation_or_dash [] = codes "-"
+quotation_or_dash (b ∷ bytes) = quotation (b ∷ bytes)
 
 abbrev pub mark_text : Mark → List ℕ
 mark_text Plain = codes "-"
@@ -34,8 +34,8 @@ mark_text MustRevalidate = codes "must-revalidate"
 
 -- an answer: its status, kind, location, mark and body
 abbrev pub answer_text : Answer → List ℕ
-answer_text a = decimal a.status ++ codes " " ++ quoted_or_dash a.kind ++ codes " " ++ quoted_or_dash a.location ++ codes " "
-    ++ mark_text a.mark ++ codes " " ++ quoted a.body
+answer_text a = decimal a.status ++ codes " " ++ quotation_or_dash a.kind ++ codes " " ++ quotation_or_dash a.location ++ codes " "
+    ++ mark_text a.mark ++ codes " " ++ quotation a.body
 
 -- the line of a note
 abbrev pub note_text : Note → List ℕ

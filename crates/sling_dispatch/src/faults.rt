@@ -1,7 +1,7 @@
 //! How a refusal is written.
 ghost use Rattle.std.specs.Prelude.{◌≡◌, ◌+◌, ◌<◌, ◌^◌, ◌++◌, ◌↔◌, ◌∷◌, [], IfOk, OnOk, IsTrue, codes};
-ghost use Rattle.sling_dispatch.specs.Faults.{placed, fault_text};
-ghost use Rattle.sling_dispatch.specs.Endings.{text_of, RefusalLine, ContentLine};
+ghost use Rattle.sling_dispatch.specs.Faults.{fault_at_path, fault_text};
+ghost use Rattle.sling_dispatch.specs.Endings.{output_of, RefusalLine, ContentLine};
 
 use crate::transcript::{push, push_number};
 use content_json::ContentFault;
@@ -11,7 +11,7 @@ use std::alloc::Global;
 // The line that names the refused line of a scenario: one more than the newlines before the place.
 pub fn refusal_line(alloc: Global, before: u64) -> Mem<Vec<u8>>
     requires { before + 1 < 2 ^ 64 }
-    ensures { IfOk result (λ text. text.items ≡ text_of (RefusalLine before)) }
+    ensures { IfOk result (λ text. text.items ≡ output_of (RefusalLine before)) }
 {
     let mut text = Vec::new(alloc);
     push(&mut text, b"scenario refused at line ")?;
@@ -27,7 +27,7 @@ pub fn is_memory(fault: &ContentFault) -> bool
 }
 
 fn push_placed(alloc: Global, out: &mut Vec<u8>, name: &[u8], path: &Path) -> Mem<()>
-    ensures { OnOk result (out.new.items ≡ out.old.items ++ placed name.now path.now) }
+    ensures { OnOk result (out.new.items ≡ out.old.items ++ fault_at_path name.now path.now) }
 {
     push(out, name)?;
     push(out, b" at ")?;
@@ -52,7 +52,7 @@ fn push_fault(alloc: Global, out: &mut Vec<u8>, fault: &ContentFault) -> Mem<()>
 
 // The line of a content that is refused.
 pub fn content_line(alloc: Global, fault: &ContentFault) -> Mem<Vec<u8>>
-    ensures { IfOk result (λ text. text.items ≡ text_of (ContentLine fault.now)) }
+    ensures { IfOk result (λ text. text.items ≡ output_of (ContentLine fault.now)) }
 {
     let mut text = Vec::new(alloc);
     push(&mut text, b"content refused: ")?;

@@ -2,9 +2,9 @@
 ghost use Rattle.std.specs.Prelude.{◌≡◌, ◌⊎◌, ◌<◌, ℕ, List, Some};
 ghost use Rattle.resource_tree.specs.Content.{Content};
 ghost use Rattle.sling_dispatch.specs.Languages.{IsRefusedWithin};
-ghost use Rattle.sling_dispatch.specs.Targets.{begins_with_slash, path_text};
+ghost use Rattle.sling_dispatch.specs.Targets.{begins_with_slash, path_bytes};
 ghost use Rattle.sling_dispatch.specs.Rendering.{direct_answer};
-ghost use Rattle.sling_dispatch.specs.Scenario.{Spells, IsScenario, Reads, most};
+ghost use Rattle.sling_dispatch.specs.Scenario.{SpellsScenario, IsScenario, Reads, most};
 ghost use Rattle.sling_dispatch.specs.Endings.{Told, Call, Means, IsDue, IsReplay, HasNotFailed, HasContent};
 ghost use Rattle.sling_dispatch.specs.declared.ending.Ending.{Ending};
 ghost use Rattle.sling_dispatch.specs.declared.ending.Ending.TheVariants.{Done, NoMemory};
@@ -17,13 +17,13 @@ use publisher::statuses_are_short;
 
 /// How the path of a target is escaped doesn't matter, apart from the slash that it begins with, nor which query follows.
 pub fn spellings_are_answered_alike()
-    ensures { (content : Content) (a b : List ℕ) → begins_with_slash a ≡ begins_with_slash b → path_text a ≡ path_text b
+    ensures { (content : Content) (a b : List ℕ) → begins_with_slash a ≡ begins_with_slash b → path_bytes a ≡ path_bytes b
         → direct_answer content a ≡ direct_answer content b }
 {}
 
 /// A text spells one scenario.
 pub fn one_reading()
-    ensures { (text : List ℕ) (s t : Scenario) → Spells text s → Spells text t → s ≡ t }
+    ensures { (text : List ℕ) (s t : Scenario) → SpellsScenario text s → SpellsScenario text t → s ≡ t }
 {}
 
 /// A text is refused at one line.

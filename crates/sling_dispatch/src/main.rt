@@ -15,8 +15,6 @@ mod rendering;
 #[cfg(test)]
 mod run_tests;
 mod scenario;
-#[cfg(test)]
-mod script_tests;
 mod streams;
 mod target;
 #[cfg(test)]

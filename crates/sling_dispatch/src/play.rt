@@ -3,7 +3,7 @@ ghost use Rattle.std.specs.Prelude.{◌≡◌, ◌++◌, ℕ, List, IfOk, OnOk, 
 ghost use Rattle.sp_outside.specs.Told.{added};
 ghost use Rattle.sp_outside.specs.Causes.{HasSinkCause};
 ghost use Rattle.sling_dispatch.specs.Fronts.{IsNext};
-ghost use Rattle.sling_dispatch.specs.Endings.{seen};
+ghost use Rattle.sling_dispatch.specs.Endings.{told_of};
 ghost use Rattle.sling_dispatch.specs.InnerEndings.{Tells, ending_by, PlaysAll};
 
 use crate::ending::Ending;
@@ -21,7 +21,7 @@ const GATHERED_BYTES: usize = 65_536;
 
 // Writes a text, after which the run ends so.
 pub fn say<K: Sink>(sink: &mut K, text: &[u8], good: Ending) -> Ending
-    ensures { Tells good text.now result (seen (K.held sink.old) (K.held sink.new) (K.faults sink.old) (K.faults sink.new)) }
+    ensures { Tells good text.now result (told_of (K.held sink.old) (K.held sink.new) (K.faults sink.old) (K.faults sink.new)) }
 {
     match write_all(sink, text) {
         Ok(()) => good,
@@ -41,7 +41,7 @@ fn ending_by(fault: SinkFault) -> Ending
 
 // Makes the events of acts, and writes their transcript. What was gathered is written whatever the run ends with.
 pub fn play<K: Sink>(alloc: Global, publisher: Publisher, acts: &ActList, sink: &mut K) -> Ending
-    ensures { PlaysAll publisher acts.now result (seen (K.held sink.old) (K.held sink.new) (K.faults sink.old) (K.faults sink.new)) }
+    ensures { PlaysAll publisher acts.now result (told_of (K.held sink.old) (K.held sink.new) (K.faults sink.old) (K.faults sink.new)) }
 {
     let mut front = Front { publisher };
     let mut gathered = Vec::new(alloc);

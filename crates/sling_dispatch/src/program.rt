@@ -4,7 +4,7 @@ ghost use Rattle.sling_dispatch.specs.declared.ending.Ending.{Ending};
 ghost use Rattle.sling_dispatch.specs.Scenario.{Reads, IsScenario, most};
 ghost use Rattle.sling_dispatch.specs.Reading.{RefusesWithin};
 ghost use Rattle.sling_dispatch.specs.Streams.{HasTaken};
-ghost use Rattle.sling_dispatch.specs.Endings.{Means, IsDue, IsReplay, IsUntouched, seen, status_of};
+ghost use Rattle.sling_dispatch.specs.Endings.{Means, IsDue, IsReplay, IsUntouched, told_of, status_of};
 ghost use Rattle.sling_dispatch.specs.InnerEndings.{IsDueAt, IsDueIn, IsContentOr, Tells};
 
 use crate::ending::Ending;
@@ -37,9 +37,9 @@ pub fn run<S: Source, K: Sink>(
     ensures ending { (e : Ending) × (result ≡ status_of e) × Means
         (IsDue (record {
           words = map (λ w. w.now) words.now;
-          source = seen (S.left source.old) (S.left source.new) (S.faults source.old) (S.faults source.new);
+          source = told_of (S.left source.old) (S.left source.new) (S.faults source.old) (S.faults source.new);
         }))
-        e (seen (K.held sink.old) (K.held sink.new) (K.faults sink.old) (K.faults sink.new)) }
+        e (told_of (K.held sink.old) (K.held sink.new) (K.faults sink.old) (K.faults sink.new)) }
 {
     ending(alloc, seeds, words, source, sink).status()
 }
@@ -55,9 +55,9 @@ fn ending<S: Source, K: Sink>(
     ensures ending { Means
         (IsDue (record {
           words = map (λ w. w.now) words.now;
-          source = seen (S.left source.old) (S.left source.new) (S.faults source.old) (S.faults source.new);
+          source = told_of (S.left source.old) (S.left source.new) (S.faults source.old) (S.faults source.new);
         }))
-        result (seen (K.held sink.old) (K.held sink.new) (K.faults sink.old) (K.faults sink.new)) }
+        result (told_of (K.held sink.old) (K.held sink.new) (K.faults sink.old) (K.faults sink.new)) }
 {
     if !is_replay(words) {
         return say(sink, b"usage: replay\n", Ending::Usage);
@@ -80,8 +80,8 @@ fn is_replay(words: &[&[u8]]) -> bool
 
 // Writes a line, where memory was there to make it, after which the run ends so.
 fn say_line<K: Sink>(sink: &mut K, line: Mem<Vec<u8>>, good: Ending) -> Ending
-    ensures made { IfOk line (λ text. Tells good text.items result (seen (K.held sink.old) (K.held sink.new) (K.faults sink.old) (K.faults sink.new))) }
-    ensures not_made { OnErr line ((result ≡ Ending.NoMemory) × IsUntouched (seen (K.held sink.old) (K.held sink.new) (K.faults sink.old) (K.faults sink.new))) }
+    ensures made { IfOk line (λ text. Tells good text.items result (told_of (K.held sink.old) (K.held sink.new) (K.faults sink.old) (K.faults sink.new))) }
+    ensures not_made { OnErr line ((result ≡ Ending.NoMemory) × IsUntouched (told_of (K.held sink.old) (K.held sink.new) (K.faults sink.old) (K.faults sink.new))) }
 {
     match line {
         Ok(text) => say(sink, &text, good),
@@ -91,7 +91,7 @@ fn say_line<K: Sink>(sink: &mut K, line: Mem<Vec<u8>>, good: Ending) -> Ending
 
 // Runs the scenario that a text spells. The text is given up before the content is read.
 fn replay<K: Sink>(alloc: Global, seeds: RandomState, text: Vec<u8>, sink: &mut K) -> Ending
-    ensures { Means (IsDueAt text.items) result (seen (K.held sink.old) (K.held sink.new) (K.faults sink.old) (K.faults sink.new)) }
+    ensures { Means (IsDueAt text.items) result (told_of (K.held sink.old) (K.held sink.new) (K.faults sink.old) (K.faults sink.new)) }
 {
     match scenario_of(alloc, text) {
         Ok(scenario) => session(alloc, seeds, scenario, sink),
@@ -112,7 +112,7 @@ fn scenario_of(alloc: Global, text: Vec<u8>) -> Result<Scenario, ScenarioFault>
 
 // Runs a scenario. The bytes of its content are given up before the run begins.
 fn session<K: Sink>(alloc: Global, seeds: RandomState, scenario: Scenario, sink: &mut K) -> Ending
-    ensures { Means (IsDueIn scenario) result (seen (K.held sink.old) (K.held sink.new) (K.faults sink.old) (K.faults sink.new)) }
+    ensures { Means (IsDueIn scenario) result (told_of (K.held sink.old) (K.held sink.new) (K.faults sink.old) (K.faults sink.new)) }
 {
     let Scenario { content, acts } = scenario;
     let read = read_tree(alloc, seeds, content.bytes());
@@ -125,7 +125,7 @@ fn session<K: Sink>(alloc: Global, seeds: RandomState, scenario: Scenario, sink:
 
 // Says why the content is refused.
 fn refuse_content<K: Sink>(alloc: Global, fault: &ContentFault, sink: &mut K) -> Ending
-    ensures { Means (IsContentOr fault.now) result (seen (K.held sink.old) (K.held sink.new) (K.faults sink.old) (K.faults sink.new)) }
+    ensures { Means (IsContentOr fault.now) result (told_of (K.held sink.old) (K.held sink.new) (K.faults sink.old) (K.faults sink.new)) }
 {
     if is_memory(fault) {
         return Ending::NoMemory;

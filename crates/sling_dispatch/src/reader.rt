@@ -1,10 +1,10 @@
 //! Reads a scenario by its grammar.
 ghost use Rattle.std.specs.Prelude.{[], ◌≡◌, ◌≢◌, ◌+◌, ◌≤◌, ◌<◌, ◌^◌, ◌++◌, ◌∷◌, ℕ, List, IfOk, IfErr, IfSome, IfNone, MatchResult, IsTrue, length, take, drop, codes};
 ghost use Rattle.std.specs.List.{list_all};
-ghost use Rattle.sling_dispatch.specs.Lines.{newlines, joined, AreLines};
+ghost use Rattle.sling_dispatch.specs.Lines.{newlines, text_of_lines, AreLines};
 ghost use Rattle.sling_dispatch.specs.Languages.{IsRefused};
-ghost use Rattle.sling_dispatch.specs.Scenario.{is_visible, is_target, act_line, IsAct, AreActs, AreBlock, act_lines, Spells, IsScenario};
-ghost use Rattle.sling_dispatch.specs.Reading.{Refuses, RefusesWithin, SpellsBody, IsBody, EndsBlock, IfLine, shifted, Acts};
+ghost use Rattle.sling_dispatch.specs.Scenario.{is_visible, is_target, act_line, IsAct, AreActs, AreBlock, act_lines, SpellsScenario, IsScenario};
+ghost use Rattle.sling_dispatch.specs.Reading.{Refuses, RefusesWithin, SpellsBody, IsBody, EndsBlock, IfLine, fault_further, Acts};
 ghost use Rattle.sling_dispatch.specs.declared.scenario.ScenarioFault.TheVariants.{Line, NoMemory as no_memory};
 
 use crate::lines::{after_line, count_newlines, first_line, same};
@@ -19,7 +19,7 @@ fn all_visible(text: &[u8]) -> bool
     text.iter().all(|b| *b >= 33 && *b <= 126)
 }
 
-fn is_word(text: &[u8]) -> bool
+fn is_target_text(text: &[u8]) -> bool
     ensures { result ≡ is_target text.now }
 {
     !text.is_empty() && all_visible(text)
@@ -41,7 +41,7 @@ fn read_act(alloc: Global, line: &[u8]) -> Mem<Option<Act>>
     ensures none { IfOk result (λ o. IfNone o ((act : Act) → IsAct act → line.now ≢ act_line act)) }
 {
     match line.strip_prefix(b"direct ") {
-        Some(target) if is_word(target) => {
+        Some(target) if is_target_text(target) => {
             let text = visible_text(alloc, target)?;
             Ok(Some(Act::Do(Step::Direct(text))))
         }
@@ -63,7 +63,7 @@ fn ended(acts: ActList, after: &[u8], before: u64) -> Result<ActList, ScenarioFa
 
 // Reads acts up to the end.
 fn read_acts(alloc: Global, text: &[u8]) -> Result<ActList, ScenarioFault>
-    ensures ok { IfOk result (λ acts. AreActs acts × (text.now ≡ joined (act_lines acts))) }
+    ensures ok { IfOk result (λ acts. AreActs acts × (text.now ≡ text_of_lines (act_lines acts))) }
     ensures err { IfErr result (Refuses Acts text.now) }
 {
     let mut acts = Items::new(alloc);
@@ -103,7 +103,7 @@ fn block_end(text: &[u8]) -> Result<(usize, u64), u64>
 // The same fault, lines further down.
 fn later(fault: ScenarioFault, lines: u64) -> ScenarioFault
     requires { IfLine fault (λ n. n + lines < 2 ^ 64) }
-    ensures { result ≡ shifted fault lines }
+    ensures { result ≡ fault_further fault lines }
 {
     match fault {
         ScenarioFault::Line(n) => ScenarioFault::Line(n + lines),
@@ -129,7 +129,7 @@ fn read_body(alloc: Global, text: &[u8]) -> Result<Scenario, ScenarioFault>
 
 // The scenario that a text spells, or the line at which it is refused.
 fn read_scenario(alloc: Global, text: &[u8]) -> Result<Scenario, ScenarioFault>
-    ensures ok { IfOk result (λ s. Spells text.now s) }
+    ensures ok { IfOk result (λ s. SpellsScenario text.now s) }
     ensures err { IfErr result (Refuses IsScenario text.now) }
 {
     let Some(first) = after_line(text, b"scenario 1") else {
@@ -146,7 +146,7 @@ fn read_scenario(alloc: Global, text: &[u8]) -> Result<Scenario, ScenarioFault>
 
 // The same where a scenario has at most `limit` bytes. The text is all of them, or more than these.
 pub fn read_limited(alloc: Global, text: &[u8], limit: usize) -> Result<Scenario, ScenarioFault>
-    ensures ok { IfOk result (λ s. Spells text.now s × (length text.now ≤ limit)) }
+    ensures ok { IfOk result (λ s. SpellsScenario text.now s × (length text.now ≤ limit)) }
     ensures err { IfErr result (RefusesWithin limit IsScenario text.now) }
 {
     if text.len() <= limit {

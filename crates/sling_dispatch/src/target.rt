@@ -5,7 +5,7 @@ ghost use Rattle.std.specs.Option.{option_map};
 ghost use Rattle.std.specs.Result.{result_ok};
 ghost use Rattle.percent_encoding.specs.Percent.{percent_decode as decoding};
 ghost use Rattle.sp_base.specs.Paths.{path_of, unmangled};
-ghost use Rattle.sling_dispatch.specs.Targets.{is_mark, query_of, begins_with_slash, ends_in_slash, without_slash as trimmed, as_text, target_of};
+ghost use Rattle.sling_dispatch.specs.Targets.{is_mark, query_of, begins_with_slash, ends_in_slash, without_slash as trimmed, utf8_text, target_of};
 
 use percent_encoding::{DecodeError, percent_decode};
 use sp_base::{ByteBuf, Mem, NoMemory, Path, PathFault, TextBuf};
@@ -70,7 +70,7 @@ fn first_mark(target: &[u8]) -> Option<usize>
 
 // The text of a path, where it decodes to UTF-8.
 fn decoded(alloc: Global, path: &[u8]) -> Mem<Option<TextBuf>>
-    ensures { IfOk result (λ o. o ≡ as_text (decoding path.now)) }
+    ensures { IfOk result (λ o. o ≡ utf8_text (decoding path.now)) }
 {
     match percent_decode(path).decode_utf8(alloc) {
         Ok(text) => Ok(Some(TextBuf::of(alloc, &text)?)),

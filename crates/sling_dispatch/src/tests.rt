@@ -130,182 +130,14 @@ fn refuses_contents(rt: HostRuntime) -> Result<(), Fail> {
     Ok(())
 }
 
-// Contents that are asked.
-const EN: &[u8] = b"{\"content\":{\"en\":{\"title\":\"Hello\",\"jcr:title\":\"Hi\"}}}";
-
-const LOGO: &[u8] =
-    b"{\"content\":{\"logo.txt\":{\"jcr:content\":{\"jcr:data\":\"hey\",\"jcr:mimeType\":\"text/plain\"}}}}";
-
-const KINDS: &[u8] = b"{\"a\":{\"n\":3,\"t\":[true],\"k\":{\"x\":\"y\"}}}";
-
-const DOTTED: &[u8] = b"{\"a\":{\"b\":{\"x\":\"b\"},\"b.s1\":{\"x\":\"s\",\"k\":{}}}}";
-
-const MARKED: &[u8] = b"{\"a\":{\"sp:mark\":\"no-store\"}}";
-
-const BAD: &str = "answer 400 \"text/plain;charset=utf-8\" - - \"400 Bad Request\\n\"";
-
-const LOST: &str = "answer 404 \"text/plain;charset=utf-8\" - - \"404 Not Found\\n\"";
-
-// A content, what it is asked for, and how it answers.
-const TARGETS: [(&[u8], &[u8], &str); 17] = [
-    (
-        EN,
-        b"/content/en.json",
-        "answer 200 \"application/json;charset=utf-8\" - - \"{\\\"jcr:title\\\":\\\"Hi\\\",\\\"title\\\":\\\"Hello\\\"}\"",
-    ),
-    (EN, b"/content/x.json", LOST),
-    (EN, b"/content/en.html", LOST),
-    (EN, b"/content/en", LOST),
-    (
-        LOGO,
-        b"/content/logo.txt",
-        "answer 200 \"text/plain\" - - \"hey\"",
-    ),
-    (
-        LOGO,
-        b"/content/logo.txt/",
-        "answer 200 \"text/plain\" - - \"hey\"",
-    ),
-    (
-        KINDS,
-        b"/a.1.json",
-        "answer 200 \"application/json;charset=utf-8\" - - \"{\\\"n\\\":3,\\\"t\\\":[true],\\\"k\\\":{\\\"x\\\":\\\"y\\\"}}\"",
-    ),
-    (
-        KINDS,
-        b"/a.json",
-        "answer 200 \"application/json;charset=utf-8\" - - \"{\\\"n\\\":3,\\\"t\\\":[true]}\"",
-    ),
-    (KINDS, b"/a.x.json", BAD),
-    (KINDS, b"/a//b", BAD),
-    (
-        DOTTED,
-        b"/a/b.s1.json",
-        "answer 200 \"application/json;charset=utf-8\" - - \"{\\\"x\\\":\\\"s\\\"}\"",
-    ),
-    (
-        DOTTED,
-        b"/a/b.s1.1.json/c/d.txt",
-        "answer 200 \"application/json;charset=utf-8\" - - \"{\\\"x\\\":\\\"s\\\",\\\"k\\\":{}}\"",
-    ),
-    (
-        DOTTED,
-        b"/a/b.1.json",
-        "answer 200 \"application/json;charset=utf-8\" - - \"{\\\"x\\\":\\\"b\\\"}\"",
-    ),
-    (DOTTED, b"/a/b.s2.json", BAD),
-    (DOTTED, b"/a/b/c/d", LOST),
-    (DOTTED, b"/a/b./c/d", LOST),
-    (
-        MARKED,
-        b"/a.json",
-        "answer 200 \"application/json;charset=utf-8\" - no-store \"{\\\"sp:mark\\\":\\\"no-store\\\"}\"",
-    ),
-];
-
-#[test]
-fn answers_targets(rt: HostRuntime) -> Result<(), Fail> {
-    let seeds = RandomState::new(&rt)?;
-    for (content, target, wanted) in TARGETS {
-        let written = answered(rt.alloc(), seeds, content, target)?;
-        let wanted = format!(in rt.alloc(); "@ 1\n{wanted}\n")?;
-        assert_eq!(rt; written.as_slice(), wanted.as_bytes(), "{target:?}");
-    }
-    Ok(())
-}
-
-// Which resource a target names: each has its own text.
-#[test]
-fn reads_targets(rt: HostRuntime) -> Result<(), Fail> {
-    let seeds = RandomState::new(&rt)?;
-    let content =
-        "{\"x\":\"root\",\"content\":{\"en\":{\"x\":\"en\"},\"a+b\":{\"x\":\"plus\"},\"5%\":{\"x\":\"percent\"},\"jcr:content\":{\"x\":\"jcr\"},\"\u{e9}\":{\"x\":\"accent\"}}}";
-    let cases: [(&[u8], u16, &str); 36] = [
-        (b"/content/en.json", 200, "en"),
-        (b"/content/%65n.json", 200, "en"),
-        (b"/content/e%6E%2ejson", 200, "en"),
-        (b"/content%2Fen.json", 200, "en"),
-        (b"/content/%2565n.json", 404, "Not Found"),
-        (b"/content/%C3%A9.json", 200, "accent"),
-        (b"/content/%E9.json", 400, "Bad Request"),
-        (b"/content/%ff", 400, "Bad Request"),
-        (b"/content/a+b.json", 200, "plus"),
-        (b"/content/a%2bb.json", 200, "plus"),
-        (b"/content/a%20b.json", 404, "Not Found"),
-        (b"/content/5%.json", 200, "percent"),
-        (b"/content/5%25.json", 200, "percent"),
-        (b"/%", 404, "Not Found"),
-        (b"/%4", 404, "Not Found"),
-        (b"/%zz", 404, "Not Found"),
-        (b"/content/en.json?q=1", 200, "en"),
-        (b"/content/en.json?", 200, "en"),
-        (b"/content/en.json?/../%ff?", 200, "en"),
-        (b"?q=1", 400, "Bad Request"),
-        (b"/content/en%3Fq.json", 404, "Not Found"),
-        (b"/.json", 200, "root"),
-        (b"/", 404, "Not Found"),
-        (b"//", 404, "Not Found"),
-        (b"///", 400, "Bad Request"),
-        (b"/content/en.json/", 200, "en"),
-        (b"/content/en.json//", 400, "Bad Request"),
-        (b"/content//en.json", 400, "Bad Request"),
-        (b"/content/./en.json", 400, "Bad Request"),
-        (b"/content/en/../en.json", 400, "Bad Request"),
-        (b"/content/%2e%2e/content/en.json", 400, "Bad Request"),
-        (b"/content/_jcr_content.json", 200, "jcr"),
-        (b"/content/jcr:content.json", 200, "jcr"),
-        (b"content/en.json", 400, "Bad Request"),
-        (b"%2Fcontent/en.json", 400, "Bad Request"),
-        (b"%2fcontent/en.json?q=1", 400, "Bad Request"),
-    ];
-    for (target, status, what) in cases {
-        let written = answered(rt.alloc(), seeds, content.as_bytes(), target)?;
-        let wanted = told(rt.alloc(), status, what)?;
-        assert_eq!(rt; written.as_slice(), wanted.as_bytes(), "{target:?}");
-    }
-    Ok(())
-}
-
-// A path has at most 64 segments, and a segment at most 200 bytes, decoded and before it is unmangled.
-#[test]
-fn measures_targets(rt: HostRuntime) -> Result<(), Fail> {
-    let seeds = RandomState::new(&rt)?;
-    let cases: [(&[u8], &[u8], u32, u16, &str); 8] = [
-        (b"", b"/a", 64, 404, "Not Found"),
-        (b"", b"/a", 65, 400, "Bad Request"),
-        (b"/", b"a", 200, 404, "Not Found"),
-        (b"/", b"a", 201, 400, "Bad Request"),
-        (b"/", b"%61", 200, 404, "Not Found"),
-        (b"/", b"%61", 201, 400, "Bad Request"),
-        (b"/_jcr_", b"a", 195, 404, "Not Found"),
-        (b"/_jcr_", b"a", 196, 400, "Bad Request"),
-    ];
-    for (prefix, unit, count, status, what) in cases {
-        let target = repeated(rt.alloc(), prefix, unit, count)?;
-        let written = answered(rt.alloc(), seeds, b"{}", &target)?;
-        let wanted = told(rt.alloc(), status, what)?;
-        assert_eq!(rt;
-            written.as_slice(),
-            wanted.as_bytes(),
-            "{count} of {unit:?}"
-        );
-    }
-    Ok(())
-}
-
-// At most 1,000 resources are shown below one another, and at most 4,194,304 bytes.
+// An answer has at most 4,194,304 bytes.
 #[test]
 fn measures_answers(rt: HostRuntime) -> Result<(), Fail> {
     let seeds = RandomState::new(&rt)?;
     let json = "@ 1\nanswer 200 \"application/json;charset=utf-8\" - - \"{\\\"";
-    let choices =
-        "@ 1\nanswer 300 \"application/json;charset=utf-8\" - - \"[\\\"/content/big.1.json\\\",\\\"/content/big.0.json\\\"]\"\n";
     let failed =
         "@ 1\nanswer 500 \"text/plain;charset=utf-8\" - - \"500 Internal Server Error\\n\"\n";
-    let cases: [(Vec<u8>, &[u8], &str); 5] = [
-        (big(rt.alloc(), 999)?, b"/content/big.2.json", json),
-        (big(rt.alloc(), 1_000)?, b"/content/big.2.json", choices),
-        (big(rt.alloc(), 1_000)?, b"/content/big.1.json", json),
+    let cases: [(Vec<u8>, &[u8], &str); 2] = [
         (long(rt.alloc(), 4_194_304)?, b"/.json", json),
         (long(rt.alloc(), 4_194_305)?, b"/.json", failed),
     ];
@@ -317,7 +149,7 @@ fn measures_answers(rt: HostRuntime) -> Result<(), Fail> {
 }
 
 // What a run writes where a target is asked of a content.
-pub fn answered(
+fn answered(
     alloc: Global,
     seeds: RandomState,
     content: &[u8],
@@ -326,35 +158,6 @@ pub fn answered(
     let line = line_of(alloc, target)?;
     let (_, written) = replayed(alloc, seeds, scenario(alloc, content, &line)?)?;
     Ok(written)
-}
-
-// What is written of a resource with this text alone, or of an error with this phrase.
-fn told(alloc: Global, status: u16, what: &str) -> Result<String, AllocError> {
-    if status == 200 {
-        return format!(in alloc;
-            "@ 1\nanswer 200 \"application/json;charset=utf-8\" - - \"{{\\\"x\\\":\\\"{what}\\\"}}\"\n"
-        );
-    }
-    format!(in alloc;
-        "@ 1\nanswer {status} \"text/plain;charset=utf-8\" - - \"{status} {what}\\n\"\n"
-    )
-}
-
-// A text, and another `count` times after it.
-fn repeated(alloc: Global, prefix: &[u8], unit: &[u8], count: u32) -> Result<Vec<u8>, AllocError> {
-    let mut text = prefix.to_vec(alloc)?;
-    for _ in 0..count {
-        text.extend_from_slice(unit)?;
-    }
-    Ok(text)
-}
-
-// A content with a resource that has `kids` kids.
-fn big(alloc: Global, kids: u32) -> Result<Vec<u8>, AllocError> {
-    let mut text = b"{\"content\":{\"big\":".to_vec(alloc)?;
-    text.extend_from_slice(&wide(alloc, kids)?)?;
-    text.extend_from_slice(b"}}")?;
-    Ok(text)
 }
 
 // An object of `len` bytes, with one text.

@@ -1,7 +1,7 @@
 //! Writes the lines of events.
 ghost use Rattle.std.specs.Prelude.{◌≡◌, ◌++◌, ◌∷◌, [], ◌<◌, IfOk, OnOk};
 ghost use Rattle.std.specs.Fmt.{decimal};
-ghost use Rattle.sling_dispatch.specs.Transcript.{hex, escape, quoted, quoted_or_dash, mark_text, answer_text, note_text, event_text};
+ghost use Rattle.sling_dispatch.specs.Transcript.{hex, quoted_byte, quotation, quotation_or_dash, mark_text, answer_text, note_text, event_text};
 
 use crate::note::Note;
 use sp_base::{Answer, Mark, Mem};
@@ -30,7 +30,7 @@ fn hex_digit(n: u8) -> u8
 
 // A byte as it stands within quotes.
 fn push_escaped(out: &mut Vec<u8>, b: u8) -> Mem<()>
-    ensures { OnOk result (out.new.items ≡ out.old.items ++ escape b) }
+    ensures { OnOk result (out.new.items ≡ out.old.items ++ quoted_byte b) }
 {
     match b {
         b'"' => push(out, b"\\\""),
@@ -44,7 +44,7 @@ fn push_escaped(out: &mut Vec<u8>, b: u8) -> Mem<()>
 }
 
 fn push_quoted(out: &mut Vec<u8>, bytes: &[u8]) -> Mem<()>
-    ensures { OnOk result (out.new.items ≡ out.old.items ++ quoted bytes.now) }
+    ensures { OnOk result (out.new.items ≡ out.old.items ++ quotation bytes.now) }
 {
     push(out, b"\"")?;
     for b in bytes {
@@ -54,7 +54,7 @@ fn push_quoted(out: &mut Vec<u8>, bytes: &[u8]) -> Mem<()>
 }
 
 fn push_quoted_or_dash(out: &mut Vec<u8>, bytes: &[u8]) -> Mem<()>
-    ensures { OnOk result (out.new.items ≡ out.old.items ++ quoted_or_dash bytes.now) }
+    ensures { OnOk result (out.new.items ≡ out.old.items ++ quotation_or_dash bytes.now) }
 {
     match bytes {
         [] => push(out, b"-"),

@@ -1,4 +1,4 @@
--- What is wrong with pieces behind the segments of a path.
+-- What is wrong with pieces after the segments of a path.
 use Rattle.std.proofs.Common.{ℕ, Bool, true, false, cond, ◌||◌, ◌==◌, List, [], ◌∷◌, ◌++◌, ◌+◌, ◌<◌, ◌≤◌, Option, Some, None, IfSome, length, length-append, ltb, refl, sym, ◌∙◌, ap, ◌≡◌, arith}
 use Rattle.std.proofs.lemmas.Bool.Decides.{nat_tests}
 use Rattle.std.proofs.lemmas.Iterator.Adapters.{position_from-zero}
@@ -9,7 +9,7 @@ use Rattle.std.specs.List.{list_any, position, position_from, position_or_len}
 use Rattle.std.specs.Option.{option_map}
 use Rattle.sp_base.specs.declared.path.PathFault.TheVariants.{EmptySegment, DotSegment}
 use Rattle.sp_base.specs.Paths.{is_empty, is_dots, is_long, pieces, fault_of, size_fault, is_path}
-use Rattle.sp_base.specs.PathTexts.{fault_behind}
+use Rattle.sp_base.specs.PathTexts.{fault_after}
 use Rattle.sp_base.proofs.PathLemmas.{or_first, or_second, none_empty, none_dots, none_long, all_short, path_ok}
 
 pub position-shift : (n m : ℕ) (parts : List (List ℕ)) → position_from is_long (n + m) parts ≡ option_map (λ i. n + i) (position_from is_long m parts)
@@ -21,8 +21,8 @@ position-shift n m (part ∷ parts) =
       | false ↦ ap (λ k. position_from is_long k parts) next ∙ position-shift n (m + 1) parts
     ]
 
-pub long_behind : (n : ℕ) (parts : List (List ℕ)) → position_from is_long n parts ≡ option_map (λ i. n + i) (position is_long parts)
-long_behind n parts =
+pub long_after : (n : ℕ) (parts : List (List ℕ)) → position_from is_long n parts ≡ option_map (λ i. n + i) (position is_long parts)
+long_after n parts =
     let same : n ≡ n + 0 = omega arith in
     ap (λ k. position_from is_long k parts) same ∙ position-shift n 0 parts ∙ ap (option_map (λ i. n + i)) (sym (position_from-zero is_long parts))
 
@@ -46,8 +46,8 @@ skips (seg ∷ segs) parts n e =
     let next : n + 1 + length segs ≡ n + length (seg ∷ segs) = omega arith in
     ap (λ t. cond t (Some n) (position_from is_long (n + 1) (segs ++ parts))) (or_first _ _ e) ∙ skips segs parts (n + 1) (or_second _ _ e) ∙ ap (λ k. position_from is_long k parts) next
 
-pub fault_behind_is : (segs parts : List (List ℕ)) → is_path segs ≡ true → fault_of (segs ++ parts) ≡ fault_behind (length segs) parts
-fault_behind_is segs parts h =
+pub fault_after_is : (segs parts : List (List ℕ)) → is_path segs ≡ true → fault_of (segs ++ parts) ≡ fault_after (length segs) parts
+fault_after_is segs parts h =
     let all = segs ++ parts in
     let empty : list_any is_empty all ≡ list_any is_empty parts = list_any-append is_empty segs parts ∙ ap (λ t. t || list_any is_empty parts) (none_empty segs (path_ok segs h)) in
     let dots : list_any is_dots all ≡ list_any is_dots parts = list_any-append is_dots segs parts ∙ ap (λ t. t || list_any is_dots parts) (none_dots segs (path_ok segs h)) in
@@ -58,13 +58,13 @@ fault_behind_is segs parts h =
     ∙ ap (λ o. cond (list_any is_empty parts) (Some EmptySegment) (cond (list_any is_dots parts) (Some DotSegment) (size_fault o (length all)))) long
     ∙ ap (λ n. cond (list_any is_empty parts) (Some EmptySegment) (cond (list_any is_dots parts) (Some DotSegment) (size_fault (position_from is_long (length segs) parts) n))) (length-append segs parts)
 
--- behind no segments
-pub fault_behind_none : (parts : List (List ℕ)) → fault_behind 0 parts ≡ fault_of parts
-fault_behind_none parts = sym (fault_behind_is [] parts refl)
+-- after no segments
+pub fault_after_none : (parts : List (List ℕ)) → fault_after 0 parts ≡ fault_of parts
+fault_after_none parts = sym (fault_after_is [] parts refl)
 
--- behind a path a path is too deep or good
-pub fault_behind_path : (segs rest : List (List ℕ)) → is_path rest ≡ true → fault_behind (length segs) rest ≡ size_fault None (length segs + length rest)
-fault_behind_path segs rest h =
+-- after a path a path is too deep or good
+pub fault_after_path : (segs rest : List (List ℕ)) → is_path rest ≡ true → fault_after (length segs) rest ≡ size_fault None (length segs + length rest)
+fault_after_path segs rest h =
     let n = length segs in
     let long : position_from is_long n rest ≡ None = none_long rest n (all_short rest (path_ok rest h)) in
     ap (λ t. cond t (Some EmptySegment) (cond (list_any is_dots rest) (Some DotSegment) (size_fault (position_from is_long n rest) (n + length rest)))) (none_empty rest (path_ok rest h))

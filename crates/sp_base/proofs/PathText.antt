@@ -23,7 +23,7 @@ spelled-pieces (b ∷ text) =
       | false ↦ λ e. spelled-onto b (pieces text) text (spelled-pieces text)
     ] refl
 
--- and segments that are spelled are the pieces behind the first slash
+-- and segments that are spelled are the pieces after the first slash
 front_piece : (seg rest : List ℕ) (parts : List (List ℕ)) → has_slash seg ≡ false → pieces rest ≡ [] ∷ parts → pieces (seg ++ rest) ≡ seg ∷ parts
 front_piece [] rest parts h e = e
 front_piece (b ∷ seg) rest parts h e =
@@ -106,7 +106,7 @@ child_text own name text h e is =
     spelled-join (segs_in own) (pieces name) text (path_pieces (segs_in own) h) (pieces_lack name)
     (is ∙ ap (λ front. front ++ 47 ∷ name) (sym e) ∙ ap (λ more. spelled (segs_in own) ++ more) (sym (spelled-pieces name)))
 
--- one path's text behind another's
+-- one path's text after another's
 pub joined_text : (own rest text : List ℕ) → is_path (segs_in own) ≡ true → is_path (segs_in rest) ≡ true → spelled (segs_in own) ≡ own → spelled (segs_in rest) ≡ rest → text ≡ own ++ rest
     → (segs_in text ≡ segs_in own ++ segs_in rest) × (spelled (segs_in text) ≡ text)
 joined_text own rest text h k e f is =

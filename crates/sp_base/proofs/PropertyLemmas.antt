@@ -76,7 +76,7 @@ pub before_more : (name : List ℕ) (es : Props) (i : ℕ) (d : List ℕ × Valu
     → by_name name d.0 ≡ Greater → all_before name (take (i + 1) es)
 before_more name es i d s lt is greater = rw (add-one) (before_to name es i d s lt is (less_back name d.0 greater))
 
--- the names from one on that is behind this one are behind it
+-- the names from one on that is after this one are after it
 pub behind_from : (name : List ℕ) (es : Props) (i : ℕ) (d : List ℕ × Value) → T (is_sorted by_name es) → i < length es → d ≡ get_or es i d
     → by_name name d.0 ≡ Less → T (below_all by_name name (drop i es))
 behind_from name [] i d s lt is less = absurd (omega (arith, lt))

@@ -9,8 +9,8 @@ use Rattle.sp_base.specs.declared.path.PathFault.TheVariants.{EmptySegment, DotS
 use Rattle.sp_base.specs.Paths.{is_empty, is_dots, is_long, has_slash, is_path, pieces, size_fault}
 
 -- why segments of a path and pieces after them are no path
-abbrev pub fault_behind : ℕ → List (List ℕ) → Option PathFault
-fault_behind before parts = if list_any is_empty parts then Some EmptySegment else (if list_any is_dots parts then Some DotSegment else size_fault (position_from is_long before parts) (before + length parts))
+abbrev pub fault_after : ℕ → List (List ℕ) → Option PathFault
+fault_after before parts = if list_any is_empty parts then Some EmptySegment else (if list_any is_dots parts then Some DotSegment else size_fault (position_from is_long before parts) (before + length parts))
 
 -- a slash before each segment: a path's text in memory, empty for the root
 abbrev pub spelled : List (List ℕ) → List ℕ

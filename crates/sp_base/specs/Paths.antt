@@ -70,11 +70,11 @@ abbrev pub path_of : List ℕ → Result (List (List ℕ)) PathFault
 path_of [] = Err NotAbsolute
 path_of (b ∷ text) = if b == 47 then (if is_empty text then Ok [] else checked (pieces text)) else Err NotAbsolute
 
--- the path with a name behind it
+-- the path with a name after it
 abbrev pub child_of : List (List ℕ) → List ℕ → Result (List (List ℕ)) PathFault
 child_of segs name = checked (segs ++ pieces name)
 
--- one path behind another
+-- one path after another
 abbrev pub join_of : List (List ℕ) → List (List ℕ) → Result (List (List ℕ)) PathFault
 join_of segs rest = checked (segs ++ rest)
 
@@ -98,6 +98,7 @@ abbrev pub unmangled_by : List ℕ → List ℕ → List ℕ → List ℕ
 unmangled_by mark prefix seg = prefix ++ drop (length mark) seg
 
 -- the segment with its namespace prefix as it stands in the repository: `_jcr_content` is `jcr:content`
+-- (Apache Sling, "Mappings for resource resolution", namespace mangling)
 abbrev pub unmangled_seg : List ℕ → List ℕ
 unmangled_seg seg = if is_mangled (codes "_jcr_") seg then unmangled_by (codes "_jcr_") (codes "jcr:") seg
     else (if is_mangled (codes "_sling_") seg then unmangled_by (codes "_sling_") (codes "sling:") seg

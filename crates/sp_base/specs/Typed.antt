@@ -1,3 +1,4 @@
+-- The value that words with a hint stand for (Apache Sling, "SlingPostServlet", `@TypeHint`).
 use Rattle.std.specs.Prelude.{neg_ℤ, ◌==◌, ◌&&◌, ℕ, ℤ, pos, Bool, not, is_none, nat_eq, nat_le, nat_lt, if◌then◌else◌, List, [], ◌∷◌, Option, Some, None, Result, Ok, Err, codes, drop, length, map, unwrap_or, slice_index}
 use Rattle.std.specs.List.{position}
 use Rattle.std.specs.Str.{all_ascii_digits}

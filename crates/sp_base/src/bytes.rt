@@ -1,3 +1,4 @@
+//! Bytes that contracts see as a list of numbers.
 ghost use Rattle.std.specs.Prelude.{◌≡◌, IfOk};
 
 use crate::{Mem, TextBuf};

@@ -1,3 +1,4 @@
+//! What kind of value words are to become.
 ghost use Rattle.std.specs.Prelude.{◌≡◌};
 ghost use Rattle.sp_base.specs.declared.hint.ValueFault.TheVariants.{NoMemory as no_memory};
 

@@ -1,3 +1,4 @@
+//! Lists that contracts see as lists.
 ghost use Rattle.std.specs.Prelude.{◌≡◌, ◌==◌, [], ◌∷◌, ◌++◌, IfOk, OnOk, OnErr, option_copied, slice_get, length};
 ghost use Rattle.sp_base.specs.Fields.{field_of};
 

@@ -1,3 +1,4 @@
+//! Out of memory: the one refusal that may come at any time.
 use std::alloc::{AllocError, AllocFailed};
 
 /// Out of memory: the one answer that no clause ties to a cause.

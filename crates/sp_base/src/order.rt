@@ -1,3 +1,4 @@
+//! The order of texts by their bytes.
 ghost use Rattle.std.specs.Prelude.{◌≡◌};
 ghost use Rattle.sp_base.specs.PathTexts.{text_order, byte_order};
 

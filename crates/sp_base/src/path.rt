@@ -1,3 +1,4 @@
+//! Paths of the content tree, kept as one text.
 ghost use Rattle.std.specs.Prelude.{◌≡◌, ◌≢◌, ◌<◌, ◌∷◌, ◌++◌, [], List, ℕ, refl, IfOk, IfErr, IsTrue, Some, Ok, Err, length, take, option_copied, slice_get, string_bytes};
 ghost use Rattle.std.specs.Cmp.{partial_equiv_from_equiv, partial_order_from_agreeing_total};
 ghost use Rattle.std.specs.Cmp.Lexicographic.{slice_cmp, lists_total, nat_list_cmp_total};
@@ -11,7 +12,7 @@ ghost use Rattle.sp_base.specs.declared.path.PathFault.TheVariants.{NoMemory as 
 
 use crate::order::text_order;
 use crate::segments::{
-    behind_slash, fault_behind, fault_in, first_pieces, glued, piece_at, pieces_mangled,
+    after_slash, fault_after, fault_in, first_pieces, glued, piece_at, pieces_mangled,
     pieces_unmangled, size_fault, slashes, text_under,
 };
 use crate::{Mem, NoMemory, TextBuf};
@@ -94,13 +95,13 @@ impl Path {
         ensures ok { IfOk result (λ p. path_of text.now ≡ Ok p) }
         ensures err { IfErr result (λ e. e ≢ PathFault.NoMemory → path_of text.now ≡ Err e) }
     {
-        let Some(rest) = behind_slash(text) else {
+        let Some(rest) = after_slash(text) else {
             return Err(PathFault::NotAbsolute);
         };
         if rest.is_empty() {
             return Ok(Path::root(alloc));
         }
-        made(fault_behind(0, rest), String::from_str(alloc, text)?)
+        made(fault_after(0, rest), String::from_str(alloc, text)?)
     }
 
     /// The path with a name after it. A name with a slash in it adds a segment for each of its pieces.
@@ -112,7 +113,7 @@ impl Path {
         ensures whole { IfOk result (λ p. IsTrue (seg_ok name.now) → p ≡ self.now ++ name.now ∷ []) }
         ensures fits { IfErr result (λ e. IsTrue (seg_ok name.now) → length self.now < 64 → e ≡ PathFault.NoMemory) }
     {
-        let fault = fault_behind(self.depth(), name);
+        let fault = fault_after(self.depth(), name);
         made(fault, glued(alloc, self.text.as_str(), "/", name)?)
     }
 
@@ -139,7 +140,7 @@ impl Path {
     pub fn first(&self, alloc: Global, n: usize) -> Mem<Path>
         ensures { IfOk result (λ p. p ≡ take n self.now) }
     {
-        match behind_slash(self.text.as_str()) {
+        match after_slash(self.text.as_str()) {
             Some(rest) => Ok(Path {
                 text: first_pieces(alloc, rest, n)?,
             }),
@@ -152,7 +153,7 @@ impl Path {
     pub fn unmangled(&self, alloc: Global) -> Mem<Path>
         ensures { IfOk result (λ p. p ≡ unmangled self.now) }
     {
-        match behind_slash(self.text.as_str()) {
+        match after_slash(self.text.as_str()) {
             Some(rest) => Ok(Path {
                 text: pieces_unmangled(alloc, rest)?,
             }),
@@ -166,7 +167,7 @@ impl Path {
         ensures ok { IfOk result (λ p. mangled_of self.now ≡ Ok p) }
         ensures err { IfErr result (λ e. e ≢ PathFault.NoMemory → mangled_of self.now ≡ Err e) }
     {
-        match behind_slash(self.text.as_str()) {
+        match after_slash(self.text.as_str()) {
             Some(rest) => {
                 let text = pieces_mangled(alloc, rest)?;
                 made(fault_in(text.as_str()), text)
@@ -228,7 +229,7 @@ impl Path {
     pub fn seg(&self, n: usize) -> Option<&str>
         ensures { option_copied result ≡ slice_get self.now n }
     {
-        match behind_slash(self.text.as_str()) {
+        match after_slash(self.text.as_str()) {
             Some(rest) => piece_at(rest, n),
             None => None,
         }

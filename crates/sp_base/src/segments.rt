@@ -1,7 +1,7 @@
 ghost use Rattle.std.specs.Prelude.{◌+◌, ◌-◌, ◌≤◌, ◌≡◌, ◌≢◌, ◌==◌, ◌∷◌, ◌++◌, List, ℕ, true, false, drop, take, length, IfOk, OnOk, IfSome, IfNone, option_copied, slice_get, string_bytes};
 ghost use Rattle.std.specs.List.{list_any, position, position_from, count_by};
 ghost use Rattle.sp_base.specs.Paths.{seg_ok, is_empty, is_dots, is_long, has_slash, pieces, size_fault, fault_of, is_mangled, unmangled_seg, unmangled, mangled_seg, mangled};
-ghost use Rattle.sp_base.specs.PathTexts.{segs_in, spelled, fault_behind, text_under};
+ghost use Rattle.sp_base.specs.PathTexts.{segs_in, spelled, fault_after, text_under};
 
 use crate::{Mem, PathFault};
 use std::alloc::Global;
@@ -52,7 +52,7 @@ fn first_long(text: &str) -> Option<usize>
 }
 
 // The place of the first long piece of a text, where others stand before them.
-fn long_behind(before: usize, text: &str) -> Option<usize>
+fn long_after(before: usize, text: &str) -> Option<usize>
     requires { before ≤ 64 }
     ensures { result ≡ position_from is_long before (pieces text.now) }
 {
@@ -79,21 +79,21 @@ pub fn size_fault(long: Option<usize>, before: usize, count: usize) -> Option<Pa
     }
 }
 
-// Why segments of a path and the pieces of a text behind them are no path.
-pub fn fault_behind(before: usize, text: &str) -> Option<PathFault>
+// Why segments of a path and the pieces of a text after them are no path.
+pub fn fault_after(before: usize, text: &str) -> Option<PathFault>
     requires { before ≤ 64 }
-    ensures { result ≡ fault_behind before (pieces text.now) }
+    ensures { result ≡ fault_after before (pieces text.now) }
 {
     if has_empty(text) {
         Some(PathFault::EmptySegment)
     } else if has_dots(text) {
         Some(PathFault::DotSegment)
     } else {
-        size_fault(long_behind(before, text), before, count(text))
+        size_fault(long_after(before, text), before, count(text))
     }
 }
 
-pub fn behind_slash(text: &str) -> Option<&str>
+pub fn after_slash(text: &str) -> Option<&str>
     ensures some { IfSome result (λ rest. text.now ≡ 47 ∷ rest.now) }
     ensures none { IfNone result ((rest : List ℕ) → text.now ≢ 47 ∷ rest) }
 {
@@ -170,13 +170,13 @@ pub fn pieces_unmangled(alloc: Global, text: &str) -> Mem<String>
 pub fn mangled_parts(seg: &str) -> (&str, &str)
     ensures { result.0.now ++ result.1.now ≡ mangled_seg seg.now }
 {
-    if let Some(rest) = behind(seg, "jcr:") {
+    if let Some(rest) = after_mark(seg, "jcr:") {
         ("_jcr_", rest)
-    } else if let Some(rest) = behind(seg, "sling:") {
+    } else if let Some(rest) = after_mark(seg, "sling:") {
         ("_sling_", rest)
-    } else if let Some(rest) = behind(seg, "nt:") {
+    } else if let Some(rest) = after_mark(seg, "nt:") {
         ("_nt_", rest)
-    } else if let Some(rest) = behind(seg, "cq:") {
+    } else if let Some(rest) = after_mark(seg, "cq:") {
         ("_cq_", rest)
     } else {
         ("", seg)
@@ -201,14 +201,14 @@ pub fn fault_in(text: &str) -> Option<PathFault>
     requires { spelled (segs_in text.now) ≡ text.now }
     ensures { result ≡ fault_of (segs_in text.now) }
 {
-    match behind_slash(text) {
-        Some(rest) => fault_behind(0, rest),
+    match after_slash(text) {
+        Some(rest) => fault_after(0, rest),
         None => None,
     }
 }
 
 // What follows a mark such as `_jcr_` or `jcr:`, where something does.
-fn behind<'a>(seg: &'a str, mark: &str) -> Option<&'a str>
+fn after_mark<'a>(seg: &'a str, mark: &str) -> Option<&'a str>
     ensures some { IfSome result (λ rest. (is_mangled mark.now seg.now ≡ true) × (rest.now ≡ drop (length mark.now) seg.now)) }
     ensures none { IfNone result (is_mangled mark.now seg.now ≡ false) }
 {
@@ -222,13 +222,13 @@ fn behind<'a>(seg: &'a str, mark: &str) -> Option<&'a str>
 fn add_unmangled(text: &mut String, seg: &str) -> Mem<()>
     ensures { OnOk result (string_bytes text.new ≡ string_bytes text.old ++ unmangled_seg seg.now) }
 {
-    if let Some(rest) = behind(seg, "_jcr_") {
+    if let Some(rest) = after_mark(seg, "_jcr_") {
         add_both(text, "jcr:", rest)
-    } else if let Some(rest) = behind(seg, "_sling_") {
+    } else if let Some(rest) = after_mark(seg, "_sling_") {
         add_both(text, "sling:", rest)
-    } else if let Some(rest) = behind(seg, "_nt_") {
+    } else if let Some(rest) = after_mark(seg, "_nt_") {
         add_both(text, "nt:", rest)
-    } else if let Some(rest) = behind(seg, "_cq_") {
+    } else if let Some(rest) = after_mark(seg, "_cq_") {
         add_both(text, "cq:", rest)
     } else {
         add_both(text, "", seg)

@@ -1,3 +1,4 @@
+//! Paths, property lists and typed values.
 use super::*;
 use std::alloc::Global;
 use std::test::Fail;

@@ -1,3 +1,4 @@
+//! Texts in UTF-8 that contracts see as their bytes.
 ghost use Rattle.std.specs.Prelude.{◌≡◌, IfOk, nat_eq, Some, refl};
 ghost use Rattle.std.specs.Cmp.{partial_equiv_from_equiv};
 ghost use Rattle.std.specs.Cmp.Lexicographic.{pointwise, slice_cmp, nat_list_eq_equiv, nat_list_cmp_total, texts_ties, texts_po};

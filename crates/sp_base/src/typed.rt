@@ -1,3 +1,4 @@
+//! Values from words and a hint (Apache Sling, "SlingPostServlet", `@TypeHint`).
 ghost use Rattle.std.specs.Prelude.{◌≡◌, ◌≢◌, map, IfOk, IfErr, Ok, Err};
 ghost use Rattle.sp_base.specs.Typed.{number_of, truth_of, one_of, longs_of, many_of, typed_of};
 

@@ -1,3 +1,4 @@
+//! Values of properties.
 ghost use Rattle.std.specs.Prelude.{◌≡◌, IfOk};
 
 use crate::items::{LongList, TextList, TruthList};

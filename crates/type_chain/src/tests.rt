@@ -1,3 +1,4 @@
+//! Chains of types, and the places of types.
 use crate::{TypeList, TypeName, chain, place_of};
 use resource_tree::{Tree, TreeFault};
 use sp_base::{NoMemory, Path, PathFault, TextBuf, Value, seg_ok};

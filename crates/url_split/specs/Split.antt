@@ -1,4 +1,4 @@
--- The decomposition of a path text, as a relation and as one answer.
+-- The decomposition of a path text (Apache Sling, "URL decomposition"), as a relation and as one answer.
 use Rattle.std.specs.Prelude.{◌≡◌, ◌==◌, ◌<◌, ◌⊎◌, ◌-◌, ◌||◌, ℕ, zero, suc, Bool, true, not, if◌then◌else◌, List, [], ◌∷◌, Option, Some, None, option_map, Result, Ok, Err, drop, take, length, filter, slice_index, slice_index_or}
 use Rattle.std.specs.Option.{option_or}
 use Rattle.std.specs.List.{slice_split, before_first}

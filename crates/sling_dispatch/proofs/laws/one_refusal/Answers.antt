@@ -1,10 +1,10 @@
 use Rattle.std.proofs.Common.{◌≤◌, length, lit≤}
-use Rattle.sling_dispatch.specs.Languages.{Begins}
+use Rattle.sling_dispatch.specs.Languages.{IsPrefixIn}
 use Rattle.sling_dispatch.specs.Scenario.{IsScenario}
 use Rattle.sling_dispatch.specs.Scenario.{most}
 use Rattle.sling_dispatch.proofs.OneReading.{refused_once, some_scenario}
 use Rattle.sling_dispatch.proofs.laws.one_refusal.Goals as goal
 
 pub returns : goal.returns
-returns c = λ text n m p q. refused_once (λ t. IsScenario t × (length t ≤ most)) (λ t. Begins IsScenario t × (length t ≤ most)) text n m
+returns c = λ text n m p q. refused_once (λ t. IsScenario t × (length t ≤ most)) (λ t. IsPrefixIn IsScenario t × (length t ≤ most)) text n m
     (some_scenario, lit≤ tt) p q

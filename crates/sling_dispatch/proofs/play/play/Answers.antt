@@ -1,7 +1,7 @@
 use Rattle.std.proofs.Common.{◌∙◌, ◌++◌, ◌∷◌, ◌+◌, [], Err, length, ap, sym, subst, take, arith, refl}
 use Rattle.sp_outside.specs.Told.{added}
 use Rattle.sp_outside.specs.Causes.{HasSinkCause}
-use Rattle.sling_dispatch.specs.Endings.{seen}
+use Rattle.sling_dispatch.specs.Endings.{told_of}
 use Rattle.sling_dispatch.specs.InnerEndings.{PlaysAll}
 use Rattle.sling_dispatch.specs.declared.ending.Ending.TheVariants.{Done, NoMemory}
 use Rattle.sling_dispatch.proofs.Sessions.{Played, act_at, played_none, played_next, played_sent, told_from, broken_off, played_stopped, played_all}
@@ -18,7 +18,7 @@ loop-act-init g c = record {
 
 pub returns-in_default : goal.returns-in_default
 returns-in_default g c =
-    let sink = seen (g.K.Sink.held c.args.sink.now) (g.K.Sink.held c.say.new.sink) (g.K.Sink.faults c.args.sink.now) (g.K.Sink.faults c.say.new.sink) in
+    let sink = told_of (g.K.Sink.held c.args.sink.now) (g.K.Sink.held c.say.new.sink) (g.K.Sink.faults c.args.sink.now) (g.K.Sink.faults c.say.new.sink) in
     let l = c.loop-act in
     played_stopped c.args.publisher c.args.acts.now l.act-index l.event l.front (g.K.Sink.held l.sink) l.gathered.items c.say.result sink l.invariant.played
     (told_from NoMemory l.gathered.items c.deref.result.now c.say.result (g.K.Sink.held l.sink) (g.K.Sink.faults l.sink) sink c.deref.ensures.value
@@ -31,7 +31,7 @@ returns-in-Err g c =
     let old = g.K.Sink.held c.args.sink.now in
     let mid = g.K.Sink.held l.sink in
     let text = c.deref-in-loop-act.result.now in
-    let sink = seen old (g.K.Sink.held c.gather.new.sink) (g.K.Sink.faults c.args.sink.now) (g.K.Sink.faults c.gather.new.sink) in
+    let sink = told_of old (g.K.Sink.held c.gather.new.sink) (g.K.Sink.faults c.args.sink.now) (g.K.Sink.faults c.gather.new.sink) in
     let at = act_at acts c.as_slice-act-items.result.now l.act-index c.act-item.result c.as_slice-act-items.ensures (omega arith) c.act-item.is
     ∙ ap (λ a. take l.act-index acts ++ a ∷ []) c.step_of.ensures in
     let next = played_next c.args.publisher acts l.act-index l.event l.front c.event_of.new.front old mid l.gathered.items c.step_of.result.now c.in-Ok.text.items
@@ -64,7 +64,7 @@ loop-act-preserved g c =
 
 pub returns : goal.returns
 returns g c =
-    let sink = seen (g.K.Sink.held c.args.sink.now) (g.K.Sink.held c.say-2.new.sink) (g.K.Sink.faults c.args.sink.now) (g.K.Sink.faults c.say-2.new.sink) in
+    let sink = told_of (g.K.Sink.held c.args.sink.now) (g.K.Sink.held c.say-2.new.sink) (g.K.Sink.faults c.args.sink.now) (g.K.Sink.faults c.say-2.new.sink) in
     let l = c.loop-act in
     played_all c.args.publisher c.args.acts.now l.act-index l.event l.front (g.K.Sink.held l.sink) l.gathered.items c.say-2.result sink
     (omega (arith, ap length c.as_slice-act-items.ensures)) l.invariant.played

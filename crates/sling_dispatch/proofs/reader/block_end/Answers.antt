@@ -1,5 +1,5 @@
 use Rattle.std.proofs.Common.{◌-◌, arith, length, ap, length-append}
-use Rattle.sling_dispatch.specs.Lines.{joined}
+use Rattle.sling_dispatch.specs.Lines.{text_of_lines}
 use Rattle.sling_dispatch.proofs.BodyLaws.{block_line, block_ends, block_unended}
 use Rattle.sling_dispatch.proofs.reader.block_end.Goals as goal
 
@@ -7,7 +7,7 @@ pub returns-then-same-clause-ok : goal.returns-then-same-clause-ok
 returns-then-same-clause-ok c =
     let p = c.loop-line.invariant in
     let size = ap length p.text_is in
-    let parts = length-append (joined p.block) c.loop-line.rest.now in
+    let parts = length-append (text_of_lines p.block) c.loop-line.rest.now in
     block_ends c.args.text.now c.loop-line.rest.now c.in-Some.line.now c.in-Some.after.now c.loop-line.before
     (length c.args.text.now - length c.loop-line.rest.now) p c.in-Some.ensures.some (c.same.ensures.0 c.if-same.true)
     (omega (arith, size, parts))

@@ -1,6 +1,6 @@
 use Rattle.std.proofs.Common.{sym, ◌∙◌, ap, subst, ◌+◌}
 use Rattle.std.proofs.lemmas.Result.{MatchResult-weaker}
-use Rattle.sling_dispatch.specs.Lines.{joined}
+use Rattle.sling_dispatch.specs.Lines.{text_of_lines}
 use Rattle.sling_dispatch.specs.Scenario.{act_lines, AreActs}
 use Rattle.sling_dispatch.specs.Reading.{Refuses, Acts}
 use Rattle.sling_dispatch.proofs.ReadingActs.{Passed, passed_within, passed_one_more, passed_act, passed_all, refused_past_end, refused_at_line, refused_at_end}
@@ -13,7 +13,7 @@ returns-then-same-clause-ok c =
     MatchResult-weaker c.ended.result c.ended.ensures
     (λ list h. (
       subst AreActs (sym h.0) p.are,
-      passed_all _ _ _ _ _ _ p c.in-Some.ensures.some line h.1 ∙ ap (λ acts. joined (act_lines acts)) (sym h.0),
+      passed_all _ _ _ _ _ _ p c.in-Some.ensures.some line h.1 ∙ ap (λ acts. text_of_lines (act_lines acts)) (sym h.0),
     ))
     (λ e h. tt)
 

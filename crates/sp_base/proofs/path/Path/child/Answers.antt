@@ -1,8 +1,8 @@
 use Rattle.std.proofs.Common.{length, ◌≡◌, ◌∙◌, ◌++◌, ◌∷◌, true, sym, ap, subst, string_bytes, List, ℕ}
 use Rattle.sp_base.specs.Paths.{fault_of, pieces, checked, child_of, is_path}
-use Rattle.sp_base.specs.PathTexts.{segs_in, fault_behind}
+use Rattle.sp_base.specs.PathTexts.{segs_in, fault_after}
 use Rattle.sp_base.proofs.PathLemmas.{IfOk-from, IfErr-from, child_whole, no_fault_left}
-use Rattle.sp_base.proofs.PathFaults.{fault_behind_is}
+use Rattle.sp_base.proofs.PathFaults.{fault_after_is}
 use Rattle.sp_base.proofs.PathText.{child_text}
 use Rattle.sp_base.proofs.path.Path.child.Goals as goal
 
@@ -11,8 +11,8 @@ made-requires-clause-fault c =
     let own = string_bytes c.self.inside.text in
     let name = c.args.name.now in
     let text = c.in_ok-glued.ensures ∙ ap (λ (t : List ℕ). t ++ 47 ∷ name) c.as_str.ensures.value in
-    c.fault_behind-fault.ensures ∙ ap (λ (n : ℕ). fault_behind n (pieces name)) (c.depth.ensures.depth ∙ ap length (sym c.self.view_is))
-    ∙ sym (fault_behind_is (segs_in own) (pieces name) c.self.invariant.valid)
+    c.fault_after-fault.ensures ∙ ap (λ (n : ℕ). fault_after n (pieces name)) (c.depth.ensures.depth ∙ ap length (sym c.self.view_is))
+    ∙ sym (fault_after_is (segs_in own) (pieces name) c.self.invariant.valid)
     ∙ ap fault_of (sym (child_text own name (string_bytes c.in_ok-glued.field-0) c.self.invariant.valid c.self.invariant.whole text).0)
 
 pub made-requires-clause-whole : goal.made-requires-clause-whole

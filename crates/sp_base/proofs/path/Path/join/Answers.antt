@@ -2,7 +2,7 @@ use Rattle.std.proofs.Common.{length, ◌+◌, None, ◌≡◌, ◌∙◌, ◌++
 use Rattle.sp_base.specs.Paths.{fault_of, size_fault, checked, join_of}
 use Rattle.sp_base.specs.PathTexts.{segs_in}
 use Rattle.sp_base.proofs.PathLemmas.{IfOk-from, IfErr-from}
-use Rattle.sp_base.proofs.PathFaults.{fault_behind_is, fault_behind_path}
+use Rattle.sp_base.proofs.PathFaults.{fault_after_is, fault_after_path}
 use Rattle.sp_base.proofs.PathText.{joined_text}
 use Rattle.sp_base.proofs.path.Path.join.Goals as goal
 
@@ -13,7 +13,7 @@ made-requires-clause-fault c =
     let text = c.in_ok-glued.ensures ∙ ap (λ (t : List ℕ). t ++ c.as_str-2.result.now) c.as_str.ensures.value ∙ ap (λ (t : List ℕ). own ++ t) c.as_str-2.ensures.value in
     c.size_fault-fault.ensures ∙ ap (λ (n : ℕ). size_fault None (n + c.depth-2.result)) (c.depth.ensures.depth ∙ ap length (sym c.self.view_is))
     ∙ ap (λ (n : ℕ). size_fault None (length (segs_in own) + n)) (c.depth-2.ensures.depth ∙ ap length (sym c.rest.view_is))
-    ∙ sym (fault_behind_is (segs_in own) (segs_in more) c.self.invariant.valid ∙ fault_behind_path (segs_in own) (segs_in more) c.rest.invariant.valid)
+    ∙ sym (fault_after_is (segs_in own) (segs_in more) c.self.invariant.valid ∙ fault_after_path (segs_in own) (segs_in more) c.rest.invariant.valid)
     ∙ ap fault_of (sym (joined_text own more (string_bytes c.in_ok-glued.field-0) c.self.invariant.valid c.rest.invariant.valid c.self.invariant.whole c.rest.invariant.whole text).0)
 
 pub made-requires-clause-whole : goal.made-requires-clause-whole

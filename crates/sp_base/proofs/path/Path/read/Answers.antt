@@ -2,7 +2,7 @@ use Rattle.std.proofs.Common.{◌≡◌, sym, ◌∙◌, ap, subst, List, ℕ}
 use Rattle.sp_base.specs.Paths.{pieces, fault_of, checked, path_of}
 use Rattle.sp_base.specs.PathTexts.{segs_in, spelled}
 use Rattle.sp_base.proofs.PathLemmas.{of_pieces, IfOk-from, IfErr-from}
-use Rattle.sp_base.proofs.PathFaults.{fault_behind_none}
+use Rattle.sp_base.proofs.PathFaults.{fault_after_none}
 use Rattle.sp_base.proofs.PathText.{slash_then, segs_behind}
 use Rattle.sp_base.proofs.path.Path.read.Goals as goal
 
@@ -10,7 +10,7 @@ pub made-requires-clause-fault : goal.made-requires-clause-fault
 made-requires-clause-fault c =
     let rest = c.in-Some.rest.now in
     let own = ap segs_in c.in_ok-from_str.ensures.ok ∙ segs_behind c.args.text.now rest c.in-Some.ensures.some in
-    c.fault_behind.ensures ∙ fault_behind_none (pieces rest) ∙ ap fault_of (sym own)
+    c.fault_after.ensures ∙ fault_after_none (pieces rest) ∙ ap fault_of (sym own)
 
 pub made-requires-clause-whole : goal.made-requires-clause-whole
 made-requires-clause-whole c = subst (λ (t : List ℕ). spelled (segs_in t) ≡ t) (sym (c.in_ok-from_str.ensures.ok ∙ c.in-Some.ensures.some)) (slash_then c.in-Some.rest.now)

@@ -1,6 +1,6 @@
 use lib.Utf8.{encode}
 use Rattle.sp_base.proofs.PathLemmas.{IfNone-from}
-use Rattle.sp_base.proofs.segments.behind_slash.Goals as goal
+use Rattle.sp_base.proofs.segments.after_slash.Goals as goal
 
 pub returns-clause-none : goal.returns-clause-none
 unfolding encode

@@ -1,5 +1,5 @@
 -- Where a page of the cache stands, and which path is a page's.
-use Rattle.std.specs.Prelude.{◌==◌, ◌&&◌, ◌++◌, ◌-◌, ℕ, Bool, not, if◌then◌else◌, List, [], ◌∷◌, Option, Some, None, length, slice_index, slice_index_or}
+use Rattle.std.specs.Prelude.{◌==◌, ◌&&◌, ◌++◌, ◌-◌, ℕ, Bool, not, if◌then◌else◌, List, [], ◌∷◌, Option, Some, None, length, slice_get, slice_index, unwrap_or}
 use Rattle.std.specs.List.{list_any, list_all}
 use Rattle.sp_base.specs.Paths.{mangled, parent_of, pieces, text_of}
 use Rattle.cover_rules.specs.declared.page.PageKey.{PageKey}
@@ -8,10 +8,11 @@ use Rattle.cover_rules.specs.Names.{has_name}
 abbrev pub has_dot : List ℕ → Bool
 has_dot seg = list_any (λ b. b == 46) seg
 
+-- the root has none
 abbrev pub last_segment : List (List ℕ) → List ℕ
-last_segment segs = slice_index_or segs (length segs - 1) []
+last_segment segs = unwrap_or (slice_get segs (length segs - 1)) []
 
--- a segment with a dot that neither begins nor ends with one; the root has no last segment, so none like this
+-- a segment with a dot that neither begins nor ends with one
 abbrev pub is_file : List ℕ → Bool
 is_file seg = has_dot seg && (not (slice_index seg 0 == 46) && not (slice_index seg (length seg - 1) == 46))
 

@@ -1,9 +1,11 @@
-ghost use Rattle.std.specs.Prelude.{◌≡◌, ◌++◌, ◌∷◌, ℕ, List, IfSome, IfNone, min, take, length};
-ghost use Rattle.sp_base.specs.Paths.{mangled};
-ghost use Rattle.sp_base.specs.PathTexts.{spelled};
+ghost use Rattle.std.specs.Prelude.{◌≡◌, ◌≤◌, codes, length, nat_eq, take};
+ghost use Rattle.std.specs.List.{starts_with};
+ghost use Rattle.sp_base.specs.Paths.{is_under, parent_of};
 ghost use Rattle.cover_rules.specs.Coverage as spec;
 
+use crate::walk::{Rest, after};
 use crate::{Action, Invalidation, PageKey};
+use sp_base::{segments_and_their_spelling, text_under};
 
 /// Whether an invalidation covers a page: whether it deletes the page, or outdates it by a .stat file. The .stat files lie in the
 /// folders down to `level`; `auto` says that they outdate this page.
@@ -20,14 +22,56 @@ pub fn stat_depth(level: usize, key: &PageKey) -> usize
     level.min(key.folder.depth())
 }
 
+fn takes_below(action: Action) -> bool
+    ensures { result ≡ spec.takes_below action }
+{
+    match action {
+        Action::Activate => false,
+        Action::Deactivate | Action::Delete => true,
+    }
+}
+
+fn begins_with_dot(text: &[u8]) -> bool
+    ensures { result ≡ starts_with nat_eq text.now (codes ".") }
+{
+    text.starts_with(b".")
+}
+
 fn deletes(inv: &Invalidation, key: &PageKey) -> bool
     ensures { result ≡ spec.deletes inv.now key.now }
 {
-    false
+    segments_and_their_spelling();
+    let depth = inv.handle.depth();
+    let below = takes_below(inv.action);
+    match after(&inv.handle, depth, key) {
+        Some(Rest::Folder(rest)) => {
+            (depth != 0 && begins_with_dot(rest))
+                || (text_under(rest, b"/_jcr_content") || (below && text_under(rest, b"")))
+        }
+        Some(Rest::File(rest)) => {
+            rest.is_empty()
+                || ((depth != 0 && begins_with_dot(rest)) || (below && text_under(rest, b"")))
+        }
+        None => false,
+    }
 }
 
 fn outdates(level: usize, auto: bool, inv: &Invalidation, key: &PageKey) -> bool
     ensures { result ≡ spec.outdates level auto inv.now key.now }
 {
-    false
+    !inv.only && (auto && outdates_folder(stat_depth(level, key), inv, key))
+}
+
+fn outdates_folder(depth: usize, inv: &Invalidation, key: &PageKey) -> bool
+    requires { depth ≤ length key.now.folder }
+    ensures { result ≡ is_under (parent_of (spec.handle_of inv.now)) (take depth key.now.folder) }
+{
+    segments_and_their_spelling();
+    if depth > inv.handle.depth().saturating_sub(1) {
+        return false;
+    }
+    match after(&inv.handle, depth, key) {
+        Some(Rest::Folder(rest)) => text_under(rest, b""),
+        _ => false,
+    }
 }

@@ -11,6 +11,7 @@ mod stamp;
 #[cfg(test)]
 mod tests;
 mod touch;
+mod walk;
 
 pub use coverage::{covers, stat_depth};
 pub use invalidation::{Action, Invalidation};

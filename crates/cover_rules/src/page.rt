@@ -1,12 +1,12 @@
-ghost use Rattle.std.specs.Prelude.{◌≡◌, ◌&&◌, ◌==◌, ◌-◌, ◌++◌, ◌∷◌, IfOk, length, not, slice_index};
+ghost use Rattle.std.specs.Prelude.{◌≡◌, ◌&&◌, ◌==◌, ◌-◌, IfOk, length, not, slice_index};
 ghost use Rattle.std.specs.List.{list_all};
-ghost use Rattle.sp_base.specs.Paths.{pieces};
-ghost use Rattle.sp_base.specs.PathTexts.{segs_in, spelled};
 ghost use Rattle.cover_rules.specs.Names as name;
 ghost use Rattle.cover_rules.specs.Pages as spec;
 
 use crate::has_name;
-use sp_base::{Mem, NoMemory, Path, PathFault, TextBuf};
+use sp_base::{
+    Mem, NoMemory, Path, PathFault, TextBuf, mangling_and_unmangling, segments_and_their_spelling,
+};
 use std::alloc::Global;
 
 /// Where a page stands in the cache: a file in a folder, both mangled.
@@ -30,6 +30,7 @@ impl PageKey {
     pub fn text(&self, alloc: Global) -> Mem<TextBuf>
         ensures { IfOk result (λ text. text ≡ spec.page_text self.now) }
     {
+        segments_and_their_spelling();
         let folder = self.folder.spelling();
         let file = self.file.text();
         let length = folder.len().saturating_add(file.len()).saturating_add(1);
@@ -46,10 +47,16 @@ impl PageKey {
 pub fn page_key(alloc: Global, path: &Path) -> Mem<Option<PageKey>>
     ensures { IfOk result (λ key. key ≡ spec.page_key_of path.now) }
 {
+    mangling_and_unmangling();
+    if path.depth() == 0 {
+        return Ok(None);
+    }
     match path.mangled(alloc) {
         Ok(path) => key_at(alloc, &path),
-        Err(PathFault::NoMemory) => Err(NoMemory),
-        Err(_) => Ok(None),
+        Err(fault) => match fault {
+            PathFault::NoMemory => Err(NoMemory),
+            _ => Ok(None),
+        },
     }
 }
 
@@ -57,10 +64,11 @@ pub fn page_key(alloc: Global, path: &Path) -> Mem<Option<PageKey>>
 fn key_at(alloc: Global, path: &Path) -> Mem<Option<PageKey>>
     ensures { IfOk result (λ key. key ≡ spec.key_at path.now) }
 {
-    let Some(file) = path.last() else {
+    let file = last_segment(path);
+    if !is_file(file) {
         return Ok(None);
-    };
-    if !is_file(file) || !have_names(path.spelling()) {
+    }
+    if !have_names(path) {
         return Ok(None);
     }
     let folder = path.parent(alloc)?;
@@ -69,6 +77,16 @@ fn key_at(alloc: Global, path: &Path) -> Mem<Option<PageKey>>
     }
     let file = TextBuf::of(alloc, file)?;
     Ok(Some(PageKey { folder, file }))
+}
+
+// The last segment; nothing of the root.
+fn last_segment(path: &Path) -> &str
+    ensures { result.now ≡ spec.last_segment path.now }
+{
+    match path.last() {
+        Some(file) => file,
+        None => "",
+    }
 }
 
 fn has_dot(text: &str) -> bool
@@ -83,12 +101,11 @@ fn is_file(seg: &str) -> bool
     has_dot(seg) && (!seg.starts_with('.') && !seg.ends_with('.'))
 }
 
-// Whether each segment of a spelling has a file name.
-fn have_names(spelling: &str) -> bool
-    requires { spelled (segs_in spelling.now) ≡ spelling.now }
-    ensures { result ≡ list_all name.has_name (segs_in spelling.now) }
+// Whether each segment of a path has a file name.
+fn have_names(path: &Path) -> bool
+    ensures { result ≡ list_all name.has_name path.now }
 {
-    match spelling.strip_prefix('/') {
+    match path.relative() {
         Some(rest) => rest.split('/').all(|piece| has_name(piece)),
         None => true,
     }

@@ -1,2 +1,4 @@
 pub mod NameLemmas
 pub mod PageLemmas
+pub mod WalkLemmas
+pub mod CoverageLemmas

@@ -1,6 +1,7 @@
-ghost use Rattle.std.specs.Prelude.{◌≡◌, ◌≤◌, codes, length, nat_eq, take};
+ghost use Rattle.std.specs.Prelude.{◌≡◌, ◌≤◌, ◌==◌, ◌&&◌, ◌||◌, [], codes, length, nat_eq, not, take};
 ghost use Rattle.std.specs.List.{starts_with};
 ghost use Rattle.sp_base.specs.Paths.{is_under, parent_of};
+ghost use Rattle.sp_base.specs.PathTexts.{text_under};
 ghost use Rattle.cover_rules.specs.Coverage as spec;
 
 use crate::walk::{Rest, after};
@@ -42,18 +43,28 @@ fn deletes(inv: &Invalidation, key: &PageKey) -> bool
 {
     segments_and_their_spelling();
     let depth = inv.handle.depth();
+    let _folder_depth = key.folder.depth();
     let below = takes_below(inv.action);
     match after(&inv.handle, depth, key) {
-        Some(Rest::Folder(rest)) => {
-            (depth != 0 && begins_with_dot(rest))
-                || (text_under(rest, b"/_jcr_content") || (below && text_under(rest, b"")))
-        }
-        Some(Rest::File(rest)) => {
-            rest.is_empty()
-                || ((depth != 0 && begins_with_dot(rest)) || (below && text_under(rest, b"")))
-        }
+        Some(Rest::Folder(rest)) => deletes_in_folder(depth, below, rest),
+        Some(Rest::File(rest)) => deletes_in_file(depth, below, rest),
         None => false,
     }
+}
+
+// By what is left of the page's folder after the handle.
+fn deletes_in_folder(depth: usize, below: bool, rest: &[u8]) -> bool
+    ensures { result ≡ (not (depth == 0) && starts_with nat_eq rest.now (codes ".") || (text_under rest.now (codes "/_jcr_content") || below && text_under rest.now [])) }
+{
+    (depth != 0 && begins_with_dot(rest))
+        || (text_under(rest, b"/_jcr_content") || (below && text_under(rest, b"")))
+}
+
+// By what is left of the page's file.
+fn deletes_in_file(depth: usize, below: bool, rest: &[u8]) -> bool
+    ensures { result ≡ (length rest.now == 0 || (not (depth == 0) && starts_with nat_eq rest.now (codes ".") || below && text_under rest.now [])) }
+{
+    rest.is_empty() || ((depth != 0 && begins_with_dot(rest)) || (below && text_under(rest, b"")))
 }
 
 fn outdates(level: usize, auto: bool, inv: &Invalidation, key: &PageKey) -> bool
@@ -67,11 +78,13 @@ fn outdates_folder(depth: usize, inv: &Invalidation, key: &PageKey) -> bool
     ensures { result ≡ is_under (parent_of (spec.handle_of inv.now)) (take depth key.now.folder) }
 {
     segments_and_their_spelling();
+    let _folder_depth = key.folder.depth();
     if depth > inv.handle.depth().saturating_sub(1) {
         return false;
     }
     match after(&inv.handle, depth, key) {
         Some(Rest::Folder(rest)) => text_under(rest, b""),
-        _ => false,
+        Some(Rest::File(_)) => false,
+        None => false,
     }
 }

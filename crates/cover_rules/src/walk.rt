@@ -36,9 +36,10 @@ pub fn after<'a>(handle: &Path, n: usize, key: &'a PageKey) -> Option<Rest<'a>>
 }
 
 fn after_segment<'a>(rest: Rest<'a>, segment: &str, file: &'a [u8]) -> Option<Rest<'a>>
-    ensures some { IfSome result (λ more. LeavesNext file.now (47 ∷ mangled_seg segment.now) rest more) }
-    ensures none { IfNone result (has_slash segment.now ≡ false → (more : List ℕ) → left file.now rest ≢ 47 ∷ mangled_seg segment.now ++ more) }
+    ensures some { IfSome result (λ more. LeavesNext file.now (47 ∷ mangled_seg segment.now) rest.entry more) }
+    ensures none { IfNone result (has_slash segment.now ≡ false → (more : List ℕ) → left file.now rest.entry ≢ 47 ∷ mangled_seg segment.now ++ more) }
 {
+    segments_and_their_spelling();
     match rest {
         Rest::Folder(text) => {
             if text.is_empty() {

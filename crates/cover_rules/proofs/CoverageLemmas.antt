@@ -61,7 +61,7 @@ and_right true b h = h
 and_right false b h = absurd (cc (h))
 
 -- lists of segments that are equal
-lists_equal : (xs ys : List (List ℕ)) → pointwise (pointwise nat_eq) xs ys ≡ true → xs ≡ ys
+pub lists_equal : (xs ys : List (List ℕ)) → pointwise (pointwise nat_eq) xs ys ≡ true → xs ≡ ys
 lists_equal [] [] h = refl
 lists_equal [] (y ∷ ys) h = absurd (cc (h))
 lists_equal (x ∷ xs) [] h = absurd (cc (h))
@@ -191,7 +191,7 @@ turned xs ys = either_way (pointwise (pointwise nat_eq) xs ys) (pointwise (point
 first_length : (xs : List (List ℕ)) (n : ℕ) → n ≤ length xs → length (take n xs) ≡ n
 first_length xs n h = omega (arith, length-take n xs)
 
-take_first : (xs : List (List ℕ)) (n m : ℕ) → n ≤ m → take n (take m xs) ≡ take n xs
+pub take_first : (xs : List (List ℕ)) (n m : ℕ) → n ≤ m → take n (take m xs) ≡ take n xs
 take_first [] zero m h = refl
 take_first [] (suc n) zero h = absurd (omega arith)
 take_first [] (suc n) (suc m) h = refl

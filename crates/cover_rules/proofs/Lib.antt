@@ -2,3 +2,4 @@ pub mod NameLemmas
 pub mod PageLemmas
 pub mod WalkLemmas
 pub mod CoverageLemmas
+pub mod TouchLemmas

@@ -21,3 +21,12 @@ unfolding file_name
 name_more seg i h =
     ap (λ (s : List ℕ). length (flat_map file_byte s)) (take_more seg i 0 h) ∙ ap length (flat_map-append file_byte (take i seg) (get_or seg i 0 ∷ []))
     ∙ length-append (flat_map file_byte (take i seg)) (file_byte (get_or seg i 0) ++ []) ∙ omega (arith, length-append (file_byte (get_or seg i 0)) [])
+
+-- the name of a text in two parts
+pub name_parts : (mark rest seg : List ℕ) → mark ++ rest ≡ seg → length (file_name mark) + length (file_name rest) ≡ length (file_name seg)
+unfolding file_name
+name_parts mark rest seg e =
+    sym (length-append (flat_map file_byte mark) (flat_map file_byte rest)) ∙ sym (ap length (flat_map-append file_byte mark rest)) ∙ ap (λ (s : List ℕ). length (flat_map file_byte s)) e
+
+pub parts_lack : (mark rest seg : List ℕ) → mark ++ rest ≡ seg → 200 < length mark + length rest → has_name seg ≡ false
+parts_lack mark rest seg e h = long_lacks seg (omega (arith, h, ap length e, length-append mark rest))

@@ -2,6 +2,9 @@
 ghost use Rattle.std.specs.Prelude.{◌≡◌, ◌++◌, ◌≤◌, length};
 ghost use Rattle.cover_rules.specs.Names.{file_byte, file_name, is_plain};
 ghost use Rattle.cover_rules.specs.Names as spec;
+ghost use Rattle.sp_base.specs.Paths.{mangled_seg};
+
+use sp_base::mangled_parts;
 
 /// The most bytes of a file name in the document root.
 pub const LONGEST_NAME: usize = 200;
@@ -20,6 +23,19 @@ fn width(b: u8) -> usize
     if is_plain(b) { 1 } else { 3 }
 }
 
+// How long the file name of a text is.
+fn name_length(text: &str) -> usize
+    requires { length text.now ≤ 200 }
+    ensures length { result ≡ length (file_name text.now) }
+    ensures most { result ≤ 600 }
+{
+    let mut length = 0;
+    for b in text.as_bytes() {
+        length += width(*b);
+    }
+    length
+}
+
 /// Whether the file name of a mangled segment has at most `LONGEST_NAME` bytes. In a file name each byte but ASCII letters, digits,
 /// `.`, `_` and `-` is `%` and two capital hexadecimal digits.
 pub fn has_name(seg: &str) -> bool
@@ -28,9 +44,16 @@ pub fn has_name(seg: &str) -> bool
     if seg.len() > LONGEST_NAME {
         return false;
     }
-    let mut length = 0;
-    for b in seg.as_bytes() {
-        length += width(*b);
+    name_length(seg) <= LONGEST_NAME
+}
+
+/// The same of a segment that isn't mangled yet.
+pub fn has_mangled_name(seg: &str) -> bool
+    ensures { result ≡ spec.has_name (mangled_seg seg.now) }
+{
+    let (mark, rest) = mangled_parts(seg);
+    if mark.len() > LONGEST_NAME || rest.len() > LONGEST_NAME {
+        return false;
     }
-    length <= LONGEST_NAME
+    name_length(mark) + name_length(rest) <= LONGEST_NAME
 }

@@ -1,6 +1,7 @@
 -- Runs of pieces, and stars between them.
-use Rattle.std.proofs.Common.{◌≡◌, ℕ, Bool, true, false, cond, ◌&&◌, ◌||◌, List, [], ◌∷◌, ◌++◌, drop, take, length, zero, suc, ◌+◌, not, ◌<◌, get_or, Option, Some, None, refl, ap, sym, ◌∙◌, subst, arith, drop-cons, add-one, ◌≤◌, nat_lt, MatchOption}
-use Rattle.std.proofs.lemmas.List.{append-nil}
+use Rattle.std.proofs.Common.{◌≡◌, ℕ, Bool, true, false, cond, ◌&&◌, ◌||◌, List, [], ◌∷◌, ◌++◌, drop, take, length, zero, suc, ◌+◌, ◌-◌, not, ◌<◌, get_or, Option, Some, None, refl, ap, sym, ◌∙◌, subst, arith, drop-cons, add-one, ◌≤◌, nat_lt, MatchOption}
+use Rattle.std.proofs.lemmas.List.{append-nil, take_all}
+use Rattle.std.proofs.Math.Seq.{drop-nil}
 use Rattle.std.proofs.lemmas.Bool.Decides.{nat_tests}
 use Rattle.std.specs.List.{list_any, position_or_len}
 use Rattle.std.specs.Option.{option_or}
@@ -198,23 +199,35 @@ pub first_later : (run : List Piece) (c : ℕ) (cs : List ℕ) → after_run run
 unfolding after_first_run
 first_later run c cs h = sym (ap (λ (o : Option (List ℕ)). option_or o (after_first_run run cs)) h)
 
--- pieces, cut at a star
-star_and_next : (later next : List Piece) → IsAfterRun later → 0 < length later → next ≡ drop 1 later → later ≡ Star ∷ next
-star_and_next [] next star lt e = absurd (omega arith)
-star_and_next (piece ∷ pieces) next star lt e = ap (λ (p : Piece). p ∷ pieces) star ∙ ap (λ (l : List Piece). Star ∷ l) (sym e)
+-- pieces, cut at a star: the list behind it is taken as the rest of a slice pattern
+star_and_next : (later : List Piece) → IsAfterRun later → 0 < length later → later ≡ Star ∷ take (length later - 1) (drop 1 later)
+star_and_next [] star lt = absurd (omega arith)
+star_and_next (piece ∷ pieces) star lt =
+    let all : take (length (piece ∷ pieces) - 1) pieces ≡ pieces = take_all (length (piece ∷ pieces) - 1) pieces (omega arith) in
+    ap (λ (p : Piece). p ∷ pieces) star ∙ ap (λ (l : List Piece). Star ∷ l) (sym all)
 
-pub greedy_at : (left run later next : List Piece) (cs : List ℕ) → left ≡ run ++ later → IsRun run → IsAfterRun later → 0 < length later → next ≡ drop 1 later
-    → is_match (Star ∷ left) cs ≡ then_match (Star ∷ next) (after_first_run run cs)
-greedy_at left run later next cs parts plain star lt e =
-    ap (λ (l : List Piece). is_match (Star ∷ l) cs) (parts ∙ ap (λ (l : List Piece). run ++ l) (star_and_next later next star lt e)) ∙ greedy run next cs plain
+pub greedy_at : (left run later : List Piece) (cs : List ℕ) → left ≡ run ++ later → IsRun run → IsAfterRun later → 0 < length later
+    → is_match (Star ∷ left) cs ≡ then_match (Star ∷ take (length later - 1) (drop 1 later)) (after_first_run run cs)
+greedy_at left run later cs parts plain star lt =
+    ap (λ (l : List Piece). is_match (Star ∷ l) cs) (parts ∙ ap (λ (l : List Piece). run ++ l) (star_and_next later star lt)) ∙ greedy run (take (length later - 1) (drop 1 later)) cs plain
 
-pub front_at : (left run later next : List Piece) (cs : List ℕ) → left ≡ run ++ later → IsRun run → IsAfterRun later → 0 < length later → next ≡ drop 1 later
-    → is_match left cs ≡ then_match (Star ∷ next) (after_run run cs)
-front_at left run later next cs parts plain star lt e =
-    ap (λ (l : List Piece). is_match l cs) (parts ∙ ap (λ (l : List Piece). run ++ l) (star_and_next later next star lt e)) ∙ run_then run (Star ∷ next) cs plain
+pub front_at : (left run later : List Piece) (cs : List ℕ) → left ≡ run ++ later → IsRun run → IsAfterRun later → 0 < length later
+    → is_match left cs ≡ then_match (Star ∷ take (length later - 1) (drop 1 later)) (after_run run cs)
+front_at left run later cs parts plain star lt =
+    ap (λ (l : List Piece). is_match l cs) (parts ∙ ap (λ (l : List Piece). run ++ l) (star_and_next later star lt)) ∙ run_then run (Star ∷ take (length later - 1) (drop 1 later)) cs plain
 
 pub front_fails : (left run later : List Piece) (cs : List ℕ) → left ≡ run ++ later → IsRun run → after_run run cs ≡ None → is_match left cs ≡ false
 front_fails left run later cs parts plain none = ap (λ (l : List Piece). is_match l cs) parts ∙ run_then run later cs plain ∙ ap (then_match later) none
 
-pub front_whole : (left run : List Piece) (cs rest : List ℕ) → left ≡ run ++ [] → IsRun run → after_run run cs ≡ Some rest → is_match left cs ≡ is_empty rest
-front_whole left run cs rest parts plain some = ap (λ (l : List Piece). is_match l cs) parts ∙ run_then run [] cs plain ∙ ap (then_match []) some ∙ over rest
+nil_is : (later : List Piece) → length later < 1 → later ≡ []
+nil_is [] lt = refl
+nil_is (piece ∷ pieces) lt = absurd (omega arith)
+
+pub front_whole : (left run later : List Piece) (cs rest : List ℕ) → left ≡ run ++ later → length later < 1 → IsRun run → after_run run cs ≡ Some rest → is_match left cs ≡ is_empty rest
+front_whole left run later cs rest parts nil plain some =
+    ap (λ (l : List Piece). is_match l cs) (parts ∙ ap (λ (l : List Piece). run ++ l) (nil_is later nil)) ∙ run_then run [] cs plain ∙ ap (then_match []) some ∙ over rest
+
+pub drop_past : (run : List Piece) (i : ℕ) → length run ≤ i → drop i run ≡ []
+drop_past [] i le = drop-nil i
+drop_past (piece ∷ run) zero le = absurd (omega arith)
+drop_past (piece ∷ run) (suc i) le = drop_past run i (omega arith)

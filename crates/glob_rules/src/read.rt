@@ -1,6 +1,6 @@
 //! Globs from their texts.
-ghost use Rattle.std.specs.Prelude.{◌≡◌, ◌≢◌, ◌≤◌, ◌∷◌, IfOk, IfErr, Ok, Err, length};
-ghost use Rattle.std.specs.Str.{chars};
+ghost use Rattle.std.specs.Prelude.{◌≡◌, ◌≢◌, ◌≤◌, ◌∷◌, ◌++◌, IfOk, IfErr, IfSome, MatchOption, Ok, Err, length};
+ghost use Rattle.std.specs.Str.{chars, NonePass};
 ghost use Rattle.glob_rules.specs.Reading as spec;
 
 use crate::chars::first_char;
@@ -20,7 +20,7 @@ impl Glob {
         let mut rest = text;
         while let Some((c, later)) = first_char(rest) {
             if c == '[' {
-                let Some((inside, after)) = later.split_once(']') else {
+                let Some((inside, after)) = cut_at_close(later) else {
                     return Err(GlobFault::OpenClass(text.len() - rest.len()));
                 };
                 pieces.push(Piece::Class(class_of(alloc, inside)?))?;
@@ -31,6 +31,18 @@ impl Glob {
             }
         }
         Ok(Glob { pieces })
+    }
+}
+
+// What a class holds, and the text after the `]` that closes it.
+fn cut_at_close(text: &str) -> Option<(&str, &str)>
+    ensures first { MatchOption result (NonePass spec.is_close (chars text.now)) (λ p. NonePass spec.is_close (chars p.0.now)) }
+    ensures parts { IfSome result (λ p. chars text.now ≡ chars p.0.now ++ (93 ∷ chars p.1.now)) }
+    ensures shorter { IfSome result (λ p. length p.1.now ≤ length text.now) }
+{
+    match text.split_once(']') {
+        None => None,
+        Some((inside, after)) => Some((inside, after)),
     }
 }
 

@@ -2,7 +2,7 @@ use Rattle.std.proofs.Common.{◌≡◌, ◌∷◌, [], ◌+◌, drop, ap, sym, 
 use Rattle.std.specs.Str.{chars}
 use Rattle.glob_rules.specs.declared.piece.Piece.{Piece}
 use Rattle.glob_rules.specs.Runs.{after_run}
-use Rattle.glob_rules.proofs.RunLemmas.{run_over, run_stops, run_goes_on, run_done, piece_at}
+use Rattle.glob_rules.proofs.RunLemmas.{run_over, run_stops, run_goes_on, run_done, piece_at, drop_past}
 use Rattle.glob_rules.proofs.runs.after_run.Goals as goal
 
 pub returns-in_default : goal.returns-in_default
@@ -27,4 +27,6 @@ loop-piece-preserved c =
       ∙ ap (λ (p : List Piece). after_run p (chars c.loop-piece.rest.now)) (sym here) ∙ c.loop-piece.invariant.1)
 
 pub returns : goal.returns
-returns c = ?
+returns c =
+    sym c.loop-piece.invariant.1 ∙ ap (λ (p : List Piece). after_run p (chars c.loop-piece.rest.now)) (drop_past c.args.run.now c.loop-piece.piece-index (omega arith))
+    ∙ run_done (chars c.loop-piece.rest.now)

@@ -1,0 +1,13 @@
+//! The configuration of the dispatcher: the file `dispatcher.any`, and the farm in it.
+#![tactic(auto)]
+
+mod any_fault;
+mod farm;
+mod farm_fault;
+mod node;
+
+pub use any_fault::AnyFault;
+pub use farm::{Farm, Filter, FilterList, HostList};
+pub use farm_fault::FarmFault;
+pub use glob_rules::{Glob, GlobFault, Rule, RuleList};
+pub use node::{AnyList, AnyNode};

@@ -3,8 +3,13 @@
 
 mod any_fault;
 mod farm;
+mod entries;
 mod farm_fault;
+mod farm_reader;
+mod hosts;
+mod members;
 mod node;
+mod numbers;
 mod reader;
 mod stop;
 mod tokens;
@@ -12,6 +17,7 @@ mod tokens;
 pub use any_fault::AnyFault;
 pub use farm::{Farm, Filter, FilterList, HostList};
 pub use farm_fault::FarmFault;
+pub use farm_reader::farm_of;
 pub use glob_rules::{Glob, GlobFault, Rule, RuleList};
 pub use node::{AnyList, AnyNode};
 pub use reader::{DEEPEST_GROUP, read_any};

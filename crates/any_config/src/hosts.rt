@@ -89,10 +89,16 @@ fn is_host_byte(c: u8) -> bool
     is_letter_or_digit(c) || (c == b'-' || (c == b'_' || c == b'.'))
 }
 
+fn are_host_bytes(bytes: &[u8]) -> bool
+    ensures { result ≡ list_all spec.is_host_byte bytes.now }
+{
+    bytes.iter().all(|c| is_host_byte(*c))
+}
+
 fn is_host_name(text: &str) -> bool
     ensures { result ≡ spec.is_host_name text.now }
 {
-    !text.is_empty() && text.as_bytes().iter().all(|c| is_host_byte(*c))
+    !text.is_empty() && are_host_bytes(text.as_bytes())
 }
 
 fn name_or_localhost(text: &str) -> &str

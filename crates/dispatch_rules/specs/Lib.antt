@@ -1,0 +1,4 @@
+pub mod UrlParts
+pub mod Admission
+pub mod Caching
+pub mod Asking

@@ -1,6 +1,6 @@
 -- The parts of a path text that a filter entry may ask about: the text is cut at its first dot.
-use Rattle.std.specs.Prelude.{◌==◌, ◌+◌, ◌-◌, ℕ, Bool, not, List, [], drop, take, length, filter, slice_index_or}
-use Rattle.std.specs.List.{slice_split, before_first, join_with_byte}
+use Rattle.std.specs.Prelude.{◌≡◌, ◌==◌, ◌+◌, ◌-◌, ℕ, Bool, not, List, [], drop, take, length, filter, flat_map, slice_get, unwrap_or, ◌∷◌}
+use Rattle.std.specs.List.{slice_split, before_first}
 
 abbrev pub is_dot : ℕ → Bool
 is_dot b = b == 46
@@ -26,11 +26,22 @@ pieces text = slice_split is_dot (ending text)
 
 -- the last piece is the extension
 abbrev pub extension : List ℕ → List ℕ
-extension text = slice_index_or (pieces text) (length (pieces text) - 1) []
+extension text = unwrap_or (slice_get (pieces text) (length (pieces text) - 1)) []
 
--- the pieces before it that aren't empty are the selectors, here with a dot between two
+abbrev pub is_full : List ℕ → Bool
+is_full piece = not (length piece == 0)
+
+-- a dot before each piece
+abbrev pub dotted : List (List ℕ) → List ℕ
+dotted selectors = flat_map (λ selector. 46 ∷ selector) selectors
+
+-- a text of pieces with a dot before each; only private functions need this
+abbrev pub IsDotted : List ℕ → Type 0
+IsDotted text = (pieces : List (List ℕ)) × (text ≡ dotted pieces)
+
+-- the pieces before it that aren't empty are the selectors: a dot before each, but for the first
 abbrev pub selectors : List ℕ → List ℕ
-selectors text = join_with_byte 46 (filter (λ piece. not (length piece == 0)) (take (length (pieces text) - 1) (pieces text)))
+selectors text = drop 1 (dotted (filter is_full (take (length (pieces text) - 1) (pieces text))))
 
 -- what begins with the slash is the suffix
 abbrev pub suffix : List ℕ → List ℕ

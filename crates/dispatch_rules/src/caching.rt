@@ -1,4 +1,4 @@
-ghost use Rattle.std.specs.Prelude.{◌≡◌, IfOk, codes, is_none, nat_eq};
+ghost use Rattle.std.specs.Prelude.{◌≡◌, [], IfOk, codes, is_none, nat_eq, unwrap_or};
 ghost use Rattle.std.specs.Cmp.Lexicographic.{pointwise};
 ghost use Rattle.glob_rules.specs.Rules as rules;
 ghost use Rattle.dispatch_rules.specs.Caching as spec;
@@ -39,9 +39,16 @@ fn may_keep(alloc: Global, farm: &Farm, req: &Req) -> Mem<bool>
     if !is_shared(farm, req) {
         return Ok(false);
     }
+    ignores(alloc, farm, query_bytes(req))
+}
+
+/// The query as it came, empty where there is none.
+pub fn query_bytes(req: &Req) -> &[u8]
+    ensures { result.now ≡ unwrap_or req.now.query [] }
+{
     match &req.query {
-        Some(query) => ignores(alloc, farm, query.bytes()),
-        None => Ok(true),
+        Some(query) => query.bytes(),
+        None => b"",
     }
 }
 

@@ -1,12 +1,12 @@
 -- Mangling a segment and unmangling it, by the namespace prefix that it begins with.
-use Rattle.std.proofs.Common.{ℕ, Bool, true, false, cond, codes, T, List, [], ◌∷◌, ◌++◌, ◌&&◌, ◌==◌, length, drop, map, take, Bor, nat_lt, refl, sym, ◌∙◌, ap, subst, ◌≡◌, arith, length-append, nat_eq}
+use Rattle.std.proofs.Common.{ℕ, Bool, true, false, cond, codes, T, List, [], ◌∷◌, ◌++◌, ◌&&◌, ◌||◌, ◌==◌, ◌≤◌, Ok, length, drop, map, take, Bor, nat_lt, refl, sym, ◌∙◌, ap, subst, ◌≡◌, arith, length-append, nat_eq}
 use Rattle.std.proofs.lemmas.Bool.Decides.{nat_tests}
-use Rattle.std.proofs.lemmas.List.{take-append-drop, map-append}
-use Rattle.std.specs.Cmp.Lexicographic.{bytes_decides}
-use Rattle.std.specs.List.{list_all, starts_with}
-use Rattle.sp_base.specs.Paths.{is_mangled, is_namespaced, mangled_seg, mangled, unmangled_seg, unmangled, pieces, is_path}
+use Rattle.std.proofs.lemmas.List.{take-append-drop, map-append, length-map}
+use Rattle.std.specs.Cmp.Lexicographic.{bytes_decides, pointwise}
+use Rattle.std.specs.List.{list_all, list_any, starts_with}
+use Rattle.sp_base.specs.Paths.{is_path, is_empty, is_long, seg_ok, mangled_of, unless_fault, is_mangled, is_namespaced, mangled_seg, mangled, unmangled_seg, unmangled, pieces}
 use Rattle.sp_base.specs.PathTexts.{spelled, segs_in}
-use Rattle.sp_base.proofs.PathLemmas.{both, first, second, lacks_slash, mangled_on, pieces_lack}
+use Rattle.sp_base.proofs.PathLemmas.{both, first, second, lacks_slash, lacks_of, is_not, or_first, or_second, true_test, small_back, no_fault, mangled_on, pieces_lack}
 use Rattle.sp_base.proofs.PathText.{spelled-more, pieces-spelled}
 
 and_first : (a b : Bool) → (a && b) ≡ true → a ≡ true
@@ -157,3 +157,34 @@ mangled-push seen piece text more e is =
     let segs = map (λ s. s.now) seen in
     is ∙ ap (λ front. (front ++ 47 ∷ []) ++ mangled_seg piece.now) e ∙ sym (spelled-more (mangled segs) (mangled_seg piece.now))
     ∙ ap spelled (sym (ap mangled (map-append (λ s. s.now) seen (piece ∷ [])) ∙ map-append mangled_seg segs (piece.now ∷ [])))
+
+-- segments without a slash are those of their spelling
+pub segs_back : (segs : List (List ℕ)) → T (list_all lacks_slash segs) → segs_in (spelled segs) ≡ segs
+unfolding segs_in
+segs_back segs h = ap (drop 1) (pieces-spelled segs h)
+
+-- a mangled segment is one unless it is too long
+full_ok : (b : ℕ) (seg : List ℕ) → (b == 46) ≡ false → T (lacks_slash (b ∷ seg)) → is_long (b ∷ seg) ≡ false → T (seg_ok (b ∷ seg))
+full_ok b seg dot lacks long =
+    let full : is_empty (b ∷ seg) ≡ false = some_left b seg in
+    let first_differs : (pointwise nat_eq (b ∷ seg) (codes ".") || pointwise nat_eq (b ∷ seg) (codes "..")) ≡ false =
+    ap (λ t. (t && pointwise nat_eq seg []) || (t && pointwise nat_eq seg (codes "."))) dot in
+    both _ _ (is_not _ full) (both _ _ (is_not _ first_differs) (both _ _ (is_not _ long) lacks))
+
+ok_after : (seg : List ℕ) → T (seg_ok seg) → is_long (mangled_seg seg) ≡ false → T (seg_ok (mangled_seg seg))
+ok_after seg = mangled_cases (λ s. T (seg_ok s) → is_long (mangled_seg s) ≡ false → T (seg_ok (mangled_seg s))) seg
+    (λ x more h long. subst (λ (s : List ℕ). T (seg_ok s)) (sym (jcr_mangled x more)) (full_ok 95 (codes "jcr_" ++ x ∷ more) refl (lacks_of (codes "jcr:" ++ x ∷ more) h) (ap is_long (sym (jcr_mangled x more)) ∙ long)))
+    (λ x more h long. subst (λ (s : List ℕ). T (seg_ok s)) (sym (sling_mangled x more)) (full_ok 95 (codes "sling_" ++ x ∷ more) refl (lacks_of (codes "sling:" ++ x ∷ more) h) (ap is_long (sym (sling_mangled x more)) ∙ long)))
+    (λ x more h long. subst (λ (s : List ℕ). T (seg_ok s)) (sym (nt_mangled x more)) (full_ok 95 (codes "nt_" ++ x ∷ more) refl (lacks_of (codes "nt:" ++ x ∷ more) h) (ap is_long (sym (nt_mangled x more)) ∙ long)))
+    (λ x more h long. subst (λ (s : List ℕ). T (seg_ok s)) (sym (cq_mangled x more)) (full_ok 95 (codes "cq_" ++ x ∷ more) refl (lacks_of (codes "cq:" ++ x ∷ more) h) (ap is_long (sym (cq_mangled x more)) ∙ long)))
+    (λ e h long. subst (λ (s : List ℕ). T (seg_ok s)) (sym e) h)
+
+all_after : (segs : List (List ℕ)) → T (list_all seg_ok segs) → list_any is_long (mangled segs) ≡ false → T (list_all seg_ok (mangled segs))
+all_after [] h long = tt
+all_after (seg ∷ segs) h long = both _ _ (ok_after seg (first _ _ h) (or_first _ _ long)) (all_after segs (second _ _ h) (or_second _ _ long))
+
+pub fits : (path : List (List ℕ)) → is_path path ≡ true → list_any is_long (mangled path) ≡ false → mangled_of path ≡ Ok (mangled path)
+fits path h long =
+    let t = true_test (is_path path) h in
+    let few : length (mangled path) ≤ 64 = omega (arith, small_back (length path) (second _ _ t), length-map path mangled_seg) in
+    ap (λ fault. unless_fault fault (mangled path)) (no_fault (mangled path) (all_after path (first _ _ t) long) few)

@@ -42,12 +42,12 @@ pub all-append : (p : List ℕ → Bool) (xs ys : List (List ℕ)) → T (list_a
 all-append p [] ys h k = k
 all-append p (x ∷ xs) ys h k = both _ _ (first _ _ h) (all-append p xs ys (second _ _ h) k)
 
-ok_lacks : (seg : List ℕ) → T (seg_ok seg) → T (lacks_slash seg)
-ok_lacks seg h = second (not (is_long seg)) (lacks_slash seg) (second (not (is_dots seg)) _ (second (not (is_empty seg)) _ h))
+pub lacks_of : (seg : List ℕ) → T (seg_ok seg) → T (lacks_slash seg)
+lacks_of seg h = second (not (is_long seg)) (lacks_slash seg) (second (not (is_dots seg)) _ (second (not (is_empty seg)) _ h))
 
 pub path_lacks : (segs : List (List ℕ)) → T (list_all seg_ok segs) → T (list_all lacks_slash segs)
 path_lacks [] h = tt
-path_lacks (seg ∷ segs) h = both _ _ (ok_lacks seg (first _ _ h)) (path_lacks segs (second _ _ h))
+path_lacks (seg ∷ segs) h = both _ _ (lacks_of seg (first _ _ h)) (path_lacks segs (second _ _ h))
 
 pub all-take : (p : List ℕ → Bool) (xs : List (List ℕ)) (n : ℕ) → T (list_all p xs) → T (list_all p (take n xs))
 all-take p [] zero h = tt
@@ -151,7 +151,7 @@ not_is true h = absurd h
 not_is false h = refl
 
 ok_whole : (name : List ℕ) → seg_ok name ≡ true → pieces name ≡ name ∷ []
-ok_whole name h = pieces_whole name (not_is _ (ok_lacks name (true_test (seg_ok name) h)))
+ok_whole name h = pieces_whole name (not_is _ (lacks_of name (true_test (seg_ok name) h)))
 
 pub made_is : (fault : Option PathFault) (segs p : List (List ℕ)) → unless_fault fault segs ≡ Ok p → p ≡ segs
 made_is None segs p e = cc (e)

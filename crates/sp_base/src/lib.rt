@@ -29,6 +29,6 @@ pub use laws::{
 pub use memory::{Mem, NoMemory};
 pub use path::{Path, PathFault};
 pub use property_list::PropList;
-pub use segments::{LONGEST_SEGMENT, MOST_SEGMENTS, mangled_parts, seg_ok};
+pub use segments::{LONGEST_SEGMENT, MOST_SEGMENTS, mangled_parts, seg_ok, text_under};
 pub use text::TextBuf;
 pub use value::Value;

@@ -1,12 +1,20 @@
 //! What is read off a path, and what is made of one: its last segment, a child, a path below another.
-ghost use Rattle.std.specs.Prelude.{◌≡◌, ◌-◌, ◌∷◌, ◌++◌, [], IfOk, length, option_copied, slice_get};
-ghost use Rattle.sp_base.specs.Paths.{path_or_none};
+ghost use Rattle.std.specs.Prelude.{◌≡◌, ◌-◌, ◌∷◌, ◌++◌, [], IfNone, IfOk, IfSome, length, option_copied, slice_get};
+ghost use Rattle.sp_base.specs.Paths.{path_or_none, pieces};
 
-use crate::segments::{last_segment, seg_ok};
+use crate::segments::{after_slash, last_segment, seg_ok};
 use crate::{MOST_SEGMENTS, Mem, NoMemory, Path, PathFault};
 use std::alloc::Global;
 
 impl Path {
+    /// The text without its first slash: the segments with slashes between them. The root has none.
+    pub fn relative(&self) -> Option<&str>
+        ensures some { IfSome result (λ rest. pieces rest.now ≡ self.now) }
+        ensures none { IfNone result (self.now ≡ []) }
+    {
+        after_slash(self.spelling())
+    }
+
     /// The last segment; the root has none.
     pub fn last(&self) -> Option<&str>
         ensures { option_copied result ≡ slice_get self.now (length self.now - 1) }

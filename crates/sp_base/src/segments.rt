@@ -243,7 +243,7 @@ fn add_both(text: &mut String, prefix: &str, rest: &str) -> Mem<()>
     Ok(())
 }
 
-// Whether a path's text begins with all segments of another.
+/// Whether a text begins with another, and with all segments of it: a slash follows, or the end.
 pub fn text_under(text: &[u8], other: &[u8]) -> bool
     ensures { result ≡ text_under text.now other.now }
 {

@@ -1,4 +1,4 @@
-use Rattle.sp_base.proofs.MangledLemmas.{back, one, again}
+use Rattle.sp_base.proofs.MangledLemmas.{back, one, again, fits}
 use Rattle.sp_base.proofs.laws.mangling_and_unmangling.Goals as goal
 
 pub returns-clause-back : goal.returns-clause-back
@@ -9,3 +9,6 @@ returns-clause-one c = one
 
 pub returns-clause-again : goal.returns-clause-again
 returns-clause-again c = again
+
+pub returns-clause-fits : goal.returns-clause-fits
+returns-clause-fits c = fits

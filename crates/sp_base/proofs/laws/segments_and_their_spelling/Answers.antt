@@ -1,7 +1,7 @@
 use Rattle.sp_base.proofs.PathLemmas.{test_true, true_test, path_pieces, pieces_lack}
 use Rattle.sp_base.proofs.PathOrder.{segments_under}
 use Rattle.sp_base.proofs.PathText.{spelled-pieces}
-use Rattle.sp_base.proofs.MangledLemmas.{mangled_lacks}
+use Rattle.sp_base.proofs.MangledLemmas.{mangled_lacks, segs_back}
 use Rattle.sp_base.proofs.laws.segments_and_their_spelling.Goals as goal
 
 pub returns-clause-under : goal.returns-clause-under
@@ -18,3 +18,6 @@ returns-clause-pieces c = λ text. test_true _ (pieces_lack text)
 
 pub returns-clause-spelled : goal.returns-clause-spelled
 returns-clause-spelled c = spelled-pieces
+
+pub returns-clause-back : goal.returns-clause-back
+returns-clause-back c = λ path h. segs_back path (true_test _ h)

@@ -1,4 +1,4 @@
-use Rattle.std.proofs.Common.{◌∙◌, sym, ap, List, ℕ}
+use Rattle.std.proofs.Common.{◌∙◌, sym, ap}
 use Rattle.sp_base.specs.Paths.{fault_of, pieces}
 use Rattle.sp_base.proofs.PathFaults.{fault_after_none}
 use Rattle.sp_base.proofs.PathText.{segs_behind, root_segs}

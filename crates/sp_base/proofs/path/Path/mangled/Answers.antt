@@ -1,5 +1,5 @@
 use Rattle.std.proofs.Common.{◌≡◌, ◌≢◌, ◌∷◌, ◌∙◌, Ok, sym, ap, subst, string_bytes, List, ℕ}
-use Rattle.sp_base.specs.Paths.{checked, mangled, mangled_of, pieces}
+use Rattle.sp_base.specs.Paths.{checked, mangled, mangled_of}
 use Rattle.sp_base.specs.PathTexts.{segs_in, spelled}
 use Rattle.sp_base.proofs.PathLemmas.{IfOk-from, IfErr-from}
 use Rattle.sp_base.proofs.PathText.{segs_behind, root_segs}

@@ -1,0 +1,3 @@
+pub mod TokenLemmas
+pub mod Turns
+pub mod HostLemmas

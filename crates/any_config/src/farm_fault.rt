@@ -1,0 +1,43 @@
+//! Why a file has no farm that can be used.
+ghost use Rattle.std.specs.Prelude.{◌≡◌};
+ghost use Rattle.any_config.specs.declared.farm_fault.FarmFault.TheVariants.{NoMemory as no_memory};
+
+use sp_base::{NoMemory, TextBuf};
+use std::alloc::{AllocError, AllocFailed};
+
+/// Why a file has no farm that can be used. Each names the member that it is about; where that has no name, the group in which it
+/// stands.
+#[derive(Drop)]
+pub enum FarmFault {
+    /// It isn't there.
+    Missing(TextBuf),
+    /// It has another shape than it should, or a value out of range.
+    BadKind(TextBuf),
+    /// It asks for what isn't built: a second farm, or a pattern in single quotes.
+    NotSupported(TextBuf),
+    NoMemory,
+}
+
+impl From<NoMemory> for FarmFault {
+    ghost from_gives = { λ _ e. e ≡ no_memory };
+
+    fn from(_fault: NoMemory) -> FarmFault {
+        FarmFault::NoMemory
+    }
+}
+
+impl From<AllocError> for FarmFault {
+    ghost from_gives = { λ _ e. e ≡ no_memory };
+
+    fn from(_fault: AllocError) -> FarmFault {
+        FarmFault::NoMemory
+    }
+}
+
+impl<T: Drop> From<AllocFailed<T>> for FarmFault {
+    ghost from_gives = { λ _ e. e ≡ no_memory };
+
+    fn from(_fault: AllocFailed<T>) -> FarmFault {
+        FarmFault::NoMemory
+    }
+}

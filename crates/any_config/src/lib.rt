@@ -1,0 +1,23 @@
+//! The configuration of the dispatcher: the file `dispatcher.any`, and the farm in it.
+#![tactic(auto)]
+
+mod any_fault;
+mod farm;
+mod entries;
+mod farm_fault;
+mod farm_reader;
+mod hosts;
+mod members;
+mod node;
+mod numbers;
+mod reader;
+mod stop;
+mod tokens;
+
+pub use any_fault::AnyFault;
+pub use farm::{Farm, Filter, FilterList, HostList};
+pub use farm_fault::FarmFault;
+pub use farm_reader::farm_of;
+pub use glob_rules::{Glob, GlobFault, Rule, RuleList};
+pub use node::{AnyList, AnyNode};
+pub use reader::{DEEPEST_GROUP, read_any};

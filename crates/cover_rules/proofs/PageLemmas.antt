@@ -1,0 +1,153 @@
+-- Which mangled paths are those of pages, and the text of a page's path.
+use Rattle.std.proofs.Common.{ℕ, Bool, true, false, cond, not, ◌&&◌, ◌||◌, ◌==◌, List, [], ◌∷◌, ◌++◌, ◌-◌, ◌<◌, Option, Some, None, Ok, Err, ◌+◌, get_or, nat_lt, length, take, slice_get, unwrap_or, flat_map, refl, sym, ◌∙◌, ap, ◌≡◌, arith}
+use Rattle.std.proofs.lemmas.Bool.Decides.{nat_tests}
+use Rattle.std.proofs.lemmas.List.Concat.{flat_map-append}
+use Rattle.std.proofs.lemmas.List.{take_more, take_all, append-nil}
+use Rattle.std.proofs.lemmas.List.Folds.{list_any-append, list_all-append}
+use Rattle.std.proofs.lemmas.Option.{slice_get-get_or}
+use Rattle.std.specs.List.{list_any, list_all}
+use Rattle.sp_base.specs.declared.path.PathFault.{PathFault}
+use Rattle.sp_base.specs.Paths.{has_slash, is_long, mangled, mangled_of, parent_of, pieces, text_of}
+use Rattle.sp_base.specs.PathTexts.{lack_slashes, segs_in, spelled}
+use Rattle.cover_rules.specs.declared.page.PageKey.{PageKey}
+use Rattle.cover_rules.specs.Names.{has_name}
+use Rattle.cover_rules.specs.Pages.{has_dot, is_file, is_page, key_at, last_segment, page_key_of, page_path, page_text}
+use Rattle.cover_rules.proofs.NameLemmas.{long_lacks}
+
+pub no_key : (segs : List (List ℕ)) → is_page segs ≡ false → key_at segs ≡ None
+unfolding key_at
+no_key segs h = ap (λ t. cond t (Some (record { folder = parent_of segs; file = last_segment segs })) None) h
+
+pub a_key : (segs : List (List ℕ)) → is_page segs ≡ true → key_at segs ≡ Some (record { folder = parent_of segs; file = last_segment segs })
+unfolding key_at
+a_key segs h = ap (λ t. cond t (Some (record { folder = parent_of segs; file = last_segment segs })) None) h
+
+pub no_file : (segs : List (List ℕ)) → is_file (last_segment segs) ≡ false → is_page segs ≡ false
+no_file segs h = ap (λ t. t && (list_all (λ seg. not (has_dot seg)) (parent_of segs) && list_all has_name segs)) h
+
+third_false : (a b c : Bool) → c ≡ false → (a && (b && c)) ≡ false
+third_false true true c h = h
+third_false true false c h = refl
+third_false false b c h = refl
+
+second_false : (a b c : Bool) → b ≡ false → (a && (b && c)) ≡ false
+second_false true true c h = cc (h)
+second_false true false c h = refl
+second_false false b c h = refl
+
+all_true : (a b c : Bool) → a ≡ true → b ≡ true → c ≡ true → (a && (b && c)) ≡ true
+all_true a b c e f g = ap (λ t. t && (b && c)) e ∙ ap (λ t. t && c) f ∙ g
+
+pub no_names : (segs : List (List ℕ)) → list_all has_name segs ≡ false → is_page segs ≡ false
+no_names segs h = third_false (is_file (last_segment segs)) (list_all (λ seg. not (has_dot seg)) (parent_of segs)) (list_all has_name segs) h
+
+nots : (a b : Bool) (t : Bool) → t ≡ not b → (a || t) ≡ not (not a && b)
+nots true b t h = refl
+nots false b t h = h
+
+-- the spelling of folders has a dot where one of them does
+pub dots : (segs : List (List ℕ)) → has_dot (spelled segs) ≡ not (list_all (λ seg. not (has_dot seg)) segs)
+dots [] = refl
+dots (seg ∷ segs) =
+    list_any-append (λ b. b == 46) seg (spelled segs) ∙ nots (has_dot seg) (list_all (λ s. not (has_dot s)) segs) (has_dot (spelled segs)) (dots segs)
+
+and_false : (a b : Bool) → b ≡ false → (a && b) ≡ false
+and_false true b h = h
+and_false false b h = refl
+
+and_right : (a b : Bool) → (a && b) ≡ true → b ≡ true
+and_right true b h = h
+and_right false b h = absurd (cc (h))
+
+long_is : (seg : List ℕ) → is_long seg ≡ true → 200 < length seg
+long_is seg h = grind (arith, nat_tests)
+
+not_true : (b : Bool) → not b ≡ true → b ≡ false
+not_true true h = sym h
+not_true false h = refl
+
+not_false : (b : Bool) → not b ≡ false → b ≡ true
+not_false true h = refl
+not_false false h = sym h
+
+pub dotted_folder : (segs : List (List ℕ)) → has_dot (spelled (parent_of segs)) ≡ true → is_page segs ≡ false
+dotted_folder segs h =
+    second_false (is_file (last_segment segs)) (list_all (λ seg. not (has_dot seg)) (parent_of segs)) (list_all has_name segs)
+    (not_true (list_all (λ seg. not (has_dot seg)) (parent_of segs)) (sym (dots (parent_of segs)) ∙ h))
+
+pub a_page : (segs : List (List ℕ)) → is_file (last_segment segs) ≡ true → list_all has_name segs ≡ true → has_dot (spelled (parent_of segs)) ≡ false → is_page segs ≡ true
+a_page segs f n d =
+    all_true (is_file (last_segment segs)) (list_all (λ seg. not (has_dot seg)) (parent_of segs)) (list_all has_name segs) f
+    (not_false (list_all (λ seg. not (has_dot seg)) (parent_of segs)) (sym (dots (parent_of segs)) ∙ d)) n
+
+-- the text of a page's path
+text_full : (segs : List (List ℕ)) (b : ℕ) (text : List ℕ) → spelled segs ≡ b ∷ text → text_of segs ≡ spelled segs
+text_full [] b text e = absurd (cc (e))
+text_full (seg ∷ segs) b text e = refl
+
+text_behind : (folder more : List (List ℕ)) (text : List ℕ) → spelled more ≡ 47 ∷ text → text_of (folder ++ more) ≡ spelled folder ++ 47 ∷ text
+text_behind [] more text e = text_full more 47 text e ∙ e
+text_behind (seg ∷ folder) more text e =
+    flat_map-append (λ s. 47 ∷ s) (seg ∷ folder) more ∙ ap (λ (t : List ℕ). spelled (seg ∷ folder) ++ t) e
+
+pub page_text_is : (key : PageKey) → spelled (pieces key.file) ≡ 47 ∷ key.file → page_text key ≡ spelled key.folder ++ 47 ∷ key.file
+page_text_is key e = text_behind key.folder (pieces key.file) key.file e
+
+pub root_lacks : (path : List (List ℕ)) → length path ≡ 0 → page_key_of path ≡ None
+unfolding key_at
+root_lacks [] h = refl
+root_lacks (seg ∷ path) h = absurd (omega arith)
+
+-- where a mangled path is no path a segment's file name is too long
+any_long : (segs : List (List ℕ)) → list_any is_long segs ≡ true → list_all has_name segs ≡ false
+any_long [] h = absurd (cc (h))
+any_long (seg ∷ segs) h =
+    elim (is_long seg) as (λ t. is_long seg ≡ t → (t || list_any is_long segs) ≡ true → (has_name seg && list_all has_name segs) ≡ false) [
+      | true ↦ λ e k. ap (λ t. t && list_all has_name segs) (long_lacks seg (long_is seg e))
+      | false ↦ λ e k. and_false (has_name seg) (list_all has_name segs) (any_long segs k)
+    ] refl h
+
+pub unmangled_lacks : (path : List (List ℕ)) (e : PathFault) → (list_any is_long (mangled path) ≡ false → mangled_of path ≡ Ok (mangled path)) → mangled_of path ≡ Err e → page_key_of path ≡ None
+unmangled_lacks path e fits err =
+    elim (list_any is_long (mangled path)) as (λ t. list_any is_long (mangled path) ≡ t → page_key_of path ≡ None) [
+      | true ↦ λ long. no_key (mangled path) (no_names (mangled path) (any_long (mangled path) long))
+      | false ↦ λ short. absurd (cc (fits short, err))
+    ] refl
+
+-- the key's own path
+front_and_last : (segs : List (List ℕ)) → 0 < length segs → parent_of segs ++ last_segment segs ∷ [] ≡ segs
+front_and_last segs h =
+    let at : slice_get segs (length segs - 1) ≡ Some (get_or segs (length segs - 1) []) = slice_get-get_or segs (length segs - 1) [] (omega arith) in
+    let more = take_more segs (length segs - 1) [] (omega arith) in
+    let all : length segs - 1 + 1 ≡ length segs = omega arith in
+    ap (λ o. parent_of segs ++ unwrap_or o [] ∷ []) at ∙ sym more ∙ ap (λ n. take n segs) all ∙ take_all (length segs) segs (omega arith)
+
+one_piece : (seg : List ℕ) → segs_in (spelled (seg ∷ [])) ≡ seg ∷ [] → pieces seg ≡ seg ∷ []
+unfolding segs_in
+one_piece seg e = ap pieces (sym (append-nil seg)) ∙ e
+
+last_lacks : (segs : List (List ℕ)) → 0 < length segs → lack_slashes segs ≡ true → lack_slashes (last_segment segs ∷ []) ≡ true
+last_lacks segs some h =
+    and_right (lack_slashes (parent_of segs)) _ (sym (list_all-append (λ seg. not (has_slash seg)) (parent_of segs) (last_segment segs ∷ [])) ∙ ap lack_slashes (front_and_last segs some) ∙ h)
+
+key_fields : (segs : List (List ℕ)) (key : PageKey) (b : Bool) → is_page segs ≡ b → cond b (Some (record { folder = parent_of segs; file = last_segment segs })) None ≡ Some key
+    → (is_page segs ≡ true) × (key.folder ≡ parent_of segs) × (key.file ≡ last_segment segs)
+key_fields segs key true e h = (e, cc (h), cc (h))
+key_fields segs key false e h = absurd (cc (h))
+
+pub fields_of : (segs : List (List ℕ)) (key : PageKey) → key_at segs ≡ Some key → (is_page segs ≡ true) × (key.folder ≡ parent_of segs) × (key.file ≡ last_segment segs)
+unfolding key_at
+fields_of segs key h = key_fields segs key (is_page segs) refl h
+
+some_segment : (segs : List (List ℕ)) → is_page segs ≡ true → 0 < length segs
+some_segment [] h = absurd (cc (h))
+some_segment (seg ∷ segs) h = omega arith
+
+pub own_path : (segs : List (List ℕ)) (key : PageKey) → lack_slashes segs ≡ true → ((path : List (List ℕ)) → lack_slashes path ≡ true → segs_in (spelled path) ≡ path)
+    → key_at segs ≡ Some key → page_path key ≡ segs
+own_path segs key lacks back h =
+    let f = fields_of segs key h in
+    let some = some_segment segs f.0 in
+    let piece = one_piece (last_segment segs) (back (last_segment segs ∷ []) (last_lacks segs some lacks)) in
+    ap (λ (folder : List (List ℕ)). folder ++ pieces key.file) f.1 ∙ ap (λ (file : List ℕ). parent_of segs ++ pieces file) f.2
+    ∙ ap (λ (more : List (List ℕ)). parent_of segs ++ more) piece ∙ front_and_last segs some

@@ -1,0 +1,28 @@
+use Rattle.std.proofs.Common.{◌≡◌, ◌∙◌, Some, true, false, sym, ap, List, ℕ}
+use Rattle.sp_base.specs.Paths.{parent_of}
+use Rattle.sp_base.specs.PathTexts.{spelled}
+use Rattle.cover_rules.specs.declared.page.PageKey.{PageKey}
+use Rattle.cover_rules.specs.Pages.{has_dot, is_file, last_segment}
+use Rattle.cover_rules.proofs.PageLemmas.{no_key, a_key, no_file, no_names, dotted_folder, a_page}
+use Rattle.cover_rules.proofs.page.key_at.Goals as goal
+
+pub returns-then-not-is_file : goal.returns-then-not-is_file
+returns-then-not-is_file c =
+    sym (no_key c.args.path.now (no_file c.args.path.now (ap is_file (sym c.last_segment-file.ensures) ∙ sym c.if-not-is_file.ensures)))
+
+pub returns-then-not-have_names : goal.returns-then-not-have_names
+returns-then-not-have_names c = sym (no_key c.args.path.now (no_names c.args.path.now (sym c.if-not-have_names.ensures)))
+
+pub returns-then-has_dot : goal.returns-then-has_dot
+returns-then-has_dot c =
+    let folder = c.spelling.ensures.spelled ∙ ap spelled c.in_ok-folder.ensures in
+    sym (no_key c.args.path.now (dotted_folder c.args.path.now (ap has_dot (sym folder) ∙ sym c.if-has_dot.ensures)))
+
+pub returns : goal.returns
+returns c =
+    let folder = c.spelling.ensures.spelled ∙ ap spelled c.in_ok-folder.ensures in
+    let page = a_page c.args.path.now (ap is_file (sym c.last_segment-file.ensures) ∙ sym c.if-not-is_file.ensures) (sym c.if-not-have_names.ensures)
+    (ap has_dot (sym folder) ∙ sym c.if-has_dot.ensures) in
+    let file : c.in_ok-file.file ≡ last_segment c.args.path.now = c.in_ok-file.ensures ∙ c.last_segment-file.ensures in
+    ap (λ (folder : List (List ℕ)). Some (record { folder = folder; file = c.in_ok-file.file })) c.in_ok-folder.ensures
+    ∙ ap (λ (file : List ℕ). Some (record { folder = parent_of c.args.path.now; file = file })) file ∙ sym (a_key c.args.path.now page)

@@ -1,0 +1,62 @@
+-- Which pages an invalidation covers: those that it deletes, and those that a .stat file which it touches outdates.
+use Rattle.std.specs.Prelude.{◌==◌, ◌&&◌, ◌||◌, ◌++◌, ℕ, Bool, true, false, not, nat_eq, min, if◌then◌else◌, List, [], ◌∷◌, codes, take, length, map}
+use Rattle.std.specs.List.{starts_with, take_while}
+use Rattle.std.specs.Cmp.Lexicographic.{pointwise}
+use Rattle.sp_base.specs.Paths.{mangled, is_under, parent_of, text_of}
+use Rattle.cover_rules.specs.declared.page.PageKey.{PageKey}
+use Rattle.cover_rules.specs.declared.invalidation.Action.{Action}
+use Rattle.cover_rules.specs.declared.invalidation.Action.TheVariants.{Activate, Deactivate, Delete}
+use Rattle.cover_rules.specs.declared.invalidation.Invalidation.{Invalidation}
+use Rattle.cover_rules.specs.Names.{has_name}
+use Rattle.cover_rules.specs.Pages.{page_path, page_text}
+
+-- the handle as URLs spell it
+abbrev pub handle_of : Invalidation → List (List ℕ)
+handle_of inv = mangled inv.handle
+
+-- the page at exactly the handle
+abbrev pub is_handle : List (List ℕ) → PageKey → Bool
+is_handle handle key = pointwise (pointwise nat_eq) (page_path key) handle
+
+-- a page of the handle's name, with an extension, and maybe selectors before it: `/content/en.print.html` for `/content/en`
+abbrev pub is_rendering : List (List ℕ) → PageKey → Bool
+is_rendering handle key = not (length handle == 0) && starts_with nat_eq (page_text key) (text_of handle ++ codes ".")
+
+-- a page of a part of the handle's content
+abbrev pub is_part : List (List ℕ) → PageKey → Bool
+is_part handle key = is_under key.folder (handle ++ codes "_jcr_content" ∷ [])
+
+-- these actions take away what is below the handle
+abbrev pub takes_below : Action → Bool
+takes_below Activate = false
+takes_below Deactivate = true
+takes_below Delete = true
+
+-- the invalidation deletes the page
+abbrev pub deletes : Invalidation → PageKey → Bool
+deletes inv key = is_handle (handle_of inv) key || (is_rendering (handle_of inv) key || (is_part (handle_of inv) key || takes_below inv.action && is_under (page_path key) (handle_of inv)))
+
+-- how deep the folder is whose .stat file a page is asked by: the page's folder, or its ancestor at the level
+abbrev pub stat_depth_of : ℕ → PageKey → ℕ
+stat_depth_of level key = min level (length key.folder)
+
+-- the folder whose .stat file outdates the page
+abbrev pub stat_folder : ℕ → PageKey → List (List ℕ)
+stat_folder level key = take (stat_depth_of level key) key.folder
+
+-- the invalidation outdates the page by a .stat file, if the page is one that .stat files outdate
+abbrev pub outdates : ℕ → Bool → Invalidation → PageKey → Bool
+outdates level auto inv key = not inv.only && (auto && is_under (parent_of (handle_of inv)) (stat_folder level key))
+
+abbrev pub covers : ℕ → Bool → Invalidation → PageKey → Bool
+covers level auto inv key = deletes inv key || outdates level auto inv key
+
+-- a path's ancestors from the root down, and the path
+abbrev pub lineage : List (List ℕ) → List (List (List ℕ))
+lineage [] = [] ∷ []
+lineage (seg ∷ segs) = [] ∷ map (λ path. seg ∷ path) (lineage segs)
+
+-- The folders whose .stat files are touched: those above the handle, from the document root down to the level, as far as they have
+-- file names. Below one without a name no page can lie.
+abbrev pub touched_of : ℕ → Invalidation → List (List (List ℕ))
+touched_of level inv = if inv.only then [] else lineage (take_while has_name (take level (parent_of (handle_of inv))))

@@ -1,0 +1,4 @@
+pub mod Names
+pub mod Pages
+pub mod Coverage
+pub mod Walk

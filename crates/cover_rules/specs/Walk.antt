@@ -1,0 +1,31 @@
+-- What is left of a page's path after a handle's. Only proofs and private functions need this.
+use Rattle.std.specs.Prelude.{◌≡◌, ◌≢◌, ◌<◌, ◌++◌, ◌∷◌, [], ℕ, List, length}
+use Rattle.sp_base.specs.PathTexts.{spelled}
+use Rattle.cover_rules.specs.declared.page.PageKey.{PageKey}
+use Rattle.cover_rules.specs.declared.walk.Rest.{Rest}
+use Rattle.cover_rules.specs.declared.walk.Rest.TheVariants.{Folder, File}
+
+-- a page's path with a slash before each segment
+abbrev pub page_spelling : PageKey → List ℕ
+page_spelling key = spelled key.folder ++ 47 ∷ key.file
+
+-- the text that is left
+abbrev pub left : List ℕ → Rest → List ℕ
+left file (Folder text) = text.now ++ 47 ∷ file
+left file (File text) = text.now
+
+-- a page's path begins with a prefix, which ends in its folder, or which goes on into its file
+abbrev pub Leaves : PageKey → List ℕ → Rest → Type 0
+Leaves key prefix (Folder text) = spelled key.folder ≡ prefix ++ text.now
+Leaves key prefix (File text) = (page_spelling key ≡ prefix ++ text.now) × (length (spelled key.folder) < length prefix)
+
+-- it doesn't begin with the prefix
+abbrev pub Lacks : PageKey → List ℕ → Type 0
+Lacks key prefix = (more : List ℕ) → page_spelling key ≢ prefix ++ more
+
+-- one segment more
+abbrev pub LeavesNext : List ℕ → List ℕ → Rest → Rest → Type 0
+LeavesNext file front (Folder text) (Folder more) = text.now ≡ front ++ more.now
+LeavesNext file front (Folder text) (File more) = (text.now ≡ []) × (47 ∷ file ≡ front ++ more.now)
+LeavesNext file front (File text) (File more) = text.now ≡ front ++ more.now
+LeavesNext file front (File text) (Folder more) = ⊥

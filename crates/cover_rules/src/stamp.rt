@@ -1,0 +1,8 @@
+/// When something happened, in place of a file's time: in which session of the Dispatcher, and as the how manieth draw in it. Stamps
+/// are ordered by the epoch, then by the count.
+#[derive(Clone, Copy, PartialEq, Eq, PartialOrd, Ord, Debug, Drop)]
+pub struct Stamp {
+    /// The session, counted from 1.
+    pub epoch: u64,
+    pub count: u64,
+}

@@ -1,0 +1,47 @@
+-- Which requests are admitted: those to a host of the farm that the filter allows.
+use Rattle.std.specs.Prelude.{◌==◌, ◌&&◌, ℕ, Bool, true, if◌then◌else◌, List, [], Option, Some, None, length, unwrap_or}
+use Rattle.std.specs.List.{list_any}
+use Rattle.std.specs.Str.{chars, str_to_ascii_lowercase}
+use Rattle.std.specs.Str.Lossy.{utf8_lossy}
+use Rattle.sp_base.specs.declared.answer.Req.{Req}
+use Rattle.sp_base.specs.Paths.{text_of}
+use Rattle.glob_rules.specs.declared.piece.Piece.{Piece}
+use Rattle.glob_rules.specs.Globs.{is_match}
+use Rattle.glob_rules.specs.Rules.{decision}
+use Rattle.any_config.specs.declared.farm.Farm.{Farm}
+use Rattle.any_config.specs.declared.farm.Filter.{Filter}
+use Rattle.dispatch_rules.specs.UrlParts.{stem, selectors, extension, suffix}
+
+-- the host that a request asks for, in lower case, and its port: those of the farm where the request names none
+abbrev pub host_of : Farm → Req → List ℕ
+host_of farm req = str_to_ascii_lowercase (if length req.host == 0 then farm.ask_host else req.host)
+
+abbrev pub port_of : Farm → Req → ℕ
+port_of farm req = if length req.host == 0 then farm.ask_port else req.port
+
+abbrev pub has_port : Option ℕ → ℕ → Bool
+has_port None port = true
+has_port (Some own) port = own == port
+
+abbrev pub serves : List ℕ → ℕ → (List Piece × Option ℕ) → Bool
+serves host port entry = is_match entry.0 (chars host) && has_port entry.1 port
+
+abbrev pub is_served : Farm → Req → Bool
+is_served farm req = list_any (serves (host_of farm req) (port_of farm req)) farm.hosts
+
+-- a glob of an entry fits a part of the request; one that the entry lacks fits any
+abbrev pub fits : Option (List Piece) → List ℕ → Bool
+fits None text = true
+fits (Some glob) text = is_match glob (chars text)
+
+-- the query as it came, where what is no UTF-8 is the replacement character
+abbrev pub query_of : Req → List ℕ
+query_of req = utf8_lossy (unwrap_or req.query [])
+
+-- each glob that a filter entry has fits its part of the request
+abbrev pub applies : Req → Filter → Bool
+applies req entry = fits entry.line req.line && (fits entry.method req.method && (fits entry.url (text_of req.path) && (fits entry.path (stem (text_of req.path))
+    && (fits entry.selectors (selectors (text_of req.path)) && (fits entry.extension (extension (text_of req.path)) && (fits entry.suffix (suffix (text_of req.path)) && fits entry.query (query_of req)))))))
+
+abbrev pub admits : Farm → Req → Bool
+admits farm req = is_served farm req && decision (applies req) (λ entry. entry.allow) farm.filter

@@ -1,0 +1,28 @@
+-- What the publisher is asked.
+use Rattle.std.specs.Prelude.{ℕ, Bool, nat_eq, if◌then◌else◌, List, [], Option, Some, None, codes}
+use Rattle.std.specs.Cmp.Lexicographic.{pointwise}
+use Rattle.std.specs.Str.{is_utf8}
+use Rattle.sp_base.specs.declared.answer.Req.{Req}
+use Rattle.sp_base.specs.declared.answer.Ask.{Ask}
+use Rattle.sp_base.specs.Fields.{field_of}
+use Rattle.any_config.specs.declared.farm.Farm.{Farm}
+
+-- a field's value, where it is a text
+abbrev pub text_or_none : Option (List ℕ) → List ℕ
+text_or_none None = []
+text_or_none (Some value) = if is_utf8 value then value else []
+
+abbrev pub is_post : Req → Bool
+is_post req = pointwise nat_eq req.method (codes "POST")
+
+-- the method, the path and its slash, at the farm's host, and for POST the body and its media type
+abbrev pub asked_of : Farm → Req → Ask
+asked_of farm req = record {
+  method = req.method;
+  host = farm.ask_host;
+  port = farm.ask_port;
+  path = req.path;
+  slash = req.slash;
+  kind = if is_post req then text_or_none (field_of req.heads (codes "content-type")) else [];
+  body = if is_post req then req.body else [];
+}

@@ -1,0 +1,5 @@
+pub mod UrlParts
+pub mod Admission
+pub mod Caching
+pub mod Asking
+pub mod Seen

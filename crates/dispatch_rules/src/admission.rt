@@ -1,0 +1,58 @@
+ghost use Rattle.std.specs.Prelude.{◌≡◌, ◌==◌, IfOk, if◌then◌else◌, length, Some};
+ghost use Rattle.std.specs.List.{list_any};
+ghost use Rattle.std.specs.Str.{str_to_ascii_lowercase};
+ghost use Rattle.dispatch_rules.specs.Admission as spec;
+
+use crate::filter::filter_allows;
+use any_config::{Farm, Glob, HostList};
+use sp_base::{Mem, Req};
+use std::alloc::Global;
+
+/// Whether a request is served: its host is one of the farm's, and the filter allows it.
+pub fn admits(alloc: Global, farm: &Farm, req: &Req) -> Mem<bool>
+    ensures { IfOk result (λ yes. yes ≡ spec.admits farm.now req.now) }
+{
+    if is_served(alloc, farm, req)? {
+        filter_allows(alloc, &farm.filter, req)
+    } else {
+        Ok(false)
+    }
+}
+
+fn is_served(alloc: Global, farm: &Farm, req: &Req) -> Mem<bool>
+    ensures { IfOk result (λ yes. yes ≡ spec.is_served farm.now req.now) }
+{
+    let named = !req.host.text().is_empty();
+    let host = if named {
+        req.host.text()
+    } else {
+        farm.ask_host.text()
+    };
+    let port = if named { req.port } else { farm.ask_port };
+    let host = host.to_ascii_lowercase(alloc)?;
+    Ok(serves_any(&farm.hosts, host.as_str(), port))
+}
+
+fn serves_any(hosts: &HostList, host: &str, port: u16) -> bool
+    ensures { result ≡ list_any (spec.serves host.now port) hosts.now }
+{
+    hosts
+        .as_slice()
+        .iter()
+        .any(|entry| serves(&entry.0, entry.1, host, port))
+}
+
+fn serves(glob: &Glob, own: Option<u16>, host: &str, port: u16) -> bool
+    ensures { result ≡ spec.serves host.now port (glob.now, own) }
+{
+    glob.matches(host) && has_port(own, port)
+}
+
+fn has_port(own: Option<u16>, port: u16) -> bool
+    ensures { result ≡ spec.has_port own port }
+{
+    match own {
+        Some(own) => own == port,
+        None => true,
+    }
+}

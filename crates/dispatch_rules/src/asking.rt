@@ -1,0 +1,45 @@
+ghost use Rattle.std.specs.Prelude.{◌≡◌, [], IfOk, Some, codes};
+ghost use Rattle.sp_base.specs.Fields.{field_of};
+ghost use Rattle.dispatch_rules.specs.Asking as spec;
+
+use any_config::Farm;
+use sp_base::{Ask, ByteBuf, Mem, Req, TextBuf};
+use std::alloc::Global;
+use std::str::from_utf8;
+
+/// What the publisher is asked for a request: at the farm's host, without the query, and with a body for POST alone.
+pub fn ask_of(alloc: Global, farm: &Farm, req: &Req) -> Mem<Ask>
+    ensures { IfOk result (λ ask. ask ≡ spec.asked_of farm.now req.now) }
+{
+    let post = req.method.text() == "POST";
+    let kind = if post { media_type(req) } else { "" };
+    let body: &[u8] = if post { req.body.bytes() } else { b"" };
+    Ok(Ask {
+        method: req.method.duplicate(alloc)?,
+        host: farm.ask_host.duplicate(alloc)?,
+        port: farm.ask_port,
+        path: req.path.duplicate(alloc)?,
+        slash: req.slash,
+        kind: TextBuf::of(alloc, kind)?,
+        body: ByteBuf::of(alloc, body)?,
+    })
+}
+
+// The value of the first Content-Type field, where it is UTF-8.
+fn media_type(req: &Req) -> &str
+    ensures { result.now ≡ spec.text_or_none (field_of req.now.heads (codes "content-type")) }
+{
+    match req.heads.field("content-type") {
+        Some(value) => text_or_none(value),
+        None => "",
+    }
+}
+
+fn text_or_none(value: &[u8]) -> &str
+    ensures { result.now ≡ spec.text_or_none (Some value.now) }
+{
+    match from_utf8(value) {
+        Ok(text) => text,
+        Err(_) => "",
+    }
+}

@@ -1,0 +1,93 @@
+//! What a filter says of a request.
+ghost use Rattle.std.specs.Prelude.{◌≡◌, [], IfOk, drop, option_map, string_bytes, unwrap_or};
+ghost use Rattle.std.specs.Str.Lossy.{utf8_lossy};
+ghost use Rattle.glob_rules.specs.Rules.{decision};
+ghost use Rattle.dispatch_rules.specs.Admission as spec;
+ghost use Rattle.dispatch_rules.specs.Seen.{applies_to};
+ghost use Rattle.dispatch_rules.specs.UrlParts.{IsDotted};
+
+use crate::caching::query_bytes;
+use crate::url_parts::{dotted_selectors, extension, stem, suffix};
+use any_config::{Filter, FilterList, Glob};
+use sp_base::{Mem, Req};
+use std::alloc::Global;
+
+/// The parts of a request that an entry asks about.
+#[derive(Clone, Copy, Drop)]
+pub struct Seen<'a> {
+    pub line: &'a str,
+    pub method: &'a str,
+    pub url: &'a str,
+    pub path: &'a str,
+    pub selectors: &'a str,
+    pub extension: &'a str,
+    pub suffix: &'a str,
+    pub query: &'a str,
+}
+
+/// Whether a filter allows a request: the last entry that applies decides.
+pub fn filter_allows(alloc: Global, filter: &FilterList, req: &Req) -> Mem<bool>
+    ensures { IfOk result (λ yes. yes ≡ decision (spec.applies req.now) (λ entry. entry.allow) filter.now) }
+{
+    let url = req.path.as_text();
+    let selectors = dotted_selectors(alloc, url)?;
+    let query = String::from_utf8_lossy(alloc, query_bytes(req))?;
+    let seen = Seen {
+        line: req.line.text(),
+        method: req.method.text(),
+        url,
+        path: stem(url),
+        selectors: without_dot(selectors.as_str()),
+        extension: extension(url),
+        suffix: suffix(url),
+        query: query.as_str(),
+    };
+    Ok(last_says(filter, &seen))
+}
+
+fn without_dot(text: &str) -> &str
+    requires { IsDotted text.now }
+    ensures { result.now ≡ drop 1 text.now }
+{
+    match text.strip_prefix('.') {
+        Some(rest) => rest,
+        None => "",
+    }
+}
+
+fn last_says(filter: &FilterList, seen: &Seen) -> bool
+    ensures { result ≡ decision (applies_to seen.now) (λ entry. entry.allow) filter.now }
+{
+    let entries = filter.as_slice();
+    let mut left = entries.len();
+    while left > 0 {
+        left -= 1;
+        let entry = &entries[left];
+        if applies(entry, seen) {
+            return entry.allow;
+        }
+    }
+    false
+}
+
+fn applies(entry: &Filter, seen: &Seen) -> bool
+    ensures { result ≡ applies_to seen.now entry.now }
+{
+    fits(&entry.line, seen.line)
+        && (fits(&entry.method, seen.method)
+            && (fits(&entry.url, seen.url)
+                && (fits(&entry.path, seen.path)
+                    && (fits(&entry.selectors, seen.selectors)
+                        && (fits(&entry.extension, seen.extension)
+                            && (fits(&entry.suffix, seen.suffix)
+                                && fits(&entry.query, seen.query)))))))
+}
+
+fn fits(glob: &Option<Glob>, text: &str) -> bool
+    ensures { result ≡ spec.fits glob.now text.now }
+{
+    match glob {
+        Some(glob) => glob.matches(text),
+        None => true,
+    }
+}

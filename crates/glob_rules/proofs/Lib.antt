@@ -1,0 +1,5 @@
+pub mod MatchLemmas
+pub mod RunLemmas
+pub mod CharLemmas
+pub mod RuleLemmas
+pub mod ReadLemmas

@@ -1,0 +1,4 @@
+pub mod Globs
+pub mod Reading
+pub mod Runs
+pub mod Rules

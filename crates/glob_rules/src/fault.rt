@@ -1,0 +1,38 @@
+//! Why a text is no glob.
+ghost use Rattle.std.specs.Prelude.{◌≡◌};
+ghost use Rattle.glob_rules.specs.declared.fault.GlobFault.TheVariants.{NoMemory as no_memory};
+
+use sp_base::NoMemory;
+use std::alloc::{AllocError, AllocFailed};
+
+/// Why a text is no glob.
+#[derive(Clone, Copy, PartialEq, Eq, Debug, Drop)]
+pub enum GlobFault {
+    /// No `]` closes the class whose `[` stands at this byte, counted from 0.
+    OpenClass(usize),
+    NoMemory,
+}
+
+impl From<NoMemory> for GlobFault {
+    ghost from_gives = { λ _ e. e ≡ no_memory };
+
+    fn from(_fault: NoMemory) -> GlobFault {
+        GlobFault::NoMemory
+    }
+}
+
+impl From<AllocError> for GlobFault {
+    ghost from_gives = { λ _ e. e ≡ no_memory };
+
+    fn from(_fault: AllocError) -> GlobFault {
+        GlobFault::NoMemory
+    }
+}
+
+impl<T: Drop> From<AllocFailed<T>> for GlobFault {
+    ghost from_gives = { λ _ e. e ≡ no_memory };
+
+    fn from(_fault: AllocFailed<T>) -> GlobFault {
+        GlobFault::NoMemory
+    }
+}

@@ -1,0 +1,19 @@
+//! Globs over the characters of a text, and lists of rules of which the last that matches decides.
+#![tactic(auto)]
+
+mod chars;
+mod fault;
+mod glob;
+mod laws;
+mod piece;
+mod read;
+mod rule;
+mod runs;
+#[cfg(test)]
+mod tests;
+
+pub use fault::GlobFault;
+pub use glob::Glob;
+pub use laws::a_test_is_the_relation;
+pub use piece::{CharClass, CharRange, Piece};
+pub use rule::{Rule, RuleList, allows};

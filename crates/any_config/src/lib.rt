@@ -11,7 +11,10 @@ mod members;
 mod node;
 mod numbers;
 mod reader;
+mod standard;
 mod stop;
+#[cfg(test)]
+mod tests;
 mod tokens;
 
 pub use any_fault::AnyFault;
@@ -20,4 +23,5 @@ pub use farm_fault::FarmFault;
 pub use farm_reader::farm_of;
 pub use glob_rules::{Glob, GlobFault, Rule, RuleList};
 pub use node::{AnyList, AnyNode};
+pub use standard::STANDARD_FARM;
 pub use reader::{DEEPEST_GROUP, read_any};

@@ -1,0 +1,3 @@
+mod example;
+mod faults;
+mod farms;

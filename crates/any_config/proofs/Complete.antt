@@ -46,7 +46,7 @@ mutual
       go k le (value_complete depth x.1 n inside v (length t)) (λ j f l. members_complete depth (skip inside) ms r all j f l)
     where
       go : (k : ℕ) → length t ≤ k → value (group depth) (length t) x.1 ≡ Ok (n, inside) → ((j : ℕ) (f : Members) → length (skip inside) ≤ j → more_members (group depth) j f (skip inside) ≡ Ok (f ++ ms, r))
-        → more_members (group depth) k found t ≡ Ok (found ++ m ∷ ms, r)
+          → more_members (group depth) k found t ≡ Ok (found ++ m ∷ ms, r)
       go zero le value_is ih = absurd (omega (arith, not_empty t e))
       go (suc j) le value_is ih =
           let less : length (skip inside) ≤ j = omega (arith, skip_less inside, value_less (group depth) (group_takes depth) (length t) x.1 (n, inside) value_is, name_less t x h) in

@@ -58,7 +58,7 @@ unfolding leaf word
 leaf_any a b t x h = go (is_at 34 t) (is_at 39 t) (run_len Plain t == 0) h
   where
     go : (p q z : Bool) → cond p (quoted 34 t) (cond q (quoted 39 t) (cond z (Err (BadName a)) (Ok (node.Word (take (run_len Plain t) t), drop (run_len Plain t) t)))) ≡ Ok x
-      → cond p (quoted 34 t) (cond q (quoted 39 t) (cond z (Err (BadName b)) (Ok (node.Word (take (run_len Plain t) t), drop (run_len Plain t) t)))) ≡ Ok x
+        → cond p (quoted 34 t) (cond q (quoted 39 t) (cond z (Err (BadName b)) (Ok (node.Word (take (run_len Plain t) t), drop (run_len Plain t) t)))) ≡ Ok x
     go true q z e = e
     go false true z e = e
     go false false true e = absurd cc
@@ -126,7 +126,7 @@ more_less inner takes zero found t y h = let same = ap (λ (z : Members × List 
 more_less inner takes (suc k) found t y h = go (ends_members t) (λ f s. more_less inner takes k f s y) h
   where
     go : (b : Bool) → ((f : Members) (s : List ℕ) → more_members inner k f s ≡ Ok y → length y.1 ≤ length s)
-      → cond b (Ok (found, t)) (member inner t >>= λ m. more_members inner k (found ++ m.0 ∷ []) (skip m.1)) ≡ Ok y → length y.1 ≤ length t
+        → cond b (Ok (found, t)) (member inner t >>= λ m. more_members inner k (found ++ m.0 ∷ []) (skip m.1)) ≡ Ok y → length y.1 ≤ length t
     go true ih e = let same = ap (λ (z : Members × List ℕ). length z.1) (ok_is _ y e) in omega (arith, same)
     go false ih e =
         let a = bind_ok (member inner t) (λ m. more_members inner k (found ++ m.0 ∷ []) (skip m.1)) y e in

@@ -49,7 +49,7 @@ members_sound depth all zero found t y le h =
 members_sound depth all (suc k) found t y le h = go (ends_members t) refl (λ f s l. members_sound depth all k f s y l) h
   where
     go : (b : Bool) → ends_members t ≡ b → ((f : Members) (s : List ℕ) → length s ≤ k → more_members (group depth) k f s ≡ Ok y → (ms : Members) × (y.0 ≡ f ++ ms) × AreMembers depth s ms y.1)
-      → cond b (Ok (found, t)) (member (group depth) t >>= λ m. more_members (group depth) k (found ++ m.0 ∷ []) (skip m.1)) ≡ Ok y → (ms : Members) × (y.0 ≡ found ++ ms) × AreMembers depth t ms y.1
+        → cond b (Ok (found, t)) (member (group depth) t >>= λ m. more_members (group depth) k (found ++ m.0 ∷ []) (skip m.1)) ≡ Ok y → (ms : Members) × (y.0 ≡ found ++ ms) × AreMembers depth t ms y.1
     go true e ih f =
         let same = ok_is _ y f in
         ([], sym (ap (λ (z : Members × List ℕ). z.0) same) ∙ sym (append-nil found), subst (λ (r : List ℕ). AreMembers depth t [] r) (ap (λ (z : Members × List ℕ). z.1) same) (AreMembers.none e))
@@ -67,7 +67,7 @@ opened_sound depth all t x at h =
     go a.0 (is_at 125 a.0.1) refl ms.0 ms.1 ms.2 a.2
   where
     go : (y : Members × List ℕ) (b : Bool) → is_at 125 y.1 ≡ b → (ms : Members) → y.0 ≡ ms → AreMembers depth (skip (drop 1 t)) ms y.1
-      → cond b (Ok (node.Group y.0, drop 1 y.1)) (Err (stop.Unclosed (length t))) ≡ Ok x → IsValue (suc depth) t x.0 x.1
+        → cond b (Ok (node.Group y.0, drop 1 y.1)) (Err (stop.Unclosed (length t))) ≡ Ok x → IsValue (suc depth) t x.0 x.1
     go y true e ms all_of inside f =
         let same = ok_is _ x f in
         IsValue.braces ms y.1 at inside e (sym (ap (λ (z : AnyNode × List ℕ). z.0) same) ∙ ap node.Group all_of) (sym (ap (λ (z : AnyNode × List ℕ). z.1) same))

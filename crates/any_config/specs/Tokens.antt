@@ -78,8 +78,8 @@ run_len run t = position_or_len (ends run) t
 unfoldable pub name : List ℕ → Outcome (List ℕ)
 name t =
     if is_at 47 t then (
-      if run_len Name (drop 1 t) == 0 then Err (BadName (length t))
-      else Ok (take (run_len Name (drop 1 t)) (drop 1 t), skip (drop (run_len Name (drop 1 t)) (drop 1 t))))
+    if run_len Name (drop 1 t) == 0 then Err (BadName (length t))
+    else Ok (take (run_len Name (drop 1 t)) (drop 1 t), skip (drop (run_len Name (drop 1 t)) (drop 1 t))))
     else Ok ([], t)
 
 -- a plain word; where there is none the fault is at the member

@@ -2,8 +2,8 @@
 #![tactic(auto)]
 
 mod any_fault;
-mod farm;
 mod entries;
+mod farm;
 mod farm_fault;
 mod farm_reader;
 mod hosts;
@@ -25,5 +25,5 @@ pub use farm_reader::farm_of;
 pub use glob_rules::{Glob, GlobFault, Rule, RuleList};
 pub use laws::the_reading_is_the_grammar;
 pub use node::{AnyList, AnyNode};
-pub use standard::STANDARD_FARM;
 pub use reader::{DEEPEST_GROUP, read_any};
+pub use standard::STANDARD_FARM;

@@ -1,3 +1,3 @@
 mod example;
-mod faults;
 mod farms;
+mod faults;

@@ -98,11 +98,26 @@ fn faults_of_filters(rt: HostRuntime) -> Result<(), Fail> {
         ("/virtualhosts { } /filter { /1 \"x\" }", "BadKind 1"),
         ("/virtualhosts { } /filter { \"x\" }", "BadKind filter"),
         ("/virtualhosts { } /filter { /1 { } }", "BadKind type"),
-        ("/virtualhosts { } /filter { /1 { /type maybe } }", "BadKind type"),
-        ("/virtualhosts { } /filter { /1 { /type 'allow' } }", "NotSupported type"),
-        ("/virtualhosts { } /filter { /1 { /url '/a.*' /type allow } }", "NotSupported url"),
-        ("/virtualhosts { } /filter { /1 { /type deny /method \"[\" /url 'x' } }", "BadKind method"),
-        ("/virtualhosts { } /filter { /1 { /type deny \"x\" /other 'x' } }", "Missing cache"),
+        (
+            "/virtualhosts { } /filter { /1 { /type maybe } }",
+            "BadKind type",
+        ),
+        (
+            "/virtualhosts { } /filter { /1 { /type 'allow' } }",
+            "NotSupported type",
+        ),
+        (
+            "/virtualhosts { } /filter { /1 { /url '/a.*' /type allow } }",
+            "NotSupported url",
+        ),
+        (
+            "/virtualhosts { } /filter { /1 { /type deny /method \"[\" /url 'x' } }",
+            "BadKind method",
+        ),
+        (
+            "/virtualhosts { } /filter { /1 { /type deny \"x\" /other 'x' } }",
+            "Missing cache",
+        ),
     ];
     for (text, wanted) in cases {
         assert_eq!(rt; refusal_in(rt.alloc(), text)?.as_str(), wanted, "{text}");
@@ -115,18 +130,40 @@ fn faults_of_caches(rt: HostRuntime) -> Result<(), Fail> {
     let cases = [
         ("/cache { }", "Missing rules"),
         ("/cache { /rules { /1 { /type allow } } }", "BadKind glob"),
-        ("/cache { /rules { } /statfileslevel 33 }", "BadKind statfileslevel"),
-        ("/cache { /rules { } /statfileslevel 03 }", "BadKind statfileslevel"),
-        ("/cache { /rules { } /allowAuthorized 2 }", "BadKind allowAuthorized"),
+        (
+            "/cache { /rules { } /statfileslevel 33 }",
+            "BadKind statfileslevel",
+        ),
+        (
+            "/cache { /rules { } /statfileslevel 03 }",
+            "BadKind statfileslevel",
+        ),
+        (
+            "/cache { /rules { } /allowAuthorized 2 }",
+            "BadKind allowAuthorized",
+        ),
         ("/cache { /rules { } /invalidate x }", "BadKind invalidate"),
-        ("/cache { /rules { } /allowedClients 'x' }", "NotSupported allowedClients"),
-        ("/cache { /rules { } /ignoreUrlParams { { /glob * } } }", "BadKind type"),
-        ("/cache { /rules { } /statfileslevel 32 /allowAuthorized \"1\" }", "a farm"),
+        (
+            "/cache { /rules { } /allowedClients 'x' }",
+            "NotSupported allowedClients",
+        ),
+        (
+            "/cache { /rules { } /ignoreUrlParams { { /glob * } } }",
+            "BadKind type",
+        ),
+        (
+            "/cache { /rules { } /statfileslevel 32 /allowAuthorized \"1\" }",
+            "a farm",
+        ),
         ("/cache { /rules { } /rules x }", "a farm"),
     ];
     for (text, wanted) in cases {
         let inner = format!(in rt.alloc(); "/virtualhosts {{ }} /filter {{ }} {text}")?;
-        assert_eq!(rt; refusal_in(rt.alloc(), inner.as_str())?.as_str(), wanted, "{text}");
+        assert_eq!(rt;
+            refusal_in(rt.alloc(), inner.as_str())?.as_str(),
+            wanted,
+            "{text}"
+        );
     }
     Ok(())
 }

@@ -34,9 +34,16 @@ fn faults_and_their_places(rt: HostRuntime) {
         ("{ /a 'x\"", AnyFault::BadQuote(5)),
     ];
     for (text, wanted) in cases {
-        assert_eq!(rt; fault_of(rt.alloc(), text.as_bytes()), Some(wanted), "{text}");
+        assert_eq!(rt;
+            fault_of(rt.alloc(), text.as_bytes()),
+            Some(wanted),
+            "{text}"
+        );
     }
-    assert_eq!(rt; fault_of(rt.alloc(), b"\"\xff\""), Some(AnyFault::BadQuote(0)));
+    assert_eq!(rt;
+        fault_of(rt.alloc(), b"\"\xff\""),
+        Some(AnyFault::BadQuote(0))
+    );
 }
 
 #[test]
@@ -62,7 +69,12 @@ fn members_in_their_order(rt: HostRuntime) -> Result<(), Fail> {
         return Ok(());
     };
     match members.as_slice() {
-        [(a, AnyNode::Word(x)), (b, AnyNode::Word(word)), (_, AnyNode::Pattern(d)), (e, AnyNode::Group(none))] => {
+        [
+            (a, AnyNode::Word(x)),
+            (b, AnyNode::Word(word)),
+            (_, AnyNode::Pattern(d)),
+            (e, AnyNode::Group(none)),
+        ] => {
             assert_eq!(rt; a.text(), "a");
             assert_eq!(rt; x.text(), "x #");
             assert_eq!(rt; b.text(), "");

@@ -1,10 +1,9 @@
 -- What is of the grammar is read.
-use Rattle.std.proofs.Common.{◌≡◌, ◌<◌, ◌≤◌, ℕ, zero, suc, Bool, true, false, cond, ◌==◌, List, [], ◌∷◌, ◌++◌, drop, length, Ok, Err, refl, ap, sym, ◌∙◌, arith, append_assoc, subst}
+use Rattle.std.proofs.Common.{◌≡◌, ◌<◌, ◌≤◌, ℕ, zero, suc, true, false, List, [], ◌∷◌, ◌++◌, drop, length, Ok, refl, ap, sym, ◌∙◌, arith, append_assoc}
 use Rattle.std.proofs.lemmas.List.{append-nil}
 use Rattle.any_config.specs.declared.node.AnyNode.{AnyNode}
 use Rattle.any_config.specs.declared.node.AnyNode.TheVariants as node
-use Rattle.any_config.specs.declared.stop.Stop.TheVariants as stop
-use Rattle.any_config.specs.Tokens.{Outcome, ◌>>=◌, skip, is_at, name, leaf}
+use Rattle.any_config.specs.Tokens.{skip, is_at, name, leaf}
 use Rattle.any_config.specs.Read.{Members, ends_members, value, member, more_members, members, opened, group, read, placed, any_of}
 use Rattle.any_config.specs.Grammar.{IsValue, AreMembers, IsFile}
 use Rattle.any_config.proofs.Progress.{leaf_any, skip_less, name_less, value_less, group_takes}

@@ -7,7 +7,7 @@ use Rattle.any_config.specs.declared.node.AnyNode.TheVariants as node
 use Rattle.any_config.specs.declared.stop.Stop.{Stop}
 use Rattle.any_config.specs.declared.stop.Stop.TheVariants as stop
 use Rattle.any_config.specs.declared.any_fault.AnyFault.{AnyFault}
-use Rattle.any_config.specs.Tokens.{Outcome, ◌>>=◌, skip, is_at, name, leaf}
+use Rattle.any_config.specs.Tokens.{◌>>=◌, skip, is_at, name, leaf}
 use Rattle.any_config.specs.Read.{Members, ends_members, value, member, more_members, members, opened, group, read, placed, any_of}
 use Rattle.any_config.specs.Grammar.{IsValue, AreMembers, IsFile}
 use Rattle.any_config.proofs.Progress.{bind_ok, done, ok_is, skip_less, member_less, group_takes}

@@ -1,4 +1,4 @@
-use Rattle.std.proofs.Common.{◌≡◌, sym, ◌∙◌, rules, true, List, ℕ}
+use Rattle.std.proofs.Common.{◌≡◌, ◌∙◌, rules, true}
 use Rattle.any_config.specs.Tokens.{is_at}
 use Rattle.any_config.proofs.TokenLemmas.{quoted_ok, quoted_bad}
 use Rattle.any_config.proofs.tokens.quoted.Goals as goal

@@ -3,11 +3,11 @@ use Rattle.std.proofs.Common.{◌≡◌, ℕ, Bool, true, false, cond, ◌&&◌,
 use Rattle.std.proofs.lemmas.List.{append-nil, take_all}
 use Rattle.std.proofs.Math.Seq.{drop-nil}
 use Rattle.std.proofs.lemmas.Bool.Decides.{nat_tests}
-use Rattle.std.specs.List.{list_any, position_or_len}
+use Rattle.std.specs.List.{position_or_len}
 use Rattle.std.specs.Option.{option_or}
 use Rattle.glob_rules.specs.declared.piece.Piece.{Piece}
 use Rattle.glob_rules.specs.declared.piece.Piece.TheVariants.{Star, AnyChar, Literal, Class}
-use Rattle.glob_rules.specs.Globs.{is_match, is_star, stands_for, somewhere, at_first, after_piece, is_empty}
+use Rattle.glob_rules.specs.Globs.{is_match, is_star, stands_for, somewhere, is_empty}
 use Rattle.glob_rules.specs.Runs.{after_run, after_first_run, IsRun, IsAfterRun}
 use Rattle.glob_rules.proofs.MatchLemmas.{one_is, somewhere_drop, somewhere_here}
 

@@ -56,7 +56,7 @@ read t = do
   ms ← members (group 32) t
   if length ms.1 == 0 then Ok (node.Group ms.0) else Err (stop.BadName (length ms.1))
 
--- the answer of the reading, with its place counted from the front
+-- the answer of the reading, with its place counted from the beginning
 abbrev pub placed : List ℕ → Result AnyNode Stop → Result AnyNode AnyFault
 placed t (Ok n) = Ok n
 placed t (Err stop.Memory) = Err fault.NoMemory

@@ -70,7 +70,7 @@ ends Name c = not (is_name_byte c)
 ends Plain c = not (is_plain_byte c)
 ends (Quoted mark) c = c == mark || is_line_end c
 
--- how many bytes at the front belong to a run
+-- how many of the first bytes belong to a run
 unfoldable pub run_len : Run → List ℕ → ℕ
 run_len run t = position_or_len (ends run) t
 

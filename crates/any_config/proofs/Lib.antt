@@ -1,3 +1,6 @@
 pub mod TokenLemmas
 pub mod Turns
 pub mod HostLemmas
+pub mod Progress
+pub mod Sound
+pub mod Complete

@@ -1,13 +1,12 @@
 -- Runs of bytes.
-use Rattle.std.proofs.Common.{◌≡◌, ◌<◌, ◌≤◌, ℕ, zero, suc, ◌+◌, Bool, true, false, cond, not, ◌||◌, ◌&&◌, List, [], ◌∷◌, take, drop, length, get_or, slice_index, Option, Some, None, MatchOption, nat_lt, refl, ap, sym, ◌∙◌, subst, arith, IsUtf8, Ok, Err}
+use Rattle.std.proofs.Common.{◌≡◌, ◌<◌, ◌≤◌, ℕ, zero, suc, ◌+◌, Bool, true, false, cond, not, List, [], ◌∷◌, take, drop, length, get_or, Option, Some, None, MatchOption, nat_lt, refl, subst, arith, IsUtf8, Ok, Err}
 use Rattle.std.specs.List.{position_or_len}
-use Rattle.std.specs.Str.{IsAscii, is_utf8}
+use Rattle.std.specs.Str.{is_utf8}
 use Rattle.std.proofs.lemmas.Str.{IsUtf8-from_ascii, IsUtf8-from_is_utf8, is_utf8-from_IsUtf8}
 use Rattle.std.proofs.lemmas.Bool.Decides.{nat_tests}
 use Rattle.any_config.specs.declared.tokens.Run.{Run}
 use Rattle.any_config.specs.declared.tokens.Run.TheVariants.{Name, Plain, Quoted}
 use Rattle.any_config.specs.Tokens.{ends, run_len, is_name_byte, is_plain_byte, is_at, quoted, quoted_node}
-use Rattle.any_config.specs.declared.stop.Stop.{Stop}
 use Rattle.any_config.specs.declared.stop.Stop.TheVariants.{BadQuote}
 
 pub place_is : (n len : ℕ) → n ≤ len → (r : Option ℕ) → r ≡ cond (nat_lt n len) (Some n) None → MatchOption r (len ≡ n) (λ i. i ≡ n)

@@ -1,9 +1,9 @@
 -- Turns of the loop over members, and the depth of groups.
-use Rattle.std.proofs.Common.{◌≡◌, ◌≢◌, ◌<◌, ℕ, zero, suc, ◌-◌, ◌+◌, true, false, List, [], ◌∷◌, ◌++◌, length, Ok, Err, refl, ap, sym, ◌∙◌, arith, sub-one}
+use Rattle.std.proofs.Common.{◌≡◌, ◌≢◌, ◌<◌, ℕ, zero, suc, ◌-◌, ◌+◌, false, List, [], ◌∷◌, ◌++◌, length, Ok, Err, refl, sym, ◌∙◌, arith, sub-one}
 use Rattle.any_config.specs.declared.node.AnyNode.{AnyNode}
 use Rattle.any_config.specs.declared.stop.Stop.{Stop}
 use Rattle.any_config.specs.declared.stop.Stop.TheVariants.{Memory, BadName, BadQuote, TooDeep, Unclosed}
-use Rattle.any_config.specs.Tokens.{Outcome, ◌>>=◌, Fails, skip}
+use Rattle.any_config.specs.Tokens.{Outcome, Fails, skip}
 use Rattle.any_config.specs.Read.{Members, ends_members, member, more_members, opened, group}
 
 pub group_zero : (depth : ℕ) (t : List ℕ) → depth ≡ 0 → group depth t ≡ Err (TooDeep (length t))

@@ -1,3 +1,4 @@
 pub mod Tokens
 pub mod Read
 pub mod Farms
+pub mod Grammar

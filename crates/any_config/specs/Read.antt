@@ -1,5 +1,5 @@
 -- Reading a file from left to right, with the first fault that is met.
-use Rattle.std.specs.Prelude.{◌≡◌, ℕ, zero, suc, ◌+◌, ◌-◌, Bool, true, false, ◌||◌, if◌then◌else◌, ◌==◌, List, [], ◌∷◌, ◌++◌, length, take, drop, Result, Ok, Err}
+use Rattle.std.specs.Prelude.{ℕ, zero, suc, ◌-◌, Bool, ◌||◌, if◌then◌else◌, ◌==◌, List, [], ◌∷◌, ◌++◌, length, drop, Result, Ok, Err}
 use Rattle.any_config.specs.declared.stop.Stop.{Stop}
 use Rattle.any_config.specs.declared.stop.Stop.TheVariants as stop
 use Rattle.any_config.specs.declared.any_fault.AnyFault.{AnyFault}
@@ -56,7 +56,7 @@ read t = do
   ms ← members (group 32) t
   if length ms.1 == 0 then Ok (node.Group ms.0) else Err (stop.BadName (length ms.1))
 
--- the answer of the reading, with its place counted from the front
+-- the answer of the reading, with its place counted from the beginning
 abbrev pub placed : List ℕ → Result AnyNode Stop → Result AnyNode AnyFault
 placed t (Ok n) = Ok n
 placed t (Err stop.Memory) = Err fault.NoMemory

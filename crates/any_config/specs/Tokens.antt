@@ -1,5 +1,5 @@
 -- The tokens of a file. A name is read with the blanks and comments after it.
-use Rattle.std.specs.Prelude.{◌≡◌, ℕ, ◌+◌, ◌-◌, Bool, true, false, not, ◌||◌, ◌&&◌, if◌then◌else◌, ◌==◌, nat_le, List, [], ◌∷◌, length, take, drop, Option, Some, None, Result, Ok, Err}
+use Rattle.std.specs.Prelude.{◌≡◌, ℕ, Bool, true, false, not, ◌||◌, ◌&&◌, if◌then◌else◌, ◌==◌, nat_le, List, [], ◌∷◌, length, take, drop, Result, Ok, Err}
 use Rattle.std.specs.List.{position_or_len}
 use Rattle.std.specs.Str.{is_utf8}
 use Rattle.any_config.specs.declared.stop.Stop.{Stop}
@@ -70,7 +70,7 @@ ends Name c = not (is_name_byte c)
 ends Plain c = not (is_plain_byte c)
 ends (Quoted mark) c = c == mark || is_line_end c
 
--- how many bytes at the front belong to a run
+-- how many of the first bytes belong to a run
 unfoldable pub run_len : Run → List ℕ → ℕ
 run_len run t = position_or_len (ends run) t
 
@@ -78,8 +78,8 @@ run_len run t = position_or_len (ends run) t
 unfoldable pub name : List ℕ → Outcome (List ℕ)
 name t =
     if is_at 47 t then (
-      if run_len Name (drop 1 t) == 0 then Err (BadName (length t))
-      else Ok (take (run_len Name (drop 1 t)) (drop 1 t), skip (drop (run_len Name (drop 1 t)) (drop 1 t))))
+    if run_len Name (drop 1 t) == 0 then Err (BadName (length t))
+    else Ok (take (run_len Name (drop 1 t)) (drop 1 t), skip (drop (run_len Name (drop 1 t)) (drop 1 t))))
     else Ok ([], t)
 
 -- a plain word; where there is none the fault is at the member

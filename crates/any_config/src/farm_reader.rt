@@ -86,7 +86,13 @@ fn read_farm(alloc: Global, top: &AnyNode) -> Result<Farm, FarmFault>
     let filter = filters(alloc, farm)?;
     let cache = needed_group(alloc, "cache", farm)?;
     let (host, port) = asked(served);
-    with_cache(alloc, hosts, (TextBuf::of(alloc, host)?, port), filter, cache)
+    with_cache(
+        alloc,
+        hosts,
+        (TextBuf::of(alloc, host)?, port),
+        filter,
+        cache,
+    )
 }
 
 /// The one farm of a file, or the first fault in the order `farms`, `virtualhosts`, `filter`, `cache`, and of the cache `rules`,

@@ -104,7 +104,11 @@ fn is_host_name(text: &str) -> bool
 fn name_or_localhost(text: &str) -> &str
     ensures { result.now ≡ spec.name_or_localhost text.now }
 {
-    if is_host_name(text) { text } else { "localhost" }
+    if is_host_name(text) {
+        text
+    } else {
+        "localhost"
+    }
 }
 
 fn asked_text(text: &str) -> (&str, u16)

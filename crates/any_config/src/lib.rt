@@ -2,16 +2,20 @@
 #![tactic(auto)]
 
 mod any_fault;
-mod farm;
 mod entries;
+mod farm;
 mod farm_fault;
 mod farm_reader;
 mod hosts;
+mod laws;
 mod members;
 mod node;
 mod numbers;
 mod reader;
+mod standard;
 mod stop;
+#[cfg(test)]
+mod tests;
 mod tokens;
 
 pub use any_fault::AnyFault;
@@ -19,5 +23,7 @@ pub use farm::{Farm, Filter, FilterList, HostList};
 pub use farm_fault::FarmFault;
 pub use farm_reader::farm_of;
 pub use glob_rules::{Glob, GlobFault, Rule, RuleList};
+pub use laws::the_reading_is_the_grammar;
 pub use node::{AnyList, AnyNode};
 pub use reader::{DEEPEST_GROUP, read_any};
+pub use standard::STANDARD_FARM;

@@ -37,7 +37,11 @@ pub fn name_or<'a>(name: &'a TextBuf, group: &'a str) -> &'a str
     if text.is_empty() { group } else { text }
 }
 
-pub fn group_of<'a>(alloc: Global, name: &str, value: &'a AnyNode) -> Result<&'a [Member], FarmFault>
+pub fn group_of<'a>(
+    alloc: Global,
+    name: &str,
+    value: &'a AnyNode,
+) -> Result<&'a [Member], FarmFault>
     ensures { Gives (λ ms. ms.now) result (spec.group_of name.now value.now) }
 {
     match value {

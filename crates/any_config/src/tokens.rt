@@ -9,7 +9,7 @@ use crate::stop::Stop;
 use sp_base::{Mem, TextBuf};
 use std::alloc::Global;
 
-/// What bytes at the front may belong to.
+/// What the first bytes may belong to.
 #[derive(Clone, Copy, Debug, Drop)]
 pub enum Run {
     Name,
@@ -65,7 +65,7 @@ fn first_end(run: Run, text: &[u8]) -> Option<usize>
     text.iter().position(|c| ends(run, *c))
 }
 
-/// How many bytes at the front belong to a run.
+/// How many of the first bytes belong to a run.
 #[tactic(auto, unfolding(crate::specs::Tokens::run_len))]
 fn run_len(run: Run, text: &[u8]) -> usize
     ensures value { result ≡ spec.run_len run text.now }

@@ -1,5 +1,5 @@
 -- The test of a match is the relation.
-use Rattle.std.proofs.Common.{◌≡◌, ◌↔◌, IsTrue, ℕ, Bool, true, false, cond, ◌&&◌, ◌||◌, ◌⊎◌, inl, inr, List, [], ◌∷◌, ◌++◌, drop, zero, suc, refl, ap, sym, ◌∙◌, subst}
+use Rattle.std.proofs.Common.{◌≡◌, ◌↔◌, IsTrue, ℕ, Bool, true, false, cond, ◌&&◌, ◌||◌, ◌⊎◌, inl, inr, List, [], ◌∷◌, ◌++◌, drop, zero, suc, refl, ap, sym, ◌∙◌}
 use Rattle.glob_rules.specs.declared.piece.Piece.{Piece}
 use Rattle.glob_rules.specs.declared.piece.Piece.TheVariants.{Star, AnyChar, Literal, Class}
 use Rattle.glob_rules.specs.Globs.{Matches, is_match, is_star, stands_for, somewhere, at_first, after_piece}
@@ -29,9 +29,9 @@ longer pieces c cs (Matches.one s m) = absurd cc
 star_sound : (pieces : List Piece) → ((cs : List ℕ) → is_match pieces cs ≡ true → Matches pieces cs) → (cs : List ℕ) → somewhere (is_match pieces) cs ≡ true → Matches (Star ∷ pieces) cs
 star_sound pieces ih [] h = Matches.star [] refl (ih [] h)
 star_sound pieces ih (c ∷ cs) h = elim (or_true _ _ h) [
-    inl here ↦ Matches.star [] refl (ih (c ∷ cs) here)
+  | inl here ↦ Matches.star [] refl (ih (c ∷ cs) here)
   | inr later ↦ longer pieces c cs (star_sound pieces ih cs later)
-  ]
+]
 
 one_sound : (piece : Piece) (pieces : List Piece) → ((cs : List ℕ) → is_match pieces cs ≡ true → Matches pieces cs) → (cs : List ℕ) → at_first piece (is_match pieces) cs ≡ true → Matches (piece ∷ pieces) cs
 one_sound piece pieces ih [] h = absurd cc

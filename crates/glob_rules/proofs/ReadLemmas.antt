@@ -1,9 +1,7 @@
 -- Steps of reading a glob.
-use Rattle.std.proofs.Common.{◌≡◌, ◌≤◌, ℕ, Bool, true, false, cond, List, [], ◌∷◌, ◌++◌, length, ◌-◌, ◌==◌, take, drop, Option, Some, None, Ok, Err, IsUtf8, refl, ap, sym, ◌∙◌, subst, append_assoc}
+use Rattle.std.proofs.Common.{◌≡◌, ℕ, Bool, cond, List, [], ◌∷◌, ◌++◌, length, ◌-◌, ◌==◌, Option, Some, None, Err, IsUtf8, refl, ap, sym, ◌∙◌, subst, append_assoc}
 use lib.Utf8.{encode}
-use Rattle.std.specs.Prelude.{encode_utf8_all}
 use Rattle.std.specs.Str.{chars, NonePass, NoCharPasses}
-use Rattle.std.specs.Str.Pattern.{FindsChar}
 use Rattle.std.proofs.lemmas.List.{append-nil}
 use Rattle.std.proofs.lemmas.Str.{chars-append, chars_from_encodes, encodes-chars}
 use Rattle.glob_rules.specs.declared.piece.Piece.{Piece}

@@ -3,11 +3,11 @@ use Rattle.std.proofs.Common.{◌≡◌, ℕ, Bool, true, false, cond, ◌&&◌,
 use Rattle.std.proofs.lemmas.List.{append-nil, take_all}
 use Rattle.std.proofs.Math.Seq.{drop-nil}
 use Rattle.std.proofs.lemmas.Bool.Decides.{nat_tests}
-use Rattle.std.specs.List.{list_any, position_or_len}
+use Rattle.std.specs.List.{position_or_len}
 use Rattle.std.specs.Option.{option_or}
 use Rattle.glob_rules.specs.declared.piece.Piece.{Piece}
 use Rattle.glob_rules.specs.declared.piece.Piece.TheVariants.{Star, AnyChar, Literal, Class}
-use Rattle.glob_rules.specs.Globs.{is_match, is_star, stands_for, somewhere, at_first, after_piece, is_empty}
+use Rattle.glob_rules.specs.Globs.{is_match, is_star, stands_for, somewhere, is_empty}
 use Rattle.glob_rules.specs.Runs.{after_run, after_first_run, IsRun, IsAfterRun}
 use Rattle.glob_rules.proofs.MatchLemmas.{one_is, somewhere_drop, somewhere_here}
 
@@ -140,6 +140,7 @@ greedy run pieces (c ∷ cs) plain =
         let here = run_length run (c ∷ cs) r e in
         let same : r2 ≡ drop (suc later.0) r = later.1 ∙ ap (drop later.0) (drop_one (length run) c cs) ∙ drop_more later.0 (drop (length run) (c ∷ cs)) ∙ ap (drop (suc later.0)) (sym here) in
         star_drop pieces (suc later.0) r (subst (λ (l : List ℕ). is_match (Star ∷ pieces) l ≡ true) same x)
+
     go : (o f : Option (List ℕ)) → after_run run (c ∷ cs) ≡ o → after_first_run run cs ≡ f → (then_match (Star ∷ pieces) o || then_match (Star ∷ pieces) f) ≡ then_match (Star ∷ pieces) (option_or o f)
     go (Some r) f e g = or_absorbs _ _ (ends r e f g)
     go None f e g = refl

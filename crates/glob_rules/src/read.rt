@@ -61,7 +61,9 @@ fn plain_piece(c: char) -> Piece
 fn class_of(alloc: Global, inside: &str) -> Mem<CharClass>
     ensures { IfOk result (λ class. class ≡ spec.class_of (chars inside.now)) }
 {
-    if let Some((c, rest)) = first_char(inside) && (c == '!' || c == '^') {
+    if let Some((c, rest)) = first_char(inside)
+        && (c == '!' || c == '^')
+    {
         return Ok(CharClass {
             negated: true,
             ranges: ranges_of(alloc, rest)?,

@@ -112,9 +112,19 @@ fn classes(rt: HostRuntime) -> Result<(), Fail> {
 
 #[test]
 fn open_classes(rt: HostRuntime) -> Result<(), Fail> {
-    let cases = [("[", 0), ("a[b", 1), ("[a][", 3), ("ä[!", 2), ("[a][b[c", 3)];
+    let cases = [
+        ("[", 0),
+        ("a[b", 1),
+        ("[a][", 3),
+        ("ä[!", 2),
+        ("[a][b[c", 3),
+    ];
     for (glob, place) in cases {
-        assert_eq!(rt; is_match(rt.alloc(), glob, ""), Err(GlobFault::OpenClass(place)), "{glob}");
+        assert_eq!(rt;
+            is_match(rt.alloc(), glob, ""),
+            Err(GlobFault::OpenClass(place)),
+            "{glob}"
+        );
     }
     Ok(())
 }

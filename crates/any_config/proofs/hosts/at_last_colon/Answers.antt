@@ -1,4 +1,4 @@
-use Rattle.std.proofs.Common.{◌≡◌, ◌∙◌, sym, ap, rules, arith, lit<, take, drop, List, ℕ, Some, ◌+◌, suc, None}
+use Rattle.std.proofs.Common.{◌≡◌, ◌∙◌, lit<, take, drop, Some, suc, None}
 use Rattle.std.proofs.lemmas.Str.Pattern.{rfind_char}
 use Rattle.any_config.proofs.HostLemmas.{no_colon, last_colon, front_is, back_is}
 use Rattle.any_config.proofs.hosts.at_last_colon.Goals as goal

@@ -1,5 +1,4 @@
-use Rattle.std.proofs.Common.{◌≡◌, ◌∙◌, ap, sym, rules, false, List, ℕ}
-use Rattle.any_config.specs.Tokens.{skip}
+use Rattle.std.proofs.Common.{◌≡◌, ◌∙◌, rules, false}
 use Rattle.any_config.specs.Read.{group, ends_members}
 use Rattle.any_config.proofs.Turns.{group_zero, group_less, more_step, more_fails}
 use Rattle.any_config.proofs.reader.+reader.Goals as goal

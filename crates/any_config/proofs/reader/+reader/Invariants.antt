@@ -1,5 +1,4 @@
-use Rattle.std.proofs.Common.{◌≡◌, ◌-◌, ◌+◌, ◌*◌, length}
-use Rattle.any_config.specs.Tokens.{skip}
+use Rattle.std.proofs.Common.{◌≡◌, ◌-◌, ◌+◌, ◌*◌}
 use Rattle.any_config.specs.Read.{group, more_members, members}
 use Rattle.any_config.proofs.reader.+reader.Given as goal
 

@@ -1,4 +1,4 @@
-use Rattle.std.proofs.Common.{◌≡◌, ◌==◌, ◌∷◌, ◌++◌, ◌∙◌, sym, subst, rules, lit<, IsUtf8, List, ℕ, Some}
+use Rattle.std.proofs.Common.{◌==◌, sym, subst, rules, lit<, List, ℕ, Some}
 use Rattle.std.specs.Str.{NoCharPasses}
 use Rattle.std.proofs.lemmas.Str.Pattern.{split_parts}
 use Rattle.glob_rules.proofs.ReadLemmas.{none_closes, class_chars}

@@ -1,4 +1,4 @@
-use Rattle.std.proofs.Common.{◌≡◌, ◌∷◌, [], ap, sym, ◌∙◌, rules, List, ℕ, None, Some}
+use Rattle.std.proofs.Common.{◌≡◌, [], ap, sym, ◌∙◌, rules, None}
 use Rattle.std.specs.Str.{chars}
 use Rattle.glob_rules.specs.Runs.{after_run, after_first_run}
 use Rattle.glob_rules.proofs.RunLemmas.{first_here, first_none, first_later}

@@ -21,10 +21,11 @@ returns-then-not-stands_for c =
 pub loop-piece-preserved : goal.loop-piece-preserved
 loop-piece-preserved c =
     let here = piece_at c.args.run.now c.loop-piece.piece-index c.piece-item.result (omega arith) c.piece-item.is in
-    let on = run_goes_on c.piece-item.result (drop (c.loop-piece.piece-index + 1) c.args.run.now) c.in-Some.c (chars c.in-Some.later.now) (search rules) in
-    (search rules,
+    let on = run_goes_on c.piece-item.result (drop (c.loop-piece.piece-index + 1) c.args.run.now) c.in-Some.c (chars c.in-Some.later.now) (search rules) in (
+      search rules,
       sym on ∙ ap (λ (cs : List ℕ). after_run (c.piece-item.result ∷ drop (c.loop-piece.piece-index + 1) c.args.run.now) cs) (sym c.in-Some.ensures.value)
-      ∙ ap (λ (p : List Piece). after_run p (chars c.loop-piece.rest.now)) (sym here) ∙ c.loop-piece.invariant.1)
+          ∙ ap (λ (p : List Piece). after_run p (chars c.loop-piece.rest.now)) (sym here) ∙ c.loop-piece.invariant.1,
+    )
 
 pub returns : goal.returns
 returns c =

@@ -1,4 +1,4 @@
-use Rattle.std.proofs.Common.{◌≡◌, ◌∷◌, [], ap, sym, ◌∙◌, rules, List, ℕ, true, false}
+use Rattle.std.proofs.Common.{◌≡◌, ◌∷◌, [], ap, sym, ◌∙◌, rules, true, false}
 use Rattle.std.specs.Str.{chars}
 use Rattle.glob_rules.specs.declared.piece.Piece.TheVariants.{Star}
 use Rattle.glob_rules.specs.Globs.{is_match}

@@ -1,0 +1,169 @@
+//! The standard farm, and files without a farm that can be used.
+use crate::{AnyFault, Farm, FarmFault, STANDARD_FARM, farm_of, read_any};
+use sp_base::TextBuf;
+use std::alloc::{AllocError, Global};
+use std::test::Fail;
+
+// The farm of a text that is a file.
+fn farm(alloc: Global, text: &str) -> Result<Result<Farm, FarmFault>, AnyFault> {
+    let top = read_any(alloc, text.as_bytes())?;
+    Ok(farm_of(alloc, &top))
+}
+
+fn named(alloc: Global, kind: &str, name: &TextBuf) -> Result<String, AllocError> {
+    let name = name.text();
+    format!(in alloc; "{kind} {name}")
+}
+
+// A farm's fault as one text.
+fn shown(alloc: Global, farm: &Result<Farm, FarmFault>) -> Result<String, AllocError> {
+    match farm {
+        Ok(_) => String::from_str(alloc, "a farm"),
+        Err(FarmFault::Missing(name)) => named(alloc, "Missing", name),
+        Err(FarmFault::BadKind(name)) => named(alloc, "BadKind", name),
+        Err(FarmFault::NotSupported(name)) => named(alloc, "NotSupported", name),
+        Err(FarmFault::NoMemory) => String::from_str(alloc, "out of memory"),
+    }
+}
+
+fn refusal(alloc: Global, text: &str) -> Result<String, AnyFault> {
+    let farm = farm(alloc, text)?;
+    Ok(shown(alloc, &farm)?)
+}
+
+// The same, of a text within `/farms { /s { .. } }`.
+fn refusal_in(alloc: Global, inner: &str) -> Result<String, AnyFault> {
+    let text = format!(in alloc; "/farms {{ /s {{ {inner} }} }}")?;
+    refusal(alloc, text.as_str())
+}
+
+#[test]
+fn the_standard_farm(rt: HostRuntime) -> Result<(), Fail> {
+    let Ok(farm) = farm(rt.alloc(), STANDARD_FARM)? else {
+        assert!(rt; false);
+        return Ok(());
+    };
+    assert_eq!(rt; farm.hosts.len(), 1);
+    assert_eq!(rt; farm.ask_host.text(), "localhost");
+    assert_eq!(rt; farm.ask_port, 80);
+    assert_eq!(rt; farm.filter.len(), 1);
+    assert_eq!(rt; farm.level, 0);
+    assert_eq!(rt; farm.clients.len(), 1);
+    Ok(())
+}
+
+#[test]
+fn faults_of_the_file(rt: HostRuntime) -> Result<(), Fail> {
+    let cases = [
+        ("", "Missing farms"),
+        ("/farms { }", "BadKind farms"),
+        ("/farms 'x'", "NotSupported farms"),
+        ("/farms \"x\" /farms { }", "BadKind farms"),
+        ("/farms { /s { } /t { } }", "NotSupported farms"),
+        ("/farms { /s \"x\" }", "BadKind s"),
+        ("/farms { \"x\" }", "BadKind farms"),
+        ("/farms { /s { } }", "Missing virtualhosts"),
+    ];
+    for (text, wanted) in cases {
+        assert_eq!(rt; refusal(rt.alloc(), text)?.as_str(), wanted, "{text}");
+    }
+    Ok(())
+}
+
+#[test]
+fn faults_of_hosts(rt: HostRuntime) -> Result<(), Fail> {
+    let cases = [
+        ("/virtualhosts { /a \"x\" }", "BadKind a"),
+        ("/virtualhosts { /a 'x' }", "BadKind a"),
+        ("/virtualhosts { 'x' }", "NotSupported virtualhosts"),
+        ("/virtualhosts { { } }", "BadKind virtualhosts"),
+        ("/virtualhosts { \"x:\" }", "BadKind virtualhosts"),
+        ("/virtualhosts { \"x:1a\" }", "BadKind virtualhosts"),
+        ("/virtualhosts { \"x:080\" }", "BadKind virtualhosts"),
+        ("/virtualhosts { \"x:65536\" }", "BadKind virtualhosts"),
+        ("/virtualhosts { \"[x\" }", "BadKind virtualhosts"),
+        ("/virtualhosts { \"a:b:65535\" \"x:0\" }", "Missing filter"),
+        ("/virtualhosts { }", "Missing filter"),
+    ];
+    for (text, wanted) in cases {
+        assert_eq!(rt; refusal_in(rt.alloc(), text)?.as_str(), wanted, "{text}");
+    }
+    Ok(())
+}
+
+#[test]
+fn faults_of_filters(rt: HostRuntime) -> Result<(), Fail> {
+    let cases = [
+        ("/virtualhosts { } /filter \"x\"", "BadKind filter"),
+        ("/virtualhosts { } /filter { /1 \"x\" }", "BadKind 1"),
+        ("/virtualhosts { } /filter { \"x\" }", "BadKind filter"),
+        ("/virtualhosts { } /filter { /1 { } }", "BadKind type"),
+        (
+            "/virtualhosts { } /filter { /1 { /type maybe } }",
+            "BadKind type",
+        ),
+        (
+            "/virtualhosts { } /filter { /1 { /type 'allow' } }",
+            "NotSupported type",
+        ),
+        (
+            "/virtualhosts { } /filter { /1 { /url '/a.*' /type allow } }",
+            "NotSupported url",
+        ),
+        (
+            "/virtualhosts { } /filter { /1 { /type deny /method \"[\" /url 'x' } }",
+            "BadKind method",
+        ),
+        (
+            "/virtualhosts { } /filter { /1 { /type deny \"x\" /other 'x' } }",
+            "Missing cache",
+        ),
+    ];
+    for (text, wanted) in cases {
+        assert_eq!(rt; refusal_in(rt.alloc(), text)?.as_str(), wanted, "{text}");
+    }
+    Ok(())
+}
+
+#[test]
+fn faults_of_caches(rt: HostRuntime) -> Result<(), Fail> {
+    let cases = [
+        ("/cache { }", "Missing rules"),
+        ("/cache { /rules { /1 { /type allow } } }", "BadKind glob"),
+        (
+            "/cache { /rules { } /statfileslevel 33 }",
+            "BadKind statfileslevel",
+        ),
+        (
+            "/cache { /rules { } /statfileslevel 03 }",
+            "BadKind statfileslevel",
+        ),
+        (
+            "/cache { /rules { } /allowAuthorized 2 }",
+            "BadKind allowAuthorized",
+        ),
+        ("/cache { /rules { } /invalidate x }", "BadKind invalidate"),
+        (
+            "/cache { /rules { } /allowedClients 'x' }",
+            "NotSupported allowedClients",
+        ),
+        (
+            "/cache { /rules { } /ignoreUrlParams { { /glob * } } }",
+            "BadKind type",
+        ),
+        (
+            "/cache { /rules { } /statfileslevel 32 /allowAuthorized \"1\" }",
+            "a farm",
+        ),
+        ("/cache { /rules { } /rules x }", "a farm"),
+    ];
+    for (text, wanted) in cases {
+        let inner = format!(in rt.alloc(); "/virtualhosts {{ }} /filter {{ }} {text}")?;
+        assert_eq!(rt;
+            refusal_in(rt.alloc(), inner.as_str())?.as_str(),
+            wanted,
+            "{text}"
+        );
+    }
+    Ok(())
+}

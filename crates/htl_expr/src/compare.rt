@@ -32,8 +32,8 @@ fn is_at_most(a: &Lent, b: &Lent) -> bool
 }
 
 /// Whether a comparison holds between two values.
-pub(crate) fn compare(alloc: Global, comparison: Comparison, a: &Lent, b: &Lent) -> Mem<bool>
-    ensures { IfOk result (λ holds. holds ≡ spec.compare comparison (out_of_lent a.now) (out_of_lent b.now)) }
+pub(crate) fn comparison_holds(alloc: Global, comparison: Comparison, a: &Lent, b: &Lent) -> Mem<bool>
+    ensures { IfOk result (λ holds. holds ≡ spec.comparison_holds comparison (out_of_lent a.now) (out_of_lent b.now)) }
 {
     Ok(match comparison {
         Comparison::Equal => is_same(alloc, a, b)?,

@@ -46,7 +46,7 @@ fn push_items(
     items: &[Lent],
 ) -> Result<(), WriteFault>
     requires { length (string_bytes text.old) ≤ most }
-    ensures { Wrote most result (string_bytes text.old) (spec.in_context context (spec.joined join.now (map plain_item items.now))) (string_bytes text.new) }
+    ensures { Wrote most result (string_bytes text.old) (spec.in_context context (spec.concatenation join.now (map plain_item items.now))) (string_bytes text.new) }
 {
     let mut before = "";
     for item in items {

@@ -4,7 +4,7 @@ ghost use Rattle.std.specs.Prelude.{◌≡◌, IfOk, map, if◌then◌else◌};
 ghost use Rattle.htl_expr.specs.Value as spec;
 ghost use Rattle.htl_expr.specs.Lent.{out_of_lent};
 
-use crate::compare::compare;
+use crate::compare::comparison_holds;
 use crate::expression::Expr;
 use crate::lent::{Lent, is_true};
 use crate::node::Node;
@@ -106,7 +106,7 @@ pub(crate) fn value<'a>(alloc: Global, scope: &Scope<'a>, node: &'a Node) -> Mem
         Node::Compare(comparison, a, b) => {
             let a = value(alloc, scope, a.get())?;
             let b = value(alloc, scope, b.get())?;
-            Ok(Lent::Truth(compare(alloc, *comparison, &a, &b)?))
+            Ok(Lent::Truth(comparison_holds(alloc, *comparison, &a, &b)?))
         }
         Node::And(first, more) => {
             {

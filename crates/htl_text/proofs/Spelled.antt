@@ -10,7 +10,7 @@ use Rattle.htl_text.specs.declared.fault.TextFault.TheVariants.{Unclosed, BadExp
 use Rattle.htl_text.specs.declared.piece.Piece.{Piece}
 use Rattle.htl_text.specs.declared.piece.Piece.TheVariants.{Value}
 use Rattle.htl_text.specs.declared.quotes.Quotes.TheVariants.{Outside}
-use Rattle.htl_text.specs.Template.{is_at, opens, escapes, closing, read_value, value_at, in_front, written, before, pieces, template_of}
+use Rattle.htl_text.specs.Template.{is_at, opens, escapes, closing, read_value, value_at, in_front, with_plain, before, pieces, template_of}
 use Rattle.htl_text.specs.Spelling.{Inside, SpellsTemplate, HasNoExpr, Faults, IsFirstOpening}
 use Rattle.htl_text.specs.Spelling as s
 use Rattle.htl_text.proofs.Closed.{byte_is, closed, never_closes, none_closes, value_is, value_open}
@@ -64,11 +64,11 @@ carries : (all : ℕ) (text later : List ℕ) (ps qs : List Piece) (rest : List 
     → Carries all later ps rest → Carries all text qs rest
 carries all text later ps qs rest k e good bad x = (λ h. e ∙ ap k (x.0 h) ∙ good, λ f h. e ∙ ap k (x.1 f h) ∙ bad f)
 
-plain_read : (all c : ℕ) (t : List ℕ) → opens (c ∷ t) ≡ false → escapes (c ∷ t) ≡ false → pieces all 0 (c ∷ t) ≡ written (c ∷ []) (pieces all 0 t)
+plain_read : (all c : ℕ) (t : List ℕ) → opens (c ∷ t) ≡ false → escapes (c ∷ t) ≡ false → pieces all 0 (c ∷ t) ≡ with_plain (c ∷ []) (pieces all 0 t)
 unfolding pieces
 plain_read all c t a b = rw (a, b) refl
 
-escaped_read : (all : ℕ) (t : List ℕ) → pieces all 0 (92 ∷ 36 ∷ 123 ∷ t) ≡ written (codes "${") (pieces all 0 t)
+escaped_read : (all : ℕ) (t : List ℕ) → pieces all 0 (92 ∷ 36 ∷ 123 ∷ t) ≡ with_plain (codes "${") (pieces all 0 t)
 unfolding pieces opens escapes is_at
 escaped_read all t = refl
 
@@ -80,9 +80,9 @@ value_read all w t e x h =
 spelled_on : Only → (all : ℕ) (text : List ℕ) (ps : List Piece) (rest : List ℕ) → SpellsTemplate text ps rest → Carries all text ps rest
 spelled_on only all _ _ _ s.end = (λ h. h, λ f h. h)
 spelled_on only all _ _ rest (s.plain {c = c} {text = t} {ps = ps} a b x) =
-    carries all (c ∷ t) t ps (in_front (c ∷ []) ps) rest (written (c ∷ [])) (plain_read all c t a b) refl (λ f. refl) (spelled_on only all t ps rest x)
+    carries all (c ∷ t) t ps (in_front (c ∷ []) ps) rest (with_plain (c ∷ [])) (plain_read all c t a b) refl (λ f. refl) (spelled_on only all t ps rest x)
 spelled_on only all _ _ rest (s.escaped {text = t} {ps = ps} x) =
-    carries all (92 ∷ 36 ∷ 123 ∷ t) t ps (in_front (codes "${") ps) rest (written (codes "${")) (escaped_read all t) refl (λ f. refl) (spelled_on only all t ps rest x)
+    carries all (92 ∷ 36 ∷ 123 ∷ t) t ps (in_front (codes "${") ps) rest (with_plain (codes "${")) (escaped_read all t) refl (λ f. refl) (spelled_on only all t ps rest x)
 spelled_on only all _ _ rest (s.value {inside = w} {text = t} {e = e} {ps = ps} i y x) =
     carries all (36 ∷ 123 ∷ (w ++ 125 ∷ t)) t ps (Value e ∷ ps) rest (before (Value e ∷ [])) (value_read all w t e i (only w e y)) refl (λ f. refl) (spelled_on only all t ps rest x)
 
@@ -145,11 +145,11 @@ later n w text after f g e spell x =
       faulty = subst (λ (k : ℕ). Faults f k x.behind) place x.faulty;
     }
 
-plain_means : (n c : ℕ) (t : List ℕ) → opens (c ∷ t) ≡ false → escapes (c ∷ t) ≡ false → (r : Read) → Meaning (n + 1) t r → Meaning n (c ∷ t) (written (c ∷ []) r)
+plain_means : (n c : ℕ) (t : List ℕ) → opens (c ∷ t) ≡ false → escapes (c ∷ t) ≡ false → (r : Read) → Meaning (n + 1) t r → Meaning n (c ∷ t) (with_plain (c ∷ []) r)
 plain_means n c t a b (Ok ps) x = s.plain a b x
 plain_means n c t a b (Err f) x = later n (c ∷ []) (c ∷ t) t f (in_front (c ∷ [])) refl (λ ps rest y. s.plain a b y) x
 
-escaped_means : (n : ℕ) (t : List ℕ) (r : Read) → Meaning (n + 3) t r → Meaning n (92 ∷ 36 ∷ 123 ∷ t) (written (codes "${") r)
+escaped_means : (n : ℕ) (t : List ℕ) (r : Read) → Meaning (n + 3) t r → Meaning n (92 ∷ 36 ∷ 123 ∷ t) (with_plain (codes "${") r)
 escaped_means n t (Ok ps) x = s.escaped x
 escaped_means n t (Err f) x = later n (92 ∷ 36 ∷ 123 ∷ []) (92 ∷ 36 ∷ 123 ∷ t) t f (in_front (codes "${")) refl (λ ps rest y. s.escaped y) x
 

@@ -10,16 +10,16 @@ use Rattle.htl_text.specs.declared.piece.Piece.TheVariants.{Value}
 use Rattle.htl_text.specs.Template.{opens, escapes, in_front}
 
 -- what stands behind a quote mark, up to and with the same mark; a backslash takes the next byte with it
-pub data Quoted (mark : ℕ) : List ℕ → Type 0 where
-  closes : Quoted mark (mark ∷ [])
-  plain : {c : ℕ} {t : List ℕ} → (c == mark) ≡ false → (c == 92) ≡ false → Quoted mark t → Quoted mark (c ∷ t)
-  escape : {c : ℕ} {t : List ℕ} → Quoted mark t → Quoted mark (92 ∷ c ∷ t)
+pub data Quotation (mark : ℕ) : List ℕ → Type 0 where
+  closes : Quotation mark (mark ∷ [])
+  plain : {c : ℕ} {t : List ℕ} → (c == mark) ≡ false → (c == 92) ≡ false → Quotation mark t → Quotation mark (c ∷ t)
+  escape : {c : ℕ} {t : List ℕ} → Quotation mark t → Quotation mark (92 ∷ c ∷ t)
 
 -- what may stand between the braces: whole strings, and other bytes than "}"
 pub data Inside : List ℕ → Type 0 where
   nothing : Inside []
   byte : {c : ℕ} {t : List ℕ} → (c == 125) ≡ false → is_quote c ≡ false → Inside t → Inside (c ∷ t)
-  string : {mark : ℕ} {w t : List ℕ} → is_quote mark ≡ true → Quoted mark w → Inside t → Inside (mark ∷ (w ++ t))
+  string : {mark : ℕ} {w t : List ℕ} → is_quote mark ≡ true → Quotation mark w → Inside t → Inside (mark ∷ (w ++ t))
 
 -- the pieces that stand in a text in front of a rest; no two of plain text stand side by side
 pub data SpellsTemplate : List ℕ → List Piece → List ℕ → Type 0 where

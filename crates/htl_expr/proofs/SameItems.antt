@@ -60,3 +60,19 @@ same_as_no_list out.Nothing b e f = absurd cc
 same_as_no_list (out.Truth a) b e f = absurd cc
 same_as_no_list (out.Long a) b e f = absurd cc
 same_as_no_list (out.Text a) b e f = absurd cc
+
+-- what is the same as itself
+texts_same : (texts : List (List ℕ)) → pointwise (pointwise nat_eq) texts texts ≡ true
+texts_same [] = refl
+texts_same (t ∷ texts) = rw (bytes_same t) (texts_same texts)
+  where
+    bytes_same : (bytes : List ℕ) → pointwise nat_eq bytes bytes ≡ true
+    bytes_same bytes = (bytes_eq-Decides bytes bytes).1 refl
+
+pub same_as_itself : (a : Out) → is_same a a ≡ true
+same_as_itself out.Nothing = refl
+same_as_itself (out.Truth true) = refl
+same_as_itself (out.Truth false) = refl
+same_as_itself (out.Long n) = (Decides-int_eq n n).1 refl
+same_as_itself (out.Text text) = (bytes_eq-Decides text text).1 refl
+same_as_itself (out.List texts) = texts_same texts

@@ -31,8 +31,8 @@ fn is_at_most(a: &Lent, b: &Lent) -> bool
     }
 }
 
-/// Whether a comparison holds between two values.
-pub(crate) fn comparison_holds(alloc: Global, comparison: Comparison, a: &Lent, b: &Lent) -> Mem<bool>
+// Whether a comparison holds between two values.
+fn comparison_holds(alloc: Global, comparison: Comparison, a: &Lent, b: &Lent) -> Mem<bool>
     ensures { IfOk result (λ holds. holds ≡ spec.comparison_holds comparison (out_of_lent a.now) (out_of_lent b.now)) }
 {
     Ok(match comparison {
@@ -43,6 +43,37 @@ pub(crate) fn comparison_holds(alloc: Global, comparison: Comparison, a: &Lent, 
         Comparison::AtMost => is_at_most(a, b),
         Comparison::AtLeast => is_at_most(b, a),
     })
+}
+
+// Whether a comparison holds between a value and itself.
+#[tactic(auto, using(crate::proofs::SameItems::same_as_itself))]
+fn holds_with_itself(comparison: Comparison, value: &Lent) -> bool
+    ensures { result ≡ spec.comparison_holds comparison (out_of_lent value.now) (out_of_lent value.now) }
+{
+    match comparison {
+        Comparison::Equal => true,
+        Comparison::NotEqual => false,
+        Comparison::Below | Comparison::Above => is_below(value, value),
+        Comparison::AtMost | Comparison::AtLeast => is_at_most(value, value),
+    }
+}
+
+/// Whether a comparison holds between two operands, where it may be known that they are one: a list is not compared with itself item by item.
+pub(crate) fn operands_compare(
+    alloc: Global,
+    comparison: Comparison,
+    is_one: bool,
+    a: &Lent,
+    b: &Lent,
+) -> Mem<bool>
+    requires { is_one ≡ true → out_of_lent a.now ≡ out_of_lent b.now }
+    ensures { IfOk result (λ holds. holds ≡ spec.comparison_holds comparison (out_of_lent a.now) (out_of_lent b.now)) }
+{
+    if is_one {
+        Ok(holds_with_itself(comparison, a))
+    } else {
+        comparison_holds(alloc, comparison, a, b)
+    }
 }
 
 // Whether two values have the same kind and the same content.

@@ -25,7 +25,7 @@ pub data Inside : List ℕ → Type 0 where
 pub data SpellsTemplate : List ℕ → List Piece → List ℕ → Type 0 where
   end : {rest : List ℕ} → SpellsTemplate rest [] rest
   plain : {c : ℕ} {text rest : List ℕ} {ps : List Piece} → opens (c ∷ text) ≡ false → escapes (c ∷ text) ≡ false → SpellsTemplate text ps rest → SpellsTemplate (c ∷ text) (in_front (c ∷ []) ps) rest
-  escaped : {text rest : List ℕ} {ps : List Piece} → SpellsTemplate text ps rest → SpellsTemplate (92 ∷ 36 ∷ 123 ∷ text) (in_front (codes "${") ps) rest
+  escape : {text rest : List ℕ} {ps : List Piece} → SpellsTemplate text ps rest → SpellsTemplate (92 ∷ 36 ∷ 123 ∷ text) (in_front (codes "${") ps) rest
   value : {inside text rest : List ℕ} {e : Expr} {ps : List Piece} → Inside inside → Whole inside e → SpellsTemplate text ps rest → SpellsTemplate (36 ∷ 123 ∷ (inside ++ 125 ∷ text)) (Value e ∷ ps) rest
 
 -- no "}" closes what stands behind "${"
@@ -52,5 +52,5 @@ pub record IsFirstOpening (fault : TextFault) (text : List ℕ) : Type 0 where
   pub behind : List ℕ
   pub ps : List Piece
   pub parts : text ≡ front ++ 36 ∷ 123 ∷ behind
-  pub spelled : SpellsTemplate text ps (36 ∷ 123 ∷ behind)
+  pub spelling : SpellsTemplate text ps (36 ∷ 123 ∷ behind)
   pub faulty : Faults fault (length front) behind

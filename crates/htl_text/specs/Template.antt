@@ -115,6 +115,10 @@ abbrev pub piece_text : Scope → Piece → List ℕ
 piece_text scope (Plain t) = t
 piece_text scope (Value e) = print scope e
 
+-- how many bytes a template may write
+abbrev pub most_bytes : ℕ
+most_bytes = 4194304
+
 -- the text of a template: what its pieces write, one after another
 abbrev pub template_output : Scope → List Piece → List ℕ
 template_output scope ps = flat_map (piece_text scope) ps

@@ -45,20 +45,9 @@ fn comparison_holds(alloc: Global, comparison: Comparison, a: &Lent, b: &Lent) -
     })
 }
 
-// Whether a comparison holds between a value and itself.
-#[tactic(auto, using(crate::proofs::SameItems::same_as_itself))]
-fn holds_with_itself(comparison: Comparison, value: &Lent) -> bool
-    ensures { result ≡ spec.comparison_holds comparison (out_of_lent value.now) (out_of_lent value.now) }
-{
-    match comparison {
-        Comparison::Equal => true,
-        Comparison::NotEqual => false,
-        Comparison::Below | Comparison::Above => is_below(value, value),
-        Comparison::AtMost | Comparison::AtLeast => is_at_most(value, value),
-    }
-}
-
-/// Whether a comparison holds between two operands, where it may be known that they are one: a list is not compared with itself item by item.
+/// Whether a comparison holds between two operands, of which it may be known that they are one: a list is not compared with itself
+/// item by item.
+#[tactic(auto, using(crate::proofs::SameItems::same_where_one))]
 pub(crate) fn operands_compare(
     alloc: Global,
     comparison: Comparison,
@@ -69,10 +58,13 @@ pub(crate) fn operands_compare(
     requires { is_one ≡ true → out_of_lent a.now ≡ out_of_lent b.now }
     ensures { IfOk result (λ holds. holds ≡ spec.comparison_holds comparison (out_of_lent a.now) (out_of_lent b.now)) }
 {
-    if is_one {
-        Ok(holds_with_itself(comparison, a))
-    } else {
-        comparison_holds(alloc, comparison, a, b)
+    if !is_one {
+        return comparison_holds(alloc, comparison, a, b);
+    }
+    match comparison {
+        Comparison::Equal => Ok(true),
+        Comparison::NotEqual => Ok(false),
+        _ => comparison_holds(alloc, comparison, a, b),
     }
 }
 

@@ -117,13 +117,7 @@ pub(crate) fn value<'a>(alloc: Global, scope: &Scope<'a>, node: &'a Node) -> Mem
             let is_one = is_same_property(a.get(), b.get());
             let a = value(alloc, scope, a.get())?;
             let b = value(alloc, scope, b.get())?;
-            Ok(Lent::Truth(operands_compare(
-                alloc,
-                *comparison,
-                is_one,
-                &a,
-                &b,
-            )?))
+            Ok(Lent::Truth(operands_compare(alloc, *comparison, is_one, &a, &b)?))
         }
         Node::And(first, more) => {
             {

@@ -12,4 +12,4 @@ truncate-requires c =
     let front = ap (take (length old)) begins.parts ∙ take_at old begins.rest (length old) refl in
     let within : length old ≤ length new = omega (arith, ap length begins.parts, length-append old begins.rest) in
     let boundary = IsCharBoundary-from_take new (length old) (IsUtf8-had _ c.push_print.new.text.ok) within (subst IsUtf8 (sym front) (IsUtf8-had _ c.args.text.now.ok)) in
-    λ _. (boundary.0, λ _. boundary.1)
+    rw c.as_str-len.ensures.value (λ _. (boundary.0, λ _. boundary.1))

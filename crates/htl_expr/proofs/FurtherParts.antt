@@ -1,5 +1,5 @@
 -- Each line of the grammar, read with one level more.
-use Rattle.std.proofs.Common.{◌≡◌, ℕ, zero, suc, ◌≤◌, ◌<◌, Bool, true, false, cond, ◌||◌, eqb, List, [], ◌∷◌, ◌++◌, drop, length, Option, Some, None, Result, Ok, Err, refl, ap, arith, rules}
+use Rattle.std.proofs.Common.{◌≡◌, ℕ, zero, suc, ◌≤◌, ◌<◌, Bool, true, false, ◌||◌, eqb, List, [], ◌∷◌, ◌++◌, drop, length, Option, Some, None, Ok, Err, refl, ap, arith, rules}
 use Rattle.std.proofs.lemmas.List.{length-append}
 use Rattle.htl_expr.specs.declared.stop.Stop.{Stop}
 use Rattle.htl_expr.specs.declared.stop.Stop.TheVariants.{Memory, Unexpected, TooDeep}
@@ -9,12 +9,12 @@ use Rattle.htl_expr.specs.declared.expression.Expr.{Expr}
 use Rattle.htl_expr.specs.declared.tokens.NameKind.TheVariants.{Name, Field}
 use Rattle.htl_expr.specs.declared.reader.Inside.{Inside}
 use Rattle.htl_expr.specs.declared.reader.Inside.TheVariants.{Choice, Operand, Items}
-use Rattle.htl_expr.specs.Tokens.{Outcome, ◌>>=◌, skip, is_at, begins, is_digit, is_quote, name, expect, string, number}
+use Rattle.htl_expr.specs.Tokens.{Outcome, ◌>>=◌, skip, is_at, begins, is_digit, is_quote, expect, string}
 use Rattle.htl_expr.specs.Read as spec
 use Rattle.htl_expr.proofs.TokensAgain.{skip-short}
 use Rattle.htl_expr.proofs.Local.{IsAt, Local}
 use Rattle.htl_expr.proofs.LocalParts.{deeper, local_deeper}
-use Rattle.htl_expr.proofs.Further.{left_of, Within, Goes, goes_bind, goes_if, goes_ok, goes_refuse, goes_deep, goes_more, behind, bytes, drop-short, skip_drop-short, skip_drop-less}
+use Rattle.htl_expr.proofs.Further.{left_of, Within, Goes, goes_bind, goes_if, goes_ok, goes_refuse, goes_deep, goes_more, behind, bytes, skip_drop-short, skip_drop-less}
 use Rattle.htl_expr.proofs.FurtherTokens.{Keeps, expect_keeps, between_keeps, pair_keeps, name_keeps, string_keeps, number_keeps, comparison_keeps, options_keeps}
 
 some_at : (c : ℕ) (t : List ℕ) → is_at c t ≡ true → 0 < length t

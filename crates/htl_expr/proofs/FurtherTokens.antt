@@ -1,13 +1,11 @@
 -- Tokens and options nest nothing, so one level more changes nothing of them.
-use Rattle.std.proofs.Common.{◌≡◌, ℕ, zero, suc, ◌≤◌, ◌<◌, ◌+◌, ◌*◌, ◌-◌, Bool, true, false, cond, ◌||◌, ◌&&◌, eqb, List, [], ◌∷◌, ◌++◌, take, drop, length, slice_index, Option, Some, None, is_none, Result, Ok, Err, codes, refl, arith}
+use Rattle.std.proofs.Common.{ℕ, ◌≤◌, ◌+◌, ◌*◌, ◌-◌, Bool, true, false, cond, ◌&&◌, eqb, List, [], ◌∷◌, ◌++◌, drop, length, slice_index, Option, Some, None, is_none, Result, Ok, codes, arith}
 use Rattle.htl_expr.specs.declared.stop.Stop.{Stop}
-use Rattle.htl_expr.specs.declared.stop.Stop.TheVariants.{Unexpected}
 use Rattle.htl_expr.specs.declared.node.Comparison.{Comparison}
 use Rattle.htl_expr.specs.declared.node.Comparison.TheVariants.{Equal, NotEqual, Below, Above, AtMost, AtLeast}
-use Rattle.htl_expr.specs.declared.expression.Context.{Context}
 use Rattle.htl_expr.specs.declared.expression.Context.TheVariants.{Text, Unsafe}
 use Rattle.htl_expr.specs.declared.tokens.NameKind.{NameKind}
-use Rattle.htl_expr.specs.Tokens.{Outcome, ◌>>=◌, skip, is_at, begins, is_first, is_digit, is_quote, name_len, name, expect, second, literal, unescape, string_after_escape, in_front, string_from, string, digit_fits, digits_from, limit, signed, digits, number}
+use Rattle.htl_expr.specs.Tokens.{Outcome, ◌>>=◌, skip, is_at, begins, is_first, is_digit, is_quote, name_len, name, expect, second, literal, unescape, string_after_escape, in_front, string_from, string, digit_fits, digits_from, limit, digits, number}
 use Rattle.htl_expr.specs.Read as spec
 use Rattle.htl_expr.proofs.TokensAgain.{skip-short}
 use Rattle.htl_expr.proofs.Further.{Goes, goes_bind, goes_if, goes_ok, goes_refuse, goes_more, behind, bytes, drop-short, skip_drop-short}

@@ -1,5 +1,5 @@
 -- What a deeper limit changes: nothing of what is read and of a byte that doesn't fit, and a byte that nests too deep is passed.
-use Rattle.std.proofs.Common.{◌≡◌, ◌≢◌, ℕ, zero, suc, ◌+◌, ◌-◌, ◌<◌, ◌≤◌, Bool, true, false, cond, ◌&&◌, List, [], ◌∷◌, ◌++◌, take, drop, length, Result, Ok, Err, refl, ap, sym, subst, ◌∙◌, ◌⊎◌, inl, inr, arith}
+use Rattle.std.proofs.Common.{◌≡◌, ◌≢◌, ℕ, zero, suc, ◌+◌, ◌-◌, ◌<◌, ◌≤◌, Bool, true, cond, ◌&&◌, List, [], ◌∷◌, ◌++◌, take, drop, length, Result, Ok, Err, refl, ap, sym, subst, ◌∙◌, ◌⊎◌, inl, inr, arith}
 use Rattle.std.proofs.lemmas.List.{length-append}
 use Rattle.std.proofs.Math.Seq.{drop-nil}
 use Rattle.htl_expr.specs.declared.stop.Stop.{Stop}
@@ -17,8 +17,8 @@ use Rattle.htl_expr.proofs.WholeAgain.{read_again}
 use Rattle.htl_expr.proofs.LocalOptions.{failed}
 use Rattle.htl_expr.proofs.StuckWhole.{stopped}
 use Rattle.htl_expr.proofs.More.{more_here}
-use Rattle.htl_expr.proofs.NoneLeft.{left_within, none_left, none_deep, nests_deep}
-use Rattle.htl_expr.proofs.Further.{left_of, Beyond}
+use Rattle.htl_expr.proofs.NoneLeft.{none_left, none_deep, nests_deep}
+use Rattle.htl_expr.proofs.Further.{Beyond}
 use Rattle.htl_expr.proofs.FurtherParts.{nothing, read_goes}
 
 -- ---- one level more

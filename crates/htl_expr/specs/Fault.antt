@@ -7,7 +7,7 @@ use Rattle.htl_expr.specs.declared.expression.ExprFault.{ExprFault}
 use Rattle.htl_expr.specs.declared.expression.ExprFault.TheVariants.{NoMemory, Unexpected, TooDeep}
 use Rattle.htl_expr.specs.Tokens.{is_at, begins}
 use Rattle.htl_expr.specs.Read.{read}
-use Rattle.htl_expr.specs.Grammar.{nesting_limit, WholeWithin, Whole}
+use Rattle.htl_expr.specs.Grammar.{nesting_limit, WholeWithin}
 
 -- a colon and a letter, with which a field's name goes on
 abbrev pub colon_letter : List ℕ

@@ -9,7 +9,7 @@ use Rattle.htl_expr.specs.declared.reader.Inside.{Inside}
 use Rattle.htl_expr.specs.declared.reader.Inside.TheVariants as i
 use Rattle.htl_expr.specs.Tokens.{Outcome, done, is_at, begins, is_digit, is_first, is_quote}
 use Rattle.htl_expr.specs.Read as spec
-use Rattle.htl_expr.specs.Grammar.{Byte, Operator, Named, String, Number, Sign, Compares, Separator, And, Or, Comma, Separates, Part, part_of, Choice, Either, Both, Compare, Operand, Atom, Start, Items, Reads, More, Access, Accesses}
+use Rattle.htl_expr.specs.Grammar.{Byte, Operator, NameToken, String, Number, Sign, Compares, Separator, And, Or, Comma, Separates, Part, part_of, Choice, Either, Both, Compare, Operand, Atom, Start, Items, Reads, More, Access, Accesses}
 use Rattle.htl_expr.specs.Grammar as g
 use Rattle.htl_expr.proofs.Sound.{byte_of}
 use Rattle.htl_expr.proofs.TokensRead.{eqb_is}
@@ -88,8 +88,8 @@ number_leaf : (depth : ℕ) (s : List ℕ) (k : ℤ) (r : List ℕ) → Number s
 unfolding spec.leaf
 number_leaf depth s k r x = rw (again.number_starts is_quote s k r refl again.digit_quote x, again.number_begins s k r x, again.number_again s k r x) refl
 
-named_leaf : (depth : ℕ) (s w r : List ℕ) → Named Name s w r → spec.leaf depth s ≡ spec.named_of depth (spec.object_of w) w r
-unfolding spec.leaf spec.named
+named_leaf : (depth : ℕ) (s w r : List ℕ) → NameToken Name s w r → spec.leaf depth s ≡ spec.name_or_object_of depth (spec.object_of w) w r
+unfolding spec.leaf spec.name_or_object
 named_leaf depth s w r x =
     rw (again.begins_other is_first is_quote s again.first_quote x.first, again.not_at is_first 45 s x.first refl, again.begins_other is_first is_digit s again.digit_first x.first, again.name_again Name s w r x) refl
 
@@ -234,7 +234,7 @@ access_begins _ s f r (g.field b x) = rw (again.at_here 46 s _ b) refl
 access_begins _ s f r (g.bracket b w c) = rw (no_dot s _ b, again.at_here 91 s _ b) refl
 
 access_again : (depth : ℕ) (s f r : List ℕ) → Access depth s f r → spec.access depth s ≡ Ok (f, r)
-unfolding spec.access spec.bracketed
+unfolding spec.access spec.bracket_access
 access_again _ s f r (g.field b x) = rw (again.at_here 46 s _ b, again.behind 46 s _ b) (again.name_again Field _ f r x)
 access_again _ s f r (g.bracket {depth = d} b w c) =
     let deep : eqb (suc d) 0 ≡ false = search rules in
@@ -260,7 +260,7 @@ module _ (depth : ℕ) (inner : Inside → List ℕ → Outcome Node) where
   unfolding spec.start
   list_start s r1 r2 r e b x close = rw (byte_not_at 91 40 s r1 refl b, again.at_here 91 s r1 b, x, again.expect_again 93 r2 r close) refl
 
-  atom_again : (s r1 r : List ℕ) (e : Node) (fs : List (List ℕ)) → spec.start depth inner s ≡ Ok (e, r1) → spec.accesses depth (length r1) [] r1 ≡ Ok (fs, r) → spec.atom depth inner s ≡ Ok (spec.accessed e fs, r)
+  atom_again : (s r1 r : List ℕ) (e : Node) (fs : List (List ℕ)) → spec.start depth inner s ≡ Ok (e, r1) → spec.accesses depth (length r1) [] r1 ≡ Ok (fs, r) → spec.atom depth inner s ≡ Ok (spec.access_of e fs, r)
   unfolding spec.atom
   atom_again s r1 r e fs x y = rw (x, y) refl
 
@@ -306,8 +306,8 @@ module _ (depth : ℕ) (inner : Inside → List ℕ → Outcome Node) where
   unfolding spec.items
   items_again s r1 r e es at x y = rw (at, x, y) refl
 
-nested_again : (depth : ℕ) (which : Inside) (c : ℕ) (s r1 r : List ℕ) (e : Node) → Byte c s r1 → spec.level depth (spec.nested depth) which r1 ≡ Ok (e, r) → spec.nested (suc depth) which s ≡ Ok (e, r)
-unfolding spec.nested
+nested_again : (depth : ℕ) (which : Inside) (c : ℕ) (s r1 r : List ℕ) (e : Node) → Byte c s r1 → spec.level depth (spec.nesting depth) which r1 ≡ Ok (e, r) → spec.nesting (suc depth) which s ≡ Ok (e, r)
+unfolding spec.nesting
 nested_again depth which c s r1 r e b x = rw (again.behind c s r1 b) x
 
 -- ---- chains
@@ -337,14 +337,14 @@ chain_turn sep item k found s r1 r2 r e es o x y =
 
 -- the function that reads a part
 abbrev pub parse : Part → ℕ → List ℕ → Outcome Node
-parse Choice depth = spec.choice depth (spec.nested depth)
-parse Either depth = spec.either depth (spec.nested depth)
-parse Both depth = spec.both depth (spec.nested depth)
-parse Compare depth = spec.compare depth (spec.nested depth)
-parse Operand depth = spec.operand depth (spec.nested depth)
-parse Atom depth = spec.atom depth (spec.nested depth)
-parse Start depth = spec.start depth (spec.nested depth)
-parse Items depth = spec.items depth (spec.nested depth)
+parse Choice depth = spec.choice depth (spec.nesting depth)
+parse Either depth = spec.either depth (spec.nesting depth)
+parse Both depth = spec.both depth (spec.nesting depth)
+parse Compare depth = spec.compare depth (spec.nesting depth)
+parse Operand depth = spec.operand depth (spec.nesting depth)
+parse Atom depth = spec.atom depth (spec.nesting depth)
+parse Start depth = spec.start depth (spec.nesting depth)
+parse Items depth = spec.items depth (spec.nesting depth)
 
 -- what stands behind the parts of a line
 compares_operand : (s : List ℕ) (op : Comparison) (r : List ℕ) → Compares s op r → Stops Operand s
@@ -417,60 +417,60 @@ next_stops sep depth s es r b m = more_stops (Stops (part_of sep)) sep depth s e
 mutual
   pub complete : (part : Part) (depth : ℕ) (s : List ℕ) (e : Node) (r : List ℕ) → Reads part depth s e r → Stops part r → parse part depth s ≡ Ok (e, r)
   complete _ depth s _ r (g.string w) st =
-      leaf_start depth (spec.nested depth) s (again.not_at is_quote 40 s (again.string_begins _ _ _ w) refl) (again.not_at is_quote 91 s (again.string_begins _ _ _ w) refl) ∙ string_leaf depth s _ r w
+      leaf_start depth (spec.nesting depth) s (again.not_at is_quote 40 s (again.string_begins _ _ _ w) refl) (again.not_at is_quote 91 s (again.string_begins _ _ _ w) refl) ∙ string_leaf depth s _ r w
   complete _ depth s _ r (g.number w) st =
-      leaf_start depth (spec.nested depth) s (number_not_at 40 s _ r refl refl w) (number_not_at 91 s _ r refl refl w) ∙ number_leaf depth s _ r w
+      leaf_start depth (spec.nesting depth) s (number_not_at 40 s _ r refl refl w) (number_not_at 91 s _ r refl refl w) ∙ number_leaf depth s _ r w
   complete _ depth s _ r (g.name w o) st =
-      leaf_start depth (spec.nested depth) s (again.not_at is_first 40 s w.first refl) (again.not_at is_first 91 s w.first refl) ∙ named_leaf depth s _ r w ∙ rw o refl
+      leaf_start depth (spec.nesting depth) s (again.not_at is_first 40 s w.first refl) (again.not_at is_first 91 s w.first refl) ∙ named_leaf depth s _ r w ∙ rw o refl
   complete _ depth s _ r (g.object w o a) st =
-      leaf_start depth (spec.nested depth) s (again.not_at is_first 40 s w.first refl) (again.not_at is_first 91 s w.first refl) ∙ named_leaf depth s _ _ w ∙ rw (o, first_again depth _ _ r a) refl
+      leaf_start depth (spec.nesting depth) s (again.not_at is_first 40 s w.first refl) (again.not_at is_first 91 s w.first refl) ∙ named_leaf depth s _ _ w ∙ rw (o, first_again depth _ _ r a) refl
   complete _ _ s e r (g.inside {depth = d} b x c) st =
-      inside_start (suc d) (spec.nested (suc d)) s _ _ r e b (nested_again d i.Choice 40 s _ _ e b (complete _ d _ e _ x (close_choice _ r c))) c
+      inside_start (suc d) (spec.nesting (suc d)) s _ _ r e b (nested_again d i.Choice 40 s _ _ e b (complete _ d _ e _ x (close_choice _ r c))) c
   complete _ _ s e r (g.list {depth = d} b x c) st =
-      list_start (suc d) (spec.nested (suc d)) s _ _ r e b (nested_again d i.Items 91 s _ _ e b (complete _ d _ e _ x (again.at_here 93 _ r c))) c
-  complete _ depth s _ _ g.no_items st = no_items_again depth (spec.nested depth) s st
+      list_start (suc d) (spec.nesting (suc d)) s _ _ r e b (nested_again d i.Items 91 s _ _ e b (complete _ d _ e _ x (again.at_here 93 _ r c))) c
+  complete _ depth s _ _ g.no_items st = no_items_again depth (spec.nesting depth) s st
   complete _ depth s _ r (g.items x m) st =
-      items_again depth (spec.nested depth) s _ r _ _ (part_at 93 Choice depth s _ _ foreign_close x tt) (complete Choice depth s _ _ x (next_stops Comma depth _ _ r (end_choice r st, no_comma r st) m))
+      items_again depth (spec.nesting depth) s _ r _ _ (part_at 93 Choice depth s _ _ foreign_close x tt) (complete Choice depth s _ _ x (next_stops Comma depth _ _ r (end_choice r st, no_comma r st) m))
       (choices_again depth _ (_ ∷ []) _ _ r m (end_choice r st, no_comma r st) (omega arith))
   complete _ depth s _ r (g.atom x fs) st =
-      atom_again depth (spec.nested depth) s _ r _ _ (complete _ depth s _ _ x tt) (accesses_again depth _ [] _ _ r fs st (omega arith))
+      atom_again depth (spec.nesting depth) s _ r _ _ (complete _ depth s _ _ x tt) (accesses_again depth _ [] _ _ r fs st (omega arith))
   complete _ _ s _ r (g.not {depth = d} b x) st =
-      not_again (suc d) (spec.nested (suc d)) s _ r _ b (nested_again d i.Operand 33 s _ r _ b (complete _ d _ _ r x st))
-  complete _ depth s e r (g.bare x) st = bare_again depth (spec.nested depth) s r e (atom_at depth s e r x) (complete _ depth s e r x st)
+      not_again (suc d) (spec.nesting (suc d)) s _ r _ b (nested_again d i.Operand 33 s _ r _ b (complete _ d _ _ r x st))
+  complete _ depth s e r (g.bare x) st = bare_again depth (spec.nesting depth) s r e (atom_at depth s e r x) (complete _ depth s e r x st)
   complete _ depth s _ r (g.compare x o y) st =
-      compare_again depth (spec.nested depth) s _ _ r _ _ _ (complete _ depth s _ _ x (compares_operand _ _ _ o)) o (complete _ depth _ _ r y st.0)
-  complete _ depth s e r (g.single x) st = single_again depth (spec.nested depth) s r e (complete _ depth s e r x st.0) st.1
+      compare_again depth (spec.nesting depth) s _ _ r _ _ _ (complete _ depth s _ _ x (compares_operand _ _ _ o)) o (complete _ depth _ _ r y st.0)
+  complete _ depth s e r (g.single x) st = single_again depth (spec.nesting depth) s r e (complete _ depth s e r x st.0) st.1
   complete _ depth s _ r (g.both x m) st =
-      both_again depth (spec.nested depth) s _ r _ _ (complete Compare depth s _ _ x (next_stops And depth _ _ r ((st.0, st.1), st.2) m))
+      both_again depth (spec.nesting depth) s _ r _ _ (complete Compare depth s _ _ x (next_stops And depth _ _ r ((st.0, st.1), st.2) m))
       (compares_again depth _ [] _ _ r m ((st.0, st.1), st.2) (omega arith))
   complete _ depth s _ r (g.either x m) st =
-      either_again depth (spec.nested depth) s _ r _ _ (complete Both depth s _ _ x (next_stops Or depth _ _ r ((st.0, st.1, st.2), st.3) m))
+      either_again depth (spec.nesting depth) s _ r _ _ (complete Both depth s _ _ x (next_stops Or depth _ _ r ((st.0, st.1, st.2), st.3) m))
       (boths_again depth _ [] _ _ r m ((st.0, st.1, st.2), st.3) (omega arith))
   complete _ _ s _ r (g.choice {depth = d} x b y c z) st =
-      choice_again (suc d) (spec.nested (suc d)) s _ _ _ _ r _ _ _ (complete _ (suc d) s _ _ x (question_either _ _ b)) b
+      choice_again (suc d) (spec.nesting (suc d)) s _ _ _ _ r _ _ _ (complete _ (suc d) s _ _ x (question_either _ _ b)) b
       (nested_again d i.Choice 63 _ _ _ _ b (complete _ d _ _ _ y (colon_choice _ _ c))) c (nested_again d i.Choice 58 _ _ r _ c (complete _ d _ _ r z st))
-  complete _ depth s e r (g.only x) st = only_again depth (spec.nested depth) s r e (complete _ depth s e r x (st.0, st.1, st.2, st.3)) st.4
+  complete _ depth s e r (g.only x) st = only_again depth (spec.nesting depth) s r e (complete _ depth s e r x (st.0, st.1, st.2, st.3)) st.4
 
   compares_again : (depth k : ℕ) (found : List Node) (s : List ℕ) (es : List Node) (r : List ℕ) → More And depth s es r → Behind And r → length s ≤ k
-      → spec.chain (spec.compare depth (spec.nested depth)) 38 k found s ≡ Ok (found ++ es, r)
-  compares_again depth k found s _ _ g.end st le = chain_stop (spec.compare depth (spec.nested depth)) 38 k found s st.1
+      → spec.chain (spec.compare depth (spec.nesting depth)) 38 k found s ≡ Ok (found ++ es, r)
+  compares_again depth k found s _ _ g.end st le = chain_stop (spec.compare depth (spec.nesting depth)) 38 k found s st.1
   compares_again depth zero found s _ r (g.more o x m) st le = absurd (omega (arith, separates-short And _ _ o))
   compares_again depth (suc k) found s _ r (g.more o x m) st le =
-      chain_turn And (spec.compare depth (spec.nested depth)) k found s _ _ r _ _ o (complete Compare depth _ _ _ x (next_stops And depth _ _ r st m))
+      chain_turn And (spec.compare depth (spec.nesting depth)) k found s _ _ r _ _ o (complete Compare depth _ _ _ x (next_stops And depth _ _ r st m))
       (compares_again depth k (found ++ _ ∷ []) _ _ r m st (omega (arith, separates-short And _ _ o, reads-short _ _ _ _ _ x)))
 
   boths_again : (depth k : ℕ) (found : List Node) (s : List ℕ) (es : List Node) (r : List ℕ) → More Or depth s es r → Behind Or r → length s ≤ k
-      → spec.chain (spec.both depth (spec.nested depth)) 124 k found s ≡ Ok (found ++ es, r)
-  boths_again depth k found s _ _ g.end st le = chain_stop (spec.both depth (spec.nested depth)) 124 k found s st.1
+      → spec.chain (spec.both depth (spec.nesting depth)) 124 k found s ≡ Ok (found ++ es, r)
+  boths_again depth k found s _ _ g.end st le = chain_stop (spec.both depth (spec.nesting depth)) 124 k found s st.1
   boths_again depth zero found s _ r (g.more o x m) st le = absurd (omega (arith, separates-short Or _ _ o))
   boths_again depth (suc k) found s _ r (g.more o x m) st le =
-      chain_turn Or (spec.both depth (spec.nested depth)) k found s _ _ r _ _ o (complete Both depth _ _ _ x (next_stops Or depth _ _ r st m))
+      chain_turn Or (spec.both depth (spec.nesting depth)) k found s _ _ r _ _ o (complete Both depth _ _ _ x (next_stops Or depth _ _ r st m))
       (boths_again depth k (found ++ _ ∷ []) _ _ r m st (omega (arith, separates-short Or _ _ o, reads-short _ _ _ _ _ x)))
 
   choices_again : (depth k : ℕ) (found : List Node) (s : List ℕ) (es : List Node) (r : List ℕ) → More Comma depth s es r → Behind Comma r → length s ≤ k
-      → spec.chain (spec.choice depth (spec.nested depth)) 44 k found s ≡ Ok (found ++ es, r)
-  choices_again depth k found s _ _ g.end st le = chain_stop (spec.choice depth (spec.nested depth)) 44 k found s st.1
+      → spec.chain (spec.choice depth (spec.nesting depth)) 44 k found s ≡ Ok (found ++ es, r)
+  choices_again depth k found s _ _ g.end st le = chain_stop (spec.choice depth (spec.nesting depth)) 44 k found s st.1
   choices_again depth zero found s _ r (g.more o x m) st le = absurd (omega (arith, separates-short Comma _ _ o))
   choices_again depth (suc k) found s _ r (g.more o x m) st le =
-      chain_turn Comma (spec.choice depth (spec.nested depth)) k found s _ _ r _ _ o (complete Choice depth _ _ _ x (next_stops Comma depth _ _ r st m))
+      chain_turn Comma (spec.choice depth (spec.nesting depth)) k found s _ _ r _ _ o (complete Choice depth _ _ _ x (next_stops Comma depth _ _ r st m))
       (choices_again depth k (found ++ _ ∷ []) _ _ r m st (omega (arith, separates-short Comma _ _ o, reads-short _ _ _ _ _ x)))

@@ -8,31 +8,31 @@ use Rattle.std.proofs.lemmas.List.Folds.{list_all-append}
 use Rattle.std.proofs.lemmas.Grind.{common_steps, flat_map-append}
 use Rattle.htl_expr.specs.declared.expression.Context.{Context}
 use Rattle.htl_expr.specs.declared.expression.Context.TheVariants as context
-use Rattle.htl_expr.specs.Print.{reference, escape, run_len, first_reference, is_inert, IsInert, in_context}
+use Rattle.htl_expr.specs.Print.{reference, html_escape, reference_place, first_reference, is_inert, IsInert, in_context}
 use Rattle.htl_expr.specs.Writing.{next_in, Begins, Stopped}
 use Rattle.htl_expr.specs.declared.room.WriteFault.{WriteFault}
 use Rattle.htl_expr.proofs.Writing.{begins_more, begins_later, longer}
 
-escape_plain : (b : ℕ) → reference b ≡ None → escape b ≡ b ∷ []
+escape_plain : (b : ℕ) → reference b ≡ None → html_escape b ≡ b ∷ []
 escape_plain b e = rw e refl
 
 -- a run without a reference is written as it is
-pub run_step : (t : List ℕ) → flat_map escape t ≡ take (run_len t) t ++ flat_map escape (drop (run_len t) t)
-unfolding run_len
+pub run_step : (t : List ℕ) → flat_map html_escape t ≡ take (reference_place t) t ++ flat_map html_escape (drop (reference_place t) t)
+unfolding reference_place
 run_step [] = refl
 run_step (c ∷ t) = go (reference c) refl (run_step t)
   where
-    go : (o : Option (List ℕ)) → reference c ≡ o → flat_map escape t ≡ take (run_len t) t ++ flat_map escape (drop (run_len t) t)
-        → flat_map escape (c ∷ t) ≡ take (cond (is_some o) 0 (suc (run_len t))) (c ∷ t) ++ flat_map escape (drop (cond (is_some o) 0 (suc (run_len t))) (c ∷ t))
+    go : (o : Option (List ℕ)) → reference c ≡ o → flat_map html_escape t ≡ take (reference_place t) t ++ flat_map html_escape (drop (reference_place t) t)
+        → flat_map html_escape (c ∷ t) ≡ take (cond (is_some o) 0 (suc (reference_place t))) (c ∷ t) ++ flat_map html_escape (drop (cond (is_some o) 0 (suc (reference_place t))) (c ∷ t))
     go (Some r) e ih = refl
     go None e ih = ap₂ (λ (a b : List ℕ). a ++ b) (escape_plain c e) ih
 
-run_within : (t : List ℕ) → run_len t ≤ length t
-unfolding run_len
+run_within : (t : List ℕ) → reference_place t ≤ length t
+unfolding reference_place
 run_within [] = omega arith
 run_within (c ∷ t) = go (is_some (reference c)) (run_within t)
   where
-    go : (b : Bool) → run_len t ≤ length t → cond b 0 (suc (run_len t)) ≤ length (c ∷ t)
+    go : (b : Bool) → reference_place t ≤ length t → cond b 0 (suc (reference_place t)) ≤ length (c ∷ t)
     go true ih = omega arith
     go false ih = omega (arith, ih)
 
@@ -48,7 +48,7 @@ marked_low c r e = elim (cases_lt c 128) [
 
 -- a byte with a reference is a character of its own
 pub record Marked (t reference : List ℕ) : Type 0 where
-  pub written : flat_map escape t ≡ reference ++ flat_map escape (drop 1 t)
+  pub written : flat_map html_escape t ≡ reference ++ flat_map html_escape (drop 1 t)
   pub first : slice_index t 0 < 128
   pub less : length (drop 1 t) < length t
 
@@ -56,55 +56,55 @@ pub marked : (t r : List ℕ) → first_reference t ≡ Some r → Marked t r
 unfolding first_reference
 marked [] r e = absurd cc
 marked (c ∷ t) r e = record {
-  written = ap (λ (o : Option (List ℕ)). unwrap_or o (c ∷ []) ++ flat_map escape t) e;
+  written = ap (λ (o : Option (List ℕ)). unwrap_or o (c ∷ []) ++ flat_map html_escape t) e;
   first = marked_low c r e;
   less = omega arith;
 }
 
 -- a run ends at a byte with a reference, or at the end
-run_stops : (t : List ℕ) → first_reference (drop (run_len t) t) ≡ None → drop (run_len t) t ≡ []
-unfolding run_len first_reference
+run_stops : (t : List ℕ) → first_reference (drop (reference_place t) t) ≡ None → drop (reference_place t) t ≡ []
+unfolding reference_place first_reference
 run_stops [] e = refl
 run_stops (c ∷ t) e = go (reference c) refl (run_stops t) e
   where
-    go : (o : Option (List ℕ)) → reference c ≡ o → (first_reference (drop (run_len t) t) ≡ None → drop (run_len t) t ≡ [])
-        → first_reference (drop (cond (is_some o) 0 (suc (run_len t))) (c ∷ t)) ≡ None → drop (cond (is_some o) 0 (suc (run_len t))) (c ∷ t) ≡ []
+    go : (o : Option (List ℕ)) → reference c ≡ o → (first_reference (drop (reference_place t) t) ≡ None → drop (reference_place t) t ≡ [])
+        → first_reference (drop (cond (is_some o) 0 (suc (reference_place t))) (c ∷ t)) ≡ None → drop (cond (is_some o) 0 (suc (reference_place t))) (c ∷ t) ≡ []
     go (Some r) x ih none = absurd cc
     go None x ih none = ih none
 
-run_end : (t : List ℕ) → run_len t < length t → slice_index t (run_len t) < 128
-unfolding run_len
+run_end : (t : List ℕ) → reference_place t < length t → slice_index t (reference_place t) < 128
+unfolding reference_place
 run_end [] lt = absurd (omega (arith, lt))
 run_end (c ∷ t) lt = go (reference c) refl (run_end t) lt
   where
-    go : (o : Option (List ℕ)) → reference c ≡ o → (run_len t < length t → slice_index t (run_len t) < 128)
-        → cond (is_some o) 0 (suc (run_len t)) < length (c ∷ t) → slice_index (c ∷ t) (cond (is_some o) 0 (suc (run_len t))) < 128
+    go : (o : Option (List ℕ)) → reference c ≡ o → (reference_place t < length t → slice_index t (reference_place t) < 128)
+        → cond (is_some o) 0 (suc (reference_place t)) < length (c ∷ t) → slice_index (c ∷ t) (cond (is_some o) 0 (suc (reference_place t))) < 128
     go (Some r) e ih less = marked_low c r e
     go None e ih less = ih (omega (arith, less))
 
 pub drop_less : (n : ℕ) (t behind : List ℕ) → behind ≡ drop n t → length behind ≤ length t
 drop_less n t behind e = let l : length behind ≡ length t - n = rw e (length-drop n t) in omega (arith, l)
 
-pub run_boundary : (t : List ℕ) → IsCharBoundary t (run_len t)
+pub run_boundary : (t : List ℕ) → IsCharBoundary t (reference_place t)
 run_boundary t = (run_within t, λ lt big. let small = run_end t lt in omega (arith, small, big))
 
 -- the last run is written
-pub run_ends : (n : ℕ) (old before new rest plain run behind : List ℕ) → n ≡ run_len rest → run ≡ take n rest → behind ≡ drop n rest → first_reference behind ≡ None → new ≡ before ++ run
-    → before ++ flat_map escape rest ≡ old ++ flat_map escape plain → new ≡ old ++ flat_map escape plain
+pub run_ends : (n : ℕ) (old before new rest plain run behind : List ℕ) → n ≡ reference_place rest → run ≡ take n rest → behind ≡ drop n rest → first_reference behind ≡ None → new ≡ before ++ run
+    → before ++ flat_map html_escape rest ≡ old ++ flat_map html_escape plain → new ≡ old ++ flat_map html_escape plain
 run_ends n old before new rest plain run behind en er eb none ew inv =
     let done = rw (eb, en) at none in
-    let last : flat_map escape rest ≡ run = run_step rest ∙ rw (run_stops rest done, er, en) (append-nil (take (run_len rest) rest)) in
+    let last : flat_map html_escape rest ≡ run = run_step rest ∙ rw (run_stops rest done, er, en) (append-nil (take (reference_place rest) rest)) in
     ew ∙ sym (ap (λ (l : List ℕ). before ++ l) last) ∙ inv
 
 -- a run is written, and a reference behind it
-pub run_goes_on : (n : ℕ) (old before run_written new rest plain run behind reference : List ℕ) → n ≡ run_len rest → run ≡ take n rest → behind ≡ drop n rest → first_reference behind ≡ Some reference
-    → run_written ≡ before ++ run → new ≡ run_written ++ reference → before ++ flat_map escape rest ≡ old ++ flat_map escape plain → new ++ flat_map escape (drop 1 behind) ≡ old ++ flat_map escape plain
+pub run_goes_on : (n : ℕ) (old before run_written new rest plain run behind reference : List ℕ) → n ≡ reference_place rest → run ≡ take n rest → behind ≡ drop n rest → first_reference behind ≡ Some reference
+    → run_written ≡ before ++ run → new ≡ run_written ++ reference → before ++ flat_map html_escape rest ≡ old ++ flat_map html_escape plain → new ++ flat_map html_escape (drop 1 behind) ≡ old ++ flat_map html_escape plain
 run_goes_on n old before run_written new rest plain run behind reference en er eb some ew en' inv =
-    let later = flat_map escape (drop 1 behind) in
-    let rest_is : flat_map escape rest ≡ run ++ (reference ++ later) = run_step rest ∙ rw (er, en) (ap (λ (l : List ℕ). take (run_len rest) rest ++ l) (ap (flat_map escape) (sym (rw en at eb)) ∙ (marked behind reference some).written)) in
+    let later = flat_map html_escape (drop 1 behind) in
+    let rest_is : flat_map html_escape rest ≡ run ++ (reference ++ later) = run_step rest ∙ rw (er, en) (ap (λ (l : List ℕ). take (reference_place rest) rest ++ l) (ap (flat_map html_escape) (sym (rw en at eb)) ∙ (marked behind reference some).written)) in
     rw (en', ew) (append_assoc (before ++ run) reference later ∙ append_assoc before run (reference ++ later) ∙ sym (ap (λ (l : List ℕ). before ++ l) rest_is)) ∙ inv
 
-reference_inert : (b : ℕ) → list_all is_inert (escape b) ≡ true
+reference_inert : (b : ℕ) → list_all is_inert (html_escape b) ≡ true
 reference_inert b = elim (cases_eq b 38) [
   | inl e ↦ rw e refl
   | inr amp ↦ elim (cases_eq b 60) [
@@ -122,7 +122,7 @@ reference_inert b = elim (cases_eq b 38) [
   ]
 ]
 
-escaped_inert : (text : List ℕ) → list_all is_inert (flat_map escape text) ≡ true
+escaped_inert : (text : List ℕ) → list_all is_inert (flat_map html_escape text) ≡ true
 escaped_inert [] = refl
 escaped_inert (b ∷ text) = rw (list_all-append, reference_inert b, escaped_inert text) refl
 
@@ -133,8 +133,8 @@ is_inert_in (Some context.Unsafe) text = tt
 
 -- texts are written one after another in each context
 pub in_context_append : (context : Option Context) (a b : List ℕ) → in_context context (a ++ b) ≡ in_context context a ++ in_context context b
-in_context_append None a b = flat_map-append escape a b
-in_context_append (Some context.Text) a b = flat_map-append escape a b
+in_context_append None a b = flat_map-append html_escape a b
+in_context_append (Some context.Text) a b = flat_map-append html_escape a b
 in_context_append (Some context.Unsafe) a b = refl
 
 pub in_context_none : (context : Option Context) → in_context context [] ≡ []
@@ -147,7 +147,7 @@ pub in_context_more : {X : Type 0} (context : Option Context) (join : List ℕ) 
 in_context_more context join f [] = in_context_none context
 in_context_more context join f (x ∷ xs) = in_context_append context (join ++ f x) (flat_map (λ next. join ++ next) (map f xs)) ∙ ap (λ (l : List ℕ). in_context context (join ++ f x) ++ l) (in_context_more context join f xs)
 
-escape_long : (b : ℕ) → 1 ≤ length (escape b)
+escape_long : (b : ℕ) → 1 ≤ length (html_escape b)
 escape_long b = elim (cases_eq b 38) [
   | inl e ↦ rw e (omega arith)
   | inr amp ↦ elim (cases_eq b 60) [
@@ -166,22 +166,22 @@ escape_long b = elim (cases_eq b 38) [
 ]
 
 -- escapes lengthen a text
-pub escaped_longer : (t : List ℕ) → length t ≤ length (flat_map escape t)
+pub escaped_longer : (t : List ℕ) → length t ≤ length (flat_map html_escape t)
 escaped_longer [] = omega arith
-escaped_longer (b ∷ t) = let l = length-append (escape b) (flat_map escape t) in let one = escape_long b in let more = escaped_longer t in omega (arith, l, one, more)
+escaped_longer (b ∷ t) = let l = length-append (html_escape b) (flat_map html_escape t) in let one = escape_long b in let more = escaped_longer t in omega (arith, l, one, more)
 
 -- a run doesn't fit
-pub run_stops_at : (n most : ℕ) (f : WriteFault) (old before new rest plain run : List ℕ) → n ≡ run_len rest → run ≡ take n rest → before ++ flat_map escape rest ≡ old ++ flat_map escape plain → Begins old before
-    → Stopped most f before run new → Stopped most f old (flat_map escape plain) new
+pub run_stops_at : (n most : ℕ) (f : WriteFault) (old before new rest plain run : List ℕ) → n ≡ reference_place rest → run ≡ take n rest → before ++ flat_map html_escape rest ≡ old ++ flat_map html_escape plain → Begins old before
+    → Stopped most f before run new → Stopped most f old (flat_map html_escape plain) new
 run_stops_at n most f old before new rest plain run en er inv b w =
-    let rest_is : flat_map escape rest ≡ run ++ flat_map escape (drop (run_len rest) rest) = run_step rest ∙ rw (er, en) refl in
-    (begins_later old before new b w.0, λ known. let x = w.1 known in (x.0, rw inv at (longer most before run _ (flat_map escape rest) rest_is x.1)))
+    let rest_is : flat_map html_escape rest ≡ run ++ flat_map html_escape (drop (reference_place rest) rest) = run_step rest ∙ rw (er, en) refl in
+    (begins_later old before new b w.0, λ known. let x = w.1 known in (x.0, rw inv at (longer most before run _ (flat_map html_escape rest) rest_is x.1)))
 
 -- a reference doesn't fit
-pub reference_stops_at : (n most : ℕ) (f : WriteFault) (old before run_written new rest plain run behind reference : List ℕ) → n ≡ run_len rest → run ≡ take n rest → behind ≡ drop n rest → first_reference behind ≡ Some reference
-    → run_written ≡ before ++ run → before ++ flat_map escape rest ≡ old ++ flat_map escape plain → Begins old before → Stopped most f run_written reference new → Stopped most f old (flat_map escape plain) new
+pub reference_stops_at : (n most : ℕ) (f : WriteFault) (old before run_written new rest plain run behind reference : List ℕ) → n ≡ reference_place rest → run ≡ take n rest → behind ≡ drop n rest → first_reference behind ≡ Some reference
+    → run_written ≡ before ++ run → before ++ flat_map html_escape rest ≡ old ++ flat_map html_escape plain → Begins old before → Stopped most f run_written reference new → Stopped most f old (flat_map html_escape plain) new
 reference_stops_at n most f old before run_written new rest plain run behind reference en er eb some ew inv b w =
-    let later = flat_map escape (drop 1 behind) in
-    let rest_is : flat_map escape rest ≡ run ++ (reference ++ later) = run_step rest ∙ rw (er, en) (ap (λ (l : List ℕ). take (run_len rest) rest ++ l) (ap (flat_map escape) (sym (rw en at eb)) ∙ (marked behind reference some).written)) in
-    let same : run_written ++ (reference ++ later) ≡ old ++ flat_map escape plain = ap (λ (l : List ℕ). l ++ (reference ++ later)) ew ∙ append_assoc before run (reference ++ later) ∙ ap (λ (l : List ℕ). before ++ l) (sym rest_is) ∙ inv in
+    let later = flat_map html_escape (drop 1 behind) in
+    let rest_is : flat_map html_escape rest ≡ run ++ (reference ++ later) = run_step rest ∙ rw (er, en) (ap (λ (l : List ℕ). take (reference_place rest) rest ++ l) (ap (flat_map html_escape) (sym (rw en at eb)) ∙ (marked behind reference some).written)) in
+    let same : run_written ++ (reference ++ later) ≡ old ++ flat_map html_escape plain = ap (λ (l : List ℕ). l ++ (reference ++ later)) ew ∙ append_assoc before run (reference ++ later) ∙ ap (λ (l : List ℕ). before ++ l) (sym rest_is) ∙ inv in
     (begins_later old run_written new (begins_more old before run run_written b ew) w.0, λ known. let x = w.1 known in (x.0, rw same at (longer most run_written reference later (reference ++ later) refl x.1)))

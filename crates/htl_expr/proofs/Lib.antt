@@ -32,5 +32,9 @@ pub mod LocalLoops
 pub mod LocalParts
 pub mod LocalOptions
 pub mod NoneLeft
+pub mod Further
+pub mod FurtherTokens
+pub mod FurtherParts
+pub mod Limit
 pub mod Faults
 pub mod Placed

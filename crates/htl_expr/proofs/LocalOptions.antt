@@ -90,56 +90,57 @@ end_same (c ∷ r) (d ∷ z) h = (let a : eqb (suc (length z)) 0 ≡ false = sea
 nothing_same : (r z : List ℕ) → Same r z → (at_end z || is_at 64 z) ≡ (at_end r || is_at 64 r)
 nothing_same r z h = rw (end_same r z h, at_same 64 r z h) refl
 
-local_first : Local spec.first
-unfolding spec.first
-local_first =
-    local_if (λ t. at_end t || is_at 64 t) (got None) (λ t. spec.choice 32 (spec.nested 32) t >>= λ x. Ok (Some x.0, x.1)) nothing_same (local_pure None)
-    (local_bind (spec.choice 32 (spec.nested 32)) (λ e t. Ok (Some e, t)) local_tree (λ e. local_pure (Some e)))
+module _ (levels : ℕ) where
+  local_first : Local (spec.first levels)
+  unfolding spec.first
+  local_first =
+      local_if (λ t. at_end t || is_at 64 t) (got None) (λ t. spec.choice levels (spec.nesting levels) t >>= λ x. Ok (Some x.0, x.1)) nothing_same (local_pure None)
+      (local_bind (spec.choice levels (spec.nesting levels)) (λ e t. Ok (Some e, t)) (local_tree levels) (λ e. local_pure (Some e)))
 
-ended : Option Node → List ℕ → Outcome Expr
-ended node t = spec.options t >>= λ o. cond (at_end o.1) (Ok (spec.expr_of node o.0, o.1)) (refuse o.1)
+  ended : Option Node → List ℕ → Outcome Expr
+  ended node t = spec.options t >>= λ o. cond (at_end o.1) (Ok (spec.expr_of node o.0, o.1)) (refuse o.1)
 
-local_ended : (node : Option Node) → Local (ended node)
-unfolding ended
-local_ended node = local_bind spec.options (λ given t. cond (at_end t) (Ok (spec.expr_of node given, t)) (refuse t)) local_options
-    (λ given. local_if at_end (got (spec.expr_of node given)) refuse end_same (local_pure (spec.expr_of node given)) local_refuse)
+  local_ended : (node : Option Node) → Local (ended node)
+  unfolding ended
+  local_ended node = local_bind spec.options (λ given t. cond (at_end t) (Ok (spec.expr_of node given, t)) (refuse t)) local_options
+      (λ given. local_if at_end (got (spec.expr_of node given)) refuse end_same (local_pure (spec.expr_of node given)) local_refuse)
 
--- the reading, with the text that is left
-abbrev text : List ℕ → Outcome Expr
-text t = spec.first (skip t) >>= λ x. ended x.0 x.1
+  -- the reading, with the text that is left
+  abbrev text : List ℕ → Outcome Expr
+  text t = spec.first levels (skip t) >>= λ x. ended x.0 x.1
 
-local_text : Local text
-local_text = local_bind (λ t. spec.first (skip t)) ended (local_skip spec.first local_first) local_ended
+  local_text : Local text
+  local_text = local_bind (λ t. spec.first levels (skip t)) ended (local_skip (spec.first levels) local_first) local_ended
 
-abbrev alone : Outcome Expr → Result Expr Stop
-alone (Ok x) = Ok x.0
-alone (Err d) = Err d
+  abbrev alone : Outcome Expr → Result Expr Stop
+  alone (Ok x) = Ok x.0
+  alone (Err d) = Err d
 
-alone_err : (o : Outcome Expr) (d : Stop) → alone o ≡ Err d → o ≡ Err d
-alone_err (Ok x) d e = absurd cc
-alone_err (Err k) d e = (let same : ◌≡◌ {A = Result Expr Stop} (Err k) (Err d) = e in cc)
+  alone_err : (o : Outcome Expr) (d : Stop) → alone o ≡ Err d → o ≡ Err d
+  alone_err (Ok x) d e = absurd cc
+  alone_err (Err k) d e = (let same : ◌≡◌ {A = Result Expr Stop} (Err k) (Err d) = e in cc)
 
-past : {A : Type 0} (o : Outcome A) (f : A × List ℕ → Outcome Expr) (h : A × List ℕ → Result Expr Stop) → ((x : A × List ℕ) → alone (f x) ≡ h x) → alone (o >>= f) ≡ (o >>= h)
-past (Ok x) f h e = e x
-past (Err d) f h e = refl
+  past : {A : Type 0} (o : Outcome A) (f : A × List ℕ → Outcome Expr) (h : A × List ℕ → Result Expr Stop) → ((x : A × List ℕ) → alone (f x) ≡ h x) → alone (o >>= f) ≡ (o >>= h)
+  past (Ok x) f h e = e x
+  past (Err d) f h e = refl
 
-read_is : (t : List ℕ) → alone (text t) ≡ spec.read t
-unfolding spec.read ended
-read_is t = past (spec.first (skip t)) _ _ (λ x. past (spec.options x.1) _ _ (λ o. last (at_end o.1) (spec.expr_of x.0 o.0) o.1))
-  where
-    last : (b : Bool) (e : Expr) (r : List ℕ) → alone (cond b (Ok (e, r)) (refuse r)) ≡ cond b (Ok e) (Err (Unexpected (length r)))
-    last true e r = refl
-    last false e r = refl
+  read_is : (t : List ℕ) → alone (text t) ≡ spec.read levels t
+  unfolding spec.read ended
+  read_is t = past (spec.first levels (skip t)) _ _ (λ x. past (spec.options x.1) _ _ (λ o. last (at_end o.1) (spec.expr_of x.0 o.0) o.1))
+    where
+      last : (b : Bool) (e : Expr) (r : List ℕ) → alone (cond b (Ok (e, r)) (refuse r)) ≡ cond b (Ok e) (Err (Unexpected (length r)))
+      last true e r = refl
+      last false e r = refl
 
--- the reason for which a text is not read, and the texts that are not read for the same
-pub record Left (d : Stop) (s : List ℕ) : Type 0 where
-  pub front : List ℕ
-  pub rest : List ℕ
-  pub parts : s ≡ front ++ rest
-  pub left : IsAt d rest
-  pub same : (z : List ℕ) → Same rest z → spec.read (front ++ z) ≡ Err (moved d (length z))
+  -- the reason for which a text is not read, and the texts that are not read for the same
+  pub record Left (d : Stop) (s : List ℕ) : Type 0 where
+    pub front : List ℕ
+    pub rest : List ℕ
+    pub parts : s ≡ front ++ rest
+    pub left : IsAt d rest
+    pub same : (z : List ℕ) → Same rest z → spec.read levels (front ++ z) ≡ Err (moved d (length z))
 
-pub failed : (d : Stop) (s : List ℕ) → spec.read s ≡ Err d → Left d s
-failed d s e =
-    let k = local_text.err d s (alone_err (text s) d (read_is s ∙ e)) in
-    record { front = k.front; rest = k.rest; parts = k.parts; left = k.left; same = λ z w. sym (read_is (k.front ++ z)) ∙ ap alone (k.same z w) }
+  pub failed : (d : Stop) (s : List ℕ) → spec.read levels s ≡ Err d → Left d s
+  failed d s e =
+      let k = local_text.err d s (alone_err (text s) d (read_is s ∙ e)) in
+      record { front = k.front; rest = k.rest; parts = k.parts; left = k.left; same = λ z w. sym (read_is (k.front ++ z)) ∙ ap alone (k.same z w) }

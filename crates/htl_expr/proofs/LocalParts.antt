@@ -31,8 +31,8 @@ local_inside =
     local_bind (λ t. string (skip (drop 1 t))) (λ w t. expect 93 t >>= λ r. Ok (w, r)) (local_drop (λ t. string (skip t)) (local_skip string local_string))
     (λ w. local_step (expect 93) (got w) (local_expect 93) (local_pure w))
 
-local_bracketed : (depth : ℕ) → Local (guarded 91 (spec.bracketed depth))
-unfolding spec.bracketed inside_brackets
+local_bracketed : (depth : ℕ) → Local (guarded 91 (spec.bracket_access depth))
+unfolding spec.bracket_access inside_brackets
 local_bracketed depth = go (eqb depth 0)
   where
     go : (b : Bool) → Local (guarded 91 (λ t. cond b (too_deep t) (inside_brackets t)))
@@ -47,9 +47,9 @@ either_first false false x y z = refl
 local_first_access : (depth : ℕ) → Local (spec.first_access depth)
 unfolding spec.first_access spec.access spec.access_at
 local_first_access depth =
-    local_ext (λ t. cond (is_at 46 t) (name Field (skip (drop 1 t))) (guarded 91 (spec.bracketed depth) t)) (λ t. cond (is_at 46 t || is_at 91 t) (cond (is_at 46 t) (name Field (skip (drop 1 t))) (spec.bracketed depth t)) (refuse t))
-    (λ t. either_first (is_at 46 t) (is_at 91 t) (name Field (skip (drop 1 t))) (spec.bracketed depth t) (refuse t))
-    (local_if (is_at 46) (λ t. name Field (skip (drop 1 t))) (guarded 91 (spec.bracketed depth)) (at_same 46) (local_drop (λ t. name Field (skip t)) (local_skip (name Field) (local_name Field))) (local_bracketed depth))
+    local_ext (λ t. cond (is_at 46 t) (name Field (skip (drop 1 t))) (guarded 91 (spec.bracket_access depth) t)) (λ t. cond (is_at 46 t || is_at 91 t) (cond (is_at 46 t) (name Field (skip (drop 1 t))) (spec.bracket_access depth t)) (refuse t))
+    (λ t. either_first (is_at 46 t) (is_at 91 t) (name Field (skip (drop 1 t))) (spec.bracket_access depth t) (refuse t))
+    (local_if (is_at 46) (λ t. name Field (skip (drop 1 t))) (guarded 91 (spec.bracket_access depth)) (at_same 46) (local_drop (λ t. name Field (skip t)) (local_skip (name Field) (local_name Field))) (local_bracketed depth))
 
 first_access-short : (depth : ℕ) (t : List ℕ) (x : List ℕ) (r : List ℕ) → spec.access_at t ≡ true → spec.first_access depth t ≡ Ok (x, r) → length r < length t
 first_access-short depth t x r at e = access-short depth t x r (first_access_sound depth t (x, r) e)
@@ -127,19 +127,19 @@ compares_same : (r z : List ℕ) → Same r z → spec.compares z ≡ spec.compa
 unfolding spec.compares
 compares_same r z h = rw (at_same 61 r z h, at_same 33 r z h, at_same 60 r z h, at_same 62 r z h) refl
 
-local_named_of : (depth : ℕ) (o : Option (List ℕ → Node)) (w : List ℕ) → Local (spec.named_of depth o w)
+local_named_of : (depth : ℕ) (o : Option (List ℕ → Node)) (w : List ℕ) → Local (spec.name_or_object_of depth o w)
 local_named_of depth None w = local_pure (spec.word_of w)
 local_named_of depth (Some make) w = local_bind (spec.first_access depth) (λ f t. Ok (make f, t)) (local_first_access depth) (λ f. local_pure (make f))
 
-local_named : (depth : ℕ) → Local (spec.named depth)
-unfolding spec.named
-local_named depth = local_bind (name Name) (λ w t. spec.named_of depth (spec.object_of w) w t) (local_name Name) (λ w. local_named_of depth (spec.object_of w) w)
+local_named : (depth : ℕ) → Local (spec.name_or_object depth)
+unfolding spec.name_or_object
+local_named depth = local_bind (name Name) (λ w t. spec.name_or_object_of depth (spec.object_of w) w t) (local_name Name) (λ w. local_named_of depth (spec.object_of w) w)
 
 local_leaf : (depth : ℕ) → Local (spec.leaf depth)
 unfolding spec.leaf
 local_leaf depth =
     local_if (begins is_quote) (λ t. string t >>= λ x. Ok (n.Text x.0, x.1)) _ (head_same is_quote) (local_bind string (λ w t. Ok (n.Text w, t)) local_string (λ w. local_pure (n.Text w)))
-    (local_if (λ t. is_at 45 t || begins is_digit t) (λ t. number t >>= λ x. Ok (n.Long x.0, x.1)) (spec.named depth) number_same (local_bind number (λ k t. Ok (n.Long k, t)) local_number (λ k. local_pure (n.Long k))) (local_named depth))
+    (local_if (λ t. is_at 45 t || begins is_digit t) (λ t. number t >>= λ x. Ok (n.Long x.0, x.1)) (spec.name_or_object depth) number_same (local_bind number (λ k t. Ok (n.Long k, t)) local_number (λ k. local_pure (n.Long k))) (local_named depth))
 
 -- A choice is read at a colon only behind one that was read, so never where no level is left.
 abbrev Other : (Inside → List ℕ → Outcome Node) → Type 0
@@ -166,8 +166,8 @@ module _ (depth : ℕ) (inner : Inside → List ℕ → Outcome Node) (local : (
 
   local_atom : Local (spec.atom depth inner)
   unfolding spec.atom
-  local_atom = local_bind (spec.start depth inner) (λ e t. all_accesses depth t >>= λ fs. Ok (spec.accessed e fs.0, fs.1)) local_start
-      (λ e. local_bind (all_accesses depth) (λ fs t. Ok (spec.accessed e fs, t)) (local_accesses depth) (λ fs. local_pure (spec.accessed e fs)))
+  local_atom = local_bind (spec.start depth inner) (λ e t. all_accesses depth t >>= λ fs. Ok (spec.access_of e fs.0, fs.1)) local_start
+      (λ e. local_bind (all_accesses depth) (λ fs t. Ok (spec.access_of e fs, t)) (local_accesses depth) (λ fs. local_pure (spec.access_of e fs)))
 
   local_operand : Local (spec.operand depth inner)
   unfolding spec.operand
@@ -231,25 +231,25 @@ module _ (depth : ℕ) (inner : Inside → List ℕ → Outcome Node) (local : (
   local_level Operand = local_operand
   local_level Items = local_items
 
-abbrev deeper : ℕ → Inside → List ℕ → Outcome Node
-deeper depth which t = spec.level depth (spec.nested depth) which t
+abbrev pub deeper : ℕ → Inside → List ℕ → Outcome Node
+deeper depth which t = spec.level depth (spec.nesting depth) which t
 
-local_behind : (d : ℕ) (which : Inside) (c : ℕ) → Local (deeper d which) → Local (guarded c (spec.nested (suc d) which))
-unfolding spec.nested
+local_behind : (d : ℕ) (which : Inside) (c : ℕ) → Local (deeper d which) → Local (guarded c (spec.nesting (suc d) which))
+unfolding spec.nesting
 local_behind d which c l = local_if (is_at c) (λ t. deeper d which (skip (drop 1 t))) refuse (at_same c) (local_drop (λ t. deeper d which (skip t)) (local_skip (deeper d which) l)) local_refuse
 
-local_zero : (which : Inside) (c : ℕ) → nests c ≡ true → Local (guarded c (spec.nested zero which))
-unfolding spec.nested
+local_zero : (which : Inside) (c : ℕ) → nests c ≡ true → Local (guarded c (spec.nesting zero which))
+unfolding spec.nesting
 local_zero which c nest = local_deep c nest
 
-none_nested : (t : List ℕ) (x : Node × List ℕ) → spec.nested zero Choice t ≡ Ok x → ⊥
-unfolding spec.nested
+none_nested : (t : List ℕ) (x : Node × List ℕ) → spec.nesting zero Choice t ≡ Ok x → ⊥
+unfolding spec.nesting
 none_nested t x e = cc
 
-local_deeper : (depth : ℕ) (which : Inside) → Local (deeper depth which)
-local_deeper zero which = local_level zero (spec.nested zero) local_zero (inr none_nested) which
+pub local_deeper : (depth : ℕ) (which : Inside) → Local (deeper depth which)
+local_deeper zero which = local_level zero (spec.nesting zero) local_zero (inr none_nested) which
 local_deeper (suc d) which =
-    local_level (suc d) (spec.nested (suc d)) (λ which' c nest. local_behind d which' c (local_deeper d which')) (inl (local_behind d Choice 58 (local_deeper d Choice))) which
+    local_level (suc d) (spec.nesting (suc d)) (λ which' c nest. local_behind d which' c (local_deeper d which')) (inl (local_behind d Choice 58 (local_deeper d Choice))) which
 
-pub local_tree : Local (spec.choice 32 (spec.nested 32))
-local_tree = local_deeper 32 Choice
+pub local_tree : (levels : ℕ) → Local (spec.choice levels (spec.nesting levels))
+local_tree levels = local_deeper levels Choice

@@ -7,13 +7,13 @@ use Rattle.htl_expr.specs.declared.tokens.NameKind.{NameKind}
 use Rattle.htl_expr.specs.declared.tokens.NameKind.TheVariants.{Name, Field}
 use Rattle.htl_expr.specs.declared.node.Comparison.{Comparison}
 use Rattle.htl_expr.specs.declared.node.Comparison.TheVariants.{Equal, NotEqual, Below, Above, AtMost, AtLeast}
-use Rattle.htl_expr.specs.Tokens.{Outcome, ◌>>=◌, skip, is_at, is_blank, begins, expect, second, literal, goes_on, run, run_len, name, is_digit, is_letter, is_word, is_first, digits, digits_from, digit_fits, limit, signed, number}
+use Rattle.htl_expr.specs.Tokens.{Outcome, ◌>>=◌, skip, is_at, is_blank, begins, expect, second, literal, goes_on, run, name_len, name, is_digit, is_letter, is_word, is_first, digits, digits_from, digit_fits, limit, signed, number}
 use Rattle.htl_expr.specs.Read.{comparison, or_equal, between}
 use Rattle.htl_expr.specs.Grammar.{Passes}
 use Rattle.htl_expr.specs.Fault.{nests, SameHead}
 use Rattle.htl_expr.proofs.Tools.{chosen, ok_is}
 use Rattle.htl_expr.proofs.TokensRead.{eqb_is, passes_run, ends_run}
-use Rattle.htl_expr.proofs.TokensAgain.{run_len-is}
+use Rattle.htl_expr.proofs.TokensAgain.{name_len-is}
 use Rattle.htl_expr.proofs.Local.{Same, begins_same, front_same, head_in, head_same, at_same, nil_same, Kept, Failed, Local, local_ext, local_bind, local_pure, local_refuse, local_if, local_fixed, local_drop, got, refuse, err_is}
 
 -- ---- blanks
@@ -170,17 +170,17 @@ local_run kind = record { ok = ok; err = λ d s e. absurd cc }
   where
     kept : (s : List ℕ) → Kept (run_of kind) s (run kind s).0 (run kind s).1
     kept s =
-        let w = take (run_len kind s) s in
-        let u = drop (run_len kind s) s in
+        let w = take (name_len kind s) s in
+        let u = drop (name_len kind s) s in
         let bl = blanks u in
         record {
           front = w ++ bl.front;
-          parts = sym (take-append-drop (run_len kind s) s) ∙ ap (λ (t : List ℕ). w ++ t) bl.parts ∙ sym (append_assoc w bl.front (skip u));
+          parts = sym (take-append-drop (name_len kind s) s) ∙ ap (λ (t : List ℕ). w ++ t) bl.parts ∙ sym (append_assoc w bl.front (skip u));
           same = λ z h.
               (let near : Same u (bl.front ++ z) = subst (λ (t : List ℕ). Same t (bl.front ++ z)) (sym bl.parts) (head_in bl.front (skip u) z h) in
               let stops : goes_on kind (bl.front ++ z) ≡ false = goes_same kind u (bl.front ++ z) near (ends_run kind s) in
               let passes : Passes kind w (bl.front ++ z) = passes_same kind w u (bl.front ++ z) near.0 (passes_run kind s) in
-              rw (append_assoc w bl.front z, run_len-is kind w (bl.front ++ z) passes stops, take_at w (bl.front ++ z) (length w) refl, drop_at w (bl.front ++ z) (length w) refl, bl.same z h) refl);
+              rw (append_assoc w bl.front z, name_len-is kind w (bl.front ++ z) passes stops, take_at w (bl.front ++ z) (length w) refl, drop_at w (bl.front ++ z) (length w) refl, bl.same z h) refl);
         }
 
     ok : (s : List ℕ) (x : List ℕ) (r : List ℕ) → run_of kind s ≡ Ok (x, r) → Kept (run_of kind) s x r

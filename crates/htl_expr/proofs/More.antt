@@ -7,79 +7,80 @@ use Rattle.htl_expr.specs.declared.stop.Stop.TheVariants.{Memory, Unexpected, To
 use Rattle.htl_expr.specs.declared.expression.Expr.{Expr}
 use Rattle.htl_expr.specs.Tokens.{is_at}
 use Rattle.htl_expr.specs.Read.{read}
-use Rattle.htl_expr.specs.Grammar.{Whole}
+use Rattle.htl_expr.specs.Grammar.{WholeWithin}
 use Rattle.htl_expr.specs.Fault.{colon_letter, passes, takes_colon, place_of, MayGoOn}
 use Rattle.htl_expr.proofs.TokensRead.{eqb_is}
 use Rattle.htl_expr.proofs.WholeRead.{read_sound}
 use Rattle.htl_expr.proofs.StuckWhole.{stopped}
 
-pub more_here : (s : List ℕ) (left : ℕ) → read s ≡ Err (Unexpected left) → MayGoOn s (length s - left)
-more_here s left e = stopped s (Unexpected left) left e refl
+module _ (levels : ℕ) where
+  pub more_here : (s : List ℕ) (left : ℕ) → read levels s ≡ Err (Unexpected left) → MayGoOn levels s (length s - left)
+  more_here s left e = stopped levels s (Unexpected left) left e refl
 
-pub more_deep : (s : List ℕ) (left : ℕ) → read s ≡ Err (TooDeep left) → MayGoOn s (length s - left)
-more_deep s left e = stopped s (TooDeep left) left e refl
+  pub more_deep : (s : List ℕ) (left : ℕ) → read levels s ≡ Err (TooDeep left) → MayGoOn levels s (length s - left)
+  more_deep s left e = stopped levels s (TooDeep left) left e refl
 
--- ---- a colon that may belong to a field's name
+  -- ---- a colon that may belong to a field's name
 
--- a text of the grammar that begins with these bytes
-record Begun (front : List ℕ) : Type 0 where
-  more : List ℕ
-  tree : Expr
-  whole : Whole (front ++ more) tree
+  -- a text of the grammar that begins with these bytes
+  record Begun (front : List ℕ) : Type 0 where
+    more : List ℕ
+    tree : Expr
+    whole : WholeWithin levels (front ++ more) tree
 
--- with the letter behind the colon the text goes on
-with_letter : (p : List ℕ) (m : MayGoOn (p ++ colon_letter) (length (p ++ colon_letter) - 0)) → Begun (p ++ 58 ∷ [])
-with_letter p m =
-    let t = p ++ colon_letter in
-    let all : length t - 0 ≡ length t = omega arith in
-    let whole_text : take (length t - 0) t ≡ t = ap (λ (n : ℕ). take n t) all ∙ ap (λ (l : List ℕ). take (length t) l) (sym (append-nil t)) ∙ take_at t [] (length t) refl in
-    let shape : take (length t - 0) t ++ m.more ≡ (p ++ 58 ∷ []) ++ (98 ∷ m.more) = ap (λ (l : List ℕ). l ++ m.more) whole_text ∙ append_assoc p colon_letter m.more ∙ sym (append_assoc p (58 ∷ []) (98 ∷ m.more)) in
-    record { more = 98 ∷ m.more; tree = m.tree; whole = subst (λ (l : List ℕ). Whole l m.tree) shape m.whole }
+  -- with the letter behind the colon the text goes on
+  with_letter : (p : List ℕ) (m : MayGoOn levels (p ++ colon_letter) (length (p ++ colon_letter) - 0)) → Begun (p ++ 58 ∷ [])
+  with_letter p m =
+      let t = p ++ colon_letter in
+      let all : length t - 0 ≡ length t = omega arith in
+      let whole_text : take (length t - 0) t ≡ t = ap (λ (n : ℕ). take n t) all ∙ ap (λ (l : List ℕ). take (length t) l) (sym (append-nil t)) ∙ take_at t [] (length t) refl in
+      let shape : take (length t - 0) t ++ m.more ≡ (p ++ 58 ∷ []) ++ (98 ∷ m.more) = ap (λ (l : List ℕ). l ++ m.more) whole_text ∙ append_assoc p colon_letter m.more ∙ sym (append_assoc p (58 ∷ []) (98 ∷ m.more)) in
+      record { more = 98 ∷ m.more; tree = m.tree; whole = subst (λ (l : List ℕ). WholeWithin levels l m.tree) shape m.whole }
 
--- without it the text goes on
-without_letter : (p : List ℕ) (m : MayGoOn (p ++ colon_letter) (length (p ++ colon_letter) - 1)) → Begun (p ++ 58 ∷ [])
-without_letter p m =
-    let t = p ++ colon_letter in
-    let parts : t ≡ (p ++ 58 ∷ []) ++ 98 ∷ [] = sym (append_assoc p (58 ∷ []) (98 ∷ [])) in
-    let len : length t - 1 ≡ length (p ++ 58 ∷ []) = omega (arith, length-append p colon_letter, length-append p (58 ∷ [])) in
-    let front : take (length t - 1) t ≡ p ++ 58 ∷ [] = ap (λ (n : ℕ). take n t) len ∙ ap (λ (l : List ℕ). take (length (p ++ 58 ∷ [])) l) parts ∙ take_at (p ++ 58 ∷ []) (98 ∷ []) (length (p ++ 58 ∷ [])) refl in
-    record { more = m.more; tree = m.tree; whole = subst (λ (l : List ℕ). Whole (l ++ m.more) m.tree) front m.whole }
+  -- without it the text goes on
+  without_letter : (p : List ℕ) (m : MayGoOn levels (p ++ colon_letter) (length (p ++ colon_letter) - 1)) → Begun (p ++ 58 ∷ [])
+  without_letter p m =
+      let t = p ++ colon_letter in
+      let parts : t ≡ (p ++ 58 ∷ []) ++ 98 ∷ [] = sym (append_assoc p (58 ∷ []) (98 ∷ [])) in
+      let len : length t - 1 ≡ length (p ++ 58 ∷ []) = omega (arith, length-append p colon_letter, length-append p (58 ∷ [])) in
+      let front : take (length t - 1) t ≡ p ++ 58 ∷ [] = ap (λ (n : ℕ). take n t) len ∙ ap (λ (l : List ℕ). take (length (p ++ 58 ∷ [])) l) parts ∙ take_at (p ++ 58 ∷ []) (98 ∷ []) (length (p ++ 58 ∷ [])) refl in
+      record { more = m.more; tree = m.tree; whole = subst (λ (l : List ℕ). WholeWithin levels (l ++ m.more) m.tree) front m.whole }
 
-whole_letter : (p : List ℕ) (e : Expr) → Whole (p ++ colon_letter) e → Begun (p ++ 58 ∷ [])
-whole_letter p e w = record { more = 98 ∷ []; tree = e; whole = subst (λ (l : List ℕ). Whole l e) (sym (append_assoc p (58 ∷ []) (98 ∷ []))) w }
+  whole_letter : (p : List ℕ) (e : Expr) → WholeWithin levels (p ++ colon_letter) e → Begun (p ++ 58 ∷ [])
+  whole_letter p e w = record { more = 98 ∷ []; tree = e; whole = subst (λ (l : List ℕ). WholeWithin levels l e) (sym (append_assoc p (58 ∷ []) (98 ∷ []))) w }
 
--- reading passed the colon
-passed : (p : List ℕ) (r : Result Expr Stop) → read (p ++ colon_letter) ≡ r → passes r ≡ true → Begun (p ++ 58 ∷ [])
-passed p (Ok e) r-is h = whole_letter p e (read_sound (p ++ colon_letter) e r-is)
-passed p (Err Memory) r-is h = absurd cc
-passed p (Err (Unexpected zero)) r-is h = with_letter p (more_here (p ++ colon_letter) 0 r-is)
-passed p (Err (Unexpected (suc zero))) r-is h = without_letter p (more_here (p ++ colon_letter) 1 r-is)
-passed p (Err (Unexpected (suc (suc n)))) r-is h = absurd (grind (arith, nat_tests))
-passed p (Err (TooDeep n)) r-is h = absurd cc
+  -- reading passed the colon
+  passed : (p : List ℕ) (r : Result Expr Stop) → read levels (p ++ colon_letter) ≡ r → passes r ≡ true → Begun (p ++ 58 ∷ [])
+  passed p (Ok e) r-is h = whole_letter p e (read_sound levels (p ++ colon_letter) e r-is)
+  passed p (Err Memory) r-is h = absurd cc
+  passed p (Err (Unexpected zero)) r-is h = with_letter p (more_here (p ++ colon_letter) 0 r-is)
+  passed p (Err (Unexpected (suc zero))) r-is h = without_letter p (more_here (p ++ colon_letter) 1 r-is)
+  passed p (Err (Unexpected (suc (suc n)))) r-is h = absurd (grind (arith, nat_tests))
+  passed p (Err (TooDeep n)) r-is h = absurd cc
 
--- the front with the colon
-colon_taken : (s : List ℕ) (place : ℕ) → is_at 58 (drop place s) ≡ true → take (place + 1) s ≡ take place s ++ 58 ∷ []
-unfolding is_at
-colon_taken [] zero h = absurd cc
-colon_taken [] (suc n) h = absurd cc
-colon_taken (c ∷ s) zero h = ap (λ (d : ℕ). d ∷ []) (eqb_is c 58 h)
-colon_taken (c ∷ s) (suc n) h = (let e : suc n + 1 ≡ suc (n + 1) = omega arith in rw e (ap (λ (l : List ℕ). c ∷ l) (colon_taken s n h)))
+  -- the front with the colon
+  colon_taken : (s : List ℕ) (place : ℕ) → is_at 58 (drop place s) ≡ true → take (place + 1) s ≡ take place s ++ 58 ∷ []
+  unfolding is_at
+  colon_taken [] zero h = absurd cc
+  colon_taken [] (suc n) h = absurd cc
+  colon_taken (c ∷ s) zero h = ap (λ (d : ℕ). d ∷ []) (eqb_is c 58 h)
+  colon_taken (c ∷ s) (suc n) h = (let e : suc n + 1 ≡ suc (n + 1) = omega arith in rw e (ap (λ (l : List ℕ). c ∷ l) (colon_taken s n h)))
 
-both_true : (a b : Bool) → (a && b) ≡ true → (a ≡ true) × (b ≡ true)
-both_true true b e = (refl, e)
-both_true false b e = absurd cc
+  both_true : (a b : Bool) → (a && b) ≡ true → (a ≡ true) × (b ≡ true)
+  both_true true b e = (refl, e)
+  both_true false b e = absurd cc
 
-pub more_left : (s : List ℕ) (left : ℕ) → read s ≡ Err (Unexpected left) → MayGoOn s (place_of s (length s - left))
-more_left s left e = go (is_at 58 (drop place s) && takes_colon (take place s)) refl
-  where
-    place : ℕ
-    place = length s - left
+  pub more_left : (s : List ℕ) (left : ℕ) → read levels s ≡ Err (Unexpected left) → MayGoOn levels s (place_of levels s (length s - left))
+  more_left s left e = go (is_at 58 (drop place s) && takes_colon levels (take place s)) refl
+    where
+      place : ℕ
+      place = length s - left
 
-    behind : Begun (take place s ++ 58 ∷ []) → is_at 58 (drop place s) ≡ true → MayGoOn s (place + 1)
-    behind b at = record { more = b.more; tree = b.tree; whole = subst (λ (l : List ℕ). Whole (l ++ b.more) b.tree) (sym (colon_taken s place at)) b.whole }
+      behind : Begun (take place s ++ 58 ∷ []) → is_at 58 (drop place s) ≡ true → MayGoOn levels s (place + 1)
+      behind b at = record { more = b.more; tree = b.tree; whole = subst (λ (l : List ℕ). WholeWithin levels (l ++ b.more) b.tree) (sym (colon_taken s place at)) b.whole }
 
-    go : (b : Bool) → (is_at 58 (drop place s) && takes_colon (take place s)) ≡ b → MayGoOn s (cond b (place + 1) place)
-    go false h = more_here s left e
-    go true h =
-        let both = both_true (is_at 58 (drop place s)) (takes_colon (take place s)) h in
-        behind (passed (take place s) (read (take place s ++ colon_letter)) refl both.1) both.0
+      go : (b : Bool) → (is_at 58 (drop place s) && takes_colon levels (take place s)) ≡ b → MayGoOn levels s (cond b (place + 1) place)
+      go false h = more_here s left e
+      go true h =
+          let both = both_true (is_at 58 (drop place s)) (takes_colon levels (take place s)) h in
+          behind (passed (take place s) (read levels (take place s ++ colon_letter)) refl both.1) both.0

@@ -6,7 +6,7 @@ use Rattle.htl_expr.specs.declared.tokens.NameKind.TheVariants.{Name, Field}
 use Rattle.htl_expr.specs.Grammar.{Byte, Separator, And, Or, Comma, Separates, Part, part_of, Choice, Either, Both, Compare, Operand, Atom, Start, Items, Reads, More, Access, Accesses}
 use Rattle.htl_expr.specs.Grammar as g
 use Rattle.htl_expr.proofs.Moves.{Moves, Steps, Then, moves_of, moves_map, moves_then, steps_then, none_moves}
-use Rattle.htl_expr.proofs.MovesTokens.{byte_steps, operator_steps, compares_steps, ComparesOf, string_steps, StringOf, name_moves, NamedOf, number_moves, NumberOf}
+use Rattle.htl_expr.proofs.MovesTokens.{byte_steps, operator_steps, compares_steps, ComparesOf, string_steps, StringOf, name_moves, NameTokenOf, number_moves, NumberOf}
 
 abbrev pub AccessOf : ℕ → List ℕ → List ℕ → List ℕ → Type 0
 AccessOf depth f s r = Access depth s f r
@@ -22,8 +22,8 @@ MoreOf sep depth es s r = More sep depth s es r
 
 pub access_moves : (depth : ℕ) (s f r : List ℕ) → Access depth s f r → Moves (AccessOf depth f) s r
 access_moves depth s f r (g.field {r1 = r1} b x) =
-    moves_map (Then (Byte 46) (NamedOf Field f)) (AccessOf depth f) s r (λ s' r' q. g.field q.1 q.2)
-    (steps_then (Byte 46) (NamedOf Field f) s r1 r (byte_steps 46 s r1 b) (name_moves Field r1 f r x))
+    moves_map (Then (Byte 46) (NameTokenOf Field f)) (AccessOf depth f) s r (λ s' r' q. g.field q.1 q.2)
+    (steps_then (Byte 46) (NameTokenOf Field f) s r1 r (byte_steps 46 s r1 b) (name_moves Field r1 f r x))
 access_moves _ s f r (g.bracket {depth = d} {r1 = r1} {r2 = r2} b x c) =
     moves_map (Then (Byte 91) (Then (StringOf f) (Byte 93))) (AccessOf (suc d) f) s r (λ s' r' q. g.bracket q.1 q.2.1 q.2.2)
     (steps_then (Byte 91) (Then (StringOf f) (Byte 93)) s r1 r (byte_steps 91 s r1 b)
@@ -44,9 +44,9 @@ mutual
   pub reads_moves : (part : Part) (depth : ℕ) (s : List ℕ) (e : Node) (r : List ℕ) → Reads part depth s e r → Moves (ReadsOf part depth e) s r
   reads_moves _ depth s e r (g.string {w = w} x) = moves_of (StringOf w) (ReadsOf Start depth _) s r (λ s' r' q. g.string q) (string_steps s w r x)
   reads_moves _ depth s e r (g.number {k = k} x) = moves_map (NumberOf k) (ReadsOf Start depth _) s r (λ s' r' q. g.number q) (number_moves s k r x)
-  reads_moves _ depth s e r (g.name {w = w} x o) = moves_map (NamedOf Name w) (ReadsOf Start depth _) s r (λ s' r' q. g.name q o) (name_moves Name s w r x)
+  reads_moves _ depth s e r (g.name {w = w} x o) = moves_map (NameTokenOf Name w) (ReadsOf Start depth _) s r (λ s' r' q. g.name q o) (name_moves Name s w r x)
   reads_moves _ depth s e r (g.object {w = w} {r1 = r1} {f = f} x o a) =
-      moves_map _ (ReadsOf Start depth _) s r (λ s' r' q. g.object q.1 o q.2) (moves_then (NamedOf Name w) (AccessOf depth f) s r1 r (name_moves Name s w r1 x) (access_moves depth r1 f r a))
+      moves_map _ (ReadsOf Start depth _) s r (λ s' r' q. g.object q.1 o q.2) (moves_then (NameTokenOf Name w) (AccessOf depth f) s r1 r (name_moves Name s w r1 x) (access_moves depth r1 f r a))
   reads_moves _ _ s e r (g.inside {depth = d} {r1 = r1} {r2 = r2} b x c) =
       moves_map _ (ReadsOf Start (suc d) e) s r (λ s' r' q. g.inside q.1 q.2.1 q.2.2)
       (steps_then (Byte 40) (Then (ReadsOf Choice d e) (Byte 41)) s r1 r (byte_steps 40 s r1 b)

@@ -8,7 +8,7 @@ use Rattle.htl_expr.specs.declared.node.Comparison.TheVariants.{Equal, NotEqual,
 use Rattle.htl_expr.specs.declared.expression.Context.{Context}
 use Rattle.htl_expr.specs.Tokens.{skip, is_at, begins, goes_on, is_letter, is_first, is_digit, is_word, digit_fits, limit}
 use Rattle.htl_expr.specs.Fault.{SameHead}
-use Rattle.htl_expr.specs.Grammar.{Byte, Operator, Bare, Passes, Named, Quoted, String, Digits, Sign, Number, Compares, Literal, ContextString, context_text, Join, InContext}
+use Rattle.htl_expr.specs.Grammar.{Byte, Operator, Bare, Passes, NameToken, StringBody, String, Digits, Sign, Number, Compares, Literal, ContextString, context_text, Join, InContext}
 use Rattle.htl_expr.specs.Grammar as g
 use Rattle.htl_expr.proofs.Moves.{Plain, Near, Fits, near_clear, fits_near, fits_in, near_in, ends_fit, digit_word, field_word, blanks, Moves, Steps, Jumps, Then, steps_of, at_jumps, steps_map, steps_steps, at_steps}
 
@@ -65,9 +65,9 @@ compares_steps s _ r (g.above o) = steps_map (Bare 62) (ComparesOf Above) s r (�
 record QuoteMoves (mark : ℕ) (s w after : List ℕ) : Type 0 where
   front : List ℕ
   parts : s ≡ front ++ after
-  same : (z : List ℕ) → Quoted mark (front ++ z) w z
+  same : (z : List ℕ) → StringBody mark (front ++ z) w z
 
-quote_moves : (mark : ℕ) (s w after : List ℕ) → Quoted mark s w after → QuoteMoves mark s w after
+quote_moves : (mark : ℕ) (s w after : List ℕ) → StringBody mark s w after → QuoteMoves mark s w after
 quote_moves mark _ _ after g.closes = record { front = mark ∷ []; parts = refl; same = λ z. g.closes }
 quote_moves mark _ _ after (g.plain {c = c} a b q) = (let k = quote_moves mark _ _ after q in record { front = c ∷ k.front; parts = ap (λ (t : List ℕ). c ∷ t) k.parts; same = λ z. g.plain a b (k.same z) })
 quote_moves mark _ _ after (g.escape {c = c} e q) = (let k = quote_moves mark _ _ after q in record { front = 92 ∷ c ∷ k.front; parts = ap (λ (t : List ℕ). 92 ∷ c ∷ t) k.parts; same = λ z. g.escape e (k.same z) })
@@ -136,10 +136,10 @@ first_before kind (c ∷ w) r z h e = h
 first_before kind [] [] z h e = absurd cc
 first_before kind [] (c ∷ r) z h e = absurd (let x = word_goes_on kind c r h in cc)
 
-abbrev pub NamedOf : NameKind → List ℕ → List ℕ → List ℕ → Type 0
-NamedOf kind w s r = Named kind s w r
+abbrev pub NameTokenOf : NameKind → List ℕ → List ℕ → List ℕ → Type 0
+NameTokenOf kind w s r = NameToken kind s w r
 
-pub name_moves : (kind : NameKind) (s w r : List ℕ) → Named kind s w r → Moves (NamedOf kind w) s r
+pub name_moves : (kind : NameKind) (s w r : List ℕ) → NameToken kind s w r → Moves (NameTokenOf kind w) s r
 name_moves kind s w r x =
     let bl = blanks x.after in
     record {

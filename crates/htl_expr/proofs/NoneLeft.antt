@@ -8,156 +8,157 @@ use Rattle.htl_expr.specs.declared.expression.Expr.{Expr}
 use Rattle.htl_expr.specs.declared.tokens.NameKind.TheVariants.{Field}
 use Rattle.htl_expr.specs.Tokens.{is_at, begins, goes_on, is_letter, is_word}
 use Rattle.htl_expr.specs.Read.{read}
-use Rattle.htl_expr.specs.Grammar.{Whole}
+use Rattle.htl_expr.specs.Grammar.{WholeWithin}
 use Rattle.htl_expr.specs.Fault.{nests, SameHead, Agree, HasNone, colon_letter, passes, takes_colon, place_of}
 use Rattle.htl_expr.proofs.TokensRead.{eqb_is, byte_at}
 use Rattle.htl_expr.proofs.Unique.{only_err}
 use Rattle.htl_expr.proofs.Local.{Same, same_behind, head_in, IsAt, moved}
 use Rattle.htl_expr.proofs.LocalOptions.{Left, failed}
 
--- a text that isn't read
-abbrev IsRefused : List ℕ → Type 0
-IsRefused t = (d : Stop) × (read t ≡ Err d)
+module _ (levels : ℕ) where
+  -- a text that isn't read
+  abbrev IsRefused : List ℕ → Type 0
+  IsRefused t = (d : Stop) × (read levels t ≡ Err d)
 
-no_colon : (r z : List ℕ) → is_at 58 r ≡ false → SameHead r z → Same r z
-unfolding is_at goes_on
-no_colon [] [] n h = (tt, λ e. e)
-no_colon [] (d ∷ z) n h = absurd h
-no_colon (c ∷ r) [] n h = absurd h
-no_colon (c ∷ r) (d ∷ z) n h = (h, λ e. (let a : goes_on Field (c ∷ z) ≡ true = ap (λ (x : ℕ). is_word x || (eqb x 58 && begins is_letter z)) h ∙ e in let b : (is_word c || (false && begins is_letter z)) ≡ true = ap (λ (y : Bool). is_word c || (y && begins is_letter z)) (sym n) ∙ a in ap (λ (y : Bool). is_word c || (y && begins is_letter r)) n ∙ b))
+  no_colon : (r z : List ℕ) → is_at 58 r ≡ false → SameHead r z → Same r z
+  unfolding is_at goes_on
+  no_colon [] [] n h = (tt, λ e. e)
+  no_colon [] (d ∷ z) n h = absurd h
+  no_colon (c ∷ r) [] n h = absurd h
+  no_colon (c ∷ r) (d ∷ z) n h = (h, λ e. (let a : goes_on Field (c ∷ z) ≡ true = ap (λ (x : ℕ). is_word x || (eqb x 58 && begins is_letter z)) h ∙ e in let b : (is_word c || (false && begins is_letter z)) ≡ true = ap (λ (y : Bool). is_word c || (y && begins is_letter z)) (sym n) ∙ a in ap (λ (y : Bool). is_word c || (y && begins is_letter r)) n ∙ b))
 
-colon_same : (z : List ℕ) → is_at 58 z ≡ true → Same colon_letter z
-unfolding is_at goes_on begins
-colon_same [] e = absurd cc
-colon_same (c ∷ z) e = (sym (eqb_is c 58 e), λ _. refl)
+  colon_same : (z : List ℕ) → is_at 58 z ≡ true → Same colon_letter z
+  unfolding is_at goes_on begins
+  colon_same [] e = absurd cc
+  colon_same (c ∷ z) e = (sym (eqb_is c 58 e), λ _. refl)
 
--- ---- where a colon may not belong to a name
+  -- ---- where a colon may not belong to a name
 
-pub record Parted (front w begin rest : List ℕ) : Type 0 where
-  pub middle : List ℕ
-  pub front_is : front ≡ begin ++ middle
-  pub rest_is : rest ≡ middle ++ w
+  pub record Parted (front w begin rest : List ℕ) : Type 0 where
+    pub middle : List ℕ
+    pub front_is : front ≡ begin ++ middle
+    pub rest_is : rest ≡ middle ++ w
 
-part : (front w begin rest : List ℕ) → front ++ w ≡ begin ++ rest → length w ≤ length rest → Parted front w begin rest
-part front w [] rest e le = record { middle = front; front_is = refl; rest_is = sym e }
-part [] w (c ∷ begin) rest e le = absurd (omega (arith, ap length e, length-append begin rest))
-part (b ∷ front) w (c ∷ begin) rest e le =
-    let heads : b ≡ c = cc in
-    let tails : front ++ w ≡ begin ++ rest = cc in
-    let p = part front w begin rest tails le in
-    record { middle = p.middle; front_is = ap (λ (x : ℕ). x ∷ front) heads ∙ ap (λ (t : List ℕ). c ∷ t) p.front_is; rest_is = p.rest_is }
+  part : (front w begin rest : List ℕ) → front ++ w ≡ begin ++ rest → length w ≤ length rest → Parted front w begin rest
+  part front w [] rest e le = record { middle = front; front_is = refl; rest_is = sym e }
+  part [] w (c ∷ begin) rest e le = absurd (omega (arith, ap length e, length-append begin rest))
+  part (b ∷ front) w (c ∷ begin) rest e le =
+      let heads : b ≡ c = cc in
+      let tails : front ++ w ≡ begin ++ rest = cc in
+      let p = part front w begin rest tails le in
+      record { middle = p.middle; front_is = ap (λ (x : ℕ). x ∷ front) heads ∙ ap (λ (t : List ℕ). c ∷ t) p.front_is; rest_is = p.rest_is }
 
-last_is : (middle : List ℕ) (c : ℕ) → colon_letter ≡ middle ++ c ∷ [] → 98 ≡ c
-last_is [] c e = absurd (omega (arith, ap length e))
-last_is (a ∷ []) c e = cc
-last_is (a ∷ b ∷ middle) c e = absurd (omega (arith, ap length e, length-append middle (c ∷ [])))
+  last_is : (middle : List ℕ) (c : ℕ) → colon_letter ≡ middle ++ c ∷ [] → 98 ≡ c
+  last_is [] c e = absurd (omega (arith, ap length e))
+  last_is (a ∷ []) c e = cc
+  last_is (a ∷ b ∷ middle) c e = absurd (omega (arith, ap length e, length-append middle (c ∷ [])))
 
--- too deep a nesting is met at no letter
-deep_rest : (front begin rest : List ℕ) → front ++ colon_letter ≡ begin ++ rest → begins nests rest ≡ true → 2 ≤ length rest
-unfolding begins
-deep_rest front begin [] e n = absurd cc
-deep_rest front begin (c ∷ []) e n =
-    let p = part begin (c ∷ []) front colon_letter (sym e) (omega arith) in
-    let letter : nests 98 ≡ true = ap nests (last_is p.middle c p.rest_is) ∙ n in
-    absurd cc
-deep_rest front begin (c ∷ d ∷ rest) e n = omega arith
+  -- too deep a nesting is met at no letter
+  deep_rest : (front begin rest : List ℕ) → front ++ colon_letter ≡ begin ++ rest → begins nests rest ≡ true → 2 ≤ length rest
+  unfolding begins
+  deep_rest front begin [] e n = absurd cc
+  deep_rest front begin (c ∷ []) e n =
+      let p = part begin (c ∷ []) front colon_letter (sym e) (omega arith) in
+      let letter : nests 98 ≡ true = ap nests (last_is p.middle c p.rest_is) ∙ n in
+      absurd cc
+  deep_rest front begin (c ∷ d ∷ rest) e n = omega arith
 
-rest_len : (front : List ℕ) (d : Stop) (begin rest : List ℕ) → front ++ colon_letter ≡ begin ++ rest → IsAt d rest → passes (Err d) ≡ false → 2 ≤ length rest
-rest_len front Memory begin rest e i p = absurd i
-rest_len front (Unexpected left) begin rest e i p = rw i (grind (arith, nat_tests))
-rest_len front (TooDeep left) begin rest e i p = deep_rest front begin rest e i.1
+  rest_len : (front : List ℕ) (d : Stop) (begin rest : List ℕ) → front ++ colon_letter ≡ begin ++ rest → IsAt d rest → passes (Err d) ≡ false → 2 ≤ length rest
+  rest_len front Memory begin rest e i p = absurd i
+  rest_len front (Unexpected left) begin rest e i p = rw i (grind (arith, nat_tests))
+  rest_len front (TooDeep left) begin rest e i p = deep_rest front begin rest e i.1
 
-colon_refused : (front z : List ℕ) → takes_colon front ≡ false → is_at 58 z ≡ true → IsRefused (front ++ z)
-colon_refused front z alone at = go (read (front ++ colon_letter)) refl alone
-  where
-    by_fault : (d : Stop) → Left d (front ++ colon_letter) → passes (Err d) ≡ false → IsRefused (front ++ z)
-    by_fault d k p =
-        let q = part front colon_letter k.front k.rest k.parts (rest_len front d k.front k.rest k.parts k.left p) in
-        let near : Same k.rest (q.middle ++ z) = subst (λ (t : List ℕ). Same t (q.middle ++ z)) (sym q.rest_is) (head_in q.middle colon_letter z (colon_same z at)) in
-        let parts : front ++ z ≡ k.front ++ (q.middle ++ z) = ap (λ (t : List ℕ). t ++ z) q.front_is ∙ append_assoc k.front q.middle z in
-        (moved d (length (q.middle ++ z)), ap read parts ∙ k.same (q.middle ++ z) near)
+  colon_refused : (front z : List ℕ) → takes_colon levels front ≡ false → is_at 58 z ≡ true → IsRefused (front ++ z)
+  colon_refused front z alone at = go (read levels (front ++ colon_letter)) refl alone
+    where
+      by_fault : (d : Stop) → Left levels d (front ++ colon_letter) → passes (Err d) ≡ false → IsRefused (front ++ z)
+      by_fault d k p =
+          let q = part front colon_letter k.front k.rest k.parts (rest_len front d k.front k.rest k.parts k.left p) in
+          let near : Same k.rest (q.middle ++ z) = subst (λ (t : List ℕ). Same t (q.middle ++ z)) (sym q.rest_is) (head_in q.middle colon_letter z (colon_same z at)) in
+          let parts : front ++ z ≡ k.front ++ (q.middle ++ z) = ap (λ (t : List ℕ). t ++ z) q.front_is ∙ append_assoc k.front q.middle z in
+          (moved d (length (q.middle ++ z)), ap (read levels) parts ∙ k.same (q.middle ++ z) near)
 
-    go : (o : Result Expr Stop) → read (front ++ colon_letter) ≡ o → passes o ≡ false → IsRefused (front ++ z)
-    go (Ok e) r p = absurd cc
-    go (Err d) r p = by_fault d (failed d (front ++ colon_letter) r) p
+      go : (o : Result Expr Stop) → read levels (front ++ colon_letter) ≡ o → passes o ≡ false → IsRefused (front ++ z)
+      go (Ok e) r p = absurd cc
+      go (Err d) r p = by_fault d (failed levels d (front ++ colon_letter) r) p
 
--- ---- the place
+  -- ---- the place
 
--- what agrees up to and with the first byte of the rest
-none_from : (s front rest : List ℕ) → s ≡ front ++ rest → ((z : List ℕ) → SameHead rest z → IsRefused (front ++ z)) → HasNone s (length front)
-none_from s front rest parts refused = record { within = omega (arith, ap length parts, length-append front rest); none = none }
-  where
-    front_is : take (length front) s ≡ front
-    front_is = ap (λ (q : List ℕ). take (length front) q) parts ∙ take_at front rest (length front) refl
+  -- what agrees up to and with the first byte of the rest
+  none_from : (s front rest : List ℕ) → s ≡ front ++ rest → ((z : List ℕ) → SameHead rest z → IsRefused (front ++ z)) → HasNone levels s (length front)
+  none_from s front rest parts refused = record { within = omega (arith, ap length parts, length-append front rest); none = none }
+    where
+      front_is : take (length front) s ≡ front
+      front_is = ap (λ (q : List ℕ). take (length front) q) parts ∙ take_at front rest (length front) refl
 
-    rest_is : drop (length front) s ≡ rest
-    rest_is = ap (λ (q : List ℕ). drop (length front) q) parts ∙ drop_at front rest (length front) refl
+      rest_is : drop (length front) s ≡ rest
+      rest_is = ap (λ (q : List ℕ). drop (length front) q) parts ∙ drop_at front rest (length front) refl
 
-    none : (t : List ℕ) (e : Expr) → Agree (length front) s t → Whole t e → ⊥
-    none t e agree w =
-        let z = drop (length front) t in
-        let t_is : t ≡ front ++ z = sym (take-append-drop (length front) t) ∙ ap (λ (q : List ℕ). q ++ z) (agree.front ∙ front_is) in
-        let near : SameHead rest z = subst (λ (q : List ℕ). SameHead q z) rest_is agree.here in
-        let f = refused z near in
-        only_err t f.0 (ap read t_is ∙ f.1) e w
+      none : (t : List ℕ) (e : Expr) → Agree (length front) s t → WholeWithin levels t e → ⊥
+      none t e agree w =
+          let z = drop (length front) t in
+          let t_is : t ≡ front ++ z = sym (take-append-drop (length front) t) ∙ ap (λ (q : List ℕ). q ++ z) (agree.front ∙ front_is) in
+          let near : SameHead rest z = subst (λ (q : List ℕ). SameHead q z) rest_is agree.here in
+          let f = refused z near in
+          only_err levels t f.0 (ap (read levels) t_is ∙ f.1) e w
 
-none_plain : (d : Stop) (s : List ℕ) (k : Left d s) → is_at 58 k.rest ≡ false → HasNone s (length k.front)
-none_plain d s k plain = none_from s k.front k.rest k.parts (λ z h. (moved d (length z), k.same z (no_colon k.rest z plain h)))
+  none_plain : (d : Stop) (s : List ℕ) (k : Left levels d s) → is_at 58 k.rest ≡ false → HasNone levels s (length k.front)
+  none_plain d s k plain = none_from s k.front k.rest k.parts (λ z h. (moved d (length z), k.same z (no_colon k.rest z plain h)))
 
--- behind a colon that may belong to a name
-none_behind : (d : Stop) (s : List ℕ) (k : Left d s) → is_at 58 k.rest ≡ true → HasNone s (length k.front + 1)
-none_behind d s k at =
-    let u = drop 1 k.rest in
-    let front = k.front ++ 58 ∷ [] in
-    let rest_is : k.rest ≡ 58 ∷ u = byte_at 58 k.rest at in
-    let parts : s ≡ front ++ u = k.parts ∙ ap (λ (t : List ℕ). k.front ++ t) rest_is ∙ sym (append_assoc k.front (58 ∷ []) u) in
-    subst (HasNone s) (length-append k.front (58 ∷ []))
-    (none_from s front u parts (λ z h. (moved d (length (58 ∷ z)), ap read (append_assoc k.front (58 ∷ []) z) ∙ k.same (58 ∷ z) (subst (λ (t : List ℕ). Same t (58 ∷ z)) (sym rest_is) (same_behind 58 u z h)))))
+  -- behind a colon that may belong to a name
+  none_behind : (d : Stop) (s : List ℕ) (k : Left levels d s) → is_at 58 k.rest ≡ true → HasNone levels s (length k.front + 1)
+  none_behind d s k at =
+      let u = drop 1 k.rest in
+      let front = k.front ++ 58 ∷ [] in
+      let rest_is : k.rest ≡ 58 ∷ u = byte_at 58 k.rest at in
+      let parts : s ≡ front ++ u = k.parts ∙ ap (λ (t : List ℕ). k.front ++ t) rest_is ∙ sym (append_assoc k.front (58 ∷ []) u) in
+      subst (HasNone levels s) (length-append k.front (58 ∷ []))
+      (none_from s front u parts (λ z h. (moved d (length (58 ∷ z)), ap (read levels) (append_assoc k.front (58 ∷ []) z) ∙ k.same (58 ∷ z) (subst (λ (t : List ℕ). Same t (58 ∷ z)) (sym rest_is) (same_behind 58 u z h)))))
 
-colon_head : (r z : List ℕ) → SameHead r z → is_at 58 r ≡ true → is_at 58 z ≡ true
-unfolding is_at
-colon_head [] z h e = absurd cc
-colon_head (c ∷ r) [] h e = absurd h
-colon_head (c ∷ r) (d ∷ z) h e = ap (λ (x : ℕ). eqb x 58) (sym h) ∙ e
+  colon_head : (r z : List ℕ) → SameHead r z → is_at 58 r ≡ true → is_at 58 z ≡ true
+  unfolding is_at
+  colon_head [] z h e = absurd cc
+  colon_head (c ∷ r) [] h e = absurd h
+  colon_head (c ∷ r) (d ∷ z) h e = ap (λ (x : ℕ). eqb x 58) (sym h) ∙ e
 
--- the front of the byte at fault, by how many bytes are left
-front_len : (d : Stop) (s : List ℕ) (k : Left d s) (left : ℕ) → length k.rest ≡ left → length s - left ≡ length k.front
-front_len d s k left len = omega (arith, ap length k.parts, length-append k.front k.rest, len)
+  -- the front of the byte at fault, by how many bytes are left
+  front_len : (d : Stop) (s : List ℕ) (k : Left levels d s) (left : ℕ) → length k.rest ≡ left → length s - left ≡ length k.front
+  front_len d s k left len = omega (arith, ap length k.parts, length-append k.front k.rest, len)
 
-place_is : (d : Stop) (s : List ℕ) (k : Left d s) → place_of s (length k.front) ≡ cond (is_at 58 k.rest && takes_colon k.front) (length k.front + 1) (length k.front)
-place_is d s k =
-    let front_is : take (length k.front) s ≡ k.front = ap (λ (q : List ℕ). take (length k.front) q) k.parts ∙ take_at k.front k.rest (length k.front) refl in
-    let rest_is : drop (length k.front) s ≡ k.rest = ap (λ (q : List ℕ). drop (length k.front) q) k.parts ∙ drop_at k.front k.rest (length k.front) refl in
-    ap (λ (q : List ℕ). cond (is_at 58 q && takes_colon (take (length k.front) s)) (length k.front + 1) (length k.front)) rest_is ∙ ap (λ (q : List ℕ). cond (is_at 58 k.rest && takes_colon q) (length k.front + 1) (length k.front)) front_is
+  place_is : (d : Stop) (s : List ℕ) (k : Left levels d s) → place_of levels s (length k.front) ≡ cond (is_at 58 k.rest && takes_colon levels k.front) (length k.front + 1) (length k.front)
+  place_is d s k =
+      let front_is : take (length k.front) s ≡ k.front = ap (λ (q : List ℕ). take (length k.front) q) k.parts ∙ take_at k.front k.rest (length k.front) refl in
+      let rest_is : drop (length k.front) s ≡ k.rest = ap (λ (q : List ℕ). drop (length k.front) q) k.parts ∙ drop_at k.front k.rest (length k.front) refl in
+      ap (λ (q : List ℕ). cond (is_at 58 q && takes_colon levels (take (length k.front) s)) (length k.front + 1) (length k.front)) rest_is ∙ ap (λ (q : List ℕ). cond (is_at 58 k.rest && takes_colon levels q) (length k.front + 1) (length k.front)) front_is
 
-pub left_within : (s : List ℕ) (left : ℕ) → read s ≡ Err (Unexpected left) → left ≤ length s
-left_within s left e = let k = failed (Unexpected left) s e in omega (arith, ap length k.parts, length-append k.front k.rest, k.left)
+  pub left_within : (s : List ℕ) (left : ℕ) → read levels s ≡ Err (Unexpected left) → left ≤ length s
+  left_within s left e = let k = failed levels (Unexpected left) s e in omega (arith, ap length k.parts, length-append k.front k.rest, k.left)
 
-pub none_left : (s : List ℕ) (left : ℕ) → read s ≡ Err (Unexpected left) → HasNone s (place_of s (length s - left))
-none_left s left e =
-    let len : length s - left ≡ length k.front = front_len (Unexpected left) s k left k.left in
-    subst (HasNone s) (sym (ap (place_of s) len ∙ place_is (Unexpected left) s k)) (go (is_at 58 k.rest) (takes_colon k.front) refl refl)
-  where
-    k : Left (Unexpected left) s
-    k = failed (Unexpected left) s e
+  pub none_left : (s : List ℕ) (left : ℕ) → read levels s ≡ Err (Unexpected left) → HasNone levels s (place_of levels s (length s - left))
+  none_left s left e =
+      let len : length s - left ≡ length k.front = front_len (Unexpected left) s k left k.left in
+      subst (HasNone levels s) (sym (ap (place_of levels s) len ∙ place_is (Unexpected left) s k)) (go (is_at 58 k.rest) (takes_colon levels k.front) refl refl)
+    where
+      k : Left levels (Unexpected left) s
+      k = failed levels (Unexpected left) s e
 
-    go : (a b : Bool) → is_at 58 k.rest ≡ a → takes_colon k.front ≡ b → HasNone s (cond (a && b) (length k.front + 1) (length k.front))
-    go false b a-is b-is = none_plain (Unexpected left) s k a-is
-    go true false a-is b-is = none_from s k.front k.rest k.parts (λ z h. colon_refused k.front z b-is (colon_head k.rest z h a-is))
-    go true true a-is b-is = none_behind (Unexpected left) s k a-is
+      go : (a b : Bool) → is_at 58 k.rest ≡ a → takes_colon levels k.front ≡ b → HasNone levels s (cond (a && b) (length k.front + 1) (length k.front))
+      go false b a-is b-is = none_plain (Unexpected left) s k a-is
+      go true false a-is b-is = none_from s k.front k.rest k.parts (λ z h. colon_refused k.front z b-is (colon_head k.rest z h a-is))
+      go true true a-is b-is = none_behind (Unexpected left) s k a-is
 
-deep_plain : (rest : List ℕ) → begins nests rest ≡ true → is_at 58 rest ≡ false
-unfolding begins is_at
-deep_plain [] e = absurd cc
-deep_plain (c ∷ rest) e = grind (arith, nat_tests)
+  deep_plain : (rest : List ℕ) → begins nests rest ≡ true → is_at 58 rest ≡ false
+  unfolding begins is_at
+  deep_plain [] e = absurd cc
+  deep_plain (c ∷ rest) e = grind (arith, nat_tests)
 
-pub none_deep : (s : List ℕ) (left : ℕ) → read s ≡ Err (TooDeep left) → HasNone s (length s - left)
-none_deep s left e =
-    let k = failed (TooDeep left) s e in
-    subst (HasNone s) (sym (front_len (TooDeep left) s k left k.left.0)) (none_plain (TooDeep left) s k (deep_plain k.rest k.left.1))
+  pub none_deep : (s : List ℕ) (left : ℕ) → read levels s ≡ Err (TooDeep left) → HasNone levels s (length s - left)
+  none_deep s left e =
+      let k = failed levels (TooDeep left) s e in
+      subst (HasNone levels s) (sym (front_len (TooDeep left) s k left k.left.0)) (none_plain (TooDeep left) s k (deep_plain k.rest k.left.1))
 
-pub nests_deep : (s : List ℕ) (left : ℕ) → read s ≡ Err (TooDeep left) → begins nests (drop (length s - left) s) ≡ true
-nests_deep s left e =
-    let k = failed (TooDeep left) s e in
-    let rest_is : drop (length k.front) s ≡ k.rest = ap (λ (q : List ℕ). drop (length k.front) q) k.parts ∙ drop_at k.front k.rest (length k.front) refl in
-    ap (λ (n : ℕ). begins nests (drop n s)) (front_len (TooDeep left) s k left k.left.0) ∙ ap (begins nests) rest_is ∙ k.left.1
+  pub nests_deep : (s : List ℕ) (left : ℕ) → read levels s ≡ Err (TooDeep left) → begins nests (drop (length s - left) s) ≡ true
+  nests_deep s left e =
+      let k = failed levels (TooDeep left) s e in
+      let rest_is : drop (length k.front) s ≡ k.rest = ap (λ (q : List ℕ). drop (length k.front) q) k.parts ∙ drop_at k.front k.rest (length k.front) refl in
+      ap (λ (n : ℕ). begins nests (drop n s)) (front_len (TooDeep left) s k left k.left.0) ∙ ap (begins nests) rest_is ∙ k.left.1

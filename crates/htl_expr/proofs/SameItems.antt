@@ -1,5 +1,5 @@
 -- Two lists have the same items where they are as long and no two items at one place differ.
-use Rattle.std.proofs.Common.{◌≡◌, ◌≢◌, ◌<◌, ℕ, suc, ℤ, ◌^◌, Bool, true, false, ◌&&◌, List, [], ◌∷◌, length, get_or, map, refl, sym, ap, ◌∙◌}
+use Rattle.std.proofs.Common.{◌≡◌, ◌≢◌, ◌<◌, ℕ, suc, ℤ, ◌^◌, Bool, true, false, ◌&&◌, List, [], ◌∷◌, length, get_or, map, refl, sym, ap, subst, ◌∙◌}
 use Rattle.std.specs.Cmp.Lexicographic.{pointwise}
 use Rattle.std.specs.Ordering.{int_eq}
 use Rattle.std.specs.Prelude.{nat_eq}
@@ -60,3 +60,22 @@ same_as_no_list out.Nothing b e f = absurd cc
 same_as_no_list (out.Truth a) b e f = absurd cc
 same_as_no_list (out.Long a) b e f = absurd cc
 same_as_no_list (out.Text a) b e f = absurd cc
+
+-- what is the same as itself
+texts_same : (texts : List (List ℕ)) → pointwise (pointwise nat_eq) texts texts ≡ true
+texts_same [] = refl
+texts_same (t ∷ texts) = rw (bytes_same t) (texts_same texts)
+  where
+    bytes_same : (bytes : List ℕ) → pointwise nat_eq bytes bytes ≡ true
+    bytes_same bytes = (bytes_eq-Decides bytes bytes).1 refl
+
+same_as_itself : (a : Out) → is_same a a ≡ true
+same_as_itself out.Nothing = refl
+same_as_itself (out.Truth true) = refl
+same_as_itself (out.Truth false) = refl
+same_as_itself (out.Long n) = (Decides-int_eq n n).1 refl
+same_as_itself (out.Text text) = (bytes_eq-Decides text text).1 refl
+same_as_itself (out.List texts) = texts_same texts
+
+pub same_where_one : (a b : Out) → a ≡ b → is_same a b ≡ true
+same_where_one a b e = subst (λ (x : Out). is_same a x ≡ true) e (same_as_itself a)

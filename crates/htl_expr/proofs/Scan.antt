@@ -3,7 +3,7 @@ use Rattle.std.proofs.Common.{◌≡◌, ◌<◌, ◌≤◌, ◌+◌, ℕ, suc, 
 use Rattle.std.specs.Str.{IsCharBoundary}
 use Rattle.std.proofs.lemmas.List.{get_or-drop}
 use Rattle.std.proofs.lemmas.Bool.Decides.{nat_tests}
-use Rattle.htl_expr.specs.Tokens.{begins, is_at, is_blank, is_digit, is_letter, is_word, skip, goes_on, run_len, AreAscii}
+use Rattle.htl_expr.specs.Tokens.{begins, is_at, is_blank, is_digit, is_letter, is_word, skip, goes_on, name_len, AreAscii}
 use Rattle.htl_expr.specs.declared.tokens.NameKind.{NameKind}
 use Rattle.htl_expr.specs.declared.tokens.NameKind.TheVariants.{Name, Field}
 
@@ -48,15 +48,15 @@ name_front Name t h = at_ascii is_word t word_ascii h
 name_front Field [] h = absurd cc
 name_front Field (c ∷ t) h = grind (arith, nat_tests)
 
-pub run_more : (kind : NameKind) (t : List ℕ) → goes_on kind t ≡ true → run_len kind t ≡ suc (run_len kind (drop 1 t))
-unfolding run_len goes_on begins
+pub run_more : (kind : NameKind) (t : List ℕ) → goes_on kind t ≡ true → name_len kind t ≡ suc (name_len kind (drop 1 t))
+unfolding name_len goes_on begins
 run_more Name [] h = absurd cc
 run_more Field [] h = absurd cc
 run_more Name (c ∷ t) h = rw h refl
 run_more Field (c ∷ t) h = rw h refl
 
-pub run_none : (kind : NameKind) (t : List ℕ) → goes_on kind t ≡ false → run_len kind t ≡ 0
-unfolding run_len
+pub run_none : (kind : NameKind) (t : List ℕ) → goes_on kind t ≡ false → name_len kind t ≡ 0
+unfolding name_len
 run_none kind [] h = refl
 run_none kind (c ∷ t) h = rw h refl
 

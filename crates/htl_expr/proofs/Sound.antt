@@ -80,8 +80,8 @@ chain_sound sep depth item (suc k) found t p ih e =
       | inr h ↦ subst (Longer sep depth found t) (ok_is _ _ h.1) ([], sym (append-nil found), g.end)
     ]
 
-bracketed_sound : (depth : ℕ) (t : List ℕ) (x : List ℕ × List ℕ) → is_at 91 t ≡ true → spec.bracketed depth t ≡ Ok x → Access depth t x.0 x.1
-unfolding spec.bracketed
+bracketed_sound : (depth : ℕ) (t : List ℕ) (x : List ℕ × List ℕ) → is_at 91 t ≡ true → spec.bracket_access depth t ≡ Ok x → Access depth t x.0 x.1
+unfolding spec.bracket_access
 bracketed_sound zero t x at e = absurd cc
 bracketed_sound (suc d) t x at e =
     elim (chosen (eqb (suc d) 0) _ _ _ e) [
@@ -126,13 +126,13 @@ accesses_sound depth (suc k) found t p e =
 
 -- ---- a part without brackets of its own
 
-named_sound : (depth : ℕ) → Sound Start depth (spec.named depth)
-unfolding spec.named
+named_sound : (depth : ℕ) → Sound Start depth (spec.name_or_object depth)
+unfolding spec.name_or_object
 named_sound depth s p e =
-    let x = bind_ok (name Name s) (λ x. spec.named_of depth (spec.object_of x.0) x.0 x.1) p e in
+    let x = bind_ok (name Name s) (λ x. spec.name_or_object_of depth (spec.object_of x.0) x.0 x.1) p e in
     go (spec.object_of x.0.0) x.0 refl (name_sound Name s x.0 x.1) x.2
   where
-    go : (o : Option (List ℕ → Node)) (w : List ℕ × List ℕ) → spec.object_of w.0 ≡ o → g.Named Name s w.0 w.1 → spec.named_of depth o w.0 w.1 ≡ Ok p → Gave Start depth s p
+    go : (o : Option (List ℕ → Node)) (w : List ℕ × List ℕ) → spec.object_of w.0 ≡ o → g.NameToken Name s w.0 w.1 → spec.name_or_object_of depth o w.0 w.1 ≡ Ok p → Gave Start depth s p
     go None w o-is t e' = subst (Gave Start depth s) (ok_is _ _ e') (g.name t o-is)
     go (Some make) w o-is t e' =
         let f = bind_ok (spec.first_access depth w.1) (λ f. Ok (make f.0, f.1)) p e' in
@@ -180,8 +180,8 @@ module _ (depth : ℕ) (inner : Inside → List ℕ → Outcome Node) (deeper : 
   atom_sound : Sound Atom depth (spec.atom depth inner)
   unfolding spec.atom
   atom_sound s p e =
-      let x = bind_ok (spec.start depth inner s) (λ x. spec.accesses depth (length x.1) [] x.1 >>= λ fs. Ok (spec.accessed x.0 fs.0, fs.1)) p e in
-      let fs = bind_ok (spec.accesses depth (length x.0.1) [] x.0.1) (λ fs. Ok (spec.accessed x.0.0 fs.0, fs.1)) p x.2 in
+      let x = bind_ok (spec.start depth inner s) (λ x. spec.accesses depth (length x.1) [] x.1 >>= λ fs. Ok (spec.access_of x.0 fs.0, fs.1)) p e in
+      let fs = bind_ok (spec.accesses depth (length x.0.1) [] x.0.1) (λ fs. Ok (spec.access_of x.0.0 fs.0, fs.1)) p x.2 in
       let f = accesses_sound depth (length x.0.1) [] x.0.1 fs.0 fs.1 in
       subst (Gave Atom depth s) (ok_is _ _ fs.2)
       (g.atom (start_sound s x.0 x.1) (subst (λ (l : List (List ℕ)). Accesses depth x.0.1 l fs.0.1) (sym f.1) f.2))
@@ -251,12 +251,12 @@ module _ (depth : ℕ) (inner : Inside → List ℕ → Outcome Node) (deeper : 
             subst (Gave Items depth s) (ap (λ (es : List Node). (n.List es, xs.0.1)) (sym l.1) ∙ ok_is _ _ xs.2) (g.items (choice_sound s x.0 x.1) l.2)
       ]
 
-pub nested_sound : (depth : ℕ) → Inner depth (spec.nested depth)
-unfolding spec.nested
+pub nested_sound : (depth : ℕ) → Inner depth (spec.nesting depth)
+unfolding spec.nesting
 nested_sound zero which s p e = absurd cc
-nested_sound (suc d) i.Choice s p e = choice_sound d (spec.nested d) (nested_sound d) (skip (drop 1 s)) p e
-nested_sound (suc d) i.Operand s p e = operand_sound d (spec.nested d) (nested_sound d) (skip (drop 1 s)) p e
-nested_sound (suc d) i.Items s p e = items_sound d (spec.nested d) (nested_sound d) (skip (drop 1 s)) p e
+nested_sound (suc d) i.Choice s p e = choice_sound d (spec.nesting d) (nested_sound d) (skip (drop 1 s)) p e
+nested_sound (suc d) i.Operand s p e = operand_sound d (spec.nesting d) (nested_sound d) (skip (drop 1 s)) p e
+nested_sound (suc d) i.Items s p e = items_sound d (spec.nesting d) (nested_sound d) (skip (drop 1 s)) p e
 
-pub sound : (depth : ℕ) → Sound Choice depth (spec.choice depth (spec.nested depth))
-sound depth = choice_sound depth (spec.nested depth) (nested_sound depth)
+pub sound : (depth : ℕ) → Sound Choice depth (spec.choice depth (spec.nesting depth))
+sound depth = choice_sound depth (spec.nesting depth) (nested_sound depth)

@@ -1,7 +1,7 @@
 -- Steps of reading a string.
 use Rattle.std.proofs.Common.{◌≡◌, ◌<◌, ◌≤◌, ℕ, suc, Bool, true, false, cond, ◌||◌, eqb, List, [], ◌∷◌, ◌++◌, take, drop, length, slice_index, Option, Some, None, Ok, Err, refl, ap, sym, ◌∙◌, arith, append_assoc}
 use Rattle.std.proofs.lemmas.Bool.Decides.{nat_tests}
-use Rattle.htl_expr.specs.Tokens.{Outcome, ◌>>=◌, is_at, is_quote, skip, unescape, escape, escape_of, escaped, plain_len, in_front, string_from, Fails, done}
+use Rattle.htl_expr.specs.Tokens.{Outcome, ◌>>=◌, is_at, is_quote, skip, unescape, escape, escape_of, string_after_escape, plain_len, in_front, string_from, Fails, done}
 use Rattle.std.specs.Str.{IsCharBoundary}
 use Rattle.std.proofs.lemmas.List.{append-nil, length-drop}
 use Rattle.htl_expr.specs.declared.stop.Stop.{Stop}
@@ -40,7 +40,7 @@ unfolding string_from escape
 escape_step mark [] = refl
 escape_step mark (c ∷ t) = go (unescape c)
   where
-    go : (o : Option ℕ) → escaped o (c ∷ t) (string_from false mark t) ≡ (escape_of o (c ∷ t) >>= λ d. in_front (d.0 ∷ []) (string_from false mark d.1))
+    go : (o : Option ℕ) → string_after_escape o (c ∷ t) (string_from false mark t) ≡ (escape_of o (c ∷ t) >>= λ d. in_front (d.0 ∷ []) (string_from false mark d.1))
     go None = refl
     go (Some d) = refl
 

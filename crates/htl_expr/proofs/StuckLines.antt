@@ -147,12 +147,12 @@ module _ (depth : ℕ) (inner : Inside → List ℕ → Outcome Node) (deeper : 
 
   atom_stuck : Sticks Atom depth (spec.atom depth inner)
   unfolding spec.atom
-  atom_stuck s d k e a = elim (bind_err (spec.start depth inner s) (λ x. spec.accesses depth (length x.1) [] x.1 >>= λ fs. Ok (spec.accessed x.0 fs.0, fs.1)) d e) [
+  atom_stuck s d k e a = elim (bind_err (spec.start depth inner s) (λ x. spec.accesses depth (length x.1) [] x.1 >>= λ fs. Ok (spec.access_of x.0 fs.0, fs.1)) d e) [
     | inl at ↦ stuck_map (SomePart Start depth) (SomePart Atom depth) s k (part.start_atom depth) (start_stuck s d k at a)
     | inr x ↦
-        elim (bind_err (spec.accesses depth (length x.0.1) [] x.0.1) (λ fs. Ok (spec.accessed x.0.0 fs.0, fs.1)) d x.2) [
+        elim (bind_err (spec.accesses depth (length x.0.1) [] x.0.1) (λ fs. Ok (spec.access_of x.0.0 fs.0, fs.1)) d x.2) [
           | inl at ↦
-              stuck_map (Then (SomePart Start depth) (SomeAccesses depth)) (SomePart Atom depth) s k (λ s' r' y. (spec.accessed y.1.0 y.2.0, g.atom y.1.1 y.2.1))
+              stuck_map (Then (SomePart Start depth) (SomeAccesses depth)) (SomePart Atom depth) s k (λ s' r' y. (spec.access_of y.1.0 y.2.0, g.atom y.1.1 y.2.1))
               (moves_stuck (SomePart Start depth) (SomeAccesses depth) s x.0.1 k (moves_some Start depth s x.0.0 x.0.1 (sound.start_sound depth inner deeper s x.0 x.1)) (accesses_stuck depth (length x.0.1) [] x.0.1 d k at a))
           | inr at ↦ absurd (let y = at.2 in cc)
         ]
@@ -278,11 +278,11 @@ module _ (depth : ℕ) (inner : Inside → List ℕ → Outcome Node) (deeper : 
   level_stuck i.Operand s d k e a = operand_stuck s d k e a
   level_stuck i.Items s d k e a = items_stuck s d k e a
 
-nested_stuck : (depth : ℕ) → InnerSticks depth (spec.nested depth)
-unfolding spec.nested
+nested_stuck : (depth : ℕ) → InnerSticks depth (spec.nesting depth)
+unfolding spec.nesting
 nested_stuck zero which s d k e a = at_depth (length s) d k e a
-nested_stuck (suc depth) which s d k e a = level_stuck depth (spec.nested depth) (sound.nested_sound depth) (nested_stuck depth) which (skip (drop 1 s)) d k e a
+nested_stuck (suc depth) which s d k e a = level_stuck depth (spec.nesting depth) (sound.nested_sound depth) (nested_stuck depth) which (skip (drop 1 s)) d k e a
 
 -- a choice in which reading stopped, for any reason but a lack of memory
-pub stuck : (depth : ℕ) → Sticks Choice depth (spec.choice depth (spec.nested depth))
-stuck depth = level_stuck depth (spec.nested depth) (sound.nested_sound depth) (nested_stuck depth) i.Choice
+pub stuck : (depth : ℕ) → Sticks Choice depth (spec.choice depth (spec.nesting depth))
+stuck depth = level_stuck depth (spec.nesting depth) (sound.nested_sound depth) (nested_stuck depth) i.Choice

@@ -6,7 +6,7 @@ use Rattle.htl_expr.specs.declared.node.Node.TheVariants as n
 use Rattle.htl_expr.specs.declared.tokens.NameKind.TheVariants.{Name}
 use Rattle.htl_expr.specs.Tokens.{Outcome, ◌>>=◌, skip, is_at, begins, goes_on, is_digit, is_quote, is_first, expect, name, number, string}
 use Rattle.htl_expr.specs.Read as spec
-use Rattle.htl_expr.specs.Grammar.{Byte, Named, String, Separator, And, Or, Comma, Separates, Part, part_of, Choice, Either, Both, Compare, Operand, Atom, Start, Reads, More, Access, Accesses}
+use Rattle.htl_expr.specs.Grammar.{Byte, NameToken, String, Separator, And, Or, Comma, Separates, Part, part_of, Choice, Either, Both, Compare, Operand, Atom, Start, Reads, More, Access, Accesses}
 use Rattle.htl_expr.specs.Grammar as g
 use Rattle.htl_expr.proofs.Tools.{chosen}
 use Rattle.htl_expr.proofs.TokensRead.{byte, name_sound, string_sound}
@@ -16,7 +16,7 @@ use Rattle.htl_expr.proofs.Sound as sound
 use Rattle.htl_expr.proofs.Sound.{byte_of}
 use Rattle.htl_expr.proofs.Local.{bind_err}
 use Rattle.htl_expr.proofs.Moves.{Plain, settled_at, plain_settled, fits_near, Moves, Then, moves_of, moves_map}
-use Rattle.htl_expr.proofs.MovesTokens.{byte_steps, string_steps, StringOf, name_moves, NamedOf}
+use Rattle.htl_expr.proofs.MovesTokens.{byte_steps, string_steps, StringOf, name_moves, NameTokenOf}
 use Rattle.htl_expr.proofs.MovesParts.{AccessOf, access_moves, MoreOf, more_moves, separates_steps, ReadsOf, reads_moves}
 use Rattle.htl_expr.proofs.Stuck.{At, at_length, at_depth, Stuck, Late, stuck_map, late_map, moves_stuck, moves_late, steps_late, stuck_then, Quiet}
 use Rattle.htl_expr.proofs.StuckTokens as token
@@ -56,8 +56,8 @@ access_missing depth t k e = record {
   later = λ z p. inr (dot_plain (95 ∷ z));
 }
 
-bracketed_stuck : (depth : ℕ) (t : List ℕ) (d : Stop) (k : ℕ) → is_at 91 t ≡ true → spec.bracketed depth t ≡ Err d → At d k → Late (SomeAccess depth) t k
-unfolding spec.bracketed
+bracketed_stuck : (depth : ℕ) (t : List ℕ) (d : Stop) (k : ℕ) → is_at 91 t ≡ true → spec.bracket_access depth t ≡ Err d → At d k → Late (SomeAccess depth) t k
+unfolding spec.bracket_access
 bracketed_stuck zero t d k at e a = access_missing zero t k (at_depth (length t) d k e a)
 bracketed_stuck (suc depth) t d k at e a = elim (chosen (eqb (suc depth) 0) _ _ _ e) [
   | inl h ↦ access_missing (suc depth) t k (at_depth (length t) d k h.1 a)
@@ -157,18 +157,18 @@ one_choice depth z p = either_choice depth (operand z) z (both_either depth (ope
 pub start_missing : (depth : ℕ) (s : List ℕ) (k : ℕ) → length s ≡ k → Stuck (SomePart Start depth) s k
 start_missing depth s k e = record { front = []; rest = s; more = 39 ∷ 39 ∷ []; parts = refl; left = e; near = λ z p. inr (refl, refl, refl); ends = one_start depth }
 
-object_stuck : (depth : ℕ) (s w m : List ℕ) (o : Option (List ℕ → Node)) (d : Stop) (k : ℕ) → spec.object_of w ≡ o → Named Name s w m → spec.named_of depth o w m ≡ Err d → At d k → Stuck (SomePart Start depth) s k
+object_stuck : (depth : ℕ) (s w m : List ℕ) (o : Option (List ℕ → Node)) (d : Stop) (k : ℕ) → spec.object_of w ≡ o → NameToken Name s w m → spec.name_or_object_of depth o w m ≡ Err d → At d k → Stuck (SomePart Start depth) s k
 object_stuck depth s w m None d k o t e a = absurd cc
 object_stuck depth s w m (Some make) d k o t e a = elim (bind_err (spec.first_access depth m) (λ f. Ok (make f.0, f.1)) d e) [
   | inl at ↦
-      stuck_map (Then (NamedOf Name w) (SomeAccess depth)) (SomePart Start depth) s k (λ s' r' x. (make x.2.0, g.object x.1 o x.2.1))
-      (moves_stuck (NamedOf Name w) (SomeAccess depth) s m k (name_moves Name s w m t) (first_access_stuck depth m d k at a))
+      stuck_map (Then (NameTokenOf Name w) (SomeAccess depth)) (SomePart Start depth) s k (λ s' r' x. (make x.2.0, g.object x.1 o x.2.1))
+      (moves_stuck (NameTokenOf Name w) (SomeAccess depth) s m k (name_moves Name s w m t) (first_access_stuck depth m d k at a))
   | inr at ↦ absurd (let x = at.2 in cc)
 ]
 
-named_stuck : (depth : ℕ) → Sticks Start depth (spec.named depth)
-unfolding spec.named name
-named_stuck depth s d k e a = elim (bind_err (name Name s) (λ x. spec.named_of depth (spec.object_of x.0) x.0 x.1) d e) [
+named_stuck : (depth : ℕ) → Sticks Start depth (spec.name_or_object depth)
+unfolding spec.name_or_object name
+named_stuck depth s d k e a = elim (bind_err (name Name s) (λ x. spec.name_or_object_of depth (spec.object_of x.0) x.0 x.1) d e) [
   | inl at ↦
       elim (chosen (begins is_first s) _ _ _ at) [
         | inl h ↦ absurd (let x = h.1 in cc)

@@ -4,10 +4,10 @@ use Rattle.htl_expr.specs.declared.stop.Stop.{Stop}
 use Rattle.htl_expr.specs.declared.tokens.NameKind.TheVariants.{Field}
 use Rattle.htl_expr.specs.declared.node.Comparison.{Comparison}
 use Rattle.htl_expr.specs.declared.node.Comparison.TheVariants.{Equal, NotEqual}
-use Rattle.htl_expr.specs.Tokens.{is_at, begins, goes_on, is_first, is_digit, is_quote, expect, second, name, unescape, escaped, string, string_from, digits, number, digit_fits, limit}
+use Rattle.htl_expr.specs.Tokens.{is_at, begins, goes_on, is_first, is_digit, is_quote, expect, second, name, unescape, string_after_escape, string, string_from, digits, number, digit_fits, limit}
 use Rattle.htl_expr.specs.Read as spec
 use Rattle.htl_expr.specs.Fault.{SameHead}
-use Rattle.htl_expr.specs.Grammar.{Byte, Operator, Named, Quoted, String, Number, Compares}
+use Rattle.htl_expr.specs.Grammar.{Byte, Operator, NameToken, StringBody, String, Number, Compares}
 use Rattle.htl_expr.specs.Grammar as g
 use Rattle.htl_expr.proofs.Tools.{chosen}
 use Rattle.htl_expr.proofs.TokensRead.{eqb_is, byte_at}
@@ -67,8 +67,8 @@ abbrev pub SomeString : List ℕ → List ℕ → Type 0
 SomeString s r = (w : List ℕ) × String s w r
 
 abbrev Body : Bool → ℕ → List ℕ → List ℕ → Type 0
-Body true mark s z = (w : List ℕ) × Quoted mark (92 ∷ s) w z
-Body false mark s z = (w : List ℕ) × Quoted mark s w z
+Body true mark s z = (w : List ℕ) × StringBody mark (92 ∷ s) w z
+Body false mark s z = (w : List ℕ) × StringBody mark s w z
 
 record Unclosed (b : Bool) (mark : ℕ) (s : List ℕ) (k : ℕ) : Type 0 where
   front : List ℕ
@@ -84,7 +84,7 @@ unclosed true mark [] d k e a = record { front = []; rest = []; more = 110 ∷ m
 unclosed false mark [] d k e a = record { front = []; rest = []; more = mark ∷ []; parts = refl; left = at_length 0 d k e a; ends = λ z. ([], g.closes) }
 unclosed true mark (c ∷ s) d k e a = go (unescape c) refl e (λ w. unclosed false mark s d k w a)
   where
-    go : (o : Option ℕ) → unescape c ≡ o → escaped o (c ∷ s) (string_from false mark s) ≡ Err d → (string_from false mark s ≡ Err d → Unclosed false mark s k) → Unclosed true mark (c ∷ s) k
+    go : (o : Option ℕ) → unescape c ≡ o → string_after_escape o (c ∷ s) (string_from false mark s) ≡ Err d → (string_from false mark s ≡ Err d → Unclosed false mark s k) → Unclosed true mark (c ∷ s) k
     go None u w ih = record { front = []; rest = c ∷ s; more = 110 ∷ mark ∷ []; parts = refl; left = at_length (length (c ∷ s)) d k w a; ends = λ z. (10 ∷ [], g.escape refl g.closes) }
     go (Some x) u w ih = elim (bind_err (string_from false mark s) (λ y. Ok ((x ∷ []) ++ y.0, y.1)) d w) [
       | inl at ↦
@@ -98,7 +98,7 @@ unclosed false mark (c ∷ s) d k e a = elim (chosen (eqb c mark) _ _ _ e) [
       elim (chosen (eqb c 92) _ _ _ h.1) [
         | inl j ↦
             let i = unclosed true mark s d k j.1 a in
-            record { front = c ∷ i.front; rest = i.rest; more = i.more; parts = ap (λ (t : List ℕ). c ∷ t) i.parts; left = i.left; ends = λ z. ((i.ends z).0, subst (λ (b : ℕ). Quoted mark (b ∷ (i.front ++ (i.more ++ z))) (i.ends z).0 z) (sym (eqb_is c 92 j.0)) (i.ends z).1) }
+            record { front = c ∷ i.front; rest = i.rest; more = i.more; parts = ap (λ (t : List ℕ). c ∷ t) i.parts; left = i.left; ends = λ z. ((i.ends z).0, subst (λ (b : ℕ). StringBody mark (b ∷ (i.front ++ (i.more ++ z))) (i.ends z).0 z) (sym (eqb_is c 92 j.0)) (i.ends z).1) }
         | inr j ↦
             elim (bind_err (string_from false mark s) (λ x. Ok ((c ∷ []) ++ x.0, x.1)) d j.1) [
               | inl at ↦
@@ -136,9 +136,9 @@ string_stuck (c ∷ s) d k e a = elim (chosen (is_quote c) _ _ _ e) [
 -- ---- names and numbers
 
 abbrev pub SomeField : List ℕ → List ℕ → Type 0
-SomeField s r = (f : List ℕ) × Named Field s f r
+SomeField s r = (f : List ℕ) × NameToken Field s f r
 
-pub one_field : (z : List ℕ) → Plain z → Named Field (95 ∷ z) (95 ∷ []) z
+pub one_field : (z : List ℕ) → Plain z → NameToken Field (95 ∷ z) (95 ∷ []) z
 unfolding begins goes_on
 one_field z p = record { after = z; parts = refl; first = refl; passes = (refl, tt); longest = plain_ends Field z p; rest = sym (plain_settled z p) }
 

@@ -8,7 +8,7 @@ use Rattle.htl_expr.specs.declared.expression.Context.{Context}
 use Rattle.htl_expr.specs.declared.expression.Expr.{Expr}
 use Rattle.htl_expr.specs.Tokens.{◌>>=◌, skip, is_at, goes_on}
 use Rattle.htl_expr.specs.Read as spec
-use Rattle.htl_expr.specs.Grammar.{Byte, Join, InContext, Options, Tree, Whole, Choice}
+use Rattle.htl_expr.specs.Grammar.{Byte, Join, InContext, Options, Tree, WholeWithin, Choice}
 use Rattle.htl_expr.specs.Grammar as g
 use Rattle.htl_expr.specs.Fault.{SameHead, MayGoOn}
 use Rattle.htl_expr.proofs.Tools.{bind_ok, chosen, ok_is}
@@ -183,62 +183,63 @@ options_moves t p e = elim (chosen (is_at 64 t) _ _ _ e) [
 
 -- ---- the tree before the options
 
-abbrev SomeTree : List ℕ → List ℕ → Type 0
-SomeTree s r = (o : Option Node) × Tree s o r
+module _ (levels : ℕ) where
+  abbrev SomeTree : List ℕ → List ℕ → Type 0
+  SomeTree s r = (o : Option Node) × Tree levels s o r
 
-tree_moves : (s : List ℕ) (o : Option Node) (r : List ℕ) → Tree s o r → Moves SomeTree s r
-tree_moves s None r x = subst (λ (t : List ℕ). Moves SomeTree s t) (sym x) (none_moves SomeTree s (λ z. (None, refl)))
-tree_moves s (Some e) r x = moves_map (ReadsOf Choice 32 e) SomeTree s r (λ s' r' y. (Some e, y)) (reads_moves Choice 32 s e r x)
+  tree_moves : (s : List ℕ) (o : Option Node) (r : List ℕ) → Tree levels s o r → Moves SomeTree s r
+  tree_moves s None r x = subst (λ (t : List ℕ). Moves SomeTree s t) (sym x) (none_moves SomeTree s (λ z. (None, refl)))
+  tree_moves s (Some e) r x = moves_map (ReadsOf Choice levels e) SomeTree s r (λ s' r' y. (Some e, y)) (reads_moves Choice levels s e r x)
 
-tree_stuck : (s : List ℕ) (d : Stop) (k : ℕ) → spec.first s ≡ Err d → At d k → Stuck SomeTree s k
-unfolding spec.first
-tree_stuck s d k e a = elim (chosen (eqb (length s) 0 || is_at 64 s) _ _ _ e) [
-  | inl h ↦ absurd (let x = h.1 in cc)
-  | inr h ↦
-      elim (bind_err (spec.choice 32 (spec.nested 32) s) (λ x. Ok (Some x.0, x.1)) d h.1) [
-        | inl at ↦ stuck_map (λ s' r'. (e : Node) × g.Reads Choice 32 s' e r') SomeTree s k (λ s' r' x. (Some x.0, x.1)) (stuck 32 s d k at a)
-        | inr at ↦ absurd (let x = at.2 in cc)
-      ]
-]
+  tree_stuck : (s : List ℕ) (d : Stop) (k : ℕ) → spec.first levels s ≡ Err d → At d k → Stuck SomeTree s k
+  unfolding spec.first
+  tree_stuck s d k e a = elim (chosen (eqb (length s) 0 || is_at 64 s) _ _ _ e) [
+    | inl h ↦ absurd (let x = h.1 in cc)
+    | inr h ↦
+        elim (bind_err (spec.choice levels (spec.nesting levels) s) (λ x. Ok (Some x.0, x.1)) d h.1) [
+          | inl at ↦ stuck_map (λ s' r'. (e : Node) × g.Reads Choice levels s' e r') SomeTree s k (λ s' r' x. (Some x.0, x.1)) (stuck levels s d k at a)
+          | inr at ↦ absurd (let x = at.2 in cc)
+        ]
+  ]
 
--- ---- the whole
+  -- ---- the whole
 
-abbrev Text : List ℕ → List ℕ → Type 0
-Text = Then SomeTree SomeOptions
+  abbrev Text : List ℕ → List ℕ → Type 0
+  Text = Then SomeTree SomeOptions
 
-text_stuck : (s : List ℕ) (d : Stop) (k : ℕ) → spec.read s ≡ Err d → At d k → Stuck Text (skip s) k
-unfolding spec.read
-text_stuck s d k e a = elim (bind_err (spec.first (skip s)) (λ x. spec.options x.1 >>= λ o. cond (eqb (length o.1) 0) (Ok (spec.expr_of x.0 o.0)) (Err (Unexpected (length o.1)))) d e) [
-  | inl at ↦ stuck_then SomeTree SomeOptions (skip s) k [] (tree_stuck (skip s) d k at a) (λ z p. p) (λ z p. none)
-  | inr x ↦
-      let tree = tree_moves (skip s) x.0.0 x.0.1 (whole.first_sound (skip s) x.0 x.1) in
-      elim (bind_err (spec.options x.0.1) (λ o. cond (eqb (length o.1) 0) (Ok (spec.expr_of x.0.0 o.0)) (Err (Unexpected (length o.1)))) d x.2) [
-        | inl at ↦ moves_stuck SomeTree SomeOptions (skip s) x.0.1 k tree (options_stuck x.0.1 d k at a)
-        | inr o ↦
-            elim (chosen (eqb (length o.0.1) 0) _ _ _ o.2) [
-              | inl h ↦ absurd (let y = h.1 in cc)
-              | inr h ↦ moves_end Text (skip s) o.0.1 k (moves_then SomeTree SomeOptions (skip s) x.0.1 o.0.1 tree (options_moves x.0.1 o.0 o.1)) (at_length (length o.0.1) d k h.1 a)
-            ]
-      ]
-]
+  text_stuck : (s : List ℕ) (d : Stop) (k : ℕ) → spec.read levels s ≡ Err d → At d k → Stuck Text (skip s) k
+  unfolding spec.read
+  text_stuck s d k e a = elim (bind_err (spec.first levels (skip s)) (λ x. spec.options x.1 >>= λ o. cond (eqb (length o.1) 0) (Ok (spec.expr_of x.0 o.0)) (Err (Unexpected (length o.1)))) d e) [
+    | inl at ↦ stuck_then SomeTree SomeOptions (skip s) k [] (tree_stuck (skip s) d k at a) (λ z p. p) (λ z p. none)
+    | inr x ↦
+        let tree = tree_moves (skip s) x.0.0 x.0.1 (whole.first_sound levels (skip s) x.0 x.1) in
+        elim (bind_err (spec.options x.0.1) (λ o. cond (eqb (length o.1) 0) (Ok (spec.expr_of x.0.0 o.0)) (Err (Unexpected (length o.1)))) d x.2) [
+          | inl at ↦ moves_stuck SomeTree SomeOptions (skip s) x.0.1 k tree (options_stuck x.0.1 d k at a)
+          | inr o ↦
+              elim (chosen (eqb (length o.0.1) 0) _ _ _ o.2) [
+                | inl h ↦ absurd (let y = h.1 in cc)
+                | inr h ↦ moves_end Text (skip s) o.0.1 k (moves_then SomeTree SomeOptions (skip s) x.0.1 o.0.1 tree (options_moves x.0.1 o.0 o.1)) (at_length (length o.0.1) d k h.1 a)
+              ]
+        ]
+  ]
 
-whole_of : (t : List ℕ) → Text (skip t) [] → (e : Expr) × Whole t e
-whole_of t x =
-    let o = to_end x.0 [] x.2 refl in
-    (spec.expr_of x.1.0 (o.0, o.1), record { behind = x.0; tree = x.1.1; options = o.2 })
+  whole_of : (t : List ℕ) → Text (skip t) [] → (e : Expr) × WholeWithin levels t e
+  whole_of t x =
+      let o = to_end x.0 [] x.2 refl in
+      (spec.expr_of x.1.0 (o.0, o.1), record { behind = x.0; tree = x.1.1; options = o.2 })
 
-finish : (s : List ℕ) (k : ℕ) → Stuck Text (skip s) k → MayGoOn s (length s - k)
-finish s k q =
-    let bl = blanks s in
-    let more = q.more ++ [] in
-    let parts : s ≡ (bl.front ++ q.front) ++ q.rest = bl.parts ∙ ap (λ (t : List ℕ). bl.front ++ t) q.parts ∙ sym (append_assoc bl.front q.front q.rest) in
-    let len : length s - k ≡ length (bl.front ++ q.front) = omega (arith, ap length parts, length-append (bl.front ++ q.front) q.rest, q.left) in
-    let front_is : take (length s - k) s ≡ bl.front ++ q.front = ap (λ (i : ℕ). take i s) len ∙ ap (λ (t : List ℕ). take (length (bl.front ++ q.front)) t) parts ∙ take_at (bl.front ++ q.front) q.rest (length (bl.front ++ q.front)) refl in
-    let text_is : take (length s - k) s ++ more ≡ bl.front ++ (q.front ++ more) = ap (λ (t : List ℕ). t ++ more) front_is ∙ append_assoc bl.front q.front more in
-    let behind : skip (take (length s - k) s ++ more) ≡ q.front ++ more = ap skip text_is ∙ bl.over (q.front ++ more) (near_clear (skip s) (q.front ++ more) (q.near [] tt)) in
-    let x = whole_of (take (length s - k) s ++ more) (subst (λ (t : List ℕ). Text t []) (sym behind) (q.ends [] tt)) in
-    record { more = more; tree = x.0; whole = x.1 }
+  finish : (s : List ℕ) (k : ℕ) → Stuck Text (skip s) k → MayGoOn levels s (length s - k)
+  finish s k q =
+      let bl = blanks s in
+      let more = q.more ++ [] in
+      let parts : s ≡ (bl.front ++ q.front) ++ q.rest = bl.parts ∙ ap (λ (t : List ℕ). bl.front ++ t) q.parts ∙ sym (append_assoc bl.front q.front q.rest) in
+      let len : length s - k ≡ length (bl.front ++ q.front) = omega (arith, ap length parts, length-append (bl.front ++ q.front) q.rest, q.left) in
+      let front_is : take (length s - k) s ≡ bl.front ++ q.front = ap (λ (i : ℕ). take i s) len ∙ ap (λ (t : List ℕ). take (length (bl.front ++ q.front)) t) parts ∙ take_at (bl.front ++ q.front) q.rest (length (bl.front ++ q.front)) refl in
+      let text_is : take (length s - k) s ++ more ≡ bl.front ++ (q.front ++ more) = ap (λ (t : List ℕ). t ++ more) front_is ∙ append_assoc bl.front q.front more in
+      let behind : skip (take (length s - k) s ++ more) ≡ q.front ++ more = ap skip text_is ∙ bl.over (q.front ++ more) (near_clear (skip s) (q.front ++ more) (q.near [] tt)) in
+      let x = whole_of (take (length s - k) s ++ more) (subst (λ (t : List ℕ). Text t []) (sym behind) (q.ends [] tt)) in
+      record { more = more; tree = x.0; whole = x.1 }
 
--- what stands before the byte at which reading stopped may go on
-pub stopped : (s : List ℕ) (d : Stop) (k : ℕ) → spec.read s ≡ Err d → At d k → MayGoOn s (length s - k)
-stopped s d k e a = finish s k (text_stuck s d k e a)
+  -- what stands before the byte at which reading stopped may go on
+  pub stopped : (s : List ℕ) (d : Stop) (k : ℕ) → spec.read levels s ≡ Err d → At d k → MayGoOn levels s (length s - k)
+  stopped s d k e a = finish s k (text_stuck s d k e a)

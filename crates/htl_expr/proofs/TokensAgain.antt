@@ -4,9 +4,9 @@ use Rattle.std.proofs.lemmas.List.{take_at, drop_at, length-append}
 use Rattle.std.proofs.lemmas.Bool.Decides.{nat_tests}
 use Rattle.htl_expr.specs.declared.tokens.NameKind.{NameKind}
 use Rattle.htl_expr.specs.declared.node.Comparison.{Comparison}
-use Rattle.htl_expr.specs.Tokens.{skip, is_at, begins, is_blank, expect, second, run_len, goes_on, name, string, string_from, is_digit, is_first, is_quote, digits_from, digits, number, limit, signed}
+use Rattle.htl_expr.specs.Tokens.{skip, is_at, begins, is_blank, expect, second, name_len, goes_on, name, string, string_from, is_digit, is_first, is_quote, digits_from, digits, number, limit, signed}
 use Rattle.htl_expr.specs.Read.{comparison, compares, or_equal}
-use Rattle.htl_expr.specs.Grammar.{Byte, Operator, Bare, Named, String, Quoted, Passes, Digits, Number, Sign, Compares}
+use Rattle.htl_expr.specs.Grammar.{Byte, Operator, Bare, NameToken, String, StringBody, Passes, Digits, Number, Sign, Compares}
 use Rattle.htl_expr.specs.Grammar as g
 use Rattle.htl_expr.proofs.TokensRead.{eqb_is}
 
@@ -46,19 +46,19 @@ pub second_again : (c d : ℕ) (s r : List ℕ) → Operator c d s r → second 
 unfolding second
 second_again c d s r b = rw b.parts (expect_again d (d ∷ b.after) r (record { after = b.after; parts = refl; rest = b.rest }))
 
-pub run_len-is : (kind : NameKind) (w after : List ℕ) → Passes kind w after → goes_on kind after ≡ false → run_len kind (w ++ after) ≡ length w
-unfolding run_len
-run_len-is kind [] [] p e = refl
-run_len-is kind [] (c ∷ after) p e = rw e refl
-run_len-is kind (c ∷ w) after p e = rw p.0 (ap suc (run_len-is kind w after p.1 e))
+pub name_len-is : (kind : NameKind) (w after : List ℕ) → Passes kind w after → goes_on kind after ≡ false → name_len kind (w ++ after) ≡ length w
+unfolding name_len
+name_len-is kind [] [] p e = refl
+name_len-is kind [] (c ∷ after) p e = rw e refl
+name_len-is kind (c ∷ w) after p e = rw p.0 (ap suc (name_len-is kind w after p.1 e))
 
-pub name_again : (kind : NameKind) (s w r : List ℕ) → Named kind s w r → name kind s ≡ Ok (w, r)
+pub name_again : (kind : NameKind) (s w r : List ℕ) → NameToken kind s w r → name kind s ≡ Ok (w, r)
 unfolding name
 name_again kind s w r x =
     let begin : begins is_first (w ++ x.after) ≡ true = rw x.parts at x.first in
-    rw (x.parts, begin, run_len-is kind w x.after x.passes x.longest, take_at w x.after (length w) refl, drop_at w x.after (length w) refl, x.rest) refl
+    rw (x.parts, begin, name_len-is kind w x.after x.passes x.longest, take_at w x.after (length w) refl, drop_at w x.after (length w) refl, x.rest) refl
 
-quoted_again : (mark : ℕ) (s w after : List ℕ) → eqb 92 mark ≡ false → Quoted mark s w after → string_from false mark s ≡ Ok (w, skip after)
+quoted_again : (mark : ℕ) (s w after : List ℕ) → eqb 92 mark ≡ false → StringBody mark s w after → string_from false mark s ≡ Ok (w, skip after)
 unfolding string_from
 quoted_again mark _ _ _ m g.closes = rw (eqb_same mark) refl
 quoted_again mark _ _ _ m (g.plain a b q) = rw (a, b, quoted_again mark _ _ _ m q) refl
@@ -189,10 +189,10 @@ compares-short s _ r (g.at_least o) = operator-short 62 61 s r o
 compares-short s _ r (g.below o) = bare-short 60 s r o
 compares-short s _ r (g.above o) = bare-short 62 s r o
 
-pub name-short : (kind : NameKind) (s w r : List ℕ) → Named kind s w r → length r ≤ length s
+pub name-short : (kind : NameKind) (s w r : List ℕ) → NameToken kind s w r → length r ≤ length s
 name-short kind s w r b = rw (b.parts, b.rest) (omega (arith, skip-short b.after, length-append w b.after))
 
-quoted-short : (mark : ℕ) (s w after : List ℕ) → Quoted mark s w after → length after ≤ length s
+quoted-short : (mark : ℕ) (s w after : List ℕ) → StringBody mark s w after → length after ≤ length s
 quoted-short mark _ _ _ g.closes = omega arith
 quoted-short mark _ _ _ (g.plain a b q) = omega (arith, quoted-short mark _ _ _ q)
 quoted-short mark _ _ _ (g.escape e q) = omega (arith, quoted-short mark _ _ _ q)

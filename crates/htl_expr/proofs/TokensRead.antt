@@ -4,9 +4,9 @@ use Rattle.std.proofs.lemmas.List.{take-append-drop}
 use Rattle.htl_expr.specs.declared.tokens.NameKind.{NameKind}
 use Rattle.htl_expr.specs.declared.node.Comparison.{Comparison}
 use Rattle.htl_expr.specs.declared.node.Comparison.TheVariants.{Equal, NotEqual, Below, Above, AtMost, AtLeast}
-use Rattle.htl_expr.specs.Tokens.{skip, is_at, begins, expect, second, run_len, goes_on, name, string, string_from, escaped, unescape, is_digit, is_first, is_quote, digit_fits, digits_from, digits, number, limit}
+use Rattle.htl_expr.specs.Tokens.{skip, is_at, begins, expect, second, name_len, goes_on, name, string, string_from, string_after_escape, unescape, is_digit, is_first, is_quote, digit_fits, digits_from, digits, number, limit}
 use Rattle.htl_expr.specs.Read.{comparison, compares, or_equal}
-use Rattle.htl_expr.specs.Grammar.{Byte, Operator, Bare, Named, String, Quoted, Passes, Digits, Number, Sign, Compares}
+use Rattle.htl_expr.specs.Grammar.{Byte, Operator, Bare, NameToken, String, StringBody, Passes, Digits, Number, Sign, Compares}
 use Rattle.htl_expr.specs.Grammar as g
 use Rattle.htl_expr.proofs.Tools.{bind_ok, chosen, ok_is}
 
@@ -35,40 +35,40 @@ second_sound c d s r at e =
     let b = expect_sound d (drop 1 s) r e in
     record { after = b.after; parts = byte_at c s at ∙ ap (λ (t : List ℕ). c ∷ t) b.parts; rest = b.rest }
 
-pub passes_run : (kind : NameKind) (s : List ℕ) → Passes kind (take (run_len kind s) s) (drop (run_len kind s) s)
-unfolding run_len
+pub passes_run : (kind : NameKind) (s : List ℕ) → Passes kind (take (name_len kind s) s) (drop (name_len kind s) s)
+unfolding name_len
 passes_run kind [] = tt
 passes_run kind (c ∷ s) = go (goes_on kind (c ∷ s)) refl (passes_run kind s)
   where
-    go : (b : Bool) → goes_on kind (c ∷ s) ≡ b → Passes kind (take (run_len kind s) s) (drop (run_len kind s) s)
-        → Passes kind (take (cond b (suc (run_len kind s)) 0) (c ∷ s)) (drop (cond b (suc (run_len kind s)) 0) (c ∷ s))
-    go true e ih = (ap (λ (t : List ℕ). goes_on kind (c ∷ t)) (take-append-drop (run_len kind s) s) ∙ e, ih)
+    go : (b : Bool) → goes_on kind (c ∷ s) ≡ b → Passes kind (take (name_len kind s) s) (drop (name_len kind s) s)
+        → Passes kind (take (cond b (suc (name_len kind s)) 0) (c ∷ s)) (drop (cond b (suc (name_len kind s)) 0) (c ∷ s))
+    go true e ih = (ap (λ (t : List ℕ). goes_on kind (c ∷ t)) (take-append-drop (name_len kind s) s) ∙ e, ih)
     go false e ih = tt
 
-pub ends_run : (kind : NameKind) (s : List ℕ) → goes_on kind (drop (run_len kind s) s) ≡ false
-unfolding run_len goes_on begins
+pub ends_run : (kind : NameKind) (s : List ℕ) → goes_on kind (drop (name_len kind s) s) ≡ false
+unfolding name_len goes_on begins
 ends_run NameKind.Name [] = refl
 ends_run NameKind.Field [] = refl
 ends_run kind (c ∷ s) = go (goes_on kind (c ∷ s)) refl (ends_run kind s)
   where
-    go : (b : Bool) → goes_on kind (c ∷ s) ≡ b → goes_on kind (drop (run_len kind s) s) ≡ false → goes_on kind (drop (cond b (suc (run_len kind s)) 0) (c ∷ s)) ≡ false
+    go : (b : Bool) → goes_on kind (c ∷ s) ≡ b → goes_on kind (drop (name_len kind s) s) ≡ false → goes_on kind (drop (cond b (suc (name_len kind s)) 0) (c ∷ s)) ≡ false
     go true e ih = ih
     go false e ih = e
 
-pub name_sound : (kind : NameKind) (s : List ℕ) (p : List ℕ × List ℕ) → name kind s ≡ Ok p → Named kind s p.0 p.1
+pub name_sound : (kind : NameKind) (s : List ℕ) (p : List ℕ × List ℕ) → name kind s ≡ Ok p → NameToken kind s p.0 p.1
 unfolding name
 name_sound kind s p e =
     elim (chosen (begins is_first s) _ _ _ e) [
       | inl h ↦
-          subst (λ (q : List ℕ × List ℕ). Named kind s q.0 q.1) (ok_is _ _ h.1)
-          (record { after = drop (run_len kind s) s; parts = sym (take-append-drop (run_len kind s) s); first = h.0; passes = passes_run kind s; longest = ends_run kind s; rest = refl })
+          subst (λ (q : List ℕ × List ℕ). NameToken kind s q.0 q.1) (ok_is _ _ h.1)
+          (record { after = drop (name_len kind s) s; parts = sym (take-append-drop (name_len kind s) s); first = h.0; passes = passes_run kind s; longest = ends_run kind s; rest = refl })
       | inr h ↦ absurd cc
     ]
 
 -- behind the mark, or behind a backslash
 abbrev Inside : Bool → ℕ → List ℕ → List ℕ → List ℕ → Type 0
-Inside true mark s w after = Quoted mark (92 ∷ s) w after
-Inside false mark s w after = Quoted mark s w after
+Inside true mark s w after = StringBody mark (92 ∷ s) w after
+Inside false mark s w after = StringBody mark s w after
 
 abbrev InsideOf : Bool → ℕ → List ℕ → List ℕ × List ℕ → Type 0
 InsideOf is_escaped mark s p = (after : List ℕ) × Inside is_escaped mark s p.0 after × (p.1 ≡ skip after)
@@ -79,7 +79,7 @@ string_from_sound true mark [] p e = absurd cc
 string_from_sound false mark [] p e = absurd cc
 string_from_sound true mark (c ∷ s) p e = go (unescape c) refl e (λ q. string_from_sound false mark s q)
   where
-    go : (o : Option ℕ) → unescape c ≡ o → escaped o (c ∷ s) (string_from false mark s) ≡ Ok p → ((q : List ℕ × List ℕ) → string_from false mark s ≡ Ok q → InsideOf false mark s q) → InsideOf true mark (c ∷ s) p
+    go : (o : Option ℕ) → unescape c ≡ o → string_after_escape o (c ∷ s) (string_from false mark s) ≡ Ok p → ((q : List ℕ × List ℕ) → string_from false mark s ≡ Ok q → InsideOf false mark s q) → InsideOf true mark (c ∷ s) p
     go None o-is e' rec = absurd cc
     go (Some d) o-is e' rec =
         let b = bind_ok (string_from false mark s) (λ x. Ok ((d ∷ []) ++ x.0, x.1)) p e' in
@@ -89,12 +89,12 @@ string_from_sound false mark (c ∷ s) p e =
     elim (chosen (eqb c mark) _ _ _ e) [
       | inl h ↦
           subst (InsideOf false mark (c ∷ s)) (ok_is _ _ h.1)
-          (s, subst (λ (d : ℕ). Quoted mark (d ∷ s) [] s) (sym (eqb_is c mark h.0)) g.closes, refl)
+          (s, subst (λ (d : ℕ). StringBody mark (d ∷ s) [] s) (sym (eqb_is c mark h.0)) g.closes, refl)
       | inr h ↦
           elim (chosen (eqb c 92) _ _ _ h.1) [
             | inl k ↦
                 let ih = string_from_sound true mark s p k.1 in
-                (ih.0, subst (λ (d : ℕ). Quoted mark (d ∷ s) p.0 ih.0) (sym (eqb_is c 92 k.0)) ih.1, ih.2)
+                (ih.0, subst (λ (d : ℕ). StringBody mark (d ∷ s) p.0 ih.0) (sym (eqb_is c 92 k.0)) ih.1, ih.2)
             | inr k ↦
                 let b = bind_ok (string_from false mark s) (λ x. Ok ((c ∷ []) ++ x.0, x.1)) p k.1 in
                 let ih = string_from_sound false mark s b.0 b.1 in

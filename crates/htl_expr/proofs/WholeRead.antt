@@ -7,7 +7,7 @@ use Rattle.htl_expr.specs.declared.expression.Context.TheVariants.{Text, Unsafe}
 use Rattle.htl_expr.specs.declared.expression.Expr.{Expr}
 use Rattle.htl_expr.specs.Tokens.{◌>>=◌, skip, is_at, begins, is_quote, expect, literal, string}
 use Rattle.htl_expr.specs.Read as spec
-use Rattle.htl_expr.specs.Grammar.{Byte, Literal, ContextString, context_text, Join, InContext, Options, Tree, Whole, Reads, Choice}
+use Rattle.htl_expr.specs.Grammar.{Byte, Literal, ContextString, context_text, Join, InContext, Options, Tree, WholeWithin, Reads, Choice}
 use Rattle.htl_expr.specs.Grammar as g
 use Rattle.htl_expr.proofs.Tools.{bind_ok, chosen, ok_is}
 use Rattle.htl_expr.proofs.TokensRead.{byte, byte_at, expect_sound, string_sound}
@@ -134,25 +134,26 @@ nil_of : (s : List ℕ) → eqb (length s) 0 ≡ true → s ≡ []
 nil_of [] e = refl
 nil_of (c ∷ s) e = absurd (let w : eqb (length (c ∷ s)) 0 ≡ false = search rules in cc)
 
-abbrev HasTree : List ℕ → Option Node × List ℕ → Type 0
-HasTree s q = Tree s q.0 q.1
+module _ (levels : ℕ) where
+  abbrev HasTree : List ℕ → Option Node × List ℕ → Type 0
+  HasTree s q = Tree levels s q.0 q.1
 
-pub first_sound : (s : List ℕ) (p : Option Node × List ℕ) → spec.first s ≡ Ok p → HasTree s p
-unfolding spec.first
-first_sound s p e =
-    elim (chosen (eqb (length s) 0 || is_at 64 s) _ _ _ e) [
-      | inl h ↦ subst (HasTree s) (ok_is _ _ h.1) refl
-      | inr h ↦
-          let x = bind_ok (spec.choice 32 (spec.nested 32) s) (λ x. Ok (Some x.0, x.1)) p h.1 in
-          subst (HasTree s) (ok_is _ _ x.2) (sound 32 s x.0 x.1)
-    ]
+  pub first_sound : (s : List ℕ) (p : Option Node × List ℕ) → spec.first levels s ≡ Ok p → HasTree s p
+  unfolding spec.first
+  first_sound s p e =
+      elim (chosen (eqb (length s) 0 || is_at 64 s) _ _ _ e) [
+        | inl h ↦ subst (HasTree s) (ok_is _ _ h.1) refl
+        | inr h ↦
+            let x = bind_ok (spec.choice levels (spec.nesting levels) s) (λ x. Ok (Some x.0, x.1)) p h.1 in
+            subst (HasTree s) (ok_is _ _ x.2) (sound levels s x.0 x.1)
+      ]
 
-pub read_sound : (s : List ℕ) (e : Expr) → spec.read s ≡ Ok e → Whole s e
-unfolding spec.read
-read_sound s e w =
-    let x = bind_ok (spec.first (skip s)) (λ x. spec.options x.1 >>= λ o. cond (eqb (length o.1) 0) (Ok (spec.expr_of x.0 o.0)) (Err (Unexpected (length o.1)))) e w in
-    let o = bind_ok (spec.options x.0.1) (λ o. cond (eqb (length o.1) 0) (Ok (spec.expr_of x.0.0 o.0)) (Err (Unexpected (length o.1)))) e x.2 in
-    elim (chosen (eqb (length o.0.1) 0) _ _ _ o.2) [
-      | inl h ↦ subst (λ (y : Expr). Whole s y) (ok_is _ _ h.1) (record { behind = x.0.1; tree = first_sound (skip s) x.0 x.1; options = options_sound x.0.1 o.0 o.1 (nil_of o.0.1 h.0) })
-      | inr h ↦ absurd (let z = h.1 in cc)
-    ]
+  pub read_sound : (s : List ℕ) (e : Expr) → spec.read levels s ≡ Ok e → WholeWithin levels s e
+  unfolding spec.read
+  read_sound s e w =
+      let x = bind_ok (spec.first levels (skip s)) (λ x. spec.options x.1 >>= λ o. cond (eqb (length o.1) 0) (Ok (spec.expr_of x.0 o.0)) (Err (Unexpected (length o.1)))) e w in
+      let o = bind_ok (spec.options x.0.1) (λ o. cond (eqb (length o.1) 0) (Ok (spec.expr_of x.0.0 o.0)) (Err (Unexpected (length o.1)))) e x.2 in
+      elim (chosen (eqb (length o.0.1) 0) _ _ _ o.2) [
+        | inl h ↦ subst (λ (y : Expr). WholeWithin levels s y) (ok_is _ _ h.1) (record { behind = x.0.1; tree = first_sound (skip s) x.0 x.1; options = options_sound x.0.1 o.0 o.1 (nil_of o.0.1 h.0) })
+        | inr h ↦ absurd (let z = h.1 in cc)
+      ]

@@ -1,5 +1,5 @@
 -- What a text is read as, and the place where it leaves the grammar. `colon_letter`, `passes`, `takes_colon` and `place_of` are needed by `expression_of` and private functions alone.
-use Rattle.std.specs.Prelude.{◌≡◌, ℕ, ◌+◌, ◌-◌, ◌≤◌, Bool, true, false, nat_le, ◌&&◌, ◌||◌, ◌==◌, if◌then◌else◌, List, [], ◌∷◌, ◌++◌, length, take, drop, Result, Ok, Err}
+use Rattle.std.specs.Prelude.{◌≡◌, ℕ, suc, ◌+◌, ◌-◌, ◌≤◌, Bool, true, false, nat_le, ◌&&◌, ◌||◌, ◌==◌, if◌then◌else◌, List, [], ◌∷◌, ◌++◌, length, take, drop, Result, Ok, Err}
 use Rattle.htl_expr.specs.declared.stop.Stop.{Stop}
 use Rattle.htl_expr.specs.declared.stop.Stop.TheVariants as stop
 use Rattle.htl_expr.specs.declared.expression.Expr.{Expr}
@@ -7,7 +7,7 @@ use Rattle.htl_expr.specs.declared.expression.ExprFault.{ExprFault}
 use Rattle.htl_expr.specs.declared.expression.ExprFault.TheVariants.{NoMemory, Unexpected, TooDeep}
 use Rattle.htl_expr.specs.Tokens.{is_at, begins}
 use Rattle.htl_expr.specs.Read.{read}
-use Rattle.htl_expr.specs.Grammar.{Whole}
+use Rattle.htl_expr.specs.Grammar.{nesting_limit, WholeWithin}
 
 -- a colon and a letter, with which a field's name goes on
 abbrev pub colon_letter : List ℕ
@@ -20,24 +20,24 @@ passes (Err stop.Memory) = false
 passes (Err (stop.Unexpected left)) = nat_le left 1
 passes (Err (stop.TooDeep left)) = false
 
--- whether a colon behind a text may belong to a field's name
-abbrev pub takes_colon : List ℕ → Bool
-takes_colon t = passes (read (t ++ colon_letter))
+-- whether a colon behind a text may belong to a field's name, where so many levels may nest
+abbrev pub takes_colon : ℕ → List ℕ → Bool
+takes_colon levels t = passes (read levels (t ++ colon_letter))
 
 -- where a colon may belong to a field's name, the byte behind it is the one that doesn't fit
-abbrev pub place_of : List ℕ → ℕ → ℕ
-place_of t place = if is_at 58 (drop place t) && takes_colon (take place t) then place + 1 else place
+abbrev pub place_of : ℕ → List ℕ → ℕ → ℕ
+place_of levels t place = if is_at 58 (drop place t) && takes_colon levels (take place t) then place + 1 else place
 
 -- the answer of the reading, with its place counted from the front
-abbrev pub placed : List ℕ → Result Expr Stop → Result Expr ExprFault
-placed t (Ok e) = Ok e
-placed t (Err stop.Memory) = Err NoMemory
-placed t (Err (stop.Unexpected left)) = Err (Unexpected (place_of t (length t - left)))
-placed t (Err (stop.TooDeep left)) = Err (TooDeep (length t - left))
+abbrev pub answer_of : ℕ → List ℕ → Result Expr Stop → Result Expr ExprFault
+answer_of levels t (Ok e) = Ok e
+answer_of levels t (Err stop.Memory) = Err NoMemory
+answer_of levels t (Err (stop.Unexpected left)) = Err (Unexpected (place_of levels t (length t - left)))
+answer_of levels t (Err (stop.TooDeep left)) = Err (TooDeep (length t - left))
 
 -- what a text is read as
 abbrev pub expression_of : List ℕ → Result Expr ExprFault
-expression_of t = placed t (read t)
+expression_of t = answer_of nesting_limit t (read nesting_limit t)
 
 -- the expression was read, unless memory ran out
 abbrev pub IsReadAs : Expr → Result Expr ExprFault → Type 0
@@ -60,23 +60,31 @@ pub record Agree (place : ℕ) (s t : List ℕ) : Type 0 where
   pub front : take place t ≡ take place s
   pub here : SameHead (drop place s) (drop place t)
 
--- no text that is the same up to and with this byte is an expression
-pub record HasNone (s : List ℕ) (place : ℕ) : Type 0 where
+-- no text that is the same up to and with this byte is an expression, where so many levels may nest
+pub record HasNone (levels : ℕ) (s : List ℕ) (place : ℕ) : Type 0 where
   pub within : place ≤ length s
-  pub none : (t : List ℕ) (e : Expr) → Agree place s t → Whole t e → ⊥
+  pub none : (t : List ℕ) (e : Expr) → Agree place s t → WholeWithin levels t e → ⊥
 
--- what stands before this byte is the front of an expression
-pub record MayGoOn (s : List ℕ) (place : ℕ) : Type 0 where
+-- some text that is the same up to and with this byte is one
+pub record HasSome (levels : ℕ) (s : List ℕ) (place : ℕ) : Type 0 where
+  pub text : List ℕ
+  pub tree : Expr
+  pub agree : Agree place s text
+  pub whole : WholeWithin levels text tree
+
+-- what stands before this byte is the prefix of an expression
+pub record MayGoOn (levels : ℕ) (s : List ℕ) (place : ℕ) : Type 0 where
   pub more : List ℕ
   pub tree : Expr
-  pub whole : Whole (take place s ++ more) tree
+  pub whole : WholeWithin levels (take place s ++ more) tree
 
 -- the bytes that nest what stands behind them: the brackets, "!" and "?"
 abbrev pub nests : ℕ → Bool
 nests c = c == 40 || (c == 91 || (c == 33 || c == 63))
 
--- the place is the first byte with which no expression goes on; too deep is a byte that nests
+-- The place is the first byte with which no expression goes on. Unexpected is a byte with which none goes on however many levels may nest;
+-- too deep is a byte that nests, with which one goes on where one level more may nest.
 abbrev pub IsFault : ExprFault → List ℕ → Type 0
 IsFault NoMemory s = Unit {0}
-IsFault (Unexpected place) s = MayGoOn s place × HasNone s place
-IsFault (TooDeep place) s = MayGoOn s place × (HasNone s place × (begins nests (drop place s) ≡ true))
+IsFault (Unexpected place) s = MayGoOn nesting_limit s place × ((levels : ℕ) → HasNone levels s place)
+IsFault (TooDeep place) s = MayGoOn nesting_limit s place × (HasNone nesting_limit s place × (HasSome (suc nesting_limit) s place × (begins nests (drop place s) ≡ true)))

@@ -10,7 +10,7 @@ use Rattle.htl_expr.specs.declared.expression.Context.{Context}
 use Rattle.htl_expr.specs.declared.expression.Context.TheVariants.{Text, Unsafe}
 use Rattle.htl_expr.specs.declared.expression.Expr.{Expr}
 use Rattle.htl_expr.specs.Tokens.{skip, is_at, begins, goes_on, is_digit, is_first, is_quote, unescape, digit_fits, limit, signed}
-use Rattle.htl_expr.specs.Read.{accessed, and_of, or_of, word_of, object_of}
+use Rattle.htl_expr.specs.Read.{access_of, and_of, or_of, word_of, object_of}
 
 -- ---- tokens, each with the blanks behind it
 
@@ -39,7 +39,7 @@ Passes kind [] after = Unit {0}
 Passes kind (c ∷ w) after = (goes_on kind (c ∷ (w ++ after)) ≡ true) × Passes kind w after
 
 -- the longest name at the front
-pub record Named (kind : NameKind) (s w r : List ℕ) : Type 0 where
+pub record NameToken (kind : NameKind) (s w r : List ℕ) : Type 0 where
   pub after : List ℕ
   pub parts : s ≡ w ++ after
   pub first : begins is_first s ≡ true
@@ -48,10 +48,10 @@ pub record Named (kind : NameKind) (s w r : List ℕ) : Type 0 where
   pub rest : r ≡ skip after
 
 -- what stands behind the mark that opens a string, up to the mark that closes it
-pub data Quoted (mark : ℕ) : List ℕ → List ℕ → List ℕ → Type 0 where
-  closes : {after : List ℕ} → Quoted mark (mark ∷ after) [] after
-  plain : {c : ℕ} {s w after : List ℕ} → (c == mark) ≡ false → (c == 92) ≡ false → Quoted mark s w after → Quoted mark (c ∷ s) (c ∷ w) after
-  escape : {c d : ℕ} {s w after : List ℕ} → unescape c ≡ Some d → Quoted mark s w after → Quoted mark (92 ∷ c ∷ s) (d ∷ w) after
+pub data StringBody (mark : ℕ) : List ℕ → List ℕ → List ℕ → Type 0 where
+  closes : {after : List ℕ} → StringBody mark (mark ∷ after) [] after
+  plain : {c : ℕ} {s w after : List ℕ} → (c == mark) ≡ false → (c == 92) ≡ false → StringBody mark s w after → StringBody mark (c ∷ s) (c ∷ w) after
+  escape : {c d : ℕ} {s w after : List ℕ} → unescape c ≡ Some d → StringBody mark s w after → StringBody mark (92 ∷ c ∷ s) (d ∷ w) after
 
 -- a string between two marks of one kind, and the characters that it stands for
 pub record String (s w r : List ℕ) : Type 0 where
@@ -60,7 +60,7 @@ pub record String (s w r : List ℕ) : Type 0 where
   pub after : List ℕ
   pub parts : s ≡ mark ∷ inside
   pub is_mark : is_quote mark ≡ true
-  pub body : Quoted mark inside w after
+  pub body : StringBody mark inside w after
   pub rest : r ≡ skip after
 
 -- the digits of a number that is at most `most`, as many as fit, behind those that make m
@@ -98,7 +98,7 @@ pub data Compares (s : List ℕ) : Comparison → List ℕ → Type 0 where
 
 -- "." field | "[" string "]", where brackets may nest `depth` more levels
 pub data Access : ℕ → List ℕ → List ℕ → List ℕ → Type 0 where
-  field : {depth : ℕ} {s r1 f r : List ℕ} → Byte 46 s r1 → Named Field r1 f r → Access depth s f r
+  field : {depth : ℕ} {s r1 f r : List ℕ} → Byte 46 s r1 → NameToken Field r1 f r → Access depth s f r
   bracket : {depth : ℕ} {s r1 f r2 r : List ℕ} → Byte 91 s r1 → String r1 f r2 → Byte 93 r2 r → Access (suc depth) s f r
 
 -- one access behind another
@@ -140,13 +140,13 @@ mutual
   pub data Reads : Part → ℕ → List ℕ → Node → List ℕ → Type 0 where
     string : {depth : ℕ} {s w r : List ℕ} → String s w r → Reads Start depth s (n.Text w) r
     number : {depth : ℕ} {s : List ℕ} {k : ℤ} {r : List ℕ} → Number s k r → Reads Start depth s (n.Long k) r
-    name : {depth : ℕ} {s w r : List ℕ} → Named Name s w r → object_of w ≡ None → Reads Start depth s (word_of w) r
-    object : {depth : ℕ} {s w r1 f r : List ℕ} {make : List ℕ → Node} → Named Name s w r1 → object_of w ≡ Some make → Access depth r1 f r → Reads Start depth s (make f) r
+    name : {depth : ℕ} {s w r : List ℕ} → NameToken Name s w r → object_of w ≡ None → Reads Start depth s (word_of w) r
+    object : {depth : ℕ} {s w r1 f r : List ℕ} {make : List ℕ → Node} → NameToken Name s w r1 → object_of w ≡ Some make → Access depth r1 f r → Reads Start depth s (make f) r
     inside : {depth : ℕ} {s r1 r2 r : List ℕ} {e : Node} → Byte 40 s r1 → Reads Choice depth r1 e r2 → Byte 41 r2 r → Reads Start (suc depth) s e r
     list : {depth : ℕ} {s r1 r2 r : List ℕ} {e : Node} → Byte 91 s r1 → Reads Items depth r1 e r2 → Byte 93 r2 r → Reads Start (suc depth) s e r
     no_items : {depth : ℕ} {r : List ℕ} → Reads Items depth r (n.List []) r
     items : {depth : ℕ} {s r1 r : List ℕ} {e : Node} {es : List Node} → Reads Choice depth s e r1 → More Comma depth r1 es r → Reads Items depth s (n.List (e ∷ es)) r
-    atom : {depth : ℕ} {s r1 r : List ℕ} {e : Node} {fs : List (List ℕ)} → Reads Start depth s e r1 → Accesses depth r1 fs r → Reads Atom depth s (accessed e fs) r
+    atom : {depth : ℕ} {s r1 r : List ℕ} {e : Node} {fs : List (List ℕ)} → Reads Start depth s e r1 → Accesses depth r1 fs r → Reads Atom depth s (access_of e fs) r
     not : {depth : ℕ} {s r1 r : List ℕ} {e : Node} → Byte 33 s r1 → Reads Operand depth r1 e r → Reads Operand (suc depth) s (n.Not e) r
     bare : {depth : ℕ} {s r : List ℕ} {e : Node} → Reads Atom depth s e r → Reads Operand depth s e r
     compare : {depth : ℕ} {s r1 r2 r : List ℕ} {a b : Node} {op : Comparison} → Reads Operand depth s a r1 → Compares r1 op r2 → Reads Operand depth r2 b r → Reads Compare depth s (n.Compare op a b) r
@@ -205,13 +205,21 @@ pub data Options : List ℕ → Option (List ℕ) → Option Context → Type 0 
   join_context : {s r1 w r2 r3 : List ℕ} {c : Context} → Byte 64 s r1 → Join r1 w r2 → Byte 44 r2 r3 → InContext r3 c [] → Options s (Some w) (Some c)
   context_join : {s r1 r2 r3 w : List ℕ} {c : Context} → Byte 64 s r1 → InContext r1 c r2 → Byte 44 r2 r3 → Join r3 w [] → Options s (Some w) (Some c)
 
--- a choice in which 32 levels may nest, or nothing
-abbrev pub Tree : List ℕ → Option Node → List ℕ → Type 0
-Tree s None r = r ≡ s
-Tree s (Some e) r = Reads Choice 32 s e r
+-- how many levels may nest
+abbrev pub nesting_limit : ℕ
+nesting_limit = 32
+
+-- a choice in which so many levels may nest, or nothing
+abbrev pub Tree : ℕ → List ℕ → Option Node → List ℕ → Type 0
+Tree levels s None r = r ≡ s
+Tree levels s (Some e) r = Reads Choice levels s e r
+
+-- the expression of a whole text in which so many levels may nest
+pub record WholeWithin (levels : ℕ) (s : List ℕ) (e : Expr) : Type 0 where
+  pub behind : List ℕ
+  pub tree : Tree levels (skip s) e.node behind
+  pub options : Options behind e.join e.context
 
 -- the expression of a whole text
-pub record Whole (s : List ℕ) (e : Expr) : Type 0 where
-  pub behind : List ℕ
-  pub tree : Tree (skip s) e.node behind
-  pub options : Options behind e.join e.context
+abbrev pub Whole : List ℕ → Expr → Type 0
+Whole s e = WholeWithin nesting_limit s e

@@ -12,9 +12,9 @@ abbrev pub truth_text : Bool → List ℕ
 truth_text b = if b then codes "true" else codes "false"
 
 -- texts with a join text between each two
-abbrev pub joined : List ℕ → List (List ℕ) → List ℕ
-joined join [] = []
-joined join (text ∷ texts) = text ++ flat_map (λ next. join ++ next) texts
+abbrev pub concatenation : List ℕ → List (List ℕ) → List ℕ
+concatenation join [] = []
+concatenation join (text ∷ texts) = text ++ flat_map (λ next. join ++ next) texts
 
 -- the text of a value before it is escaped: nothing is empty, and a number is in decimal
 abbrev pub plain : List ℕ → Out → List ℕ
@@ -22,7 +22,7 @@ plain join out.Nothing = []
 plain join (out.Truth b) = truth_text b
 plain join (out.Long n) = signed_decimal n
 plain join (out.Text text) = text
-plain join (out.List texts) = joined join texts
+plain join (out.List texts) = concatenation join texts
 
 -- the five characters that mean something in HTML, each with its character reference
 abbrev pub reference : ℕ → Option (List ℕ)
@@ -35,13 +35,13 @@ reference c =
     else None))))
 
 -- a byte as it is written: its reference, or the byte
-abbrev pub escape : ℕ → List ℕ
-escape c = unwrap_or (reference c) (c ∷ [])
+abbrev pub html_escape : ℕ → List ℕ
+html_escape c = unwrap_or (reference c) (c ∷ [])
 
 -- how many bytes stand before the first that has a reference
-unfoldable pub run_len : List ℕ → ℕ
-run_len [] = 0
-run_len (c ∷ t) = if is_some (reference c) then 0 else suc (run_len t)
+unfoldable pub reference_place : List ℕ → ℕ
+reference_place [] = 0
+reference_place (c ∷ t) = if is_some (reference c) then 0 else suc (reference_place t)
 
 -- the reference of the byte in front
 unfoldable pub first_reference : List ℕ → Option (List ℕ)
@@ -55,8 +55,8 @@ join_text (Some text) = text
 
 -- escaped, unless the option `context` is 'unsafe' (HTL specification 1.4, "Display Context")
 abbrev pub in_context : Option Context → List ℕ → List ℕ
-in_context None text = flat_map escape text
-in_context (Some context.Text) text = flat_map escape text
+in_context None text = flat_map html_escape text
+in_context (Some context.Text) text = flat_map html_escape text
 in_context (Some context.Unsafe) text = text
 
 -- no character that begins a tag or ends the value of an attribute

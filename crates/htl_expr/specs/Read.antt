@@ -16,9 +16,9 @@ use Rattle.htl_expr.specs.declared.reader.Inside.TheVariants.{Choice, Operand, I
 use Rattle.htl_expr.specs.Tokens.{Outcome, ◌>>=◌, skip, is_at, begins, is_digit, is_quote, name, expect, second, literal, string, number}
 
 -- without accesses there is no node for them
-abbrev pub accessed : Node → List (List ℕ) → Node
-accessed e [] = e
-accessed e (f ∷ fs) = n.Access e (f ∷ fs)
+abbrev pub access_of : Node → List (List ℕ) → Node
+access_of e [] = e
+access_of e (f ∷ fs) = n.Access e (f ∷ fs)
 
 -- one operand is itself
 abbrev pub and_of : Node → List Node → Node
@@ -80,14 +80,14 @@ access_at t = is_at 46 t || is_at 91 t
 -- ---- the lines of the grammar, where `depth` more levels may nest
 
 module _ (depth : ℕ) where
-  unfoldable pub bracketed : List ℕ → Outcome (List ℕ)
-  bracketed t = if depth == 0 then Err (TooDeep (length t)) else (do
+  unfoldable pub bracket_access : List ℕ → Outcome (List ℕ)
+  bracket_access t = if depth == 0 then Err (TooDeep (length t)) else (do
     s ← string (skip (drop 1 t))
     r ← expect 93 s.1
     Ok (s.0, r))
 
   unfoldable pub access : List ℕ → Outcome (List ℕ)
-  access t = if is_at 46 t then name Field (skip (drop 1 t)) else bracketed t
+  access t = if is_at 46 t then name Field (skip (drop 1 t)) else bracket_access t
 
   unfoldable pub accesses : ℕ → List (List ℕ) → List ℕ → Outcome (List (List ℕ))
   accesses zero found t = Ok (found, t)
@@ -96,18 +96,18 @@ module _ (depth : ℕ) where
   unfoldable pub first_access : List ℕ → Outcome (List ℕ)
   first_access t = if access_at t then access t else Err (Unexpected (length t))
 
-  abbrev pub named_of : Option (List ℕ → Node) → List ℕ → List ℕ → Outcome Node
-  named_of None w t = Ok (word_of w, t)
-  named_of (Some make) w t = first_access t >>= λ f. Ok (make f.0, f.1)
+  abbrev pub name_or_object_of : Option (List ℕ → Node) → List ℕ → List ℕ → Outcome Node
+  name_or_object_of None w t = Ok (word_of w, t)
+  name_or_object_of (Some make) w t = first_access t >>= λ f. Ok (make f.0, f.1)
 
-  unfoldable pub named : List ℕ → Outcome Node
-  named t = name Name t >>= λ x. named_of (object_of x.0) x.0 x.1
+  unfoldable pub name_or_object : List ℕ → Outcome Node
+  name_or_object t = name Name t >>= λ x. name_or_object_of (object_of x.0) x.0 x.1
 
   unfoldable pub leaf : List ℕ → Outcome Node
   leaf t =
       if begins is_quote t then (string t >>= λ x. Ok (n.Text x.0, x.1))
       else if is_at 45 t || begins is_digit t then (number t >>= λ x. Ok (n.Long x.0, x.1))
-      else named t
+      else name_or_object t
 
   -- Inside, what nests is read; the text begins at the byte that nests it.
   module _ (inner : Inside → List ℕ → Outcome Node) where
@@ -127,7 +127,7 @@ module _ (depth : ℕ) where
     atom t = do
       x ← start t
       fs ← accesses (length x.1) [] x.1
-      Ok (accessed x.0 fs.0, fs.1)
+      Ok (access_of x.0 fs.0, fs.1)
 
     unfoldable pub operand : List ℕ → Outcome Node
     operand t = if is_at 33 t then (inner Operand t >>= λ x. Ok (n.Not x.0, x.1)) else atom t
@@ -176,9 +176,9 @@ module _ (depth : ℕ) where
     level Items = items
 
 -- what stands behind the byte that nests it
-unfoldable pub nested : ℕ → Inside → List ℕ → Outcome Node
-nested zero which t = Err (TooDeep (length t))
-nested (suc depth) which t = level depth (nested depth) which (skip (drop 1 t))
+unfoldable pub nesting : ℕ → Inside → List ℕ → Outcome Node
+nesting zero which t = Err (TooDeep (length t))
+nesting (suc depth) which t = level depth (nesting depth) which (skip (drop 1 t))
 
 -- ---- options
 
@@ -217,17 +217,17 @@ options t = if is_at 64 t then (do
   o ← option (None, None) (skip (drop 1 t))
   if is_at 44 o.1 then option o.0 (skip (drop 1 o.1)) else Ok o) else Ok ((None, None), t)
 
--- nothing, or a choice in which 32 levels may nest
-unfoldable pub first : List ℕ → Outcome (Option Node)
-first t = if length t == 0 || is_at 64 t then Ok (None, t) else (choice 32 (nested 32) t >>= λ x. Ok (Some x.0, x.1))
+-- nothing, or a choice in which so many levels may nest
+unfoldable pub first : ℕ → List ℕ → Outcome (Option Node)
+first levels t = if length t == 0 || is_at 64 t then Ok (None, t) else (choice levels (nesting levels) t >>= λ x. Ok (Some x.0, x.1))
 
 -- an expression of a tree and the options that are given
 abbrev pub expr_of : Option Node → Given → Expr
 expr_of node given = record { node = node; join = given.0; context = given.1 }
 
--- the whole text
-unfoldable pub read : List ℕ → Result Expr Stop
-read t = do
-  x ← first (skip t)
+-- the whole text, in which so many levels may nest
+unfoldable pub read : ℕ → List ℕ → Result Expr Stop
+read levels t = do
+  x ← first levels (skip t)
   o ← options x.1
   if length o.1 == 0 then Ok (expr_of x.0 o.0) else Err (Unexpected (length o.1))

@@ -71,9 +71,9 @@ goes_on Field [] = false
 goes_on Field (c ∷ t) = is_word c || (c == 58 && begins is_letter t)
 
 -- how many bytes at the front belong to the name
-unfoldable pub run_len : NameKind → List ℕ → ℕ
-run_len kind [] = 0
-run_len kind (c ∷ t) = if goes_on kind (c ∷ t) then suc (run_len kind t) else 0
+unfoldable pub name_len : NameKind → List ℕ → ℕ
+name_len kind [] = 0
+name_len kind (c ∷ t) = if goes_on kind (c ∷ t) then suc (name_len kind t) else 0
 
 -- a step that reads nothing
 abbrev pub done : {A : Type 0} → A → Result A Stop
@@ -81,7 +81,7 @@ done x = Ok x
 
 -- the bytes of a name, and the text behind it
 abbrev pub run : NameKind → List ℕ → List ℕ × List ℕ
-run kind t = (take (run_len kind t) t, skip (drop (run_len kind t) t))
+run kind t = (take (name_len kind t) t, skip (drop (name_len kind t) t))
 
 -- a name or a field's name
 unfoldable pub name : NameKind → List ℕ → Outcome (List ℕ)
@@ -134,14 +134,14 @@ abbrev pub in_front : List ℕ → Outcome (List ℕ) → Outcome (List ℕ)
 in_front front o = o >>= λ x. Ok (front ++ x.0, x.1)
 
 -- the character of an escape in front of what was read
-abbrev pub escaped : Option ℕ → List ℕ → Outcome (List ℕ) → Outcome (List ℕ)
-escaped None at rest = Err (Unexpected (length at))
-escaped (Some d) at rest = in_front (d ∷ []) rest
+abbrev pub string_after_escape : Option ℕ → List ℕ → Outcome (List ℕ) → Outcome (List ℕ)
+string_after_escape None at rest = Err (Unexpected (length at))
+string_after_escape (Some d) at rest = in_front (d ∷ []) rest
 
 -- a string up to the mark that closes it; the flag says that a backslash stands before
 unfoldable pub string_from : Bool → ℕ → List ℕ → Outcome (List ℕ)
 string_from is_escaped mark [] = Err (Unexpected 0)
-string_from true mark (c ∷ t) = escaped (unescape c) (c ∷ t) (string_from false mark t)
+string_from true mark (c ∷ t) = string_after_escape (unescape c) (c ∷ t) (string_from false mark t)
 string_from false mark (c ∷ t) =
     if c == mark then Ok ([], skip t)
     else if c == 92 then string_from true mark t

@@ -40,13 +40,13 @@ are_ordered test (out.Long a) (out.Long b) = test a b
 are_ordered test _ _ = false
 
 -- whether a comparison holds
-abbrev pub compare : Comparison → Out → Out → Bool
-compare Equal a b = is_same a b
-compare NotEqual a b = not (is_same a b)
-compare Below a b = are_ordered int_lt a b
-compare Above a b = are_ordered int_lt b a
-compare AtMost a b = are_ordered int_le a b
-compare AtLeast a b = are_ordered int_le b a
+abbrev pub comparison_holds : Comparison → Out → Out → Bool
+comparison_holds Equal a b = is_same a b
+comparison_holds NotEqual a b = not (is_same a b)
+comparison_holds Below a b = are_ordered int_lt a b
+comparison_holds Above a b = are_ordered int_lt b a
+comparison_holds AtMost a b = are_ordered int_le a b
+comparison_holds AtLeast a b = are_ordered int_le b a
 
 -- a && b && ..: the first that is false, else the last
 abbrev pub and_values : Out → List Out → Out
@@ -107,7 +107,7 @@ value_step scope (Node-F.Resource name) = resource scope name
 value_step scope (Node-F.List items) = out.List (item_texts items)
 value_step scope (Node-F.Access v names) = out.Nothing
 value_step scope (Node-F.Not v) = out.Truth (not (is_true v))
-value_step scope (Node-F.Compare comparison a b) = out.Truth (compare comparison a b)
+value_step scope (Node-F.Compare comparison a b) = out.Truth (comparison_holds comparison a b)
 value_step scope (Node-F.And a more) = and_values a more
 value_step scope (Node-F.Or a more) = or_values a more
 value_step scope (Node-F.Choice condition a b) = if is_true condition then a else b

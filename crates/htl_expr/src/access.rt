@@ -12,8 +12,8 @@ use sp_base::{TextBuf, TextList};
 use sqlite_items::Boxed;
 use std::alloc::{AllocError, Global};
 
-pub fn accessed(alloc: Global, e: Node, fields: TextList) -> Result<Node, AllocError>
-    ensures { IfOk result (λ r. r ≡ spec.accessed e fields) }
+pub fn access_of(alloc: Global, e: Node, fields: TextList) -> Result<Node, AllocError>
+    ensures { IfOk result (λ r. r ≡ spec.access_of e fields) }
 {
     if fields.len() == 0 {
         return Ok(e);
@@ -28,10 +28,10 @@ fn access_at(text: &str) -> bool
     is_at(b'.', text) || is_at(b'[', text)
 }
 
-#[tactic(auto, unfolding(crate::specs::Read::bracketed))]
-fn bracketed(alloc: Global, depth: u32, text: &str) -> Result<(TextBuf, &str), Stop>
+#[tactic(auto, unfolding(crate::specs::Read::bracket_access))]
+fn bracket_access(alloc: Global, depth: u32, text: &str) -> Result<(TextBuf, &str), Stop>
     requires { tokens.is_at 91 text.now ≡ true }
-    ensures { Gives (λ x. (x.0, x.1.now)) result (spec.bracketed depth text.now) }
+    ensures { Gives (λ x. (x.0, x.1.now)) result (spec.bracket_access depth text.now) }
 {
     if depth == 0 {
         return Err(Stop::TooDeep(text.len()));
@@ -49,7 +49,7 @@ fn access(alloc: Global, depth: u32, text: &str) -> Result<(TextBuf, &str), Stop
     if is_at(b'.', text) {
         name(alloc, NameKind::Field, behind(b'.', text))
     } else {
-        bracketed(alloc, depth, text)
+        bracket_access(alloc, depth, text)
     }
 }
 

@@ -31,9 +31,9 @@ fn is_at_most(a: &Lent, b: &Lent) -> bool
     }
 }
 
-/// Whether a comparison holds between two values.
-pub(crate) fn compare(alloc: Global, comparison: Comparison, a: &Lent, b: &Lent) -> Mem<bool>
-    ensures { IfOk result (λ holds. holds ≡ spec.compare comparison (out_of_lent a.now) (out_of_lent b.now)) }
+// Whether a comparison holds between two values.
+fn comparison_holds(alloc: Global, comparison: Comparison, a: &Lent, b: &Lent) -> Mem<bool>
+    ensures { IfOk result (λ holds. holds ≡ spec.comparison_holds comparison (out_of_lent a.now) (out_of_lent b.now)) }
 {
     Ok(match comparison {
         Comparison::Equal => is_same(alloc, a, b)?,
@@ -43,6 +43,29 @@ pub(crate) fn compare(alloc: Global, comparison: Comparison, a: &Lent, b: &Lent)
         Comparison::AtMost => is_at_most(a, b),
         Comparison::AtLeast => is_at_most(b, a),
     })
+}
+
+/// Whether a comparison holds between two operands, of which it may be known that they are one: a list is not compared with itself
+/// item by item.
+#[tactic(auto, using(crate::proofs::SameItems::same_where_one))]
+pub(crate) fn operands_compare(
+    alloc: Global,
+    comparison: Comparison,
+    is_one: bool,
+    a: &Lent,
+    b: &Lent,
+) -> Mem<bool>
+    requires { is_one ≡ true → out_of_lent a.now ≡ out_of_lent b.now }
+    ensures { IfOk result (λ holds. holds ≡ spec.comparison_holds comparison (out_of_lent a.now) (out_of_lent b.now)) }
+{
+    if !is_one {
+        return comparison_holds(alloc, comparison, a, b);
+    }
+    match comparison {
+        Comparison::Equal => Ok(true),
+        Comparison::NotEqual => Ok(false),
+        _ => comparison_holds(alloc, comparison, a, b),
+    }
 }
 
 // Whether two values have the same kind and the same content.

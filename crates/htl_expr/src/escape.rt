@@ -28,9 +28,9 @@ fn has_reference(c: u8) -> bool
 }
 
 /// How many bytes stand before the first that has a reference.
-#[tactic(auto, unfolding(crate::specs::Print::run_len))]
-fn run_len(text: &[u8]) -> usize
-    ensures { result ≡ spec.run_len text.now }
+#[tactic(auto, unfolding(crate::specs::Print::reference_place))]
+fn reference_place(text: &[u8]) -> usize
+    ensures { result ≡ spec.reference_place text.now }
 {
     let mut len = 0;
     let mut rest = text;
@@ -57,11 +57,11 @@ fn first_reference(text: &[u8]) -> Option<&'static str>
 // Whole runs between the five characters are written, which are bytes of their own.
 fn push_runs(text: &mut String, most: usize, plain: &str) -> Result<(), WriteFault>
     requires { length (string_bytes text.old) ≤ most }
-    ensures { Wrote most result (string_bytes text.old) (flat_map spec.escape plain.now) (string_bytes text.new) }
+    ensures { Wrote most result (string_bytes text.old) (flat_map spec.html_escape plain.now) (string_bytes text.new) }
 {
     let mut rest = plain;
     loop {
-        let (run, after) = rest.split_at(run_len(rest.as_bytes()));
+        let (run, after) = rest.split_at(reference_place(rest.as_bytes()));
         push_within(text, most, run)?;
         let Some(reference) = first_reference(after.as_bytes()) else {
             return Ok(());
@@ -74,7 +74,7 @@ fn push_runs(text: &mut String, most: usize, plain: &str) -> Result<(), WriteFau
 // Escapes only lengthen a text, so one that doesn't fit as it stands isn't looked through.
 fn push_escaped(text: &mut String, most: usize, plain: &str) -> Result<(), WriteFault>
     requires { length (string_bytes text.old) ≤ most }
-    ensures { Wrote most result (string_bytes text.old) (flat_map spec.escape plain.now) (string_bytes text.new) }
+    ensures { Wrote most result (string_bytes text.old) (flat_map spec.html_escape plain.now) (string_bytes text.new) }
 {
     if plain.len() > most - text.as_str().len() {
         return Err(WriteFault::TooLong);

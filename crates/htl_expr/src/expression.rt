@@ -3,7 +3,7 @@
 ghost use Rattle.std.specs.Prelude.{◌≡◌, ◌≢◌, ◌≤◌, IfOk, IfErr, Ok, Err, take, drop, length};
 ghost use Rattle.htl_expr.specs.Tokens.{Gives, is_at};
 ghost use Rattle.htl_expr.specs.Read as spec;
-ghost use Rattle.htl_expr.specs.Grammar.{Whole};
+ghost use Rattle.htl_expr.specs.Grammar.{nesting_limit, Whole};
 ghost use Rattle.htl_expr.specs.declared.expression.Expr.{Expr};
 ghost use Rattle.htl_expr.specs.Fault.{takes_colon, place_of, expression_of, IsReadAs, IsFault};
 
@@ -52,7 +52,7 @@ fn colon_at(text: &[u8]) -> bool
 
 #[tactic(auto, unfolding(crate::specs::Read::read))]
 fn whole(alloc: Global, text: &str) -> Result<Expr, Stop>
-    ensures { Gives (λ e. e) result (spec.read text.now) }
+    ensures { Gives (λ e. e) result (spec.read nesting_limit text.now) }
 {
     let (node, rest) = first(alloc, skip(text))?;
     let (Options { join, context }, rest) = read_options(alloc, rest)?;
@@ -69,7 +69,7 @@ fn whole(alloc: Global, text: &str) -> Result<Expr, Stop>
 
 /// Whether a colon behind a text may belong to a field's name: a letter behind it is then read.
 fn takes_colon(alloc: Global, front: &str) -> Mem<bool>
-    ensures { IfOk result (λ takes. takes ≡ takes_colon front.now) }
+    ensures { IfOk result (λ takes. takes ≡ takes_colon nesting_limit front.now) }
 {
     let mut text = String::from_str(alloc, front)?;
     text.push_str(":b")?;
@@ -84,7 +84,7 @@ fn takes_colon(alloc: Global, front: &str) -> Mem<bool>
 /// The place of a fault. Where a colon may belong to a field's name, the byte behind it is the one that doesn't fit.
 fn place_of(alloc: Global, text: &str, place: usize) -> Mem<usize>
     requires { place ≤ length text.now }
-    ensures { IfOk result (λ p. p ≡ place_of text.now place) }
+    ensures { IfOk result (λ p. p ≡ place_of nesting_limit text.now place) }
 {
     if !colon_at(&text.as_bytes()[place..]) {
         return Ok(place);
@@ -110,7 +110,7 @@ impl Expr {
         // What is in the grammar is read, unless memory runs out.
         ensures only { (e : Expr) → Whole text.now e → IsReadAs e result }
 
-        // The place of a fault is the first byte with which no expression goes on.
+        // The place of a fault is the first byte with which no expression goes on; it is TooDeep exactly where one would with one level more.
         ensures fault { IfErr result (λ f. IsFault f text.now) }
     {
         match whole(alloc, text) {

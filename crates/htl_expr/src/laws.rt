@@ -1,9 +1,9 @@
 //! What the reading is, and what is written: laws of the definitions, on functions that do nothing.
 
-ghost use Rattle.std.specs.Prelude.{◌≡◌, ◌≢◌, ℕ, List, Ok, Err};
+ghost use Rattle.std.specs.Prelude.{◌≡◌, ◌≢◌, ◌≤◌, ℕ, List, Ok, Err};
 ghost use Rattle.htl_expr.specs.declared.expression.Expr.{Expr};
 ghost use Rattle.htl_expr.specs.declared.expression.ExprFault.{ExprFault};
-ghost use Rattle.htl_expr.specs.Grammar.{Whole};
+ghost use Rattle.htl_expr.specs.Grammar.{Whole, WholeWithin};
 ghost use Rattle.htl_expr.specs.Fault.{expression_of, IsFault};
 ghost use Rattle.htl_expr.specs.Print.{IsInert};
 ghost use Rattle.htl_expr.specs.Value.{print};
@@ -16,6 +16,13 @@ pub fn the_reading_is_the_grammar()
     ensures only { (text : List ℕ) (e : Expr) → Whole text e → expression_of text ≡ Ok e }
     ensures fault { (text : List ℕ) (f : ExprFault) → expression_of text ≡ Err f → IsFault f text }
     ensures memory { (text : List ℕ) → expression_of text ≢ Err ExprFault.NoMemory }
+{}
+
+/// A deeper limit keeps what was read, and a text has one fault: too deep exactly where an expression would go on with one level more, and
+/// unexpected exactly where none would with any number of levels.
+pub fn too_deep_is_the_limit()
+    ensures deeper { (levels deeper : ℕ) (text : List ℕ) (e : Expr) → levels ≤ deeper → WholeWithin levels text e → WholeWithin deeper text e }
+    ensures one { (text : List ℕ) (f g : ExprFault) → f ≢ ExprFault.NoMemory → g ≢ ExprFault.NoMemory → IsFault f text → IsFault g text → f ≡ g }
 {}
 
 /// Unless the option `context` is 'unsafe', what an expression writes begins no tag and ends no attribute's value that stands in quotes.

@@ -24,7 +24,7 @@ mod tokens;
 mod value;
 
 pub use expression::{Context, Expr, ExprFault};
-pub use laws::{the_reading_is_the_grammar, what_is_written_is_inert};
+pub use laws::{the_reading_is_the_grammar, too_deep_is_the_limit, what_is_written_is_inert};
 pub use node::{Comparison, Node};
 pub use out::Out;
 pub use room::WriteFault;

@@ -62,7 +62,7 @@ pub(crate) fn push_texts(
     items: &[TextBuf],
 ) -> Result<(), WriteFault>
     requires { length (string_bytes text.old) ≤ most }
-    ensures { Wrote most result (string_bytes text.old) (spec.in_context context (spec.joined join.now (map itself items.now))) (string_bytes text.new) }
+    ensures { Wrote most result (string_bytes text.old) (spec.in_context context (spec.concatenation join.now (map itself items.now))) (string_bytes text.new) }
 {
     let mut before = "";
     for item in items {
@@ -96,7 +96,7 @@ pub(crate) fn push_longs(
     items: &[i64],
 ) -> Result<(), WriteFault>
     requires { length (string_bytes text.old) ≤ most }
-    ensures { Wrote most result (string_bytes text.old) (spec.in_context context (spec.joined join.now (map signed_decimal items.now))) (string_bytes text.new) }
+    ensures { Wrote most result (string_bytes text.old) (spec.in_context context (spec.concatenation join.now (map signed_decimal items.now))) (string_bytes text.new) }
 {
     let mut before = "";
     for item in items {
@@ -128,7 +128,7 @@ pub(crate) fn push_truths(
     items: &[bool],
 ) -> Result<(), WriteFault>
     requires { length (string_bytes text.old) ≤ most }
-    ensures { Wrote most result (string_bytes text.old) (spec.in_context context (spec.joined join.now (map truth_text items.now))) (string_bytes text.new) }
+    ensures { Wrote most result (string_bytes text.old) (spec.in_context context (spec.concatenation join.now (map truth_text items.now))) (string_bytes text.new) }
 {
     let mut before = "";
     for item in items {

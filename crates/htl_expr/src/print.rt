@@ -1,7 +1,6 @@
 //! How a value is printed.
 
 ghost use Rattle.std.specs.Prelude.{◌≡◌, ◌≢◌, ◌≤◌, ◌<◌, ◌++◌, IfOk, IfErr, OnOk, OnErr, string_bytes, map, length};
-ghost use Rattle.std.specs.Io.{StartsWith};
 ghost use Rattle.htl_expr.specs.Lent.{out_of_lent, plain_item};
 ghost use Rattle.htl_expr.specs.Print as spec;
 ghost use Rattle.htl_expr.specs.Value.{print};
@@ -46,7 +45,7 @@ fn push_items(
     items: &[Lent],
 ) -> Result<(), WriteFault>
     requires { length (string_bytes text.old) ≤ most }
-    ensures { Wrote most result (string_bytes text.old) (spec.in_context context (spec.joined join.now (map plain_item items.now))) (string_bytes text.new) }
+    ensures { Wrote most result (string_bytes text.old) (spec.in_context context (spec.concatenation join.now (map plain_item items.now))) (string_bytes text.new) }
 {
     let mut before = "";
     for item in items {
@@ -130,13 +129,20 @@ impl Expr {
     ) -> Result<(), WriteFault>
         ensures ok { OnOk result ((string_bytes text.new ≡ string_bytes text.old ++ print scope.now self.now) × (length (string_bytes text.new) ≤ most)) }
         ensures err { IfErr result (λ f. f ≢ WriteFault.NoMemory → (f ≡ WriteFault.TooLong) × (most < length (string_bytes text.old ++ print scope.now self.now))) }
-        // What the text had stays in front, and it grows within the limit alone.
-        ensures kept { OnErr result (StartsWith (string_bytes text.new) (string_bytes text.old)) }
+        // A text that isn't written whole isn't written in part.
+        ensures kept { OnErr result (string_bytes text.new ≡ string_bytes text.old) }
     {
-        if text.as_str().len() > most {
+        let len = text.as_str().len();
+        if len > most {
             return Err(WriteFault::TooLong);
         }
-        self.push_print(alloc, text, scope, most)
+        match self.push_print(alloc, text, scope, most) {
+            Ok(()) => Ok(()),
+            Err(fault) => {
+                text.truncate(len);
+                Err(fault)
+            }
+        }
     }
 
     /// The text that the expression writes for a resource.

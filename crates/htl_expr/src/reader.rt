@@ -4,8 +4,9 @@ ghost use Rattle.std.specs.Prelude.{◌≡◌, ◌<◌, [], ◌∷◌, length, s
 ghost use Rattle.htl_expr.specs.Tokens.{Gives};
 ghost use Rattle.htl_expr.specs.Tokens as tokens;
 ghost use Rattle.htl_expr.specs.Read as spec;
+ghost use Rattle.htl_expr.specs.Grammar.{nesting_limit};
 
-use crate::access::{accessed, accesses, first_access};
+use crate::access::{access_of, accesses, first_access};
 use crate::node::{Comparison, Node};
 use crate::numbers::number;
 use crate::stop::Stop;
@@ -94,9 +95,9 @@ fn comparison(text: &str) -> Result<(Comparison, &str), Stop>
 }
 
 /// A literal or a variable; `properties` and `resource` with their first access.
-#[tactic(auto, unfolding(crate::specs::Read::named))]
-fn named(alloc: Global, depth: u32, text: &str) -> Result<(Node, &str), Stop>
-    ensures { Gives (λ x. (x.0, x.1.now)) result (spec.named depth text.now) }
+#[tactic(auto, unfolding(crate::specs::Read::name_or_object))]
+fn name_or_object(alloc: Global, depth: u32, text: &str) -> Result<(Node, &str), Stop>
+    ensures { Gives (λ x. (x.0, x.1.now)) result (spec.name_or_object depth text.now) }
 {
     let (word, rest) = name(alloc, NameKind::Name, text)?;
     if word.text() == "properties" {
@@ -121,16 +122,16 @@ fn leaf(alloc: Global, depth: u32, text: &str) -> Result<(Node, &str), Stop>
         let (n, rest) = number(text)?;
         Ok((Node::Long(n), rest))
     } else {
-        named(alloc, depth, text)
+        name_or_object(alloc, depth, text)
     }
 }
 
 /// What stands behind the byte that nests it.
 #[cycle(reader)]
-#[tactic(auto, unfolding(crate::specs::Read::nested))]
-fn nested(alloc: Global, depth: u32, inside: Inside, text: &str) -> Result<(Node, &str), Stop>
+#[tactic(auto, unfolding(crate::specs::Read::nesting))]
+fn nesting(alloc: Global, depth: u32, inside: Inside, text: &str) -> Result<(Node, &str), Stop>
     requires { slice_index text.now 0 < 128 }
-    ensures { Gives (λ x. (x.0, x.1.now)) result (spec.nested depth inside text.now) }
+    ensures { Gives (λ x. (x.0, x.1.now)) result (spec.nesting depth inside text.now) }
 {
     if depth == 0 {
         return Err(Stop::TooDeep(text.len()));
@@ -146,14 +147,14 @@ fn nested(alloc: Global, depth: u32, inside: Inside, text: &str) -> Result<(Node
 #[cycle(reader)]
 #[tactic(auto, using(crate::proofs::Scan::front_ascii), unfolding(crate::specs::Read::start))]
 fn start(alloc: Global, depth: u32, text: &str) -> Result<(Node, &str), Stop>
-    ensures { Gives (λ x. (x.0, x.1.now)) result (spec.start depth (spec.nested depth) text.now) }
+    ensures { Gives (λ x. (x.0, x.1.now)) result (spec.start depth (spec.nesting depth) text.now) }
 {
     if is_at(b'(', text) {
-        let (e, rest) = nested(alloc, depth, Inside::Choice, text)?;
+        let (e, rest) = nesting(alloc, depth, Inside::Choice, text)?;
         let rest = expect(b')', rest)?;
         Ok((e, rest))
     } else if is_at(b'[', text) {
-        let (e, rest) = nested(alloc, depth, Inside::Items, text)?;
+        let (e, rest) = nesting(alloc, depth, Inside::Items, text)?;
         let rest = expect(b']', rest)?;
         Ok((e, rest))
     } else {
@@ -164,20 +165,20 @@ fn start(alloc: Global, depth: u32, text: &str) -> Result<(Node, &str), Stop>
 #[cycle(reader)]
 #[tactic(auto, unfolding(crate::specs::Read::atom))]
 fn atom(alloc: Global, depth: u32, text: &str) -> Result<(Node, &str), Stop>
-    ensures { Gives (λ x. (x.0, x.1.now)) result (spec.atom depth (spec.nested depth) text.now) }
+    ensures { Gives (λ x. (x.0, x.1.now)) result (spec.atom depth (spec.nesting depth) text.now) }
 {
     let (e, rest) = start(alloc, depth, text)?;
     let (fields, rest) = accesses(alloc, depth, rest)?;
-    Ok((accessed(alloc, e, fields)?, rest))
+    Ok((access_of(alloc, e, fields)?, rest))
 }
 
 #[cycle(reader)]
 #[tactic(auto, using(crate::proofs::Scan::front_ascii), unfolding(crate::specs::Read::operand))]
 fn operand(alloc: Global, depth: u32, text: &str) -> Result<(Node, &str), Stop>
-    ensures { Gives (λ x. (x.0, x.1.now)) result (spec.operand depth (spec.nested depth) text.now) }
+    ensures { Gives (λ x. (x.0, x.1.now)) result (spec.operand depth (spec.nesting depth) text.now) }
 {
     if is_at(b'!', text) {
-        let (e, rest) = nested(alloc, depth, Inside::Operand, text)?;
+        let (e, rest) = nesting(alloc, depth, Inside::Operand, text)?;
         return Ok((Node::Not(Boxed::new(alloc, e)?), rest));
     }
     atom(alloc, depth, text)
@@ -186,7 +187,7 @@ fn operand(alloc: Global, depth: u32, text: &str) -> Result<(Node, &str), Stop>
 #[cycle(reader)]
 #[tactic(auto, unfolding(crate::specs::Read::compare))]
 fn compare(alloc: Global, depth: u32, text: &str) -> Result<(Node, &str), Stop>
-    ensures { Gives (λ x. (x.0, x.1.now)) result (spec.compare depth (spec.nested depth) text.now) }
+    ensures { Gives (λ x. (x.0, x.1.now)) result (spec.compare depth (spec.nesting depth) text.now) }
 {
     let (a, rest) = operand(alloc, depth, text)?;
     if !compares(rest) {
@@ -204,7 +205,7 @@ fn compare(alloc: Global, depth: u32, text: &str) -> Result<(Node, &str), Stop>
 #[cycle(reader)]
 #[tactic(auto, using(crate::proofs::Scan::front_ascii), unfolding(crate::specs::Read::chain))]
 fn more_compares(alloc: Global, depth: u32, text: &str) -> Result<(NodeList<Node>, &str), Stop>
-    ensures { Gives (λ x. (x.0, x.1.now)) result (spec.chain (spec.compare depth (spec.nested depth)) 38 (length text.now) [] text.now) }
+    ensures { Gives (λ x. (x.0, x.1.now)) result (spec.chain (spec.compare depth (spec.nesting depth)) 38 (length text.now) [] text.now) }
 {
     let mut found = NodeList::new(alloc);
     let mut rest = text;
@@ -223,7 +224,7 @@ fn more_compares(alloc: Global, depth: u32, text: &str) -> Result<(NodeList<Node
 #[cycle(reader)]
 #[tactic(auto, unfolding(crate::specs::Read::both))]
 fn both(alloc: Global, depth: u32, text: &str) -> Result<(Node, &str), Stop>
-    ensures { Gives (λ x. (x.0, x.1.now)) result (spec.both depth (spec.nested depth) text.now) }
+    ensures { Gives (λ x. (x.0, x.1.now)) result (spec.both depth (spec.nesting depth) text.now) }
 {
     let (e, rest) = compare(alloc, depth, text)?;
     let (more, rest) = more_compares(alloc, depth, rest)?;
@@ -234,7 +235,7 @@ fn both(alloc: Global, depth: u32, text: &str) -> Result<(Node, &str), Stop>
 #[cycle(reader)]
 #[tactic(auto, using(crate::proofs::Scan::front_ascii), unfolding(crate::specs::Read::chain))]
 fn more_boths(alloc: Global, depth: u32, text: &str) -> Result<(NodeList<Node>, &str), Stop>
-    ensures { Gives (λ x. (x.0, x.1.now)) result (spec.chain (spec.both depth (spec.nested depth)) 124 (length text.now) [] text.now) }
+    ensures { Gives (λ x. (x.0, x.1.now)) result (spec.chain (spec.both depth (spec.nesting depth)) 124 (length text.now) [] text.now) }
 {
     let mut found = NodeList::new(alloc);
     let mut rest = text;
@@ -253,7 +254,7 @@ fn more_boths(alloc: Global, depth: u32, text: &str) -> Result<(NodeList<Node>, 
 #[cycle(reader)]
 #[tactic(auto, unfolding(crate::specs::Read::either))]
 fn either(alloc: Global, depth: u32, text: &str) -> Result<(Node, &str), Stop>
-    ensures { Gives (λ x. (x.0, x.1.now)) result (spec.either depth (spec.nested depth) text.now) }
+    ensures { Gives (λ x. (x.0, x.1.now)) result (spec.either depth (spec.nesting depth) text.now) }
 {
     let (e, rest) = both(alloc, depth, text)?;
     let (more, rest) = more_boths(alloc, depth, rest)?;
@@ -263,10 +264,10 @@ fn either(alloc: Global, depth: u32, text: &str) -> Result<(Node, &str), Stop>
 #[cycle(reader)]
 #[tactic(auto, using(crate::proofs::Scan::front_ascii), unfolding(crate::specs::Read::other_choice))]
 fn other_choice(alloc: Global, depth: u32, text: &str) -> Result<(Node, &str), Stop>
-    ensures { Gives (λ x. (x.0, x.1.now)) result (spec.other_choice depth (spec.nested depth) text.now) }
+    ensures { Gives (λ x. (x.0, x.1.now)) result (spec.other_choice depth (spec.nesting depth) text.now) }
 {
     if is_at(b':', text) {
-        nested(alloc, depth, Inside::Choice, text)
+        nesting(alloc, depth, Inside::Choice, text)
     } else {
         Err(Stop::Unexpected(text.len()))
     }
@@ -275,13 +276,13 @@ fn other_choice(alloc: Global, depth: u32, text: &str) -> Result<(Node, &str), S
 #[cycle(reader)]
 #[tactic(auto, using(crate::proofs::Scan::front_ascii), unfolding(crate::specs::Read::choice))]
 fn choice(alloc: Global, depth: u32, text: &str) -> Result<(Node, &str), Stop>
-    ensures { Gives (λ x. (x.0, x.1.now)) result (spec.choice depth (spec.nested depth) text.now) }
+    ensures { Gives (λ x. (x.0, x.1.now)) result (spec.choice depth (spec.nesting depth) text.now) }
 {
     let (c, rest) = either(alloc, depth, text)?;
     if !is_at(b'?', rest) {
         return Ok((c, rest));
     }
-    let (a, rest) = nested(alloc, depth, Inside::Choice, rest)?;
+    let (a, rest) = nesting(alloc, depth, Inside::Choice, rest)?;
     let (b, rest) = other_choice(alloc, depth, rest)?;
     Ok((
         Node::Choice(
@@ -302,7 +303,7 @@ fn more_items(
     first: Node,
     text: &str,
 ) -> Result<(NodeList<Node>, &str), Stop>
-    ensures { Gives (λ x. (x.0, x.1.now)) result (spec.chain (spec.choice depth (spec.nested depth)) 44 (length text.now) (first ∷ []) text.now) }
+    ensures { Gives (λ x. (x.0, x.1.now)) result (spec.chain (spec.choice depth (spec.nesting depth)) 44 (length text.now) (first ∷ []) text.now) }
 {
     let mut found = NodeList::new(alloc);
     found.push(first)?;
@@ -323,7 +324,7 @@ fn more_items(
 #[cycle(reader)]
 #[tactic(auto, unfolding(crate::specs::Read::items))]
 fn items(alloc: Global, depth: u32, text: &str) -> Result<(Node, &str), Stop>
-    ensures { Gives (λ x. (x.0, x.1.now)) result (spec.items depth (spec.nested depth) text.now) }
+    ensures { Gives (λ x. (x.0, x.1.now)) result (spec.items depth (spec.nesting depth) text.now) }
 {
     if is_at(b']', text) {
         return Ok((Node::List(NodeList::new(alloc)), text));
@@ -333,14 +334,17 @@ fn items(alloc: Global, depth: u32, text: &str) -> Result<(Node, &str), Stop>
     Ok((Node::List(all), rest))
 }
 
-/// Nothing, or a choice in which 32 levels may nest.
+/// How many levels may nest.
+const NESTING_LIMIT: u32 = 32;
+
+/// Nothing, or a choice in which that many levels may nest.
 #[tactic(auto, unfolding(crate::specs::Read::first))]
 pub fn first(alloc: Global, text: &str) -> Result<(Option<Node>, &str), Stop>
-    ensures { Gives (λ x. (x.0, x.1.now)) result (spec.first text.now) }
+    ensures { Gives (λ x. (x.0, x.1.now)) result (spec.first nesting_limit text.now) }
 {
     if text.is_empty() || is_at(b'@', text) {
         return Ok((None, text));
     }
-    let (e, rest) = choice(alloc, 32, text)?;
+    let (e, rest) = choice(alloc, NESTING_LIMIT, text)?;
     Ok((Some(e), rest))
 }

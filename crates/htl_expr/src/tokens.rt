@@ -206,8 +206,8 @@ fn goes_on(kind: NameKind, text: &[u8]) -> bool
 }
 
 #[tactic(auto, using(crate::proofs::Scan::name_front, crate::proofs::Scan::run_more, crate::proofs::Scan::run_none, crate::proofs::Scan::name_less))]
-fn run_len(kind: NameKind, text: &str) -> usize
-    ensures value { result ≡ spec.run_len kind text.now }
+fn name_len(kind: NameKind, text: &str) -> usize
+    ensures value { result ≡ spec.name_len kind text.now }
     ensures boundary { IsCharBoundary text.now result }
 {
     let mut len = 0;
@@ -227,7 +227,7 @@ pub fn name(alloc: Global, kind: NameKind, text: &str) -> Result<(TextBuf, &str)
     if !first_at(text) {
         return Err(Stop::Unexpected(text.len()));
     }
-    let (front, rest) = text.split_at(run_len(kind, text));
+    let (front, rest) = text.split_at(name_len(kind, text));
     Ok((TextBuf::of(alloc, front)?, skip(rest)))
 }
 

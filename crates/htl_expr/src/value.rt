@@ -1,10 +1,10 @@
 //! The value of a tree.
 
-ghost use Rattle.std.specs.Prelude.{◌≡◌, IfOk, map, if◌then◌else◌};
+ghost use Rattle.std.specs.Prelude.{◌≡◌, IfOk, map, if◌then◌else◌, true};
 ghost use Rattle.htl_expr.specs.Value as spec;
 ghost use Rattle.htl_expr.specs.Lent.{out_of_lent};
 
-use crate::compare::compare;
+use crate::compare::operands_compare;
 use crate::expression::Expr;
 use crate::lent::{Lent, is_true};
 use crate::node::Node;
@@ -89,6 +89,16 @@ fn item_values<'a>(alloc: Global, scope: &Scope<'a>, items: &'a [Node]) -> Mem<I
     Ok(values)
 }
 
+// Whether two operands are one property.
+fn is_same_property(a: &Node, b: &Node) -> bool
+    ensures { result ≡ true → a.now ≡ b.now }
+{
+    match (a, b) {
+        (Node::Property(a), Node::Property(b)) => a.text() == b.text(),
+        _ => false,
+    }
+}
+
 /// The value of a tree, with what the scope and the tree have lent.
 #[cycle(value)]
 pub(crate) fn value<'a>(alloc: Global, scope: &Scope<'a>, node: &'a Node) -> Mem<Lent<'a>>
@@ -104,9 +114,10 @@ pub(crate) fn value<'a>(alloc: Global, scope: &Scope<'a>, node: &'a Node) -> Mem
         Node::List(items) => Ok(Lent::Items(item_values(alloc, scope, items.as_slice())?)),
         Node::Not(operand) => Ok(Lent::Truth(!is_true(&value(alloc, scope, operand.get())?))),
         Node::Compare(comparison, a, b) => {
+            let is_one = is_same_property(a.get(), b.get());
             let a = value(alloc, scope, a.get())?;
             let b = value(alloc, scope, b.get())?;
-            Ok(Lent::Truth(compare(alloc, *comparison, &a, &b)?))
+            Ok(Lent::Truth(operands_compare(alloc, *comparison, is_one, &a, &b)?))
         }
         Node::And(first, more) => {
             {

@@ -7,7 +7,7 @@ use Rattle.htl_text.specs.declared.fault.TextFault.{TextFault}
 use Rattle.htl_text.specs.declared.quotes.Quotes.{Quotes}
 use Rattle.htl_text.specs.declared.quotes.Quotes.TheVariants as q
 use Rattle.htl_text.specs.Template.{step, closes, closing, read_value, value_at}
-use Rattle.htl_text.specs.Spelling.{Quoted, Inside, NeverCloses}
+use Rattle.htl_text.specs.Spelling.{Quotation, Inside, NeverCloses}
 use Rattle.htl_text.specs.Spelling as s
 
 pub byte_is : (a b : ℕ) → eqb a b ≡ true → a ≡ b
@@ -33,8 +33,8 @@ mark_apart n mark other h = go (eqb n mark) refl
 -- what may stand in front of the closing brace, by where the text begins
 abbrev From : Quotes → List ℕ → Type 0
 From q.Outside w = Inside w
-From (q.Inside mark) w = (u : List ℕ) × (v : List ℕ) × (w ≡ u ++ v) × Quoted mark u × Inside v
-From (q.Escaped mark) w = (c : ℕ) × (u : List ℕ) × (v : List ℕ) × (w ≡ c ∷ (u ++ v)) × Quoted mark u × Inside v
+From (q.Inside mark) w = (u : List ℕ) × (v : List ℕ) × (w ≡ u ++ v) × Quotation mark u × Inside v
+From (q.Escaped mark) w = (c : ℕ) × (u : List ℕ) × (v : List ℕ) × (w ≡ c ∷ (u ++ v)) × Quotation mark u × Inside v
 
 -- a text that is closed at a place
 pub record Closed (quotes : Quotes) (n : ℕ) (t : List ℕ) (m : ℕ) : Type 0 where
@@ -53,8 +53,8 @@ from q.Outside c w left x = go (is_quote c) refl x
 from (q.Inside mark) c w left x = go (eqb c mark) (eqb c 92) refl refl x
   where
     go : (a b : Bool) → eqb c mark ≡ a → eqb c 92 ≡ b → From (cond a q.Outside (cond b (q.Escaped mark) (q.Inside mark))) w → From (q.Inside mark) (c ∷ w)
-    go true b ea eb y = (c ∷ [], w, refl, subst (λ (d : ℕ). Quoted mark (d ∷ [])) (sym (byte_is c mark ea)) s.closes, y)
-    go false true ea eb y = (c ∷ y.0 ∷ y.1, y.2, ap (λ (t : List ℕ). c ∷ t) y.3, subst (λ (d : ℕ). Quoted mark (d ∷ y.0 ∷ y.1)) (sym (byte_is c 92 eb)) (s.escape y.4), y.5)
+    go true b ea eb y = (c ∷ [], w, refl, subst (λ (d : ℕ). Quotation mark (d ∷ [])) (sym (byte_is c mark ea)) s.closes, y)
+    go false true ea eb y = (c ∷ y.0 ∷ y.1, y.2, ap (λ (t : List ℕ). c ∷ t) y.3, subst (λ (d : ℕ). Quotation mark (d ∷ y.0 ∷ y.1)) (sym (byte_is c 92 eb)) (s.escape y.4), y.5)
     go false false ea eb y = (c ∷ y.0, y.1, ap (λ (t : List ℕ). c ∷ t) y.2, s.plain ea eb y.3, y.4)
 from (q.Escaped mark) c w left x = (c, x.0, x.1, ap (λ (t : List ℕ). c ∷ t) x.2, x.3, x.4)
 
@@ -79,7 +79,7 @@ closed quotes n (c ∷ t) m h =
 -- ---- what is found of a text that is closed
 
 -- quotes are passed up to their mark
-quoted_passed : (mark n : ℕ) (w u : List ℕ) → eqb 92 mark ≡ false → Quoted mark w → closing (q.Inside mark) n (w ++ u) ≡ closing q.Outside (n + length w) u
+quoted_passed : (mark n : ℕ) (w u : List ℕ) → eqb 92 mark ≡ false → Quotation mark w → closing (q.Inside mark) n (w ++ u) ≡ closing q.Outside (n + length w) u
 unfolding closing
 quoted_passed mark n _ u m s.closes = rw (same_byte mark) refl
 quoted_passed mark n _ u m (s.plain {t = t} a b x) =

@@ -11,7 +11,7 @@ use Rattle.htl_text.specs.declared.fault.TextFault.{TextFault}
 use Rattle.htl_text.specs.declared.piece.Piece.{Piece}
 use Rattle.htl_text.specs.declared.piece.Piece.TheVariants.{Value}
 use Rattle.htl_text.specs.declared.quotes.Quotes.TheVariants.{Outside}
-use Rattle.htl_text.specs.Template.{opens, closing, read_value, closed_value, value_at, written, before, pieces, plain_pieces}
+use Rattle.htl_text.specs.Template.{opens, closing, read_value, closed_value, value_at, with_plain, before, pieces, plain_pieces}
 use Rattle.htl_text.proofs.Steps.{skipped}
 
 abbrev Read : Type 0
@@ -22,7 +22,7 @@ before_twice a b (Ok ps) = ap Ok (sym (append_assoc a b ps))
 before_twice a b (Err f) = refl
 
 -- plain text before an expression is a piece of its own
-plain_before : (t : List ℕ) (e : Expr) (r : Read) → written t (before (Value e ∷ []) r) ≡ before (plain_pieces t) (before (Value e ∷ []) r)
+plain_before : (t : List ℕ) (e : Expr) (r : Read) → with_plain t (before (Value e ∷ []) r) ≡ before (plain_pieces t) (before (Value e ∷ []) r)
 plain_before [] e (Ok ps) = refl
 plain_before (c ∷ t) e (Ok ps) = refl
 plain_before t e (Err f) = refl
@@ -85,7 +85,7 @@ pub opens_is : (t : List ℕ) → (eqb (length t) 0 || opens t) ≡ true → eqb
 opens_is t h e = rw e at h
 
 -- nothing is left
-pub read_ends : (all : ℕ) (old new : List Piece) (front behind rest text : List ℕ) → eqb (length behind) 0 ≡ true → ((n : ℕ) → written front (pieces n 0 behind) ≡ pieces n 0 rest)
+pub read_ends : (all : ℕ) (old new : List Piece) (front behind rest text : List ℕ) → eqb (length behind) 0 ≡ true → ((n : ℕ) → with_plain front (pieces n 0 behind) ≡ pieces n 0 rest)
     → new ≡ old ++ plain_pieces front → before old (pieces all 0 rest) ≡ pieces all 0 text → pieces all 0 text ≡ Ok new
 unfolding pieces
 read_ends all old new front [] rest text e plain en inv = sym inv ∙ ap (before old) (sym (plain all)) ∙ ap Ok (sym en)
@@ -93,14 +93,14 @@ read_ends all old new front (c ∷ t) rest text e plain en inv = absurd (grind (
 
 -- an expression is left, which has a fault
 pub read_fails : (all place : ℕ) (old : List Piece) (front behind rest text : List ℕ) (f : TextFault) → opens behind ≡ true → place ≡ all - length behind → value_at place behind ≡ Err f
-    → ((n : ℕ) → written front (pieces n 0 behind) ≡ pieces n 0 rest) → before old (pieces all 0 rest) ≡ pieces all 0 text → pieces all 0 text ≡ Err f
+    → ((n : ℕ) → with_plain front (pieces n 0 behind) ≡ pieces n 0 rest) → before old (pieces all 0 rest) ≡ pieces all 0 text → pieces all 0 text ≡ Err f
 read_fails all place old front behind rest text f h ep x plain inv =
     let fails = value_fails all behind f h (rw ep at x) in
-    sym inv ∙ ap (before old) (sym (plain all)) ∙ ap (λ (r : Read). before old (written front r)) fails
+    sym inv ∙ ap (before old) (sym (plain all)) ∙ ap (λ (r : Read). before old (with_plain front r)) fails
 
 -- an expression is left, and a text behind it
 pub read_more : (all place : ℕ) (old mid new : List Piece) (front behind after rest text : List ℕ) (e : Expr) → opens behind ≡ true → place ≡ all - length behind → value_at place behind ≡ Ok (e, after)
-    → ((n : ℕ) → written front (pieces n 0 behind) ≡ pieces n 0 rest) → mid ≡ old ++ plain_pieces front → new ≡ mid ++ Value e ∷ [] → before old (pieces all 0 rest) ≡ pieces all 0 text
+    → ((n : ℕ) → with_plain front (pieces n 0 behind) ≡ pieces n 0 rest) → mid ≡ old ++ plain_pieces front → new ≡ mid ++ Value e ∷ [] → before old (pieces all 0 rest) ≡ pieces all 0 text
     → before new (pieces all 0 after) ≡ pieces all 0 text
 read_more all place old mid new front behind after rest text e h ep x plain em en inv =
     let follows = value_follows all behind e after h (rw ep at x) in
@@ -108,7 +108,7 @@ read_more all place old mid new front behind after rest text e h ep x plain em e
     rw (en, em) (
     sym (before_twice (old ++ plain_pieces front) (Value e ∷ []) later)
     ∙ sym (before_twice old (plain_pieces front) (before (Value e ∷ []) later))
-    ∙ ap (before old) (sym (plain_before front e later) ∙ ap (written front) (sym follows) ∙ plain all)
+    ∙ ap (before old) (sym (plain_before front e later) ∙ ap (with_plain front) (sym follows) ∙ plain all)
     ∙ inv)
 
 -- what the pieces so far and one more write is too long already

@@ -10,7 +10,7 @@ use Rattle.htl_text.specs.declared.fault.TextFault.TheVariants.{Unclosed, BadExp
 use Rattle.htl_text.specs.declared.piece.Piece.{Piece}
 use Rattle.htl_text.specs.declared.piece.Piece.TheVariants.{Value}
 use Rattle.htl_text.specs.declared.quotes.Quotes.TheVariants.{Outside}
-use Rattle.htl_text.specs.Template.{is_at, opens, escapes, closing, read_value, value_at, in_front, written, before, pieces, template_of}
+use Rattle.htl_text.specs.Template.{is_at, opens, escapes, closing, read_value, value_at, in_front, with_plain, before, pieces, template_of}
 use Rattle.htl_text.specs.Spelling.{Inside, SpellsTemplate, HasNoExpr, Faults, IsFirstOpening}
 use Rattle.htl_text.specs.Spelling as s
 use Rattle.htl_text.proofs.Closed.{byte_is, closed, never_closes, none_closes, value_is, value_open}
@@ -64,11 +64,11 @@ carries : (all : ℕ) (text later : List ℕ) (ps qs : List Piece) (rest : List 
     → Carries all later ps rest → Carries all text qs rest
 carries all text later ps qs rest k e good bad x = (λ h. e ∙ ap k (x.0 h) ∙ good, λ f h. e ∙ ap k (x.1 f h) ∙ bad f)
 
-plain_read : (all c : ℕ) (t : List ℕ) → opens (c ∷ t) ≡ false → escapes (c ∷ t) ≡ false → pieces all 0 (c ∷ t) ≡ written (c ∷ []) (pieces all 0 t)
+plain_read : (all c : ℕ) (t : List ℕ) → opens (c ∷ t) ≡ false → escapes (c ∷ t) ≡ false → pieces all 0 (c ∷ t) ≡ with_plain (c ∷ []) (pieces all 0 t)
 unfolding pieces
 plain_read all c t a b = rw (a, b) refl
 
-escaped_read : (all : ℕ) (t : List ℕ) → pieces all 0 (92 ∷ 36 ∷ 123 ∷ t) ≡ written (codes "${") (pieces all 0 t)
+escaped_read : (all : ℕ) (t : List ℕ) → pieces all 0 (92 ∷ 36 ∷ 123 ∷ t) ≡ with_plain (codes "${") (pieces all 0 t)
 unfolding pieces opens escapes is_at
 escaped_read all t = refl
 
@@ -80,9 +80,9 @@ value_read all w t e x h =
 spelled_on : Only → (all : ℕ) (text : List ℕ) (ps : List Piece) (rest : List ℕ) → SpellsTemplate text ps rest → Carries all text ps rest
 spelled_on only all _ _ _ s.end = (λ h. h, λ f h. h)
 spelled_on only all _ _ rest (s.plain {c = c} {text = t} {ps = ps} a b x) =
-    carries all (c ∷ t) t ps (in_front (c ∷ []) ps) rest (written (c ∷ [])) (plain_read all c t a b) refl (λ f. refl) (spelled_on only all t ps rest x)
-spelled_on only all _ _ rest (s.escaped {text = t} {ps = ps} x) =
-    carries all (92 ∷ 36 ∷ 123 ∷ t) t ps (in_front (codes "${") ps) rest (written (codes "${")) (escaped_read all t) refl (λ f. refl) (spelled_on only all t ps rest x)
+    carries all (c ∷ t) t ps (in_front (c ∷ []) ps) rest (with_plain (c ∷ [])) (plain_read all c t a b) refl (λ f. refl) (spelled_on only all t ps rest x)
+spelled_on only all _ _ rest (s.escape {text = t} {ps = ps} x) =
+    carries all (92 ∷ 36 ∷ 123 ∷ t) t ps (in_front (codes "${") ps) rest (with_plain (codes "${")) (escaped_read all t) refl (λ f. refl) (spelled_on only all t ps rest x)
 spelled_on only all _ _ rest (s.value {inside = w} {text = t} {e = e} {ps = ps} i y x) =
     carries all (36 ∷ 123 ∷ (w ++ 125 ∷ t)) t ps (Value e ∷ ps) rest (before (Value e ∷ [])) (value_read all w t e i (only w e y)) refl (λ f. refl) (spelled_on only all t ps rest x)
 
@@ -111,7 +111,7 @@ first_is_read found only text f x =
     let opening = 36 ∷ 123 ∷ x.behind in
     let size : length text ≡ length x.front + length opening = ap length x.parts ∙ length-append x.front opening in
     let place : length text - length opening ≡ length x.front = omega (arith, size) in
-    (spelled_on only (length text) text x.ps opening x.spelled).1 f
+    (spelled_on only (length text) text x.ps opening x.spelling).1 f
     (value_fails (length text) opening f (opens_there x.behind) (ap (λ (k : ℕ). value_at k opening) place ∙ fault_read found f (length x.front) x.behind x.faulty))
 
 -- ---- what is read is spelled
@@ -122,7 +122,7 @@ record First (n : ℕ) (text : List ℕ) (fault : TextFault) : Type 0 where
   behind : List ℕ
   ps : List Piece
   parts : text ≡ front ++ 36 ∷ 123 ∷ behind
-  spelled : SpellsTemplate text ps (36 ∷ 123 ∷ behind)
+  spelling : SpellsTemplate text ps (36 ∷ 123 ∷ behind)
   faulty : Faults fault (n + length front) behind
 
 -- what a reading says of the text
@@ -141,17 +141,17 @@ later n w text after f g e spell x =
       behind = x.behind;
       ps = g x.ps;
       parts = e ∙ ap (λ (t : List ℕ). w ++ t) x.parts ∙ sym (append_assoc w x.front (36 ∷ 123 ∷ x.behind));
-      spelled = spell x.ps (36 ∷ 123 ∷ x.behind) x.spelled;
+      spelling = spell x.ps (36 ∷ 123 ∷ x.behind) x.spelling;
       faulty = subst (λ (k : ℕ). Faults f k x.behind) place x.faulty;
     }
 
-plain_means : (n c : ℕ) (t : List ℕ) → opens (c ∷ t) ≡ false → escapes (c ∷ t) ≡ false → (r : Read) → Meaning (n + 1) t r → Meaning n (c ∷ t) (written (c ∷ []) r)
+plain_means : (n c : ℕ) (t : List ℕ) → opens (c ∷ t) ≡ false → escapes (c ∷ t) ≡ false → (r : Read) → Meaning (n + 1) t r → Meaning n (c ∷ t) (with_plain (c ∷ []) r)
 plain_means n c t a b (Ok ps) x = s.plain a b x
 plain_means n c t a b (Err f) x = later n (c ∷ []) (c ∷ t) t f (in_front (c ∷ [])) refl (λ ps rest y. s.plain a b y) x
 
-escaped_means : (n : ℕ) (t : List ℕ) (r : Read) → Meaning (n + 3) t r → Meaning n (92 ∷ 36 ∷ 123 ∷ t) (written (codes "${") r)
-escaped_means n t (Ok ps) x = s.escaped x
-escaped_means n t (Err f) x = later n (92 ∷ 36 ∷ 123 ∷ []) (92 ∷ 36 ∷ 123 ∷ t) t f (in_front (codes "${")) refl (λ ps rest y. s.escaped y) x
+escaped_means : (n : ℕ) (t : List ℕ) (r : Read) → Meaning (n + 3) t r → Meaning n (92 ∷ 36 ∷ 123 ∷ t) (with_plain (codes "${") r)
+escaped_means n t (Ok ps) x = s.escape x
+escaped_means n t (Err f) x = later n (92 ∷ 36 ∷ 123 ∷ []) (92 ∷ 36 ∷ 123 ∷ t) t f (in_front (codes "${")) refl (λ ps rest y. s.escape y) x
 
 value_means : (n : ℕ) (w t : List ℕ) (e : Expr) → Inside w → Whole w e → (r : Read) → Meaning (n + (length w + 3)) t r → Meaning n (36 ∷ 123 ∷ (w ++ 125 ∷ t)) (before (Value e ∷ []) r)
 value_means n w t e i y (Ok ps) x = s.value i y x
@@ -168,7 +168,7 @@ fault_here n all f t e h x =
     let opening = 36 ∷ 123 ∷ t in
     let place : all - length opening ≡ n = omega (arith, e) in
     let none : n ≡ n + 0 = omega arith in
-    let here : First n opening f = record { front = []; behind = t; ps = []; parts = refl; spelled = s.end; faulty = subst (λ (k : ℕ). Faults f k t) none x } in
+    let here : First n opening f = record { front = []; behind = t; ps = []; parts = refl; spelling = s.end; faulty = subst (λ (k : ℕ). Faults f k t) none x } in
     subst (Meaning n opening) (sym (value_fails all opening f (opens_there t) (ap (λ (k : ℕ). value_at k opening) place ∙ h))) here
 
 -- an expression that is closed at the front
@@ -243,4 +243,4 @@ pub fault_is_first : Found → Only → (text : List ℕ) (f : TextFault) → te
 fault_is_first found only text f e =
     let x = whole_means found only text (Err f) e in
     let same : 0 + length x.front ≡ length x.front = omega arith in
-    record { front = x.front; behind = x.behind; ps = x.ps; parts = x.parts; spelled = x.spelled; faulty = subst (λ (k : ℕ). Faults f k x.behind) same x.faulty }
+    record { front = x.front; behind = x.behind; ps = x.ps; parts = x.parts; spelling = x.spelling; faulty = subst (λ (k : ℕ). Faults f k x.behind) same x.faulty }

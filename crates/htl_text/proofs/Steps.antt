@@ -8,9 +8,9 @@ use Rattle.htl_text.specs.declared.piece.Piece.{Piece}
 use Rattle.htl_text.specs.declared.piece.Piece.TheVariants.{Plain, Value}
 use Rattle.htl_text.specs.declared.quotes.Quotes.{Quotes}
 use Rattle.htl_text.specs.declared.quotes.Quotes.TheVariants.{Outside, Inside, Escaped}
-use Rattle.htl_text.specs.Template.{is_at, opens, escapes, step, closes, closing, in_front, written, pieces, plain_len}
+use Rattle.htl_text.specs.Template.{is_at, opens, escapes, step, closes, closing, in_front, with_plain, pieces, plain_len}
 
-written_nil : (r : Result (List Piece) TextFault) → written [] r ≡ r
+written_nil : (r : Result (List Piece) TextFault) → with_plain [] r ≡ r
 written_nil (Ok ps) = refl
 written_nil (Err f) = refl
 
@@ -21,7 +21,7 @@ in_front_twice (c ∷ a) (d ∷ b) [] = refl
 in_front_twice (c ∷ a) (d ∷ b) (Plain more ∷ ps) = ap (λ (l : List ℕ). Plain (c ∷ l) ∷ ps) (sym (append_assoc a (d ∷ b) more))
 in_front_twice (c ∷ a) (d ∷ b) (Value e ∷ ps) = refl
 
-pub written_twice : (a b : List ℕ) (r : Result (List Piece) TextFault) → written a (written b r) ≡ written (a ++ b) r
+pub written_twice : (a b : List ℕ) (r : Result (List Piece) TextFault) → with_plain a (with_plain b r) ≡ with_plain (a ++ b) r
 written_twice a b (Ok ps) = ap Ok (in_front_twice a b ps)
 written_twice a b (Err f) = refl
 
@@ -33,16 +33,16 @@ skipped all (suc n) [] = refl
 skipped all (suc n) (c ∷ t) = skipped all n t
 
 -- plain bytes are written before what follows
-pub plain_step : (all : ℕ) (t : List ℕ) → pieces all 0 t ≡ written (take (plain_len t) t) (pieces all 0 (drop (plain_len t) t))
+pub plain_step : (all : ℕ) (t : List ℕ) → pieces all 0 t ≡ with_plain (take (plain_len t) t) (pieces all 0 (drop (plain_len t) t))
 unfolding pieces plain_len
 plain_step all [] = refl
 plain_step all (c ∷ t) = go (opens (c ∷ t)) (escapes (c ∷ t)) refl refl (plain_step all t)
   where
-    go : (a b : Bool) → opens (c ∷ t) ≡ a → escapes (c ∷ t) ≡ b → pieces all 0 t ≡ written (take (plain_len t) t) (pieces all 0 (drop (plain_len t) t))
-        → pieces all 0 (c ∷ t) ≡ written (take (cond (a || b) 0 (suc (plain_len t))) (c ∷ t)) (pieces all 0 (drop (cond (a || b) 0 (suc (plain_len t))) (c ∷ t)))
+    go : (a b : Bool) → opens (c ∷ t) ≡ a → escapes (c ∷ t) ≡ b → pieces all 0 t ≡ with_plain (take (plain_len t) t) (pieces all 0 (drop (plain_len t) t))
+        → pieces all 0 (c ∷ t) ≡ with_plain (take (cond (a || b) 0 (suc (plain_len t))) (c ∷ t)) (pieces all 0 (drop (cond (a || b) 0 (suc (plain_len t))) (c ∷ t)))
     go true b ea eb ih = sym (written_nil (pieces all 0 (c ∷ t)))
     go false true ea eb ih = sym (written_nil (pieces all 0 (c ∷ t)))
-    go false false ea eb ih = rw (ea, eb) (ap (written (c ∷ [])) ih ∙ written_twice (c ∷ []) (take (plain_len t) t) (pieces all 0 (drop (plain_len t) t)))
+    go false false ea eb ih = rw (ea, eb) (ap (with_plain (c ∷ [])) ih ∙ written_twice (c ∷ []) (take (plain_len t) t) (pieces all 0 (drop (plain_len t) t)))
 
 pub some_of : (t : List ℕ) → (eqb (length t) 0) ≡ false → 0 < length t
 some_of [] h = absurd cc
@@ -159,10 +159,10 @@ not_opening (c ∷ t) h = go (eqb c 92) (eqb c 36) refl refl h
     go true false ea eb e = refl
     go false b ea eb e = absurd cc
 
-pub escape_step : (all : ℕ) (t : List ℕ) → escapes t ≡ true → pieces all 0 t ≡ written (codes "${") (pieces all 0 (drop 1 (drop 1 (drop 1 t))))
+pub escape_step : (all : ℕ) (t : List ℕ) → escapes t ≡ true → pieces all 0 t ≡ with_plain (codes "${") (pieces all 0 (drop 1 (drop 1 (drop 1 t))))
 unfolding pieces
 escape_step all [] h = absurd (let x = (escape [] h).less in omega (arith, x))
-escape_step all (c ∷ t) h = rw (not_opening (c ∷ t) h, h) (ap (written (codes "${")) (skipped all 2 t ∙ ap (pieces all 0) (two t)))
+escape_step all (c ∷ t) h = rw (not_opening (c ∷ t) h, h) (ap (with_plain (codes "${")) (skipped all 2 t ∙ ap (pieces all 0) (two t)))
   where
     two : (l : List ℕ) → drop 2 l ≡ drop 1 (drop 1 l)
     two [] = refl
@@ -221,14 +221,14 @@ less_is n rest behind e = rw e (drop_less n rest)
 
 -- a text with more at its end is written before what is left
 pub plain_is : (n : ℕ) (old new front behind rest text : List ℕ) → n ≡ plain_len rest → front ≡ take n rest → behind ≡ drop n rest → new ≡ old ++ front
-    → ((all : ℕ) → written old (pieces all 0 rest) ≡ pieces all 0 text) → (all : ℕ) → written new (pieces all 0 behind) ≡ pieces all 0 text
+    → ((all : ℕ) → with_plain old (pieces all 0 rest) ≡ pieces all 0 text) → (all : ℕ) → with_plain new (pieces all 0 behind) ≡ pieces all 0 text
 plain_is n old new front behind rest text en ef eb ew inv all =
-    rw (ew, ef, eb, en) (sym (written_twice old (take (plain_len rest) rest) (pieces all 0 (drop (plain_len rest) rest))) ∙ ap (written old) (sym (plain_step all rest)) ∙ inv all)
+    rw (ew, ef, eb, en) (sym (written_twice old (take (plain_len rest) rest) (pieces all 0 (drop (plain_len rest) rest))) ∙ ap (with_plain old) (sym (plain_step all rest)) ∙ inv all)
 
-pub escape_is : (old new behind text : List ℕ) → escapes behind ≡ true → new ≡ old ++ codes "${" → ((all : ℕ) → written old (pieces all 0 behind) ≡ pieces all 0 text)
-    → (all : ℕ) → written new (pieces all 0 (drop 1 (drop 1 (drop 1 behind)))) ≡ pieces all 0 text
+pub escape_is : (old new behind text : List ℕ) → escapes behind ≡ true → new ≡ old ++ codes "${" → ((all : ℕ) → with_plain old (pieces all 0 behind) ≡ pieces all 0 text)
+    → (all : ℕ) → with_plain new (pieces all 0 (drop 1 (drop 1 (drop 1 behind)))) ≡ pieces all 0 text
 escape_is old new behind text h ew inv all =
-    rw ew (sym (written_twice old (codes "${") (pieces all 0 (drop 1 (drop 1 (drop 1 behind))))) ∙ ap (written old) (sym (escape_step all behind h)) ∙ inv all)
+    rw ew (sym (written_twice old (codes "${") (pieces all 0 (drop 1 (drop 1 (drop 1 behind))))) ∙ ap (with_plain old) (sym (escape_step all behind h)) ∙ inv all)
 
 pub escape_less : (t : List ℕ) → escapes t ≡ true → length (drop 1 (drop 1 (drop 1 t))) < length t
 escape_less t h = let a = (escape t h).less in let b = first_less (drop 1 t) in let c = first_less (drop 1 (drop 1 t)) in omega (arith, a, b, c)

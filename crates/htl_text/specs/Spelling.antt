@@ -10,22 +10,22 @@ use Rattle.htl_text.specs.declared.piece.Piece.TheVariants.{Value}
 use Rattle.htl_text.specs.Template.{opens, escapes, in_front}
 
 -- what stands behind a quote mark, up to and with the same mark; a backslash takes the next byte with it
-pub data Quoted (mark : ℕ) : List ℕ → Type 0 where
-  closes : Quoted mark (mark ∷ [])
-  plain : {c : ℕ} {t : List ℕ} → (c == mark) ≡ false → (c == 92) ≡ false → Quoted mark t → Quoted mark (c ∷ t)
-  escape : {c : ℕ} {t : List ℕ} → Quoted mark t → Quoted mark (92 ∷ c ∷ t)
+pub data Quotation (mark : ℕ) : List ℕ → Type 0 where
+  closes : Quotation mark (mark ∷ [])
+  plain : {c : ℕ} {t : List ℕ} → (c == mark) ≡ false → (c == 92) ≡ false → Quotation mark t → Quotation mark (c ∷ t)
+  escape : {c : ℕ} {t : List ℕ} → Quotation mark t → Quotation mark (92 ∷ c ∷ t)
 
 -- what may stand between the braces: whole strings, and other bytes than "}"
 pub data Inside : List ℕ → Type 0 where
   nothing : Inside []
   byte : {c : ℕ} {t : List ℕ} → (c == 125) ≡ false → is_quote c ≡ false → Inside t → Inside (c ∷ t)
-  string : {mark : ℕ} {w t : List ℕ} → is_quote mark ≡ true → Quoted mark w → Inside t → Inside (mark ∷ (w ++ t))
+  string : {mark : ℕ} {w t : List ℕ} → is_quote mark ≡ true → Quotation mark w → Inside t → Inside (mark ∷ (w ++ t))
 
 -- the pieces that stand in a text in front of a rest; no two of plain text stand side by side
 pub data SpellsTemplate : List ℕ → List Piece → List ℕ → Type 0 where
   end : {rest : List ℕ} → SpellsTemplate rest [] rest
   plain : {c : ℕ} {text rest : List ℕ} {ps : List Piece} → opens (c ∷ text) ≡ false → escapes (c ∷ text) ≡ false → SpellsTemplate text ps rest → SpellsTemplate (c ∷ text) (in_front (c ∷ []) ps) rest
-  escaped : {text rest : List ℕ} {ps : List Piece} → SpellsTemplate text ps rest → SpellsTemplate (92 ∷ 36 ∷ 123 ∷ text) (in_front (codes "${") ps) rest
+  escape : {text rest : List ℕ} {ps : List Piece} → SpellsTemplate text ps rest → SpellsTemplate (92 ∷ 36 ∷ 123 ∷ text) (in_front (codes "${") ps) rest
   value : {inside text rest : List ℕ} {e : Expr} {ps : List Piece} → Inside inside → Whole inside e → SpellsTemplate text ps rest → SpellsTemplate (36 ∷ 123 ∷ (inside ++ 125 ∷ text)) (Value e ∷ ps) rest
 
 -- no "}" closes what stands behind "${"
@@ -52,5 +52,5 @@ pub record IsFirstOpening (fault : TextFault) (text : List ℕ) : Type 0 where
   pub behind : List ℕ
   pub ps : List Piece
   pub parts : text ≡ front ++ 36 ∷ 123 ∷ behind
-  pub spelled : SpellsTemplate text ps (36 ∷ 123 ∷ behind)
+  pub spelling : SpellsTemplate text ps (36 ∷ 123 ∷ behind)
   pub faulty : Faults fault (length front) behind

@@ -69,9 +69,9 @@ in_front (c ∷ t) (Plain more ∷ ps) = Plain (c ∷ (t ++ more)) ∷ ps
 in_front (c ∷ t) (Value e ∷ ps) = Plain (c ∷ t) ∷ (Value e ∷ ps)
 
 -- plain text in front of the pieces of the rest
-abbrev pub written : List ℕ → Result (List Piece) TextFault → Result (List Piece) TextFault
-written t (Ok ps) = Ok (in_front t ps)
-written t (Err fault) = Err fault
+abbrev pub with_plain : List ℕ → Result (List Piece) TextFault → Result (List Piece) TextFault
+with_plain t (Ok ps) = Ok (in_front t ps)
+with_plain t (Err fault) = Err fault
 
 -- pieces in front of others
 abbrev pub before : List Piece → Result (List Piece) TextFault → Result (List Piece) TextFault
@@ -79,18 +79,18 @@ before front (Ok ps) = Ok (front ++ ps)
 before front (Err fault) = Err fault
 
 -- an expression in front of the pieces of the rest
-abbrev pub valued : Result (Expr × List ℕ) TextFault → (List ℕ → Result (List Piece) TextFault) → Result (List Piece) TextFault
-valued (Ok x) more = before (Value x.0 ∷ []) (more x.1)
-valued (Err fault) more = Err fault
+abbrev pub with_value : Result (Expr × List ℕ) TextFault → (List ℕ → Result (List Piece) TextFault) → Result (List Piece) TextFault
+with_value (Ok x) more = before (Value x.0 ∷ []) (more x.1)
+with_value (Err fault) more = Err fault
 
 -- the pieces of a text at the end of a template of so many bytes; the first bytes to skip belong to the piece before
 unfoldable pub pieces : ℕ → ℕ → List ℕ → Result (List Piece) TextFault
 pieces all skip [] = Ok []
 pieces all (suc skip) (c ∷ t) = pieces all skip t
 pieces all zero (c ∷ t) =
-    if opens (c ∷ t) then valued (value_at (all - length (c ∷ t)) (c ∷ t)) (λ behind. pieces all (length t - length behind) t)
-    else (if escapes (c ∷ t) then written (codes "${") (pieces all 2 t)
-    else written (c ∷ []) (pieces all 0 t))
+    if opens (c ∷ t) then with_value (value_at (all - length (c ∷ t)) (c ∷ t)) (λ behind. pieces all (length t - length behind) t)
+    else (if escapes (c ∷ t) then with_plain (codes "${") (pieces all 2 t)
+    else with_plain (c ∷ []) (pieces all 0 t))
 
 -- what a text is read as: its pieces, or its first fault
 abbrev pub template_of : List ℕ → Result (List Piece) TextFault
@@ -114,6 +114,10 @@ plain_pieces t = in_front t []
 abbrev pub piece_text : Scope → Piece → List ℕ
 piece_text scope (Plain t) = t
 piece_text scope (Value e) = print scope e
+
+-- how many bytes a template may write
+abbrev pub most_bytes : ℕ
+most_bytes = 4194304
 
 -- the text of a template: what its pieces write, one after another
 abbrev pub template_output : Scope → List Piece → List ℕ

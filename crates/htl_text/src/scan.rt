@@ -86,7 +86,7 @@ fn plain_len(text: &[u8]) -> usize
 
 /// The plain text in front of the next expression, and the text from there on.
 pub fn plain(alloc: Global, text: &str) -> Mem<(TextBuf, &str)>
-    ensures pieces { IfOk result (λ d. (all : ℕ) → spec.written d.0 (spec.pieces all 0 d.1.now) ≡ spec.pieces all 0 text.now) }
+    ensures pieces { IfOk result (λ d. (all : ℕ) → spec.with_plain d.0 (spec.pieces all 0 d.1.now) ≡ spec.pieces all 0 text.now) }
     ensures ends { IfOk result (λ d. (length d.1.now == 0) || spec.opens d.1.now ≡ true) }
     ensures less { IfOk result (λ d. length d.1.now ≤ length text.now) }
 {

@@ -22,6 +22,22 @@ fn equality_asks_for_the_kind(rt: HostRuntime) -> Result<(), Failed> {
             ("['1', 'a'] == [1, 'a']", Want::Truth(true), "true"),
             ("[1] == [1, 2]", Want::Truth(false), "false"),
             (
+                "properties.tags == properties.tags",
+                Want::Truth(true),
+                "true",
+            ),
+            (
+                "properties.longs != properties.longs",
+                Want::Truth(false),
+                "false",
+            ),
+            ("properties.n <= properties.n", Want::Truth(true), "true"),
+            (
+                "properties.tags <= properties.tags",
+                Want::Truth(false),
+                "false",
+            ),
+            (
                 "properties.truths == ['true', 'false']",
                 Want::Truth(true),
                 "true",

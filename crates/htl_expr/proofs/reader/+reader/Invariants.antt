@@ -1,7 +1,7 @@
 use Rattle.std.proofs.Common.{◌≡◌, ◌-◌, ◌+◌, ◌*◌, [], ◌∷◌, length}
 use denote.Text.{Utf8}
 use denote.Shadow.{shadow}
-use Rattle.htl_expr.specs.Read.{nested, chain, compare, both, choice}
+use Rattle.htl_expr.specs.Read.{nesting, chain, compare, both, choice}
 use Rattle.htl_expr.proofs.reader.+reader.Given as goal
 
 abbrev pub decreases-atom : goal.decreases-atom
@@ -31,8 +31,8 @@ decreases-more_compares l = 20 * l.depth + 5
 abbrev pub decreases-more_items : goal.decreases-more_items
 decreases-more_items l = 20 * l.depth + 10
 
-abbrev pub decreases-nested : goal.decreases-nested
-decreases-nested l = 20 * l.depth + 0
+abbrev pub decreases-nesting : goal.decreases-nesting
+decreases-nesting l = 20 * l.depth + 0
 
 abbrev pub decreases-operand : goal.decreases-operand
 decreases-operand l = 20 * l.depth + 3
@@ -45,12 +45,12 @@ decreases-start l = 20 * l.depth + 1
 
 abbrev pub invariant-more_boths-loop-turn : goal.invariant-more_boths-loop-turn
 invariant-more_boths-loop-turn l =
-    shadow (Utf8 l.rest) × (chain (both l.depth (nested l.depth)) 124 (length l.text - l._turn) l.found l.rest ≡ chain (both l.depth (nested l.depth)) 124 (length l.text) [] l.text)
+    shadow (Utf8 l.rest) × (chain (both l.depth (nesting l.depth)) 124 (length l.text - l._turn) l.found l.rest ≡ chain (both l.depth (nesting l.depth)) 124 (length l.text) [] l.text)
 
 abbrev pub invariant-more_compares-loop-turn : goal.invariant-more_compares-loop-turn
 invariant-more_compares-loop-turn l =
-    shadow (Utf8 l.rest) × (chain (compare l.depth (nested l.depth)) 38 (length l.text - l._turn) l.found l.rest ≡ chain (compare l.depth (nested l.depth)) 38 (length l.text) [] l.text)
+    shadow (Utf8 l.rest) × (chain (compare l.depth (nesting l.depth)) 38 (length l.text - l._turn) l.found l.rest ≡ chain (compare l.depth (nesting l.depth)) 38 (length l.text) [] l.text)
 
 abbrev pub invariant-more_items-loop-turn : goal.invariant-more_items-loop-turn
 invariant-more_items-loop-turn l =
-    shadow (Utf8 l.rest) × (chain (choice l.depth (nested l.depth)) 44 (length l.text - l._turn) l.found l.rest ≡ chain (choice l.depth (nested l.depth)) 44 (length l.text) (l.fn.first ∷ []) l.text)
+    shadow (Utf8 l.rest) × (chain (choice l.depth (nesting l.depth)) 44 (length l.text - l._turn) l.found l.rest ≡ chain (choice l.depth (nesting l.depth)) 44 (length l.text) (l.fn.first ∷ []) l.text)

@@ -1,20 +1,21 @@
 use Rattle.std.proofs.Common.{rules}
+use Rattle.htl_expr.specs.Grammar.{nesting_limit}
 use Rattle.htl_expr.proofs.Unique.{only_ok, only_err}
 use Rattle.htl_expr.proofs.Faults.{unexpected_is, too_deep_is}
 use Rattle.htl_expr.proofs.WholeRead.{read_sound}
 use Rattle.htl_expr.proofs.expression.Expr.read.Goals as goal
 
 pub returns-in-Ok-clause-found : goal.returns-in-Ok-clause-found
-returns-in-Ok-clause-found c = read_sound c.args.text.now c.in-Ok.e c.in-Ok.ensures
+returns-in-Ok-clause-found c = read_sound nesting_limit c.args.text.now c.in-Ok.e c.in-Ok.ensures
 
 pub returns-in-Ok-clause-only : goal.returns-in-Ok-clause-only
-returns-in-Ok-clause-only c = only_ok c.args.text.now c.in-Ok.e c.in-Ok.ensures
+returns-in-Ok-clause-only c = only_ok nesting_limit c.args.text.now c.in-Ok.e c.in-Ok.ensures
 
 pub returns-in-Ok-place_of-clause-only : goal.returns-in-Ok-place_of-clause-only
-returns-in-Ok-place_of-clause-only c = only_err c.args.text.now _ (rw c.in-Err-Unexpected.field-0-is at c.in-Err-Unexpected.ensures)
+returns-in-Ok-place_of-clause-only c = only_err nesting_limit c.args.text.now _ (rw c.in-Err-Unexpected.field-0-is at c.in-Err-Unexpected.ensures)
 
 pub returns-in-Err-TooDeep-clause-only : goal.returns-in-Err-TooDeep-clause-only
-returns-in-Err-TooDeep-clause-only c = only_err c.args.text.now _ (rw c.in-Err-TooDeep.field-0-is at c.in-Err-TooDeep.ensures)
+returns-in-Err-TooDeep-clause-only c = only_err nesting_limit c.args.text.now _ (rw c.in-Err-TooDeep.field-0-is at c.in-Err-TooDeep.ensures)
 
 pub returns-in-Ok-place_of-clause-fault : goal.returns-in-Ok-place_of-clause-fault
 returns-in-Ok-place_of-clause-fault c = unexpected_is c.args.text.now _ _ (rw c.in-Err-Unexpected.field-0-is at c.in-Err-Unexpected.ensures) (search rules)

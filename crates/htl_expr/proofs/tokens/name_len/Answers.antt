@@ -1,7 +1,7 @@
 use Rattle.std.proofs.Common.{arith, ◌∙◌, sym, ap, subst, IsUtf8, List, ℕ}
 use Rattle.std.proofs.lemmas.Str.{IsCharBoundary-from_drop}
 use Rattle.htl_expr.proofs.Scan.{run_more, name_less, drop_more}
-use Rattle.htl_expr.proofs.tokens.run_len.Goals as goal
+use Rattle.htl_expr.proofs.tokens.name_len.Goals as goal
 
 pub loop-rest-preserved : goal.loop-rest-preserved
 loop-rest-preserved c =

@@ -21,4 +21,4 @@ files_of held = from_entries (named held)
 -- the names rise, and each is one of a file
 pub record HasNames (held : Held) : Type 0 where
   pub rising : IsStrictlySortedBy string_cmp (keys_of held)
-  pub sizes : All (λ e. IsName (string_bytes e.0)) held
+  pub sizes : All (λ key. IsName (string_bytes key)) (keys_of held)

@@ -3,7 +3,7 @@ ghost use Rattle.std.specs.Prelude.{◌≡◌, IfOk, IfErr, OnOk, OnErr, Some, t
 ghost use Rattle.std.specs.FinMap.{empty};
 ghost use Rattle.sp_outside.specs.Files.{IsName, IsListing, IsOldOrNew, file_at, with_file, without_file, names_after};
 ghost use Rattle.sp_outside.specs.DiskMemory.{IsPlanned, next_fails, plan_after, plan_gone, read_after, write_after};
-ghost use Rattle.sp_outside.specs.Causes.{HasDiskCause, next};
+ghost use Rattle.sp_outside.specs.Causes.{HasDiskCause, Rose, next};
 
 use crate::{Disk, DiskFault};
 use sp_base::{ByteBuf, Mem, NameList, TextBuf};
@@ -130,9 +130,36 @@ impl MemDisk {
     fn fault(&mut self) -> DiskFault
         ensures fault { result ≡ DiskFault.Failed }
         ensures after { self.new ≡ record self.old { failed = next self.old.failed } }
+        ensures rose { Rose self.old.failed self.new.failed }
     {
         self.failed = self.failed.saturating_add(1);
         DiskFault::Failed
+    }
+
+    fn read(&self, alloc: Global, name: &str) -> Mem<Option<ByteBuf>>
+        ensures { IfOk result (λ found. found ≡ file_at self.now.files name.now) }
+    {
+        match self.files.get(name) {
+            Some(bytes) => Ok(Some(ByteBuf::of(alloc, bytes.bytes())?)),
+            None => Ok(None),
+        }
+    }
+
+    fn names(&self, alloc: Global, prefix: &str, after: &str, most: usize) -> Mem<NameList>
+        ensures names { IfOk result (IsListing prefix.now after.now most) }
+        ensures value { IfOk result (λ names. names ≡ take most (names_after self.now.files prefix.now after.now)) }
+    {
+        let mut names = NameList::new(alloc);
+        let start = Bound::Excluded(String::from_str(alloc, after)?);
+        for (name, _) in self.files.range((start, Bound::Unbounded)) {
+            if names.len() >= most {
+                break;
+            }
+            if name.starts_with(prefix) {
+                names.push(TextBuf::of(alloc, name.as_str())?)?;
+            }
+        }
+        Ok(names)
     }
 
     // The change that `put` makes.
@@ -173,10 +200,7 @@ impl Disk for MemDisk {
         if self.begin().is_some() {
             return Err(self.fault());
         }
-        match self.files.get(name) {
-            Some(bytes) => Ok(Some(ByteBuf::of(alloc, bytes.bytes())?)),
-            None => Ok(None),
-        }
+        Ok(self.read(alloc, name)?)
     }
 
     fn put(&mut self, name: &str, bytes: &[u8]) -> Result<(), DiskFault>
@@ -235,16 +259,6 @@ impl Disk for MemDisk {
         if self.begin().is_some() {
             return Err(self.fault());
         }
-        let mut names = NameList::new(alloc);
-        let start = Bound::Excluded(String::from_str(alloc, after)?);
-        for (name, _) in self.files.range((start, Bound::Unbounded)) {
-            if names.len() >= most {
-                break;
-            }
-            if name.starts_with(prefix) {
-                names.push(TextBuf::of(alloc, name.as_str())?)?;
-            }
-        }
-        Ok(names)
+        Ok(self.names(alloc, prefix, after, most)?)
     }
 }

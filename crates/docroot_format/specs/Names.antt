@@ -1,0 +1,35 @@
+-- The names of the files of the docroot.
+use Rattle.std.specs.Prelude.{◌==◌, ◌||◌, ◌++◌, ◌∷◌, [], ℕ, Bool, List, codes, flat_map, if◌then◌else◌}
+use Rattle.std.specs.Char.{is_ascii_alphanumeric}
+use Rattle.percent_encoding.specs.Percent.{percent_encode_byte}
+
+-- letters, digits, `.`, `_` and `-` stand in a file's name as they are
+abbrev pub is_plain : ℕ → Bool
+is_plain b = is_ascii_alphanumeric b || (b == 46 || (b == 95 || b == 45))
+
+-- each other byte is `%` and two capital hexadecimal digits
+abbrev pub file_byte : ℕ → List ℕ
+file_byte b = if is_plain b then b ∷ [] else percent_encode_byte b
+
+-- the file name of a segment of a path
+unfoldable pub file_name : List ℕ → List ℕ
+file_name seg = flat_map file_byte seg
+
+-- the file names of a folder's segments, a slash after each
+abbrev pub folder_name : List (List ℕ) → List ℕ
+folder_name segs = flat_map (λ seg. file_name seg ++ 47 ∷ []) segs
+
+-- where a page's body stands
+abbrev pub body_name : List (List ℕ) → List ℕ → List ℕ
+body_name folder file = folder_name folder ++ file_name file
+
+-- where a page's head stands
+abbrev pub head_name : List (List ℕ) → List ℕ → List ℕ
+head_name folder file = body_name folder file ++ codes "%h"
+
+-- where a folder's stamp stands
+abbrev pub stat_name : List (List ℕ) → List ℕ
+stat_name folder = folder_name folder ++ codes ".stat"
+
+abbrev pub epoch_name : List ℕ
+epoch_name = codes ".epoch"

@@ -1,5 +1,6 @@
 -- The names of the files of the docroot.
-use Rattle.std.specs.Prelude.{◌==◌, ◌||◌, ◌++◌, ◌∷◌, [], ℕ, Bool, List, codes, flat_map, if◌then◌else◌}
+use Rattle.std.specs.Prelude.{◌==◌, ◌||◌, ◌&&◌, ◌++◌, ◌∷◌, [], ℕ, Bool, List, codes, flat_map, length, nat_le, nat_lt, if◌then◌else◌}
+use Rattle.std.specs.List.{list_all}
 use Rattle.std.specs.Char.{is_ascii_alphanumeric}
 use Rattle.percent_encoding.specs.Percent.{percent_encode_byte}
 
@@ -30,6 +31,21 @@ head_name folder file = body_name folder file ++ codes "%h"
 -- where a folder's stamp stands
 abbrev pub stat_name : List (List ℕ) → List ℕ
 stat_name folder = folder_name folder ++ codes ".stat"
+
+-- the most bytes of a segment's file name
+abbrev pub longest_name : ℕ
+longest_name = 200
+
+abbrev pub has_name : List ℕ → Bool
+has_name seg = nat_le (length (file_name seg)) longest_name
+
+-- each segment of a folder has a file name
+abbrev pub have_names : List (List ℕ) → Bool
+have_names segs = list_all has_name segs
+
+-- a folder and a file in which a page may stand
+abbrev pub is_place : List (List ℕ) → List ℕ → Bool
+is_place folder file = have_names folder && (has_name file && nat_lt 0 (length file))
 
 abbrev pub epoch_name : List ℕ
 epoch_name = codes ".epoch"

@@ -49,3 +49,29 @@ stat_of text = option_and_then (λ s. if is_end s.1 then Some s.0 else None) (op
 -- the epoch that a file holds, from 1 on
 unfoldable pub epoch_of : List ℕ → Option ℕ
 epoch_of text = option_and_then (λ e. if is_end e.1 && nat_lt 0 e.0 then Some e.0 else None) (option_and_then number_of (after_word (codes "epoch 1 ") text))
+
+-- the most bytes of a media type in a head
+abbrev pub longest_kind : ℕ
+longest_kind = 100
+
+-- a media type: printable bytes of ASCII
+abbrev pub is_kind : List ℕ → Bool
+is_kind kind = nat_le (length kind) longest_kind && list_all (λ b. nat_le 32 b && nat_le b 126) kind
+
+-- a media type up to the end of the line
+unfoldable pub kind_of : List ℕ → Option (List ℕ)
+kind_of text = if is_end (drop (length text - 1) text) && is_kind (take (length text - 1) text) then Some (take (length text - 1) text) else None
+
+-- what a head says: the stamp, and the length and the media type of the body
+pub record HeadLine : Type 0 where
+  pub epoch : ℕ
+  pub count : ℕ
+  pub size : ℕ
+  pub kind : List ℕ
+
+unfoldable pub body_of : (ℕ × ℕ) → List ℕ → Option HeadLine
+body_of stamp text = option_and_then (λ n. option_map (λ kind. record { epoch = stamp.0; count = stamp.1; size = n.0; kind = kind }) (option_and_then kind_of (after_word (codes " ") n.1))) (option_and_then number_of (after_word (codes " ") text))
+
+-- the head that bytes are
+unfoldable pub head_of : List ℕ → Option HeadLine
+head_of text = option_and_then (λ s. body_of s.0 s.1) (option_and_then stamp_of (after_word (codes "page 1 ") text))

@@ -1,5 +1,6 @@
 //! The names of the files of the docroot.
-ghost use Rattle.std.specs.Prelude.{◌≡◌, ◌<◌, ◌++◌, ◌∷◌, [], IfOk, OnOk, length, slice_index_or, string_bytes};
+ghost use Rattle.std.specs.Prelude.{◌≡◌, ◌<◌, ◌≤◌, ◌++◌, ◌∷◌, [], IfOk, IsTrue, OnOk, length, slice_index_or, string_bytes};
+ghost use Rattle.sp_outside.specs.Files.{IsName};
 ghost use Rattle.docroot_format.specs.Names as spec;
 
 use percent_encoding::percent_encode_byte;
@@ -52,7 +53,8 @@ fn push_place(name: &mut String, folder: &Path, place: usize) -> Mem<()>
 
 #[tactic(auto, using(crate::proofs::NameLemmas::segment_more))]
 fn folder_name(alloc: Global, folder: &Path) -> Mem<String>
-    ensures { IfOk result (λ name. string_bytes name ≡ spec.folder_name folder.now) }
+    ensures name { IfOk result (λ name. string_bytes name ≡ spec.folder_name folder.now) }
+    ensures deep { length folder.now ≤ 64 }
 {
     let mut name = String::new(alloc);
     for n in 0..folder.depth() {
@@ -62,8 +64,10 @@ fn folder_name(alloc: Global, folder: &Path) -> Mem<String>
 }
 
 /// The name of the file of a page's body, from the page's mangled folder and file.
+#[tactic(auto, using(crate::proofs::NameSizes::body_fits))]
 pub fn body_name(alloc: Global, folder: &Path, file: &str) -> Mem<TextBuf>
-    ensures { IfOk result (λ name. name ≡ spec.body_name folder.now file.now) }
+    ensures name { IfOk result (λ name. name ≡ spec.body_name folder.now file.now) }
+    ensures fits { IfOk result (λ name. IsTrue (spec.is_place folder.now file.now) → IsName name) }
 {
     let mut name = folder_name(alloc, folder)?;
     push_segment(&mut name, file)?;
@@ -71,8 +75,10 @@ pub fn body_name(alloc: Global, folder: &Path, file: &str) -> Mem<TextBuf>
 }
 
 /// The name of the file of a page's head.
+#[tactic(auto, using(crate::proofs::NameSizes::head_fits))]
 pub fn head_name(alloc: Global, folder: &Path, file: &str) -> Mem<TextBuf>
-    ensures { IfOk result (λ name. name ≡ spec.head_name folder.now file.now) }
+    ensures name { IfOk result (λ name. name ≡ spec.head_name folder.now file.now) }
+    ensures fits { IfOk result (λ name. IsTrue (spec.is_place folder.now file.now) → IsName name) }
 {
     let mut name = folder_name(alloc, folder)?;
     push_segment(&mut name, file)?;
@@ -81,8 +87,10 @@ pub fn head_name(alloc: Global, folder: &Path, file: &str) -> Mem<TextBuf>
 }
 
 /// The name of the file of a folder's stamp.
+#[tactic(auto, using(crate::proofs::NameSizes::stat_fits))]
 pub fn stat_name(alloc: Global, folder: &Path) -> Mem<TextBuf>
-    ensures { IfOk result (λ name. name ≡ spec.stat_name folder.now) }
+    ensures name { IfOk result (λ name. name ≡ spec.stat_name folder.now) }
+    ensures fits { IfOk result (λ name. IsTrue (spec.have_names folder.now) → IsName name) }
 {
     let mut name = folder_name(alloc, folder)?;
     name.push_str(".stat")?;

@@ -55,7 +55,7 @@ fn begins_number(text: &[u8]) -> bool
 }
 
 #[tactic(auto, unfolding(crate::specs::Readings::number_of))]
-fn number(text: &[u8]) -> Option<(u64, &[u8])>
+pub(crate) fn number(text: &[u8]) -> Option<(u64, &[u8])>
     ensures { option_map (λ p. (p.0, p.1.now)) result ≡ spec.number_of text.now }
 {
     if begins_number(text) {
@@ -66,7 +66,7 @@ fn number(text: &[u8]) -> Option<(u64, &[u8])>
 }
 
 #[tactic(auto, unfolding(crate::specs::Readings::after_word))]
-fn after_word<'a>(word: &[u8], text: &'a [u8]) -> Option<&'a [u8]>
+pub(crate) fn after_word<'a>(word: &[u8], text: &'a [u8]) -> Option<&'a [u8]>
     ensures { option_map (λ rest. rest.now) result ≡ spec.after_word word.now text.now }
 {
     if text.starts_with(word) {
@@ -77,14 +77,14 @@ fn after_word<'a>(word: &[u8], text: &'a [u8]) -> Option<&'a [u8]>
 }
 
 // The end of a line, and nothing after it.
-fn is_end(text: &[u8]) -> bool
+pub(crate) fn is_end(text: &[u8]) -> bool
     ensures { result ≡ spec.is_end text.now }
 {
     text == b"\n".as_slice()
 }
 
 #[tactic(auto, unfolding(crate::specs::Readings::stamp_of))]
-fn stamp(text: &[u8]) -> Option<((u64, u64), &[u8])>
+pub(crate) fn stamp(text: &[u8]) -> Option<((u64, u64), &[u8])>
     ensures { option_map (λ p. (p.0, p.1.now)) result ≡ spec.stamp_of text.now }
 {
     let (epoch, rest) = number(text)?;

@@ -4,6 +4,8 @@ use Rattle.sp_outside.specs.declared.source.SourceFault.{SourceFault}
 use Rattle.sp_outside.specs.declared.source.SourceFault.TheVariants.{Failed as source_failed}
 use Rattle.sp_outside.specs.declared.sink.SinkFault.{SinkFault}
 use Rattle.sp_outside.specs.declared.sink.SinkFault.TheVariants.{Failed as sink_failed, NoMemory}
+use Rattle.sp_outside.specs.declared.disk.DiskFault.{DiskFault}
+use Rattle.sp_outside.specs.declared.disk.DiskFault.TheVariants.{Failed as disk_failed, NoMemory as no_room}
 
 -- one more, in a count that stands still at the end of its type
 abbrev pub next : ℕ → ℕ
@@ -23,3 +25,9 @@ abbrev pub HasSinkCause : {T : Type 0} → ℕ → ℕ → Result T SinkFault �
 HasSinkCause before after (Ok _) = after ≡ before
 HasSinkCause before after (Err sink_failed) = Rose before after
 HasSinkCause before after (Err NoMemory) = after ≡ before
+
+-- the same of a disk
+abbrev pub HasDiskCause : {T : Type 0} → ℕ → ℕ → Result T DiskFault → Type 0
+HasDiskCause before after (Ok _) = after ≡ before
+HasDiskCause before after (Err disk_failed) = Rose before after
+HasDiskCause before after (Err no_room) = after ≡ before

@@ -1,13 +1,17 @@
-//! The outside: the words that the program is started with, what it reads from and what it writes to, in memory and for
-//! real.
+//! The outside: the words that the program is started with, what it reads from, what it writes to, and the disk that
+//! keeps its files, in memory and for real.
 //!
 //! Each object counts its faults. A call answers `Failed` only where that count rose in the call, and a call that answers
 //! anything else leaves it. The objects in memory tell what they hold, so that contracts can speak of it; the real ones
 //! tell nothing.
 #![tactic(auto)]
 
+mod disk;
+#[cfg(test)]
+mod disk_tests;
 #[cfg(test)]
 mod long_tests;
+mod mem_disk;
 mod memory;
 mod real;
 mod sink;
@@ -16,6 +20,8 @@ mod source;
 mod tests;
 mod words;
 
+pub use disk::{Disk, DiskFault, LONGEST_NAME};
+pub use mem_disk::{MemDisk, Plan, Way};
 pub use memory::{MemSink, MemSource};
 pub use real::{RealSink, RealSource};
 pub use sink::{Sink, SinkFault};

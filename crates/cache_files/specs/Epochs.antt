@@ -1,0 +1,40 @@
+-- The number of a session, which .epoch counts.
+use Rattle.std.specs.Prelude.{◌==◌, ◌+◌, ◌≡◌, ℕ, List, Option, Some, None, Result, Ok, Err, if◌then◌else◌}
+use Rattle.sp_outside.specs.Causes.{Rose}
+use Rattle.sp_outside.specs.Files.{Files, file_at}
+use Rattle.sp_outside.specs.declared.disk.DiskFault.{DiskFault}
+use Rattle.sp_outside.specs.declared.disk.DiskFault.TheVariants.{Failed, NoMemory as no_room}
+use Rattle.docroot_format.specs.Names.{epoch_name}
+use Rattle.docroot_format.specs.Readings.{epoch_of}
+use Rattle.cache_files.specs.declared.epoch.OpenFault.{OpenFault}
+use Rattle.cache_files.specs.declared.epoch.OpenFault.TheVariants.{Disk, Foreign, EpochEnd, NoMemory}
+
+abbrev pub open_fault : DiskFault → OpenFault
+open_fault Failed = Disk
+open_fault no_room = NoMemory
+
+-- the greatest number of a session
+abbrev pub last_epoch : ℕ
+last_epoch = 18446744073709551615
+
+-- the number after one that was read
+abbrev pub after_epoch : Option ℕ → Result ℕ OpenFault
+after_epoch None = Err Foreign
+after_epoch (Some epoch) = if epoch == last_epoch then Err EpochEnd else Ok (epoch + 1)
+
+-- the number of the session after the one that the file holds: 1 where there is none
+abbrev pub epoch_after : Option (List ℕ) → Result ℕ OpenFault
+epoch_after None = Ok 1
+epoch_after (Some bytes) = after_epoch (epoch_of bytes)
+
+-- the number of the next session
+abbrev pub next_epoch : Files → Result ℕ OpenFault
+next_epoch files = epoch_after (file_at files epoch_name)
+
+-- Disk comes only where the disk's count of faults rose, and any other answer leaves that count.
+abbrev pub HasOpenCause : {T : Type 0} → ℕ → ℕ → Result T OpenFault → Type 0
+HasOpenCause before after (Ok _) = after ≡ before
+HasOpenCause before after (Err Disk) = Rose before after
+HasOpenCause before after (Err Foreign) = after ≡ before
+HasOpenCause before after (Err EpochEnd) = after ≡ before
+HasOpenCause before after (Err NoMemory) = after ≡ before

@@ -1,0 +1,50 @@
+-- The pages that the files of the docroot hold, and what a write or a removal that stops leaves.
+use Rattle.std.specs.Prelude.{◌==◌, ◌≡◌, ◌⊎◌, ℕ, List, [], Option, Some, None, IsTrue, option_and_then, length, if◌then◌else◌}
+use Rattle.sp_outside.specs.Files.{Files, file_at, told_with, told_without}
+use Rattle.sp_base.specs.declared.answer.Answer.{Answer}
+use Rattle.sp_base.specs.declared.answer.Mark.TheVariants.{Plain}
+use Rattle.docroot_format.specs.Faults.{IsLeft}
+use Rattle.docroot_format.specs.Names.{body_name, head_name, is_place}
+use Rattle.docroot_format.specs.Readings.{HeadLine, head_of, is_kind}
+use Rattle.docroot_format.specs.declared.fault.FileFault.{FileFault}
+use Rattle.docroot_format.specs.declared.key.PageKey.{PageKey}
+use Rattle.cache_files.specs.declared.page.Page.{Page}
+
+-- a key at which a page may stand
+abbrev pub IsKey : PageKey → Type 0
+IsKey key = IsTrue (is_place key.folder key.file)
+
+-- an answer that may be stored: 200, of a media type that a head holds
+pub record IsStorable (answer : Answer) : Type 0 where
+  pub status : answer.status ≡ 200
+  pub mark : answer.mark ≡ Plain
+  pub kind : IsTrue (is_kind answer.kind)
+
+-- the page that a head and a body make, where the body has the head's length
+abbrev pub page_of : HeadLine → List ℕ → Option Page
+page_of head body = if length body == head.size then Some (record {
+    stamp = record { epoch = head.epoch; count = head.count };
+    answer = record { status = 200; kind = head.kind; location = []; mark = Plain; body = body };
+  }) else None
+
+-- the page that the files hold for a key: one whose head is of the form, and whose body has the length that the head says
+abbrev pub page_at : Files → PageKey → Option Page
+page_at files key = option_and_then (λ head. option_and_then (page_of head) (file_at files (body_name key.folder key.file)))
+    (option_and_then head_of (file_at files (head_name key.folder key.file)))
+
+-- the files after a page's body and head were replaced, the old head first taken away
+abbrev pub with_page : Option Files → List ℕ → List ℕ → List ℕ → List ℕ → Option Files
+with_page told head body bytes text = told_with (told_with (told_without told head) body bytes) head text
+
+-- A write of a page stopped: at the removal of the old head, at the body, or at the new head.
+abbrev pub IsPutLeft : Option Files → Option Files → List ℕ → List ℕ → List ℕ → List ℕ → FileFault → Type 0
+IsPutLeft old new head body bytes text fault =
+    IsLeft old (told_without old head) new fault
+    ⊎ (IsLeft (told_without old head) (told_with (told_without old head) body bytes) new fault
+    ⊎ IsLeft (told_with (told_without old head) body bytes) (with_page old head body bytes text) new fault)
+
+-- A removal of a page stopped: at the head, or at the body.
+abbrev pub IsDropLeft : Option Files → Option Files → List ℕ → List ℕ → FileFault → Type 0
+IsDropLeft old new head body fault =
+    IsLeft old (told_without old head) new fault
+    ⊎ IsLeft (told_without old head) (told_without (told_without old head) body) new fault

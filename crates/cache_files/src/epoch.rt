@@ -1,0 +1,76 @@
+//! The number of a session, by which stamps of different sessions are told apart.
+ghost use Rattle.std.specs.Prelude.{◌≡◌, ◌≢◌, ◌⊎◌, Ok, Err, IfOk, IfErr, IfSome, ℕ};
+ghost use Rattle.sp_outside.specs.Files.{told_with};
+ghost use Rattle.docroot_format.specs.Names.{epoch_name};
+ghost use Rattle.docroot_format.specs.Texts.{epoch_text};
+ghost use Rattle.cache_files.specs.Epochs.{epoch_after, next_epoch, open_fault, HasOpenCause};
+ghost use Rattle.cache_files.specs.declared.epoch.OpenFault.TheVariants.{NoMemory as no_memory};
+
+use docroot_format::{EPOCH_NAME, epoch_in, epoch_text};
+use sp_base::{ByteBuf, NoMemory};
+use sp_outside::{Disk, DiskFault};
+use std::alloc::Global;
+
+/// Why no session begins.
+#[derive(Clone, Copy, PartialEq, Eq, Debug, Drop)]
+pub enum OpenFault {
+    /// The disk failed.
+    Disk,
+    /// The file has bytes of another form.
+    Foreign,
+    /// The file holds the greatest number.
+    EpochEnd,
+    NoMemory,
+}
+
+impl From<NoMemory> for OpenFault {
+    ghost from_gives = { λ _ e. e ≡ no_memory };
+
+    fn from(_fault: NoMemory) -> OpenFault {
+        OpenFault::NoMemory
+    }
+}
+
+impl From<DiskFault> for OpenFault {
+    ghost from_gives = { λ fault e. e ≡ open_fault fault };
+
+    fn from(fault: DiskFault) -> OpenFault {
+        match fault {
+            DiskFault::Failed => OpenFault::Disk,
+            DiskFault::NoMemory => OpenFault::NoMemory,
+        }
+    }
+}
+
+fn epoch_after(found: Option<ByteBuf>) -> Result<u64, OpenFault>
+    ensures { result ≡ epoch_after found }
+{
+    let Some(bytes) = found else {
+        return Ok(1);
+    };
+    let Some(epoch) = epoch_in(bytes.bytes()) else {
+        return Err(OpenFault::Foreign);
+    };
+    if epoch == u64::MAX {
+        return Err(OpenFault::EpochEnd);
+    }
+    Ok(epoch + 1)
+}
+
+/// Begins a session: reads the number of the last one, writes it one higher, and answers that. The first is 1.
+pub fn open_epoch<D: Disk>(alloc: Global, disk: &mut D) -> Result<u64, OpenFault>
+    ensures ok { IfOk result (λ epoch. IfSome (D.files disk.old) (λ files. next_epoch files ≡ Ok epoch)) }
+    ensures err { IfErr result (λ e. e ≢ OpenFault.NoMemory → e ≢ OpenFault.Disk → IfSome (D.files disk.old) (λ files. next_epoch files ≡ Err e)) }
+
+    // The files change only by the number that an Ok answers.
+    ensures after { IfOk result (λ epoch. D.files disk.new ≡ told_with (D.files disk.old) epoch_name (epoch_text epoch)) }
+    ensures left { IfErr result (λ e. (D.files disk.new ≡ D.files disk.old)
+        ⊎ ((e ≡ OpenFault.Disk) × ((epoch : ℕ) × (IfSome (D.files disk.old) (λ files. next_epoch files ≡ Ok epoch) × (D.files disk.new ≡ told_with (D.files disk.old) epoch_name (epoch_text epoch)))))) }
+    ensures cause { HasOpenCause (D.faults disk.old) (D.faults disk.new) result }
+{
+    let found = disk.get(alloc, EPOCH_NAME)?;
+    let epoch = epoch_after(found)?;
+    let text = epoch_text(alloc, epoch)?;
+    disk.put(EPOCH_NAME, text.text().as_bytes())?;
+    Ok(epoch)
+}

@@ -1,0 +1,11 @@
+//! The pages of the cache as files, and the number of the session: what each call makes of the files, and what it leaves where the
+//! disk fails in it.
+#![tactic(auto)]
+
+mod epoch;
+mod page;
+#[cfg(test)]
+mod tests;
+
+pub use epoch::{OpenFault, open_epoch};
+pub use page::{Page, drop_page, get_page, put_page};

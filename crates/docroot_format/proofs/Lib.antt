@@ -1,0 +1,4 @@
+pub mod Digits
+pub mod NameLemmas
+pub mod NameSizes
+pub mod MediaTypes

@@ -1,0 +1,22 @@
+-- What a failing disk makes of a call on files, and when such a call may fail.
+use Rattle.std.specs.Prelude.{◌≡◌, ◌⊎◌, ℕ, Option, Result, Ok, Err}
+use Rattle.sp_outside.specs.Causes.{Rose}
+use Rattle.sp_outside.specs.Files.{Files}
+use Rattle.sp_outside.specs.declared.disk.DiskFault.{DiskFault}
+use Rattle.sp_outside.specs.declared.disk.DiskFault.TheVariants.{Failed, NoMemory as no_room}
+use Rattle.docroot_format.specs.declared.fault.FileFault.{FileFault}
+use Rattle.docroot_format.specs.declared.fault.FileFault.TheVariants.{Disk, NoMemory}
+
+abbrev pub fault_of : DiskFault → FileFault
+fault_of Failed = Disk
+fault_of no_room = NoMemory
+
+-- Disk comes only where the disk's count of faults rose, and any other answer leaves that count.
+abbrev pub HasFileCause : {T : Type 0} → ℕ → ℕ → Result T FileFault → Type 0
+HasFileCause before after (Ok _) = after ≡ before
+HasFileCause before after (Err Disk) = Rose before after
+HasFileCause before after (Err NoMemory) = after ≡ before
+
+-- One change of the files failed: it was not made, or the disk failed after it was made whole.
+abbrev pub IsLeft : Option Files → Option Files → Option Files → FileFault → Type 0
+IsLeft old wanted new fault = (new ≡ old) ⊎ ((fault ≡ Disk) × (new ≡ wanted))

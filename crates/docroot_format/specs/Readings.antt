@@ -1,0 +1,77 @@
+-- What bytes read as: a page's head, a folder's stamp, an epoch. A number is decimal digits without a leading zero, below 2^64.
+use Rattle.std.specs.Prelude.{◌==◌, ◌&&◌, ◌+◌, ◌*◌, ◌-◌, ℕ, Bool, false, not, nat_eq, nat_le, nat_lt, if◌then◌else◌, List, [], ◌∷◌, Option, Some, None, option_and_then, option_map, codes, drop, take, length, slice_index}
+use Rattle.std.specs.List.{list_all, starts_with}
+use Rattle.std.specs.Cmp.Lexicographic.{pointwise}
+
+abbrev pub is_digit : ℕ → Bool
+is_digit b = nat_le 48 b && nat_le b 57
+
+abbrev pub greatest : ℕ
+greatest = 18446744073709551615
+
+-- the text begins with a digit that fits after a number
+unfoldable pub digit_fits : ℕ → List ℕ → Bool
+digit_fits n [] = false
+digit_fits n (b ∷ text) = is_digit b && nat_le (n * 10 + (b - 48)) greatest
+
+-- the longest number at the beginning that fits, after one that was read, and what is left
+unfoldable pub digits_from : ℕ → List ℕ → ℕ × List ℕ
+digits_from n [] = (n, [])
+digits_from n (b ∷ text) = if digit_fits n (b ∷ text) then digits_from (n * 10 + (b - 48)) text else (n, b ∷ text)
+
+-- the number with the next digit, where that fits
+abbrev pub next_of : ℕ → List ℕ → Option ℕ
+next_of n text = if digit_fits n text then Some (n * 10 + (slice_index text 0 - 48)) else None
+
+-- a digit, and none after a zero
+abbrev pub begins_number : List ℕ → Bool
+begins_number text = is_digit (slice_index text 0) && not (slice_index text 0 == 48 && is_digit (slice_index text 1))
+
+-- the number at the beginning of a text, and what is left
+unfoldable pub number_of : List ℕ → Option (ℕ × List ℕ)
+number_of text = if begins_number text then Some (digits_from 0 text) else None
+
+-- what is left after a word at the beginning
+unfoldable pub after_word : List ℕ → List ℕ → Option (List ℕ)
+after_word word text = if starts_with nat_eq text word then Some (drop (length word) text) else None
+
+abbrev pub is_end : List ℕ → Bool
+is_end text = pointwise nat_eq text (codes "\n")
+
+-- the stamp at the beginning of a text, epoch and count, and what is left
+unfoldable pub stamp_of : List ℕ → Option ((ℕ × ℕ) × List ℕ)
+stamp_of text = option_and_then (λ e. option_and_then (λ rest. option_map (λ c. ((e.0, c.0), c.1)) (number_of rest)) (after_word (codes " ") e.1)) (number_of text)
+
+-- the stamp that a .stat file holds
+unfoldable pub stat_of : List ℕ → Option (ℕ × ℕ)
+stat_of text = option_and_then (λ s. if is_end s.1 then Some s.0 else None) (option_and_then stamp_of (after_word (codes "stat 1 ") text))
+
+-- the epoch that a file holds, from 1 on
+unfoldable pub epoch_of : List ℕ → Option ℕ
+epoch_of text = option_and_then (λ e. if is_end e.1 && nat_lt 0 e.0 then Some e.0 else None) (option_and_then number_of (after_word (codes "epoch 1 ") text))
+
+-- the most bytes of a media type in a head
+abbrev pub longest_kind : ℕ
+longest_kind = 100
+
+-- a media type: printable bytes of ASCII
+abbrev pub is_kind : List ℕ → Bool
+is_kind kind = nat_le (length kind) longest_kind && list_all (λ b. nat_le 32 b && nat_le b 126) kind
+
+-- a media type up to the end of the line
+unfoldable pub kind_of : List ℕ → Option (List ℕ)
+kind_of text = if is_end (drop (length text - 1) text) && is_kind (take (length text - 1) text) then Some (take (length text - 1) text) else None
+
+-- what a head says: the stamp, and the length and the media type of the body
+pub record HeadLine : Type 0 where
+  pub epoch : ℕ
+  pub count : ℕ
+  pub size : ℕ
+  pub kind : List ℕ
+
+unfoldable pub body_of : (ℕ × ℕ) → List ℕ → Option HeadLine
+body_of stamp text = option_and_then (λ n. option_map (λ kind. record { epoch = stamp.0; count = stamp.1; size = n.0; kind = kind }) (option_and_then kind_of (after_word (codes " ") n.1))) (option_and_then number_of (after_word (codes " ") text))
+
+-- the head that bytes are
+unfoldable pub head_of : List ℕ → Option HeadLine
+head_of text = option_and_then (λ s. body_of s.0 s.1) (option_and_then stamp_of (after_word (codes "page 1 ") text))

@@ -1,0 +1,13 @@
+-- The texts of the files of the docroot but for bodies, as they are written.
+use Rattle.std.specs.Prelude.{◌++◌, ◌∷◌, ℕ, List, codes, decimal}
+
+-- the head of a page: its stamp, the length of its body, and the body's media type
+abbrev pub head_text : ℕ → ℕ → ℕ → List ℕ → List ℕ
+head_text epoch count size kind = codes "page 1 " ++ decimal epoch ++ codes " " ++ decimal count ++ codes " " ++ decimal size ++ codes " " ++ kind ++ codes "\n"
+
+-- the stamp of a folder
+abbrev pub stat_text : ℕ → ℕ → List ℕ
+stat_text epoch count = codes "stat 1 " ++ decimal epoch ++ codes " " ++ decimal count ++ codes "\n"
+
+abbrev pub epoch_text : ℕ → List ℕ
+epoch_text epoch = codes "epoch 1 " ++ decimal epoch ++ codes "\n"

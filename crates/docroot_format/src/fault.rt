@@ -1,0 +1,33 @@
+//! Why a file of the docroot couldn't be read or written.
+ghost use Rattle.std.specs.Prelude.{◌≡◌};
+ghost use Rattle.docroot_format.specs.Faults.{fault_of};
+ghost use Rattle.docroot_format.specs.declared.fault.FileFault.TheVariants.{NoMemory as no_memory};
+
+use sp_base::NoMemory;
+use sp_outside::DiskFault;
+
+#[derive(Clone, Copy, PartialEq, Eq, Debug, Drop)]
+pub enum FileFault {
+    /// The disk failed.
+    Disk,
+    NoMemory,
+}
+
+impl From<NoMemory> for FileFault {
+    ghost from_gives = { λ _ e. e ≡ no_memory };
+
+    fn from(_fault: NoMemory) -> FileFault {
+        FileFault::NoMemory
+    }
+}
+
+impl From<DiskFault> for FileFault {
+    ghost from_gives = { λ fault e. e ≡ fault_of fault };
+
+    fn from(fault: DiskFault) -> FileFault {
+        match fault {
+            DiskFault::Failed => FileFault::Disk,
+            DiskFault::NoMemory => FileFault::NoMemory,
+        }
+    }
+}

@@ -1,0 +1,77 @@
+//! Heads of pages as they are read.
+ghost use Rattle.std.specs.Prelude.{◌≡◌, ◌&&◌, Some, None, nat_le, option_map, if◌then◌else◌};
+ghost use Rattle.std.specs.List.{list_all};
+ghost use Rattle.docroot_format.specs.Readings as spec;
+
+use crate::readings::{after_word, is_end, number, stamp};
+
+/// The most bytes of a media type in a head.
+const LONGEST_KIND: usize = 100;
+
+/// What the head of a page says.
+#[derive(Clone, Copy, Drop)]
+pub struct Head<'a> {
+    pub epoch: u64,
+    pub count: u64,
+    /// The length of the body.
+    pub size: u64,
+    /// The media type of the body.
+    pub kind: &'a str,
+}
+
+fn is_printable(kind: &[u8]) -> bool
+    ensures { result ≡ list_all (λ b. nat_le 32 b && nat_le b 126) kind.now }
+{
+    kind.iter().all(|b| *b >= 32 && *b <= 126)
+}
+
+// A media type: printable bytes of ASCII.
+fn is_kind(kind: &[u8]) -> bool
+    ensures { result ≡ spec.is_kind kind.now }
+{
+    kind.len() <= LONGEST_KIND && is_printable(kind)
+}
+
+#[tactic(auto, using(crate::proofs::MediaTypes::kind_is_utf8))]
+fn text_of(kind: &[u8]) -> Option<&str>
+    ensures { option_map (λ k. k.now) result ≡ (if spec.is_kind kind.now then Some kind.now else None) }
+{
+    if !is_kind(kind) {
+        return None;
+    }
+    match str::from_utf8(kind) {
+        Ok(kind) => Some(kind),
+        Err(_) => None,
+    }
+}
+
+// A media type up to the end of the line.
+#[tactic(auto, unfolding(crate::specs::Readings::kind_of))]
+fn kind(text: &[u8]) -> Option<&str>
+    ensures { option_map (λ k. k.now) result ≡ spec.kind_of text.now }
+{
+    let end = text.len().saturating_sub(1);
+    if !is_end(&text[end..]) {
+        return None;
+    }
+    text_of(&text[..end])
+}
+
+/// The head that bytes are.
+#[tactic(auto, unfolding(crate::specs::Readings::head_of, crate::specs::Readings::body_of))]
+pub fn head_in(text: &[u8]) -> Option<Head<'_>>
+    ensures { option_map (λ h. record { epoch = h.epoch; count = h.count; size = h.size; kind = h.kind.now }) result ≡ spec.head_of text.now }
+{
+    let rest = after_word(b"page 1 ", text)?;
+    let ((epoch, count), rest) = stamp(rest)?;
+    let rest = after_word(b" ", rest)?;
+    let (size, rest) = number(rest)?;
+    let rest = after_word(b" ", rest)?;
+    let kind = kind(rest)?;
+    Some(Head {
+        epoch,
+        count,
+        size,
+        kind,
+    })
+}

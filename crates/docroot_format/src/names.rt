@@ -1,0 +1,98 @@
+//! The names of the files of the docroot.
+ghost use Rattle.std.specs.Prelude.{◌≡◌, ◌<◌, ◌≤◌, ◌++◌, ◌∷◌, [], IfOk, IsTrue, OnOk, length, slice_index_or, string_bytes};
+ghost use Rattle.sp_outside.specs.Files.{IsName};
+ghost use Rattle.docroot_format.specs.Names as spec;
+
+use percent_encoding::percent_encode_byte;
+use sp_base::{Mem, Path, TextBuf};
+use std::alloc::Global;
+
+/// The file that counts the sessions.
+pub const EPOCH_NAME: &str = ".epoch";
+
+fn is_plain(b: u8) -> bool
+    ensures { result ≡ spec.is_plain b }
+{
+    b.is_ascii_alphanumeric() || (b == b'.' || (b == b'_' || b == b'-'))
+}
+
+// Adds what a byte is in a file's name.
+fn push_byte(name: &mut String, b: u8) -> Mem<()>
+    ensures { OnOk result (string_bytes name.new ≡ string_bytes name.old ++ spec.file_byte b) }
+{
+    if is_plain(b) {
+        name.push(b as char)?;
+    } else {
+        name.push_str(percent_encode_byte(b))?;
+    }
+    Ok(())
+}
+
+// Adds a segment's file name.
+#[tactic(auto, using(crate::proofs::NameLemmas::byte_more), unfolding(crate::specs::Names::file_name))]
+fn push_segment(name: &mut String, seg: &str) -> Mem<()>
+    ensures { OnOk result (string_bytes name.new ≡ string_bytes name.old ++ spec.file_name seg.now) }
+{
+    for b in seg.as_bytes() {
+        push_byte(name, *b)?;
+    }
+    Ok(())
+}
+
+// Adds the file name of the segment at a place, and a slash.
+fn push_place(name: &mut String, folder: &Path, place: usize) -> Mem<()>
+    requires { place < length folder.now }
+    ensures { OnOk result (string_bytes name.new ≡ string_bytes name.old ++ (spec.file_name (slice_index_or folder.now place []) ++ 47 ∷ [])) }
+{
+    if let Some(seg) = folder.seg(place) {
+        push_segment(name, seg)?;
+        name.push_str("/")?;
+    }
+    Ok(())
+}
+
+#[tactic(auto, using(crate::proofs::NameLemmas::segment_more))]
+fn folder_name(alloc: Global, folder: &Path) -> Mem<String>
+    ensures name { IfOk result (λ name. string_bytes name ≡ spec.folder_name folder.now) }
+    ensures deep { length folder.now ≤ 64 }
+{
+    let mut name = String::new(alloc);
+    for n in 0..folder.depth() {
+        push_place(&mut name, folder, n)?;
+    }
+    Ok(name)
+}
+
+/// The name of the file of a page's body, from the page's mangled folder and file.
+#[tactic(auto, using(crate::proofs::NameSizes::body_fits))]
+pub fn body_name(alloc: Global, folder: &Path, file: &str) -> Mem<TextBuf>
+    ensures name { IfOk result (λ name. name ≡ spec.body_name folder.now file.now) }
+    ensures fits { IfOk result (λ name. IsTrue (spec.is_place folder.now file.now) → IsName name) }
+{
+    let mut name = folder_name(alloc, folder)?;
+    push_segment(&mut name, file)?;
+    Ok(TextBuf::from(name))
+}
+
+/// The name of the file of a page's head.
+#[tactic(auto, using(crate::proofs::NameSizes::head_fits))]
+pub fn head_name(alloc: Global, folder: &Path, file: &str) -> Mem<TextBuf>
+    ensures name { IfOk result (λ name. name ≡ spec.head_name folder.now file.now) }
+    ensures fits { IfOk result (λ name. IsTrue (spec.is_place folder.now file.now) → IsName name) }
+{
+    let mut name = folder_name(alloc, folder)?;
+    push_segment(&mut name, file)?;
+    name.push_str("%h")?;
+    Ok(TextBuf::from(name))
+}
+
+/// The name of the file of a folder's stamp.
+#[tactic(auto, using(crate::proofs::NameSizes::stat_fits))]
+pub fn stat_name(alloc: Global, folder: &Path) -> Mem<TextBuf>
+    ensures name { IfOk result (λ name. name ≡ spec.stat_name folder.now) }
+    ensures fits { IfOk result (λ name. IsTrue (spec.have_names folder.now) → IsName name) }
+{
+    let mut name = folder_name(alloc, folder)?;
+    name.push_str(".stat")?;
+    Ok(TextBuf::from(name))
+}

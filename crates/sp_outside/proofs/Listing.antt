@@ -1,0 +1,216 @@
+-- What a list of a disk in memory gives: names in their order, after one, with a prefix.
+use Rattle.std.proofs.Common.{◌≡◌, ◌≤◌, ◌<◌, ℕ, zero, suc, Bool, true, false, not, ◌&&◌, T, List, [], ◌∷◌, ◌++◌, map, take, length, cond, refl, sym, ◌∙◌, ap, subst, arith}
+use Rattle.std.specs.Prelude.{string_bytes, string_cmp, IsTrue}
+use Rattle.std.specs.Borrow.{Bor}
+use Rattle.std.specs.List.{filter, All, AllByRecursion}
+use Rattle.std.specs.List.Sorted.{IsStrictlySortedBy}
+use Rattle.std.specs.Map.{keys_of}
+use Rattle.std.specs.Map.Iter.{deref_pair}
+use Rattle.std.specs.BTreeMap.Range.{range_contains}
+use Rattle.std.specs.Ordering.{is_lt}
+use Rattle.std.specs.declared.cmp.Ordering.{Ordering}
+use Rattle.std.specs.declared.cmp.Ordering.TheVariants.{Less, Equal, Greater}
+use Rattle.std.specs.declared.ops.Bound.TheVariants.{Excluded, Unbounded}
+use Rattle.std.specs.declared.string.String.{String}
+use Rattle.std.specs.declared.alloc.Global.{Global}
+use Rattle.std.specs.Cmp.Lexicographic.{nat_list_cmp_total}
+use Rattle.std.specs.FinMap.{FinMap, keys, entries, entries_sorted, from_entries, from_sorted, get-from_entries, get-from_sorted, entries-from_sorted, same_map}
+use Rattle.std.specs.FinMap.Entries.{is_sorted, below_all}
+use Rattle.std.proofs.lemmas.Bool.{true≢false}
+use Rattle.std.proofs.lemmas.List.{append-nil, map-append, take_all, take_at, length-take}
+use Rattle.std.proofs.lemmas.List.Kept.{IsStrictlySortedBy-filter}
+use Rattle.std.proofs.lemmas.List.Elements.{filter-append, filter_passes, All-filter, All-take}
+use Rattle.sp_base.specs.Names.{by_name}
+use Rattle.sp_outside.specs.Files.{Files, IsName, IsListing, has_prefix, names_after}
+use Rattle.sp_outside.specs.MemoryFiles.{Held, named, files_of}
+use Rattle.sp_outside.proofs.HeldFiles.{same_name}
+
+-- the names of entries, in their order
+abbrev pub names_of : Held → List (List ℕ)
+names_of held = map (λ e. string_bytes e.0) held
+
+both : (a b : Bool) → T a → T b → T (a && b)
+both true b p q = q
+both false b p q = p
+
+first : (a b : Bool) → T (a && b) → T a
+first true b p = tt
+first false b p = p
+
+second : (a b : Bool) → T (a && b) → T b
+second true b p = p
+second false b p = absurd p
+
+less : (o : Ordering) → T (is_lt o) → o ≡ Less
+less Less p = refl
+less Equal p = absurd p
+less Greater p = absurd p
+
+is_less : (o : Ordering) → o ≡ Less → T (is_lt o)
+is_less o e = subst (λ r. T (is_lt r)) (sym e) tt
+
+below : (key : String Global) (held : Held) → AllByRecursion (λ other. string_cmp key other ≡ Less) (keys_of held)
+    → T (below_all by_name (string_bytes key) (named held))
+below key [] h = tt
+below key (e ∷ held) h = both _ _ (is_less _ h.0) (below key held h.1)
+
+sorted_named : (held : Held) → IsStrictlySortedBy string_cmp (keys_of held) → T (is_sorted by_name (named held))
+unfolding IsStrictlySortedBy
+sorted_named [] h = tt
+sorted_named (e ∷ held) h = both _ _ (below e.0 held h.0) (sorted_named held h.1)
+
+entries_held : (held : Held) → IsStrictlySortedBy string_cmp (keys_of held) → entries (files_of held) ≡ named held
+entries_held held rising =
+    let sorted = sorted_named held rising in
+    ap entries (same_map nat_list_cmp_total same_name (files_of held) (from_sorted (named held)) (λ q.
+        get-from_entries nat_list_cmp_total (named held) q ∙ sym (get-from_sorted by_name (named held) q sorted)))
+    ∙ entries-from_sorted by_name (named held) sorted
+
+named_names : (held : Held) → map (λ e. e.0) (named held) ≡ names_of held
+named_names [] = refl
+named_names (e ∷ held) = ap (λ rest. string_bytes e.0 ∷ rest) (named_names held)
+
+pub keys_held : (held : Held) → IsStrictlySortedBy string_cmp (keys_of held) → keys (files_of held) ≡ names_of held
+keys_held held rising = ap (map (λ (e : List ℕ × List ℕ). e.0)) (entries_held held rising) ∙ named_names held
+
+pub sizes_held : (held : Held) → All (λ key. IsName (string_bytes key)) (keys_of held) → All IsName (names_of held)
+sizes_held [] h k d lt = absurd (omega (arith, lt))
+sizes_held (e ∷ held) h zero d lt = h zero e.0 (omega arith)
+sizes_held (e ∷ held) h (suc k) d lt = sizes_held held (λ j x l. h (suc j) x (omega (arith, l))) k d (omega (arith, lt))
+
+abbrev in_range : String Global → (String Global × List ℕ) → Bool
+in_range key e = range_contains string_cmp (Excluded key) Unbounded e.0
+
+abbrev wanted : List ℕ → List ℕ → List ℕ → Bool
+wanted prefix after name = has_prefix prefix name && is_lt (by_name after name)
+
+ranged : (prefix : List ℕ) (key : String Global) (held : Held)
+    → filter (wanted prefix (string_bytes key)) (names_of held) ≡ filter (has_prefix prefix) (names_of (filter (in_range key) held))
+ranged prefix key [] = refl
+ranged prefix key (e ∷ held) =
+    let name = string_bytes e.0 in
+    let left = filter (wanted prefix (string_bytes key)) (names_of held) in
+    let rest = filter (in_range key) held in
+    let so_far = ranged prefix key held in
+    elim (is_lt (string_cmp key e.0)) as (λ l. cond (has_prefix prefix name && l) (name ∷ left) left
+        ≡ filter (has_prefix prefix) (names_of (cond (l && not false) (e ∷ rest) rest))) [
+      | true ↦ elim (has_prefix prefix name) as (λ p. cond (p && true) (name ∷ left) left
+          ≡ cond p (name ∷ filter (has_prefix prefix) (names_of rest)) (filter (has_prefix prefix) (names_of rest))) [
+        | true ↦ ap (λ names. name ∷ names) so_far
+        | false ↦ so_far
+      ]
+      | false ↦ elim (has_prefix prefix name) as (λ p. cond (p && false) (name ∷ left) left ≡ filter (has_prefix prefix) (names_of rest)) [
+        | true ↦ so_far
+        | false ↦ so_far
+      ]
+    ]
+
+-- the names wanted are those with the prefix among the names of the range
+pub after_held : (prefix after : List ℕ) (key : String Global) (held range : Held) → IsStrictlySortedBy string_cmp (keys_of held)
+    → string_bytes key ≡ after → range ≡ filter (in_range key) held
+    → names_after (files_of held) prefix after ≡ filter (has_prefix prefix) (names_of range)
+after_held prefix after key held range rising is ranges =
+    ap (λ a. filter (wanted prefix a) (keys (files_of held))) (sym is)
+    ∙ ap (filter (wanted prefix (string_bytes key))) (keys_held held rising)
+    ∙ ranged prefix key held ∙ ap (λ r. filter (has_prefix prefix) (names_of r)) (sym ranges)
+
+-- what a loop over a range has yielded
+abbrev pub Seen : Type 0
+Seen = List (Bor (String Global) × Bor (List ℕ))
+
+abbrev pub name_in : Bor (String Global) × Bor (List ℕ) → List ℕ
+name_in item = string_bytes item.0.now
+
+seen : (items : Seen) → map name_in items ≡ names_of (map deref_pair items)
+seen [] = refl
+seen (item ∷ items) = ap (λ rest. name_in item ∷ rest) (seen items)
+
+with_last : (b : Bool) (names : List (List ℕ)) (name : List ℕ) → names ++ cond b (name ∷ []) [] ≡ cond b (names ++ name ∷ []) names
+with_last true names name = refl
+with_last false names name = append-nil names
+
+-- a loop over the range takes one more name, where it has the prefix
+pub one_more : (prefix : List ℕ) (items : Seen) (item : Bor (String Global) × Bor (List ℕ)) (names : List (List ℕ))
+    → names ≡ filter (has_prefix prefix) (map name_in items)
+    → filter (has_prefix prefix) (map name_in (items ++ item ∷ [])) ≡ cond (has_prefix prefix (name_in item)) (names ++ name_in item ∷ []) names
+one_more prefix items item names is =
+    ap (filter (has_prefix prefix)) (map-append name_in items (item ∷ []))
+    ∙ filter-append (has_prefix prefix) (map name_in items) (name_in item ∷ [])
+    ∙ ap (λ ns. ns ++ filter (has_prefix prefix) (name_in item ∷ [])) (sym is)
+    ∙ with_last (has_prefix prefix (name_in item)) names (name_in item)
+
+-- a loop that ends with as many names as were asked for
+pub enough : (prefix : List ℕ) (range rest : Held) (items : Seen) (names : List (List ℕ)) (most : ℕ) → range ≡ map deref_pair items ++ rest
+    → names ≡ filter (has_prefix prefix) (map name_in items) → length names ≤ most → most ≤ length names
+    → names ≡ take most (filter (has_prefix prefix) (names_of range))
+enough prefix range rest items names most parts is few many =
+    sym (ap (λ (r : Held). take most (filter (has_prefix prefix) (names_of r))) parts
+    ∙ ap (λ ns. take most (filter (has_prefix prefix) ns)) (map-append (λ (e : String Global × List ℕ). string_bytes e.0) (map deref_pair items) rest)
+    ∙ ap (take most) (filter-append (has_prefix prefix) (names_of (map deref_pair items)) (names_of rest))
+    ∙ ap (λ ns. take most (ns ++ filter (has_prefix prefix) (names_of rest))) (sym (is ∙ ap (filter (has_prefix prefix)) (seen items)))
+    ∙ take_at names (filter (has_prefix prefix) (names_of rest)) most (omega (arith, few, many)))
+
+-- a loop that ends with the range
+pub all_names : (prefix : List ℕ) (range : Held) (items : Seen) (names : List (List ℕ)) (most : ℕ) → map deref_pair items ≡ range
+    → names ≡ filter (has_prefix prefix) (map name_in items) → length names ≤ most
+    → names ≡ take most (filter (has_prefix prefix) (names_of range))
+all_names prefix range items names most parts is few =
+    let whole : names ≡ filter (has_prefix prefix) (names_of range) = is ∙ ap (filter (has_prefix prefix)) (seen items ∙ ap names_of parts) in
+    whole ∙ sym (take_all most (filter (has_prefix prefix) (names_of range)) (subst (λ (ns : List (List ℕ)). length ns ≤ most) whole few))
+
+-- ---- what every listing is
+
+first_true : (a b : Bool) → a && b ≡ true → a ≡ true
+first_true true b e = refl
+first_true false b e = absurd (true≢false (sym e))
+
+second_true : (a b : Bool) → a && b ≡ true → b ≡ true
+second_true true b e = e
+second_true false b e = absurd (true≢false (sym e))
+
+less_is : (o : Ordering) → is_lt o ≡ true → o ≡ Less
+less_is Less e = refl
+less_is Equal e = absurd (true≢false (sym e))
+less_is Greater e = absurd (true≢false (sym e))
+
+recursion : {X : Type 0} (P : X → Type 0) (xs : List X) → All P xs → AllByRecursion P xs
+recursion P [] h = tt
+recursion P (x ∷ xs) h = (h zero x (omega arith), recursion P xs (λ k d lt. h (suc k) d (omega (arith, lt))))
+
+all_above : (name : List ℕ) (es : List (List ℕ × List ℕ)) → T (below_all by_name name es) → AllByRecursion (λ other. by_name name other ≡ Less) (map (λ e. e.0) es)
+all_above name [] h = tt
+all_above name (e ∷ es) h = (less _ (first _ _ h), all_above name es (second _ _ h))
+
+rises : (es : List (List ℕ × List ℕ)) → T (is_sorted by_name es) → IsStrictlySortedBy by_name (map (λ e. e.0) es)
+unfolding IsStrictlySortedBy
+rises [] h = tt
+rises (e ∷ es) h = (all_above e.0 es (first _ _ h), rises es (second _ _ h))
+
+above_take : (name : List ℕ) (n : ℕ) (names : List (List ℕ)) → AllByRecursion (λ other. by_name name other ≡ Less) names → AllByRecursion (λ other. by_name name other ≡ Less) (take n names)
+above_take name zero names h = tt
+above_take name (suc n) [] h = tt
+above_take name (suc n) (other ∷ names) h = (h.0, above_take name n names h.1)
+
+take_rises : (n : ℕ) (names : List (List ℕ)) → IsStrictlySortedBy by_name names → IsStrictlySortedBy by_name (take n names)
+unfolding IsStrictlySortedBy
+take_rises zero names h = tt
+take_rises (suc n) [] h = tt
+take_rises (suc n) (name ∷ names) h = (above_take name n names h.0, take_rises n names h.1)
+
+begins : (after : List ℕ) (names : List (List ℕ)) → AllByRecursion (λ other. by_name after other ≡ Less) names → IsStrictlySortedBy by_name names → IsStrictlySortedBy by_name (after ∷ names)
+unfolding IsStrictlySortedBy
+begins after names above rest = (above, rest)
+
+pub listing : (files : Files) (prefix after : List ℕ) (most : ℕ) → All IsName (keys files)
+    → IsListing prefix after most (take most (names_after files prefix after))
+listing files prefix after most sizes =
+    let names = names_after files prefix after in
+    let passes = filter_passes (wanted prefix after) (keys files) in
+    record {
+      rising = begins after (take most names)
+          (recursion _ (take most names) (All-take (λ name. by_name after name ≡ Less) most names (λ k d lt. less_is _ (second_true _ _ (passes k d lt)))))
+          (take_rises most names (IsStrictlySortedBy-filter by_name (wanted prefix after) (keys files) (rises (entries files) (entries_sorted files))));
+      prefixed = All-take (λ name. IsTrue (has_prefix prefix name)) most names (λ k d lt. first_true _ _ (passes k d lt));
+      sizes = All-take IsName most names (All-filter (wanted prefix after) IsName (keys files) sizes);
+      few = omega (arith, length-take most names);
+    }

@@ -1,0 +1,24 @@
+-- The files of a disk in memory, as its map from names holds them. Only the model of that disk and proofs need these.
+use Rattle.std.specs.Prelude.{◌≡◌, ℕ, List, String, map, string_bytes, string_cmp}
+use Rattle.std.specs.FinMap.{from_entries}
+use Rattle.std.specs.List.{All}
+use Rattle.std.specs.List.Sorted.{IsStrictlySortedBy}
+use Rattle.std.specs.Map.{keys_of}
+use Rattle.std.specs.declared.alloc.Global.{Global}
+use Rattle.sp_base.specs.Names.{by_name}
+use Rattle.sp_outside.specs.Files.{Files, IsName}
+
+abbrev pub Held : Type 0
+Held = List (String Global × List ℕ)
+
+-- the entries under their names' bytes
+abbrev pub named : Held → List (List ℕ × List ℕ)
+named held = map (λ e. (string_bytes e.0, e.1)) held
+
+abbrev pub files_of : Held → Files
+files_of held = from_entries (named held)
+
+-- the names rise, and each is one of a file
+pub record HasNames (held : Held) : Type 0 where
+  pub rising : IsStrictlySortedBy string_cmp (keys_of held)
+  pub sizes : All (λ key. IsName (string_bytes key)) (keys_of held)

@@ -1,0 +1,70 @@
+//! Disks: where files are kept by their names.
+ghost use Rattle.std.specs.Prelude.{◌≡◌, ℕ, Option, IfSome, IfOk, IfErr, OnOk, take};
+ghost use Rattle.sp_outside.specs.Files.{Files, IsName, IsListing, IsOldOrNew, file_at, told_with, told_without, names_after};
+ghost use Rattle.sp_outside.specs.Causes.{HasDiskCause};
+ghost use Rattle.sp_outside.specs.declared.disk.DiskFault.TheVariants.{NoMemory as no_memory};
+
+use sp_base::{ByteBuf, NameList, NoMemory};
+use std::alloc::{AllocError, Global};
+
+/// The most bytes of a file's name.
+pub const LONGEST_NAME: usize = 16_384;
+
+#[derive(Clone, Copy, PartialEq, Eq, Debug, Drop)]
+pub enum DiskFault {
+    Failed,
+    NoMemory,
+}
+
+impl From<NoMemory> for DiskFault {
+    ghost from_gives = { λ _ e. e ≡ no_memory };
+
+    fn from(_fault: NoMemory) -> DiskFault {
+        DiskFault::NoMemory
+    }
+}
+
+impl From<AllocError> for DiskFault {
+    ghost from_gives = { λ _ e. e ≡ no_memory };
+
+    fn from(_fault: AllocError) -> DiskFault {
+        DiskFault::NoMemory
+    }
+}
+
+/// Files by their names. After a `put` or `remove` that fails the files are those from before, or those with this one
+/// change whole.
+pub trait Disk {
+    /// How often a call has failed.
+    ghost faults: { Self → ℕ };
+
+    /// The files, where the disk tells them.
+    ghost files: { Self → Option Files };
+
+    /// The bytes of a file, or None where there is none of this name.
+    fn get(&mut self, alloc: Global, name: &str) -> Result<Option<ByteBuf>, DiskFault>
+        ensures value { IfOk result (λ found. IfSome (files self.old) (λ held. found ≡ file_at held name.now)) }
+        ensures same { files self.new ≡ files self.old }
+        ensures cause { HasDiskCause (faults self.old) (faults self.new) result };
+
+    /// Makes the file of this name exactly these bytes.
+    fn put(&mut self, name: &str, bytes: &[u8]) -> Result<(), DiskFault>
+        requires { IsName name.now }
+        ensures ok { OnOk result (files self.new ≡ told_with (files self.old) name.now bytes.now) }
+        ensures err { IfErr result (IsOldOrNew (files self.old) (told_with (files self.old) name.now bytes.now) (files self.new)) }
+        ensures cause { HasDiskCause (faults self.old) (faults self.new) result };
+
+    /// Takes the file of this name away, if there is one. This takes no memory.
+    fn remove(&mut self, name: &str) -> Result<(), DiskFault>
+        ensures ok { OnOk result (files self.new ≡ told_without (files self.old) name.now) }
+        ensures err { IfErr result (IsOldOrNew (files self.old) (told_without (files self.old) name.now) (files self.new)) }
+        ensures fails { IfErr result (λ e. e ≡ DiskFault.Failed) }
+        ensures cause { HasDiskCause (faults self.old) (faults self.new) result };
+
+    /// The first names, at most `most`, that begin with a prefix and are greater than `after`, in the order of their bytes.
+    fn list(&mut self, alloc: Global, prefix: &str, after: &str, most: usize) -> Result<NameList, DiskFault>
+        ensures names { IfOk result (IsListing prefix.now after.now most) }
+        ensures value { IfOk result (λ names. IfSome (files self.old) (λ held. names ≡ take most (names_after held prefix.now after.now))) }
+        ensures same { files self.new ≡ files self.old }
+        ensures cause { HasDiskCause (faults self.old) (faults self.new) result };
+}

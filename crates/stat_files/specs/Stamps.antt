@@ -1,0 +1,22 @@
+-- The stamps of folders, as the files of the docroot hold them.
+use Rattle.std.specs.Prelude.{ℕ, List, Option, Some, None, option_map}
+use Rattle.sp_outside.specs.Files.{Files, file_at}
+use Rattle.docroot_format.specs.Names.{stat_name}
+use Rattle.docroot_format.specs.Readings.{stat_of}
+use Rattle.docroot_format.specs.declared.key.Stamp.{Stamp}
+
+-- the greatest stamp, which outdates every page
+abbrev pub greatest : Stamp
+greatest = record { epoch = 18446744073709551615; count = 18446744073709551615 }
+
+abbrev pub stamp_or_greatest : Option (ℕ × ℕ) → Stamp
+stamp_or_greatest None = greatest
+stamp_or_greatest (Some stamp) = record { epoch = stamp.0; count = stamp.1 }
+
+-- the stamp that the bytes of a .stat file stand for: bytes of another form stand for the greatest
+abbrev pub stamp_in : List ℕ → Stamp
+stamp_in bytes = stamp_or_greatest (stat_of bytes)
+
+-- the stamp that the files hold for a folder, where it has a .stat file
+abbrev pub stamp_at : Files → List (List ℕ) → Option Stamp
+stamp_at files folder = option_map stamp_in (file_at files (stat_name folder))

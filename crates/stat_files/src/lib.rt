@@ -1,0 +1,9 @@
+//! The stamps of folders: a .stat file in a folder outdates the pages below it that are older (Adobe Dispatcher manual,
+//! "Invalidating files by folder level").
+#![tactic(auto)]
+
+mod stat;
+#[cfg(test)]
+mod tests;
+
+pub use stat::{stamp_of, touch};

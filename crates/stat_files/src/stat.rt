@@ -1,0 +1,56 @@
+//! .stat files, written and read.
+ghost use Rattle.std.specs.Prelude.{◌≡◌, IfOk, IfErr, IfSome, OnOk, IsTrue};
+ghost use Rattle.sp_outside.specs.Files.{told_with};
+ghost use Rattle.docroot_format.specs.Faults.{HasFileCause, IsLeft};
+ghost use Rattle.docroot_format.specs.Names.{have_names};
+ghost use Rattle.docroot_format.specs.Names as name;
+ghost use Rattle.docroot_format.specs.Texts as text;
+ghost use Rattle.stat_files.specs.Stamps.{stamp_at, stamp_in};
+
+use docroot_format::{FileFault, Stamp, stat_in, stat_name, stat_text};
+use sp_base::Path;
+use sp_outside::Disk;
+use std::alloc::Global;
+
+/// Gives a folder a stamp. Each segment of the folder has a file name of at most 200 bytes.
+pub fn touch<D: Disk>(alloc: Global, disk: &mut D, folder: &Path, stamp: Stamp) -> Result<(), FileFault>
+    requires { IsTrue (have_names folder.now) }
+    ensures ok { OnOk result (D.files disk.new ≡ told_with (D.files disk.old) (name.stat_name folder.now) (text.stat_text stamp.epoch stamp.count)) }
+    ensures err { IfErr result (IsLeft (D.files disk.old) (told_with (D.files disk.old) (name.stat_name folder.now) (text.stat_text stamp.epoch stamp.count)) (D.files disk.new)) }
+    ensures cause { HasFileCause (D.faults disk.old) (D.faults disk.new) result }
+{
+    let name = stat_name(alloc, folder)?;
+    let text = stat_text(alloc, stamp.epoch, stamp.count)?;
+    match disk.put(name.text(), text.text().as_bytes()) {
+        Ok(()) => Ok(()),
+        Err(fault) => Err(FileFault::from(fault)),
+    }
+}
+
+fn stamp_in(bytes: &[u8]) -> Stamp
+    ensures { result ≡ stamp_in bytes.now }
+{
+    match stat_in(bytes) {
+        Some((epoch, count)) => Stamp { epoch, count },
+        None => Stamp {
+            epoch: u64::MAX,
+            count: u64::MAX,
+        },
+    }
+}
+
+/// The stamp of a folder, or None where it has no .stat file. A .stat file of another form has the greatest stamp, so that it
+/// outdates every page.
+pub fn stamp_of<D: Disk>(alloc: Global, disk: &mut D, folder: &Path) -> Result<Option<Stamp>, FileFault>
+    requires { IsTrue (have_names folder.now) }
+    ensures value { IfOk result (λ stamp. IfSome (D.files disk.old) (λ files. stamp ≡ stamp_at files folder.now)) }
+    ensures same { D.files disk.new ≡ D.files disk.old }
+    ensures cause { HasFileCause (D.faults disk.old) (D.faults disk.new) result }
+{
+    let name = stat_name(alloc, folder)?;
+    match disk.get(alloc, name.text()) {
+        Ok(Some(bytes)) => Ok(Some(stamp_in(bytes.bytes()))),
+        Ok(None) => Ok(None),
+        Err(fault) => Err(FileFault::from(fault)),
+    }
+}

@@ -1,0 +1,5 @@
+pub mod PathLemmas
+pub mod LayerLemmas
+pub mod WalkLemmas
+pub mod PropertyLemmas
+pub mod KidLemmas

@@ -3,11 +3,14 @@ use Rattle.std.proofs.Common.{◌≡◌, ◌+◌, ◌-◌, ◌<◌, ◌≤◌, �
 use Rattle.std.specs.Prelude.{codes, option_and_then, option_map}
 use Rattle.std.specs.Option.{option_or}
 use Rattle.std.proofs.lemmas.Bool.{cases_lt}
+use Rattle.sp_base.specs.Properties.{text_in}
+use Rattle.resource_tree.specs.declared.nodes.Node.{Node}
 use Rattle.resource_tree.specs.Content.{Content, IsTree, node_at}
 use Rattle.type_chain.specs.Chain.{own_super, super_at}
+use Rattle.type_chain.specs.Types.{place_of}
 use Rattle.url_split.specs.Split.{at_greatest}
 use Rattle.overlay_merge.specs.declared.layers.Layer.{Layer}
-use Rattle.overlay_merge.specs.Layers.{descent, has_layer, layer_below, overlay_layer, overlay_layers, override_layer, override_layers}
+use Rattle.overlay_merge.specs.Layers.{base_at, base_of, descent, has_layer, layer_below, layer_by, make_layer, path_at, overlay_layer, overlay_layers, override_layer, override_layers}
 use Rattle.overlay_merge.proofs.PathLemmas.{none_from}
 
 -- ---- overlays
@@ -26,17 +29,17 @@ no_rest (a ∷ b ∷ c ∷ path) small = absurd (omega (arith, small))
 
 -- the base among the first n places
 abbrev pub base_below : Content → List (List ℕ) → ℕ → Option (ℕ × List ℕ)
-base_below tree path n = at_greatest (λ k. option_map (λ text. (k, text)) (super_at tree (take k path))) n
+base_below tree path n = at_greatest (λ k. option_map (base_at k) (super_at tree (take k path))) n
 
 no_super : (tree : Content) (path : List (List ℕ)) → node_at tree path ≡ None → super_at tree path ≡ None
 unfolding super_at
 no_super tree path none = ap (option_and_then (λ node. own_super node.props)) none
 
 pub base_more : (tree : Content) (path : List (List ℕ)) (n : ℕ) (text : Option (List ℕ)) → super_at tree (take n path) ≡ text
-    → base_below tree path (n + 1) ≡ option_or (option_map (λ t. (n, t)) text) (base_below tree path n)
+    → base_below tree path (n + 1) ≡ option_or (option_map (base_at n) text) (base_below tree path n)
 base_more tree path n text is =
     let e : n + 1 ≡ suc n = omega arith in
-    ap (base_below tree path) e ∙ ap (λ o. option_or (option_map (λ t. (n, t)) o) (base_below tree path n)) is
+    ap (base_below tree path) e ∙ ap (λ o. option_or (option_map (base_at n) o) (base_below tree path n)) is
 
 base_same : (tree : Content) (path : List (List ℕ)) (n d : ℕ) → ((m : ℕ) → n ≤ m → super_at tree (take m path) ≡ None) → base_below tree path (n + d) ≡ base_below tree path n
 base_same tree path n zero none = let e : n + zero ≡ n = omega arith in ap (base_below tree path) e
@@ -104,3 +107,36 @@ descends_on tree all layers more next below layer so_far is room new below_is mo
         ∙ so_far.rest in
     let at : Descends tree all (layers ++ layer ∷ []) (layer_below tree layer.path) = record { few = few; rest = rest } in
     subst (λ (o : Option Layer). Descends tree all more o) (sym below_is) (subst (λ (l : List Layer). Descends tree all l (layer_below tree layer.path)) (sym more_is) at)
+
+-- ---- the layer below a path
+
+pub below_none : (tree : Content) (path : List (List ℕ)) → base_of tree path ≡ None → layer_below tree path ≡ None
+unfolding layer_below
+below_none tree path none = ap (option_and_then (layer_by tree path)) none
+
+pub below_no_place : (tree : Content) (path : List (List ℕ)) (n : ℕ) (text : List ℕ) → base_of tree path ≡ Some (base_at n text) → place_of tree text ≡ None → layer_below tree path ≡ None
+unfolding layer_below
+below_no_place tree path n text is none =
+    ap (option_and_then (layer_by tree path)) is
+    ∙ ap (λ o. option_map (override_layer (length path - n)) (option_and_then (λ (place : List (List ℕ)). path_at place path n) o)) none
+
+pub below_is : (tree : Content) (path : List (List ℕ)) (n : ℕ) (text : List ℕ) (place : List (List ℕ)) → base_of tree path ≡ Some (base_at n text) → place_of tree text ≡ Some place
+    → layer_below tree path ≡ option_map (override_layer (length path - n)) (path_at place path n)
+unfolding layer_below
+below_is tree path n text place is there =
+    ap (option_and_then (layer_by tree path)) is
+    ∙ ap (λ o. option_map (override_layer (length path - n)) (option_and_then (λ (place : List (List ℕ)). path_at place path n) o)) there
+
+pub layer_made : (below path : List (List ℕ)) (n own common depth : ℕ) → own ≡ length below → depth ≡ length path → common ≡ depth - n
+    → Some (make_layer below own common) ≡ Some (override_layer (length path - n) below)
+layer_made below path n own common depth own_is depth_is common_is =
+    ap (λ k. Some (make_layer below k common)) own_is ∙ ap (λ k. Some (make_layer below (length below) k)) (common_is ∙ ap (λ d. d - n) depth_is)
+
+pub base_is : (tree : Content) (path : List (List ℕ)) → base_below tree path (suc (length path)) ≡ base_of tree path
+unfolding base_of
+base_is tree path = refl
+
+pub super_is : (tree : Content) (path : List (List ℕ)) (node : Node) (text : Option (List ℕ)) → node_at tree path ≡ Some node → text ≡ text_in node.props (codes "sling:resourceSuperType")
+    → super_at tree path ≡ text
+unfolding super_at own_super
+super_is tree path node text at is = ap (option_and_then (λ (n : Node). own_super n.props)) at ∙ sym is

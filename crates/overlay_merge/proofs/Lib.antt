@@ -3,3 +3,4 @@ pub mod LayerLemmas
 pub mod WalkLemmas
 pub mod PropertyLemmas
 pub mod KidLemmas
+pub mod MergedLemmas

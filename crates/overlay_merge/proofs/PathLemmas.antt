@@ -94,8 +94,8 @@ is_path-rest path valid =
 -- ---- below a path without a node there is none
 
 some_is : (o : Option Node) → (is_some o ≡ true → ⊥) → o ≡ None
-some_is (Some node) no = absurd (no refl)
-some_is None no = refl
+some_is (Some node) never = absurd (never refl)
+some_is None never = refl
 
 all_of : (xs : List (List ℕ)) (k : ℕ) → length xs ≤ k → take k xs ≡ xs
 all_of [] zero past = refl
@@ -124,3 +124,6 @@ pub none_from : (tree : Content) (path : List (List ℕ)) (n : ℕ) → IsTree (
 none_from tree path n good none m le =
     let e : m ≡ n + (m - n) = omega (arith, le) in
     ap (λ k. node_at tree (take k path)) e ∙ none_after tree path n (m - n) good none
+
+pub no_path_at : (p : List (List ℕ)) → is_path p ≡ true → None ≡ path_or_none p → ⊥
+no_path_at p valid none = false≢true (ap is_some (none ∙ sym (path_from p valid)))

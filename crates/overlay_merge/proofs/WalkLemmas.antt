@@ -7,10 +7,13 @@ use Rattle.std.proofs.lemmas.Bool.Decides.{nat_tests}
 use Rattle.std.proofs.lemmas.List.Elements.{All-append, All-nil}
 use Rattle.resource_tree.specs.Content.{Content, IsTree, node_at}
 use Rattle.resource_tree.specs.Seen.{Resource, res_at}
+use Rattle.resource_tree.specs.declared.nodes.Node.{Node}
+use Rattle.sp_base.specs.Paths.{is_path}
+use Rattle.overlay_merge.specs.Layers.{layers_of}
 use Rattle.overlay_merge.specs.declared.layers.Layer.{Layer}
 use Rattle.overlay_merge.specs.declared.hiding.HidingDepths.{HidingDepths}
 use Rattle.overlay_merge.specs.declared.uncut.ScreenedLayer.{ScreenedLayer}
-use Rattle.overlay_merge.specs.Hiding.{hides_kid, hides_kid_at, hides_kid_within, hides_resource, hides_resource_at, hides_resource_within, in_common, is_cut, is_hidden_by, is_within, list_of, some_below, uncut, uncut_of}
+use Rattle.overlay_merge.specs.Hiding.{hides_kid, hides_kid_at, hides_kid_within, hides_resource, hides_resource_at, hides_resource_within, in_common, is_cut, is_hidden_by, is_within, list_of, merged_from, some_below, uncut, uncut_of}
 use Rattle.overlay_merge.specs.Walk.{AreNodesOf, hiding_depths, is_screened, kid_depth, last_below, reaches, resource_depth, screened, screens, some_screens, unscreened, unscreened_of}
 use Rattle.overlay_merge.proofs.PathLemmas.{none_from}
 
@@ -106,3 +109,37 @@ unscreened_of-is tree [] = refl
 unscreened_of-is tree (layer ∷ above) =
     ap (λ t. cond t [] (list_of (res_at tree layer.path)) ++ unscreened_of tree (map (screened tree) above)) (is_screened-is tree layer above)
     ∙ ap (λ more. uncut tree layer above ++ more) (unscreened_of-is tree above)
+
+-- ---- the notes of a walk
+
+pub resource_next : (tree : Content) (path : List (List ℕ)) (k found new : ℕ) (node : Node) (here : Bool) → node_at tree (take k path) ≡ Some node
+    → found ≡ resource_depth tree path k → here ≡ hides_resource node.props → new ≡ cond here (k + 1) found → new ≡ resource_depth tree path (k + 1)
+resource_next tree path k found new node here at so_far here_is is =
+    is ∙ ap (λ t. cond t (k + 1) found) (here_is ∙ sym (ap (λ o. option_map_or (λ n. hides_resource n.props) o false) at)) ∙ ap (cond (hides_resource_at tree (take k path)) (k + 1)) so_far
+    ∙ sym (last_more (λ n. hides_resource_at tree (take n path)) k)
+
+pub kid_next : (tree : Content) (path : List (List ℕ)) (k found new : ℕ) (node : Node) (here : Bool) → node_at tree (take k path) ≡ Some node
+    → found ≡ kid_depth tree path k → here ≡ hides_kid (slice_index_or path k []) node.props → new ≡ cond here (k + 1) found → new ≡ kid_depth tree path (k + 1)
+kid_next tree path k found new node here at so_far here_is is =
+    is ∙ ap (λ t. cond t (k + 1) found) (here_is ∙ sym (ap (λ o. option_map_or (λ n. hides_kid (slice_index_or path k []) n.props) o false) at))
+    ∙ ap (cond (hides_kid_at tree (take k path) (slice_index_or path k [])) (k + 1)) so_far
+    ∙ sym (last_more (λ n. hides_kid_at tree (take n path) (slice_index_or path n [])) k)
+
+abbrev pub make_depths : ℕ → ℕ → ℕ → HidingDepths
+make_depths d r k = record { depth = d; resource = r; kid = k }
+
+pub hiding_is : (tree : Content) (path : List (List ℕ)) (d r k : ℕ) → d ≡ length path → r ≡ resource_depth tree path (length path + 1) → k ≡ kid_depth tree path (length path)
+    → make_depths d r k ≡ hiding_depths tree path
+unfolding hiding_depths
+hiding_is tree path d r k e f g =
+    ap (λ n. make_depths n r k) e ∙ ap (λ n. make_depths (length path) n k) f ∙ ap (make_depths (length path) (resource_depth tree path (length path + 1))) g
+
+pub merged_from-is : (tree : Content) (path : List (List ℕ)) (layers : List Layer) (list : List ScreenedLayer) (res : List Resource) → is_path path ≡ true
+    → layers ≡ layers_of tree path → list ≡ map (screened tree) layers → res ≡ unscreened_of tree list → res ≡ merged_from tree path
+unfolding merged_from
+merged_from-is tree path layers list res valid layers_is list_is is =
+    is ∙ ap (unscreened_of tree) list_is ∙ unscreened_of-is tree layers ∙ ap (uncut_of tree) layers_is ∙ sym (ap (λ t. cond t (uncut_of tree (layers_of tree path)) []) valid)
+
+pub not_merged : (tree : Content) (path : List (List ℕ)) → is_path path ≡ false → merged_from tree path ≡ []
+unfolding merged_from
+not_merged tree path invalid = ap (λ t. cond t (uncut_of tree (layers_of tree path)) []) invalid

@@ -23,9 +23,13 @@ overlay_layers (seg ∷ segs) = overlay_layer (seg ∷ segs) (codes "libs") ∷ 
 
 -- ---- overrides
 
+-- first segments that lead to a node, and the text of its super type
+abbrev pub base_at : ℕ → List ℕ → ℕ × List ℕ
+base_at n text = (n, text)
+
 -- how many first segments of a path lead to the deepest node on it that names a super type, and the text that does
 unfoldable pub base_of : Content → List (List ℕ) → Option (ℕ × List ℕ)
-base_of tree path = at_greatest (λ n. option_map (λ text. (n, text)) (super_at tree (take n path))) (suc (length path))
+base_of tree path = at_greatest (λ n. option_map (base_at n) (super_at tree (take n path))) (suc (length path))
 
 -- the layer at a path, of which these are the last segments in common with the layer above
 abbrev pub override_layer : ℕ → List (List ℕ) → Layer

@@ -22,8 +22,8 @@ with_layer lower layer = put_all (left_by layer.props lower) layer.props
 
 -- the properties that steer the merging
 abbrev pub is_steering : List ℕ → Bool
-is_steering name = pointwise nat_eq name (codes "sling:hideResource") || (pointwise nat_eq name (codes "sling:hideProperties")
-    || (pointwise nat_eq name (codes "sling:hideChildren") || pointwise nat_eq name (codes "sling:orderBefore")))
+is_steering name = pointwise nat_eq (codes "sling:hideResource") name || (pointwise nat_eq (codes "sling:hideProperties") name
+    || (pointwise nat_eq (codes "sling:hideChildren") name || pointwise nat_eq (codes "sling:orderBefore") name))
 
 abbrev pub without_steering : List (List ℕ × Value) → List (List ℕ × Value)
 without_steering props = where_key by_name (λ name. not (is_steering name)) props

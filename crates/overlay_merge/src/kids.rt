@@ -1,7 +1,7 @@
 // The kids of a merged resource.
-ghost use Rattle.std.specs.Prelude.{◌≡◌, ◌++◌, not, IfOk, OnOk, filter};
+ghost use Rattle.std.specs.Prelude.{◌≡◌, ◌∷◌, ◌++◌, [], not, IfOk, OnOk, filter, is_some, if◌then◌else◌};
 ghost use Rattle.std.specs.List.{list_any};
-ghost use Rattle.resource_tree.specs.Content.{kid};
+ghost use Rattle.resource_tree.specs.Content.{kid, node_at};
 ghost use Rattle.overlay_merge.specs.Kids.{all_kids, has_text, is_merged_there, kids_of, kids_there, with_kids_of};
 ghost use Rattle.overlay_merge.specs.Walk.{AreNodesOf};
 
@@ -11,7 +11,19 @@ use resource_tree::{Res, Tree};
 use sp_base::{Mem, Path, TextBuf, TextList};
 use std::alloc::Global;
 
-// Whether one of these nodes has a kid of this name: a kid is looked up, since there may be many.
+// Whether a node is at a kid's path.
+fn has_node(alloc: Global, tree: &Tree, path: &Path, name: &str) -> Mem<bool>
+    ensures { IfOk result (λ b. b ≡ is_some (node_at tree.now (kid path.now name.now))) }
+{
+    // `len` says that each node's path is one.
+    let _ = tree.len();
+    match path.child_or_none(alloc, name)? {
+        Some(path) => Ok(tree.node(&path).is_some()),
+        None => Ok(false),
+    }
+}
+
+// Whether one of these nodes has a kid of this name: it is looked up, since there may be many kids.
 fn is_kid_of_some(alloc: Global, tree: &Tree, layers: &[Res<'_>], name: &str) -> Mem<bool>
     requires { AreNodesOf tree.now layers.now }
     ensures { IfOk result (λ b. b ≡ list_any (λ layer. has_text layer.kids name.now) layers.now) }
@@ -19,13 +31,22 @@ fn is_kid_of_some(alloc: Global, tree: &Tree, layers: &[Res<'_>], name: &str) ->
     // `len` says that a node's kids are the paths one segment longer.
     let _ = tree.len();
     for layer in layers {
-        if let Some(path) = layer.path().child_or_none(alloc, name)? {
-            if tree.node(&path).is_some() {
-                return Ok(true);
-            }
+        if has_node(alloc, tree, layer.path(), name)? {
+            return Ok(true);
         }
     }
     Ok(false)
+}
+
+// Adds a name to others, if it isn't known yet.
+fn push_unless(alloc: Global, known: bool, name: &str, names: &mut Vec<TextBuf>) -> Mem<()>
+    ensures { OnOk result (names.new.items ≡ names.old.items ++ (if known then [] else name.now ∷ [])) }
+{
+    if known {
+        return Ok(());
+    }
+    names.push(TextBuf::of(alloc, name)?)?;
+    Ok(())
 }
 
 // Adds the kids of a layer that no lower one has.
@@ -40,9 +61,8 @@ fn add_kids(
     ensures { OnOk result (names.new.items ≡ names.old.items ++ filter (λ name. not (list_any (λ l. has_text l.kids name) lower.now)) layer.now.kids) }
 {
     for name in layer.kids() {
-        if !is_kid_of_some(alloc, tree, lower, name.text())? {
-            names.push(name.duplicate(alloc)?)?;
-        }
+        let known = is_kid_of_some(alloc, tree, lower, name.text())?;
+        push_unless(alloc, known, name.text(), names)?;
     }
     Ok(())
 }

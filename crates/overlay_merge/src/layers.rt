@@ -2,7 +2,7 @@
 ghost use Rattle.std.specs.Prelude.{◌≡◌, ◌∷◌, ◌++◌, ◌≤◌, [], Some, None, IfOk, IfSome, IsTrue, true, codes, drop, length, option_map};
 ghost use Rattle.std.specs.Option.{option_copied, option_or};
 ghost use Rattle.sp_base.specs.Paths.{is_path, path_or_none, seg_ok};
-ghost use Rattle.overlay_merge.specs.Layers.{base_of, descent, has_layer, layer_below, layer_by, layers_of, make_layer, most_layers, overlay_layer, overlay_layers, override_layer, override_layers, path_at};
+ghost use Rattle.overlay_merge.specs.Layers.{base_at, base_of, descent, has_layer, layer_below, layer_by, layers_of, make_layer, most_layers, overlay_layer, overlay_layers, override_layer, override_layers, path_at};
 
 use crate::roots::{is_overlay, is_override};
 use resource_tree::Tree;
@@ -51,7 +51,7 @@ fn deeper<'a>(
     n: usize,
     text: Option<&'a TextBuf>,
 ) -> Option<(usize, &'a TextBuf)>
-    ensures { option_map (λ b. (b.0, b.1.now)) result ≡ option_or (option_map (λ t. (n, t)) (option_copied text.entry)) (option_map (λ b. (b.0, b.1.now)) base.entry) }
+    ensures { option_map (λ b. base_at b.0 b.1.now) result ≡ option_or (option_map (base_at n) (option_copied text.entry)) (option_map (λ b. base_at b.0 b.1.now) base.entry) }
 {
     match text {
         Some(text) => Some((n, text)),
@@ -61,7 +61,7 @@ fn deeper<'a>(
 
 /// How many first segments of a path lead to the deepest node on it that names a super type, and the text that does.
 fn base_of<'a>(alloc: Global, tree: &'a Tree, path: &Path) -> Mem<Option<(usize, &'a TextBuf)>>
-    ensures { IfOk result (λ o. option_map (λ b. (b.0, b.1.now)) o ≡ base_of tree.now path.now) }
+    ensures { IfOk result (λ o. option_map (λ b. base_at b.0 b.1.now) o ≡ base_of tree.now path.now) }
 {
     // `len` says that the parent of each node is there.
     let _ = tree.len();
@@ -126,6 +126,8 @@ fn overlay_layer(alloc: Global, path: &Path, top: &str) -> Mem<Layer>
     requires { seg_ok top.now ≡ true }
     ensures { IfOk result (λ layer. layer ≡ overlay_layer (drop 2 path.now) top.now) }
 {
+    // `depth` says that the path is one.
+    let _ = path.depth();
     let place = match Path::root(alloc).child(alloc, top) {
         Ok(place) => place,
         Err(_) => return Err(NoMemory),
@@ -146,10 +148,11 @@ fn overlay_layers(alloc: Global, path: &Path) -> Mem<Vec<Layer>>
     ensures { IfOk result (λ layers. layers.items ≡ overlay_layers (drop 2 path.now)) }
 {
     let mut layers = Vec::new(alloc);
-    if path.depth() > ROOT_DEPTH {
-        layers.push(overlay_layer(alloc, path, "libs")?)?;
-        layers.push(overlay_layer(alloc, path, "apps")?)?;
+    if path.depth() <= ROOT_DEPTH {
+        return Ok(layers);
     }
+    layers.push(overlay_layer(alloc, path, "libs")?)?;
+    layers.push(overlay_layer(alloc, path, "apps")?)?;
     Ok(layers)
 }
 

@@ -12,5 +12,5 @@ mod uncut;
 mod view;
 
 pub use layers::Layer;
-pub use merging::{merged, merged_kids};
+pub use merging::{has_resource, merged, merged_kids};
 pub use view::MergedView;

@@ -66,16 +66,32 @@ pub fn merged<'a>(alloc: Global, tree: &'a Tree, path: &Path) -> Mem<Option<Res<
     }
 }
 
+fn kids_copied(alloc: Global, kids: &[TextBuf]) -> Mem<TextList>
+    ensures { IfOk result (λ list. list ≡ kids.now) }
+{
+    let mut list = TextList::new(alloc);
+    for kid in kids {
+        list.push(kid.duplicate(alloc)?)?;
+    }
+    Ok(list)
+}
+
 /// The names of the kids of the resource that is seen at a path, none where there is no resource.
 pub fn merged_kids(alloc: Global, tree: &Tree, path: &Path) -> Mem<TextList>
     ensures { IfOk result (λ kids. kids ≡ kids_in (merged tree.now path.now)) }
 {
-    let Some(res) = merged(alloc, tree, path)? else {
-        return Ok(TextList::new(alloc));
-    };
-    let mut kids = TextList::new(alloc);
-    for kid in res.kids() {
-        kids.push(kid.duplicate(alloc)?)?;
+    match merged(alloc, tree, path)? {
+        Some(res) => kids_copied(alloc, res.kids()),
+        None => Ok(TextList::new(alloc)),
     }
-    Ok(kids)
+}
+
+/// Whether a resource is seen at a path.
+pub fn has_resource(alloc: Global, tree: &Tree, path: &Path) -> Mem<bool>
+    ensures { IfOk result (λ b. b ≡ has_resource tree.now path.now) }
+{
+    if is_merged_path(path) {
+        return Ok(!merged_from(alloc, tree, path)?.is_empty());
+    }
+    Ok(tree.node(path).is_some())
 }

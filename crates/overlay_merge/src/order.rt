@@ -1,5 +1,5 @@
 // Kids that are moved to where they wish to stand.
-ghost use Rattle.std.specs.Prelude.{◌≡◌, Some, nat_eq, position, OnOk, IfOk, IfSome, ◌<◌, length};
+ghost use Rattle.std.specs.Prelude.{◌≡◌, Some, nat_eq, position, OnOk, IfOk, IfSome, ◌<◌, ◌≤◌, length, unwrap_or};
 ghost use Rattle.std.specs.Option.{option_copied};
 ghost use Rattle.std.specs.Cmp.Lexicographic.{pointwise};
 ghost use Rattle.resource_tree.specs.Content.{kid};
@@ -22,20 +22,34 @@ fn has_text(names: &[TextBuf], name: &str) -> bool
     names.iter().any(|other| name == other.text())
 }
 
-// Moves a name from its place directly before another, if that is there.
-fn move_from(names: &mut Vec<TextBuf>, at: usize, other: &str) -> Mem<()>
-    requires { at < length names.old.items }
+// The place of a name, or the end.
+fn place_or_end(names: &[TextBuf], name: &str) -> usize
+    ensures value { result ≡ unwrap_or (position (pointwise nat_eq name.now) names.now) (length names.now) }
+    ensures within { result ≤ length names.now }
+{
+    match place_of(names, name) {
+        Some(place) => place,
+        None => names.len(),
+    }
+}
+
+// Moves a name, which stands at a place, directly before another, if that is there.
+fn move_from(names: &mut Vec<TextBuf>, at: usize, name: &str, other: &str) -> Mem<()>
+    requires there { position (pointwise nat_eq name.now) names.old.items ≡ Some at }
+    requires within { at < length names.old.items }
+    ensures { OnOk result (names.new.items ≡ moved_from name.now other.now names.old.items (Some at)) }
 {
     if !has_text(names, other) {
         return Ok(());
     }
-    let name = names.remove(at);
-    let before = place_of(names, other).unwrap_or(names.len());
-    names.insert(before, name)?;
+    let taken = names.remove(at);
+    let before = place_or_end(names, other);
+    names.insert(before, taken)?;
     Ok(())
 }
 
 // Moves a name directly before another.
+#[tactic(auto, unfolding(crate::specs::Kids::moved))]
 fn move_before(names: &mut Vec<TextBuf>, name: &str, other: &str) -> Mem<()>
     ensures { OnOk result (names.new.items ≡ moved name.now (Some other.now) names.old.items) }
 {
@@ -43,7 +57,18 @@ fn move_before(names: &mut Vec<TextBuf>, name: &str, other: &str) -> Mem<()>
         return Ok(());
     }
     match place_of(names, name) {
-        Some(at) => move_from(names, at, other),
+        Some(at) => move_from(names, at, name, other),
+        None => Ok(()),
+    }
+}
+
+// Moves a name to where it wishes to stand.
+#[tactic(auto, unfolding(crate::specs::Kids::moved))]
+fn move_by(names: &mut Vec<TextBuf>, name: &str, wish: Option<&TextBuf>) -> Mem<()>
+    ensures { OnOk result (names.new.items ≡ moved name.now (option_copied wish.entry) names.old.items) }
+{
+    match wish {
+        Some(other) => move_before(names, name, other.text()),
         None => Ok(()),
     }
 }
@@ -79,9 +104,8 @@ pub(crate) fn order_by(
     ensures { OnOk result (names.new.items ≡ ordered_by tree.now names.old.items layer.now) }
 {
     for name in layer.kids() {
-        if let Some(other) = wish_of(alloc, tree, layer.path(), name.text())? {
-            move_before(names, name.text(), other.text())?;
-        }
+        let wish = wish_of(alloc, tree, layer.path(), name.text())?;
+        move_by(names, name.text(), wish)?;
     }
     Ok(())
 }

@@ -5,6 +5,7 @@ ghost use Rattle.std.specs.Option.{option_copied};
 ghost use Rattle.std.specs.FinMap.Entries.{where_key};
 ghost use Rattle.sp_base.specs.Names.{by_name};
 ghost use Rattle.overlay_merge.specs.Hiding.{stands_for, has_name};
+ghost use Rattle.overlay_merge.specs.HidingTexts.{many_texts, one_text, text_list};
 ghost use Rattle.overlay_merge.specs.Properties.{left_by, merged_props, put_all, with_layer, without_steering};
 
 use resource_tree::Res;
@@ -16,9 +17,10 @@ fn put_all(alloc: Global, props: &mut PropList, upper: &PropList) -> Mem<()>
     ensures { OnOk result (props.new ≡ put_all props.old upper.now) }
 {
     for place in 0..upper.len() {
-        if let Some((name, value)) = upper.at(place) {
-            props.put(alloc, name, value.duplicate(alloc)?)?;
-        }
+        let Some((name, value)) = upper.at(place) else {
+            return Ok(());
+        };
+        props.put(alloc, name, value.duplicate(alloc)?)?;
     }
     Ok(())
 }
@@ -42,15 +44,41 @@ fn hide_by_all(alloc: Global, props: &mut PropList, texts: &[TextBuf])
     }
 }
 
+#[tactic(auto, using(crate::proofs::PropertyLemmas::hide_text, crate::proofs::PropertyLemmas::hide_none))]
+fn hide_by_one(alloc: Global, props: &mut PropList, text: Option<&TextBuf>)
+    ensures { props.new ≡ where_key by_name (λ name. not (list_any (stands_for name) (text_list (option_copied text.entry)))) props.old }
+{
+    if let Some(text) = text {
+        hide_by(alloc, props, text.text());
+    }
+}
+
+// The text of a value that is one.
+fn one_text(value: Option<&Value>) -> Option<&TextBuf>
+    ensures { option_copied result ≡ one_text (option_copied value.entry) }
+{
+    match value {
+        Some(Value::Text(text)) => Some(text),
+        _ => None,
+    }
+}
+
+// The texts of a value that is a list of them.
+fn many_texts(value: Option<&Value>) -> &[TextBuf]
+    ensures { result.now ≡ many_texts (option_copied value.entry) }
+{
+    match value {
+        Some(Value::Texts(texts)) => texts.as_slice(),
+        _ => &[],
+    }
+}
+
 // Takes away the properties that a value names, which is a text or texts.
 fn hide(alloc: Global, props: &mut PropList, value: Option<&Value>)
     ensures { props.new ≡ where_key by_name (λ name. not (has_name (option_copied value.entry) name)) props.old }
 {
-    match value {
-        Some(Value::Text(text)) => hide_by(alloc, props, text.text()),
-        Some(Value::Texts(texts)) => hide_by_all(alloc, props, texts.as_slice()),
-        _ => {}
-    }
+    hide_by_one(alloc, props, one_text(value));
+    hide_by_all(alloc, props, many_texts(value));
 }
 
 #[tactic(auto, unfolding(crate::specs::Properties::with_layer))]

@@ -102,5 +102,6 @@ pub(crate) fn merged_from<'a>(alloc: Global, tree: &'a Tree, path: &Path) -> Mem
     let _ = path.depth();
     let layers = layers_of(alloc, tree, path)?;
     let screened = screened_layers(alloc, tree, layers)?;
-    unscreened_of(alloc, tree, &screened)
+    let list = unscreened_of(alloc, tree, &screened)?;
+    Ok(list)
 }

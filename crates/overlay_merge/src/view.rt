@@ -1,7 +1,7 @@
 //! A tree seen with its overlays and overrides merged.
 ghost use Rattle.std.specs.Prelude.{◌≡◌};
 
-use crate::merging::merged;
+use crate::merging::{has_resource, merged};
 use resource_tree::{Look, Res, Tree};
 use sp_base::{Mem, Path};
 use std::alloc::Global;
@@ -30,6 +30,6 @@ impl Known for MergedView<'_> {
     ghost known = { λ view. has_resource view.tree.now };
 
     fn has(&self, alloc: Global, path: &Path) -> Mem<bool> {
-        Ok(merged(alloc, self.tree, path)?.is_some())
+        has_resource(alloc, self.tree, path)
     }
 }

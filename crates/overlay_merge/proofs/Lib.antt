@@ -4,3 +4,4 @@ pub mod WalkLemmas
 pub mod PropertyLemmas
 pub mod KidLemmas
 pub mod MergedLemmas
+pub mod ReachLemmas

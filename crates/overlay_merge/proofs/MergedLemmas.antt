@@ -1,6 +1,8 @@
 -- Whether something is seen at a path.
-use Rattle.std.proofs.Common.{◌≡◌, ◌==◌, ℕ, Bool, true, false, not, cond, List, [], ◌∷◌, Option, Some, None, length, refl, sym, ◌∙◌, ap}
+use Rattle.std.proofs.Common.{◌≡◌, ◌==◌, ◌<◌, ℕ, arith, Bool, true, false, not, cond, List, [], ◌∷◌, Option, Some, None, length, refl, sym, ◌∙◌, ap}
 use Rattle.std.specs.Prelude.{is_some, option_map}
+use Rattle.std.proofs.lemmas.Bool.{true≢false}
+use Rattle.std.proofs.lemmas.Bool.Decides.{nat_tests}
 use Rattle.resource_tree.specs.Content.{Content, node_at}
 use Rattle.resource_tree.specs.Seen.{Resource, res_at, res_of}
 use Rattle.resource_tree.specs.declared.nodes.Node.{Node}
@@ -8,9 +10,12 @@ use Rattle.overlay_merge.specs.Roots.{is_merged_path, is_parent_of_roots}
 use Rattle.overlay_merge.specs.Hiding.{merged_from}
 use Rattle.overlay_merge.specs.Merged.{has_resource, merge, merged, unmerged, without_roots}
 
+not_zero : (n : ℕ) → 0 < n → (n == 0) ≡ false
+not_zero n some = grind (arith, nat_tests)
+
 some_merge : (tree : Content) (path : List (List ℕ)) (layers : List Resource) → is_some (merge tree path layers) ≡ not (length layers == 0)
 some_merge tree path [] = refl
-some_merge tree path (lowest ∷ more) = refl
+some_merge tree path (lowest ∷ more) = ap not (sym (not_zero (length (lowest ∷ more)) (omega arith)))
 
 some_unmerged : (parent : Bool) (path : List (List ℕ)) (o : Option Node) → is_some (cond parent (option_map without_roots (option_map (res_of path) o)) (option_map (res_of path) o)) ≡ is_some o
 some_unmerged true path (Some node) = refl
@@ -29,4 +34,4 @@ has_unmerged tree path is =
 
 pub merge_none : (tree : Content) (path : List (List ℕ)) (layers : List Resource) → (length layers == 0) ≡ true → None ≡ merge tree path layers
 merge_none tree path [] e = refl
-merge_none tree path (lowest ∷ more) e = absurd (cc)
+merge_none tree path (lowest ∷ more) e = absurd (true≢false (sym e ∙ not_zero (length (lowest ∷ more)) (omega arith)))

@@ -7,6 +7,7 @@ mod layers;
 mod merging;
 mod order;
 mod properties;
+mod reach;
 mod roots;
 mod uncut;
 mod view;

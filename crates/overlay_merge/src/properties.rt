@@ -44,12 +44,12 @@ fn hide_by_all(alloc: Global, props: &mut PropList, texts: &[TextBuf])
     }
 }
 
-#[tactic(auto, using(crate::proofs::PropertyLemmas::hide_text, crate::proofs::PropertyLemmas::hide_none))]
 fn hide_by_one(alloc: Global, props: &mut PropList, text: Option<&TextBuf>)
     ensures { props.new ≡ where_key by_name (λ name. not (list_any (stands_for name) (text_list (option_copied text.entry)))) props.old }
 {
-    if let Some(text) = text {
-        hide_by(alloc, props, text.text());
+    match text {
+        Some(text) => hide_by(alloc, props, text.text()),
+        None => {}
     }
 }
 

@@ -2,6 +2,7 @@
 ghost use Rattle.std.specs.Prelude.{◌≡◌};
 
 use crate::merging::{has_resource, merged};
+use crate::reach::reach;
 use resource_tree::{Look, Res, Tree};
 use sp_base::{Mem, Path};
 use std::alloc::Global;
@@ -31,5 +32,9 @@ impl Known for MergedView<'_> {
 
     fn has(&self, alloc: Global, path: &Path) -> Mem<bool> {
         has_resource(alloc, self.tree, path)
+    }
+
+    fn reach(&self, alloc: Global, path: &Path) -> Mem<usize> {
+        reach(alloc, self.tree, path)
     }
 }

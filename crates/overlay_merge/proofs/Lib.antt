@@ -1,0 +1,7 @@
+pub mod PathLemmas
+pub mod LayerLemmas
+pub mod WalkLemmas
+pub mod PropertyLemmas
+pub mod KidLemmas
+pub mod MergedLemmas
+pub mod ReachLemmas

@@ -1,0 +1,129 @@
+-- Paths by their first segments.
+use Rattle.std.proofs.Common.{◌≡◌, ◌+◌, ◌-◌, ◌<◌, ◌≤◌, ◌&&◌, ℕ, Bool, true, false, cond, List, [], ◌∷◌, ◌++◌, drop, take, length, zero, suc, add-zero, refl, sym, ◌∙◌, ap, arith, ⊎_elim, Option, Some, None}
+use Rattle.std.specs.Prelude.{is_some, nat_eq, nat_le, slice_get, slice_index_or, unwrap_or}
+use Rattle.std.specs.Option.{option_map_or}
+use Rattle.std.specs.List.{list_all}
+use Rattle.std.specs.Cmp.Lexicographic.{pointwise}
+use Rattle.std.proofs.lemmas.Bool.{and_parts, and_from, false≢true, true≢false, false_from_ne_true, leb-true, le-leb, cases_lt}
+use Rattle.std.proofs.lemmas.List.{append_assoc, append-nil, drop_more, take_more, length-append, length-drop}
+use Rattle.std.proofs.lemmas.List.Folds.{list_all-append}
+use Rattle.std.proofs.Math.Seq.{take-length}
+use Rattle.std.proofs.lemmas.Option.{get_or_from_slice_get}
+use Rattle.sp_base.specs.Paths.{is_path, is_under, path_or_none, seg_ok}
+use Rattle.resource_tree.specs.Content.{Content, IsTree, kid, node_at}
+use Rattle.resource_tree.specs.declared.nodes.Node.{Node}
+
+-- ---- the first two segments
+
+pub under_two : (path : List (List ℕ)) (a b : List ℕ)
+    → (option_map_or (pointwise nat_eq a) (slice_get path 0) false && option_map_or (pointwise nat_eq b) (slice_get path 1) false) ≡ is_under path (a ∷ b ∷ [])
+under_two [] a b = refl
+under_two (x ∷ []) a b = elim (pointwise nat_eq a x) as (λ t. (t && false) ≡ (t && false)) [ true ↦ refl | false ↦ refl ]
+under_two (x ∷ y ∷ path) a b =
+    ap (λ t. pointwise nat_eq a x && t) (elim (pointwise nat_eq b y) as (λ t. t ≡ (t && true)) [ true ↦ refl | false ↦ refl ])
+
+-- ---- other first segments
+
+pub is_path-first : (p r : List (List ℕ)) → is_path (p ++ r) ≡ true → is_path p ≡ true
+is_path-first p r whole =
+    let both = and_parts (list_all seg_ok (p ++ r)) _ whole in
+    let segs = (and_parts (list_all seg_ok p) (list_all seg_ok r) (sym (list_all-append seg_ok p r) ∙ both.0)).0 in
+    let deep = leb-true _ _ both.1 in
+    let size = length-append p r in
+    let short : length p ≤ 64 = omega (arith, deep, size) in
+    and_from _ _ segs (le-leb _ _ short)
+
+pub drop_from : (path : List (List ℕ)) (n : ℕ) (seg : List ℕ) → n < length path → Some seg ≡ slice_get path n → drop n path ≡ seg ∷ drop (n + 1) path
+drop_from path n seg within is = drop_more path n [] within ∙ ap (λ (s : List ℕ). s ∷ drop (n + 1) path) (get_or_from_slice_get path n seg [] (sym is))
+
+path_is : (p b : List (List ℕ)) → Some b ≡ path_or_none p → (b ≡ p) × (is_path p ≡ true)
+path_is p b =
+    elim (is_path p) as (λ t. Some b ≡ cond t (Some p) None → (b ≡ p) × (t ≡ true)) [
+      | true ↦ λ e. (ap (λ o. unwrap_or o b) e, refl)
+      | false ↦ λ e. absurd (true≢false (ap is_some e))
+    ]
+
+no_path : (p : List (List ℕ)) → None ≡ path_or_none p → is_path p ≡ false
+no_path p =
+    elim (is_path p) as (λ t. None ≡ cond t (Some p) None → t ≡ false) [
+      | true ↦ λ e. absurd (false≢true (ap is_some e))
+      | false ↦ λ e. refl
+    ]
+
+no_path_from : (p : List (List ℕ)) → is_path p ≡ false → None ≡ path_or_none p
+no_path_from p e = ap (λ t. cond t (Some p) None) (sym e)
+
+pub path_from : (p : List (List ℕ)) → is_path p ≡ true → Some p ≡ path_or_none p
+path_from p e = ap (λ t. cond t (Some p) None) (sym e)
+
+module _ (whole path now : List (List ℕ)) (n : ℕ) (seg : List ℕ) (so_far : now ++ drop n path ≡ whole) (within : n < length path) (is : Some seg ≡ slice_get path n) where
+  next : (now ++ seg ∷ []) ++ drop (n + 1) path ≡ whole
+  next = append_assoc now (seg ∷ []) (drop (n + 1) path) ∙ ap (λ r. now ++ r) (sym (drop_from path n seg within is)) ∙ so_far
+
+  pub next_at : (longer : List (List ℕ)) → Some longer ≡ path_or_none (now ++ seg ∷ []) → (longer ++ drop (n + 1) path ≡ whole) × (is_path longer ≡ true)
+  next_at longer e =
+      let both = path_is (now ++ seg ∷ []) longer e in
+      (ap (λ p. p ++ drop (n + 1) path) both.0 ∙ next, ap is_path both.0 ∙ both.1)
+
+  pub none_at : None ≡ path_or_none (now ++ seg ∷ []) → None ≡ path_or_none whole
+  none_at e =
+      no_path_from whole (false_from_ne_true _ (λ valid. true≢false (sym (is_path-first (now ++ seg ∷ []) (drop (n + 1) path) (ap is_path next ∙ valid)) ∙ no_path (now ++ seg ∷ []) e)))
+
+all-drop : (n : ℕ) (path : List (List ℕ)) → list_all seg_ok path ≡ true → list_all seg_ok (drop n path) ≡ true
+all-drop zero path all = all
+all-drop (suc n) [] all = refl
+all-drop (suc n) (seg ∷ path) all = all-drop n path (and_parts (seg_ok seg) (list_all seg_ok path) all).1
+
+-- a path with one segment, or none, in place of its first two
+pub is_path-below : (path : List (List ℕ)) (top : List ℕ) → seg_ok top ≡ true → is_path path ≡ true → is_path (top ∷ drop 2 path) ≡ true
+is_path-below path top ok valid =
+    let both = and_parts (list_all seg_ok path) _ valid in
+    let deep = leb-true _ _ both.1 in
+    let size = length-drop 2 path in
+    let short : length (top ∷ drop 2 path) ≤ 64 = omega (arith, deep, size) in
+    and_from _ _ (and_from _ _ ok (all-drop 2 path both.0)) (le-leb _ _ short)
+
+pub is_path-rest : (path : List (List ℕ)) → is_path path ≡ true → is_path (drop 2 path) ≡ true
+is_path-rest path valid =
+    let both = and_parts (list_all seg_ok path) _ valid in
+    let deep = leb-true _ _ both.1 in
+    let size = length-drop 2 path in
+    let short : length (drop 2 path) ≤ 64 = omega (arith, deep, size) in
+    and_from _ _ (all-drop 2 path both.0) (le-leb _ _ short)
+
+-- ---- below a path without a node there is none
+
+some_is : (o : Option Node) → (is_some o ≡ true → ⊥) → o ≡ None
+some_is (Some node) never = absurd (never refl)
+some_is None never = refl
+
+all_of : (xs : List (List ℕ)) (k : ℕ) → length xs ≤ k → take k xs ≡ xs
+all_of [] zero past = refl
+all_of [] (suc k) past = refl
+all_of (x ∷ xs) zero past = absurd (omega (arith, past))
+all_of (x ∷ xs) (suc k) past = let less : length xs ≤ k = omega (arith, past) in ap (λ (r : List (List ℕ)). x ∷ r) (all_of xs k less)
+
+none_next : (tree : Content) (path : List (List ℕ)) (n : ℕ) → IsTree (node_at tree) → node_at tree (take n path) ≡ None → node_at tree (take (n + 1) path) ≡ None
+none_next tree path n good none =
+    ⊎_elim (λ (within : n < length path).
+    let longer : take (n + 1) path ≡ kid (take n path) (slice_index_or path n []) = take_more path n [] within in
+    some_is (node_at tree (take (n + 1) path)) (λ there.
+    true≢false (sym (good.parents (take n path) (slice_index_or path n []) (ap (λ p. is_some (node_at tree p)) (sym longer) ∙ there)) ∙ ap is_some none)))
+    (λ (past : length path ≤ n).
+    let more : length path ≤ n + 1 = omega (arith, past) in
+    ap (node_at tree) (all_of path (n + 1) more ∙ sym (all_of path n past)) ∙ none) (cases_lt n (length path))
+
+none_after : (tree : Content) (path : List (List ℕ)) (n d : ℕ) → IsTree (node_at tree) → node_at tree (take n path) ≡ None → node_at tree (take (n + d) path) ≡ None
+none_after tree path n zero good none = ap (λ k. node_at tree (take k path)) (add-zero n) ∙ none
+none_after tree path n (suc d) good none =
+    let e : n + suc d ≡ (n + d) + 1 = omega arith in
+    ap (λ k. node_at tree (take k path)) e ∙ none_next tree path (n + d) good (none_after tree path n d good none)
+
+pub none_from : (tree : Content) (path : List (List ℕ)) (n : ℕ) → IsTree (node_at tree) → node_at tree (take n path) ≡ None
+    → (m : ℕ) → n ≤ m → node_at tree (take m path) ≡ None
+none_from tree path n good none m le =
+    let e : m ≡ n + (m - n) = omega (arith, le) in
+    ap (λ k. node_at tree (take k path)) e ∙ none_after tree path n (m - n) good none
+
+pub no_path_at : (p : List (List ℕ)) → is_path p ≡ true → None ≡ path_or_none p → ⊥
+no_path_at p valid none = false≢true (ap is_some (none ∙ sym (path_from p valid)))

@@ -1,0 +1,120 @@
+-- How deep what is seen reaches along a path: a node's parent is there, so none is below the first ancestor that is missing.
+use Rattle.std.proofs.Common.{◌≡◌, ◌≤◌, ◌<◌, ◌+◌, ◌-◌, ◌==◌, ◌||◌, ◌&&◌, ℕ, zero, suc, Bool, true, false, not, cond, List, [], ◌∷◌, Option, Some, None, drop, length, take, refl, sym, ◌∙◌, ap, arith, ⊎_elim}
+use Rattle.std.specs.Prelude.{codes, is_some, nat_eq}
+use Rattle.std.specs.Cmp.Lexicographic.{pointwise, same_text}
+use Rattle.std.proofs.lemmas.Bool.{true≢false, false≢true, and_parts, cases_lt, cases_Bool}
+use Rattle.std.proofs.lemmas.List.{take_more, length-take-le}
+use Rattle.std.proofs.Math.Seq.{take-length}
+use Rattle.sp_base.specs.Paths.{is_path, is_under, parent_of}
+use Rattle.resource_tree.specs.Content.{Content, IsTree, kid, name_of, node_at}
+use Rattle.resource_tree.specs.Seen.{Resource}
+use Rattle.overlay_merge.specs.Roots.{is_merged_path, is_overlay, is_override}
+use Rattle.overlay_merge.specs.Layers.{layers_of, overlay_layers, override_layers}
+use Rattle.overlay_merge.specs.Hiding.{merged_from, uncut_of}
+use Rattle.overlay_merge.specs.Merged.{has_resource}
+use Rattle.overlay_merge.proofs.LayerLemmas.{no_rest}
+use Rattle.overlay_merge.proofs.MergedLemmas.{has_merged, has_unmerged}
+
+-- a path is under its own prefixes alone
+record Prefix (path q : List (List ℕ)) : Type 0 where
+  same : take (length q) path ≡ q
+  within : length q ≤ length path
+
+prefix_of : (path q : List (List ℕ)) → is_under path q ≡ true → Prefix path q
+prefix_of path [] h = record { same = refl; within = omega arith }
+prefix_of [] (s ∷ q) h = absurd (false≢true h)
+prefix_of (a ∷ path) (s ∷ q) h =
+    let parts = and_parts (pointwise nat_eq s a) (is_under path q) h in
+    let rest = prefix_of path q parts.1 in
+    record {
+      same = ap (λ (p : List (List ℕ)). a ∷ p) rest.same ∙ ap (λ (t : List ℕ). t ∷ q) (sym (same_text s a (sym parts.0)));
+      within = omega (arith, rest.within);
+    }
+
+-- a path other than the root is its parent's kid
+kid_of_parent : (q : List (List ℕ)) → 0 < length q → kid (parent_of q) (name_of q) ≡ q
+kid_of_parent [] some = absurd (omega (arith, some))
+kid_of_parent (s ∷ q) some =
+    let size : (length (s ∷ q) - 1) + 1 ≡ length (s ∷ q) = omega arith in
+    let within : length (s ∷ q) - 1 < length (s ∷ q) = omega arith in
+    sym (take_more (s ∷ q) (length (s ∷ q) - 1) [] within) ∙ ap (λ i. take i (s ∷ q)) size ∙ take-length (s ∷ q)
+
+-- no node is at the longer prefixes
+abbrev pub NoneFrom : Content → List (List ℕ) → ℕ → Type 0
+NoneFrom tree path n = (k : ℕ) → n < k → k ≤ length path → node_at tree (take k path) ≡ None
+
+node_reach : (tree : Content) (path : List (List ℕ)) (n : ℕ) → IsTree (node_at tree) → NoneFrom tree path n
+    → (other : List (List ℕ)) → is_some (node_at tree other) ≡ true → is_under path (parent_of other) ≡ true → length other ≤ n + 1
+node_reach tree path n good none other there under =
+    ⊎_elim (λ large.
+    let q = parent_of other in
+    let prefix = prefix_of path q under in
+    let size : length q ≡ length other - 1 = length-take-le (length other - 1) other (omega arith) in
+    let some : 0 < length other = omega (arith, large) in
+    let above : is_some (node_at tree q) ≡ true = good.parents q (name_of other) (ap (λ p. is_some (node_at tree p)) (kid_of_parent other some) ∙ there) in
+    let deep : n < length q = omega (arith, large, size) in
+    absurd (true≢false (sym above ∙ ap (λ p. is_some (node_at tree p)) (sym prefix.same) ∙ ap is_some (none (length q) deep prefix.within)))) (λ small. small) (cases_lt (n + 1) (length other))
+
+-- each path whose parent is the path or an ancestor of it has at most one segment more
+pub reach_one : (path other : List (List ℕ)) → is_under path (parent_of other) ≡ true → length other ≤ length path + 1
+reach_one path other under =
+    let prefix = prefix_of path (parent_of other) under in
+    let size : length (parent_of other) ≡ length other - 1 = length-take-le (length other - 1) other (omega arith) in
+    omega (arith, size, prefix.within)
+
+-- ---- merged paths
+
+under_take : (path : List (List ℕ)) (n : ℕ) (a b : List ℕ) → 2 ≤ n → is_under (take n path) (a ∷ b ∷ []) ≡ is_under path (a ∷ b ∷ [])
+under_take path zero a b some = absurd (omega (arith, some))
+under_take path (suc zero) a b some = absurd (omega (arith, some))
+under_take [] (suc (suc n)) a b some = refl
+under_take (x ∷ []) (suc (suc n)) a b some = refl
+under_take (x ∷ y ∷ path) (suc (suc n)) a b some = refl
+
+merged_take : (path : List (List ℕ)) (n : ℕ) → 2 ≤ n → is_merged_path (take n path) ≡ is_merged_path path
+merged_take path n some =
+    ap (λ t. t || is_override (take n path)) (under_take path n (codes "mnt") (codes "overlay") some)
+    ∙ ap (λ t. is_overlay path || t) (under_take path n (codes "mnt") (codes "override") some)
+
+no_layers : (tree : Content) (path rest : List (List ℕ)) → rest ≡ [] → (a b : Bool) → cond a (overlay_layers rest) (cond b (override_layers tree rest) []) ≡ []
+no_layers tree path rest none true b = ap overlay_layers none
+no_layers tree path rest none false true = ap (override_layers tree) none
+no_layers tree path rest none false false = refl
+
+none_uncut : (tree : Content) (valid : Bool) → cond valid (uncut_of tree []) [] ≡ []
+unfolding uncut_of
+none_uncut tree true = refl
+none_uncut tree false = refl
+
+root_none : (tree : Content) (path : List (List ℕ)) → length path ≤ 2 → merged_from tree path ≡ []
+unfolding merged_from layers_of
+root_none tree path small =
+    ap (λ l. cond (is_path path) (uncut_of tree l) []) (no_layers tree path (drop 2 path) (no_rest path small) (is_overlay path) (is_override path)) ∙ none_uncut tree (is_path path)
+
+-- a merged resource is no root, and its parent's path is merged too
+merged_parent : (tree : Content) (other : List (List ℕ)) → is_merged_path other ≡ true → has_resource tree other ≡ true → is_merged_path (parent_of other) ≡ true
+merged_parent tree other is there =
+    ⊎_elim (λ (large : 2 < length other). merged_take other (length other - 1) (omega (arith, large)) ∙ is)
+    (λ (small : length other ≤ 2).
+    absurd (false≢true (sym (ap (λ (l : List Resource). not (length l == 0)) (root_none tree other small)) ∙ sym (has_merged tree other is) ∙ there))) (cases_lt 2 (length other))
+
+and_no : (t : Bool) → (t && false) ≡ false
+and_no true = refl
+and_no false = refl
+
+short_plain : (q : List (List ℕ)) → length q ≤ 1 → is_merged_path q ≡ false
+short_plain [] small = refl
+short_plain (x ∷ []) small = ap (λ t. t || is_override (x ∷ [])) (and_no (pointwise nat_eq (codes "mnt") x)) ∙ and_no (pointwise nat_eq (codes "mnt") x)
+short_plain (x ∷ y ∷ q) small = absurd (omega (arith, small))
+
+-- what is known along a path that isn't merged is a node
+pub reach_from : (tree : Content) (path : List (List ℕ)) (n : ℕ) → IsTree (node_at tree) → is_merged_path path ≡ false → NoneFrom tree path n
+    → (other : List (List ℕ)) → has_resource tree other ≡ true → is_under path (parent_of other) ≡ true → length other ≤ n + 1
+reach_from tree path n good plain none other there under =
+    ⊎_elim (λ (is : is_merged_path other ≡ true).
+    let q = parent_of other in
+    let prefix = prefix_of path q under in
+    let merged : is_merged_path q ≡ true = merged_parent tree other is there in
+    ⊎_elim (λ (deep : 1 < length q). absurd (true≢false (sym merged ∙ sym (ap is_merged_path prefix.same) ∙ merged_take path (length q) deep ∙ plain)))
+    (λ (small : length q ≤ 1). absurd (true≢false (sym merged ∙ short_plain q small))) (cases_lt 1 (length q)))
+    (λ (is : is_merged_path other ≡ false). node_reach tree path n good none other (sym (has_unmerged tree other is) ∙ there) under) (cases_Bool (is_merged_path other))

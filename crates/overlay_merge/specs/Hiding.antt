@@ -1,0 +1,108 @@
+-- Which layers hide which (Apache Sling, "Resource Merger": sling:hideResource, sling:hideChildren).
+use Rattle.std.specs.Prelude.{◌+◌, ◌||◌, ◌&&◌, ℕ, zero, suc, Bool, true, false, nat_eq, nat_le, min, if◌then◌else◌, List, [], ◌∷◌, ◌++◌, Option, Some, None, codes, length, slice_index_or, take}
+use Rattle.std.specs.List.{list_any}
+use Rattle.std.specs.Option.{option_map_or}
+use Rattle.std.specs.Cmp.Lexicographic.{pointwise}
+use Rattle.std.specs.FinMap.Entries.{find}
+use Rattle.sp_base.specs.Names.{by_name}
+use Rattle.sp_base.specs.Paths.{is_path}
+use Rattle.sp_base.specs.declared.value.Value.{Value}
+use Rattle.sp_base.specs.declared.value.Value.TheVariants.{Text, Long, Truth, Texts, Longs, Truths}
+use Rattle.resource_tree.specs.Content.{Content, node_at}
+use Rattle.resource_tree.specs.Seen.{Resource, res_at}
+use Rattle.overlay_merge.specs.declared.layers.Layer.{Layer}
+use Rattle.overlay_merge.specs.Layers.{layers_of}
+
+-- ---- what a property says
+
+-- the one truth value true
+abbrev pub is_true : Option Value → Bool
+is_true None = false
+is_true (Some (Text t)) = false
+is_true (Some (Long n)) = false
+is_true (Some (Truth b)) = b
+is_true (Some (Texts ts)) = false
+is_true (Some (Longs ns)) = false
+is_true (Some (Truths bs)) = false
+
+-- the texts of a value that is a text or texts
+abbrev pub texts_of : Option Value → List (List ℕ)
+texts_of None = []
+texts_of (Some (Text t)) = t ∷ []
+texts_of (Some (Long n)) = []
+texts_of (Some (Truth b)) = []
+texts_of (Some (Texts ts)) = ts
+texts_of (Some (Longs ns)) = []
+texts_of (Some (Truths bs)) = []
+
+-- a text stands for a name where it is that name, and `*` stands for each name
+abbrev pub stands_for : List ℕ → List ℕ → Bool
+stands_for name text = pointwise nat_eq text (codes "*") || pointwise nat_eq text name
+
+abbrev pub has_name : Option Value → List ℕ → Bool
+has_name value name = list_any (stands_for name) (texts_of value)
+
+-- whether properties hide their resource, or a kid of it
+abbrev pub hides_resource : List (List ℕ × Value) → Bool
+hides_resource props = is_true (find by_name (codes "sling:hideResource") props)
+
+abbrev pub hides_kid : List ℕ → List (List ℕ × Value) → Bool
+hides_kid name props = has_name (find by_name (codes "sling:hideChildren") props) name
+
+-- whether the node at a path does
+abbrev pub hides_resource_at : Content → List (List ℕ) → Bool
+hides_resource_at tree path = option_map_or (λ node. hides_resource node.props) (node_at tree path) false
+
+abbrev pub hides_kid_at : Content → List (List ℕ) → List ℕ → Bool
+hides_kid_at tree path name = option_map_or (λ node. hides_kid name node.props) (node_at tree path) false
+
+-- ---- along a path
+
+-- some number below n has it
+abbrev pub some_below : ℕ → (ℕ → Bool) → Bool
+some_below zero p = false
+some_below (suc n) p = p n || some_below n p
+
+-- a path's first k segments are at most n steps above it
+abbrev pub is_within : ℕ → List (List ℕ) → ℕ → Bool
+is_within n path k = nat_le (length path) (k + n)
+
+-- the node at the path or at most n steps above it hides its resource
+abbrev pub hides_resource_within : Content → ℕ → List (List ℕ) → Bool
+hides_resource_within tree n path = some_below (length path + 1) (λ k. is_within n path k && hides_resource_at tree (take k path))
+
+-- a node above the path, at most n steps, hides the kid through which the path goes on
+abbrev pub hides_kid_within : Content → ℕ → List (List ℕ) → Bool
+hides_kid_within tree n path = some_below (length path) (λ k. is_within n path k && hides_kid_at tree (take k path) (slice_index_or path k []))
+
+-- ---- between layers
+
+-- the layers above one, each with how many last segments it has in common with that one: the least of the steps between them
+abbrev pub in_common : ℕ → List Layer → List (ℕ × List (List ℕ))
+in_common n [] = []
+in_common n (layer ∷ above) = (n, layer.path) ∷ in_common (min n layer.common) above
+
+abbrev pub is_hidden_by : Content → ℕ × List (List ℕ) → Bool
+is_hidden_by tree upper = hides_resource_within tree upper.0 upper.1 || hides_kid_within tree upper.0 upper.1
+
+-- A layer is cut, below these layers: in itself or in one of these a node hides its resource, or in one of these a node hides the kid on the
+-- way. Such a node counts as far up as the two have their last segments in common.
+unfoldable pub is_cut : Content → Layer → List Layer → Bool
+is_cut tree layer above = hides_resource_within tree layer.own layer.path || list_any (is_hidden_by tree) (in_common layer.common above)
+
+abbrev pub list_of : Option Resource → List Resource
+list_of None = []
+list_of (Some res) = res ∷ []
+
+-- the resource that a layer adds, below these layers
+abbrev pub uncut : Content → Layer → List Layer → List Resource
+uncut tree layer above = if is_cut tree layer above then [] else list_of (res_at tree layer.path)
+
+-- what is at the layers that aren't cut, the lowest first
+unfoldable pub uncut_of : Content → List Layer → List Resource
+uncut_of tree [] = []
+uncut_of tree (layer ∷ above) = uncut tree layer above ++ uncut_of tree above
+
+-- the resources that are merged at a path
+unfoldable pub merged_from : Content → List (List ℕ) → List Resource
+merged_from tree path = if is_path path then uncut_of tree (layers_of tree path) else []

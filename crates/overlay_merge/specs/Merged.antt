@@ -1,0 +1,34 @@
+-- What is seen at a path, with resources merged (Apache Sling, "Resource Merger").
+use Rattle.std.specs.Prelude.{ℕ, Bool, not, if◌then◌else◌, is_some, List, [], ◌∷◌, Option, Some, None, filter, option_map}
+use Rattle.std.specs.Option.{option_map_or}
+use Rattle.resource_tree.specs.Content.{Content}
+use Rattle.resource_tree.specs.Seen.{Resource, res_at}
+use Rattle.overlay_merge.specs.Roots.{is_merged_path, is_name_of_root, is_parent_of_roots}
+use Rattle.overlay_merge.specs.Hiding.{merged_from}
+use Rattle.overlay_merge.specs.Properties.{merged_props}
+use Rattle.overlay_merge.specs.Kids.{kids_of}
+
+-- layers merged as the resource at a path; without a layer there is none
+abbrev pub merge : Content → List (List ℕ) → List Resource → Option Resource
+merge tree path [] = None
+merge tree path (lowest ∷ more) = Some (record { path = path; props = merged_props (lowest ∷ more); kids = kids_of tree path (lowest ∷ more) })
+
+-- the two roots aren't kids
+abbrev pub without_roots : Resource → Resource
+without_roots res = record res { kids = filter (λ name. not (is_name_of_root name)) res.kids }
+
+-- elsewhere the node is seen as it is
+abbrev pub unmerged : Content → List (List ℕ) → Option Resource
+unmerged tree path = if is_parent_of_roots path then option_map without_roots (res_at tree path) else res_at tree path
+
+-- what is seen at a path
+unfoldable pub merged : Content → List (List ℕ) → Option Resource
+merged tree path = if is_merged_path path then merge tree path (merged_from tree path) else unmerged tree path
+
+abbrev pub kids_in : Option Resource → List (List ℕ)
+kids_in None = []
+kids_in (Some res) = res.kids
+
+-- whether a resource is seen at a path
+unfoldable pub has_resource : Content → List (List ℕ) → Bool
+has_resource tree path = is_some (merged tree path)

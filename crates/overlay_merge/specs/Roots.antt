@@ -1,0 +1,29 @@
+-- The paths below which resources are merged (Apache Sling, "Resource Merger": the overlay and the override root).
+use Rattle.std.specs.Prelude.{◌||◌, ℕ, Bool, List, [], ◌∷◌, codes}
+use Rattle.std.specs.Cmp.Lexicographic.{pointwise}
+use Rattle.std.specs.Prelude.{nat_eq}
+use Rattle.sp_base.specs.Paths.{is_under, text_of}
+
+-- the root of overlays, and that of overrides
+abbrev pub overlay_root : List (List ℕ)
+overlay_root = codes "mnt" ∷ codes "overlay" ∷ []
+
+abbrev pub override_root : List (List ℕ)
+override_root = codes "mnt" ∷ codes "override" ∷ []
+
+abbrev pub is_overlay : List (List ℕ) → Bool
+is_overlay path = is_under path overlay_root
+
+abbrev pub is_override : List (List ℕ) → Bool
+is_override path = is_under path override_root
+
+-- whether what is at a path is merged
+abbrev pub is_merged_path : List (List ℕ) → Bool
+is_merged_path path = is_overlay path || is_override path
+
+-- the parent of both roots
+abbrev pub is_parent_of_roots : List (List ℕ) → Bool
+is_parent_of_roots path = pointwise nat_eq (text_of path) (codes "/mnt")
+
+abbrev pub is_name_of_root : List ℕ → Bool
+is_name_of_root name = pointwise nat_eq name (codes "overlay") || pointwise nat_eq name (codes "override")

@@ -1,0 +1,53 @@
+-- What a walk down a path notes of the nodes on it that hide something. What is merged needs none of it: only private functions and proofs
+-- cite this.
+use Rattle.std.specs.Prelude.{◌+◌, ◌-◌, ◌||◌, ◌≡◌, ℕ, zero, suc, Bool, true, false, nat_lt, min, if◌then◌else◌, List, [], ◌∷◌, ◌++◌, Some, length, map, slice_index_or, take}
+use Rattle.std.specs.List.{list_any, list_all}
+use Rattle.std.specs.Prelude.{All}
+use Rattle.resource_tree.specs.Content.{Content}
+use Rattle.resource_tree.specs.Seen.{Resource, res_at}
+use Rattle.overlay_merge.specs.declared.layers.Layer.{Layer}
+use Rattle.overlay_merge.specs.declared.hiding.HidingDepths.{HidingDepths}
+use Rattle.overlay_merge.specs.declared.uncut.ScreenedLayer.{ScreenedLayer}
+use Rattle.overlay_merge.specs.Hiding.{hides_kid_at, hides_resource_at, list_of}
+
+-- one more than the last number below n that has it, and 0 where none has
+unfoldable pub last_below : ℕ → (ℕ → Bool) → ℕ
+last_below zero p = 0
+last_below (suc n) p = if p n then suc n else last_below n p
+
+abbrev pub resource_depth : Content → List (List ℕ) → ℕ → ℕ
+resource_depth tree path n = last_below n (λ k. hides_resource_at tree (take k path))
+
+abbrev pub kid_depth : Content → List (List ℕ) → ℕ → ℕ
+kid_depth tree path n = last_below n (λ k. hides_kid_at tree (take k path) (slice_index_or path k []))
+
+unfoldable pub hiding_depths : Content → List (List ℕ) → HidingDepths
+hiding_depths tree path = record { depth = length path; resource = resource_depth tree path (length path + 1); kid = kid_depth tree path (length path) }
+
+abbrev pub screened : Content → Layer → ScreenedLayer
+screened tree layer = record { layer = layer; hiding = hiding_depths tree layer.path }
+
+-- whether one of the first segments that were noted is at most n steps above the path
+abbrev pub reaches : HidingDepths → ℕ → ℕ → Bool
+reaches hiding n found = nat_lt (hiding.depth - n) found
+
+abbrev pub screens : ℕ → ScreenedLayer → Bool
+screens n upper = reaches upper.hiding n upper.hiding.resource || reaches upper.hiding n upper.hiding.kid
+
+unfoldable pub some_screens : ℕ → List ScreenedLayer → Bool
+some_screens n [] = false
+some_screens n (upper ∷ above) = screens n upper || some_screens (min n upper.layer.common) above
+
+unfoldable pub is_screened : ScreenedLayer → List ScreenedLayer → Bool
+is_screened layer above = reaches layer.hiding layer.layer.own layer.hiding.resource || some_screens layer.layer.common above
+
+abbrev pub unscreened : Content → ScreenedLayer → List ScreenedLayer → List Resource
+unscreened tree layer above = if is_screened layer above then [] else list_of (res_at tree layer.layer.path)
+
+unfoldable pub unscreened_of : Content → List ScreenedLayer → List Resource
+unscreened_of tree [] = []
+unscreened_of tree (layer ∷ above) = unscreened tree layer above ++ unscreened_of tree above
+
+-- each is a node of the tree as it is
+abbrev pub AreNodesOf : Content → List Resource → Type 0
+AreNodesOf tree layers = All (λ (res : Resource). res_at tree res.path ≡ Some res) layers

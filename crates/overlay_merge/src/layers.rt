@@ -1,0 +1,186 @@
+// The layers of a merged path.
+ghost use Rattle.std.specs.Prelude.{◌≡◌, ◌∷◌, ◌++◌, ◌≤◌, [], Some, None, IfOk, IfSome, IsTrue, true, codes, drop, length, option_map};
+ghost use Rattle.std.specs.Option.{option_copied, option_or};
+ghost use Rattle.sp_base.specs.Paths.{is_path, path_or_none, seg_ok};
+ghost use Rattle.overlay_merge.specs.Layers.{base_at, base_of, descent, has_layer, layer_below, layer_by, layers_of, make_layer, most_layers, overlay_layer, overlay_layers, override_layer, override_layers, path_at};
+
+use crate::roots::{is_overlay, is_override};
+use resource_tree::Tree;
+use sp_base::{Mem, NoMemory, Path, TextBuf};
+use std::alloc::Global;
+use type_chain::place_of;
+
+/// The most layers of a path.
+const MOST_LAYERS: usize = 32;
+
+/// How many segments each of the two roots has.
+const ROOT_DEPTH: usize = 2;
+
+/// A path that a merged path stands for.
+#[derive(Drop)]
+pub struct Layer {
+    pub path: Path,
+    /// How many steps above its path the layer itself may be hidden.
+    pub own: usize,
+    /// How many last segments its path has in common with that of the next layer above.
+    pub common: usize,
+}
+
+/// Other first segments in place of the first `n` of a path.
+pub(crate) fn path_at(alloc: Global, place: Path, path: &Path, n: usize) -> Mem<Option<Path>>
+    ensures { IfOk result (λ o. o ≡ path_at place path.now n) }
+{
+    // `depth` says that the place is a path.
+    let _ = place.depth();
+    let mut whole = place;
+    for k in n..path.depth() {
+        let Some(segment) = path.seg(k) else {
+            return Ok(None);
+        };
+        let Some(longer) = whole.child_or_none(alloc, segment)? else {
+            return Ok(None);
+        };
+        whole = longer;
+    }
+    Ok(Some(whole))
+}
+
+// The deeper of two nodes that name a super type.
+fn deeper<'a>(
+    base: Option<(usize, &'a TextBuf)>,
+    n: usize,
+    text: Option<&'a TextBuf>,
+) -> Option<(usize, &'a TextBuf)>
+    ensures { option_map (λ b. base_at b.0 b.1.now) result ≡ option_or (option_map (base_at n) (option_copied text.entry)) (option_map (λ b. base_at b.0 b.1.now) base.entry) }
+{
+    match text {
+        Some(text) => Some((n, text)),
+        None => base,
+    }
+}
+
+/// How many first segments of a path lead to the deepest node on it that names a super type, and the text that does.
+fn base_of<'a>(alloc: Global, tree: &'a Tree, path: &Path) -> Mem<Option<(usize, &'a TextBuf)>>
+    ensures { IfOk result (λ o. option_map (λ b. base_at b.0 b.1.now) o ≡ base_of tree.now path.now) }
+{
+    // `len` says that the parent of each node is there.
+    let _ = tree.len();
+    let mut base = None;
+    for n in 0..path.depth() + 1 {
+        let Some(node) = tree.node(&path.first(alloc, n)?) else {
+            return Ok(base);
+        };
+        base = deeper(base, n, node.props.text("sling:resourceSuperType"));
+    }
+    Ok(base)
+}
+
+/// The layer below a path.
+fn layer_below(alloc: Global, tree: &Tree, path: &Path) -> Mem<Option<Layer>>
+    ensures { IfOk result (λ o. o ≡ layer_below tree.now path.now) }
+{
+    let Some((n, text)) = base_of(alloc, tree, path)? else {
+        return Ok(None);
+    };
+    let Some(place) = place_of(alloc, tree, text.text())? else {
+        return Ok(None);
+    };
+    match path_at(alloc, place, path, n)? {
+        Some(below) => Ok(Some(Layer {
+            own: below.depth(),
+            common: path.depth().saturating_sub(n),
+            path: below,
+        })),
+        None => Ok(None),
+    }
+}
+
+fn has_layer(layers: &[Layer], path: &Path) -> bool
+    ensures { result ≡ has_layer layers.now path.now }
+{
+    layers.iter().any(|layer| layer.path == *path)
+}
+
+/// The layers from a path downwards.
+fn descent(alloc: Global, tree: &Tree, path: Path) -> Mem<Vec<Layer>>
+    ensures { IfOk result (λ layers. layers.items ≡ descent tree.now most_layers [] (Some (override_layer 0 path))) }
+{
+    let mut layers = Vec::new(alloc);
+    let mut next = Some(Layer {
+        own: path.depth(),
+        common: 0,
+        path,
+    });
+    while let Some(layer) = next {
+        if layers.len() >= MOST_LAYERS || has_layer(&layers, &layer.path) {
+            return Ok(layers);
+        }
+        next = layer_below(alloc, tree, &layer.path)?;
+        layers.push(layer)?;
+    }
+    Ok(layers)
+}
+
+// The layer of an overlay below a search path.
+fn overlay_layer(alloc: Global, path: &Path, top: &str) -> Mem<Layer>
+    requires { seg_ok top.now ≡ true }
+    ensures { IfOk result (λ layer. layer ≡ overlay_layer (drop 2 path.now) top.now) }
+{
+    // `depth` says that the path is one.
+    let _ = path.depth();
+    let place = match Path::root(alloc).child(alloc, top) {
+        Ok(place) => place,
+        Err(_) => return Err(NoMemory),
+    };
+    let Some(path) = path_at(alloc, place, path, ROOT_DEPTH)? else {
+        unreachable!()
+    };
+    let below = path.depth() - 1;
+    Ok(Layer {
+        path,
+        own: below,
+        common: below,
+    })
+}
+
+// The layers of an overlay.
+fn overlay_layers(alloc: Global, path: &Path) -> Mem<Vec<Layer>>
+    ensures { IfOk result (λ layers. layers.items ≡ overlay_layers (drop 2 path.now)) }
+{
+    let mut layers = Vec::new(alloc);
+    if path.depth() <= ROOT_DEPTH {
+        return Ok(layers);
+    }
+    layers.push(overlay_layer(alloc, path, "libs")?)?;
+    layers.push(overlay_layer(alloc, path, "apps")?)?;
+    Ok(layers)
+}
+
+// The layers of an override.
+fn override_layers(alloc: Global, tree: &Tree, path: &Path) -> Mem<Vec<Layer>>
+    ensures { IfOk result (λ layers. layers.items ≡ override_layers tree.now (drop 2 path.now)) }
+{
+    if path.depth() <= ROOT_DEPTH {
+        return Ok(Vec::new(alloc));
+    }
+    let Some(highest) = path_at(alloc, Path::root(alloc), path, ROOT_DEPTH)? else {
+        unreachable!()
+    };
+    let mut layers = descent(alloc, tree, highest)?;
+    layers.reverse();
+    Ok(layers)
+}
+
+/// The layers of a merged path, the lowest first.
+#[tactic(auto, unfolding(crate::specs::Layers::layers_of))]
+pub(crate) fn layers_of(alloc: Global, tree: &Tree, path: &Path) -> Mem<Vec<Layer>>
+    ensures { IfOk result (λ layers. layers.items ≡ layers_of tree.now path.now) }
+{
+    if is_overlay(path) {
+        return overlay_layers(alloc, path);
+    }
+    if is_override(path) {
+        return override_layers(alloc, tree, path);
+    }
+    Ok(Vec::new(alloc))
+}

@@ -17,6 +17,7 @@ mod nodes;
 mod order;
 mod part;
 mod patch;
+mod paths;
 mod places;
 mod properties;
 mod remove;

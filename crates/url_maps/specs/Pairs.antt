@@ -47,8 +47,8 @@ goes_on VanityPath (b ∷ rest) = b == 46
 -- the pair whose prefix ends at a place of a text applies to the text
 pub record Applies (tree : Content) (site : Option (List (List ℕ))) (text : List ℕ) (at : ℕ) (pair : Pair) : Type 0 where
   pub within : at ≤ length text
-  pub pair : IsPair tree site (take at text) pair
-  pub goes_on : goes_on pair.kind (drop at text) ≡ true
+  pub has : IsPair tree site (take at text) pair
+  pub continues : goes_on pair.kind (drop at text) ≡ true
 
 -- at a tie a mapping decides before an alias, and an alias before a vanity path
 abbrev pub rank : PairKind → ℕ

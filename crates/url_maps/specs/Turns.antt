@@ -30,7 +30,7 @@ pub record Turn (tree : Content) (site : Option (List (List ℕ))) (text : List 
   pub at : ℕ
   pub pair : Pair
   pub decides : Decides tree site text at pair
-  pub leads : leads pair.away (text_after pair at text) (further (text_after pair at text)) answer
+  pub outcome : leads pair.away (text_after pair at text) (further (text_after pair at text)) answer
 
 -- What n turns make of a text, the first of them with the mappings of a site: they end where no pair applies, where a pair leads away, or after the
 -- last.

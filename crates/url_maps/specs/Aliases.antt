@@ -1,4 +1,4 @@
--- The aliases of a tree (Apache Sling, "Mappings for Resource Resolution", sling:alias).
+-- The aliases of a tree (Apache Sling, "Mappings for resource resolution", sling:alias).
 use Rattle.std.specs.Prelude.{◌≡◌, ℕ, Bool, true, nat_eq, find, List, Option, Some, None, codes}
 use Rattle.std.specs.Cmp.Lexicographic.{pointwise}
 use Rattle.sp_base.specs.Paths.{seg_ok, text_of}

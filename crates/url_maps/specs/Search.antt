@@ -1,5 +1,5 @@
 -- What the functions of the search promise one another; a reader of what a text is mapped to needs none of it.
-use Rattle.std.specs.Prelude.{◌≡◌, ◌≤◌, ◌<◌, ◌⊎◌, ◌||◌, ◌==◌, ◌++◌, ℕ, Bool, true, false, is_none, find, List, [], ◌∷◌, Option, Some, None, Result, Ok, Err, drop, length, option_map, slice_index_or, take}
+use Rattle.std.specs.Prelude.{◌≡◌, ◌≤◌, ◌<◌, ◌⊎◌, ◌||◌, ◌==◌, ◌++◌, ℕ, Bool, true, false, is_none, find, List, [], ◌∷◌, Option, Some, None, Result, Ok, Err, drop, length, option_map, slice_index, slice_index_or, take}
 use Rattle.std.specs.List.{list_any}
 use Rattle.std.specs.declared.cmp.Ordering.TheVariants.{Less}
 use Rattle.sp_base.specs.Paths.{path_of, path_or_none}
@@ -8,11 +8,12 @@ use Rattle.resource_tree.specs.Content.{Content, kid, node_at, same_path}
 use Rattle.resource_tree.specs.Changes.{kids_at}
 use Rattle.url_maps.specs.declared.pairs.Pair.{Pair}
 use Rattle.url_maps.specs.declared.pairs.PairKind.{PairKind}
-use Rattle.url_maps.specs.declared.turns.Decision.{Decision}
+use Rattle.url_maps.specs.declared.turns.Step.{Step}
 use Rattle.url_maps.specs.declared.pairs.PairKind.TheVariants.{Mapping}
 use Rattle.url_maps.specs.Mappings.{mapping_of}
 use Rattle.resource_tree.specs.declared.nodes.Node.{Node}
 use Rattle.url_maps.specs.Pairs.{Applies, Decides, HasNoPair, IsPair, goes_on, rank}
+use Rattle.url_maps.specs.Turns.{text_after}
 use Rattle.url_maps.specs.VanityPaths.{vanity_cmp}
 
 -- the pair of a kind with a prefix, or that there is none
@@ -57,10 +58,18 @@ IsBest tree site prefix rest None = (other : Pair) → IsPair tree site prefix o
 abbrev pub HasNoneBeyond : Content → Option (List (List ℕ)) → List ℕ → ℕ → Type 0
 HasNoneBeyond tree site text at = (k : ℕ) (pair : Pair) → at < k → Applies tree site text k pair → ⊥
 
--- the pair that decides, or that there is none
-abbrev pub IsDecision : Content → Option (List (List ℕ)) → List ℕ → Option Decision → Type 0
-IsDecision tree site text (Some decision) = Decides tree site text decision.at decision.pair
-IsDecision tree site text None = HasNoPair tree site text
+-- what the pair that decides makes of a text
+pub record IsStep (tree : Content) (site : Option (List (List ℕ))) (text : List ℕ) (step : Step) : Type 0 where
+  pub at : ℕ
+  pub pair : Pair
+  pub decides : Decides tree site text at pair
+  pub text_is : step.text ≡ text_after pair at text
+  pub away_is : step.away ≡ pair.away
+
+-- a turn, or that no pair applies
+abbrev pub IsTurn : Content → Option (List (List ℕ)) → List ℕ → Option Step → Type 0
+IsTurn tree site text (Some step) = IsStep tree site text step
+IsTurn tree site text None = HasNoPair tree site text
 
 -- the path below a site that a prefix names, where there is one
 abbrev pub below_site : List (List ℕ) → Result (List (List ℕ)) PathFault → Option (List (List ℕ))
@@ -78,7 +87,10 @@ IsMappingPair node (Some pair) = (pair.kind ≡ Mapping) × (mapping_of node ≡
 IsMappingPair node None = mapping_of node ≡ None
 
 -- the text up to its last dot or slash, if it has one
+abbrev pub is_separator : ℕ → Bool
+is_separator b = b == 46 || b == 47
+
 abbrev pub IsShorter : List ℕ → Option (List ℕ) → Type 0
-IsShorter text (Some front) = (length front < length text) × (front ≡ take (length front) text) × (is_cut (drop (length front) text) ≡ true)
-    × ((k : ℕ) → length front < k → k < length text → is_cut (drop k text) ≡ false)
-IsShorter text None = (k : ℕ) → k < length text → is_cut (drop k text) ≡ false
+IsShorter text (Some front) = (length front < length text) × (front ≡ take (length front) text) × (is_separator (slice_index text (length front)) ≡ true)
+    × ((k : ℕ) → length front < k → k < length text → is_separator (slice_index text k) ≡ false)
+IsShorter text None = (k : ℕ) → k < length text → is_separator (slice_index text k) ≡ false

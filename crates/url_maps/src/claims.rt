@@ -43,14 +43,29 @@ impl Claims {
     }
 
     pub(crate) fn add(&mut self, alloc: Global, text: &str, path: Path) -> Mem<()>
-        ensures { OnOk result ((t : List ℕ) → claimants self.new t ≡ (if bytes_eq t text.now then claimants self.old t ++ path ∷ [] else claimants self.old t)) }
+        ensures { OnOk result ((t : List ℕ) → claimants self.new t ≡ (if bytes_eq text.now t then claimants self.old t ++ path ∷ [] else claimants self.old t)) }
     {
-        let Some(paths) = self.table.get_mut(text) else {
-            let mut paths = PathList::new(alloc);
-            paths.push(path)?;
-            self.table.insert(String::from_str(alloc, text)?, paths)?;
-            return Ok(());
-        };
-        paths.push(path)
+        let mut paths = self.take(alloc, text);
+        paths.push(path)?;
+        self.set(alloc, text, paths)
+    }
+
+    // Takes the claimants of a text away.
+    fn take(&mut self, alloc: Global, text: &str) -> PathList
+        ensures value { result ≡ claimants self.old text.now }
+        ensures rest { (t : List ℕ) → claimants self.new t ≡ (if bytes_eq text.now t then [] else claimants self.old t) }
+    {
+        match self.table.remove(text) {
+            Some(paths) => paths,
+            None => PathList::new(alloc),
+        }
+    }
+
+    fn set(&mut self, alloc: Global, text: &str, paths: PathList) -> Mem<()>
+        ensures { OnOk result ((t : List ℕ) → claimants self.new t ≡ (if bytes_eq text.now t then paths else claimants self.old t)) }
+    {
+        let key = String::from_str(alloc, text)?;
+        self.table.insert(key, paths)?;
+        Ok(())
     }
 }

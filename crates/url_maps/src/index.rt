@@ -1,7 +1,6 @@
 // The index of a tree's aliases and vanity paths.
-ghost use Rattle.std.specs.Prelude.{◌≡◌, ◌&&◌, [], ℕ, List, IfOk, OnOk, codes};
-ghost use Rattle.resource_tree.specs.Content.{prop_at};
-ghost use Rattle.url_maps.specs.Claims.{Adds, IsIndexOf, node_claims_alias, node_claims_vanity_path, is_ok_path};
+ghost use Rattle.std.specs.Prelude.{◌≡◌, ◌<◌, ℕ, List, IfOk, OnOk, length};
+ghost use Rattle.url_maps.specs.Claims.{Adds, IsIndexOf, claims_alias, claims_vanity_path, is_ok_path, node_claims_alias, node_claims_vanity_path, spells_alias, spells_vanity_path};
 ghost use Rattle.sp_base.specs.Paths.{path_of};
 ghost use Rattle.url_maps.specs.VanityPaths.{with_slash};
 
@@ -34,12 +33,10 @@ impl MapIndex {
     {
         let mut aliases = Claims::new(alloc, tree.seeds());
         let mut vanity_paths = Claims::new(alloc, tree.seeds());
-        let paths = tree.paths(alloc)?;
-        for path in paths.as_slice() {
-            if let Some(node) = tree.node(path) {
-                add_aliases(&mut aliases, alloc, path, node)?;
-                add_vanity_paths(&mut vanity_paths, alloc, path, node)?;
-            }
+        let all = tree.paths(alloc)?;
+        let paths = all.as_slice();
+        for path in paths {
+            add_claims(&mut aliases, &mut vanity_paths, alloc, tree, path)?;
         }
         Ok(MapIndex {
             aliases,
@@ -48,31 +45,70 @@ impl MapIndex {
     }
 }
 
+// Adds what the node at a path claims, if there is one.
+fn add_claims(
+    aliases: &mut Claims,
+    vanity_paths: &mut Claims,
+    alloc: Global,
+    tree: &Tree,
+    path: &Path,
+) -> Mem<()>
+    ensures aliases { OnOk result (Adds path.now (claims_alias tree.now path.now) aliases.old aliases.new) }
+    ensures vanity_paths { OnOk result (Adds path.now (claims_vanity_path tree.now path.now) vanity_paths.old vanity_paths.new) }
+{
+    let Some(node) = tree.node(path) else {
+        return Ok(());
+    };
+    add_aliases(aliases, alloc, path, node)?;
+    add_vanity_paths(vanity_paths, alloc, path, node)
+}
+
 fn add_aliases(aliases: &mut Claims, alloc: Global, path: &Path, node: &Node) -> Mem<()>
     ensures { OnOk result (Adds path.now (node_claims_alias path.now node.now) aliases.old aliases.new) }
 {
     if path.depth() == 0 {
         return Ok(());
     }
-    let parent = path.parent(alloc)?;
-    for alias in texts(node.props.get("sling:alias")) {
-        if let Some(text) = parent.child_or_none(alloc, alias.text())? {
-            aliases.add(alloc, text.as_text(), path.duplicate(alloc)?)?;
-        }
+    let words = texts(node.props.get("sling:alias"));
+    for word in words {
+        add_alias(aliases, alloc, path, word.text())?;
     }
     Ok(())
+}
+
+// Adds the claim of one alias of a node, which isn't the root, where it may be the name of a node.
+fn add_alias(aliases: &mut Claims, alloc: Global, path: &Path, alias: &str) -> Mem<()>
+    requires { 0 < length path.now }
+    ensures { OnOk result (Adds path.now (λ text. spells_alias path.now text alias.now) aliases.old aliases.new) }
+{
+    // `depth` says that the path is valid.
+    let _ = path.depth();
+    let parent = path.parent(alloc)?;
+    let Some(named) = parent.child_or_none(alloc, alias)? else {
+        return Ok(());
+    };
+    aliases.add(alloc, named.as_text(), path.duplicate(alloc)?)
 }
 
 fn add_vanity_paths(vanity_paths: &mut Claims, alloc: Global, path: &Path, node: &Node) -> Mem<()>
     ensures { OnOk result (Adds path.now (node_claims_vanity_path node.now) vanity_paths.old vanity_paths.new) }
 {
-    for word in texts(node.props.get("sling:vanityPath")) {
-        let text = with_slash(alloc, word.text())?;
-        if reads(alloc, text.text())? {
-            vanity_paths.add(alloc, text.text(), path.duplicate(alloc)?)?;
-        }
+    let words = texts(node.props.get("sling:vanityPath"));
+    for word in words {
+        add_vanity_path(vanity_paths, alloc, path, word.text())?;
     }
     Ok(())
+}
+
+// Adds the claim of one vanity path of a node, where it spells a path.
+fn add_vanity_path(vanity_paths: &mut Claims, alloc: Global, path: &Path, word: &str) -> Mem<()>
+    ensures { OnOk result (Adds path.now (λ text. spells_vanity_path text word.now) vanity_paths.old vanity_paths.new) }
+{
+    let text = with_slash(alloc, word)?;
+    if !reads(alloc, text.text())? {
+        return Ok(());
+    }
+    vanity_paths.add(alloc, text.text(), path.duplicate(alloc)?)
 }
 
 // The text of a vanity path, before which a slash is put where it has none.

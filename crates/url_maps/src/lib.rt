@@ -1,5 +1,5 @@
-//! From the path of a request to the path of a resource: mappings, aliases and vanity paths (Apache Sling, "Mappings for Resource
-//! Resolution").
+//! From the path of a request to the path of a resource: mappings, aliases and vanity paths (Apache Sling, "Mappings for resource
+//! resolution").
 #![tactic(auto)]
 
 mod aliases;

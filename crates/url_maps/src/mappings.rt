@@ -7,7 +7,7 @@ ghost use Rattle.url_maps.specs.Search.{IsMappingPair, IsOf, mapped_path};
 use crate::pairs::{Pair, PairKind};
 use crate::words::{number, texts};
 use resource_tree::{Node, Tree};
-use sp_base::{Mem, NoMemory, Path, PathFault, TextBuf};
+use sp_base::{Mem, NoMemory, Path, PathFault, TextBuf, a_path_and_its_text};
 use std::alloc::Global;
 
 /// The status of a redirect whose mapping names none (RFC 9110, section 15.4.3).
@@ -27,17 +27,31 @@ pub(crate) fn site_of(alloc: Global, host: &str, port: u16) -> Mem<Option<Path>>
     }
 }
 
-// The pair of a mapping of a site, if the tree has one with this prefix.
-pub(crate) fn mapping_of(alloc: Global, tree: &Tree, site: &Path, prefix: &str) -> Mem<Option<Pair>>
+// The pair of a mapping of a site, if there is a site and the tree has one with this prefix.
+pub(crate) fn mapping_of(alloc: Global, tree: &Tree, site: &Option<Path>, prefix: &str) -> Mem<Option<Pair>>
+    ensures { IfOk result (IsOf PairKind.Mapping tree.now site.now prefix.now) }
+{
+    match site {
+        Some(site) => mapping_below(alloc, tree, site, prefix),
+        None => Ok(None),
+    }
+}
+
+fn mapping_below(alloc: Global, tree: &Tree, site: &Path, prefix: &str) -> Mem<Option<Pair>>
     ensures { IfOk result (IsOf PairKind.Mapping tree.now (Some site.now) prefix.now) }
 {
+    a_path_and_its_text();
+    let _ = tree.len();
     let Some(path) = mapped_path(alloc, site, prefix)? else {
         return Ok(None);
     };
-    match tree.node(&path) {
-        Some(node) if is_plain(alloc, tree, site, &path)? => pair_of(alloc, node),
-        _ => Ok(None),
+    let Some(node) = tree.node(&path) else {
+        return Ok(None);
+    };
+    if !is_plain(alloc, tree, site, &path)? {
+        return Ok(None);
     }
+    pair_of(alloc, node)
 }
 
 // The path below a site that a prefix names: the site for the empty one.
@@ -61,7 +75,8 @@ fn mapped_path(alloc: Global, site: &Path, prefix: &str) -> Mem<Option<Path>>
 fn is_plain(alloc: Global, tree: &Tree, site: &Path, path: &Path) -> Mem<bool>
     ensures { IfOk result (λ is. IsTrue is ↔ IsPlain tree.now site.now path.now) }
 {
-    for depth in site.depth()..=path.depth() {
+    let deepest = path.depth();
+    for depth in site.depth()..deepest + 1 {
         if has_match(tree, &path.first(alloc, depth)?) {
             return Ok(false);
         }

@@ -1,5 +1,9 @@
 // The vanity path that a text is.
-ghost use Rattle.std.specs.Prelude.{◌≡◌, ◌<◌, IfOk, None, length};
+ghost use Rattle.std.specs.Prelude.{◌≡◌, ◌<◌, ℕ, List, true, IfOk, IsTrue, None, codes, length, nat_eq};
+ghost use Rattle.std.specs.Cmp.Lexicographic.{pointwise};
+ghost use Rattle.std.specs.List.{list_any};
+ghost use Rattle.sp_base.specs.Paths.{is_path};
+ghost use Rattle.resource_tree.specs.Content.{name_of, same_path};
 ghost use Rattle.url_maps.specs.Claims.{IsIndexOf};
 ghost use Rattle.url_maps.specs.Search.{IsFirst, IsOf};
 ghost use Rattle.url_maps.specs.VanityPaths.{page_of, vanity_cmp, vanity_order};
@@ -9,7 +13,7 @@ use crate::aliases::is_free;
 use crate::pairs::{Pair, PairKind};
 use crate::words::number;
 use resource_tree::Tree;
-use sp_base::{Mem, Path};
+use sp_base::{Mem, Path, a_path_and_its_text};
 use std::alloc::Global;
 use std::cmp::Ordering;
 
@@ -19,8 +23,13 @@ impl MapIndex {
         requires { IsIndexOf tree.now self.now }
         ensures { IfOk result (IsOf PairKind.VanityPath tree.now None prefix.now) }
     {
+        a_path_and_its_text();
+        let _ = tree.len();
         let claimants = self.vanity_paths.get(prefix);
-        if claimants.is_empty() || !is_free(alloc, tree, prefix)? {
+        if claimants.is_empty() {
+            return Ok(None);
+        }
+        if !is_free(alloc, tree, prefix)? {
             return Ok(None);
         }
         let page = page_of(alloc, first_of(tree, claimants))?;
@@ -34,9 +43,11 @@ impl MapIndex {
 
 // The one of some paths that is before all others.
 fn first_of<'a>(tree: &Tree, paths: &'a [Path]) -> &'a Path
-    requires { 0 < length paths.now }
+    requires some { 0 < length paths.now }
+    requires valid { (q : List (List ℕ)) → list_any (same_path q) paths.now ≡ true → IsTrue (is_path q) }
     ensures { IsFirst tree.now paths.now result.now }
 {
+    a_path_and_its_text();
     let mut first = &paths[0];
     for path in paths {
         if vanity_cmp(tree, path, first).is_lt() {
@@ -69,8 +80,18 @@ fn vanity_order(tree: &Tree, path: &Path) -> i64
 fn page_of(alloc: Global, path: &Path) -> Mem<Path>
     ensures { IfOk result (λ page. page ≡ page_of path.now) }
 {
+    if is_content(path) {
+        path.parent(alloc)
+    } else {
+        path.duplicate(alloc)
+    }
+}
+
+fn is_content(path: &Path) -> bool
+    ensures { result ≡ pointwise nat_eq (name_of path.now) (codes "jcr:content") }
+{
     match path.last() {
-        Some("jcr:content") => path.parent(alloc),
-        _ => path.duplicate(alloc),
+        Some(name) => name == "jcr:content",
+        None => false,
     }
 }

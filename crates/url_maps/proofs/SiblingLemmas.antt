@@ -97,3 +97,16 @@ module _ (tree : Content) (good : IsTree (node_at tree)) where
       let found = find_any test (kids_at tree p) (any_from (pointwise nat_eq (name_of s)) test named (kids_at tree p) (kid_listed s there below)) in
       let is : kid p found.item ≡ s = path_from_same (kid p found.item) s (or_last (same_path (kid p found.item) s) found.passes) in
       sym (ap (λ l. first_kid tree p l) (one_of siblings one) ∙ ap (option_map (kid p)) found.is ∙ ap (λ q. Some q) is)
+
+-- ---- the loop over the names of a node's kids
+
+abbrev pub is_named : List (List ℕ) → List (List (List ℕ)) → List ℕ → Bool
+is_named parent paths name = list_any (same_path (kid parent name)) paths
+
+pub first_kid_is : (tree : Content) (parent : List (List ℕ)) (paths : List (List (List ℕ))) (node : Node) (names : List (List ℕ)) (o : Option (List ℕ)) → node_at tree parent ≡ Some node → names ≡ node.kids → find (is_named parent paths) names ≡ o
+    → option_map (kid parent) o ≡ first_kid tree parent paths
+first_kid_is tree parent paths node names o is are found =
+    sym (ap (λ n. option_map (kid parent) (find (is_named parent paths) (option_map_or (λ (m : Node). m.kids) n []))) is ∙ ap (λ l. option_map (kid parent) (find (is_named parent paths) l)) (sym are) ∙ ap (option_map (kid parent)) found)
+
+pub first_kid_none : (tree : Content) (parent : List (List ℕ)) (paths : List (List (List ℕ))) → node_at tree parent ≡ None → None ≡ first_kid tree parent paths
+first_kid_none tree parent paths none = sym (ap (λ n. option_map (kid parent) (find (is_named parent paths) (option_map_or (λ (m : Node). m.kids) n []))) none)

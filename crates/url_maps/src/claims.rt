@@ -47,7 +47,8 @@ impl Claims {
     {
         let mut paths = self.take(alloc, text);
         paths.push(path)?;
-        self.set(alloc, text, paths)
+        self.set(alloc, text, paths)?;
+        Ok(())
     }
 
     // Takes the claimants of a text away.

@@ -60,7 +60,8 @@ fn add_claims(
         return Ok(());
     };
     add_aliases(aliases, alloc, path, node)?;
-    add_vanity_paths(vanity_paths, alloc, path, node)
+    add_vanity_paths(vanity_paths, alloc, path, node)?;
+    Ok(())
 }
 
 fn add_aliases(aliases: &mut Claims, alloc: Global, path: &Path, node: &Node) -> Mem<()>
@@ -87,7 +88,8 @@ fn add_alias(aliases: &mut Claims, alloc: Global, path: &Path, alias: &str) -> M
     let Some(named) = parent.child_or_none(alloc, alias)? else {
         return Ok(());
     };
-    aliases.add(alloc, named.as_text(), path.duplicate(alloc)?)
+    aliases.add(alloc, named.as_text(), path.duplicate(alloc)?)?;
+    Ok(())
 }
 
 fn add_vanity_paths(vanity_paths: &mut Claims, alloc: Global, path: &Path, node: &Node) -> Mem<()>
@@ -108,7 +110,8 @@ fn add_vanity_path(vanity_paths: &mut Claims, alloc: Global, path: &Path, word: 
     if !reads(alloc, text.text())? {
         return Ok(());
     }
-    vanity_paths.add(alloc, text.text(), path.duplicate(alloc)?)
+    vanity_paths.add(alloc, text.text(), path.duplicate(alloc)?)?;
+    Ok(())
 }
 
 // The text of a vanity path, before which a slash is put where it has none.

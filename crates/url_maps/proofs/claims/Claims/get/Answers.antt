@@ -10,9 +10,9 @@ pub returns-in-Some : goal.returns-in-Some
 returns-in-Some c =
     c.as_slice.ensures
     ∙ ap (λ o. option_map_or (λ paths. paths) o [])
-    (c.in-Some.ensures.value ∙ sym (lookup_shown string_bytes (bytes_eq c.args.text.now) c.self.inside.table.entries) ∙ ap (lookup (bytes_eq c.args.text.now)) (sym c.self.view_is))
+    (c.in-Some.ensures.value ∙ sym (lookup_shown string_bytes (bytes_eq c.args.text.now) c.self.inside.table.entries) ∙ ap (lookup (bytes_eq c.args.text.now)) c.self.view_is)
 
 pub returns-in-None : goal.returns-in-None
 returns-in-None c =
     ap (λ o. option_map_or (λ paths. paths) o [])
-    (c.in-None.ensures.value ∙ sym (lookup_shown string_bytes (bytes_eq c.args.text.now) c.self.inside.table.entries) ∙ ap (lookup (bytes_eq c.args.text.now)) (sym c.self.view_is))
+    (c.in-None.ensures.value ∙ sym (lookup_shown string_bytes (bytes_eq c.args.text.now) c.self.inside.table.entries) ∙ ap (lookup (bytes_eq c.args.text.now)) c.self.view_is)

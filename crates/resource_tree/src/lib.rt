@@ -19,6 +19,7 @@ mod part;
 mod patch;
 #[cfg(test)]
 mod patch_tests;
+mod paths;
 mod places;
 mod properties;
 mod relocate;

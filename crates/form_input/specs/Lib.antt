@@ -1,0 +1,6 @@
+pub mod Lines
+pub mod Parameters
+pub mod Multipart
+pub mod Boundaries
+pub mod Forms
+pub mod Words

@@ -1,5 +1,5 @@
 -- What the search for boundary lines promises; a reader of the definition of a form needs none of it.
-use Rattle.std.specs.Prelude.{◌≡◌, ◌⊎◌, ◌-◌, ◌<◌, ◌++◌, ℕ, List, [], ◌∷◌, Option, Some, None, length, option_copied}
+use Rattle.std.specs.Prelude.{◌≡◌, ◌⊎◌, ◌-◌, ◌<◌, ◌++◌, ℕ, List, [], ◌∷◌, Option, Some, None, nat_lt, if◌then◌else◌, length, take, option_copied}
 use Rattle.form_input.specs.declared.boundary.Mark.{Mark}
 use Rattle.form_input.specs.Lines.{lines, lines_left}
 use Rattle.form_input.specs.Multipart.{Section, Sections, sections}
@@ -24,6 +24,10 @@ pub record IsPassed (dash : List ℕ) (end : ℕ) (whole rest : List ℕ) : Type
   pub parts : whole ≡ front ++ rest
   pub ended : IsEnded front done
   pub same : sections_left dash end (Some whole) ≡ with_lines done (sections_left dash end (Some rest))
+
+-- the text before the last bytes, without its last line end, where there are lines
+abbrev pub front_of : List ℕ → ℕ → Option (List ℕ)
+front_of text left = if nat_lt (length text - left) 2 then None else Some (take (length text - left - 2) text)
 
 -- the sections from a boundary line on
 abbrev pub from_mark : List ℕ → ℕ → Mark → List Section

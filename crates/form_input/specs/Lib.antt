@@ -2,5 +2,6 @@ pub mod Lines
 pub mod Parameters
 pub mod Multipart
 pub mod Boundaries
+pub mod Bodies
 pub mod Forms
 pub mod Words

@@ -1,7 +1,7 @@
 -- The value of a header field with parameters, `TYPE; NAME=WORD; NAME="WORD"` (RFC 9110, section 5.6.6; RFC 2183, section 2).
-use Rattle.std.specs.Prelude.{◌==◌, ◌&&◌, ◌+◌, ℕ, Bool, false, true, if◌then◌else◌, List, [], ◌∷◌, Option, Some, None, length, drop, take, slice_index, slice_index_or}
+use Rattle.std.specs.Prelude.{◌==◌, ◌&&◌, ℕ, Bool, false, true, if◌then◌else◌, List, [], ◌∷◌, Option, Some, None, length, drop, take, slice_index, slice_index_or}
 use Rattle.std.specs.List.{list_all, onto_first}
-use Rattle.std.specs.Str.{bytes_eq, str_to_ascii_lowercase}
+use Rattle.std.specs.Str.{str_eq_ignore_ascii_case}
 use Rattle.form_input.specs.declared.parameters.Quoting.{Quoting}
 use Rattle.form_input.specs.declared.parameters.Quoting.TheVariants.{Outside, Inside, Escaped}
 
@@ -41,13 +41,18 @@ pieces_from quoting (b ∷ text) = if separates quoting b then [] ∷ pieces_fro
 abbrev pub pieces : List ℕ → List (List ℕ)
 pieces text = pieces_from Outside text
 
--- whether the type, which is the first piece, is this lower-case word
+-- whether the type, which is the first piece, is this word, without case
 abbrev pub is_type : List ℕ → List ℕ → Bool
-is_type word text = bytes_eq (str_to_ascii_lowercase (trimmed (slice_index_or (pieces text) 0 []))) word
+is_type word text = str_eq_ignore_ascii_case (trimmed (slice_index_or (pieces text) 0 [])) word
 
--- what follows a lower-case name and a separator at the beginning of a text; the name is compared without case
+-- what follows a separator
+abbrev pub after_separator : ℕ → List ℕ → Option (List ℕ)
+after_separator separator [] = None
+after_separator separator (b ∷ text) = if b == separator then Some text else None
+
+-- what follows a name, without case, and a separator
 abbrev pub after_name : ℕ → List ℕ → List ℕ → Option (List ℕ)
-after_name separator name text = if bytes_eq (str_to_ascii_lowercase (take (length name) text)) name && slice_index text (length name) == separator then Some (drop (length name + 1) text) else None
+after_name separator name text = if str_eq_ignore_ascii_case (take (length name) text) name then after_separator separator (drop (length name) text) else None
 
 abbrev pub with_byte : ℕ → Option (List ℕ) → Option (List ℕ)
 with_byte b None = None

@@ -1,7 +1,7 @@
 //! The boundary lines of a multipart body.
-ghost use Rattle.std.specs.Prelude.{◌≡◌, ◌-◌, ◌<◌, ◌≤◌, [], Some, None, if◌then◌else◌, nat_lt, take, length, option_copied, IfSome, IfNone};
+ghost use Rattle.std.specs.Prelude.{◌≡◌, ◌<◌, ◌≤◌, [], Some, length, option_copied, IfSome, IfNone};
 ghost use Rattle.form_input.specs.Multipart.{kind_after, kind_of, is_plain, is_closing};
-ghost use Rattle.form_input.specs.Boundaries.{IsMark, sections_left};
+ghost use Rattle.form_input.specs.Boundaries.{IsMark, front_of, sections_left};
 
 use crate::lines::{LINE_END, next_line};
 use crate::parameters::all_blank;
@@ -59,6 +59,7 @@ pub struct Mark<'a> {
 pub fn next_mark<'a>(dash: &[u8], end: usize, text: &'a [u8]) -> Option<Mark<'a>>
     requires { length text.now ≤ end }
     ensures some { IfSome result (λ m. IsMark dash.now end text.now m) }
+    ensures shorter { IfSome result (λ m. IfSome m.after (λ rest. length rest.now < length text.now)) }
     ensures none { IfNone result ((sections_left dash.now end (Some text.now)).later ≡ []) }
 {
     let mut rest = text;
@@ -103,7 +104,7 @@ fn is_closing(kind: LineKind) -> bool
 // The lines before the last bytes, without their last line end.
 fn before(text: &[u8], left: usize) -> Option<&[u8]>
     requires { left ≤ length text.now }
-    ensures { option_copied result ≡ (if nat_lt (length text.now - left) 2 then None else Some (take (length text.now - left - 2) text.now)) }
+    ensures { option_copied result ≡ front_of text.now left }
 {
     let passed = text.len() - left;
     if passed < LINE_END.len() {

@@ -4,6 +4,7 @@
 mod boundary;
 mod fault;
 mod form;
+mod laws;
 mod lines;
 mod multipart;
 mod parameters;
@@ -13,3 +14,4 @@ mod tests;
 
 pub use fault::FormFault;
 pub use form::{Form, MOST_PAIRS, read_form};
+pub use laws::the_parts_are_the_body;

@@ -1,5 +1,5 @@
 //! Multipart bodies.
-ghost use Rattle.std.specs.Prelude.{◌≡◌, ◌≢◌, ◌++◌, ◌∷◌, [], Ok, Err, IfOk, IfErr, option_copied};
+ghost use Rattle.std.specs.Prelude.{◌≡◌, ◌≢◌, ◌≤◌, Ok, Err, IfOk, IfErr, IfSome, length, option_copied};
 ghost use Rattle.form_input.specs.Boundaries.{from_mark};
 ghost use Rattle.form_input.specs.Lines.{lines_left};
 ghost use Rattle.form_input.specs.Multipart as spec;
@@ -33,6 +33,7 @@ pub fn read_multipart(alloc: Global, boundary: &[u8], body: &[u8]) -> Result<For
 
 // The pairs of the parts from a boundary line on.
 fn read_parts(alloc: Global, dash: &[u8], end: usize, first: Mark) -> Result<Form, FormFault>
+    requires { IfSome first.after (λ rest. length rest.now ≤ end) }
     ensures ok { IfOk result (λ form. spec.pairs_of end 0 (from_mark dash.now end first.entry) ≡ Ok form) }
     ensures err { IfErr result (λ e. e ≢ FormFault.NoMemory → spec.pairs_of end 0 (from_mark dash.now end first.entry) ≡ Err e) }
 {
@@ -58,6 +59,7 @@ fn read_parts(alloc: Global, dash: &[u8], end: usize, first: Mark) -> Result<For
 }
 
 // The pair of the part before a boundary line.
+#[tactic(auto, unfolding(crate::specs::Multipart::disposition_in))]
 fn part_before(alloc: Global, mark: &Mark) -> Mem<Option<(TextBuf, TextBuf)>>
     ensures { IfOk result (λ o. o ≡ spec.pair_of (lines_left (option_copied mark.now.before))) }
 {

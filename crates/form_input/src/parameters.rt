@@ -1,8 +1,8 @@
 //! Header fields with parameters.
-ghost use Rattle.std.specs.Prelude.{◌≡◌, ◌∷◌, ◌+◌, ◌≤◌, ℕ, List, [], Bool, if◌then◌else◌, IfOk, length, option_copied, option_map, true, false};
+ghost use Rattle.std.specs.Prelude.{◌≡◌, ◌<◌, ◌∷◌, IfOk, IfSome, length, option_copied, option_map, false};
 ghost use Rattle.std.specs.List.{list_all};
+ghost use Rattle.std.specs.Str.{str_eq_ignore_ascii_case};
 ghost use Rattle.form_input.specs.Parameters as spec;
-ghost use Rattle.form_input.specs.declared.parameters.Quoting.TheVariants.{Outside};
 
 use std::alloc::{AllocError, Global};
 
@@ -98,9 +98,9 @@ fn before_blanks(text: &[u8]) -> &[u8]
 }
 
 // The first piece, and the text after its semicolon where it has one.
-#[tactic(auto, unfolding(crate::specs::Parameters::pieces_from))]
 fn next_piece(text: &[u8]) -> (&[u8], Option<&[u8]>)
-    ensures { spec.pieces text.now ≡ result.0.now ∷ spec.pieces_left (option_copied result.1) }
+    ensures pieces { spec.pieces text.now ≡ result.0.now ∷ spec.pieces_left (option_copied result.1) }
+    ensures shorter { IfSome result.1 (λ rest. length rest.now < length text.now) }
 {
     let mut quoting = Quoting::Outside;
     for (at, b) in text.iter().enumerate() {
@@ -112,26 +112,53 @@ fn next_piece(text: &[u8]) -> (&[u8], Option<&[u8]>)
     (text, None)
 }
 
-/// Whether the type is this one, in lower case.
+// Whether two texts are alike without regard to case.
+fn same_word(text: &[u8], word: &[u8]) -> bool
+    ensures { result ≡ str_eq_ignore_ascii_case text.now word.now }
+{
+    text.eq_ignore_ascii_case(word)
+}
+
+/// Whether the type of a field is this one.
 pub fn is_type(word: &[u8], text: &[u8]) -> bool
     ensures { result ≡ spec.is_type word.now text.now }
 {
-    before_blanks(after_blanks(next_piece(text).0)).eq_ignore_ascii_case(word)
+    let (first, _) = next_piece(text);
+    same_word(before_blanks(after_blanks(first)), word)
 }
 
-/// What follows a name in lower case and a separator at the beginning of a text.
+fn after_separator(separator: u8, text: &[u8]) -> Option<&[u8]>
+    ensures { option_copied result ≡ spec.after_separator separator text.now }
+{
+    match text {
+        [b, rest @ ..] => {
+            if *b == separator {
+                Some(rest)
+            } else {
+                None
+            }
+        }
+        [] => None,
+    }
+}
+
+/// What follows a name and a separator at the beginning of a text.
 pub fn after_name<'a>(separator: u8, name: &[u8], text: &'a [u8]) -> Option<&'a [u8]>
     ensures { option_copied result ≡ spec.after_name separator name.now text.now }
 {
-    let n = name.len();
-    if n < text.len() && text[..n].eq_ignore_ascii_case(name) && text[n] == separator {
-        Some(&text[n + 1..])
+    if name.len() > text.len() {
+        return None;
+    }
+    let (front, rest) = text.split_at(name.len());
+    if same_word(front, name) {
+        after_separator(separator, rest)
     } else {
         None
     }
 }
 
 // The word before a closing quote.
+#[tactic(auto, using(crate::proofs::ParameterLemmas::before_word_more, crate::proofs::ParameterLemmas::before_word_none), unfolding(crate::specs::Parameters::unquoted))]
 fn unquoted(alloc: Global, text: &[u8]) -> Result<Option<Vec<u8>>, AllocError>
     ensures { IfOk result (λ o. option_map (λ v. v.items) o ≡ spec.unquoted false text.now) }
 {

@@ -1,0 +1,14 @@
+//! The operation that a POST asks for, by its parameters (Apache Sling, "SlingPostServlet").
+#![tactic(auto)]
+
+mod fault;
+mod operation;
+mod plan;
+mod spot;
+mod suffix;
+mod verb;
+
+pub use fault::PlanFault;
+pub use operation::{CarryOp, ModifyOp, NameWish, Op, PropSet, SetList};
+pub use plan::plan;
+pub use spot::{Carry, CarryList, Spot, SpotList};

@@ -7,8 +7,9 @@ use Rattle.form_input.specs.declared.fault.FormFault.{FormFault}
 use Rattle.form_input.specs.declared.fault.FormFault.TheVariants.{BadPart, TooMany}
 use Rattle.form_input.specs.declared.boundary.LineKind.{LineKind}
 use Rattle.form_input.specs.declared.boundary.LineKind.TheVariants.{Opening, Closing, Plain}
-use Rattle.form_input.specs.Multipart.{Section, Sections, kind_of, is_plain, is_closing, with_line, sections, pair_of, before_all, with_part, pairs_of}
-use Rattle.form_input.specs.Bodies.{Part, part_lines, are_plain, is_part}
+use Rattle.form_input.specs.Multipart.{Section, Sections, kind_of, is_plain, is_closing, with_line, sections, pair_of, before_all, with_part, pairs_of, dash_boundary, multipart_of}
+use Rattle.form_input.specs.Lines.{lines}
+use Rattle.form_input.specs.Bodies.{Part, part_lines, are_plain, is_part, IsMultipart, HasPairs}
 use Rattle.form_input.proofs.FormLemmas.{Pairs, closing_section, part_section, end_of_sections, last_section}
 
 and_left : (a b : Bool) → (a && b) ≡ true → a ≡ true
@@ -140,9 +141,29 @@ module _ (dash : List ℕ) where
       go false x (Err f) e = absurd cc
       go false x (Ok rest) e = record { pair = pair; rest = rest; has = refl; later = refl; all = cc; other = x }
 
-  spelled : (end n at : ℕ) (ls : List (List ℕ)) (pairs : Pairs) → n ≤ 1000 → pairs_of end n (sections dash at ls).later ≡ Ok pairs → Spelled n at ls pairs
+  no_lines : (at : ℕ) → (sections dash at []).later ≡ []
   unfolding sections
-  spelled end n at [] pairs small e = let none = end_of_sections end n in absurd cc
+  no_lines at = refl
+
+  opened_part : (line : List ℕ) (content : List (List ℕ)) (parts : List Part) → kind_of dash line ≡ Opening → are_plain dash content ≡ true → list_all (is_part dash) parts ≡ true
+      → list_all (is_part dash) (record { line = line; content = content } ∷ parts) ≡ true
+  opened_part line content parts k plain opened = rw (k, plain) opened
+
+  each_part : (line : List ℕ) (content : List (List ℕ)) (parts : List Part) (pair : List ℕ × List ℕ) (rest pairs : Pairs) → pair_of content ≡ Some pair → map (λ (p : Part). pair_of p.content) parts ≡ map Some rest → pairs ≡ pair ∷ rest
+      → map (λ (p : Part). pair_of p.content) (record { line = line; content = content } ∷ parts) ≡ map Some pairs
+  each_part line content parts pair rest pairs has each all = rw all (ap (λ (o : Option (List ℕ × List ℕ)). o ∷ map (λ (p : Part). pair_of p.content) parts) has ∙ ap (λ (os : List (Option (List ℕ × List ℕ))). Some pair ∷ os) each)
+
+  few_part : (n : ℕ) (pair : List ℕ × List ℕ) (rest pairs : Pairs) → pairs ≡ pair ∷ rest → n + 1 + length rest ≤ 1000 → n + length pairs ≤ 1000
+  few_part n pair rest pairs all few = rw all (omega (arith, few))
+
+  not_full : (n : ℕ) → n ≤ 1000 → eqb n 1000 ≡ false → n + 1 ≤ 1000
+  not_full n small other = grind (arith, nat_tests)
+
+  spelled : (end n at : ℕ) (ls : List (List ℕ)) (pairs : Pairs) → n ≤ 1000 → pairs_of end n (sections dash at ls).later ≡ Ok pairs → Spelled n at ls pairs
+  spelled end n at [] pairs small e =
+      let none = end_of_sections end n in
+      let nil = no_lines at in
+      absurd (let f : pairs_of end n [] ≡ Ok pairs = sym (ap (pairs_of end n) nil) ∙ e in cc)
   spelled end n at (line ∷ more) pairs small e = go (kind_of dash line) refl (λ m qs low f. spelled end m (at + length line + 2) more qs low f)
     where
       go : (k : LineKind) → kind_of dash line ≡ k → ((m : ℕ) (qs : Pairs) → m ≤ 1000 → pairs_of end m (sections dash (at + length line + 2) more).later ≡ Ok qs → Spelled m (at + length line + 2) more qs) → Spelled n at (line ∷ more) pairs
@@ -191,14 +212,12 @@ module _ (dash : List ℕ) where
           split : (later : List Section) → (sections dash (at + length line + 2) more).later ≡ later → Spelled n at (line ∷ more) pairs
           split [] none =
               let last = last_section end n (record { place = at; closing = false; content = (sections dash (at + length line + 2) more).before }) refl in
-              absurd (let f = rw none at read in cc)
+              let f : pairs_of end n (record { place = at; closing = false; content = (sections dash (at + length line + 2) more).before } ∷ []) ≡ Ok pairs = sym (ap (λ (later : List Section). pairs_of end n (record { place = at; closing = false; content = (sections dash (at + length line + 2) more).before } ∷ later)) none) ∙ read in
+              absurd cc
           split (next ∷ tail) some =
-              let f = rw some at read in
-              let p = part_read n at _ _ pairs (sym (part_section end n (record { place = at; closing = false; content = (sections dash (at + length line + 2) more).before }) next tail refl) ∙ f) in
-              let other = p.other in
-              let low : n + 1 ≤ 1000 = grind (arith, nat_tests) in
-              let w = ih (n + 1) p.rest low (ap (pairs_of end (n + 1)) some ∙ p.later) in
-              let has : pair_of w.preamble ≡ Some p.pair = ap pair_of (sym w.front) ∙ p.has in
+              let f : pairs_of end n (record { place = at; closing = false; content = (sections dash (at + length line + 2) more).before } ∷ next ∷ tail) ≡ Ok pairs = sym (ap (λ (later : List Section). pairs_of end n (record { place = at; closing = false; content = (sections dash (at + length line + 2) more).before } ∷ later)) some) ∙ read in
+              let p : PartRead n (pair_of (sections dash (at + length line + 2) more).before) (pairs_of end (n + 1) (next ∷ tail)) pairs = part_read n at (pair_of (sections dash (at + length line + 2) more).before) (pairs_of end (n + 1) (next ∷ tail)) pairs (sym (part_section end n (record { place = at; closing = false; content = (sections dash (at + length line + 2) more).before }) next tail refl) ∙ f) in
+              let w : Spelled (n + 1) (at + length line + 2) more p.rest = ih (n + 1) p.rest (not_full n small p.other) (ap (pairs_of end (n + 1)) some ∙ p.later) in
               record {
                 preamble = [];
                 parts = record { line = line; content = w.preamble } ∷ w.parts;
@@ -206,9 +225,26 @@ module _ (dash : List ℕ) where
                 epilogue = w.epilogue;
                 spells = ap (λ (ls : List (List ℕ)). line ∷ ls) (w.spells ∙ sym (append_assoc w.preamble (part_lines w.parts) (w.closing ∷ w.epilogue)));
                 plain = refl;
-                opened = rw (k, w.plain) w.opened;
+                opened = opened_part line w.preamble w.parts k w.plain w.opened;
                 closed = w.closed;
                 front = ap (λ (s : Sections). s.before) here;
-                each = rw (p.all, has, w.each) refl;
-                few = let some = w.few in rw p.all (omega (arith, some));
+                each = each_part line w.preamble w.parts p.pair p.rest pairs (ap pair_of (sym w.front) ∙ p.has) w.each p.all;
+                few = few_part n p.pair p.rest pairs p.all w.few;
               }
+
+pub found : (boundary body : List ℕ) (pairs : Pairs) → multipart_of boundary body ≡ Ok pairs → HasPairs boundary body pairs
+found boundary body pairs e =
+    let w = spelled (dash_boundary boundary) (length body) 0 0 (lines body) pairs (omega arith) e in
+    record {
+      parts = w.parts;
+      is = record { preamble = w.preamble; closing = w.closing; epilogue = w.epilogue; spells = w.spells; before = w.plain; opened = w.opened; closed = w.closed };
+      each = w.each;
+      few = w.few;
+    }
+
+pub only : (boundary body : List ℕ) (pairs : Pairs) → HasPairs boundary body pairs → multipart_of boundary body ≡ Ok pairs
+only boundary body pairs h =
+    let m = h.is in
+    ap (λ (ls : List (List ℕ)). pairs_of (length body) 0 (sections (dash_boundary boundary) 0 ls).later) m.spells
+    ∙ ap (λ (s : Sections). pairs_of (length body) 0 s.later) (plain_lines (dash_boundary boundary) 0 m.preamble (part_lines h.parts ++ m.closing ∷ m.epilogue) m.before)
+    ∙ read_parts (dash_boundary boundary) (length body) 0 (place_after (dash_boundary boundary) 0 m.preamble) h.parts pairs m.closing m.epilogue m.opened m.closed h.each h.few

@@ -4,3 +4,4 @@ pub mod BoundaryLemmas
 pub mod PartLemmas
 pub mod FormLemmas
 pub mod BodyLemmas
+pub mod UrlLemmas

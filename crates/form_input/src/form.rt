@@ -63,10 +63,10 @@ fn read_urlencoded(alloc: Global, body: &[u8]) -> Result<Form, FormFault>
 {
     let mut form = Form::new(alloc);
     for pair in parse(alloc, body) {
-        let (name, word) = pair?;
         if form.len() == MOST_PAIRS {
             return Err(FormFault::TooMany);
         }
+        let (name, word) = pair?;
         form.push((text_of(alloc, name)?, text_of(alloc, word)?))?;
     }
     Ok(form)

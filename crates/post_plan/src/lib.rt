@@ -2,11 +2,14 @@
 #![tactic(auto)]
 
 mod fault;
+mod hints;
+mod made_name;
 mod operation;
 mod plan;
 mod spot;
 mod suffix;
 mod verb;
+mod words;
 
 pub use fault::PlanFault;
 pub use operation::{CarryOp, ModifyOp, NameWish, Op, PropSet, SetList};

@@ -239,12 +239,14 @@ found boundary body pairs e =
       parts = w.parts;
       is = record { preamble = w.preamble; closing = w.closing; epilogue = w.epilogue; spells = w.spells; before = w.plain; opened = w.opened; closed = w.closed };
       each = w.each;
-      few = w.few;
+      few = let some = w.few in omega (arith, some);
     }
 
 pub only : (boundary body : List ℕ) (pairs : Pairs) → HasPairs boundary body pairs → multipart_of boundary body ≡ Ok pairs
 only boundary body pairs h =
     let m = h.is in
+    let some = h.few in
+    let few : 0 + length pairs ≤ 1000 = omega (arith, some) in
     ap (λ (ls : List (List ℕ)). pairs_of (length body) 0 (sections (dash_boundary boundary) 0 ls).later) m.spells
     ∙ ap (λ (s : Sections). pairs_of (length body) 0 s.later) (plain_lines (dash_boundary boundary) 0 m.preamble (part_lines h.parts ++ m.closing ∷ m.epilogue) m.before)
-    ∙ read_parts (dash_boundary boundary) (length body) 0 (place_after (dash_boundary boundary) 0 m.preamble) h.parts pairs m.closing m.epilogue m.opened m.closed h.each h.few
+    ∙ read_parts (dash_boundary boundary) (length body) 0 (place_after (dash_boundary boundary) 0 m.preamble) h.parts pairs m.closing m.epilogue m.opened m.closed h.each few

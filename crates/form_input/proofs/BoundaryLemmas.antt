@@ -90,8 +90,8 @@ pub reached : (dash : List ℕ) (end : ℕ) (whole rest line : List ℕ) (after 
 reached dash end whole rest line after first parts plain within p =
     let whole_size : length whole ≡ length p.front + length rest = rw p.parts (length-append p.front rest) in
     let here = first_line dash end rest line (lines_left after) first
-        ∙ mark_line (is_plain (kind_of dash line)) (is_closing (kind_of dash line)) (end - length rest) line (sections dash (end - length rest + length line + 2) (lines_left after)) plain
-        ∙ ap (λ (s : Sections). record { before = []; later = record { place = end - length rest; closing = is_closing (kind_of dash line); content = s.before } ∷ s.later }) (left_after dash end rest line after (omega (arith, whole_size, within)) parts) in
+    ∙ mark_line (is_plain (kind_of dash line)) (is_closing (kind_of dash line)) (end - length rest) line (sections dash (end - length rest + length line + 2) (lines_left after)) plain
+    ∙ ap (λ (s : Sections). record { before = []; later = record { place = end - length rest; closing = is_closing (kind_of dash line); content = s.before } ∷ s.later }) (left_after dash end rest line after (omega (arith, whole_size, within)) parts) in
     let all = p.same ∙ ap (with_lines p.done) here in
     record {
       before = ap (λ (s : Sections). s.before) all ∙ append-nil p.done ∙ sym (rw p.parts (front_lines p.front rest p.done p.ended));

@@ -114,13 +114,13 @@ pub all_read : (dash : List ℕ) (end : ℕ) (first : Mark) (form : Pairs) (mark
 all_read dash end first form mark inv closed =
     sym inv.same ∙ ap (before_all form) (closing_section end (length form) (record { place = mark.place; closing = mark.closing; content = (sections_left dash end (option_copied mark.after)).before }) (sections_left dash end (option_copied mark.after)).later closed) ∙ ap Ok (append-nil form)
 
-pub shut : {b : Bool} → not b ≡ true → b ≡ false
-shut {true} e = absurd cc
-shut {false} e = refl
+pub shut : (b : Bool) → not b ≡ true → b ≡ false
+shut true e = absurd cc
+shut false e = refl
 
-pub closed : {b : Bool} → not b ≡ false → b ≡ true
-closed {true} e = refl
-closed {false} e = absurd cc
+pub closed : (b : Bool) → not b ≡ false → b ≡ true
+closed true e = refl
+closed false e = absurd cc
 
 -- a body is read from its first boundary line on
 whole : (dash boundary body : List ℕ) → dash ≡ dash_boundary boundary → sections_left dash (length body) (Some body) ≡ sections (dash_boundary boundary) 0 (lines body)

@@ -18,7 +18,9 @@ pub const MOST_PAIRS: usize = 1000;
 const LONGEST_BOUNDARY: usize = 70;
 
 const URLENCODED: &[u8] = b"application/x-www-form-urlencoded";
+
 const MULTIPART: &[u8] = b"multipart/form-data";
+
 const BOUNDARY: &[u8] = b"boundary";
 
 /// The pairs of a form in their order: a name and a word each.

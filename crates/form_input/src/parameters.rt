@@ -131,13 +131,7 @@ fn after_separator(separator: u8, text: &[u8]) -> Option<&[u8]>
     ensures { option_copied result ≡ spec.after_separator separator text.now }
 {
     match text {
-        [b, rest @ ..] => {
-            if *b == separator {
-                Some(rest)
-            } else {
-                None
-            }
-        }
+        [b, rest @ ..] => { if *b == separator { Some(rest) } else { None } }
         [] => None,
     }
 }

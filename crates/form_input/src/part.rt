@@ -10,7 +10,9 @@ use std::alloc::Global;
 use std::str;
 
 const DISPOSITION: &[u8] = b"content-disposition";
+
 const FORM_DATA: &[u8] = b"form-data";
+
 const NAME: &[u8] = b"name";
 
 // The first Content-Disposition of a part.

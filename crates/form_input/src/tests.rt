@@ -22,10 +22,26 @@ fn reads_forms(rt: HostRuntime) -> Result<(), Fail> {
     let quoted = "multipart/form-data; charset=\"a;b\" ; Boundary=\"B\"";
     let cases = [
         ("", "", ""),
-        ("application/x-www-form-urlencoded", "a=1&b=%20+&&c", "a=1|b=  |c=|"),
-        ("Application/X-WWW-Form-Urlencoded; charset=UTF-8", "a=1", "a=1|"),
-        (KIND, "--B\r\nContent-Disposition: form-data; name=\"title\"\r\n\r\nx\r\n--B--\r\n", "title=x|"),
-        (quoted, "pre\r\n--B \t\r\nX: y\r\ncontent-disposition:Form-Data;name=\"a\\\"b\"\r\n\r\n1\n--B\r\n2\r\n--Bx\r\n--B\r\nContent-Disposition: form-data; name=c; filename=\"d\"\r\n\r\n\r\n--B-- \r\nafter", "a\"b=1\n--B\r\n2\r\n--Bx|c=|"),
+        (
+            "application/x-www-form-urlencoded",
+            "a=1&b=%20+&&c",
+            "a=1|b=  |c=|",
+        ),
+        (
+            "Application/X-WWW-Form-Urlencoded; charset=UTF-8",
+            "a=1",
+            "a=1|",
+        ),
+        (
+            KIND,
+            "--B\r\nContent-Disposition: form-data; name=\"title\"\r\n\r\nx\r\n--B--\r\n",
+            "title=x|",
+        ),
+        (
+            quoted,
+            "pre\r\n--B \t\r\nX: y\r\ncontent-disposition:Form-Data;name=\"a\\\"b\"\r\n\r\n1\n--B\r\n2\r\n--Bx\r\n--B\r\nContent-Disposition: form-data; name=c; filename=\"d\"\r\n\r\n\r\n--B-- \r\nafter",
+            "a\"b=1\n--B\r\n2\r\n--Bx|c=|",
+        ),
         (KIND, "--B--", ""),
     ];
     for (kind, body, wanted) in cases {
@@ -43,16 +59,40 @@ fn refuses_forms(rt: HostRuntime) -> Result<(), Fail> {
         ("text/plain", "", FormFault::WrongKind),
         ("", "x", FormFault::WrongKind),
         ("multipart/form-data", head, FormFault::NoBoundary),
-        ("multipart/form-data; boundary=", head, FormFault::NoBoundary),
-        ("multipart/form-data; boundary=\"B", head, FormFault::NoBoundary),
-        ("multipart/form-data; boundary=\"\"; boundary=B", head, FormFault::NoBoundary),
+        (
+            "multipart/form-data; boundary=",
+            head,
+            FormFault::NoBoundary,
+        ),
+        (
+            "multipart/form-data; boundary=\"B",
+            head,
+            FormFault::NoBoundary,
+        ),
+        (
+            "multipart/form-data; boundary=\"\"; boundary=B",
+            head,
+            FormFault::NoBoundary,
+        ),
         (KIND, "", FormFault::BadPart(0)),
         (KIND, head, FormFault::BadPart(48)),
         (KIND, "--B\n--B--\n", FormFault::BadPart(10)),
         (KIND, "\r\n--B\r\n\r\n\r\nx\r\n--B--", FormFault::BadPart(2)),
-        (KIND, "--B\r\nContent-Disposition: form-data\r\n\r\nx\r\n--B--", FormFault::BadPart(0)),
-        (KIND, "--B\r\nContent-Disposition: file; name=a\r\n\r\nx\r\n--B--", FormFault::BadPart(0)),
-        (KIND, "--B\r\nContent-Disposition: form-data; name=a\r\n\r\n--B--", FormFault::BadPart(0)),
+        (
+            KIND,
+            "--B\r\nContent-Disposition: form-data\r\n\r\nx\r\n--B--",
+            FormFault::BadPart(0),
+        ),
+        (
+            KIND,
+            "--B\r\nContent-Disposition: file; name=a\r\n\r\nx\r\n--B--",
+            FormFault::BadPart(0),
+        ),
+        (
+            KIND,
+            "--B\r\nContent-Disposition: form-data; name=a\r\n\r\n--B--",
+            FormFault::BadPart(0),
+        ),
     ];
     for (kind, body, wanted) in cases {
         match read_form(rt.alloc(), kind, body.as_bytes()) {
@@ -90,7 +130,10 @@ fn repeated(alloc: Global, text: &str, times: usize) -> Result<String, FormFault
 fn keeps_the_limits(rt: HostRuntime) -> Result<(), Fail> {
     let kind = "application/x-www-form-urlencoded";
     let most = repeated(rt.alloc(), "a=1&", MOST_PAIRS)?;
-    assert_eq!(rt; read_form(rt.alloc(), kind, most.as_bytes())?.len(), MOST_PAIRS);
+    assert_eq!(rt;
+        read_form(rt.alloc(), kind, most.as_bytes())?.len(),
+        MOST_PAIRS
+    );
     let more = repeated(rt.alloc(), "a=1&", 1001)?;
     let fault = read_form(rt.alloc(), kind, more.as_bytes()).err();
     assert_eq!(rt; fault, Some(FormFault::TooMany));

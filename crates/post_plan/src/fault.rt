@@ -5,7 +5,7 @@ ghost use Rattle.post_plan.specs.declared.fault.PlanFault.TheVariants.{NoMemory 
 use sp_base::{NoMemory, TextBuf};
 use std::alloc::{AllocError, AllocFailed};
 
-#[derive(Debug, Drop)]
+#[derive(Drop)]
 pub enum PlanFault {
     /// `:operation` names no operation.
     BadOperation,

@@ -7,7 +7,10 @@ use sp_base::{Hint, HintKind};
 fn is_text_word(word: &[u8]) -> bool
     ensures { result ≡ spec.is_text_word word.now }
 {
-    word == b"String" || (word == b"Date" || (word == b"Name" || (word == b"Path" || word == b"URI")))
+    word == b"String".as_slice()
+        || (word == b"Date".as_slice()
+            || (word == b"Name".as_slice()
+                || (word == b"Path".as_slice() || word == b"URI".as_slice())))
 }
 
 fn kind_of(word: &[u8]) -> Option<HintKind>
@@ -15,9 +18,9 @@ fn kind_of(word: &[u8]) -> Option<HintKind>
 {
     if is_text_word(word) {
         Some(HintKind::Text)
-    } else if word == b"Long" {
+    } else if word == b"Long".as_slice() {
         Some(HintKind::Long)
-    } else if word == b"Boolean" {
+    } else if word == b"Boolean".as_slice() {
         Some(HintKind::Truth)
     } else {
         None

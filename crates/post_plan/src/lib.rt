@@ -3,15 +3,16 @@
 
 mod fault;
 mod hints;
-mod made_name;
+mod naming;
 mod operation;
-mod plan;
+mod planning;
 mod spot;
+mod spots;
 mod suffix;
 mod verb;
 mod words;
 
 pub use fault::PlanFault;
 pub use operation::{CarryOp, ModifyOp, NameWish, Op, PropSet, SetList};
-pub use plan::plan;
+pub use planning::plan;
 pub use spot::{Carry, CarryList, Spot, SpotList};

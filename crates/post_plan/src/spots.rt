@@ -1,6 +1,5 @@
 //! Paths in the names and words of parameters.
-ghost use Rattle.std.specs.Prelude.{◌≡◌, ◌≤◌, ◌+◌, IfOk, IfSome, map, option_map, length};
-ghost use Rattle.std.specs.List.{slice_split};
+ghost use Rattle.std.specs.Prelude.{◌≡◌, IfOk, map, option_map};
 ghost use Rattle.post_plan.specs.Spots as spec;
 ghost use Rattle.post_plan.specs.Ways.{seen};
 ghost use Rattle.sp_base.specs.Paths.{pieces};
@@ -28,16 +27,18 @@ pub fn way_of<'a>(alloc: Global, text: &'a str) -> Result<Option<Way<'a>>, Alloc
     let parts = pieces_of(alloc, text)?;
     let mut up = 0;
     let mut down = Vec::new(alloc);
-    for piece in parts.as_slice() {
+    let mut rest = parts.as_slice();
+    while let [piece, more @ ..] = rest {
         if *piece == "." {
-            continue;
-        }
-        if *piece == ".." {
+            rest = more;
+        } else if *piece == ".." {
             if down.pop().is_none() {
                 up += 1;
             }
+            rest = more;
         } else if seg_ok(piece) {
             down.push(*piece)?;
+            rest = more;
         } else {
             return Ok(None);
         }

@@ -1,0 +1,22 @@
+-- The lines of a text, each but the last ended by CR LF; a CR or an LF alone is a byte of its line (RFC 2046, section 5.1.1).
+use Rattle.std.specs.Prelude.{◌==◌, ◌&&◌, ℕ, Bool, if◌then◌else◌, List, [], ◌∷◌, ◌++◌, Option, Some, None}
+use Rattle.std.specs.List.{onto_first}
+
+abbrev pub is_line_end : ℕ → ℕ → Bool
+is_line_end b c = b == 13 && c == 10
+
+unfoldable pub lines : List ℕ → List (List ℕ)
+lines [] = [] ∷ []
+lines (b ∷ []) = (b ∷ []) ∷ []
+lines (b ∷ c ∷ text) = if is_line_end b c then [] ∷ lines text else onto_first b (lines (c ∷ text))
+
+-- the lines with CR LF between each two
+unfoldable pub joined : List (List ℕ) → List ℕ
+joined [] = []
+joined (line ∷ []) = line
+joined (line ∷ next ∷ more) = line ++ 13 ∷ 10 ∷ joined (next ∷ more)
+
+-- the lines of what is left of a text, where no line or a text is left
+abbrev pub lines_left : Option (List ℕ) → List (List ℕ)
+lines_left None = []
+lines_left (Some text) = lines text

@@ -1,0 +1,110 @@
+-- The reading of a multipart body (RFC 7578; RFC 2046, section 5.1.1), line by line.
+use Rattle.std.specs.Prelude.{◌==◌, ◌&&◌, ◌+◌, ℕ, Bool, false, true, if◌then◌else◌, List, [], ◌∷◌, ◌++◌, Option, Some, None, Result, Ok, Err, codes, length, drop, take}
+use Rattle.std.specs.List.{list_all}
+use Rattle.std.specs.Str.{bytes_eq, is_utf8}
+use Rattle.form_input.specs.declared.fault.FormFault.{FormFault}
+use Rattle.form_input.specs.declared.fault.FormFault.TheVariants.{BadPart, TooMany}
+use Rattle.form_input.specs.declared.boundary.LineKind.{LineKind}
+use Rattle.form_input.specs.declared.boundary.LineKind.TheVariants.{Opening, Closing, Plain}
+use Rattle.form_input.specs.Lines.{lines, joined}
+use Rattle.form_input.specs.Parameters.{is_blank, is_type, after_name, parameter}
+
+-- the bytes that begin a boundary line: `--` and the boundary
+abbrev pub dash_boundary : List ℕ → List ℕ
+dash_boundary boundary = codes "--" ++ boundary
+
+-- what a line is by what follows those bytes: blanks, or `--` and blanks
+abbrev pub kind_after : List ℕ → LineKind
+kind_after rest = if list_all is_blank rest then Opening else (if bytes_eq (take 2 rest) (codes "--") && list_all is_blank (drop 2 rest) then Closing else Plain)
+
+abbrev pub kind_of : List ℕ → List ℕ → LineKind
+kind_of dash line = if bytes_eq (take (length dash) line) dash then kind_after (drop (length dash) line) else Plain
+
+abbrev pub is_plain : LineKind → Bool
+is_plain Opening = false
+is_plain Closing = false
+is_plain Plain = true
+
+abbrev pub is_closing : LineKind → Bool
+is_closing Opening = false
+is_closing Closing = true
+is_closing Plain = false
+
+-- a boundary line and the lines from it up to the next
+pub record Section : Type 0 where
+  pub place : ℕ
+  pub closing : Bool
+  pub content : List (List ℕ)
+
+-- lines: those before the first boundary line, and a section for each boundary line
+pub record Sections : Type 0 where
+  pub before : List (List ℕ)
+  pub later : List Section
+
+-- a line at a place before sections
+abbrev pub with_line : LineKind → ℕ → List ℕ → Sections → Sections
+with_line kind at line s = if is_plain kind then record { before = line ∷ s.before; later = s.later }
+    else record { before = []; later = record { place = at; closing = is_closing kind; content = s.before } ∷ s.later }
+
+-- the sections of lines, of which the first begins at this place of the body; a line takes its bytes and CR LF
+unfoldable pub sections : List ℕ → ℕ → List (List ℕ) → Sections
+sections dash at [] = record { before = []; later = [] }
+sections dash at (line ∷ more) = with_line (kind_of dash line) at line (sections dash (at + length line + 2) more)
+
+abbrev pub first_some : Option (List ℕ) → Option (List ℕ) → Option (List ℕ)
+first_some None other = other
+first_some (Some text) other = Some text
+
+-- the first Content-Disposition of a part: its head is what stands before the first empty line
+unfoldable pub disposition_in : List (List ℕ) → Option (List ℕ)
+disposition_in [] = None
+disposition_in (line ∷ more) = if length line == 0 then None else first_some (after_name 58 (codes "content-disposition") line) (disposition_in more)
+
+abbrev pub text_of_some : List (List ℕ) → Option (List ℕ)
+text_of_some [] = None
+text_of_some (line ∷ more) = Some (joined (line ∷ more))
+
+-- the body of a part: what follows the first empty line
+unfoldable pub value_in : List (List ℕ) → Option (List ℕ)
+value_in [] = None
+value_in (line ∷ more) = if length line == 0 then text_of_some more else value_in more
+
+abbrev pub if_utf8 : Option (List ℕ) → Option (List ℕ)
+if_utf8 None = None
+if_utf8 (Some text) = if is_utf8 text then Some text else None
+
+abbrev pub name_of : Option (List ℕ) → Option (List ℕ)
+name_of None = None
+name_of (Some disposition) = if is_type (codes "form-data") disposition then if_utf8 (parameter (codes "name") disposition) else None
+
+abbrev pub both : Option (List ℕ) → Option (List ℕ) → Option (List ℕ × List ℕ)
+both None value = None
+both (Some name) None = None
+both (Some name) (Some value) = Some (name, value)
+
+-- the name and the value of a part, where it has a Content-Disposition of `form-data` with a name, and a body, both in UTF-8
+abbrev pub pair_of : List (List ℕ) → Option (List ℕ × List ℕ)
+pair_of content = both (name_of (disposition_in content)) (if_utf8 (value_in content))
+
+-- the most pairs of a form
+abbrev pub most_pairs : ℕ
+most_pairs = 1000
+
+abbrev pub before_all : List (List ℕ × List ℕ) → Result (List (List ℕ × List ℕ)) FormFault → Result (List (List ℕ × List ℕ)) FormFault
+before_all pairs (Ok more) = Ok (pairs ++ more)
+before_all pairs (Err fault) = Err fault
+
+-- a part at a place, after n others, and the reading of the rest
+abbrev pub with_part : ℕ → ℕ → Option (List ℕ × List ℕ) → Result (List (List ℕ × List ℕ)) FormFault → Result (List (List ℕ × List ℕ)) FormFault
+with_part n place None rest = Err (BadPart place)
+with_part n place (Some pair) rest = if n == most_pairs then Err TooMany else before_all (pair ∷ []) rest
+
+-- the pairs of sections in a body of so many bytes, after n others: a part is a section that another follows, and the closing line ends them
+unfoldable pub pairs_of : ℕ → ℕ → List Section → Result (List (List ℕ × List ℕ)) FormFault
+pairs_of end n [] = Err (BadPart end)
+pairs_of end n (s ∷ []) = if s.closing then Ok [] else Err (BadPart end)
+pairs_of end n (s ∷ next ∷ more) = if s.closing then Ok [] else with_part n s.place (pair_of s.content) (pairs_of end (n + 1) (next ∷ more))
+
+-- what a body reads as
+abbrev pub multipart_of : List ℕ → List ℕ → Result (List (List ℕ × List ℕ)) FormFault
+multipart_of boundary body = pairs_of (length body) 0 (sections (dash_boundary boundary) 0 (lines body)).later

@@ -1,0 +1,89 @@
+-- The value of a header field with parameters, `TYPE; NAME=WORD; NAME="WORD"` (RFC 9110, section 5.6.6; RFC 2183, section 2).
+use Rattle.std.specs.Prelude.{◌==◌, ◌&&◌, ℕ, Bool, false, true, if◌then◌else◌, List, [], ◌∷◌, Option, Some, None, length, drop, take, slice_index, slice_index_or}
+use Rattle.std.specs.List.{list_all, onto_first}
+use Rattle.std.specs.Str.{str_eq_ignore_ascii_case}
+use Rattle.form_input.specs.declared.parameters.Quoting.{Quoting}
+use Rattle.form_input.specs.declared.parameters.Quoting.TheVariants.{Outside, Inside, Escaped}
+
+-- a space or a tab
+abbrev pub is_blank : ℕ → Bool
+is_blank b = if b == 32 then true else b == 9
+
+unfoldable pub after_blanks : List ℕ → List ℕ
+after_blanks [] = []
+after_blanks (b ∷ text) = if is_blank b then after_blanks text else b ∷ text
+
+unfoldable pub before_blanks : List ℕ → List ℕ
+before_blanks [] = []
+before_blanks (b ∷ text) = if is_blank b && length (before_blanks text) == 0 then [] else b ∷ before_blanks text
+
+-- a text without the blanks around it
+abbrev pub trimmed : List ℕ → List ℕ
+trimmed text = before_blanks (after_blanks text)
+
+-- where the next byte stands: a quote opens and closes quotes, and in them a backslash takes the next byte with it
+abbrev pub step : Quoting → ℕ → Quoting
+step Outside b = if b == 34 then Inside else Outside
+step Inside b = if b == 34 then Outside else (if b == 92 then Escaped else Inside)
+step Escaped b = Inside
+
+-- a semicolon outside quotes
+abbrev pub separates : Quoting → ℕ → Bool
+separates Outside b = b == 59
+separates Inside b = false
+separates Escaped b = false
+
+-- the pieces between the semicolons that stand outside quotes
+unfoldable pub pieces_from : Quoting → List ℕ → List (List ℕ)
+pieces_from quoting [] = [] ∷ []
+pieces_from quoting (b ∷ text) = if separates quoting b then [] ∷ pieces_from Outside text else onto_first b (pieces_from (step quoting b) text)
+
+abbrev pub pieces : List ℕ → List (List ℕ)
+pieces text = pieces_from Outside text
+
+-- whether the type, which is the first piece, is this word, without case
+abbrev pub is_type : List ℕ → List ℕ → Bool
+is_type word text = str_eq_ignore_ascii_case (trimmed (slice_index_or (pieces text) 0 [])) word
+
+-- what follows a separator
+abbrev pub after_separator : ℕ → List ℕ → Option (List ℕ)
+after_separator separator [] = None
+after_separator separator (b ∷ text) = if b == separator then Some text else None
+
+-- what follows a name, without case, and a separator
+abbrev pub after_name : ℕ → List ℕ → List ℕ → Option (List ℕ)
+after_name separator name text = if str_eq_ignore_ascii_case (take (length name) text) name then after_separator separator (drop (length name) text) else None
+
+abbrev pub with_byte : ℕ → Option (List ℕ) → Option (List ℕ)
+with_byte b None = None
+with_byte b (Some word) = Some (b ∷ word)
+
+-- the word that stands before a closing quote, where nothing but blanks follows it
+unfoldable pub unquoted : Bool → List ℕ → Option (List ℕ)
+unquoted escaped [] = None
+unquoted true (b ∷ text) = with_byte b (unquoted false text)
+unquoted false (b ∷ text) = if b == 92 then unquoted true text
+    else (if b == 34 then (if list_all is_blank text then Some [] else None)
+    else with_byte b (unquoted false text))
+
+-- the word of a parameter, plain or in quotes
+abbrev pub word_of : List ℕ → Option (List ℕ)
+word_of text = if slice_index text 0 == 34 then unquoted false (drop 1 text) else Some (before_blanks text)
+
+abbrev pub word_or : Option (List ℕ) → Option (List ℕ) → Option (List ℕ)
+word_or None other = other
+word_or (Some text) other = word_of text
+
+-- the word of the first piece that has this name
+unfoldable pub word_in : List ℕ → List (List ℕ) → Option (List ℕ)
+word_in name [] = None
+word_in name (piece ∷ more) = word_or (after_name 61 name (after_blanks piece)) (word_in name more)
+
+-- the word of the first parameter of this name, where it can be read
+abbrev pub parameter : List ℕ → List ℕ → Option (List ℕ)
+parameter name text = word_in name (drop 1 (pieces text))
+
+-- the pieces of what is left of a text, where none or a text is left
+abbrev pub pieces_left : Option (List ℕ) → List (List ℕ)
+pieces_left None = []
+pieces_left (Some text) = pieces text

@@ -1,0 +1,115 @@
+//! The boundary lines of a multipart body.
+ghost use Rattle.std.specs.Prelude.{◌≡◌, ◌<◌, ◌≤◌, [], Some, length, option_copied, IfSome, IfNone};
+ghost use Rattle.form_input.specs.Multipart.{kind_after, kind_of, is_plain, is_closing};
+ghost use Rattle.form_input.specs.Boundaries.{IsMark, front_of, sections_left};
+
+use crate::lines::{LINE_END, next_line};
+use crate::parameters::all_blank;
+
+/// What a line of a multipart body is.
+#[derive(Clone, Copy, Drop)]
+pub enum LineKind {
+    /// Begins a part.
+    Opening,
+    /// Ends the last part.
+    Closing,
+    Plain,
+}
+
+fn kind_after(rest: &[u8]) -> LineKind
+    ensures { result ≡ kind_after rest.now }
+{
+    if all_blank(rest) {
+        return LineKind::Opening;
+    }
+    match rest.strip_prefix(b"--") {
+        Some(blanks) => {
+            if all_blank(blanks) {
+                LineKind::Closing
+            } else {
+                LineKind::Plain
+            }
+        }
+        None => LineKind::Plain,
+    }
+}
+
+fn kind_of(dash: &[u8], line: &[u8]) -> LineKind
+    ensures { result ≡ kind_of dash.now line.now }
+{
+    match line.strip_prefix(dash) {
+        Some(rest) => kind_after(rest),
+        None => LineKind::Plain,
+    }
+}
+
+/// A boundary line of a body.
+#[derive(Clone, Copy, Drop)]
+pub struct Mark<'a> {
+    /// Where it begins in the body.
+    pub place: usize,
+    pub closing: bool,
+    /// The text before it, without its last line end, where there are lines.
+    pub before: Option<&'a [u8]>,
+    /// What follows its line end.
+    pub after: Option<&'a [u8]>,
+}
+
+/// The first boundary line of a text at the end of a body of so many bytes.
+pub fn next_mark<'a>(dash: &[u8], end: usize, text: &'a [u8]) -> Option<Mark<'a>>
+    requires { length text.now ≤ end }
+    ensures some { IfSome result (λ m. IsMark dash.now end text.now m) }
+    ensures shorter { IfSome result (λ m. IfSome m.after (λ rest. length rest.now < length text.now)) }
+    ensures none { IfNone result ((sections_left dash.now end (Some text.now)).later ≡ []) }
+{
+    let mut rest = text;
+    loop {
+        let (line, after) = next_line(rest);
+        let kind = kind_of(dash, line);
+        if !is_plain(kind) {
+            return Some(Mark {
+                place: end - rest.len(),
+                closing: is_closing(kind),
+                before: before(text, rest.len()),
+                after,
+            });
+        }
+        match after {
+            Some(more) => rest = more,
+            None => return None,
+        }
+    }
+}
+
+fn is_plain(kind: LineKind) -> bool
+    ensures { result ≡ is_plain kind }
+{
+    match kind {
+        LineKind::Opening => false,
+        LineKind::Closing => false,
+        LineKind::Plain => true,
+    }
+}
+
+fn is_closing(kind: LineKind) -> bool
+    ensures { result ≡ is_closing kind }
+{
+    match kind {
+        LineKind::Opening => false,
+        LineKind::Closing => true,
+        LineKind::Plain => false,
+    }
+}
+
+// The lines before the last bytes, without their last line end.
+fn before(text: &[u8], left: usize) -> Option<&[u8]>
+    requires { left ≤ length text.now }
+    ensures { option_copied result ≡ front_of text.now left }
+{
+    let passed = text.len() - left;
+    if passed < LINE_END.len() {
+        None
+    } else {
+        Some(&text[..passed - LINE_END.len()])
+    }
+}

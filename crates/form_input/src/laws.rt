@@ -1,0 +1,13 @@
+//! What a multipart body is: laws of the definitions, on functions that do nothing.
+ghost use Rattle.std.specs.Prelude.{◌≡◌, ℕ, List, Ok};
+ghost use Rattle.form_input.specs.Bodies.{HasPairs};
+ghost use Rattle.form_input.specs.Lines.{joined, lines};
+ghost use Rattle.form_input.specs.Multipart.{multipart_of};
+
+/// A body reads as pairs exactly where it is a preamble, parts that each stand after a boundary line and have such a pair, a closing
+/// boundary line and an epilogue.
+pub fn the_parts_are_the_body()
+    ensures found { (boundary body : List ℕ) (pairs : List (List ℕ × List ℕ)) → multipart_of boundary body ≡ Ok pairs → HasPairs boundary body pairs }
+    ensures only { (boundary body : List ℕ) (pairs : List (List ℕ × List ℕ)) → HasPairs boundary body pairs → multipart_of boundary body ≡ Ok pairs }
+    ensures lines { (body : List ℕ) → joined (lines body) ≡ body }
+{}

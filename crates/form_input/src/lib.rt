@@ -1,0 +1,17 @@
+//! The form of a POST: the pairs of names and words that its body spells (Apache Sling, "SlingPostServlet"; RFC 7578).
+#![tactic(auto)]
+
+mod boundary;
+mod fault;
+mod form;
+mod laws;
+mod lines;
+mod multipart;
+mod parameters;
+mod part;
+#[cfg(test)]
+mod tests;
+
+pub use fault::FormFault;
+pub use form::{Form, MOST_PAIRS, read_form};
+pub use laws::the_parts_are_the_body;

@@ -7,7 +7,7 @@ use Rattle.docroot_format.specs.Faults.{IsLeft}
 use Rattle.docroot_format.specs.Names.{body_name, head_name, is_place}
 use Rattle.docroot_format.specs.Readings.{HeadLine, head_of, is_kind}
 use Rattle.docroot_format.specs.declared.fault.FileFault.{FileFault}
-use Rattle.docroot_format.specs.declared.key.PageKey.{PageKey}
+use Rattle.cover_rules.specs.declared.page.PageKey.{PageKey}
 use Rattle.cache_files.specs.declared.page.Page.{Page}
 
 -- a key at which a page may stand

@@ -4,9 +4,9 @@ use Rattle.std.specs.List.{list_all}
 use Rattle.std.proofs.lemmas.Bool.{true≢false}
 use Rattle.std.proofs.lemmas.Bool.Decides.{nat_tests}
 use Rattle.std.proofs.lemmas.List.{length-append}
-use Rattle.percent_encoding.specs.Percent.{percent_encode_byte}
 use Rattle.sp_outside.specs.Files.{IsName}
-use Rattle.docroot_format.specs.Names.{file_byte, file_name, folder_name, body_name, head_name, stat_name, has_name, have_names, is_place, is_plain}
+use Rattle.cover_rules.specs.Names.{file_byte, file_name, has_name, is_plain}
+use Rattle.docroot_format.specs.Names.{folder_name, body_name, head_name, stat_name, have_names, is_place}
 
 first_true : (a b : Bool) → a && b ≡ true → a ≡ true
 first_true true b e = refl
@@ -30,8 +30,7 @@ folder_len (seg ∷ segs) e =
     omega (arith, short, rest, length-append (file_name seg ++ 47 ∷ []) (folder_name segs), length-append (file_name seg) (47 ∷ []))
 
 byte_some : (b : ℕ) → 0 < length (file_byte b)
-unfolding percent_encode_byte
-byte_some b = elim (is_plain b) as (λ p. 0 < length (cond p (b ∷ []) (percent_encode_byte b))) [ true ↦ omega arith | false ↦ omega arith ]
+byte_some b = grind arith
 
 file_some : (file : List ℕ) → 0 < length file → 0 < length (file_name file)
 unfolding file_name

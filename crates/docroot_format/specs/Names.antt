@@ -1,20 +1,7 @@
 -- The names of the files of the docroot.
 use Rattle.std.specs.Prelude.{◌==◌, ◌||◌, ◌&&◌, ◌++◌, ◌∷◌, [], ℕ, Bool, List, codes, flat_map, length, nat_le, nat_lt, if◌then◌else◌}
 use Rattle.std.specs.List.{list_all}
-use Rattle.std.specs.Char.{is_ascii_alphanumeric}
-use Rattle.percent_encoding.specs.Percent.{percent_encode_byte}
-
--- letters, digits, `.`, `_` and `-` stand in a file's name as they are
-abbrev pub is_plain : ℕ → Bool
-is_plain b = is_ascii_alphanumeric b || (b == 46 || (b == 95 || b == 45))
-
--- each other byte is `%` and two capital hexadecimal digits
-abbrev pub file_byte : ℕ → List ℕ
-file_byte b = if is_plain b then b ∷ [] else percent_encode_byte b
-
--- the file name of a segment of a path
-unfoldable pub file_name : List ℕ → List ℕ
-file_name seg = flat_map file_byte seg
+use Rattle.cover_rules.specs.Names.{file_name, has_name}
 
 -- the file names of a folder's segments, a slash after each
 abbrev pub folder_name : List (List ℕ) → List ℕ
@@ -31,13 +18,6 @@ head_name folder file = body_name folder file ++ codes "%h"
 -- where a folder's stamp stands
 abbrev pub stat_name : List (List ℕ) → List ℕ
 stat_name folder = folder_name folder ++ codes ".stat"
-
--- the most bytes of a segment's file name
-abbrev pub longest_name : ℕ
-longest_name = 200
-
-abbrev pub has_name : List ℕ → Bool
-has_name seg = nat_le (length (file_name seg)) longest_name
 
 -- each segment of a folder has a file name
 abbrev pub have_names : List (List ℕ) → Bool

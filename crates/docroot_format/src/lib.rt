@@ -3,14 +3,12 @@
 
 mod fault;
 mod head;
-mod key;
 mod names;
 mod readings;
 mod texts;
 
 pub use fault::FileFault;
 pub use head::{Head, head_in};
-pub use key::{PageKey, Stamp};
 pub use names::{EPOCH_NAME, body_name, head_name, stat_name};
 pub use readings::{epoch_in, stat_in};
 pub use texts::{epoch_text, head_text, stat_text};

@@ -1,6 +1,7 @@
 //! The names of the files of the docroot.
 ghost use Rattle.std.specs.Prelude.{◌≡◌, ◌<◌, ◌≤◌, ◌++◌, ◌∷◌, [], IfOk, IsTrue, OnOk, length, slice_index_or, string_bytes};
 ghost use Rattle.sp_outside.specs.Files.{IsName};
+ghost use Rattle.cover_rules.specs.Names as file;
 ghost use Rattle.docroot_format.specs.Names as spec;
 
 use percent_encoding::percent_encode_byte;
@@ -11,14 +12,15 @@ use std::alloc::Global;
 pub const EPOCH_NAME: &str = ".epoch";
 
 fn is_plain(b: u8) -> bool
-    ensures { result ≡ spec.is_plain b }
+    ensures { result ≡ file.is_plain b }
 {
     b.is_ascii_alphanumeric() || (b == b'.' || (b == b'_' || b == b'-'))
 }
 
 // Adds what a byte is in a file's name.
+#[tactic(auto, unfolding(percent_encoding::specs::Percent::percent_encode_byte))]
 fn push_byte(name: &mut String, b: u8) -> Mem<()>
-    ensures { OnOk result (string_bytes name.new ≡ string_bytes name.old ++ spec.file_byte b) }
+    ensures { OnOk result (string_bytes name.new ≡ string_bytes name.old ++ file.file_byte b) }
 {
     if is_plain(b) {
         name.push(b as char)?;
@@ -29,9 +31,9 @@ fn push_byte(name: &mut String, b: u8) -> Mem<()>
 }
 
 // Adds a segment's file name.
-#[tactic(auto, using(crate::proofs::NameLemmas::byte_more), unfolding(crate::specs::Names::file_name))]
+#[tactic(auto, using(crate::proofs::NameLemmas::byte_more), unfolding(cover_rules::specs::Names::file_name))]
 fn push_segment(name: &mut String, seg: &str) -> Mem<()>
-    ensures { OnOk result (string_bytes name.new ≡ string_bytes name.old ++ spec.file_name seg.now) }
+    ensures { OnOk result (string_bytes name.new ≡ string_bytes name.old ++ file.file_name seg.now) }
 {
     for b in seg.as_bytes() {
         push_byte(name, *b)?;
@@ -42,7 +44,7 @@ fn push_segment(name: &mut String, seg: &str) -> Mem<()>
 // Adds the file name of the segment at a place, and a slash.
 fn push_place(name: &mut String, folder: &Path, place: usize) -> Mem<()>
     requires { place < length folder.now }
-    ensures { OnOk result (string_bytes name.new ≡ string_bytes name.old ++ (spec.file_name (slice_index_or folder.now place []) ++ 47 ∷ [])) }
+    ensures { OnOk result (string_bytes name.new ≡ string_bytes name.old ++ (file.file_name (slice_index_or folder.now place []) ++ 47 ∷ [])) }
 {
     if let Some(seg) = folder.seg(place) {
         push_segment(name, seg)?;

@@ -3,7 +3,7 @@ use Rattle.std.specs.Prelude.{ℕ, List, Option, Some, None, option_map}
 use Rattle.sp_outside.specs.Files.{Files, file_at}
 use Rattle.docroot_format.specs.Names.{stat_name}
 use Rattle.docroot_format.specs.Readings.{stat_of}
-use Rattle.docroot_format.specs.declared.key.Stamp.{Stamp}
+use Rattle.cover_rules.specs.declared.stamp.Stamp.{Stamp}
 
 -- the greatest stamp, which outdates every page
 abbrev pub greatest : Stamp

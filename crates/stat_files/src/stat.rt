@@ -7,7 +7,8 @@ ghost use Rattle.docroot_format.specs.Names as name;
 ghost use Rattle.docroot_format.specs.Texts as text;
 ghost use Rattle.stat_files.specs.Stamps.{stamp_at, stamp_in};
 
-use docroot_format::{FileFault, Stamp, stat_in, stat_name, stat_text};
+use cover_rules::Stamp;
+use docroot_format::{FileFault, stat_in, stat_name, stat_text};
 use sp_base::Path;
 use sp_outside::Disk;
 use std::alloc::Global;

@@ -1,6 +1,6 @@
 //! A stamp that is written and read.
 use super::*;
-use docroot_format::Stamp;
+use cover_rules::Stamp;
 use sp_base::Path;
 use sp_outside::{Disk, MemDisk};
 use std::test::Fail;

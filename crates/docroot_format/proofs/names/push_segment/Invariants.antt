@@ -1,5 +1,5 @@
 use Rattle.std.proofs.Common.{◌≡◌, ◌++◌, string_bytes, take, flat_map}
-use Rattle.docroot_format.specs.Names.{file_byte}
+use Rattle.cover_rules.specs.Names.{file_byte}
 use Rattle.docroot_format.proofs.names.push_segment.Given as goal
 
 abbrev pub invariant-loop-b : goal.invariant-loop-b

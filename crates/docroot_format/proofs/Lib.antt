@@ -2,3 +2,4 @@ pub mod Digits
 pub mod NameLemmas
 pub mod NameSizes
 pub mod MediaTypes
+pub mod PagePlaces

@@ -1,0 +1,71 @@
+-- A path at which a page may be has file names for all its segments.
+use Rattle.std.proofs.Common.{◌≡◌, ◌<◌, ◌-◌, ◌&&◌, ℕ, zero, suc, Bool, true, false, List, [], ◌∷◌, Option, Some, None, IsTrue, length, take, get_or, cond, refl, sym, ◌∙◌, ap, subst, arith, nat_lt}
+use Rattle.std.specs.List.{list_all}
+use Rattle.std.specs.Prelude.{slice_get, unwrap_or, not}
+use Rattle.std.proofs.lemmas.Bool.{true≢false}
+use Rattle.std.proofs.lemmas.Bool.Decides.{nat_tests}
+use Rattle.std.proofs.lemmas.Option.{unwrap_or-slice_get}
+use Rattle.sp_base.specs.Paths.{mangled, parent_of}
+use Rattle.cover_rules.specs.declared.page.PageKey.{PageKey}
+use Rattle.cover_rules.specs.Names.{has_name}
+use Rattle.cover_rules.specs.Pages.{has_dot, is_file, is_page, key_at, last_segment, page_key_of}
+use Rattle.docroot_format.specs.Names.{have_names, is_place}
+
+first_of : (a b : Bool) → a && b ≡ true → a ≡ true
+first_of true b e = refl
+first_of false b e = absurd (true≢false (sym e))
+
+second_of : (a b : Bool) → a && b ≡ true → b ≡ true
+second_of true b e = e
+second_of false b e = absurd (true≢false (sym e))
+
+both : (a b : Bool) → a ≡ true → b ≡ true → a && b ≡ true
+both a b ea eb = ap (λ x. x && b) ea ∙ eb
+
+all_taken : (p : List ℕ → Bool) (segs : List (List ℕ)) (n : ℕ) → list_all p segs ≡ true → list_all p (take n segs) ≡ true
+all_taken p [] zero e = refl
+all_taken p [] (suc n) e = refl
+all_taken p (seg ∷ segs) zero e = refl
+all_taken p (seg ∷ segs) (suc n) e = both (p seg) (list_all p (take n segs)) (first_of (p seg) (list_all p segs) e) (all_taken p segs n (second_of (p seg) (list_all p segs) e))
+
+at_place : (p : List ℕ → Bool) (segs : List (List ℕ)) (n : ℕ) → n < length segs → list_all p segs ≡ true → p (get_or segs n []) ≡ true
+at_place p [] n lt e = absurd (omega (arith, lt))
+at_place p (seg ∷ segs) zero lt e = first_of (p seg) (list_all p segs) e
+at_place p (seg ∷ segs) (suc n) lt e = at_place p segs n (omega (arith, lt)) (second_of (p seg) (list_all p segs) e)
+
+-- a segment with a dot isn't empty, so the path isn't
+some_bytes : (seg : List ℕ) → has_dot seg ≡ true → nat_lt 0 (length seg) ≡ true
+some_bytes [] e = absurd (true≢false (sym e))
+some_bytes (b ∷ seg) e = grind (arith, nat_tests)
+
+some_segments : (segs : List (List ℕ)) → has_dot (last_segment segs) ≡ true → length segs - 1 < length segs
+some_segments [] e = absurd (true≢false (sym e))
+some_segments (seg ∷ segs) e = omega arith
+
+place_of_page : (segs : List (List ℕ)) → is_page segs ≡ true → is_place (parent_of segs) (last_segment segs) ≡ true
+place_of_page segs e =
+    let file = first_of (is_file (last_segment segs)) _ e in
+    let dot = first_of (has_dot (last_segment segs)) _ file in
+    let all : list_all has_name segs ≡ true = second_of (list_all (λ seg. not (has_dot seg)) (parent_of segs)) (list_all has_name segs) (second_of (is_file (last_segment segs)) _ e) in
+    let last : has_name (last_segment segs) ≡ true =
+    ap has_name (unwrap_or-slice_get segs (length segs - 1) []) ∙ at_place has_name segs (length segs - 1) (some_segments segs dot) all in
+    both (have_names (parent_of segs)) _ (all_taken has_name segs (length segs - 1) all) (both (has_name (last_segment segs)) _ last (some_bytes (last_segment segs) dot))
+
+abbrev place_in : Option PageKey → Bool
+place_in None = true
+place_in (Some key) = is_place key.folder key.file
+
+abbrev is_there : Option PageKey → Bool
+is_there None = false
+is_there (Some key) = true
+
+from_key : (segs : List (List ℕ)) (key : PageKey) (test : Bool) → is_page segs ≡ test → cond test (Some (record { folder = parent_of segs; file = last_segment segs })) None ≡ Some key → is_place key.folder key.file ≡ true
+from_key segs key true page e = subst (λ (o : Option PageKey). place_in o ≡ true) e (place_of_page segs page)
+from_key segs key false page e = absurd (true≢false (sym (ap is_there e)))
+
+pub page_has_place : (path : List (List ℕ)) (key : PageKey) → page_key_of path ≡ Some key → is_place key.folder key.file ≡ true
+unfolding key_at
+page_has_place path key e = from_key (mangled path) key (is_page (mangled path)) refl e
+
+pub page_has_folder : (path : List (List ℕ)) (key : PageKey) → page_key_of path ≡ Some key → have_names key.folder ≡ true
+page_has_folder path key e = first_of (have_names key.folder) _ (page_has_place path key e)

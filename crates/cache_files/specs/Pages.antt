@@ -23,9 +23,9 @@ pub record IsStorable (answer : Answer) : Type 0 where
 -- the page that a head and a body make, where the body has the head's length
 abbrev pub page_of : HeadLine → List ℕ → Option Page
 page_of head body = if length body == head.size then Some (record {
-    stamp = record { epoch = head.epoch; count = head.count };
-    answer = record { status = 200; kind = head.kind; location = []; mark = Plain; body = body };
-  }) else None
+  stamp = record { epoch = head.epoch; count = head.count };
+  answer = record { status = 200; kind = head.kind; location = []; mark = Plain; body = body };
+}) else None
 
 -- the page that the files hold for a key: one whose head is of the form, and whose body has the length that the head says
 abbrev pub page_at : Files → PageKey → Option Page

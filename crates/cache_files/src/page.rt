@@ -22,7 +22,13 @@ pub struct Page {
 
 /// Stores a page in place of an older one: takes the old head away, then writes the body, then the head, so that at no moment a head
 /// stands beside another page's body. The texts are made before the first of these.
-pub fn put_page<D: Disk>(alloc: Global, disk: &mut D, key: &PageKey, stamp: Stamp, answer: &Answer) -> Result<(), FileFault>
+pub fn put_page<D: Disk>(
+    alloc: Global,
+    disk: &mut D,
+    key: &PageKey,
+    stamp: Stamp,
+    answer: &Answer,
+) -> Result<(), FileFault>
     requires key { IsKey key.now }
     requires storable { IsStorable answer.now }
     ensures ok { OnOk result (D.files disk.new ≡ with_page (D.files disk.old) (name.head_name key.now.folder key.now.file)
@@ -34,11 +40,29 @@ pub fn put_page<D: Disk>(alloc: Global, disk: &mut D, key: &PageKey, stamp: Stam
     let head = head_name(alloc, &key.folder, key.file.text())?;
     let body = body_name(alloc, &key.folder, key.file.text())?;
     let bytes = answer.body.bytes();
-    let text = head_text(alloc, stamp.epoch, stamp.count, bytes.len(), answer.kind.text())?;
-    put_parts(disk, head.text(), body.text(), bytes, text.text().as_bytes())
+    let text = head_text(
+        alloc,
+        stamp.epoch,
+        stamp.count,
+        bytes.len(),
+        answer.kind.text(),
+    )?;
+    put_parts(
+        disk,
+        head.text(),
+        body.text(),
+        bytes,
+        text.text().as_bytes(),
+    )
 }
 
-fn put_parts<D: Disk>(disk: &mut D, head: &str, body: &str, bytes: &[u8], text: &[u8]) -> Result<(), FileFault>
+fn put_parts<D: Disk>(
+    disk: &mut D,
+    head: &str,
+    body: &str,
+    bytes: &[u8],
+    text: &[u8],
+) -> Result<(), FileFault>
     requires head { IsName head.now }
     requires body { IsName body.now }
     ensures ok { OnOk result (D.files disk.new ≡ with_page (D.files disk.old) head.now body.now bytes.now text.now) }
@@ -53,7 +77,11 @@ fn put_parts<D: Disk>(disk: &mut D, head: &str, body: &str, bytes: &[u8], text: 
 
 /// The page of a key. There is none where its head is missing or of another form, or its body is missing or of another length. The head
 /// is read first.
-pub fn get_page<D: Disk>(alloc: Global, disk: &mut D, key: &PageKey) -> Result<Option<Page>, FileFault>
+pub fn get_page<D: Disk>(
+    alloc: Global,
+    disk: &mut D,
+    key: &PageKey,
+) -> Result<Option<Page>, FileFault>
     requires { IsKey key.now }
     ensures value { IfOk result (λ page. IfSome (D.files disk.old) (λ files. page ≡ page_at files key.now)) }
     ensures same { D.files disk.new ≡ D.files disk.old }

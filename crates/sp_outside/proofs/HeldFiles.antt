@@ -37,7 +37,7 @@ named_insert : (key : String Global) (bytes : List ℕ) (held : Held) → named 
 named_insert key bytes [] = refl
 named_insert key bytes (e ∷ held) =
     elim (string_cmp key e.0) as (λ o. named (match_ordering o ((key, bytes) ∷ e ∷ held) ((e.0, bytes) ∷ held) (e ∷ insert_entry string_cmp held key bytes))
-        ≡ by_order o ((string_bytes key, bytes) ∷ named (e ∷ held)) ((string_bytes e.0, bytes) ∷ named held) ((string_bytes e.0, e.1) ∷ put by_name (string_bytes key) bytes (named held))) [
+    ≡ by_order o ((string_bytes key, bytes) ∷ named (e ∷ held)) ((string_bytes e.0, bytes) ∷ named held) ((string_bytes e.0, e.1) ∷ put by_name (string_bytes key) bytes (named held))) [
       | Less ↦ refl
       | Equal ↦ refl
       | Greater ↦ ap (λ rest. (string_bytes e.0, e.1) ∷ rest) (named_insert key bytes held)
@@ -68,7 +68,7 @@ named_without : (name : List ℕ) (held : Held) → named (remove_entry (is_key 
 named_without name [] = refl
 named_without name (e ∷ held) =
     elim (is_key name e.0) as (λ b. named (cond b held (e ∷ remove_entry (is_key name) held))
-        ≡ cond b (named held) ((string_bytes e.0, e.1) ∷ remove_entry (eq_by_cmp by_name name) (named held))) [
+    ≡ cond b (named held) ((string_bytes e.0, e.1) ∷ remove_entry (eq_by_cmp by_name name) (named held))) [
       | true ↦ refl
       | false ↦ ap (λ rest. (string_bytes e.0, e.1) ∷ rest) (named_without name held)
     ]
@@ -94,7 +94,7 @@ held_without name held rising = same_map nat_list_cmp_total same_name _ _ (λ q.
     ∙ ap (find by_name q) (named_without name held)
     ∙ find_is q (remove_entry (eq_by_cmp by_name name) (named held))
     ∙ lookup-remove_entry (eq_by_cmp_equiv nat_list_cmp_total) (eq_by_cmp by_name name) (one_name name) q (named held)
-        (IsDistinct-from_sorted by_name (keys_of (named held)) (names_rise held rising))
+    (IsDistinct-from_sorted by_name (keys_of (named held)) (names_rise held rising))
     ∙ ap (λ b. cond b None (lookup (eq_by_cmp by_name q) (named held))) ((eq_by_cmp_equiv nat_list_cmp_total).symm name q)
     ∙ ap (cond (eq_by_cmp by_name q name) None) (sym (find_is q (named held)) ∙ sym (get-from_entries nat_list_cmp_total (named held) q))
     ∙ sym (get-remove nat_list_cmp_total (files_of held) name q))

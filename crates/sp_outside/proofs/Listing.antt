@@ -63,7 +63,7 @@ entries_held : (held : Held) → IsStrictlySortedBy string_cmp (keys_of held) �
 entries_held held rising =
     let sorted = sorted_named held rising in
     ap entries (same_map nat_list_cmp_total same_name (files_of held) (from_sorted (named held)) (λ q.
-        get-from_entries nat_list_cmp_total (named held) q ∙ sym (get-from_sorted by_name (named held) q sorted)))
+    get-from_entries nat_list_cmp_total (named held) q ∙ sym (get-from_sorted by_name (named held) q sorted)))
     ∙ entries-from_sorted by_name (named held) sorted
 
 named_names : (held : Held) → map (λ e. e.0) (named held) ≡ names_of held
@@ -93,12 +93,12 @@ ranged prefix key (e ∷ held) =
     let rest = filter (in_range key) held in
     let so_far = ranged prefix key held in
     elim (is_lt (string_cmp key e.0)) as (λ l. cond (has_prefix prefix name && l) (name ∷ left) left
-        ≡ filter (has_prefix prefix) (names_of (cond (l && not false) (e ∷ rest) rest))) [
+    ≡ filter (has_prefix prefix) (names_of (cond (l && not false) (e ∷ rest) rest))) [
       | true ↦ elim (has_prefix prefix name) as (λ p. cond (p && true) (name ∷ left) left
           ≡ cond p (name ∷ filter (has_prefix prefix) (names_of rest)) (filter (has_prefix prefix) (names_of rest))) [
-        | true ↦ ap (λ names. name ∷ names) so_far
-        | false ↦ so_far
-      ]
+            | true ↦ ap (λ names. name ∷ names) so_far
+            | false ↦ so_far
+          ]
       | false ↦ elim (has_prefix prefix name) as (λ p. cond (p && false) (name ∷ left) left ≡ filter (has_prefix prefix) (names_of rest)) [
         | true ↦ so_far
         | false ↦ so_far

@@ -62,7 +62,13 @@ pub trait Disk {
         ensures cause { HasDiskCause (faults self.old) (faults self.new) result };
 
     /// The first names, at most `most`, that begin with a prefix and are greater than `after`, in the order of their bytes.
-    fn list(&mut self, alloc: Global, prefix: &str, after: &str, most: usize) -> Result<NameList, DiskFault>
+    fn list(
+        &mut self,
+        alloc: Global,
+        prefix: &str,
+        after: &str,
+        most: usize,
+    ) -> Result<NameList, DiskFault>
         ensures names { IfOk result (IsListing prefix.now after.now most) }
         ensures value { IfOk result (λ names. IfSome (files self.old) (λ held. names ≡ take most (names_after held prefix.now after.now))) }
         ensures same { files self.new ≡ files self.old }

@@ -28,11 +28,12 @@ fn lists_names(rt: HostRuntime) -> Result<(), Fail> {
     for name in ["a/x", "b", "a/y", "a/z"] {
         assert_eq!(rt; disk.put(name, b""), Ok(()));
     }
-    let Ok(names) = disk.list(rt.alloc(), "a/", "a/x", 1) else {
-        return Err(Fail);
-    };
-    assert_eq!(rt; names.len(), 1);
-    assert!(rt; matches!(names.get(0), Some(name) if name.text() == "a/y"));
+    let listed = disk.list(rt.alloc(), "a/", "a/x", 1);
+    assert!(rt; listed.is_ok());
+    if let Ok(names) = listed {
+        assert_eq!(rt; names.len(), 1);
+        assert!(rt; matches!(names.get(0), Some(name) if name.text() == "a/y"));
+    }
     Ok(())
 }
 

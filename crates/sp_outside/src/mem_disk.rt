@@ -246,7 +246,13 @@ impl Disk for MemDisk {
         }
     }
 
-    fn list(&mut self, alloc: Global, prefix: &str, after: &str, most: usize) -> Result<NameList, DiskFault>
+    fn list(
+        &mut self,
+        alloc: Global,
+        prefix: &str,
+        after: &str,
+        most: usize,
+    ) -> Result<NameList, DiskFault>
         ensures fails { IsPlanned self.old.plan result }
         ensures after { self.new ≡ read_after self.old result }
 

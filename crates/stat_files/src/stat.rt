@@ -14,7 +14,12 @@ use sp_outside::Disk;
 use std::alloc::Global;
 
 /// Gives a folder a stamp. Each segment of the folder has a file name of at most 200 bytes.
-pub fn touch<D: Disk>(alloc: Global, disk: &mut D, folder: &Path, stamp: Stamp) -> Result<(), FileFault>
+pub fn touch<D: Disk>(
+    alloc: Global,
+    disk: &mut D,
+    folder: &Path,
+    stamp: Stamp,
+) -> Result<(), FileFault>
     requires { IsTrue (have_names folder.now) }
     ensures ok { OnOk result (D.files disk.new ≡ told_with (D.files disk.old) (name.stat_name folder.now) (text.stat_text stamp.epoch stamp.count)) }
     ensures err { IfErr result (IsLeft (D.files disk.old) (told_with (D.files disk.old) (name.stat_name folder.now) (text.stat_text stamp.epoch stamp.count)) (D.files disk.new)) }
@@ -42,7 +47,11 @@ fn stamp_in(bytes: &[u8]) -> Stamp
 
 /// The stamp of a folder, or None where it has no .stat file. A .stat file of another form has the greatest stamp, so that it
 /// outdates every page.
-pub fn stamp_of<D: Disk>(alloc: Global, disk: &mut D, folder: &Path) -> Result<Option<Stamp>, FileFault>
+pub fn stamp_of<D: Disk>(
+    alloc: Global,
+    disk: &mut D,
+    folder: &Path,
+) -> Result<Option<Stamp>, FileFault>
     requires { IsTrue (have_names folder.now) }
     ensures value { IfOk result (λ stamp. IfSome (D.files disk.old) (λ files. stamp ≡ stamp_at files folder.now)) }
     ensures same { D.files disk.new ≡ D.files disk.old }

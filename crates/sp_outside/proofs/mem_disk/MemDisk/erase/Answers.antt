@@ -13,15 +13,15 @@ pub invariant_of-self : goal.invariant_of-self
 invariant_of-self c = record {
   rising = c.remove.ensures.ordered;
   sizes = subst (λ (held : Held). All (λ key. IsName (string_bytes key)) (keys_of held)) (sym c.remove.ensures.entries)
-    (All-map-remove_entry (is_key c.args.name.now) (λ e. e.0) (λ key. IsName (string_bytes key)) c.self.inside.files.entries c.self.invariant.sizes);
+      (All-map-remove_entry (is_key c.args.name.now) (λ e. e.0) (λ key. IsName (string_bytes key)) c.self.inside.files.entries c.self.invariant.sizes);
 }
 
 pub returns : goal.returns
 returns c =
     let held = c.self.inside.files.entries in
     let files = ap files_of c.remove.ensures.entries
-        ∙ held_without c.args.name.now held c.self.invariant.rising
-        ∙ ap (λ (s : DiskState). without_file s.files c.args.name.now) c.self.view_is in
+    ∙ held_without c.args.name.now held c.self.invariant.rising
+    ∙ ap (λ (s : DiskState). without_file s.files c.args.name.now) c.self.view_is in
     λ i. record {
       files = files i;
       plan = (ap (λ (s : DiskState). s.plan) c.self.view_is) i;

@@ -18,7 +18,7 @@ loop-name-preserved-in_ok-push c =
     let names = c.loop-name.names in
     let name = string_bytes c.in-Some.name.now in
     let has : has_prefix prefix name ≡ true = ap (has_prefix prefix) (sym c.deref.ensures)
-        ∙ sym (starts_text c.starts_with.result prefix c.deref.result.now c.starts_with.ensures.cases) ∙ c.if-starts_with.true in
+    ∙ sym (starts_text c.starts_with.result prefix c.deref.result.now c.starts_with.ensures.cases) ∙ c.if-starts_with.true in
     let grown : c.push.new.self ≡ names ++ name ∷ [] = c.in_ok-push.ensures.ok ∙ ap (λ n. names ++ n ∷ []) (c.in_ok-of.ensures ∙ c.as_str.ensures.value) in
     record {
       names = grown ∙ sym (one_more prefix c.loop-name.yielded (c.in-Some.name, c.in-Some.field-0-1) names c.loop-name.invariant.names
@@ -33,7 +33,7 @@ loop-name-preserved c =
     let names = c.loop-name.names in
     let name = string_bytes c.in-Some.name.now in
     let has : has_prefix prefix name ≡ false = ap (has_prefix prefix) (sym c.deref.ensures)
-        ∙ sym (starts_text c.starts_with.result prefix c.deref.result.now c.starts_with.ensures.cases) ∙ c.if-starts_with.false in
+    ∙ sym (starts_text c.starts_with.result prefix c.deref.result.now c.starts_with.ensures.cases) ∙ c.if-starts_with.false in
     record {
       names = sym (one_more prefix c.loop-name.yielded (c.in-Some.name, c.in-Some.field-0-1) names c.loop-name.invariant.names
           ∙ ap (λ b. cond b (names ++ name ∷ []) names) has);

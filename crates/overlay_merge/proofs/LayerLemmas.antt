@@ -101,10 +101,10 @@ descends_on tree all layers more next below layer so_far is room new below_is mo
     let e : 32 - length layers ≡ suc (32 - length (layers ++ layer ∷ [])) = omega (arith, room, size) in
     let few : length (layers ++ layer ∷ []) ≤ 32 = omega (arith, room, size) in
     let rest : (layers ++ layer ∷ []) ++ descent tree (32 - length (layers ++ layer ∷ [])) (layers ++ layer ∷ []) (layer_below tree layer.path) ≡ all =
-        append_assoc layers (layer ∷ []) _
-        ∙ ap (λ l. layers ++ l) (sym (ap (λ n. descent tree n layers next) e ∙ ap (descent tree (suc (32 - length (layers ++ layer ∷ []))) layers) is
-        ∙ descent-new tree (32 - length (layers ++ layer ∷ [])) layers layer new))
-        ∙ so_far.rest in
+    append_assoc layers (layer ∷ []) _
+    ∙ ap (λ l. layers ++ l) (sym (ap (λ n. descent tree n layers next) e ∙ ap (descent tree (suc (32 - length (layers ++ layer ∷ []))) layers) is
+    ∙ descent-new tree (32 - length (layers ++ layer ∷ [])) layers layer new))
+    ∙ so_far.rest in
     let at : Descends tree all (layers ++ layer ∷ []) (layer_below tree layer.path) = record { few = few; rest = rest } in
     subst (λ (o : Option Layer). Descends tree all more o) (sym below_is) (subst (λ (l : List Layer). Descends tree all l (layer_below tree layer.path)) (sym more_is) at)
 

@@ -5,3 +5,4 @@ pub mod PropertyLemmas
 pub mod KidLemmas
 pub mod MergedLemmas
 pub mod ReachLemmas
+pub mod LawLemmas

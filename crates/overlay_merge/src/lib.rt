@@ -3,15 +3,21 @@
 
 mod hiding;
 mod kids;
+mod laws;
 mod layers;
 mod merging;
 mod order;
 mod properties;
 mod reach;
 mod roots;
+#[cfg(test)]
+mod tests;
 mod uncut;
 mod view;
 
+pub use laws::{
+    a_cut_layer_is_left_out, each_kid_is_there, elsewhere_the_node_is_seen, wishes_only_reorder,
+};
 pub use layers::Layer;
 pub use merging::{has_resource, merged, merged_kids};
 pub use view::MergedView;

@@ -74,12 +74,7 @@ fn move_by(names: &mut Vec<TextBuf>, name: &str, wish: Option<&TextBuf>) -> Mem<
 }
 
 // The name before which a kid of a layer wishes to stand.
-fn wish_of<'a>(
-    alloc: Global,
-    tree: &'a Tree,
-    path: &Path,
-    name: &str,
-) -> Mem<Option<&'a TextBuf>>
+fn wish_of<'a>(alloc: Global, tree: &'a Tree, path: &Path, name: &str) -> Mem<Option<&'a TextBuf>>
     ensures { IfOk result (λ o. option_copied o ≡ wish_at tree.now (kid path.now name.now)) }
 {
     // `len` says that each node's path is one.

@@ -28,9 +28,10 @@ loop-k-preserved c =
     let path = c.args.path.now in
     let k = c.loop-k.k in
     let at : node_at tree (take k path) ≡ Some c.in-Some.node.now = ap (node_at tree) (sym c.in_ok-first.ensures) ∙ sym c.in-Some.ensures in
-    let within : k < length path = omega (arith, c.loop-k-test.true, c.depth-depth.ensures.depth) in
-    (resource_next tree path k c.loop-k.resource c.latest-resource.result c.in-Some.node.now c.hides_resource.result at c.loop-k.invariant.0 c.hides_resource.ensures c.latest-resource.ensures,
-    kid_next tree path k c.loop-k.kid c.latest-kid.result c.in-Some.node.now c.hides_next.result at c.loop-k.invariant.1 (c.hides_next.ensures within) c.latest-kid.ensures)
+    let within : k < length path = omega (arith, c.loop-k-test.true, c.depth-depth.ensures.depth) in (
+      resource_next tree path k c.loop-k.resource c.latest-resource.result c.in-Some.node.now c.hides_resource.result at c.loop-k.invariant.0 c.hides_resource.ensures c.latest-resource.ensures,
+      kid_next tree path k c.loop-k.kid c.latest-kid.result c.in-Some.node.now c.hides_next.result at c.loop-k.invariant.1 (c.hides_next.ensures within) c.latest-kid.ensures,
+    )
 
 pub returns-in-Some-node : goal.returns-in-Some-node
 returns-in-Some-node c =

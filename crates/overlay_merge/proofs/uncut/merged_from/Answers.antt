@@ -16,5 +16,5 @@ pub returns-clause-nodes : goal.returns-clause-nodes
 returns-clause-nodes c =
     let tree = c.args.tree.now in
     let is = merged_from-is tree c.args.path.now c.in_ok-layers.layers.items c.in_ok-screened.screened.items c.in_ok-list.list.items c.depth.ensures.valid c.in_ok-layers.ensures c.in_ok-screened.ensures
-        (c.in_ok-list.ensures ∙ ap (unscreened_of tree) c.deref.ensures.value) in
+    (c.in_ok-list.ensures ∙ ap (unscreened_of tree) c.deref.ensures.value) in
     subst (λ (l : List Resource). AreNodesOf tree l) (sym is) (are_nodes_merged tree c.args.path.now)

@@ -1,3 +1,4 @@
+//! Which pages an invalidation covers.
 ghost use Rattle.std.specs.Prelude.{◌≡◌, ◌≤◌, ◌==◌, ◌&&◌, ◌||◌, [], codes, length, nat_eq, not, take};
 ghost use Rattle.std.specs.List.{starts_with};
 ghost use Rattle.sp_base.specs.Paths.{is_under, parent_of};
@@ -43,6 +44,7 @@ fn deletes(inv: &Invalidation, key: &PageKey) -> bool
 {
     segments_and_their_spelling();
     let depth = inv.handle.depth();
+    // The law speaks of paths, and that the folder is one is a clause of its depth.
     let _folder_depth = key.folder.depth();
     let below = takes_below(inv.action);
     match after(&inv.handle, depth, key) {
@@ -78,6 +80,7 @@ fn outdates_folder(depth: usize, inv: &Invalidation, key: &PageKey) -> bool
     ensures { result ≡ is_under (parent_of (spec.handle_of inv.now)) (take depth key.now.folder) }
 {
     segments_and_their_spelling();
+    // The law speaks of paths, and that the folder is one is a clause of its depth.
     let _folder_depth = key.folder.depth();
     if depth > inv.handle.depth().saturating_sub(1) {
         return false;

@@ -1,3 +1,4 @@
+//! What an invalidation asks for.
 ghost use Rattle.std.specs.Prelude.{◌≡◌, IfOk};
 
 use sp_base::{Mem, Path};

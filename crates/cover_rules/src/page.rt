@@ -1,3 +1,4 @@
+//! Where a page stands in the cache.
 ghost use Rattle.std.specs.Prelude.{◌≡◌, ◌&&◌, ◌==◌, ◌-◌, IfOk, length, not, slice_index};
 ghost use Rattle.std.specs.List.{list_all};
 ghost use Rattle.cover_rules.specs.Names as name;

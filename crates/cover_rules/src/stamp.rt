@@ -1,3 +1,4 @@
+//! Stamps, in place of the times of files.
 /// When something happened, in place of a file's time: in which session of the Dispatcher, and as the how manieth draw in it. Stamps
 /// are ordered by the epoch, then by the count.
 #[derive(Clone, Copy, PartialEq, Eq, PartialOrd, Ord, Debug, Drop)]

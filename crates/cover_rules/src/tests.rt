@@ -1,3 +1,4 @@
+//! Worked rows, through the public calls.
 use super::*;
 use sp_base::{Path, PathFault};
 use std::alloc::Global;

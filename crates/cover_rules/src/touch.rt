@@ -1,3 +1,4 @@
+//! Which .stat files an invalidation touches.
 ghost use Rattle.std.specs.Prelude.{◌≡◌, IfOk, take};
 ghost use Rattle.std.specs.List.{prefix_len, take_while};
 ghost use Rattle.sp_base.specs.Paths.{mangled};
@@ -28,6 +29,7 @@ fn named(alloc: Global, path: &Path, most: usize) -> Mem<Path>
 {
     mangling_and_unmangling();
     let first = path.first(alloc, name_count(path, most))?;
+    // The law speaks of paths, and that this is one is a clause of its depth.
     let _depth = first.depth();
     match first.mangled(alloc) {
         Ok(mangled) => Ok(mangled),

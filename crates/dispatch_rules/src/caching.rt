@@ -1,3 +1,4 @@
+//! Which answers may be kept, and under which key.
 ghost use Rattle.std.specs.Prelude.{◌≡◌, [], IfOk, codes, is_none, nat_eq, unwrap_or};
 ghost use Rattle.std.specs.Cmp.Lexicographic.{pointwise};
 ghost use Rattle.glob_rules.specs.Rules as rules;

@@ -1,3 +1,4 @@
+//! Worked rows of a farm, through the public calls.
 use super::*;
 use any_config::{Farm, farm_of, read_any};
 use cover_rules::page_key;

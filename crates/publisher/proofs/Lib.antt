@@ -2,7 +2,6 @@ pub mod PhraseLemmas
 pub mod DepthLemmas
 pub mod ChoiceLemmas
 pub mod RenderingLemmas
-pub mod ReachLemmas
 pub mod ScriptLaw
 pub mod KeptLemmas
 pub mod StatusLemmas

@@ -6,7 +6,7 @@ use Rattle.sp_base.specs.declared.answer.Answer.{Answer}
 use Rattle.sp_base.specs.declared.answer.Ask.{Ask}
 use Rattle.sp_base.specs.declared.answer.Mark.{Mark}
 use Rattle.resource_tree.specs.Content.{Content}
-use Rattle.resource_tree.specs.Seen.{Resource, Seen, res_at}
+use Rattle.resource_tree.specs.Seen.{Resource, Seen}
 use Rattle.url_split.specs.declared.decompose.Parts.{Parts}
 use Rattle.url_split.specs.Split.{split_of}
 use Rattle.htl_text.specs.Template.{template_output as written_by}
@@ -21,7 +21,8 @@ use Rattle.publisher.specs.declared.templates.Reading.TheVariants.{Parsed, Refus
 use Rattle.publisher.specs.Readings.{reading_of}
 use Rattle.publisher.specs.Errors.{answer_of, error_answer}
 use Rattle.publisher.specs.Depths.{depth_of}
-use Rattle.publisher.specs.Rendering.{is_read, mark_of, most_bytes, representation_of, json_representation, json_to_depth, file_representation, is_json, is_bare, default_answer, script_for, scope_of, script_representation, answer_by, resource_answer, split_answer, has_node, rendered}
+use Rattle.overlay_merge.specs.Merged.{has_resource}
+use Rattle.publisher.specs.Rendering.{seen, is_read, mark_of, most_bytes, representation_of, json_representation, json_to_depth, file_representation, is_json, is_bare, default_answer, script_for, scope_of, script_representation, answer_by, resource_answer, split_answer, rendered}
 
 -- ---- a representation isn't too long
 
@@ -74,16 +75,16 @@ by_fits None seen parts res = default_fits seen parts res
 
 resource_fits : (tree : Content) (parts : Parts) (res : Option Resource) → Fits (resource_answer tree parts res)
 resource_fits tree parts None = missing_fits
-resource_fits tree parts (Some res) = by_fits (script_for tree parts res) (res_at tree) parts res
+resource_fits tree parts (Some res) = by_fits (script_for tree parts res) (seen tree) parts res
 
 found_fits : (tree : Content) (parts : Option Parts) → Fits (split_answer tree parts)
 found_fits tree None = missing_fits
-found_fits tree (Some parts) = resource_fits tree parts (res_at tree parts.path)
+found_fits tree (Some parts) = resource_fits tree parts (seen tree parts.path)
 
 pub rendered_fits : (tree : Content) (ask : Ask) → (rendered tree ask).status ≡ 200 → length (rendered tree ask).body ≤ 4194304
 unfolding rendered
 rendered_fits tree ask =
-    either (is_read ask.method) _ _ (found_fits tree (split_of (has_node tree) (text_of ask.path)))
+    either (is_read ask.method) _ _ (found_fits tree (split_of (has_resource tree) (text_of ask.path)))
     (error_fits 405 (λ h. absurd (omega (arith, h))))
 
 -- ---- the path alone counts
@@ -91,5 +92,5 @@ rendered_fits tree ask =
 pub same_reading : (tree : Content) (a b : Ask) → is_read a.method ≡ true → is_read b.method ≡ true → a.path ≡ b.path → rendered tree a ≡ rendered tree b
 unfolding rendered
 same_reading tree a b first second same =
-    let page = λ (path : List (List ℕ)). split_answer tree (split_of (has_node tree) (text_of path)) in
+    let page = λ (path : List (List ℕ)). split_answer tree (split_of (has_resource tree) (text_of path)) in
     ap (λ t. cond t (page a.path) (error_answer 405)) first ∙ ap page same ∙ sym (ap (λ t. cond t (page b.path) (error_answer 405)) second)

@@ -5,7 +5,7 @@ use Rattle.sp_base.specs.declared.answer.Answer.{Answer}
 use Rattle.sp_base.specs.declared.answer.Ask.{Ask}
 use Rattle.sp_base.specs.declared.answer.Mark.{Mark}
 use Rattle.resource_tree.specs.Content.{Content}
-use Rattle.resource_tree.specs.Seen.{Resource, Seen, res_at}
+use Rattle.resource_tree.specs.Seen.{Resource, Seen}
 use Rattle.url_split.specs.declared.decompose.Parts.{Parts}
 use Rattle.url_split.specs.Split.{split_of}
 use Rattle.htl_text.specs.Template.{template_output as written_by}
@@ -20,7 +20,8 @@ use Rattle.publisher.specs.declared.templates.Reading.TheVariants.{Parsed, Refus
 use Rattle.publisher.specs.Readings.{reading_of}
 use Rattle.publisher.specs.Errors.{answer_of, error_answer}
 use Rattle.publisher.specs.Depths.{depth_of}
-use Rattle.publisher.specs.Rendering.{is_read, mark_of, most_bytes, representation_of, json_representation, json_to_depth, file_representation, is_json, is_bare, default_answer, script_for, scope_of, script_representation, answer_by, resource_answer, split_answer, has_node, rendered}
+use Rattle.overlay_merge.specs.Merged.{has_resource}
+use Rattle.publisher.specs.Rendering.{seen, is_read, mark_of, most_bytes, representation_of, json_representation, json_to_depth, file_representation, is_json, is_bare, default_answer, script_for, scope_of, script_representation, answer_by, resource_answer, split_answer, rendered}
 
 abbrev Short : Answer → Type 0
 Short a = a.status < 1000
@@ -67,16 +68,16 @@ by_short None seen parts res = default_short seen parts res
 
 resource_short : (tree : Content) (parts : Parts) (res : Option Resource) → Short (resource_answer tree parts res)
 resource_short tree parts None = missing_short
-resource_short tree parts (Some res) = by_short (script_for tree parts res) (res_at tree) parts res
+resource_short tree parts (Some res) = by_short (script_for tree parts res) (seen tree) parts res
 
 split_short : (tree : Content) (parts : Option Parts) → Short (split_answer tree parts)
 split_short tree None = missing_short
-split_short tree (Some parts) = resource_short tree parts (res_at tree parts.path)
+split_short tree (Some parts) = resource_short tree parts (seen tree parts.path)
 
 pub rendered_short : (tree : Content) (ask : Ask) → (rendered tree ask).status < 1000
 unfolding rendered
 rendered_short tree ask =
-    either (is_read ask.method) _ _ (split_short tree (split_of (has_node tree) (text_of ask.path))) (error_short 405 (omega arith))
+    either (is_read ask.method) _ _ (split_short tree (split_of (has_resource tree) (text_of ask.path))) (error_short 405 (omega arith))
 
 pub errors_short : (status : ℕ) → (error_answer status).status ≡ status
 unfolding error_answer

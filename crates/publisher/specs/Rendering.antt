@@ -1,5 +1,5 @@
 -- What the publisher answers: the first of these that applies.
-use Rattle.std.specs.Prelude.{◌==◌, ◌&&◌, ◌||◌, ℕ, Bool, nat_eq, nat_le, if◌then◌else◌, is_some, List, Option, Some, None, option_and_then, codes, length}
+use Rattle.std.specs.Prelude.{◌==◌, ◌&&◌, ◌||◌, ℕ, Bool, nat_eq, nat_le, if◌then◌else◌, List, Option, Some, None, option_and_then, codes, length}
 use Rattle.std.specs.Cmp.Lexicographic.{pointwise}
 use Rattle.sp_base.specs.Paths.{text_of}
 use Rattle.sp_base.specs.Properties.{text_in}
@@ -7,8 +7,9 @@ use Rattle.sp_base.specs.declared.answer.Answer.{Answer}
 use Rattle.sp_base.specs.declared.answer.Ask.{Ask}
 use Rattle.sp_base.specs.declared.answer.Mark.{Mark}
 use Rattle.sp_base.specs.declared.answer.Mark.TheVariants.{Plain, NoCache, NoStore, MustRevalidate}
-use Rattle.resource_tree.specs.Content.{Content, node_at, name_of}
-use Rattle.resource_tree.specs.Seen.{Resource, Seen, res_at}
+use Rattle.resource_tree.specs.Content.{Content, name_of}
+use Rattle.resource_tree.specs.Seen.{Resource, Seen}
+use Rattle.overlay_merge.specs.Merged.{merged, has_resource}
 use Rattle.url_split.specs.declared.decompose.Parts.{Parts}
 use Rattle.url_split.specs.Split.{split_of}
 use Rattle.type_chain.specs.Chain.{chain_of, type_text}
@@ -108,20 +109,20 @@ abbrev pub answer_by : Option (List ℕ) → Seen → Parts → Resource → Ans
 answer_by (Some text) seen parts res = script_representation res (reading_of text)
 answer_by None seen parts res = default_answer seen parts res
 
+-- what is seen at a path: the merged resource. Types and scripts are looked up among the tree's own nodes.
+abbrev pub seen : Content → Seen
+seen tree = merged tree
+
 -- the answer of what is seen at a path, by the script that ranks first for it
 abbrev pub resource_answer : Content → Parts → Option Resource → Answer
 resource_answer tree parts None = error_answer 404
-resource_answer tree parts (Some res) = answer_by (script_for tree parts res) (res_at tree) parts res
+resource_answer tree parts (Some res) = answer_by (script_for tree parts res) (seen tree) parts res
 
 -- the answer to a path that was taken apart, if it names a resource
 abbrev pub split_answer : Content → Option Parts → Answer
 split_answer tree None = error_answer 404
-split_answer tree (Some parts) = resource_answer tree parts (res_at tree parts.path)
-
--- the tree has a node at the path
-abbrev pub has_node : Content → List (List ℕ) → Bool
-has_node tree path = is_some (node_at tree path)
+split_answer tree (Some parts) = resource_answer tree parts (seen tree parts.path)
 
 -- the answer to a request: another method than GET and HEAD isn't allowed; else the text of the path is taken apart
 unfoldable pub rendered : Content → Ask → Answer
-rendered tree ask = if is_read ask.method then split_answer tree (split_of (has_node tree) (text_of ask.path)) else error_answer 405
+rendered tree ask = if is_read ask.method then split_answer tree (split_of (has_resource tree) (text_of ask.path)) else error_answer 405

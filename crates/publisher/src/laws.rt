@@ -3,7 +3,8 @@ ghost use Rattle.std.specs.Prelude.{◌≡◌, ◌≤◌, ◌<◌, [], ℕ, List
 ghost use Rattle.sp_base.specs.Paths.{text_of};
 ghost use Rattle.sp_base.specs.declared.answer.Ask.{Ask};
 ghost use Rattle.resource_tree.specs.Content.{Content};
-ghost use Rattle.resource_tree.specs.Seen.{Resource, res_at};
+ghost use Rattle.overlay_merge.specs.Merged.{has_resource};
+ghost use Rattle.resource_tree.specs.Seen.{Resource};
 ghost use Rattle.url_split.specs.declared.decompose.Parts.{Parts};
 ghost use Rattle.url_split.specs.Split.{IsSplit};
 ghost use Rattle.type_chain.specs.Chain.{chain_of};
@@ -12,7 +13,7 @@ ghost use Rattle.htl_text.specs.declared.piece.Piece.{Piece};
 ghost use Rattle.htl_text.specs.Spelling.{SpellsTemplate};
 ghost use Rattle.htl_text.specs.Template.{template_output as written_by};
 ghost use Rattle.publisher.specs.Errors.{error_answer};
-ghost use Rattle.publisher.specs.Rendering.{has_node, is_read, rendered, scope_of};
+ghost use Rattle.publisher.specs.Rendering.{is_read, rendered, scope_of, seen};
 
 use htl_text::the_pieces_are_the_text;
 use script_rank::{one_script_is_first, search_finds_the_first};
@@ -38,7 +39,7 @@ pub fn statuses_are_short()
 /// is taken apart into, and the script the one that ranks first for its types.
 pub fn a_script_writes_its_pieces()
     ensures { (tree : Content) (ask : Ask) (parts : Parts) (res : Resource) (script : List (List ℕ)) (text : List ℕ) (pieces : List Piece)
-        → is_read ask.method ≡ true → IsSplit (has_node tree) (text_of ask.path) parts → res_at tree parts.path ≡ Some res
+        → is_read ask.method ≡ true → IsSplit (has_resource tree) (text_of ask.path) parts → seen tree parts.path ≡ Some res
         → IsFirst tree (chain_of tree res.props) parts script → script_text tree script ≡ Some text → SpellsTemplate text pieces []
         → (rendered tree ask).status ≡ 200 → (rendered tree ask).body ≡ written_by (scope_of res) pieces }
 {

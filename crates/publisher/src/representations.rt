@@ -2,10 +2,9 @@
 ghost use Rattle.std.specs.Prelude.{◌≡◌, Some, IfOk};
 ghost use Rattle.get_servlet.specs.Streams.{stream_of};
 ghost use Rattle.publisher.specs.Depths.{depth_of};
-ghost use Rattle.resource_tree.specs.Seen.{res_at};
 ghost use Rattle.script_rank.specs.Ranking.{script_text};
 ghost use Rattle.publisher.specs.Kept.{AreReadings};
-ghost use Rattle.publisher.specs.Rendering.{answer_by, representation_of, json_representation, json_to_depth, file_representation, is_bare, default_answer, resource_answer};
+ghost use Rattle.publisher.specs.Rendering.{answer_by, representation_of, json_representation, json_to_depth, file_representation, is_bare, default_answer, resource_answer, seen};
 
 use crate::choices::choices_text;
 use crate::depths::depth_of;
@@ -14,6 +13,7 @@ use crate::methods::mark_of;
 use crate::scripts::script_representation;
 use crate::templates::{Templates, read};
 use get_servlet::{JsonAnswer, Stream, json_of, stream_of};
+use overlay_merge::MergedView;
 use resource_tree::{Look, Res, Tree};
 use script_rank::{script_of, script_text};
 use sp_base::{Answer, ByteBuf, Mark, Mem, Path, TextBuf};
@@ -101,14 +101,14 @@ fn answer_by_script(
     script: Path,
 ) -> Mem<Answer>
     requires { AreReadings tree.now templates.old }
-    ensures answer { IfOk result (λ a. a ≡ answer_by (script_text tree.now script) (res_at tree.now) parts.now res.now) }
+    ensures answer { IfOk result (λ a. a ≡ answer_by (script_text tree.now script) (seen tree.now) parts.now res.now) }
     ensures kept { AreReadings tree.now templates.new }
 {
     if let Some(reading) = templates.get(&script) {
         return script_representation(alloc, reading, res);
     }
     let Some(text) = script_text(alloc, tree, &script)? else {
-        return default_answer(alloc, tree, parts, res);
+        return default_answer(alloc, &MergedView { tree }, parts, res);
     };
     let reading = read(alloc, text.text())?;
     let answer = script_representation(alloc, &reading, res)?;
@@ -131,6 +131,6 @@ pub(crate) fn resource_answer(
 {
     match script_of(alloc, tree, res.props(), parts)? {
         Some(script) => answer_by_script(alloc, tree, templates, parts, res, script),
-        None => default_answer(alloc, tree, parts, res),
+        None => default_answer(alloc, &MergedView { tree }, parts, res),
     }
 }

@@ -1,6 +1,0 @@
-use Rattle.std.proofs.Common.{◌-◌, length}
-use Rattle.publisher.proofs.ReachLemmas.{NoneFrom}
-use Rattle.publisher.proofs.serving.deepest_node.Given as goal
-
-abbrev pub invariant-loop-missing : goal.invariant-loop-missing
-invariant-loop-missing l = NoneFrom l.tree l.path (length l.path - l.missing)

@@ -26,8 +26,8 @@ const BOUNDARY: &[u8] = b"boundary";
 /// The pairs of a form in their order: a name and a word each.
 pub type Form = Items<(TextBuf, TextBuf)>;
 
-/// Reads a body by its Content-Type, which is empty where there is none. The faults are looked for in the order of the enum, those of
-/// parts from the first on.
+/// Reads a body by its Content-Type, which is empty where there is none. The faults are looked for in the order of the enum; of a
+/// multipart body the first fault in the body is answered.
 pub fn read_form(alloc: Global, kind: &str, body: &[u8]) -> Result<Form, FormFault>
     ensures ok { IfOk result (λ form. form_of kind.now body.now ≡ Ok form) }
     ensures err { IfErr result (λ e. e ≢ FormFault.NoMemory → form_of kind.now body.now ≡ Err e) }

@@ -5,14 +5,11 @@ mod fault;
 mod hints;
 mod naming;
 mod operation;
-mod planning;
 mod spot;
-mod spots;
 mod suffix;
 mod verb;
 mod words;
 
 pub use fault::PlanFault;
 pub use operation::{CarryOp, ModifyOp, NameWish, Op, PropSet, SetList};
-pub use planning::plan;
 pub use spot::{Carry, CarryList, Spot, SpotList};

@@ -16,7 +16,7 @@ fn squeezed(alloc: Global, word: &str) -> Mem<String>
     let mut run = false;
     let mut rest = word.as_bytes();
     while let [b, more @ ..] = rest {
-        if name.len() == LONGEST_MADE {
+        if name.as_str().len() == LONGEST_MADE {
             return Ok(name);
         }
         if b.is_ascii_alphanumeric() {

@@ -1,6 +1,0 @@
-pub mod Parameters
-pub mod Hints
-pub mod Spots
-pub mod NewNames
-pub mod Entries
-pub mod Plan

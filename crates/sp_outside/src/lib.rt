@@ -8,8 +8,6 @@
 
 mod disk;
 #[cfg(test)]
-mod disk_tests;
-#[cfg(test)]
 mod long_tests;
 mod mem_disk;
 mod memory;

@@ -8,6 +8,8 @@
 
 mod disk;
 #[cfg(test)]
+mod disk_tests;
+#[cfg(test)]
 mod long_tests;
 mod mem_disk;
 mod memory;

@@ -4,8 +4,6 @@
 
 mod epoch;
 mod page;
-#[cfg(test)]
-mod tests;
 
 pub use epoch::{OpenFault, open_epoch};
 pub use page::{Page, drop_page, get_page, put_page};

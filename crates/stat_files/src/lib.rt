@@ -3,7 +3,5 @@
 #![tactic(auto)]
 
 mod stat;
-#[cfg(test)]
-mod tests;
 
 pub use stat::{stamp_of, touch};

@@ -1,0 +1,213 @@
+-- From the claimants of a text to the node that it names by an alias, and back.
+use Rattle.std.proofs.Common.{◌≡◌, ◌<◌, ◌+◌, ℕ, zero, suc, Bool, true, false, cond, List, [], ◌∷◌, ◌++◌, Option, Some, None, Ok, Err, map, take, drop, length, get_or, refl, sym, ◌∙◌, ap, subst, ⊎_elim, arith}
+use Rattle.std.specs.Prelude.{◌||◌, ◌&&◌, ◌==◌, IsTrue, is_some, is_none, not, nat_eq, codes, find, option_map, if◌then◌else◌}
+use Rattle.std.specs.Cmp.Lexicographic.{pointwise, same_text}
+use Rattle.std.specs.List.{list_any}
+use Rattle.std.specs.Option.{option_map_or}
+use Rattle.std.proofs.lemmas.Bool.Decides.{nat_tests}
+use Rattle.std.proofs.lemmas.Bool.{cases_Bool, true≢false, false≢true, and_parts}
+use Rattle.sp_base.specs.Paths.{is_path, parent_of, path_of, seg_ok, text_of}
+use Rattle.resource_tree.specs.declared.nodes.Node.{Node}
+use Rattle.resource_tree.specs.Content.{Content, IsTree, kid, name_of, node_at, prop_at, same_path}
+use Rattle.resource_tree.specs.Changes.{kids_at}
+use Rattle.url_maps.specs.Words.{any_text_at, texts_of}
+use Rattle.url_maps.specs.Aliases.{IsAlias, has_alias}
+use Rattle.url_maps.specs.Claims.{AreClaims, Rows, claimants, claims_alias, node_claims_alias, spells_alias}
+use Rattle.url_maps.specs.declared.pairs.Pair.{Pair}
+use Rattle.url_maps.specs.declared.pairs.PairKind.{PairKind}
+use Rattle.url_maps.specs.declared.pairs.PairKind.TheVariants.{Alias}
+use Rattle.url_maps.specs.Pairs.{HasAlias, IsPair, IsPairOf}
+use Rattle.url_maps.specs.Search.{first_kid, first_path, is_free, is_free_at}
+use Rattle.url_maps.proofs.PathLemmas.{IsReadBack, kid_name, kid_parent, kid_parts, length_kid-is, name_of-kid, parent_of-kid, path_from_same, path_from_text, same_path_self, spells_is, valid_sibling}
+
+-- ---- searches in lists
+
+pub find_alike : {X : Type 0} (f g : X → Bool) → ((x : X) → f x ≡ g x) → (xs : List X) → find f xs ≡ find g xs
+find_alike f g h xs = λ i. find (λ x. h x i) xs
+
+pub any_alike : {X : Type 0} (f g : X → Bool) → ((x : X) → f x ≡ g x) → (xs : List X) → list_any f xs ≡ list_any g xs
+any_alike f g h xs = λ i. list_any (λ x. h x i) xs
+
+pub record Found {X : Type 0} (test : X → Bool) (xs : List X) : Type 0 where
+  pub item : X
+  pub is : find test xs ≡ Some item
+  pub passes : test item ≡ true
+
+pub find_any : {X : Type 0} (test : X → Bool) (xs : List X) → list_any test xs ≡ true → Found test xs
+find_any test [] any = absurd (false≢true any)
+find_any test (x ∷ xs) any =
+    ⊎_elim
+    (λ (passes_it : test x ≡ true). record { item = x; is = ap (λ b. cond b (Some x) (find test xs)) passes_it; passes = passes_it })
+    (λ (fails : test x ≡ false).
+    let rest = find_any test xs (sym (ap (λ b. b || list_any test xs) fails) ∙ any) in
+    record { item = rest.item; is = ap (λ b. cond b (Some x) (find test xs)) fails ∙ rest.is; passes = rest.passes })
+    (cases_Bool (test x))
+
+pub find_passes : {X : Type 0} (test : X → Bool) (xs : List X) (x : X) → find test xs ≡ Some x → test x ≡ true
+find_passes test [] x is = cc
+find_passes test (y ∷ xs) x is =
+    ⊎_elim
+    (λ (passes_it : test y ≡ true). let e : Some y ≡ Some x = sym (ap (λ b. cond b (Some y) (find test xs)) passes_it) ∙ is in let same : y ≡ x = cc in ap test (sym same) ∙ passes_it)
+    (λ (fails : test y ≡ false). find_passes test xs x (sym (ap (λ b. cond b (Some y) (find test xs)) fails) ∙ is))
+    (cases_Bool (test y))
+
+-- ---- claims and aliases
+
+pub not_root : (q : List (List ℕ)) → 0 < length q → (length q == 0) ≡ false
+not_root [] some = absurd (omega (arith, some))
+not_root (s ∷ q) some = grind (arith, nat_tests)
+
+pub some_from : (n : ℕ) → (n == 0) ≡ false → 0 < n
+some_from zero e = absurd (true≢false e)
+some_from (suc n) e = omega arith
+
+pub empty_from : {X : Type 0} (xs : List X) → length xs ≡ 0 → xs ≡ []
+empty_from [] e = refl
+empty_from (x ∷ xs) e = absurd (omega (arith, e))
+
+first_among : (paths : List (List (List ℕ))) → 0 < length paths → list_any (same_path (first_path paths)) paths ≡ true
+first_among [] some = absurd (omega (arith, some))
+first_among (p ∷ paths) some = ap (λ b. b || list_any (same_path p) paths) (same_path_self p)
+
+-- what a claimant of a text is: a node that is below another and has an alias that the text spells
+pub record Claimant (tree : Content) (q : List (List ℕ)) (text : List ℕ) : Type 0 where
+  pub node : Node
+  pub there : node_at tree q ≡ Some node
+  pub below : 0 < length q
+  pub alias : List ℕ
+  pub segment : seg_ok alias ≡ true
+  pub spelled : text ≡ text_of (kid (parent_of q) alias)
+
+none_from : (o : Option Node) → is_none o ≡ true → o ≡ None
+none_from None is = refl
+none_from (Some node) is = absurd (false≢true is)
+
+module _ (read : IsReadBack) (tree : Content) (good : IsTree (node_at tree)) where
+  there_valid : (q : List (List ℕ)) (node : Node) → node_at tree q ≡ Some node → is_path q ≡ true
+  there_valid q node is = (good.nodes q node is).is_a_path
+
+  -- a node's claims on the text of an alias are its aliases
+  pub claims_is : (p : List (List ℕ)) (name alias : List ℕ) → seg_ok alias ≡ true → claims_alias tree (kid p name) (text_of (kid p alias)) ≡ has_alias tree (kid p name) alias
+  unfolding claims_alias node_claims_alias has_alias
+  claims_is p name alias segment =
+      let text = text_of (kid p alias) in
+      elim (node_at tree (kid p name)) as (λ o. node_at tree (kid p name) ≡ o → option_map_or (λ (node : Node). node_claims_alias (kid p name) node text) o false ≡ option_map_or (λ (node : Node). list_any (pointwise nat_eq alias) (texts_of (prop_at node (codes "sling:alias")))) o false) [
+        | None ↦ λ is. refl
+        | Some node ↦ λ is.
+            let valid = valid_sibling p name alias (there_valid (kid p name) node is) segment in
+            let words = texts_of (prop_at node (codes "sling:alias")) in
+            let below : (length (kid p name) == 0) ≡ false = not_root (kid p name) (length_kid-is p name) in
+            ap (λ b. not b && list_any (spells_alias (kid p name) text) words) below
+            ∙ any_alike (spells_alias (kid p name) text) (pointwise nat_eq alias) (λ word. ap (λ r. seg_ok word && pointwise nat_eq text (text_of (kid r word))) (parent_of-kid p name) ∙ spells_is read p alias word valid segment) words
+      ] refl
+
+  pub claimant_is : (q : List (List ℕ)) (text : List ℕ) → claims_alias tree q text ≡ true → Claimant tree q text
+  unfolding claims_alias node_claims_alias
+  claimant_is q text claims =
+      elim (node_at tree q) as (λ o. node_at tree q ≡ o → option_map_or (λ (node : Node). node_claims_alias q node text) o false ≡ true → Claimant tree q text) [
+        | None ↦ λ is fails. absurd (false≢true fails)
+        | Some node ↦ λ is passes_it.
+            let parts = and_parts (not (length q == 0)) (list_any (spells_alias q text) (texts_of (prop_at node (codes "sling:alias")))) passes_it in
+            let found = find_any (spells_alias q text) (texts_of (prop_at node (codes "sling:alias"))) parts.1 in
+            let both = and_parts (seg_ok found.item) (pointwise nat_eq text (text_of (kid (parent_of q) found.item))) found.passes in
+            record {
+              node = node;
+              there = is;
+              below = grind (arith, nat_tests, parts.0);
+              alias = found.item;
+              segment = both.0;
+              spelled = same_text text (text_of (kid (parent_of q) found.item)) (sym both.1);
+            }
+      ] refl claims
+
+  -- the path that a claimed text spells
+  pub spelled_path : (q : List (List ℕ)) (text : List ℕ) (c : Claimant tree q text) → is_path (kid (parent_of q) c.alias) ≡ true
+  spelled_path q text c =
+      valid_sibling (parent_of q) (name_of q) c.alias (ap is_path (kid_parts q c.below) ∙ there_valid q c.node c.there) c.segment
+
+  -- the free text that a claimant claims is the alias of the first kid that claims it
+  pub alias_from : (rows : Rows) (text : List ℕ) (q path : List (List ℕ)) → AreClaims (claims_alias tree) rows → (c : Claimant tree q text) → is_free tree text ≡ true
+      → Some path ≡ first_kid tree (parent_of q) (claimants rows text) → IsAlias tree text path
+  alias_from rows text q path claims c free first =
+      let p = parent_of q in
+      let kids = kids_at tree p in
+      let test : List ℕ → Bool = λ name. list_any (same_path (kid p name)) (claimants rows text) in
+      let alike : (name : List ℕ) → test name ≡ has_alias tree (kid p name) c.alias = λ name. claims text (kid p name) ∙ ap (claims_alias tree (kid p name)) c.spelled ∙ claims_is p name c.alias c.segment in
+      let at : is_free_at tree (path_of text) ≡ is_none (node_at tree (kid p c.alias)) = ap (λ t. is_free_at tree (path_of t)) c.spelled ∙ ap (is_free_at tree) (read (kid p c.alias) (spelled_path q text c)) in
+      elim (find test kids) as (λ o. find test kids ≡ o → Some path ≡ option_map (kid p) o → IsAlias tree text path) [
+        | None ↦ λ is e. cc
+        | Some name ↦ λ is e.
+            record {
+              parent = p;
+              name = name;
+              alias = c.alias;
+              path_is = cc;
+              text_is = c.spelled;
+              segment = c.segment;
+              free = none_from (node_at tree (kid p c.alias)) (sym at ∙ free);
+              first = sym (find_alike test (λ sibling. has_alias tree (kid p sibling) c.alias) alike kids) ∙ is;
+            }
+      ] refl first
+
+  -- what an alias names claims its text
+  pub alias_claims : (text : List ℕ) (path : List (List ℕ)) → IsAlias tree text path → claims_alias tree path text ≡ true
+  alias_claims text path a =
+      ap (λ q. claims_alias tree q text) a.path_is ∙ ap (claims_alias tree (kid a.parent a.name)) a.text_is ∙ claims_is a.parent a.name a.alias a.segment
+      ∙ find_passes (λ sibling. has_alias tree (kid a.parent sibling) a.alias) (kids_at tree a.parent) a.name a.first
+
+  -- no alias without a claimant
+  pub none_claimed : (rows : Rows) (text : List ℕ) (path : List (List ℕ)) → AreClaims (claims_alias tree) rows → claimants rows text ≡ [] → IsAlias tree text path → ⊥
+  none_claimed rows text path claims none a = false≢true (sym (ap (list_any (same_path path)) none) ∙ claims text path ∙ alias_claims text path a)
+
+  -- nor at a text that spells a node's path
+  pub none_taken : (text : List ℕ) (path : List (List ℕ)) → is_free tree text ≡ false → IsAlias tree text path → ⊥
+  none_taken text path taken a =
+      let c = claimant_is path text (alias_claims text path a) in
+      let valid : is_path (kid a.parent a.alias) ≡ true = valid_sibling a.parent a.name a.alias (ap is_path (sym a.path_is) ∙ there_valid path c.node c.there) a.segment in
+      true≢false (sym (ap is_none a.free) ∙ sym (ap (λ t. is_free_at tree (path_of t)) a.text_is ∙ ap (is_free_at tree) (read (kid a.parent a.alias) valid)) ∙ taken)
+
+  -- nor where no kid claims it
+  pub none_first : (rows : Rows) (text : List ℕ) (q path : List (List ℕ)) → AreClaims (claims_alias tree) rows → Claimant tree q text → None ≡ first_kid tree (parent_of q) (claimants rows text) → IsAlias tree text path → ⊥
+  none_first rows text q path claims c none a =
+      let other = claimant_is path text (alias_claims text path a) in
+      let valid : is_path (kid a.parent a.alias) ≡ true = valid_sibling a.parent a.name a.alias (ap is_path (sym a.path_is) ∙ there_valid path other.node other.there) a.segment in
+      let one = path_from_text read (kid (parent_of q) c.alias) (kid a.parent a.alias) (spelled_path q text c) valid (sym c.spelled ∙ a.text_is) in
+      let p : parent_of q ≡ a.parent = kid_parent (parent_of q) a.parent c.alias a.alias one in
+      let alike : (name : List ℕ) → list_any (same_path (kid a.parent name)) (claimants rows text) ≡ has_alias tree (kid a.parent name) a.alias =
+      λ name. claims text (kid a.parent name) ∙ ap (claims_alias tree (kid a.parent name)) a.text_is ∙ claims_is a.parent name a.alias a.segment in
+      let found = find_alike (λ name. list_any (same_path (kid a.parent name)) (claimants rows text)) (λ name. has_alias tree (kid a.parent name) a.alias) alike (kids_at tree a.parent) ∙ a.first in
+      let bad : None ≡ Some (kid a.parent a.name) = none ∙ ap (λ r. first_kid tree r (claimants rows text)) p ∙ ap (option_map (kid a.parent)) found in
+      cc
+
+  -- ---- from the list of claimants
+
+  pub first_claims : (rows : Rows) (text : List ℕ) → AreClaims (claims_alias tree) rows → 0 < length (claimants rows text) → claims_alias tree (first_path (claimants rows text)) text ≡ true
+  first_claims rows text claims some = sym (claims text (first_path (claimants rows text))) ∙ first_among (claimants rows text) some
+
+  pub first_is : (rows : Rows) (text : List ℕ) → AreClaims (claims_alias tree) rows → 0 < length (claimants rows text) → Claimant tree (first_path (claimants rows text)) text
+  first_is rows text claims some = claimant_is (first_path (claimants rows text)) text (first_claims rows text claims some)
+
+  -- the pair of an alias
+  pub is_alias_pair : (rows : Rows) (text : List ℕ) (pair : Pair) (path : List (List ℕ)) → AreClaims (claims_alias tree) rows → 0 < length (claimants rows text) → is_free tree text ≡ true
+      → Some path ≡ first_kid tree (parent_of (first_path (claimants rows text))) (claimants rows text) → pair.target ≡ text_of path → pair.away ≡ None → HasAlias tree text pair
+  is_alias_pair rows text pair path claims some free first target inside = record {
+    path = path;
+    alias = alias_from rows text (first_path (claimants rows text)) path claims (first_is rows text claims some) free first;
+    target = target;
+    inside = inside;
+  }
+
+  -- no pair of an alias, unless some node claims the text, ..
+  pub no_alias_claimed : (rows : Rows) (text : List ℕ) → AreClaims (claims_alias tree) rows → length (claimants rows text) ≡ 0 → (pair : Pair) → pair.kind ≡ Alias → IsPair tree None text pair → ⊥
+  no_alias_claimed rows text claims none pair is has =
+      let a = subst (λ kind. IsPairOf kind tree None text pair) is has in none_claimed rows text a.path claims (empty_from (claimants rows text) none) a.alias
+
+  -- .. no node is there, ..
+  pub no_alias_taken : (text : List ℕ) → is_free tree text ≡ false → (pair : Pair) → pair.kind ≡ Alias → IsPair tree None text pair → ⊥
+  no_alias_taken text taken pair is has = let a = subst (λ kind. IsPairOf kind tree None text pair) is has in none_taken text a.path taken a.alias
+
+  -- .. and a kid claims it
+  pub no_alias_first : (rows : Rows) (text : List ℕ) → AreClaims (claims_alias tree) rows → 0 < length (claimants rows text) → None ≡ first_kid tree (parent_of (first_path (claimants rows text))) (claimants rows text)
+      → (pair : Pair) → pair.kind ≡ Alias → IsPair tree None text pair → ⊥
+  no_alias_first rows text claims some none pair is has =
+      let a = subst (λ kind. IsPairOf kind tree None text pair) is has in none_first rows text (first_path (claimants rows text)) a.path claims (first_is rows text claims some) none a.alias

@@ -1,0 +1,217 @@
+-- Who claims a text after one more claim, and after a node's.
+use Rattle.std.proofs.Common.{◌≡◌, ◌<◌, ◌≤◌, ◌+◌, ℕ, Bool, true, false, cond, List, [], ◌∷◌, ◌++◌, Option, Some, None, map, take, length, get_or, refl, sym, ◌∙◌, ap, subst, arith, ⊎_elim}
+use Rattle.std.specs.Prelude.{◌||◌, ◌&&◌, ◌==◌, not, codes, is_some, if◌then◌else◌}
+use Rattle.std.specs.List.{list_any}
+use Rattle.std.specs.Map.{lookup}
+use Rattle.std.specs.Option.{option_map_or}
+use Rattle.std.proofs.lemmas.Bool.{cases_Bool, false_from_ne_true, true≢false}
+use Rattle.std.specs.Cmp.Lexicographic.{nat_list_eq_equiv, same_text}
+use Rattle.std.proofs.lemmas.Bool.Decides.{nat_tests}
+use Rattle.std.proofs.lemmas.List.{take_all}
+use Rattle.std.proofs.lemmas.List.Folds.{list_any-append, list_any_more}
+use Rattle.resource_tree.specs.declared.nodes.Node.{Node}
+use Rattle.std.specs.Str.{bytes_eq}
+use Rattle.resource_tree.specs.Content.{Content, node_at, same_path}
+use Rattle.resource_tree.specs.Content.{prop_at}
+use Rattle.url_maps.specs.Claims.{Adds, AreClaims, Rows, claimants, claims_alias, claims_vanity_path, node_claims_alias, node_claims_vanity_path, spells_alias, spells_vanity_path}
+use Rattle.url_maps.specs.Words.{texts_of}
+use Rattle.url_maps.proofs.PathLemmas.{path_from_same}
+
+-- a look-up through other names of the keys
+pub lookup_shown : {K B X : Type 0} (f : K → B) (test : B → Bool) (es : List (K × X)) → lookup test (map (λ (e : K × X). (f e.0, e.1)) es) ≡ lookup (λ k. test (f k)) es
+lookup_shown f test [] = refl
+lookup_shown f test ((k, v) ∷ es) = ap (λ r. cond (test (f k)) (Some v) r) (lookup_shown f test es)
+
+or_false : (x : Bool) → (x || false) ≡ x
+or_false true = refl
+or_false false = refl
+
+and_true : (x : Bool) → (x && true) ≡ x
+and_true true = refl
+and_true false = refl
+
+and_false : (x : Bool) → (x && false) ≡ false
+and_false true = refl
+and_false false = refl
+
+-- one more claimant, of the texts of a test
+pub one_more : (q path : List (List ℕ)) (old new : List (List (List ℕ))) (b : Bool) → new ≡ cond b (old ++ path ∷ []) old → list_any (same_path q) new ≡ (list_any (same_path q) old || (same_path q path && b))
+one_more q path old new true is =
+    ap (list_any (same_path q)) is ∙ list_any-append (same_path q) old (path ∷ [])
+    ∙ ap (λ x. list_any (same_path q) old || x) (or_false (same_path q path) ∙ sym (and_true (same_path q path)))
+one_more q path old new false is =
+    ap (list_any (same_path q)) is ∙ sym (ap (λ x. list_any (same_path q) old || x) (and_false (same_path q path)) ∙ or_false (list_any (same_path q) old))
+
+law_more : (a s u v : Bool) → ((a || (s && u)) || (s && v)) ≡ (a || (s && (u || v)))
+law_more true s u v = refl
+law_more false false u v = refl
+law_more false true u v = refl
+
+-- the claims of a node's first words, and of one word more
+pub more_words : {W : Type 0} (a s x y : Bool) (test : W → Bool) (words : List W) (i : ℕ) (d : W) → i < length words → x ≡ (a || (s && list_any test (take i words))) → y ≡ (x || (s && test (get_or words i d)))
+    → y ≡ (a || (s && list_any test (take (i + 1) words)))
+more_words a s x y test words i d within so_far is =
+    is ∙ ap (λ z. z || (s && test (get_or words i d))) so_far ∙ law_more a s (list_any test (take i words)) (test (get_or words i d))
+    ∙ ap (λ z. a || (s && z)) (sym (list_any_more test words i d within))
+
+pub no_words : (a s : Bool) → a ≡ (a || (s && false))
+no_words true s = refl
+no_words false true = refl
+no_words false false = refl
+
+-- a word that claims nothing
+pub idle_word : {W : Type 0} (a s x : Bool) (test : W → Bool) (words : List W) (i : ℕ) (d : W) → i < length words → x ≡ (a || (s && list_any test (take i words))) → test (get_or words i d) ≡ false
+    → x ≡ (a || (s && list_any test (take (i + 1) words)))
+idle_word a s x test words i d within so_far is = more_words a s x x test words i d within so_far (no_words x s ∙ ap (λ z. x || (s && z)) (sym is))
+
+law_gather : (A s c d : Bool) → (s ≡ true → d ≡ c) → ((A && c) || (s && d)) ≡ ((A || s) && c)
+law_gather true true true d h = refl
+law_gather true true false d h = h refl
+law_gather true false c d h = or_false c
+law_gather false true c d h = h refl
+law_gather false false c d h = refl
+
+-- the claims of a tree's first nodes, and of one node more
+pub more_nodes : (q : List (List ℕ)) (paths : List (List (List ℕ))) (i : ℕ) (path : List (List ℕ)) (c d x y : Bool) → i < length paths → path ≡ get_or paths i path → (same_path q path ≡ true → d ≡ c)
+    → x ≡ (list_any (same_path q) (take i paths) && c) → y ≡ (x || (same_path q path && d)) → y ≡ (list_any (same_path q) (take (i + 1) paths) && c)
+more_nodes q paths i path c d x y within item same so_far is =
+    is ∙ ap (λ z. z || (same_path q path && d)) so_far ∙ law_gather (list_any (same_path q) (take i paths)) (same_path q path) c d same
+    ∙ ap (λ z. z && c) (ap (λ p. list_any (same_path q) (take i paths) || same_path q p) item ∙ sym (list_any_more (same_path q) paths i path within))
+
+there_and : (test : Node → Bool) (o : Option Node) → (is_some o && option_map_or test o false) ≡ option_map_or test o false
+there_and test None = refl
+there_and test (Some node) = refl
+
+-- the claims of all nodes
+pub all_nodes : (tree : Content) (q : List (List ℕ)) (test : Node → Bool) (paths : List (List (List ℕ))) (x : Bool) → list_any (same_path q) paths ≡ is_some (node_at tree q)
+    → x ≡ (list_any (same_path q) paths && option_map_or test (node_at tree q) false) → x ≡ option_map_or test (node_at tree q) false
+all_nodes tree q test paths x all is = is ∙ ap (λ z. z && option_map_or test (node_at tree q) false) all ∙ there_and test (node_at tree q)
+
+-- ---- the claims after a call
+
+text_sym : (a b : List ℕ) → bytes_eq a b ≡ bytes_eq b a
+text_sym a b =
+    ⊎_elim
+    (λ (same : bytes_eq a b ≡ true). same ∙ sym (ap (bytes_eq b) (same_text a b (sym same)) ∙ nat_list_eq_equiv.refl b))
+    (λ (other : bytes_eq a b ≡ false). other ∙ sym (false_from_ne_true (bytes_eq b a) (λ same. true≢false (sym (nat_list_eq_equiv.refl a) ∙ ap (bytes_eq a) (sym (same_text b a (sym same))) ∙ other))))
+    (cases_Bool (bytes_eq a b))
+
+-- the claimants of a table, by its look-ups
+pub claimants_shown : {K : Type 0} (f : K → List ℕ) (entries : List (K × List (List (List ℕ)))) (text : List ℕ) → claimants (map (λ (e : K × List (List (List ℕ))). (f e.0, e.1)) entries) text ≡ option_map_or (λ paths. paths) (lookup (λ k. bytes_eq text (f k)) entries) []
+claimants_shown f entries text = ap (λ o. option_map_or (λ paths. paths) o []) (lookup_shown f (bytes_eq text) entries)
+
+or_none : (b : Bool) (paths : List (List (List ℕ))) (o : Option (List (List (List ℕ)))) → option_map_or (λ paths. paths) (cond b (Some paths) o) [] ≡ cond b paths (option_map_or (λ paths. paths) o [])
+or_none true paths o = refl
+or_none false paths o = refl
+
+or_gone : (b : Bool) (o : Option (List (List (List ℕ)))) → option_map_or (λ paths. paths) (cond b None o) [] ≡ cond b [] (option_map_or (λ paths. paths) o [])
+or_gone true o = refl
+or_gone false o = refl
+
+-- after a text's claimants are set
+pub set_claims : {K : Type 0} (f : K → List ℕ) (old new : List (K × List (List (List ℕ)))) (text : List ℕ) (paths : List (List (List ℕ)))
+    → ((t : List ℕ) → lookup (λ k. bytes_eq t (f k)) new ≡ cond (bytes_eq text t) (Some paths) (lookup (λ k. bytes_eq t (f k)) old))
+    → (t : List ℕ) → claimants (map (λ (e : K × List (List (List ℕ))). (f e.0, e.1)) new) t ≡ cond (bytes_eq text t) paths (claimants (map (λ (e : K × List (List (List ℕ))). (f e.0, e.1)) old) t)
+set_claims f old new text paths is t =
+    claimants_shown f new t ∙ ap (λ o. option_map_or (λ paths. paths) o []) (is t) ∙ or_none (bytes_eq text t) paths (lookup (λ k. bytes_eq t (f k)) old) ∙ ap (cond (bytes_eq text t) paths) (sym (claimants_shown f old t))
+
+-- after they are taken away
+pub took_claims : {K : Type 0} (f : K → List ℕ) (old new : List (K × List (List (List ℕ)))) (text : List ℕ)
+    → ((t : List ℕ) → lookup (λ k. bytes_eq t (f k)) new ≡ cond (bytes_eq text t) None (lookup (λ k. bytes_eq t (f k)) old))
+    → (t : List ℕ) → claimants (map (λ (e : K × List (List (List ℕ))). (f e.0, e.1)) new) t ≡ cond (bytes_eq text t) [] (claimants (map (λ (e : K × List (List (List ℕ))). (f e.0, e.1)) old) t)
+took_claims f old new text is t =
+    claimants_shown f new t ∙ ap (λ o. option_map_or (λ paths. paths) o []) (is t) ∙ or_gone (bytes_eq text t) (lookup (λ k. bytes_eq t (f k)) old) ∙ ap (cond (bytes_eq text t) []) (sym (claimants_shown f old t))
+
+-- one more claimant, by way of the list without it
+pub added_to : (old mid new : Rows) (text : List ℕ) (path : List (List ℕ)) (paths more : List (List (List ℕ))) → paths ≡ claimants old text → more ≡ paths ++ path ∷ []
+    → ((t : List ℕ) → claimants mid t ≡ cond (bytes_eq text t) [] (claimants old t)) → ((t : List ℕ) → claimants new t ≡ cond (bytes_eq text t) more (claimants mid t))
+    → (t : List ℕ) → claimants new t ≡ cond (bytes_eq text t) (claimants old t ++ path ∷ []) (claimants old t)
+added_to old mid new text path paths more were are without with t =
+    ⊎_elim
+    (λ (same : bytes_eq text t ≡ true).
+    with t ∙ ap (λ b. cond b more (claimants mid t)) same ∙ are ∙ ap (λ l. l ++ path ∷ []) (were ∙ ap (claimants old) (same_text text t (sym same)))
+    ∙ sym (ap (λ b. cond b (claimants old t ++ path ∷ []) (claimants old t)) same))
+    (λ (other : bytes_eq text t ≡ false).
+    with t ∙ ap (λ b. cond b more (claimants mid t)) other ∙ without t ∙ ap (λ b. cond b [] (claimants old t)) other
+    ∙ sym (ap (λ b. cond b (claimants old t ++ path ∷ []) (claimants old t)) other))
+    (cases_Bool (bytes_eq text t))
+
+-- one more claimant of one text
+pub added : (rows more : Rows) (path : List (List ℕ)) (text : List ℕ) → ((t : List ℕ) → claimants more t ≡ cond (bytes_eq text t) (claimants rows t ++ path ∷ []) (claimants rows t)) → (test : List ℕ → Bool)
+    → ((t : List ℕ) → test t ≡ bytes_eq t text) → Adds path test rows more
+added rows more path text is test same t q = one_more q path (claimants rows t) (claimants more t) (bytes_eq text t) (is t) ∙ ap (λ b. list_any (same_path q) (claimants rows t) || (same_path q path && b)) (text_sym text t ∙ sym (same t))
+
+-- none more
+pub none_added : (rows : Rows) (path : List (List ℕ)) (test : List ℕ → Bool) → ((t : List ℕ) → test t ≡ false) → Adds path test rows rows
+none_added rows path test none t q = no_words (list_any (same_path q) (claimants rows t)) (same_path q path) ∙ ap (λ b. list_any (same_path q) (claimants rows t) || (same_path q path && b)) (sym (none t))
+
+-- the claims of the first words
+pub words_more : {W : Type 0} (first rows more : Rows) (path : List (List ℕ)) (test : List ℕ → W → Bool) (words : List W) (i : ℕ) (word : W) → i < length words → word ≡ get_or words i word
+    → Adds path (λ t. list_any (test t) (take i words)) first rows → Adds path (λ t. test t word) rows more → Adds path (λ t. list_any (test t) (take (i + 1) words)) first more
+words_more first rows more path test words i word within item so_far is t q =
+    more_words (list_any (same_path q) (claimants first t)) (same_path q path) (list_any (same_path q) (claimants rows t)) (list_any (same_path q) (claimants more t)) (test t) words i word within (so_far t q)
+    (is t q ∙ ap (λ w. list_any (same_path q) (claimants rows t) || (same_path q path && test t w)) item)
+
+-- the claims of the first nodes
+pub nodes_more : (rows more : Rows) (paths : List (List (List ℕ))) (i : ℕ) (path : List (List ℕ)) (claims : List (List ℕ) → List ℕ → Bool) → i < length paths → path ≡ get_or paths i path
+    → ((t : List ℕ) (q : List (List ℕ)) → list_any (same_path q) (claimants rows t) ≡ (list_any (same_path q) (take i paths) && claims q t)) → Adds path (claims path) rows more
+    → (t : List ℕ) (q : List (List ℕ)) → list_any (same_path q) (claimants more t) ≡ (list_any (same_path q) (take (i + 1) paths) && claims q t)
+nodes_more rows more paths i path claims within item so_far is t q =
+    more_nodes q paths i path (claims q t) (claims path t) (list_any (same_path q) (claimants rows t)) (list_any (same_path q) (claimants more t)) within item (λ same. ap (λ p. claims p t) (sym (path_from_same q path same))) (so_far t q) (is t q)
+
+not_zero : (n : ℕ) → (n ≡ 0 → ⊥) → (n == 0) ≡ false
+not_zero n some = grind (arith, nat_tests)
+
+-- the root has no alias
+pub root_claims_none : (path : List (List ℕ)) (node : Node) → length path ≡ 0 → (text : List ℕ) → node_claims_alias path node text ≡ false
+unfolding node_claims_alias
+root_claims_none path node root text = ap (λ n. not (n == 0) && list_any (spells_alias path text) (texts_of (prop_at node (codes "sling:alias")))) root
+
+-- below the root a node claims what its words spell
+pub below_claims : (path : List (List ℕ)) (node : Node) (words : List (List ℕ)) → (length path ≡ 0 → ⊥) → words ≡ texts_of (prop_at node (codes "sling:alias")) → (text : List ℕ) → node_claims_alias path node text ≡ list_any (spells_alias path text) words
+unfolding node_claims_alias
+below_claims path node words below are text =
+    ap (λ b. not b && list_any (spells_alias path text) (texts_of (prop_at node (codes "sling:alias")))) (not_zero (length path) below) ∙ ap (list_any (spells_alias path text)) (sym are)
+
+pub vanity_words : (node : Node) (words : List (List ℕ)) → words ≡ texts_of (prop_at node (codes "sling:vanityPath")) → (text : List ℕ) → node_claims_vanity_path node text ≡ list_any (spells_vanity_path text) words
+unfolding node_claims_vanity_path
+vanity_words node words are text = ap (list_any (spells_vanity_path text)) (sym are)
+
+-- claims by another spelling of their test
+pub adds_alike : (path : List (List ℕ)) (old new : Rows) (test other : List ℕ → Bool) → ((t : List ℕ) → other t ≡ test t) → Adds path test old new → Adds path other old new
+adds_alike path old new test other same adds t q = adds t q ∙ ap (λ b. list_any (same_path q) (claimants old t) || (same_path q path && b)) (sym (same t))
+
+-- all words of a list
+pub all_words : {W : Type 0} (path : List (List ℕ)) (old new : Rows) (test : List ℕ → W → Bool) (words : List W) (i : ℕ) → length words ≤ i → Adds path (λ t. list_any (test t) (take i words)) old new → Adds path (λ t. list_any (test t) words) old new
+all_words path old new test words i end adds = adds_alike path old new (λ t. list_any (test t) (take i words)) (λ t. list_any (test t) words) (λ t. sym (ap (list_any (test t)) (take_all i words end))) adds
+
+-- what no node claims
+pub absent_claims : (tree : Content) (path : List (List ℕ)) → node_at tree path ≡ None → (text : List ℕ) → claims_alias tree path text ≡ false
+unfolding claims_alias
+absent_claims tree path none text = ap (λ o. option_map_or (λ (node : Node). node_claims_alias path node text) o false) none
+
+pub absent_vanity_claims : (tree : Content) (path : List (List ℕ)) → node_at tree path ≡ None → (text : List ℕ) → claims_vanity_path tree path text ≡ false
+unfolding claims_vanity_path
+absent_vanity_claims tree path none text = ap (λ o. option_map_or (λ (node : Node). node_claims_vanity_path node text) o false) none
+
+-- what a node claims
+pub there_claims : (tree : Content) (path : List (List ℕ)) (node : Node) → node_at tree path ≡ Some node → (text : List ℕ) → claims_alias tree path text ≡ node_claims_alias path node text
+unfolding claims_alias
+there_claims tree path node is text = ap (λ o. option_map_or (λ (n : Node). node_claims_alias path n text) o false) is
+
+pub there_vanity_claims : (tree : Content) (path : List (List ℕ)) (node : Node) → node_at tree path ≡ Some node → (text : List ℕ) → claims_vanity_path tree path text ≡ node_claims_vanity_path node text
+unfolding claims_vanity_path
+there_vanity_claims tree path node is text = ap (λ o. option_map_or (λ (n : Node). node_claims_vanity_path n text) o false) is
+
+-- the claims of all nodes of a tree
+pub whole_aliases : (tree : Content) (rows : Rows) (paths : List (List (List ℕ))) (i : ℕ) → length paths ≤ i → ((q : List (List ℕ)) → list_any (same_path q) paths ≡ is_some (node_at tree q))
+    → ((t : List ℕ) (q : List (List ℕ)) → list_any (same_path q) (claimants rows t) ≡ (list_any (same_path q) (take i paths) && claims_alias tree q t)) → AreClaims (claims_alias tree) rows
+unfolding claims_alias
+whole_aliases tree rows paths i end all is t q =
+    all_nodes tree q (λ node. node_claims_alias q node t) paths (list_any (same_path q) (claimants rows t)) (all q) (is t q ∙ ap (λ ps. list_any (same_path q) ps && claims_alias tree q t) (take_all i paths end))
+
+pub whole_vanity_paths : (tree : Content) (rows : Rows) (paths : List (List (List ℕ))) (i : ℕ) → length paths ≤ i → ((q : List (List ℕ)) → list_any (same_path q) paths ≡ is_some (node_at tree q))
+    → ((t : List ℕ) (q : List (List ℕ)) → list_any (same_path q) (claimants rows t) ≡ (list_any (same_path q) (take i paths) && claims_vanity_path tree q t)) → AreClaims (claims_vanity_path tree) rows
+unfolding claims_vanity_path
+whole_vanity_paths tree rows paths i end all is t q =
+    all_nodes tree q (λ node. node_claims_vanity_path node t) paths (list_any (same_path q) (claimants rows t)) (all q) (is t q ∙ ap (λ ps. list_any (same_path q) ps && claims_vanity_path tree q t) (take_all i paths end))

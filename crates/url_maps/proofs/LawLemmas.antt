@@ -1,0 +1,119 @@
+-- At most one pair decides a turn, and a text has one answer.
+use Rattle.std.proofs.Common.{◌≡◌, ◌<◌, ◌≤◌, ◌-◌, ℕ, zero, suc, Bool, true, false, List, [], ◌∷◌, ◌++◌, Option, Some, None, Ok, take, length, refl, sym, ◌∙◌, ap, subst, arith, ⊎_elim, ◌⊎◌, inl, inr}
+use Rattle.std.specs.Prelude.{find}
+use Rattle.std.specs.Ordering.{is_lt, ordering_reverse}
+use Rattle.std.specs.declared.cmp.Ordering.TheVariants.{Less, Equal, Greater}
+use Rattle.std.proofs.lemmas.Bool.{true≢false, false≢true}
+use Rattle.sp_base.specs.Paths.{is_path, text_of}
+use Rattle.resource_tree.specs.declared.nodes.Node.{Node}
+use Rattle.resource_tree.specs.Content.{Content, IsTree, kid, node_at}
+use Rattle.resource_tree.specs.Changes.{kids_at}
+use Rattle.url_maps.specs.declared.answer.MapAnswer.{MapAnswer}
+use Rattle.url_maps.specs.declared.answer.MapAnswer.TheVariants.{Inside, Away}
+use Rattle.url_maps.specs.declared.pairs.Pair.{Pair}
+use Rattle.url_maps.specs.declared.pairs.PairKind.{PairKind}
+use Rattle.url_maps.specs.declared.pairs.PairKind.TheVariants.{Mapping, Alias, VanityPath}
+use Rattle.url_maps.specs.Aliases.{IsAlias, has_alias}
+use Rattle.url_maps.specs.Mappings.{IsMapping, mapping_of}
+use Rattle.url_maps.specs.Pairs.{Applies, Decides, HasNoPair, IsPair, IsPairOf, rank}
+use Rattle.url_maps.specs.Search.{mapped_path}
+use Rattle.url_maps.specs.Turns.{Turn, Turns, leads, text_after}
+use Rattle.url_maps.specs.VanityPaths.{IsVanityPath, page_of, vanity_cmp}
+use Rattle.url_maps.proofs.AliasLemmas.{alias_claims, claimant_is}
+use Rattle.url_maps.proofs.MappingLemmas.{mapping_path}
+use Rattle.url_maps.proofs.PathLemmas.{IsReadBack, kid_name, kid_parent, path_from_text, valid_sibling}
+use Rattle.url_maps.proofs.VanityLemmas.{vanity_total}
+
+module _ (read : IsReadBack) (tree : Content) (good : IsTree (node_at tree)) where
+  one_mapping : (site : List (List ℕ)) (text target other : List ℕ) (away also : Option ℕ) → IsMapping tree site text target away → IsMapping tree site text other also → (target ≡ other) × (away ≡ also)
+  one_mapping site text target other away also m n =
+      let paths : Some (site ++ m.below) ≡ Some (site ++ n.below) = sym (mapping_path read tree good site text target away m) ∙ mapping_path read tree good site text other also n in
+      let path : site ++ m.below ≡ site ++ n.below = cc in
+      let nodes : Some m.node ≡ Some n.node = sym m.there ∙ ap (node_at tree) path ∙ n.there in
+      let node : m.node ≡ n.node = cc in
+      let leads_to : Some (target, away) ≡ Some (other, also) = sym m.leads ∙ ap mapping_of node ∙ n.leads in
+      let both : (target, away) ≡ (other, also) = cc in
+      (ap (λ (p : List ℕ × Option ℕ). p.0) both, ap (λ (p : List ℕ × Option ℕ). p.1) both)
+
+  alias_path : (text : List ℕ) (path : List (List ℕ)) → (a : IsAlias tree text path) → is_path (kid a.parent a.alias) ≡ true
+  alias_path text path a =
+      let c = claimant_is read tree good path text (alias_claims read tree good text path a) in
+      valid_sibling a.parent a.name a.alias (ap is_path (sym a.path_is) ∙ (good.nodes path c.node c.there).is_a_path) a.segment
+
+  one_alias : (text : List ℕ) (path other : List (List ℕ)) → IsAlias tree text path → IsAlias tree text other → path ≡ other
+  one_alias text path other a b =
+      let one = path_from_text read (kid a.parent a.alias) (kid b.parent b.alias) (alias_path text path a) (alias_path text other b) (sym a.text_is ∙ b.text_is) in
+      let parents = kid_parent a.parent b.parent a.alias b.alias one in
+      let aliases = kid_name a.parent b.parent a.alias b.alias one in
+      let first : Some a.name ≡ Some b.name =
+      sym a.first ∙ ap (λ p. find (λ sibling. has_alias tree (kid p sibling) a.alias) (kids_at tree p)) parents
+      ∙ ap (λ n. find (λ sibling. has_alias tree (kid b.parent sibling) n) (kids_at tree b.parent)) aliases ∙ b.first in
+      let names : a.name ≡ b.name = cc in
+      a.path_is ∙ ap (λ p. kid p a.name) parents ∙ ap (kid b.parent) names ∙ sym b.path_is
+
+  one_vanity : (text : List ℕ) (path other : List (List ℕ)) → IsVanityPath tree text path → IsVanityPath tree text other → path ≡ other
+  one_vanity text path other v w = ⊎_elim
+      (λ (same : other ≡ path). sym same)
+      (λ (less : vanity_cmp tree path other ≡ Less). ⊎_elim
+      (λ (same : path ≡ other). same)
+      (λ (more : vanity_cmp tree other path ≡ Less). let turned : Less ≡ Greater = sym less ∙ (vanity_total tree).antisymm path other ∙ ap ordering_reverse more in absurd (true≢false (ap is_lt turned)))
+      (w.first path v.has))
+      (v.first other w.has)
+
+  one_pair : (kind : PairKind) (site : Option (List (List ℕ))) (text : List ℕ) (pair other : Pair) → IsPairOf kind tree site text pair → IsPairOf kind tree site text other → (pair.target ≡ other.target) × (pair.away ≡ other.away)
+  one_pair Mapping None text pair other m n = absurd m
+  one_pair Mapping (Some site) text pair other m n = one_mapping site text pair.target other.target pair.away other.away m n
+  one_pair Alias site text pair other a b = (a.target ∙ ap text_of (one_alias text a.path b.path a.alias b.alias) ∙ sym b.target, a.inside ∙ sym b.inside)
+  one_pair VanityPath site text pair other v w = (v.target ∙ ap (λ p. text_of (page_of p)) (one_vanity text v.path w.path v.vanity_path w.vanity_path) ∙ sym w.target, v.inside ∙ sym w.inside)
+
+  one_rank : (kind other : PairKind) → rank kind ≡ rank other → kind ≡ other
+  one_rank Mapping Mapping e = refl
+  one_rank Mapping Alias e = absurd (omega (arith, e))
+  one_rank Mapping VanityPath e = absurd (omega (arith, e))
+  one_rank Alias Mapping e = absurd (omega (arith, e))
+  one_rank Alias Alias e = refl
+  one_rank Alias VanityPath e = absurd (omega (arith, e))
+  one_rank VanityPath Mapping e = absurd (omega (arith, e))
+  one_rank VanityPath Alias e = absurd (omega (arith, e))
+  one_rank VanityPath VanityPath e = refl
+
+  same_pair : (pair other : Pair) → pair.kind ≡ other.kind → pair.target ≡ other.target → pair.away ≡ other.away → pair ≡ other
+  same_pair pair other kinds targets aways = λ i. record { kind = kinds i; target = targets i; away = aways i }
+
+  pub one_decides : (site : Option (List (List ℕ))) (text : List ℕ) (at k : ℕ) (pair other : Pair) → Decides tree site text at pair → Decides tree site text k other → (at ≡ k) × (pair ≡ other)
+  one_decides site text at k pair other d e = ⊎_elim
+      (λ (less : k < at). ⊎_elim
+      (λ (more : at < k). absurd (omega (arith, less, more)))
+      (λ (same : (at ≡ k) × (rank other.kind ≤ rank pair.kind)). absurd (omega (arith, less, same.0)))
+      (e.best at pair d.applies))
+      (λ (same : (k ≡ at) × (rank pair.kind ≤ rank other.kind)). ⊎_elim
+      (λ (more : at < k). absurd (omega (arith, same.0, more)))
+      (λ (back : (at ≡ k) × (rank other.kind ≤ rank pair.kind)).
+      let ranks : rank pair.kind ≡ rank other.kind = omega (arith, same.1, back.1) in
+      let kinds = one_rank pair.kind other.kind ranks in
+      let has : IsPairOf other.kind tree site (take k text) pair = subst (λ n. IsPairOf other.kind tree site (take n text) pair) back.0 (subst (λ kind. IsPairOf kind tree site (take at text) pair) kinds d.applies.has) in
+      let one = one_pair other.kind site (take k text) pair other has e.applies.has in
+      (back.0, same_pair pair other kinds one.0 one.1))
+      (e.best at pair d.applies))
+      (d.best k other e.applies)
+
+  further_one : (o : Option ℕ) (text : List ℕ) (further : MapAnswer → Type 0) (answer other : MapAnswer) → (further answer → further other → answer ≡ other) → leads o text further answer → leads o text further other → answer ≡ other
+  further_one (Some status) text further answer other same a b = a ∙ sym b
+  further_one None text further answer other same a b = same a b
+
+  pub one_answer : (n : ℕ) (site : Option (List (List ℕ))) (text : List ℕ) (answer other : MapAnswer) → Turns tree n site text answer → Turns tree n site text other → answer ≡ other
+  one_answer zero site text answer other a b = a ∙ sym b
+  one_answer (suc n) site text answer other a b = ⊎_elim
+      (λ ended. ⊎_elim
+      (λ also. ended.1 ∙ sym also.1)
+      (λ turn. absurd (ended.0 turn.at turn.pair turn.decides.applies))
+      b)
+      (λ turn. ⊎_elim
+      (λ ended. absurd (ended.0 turn.at turn.pair turn.decides.applies))
+      (λ next.
+      let one = one_decides site text turn.at next.at turn.pair next.pair turn.decides next.decides in
+      let moved = subst (λ (p : Pair). leads p.away (text_after p next.at text) (Turns tree n None (text_after p next.at text)) answer) one.1
+      (subst (λ k. leads turn.pair.away (text_after turn.pair k text) (Turns tree n None (text_after turn.pair k text)) answer) one.0 turn.outcome) in
+      further_one next.pair.away (text_after next.pair next.at text) (Turns tree n None (text_after next.pair next.at text)) answer other (one_answer n None (text_after next.pair next.at text) answer other) moved next.outcome)
+      b)
+      a

@@ -1,0 +1,11 @@
+pub mod ClaimLemmas
+pub mod PathLemmas
+pub mod AliasLemmas
+pub mod VanityLemmas
+pub mod MappingLemmas
+pub mod PairLemmas
+pub mod TurnLemmas
+pub mod LocationLemmas
+pub mod ShorterLemmas
+pub mod SiblingLemmas
+pub mod LawLemmas

@@ -1,0 +1,66 @@
+-- The nodes that claim a text as their alias or their vanity path, by the text.
+use Rattle.std.specs.Prelude.{◌≡◌, ◌&&◌, ◌||◌, ◌==◌, ◌++◌, ◌∷◌, [], ℕ, Bool, true, false, not, nat_eq, if◌then◌else◌, List, Result, Ok, Err, codes, length}
+use Rattle.std.specs.Cmp.Lexicographic.{pointwise}
+use Rattle.std.specs.List.{list_any}
+use Rattle.std.specs.Map.{lookup}
+use Rattle.std.specs.Option.{option_map_or}
+use Rattle.std.specs.Str.{bytes_eq}
+use Rattle.sp_base.specs.Paths.{parent_of, path_of, seg_ok, text_of}
+use Rattle.sp_base.specs.declared.path.PathFault.{PathFault}
+use Rattle.resource_tree.specs.declared.nodes.Node.{Node}
+use Rattle.resource_tree.specs.Content.{Content, kid, node_at, prop_at, same_path}
+use Rattle.url_maps.specs.Words.{texts_of}
+use Rattle.url_maps.specs.VanityPaths.{with_slash}
+
+-- texts, and the paths that claim each
+abbrev pub Rows : Type 0
+Rows = List (List ℕ × List (List (List ℕ)))
+
+-- the paths that claim a text
+abbrev pub claimants : Rows → List ℕ → List (List (List ℕ))
+claimants rows text = option_map_or (λ paths. paths) (lookup (bytes_eq text) rows) []
+
+-- the text spells a node's alias, in the place of its name
+abbrev pub spells_alias : List (List ℕ) → List ℕ → List ℕ → Bool
+spells_alias path text alias = seg_ok alias && pointwise nat_eq text (text_of (kid (parent_of path) alias))
+
+-- whether a node at a path, which isn't the root's, claims a text as its alias
+unfoldable pub node_claims_alias : List (List ℕ) → Node → List ℕ → Bool
+node_claims_alias path node text = not (length path == 0) && list_any (spells_alias path text) (texts_of (prop_at node (codes "sling:alias")))
+
+abbrev pub is_ok_path : Result (List (List ℕ)) PathFault → Bool
+is_ok_path (Ok path) = true
+is_ok_path (Err e) = false
+
+-- the text spells a vanity path, which reads as a path
+abbrev pub spells_vanity_path : List ℕ → List ℕ → Bool
+spells_vanity_path text word = is_ok_path (path_of text) && pointwise nat_eq text (with_slash word)
+
+-- whether a node claims a text as its vanity path
+unfoldable pub node_claims_vanity_path : Node → List ℕ → Bool
+node_claims_vanity_path node text = list_any (spells_vanity_path text) (texts_of (prop_at node (codes "sling:vanityPath")))
+
+-- the same of the node at a path of a tree, if there is one
+unfoldable pub claims_alias : Content → List (List ℕ) → List ℕ → Bool
+claims_alias tree path text = option_map_or (λ node. node_claims_alias path node text) (node_at tree path) false
+
+unfoldable pub claims_vanity_path : Content → List (List ℕ) → List ℕ → Bool
+claims_vanity_path tree path text = option_map_or (λ node. node_claims_vanity_path node text) (node_at tree path) false
+
+-- the claims with one path's more, on each text of a test
+abbrev pub Adds : List (List ℕ) → (List ℕ → Bool) → Rows → Rows → Type 0
+Adds path test old new = (text : List ℕ) (q : List (List ℕ)) → list_any (same_path q) (claimants new text) ≡ (list_any (same_path q) (claimants old text) || (same_path q path && test text))
+
+-- the claims are those of the tree, and no other
+abbrev pub AreClaims : (List (List ℕ) → List ℕ → Bool) → Rows → Type 0
+AreClaims claims rows = (text : List ℕ) (path : List (List ℕ)) → list_any (same_path path) (claimants rows text) ≡ claims path text
+
+-- the aliases and the vanity paths of a tree by their texts
+pub record Index : Type 0 where
+  pub aliases : Rows
+  pub vanity_paths : Rows
+
+-- The index is the tree's.
+pub record IsIndexOf (tree : Content) (index : Index) : Type 0 where
+  pub aliases : AreClaims (claims_alias tree) index.aliases
+  pub vanity_paths : AreClaims (claims_vanity_path tree) index.vanity_paths

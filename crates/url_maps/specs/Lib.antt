@@ -1,0 +1,9 @@
+pub mod Words
+pub mod Aliases
+pub mod VanityPaths
+pub mod Mappings
+pub mod Pairs
+pub mod Turns
+pub mod Claims
+pub mod Search
+pub mod Locations

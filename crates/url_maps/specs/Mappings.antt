@@ -1,0 +1,64 @@
+-- The mappings of a tree for a host and a port (Apache Sling, "Mappings for resource resolution", root level mappings).
+use Rattle.std.specs.Prelude.{◌≡◌, ◌≤◌, ◌||◌, ◌==◌, ℕ, ℤ, pos, Bool, false, is_some, if◌then◌else◌, List, [], ◌∷◌, ◌++◌, Option, Some, None, codes, flat_map, length, map, option_map, take}
+use Rattle.std.specs.Option.{option_map_or, option_or}
+use Rattle.std.specs.Char.{to_ascii_lowercase}
+use Rattle.std.specs.Fmt.{decimal}
+use Rattle.sp_base.specs.Properties.{text_in}
+use Rattle.resource_tree.specs.declared.nodes.Node.{Node}
+use Rattle.resource_tree.specs.Content.{Content, node_at, prop_at}
+use Rattle.url_maps.specs.Words.{texts_of, first_text, number_of}
+
+-- the name of the node with the mappings for a host and a port: the host in lower case, a dot and the port
+abbrev pub site_name : List ℕ → ℕ → List ℕ
+site_name host port = map to_ascii_lowercase host ++ 46 ∷ decimal port
+
+-- the path of that node
+abbrev pub site_of : List ℕ → ℕ → List (List ℕ)
+site_of host port = codes "etc" ∷ codes "map" ∷ codes "http" ∷ site_name host port ∷ []
+
+-- a slash before each segment: the text of a path below a site, empty for the site itself
+abbrev pub text_below : List (List ℕ) → List ℕ
+text_below path = flat_map (λ s. 47 ∷ s) path
+
+-- whether the node at a path has a `sling:match`
+unfoldable pub has_match : Content → List (List ℕ) → Bool
+has_match tree path = option_map_or (λ node. is_some (prop_at node (codes "sling:match"))) (node_at tree path) false
+
+-- no node from the site's down to the path has a pattern
+abbrev pub IsPlain : Content → List (List ℕ) → List (List ℕ) → Type 0
+IsPlain tree site path = (k : ℕ) → length site ≤ k → k ≤ length path → has_match tree (take k path) ≡ false
+
+-- the statuses of a redirect (RFC 9110, section 15.4)
+abbrev pub redirect_status : ℤ → Option ℕ
+redirect_status (pos n) = if n == 301 || (n == 302 || (n == 303 || (n == 307 || n == 308))) then Some n else None
+redirect_status n = None
+
+-- the status of a node's redirect: its number `sling:status`, where that is one of a redirect, else 302
+abbrev pub status_in : Option ℤ → ℕ
+status_in None = 302
+status_in (Some n) = option_map_or (λ s. s) (redirect_status n) 302
+
+abbrev pub status_of : Node → ℕ
+status_of node = status_in (number_of (prop_at node (codes "sling:status")))
+
+-- the first text of `sling:internalRedirect`
+unfoldable pub internal_target : Node → Option (List ℕ)
+internal_target node = first_text (texts_of (prop_at node (codes "sling:internalRedirect")))
+
+-- a target outside, and the status of the redirect to it: the text `sling:redirect`
+unfoldable pub redirect_target : Node → Option (List ℕ × Option ℕ)
+redirect_target node = option_map (λ target. (target, Some (status_of node))) (text_in node.props (codes "sling:redirect"))
+
+-- where the node of a mapping leads: a target, and the status where that is outside
+abbrev pub mapping_of : Node → Option (List ℕ × Option ℕ)
+mapping_of node = option_or (option_map (λ target. (target, None)) (internal_target node)) (redirect_target node)
+
+-- A text has a mapping of a site: it is the text of the path below the site at which a node leads to the target. A node with a pattern, and all
+-- below it, is passed over.
+pub record IsMapping (tree : Content) (site : List (List ℕ)) (text target : List ℕ) (away : Option ℕ) : Type 0 where
+  pub below : List (List ℕ)
+  pub text_is : text ≡ text_below below
+  pub node : Node
+  pub there : node_at tree (site ++ below) ≡ Some node
+  pub plain : IsPlain tree site (site ++ below)
+  pub leads : mapping_of node ≡ Some (target, away)

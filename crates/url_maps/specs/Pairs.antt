@@ -1,0 +1,65 @@
+-- The pairs of a prefix and a target that a tree has, which of them apply to a text, and which one decides.
+use Rattle.std.specs.Prelude.{◌≡◌, ◌≤◌, ◌<◌, ◌⊎◌, ◌||◌, ◌==◌, ℕ, Bool, true, List, [], ◌∷◌, Option, Some, None, drop, length, take}
+use Rattle.sp_base.specs.Paths.{text_of}
+use Rattle.resource_tree.specs.Content.{Content}
+use Rattle.url_maps.specs.declared.pairs.Pair.{Pair}
+use Rattle.url_maps.specs.declared.pairs.PairKind.{PairKind}
+use Rattle.url_maps.specs.declared.pairs.PairKind.TheVariants.{Mapping, Alias, VanityPath}
+use Rattle.url_maps.specs.Aliases.{IsAlias}
+use Rattle.url_maps.specs.Mappings.{IsMapping}
+use Rattle.url_maps.specs.VanityPaths.{IsVanityPath, page_of}
+
+-- a mapping of a site, if there is one
+abbrev pub HasMapping : Content → Option (List (List ℕ)) → List ℕ → Pair → Type 0
+HasMapping tree None prefix pair = ⊥
+HasMapping tree (Some site) prefix pair = IsMapping tree site prefix pair.target pair.away
+
+-- the alias of a node
+pub record HasAlias (tree : Content) (prefix : List ℕ) (pair : Pair) : Type 0 where
+  pub path : List (List ℕ)
+  pub alias : IsAlias tree prefix path
+  pub target : pair.target ≡ text_of path
+  pub inside : pair.away ≡ None
+
+-- the vanity path of a node
+pub record HasVanityPath (tree : Content) (prefix : List ℕ) (pair : Pair) : Type 0 where
+  pub path : List (List ℕ)
+  pub vanity_path : IsVanityPath tree prefix path
+  pub target : pair.target ≡ text_of (page_of path)
+  pub inside : pair.away ≡ None
+
+abbrev pub IsPairOf : PairKind → Content → Option (List (List ℕ)) → List ℕ → Pair → Type 0
+IsPairOf Mapping tree site prefix pair = HasMapping tree site prefix pair
+IsPairOf Alias tree site prefix pair = HasAlias tree prefix pair
+IsPairOf VanityPath tree site prefix pair = HasVanityPath tree prefix pair
+
+-- The tree has the pair with the prefix; its mappings are those of the site, if there is one.
+abbrev pub IsPair : Content → Option (List (List ℕ)) → List ℕ → Pair → Type 0
+IsPair tree site prefix pair = IsPairOf pair.kind tree site prefix pair
+
+-- a text may go on after a prefix with a slash or a dot, after that of a vanity path with a dot alone
+abbrev pub goes_on : PairKind → List ℕ → Bool
+goes_on kind [] = true
+goes_on Mapping (b ∷ rest) = b == 46 || b == 47
+goes_on Alias (b ∷ rest) = b == 46 || b == 47
+goes_on VanityPath (b ∷ rest) = b == 46
+
+-- the pair whose prefix ends at a place of a text applies to the text
+pub record Applies (tree : Content) (site : Option (List (List ℕ))) (text : List ℕ) (at : ℕ) (pair : Pair) : Type 0 where
+  pub within : at ≤ length text
+  pub has : IsPair tree site (take at text) pair
+  pub continues : goes_on pair.kind (drop at text) ≡ true
+
+-- at a tie a mapping decides before an alias, and an alias before a vanity path
+abbrev pub rank : PairKind → ℕ
+rank Mapping = 0
+rank Alias = 1
+rank VanityPath = 2
+
+-- of the pairs that apply the one with the longest prefix decides
+pub record Decides (tree : Content) (site : Option (List (List ℕ))) (text : List ℕ) (at : ℕ) (pair : Pair) : Type 0 where
+  pub applies : Applies tree site text at pair
+  pub best : (k : ℕ) (other : Pair) → Applies tree site text k other → (k < at) ⊎ ((k ≡ at) × (rank pair.kind ≤ rank other.kind))
+
+abbrev pub HasNoPair : Content → Option (List (List ℕ)) → List ℕ → Type 0
+HasNoPair tree site text = (k : ℕ) (pair : Pair) → Applies tree site text k pair → ⊥

@@ -1,0 +1,96 @@
+-- What the functions of the search promise one another; a reader of what a text is mapped to needs none of it.
+use Rattle.std.specs.Prelude.{◌≡◌, ◌≤◌, ◌<◌, ◌⊎◌, ◌||◌, ◌==◌, ◌++◌, ℕ, Bool, true, false, is_none, find, List, [], ◌∷◌, Option, Some, None, Result, Ok, Err, drop, length, option_map, slice_index, slice_index_or, take}
+use Rattle.std.specs.List.{list_any}
+use Rattle.std.specs.declared.cmp.Ordering.TheVariants.{Less}
+use Rattle.sp_base.specs.Paths.{path_of, path_or_none}
+use Rattle.sp_base.specs.declared.path.PathFault.{PathFault}
+use Rattle.resource_tree.specs.Content.{Content, kid, node_at, same_path}
+use Rattle.resource_tree.specs.Changes.{kids_at}
+use Rattle.url_maps.specs.declared.pairs.Pair.{Pair}
+use Rattle.url_maps.specs.declared.pairs.PairKind.{PairKind}
+use Rattle.url_maps.specs.declared.turns.Step.{Step}
+use Rattle.url_maps.specs.declared.pairs.PairKind.TheVariants.{Mapping}
+use Rattle.url_maps.specs.Mappings.{mapping_of}
+use Rattle.resource_tree.specs.declared.nodes.Node.{Node}
+use Rattle.url_maps.specs.Pairs.{Applies, Decides, HasNoPair, IsPair, goes_on, rank}
+use Rattle.url_maps.specs.Turns.{text_after}
+use Rattle.url_maps.specs.VanityPaths.{vanity_cmp}
+
+-- the pair of a kind with a prefix, or that there is none
+abbrev pub IsOf : PairKind → Content → Option (List (List ℕ)) → List ℕ → Option Pair → Type 0
+IsOf kind tree site prefix (Some pair) = (pair.kind ≡ kind) × IsPair tree site prefix pair
+IsOf kind tree site prefix None = (pair : Pair) → pair.kind ≡ kind → IsPair tree site prefix pair → ⊥
+
+-- whether no node is at a path
+abbrev pub is_free_at : Content → Result (List (List ℕ)) PathFault → Bool
+is_free_at tree (Ok path) = is_none (node_at tree path)
+is_free_at tree (Err e) = false
+
+-- whether a text spells a path at which no node is
+abbrev pub is_free : Content → List ℕ → Bool
+is_free tree text = is_free_at tree (path_of text)
+
+-- the first kid of a node that is among some paths
+abbrev pub first_kid : Content → List (List ℕ) → List (List (List ℕ)) → Option (List (List ℕ))
+first_kid tree parent paths = option_map (kid parent) (find (λ name. list_any (same_path (kid parent name)) paths) (kids_at tree parent))
+
+-- the first of some paths, the root where there is none
+abbrev pub first_path : List (List (List ℕ)) → List (List ℕ)
+first_path paths = slice_index_or paths 0 []
+
+-- a path is among others, and before each of them in the order of nodes with one vanity path
+pub record IsFirst (tree : Content) (paths : List (List (List ℕ))) (path : List (List ℕ)) : Type 0 where
+  pub among : list_any (same_path path) paths ≡ true
+  pub first : (other : List (List ℕ)) → list_any (same_path other) paths ≡ true → (other ≡ path) ⊎ (vanity_cmp tree path other ≡ Less)
+
+-- the end of a text, or the rest from a dot or a slash on
+abbrev pub is_cut : List ℕ → Bool
+is_cut [] = true
+is_cut (b ∷ rest) = b == 46 || b == 47
+
+-- the pair that decides among those with a prefix, before the rest of a text
+abbrev pub IsBest : Content → Option (List (List ℕ)) → List ℕ → List ℕ → Option Pair → Type 0
+IsBest tree site prefix rest (Some pair) = IsPair tree site prefix pair × (goes_on pair.kind rest ≡ true)
+    × ((other : Pair) → IsPair tree site prefix other → goes_on other.kind rest ≡ true → rank pair.kind ≤ rank other.kind)
+IsBest tree site prefix rest None = (other : Pair) → IsPair tree site prefix other → goes_on other.kind rest ≡ true → ⊥
+
+-- no pair with a prefix of more bytes applies
+abbrev pub HasNoneBeyond : Content → Option (List (List ℕ)) → List ℕ → ℕ → Type 0
+HasNoneBeyond tree site text at = (k : ℕ) (pair : Pair) → at < k → Applies tree site text k pair → ⊥
+
+-- what the pair that decides makes of a text
+pub record IsStep (tree : Content) (site : Option (List (List ℕ))) (text : List ℕ) (step : Step) : Type 0 where
+  pub at : ℕ
+  pub pair : Pair
+  pub decides : Decides tree site text at pair
+  pub text_is : step.text ≡ text_after pair at text
+  pub away_is : step.away ≡ pair.away
+
+-- a turn, or that no pair applies
+abbrev pub IsTurn : Content → Option (List (List ℕ)) → List ℕ → Option Step → Type 0
+IsTurn tree site text (Some step) = IsStep tree site text step
+IsTurn tree site text None = HasNoPair tree site text
+
+-- the path below a site that a prefix names, where there is one
+abbrev pub below_site : List (List ℕ) → Result (List (List ℕ)) PathFault → Option (List (List ℕ))
+below_site site (Ok below) = path_or_none (site ++ below)
+below_site site (Err e) = None
+
+abbrev pub mapped_path : List (List ℕ) → List ℕ → Option (List (List ℕ))
+mapped_path site [] = Some site
+mapped_path site (b ∷ []) = None
+mapped_path site (b ∷ c ∷ text) = below_site site (path_of (b ∷ c ∷ text))
+
+-- the pair of a mapping's node, or that it leads nowhere
+abbrev pub IsMappingPair : Node → Option Pair → Type 0
+IsMappingPair node (Some pair) = (pair.kind ≡ Mapping) × (mapping_of node ≡ Some (pair.target, pair.away))
+IsMappingPair node None = mapping_of node ≡ None
+
+-- the text up to its last dot or slash, if it has one
+abbrev pub is_separator : ℕ → Bool
+is_separator b = b == 46 || b == 47
+
+abbrev pub IsShorter : List ℕ → Option (List ℕ) → Type 0
+IsShorter text (Some front) = (length front < length text) × (front ≡ take (length front) text) × (is_separator (slice_index text (length front)) ≡ true)
+    × ((k : ℕ) → length front < k → k < length text → is_separator (slice_index text k) ≡ false)
+IsShorter text None = (k : ℕ) → k < length text → is_separator (slice_index text k) ≡ false

@@ -1,0 +1,47 @@
+-- What a tree maps a text to: turn by turn, the pair that decides puts its target in the place of its prefix.
+use Rattle.std.specs.Prelude.{◌≡◌, ◌⊎◌, ◌++◌, ℕ, zero, suc, List, [], ◌∷◌, Option, Some, None, codes, drop}
+use Rattle.resource_tree.specs.Content.{Content}
+use Rattle.url_maps.specs.declared.answer.MapAnswer.{MapAnswer}
+use Rattle.url_maps.specs.declared.answer.MapAnswer.TheVariants.{Inside, Away}
+use Rattle.url_maps.specs.declared.pairs.Pair.{Pair}
+use Rattle.url_maps.specs.declared.pairs.PairKind.{PairKind}
+use Rattle.url_maps.specs.declared.pairs.PairKind.TheVariants.{Mapping, Alias, VanityPath}
+use Rattle.url_maps.specs.Mappings.{site_of}
+use Rattle.url_maps.specs.Pairs.{Decides, HasNoPair}
+
+-- what follows the target: what followed the prefix, after a vanity path's target at least `.html`
+abbrev pub ending : PairKind → List ℕ → List ℕ
+ending Mapping rest = rest
+ending Alias rest = rest
+ending VanityPath [] = codes ".html"
+ending VanityPath (b ∷ rest) = b ∷ rest
+
+-- the text after a turn
+abbrev pub text_after : Pair → ℕ → List ℕ → List ℕ
+text_after pair at text = pair.target ++ ending pair.kind (drop at text)
+
+-- a pair ends the turns by leading away
+abbrev pub leads : Option ℕ → List ℕ → (MapAnswer → Type 0) → MapAnswer → Type 0
+leads (Some status) text further answer = answer ≡ Away status text
+leads None text further answer = further answer
+
+-- a turn in which a pair decides
+pub record Turn (tree : Content) (site : Option (List (List ℕ))) (text : List ℕ) (further : List ℕ → MapAnswer → Type 0) (answer : MapAnswer) : Type 0 where
+  pub at : ℕ
+  pub pair : Pair
+  pub decides : Decides tree site text at pair
+  pub outcome : leads pair.away (text_after pair at text) (further (text_after pair at text)) answer
+
+-- What n turns make of a text, the first of them with the mappings of a site: they end where no pair applies, where a pair leads away, or after the
+-- last.
+abbrev pub Turns : Content → ℕ → Option (List (List ℕ)) → List ℕ → MapAnswer → Type 0
+Turns tree zero site text answer = answer ≡ Inside text
+Turns tree (suc n) site text answer = (HasNoPair tree site text × (answer ≡ Inside text)) ⊎ Turn tree site text (Turns tree n None) answer
+
+-- the most turns
+abbrev pub most_turns : ℕ
+most_turns = 16
+
+-- The tree maps the text to the answer, for a host and a port: mappings count in the first turn alone.
+unfoldable pub IsMapped : Content → List ℕ → ℕ → List ℕ → MapAnswer → Type 0
+IsMapped tree host port text answer = Turns tree most_turns (Some (site_of host port)) text answer

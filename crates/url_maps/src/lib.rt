@@ -1,0 +1,24 @@
+//! From the path of a request to the path of a resource: mappings, aliases and vanity paths (Apache Sling, "Mappings for resource
+//! resolution").
+#![tactic(auto)]
+
+mod aliases;
+mod answer;
+mod claims;
+mod index;
+mod laws;
+mod locations;
+mod mappings;
+mod pairs;
+mod turns;
+mod vanity_paths;
+mod words;
+
+pub use answer::MapAnswer;
+pub use index::MapIndex;
+pub use laws::{
+    a_text_is_mapped_to_one_answer, a_text_without_a_pair_is_mapped_to_itself,
+    at_most_one_pair_decides,
+};
+pub use locations::location_of;
+pub use turns::map_in;

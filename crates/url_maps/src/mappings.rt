@@ -1,0 +1,144 @@
+// The mappings of a host and a port.
+ghost use Rattle.std.specs.Prelude.{◌≡◌, ◌↔◌, IfOk, IsTrue, Some};
+ghost use Rattle.sp_base.specs.Paths.{path_or_none};
+ghost use Rattle.url_maps.specs.Mappings.{IsPlain, has_match, redirect_status, site_of, status_of};
+ghost use Rattle.url_maps.specs.Search.{IsMappingPair, IsOf, mapped_path};
+
+use crate::pairs::{Pair, PairKind};
+use crate::words::{number, texts};
+use resource_tree::{Node, Tree};
+use sp_base::{Mem, NoMemory, Path, PathFault, TextBuf, a_path_and_its_text};
+use std::alloc::Global;
+
+/// The status of a redirect whose mapping names none (RFC 9110, section 15.4.3).
+const FOUND: u16 = 302;
+
+// The path of the node with the mappings for a host and a port, where it may be one.
+pub(crate) fn site_of(alloc: Global, host: &str, port: u16) -> Mem<Option<Path>>
+    ensures { IfOk result (λ o. o ≡ path_or_none (site_of host.now port)) }
+{
+    let mut name = host.to_ascii_lowercase(alloc)?;
+    name.push_str(".")?;
+    name.push_str(format!(in alloc; "{port}")?.as_str())?;
+    match Path::read(alloc, "/etc/map/http") {
+        Ok(parent) => parent.child_or_none(alloc, name.as_str()),
+        Err(PathFault::NoMemory) => Err(NoMemory),
+        Err(_) => unreachable!(),
+    }
+}
+
+// The pair of a mapping of a site, if there is a site and the tree has one with this prefix.
+pub(crate) fn mapping_of(
+    alloc: Global,
+    tree: &Tree,
+    site: &Option<Path>,
+    prefix: &str,
+) -> Mem<Option<Pair>>
+    ensures { IfOk result (IsOf PairKind.Mapping tree.now site.now prefix.now) }
+{
+    match site {
+        Some(site) => mapping_below(alloc, tree, site, prefix),
+        None => Ok(None),
+    }
+}
+
+fn mapping_below(alloc: Global, tree: &Tree, site: &Path, prefix: &str) -> Mem<Option<Pair>>
+    ensures { IfOk result (IsOf PairKind.Mapping tree.now (Some site.now) prefix.now) }
+{
+    a_path_and_its_text();
+    let _ = tree.len();
+    let Some(path) = mapped_path(alloc, site, prefix)? else {
+        return Ok(None);
+    };
+    let Some(node) = tree.node(&path) else {
+        return Ok(None);
+    };
+    if !is_plain(alloc, tree, site, &path)? {
+        return Ok(None);
+    }
+    Ok(pair_of(alloc, node)?)
+}
+
+// The path below a site that a prefix names: the site for the empty one.
+fn mapped_path(alloc: Global, site: &Path, prefix: &str) -> Mem<Option<Path>>
+    ensures { IfOk result (λ o. o ≡ mapped_path site.now prefix.now) }
+{
+    if prefix.is_empty() {
+        return Ok(Some(site.duplicate(alloc)?));
+    }
+    if prefix == "/" {
+        return Ok(None);
+    }
+    match Path::read(alloc, prefix) {
+        Ok(below) => site.join_or_none(alloc, &below),
+        Err(PathFault::NoMemory) => Err(NoMemory),
+        Err(_) => Ok(None),
+    }
+}
+
+// Whether no node from a site down to a path has a pattern.
+fn is_plain(alloc: Global, tree: &Tree, site: &Path, path: &Path) -> Mem<bool>
+    ensures { IfOk result (λ is. IsTrue is ↔ IsPlain tree.now site.now path.now) }
+{
+    let deepest = path.depth();
+    for depth in site.depth()..deepest + 1 {
+        if has_match(tree, &path.first(alloc, depth)?) {
+            return Ok(false);
+        }
+    }
+    Ok(true)
+}
+
+#[tactic(auto, unfolding(crate::specs::Mappings::has_match))]
+fn has_match(tree: &Tree, path: &Path) -> bool
+    ensures { result ≡ has_match tree.now path.now }
+{
+    match tree.node(path) {
+        Some(node) => node.props.get("sling:match").is_some(),
+        None => false,
+    }
+}
+
+// Where the node of a mapping leads.
+#[tactic(auto, unfolding(crate::specs::Mappings::internal_target, crate::specs::Mappings::redirect_target))]
+fn pair_of(alloc: Global, node: &Node) -> Mem<Option<Pair>>
+    ensures { IfOk result (λ o. IsMappingPair node.now o) }
+{
+    if let Some(target) = texts(node.props.get("sling:internalRedirect")).first() {
+        return Ok(Some(Pair {
+            kind: PairKind::Mapping,
+            target: target.duplicate(alloc)?,
+            away: None,
+        }));
+    }
+    match node.props.text("sling:redirect") {
+        Some(target) => Ok(Some(Pair {
+            kind: PairKind::Mapping,
+            target: target.duplicate(alloc)?,
+            away: Some(status_of(node)),
+        })),
+        None => Ok(None),
+    }
+}
+
+fn status_of(node: &Node) -> u16
+    ensures { result ≡ status_of node.now }
+{
+    match number(node.props.get("sling:status")) {
+        Some(n) => redirect_status(n).unwrap_or(FOUND),
+        None => FOUND,
+    }
+}
+
+fn redirect_status(n: i64) -> Option<u16>
+    ensures { result ≡ redirect_status n }
+{
+    match n {
+        301 => Some(301),
+        302 => Some(302),
+        303 => Some(303),
+        307 => Some(307),
+        308 => Some(308),
+        _ => None,
+    }
+}

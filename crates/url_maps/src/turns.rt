@@ -1,0 +1,146 @@
+//! The turns in which a text is mapped.
+ghost use Rattle.std.specs.Prelude.{◌≡◌, ◌==◌, ◌≤◌, ◌<◌, ◌++◌, ℕ, true, IfOk, IfSome, IfNone, Some, None, option_copied, drop, length, take, slice_index};
+ghost use Rattle.resource_tree.specs.Content.{IsGood};
+ghost use Rattle.url_maps.specs.Claims.{IsIndexOf};
+ghost use Rattle.url_maps.specs.Search.{IsBest, IsShorter, IsTurn, is_cut};
+ghost use Rattle.url_maps.specs.Turns.{IsMapped, ending};
+
+use crate::mappings::{mapping_of, site_of};
+use crate::pairs::{Pair, PairKind};
+use crate::{MapAnswer, MapIndex};
+use resource_tree::Tree;
+use sp_base::{Mem, NoMemory, Path, TextBuf};
+use std::alloc::Global;
+
+/// The most turns of a text.
+const MOST_TURNS: usize = 16;
+
+// What a turn in which a pair decides makes of a text.
+#[derive(Drop)]
+pub(crate) struct Step {
+    pub text: TextBuf,
+    /// The status of a redirect, where the pair leads away.
+    pub away: Option<u16>,
+}
+
+/// Maps the text of a request's path, for the host and the port that are asked. Without an index each call walks over the tree.
+pub fn map_in(alloc: Global, tree: &Tree, host: &str, port: u16, text: &str) -> Mem<MapAnswer>
+    ensures { IfOk result (IsMapped tree.now host.now port text.now) }
+{
+    MapIndex::of(alloc, tree)?.map_in(alloc, tree, host, port, text)
+}
+
+impl MapIndex {
+    /// Maps the text of a request's path with the index of the tree.
+    pub fn map_in(
+        &self,
+        alloc: Global,
+        tree: &Tree,
+        host: &str,
+        port: u16,
+        text: &str,
+    ) -> Mem<MapAnswer>
+        requires { IsIndexOf tree.now self.now }
+        ensures { IfOk result (IsMapped tree.now host.now port text.now) }
+    {
+        let _ = tree.len();
+        let mut site = site_of(alloc, host, port)?;
+        let mut text = TextBuf::of(alloc, text)?;
+        for _ in 0..MOST_TURNS {
+            let Some(step) = self.step(alloc, tree, &site, text.text())? else {
+                return Ok(MapAnswer::Inside(text));
+            };
+            if let Some(status) = step.away {
+                return Ok(MapAnswer::Away(status, step.text));
+            }
+            text = step.text;
+            site = None;
+        }
+        Ok(MapAnswer::Inside(text))
+    }
+
+    // A turn, if a pair applies: the longest prefix is looked at first.
+    fn step(&self, alloc: Global, tree: &Tree, site: &Option<Path>, text: &str) -> Mem<Option<Step>>
+        requires { IsIndexOf tree.now self.now }
+        ensures { IfOk result (IsTurn tree.now site.now text.now) }
+    {
+        let mut prefix = text;
+        loop {
+            let rest = &text[prefix.len()..];
+            if let Some(pair) = self.best(alloc, tree, site, prefix, rest)? {
+                return Ok(Some(Step {
+                    text: text_after(alloc, &pair, rest)?,
+                    away: pair.away,
+                }));
+            }
+            match shorter(prefix) {
+                Some(front) => prefix = front,
+                None => return Ok(None),
+            }
+        }
+    }
+
+    // The pair that decides among those with a prefix.
+    fn best(
+        &self,
+        alloc: Global,
+        tree: &Tree,
+        site: &Option<Path>,
+        prefix: &str,
+        rest: &str,
+    ) -> Mem<Option<Pair>>
+        requires index { IsIndexOf tree.now self.now }
+        requires cut { is_cut rest.now ≡ true }
+        ensures { IfOk result (IsBest tree.now site.now prefix.now rest.now) }
+    {
+        if let Some(pair) = mapping_of(alloc, tree, site, prefix)? {
+            return Ok(Some(pair));
+        }
+        if let Some(pair) = self.alias_of(alloc, tree, prefix)? {
+            return Ok(Some(pair));
+        }
+        if begins_with_slash(rest) {
+            return Ok(None);
+        }
+        Ok(self.vanity_path_of(alloc, tree, prefix)?)
+    }
+}
+
+fn begins_with_slash(text: &str) -> bool
+    ensures { result ≡ (slice_index text.now 0 == 47) }
+{
+    text.starts_with('/')
+}
+
+// A text up to its last dot or slash.
+fn shorter(text: &str) -> Option<&str>
+    ensures { IsShorter text.now (option_copied result) }
+{
+    match (text.rfind('.'), text.rfind('/')) {
+        (Some(dot), Some(slash)) => Some(&text[..dot.max(slash)]),
+        (Some(dot), None) => Some(&text[..dot]),
+        (None, Some(slash)) => Some(&text[..slash]),
+        (None, None) => None,
+    }
+}
+
+// The text after a turn: the target, and what followed the prefix, after a vanity path's target at least `.html`.
+fn text_after(alloc: Global, pair: &Pair, rest: &str) -> Mem<TextBuf>
+    ensures { IfOk result (λ t. t ≡ pair.now.target ++ ending pair.now.kind rest.now) }
+{
+    let target = pair.target.text();
+    let ending = ending(pair.kind, rest);
+    let mut whole = String::with_capacity(alloc, target.len().saturating_add(ending.len()))?;
+    whole.push_str(target)?;
+    whole.push_str(ending)?;
+    Ok(TextBuf::from(whole))
+}
+
+fn ending(kind: PairKind, rest: &str) -> &str
+    ensures { result.now ≡ ending kind rest.entry.now }
+{
+    match kind {
+        PairKind::VanityPath if rest.is_empty() => ".html",
+        _ => rest,
+    }
+}

@@ -20,8 +20,8 @@ use std::alloc::Global;
 
 impl Tree {
     /// Moves a node and all below it to another path. The node stands last among the kids of its
-    /// new parent, and each kid below it in the order that it has. Only nodes of the part and the
-    /// two parents are looked up, and no property is copied.
+    /// new parent, and each kid below it in the order that it has. The rest of the tree is not
+    /// walked, and no property is copied.
     pub fn move_to(&mut self, alloc: Global, source: &Path, target: &Path) -> Result<(), TreeFault>
         ensures allowed { OnOk result (move_fault self.old source.now target.now ≡ None) }
         ensures ok { OnOk result (self.new ≡ relocation self.old source.now target.now) }

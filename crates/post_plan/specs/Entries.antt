@@ -1,0 +1,117 @@
+-- What content parameters ask of the nodes and properties that they name (Apache Sling, "SlingPostServlet").
+use Rattle.std.specs.Prelude.{◌==◌, ◌&&◌, ℕ, Bool, true, false, not, if◌then◌else◌, List, [], ◌∷◌, Option, Some, None, option_and_then, codes, length, map, filter, unwrap_or}
+use Rattle.std.specs.List.{filter_map, list_any}
+use Rattle.std.specs.Str.{bytes_eq}
+use Rattle.std.specs.Cmp.Lexicographic.{pointwise}
+use Rattle.sp_base.specs.declared.hint.Hint.{Hint}
+use Rattle.post_plan.specs.declared.suffix.Suffix.{Suffix}
+use Rattle.post_plan.specs.declared.suffix.Suffix.TheVariants.{Plain, TypeHint, DefaultValue, Delete, MoveFrom, CopyFrom, ValueFrom, IgnoreBlanks}
+use Rattle.post_plan.specs.declared.spot.Spot.{Spot}
+use Rattle.post_plan.specs.declared.spot.Carry.{Carry}
+use Rattle.post_plan.specs.declared.operation.PropSet.{PropSet}
+use Rattle.post_plan.specs.Parameters.{path_text, suffix_of, words_of, content}
+use Rattle.post_plan.specs.Hints.{hint_of}
+use Rattle.post_plan.specs.Spots.{spot_of}
+
+-- a content parameter: the spot and the suffix of its name, and its word
+pub record Entry : Type 0 where
+  pub spot : Spot
+  pub suffix : Suffix
+  pub word : List ℕ
+
+abbrev pub entry_by : Option Spot → Option Suffix → List ℕ → Option Entry
+entry_by None suffix word = None
+entry_by (Some spot) None word = None
+entry_by (Some spot) (Some suffix) word = Some (record { spot = spot; suffix = suffix; word = word })
+
+abbrev pub entry_of : List (List ℕ) → List ℕ × List ℕ → Option Entry
+entry_of node p = entry_by (spot_of node (path_text p.0)) (suffix_of p.0) p.1
+
+-- the content parameters of a form, seen from a node
+abbrev pub entries : List (List ℕ) → List (List ℕ × List ℕ) → List Entry
+entries node pairs = filter_map (entry_of node) (content pairs)
+
+abbrev pub same_suffix : Suffix → Suffix → Bool
+same_suffix Plain Plain = true
+same_suffix TypeHint TypeHint = true
+same_suffix DefaultValue DefaultValue = true
+same_suffix Delete Delete = true
+same_suffix MoveFrom MoveFrom = true
+same_suffix CopyFrom CopyFrom = true
+same_suffix ValueFrom ValueFrom = true
+same_suffix IgnoreBlanks IgnoreBlanks = true
+same_suffix s t = false
+
+abbrev pub with_suffix : Suffix → List Entry → List Entry
+with_suffix suffix es = filter (λ e. same_suffix suffix e.suffix) es
+
+-- each `@Delete`, in the order of the form
+abbrev pub deletes : List Entry → List Spot
+deletes es = map (λ e. e.spot) (with_suffix Delete es)
+
+abbrev pub carry_by : Option Spot → Spot → Option Carry
+carry_by None to = None
+carry_by (Some from) to = Some (record { from = from; to = to })
+
+-- each `@MoveFrom`, or each `@CopyFrom`, in the order of the form
+abbrev pub carries : List (List ℕ) → Suffix → List Entry → List Carry
+carries node suffix es = filter_map (λ e. carry_by (spot_of node e.word) e.spot) (with_suffix suffix es)
+
+abbrev pub same_bool : Bool → Bool → Bool
+same_bool true b = b
+same_bool false b = not b
+
+abbrev pub same_spot : Spot → Spot → Bool
+same_spot s t = same_bool s.at_target t.at_target && pointwise bytes_eq s.path t.path
+
+-- the first of each that are alike
+unfoldable pub distinct : List Spot → List Spot
+distinct [] = []
+distinct (s ∷ more) = s ∷ filter (λ t. not (same_spot s t)) (distinct more)
+
+-- the words of a spot's parameters with a suffix
+abbrev pub words_at : Spot → Suffix → List Entry → List (List ℕ)
+words_at spot suffix es = map (λ e. e.word) (filter (λ e. same_spot spot e.spot) (with_suffix suffix es))
+
+abbrev pub first : List (List ℕ) → Option (List ℕ)
+first [] = None
+first (word ∷ more) = Some word
+
+-- its own words, or those of the parameter that `@ValueFrom` names
+abbrev pub given : Option (List ℕ) → List (List ℕ × List ℕ) → List (List ℕ) → List (List ℕ)
+given None pairs own = own
+given (Some name) pairs own = words_of name pairs
+
+abbrev pub is_true : Option (List ℕ) → Bool
+is_true None = false
+is_true (Some word) = bytes_eq word (codes "true")
+
+abbrev pub without_blanks : Bool → List (List ℕ) → List (List ℕ)
+without_blanks ignores words = if ignores then filter (λ word. not (length word == 0)) words else words
+
+abbrev pub is_one_blank : List (List ℕ) → Bool
+is_one_blank [] = false
+is_one_blank (word ∷ []) = length word == 0
+is_one_blank (word ∷ next ∷ more) = false
+
+-- one empty word that is left gives way to defaults
+abbrev pub defaulted : List (List ℕ) → List (List ℕ) → List (List ℕ)
+defaulted [] words = words
+defaulted (default ∷ more) words = if is_one_blank words then default ∷ more else words
+
+-- the words that a spot is set to
+abbrev pub set_words : List (List ℕ × List ℕ) → List Entry → Spot → List (List ℕ)
+set_words pairs es spot = defaulted (words_at spot DefaultValue es)
+    (without_blanks (is_true (first (words_at spot IgnoreBlanks es)))
+    (given (first (words_at spot ValueFrom es)) pairs (words_at spot Plain es)))
+
+abbrev pub set_by : Spot → Option Hint → List (List ℕ) → Option PropSet
+set_by spot hint [] = None
+set_by spot hint (word ∷ more) = Some (record { spot = spot; hint = hint; words = word ∷ more })
+
+abbrev pub set_of : List (List ℕ × List ℕ) → List Entry → Spot → Option PropSet
+set_of pairs es spot = set_by spot (option_and_then hint_of (first (words_at spot TypeHint es))) (set_words pairs es spot)
+
+-- the properties that are set, each at the place of the first parameter that names it
+abbrev pub sets : List (List ℕ × List ℕ) → List Entry → List PropSet
+sets pairs es = filter_map (set_of pairs es) (distinct (map (λ e. e.spot) es))

@@ -1,0 +1,43 @@
+-- Type hints (Apache Sling, "SlingPostServlet", "@TypeHint").
+use Rattle.std.specs.Prelude.{◌||◌, ◌-◌, ℕ, Bool, true, false, nat_eq, is_none, option_map, if◌then◌else◌, List, Option, Some, None, codes, length, take}
+use Rattle.std.specs.List.{ends_with, find}
+use Rattle.std.specs.Str.{bytes_eq}
+use Rattle.sp_base.specs.declared.hint.Hint.{Hint}
+use Rattle.sp_base.specs.declared.hint.HintKind.{HintKind}
+use Rattle.sp_base.specs.declared.hint.HintKind.TheVariants.{Text, Long, Truth}
+use Rattle.post_plan.specs.declared.suffix.Suffix.{Suffix}
+use Rattle.post_plan.specs.declared.suffix.Suffix.TheVariants.{Plain, TypeHint, DefaultValue, Delete, MoveFrom, CopyFrom, ValueFrom, IgnoreBlanks}
+use Rattle.post_plan.specs.declared.fault.PlanFault.{PlanFault}
+use Rattle.post_plan.specs.declared.fault.PlanFault.TheVariants.{BadHint}
+use Rattle.post_plan.specs.Parameters.{suffix_of, content}
+
+abbrev pub is_text_word : List ℕ → Bool
+is_text_word word = bytes_eq word (codes "String") || (bytes_eq word (codes "Date") || (bytes_eq word (codes "Name") || (bytes_eq word (codes "Path") || bytes_eq word (codes "URI"))))
+
+abbrev pub kind_of : List ℕ → Option HintKind
+kind_of word = if is_text_word word then Some Text
+    else (if bytes_eq word (codes "Long") then Some Long
+    else (if bytes_eq word (codes "Boolean") then Some Truth else None))
+
+abbrev pub hint_by : Bool → Option HintKind → Option Hint
+hint_by many None = None
+hint_by many (Some kind) = Some (record { kind = kind; many = many })
+
+-- the hint that a word names; `[]` at its end asks for many values
+abbrev pub hint_of : List ℕ → Option Hint
+hint_of word = if ends_with nat_eq word (codes "[]") then hint_by true (kind_of (take (length word - 2) word)) else hint_by false (kind_of word)
+
+abbrev pub is_bad_word : Option Suffix → List ℕ → Bool
+is_bad_word None word = true
+is_bad_word (Some Plain) word = false
+is_bad_word (Some TypeHint) word = is_none (hint_of word)
+is_bad_word (Some DefaultValue) word = false
+is_bad_word (Some Delete) word = false
+is_bad_word (Some MoveFrom) word = false
+is_bad_word (Some CopyFrom) word = false
+is_bad_word (Some ValueFrom) word = false
+is_bad_word (Some IgnoreBlanks) word = false
+
+-- the first content parameter with an unknown suffix or an unknown type hint
+abbrev pub hint_fault : List (List ℕ × List ℕ) → Option PlanFault
+hint_fault pairs = option_map (λ p. BadHint p.0) (find (λ p. is_bad_word (suffix_of p.0) p.1) (content pairs))

@@ -1,0 +1,6 @@
+pub mod Parameters
+pub mod Hints
+pub mod Spots
+pub mod NewNames
+pub mod Entries
+pub mod Plan

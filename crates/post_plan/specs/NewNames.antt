@@ -1,0 +1,47 @@
+-- The name of a node that a POST makes (Apache Sling, "SlingPostServlet", "Algorithm for node name creation").
+use Rattle.std.specs.Prelude.{◌&&◌, ◌||◌, ◌==◌, ◌+◌, ℕ, Bool, true, false, not, if◌then◌else◌, List, [], ◌∷◌, Option, Some, None, unwrap_or, codes, length, take, map}
+use Rattle.std.specs.List.{find, flat_map}
+use Rattle.std.specs.Char.{is_ascii_alphanumeric, to_ascii_lowercase}
+use Rattle.post_plan.specs.declared.operation.NameWish.{NameWish}
+use Rattle.post_plan.specs.declared.operation.NameWish.TheVariants.{Exact, Hint}
+use Rattle.post_plan.specs.Parameters.{first_word, words_of}
+
+-- ASCII letters in lower case and digits; each run of other bytes is one `_`
+unfoldable pub squeezed : Bool → List ℕ → List ℕ
+squeezed run [] = []
+squeezed run (b ∷ text) = if is_ascii_alphanumeric b then to_ascii_lowercase b ∷ squeezed false text
+    else (if run then squeezed true text else 95 ∷ squeezed true text)
+
+-- the most bytes of a made name
+abbrev pub longest_made : ℕ
+longest_made = 20
+
+abbrev pub or_node : List ℕ → List ℕ
+or_node name = if length name == 0 then codes "node" else name
+
+-- the name that is made from a word
+abbrev pub made_name : List ℕ → List ℕ
+made_name word = or_node (take longest_made (squeezed false word))
+
+-- the parameters whose words a name is made from
+abbrev pub sources : List (List ℕ)
+sources = codes "title" ∷ codes "jcr:title" ∷ codes "name" ∷ codes "description" ∷ codes "jcr:description" ∷ codes "abstract" ∷ codes "text" ∷ codes "jcr:text" ∷ []
+
+abbrev pub first_source : List (List ℕ × List ℕ) → List ℕ
+first_source pairs = unwrap_or (find (λ word. not (length word == 0)) (flat_map (λ name. words_of name pairs) sources)) []
+
+abbrev pub hinted : Option (List ℕ) → List (List ℕ × List ℕ) → NameWish
+hinted (Some word) pairs = Hint (made_name word)
+hinted None pairs = Hint (made_name (first_source pairs))
+
+abbrev pub named : Option (List ℕ) → List (List ℕ × List ℕ) → NameWish
+named (Some word) pairs = Exact word
+named None pairs = hinted (first_word (codes ":nameHint") pairs) pairs
+
+-- the name of a new node: `:name`, else one made from `:nameHint`, else from the first word, not empty, of the sources
+abbrev pub wish_of : List (List ℕ × List ℕ) → NameWish
+wish_of pairs = named (first_word (codes ":name") pairs) pairs
+
+abbrev pub name_in : NameWish → List ℕ
+name_in (Exact name) = name
+name_in (Hint name) = name

@@ -1,0 +1,45 @@
+//! Why parameters ask for no operation.
+ghost use Rattle.std.specs.Prelude.{◌≡◌};
+ghost use Rattle.post_plan.specs.declared.fault.PlanFault.TheVariants.{NoMemory as no_memory};
+
+use sp_base::{NoMemory, TextBuf};
+use std::alloc::{AllocError, AllocFailed};
+
+#[derive(Drop)]
+pub enum PlanFault {
+    /// `:operation` names no operation.
+    BadOperation,
+    /// A copy or a move without a `:dest`.
+    NoDest,
+    /// `:order` names no place.
+    BadOrder,
+    /// The parameter of this name has an unknown suffix, or names an unknown type.
+    BadHint(TextBuf),
+    /// This text is no path, leads above the root, or leads to what isn't changed.
+    BadPath(TextBuf),
+    NoMemory,
+}
+
+impl From<NoMemory> for PlanFault {
+    ghost from_gives = { λ _ e. e ≡ no_memory };
+
+    fn from(_fault: NoMemory) -> PlanFault {
+        PlanFault::NoMemory
+    }
+}
+
+impl From<AllocError> for PlanFault {
+    ghost from_gives = { λ _ e. e ≡ no_memory };
+
+    fn from(_fault: AllocError) -> PlanFault {
+        PlanFault::NoMemory
+    }
+}
+
+impl<T: Drop> From<AllocFailed<T>> for PlanFault {
+    ghost from_gives = { λ _ e. e ≡ no_memory };
+
+    fn from(_fault: AllocFailed<T>) -> PlanFault {
+        PlanFault::NoMemory
+    }
+}

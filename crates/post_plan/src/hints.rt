@@ -1,0 +1,49 @@
+//! The type that a hint names.
+ghost use Rattle.std.specs.Prelude.{◌≡◌};
+ghost use Rattle.post_plan.specs.Hints as spec;
+
+use sp_base::{Hint, HintKind};
+
+fn is_text_word(word: &[u8]) -> bool
+    ensures { result ≡ spec.is_text_word word.now }
+{
+    word == b"String".as_slice()
+        || (word == b"Date".as_slice()
+            || (word == b"Name".as_slice()
+                || (word == b"Path".as_slice() || word == b"URI".as_slice())))
+}
+
+fn kind_of(word: &[u8]) -> Option<HintKind>
+    ensures { result ≡ spec.kind_of word.now }
+{
+    if is_text_word(word) {
+        Some(HintKind::Text)
+    } else if word == b"Long".as_slice() {
+        Some(HintKind::Long)
+    } else if word == b"Boolean".as_slice() {
+        Some(HintKind::Truth)
+    } else {
+        None
+    }
+}
+
+fn hint_by(many: bool, kind: Option<HintKind>) -> Option<Hint>
+    ensures { result ≡ spec.hint_by many kind }
+{
+    match kind {
+        Some(kind) => Some(Hint { kind, many }),
+        None => None,
+    }
+}
+
+/// The hint that a word names.
+pub fn hint_of(word: &str) -> Option<Hint>
+    ensures { result ≡ spec.hint_of word.now }
+{
+    let bytes = word.as_bytes();
+    if bytes.ends_with(b"[]") {
+        hint_by(true, kind_of(&bytes[..bytes.len() - 2]))
+    } else {
+        hint_by(false, kind_of(bytes))
+    }
+}

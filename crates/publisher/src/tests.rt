@@ -1,7 +1,7 @@
 //! Answers of whole requests on small contents.
 use crate::{Publisher, error_answer};
 use resource_tree::{Tree, TreeFault};
-use sp_base::{Answer, Ask, ByteBuf, Mark, NoMemory, Path, TextBuf, TruthList, Value, seg_ok};
+use sp_base::{Answer, Ask, ByteBuf, Mark, NoMemory, Path, TextBuf, TruthList, Value};
 use std::alloc::{AllocError, Global};
 use std::hash::RandomState;
 use std::io;
@@ -290,83 +290,6 @@ fn pages_have_4194304_bytes_at_most(rt: HostRuntime) -> Result<(), Failed> {
         let mut site = scripted_site(alloc, seeds, TextBuf::from(script))?;
         let got = asked(alloc, &mut site, "GET", "/p.html")?;
         assert!(rt; got.starts_with(status));
-    }
-    Ok(())
-}
-
-// Nodes with a property each.
-const LAYERS: &[(&str, &str, &str)] = &[
-    ("/libs/m/a", "x", "1"),
-    ("/content/t", "x", "low"),
-    ("/content/p", "sling:resourceSuperType", "/content/t"),
-    ("/content/p", "y", "up"),
-    ("/libs/q", "sling:resourceType", "t"),
-    ("/libs/q", "title", "A"),
-    ("/apps/q", "sp:mark", "no-store"),
-    (
-        "/apps/t/GET.html/jcr:content",
-        "jcr:data",
-        "${properties.title}",
-    ),
-    ("/libs/f/jcr:content", "jcr:data", "hey"),
-    ("/apps/f/jcr:content", "jcr:mimeType", "text/plain"),
-];
-
-fn layered_site(alloc: Global, seeds: RandomState) -> Result<Publisher, Failed> {
-    let mut tree = Tree::new(alloc, seeds)?;
-    for (path, _, _) in LAYERS {
-        make(alloc, &mut tree, &at(alloc, path)?)?;
-    }
-    for (path, name, value) in LAYERS {
-        if seg_ok(name) {
-            tree.set(alloc, &at(alloc, path)?, name, text(alloc, value)?)?;
-        }
-    }
-    let hidden = at(alloc, "/apps/m/a")?;
-    make(alloc, &mut tree, &hidden)?;
-    tree.set(alloc, &hidden, "sling:hideResource", Value::Truth(true))?;
-    Ok(Publisher::new(alloc, seeds, tree))
-}
-
-// Makes a node, and those above it that are not there.
-fn make(alloc: Global, tree: &mut Tree, path: &Path) -> Result<(), Failed> {
-    for depth in 0..path.depth() {
-        let path = path.first(alloc, depth + 1)?;
-        if tree.node(&path).is_none() {
-            tree.create(alloc, &path)?;
-        }
-    }
-    Ok(())
-}
-
-#[test]
-fn merged_resources_are_answered(rt: HostRuntime) -> Result<(), Failed> {
-    let alloc = rt.alloc();
-    let mut site = layered_site(alloc, RandomState::new(&rt)?)?;
-    let missing = "404 text/plain;charset=utf-8 - 404 Not Found\n";
-    for (path, want) in [
-        (
-            "/mnt/overlay/m.1.json",
-            "200 application/json;charset=utf-8 - {}",
-        ),
-        ("/mnt/overlay/m/a.json", missing),
-        ("/mnt/overlay.json", missing),
-        (
-            "/libs/m.1.json",
-            "200 application/json;charset=utf-8 - {\"a\":{\"x\":\"1\"}}",
-        ),
-        (
-            "/mnt/override/content/p.json",
-            "200 application/json;charset=utf-8 - {\"sling:resourceSuperType\":\"/content/t\",\"x\":\"low\",\"y\":\"up\"}",
-        ),
-        (
-            "/mnt/overlay/q.html",
-            "200 text/html;charset=utf-8 no-store A",
-        ),
-        ("/mnt/overlay/f", "200 text/plain - hey"),
-    ] {
-        let got = asked(alloc, &mut site, "GET", path)?;
-        assert_eq!(rt; got.as_str(), want, "at {path}");
     }
     Ok(())
 }

@@ -8,20 +8,20 @@ use Rattle.std.proofs.lemmas.List.{take_more}
 use Rattle.std.proofs.lemmas.List.Folds.{list_any-append}
 use Rattle.resource_tree.specs.declared.nodes.Node.{Node}
 use Rattle.resource_tree.specs.Content.{Content, IsGood, node_at, same_path, kid}
-use Rattle.content_json.specs.Steps.{begins, AreProps, AreBelow, AreBelowKids}
+use Rattle.content_json.specs.Steps.{is_at_or_below, AreProps, AreBelow, AreBelowKids}
 use Rattle.content_json.proofs.Under.{both, same_path_is, same_path_itself, bytes_eq_itself}
 use Rattle.content_json.proofs.KidLemmas.{or_split}
 
-pub begins_append : (path rest : List (List ℕ)) → begins path (path ++ rest) ≡ true
-begins_append [] rest = refl
-begins_append (s ∷ path) rest = rw (bytes_eq_itself s, begins_append path rest) refl
+pub is_at_or_below_append : (path rest : List (List ℕ)) → is_at_or_below path (path ++ rest) ≡ true
+is_at_or_below_append [] rest = refl
+is_at_or_below_append (s ∷ path) rest = rw (bytes_eq_itself s, is_at_or_below_append path rest) refl
 
-pub begins_split : (path q : List (List ℕ)) → begins path q ≡ true → (rest : List (List ℕ)) × (q ≡ path ++ rest)
-begins_split [] q h = (q, refl)
-begins_split (s ∷ path) [] h = absurd (false≢true h)
-begins_split (s ∷ path) (t ∷ q) h =
-    let parts = both (bytes_eq s t) (begins path q) h in
-    let more = begins_split path q parts.1 in
+pub is_at_or_below_split : (path q : List (List ℕ)) → is_at_or_below path q ≡ true → (rest : List (List ℕ)) × (q ≡ path ++ rest)
+is_at_or_below_split [] q h = (q, refl)
+is_at_or_below_split (s ∷ path) [] h = absurd (false≢true h)
+is_at_or_below_split (s ∷ path) (t ∷ q) h =
+    let parts = both (bytes_eq s t) (is_at_or_below path q) h in
+    let more = is_at_or_below_split path q parts.1 in
     (more.0, ap (λ x. x ∷ q) (sym (same_text s t (sym parts.0))) ∙ ap (λ p. s ∷ p) more.1)
 
 -- where a node is, one is at each path on its way
@@ -31,16 +31,16 @@ closed tree (s ∷ rest) path good h =
     good.shape.parents path s (closed tree rest (kid path s) good (subst (λ p. is_some (node_at tree p) ≡ true) (sym (append_assoc path (s ∷ []) rest)) h))
 
 -- a node below another is at or below one of its kids
-pub below_kid : (tree : Content) (path q : List (List ℕ)) (node : Node) → IsGood tree → node_at tree path ≡ Some node → begins path q ≡ true → same_path path q ≡ false
-    → is_some (node_at tree q) ≡ true → (name : List ℕ) × (list_any (bytes_eq name) node.kids ≡ true) × (begins (kid path name) q ≡ true)
-below_kid tree path q node good there under apart h = by (begins_split path q under).0 (begins_split path q under).1
+pub below_kid : (tree : Content) (path q : List (List ℕ)) (node : Node) → IsGood tree → node_at tree path ≡ Some node → is_at_or_below path q ≡ true → same_path path q ≡ false
+    → is_some (node_at tree q) ≡ true → (name : List ℕ) × (list_any (bytes_eq name) node.kids ≡ true) × (is_at_or_below (kid path name) q ≡ true)
+below_kid tree path q node good there under apart h = by (is_at_or_below_split path q under).0 (is_at_or_below_split path q under).1
   where
-    by : (rest : List (List ℕ)) → q ≡ path ++ rest → (name : List ℕ) × (list_any (bytes_eq name) node.kids ≡ true) × (begins (kid path name) q ≡ true)
+    by : (rest : List (List ℕ)) → q ≡ path ++ rest → (name : List ℕ) × (list_any (bytes_eq name) node.kids ≡ true) × (is_at_or_below (kid path name) q ≡ true)
     by [] e = absurd (false≢true (sym apart ∙ ap (same_path path) (e ∙ append-nil path) ∙ same_path_itself path))
     by (s ∷ rest) e =
         let at : q ≡ kid path s ++ rest = e ∙ sym (append_assoc path (s ∷ []) rest) in
         let kid_at = closed tree rest (kid path s) good (subst (λ p. is_some (node_at tree p) ≡ true) at h) in
-        (s, (good.shape.nodes path node there).kids s ∙ kid_at, ap (begins (kid path s)) at ∙ begins_append (kid path s) rest)
+        (s, (good.shape.nodes path node there).kids s ∙ kid_at, ap (is_at_or_below (kid path s)) at ∙ is_at_or_below_append (kid path s) rest)
 
 -- ---- what the writer learns
 

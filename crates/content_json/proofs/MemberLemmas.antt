@@ -13,8 +13,8 @@ use Rattle.resource_tree.specs.declared.nodes.Node.{Node}
 use Rattle.resource_tree.specs.Content.{Content, node_at, kid}
 use Rattle.content_json.specs.Names.{is_order}
 use Rattle.content_json.specs.Nodes.{nodes_in, nodes_below}
-use Rattle.content_json.specs.Steps.{member_nodes, begins, with_nodes_at}
-use Rattle.content_json.proofs.Under.{begins-one}
+use Rattle.content_json.specs.Steps.{member_nodes, is_at_or_below, with_nodes_at}
+use Rattle.content_json.proofs.Under.{is_at_or_below-one}
 use Rattle.content_json.proofs.NodeLemmas.{node_at-append, none_in}
 
 -- the name of a member
@@ -42,15 +42,15 @@ name_apart first e less same =
     let tied : slice_cmp nat_cmp (name_of first) (name_of e) ≡ Equal = ap (slice_cmp nat_cmp (name_of first)) (sym same) ∙ tied_itself nat_list_cmp_total (name_of first) in
     absurd (cc)
 
-none_at_member : (path q : List (List ℕ)) (first e : Entry) → name_of first ≢ name_of e → begins (kid path (name_of e)) q ≡ true → node_at (nodes_of path first) q ≡ None
+none_at_member : (path q : List (List ℕ)) (first e : Entry) → name_of first ≢ name_of e → is_at_or_below (kid path (name_of e)) q ≡ true → node_at (nodes_of path first) q ≡ None
 none_at_member path q first e apart below =
     elim (is_order (name_of first)) as (λ t. node_at (if t then [] else nodes_in (kid path (name_of first)) (view first.1)) q ≡ None) [
       | true ↦ refl
-      | false ↦ none_in (kid path (name_of first)) q (view first.1) (⊎_elim (λ h. absurd (apart (begins-one path q (name_of first) (name_of e) h below))) (λ h. h) (cases_Bool (begins (kid path (name_of first)) q)))
+      | false ↦ none_in (kid path (name_of first)) q (view first.1) (⊎_elim (λ h. absurd (apart (is_at_or_below-one path q (name_of first) (name_of e) h below))) (λ h. h) (cases_Bool (is_at_or_below (kid path (name_of first)) q)))
     ]
 
 -- the members so far have no node at or below a later one
-pub none_of_done : (path q : List (List ℕ)) (done : List Entry) (e : Entry) (more : List Entry) → IsStrictlySortedBy string_cmp (keys_of (done ++ e ∷ more)) → begins (kid path (name_of e)) q ≡ true → node_at (nodes_below path (members_view done)) q ≡ None
+pub none_of_done : (path q : List (List ℕ)) (done : List Entry) (e : Entry) (more : List Entry) → IsStrictlySortedBy string_cmp (keys_of (done ++ e ∷ more)) → is_at_or_below (kid path (name_of e)) q ≡ true → node_at (nodes_below path (members_view done)) q ≡ None
 unfolding IsStrictlySortedBy
 none_of_done path q [] e more h below = refl
 none_of_done path q (first ∷ done) e more h below =
@@ -64,7 +64,7 @@ swap_none : (a b c : Option Node) → (b ≡ None) → option_or b (option_or a 
 swap_none None b c none = refl
 swap_none (Some x) b c none = rw none refl
 
-none_outside : (path q : List (List ℕ)) (e : Entry) → begins (kid path (name_of e)) q ≡ false → node_at (nodes_of path e) q ≡ None
+none_outside : (path q : List (List ℕ)) (e : Entry) → is_at_or_below (kid path (name_of e)) q ≡ false → node_at (nodes_of path e) q ≡ None
 none_outside path q e h =
     elim (is_order (name_of e)) as (λ t. node_at (if t then [] else nodes_in (kid path (name_of e)) (view e.1)) q ≡ None) [ true ↦ refl | false ↦ none_in (kid path (name_of e)) q (view e.1) h ]
 
@@ -77,4 +77,4 @@ one_more_member tree now next path done e more sorted was made q =
     (⊎_elim
     (λ below. swap (node_at (nodes_below path (members_view done)) q) (node_at (nodes_of path e) q) (node_at tree q) (none_of_done path q done e more sorted below))
     (λ apart. swap_none (node_at (nodes_below path (members_view done)) q) (node_at (nodes_of path e) q) (node_at tree q) (none_outside path q e apart))
-    (cases_Bool (begins (kid path (name_of e)) q)))
+    (cases_Bool (is_at_or_below (kid path (name_of e)) q)))

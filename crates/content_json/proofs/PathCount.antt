@@ -13,12 +13,12 @@ use Rattle.resource_tree.specs.declared.nodes.Node.{Node}
 use Rattle.resource_tree.specs.Content.{Content, by_path, node_at, kid}
 use Rattle.content_json.specs.Names.{is_order}
 use Rattle.content_json.specs.Nodes.{nodes_in, nodes_below, is_deeper, is_deeper_below, count_below}
-use Rattle.content_json.specs.Steps.{begins}
+use Rattle.content_json.specs.Steps.{is_at_or_below}
 use Rattle.content_json.specs.Ways.{way_end, node_of_value}
 use Rattle.content_json.specs.ContentOf.{map_of, is_too_big, exceeds_limits}
-use Rattle.content_json.proofs.Under.{by_path_total, by_path_exact, begins_itself, begins-parent}
+use Rattle.content_json.proofs.Under.{by_path_total, by_path_exact, is_at_or_below_itself, is_at_or_below-parent}
 use Rattle.content_json.proofs.NodeLemmas.{node_at-append, none_at_parent}
-use Rattle.content_json.proofs.BelowLemmas.{begins_split}
+use Rattle.content_json.proofs.BelowLemmas.{is_at_or_below_split}
 use Rattle.content_json.proofs.MapLemmas.{find_in_map, map_sorted}
 use Rattle.content_json.proofs.SizeLemmas.{length-nodes_in}
 use Rattle.content_json.proofs.InsertLemmas.{AreSorted, entries_of}
@@ -67,7 +67,7 @@ map_length (e ∷ nodes) h =
     ∙ (let rest = map_length nodes h.1 in omega (arith, rest))
 
 abbrev AreAt : List (List ℕ) → Content → Type 0
-AreAt path nodes = AllByRecursion (λ e. begins path e.0 ≡ true) nodes
+AreAt path nodes = AllByRecursion (λ e. is_at_or_below path e.0 ≡ true) nodes
 
 all_at-append : (path : List (List ℕ)) (a b : Content) → AreAt path a → AreAt path b → AreAt path (a ++ b)
 all_at-append path [] b g h = h
@@ -75,7 +75,7 @@ all_at-append path (e ∷ a) b g h = (g.0, all_at-append path a b g.1 h)
 
 all_at-parent : (path : List (List ℕ)) (name : List ℕ) (nodes : Content) → AreAt (kid path name) nodes → AreAt path nodes
 all_at-parent path name [] h = tt
-all_at-parent path name (e ∷ nodes) h = (begins-parent path e.0 name h.0, all_at-parent path name nodes h.1)
+all_at-parent path name (e ∷ nodes) h = (is_at_or_below-parent path e.0 name h.0, all_at-parent path name nodes h.1)
 
 none_or : (P : Content → Type 0) (b : Bool) (nodes : Content) → P [] → P nodes → P (if b then [] else nodes)
 none_or P true nodes g h = g
@@ -88,7 +88,7 @@ mutual
   all_at_in path (number n) = tt
   all_at_in path (string s) = tt
   all_at_in path (array ds) = tt
-  all_at_in path (object ms) = (begins_itself path, all_at_below path ms)
+  all_at_in path (object ms) = (is_at_or_below_itself path, all_at_below path ms)
 
   all_at_below : (path : List (List ℕ)) (ms : Members) → AreAt path (nodes_below path ms)
   all_at_below path no_members = tt
@@ -105,9 +105,9 @@ apart-append [] b g h apart = h
 apart-append (e ∷ a) b g h apart = (node_at-append a b e.0 ∙ neither_at (node_at a e.0) (node_at b e.0) g.0 apart.0, apart-append a b g.1 h apart.1)
 
 -- no node of later members is at or below an earlier one
-none_of_later : (path : List (List ℕ)) (name : List ℕ) (ms : Members) (q : List (List ℕ)) → AreSorted ms → AreInOrder ms → T (below_all by_name name (entries_of ms)) → begins (kid path name) q ≡ true → node_at (nodes_below path ms) q ≡ None
+none_of_later : (path : List (List ℕ)) (name : List ℕ) (ms : Members) (q : List (List ℕ)) → AreSorted ms → AreInOrder ms → T (below_all by_name name (entries_of ms)) → is_at_or_below (kid path name) q ≡ true → node_at (nodes_below path ms) q ≡ None
 none_of_later path name ms q s h below under =
-    let split = begins_split (kid path name) q under in
+    let split = is_at_or_below_split (kid path name) q under in
     let place : q ≡ path ++ name ∷ split.0 = split.1 ∙ append_assoc path (name ∷ []) split.0 in
     ap (node_at (nodes_below path ms)) place ∙ node_below_way path name split.0 ms s h
     ∙ ap (λ o. option_and_then node_of_value (if is_order name then None else option_and_then (way_end split.0) o)) (get_below name ms below) ∙ nothing (is_order name)

@@ -21,7 +21,7 @@ use Rattle.content_json.specs.declared.fault.Cause.TheVariants.{BadName as bad_n
 use Rattle.content_json.specs.Names.{order_name, is_order, is_plain, has_bad_name, is_object, is_kid}
 use Rattle.content_json.specs.Faults.{names_kids, is_good_order, has_good_order, here, in_member, fault_in, fault_below}
 use Rattle.content_json.specs.Nodes.{nodes_in, is_deeper, is_deeper_below}
-use Rattle.content_json.specs.Steps.{member_fault, begins}
+use Rattle.content_json.specs.Steps.{member_fault, is_at_or_below}
 use Rattle.content_json.specs.Written.{has_no_colon, keeps_kind}
 use Rattle.content_json.proofs.Under.{both, bytes_eq_itself}
 use Rattle.content_json.proofs.KidLemmas.{or_left, or_right}
@@ -35,7 +35,7 @@ pub record Returns (tree : Content) (levels : ℕ) (path : List (List ℕ)) (d :
   pub is_an_object : is_object d ≡ true
   pub faultless : fault_in d ≡ None
   pub shallow : is_deeper levels d ≡ false
-  pub nodes : (q : List (List ℕ)) → node_at (nodes_in path d) q ≡ (if begins path q then node_at tree q else None)
+  pub nodes : (q : List (List ℕ)) → node_at (nodes_in path d) q ≡ (if is_at_or_below path q then node_at tree q else None)
   pub distinct : IsDistinct same_path (keys_of (nodes_in path d))
 
 -- what is known of a node, and of what is read for its kids

@@ -17,8 +17,8 @@ use Rattle.resource_tree.specs.Content.{Content, IsGood, node_at, same_path}
 use Rattle.resource_tree.specs.Content as content
 use Rattle.content_json.specs.Names.{order_name, is_order, is_kid_member, kid_names}
 use Rattle.content_json.specs.Nodes.{node_of_members, nodes_in, nodes_below, is_deeper_below}
-use Rattle.content_json.specs.Steps.{begins}
-use Rattle.content_json.proofs.Under.{bytes_eq_itself, same_path_is, same_path_itself, same_path_swapped, begins_itself, begins-parent, begins-one}
+use Rattle.content_json.specs.Steps.{is_at_or_below}
+use Rattle.content_json.proofs.Under.{bytes_eq_itself, same_path_is, same_path_itself, same_path_swapped, is_at_or_below_itself, is_at_or_below-parent, is_at_or_below-one}
 use Rattle.content_json.proofs.KidLemmas.{or_left, or_right, or_split, kid_names_have}
 use Rattle.content_json.proofs.NodeLemmas.{none_unless, node_at-append, none_in, none_at_parent}
 use Rattle.content_json.proofs.BelowLemmas.{below_kid}
@@ -30,7 +30,7 @@ use Rattle.content_json.proofs.ReturnNodes.{node_back, prop_no_kid, order_name_n
 
 -- a path at or below one of these kids
 abbrev below_any : List (List ℕ) → List (List ℕ) → List (List ℕ) → Bool
-below_any path names q = list_any (λ s. begins (content.kid path s) q) names
+below_any path names q = list_any (λ s. is_at_or_below (content.kid path s) q) names
 
 -- the nodes of one member
 abbrev nodes_of : List (List ℕ) → List ℕ → Data → Content
@@ -65,10 +65,10 @@ any_at P s (k ∷ names) is h =
     (λ e. or_right (P k) (list_any P names) (any_at P s names is (or_split (bytes_eq s k) (list_any (bytes_eq s) names) h e)))
     (cases_Bool (bytes_eq s k))
 
-any_below : (path q : List (List ℕ)) (names : List (List ℕ)) → begins path q ≡ false → below_any path names q ≡ false
+any_below : (path q : List (List ℕ)) (names : List (List ℕ)) → is_at_or_below path q ≡ false → below_any path names q ≡ false
 any_below path q [] h = refl
 any_below path q (k ∷ names) h =
-    ap (λ t. t || below_any path names q) (⊎_elim (λ e. absurd (true≢false (sym (begins-parent path q k e) ∙ h))) (λ e. e) (cases_Bool (begins (content.kid path k) q))) ∙ any_below path q names h
+    ap (λ t. t || below_any path names q) (⊎_elim (λ e. absurd (true≢false (sym (is_at_or_below-parent path q k e) ∙ h))) (λ e. e) (cases_Bool (is_at_or_below (content.kid path k) q))) ∙ any_below path q names h
 
 -- ---- keys and look-ups
 
@@ -103,14 +103,14 @@ unfolding IsDistinct
 no_keys = tt
 
 -- the members after one have no node at or below it
-none_later : (path q : List (List ℕ)) (name : List ℕ) (ms : Members) → T (below_all by_name name (entries_of ms)) → begins (content.kid path name) q ≡ true → node_at (nodes_below path ms) q ≡ None
+none_later : (path q : List (List ℕ)) (name : List ℕ) (ms : Members) → T (below_all by_name name (entries_of ms)) → is_at_or_below (content.kid path name) q ≡ true → node_at (nodes_below path ms) q ≡ None
 none_later path q name no_members h under = refl
 none_later path q name (member k d ms) h under =
-    let apart : begins (content.kid path k) q ≡ false = ⊎_elim
-    (λ e. let same = begins-one path q name k under e in
+    let apart : is_at_or_below (content.kid path k) q ≡ false = ⊎_elim
+    (λ e. let same = is_at_or_below-one path q name k under e in
     absurd (subst T (ap is_lt (ap (by_name name) (sym same) ∙ tied_itself nat_list_cmp_total name)) (first (is_lt (by_name name k)) (below_all by_name name (entries_of ms)) h)))
     (λ e. e)
-    (cases_Bool (begins (content.kid path k) q)) in
+    (cases_Bool (is_at_or_below (content.kid path k) q)) in
     node_at-append (nodes_of path k d) (nodes_below path ms) q
     ∙ ap (λ o. option_or o (node_at (nodes_below path ms) q)) (none_unless (is_order k) (nodes_in (content.kid path k) d) q (none_in (content.kid path k) q d apart))
     ∙ none_later path q name ms (second (is_lt (by_name name k)) (below_all by_name name (entries_of ms)) h) under
@@ -142,8 +142,8 @@ module _ {tree : Content} {levels : ℕ} {path : List (List ℕ)} {f : List ℕ 
       node_at-append (nodes_of path name d) (nodes_below path ms) q
       ∙ ap (λ nodes. option_or (node_at nodes q) (node_at (nodes_below path ms) q)) (kid_nodes name d among is)
       ∙ ap (λ o. option_or o (node_at (nodes_below path ms) q)) ((n.kids name among).nodes q)
-      ∙ ap (option_or (if begins (content.kid path name) q then node_at tree q else None)) (nodes_at ms h q)
-      ∙ either (begins (content.kid path name) q) (below_any path (kid_names ms) q) (node_at tree q)
+      ∙ ap (option_or (if is_at_or_below (content.kid path name) q then node_at tree q else None)) (nodes_at ms h q)
+      ∙ either (is_at_or_below (content.kid path name) q) (below_any path (kid_names ms) q) (node_at tree q)
       ∙ sym (ap (λ t. if below_any path (if t then name ∷ kid_names ms else kid_names ms) q then node_at tree q else None) (kid_is_kid n name d among is))
 
   -- ---- each path once
@@ -159,7 +159,7 @@ module _ {tree : Content} {levels : ℕ} {path : List (List ℕ)} {f : List ℕ 
       let here = nodes_in (content.kid path name) (f name) in
       let below = first (below_all by_name name (entries_of ms)) (is_sorted by_name (entries_of ms)) sorted in
       let within = λ (q : List (List ℕ)) (there : is_some (node_at here q) ≡ true). none_later path q name ms below
-      (⊎_elim (λ e. e) (λ e. absurd (false≢true (sym (ap is_some (none_in (content.kid path name) q (f name) e)) ∙ there))) (cases_Bool (begins (content.kid path name) q))) in
+      (⊎_elim (λ e. e) (λ e. absurd (false≢true (sym (ap is_some (none_in (content.kid path name) q (f name) e)) ∙ there))) (cases_Bool (is_at_or_below (content.kid path name) q))) in
       subst (λ nodes. IsDistinct same_path (keys_of (nodes ++ nodes_below path ms))) (sym (kid_nodes name d among is))
       (distinct-append here (nodes_below path ms) (n.kids name among).distinct
       (distinct_below ms (second (below_all by_name name (entries_of ms)) (is_sorted by_name (entries_of ms)) sorted) h)
@@ -167,28 +167,28 @@ module _ {tree : Content} {levels : ℕ} {path : List (List ℕ)} {f : List ℕ 
 
   -- ---- the whole
 
-  nodes_back : IsGood tree → node_at tree path ≡ Some node → (q : List (List ℕ)) → node_at (nodes_in path (object (members_of f node))) q ≡ (if begins path q then node_at tree q else None)
+  nodes_back : IsGood tree → node_at tree path ≡ Some node → (q : List (List ℕ)) → node_at (nodes_in path (object (members_of f node))) q ≡ (if is_at_or_below path q then node_at tree q else None)
   nodes_back good there q =
       ⊎_elim
       (λ e. let same : q ≡ path = same_path_is q path e in
       ap (λ t. cond t (Some (node_of_members ms)) (node_at (nodes_below path ms) q)) e ∙ ap (λ m. Some m) (node_back n) ∙ sym there ∙ ap (node_at tree) (sym same)
-      ∙ sym (ap (λ t. if t then node_at tree q else None) (ap (begins path) same ∙ begins_itself path)))
+      ∙ sym (ap (λ t. if t then node_at tree q else None) (ap (is_at_or_below path) same ∙ is_at_or_below_itself path)))
       (λ e. ap (λ t. cond t (Some (node_of_members ms)) (node_at (nodes_below path ms) q)) e ∙ nodes_at ms n.members q ∙ by (node_at tree q) refl e)
       (cases_Bool (same_path q path))
     where
       ms : Members
       ms = members_of f node
 
-      by : (o : Option Node) → node_at tree q ≡ o → same_path q path ≡ false → (if below_any path (kid_names (members_of f node)) q then node_at tree q else None) ≡ (if begins path q then node_at tree q else None)
-      by None at e = ap (λ o. if below_any path (kid_names (members_of f node)) q then o else None) at ∙ nothing (below_any path (kid_names (members_of f node)) q) ∙ sym (nothing (begins path q)) ∙ ap (λ o. if begins path q then o else None) (sym at)
+      by : (o : Option Node) → node_at tree q ≡ o → same_path q path ≡ false → (if below_any path (kid_names (members_of f node)) q then node_at tree q else None) ≡ (if is_at_or_below path q then node_at tree q else None)
+      by None at e = ap (λ o. if below_any path (kid_names (members_of f node)) q then o else None) at ∙ nothing (below_any path (kid_names (members_of f node)) q) ∙ sym (nothing (is_at_or_below path q)) ∙ ap (λ o. if is_at_or_below path q then o else None) (sym at)
       by (Some m) at e =
           ap (λ t. if t then node_at tree q else None)
           (⊎_elim
           (λ under. let found = below_kid tree path q node good there under (same_path_swapped path q ∙ e) (ap is_some at) in
-          any_at (λ s. begins (content.kid path s) q) found.0 (kid_names (members_of f node)) found.2
+          any_at (λ s. is_at_or_below (content.kid path s) q) found.0 (kid_names (members_of f node)) found.2
           (kid_names_have found.0 (members_of f node) (kid_no_order n found.0 found.1) (kid_is_there n found.0 found.1)) ∙ sym under)
           (λ apart. any_below path q (kid_names (members_of f node)) apart ∙ sym apart)
-          (cases_Bool (begins path q)))
+          (cases_Bool (is_at_or_below path q)))
 
   pub returns_node : IsGood tree → node_at tree path ≡ Some node → Returns tree (suc levels) path (object (members_of f node))
   returns_node good there = record {

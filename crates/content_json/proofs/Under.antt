@@ -9,7 +9,7 @@ use Rattle.std.specs.declared.cmp.Ordering.{Ordering}
 use Rattle.std.specs.declared.cmp.Ordering.TheVariants.{Less, Equal, Greater}
 use Rattle.std.proofs.lemmas.Bool.{cases_Bool, true≢false, false≢true}
 use Rattle.resource_tree.specs.Content.{by_path, same_path, kid}
-use Rattle.content_json.specs.Steps.{begins}
+use Rattle.content_json.specs.Steps.{is_at_or_below}
 
 pub by_path_total : IsTotalOrder by_path
 by_path_total = lists_total nat_list_cmp_total
@@ -48,33 +48,33 @@ bytes_eq_swapped a b =
     (λ e. e ∙ sym (⊎_elim (λ g. absurd (true≢false (sym (bytes_eq_itself a) ∙ ap (bytes_eq a) (sym (same_text b a (sym g))) ∙ e))) (λ g. g) (cases_Bool (bytes_eq b a))))
     (cases_Bool (bytes_eq a b))
 
-pub begins_itself : (path : List (List ℕ)) → begins path path ≡ true
-begins_itself [] = refl
-begins_itself (s ∷ path) = rw (bytes_eq_itself s, begins_itself path) refl
+pub is_at_or_below_itself : (path : List (List ℕ)) → is_at_or_below path path ≡ true
+is_at_or_below_itself [] = refl
+is_at_or_below_itself (s ∷ path) = rw (bytes_eq_itself s, is_at_or_below_itself path) refl
 
 pub both : (a b : Bool) → (a && b) ≡ true → (a ≡ true) × (b ≡ true)
 both true b h = (refl, h)
 both false b h = absurd (false≢true h)
 
 -- what lies below a kid lies below its parent
-pub begins-parent : (path q : List (List ℕ)) (k : List ℕ) → begins (kid path k) q ≡ true → begins path q ≡ true
-begins-parent [] q k h = refl
-begins-parent (s ∷ path) [] k h = h
-begins-parent (s ∷ path) (t ∷ q) k h =
-    let parts = both (bytes_eq s t) (begins (kid path k) q) h in rw (parts.0) (begins-parent path q k parts.1)
+pub is_at_or_below-parent : (path q : List (List ℕ)) (k : List ℕ) → is_at_or_below (kid path k) q ≡ true → is_at_or_below path q ≡ true
+is_at_or_below-parent [] q k h = refl
+is_at_or_below-parent (s ∷ path) [] k h = h
+is_at_or_below-parent (s ∷ path) (t ∷ q) k h =
+    let parts = both (bytes_eq s t) (is_at_or_below (kid path k) q) h in rw (parts.0) (is_at_or_below-parent path q k parts.1)
 
 -- and below one kid alone
-pub begins-one : (path q : List (List ℕ)) (a b : List ℕ) → begins (kid path a) q ≡ true → begins (kid path b) q ≡ true → a ≡ b
-begins-one [] [] a b g h = absurd (false≢true g)
-begins-one [] (t ∷ q) a b g h = same_text a t (sym (both _ _ g).0) ∙ sym (same_text b t (sym (both _ _ h).0))
-begins-one (s ∷ path) [] a b g h = absurd (false≢true g)
-begins-one (s ∷ path) (t ∷ q) a b g h = begins-one path q a b (both _ _ g).1 (both _ _ h).1
+pub is_at_or_below-one : (path q : List (List ℕ)) (a b : List ℕ) → is_at_or_below (kid path a) q ≡ true → is_at_or_below (kid path b) q ≡ true → a ≡ b
+is_at_or_below-one [] [] a b g h = absurd (false≢true g)
+is_at_or_below-one [] (t ∷ q) a b g h = same_text a t (sym (both _ _ g).0) ∙ sym (same_text b t (sym (both _ _ h).0))
+is_at_or_below-one (s ∷ path) [] a b g h = absurd (false≢true g)
+is_at_or_below-one (s ∷ path) (t ∷ q) a b g h = is_at_or_below-one path q a b (both _ _ g).1 (both _ _ h).1
 
-begins_size : (path q : List (List ℕ)) (k : List ℕ) → begins (kid path k) q ≡ true → q ≢ path
-begins_size [] [] k h e = false≢true h
-begins_size [] (t ∷ q) k h e = absurd (cc)
-begins_size (s ∷ path) [] k h e = false≢true h
-begins_size (s ∷ path) (t ∷ q) k h e = begins_size path q k (both _ _ h).1 (cc)
+is_at_or_below_size : (path q : List (List ℕ)) (k : List ℕ) → is_at_or_below (kid path k) q ≡ true → q ≢ path
+is_at_or_below_size [] [] k h e = false≢true h
+is_at_or_below_size [] (t ∷ q) k h e = absurd (cc)
+is_at_or_below_size (s ∷ path) [] k h e = false≢true h
+is_at_or_below_size (s ∷ path) (t ∷ q) k h e = is_at_or_below_size path q k (both _ _ h).1 (cc)
 
-pub begins-not_parent : (path : List (List ℕ)) (k : List ℕ) → begins (kid path k) path ≡ false
-begins-not_parent path k = ⊎_elim (λ e. absurd (begins_size path path k e refl)) (λ e. e) (cases_Bool (begins (kid path k) path))
+pub is_at_or_below-not_parent : (path : List (List ℕ)) (k : List ℕ) → is_at_or_below (kid path k) path ≡ false
+is_at_or_below-not_parent path k = ⊎_elim (λ e. absurd (is_at_or_below_size path path k e refl)) (λ e. e) (cases_Bool (is_at_or_below (kid path k) path))

@@ -12,7 +12,7 @@ use Rattle.sp_base.specs.Names.{by_name}
 use Rattle.resource_tree.specs.Content.{node_at, same_path, kid}
 use Rattle.content_json.specs.Names.{is_order}
 use Rattle.content_json.specs.Nodes.{node_of_members, nodes_in, nodes_below}
-use Rattle.content_json.specs.Steps.{begins}
+use Rattle.content_json.specs.Steps.{is_at_or_below}
 use Rattle.content_json.specs.Ways.{way_end, node_of_value}
 use Rattle.content_json.proofs.Under.{same_path_itself, same_path_apart, bytes_eq_itself, bytes_eq_swapped}
 use Rattle.content_json.proofs.NodeLemmas.{node_at-append, none_unless, none_in}
@@ -46,9 +46,9 @@ value_at-kid (s ∷ way) name d =
 longer : (path : List (List ℕ)) (name : List ℕ) (way : List (List ℕ)) → same_path (path ++ name ∷ way) path ≡ false
 longer path name way = same_path_apart (path ++ name ∷ way) path (λ e. let size = ap length e in omega (arith, length-append path (name ∷ way), size))
 
-begins_other : (path : List (List ℕ)) (k name : List ℕ) (way : List (List ℕ)) → begins (kid path k) (path ++ name ∷ way) ≡ (bytes_eq k name && true)
-begins_other [] k name way = refl
-begins_other (s ∷ path) k name way = rw (bytes_eq_itself s) (begins_other path k name way)
+is_at_or_below_other : (path : List (List ℕ)) (k name : List ℕ) (way : List (List ℕ)) → is_at_or_below (kid path k) (path ++ name ∷ way) ≡ (bytes_eq k name && true)
+is_at_or_below_other [] k name way = refl
+is_at_or_below_other (s ∷ path) k name way = rw (bytes_eq_itself s) (is_at_or_below_other path k name way)
 
 none_and : (a : Bool) → a ≡ false → (a && true) ≡ false
 none_and a e = rw e refl
@@ -90,7 +90,7 @@ mutual
       ∙ ap here (sym same) ∙ own ∙ ap found (sym (got true e)))
       (λ e.
       let apart : bytes_eq k name ≡ false = bytes_eq_swapped k name ∙ e in
-      ap (λ o. option_or o (node_at (nodes_below path ms) q)) (none_unless (is_order k) (nodes_in (kid path k) d) q (none_in (kid path k) q d (begins_other path k name way ∙ none_and (bytes_eq k name) apart)))
+      ap (λ o. option_or o (node_at (nodes_below path ms) q)) (none_unless (is_order k) (nodes_in (kid path k) d) q (none_in (kid path k) q d (is_at_or_below_other path k name way ∙ none_and (bytes_eq k name) apart)))
       ∙ later ∙ ap found (sym (got false e)))
       (cases_Bool (bytes_eq name k))
 

@@ -20,11 +20,11 @@ use Rattle.content_json.specs.Faults.{in_member, fault_in}
 use Rattle.content_json.specs.Nodes.{nodes_in}
 use Rattle.content_json.specs.Written.{node_json}
 
--- the second path begins with the first
-abbrev pub begins : List (List ℕ) → List (List ℕ) → Bool
-begins [] q = true
-begins (s ∷ path) [] = false
-begins (s ∷ path) (t ∷ q) = bytes_eq s t && begins path q
+-- the second path is the first or is below it
+abbrev pub is_at_or_below : List (List ℕ) → List (List ℕ) → Bool
+is_at_or_below [] q = true
+is_at_or_below (s ∷ path) [] = false
+is_at_or_below (s ∷ path) (t ∷ q) = bytes_eq s t && is_at_or_below path q
 
 -- ---- reading
 
@@ -62,7 +62,7 @@ pub record AreProps (props : List (List ℕ × Value)) : Type 0 where
 
 -- so are those of each node at a path or below it
 abbrev pub AreBelow : Content → List (List ℕ) → Type 0
-AreBelow tree path = (q : List (List ℕ)) (node : Node) → begins path q ≡ true → node_at tree q ≡ Some node → AreProps node.props
+AreBelow tree path = (q : List (List ℕ)) (node : Node) → is_at_or_below path q ≡ true → node_at tree q ≡ Some node → AreProps node.props
 
 -- and at or below one of these kids
 abbrev pub AreBelowKids : Content → List (List ℕ) → List (List ℕ) → Type 0

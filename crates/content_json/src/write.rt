@@ -16,7 +16,7 @@ use sp_base::{ByteBuf, Mem, NoMemory, Path, PathFault, TextList};
 use std::alloc::{AllocError, Global};
 
 // The path of a kid of the tree.
-fn kid_path(alloc: Global, path: &Path, name: &str) -> Mem<Path>
+fn path_of_kid(alloc: Global, path: &Path, name: &str) -> Mem<Path>
     requires { IsTrue (is_path (kid path.now name.now)) }
     ensures { IfOk result (λ found. found ≡ kid path.now name.now) }
 {
@@ -64,7 +64,7 @@ fn write_kids(alloc: Global, tree: &Tree, writer: &mut Writer, path: &Path, node
     ensures props { OnOk result (AreBelowKids tree.now path.now node.now.kids) }
 {
     for name in node.kids.as_slice() {
-        let kid = kid_path(alloc, path, name.text())?;
+        let kid = path_of_kid(alloc, path, name.text())?;
         if let Some(node) = tree.node(&kid) {
             writer.key(name.text())?;
             write_node(alloc, tree, writer, &kid, node)?;

@@ -1,10 +1,8 @@
-//! Tables of expressions, through the real calls: what each gives, what it writes, and where the faults are.
+//! Expressions through the real calls: the kinds of their values, limits, lengths, and where the faults are. Tables of what they print are stored
+//! runs of the program (`examples/runs/expressions`).
 
 mod faults;
 mod lengths;
-mod literals;
-mod operators;
-mod options;
-mod properties;
 mod room;
 mod sample;
+mod values;

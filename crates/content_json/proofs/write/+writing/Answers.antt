@@ -10,8 +10,8 @@ use Rattle.content_json.proofs.WrittenLemmas.{among_items, kid_there, none_missi
 use Rattle.content_json.proofs.write.+writing.Goals as goal
 use Rattle.content_json.proofs.write.+writing.Goals.{write_kids-in-Some+in_ok-key+in_ok-write_node, write_kids-in_default}
 
-pub write_kids-kid_path-requires : goal.write_kids-kid_path-requires
-write_kids-kid_path-requires t c =
+pub write_kids-path_of_kid-requires : goal.write_kids-path_of_kid-requires
+write_kids-path_of_kid-requires t c =
     let tree = c.args.tree.now in
     let path = c.args.path.now in
     let node = c.args.node.now in

@@ -1,5 +1,5 @@
 -- Pairs, one part after another.
-use Rattle.std.proofs.Common.{◌≡◌, ◌≢◌, ◌<◌, ◌≤◌, ◌+◌, ℕ, suc, Bool, true, false, cond, eqb, List, [], ◌∷◌, ◌++◌, Option, Some, None, Result, Ok, Err, length, refl, ap, sym, ◌∙◌, arith, append_assoc, IfSome, option_copied, Bor, ◌-◌, not, length-append}
+use Rattle.std.proofs.Common.{◌≡◌, ◌<◌, ◌≤◌, ◌+◌, ℕ, suc, Bool, true, false, eqb, List, [], ◌∷◌, ◌++◌, Option, Some, None, Result, Ok, Err, length, refl, ap, sym, ◌∙◌, arith, append_assoc, IfSome, option_copied, Bor, ◌-◌, not, length-append}
 use Rattle.std.proofs.lemmas.Bool.Decides.{nat_tests}
 use Rattle.std.proofs.lemmas.List.{append-nil}
 use Rattle.form_input.specs.declared.boundary.Mark.{Mark}
@@ -11,10 +11,6 @@ use Rattle.form_input.specs.Multipart.{Section, Sections, sections, pair_of, bef
 
 abbrev pub Pairs : Type 0
 Pairs = List (List ℕ × List ℕ)
-
-pub before_none : (r : Result Pairs FormFault) → before_all [] r ≡ r
-before_none (Ok ps) = refl
-before_none (Err e) = refl
 
 pub before_more : (ps : Pairs) (p : List ℕ × List ℕ) (r : Result Pairs FormFault) → before_all ps (before_all (p ∷ []) r) ≡ before_all (ps ++ p ∷ []) r
 before_more ps p (Ok more) = ap Ok (sym (append_assoc ps (p ∷ []) more))
@@ -46,9 +42,6 @@ pub record IsReadTo (dash : List ℕ) (end : ℕ) (first : Mark) (form : Pairs) 
   pub same : before_all form (pairs_of end (length form) (from_mark dash end mark)) ≡ pairs_of end 0 (from_mark dash end first)
   pub few : length form ≤ 1000
   pub within : IfSome mark.after (λ rest. length rest.now ≤ end)
-
-pub read_nothing : (dash : List ℕ) (end : ℕ) (first : Mark) → IfSome first.after (λ rest. length rest.now ≤ end) → IsReadTo dash end first [] first
-read_nothing dash end first within = record { same = before_none (pairs_of end 0 (from_mark dash end first)); few = omega arith; within = within }
 
 -- no boundary line follows
 pub no_end : (dash : List ℕ) (end : ℕ) (first : Mark) (form : Pairs) (mark : Mark) → IsReadTo dash end first form mark → mark.closing ≡ false → (sections_left dash end (option_copied mark.after)).later ≡ []
@@ -130,6 +123,3 @@ pub body_without_end : (dash boundary body : List ℕ) → dash ≡ dash_boundar
 body_without_end dash boundary body e none =
     let same : (sections (dash_boundary boundary) 0 (lines body)).later ≡ [] = sym (ap (λ (s : Sections). s.later) (whole dash boundary body e)) ∙ none in
     ap (pairs_of (length body) 0) same ∙ end_of_sections (length body) 0
-
-pub body_from : (dash boundary body : List ℕ) (first : Mark) → dash ≡ dash_boundary boundary → IsMark dash (length body) body first → multipart_of boundary body ≡ pairs_of (length body) 0 (from_mark dash (length body) first)
-body_from dash boundary body first e m = ap (pairs_of (length body) 0) (sym (ap (λ (s : Sections). s.later) (whole dash boundary body e)) ∙ m.later)

@@ -1,12 +1,11 @@
 -- Blanks, pieces and words of a header field.
-use Rattle.std.proofs.Common.{◌≡◌, ◌<◌, ◌≤◌, ◌+◌, ◌-◌, ℕ, zero, suc, Bool, true, false, cond, ◌&&◌, eqb, List, [], ◌∷◌, ◌++◌, Option, Some, None, take, drop, length, slice_index, get_or, refl, ap, sym, ◌∙◌, arith, append_assoc}
-use Rattle.std.specs.List.{onto_first, list_all}
-use Rattle.std.specs.Str.{str_eq_ignore_ascii_case}
+use Rattle.std.proofs.Common.{◌≡◌, ◌<◌, ◌≤◌, ◌+◌, ◌-◌, ℕ, zero, suc, Bool, true, false, cond, ◌&&◌, eqb, List, [], ◌∷◌, ◌++◌, Option, Some, None, take, drop, length, get_or, refl, ap, sym, ◌∙◌, arith, append_assoc}
+use Rattle.std.specs.List.{onto_first}
 use Rattle.std.proofs.lemmas.Bool.Decides.{nat_tests}
 use Rattle.std.proofs.lemmas.List.{append-nil, drop_all, take_all, take_more, drop_more}
 use Rattle.form_input.specs.declared.parameters.Quoting.{Quoting}
 use Rattle.form_input.specs.declared.parameters.Quoting.TheVariants.{Outside}
-use Rattle.form_input.specs.Parameters.{is_blank, before_blanks, step, separates, pieces_from, pieces, after_separator, after_name, with_byte, unquoted}
+use Rattle.form_input.specs.Parameters.{is_blank, before_blanks, step, separates, pieces_from, pieces, with_byte}
 use Rattle.form_input.specs.Words.{before_word}
 
 -- a blank at the end is cut off
@@ -66,14 +65,6 @@ before_word_more word b (Some more) = ap Some (sym (append_assoc word (b ∷ [])
 pub before_word_none : (o : Option (List ℕ)) → before_word [] o ≡ o
 before_word_none None = refl
 before_word_none (Some word) = refl
-
--- a text shorter than the name
-pub short_of_name : (separator : ℕ) (name text : List ℕ) → length text < length name → None ≡ after_name separator name text
-short_of_name separator name text less = rw (drop_all (length name) text (omega (arith, less))) (go (str_eq_ignore_ascii_case (take (length name) text) name))
-  where
-    go : (x : Bool) → None ≡ cond x (after_separator separator []) None
-    go true = refl
-    go false = refl
 
 last_is : (rest : List ℕ) → 1 ≤ length rest → take (length rest - 1) rest ++ get_or rest (length rest - 1) 0 ∷ [] ≡ rest
 last_is rest some =

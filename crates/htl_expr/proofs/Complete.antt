@@ -9,7 +9,7 @@ use Rattle.htl_expr.specs.declared.reader.Inside.{Inside}
 use Rattle.htl_expr.specs.declared.reader.Inside.TheVariants as i
 use Rattle.htl_expr.specs.Tokens.{Outcome, done, is_at, begins, is_digit, is_first, is_quote}
 use Rattle.htl_expr.specs.Read as spec
-use Rattle.htl_expr.specs.Grammar.{Byte, Operator, NameToken, String, Number, Sign, Compares, Separator, And, Or, Comma, Separates, Part, part_of, Choice, Either, Both, Compare, Operand, Atom, Start, Items, Reads, More, Access, Accesses}
+use Rattle.htl_expr.specs.Grammar.{Byte, NameToken, String, Number, Sign, Compares, Separator, And, Or, Comma, Separates, Part, part_of, Choice, Either, Both, Compare, Operand, Atom, Start, Items, Reads, More, Access, Accesses}
 use Rattle.htl_expr.specs.Grammar as g
 use Rattle.htl_expr.proofs.Sound.{byte_of}
 use Rattle.htl_expr.proofs.TokensRead.{eqb_is}
@@ -400,11 +400,6 @@ behind_stops : (sep : Separator) (r : List ℕ) → Behind sep r → Stops (part
 behind_stops And r b = b.0
 behind_stops Or r b = b.0
 behind_stops Comma r b = b.0
-
-behind_ends : (sep : Separator) (r : List ℕ) → Behind sep r → is_at (byte_of sep) r ≡ false
-behind_ends And r b = b.1
-behind_ends Or r b = b.1
-behind_ends Comma r b = b.1
 
 separates_stops : (sep : Separator) (s r : List ℕ) → Separates sep s r → Stops (part_of sep) s
 separates_stops And = and_compare

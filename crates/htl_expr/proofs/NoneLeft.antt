@@ -131,9 +131,6 @@ module _ (levels : ℕ) where
       let rest_is : drop (length k.front) s ≡ k.rest = ap (λ (q : List ℕ). drop (length k.front) q) k.parts ∙ drop_at k.front k.rest (length k.front) refl in
       ap (λ (q : List ℕ). cond (is_at 58 q && takes_colon levels (take (length k.front) s)) (length k.front + 1) (length k.front)) rest_is ∙ ap (λ (q : List ℕ). cond (is_at 58 k.rest && takes_colon levels q) (length k.front + 1) (length k.front)) front_is
 
-  pub left_within : (s : List ℕ) (left : ℕ) → read levels s ≡ Err (Unexpected left) → left ≤ length s
-  left_within s left e = let k = failed levels (Unexpected left) s e in omega (arith, ap length k.parts, length-append k.front k.rest, k.left)
-
   pub none_left : (s : List ℕ) (left : ℕ) → read levels s ≡ Err (Unexpected left) → HasNone levels s (place_of levels s (length s - left))
   none_left s left e =
       let len : length s - left ≡ length k.front = front_len (Unexpected left) s k left k.left in

@@ -3,18 +3,12 @@ use Rattle.std.proofs.Common.{◌≡◌, ◌<◌, ◌≤◌, ◌+◌, ℕ, suc, 
 use Rattle.std.specs.Str.{IsCharBoundary}
 use Rattle.std.proofs.lemmas.List.{get_or-drop}
 use Rattle.std.proofs.lemmas.Bool.Decides.{nat_tests}
-use Rattle.htl_expr.specs.Tokens.{begins, is_at, is_blank, is_digit, is_letter, is_word, skip, goes_on, name_len, AreAscii}
+use Rattle.htl_expr.specs.Tokens.{begins, is_at, is_blank, is_word, skip, goes_on, name_len, AreAscii}
 use Rattle.htl_expr.specs.declared.tokens.NameKind.{NameKind}
 use Rattle.htl_expr.specs.declared.tokens.NameKind.TheVariants.{Name, Field}
 
 pub blank_ascii : (c : ℕ) → is_blank c ≡ true → c < 128
 blank_ascii c h = grind (arith, nat_tests)
-
-pub digit_ascii : (c : ℕ) → is_digit c ≡ true → c < 128
-digit_ascii c h = grind (arith, nat_tests)
-
-pub letter_ascii : (c : ℕ) → is_letter c ≡ true → c < 128
-letter_ascii c h = grind (arith, nat_tests)
 
 pub word_ascii : (c : ℕ) → is_word c ≡ true → c < 128
 word_ascii c h = grind (arith, nat_tests)

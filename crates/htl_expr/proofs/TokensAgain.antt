@@ -133,7 +133,6 @@ begins_other test other (c ∷ s) all h = all c h
 
 -- ---- comparisons
 
-bare_here : (c : ℕ) (s r : List ℕ) → Bare c s r → is_at c s ≡ true
 unfolding is_at
 bare_here c s r b = rw b.parts (eqb_same c)
 

@@ -1,5 +1,5 @@
-use Rattle.std.proofs.Common.{◌≡◌, sym, ap, ◌∙◌}
-use Rattle.form_input.proofs.FormLemmas.{body_without_end, body_from}
+use Rattle.std.proofs.Common.{◌∙◌}
+use Rattle.form_input.proofs.FormLemmas.{body_without_end}
 use Rattle.form_input.proofs.multipart.read_multipart.Goals as goal
 
 pub returns-clause-err : goal.returns-clause-err

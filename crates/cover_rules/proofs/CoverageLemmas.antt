@@ -1,12 +1,12 @@
 -- Coverage, read off what is left of a page's path after a handle's.
-use Rattle.std.proofs.Common.{ℕ, zero, suc, Bool, true, false, cond, not, codes, ◌&&◌, ◌||◌, ◌==◌, List, [], ◌∷◌, ◌++◌, ◌-◌, ◌<◌, ◌≤◌, length, take, drop, map, flat_map, append_assoc, length-append, nat_eq, refl, sym, ◌∙◌, ap, subst, ◌≡◌, ◌≢◌, arith, Bor}
+use Rattle.std.proofs.Common.{ℕ, zero, suc, Bool, true, false, not, codes, ◌&&◌, ◌||◌, ◌==◌, List, [], ◌∷◌, ◌++◌, ◌-◌, ◌<◌, ◌≤◌, length, take, drop, append_assoc, length-append, nat_eq, refl, sym, ◌∙◌, ap, subst, ◌≡◌, arith, Bor}
 use Rattle.std.proofs.lemmas.Bool.Decides.{nat_tests}
 use Rattle.std.proofs.lemmas.List.{append-nil, length-take, length-map, take-append-drop, take-map, take_all}
 use Rattle.std.proofs.lemmas.List.Concat.{flat_map-append}
 use Rattle.std.proofs.lemmas.List.Folds.{list_all-append}
 use Rattle.std.specs.Cmp.Lexicographic.{bytes_decides, pointwise}
-use Rattle.std.specs.List.{list_all, starts_with}
-use Rattle.sp_base.specs.Paths.{has_slash, is_under, mangled, mangled_seg, parent_of, pieces, text_of}
+use Rattle.std.specs.List.{starts_with}
+use Rattle.sp_base.specs.Paths.{has_slash, is_under, mangled, mangled_seg, parent_of, pieces}
 use Rattle.sp_base.specs.PathTexts.{ends_segment, lack_slashes, segs_in, spelled, text_under}
 use Rattle.cover_rules.specs.declared.page.PageKey.{PageKey}
 use Rattle.cover_rules.specs.declared.invalidation.Invalidation.{Invalidation}
@@ -16,7 +16,7 @@ use Rattle.cover_rules.specs.Pages.{page_path, page_text}
 use Rattle.cover_rules.specs.Coverage.{deletes, handle_of, is_handle, is_part, is_rendering, takes_below}
 use Rattle.cover_rules.specs.Walk.{Lacks, Leaves, left, page_spelling}
 use Rattle.cover_rules.proofs.PageLemmas.{page_text_is}
-use Rattle.cover_rules.proofs.WalkLemmas.{same_after, whole}
+use Rattle.cover_rules.proofs.WalkLemmas.{whole}
 
 -- what is known of the texts of a page's path and of a handle's
 pub record Texts (key : PageKey) (handle : List (List ℕ)) : Type 0 where
@@ -208,11 +208,6 @@ parent_begins handle folder n f h =
     ∙ ap (λ (xs : List (List ℕ)). pointwise (pointwise nat_eq) (take n folder) xs) (take_first handle n (length handle - 1) h)
     ∙ turned (take n folder) (take n handle)
     ∙ sym (ap (λ k. pointwise (pointwise nat_eq) (take n handle) (take k folder)) other)
-
-pub parent_ends : (handle folder : List (List ℕ)) (n : ℕ) → n ≤ length folder → length handle - 1 < n → is_under (parent_of handle) (take n folder) ≡ false
-parent_ends handle folder n f h = never (is_under (parent_of handle) (take n folder)) (λ e.
-    let same = lists_equal (take n folder) (take (length (take n folder)) (parent_of handle)) e in
-    omega (arith, ap length same, first_length folder n f, length-take (length (take n folder)) (parent_of handle), length-take (length handle - 1) handle))
 
 pub folder_left : (key : PageKey) (handle : List (List ℕ)) (text : Bor (List ℕ)) → Texts key handle → Leaves key (spelled handle) (Folder text) → is_under key.folder handle ≡ text_under text.now []
 folder_left key handle text texts e =

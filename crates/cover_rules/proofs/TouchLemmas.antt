@@ -1,10 +1,10 @@
 -- The folders that an invalidation touches, and the pages that they outdate.
-use Rattle.std.proofs.Common.{ℕ, zero, suc, Bool, true, false, cond, not, ◌&&◌, ◌||◌, List, [], ◌∷◌, ◌++◌, ◌+◌, ◌-◌, ◌<◌, ◌≤◌, length, take, map, get_or, nat_eq, nat_le, min, Contains, Ok, refl, sym, ◌∙◌, ap, subst, ◌≡◌, arith}
+use Rattle.std.proofs.Common.{ℕ, zero, suc, Bool, true, false, cond, not, ◌&&◌, ◌||◌, List, [], ◌∷◌, ◌++◌, ◌+◌, ◌-◌, ◌<◌, ◌≤◌, length, take, map, get_or, Contains, refl, sym, ◌∙◌, ap, subst, ◌≡◌, arith}
 use Rattle.std.proofs.lemmas.Bool.Decides.{nat_tests}
 use Rattle.std.proofs.lemmas.List.{length-map, length-take, take_more, take_all, take-map}
 use Rattle.std.proofs.lemmas.List.Sums.{prefix_len-le-length}
-use Rattle.std.specs.Cmp.Lexicographic.{bytes_decides, pointwise}
-use Rattle.std.specs.List.{list_any, list_all, prefix_len, take_while, starts_with}
+use Rattle.std.specs.Cmp.Lexicographic.{bytes_decides}
+use Rattle.std.specs.List.{list_any, list_all, prefix_len, take_while}
 use Rattle.sp_base.specs.Paths.{is_long, is_under, mangled, mangled_seg, parent_of}
 use Rattle.cover_rules.specs.declared.page.PageKey.{PageKey}
 use Rattle.cover_rules.specs.declared.invalidation.Invalidation.{Invalidation}
@@ -77,20 +77,6 @@ first_named path most n e =
 
 pub first_fits : (path : List (List ℕ)) (most n : ℕ) → n ≡ prefix_len has_name (take most (mangled path)) → list_any is_long (mangled (take n path)) ≡ false
 first_fits path most n e = ap (list_any is_long) (first_named path most n e) ∙ none_long (take most (mangled path))
-
-take_least : (xs : List (List ℕ)) (n m : ℕ) → take n (take m xs) ≡ take (min n m) xs
-take_least xs n m = elim (nat_le n m) as (λ t. nat_le n m ≡ t → take n (take m xs) ≡ take (min n m) xs) [
-  | true ↦ λ e. let least : n ≡ min n m = grind (arith, nat_tests) in take_first xs n m (grind (arith, nat_tests)) ∙ ap (λ k. take k xs) least
-  | false ↦ λ e. let least : m ≡ min n m = grind (arith, nat_tests) in
-      let less : m < n = grind (arith, nat_tests) in
-      take_all n (take m xs) (omega (arith, length-take m xs)) ∙ ap (λ k. take k xs) least
-] refl
-
--- the folders above a handle, to a level
-pub above_level : (handle : List (List ℕ)) (level : ℕ) → take (min level (length handle - 1)) (mangled handle) ≡ take level (parent_of (mangled handle))
-above_level handle level =
-    let size = length-map handle mangled_seg in
-    ap (λ n. take (min level (n - 1)) (mangled handle)) (sym size) ∙ sym (take_least (mangled handle) level (length (mangled handle) - 1))
 
 -- what a folder begins with
 pub begins_is : (path first : List (List ℕ)) → is_under path first ≡ true → first ≡ take (length first) path

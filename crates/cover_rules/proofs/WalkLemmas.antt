@@ -1,12 +1,11 @@
 -- A page's path along a handle's, read off their texts.
-use Rattle.std.proofs.Common.{ℕ, zero, suc, Bool, T, true, false, cond, not, ◌&&◌, ◌||◌, ◌==◌, List, [], ◌∷◌, ◌++◌, ◌+◌, ◌-◌, ◌<◌, ◌≤◌, Option, Some, None, IfSome, IfNone, length, take, drop, map, flat_map, append_assoc, length-append, nat_eq, refl, sym, ◌∙◌, ap, subst, ◌≡◌, ◌≢◌, arith, Bor}
+use Rattle.std.proofs.Common.{ℕ, zero, suc, Bool, true, false, not, ◌&&◌, ◌||◌, ◌==◌, List, [], ◌∷◌, ◌++◌, ◌+◌, ◌-◌, ◌<◌, Option, Some, None, IfSome, IfNone, length, take, drop, map, append_assoc, length-append, nat_eq, refl, sym, ◌∙◌, ap, subst, ◌≡◌, ◌≢◌, arith, Bor}
 use Rattle.std.proofs.lemmas.Bool.Decides.{nat_tests}
 use Rattle.std.proofs.lemmas.List.{append-nil, map-append, take-append-drop, take_at}
 use Rattle.std.proofs.lemmas.List.Concat.{flat_map-append}
 use Rattle.std.proofs.lemmas.Iterator.{YieldsList}
 use Rattle.std.specs.Iterator.{AlwaysYields, Yields}
 use Rattle.std.specs.Cmp.Lexicographic.{bytes_decides, pointwise}
-use Rattle.std.specs.List.{list_all}
 use Rattle.std.specs.Option.{MatchOption}
 use Rattle.sp_base.specs.Paths.{has_slash, mangled, mangled_seg}
 use Rattle.sp_base.specs.PathTexts.{lack_slashes, spelled}
@@ -14,10 +13,6 @@ use Rattle.cover_rules.specs.declared.page.PageKey.{PageKey}
 use Rattle.cover_rules.specs.declared.walk.Rest.{Rest}
 use Rattle.cover_rules.specs.declared.walk.Rest.TheVariants.{Folder, File}
 use Rattle.cover_rules.specs.Walk.{Lacks, Leaves, LeavesNext, left, page_spelling}
-
-pub IfSome-map : {A : Type 0} (o : Option A) (P Q : A → Type 0) → ((x : A) → P x → Q x) → IfSome o P → IfSome o Q
-IfSome-map None P Q f h = tt
-IfSome-map (Some x) P Q f h = f x h
 
 pub IfNone-map : {A : Type 0} (o : Option A) (P Q : Type 0) → (P → Q) → IfNone o P → IfNone o Q
 IfNone-map None P Q f h = f h
@@ -151,10 +146,6 @@ yields_next steps v s t u (z ∷ xs) x (y ∷ all) runs was step =
 pub next_of : {S A B : Type 0} {steps : S → Option A → S → Type 0} {v : A → B} {s : S} {all : List B} → YieldsList steps v s all → (xs : List A) (t : S) → Yields steps s xs t
     → (o : Option A) (u : S) (x : A) → o ≡ Some x → steps t o u → (later : List B) × (all ≡ map v (xs ++ x ∷ []) ++ later)
 next_of {steps = steps} {v = v} {s = s} {all = all} list xs t was o u x is step = yields_next steps v s t u xs x all list.runs was (subst (λ r. steps t r u) is step)
-
-pub take_nil : (n : ℕ) → take {A = List ℕ} n [] ≡ []
-take_nil zero = refl
-take_nil (suc n) = refl
 
 pub file_differs : (rest : Rest) (text : Bor (List ℕ)) (file seg more : List ℕ) → rest ≡ File text → ((r : List ℕ) → text.now ≢ 47 ∷ seg ++ r) → left file rest ≡ 47 ∷ seg ++ more → ⊥
 file_differs rest text file seg more is none e = none more (ap (left file) (sym is) ∙ e)

@@ -66,16 +66,6 @@ pub record PassedBlock (text rest : List ℕ) (before : ℕ) : Type 0 where
   pub refused : (n : ℕ) → IsRefused IsBody rest n → IsRefused IsBody text (before + n)
   pub small : before ≤ length (text_of_lines block)
 
-pub block_none : (text : List ℕ) → PassedBlock text text 0
-block_none text = record {
-  block = [];
-  lines = tt;
-  no_dot = tt;
-  text_is = refl;
-  refused = λ n h. let e : n ≡ 0 + n = omega arith in subst (λ k. IsRefused IsBody text k) e h;
-  small = omega arith;
-}
-
 lines_push : (block : List (List ℕ)) (line : List ℕ) → AreLines block → newlines line ≡ 0 → AreLines (block ++ line ∷ [])
 lines_push [] line a b = (b, tt)
 lines_push (l ∷ block) line a b = (a.0, lines_push block line a.1 b)
@@ -210,10 +200,6 @@ refused_in_body text first body n e k h =
     let r = after_line IsContent IsBody (codes "content") body n refl behind_content before_content (text_of_lines (codes "." ∷ act_lines [])) some_body h in
     let count : 1 + (1 + n) ≡ n + 2 = omega arith in
     subst (λ m. IsRefused IsScenario text m) count (behind_head text first (1 + n) e (subst (λ t. IsRefused IsContent t (1 + n)) (sym k) r))
-
-pub scenario_whole : (text first body : List ℕ) (s : Scenario) → text ≡ codes "scenario 1" ++ 10 ∷ first → first ≡ codes "content" ++ 10 ∷ body
-    → SpellsBody body s → SpellsScenario text s
-scenario_whole text first body s e k p = scenario_of_body text body s p (e ∙ ap (λ t. codes "scenario 1" ++ 10 ∷ t) k)
 
 pub refuses_in_body : (text first body : List ℕ) (fault : ScenarioFault) → text ≡ codes "scenario 1" ++ 10 ∷ first → first ≡ codes "content" ++ 10 ∷ body
     → Refuses IsBody body fault → Refuses IsScenario text (fault_further fault 2)

@@ -1,8 +1,7 @@
-use Rattle.std.proofs.Common.{◌≡◌, ◌+◌, ◌<◌, ◌++◌, ℕ, List, [], ◌∷◌, length, take, drop, sym, ◌∙◌, ap, subst, refl, arith, eqb, get_or, false, ◌==◌, if◌then◌else◌}
+use Rattle.std.proofs.Common.{◌≡◌, ◌+◌, ◌<◌, ◌++◌, ℕ, List, [], ◌∷◌, length, take, drop, ◌∙◌, ap, subst, refl, arith, eqb, get_or, false, ◌==◌, if◌then◌else◌}
 use Rattle.std.proofs.lemmas.Bool.Decides.{nat_tests}
-use Rattle.std.proofs.lemmas.List.{take-append-drop, take_more, drop_more}
+use Rattle.std.proofs.lemmas.List.{take-append-drop, take_more}
 use Rattle.sling_dispatch.specs.Lines.{newlines}
-use Rattle.sling_dispatch.specs.Reading.{FirstLine}
 
 pub newlines-append : (a b : List ℕ) → newlines (a ++ b) ≡ newlines a + newlines b
 newlines-append [] b = omega arith
@@ -36,12 +35,6 @@ newlines_more text i lt none other =
     let tests : eqb (get_or text i 0) 10 ≡ false = grind (arith, nat_tests) in
     let last : newlines (get_or text i 0 ∷ []) ≡ 0 = rw tests (omega arith) in
     ap newlines (take_more text i 0 lt) ∙ omega (arith, newlines-append (take i text) (get_or text i 0 ∷ []), last, none)
-
-pub first_line_at : (text : List ℕ) (i : ℕ) → i < length text → newlines (take i text) ≡ 0 → get_or text i 0 ≡ 10 → FirstLine text (take i text) (drop (i + 1) text)
-first_line_at text i lt none here = record {
-  is = sym (take-append-drop i text) ∙ ap (λ t. take i text ++ t) (drop_more text i 0 lt ∙ ap (λ b. b ∷ drop (i + 1) text) here);
-  one = none;
-}
 
 pub newlines_step : (text : List ℕ) (i : ℕ) → i < length text
     → newlines (take (i + 1) text) ≡ newlines (take i text) + (if get_or text i 0 == 10 then 1 else 0)

@@ -32,14 +32,6 @@ are_push : (acts : List Act) (act : Act) → AreActs acts → IsAct act → AreA
 are_push [] act oks ok = (ok, tt)
 are_push (a ∷ acts) act oks ok = (oks.0, are_push acts act oks.1 ok)
 
-pub passed_none : (text : List ℕ) → Passed text text [] 0
-passed_none text = record {
-  are = tt;
-  path_of_bytes = λ later e. e;
-  refused = λ n h. let e : n ≡ 0 + n = omega arith in subst (λ k. IsRefused Acts text k) e h;
-  small = omega arith;
-}
-
 pub passed_act : (text rest line after : List ℕ) (acts : List Act) (act : Act) (before : ℕ) → Passed text rest acts before
     → FirstLine rest line after → IsAct act → line ≡ act_line act → Passed text after (acts ++ act ∷ []) (before + 1)
 passed_act text rest line after acts act before p f ok e =

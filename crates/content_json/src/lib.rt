@@ -21,5 +21,3 @@ pub use laws::{
 pub use read::read_tree;
 pub use write::write_tree;
 
-#[cfg(test)]
-mod tests;

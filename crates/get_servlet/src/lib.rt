@@ -8,8 +8,6 @@ mod laws;
 mod lengths;
 mod measure;
 mod streams;
-#[cfg(test)]
-mod tests;
 mod writing;
 
 pub use answer::{Depth, JsonAnswer, json_of};

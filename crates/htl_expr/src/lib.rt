@@ -18,8 +18,6 @@ mod room;
 mod same;
 mod scope;
 mod stop;
-#[cfg(test)]
-mod tests;
 mod tokens;
 mod value;
 

@@ -8,8 +8,6 @@ mod quotes;
 mod render;
 mod scan;
 mod template;
-#[cfg(test)]
-mod tests;
 
 pub use fault::{RenderFault, TextFault};
 pub use laws::the_pieces_are_the_text;

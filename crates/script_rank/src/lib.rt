@@ -7,8 +7,6 @@ mod naming;
 mod ranking;
 mod script;
 mod spelling;
-#[cfg(test)]
-mod tests;
 
 pub use laws::{
     one_key_is_of_one_script, one_script_is_first, search_finds_the_first, tied_scripts_are_one,

@@ -6,8 +6,6 @@ mod inheritance;
 mod laws;
 mod search_paths;
 mod sites;
-#[cfg(test)]
-mod tests;
 mod type_name;
 
 pub use inheritance::{ChainWithSites, chain, chain_with_sites, type_text};

@@ -4,8 +4,6 @@
 mod decompose;
 mod laws;
 mod lookup;
-#[cfg(test)]
-mod tests;
 
 pub use decompose::{Parts, split};
 pub use laws::{the_parts_give_the_text_back, the_split_is_the_longest};

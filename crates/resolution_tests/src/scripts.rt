@@ -1,46 +1,12 @@
 //! The first-ranked script, for each naming and with those before it taken away.
-use crate::{first_script, script_of};
-use resource_tree::{Tree, TreeFault};
-use sp_base::{NoMemory, Path, PathFault, PropList, TextBuf, TextList, Value};
+use crate::failed::Failed;
+use script_rank::{first_script, script_of};
+use resource_tree::Tree;
+use sp_base::{Path, PropList, TextBuf, TextList, Value};
 use std::alloc::{AllocError, Global};
 use std::hash::RandomState;
-use std::io;
 use type_chain::{TypeList, TypeName};
 use url_split::Parts;
-
-/// A refusal, or out of memory, where a test expects none.
-#[derive(Debug, Drop)]
-struct Failed;
-
-impl From<TreeFault> for Failed {
-    fn from(_fault: TreeFault) -> Failed {
-        Failed
-    }
-}
-
-impl From<PathFault> for Failed {
-    fn from(_fault: PathFault) -> Failed {
-        Failed
-    }
-}
-
-impl From<NoMemory> for Failed {
-    fn from(_fault: NoMemory) -> Failed {
-        Failed
-    }
-}
-
-impl From<io::Error> for Failed {
-    fn from(_fault: io::Error) -> Failed {
-        Failed
-    }
-}
-
-impl From<AllocError> for Failed {
-    fn from(_fault: AllocError) -> Failed {
-        Failed
-    }
-}
 
 // Makes a node, and those above it that are not there.
 fn make(alloc: Global, tree: &mut Tree, path: &Path) -> Result<(), Failed> {

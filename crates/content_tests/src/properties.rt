@@ -1,5 +1,5 @@
-// A property of each kind, written.
-use super::*;
+//! A property of each kind, written.
+use property_json::object_text;
 use sp_base::{LongList, PropList, TextBuf, TextList, TruthList, Value};
 use std::test::Fail;
 

@@ -1,4 +1,5 @@
-use super::sample::{Failed, Want, first_other};
+use crate::failed::Failed;
+use super::sample::{Want, first_other};
 
 #[test]
 fn values_have_a_kind(rt: HostRuntime) -> Result<(), Failed> {

@@ -1,44 +1,10 @@
 //! Chains of types, and the places of types.
-use crate::{TypeList, TypeName, chain, place_of};
-use resource_tree::{Tree, TreeFault};
-use sp_base::{NoMemory, Path, PathFault, TextBuf, Value, seg_ok};
-use std::alloc::{AllocError, Global};
+use crate::failed::Failed;
+use type_chain::{TypeList, TypeName, chain, place_of};
+use resource_tree::Tree;
+use sp_base::{Path, TextBuf, Value, seg_ok};
+use std::alloc::Global;
 use std::hash::RandomState;
-use std::io;
-
-/// A refusal, or out of memory, where a test expects none.
-#[derive(Debug, Drop)]
-struct Failed;
-
-impl From<TreeFault> for Failed {
-    fn from(_fault: TreeFault) -> Failed {
-        Failed
-    }
-}
-
-impl From<PathFault> for Failed {
-    fn from(_fault: PathFault) -> Failed {
-        Failed
-    }
-}
-
-impl From<NoMemory> for Failed {
-    fn from(_fault: NoMemory) -> Failed {
-        Failed
-    }
-}
-
-impl From<io::Error> for Failed {
-    fn from(_fault: io::Error) -> Failed {
-        Failed
-    }
-}
-
-impl From<AllocError> for Failed {
-    fn from(_fault: AllocError) -> Failed {
-        Failed
-    }
-}
 
 // Makes a node, and those above it that are not there.
 fn make(alloc: Global, tree: &mut Tree, path: &Path) -> Result<(), Failed> {

@@ -1,7 +1,8 @@
 //! Writes within a limit.
 
-use super::sample::{Failed, Sample};
-use crate::{Expr, WriteFault};
+use crate::failed::Failed;
+use super::sample::{Sample};
+use htl_expr::{Expr, WriteFault};
 
 #[test]
 fn refusal_leaves_the_text(rt: HostRuntime) -> Result<(), Failed> {

@@ -1,44 +1,16 @@
-// What trees answer, and a look-up whose resources never end.
+//! What trees answer, and a look-up whose resources never end.
 ghost use Rattle.std.specs.Prelude.{◌≡◌, ◌∷◌, [], IfOk, Some, codes};
 ghost use Rattle.resource_tree.specs.Seen.{res_of};
 
-use crate::{Depth, JsonAnswer, json_of, stream_of};
-use resource_tree::{Look, Node, Place, Res, Tree, TreeFault};
-use sp_base::{Mem, NoMemory, Path, PropList, TextBuf, TextList, TruthList, Value};
-use std::alloc::{AllocError, Global};
+use crate::failed::Failed;
+use get_servlet::{Depth, JsonAnswer, json_of, stream_of};
+use resource_tree::{Look, Node, Place, Res, Tree};
+use sp_base::{Mem, Path, PropList, TextBuf, TextList, TruthList, Value};
+use std::alloc::Global;
 use std::hash::RandomState;
-use std::io;
 
 /// The most bytes of a text, where a test asks for no other.
 const MOST_BYTES: usize = 4_194_304;
-
-/// A refusal, a lack of memory or of random numbers where a test expects none.
-#[derive(Debug, Drop)]
-struct Failed;
-
-impl From<TreeFault> for Failed {
-    fn from(_fault: TreeFault) -> Failed {
-        Failed
-    }
-}
-
-impl From<NoMemory> for Failed {
-    fn from(_fault: NoMemory) -> Failed {
-        Failed
-    }
-}
-
-impl From<AllocError> for Failed {
-    fn from(_fault: AllocError) -> Failed {
-        Failed
-    }
-}
-
-impl From<io::Error> for Failed {
-    fn from(_fault: io::Error) -> Failed {
-        Failed
-    }
-}
 
 fn at(alloc: Global, text: &str) -> Result<Path, Failed> {
     match Path::read(alloc, text) {

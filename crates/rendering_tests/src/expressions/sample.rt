@@ -1,30 +1,9 @@
 //! The resource of the tests, and how a row of a table is tried.
 
-use crate::{Expr, ExprFault, Out, Scope};
+use crate::failed::Failed;
+use htl_expr::{Expr, ExprFault, Out, Scope};
 use sp_base::{LongList, NoMemory, PropList, TextBuf, TextList, TruthList, Value};
 use std::alloc::{AllocError, Global};
-
-/// Out of memory, or a fault, where a test expects none.
-#[derive(Debug, Drop)]
-pub struct Failed;
-
-impl From<NoMemory> for Failed {
-    fn from(_fault: NoMemory) -> Failed {
-        Failed
-    }
-}
-
-impl From<AllocError> for Failed {
-    fn from(_fault: AllocError) -> Failed {
-        Failed
-    }
-}
-
-impl From<ExprFault> for Failed {
-    fn from(_fault: ExprFault) -> Failed {
-        Failed
-    }
-}
 
 /// A value that a row expects.
 #[derive(Debug, Clone, Copy, Drop)]

@@ -1,4 +1,4 @@
-use crate::{Expr, ExprFault};
+use htl_expr::{Expr, ExprFault};
 use std::alloc::Global;
 
 fn unexpected(alloc: Global, text: &str) -> Option<usize> {

@@ -1,5 +1,5 @@
-// Each fault, nodes that are read, texts that are written, and the limits.
-use crate::{ContentFault, read_tree, write_tree};
+//! Each fault, nodes that are read, texts that are written, and the limits.
+use content_json::{ContentFault, read_tree, write_tree};
 use resource_tree::Tree;
 use sp_base::{Mem, NoMemory, Path, Value};
 use std::alloc::Global;

@@ -1,7 +1,8 @@
 //! What is long and not deep is read, evaluated and dropped without a deep stack.
 
-use super::sample::{Failed, Sample};
-use crate::Expr;
+use crate::failed::Failed;
+use super::sample::{Sample};
+use htl_expr::Expr;
 use std::alloc::Global;
 
 fn repeated(alloc: Global, front: &str, piece: &str, end: &str) -> Result<String, Failed> {

@@ -1,36 +1,9 @@
 //! Templates: where they are cut, what they write, and their faults.
-use crate::{RenderFault, Template, TextFault};
+use crate::failed::Failed;
+use htl_text::{RenderFault, Template, TextFault};
 use htl_expr::Scope;
-use sp_base::{NoMemory, PropList, TextBuf, TextList, Value};
-use std::alloc::{AllocError, Global};
-
-/// What a test didn't expect.
-#[derive(Debug, Drop)]
-struct Failed;
-
-impl From<NoMemory> for Failed {
-    fn from(_fault: NoMemory) -> Failed {
-        Failed
-    }
-}
-
-impl From<AllocError> for Failed {
-    fn from(_fault: AllocError) -> Failed {
-        Failed
-    }
-}
-
-impl From<TextFault> for Failed {
-    fn from(_fault: TextFault) -> Failed {
-        Failed
-    }
-}
-
-impl From<RenderFault> for Failed {
-    fn from(_fault: RenderFault) -> Failed {
-        Failed
-    }
-}
+use sp_base::{PropList, TextBuf, TextList, Value};
+use std::alloc::Global;
 
 fn props(alloc: Global) -> Result<PropList, Failed> {
     let mut tags = TextList::new(alloc);

@@ -1,0 +1,26 @@
+//! What a test answers where a call refused that was to do.
+use resource_tree::TreeFault;
+use sp_base::NoMemory;
+use std::io;
+
+/// A refusal, or a lack of memory or of random numbers, where a test expects none.
+#[derive(Debug, Drop)]
+pub(crate) struct Failed;
+
+impl From<NoMemory> for Failed {
+    fn from(_fault: NoMemory) -> Failed {
+        Failed
+    }
+}
+
+impl From<TreeFault> for Failed {
+    fn from(_fault: TreeFault) -> Failed {
+        Failed
+    }
+}
+
+impl From<io::Error> for Failed {
+    fn from(_fault: io::Error) -> Failed {
+        Failed
+    }
+}

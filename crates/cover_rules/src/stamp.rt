@@ -1,6 +1,6 @@
 //! Stamps, in place of the times of files.
-/// When something happened, in place of a file's time: in which session of the Dispatcher, and as the how manieth draw in it. Stamps
-/// are ordered by the epoch, then by the count.
+/// When something happened, in place of a file's time: the number of the session of the Dispatcher, and the number of the stamp in that
+/// session. Stamps are ordered by the epoch, then by the count.
 #[derive(Clone, Copy, PartialEq, Eq, PartialOrd, Ord, Debug, Drop)]
 pub struct Stamp {
     /// The session, counted from 1.

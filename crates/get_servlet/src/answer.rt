@@ -38,7 +38,7 @@ fn levels_of(depth: Depth) -> u32
     }
 }
 
-/// A resource as JSON (Apache Sling, "Default GET servlet"): its properties, and then its kids, to the depth that is asked for,
+/// A resource as JSON (Apache Sling, "Rendering content, default GET servlets"): its properties, and then its kids, to the depth that is asked for,
 /// in a text of at most `most_bytes` bytes.
 pub fn json_of<L: Look>(
     alloc: Global,

@@ -20,11 +20,11 @@ passes (Err stop.Memory) = false
 passes (Err (stop.Unexpected left)) = nat_le left 1
 passes (Err (stop.TooDeep left)) = false
 
--- whether a colon behind a text may belong to a field's name, where so many levels may nest
+-- whether a colon after a text may belong to a field's name, where so many levels may nest
 abbrev pub takes_colon : ℕ → List ℕ → Bool
 takes_colon levels t = passes (read levels (t ++ colon_letter))
 
--- where a colon may belong to a field's name, the byte behind it is the one that doesn't fit
+-- where a colon may belong to a field's name, the byte after it is the one that doesn't fit
 abbrev pub place_of : ℕ → List ℕ → ℕ → ℕ
 place_of levels t place = if is_at 58 (drop place t) && takes_colon levels (take place t) then place + 1 else place
 
@@ -78,7 +78,7 @@ pub record MayGoOn (levels : ℕ) (s : List ℕ) (place : ℕ) : Type 0 where
   pub tree : Expr
   pub whole : WholeWithin levels (take place s ++ more) tree
 
--- the bytes that nest what stands behind them: the brackets, "!" and "?"
+-- the bytes that nest what stands after them: the brackets, "!" and "?"
 abbrev pub nests : ℕ → Bool
 nests c = c == 40 || (c == 91 || (c == 33 || c == 63))
 

@@ -1,4 +1,4 @@
--- The grammar of an expression, line by line. A text is read from a token on, up to the next token (HTML Template Language 1.4, "Expression Language").
+-- The grammar of an expression, line by line. A text is read from a token on, up to the next token (HTL specification 1.4, "Expression Language").
 use Rattle.std.specs.Prelude.{◌≡◌, ◌+◌, ◌*◌, ◌-◌, ℕ, ℤ, suc, Bool, true, false, List, [], ◌∷◌, ◌++◌, Option, Some, None, ◌==◌, codes}
 use Rattle.htl_expr.specs.declared.node.Node.{Node}
 use Rattle.htl_expr.specs.declared.node.Node.TheVariants as n
@@ -12,7 +12,7 @@ use Rattle.htl_expr.specs.declared.expression.Expr.{Expr}
 use Rattle.htl_expr.specs.Tokens.{skip, is_at, begins, goes_on, is_digit, is_first, is_quote, unescape, digit_fits, limit, signed}
 use Rattle.htl_expr.specs.Read.{access_of, and_of, or_of, word_of, object_of}
 
--- ---- tokens, each with the blanks behind it
+-- ---- tokens, each with the blanks after it
 
 -- a byte
 pub record Byte (c : ℕ) (s r : List ℕ) : Type 0 where
@@ -33,7 +33,7 @@ pub record Bare (c : ℕ) (s r : List ℕ) : Type 0 where
   pub longest : is_at 61 after ≡ false
   pub rest : r ≡ skip after
 
--- each byte goes on with the name, where `after` stands behind it
+-- each byte goes on with the name, where `after` stands after it
 abbrev pub Passes : NameKind → List ℕ → List ℕ → Type 0
 Passes kind [] after = Unit {0}
 Passes kind (c ∷ w) after = (goes_on kind (c ∷ (w ++ after)) ≡ true) × Passes kind w after
@@ -47,7 +47,7 @@ pub record NameToken (kind : NameKind) (s w r : List ℕ) : Type 0 where
   pub longest : goes_on kind after ≡ false
   pub rest : r ≡ skip after
 
--- what stands behind the mark that opens a string, up to the mark that closes it
+-- what stands after the mark that opens a string, up to the mark that closes it
 pub data StringBody (mark : ℕ) : List ℕ → List ℕ → List ℕ → Type 0 where
   closes : {after : List ℕ} → StringBody mark (mark ∷ after) [] after
   plain : {c : ℕ} {s w after : List ℕ} → (c == mark) ≡ false → (c == 92) ≡ false → StringBody mark s w after → StringBody mark (c ∷ s) (c ∷ w) after
@@ -63,7 +63,7 @@ pub record String (s w r : List ℕ) : Type 0 where
   pub body : StringBody mark inside w after
   pub rest : r ≡ skip after
 
--- the digits of a number that is at most `most`, as many as fit, behind those that make m
+-- the digits of a number that is at most `most`, as many as fit, after those that make m
 pub data Digits (most : ℕ) : ℕ → List ℕ → ℕ → List ℕ → Type 0 where
   none : {m : ℕ} {s : List ℕ} → digit_fits most m s ≡ false → Digits most m s m s
   digit : {m k c : ℕ} {s after : List ℕ} → digit_fits most m (c ∷ s) ≡ true → Digits most (m * 10 + (c - 48)) s k after → Digits most m (c ∷ s) k after
@@ -101,7 +101,7 @@ pub data Access : ℕ → List ℕ → List ℕ → List ℕ → Type 0 where
   field : {depth : ℕ} {s r1 f r : List ℕ} → Byte 46 s r1 → NameToken Field r1 f r → Access depth s f r
   bracket : {depth : ℕ} {s r1 f r2 r : List ℕ} → Byte 91 s r1 → String r1 f r2 → Byte 93 r2 r → Access (suc depth) s f r
 
--- one access behind another
+-- one access after another
 pub data Accesses (depth : ℕ) : List ℕ → List (List ℕ) → List ℕ → Type 0 where
   none : {r : List ℕ} → Accesses depth r [] r
   more : {s f r1 : List ℕ} {fs : List (List ℕ)} {r : List ℕ} → Access depth s f r1 → Accesses depth r1 fs r → Accesses depth s (f ∷ fs) r
@@ -135,7 +135,8 @@ part_of And = Compare
 part_of Or = Both
 part_of Comma = Choice
 
--- The number is how many more levels may nest.
+-- `Reads part levels text tree rest`: the text begins with the part, which stands for the tree, and the rest is what is left after it;
+-- so many more levels may nest. More reads the items after the first, each with its separator before it.
 mutual
   pub data Reads : Part → ℕ → List ℕ → Node → List ℕ → Type 0 where
     string : {depth : ℕ} {s w r : List ℕ} → String s w r → Reads Start depth s (n.Text w) r
@@ -162,7 +163,7 @@ mutual
 
 -- ---- options
 
--- a word, with the blanks behind it
+-- a word, with the blanks after it
 pub record Literal (w s r : List ℕ) : Type 0 where
   pub after : List ℕ
   pub parts : s ≡ w ++ after

@@ -59,7 +59,7 @@ in_context None text = flat_map html_escape text
 in_context (Some context.Text) text = flat_map html_escape text
 in_context (Some context.Unsafe) text = text
 
--- no character that begins a tag or ends the value of an attribute
+-- no character that begins or ends a tag, or ends the value of an attribute in quotes
 abbrev pub is_inert : ℕ → Bool
 is_inert c = not (c == 60 || (c == 62 || (c == 34 || c == 39)))
 

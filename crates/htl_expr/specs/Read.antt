@@ -59,7 +59,7 @@ comparison t =
     else if is_at 60 t then Ok (or_equal Below AtMost t)
     else Ok (or_equal Above AtLeast t)
 
--- ---- items behind the first; each turn takes a byte, so the count of bytes is enough
+-- ---- items after the first; each turn takes a byte, so the count of bytes is enough
 
 -- what stands between the items: `&&`, `||` or `,`
 abbrev pub between : ℕ → List ℕ → Result (List ℕ) Stop
@@ -175,7 +175,7 @@ module _ (depth : ℕ) where
     level Operand = operand
     level Items = items
 
--- what stands behind the byte that nests it
+-- what stands after the byte that nests it
 unfoldable pub nesting : ℕ → Inside → List ℕ → Outcome Node
 nesting zero which t = Err (TooDeep (length t))
 nesting (suc depth) which t = level depth (nesting depth) which (skip (drop 1 t))

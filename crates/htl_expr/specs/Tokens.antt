@@ -1,11 +1,11 @@
--- The tokens at the front of a text. A token is read with the blanks behind it (HTML Template Language 1.4, "Expression Language").
+-- The tokens at the front of a text. A token is read with the blanks after it (HTL specification 1.4, "Expression Language").
 use Rattle.std.specs.Prelude.{◌≡◌, ◌<◌, ℕ, ℤ, pos, neg_ℤ, suc, ◌+◌, ◌*◌, ◌-◌, Bool, true, false, ◌||◌, ◌&&◌, if◌then◌else◌, ◌==◌, nat_le, List, [], ◌∷◌, ◌++◌, length, take, drop, Option, Some, None, Result, Ok, Err, slice_index}
 use Rattle.htl_expr.specs.declared.stop.Stop.{Stop}
 use Rattle.htl_expr.specs.declared.stop.Stop.TheVariants.{Memory, Unexpected, TooDeep}
 use Rattle.htl_expr.specs.declared.tokens.NameKind.{NameKind}
 use Rattle.htl_expr.specs.declared.tokens.NameKind.TheVariants.{Name, Field}
 
--- what was read and the text behind it, or why nothing was
+-- what was read and the text after it, or why nothing was
 abbrev pub Outcome : Type 0 → Type 0
 Outcome A = Result (A × List ℕ) Stop
 
@@ -79,7 +79,7 @@ name_len kind (c ∷ t) = if goes_on kind (c ∷ t) then suc (name_len kind t) e
 abbrev pub done : {A : Type 0} → A → Result A Stop
 done x = Ok x
 
--- the bytes of a name, and the text behind it
+-- the bytes of a name, and the text after it
 abbrev pub run : NameKind → List ℕ → List ℕ × List ℕ
 run kind t = (take (name_len kind t) t, skip (drop (name_len kind t) t))
 
@@ -105,7 +105,7 @@ abbrev pub AreAscii : List ℕ → Type 0
 AreAscii [] = Unit {0}
 AreAscii (c ∷ w) = (c < 128) × AreAscii w
 
--- the character that stands for itself, a line feed, a tab or a return behind a backslash
+-- the character that stands for itself, a line feed, a tab or a return after a backslash
 unfoldable pub unescape : ℕ → Option ℕ
 unescape c =
     if c == 92 || is_quote c then Some c
@@ -119,7 +119,7 @@ abbrev pub escape_of : Option ℕ → List ℕ → Outcome ℕ
 escape_of None at = Err (Unexpected (length at))
 escape_of (Some d) at = Ok (d, drop 1 at)
 
--- the character behind a backslash
+-- the character after a backslash
 unfoldable pub escape : List ℕ → Outcome ℕ
 escape [] = Err (Unexpected 0)
 escape (c ∷ t) = escape_of (unescape c) (c ∷ t)

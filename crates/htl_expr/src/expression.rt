@@ -67,7 +67,7 @@ fn whole(alloc: Global, text: &str) -> Result<Expr, Stop>
     }
 }
 
-/// Whether a colon behind a text may belong to a field's name: a letter behind it is then read.
+/// Whether a colon after a text may belong to a field's name: a letter after it is then read.
 fn takes_colon(alloc: Global, front: &str) -> Mem<bool>
     ensures { IfOk result (λ takes. takes ≡ takes_colon nesting_limit front.now) }
 {
@@ -81,7 +81,7 @@ fn takes_colon(alloc: Global, front: &str) -> Mem<bool>
     }
 }
 
-/// The place of a fault. Where a colon may belong to a field's name, the byte behind it is the one that doesn't fit.
+/// The place of a fault. Where a colon may belong to a field's name, the byte after it is the one that doesn't fit.
 fn place_of(alloc: Global, text: &str, place: usize) -> Mem<usize>
     requires { place ≤ length text.now }
     ensures { IfOk result (λ p. p ≡ place_of nesting_limit text.now place) }

@@ -17,7 +17,7 @@ use sp_base::TextBuf;
 use sqlite_items::{Boxed, Items as NodeList};
 use std::alloc::{AllocError, Global};
 
-/// What nests: a choice in brackets or behind a `?`, the operand of a `!`, the items of a list.
+/// What nests: a choice in brackets or after a `?`, the operand of a `!`, the items of a list.
 #[derive(Debug, Clone, Copy, Drop)]
 pub enum Inside {
     Choice,
@@ -126,7 +126,7 @@ fn leaf(alloc: Global, depth: u32, text: &str) -> Result<(Node, &str), Stop>
     }
 }
 
-/// What stands behind the byte that nests it.
+/// What stands after the byte that nests it.
 #[cycle(reader)]
 #[tactic(auto, unfolding(crate::specs::Read::nesting))]
 fn nesting(alloc: Global, depth: u32, inside: Inside, text: &str) -> Result<(Node, &str), Stop>
@@ -201,7 +201,7 @@ fn compare(alloc: Global, depth: u32, text: &str) -> Result<(Node, &str), Stop>
     ))
 }
 
-/// The operands behind the first one and their `&&`.
+/// The operands after the first one and their `&&`.
 #[cycle(reader)]
 #[tactic(auto, using(crate::proofs::Scan::front_ascii), unfolding(crate::specs::Read::chain))]
 fn more_compares(alloc: Global, depth: u32, text: &str) -> Result<(NodeList<Node>, &str), Stop>
@@ -231,7 +231,7 @@ fn both(alloc: Global, depth: u32, text: &str) -> Result<(Node, &str), Stop>
     Ok((and_of(alloc, e, more)?, rest))
 }
 
-/// The operands behind the first one and their `||`.
+/// The operands after the first one and their `||`.
 #[cycle(reader)]
 #[tactic(auto, using(crate::proofs::Scan::front_ascii), unfolding(crate::specs::Read::chain))]
 fn more_boths(alloc: Global, depth: u32, text: &str) -> Result<(NodeList<Node>, &str), Stop>
@@ -294,7 +294,7 @@ fn choice(alloc: Global, depth: u32, text: &str) -> Result<(Node, &str), Stop>
     ))
 }
 
-/// The items behind the first one and their commas.
+/// The items after the first one and their commas.
 #[cycle(reader)]
 #[tactic(auto, unfolding(crate::specs::Read::chain))]
 fn more_items(

@@ -1,4 +1,4 @@
-//! Tokens, each read with the blanks behind it.
+//! Tokens, each read with the blanks after it.
 
 ghost use Rattle.std.specs.Prelude.{◌≡◌, ◌≤◌, ◌<◌, ◌++◌, ℕ, List, length, drop, take, slice_index, IfOk, Ok, true, false, MatchOption};
 ghost use Rattle.std.specs.Str.{IsCharBoundary};
@@ -144,7 +144,7 @@ pub fn skip(text: &str) -> &str
     rest
 }
 
-/// What stands behind a byte that is there.
+/// What stands after a byte that is there.
 pub fn behind(c: u8, text: &str) -> &str
     requires ascii { c < 128 }
     requires there { spec.is_at c text.now ≡ true }
@@ -248,7 +248,7 @@ fn unescape(c: u8) -> Option<u8>
     }
 }
 
-/// The character that a text behind a backslash stands for.
+/// The character that a text after a backslash stands for.
 #[tactic(auto, unfolding(crate::specs::Tokens::escape))]
 fn escape(text: &str) -> Result<(char, &str), Stop>
     ensures value { Gives (λ x. (x.0, x.1.now)) result (spec.escape text.now) }
@@ -280,7 +280,7 @@ fn plain_len(mark: u8, text: &[u8]) -> usize
     len
 }
 
-/// A string behind the mark that opens it.
+/// A string after the mark that opens it.
 fn string_from(alloc: Global, mark: u8, text: &str) -> Result<(TextBuf, &str), Stop>
     requires { mark < 128 }
     ensures { Gives (λ x. (x.0, x.1.now)) result (spec.string_from false mark text.now) }

@@ -9,7 +9,7 @@ use Rattle.htl_text.specs.declared.piece.Piece.{Piece}
 use Rattle.htl_text.specs.declared.piece.Piece.TheVariants.{Value}
 use Rattle.htl_text.specs.Template.{opens, escapes, in_front}
 
--- what stands behind a quote mark, up to and with the same mark; a backslash takes the next byte with it
+-- what stands after a quote mark, up to and with the same mark; a backslash takes the next byte with it
 pub data Quotation (mark : ℕ) : List ℕ → Type 0 where
   closes : Quotation mark (mark ∷ [])
   plain : {c : ℕ} {t : List ℕ} → (c == mark) ≡ false → (c == 92) ≡ false → Quotation mark t → Quotation mark (c ∷ t)
@@ -28,11 +28,11 @@ pub data SpellsTemplate : List ℕ → List Piece → List ℕ → Type 0 where
   escape : {text rest : List ℕ} {ps : List Piece} → SpellsTemplate text ps rest → SpellsTemplate (92 ∷ 36 ∷ 123 ∷ text) (in_front (codes "${") ps) rest
   value : {inside text rest : List ℕ} {e : Expr} {ps : List Piece} → Inside inside → Whole inside e → SpellsTemplate text ps rest → SpellsTemplate (36 ∷ 123 ∷ (inside ++ 125 ∷ text)) (Value e ∷ ps) rest
 
--- no "}" closes what stands behind "${"
+-- no "}" closes what stands after "${"
 abbrev pub NeverCloses : List ℕ → Type 0
 NeverCloses behind = (inside text : List ℕ) → behind ≡ inside ++ 125 ∷ text → Inside inside → ⊥
 
--- what stands behind "${" up to its "}" is no expression
+-- what stands after "${" up to its "}" is no expression
 pub record HasNoExpr (behind : List ℕ) : Type 0 where
   pub inside : List ℕ
   pub text : List ℕ
@@ -40,13 +40,13 @@ pub record HasNoExpr (behind : List ℕ) : Type 0 where
   pub closed : Inside inside
   pub none : (e : Expr) → Whole inside e → ⊥
 
--- the fault of an expression by its place and by what stands behind its "${"
+-- the fault of an expression by its place and by what stands after its "${"
 abbrev pub Faults : TextFault → ℕ → List ℕ → Type 0
 Faults (Unclosed n) place behind = (n ≡ place) × NeverCloses behind
 Faults (BadExpr n) place behind = (n ≡ place) × HasNoExpr behind
 Faults NoMemory place behind = ⊥
 
--- the first fault of a text: that of an expression which opens behind pieces
+-- the first fault of a text: that of an expression which opens after pieces
 pub record IsFirstOpening (fault : TextFault) (text : List ℕ) : Type 0 where
   pub front : List ℕ
   pub behind : List ℕ

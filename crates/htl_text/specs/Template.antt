@@ -47,7 +47,7 @@ unfoldable pub closing : Quotes → ℕ → List ℕ → Option ℕ
 closing quotes n [] = None
 closing quotes n (c ∷ t) = if closes quotes c then Some n else closing (step quotes c) (n + 1) t
 
--- what stands between the braces as an expression, and the text behind it
+-- what stands between the braces as an expression, and the text after it
 abbrev pub read_value : ℕ → List ℕ → Result Expr ExprFault → Result (Expr × List ℕ) TextFault
 read_value place behind (Ok e) = Ok (e, behind)
 read_value place behind (Err fault) = Err (BadExpr place)
@@ -57,7 +57,7 @@ abbrev pub closed_value : ℕ → List ℕ → Option ℕ → Result (Expr × Li
 closed_value place inside None = Err (Unclosed place)
 closed_value place inside (Some n) = read_value place (drop 1 (drop n inside)) (expression_of (take n inside))
 
--- the expression that "${" opens at a place of the template, and the text behind its "}"
+-- the expression that "${" opens at a place of the template, and the text after its "}"
 unfoldable pub value_at : ℕ → List ℕ → Result (Expr × List ℕ) TextFault
 value_at place t = closed_value place (drop 2 t) (closing Outside 0 (drop 2 t))
 

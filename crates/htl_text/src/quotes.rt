@@ -10,7 +10,7 @@ pub enum Quotes {
     Outside,
     /// Inside quotes of this mark.
     Inside(u8),
-    /// Inside quotes of this mark, right behind a backslash.
+    /// Inside quotes of this mark, right after a backslash.
     Escaped(u8),
 }
 

@@ -49,6 +49,7 @@ pub data Writing : Type 0 where
   ContentLine : ContentFault → Writing
   Events : Scenario → List (List Note) → Writing
 
+-- the text of what is written
 abbrev pub output_of : Writing → List ℕ
 output_of Nothing = []
 output_of UsageLine = codes "usage: replay" ++ 10 ∷ []
@@ -84,6 +85,7 @@ IsRunOf s events = (n : ℕ) × IsSession s n events
 abbrev pub HasContent : Scenario → Type 0
 HasContent s = (tree : Content) × (content_of s.content ≡ Ok tree)
 
+-- the words are `replay` alone
 abbrev pub IsReplay : List (List ℕ) → Type 0
 IsReplay words = words ≡ codes "replay" ∷ []
 

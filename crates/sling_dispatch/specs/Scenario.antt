@@ -19,9 +19,11 @@ is_target text = not (length text == 0) && list_all is_visible text
 abbrev pub act_line : Act → List ℕ
 act_line (Do (Direct target)) = codes "direct " ++ target
 
+-- its target is one
 abbrev pub IsAct : Act → Type 0
 IsAct (Do (Direct target)) = IsTrue (is_target target)
 
+-- each of them is one
 abbrev pub AreActs : List Act → Type 0
 AreActs [] = Unit {0}
 AreActs (act ∷ acts) = IsAct act × AreActs acts

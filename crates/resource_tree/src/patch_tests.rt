@@ -1,12 +1,11 @@
-//! Patches, put over a tree with room that is made before or at once, and a node that is made with its properties.
+// Patches, put over a tree with room that is made before or at once, and a node that is made with its properties.
 ghost use Rattle.std.specs.Prelude.{IfOk};
 ghost use Rattle.resource_tree.specs.Content.{IsGood, HasSegmentNames};
 ghost use Rattle.resource_tree.specs.Patches.{patching};
 
-use crate::failed::Failed;
-use crate::moves::listing;
-use crate::trees::{at, tree_of};
-use resource_tree::{Patch, PatchNode, Tree};
+use crate::move_tests::listing;
+use crate::tests::{Failed, at, tree_of};
+use crate::{Patch, PatchNode, Tree};
 use sp_base::{Mem, Path, PropList, Value};
 use std::alloc::Global;
 use std::hash::RandomState;

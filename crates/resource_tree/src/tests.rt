@@ -1,12 +1,34 @@
-//! Trees that are built and changed by hand.
+// Trees that are built and changed by hand.
 ghost use Rattle.std.specs.Prelude.{◌≡◌, ◌++◌, ◌∷◌, [], IfOk, IfSome, IsTrue, Some};
 ghost use Rattle.sp_base.specs.Paths.{seg_ok};
 
-use crate::failed::Failed;
-use resource_tree::{Look, Place, Res, Tree, TreeFault};
+use crate::{Look, Place, Res, Tree, TreeFault};
 use sp_base::{Mem, NoMemory, Path, TextBuf, Value};
 use std::alloc::Global;
 use std::hash::RandomState;
+use std::io;
+
+/// A refusal, a lack of memory or of random numbers where a test expects none.
+#[derive(Debug, Drop)]
+pub(crate) struct Failed;
+
+impl From<TreeFault> for Failed {
+    fn from(_fault: TreeFault) -> Failed {
+        Failed
+    }
+}
+
+impl From<NoMemory> for Failed {
+    fn from(_fault: NoMemory) -> Failed {
+        Failed
+    }
+}
+
+impl From<io::Error> for Failed {
+    fn from(_fault: io::Error) -> Failed {
+        Failed
+    }
+}
 
 pub(crate) fn at(alloc: Global, text: &str) -> Result<Path, TreeFault> {
     match Path::read(alloc, text) {

@@ -1,7 +1,6 @@
-//! Parts of a tree that are copied or moved to another path, each with the whole tree compared.
-use crate::failed::Failed;
-use crate::trees::{at, kids, told, tree_of};
-use resource_tree::{Tree, TreeFault};
+// Parts of a tree that are copied or moved to another path, each with the whole tree compared.
+use crate::tests::{Failed, at, kids, told, tree_of};
+use crate::{Tree, TreeFault};
 use sp_base::{Path, Value};
 use std::alloc::Global;
 use std::hash::RandomState;

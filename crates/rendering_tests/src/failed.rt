@@ -1,7 +1,6 @@
 //! What a test answers where a call refused that was to do.
 use htl_expr::ExprFault;
-use htl_text::RenderFault;
-use htl_text::TextFault;
+use htl_text::{RenderFault, TextFault};
 use resource_tree::TreeFault;
 use sp_base::NoMemory;
 use std::alloc::AllocError;

@@ -1,7 +1,7 @@
 //! Templates: where they are cut, what they write, and their faults.
 use crate::failed::Failed;
-use htl_text::{RenderFault, Template, TextFault};
 use htl_expr::Scope;
+use htl_text::{RenderFault, Template, TextFault};
 use sp_base::{PropList, TextBuf, TextList, Value};
 use std::alloc::Global;
 

@@ -1,7 +1,6 @@
 //! What a test answers where a call refused that was to do.
 use resource_tree::TreeFault;
-use sp_base::NoMemory;
-use sp_base::PathFault;
+use sp_base::{NoMemory, PathFault};
 use std::alloc::AllocError;
 use std::io;
 

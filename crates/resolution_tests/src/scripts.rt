@@ -1,7 +1,7 @@
 //! The first-ranked script, for each naming and with those before it taken away.
 use crate::failed::Failed;
-use script_rank::{first_script, script_of};
 use resource_tree::Tree;
+use script_rank::{first_script, script_of};
 use sp_base::{Path, PropList, TextBuf, TextList, Value};
 use std::alloc::{AllocError, Global};
 use std::hash::RandomState;

@@ -4,11 +4,11 @@ ghost use Rattle.std.specs.List.{list_any};
 ghost use Rattle.std.specs.Ordering.{eq_by_cmp};
 ghost use Rattle.sp_base.specs.Paths.{by_path};
 
-use url_split::{Known, Parts, split};
 use sp_base::{LONGEST_SEGMENT, MOST_SEGMENTS, Mem, Path, PathFault, PathList};
 use std::alloc::Global;
 use std::cell::Cell;
 use std::test::Fail;
+use url_split::{Known, Parts, split};
 
 // Knows the paths of a list.
 #[derive(Drop)]

@@ -1,10 +1,10 @@
 //! Chains of types, and the places of types.
 use crate::failed::Failed;
-use type_chain::{TypeList, TypeName, chain, place_of};
 use resource_tree::Tree;
 use sp_base::{Path, TextBuf, Value, seg_ok};
 use std::alloc::Global;
 use std::hash::RandomState;
+use type_chain::{TypeList, TypeName, chain, place_of};
 
 // Makes a node, and those above it that are not there.
 fn make(alloc: Global, tree: &mut Tree, path: &Path) -> Result<(), Failed> {

@@ -1,7 +1,7 @@
 //! What is long and not deep is read, evaluated and dropped without a deep stack.
 
+use super::sample::Sample;
 use crate::failed::Failed;
-use super::sample::{Sample};
 use htl_expr::Expr;
 use std::alloc::Global;
 

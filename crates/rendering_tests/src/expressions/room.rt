@@ -1,7 +1,7 @@
 //! Writes within a limit.
 
+use super::sample::Sample;
 use crate::failed::Failed;
-use super::sample::{Sample};
 use htl_expr::{Expr, WriteFault};
 
 #[test]

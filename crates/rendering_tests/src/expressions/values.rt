@@ -1,5 +1,5 @@
-use crate::failed::Failed;
 use super::sample::{Want, first_other};
+use crate::failed::Failed;
 
 #[test]
 fn values_have_a_kind(rt: HostRuntime) -> Result<(), Failed> {

@@ -7,6 +7,9 @@ use Rattle.sp_base.specs.declared.answer.Ask.{Ask}
 use Rattle.sp_base.specs.declared.answer.Mark.{Mark}
 use Rattle.resource_tree.specs.Content.{Content}
 use Rattle.resource_tree.specs.Seen.{Resource, Seen}
+use Rattle.url_maps.specs.Answers.{map_answer}
+use Rattle.url_maps.specs.declared.answer.MapAnswer.{MapAnswer}
+use Rattle.url_maps.specs.declared.answer.MapAnswer.TheVariants.{Inside, Away}
 use Rattle.url_split.specs.declared.decompose.Parts.{Parts}
 use Rattle.url_split.specs.Split.{split_of}
 use Rattle.htl_text.specs.Template.{template_output as written_by}
@@ -22,7 +25,7 @@ use Rattle.publisher.specs.Readings.{reading_of}
 use Rattle.publisher.specs.Errors.{answer_of, error_answer}
 use Rattle.publisher.specs.Depths.{depth_of}
 use Rattle.overlay_merge.specs.Merged.{has_resource}
-use Rattle.publisher.specs.Rendering.{seen, is_read, mark_of, most_bytes, representation_of, json_representation, json_to_depth, file_representation, is_json, is_bare, default_answer, script_for, scope_of, script_representation, answer_by, resource_answer, split_answer, rendered}
+use Rattle.publisher.specs.Rendering.{seen, is_read, mark_of, most_bytes, representation_of, json_representation, json_to_depth, file_representation, is_json, is_bare, default_answer, script_for, scope_of, script_representation, answer_by, resource_answer, split_answer, text_answer, mapping, mapped_answer, rendered}
 
 -- ---- a representation isn't too long
 
@@ -81,16 +84,21 @@ found_fits : (tree : Content) (parts : Option Parts) → Fits (split_answer tree
 found_fits tree None = missing_fits
 found_fits tree (Some parts) = resource_fits tree parts (seen tree parts.path)
 
+mapped_fits : (tree : Content) (answer : MapAnswer) → Fits (mapped_answer tree answer)
+mapped_fits tree (Inside text) = found_fits tree (split_of (has_resource tree) text)
+mapped_fits tree (Away status target) = λ e. omega arith
+
 pub rendered_fits : (tree : Content) (ask : Ask) → (rendered tree ask).status ≡ 200 → length (rendered tree ask).body ≤ 4194304
 unfolding rendered
 rendered_fits tree ask =
-    either (is_read ask.method) _ _ (found_fits tree (split_of (has_resource tree) (text_of ask.path)))
+    either (is_read ask.method) _ _ (mapped_fits tree (mapping tree ask))
     (error_fits 405 (λ h. absurd (omega (arith, h))))
 
--- ---- the path alone counts
+-- ---- the host, the port and the path alone count
 
-pub same_reading : (tree : Content) (a b : Ask) → is_read a.method ≡ true → is_read b.method ≡ true → a.path ≡ b.path → rendered tree a ≡ rendered tree b
+pub same_reading : (tree : Content) (a b : Ask) → is_read a.method ≡ true → is_read b.method ≡ true → a.host ≡ b.host → a.port ≡ b.port → a.path ≡ b.path → rendered tree a ≡ rendered tree b
 unfolding rendered
-same_reading tree a b first second same =
-    let page = λ (path : List (List ℕ)). split_answer tree (split_of (has_resource tree) (text_of path)) in
-    ap (λ t. cond t (page a.path) (error_answer 405)) first ∙ ap page same ∙ sym (ap (λ t. cond t (page b.path) (error_answer 405)) second)
+same_reading tree a b first second host port path =
+    let same : mapping tree a ≡ mapping tree b = λ i. map_answer tree (host i) (port i) (text_of (path i)) in
+    ap (λ t. cond t (mapped_answer tree (mapping tree a)) (error_answer 405)) first ∙ ap (mapped_answer tree) same
+    ∙ sym (ap (λ t. cond t (mapped_answer tree (mapping tree b)) (error_answer 405)) second)

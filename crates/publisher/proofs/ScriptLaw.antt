@@ -7,6 +7,8 @@ use Rattle.sp_base.specs.declared.answer.Ask.{Ask}
 use Rattle.sp_base.specs.declared.answer.Mark.{Mark}
 use Rattle.resource_tree.specs.Content.{Content}
 use Rattle.resource_tree.specs.Seen.{Resource}
+use Rattle.url_maps.specs.declared.answer.MapAnswer.{MapAnswer}
+use Rattle.url_maps.specs.declared.answer.MapAnswer.TheVariants.{Inside, Away}
 use Rattle.url_split.specs.declared.decompose.Parts.{Parts}
 use Rattle.url_split.specs.Split.{split_of}
 use Rattle.type_chain.specs.Chain.{chain_of}
@@ -15,10 +17,10 @@ use Rattle.script_rank.specs.Ranking.{HasNoCandidate, IsFirst, script_text}
 use Rattle.script_rank.specs.Search.{search_result}
 use Rattle.htl_text.specs.declared.piece.Piece.{Piece}
 use Rattle.htl_text.specs.Template.{template_of, template_output as written_by}
-use Rattle.publisher.specs.Errors.{answer_of, error_answer}
+use Rattle.publisher.specs.Errors.{answer_of, error_answer, redirect}
 use Rattle.publisher.specs.Readings.{reading_in}
 use Rattle.overlay_merge.specs.Merged.{has_resource}
-use Rattle.publisher.specs.Rendering.{seen, answer_by, html_kind, is_read, mark_of, most_bytes, rendered, representation_of, resource_answer, scope_of, script_for, script_representation, split_answer}
+use Rattle.publisher.specs.Rendering.{seen, answer_by, html_kind, is_read, mark_of, most_bytes, rendered, representation_of, resource_answer, scope_of, script_for, script_representation, split_answer, text_answer, mapped_answer, mapping}
 
 -- the search gives the script that ranks first, where one does
 pub found_first : (tree : Content) (chain : List TypeName) (parts : Parts) (script : List (List ℕ)) (found : Option (List (List ℕ)))
@@ -34,14 +36,19 @@ unfolding error_answer
 written_body true mark body is ok = refl
 written_body false mark body is ok = absurd (omega (arith, ok))
 
+-- the answer to a request that is mapped
+pub mapped_is : (tree : Content) (ask : Ask) (answer : MapAnswer) → is_read ask.method ≡ true → mapping tree ask ≡ answer → rendered tree ask ≡ mapped_answer tree answer
+unfolding rendered
+mapped_is tree ask answer read mapped = ap (λ b. cond b (mapped_answer tree (mapping tree ask)) (error_answer 405)) read ∙ ap (mapped_answer tree) mapped
+
 -- the answer of a resource by its first script
-pub answer_is : (tree : Content) (ask : Ask) (parts : Parts) (res : Resource) (script : List (List ℕ)) (text : List ℕ) (pieces : List Piece)
-    → is_read ask.method ≡ true → split_of (has_resource tree) (text_of ask.path) ≡ Some parts → seen tree parts.path ≡ Some res
+pub answer_is : (tree : Content) (ask : Ask) (mapped : List ℕ) (parts : Parts) (res : Resource) (script : List (List ℕ)) (text : List ℕ) (pieces : List Piece)
+    → is_read ask.method ≡ true → mapping tree ask ≡ Inside mapped → split_of (has_resource tree) mapped ≡ Some parts → seen tree parts.path ≡ Some res
     → search_result tree (chain_of tree res.props) parts ≡ Some script → script_text tree script ≡ Some text → template_of text ≡ Ok pieces
     → rendered tree ask ≡ representation_of html_kind (mark_of res) (written_by (scope_of res) pieces)
-unfolding rendered script_for
-answer_is tree ask parts res script text pieces read split there first is spelled =
-    ap (λ b. cond b (split_answer tree (split_of (has_resource tree) (text_of ask.path))) (error_answer 405)) read
+unfolding script_for
+answer_is tree ask mapped parts res script text pieces read inside split there first is spelled =
+    mapped_is tree ask (Inside mapped) read inside
     ∙ ap (split_answer tree) split
     ∙ ap (resource_answer tree parts) there
     ∙ ap (λ o. answer_by (option_and_then (script_text tree) o) (seen tree) parts res) first

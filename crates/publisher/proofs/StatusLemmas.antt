@@ -6,6 +6,11 @@ use Rattle.sp_base.specs.declared.answer.Ask.{Ask}
 use Rattle.sp_base.specs.declared.answer.Mark.{Mark}
 use Rattle.resource_tree.specs.Content.{Content}
 use Rattle.resource_tree.specs.Seen.{Resource, Seen}
+use Rattle.std.proofs.lemmas.Bool.Decides.{nat_tests}
+use Rattle.url_maps.specs.Answers.{map_answer}
+use Rattle.url_maps.specs.Mappings.{is_redirect}
+use Rattle.url_maps.specs.declared.answer.MapAnswer.{MapAnswer}
+use Rattle.url_maps.specs.declared.answer.MapAnswer.TheVariants.{Inside, Away}
 use Rattle.url_split.specs.declared.decompose.Parts.{Parts}
 use Rattle.url_split.specs.Split.{split_of}
 use Rattle.htl_text.specs.Template.{template_output as written_by}
@@ -21,7 +26,7 @@ use Rattle.publisher.specs.Readings.{reading_of}
 use Rattle.publisher.specs.Errors.{answer_of, error_answer}
 use Rattle.publisher.specs.Depths.{depth_of}
 use Rattle.overlay_merge.specs.Merged.{has_resource}
-use Rattle.publisher.specs.Rendering.{seen, is_read, mark_of, most_bytes, representation_of, json_representation, json_to_depth, file_representation, is_json, is_bare, default_answer, script_for, scope_of, script_representation, answer_by, resource_answer, split_answer, rendered}
+use Rattle.publisher.specs.Rendering.{seen, is_read, mark_of, most_bytes, representation_of, json_representation, json_to_depth, file_representation, is_json, is_bare, default_answer, script_for, scope_of, script_representation, answer_by, resource_answer, split_answer, mapping, mapped_answer, rendered}
 
 abbrev Short : Answer → Type 0
 Short a = a.status < 1000
@@ -74,10 +79,21 @@ split_short : (tree : Content) (parts : Option Parts) → Short (split_answer tr
 split_short tree None = missing_short
 split_short tree (Some parts) = resource_short tree parts (seen tree parts.path)
 
-pub rendered_short : (tree : Content) (ask : Ask) → (rendered tree ask).status < 1000
+redirect_short : (status : ℕ) → is_redirect status ≡ true → status < 1000
+redirect_short status is = grind (arith, nat_tests)
+
+mapped_short : (tree : Content) (answer : MapAnswer) → ((status : ℕ) (target : List ℕ) → answer ≡ Away status target → is_redirect status ≡ true) → Short (mapped_answer tree answer)
+mapped_short tree (Inside text) away = split_short tree (split_of (has_resource tree) text)
+mapped_short tree (Away status target) away = redirect_short status (away status target refl)
+
+-- what leads away does so by a status of a redirect
+abbrev pub AwayRedirects : Type 0
+AwayRedirects = (tree : Content) (host : List ℕ) (port : ℕ) (text target : List ℕ) (status : ℕ) → map_answer tree host port text ≡ Away status target → is_redirect status ≡ true
+
+pub rendered_short : AwayRedirects → (tree : Content) (ask : Ask) → (rendered tree ask).status < 1000
 unfolding rendered
-rendered_short tree ask =
-    either (is_read ask.method) _ _ (split_short tree (split_of (has_resource tree) (text_of ask.path))) (error_short 405 (omega arith))
+rendered_short away tree ask =
+    either (is_read ask.method) _ _ (mapped_short tree (mapping tree ask) (λ status target. away tree ask.host ask.port (text_of ask.path) target status)) (error_short 405 (omega arith))
 
 pub errors_short : (status : ℕ) → (error_answer status).status ≡ status
 unfolding error_answer

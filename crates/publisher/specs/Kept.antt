@@ -1,8 +1,9 @@
--- The readings of scripts that a publisher keeps beside its tree. What is answered needs none of it: only the publisher's type and its proofs cite this.
-use Rattle.std.specs.Prelude.{◌≡◌, ℕ, List, Option, Some, option_map}
+-- What a publisher keeps beside its tree: the readings of scripts, and the index of mappings. What is answered needs none of it: only the publisher's type and its proofs cite this.
+use Rattle.std.specs.Prelude.{◌≡◌, ℕ, List, Option, Some, IfSome, option_map}
 use Rattle.std.specs.Map.{lookup}
 use Rattle.resource_tree.specs.Content.{Content, same_path}
 use Rattle.script_rank.specs.Ranking.{script_text}
+use Rattle.url_maps.specs.Claims.{Index, IsIndexOf}
 use Rattle.publisher.specs.declared.templates.Reading.{Reading}
 use Rattle.publisher.specs.Readings.{reading_of}
 
@@ -17,3 +18,7 @@ reading_at kept path = lookup (same_path path) kept
 abbrev pub AreReadings : Content → Kept → Type 0
 AreReadings tree kept = (path : List (List ℕ)) (reading : Reading) → reading_at kept path ≡ Some reading
     → option_map reading_of (script_text tree path) ≡ Some reading
+
+-- an index that is kept is the tree's
+abbrev pub IsIndexFor : Content → Option Index → Type 0
+IsIndexFor tree index = IfSome index (IsIndexOf tree)

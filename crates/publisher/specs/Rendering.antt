@@ -10,6 +10,9 @@ use Rattle.sp_base.specs.declared.answer.Mark.TheVariants.{Plain, NoCache, NoSto
 use Rattle.resource_tree.specs.Content.{Content, name_of}
 use Rattle.resource_tree.specs.Seen.{Resource, Seen}
 use Rattle.overlay_merge.specs.Merged.{merged, has_resource}
+use Rattle.url_maps.specs.Answers.{map_answer}
+use Rattle.url_maps.specs.declared.answer.MapAnswer.{MapAnswer}
+use Rattle.url_maps.specs.declared.answer.MapAnswer.TheVariants.{Inside, Away}
 use Rattle.url_split.specs.declared.decompose.Parts.{Parts}
 use Rattle.url_split.specs.Split.{split_of}
 use Rattle.type_chain.specs.Chain.{chain_of, type_text}
@@ -26,7 +29,7 @@ use Rattle.get_servlet.specs.Streams.{stream_of}
 use Rattle.publisher.specs.declared.templates.Reading.{Reading}
 use Rattle.publisher.specs.declared.templates.Reading.TheVariants.{Parsed, Refused}
 use Rattle.publisher.specs.Readings.{reading_of}
-use Rattle.publisher.specs.Errors.{answer_of, error_answer}
+use Rattle.publisher.specs.Errors.{answer_of, error_answer, redirect}
 use Rattle.publisher.specs.Depths.{depth_of}
 use Rattle.publisher.specs.Choices.{choices_text}
 
@@ -123,6 +126,19 @@ abbrev pub split_answer : Content → Option Parts → Answer
 split_answer tree None = error_answer 404
 split_answer tree (Some parts) = resource_answer tree parts (seen tree parts.path)
 
--- the answer to a request: another method than GET and HEAD isn't allowed; else the text of the path is taken apart
+-- what the text of a request's path is mapped to, for the host and the port that it asks
+abbrev pub mapping : Content → Ask → MapAnswer
+mapping tree ask = map_answer tree ask.host ask.port (text_of ask.path)
+
+-- the answer to a text within the content, which is taken apart
+abbrev pub text_answer : Content → List ℕ → Answer
+text_answer tree text = split_answer tree (split_of (has_resource tree) text)
+
+-- a mapping that leads away is a redirect
+abbrev pub mapped_answer : Content → MapAnswer → Answer
+mapped_answer tree (Inside text) = text_answer tree text
+mapped_answer tree (Away status target) = redirect status target
+
+-- the answer to a request: another method than GET and HEAD isn't allowed; else the text of the path is mapped
 unfoldable pub rendered : Content → Ask → Answer
-rendered tree ask = if is_read ask.method then split_answer tree (split_of (has_resource tree) (text_of ask.path)) else error_answer 405
+rendered tree ask = if is_read ask.method then mapped_answer tree (mapping tree ask) else error_answer 405

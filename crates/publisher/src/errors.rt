@@ -1,10 +1,11 @@
-//! The answers that only say a status.
+//! The answers that only say a status, or lead elsewhere.
 ghost use Rattle.std.specs.Prelude.{◌≡◌, IfOk};
-ghost use Rattle.publisher.specs.Errors.{answer_of, phrase_of, error_answer};
+ghost use Rattle.publisher.specs.Errors.{answer_of, phrase_of, error_answer, redirect};
 
 use http::StatusCode;
 use sp_base::{Answer, ByteBuf, Mark, Mem, TextBuf};
 use std::alloc::Global;
+use url_maps::location_of;
 
 /// An answer with a media type and a body.
 pub(crate) fn answer_of(
@@ -22,6 +23,19 @@ pub(crate) fn answer_of(
         location: TextBuf::of(alloc, "")?,
         mark,
         body,
+    })
+}
+
+/// A redirect to a target, which is escaped.
+pub(crate) fn redirect(alloc: Global, status: u16, target: &str) -> Mem<Answer>
+    ensures { IfOk result (λ a. a ≡ redirect status target.now) }
+{
+    Ok(Answer {
+        status,
+        kind: TextBuf::of(alloc, "")?,
+        location: location_of(alloc, target)?,
+        mark: Mark::Plain,
+        body: ByteBuf::of(alloc, b"")?,
     })
 }
 

@@ -2,9 +2,11 @@
 ghost use Rattle.std.specs.Prelude.{◌≡◌, ◌≤◌, ◌<◌, [], ℕ, List, Some, true, length};
 ghost use Rattle.sp_base.specs.Paths.{text_of};
 ghost use Rattle.sp_base.specs.declared.answer.Ask.{Ask};
-ghost use Rattle.resource_tree.specs.Content.{Content};
+ghost use Rattle.resource_tree.specs.Content.{Content, IsGood};
 ghost use Rattle.overlay_merge.specs.Merged.{has_resource};
 ghost use Rattle.resource_tree.specs.Seen.{Resource};
+ghost use Rattle.url_maps.specs.Turns.{IsMapped};
+ghost use Rattle.url_maps.specs.declared.answer.MapAnswer.TheVariants.{Inside, Away};
 ghost use Rattle.url_split.specs.declared.decompose.Parts.{Parts};
 ghost use Rattle.url_split.specs.Split.{IsSplit};
 ghost use Rattle.type_chain.specs.Chain.{chain_of};
@@ -12,16 +14,17 @@ ghost use Rattle.script_rank.specs.Ranking.{IsFirst, script_text};
 ghost use Rattle.htl_text.specs.declared.piece.Piece.{Piece};
 ghost use Rattle.htl_text.specs.Spelling.{SpellsTemplate};
 ghost use Rattle.htl_text.specs.Template.{template_output as written_by};
-ghost use Rattle.publisher.specs.Errors.{error_answer};
+ghost use Rattle.publisher.specs.Errors.{error_answer, redirect};
 ghost use Rattle.publisher.specs.Rendering.{is_read, rendered, scope_of, seen};
 
 use htl_text::the_pieces_are_the_text;
 use script_rank::{one_script_is_first, search_finds_the_first};
+use url_maps::{away_is_a_redirect, the_answer_is_mapped};
 use url_split::the_split_is_the_longest;
 
-/// A GET and a HEAD of one path are answered alike, whatever host they ask and whatever body they bring.
-pub fn reads_depend_on_the_path()
-    ensures { (tree : Content) (a b : Ask) → is_read a.method ≡ true → is_read b.method ≡ true → a.path ≡ b.path → rendered tree a ≡ rendered tree b }
+/// A GET and a HEAD of one path are answered alike at one host and port, whatever body they bring.
+pub fn reads_depend_on_host_port_and_path()
+    ensures { (tree : Content) (a b : Ask) → is_read a.method ≡ true → is_read b.method ≡ true → a.host ≡ b.host → a.port ≡ b.port → a.path ≡ b.path → rendered tree a ≡ rendered tree b }
 {}
 
 /// A representation has at most 4,194,304 bytes.
@@ -33,16 +36,28 @@ pub fn representations_fit()
 pub fn statuses_are_short()
     ensures rendered { (tree : Content) (ask : Ask) → (rendered tree ask).status < 1000 }
     ensures error { (status : ℕ) → (error_answer status).status ≡ status }
-{}
+{
+    away_is_a_redirect();
+}
 
-/// A page that a script gives is what the pieces write that its text spells, for the resource: the resource is the one that the path
-/// is taken apart into, and the script the one that ranks first for its types.
+/// A request whose path's text is mapped away is a redirect to the escaped target.
+pub fn what_leads_away_is_a_redirect()
+    ensures { (tree : Content) (ask : Ask) (status : ℕ) (target : List ℕ) → IsGood tree → is_read ask.method ≡ true
+        → IsMapped tree ask.host ask.port (text_of ask.path) (Away status target) → rendered tree ask ≡ redirect status target }
+{
+    the_answer_is_mapped();
+}
+
+/// A page that a script gives is what the pieces write that its text spells, for the resource: the resource is the one that the text is
+/// taken apart into to which the path's text is mapped, and the script the one that ranks first for its types.
 pub fn a_script_writes_its_pieces()
-    ensures { (tree : Content) (ask : Ask) (parts : Parts) (res : Resource) (script : List (List ℕ)) (text : List ℕ) (pieces : List Piece)
-        → is_read ask.method ≡ true → IsSplit (has_resource tree) (text_of ask.path) parts → seen tree parts.path ≡ Some res
+    ensures { (tree : Content) (ask : Ask) (mapped : List ℕ) (parts : Parts) (res : Resource) (script : List (List ℕ)) (text : List ℕ) (pieces : List Piece)
+        → IsGood tree → is_read ask.method ≡ true → IsMapped tree ask.host ask.port (text_of ask.path) (Inside mapped)
+        → IsSplit (has_resource tree) mapped parts → seen tree parts.path ≡ Some res
         → IsFirst tree (chain_of tree res.props) parts script → script_text tree script ≡ Some text → SpellsTemplate text pieces []
         → (rendered tree ask).status ≡ 200 → (rendered tree ask).body ≡ written_by (scope_of res) pieces }
 {
+    the_answer_is_mapped();
     the_split_is_the_longest();
     search_finds_the_first();
     one_script_is_first();

@@ -1,11 +1,12 @@
-//! The publisher: a content tree, the templates of its scripts, and the answer to a request.
+//! The publisher: a content tree, what is kept beside it, and the answer to a request.
 ghost use Rattle.std.specs.Prelude.{◌≡◌, IfOk};
 ghost use Rattle.overlay_merge.specs.Merged.{has_resource};
 ghost use Rattle.url_split.specs.Split.{split_of};
-ghost use Rattle.sp_base.specs.Paths.{text_of};
-ghost use Rattle.publisher.specs.Rendering.{seen, split_answer, resource_answer, rendered};
+ghost use Rattle.url_maps.specs.Claims.{IsIndexOf};
+ghost use Rattle.publisher.specs.Kept.{IsIndexFor};
+ghost use Rattle.publisher.specs.Rendering.{seen, mapping, text_answer, resource_answer, rendered};
 
-use crate::errors::error_answer;
+use crate::errors::{error_answer, redirect};
 use crate::methods::is_read;
 use crate::representations::resource_answer;
 use crate::templates::Templates;
@@ -16,6 +17,7 @@ use std::alloc::Global;
 use std::hash::RandomState;
 use std::marker::Model;
 use std::mem;
+use url_maps::{MapAnswer, MapIndex};
 use url_split::{Parts, split};
 
 /// Answers requests on a content tree. Contracts see the tree.
@@ -23,17 +25,19 @@ use url_split::{Parts, split};
 pub struct Publisher {
     tree: Tree,
     templates: Templates,
+    /// The index of the tree's aliases and vanity paths, made at the first answer.
+    index: Option<MapIndex>,
 }
 
 impl Model for Publisher {
     ghost use Rattle.resource_tree.specs.Content.{Content};
-    ghost use Rattle.publisher.specs.Kept.{AreReadings};
+    ghost use Rattle.publisher.specs.Kept.{AreReadings, IsIndexFor};
 
     ghost Value = { Content };
 
     ghost view = { λ p. p.tree };
 
-    ghost invariant = { λ p. AreReadings p.tree p.templates };
+    ghost invariant = { λ p. AreReadings p.tree p.templates × IsIndexFor p.tree p.index };
 }
 
 impl Publisher {
@@ -44,15 +48,17 @@ impl Publisher {
         Publisher {
             tree,
             templates: Templates::new(alloc, seeds),
+            index: None,
         }
     }
 
-    /// Puts another tree in the place of the publisher's, which is given back. What was read of scripts is forgotten.
+    /// Puts another tree in the place of the publisher's, which is given back. What was kept beside the old one is forgotten.
     pub fn replace(&mut self, tree: Tree) -> Tree
         ensures old { result ≡ self.old }
         ensures new { self.new ≡ tree }
     {
         self.templates.forget_all();
+        self.index = None;
         mem::replace(&mut self.tree, tree)
     }
 
@@ -71,8 +77,31 @@ impl Publisher {
         if !is_read(ask.method.text()) {
             return error_answer(alloc, 405);
         }
+        match self.mapping(alloc, ask)? {
+            MapAnswer::Inside(text) => self.text_answer(alloc, text.text()),
+            MapAnswer::Away(status, target) => redirect(alloc, status, target.text()),
+        }
+    }
+
+    // What the text of a request's path is mapped to.
+    fn mapping(&mut self, alloc: Global, ask: &Ask) -> Mem<MapAnswer>
+        ensures answer { IfOk result (λ a. a ≡ mapping self.old ask.now) }
+        ensures unchanged { self.new ≡ self.old }
+    {
+        let index = index_of(alloc, &self.tree, self.index.take())?;
+        let path = ask.path.as_text();
+        let answer = index.map_in(alloc, &self.tree, ask.host.text(), ask.port, path);
+        self.index = Some(index);
+        answer
+    }
+
+    // The answer to a text within the content.
+    fn text_answer(&mut self, alloc: Global, text: &str) -> Mem<Answer>
+        ensures answer { IfOk result (λ a. a ≡ text_answer self.old text.now) }
+        ensures unchanged { self.new ≡ self.old }
+    {
         let view = MergedView { tree: &self.tree };
-        let parts = split(alloc, &view, ask.path.as_text())?;
+        let parts = split(alloc, &view, text)?;
         match parts {
             Some(parts) => self.named(alloc, &parts),
             None => error_answer(alloc, 404),
@@ -88,5 +117,16 @@ impl Publisher {
             Some(res) => resource_answer(alloc, &self.tree, &mut self.templates, parts, &res),
             None => error_answer(alloc, 404),
         }
+    }
+}
+
+// The index of a tree: the one that is there, or a new one.
+fn index_of(alloc: Global, tree: &Tree, index: Option<MapIndex>) -> Mem<MapIndex>
+    requires { IsIndexFor tree.now index }
+    ensures { IfOk result (λ made. IsIndexOf tree.now made) }
+{
+    match index {
+        Some(index) => Ok(index),
+        None => MapIndex::of(alloc, tree),
     }
 }

@@ -63,21 +63,25 @@ fn shown(alloc: Global, answer: &Answer) -> Result<String, Failed> {
     Ok(format!(in alloc; "{} {} {mark} {body}", answer.status, answer.kind.text())?)
 }
 
+fn ask_of(alloc: Global, host: &str, port: u16, method: &str, path: &str) -> Result<Ask, Failed> {
+    Ok(Ask {
+        method: TextBuf::of(alloc, method)?,
+        host: TextBuf::of(alloc, host)?,
+        port,
+        path: at(alloc, path)?,
+        slash: false,
+        kind: TextBuf::of(alloc, "")?,
+        body: ByteBuf::of(alloc, b"")?,
+    })
+}
+
 fn asked(
     alloc: Global,
     publisher: &mut Publisher,
     method: &str,
     path: &str,
 ) -> Result<String, Failed> {
-    let ask = Ask {
-        method: TextBuf::of(alloc, method)?,
-        host: TextBuf::of(alloc, "localhost")?,
-        port: 80,
-        path: at(alloc, path)?,
-        slash: false,
-        kind: TextBuf::of(alloc, "")?,
-        body: ByteBuf::of(alloc, b"")?,
-    };
+    let ask = ask_of(alloc, "localhost", 80, method, path)?;
     shown(alloc, &publisher.answer(alloc, &ask)?)
 }
 
@@ -290,6 +294,45 @@ fn pages_have_4194304_bytes_at_most(rt: HostRuntime) -> Result<(), Failed> {
         let mut site = scripted_site(alloc, seeds, TextBuf::from(script))?;
         let got = asked(alloc, &mut site, "GET", "/p.html")?;
         assert!(rt; got.starts_with(status));
+    }
+    Ok(())
+}
+
+// A page, and mappings of two ports that lead to it and away.
+fn mapped_site(alloc: Global, seeds: RandomState) -> Result<Publisher, Failed> {
+    let mut tree = Tree::new(alloc, seeds)?;
+    for path in [
+        "/en",
+        "/etc",
+        "/etc/map",
+        "/etc/map/http",
+        "/etc/map/http/example.org.80",
+        "/etc/map/http/example.org.8080",
+    ] {
+        tree.create(alloc, &at(alloc, path)?)?;
+    }
+    let inside = at(alloc, "/etc/map/http/example.org.80")?;
+    tree.set(alloc, &inside, "sling:internalRedirect", text(alloc, "/en")?)?;
+    let away = at(alloc, "/etc/map/http/example.org.8080")?;
+    tree.set(alloc, &away, "sling:redirect", text(alloc, "/a b")?)?;
+    Ok(Publisher::new(alloc, seeds, tree))
+}
+
+#[test]
+fn requests_are_mapped_for_their_host_and_port(rt: HostRuntime) -> Result<(), Failed> {
+    let alloc = rt.alloc();
+    let mut site = mapped_site(alloc, RandomState::new(&rt)?)?;
+    for (host, port, method, path, status, location) in [
+        ("example.org", 80u16, "GET", "/en.json", 404u16, ""),
+        ("example.org", 81, "GET", "/en.json", 200, ""),
+        ("localhost", 80, "HEAD", "/en.json", 200, ""),
+        ("Example.ORG", 8080, "HEAD", "/en.json", 302, "/a%20b/en.json"),
+        ("example.org", 8080, "POST", "/en.json", 405, ""),
+    ] {
+        let ask = ask_of(alloc, host, port, method, path)?;
+        let answer = site.answer(alloc, &ask)?;
+        assert_eq!(rt; answer.status, status, "{host} {port}");
+        assert_eq!(rt; answer.location.text(), location);
     }
     Ok(())
 }

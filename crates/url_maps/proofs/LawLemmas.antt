@@ -1,23 +1,20 @@
 -- At most one pair decides a turn, and a text has one answer.
-use Rattle.std.proofs.Common.{◌≡◌, ◌<◌, ◌≤◌, ◌-◌, ℕ, zero, suc, Bool, true, false, List, [], ◌∷◌, ◌++◌, Option, Some, None, Ok, take, length, refl, sym, ◌∙◌, ap, subst, arith, ⊎_elim, ◌⊎◌, inl, inr}
+use Rattle.std.proofs.Common.{◌≡◌, ◌<◌, ◌≤◌, ℕ, zero, suc, true, List, ◌++◌, Option, Some, None, take, refl, sym, ◌∙◌, ap, subst, arith, ⊎_elim}
 use Rattle.std.specs.Prelude.{find}
 use Rattle.std.specs.Ordering.{is_lt, ordering_reverse}
-use Rattle.std.specs.declared.cmp.Ordering.TheVariants.{Less, Equal, Greater}
-use Rattle.std.proofs.lemmas.Bool.{true≢false, false≢true}
+use Rattle.std.specs.declared.cmp.Ordering.TheVariants.{Less, Greater}
+use Rattle.std.proofs.lemmas.Bool.{true≢false}
 use Rattle.sp_base.specs.Paths.{is_path, text_of}
-use Rattle.resource_tree.specs.declared.nodes.Node.{Node}
 use Rattle.resource_tree.specs.Content.{Content, IsTree, kid, node_at}
 use Rattle.resource_tree.specs.Changes.{kids_at}
 use Rattle.url_maps.specs.declared.answer.MapAnswer.{MapAnswer}
-use Rattle.url_maps.specs.declared.answer.MapAnswer.TheVariants.{Inside, Away}
 use Rattle.url_maps.specs.declared.pairs.Pair.{Pair}
 use Rattle.url_maps.specs.declared.pairs.PairKind.{PairKind}
 use Rattle.url_maps.specs.declared.pairs.PairKind.TheVariants.{Mapping, Alias, VanityPath}
 use Rattle.url_maps.specs.Aliases.{IsAlias, has_alias}
 use Rattle.url_maps.specs.Mappings.{IsMapping, mapping_of}
-use Rattle.url_maps.specs.Pairs.{Applies, Decides, HasNoPair, IsPair, IsPairOf, rank}
-use Rattle.url_maps.specs.Search.{mapped_path}
-use Rattle.url_maps.specs.Turns.{Turn, Turns, leads, text_after}
+use Rattle.url_maps.specs.Pairs.{Decides, IsPairOf, rank}
+use Rattle.url_maps.specs.Turns.{Turns, leads, text_after}
 use Rattle.url_maps.specs.VanityPaths.{IsVanityPath, page_of, vanity_cmp}
 use Rattle.url_maps.proofs.AliasLemmas.{alias_claims, claimant_is}
 use Rattle.url_maps.proofs.MappingLemmas.{mapping_path}
@@ -35,7 +32,7 @@ module _ (read : IsReadBack) (tree : Content) (good : IsTree (node_at tree)) whe
       let both : (target, away) ≡ (other, also) = cc in
       (ap (λ (p : List ℕ × Option ℕ). p.0) both, ap (λ (p : List ℕ × Option ℕ). p.1) both)
 
-  alias_path : (text : List ℕ) (path : List (List ℕ)) → (a : IsAlias tree text path) → is_path (kid a.parent a.alias) ≡ true
+  pub alias_path : (text : List ℕ) (path : List (List ℕ)) → (a : IsAlias tree text path) → is_path (kid a.parent a.alias) ≡ true
   alias_path text path a =
       let c = claimant_is read tree good path text (alias_claims read tree good text path a) in
       valid_sibling a.parent a.name a.alias (ap is_path (sym a.path_is) ∙ (good.nodes path c.node c.there).is_a_path) a.segment

@@ -9,3 +9,5 @@ pub mod LocationLemmas
 pub mod ShorterLemmas
 pub mod SiblingLemmas
 pub mod LawLemmas
+pub mod AnswerLemmas
+pub mod RedirectLemmas

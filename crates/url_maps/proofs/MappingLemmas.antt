@@ -1,18 +1,16 @@
 -- From the path that a prefix names below a site to its mapping, and back.
-use Rattle.std.proofs.Common.{◌≡◌, ◌≤◌, ◌<◌, ◌+◌, ℕ, Bool, true, false, List, [], ◌∷◌, ◌++◌, Option, Some, None, Result, Ok, Err, take, length, refl, sym, ◌∙◌, ap, subst, arith, length-append, ⊎_elim}
-use Rattle.std.specs.Prelude.{◌&&◌, IsTrue, nat_le, if◌then◌else◌}
+use Rattle.std.proofs.Common.{◌≡◌, ◌≤◌, ℕ, true, false, List, [], ◌∷◌, ◌++◌, Option, Some, None, Ok, Err, length, refl, sym, ◌∙◌, ap, subst, arith, length-append, ⊎_elim}
+use Rattle.std.specs.Prelude.{nat_le, if◌then◌else◌}
 use Rattle.std.specs.List.{list_all}
-use Rattle.std.proofs.lemmas.Bool.{cases_Bool, true≢false, false≢true, and_parts, and_from, leb-true}
+use Rattle.std.proofs.lemmas.Bool.{cases_Bool, false≢true, and_parts, and_from, leb-true}
 use Rattle.std.proofs.lemmas.Bool.Decides.{nat_tests}
 use Rattle.std.proofs.lemmas.List.{append-nil}
 use Rattle.std.proofs.lemmas.List.Folds.{list_all-append}
 use Rattle.sp_base.specs.Paths.{is_path, path_of, path_or_none, seg_ok, text_of}
-use Rattle.sp_base.specs.declared.path.PathFault.{PathFault}
 use Rattle.resource_tree.specs.declared.nodes.Node.{Node}
 use Rattle.resource_tree.specs.Content.{Content, IsTree, node_at}
 use Rattle.url_maps.specs.Mappings.{IsMapping, IsPlain, mapping_of, text_below}
 use Rattle.url_maps.specs.declared.pairs.Pair.{Pair}
-use Rattle.url_maps.specs.declared.pairs.PairKind.{PairKind}
 use Rattle.url_maps.specs.declared.pairs.PairKind.TheVariants.{Mapping}
 use Rattle.url_maps.specs.Pairs.{IsPair, IsPairOf}
 use Rattle.url_maps.specs.Search.{IsMappingPair, IsOf, below_site, mapped_path}

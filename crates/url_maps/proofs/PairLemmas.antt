@@ -1,10 +1,10 @@
 -- Which pair decides among those with a prefix, and which in a turn.
-use Rattle.std.proofs.Common.{◌≡◌, ◌≢◌, ◌≤◌, ◌<◌, ◌+◌, ℕ, Bool, true, false, List, [], ◌∷◌, Option, Some, None, take, drop, length, get_or, refl, sym, ◌∙◌, ap, subst, arith, ⊎_elim, ◌⊎◌, inl, inr}
+use Rattle.std.proofs.Common.{◌≡◌, ◌≢◌, ◌≤◌, ◌<◌, ℕ, true, false, List, [], ◌∷◌, Option, Some, None, take, drop, length, get_or, refl, sym, ◌∙◌, ap, subst, arith, ⊎_elim, ◌⊎◌, inl, inr}
 use Rattle.std.specs.Prelude.{◌||◌, ◌==◌}
 use Rattle.std.proofs.lemmas.Bool.{cases_Bool, eqb-true, true≢false, false≢true, cases_lt, cases_eq}
-use Rattle.std.proofs.lemmas.List.{length-take, get_or-take, take_all, take-take}
+use Rattle.std.proofs.lemmas.List.{length-take, get_or-take, take-take}
 use Rattle.std.proofs.Math.Seq.{drop-cons}
-use Rattle.resource_tree.specs.Content.{Content, IsTree, node_at}
+use Rattle.resource_tree.specs.Content.{Content}
 use Rattle.url_maps.specs.declared.pairs.Pair.{Pair}
 use Rattle.url_maps.specs.declared.pairs.PairKind.{PairKind}
 use Rattle.url_maps.specs.declared.pairs.PairKind.TheVariants.{Mapping, Alias, VanityPath}

@@ -1,16 +1,16 @@
 -- The first of some siblings in the order of their parent's kids.
-use Rattle.std.proofs.Common.{◌≡◌, ◌<◌, ◌≤◌, ◌+◌, ℕ, suc, Bool, true, false, cond, List, [], ◌∷◌, Option, Some, None, drop, length, get_or, refl, sym, ◌∙◌, ap, subst, ⊎_elim, arith, add-one}
-use Rattle.std.specs.Prelude.{◌||◌, IsTrue, is_some, nat_eq, find, option_map, slice_index_or}
+use Rattle.std.proofs.Common.{◌≡◌, ◌<◌, ◌≤◌, ◌+◌, ℕ, suc, Bool, true, false, cond, List, [], ◌∷◌, Option, Some, None, drop, length, get_or, refl, sym, ◌∙◌, ap, ⊎_elim, arith, add-one}
+use Rattle.std.specs.Prelude.{◌||◌, is_some, nat_eq, find, option_map}
 use Rattle.std.specs.Cmp.Lexicographic.{pointwise, nat_list_eq_equiv, same_text}
 use Rattle.std.specs.List.{list_any}
 use Rattle.std.specs.Option.{option_map_or}
-use Rattle.std.proofs.lemmas.Bool.{cases_Bool, true≢false, false≢true}
+use Rattle.std.proofs.lemmas.Bool.{cases_Bool, false≢true}
 use Rattle.std.proofs.lemmas.Grind.{common_steps}
 use Rattle.std.proofs.lemmas.List.Folds.{list_any_at}
 use Rattle.std.proofs.Math.Seq.{drop-cons}
-use Rattle.sp_base.specs.Paths.{is_path, parent_of, seg_ok}
+use Rattle.sp_base.specs.Paths.{parent_of, seg_ok}
 use Rattle.resource_tree.specs.declared.nodes.Node.{Node}
-use Rattle.resource_tree.specs.Content.{Content, IsTree, has_kid, kid, name_of, node_at, same_path}
+use Rattle.resource_tree.specs.Content.{Content, IsTree, kid, name_of, node_at, same_path}
 use Rattle.resource_tree.specs.Changes.{kids_at}
 use Rattle.url_maps.specs.Search.{first_kid, first_path}
 use Rattle.url_maps.proofs.AliasLemmas.{find_any}

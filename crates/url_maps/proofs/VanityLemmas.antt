@@ -1,11 +1,11 @@
 -- From the claimants of a text to the node that it names by a vanity path, and back.
-use Rattle.std.proofs.Common.{◌≡◌, ◌<◌, ◌+◌, ℕ, Bool, true, false, cond, List, [], ◌∷◌, Option, Some, None, Result, Ok, Err, take, length, get_or, refl, sym, ◌∙◌, ap, subst, ⊎_elim, ◌⊎◌, inl, inr}
-use Rattle.std.specs.Prelude.{◌||◌, ◌&&◌, IsTrue, is_some, is_none, nat_eq, codes}
+use Rattle.std.proofs.Common.{◌≡◌, ◌<◌, ◌+◌, ℕ, Bool, true, false, cond, List, [], Option, Some, None, Result, Ok, Err, take, length, get_or, refl, sym, ◌∙◌, ap, subst, ⊎_elim, ◌⊎◌, inl, inr}
+use Rattle.std.specs.Prelude.{◌||◌, ◌&&◌, is_none, nat_eq, codes}
 use Rattle.std.specs.Cmp.{IsTotalOrder}
 use Rattle.std.specs.Cmp.Lexicographic.{pointwise, nat_list_cmp_total}
 use Rattle.std.specs.List.{list_any}
 use Rattle.std.specs.Option.{option_map_or}
-use Rattle.std.specs.Ordering.{int_cmp, is_lt, on, ordering_then, ordering_reverse}
+use Rattle.std.specs.Ordering.{int_cmp, is_lt, ordering_then, ordering_reverse}
 use Rattle.std.specs.declared.cmp.Ordering.{Ordering}
 use Rattle.std.specs.declared.cmp.Ordering.TheVariants.{Less, Equal, Greater}
 use Rattle.std.proofs.lemmas.Bool.{cases_Bool, true≢false, false≢true}
@@ -17,12 +17,11 @@ use Rattle.sp_base.specs.Paths.{is_path, path_of, text_of}
 use Rattle.sp_base.specs.declared.path.PathFault.{PathFault}
 use Rattle.resource_tree.specs.declared.nodes.Node.{Node}
 use Rattle.resource_tree.specs.Content.{Content, IsTree, node_at, prop_at, same_path}
-use Rattle.url_maps.specs.Words.{any_text_at, texts_of}
+use Rattle.url_maps.specs.Words.{texts_of}
 use Rattle.url_maps.specs.Claims.{AreClaims, Rows, claimants, claims_vanity_path, is_ok_path, node_claims_vanity_path, spells_vanity_path}
 use Rattle.url_maps.specs.Search.{IsFirst, is_free, is_free_at}
 use Rattle.url_maps.specs.VanityPaths.{IsVanityPath, has_vanity_path, page_of, vanity_cmp, vanity_order, with_slash}
 use Rattle.url_maps.specs.declared.pairs.Pair.{Pair}
-use Rattle.url_maps.specs.declared.pairs.PairKind.{PairKind}
 use Rattle.url_maps.specs.declared.pairs.PairKind.TheVariants.{VanityPath}
 use Rattle.url_maps.specs.Pairs.{HasVanityPath, IsPair, IsPairOf}
 use Rattle.url_maps.proofs.AliasLemmas.{any_alike, empty_from}
@@ -46,7 +45,7 @@ after_first read tree first path valid also not_before =
       | Greater ↦ λ is fails. inr ((vanity_total tree).antisymm first path ∙ ap ordering_reverse is)
     ] refl not_before
 
-less_from : (o : Ordering) → is_lt o ≡ true → o ≡ Less
+pub less_from : (o : Ordering) → is_lt o ≡ true → o ≡ Less
 less_from Less e = refl
 less_from Equal e = absurd (false≢true e)
 less_from Greater e = absurd (false≢true e)

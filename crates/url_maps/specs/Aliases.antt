@@ -1,5 +1,5 @@
 -- The aliases of a tree (Apache Sling, "Mappings for resource resolution", sling:alias).
-use Rattle.std.specs.Prelude.{◌≡◌, ℕ, Bool, true, nat_eq, find, List, Option, Some, None, codes}
+use Rattle.std.specs.Prelude.{◌≡◌, ℕ, Bool, true, nat_eq, find, List, Some, None, codes}
 use Rattle.std.specs.Cmp.Lexicographic.{pointwise}
 use Rattle.sp_base.specs.Paths.{seg_ok, text_of}
 use Rattle.resource_tree.specs.Content.{Content, kid, node_at}

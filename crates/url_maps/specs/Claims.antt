@@ -1,5 +1,5 @@
 -- The nodes that claim a text as their alias or their vanity path, by the text.
-use Rattle.std.specs.Prelude.{◌≡◌, ◌&&◌, ◌||◌, ◌==◌, ◌++◌, ◌∷◌, [], ℕ, Bool, true, false, not, nat_eq, if◌then◌else◌, List, Result, Ok, Err, codes, length}
+use Rattle.std.specs.Prelude.{◌≡◌, ◌&&◌, ◌||◌, ◌==◌, [], ℕ, Bool, true, false, not, nat_eq, List, Result, Ok, Err, codes, length}
 use Rattle.std.specs.Cmp.Lexicographic.{pointwise}
 use Rattle.std.specs.List.{list_any}
 use Rattle.std.specs.Map.{lookup}

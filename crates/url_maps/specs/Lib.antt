@@ -6,4 +6,5 @@ pub mod Pairs
 pub mod Turns
 pub mod Claims
 pub mod Search
+pub mod Answers
 pub mod Locations

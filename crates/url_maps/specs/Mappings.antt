@@ -29,8 +29,11 @@ abbrev pub IsPlain : Content → List (List ℕ) → List (List ℕ) → Type 0
 IsPlain tree site path = (k : ℕ) → length site ≤ k → k ≤ length path → has_match tree (take k path) ≡ false
 
 -- the statuses of a redirect (RFC 9110, section 15.4)
+abbrev pub is_redirect : ℕ → Bool
+is_redirect n = n == 301 || (n == 302 || (n == 303 || (n == 307 || n == 308)))
+
 abbrev pub redirect_status : ℤ → Option ℕ
-redirect_status (pos n) = if n == 301 || (n == 302 || (n == 303 || (n == 307 || n == 308))) then Some n else None
+redirect_status (pos n) = if is_redirect n then Some n else None
 redirect_status n = None
 
 -- the status of a node's redirect: its number `sling:status`, where that is one of a redirect, else 302

@@ -1,5 +1,5 @@
--- What the functions of the search promise one another; a reader of what a text is mapped to needs none of it.
-use Rattle.std.specs.Prelude.{◌≡◌, ◌≤◌, ◌<◌, ◌⊎◌, ◌||◌, ◌==◌, ◌++◌, ℕ, Bool, true, false, is_none, find, List, [], ◌∷◌, Option, Some, None, Result, Ok, Err, drop, length, option_map, slice_index, slice_index_or, take}
+-- What the functions of the search promise one another, and its words. A reader of the relation in Turns.antt needs none of it.
+use Rattle.std.specs.Prelude.{◌≡◌, ◌≤◌, ◌<◌, ◌⊎◌, ◌||◌, ◌==◌, ◌++◌, ℕ, Bool, true, false, is_none, find, List, [], ◌∷◌, Option, Some, None, Result, Ok, Err, length, option_map, slice_index, slice_index_or, take}
 use Rattle.std.specs.List.{list_any}
 use Rattle.std.specs.declared.cmp.Ordering.TheVariants.{Less}
 use Rattle.sp_base.specs.Paths.{path_of, path_or_none}

@@ -1,5 +1,5 @@
 -- The vanity paths of a tree (Apache Sling, "Mappings for resource resolution", sling:vanityPath).
-use Rattle.std.specs.Prelude.{◌≡◌, ◌==◌, ◌⊎◌, ℕ, ℤ, pos, Bool, true, nat_eq, if◌then◌else◌, List, ◌∷◌, Option, Some, None, Ok, codes, slice_index, unwrap_or, option_and_then}
+use Rattle.std.specs.Prelude.{◌≡◌, ◌==◌, ◌⊎◌, ℕ, ℤ, pos, Bool, true, nat_eq, if◌then◌else◌, List, ◌∷◌, None, Ok, codes, slice_index, unwrap_or, option_and_then}
 use Rattle.std.specs.Cmp.Lexicographic.{pointwise}
 use Rattle.std.specs.Ordering.{int_cmp, ordering_then}
 use Rattle.std.specs.declared.cmp.Ordering.{Ordering}

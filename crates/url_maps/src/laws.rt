@@ -1,11 +1,12 @@
 //! What a mapping is in the subject's words: laws of the definitions, on functions that do nothing.
-ghost use Rattle.std.specs.Prelude.{◌≡◌, ℕ, List, Option, Some};
+ghost use Rattle.std.specs.Prelude.{◌≡◌, ℕ, List, Option, Some, true};
 ghost use Rattle.resource_tree.specs.Content.{Content, IsGood};
-ghost use Rattle.url_maps.specs.Mappings.{site_of};
+ghost use Rattle.url_maps.specs.Answers.{map_answer};
+ghost use Rattle.url_maps.specs.Mappings.{is_redirect, site_of};
 ghost use Rattle.url_maps.specs.Pairs.{Decides, HasNoPair};
 ghost use Rattle.url_maps.specs.Turns.{IsMapped};
 ghost use Rattle.url_maps.specs.declared.answer.MapAnswer.{MapAnswer};
-ghost use Rattle.url_maps.specs.declared.answer.MapAnswer.TheVariants.{Inside};
+ghost use Rattle.url_maps.specs.declared.answer.MapAnswer.TheVariants.{Inside, Away};
 ghost use Rattle.url_maps.specs.declared.pairs.Pair.{Pair};
 
 use sp_base::a_path_and_its_text;
@@ -28,3 +29,17 @@ pub fn a_text_is_mapped_to_one_answer()
 {
     a_path_and_its_text()
 }
+
+/// A text is mapped to one answer, and this is it.
+pub fn the_answer_is_mapped()
+    ensures is { (tree : Content) (host : List ℕ) (port : ℕ) (text : List ℕ) → IsGood tree → IsMapped tree host port text (map_answer tree host port text) }
+    ensures only { (tree : Content) (host : List ℕ) (port : ℕ) (text : List ℕ) (answer : MapAnswer) → IsGood tree → IsMapped tree host port text answer → answer ≡ map_answer tree host port text }
+{
+    a_path_and_its_text();
+    a_text_is_mapped_to_one_answer();
+}
+
+/// A text that leads away does so by a status of a redirect.
+pub fn away_is_a_redirect()
+    ensures { (tree : Content) (host : List ℕ) (port : ℕ) (text target : List ℕ) (status : ℕ) → map_answer tree host port text ≡ Away status target → is_redirect status ≡ true }
+{}

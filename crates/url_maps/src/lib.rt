@@ -18,7 +18,7 @@ pub use answer::MapAnswer;
 pub use index::MapIndex;
 pub use laws::{
     a_text_is_mapped_to_one_answer, a_text_without_a_pair_is_mapped_to_itself,
-    at_most_one_pair_decides,
+    at_most_one_pair_decides, away_is_a_redirect, the_answer_is_mapped,
 };
 pub use locations::location_of;
 pub use turns::map_in;

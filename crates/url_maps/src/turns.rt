@@ -1,13 +1,14 @@
 //! The turns in which a text is mapped.
 ghost use Rattle.std.specs.Prelude.{◌≡◌, ◌==◌, ◌≤◌, ◌<◌, ◌++◌, ℕ, true, IfOk, IfSome, IfNone, Some, None, option_copied, drop, length, take, slice_index};
 ghost use Rattle.resource_tree.specs.Content.{IsGood};
+ghost use Rattle.url_maps.specs.Answers.{map_answer};
 ghost use Rattle.url_maps.specs.Claims.{IsIndexOf};
 ghost use Rattle.url_maps.specs.Search.{IsBest, IsShorter, IsTurn, is_cut};
 ghost use Rattle.url_maps.specs.Turns.{IsMapped, ending};
 
 use crate::mappings::{mapping_of, site_of};
 use crate::pairs::{Pair, PairKind};
-use crate::{MapAnswer, MapIndex};
+use crate::{MapAnswer, MapIndex, the_answer_is_mapped};
 use resource_tree::Tree;
 use sp_base::{Mem, NoMemory, Path, TextBuf};
 use std::alloc::Global;
@@ -25,7 +26,8 @@ pub(crate) struct Step {
 
 /// Maps the text of a request's path, for the host and the port that are asked. Without an index each call walks over the tree.
 pub fn map_in(alloc: Global, tree: &Tree, host: &str, port: u16, text: &str) -> Mem<MapAnswer>
-    ensures { IfOk result (IsMapped tree.now host.now port text.now) }
+    ensures relation { IfOk result (IsMapped tree.now host.now port text.now) }
+    ensures value { IfOk result (λ a. a ≡ map_answer tree.now host.now port text.now) }
 {
     MapIndex::of(alloc, tree)?.map_in(alloc, tree, host, port, text)
 }
@@ -40,6 +42,16 @@ impl MapIndex {
         port: u16,
         text: &str,
     ) -> Mem<MapAnswer>
+        requires { IsIndexOf tree.now self.now }
+        ensures relation { IfOk result (IsMapped tree.now host.now port text.now) }
+        ensures value { IfOk result (λ a. a ≡ map_answer tree.now host.now port text.now) }
+    {
+        the_answer_is_mapped();
+        let _ = tree.len();
+        self.turns(alloc, tree, host, port, text)
+    }
+
+    fn turns(&self, alloc: Global, tree: &Tree, host: &str, port: u16, text: &str) -> Mem<MapAnswer>
         requires { IsIndexOf tree.now self.now }
         ensures { IfOk result (IsMapped tree.now host.now port text.now) }
     {

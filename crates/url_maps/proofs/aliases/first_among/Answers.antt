@@ -1,4 +1,4 @@
-use Rattle.std.proofs.Common.{◌≡◌, ◌∙◌, ℕ, List, Bool, true, false, Some, None, ap, sym}
+use Rattle.std.proofs.Common.{◌≡◌, ◌∙◌, true, false, Some, None, ap, sym}
 use Rattle.std.specs.List.{list_any}
 use Rattle.sp_base.specs.Paths.{seg_ok}
 use Rattle.resource_tree.specs.Content.{kid, same_path}

@@ -1,4 +1,4 @@
-use Rattle.std.proofs.Common.{◌≡◌, ◌∙◌, Some, [], ap, get_or}
+use Rattle.std.proofs.Common.{◌∙◌, Some, ap}
 use Rattle.url_maps.proofs.SiblingLemmas.{first_is_first, single_first}
 use Rattle.url_maps.proofs.aliases.first_sibling.Goals as goal
 

@@ -1,10 +1,10 @@
-use Rattle.std.proofs.Common.{◌≡◌, ◌∙◌, ◌∷◌, [], ◌++◌, ℕ, List, Some, None, cond, ap, sym}
+use Rattle.std.proofs.Common.{◌≡◌, ◌∙◌, ◌∷◌, [], ◌++◌, Some, cond, ap, sym}
 use Rattle.std.specs.Str.{bytes_eq}
 use Rattle.sp_base.specs.Paths.{parent_of, path_or_none}
 use Rattle.resource_tree.specs.Content.{kid}
 use Rattle.url_maps.specs.Claims.{claimants, spells_alias}
-use Rattle.url_maps.proofs.ClaimLemmas.{added, none_added}
-use Rattle.url_maps.proofs.PathLemmas.{alias_spelled, alias_unspelled}
+use Rattle.url_maps.proofs.ClaimLemmas.{added}
+use Rattle.url_maps.proofs.PathLemmas.{alias_spelled}
 use Rattle.url_maps.proofs.index.add_alias.Goals as goal
 
 pub returns : goal.returns

@@ -1,6 +1,5 @@
-use Rattle.std.proofs.Common.{◌≡◌, ◌∙◌, ℕ, List, ap, sym, subst, arith}
+use Rattle.std.proofs.Common.{◌∙◌, ℕ, List, ap, sym, subst}
 use Rattle.std.specs.List.{list_any}
-use Rattle.std.proofs.Common.{take}
 use Rattle.url_maps.specs.Claims.{Adds, node_claims_alias, spells_alias}
 use Rattle.url_maps.proofs.ClaimLemmas.{adds_alike, all_words, below_claims, none_added, root_claims_none, words_more}
 use Rattle.url_maps.specs.Words.{texts_of}

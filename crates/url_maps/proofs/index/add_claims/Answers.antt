@@ -1,5 +1,4 @@
-use Rattle.std.proofs.Common.{◌≡◌, ◌∙◌, ap, sym, Some, None}
-use Rattle.resource_tree.specs.Content.{node_at}
+use Rattle.std.proofs.Common.{sym}
 use Rattle.url_maps.specs.Claims.{claims_alias, claims_vanity_path, node_claims_alias, node_claims_vanity_path}
 use Rattle.url_maps.proofs.ClaimLemmas.{absent_claims, absent_vanity_claims, adds_alike, none_added, there_claims, there_vanity_claims}
 use Rattle.url_maps.proofs.index.add_claims.Goals as goal

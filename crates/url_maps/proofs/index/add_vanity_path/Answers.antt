@@ -1,12 +1,10 @@
-use Rattle.std.proofs.Common.{◌≡◌, ◌∙◌, ◌∷◌, [], ◌++◌, ℕ, List, true, cond, ap, sym}
-use Rattle.std.specs.Prelude.{◌&&◌, nat_eq}
-use Rattle.std.specs.Cmp.Lexicographic.{pointwise}
+use Rattle.std.proofs.Common.{◌≡◌, ◌∙◌, ◌∷◌, [], ◌++◌, true, cond, ap, sym}
 use Rattle.std.specs.Str.{bytes_eq}
 use Rattle.sp_base.specs.Paths.{path_of}
 use Rattle.url_maps.specs.VanityPaths.{with_slash}
 use Rattle.url_maps.specs.Claims.{claimants, is_ok_path, spells_vanity_path}
-use Rattle.url_maps.proofs.ClaimLemmas.{added, none_added}
-use Rattle.url_maps.proofs.PathLemmas.{vanity_spelled, vanity_unspelled}
+use Rattle.url_maps.proofs.ClaimLemmas.{added}
+use Rattle.url_maps.proofs.PathLemmas.{vanity_spelled}
 use Rattle.url_maps.proofs.index.add_vanity_path.Goals as goal
 
 pub returns : goal.returns

@@ -1,4 +1,4 @@
-use Rattle.std.proofs.Common.{◌≡◌, ◌∙◌, ℕ, List, ap, sym, subst}
+use Rattle.std.proofs.Common.{◌∙◌, ℕ, List, ap, subst}
 use Rattle.std.specs.List.{list_any}
 use Rattle.url_maps.specs.Claims.{Adds, node_claims_vanity_path, spells_vanity_path}
 use Rattle.url_maps.specs.Words.{texts_of}

@@ -1,6 +1,5 @@
-use Rattle.std.proofs.Common.{◌≡◌, ◌∙◌, Some, None, ap, sym, true, false}
+use Rattle.std.proofs.Common.{◌∙◌, sym}
 use Rattle.std.proofs.lemmas.Bool.{true≢false}
-use Rattle.url_maps.specs.Search.{mapped_path}
 use Rattle.url_maps.proofs.MappingLemmas.{no_node_pair, no_path_pair, no_plain_pair, pair_at_node}
 use Rattle.url_maps.proofs.mappings.mapping_below.Goals as goal
 

@@ -1,7 +1,6 @@
-use Rattle.std.proofs.Common.{◌≡◌, ℕ, Option, Some, None, lit<, sym, subst}
-use Rattle.std.specs.Prelude.{MatchOption}
+use Rattle.std.proofs.Common.{Some, None, lit<}
 use Rattle.std.proofs.lemmas.Str.Pattern.{rfind_char}
-use Rattle.url_maps.proofs.ShorterLemmas.{HasNot, Last, shorter_both, shorter_dot, shorter_none, shorter_slash}
+use Rattle.url_maps.proofs.ShorterLemmas.{HasNot, shorter_both, shorter_dot, shorter_none, shorter_slash}
 use Rattle.url_maps.proofs.turns.shorter.Goals as goal
 
 pub returns-in-Some-Some : goal.returns-in-Some-Some

@@ -1,11 +1,10 @@
-use Rattle.std.proofs.Common.{◌≡◌, ◌<◌, ◌∙◌, ℕ, List, true, false, Some, None, ap, refl, subst, sym, length, arith, ⊎_elim}
+use Rattle.std.proofs.Common.{◌≡◌, ◌<◌, ◌∙◌, ap, refl, subst, sym, length}
 use Rattle.std.specs.Prelude.{is_some}
 use Rattle.std.proofs.lemmas.Bool.{eqb-true}
-use Rattle.std.proofs.lemmas.Bool.Decides.{nat_tests}
 use Rattle.sp_base.specs.Paths.{parent_of}
 use Rattle.resource_tree.specs.Content.{node_at}
 use Rattle.url_maps.specs.Claims.{claimants}
-use Rattle.url_maps.specs.Search.{first_kid, first_path, is_free}
+use Rattle.url_maps.specs.Search.{first_kid, first_path}
 use Rattle.url_maps.proofs.AliasLemmas.{first_is, some_from, is_alias_pair, no_alias_claimed, no_alias_first, no_alias_taken}
 use Rattle.url_maps.proofs.index.MapIndex.alias_of.Goals as goal
 

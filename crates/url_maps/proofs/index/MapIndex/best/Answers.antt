@@ -1,6 +1,6 @@
-use Rattle.std.proofs.Common.{◌≡◌, ◌∙◌, ap, sym, subst, inr}
+use Rattle.std.proofs.Common.{◌∙◌, sym, subst, inr}
 use Rattle.url_maps.specs.Search.{IsOf}
-use Rattle.url_maps.specs.declared.pairs.PairKind.TheVariants.{Mapping, Alias, VanityPath}
+use Rattle.url_maps.specs.declared.pairs.PairKind.TheVariants.{Mapping, Alias}
 use Rattle.std.proofs.Common.{None}
 use Rattle.url_maps.proofs.PairLemmas.{best_last, dot_rest, none_best, none_of, slash_rest}
 use Rattle.url_maps.proofs.index.MapIndex.best.Goals as goal

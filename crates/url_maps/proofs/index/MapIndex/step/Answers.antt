@@ -1,4 +1,4 @@
-use Rattle.std.proofs.Common.{rules, ◌≡◌, ◌∙◌, ◌++◌, ◌<◌, ◌≤◌, ℕ, List, Some, None, ap, sym, subst, refl, length, drop}
+use Rattle.std.proofs.Common.{rules, ◌≡◌, ◌∙◌, ◌++◌, ℕ, List, Some, None, ap, subst, refl, length, drop}
 use Rattle.url_maps.specs.Search.{IsBest}
 use Rattle.url_maps.specs.Turns.{ending}
 use Rattle.url_maps.proofs.PairLemmas.{decides_here, front_cut, passed_all, passed_between, passed_prefix, shorter_prefix, within_text}

@@ -1,4 +1,4 @@
-use Rattle.std.proofs.Common.{◌≡◌, ◌∙◌, ◌-◌, ◌+◌, ℕ, List, Option, Some, None, ap, sym, subst, arith}
+use Rattle.std.proofs.Common.{◌≡◌, ◌∙◌, ◌-◌, ◌+◌, ℕ, List, Option, None, sym, subst, arith}
 use Rattle.sp_base.specs.Paths.{path_or_none}
 use Rattle.url_maps.specs.declared.answer.MapAnswer.TheVariants.{Inside, Away}
 use Rattle.url_maps.specs.Mappings.{site_of}
@@ -6,7 +6,7 @@ use Rattle.url_maps.specs.Pairs.{HasNoPair}
 use Rattle.url_maps.specs.Search.{IsStep, IsTurn}
 use Rattle.url_maps.specs.Turns.{IsMapped, Turns}
 use Rattle.url_maps.proofs.TurnLemmas.{turns_away, turns_end, turns_go_on, turns_of_site, turns_over}
-use Rattle.url_maps.proofs.index.MapIndex.map_in.Goals as goal
+use Rattle.url_maps.proofs.index.MapIndex.turns.Goals as goal
 
 pub loop-init : goal.loop-init
 loop-init c = λ answer t.

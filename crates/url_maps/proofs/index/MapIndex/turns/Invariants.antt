@@ -3,7 +3,7 @@ use Rattle.sp_base.specs.Paths.{path_or_none}
 use Rattle.url_maps.specs.declared.answer.MapAnswer.{MapAnswer}
 use Rattle.url_maps.specs.Mappings.{site_of}
 use Rattle.url_maps.specs.Turns.{Turns}
-use Rattle.url_maps.proofs.index.MapIndex.map_in.Given as goal
+use Rattle.url_maps.proofs.index.MapIndex.turns.Given as goal
 
 abbrev pub invariant-loop : goal.invariant-loop
 invariant-loop l = (answer : MapAnswer) → Turns l.tree (16 - l.counter) l.site l.text answer → Turns l.tree 16 (path_or_none (site_of l.fn.host l.port)) l.fn.text answer

@@ -9,11 +9,18 @@
 mod disk;
 #[cfg(test)]
 mod disk_tests;
+mod docroot;
+mod folder_walk;
 #[cfg(test)]
 mod long_tests;
 mod mem_disk;
 mod memory;
+mod name_index;
+mod name_list;
 mod real;
+mod real_disk;
+#[cfg(test)]
+mod real_disk_tests;
 mod sink;
 mod source;
 #[cfg(test)]
@@ -24,6 +31,7 @@ pub use disk::{Disk, DiskFault, LONGEST_NAME};
 pub use mem_disk::{MemDisk, Plan, Way};
 pub use memory::{MemSink, MemSource};
 pub use real::{RealSink, RealSource};
+pub use real_disk::RealDisk;
 pub use sink::{Sink, SinkFault};
 pub use source::{Source, SourceFault};
 pub use words::{MemWords, RealWords, WordList, Words};

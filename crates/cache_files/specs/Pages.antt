@@ -4,15 +4,16 @@ use Rattle.sp_outside.specs.Files.{Files, file_at, told_with, told_without}
 use Rattle.sp_base.specs.declared.answer.Answer.{Answer}
 use Rattle.sp_base.specs.declared.answer.Mark.TheVariants.{Plain}
 use Rattle.docroot_format.specs.Faults.{IsLeft}
-use Rattle.docroot_format.specs.Names.{body_name, head_name, is_place}
+use Rattle.docroot_format.specs.Names.{body_name, head_name}
 use Rattle.docroot_format.specs.Readings.{HeadLine, head_of, is_kind}
 use Rattle.docroot_format.specs.declared.fault.FileFault.{FileFault}
+use Rattle.cover_rules.specs.Pages.{page_key_of, page_path}
 use Rattle.cover_rules.specs.declared.page.PageKey.{PageKey}
 use Rattle.cache_files.specs.declared.page.Page.{Page}
 
--- a key at which a page may stand
+-- a key that is the one of its own path, as every answer of `page_key` is
 abbrev pub IsKey : PageKey → Type 0
-IsKey key = IsTrue (is_place key.folder key.file)
+IsKey key = page_key_of (page_path key) ≡ Some key
 
 -- an answer that may be stored: 200, of a media type that a head holds
 pub record IsStorable (answer : Answer) : Type 0 where

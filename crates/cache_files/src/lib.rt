@@ -3,7 +3,9 @@
 #![tactic(auto)]
 
 mod epoch;
+mod laws;
 mod page;
 
 pub use epoch::{OpenFault, open_epoch};
+pub use laws::{a_page_is_read_back, epochs_rise};
 pub use page::{Page, drop_page, get_page, put_page};

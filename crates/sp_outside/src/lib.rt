@@ -11,6 +11,7 @@ mod disk;
 mod disk_tests;
 mod docroot;
 mod folder_walk;
+mod laws;
 #[cfg(test)]
 mod long_tests;
 mod mem_disk;
@@ -28,6 +29,7 @@ mod tests;
 mod words;
 
 pub use disk::{Disk, DiskFault, LONGEST_NAME};
+pub use laws::files_have_names;
 pub use mem_disk::{MemDisk, Plan, Way};
 pub use memory::{MemSink, MemSource};
 pub use real::{RealSink, RealSource};

@@ -2,6 +2,8 @@
 //! "Invalidating files by folder level").
 #![tactic(auto)]
 
+mod laws;
 mod stat;
 
+pub use laws::a_stamp_is_read_back;
 pub use stat::{stamp_of, touch};

@@ -5,6 +5,8 @@
 mod epoch;
 mod laws;
 mod page;
+#[cfg(test)]
+mod tests;
 
 pub use epoch::{OpenFault, open_epoch};
 pub use laws::{a_page_is_read_back, epochs_rise};

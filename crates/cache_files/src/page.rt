@@ -8,9 +8,7 @@ ghost use Rattle.docroot_format.specs.Texts as text;
 ghost use Rattle.cache_files.specs.Pages.{IsKey, IsStorable, IsPutLeft, IsDropLeft, page_at, page_of, with_page};
 
 use cover_rules::{PageKey, Stamp};
-use docroot_format::{
-    FileFault, Head, a_page_has_files, body_name, head_in, head_name, head_text,
-};
+use docroot_format::{FileFault, Head, a_page_has_files, body_name, head_in, head_name, head_text};
 use sp_base::{Answer, ByteBuf, Mark, Mem, TextBuf};
 use sp_outside::Disk;
 use std::alloc::Global;

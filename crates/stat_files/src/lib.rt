@@ -4,6 +4,8 @@
 
 mod laws;
 mod stat;
+#[cfg(test)]
+mod tests;
 
 pub use laws::a_stamp_is_read_back;
 pub use stat::{stamp_of, touch};

@@ -1,5 +1,5 @@
 -- The number of a session, which .epoch counts.
-use Rattle.std.specs.Prelude.{◌==◌, ◌+◌, ◌≡◌, ℕ, List, Option, Some, None, Result, Ok, Err, if◌then◌else◌}
+use Rattle.std.specs.Prelude.{◌==◌, ◌+◌, ◌≡◌, ℕ, List, Option, Some, None, Result, Ok, Err, if◌then◌else◌, option_and_then, unwrap_or}
 use Rattle.sp_outside.specs.Causes.{Rose}
 use Rattle.sp_outside.specs.Files.{Files, file_at}
 use Rattle.sp_outside.specs.declared.disk.DiskFault.{DiskFault}
@@ -30,6 +30,10 @@ epoch_after (Some bytes) = after_epoch (epoch_of bytes)
 -- the number of the next session
 abbrev pub next_epoch : Files → Result ℕ OpenFault
 next_epoch files = epoch_after (file_at files epoch_name)
+
+-- the number that the file holds, 0 where there is none
+abbrev pub epoch_held : Files → ℕ
+epoch_held files = unwrap_or (option_and_then epoch_of (file_at files epoch_name)) 0
 
 -- Disk comes only where the disk's count of faults rose, and any other answer leaves that count.
 abbrev pub HasOpenCause : {T : Type 0} → ℕ → ℕ → Result T OpenFault → Type 0

@@ -1,18 +1,21 @@
 -- The pages that the files of the docroot hold, and what a write or a removal that stops leaves.
 use Rattle.std.specs.Prelude.{◌==◌, ◌≡◌, ◌⊎◌, ℕ, List, [], Option, Some, None, IsTrue, option_and_then, length, if◌then◌else◌}
-use Rattle.sp_outside.specs.Files.{Files, file_at, told_with, told_without}
+use Rattle.sp_outside.specs.Files.{Files, file_at, told_with, told_without, with_file, without_file}
 use Rattle.sp_base.specs.declared.answer.Answer.{Answer}
 use Rattle.sp_base.specs.declared.answer.Mark.TheVariants.{Plain}
 use Rattle.docroot_format.specs.Faults.{IsLeft}
-use Rattle.docroot_format.specs.Names.{body_name, head_name, is_place}
+use Rattle.docroot_format.specs.Names.{body_name, head_name}
+use Rattle.docroot_format.specs.Texts.{head_text}
 use Rattle.docroot_format.specs.Readings.{HeadLine, head_of, is_kind}
 use Rattle.docroot_format.specs.declared.fault.FileFault.{FileFault}
+use Rattle.cover_rules.specs.Pages.{page_key_of, page_path}
 use Rattle.cover_rules.specs.declared.page.PageKey.{PageKey}
+use Rattle.cover_rules.specs.declared.stamp.Stamp.{Stamp}
 use Rattle.cache_files.specs.declared.page.Page.{Page}
 
--- a key at which a page may stand
+-- a key that is the one of its own path, as every answer of `page_key` is
 abbrev pub IsKey : PageKey → Type 0
-IsKey key = IsTrue (is_place key.folder key.file)
+IsKey key = page_key_of (page_path key) ≡ Some key
 
 -- an answer that may be stored: 200, of a media type that a head holds
 pub record IsStorable (answer : Answer) : Type 0 where
@@ -35,6 +38,11 @@ page_at files key = option_and_then (λ head. option_and_then (page_of head) (fi
 -- the files after a page's body and head were replaced, the old head first taken away
 abbrev pub with_page : Option Files → List ℕ → List ℕ → List ℕ → List ℕ → Option Files
 with_page told head body bytes text = told_with (told_with (told_without told head) body bytes) head text
+
+-- the same files, where the disk tells them, by the page's key, its stamp and its answer
+abbrev pub files_with_page : Files → PageKey → Stamp → Answer → Files
+files_with_page files key stamp answer = with_file (with_file (without_file files (head_name key.folder key.file))
+    (body_name key.folder key.file) answer.body) (head_name key.folder key.file) (head_text stamp.epoch stamp.count (length answer.body) answer.kind)
 
 -- A write of a page stopped: at the removal of the old head, at the body, or at the new head.
 abbrev pub IsPutLeft : Option Files → Option Files → List ℕ → List ℕ → List ℕ → List ℕ → FileFault → Type 0

@@ -3,7 +3,11 @@
 #![tactic(auto)]
 
 mod epoch;
+mod laws;
 mod page;
+#[cfg(test)]
+mod tests;
 
 pub use epoch::{OpenFault, open_epoch};
+pub use laws::{a_page_is_read_back, epochs_rise};
 pub use page::{Page, drop_page, get_page, put_page};

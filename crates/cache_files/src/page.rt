@@ -8,7 +8,7 @@ ghost use Rattle.docroot_format.specs.Texts as text;
 ghost use Rattle.cache_files.specs.Pages.{IsKey, IsStorable, IsPutLeft, IsDropLeft, page_at, page_of, with_page};
 
 use cover_rules::{PageKey, Stamp};
-use docroot_format::{FileFault, body_name, head_in, head_name, head_text};
+use docroot_format::{FileFault, Head, a_page_has_files, body_name, head_in, head_name, head_text};
 use sp_base::{Answer, ByteBuf, Mark, Mem, TextBuf};
 use sp_outside::Disk;
 use std::alloc::Global;
@@ -37,6 +37,7 @@ pub fn put_page<D: Disk>(
         (name.body_name key.now.folder key.now.file) answer.now.body (text.head_text stamp.epoch stamp.count (length answer.now.body) answer.now.kind)) }
     ensures cause { HasFileCause (D.faults disk.old) (D.faults disk.new) result }
 {
+    a_page_has_files();
     let head = head_name(alloc, &key.folder, key.file.text())?;
     let body = body_name(alloc, &key.folder, key.file.text())?;
     let bytes = answer.body.bytes();
@@ -75,8 +76,8 @@ fn put_parts<D: Disk>(
     Ok(())
 }
 
-/// The page of a key. There is none where its head is missing or of another form, or its body is missing or of another length. The head
-/// is read first.
+/// The page of a key. There is none where its head is missing or of another form, or its body is missing or of another length. The
+/// body is read only where the head is of the form.
 pub fn get_page<D: Disk>(
     alloc: Global,
     disk: &mut D,
@@ -87,24 +88,25 @@ pub fn get_page<D: Disk>(
     ensures same { D.files disk.new ≡ D.files disk.old }
     ensures cause { HasFileCause (D.faults disk.old) (D.faults disk.new) result }
 {
+    a_page_has_files();
     let name = head_name(alloc, &key.folder, key.file.text())?;
     let Some(head) = disk.get(alloc, name.text())? else {
+        return Ok(None);
+    };
+    let Some(line) = head_in(head.bytes()) else {
         return Ok(None);
     };
     let name = body_name(alloc, &key.folder, key.file.text())?;
     let Some(body) = disk.get(alloc, name.text())? else {
         return Ok(None);
     };
-    Ok(page_of(alloc, head.bytes(), body)?)
+    Ok(page_of(alloc, &line, body)?)
 }
 
-// The page that a head's bytes and a body make.
-fn page_of(alloc: Global, head: &[u8], body: ByteBuf) -> Mem<Option<Page>>
-    ensures { IfOk result (λ page. page ≡ option_and_then (λ line. page_of line body) (head_of head.now)) }
+// The page that a head and a body make.
+fn page_of(alloc: Global, line: &Head<'_>, body: ByteBuf) -> Mem<Option<Page>>
+    ensures { IfOk result (λ page. page ≡ page_of (record { epoch = line.now.epoch; count = line.now.count; size = line.now.size; kind = line.now.kind.now }) body) }
 {
-    let Some(line) = head_in(head) else {
-        return Ok(None);
-    };
     if body.bytes().len() as u64 != line.size {
         return Ok(None);
     }
@@ -130,6 +132,7 @@ pub fn drop_page<D: Disk>(alloc: Global, disk: &mut D, key: &PageKey) -> Result<
     ensures err { IfErr result (IsDropLeft (D.files disk.old) (D.files disk.new) (name.head_name key.now.folder key.now.file) (name.body_name key.now.folder key.now.file)) }
     ensures cause { HasFileCause (D.faults disk.old) (D.faults disk.new) result }
 {
+    a_page_has_files();
     let head = head_name(alloc, &key.folder, key.file.text())?;
     let body = body_name(alloc, &key.folder, key.file.text())?;
     disk.remove(head.text())?;

@@ -3,3 +3,5 @@ pub mod NameLemmas
 pub mod NameSizes
 pub mod MediaTypes
 pub mod PagePlaces
+pub mod ReadBack
+pub mod Inside

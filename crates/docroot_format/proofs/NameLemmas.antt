@@ -6,7 +6,7 @@ append_nil : {A : Type 0} (xs : List A) → xs ++ [] ≡ xs
 append_nil [] = refl
 append_nil (x ∷ xs) = ap (λ rest. x ∷ rest) (append_nil xs)
 
-append_both : {A : Type 0} (xs ys zs : List A) → xs ++ (ys ++ zs) ≡ (xs ++ ys) ++ zs
+pub append_both : {A : Type 0} (xs ys zs : List A) → xs ++ (ys ++ zs) ≡ (xs ++ ys) ++ zs
 append_both [] ys zs = refl
 append_both (x ∷ xs) ys zs = ap (λ rest. x ∷ rest) (append_both xs ys zs)
 

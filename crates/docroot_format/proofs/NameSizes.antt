@@ -32,7 +32,7 @@ folder_len (seg ∷ segs) e =
 byte_some : (b : ℕ) → 0 < length (file_byte b)
 byte_some b = grind arith
 
-file_some : (file : List ℕ) → 0 < length file → 0 < length (file_name file)
+pub file_some : (file : List ℕ) → 0 < length file → 0 < length (file_name file)
 unfolding file_name
 file_some [] lt = absurd (omega (arith, lt))
 file_some (b ∷ file) lt = omega (arith, byte_some b, length-append (file_byte b) (flat_map file_byte file))

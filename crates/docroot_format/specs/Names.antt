@@ -1,7 +1,8 @@
 -- The names of the files of the docroot.
-use Rattle.std.specs.Prelude.{◌==◌, ◌||◌, ◌&&◌, ◌++◌, ◌∷◌, [], ℕ, Bool, List, codes, flat_map, length, nat_le, nat_lt, if◌then◌else◌}
+use Rattle.std.specs.Prelude.{◌==◌, ◌||◌, ◌&&◌, ◌++◌, ◌∷◌, [], ℕ, Bool, not, List, codes, flat_map, length, nat_lt}
 use Rattle.std.specs.List.{list_all}
-use Rattle.cover_rules.specs.Names.{file_name, has_name}
+use Rattle.sp_base.specs.Paths.{is_dots, is_empty, pieces}
+use Rattle.cover_rules.specs.Names.{file_name, has_name, is_plain}
 
 -- the file names of a folder's segments, a slash after each
 abbrev pub folder_name : List (List ℕ) → List ℕ
@@ -29,3 +30,15 @@ is_place folder file = have_names folder && (has_name file && nat_lt 0 (length f
 
 abbrev pub epoch_name : List ℕ
 epoch_name = codes ".epoch"
+
+-- a byte of a file's name
+abbrev pub is_name_byte : ℕ → Bool
+is_name_byte b = is_plain b || b == 37
+
+-- a piece of a name between slashes that leads into a folder, and not out of it
+abbrev pub is_segment : List ℕ → Bool
+is_segment piece = not (is_empty piece) && (not (is_dots piece) && list_all is_name_byte piece)
+
+-- A name that lies in the docroot: no piece of it is empty, so it neither begins nor ends with a slash, and none is `.` or `..`.
+abbrev pub is_inside : List ℕ → Bool
+is_inside name = list_all is_segment (pieces name)

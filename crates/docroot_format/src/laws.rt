@@ -1,11 +1,30 @@
-//! What follows from the definitions of names: a law, on a function that does nothing.
-ghost use Rattle.std.specs.Prelude.{◌≡◌, ℕ, List, IsTrue, Some};
+//! What follows from the definitions of names and texts: laws, on functions that do nothing.
+ghost use Rattle.std.specs.Prelude.{◌≡◌, ◌<◌, ◌^◌, ℕ, List, IsTrue, Some};
 ghost use Rattle.cover_rules.specs.declared.page.PageKey.{PageKey};
-ghost use Rattle.cover_rules.specs.Pages.{page_key_of};
-ghost use Rattle.docroot_format.specs.Names.{have_names, is_place};
+ghost use Rattle.cover_rules.specs.Pages.{page_key_of, page_path};
+ghost use Rattle.sp_base.specs.Paths.{is_path};
+ghost use Rattle.docroot_format.specs.Names.{body_name, epoch_name, have_names, head_name, is_inside, is_place, stat_name};
+ghost use Rattle.docroot_format.specs.Readings.{HeadLine, epoch_of, head_of, is_kind, stat_of};
+ghost use Rattle.docroot_format.specs.Texts.{epoch_text, head_text, stat_text};
 
 /// A page that has a key has files, and so have the .stat files of its folder.
 pub fn a_page_has_files()
     ensures page { (path : List (List ℕ)) (key : PageKey) → page_key_of path ≡ Some key → IsTrue (is_place key.folder key.file) }
     ensures folder { (path : List (List ℕ)) (key : PageKey) → page_key_of path ≡ Some key → IsTrue (have_names key.folder) }
+{}
+
+/// The texts that are written read as what they were written of.
+pub fn texts_are_read_back()
+    ensures head { (epoch count size : ℕ) (kind : List ℕ) → epoch < 2 ^ 64 → count < 2 ^ 64 → size < 2 ^ 64 → IsTrue (is_kind kind) → head_of (head_text epoch count size kind) ≡ Some (record { epoch = epoch; count = count; size = size; kind = kind }) }
+    ensures stat { (epoch count : ℕ) → epoch < 2 ^ 64 → count < 2 ^ 64 → stat_of (stat_text epoch count) ≡ Some (epoch, count) }
+    ensures epoch { (epoch : ℕ) → 0 < epoch → epoch < 2 ^ 64 → epoch_of (epoch_text epoch) ≡ Some epoch }
+{}
+
+/// The name of each file lies in the docroot: it has no empty segment and none that is `.` or `..`, so it begins with no slash, and
+/// each of its bytes is a letter, a digit or one of `.`, `_`, `-`, `%` and the slashes between segments.
+pub fn names_lie_in_the_docroot()
+    ensures body { (key : PageKey) → IsTrue (is_path key.folder) → page_key_of (page_path key) ≡ Some key → IsTrue (is_inside (body_name key.folder key.file)) }
+    ensures head { (key : PageKey) → IsTrue (is_path key.folder) → page_key_of (page_path key) ≡ Some key → IsTrue (is_inside (head_name key.folder key.file)) }
+    ensures stat { (folder : List (List ℕ)) → IsTrue (is_path folder) → IsTrue (is_inside (stat_name folder)) }
+    ensures epoch { IsTrue (is_inside epoch_name) }
 {}

@@ -52,7 +52,7 @@ held_with key bytes held = same_map nat_list_cmp_total same_name _ _ (λ q.
     ∙ ap (cond (eq_by_cmp by_name q (string_bytes key)) (Some bytes)) (sym (get-from_entries nat_list_cmp_total (named held) q))
     ∙ sym (get-insert nat_list_cmp_total (files_of held) (string_bytes key) bytes q))
 
-equal : (o : Ordering) → is_eq o ≡ true → o ≡ Equal
+pub equal : (o : Ordering) → is_eq o ≡ true → o ≡ Equal
 equal Less e = absurd (true≢false (sym e))
 equal Equal e = refl
 equal Greater e = absurd (true≢false (sym e))

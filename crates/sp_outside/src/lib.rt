@@ -9,11 +9,19 @@
 mod disk;
 #[cfg(test)]
 mod disk_tests;
+mod docroot;
+mod folder_walk;
+mod laws;
 #[cfg(test)]
 mod long_tests;
 mod mem_disk;
 mod memory;
+mod name_index;
+mod name_list;
 mod real;
+mod real_disk;
+#[cfg(test)]
+mod real_disk_tests;
 mod sink;
 mod source;
 #[cfg(test)]
@@ -21,9 +29,11 @@ mod tests;
 mod words;
 
 pub use disk::{Disk, DiskFault, LONGEST_NAME};
+pub use laws::files_have_names;
 pub use mem_disk::{MemDisk, Plan, Way};
 pub use memory::{MemSink, MemSource};
 pub use real::{RealSink, RealSource};
+pub use real_disk::RealDisk;
 pub use sink::{Sink, SinkFault};
 pub use source::{Source, SourceFault};
 pub use words::{MemWords, RealWords, WordList, Words};

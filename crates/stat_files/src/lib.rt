@@ -2,6 +2,10 @@
 //! "Invalidating files by folder level").
 #![tactic(auto)]
 
+mod laws;
 mod stat;
+#[cfg(test)]
+mod tests;
 
+pub use laws::a_stamp_is_read_back;
 pub use stat::{stamp_of, touch};

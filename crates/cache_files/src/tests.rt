@@ -1,0 +1,283 @@
+//! Worked rows, and each call with each of its disk calls failing, before and after its change.
+ghost use Rattle.std.specs.Prelude.{IfSome};
+ghost use Rattle.cache_files.specs.Pages.{IsKey, IsStorable};
+
+use super::*;
+use cover_rules::{PageKey, Stamp, a_page_has_one_key, page_key};
+use docroot_format::FileFault;
+use sp_base::{Answer, ByteBuf, Mark, Path, TextBuf, a_path_and_its_text};
+use sp_outside::{Disk, LONGEST_NAME, MemDisk, Way};
+use std::alloc::Global;
+use std::test::Fail;
+
+const EN: &str = "/content/en.html";
+
+const BODY: &str = "content/en.html";
+
+const HEAD: &str = "content/en.html%h";
+
+const OLD: &[(&str, &str)] = &[
+    ("content/.stat", "stat 1 1 2\n"),
+    (BODY, "old"),
+    (HEAD, "page 1 1 3 3 text/plain\n"),
+];
+
+const OLD_HEAD: Option<&str> = Some("page 1 1 3 3 text/plain\n");
+
+const NEW_HEAD: Option<&str> = Some("page 1 1 4 1 text/html;charset=utf-8\n");
+
+fn key(alloc: Global, text: &str) -> Option<PageKey>
+    ensures { IfSome result IsKey }
+{
+    a_path_and_its_text();
+    a_page_has_one_key();
+    match Path::read(alloc, text) {
+        Ok(path) => match page_key(alloc, &path) {
+            Ok(key) => key,
+            Err(_) => None,
+        },
+        Err(_) => None,
+    }
+}
+
+fn answer(alloc: Global, body: &str) -> Option<Answer>
+    ensures { IfSome result IsStorable }
+{
+    let kind = TextBuf::of(alloc, "text/html;charset=utf-8");
+    match (
+        kind,
+        TextBuf::of(alloc, ""),
+        ByteBuf::of(alloc, body.as_bytes()),
+    ) {
+        (Ok(kind), Ok(location), Ok(body)) => Some(Answer {
+            status: 200,
+            kind,
+            location,
+            mark: Mark::Plain,
+            body,
+        }),
+        _ => None,
+    }
+}
+
+fn disk_with(alloc: Global, files: &[(&str, &str)]) -> MemDisk {
+    let mut disk = MemDisk::new(alloc);
+    for (name, bytes) in files {
+        if !name.is_empty() && name.len() <= LONGEST_NAME {
+            let _ = disk.put(name, bytes.as_bytes());
+        }
+    }
+    disk
+}
+
+// The file of a name has these bytes, or isn't there.
+fn stands(alloc: Global, disk: &mut MemDisk, name: &str, wanted: Option<&str>) -> bool {
+    match (disk.get(alloc, name), wanted) {
+        (Ok(Some(found)), Some(wanted)) => found.bytes() == wanted.as_bytes(),
+        (Ok(None), None) => true,
+        _ => false,
+    }
+}
+
+// A page's body and head, and the files beside them.
+fn stand(alloc: Global, disk: &mut MemDisk, head: Option<&str>, body: Option<&str>) -> bool {
+    stands(alloc, disk, HEAD, head)
+        && stands(alloc, disk, BODY, body)
+        && stands(alloc, disk, "content/.stat", Some("stat 1 1 2\n"))
+}
+
+fn put(alloc: Global, disk: &mut MemDisk) -> Result<(), FileFault> {
+    let Some(key) = key(alloc, EN) else {
+        return Err(FileFault::NoMemory);
+    };
+    let Some(answer) = answer(alloc, "x") else {
+        return Err(FileFault::NoMemory);
+    };
+    put_page(alloc, disk, &key, Stamp { epoch: 1, count: 4 }, &answer)
+}
+
+fn get(alloc: Global, disk: &mut MemDisk) -> Result<Option<Page>, FileFault> {
+    match key(alloc, EN) {
+        Some(key) => get_page(alloc, disk, &key),
+        None => Err(FileFault::NoMemory),
+    }
+}
+
+fn is_page(found: Result<Option<Page>, FileFault>, stamp: Stamp, kind: &str, body: &str) -> bool {
+    match found {
+        Ok(Some(page)) => {
+            page.stamp == stamp
+                && page.answer.status == 200
+                && page.answer.kind.text() == kind
+                && page.answer.body.bytes() == body.as_bytes()
+        }
+        _ => false,
+    }
+}
+
+fn take_away(alloc: Global, disk: &mut MemDisk) -> Result<(), FileFault> {
+    match key(alloc, EN) {
+        Some(key) => drop_page(alloc, disk, &key),
+        None => Err(FileFault::NoMemory),
+    }
+}
+
+#[test]
+fn keeps_a_page(rt: HostRuntime) -> Result<(), Fail> {
+    let alloc = rt.alloc();
+    let mut disk = disk_with(alloc, &[("content/.stat", "stat 1 1 2\n")]);
+    assert_eq!(rt; put(alloc, &mut disk), Ok(()));
+    assert_eq!(rt; disk.calls(), 4);
+    assert!(rt; stand(alloc, &mut disk, NEW_HEAD, Some("x")));
+    let stamp = Stamp { epoch: 1, count: 4 };
+    assert!(rt; is_page(get(alloc, &mut disk), stamp, "text/html;charset=utf-8", "x"));
+    assert_eq!(rt; take_away(alloc, &mut disk), Ok(()));
+    assert!(rt; stand(alloc, &mut disk, None, None));
+    Ok(())
+}
+
+// In which call the disk fails and how, and what head and body are then there of an old page that was there.
+type Rows<'a> = &'a [(u64, Way, Option<&'a str>, Option<&'a str>)];
+
+const PUT_ROWS: Rows<'_> = &[
+    (1, Way::Old, OLD_HEAD, Some("old")),
+    (1, Way::New, None, Some("old")),
+    (2, Way::Old, None, Some("old")),
+    (2, Way::New, None, Some("x")),
+    (3, Way::Old, None, Some("x")),
+    (3, Way::New, NEW_HEAD, Some("x")),
+];
+
+#[test]
+fn a_put_fails_in_each_call(rt: HostRuntime) -> Result<(), Fail> {
+    for (n, way, head, body) in PUT_ROWS {
+        let mut disk = disk_with(rt.alloc(), OLD);
+        disk.fail(*n, *way);
+        assert_eq!(rt; put(rt.alloc(), &mut disk), Err(FileFault::Disk), "at {n}");
+        assert!(rt; stand(rt.alloc(), &mut disk, *head, *body), "at {n}");
+    }
+    Ok(())
+}
+
+const DROP_ROWS: Rows<'_> = &[
+    (1, Way::Old, OLD_HEAD, Some("old")),
+    (1, Way::New, None, Some("old")),
+    (2, Way::Old, None, Some("old")),
+    (2, Way::New, None, None),
+];
+
+#[test]
+fn a_drop_fails_in_each_call(rt: HostRuntime) -> Result<(), Fail> {
+    for (n, way, head, body) in DROP_ROWS {
+        let mut disk = disk_with(rt.alloc(), OLD);
+        disk.fail(*n, *way);
+        assert_eq!(rt;
+            take_away(rt.alloc(), &mut disk),
+            Err(FileFault::Disk),
+            "at {n}"
+        );
+        assert!(rt; stand(rt.alloc(), &mut disk, *head, *body), "at {n}");
+    }
+    Ok(())
+}
+
+#[test]
+fn a_get_fails_in_each_call(rt: HostRuntime) -> Result<(), Fail> {
+    for (n, way) in [(1, Way::Old), (1, Way::New), (2, Way::Old), (2, Way::New)] {
+        let mut disk = disk_with(rt.alloc(), OLD);
+        disk.fail(n, way);
+        assert!(rt;
+            matches!(get(rt.alloc(), &mut disk), Err(FileFault::Disk)),
+            "at {n}"
+        );
+        assert!(rt;
+            stand(rt.alloc(), &mut disk, OLD_HEAD, Some("old")),
+            "at {n}"
+        );
+    }
+    Ok(())
+}
+
+// Whether a page with this head and body counts, and how many calls of the disk tell.
+fn tells(alloc: Global, files: &[(&str, &str)]) -> (bool, u64) {
+    let mut disk = disk_with(alloc, files);
+    let before = disk.calls();
+    let counts = matches!(get(alloc, &mut disk), Ok(Some(_)));
+    (counts, disk.calls().saturating_sub(before))
+}
+
+#[test]
+fn a_body_is_read_after_a_good_head(rt: HostRuntime) -> Result<(), Fail> {
+    let table: [(&[(&str, &str)], bool, u64); 9] = [
+        (OLD, true, 2),
+        (&[(BODY, "old")], false, 1),
+        (&[(HEAD, "page 1 1 3 3 a/b\n")], false, 2),
+        (&[(HEAD, "page 1 1 3 3 a/b\nx"), (BODY, "old")], false, 1),
+        (&[(HEAD, "page 1 1 3 4 a/b\n"), (BODY, "old")], false, 2),
+        (&[(HEAD, "page 1 1 03 3 a/b\n"), (BODY, "old")], false, 1),
+        (&[(HEAD, "page 2 1 3 3 a/b\n"), (BODY, "old")], false, 1),
+        (
+            &[
+                (HEAD, "page 1 1 18446744073709551616 3 a/b\n"),
+                (BODY, "old"),
+            ],
+            false,
+            1,
+        ),
+        (
+            &[(HEAD, "page 1 0 18446744073709551615 0 \n"), (BODY, "")],
+            true,
+            2,
+        ),
+    ];
+    for (row, (files, counts, calls)) in table.iter().enumerate() {
+        assert_eq!(rt; tells(rt.alloc(), files), (*counts, *calls), "at {row}");
+    }
+    Ok(())
+}
+
+#[test]
+fn sessions_are_counted(rt: HostRuntime) -> Result<(), Fail> {
+    let mut disk = MemDisk::new(rt.alloc());
+    assert_eq!(rt; open_epoch(rt.alloc(), &mut disk), Ok(1));
+    assert!(rt; stands(rt.alloc(), &mut disk, ".epoch", Some("epoch 1 1\n")));
+    assert_eq!(rt; open_epoch(rt.alloc(), &mut disk), Ok(2));
+    for (text, fault) in [
+        ("epoch 1 18446744073709551615\n", OpenFault::EpochEnd),
+        ("epoch 1 18446744073709551616\n", OpenFault::Foreign),
+        ("epoch 1 0\n", OpenFault::Foreign),
+        ("epoch 1 1", OpenFault::Foreign),
+        ("x", OpenFault::Foreign),
+    ] {
+        let mut disk = disk_with(rt.alloc(), &[(".epoch", text)]);
+        assert_eq!(rt; open_epoch(rt.alloc(), &mut disk), Err(fault), "at {text}");
+        assert!(rt;
+            stands(rt.alloc(), &mut disk, ".epoch", Some(text)),
+            "at {text}"
+        );
+    }
+    Ok(())
+}
+
+#[test]
+fn an_opening_fails_in_each_call(rt: HostRuntime) -> Result<(), Fail> {
+    for (n, way, left) in [
+        (1, Way::Old, "epoch 1 6\n"),
+        (1, Way::New, "epoch 1 6\n"),
+        (2, Way::Old, "epoch 1 6\n"),
+        (2, Way::New, "epoch 1 7\n"),
+    ] {
+        let mut disk = disk_with(rt.alloc(), &[(".epoch", "epoch 1 6\n")]);
+        disk.fail(n, way);
+        assert_eq!(rt;
+            open_epoch(rt.alloc(), &mut disk),
+            Err(OpenFault::Disk),
+            "at {n}"
+        );
+        assert!(rt;
+            stands(rt.alloc(), &mut disk, ".epoch", Some(left)),
+            "at {n}"
+        );
+    }
+    Ok(())
+}

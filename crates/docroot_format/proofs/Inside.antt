@@ -1,0 +1,191 @@
+-- Names of files lie in the docroot: no segment of one is empty, `.` or `..`, and each byte is one that names have.
+use Rattle.std.proofs.Common.{◌≡◌, ◌<◌, ◌≤◌, ◌+◌, ◌/◌, ◌%◌, ℕ, zero, suc, Bool, true, false, not, cond, ◌&&◌, ◌||◌, ◌++◌, List, [], ◌∷◌, IsTrue, length, get_or, nat_le, nat_eq, nat_lt, codes, flat_map, Option, Some, None, refl, sym, ◌∙◌, ap, subst, arith}
+use Rattle.std.specs.List.{All, list_all, list_any}
+use Rattle.std.specs.Char.{is_ascii_alphanumeric}
+use Rattle.std.specs.Fmt.{digit_glyph}
+use Rattle.std.specs.Cmp.Lexicographic.{pointwise, bytes_decides}
+use Rattle.std.proofs.lemmas.Bool.{true≢false}
+use Rattle.std.proofs.lemmas.Bool.Decides.{nat_tests}
+use Rattle.std.proofs.lemmas.List.Splits.{slice_split_at, slice_split_none}
+use Rattle.std.proofs.lemmas.List.Folds.{list_all-append}
+use Rattle.std.proofs.lemmas.List.{length-append}
+use Rattle.sp_base.specs.Paths.{is_empty, is_dots, is_long, has_slash, is_path, mangled, parent_of, pieces, seg_ok}
+use Rattle.cover_rules.specs.declared.page.PageKey.{PageKey}
+use Rattle.cover_rules.specs.Pages.{has_dot, is_file, is_page, key_at, last_segment, page_key_of}
+use Rattle.cover_rules.specs.Names.{is_plain, file_byte, file_name}
+use Rattle.docroot_format.specs.Names.{body_name, epoch_name, folder_name, head_name, stat_name, is_name_byte, is_segment, is_inside}
+use Rattle.docroot_format.proofs.NameLemmas.{append_both}
+use Rattle.docroot_format.proofs.NameSizes.{file_some}
+
+first_of : (a b : Bool) → a && b ≡ true → a ≡ true
+first_of true b e = refl
+first_of false b e = absurd (true≢false (sym e))
+
+second_of : (a b : Bool) → a && b ≡ true → b ≡ true
+second_of true b e = e
+second_of false b e = absurd (true≢false (sym e))
+
+both : (a b : Bool) → a ≡ true → b ≡ true → a && b ≡ true
+both a b ea eb = ap (λ x. x && b) ea ∙ eb
+
+glyph_ok : (d : ℕ) → d < 16 → is_name_byte (digit_glyph true d) ≡ true
+glyph_ok d small = grind (arith, nat_tests)
+
+byte_ok : (b : ℕ) (plain : Bool) → is_plain b ≡ plain → list_all is_name_byte (cond plain (b ∷ []) (37 ∷ digit_glyph true (b / 16 % 16) ∷ digit_glyph true (b % 16) ∷ [])) ≡ true
+byte_ok b true e = ap (λ p. (p || nat_eq b 37) && true) e
+byte_ok b false e = both _ _ (glyph_ok (b / 16 % 16) (omega arith)) (both _ _ (glyph_ok (b % 16) (omega arith)) refl)
+
+pub bytes_ok : (seg : List ℕ) → list_all is_name_byte (file_name seg) ≡ true
+unfolding file_name
+bytes_ok [] = refl
+bytes_ok (b ∷ seg) = list_all-append is_name_byte (file_byte b) (flat_map file_byte seg) ∙ both _ _ (byte_ok b (is_plain b) refl) (bytes_ok seg)
+
+not_true : (b : Bool) → (b ≡ true → ⊥) → b ≡ false
+not_true true none = absurd (none refl)
+not_true false none = refl
+
+not_false : (b : Bool) → not b ≡ true → b ≡ false
+not_false true e = absurd (true≢false (sym e))
+not_false false e = refl
+
+-- ---- a file name is `.` or `..` only where the segment is
+
+first_byte : (b : ℕ) (plain : Bool) (s rest : List ℕ) → cond plain (b ∷ []) (37 ∷ digit_glyph true (b / 16 % 16) ∷ digit_glyph true (b % 16) ∷ []) ++ s ≡ 46 ∷ rest → (b ≡ 46) × (s ≡ rest)
+first_byte b true s rest e = (cc, cc)
+first_byte b false s rest e =
+    let head : 37 ≡ 46 = ap (λ l. get_or l 0 0) e in
+    absurd (omega (arith, head))
+
+empty_name : (seg : List ℕ) → file_name seg ≡ [] → seg ≡ []
+empty_name [] e = refl
+empty_name (b ∷ seg) e =
+    let none : length (file_name (b ∷ seg)) ≡ 0 = ap length e in
+    absurd (omega (arith, none, file_some (b ∷ seg) (omega arith)))
+
+one_dot : (seg : List ℕ) → file_name seg ≡ 46 ∷ [] → seg ≡ 46 ∷ []
+unfolding file_name
+one_dot [] e = absurd cc
+one_dot (b ∷ seg) e =
+    let f = first_byte b (is_plain b) (file_name seg) [] e in
+    ap (λ x. x ∷ seg) f.0 ∙ ap (λ s. 46 ∷ s) (empty_name seg f.1)
+
+two_dots : (seg : List ℕ) → file_name seg ≡ 46 ∷ 46 ∷ [] → seg ≡ 46 ∷ 46 ∷ []
+unfolding file_name
+two_dots [] e = absurd cc
+two_dots (b ∷ seg) e =
+    let f = first_byte b (is_plain b) (file_name seg) (46 ∷ []) e in
+    ap (λ x. x ∷ seg) f.0 ∙ ap (λ s. 46 ∷ s) (one_dot seg f.1)
+
+no_dots : (xs : List ℕ) → (xs ≡ codes "." → ⊥) → (xs ≡ codes ".." → ⊥) → is_dots xs ≡ false
+no_dots xs one two =
+    ap (λ b. b || pointwise nat_eq xs (codes "..")) (not_true (pointwise nat_eq xs (codes ".")) (λ e. one ((bytes_decides xs (codes ".")).0 e)))
+    ∙ not_true (pointwise nat_eq xs (codes "..")) (λ e. two ((bytes_decides xs (codes "..")).0 e))
+
+name_no_dots : (seg : List ℕ) → is_dots seg ≡ false → is_dots (file_name seg) ≡ false
+name_no_dots seg none = no_dots (file_name seg)
+    (λ e. true≢false (sym (ap is_dots (one_dot seg e)) ∙ none))
+    (λ e. true≢false (sym (ap is_dots (two_dots seg e)) ∙ none))
+
+long_no_dots : (xs : List ℕ) → 3 ≤ length xs → is_dots xs ≡ false
+long_no_dots xs long = no_dots xs
+    (λ e. let l : length xs ≡ 1 = ap length e in omega (arith, l, long))
+    (λ e. let l : length xs ≡ 2 = ap length e in omega (arith, l, long))
+
+-- ---- segments
+
+some_not_empty : (xs : List ℕ) → 0 < length xs → not (is_empty xs) ≡ true
+some_not_empty [] some = absurd (omega (arith, some))
+some_not_empty (x ∷ xs) some = grind (arith, nat_tests)
+
+not_empty_some : (xs : List ℕ) → is_empty xs ≡ false → 0 < length xs
+not_empty_some [] e = absurd (true≢false e)
+not_empty_some (x ∷ xs) e = omega arith
+
+segment_name : (seg : List ℕ) → is_empty seg ≡ false → is_dots seg ≡ false → is_segment (file_name seg) ≡ true
+segment_name seg some none =
+    both _ _ (some_not_empty (file_name seg) (file_some seg (not_empty_some seg some)))
+    (both _ _ (ap not (name_no_dots seg none)) (bytes_ok seg))
+
+not_slash : (b : ℕ) → is_name_byte b ≡ true → nat_eq b 47 ≡ false
+not_slash b e = grind (arith, nat_tests)
+
+no_slash : (xs : List ℕ) → list_all is_name_byte xs ≡ true → All (λ b. nat_eq b 47 ≡ false) xs
+no_slash [] e k d lt = absurd (omega (arith, lt))
+no_slash (x ∷ xs) e zero d lt = not_slash x (first_of _ _ e)
+no_slash (x ∷ xs) e (suc k) d lt = no_slash xs (second_of _ _ e) k d (omega (arith, lt))
+
+segment_bytes : (piece : List ℕ) → is_segment piece ≡ true → list_all is_name_byte piece ≡ true
+segment_bytes piece ok = second_of _ _ (second_of _ _ ok)
+
+inside_piece : (piece rest : List ℕ) → is_segment piece ≡ true → is_inside rest ≡ true → is_inside (piece ++ 47 ∷ rest) ≡ true
+inside_piece piece rest ok e =
+    ap (list_all is_segment) (slice_split_at (λ b. nat_eq b 47) piece 47 rest (no_slash piece (segment_bytes piece ok)) refl) ∙ both _ _ ok e
+
+inside_last : (piece : List ℕ) → is_segment piece ≡ true → is_inside piece ≡ true
+inside_last piece ok =
+    ap (list_all is_segment) (slice_split_none (λ b. nat_eq b 47) piece (no_slash piece (segment_bytes piece ok))) ∙ both _ _ ok refl
+
+ok_name : (seg : List ℕ) → seg_ok seg ≡ true → is_segment (file_name seg) ≡ true
+ok_name seg ok = segment_name seg (not_false _ (first_of _ _ ok)) (not_false _ (first_of _ _ (second_of _ _ ok)))
+
+folder_inside : (folder : List (List ℕ)) (last : List ℕ) → list_all seg_ok folder ≡ true → is_inside last ≡ true → is_inside (folder_name folder ++ last) ≡ true
+folder_inside [] last ok e = e
+folder_inside (seg ∷ folder) last ok e =
+    ap is_inside (sym (append_both (file_name seg ++ 47 ∷ []) (folder_name folder) last) ∙ sym (append_both (file_name seg) (47 ∷ []) (folder_name folder ++ last)))
+    ∙ inside_piece (file_name seg) (folder_name folder ++ last) (ok_name seg (first_of _ _ ok)) (folder_inside folder last (second_of _ _ ok) e)
+
+-- ---- the names
+
+-- a file of a page is neither empty nor `.` nor `..`
+file_some_bytes : (file : List ℕ) → is_file file ≡ true → is_empty file ≡ false
+file_some_bytes [] e = absurd (true≢false (sym e))
+file_some_bytes (b ∷ file) e = grind (arith, nat_tests)
+
+file_first : (file : List ℕ) → is_file file ≡ true → nat_eq (get_or file 0 0) 46 ≡ false
+file_first file e = not_false _ (first_of _ _ (second_of _ _ e))
+
+file_no_dots : (file : List ℕ) → is_file file ≡ true → is_dots file ≡ false
+file_no_dots file e = no_dots file
+    (λ is. true≢false (sym (ap (λ f. nat_eq (get_or f 0 0) 46) is) ∙ file_first file e))
+    (λ is. true≢false (sym (ap (λ f. nat_eq (get_or f 0 0) 46) is) ∙ file_first file e))
+
+abbrev file_in : Option PageKey → Bool
+file_in None = true
+file_in (Some key) = is_file key.file
+
+abbrev is_there : Option PageKey → Bool
+is_there None = false
+is_there (Some key) = true
+
+from_key : (segs : List (List ℕ)) (key : PageKey) (test : Bool) → is_page segs ≡ test → cond test (Some (record { folder = parent_of segs; file = last_segment segs })) None ≡ Some key → is_file key.file ≡ true
+from_key segs key true page e = subst (λ (o : Option PageKey). file_in o ≡ true) e (first_of _ _ page)
+from_key segs key false page e = absurd (true≢false (sym (ap is_there e)))
+
+key_file : (path : List (List ℕ)) (key : PageKey) → page_key_of path ≡ Some key → is_file key.file ≡ true
+unfolding key_at
+key_file path key e = from_key (mangled path) key (is_page (mangled path)) refl e
+
+page_segment : (file : List ℕ) → is_file file ≡ true → is_segment (file_name file) ≡ true
+page_segment file e = segment_name file (file_some_bytes file e) (file_no_dots file e)
+
+pub body_inside : (path : List (List ℕ)) (key : PageKey) → IsTrue (is_path key.folder) → page_key_of path ≡ Some key → IsTrue (is_inside (body_name key.folder key.file))
+body_inside path key folder e = folder_inside key.folder (file_name key.file) (first_of _ _ folder) (inside_last (file_name key.file) (page_segment key.file (key_file path key e)))
+
+head_segment : (file : List ℕ) → is_file file ≡ true → is_segment (file_name file ++ codes "%h") ≡ true
+head_segment file e =
+    let some : 0 < length (file_name file) = file_some file (not_empty_some file (file_some_bytes file e)) in
+    let long : length (file_name file ++ codes "%h") ≡ length (file_name file) + 2 = length-append (file_name file) (codes "%h") in
+    both _ _ (some_not_empty (file_name file ++ codes "%h") (omega (arith, long)))
+    (both _ _ (ap not (long_no_dots (file_name file ++ codes "%h") (omega (arith, long, some))))
+    (list_all-append is_name_byte (file_name file) (codes "%h") ∙ both _ _ (bytes_ok file) refl))
+
+pub head_inside : (path : List (List ℕ)) (key : PageKey) → IsTrue (is_path key.folder) → page_key_of path ≡ Some key → IsTrue (is_inside (head_name key.folder key.file))
+head_inside path key folder e =
+    ap is_inside (sym (append_both (folder_name key.folder) (file_name key.file) (codes "%h")))
+    ∙ folder_inside key.folder (file_name key.file ++ codes "%h") (first_of _ _ folder) (inside_last (file_name key.file ++ codes "%h") (head_segment key.file (key_file path key e)))
+
+pub stat_inside : (folder : List (List ℕ)) → IsTrue (is_path folder) → IsTrue (is_inside (stat_name folder))
+stat_inside folder ok = folder_inside folder (codes ".stat") (first_of _ _ ok) refl
+
+pub epoch_inside : IsTrue (is_inside epoch_name)
+epoch_inside = refl

@@ -1,0 +1,64 @@
+//! The walk over a folder and all folders below it.
+use crate::docroot::BESIDE;
+use crate::name_index::{NameIndex, Standing};
+use crate::{DiskFault, LONGEST_NAME};
+use sp_base::Mem;
+use std::alloc::Global;
+use std::fs::{self, DirEntry, Files};
+use std::io::{self, ErrorKind};
+
+/// The names of all files below a folder. A link is no file and no folder here, and a name that isn't UTF-8 is passed over. A folder
+/// that isn't there has none.
+pub(crate) fn names_below<R: Files + AllocGlobal + Clone + Drop>(
+    rt: &R,
+    folder: &str,
+) -> Result<NameIndex, DiskFault> {
+    let alloc = rt.alloc();
+    let mut names = NameIndex::new(alloc);
+    match fs::metadata(rt, folder) {
+        Err(fault) if fault.kind() == ErrorKind::NotFound => return Ok(names),
+        _ => {}
+    }
+    let mut folders = Vec::new(alloc);
+    push_path(alloc, &mut folders, folder)?;
+    for _ in 0..u64::MAX {
+        let Some(next) = folders.pop() else {
+            return Ok(names);
+        };
+        for entry in fs::read_dir(rt, next.as_str())? {
+            take_entry(alloc, entry, folder, &mut folders, &mut names)?;
+        }
+    }
+    Err(DiskFault::Failed)
+}
+
+fn push_path(alloc: Global, paths: &mut Vec<String>, path: &str) -> Mem<()> {
+    paths.push(String::from_str(alloc, path)?)?;
+    Ok(())
+}
+
+fn take_entry<R: Files + AllocGlobal + Clone + Drop>(
+    alloc: Global,
+    entry: io::Result<DirEntry<R>>,
+    folder: &str,
+    folders: &mut Vec<String>,
+    names: &mut NameIndex,
+) -> Result<(), DiskFault> {
+    let entry = match entry {
+        Ok(entry) => entry,
+        Err(fault) if fault.kind() == ErrorKind::InvalidFilename => return Ok(()),
+        Err(fault) => return Err(DiskFault::from(fault)),
+    };
+    let found = entry.file_type()?;
+    let path = entry.path().as_str();
+    if found.is_dir() {
+        push_path(alloc, folders, path)?;
+    } else if found.is_file() && !path.ends_with(BESIDE) {
+        let name = path.get(folder.len().saturating_add(1)..).unwrap_or("");
+        if name.len() > LONGEST_NAME {
+            return Err(DiskFault::Failed);
+        }
+        names.add(alloc, name, Standing::Held)?;
+    }
+    Ok(())
+}

@@ -22,7 +22,7 @@ unfolding more_members
 ends_is depth zero found t e = ap (λ (l : Members). Ok (l, t)) (sym (append-nil found))
 ends_is depth (suc k) found t e = rw e (ap (λ (l : Members). Ok (l, t)) (sym (append-nil found)))
 
-not_empty : (t : List ℕ) → ends_members t ≡ false → 0 < length t
+pub not_empty : (t : List ℕ) → ends_members t ≡ false → 0 < length t
 unfolding ends_members
 not_empty [] e = absurd cc
 not_empty (c ∷ t) e = omega arith
@@ -33,13 +33,13 @@ unfolding more_members member
 more_is depth k found t inside x n y e h v m = rw (e, h, v) m
 
 mutual
-  value_complete : (depth : ℕ) (t : List ℕ) (n : AnyNode) (r : List ℕ) → IsValue depth t n r → (at : ℕ) → value (group depth) at t ≡ Ok (n, r)
+  pub value_complete : (depth : ℕ) (t : List ℕ) (n : AnyNode) (r : List ℕ) → IsValue depth t n r → (at : ℕ) → value (group depth) at t ≡ Ok (n, r)
   value_complete _ _ _ _ (IsValue.single {depth} {t} {r} {n} a e h) at = single_is depth at a t (n, r) e h
   value_complete _ _ _ _ (IsValue.braces {depth} {t} {r} {n} ms inside e all c g d) at =
       braces_is depth at t inside ms e (members_complete depth (skip (drop 1 t)) ms inside all (length (skip (drop 1 t))) [] (omega arith)) c
       ∙ ap (λ (m : AnyNode). Ok (m, drop 1 inside)) (sym g) ∙ ap (λ (l : List ℕ). Ok (n, l)) (sym d)
 
-  members_complete : (depth : ℕ) (t : List ℕ) (ms : Members) (r : List ℕ) → AreMembers depth t ms r → (k : ℕ) (found : Members) → length t ≤ k → more_members (group depth) k found t ≡ Ok (found ++ ms, r)
+  pub members_complete : (depth : ℕ) (t : List ℕ) (ms : Members) (r : List ℕ) → AreMembers depth t ms r → (k : ℕ) (found : Members) → length t ≤ k → more_members (group depth) k found t ≡ Ok (found ++ ms, r)
   members_complete _ _ _ _ (AreMembers.none {depth} {t} e) k found le = ends_is depth k found t e
   members_complete _ _ _ _ (AreMembers.more {depth} {t} {r} {m} {ms} x n inside e h v g all) k found le =
       go k le (value_complete depth x.1 n inside v (length t)) (λ j f l. members_complete depth (skip inside) ms r all j f l)

@@ -4,3 +4,4 @@ pub mod HostLemmas
 pub mod Progress
 pub mod Sound
 pub mod Complete
+pub mod FaultLemmas

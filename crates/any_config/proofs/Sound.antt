@@ -16,7 +16,7 @@ use Rattle.any_config.proofs.Progress.{bind_ok, done, ok_is, skip_less, member_l
 abbrev pub AllValues : ℕ → Type 0
 AllValues depth = (t : List ℕ) (x : AnyNode × List ℕ) → is_at 123 t ≡ true → group depth t ≡ Ok x → IsValue depth t x.0 x.1
 
-value_sound : (depth : ℕ) → AllValues depth → (at : ℕ) (t : List ℕ) (x : AnyNode × List ℕ) → value (group depth) at t ≡ Ok x → IsValue depth t x.0 x.1
+pub value_sound : (depth : ℕ) → AllValues depth → (at : ℕ) (t : List ℕ) (x : AnyNode × List ℕ) → value (group depth) at t ≡ Ok x → IsValue depth t x.0 x.1
 unfolding value
 value_sound depth all at t x h = go (is_at 123 t) refl h
   where
@@ -40,7 +40,7 @@ unfolding ends_members
 ended_empty [] le = refl
 ended_empty (c ∷ t) le = absurd (omega arith)
 
-members_sound : (depth : ℕ) → AllValues depth → (k : ℕ) (found : Members) (t : List ℕ) (y : Members × List ℕ) → length t ≤ k → more_members (group depth) k found t ≡ Ok y
+pub members_sound : (depth : ℕ) → AllValues depth → (k : ℕ) (found : Members) (t : List ℕ) (y : Members × List ℕ) → length t ≤ k → more_members (group depth) k found t ≡ Ok y
     → (ms : Members) × (y.0 ≡ found ++ ms) × AreMembers depth t ms y.1
 unfolding more_members
 members_sound depth all zero found t y le h =
@@ -73,12 +73,12 @@ opened_sound depth all t x at h =
         IsValue.braces ms y.1 at inside e (sym (ap (λ (z : AnyNode × List ℕ). z.0) same) ∙ ap node.Group all_of) (sym (ap (λ (z : AnyNode × List ℕ). z.1) same))
     go y false e ms all_of inside f = absurd cc
 
-group_sound : (depth : ℕ) → AllValues depth
+pub group_sound : (depth : ℕ) → AllValues depth
 unfolding group
 group_sound zero t x at h = absurd cc
 group_sound (suc d) t x at h = opened_sound d (group_sound d) t x at h
 
-is_nil : (t : List ℕ) → (length t == 0) ≡ true → t ≡ []
+pub is_nil : (t : List ℕ) → (length t == 0) ≡ true → t ≡ []
 is_nil [] h = refl
 is_nil (c ∷ t) h = absurd (grind (arith, nat_tests))
 

@@ -2,3 +2,4 @@ pub mod Tokens
 pub mod Read
 pub mod Farms
 pub mod Grammar
+pub mod Faults

@@ -3,3 +3,4 @@ pub mod RunLemmas
 pub mod CharLemmas
 pub mod RuleLemmas
 pub mod ReadLemmas
+pub mod SpellingLemmas

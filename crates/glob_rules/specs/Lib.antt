@@ -1,4 +1,5 @@
 pub mod Globs
 pub mod Reading
+pub mod Spelling
 pub mod Runs
 pub mod Rules

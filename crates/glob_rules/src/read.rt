@@ -1,7 +1,9 @@
 //! Globs from their texts.
-ghost use Rattle.std.specs.Prelude.{◌≡◌, ◌≢◌, ◌≤◌, ◌∷◌, ◌++◌, IfOk, IfErr, IfSome, MatchOption, Ok, Err, length};
+ghost use Rattle.std.specs.Prelude.{◌≡◌, ◌≢◌, ◌≤◌, ◌↔◌, ◌∷◌, ◌++◌, List, IfOk, IfErr, IfSome, MatchOption, Ok, Err, length};
 ghost use Rattle.std.specs.Str.{chars, NonePass};
 ghost use Rattle.glob_rules.specs.Reading as spec;
+ghost use Rattle.glob_rules.specs.Spelling.{Spells, IsFault};
+ghost use Rattle.glob_rules.specs.declared.piece.Piece.{Piece};
 
 use crate::chars::first_char;
 use crate::piece::{CharClass, CharRange, Piece};
@@ -15,23 +17,32 @@ impl Glob {
     pub fn read(alloc: Global, text: &str) -> Result<Glob, GlobFault>
         ensures ok { IfOk result (λ g. spec.glob_of text.now ≡ Ok g) }
         ensures err { IfErr result (λ e. e ≢ GlobFault.NoMemory → spec.glob_of text.now ≡ Err e) }
+        ensures spelled { IfOk result (λ g. (glob : List Piece) → Spells (chars text.now) glob ↔ glob ≡ g) }
+        ensures fault { IfErr result (λ e. IsFault e (chars text.now)) }
     {
-        let mut pieces = Vec::new(alloc);
-        let mut rest = text;
-        while let Some((c, later)) = first_char(rest) {
-            if c == '[' {
-                let Some((inside, after)) = cut_at_close(later) else {
-                    return Err(GlobFault::OpenClass(text.len() - rest.len()));
-                };
-                pieces.push(Piece::Class(class_of(alloc, inside)?))?;
-                rest = after;
-            } else {
-                pieces.push(plain_piece(c))?;
-                rest = later;
-            }
-        }
-        Ok(Glob { pieces })
+        pieces_of(alloc, text)
     }
+}
+
+fn pieces_of(alloc: Global, text: &str) -> Result<Glob, GlobFault>
+    ensures ok { IfOk result (λ g. spec.glob_of text.now ≡ Ok g) }
+    ensures err { IfErr result (λ e. e ≢ GlobFault.NoMemory → spec.glob_of text.now ≡ Err e) }
+{
+    let mut pieces = Vec::new(alloc);
+    let mut rest = text;
+    while let Some((c, later)) = first_char(rest) {
+        if c == '[' {
+            let Some((inside, after)) = cut_at_close(later) else {
+                return Err(GlobFault::OpenClass(text.len() - rest.len()));
+            };
+            pieces.push(Piece::Class(class_of(alloc, inside)?))?;
+            rest = after;
+        } else {
+            pieces.push(plain_piece(c))?;
+            rest = later;
+        }
+    }
+    Ok(Glob { pieces })
 }
 
 // What a class holds, and the text after the `]` that closes it.

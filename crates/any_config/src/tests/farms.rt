@@ -94,7 +94,10 @@ fn faults_of_hosts(rt: HostRuntime) -> Result<(), Fail> {
 #[test]
 fn faults_of_filters(rt: HostRuntime) -> Result<(), Fail> {
     let cases = [
+        ("/virtualhosts x", "BadKind virtualhosts"),
+        ("/virtualhosts 'x'", "NotSupported virtualhosts"),
         ("/virtualhosts { } /filter \"x\"", "BadKind filter"),
+        ("/virtualhosts { } /filter 'x'", "NotSupported filter"),
         ("/virtualhosts { } /filter { /1 \"x\" }", "BadKind 1"),
         ("/virtualhosts { } /filter { \"x\" }", "BadKind filter"),
         ("/virtualhosts { } /filter { /1 { } }", "BadKind type"),
@@ -126,9 +129,81 @@ fn faults_of_filters(rt: HostRuntime) -> Result<(), Fail> {
 }
 
 #[test]
+fn faults_of_each_glob(rt: HostRuntime) -> Result<(), Fail> {
+    let names = [
+        "glob",
+        "method",
+        "url",
+        "path",
+        "selectors",
+        "extension",
+        "suffix",
+        "query",
+    ];
+    for name in names {
+        for (value, fault) in [
+            ("'x'", "NotSupported"),
+            ("\"[\"", "BadKind"),
+            ("{ }", "BadKind"),
+        ] {
+            let text = format!(in rt.alloc();
+                "/virtualhosts {{ }} /filter {{ {{ /type allow /{name} {value} }} }}"
+            )?;
+            let wanted = format!(in rt.alloc(); "{fault} {name}")?;
+            assert_eq!(rt;
+                refusal_in(rt.alloc(), text.as_str())?.as_str(),
+                wanted.as_str(),
+                "{text}"
+            );
+        }
+    }
+    Ok(())
+}
+
+#[test]
 fn faults_of_caches(rt: HostRuntime) -> Result<(), Fail> {
     let cases = [
+        ("/cache x", "BadKind cache"),
+        ("/cache 'x'", "NotSupported cache"),
         ("/cache { }", "Missing rules"),
+        ("/cache { /rules x }", "BadKind rules"),
+        ("/cache { /rules 'x' }", "NotSupported rules"),
+        (
+            "/cache { /rules { /1 { /type 'x' /glob 'x' } } }",
+            "NotSupported type",
+        ),
+        (
+            "/cache { /rules { /1 { /type deny /glob 'x' } } }",
+            "NotSupported glob",
+        ),
+        (
+            "/cache { /rules { /1 { /type deny /glob \"[\" } } }",
+            "BadKind glob",
+        ),
+        (
+            "/cache { /rules { } /statfileslevel '3' }",
+            "NotSupported statfileslevel",
+        ),
+        (
+            "/cache { /rules { } /allowAuthorized '1' }",
+            "NotSupported allowAuthorized",
+        ),
+        (
+            "/cache { /rules { } /invalidate 'x' }",
+            "NotSupported invalidate",
+        ),
+        (
+            "/cache { /rules { } /allowedClients x }",
+            "BadKind allowedClients",
+        ),
+        (
+            "/cache { /rules { } /ignoreUrlParams 'x' }",
+            "NotSupported ignoreUrlParams",
+        ),
+        (
+            "/cache { /rules { } /ignoreUrlParams x }",
+            "BadKind ignoreUrlParams",
+        ),
         ("/cache { /rules { /1 { /type allow } } }", "BadKind glob"),
         (
             "/cache { /rules { } /statfileslevel 33 }",

@@ -1,28 +1,8 @@
-use Rattle.std.proofs.Common.{◌≡◌, ◌∷◌, ◌++◌, ◌∙◌, ap, rules, arith, [], List, None}
-use Rattle.std.specs.Str.{chars, NonePass}
-use Rattle.glob_rules.specs.declared.piece.Piece.{Piece}
-use Rattle.glob_rules.specs.declared.piece.Piece.TheVariants.{Class}
-use Rattle.glob_rules.specs.declared.piece.CharClass.{CharClass}
-use Rattle.glob_rules.specs.Reading.{class_of, is_close, pieces_from}
-use Rattle.glob_rules.proofs.ReadLemmas.{open_class, class_read, class_closes}
+use Rattle.glob_rules.proofs.SpellingLemmas.{spelled_read, fault_read}
 use Rattle.glob_rules.proofs.glob.Glob.read.Goals as goal
 
-pub returns-in_default-cut_at_close-clause-err : goal.returns-in_default-cut_at_close-clause-err
-returns-in_default-cut_at_close-clause-err c = λ _.
-    let begins : chars c.loop-c.rest.now ≡ 91 ∷ chars c.in-Some.later.now = search rules in
-    let none : NonePass is_close (chars c.in-Some.later.now) = search rules in
-    open_class c.args.text.now c.loop-c.rest.now (chars c.in-Some.later.now) c.loop-c.invariant.text begins none c.loop-c.invariant.unclosed
+pub returns-clause-spelled : goal.returns-clause-spelled
+returns-clause-spelled c = spelled_read c.args.text.now c.pieces_of.result c.utf8.text c.pieces_of.ensures.ok
 
-pub loop-c-preserved-then-c-eq91 : goal.loop-c-preserved-then-c-eq91
-loop-c-preserved-then-c-eq91 c =
-    let begins : chars c.loop-c.rest.now ≡ 91 ∷ chars c.in-Some.later.now = search rules in
-    let parts = c.in-Some-cut_at_close.ensures.parts in
-    let none = c.in-Some-cut_at_close.ensures.first in
-    let class : c.in_ok-class_of.field-0 ≡ class_of (chars c.in-Some-cut_at_close.inside.now) = search rules in
-    let pushed = c.in_ok-push.ensures.items ∙ ap (λ (k : CharClass). c.loop-c.pieces.items ++ Class k ∷ []) class in
-    record {
-      text = search rules;
-      pieces = ap (λ (l : List Piece). l ++ pieces_from None (chars c.in-Some-cut_at_close.after.now)) pushed ∙ class_read c.loop-c.pieces.items _ _ _ _ _ parts none begins c.loop-c.invariant.pieces;
-      unclosed = class_closes _ _ _ _ _ parts none begins c.loop-c.invariant.unclosed;
-      within = omega (arith, c.in-Some-cut_at_close.ensures.shorter, c.in-Some.ensures.shorter);
-    }
+pub returns-clause-fault : goal.returns-clause-fault
+returns-clause-fault c = fault_read c.args.text.now c.pieces_of.result c.utf8.text c.pieces_of.ensures.err

@@ -3,7 +3,7 @@ use denote.Text.{Utf8}
 use denote.Shadow.{shadow}
 use Rattle.std.specs.Str.{chars}
 use Rattle.glob_rules.specs.Reading as spec
-use Rattle.glob_rules.proofs.glob.Glob.read.Given as goal
+use Rattle.glob_rules.proofs.read.pieces_of.Given as goal
 
 abbrev pub invariant-loop-c : goal.invariant-loop-c
 invariant-loop-c l = record {

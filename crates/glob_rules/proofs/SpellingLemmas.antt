@@ -1,0 +1,209 @@
+-- What is read is what is spelled.
+use Rattle.std.proofs.Common.{◌≡◌, ◌≢◌, ◌≤◌, ◌+◌, ◌↔◌, ℕ, zero, suc, Bool, true, false, cond, ◌==◌, List, [], ◌∷◌, ◌++◌, length, Option, Some, None, Result, Ok, Err, IfOk, IfErr, IsUtf8, refl, ap, sym, ◌∙◌, arith, subst, append_assoc, length-append}
+use Rattle.std.specs.Prelude.{encode_utf8_all}
+use lib.Utf8.{encode}
+use Rattle.std.specs.Str.{chars, NonePass}
+use Rattle.std.proofs.lemmas.Bool.Decides.{nat_tests}
+use Rattle.std.proofs.lemmas.Str.{encodes-chars}
+use Rattle.glob_rules.specs.declared.fault.GlobFault.{GlobFault}
+use Rattle.glob_rules.specs.declared.fault.GlobFault.TheVariants.{OpenClass, NoMemory}
+use Rattle.glob_rules.specs.declared.piece.CharRange.{CharRange}
+use Rattle.glob_rules.specs.declared.piece.CharClass.{CharClass}
+use Rattle.glob_rules.specs.declared.piece.Piece.{Piece}
+use Rattle.glob_rules.specs.declared.piece.Piece.TheVariants.{Star, AnyChar, Literal, Class}
+use Rattle.glob_rules.specs.Reading.{is_open, is_close, is_negation, plain_piece, range, ranges_of, class_of, pieces_from, unclosed, unless_unclosed, glob_of}
+use Rattle.glob_rules.specs.Spelling.{GoesOn, AreRanges, IsClass, Spells, IsOpen, IsFault}
+use Rattle.glob_rules.proofs.ReadLemmas.{closes, class_piece, stays_unclosed}
+
+equals : (c d : ℕ) → (c == d) ≡ true → c ≡ d
+equals c d h = grind (arith, nat_tests)
+
+-- ---- ranges
+
+ranges_sound : (cs : List ℕ) → AreRanges cs (ranges_of cs)
+ranges_sound [] = AreRanges.none
+ranges_sound (c ∷ []) = AreRanges.alone (λ g. absurd (let e = g.2 in cc)) AreRanges.none
+ranges_sound (c ∷ d ∷ []) = AreRanges.alone (λ g. absurd (let e = g.2 in cc)) (AreRanges.alone (λ g. absurd (let e = g.2 in cc)) AreRanges.none)
+ranges_sound (c ∷ d ∷ e ∷ cs) = go (d == 45) refl (ranges_sound cs) (ranges_sound (d ∷ e ∷ cs))
+  where
+    go : (b : Bool) → (d == 45) ≡ b → AreRanges cs (ranges_of cs) → AreRanges (d ∷ e ∷ cs) (ranges_of (d ∷ e ∷ cs))
+        → AreRanges (c ∷ d ∷ e ∷ cs) (cond b (range c e ∷ ranges_of cs) (range c c ∷ ranges_of (d ∷ e ∷ cs)))
+    go true is two one = subst (λ (n : ℕ). AreRanges (c ∷ n ∷ e ∷ cs) (range c e ∷ ranges_of cs)) (sym (equals d 45 is)) (AreRanges.two_ends two)
+    go false is two one = AreRanges.alone (λ g. not_dash g.0 g.1 g.2) one
+      where
+        not_dash : (last : ℕ) (more : List ℕ) → d ∷ e ∷ cs ≡ 45 ∷ last ∷ more → ⊥
+        not_dash last more same = let dash : d ≡ 45 = cc in absurd (grind (arith, nat_tests))
+
+ranges_complete : (cs : List ℕ) (ranges : List CharRange) → AreRanges cs ranges → ranges_of cs ≡ ranges
+ranges_complete _ _ AreRanges.none = refl
+ranges_complete _ _ (AreRanges.two_ends {first} {last} {cs} {ranges} inner) = ap (λ (l : List CharRange). range first last ∷ l) (ranges_complete cs ranges inner)
+ranges_complete _ _ (AreRanges.alone {c} {cs} {ranges} apart inner) = go cs apart (ranges_complete cs ranges inner)
+  where
+    go : (cs : List ℕ) → (GoesOn cs → ⊥) → ranges_of cs ≡ ranges → ranges_of (c ∷ cs) ≡ range c c ∷ ranges
+    go [] apart ih = ap (λ (l : List CharRange). range c c ∷ l) ih
+    go (d ∷ []) apart ih = ap (λ (l : List CharRange). range c c ∷ l) ih
+    go (d ∷ e ∷ more) apart ih = at (d == 45) refl
+      where
+        at : (b : Bool) → (d == 45) ≡ b → cond b (range c e ∷ ranges_of more) (range c c ∷ ranges_of (d ∷ e ∷ more)) ≡ range c c ∷ ranges
+        at true is = absurd (apart (e, more, ap (λ (n : ℕ). n ∷ e ∷ more) (equals d 45 is)))
+        at false is = ap (λ (l : List CharRange). range c c ∷ l) ih
+
+head_is : (c d : ℕ) (cs more : List ℕ) → c ∷ cs ≡ d ∷ more → c ≡ d
+head_is c d cs more e = cc
+
+class_sound : (cs : List ℕ) → IsClass cs (class_of cs)
+class_sound [] = IsClass.these (λ c more e. absurd cc) AreRanges.none
+class_sound (c ∷ cs) = go (is_negation c) refl
+  where
+    go : (b : Bool) → is_negation c ≡ b → IsClass (c ∷ cs) (cond b (record { negated = true; ranges = ranges_of cs }) (record { negated = false; ranges = ranges_of (c ∷ cs) }))
+    go true is = IsClass.others is (ranges_sound cs)
+    go false is = IsClass.these (λ d more e. let same : c ≡ d = head_is c d cs more e in subst (λ (n : ℕ). is_negation n ≡ false) same is) (ranges_sound (c ∷ cs))
+
+class_complete : (cs : List ℕ) (class : CharClass) → IsClass cs class → class_of cs ≡ class
+class_complete _ _ (IsClass.others {c} {cs} {ranges} is all) = rw is (ap (λ (l : List CharRange). record { negated = true; ranges = l }) (ranges_complete cs ranges all))
+class_complete _ _ (IsClass.these {cs} {ranges} apart all) = go cs apart (ranges_complete cs ranges all)
+  where
+    go : (cs : List ℕ) → ((c : ℕ) (more : List ℕ) → cs ≡ c ∷ more → is_negation c ≡ false) → ranges_of cs ≡ ranges → class_of cs ≡ record { negated = false; ranges = ranges }
+    go [] apart e = ap (λ (l : List CharRange). record { negated = false; ranges = l }) e
+    go (c ∷ more) apart e = rw (apart c more refl) (ap (λ (l : List CharRange). record { negated = false; ranges = l }) e)
+
+-- ---- globs
+
+-- a class that is closed, or one that stays open
+data Cut : List ℕ → Type 0 where
+  closed : {cs : List ℕ} (inside rest : List ℕ) → cs ≡ inside ++ 93 ∷ rest → NonePass is_close inside → Cut cs
+  open_ : {cs : List ℕ} → NonePass is_close cs → Cut cs
+
+cut : (cs : List ℕ) → Cut cs
+cut [] = Cut.open_ tt
+cut (c ∷ cs) = go (is_close c) refl (cut cs)
+  where
+    go : (b : Bool) → is_close c ≡ b → Cut cs → Cut (c ∷ cs)
+    go true is later = Cut.closed [] cs (ap (λ (n : ℕ). n ∷ cs) (equals c 93 is)) tt
+    go false is (Cut.closed inside rest e none) = Cut.closed (c ∷ inside) rest (ap (λ (l : List ℕ). c ∷ l) e) (is, none)
+    go false is (Cut.open_ none) = Cut.open_ (is, none)
+
+-- what is left of a text that spells a glob, or that a class leaves open
+abbrev Told : List ℕ → Option (List ℕ) → Type 0
+Told cs None = Spells cs (pieces_from None cs)
+Told cs (Some rest) = (front : List ℕ) × (glob : List Piece) × (inside : List ℕ) × (cs ≡ front ++ 91 ∷ inside) × (rest ≡ 91 ∷ inside) × Spells front glob × NonePass is_close inside
+
+plain_spells : (c : ℕ) (cs : List ℕ) (pieces : List Piece) → is_open c ≡ false → Spells cs pieces → Spells (c ∷ cs) (plain_piece c ∷ pieces)
+plain_spells c cs pieces apart later = go (c == 42) (c == 63) refl refl
+  where
+    go : (p q : Bool) → (c == 42) ≡ p → (c == 63) ≡ q → Spells (c ∷ cs) (cond p Star (cond q AnyChar (Literal c)) ∷ pieces)
+    go true q ep eq = subst (λ (n : ℕ). Spells (n ∷ cs) (Star ∷ pieces)) (sym (equals c 42 ep)) (Spells.star later)
+    go false true ep eq = subst (λ (n : ℕ). Spells (n ∷ cs) (AnyChar ∷ pieces)) (sym (equals c 63 eq)) (Spells.any later)
+    go false false ep eq = Spells.literal (rw (ep, eq, apart) refl) later
+
+told : (n : ℕ) (cs : List ℕ) → length cs ≤ n → Told cs (unclosed None cs)
+told n [] le = Spells.nothing
+told zero (c ∷ cs) le = absurd (omega (arith, le))
+told (suc n) (c ∷ cs) le = go (λ rest less. told n rest less) (is_open c) refl
+  where
+    plain : is_open c ≡ false → (o : Option (List ℕ)) → Told cs o → Told (c ∷ cs) o
+    plain is None later = rw is (plain_spells c cs (pieces_from None cs) is later)
+    plain is (Some rest) (front, glob, inside, parts, same, spelled, none) = (c ∷ front, plain_piece c ∷ glob, inside, ap (λ (l : List ℕ). c ∷ l) parts, same, plain_spells c front glob is spelled, none)
+
+    class : (inside rest : List ℕ) → c ≡ 91 → cs ≡ inside ++ 93 ∷ rest → NonePass is_close inside → (o : Option (List ℕ)) → Told rest o → Told (c ∷ cs) o
+    class inside rest is e none None later =
+        let pieces : pieces_from None (91 ∷ cs) ≡ Class (class_of inside) ∷ pieces_from None rest = ap (pieces_from (Some [])) e ∙ class_piece [] inside rest none in
+        rw (is, pieces) (Spells.class inside rest (class_of inside) none (class_sound inside) e later)
+    class inside rest is e none (Some left) (front, glob, after, parts, same, spelled, never) = (
+      91 ∷ (inside ++ 93 ∷ front),
+      Class (class_of inside) ∷ glob,
+      after,
+      rw (is, e, parts) (ap (λ (l : List ℕ). 91 ∷ l) (sym (append_assoc inside (93 ∷ front) (91 ∷ after)))),
+      same,
+      Spells.class inside front (class_of inside) none (class_sound inside) refl spelled,
+      never,
+    )
+
+    by_cut : ((rest : List ℕ) → length rest ≤ n → Told rest (unclosed None rest)) → c ≡ 91 → Cut cs → Told (c ∷ cs) (unclosed (Some (c ∷ cs)) cs)
+    by_cut ih is (Cut.closed inside rest e none) =
+        let less : length rest ≤ n = omega (arith, le, ap length e, length-append inside (93 ∷ rest)) in
+        let same : unclosed (Some (c ∷ cs)) cs ≡ unclosed None rest = ap (unclosed (Some (c ∷ cs))) e ∙ closes (c ∷ cs) inside rest none in
+        subst (Told (c ∷ cs)) (sym same) (class inside rest is e none (unclosed None rest) (ih rest less))
+    by_cut ih is (Cut.open_ none) =
+        subst (Told (c ∷ cs)) (sym (stays_unclosed (c ∷ cs) cs none)) ([], [], cs, ap (λ (m : ℕ). m ∷ cs) is, ap (λ (m : ℕ). m ∷ cs) is, Spells.nothing, none)
+
+    go : ((rest : List ℕ) → length rest ≤ n → Told rest (unclosed None rest)) → (b : Bool) → is_open c ≡ b → Told (c ∷ cs) (unclosed (cond b (Some (c ∷ cs)) None) cs)
+    go ih true is = by_cut ih (equals c 91 is) (cut cs)
+    go ih false is = plain is (unclosed None cs) (ih cs (omega (arith, le)))
+
+-- what is spelled is read
+abbrev IsRead : List ℕ → List Piece → Type 0
+IsRead cs glob = (unclosed None cs ≡ None) × (pieces_from None cs ≡ glob)
+
+plain_read : (c : ℕ) (cs : List ℕ) (glob : List Piece) → is_open c ≡ false → IsRead cs glob → IsRead (c ∷ cs) (plain_piece c ∷ glob)
+plain_read c cs glob apart (ended, pieces) = (rw apart ended, rw apart (ap (λ (l : List Piece). plain_piece c ∷ l) pieces))
+
+complete : (cs : List ℕ) (glob : List Piece) → Spells cs glob → IsRead cs glob
+complete _ _ Spells.nothing = (refl, refl)
+complete _ _ (Spells.star {cs} {pieces} later) = plain_read 42 cs pieces refl (complete cs pieces later)
+complete _ _ (Spells.any {cs} {pieces} later) = plain_read 63 cs pieces refl (complete cs pieces later)
+complete _ _ (Spells.literal {c} {cs} {pieces} plain later) =
+    let star : (c == 42) ≡ false = grind (arith, nat_tests) in
+    let any : (c == 63) ≡ false = grind (arith, nat_tests) in
+    let open_ : is_open c ≡ false = grind (arith, nat_tests) in
+    let piece : plain_piece c ≡ Literal c = rw (star, any) refl in
+    subst (λ (p : Piece). IsRead (c ∷ cs) (p ∷ pieces)) piece (plain_read c cs pieces open_ (complete cs pieces later))
+complete _ _ (Spells.class {cs} {pieces} inside rest class none is e later) =
+    let ih = complete rest pieces later in (
+      ap (unclosed (Some (91 ∷ cs))) e ∙ closes (91 ∷ cs) inside rest none ∙ ih.0,
+      ap (pieces_from (Some [])) e ∙ class_piece [] inside rest none ∙ ap (λ (k : CharClass). Class k ∷ pieces_from None rest) (class_complete inside class is)
+          ∙ ap (λ (l : List Piece). Class class ∷ l) ih.1,
+    )
+
+encode_append : (xs ys : List ℕ) → encode_utf8_all (xs ++ ys) ≡ encode_utf8_all xs ++ encode_utf8_all ys
+encode_append [] ys = refl
+encode_append (x ∷ xs) ys = ap (λ (l : List ℕ). encode x ++ l) (encode_append xs ys) ∙ sym (append_assoc (encode x) (encode_utf8_all xs) (encode_utf8_all ys))
+
+-- ---- what a reading says
+
+abbrev Answers : List ℕ → Result (List Piece) GlobFault → Type 0
+Answers cs (Ok glob) = Spells cs glob
+Answers cs (Err NoMemory) = ⊥
+Answers cs (Err (OpenClass place)) = IsOpen place cs
+
+answered : (text : List ℕ) → IsUtf8 text → Answers (chars text) (glob_of text)
+answered text u = go (unclosed None (chars text)) (told (length (chars text)) (chars text) (omega arith))
+  where
+    go : (o : Option (List ℕ)) → Told (chars text) o → Answers (chars text) (unless_unclosed o text)
+    go None spelled = spelled
+    go (Some rest) (front, glob, inside, parts, same, spelled, none) =
+        let whole : length text ≡ length (encode_utf8_all front) + length (encode_utf8_all rest) =
+        ap length (sym (encodes-chars text u) ∙ ap encode_utf8_all (parts ∙ ap (λ (l : List ℕ). front ++ l) (sym same)) ∙ encode_append front rest) ∙ length-append (encode_utf8_all front) (encode_utf8_all rest)
+        in
+        record { front = front; glob = glob; inside = inside; parts = parts; spelled = spelled; none = none; here = omega (arith, whole) }
+
+is_only : (text : List ℕ) (glob : List Piece) → Spells (chars text) glob → glob_of text ≡ Ok glob
+is_only text glob spelled =
+    let read = complete (chars text) glob spelled in
+    ap (λ (o : Option (List ℕ)). unless_unclosed o text) read.0 ∙ ap (λ (l : List Piece). Ok l) read.1
+
+abbrev done : List Piece → Result (List Piece) GlobFault
+done glob = Ok glob
+
+abbrev failed : GlobFault → Result (List Piece) GlobFault
+failed fault = Err fault
+
+spelled_is : (text : List ℕ) (read glob : List Piece) → IsUtf8 text → glob_of text ≡ Ok read → Spells (chars text) glob ↔ glob ≡ read
+spelled_is text read glob u e = (
+  λ s. let both : done glob ≡ done read = sym (is_only text glob s) ∙ e in cc,
+  λ same. rw same (subst (Answers (chars text)) e (answered text u)),
+)
+
+fault_is : (text : List ℕ) (e : GlobFault) → IsUtf8 text → (e ≢ NoMemory → glob_of text ≡ Err e) → IsFault e (chars text)
+fault_is text NoMemory u h = tt
+fault_is text (OpenClass place) u h =
+    let e : glob_of text ≡ Err (OpenClass place) = h (λ same. absurd cc) in
+    (subst (Answers (chars text)) e (answered text u), λ glob s. let both : done glob ≡ failed (OpenClass place) = sym (is_only text glob s) ∙ e in absurd cc)
+
+pub spelled_read : (text : List ℕ) (r : Result (List Piece) GlobFault) → IsUtf8 text → IfOk r (λ g. glob_of text ≡ Ok g) → IfOk r (λ g. (glob : List Piece) → Spells (chars text) glob ↔ glob ≡ g)
+spelled_read text (Ok g) u e = λ glob. spelled_is text g glob u e
+spelled_read text (Err fault) u e = tt
+
+pub fault_read : (text : List ℕ) (r : Result (List Piece) GlobFault) → IsUtf8 text → IfErr r (λ e. e ≢ NoMemory → glob_of text ≡ Err e) → IfErr r (λ e. IsFault e (chars text))
+fault_read text (Ok g) u e = tt
+fault_read text (Err fault) u e = fault_is text fault u e

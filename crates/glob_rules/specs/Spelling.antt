@@ -1,0 +1,53 @@
+-- Which texts spell which glob (POSIX shell, "Pattern Matching Notation"; Apache HTTP Server's fnmatch): a relation between lists of characters and globs.
+use Rattle.std.specs.Prelude.{◌≡◌, ℕ, Bool, true, false, ◌||◌, ◌==◌, List, [], ◌∷◌, ◌++◌, length, encode_utf8_all}
+use Rattle.std.specs.Str.{NonePass}
+use Rattle.glob_rules.specs.declared.fault.GlobFault.{GlobFault}
+use Rattle.glob_rules.specs.declared.fault.GlobFault.TheVariants.{OpenClass, NoMemory}
+use Rattle.glob_rules.specs.declared.piece.CharRange.{CharRange}
+use Rattle.glob_rules.specs.declared.piece.CharClass.{CharClass}
+use Rattle.glob_rules.specs.declared.piece.Piece.{Piece}
+use Rattle.glob_rules.specs.declared.piece.Piece.TheVariants.{Star, AnyChar, Literal, Class}
+use Rattle.glob_rules.specs.Reading.{is_close, is_negation, range}
+
+-- `*`, `?` and `[` don't stand for themselves
+abbrev pub is_special : ℕ → Bool
+is_special c = c == 42 || (c == 63 || c == 91)
+
+-- `-` and a character after it
+abbrev pub GoesOn : List ℕ → Type 0
+GoesOn cs = (last : ℕ) × (more : List ℕ) × (cs ≡ 45 ∷ last ∷ more)
+
+-- Characters spell ranges: `a-z` is one range, and a character with which no range begins is a range of its own.
+pub data AreRanges : List ℕ → List CharRange → Type 0 where
+  none : AreRanges [] []
+  two_ends : {first last : ℕ} {cs : List ℕ} {ranges : List CharRange} → AreRanges cs ranges → AreRanges (first ∷ 45 ∷ last ∷ cs) (range first last ∷ ranges)
+  alone : {c : ℕ} {cs : List ℕ} {ranges : List CharRange} → (GoesOn cs → ⊥) → AreRanges cs ranges → AreRanges (c ∷ cs) (range c c ∷ ranges)
+
+-- What stands between `[` and `]` spells a class: `!` or `^` in front makes it that of all other characters.
+pub data IsClass : List ℕ → CharClass → Type 0 where
+  others : {c : ℕ} {cs : List ℕ} {ranges : List CharRange} → is_negation c ≡ true → AreRanges cs ranges → IsClass (c ∷ cs) (record { negated = true; ranges = ranges })
+  these : {cs : List ℕ} {ranges : List CharRange} → ((c : ℕ) (more : List ℕ) → cs ≡ c ∷ more → is_negation c ≡ false) → AreRanges cs ranges → IsClass cs (record { negated = false; ranges = ranges })
+
+-- The characters of a text spell a glob, piece after piece. No `]` stands within a class.
+pub data Spells : List ℕ → List Piece → Type 0 where
+  nothing : Spells [] []
+  star : {cs : List ℕ} {pieces : List Piece} → Spells cs pieces → Spells (42 ∷ cs) (Star ∷ pieces)
+  any : {cs : List ℕ} {pieces : List Piece} → Spells cs pieces → Spells (63 ∷ cs) (AnyChar ∷ pieces)
+  literal : {c : ℕ} {cs : List ℕ} {pieces : List Piece} → is_special c ≡ false → Spells cs pieces → Spells (c ∷ cs) (Literal c ∷ pieces)
+  class : {cs : List ℕ} {pieces : List Piece} (inside rest : List ℕ) (class : CharClass) → NonePass is_close inside → IsClass inside class → cs ≡ inside ++ 93 ∷ rest → Spells rest pieces
+      → Spells (91 ∷ cs) (Class class ∷ pieces)
+
+-- a glob, and then a `[` that no `]` closes, with so many bytes before it
+pub record IsOpen (place : ℕ) (cs : List ℕ) : Type 0 where
+  pub front : List ℕ
+  pub glob : List Piece
+  pub inside : List ℕ
+  pub parts : cs ≡ front ++ 91 ∷ inside
+  pub spelled : Spells front glob
+  pub none : NonePass is_close inside
+  pub here : place ≡ length (encode_utf8_all front)
+
+-- the characters spell no glob, since a class is open at this place
+abbrev pub IsFault : GlobFault → List ℕ → Type 0
+IsFault NoMemory cs = Unit {0}
+IsFault (OpenClass place) cs = IsOpen place cs × ((glob : List Piece) → Spells cs glob → ⊥)

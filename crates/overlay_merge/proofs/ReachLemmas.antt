@@ -1,6 +1,7 @@
 -- How deep what is seen reaches along a path: a node's parent is there, so none is below the first ancestor that is missing.
-use Rattle.std.proofs.Common.{◌≡◌, ◌≤◌, ◌<◌, ◌+◌, ◌-◌, ◌==◌, ◌||◌, ◌&&◌, ◌⊎◌, ℕ, zero, suc, Bool, true, false, not, cond, List, [], ◌∷◌, None, drop, length, take, refl, sym, ◌∙◌, ap, arith, ⊎_elim}
-use Rattle.std.specs.Prelude.{codes, is_some, nat_eq, slice_index_or}
+use Rattle.std.proofs.Common.{◌≡◌, ◌≤◌, ◌<◌, ◌+◌, ◌-◌, ◌==◌, ◌||◌, ◌&&◌, ◌⊎◌, ℕ, zero, suc, Bool, true, false, not, cond, List, [], ◌∷◌, Some, None, drop, get_or, length, take, refl, sym, ◌∙◌, ap, arith, ⊎_elim}
+use Rattle.std.specs.Prelude.{codes, is_some, nat_eq, slice_get, slice_index_or}
+use Rattle.std.proofs.lemmas.Option.{get_or_from_slice_get}
 use Rattle.std.specs.Cmp.Lexicographic.{pointwise, same_text}
 use Rattle.std.proofs.lemmas.Bool.{true≢false, false≢true, and_parts, cases_lt, cases_Bool}
 use Rattle.std.proofs.lemmas.List.{take_more, length-take-le}
@@ -12,7 +13,10 @@ use Rattle.overlay_merge.specs.Roots.{is_merged_path, is_overlay, is_override}
 use Rattle.overlay_merge.specs.Layers.{has_node, layers_of, overlay_layers, override_layers}
 use Rattle.overlay_merge.specs.Hiding.{merged_from, uncut_of}
 use Rattle.overlay_merge.specs.Merged.{has_resource}
-use Rattle.overlay_merge.proofs.DescentLemmas.{merged_at_node, parent_there}
+use Rattle.overlay_merge.specs.Walk.{has_kid_node}
+use Rattle.overlay_merge.specs.declared.layers.Layer.{Layer}
+use Rattle.overlay_merge.proofs.DescentLemmas.{kid_of_some, merged_at_node, parent_there}
+use Rattle.overlay_merge.proofs.KidLemmas.{any_step}
 use Rattle.overlay_merge.proofs.LayerLemmas.{no_rest}
 use Rattle.overlay_merge.proofs.MergedLemmas.{has_merged, has_unmerged}
 
@@ -169,3 +173,27 @@ pub reach_at : (tree : Content) (path : List (List ℕ)) (n : ℕ) → IsTree (n
 reach_at tree path n good is deep reach other there under =
     ⊎_elim (λ (all : length path ≤ n). let one = reach_one path other under in omega (arith, all, one))
     (λ (none : NoLayerAt tree path (n + 1)). reach_merged tree path (n + 1) good is (omega (arith, deep)) none other there under) reach
+
+-- ---- a kid of no layer
+
+-- below a path of which no layer has such a kid nothing is known
+pub unknown_kid : (tree : Content) (path deepest : List (List ℕ)) (name : List ℕ) → IsTree (node_at tree) → is_merged_path path ≡ true → 2 < length deepest
+    → length path ≡ length deepest + 1 → is_under path deepest ≡ true → Some name ≡ slice_get path (length path - 1)
+    → has_kid_node tree name (layers_of tree deepest) ≡ false → has_resource tree path ≡ false
+unknown_kid tree path deepest name good is deep size under last none =
+    let prefix = prefix_of path deepest under in
+    let parent : parent_of path ≡ deepest = let e : length path - 1 ≡ length deepest = omega (arith, size) in ap (λ n. take n path) e ∙ prefix.same in
+    let named : name_of path ≡ name = get_or_from_slice_get path (length path - 1) name [] (sym last) in
+    let whole : path ≡ kid deepest name = sym (kid_of_parent path (omega (arith, size))) ∙ ap (λ p. kid p (name_of path)) parent ∙ ap (kid deepest) named in
+    ⊎_elim (λ (there : has_resource tree path ≡ true).
+    let some = kid_of_some tree deepest name good deep (ap (λ p. has_node tree (layers_of tree p)) (sym whole) ∙ merged_at_node tree path is there) in
+    absurd (true≢false (sym some ∙ none)))
+    (λ e. e) (cases_Bool (has_resource tree path))
+
+-- a kid of the first layers or of those after them
+pub kid_step : (tree : Content) (name : List ℕ) (layers : List Layer) (i : ℕ) (layer : Layer) (here : Bool) → i < length layers → layer ≡ get_or layers i layer
+    → here ≡ is_some (node_at tree (kid layer.path name))
+    → has_kid_node tree name (drop i layers) ≡ (here || has_kid_node tree name (drop (i + 1) layers))
+kid_step tree name layers i layer here within is here_is =
+    any_step (λ (l : Layer). is_some (node_at tree (kid l.path name))) layers i layer within
+    ∙ ap (λ t. t || has_kid_node tree name (drop (i + 1) layers)) (ap (λ (l : Layer). is_some (node_at tree (kid l.path name))) (sym is) ∙ sym here_is)

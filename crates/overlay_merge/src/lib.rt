@@ -1,6 +1,7 @@
 //! Merged resources: what is seen at a path when overlays and overrides are merged (Apache Sling, "Resource Merger").
 #![tactic(auto)]
 
+mod along;
 mod hiding;
 mod kids;
 mod laws;
@@ -16,6 +17,7 @@ mod tests;
 mod uncut;
 mod view;
 
+pub use along::AlongView;
 pub use laws::{
     a_cut_layer_is_left_out, a_layer_is_cut_by_a_node, each_kid_is_there,
     elsewhere_the_node_is_seen, the_only_layer_is_shown, what_is_seen_is_of_a_layer,

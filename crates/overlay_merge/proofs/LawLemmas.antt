@@ -1,6 +1,6 @@
 -- What holds of all that is merged.
-use Rattle.std.proofs.Common.{◌≡◌, ◌++◌, ◌&&◌, ℕ, Bool, true, false, cond, List, [], ◌∷◌, Option, Some, None, get_or, length, ◌<◌, refl, sym, ◌∙◌, ap}
-use Rattle.std.specs.Prelude.{filter, fold, insert, nat_eq, option_map, position, remove, unwrap_or}
+use Rattle.std.proofs.Common.{◌≡◌, ◌++◌, ◌&&◌, ℕ, true, false, cond, List, [], ◌∷◌, Option, Some, None, get_or, length, refl, sym, ◌∙◌, ap}
+use Rattle.std.specs.Prelude.{fold, insert, nat_eq, option_map, position, remove, unwrap_or}
 use Rattle.std.specs.List.{list_any}
 use Rattle.std.specs.List.Sorted.{IsPermutation}
 use Rattle.std.specs.Cmp.Lexicographic.{pointwise, same_text}

@@ -1,8 +1,7 @@
 -- The layers of overlays and overrides, step by step.
-use Rattle.std.proofs.Common.{◌≡◌, ◌+◌, ◌-◌, ◌<◌, ◌≤◌, ◌++◌, ℕ, zero, suc, Bool, true, false, cond, List, [], ◌∷◌, Option, Some, None, drop, take, length, length-append, append-nil, append_assoc, refl, sym, ◌∙◌, ap, subst, arith, ⊎_elim}
+use Rattle.std.proofs.Common.{◌≡◌, ◌+◌, ◌-◌, ◌<◌, ◌≤◌, ◌++◌, ℕ, zero, suc, true, false, cond, List, [], ◌∷◌, Option, Some, None, drop, take, length, length-append, append-nil, append_assoc, refl, sym, ◌∙◌, ap, subst, arith}
 use Rattle.std.specs.Prelude.{codes, option_and_then, option_map}
 use Rattle.std.specs.Option.{option_or}
-use Rattle.std.proofs.lemmas.Bool.{cases_lt}
 use Rattle.sp_base.specs.Properties.{text_in}
 use Rattle.resource_tree.specs.declared.nodes.Node.{Node}
 use Rattle.resource_tree.specs.Content.{Content, IsTree, node_at}
@@ -10,7 +9,7 @@ use Rattle.type_chain.specs.Chain.{own_super, super_at}
 use Rattle.type_chain.specs.Types.{place_of}
 use Rattle.url_split.specs.Split.{at_greatest}
 use Rattle.overlay_merge.specs.declared.layers.Layer.{Layer}
-use Rattle.overlay_merge.specs.Layers.{base_at, base_of, descent, has_layer, layer_below, layer_by, make_layer, path_at, overlay_layer, overlay_layers, override_layer, override_layers}
+use Rattle.overlay_merge.specs.Layers.{base_at, base_of, descent, has_layer, layer_below, layer_by, make_layer, path_at, overlay_layer, overlay_layers, override_layer}
 use Rattle.overlay_merge.proofs.PathLemmas.{none_from}
 
 -- ---- overlays
@@ -56,6 +55,10 @@ base_ends tree path n good none le =
 
 -- ---- the layers of an override
 
+pub descent-zero : (tree : Content) (above : List Layer) (next : Option Layer) → descent tree zero above next ≡ []
+unfolding descent
+descent-zero tree above next = refl
+
 pub descent-none : (tree : Content) (n : ℕ) (above : List Layer) → descent tree n above None ≡ []
 unfolding descent
 descent-none tree zero above = refl
@@ -66,7 +69,7 @@ unfolding descent
 descent-there tree zero above layer there = refl
 descent-there tree (suc n) above layer there = ap (λ t. cond t [] (layer ∷ descent tree n (above ++ layer ∷ []) (layer_below tree layer.path))) there
 
-descent-new : (tree : Content) (n : ℕ) (above : List Layer) (layer : Layer) → has_layer above layer.path ≡ false
+pub descent-new : (tree : Content) (n : ℕ) (above : List Layer) (layer : Layer) → has_layer above layer.path ≡ false
     → descent tree (suc n) above (Some layer) ≡ layer ∷ descent tree n (above ++ layer ∷ []) (layer_below tree layer.path)
 unfolding descent
 descent-new tree n above layer new = ap (λ t. cond t [] (layer ∷ descent tree n (above ++ layer ∷ []) (layer_below tree layer.path))) new

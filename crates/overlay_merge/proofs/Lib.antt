@@ -1,8 +1,12 @@
 pub mod PathLemmas
+pub mod RebaseLemmas
 pub mod LayerLemmas
 pub mod WalkLemmas
 pub mod PropertyLemmas
 pub mod KidLemmas
 pub mod MergedLemmas
+pub mod DescentLemmas
 pub mod ReachLemmas
 pub mod LawLemmas
+pub mod CutLemmas
+pub mod SeenLemmas

@@ -4,7 +4,7 @@ use Rattle.std.specs.Prelude.{is_some, option_map}
 use Rattle.std.proofs.lemmas.Bool.{true≢false}
 use Rattle.std.proofs.lemmas.Bool.Decides.{nat_tests}
 use Rattle.resource_tree.specs.Content.{Content, node_at}
-use Rattle.resource_tree.specs.Seen.{Resource, res_at, res_of}
+use Rattle.resource_tree.specs.Seen.{Resource, res_of}
 use Rattle.resource_tree.specs.declared.nodes.Node.{Node}
 use Rattle.overlay_merge.specs.Roots.{is_merged_path, is_parent_of_roots}
 use Rattle.overlay_merge.specs.Hiding.{merged_from}

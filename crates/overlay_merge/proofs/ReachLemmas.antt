@@ -1,6 +1,7 @@
 -- How deep what is seen reaches along a path: a node's parent is there, so none is below the first ancestor that is missing.
-use Rattle.std.proofs.Common.{◌≡◌, ◌≤◌, ◌<◌, ◌+◌, ◌-◌, ◌==◌, ◌||◌, ◌&&◌, ℕ, zero, suc, Bool, true, false, not, cond, List, [], ◌∷◌, Option, Some, None, drop, length, take, refl, sym, ◌∙◌, ap, arith, ⊎_elim}
-use Rattle.std.specs.Prelude.{codes, is_some, nat_eq}
+use Rattle.std.proofs.Common.{◌≡◌, ◌≤◌, ◌<◌, ◌+◌, ◌-◌, ◌==◌, ◌||◌, ◌&&◌, ◌⊎◌, ℕ, zero, suc, Bool, true, false, not, cond, List, [], ◌∷◌, Some, None, drop, get_or, length, take, refl, sym, ◌∙◌, ap, arith, ⊎_elim}
+use Rattle.std.specs.Prelude.{codes, is_some, nat_eq, slice_get, slice_index_or}
+use Rattle.std.proofs.lemmas.Option.{get_or_from_slice_get}
 use Rattle.std.specs.Cmp.Lexicographic.{pointwise, same_text}
 use Rattle.std.proofs.lemmas.Bool.{true≢false, false≢true, and_parts, cases_lt, cases_Bool}
 use Rattle.std.proofs.lemmas.List.{take_more, length-take-le}
@@ -9,9 +10,13 @@ use Rattle.sp_base.specs.Paths.{is_path, is_under, parent_of}
 use Rattle.resource_tree.specs.Content.{Content, IsTree, kid, name_of, node_at}
 use Rattle.resource_tree.specs.Seen.{Resource}
 use Rattle.overlay_merge.specs.Roots.{is_merged_path, is_overlay, is_override}
-use Rattle.overlay_merge.specs.Layers.{layers_of, overlay_layers, override_layers}
+use Rattle.overlay_merge.specs.Layers.{has_node, layers_of, overlay_layers, override_layers}
 use Rattle.overlay_merge.specs.Hiding.{merged_from, uncut_of}
 use Rattle.overlay_merge.specs.Merged.{has_resource}
+use Rattle.overlay_merge.specs.Walk.{has_kid_node}
+use Rattle.overlay_merge.specs.declared.layers.Layer.{Layer}
+use Rattle.overlay_merge.proofs.DescentLemmas.{kid_of_some, merged_at_node, parent_there}
+use Rattle.overlay_merge.proofs.KidLemmas.{any_step}
 use Rattle.overlay_merge.proofs.LayerLemmas.{no_rest}
 use Rattle.overlay_merge.proofs.MergedLemmas.{has_merged, has_unmerged}
 
@@ -118,3 +123,77 @@ reach_from tree path n good plain none other there under =
     ⊎_elim (λ (deep : 1 < length q). absurd (true≢false (sym merged ∙ sym (ap is_merged_path prefix.same) ∙ merged_take path (length q) deep ∙ plain)))
     (λ (small : length q ≤ 1). absurd (true≢false (sym merged ∙ short_plain q small))) (cases_lt 1 (length q)))
     (λ (is : is_merged_path other ≡ false). node_reach tree path n good none other (sym (has_unmerged tree other is) ∙ there) under) (cases_Bool (is_merged_path other))
+
+-- ---- along a merged path
+
+-- no layer of the first n segments is a node
+abbrev pub NoLayerAt : Content → List (List ℕ) → ℕ → Type 0
+NoLayerAt tree path n = has_node tree (layers_of tree (take n path)) ≡ false
+
+none_longer : (tree : Content) (path : List (List ℕ)) (n : ℕ) → IsTree (node_at tree) → 2 < n → n < length path → NoLayerAt tree path n → NoLayerAt tree path (n + 1)
+none_longer tree path n good deep within none =
+    let longer : take (n + 1) path ≡ kid (take n path) (slice_index_or path n []) = take_more path n [] within in
+    let size : length (take n path) ≡ n = length-take-le n path (omega (arith, within)) in
+    ⊎_elim (λ (some : has_node tree (layers_of tree (take (n + 1) path)) ≡ true).
+    absurd (true≢false (sym (parent_there tree (take n path) (slice_index_or path n []) good (omega (arith, deep, size)) (ap (λ p. has_node tree (layers_of tree p)) (sym longer) ∙ some)) ∙ none)))
+    (λ e. e) (cases_Bool (has_node tree (layers_of tree (take (n + 1) path))))
+
+none_after : (tree : Content) (path : List (List ℕ)) (n d : ℕ) → IsTree (node_at tree) → 2 < n → n + d ≤ length path → NoLayerAt tree path n → NoLayerAt tree path (n + d)
+none_after tree path n zero good deep within none = let e : n + zero ≡ n = omega arith in ap (λ k. has_node tree (layers_of tree (take k path))) e ∙ none
+none_after tree path n (suc d) good deep within none =
+    let e : n + suc d ≡ (n + d) + 1 = omega arith in
+    ap (λ k. has_node tree (layers_of tree (take k path))) e
+    ∙ none_longer tree path (n + d) good (omega (arith, deep)) (omega (arith, within)) (none_after tree path n d good deep (omega (arith, within)) none)
+
+-- what is known along a merged path is at a layer that is a node
+pub reach_merged : (tree : Content) (path : List (List ℕ)) (n : ℕ) → IsTree (node_at tree) → is_merged_path path ≡ true → 2 < n → NoLayerAt tree path n
+    → (other : List (List ℕ)) → has_resource tree other ≡ true → is_under path (parent_of other) ≡ true → length other ≤ n
+reach_merged tree path n good is deep none other there under =
+    ⊎_elim (λ (large : n < length other).
+    let q = parent_of other in
+    let prefix = prefix_of path q under in
+    let size : length q ≡ length other - 1 = length-take-le (length other - 1) other (omega arith) in
+    let some : 0 < length other = omega (arith, large) in
+    let whole : kid q (name_of other) ≡ other = kid_of_parent other some in
+    let above : is_merged_path q ≡ true = ap is_merged_path (sym prefix.same) ∙ merged_take path (length q) (omega (arith, large, size, deep)) ∙ is in
+    let merged : is_merged_path other ≡ true = sym (merged_take other (length other - 1) (omega (arith, large, deep))) ∙ above in
+    let here : has_node tree (layers_of tree q) ≡ true =
+    parent_there tree q (name_of other) good (omega (arith, large, size, deep)) (ap (λ p. has_node tree (layers_of tree p)) whole ∙ merged_at_node tree other merged there) in
+    let e : n + (length q - n) ≡ length q = omega (arith, large, size) in
+    let missing : NoLayerAt tree path (n + (length q - n)) = none_after tree path n (length q - n) good deep (omega (arith, e, prefix.within)) none in
+    absurd (true≢false (sym here ∙ ap (λ p. has_node tree (layers_of tree p)) (sym prefix.same) ∙ sym (ap (λ k. has_node tree (layers_of tree (take k path))) e) ∙ missing)))
+    (λ small. small) (cases_lt n (length other))
+
+-- as far as nodes are at layers: the whole path, or where one more segment leads to no layer with a node
+abbrev pub IsReach : Content → List (List ℕ) → ℕ → Type 0
+IsReach tree path n = (length path ≤ n) ⊎ NoLayerAt tree path (n + 1)
+
+pub reach_at : (tree : Content) (path : List (List ℕ)) (n : ℕ) → IsTree (node_at tree) → is_merged_path path ≡ true → 2 ≤ n → IsReach tree path n
+    → (other : List (List ℕ)) → has_resource tree other ≡ true → is_under path (parent_of other) ≡ true → length other ≤ n + 1
+reach_at tree path n good is deep reach other there under =
+    ⊎_elim (λ (all : length path ≤ n). let one = reach_one path other under in omega (arith, all, one))
+    (λ (none : NoLayerAt tree path (n + 1)). reach_merged tree path (n + 1) good is (omega (arith, deep)) none other there under) reach
+
+-- ---- a kid of no layer
+
+-- below a path of which no layer has such a kid nothing is known
+pub unknown_kid : (tree : Content) (path deepest : List (List ℕ)) (name : List ℕ) → IsTree (node_at tree) → is_merged_path path ≡ true → 2 < length deepest
+    → length path ≡ length deepest + 1 → is_under path deepest ≡ true → Some name ≡ slice_get path (length path - 1)
+    → has_kid_node tree name (layers_of tree deepest) ≡ false → has_resource tree path ≡ false
+unknown_kid tree path deepest name good is deep size under last none =
+    let prefix = prefix_of path deepest under in
+    let parent : parent_of path ≡ deepest = let e : length path - 1 ≡ length deepest = omega (arith, size) in ap (λ n. take n path) e ∙ prefix.same in
+    let named : name_of path ≡ name = get_or_from_slice_get path (length path - 1) name [] (sym last) in
+    let whole : path ≡ kid deepest name = sym (kid_of_parent path (omega (arith, size))) ∙ ap (λ p. kid p (name_of path)) parent ∙ ap (kid deepest) named in
+    ⊎_elim (λ (there : has_resource tree path ≡ true).
+    let some = kid_of_some tree deepest name good deep (ap (λ p. has_node tree (layers_of tree p)) (sym whole) ∙ merged_at_node tree path is there) in
+    absurd (true≢false (sym some ∙ none)))
+    (λ e. e) (cases_Bool (has_resource tree path))
+
+-- a kid of the first layers or of those after them
+pub kid_step : (tree : Content) (name : List ℕ) (layers : List Layer) (i : ℕ) (layer : Layer) (here : Bool) → i < length layers → layer ≡ get_or layers i layer
+    → here ≡ is_some (node_at tree (kid layer.path name))
+    → has_kid_node tree name (drop i layers) ≡ (here || has_kid_node tree name (drop (i + 1) layers))
+kid_step tree name layers i layer here within is here_is =
+    any_step (λ (l : Layer). is_some (node_at tree (kid l.path name))) layers i layer within
+    ∙ ap (λ t. t || has_kid_node tree name (drop (i + 1) layers)) (ap (λ (l : Layer). is_some (node_at tree (kid l.path name))) (sym is) ∙ sym here_is)

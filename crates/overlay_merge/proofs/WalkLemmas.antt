@@ -1,10 +1,9 @@
 -- What a walk down a path notes decides which layers are cut.
-use Rattle.std.proofs.Common.{◌≡◌, ◌+◌, ◌-◌, ◌<◌, ◌≤◌, ◌++◌, ◌&&◌, ◌||◌, ℕ, zero, suc, Bool, true, false, cond, List, [], ◌∷◌, Option, Some, None, take, drop, length, map, min, nat_le, nat_lt, refl, sym, ◌∙◌, ap, arith, ⊎_elim, add-zero, add-one}
-use Rattle.std.specs.Prelude.{slice_index_or, All}
+use Rattle.std.proofs.Common.{◌≡◌, ◌+◌, ◌-◌, ◌≤◌, ◌++◌, ◌&&◌, ◌||◌, ℕ, zero, suc, Bool, true, false, cond, List, [], ◌∷◌, Some, None, take, length, map, min, nat_le, nat_lt, refl, sym, ◌∙◌, ap, arith}
+use Rattle.std.specs.Prelude.{slice_index_or}
 use Rattle.std.specs.Option.{option_map_or}
 use Rattle.std.specs.List.{list_any}
 use Rattle.std.proofs.lemmas.Bool.Decides.{nat_tests}
-use Rattle.std.proofs.lemmas.List.Elements.{All-append, All-nil}
 use Rattle.resource_tree.specs.Content.{Content, IsTree, node_at}
 use Rattle.resource_tree.specs.Seen.{Resource, res_at}
 use Rattle.resource_tree.specs.declared.nodes.Node.{Node}
@@ -14,7 +13,7 @@ use Rattle.overlay_merge.specs.declared.layers.Layer.{Layer}
 use Rattle.overlay_merge.specs.declared.hiding.HidingDepths.{HidingDepths}
 use Rattle.overlay_merge.specs.declared.uncut.ScreenedLayer.{ScreenedLayer}
 use Rattle.overlay_merge.specs.Hiding.{hides_kid, hides_kid_at, hides_kid_within, hides_resource, hides_resource_at, hides_resource_within, in_common, is_cut, is_hidden_by, is_within, list_of, merged_from, some_below, uncut, uncut_of}
-use Rattle.overlay_merge.specs.Walk.{AreNodesOf, hiding_depths, is_screened, kid_depth, last_below, reaches, resource_depth, screened, screens, some_screens, unscreened, unscreened_of}
+use Rattle.overlay_merge.specs.Walk.{hiding_depths, is_screened, kid_depth, last_below, reaches, resource_depth, screened, screens, some_screens, unscreened_of}
 use Rattle.overlay_merge.proofs.PathLemmas.{none_from}
 
 -- ---- the last number that has a property

@@ -1,11 +1,10 @@
 -- The kids of a merged resource, and their order (Apache Sling, "Resource Merger": sling:orderBefore).
-use Rattle.std.specs.Prelude.{◌==◌, ℕ, Bool, not, nat_eq, if◌then◌else◌, List, [], ◌∷◌, ◌++◌, Option, Some, None, option_and_then, codes, filter, fold, insert, length, position, remove, is_some, unwrap_or}
+use Rattle.std.specs.Prelude.{◌==◌, ℕ, Bool, not, nat_eq, if◌then◌else◌, List, [], ◌++◌, Option, Some, None, option_and_then, codes, filter, fold, insert, length, position, remove, unwrap_or}
 use Rattle.std.specs.List.{list_any}
 use Rattle.std.specs.Cmp.Lexicographic.{pointwise}
 use Rattle.sp_base.specs.Properties.{text_in}
 use Rattle.resource_tree.specs.Content.{Content, kid, node_at}
 use Rattle.resource_tree.specs.Seen.{Resource}
-use Rattle.overlay_merge.specs.Roots.{is_merged_path}
 use Rattle.overlay_merge.specs.Hiding.{merged_from}
 
 abbrev pub has_text : List (List ℕ) → List ℕ → Bool

@@ -1,8 +1,8 @@
 -- The layers of a merged path: the paths that it stands for, the lowest first (Apache Sling, "Resource Merger": overlay and override).
-use Rattle.std.specs.Prelude.{◌-◌, ℕ, zero, suc, Bool, if◌then◌else◌, List, [], ◌∷◌, ◌++◌, Option, Some, None, option_and_then, option_map, codes, drop, take, length, reverse}
+use Rattle.std.specs.Prelude.{◌-◌, ℕ, zero, suc, Bool, if◌then◌else◌, List, [], ◌∷◌, ◌++◌, Option, Some, None, is_some, option_and_then, option_map, codes, drop, take, length, reverse}
 use Rattle.std.specs.List.{list_any}
 use Rattle.sp_base.specs.Paths.{path_or_none}
-use Rattle.resource_tree.specs.Content.{Content, same_path}
+use Rattle.resource_tree.specs.Content.{Content, node_at, same_path}
 use Rattle.type_chain.specs.Types.{place_of}
 use Rattle.type_chain.specs.Chain.{super_at}
 use Rattle.url_split.specs.Split.{at_greatest}
@@ -68,3 +68,7 @@ override_layers tree (seg ∷ segs) = reverse (descent tree most_layers [] (Some
 unfoldable pub layers_of : Content → List (List ℕ) → List Layer
 layers_of tree path = if is_overlay path then overlay_layers (drop 2 path)
     else (if is_override path then override_layers tree (drop 2 path) else [])
+
+-- whether a node is at one of the layers
+abbrev pub has_node : Content → List Layer → Bool
+has_node tree layers = list_any (λ layer. is_some (node_at tree layer.path)) layers

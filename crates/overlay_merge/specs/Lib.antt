@@ -1,6 +1,7 @@
 pub mod Roots
 pub mod Layers
 pub mod Hiding
+pub mod Cut
 pub mod Properties
 pub mod Kids
 pub mod Merged

@@ -1,6 +1,5 @@
 -- What is seen at a path, with resources merged (Apache Sling, "Resource Merger").
 use Rattle.std.specs.Prelude.{ℕ, Bool, not, if◌then◌else◌, is_some, List, [], ◌∷◌, Option, Some, None, filter, option_map}
-use Rattle.std.specs.Option.{option_map_or}
 use Rattle.resource_tree.specs.Content.{Content}
 use Rattle.resource_tree.specs.Seen.{Resource, res_at}
 use Rattle.overlay_merge.specs.Roots.{is_merged_path, is_name_of_root, is_parent_of_roots}

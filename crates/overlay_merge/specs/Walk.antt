@@ -1,9 +1,9 @@
 -- What a walk down a path notes of the nodes on it that hide something. What is merged needs none of it: only private functions and proofs
 -- cite this.
-use Rattle.std.specs.Prelude.{◌+◌, ◌-◌, ◌||◌, ◌≡◌, ℕ, zero, suc, Bool, true, false, nat_lt, min, if◌then◌else◌, List, [], ◌∷◌, ◌++◌, Some, length, map, slice_index_or, take}
-use Rattle.std.specs.List.{list_any, list_all}
+use Rattle.std.specs.Prelude.{◌+◌, ◌-◌, ◌||◌, ◌≡◌, ℕ, zero, suc, Bool, false, nat_lt, min, if◌then◌else◌, List, [], ◌∷◌, ◌++◌, Some, is_some, length, slice_index_or, take}
+use Rattle.std.specs.List.{list_any}
 use Rattle.std.specs.Prelude.{All}
-use Rattle.resource_tree.specs.Content.{Content}
+use Rattle.resource_tree.specs.Content.{Content, kid, node_at}
 use Rattle.resource_tree.specs.Seen.{Resource, res_at}
 use Rattle.overlay_merge.specs.declared.layers.Layer.{Layer}
 use Rattle.overlay_merge.specs.declared.hiding.HidingDepths.{HidingDepths}
@@ -51,3 +51,7 @@ unscreened_of tree (layer ∷ above) = unscreened tree layer above ++ unscreened
 -- each is a node of the tree as it is
 abbrev pub AreNodesOf : Content → List Resource → Type 0
 AreNodesOf tree layers = All (λ (res : Resource). res_at tree res.path ≡ Some res) layers
+
+-- whether a node is a kid of one of them
+abbrev pub has_kid_node : Content → List ℕ → List Layer → Bool
+has_kid_node tree name layers = list_any (λ layer. is_some (node_at tree (kid layer.path name))) layers

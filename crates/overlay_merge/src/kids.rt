@@ -11,8 +11,8 @@ use resource_tree::{Res, Tree};
 use sp_base::{Mem, Path, TextBuf, TextList};
 use std::alloc::Global;
 
-// Whether a node is at a kid's path.
-fn has_node(alloc: Global, tree: &Tree, path: &Path, name: &str) -> Mem<bool>
+/// Whether a node is at a kid's path.
+pub(crate) fn has_node(alloc: Global, tree: &Tree, path: &Path, name: &str) -> Mem<bool>
     ensures { IfOk result (λ b. b ≡ is_some (node_at tree.now (kid path.now name.now))) }
 {
     // `len` says that each node's path is one.

@@ -1,18 +1,46 @@
 //! What is merged in the subject's words: laws of the definitions, on functions that do nothing.
-ghost use Rattle.std.specs.Prelude.{◌≡◌, ◌∷◌, ℕ, List, true, false};
-ghost use Rattle.std.specs.List.{list_any};
+ghost use Rattle.std.specs.Prelude.{◌≡◌, ◌∷◌, ◌++◌, [], ℕ, All, List, None, Some, true, false};
+ghost use Rattle.std.specs.List.{Contains, list_any};
+ghost use Rattle.std.specs.FinMap.Entries.{is_sorted};
+ghost use Rattle.sp_base.specs.Names.{by_name};
+ghost use Rattle.sp_base.specs.Paths.{is_path};
+ghost use Rattle.sp_base.specs.declared.value.Value.{Value};
 ghost use Rattle.std.specs.List.Sorted.{IsPermutation};
 ghost use Rattle.resource_tree.specs.Content.{Content, kid};
 ghost use Rattle.resource_tree.specs.Seen.{Resource, res_at};
 ghost use Rattle.overlay_merge.specs.declared.layers.Layer.{Layer};
 ghost use Rattle.overlay_merge.specs.Roots.{is_merged_path, is_parent_of_roots};
-ghost use Rattle.overlay_merge.specs.Hiding.{is_cut, uncut_of};
-ghost use Rattle.overlay_merge.specs.Kids.{all_kids, has_text, is_merged_there, kids_of, kids_there};
+ghost use Rattle.overlay_merge.specs.Layers.{has_node, layers_of};
+ghost use Rattle.overlay_merge.specs.Hiding.{is_cut, merged_from, uncut_of};
+ghost use Rattle.overlay_merge.specs.Cut.{IsCut, IsOfLayer};
+ghost use Rattle.overlay_merge.specs.Properties.{without_steering};
+ghost use Rattle.overlay_merge.specs.Kids.{all_kids, has_text, is_merged_there, kids_of, kids_there, wish_at};
 ghost use Rattle.overlay_merge.specs.Merged.{merged};
 
 /// Elsewhere than under the two roots the node is seen as it is, but that their parent doesn't list them.
 pub fn elsewhere_the_node_is_seen()
     ensures { (tree : Content) (path : List (List ℕ)) → is_merged_path path ≡ false → is_parent_of_roots path ≡ false → merged tree path ≡ res_at tree path }
+{}
+
+/// Where one layer alone is a node and it isn't cut, the resource is that node without the four names that steer the merging; its kids are
+/// those at which a merged resource is there, and stand as they do there if none wishes to stand elsewhere.
+pub fn the_only_layer_is_shown()
+    ensures node { (tree : Content) (path : List (List ℕ)) (lower upper : List Layer) (layer : Layer) (res : Resource) → is_path path ≡ true → is_merged_path path ≡ true → layers_of tree path ≡ lower ++ layer ∷ upper → has_node tree lower ≡ false → has_node tree upper ≡ false → is_cut tree layer upper ≡ false → res_at tree layer.path ≡ Some res → is_sorted by_name res.props ≡ true → merged tree path ≡ Some (record { path = path; props = without_steering res.props; kids = kids_of tree path (res ∷ []) }) }
+    ensures kids { (tree : Content) (path : List (List ℕ)) (res : Resource) → IsPermutation (kids_there tree path res.kids) (kids_of tree path (res ∷ [])) }
+    ensures order { (tree : Content) (path : List (List ℕ)) (res : Resource) → All (λ (name : List ℕ). is_merged_there tree (kid path name) ≡ true) res.kids → All (λ (name : List ℕ). wish_at tree (kid res.path name) ≡ None) res.kids → kids_of tree path (res ∷ []) ≡ res.kids }
+{}
+
+/// Each property and each kid that is seen is one of a layer that isn't cut: a layer that is hidden shows in none.
+pub fn what_is_seen_is_of_a_layer()
+    ensures property { (tree : Content) (path : List (List ℕ)) (res : Resource) → is_merged_path path ≡ true → merged tree path ≡ Some res → All (λ (property : List ℕ × Value). (layer : Resource) × IsOfLayer tree path layer × Contains layer.props property) res.props }
+    ensures kid { (tree : Content) (path : List (List ℕ)) (res : Resource) (name : List ℕ) → is_merged_path path ≡ true → merged tree path ≡ Some res → has_text res.kids name ≡ true → (layer : Resource) × IsOfLayer tree path layer × (has_text layer.kids name ≡ true) }
+    ensures merged { (tree : Content) (path : List (List ℕ)) → All (IsOfLayer tree path) (merged_from tree path) }
+{}
+
+/// A layer is cut exactly where some node on its path, or on that of a layer above, hides it.
+pub fn a_layer_is_cut_by_a_node()
+    ensures cut { (tree : Content) (layer : Layer) (above : List Layer) → is_cut tree layer above ≡ true → IsCut tree layer above }
+    ensures only { (tree : Content) (layer : Layer) (above : List Layer) → IsCut tree layer above → is_cut tree layer above ≡ true }
 {}
 
 /// A layer that is cut adds nothing to what is merged, neither properties nor kids.

@@ -2,8 +2,9 @@
 ghost use Rattle.std.specs.Prelude.{◌≡◌, ◌∷◌, ◌++◌, ◌≤◌, [], Some, None, IfOk, IfSome, IsTrue, true, codes, drop, length, option_map};
 ghost use Rattle.std.specs.Option.{option_copied, option_or};
 ghost use Rattle.sp_base.specs.Paths.{is_path, path_or_none, seg_ok};
-ghost use Rattle.overlay_merge.specs.Layers.{base_at, base_of, descent, has_layer, layer_below, layer_by, layers_of, make_layer, most_layers, overlay_layer, overlay_layers, override_layer, override_layers, path_at};
+ghost use Rattle.overlay_merge.specs.Layers.{base_at, base_of, descent, has_layer, has_node, layer_below, layer_by, layers_of, make_layer, most_layers, overlay_layer, overlay_layers, override_layer, override_layers, path_at};
 
+use crate::rebase::path_at;
 use crate::roots::{is_overlay, is_override};
 use resource_tree::Tree;
 use sp_base::{Mem, NoMemory, Path, TextBuf};
@@ -14,7 +15,7 @@ use type_chain::place_of;
 const MOST_LAYERS: usize = 32;
 
 /// How many segments each of the two roots has.
-const ROOT_DEPTH: usize = 2;
+pub(crate) const ROOT_DEPTH: usize = 2;
 
 /// A path that a merged path stands for.
 #[derive(Drop)]
@@ -24,25 +25,6 @@ pub struct Layer {
     pub own: usize,
     /// How many last segments its path has in common with that of the next layer above.
     pub common: usize,
-}
-
-/// Other first segments in place of the first `n` of a path.
-pub(crate) fn path_at(alloc: Global, place: Path, path: &Path, n: usize) -> Mem<Option<Path>>
-    ensures { IfOk result (λ o. o ≡ path_at place path.now n) }
-{
-    // `depth` says that the place is a path.
-    let _ = place.depth();
-    let mut whole = place;
-    for k in n..path.depth() {
-        let Some(segment) = path.seg(k) else {
-            return Ok(None);
-        };
-        let Some(longer) = whole.child_or_none(alloc, segment)? else {
-            return Ok(None);
-        };
-        whole = longer;
-    }
-    Ok(Some(whole))
 }
 
 // The deeper of two nodes that name a super type.
@@ -183,4 +165,11 @@ pub(crate) fn layers_of(alloc: Global, tree: &Tree, path: &Path) -> Mem<Vec<Laye
         return override_layers(alloc, tree, path);
     }
     Ok(Vec::new(alloc))
+}
+
+/// Whether a node is at one of the layers.
+pub(crate) fn has_node(tree: &Tree, layers: &[Layer]) -> bool
+    ensures { result ≡ has_node tree.now layers.now }
+{
+    layers.iter().any(|layer| tree.node(&layer.path).is_some())
 }

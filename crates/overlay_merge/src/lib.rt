@@ -1,6 +1,7 @@
 //! Merged resources: what is seen at a path when overlays and overrides are merged (Apache Sling, "Resource Merger").
 #![tactic(auto)]
 
+mod along;
 mod hiding;
 mod kids;
 mod laws;
@@ -9,14 +10,18 @@ mod merging;
 mod order;
 mod properties;
 mod reach;
+mod rebase;
 mod roots;
 #[cfg(test)]
 mod tests;
 mod uncut;
 mod view;
 
+pub use along::AlongView;
 pub use laws::{
-    a_cut_layer_is_left_out, each_kid_is_there, elsewhere_the_node_is_seen, wishes_only_reorder,
+    a_cut_layer_is_left_out, a_layer_is_cut_by_a_node, each_kid_is_there,
+    elsewhere_the_node_is_seen, the_only_layer_is_shown, what_is_seen_is_of_a_layer,
+    wishes_only_reorder,
 };
 pub use layers::Layer;
 pub use merging::{has_resource, merged, merged_kids};

@@ -5,7 +5,7 @@ ghost use Rattle.overlay_merge.specs.Walk.{AreNodesOf, is_screened, reaches, scr
 
 use crate::Layer;
 use crate::hiding::{HidingDepths, hiding_depths};
-use crate::layers::layers_of;
+use crate::layers::{has_node, layers_of};
 use resource_tree::{Look, Res, Tree};
 use sp_base::{Mem, Path};
 use std::alloc::Global;
@@ -101,6 +101,9 @@ pub(crate) fn merged_from<'a>(alloc: Global, tree: &'a Tree, path: &Path) -> Mem
     // `depth` says that the path is one.
     let _ = path.depth();
     let layers = layers_of(alloc, tree, path)?;
+    if !has_node(tree, &layers) {
+        return Ok(Vec::new(alloc));
+    }
     let screened = screened_layers(alloc, tree, layers)?;
     let list = unscreened_of(alloc, tree, &screened)?;
     Ok(list)

@@ -1,5 +1,4 @@
 use Rattle.std.proofs.Common.{◌≡◌, ◌+◌, ◌<◌, ◌≤◌, None, Some, take, length, cond, arith, refl, sym, ◌∙◌, ap}
-use Rattle.std.specs.Option.{option_copied}
 use Rattle.std.proofs.Math.Seq.{take-length}
 use Rattle.resource_tree.specs.Content.{node_at}
 use Rattle.overlay_merge.specs.Walk.{kid_depth, last_below, resource_depth}

@@ -1,5 +1,4 @@
-use Rattle.std.proofs.Common.{◌≡◌, ◌+◌, ◌++◌, ◌∷◌, [], not, cond, take, length, arith, sym, ◌∙◌, ap, append_assoc}
-use Rattle.std.specs.Prelude.{filter}
+use Rattle.std.proofs.Common.{◌+◌, ◌++◌, ◌∷◌, [], cond, take, arith, ◌∙◌, ap}
 use Rattle.std.specs.List.{list_any}
 use Rattle.resource_tree.specs.Seen.{Resource}
 use Rattle.overlay_merge.specs.Kids.{has_text}

@@ -1,4 +1,4 @@
-use Rattle.std.proofs.Common.{◌≡◌, ◌||◌, ◌+◌, drop, sym, ◌∙◌, ap}
+use Rattle.std.proofs.Common.{◌||◌, ◌+◌, drop, sym, ◌∙◌, ap}
 use Rattle.std.specs.Prelude.{is_some}
 use Rattle.std.specs.List.{list_any}
 use Rattle.resource_tree.specs.Content.{kid, node_at}

@@ -1,9 +1,8 @@
-use Rattle.std.proofs.Common.{◌≡◌, ◌+◌, ◌≤◌, Some, None, suc, take, length, arith, sym, ◌∙◌, ap}
+use Rattle.std.proofs.Common.{◌≡◌, ◌≤◌, Some, None, suc, take, length, arith, sym, ◌∙◌, ap}
 use Rattle.std.specs.Prelude.{option_map}
 use Rattle.std.specs.Option.{option_copied, option_or}
 use Rattle.resource_tree.specs.Content.{node_at}
-use Rattle.type_chain.specs.Chain.{super_at}
-use Rattle.overlay_merge.specs.Layers.{base_at, base_of}
+use Rattle.overlay_merge.specs.Layers.{base_at}
 use Rattle.overlay_merge.proofs.LayerLemmas.{base_below, base_ends, base_is, base_more, super_is}
 use Rattle.overlay_merge.proofs.layers.base_of.Goals as goal
 

@@ -1,6 +1,6 @@
 use Rattle.std.proofs.Common.{◌≡◌, ◌<◌, ◌≤◌, [], Some, length, true, false, arith, sym, ◌∙◌, ap}
 use Rattle.overlay_merge.specs.Layers.{descent, has_layer, override_layer}
-use Rattle.overlay_merge.proofs.LayerLemmas.{descends_end, descends_first, descends_full, descends_on, descends_there}
+use Rattle.overlay_merge.proofs.LayerLemmas.{descends_end, descends_full, descends_on, descends_there}
 use Rattle.overlay_merge.proofs.layers.descent.Goals as goal
 use Rattle.overlay_merge.proofs.layers.descent.Goals.{then-len-ge-MOST_LAYERS-via-then-len-ge-MOST_LAYERS, then-len-ge-MOST_LAYERS-via-else-len-ge-MOST_LAYERS+then-has_layer}
 

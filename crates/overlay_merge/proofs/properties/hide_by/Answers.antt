@@ -1,4 +1,4 @@
-use Rattle.std.proofs.Common.{◌≡◌, sym, ◌∙◌, ap}
+use Rattle.std.proofs.Common.{sym, ◌∙◌}
 use Rattle.overlay_merge.proofs.PropertyLemmas.{hide_every, hide_one}
 use Rattle.overlay_merge.proofs.properties.hide_by.Goals as goal
 

@@ -1,4 +1,4 @@
-use Rattle.std.proofs.Common.{rules, ◌≡◌, ◌<◌, ◌≤◌, [], drop, length, arith, sym, ◌∙◌, ap}
+use Rattle.std.proofs.Common.{◌<◌, ◌≤◌, length, arith, sym, ◌∙◌, ap}
 use Rattle.std.specs.FinMap.Entries.{put}
 use Rattle.sp_base.specs.Names.{by_name}
 use Rattle.overlay_merge.specs.Properties.{put_all}

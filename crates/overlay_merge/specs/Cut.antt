@@ -1,0 +1,38 @@
+-- Which layers are cut, as a statement on single nodes, and which resources are merged (Apache Sling, "Resource Merger": sling:hideResource, sling:hideChildren).
+use Rattle.std.specs.Prelude.{◌≡◌, ◌⊎◌, ◌+◌, ◌-◌, ◌<◌, ◌≤◌, ◌++◌, ℕ, Any, true, false, List, ◌∷◌, Some, length, take}
+use Rattle.resource_tree.specs.Content.{Content, name_of}
+use Rattle.resource_tree.specs.Seen.{Resource, res_at}
+use Rattle.overlay_merge.specs.declared.layers.Layer.{Layer}
+use Rattle.overlay_merge.specs.Layers.{layers_of}
+use Rattle.overlay_merge.specs.Hiding.{hides_kid_at, hides_resource_at, in_common, is_cut}
+
+-- the path so many steps above another
+abbrev pub steps_above : ℕ → List (List ℕ) → List (List ℕ)
+steps_above steps path = take (length path - steps) path
+
+-- the node at a path, or one at most so many steps above it, hides its resource
+pub record HidesResource (tree : Content) (most : ℕ) (path : List (List ℕ)) : Type 0 where
+  pub steps : ℕ
+  pub near : steps ≤ most
+  pub hides : hides_resource_at tree (steps_above steps path) ≡ true
+
+-- a node above a path, at most so many steps, hides the kid through which the path goes on: the kid is one step nearer
+pub record HidesKid (tree : Content) (most : ℕ) (path : List (List ℕ)) : Type 0 where
+  pub steps : ℕ
+  pub near : steps < most
+  pub inside : steps < length path
+  pub hides : hides_kid_at tree (steps_above (steps + 1) path) (name_of (steps_above steps path)) ≡ true
+
+-- a layer is cut by a node of its own path that hides its resource, or by a node of the path of a layer above that hides its resource or a kid
+abbrev pub IsCut : Content → Layer → List Layer → Type 0
+IsCut tree layer above = HidesResource tree layer.own layer.path
+    ⊎ Any (λ (upper : ℕ × List (List ℕ)). HidesResource tree upper.0 upper.1 ⊎ HidesKid tree upper.0 upper.1) (in_common layer.common above)
+
+-- a resource is the node at a layer of a path that isn't cut
+pub record IsOfLayer (tree : Content) (path : List (List ℕ)) (res : Resource) : Type 0 where
+  pub lower : List Layer
+  pub layer : Layer
+  pub upper : List Layer
+  pub layers : layers_of tree path ≡ lower ++ layer ∷ upper
+  pub uncut : is_cut tree layer upper ≡ false
+  pub there : res_at tree layer.path ≡ Some res

@@ -1,0 +1,4 @@
+pub mod TargetLemmas
+pub mod PhraseLemmas
+pub mod LocationLemmas
+pub mod FieldLemmas

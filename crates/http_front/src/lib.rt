@@ -1,0 +1,9 @@
+//! HTTP/1.1 at the edge: the requests that the bytes of a connection spell, however they are cut into pieces, and the bytes of answers
+//! (RFC 9110, RFC 9112).
+#![tactic(auto)]
+
+mod answer;
+mod target;
+
+pub use answer::{answer_bytes, fixed_507};
+pub use target::{Target, read_target};

@@ -2,3 +2,5 @@ pub mod TargetLemmas
 pub mod PhraseLemmas
 pub mod LocationLemmas
 pub mod FieldLemmas
+pub mod HostLemmas
+pub mod HeadLemmas

@@ -1,2 +1,7 @@
 pub mod Targets
 pub mod Answers
+pub mod Lent
+pub mod Hosts
+pub mod Heads
+pub mod Faults
+pub mod Turns

@@ -4,3 +4,5 @@ pub mod LocationLemmas
 pub mod FieldLemmas
 pub mod HostLemmas
 pub mod HeadLemmas
+pub mod TurnLemmas
+pub mod FrontLemmas

@@ -5,3 +5,4 @@ pub mod Hosts
 pub mod Heads
 pub mod Faults
 pub mod Turns
+pub mod Fronts

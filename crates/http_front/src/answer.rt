@@ -1,0 +1,190 @@
+//! Writes answers as bytes (RFC 9112, sections 4 to 6).
+ghost use Rattle.std.specs.Prelude.{◌≡◌, ◌++◌, IfOk, OnOk, flat_map, string_bytes, if◌then◌else◌};
+ghost use Rattle.std.specs.Fmt.{decimal};
+ghost use Rattle.httparse.specs.Ascii.{crlf_bytes};
+ghost use Rattle.http_front.specs.Answers as spec;
+
+use http::StatusCode;
+use percent_encoding::{AsciiSet, CONTROLS, ascii_set, percent_encode};
+use sp_base::{Answer, ByteBuf, Mark, Mem, TextBuf};
+use std::alloc::Global;
+
+// The bytes of ASCII that are escaped: the controls, and the space. Those above ASCII are escaped whatever the set.
+const UNSEEN: AsciiSet = ascii_set!(CONTROLS.add(b' '));
+
+// Room for the head of most answers.
+const HEAD_ROOM: usize = 256;
+
+/// The bytes of an answer: without its body where only the head is asked for, and with `Connection: close` where the connection
+/// closes after it. A byte of the media type that isn't printable is written as a space, one of the location is escaped.
+#[tactic(auto, unfolding(crate::specs::Answers::answer_bytes))]
+pub fn answer_bytes(alloc: Global, head_only: bool, close: bool, answer: &Answer) -> Mem<ByteBuf>
+    ensures { IfOk result (λ bytes. bytes ≡ spec.answer_bytes head_only close answer.now) }
+{
+    let content = content_of(head_only, answer);
+    let room = content.len().saturating_add(HEAD_ROOM);
+    let mut out = Vec::with_capacity(alloc, room)?;
+    push_status_line(alloc, &mut out, answer.status)?;
+    push_fields(alloc, &mut out, head_only, close, answer)?;
+    push(&mut out, b"\r\n")?;
+    push(&mut out, content)?;
+    Ok(ByteBuf::from(out))
+}
+
+/// The answer that needs no memory: 507, after which the connection closes (RFC 4918, section 11.5).
+pub fn fixed_507() -> &'static [u8]
+    ensures { result.now ≡ spec.fixed_507 }
+{
+    b"HTTP/1.1 507 Insufficient Storage\r\nContent-Length: 0\r\nConnection: close\r\n\r\n"
+}
+
+fn content_of(head_only: bool, answer: &Answer) -> &[u8]
+    ensures { result.now ≡ spec.content_of head_only answer.now }
+{
+    if head_only || is_without_content(answer.status) {
+        b""
+    } else {
+        answer.body.bytes()
+    }
+}
+
+fn is_without_content(status: u16) -> bool
+    ensures { result ≡ spec.is_without_content status }
+{
+    status == 204 || status == 304
+}
+
+fn push(out: &mut Vec<u8>, bytes: &[u8]) -> Mem<()>
+    ensures { OnOk result (out.new.items ≡ out.old.items ++ bytes.now) }
+{
+    out.extend_from_slice(bytes)?;
+    Ok(())
+}
+
+fn push_number(alloc: Global, out: &mut Vec<u8>, number: u64) -> Mem<()>
+    ensures { OnOk result (out.new.items ≡ out.old.items ++ decimal number) }
+{
+    let text = number.to_string(alloc)?;
+    push(out, text.as_bytes())
+}
+
+#[tactic(auto, unfolding(crate::specs::Answers::status_line))]
+fn push_status_line(alloc: Global, out: &mut Vec<u8>, status: u16) -> Mem<()>
+    ensures { OnOk result (out.new.items ≡ out.old.items ++ spec.status_line status) }
+{
+    push(out, b"HTTP/1.1 ")?;
+    push_number(alloc, out, u64::from(status))?;
+    push(out, b" ")?;
+    push(out, phrase_of(status).as_bytes())?;
+    push(out, b"\r\n")
+}
+
+// The reason phrase of a status code, empty where it has none.
+#[tactic(auto, unfolding(crate::specs::Answers::phrase_of))]
+fn phrase_of(status: u16) -> &'static str
+    ensures { result.now ≡ spec.phrase_of status }
+{
+    if status == 413 {
+        return "Content Too Large";
+    }
+    match StatusCode::from_u16(status) {
+        Ok(code) => code.canonical_reason().unwrap_or(""),
+        Err(_) => "",
+    }
+}
+
+fn push_fields(
+    alloc: Global,
+    out: &mut Vec<u8>,
+    head_only: bool,
+    close: bool,
+    answer: &Answer,
+) -> Mem<()>
+    ensures { OnOk result (out.new.items ≡ out.old.items ++ flat_map spec.field_line (spec.fields_of head_only close answer.now)) }
+{
+    let kind = plain_value(alloc, answer.kind.text())?;
+    let location = location_of(alloc, answer.location.text())?;
+    let length = content_length(alloc, head_only, answer)?;
+    push_unless_empty(out, "Content-Type", kind.as_slice())?;
+    push_unless_empty(out, "Location", location.text().as_bytes())?;
+    push_unless_empty(out, "Allow", allowed_methods(answer.status).as_bytes())?;
+    push_unless_empty(out, "Cache-Control", directive_of(answer.mark).as_bytes())?;
+    push_unless_empty(out, "Content-Length", length.as_bytes())?;
+    push_unless_empty(out, "Connection", connection(close).as_bytes())?;
+    Ok(())
+}
+
+fn push_unless_empty(out: &mut Vec<u8>, name: &str, value: &[u8]) -> Mem<()>
+    ensures { OnOk result (out.new.items ≡ out.old.items ++ flat_map spec.field_line (spec.unless_empty name.now value.now)) }
+{
+    if value.is_empty() {
+        return Ok(());
+    }
+    push_field(out, name, value)
+}
+
+#[tactic(auto, unfolding(crate::specs::Answers::field_line))]
+fn push_field(out: &mut Vec<u8>, name: &str, value: &[u8]) -> Mem<()>
+    ensures { OnOk result (out.new.items ≡ out.old.items ++ spec.field_line (name.now, value.now)) }
+{
+    push(out, name.as_bytes())?;
+    push(out, b": ")?;
+    push(out, value)?;
+    push(out, b"\r\n")
+}
+
+#[tactic(auto, unfolding(crate::specs::Answers::plain_value))]
+fn plain_value(alloc: Global, text: &str) -> Mem<Vec<u8>>
+    ensures { IfOk result (λ value. value.items ≡ spec.plain_value text.now) }
+{
+    let bytes = text.as_bytes().iter();
+    let value = bytes.map(|b| printable_or_space(*b)).collect(alloc)?;
+    Ok(value)
+}
+
+fn printable_or_space(b: u8) -> u8
+    ensures { result ≡ (if spec.is_printable b then b else 32) }
+{
+    if b >= b' ' && b <= b'~' { b } else { b' ' }
+}
+
+fn location_of(alloc: Global, location: &str) -> Mem<TextBuf>
+    ensures { IfOk result (λ text. text ≡ spec.location_of location.now) }
+{
+    let mut text = String::with_capacity(alloc, location.len())?;
+    percent_encode(location.as_bytes(), UNSEEN).append_to(&mut text)?;
+    Ok(TextBuf::from(text))
+}
+
+fn allowed_methods(status: u16) -> &'static str
+    ensures { result.now ≡ spec.allowed_methods status }
+{
+    if status == 405 { "GET, HEAD, POST" } else { "" }
+}
+
+fn directive_of(mark: Mark) -> &'static str
+    ensures { result.now ≡ spec.directive_of mark }
+{
+    match mark {
+        Mark::Plain => "",
+        Mark::NoCache => "no-cache",
+        Mark::NoStore => "no-store",
+        Mark::MustRevalidate => "must-revalidate",
+    }
+}
+
+fn content_length(alloc: Global, head_only: bool, answer: &Answer) -> Mem<String>
+    ensures { IfOk result (λ text. string_bytes text ≡ spec.content_length head_only answer.now) }
+{
+    let body = answer.body.bytes();
+    if is_without_content(answer.status) || (head_only && body.is_empty()) {
+        return Ok(String::new(alloc));
+    }
+    Ok(body.len().to_string(alloc)?)
+}
+
+fn connection(close: bool) -> &'static str
+    ensures { result.now ≡ spec.connection close }
+{
+    if close { "close" } else { "" }
+}

@@ -1,0 +1,18 @@
+//! HTTP/1.1 at the edge: the requests that the bytes of a connection spell, however they are cut into pieces, and the bytes of answers
+//! (RFC 9110, RFC 9112).
+#![tactic(auto)]
+
+mod answer;
+mod fault;
+mod head;
+mod host;
+mod laws;
+mod target;
+mod turn;
+mod window;
+
+pub use answer::{answer_bytes, fixed_507};
+pub use fault::InFault;
+pub use laws::the_turns_of_a_beginning;
+pub use target::{Target, read_target};
+pub use turn::Turn;

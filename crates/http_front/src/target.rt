@@ -1,0 +1,111 @@
+//! Reads the target of a request, in the origin form: a path, and a query after it (RFC 9112, section 3.2.1).
+ghost use Rattle.std.specs.Prelude.{◌≡◌, IfOk, option_copied, position};
+ghost use Rattle.std.specs.List.{before_first};
+ghost use Rattle.std.specs.Option.{option_map};
+ghost use Rattle.std.specs.Result.{result_ok};
+ghost use Rattle.percent_encoding.specs.Percent.{percent_decode as decoding};
+ghost use Rattle.sp_base.specs.Paths.{path_of, unmangled};
+ghost use Rattle.http_front.specs.Targets.{is_mark, query_of, begins_with_slash, ends_in_slash, without_slash as trimmed, utf8_text, target_of};
+
+use percent_encoding::{DecodeError, percent_decode};
+use sp_base::{ByteBuf, Mem, NoMemory, Path, PathFault, TextBuf};
+use std::alloc::Global;
+
+/// What a target says.
+#[derive(Drop)]
+pub struct Target {
+    /// The path, decoded and unmangled.
+    pub path: Path,
+    /// Whether a slash at the path's end was dropped.
+    pub slash: bool,
+    /// The query as it came, where there is one.
+    pub query: Option<ByteBuf>,
+}
+
+/// Reads a target. None is a bad one: it doesn't begin with a slash, or its path isn't UTF-8 or spells no path.
+pub fn read_target(alloc: Global, target: &[u8]) -> Mem<Option<Target>>
+    ensures { IfOk result (λ o. o ≡ target_of target.now) }
+{
+    if !begins_with_slash(target) {
+        return Ok(None);
+    }
+    let (path, query) = cut(target);
+    let Some(text) = decoded(alloc, path)? else {
+        return Ok(None);
+    };
+    let (text, slash) = without_slash(text.text());
+    let Some(path) = unmangled_path(alloc, text)? else {
+        return Ok(None);
+    };
+    let query = copied(alloc, query)?;
+    Ok(Some(Target { path, slash, query }))
+}
+
+// An escape isn't a slash here: the target is looked at as it came.
+fn begins_with_slash(target: &[u8]) -> bool
+    ensures { result ≡ begins_with_slash target.now }
+{
+    match target {
+        [first, ..] => *first == b'/',
+        [] => false,
+    }
+}
+
+// The path of a target as it came, and the query.
+fn cut(target: &[u8]) -> (&[u8], Option<&[u8]>)
+    ensures path { result.0.now ≡ before_first is_mark target.now }
+    ensures query { option_copied result.1 ≡ query_of target.now }
+{
+    match first_mark(target) {
+        Some(at) => (&target[..at], Some(&target[at + 1..])),
+        None => (target, None),
+    }
+}
+
+fn first_mark(target: &[u8]) -> Option<usize>
+    ensures { result ≡ position is_mark target.now }
+{
+    target.iter().position(|b| *b == b'?')
+}
+
+// The text of a path, where it decodes to UTF-8.
+fn decoded(alloc: Global, path: &[u8]) -> Mem<Option<TextBuf>>
+    ensures { IfOk result (λ o. o ≡ utf8_text (decoding path.now)) }
+{
+    match percent_decode(path).decode_utf8(alloc) {
+        Ok(text) => Ok(Some(TextBuf::of(alloc, &text)?)),
+        Err(DecodeError::Utf8(_)) => Ok(None),
+        Err(DecodeError::OutOfMemory) => Err(NoMemory),
+    }
+}
+
+// The text without a slash at its end, and whether there was one. The root keeps its own.
+fn without_slash(text: &str) -> (&str, bool)
+    ensures text { result.0.now ≡ trimmed text.now }
+    ensures slash { result.1 ≡ ends_in_slash text.now }
+{
+    match text.strip_suffix('/') {
+        Some(path) if !path.is_empty() => (path, true),
+        _ => (text, false),
+    }
+}
+
+// The path that a text spells, with its namespace prefixes as they stand in the repository.
+fn unmangled_path(alloc: Global, text: &str) -> Mem<Option<Path>>
+    ensures { IfOk result (λ o. o ≡ option_map unmangled (result_ok (path_of text.now))) }
+{
+    match Path::read(alloc, text) {
+        Ok(path) => Ok(Some(path.unmangled(alloc)?)),
+        Err(PathFault::NoMemory) => Err(NoMemory),
+        Err(_) => Ok(None),
+    }
+}
+
+fn copied(alloc: Global, query: Option<&[u8]>) -> Mem<Option<ByteBuf>>
+    ensures { IfOk result (λ o. o ≡ option_copied query.entry) }
+{
+    match query {
+        Some(bytes) => Ok(Some(ByteBuf::of(alloc, bytes)?)),
+        None => Ok(None),
+    }
+}

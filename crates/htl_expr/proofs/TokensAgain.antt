@@ -133,9 +133,6 @@ begins_other test other (c ∷ s) all h = all c h
 
 -- ---- comparisons
 
-unfolding is_at
-bare_here c s r b = rw b.parts (eqb_same c)
-
 pub compares_again : (s : List ℕ) (op : Comparison) (r : List ℕ) → Compares s op r → compares s ≡ true
 unfolding compares is_at
 compares_again s _ r (g.equal o) = rw o.parts refl

@@ -252,7 +252,7 @@ fn a_view_along_a_path_tells_what_is_there(rt: HostRuntime) -> Result<(), Failed
         "/mnt/override/content/up/k.html",
         "/libs/x",
     ] {
-        let view = AlongView::of(alloc, &tree, &Path::read(alloc, along)?)?;
+        let view = AlongView::of(alloc, &tree, along)?;
         for (path, there) in [
             ("/mnt/overlay/x/a.b", true),
             ("/mnt/overlay/x/a", false),

@@ -10,7 +10,7 @@ use crate::merging::has_resource;
 use crate::reach::reach;
 use crate::roots::is_merged_path;
 use resource_tree::Tree;
-use sp_base::{Mem, Path};
+use sp_base::{Mem, NoMemory, Path, PathFault};
 use std::alloc::Global;
 use std::marker::Model;
 use url_split::Known;
@@ -36,12 +36,16 @@ impl<'a> Model for AlongView<'a> {
     ghost invariant = { λ v. v.layers.items ≡ layers_of v.tree.now v.deepest };
 }
 
-// The deepest path at another or above it that may be known, where they are merged.
-fn deepest_merged(alloc: Global, tree: &Tree, path: &Path) -> Mem<Path> {
-    if is_merged_path(path) {
-        return path.first(alloc, reach(alloc, tree, path)?);
+// The deepest path that may be known at the path that a text spells or above it, where they are merged.
+fn deepest_merged(alloc: Global, tree: &Tree, text: &str) -> Mem<Path> {
+    if !text.starts_with("/mnt/") {
+        return Ok(Path::root(alloc));
     }
-    Ok(Path::root(alloc))
+    match Path::read(alloc, text) {
+        Ok(path) if is_merged_path(&path) => path.first(alloc, reach(alloc, tree, &path)?),
+        Err(PathFault::NoMemory) => Err(NoMemory),
+        _ => Ok(Path::root(alloc)),
+    }
 }
 
 // Whether a node is a kid of one of the layers.
@@ -59,11 +63,11 @@ fn has_kid_node(alloc: Global, tree: &Tree, layers: &[Layer], name: &str) -> Mem
 }
 
 impl<'a> AlongView<'a> {
-    /// A tree seen along a path.
-    pub fn of(alloc: Global, tree: &'a Tree, path: &Path) -> Mem<AlongView<'a>>
+    /// A tree seen along the path that a text spells.
+    pub fn of(alloc: Global, tree: &'a Tree, text: &str) -> Mem<AlongView<'a>>
         ensures { IfOk result (λ v. v ≡ tree.now) }
     {
-        let deepest = deepest_merged(alloc, tree, path)?;
+        let deepest = deepest_merged(alloc, tree, text)?;
         let layers = layers_of(alloc, tree, &deepest)?;
         Ok(AlongView {
             tree,

@@ -1,4 +1,4 @@
-use crate::{MergedView, merged, merged_kids};
+use crate::{AlongView, MergedView, merged, merged_kids};
 use resource_tree::{Look, Res, Tree, TreeFault};
 use sp_base::{NoMemory, Path, PathFault, TextBuf, TextList, Value, seg_ok};
 use std::alloc::{AllocError, Global};
@@ -239,5 +239,32 @@ fn a_view_tells_what_is_there(rt: HostRuntime) -> Result<(), Failed> {
     assert!(rt; view.res(alloc, &path)?.is_some());
     let kids = merged_kids(alloc, &tree, &path)?;
     assert_eq!(rt; kids.len(), 2);
+    Ok(())
+}
+
+#[test]
+fn a_view_along_a_path_tells_what_is_there(rt: HostRuntime) -> Result<(), Failed> {
+    let alloc = rt.alloc();
+    let nodes = "/libs/x/b; /apps/x/a.b; /content/low/k; /content/up super /content/low";
+    let tree = tree_of(alloc, RandomState::new(&rt)?, nodes)?;
+    for along in [
+        "/mnt/overlay/x/a.b.html/s",
+        "/mnt/override/content/up/k.html",
+        "/libs/x",
+    ] {
+        let view = AlongView::of(alloc, &tree, along)?;
+        for (path, there) in [
+            ("/mnt/overlay/x/a.b", true),
+            ("/mnt/overlay/x/a", false),
+            ("/mnt/overlay/x", true),
+            ("/mnt/overlay/y", false),
+            ("/mnt/override/content/up/k", true),
+            ("/mnt/override/content/up/b", false),
+            ("/libs/x/b", true),
+            ("/libs/y", false),
+        ] {
+            assert_eq!(rt; view.has(alloc, &Path::read(alloc, path)?)?, there);
+        }
+    }
     Ok(())
 }

@@ -10,7 +10,7 @@ use crate::errors::{error_answer, redirect};
 use crate::methods::is_read;
 use crate::representations::resource_answer;
 use crate::templates::Templates;
-use overlay_merge::{MergedView, merged};
+use overlay_merge::{AlongView, merged};
 use resource_tree::Tree;
 use sp_base::{Answer, Ask, Mem};
 use std::alloc::Global;
@@ -100,7 +100,7 @@ impl Publisher {
         ensures answer { IfOk result (λ a. a ≡ text_answer self.old text.now) }
         ensures unchanged { self.new ≡ self.old }
     {
-        let view = MergedView { tree: &self.tree };
+        let view = AlongView::of(alloc, &self.tree, text)?;
         let parts = split(alloc, &view, text)?;
         match parts {
             Some(parts) => self.named(alloc, &parts),

@@ -13,7 +13,7 @@ use Rattle.resource_tree.specs.declared.nodes.Node.{Node}
 use Rattle.std.specs.Str.{bytes_eq}
 use Rattle.resource_tree.specs.Content.{Content, node_at, same_path}
 use Rattle.resource_tree.specs.Content.{prop_at}
-use Rattle.url_maps.specs.Claims.{Adds, AreClaims, Rows, claimants, claims_alias, claims_vanity_path, node_claims_alias, node_claims_vanity_path, spells_alias, spells_vanity_path}
+use Rattle.url_maps.specs.Claims.{Adds, AreClaims, AreWithin, Rows, claimants, claims_alias, claims_vanity_path, node_claims_alias, node_claims_vanity_path, spells_alias, spells_vanity_path}
 use Rattle.url_maps.specs.Words.{texts_of}
 use Rattle.url_maps.proofs.PathLemmas.{path_from_same}
 
@@ -215,3 +215,21 @@ pub whole_vanity_paths : (tree : Content) (rows : Rows) (paths : List (List (Lis
 unfolding claims_vanity_path
 whole_vanity_paths tree rows paths i end all is t q =
     all_nodes tree q (λ node. node_claims_vanity_path node t) paths (list_any (same_path q) (claimants rows t)) (all q) (is t q ∙ ap (λ ps. list_any (same_path q) ps && claims_vanity_path tree q t) (take_all i paths end))
+
+-- ---- the longest claimed text
+
+no_either : (b : Bool) (none : List (List (List ℕ))) → none ≡ [] → cond b [] none ≡ []
+no_either true none is = refl
+no_either false none is = is
+
+-- after claimants are taken away
+pub took_within : (longest : ℕ) (old new : Rows) (text : List ℕ) → AreWithin longest old → ((t : List ℕ) → claimants new t ≡ cond (bytes_eq text t) [] (claimants old t)) → AreWithin longest new
+took_within longest old new text within is t long = is t ∙ no_either (bytes_eq text t) (claimants old t) (within t long)
+
+-- after claimants are set
+pub set_within : (longest more : ℕ) (old new : Rows) (text : List ℕ) (paths : List (List (List ℕ))) → AreWithin longest old → longest ≤ more → length text ≤ more
+    → ((t : List ℕ) → claimants new t ≡ cond (bytes_eq text t) paths (claimants old t)) → AreWithin more new
+set_within longest more old new text paths within grown fits is t long = ⊎_elim
+    (λ (same : bytes_eq text t ≡ true). let one : text ≡ t = same_text text t (sym same) in absurd (omega (arith, long, fits, ap length one)))
+    (λ (other : bytes_eq text t ≡ false). is t ∙ ap (λ b. cond b paths (claimants old t)) other ∙ within t (omega (arith, long, grown)))
+    (cases_Bool (bytes_eq text t))

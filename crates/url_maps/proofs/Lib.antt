@@ -11,3 +11,4 @@ pub mod SiblingLemmas
 pub mod LawLemmas
 pub mod AnswerLemmas
 pub mod RedirectLemmas
+pub mod ReachLemmas

@@ -46,7 +46,7 @@ mapped_from spelled site path (b ∷ c ∷ text) e =
       | Err fault ↦ λ is fails. cc
     ] refl e
 
-path_below : (site below : List (List ℕ)) → is_path (site ++ below) ≡ true → is_path below ≡ true
+pub path_below : (site below : List (List ℕ)) → is_path (site ++ below) ≡ true → is_path below ≡ true
 path_below site below valid =
     let parts = and_parts (list_all seg_ok (site ++ below)) (nat_le (length (site ++ below)) 64) valid in
     let segments = (and_parts (list_all seg_ok site) (list_all seg_ok below) (sym (list_all-append seg_ok site below) ∙ parts.0)).1 in

@@ -1,5 +1,5 @@
 -- The nodes that claim a text as their alias or their vanity path, by the text.
-use Rattle.std.specs.Prelude.{◌≡◌, ◌&&◌, ◌||◌, ◌==◌, [], ℕ, Bool, true, false, not, nat_eq, List, Result, Ok, Err, codes, length}
+use Rattle.std.specs.Prelude.{◌≡◌, ◌<◌, ◌&&◌, ◌||◌, ◌==◌, [], ℕ, Bool, true, false, not, nat_eq, List, Result, Ok, Err, codes, length}
 use Rattle.std.specs.Cmp.Lexicographic.{pointwise}
 use Rattle.std.specs.List.{list_any}
 use Rattle.std.specs.Map.{lookup}
@@ -19,6 +19,10 @@ Rows = List (List ℕ × List (List (List ℕ)))
 -- the paths that claim a text
 abbrev pub claimants : Rows → List ℕ → List (List (List ℕ))
 claimants rows text = option_map_or (λ paths. paths) (lookup (bytes_eq text) rows) []
+
+-- no text of more bytes is claimed
+abbrev pub AreWithin : ℕ → Rows → Type 0
+AreWithin longest rows = (text : List ℕ) → longest < length text → claimants rows text ≡ []
 
 -- the text spells a node's alias, in the place of its name
 abbrev pub spells_alias : List (List ℕ) → List ℕ → List ℕ → Bool

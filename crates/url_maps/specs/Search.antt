@@ -1,5 +1,5 @@
 -- What the functions of the search promise one another, and its words. A reader of the relation in Turns.antt needs none of it.
-use Rattle.std.specs.Prelude.{◌≡◌, ◌≤◌, ◌<◌, ◌⊎◌, ◌||◌, ◌==◌, ◌++◌, ℕ, Bool, true, false, is_none, find, List, [], ◌∷◌, Option, Some, None, Result, Ok, Err, length, option_map, slice_index, slice_index_or, take}
+use Rattle.std.specs.Prelude.{◌≡◌, ◌≤◌, ◌<◌, ◌⊎◌, ◌||◌, ◌==◌, ◌++◌, ℕ, Bool, true, false, is_none, is_some, find, List, [], ◌∷◌, Option, Some, None, Result, Ok, Err, length, option_map, slice_index, slice_index_or, take}
 use Rattle.std.specs.List.{list_any}
 use Rattle.std.specs.declared.cmp.Ordering.TheVariants.{Less}
 use Rattle.sp_base.specs.Paths.{path_of, path_or_none}
@@ -12,7 +12,7 @@ use Rattle.url_maps.specs.declared.turns.Step.{Step}
 use Rattle.url_maps.specs.declared.pairs.PairKind.TheVariants.{Mapping}
 use Rattle.url_maps.specs.Mappings.{mapping_of}
 use Rattle.resource_tree.specs.declared.nodes.Node.{Node}
-use Rattle.url_maps.specs.Pairs.{Applies, Decides, HasNoPair, IsPair, goes_on, rank}
+use Rattle.url_maps.specs.Pairs.{Applies, Decides, HasMapping, HasNoPair, IsPair, goes_on, rank}
 use Rattle.url_maps.specs.Turns.{text_after}
 use Rattle.url_maps.specs.VanityPaths.{vanity_cmp}
 
@@ -47,6 +47,27 @@ pub record IsFirst (tree : Content) (paths : List (List (List ℕ))) (path : Lis
 abbrev pub is_cut : List ℕ → Bool
 is_cut [] = true
 is_cut (b ∷ rest) = b == 46 || b == 47
+
+-- no mapping's prefix in a text has more bytes
+abbrev pub HasNoMappingBeyond : Content → Option (List (List ℕ)) → List ℕ → ℕ → Type 0
+HasNoMappingBeyond tree site text reach = (k : ℕ) (pair : Pair) → reach < k → k ≤ length text → HasMapping tree site (take k text) pair → ⊥
+
+-- a prefix of more bytes is none of a mapping
+abbrev pub IsBeyond : Content → Option (List (List ℕ)) → List ℕ → ℕ → Type 0
+IsBeyond tree site prefix reach = (pair : Pair) → reach < length prefix → HasMapping tree site prefix pair → ⊥
+
+-- so many first segments of a path, unless they are all, lead to no node below a site
+abbrev pub IsMissingAt : Content → List (List ℕ) → List (List ℕ) → ℕ → Type 0
+IsMissingAt tree site path depth = depth < length path → is_some (node_at tree (site ++ take depth path)) ≡ false
+
+-- a byte before which a text may be cut
+abbrev pub is_separator : ℕ → Bool
+is_separator b = b == 46 || b == 47
+
+-- the last separator of a text, if it has one
+abbrev pub IsLastSeparator : List ℕ → Option ℕ → Type 0
+IsLastSeparator text (Some at) = (at < length text) × (is_separator (slice_index text at) ≡ true) × ((k : ℕ) → at < k → k < length text → is_separator (slice_index text k) ≡ false)
+IsLastSeparator text None = (k : ℕ) → k < length text → is_separator (slice_index text k) ≡ false
 
 -- the pair that decides among those with a prefix, before the rest of a text
 abbrev pub IsBest : Content → Option (List (List ℕ)) → List ℕ → List ℕ → Option Pair → Type 0
@@ -87,9 +108,6 @@ IsMappingPair node (Some pair) = (pair.kind ≡ Mapping) × (mapping_of node ≡
 IsMappingPair node None = mapping_of node ≡ None
 
 -- the text up to its last dot or slash, if it has one
-abbrev pub is_separator : ℕ → Bool
-is_separator b = b == 46 || b == 47
-
 abbrev pub IsShorter : List ℕ → Option (List ℕ) → Type 0
 IsShorter text (Some front) = (length front < length text) × (front ≡ take (length front) text) × (is_separator (slice_index text (length front)) ≡ true)
     × ((k : ℕ) → length front < k → k < length text → is_separator (slice_index text k) ≡ false)

@@ -13,15 +13,19 @@ use std::marker::Model;
 #[derive(Drop)]
 pub(crate) struct Claims {
     table: HashMap<String, PathList, RandomState>,
+    /// No text of the table has more bytes, so longer ones needn't be hashed.
+    longest: usize,
 }
 
 impl Model for Claims {
     ghost use Rattle.std.specs.Prelude.{map, string_bytes};
-    ghost use Rattle.url_maps.specs.Claims.{Rows};
+    ghost use Rattle.url_maps.specs.Claims.{AreWithin, Rows};
 
     ghost Value = { Rows };
 
     ghost view = { λ c. map (λ e. (string_bytes e.0, e.1)) c.table.entries };
+
+    ghost invariant = { λ c. AreWithin c.longest (map (λ e. (string_bytes e.0, e.1)) c.table.entries) };
 }
 
 impl Claims {
@@ -30,12 +34,16 @@ impl Claims {
     {
         Claims {
             table: HashMap::with_hasher(alloc, seeds),
+            longest: 0,
         }
     }
 
     pub(crate) fn get(&self, text: &str) -> &[Path]
         ensures { result.now ≡ claimants self.now text.now }
     {
+        if text.len() > self.longest {
+            return &[];
+        }
         match self.table.get(text) {
             Some(paths) => paths.as_slice(),
             None => &[],
@@ -67,6 +75,7 @@ impl Claims {
     {
         let key = String::from_str(alloc, text)?;
         self.table.insert(key, paths)?;
+        self.longest = self.longest.max(text.len());
         Ok(())
     }
 }

@@ -10,6 +10,9 @@ mod laws;
 mod locations;
 mod mappings;
 mod pairs;
+mod reach;
+#[cfg(test)]
+mod tests;
 mod turns;
 mod vanity_paths;
 mod words;

@@ -2,7 +2,7 @@
 ghost use Rattle.std.specs.Prelude.{◌≡◌, ◌↔◌, IfOk, IsTrue, Some};
 ghost use Rattle.sp_base.specs.Paths.{path_or_none};
 ghost use Rattle.url_maps.specs.Mappings.{IsPlain, has_match, redirect_status, site_of, status_of};
-ghost use Rattle.url_maps.specs.Search.{IsMappingPair, IsOf, mapped_path};
+ghost use Rattle.url_maps.specs.Search.{IsBeyond, IsMappingPair, IsOf, mapped_path};
 
 use crate::pairs::{Pair, PairKind};
 use crate::words::{number, texts};
@@ -28,18 +28,30 @@ pub(crate) fn site_of(alloc: Global, host: &str, port: u16) -> Mem<Option<Path>>
 }
 
 // The pair of a mapping of a site, if there is a site and the tree has one with this prefix.
-pub(crate) fn mapping_of(
-    alloc: Global,
-    tree: &Tree,
-    site: &Option<Path>,
-    prefix: &str,
-) -> Mem<Option<Pair>>
+fn mapping_of(alloc: Global, tree: &Tree, site: &Option<Path>, prefix: &str) -> Mem<Option<Pair>>
     ensures { IfOk result (IsOf PairKind.Mapping tree.now site.now prefix.now) }
 {
     match site {
         Some(site) => mapping_below(alloc, tree, site, prefix),
         None => Ok(None),
     }
+}
+
+// The same where no mapping's prefix has more bytes than the reach.
+pub(crate) fn mapping_within(
+    alloc: Global,
+    tree: &Tree,
+    site: &Option<Path>,
+    reach: usize,
+    prefix: &str,
+) -> Mem<Option<Pair>>
+    requires { IsBeyond tree.now site.now prefix.now reach }
+    ensures { IfOk result (IsOf PairKind.Mapping tree.now site.now prefix.now) }
+{
+    if prefix.len() > reach {
+        return Ok(None);
+    }
+    mapping_of(alloc, tree, site, prefix)
 }
 
 fn mapping_below(alloc: Global, tree: &Tree, site: &Path, prefix: &str) -> Mem<Option<Pair>>

@@ -3,11 +3,12 @@ ghost use Rattle.std.specs.Prelude.{◌≡◌, ◌==◌, ◌≤◌, ◌<◌, ◌
 ghost use Rattle.resource_tree.specs.Content.{IsGood};
 ghost use Rattle.url_maps.specs.Answers.{map_answer};
 ghost use Rattle.url_maps.specs.Claims.{IsIndexOf};
-ghost use Rattle.url_maps.specs.Search.{IsBest, IsShorter, IsTurn, is_cut};
+ghost use Rattle.url_maps.specs.Search.{IsBest, IsBeyond, IsLastSeparator, IsShorter, IsTurn, is_cut, is_separator};
 ghost use Rattle.url_maps.specs.Turns.{IsMapped, ending};
 
-use crate::mappings::{mapping_of, site_of};
+use crate::mappings::{mapping_within, site_of};
 use crate::pairs::{Pair, PairKind};
+use crate::reach::reach_of;
 use crate::{MapAnswer, MapIndex, the_answer_is_mapped};
 use resource_tree::Tree;
 use sp_base::{Mem, NoMemory, Path, TextBuf};
@@ -76,10 +77,11 @@ impl MapIndex {
         requires { IsIndexOf tree.now self.now }
         ensures { IfOk result (IsTurn tree.now site.now text.now) }
     {
+        let reach = reach_of(alloc, tree, site, text)?;
         let mut prefix = text;
         loop {
             let rest = &text[prefix.len()..];
-            if let Some(pair) = self.best(alloc, tree, site, prefix, rest)? {
+            if let Some(pair) = self.best(alloc, tree, site, reach, prefix, rest)? {
                 return Ok(Some(Step {
                     text: text_after(alloc, &pair, rest)?,
                     away: pair.away,
@@ -98,14 +100,16 @@ impl MapIndex {
         alloc: Global,
         tree: &Tree,
         site: &Option<Path>,
+        reach: usize,
         prefix: &str,
         rest: &str,
     ) -> Mem<Option<Pair>>
         requires index { IsIndexOf tree.now self.now }
         requires cut { is_cut rest.now ≡ true }
+        requires reach { IsBeyond tree.now site.now prefix.now reach }
         ensures { IfOk result (IsBest tree.now site.now prefix.now rest.now) }
     {
-        if let Some(pair) = mapping_of(alloc, tree, site, prefix)? {
+        if let Some(pair) = mapping_within(alloc, tree, site, reach, prefix)? {
             return Ok(Some(pair));
         }
         if let Some(pair) = self.alias_of(alloc, tree, prefix)? {
@@ -128,12 +132,29 @@ fn begins_with_slash(text: &str) -> bool
 fn shorter(text: &str) -> Option<&str>
     ensures { IsShorter text.now (option_copied result) }
 {
-    match (text.rfind('.'), text.rfind('/')) {
-        (Some(dot), Some(slash)) => Some(&text[..dot.max(slash)]),
-        (Some(dot), None) => Some(&text[..dot]),
-        (None, Some(slash)) => Some(&text[..slash]),
-        (None, None) => None,
+    match last_separator(text.as_bytes()) {
+        Some(at) => Some(&text[..at]),
+        None => None,
     }
+}
+
+fn last_separator(bytes: &[u8]) -> Option<usize>
+    ensures { IsLastSeparator bytes.now result }
+{
+    let len = bytes.len();
+    for passed in 0..len {
+        let at = len - 1 - passed;
+        if is_separator(bytes[at]) {
+            return Some(at);
+        }
+    }
+    None
+}
+
+fn is_separator(byte: u8) -> bool
+    ensures { result ≡ is_separator byte }
+{
+    byte == b'.' || byte == b'/'
 }
 
 // The text after a turn: the target, and what followed the prefix, after a vanity path's target at least `.html`.

@@ -4,7 +4,7 @@ use Rattle.std.specs.Option.{option_map_or}
 use Rattle.std.specs.Str.{bytes_eq}
 use Rattle.std.proofs.lemmas.Map.Text.{hash_map_updates_text}
 use Rattle.url_maps.specs.Claims.{claimants}
-use Rattle.url_maps.proofs.ClaimLemmas.{claimants_shown, took_claims}
+use Rattle.url_maps.proofs.ClaimLemmas.{claimants_shown, took_claims, took_within}
 use Rattle.url_maps.proofs.claims.Claims.take.Goals as goal
 use Rattle.url_maps.proofs.claims.Claims.take.Goals.{in-Some, in-None}
 
@@ -23,3 +23,10 @@ returns-clause-rest c = λ t.
     (λ (q : List ℕ). hash_map_updates_text text c.self.inside.table c.remove.new.self None c.remove.ensures.updates q)
     t
     ∙ ap (λ rows. cond (bytes_eq text t) [] (claimants rows t)) c.self.view_is
+
+pub invariant_of-self : goal.invariant_of-self
+invariant_of-self c =
+    let text = c.args.text.now in
+    took_within c.self.inside.longest _ _ text c.self.invariant
+    (took_claims string_bytes c.self.inside.table.entries c.remove.new.self.entries text
+    (λ (q : List ℕ). hash_map_updates_text text c.self.inside.table c.remove.new.self None c.remove.ensures.updates q))

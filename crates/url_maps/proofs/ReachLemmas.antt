@@ -1,0 +1,95 @@
+-- No mapping is below the first segment of a text that has no node.
+use Rattle.std.proofs.Common.{◌≡◌, ◌≤◌, ◌<◌, ◌+◌, ◌-◌, ℕ, zero, suc, Bool, true, false, List, [], ◌∷◌, ◌++◌, Option, Some, None, Ok, take, length, refl, sym, ◌∙◌, ap, subst, arith, ⊎_elim, append_assoc, append-nil, length-append}
+use Rattle.std.specs.Prelude.{◌&&◌, IsTrue, is_some, nat_eq, if◌then◌else◌}
+use Rattle.std.specs.Cmp.Lexicographic.{pointwise, same_text}
+use Rattle.std.proofs.lemmas.Bool.{cases_Bool, true≢false, false≢true, and_parts, cases_lt}
+use Rattle.std.proofs.lemmas.List.{length-take-le, take-take, take_all}
+use Rattle.sp_base.specs.Paths.{is_path, is_under, parent_of, path_of, path_or_none, text_of}
+use Rattle.resource_tree.specs.declared.nodes.Node.{Node}
+use Rattle.resource_tree.specs.Content.{Content, IsTree, kid, node_at}
+use Rattle.url_maps.specs.Mappings.{IsMapping, text_below}
+use Rattle.url_maps.specs.declared.pairs.Pair.{Pair}
+use Rattle.url_maps.specs.Search.{HasNoMappingBeyond, IsMissingAt}
+use Rattle.url_maps.proofs.MappingLemmas.{path_below}
+use Rattle.url_maps.proofs.PathLemmas.{IsReadBack, kid_parts}
+
+-- a path is under its own prefixes alone
+record Prefix (path q : List (List ℕ)) : Type 0 where
+  same : take (length q) path ≡ q
+  within : length q ≤ length path
+
+prefix_of : (path q : List (List ℕ)) → is_under path q ≡ true → Prefix path q
+prefix_of path [] h = record { same = refl; within = omega arith }
+prefix_of [] (s ∷ q) h = absurd (false≢true h)
+prefix_of (a ∷ path) (s ∷ q) h =
+    let parts = and_parts (pointwise nat_eq s a) (is_under path q) h in
+    let rest = prefix_of path q parts.1 in
+    record {
+      same = ap (λ (p : List (List ℕ)). a ∷ p) rest.same ∙ ap (λ (t : List ℕ). t ∷ q) (sym (same_text s a (sym parts.0)));
+      within = omega (arith, rest.within);
+    }
+
+-- ---- ancestors are there
+
+module _ (tree : Content) (good : IsTree (node_at tree)) where
+  ancestor : (site below : List (List ℕ)) → is_some (node_at tree (site ++ below)) ≡ true → is_some (node_at tree site) ≡ true
+  ancestor site [] there = ap (λ p. is_some (node_at tree p)) (sym (append-nil site)) ∙ there
+  ancestor site (s ∷ below) there =
+      good.parents site s (ancestor (kid site s) below (ap (λ p. is_some (node_at tree p)) (append_assoc site (s ∷ []) below) ∙ there))
+
+  first_there : (site below : List (List ℕ)) (n : ℕ) → is_some (node_at tree (site ++ below)) ≡ true → is_some (node_at tree (site ++ take n below)) ≡ true
+  first_there site below zero there = ap (λ p. is_some (node_at tree p)) (append-nil site) ∙ ancestor site below there
+  first_there site [] (suc n) there = there
+  first_there site (s ∷ below) (suc n) there =
+      ap (λ p. is_some (node_at tree p)) (sym (append_assoc site (s ∷ []) (take n below)))
+      ∙ first_there (kid site s) below n (ap (λ p. is_some (node_at tree p)) (append_assoc site (s ∷ []) below) ∙ there)
+
+  -- the parent of a path that a prefix of another's text spells is above that path
+  abbrev pub AreParents : Type 0
+  AreParents = (path below : List (List ℕ)) (n : ℕ) → IsTrue (is_path path) → n ≤ length (text_of path) → path_of (take n (text_of path)) ≡ Ok below → is_under path (parent_of below) ≡ true
+
+  -- it is no longer than the text of as many first segments
+  abbrev pub AreWithinFirst : Type 0
+  AreWithinFirst = (path below : List (List ℕ)) (n most : ℕ) → IsTrue (is_path path) → n ≤ length (text_of path) → path_of (take n (text_of path)) ≡ Ok below → length below ≤ most → n ≤ length (text_of (take most path))
+
+  -- a node below the site is no deeper than the first one that is missing along a path
+  depth_is : (site path below : List (List ℕ)) (depth : ℕ) → depth < length path → IsMissingAt tree site path depth → is_some (node_at tree (site ++ below)) ≡ true → is_under path (parent_of below) ≡ true → length below ≤ depth
+  depth_is site path below depth inside none there under = ⊎_elim
+      (λ (large : depth < length below).
+      let q = parent_of below in
+      let prefix = prefix_of path q under in
+      let size : length q ≡ length below - 1 = length-take-le (length below - 1) below (omega arith) in
+      let deep : depth ≤ length q = omega (arith, large, size) in
+      let same : take depth below ≡ take depth path =
+      sym (take-take depth (length below - 1) below (omega (arith, large))) ∙ ap (take depth) (sym prefix.same) ∙ take-take depth (length q) path deep in
+      absurd (true≢false (sym (first_there site below depth there) ∙ ap (λ p. is_some (node_at tree (site ++ p))) same ∙ none inside)))
+      (λ small. small)
+      (cases_lt depth (length below))
+
+  within_reach : IsReadBack → AreParents → AreWithinFirst → (site path below : List (List ℕ)) (depth k : ℕ) → is_path path ≡ true → is_path below ≡ true → IsMissingAt tree site path depth → is_some (node_at tree (site ++ below)) ≡ true
+      → k ≤ length (text_of path) → take k (text_of path) ≡ text_below below → k ≤ length (text_of (take depth path))
+  within_reach read parents within site path [] depth k valid is none there inside same =
+      let size : length (take k (text_of path)) ≡ k = length-take-le k (text_of path) inside in omega (arith, size, ap length same)
+  within_reach read parents within site path (s ∷ below) depth k valid is none there inside same =
+      let reads : path_of (take k (text_of path)) ≡ Ok (s ∷ below) = ap path_of same ∙ read (s ∷ below) is in
+      ⊎_elim
+      (λ (fewer : depth < length path). within path (s ∷ below) k depth valid inside reads (depth_is site path (s ∷ below) depth fewer none there (parents path (s ∷ below) k valid inside reads)))
+      (λ (all : length path ≤ depth). subst (λ p. k ≤ length (text_of p)) (sym (take_all depth path all)) inside)
+      (cases_lt depth (length path))
+
+  pub none_beyond : IsReadBack → AreParents → AreWithinFirst → (site path : List (List ℕ)) (text : List ℕ) (depth : ℕ) → is_path path ≡ true → text_of path ≡ text → IsMissingAt tree site path depth
+      → HasNoMappingBeyond tree (Some site) text (length (text_of (take depth path)))
+  none_beyond read parents within site path text depth valid spelled none k pair beyond inside m =
+      let is = path_below site m.below (good.nodes (site ++ m.below) m.node m.there).is_a_path in
+      let le = within_reach read parents within site path m.below depth k valid is none (ap is_some m.there) (subst (λ t. k ≤ length t) (sym spelled) inside) (ap (take k) spelled ∙ m.text_is) in
+      omega (arith, le, beyond)
+
+-- a path that is too long has no node
+pub too_long : (tree : Content) → IsTree (node_at tree) → (path : List (List ℕ)) → path_or_none path ≡ None → is_some (node_at tree path) ≡ false
+too_long tree good path none = elim (node_at tree path) as (λ o. node_at tree path ≡ o → is_some o ≡ false) [
+  | None ↦ λ is. refl
+  | Some node ↦ λ is.
+      let valid : is_path path ≡ true = (good.nodes path node is).is_a_path in
+      let bad : Some path ≡ None = sym (ap (λ b. if b then Some path else None) valid) ∙ none in
+      cc
+] refl

@@ -1,0 +1,60 @@
+// How far into a text the prefix of a mapping may reach.
+ghost use Rattle.std.specs.Prelude.{◌≡◌, ◌++◌, IfOk, Some, is_some};
+ghost use Rattle.resource_tree.specs.Content.{node_at};
+ghost use Rattle.url_maps.specs.Search.{HasNoMappingBeyond, IsMissingAt};
+
+use resource_tree::Tree;
+use sp_base::{Mem, NoMemory, Path, PathFault, a_path_and_its_text, the_prefixes_of_a_path};
+use std::alloc::Global;
+
+// The most bytes of the prefix of a mapping in a text: no mapping is below the first of the text's segments that has no node.
+pub(crate) fn reach_of(alloc: Global, tree: &Tree, site: &Option<Path>, text: &str) -> Mem<usize>
+    ensures { IfOk result (HasNoMappingBeyond tree.now site.now text.now) }
+{
+    match site {
+        Some(site) => reach_below(alloc, tree, site, text),
+        None => Ok(0),
+    }
+}
+
+fn reach_below(alloc: Global, tree: &Tree, site: &Path, text: &str) -> Mem<usize>
+    ensures { IfOk result (HasNoMappingBeyond tree.now (Some site.now) text.now) }
+{
+    a_path_and_its_text();
+    the_prefixes_of_a_path();
+    // `len` says that the parent of each node is there.
+    let _ = tree.len();
+    match Path::read(alloc, text) {
+        Ok(path) => {
+            let depth = missing_at(alloc, tree, site, &path)?;
+            Ok(path.first(alloc, depth)?.as_text().len())
+        }
+        Err(PathFault::NoMemory) => Err(NoMemory),
+        Err(_) => Ok(text.len()),
+    }
+}
+
+// How many first segments of a path lead to no node below a site while fewer do: all, where all lead to nodes.
+fn missing_at(alloc: Global, tree: &Tree, site: &Path, path: &Path) -> Mem<usize>
+    ensures { IfOk result (IsMissingAt tree.now site.now path.now) }
+{
+    let depth = path.depth();
+    for n in 0..depth {
+        let first = path.first(alloc, n + 1)?;
+        if !has_node(alloc, tree, site, &first)? {
+            return Ok(n + 1);
+        }
+    }
+    Ok(depth)
+}
+
+fn has_node(alloc: Global, tree: &Tree, site: &Path, below: &Path) -> Mem<bool>
+    ensures { IfOk result (λ is. is ≡ is_some (node_at tree.now (site.now ++ below.now))) }
+{
+    // `len` says that nodes are at paths alone.
+    let _ = tree.len();
+    match site.join_or_none(alloc, below)? {
+        Some(path) => Ok(tree.node(&path).is_some()),
+        None => Ok(false),
+    }
+}

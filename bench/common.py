@@ -139,3 +139,19 @@ def growth(title, counts, time_per_one):
     for count, seconds in zip(counts, each):
         print(f"  {count:7} {seconds * 1e6:8.2f} us")
     print(f"  greatest to least {max(each) / min(each):.2f}")
+
+
+PAGES_PROGRAM = os.path.abspath("out/bench/crates/pages_program/out/pages_program")
+
+
+def build_pages_program():
+    """Copies the crates that pages_program stands on, puts it beside them, and builds it."""
+    place = os.path.abspath("out/bench")
+    shutil.rmtree(place, ignore_errors=True)
+    os.makedirs(f"{place}/crates/pages_program/src")
+    for crate in ("sp_base", "sp_outside"):
+        shutil.copytree(f"crates/{crate}", f"{place}/crates/{crate}")
+    shutil.copy("bench/pages_program/main.rt.in", f"{place}/crates/pages_program/src/main.rt")
+    with open(f"{place}/crates.txt", "w") as out:
+        out.write("sp_base:\nsp_outside: sp_base\npages_program: sp_base sp_outside\n")
+    subprocess.run(["rt", "run", "--", "list", "0", "1"], cwd=f"{place}/crates/pages_program", check=True, stdout=subprocess.DEVNULL)

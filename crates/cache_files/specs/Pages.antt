@@ -44,6 +44,10 @@ abbrev pub files_with_page : Files → PageKey → Stamp → Answer → Files
 files_with_page files key stamp answer = with_file (with_file (without_file files (head_name key.folder key.file))
     (body_name key.folder key.file) answer.body) (head_name key.folder key.file) (head_text stamp.epoch stamp.count (length answer.body) answer.kind)
 
+-- the files after a page was taken away: its head, then its body
+abbrev pub files_without_page : Files → PageKey → Files
+files_without_page files key = without_file (without_file files (head_name key.folder key.file)) (body_name key.folder key.file)
+
 -- A write of a page stopped: at the removal of the old head, at the body, or at the new head.
 abbrev pub IsPutLeft : Option Files → Option Files → List ℕ → List ℕ → List ℕ → List ℕ → FileFault → Type 0
 IsPutLeft old new head body bytes text fault =

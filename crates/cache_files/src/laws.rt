@@ -2,15 +2,15 @@
 ghost use Rattle.std.specs.Prelude.{◌≡◌, ◌≢◌, ◌<◌, ◌≤◌, ◌+◌, ◌^◌, ℕ, List, [], Some, None, Ok, IfSome, length};
 ghost use Rattle.sp_base.specs.declared.answer.Answer.{Answer};
 ghost use Rattle.sp_base.specs.declared.answer.Mark.TheVariants.{Plain};
-ghost use Rattle.sp_outside.specs.Files.{Files, file_at, with_file};
-ghost use Rattle.docroot_format.specs.Names.{epoch_name};
+ghost use Rattle.sp_outside.specs.Files.{Files, with_file, without_file};
+ghost use Rattle.docroot_format.specs.Names.{IsTextKey, body_name, epoch_name, head_name};
 ghost use Rattle.docroot_format.specs.Texts.{epoch_text};
 ghost use Rattle.cover_rules.specs.declared.page.PageKey.{PageKey};
 ghost use Rattle.cover_rules.specs.declared.stamp.Stamp.{Stamp};
 ghost use Rattle.cache_files.specs.Epochs.{epoch_held, last_epoch, next_epoch};
-ghost use Rattle.cache_files.specs.Pages.{IsStorable, files_with_page, page_at};
+ghost use Rattle.cache_files.specs.Pages.{IsStorable, files_with_page, files_without_page, page_at};
 
-use docroot_format::texts_are_read_back;
+use docroot_format::{names_are_apart, texts_are_read_back};
 use sp_outside::files_have_names;
 
 /// A page that was put is the page of its key, with an empty location.
@@ -20,6 +20,27 @@ pub fn a_page_is_read_back()
 {
     files_have_names();
     texts_are_read_back();
+}
+
+/// A page is there as it was while another is put, and while another is dropped, and one that was dropped isn't there.
+pub fn pages_have_files_of_their_own()
+    ensures put { (files : Files) (key other : PageKey) (stamp : Stamp) (answer : Answer) → IsTextKey key → IsTextKey other → other ≢ key
+        → page_at (files_with_page files key stamp answer) other ≡ page_at files other }
+    ensures dropped { (files : Files) (key : PageKey) → page_at (files_without_page files key) key ≡ None }
+    ensures beside { (files : Files) (key other : PageKey) → IsTextKey key → IsTextKey other → other ≢ key
+        → page_at (files_without_page files key) other ≡ page_at files other }
+{
+    files_have_names();
+    names_are_apart();
+}
+
+/// A put that stops leaves the old page, no page, or the new one: once the old head is taken away there is no page until the new head
+/// is written.
+pub fn a_stopped_put_leaves_no_page()
+    ensures headless { (files : Files) (key : PageKey) → page_at (without_file files (head_name key.folder key.file)) key ≡ None }
+    ensures written { (files : Files) (key : PageKey) (bytes : List ℕ) → page_at (with_file (without_file files (head_name key.folder key.file)) (body_name key.folder key.file) bytes) key ≡ None }
+{
+    files_have_names();
 }
 
 /// Each session has a number above that of the last one, and so above every number up to it.

@@ -25,7 +25,7 @@ second_of : (a b : Bool) → a && b ≡ true → b ≡ true
 second_of true b e = e
 second_of false b e = absurd (true≢false (sym e))
 
-both : (a b : Bool) → a ≡ true → b ≡ true → a && b ≡ true
+pub both : (a b : Bool) → a ≡ true → b ≡ true → a && b ≡ true
 both a b ea eb = ap (λ x. x && b) ea ∙ eb
 
 glyph_ok : (d : ℕ) → d < 16 → is_name_byte (digit_glyph true d) ≡ true
@@ -50,7 +50,7 @@ not_false false e = refl
 
 -- ---- a file name is `.` or `..` only where the segment is
 
-first_byte : (b : ℕ) (plain : Bool) (s rest : List ℕ) → cond plain (b ∷ []) (37 ∷ digit_glyph true (b / 16 % 16) ∷ digit_glyph true (b % 16) ∷ []) ++ s ≡ 46 ∷ rest → (b ≡ 46) × (s ≡ rest)
+pub first_byte : (b : ℕ) (plain : Bool) (s rest : List ℕ) → cond plain (b ∷ []) (37 ∷ digit_glyph true (b / 16 % 16) ∷ digit_glyph true (b % 16) ∷ []) ++ s ≡ 46 ∷ rest → (b ≡ 46) × (s ≡ rest)
 first_byte b true s rest e = (cc, cc)
 first_byte b false s rest e =
     let head : 37 ≡ 46 = ap (λ l. get_or l 0 0) e in
@@ -109,7 +109,7 @@ segment_name seg some none =
 not_slash : (b : ℕ) → is_name_byte b ≡ true → nat_eq b 47 ≡ false
 not_slash b e = grind (arith, nat_tests)
 
-no_slash : (xs : List ℕ) → list_all is_name_byte xs ≡ true → All (λ b. nat_eq b 47 ≡ false) xs
+pub no_slash : (xs : List ℕ) → list_all is_name_byte xs ≡ true → All (λ b. nat_eq b 47 ≡ false) xs
 no_slash [] e k d lt = absurd (omega (arith, lt))
 no_slash (x ∷ xs) e zero d lt = not_slash x (first_of _ _ e)
 no_slash (x ∷ xs) e (suc k) d lt = no_slash xs (second_of _ _ e) k d (omega (arith, lt))
@@ -141,7 +141,7 @@ file_some_bytes : (file : List ℕ) → is_file file ≡ true → is_empty file 
 file_some_bytes [] e = absurd (true≢false (sym e))
 file_some_bytes (b ∷ file) e = grind (arith, nat_tests)
 
-file_first : (file : List ℕ) → is_file file ≡ true → nat_eq (get_or file 0 0) 46 ≡ false
+pub file_first : (file : List ℕ) → is_file file ≡ true → nat_eq (get_or file 0 0) 46 ≡ false
 file_first file e = not_false _ (first_of _ _ (second_of _ _ e))
 
 file_no_dots : (file : List ℕ) → is_file file ≡ true → is_dots file ≡ false
@@ -161,7 +161,7 @@ from_key : (segs : List (List ℕ)) (key : PageKey) (test : Bool) → is_page se
 from_key segs key true page e = subst (λ (o : Option PageKey). file_in o ≡ true) e (first_of _ _ page)
 from_key segs key false page e = absurd (true≢false (sym (ap is_there e)))
 
-key_file : (path : List (List ℕ)) (key : PageKey) → page_key_of path ≡ Some key → is_file key.file ≡ true
+pub key_file : (path : List (List ℕ)) (key : PageKey) → page_key_of path ≡ Some key → is_file key.file ≡ true
 unfolding key_at
 key_file path key e = from_key (mangled path) key (is_page (mangled path)) refl e
 

@@ -5,3 +5,4 @@ pub mod MediaTypes
 pub mod PagePlaces
 pub mod ReadBack
 pub mod Inside
+pub mod Apart

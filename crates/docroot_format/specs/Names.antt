@@ -1,7 +1,8 @@
 -- The names of the files of the docroot.
-use Rattle.std.specs.Prelude.{◌==◌, ◌||◌, ◌&&◌, ◌++◌, ◌∷◌, [], ℕ, Bool, not, List, codes, flat_map, length, nat_lt}
-use Rattle.std.specs.List.{list_all}
+use Rattle.std.specs.Prelude.{◌<◌, ◌==◌, ◌||◌, ◌&&◌, ◌++◌, ◌∷◌, [], ℕ, Bool, not, List, codes, flat_map, length, nat_lt}
+use Rattle.std.specs.List.{AllByRecursion, list_all}
 use Rattle.sp_base.specs.Paths.{is_dots, is_empty, pieces}
+use Rattle.cover_rules.specs.declared.page.PageKey.{PageKey}
 use Rattle.cover_rules.specs.Names.{file_name, has_name, is_plain}
 
 -- the file names of a folder's segments, a slash after each
@@ -42,3 +43,11 @@ is_segment piece = not (is_empty piece) && (not (is_dots piece) && list_all is_n
 -- A name that lies in the docroot: no piece of it is empty, so it neither begins nor ends with a slash, and none is `.` or `..`.
 abbrev pub is_inside : List ℕ → Bool
 is_inside name = list_all is_segment (pieces name)
+
+-- a segment's bytes, as of every text
+abbrev pub are_bytes : List ℕ → Type 0
+are_bytes seg = AllByRecursion (λ b. b < 256) seg
+
+-- the key of a page whose segments have bytes
+abbrev pub IsTextKey : PageKey → Type 0
+IsTextKey key = AllByRecursion are_bytes key.folder × are_bytes key.file

@@ -1,9 +1,10 @@
 //! What follows from the definitions of names and texts: laws, on functions that do nothing.
-ghost use Rattle.std.specs.Prelude.{◌≡◌, ◌<◌, ◌^◌, ℕ, List, IsTrue, Some};
+ghost use Rattle.std.specs.Prelude.{◌≡◌, ◌≢◌, ◌<◌, ◌^◌, ℕ, List, IsTrue, Some};
 ghost use Rattle.cover_rules.specs.declared.page.PageKey.{PageKey};
 ghost use Rattle.cover_rules.specs.Pages.{page_key_of, page_path};
 ghost use Rattle.sp_base.specs.Paths.{is_path};
-ghost use Rattle.docroot_format.specs.Names.{body_name, epoch_name, have_names, head_name, is_inside, is_place, stat_name};
+ghost use Rattle.std.specs.List.{AllByRecursion};
+ghost use Rattle.docroot_format.specs.Names.{body_name, epoch_name, have_names, head_name, is_inside, is_place, stat_name, IsTextKey, are_bytes};
 ghost use Rattle.docroot_format.specs.Readings.{HeadLine, epoch_of, head_of, is_kind, stat_of};
 ghost use Rattle.docroot_format.specs.Texts.{epoch_text, head_text, stat_text};
 
@@ -27,4 +28,18 @@ pub fn names_lie_in_the_docroot()
     ensures head { (key : PageKey) → IsTrue (is_path key.folder) → page_key_of (page_path key) ≡ Some key → IsTrue (is_inside (head_name key.folder key.file)) }
     ensures stat { (folder : List (List ℕ)) → IsTrue (is_path folder) → IsTrue (is_inside (stat_name folder)) }
     ensures epoch { IsTrue (is_inside epoch_name) }
+{}
+
+/// Different keys have different files, and so have different folders; a page's files, stamps and the session's number stand in files
+/// of their own.
+pub fn names_are_apart()
+    ensures bodies { (key other : PageKey) → IsTextKey key → IsTextKey other → body_name key.folder key.file ≡ body_name other.folder other.file → key ≡ other }
+    ensures heads { (key other : PageKey) → IsTextKey key → IsTextKey other → head_name key.folder key.file ≡ head_name other.folder other.file → key ≡ other }
+    ensures stats { (folder other : List (List ℕ)) → AllByRecursion are_bytes folder → AllByRecursion are_bytes other → stat_name folder ≡ stat_name other → folder ≡ other }
+    ensures head { (key other : PageKey) → IsTextKey key → IsTextKey other → head_name key.folder key.file ≢ body_name other.folder other.file }
+    ensures stat_body { (folder : List (List ℕ)) (key : PageKey) → AllByRecursion are_bytes folder → IsTextKey key → page_key_of (page_path key) ≡ Some key → stat_name folder ≢ body_name key.folder key.file }
+    ensures stat_head { (folder : List (List ℕ)) (key : PageKey) → AllByRecursion are_bytes folder → IsTextKey key → page_key_of (page_path key) ≡ Some key → stat_name folder ≢ head_name key.folder key.file }
+    ensures epoch_body { (key : PageKey) → IsTextKey key → page_key_of (page_path key) ≡ Some key → epoch_name ≢ body_name key.folder key.file }
+    ensures epoch_head { (key : PageKey) → IsTextKey key → page_key_of (page_path key) ≡ Some key → epoch_name ≢ head_name key.folder key.file }
+    ensures epoch_stat { (folder : List (List ℕ)) → AllByRecursion are_bytes folder → stat_name folder ≢ epoch_name }
 {}

@@ -1,19 +1,13 @@
 use Rattle.std.proofs.Common.{◌≡◌, ◌≢◌, ◌+◌, ◌++◌, ℕ, Bool, true, cond, List, [], Some, None, length, codes, refl, sym, ◌∙◌, ap, arith, nat_eq}
 use Rattle.std.specs.Prelude.{option_and_then}
 use Rattle.std.proofs.lemmas.Bool.Decides.{nat_tests}
-use Rattle.std.proofs.lemmas.List.{length-append}
 use Rattle.sp_outside.specs.Files.{file_at, with_file, without_file}
 use Rattle.docroot_format.specs.Names.{body_name, head_name}
 use Rattle.docroot_format.specs.Readings.{head_of}
 use Rattle.docroot_format.specs.Texts.{head_text}
 use Rattle.cache_files.specs.Pages.{page_of}
+use Rattle.cache_files.proofs.PageFiles.{head_apart}
 use Rattle.cache_files.proofs.laws.a_page_is_read_back.Goals as goal
-
--- a head's name is two bytes longer
-head_apart : (body : List ℕ) → body ≢ body ++ codes "%h"
-head_apart body e =
-    let same : length body ≡ length (body ++ codes "%h") = ap length e in
-    omega (arith, same, length-append body (codes "%h"))
 
 same_length : (n : ℕ) → nat_eq n n ≡ true
 same_length n = grind (arith, nat_tests)

@@ -1,0 +1,157 @@
+-- Different pages and folders have different files.
+use Rattle.std.proofs.Common.{◌≡◌, ◌≢◌, ◌<◌, ◌≤◌, ◌+◌, ◌*◌, ◌/◌, ◌%◌, ℕ, zero, suc, Bool, true, false, cond, ◌&&◌, ◌++◌, List, [], ◌∷◌, IsTrue, length, get_or, take, map, nat_eq, codes, flat_map, refl, sym, ◌∙◌, ap, subst, arith}
+use Rattle.std.specs.List.{AllByRecursion, list_all}
+use Rattle.std.specs.Fmt.{digit_glyph}
+use Rattle.std.proofs.lemmas.Bool.{true≢false}
+use Rattle.std.proofs.lemmas.Bool.Decides.{nat_tests}
+use Rattle.std.proofs.lemmas.List.{append_cancel_right, append-nil}
+use Rattle.std.proofs.lemmas.List.Splits.{slice_split_at, slice_split_none}
+use Rattle.std.proofs.lemmas.List.Folds.{list_all-append}
+use Rattle.sp_base.specs.Paths.{pieces}
+use Rattle.cover_rules.specs.Names.{is_plain, file_byte, file_name}
+use Rattle.cover_rules.specs.Pages.{is_file}
+use Rattle.docroot_format.specs.Names.{are_bytes, body_name, folder_name, head_name, stat_name, epoch_name, is_name_byte}
+use Rattle.docroot_format.proofs.NameLemmas.{append_both}
+use Rattle.docroot_format.proofs.Inside.{both, bytes_ok, file_first, first_byte, no_slash}
+
+-- ---- a byte is read off what it is in a name
+
+abbrev written : Bool → ℕ → List ℕ
+written plain b = cond plain (b ∷ []) (37 ∷ digit_glyph true (b / 16 % 16) ∷ digit_glyph true (b % 16) ∷ [])
+
+glyph : (c d : ℕ) → c < 16 → d < 16 → digit_glyph true c ≡ digit_glyph true d → c ≡ d
+glyph c d small_c small_d e = grind (arith, nat_tests)
+
+halves : (b c : ℕ) → b < 256 → c < 256 → b / 16 % 16 ≡ c / 16 % 16 → b % 16 ≡ c % 16 → b ≡ c
+halves b c small_b small_c high low = omega (arith, small_b, small_c, high, low)
+
+first : List ℕ → ℕ
+first xs = get_or xs 0 0
+
+head_of_two : (x y : ℕ) (xs ys : List ℕ) → x ∷ xs ≡ y ∷ ys → (x ≡ y) × (xs ≡ ys)
+head_of_two x y xs ys e = (cc, cc)
+
+never_percent : (b : ℕ) → is_plain b ≡ true → b ≡ 37 → ⊥
+never_percent b plain e = true≢false (sym plain ∙ ap is_plain e)
+
+same_byte : (b c : ℕ) (xs ys : List ℕ) (p q : Bool) → is_plain b ≡ p → is_plain c ≡ q → b < 256 → c < 256
+    → written p b ++ xs ≡ written q c ++ ys → (b ≡ c) × (xs ≡ ys)
+same_byte b c xs ys true true pb pc small_b small_c e = head_of_two b c xs ys e
+same_byte b c xs ys true false pb pc small_b small_c e = absurd (never_percent b pb (head_of_two b 37 xs _ e).0)
+same_byte b c xs ys false true pb pc small_b small_c e = absurd (never_percent c pc (sym (head_of_two 37 c _ ys e).0))
+same_byte b c xs ys false false pb pc small_b small_c e =
+    let one = head_of_two 37 37 (digit_glyph true (b / 16 % 16) ∷ digit_glyph true (b % 16) ∷ xs) (digit_glyph true (c / 16 % 16) ∷ digit_glyph true (c % 16) ∷ ys) e in
+    let two = head_of_two _ _ (digit_glyph true (b % 16) ∷ xs) (digit_glyph true (c % 16) ∷ ys) one.1 in
+    let three = head_of_two _ _ xs ys two.1 in
+    (halves b c small_b small_c (glyph (b / 16 % 16) (c / 16 % 16) (omega arith) (omega arith) two.0) (glyph (b % 16) (c % 16) (omega arith) (omega arith) three.0), three.1)
+
+some_written : (b : ℕ) (p : Bool) (xs : List ℕ) → written p b ++ xs ≡ [] → ⊥
+some_written b true xs e = absurd cc
+some_written b false xs e = absurd cc
+
+same_name : (s t : List ℕ) → are_bytes s → are_bytes t → file_name s ≡ file_name t → s ≡ t
+unfolding file_name
+same_name [] [] small_s small_t e = refl
+same_name [] (c ∷ t) small_s small_t e = absurd (some_written c (is_plain c) (file_name t) (sym e))
+same_name (b ∷ s) [] small_s small_t e = absurd (some_written b (is_plain b) (file_name s) e)
+same_name (b ∷ s) (c ∷ t) small_s small_t e =
+    let one = same_byte b c (file_name s) (file_name t) (is_plain b) (is_plain c) refl refl small_s.0 small_t.0 e in
+    ap (λ x. x ∷ s) one.0 ∙ ap (λ r. c ∷ r) (same_name s t small_s.1 small_t.1 one.1)
+
+-- ---- a name's pieces are its segments' names
+
+pieces_body : (folder : List (List ℕ)) (last : List ℕ) → list_all is_name_byte last ≡ true → pieces (folder_name folder ++ last) ≡ map file_name folder ++ last ∷ []
+pieces_body [] last ok = slice_split_none (λ b. nat_eq b 47) last (no_slash last ok)
+pieces_body (seg ∷ folder) last ok =
+    ap pieces (sym (append_both (file_name seg ++ 47 ∷ []) (folder_name folder) last) ∙ sym (append_both (file_name seg) (47 ∷ []) (folder_name folder ++ last)))
+    ∙ slice_split_at (λ b. nat_eq b 47) (file_name seg) 47 (folder_name folder ++ last) (no_slash (file_name seg) (bytes_ok seg)) refl
+    ∙ ap (λ rest. file_name seg ∷ rest) (pieces_body folder last ok)
+
+lists : (x y : List ℕ) (xs ys : List (List ℕ)) → x ∷ xs ≡ y ∷ ys → (x ≡ y) × (xs ≡ ys)
+lists x y xs ys e = (cc, cc)
+
+some_last : (xs : List (List ℕ)) (x : List ℕ) → xs ++ x ∷ [] ≡ [] → ⊥
+some_last [] x e = absurd cc
+some_last (y ∷ xs) x e = absurd cc
+
+same_pieces : (a b : List (List ℕ)) (x y : List ℕ) → AllByRecursion are_bytes a → AllByRecursion are_bytes b → map file_name a ++ x ∷ [] ≡ map file_name b ++ y ∷ [] → (a ≡ b) × (x ≡ y)
+same_pieces [] [] x y small_a small_b e = (refl, (lists x y [] [] e).0)
+same_pieces [] (t ∷ b) x y small_a small_b e = absurd (some_last (map file_name b) y (sym (lists x (file_name t) [] (map file_name b ++ y ∷ []) e).1))
+same_pieces (s ∷ a) [] x y small_a small_b e = absurd (some_last (map file_name a) x (lists (file_name s) y (map file_name a ++ x ∷ []) [] e).1)
+same_pieces (s ∷ a) (t ∷ b) x y small_a small_b e =
+    let one = lists (file_name s) (file_name t) (map file_name a ++ x ∷ []) (map file_name b ++ y ∷ []) e in
+    let rest = same_pieces a b x y small_a.1 small_b.1 one.1 in
+    (ap (λ seg. seg ∷ a) (same_name s t small_a.0 small_b.0 one.0) ∙ ap (λ segs. t ∷ segs) rest.0, rest.1)
+
+same_place : (a b : List (List ℕ)) (x y : List ℕ) → AllByRecursion are_bytes a → AllByRecursion are_bytes b → list_all is_name_byte x ≡ true → list_all is_name_byte y ≡ true
+    → folder_name a ++ x ≡ folder_name b ++ y → (a ≡ b) × (x ≡ y)
+same_place a b x y small_a small_b ok_x ok_y e = same_pieces a b x y small_a small_b (sym (pieces_body a x ok_x) ∙ ap pieces e ∙ pieces_body b y ok_y)
+
+-- ---- the files of pages and folders
+
+pub bodies : (a b : List (List ℕ)) (x y : List ℕ) → AllByRecursion are_bytes a → AllByRecursion are_bytes b → are_bytes x → are_bytes y → body_name a x ≡ body_name b y → (a ≡ b) × (x ≡ y)
+bodies a b x y small_a small_b small_x small_y e =
+    let place = same_place a b (file_name x) (file_name y) small_a small_b (bytes_ok x) (bytes_ok y) e in
+    (place.0, same_name x y small_x small_y place.1)
+
+pub heads : (a b : List (List ℕ)) (x y : List ℕ) → AllByRecursion are_bytes a → AllByRecursion are_bytes b → are_bytes x → are_bytes y → head_name a x ≡ head_name b y → (a ≡ b) × (x ≡ y)
+heads a b x y small_a small_b small_x small_y e = bodies a b x y small_a small_b small_x small_y (append_cancel_right (body_name a x) (body_name b y) (codes "%h") e)
+
+pub stats : (a b : List (List ℕ)) → AllByRecursion are_bytes a → AllByRecursion are_bytes b → stat_name a ≡ stat_name b → a ≡ b
+stats a b small_a small_b e = (same_place a b (codes ".stat") (codes ".stat") small_a small_b refl refl e).0
+
+-- no file's name ends as a head's does
+low_glyph : (d : ℕ) → d < 16 → digit_glyph true d ≡ 37 → ⊥
+low_glyph d small e = grind (arith, nat_tests)
+
+-- a byte taken off the front leaves the end
+peel : (b : ℕ) (p : Bool) (xs t : List ℕ) → is_plain b ≡ p → written p b ++ xs ≡ t ++ 37 ∷ 104 ∷ [] → (rest : List ℕ) × (xs ≡ rest ++ 37 ∷ 104 ∷ [])
+peel b true xs [] plain e = absurd (never_percent b plain (head_of_two b 37 xs (104 ∷ []) e).0)
+peel b true xs (c ∷ t) plain e = (t, (head_of_two b c xs (t ++ 37 ∷ 104 ∷ []) e).1)
+peel b false xs [] plain e = absurd cc
+peel b false xs (c ∷ []) plain e =
+    absurd (low_glyph (b / 16 % 16) (omega arith) (head_of_two _ 37 (digit_glyph true (b % 16) ∷ xs) (104 ∷ []) (head_of_two 37 c _ _ e).1).0)
+peel b false xs (c ∷ d ∷ []) plain e =
+    absurd (low_glyph (b % 16) (omega arith) (head_of_two _ 37 xs (104 ∷ []) (head_of_two _ d _ _ (head_of_two 37 c _ _ e).1).1).0)
+peel b false xs (c ∷ d ∷ f ∷ t) plain e = (t, (head_of_two _ f xs (t ++ 37 ∷ 104 ∷ []) (head_of_two _ d _ _ (head_of_two 37 c _ _ e).1).1).1)
+
+no_head : (s t : List ℕ) → file_name s ≡ t ++ 37 ∷ 104 ∷ [] → ⊥
+unfolding file_name
+no_head [] [] e = absurd cc
+no_head [] (x ∷ t) e = absurd cc
+no_head (b ∷ s) t e =
+    let p = peel b (is_plain b) (file_name s) t refl e in
+    no_head s p.0 p.1
+
+head_bytes : (x : List ℕ) → list_all is_name_byte (file_name x ++ codes "%h") ≡ true
+head_bytes x = list_all-append is_name_byte (file_name x) (codes "%h") ∙ both _ _ (bytes_ok x) refl
+
+pub head_not_body : (a b : List (List ℕ)) (x y : List ℕ) → AllByRecursion are_bytes a → AllByRecursion are_bytes b → head_name a x ≢ body_name b y
+head_not_body a b x y small_a small_b e =
+    no_head y (file_name x) (sym (same_place a b (file_name x ++ codes "%h") (file_name y) small_a small_b (head_bytes x) (bytes_ok y)
+        (append_both (folder_name a) (file_name x) (codes "%h") ∙ e)).1)
+
+-- a page's file doesn't begin with a dot, and neither do its names
+no_dot : (y more rest : List ℕ) → is_file y ≡ true → file_name y ++ more ≡ 46 ∷ rest → ⊥
+unfolding file_name
+no_dot [] more rest file e = true≢false (sym file)
+no_dot (c ∷ y) more rest file e =
+    let dot : c ≡ 46 = (first_byte c (is_plain c) (file_name y ++ more) rest (append_both (file_byte c) (file_name y) more ∙ e)).0 in
+    true≢false (sym (ap (λ b. nat_eq b 46) dot) ∙ file_first (c ∷ y) file)
+
+pub dot_not_body : (a b : List (List ℕ)) (rest y : List ℕ) → AllByRecursion are_bytes a → AllByRecursion are_bytes b → list_all is_name_byte (46 ∷ rest) ≡ true → is_file y ≡ true
+    → folder_name a ++ 46 ∷ rest ≢ body_name b y
+dot_not_body a b rest y small_a small_b ok file e =
+    no_dot y [] rest file (append-nil (file_name y) ∙ sym (same_place a b (46 ∷ rest) (file_name y) small_a small_b ok (bytes_ok y) e).1)
+
+pub dot_not_head : (a b : List (List ℕ)) (rest y : List ℕ) → AllByRecursion are_bytes a → AllByRecursion are_bytes b → list_all is_name_byte (46 ∷ rest) ≡ true → is_file y ≡ true
+    → folder_name a ++ 46 ∷ rest ≢ head_name b y
+dot_not_head a b rest y small_a small_b ok file e =
+    no_dot y (codes "%h") rest file (sym (same_place a b (46 ∷ rest) (file_name y ++ codes "%h") small_a small_b ok (head_bytes y)
+        (e ∙ sym (append_both (folder_name b) (file_name y) (codes "%h")))).1)
+
+pub epoch_not_stat : (a : List (List ℕ)) → AllByRecursion are_bytes a → stat_name a ≢ epoch_name
+epoch_not_stat a small e =
+    let last : codes ".stat" ≡ codes ".epoch" = (same_place a [] (codes ".stat") (codes ".epoch") small tt refl refl e).1 in
+    let letter : 115 ≡ 101 = ap (λ l. get_or l 1 0) last in
+    omega (arith, letter)

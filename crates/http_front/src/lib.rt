@@ -6,6 +6,7 @@ mod answer;
 mod fault;
 mod head;
 mod host;
+mod intake;
 mod laws;
 mod target;
 mod turn;
@@ -13,6 +14,7 @@ mod window;
 
 pub use answer::{answer_bytes, fixed_507};
 pub use fault::InFault;
+pub use intake::Intake;
 pub use laws::the_turns_of_a_beginning;
 pub use target::{Target, read_target};
 pub use turn::Turn;

@@ -36,9 +36,7 @@ pub fn read_front(alloc: Global, stream: &[u8], places: &mut [HeaderSpan]) -> Me
     let window = window(stream);
     match read_whole(alloc, window, places)? {
         Front::Whole(head, len) => Ok(Front::Whole(head, len)),
-        Front::Partial if window.len() == LONGEST_HEAD => {
-            Ok(Front::Refused(InFault::LongHead))
-        }
+        Front::Partial if window.len() == LONGEST_HEAD => { Ok(Front::Refused(InFault::LongHead)) }
         Front::Partial => Ok(Front::Partial),
         Front::Refused(fault) => Ok(Front::Refused(fault)),
         // There are places for as many fields as so many bytes can hold.
@@ -85,12 +83,7 @@ fn read_window(alloc: Global, bytes: &[u8], places: &mut [HeaderSpan]) -> Mem<Fr
     }
 }
 
-fn whole(
-    alloc: Global,
-    bytes: &[u8],
-    fields: &[HeaderSpan],
-    spans: &RequestSpans,
-) -> Mem<Front>
+fn whole(alloc: Global, bytes: &[u8], fields: &[HeaderSpan], spans: &RequestSpans) -> Mem<Front>
     requires small { length bytes.now ≤ longest_head }
     requires within { AreWithin bytes.now fields.now spans.now }
     requires holds { HoldsSomeHead bytes.now fields.now spans.now }

@@ -1,6 +1,6 @@
 -- What content parameters ask of the nodes and properties that they name (Apache Sling, "SlingPostServlet").
-use Rattle.std.specs.Prelude.{◌==◌, ◌&&◌, ℕ, Bool, true, false, not, if◌then◌else◌, List, [], ◌∷◌, Option, Some, None, option_and_then, codes, length, map, filter, unwrap_or}
-use Rattle.std.specs.List.{filter_map, list_any}
+use Rattle.std.specs.Prelude.{◌==◌, ◌&&◌, ℕ, Bool, true, false, not, if◌then◌else◌, List, [], ◌∷◌, ◌++◌, Option, Some, None, option_and_then, codes, length, map, filter}
+use Rattle.std.specs.List.{cons_option, filter_map, list_any}
 use Rattle.std.specs.Str.{bytes_eq}
 use Rattle.std.specs.Cmp.Lexicographic.{pointwise}
 use Rattle.sp_base.specs.declared.hint.Hint.{Hint}
@@ -9,7 +9,7 @@ use Rattle.post_plan.specs.declared.suffix.Suffix.TheVariants.{Plain, TypeHint, 
 use Rattle.post_plan.specs.declared.spot.Spot.{Spot}
 use Rattle.post_plan.specs.declared.spot.Carry.{Carry}
 use Rattle.post_plan.specs.declared.operation.PropSet.{PropSet}
-use Rattle.post_plan.specs.Parameters.{path_text, suffix_of, words_of, content}
+use Rattle.post_plan.specs.Parameters.{path_text, suffix_of, words_of, any_marked, content_where}
 use Rattle.post_plan.specs.Hints.{hint_of}
 use Rattle.post_plan.specs.Spots.{spot_of}
 
@@ -27,9 +27,12 @@ entry_by (Some spot) (Some suffix) word = Some (record { spot = spot; suffix = s
 abbrev pub entry_of : List (List ℕ) → List ℕ × List ℕ → Option Entry
 entry_of node p = entry_by (spot_of node (path_text p.0)) (suffix_of p.0) p.1
 
+abbrev pub entries_where : List (List ℕ) → Bool → List (List ℕ × List ℕ) → List Entry
+entries_where node marked pairs = filter_map (entry_of node) (content_where marked pairs)
+
 -- the content parameters of a form, seen from a node
 abbrev pub entries : List (List ℕ) → List (List ℕ × List ℕ) → List Entry
-entries node pairs = filter_map (entry_of node) (content pairs)
+entries node pairs = entries_where node (any_marked pairs) pairs
 
 abbrev pub same_suffix : Suffix → Suffix → Bool
 same_suffix Plain Plain = true
@@ -53,9 +56,13 @@ abbrev pub carry_by : Option Spot → Spot → Option Carry
 carry_by None to = None
 carry_by (Some from) to = Some (record { from = from; to = to })
 
+-- the move or the copy that a parameter asks for
+abbrev pub carry_of : List (List ℕ) → Entry → Option Carry
+carry_of node e = carry_by (spot_of node e.word) e.spot
+
 -- each `@MoveFrom`, or each `@CopyFrom`, in the order of the form
 abbrev pub carries : List (List ℕ) → Suffix → List Entry → List Carry
-carries node suffix es = filter_map (λ e. carry_by (spot_of node e.word) e.spot) (with_suffix suffix es)
+carries node suffix es = filter_map (carry_of node) (with_suffix suffix es)
 
 abbrev pub same_bool : Bool → Bool → Bool
 same_bool true b = b
@@ -69,9 +76,13 @@ unfoldable pub distinct : List Spot → List Spot
 distinct [] = []
 distinct (s ∷ more) = s ∷ filter (λ t. not (same_spot s t)) (distinct more)
 
+-- a parameter of a spot with a suffix
+abbrev pub is_at : Spot → Suffix → Entry → Bool
+is_at spot suffix e = same_suffix suffix e.suffix && same_spot spot e.spot
+
 -- the words of a spot's parameters with a suffix
 abbrev pub words_at : Spot → Suffix → List Entry → List (List ℕ)
-words_at spot suffix es = map (λ e. e.word) (filter (λ e. same_spot spot e.spot) (with_suffix suffix es))
+words_at spot suffix es = map (λ e. e.word) (filter (is_at spot suffix) es)
 
 abbrev pub first : List (List ℕ) → Option (List ℕ)
 first [] = None
@@ -109,9 +120,26 @@ abbrev pub set_by : Spot → Option Hint → List (List ℕ) → Option PropSet
 set_by spot hint [] = None
 set_by spot hint (word ∷ more) = Some (record { spot = spot; hint = hint; words = word ∷ more })
 
+-- the type that a spot's parameters ask for
+abbrev pub hint_at : List Entry → Spot → Option Hint
+hint_at es spot = option_and_then hint_of (first (words_at spot TypeHint es))
+
 abbrev pub set_of : List (List ℕ × List ℕ) → List Entry → Spot → Option PropSet
-set_of pairs es spot = set_by spot (option_and_then hint_of (first (words_at spot TypeHint es))) (set_words pairs es spot)
+set_of pairs es spot = set_by spot (hint_at es spot) (set_words pairs es spot)
 
 -- the properties that are set, each at the place of the first parameter that names it
 abbrev pub sets : List (List ℕ × List ℕ) → List Entry → List PropSet
 sets pairs es = filter_map (set_of pairs es) (distinct (map (λ e. e.spot) es))
+
+-- whether any of these names a spot
+abbrev pub is_named : Spot → List Entry → Bool
+is_named spot es = list_any (λ e. same_spot e.spot spot) es
+
+-- what a parameter sets, where those before it don't name its spot
+abbrev pub set_here : List (List ℕ × List ℕ) → List Entry → List Entry → Entry → Option PropSet
+set_here pairs es before e = if is_named e.spot before then None else set_of pairs es e.spot
+
+-- the properties that later parameters set, where these stand before them
+unfoldable pub sets_from : List (List ℕ × List ℕ) → List Entry → List Entry → List Entry → List PropSet
+sets_from pairs es before [] = []
+sets_from pairs es before (e ∷ later) = cons_option (set_here pairs es before e) (sets_from pairs es (before ++ e ∷ []) later)

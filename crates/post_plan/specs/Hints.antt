@@ -9,7 +9,7 @@ use Rattle.post_plan.specs.declared.suffix.Suffix.{Suffix}
 use Rattle.post_plan.specs.declared.suffix.Suffix.TheVariants.{Plain, TypeHint, DefaultValue, Delete, MoveFrom, CopyFrom, ValueFrom, IgnoreBlanks}
 use Rattle.post_plan.specs.declared.fault.PlanFault.{PlanFault}
 use Rattle.post_plan.specs.declared.fault.PlanFault.TheVariants.{BadHint}
-use Rattle.post_plan.specs.Parameters.{suffix_of, content}
+use Rattle.post_plan.specs.Parameters.{suffix_of, any_marked, content_where}
 
 abbrev pub is_text_word : List ℕ → Bool
 is_text_word word = bytes_eq word (codes "String") || (bytes_eq word (codes "Date") || (bytes_eq word (codes "Name") || (bytes_eq word (codes "Path") || bytes_eq word (codes "URI"))))
@@ -38,6 +38,12 @@ is_bad_word (Some CopyFrom) word = false
 is_bad_word (Some ValueFrom) word = false
 is_bad_word (Some IgnoreBlanks) word = false
 
--- the first content parameter with an unknown suffix or an unknown type hint
+-- the name of the first content parameter with an unknown suffix or an unknown type hint
+abbrev pub bad_hint_where : Bool → List (List ℕ × List ℕ) → Option (List ℕ)
+bad_hint_where marked pairs = option_map (λ p. p.0) (find (λ p. is_bad_word (suffix_of p.0) p.1) (content_where marked pairs))
+
+abbrev pub bad_hint : List (List ℕ × List ℕ) → Option (List ℕ)
+bad_hint pairs = bad_hint_where (any_marked pairs) pairs
+
 abbrev pub hint_fault : List (List ℕ × List ℕ) → Option PlanFault
-hint_fault pairs = option_map (λ p. BadHint p.0) (find (λ p. is_bad_word (suffix_of p.0) p.1) (content pairs))
+hint_fault pairs = option_map BadHint (bad_hint pairs)

@@ -1,6 +1,6 @@
 -- The name of a node that a POST makes (Apache Sling, "SlingPostServlet", "Algorithm for node name creation").
-use Rattle.std.specs.Prelude.{◌&&◌, ◌||◌, ◌==◌, ◌+◌, ℕ, Bool, true, false, not, if◌then◌else◌, List, [], ◌∷◌, Option, Some, None, unwrap_or, codes, length, take, map}
-use Rattle.std.specs.List.{find, flat_map}
+use Rattle.std.specs.Prelude.{◌==◌, ℕ, Bool, true, false, not, if◌then◌else◌, List, [], ◌∷◌, Option, Some, None, unwrap_or, codes, length, take}
+use Rattle.std.specs.List.{find}
 use Rattle.std.specs.Char.{is_ascii_alphanumeric, to_ascii_lowercase}
 use Rattle.post_plan.specs.declared.operation.NameWish.{NameWish}
 use Rattle.post_plan.specs.declared.operation.NameWish.TheVariants.{Exact, Hint}
@@ -27,8 +27,17 @@ made_name word = or_node (take longest_made (squeezed false word))
 abbrev pub sources : List (List ℕ)
 sources = codes "title" ∷ codes "jcr:title" ∷ codes "name" ∷ codes "description" ∷ codes "jcr:description" ∷ codes "abstract" ∷ codes "text" ∷ codes "jcr:text" ∷ []
 
+-- the first word of a name that isn't empty
+abbrev pub full_word : List ℕ → List (List ℕ × List ℕ) → Option (List ℕ)
+full_word name pairs = find (λ word. not (length word == 0)) (words_of name pairs)
+
+-- the first word, not empty, of the first of these names that has one
+unfoldable pub source_in : List (List ℕ) → List (List ℕ × List ℕ) → List ℕ
+source_in [] pairs = []
+source_in (name ∷ names) pairs = unwrap_or (full_word name pairs) (source_in names pairs)
+
 abbrev pub first_source : List (List ℕ × List ℕ) → List ℕ
-first_source pairs = unwrap_or (find (λ word. not (length word == 0)) (flat_map (λ name. words_of name pairs) sources)) []
+first_source pairs = source_in sources pairs
 
 abbrev pub hinted : Option (List ℕ) → List (List ℕ × List ℕ) → NameWish
 hinted (Some word) pairs = Hint (made_name word)

@@ -29,9 +29,9 @@ any_marked pairs = list_any (λ p. is_marked p.0) pairs
 abbrev pub is_content : Bool → List ℕ → Bool
 is_content marked name = not (is_control name) && (not marked || (is_marked name || (starts_with nat_eq name (codes "../") || starts_with nat_eq name (codes "/"))))
 
--- the parameters that are content
-abbrev pub content : List (List ℕ × List ℕ) → List (List ℕ × List ℕ)
-content pairs = filter (λ p. is_content (any_marked pairs) p.0) pairs
+-- the parameters that are content, where some are marked or none is
+abbrev pub content_where : Bool → List (List ℕ × List ℕ) → List (List ℕ × List ℕ)
+content_where marked pairs = filter (λ p. is_content marked p.0) pairs
 
 abbrev pub is_at : ℕ → Bool
 is_at b = b == 64

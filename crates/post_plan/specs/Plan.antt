@@ -1,5 +1,5 @@
 -- The operation that a POST asks for, or its first fault (Apache Sling, "SlingPostServlet").
-use Rattle.std.specs.Prelude.{◌==◌, ◌&&◌, ◌||◌, ◌-◌, ℕ, Bool, true, false, not, nat_eq, nat_lt, if◌then◌else◌, List, [], ◌∷◌, ◌++◌, Option, Some, None, is_none, option_map, unwrap_or, Result, Ok, Err, codes, length, drop}
+use Rattle.std.specs.Prelude.{◌==◌, ◌&&◌, ◌||◌, ◌^◌, ℕ, Bool, true, false, not, nat_eq, nat_lt, if◌then◌else◌, List, [], ◌∷◌, Option, Some, None, is_none, option_map, unwrap_or, Result, Ok, Err, codes, length, drop}
 use Rattle.std.specs.List.{starts_with}
 use Rattle.std.specs.Str.{bytes_eq, all_ascii_digits}
 use Rattle.std.specs.Str.Parse.{digits_value}
@@ -14,11 +14,12 @@ use Rattle.post_plan.specs.declared.suffix.Suffix.{Suffix}
 use Rattle.post_plan.specs.declared.suffix.Suffix.TheVariants.{Plain, TypeHint, DefaultValue, Delete as DeleteSuffix, MoveFrom, CopyFrom, ValueFrom, IgnoreBlanks}
 use Rattle.post_plan.specs.declared.operation.Op.{Op}
 use Rattle.post_plan.specs.declared.operation.Op.TheVariants.{Modify as ModifyOperation, Delete as DeleteOperation, Copy as CopyOperation, Move as MoveOperation, Nop as NopOperation}
+use Rattle.post_plan.specs.declared.operation.ModifyOp.{ModifyOp}
+use Rattle.post_plan.specs.declared.operation.CarryOp.{CarryOp}
 use Rattle.post_plan.specs.declared.operation.NameWish.{NameWish}
-use Rattle.post_plan.specs.declared.operation.NameWish.TheVariants.{Exact, Hint}
 use Rattle.post_plan.specs.Parameters.{first_word, any_marked, is_content, path_text, suffix_of}
 use Rattle.post_plan.specs.Hints.{hint_fault}
-use Rattle.post_plan.specs.Spots.{spot_of, goal_of, is_reserved}
+use Rattle.post_plan.specs.Spots.{spot_of, goal_of, is_reserved, under}
 use Rattle.post_plan.specs.NewNames.{wish_of, name_in}
 use Rattle.post_plan.specs.Entries.{Entry, entries, deletes, carries, sets}
 
@@ -58,20 +59,30 @@ dest_word pairs = unwrap_or (first_word (codes ":dest") pairs) []
 abbrev pub replaces : List (List ℕ × List ℕ) → Bool
 replaces pairs = bytes_eq (unwrap_or (first_word (codes ":replace") pairs) []) (codes "true")
 
--- decimal digits without a leading zero, within 64 bits
-abbrev pub is_number : List ℕ → Bool
-is_number word = all_ascii_digits word && (nat_lt 0 (length word) && ((length word == 1 || not (starts_with nat_eq word (codes "0"))) && nat_lt (digits_value 10 word) 18446744073709551616))
+-- decimal digits without a leading zero
+abbrev pub is_numeral : List ℕ → Bool
+is_numeral word = all_ascii_digits word && (not (length word == 0) && (length word == 1 || not (starts_with nat_eq word (codes "0"))))
 
-abbrev pub place_beside : Place → List ℕ → Option Place
-place_beside place name = if seg_ok name then Some place else None
+-- a number within 64 bits
+abbrev pub number_of : List ℕ → Option ℕ
+number_of word = if is_numeral word && nat_lt (digits_value 10 word) (2 ^ 64) then Some (digits_value 10 word) else None
+
+abbrev pub place_at : Option ℕ → Option Place
+place_at None = None
+place_at (Some n) = Some (At n)
+
+abbrev pub place_before : List ℕ → Option Place
+place_before name = if seg_ok name then Some (Before name) else None
+
+abbrev pub place_after : List ℕ → Option Place
+place_after name = if seg_ok name then Some (After name) else None
 
 -- the place that `:order` names
 abbrev pub place_named : List ℕ → Option Place
 place_named word = if bytes_eq word (codes "first") then Some First
     else (if bytes_eq word (codes "last") then Some Last
-    else (if starts_with nat_eq word (codes "before ") then place_beside (Before (drop 7 word)) (drop 7 word)
-    else (if starts_with nat_eq word (codes "after ") then place_beside (After (drop 6 word)) (drop 6 word)
-    else (if is_number word then Some (At (digits_value 10 word)) else None))))
+    else (if starts_with nat_eq word (codes "before ") then place_before (drop 7 word)
+    else (if starts_with nat_eq word (codes "after ") then place_after (drop 6 word) else place_at (number_of word))))
 
 abbrev pub place_by : Option (List ℕ) → Option Place
 place_by None = None
@@ -84,34 +95,43 @@ abbrev pub is_bad_order : Option (List ℕ) → Bool
 is_bad_order None = false
 is_bad_order (Some word) = is_none (place_named word)
 
--- a new node is made where one is wished and nothing but a change is asked for
-abbrev pub is_fresh : Bool → List (List ℕ × List ℕ) → Bool
-is_fresh star pairs = star && is_modify (verb_of pairs)
+-- the name of the new node, where one is wished and nothing but a change is asked for
+abbrev pub fresh_wish : Bool → List (List ℕ × List ℕ) → Option NameWish
+fresh_wish star pairs = if star && is_modify (verb_of pairs) then Some (wish_of pairs) else None
 
 -- the node that names are relative to: the target, or the new node under it
 abbrev pub node_of : List (List ℕ) → Bool → List (List ℕ × List ℕ) → List (List ℕ)
-node_of target star pairs = if is_fresh star pairs then target ++ name_in (wish_of pairs) ∷ [] else target
+node_of target star pairs = under target (option_map name_in (fresh_wish star pairs))
 
-abbrev pub bad_source : List (List ℕ) → Option Suffix → List ℕ → Option (List ℕ)
-bad_source node None word = None
-bad_source node (Some Plain) word = None
-bad_source node (Some TypeHint) word = None
-bad_source node (Some DefaultValue) word = None
-bad_source node (Some DeleteSuffix) word = None
-bad_source node (Some MoveFrom) word = if is_none (spot_of node word) then Some word else None
-bad_source node (Some CopyFrom) word = if is_none (spot_of node word) then Some word else None
-bad_source node (Some ValueFrom) word = None
-bad_source node (Some IgnoreBlanks) word = None
+abbrev pub names_source : Option Suffix → Bool
+names_source None = false
+names_source (Some Plain) = false
+names_source (Some TypeHint) = false
+names_source (Some DefaultValue) = false
+names_source (Some DeleteSuffix) = false
+names_source (Some MoveFrom) = true
+names_source (Some CopyFrom) = true
+names_source (Some ValueFrom) = false
+names_source (Some IgnoreBlanks) = false
 
 -- the text of a content parameter that names nothing that may be changed: its name's path, else its source
 abbrev pub bad_entry : List (List ℕ) → List ℕ × List ℕ → Option (List ℕ)
-bad_entry node p = if is_none (spot_of node (path_text p.0)) then Some (path_text p.0) else bad_source node (suffix_of p.0) p.1
+bad_entry node p = if is_none (spot_of node (path_text p.0)) then Some (path_text p.0)
+    else (if names_source (suffix_of p.0) && is_none (spot_of node p.1) then Some p.1 else None)
 
--- the same of any parameter; of control parameters `:dest` and `:name` count, each where it has a meaning
-abbrev pub bad_text : List (List ℕ) → Bool → List (List ℕ × List ℕ) → List ℕ × List ℕ → Option (List ℕ)
-bad_text target star pairs p = if bytes_eq p.0 (codes ":dest") then (if carries_node (verb_of pairs) && is_none (goal_of target (dest_word pairs)) then Some p.1 else None)
-    else (if bytes_eq p.0 (codes ":name") then (if is_fresh star pairs && not (seg_ok (name_in (wish_of pairs))) then Some p.1 else None)
-    else (if is_content (any_marked pairs) p.0 then bad_entry (node_of target star pairs) p else None))
+-- the goal of a copy or a move is no path
+abbrev pub is_bad_dest : List (List ℕ) → List (List ℕ × List ℕ) → Bool
+is_bad_dest target pairs = carries_node (verb_of pairs) && is_none (goal_of target (dest_word pairs))
+
+-- the name of a new node is none that a path may have
+abbrev pub is_bad_wish : Option NameWish → Bool
+is_bad_wish None = false
+is_bad_wish (Some wish) = not (seg_ok (name_in wish))
+
+-- the same of any parameter; of control parameters `:dest` and `:name` count, each where it is bad
+abbrev pub bad_text : List (List ℕ) → Bool → Bool → Bool → List ℕ × List ℕ → Option (List ℕ)
+bad_text node bad_dest bad_name marked p = if bytes_eq p.0 (codes ":dest") then (if bad_dest then Some p.1 else None)
+    else (if bytes_eq p.0 (codes ":name") then (if bad_name then Some p.1 else None) else (if is_content marked p.0 then bad_entry node p else None))
 
 abbrev pub or_next : Option (List ℕ) → Option (List ℕ) → Option (List ℕ)
 or_next None next = next
@@ -127,7 +147,7 @@ if_fault bad fault = if bad then Some fault else None
 -- the node itself stands first, then the parameters in their order
 abbrev pub path_fault : List (List ℕ) → Bool → List (List ℕ × List ℕ) → Option PlanFault
 path_fault target star pairs = if is_reserved (node_of target star pairs) then Some (BadPath (text_of (node_of target star pairs)))
-    else option_map BadPath (first_bad (bad_text target star pairs) pairs)
+    else option_map BadPath (first_bad (bad_text (node_of target star pairs) (is_bad_dest target pairs) (is_bad_wish (fresh_wish star pairs)) (any_marked pairs)) pairs)
 
 abbrev pub first_fault : List (Option PlanFault) → Option PlanFault
 first_fault [] = None
@@ -142,26 +162,26 @@ faults target star pairs = if_fault (is_none (verb_of pairs)) BadOperation
     ∷ hint_fault pairs
     ∷ path_fault target star pairs ∷ []
 
-abbrev pub fresh_of : Bool → List (List ℕ × List ℕ) → Option NameWish
-fresh_of star pairs = if star then Some (wish_of pairs) else None
-
-abbrev pub modify_of : List (List ℕ) → Bool → List (List ℕ × List ℕ) → List (List ℕ) → Op
-modify_of target star pairs node = ModifyOperation (record {
+abbrev pub modify_of : List (List ℕ) → Bool → List (List ℕ × List ℕ) → List Entry → List (List ℕ) → ModifyOp
+modify_of target star pairs es node = record {
   target = target;
-  fresh = fresh_of star pairs;
-  deletes = deletes (entries node pairs);
-  moves = carries node MoveFrom (entries node pairs);
-  copies = carries node CopyFrom (entries node pairs);
-  sets = sets pairs (entries node pairs);
+  fresh = fresh_wish star pairs;
+  deletes = deletes es;
+  moves = carries node MoveFrom es;
+  copies = carries node CopyFrom es;
+  sets = sets pairs es;
   place = place_of pairs;
-})
+}
+
+abbrev pub carry_of : List (List ℕ) → List (List ℕ × List ℕ) → CarryOp
+carry_of target pairs = record { from = target; to = unwrap_or (goal_of target (dest_word pairs)) []; replace = replaces pairs }
 
 abbrev pub operation_by : Option Verb → List (List ℕ) → Bool → List (List ℕ × List ℕ) → Op
 operation_by None target star pairs = NopOperation target
-operation_by (Some Modify) target star pairs = modify_of target star pairs (node_of target star pairs)
+operation_by (Some Modify) target star pairs = ModifyOperation (modify_of target star pairs (entries (node_of target star pairs) pairs) (node_of target star pairs))
 operation_by (Some Delete) target star pairs = DeleteOperation target
-operation_by (Some Copy) target star pairs = CopyOperation (record { from = target; to = unwrap_or (goal_of target (dest_word pairs)) []; replace = replaces pairs })
-operation_by (Some Move) target star pairs = MoveOperation (record { from = target; to = unwrap_or (goal_of target (dest_word pairs)) []; replace = replaces pairs })
+operation_by (Some Copy) target star pairs = CopyOperation (carry_of target pairs)
+operation_by (Some Move) target star pairs = MoveOperation (carry_of target pairs)
 operation_by (Some Nop) target star pairs = NopOperation target
 
 abbrev pub unless_fault : Option PlanFault → Op → Result Op PlanFault

@@ -1,54 +1,37 @@
 -- Paths in the names and words of parameters, relative to a node or absolute (Apache Sling, "SlingPostServlet"; RFC 3986, section 5.2.4).
-use Rattle.std.specs.Prelude.{◌==◌, ◌&&◌, ◌||◌, ◌-◌, ◌+◌, ℕ, Bool, true, false, not, nat_eq, nat_le, if◌then◌else◌, List, [], ◌∷◌, ◌++◌, Option, Some, None, option_and_then, Result, Ok, Err, codes, length, take, drop, slice_index, slice_index_or}
-use Rattle.std.specs.Str.{bytes_eq}
-use Rattle.sp_base.specs.Paths.{seg_ok, pieces, path_of, is_under, most_segments, parent_of}
+use Rattle.std.specs.Prelude.{◌==◌, ◌&&◌, ◌||◌, ◌-◌, ℕ, Bool, true, false, nat_eq, nat_le, nat_lt, if◌then◌else◌, List, [], ◌∷◌, ◌++◌, Option, Some, None, option_and_then, Result, Ok, Err, codes, flat_map, length, take, drop, slice_index_or}
+use Rattle.std.specs.List.{starts_with, ends_with}
+use Rattle.sp_base.specs.Paths.{seg_ok, pieces, path_of, path_or_none, is_under, parent_of}
 use Rattle.sp_base.specs.declared.path.PathFault.{PathFault}
 use Rattle.post_plan.specs.declared.spot.Spot.{Spot}
+use Rattle.post_plan.specs.Ways.{Way, way_of}
 
--- how a relative path goes: up from a node by so many segments, then down
-pub record Way : Type 0 where
-  pub up : ℕ
-  pub down : List (List ℕ)
-
--- `..` takes back the last segment, or goes up
-abbrev pub climbed : Way → Way
-climbed way = if length way.down == 0 then record { up = way.up + 1; down = [] } else record { up = way.up; down = take (length way.down - 1) way.down }
-
-abbrev pub way_step : Way → List ℕ → Option Way
-way_step way piece = if bytes_eq piece (codes ".") then Some way
-    else (if bytes_eq piece (codes "..") then Some (climbed way)
-    else (if seg_ok piece then Some (record { up = way.up; down = way.down ++ piece ∷ [] }) else None))
-
-unfoldable pub way_from : Way → List (List ℕ) → Option Way
-way_from way [] = Some way
-way_from way (piece ∷ more) = option_and_then (λ next. way_from next more) (way_step way piece)
-
-abbrev pub way_of : List ℕ → Option Way
-way_of text = way_from (record { up = 0; down = [] }) (pieces text)
-
--- the path that a way leads to from a node; none above the root, or with too many segments
+-- the path that a way leads to from a node; none above the root, or where there are too many segments
 abbrev pub led_to : List (List ℕ) → Way → Option (List (List ℕ))
-led_to node way = if nat_le way.up (length node) && nat_le (length node - way.up + length way.down) most_segments then Some (take (length node - way.up) node ++ way.down) else None
+led_to node way = if nat_le way.up (length node) then path_or_none (take (length node - way.up) node ++ way.down) else None
 
 abbrev pub is_absolute : List ℕ → Bool
-is_absolute text = slice_index text 0 == 47
+is_absolute text = starts_with nat_eq text (codes "/")
 
 -- the last piece of a path is a name
 abbrev pub ends_in_name : List ℕ → Bool
 ends_in_name text = seg_ok (slice_index_or (pieces text) (length (pieces text) - 1) [])
 
-abbrev pub absolute_spot : Result (List (List ℕ)) PathFault → Option Spot
-absolute_spot (Ok path) = Some (record { at_target = false; path = path })
-absolute_spot (Err fault) = None
+abbrev pub ok_path : Result (List (List ℕ)) PathFault → Option (List (List ℕ))
+ok_path (Ok path) = Some path
+ok_path (Err fault) = None
 
 abbrev pub spot_there : Option (List (List ℕ)) → Option Spot
 spot_there None = None
 spot_there (Some path) = Some (record { at_target = false; path = path })
 
+abbrev pub spot_below : Option (List (List ℕ)) → Option Spot
+spot_below None = None
+spot_below (Some path) = Some (record { at_target = true; path = path })
+
 -- a way that stays below its node is kept relative to it
 abbrev pub relative_spot : List (List ℕ) → Way → Option Spot
-relative_spot node way = if way.up == 0 then (if nat_le (length way.down) most_segments then Some (record { at_target = true; path = way.down }) else None)
-    else spot_there (led_to node way)
+relative_spot node way = if way.up == 0 then spot_below (path_or_none way.down) else spot_there (led_to node way)
 
 -- the path of a spot below a node
 abbrev pub full_path : List (List ℕ) → Spot → List (List ℕ)
@@ -61,33 +44,52 @@ is_reserved path = is_under path (codes "mnt" ∷ codes "overlay" ∷ []) || is_
 abbrev pub if_changeable : List (List ℕ) → Spot → Option Spot
 if_changeable node spot = if is_reserved (full_path node spot) then None else Some spot
 
+-- the place of a text that names one, absolute or seen from a node
+abbrev pub any_spot : List (List ℕ) → List ℕ → Option Spot
+any_spot node text = if is_absolute text then spot_there (ok_path (path_of text)) else option_and_then (relative_spot node) (way_of text)
+
 -- the property or node that a text names, seen from a node
 abbrev pub spot_of : List (List ℕ) → List ℕ → Option Spot
-spot_of node text = if ends_in_name text
-    then option_and_then (if_changeable node) (if is_absolute text then absolute_spot (path_of text) else option_and_then (relative_spot node) (way_of text))
-    else None
+spot_of node text = if ends_in_name text then option_and_then (if_changeable node) (any_spot node text) else None
 
 -- the goal of a copy or a move: a slash at the end asks for the target's own name under it
 abbrev pub goes_under : List ℕ → Bool
-goes_under word = not (length word == 1) && slice_index word (length word - 1) == 47
+goes_under word = nat_lt 1 (length word) && ends_with nat_eq word (codes "/")
 
 abbrev pub without_slash : List ℕ → List ℕ
 without_slash word = if goes_under word then take (length word - 1) word else word
 
-abbrev pub path_or_none : Result (List (List ℕ)) PathFault → Option (List (List ℕ))
-path_or_none (Ok path) = Some path
-path_or_none (Err fault) = None
-
 abbrev pub goal_base : List (List ℕ) → List ℕ → Option (List (List ℕ))
-goal_base parent text = if is_absolute text then path_or_none (path_of text) else (if ends_in_name text then option_and_then (led_to parent) (way_of text) else None)
+goal_base parent text = if is_absolute text then ok_path (path_of text) else (if ends_in_name text then option_and_then (led_to parent) (way_of text) else None)
 
-abbrev pub goal_in : List (List ℕ) → Option (List (List ℕ))
-goal_in path = if nat_le (length path) most_segments && not (is_reserved path) then Some path else None
+abbrev pub unless_reserved : Option (List (List ℕ)) → Option (List (List ℕ))
+unless_reserved None = None
+unless_reserved (Some path) = if is_reserved path then None else Some path
 
 -- the last segment of a path, where it has one
 abbrev pub own_name : List (List ℕ) → List (List ℕ)
 own_name path = drop (length path - 1) path
 
+-- a goal under what a word names, or that itself
+abbrev pub goal_at : List (List ℕ) → List ℕ → List (List ℕ) → Option (List (List ℕ))
+goal_at target word base = unless_reserved (if goes_under word then path_or_none (base ++ own_name target) else Some base)
+
 -- the goal that a word names for a target; a relative word is seen from the target's parent
 abbrev pub goal_of : List (List ℕ) → List ℕ → Option (List (List ℕ))
-goal_of target word = option_and_then (λ base. goal_in (if goes_under word then base ++ own_name target else base)) (goal_base (parent_of target) (without_slash word))
+goal_of target word = option_and_then (goal_at target word) (goal_base (parent_of target) (without_slash word))
+
+-- ---- what the functions that find spots promise one another
+
+-- a new node's name stands below its parent
+abbrev pub under : List (List ℕ) → Option (List ℕ) → List (List ℕ)
+under parent None = parent
+under parent (Some name) = parent ++ name ∷ []
+
+-- the text of a path before a further segment
+abbrev pub lead : List (List ℕ) → List ℕ
+lead path = flat_map (λ seg. 47 ∷ seg) path
+
+abbrev pub first_two : Option (List ℕ) → Option (List ℕ) → List (List ℕ)
+first_two None second = []
+first_two (Some first) None = first ∷ []
+first_two (Some first) (Some second) = first ∷ second ∷ []

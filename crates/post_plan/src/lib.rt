@@ -1,15 +1,30 @@
 //! The operation that a POST asks for, by its parameters (Apache Sling, "SlingPostServlet").
 #![tactic(auto)]
 
+mod entries;
 mod fault;
+mod faults;
+mod goals;
+mod groups;
 mod hints;
 mod naming;
+mod node;
 mod operation;
+mod orders;
+mod parameters;
+mod planning;
+mod sets;
 mod spot;
+mod spots;
 mod suffix;
+#[cfg(test)]
+mod tests;
 mod verb;
+mod way;
+mod wishes;
 mod words;
 
 pub use fault::PlanFault;
 pub use operation::{CarryOp, ModifyOp, NameWish, Op, PropSet, SetList};
+pub use planning::plan;
 pub use spot::{Carry, CarryList, Spot, SpotList};

@@ -40,3 +40,24 @@ pub fn verb_of(pairs: &[(TextBuf, TextBuf)]) -> Option<Verb>
         None => Some(Verb::Modify),
     }
 }
+
+/// Whether a node is copied or moved.
+pub fn carries_node(verb: Option<Verb>) -> bool
+    ensures { result ≡ spec.carries_node verb }
+{
+    match verb {
+        Some(Verb::Copy) => true,
+        Some(Verb::Move) => true,
+        _ => false,
+    }
+}
+
+/// Whether a node is made or modified.
+pub fn is_modify(verb: Option<Verb>) -> bool
+    ensures { result ≡ spec.is_modify verb }
+{
+    match verb {
+        Some(Verb::Modify) => true,
+        _ => false,
+    }
+}

@@ -1,8 +1,9 @@
 //! Parameters by their names.
-ghost use Rattle.std.specs.Prelude.{◌≡◌, option_copied};
+ghost use Rattle.std.specs.Prelude.{◌≡◌, IfOk, option_copied};
 ghost use Rattle.post_plan.specs.Parameters as spec;
 
-use sp_base::TextBuf;
+use sp_base::{Mem, TextBuf, TextList};
+use std::alloc::Global;
 
 /// The word of the first parameter of this name.
 pub fn first_word<'a>(name: &str, pairs: &'a [(TextBuf, TextBuf)]) -> Option<&'a str>
@@ -55,4 +56,17 @@ pub fn is_content(marked: bool, name: &str) -> bool
     }
     let bytes = name.as_bytes();
     !marked || (is_marked(name) || (bytes.starts_with(b"../") || bytes.starts_with(b"/")))
+}
+
+/// All words of the parameters of this name.
+pub fn words_of(alloc: Global, name: &str, pairs: &[(TextBuf, TextBuf)]) -> Mem<TextList>
+    ensures { IfOk result (λ words. words ≡ spec.words_of name.now pairs.now) }
+{
+    let mut words = TextList::new(alloc);
+    for (named, word) in pairs {
+        if named.text() == name {
+            words.push(word.duplicate(alloc)?)?;
+        }
+    }
+    Ok(words)
 }

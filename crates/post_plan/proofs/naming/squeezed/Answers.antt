@@ -1,4 +1,4 @@
-use Rattle.std.proofs.Common.{◌≡◌, ◌∷◌, ◌++◌, [], List, ℕ, sym, ap, ◌∙◌, arith, get_or, length}
+use Rattle.std.proofs.Common.{◌≡◌, ◌++◌, List, ℕ, sym, ap, ◌∙◌, arith, get_or, length}
 use Rattle.std.specs.Prelude.{string_bytes}
 use Rattle.std.specs.Char.{to_ascii_lowercase}
 use Rattle.post_plan.proofs.NameLemmas.{letter_at, begins_at, goes_on_at, full, ended_at, low_letter}

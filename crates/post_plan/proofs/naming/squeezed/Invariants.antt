@@ -1,4 +1,4 @@
-use Rattle.std.proofs.Common.{◌≡◌, length}
+use Rattle.std.proofs.Common.{length}
 use Rattle.std.specs.Prelude.{string_bytes}
 use Rattle.post_plan.proofs.NameLemmas.{IsSqueezed}
 use Rattle.post_plan.proofs.naming.squeezed.Given as goal

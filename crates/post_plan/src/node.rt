@@ -1,0 +1,124 @@
+//! The node that names are relative to.
+ghost use Rattle.std.specs.Prelude.{◌≡◌, ◌++◌, IfOk, option_copied, option_map, slice_get};
+ghost use Rattle.sp_base.specs.Paths.{text_of};
+ghost use Rattle.post_plan.specs.NewNames.{name_in};
+ghost use Rattle.post_plan.specs.Spots as spec;
+
+use crate::{NameWish, wishes};
+use sp_base::{Mem, Path, TextBuf};
+use std::alloc::Global;
+use std::marker::Model;
+
+/// A node, or a new one below it, whose name need not be one that a path may have. Contracts see the segments.
+#[derive(Drop)]
+pub struct Node<'a> {
+    pub parent: &'a Path,
+    pub name: Option<&'a str>,
+}
+
+impl<'a> Model for Node<'a> {
+    ghost use Rattle.std.specs.Prelude.{List, ℕ, option_copied};
+    ghost use Rattle.post_plan.specs.Spots.{under};
+
+    ghost Value = { List (List ℕ) };
+
+    ghost view = { λ n. under n.parent.now (option_copied n.name) };
+}
+
+// A segment of the path of what stands below a node.
+#[tactic(auto, using(crate::proofs::NodeLemmas::seg_of_parent, crate::proofs::NodeLemmas::seg_of_rest, crate::proofs::NodeLemmas::seg_of_name, crate::proofs::NodeLemmas::seg_past_name))]
+fn seg_below<'a>(node: &Node<'a>, rest: &'a Path, n: usize) -> Option<&'a str>
+    ensures { option_copied result ≡ slice_get (node.now ++ rest.now) n }
+{
+    let depth = node.parent.depth();
+    if n < depth {
+        return node.parent.seg(n);
+    }
+    match node.name {
+        None => rest.seg(n - depth),
+        Some(name) => {
+            if n == depth {
+                Some(name)
+            } else {
+                rest.seg(n - depth - 1)
+            }
+        }
+    }
+}
+
+fn is_merge_root(first: Option<&str>, second: Option<&str>) -> bool
+    ensures { result ≡ spec.is_reserved (spec.first_two (option_copied first.entry) (option_copied second.entry)) }
+{
+    match first {
+        None => false,
+        Some(first) => match second {
+            None => false,
+            Some(second) => first == "mnt" && (second == "overlay" || second == "override"),
+        },
+    }
+}
+
+/// Whether a path is among those of merged resources.
+#[tactic(auto, using(crate::proofs::NodeLemmas::reserved_of))]
+pub fn is_reserved(path: &Path) -> bool
+    ensures { result ≡ spec.is_reserved path.now }
+{
+    is_merge_root(path.seg(0), path.seg(1))
+}
+
+/// The same of a path below a node.
+#[tactic(auto, using(crate::proofs::NodeLemmas::reserved_of))]
+pub fn is_reserved_below(node: &Node, rest: &Path) -> bool
+    ensures { result ≡ spec.is_reserved (node.now ++ rest.now) }
+{
+    is_merge_root(seg_below(node, rest, 0), seg_below(node, rest, 1))
+}
+
+/// The same of the node itself.
+#[tactic(auto, using(crate::proofs::NodeLemmas::reserved_alone))]
+pub fn is_reserved_node(alloc: Global, node: &Node) -> bool
+    ensures { result ≡ spec.is_reserved node.now }
+{
+    let root = Path::root(alloc);
+    is_reserved_below(node, &root)
+}
+
+/// The node that a form is about: the target, or the new node of this name below it.
+pub fn node_of<'a>(target: &'a Path, wish: &'a Option<NameWish>) -> Node<'a>
+    ensures { result ≡ spec.under target.now (option_map name_in wish.now) }
+{
+    let name = match wish {
+        Some(wish) => Some(wishes::name_in(wish)),
+        None => None,
+    };
+    Node {
+        parent: target,
+        name,
+    }
+}
+
+// The text of a path before a further segment.
+#[tactic(auto, using(crate::proofs::NodeLemmas::lead_of, crate::proofs::NodeLemmas::lead_root))]
+fn parent_text(path: &Path) -> &str
+    ensures { result.now ≡ spec.lead path.now }
+{
+    if path.depth() == 0 {
+        ""
+    } else {
+        path.as_text()
+    }
+}
+
+/// The text of a node's segments.
+#[tactic(auto, using(crate::proofs::NodeLemmas::text_of_child))]
+pub fn node_text(alloc: Global, node: &Node) -> Mem<TextBuf>
+    ensures { IfOk result (λ t. t ≡ text_of node.now) }
+{
+    match node.name {
+        None => node.parent.text(alloc),
+        Some(name) => {
+            let parent = parent_text(node.parent);
+            Ok(TextBuf::from(format!(in alloc; "{parent}/{name}")?))
+        }
+    }
+}

@@ -1,0 +1,221 @@
+//! The properties that content parameters set.
+ghost use Rattle.std.specs.Prelude.{◌≡◌, ◌++◌, [], IfOk, OnOk, option_copied, true};
+ghost use Rattle.std.specs.Cmp.Lexicographic.{pointwise};
+ghost use Rattle.std.specs.List.{cons_option};
+ghost use Rattle.std.specs.Str.{bytes_eq};
+ghost use Rattle.post_plan.specs.Entries as spec;
+ghost use Rattle.post_plan.specs.Parameters.{words_of};
+
+use crate::entries::Entry;
+use crate::groups::{copy_of, same_suffix};
+use crate::hints::hint_of;
+use crate::suffix::Suffix;
+use crate::words::words_of;
+use crate::{PropSet, SetList, Spot};
+use sp_base::{Hint, Mem, Path, TextBuf, TextList};
+use std::alloc::Global;
+
+fn same_bool(one: bool, other: bool) -> bool
+    ensures { result ≡ spec.same_bool one other }
+{
+    if one { other } else { !other }
+}
+
+#[tactic(auto, using(crate::proofs::SetLemmas::same_path))]
+fn same_path(one: &Path, other: &Path) -> bool
+    ensures { result ≡ pointwise bytes_eq one.now other.now }
+{
+    one == other
+}
+
+fn same_spot(one: &Spot, other: &Spot) -> bool
+    ensures { result ≡ spec.same_spot one.now other.now }
+{
+    same_bool(one.at_target, other.at_target) && same_path(&one.path, &other.path)
+}
+
+fn is_at(spot: &Spot, suffix: Suffix, entry: &Entry) -> bool
+    ensures { result ≡ spec.is_at spot.now suffix entry.now }
+{
+    same_suffix(suffix, entry.suffix) && same_spot(spot, &entry.spot)
+}
+
+// The word of the first parameter of a spot with a suffix.
+fn first_at<'a>(spot: &Spot, suffix: Suffix, entries: &[Entry<'a>]) -> Option<&'a str>
+    ensures { option_copied result ≡ spec.first (spec.words_at spot.now suffix entries.now) }
+{
+    let mut rest = entries;
+    while let [entry, more @ ..] = rest {
+        if is_at(spot, suffix, entry) {
+            return Some(entry.word);
+        }
+        rest = more;
+    }
+    None
+}
+
+// All words of a spot's parameters with a suffix.
+fn words_at(alloc: Global, spot: &Spot, suffix: Suffix, entries: &[Entry]) -> Mem<TextList>
+    ensures { IfOk result (λ words. words ≡ spec.words_at spot.now suffix entries.now) }
+{
+    let mut words = TextList::new(alloc);
+    for entry in entries {
+        if is_at(spot, suffix, entry) {
+            words.push(TextBuf::of(alloc, entry.word)?)?;
+        }
+    }
+    Ok(words)
+}
+
+fn is_true(word: Option<&str>) -> bool
+    ensures { result ≡ spec.is_true (option_copied word.entry) }
+{
+    match word {
+        Some(word) => word == "true",
+        None => false,
+    }
+}
+
+fn full_words(alloc: Global, words: &TextList) -> Mem<TextList>
+    ensures { IfOk result (λ l. l ≡ spec.without_blanks true words.now) }
+{
+    let mut full = TextList::new(alloc);
+    for word in words.as_slice() {
+        if !word.text().is_empty() {
+            full.push(word.duplicate(alloc)?)?;
+        }
+    }
+    Ok(full)
+}
+
+fn without_blanks(alloc: Global, ignores: bool, words: TextList) -> Mem<TextList>
+    ensures { IfOk result (λ l. l ≡ spec.without_blanks ignores words) }
+{
+    if ignores {
+        full_words(alloc, &words)
+    } else {
+        Ok(words)
+    }
+}
+
+fn is_one_blank(words: &TextList) -> bool
+    ensures { result ≡ spec.is_one_blank words.now }
+{
+    match words.as_slice() {
+        [word] => word.text().is_empty(),
+        _ => false,
+    }
+}
+
+fn defaulted(defaults: TextList, words: TextList) -> TextList
+    ensures { result ≡ spec.defaulted defaults words }
+{
+    if !defaults.is_empty() && is_one_blank(&words) {
+        defaults
+    } else {
+        words
+    }
+}
+
+// Its own words, or those of the parameter that `@ValueFrom` names.
+fn given(
+    alloc: Global,
+    pairs: &[(TextBuf, TextBuf)],
+    spot: &Spot,
+    entries: &[Entry],
+) -> Mem<TextList>
+    ensures { IfOk result (λ l. l ≡ spec.given (spec.first (spec.words_at spot.now Suffix.ValueFrom entries.now)) pairs.now (spec.words_at spot.now Suffix.Plain entries.now)) }
+{
+    match first_at(spot, Suffix::ValueFrom, entries) {
+        Some(name) => words_of(alloc, name, pairs),
+        None => words_at(alloc, spot, Suffix::Plain, entries),
+    }
+}
+
+// The words that a spot is set to.
+fn set_words(
+    alloc: Global,
+    pairs: &[(TextBuf, TextBuf)],
+    entries: &[Entry],
+    spot: &Spot,
+) -> Mem<TextList>
+    ensures { IfOk result (λ l. l ≡ spec.set_words pairs.now entries.now spot.now) }
+{
+    let words = given(alloc, pairs, spot, entries)?;
+    let ignores = is_true(first_at(spot, Suffix::IgnoreBlanks, entries));
+    let words = without_blanks(alloc, ignores, words)?;
+    let defaults = words_at(alloc, spot, Suffix::DefaultValue, entries)?;
+    Ok(defaulted(defaults, words))
+}
+
+fn hint_at(spot: &Spot, entries: &[Entry]) -> Option<Hint>
+    ensures { result ≡ spec.hint_at entries.now spot.now }
+{
+    match first_at(spot, Suffix::TypeHint, entries) {
+        Some(word) => hint_of(word),
+        None => None,
+    }
+}
+
+fn set_of(
+    alloc: Global,
+    pairs: &[(TextBuf, TextBuf)],
+    entries: &[Entry],
+    spot: &Spot,
+) -> Mem<Option<PropSet>>
+    ensures { IfOk result (λ o. o ≡ spec.set_of pairs.now entries.now spot.now) }
+{
+    let words = set_words(alloc, pairs, entries, spot)?;
+    if words.is_empty() {
+        return Ok(None);
+    }
+    Ok(Some(PropSet {
+        spot: copy_of(alloc, spot)?,
+        hint: hint_at(spot, entries),
+        words,
+    }))
+}
+
+fn names_any(spot: &Spot, entries: &[Entry]) -> bool
+    ensures { result ≡ spec.is_named spot.now entries.now }
+{
+    entries.iter().any(|entry| same_spot(&entry.spot, spot))
+}
+
+// What an entry sets, where those before it don't name its spot.
+fn set_here(
+    alloc: Global,
+    pairs: &[(TextBuf, TextBuf)],
+    entries: &[Entry],
+    before: &[Entry],
+    entry: &Entry,
+) -> Mem<Option<PropSet>>
+    ensures { IfOk result (λ o. o ≡ spec.set_here pairs.now entries.now before.now entry.now) }
+{
+    if names_any(&entry.spot, before) {
+        return Ok(None);
+    }
+    set_of(alloc, pairs, entries, &entry.spot)
+}
+
+fn add(list: &mut SetList, set: Option<PropSet>) -> Mem<()>
+    ensures { OnOk result (list.new ≡ list.old ++ cons_option set []) }
+{
+    match set {
+        Some(set) => list.push(set),
+        None => Ok(()),
+    }
+}
+
+/// The properties that are set, each at the place of the first parameter that names it.
+#[tactic(auto, using(crate::proofs::SetLemmas::turn, crate::proofs::SetLemmas::done))]
+pub fn sets(alloc: Global, pairs: &[(TextBuf, TextBuf)], entries: &[Entry]) -> Mem<SetList>
+    ensures { IfOk result (λ l. l ≡ spec.sets pairs.now entries.now) }
+{
+    let mut list = SetList::new(alloc);
+    for n in 0..entries.len() {
+        let set = set_here(alloc, pairs, entries, &entries[..n], &entries[n])?;
+        add(&mut list, set)?;
+    }
+    Ok(list)
+}

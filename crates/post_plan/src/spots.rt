@@ -1,0 +1,175 @@
+//! The places that texts name, seen from a node.
+ghost use Rattle.std.specs.Prelude.{◌≡◌, ◌<◌, ◌++◌, ◌-◌, IfOk, not, option_and_then, length, option_copied, slice_get};
+ghost use Rattle.sp_base.specs.Paths.{path_or_none, pieces, path_of};
+ghost use Rattle.post_plan.specs.Spots as spec;
+
+use crate::Spot;
+use crate::node::{Node, is_reserved, is_reserved_below};
+use crate::way::{Way, way_of};
+use sp_base::{Mem, NoMemory, Path, PathFault, TextBuf, seg_ok};
+use std::alloc::Global;
+
+fn count(text: &str) -> usize
+    ensures { result ≡ length (pieces text.now) }
+{
+    text.split('/').count()
+}
+
+fn piece_at(text: &str, n: usize) -> Option<&str>
+    ensures { option_copied result ≡ slice_get (pieces text.now) n }
+{
+    text.split('/').nth(n)
+}
+
+#[tactic(auto, using(crate::proofs::PieceLemmas::last_there, crate::proofs::PieceLemmas::last_absent))]
+pub fn ends_in_name(text: &str) -> bool
+    ensures { result ≡ spec.ends_in_name text.now }
+{
+    match piece_at(text, count(text).saturating_sub(1)) {
+        Some(piece) => seg_ok(piece),
+        None => seg_ok(""),
+    }
+}
+
+pub fn is_absolute(text: &str) -> bool
+    ensures { result ≡ spec.is_absolute text.now }
+{
+    text.as_bytes().starts_with(b"/")
+}
+
+// The path with further segments, where that is one.
+fn extended(alloc: Global, base: Path, names: &[TextBuf]) -> Mem<Option<Path>>
+    ensures { IfOk result (λ o. o ≡ path_or_none (base ++ names.now)) }
+{
+    let mut path = base;
+    for name in names {
+        let Some(next) = path.child_or_none(alloc, name.text())? else {
+            return Ok(None);
+        };
+        path = next;
+    }
+    // That the segments make a path is a clause of its depth.
+    let _depth = path.depth();
+    Ok(Some(path))
+}
+
+// The path that an absolute text spells.
+pub fn path_in(alloc: Global, text: &str) -> Mem<Option<Path>>
+    ensures { IfOk result (λ o. o ≡ spec.ok_path (path_of text.now)) }
+{
+    match Path::read(alloc, text) {
+        Ok(path) => Ok(Some(path)),
+        Err(fault) => match fault {
+            PathFault::NoMemory => Err(NoMemory),
+            _ => Ok(None),
+        },
+    }
+}
+
+// The path that a way leads to from a node.
+pub fn led_to(alloc: Global, node: &Path, way: &Way) -> Mem<Option<Path>>
+    ensures { IfOk result (λ o. o ≡ spec.led_to node.now way.now) }
+{
+    let depth = node.depth();
+    if way.up > depth {
+        return Ok(None);
+    }
+    let above = node.first(alloc, depth - way.up)?;
+    extended(alloc, above, way.down.as_slice())
+}
+
+fn absolute_spot(path: Option<Path>) -> Option<Spot>
+    ensures { result ≡ spec.spot_there path }
+{
+    match path {
+        Some(path) => Some(Spot {
+            at_target: false,
+            path,
+        }),
+        None => None,
+    }
+}
+
+fn spot_below(path: Option<Path>) -> Option<Spot>
+    ensures { result ≡ spec.spot_below path }
+{
+    match path {
+        Some(path) => Some(Spot {
+            at_target: true,
+            path,
+        }),
+        None => None,
+    }
+}
+
+// The path that a way leads to from a node which it leaves upwards.
+#[tactic(auto, using(crate::proofs::NodeLemmas::led_under))]
+fn led_up(alloc: Global, node: &Node, way: Way) -> Mem<Option<Path>>
+    requires { 0 < way.up }
+    ensures { IfOk result (λ o. o ≡ spec.led_to node.now way) }
+{
+    match node.name {
+        None => led_to(alloc, node.parent, &way),
+        Some(_) => {
+            let Way { up, down } = way;
+            led_to(alloc, node.parent, &Way { up: up - 1, down })
+        }
+    }
+}
+
+fn relative_spot(alloc: Global, node: &Node, way: Way) -> Mem<Option<Spot>>
+    ensures { IfOk result (λ o. o ≡ spec.relative_spot node.now way) }
+{
+    if way.up == 0 {
+        let path = extended(alloc, Path::root(alloc), way.down.as_slice())?;
+        return Ok(spot_below(path));
+    }
+    Ok(absolute_spot(led_up(alloc, node, way)?))
+}
+
+fn any_spot(alloc: Global, node: &Node, text: &str) -> Mem<Option<Spot>>
+    ensures { IfOk result (λ o. o ≡ spec.any_spot node.now text.now) }
+{
+    if is_absolute(text) {
+        return Ok(absolute_spot(path_in(alloc, text)?));
+    }
+    match way_of(alloc, text)? {
+        Some(way) => relative_spot(alloc, node, way),
+        None => Ok(None),
+    }
+}
+
+fn is_changeable(node: &Node, spot: &Spot) -> bool
+    ensures { result ≡ not (spec.is_reserved (spec.full_path node.now spot.now)) }
+{
+    if spot.at_target {
+        !is_reserved_below(node, &spot.path)
+    } else {
+        !is_reserved(&spot.path)
+    }
+}
+
+fn if_changeable(node: &Node, spot: Option<Spot>) -> Option<Spot>
+    ensures { result ≡ option_and_then (spec.if_changeable node.now) spot }
+{
+    match spot {
+        Some(spot) => {
+            if is_changeable(node, &spot) {
+                Some(spot)
+            } else {
+                None
+            }
+        }
+        None => None,
+    }
+}
+
+/// The property or node that a text names, seen from a node, where that may be changed.
+pub fn spot_of(alloc: Global, node: &Node, text: &str) -> Mem<Option<Spot>>
+    ensures { IfOk result (λ o. o ≡ spec.spot_of node.now text.now) }
+{
+    if !ends_in_name(text) {
+        return Ok(None);
+    }
+    Ok(if_changeable(node, any_spot(alloc, node, text)?))
+}

@@ -3,7 +3,13 @@
 #![tactic(auto)]
 
 mod answer;
+mod fault;
+mod head;
+mod host;
 mod target;
+mod turn;
 
 pub use answer::{answer_bytes, fixed_507};
+pub use fault::InFault;
 pub use target::{Target, read_target};
+pub use turn::Turn;

@@ -1,0 +1,153 @@
+-- What a whole request head asks for, and why one is refused (RFC 9110, RFC 9112).
+use Rattle.std.specs.Prelude.{◌≡◌, ◌==◌, ◌&&◌, ◌||◌, ◌++◌, ℕ, Bool, true, false, nat_eq, nat_lt, if◌then◌else◌, List, [], ◌∷◌, Option, Some, None, option_and_then, option_map, Result, Ok, Err, All, IsUtf8, codes, decimal, length, map, unwrap_or}
+use Rattle.std.specs.List.{count_by, find}
+use Rattle.std.specs.Cmp.Lexicographic.{pointwise}
+use Rattle.std.specs.Option.{is_none, is_some}
+use Rattle.std.specs.Str.{str_to_ascii_lowercase}
+use Rattle.httparse.specs.Grammar.{RequestHead}
+use Rattle.httparse.specs.declared.spans.HeaderSpan.{HeaderSpan}
+use Rattle.httparse.specs.declared.spans.RequestSpans.{RequestSpans}
+use Rattle.httparse.specs.Spans.{IsWithin, IsHeaderWithin, header_bytes, name_and_value, span_bytes}
+use Rattle.http1.specs.Text.{eq_ignore_case}
+use Rattle.http1.specs.Fields.{elements_named, has_option}
+use Rattle.sp_base.specs.declared.answer.Req.{Req}
+use Rattle.sp_base.specs.Fields.{field_of}
+use Rattle.http_front.specs.declared.fault.InFault.{InFault}
+use Rattle.http_front.specs.declared.fault.InFault.TheVariants.{BadHead, ManyHeaders, BadTarget, NoLength, BadLength, LongBody}
+use Rattle.http_front.specs.declared.head.Head.{Head}
+use Rattle.http_front.specs.declared.target.Target.{Target}
+use Rattle.http_front.specs.Hosts.{host_of, length_of}
+use Rattle.http_front.specs.Targets.{target_of}
+
+-- the parts of a head that count; a value stands without the blanks round it
+pub record Parts : Type 0 where
+  pub method : List ℕ
+  pub target : List ℕ
+  pub minor : ℕ
+  pub fields : List (List ℕ × List ℕ)
+
+abbrev pub parts_of : RequestHead → Parts
+parts_of head = record { method = head.method; target = head.target; minor = head.minor; fields = map name_and_value head.fields }
+
+-- the fields with their names in lower case, since the case of a name doesn't count (RFC 9110, section 5.1)
+abbrev pub lowered : List ℕ × List ℕ → List ℕ × List ℕ
+lowered field = (str_to_ascii_lowercase field.0, field.1)
+
+abbrev pub heads : Parts → List (List ℕ × List ℕ)
+heads p = map lowered p.fields
+
+-- two fields have the name
+abbrev pub is_repeated : List ℕ → List (List ℕ × List ℕ) → Bool
+is_repeated name fields = nat_lt 1 (count_by (λ field. pointwise nat_eq field.0 name) fields)
+
+-- the value of a field that may stand once, or none where it doesn't stand
+abbrev pub once_in : {A : Type 0} → List ℕ → (Option (List ℕ) → Option A) → List (List ℕ × List ℕ) → Option A
+once_in name reading fields = if is_repeated name fields then None else reading (field_of fields name)
+
+abbrev pub asked_host : Parts → Option (List ℕ × ℕ)
+asked_host p = once_in (codes "host") (host_of p.minor) (heads p)
+
+abbrev pub length_in : List (List ℕ × List ℕ) → Option ℕ
+length_in fields = once_in (codes "content-length") length_of fields
+
+abbrev pub body_length : Parts → Option ℕ
+body_length p = length_in (heads p)
+
+-- a body whose length Content-Length doesn't tell (RFC 9112, section 6.1)
+abbrev pub has_transfer_coding : List (List ℕ × List ℕ) → Bool
+has_transfer_coding fields = is_some (field_of fields (codes "transfer-encoding"))
+
+-- the most fields of a head, and the most bytes of a body
+abbrev pub most_fields : ℕ
+most_fields = 100
+
+abbrev pub longest_body : ℕ
+longest_body = 8388608
+
+-- what may be wrong with a head: the first that is decides
+abbrev pub refusals : Parts → List (Bool × InFault)
+refusals p =
+    (is_none (asked_host p), BadHead)
+    ∷ (nat_lt most_fields (length p.fields), ManyHeaders)
+    ∷ (is_none (target_of p.target), BadTarget)
+    ∷ (has_transfer_coding (heads p), NoLength)
+    ∷ (is_none (body_length p), BadLength)
+    ∷ (nat_lt longest_body (unwrap_or (body_length p) 0), LongBody)
+    ∷ []
+
+unfoldable pub fault_of : Parts → Option InFault
+fault_of p = option_map (λ refusal. refusal.1) (find (λ refusal. refusal.0) (refusals p))
+
+-- the connection closes after the answer: the request is of HTTP/1.0, or a Connection field has the option `close` (RFC 9112, section 9.3)
+abbrev pub closes : Parts → Bool
+closes p = (p.minor == 0) || has_option (codes "close") (elements_named (codes "connection") p.fields)
+
+-- the first Expect field asks for an interim answer (RFC 9110, section 10.1.1)
+abbrev pub is_continue : Option (List ℕ) → Bool
+is_continue None = false
+is_continue (Some value) = eq_ignore_case value (codes "100-continue")
+
+-- a sender of HTTP/1.1 waits with its body for 100 Continue
+abbrev pub awaits_continue : ℕ → ℕ → List (List ℕ × List ℕ) → Bool
+awaits_continue minor n fields = (minor == 1) && (nat_lt 0 n && is_continue (field_of fields (codes "expect")))
+
+abbrev pub request_line : Parts → List ℕ
+request_line p = p.method ++ codes " " ++ p.target ++ codes " HTTP/1." ++ decimal p.minor
+
+-- the request at this host, for this target, without its body
+abbrev pub request : Parts → List ℕ × ℕ → Target → Req
+request p host target = record {
+  method = p.method;
+  line = request_line p;
+  minor = p.minor;
+  host = host.0;
+  port = host.1;
+  path = target.path;
+  slash = target.slash;
+  query = target.query;
+  heads = heads p;
+  body = [];
+  close = closes p;
+}
+
+abbrev pub head_with : Parts → List ℕ × ℕ → Target → ℕ → Head
+head_with p host target n = record { request = request p host target; body_length = n; awaits_continue = awaits_continue p.minor n (heads p) }
+
+-- what a head asks for, where host, target and length can be read
+unfoldable pub head_of : Parts → Option Head
+head_of p = option_and_then (λ host. option_and_then (λ target. option_map (λ n. head_with p host target n) (body_length p)) (target_of p.target)) (asked_host p)
+
+-- nothing is wrong with a head, and this is what it asks for
+pub record Asks (p : Parts) (head : Head) : Type 0 where
+  pub faultless : fault_of p ≡ None
+  pub asked : head_of p ≡ Some head
+
+-- ---- a head as the bytes that hold it, and where its parts stand in them
+
+abbrev pub parts_at : List ℕ → List HeaderSpan → RequestSpans → Parts
+parts_at bytes fields spans = record {
+  method = span_bytes bytes spans.method;
+  target = span_bytes bytes spans.path;
+  minor = spans.version;
+  fields = map (header_bytes bytes) fields;
+}
+
+-- the parts lie within the bytes
+pub record AreWithin (bytes : List ℕ) (fields : List HeaderSpan) (spans : RequestSpans) : Type 0 where
+  pub method : IsWithin (length bytes) spans.method
+  pub path : IsWithin (length bytes) spans.path
+  pub fields_fit : All (IsHeaderWithin (length bytes)) fields
+
+-- method, target and names are UTF-8
+pub record AreTexts (p : Parts) : Type 0 where
+  pub method : IsUtf8 p.method
+  pub target : IsUtf8 p.target
+  pub names : All (λ field. IsUtf8 field.0) p.fields
+
+abbrev pub within_limit : Option ℕ → Result ℕ InFault
+within_limit None = Err BadLength
+within_limit (Some n) = if nat_lt longest_body n then Err LongBody else Ok n
+
+-- the length of the body, or why it isn't read
+unfoldable pub length_or_fault : List (List ℕ × List ℕ) → Result ℕ InFault
+length_or_fault fields = if has_transfer_coding fields then Err NoLength else within_limit (length_in fields)

@@ -1,0 +1,3 @@
+pub mod PlaceLemmas
+pub mod OutboxLemmas
+pub mod HistoryLemmas

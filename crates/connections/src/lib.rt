@@ -1,0 +1,13 @@
+//! The connections of a front: which turn of a stream gets which answer, in which order the answers are sent, and when a connection
+//! closes (RFC 9112, section 9).
+#![tactic(auto)]
+
+mod laws;
+mod outbox;
+mod place;
+mod sending;
+
+pub use laws::answers_in_order;
+pub use outbox::Outbox;
+pub use place::{Place, Reply};
+pub use sending::Sending;

@@ -9,8 +9,8 @@ use Rattle.http_front.specs.declared.turn.Turn.{Turn}
 use Rattle.http_front.specs.declared.turn.Turn.TheVariants.{Continue, Whole}
 use Rattle.connections.specs.declared.sending.Sending.{Sending}
 use Rattle.connections.specs.Slots.{Slot, MayAnswer, is_answered, is_last, interim_slot}
-use Rattle.connections.specs.Connections.{Connection, Close, Due, Nothing, Refuse, Send, Treat, advanced, after_turn, due, due_at_end, due_at_slot, due_at_turn, due_unsent, fed, filled, fresh, is_last_at, next_turn, with_landing, with_sent, with_slot}
-use Rattle.connections.specs.Histories.{AnswersRun, Follows, IsDueSending, IsEndOr, IsMove, Landing, Move, Piece, Sent, Shut, Treatment, after, after_all, sendings}
+use Rattle.connections.specs.Connections.{Connection, Close, Nothing, Send, advanced, after_turn, due, due_at_slot, due_at_turn, due_unsent, fed, filled, fresh, next_turn, with_landing, with_sent, with_slot}
+use Rattle.connections.specs.Histories.{AnswersRun, Follows, IsDueSending, IsEndOr, Landing, Move, Piece, Sent, Shut, Treatment, after_all, sendings}
 use Rattle.connections.specs.Ties.{AllAnswered}
 use Rattle.connections.proofs.PlaceLemmas.{filled-past, length-filled}
 use Rattle.connections.proofs.OutboxLemmas.{drop-head, due-answered, take-exact}

@@ -1,5 +1,5 @@
 -- What is left of a connection, when something happens to it.
-use Rattle.std.proofs.Common.{◌≡◌, ℕ, ◌<◌, ◌≤◌, ◌||◌, zero, suc, Bool, true, false, cond, List, [], ◌∷◌, ◌++◌, length, take, drop, Option, Some, None, refl, ap, sym, ◌∙◌, subst, arith, inl, inr, ⊎_elim, ◌⊎◌, add-one, length-append}
+use Rattle.std.proofs.Common.{◌≡◌, ℕ, ◌<◌, ◌≤◌, ◌||◌, zero, suc, Bool, true, false, cond, List, [], ◌∷◌, ◌++◌, length, take, drop, Option, Some, None, refl, ap, sym, ◌∙◌, arith, inl, inr, ⊎_elim, add-one, length-append}
 use Rattle.std.specs.Prelude.{slice_get}
 use Rattle.std.proofs.lemmas.Grind.{common_steps}
 use Rattle.std.proofs.lemmas.List.{take-append-le}
@@ -7,10 +7,10 @@ use Rattle.sp_base.specs.declared.answer.Answer.{Answer}
 use Rattle.http_front.specs.Answers.{fixed_507}
 use Rattle.connections.specs.declared.place.Place.{Place}
 use Rattle.connections.specs.declared.sending.Sending.{Sending}
-use Rattle.connections.specs.Slots.{Slot, MayAnswer, is_answered, is_fixed, is_last}
-use Rattle.connections.specs.Connections.{Connection, Close, Due, Send, due, due_at_slot, due_unsent, filled, is_last_at, with_landing, with_sent, with_slot}
+use Rattle.connections.specs.Slots.{Slot, MayAnswer, is_answered, is_fixed}
+use Rattle.connections.specs.Connections.{Connection, Close, Send, due, due_at_slot, due_unsent, filled, with_landing, with_sent, with_slot}
 use Rattle.connections.specs.Histories.{IsDueSending}
-use Rattle.connections.specs.Ties.{AllAnswered, AllTied, IsLeft, IsSendingOf, PlaceTied, front_has_reply, has_reply, place_bytes}
+use Rattle.connections.specs.Ties.{AllAnswered, AllTied, IsLeft, IsSendingOf, PlaceTied, front_has_reply, has_reply}
 use Rattle.connections.proofs.PlaceLemmas.{answered-tied, filled-past, filled_places, length-filled, tied-filled, tied-head, tied-none, tied-push, written-tied}
 
 -- ---- lists

@@ -1,6 +1,6 @@
 -- Places of the code and slots of the model, which are tied.
 use Rattle.std.proofs.Common.{◌≡◌, ℕ, ◌+◌, suc, zero, ◌<◌, arith, get_or, cond, Bool, true, false, nat_eq, List, [], ◌∷◌, ◌++◌, length, refl, ap, sym, ◌∙◌}
-use Rattle.std.specs.Prelude.{Option, Some, None, position, slice_set}
+use Rattle.std.specs.Prelude.{Some, None, position, slice_set}
 use Rattle.std.specs.List.{count_by}
 use Rattle.std.proofs.lemmas.List.Sums.{sum_by-cons}
 use Rattle.std.proofs.lemmas.List.Quantifiers.{position-Some}
@@ -10,7 +10,7 @@ use Rattle.connections.specs.declared.place.Reply.{Reply}
 use Rattle.connections.specs.declared.place.Reply.TheVariants.{Interim, Fixed, Awaits, Says}
 use Rattle.connections.specs.Slots.{Slot, Response, IsWritten, is_answered, is_awaiting, is_final}
 use Rattle.connections.specs.Slots as model
-use Rattle.connections.specs.Connections.{filled, with_answer}
+use Rattle.connections.specs.Connections.{filled}
 use Rattle.connections.specs.Ties.{ReplyTied, PlaceTied, AllTied, AllAnswered, has_reply, awaits, ends_request, reply_bytes, place_bytes}
 
 -- ---- a reply and a response

@@ -1,13 +1,12 @@
 -- A connection as its whole past: what came, which turns that spells, and the slots of the turns that were treated.
-use Rattle.std.specs.Prelude.{◌≡◌, ◌+◌, ◌||◌, ◌++◌, ℕ, Bool, true, false, nat_le, if◌then◌else◌, List, [], ◌∷◌, Option, Some, None, drop, length, slice_get}
+use Rattle.std.specs.Prelude.{◌+◌, ◌||◌, ◌++◌, ℕ, Bool, false, nat_le, if◌then◌else◌, List, [], ◌∷◌, Option, Some, None, drop, length, slice_get}
 use Rattle.std.specs.List.{count_by}
 use Rattle.sp_base.specs.declared.answer.Answer.{Answer}
-use Rattle.sp_base.specs.declared.answer.Req.{Req}
 use Rattle.http_front.specs.Turns.{End, Waits, Breaks}
 use Rattle.http_front.specs.declared.fault.InFault.{InFault}
 use Rattle.http_front.specs.declared.turn.Turn.{Turn}
 use Rattle.http_front.specs.declared.turn.Turn.TheVariants.{Continue, Whole}
-use Rattle.connections.specs.Slots.{Slot, Response, Says, is_answered, is_awaiting, is_final, is_last, interim_slot}
+use Rattle.connections.specs.Slots.{Slot, Says, is_answered, is_awaiting, is_final, is_last, interim_slot}
 
 -- An open connection: its peer; its stream, as far as it was read; the turns that the stream spells, and how they end; a slot for
 -- each turn that was treated; how many of the slots were sent; whether no further turn is treated; and whether no further slot is sent.

@@ -6,8 +6,10 @@ mod laws;
 mod outbox;
 mod place;
 mod sending;
+#[cfg(test)]
+mod tests;
 
-pub use laws::answers_in_order;
+pub use laws::{answers_in_order, slots_of_turns};
 pub use outbox::Outbox;
 pub use place::{Place, Reply};
 pub use sending::Sending;

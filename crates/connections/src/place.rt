@@ -33,8 +33,8 @@ pub struct Place {
 }
 
 impl Reply {
-    /// Whether it can be sent.
-    pub fn has_reply(&self) -> bool
+    // Whether it can be sent.
+    pub(crate) fn has_reply(&self) -> bool
         ensures { result ≡ answered self.now }
     {
         match self {

@@ -1,4 +1,4 @@
-use Rattle.std.proofs.Common.{◌≡◌, sym, ◌∙◌, subst}
+use Rattle.std.proofs.Common.{sym, ◌∙◌, subst}
 use Rattle.connections.specs.Connections.{with_landing}
 use Rattle.connections.specs.Ties.{IsLeft}
 use Rattle.connections.proofs.PlaceLemmas.{filled-none, filled-some}

@@ -1,4 +1,4 @@
-use Rattle.std.proofs.Common.{◌≡◌, ◌||◌, ◌∷◌, ap, sym, ◌∙◌, true, false}
+use Rattle.std.proofs.Common.{◌≡◌, ◌||◌, ◌∷◌, ap, sym, ◌∙◌}
 use Rattle.connections.specs.Slots.{is_fixed}
 use Rattle.connections.specs.Ties.{front_has_reply}
 use Rattle.connections.proofs.OutboxLemmas.{held-waits, over-waits, sent-left}

@@ -1,5 +1,5 @@
 -- The parts of a Host field's value, and numbers.
-use Rattle.std.proofs.Common.{◌≡◌, ◌<◌, ◌≤◌, ◌+◌, ◌*◌, ◌^◌, ◌-◌, ℕ, Bool, true, false, List, [], ◌∷◌, Some, None, length, take, drop, get_or, position, sym, ◌∙◌, ap, refl, arith, rules, cond}
+use Rattle.std.proofs.Common.{◌≡◌, ◌<◌, ◌≤◌, ◌+◌, ◌*◌, ◌^◌, ◌-◌, ℕ, Bool, true, false, List, [], ◌∷◌, Some, None, length, take, drop, get_or, position, sym, ◌∙◌, ap, refl, arith, rules, cond, zero, suc}
 use Rattle.std.specs.Prelude.{IsTrue, ◌&&◌, nat_lt, nat_le, nat_eq}
 use Rattle.std.specs.List.{before_first, list_all, position_or_len}
 use Rattle.std.specs.Char.{is_ascii_digit, digit_value}
@@ -11,7 +11,11 @@ use Rattle.std.proofs.lemmas.Bool.Decides.{nat_tests}
 use Rattle.std.proofs.lemmas.List.{drop_all, length-take-le}
 use Rattle.std.proofs.lemmas.Int.Digits.{digits_value_more}
 use Rattle.std.proofs.lemmas.Str.Parse.{IsNumeralModel, numerals_by_value, digits_value_short, digits_value-take-le, digit_at}
-use Rattle.http_front.specs.Hosts.{is_number}
+use Rattle.std.proofs.Common.{subst}
+use Rattle.std.specs.Prelude.{option_map}
+use Rattle.std.proofs.lemmas.Bool.{cond-true}
+use Rattle.std.proofs.lemmas.Str.{IsUtf8-from_ascii}
+use Rattle.http_front.specs.Hosts.{is_number, is_name, is_name_byte, is_colon, port_of, host_in}
 use Rattle.http_front.proofs.TargetLemmas.{before_place, before_none}
 
 in_range : (b : Bool) (n at : ℕ) → Some at ≡ cond b (Some n) None → b ≡ true
@@ -62,3 +66,17 @@ step text i h inside =
       more = digits_value_more 10 text i inside ∙ ap (λ d. digits_value 10 (take i text) * 10 + d) value;
       fits = omega (arith, digits_value-take-le 10 text (i + 1) (omega arith), small text h);
     }
+
+name_byte_is_ascii : (b : ℕ) → is_name_byte b ≡ true → b < 128
+name_byte_is_ascii b h = grind (arith, nat_tests)
+
+-- a name is a text
+pub name_text : (name : List ℕ) → is_name name ≡ true → IsUtf8 name
+name_text name h =
+    let parts = and_parts (nat_lt 0 (length name)) (list_all is_name_byte name) h in
+    IsUtf8-from_ascii name (λ i. ascii_at name i parts.1)
+  where
+    ascii_at : (name : List ℕ) (i : ℕ) → list_all is_name_byte name ≡ true → get_or name i 0 < 128
+    ascii_at [] i all = omega arith
+    ascii_at (b ∷ name) zero all = name_byte_is_ascii b (and_parts (is_name_byte b) (list_all is_name_byte name) all).0
+    ascii_at (b ∷ name) (suc i) all = ascii_at name i (and_parts (is_name_byte b) (list_all is_name_byte name) all).1

@@ -14,6 +14,7 @@ use Rattle.sp_base.specs.declared.answer.Req.{Req}
 use Rattle.sp_base.specs.Fields.{field_of}
 use Rattle.http_front.specs.declared.fault.InFault.{InFault}
 use Rattle.http_front.specs.declared.fault.InFault.TheVariants.{BadHead, ManyHeaders, BadTarget, NoLength, BadLength, LongBody}
+use Rattle.http_front.specs.declared.head.Asked.{Asked}
 use Rattle.http_front.specs.declared.head.Head.{Head}
 use Rattle.http_front.specs.declared.target.Target.{Target}
 use Rattle.http_front.specs.Hosts.{host_of, length_of}
@@ -44,14 +45,11 @@ is_repeated name fields = nat_lt 1 (count_by (λ field. pointwise nat_eq field.0
 abbrev pub once_in : {A : Type 0} → List ℕ → (Option (List ℕ) → Option A) → List (List ℕ × List ℕ) → Option A
 once_in name reading fields = if is_repeated name fields then None else reading (field_of fields name)
 
-abbrev pub asked_host : Parts → Option (List ℕ × ℕ)
-asked_host p = once_in (codes "host") (host_of p.minor) (heads p)
+abbrev pub asked_host : ℕ → List (List ℕ × List ℕ) → Option (List ℕ × ℕ)
+asked_host minor fields = once_in (codes "host") (host_of minor) fields
 
-abbrev pub length_in : List (List ℕ × List ℕ) → Option ℕ
-length_in fields = once_in (codes "content-length") length_of fields
-
-abbrev pub body_length : Parts → Option ℕ
-body_length p = length_in (heads p)
+abbrev pub body_length : List (List ℕ × List ℕ) → Option ℕ
+body_length fields = once_in (codes "content-length") length_of fields
 
 -- a body whose length Content-Length doesn't tell (RFC 9112, section 6.1)
 abbrev pub has_transfer_coding : List (List ℕ × List ℕ) → Bool
@@ -65,22 +63,35 @@ abbrev pub longest_body : ℕ
 longest_body = 8388608
 
 -- what may be wrong with a head: the first that is decides
-abbrev pub refusals : Parts → List (Bool × InFault)
-refusals p =
-    (is_none (asked_host p), BadHead)
-    ∷ (nat_lt most_fields (length p.fields), ManyHeaders)
-    ∷ (is_none (target_of p.target), BadTarget)
-    ∷ (has_transfer_coding (heads p), NoLength)
-    ∷ (is_none (body_length p), BadLength)
-    ∷ (nat_lt longest_body (unwrap_or (body_length p) 0), LongBody)
+abbrev pub refusals : ℕ → List ℕ → List (List ℕ × List ℕ) → List (Bool × InFault)
+refusals minor target fields =
+    (is_none (asked_host minor fields), BadHead)
+    ∷ (nat_lt most_fields (length fields), ManyHeaders)
+    ∷ (is_none (target_of target), BadTarget)
+    ∷ (has_transfer_coding fields, NoLength)
+    ∷ (is_none (body_length fields), BadLength)
+    ∷ (nat_lt longest_body (unwrap_or (body_length fields) 0), LongBody)
     ∷ []
 
-unfoldable pub fault_of : Parts → Option InFault
-fault_of p = option_map (λ refusal. refusal.1) (find (λ refusal. refusal.0) (refusals p))
+unfoldable pub first_fault : ℕ → List ℕ → List (List ℕ × List ℕ) → Option InFault
+first_fault minor target fields = option_map (λ refusal. refusal.1) (find (λ refusal. refusal.0) (refusals minor target fields))
+
+abbrev pub fault_of : Parts → Option InFault
+fault_of p = first_fault p.minor p.target (heads p)
+
+-- where host, target and length can be read: what a head asks for
+abbrev pub asked_with : List ℕ × ℕ → Target → ℕ → Asked
+asked_with host target n = record { host = host.0; port = host.1; target = target; body_length = n }
+
+unfoldable pub asked_of : ℕ → List ℕ → List (List ℕ × List ℕ) → Option Asked
+asked_of minor target fields = option_and_then (λ host. option_and_then (λ read. option_map (asked_with host read) (body_length fields)) (target_of target)) (asked_host minor fields)
 
 -- the connection closes after the answer: the request is of HTTP/1.0, or a Connection field has the option `close` (RFC 9112, section 9.3)
+abbrev pub is_closing : ℕ → List (List ℕ × List ℕ) → Bool
+is_closing minor fields = (minor == 0) || has_option (codes "close") (elements_named (codes "connection") fields)
+
 abbrev pub closes : Parts → Bool
-closes p = (p.minor == 0) || has_option (codes "close") (elements_named (codes "connection") p.fields)
+closes p = is_closing p.minor p.fields
 
 -- the first Expect field asks for an interim answer (RFC 9110, section 10.1.1)
 abbrev pub is_continue : Option (List ℕ) → Bool
@@ -91,36 +102,39 @@ is_continue (Some value) = eq_ignore_case value (codes "100-continue")
 abbrev pub awaits_continue : ℕ → ℕ → List (List ℕ × List ℕ) → Bool
 awaits_continue minor n fields = (minor == 1) && (nat_lt 0 n && is_continue (field_of fields (codes "expect")))
 
-abbrev pub request_line : Parts → List ℕ
-request_line p = p.method ++ codes " " ++ p.target ++ codes " HTTP/1." ++ decimal p.minor
+-- RFC 9112, section 3
+abbrev pub request_line : List ℕ → List ℕ → ℕ → List ℕ
+request_line method target minor = method ++ 32 ∷ (target ++ codes " HTTP/1." ++ decimal minor)
 
--- the request at this host, for this target, without its body
-abbrev pub request : Parts → List ℕ × ℕ → Target → Req
-request p host target = record {
-  method = p.method;
-  line = request_line p;
-  minor = p.minor;
-  host = host.0;
-  port = host.1;
-  path = target.path;
-  slash = target.slash;
-  query = target.query;
-  heads = heads p;
+-- the request that a head with these parts asks for, without its body
+abbrev pub request_with : List ℕ → List ℕ → ℕ → Asked → List (List ℕ × List ℕ) → Bool → Req
+request_with method line minor asked fields close = record {
+  method = method;
+  line = line;
+  minor = minor;
+  host = asked.host;
+  port = asked.port;
+  path = asked.target.path;
+  slash = asked.target.slash;
+  query = asked.target.query;
+  heads = fields;
   body = [];
-  close = closes p;
+  close = close;
 }
 
-abbrev pub head_with : Parts → List ℕ × ℕ → Target → ℕ → Head
-head_with p host target n = record { request = request p host target; body_length = n; awaits_continue = awaits_continue p.minor n (heads p) }
-
--- what a head asks for, where host, target and length can be read
-unfoldable pub head_of : Parts → Option Head
-head_of p = option_and_then (λ host. option_and_then (λ target. option_map (λ n. head_with p host target n) (body_length p)) (target_of p.target)) (asked_host p)
+abbrev pub head_with : Parts → Asked → Head
+head_with p asked = record {
+  request = request_with p.method (request_line p.method p.target p.minor) p.minor asked (heads p) (closes p);
+  body_length = asked.body_length;
+  awaits_continue = awaits_continue p.minor asked.body_length (heads p);
+}
 
 -- nothing is wrong with a head, and this is what it asks for
 pub record Asks (p : Parts) (head : Head) : Type 0 where
   pub faultless : fault_of p ≡ None
-  pub asked : head_of p ≡ Some head
+  pub asked : Asked
+  pub asked_is : asked_of p.minor p.target (heads p) ≡ Some asked
+  pub head_is : head ≡ head_with p asked
 
 -- ---- a head as the bytes that hold it, and where its parts stand in them
 
@@ -150,4 +164,4 @@ within_limit (Some n) = if nat_lt longest_body n then Err LongBody else Ok n
 
 -- the length of the body, or why it isn't read
 unfoldable pub length_or_fault : List (List ℕ × List ℕ) → Result ℕ InFault
-length_or_fault fields = if has_transfer_coding fields then Err NoLength else within_limit (length_in fields)
+length_or_fault fields = if has_transfer_coding fields then Err NoLength else within_limit (body_length fields)

@@ -1,10 +1,10 @@
 //! Reads what a whole request head asks for.
-ghost use Rattle.std.specs.Prelude.{◌≡◌, ◌≢◌, ◌++◌, ◌≤◌, IfOk, IfErr, Ok, Err, Some, None, All, IsUtf8, codes, decimal, length, map, option_copied};
+ghost use Rattle.std.specs.Prelude.{◌≡◌, ◌≢◌, IfOk, IfErr, IfSome, OnOk, Some, None, All, IsUtf8, length, map, option_copied, option_map};
 ghost use Rattle.std.specs.Str.{str_to_ascii_lowercase};
 ghost use Rattle.httparse.specs.Spans.{IsHeaderWithin, header_bytes, span_bytes};
 ghost use Rattle.sp_base.specs.Fields.{field_of};
 ghost use Rattle.http_front.specs.declared.fault.InFault.TheVariants.{NoMemory};
-ghost use Rattle.http_front.specs.Hosts.{host_of};
+ghost use Rattle.http_front.specs.Lent.{lent};
 ghost use Rattle.http_front.specs.Heads as spec;
 
 use crate::fault::InFault;
@@ -31,6 +31,15 @@ pub struct Head {
     pub awaits_continue: bool,
 }
 
+// What a head asks for, where host, target and length can be read.
+#[derive(Drop)]
+struct Asked {
+    host: TextBuf,
+    port: u16,
+    target: Target,
+    body_length: usize,
+}
+
 /// What a head asks for, whose parts stand at these places of the bytes, or the first fault that it has.
 pub fn read_head(
     alloc: Global,
@@ -43,38 +52,92 @@ pub fn read_head(
     ensures ok { IfOk result (spec.Asks (spec.parts_at bytes.now fields.now spans.now)) }
     ensures err { IfErr result (λ e. e ≢ NoMemory → spec.fault_of (spec.parts_at bytes.now fields.now spans.now) ≡ Some e) }
 {
-    let close = spans.version == 0 || KnownFields::from_spans(bytes, fields).close;
+    let method = text_of(spans.method.of(bytes));
+    let target = text_of(spans.path.of(bytes));
+    let close = is_closing(spans.version, bytes, fields);
     let heads = lowered(alloc, bytes, fields)?;
-    let Some((host, port)) = asked_host(alloc, spans.version, &heads)? else {
+    let asked = asked_of(alloc, spans.version, target, &heads)?;
+    let body_length = asked.body_length;
+    let awaits_continue = awaits_continue(spans.version, body_length, &heads);
+    let line = request_line(alloc, method, target, spans.version)?;
+    let request = request_with(alloc, method, line, spans.version, asked, heads, close)?;
+    Ok(Head {
+        request,
+        body_length,
+        awaits_continue,
+    })
+}
+
+fn asked_of(
+    alloc: Global,
+    minor: u8,
+    target: &str,
+    heads: &HeadList,
+) -> Result<Asked, InFault>
+    ensures faultless { OnOk result (spec.first_fault minor target.now heads.now ≡ None) }
+    ensures ok { IfOk result (λ asked. spec.asked_of minor target.now heads.now ≡ Some asked) }
+    ensures err { IfErr result (λ e. e ≢ NoMemory → spec.first_fault minor target.now heads.now ≡ Some e) }
+{
+    let Some((name, port)) = asked_host(minor, heads) else {
         return Err(InFault::BadHead);
     };
     if heads.len() > MOST_FIELDS {
         return Err(InFault::ManyHeaders);
     }
-    let Some(target) = read_target(alloc, spans.path.of(bytes))? else {
+    let Some(target) = read_target(alloc, target.as_bytes())? else {
         return Err(InFault::BadTarget);
     };
-    let body_length = body_length(&heads)?;
-    let method = text_of(spans.method.of(bytes));
-    let line = request_line(alloc, method, text_of(spans.path.of(bytes)), spans.version)?;
-    let awaits_continue = awaits_continue(spans.version, body_length, &heads);
-    Ok(Head {
-        request: Req {
-            method: TextBuf::of(alloc, method)?,
-            line,
-            minor: spans.version,
-            host,
-            port,
-            path: target.path,
-            slash: target.slash,
-            query: target.query,
-            heads,
-            body: ByteBuf::of(alloc, b"")?,
-            close,
-        },
+    let body_length = match body_length(heads) {
+        Ok(length) => length,
+        Err(fault) => return Err(fault),
+    };
+    let host = TextBuf::from(String::from_utf8_lossy(alloc, name)?);
+    Ok(Asked {
+        host,
+        port,
+        target,
         body_length,
-        awaits_continue,
     })
+}
+
+fn request_with(
+    alloc: Global,
+    method: &str,
+    line: TextBuf,
+    minor: u8,
+    asked: Asked,
+    heads: HeadList,
+    close: bool,
+) -> Mem<Req>
+    ensures { IfOk result (λ request. request ≡ spec.request_with method.now line minor asked heads close) }
+{
+    let method = TextBuf::of(alloc, method)?;
+    let body = ByteBuf::of(alloc, b"")?;
+    let Asked {
+        host, port, target, ..
+    } = asked;
+    let Target { path, slash, query } = target;
+    Ok(Req {
+        method,
+        line,
+        minor,
+        host,
+        port,
+        path,
+        slash,
+        query,
+        heads,
+        body,
+        close,
+    })
+}
+
+// Whether the connection closes after the answer.
+fn is_closing(minor: u8, bytes: &[u8], fields: &[HeaderSpan]) -> bool
+    requires { All (IsHeaderWithin (length bytes.now)) fields.now }
+    ensures { result ≡ spec.is_closing minor (map (header_bytes bytes.now) fields.now) }
+{
+    minor == 0 || KnownFields::from_spans(bytes, fields).close
 }
 
 fn text_of(bytes: &[u8]) -> &str
@@ -88,7 +151,7 @@ fn text_of(bytes: &[u8]) -> &str
 }
 
 fn request_line(alloc: Global, method: &str, target: &str, minor: u8) -> Mem<TextBuf>
-    ensures { IfOk result (λ line. line ≡ method.now ++ codes " " ++ target.now ++ codes " HTTP/1." ++ decimal minor) }
+    ensures { IfOk result (λ line. line ≡ spec.request_line method.now target.now minor) }
 {
     let line = format!(in alloc; "{method} {target} HTTP/1.{minor}")?;
     Ok(TextBuf::from(line))
@@ -130,13 +193,14 @@ fn is_repeated(heads: &HeadList, name: &str) -> bool
     count > 1
 }
 
-fn asked_host(alloc: Global, minor: u8, heads: &HeadList) -> Mem<Option<(TextBuf, u16)>>
-    ensures { IfOk result (λ o. o ≡ spec.once_in (codes "host") (host_of minor) heads.now) }
+fn asked_host(minor: u8, heads: &HeadList) -> Option<(&[u8], u16)>
+    ensures value { option_map lent result ≡ spec.asked_host minor heads.now }
+    ensures text { IfSome result (λ host. IsUtf8 host.0.now) }
 {
     if is_repeated(heads, "host") {
-        return Ok(None);
+        return None;
     }
-    host_of(alloc, minor, heads.field("host"))
+    host_of(minor, heads.field("host"))
 }
 
 // The length of the body, or why it isn't read.

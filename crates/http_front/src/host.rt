@@ -1,12 +1,10 @@
 //! Reads the host that a request asks for, and the length of its body (RFC 9110, sections 7.2 and 8.6).
-ghost use Rattle.std.specs.Prelude.{◌≡◌, ◌+◌, IfOk, IsTrue, length, drop, option_copied, position};
+ghost use Rattle.std.specs.Prelude.{◌≡◌, ◌+◌, IfSome, IsTrue, IsUtf8, length, drop, option_copied, option_map, position};
 ghost use Rattle.std.specs.List.{before_first, list_all};
 ghost use Rattle.std.specs.Char.{is_ascii_digit};
 ghost use Rattle.std.specs.Str.Parse.{digits_value};
 ghost use Rattle.http_front.specs.Hosts as spec;
-
-use sp_base::{Mem, TextBuf};
-use std::alloc::Global;
+ghost use Rattle.http_front.specs.Lent.{lent};
 
 const MOST_DIGITS: usize = 18;
 
@@ -14,29 +12,30 @@ const GREATEST_PORT: usize = 65535;
 
 const USUAL_PORT: u16 = 80;
 
-/// The host of a request, from its Host field.
-pub fn host_of(alloc: Global, minor: u8, value: Option<&[u8]>) -> Mem<Option<(TextBuf, u16)>>
-    ensures { IfOk result (λ o. o ≡ spec.host_of minor (option_copied value.entry)) }
+/// The host of a request, from its Host field: its name and its port.
+pub fn host_of(minor: u8, value: Option<&[u8]>) -> Option<(&[u8], u16)>
+    ensures value { option_map lent result ≡ spec.host_of minor (option_copied value.entry) }
+    ensures text { IfSome result (λ host. IsUtf8 host.0.now) }
 {
     match value {
-        Some(value) => host_in(alloc, value),
-        None if minor == 0 => Ok(Some((TextBuf::of(alloc, "")?, USUAL_PORT))),
-        None => Ok(None),
+        Some(value) => host_in(value),
+        None if minor == 0 => Some((b"", USUAL_PORT)),
+        None => None,
     }
 }
 
-fn host_in(alloc: Global, value: &[u8]) -> Mem<Option<(TextBuf, u16)>>
-    ensures { IfOk result (λ o. o ≡ spec.host_in value.now) }
+fn host_in(value: &[u8]) -> Option<(&[u8], u16)>
+    ensures value { option_map lent result ≡ spec.host_in value.now }
+    ensures text { IfSome result (λ host. IsUtf8 host.0.now) }
 {
     let (name, port) = cut(value);
     if !is_name(name) {
-        return Ok(None);
+        return None;
     }
-    let Some(port) = port_of(port) else {
-        return Ok(None);
-    };
-    let name = String::from_utf8_lossy(alloc, name)?;
-    Ok(Some((TextBuf::from(name), port)))
+    match port_of(port) {
+        Some(port) => Some((name, port)),
+        None => None,
+    }
 }
 
 // What stands before the first colon, and what stands after it.

@@ -6,10 +6,13 @@ mod answer;
 mod fault;
 mod head;
 mod host;
+mod laws;
 mod target;
 mod turn;
+mod window;
 
 pub use answer::{answer_bytes, fixed_507};
 pub use fault::InFault;
+pub use laws::the_turns_of_a_beginning;
 pub use target::{Target, read_target};
 pub use turn::Turn;

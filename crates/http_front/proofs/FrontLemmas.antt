@@ -1,0 +1,143 @@
+-- What the parser finds at the front of a stream.
+use Rattle.std.proofs.Common.{◌≡◌, ◌≢◌, ◌<◌, ◌≤◌, ◌+◌, ◌*◌, ℕ, Bool, true, List, [], ◌∷◌, ◌++◌, length, take, drop, get_or, map, refl, sym, ◌∙◌, ap, subst, arith, length-append, append_assoc, flat_map, suc, Some}
+use Rattle.std.specs.Prelude.{All, IsUtf8}
+use Rattle.std.proofs.lemmas.Bool.Decides.{nat_tests}
+use Rattle.std.proofs.lemmas.List.{get_or-map, length-map}
+use Rattle.std.proofs.lemmas.List.Elements.{All-weaker, All-map, All-head}
+use Rattle.std.proofs.lemmas.Str.{IsUtf8-from_ascii}
+use Rattle.std.proofs.lemmas.Str.Ascii.{IsAscii-from_all}
+use Rattle.httparse.specs.Grammar.{is_token_byte, IsToken, AllPass, LineEnd, crlf, lf, print_end, Field, IsField, print_field, print_section, RequestHead, print_request, ReadsRequest, IsRequestHead}
+use Rattle.httparse.specs.Grammar.{print_blank, print_version}
+use Rattle.httparse.proofs.GrammarLemmas.{print_request-append}
+use Rattle.httparse.proofs.PieceLemmas.{print_field-append}
+use Rattle.httparse.specs.Spans.{IsHeaderWithin, IsRequestWithin, IsRequestAt, RequestExceeds, name_and_value, header_bytes}
+use Rattle.httparse.specs.declared.spans.HeaderSpan.{HeaderSpan}
+use Rattle.httparse.specs.declared.spans.RequestSpans.{RequestSpans}
+use Rattle.http_front.specs.declared.fault.InFault.{InFault}
+use Rattle.http_front.specs.declared.head.Head.{Head}
+use Rattle.http_front.specs.Heads.{Parts, parts_at, parts_of, AreWithin, AreTexts, Asks, fault_of}
+use Rattle.http_front.specs.Fronts.{HoldsHead, HoldsSomeHead}
+use Rattle.http_front.specs.Turns.{BeginsWith, BeginsAsking, BeginsRefused, longest_head}
+
+token_is_ascii : (b : ℕ) → is_token_byte b ≡ true → b < 128
+unfolding is_token_byte
+token_is_ascii b token = grind (arith, nat_tests)
+
+token_is_text : (bytes : List ℕ) → IsToken bytes → IsUtf8 bytes
+token_is_text bytes token = IsUtf8-from_ascii _ (IsAscii-from_all _ (All-weaker (λ b. is_token_byte b ≡ true) (λ b. b < 128) token_is_ascii _ token.1))
+
+-- method, target and names of a head are texts
+pub texts : (bytes : List ℕ) (fields : List HeaderSpan) (spans : RequestSpans) → HoldsSomeHead bytes fields spans → AreTexts (parts_at bytes fields spans)
+texts bytes fields spans holds =
+    let head = holds.0 in
+    subst AreTexts (sym holds.1.parts_are) (record {
+      method = token_is_text head.method holds.1.reads.0.method;
+      target = holds.1.reads.0.target_text;
+      names = All-map (λ field. IsUtf8 field.0) name_and_value head.fields (All-weaker IsField (λ f. IsUtf8 f.name) (λ f h. token_is_text f.name h.name) head.fields holds.1.reads.0.fields);
+    })
+
+-- the parser's spans are such places
+pub holds : (bytes : List ℕ) (places : List HeaderSpan) (spans : RequestSpans) (head : RequestHead) → IsRequestWithin bytes places spans → IsRequestAt bytes places spans head
+    → HoldsHead bytes (take spans.headers places) spans head
+holds bytes places spans head w at = record {
+  reads = at.reads;
+  len_is = at.len;
+  len_fits = w.section.len_fits;
+  parts_are = λ i. record { method = at.method i; target = at.path i; minor = at.version i; fields = at.fields i };
+}
+
+fits_more : (a b : ℕ) → a ≤ b → (s : ℕ × ℕ) → s.1 ≤ a → s.1 ≤ b
+fits_more a b h s l = omega (arith, h, l)
+
+pub within : (bytes : List ℕ) (places : List HeaderSpan) (spans : RequestSpans) → IsRequestWithin bytes places spans → AreWithin bytes (take spans.headers places) spans
+within bytes places spans w = record {
+  method = (w.method.0, omega (arith, w.method.1, w.section.len_fits));
+  path = (w.path.0, omega (arith, w.path.1, w.section.len_fits));
+  fields_fit = All-weaker (IsHeaderWithin spans.len) (IsHeaderWithin (length bytes))
+      (λ h in_head. ((in_head.0.0, omega (arith, in_head.0.1, w.section.len_fits)), (in_head.1.0, omega (arith, in_head.1.1, w.section.len_fits)))) _ w.section.headers_fit;
+}
+
+-- a head takes a byte at least
+head_long : (h : RequestHead) → length (print_request h)
+    ≡ length (print_blank h.blank) + (length h.method + (1 + (length h.target + (1 + (length (print_version h.minor) + (length (print_end h.line_end) + length (print_section h.fields h.last)))))))
+head_long h =
+    let last = print_section h.fields h.last ++ [] in
+    let ends = print_end h.line_end ++ last in
+    let version = print_version h.minor ++ ends in
+    let target = h.target ++ 32 ∷ version in
+    let method = h.method ++ 32 ∷ target in
+    omega (
+      arith,
+      length-append (print_request h) [],
+      ap length (print_request-append h []),
+      length-append (print_blank h.blank) method,
+      length-append h.method (32 ∷ target),
+      length-append h.target (32 ∷ version),
+      length-append (print_version h.minor) ends,
+      length-append (print_end h.line_end) last,
+      length-append (print_section h.fields h.last) [],
+    )
+
+print_long : (h : RequestHead) → 0 < length (print_request h)
+print_long h = omega (arith, head_long h)
+
+pub asking : (bytes : List ℕ) (fields : List HeaderSpan) (spans : RequestSpans) (asked : Head) → length bytes ≤ longest_head → HoldsSomeHead bytes fields spans → Asks (parts_at bytes fields spans) asked
+    → (0 < spans.len) × (spans.len ≤ length bytes) × BeginsAsking bytes asked (drop spans.len bytes)
+asking bytes fields spans asked small holds asks = (
+  subst (λ n. 0 < n) (sym holds.1.len_is) (print_long holds.0),
+  holds.1.len_fits,
+  record {
+    head = holds.0;
+    begins = record { reads = holds.1.reads; fits = omega (arith, holds.1.len_is, holds.1.len_fits, small) };
+    asks = subst (λ p. Asks p asked) holds.1.parts_are asks;
+  },
+)
+
+pub refused : (bytes : List ℕ) (fields : List HeaderSpan) (spans : RequestSpans) (fault : InFault) → length bytes ≤ longest_head → HoldsSomeHead bytes fields spans → fault_of (parts_at bytes fields spans) ≡ Some fault
+    → BeginsRefused bytes fault
+refused bytes fields spans fault small holds is = record {
+  head = holds.0;
+  rest = drop spans.len bytes;
+  begins = record { reads = holds.1.reads; fits = omega (arith, holds.1.len_is, holds.1.len_fits, small) };
+  refused = subst (λ p. fault_of p ≡ Some fault) holds.1.parts_are is;
+}
+
+-- ---- room
+
+end_long : (e : LineEnd) → 1 ≤ length (print_end e)
+end_long crlf = omega arith
+end_long lf = omega arith
+
+field_long : (f : Field) → IsField f → 3 ≤ length (print_field f)
+field_long f h =
+    let last = print_end f.end ++ [] in
+    omega (
+      arith,
+      h.name.0,
+      length-append (print_field f) [],
+      ap length (print_field-append f []),
+      length-append f.name (58 ∷ (f.raw ++ last)),
+      length-append f.raw last,
+      length-append (print_end f.end) [],
+      end_long f.end,
+    )
+
+fields_long : (fields : List Field) → All IsField fields → 3 * length fields ≤ length (flat_map print_field fields)
+fields_long [] all = omega arith
+fields_long (f ∷ fields) all =
+    omega (arith, length-append (print_field f) (flat_map print_field fields), field_long f (All-head IsField f fields all), fields_long fields (λ k d l. all (suc k) d (omega (arith, l))))
+
+section_in : (h : RequestHead) → length (flat_map print_field h.fields) ≤ length (print_request h)
+section_in h = omega (arith, head_long h, length-append (flat_map print_field h.fields) (print_end h.last))
+
+-- so many bytes don't hold more fields than 8,192
+pub room_is_enough : (bytes : List ℕ) → length bytes ≤ longest_head → RequestExceeds 8192 bytes → ⊥
+room_is_enough bytes small e =
+    let front = e.0 in
+    let rest = e.1 in
+    let head = e.3 in
+    let reads : ReadsRequest (front ++ print_end lf) head [] = e.4 in
+    let many : 8192 < length head.fields = e.5 in
+    let size : length (front ++ print_end lf) ≡ length (print_request head) + 0 = ap length reads.1 ∙ length-append (print_request head) [] in
+    let cut : length bytes ≡ length front + length rest = ap length e.2 ∙ length-append front rest in
+    omega (arith, small, many, size, cut, length-append front (print_end lf), section_in head, fields_long head.fields reads.0.fields)

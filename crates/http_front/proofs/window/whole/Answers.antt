@@ -1,0 +1,9 @@
+use Rattle.std.proofs.Common.{inl, sym, ◌∙◌}
+use Rattle.http_front.proofs.FrontLemmas.{texts, asking, refused}
+use Rattle.http_front.proofs.window.whole.Goals as goal
+
+pub read_head-requires-clause-texts : goal.read_head-requires-clause-texts
+read_head-requires-clause-texts c = texts _ _ _ c.requires.holds
+
+pub returns-in-Ok : goal.returns-in-Ok
+returns-in-Ok c = λ room. asking _ _ _ _ c.requires.small c.requires.holds c.in-Ok.ensures.ok

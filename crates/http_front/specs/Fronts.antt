@@ -1,0 +1,27 @@
+-- What is found at the front of a stream, in so many bytes as a head may have.
+use Rattle.std.specs.Prelude.{◌≡◌, ◌⊎◌, ◌<◌, ◌≤◌, ℕ, List, length, drop}
+use Rattle.httparse.specs.Grammar.{RequestHead, print_request, ReadsRequest, HasNoRequest, NeverHasRequest, MayBecomeRequest}
+use Rattle.httparse.specs.Spans.{RequestExceeds}
+use Rattle.httparse.specs.declared.spans.HeaderSpan.{HeaderSpan}
+use Rattle.httparse.specs.declared.spans.RequestSpans.{RequestSpans}
+use Rattle.http_front.specs.declared.fault.InFault.TheVariants.{BadHead}
+use Rattle.http_front.specs.declared.window.Front.{Front}
+use Rattle.http_front.specs.declared.window.Front.TheVariants.{Whole, Partial, Refused, Crowded}
+use Rattle.http_front.specs.Heads.{parts_at, parts_of}
+use Rattle.http_front.specs.Turns.{BeginsAsking, BeginsRefused}
+
+-- the first bytes hold this head, and its parts stand at these places
+pub record HoldsHead (bytes : List ℕ) (fields : List HeaderSpan) (spans : RequestSpans) (head : RequestHead) : Type 0 where
+  pub reads : ReadsRequest bytes head (drop spans.len bytes)
+  pub len_is : spans.len ≡ length (print_request head)
+  pub len_fits : spans.len ≤ length bytes
+  pub parts_are : parts_at bytes fields spans ≡ parts_of head
+
+abbrev pub HoldsSomeHead : List ℕ → List HeaderSpan → RequestSpans → Type 0
+HoldsSomeHead bytes fields spans = (head : RequestHead) × HoldsHead bytes fields spans head
+
+abbrev pub IsFront : List ℕ → ℕ → Front → Type 0
+IsFront bytes room (Whole head len) = (0 < len) × (len ≤ length bytes) × BeginsAsking bytes head (drop len bytes)
+IsFront bytes room Partial = HasNoRequest bytes × MayBecomeRequest bytes
+IsFront bytes room (Refused fault) = BeginsRefused bytes fault ⊎ ((fault ≡ BadHead) × NeverHasRequest bytes)
+IsFront bytes room Crowded = RequestExceeds room bytes

@@ -1,0 +1,7 @@
+-- What is lent, as the value that it is.
+use Rattle.std.specs.Prelude.{ℕ, List}
+use Rattle.std.specs.Borrow.{Bor}
+
+-- a name that is lent, and a port
+abbrev pub lent : Bor (List ℕ) × ℕ → List ℕ × ℕ
+lent host = (host.0.now, host.1)

@@ -1,0 +1,56 @@
+//! Finds the head at the front of a stream, in its first bytes.
+ghost use Rattle.std.specs.Prelude.{◌≤◌, ℕ, IfOk, length};
+ghost use Rattle.http_front.specs.Turns.{longest_head};
+ghost use Rattle.http_front.specs.Fronts.{IsFront, HoldsSomeHead};
+ghost use Rattle.http_front.specs.Heads.{AreWithin};
+
+use crate::fault::InFault;
+use crate::head::{Head, read_head};
+use httparse::spans::{HeaderSpan, RequestSpans, parse_request};
+use httparse::{Error, Status};
+use sp_base::{Mem, NoMemory};
+use std::alloc::Global;
+
+/// What stands at the front of a stream.
+#[derive(Drop)]
+pub enum Front {
+    /// A whole head, and the number of its bytes.
+    Whole(Head, usize),
+    /// No whole head, and one may still come.
+    Partial,
+    /// A head that is refused, or bytes that begin none.
+    Refused(InFault),
+    /// More fields than there were places for them.
+    Crowded,
+}
+
+/// Reads the head at the front of so many bytes as one may have. The places are written over.
+pub fn read_window(alloc: Global, bytes: &[u8], places: &mut [HeaderSpan]) -> Mem<Front>
+    requires { length bytes.now ≤ longest_head }
+    ensures { IfOk result (IsFront bytes.now (length places.old)) }
+{
+    match parse_request(bytes, places) {
+        Ok(Status::Complete(head)) => whole(alloc, bytes, &places[..head.headers], &head),
+        Ok(Status::Partial) => Ok(Front::Partial),
+        Err(Error::TooManyHeaders) => Ok(Front::Crowded),
+        Err(_) => Ok(Front::Refused(InFault::BadHead)),
+    }
+}
+
+fn whole(
+    alloc: Global,
+    bytes: &[u8],
+    fields: &[HeaderSpan],
+    spans: &RequestSpans,
+) -> Mem<Front>
+    requires small { length bytes.now ≤ longest_head }
+    requires within { AreWithin bytes.now fields.now spans.now }
+    requires holds { HoldsSomeHead bytes.now fields.now spans.now }
+    ensures { (room : ℕ) → IfOk result (IsFront bytes.now room) }
+{
+    match read_head(alloc, bytes, fields, spans) {
+        Ok(head) => Ok(Front::Whole(head, spans.len)),
+        Err(InFault::NoMemory) => Err(NoMemory),
+        Err(fault) => Ok(Front::Refused(fault)),
+    }
+}

@@ -11,7 +11,7 @@ use Rattle.connections.specs.declared.place.Reply.TheVariants.{Interim, Fixed, A
 use Rattle.connections.specs.Slots.{Slot, Response, IsWritten, is_answered, is_awaiting, is_final}
 use Rattle.connections.specs.Slots as model
 use Rattle.connections.specs.Connections.{filled}
-use Rattle.connections.specs.Ties.{ReplyTied, PlaceTied, AllTied, AllAnswered, has_reply, awaits, ends_request, reply_bytes, place_bytes}
+use Rattle.connections.specs.Ties.{ReplyTied, PlaceTied, AllTied, AllAnswered, has_reply, awaits, is_final_reply, reply_bytes, place_bytes}
 
 -- ---- a reply and a response
 pub answered-tied : (r : Reply) (t : Response) → ReplyTied r t → is_answered t ≡ has_reply r
@@ -28,7 +28,7 @@ awaiting-tied n (Awaits m) (model.Awaits k) tied = ap (λ x. nat_eq x n) (sym ti
 awaiting-tied n (Says a) (model.Says b) tied = refl
 awaiting-tied n r t tied = absurd tied
 
-pub final-tied : (r : Reply) (t : Response) → ReplyTied r t → is_final t ≡ ends_request r
+pub final-tied : (r : Reply) (t : Response) → ReplyTied r t → is_final t ≡ is_final_reply r
 final-tied Interim model.Interim tied = refl
 final-tied Fixed model.Fixed tied = refl
 final-tied (Awaits m) (model.Awaits n) tied = refl
@@ -63,12 +63,12 @@ pub tied-none : (ys : List Slot) → AllTied [] ys → ys ≡ []
 tied-none [] all = refl
 tied-none (y ∷ ys) all = absurd all
 
-pub count-tied : (xs : List Place) (ys : List Slot) → AllTied xs ys → count_by (λ place. ends_request place.reply) xs ≡ count_by (λ slot. is_final slot.response) ys
+pub count-tied : (xs : List Place) (ys : List Slot) → AllTied xs ys → count_by (λ place. is_final_reply place.reply) xs ≡ count_by (λ slot. is_final slot.response) ys
 count-tied [] [] all = refl
 count-tied [] (y ∷ ys) all = absurd all
 count-tied (x ∷ xs) [] all = absurd all
 count-tied (x ∷ xs) (y ∷ ys) all =
-    let f : Place → ℕ = λ place. cond (ends_request place.reply) 1 0 in
+    let f : Place → ℕ = λ place. cond (is_final_reply place.reply) 1 0 in
     let g : Slot → ℕ = λ slot. cond (is_final slot.response) 1 0 in
     sum_by-cons f x xs ∙ ap (λ n. f x + n) (count-tied xs ys all.1) ∙ ap (λ b. cond b 1 0 + count_by (λ slot. is_final slot.response) ys) (sym (final-tied x.reply y.response all.0.replies)) ∙ sym (sum_by-cons g y ys)
 

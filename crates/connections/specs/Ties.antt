@@ -10,7 +10,7 @@ use Rattle.connections.specs.Slots.{Slot, Response, continue_bytes, is_answered}
 use Rattle.connections.specs.Slots as model
 use Rattle.connections.specs.Connections.{Connection}
 
--- ---- places
+-- ---- replies
 
 abbrev pub has_reply : Reply → Bool
 has_reply Interim = true
@@ -24,11 +24,11 @@ awaits flight Fixed = false
 awaits flight (Awaits other) = nat_eq other flight
 awaits flight (Says answer) = false
 
-abbrev pub ends_request : Reply → Bool
-ends_request Interim = false
-ends_request Fixed = true
-ends_request (Awaits flight) = true
-ends_request (Says answer) = true
+abbrev pub is_final_reply : Reply → Bool
+is_final_reply Interim = false
+is_final_reply Fixed = true
+is_final_reply (Awaits flight) = true
+is_final_reply (Says answer) = true
 
 -- the bytes of a reply: none while it is awaited
 abbrev pub reply_bytes : Bool → Bool → Reply → List ℕ

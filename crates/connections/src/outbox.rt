@@ -5,7 +5,7 @@ ghost use Rattle.connections.specs.Slots.{Slot};
 ghost use Rattle.connections.specs.Connections as model;
 ghost use Rattle.connections.specs.Connections.{Connection, due, due_unsent, fresh, with_landing, with_sent, with_slot};
 ghost use Rattle.connections.specs.Histories.{IsDueSending};
-ghost use Rattle.connections.specs.Ties.{IsSendingOf, PlaceTied, Tied, awaits, ends_request, front_has_reply, unsent_count};
+ghost use Rattle.connections.specs.Ties.{IsSendingOf, PlaceTied, Tied, awaits, is_final_reply, front_has_reply, unsent_count};
 
 use crate::place::{Place, Reply};
 use crate::sending::Sending;
@@ -115,11 +115,11 @@ impl Outbox {
     }
 
     fn unanswered_count(&self) -> usize
-        ensures { result ≡ count_by (λ place. ends_request place.reply) self.now.places.items }
+        ensures { result ≡ count_by (λ place. is_final_reply place.reply) self.now.places.items }
     {
         self.places
             .iter()
-            .filter(|place| place.reply.ends_request())
+            .filter(|place| place.reply.is_final())
             .count()
     }
 

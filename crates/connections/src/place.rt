@@ -1,7 +1,7 @@
 //! The place of an answer among those that a connection owes.
 ghost use Rattle.std.specs.Prelude.{◌≡◌, ◌||◌, Bool, IfOk};
 ghost use Rattle.connections.specs.Slots as model;
-ghost use Rattle.connections.specs.Ties.{PlaceTied, ReplyTied, awaits as awaiting, ends_request as ending, has_reply as answered, place_bytes};
+ghost use Rattle.connections.specs.Ties.{PlaceTied, ReplyTied, awaits as awaiting, is_final_reply, has_reply as answered, place_bytes};
 
 use http_front::{answer_bytes, fixed_507};
 use sp_base::{Answer, ByteBuf, Mem, Req};
@@ -53,8 +53,8 @@ impl Reply {
     }
 
     // Whether it answers a request, and doesn't stand before the request's own answer.
-    pub(crate) fn ends_request(&self) -> bool
-        ensures { result ≡ ending self.now }
+    pub(crate) fn is_final(&self) -> bool
+        ensures { result ≡ is_final_reply self.now }
     {
         match self {
             Reply::Interim => false,

@@ -58,96 +58,78 @@ fn answer(alloc: Global, body: &str) -> Result<Answer, Failed> {
     })
 }
 
-fn push(
-    alloc: Global,
-    outbox: &mut Outbox,
-    method: &str,
-    close: bool,
-    flight: u64,
-) -> Result<(), Failed> {
+// The place of a request that awaits a flight.
+fn place(alloc: Global, method: &str, close: bool, flight: u64) -> Result<Place, Failed> {
     let request = request(alloc, method, close)?;
-    outbox.push(Place::of_request(&request, false, Reply::Awaits(flight)))?;
-    Ok(())
+    Ok(Place::of_request(&request, false, Reply::Awaits(flight)))
 }
 
-// The text of what is sent next.
-fn sent(alloc: Global, outbox: &mut Outbox) -> Result<TextBuf, Failed> {
-    match outbox.send(alloc) {
-        Some(sending) => {
-            let text = String::from_utf8_lossy(alloc, sending.bytes.bytes())?;
-            Ok(TextBuf::from(text))
+// Whether these texts are sent next, one after another, and then nothing.
+fn sends(alloc: Global, outbox: &mut Outbox, texts: &[&str]) -> bool {
+    for text in texts {
+        match outbox.send(alloc) {
+            Some(sending) if sending.bytes.bytes() == text.as_bytes() => {}
+            _ => return false,
         }
-        None => Ok(TextBuf::of(alloc, "nothing")?),
     }
+    outbox.send(alloc).is_none()
+}
+
+const CONTINUE: &str = "HTTP/1.1 100 Continue\r\n\r\n";
+
+const GOT: &str = "HTTP/1.1 200 OK\r\nContent-Type: text/plain\r\nContent-Length: 3\r\n\r\none";
+
+const HEAD_ALONE: &str =
+    "HTTP/1.1 200 OK\r\nContent-Type: text/plain\r\nContent-Length: 3\r\nConnection: close\r\n\r\n";
+
+const FIXED: &str =
+    "HTTP/1.1 507 Insufficient Storage\r\nContent-Length: 0\r\nConnection: close\r\n\r\n";
+
+// A GET, a 100 Continue, and a HEAD after which the connection closes.
+fn pipeline(alloc: Global) -> Result<Outbox, Failed> {
+    let mut outbox = Outbox::new(alloc)?;
+    outbox.push(place(alloc, "GET", false, 1)?)?;
+    outbox.push(Place::interim())?;
+    outbox.push(place(alloc, "HEAD", true, 2)?)?;
+    Ok(outbox)
 }
 
 #[test]
 fn answers_a_pipeline_in_its_order(rt: HostRuntime) -> Result<(), Failed> {
-    let alloc = rt.alloc();
-    let mut outbox = Outbox::new(alloc)?;
-    push(alloc, &mut outbox, "GET", false, 1)?;
-    outbox.push(Place::interim())?;
-    push(alloc, &mut outbox, "HEAD", true, 2)?;
+    let mut outbox = pipeline(rt.alloc())?;
     assert!(rt; outbox.is_closing());
-    outbox.fill(2, answer(alloc, "two")?);
-    assert_eq!(rt; sent(alloc, &mut outbox)?.text(), "nothing");
-    outbox.fill(3, answer(alloc, "three")?);
-    assert_eq!(rt; sent(alloc, &mut outbox)?.text(), "nothing");
-    outbox.fill(1, answer(alloc, "one")?);
-    assert_eq!(rt;
-        sent(alloc, &mut outbox)?.text(),
-        "HTTP/1.1 200 OK\r\nContent-Type: text/plain\r\nContent-Length: 3\r\n\r\none"
-    );
-    assert_eq!(rt;
-        sent(alloc, &mut outbox)?.text(),
-        "HTTP/1.1 100 Continue\r\n\r\n"
-    );
-    assert!(rt; !outbox.is_over());
-    assert_eq!(rt;
-        sent(alloc, &mut outbox)?.text(),
-        "HTTP/1.1 200 OK\r\nContent-Type: text/plain\r\nContent-Length: 3\r\nConnection: close\r\n\r\n"
-    );
+    outbox.fill(2, answer(rt.alloc(), "two")?);
+    outbox.fill(3, answer(rt.alloc(), "three")?);
+    assert!(rt; sends(rt.alloc(), &mut outbox, &[]));
+    outbox.fill(1, answer(rt.alloc(), "one")?);
+    assert!(rt; sends(rt.alloc(), &mut outbox, &[GOT, CONTINUE, HEAD_ALONE]));
     assert!(rt; outbox.is_over());
     Ok(())
 }
 
 #[test]
 fn closes_after_the_fixed_507(rt: HostRuntime) -> Result<(), Failed> {
-    let alloc = rt.alloc();
-    let mut outbox = Outbox::new(alloc)?;
-    let request = request(alloc, "GET", false)?;
+    let mut outbox = Outbox::new(rt.alloc())?;
+    let request = request(rt.alloc(), "GET", false)?;
     outbox.push(Place::of_request(&request, false, Reply::Fixed))?;
-    outbox.push(Place::of_fault(Reply::Says(answer(alloc, "")?)))?;
-    assert_eq!(rt;
-        sent(alloc, &mut outbox)?.text(),
-        "HTTP/1.1 507 Insufficient Storage\r\nContent-Length: 0\r\nConnection: close\r\n\r\n"
-    );
+    outbox.push(Place::of_fault(Reply::Says(answer(rt.alloc(), "")?)))?;
+    assert!(rt; sends(rt.alloc(), &mut outbox, &[FIXED]));
     assert!(rt; outbox.is_over());
-    assert_eq!(rt; sent(alloc, &mut outbox)?.text(), "nothing");
     Ok(())
 }
 
 #[test]
 fn is_crowded_at_64_requests(rt: HostRuntime) -> Result<(), Failed> {
-    let alloc = rt.alloc();
-    let mut outbox = Outbox::new(alloc)?;
+    let mut outbox = Outbox::new(rt.alloc())?;
+    outbox.push(place(rt.alloc(), "GET", false, 0)?)?;
     for flight in 1..64u64 {
+        assert!(rt; !outbox.is_crowded());
         outbox.push(Place::interim())?;
-        push(alloc, &mut outbox, "POST", false, flight)?;
+        outbox.push(place(rt.alloc(), "POST", false, flight)?)?;
     }
-    assert!(rt; !outbox.is_crowded());
-    push(alloc, &mut outbox, "GET", false, 64)?;
     assert!(rt; outbox.is_crowded());
-    assert_eq!(rt;
-        sent(alloc, &mut outbox)?.text(),
-        "HTTP/1.1 100 Continue\r\n\r\n"
-    );
-    assert!(rt; outbox.is_crowded());
-    outbox.fill(1, answer(alloc, "")?);
-    assert_eq!(rt;
-        sent(alloc, &mut outbox)?.text(),
-        "HTTP/1.1 200 OK\r\nContent-Type: text/plain\r\nContent-Length: 0\r\n\r\n"
-    );
+    outbox.fill(0, answer(rt.alloc(), "one")?);
+    assert!(rt; sends(rt.alloc(), &mut outbox, &[GOT, CONTINUE]));
     assert!(rt; !outbox.is_crowded());
     Ok(())
 }

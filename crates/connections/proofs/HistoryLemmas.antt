@@ -13,6 +13,7 @@ use Rattle.connections.specs.Connections.{Connection, Close, Nothing, Send, adva
 use Rattle.connections.specs.Histories.{AnswersRun, Follows, IsDueSending, IsEndOr, Landing, Move, Piece, Sent, Shut, Treatment, after_all, sendings}
 use Rattle.connections.specs.Ties.{AllAnswered}
 use Rattle.connections.proofs.PlaceLemmas.{filled-past, length-filled}
+use Rattle.connections.proofs.TurnLemmas.{LastCloses, last-of}
 use Rattle.connections.proofs.OutboxLemmas.{drop-head, due-answered, take-exact}
 
 -- ---- slots that were sent
@@ -177,3 +178,36 @@ in-order peer moves follows none =
     let within = told.within in
     let whole : take c.sent c.slots ++ drop c.sent c.slots ≡ c.slots = grind (arith, common_steps) in
     rw (sym whole) (past-run (take c.sent c.slots) (drop c.sent c.slots) (sendings moves) c.over told.past (held c none))
+
+-- ---- the end
+last-rest : (b : Bool) (slots : List Slot) (ys : List Sending) (over : Bool) (P : Type 0) → PastRest b slots ys over P → b ≡ true → over ≡ true
+last-rest true slots ys over P past e = past.2
+last-rest false slots ys over P past e = absurd (let no : ⊥ = cc in no)
+
+more-rest : (b : Bool) (t : Slot) (slots : List Slot) (ys : List Sending) (over : Bool) (P : Type 0) → PastRest b (t ∷ slots) ys over P → (P → over ≡ true) → over ≡ true
+more-rest true t slots ys over P past next = absurd (let e = past.0 in let no : ⊥ = cc in no)
+more-rest false t slots ys over P past next = next past
+
+is_last-closes : (s : Slot) (bytes : List ℕ) → s.closes ≡ true → is_last s bytes ≡ true
+is_last-closes s bytes e = rw e refl
+
+past-last : (slots : List Slot) (ys : List Sending) (over : Bool) → Past slots ys over → LastCloses slots → over ≡ true
+past-last [] ys over past last = absurd last
+past-last (s ∷ []) [] over past last = absurd past
+past-last (s ∷ t ∷ slots) [] over past last = absurd past
+past-last (s ∷ []) (y ∷ ys) over past last = last-rest (is_last s y.bytes) [] ys over _ past.2 (is_last-closes s y.bytes last)
+past-last (s ∷ t ∷ slots) (y ∷ ys) over past last = more-rest (is_last s y.bytes) t slots ys over _ past.2 (λ p. past-last (t ∷ slots) ys over p last)
+
+take-none : {A : Type 0} (xs : List A) (n : ℕ) → slice_get xs n ≡ None → take n xs ≡ xs
+take-none [] n e = grind (arith, common_steps)
+take-none (x ∷ xs) zero e = absurd (let no : ⊥ = cc in no)
+take-none (x ∷ xs) (suc n) e = ap (λ zs. x ∷ zs) (take-none xs n e)
+
+pub at-end : (peer : List ℕ) (moves : List Move) → Follows (fresh peer) moves → (after_all (fresh peer) moves).closing ≡ true → slice_get (after_all (fresh peer) moves).slots (after_all (fresh peer) moves).sent ≡ None
+    → due (after_all (fresh peer) moves) ≡ Close
+at-end peer moves follows closing none =
+    let c = after_all (fresh peer) moves in
+    let told = told-all (fresh peer) moves [] (fresh-told peer) follows in
+    let past : Past c.slots (sendings moves) c.over = rw (take-none c.slots c.sent none) at told.past in
+    let over : c.over ≡ true = past-last c.slots (sendings moves) c.over past (last-of peer moves follows closing) in
+    rw over refl

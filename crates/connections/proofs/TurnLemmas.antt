@@ -94,10 +94,39 @@ filled-open n a (t ∷ turns) (s ∷ slots) open_ = by_test (is_awaiting n s.res
     by_test true e rest = rw e (of-turn-filled n a t s e open_.0, open_.1, open_.2)
     by_test false e rest = rw e (open_.0, open_.1, rest)
 
+-- ---- the slot that closes a connection is its last
+abbrev pub LastCloses : List Slot → Type 0
+LastCloses [] = ⊥
+LastCloses (s ∷ []) = s.closes ≡ true
+LastCloses (s ∷ t ∷ slots) = LastCloses (t ∷ slots)
+
+last-push : (slots : List Slot) (s : Slot) → s.closes ≡ true → LastCloses (slots ++ s ∷ [])
+last-push [] s e = e
+last-push (r ∷ []) s e = e
+last-push (r ∷ t ∷ slots) s e = last-push (t ∷ slots) s e
+
+last-cons : (s : Slot) (slots : List Slot) → LastCloses slots → LastCloses (s ∷ slots)
+last-cons s [] last = absurd last
+last-cons s (t ∷ slots) last = last
+
+last-filled : (n : ℕ) (a : Answer) (slots : List Slot) → LastCloses slots → LastCloses (filled n a slots)
+last-filled n a [] last = absurd last
+last-filled n a (s ∷ []) last = by_test (is_awaiting n s.response)
+  where
+    by_test : (b : Bool) → LastCloses (cond b (with_answer a s ∷ []) (s ∷ []))
+    by_test true = last
+    by_test false = last
+last-filled n a (s ∷ t ∷ slots) last = by_test (is_awaiting n s.response) (last-filled n a (t ∷ slots) last)
+  where
+    by_test : (b : Bool) → LastCloses (filled n a (t ∷ slots)) → LastCloses (cond b (with_answer a s ∷ t ∷ slots) (s ∷ filled n a (t ∷ slots)))
+    by_test true rest = last
+    by_test false rest = last-cons s (filled n a (t ∷ slots)) rest
+
 -- ---- one move
 record Good (c : Connection) : Type 0 where
   are : AreOfTurns c.turns c.slots
   open_ : c.closing ≡ false → Open c.turns c.slots
+  last : c.closing ≡ true → LastCloses c.slots
 
 -- what is due of the turns
 record OfTurn (c : Connection) (o : Option Turn) : Type 0 where
@@ -166,6 +195,7 @@ good-turn c t s good of is =
     record {
       are = push-turn c.turns c.slots t s open_ of.next is;
       open_ = λ e. let stays : s.closes ≡ false = rw of.going at e in open-turn c.turns c.slots t s open_ of.next is stays;
+      last = λ e. let closes : s.closes ≡ true = rw of.going at e in last-push c.slots s closes;
     }
 
 good-fault : (c : Connection) (s : Slot) → Good c → OfTurn c None → IsOfFault s → Good (with_slot s c)
@@ -177,6 +207,7 @@ good-fault c s good of is =
           let stays : s.closes ≡ false = rw of.going at e in
           let closes : s.closes ≡ true = ap (λ (r : Slot). r.closes) is.1 in
           absurd (let no : ⊥ = cc in no);
+      last = λ e. let closes : s.closes ≡ true = rw of.going at e in last-push c.slots s closes;
     }
 
 good-treatment : (c : Connection) (s : Slot) → Good c → IsSlotOf (due c) s → Good (with_slot s c)
@@ -205,21 +236,27 @@ good-advanced c good = good-where c.closing c (after_turn (next_turn c) c) good 
 good-more : (c : Connection) (bytes : List ℕ) (turns : List Turn) (ends : End) → Good c → c.closing ≡ false → Good (record c { stream = c.stream ++ bytes; turns = c.turns ++ turns; ends = ends })
 good-more c bytes turns ends good going =
     let open_ = open-more c.turns turns c.slots (good.open_ going) in
-    record { are = open-are (c.turns ++ turns) c.slots open_; open_ = λ e. open_ }
+    record { are = open-are (c.turns ++ turns) c.slots open_; open_ = λ e. open_; last = good.last }
 
 good-fed : (c : Connection) (bytes : List ℕ) (turns : List Turn) (ends : End) → Good c → Good (fed bytes turns ends c)
 good-fed c bytes turns ends good = good-where c.closing c (advanced (record c { stream = c.stream ++ bytes; turns = c.turns ++ turns; ends = ends })) good (λ going. good-advanced _ (good-more c bytes turns ends good going))
 
 good-landing : (c : Connection) (n : ℕ) (a : Answer) → Good c → Good (with_landing n a c)
-good-landing c n a good = record { are = filled-are n a c.turns c.slots good.are; open_ = λ e. filled-open n a c.turns c.slots (good.open_ e) }
+good-landing c n a good = record { are = filled-are n a c.turns c.slots good.are; open_ = λ e. filled-open n a c.turns c.slots (good.open_ e); last = λ e. last-filled n a c.slots (good.last e) }
 
 good-all : (c : Connection) (moves : List Move) → Good c → Follows c moves → Good (after_all c moves)
 good-all c [] good follows = good
 good-all c (Piece bytes turns ends ∷ moves) good follows = good-all (fed bytes turns ends c) moves (good-fed c bytes turns ends good) follows.1
 good-all c (Treatment slot ∷ moves) good follows = good-all (advanced (with_slot slot c)) moves (good-advanced (with_slot slot c) (good-treatment c slot good follows.0)) follows.1
 good-all c (Landing n a ∷ moves) good follows = good-all (with_landing n a c) moves (good-landing c n a good) follows.1
-good-all c (Sent x ∷ moves) good follows = good-all (with_sent x.bytes c) moves (record { are = good.are; open_ = good.open_ }) follows.1
+good-all c (Sent x ∷ moves) good follows = good-all (with_sent x.bytes c) moves (record { are = good.are; open_ = good.open_; last = good.last }) follows.1
 good-all c (Shut ∷ moves) good follows = good-all c moves good follows.1
 
+fresh-good : (peer : List ℕ) → Good (fresh peer)
+fresh-good peer = record { are = tt; open_ = λ e. tt; last = λ e. absurd (let no : ⊥ = cc in no) }
+
 pub of-turns : (peer : List ℕ) (moves : List Move) → Follows (fresh peer) moves → AreOfTurns (after_all (fresh peer) moves).turns (after_all (fresh peer) moves).slots
-of-turns peer moves follows = (good-all (fresh peer) moves (record { are = tt; open_ = λ e. tt }) follows).are
+of-turns peer moves follows = (good-all (fresh peer) moves (fresh-good peer) follows).are
+
+pub last-of : (peer : List ℕ) (moves : List Move) → Follows (fresh peer) moves → (after_all (fresh peer) moves).closing ≡ true → LastCloses (after_all (fresh peer) moves).slots
+last-of peer moves follows e = (good-all (fresh peer) moves (fresh-good peer) follows).last e

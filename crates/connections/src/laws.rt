@@ -1,7 +1,7 @@
 //! What follows from the definitions for a whole connection, on functions that do nothing.
-ghost use Rattle.std.specs.Prelude.{◌≡◌, ◌≢◌, ℕ, List};
+ghost use Rattle.std.specs.Prelude.{◌≡◌, ◌≢◌, ℕ, List, None, slice_get, true};
 ghost use Rattle.connections.specs.Slots.{Slot};
-ghost use Rattle.connections.specs.Connections.{Send, due, fresh};
+ghost use Rattle.connections.specs.Connections.{Close, Send, due, fresh};
 ghost use Rattle.connections.specs.Histories.{AnswersRun, AreOfTurns, Follows, Move, after_all, sendings};
 
 /// Whatever happens to a connection: once nothing more can be sent, what was sent on it answers its slots in their order, each once,
@@ -14,4 +14,9 @@ pub fn answers_in_order()
 /// comes after one that closes the connection.
 pub fn slots_of_turns()
     ensures { (peer : List ℕ) (moves : List Move) → Follows (fresh peer) moves → AreOfTurns (after_all (fresh peer) moves).turns (after_all (fresh peer) moves).slots }
+{}
+
+/// Whatever happens to a connection, it isn't left open: once it closes and all its slots are sent, its end is due.
+pub fn a_closing_connection_ends()
+    ensures { (peer : List ℕ) (moves : List Move) → Follows (fresh peer) moves → (after_all (fresh peer) moves).closing ≡ true → slice_get (after_all (fresh peer) moves).slots (after_all (fresh peer) moves).sent ≡ None → due (after_all (fresh peer) moves) ≡ Close }
 {}

@@ -9,7 +9,7 @@ mod sending;
 #[cfg(test)]
 mod tests;
 
-pub use laws::{answers_in_order, slots_of_turns};
+pub use laws::{a_closing_connection_ends, answers_in_order, slots_of_turns};
 pub use outbox::Outbox;
 pub use place::{Place, Reply};
 pub use sending::Sending;

@@ -6,3 +6,5 @@ pub mod HostLemmas
 pub mod HeadLemmas
 pub mod TurnLemmas
 pub mod FrontLemmas
+pub mod StartLemmas
+pub mod IntakeLemmas

@@ -87,3 +87,7 @@ answer_bytes head_only close a = status_line a.status ++ flat_map field_line (fi
 -- the answer for which no memory is needed
 abbrev pub fixed_507 : List ℕ
 fixed_507 = codes "HTTP/1.1 507 Insufficient Storage\r\nContent-Length: 0\r\nConnection: close\r\n\r\n"
+
+-- the interim answer to a sender that waits with its body
+abbrev pub interim_100 : List ℕ
+interim_100 = codes "HTTP/1.1 100 Continue\r\n\r\n"

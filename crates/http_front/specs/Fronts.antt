@@ -8,7 +8,7 @@ use Rattle.http_front.specs.declared.fault.InFault.TheVariants.{BadHead}
 use Rattle.http_front.specs.declared.window.Front.{Front}
 use Rattle.http_front.specs.declared.window.Front.TheVariants.{Whole, Partial, Refused, Crowded}
 use Rattle.http_front.specs.Heads.{parts_at, parts_of}
-use Rattle.http_front.specs.Turns.{BeginsAsking, BeginsRefused}
+use Rattle.http_front.specs.Turns.{BeginsAsking, BeginsRefused, AwaitsHead, HasNoHead, longest_head}
 
 -- the first bytes hold this head, and its parts stand at these places
 pub record HoldsHead (bytes : List ℕ) (fields : List HeaderSpan) (spans : RequestSpans) (head : RequestHead) : Type 0 where
@@ -25,3 +25,10 @@ IsFront bytes room (Whole head len) = (0 < len) × (len ≤ length bytes) × Beg
 IsFront bytes room Partial = HasNoRequest bytes × MayBecomeRequest bytes
 IsFront bytes room (Refused fault) = BeginsRefused bytes fault ⊎ ((fault ≡ BadHead) × NeverHasRequest bytes)
 IsFront bytes room Crowded = RequestExceeds room bytes
+
+-- what is found at the front of a whole stream
+abbrev pub IsStart : List ℕ → Front → Type 0
+IsStart stream (Whole head len) = (0 < len) × (len ≤ length stream) × BeginsAsking stream head (drop len stream)
+IsStart stream Partial = AwaitsHead stream × (length stream < longest_head)
+IsStart stream (Refused fault) = BeginsRefused stream fault ⊎ HasNoHead stream fault
+IsStart stream Crowded = ⊥

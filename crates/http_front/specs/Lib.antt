@@ -6,3 +6,4 @@ pub mod Heads
 pub mod Faults
 pub mod Turns
 pub mod Fronts
+pub mod Intakes

@@ -38,6 +38,13 @@ pub fn fixed_507() -> &'static [u8]
     b"HTTP/1.1 507 Insufficient Storage\r\nContent-Length: 0\r\nConnection: close\r\n\r\n"
 }
 
+/// The interim answer to a request whose sender waits with its body (RFC 9110, section 15.2.1).
+pub fn interim_100() -> &'static [u8]
+    ensures { result.now ≡ spec.interim_100 }
+{
+    b"HTTP/1.1 100 Continue\r\n\r\n"
+}
+
 fn content_of(head_only: bool, answer: &Answer) -> &[u8]
     ensures { result.now ≡ spec.content_of head_only answer.now }
 {

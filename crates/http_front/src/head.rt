@@ -68,12 +68,7 @@ pub fn read_head(
     })
 }
 
-fn asked_of(
-    alloc: Global,
-    minor: u8,
-    target: &str,
-    heads: &HeadList,
-) -> Result<Asked, InFault>
+fn asked_of(alloc: Global, minor: u8, target: &str, heads: &HeadList) -> Result<Asked, InFault>
     ensures faultless { OnOk result (spec.first_fault minor target.now heads.now ≡ None) }
     ensures ok { IfOk result (λ asked. spec.asked_of minor target.now heads.now ≡ Some asked) }
     ensures err { IfErr result (λ e. e ≢ NoMemory → spec.first_fault minor target.now heads.now ≡ Some e) }
@@ -114,7 +109,10 @@ fn request_with(
     let method = TextBuf::of(alloc, method)?;
     let body = ByteBuf::of(alloc, b"")?;
     let Asked {
-        host, port, target, ..
+        host,
+        port,
+        target,
+        ..
     } = asked;
     let Target { path, slash, query } = target;
     Ok(Req {

@@ -7,5 +7,4 @@ ghost use Rattle.http_front.specs.Turns.{End, Spells};
 pub fn the_turns_of_a_beginning()
     ensures { (stream more : List ℕ) (turns all : List Turn) (end last : End) → Spells stream turns end → Spells (stream ++ more) all last
         → (later : List Turn) × (all ≡ turns ++ later) }
-{
-}
+{}

@@ -6,13 +6,17 @@ mod answer;
 mod fault;
 mod head;
 mod host;
+mod intake;
 mod laws;
 mod target;
+#[cfg(test)]
+mod tests;
 mod turn;
 mod window;
 
-pub use answer::{answer_bytes, fixed_507};
+pub use answer::{answer_bytes, fixed_507, interim_100};
 pub use fault::InFault;
+pub use intake::Intake;
 pub use laws::the_turns_of_a_beginning;
 pub use target::{Target, read_target};
 pub use turn::Turn;

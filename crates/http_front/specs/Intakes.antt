@@ -1,0 +1,104 @@
+-- What an intake has still to tell of the bytes that it has been given, and which stream it stands for.
+use Rattle.std.specs.Prelude.{◌≡◌, ◌<◌, ◌+◌, ◌*◌, ◌++◌, ◌≤◌, ℕ, List, [], ◌∷◌, Option, Some, None, length, drop}
+use Rattle.http_front.specs.declared.fault.InFault.{InFault}
+use Rattle.http_front.specs.declared.head.Head.{Head}
+use Rattle.http_front.specs.declared.intake.Intake.{Intake}
+use Rattle.http_front.specs.declared.intake.Phase.{Phase}
+use Rattle.http_front.specs.declared.intake.Phase.TheVariants.{Heading, Body, Failed}
+use Rattle.http_front.specs.declared.intake.Advance.{Advance}
+use Rattle.http_front.specs.declared.intake.Advance.TheVariants.{Asked, Ready, Waiting}
+use Rattle.http_front.specs.declared.turn.Turn.{Turn}
+use Rattle.http_front.specs.declared.turn.Turn.TheVariants.{Continue, Whole}
+use Rattle.http_front.specs.Turns.{End, Waits, Breaks, BeginsAsking, HasBody, Spells}
+
+-- the turns that come after a head
+abbrev pub Follows : Head → List ℕ → List Turn → End → Type 0
+Follows asked bytes [] end = (length bytes < asked.body_length) × (end ≡ Waits)
+Follows asked bytes (Continue ∷ turns) end = ⊥
+Follows asked bytes (Whole request ∷ turns) end = (rest : List ℕ) × HasBody asked bytes request rest × Spells rest turns end
+
+-- what these bytes spell: from a head on, after one, or after a fault
+abbrev pub Continues : Phase → List ℕ → List Turn → End → Type 0
+Continues Heading bytes turns end = Spells bytes turns end
+Continues (Body asked) bytes turns end = Follows asked bytes turns end
+Continues (Failed fault) bytes turns end = (turns ≡ []) × (end ≡ Breaks fault)
+
+-- the bytes that no turn has taken
+abbrev pub rest_of : Intake → List ℕ
+rest_of i = drop i.start i.buffer.items
+
+-- what an intake has still to tell, if these bytes come
+abbrev pub Left : Intake → List ℕ → List Turn → End → Type 0
+Left i more turns end = Continues i.phase (rest_of i ++ more) turns end
+
+-- The intake has been given the bytes of the stream, and has told these turns of it: whatever comes, what is left completes them to
+-- the turns of the whole stream.
+abbrev pub StandsFor : Intake → List ℕ → List Turn → Type 0
+StandsFor i stream told = (more : List ℕ) (turns : List Turn) (end : End) → Left i more turns end → Spells (stream ++ more) (told ++ turns) end
+
+abbrev pub fault_in : Phase → Option InFault
+fault_in Heading = None
+fault_in (Body asked) = None
+fault_in (Failed fault) = Some fault
+
+-- the fault that an intake has told
+abbrev pub told_fault : Intake → Option InFault
+told_fault i = fault_in i.phase
+
+-- ---- what one call leads to
+
+-- the intake stands for what it stood for
+abbrev pub Keeps : Intake → Intake → Type 0
+Keeps old new = (stream : List ℕ) (told : List Turn) → StandsFor old stream told → StandsFor new stream told
+
+-- one turn more has been told of what it stood for
+abbrev pub Tells : Intake → Intake → Turn → Type 0
+Tells old new turn = (stream : List ℕ) (told : List Turn) → StandsFor old stream told → StandsFor new stream (told ++ turn ∷ [])
+
+-- these bytes more have come of what it stood for
+abbrev pub Grows : Intake → Intake → List ℕ → Type 0
+Grows old new piece = (stream : List ℕ) (told : List Turn) → StandsFor old stream told → StandsFor new (stream ++ piece) told
+
+-- the turns of what it stood for are all told, and end so
+abbrev pub Ends : Intake → End → Type 0
+Ends i end = (stream : List ℕ) (told : List Turn) → StandsFor i stream told → Spells stream told end
+
+-- a number that falls with each turn
+abbrev pub phase_weight : Phase → ℕ
+phase_weight Heading = 0
+phase_weight (Body asked) = 1
+phase_weight (Failed fault) = 0
+
+abbrev pub weight : Intake → ℕ
+weight i = 2 * length (rest_of i) + phase_weight i.phase
+
+-- ---- the steps within one call
+
+-- what is left of the new one is what is left of the old one
+abbrev pub Leads : Intake → Intake → Type 0
+Leads old new = (more : List ℕ) (turns : List Turn) (end : End) → Left new more turns end → Left old more turns end
+
+abbrev pub LeadsBy : Intake → Intake → Turn → Type 0
+LeadsBy old new turn = (more : List ℕ) (turns : List Turn) (end : End) → Left new more turns end → Left old more (turn ∷ turns) end
+
+-- nothing is left
+abbrev pub Stands : Intake → End → Type 0
+Stands i end = Left i [] [] end
+
+abbrev pub IsBody : Phase → Type 0
+IsBody Heading = ⊥
+IsBody (Body asked) = Unit {0}
+IsBody (Failed fault) = ⊥
+
+-- the head at the front has been read, or there is none yet
+abbrev pub Advances : Intake → Intake → Advance → Type 0
+Advances old new Asked = LeadsBy old new Continue × (weight new < weight old)
+Advances old new Ready = Leads old new × IsBody new.phase × (weight new ≤ weight old)
+Advances old new Waiting = Leads old new × Stands old Waits
+
+-- what stands at the front, and the phase: a head that asks for this, of so many bytes
+pub record IsAtHead (i : Intake) (head : Head) (len : ℕ) : Type 0 where
+  pub heading : i.phase ≡ Heading
+  pub some : 0 < len
+  pub fits : len ≤ length (rest_of i)
+  pub begins : BeginsAsking (rest_of i) head (drop len (rest_of i))

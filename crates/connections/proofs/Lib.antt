@@ -1,0 +1,4 @@
+pub mod PlaceLemmas
+pub mod OutboxLemmas
+pub mod HistoryLemmas
+pub mod TurnLemmas

@@ -1,0 +1,134 @@
+-- Places of the code and slots of the model, which are tied.
+use Rattle.std.proofs.Common.{◌≡◌, ℕ, ◌+◌, suc, zero, ◌<◌, arith, get_or, cond, Bool, true, false, nat_eq, List, [], ◌∷◌, ◌++◌, length, refl, ap, sym, ◌∙◌}
+use Rattle.std.specs.Prelude.{Some, None, position, slice_set}
+use Rattle.std.specs.List.{count_by}
+use Rattle.std.proofs.lemmas.List.Sums.{sum_by-cons}
+use Rattle.std.proofs.lemmas.List.Quantifiers.{position-Some}
+use Rattle.sp_base.specs.declared.answer.Answer.{Answer}
+use Rattle.connections.specs.declared.place.Place.{Place}
+use Rattle.connections.specs.declared.place.Reply.{Reply}
+use Rattle.connections.specs.declared.place.Reply.TheVariants.{Interim, Fixed, Awaits, Says}
+use Rattle.connections.specs.Slots.{Slot, Response, IsWritten, is_answered, is_awaiting, is_final}
+use Rattle.connections.specs.Slots as model
+use Rattle.connections.specs.Connections.{filled}
+use Rattle.connections.specs.Ties.{ReplyTied, PlaceTied, AllTied, AllAnswered, has_reply, awaits, is_final_reply, reply_bytes, place_bytes}
+
+-- ---- a reply and a response
+pub answered-tied : (r : Reply) (t : Response) → ReplyTied r t → is_answered t ≡ has_reply r
+answered-tied Interim model.Interim tied = refl
+answered-tied Fixed model.Fixed tied = refl
+answered-tied (Awaits m) (model.Awaits n) tied = refl
+answered-tied (Says a) (model.Says b) tied = refl
+answered-tied r t tied = absurd tied
+
+pub awaiting-tied : (n : ℕ) (r : Reply) (t : Response) → ReplyTied r t → is_awaiting n t ≡ awaits n r
+awaiting-tied n Interim model.Interim tied = refl
+awaiting-tied n Fixed model.Fixed tied = refl
+awaiting-tied n (Awaits m) (model.Awaits k) tied = ap (λ x. nat_eq x n) (sym tied)
+awaiting-tied n (Says a) (model.Says b) tied = refl
+awaiting-tied n r t tied = absurd tied
+
+pub final-tied : (r : Reply) (t : Response) → ReplyTied r t → is_final t ≡ is_final_reply r
+final-tied Interim model.Interim tied = refl
+final-tied Fixed model.Fixed tied = refl
+final-tied (Awaits m) (model.Awaits n) tied = refl
+final-tied (Says a) (model.Says b) tied = refl
+final-tied r t tied = absurd tied
+
+written-by : (head_only closes : Bool) (r : Reply) (slot : Slot) (t : Response) (bytes : List ℕ) → head_only ≡ slot.head_only → closes ≡ slot.closes → ReplyTied r t → has_reply r ≡ true → bytes ≡ reply_bytes head_only closes r
+    → IsWritten slot t bytes
+written-by h c Interim slot model.Interim bytes eh ec tied has is = is
+written-by h c Fixed slot model.Fixed bytes eh ec tied has is = is
+written-by h c (Awaits m) slot (model.Awaits n) bytes eh ec tied has is = absurd (let no : ⊥ = cc in no)
+written-by h c (Says a) slot (model.Says b) bytes eh ec tied has is = rw (is, eh, ec, tied) refl
+written-by h c r slot t bytes eh ec tied has is = absurd tied
+
+-- the bytes of a place that has its reply are those of its slot
+pub written-tied : (place : Place) (slot : Slot) (bytes : List ℕ) → PlaceTied place slot → has_reply place.reply ≡ true → bytes ≡ place_bytes place → IsWritten slot slot.response bytes
+written-tied place slot bytes tied has is = written-by place.head_only place.closes place.reply slot slot.response bytes tied.head_only_is tied.closes_is tied.replies has is
+
+-- ---- places and slots
+pub tied-push : (xs : List Place) (ys : List Slot) (x : Place) (y : Slot) → AllTied xs ys → PlaceTied x y → AllTied (xs ++ x ∷ []) (ys ++ y ∷ [])
+tied-push [] [] x y all here = (here, tt)
+tied-push [] (z ∷ ys) x y all here = absurd all
+tied-push (z ∷ xs) [] x y all here = absurd all
+tied-push (z ∷ xs) (u ∷ ys) x y all here = (all.0, tied-push xs ys x y all.1 here)
+
+-- the first place is that of the first slot
+pub tied-head : (x : Place) (xs : List Place) (ys : List Slot) → AllTied (x ∷ xs) ys → (y : Slot) × (zs : List Slot) × (ys ≡ y ∷ zs) × PlaceTied x y × AllTied xs zs
+tied-head x xs [] all = absurd all
+tied-head x xs (y ∷ zs) all = (y, zs, refl, all.0, all.1)
+
+pub tied-none : (ys : List Slot) → AllTied [] ys → ys ≡ []
+tied-none [] all = refl
+tied-none (y ∷ ys) all = absurd all
+
+pub count-tied : (xs : List Place) (ys : List Slot) → AllTied xs ys → count_by (λ place. is_final_reply place.reply) xs ≡ count_by (λ slot. is_final slot.response) ys
+count-tied [] [] all = refl
+count-tied [] (y ∷ ys) all = absurd all
+count-tied (x ∷ xs) [] all = absurd all
+count-tied (x ∷ xs) (y ∷ ys) all =
+    let f : Place → ℕ = λ place. cond (is_final_reply place.reply) 1 0 in
+    let g : Slot → ℕ = λ slot. cond (is_final slot.response) 1 0 in
+    sum_by-cons f x xs ∙ ap (λ n. f x + n) (count-tied xs ys all.1) ∙ ap (λ b. cond b 1 0 + count_by (λ slot. is_final slot.response) ys) (sym (final-tied x.reply y.response all.0.replies)) ∙ sym (sum_by-cons g y ys)
+
+-- ---- landings
+-- the first place that awaits the flight has its reply
+abbrev pub filled_places : ℕ → Answer → List Place → List Place
+filled_places n a [] = []
+filled_places n a (x ∷ xs) = cond (awaits n x.reply) (record x { reply = Says a } ∷ xs) (x ∷ filled_places n a xs)
+
+pub tied-filled : (n : ℕ) (a : Answer) (xs : List Place) (ys : List Slot) → AllTied xs ys → AllTied (filled_places n a xs) (filled n a ys)
+tied-filled n a [] [] all = tt
+tied-filled n a [] (y ∷ ys) all = absurd all
+tied-filled n a (x ∷ xs) [] all = absurd all
+tied-filled n a (x ∷ xs) (y ∷ ys) all = by_test (awaits n x.reply) refl (tied-filled n a xs ys all.1)
+  where
+    by_test : (t : Bool) → awaits n x.reply ≡ t → AllTied (filled_places n a xs) (filled n a ys) → AllTied (filled_places n a (x ∷ xs)) (filled n a (y ∷ ys))
+    by_test true e rest =
+        let there : is_awaiting n y.response ≡ true = awaiting-tied n x.reply y.response all.0.replies ∙ e in
+        rw (e, there) (record { head_only_is = all.0.head_only_is; closes_is = all.0.closes_is; replies = refl }, all.1)
+    by_test false e rest =
+        let there : is_awaiting n y.response ≡ false = awaiting-tied n x.reply y.response all.0.replies ∙ e in
+        rw (e, there) (all.0, rest)
+
+not-awaiting : (n : ℕ) (t : Response) → is_answered t ≡ true → is_awaiting n t ≡ false
+not-awaiting n model.Interim e = refl
+not-awaiting n model.Fixed e = refl
+not-awaiting n (model.Awaits m) e = absurd (let no : ⊥ = cc in no)
+not-awaiting n (model.Says a) e = refl
+
+-- a landing passes over the slots that are answered
+pub filled-past : (n : ℕ) (a : Answer) (xs ys : List Slot) → AllAnswered xs → filled n a (xs ++ ys) ≡ xs ++ filled n a ys
+filled-past n a [] ys all = refl
+filled-past n a (x ∷ xs) ys all = rw (not-awaiting n x.response all.0) (ap (λ zs. x ∷ zs) (filled-past n a xs ys all.1))
+
+pub length-filled : (n : ℕ) (a : Answer) (xs : List Slot) → length (filled n a xs) ≡ length xs
+length-filled n a [] = refl
+length-filled n a (x ∷ xs) = by_test (is_awaiting n x.response) refl (length-filled n a xs)
+  where
+    by_test : (t : Bool) → is_awaiting n x.response ≡ t → length (filled n a xs) ≡ length xs → length (filled n a (x ∷ xs)) ≡ suc (length xs)
+    by_test true e rest = rw e refl
+    by_test false e rest = rw e (ap suc rest)
+
+-- ---- the place that awaits a flight
+filled-at : (n : ℕ) (a : Answer) (xs : List Place) (i : ℕ) (d : Place) → i < length xs → awaits n (get_or xs i d).reply ≡ true → ((k : ℕ) → k < i → awaits n (get_or xs k d).reply ≡ false)
+    → filled_places n a xs ≡ slice_set xs i (record (get_or xs i d) { reply = Says a })
+filled-at n a [] i d within here before = absurd (omega arith)
+filled-at n a (x ∷ xs) zero d within here before = rw here refl
+filled-at n a (x ∷ xs) (suc i) d within here before =
+    let other : awaits n x.reply ≡ false = before 0 (omega arith) in
+    rw other (ap (λ zs. x ∷ zs) (filled-at n a xs i d (omega arith) here (λ k h. before (suc k) (omega arith))))
+
+pub filled-some : (n : ℕ) (a : Answer) (xs : List Place) (i : ℕ) (x : Place) → Some i ≡ position (λ place. awaits n place.reply) xs → x ≡ get_or xs i x → filled_places n a xs ≡ slice_set xs i (record x { reply = Says a })
+filled-some n a xs i x found is =
+    let at = position-Some (λ place. awaits n place.reply) xs i x (sym found) in
+    filled-at n a xs i x at.0 at.1 at.2 ∙ ap (λ (y : Place). slice_set xs i (record y { reply = Says a })) (sym is)
+
+pub filled-none : (n : ℕ) (a : Answer) (xs : List Place) → position (λ place. awaits n place.reply) xs ≡ None → filled_places n a xs ≡ xs
+filled-none n a [] e = refl
+filled-none n a (x ∷ xs) e = by_test (awaits n x.reply) refl (filled-none n a xs)
+  where
+    by_test : (t : Bool) → awaits n x.reply ≡ t → (position (λ place. awaits n place.reply) xs ≡ None → filled_places n a xs ≡ xs) → filled_places n a (x ∷ xs) ≡ x ∷ xs
+    by_test true same rest = absurd (grind (arith, same, e))
+    by_test false other rest = rw other (ap (λ zs. x ∷ zs) (rest (grind (arith, other, e))))

@@ -1,0 +1,262 @@
+-- The slots of a connection are those of its turns.
+use Rattle.std.proofs.Common.{◌≡◌, ℕ, Bool, true, false, cond, List, [], ◌∷◌, ◌++◌, length, Option, Some, None, refl, ap, sym, ◌∙◌}
+use Rattle.std.specs.Prelude.{slice_get}
+use Rattle.sp_base.specs.declared.answer.Answer.{Answer}
+use Rattle.http_front.specs.Turns.{End, Waits, Breaks}
+use Rattle.http_front.specs.declared.fault.InFault.{InFault}
+use Rattle.http_front.specs.declared.turn.Turn.{Turn}
+use Rattle.http_front.specs.declared.turn.Turn.TheVariants.{Continue, Whole}
+use Rattle.connections.specs.Slots.{Says, Slot, interim_slot, is_answered, is_awaiting}
+use Rattle.connections.specs.Connections.{Close, Connection, Due, Nothing, Refuse, Send, Treat, advanced, after_turn, due, due_at_slot, due_at_turn, due_unsent, fed, filled, fresh, next_turn, with_answer, with_landing, with_sent, with_slot}
+use Rattle.connections.specs.Histories.{AreOfTurns, Follows, IsEndOr, IsOfFault, IsOfTurn, IsSlotOf, Landing, Move, Piece, Sent, Shut, Treatment, after_all}
+
+-- the slots are those of turns, and none closes the connection
+abbrev Open : List Turn → List Slot → Type 0
+Open turns [] = Unit {0}
+Open [] (slot ∷ slots) = ⊥
+Open (turn ∷ turns) (slot ∷ slots) = IsOfTurn turn slot × (slot.closes ≡ false) × Open turns slots
+
+end-or-push : (b : Bool) (turns : List Turn) (slots : List Slot) → slots ≡ [] → AreOfTurns turns slots → IsEndOr b slots (AreOfTurns turns slots)
+end-or-push true turns slots none all = none
+end-or-push false turns slots none all = all
+
+end-or-open : (b : Bool) (slots : List Slot) (P : Type 0) → b ≡ false → P → IsEndOr b slots P
+end-or-open true slots P e p = absurd (let no : ⊥ = cc in no)
+end-or-open false slots P e p = p
+
+open-are : (turns : List Turn) (slots : List Slot) → Open turns slots → AreOfTurns turns slots
+open-are turns [] open_ = tt
+open-are [] (s ∷ slots) open_ = absurd open_
+open-are (t ∷ turns) (s ∷ slots) open_ = (open_.0, end-or-open s.closes slots _ open_.1 (open-are turns slots open_.2))
+
+-- ---- a turn or a fault gets its slot
+push-turn : (turns : List Turn) (slots : List Slot) (t : Turn) (s : Slot) → Open turns slots → slice_get turns (length slots) ≡ Some t → IsOfTurn t s → AreOfTurns turns (slots ++ s ∷ [])
+push-turn [] [] t s open_ at is = absurd (let no : ⊥ = cc in no)
+push-turn (u ∷ turns) [] t s open_ at is =
+    let same : u ≡ t = cc in
+    (rw same is, end-or-push s.closes turns [] refl tt)
+push-turn [] (r ∷ slots) t s open_ at is = absurd open_
+push-turn (u ∷ turns) (r ∷ slots) t s open_ at is = (open_.0, end-or-open r.closes (slots ++ s ∷ []) _ open_.1 (push-turn turns slots t s open_.2 at is))
+
+open-turn : (turns : List Turn) (slots : List Slot) (t : Turn) (s : Slot) → Open turns slots → slice_get turns (length slots) ≡ Some t → IsOfTurn t s → s.closes ≡ false → Open turns (slots ++ s ∷ [])
+open-turn [] [] t s open_ at is stays = absurd (let no : ⊥ = cc in no)
+open-turn (u ∷ turns) [] t s open_ at is stays =
+    let same : u ≡ t = cc in
+    (rw same is, stays, tt)
+open-turn [] (r ∷ slots) t s open_ at is stays = absurd open_
+open-turn (u ∷ turns) (r ∷ slots) t s open_ at is stays = (open_.0, open_.1, open-turn turns slots t s open_.2 at is stays)
+
+push-fault : (turns : List Turn) (slots : List Slot) (s : Slot) → Open turns slots → slice_get turns (length slots) ≡ None → IsOfFault s → AreOfTurns turns (slots ++ s ∷ [])
+push-fault [] [] s open_ at is = (is, refl)
+push-fault (u ∷ turns) [] s open_ at is = absurd (let no : ⊥ = cc in no)
+push-fault [] (r ∷ slots) s open_ at is = absurd open_
+push-fault (u ∷ turns) (r ∷ slots) s open_ at is = (open_.0, end-or-open r.closes (slots ++ s ∷ []) _ open_.1 (push-fault turns slots s open_.2 at is))
+
+open-more : (turns more : List Turn) (slots : List Slot) → Open turns slots → Open (turns ++ more) slots
+open-more turns more [] open_ = tt
+open-more [] more (s ∷ slots) open_ = absurd open_
+open-more (t ∷ turns) more (s ∷ slots) open_ = (open_.0, open_.1, open-more turns more slots open_.2)
+
+-- ---- a flight has landed
+of-turn-filled : (n : ℕ) (a : Answer) (t : Turn) (s : Slot) → is_awaiting n s.response ≡ true → IsOfTurn t s → IsOfTurn t (with_answer a s)
+of-turn-filled n a Continue s awaits is = absurd (let no : false ≡ true = ap (λ (r : Slot). is_awaiting n r.response) (sym is) ∙ awaits in let none : ⊥ = cc in none)
+of-turn-filled n a (Whole request) s awaits is = (is.0, Says a, ap (with_answer a) is.2)
+
+of-fault-filled : (a : Answer) (s : Slot) → IsOfFault s → IsOfFault (with_answer a s)
+of-fault-filled a s is = (Says a, ap (with_answer a) is.1)
+
+filled-none : (n : ℕ) (a : Answer) (slots : List Slot) → slots ≡ [] → filled n a slots ≡ []
+filled-none n a slots e = rw e refl
+
+end-or-map : (b : Bool) (slots others : List Slot) (P Q : Type 0) → IsEndOr b slots P → (slots ≡ [] → others ≡ []) → (P → Q) → IsEndOr b others Q
+end-or-map true slots others P Q here none next = none here
+end-or-map false slots others P Q here none next = next here
+
+filled-are : (n : ℕ) (a : Answer) (turns : List Turn) (slots : List Slot) → AreOfTurns turns slots → AreOfTurns turns (filled n a slots)
+filled-are n a turns [] all = tt
+filled-are n a [] (s ∷ slots) all = by_test (is_awaiting n s.response) refl
+  where
+    by_test : (t : Bool) → is_awaiting n s.response ≡ t → AreOfTurns [] (cond (is_awaiting n s.response) (with_answer a s ∷ slots) (s ∷ filled n a slots))
+    by_test true e = rw e (of-fault-filled a s all.0, all.1)
+    by_test false e = rw e (all.0, filled-none n a slots all.1)
+filled-are n a (t ∷ turns) (s ∷ slots) all = by_test (is_awaiting n s.response) refl (filled-are n a turns slots)
+  where
+    by_test : (b : Bool) → is_awaiting n s.response ≡ b → (AreOfTurns turns slots → AreOfTurns turns (filled n a slots)) → AreOfTurns (t ∷ turns) (cond (is_awaiting n s.response) (with_answer a s ∷ slots) (s ∷ filled n a slots))
+    by_test true e rest = rw e (of-turn-filled n a t s e all.0, all.1)
+    by_test false e rest = rw e (all.0, end-or-map s.closes slots (filled n a slots) _ _ all.1 (filled-none n a slots) rest)
+
+filled-open : (n : ℕ) (a : Answer) (turns : List Turn) (slots : List Slot) → Open turns slots → Open turns (filled n a slots)
+filled-open n a turns [] open_ = tt
+filled-open n a [] (s ∷ slots) open_ = absurd open_
+filled-open n a (t ∷ turns) (s ∷ slots) open_ = by_test (is_awaiting n s.response) refl (filled-open n a turns slots open_.2)
+  where
+    by_test : (b : Bool) → is_awaiting n s.response ≡ b → Open turns (filled n a slots) → Open (t ∷ turns) (cond (is_awaiting n s.response) (with_answer a s ∷ slots) (s ∷ filled n a slots))
+    by_test true e rest = rw e (of-turn-filled n a t s e open_.0, open_.1, open_.2)
+    by_test false e rest = rw e (open_.0, open_.1, rest)
+
+-- ---- the slot that closes a connection is its last
+abbrev pub LastCloses : List Slot → Type 0
+LastCloses [] = ⊥
+LastCloses (s ∷ []) = s.closes ≡ true
+LastCloses (s ∷ t ∷ slots) = LastCloses (t ∷ slots)
+
+last-push : (slots : List Slot) (s : Slot) → s.closes ≡ true → LastCloses (slots ++ s ∷ [])
+last-push [] s e = e
+last-push (r ∷ []) s e = e
+last-push (r ∷ t ∷ slots) s e = last-push (t ∷ slots) s e
+
+last-cons : (s : Slot) (slots : List Slot) → LastCloses slots → LastCloses (s ∷ slots)
+last-cons s [] last = absurd last
+last-cons s (t ∷ slots) last = last
+
+last-filled : (n : ℕ) (a : Answer) (slots : List Slot) → LastCloses slots → LastCloses (filled n a slots)
+last-filled n a [] last = absurd last
+last-filled n a (s ∷ []) last = by_test (is_awaiting n s.response)
+  where
+    by_test : (b : Bool) → LastCloses (cond b (with_answer a s ∷ []) (s ∷ []))
+    by_test true = last
+    by_test false = last
+last-filled n a (s ∷ t ∷ slots) last = by_test (is_awaiting n s.response) (last-filled n a (t ∷ slots) last)
+  where
+    by_test : (b : Bool) → LastCloses (filled n a (t ∷ slots)) → LastCloses (cond b (with_answer a s ∷ t ∷ slots) (s ∷ filled n a (t ∷ slots)))
+    by_test true rest = last
+    by_test false rest = last-cons s (filled n a (t ∷ slots)) rest
+
+-- ---- one move
+record Good (c : Connection) : Type 0 where
+  are : AreOfTurns c.turns c.slots
+  open_ : c.closing ≡ false → Open c.turns c.slots
+  last : c.closing ≡ true → LastCloses c.slots
+
+-- what is due of the turns
+record OfTurn (c : Connection) (o : Option Turn) : Type 0 where
+  going : c.closing ≡ false
+  next : slice_get c.turns (length c.slots) ≡ o
+
+turn-of : (o : Option Turn) (ends : End) (d : Due) → due_at_turn o ends ≡ d → (turn : Turn) → d ≡ Treat turn → o ≡ Some turn
+turn-of None Waits d e turn is = absurd (let no : ⊥ = cc in no)
+turn-of None (Breaks fault) d e turn is = absurd (let no : ⊥ = cc in no)
+turn-of (Some t) ends d e turn is = let same : t ≡ turn = cc in ap (λ x. Some x) same
+
+fault-of : (o : Option Turn) (ends : End) (d : Due) → due_at_turn o ends ≡ d → (fault : InFault) → d ≡ Refuse fault → o ≡ None
+fault-of None ends d e fault is = refl
+fault-of (Some t) ends d e fault is = absurd (let no : ⊥ = cc in no)
+
+-- what is due is an answer, the end, nothing, or what is due of the turns
+unsent-turn : (c : Connection) (turn : Turn) → due_unsent c ≡ Treat turn → OfTurn c (Some turn)
+unsent-turn c turn e = by_over c.over c.closing refl e
+  where
+    by_over : (over closing : Bool) → c.closing ≡ closing → cond over Close (cond closing Nothing (due_at_turn (next_turn c) c.ends)) ≡ Treat turn → OfTurn c (Some turn)
+    by_over true closing is e = absurd (let no : ⊥ = cc in no)
+    by_over false true is e = absurd (let no : ⊥ = cc in no)
+    by_over false false is e = record { going = is; next = turn-of (next_turn c) c.ends _ refl turn e }
+
+unsent-fault : (c : Connection) (fault : InFault) → due_unsent c ≡ Refuse fault → OfTurn c None
+unsent-fault c fault e = by_over c.over c.closing refl e
+  where
+    by_over : (over closing : Bool) → c.closing ≡ closing → cond over Close (cond closing Nothing (due_at_turn (next_turn c) c.ends)) ≡ Refuse fault → OfTurn c None
+    by_over true closing is e = absurd (let no : ⊥ = cc in no)
+    by_over false true is e = absurd (let no : ⊥ = cc in no)
+    by_over false false is e = record { going = is; next = fault-of (next_turn c) c.ends _ refl fault e }
+
+slot-turn : (c : Connection) (o : Option Slot) (turn : Turn) → due_at_slot o c ≡ Treat turn → due_unsent c ≡ Treat turn
+slot-turn c None turn e = e
+slot-turn c (Some s) turn e = by_test (is_answered s.response) e
+  where
+    by_test : (b : Bool) → cond b (Send s) (due_unsent c) ≡ Treat turn → due_unsent c ≡ Treat turn
+    by_test true e = absurd (let no : ⊥ = cc in no)
+    by_test false e = e
+
+slot-fault : (c : Connection) (o : Option Slot) (fault : InFault) → due_at_slot o c ≡ Refuse fault → due_unsent c ≡ Refuse fault
+slot-fault c None fault e = e
+slot-fault c (Some s) fault e = by_test (is_answered s.response) e
+  where
+    by_test : (b : Bool) → cond b (Send s) (due_unsent c) ≡ Refuse fault → due_unsent c ≡ Refuse fault
+    by_test true e = absurd (let no : ⊥ = cc in no)
+    by_test false e = e
+
+due-turn : (c : Connection) (turn : Turn) → due c ≡ Treat turn → OfTurn c (Some turn)
+due-turn c turn e = by_over c.over e
+  where
+    by_over : (b : Bool) → cond b Close (due_at_slot (slice_get c.slots c.sent) c) ≡ Treat turn → OfTurn c (Some turn)
+    by_over true e = absurd (let no : ⊥ = cc in no)
+    by_over false e = unsent-turn c turn (slot-turn c (slice_get c.slots c.sent) turn e)
+
+due-fault : (c : Connection) (fault : InFault) → due c ≡ Refuse fault → OfTurn c None
+due-fault c fault e = by_over c.over e
+  where
+    by_over : (b : Bool) → cond b Close (due_at_slot (slice_get c.slots c.sent) c) ≡ Refuse fault → OfTurn c None
+    by_over true e = absurd (let no : ⊥ = cc in no)
+    by_over false e = unsent-fault c fault (slot-fault c (slice_get c.slots c.sent) fault e)
+
+good-turn : (c : Connection) (t : Turn) (s : Slot) → Good c → OfTurn c (Some t) → IsOfTurn t s → Good (with_slot s c)
+good-turn c t s good of is =
+    let open_ = good.open_ of.going in
+    record {
+      are = push-turn c.turns c.slots t s open_ of.next is;
+      open_ = λ e. let stays : s.closes ≡ false = rw of.going at e in open-turn c.turns c.slots t s open_ of.next is stays;
+      last = λ e. let closes : s.closes ≡ true = rw of.going at e in last-push c.slots s closes;
+    }
+
+good-fault : (c : Connection) (s : Slot) → Good c → OfTurn c None → IsOfFault s → Good (with_slot s c)
+good-fault c s good of is =
+    let open_ = good.open_ of.going in
+    record {
+      are = push-fault c.turns c.slots s open_ of.next is;
+      open_ = λ e.
+          let stays : s.closes ≡ false = rw of.going at e in
+          let closes : s.closes ≡ true = ap (λ (r : Slot). r.closes) is.1 in
+          absurd (let no : ⊥ = cc in no);
+      last = λ e. let closes : s.closes ≡ true = rw of.going at e in last-push c.slots s closes;
+    }
+
+good-treatment : (c : Connection) (s : Slot) → Good c → IsSlotOf (due c) s → Good (with_slot s c)
+good-treatment c s good is = by_due (due c) refl is
+  where
+    by_due : (d : Due) → due c ≡ d → IsSlotOf d s → Good (with_slot s c)
+    by_due (Send slot) e is = absurd is
+    by_due (Treat Continue) e is = absurd is
+    by_due (Treat (Whole request)) e is = good-turn c (Whole request) s good (due-turn c (Whole request) e) is
+    by_due (Refuse fault) e is = good-fault c s good (due-fault c fault e) is
+    by_due Close e is = absurd is
+    by_due Nothing e is = absurd is
+
+good-where : (b : Bool) (c d : Connection) → Good c → (b ≡ false → Good d) → Good (cond b c d)
+good-where true c d here there = here
+good-where false c d here there = there refl
+
+good-after : (c : Connection) (o : Option Turn) → Good c → c.closing ≡ false → next_turn c ≡ o → Good (after_turn o c)
+good-after c None good going is = good
+good-after c (Some Continue) good going is = good-turn c Continue interim_slot good (record { going = going; next = is }) refl
+good-after c (Some (Whole request)) good going is = good
+
+good-advanced : (c : Connection) → Good c → Good (advanced c)
+good-advanced c good = good-where c.closing c (after_turn (next_turn c) c) good (λ going. good-after c (next_turn c) good going refl)
+
+good-more : (c : Connection) (bytes : List ℕ) (turns : List Turn) (ends : End) → Good c → c.closing ≡ false → Good (record c { stream = c.stream ++ bytes; turns = c.turns ++ turns; ends = ends })
+good-more c bytes turns ends good going =
+    let open_ = open-more c.turns turns c.slots (good.open_ going) in
+    record { are = open-are (c.turns ++ turns) c.slots open_; open_ = λ e. open_; last = good.last }
+
+good-fed : (c : Connection) (bytes : List ℕ) (turns : List Turn) (ends : End) → Good c → Good (fed bytes turns ends c)
+good-fed c bytes turns ends good = good-where c.closing c (advanced (record c { stream = c.stream ++ bytes; turns = c.turns ++ turns; ends = ends })) good (λ going. good-advanced _ (good-more c bytes turns ends good going))
+
+good-landing : (c : Connection) (n : ℕ) (a : Answer) → Good c → Good (with_landing n a c)
+good-landing c n a good = record { are = filled-are n a c.turns c.slots good.are; open_ = λ e. filled-open n a c.turns c.slots (good.open_ e); last = λ e. last-filled n a c.slots (good.last e) }
+
+good-all : (c : Connection) (moves : List Move) → Good c → Follows c moves → Good (after_all c moves)
+good-all c [] good follows = good
+good-all c (Piece bytes turns ends ∷ moves) good follows = good-all (fed bytes turns ends c) moves (good-fed c bytes turns ends good) follows.1
+good-all c (Treatment slot ∷ moves) good follows = good-all (advanced (with_slot slot c)) moves (good-advanced (with_slot slot c) (good-treatment c slot good follows.0)) follows.1
+good-all c (Landing n a ∷ moves) good follows = good-all (with_landing n a c) moves (good-landing c n a good) follows.1
+good-all c (Sent x ∷ moves) good follows = good-all (with_sent x.bytes c) moves (record { are = good.are; open_ = good.open_; last = good.last }) follows.1
+good-all c (Shut ∷ moves) good follows = good-all c moves good follows.1
+
+fresh-good : (peer : List ℕ) → Good (fresh peer)
+fresh-good peer = record { are = tt; open_ = λ e. tt; last = λ e. absurd (let no : ⊥ = cc in no) }
+
+pub of-turns : (peer : List ℕ) (moves : List Move) → Follows (fresh peer) moves → AreOfTurns (after_all (fresh peer) moves).turns (after_all (fresh peer) moves).slots
+of-turns peer moves follows = (good-all (fresh peer) moves (fresh-good peer) follows).are
+
+pub last-of : (peer : List ℕ) (moves : List Move) → Follows (fresh peer) moves → (after_all (fresh peer) moves).closing ≡ true → LastCloses (after_all (fresh peer) moves).slots
+last-of peer moves follows e = (good-all (fresh peer) moves (fresh-good peer) follows).last e

@@ -1,0 +1,22 @@
+use Rattle.std.proofs.Common.{◌≡◌, ◌||◌, ◌∷◌, ap, sym, ◌∙◌}
+use Rattle.connections.specs.Slots.{is_fixed}
+use Rattle.connections.specs.Ties.{front_has_reply}
+use Rattle.connections.proofs.OutboxLemmas.{held-waits, over-waits, sent-left}
+use Rattle.connections.proofs.outbox.Outbox.send.Goals as goal
+use Rattle.connections.proofs.outbox.Outbox.send.Goals.{then-self-via-then-self, then-self-via-else-self+then-not-is_ready}
+
+pub returns-then-self-clause-waits : goal.returns-then-self-clause-waits
+returns-then-self-clause-waits c = λ m tied.
+    elim c.then-self.branch [
+      | then-self-via-then-self w ↦ over-waits m tied w.if-self.true
+      | then-self-via-else-self+then-not-is_ready w ↦ held-waits m tied (sym w.is_ready.ensures ∙ w.if-not-is_ready.true)
+    ]
+
+pub returns-clause-sends : goal.returns-clause-sends
+returns-clause-sends c = λ m tied.
+    let kept = c.sending-sending.ensures.kept in
+    let place = c.in_ok-place.place in
+    let places : c.args.self.now.places.items ≡ place ∷ c.sending-sending.new.self.places.items = c.in_ok-place.ensures.items ∙ ap (λ q. place ∷ q.items) (sym kept.0) in
+    let has = ap front_has_reply (sym places) ∙ sym c.is_ready.ensures ∙ c.if-not-is_ready.false in
+    sent-left m place _ c.sending-sending.result _ _ _ tied places kept.1 c.if-self.false has c.sending-sending.ensures.sends c.sending-sending.ensures.spare
+    (c.is_last-self.ensures ∙ ap (λ bytes. place.closes || is_fixed bytes) c.bytes.ensures)

@@ -1,0 +1,106 @@
+-- A connection as its whole past: what came, which turns that spells, and the slots of the turns that were treated.
+use Rattle.std.specs.Prelude.{◌+◌, ◌||◌, ◌++◌, ℕ, Bool, false, nat_le, if◌then◌else◌, List, [], ◌∷◌, Option, Some, None, drop, length, slice_get}
+use Rattle.std.specs.List.{count_by}
+use Rattle.sp_base.specs.declared.answer.Answer.{Answer}
+use Rattle.http_front.specs.Turns.{End, Waits, Breaks}
+use Rattle.http_front.specs.declared.fault.InFault.{InFault}
+use Rattle.http_front.specs.declared.turn.Turn.{Turn}
+use Rattle.http_front.specs.declared.turn.Turn.TheVariants.{Continue, Whole}
+use Rattle.connections.specs.Slots.{Slot, Says, is_answered, is_awaiting, is_final, is_last, interim_slot}
+
+-- An open connection: its peer; its stream, as far as it was read; the turns that the stream spells, and how they end; a slot for
+-- each turn that was treated; how many of the slots were sent; whether no further turn is treated; and whether no further slot is sent.
+pub record Connection : Type 0 where
+  pub peer : List ℕ
+  pub stream : List ℕ
+  pub turns : List Turn
+  pub ends : End
+  pub slots : List Slot
+  pub sent : ℕ
+  pub closing : Bool
+  pub over : Bool
+
+-- ---- what is due
+
+-- what a connection is owed next
+pub data Due : Type 0 where
+  Send : (slot : Slot) → Due
+  Treat : (turn : Turn) → Due
+  Refuse : (fault : InFault) → Due
+  Close : Due
+  Nothing : Due
+
+abbrev pub due_at_end : End → Due
+due_at_end Waits = Nothing
+due_at_end (Breaks fault) = Refuse fault
+
+abbrev pub due_at_turn : Option Turn → End → Due
+due_at_turn None ends = due_at_end ends
+due_at_turn (Some turn) ends = Treat turn
+
+-- the next turn: each treated turn has a slot
+abbrev pub next_turn : Connection → Option Turn
+next_turn c = slice_get c.turns (length c.slots)
+
+-- what is due where no slot can be sent
+abbrev pub due_unsent : Connection → Due
+due_unsent c = if c.over then Close else (if c.closing then Nothing else due_at_turn (next_turn c) c.ends)
+
+abbrev pub due_at_slot : Option Slot → Connection → Due
+due_at_slot None c = due_unsent c
+due_at_slot (Some slot) c = if is_answered slot.response then Send slot else due_unsent c
+
+-- The end of a connection that is over comes first, then the next slot that is answered, then the next turn.
+abbrev pub due : Connection → Due
+due c = if c.over then Close else due_at_slot (slice_get c.slots c.sent) c
+
+-- the most requests of a connection that may be unanswered
+abbrev pub most_unanswered : ℕ
+most_unanswered = 64
+
+-- so many of its requests are that the next is refused
+abbrev pub is_crowded : Connection → Bool
+is_crowded c = nat_le most_unanswered (count_by (λ slot. is_final slot.response) (drop c.sent c.slots))
+
+-- ---- what happens to it
+
+abbrev pub fresh : List ℕ → Connection
+fresh peer = record { peer = peer; stream = []; turns = []; ends = Waits; slots = []; sent = 0; closing = false; over = false }
+
+-- the next turn has this slot
+abbrev pub with_slot : Slot → Connection → Connection
+with_slot slot c = record c { slots = c.slots ++ slot ∷ []; closing = c.closing || slot.closes }
+
+abbrev pub after_turn : Option Turn → Connection → Connection
+after_turn None c = c
+after_turn (Some Continue) c = with_slot interim_slot c
+after_turn (Some (Whole request)) c = c
+
+-- a sender that waits for 100 Continue gets it without being asked, unless the connection closes before
+abbrev pub advanced : Connection → Connection
+advanced c = if c.closing then c else after_turn (next_turn c) c
+
+-- More bytes came, with which the stream spells these turns too and ends so. After the turn that closes the connection none is read.
+abbrev pub fed : List ℕ → List Turn → End → Connection → Connection
+fed bytes turns ends c = if c.closing then c else advanced (record c { stream = c.stream ++ bytes; turns = c.turns ++ turns; ends = ends })
+
+-- the slot has this answer
+abbrev pub with_answer : Answer → Slot → Slot
+with_answer answer slot = record slot { response = Says answer }
+
+-- the first slot that awaits the flight has its answer
+abbrev pub filled : ℕ → Answer → List Slot → List Slot
+filled flight answer [] = []
+filled flight answer (slot ∷ slots) = if is_awaiting flight slot.response then with_answer answer slot ∷ slots else slot ∷ filled flight answer slots
+
+-- a flight has landed
+abbrev pub with_landing : ℕ → Answer → Connection → Connection
+with_landing flight answer c = record c { slots = filled flight answer c.slots }
+
+abbrev pub is_last_at : Option Slot → List ℕ → Bool
+is_last_at None bytes = false
+is_last_at (Some slot) bytes = is_last slot bytes
+
+-- these bytes were sent for the next slot
+abbrev pub with_sent : List ℕ → Connection → Connection
+with_sent bytes c = record c { sent = c.sent + 1; over = is_last_at (slice_get c.slots c.sent) bytes }

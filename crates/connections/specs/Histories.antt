@@ -1,0 +1,93 @@
+-- What may happen to a connection, one thing after another, and what is then sent on it.
+use Rattle.std.specs.Prelude.{◌≡◌, ℕ, Bool, true, false, List, [], ◌∷◌}
+use Rattle.sp_base.specs.declared.answer.Answer.{Answer}
+use Rattle.http_front.specs.Turns.{End}
+use Rattle.http_front.specs.declared.turn.Turn.{Turn}
+use Rattle.http_front.specs.declared.turn.Turn.TheVariants.{Continue, Whole}
+use Rattle.connections.specs.declared.sending.Sending.{Sending}
+use Rattle.connections.specs.Slots.{Slot, Response, MayAnswer, is_answered, is_last, request_slot, fault_slot, interim_slot}
+use Rattle.connections.specs.Connections.{Connection, Due, Send, Treat, Refuse, Close, Nothing, due, fed, with_slot, advanced, with_landing, with_sent}
+
+-- What happens to a connection: bytes come, with the turns that they add; a turn or a fault gets its slot; a flight lands; a slot is
+-- sent; it is shut.
+pub data Move : Type 0 where
+  Piece : (bytes : List ℕ) (turns : List Turn) (ends : End) → Move
+  Treatment : (slot : Slot) → Move
+  Landing : (flight : ℕ) (answer : Answer) → Move
+  Sent : (sending : Sending) → Move
+  Shut : Move
+
+abbrev pub after : Connection → Move → Connection
+after c (Piece bytes turns ends) = fed bytes turns ends c
+after c (Treatment slot) = advanced (with_slot slot c)
+after c (Landing flight answer) = with_landing flight answer c
+after c (Sent sending) = with_sent sending.bytes c
+after c Shut = c
+
+-- the slot is that of the turn: a 100 Continue of a sender that waits for it, or a request's own
+abbrev pub IsOfTurn : Turn → Slot → Type 0
+IsOfTurn Continue slot = slot ≡ interim_slot
+IsOfTurn (Whole request) slot = (closes : Bool) × (response : Response) × (slot ≡ request_slot request closes response)
+
+-- the slot is that of a stream's fault
+abbrev pub IsOfFault : Slot → Type 0
+IsOfFault slot = (response : Response) × (slot ≡ fault_slot response)
+
+-- The slot is one of what is due. (A Continue has its slot without being asked for.)
+abbrev pub IsSlotOf : Due → Slot → Type 0
+IsSlotOf (Send sending) slot = ⊥
+IsSlotOf (Treat Continue) slot = ⊥
+IsSlotOf (Treat (Whole request)) slot = IsOfTurn (Whole request) slot
+IsSlotOf (Refuse fault) slot = IsOfFault slot
+IsSlotOf Close slot = ⊥
+IsSlotOf Nothing slot = ⊥
+
+-- the slot is due to be sent, and this may be sent for it
+pub record IsDueSending (c : Connection) (sending : Sending) : Type 0 where
+  pub slot : Slot
+  pub is_due : due c ≡ Send slot
+  pub answers : MayAnswer slot sending
+
+-- the move may come: bytes and landings at any time, the others where they are due
+abbrev pub IsMove : Connection → Move → Type 0
+IsMove c (Piece bytes turns ends) = Unit {0}
+IsMove c (Treatment slot) = IsSlotOf (due c) slot
+IsMove c (Landing flight answer) = Unit {0}
+IsMove c (Sent sending) = IsDueSending c sending
+IsMove c Shut = due c ≡ Close
+
+abbrev pub Follows : Connection → List Move → Type 0
+Follows c [] = Unit {0}
+Follows c (move ∷ moves) = IsMove c move × Follows (after c move) moves
+
+abbrev pub after_all : Connection → List Move → Connection
+after_all c [] = c
+after_all c (move ∷ moves) = after_all (after c move) moves
+
+-- what was sent
+abbrev pub sendings : List Move → List Sending
+sendings [] = []
+sendings (Sent sending ∷ moves) = sending ∷ sendings moves
+sendings (Piece bytes turns ends ∷ moves) = sendings moves
+sendings (Treatment slot ∷ moves) = sendings moves
+sendings (Landing flight answer ∷ moves) = sendings moves
+sendings (Shut ∷ moves) = sendings moves
+
+-- nothing comes after the last, and after another the rest
+abbrev pub IsEndOr : {A : Type 0} → Bool → List A → Type 0 → Type 0
+IsEndOr true after Rest = after ≡ []
+IsEndOr false after Rest = Rest
+
+-- What was sent answers the slots in their order, each once, up to the first that waits for a flight, and nothing after one that closes
+-- the connection.
+abbrev pub AnswersRun : List Slot → List Sending → Type 0
+AnswersRun [] [] = Unit {0}
+AnswersRun [] (sending ∷ sent) = ⊥
+AnswersRun (slot ∷ slots) [] = is_answered slot.response ≡ false
+AnswersRun (slot ∷ slots) (sending ∷ sent) = MayAnswer slot sending × IsEndOr (is_last slot sending.bytes) sent (AnswersRun slots sent) × (is_answered slot.response ≡ true)
+
+-- The slots are those of the turns in their order, and after all turns that of a fault; and none comes after one that closes the connection.
+abbrev pub AreOfTurns : List Turn → List Slot → Type 0
+AreOfTurns turns [] = Unit {0}
+AreOfTurns [] (slot ∷ slots) = IsOfFault slot × (slots ≡ [])
+AreOfTurns (turn ∷ turns) (slot ∷ slots) = IsOfTurn turn slot × IsEndOr slot.closes slots (AreOfTurns turns slots)

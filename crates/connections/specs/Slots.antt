@@ -1,0 +1,80 @@
+-- The places of a connection's answers, one for each turn of its stream, in their order (RFC 9112, section 9.3.2).
+use Rattle.std.specs.Prelude.{◌≡◌, ◌||◌, ◌⊎◌, ℕ, Bool, true, false, nat_eq, List, IsTrue, codes}
+use Rattle.std.specs.Cmp.Lexicographic.{pointwise}
+use Rattle.sp_base.specs.declared.answer.Answer.{Answer}
+use Rattle.sp_base.specs.declared.answer.Req.{Req}
+use Rattle.http_front.specs.Answers.{answer_bytes, fixed_507}
+use Rattle.connections.specs.declared.sending.Sending.{Sending}
+
+-- What a slot is answered by: 100 Continue (RFC 9110, section 15.2.1), the fixed 507, what a flight will bring, or an answer.
+pub data Response : Type 0 where
+  Interim : Response
+  Fixed : Response
+  Awaits : (flight : ℕ) → Response
+  Says : (answer : Answer) → Response
+
+-- The place of a response: whether it is sent without its body, whether the connection closes after it, and what answers it. The
+-- bytes are made when they are sent.
+pub record Slot : Type 0 where
+  pub head_only : Bool
+  pub closes : Bool
+  pub response : Response
+
+-- an interim response: a status line and no field (RFC 9112, section 4)
+abbrev pub continue_bytes : List ℕ
+continue_bytes = codes "HTTP/1.1 100 Continue\r\n\r\n"
+
+-- it doesn't wait for a flight
+abbrev pub is_answered : Response → Bool
+is_answered Interim = true
+is_answered Fixed = true
+is_answered (Awaits flight) = false
+is_answered (Says answer) = true
+
+-- it awaits this flight
+abbrev pub is_awaiting : ℕ → Response → Bool
+is_awaiting flight Interim = false
+is_awaiting flight Fixed = false
+is_awaiting flight (Awaits other) = nat_eq other flight
+is_awaiting flight (Says answer) = false
+
+-- it answers a request, and isn't an interim response before the request's own
+abbrev pub is_final : Response → Bool
+is_final Interim = false
+is_final Fixed = true
+is_final (Awaits flight) = true
+is_final (Says answer) = true
+
+-- the bytes of a response in this slot
+abbrev pub IsWritten : Slot → Response → List ℕ → Type 0
+IsWritten slot Interim bytes = bytes ≡ continue_bytes
+IsWritten slot Fixed bytes = bytes ≡ fixed_507
+IsWritten slot (Awaits flight) bytes = ⊥
+IsWritten slot (Says answer) bytes = bytes ≡ answer_bytes slot.head_only slot.closes answer
+
+-- What may be sent for a slot: its own bytes; or the fixed 507, where memory was wanting.
+abbrev pub MayAnswer : Slot → Sending → Type 0
+MayAnswer slot sending = IsWritten slot slot.response sending.bytes ⊎ (IsTrue sending.dry × (sending.bytes ≡ fixed_507))
+
+abbrev pub is_fixed : List ℕ → Bool
+is_fixed bytes = pointwise nat_eq bytes fixed_507
+
+-- the connection closes after these bytes of this slot
+abbrev pub is_last : Slot → List ℕ → Bool
+is_last slot bytes = slot.closes || is_fixed bytes
+
+-- HEAD is answered without a body (RFC 9110, section 9.3.2)
+abbrev pub is_head : Req → Bool
+is_head request = pointwise nat_eq request.method (codes "HEAD")
+
+-- The slot of a request, after which the connection closes where the request asks for it, or for another reason (`closes`).
+abbrev pub request_slot : Req → Bool → Response → Slot
+request_slot request closes response = record { head_only = is_head request; closes = closes || request.close; response = response }
+
+-- the slot of a stream's fault
+abbrev pub fault_slot : Response → Slot
+fault_slot response = record { head_only = false; closes = true; response = response }
+
+-- the slot of a sender that waits with its body for 100 Continue
+abbrev pub interim_slot : Slot
+interim_slot = record { head_only = false; closes = false; response = Interim }

@@ -1,0 +1,107 @@
+-- What the code keeps of a connection: the places of its answers that aren't sent yet.
+use Rattle.std.specs.Prelude.{◌≡◌, ◌≤◌, ◌⊎◌, ℕ, Bool, true, false, nat_eq, List, [], ◌∷◌, drop, length, take}
+use Rattle.http_front.specs.Answers.{answer_bytes, fixed_507}
+use Rattle.connections.specs.declared.place.Place.{Place}
+use Rattle.connections.specs.declared.place.Reply.{Reply}
+use Rattle.connections.specs.declared.place.Reply.TheVariants.{Interim, Fixed, Awaits, Says}
+use Rattle.connections.specs.declared.outbox.Outbox.{Outbox}
+use Rattle.connections.specs.declared.sending.Sending.{Sending}
+use Rattle.connections.specs.Slots.{Slot, Response, continue_bytes, is_answered}
+use Rattle.connections.specs.Slots as model
+use Rattle.connections.specs.Connections.{Connection}
+
+-- ---- replies
+
+abbrev pub has_reply : Reply → Bool
+has_reply Interim = true
+has_reply Fixed = true
+has_reply (Awaits flight) = false
+has_reply (Says answer) = true
+
+abbrev pub awaits : ℕ → Reply → Bool
+awaits flight Interim = false
+awaits flight Fixed = false
+awaits flight (Awaits other) = nat_eq other flight
+awaits flight (Says answer) = false
+
+abbrev pub is_final_reply : Reply → Bool
+is_final_reply Interim = false
+is_final_reply Fixed = true
+is_final_reply (Awaits flight) = true
+is_final_reply (Says answer) = true
+
+-- the bytes of a reply: none while it is awaited
+abbrev pub reply_bytes : Bool → Bool → Reply → List ℕ
+reply_bytes head_only closes Interim = continue_bytes
+reply_bytes head_only closes Fixed = fixed_507
+reply_bytes head_only closes (Awaits flight) = []
+reply_bytes head_only closes (Says answer) = answer_bytes head_only closes answer
+
+abbrev pub place_bytes : Place → List ℕ
+place_bytes place = reply_bytes place.head_only place.closes place.reply
+
+-- the first place has its reply
+abbrev pub front_has_reply : List Place → Bool
+front_has_reply [] = false
+front_has_reply (place ∷ places) = has_reply place.reply
+
+-- what is sent for the place: its bytes, or where memory is wanting the spare ones
+abbrev pub IsSendingOf : Place → List ℕ → Sending → Type 0
+IsSendingOf place spare sending = ((sending.dry ≡ false) × (sending.bytes ≡ place_bytes place)) ⊎ ((sending.dry ≡ true) × (sending.bytes ≡ spare))
+
+-- ---- places and slots
+
+-- the reply is one that the response allows
+abbrev pub ReplyTied : Reply → Response → Type 0
+ReplyTied Interim model.Interim = Unit {0}
+ReplyTied Interim model.Fixed = ⊥
+ReplyTied Interim (model.Awaits n) = ⊥
+ReplyTied Interim (model.Says b) = ⊥
+ReplyTied Fixed model.Interim = ⊥
+ReplyTied Fixed model.Fixed = Unit {0}
+ReplyTied Fixed (model.Awaits n) = ⊥
+ReplyTied Fixed (model.Says b) = ⊥
+ReplyTied (Awaits m) model.Interim = ⊥
+ReplyTied (Awaits m) model.Fixed = ⊥
+ReplyTied (Awaits m) (model.Awaits n) = m ≡ n
+ReplyTied (Awaits m) (model.Says b) = ⊥
+ReplyTied (Says a) model.Interim = ⊥
+ReplyTied (Says a) model.Fixed = ⊥
+ReplyTied (Says a) (model.Awaits n) = ⊥
+ReplyTied (Says a) (model.Says b) = a ≡ b
+
+-- the place is one that the slot allows
+pub record PlaceTied (place : Place) (slot : Slot) : Type 0 where
+  pub head_only_is : place.head_only ≡ slot.head_only
+  pub closes_is : place.closes ≡ slot.closes
+  pub replies : ReplyTied place.reply slot.response
+
+abbrev pub AllTied : List Place → List Slot → Type 0
+AllTied [] [] = Unit {0}
+AllTied [] (slot ∷ slots) = ⊥
+AllTied (place ∷ places) [] = ⊥
+AllTied (place ∷ places) (slot ∷ slots) = PlaceTied place slot × AllTied places slots
+
+abbrev pub AllAnswered : List Slot → Type 0
+AllAnswered [] = Unit {0}
+AllAnswered (slot ∷ slots) = (is_answered slot.response ≡ true) × AllAnswered slots
+
+-- ---- connections
+
+-- These places are those of the slots that aren't sent, and the connection is closing and over so. While it isn't over, the spare bytes
+-- are the fixed 507.
+pub record IsLeft (places : List Place) (closing over : Bool) (spare : List ℕ) (c : Connection) : Type 0 where
+  pub unsent : AllTied places (drop c.sent c.slots)
+  pub within : c.sent ≤ length c.slots
+  pub past : AllAnswered (take c.sent c.slots)
+  pub closing_is : closing ≡ c.closing
+  pub over_is : over ≡ c.over
+  pub spare_is : over ≡ false → spare ≡ fixed_507
+
+-- the outbox is what is left of the connection
+abbrev pub Tied : Outbox → Connection → Type 0
+Tied outbox c = IsLeft outbox.places.items outbox.closing outbox.over outbox.spare c
+
+-- how many places an outbox has
+abbrev pub unsent_count : Outbox → ℕ
+unsent_count outbox = length outbox.places.items

@@ -1,0 +1,15 @@
+//! The connections of a front: which turn of a stream gets which answer, in which order the answers are sent, and when a connection
+//! closes (RFC 9112, section 9).
+#![tactic(auto)]
+
+mod laws;
+mod outbox;
+mod place;
+mod sending;
+#[cfg(test)]
+mod tests;
+
+pub use laws::{a_closing_connection_ends, answers_in_order, slots_of_turns};
+pub use outbox::Outbox;
+pub use place::{Place, Reply};
+pub use sending::Sending;

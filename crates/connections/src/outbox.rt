@@ -1,0 +1,145 @@
+//! The answers that a connection still owes, in the order of its requests.
+ghost use Rattle.std.specs.Prelude.{◌≡◌, ◌+◌, ◌∷◌, ℕ, List, [], Bool, false, IfNone, IfOk, IfSome, OnErr, OnOk, OnSome, position};
+ghost use Rattle.std.specs.List.{count_by};
+ghost use Rattle.connections.specs.Slots.{Slot};
+ghost use Rattle.connections.specs.Connections as model;
+ghost use Rattle.connections.specs.Connections.{Connection, due, due_unsent, fresh, with_landing, with_sent, with_slot};
+ghost use Rattle.connections.specs.Histories.{IsDueSending};
+ghost use Rattle.connections.specs.Ties.{IsSendingOf, PlaceTied, Tied, awaits, is_final_reply, front_has_reply, unsent_count};
+
+use crate::place::{Place, Reply};
+use crate::sending::Sending;
+use http_front::fixed_507;
+use sp_base::{Answer, ByteBuf, Mem};
+use std::alloc::Global;
+use std::collections::VecDeque;
+use std::mem::replace;
+
+const MOST_UNANSWERED: usize = 64;
+
+/// The answers that a connection still owes.
+#[derive(Drop)]
+pub struct Outbox {
+    // The places that aren't sent yet.
+    places: VecDeque<Place>,
+    // No further turn gets a place.
+    closing: bool,
+    // No further place is sent.
+    over: bool,
+    // The fixed 507, kept for when no memory is there.
+    spare: ByteBuf,
+}
+
+impl Outbox {
+    /// The outbox of a new connection. It takes the room of the fixed 507.
+    pub fn new(alloc: Global) -> Mem<Outbox>
+        ensures { IfOk result (λ outbox. (peer : List ℕ) → Tied outbox (fresh peer)) }
+    {
+        Ok(Outbox {
+            places: VecDeque::new(alloc),
+            closing: false,
+            over: false,
+            spare: ByteBuf::of(alloc, fixed_507())?,
+        })
+    }
+
+    /// Gives the next turn its place. After a refusal nothing has changed.
+    pub fn push(&mut self, place: Place) -> Mem<()>
+        ensures ok { OnOk result ((c : Connection) (slot : Slot) → Tied self.old c → PlaceTied place slot → Tied self.new (with_slot slot c)) }
+        ensures more { OnOk result (unsent_count self.new ≡ unsent_count self.old + 1) }
+        ensures err { OnErr result ((c : Connection) → Tied self.old c → Tied self.new c) }
+    {
+        let closes = place.closes;
+        self.places.push_back(place)?;
+        self.closing = self.closing || closes;
+        Ok(())
+    }
+
+    /// What is sent next, if anything can be: the next place's answer; or the fixed 507, where memory is wanting. None where the
+    /// connection is over or the next place waits.
+    pub fn send(&mut self, alloc: Global) -> Option<Sending>
+        ensures sends { IfSome result (λ sending. (c : Connection) → Tied self.old c → IsDueSending c sending × Tied self.new (with_sent sending.bytes c)) }
+        ensures fewer { OnSome result (unsent_count self.new + 1 ≡ unsent_count self.old) }
+        ensures waits { IfNone result ((c : Connection) → Tied self.old c → due c ≡ due_unsent c) }
+        ensures same { IfNone result (self.new ≡ self.old) }
+    {
+        if self.over || !self.is_ready() {
+            return None;
+        }
+        let place = self.places.pop_front()?;
+        let sending = self.sending(alloc, &place);
+        self.over = place.is_last(sending.bytes.bytes());
+        Some(sending)
+    }
+
+    // Whether the next place has its answer.
+    fn is_ready(&self) -> bool
+        ensures { result ≡ front_has_reply self.now.places.items }
+    {
+        match self.places.front() {
+            Some(place) => place.reply.has_reply(),
+            None => false,
+        }
+    }
+
+    // A place's answer, or where memory is wanting the spare bytes.
+    fn sending(&mut self, alloc: Global, place: &Place) -> Sending
+        ensures sends { IsSendingOf place.now self.old.spare result }
+        ensures kept { (self.new.places ≡ self.old.places) × (self.new.closing ≡ self.old.closing) × (self.new.over ≡ self.old.over) }
+        ensures spare { result.dry ≡ false → self.new.spare ≡ self.old.spare }
+    {
+        match place.written(alloc) {
+            Ok(bytes) => Sending { bytes, dry: false },
+            Err(_) => Sending {
+                bytes: replace(&mut self.spare, ByteBuf::from(Vec::new(alloc))),
+                dry: true,
+            },
+        }
+    }
+
+    /// Gives the first place that awaits this flight its answer. Where none does, nothing changes.
+    pub fn fill(&mut self, flight: u64, answer: Answer)
+        ensures filled { (c : Connection) → Tied self.old c → Tied self.new (with_landing flight answer c) }
+        ensures same { unsent_count self.new ≡ unsent_count self.old }
+    {
+        if let Some(at) = awaiting_place(&self.places, flight) {
+            self.places[at].reply = Reply::Says(answer);
+        }
+    }
+
+    /// Whether so many requests are unanswered that the next is refused.
+    pub fn is_crowded(&self) -> bool
+        ensures { (c : Connection) → Tied self.now c → result ≡ model.is_crowded c }
+    {
+        self.unanswered_count() >= MOST_UNANSWERED
+    }
+
+    fn unanswered_count(&self) -> usize
+        ensures { result ≡ count_by (λ place. is_final_reply place.reply) self.now.places.items }
+    {
+        self.places
+            .iter()
+            .filter(|place| place.reply.is_final())
+            .count()
+    }
+
+    /// Whether no further turn gets a place.
+    pub fn is_closing(&self) -> bool
+        ensures { (c : Connection) → Tied self.now c → result ≡ c.closing }
+    {
+        self.closing
+    }
+
+    /// Whether all is sent, so that the connection is to be shut.
+    pub fn is_over(&self) -> bool
+        ensures { (c : Connection) → Tied self.now c → result ≡ c.over }
+    {
+        self.over
+    }
+}
+
+fn awaiting_place(places: &VecDeque<Place>, flight: u64) -> Option<usize>
+    ensures { result ≡ position (λ place. awaits flight place.reply) places.now.items }
+{
+    places.iter().position(|place| place.reply.awaits(flight))
+}

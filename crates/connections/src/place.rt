@@ -1,0 +1,118 @@
+//! The place of an answer among those that a connection owes.
+ghost use Rattle.std.specs.Prelude.{◌≡◌, ◌||◌, Bool, IfOk};
+ghost use Rattle.connections.specs.Slots as model;
+ghost use Rattle.connections.specs.Ties.{PlaceTied, ReplyTied, awaits as awaiting, is_final_reply, has_reply as answered, place_bytes};
+
+use http_front::{answer_bytes, fixed_507};
+use sp_base::{Answer, ByteBuf, Mem, Req};
+use std::alloc::Global;
+
+const CONTINUE: &[u8] = b"HTTP/1.1 100 Continue\r\n\r\n";
+
+/// What answers a turn.
+#[derive(Drop)]
+pub enum Reply {
+    /// 100 Continue (RFC 9110, section 15.2.1).
+    Interim,
+    /// The fixed 507 (RFC 4918, section 11.5).
+    Fixed,
+    /// What this flight will bring.
+    Awaits(u64),
+    /// An answer.
+    Says(Answer),
+}
+
+/// The place of an answer.
+#[derive(Drop)]
+pub struct Place {
+    /// Whether the answer is sent without its body.
+    pub head_only: bool,
+    /// Whether the connection closes after it.
+    pub closes: bool,
+    pub reply: Reply,
+}
+
+impl Reply {
+    // Whether it can be sent.
+    pub(crate) fn has_reply(&self) -> bool
+        ensures { result ≡ answered self.now }
+    {
+        match self {
+            Reply::Awaits(_) => false,
+            _ => true,
+        }
+    }
+
+    pub(crate) fn awaits(&self, flight: u64) -> bool
+        ensures { result ≡ awaiting flight self.now }
+    {
+        match self {
+            Reply::Awaits(other) => *other == flight,
+            _ => false,
+        }
+    }
+
+    // Whether it answers a request, and doesn't stand before the request's own answer.
+    pub(crate) fn is_final(&self) -> bool
+        ensures { result ≡ is_final_reply self.now }
+    {
+        match self {
+            Reply::Interim => false,
+            _ => true,
+        }
+    }
+}
+
+impl Place {
+    /// The place of a request's answer, after which the connection closes where the request asks for it, or for another reason (`closes`).
+    pub fn of_request(request: &Req, closes: bool, reply: Reply) -> Place
+        ensures { (response : model.Response) → ReplyTied reply response → PlaceTied result (model.request_slot request.now closes response) }
+    {
+        Place {
+            head_only: request.method.text() == "HEAD",
+            closes: closes || request.close,
+            reply,
+        }
+    }
+
+    /// The place of the answer to a stream's fault, the last of its connection.
+    pub fn of_fault(reply: Reply) -> Place
+        ensures { (response : model.Response) → ReplyTied reply response → PlaceTied result (model.fault_slot response) }
+    {
+        Place {
+            head_only: false,
+            closes: true,
+            reply,
+        }
+    }
+
+    /// The place of 100 Continue.
+    pub fn interim() -> Place
+        ensures { PlaceTied result model.interim_slot }
+    {
+        Place {
+            head_only: false,
+            closes: false,
+            reply: Reply::Interim,
+        }
+    }
+
+    // Whether the connection closes after these bytes of its answer.
+    pub(crate) fn is_last(&self, bytes: &[u8]) -> bool
+        ensures { result ≡ (self.now.closes || model.is_fixed bytes.now) }
+    {
+        self.closes || bytes == fixed_507()
+    }
+
+    // The bytes of its answer: none while it is awaited.
+    pub(crate) fn written(&self, alloc: Global) -> Mem<ByteBuf>
+        ensures { IfOk result (λ bytes. bytes ≡ place_bytes self.now) }
+    {
+        match &self.reply {
+            Reply::Interim => ByteBuf::of(alloc, CONTINUE),
+            Reply::Fixed => ByteBuf::of(alloc, fixed_507()),
+            Reply::Awaits(_) => ByteBuf::of(alloc, b""),
+            Reply::Says(answer) => answer_bytes(alloc, self.head_only, self.closes, answer),
+        }
+    }
+}

@@ -1,0 +1,135 @@
+//! Whole connections, by the bytes that are sent on them.
+use crate::{Outbox, Place, Reply};
+use sp_base::{Answer, ByteBuf, HeadList, Mark, NoMemory, Path, PathFault, Req, TextBuf};
+use std::alloc::{AllocError, Global};
+use std::io;
+
+/// A refusal, or out of memory, where a test expects none.
+#[derive(Debug, Drop)]
+struct Failed;
+
+impl From<NoMemory> for Failed {
+    fn from(_fault: NoMemory) -> Failed {
+        Failed
+    }
+}
+
+impl From<AllocError> for Failed {
+    fn from(_fault: AllocError) -> Failed {
+        Failed
+    }
+}
+
+impl From<PathFault> for Failed {
+    fn from(_fault: PathFault) -> Failed {
+        Failed
+    }
+}
+
+impl From<io::Error> for Failed {
+    fn from(_fault: io::Error) -> Failed {
+        Failed
+    }
+}
+
+fn request(alloc: Global, method: &str, close: bool) -> Result<Req, Failed> {
+    Ok(Req {
+        method: TextBuf::of(alloc, method)?,
+        line: TextBuf::of(alloc, "")?,
+        minor: 1,
+        host: TextBuf::of(alloc, "localhost")?,
+        port: 80,
+        path: Path::read(alloc, "/content")?,
+        slash: false,
+        query: None,
+        heads: HeadList::new(alloc),
+        body: ByteBuf::of(alloc, b"")?,
+        close,
+    })
+}
+
+fn answer(alloc: Global, body: &str) -> Result<Answer, Failed> {
+    Ok(Answer {
+        status: 200,
+        kind: TextBuf::of(alloc, "text/plain")?,
+        location: TextBuf::of(alloc, "")?,
+        mark: Mark::Plain,
+        body: ByteBuf::of(alloc, body.as_bytes())?,
+    })
+}
+
+// The place of a request that awaits a flight.
+fn place(alloc: Global, method: &str, close: bool, flight: u64) -> Result<Place, Failed> {
+    let request = request(alloc, method, close)?;
+    Ok(Place::of_request(&request, false, Reply::Awaits(flight)))
+}
+
+// Whether these texts are sent next, one after another, and then nothing.
+fn sends(alloc: Global, outbox: &mut Outbox, texts: &[&str]) -> bool {
+    for text in texts {
+        match outbox.send(alloc) {
+            Some(sending) if sending.bytes.bytes() == text.as_bytes() => {}
+            _ => return false,
+        }
+    }
+    outbox.send(alloc).is_none()
+}
+
+const CONTINUE: &str = "HTTP/1.1 100 Continue\r\n\r\n";
+
+const GOT: &str = "HTTP/1.1 200 OK\r\nContent-Type: text/plain\r\nContent-Length: 3\r\n\r\none";
+
+const HEAD_ALONE: &str =
+    "HTTP/1.1 200 OK\r\nContent-Type: text/plain\r\nContent-Length: 3\r\nConnection: close\r\n\r\n";
+
+const FIXED: &str =
+    "HTTP/1.1 507 Insufficient Storage\r\nContent-Length: 0\r\nConnection: close\r\n\r\n";
+
+// A GET, a 100 Continue, and a HEAD after which the connection closes.
+fn pipeline(alloc: Global) -> Result<Outbox, Failed> {
+    let mut outbox = Outbox::new(alloc)?;
+    outbox.push(place(alloc, "GET", false, 1)?)?;
+    outbox.push(Place::interim())?;
+    outbox.push(place(alloc, "HEAD", true, 2)?)?;
+    Ok(outbox)
+}
+
+#[test]
+fn answers_a_pipeline_in_its_order(rt: HostRuntime) -> Result<(), Failed> {
+    let mut outbox = pipeline(rt.alloc())?;
+    assert!(rt; outbox.is_closing());
+    outbox.fill(2, answer(rt.alloc(), "two")?);
+    outbox.fill(3, answer(rt.alloc(), "three")?);
+    assert!(rt; sends(rt.alloc(), &mut outbox, &[]));
+    outbox.fill(1, answer(rt.alloc(), "one")?);
+    assert!(rt; sends(rt.alloc(), &mut outbox, &[GOT, CONTINUE, HEAD_ALONE]));
+    assert!(rt; outbox.is_over());
+    Ok(())
+}
+
+#[test]
+fn closes_after_the_fixed_507(rt: HostRuntime) -> Result<(), Failed> {
+    let mut outbox = Outbox::new(rt.alloc())?;
+    let request = request(rt.alloc(), "GET", false)?;
+    outbox.push(Place::of_request(&request, false, Reply::Fixed))?;
+    outbox.push(Place::of_fault(Reply::Says(answer(rt.alloc(), "")?)))?;
+    assert!(rt; sends(rt.alloc(), &mut outbox, &[FIXED]));
+    assert!(rt; outbox.is_over());
+    Ok(())
+}
+
+#[test]
+fn is_crowded_at_64_requests(rt: HostRuntime) -> Result<(), Failed> {
+    let mut outbox = Outbox::new(rt.alloc())?;
+    outbox.push(place(rt.alloc(), "GET", false, 0)?)?;
+    for flight in 1..64u64 {
+        assert!(rt; !outbox.is_crowded());
+        outbox.push(Place::interim())?;
+        outbox.push(place(rt.alloc(), "POST", false, flight)?)?;
+    }
+    assert!(rt; outbox.is_crowded());
+    outbox.fill(0, answer(rt.alloc(), "one")?);
+    assert!(rt; sends(rt.alloc(), &mut outbox, &[GOT, CONTINUE]));
+    assert!(rt; !outbox.is_crowded());
+    Ok(())
+}

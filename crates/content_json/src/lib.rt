@@ -20,4 +20,3 @@ pub use laws::{
 };
 pub use read::read_tree;
 pub use write::write_tree;
-

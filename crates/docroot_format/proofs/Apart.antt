@@ -129,7 +129,7 @@ head_bytes x = list_all-append is_name_byte (file_name x) (codes "%h") ∙ both 
 pub head_not_body : (a b : List (List ℕ)) (x y : List ℕ) → AllByRecursion are_bytes a → AllByRecursion are_bytes b → head_name a x ≢ body_name b y
 head_not_body a b x y small_a small_b e =
     no_head y (file_name x) (sym (same_place a b (file_name x ++ codes "%h") (file_name y) small_a small_b (head_bytes x) (bytes_ok y)
-        (append_both (folder_name a) (file_name x) (codes "%h") ∙ e)).1)
+    (append_both (folder_name a) (file_name x) (codes "%h") ∙ e)).1)
 
 -- a page's file doesn't begin with a dot, and neither do its names
 no_dot : (y more rest : List ℕ) → is_file y ≡ true → file_name y ++ more ≡ 46 ∷ rest → ⊥
@@ -148,7 +148,7 @@ pub dot_not_head : (a b : List (List ℕ)) (rest y : List ℕ) → AllByRecursio
     → folder_name a ++ 46 ∷ rest ≢ head_name b y
 dot_not_head a b rest y small_a small_b ok file e =
     no_dot y (codes "%h") rest file (sym (same_place a b (46 ∷ rest) (file_name y ++ codes "%h") small_a small_b ok (head_bytes y)
-        (e ∙ sym (append_both (folder_name b) (file_name y) (codes "%h")))).1)
+    (e ∙ sym (append_both (folder_name b) (file_name y) (codes "%h")))).1)
 
 pub epoch_not_stat : (a : List (List ℕ)) → AllByRecursion are_bytes a → stat_name a ≢ epoch_name
 epoch_not_stat a small e =

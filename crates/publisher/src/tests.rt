@@ -312,7 +312,12 @@ fn mapped_site(alloc: Global, seeds: RandomState) -> Result<Publisher, Failed> {
         tree.create(alloc, &at(alloc, path)?)?;
     }
     let inside = at(alloc, "/etc/map/http/example.org.80")?;
-    tree.set(alloc, &inside, "sling:internalRedirect", text(alloc, "/en")?)?;
+    tree.set(
+        alloc,
+        &inside,
+        "sling:internalRedirect",
+        text(alloc, "/en")?,
+    )?;
     let away = at(alloc, "/etc/map/http/example.org.8080")?;
     tree.set(alloc, &away, "sling:redirect", text(alloc, "/a b")?)?;
     Ok(Publisher::new(alloc, seeds, tree))
@@ -326,7 +331,14 @@ fn requests_are_mapped_for_their_host_and_port(rt: HostRuntime) -> Result<(), Fa
         ("example.org", 80u16, "GET", "/en.json", 404u16, ""),
         ("example.org", 81, "GET", "/en.json", 200, ""),
         ("localhost", 80, "HEAD", "/en.json", 200, ""),
-        ("Example.ORG", 8080, "HEAD", "/en.json", 302, "/a%20b/en.json"),
+        (
+            "Example.ORG",
+            8080,
+            "HEAD",
+            "/en.json",
+            302,
+            "/a%20b/en.json",
+        ),
         ("example.org", 8080, "POST", "/en.json", 405, ""),
     ] {
         let ask = ask_of(alloc, host, port, method, path)?;

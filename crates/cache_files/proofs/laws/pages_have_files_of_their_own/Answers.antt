@@ -19,11 +19,11 @@ returns-clause-put c = λ files key other stamp answer text more differ.
     let after = files_with_page files key stamp answer in
     same_page (file_at after head2) (file_at after body2) (file_at files head2) (file_at files body2)
     (named.beside half head head2 _ (λ e. differ (apart.heads other key more text e))
-        ∙ named.beside bare body head2 answer.body (apart.head other key more text)
-        ∙ named.left files head head2 (λ e. differ (apart.heads other key more text e)))
+    ∙ named.beside bare body head2 answer.body (apart.head other key more text)
+    ∙ named.left files head head2 (λ e. differ (apart.heads other key more text e)))
     (named.beside half head body2 _ (λ e. apart.head key other text more (sym e))
-        ∙ named.beside bare body body2 answer.body (λ e. differ (apart.bodies other key more text e))
-        ∙ named.left files head body2 (λ e. apart.head key other text more (sym e)))
+    ∙ named.beside bare body body2 answer.body (λ e. differ (apart.bodies other key more text e))
+    ∙ named.left files head body2 (λ e. apart.head key other text more (sym e)))
 
 pub returns-clause-dropped : goal.returns-clause-dropped
 returns-clause-dropped c = λ files key.

@@ -9,8 +9,6 @@ mod host;
 mod intake;
 mod laws;
 mod target;
-#[cfg(test)]
-mod tests;
 mod turn;
 mod window;
 

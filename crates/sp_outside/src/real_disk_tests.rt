@@ -111,7 +111,13 @@ fn finds_what_another_left(rt: HostRuntime) -> Result<(), Fail> {
     assert!(rt; puts(&mut disk, &[("a/x.html", "4")]));
     assert!(rt; holds(rt.alloc(), &mut disk, &[("a/x.html", "4")]));
     assert_eq!(rt; disk.remove("a/x.html"), Ok(()));
-    assert!(rt; lists(rt.alloc(), &mut disk, &[("a", "", 9, &["a.html", "a/.stat"])]));
+    assert!(rt;
+        lists(
+            rt.alloc(),
+            &mut disk,
+            &[("a", "", 9, &["a.html", "a/.stat"])]
+        )
+    );
     assert!(rt; matches!(fs::exists(&rt, "disk_of_another/a/x.html"), Ok(false)));
     assert!(rt; matches!(fs::exists(&rt, "disk_of_another/a/x.html%t"), Ok(false)));
     Ok(())

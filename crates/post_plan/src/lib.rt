@@ -17,8 +17,6 @@ mod sets;
 mod spot;
 mod spots;
 mod suffix;
-#[cfg(test)]
-mod tests;
 mod verb;
 mod way;
 mod wishes;

@@ -1,8 +1,8 @@
 //! Operations and faults as texts, for the tables.
-use crate::{Carry, CarryList, ModifyOp, NameWish, Op, PlanFault, PropSet, Spot, plan};
 use form_input::Form;
+use post_plan::{Carry, CarryList, ModifyOp, NameWish, Op, PlanFault, PropSet, Spot, plan};
 use resource_tree::Place;
-use sp_base::{Hint, HintKind, Path, TextBuf};
+use sp_base::{Hint, HintKind, NoMemory, Path, TextBuf};
 use std::alloc::{AllocError, Global};
 use std::test::Fail;
 
@@ -131,16 +131,26 @@ fn answer(alloc: Global, planned: &Result<Op, PlanFault>) -> Result<String, Allo
     }
 }
 
-/// What is planned for a form at a target, as a text. The form has a pair for each line `name=word`.
-pub fn planned(alloc: Global, target: &str, star: bool, lines: &[&str]) -> Result<String, Fail> {
-    let mut form = Form::new(alloc);
-    for line in lines {
-        let (name, word) = match line.split_once('=') {
-            Some(parts) => parts,
-            None => (*line, ""),
-        };
-        form.push((TextBuf::of(alloc, name)?, TextBuf::of(alloc, word)?))?;
+fn pair(alloc: Global, line: &str) -> Result<(TextBuf, TextBuf), NoMemory> {
+    match line.split_once('=') {
+        Some((name, word)) => Ok((TextBuf::of(alloc, name)?, TextBuf::of(alloc, word)?)),
+        None => Ok((TextBuf::of(alloc, line)?, TextBuf::of(alloc, "")?)),
     }
+}
+
+fn form(alloc: Global, lines: &str) -> Result<Form, NoMemory> {
+    let mut form = Form::new(alloc);
+    for line in lines.split('|') {
+        if !line.is_empty() {
+            form.push(pair(alloc, line)?)?;
+        }
+    }
+    Ok(form)
+}
+
+/// What is planned for a form at a target, as a text. The form has a pair for each `name=word` between bars.
+pub fn planned(alloc: Global, target: &str, star: bool, lines: &str) -> Result<String, Fail> {
+    let form = form(alloc, lines)?;
     let target = Path::read(alloc, target)?;
     Ok(answer(alloc, &plan(alloc, &target, star, &form))?)
 }

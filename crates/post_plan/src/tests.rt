@@ -1,4 +1,0 @@
-mod faults;
-mod names;
-mod shown;
-mod values;

@@ -100,9 +100,7 @@ impl Publisher {
         ensures answer { IfOk result (λ a. a ≡ text_answer self.old text.now) }
         ensures unchanged { self.new ≡ self.old }
     {
-        let view = AlongView::of(alloc, &self.tree, text)?;
-        let parts = split(alloc, &view, text)?;
-        match parts {
+        match parts_of(alloc, &self.tree, text)? {
             Some(parts) => self.named(alloc, &parts),
             None => error_answer(alloc, 404),
         }
@@ -118,6 +116,14 @@ impl Publisher {
             None => error_answer(alloc, 404),
         }
     }
+}
+
+// The parts of a text, over the paths at which a resource is seen.
+fn parts_of(alloc: Global, tree: &Tree, text: &str) -> Mem<Option<Parts>>
+    ensures { IfOk result (λ parts. parts ≡ split_of (has_resource tree.now) text.now) }
+{
+    let view = AlongView::of(alloc, tree, text)?;
+    split(alloc, &view, text)
 }
 
 // The index of a tree: the one that is there, or a new one.

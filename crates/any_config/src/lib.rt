@@ -14,8 +14,6 @@ mod numbers;
 mod reader;
 mod standard;
 mod stop;
-#[cfg(test)]
-mod tests;
 mod tokens;
 
 pub use any_fault::AnyFault;

@@ -8,8 +8,6 @@ mod laws;
 mod names;
 mod page;
 mod stamp;
-#[cfg(test)]
-mod tests;
 mod touch;
 mod walk;
 

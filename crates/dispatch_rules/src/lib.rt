@@ -6,8 +6,6 @@ mod admission;
 mod asking;
 mod caching;
 mod filter;
-#[cfg(test)]
-mod tests;
 mod url_parts;
 
 pub use admission::admits;

@@ -9,8 +9,6 @@ mod lines;
 mod multipart;
 mod parameters;
 mod part;
-#[cfg(test)]
-mod tests;
 
 pub use fault::FormFault;
 pub use form::{Form, MOST_PAIRS, read_form};

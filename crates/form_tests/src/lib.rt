@@ -1,6 +1,8 @@
-//! Tests of calls of `post_plan`, which are proved apart from it.
+//! Tests of calls of `form_input` and `post_plan`, which are proved apart from these crates.
 #![tactic(auto)]
 
+#[cfg(test)]
+mod bodies;
 #[cfg(test)]
 mod faults;
 #[cfg(test)]

@@ -9,8 +9,6 @@ mod piece;
 mod read;
 mod rule;
 mod runs;
-#[cfg(test)]
-mod tests;
 
 pub use fault::GlobFault;
 pub use glob::Glob;

@@ -12,8 +12,6 @@ mod properties;
 mod reach;
 mod rebase;
 mod roots;
-#[cfg(test)]
-mod tests;
 mod uncut;
 mod view;
 

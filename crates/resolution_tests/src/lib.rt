@@ -1,8 +1,12 @@
-//! Tests of calls of `url_split`, `type_chain` and `script_rank`, which are proved apart from these crates.
+//! Tests of calls of `url_split`, `type_chain`, `script_rank`, `url_maps` and `overlay_merge`, which are proved apart from these crates.
 #![tactic(auto)]
 
 #[cfg(test)]
 mod failed;
+#[cfg(test)]
+mod mappings;
+#[cfg(test)]
+mod merging;
 #[cfg(test)]
 mod scripts;
 #[cfg(test)]

@@ -20,4 +20,3 @@ pub mod Removal
 pub mod Renaming
 pub mod Rekeying
 pub mod Relocated
-pub mod PatchTests

@@ -10,15 +10,11 @@ mod duplicate;
 mod faults;
 mod kids;
 mod look;
-#[cfg(test)]
-mod move_tests;
 mod node_map;
 mod nodes;
 mod order;
 mod part;
 mod patch;
-#[cfg(test)]
-mod patch_tests;
 mod paths;
 mod places;
 mod properties;
@@ -26,8 +22,6 @@ mod relocate;
 mod remove;
 mod room;
 mod table;
-#[cfg(test)]
-mod tests;
 mod tree;
 
 pub use faults::TreeFault;

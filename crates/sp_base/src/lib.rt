@@ -12,8 +12,6 @@ mod path;
 mod path_parts;
 mod property_list;
 mod segments;
-#[cfg(test)]
-mod tests;
 mod text;
 mod typed;
 mod value;

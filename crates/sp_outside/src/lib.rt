@@ -7,25 +7,17 @@
 #![tactic(auto)]
 
 mod disk;
-#[cfg(test)]
-mod disk_tests;
 mod docroot;
 mod folder_walk;
 mod laws;
-#[cfg(test)]
-mod long_tests;
 mod mem_disk;
 mod memory;
 mod name_index;
 mod name_list;
 mod real;
 mod real_disk;
-#[cfg(test)]
-mod real_disk_tests;
 mod sink;
 mod source;
-#[cfg(test)]
-mod tests;
 mod words;
 
 pub use disk::{Disk, DiskFault, LONGEST_NAME};

@@ -11,8 +11,6 @@ mod locations;
 mod mappings;
 mod pairs;
 mod reach;
-#[cfg(test)]
-mod tests;
 mod turns;
 mod vanity_paths;
 mod words;

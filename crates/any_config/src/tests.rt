@@ -1,3 +1,0 @@
-mod example;
-mod farms;
-mod faults;

@@ -1,0 +1,61 @@
+//! What texts are mapped to for hosts and ports. Aliases and vanity paths are asked for through the program (examples/runs).
+use crate::failed::Failed;
+use resource_tree::{Tree, TreeFault};
+use sp_base::{NoMemory, Path, PathFault, TextBuf, Value};
+use std::alloc::{AllocError, Global};
+use std::hash::RandomState;
+use url_maps::{MapAnswer, location_of, map_in};
+
+// A tree of three mappings that lead away.
+fn mappings(alloc: Global, seeds: RandomState) -> Result<Tree, Failed> {
+    let mut tree = Tree::new(alloc, seeds)?;
+    for path in ["/etc", "/etc/map", "/etc/map/http"] {
+        tree.create(alloc, &Path::read(alloc, path)?)?;
+    }
+    for (path, target) in [
+        ("/etc/map/http/localhost.80", "/local"),
+        ("/etc/map/http/localhost.8080", "/port"),
+        ("/etc/map/http/example.org.80", "https://example.com/a b"),
+    ] {
+        let path = Path::read(alloc, path)?;
+        tree.create(alloc, &path)?;
+        let target = Value::Text(TextBuf::of(alloc, target)?);
+        tree.set(alloc, &path, "sling:redirect", target)?;
+    }
+    Ok(tree)
+}
+
+// An answer as one text: where it leads away, the status and the location.
+fn shown(alloc: Global, answer: &MapAnswer) -> Result<TextBuf, Failed> {
+    match answer {
+        MapAnswer::Inside(text) => Ok(text.duplicate(alloc)?),
+        MapAnswer::Away(status, target) => {
+            let location = location_of(alloc, target.text())?;
+            let text = format!(in alloc; "{status} {}", location.text())?;
+            Ok(TextBuf::from(text))
+        }
+    }
+}
+
+#[test]
+fn hosts_and_ports_have_their_mappings(rt: HostRuntime) -> Result<(), Failed> {
+    let alloc = rt.alloc();
+    let tree = mappings(alloc, RandomState::new(&rt)?)?;
+    for (host, port, want) in [
+        ("localhost", 80u16, "302 /local/x.html"),
+        ("LocalHost", 80, "302 /local/x.html"),
+        ("localhost", 8080, "302 /port/x.html"),
+        ("localhost", 808, "/x.html"),
+        ("localhost", 8, "/x.html"),
+        ("example.org", 80, "302 https://example.com/a%20b/x.html"),
+        ("example.org", 443, "/x.html"),
+        ("example", 80, "/x.html"),
+        ("localhost.80", 80, "/x.html"),
+        ("http/localhost", 80, "/x.html"),
+        ("", 80, "/x.html"),
+    ] {
+        let got = shown(alloc, &map_in(alloc, &tree, host, port, "/x.html")?)?;
+        assert_eq!(rt; got.text(), want, "{host} {port}");
+    }
+    Ok(())
+}

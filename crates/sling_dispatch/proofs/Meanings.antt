@@ -5,12 +5,12 @@ use Rattle.sp_outside.specs.Told.{added, before_taking, IsAtEnd}
 use Rattle.content_json.specs.ContentOf.{content as content_of}
 use Rattle.content_json.specs.declared.fault.ContentFault.{ContentFault}
 use Rattle.content_json.specs.declared.fault.ContentFault.TheVariants.{NoMemory as no_memory}
-use Rattle.sling_dispatch.specs.Languages.{IsRefusedWithin}
+use Rattle.replay_text.specs.Languages.{IsRefusedWithin}
 use Rattle.sling_dispatch.specs.Streams.{IsReadOut}
-use Rattle.sling_dispatch.specs.Scenario.{IsScenario, Reads, most}
+use Rattle.replay_text.specs.Scenario.{IsScenario, Reads, most}
 use Rattle.sling_dispatch.specs.Endings.{Told, Call, IsRunOf, Writing, Nothing, UsageLine, SourceLine, RefusalLine, ContentLine, Events, output_of, HasWritten, Means, IsDue, IsReplay, HasNotFailed, IsUntouched}
 use Rattle.sling_dispatch.specs.InnerEndings.{IsDueIn, IsContentOr, Tells, IsDueAt}
-use Rattle.sling_dispatch.specs.declared.scenario.Scenario.{Scenario}
+use Rattle.replay_text.specs.declared.scenario.Scenario.{Scenario}
 use Rattle.sling_dispatch.proofs.Writing.{added-nothing}
 use Rattle.sling_dispatch.specs.declared.ending.Ending.{Ending}
 use Rattle.sling_dispatch.specs.declared.ending.Ending.TheVariants.{Done, Usage, SourceFailed, SinkFailed, Refused, ContentRefused, NoMemory}

@@ -3,10 +3,10 @@ use Rattle.std.proofs.Common.{◌≡◌, ◌∙◌, ℕ, List, [], ◌∷◌, Ok
 use Rattle.resource_tree.specs.Content.{Content}
 use Rattle.content_json.specs.ContentOf.{content as content_of}
 use Rattle.sling_dispatch.specs.Runs.{RunState, Event, after_event, Run, start_of, steps_of, IsSession}
-use Rattle.sling_dispatch.specs.declared.scenario.Step.{Step}
-use Rattle.sling_dispatch.specs.declared.scenario.Step.TheVariants.{Direct}
-use Rattle.sling_dispatch.specs.declared.scenario.Scenario.{Scenario}
-use Rattle.sling_dispatch.specs.declared.note.Note.{Note}
+use Rattle.replay_text.specs.declared.scenario.Step.{Step}
+use Rattle.replay_text.specs.declared.scenario.Step.TheVariants.{Direct}
+use Rattle.replay_text.specs.declared.scenario.Scenario.{Scenario}
+use Rattle.replay_text.specs.declared.note.Note.{Note}
 
 one_event : (w : RunState) (step : Step) (a b : List Note) → Event w step a → Event w step b → a ≡ b
 one_event w (Direct target) a b p q = p ∙ sym q

@@ -7,17 +7,17 @@ use Rattle.sp_outside.specs.declared.sink.SinkFault.{SinkFault}
 use Rattle.sp_outside.specs.declared.sink.SinkFault.TheVariants.{Failed as sink_failed, NoMemory as sink_memory}
 use Rattle.resource_tree.specs.Content.{Content}
 use Rattle.content_json.specs.ContentOf.{content as content_of}
-use Rattle.sling_dispatch.specs.Transcript.{event_text, transcript_from, transcript}
+use Rattle.replay_text.specs.Transcript.{event_text, transcript_from, transcript}
 use Rattle.sling_dispatch.specs.Runs.{RunState, Event, after_event, after, Run, start_of, steps_of, IsSession}
 use Rattle.sling_dispatch.specs.Fronts.{Stands, IsNext}
 use Rattle.sling_dispatch.specs.Endings.{Writing, Events, Told, told_of, HasWrittenPrefix}
 use Rattle.sling_dispatch.specs.InnerEndings.{IsDueOf, Tells, ending_by, PlaysAll}
-use Rattle.sling_dispatch.specs.declared.scenario.Act.{Act}
-use Rattle.sling_dispatch.specs.declared.scenario.Act.TheVariants.{Do}
-use Rattle.sling_dispatch.specs.declared.scenario.Step.{Step}
-use Rattle.sling_dispatch.specs.declared.scenario.Scenario.{Scenario}
+use Rattle.replay_text.specs.declared.scenario.Act.{Act}
+use Rattle.replay_text.specs.declared.scenario.Act.TheVariants.{Do}
+use Rattle.replay_text.specs.declared.scenario.Step.{Step}
+use Rattle.replay_text.specs.declared.scenario.Scenario.{Scenario}
 use Rattle.sling_dispatch.specs.declared.front.Front.{Front}
-use Rattle.sling_dispatch.specs.declared.note.Note.{Note}
+use Rattle.replay_text.specs.declared.note.Note.{Note}
 use Rattle.sling_dispatch.specs.declared.ending.Ending.{Ending}
 use Rattle.sling_dispatch.specs.declared.ending.Ending.TheVariants.{Done, NoMemory}
 use Rattle.sling_dispatch.proofs.Writing.{added-added, added-nothing}

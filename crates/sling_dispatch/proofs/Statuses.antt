@@ -4,15 +4,15 @@ use Rattle.sp_base.specs.declared.answer.Ask.{Ask}
 use Rattle.resource_tree.specs.Content.{Content}
 use Rattle.publisher.specs.Errors.{error_answer}
 use Rattle.publisher.specs.Rendering.{rendered}
-use Rattle.sling_dispatch.specs.declared.note.Note.{Note}
-use Rattle.sling_dispatch.specs.declared.note.Note.TheVariants.{Answer as answered}
-use Rattle.sling_dispatch.specs.declared.scenario.Step.{Step}
-use Rattle.sling_dispatch.specs.declared.scenario.Step.TheVariants.{Direct}
-use Rattle.sling_dispatch.specs.declared.scenario.Scenario.{Scenario}
+use Rattle.replay_text.specs.declared.note.Note.{Note}
+use Rattle.replay_text.specs.declared.note.Note.TheVariants.{Answer as answered}
+use Rattle.replay_text.specs.declared.scenario.Step.{Step}
+use Rattle.replay_text.specs.declared.scenario.Step.TheVariants.{Direct}
+use Rattle.replay_text.specs.declared.scenario.Scenario.{Scenario}
 use Rattle.sling_dispatch.specs.declared.target.Target.{Target}
 use Rattle.sling_dispatch.specs.Rendering.{answer_to, direct_answer, get_of}
 use Rattle.sling_dispatch.specs.Runs.{IsSession, Run, RunState}
-use Rattle.sling_dispatch.specs.Transcript.{AreWritable, EventsAreWritable}
+use Rattle.replay_text.specs.Transcript.{AreWritable, EventsAreWritable}
 use Rattle.sling_dispatch.specs.Targets.{target_of}
 
 module _ (short : (tree : Content) (ask : Ask) → (rendered tree ask).status < 1000) (error : (status : ℕ) → (error_answer status).status ≡ status) where

@@ -7,14 +7,14 @@ use Rattle.resource_tree.specs.Content.{Content}
 use Rattle.content_json.specs.ContentOf.{content as content_of}
 use Rattle.content_json.specs.declared.fault.ContentFault.{ContentFault}
 use Rattle.content_json.specs.declared.fault.ContentFault.TheVariants.{NoMemory as no_memory}
-use Rattle.sling_dispatch.specs.Languages.{IsRefusedWithin}
-use Rattle.sling_dispatch.specs.Scenario.{IsScenario, Reads, most}
-use Rattle.sling_dispatch.specs.Transcript.{transcript}
+use Rattle.replay_text.specs.Languages.{IsRefusedWithin}
+use Rattle.replay_text.specs.Scenario.{IsScenario, Reads, most}
+use Rattle.replay_text.specs.Transcript.{transcript}
 use Rattle.sling_dispatch.specs.Runs.{IsSession}
 use Rattle.sling_dispatch.specs.Streams.{IsReadOut}
 use Rattle.sling_dispatch.specs.Faults.{fault_text}
-use Rattle.sling_dispatch.specs.declared.scenario.Scenario.{Scenario}
-use Rattle.sling_dispatch.specs.declared.note.Note.{Note}
+use Rattle.replay_text.specs.declared.scenario.Scenario.{Scenario}
+use Rattle.replay_text.specs.declared.note.Note.{Note}
 use Rattle.sling_dispatch.specs.declared.ending.Ending.{Ending}
 use Rattle.sling_dispatch.specs.declared.ending.Ending.TheVariants.{Done, Usage, SourceFailed, SinkFailed, Refused, ContentRefused, NoMemory}
 

@@ -1,10 +1,10 @@
 -- Scaffolding: what a front makes of a step, for the private functions of the run and for proofs alone.
 use Rattle.std.specs.Prelude.{◌≡◌, List, ℕ}
 use Rattle.sling_dispatch.specs.Runs.{RunState, Event, after_event}
-use Rattle.sling_dispatch.specs.Transcript.{event_text}
-use Rattle.sling_dispatch.specs.declared.scenario.Step.{Step}
+use Rattle.replay_text.specs.Transcript.{event_text}
+use Rattle.replay_text.specs.declared.scenario.Step.{Step}
 use Rattle.sling_dispatch.specs.declared.front.Front.{Front}
-use Rattle.sling_dispatch.specs.declared.note.Note.{Note}
+use Rattle.replay_text.specs.declared.note.Note.{Note}
 
 -- the front stands for this state of the run
 abbrev pub Stands : Front → RunState → Type 0

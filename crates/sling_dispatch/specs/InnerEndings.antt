@@ -8,11 +8,11 @@ use Rattle.resource_tree.specs.Content.{Content}
 use Rattle.content_json.specs.ContentOf.{content as content_of}
 use Rattle.content_json.specs.declared.fault.ContentFault.{ContentFault}
 use Rattle.content_json.specs.declared.fault.ContentFault.TheVariants.{NoMemory as no_memory}
-use Rattle.sling_dispatch.specs.Languages.{IsRefusedWithin}
-use Rattle.sling_dispatch.specs.Scenario.{IsScenario, Reads, most}
+use Rattle.replay_text.specs.Languages.{IsRefusedWithin}
+use Rattle.replay_text.specs.Scenario.{IsScenario, Reads, most}
 use Rattle.sling_dispatch.specs.Endings.{Told, HasNotFailed, HasFailed, Writing, Nothing, UsageLine, SourceLine, RefusalLine, ContentLine, Events, Means, IsRunOf}
-use Rattle.sling_dispatch.specs.declared.scenario.Act.{Act}
-use Rattle.sling_dispatch.specs.declared.scenario.Scenario.{Scenario}
+use Rattle.replay_text.specs.declared.scenario.Act.{Act}
+use Rattle.replay_text.specs.declared.scenario.Scenario.{Scenario}
 use Rattle.sling_dispatch.specs.declared.streams.ReadFault.{ReadFault}
 use Rattle.sling_dispatch.specs.declared.streams.ReadFault.TheVariants.{Failed as read_failed, NoMemory as read_memory}
 use Rattle.sling_dispatch.specs.declared.ending.Ending.{Ending}

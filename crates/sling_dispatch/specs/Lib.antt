@@ -1,10 +1,5 @@
-pub mod Lines
-pub mod Languages
-pub mod Scenario
-pub mod Reading
 pub mod Targets
 pub mod Rendering
-pub mod Transcript
 pub mod Runs
 pub mod Fronts
 pub mod Streams

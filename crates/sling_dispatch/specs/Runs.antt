@@ -3,13 +3,13 @@ use Rattle.std.specs.Prelude.{◌≡◌, ℕ, List, [], ◌∷◌, Ok, take}
 use Rattle.resource_tree.specs.Content.{Content}
 use Rattle.content_json.specs.ContentOf.{content as content_of}
 use Rattle.sling_dispatch.specs.Rendering.{direct_answer}
-use Rattle.sling_dispatch.specs.declared.scenario.Act.{Act}
-use Rattle.sling_dispatch.specs.declared.scenario.Act.TheVariants.{Do}
-use Rattle.sling_dispatch.specs.declared.scenario.Step.{Step}
-use Rattle.sling_dispatch.specs.declared.scenario.Step.TheVariants.{Direct}
-use Rattle.sling_dispatch.specs.declared.scenario.Scenario.{Scenario}
-use Rattle.sling_dispatch.specs.declared.note.Note.{Note}
-use Rattle.sling_dispatch.specs.declared.note.Note.TheVariants.{Answer as answered}
+use Rattle.replay_text.specs.declared.scenario.Act.{Act}
+use Rattle.replay_text.specs.declared.scenario.Act.TheVariants.{Do}
+use Rattle.replay_text.specs.declared.scenario.Step.{Step}
+use Rattle.replay_text.specs.declared.scenario.Step.TheVariants.{Direct}
+use Rattle.replay_text.specs.declared.scenario.Scenario.{Scenario}
+use Rattle.replay_text.specs.declared.note.Note.{Note}
+use Rattle.replay_text.specs.declared.note.Note.TheVariants.{Answer as answered}
 
 -- the state of a run: what events act on
 pub record RunState : Type 0 where

@@ -1,7 +1,7 @@
 //! The whole program over a command line: the words that it is given, and the status that it ends with.
 ghost use Rattle.std.specs.Prelude.{◌≡◌, ◌+◌, ℕ, List, map, IfOk, OnOk};
 ghost use Rattle.sling_dispatch.specs.declared.ending.Ending.{Ending};
-ghost use Rattle.sling_dispatch.specs.Scenario.{most};
+ghost use Rattle.replay_text.specs.Scenario.{most};
 ghost use Rattle.sling_dispatch.specs.Streams.{HasTaken};
 ghost use Rattle.sling_dispatch.specs.Endings.{Means, IsDue, AreWordsOf, told_of, status_of};
 

@@ -3,7 +3,6 @@ ghost use Rattle.std.specs.Prelude.{◌≡◌, ◌+◌, ◌<◌, ◌^◌, ◌++�
 ghost use Rattle.sling_dispatch.specs.Faults.{fault_at_path, fault_text};
 ghost use Rattle.sling_dispatch.specs.Endings.{output_of, RefusalLine, ContentLine};
 
-use crate::transcript::{push, push_number};
 use content_json::ContentFault;
 use sp_base::{Mem, Path};
 use std::alloc::Global;
@@ -14,9 +13,10 @@ pub fn refusal_line(alloc: Global, before: u64) -> Mem<Vec<u8>>
     ensures { IfOk result (λ text. text.items ≡ output_of (RefusalLine before)) }
 {
     let mut text = Vec::new(alloc);
-    push(&mut text, b"scenario refused at line ")?;
-    push_number(alloc, &mut text, before + 1)?;
-    push(&mut text, b"\n")?;
+    text.extend_from_slice(b"scenario refused at line ")?;
+    let line = (before + 1).to_string(alloc)?;
+    text.extend_from_slice(line.as_bytes())?;
+    text.extend_from_slice(b"\n")?;
     Ok(text)
 }
 
@@ -29,10 +29,18 @@ pub fn is_memory(fault: &ContentFault) -> bool
 fn push_placed(alloc: Global, out: &mut Vec<u8>, name: &[u8], path: &Path) -> Mem<()>
     ensures { OnOk result (out.new.items ≡ out.old.items ++ fault_at_path name.now path.now) }
 {
-    push(out, name)?;
-    push(out, b" at ")?;
     let text = path.text(alloc)?;
-    push(out, text.text().as_bytes())
+    out.extend_from_slice(name)?;
+    out.extend_from_slice(b" at ")?;
+    out.extend_from_slice(text.text().as_bytes())?;
+    Ok(())
+}
+
+fn push(out: &mut Vec<u8>, bytes: &[u8]) -> Mem<()>
+    ensures { OnOk result (out.new.items ≡ out.old.items ++ bytes.now) }
+{
+    out.extend_from_slice(bytes)?;
+    Ok(())
 }
 
 fn push_fault(alloc: Global, out: &mut Vec<u8>, fault: &ContentFault) -> Mem<()>
@@ -55,8 +63,8 @@ pub fn content_line(alloc: Global, fault: &ContentFault) -> Mem<Vec<u8>>
     ensures { IfOk result (λ text. text.items ≡ output_of (ContentLine fault.now)) }
 {
     let mut text = Vec::new(alloc);
-    push(&mut text, b"content refused: ")?;
+    text.extend_from_slice(b"content refused: ")?;
     push_fault(alloc, &mut text, fault)?;
-    push(&mut text, b"\n")?;
+    text.extend_from_slice(b"\n")?;
     Ok(text)
 }

@@ -3,10 +3,9 @@ ghost use Rattle.std.specs.Prelude.{◌≡◌, ◌∷◌, [], IfOk, OnErr};
 ghost use Rattle.sling_dispatch.specs.Rendering.{direct_answer};
 ghost use Rattle.sling_dispatch.specs.Fronts.{Extends};
 
-use crate::note::{Note, NoteList};
 use crate::rendering::direct;
-use crate::scenario::Step;
 use publisher::Publisher;
+use replay_text::{Note, NoteList, Step};
 use sp_base::{Items, Mem};
 use std::alloc::Global;
 

@@ -6,20 +6,15 @@ mod ending;
 mod faults;
 mod front;
 mod laws;
-mod lines;
-mod note;
 mod play;
 mod program;
-mod reader;
 mod rendering;
 #[cfg(test)]
 mod run_tests;
-mod scenario;
 mod streams;
 mod target;
 #[cfg(test)]
 mod tests;
-mod transcript;
 
 use command::command;
 use ending::Ending;

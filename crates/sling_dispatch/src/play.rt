@@ -8,10 +8,9 @@ ghost use Rattle.sling_dispatch.specs.InnerEndings.{Tells, ending_by, PlaysAll};
 
 use crate::ending::Ending;
 use crate::front::Front;
-use crate::scenario::{Act, ActList, Step};
 use crate::streams::write_all;
-use crate::transcript::write_notes;
 use publisher::Publisher;
+use replay_text::{Act, ActList, Step, write_notes};
 use sp_base::Mem;
 use sp_outside::{Sink, SinkFault};
 use std::alloc::Global;

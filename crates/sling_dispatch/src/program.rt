@@ -1,28 +1,23 @@
 //! The run: what the words say is done, from the source to the sink.
 ghost use Rattle.std.specs.Prelude.{◌≡◌, ◌≢◌, ◌↔◌, ◌++◌, ◌∷◌, ◌+◌, [], ℕ, List, Err, map, codes, IsTrue, IfOk, IfErr, OnErr};
 ghost use Rattle.sling_dispatch.specs.declared.ending.Ending.{Ending};
-ghost use Rattle.sling_dispatch.specs.Scenario.{Reads, IsScenario, most};
-ghost use Rattle.sling_dispatch.specs.Reading.{RefusesWithin};
+ghost use Rattle.replay_text.specs.Scenario.{Reads, IsScenario, most};
+ghost use Rattle.replay_text.specs.Reading.{RefusesWithin};
 ghost use Rattle.sling_dispatch.specs.Streams.{HasTaken};
 ghost use Rattle.sling_dispatch.specs.Endings.{Means, IsDue, IsReplay, IsUntouched, told_of, status_of};
 ghost use Rattle.sling_dispatch.specs.InnerEndings.{IsDueAt, IsDueIn, IsContentOr, Tells};
 
 use crate::ending::Ending;
 use crate::faults::{content_line, is_memory, refusal_line};
-use crate::lines::same;
 use crate::play::{play, say};
-use crate::reader::read_limited;
-use crate::scenario::{Scenario, ScenarioFault};
 use crate::streams::{ReadFault, read_whole};
 use content_json::{ContentFault, read_tree};
 use publisher::Publisher;
+use replay_text::{LONGEST_SCENARIO, Scenario, ScenarioFault, read_scenario};
 use sp_base::Mem;
 use sp_outside::{Sink, Source};
 use std::alloc::Global;
 use std::hash::RandomState;
-
-// The most bytes that a scenario has.
-const MOST: usize = 67_108_864;
 
 /// Does what the words say, and gives the exit status.
 /// The seeds key the tables of paths, which authors of content pick.
@@ -62,7 +57,7 @@ fn ending<S: Source, K: Sink>(
     if !is_replay(words) {
         return say(sink, b"usage: replay\n", Ending::Usage);
     }
-    match read_whole(alloc, source, MOST) {
+    match read_whole(alloc, source, LONGEST_SCENARIO) {
         Ok(text) => replay(alloc, seeds, text, sink),
         Err(ReadFault::Failed) => say(sink, b"source failed\n", Ending::SourceFailed),
         Err(ReadFault::NoMemory) => Ending::NoMemory,
@@ -73,7 +68,7 @@ fn is_replay(words: &[&[u8]]) -> bool
     ensures { IsTrue result ↔ IsReplay (map (λ w. w.now) words.now) }
 {
     match words {
-        [word] => same(word, b"replay"),
+        [word] => *word == b"replay".as_slice(),
         _ => false,
     }
 }
@@ -107,7 +102,7 @@ fn scenario_of(alloc: Global, text: Vec<u8>) -> Result<Scenario, ScenarioFault>
     ensures ok { IfOk result (λ s. Reads text.items s) }
     ensures err { IfErr result (RefusesWithin most IsScenario text.items) }
 {
-    read_limited(alloc, &text, MOST)
+    read_scenario(alloc, &text)
 }
 
 // Runs a scenario. The bytes of its content are given up before the run begins.

@@ -1,5 +1,5 @@
 use Rattle.std.proofs.Common.{ap}
-use Rattle.sling_dispatch.specs.Transcript.{transcript}
+use Rattle.replay_text.specs.Transcript.{transcript}
 use Rattle.sling_dispatch.proofs.OneRun.{one_session}
 use Rattle.sling_dispatch.proofs.laws.one_transcript.Goals as goal
 

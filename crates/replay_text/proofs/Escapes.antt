@@ -1,0 +1,107 @@
+-- A quoted text is read back: which byte an escape stands for, and where it ends.
+use Rattle.std.proofs.Common.{◌≡◌, ◌≢◌, ◌+◌, ◌-◌, ◌*◌, ◌/◌, ◌%◌, ◌<◌, ◌≤◌, ◌++◌, ◌&&◌, ◌==◌, ◌∙◌, ℕ, Bool, true, false, List, [], ◌∷◌, codes, sym, ap, subst, refl, arith, length, drop, get_or, eqb, append_assoc, ⊎_elim, if◌then◌else◌}
+use Rattle.std.specs.Prelude.{flat_map, nat_lt, nat_le}
+use Rattle.std.proofs.lemmas.Bool.{cases_eq, cases_lt}
+use Rattle.std.proofs.lemmas.Bool.Decides.{nat_tests}
+use Rattle.replay_text.specs.Transcript.{hex, quoted_byte, quotation}
+
+unhex : ℕ → ℕ
+unhex d = if nat_lt d 58 then d - 48 else d - 87
+
+unhex_small : (n : ℕ) → n < 10 → unhex (hex n) ≡ n
+unfolding unhex
+unhex_small n lt = grind (arith, nat_tests)
+
+unhex_large : (n : ℕ) → 10 ≤ n → unhex (hex n) ≡ n
+unfolding unhex
+unhex_large n le = grind (arith, nat_tests)
+
+unhex-hex : (n : ℕ) → unhex (hex n) ≡ n
+unhex-hex n = ⊎_elim (λ (lt : n < 10). unhex_small n lt) (λ (le : 10 ≤ n). unhex_large n le) (cases_lt n 10)
+
+-- the byte that a letter after a backslash stands for, where two digits may follow
+named : ℕ → ℕ → ℕ → ℕ
+named letter high low = if letter == 34 then 34 else (if letter == 92 then 92 else (if letter == 114 then 13 else (if letter == 110 then 10 else
+    (if letter == 116 then 9 else 16 * unhex high + unhex low))))
+
+-- the byte whose spelling begins the text, and the text after the spelling
+value_of : List ℕ → ℕ
+value_of text = if get_or text 0 0 == 92 then named (get_or text 1 0) (get_or text 2 0) (get_or text 3 0) else get_or text 0 0
+
+rest_of : List ℕ → List ℕ
+rest_of text = if get_or text 0 0 == 92 then (if get_or text 1 0 == 120 then drop 4 text else drop 2 text) else drop 1 text
+
+record Spelled (text : List ℕ) (b : ℕ) (r : List ℕ) : Type 0 where
+  value : value_of text ≡ b
+  rest : rest_of text ≡ r
+  begins : get_or text 0 0 ≢ 34
+
+told_plain : (b : ℕ) (r : List ℕ) → b ≢ 34 → b ≢ 92 → Spelled (b ∷ r) b r
+unfolding value_of rest_of
+told_plain b r quote slash =
+    let t : eqb b 92 ≡ false = grind (arith, nat_tests) in
+    record { value = rw t refl; rest = rw t refl; begins = quote }
+
+told_hex : (b : ℕ) (r : List ℕ) → Spelled (codes "\\x" ++ hex (b / 16) ∷ hex (b % 16) ∷ r) b r
+unfolding value_of rest_of named
+told_hex b r = record { value = omega (arith, unhex-hex (b / 16), unhex-hex (b % 16)); rest = refl; begins = omega arith }
+
+told_other : (b : ℕ) (r : List ℕ) → b ≢ 34 → b ≢ 92 → (visible : Bool) →
+    Spelled ((if visible then b ∷ [] else codes "\\x" ++ hex (b / 16) ∷ hex (b % 16) ∷ []) ++ r) b r
+told_other b r quote slash true = told_plain b r quote slash
+told_other b r quote slash false = told_hex b r
+
+told_at : (n : ℕ) (spelling r : List ℕ) → Spelled (spelling ++ r) n r → (b : ℕ) (other : List ℕ) → (b ≢ n → Spelled (other ++ r) b r)
+    → Spelled ((if b == n then spelling else other) ++ r) b r
+told_at n spelling r here b other there = ⊎_elim
+    (λ (e : b ≡ n).
+    let t : eqb b n ≡ true = grind (arith, nat_tests) in
+    rw t (subst (λ v. Spelled (spelling ++ r) v r) (sym e) here))
+    (λ (apart : b ≢ n).
+    let t : eqb b n ≡ false = grind (arith, nat_tests) in
+    rw t (there apart))
+    (cases_eq b n)
+
+told_letter : (n letter : ℕ) (r : List ℕ) → named letter (get_or r 0 0) (get_or r 1 0) ≡ n → letter ≢ 120 → Spelled (92 ∷ letter ∷ r) n r
+unfolding value_of rest_of
+told_letter n letter r e apart =
+    let t : eqb letter 120 ≡ false = grind (arith, nat_tests) in
+    record { value = e; rest = rw t refl; begins = omega arith }
+
+told_escape : (b : ℕ) (r : List ℕ) → Spelled (quoted_byte b ++ r) b r
+unfolding named
+told_escape b r =
+    told_at 34 (92 ∷ 34 ∷ []) r (told_letter 34 34 r refl (omega arith)) b _ (λ quote.
+    told_at 92 (92 ∷ 92 ∷ []) r (told_letter 92 92 r refl (omega arith)) b _ (λ slash.
+    told_at 13 (codes "\\r") r (told_letter 13 114 r refl (omega arith)) b _ (λ no_return.
+    told_at 10 (codes "\\n") r (told_letter 10 110 r refl (omega arith)) b _ (λ no_newline.
+    told_at 9 (codes "\\t") r (told_letter 9 116 r refl (omega arith)) b _ (λ no_tab.
+    told_other b r quote slash (nat_le 32 b && nat_le b 126))))))
+
+one_escape : (b c : ℕ) (r s : List ℕ) → quoted_byte b ++ r ≡ quoted_byte c ++ s → (b ≡ c) × (r ≡ s)
+one_escape b c r s e =
+    let x = told_escape b r in
+    let y = told_escape c s in
+    (sym x.value ∙ ap value_of e ∙ y.value, sym x.rest ∙ ap rest_of e ∙ y.rest)
+
+no_quote : (b : ℕ) (r s : List ℕ) → quoted_byte b ++ r ≡ 34 ∷ s → ⊥
+no_quote b r s e = (told_escape b r).begins (ap (λ t. get_or t 0 0) e)
+
+one_escaped : (x y r s : List ℕ) → flat_map quoted_byte x ++ 34 ∷ r ≡ flat_map quoted_byte y ++ 34 ∷ s → (x ≡ y) × (r ≡ s)
+one_escaped [] [] r s e = (refl, cc)
+one_escaped [] (c ∷ y) r s e =
+    absurd (no_quote c (flat_map quoted_byte y ++ 34 ∷ s) r (sym (append_assoc (quoted_byte c) (flat_map quoted_byte y) (34 ∷ s)) ∙ sym e))
+one_escaped (b ∷ x) [] r s e =
+    absurd (no_quote b (flat_map quoted_byte x ++ 34 ∷ r) s (sym (append_assoc (quoted_byte b) (flat_map quoted_byte x) (34 ∷ r)) ∙ e))
+one_escaped (b ∷ x) (c ∷ y) r s e =
+    let head = one_escape b c (flat_map quoted_byte x ++ 34 ∷ r) (flat_map quoted_byte y ++ 34 ∷ s)
+    (sym (append_assoc (quoted_byte b) (flat_map quoted_byte x) (34 ∷ r)) ∙ e ∙ append_assoc (quoted_byte c) (flat_map quoted_byte y) (34 ∷ s)) in
+    let tail = one_escaped x y r s head.1 in
+    (cc (head.0, tail.0), tail.1)
+
+quoted_then : (x r : List ℕ) → quotation x ++ r ≡ 34 ∷ (flat_map quoted_byte x ++ 34 ∷ r)
+quoted_then x r = ap (λ t. 34 ∷ t) (append_assoc (flat_map quoted_byte x) (34 ∷ []) r)
+
+-- a quoted text tells the text and where it ends
+pub one_quoted : (x y r s : List ℕ) → quotation x ++ r ≡ quotation y ++ s → (x ≡ y) × (r ≡ s)
+one_quoted x y r s e = one_escaped x y r s (ap (drop 1) (sym (quoted_then x r) ∙ e ∙ quoted_then y s))

@@ -1,0 +1,10 @@
+pub mod LineLaws
+pub mod Refusals
+pub mod ActLaws
+pub mod ReadingActs
+pub mod BodyLaws
+pub mod Limits
+pub mod Texts
+pub mod OneReading
+pub mod Escapes
+pub mod Telling

@@ -1,0 +1,5 @@
+pub mod Lines
+pub mod Languages
+pub mod Scenario
+pub mod Reading
+pub mod Transcript

@@ -1,0 +1,22 @@
+//! Laws of the definitions, on functions that do nothing.
+ghost use Rattle.std.specs.Prelude.{◌≡◌, ℕ, List};
+ghost use Rattle.replay_text.specs.Languages.{IsRefusedWithin};
+ghost use Rattle.replay_text.specs.Scenario.{SpellsScenario, IsScenario, most};
+ghost use Rattle.replay_text.specs.Transcript.{transcript, EventsAreWritable};
+ghost use Rattle.replay_text.specs.declared.note.Note.{Note};
+ghost use Rattle.replay_text.specs.declared.scenario.Scenario.{Scenario};
+
+/// A text spells one scenario.
+pub fn one_reading()
+    ensures { (text : List ℕ) (s t : Scenario) → SpellsScenario text s → SpellsScenario text t → s ≡ t }
+{}
+
+/// A text is refused at one line.
+pub fn one_refusal()
+    ensures { (text : List ℕ) (n m : ℕ) → IsRefusedWithin most IsScenario text n → IsRefusedWithin most IsScenario text m → n ≡ m }
+{}
+
+/// A transcript tells its events: no two lists of events are written alike, where statuses have 16 bits.
+pub fn a_transcript_tells_its_events()
+    ensures { (a b : List (List Note)) → EventsAreWritable a → EventsAreWritable b → transcript a ≡ transcript b → a ≡ b }
+{}

@@ -1,0 +1,15 @@
+//! Scenarios and transcripts as texts: how the events of a run are asked for, and how what happened in them is told.
+#![tactic(auto)]
+
+mod laws;
+mod lines;
+mod note;
+mod reader;
+mod scenario;
+mod transcript;
+
+pub use laws::{a_transcript_tells_its_events, one_reading, one_refusal};
+pub use note::{Note, NoteList};
+pub use reader::{LONGEST_SCENARIO, read_scenario};
+pub use scenario::{Act, ActList, Scenario, ScenarioFault, Step};
+pub use transcript::write_notes;

@@ -1,0 +1,7 @@
+use Rattle.sling_dispatch.proofs.Statuses.{session_writable}
+use Rattle.sling_dispatch.proofs.laws.a_transcript_tells_its_session.Goals as goal
+
+pub returns : goal.returns
+returns c s t n m a b first second same =
+    let writable = session_writable c.statuses_are_short.ensures.rendered c.statuses_are_short.ensures.error in
+    c.a_transcript_tells_its_events.ensures a b (writable s n a first) (writable t m b second) same

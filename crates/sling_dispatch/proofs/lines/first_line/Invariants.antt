@@ -1,6 +1,0 @@
-use Rattle.std.proofs.Common.{◌≡◌, take}
-use Rattle.sling_dispatch.specs.Lines.{newlines}
-use Rattle.sling_dispatch.proofs.lines.first_line.Given as goal
-
-abbrev pub invariant-loop-i : goal.invariant-loop-i
-invariant-loop-i l = newlines (take l.i l.text) ≡ 0

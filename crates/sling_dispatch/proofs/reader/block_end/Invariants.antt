@@ -1,9 +1,0 @@
-use Rattle.std.proofs.Common.{length}
-use Rattle.sling_dispatch.proofs.BodyLaws.{PassedBlock}
-use Rattle.sling_dispatch.proofs.reader.block_end.Given as goal
-
-abbrev pub invariant-loop-line : goal.invariant-loop-line
-invariant-loop-line l = PassedBlock l.text l.rest l.before
-
-abbrev pub decreases-loop-line : goal.decreases-loop-line
-decreases-loop-line l = length l.rest

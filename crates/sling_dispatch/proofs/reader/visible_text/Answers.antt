@@ -1,5 +1,0 @@
-use Rattle.sling_dispatch.proofs.Texts.{visible_is_text}
-use Rattle.sling_dispatch.proofs.reader.visible_text.Goals as goal
-
-pub unreachable-requires : goal.unreachable-requires
-unreachable-requires c = absurd (c.in-Err.ensures.cases.0 (visible_is_text c.args.bytes.now c.requires))

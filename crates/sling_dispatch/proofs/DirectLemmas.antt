@@ -5,7 +5,7 @@ use Rattle.sp_base.specs.Paths.{unmangled}
 use Rattle.resource_tree.specs.Content.{Content}
 use Rattle.publisher.specs.Errors.{error_answer}
 use Rattle.publisher.specs.Rendering.{rendered}
-use Rattle.sling_dispatch.specs.Targets.{begins_with_slash, path_bytes, ends_in_slash, path_of_bytes, with_path}
+use Rattle.http_front.specs.Targets.{begins_with_slash, path_bytes, ends_in_slash, path_of_bytes, with_path}
 use Rattle.sling_dispatch.specs.Rendering.{get_of, answer_to, direct_answer}
 
 -- the answer to a target by its decoded path alone

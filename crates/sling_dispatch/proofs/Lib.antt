@@ -2,7 +2,6 @@ pub mod Writing
 pub mod Sessions
 pub mod Meanings
 pub mod Completeness
-pub mod TargetLemmas
 pub mod DirectLemmas
 pub mod OneRun
 pub mod Words

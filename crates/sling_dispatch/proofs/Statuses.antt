@@ -9,11 +9,11 @@ use Rattle.replay_text.specs.declared.note.Note.TheVariants.{Answer as answered}
 use Rattle.replay_text.specs.declared.scenario.Step.{Step}
 use Rattle.replay_text.specs.declared.scenario.Step.TheVariants.{Direct}
 use Rattle.replay_text.specs.declared.scenario.Scenario.{Scenario}
-use Rattle.sling_dispatch.specs.declared.target.Target.{Target}
+use Rattle.http_front.specs.declared.target.Target.{Target}
 use Rattle.sling_dispatch.specs.Rendering.{answer_to, direct_answer, get_of}
 use Rattle.sling_dispatch.specs.Runs.{IsSession, Run, RunState}
 use Rattle.replay_text.specs.Transcript.{AreWritable, EventsAreWritable}
-use Rattle.sling_dispatch.specs.Targets.{target_of}
+use Rattle.http_front.specs.Targets.{target_of}
 
 module _ (short : (tree : Content) (ask : Ask) → (rendered tree ask).status < 1000) (error : (status : ℕ) → (error_answer status).status ≡ status) where
   answer_short : (content : Content) (target : Option Target) → (answer_to content target).status < 65536

@@ -1,4 +1,3 @@
-pub mod Targets
 pub mod Rendering
 pub mod Runs
 pub mod Fronts

@@ -5,8 +5,8 @@ use Rattle.sp_base.specs.declared.answer.Ask.{Ask}
 use Rattle.resource_tree.specs.Content.{Content}
 use Rattle.publisher.specs.Errors.{error_answer}
 use Rattle.publisher.specs.Rendering.{rendered}
-use Rattle.sling_dispatch.specs.Targets.{target_of}
-use Rattle.sling_dispatch.specs.declared.target.Target.{Target}
+use Rattle.http_front.specs.Targets.{target_of}
+use Rattle.http_front.specs.declared.target.Target.{Target}
 
 -- what the publisher is asked for a target: a GET of it, at the one host that is asked
 abbrev pub get_of : Target → Ask

@@ -1,7 +1,7 @@
 //! Laws of the definitions, on functions that do nothing.
 ghost use Rattle.std.specs.Prelude.{◌≡◌, ◌⊎◌, ◌<◌, ℕ, List, Some};
 ghost use Rattle.resource_tree.specs.Content.{Content};
-ghost use Rattle.sling_dispatch.specs.Targets.{begins_with_slash, path_bytes};
+ghost use Rattle.http_front.specs.Targets.{begins_with_slash, path_bytes};
 ghost use Rattle.sling_dispatch.specs.Rendering.{direct_answer};
 ghost use Rattle.replay_text.specs.Scenario.{Reads};
 ghost use Rattle.sling_dispatch.specs.Endings.{Told, Call, Means, IsDue, IsReplay, HasNotFailed, HasContent};

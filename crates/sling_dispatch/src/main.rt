@@ -12,7 +12,6 @@ mod rendering;
 #[cfg(test)]
 mod run_tests;
 mod streams;
-mod target;
 #[cfg(test)]
 mod tests;
 

@@ -2,7 +2,7 @@
 ghost use Rattle.std.specs.Prelude.{◌≡◌, IfOk};
 ghost use Rattle.sling_dispatch.specs.Rendering.{get_of, direct_answer};
 
-use crate::target::{Target, read_target};
+use http_front::{Target, read_target};
 use publisher::{Publisher, error_answer};
 use sp_base::{Answer, Ask, ByteBuf, Mem, TextBuf};
 use std::alloc::Global;

@@ -4,30 +4,19 @@ use Rattle.std.specs.Prelude.{flat_map, nat_lt, nat_le}
 use Rattle.std.proofs.lemmas.Bool.{cases_eq, cases_lt}
 use Rattle.std.proofs.lemmas.Bool.Decides.{nat_tests}
 use Rattle.replay_text.specs.Transcript.{hex, quoted_byte, quotation}
-
-unhex : ℕ → ℕ
-unhex d = if nat_lt d 58 then d - 48 else d - 87
+use Rattle.replay_text.specs.EventLines.{AreBytes}
+use Rattle.replay_text.specs.Quoting.{unhex, named, value_of, BeginsNoByte}
 
 unhex_small : (n : ℕ) → n < 10 → unhex (hex n) ≡ n
-unfolding unhex
 unhex_small n lt = grind (arith, nat_tests)
 
 unhex_large : (n : ℕ) → 10 ≤ n → unhex (hex n) ≡ n
-unfolding unhex
 unhex_large n le = grind (arith, nat_tests)
 
 unhex-hex : (n : ℕ) → unhex (hex n) ≡ n
 unhex-hex n = ⊎_elim (λ (lt : n < 10). unhex_small n lt) (λ (le : 10 ≤ n). unhex_large n le) (cases_lt n 10)
 
--- the byte that a letter after a backslash stands for, where two digits may follow
-named : ℕ → ℕ → ℕ → ℕ
-named letter high low = if letter == 34 then 34 else (if letter == 92 then 92 else (if letter == 114 then 13 else (if letter == 110 then 10 else
-    (if letter == 116 then 9 else 16 * unhex high + unhex low))))
-
--- the byte whose spelling begins the text, and the text after the spelling
-value_of : List ℕ → ℕ
-value_of text = if get_or text 0 0 == 92 then named (get_or text 1 0) (get_or text 2 0) (get_or text 3 0) else get_or text 0 0
-
+-- the text after the spelling that begins it
 rest_of : List ℕ → List ℕ
 rest_of text = if get_or text 0 0 == 92 then (if get_or text 1 0 == 120 then drop 4 text else drop 2 text) else drop 1 text
 
@@ -105,3 +94,39 @@ quoted_then x r = ap (λ t. 34 ∷ t) (append_assoc (flat_map quoted_byte x) (34
 -- a quoted text tells the text and where it ends
 pub one_quoted : (x y r s : List ℕ) → quotation x ++ r ≡ quotation y ++ s → (x ≡ y) × (r ≡ s)
 one_quoted x y r s e = one_escaped x y r s (ap (drop 1) (sym (quoted_then x r) ∙ e ∙ quoted_then y s))
+
+-- a text that begins with the spelling of a byte has that byte as its value
+pub value_of-spelled : (text : List ℕ) (b : ℕ) (rest : List ℕ) → text ≡ quoted_byte b ++ rest → value_of text ≡ b
+value_of-spelled text b rest e = ap value_of e ∙ (told_escape b rest).value
+
+either : (t : Bool) (x y : List ℕ) → 0 < length x → 0 < length y → 0 < length (if t then x else y)
+either true x y p q = p
+either false x y p q = q
+
+-- a spelling has some byte
+pub spelling_has_bytes : (b : ℕ) → 0 < length (quoted_byte b)
+spelling_has_bytes b =
+    either (b == 34) _ _ (omega arith) (either (b == 92) _ _ (omega arith) (either (b == 13) _ _ (omega arith) (either (b == 10) _ _ (omega arith)
+    (either (b == 9) _ _ (omega arith) (either (nat_le 32 b && nat_le b 126) _ _ (omega arith) (omega arith))))))
+
+-- bytes that were told of a quotation's text, where no more can be: what is left is its end
+pub goes_on : (x y r : List ℕ) → AreBytes y → BeginsNoByte r → flat_map quoted_byte x ++ r ≡ flat_map quoted_byte y ++ 34 ∷ [] → r ≡ 34 ∷ []
+goes_on [] [] r are none_begins e = e
+goes_on [] (c ∷ y) r are none_begins e = absurd (none_begins c (flat_map quoted_byte y ++ 34 ∷ []) are.0 (e ∙ append_assoc (quoted_byte c) (flat_map quoted_byte y) (34 ∷ [])))
+goes_on (b ∷ x) [] r are none_begins e = absurd (no_quote b (flat_map quoted_byte x ++ r) [] (sym (append_assoc (quoted_byte b) (flat_map quoted_byte x) r) ∙ e))
+goes_on (b ∷ x) (c ∷ y) r are none_begins e =
+    let head = one_escape b c (flat_map quoted_byte x ++ r) (flat_map quoted_byte y ++ 34 ∷ [])
+    (sym (append_assoc (quoted_byte b) (flat_map quoted_byte x) r) ∙ e ∙ append_assoc (quoted_byte c) (flat_map quoted_byte y) (34 ∷ [])) in
+    goes_on x y r are.1 none_begins head.1
+
+-- one byte more
+pub AreBytes-snoc : (bytes : List ℕ) (b : ℕ) → AreBytes bytes → b < 256 → AreBytes (bytes ++ b ∷ [])
+AreBytes-snoc [] b are small = (small, tt)
+AreBytes-snoc (c ∷ bytes) b are small = (are.0, AreBytes-snoc bytes b are.1 small)
+
+pub spelled-snoc : (bytes : List ℕ) (b : ℕ) (rest : List ℕ) → flat_map quoted_byte (bytes ++ b ∷ []) ++ rest ≡ flat_map quoted_byte bytes ++ (quoted_byte b ++ rest)
+spelled-snoc [] b rest = append_assoc (quoted_byte b) [] rest
+spelled-snoc (c ∷ bytes) b rest =
+    append_assoc (quoted_byte c) (flat_map quoted_byte (bytes ++ b ∷ [])) rest
+    ∙ ap (λ t. quoted_byte c ++ t) (spelled-snoc bytes b rest)
+    ∙ sym (append_assoc (quoted_byte c) (flat_map quoted_byte bytes) (quoted_byte b ++ rest))

@@ -8,3 +8,4 @@ pub mod Texts
 pub mod OneReading
 pub mod Escapes
 pub mod Telling
+pub mod WordLemmas

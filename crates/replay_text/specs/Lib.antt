@@ -3,3 +3,5 @@ pub mod Languages
 pub mod Scenario
 pub mod Reading
 pub mod Transcript
+pub mod EventLines
+pub mod Quoting

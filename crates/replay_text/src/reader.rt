@@ -22,13 +22,13 @@ fn all_visible(text: &[u8]) -> bool
     text.iter().all(|b| *b >= 33 && *b <= 126)
 }
 
-fn is_target_text(text: &[u8]) -> bool
+pub fn is_target_text(text: &[u8]) -> bool
     ensures { result ≡ is_target text.now }
 {
     !text.is_empty() && all_visible(text)
 }
 
-fn visible_text(alloc: Global, bytes: &[u8]) -> Mem<TextBuf>
+pub fn visible_text(alloc: Global, bytes: &[u8]) -> Mem<TextBuf>
     requires { IsTrue (list_all is_visible bytes.now) }
     ensures { IfOk result (λ t. t ≡ bytes.now) }
 {

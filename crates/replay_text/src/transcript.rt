@@ -21,7 +21,7 @@ pub fn push_number(alloc: Global, out: &mut Vec<u8>, n: u64) -> Mem<()>
     push(out, text.as_bytes())
 }
 
-fn hex_digit(n: u8) -> u8
+pub fn hex_digit(n: u8) -> u8
     requires { n < 16 }
     ensures { result ≡ hex n }
 {

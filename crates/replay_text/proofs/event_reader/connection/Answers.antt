@@ -1,0 +1,16 @@
+use Rattle.std.proofs.Common.{rules, ◌≡◌, ◌<◌, ℕ, List, ◌∙◌, sym, arith, subst}
+use Rattle.std.specs.Fmt.{decimal}
+use Rattle.std.specs.Prelude.{IfNone, IfSome}
+use Rattle.std.proofs.lemmas.Fmt.{decimal_injective}
+use Rattle.replay_text.proofs.event_reader.connection.Goals as goal
+
+pub returns-in_default-clause-none : goal.returns-in_default-clause-none
+returns-in_default-clause-none c = λ m small e.
+    let none = subst (λ o. IfNone o ((n : ℕ) → n < 18446744073709551616 → c.args.word.now ≡ decimal n → ⊥)) c.in_default.is c.in_ok-n.ensures.none in
+    none m (omega (arith, small)) e
+
+pub returns-else-n-lt4294967296-clause-none : goal.returns-else-n-lt4294967296-clause-none
+returns-else-n-lt4294967296-clause-none c = λ m small e.
+    let some : c.args.word.now ≡ decimal c.in-Some.n = subst (λ o. IfSome o (λ n. c.args.word.now ≡ decimal n)) c.in-Some.is c.in_ok-n.ensures.some in
+    let bounded : c.in-Some.n < 18446744073709551616 = search rules in
+    omega (arith, small, decimal_injective m c.in-Some.n (omega (arith, small)) bounded (sym e ∙ some), c.if-n-lt4294967296.false)

@@ -1,0 +1,73 @@
+-- Scaffolding: how the bytes of a quoted text are told from their spellings, for the private functions of the readers and for proofs
+-- alone. A reader of the theorem needs none of it.
+use Rattle.std.specs.Fmt.{decimal}
+use Rattle.std.specs.Prelude.{◌≡◌, ◌≢◌, ◌<◌, ◌+◌, ◌-◌, ◌*◌, ◌++◌, ◌==◌, ℕ, Bool, not, if◌then◌else◌, nat_lt, List, [], ◌∷◌, get_or, codes, IsTrue}
+use Rattle.replay_text.specs.Transcript.{quoted_byte, quotation}
+use Rattle.replay_text.specs.EventLines.{AreBytes, IsConnection, IsFlight, flight_text}
+use Rattle.replay_text.specs.Scenario.{is_target}
+use Rattle.replay_text.specs.declared.event_line.Flight.{Flight}
+
+-- the number that a hexadecimal digit stands for
+abbrev pub unhex : ℕ → ℕ
+unhex d = if nat_lt d 58 then d - 48 else d - 87
+
+-- the byte that a letter after a backslash stands for, where two digits may follow
+unfoldable pub named : ℕ → ℕ → ℕ → ℕ
+named letter high low = if letter == 34 then 34 else (if letter == 92 then 92 else (if letter == 114 then 13 else (if letter == 110 then 10 else
+    (if letter == 116 then 9 else 16 * unhex high + unhex low))))
+
+-- the byte whose spelling begins the text, where one does
+unfoldable pub value_of : List ℕ → ℕ
+value_of text = if get_or text 0 0 == 92 then named (get_or text 1 0) (get_or text 2 0) (get_or text 3 0) else get_or text 0 0
+
+-- no byte's spelling begins the text
+abbrev pub BeginsNoByte : List ℕ → Type 0
+BeginsNoByte text = (b : ℕ) (rest : List ℕ) → b < 256 → text ≢ quoted_byte b ++ rest
+
+-- the text is no quotation of bytes
+abbrev pub IsNoQuotation : List ℕ → Type 0
+IsNoQuotation text = (bytes : List ℕ) → AreBytes bytes → text ≢ quotation bytes
+
+-- not a blank
+abbrev pub not_blank : ℕ → Bool
+not_blank b = not (b == 32)
+
+-- the text begins with a word, a number of a connection and a blank, and goes on with rest
+abbrev pub connection_text : List ℕ → ℕ → List ℕ → List ℕ
+connection_text word c rest = word ++ (decimal c ++ 32 ∷ rest)
+
+-- the line has none of these forms
+abbrev pub IsNoDirect : List ℕ → Type 0
+IsNoDirect line = (target : List ℕ) → IsTrue (is_target target) → line ≢ codes "direct " ++ target
+
+-- a word, a connection, and visible bytes
+abbrev pub IsNoTargetOf : List ℕ → List ℕ → Type 0
+IsNoTargetOf word line = (c : ℕ) (target : List ℕ) → IsConnection c → IsTrue (is_target target) → line ≢ connection_text word c target
+
+abbrev pub IsNoClose : List ℕ → Type 0
+IsNoClose line = (c : ℕ) → IsConnection c → line ≢ codes "close " ++ decimal c
+
+abbrev pub IsNoBytes : List ℕ → Type 0
+IsNoBytes line = (c : ℕ) (bytes : List ℕ) → IsConnection c → AreBytes bytes → bytes ≢ [] → line ≢ connection_text (codes "bytes ") c (quotation bytes)
+
+abbrev pub IsNoPost : List ℕ → Type 0
+IsNoPost line = (c : ℕ) (target body : List ℕ) → IsConnection c → IsTrue (is_target target) → AreBytes body
+    → line ≢ connection_text (codes "post ") c (target ++ 32 ∷ quotation body)
+
+-- a word and a flight
+abbrev pub IsNoFlightOf : List ℕ → List ℕ → Type 0
+IsNoFlightOf word line = (flight : Flight) → IsFlight flight → line ≢ word ++ flight_text flight
+
+-- the line is of no connection
+pub record IsOfNoConnection (line : List ℕ) : Type 0 where
+  pub opens : IsNoTargetOf (codes "open ") line
+  pub closes : IsNoClose line
+  pub bytes : IsNoBytes line
+  pub gets : IsNoTargetOf (codes "get ") line
+  pub posts : IsNoPost line
+
+-- the line is of no flight
+pub record IsOfNoFlight (line : List ℕ) : Type 0 where
+  pub renders : IsNoFlightOf (codes "render ") line
+  pub delivers : IsNoFlightOf (codes "deliver ") line
+  pub loses : IsNoFlightOf (codes "lose ") line

@@ -1,5 +1,6 @@
 pub mod Digits
 pub mod NameLemmas
+pub mod NameRoom
 pub mod NameSizes
 pub mod MediaTypes
 pub mod PagePlaces

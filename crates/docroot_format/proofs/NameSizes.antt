@@ -8,21 +8,21 @@ use Rattle.sp_outside.specs.Files.{IsName}
 use Rattle.cover_rules.specs.Names.{file_byte, file_name, has_name, is_plain}
 use Rattle.docroot_format.specs.Names.{folder_name, body_name, head_name, stat_name, have_names, is_place}
 
-first_true : (a b : Bool) → a && b ≡ true → a ≡ true
+pub first_true : (a b : Bool) → a && b ≡ true → a ≡ true
 first_true true b e = refl
 first_true false b e = absurd (true≢false (sym e))
 
-second_true : (a b : Bool) → a && b ≡ true → b ≡ true
+pub second_true : (a b : Bool) → a && b ≡ true → b ≡ true
 second_true true b e = e
 second_true false b e = absurd (true≢false (sym e))
 
-within : (n m : ℕ) → nat_le n m ≡ true → n ≤ m
+pub within : (n m : ℕ) → nat_le n m ≡ true → n ≤ m
 within n m e = grind (arith, nat_tests)
 
 below : (n m : ℕ) → nat_lt n m ≡ true → n < m
 below n m e = grind (arith, nat_tests)
 
-folder_len : (segs : List (List ℕ)) → have_names segs ≡ true → length (folder_name segs) ≤ 201 * length segs
+pub folder_len : (segs : List (List ℕ)) → have_names segs ≡ true → length (folder_name segs) ≤ 201 * length segs
 folder_len [] e = omega arith
 folder_len (seg ∷ segs) e =
     let short : length (file_name seg) ≤ 200 = within (length (file_name seg)) 200 (first_true (has_name seg) (have_names segs) e) in

@@ -6,11 +6,13 @@ mod head;
 mod laws;
 mod names;
 mod readings;
+mod stat;
 mod texts;
 
 pub use fault::FileFault;
 pub use head::{Head, head_in};
 pub use laws::{a_page_has_files, names_are_apart, names_lie_in_the_docroot, texts_are_read_back};
-pub use names::{EPOCH_NAME, body_name, head_name, stat_name};
+pub use names::{EPOCH_NAME, body_name, head_name};
 pub use readings::{epoch_in, stat_in};
-pub use texts::{epoch_text, head_text, stat_text};
+pub use stat::{StatName, StatText, stat_name, stat_text};
+pub use texts::{epoch_text, head_text};

@@ -11,7 +11,7 @@ use std::alloc::Global;
 /// The file that counts the sessions.
 pub const EPOCH_NAME: &str = ".epoch";
 
-fn is_plain(b: u8) -> bool
+pub(crate) fn is_plain(b: u8) -> bool
     ensures { result ≡ file.is_plain b }
 {
     b.is_ascii_alphanumeric() || (b == b'.' || (b == b'_' || b == b'-'))
@@ -85,16 +85,5 @@ pub fn head_name(alloc: Global, folder: &Path, file: &str) -> Mem<TextBuf>
     let mut name = folder_name(alloc, folder)?;
     push_segment(&mut name, file)?;
     name.push_str("%h")?;
-    Ok(TextBuf::from(name))
-}
-
-/// The name of the file of a folder's stamp.
-#[tactic(auto, using(crate::proofs::NameSizes::stat_fits))]
-pub fn stat_name(alloc: Global, folder: &Path) -> Mem<TextBuf>
-    ensures name { IfOk result (λ name. name ≡ spec.stat_name folder.now) }
-    ensures fits { IfOk result (λ name. IsTrue (spec.have_names folder.now) → IsName name) }
-{
-    let mut name = folder_name(alloc, folder)?;
-    name.push_str(".stat")?;
     Ok(TextBuf::from(name))
 }

@@ -1,4 +1,4 @@
-//! The texts of heads, .stat files and the epoch.
+//! The texts of heads and of the epoch.
 ghost use Rattle.std.specs.Prelude.{◌≡◌, IfOk};
 ghost use Rattle.docroot_format.specs.Texts as spec;
 
@@ -10,14 +10,6 @@ pub fn head_text(alloc: Global, epoch: u64, count: u64, size: usize, kind: &str)
     ensures { IfOk result (λ text. text ≡ spec.head_text epoch count size kind.now) }
 {
     let text = format!(in alloc; "page 1 {epoch} {count} {size} {kind}\n")?;
-    Ok(TextBuf::from(text))
-}
-
-/// The stamp of a folder.
-pub fn stat_text(alloc: Global, epoch: u64, count: u64) -> Mem<TextBuf>
-    ensures { IfOk result (λ text. text ≡ spec.stat_text epoch count) }
-{
-    let text = format!(in alloc; "stat 1 {epoch} {count}\n")?;
     Ok(TextBuf::from(text))
 }
 

@@ -13,21 +13,17 @@ use sp_base::Path;
 use sp_outside::Disk;
 use std::alloc::Global;
 
-/// Gives a folder a stamp. Each segment of the folder has a file name of at most 200 bytes.
-pub fn touch<D: Disk>(
-    alloc: Global,
-    disk: &mut D,
-    folder: &Path,
-    stamp: Stamp,
-) -> Result<(), FileFault>
+/// Gives a folder a stamp. Each segment of the folder has a file name of at most 200 bytes. This takes no memory but what the disk's
+/// `put` takes.
+pub fn touch<D: Disk>(disk: &mut D, folder: &Path, stamp: Stamp) -> Result<(), FileFault>
     requires { IsTrue (have_names folder.now) }
     ensures ok { OnOk result (D.files disk.new ≡ told_with (D.files disk.old) (name.stat_name folder.now) (text.stat_text stamp.epoch stamp.count)) }
     ensures err { IfErr result (IsLeft (D.files disk.old) (told_with (D.files disk.old) (name.stat_name folder.now) (text.stat_text stamp.epoch stamp.count)) (D.files disk.new)) }
     ensures cause { HasFileCause (D.faults disk.old) (D.faults disk.new) result }
 {
-    let name = stat_name(alloc, folder)?;
-    let text = stat_text(alloc, stamp.epoch, stamp.count)?;
-    match disk.put(name.text(), text.text().as_bytes()) {
+    let name = stat_name(folder);
+    let text = stat_text(stamp.epoch, stamp.count);
+    match disk.put(name.as_str(), text.as_str().as_bytes()) {
         Ok(()) => Ok(()),
         Err(fault) => Err(FileFault::from(fault)),
     }
@@ -57,8 +53,8 @@ pub fn stamp_of<D: Disk>(
     ensures same { D.files disk.new ≡ D.files disk.old }
     ensures cause { HasFileCause (D.faults disk.old) (D.faults disk.new) result }
 {
-    let name = stat_name(alloc, folder)?;
-    match disk.get(alloc, name.text()) {
+    let name = stat_name(folder);
+    match disk.get(alloc, name.as_str()) {
         Ok(Some(bytes)) => Ok(Some(stamp_in(bytes.bytes()))),
         Ok(None) => Ok(None),
         Err(fault) => Err(FileFault::from(fault)),

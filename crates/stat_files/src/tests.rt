@@ -24,7 +24,7 @@ fn content(alloc: Global) -> Option<Path>
 
 fn touched(alloc: Global, disk: &mut MemDisk) -> Result<(), FileFault> {
     match content(alloc) {
-        Some(folder) => touch(alloc, disk, &folder, Stamp { epoch: 1, count: 5 }),
+        Some(folder) => touch(disk, &folder, Stamp { epoch: 1, count: 5 }),
         None => Err(FileFault::NoMemory),
     }
 }

@@ -23,7 +23,7 @@ segment_room zero (seg ∷ segs) d lt e =
 segment_room (suc n) (seg ∷ segs) d lt e =
     let short : length (file_name seg) ≤ 200 = within (length (file_name seg)) 200 (first_true (has_name seg) (have_names segs) e) in
     let rest : length (folder_name (take n segs)) + length (file_name (get_or segs n d)) < 201 * length segs
-      = segment_room n segs d (omega (arith, lt)) (second_true (has_name seg) (have_names segs) e) in
+    = segment_room n segs d (omega (arith, lt)) (second_true (has_name seg) (have_names segs) e) in
     omega (arith, short, rest, length-append (file_name seg ++ 47 ∷ []) (folder_name (take n segs)), length-append (file_name seg) (47 ∷ []))
 
 -- a name that grew by the first bytes of a segment has room for the next

@@ -4,7 +4,10 @@
 
 mod aliases;
 mod answer;
+mod change;
+mod claimed;
 mod claims;
+mod claims_change;
 mod index;
 mod laws;
 mod locations;
@@ -18,6 +21,7 @@ mod vanity_paths;
 mod words;
 
 pub use answer::MapAnswer;
+pub use change::IndexChange;
 pub use index::MapIndex;
 pub use laws::{
     a_text_is_mapped_to_one_answer, a_text_without_a_pair_is_mapped_to_itself,

@@ -1,6 +1,6 @@
 -- Who claims a text after one more claim, and after a node's.
 use Rattle.std.proofs.Common.{◌≡◌, ◌<◌, ◌≤◌, ◌+◌, ℕ, Bool, true, false, cond, List, [], ◌∷◌, ◌++◌, Option, Some, None, map, take, length, get_or, refl, sym, ◌∙◌, ap, arith, ⊎_elim}
-use Rattle.std.specs.Prelude.{◌||◌, ◌&&◌, ◌==◌, not, codes, is_some}
+use Rattle.std.specs.Prelude.{◌||◌, ◌&&◌, ◌==◌, not, codes, is_some, Result, Ok, Err, IsOk, OnOk}
 use Rattle.std.specs.List.{list_any}
 use Rattle.std.specs.Map.{lookup}
 use Rattle.std.specs.Option.{option_map_or}
@@ -22,7 +22,7 @@ pub lookup_shown : {K B X : Type 0} (f : K → B) (test : B → Bool) (es : List
 lookup_shown f test [] = refl
 lookup_shown f test ((k, v) ∷ es) = ap (λ r. cond (test (f k)) (Some v) r) (lookup_shown f test es)
 
-or_false : (x : Bool) → (x || false) ≡ x
+pub or_false : (x : Bool) → (x || false) ≡ x
 or_false true = refl
 or_false false = refl
 
@@ -30,7 +30,7 @@ and_true : (x : Bool) → (x && true) ≡ x
 and_true true = refl
 and_true false = refl
 
-and_false : (x : Bool) → (x && false) ≡ false
+pub and_false : (x : Bool) → (x && false) ≡ false
 and_false true = refl
 and_false false = refl
 
@@ -89,7 +89,7 @@ all_nodes tree q test paths x all is = is ∙ ap (λ z. z && option_map_or test 
 
 -- ---- the claims after a call
 
-text_sym : (a b : List ℕ) → bytes_eq a b ≡ bytes_eq b a
+pub text_sym : (a b : List ℕ) → bytes_eq a b ≡ bytes_eq b a
 text_sym a b =
     ⊎_elim
     (λ (same : bytes_eq a b ≡ true). same ∙ sym (ap (bytes_eq b) (same_text a b (sym same)) ∙ nat_list_eq_equiv.refl b))
@@ -233,3 +233,28 @@ set_within longest more old new text paths within grown fits is t long = ⊎_eli
     (λ (same : bytes_eq text t ≡ true). let one : text ≡ t = same_text text t (sym same) in absurd (omega (arith, long, fits, ap length one)))
     (λ (other : bytes_eq text t ≡ false). is t ∙ ap (λ b. cond b paths (claimants old t)) other ∙ within t (omega (arith, long, grown)))
     (cases_Bool (bytes_eq text t))
+
+-- ---- the texts that a node claims
+
+-- one more text
+pub pushed_any : (t : List ℕ) (texts : List (List ℕ)) (text : List ℕ) → list_any (bytes_eq t) (texts ++ text ∷ []) ≡ (list_any (bytes_eq t) texts || bytes_eq t text)
+pushed_any t texts text = list_any-append (bytes_eq t) texts (text ∷ []) ∙ ap (λ b. list_any (bytes_eq t) texts || b) (or_false (bytes_eq t text))
+
+-- what the first words claim, and one word more
+pub any_word : {W : Type 0} (test : W → Bool) (words : List W) (i : ℕ) (word : W) (old new : Bool) → i < length words → word ≡ get_or words i word → old ≡ list_any test (take i words) → new ≡ (old || test word) → new ≡ list_any test (take (i + 1) words)
+any_word test words i word old new within item so_far is =
+    is ∙ ap (λ b. b || test word) so_far ∙ ap (λ w. list_any test (take i words) || test w) item ∙ sym (list_any_more test words i word within)
+
+-- what the node of a look-up claims
+pub claims_alias_is : (tree : Content) (path : List (List ℕ)) (found : Option Node) → found ≡ node_at tree path → (t : List ℕ) → claims_alias tree path t ≡ option_map_or (λ n. node_claims_alias path n t) found false
+unfolding claims_alias
+claims_alias_is tree path found is t = ap (λ o. option_map_or (λ (n : Node). node_claims_alias path n t) o false) (sym is)
+
+pub claims_vanity_path_is : (tree : Content) (path : List (List ℕ)) (found : Option Node) → found ≡ node_at tree path → (t : List ℕ) → claims_vanity_path tree path t ≡ option_map_or (λ n. node_claims_vanity_path n t) found false
+unfolding claims_vanity_path
+claims_vanity_path_is tree path found is t = ap (λ o. option_map_or (λ (n : Node). node_claims_vanity_path n t) o false) (sym is)
+
+-- what a call that succeeds promises
+pub from_ok : {A E P : Type 0} (r : Result A E) → IsOk r → OnOk r P → P
+from_ok (Ok x) ok p = p
+from_ok (Err e) ok p = absurd (true≢false (sym ok))

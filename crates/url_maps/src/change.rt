@@ -68,7 +68,16 @@ fn change_by(alloc: Global, index: &MapIndex, tree: &Tree, patch: &Patch) -> Mem
         let Some((path, row)) = patch.at(place) else {
             continue;
         };
-        note_row(&mut aliases, &mut vanity_paths, alloc, index, tree, patch, path, row)?;
+        note_row(
+            &mut aliases,
+            &mut vanity_paths,
+            alloc,
+            index,
+            tree,
+            patch,
+            path,
+            row,
+        )?;
     }
     Ok(IndexChange {
         aliases,

@@ -6,16 +6,16 @@ ghost use Rattle.url_maps.specs.Claims.{Adds, claimants};
 ghost use Rattle.url_maps.specs.Changes.{claimants_over};
 
 use crate::claims_change::ClaimsChange;
-use sp_base::{Mem, NoMemory, Path, PathList, TextList};
+use indexmap::IndexMap;
+use sp_base::{Mem, NoMemory, Path, PathList, TextBuf};
 use std::alloc::Global;
-use std::collections::HashMap;
 use std::hash::RandomState;
 use std::marker::Model;
 
 /// The paths of the nodes that claim a text. Contracts see the rows in no order that is promised, and how many more fit.
 #[derive(Drop)]
 pub(crate) struct Claims {
-    table: HashMap<String, PathList, RandomState>,
+    table: IndexMap<String, PathList, RandomState>,
     /// No text of the table has more bytes, so longer ones needn't be hashed.
     longest: usize,
 }
@@ -37,7 +37,7 @@ impl Claims {
         ensures { result.rows ≡ [] }
     {
         Claims {
-            table: HashMap::with_hasher(alloc, seeds),
+            table: IndexMap::with_hasher(alloc, seeds),
             longest: 0,
         }
     }
@@ -68,7 +68,7 @@ impl Claims {
         ensures value { result ≡ claimants self.old.rows text.now }
         ensures rest { (t : List ℕ) → claimants self.new.rows t ≡ (if bytes_eq text.now t then [] else claimants self.old.rows t) }
     {
-        match self.table.remove(text) {
+        match self.table.swap_remove(text) {
             Some(paths) => paths,
             None => PathList::new(alloc),
         }
@@ -84,10 +84,10 @@ impl Claims {
     }
 
     // Adds a path to the claimants of each of some texts.
-    pub(crate) fn add_all(&mut self, alloc: Global, texts: &TextList, path: &Path) -> Mem<()>
+    pub(crate) fn add_all(&mut self, alloc: Global, texts: &[TextBuf], path: &Path) -> Mem<()>
         ensures { OnOk result (Adds path.now (λ t. list_any (bytes_eq t) texts.now) self.old.rows self.new.rows) }
     {
-        for text in texts.as_slice() {
+        for text in texts {
             self.add(alloc, text.text(), path.duplicate(alloc)?)?;
         }
         Ok(())
@@ -96,7 +96,7 @@ impl Claims {
     // Makes room for so many more texts.
     pub(crate) fn make_room(&mut self, n: usize) -> Mem<()>
         ensures rows { self.new.rows ≡ self.old.rows }
-        ensures room { OnOk result (n ≤ self.new.room) }
+        ensures ok { OnOk result (n ≤ self.new.room) }
         ensures kept { self.old.room ≤ self.new.room }
     {
         self.table.reserve(n)?;
@@ -121,10 +121,10 @@ impl Claims {
         ensures room { self.old.room ≤ self.new.room + 1 }
     {
         if paths.is_empty() {
-            drop(self.table.remove(text.as_str()));
+            drop(self.table.swap_remove(text.as_str()));
         } else {
             self.longest = self.longest.max(text.len());
-            let _ = self.table.insert(text, paths);
+            drop(self.table.insert(text, paths));
         }
     }
 }

@@ -1,5 +1,5 @@
 // The texts whose claimants a patch changes.
-ghost use Rattle.std.specs.Prelude.{◌≡◌, ◌++◌, [], ℕ, List, IfOk, OnOk, None, Some, cond, filter, is_none, length, option_copied, option_to_list};
+ghost use Rattle.std.specs.Prelude.{◌≡◌, ◌++◌, [], ℕ, List, IfOk, OnOk, None, Some, cond, length, option_copied, option_to_list};
 ghost use Rattle.std.specs.List.{list_any};
 ghost use Rattle.std.specs.Map.{lookup};
 ghost use Rattle.std.specs.Str.{bytes_eq};
@@ -9,7 +9,7 @@ ghost use Rattle.url_maps.specs.Noting.{Notes, NotesRow, is_at_some, kept, noted
 use crate::claims::Claims;
 use indexmap::IndexMap;
 use resource_tree::Patch;
-use sp_base::{Mem, NoMemory, Path, PathList, TextList};
+use sp_base::{Mem, NoMemory, Path, PathList, TextBuf, TextList};
 use std::alloc::Global;
 use std::hash::RandomState;
 use std::marker::Model;
@@ -56,8 +56,8 @@ impl ClaimsChange {
     ) -> Mem<()>
         ensures { OnOk result (NotesRow claims.now.rows patch.now path.now (λ t. list_any (bytes_eq t) before.now) (λ t. list_any (bytes_eq t) after.now) self.old self.new) }
     {
-        self.note_all(alloc, claims, patch, before, None)?;
-        self.note_all(alloc, claims, patch, after, Some(path))?;
+        self.note_all(alloc, claims, patch, before.as_slice(), None)?;
+        self.note_all(alloc, claims, patch, after.as_slice(), Some(path))?;
         Ok(())
     }
 
@@ -67,12 +67,12 @@ impl ClaimsChange {
         alloc: Global,
         claims: &Claims,
         patch: &Patch,
-        texts: &TextList,
+        texts: &[TextBuf],
         path: Option<&Path>,
     ) -> Mem<()>
         ensures { OnOk result (Notes claims.now.rows patch.now (is_at_some (option_copied path.entry)) (λ t. list_any (bytes_eq t) texts.now) self.old self.new) }
     {
-        for text in texts.as_slice() {
+        for text in texts {
             self.note(alloc, claims, patch, text.text(), path)?;
         }
         Ok(())
@@ -88,15 +88,27 @@ impl ClaimsChange {
     ) -> Mem<()>
         ensures { OnOk result ((t : List ℕ) → lookup (bytes_eq t) self.new ≡ cond (bytes_eq text.now t) (Some (noted claims.now.rows patch.now self.old text.now ++ option_to_list (option_copied path.entry))) (lookup (bytes_eq t) self.old)) }
     {
-        let mut paths = match self.take(text) {
-            Some(paths) => paths,
-            None => kept(alloc, claims.get(text), patch)?,
-        };
-        if let Some(path) = path {
-            paths.push(path.duplicate(alloc)?)?;
-        }
+        let mut paths = self.take_noted(alloc, claims, patch, text)?;
+        push_some(&mut paths, alloc, path)?;
         self.set(alloc, text, paths)?;
         Ok(())
+    }
+
+    // Takes the row of a text away, and answers its claimants: those that the patch leaves, where it had no row.
+    fn take_noted(
+        &mut self,
+        alloc: Global,
+        claims: &Claims,
+        patch: &Patch,
+        text: &str,
+    ) -> Mem<PathList>
+        ensures value { IfOk result (λ paths. paths ≡ noted claims.now.rows patch.now self.old text.now) }
+        ensures rest { OnOk result ((t : List ℕ) → lookup (bytes_eq t) self.new ≡ cond (bytes_eq text.now t) None (lookup (bytes_eq t) self.old)) }
+    {
+        match self.take(text) {
+            Some(paths) => Ok(paths),
+            None => kept(alloc, claims.get(text), patch),
+        }
     }
 
     // Takes the row of a text away.
@@ -114,6 +126,15 @@ impl ClaimsChange {
         self.rows.insert(key, paths)?;
         Ok(())
     }
+}
+
+fn push_some(paths: &mut PathList, alloc: Global, path: Option<&Path>) -> Mem<()>
+    ensures { OnOk result (paths.new ≡ paths.old ++ option_to_list (option_copied path.entry)) }
+{
+    if let Some(path) = path {
+        paths.push(path.duplicate(alloc)?)?;
+    }
+    Ok(())
 }
 
 // Those of some paths at which a patch has nothing.

@@ -56,8 +56,8 @@ fn add_claims(
 {
     let node = tree.node(path);
     let texts = alias_texts(alloc, path, node)?;
-    aliases.add_all(alloc, &texts, path)?;
+    aliases.add_all(alloc, texts.as_slice(), path)?;
     let texts = vanity_texts(alloc, node)?;
-    vanity_paths.add_all(alloc, &texts, path)?;
+    vanity_paths.add_all(alloc, texts.as_slice(), path)?;
     Ok(())
 }

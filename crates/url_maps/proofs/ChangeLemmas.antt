@@ -97,12 +97,6 @@ notes_more rows patch who first old new texts i text within item so_far one = re
       ∙ ap (λ x. has_row first t || x) (ap (λ x. list_any (bytes_eq t) (take i texts) || bytes_eq t x) item ∙ sym (list_any_more (bytes_eq t) texts i text within));
 }
 
-pub notes_alike : (rows : Rows) (patch : patches.Rows) (who : List (List ℕ) → Bool) (texts other : List ℕ → Bool) (old new : Rows) → ((t : List ℕ) → texts t ≡ other t) → Notes rows patch who texts old new → Notes rows patch who other old new
-notes_alike rows patch who texts other old new same is = record {
-  claims = λ t q. is.claims t q ∙ ap (λ b. list_any (same_path q) (noted rows patch old t) || (who q && b)) (same t);
-  has = λ t. is.has t ∙ ap (λ b. has_row old t || b) (same t);
-}
-
 -- ---- one row
 
 pub notes_row : (rows : Rows) (patch : patches.Rows) (path : List (List ℕ)) (before after : List ℕ → Bool) (old mid new : Rows) → Notes rows patch (is_at_some None) before old mid → Notes rows patch (is_at_some (Some path)) after mid new

@@ -59,11 +59,6 @@ no_words true s = refl
 no_words false true = refl
 no_words false false = refl
 
--- a word that claims nothing
-pub idle_word : {W : Type 0} (a s x : Bool) (test : W → Bool) (words : List W) (i : ℕ) (d : W) → i < length words → x ≡ (a || (s && list_any test (take i words))) → test (get_or words i d) ≡ false
-    → x ≡ (a || (s && list_any test (take (i + 1) words)))
-idle_word a s x test words i d within so_far is = more_words a s x x test words i d within so_far (no_words x s ∙ ap (λ z. x || (s && z)) (sym is))
-
 law_gather : (A s c d : Bool) → (s ≡ true → d ≡ c) → ((A && c) || (s && d)) ≡ ((A || s) && c)
 law_gather true true true d h = refl
 law_gather true true false d h = h refl
@@ -141,10 +136,6 @@ pub added : (rows more : Rows) (path : List (List ℕ)) (text : List ℕ) → ((
     → ((t : List ℕ) → test t ≡ bytes_eq t text) → Adds path test rows more
 added rows more path text is test same t q = one_more q path (claimants rows t) (claimants more t) (bytes_eq text t) (is t) ∙ ap (λ b. list_any (same_path q) (claimants rows t) || (same_path q path && b)) (text_sym text t ∙ sym (same t))
 
--- none more
-pub none_added : (rows : Rows) (path : List (List ℕ)) (test : List ℕ → Bool) → ((t : List ℕ) → test t ≡ false) → Adds path test rows rows
-none_added rows path test none t q = no_words (list_any (same_path q) (claimants rows t)) (same_path q path) ∙ ap (λ b. list_any (same_path q) (claimants rows t) || (same_path q path && b)) (sym (none t))
-
 -- the claims of the first words
 pub words_more : {W : Type 0} (first rows more : Rows) (path : List (List ℕ)) (test : List ℕ → W → Bool) (words : List W) (i : ℕ) (word : W) → i < length words → word ≡ get_or words i word
     → Adds path (λ t. list_any (test t) (take i words)) first rows → Adds path (λ t. test t word) rows more → Adds path (λ t. list_any (test t) (take (i + 1) words)) first more
@@ -180,28 +171,6 @@ vanity_words node words are text = ap (list_any (spells_vanity_path text)) (sym 
 -- claims by another spelling of their test
 pub adds_alike : (path : List (List ℕ)) (old new : Rows) (test other : List ℕ → Bool) → ((t : List ℕ) → other t ≡ test t) → Adds path test old new → Adds path other old new
 adds_alike path old new test other same adds t q = adds t q ∙ ap (λ b. list_any (same_path q) (claimants old t) || (same_path q path && b)) (sym (same t))
-
--- all words of a list
-pub all_words : {W : Type 0} (path : List (List ℕ)) (old new : Rows) (test : List ℕ → W → Bool) (words : List W) (i : ℕ) → length words ≤ i → Adds path (λ t. list_any (test t) (take i words)) old new → Adds path (λ t. list_any (test t) words) old new
-all_words path old new test words i end adds = adds_alike path old new (λ t. list_any (test t) (take i words)) (λ t. list_any (test t) words) (λ t. sym (ap (list_any (test t)) (take_all i words end))) adds
-
--- what no node claims
-pub absent_claims : (tree : Content) (path : List (List ℕ)) → node_at tree path ≡ None → (text : List ℕ) → claims_alias tree path text ≡ false
-unfolding claims_alias
-absent_claims tree path none text = ap (λ o. option_map_or (λ (node : Node). node_claims_alias path node text) o false) none
-
-pub absent_vanity_claims : (tree : Content) (path : List (List ℕ)) → node_at tree path ≡ None → (text : List ℕ) → claims_vanity_path tree path text ≡ false
-unfolding claims_vanity_path
-absent_vanity_claims tree path none text = ap (λ o. option_map_or (λ (node : Node). node_claims_vanity_path node text) o false) none
-
--- what a node claims
-pub there_claims : (tree : Content) (path : List (List ℕ)) (node : Node) → node_at tree path ≡ Some node → (text : List ℕ) → claims_alias tree path text ≡ node_claims_alias path node text
-unfolding claims_alias
-there_claims tree path node is text = ap (λ o. option_map_or (λ (n : Node). node_claims_alias path n text) o false) is
-
-pub there_vanity_claims : (tree : Content) (path : List (List ℕ)) (node : Node) → node_at tree path ≡ Some node → (text : List ℕ) → claims_vanity_path tree path text ≡ node_claims_vanity_path node text
-unfolding claims_vanity_path
-there_vanity_claims tree path node is text = ap (λ o. option_map_or (λ (n : Node). node_claims_vanity_path n text) o false) is
 
 -- the claims of all nodes of a tree
 pub whole_aliases : (tree : Content) (rows : Rows) (paths : List (List (List ℕ))) (i : ℕ) → length paths ≤ i → ((q : List (List ℕ)) → list_any (same_path q) paths ≡ is_some (node_at tree q))

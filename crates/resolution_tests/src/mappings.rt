@@ -1,10 +1,10 @@
-//! What texts are mapped to for hosts and ports. Aliases and vanity paths are asked for through the program (examples/runs).
+//! What texts are mapped to for hosts and ports, and the change of an index. Aliases and vanity paths are asked for through the program (examples/runs).
 use crate::failed::Failed;
-use resource_tree::{Tree, TreeFault};
+use resource_tree::{Patch, PatchNode, Tree, TreeFault};
 use sp_base::{NoMemory, Path, PathFault, TextBuf, Value};
 use std::alloc::{AllocError, Global};
 use std::hash::RandomState;
-use url_maps::{MapAnswer, location_of, map_in};
+use url_maps::{MapAnswer, MapIndex, location_of, map_in};
 
 // A tree of three mappings that lead away.
 fn mappings(alloc: Global, seeds: RandomState) -> Result<Tree, Failed> {
@@ -56,6 +56,47 @@ fn hosts_and_ports_have_their_mappings(rt: HostRuntime) -> Result<(), Failed> {
     ] {
         let got = shown(alloc, &map_in(alloc, &tree, host, port, "/x.html")?)?;
         assert_eq!(rt; got.text(), want, "{host} {port}");
+    }
+    Ok(())
+}
+
+// A tree of one page, which has a vanity path.
+fn page(alloc: Global, seeds: RandomState, vanity_path: &str) -> Result<Tree, Failed> {
+    let mut tree = Tree::new(alloc, seeds)?;
+    let path = Path::read(alloc, "/a")?;
+    tree.create(alloc, &path)?;
+    let value = Value::Text(TextBuf::of(alloc, vanity_path)?);
+    tree.set(alloc, &path, "sling:vanityPath", value)?;
+    Ok(tree)
+}
+
+// What is to stand at the page's path: the page with another vanity path, or none.
+fn page_after(alloc: Global, seeds: RandomState, vanity_path: &str) -> Result<PatchNode, Failed> {
+    if vanity_path.is_empty() {
+        return Ok(PatchNode::Gone);
+    }
+    let tree = page(alloc, seeds, vanity_path)?;
+    match tree.node(&Path::read(alloc, "/a")?) {
+        Some(node) => Ok(PatchNode::Node(node.duplicate(alloc)?)),
+        None => Err(Failed),
+    }
+}
+
+// What the index is after it, `take` promises; here the change has the memory that it wants.
+#[test]
+fn a_patch_changes_the_index(rt: HostRuntime) -> Result<(), Failed> {
+    let alloc = rt.alloc();
+    let seeds = RandomState::new(&rt)?;
+    for after in ["/new", "/old", ""] {
+        let tree = page(alloc, seeds, "/old")?;
+        let mut index = MapIndex::of(alloc, &tree)?;
+        let mut patch = Patch::new(alloc, seeds);
+        patch.put(Path::read(alloc, "/a")?, page_after(alloc, seeds, after)?)?;
+        let change = index.change_of(alloc, &tree, &patch);
+        assert!(rt; change.is_ok(), "{after}");
+        if let Ok(change) = change {
+            index.take(change);
+        }
     }
     Ok(())
 }

@@ -1,6 +1,6 @@
 -- Who claims a text after one more claim, and after a node's.
 use Rattle.std.proofs.Common.{◌≡◌, ◌<◌, ◌≤◌, ◌+◌, ℕ, Bool, true, false, cond, List, [], ◌∷◌, ◌++◌, Option, Some, None, map, take, length, get_or, refl, sym, ◌∙◌, ap, arith, ⊎_elim}
-use Rattle.std.specs.Prelude.{◌||◌, ◌&&◌, ◌==◌, not, codes, is_some}
+use Rattle.std.specs.Prelude.{◌||◌, ◌&&◌, ◌==◌, not, codes, is_some, Result, Ok, Err, IsOk, OnOk}
 use Rattle.std.specs.List.{list_any}
 use Rattle.std.specs.Map.{lookup}
 use Rattle.std.specs.Option.{option_map_or}
@@ -22,7 +22,7 @@ pub lookup_shown : {K B X : Type 0} (f : K → B) (test : B → Bool) (es : List
 lookup_shown f test [] = refl
 lookup_shown f test ((k, v) ∷ es) = ap (λ r. cond (test (f k)) (Some v) r) (lookup_shown f test es)
 
-or_false : (x : Bool) → (x || false) ≡ x
+pub or_false : (x : Bool) → (x || false) ≡ x
 or_false true = refl
 or_false false = refl
 
@@ -30,7 +30,7 @@ and_true : (x : Bool) → (x && true) ≡ x
 and_true true = refl
 and_true false = refl
 
-and_false : (x : Bool) → (x && false) ≡ false
+pub and_false : (x : Bool) → (x && false) ≡ false
 and_false true = refl
 and_false false = refl
 
@@ -59,11 +59,6 @@ no_words true s = refl
 no_words false true = refl
 no_words false false = refl
 
--- a word that claims nothing
-pub idle_word : {W : Type 0} (a s x : Bool) (test : W → Bool) (words : List W) (i : ℕ) (d : W) → i < length words → x ≡ (a || (s && list_any test (take i words))) → test (get_or words i d) ≡ false
-    → x ≡ (a || (s && list_any test (take (i + 1) words)))
-idle_word a s x test words i d within so_far is = more_words a s x x test words i d within so_far (no_words x s ∙ ap (λ z. x || (s && z)) (sym is))
-
 law_gather : (A s c d : Bool) → (s ≡ true → d ≡ c) → ((A && c) || (s && d)) ≡ ((A || s) && c)
 law_gather true true true d h = refl
 law_gather true true false d h = h refl
@@ -89,7 +84,7 @@ all_nodes tree q test paths x all is = is ∙ ap (λ z. z && option_map_or test 
 
 -- ---- the claims after a call
 
-text_sym : (a b : List ℕ) → bytes_eq a b ≡ bytes_eq b a
+pub text_sym : (a b : List ℕ) → bytes_eq a b ≡ bytes_eq b a
 text_sym a b =
     ⊎_elim
     (λ (same : bytes_eq a b ≡ true). same ∙ sym (ap (bytes_eq b) (same_text a b (sym same)) ∙ nat_list_eq_equiv.refl b))
@@ -141,10 +136,6 @@ pub added : (rows more : Rows) (path : List (List ℕ)) (text : List ℕ) → ((
     → ((t : List ℕ) → test t ≡ bytes_eq t text) → Adds path test rows more
 added rows more path text is test same t q = one_more q path (claimants rows t) (claimants more t) (bytes_eq text t) (is t) ∙ ap (λ b. list_any (same_path q) (claimants rows t) || (same_path q path && b)) (text_sym text t ∙ sym (same t))
 
--- none more
-pub none_added : (rows : Rows) (path : List (List ℕ)) (test : List ℕ → Bool) → ((t : List ℕ) → test t ≡ false) → Adds path test rows rows
-none_added rows path test none t q = no_words (list_any (same_path q) (claimants rows t)) (same_path q path) ∙ ap (λ b. list_any (same_path q) (claimants rows t) || (same_path q path && b)) (sym (none t))
-
 -- the claims of the first words
 pub words_more : {W : Type 0} (first rows more : Rows) (path : List (List ℕ)) (test : List ℕ → W → Bool) (words : List W) (i : ℕ) (word : W) → i < length words → word ≡ get_or words i word
     → Adds path (λ t. list_any (test t) (take i words)) first rows → Adds path (λ t. test t word) rows more → Adds path (λ t. list_any (test t) (take (i + 1) words)) first more
@@ -181,28 +172,6 @@ vanity_words node words are text = ap (list_any (spells_vanity_path text)) (sym 
 pub adds_alike : (path : List (List ℕ)) (old new : Rows) (test other : List ℕ → Bool) → ((t : List ℕ) → other t ≡ test t) → Adds path test old new → Adds path other old new
 adds_alike path old new test other same adds t q = adds t q ∙ ap (λ b. list_any (same_path q) (claimants old t) || (same_path q path && b)) (sym (same t))
 
--- all words of a list
-pub all_words : {W : Type 0} (path : List (List ℕ)) (old new : Rows) (test : List ℕ → W → Bool) (words : List W) (i : ℕ) → length words ≤ i → Adds path (λ t. list_any (test t) (take i words)) old new → Adds path (λ t. list_any (test t) words) old new
-all_words path old new test words i end adds = adds_alike path old new (λ t. list_any (test t) (take i words)) (λ t. list_any (test t) words) (λ t. sym (ap (list_any (test t)) (take_all i words end))) adds
-
--- what no node claims
-pub absent_claims : (tree : Content) (path : List (List ℕ)) → node_at tree path ≡ None → (text : List ℕ) → claims_alias tree path text ≡ false
-unfolding claims_alias
-absent_claims tree path none text = ap (λ o. option_map_or (λ (node : Node). node_claims_alias path node text) o false) none
-
-pub absent_vanity_claims : (tree : Content) (path : List (List ℕ)) → node_at tree path ≡ None → (text : List ℕ) → claims_vanity_path tree path text ≡ false
-unfolding claims_vanity_path
-absent_vanity_claims tree path none text = ap (λ o. option_map_or (λ (node : Node). node_claims_vanity_path node text) o false) none
-
--- what a node claims
-pub there_claims : (tree : Content) (path : List (List ℕ)) (node : Node) → node_at tree path ≡ Some node → (text : List ℕ) → claims_alias tree path text ≡ node_claims_alias path node text
-unfolding claims_alias
-there_claims tree path node is text = ap (λ o. option_map_or (λ (n : Node). node_claims_alias path n text) o false) is
-
-pub there_vanity_claims : (tree : Content) (path : List (List ℕ)) (node : Node) → node_at tree path ≡ Some node → (text : List ℕ) → claims_vanity_path tree path text ≡ node_claims_vanity_path node text
-unfolding claims_vanity_path
-there_vanity_claims tree path node is text = ap (λ o. option_map_or (λ (n : Node). node_claims_vanity_path n text) o false) is
-
 -- the claims of all nodes of a tree
 pub whole_aliases : (tree : Content) (rows : Rows) (paths : List (List (List ℕ))) (i : ℕ) → length paths ≤ i → ((q : List (List ℕ)) → list_any (same_path q) paths ≡ is_some (node_at tree q))
     → ((t : List ℕ) (q : List (List ℕ)) → list_any (same_path q) (claimants rows t) ≡ (list_any (same_path q) (take i paths) && claims_alias tree q t)) → AreClaims (claims_alias tree) rows
@@ -233,3 +202,28 @@ set_within longest more old new text paths within grown fits is t long = ⊎_eli
     (λ (same : bytes_eq text t ≡ true). let one : text ≡ t = same_text text t (sym same) in absurd (omega (arith, long, fits, ap length one)))
     (λ (other : bytes_eq text t ≡ false). is t ∙ ap (λ b. cond b paths (claimants old t)) other ∙ within t (omega (arith, long, grown)))
     (cases_Bool (bytes_eq text t))
+
+-- ---- the texts that a node claims
+
+-- one more text
+pub pushed_any : (t : List ℕ) (texts : List (List ℕ)) (text : List ℕ) → list_any (bytes_eq t) (texts ++ text ∷ []) ≡ (list_any (bytes_eq t) texts || bytes_eq t text)
+pushed_any t texts text = list_any-append (bytes_eq t) texts (text ∷ []) ∙ ap (λ b. list_any (bytes_eq t) texts || b) (or_false (bytes_eq t text))
+
+-- what the first words claim, and one word more
+pub any_word : {W : Type 0} (test : W → Bool) (words : List W) (i : ℕ) (word : W) (old new : Bool) → i < length words → word ≡ get_or words i word → old ≡ list_any test (take i words) → new ≡ (old || test word) → new ≡ list_any test (take (i + 1) words)
+any_word test words i word old new within item so_far is =
+    is ∙ ap (λ b. b || test word) so_far ∙ ap (λ w. list_any test (take i words) || test w) item ∙ sym (list_any_more test words i word within)
+
+-- what the node of a look-up claims
+pub claims_alias_is : (tree : Content) (path : List (List ℕ)) (found : Option Node) → found ≡ node_at tree path → (t : List ℕ) → claims_alias tree path t ≡ option_map_or (λ n. node_claims_alias path n t) found false
+unfolding claims_alias
+claims_alias_is tree path found is t = ap (λ o. option_map_or (λ (n : Node). node_claims_alias path n t) o false) (sym is)
+
+pub claims_vanity_path_is : (tree : Content) (path : List (List ℕ)) (found : Option Node) → found ≡ node_at tree path → (t : List ℕ) → claims_vanity_path tree path t ≡ option_map_or (λ n. node_claims_vanity_path n t) found false
+unfolding claims_vanity_path
+claims_vanity_path_is tree path found is t = ap (λ o. option_map_or (λ (n : Node). node_claims_vanity_path n t) o false) (sym is)
+
+-- what a call that succeeds promises
+pub from_ok : {A E P : Type 0} (r : Result A E) → IsOk r → OnOk r P → P
+from_ok (Ok x) ok p = p
+from_ok (Err e) ok p = absurd (true≢false (sym ok))

@@ -1,4 +1,5 @@
 pub mod ClaimLemmas
+pub mod ChangeLemmas
 pub mod PathLemmas
 pub mod AliasLemmas
 pub mod VanityLemmas
@@ -12,3 +13,4 @@ pub mod LawLemmas
 pub mod AnswerLemmas
 pub mod RedirectLemmas
 pub mod ReachLemmas
+pub mod FirstLemmas

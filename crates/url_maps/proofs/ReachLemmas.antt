@@ -1,17 +1,15 @@
 -- No mapping is below the first segment of a text that has no node.
-use Rattle.std.proofs.Common.{◌≡◌, ◌≤◌, ◌<◌, ◌+◌, ◌-◌, ℕ, zero, suc, Bool, true, false, List, [], ◌∷◌, ◌++◌, Option, Some, None, Ok, take, length, refl, sym, ◌∙◌, ap, subst, arith, ⊎_elim, append_assoc, append-nil, length-append}
-use Rattle.std.specs.Prelude.{◌&&◌, IsTrue, is_some, nat_eq, if◌then◌else◌}
+use Rattle.std.proofs.Common.{◌≡◌, ◌≤◌, ◌<◌, ◌-◌, ℕ, zero, suc, true, false, List, [], ◌∷◌, ◌++◌, Some, None, Ok, take, length, refl, sym, ◌∙◌, ap, subst, arith, ⊎_elim, append_assoc, append-nil}
+use Rattle.std.specs.Prelude.{IsTrue, is_some, nat_eq, if◌then◌else◌}
 use Rattle.std.specs.Cmp.Lexicographic.{pointwise, same_text}
-use Rattle.std.proofs.lemmas.Bool.{cases_Bool, true≢false, false≢true, and_parts, cases_lt}
+use Rattle.std.proofs.lemmas.Bool.{true≢false, false≢true, and_parts, cases_lt}
 use Rattle.std.proofs.lemmas.List.{length-take-le, take-take, take_all}
 use Rattle.sp_base.specs.Paths.{is_path, is_under, parent_of, path_of, path_or_none, text_of}
-use Rattle.resource_tree.specs.declared.nodes.Node.{Node}
 use Rattle.resource_tree.specs.Content.{Content, IsTree, kid, node_at}
-use Rattle.url_maps.specs.Mappings.{IsMapping, text_below}
-use Rattle.url_maps.specs.declared.pairs.Pair.{Pair}
+use Rattle.url_maps.specs.Mappings.{text_below}
 use Rattle.url_maps.specs.Search.{HasNoMappingBeyond, IsMissingAt}
 use Rattle.url_maps.proofs.MappingLemmas.{path_below}
-use Rattle.url_maps.proofs.PathLemmas.{IsReadBack, kid_parts}
+use Rattle.url_maps.proofs.PathLemmas.{IsReadBack}
 
 -- a path is under its own prefixes alone
 record Prefix (path q : List (List ℕ)) : Type 0 where

@@ -1,5 +1,5 @@
 -- The aliases of a tree (Apache Sling, "Mappings for resource resolution", sling:alias).
-use Rattle.std.specs.Prelude.{◌≡◌, ℕ, Bool, true, nat_eq, find, List, Some, None, codes}
+use Rattle.std.specs.Prelude.{◌≡◌, ◌≤◌, ℕ, Bool, true, nat_eq, find, List, Some, None, codes, slice_get}
 use Rattle.std.specs.Cmp.Lexicographic.{pointwise}
 use Rattle.sp_base.specs.Paths.{seg_ok, text_of}
 use Rattle.resource_tree.specs.Content.{Content, kid, node_at}
@@ -21,3 +21,7 @@ pub record IsAlias (tree : Content) (text : List ℕ) (path : List (List ℕ)) :
   pub segment : seg_ok alias ≡ true
   pub free : node_at tree (kid parent alias) ≡ None
   pub first : find (λ sibling. has_alias tree (kid parent sibling) alias) (kids_at tree parent) ≡ Some name
+
+-- a name stands at a place of some names or before it
+abbrev pub IsAtOrBefore : List (List ℕ) → List ℕ → ℕ → Type 0
+IsAtOrBefore names name place = (at : ℕ) × (at ≤ place) × (slice_get names at ≡ Some name)

@@ -59,12 +59,17 @@ Adds path test old new = (text : List ℕ) (q : List (List ℕ)) → list_any (s
 abbrev pub AreClaims : (List (List ℕ) → List ℕ → Bool) → Rows → Type 0
 AreClaims claims rows = (text : List ℕ) (path : List (List ℕ)) → list_any (same_path path) (claimants rows text) ≡ claims path text
 
+-- the claimants of texts, and for how many more texts there is room
+pub record Table : Type 0 where
+  pub rows : Rows
+  pub room : ℕ
+
 -- the aliases and the vanity paths of a tree by their texts
 pub record Index : Type 0 where
-  pub aliases : Rows
-  pub vanity_paths : Rows
+  pub aliases : Table
+  pub vanity_paths : Table
 
 -- The index is the tree's.
 pub record IsIndexOf (tree : Content) (index : Index) : Type 0 where
-  pub aliases : AreClaims (claims_alias tree) index.aliases
-  pub vanity_paths : AreClaims (claims_vanity_path tree) index.vanity_paths
+  pub aliases : AreClaims (claims_alias tree) index.aliases.rows
+  pub vanity_paths : AreClaims (claims_vanity_path tree) index.vanity_paths.rows

@@ -5,6 +5,8 @@ pub mod Mappings
 pub mod Pairs
 pub mod Turns
 pub mod Claims
+pub mod Changes
+pub mod Noting
 pub mod Search
 pub mod Answers
 pub mod Locations

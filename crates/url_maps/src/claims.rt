@@ -1,45 +1,49 @@
 // The table of the nodes that claim a text, by the text.
-ghost use Rattle.std.specs.Prelude.{◌≡◌, ◌++◌, ◌∷◌, [], ℕ, List, OnOk, if◌then◌else◌};
+ghost use Rattle.std.specs.Prelude.{◌≡◌, ◌≤◌, ◌<◌, ◌+◌, ◌++◌, ◌∷◌, [], ℕ, List, OnOk, if◌then◌else◌, length, string_bytes};
+ghost use Rattle.std.specs.List.{list_any};
 ghost use Rattle.std.specs.Str.{bytes_eq};
-ghost use Rattle.url_maps.specs.Claims.{claimants};
+ghost use Rattle.url_maps.specs.Claims.{Adds, claimants};
+ghost use Rattle.url_maps.specs.Changes.{claimants_over};
 
-use sp_base::{Mem, NoMemory, Path, PathList};
+use crate::claims_change::ClaimsChange;
+use indexmap::IndexMap;
+use sp_base::{Mem, NoMemory, Path, PathList, TextBuf};
 use std::alloc::Global;
-use std::collections::HashMap;
 use std::hash::RandomState;
 use std::marker::Model;
 
-/// The paths of the nodes that claim a text. Contracts see the rows in no order that is promised.
+/// The paths of the nodes that claim a text. Contracts see the rows in no order that is promised, and how many more fit.
 #[derive(Drop)]
 pub(crate) struct Claims {
-    table: HashMap<String, PathList, RandomState>,
+    table: IndexMap<String, PathList, RandomState>,
     /// No text of the table has more bytes, so longer ones needn't be hashed.
     longest: usize,
 }
 
 impl Model for Claims {
     ghost use Rattle.std.specs.Prelude.{map, string_bytes};
-    ghost use Rattle.url_maps.specs.Claims.{AreWithin, Rows};
+    ghost use Rattle.std.specs.HashMap.{spare};
+    ghost use Rattle.url_maps.specs.Claims.{AreWithin, Table};
 
-    ghost Value = { Rows };
+    ghost Value = { Table };
 
-    ghost view = { λ c. map (λ e. (string_bytes e.0, e.1)) c.table.entries };
+    ghost view = { λ c. record { rows = map (λ e. (string_bytes e.0, e.1)) c.table.entries; room = spare c.table } };
 
     ghost invariant = { λ c. AreWithin c.longest (map (λ e. (string_bytes e.0, e.1)) c.table.entries) };
 }
 
 impl Claims {
     pub(crate) fn new(alloc: Global, seeds: RandomState) -> Claims
-        ensures { result ≡ [] }
+        ensures { result.rows ≡ [] }
     {
         Claims {
-            table: HashMap::with_hasher(alloc, seeds),
+            table: IndexMap::with_hasher(alloc, seeds),
             longest: 0,
         }
     }
 
     pub(crate) fn get(&self, text: &str) -> &[Path]
-        ensures { result.now ≡ claimants self.now text.now }
+        ensures { result.now ≡ claimants self.now.rows text.now }
     {
         if text.len() > self.longest {
             return &[];
@@ -51,7 +55,7 @@ impl Claims {
     }
 
     pub(crate) fn add(&mut self, alloc: Global, text: &str, path: Path) -> Mem<()>
-        ensures { OnOk result ((t : List ℕ) → claimants self.new t ≡ (if bytes_eq text.now t then claimants self.old t ++ path ∷ [] else claimants self.old t)) }
+        ensures { OnOk result ((t : List ℕ) → claimants self.new.rows t ≡ (if bytes_eq text.now t then claimants self.old.rows t ++ path ∷ [] else claimants self.old.rows t)) }
     {
         let mut paths = self.take(alloc, text);
         paths.push(path)?;
@@ -61,21 +65,66 @@ impl Claims {
 
     // Takes the claimants of a text away.
     fn take(&mut self, alloc: Global, text: &str) -> PathList
-        ensures value { result ≡ claimants self.old text.now }
-        ensures rest { (t : List ℕ) → claimants self.new t ≡ (if bytes_eq text.now t then [] else claimants self.old t) }
+        ensures value { result ≡ claimants self.old.rows text.now }
+        ensures rest { (t : List ℕ) → claimants self.new.rows t ≡ (if bytes_eq text.now t then [] else claimants self.old.rows t) }
     {
-        match self.table.remove(text) {
+        match self.table.swap_remove(text) {
             Some(paths) => paths,
             None => PathList::new(alloc),
         }
     }
 
     fn set(&mut self, alloc: Global, text: &str, paths: PathList) -> Mem<()>
-        ensures { OnOk result ((t : List ℕ) → claimants self.new t ≡ (if bytes_eq text.now t then paths else claimants self.old t)) }
+        ensures { OnOk result ((t : List ℕ) → claimants self.new.rows t ≡ (if bytes_eq text.now t then paths else claimants self.old.rows t)) }
     {
         let key = String::from_str(alloc, text)?;
         self.table.insert(key, paths)?;
         self.longest = self.longest.max(text.len());
         Ok(())
+    }
+
+    // Adds a path to the claimants of each of some texts.
+    pub(crate) fn add_all(&mut self, alloc: Global, texts: &[TextBuf], path: &Path) -> Mem<()>
+        ensures { OnOk result (Adds path.now (λ t. list_any (bytes_eq t) texts.now) self.old.rows self.new.rows) }
+    {
+        for text in texts {
+            self.add(alloc, text.text(), path.duplicate(alloc)?)?;
+        }
+        Ok(())
+    }
+
+    // Makes room for so many more texts.
+    pub(crate) fn make_room(&mut self, n: usize) -> Mem<()>
+        ensures rows { self.new.rows ≡ self.old.rows }
+        ensures ok { OnOk result (n ≤ self.new.room) }
+        ensures kept { self.old.room ≤ self.new.room }
+    {
+        self.table.reserve(n)?;
+        Ok(())
+    }
+
+    // Puts a change over the claimants, with no memory.
+    pub(crate) fn change(&mut self, change: ClaimsChange)
+        requires { length change ≤ self.old.room }
+        ensures { (t : List ℕ) → claimants self.new.rows t ≡ claimants_over change self.old.rows t }
+    {
+        let mut rows = change.rows;
+        while let Some((text, paths)) = rows.pop() {
+            self.put_in_room(text, paths);
+        }
+    }
+
+    // Sets the claimants of a text, with no memory. A text without any has no row.
+    fn put_in_room(&mut self, text: String, paths: PathList)
+        requires { 0 < self.old.room }
+        ensures rows { (t : List ℕ) → claimants self.new.rows t ≡ (if bytes_eq (string_bytes text) t then paths else claimants self.old.rows t) }
+        ensures room { self.old.room ≤ self.new.room + 1 }
+    {
+        if paths.is_empty() {
+            drop(self.table.swap_remove(text.as_str()));
+        } else {
+            self.longest = self.longest.max(text.len());
+            drop(self.table.insert(text, paths));
+        }
     }
 }

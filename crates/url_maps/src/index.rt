@@ -1,13 +1,11 @@
 // The index of a tree's aliases and vanity paths.
-ghost use Rattle.std.specs.Prelude.{◌≡◌, ◌<◌, ℕ, List, IfOk, OnOk, length};
-ghost use Rattle.url_maps.specs.Claims.{Adds, IsIndexOf, claims_alias, claims_vanity_path, is_ok_path, node_claims_alias, node_claims_vanity_path, spells_alias, spells_vanity_path};
-ghost use Rattle.sp_base.specs.Paths.{path_of};
-ghost use Rattle.url_maps.specs.VanityPaths.{with_slash};
+ghost use Rattle.std.specs.Prelude.{IfOk, OnOk};
+ghost use Rattle.url_maps.specs.Claims.{Adds, IsIndexOf, claims_alias, claims_vanity_path};
 
+use crate::claimed::{alias_texts, vanity_texts};
 use crate::claims::Claims;
-use crate::words::texts;
-use resource_tree::{Node, Tree};
-use sp_base::{Mem, NoMemory, Path, PathFault, TextBuf};
+use resource_tree::Tree;
+use sp_base::{Mem, Path};
 use std::alloc::Global;
 use std::marker::Model;
 
@@ -53,87 +51,13 @@ fn add_claims(
     tree: &Tree,
     path: &Path,
 ) -> Mem<()>
-    ensures aliases { OnOk result (Adds path.now (claims_alias tree.now path.now) aliases.old aliases.new) }
-    ensures vanity_paths { OnOk result (Adds path.now (claims_vanity_path tree.now path.now) vanity_paths.old vanity_paths.new) }
+    ensures aliases { OnOk result (Adds path.now (claims_alias tree.now path.now) aliases.old.rows aliases.new.rows) }
+    ensures vanity_paths { OnOk result (Adds path.now (claims_vanity_path tree.now path.now) vanity_paths.old.rows vanity_paths.new.rows) }
 {
-    let Some(node) = tree.node(path) else {
-        return Ok(());
-    };
-    add_aliases(aliases, alloc, path, node)?;
-    add_vanity_paths(vanity_paths, alloc, path, node)?;
+    let node = tree.node(path);
+    let texts = alias_texts(alloc, path, node)?;
+    aliases.add_all(alloc, texts.as_slice(), path)?;
+    let texts = vanity_texts(alloc, node)?;
+    vanity_paths.add_all(alloc, texts.as_slice(), path)?;
     Ok(())
-}
-
-fn add_aliases(aliases: &mut Claims, alloc: Global, path: &Path, node: &Node) -> Mem<()>
-    ensures { OnOk result (Adds path.now (node_claims_alias path.now node.now) aliases.old aliases.new) }
-{
-    if path.depth() == 0 {
-        return Ok(());
-    }
-    let words = texts(node.props.get("sling:alias"));
-    for word in words {
-        add_alias(aliases, alloc, path, word.text())?;
-    }
-    Ok(())
-}
-
-// Adds the claim of one alias of a node, which isn't the root, where it may be the name of a node.
-fn add_alias(aliases: &mut Claims, alloc: Global, path: &Path, alias: &str) -> Mem<()>
-    requires { 0 < length path.now }
-    ensures { OnOk result (Adds path.now (λ text. spells_alias path.now text alias.now) aliases.old aliases.new) }
-{
-    // `depth` says that the path is valid.
-    let _ = path.depth();
-    let parent = path.parent(alloc)?;
-    let Some(named) = parent.child_or_none(alloc, alias)? else {
-        return Ok(());
-    };
-    aliases.add(alloc, named.as_text(), path.duplicate(alloc)?)?;
-    Ok(())
-}
-
-fn add_vanity_paths(vanity_paths: &mut Claims, alloc: Global, path: &Path, node: &Node) -> Mem<()>
-    ensures { OnOk result (Adds path.now (node_claims_vanity_path node.now) vanity_paths.old vanity_paths.new) }
-{
-    let words = texts(node.props.get("sling:vanityPath"));
-    for word in words {
-        add_vanity_path(vanity_paths, alloc, path, word.text())?;
-    }
-    Ok(())
-}
-
-// Adds the claim of one vanity path of a node, where it spells a path.
-fn add_vanity_path(vanity_paths: &mut Claims, alloc: Global, path: &Path, word: &str) -> Mem<()>
-    ensures { OnOk result (Adds path.now (λ text. spells_vanity_path text word.now) vanity_paths.old vanity_paths.new) }
-{
-    let text = with_slash(alloc, word)?;
-    if !reads(alloc, text.text())? {
-        return Ok(());
-    }
-    vanity_paths.add(alloc, text.text(), path.duplicate(alloc)?)?;
-    Ok(())
-}
-
-// The text of a vanity path, before which a slash is put where it has none.
-fn with_slash(alloc: Global, text: &str) -> Mem<TextBuf>
-    ensures { IfOk result (λ t. t ≡ with_slash text.now) }
-{
-    if text.starts_with('/') {
-        return TextBuf::of(alloc, text);
-    }
-    let mut whole = String::with_capacity(alloc, text.len().saturating_add(1))?;
-    whole.push_str("/")?;
-    whole.push_str(text)?;
-    Ok(TextBuf::from(whole))
-}
-
-// Whether a text spells a path.
-fn reads(alloc: Global, text: &str) -> Mem<bool>
-    ensures { IfOk result (λ is. is ≡ is_ok_path (path_of text.now)) }
-{
-    match Path::read(alloc, text) {
-        Ok(_) => Ok(true),
-        Err(PathFault::NoMemory) => Err(NoMemory),
-        Err(_) => Ok(false),
-    }
 }

@@ -1,6 +1,13 @@
 //! What a mapping is in the subject's words: laws of the definitions, on functions that do nothing.
-ghost use Rattle.std.specs.Prelude.{◌≡◌, ℕ, List, Option, Some, true};
-ghost use Rattle.resource_tree.specs.Content.{Content, IsGood};
+ghost use Rattle.std.specs.Prelude.{◌≡◌, ◌≢◌, ◌⊎◌, ℕ, List, Option, Some, true, slice_get};
+ghost use Rattle.std.specs.Ordering.{int_cmp};
+ghost use Rattle.std.specs.declared.cmp.Ordering.TheVariants.{Less, Greater};
+ghost use Rattle.sp_base.specs.Names.{by_name};
+ghost use Rattle.sp_base.specs.Paths.{text_of};
+ghost use Rattle.resource_tree.specs.Content.{Content, IsGood, kid};
+ghost use Rattle.resource_tree.specs.Changes.{kids_at};
+ghost use Rattle.url_maps.specs.Aliases.{IsAlias, has_alias, IsAtOrBefore};
+ghost use Rattle.url_maps.specs.VanityPaths.{IsVanityPath, has_vanity_path, vanity_order};
 ghost use Rattle.url_maps.specs.Answers.{map_answer};
 ghost use Rattle.url_maps.specs.Mappings.{is_redirect, site_of};
 ghost use Rattle.url_maps.specs.Pairs.{Decides, HasNoPair};
@@ -42,4 +49,16 @@ pub fn the_answer_is_mapped()
 /// A text that leads away does so by a status of a redirect.
 pub fn away_is_a_redirect()
     ensures { (tree : Content) (host : List ℕ) (port : ℕ) (text target : List ℕ) (status : ℕ) → map_answer tree host port text ≡ Away status target → is_redirect status ≡ true }
+{}
+
+/// Of siblings with one alias the first in their order is named: where any of them stands, the named one stands there or before it.
+pub fn of_siblings_with_one_alias_the_first_is_named()
+    ensures { (tree : Content) (text : List ℕ) (path : List (List ℕ)) → (named : IsAlias tree text path) → (place : ℕ) (other : List ℕ) → slice_get (kids_at tree named.parent) place ≡ Some other → has_alias tree (kid named.parent other) named.alias ≡ true → IsAtOrBefore (kids_at tree named.parent) named.name place }
+{}
+
+/// Of several nodes with one vanity path one with the greatest order is named, and of those with that order the one with the least
+/// path.
+pub fn of_nodes_with_one_vanity_path_the_greatest_order_is_named()
+    ensures greatest { (tree : Content) (text : List ℕ) (path other : List (List ℕ)) → IsVanityPath tree text path → has_vanity_path tree other text ≡ true → int_cmp (vanity_order tree other) (vanity_order tree path) ≢ Greater }
+    ensures least { (tree : Content) (text : List ℕ) (path other : List (List ℕ)) → IsVanityPath tree text path → has_vanity_path tree other text ≡ true → vanity_order tree other ≡ vanity_order tree path → (other ≡ path) ⊎ (by_name (text_of path) (text_of other) ≡ Less) }
 {}

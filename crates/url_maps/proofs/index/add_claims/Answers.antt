@@ -1,22 +1,17 @@
-use Rattle.std.proofs.Common.{sym}
-use Rattle.url_maps.specs.Claims.{claims_alias, claims_vanity_path, node_claims_alias, node_claims_vanity_path}
-use Rattle.url_maps.proofs.ClaimLemmas.{absent_claims, absent_vanity_claims, adds_alike, none_added, there_claims, there_vanity_claims}
+use Rattle.std.proofs.Common.{◌∙◌, ap, sym}
+use Rattle.std.specs.Prelude.{option_copied}
+use Rattle.std.specs.List.{list_any}
+use Rattle.std.specs.Str.{bytes_eq}
+use Rattle.url_maps.specs.Claims.{claims_alias, claims_vanity_path}
+use Rattle.url_maps.proofs.ClaimLemmas.{adds_alike, claims_alias_is, claims_vanity_path_is}
 use Rattle.url_maps.proofs.index.add_claims.Goals as goal
-
-pub returns-in_default-clause-aliases : goal.returns-in_default-clause-aliases
-returns-in_default-clause-aliases c =
-    none_added c.args.aliases.now c.args.path.now (claims_alias c.args.tree.now c.args.path.now) (absent_claims c.args.tree.now c.args.path.now (sym c.in_default.ensures))
-
-pub returns-in_default-clause-vanity_paths : goal.returns-in_default-clause-vanity_paths
-returns-in_default-clause-vanity_paths c =
-    none_added c.args.vanity_paths.now c.args.path.now (claims_vanity_path c.args.tree.now c.args.path.now) (absent_vanity_claims c.args.tree.now c.args.path.now (sym c.in_default.ensures))
 
 pub returns-clause-aliases : goal.returns-clause-aliases
 returns-clause-aliases c =
-    adds_alike c.args.path.now c.args.aliases.now c.add_aliases.new.aliases (node_claims_alias c.args.path.now c.in-Some.node.now) (claims_alias c.args.tree.now c.args.path.now)
-    (there_claims c.args.tree.now c.args.path.now c.in-Some.node.now (sym c.in-Some.ensures)) c.in_ok-add_aliases.ensures
+    adds_alike c.args.path.now c.args.aliases.now.rows c.add_all.new.self.rows (λ t. list_any (bytes_eq t) c.as_slice.result.now) (claims_alias c.args.tree.now c.args.path.now)
+    (λ t. claims_alias_is c.args.tree.now c.args.path.now (option_copied c.node-node.result) c.node-node.ensures t ∙ sym (ap (list_any (bytes_eq t)) c.as_slice.ensures ∙ c.in_ok-texts.ensures t)) c.in_ok-add_all.ensures
 
 pub returns-clause-vanity_paths : goal.returns-clause-vanity_paths
 returns-clause-vanity_paths c =
-    adds_alike c.args.path.now c.args.vanity_paths.now c.add_vanity_paths.new.vanity_paths (node_claims_vanity_path c.in-Some.node.now) (claims_vanity_path c.args.tree.now c.args.path.now)
-    (there_vanity_claims c.args.tree.now c.args.path.now c.in-Some.node.now (sym c.in-Some.ensures)) c.in_ok-add_vanity_paths.ensures
+    adds_alike c.args.path.now c.args.vanity_paths.now.rows c.add_all-2.new.self.rows (λ t. list_any (bytes_eq t) c.as_slice-2.result.now) (claims_vanity_path c.args.tree.now c.args.path.now)
+    (λ t. claims_vanity_path_is c.args.tree.now c.args.path.now (option_copied c.node-node.result) c.node-node.ensures t ∙ sym (ap (list_any (bytes_eq t)) c.as_slice-2.ensures ∙ c.in_ok-texts-2.ensures t)) c.in_ok-add_all-2.ensures

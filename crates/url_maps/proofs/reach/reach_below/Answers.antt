@@ -1,4 +1,4 @@
-use Rattle.std.proofs.Common.{◌≡◌, ◌∙◌, ℕ, Some, ap, sym, subst, length, take}
+use Rattle.std.proofs.Common.{◌∙◌, Some, ap, sym, subst, length}
 use Rattle.sp_base.specs.Paths.{text_of}
 use Rattle.url_maps.specs.Search.{HasNoMappingBeyond}
 use Rattle.url_maps.proofs.ReachLemmas.{none_beyond}

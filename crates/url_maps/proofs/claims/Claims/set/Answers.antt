@@ -3,7 +3,7 @@ use Rattle.std.specs.Prelude.{string_bytes}
 use Rattle.std.specs.Map.{lookup}
 use Rattle.std.specs.Str.{bytes_eq}
 use Rattle.std.proofs.lemmas.Map.Text.{hash_map_updates_text}
-use Rattle.url_maps.specs.Claims.{claimants}
+use Rattle.url_maps.specs.Claims.{Table, claimants}
 use Rattle.url_maps.proofs.ClaimLemmas.{set_claims, set_within}
 use Rattle.url_maps.proofs.claims.Claims.set.Goals as goal
 
@@ -15,7 +15,7 @@ returns c = λ t.
     (λ (q : List ℕ). hash_map_updates_text (string_bytes c.in_ok-key.key) c.self.inside.table c.insert.new.self (Some paths) c.in_ok-insert.ensures.updates q
     ∙ ap (λ b. cond (bytes_eq b q) (Some paths) (lookup (λ k. bytes_eq q (string_bytes k)) c.self.inside.table.entries)) c.in_ok-key.ensures.ok)
     t
-    ∙ ap (λ rows. cond (bytes_eq text t) paths (claimants rows t)) c.self.view_is
+    ∙ ap (λ (v : Table). cond (bytes_eq text t) paths (claimants v.rows t)) c.self.view_is
 
 pub invariant_of-self-2 : goal.invariant_of-self-2
 invariant_of-self-2 c =

@@ -7,6 +7,6 @@ use Rattle.url_maps.proofs.index.MapIndex.of.Given as goal
 
 abbrev pub invariant-loop-path : goal.invariant-loop-path
 invariant-loop-path l = record {
-  aliases : (t : List ℕ) (q : List (List ℕ)) → list_any (same_path q) (claimants l.aliases t) ≡ (list_any (same_path q) (take l.path-index l.paths) && claims_alias l.tree q t);
-  vanity_paths : (t : List ℕ) (q : List (List ℕ)) → list_any (same_path q) (claimants l.vanity_paths t) ≡ (list_any (same_path q) (take l.path-index l.paths) && claims_vanity_path l.tree q t);
+  aliases : (t : List ℕ) (q : List (List ℕ)) → list_any (same_path q) (claimants l.aliases.rows t) ≡ (list_any (same_path q) (take l.path-index l.paths) && claims_alias l.tree q t);
+  vanity_paths : (t : List ℕ) (q : List (List ℕ)) → list_any (same_path q) (claimants l.vanity_paths.rows t) ≡ (list_any (same_path q) (take l.path-index l.paths) && claims_vanity_path l.tree q t);
 }

@@ -1,0 +1,14 @@
+use Rattle.std.proofs.Common.{◌≡◌, Option, Some, None, Bool, true, false, ◌++◌, cond, refl, ◌∙◌, ap}
+use Rattle.std.specs.Prelude.{option_copied, option_to_list}
+use Rattle.std.specs.Map.{lookup}
+use Rattle.std.specs.Str.{bytes_eq}
+use Rattle.url_maps.proofs.claims_change.ClaimsChange.note.Goals as goal
+
+put_back : {X : Type 0} (b : Bool) (x y : X) (o : Option X) → x ≡ y → cond b (Some x) (cond b None o) ≡ cond b (Some y) o
+put_back true x y o is = ap (λ z. Some z) is
+put_back false x y o is = refl
+
+pub returns : goal.returns
+returns c = λ t.
+    c.in_ok-set.ensures t ∙ ap (cond (bytes_eq c.args.text.now t) (Some c.push_some.new.paths)) (c.in_ok-paths.ensures.rest t)
+    ∙ put_back (bytes_eq c.args.text.now t) c.push_some.new.paths _ (lookup (bytes_eq t) c.args.self.now) (c.in_ok-push_some.ensures ∙ ap (λ l. l ++ option_to_list (option_copied c.args.path)) c.in_ok-paths.ensures.value)

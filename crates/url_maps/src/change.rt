@@ -1,0 +1,121 @@
+// The change of an index by a patch of the tree.
+ghost use Rattle.std.specs.Prelude.{◌≡◌, [], ℕ, List, IfOk, OnOk, Some, None, option_copied};
+ghost use Rattle.resource_tree.specs.Content.{Content, node_at};
+ghost use Rattle.resource_tree.specs.Patches.{Rows, left_by, patching_at};
+ghost use Rattle.url_maps.specs.Claims.{IsIndexOf, claims_alias, claims_vanity_path};
+ghost use Rattle.url_maps.specs.Changes.{HasRoom, IsChangeOf};
+ghost use Rattle.url_maps.specs.Noting.{NotesRow, left_alias, left_vanity_path};
+
+use crate::MapIndex;
+use crate::claimed::{alias_texts, vanity_texts};
+use crate::claims_change::ClaimsChange;
+use resource_tree::{Node, Patch, PatchNode, Tree};
+use sp_base::{Mem, Path};
+use std::alloc::Global;
+use std::marker::Model;
+
+/// What a patch changes in an index: the texts whose claimants change, and who claims them after it.
+#[derive(Drop)]
+pub struct IndexChange {
+    aliases: ClaimsChange,
+    vanity_paths: ClaimsChange,
+}
+
+impl Model for IndexChange {
+    ghost use Rattle.url_maps.specs.Changes.{Change};
+
+    ghost Value = { Change };
+
+    ghost view = { λ c. record { aliases = c.aliases; vanity_paths = c.vanity_paths } };
+}
+
+impl MapIndex {
+    /// What a patch of the tree changes in the index, for which room is made here: all memory that the change takes. It walks over
+    /// the patch, and over the claimants of the texts that the patch's nodes claim before it or after it.
+    pub fn change_of(&mut self, alloc: Global, tree: &Tree, patch: &Patch) -> Mem<IndexChange>
+        requires { IsIndexOf tree.now self.old }
+        ensures change { IfOk result (IsChangeOf tree.now patch.now) }
+        ensures room { IfOk result (HasRoom self.new) }
+        ensures index { IsIndexOf tree.now self.new }
+    {
+        let change = change_by(alloc, self, tree, patch)?;
+        self.aliases.make_room(change.aliases.len())?;
+        self.vanity_paths.make_room(change.vanity_paths.len())?;
+        Ok(change)
+    }
+
+    /// Changes the index, with no memory.
+    pub fn take(&mut self, change: IndexChange)
+        requires { HasRoom self.old change }
+        ensures { (tree after : Content) (patch : Rows) → IsIndexOf tree self.old → IsChangeOf tree patch change → ((path : List (List ℕ)) → node_at after path ≡ patching_at tree patch path) → IsIndexOf after self.new }
+    {
+        let IndexChange {
+            aliases,
+            vanity_paths,
+        } = change;
+        self.aliases.change(aliases);
+        self.vanity_paths.change(vanity_paths);
+    }
+}
+
+fn change_by(alloc: Global, index: &MapIndex, tree: &Tree, patch: &Patch) -> Mem<IndexChange>
+    requires { IsIndexOf tree.now index.now }
+    ensures { IfOk result (IsChangeOf tree.now patch.now) }
+{
+    let mut aliases = ClaimsChange::new(alloc, tree.seeds());
+    let mut vanity_paths = ClaimsChange::new(alloc, tree.seeds());
+    for place in 0..patch.len() {
+        let Some((path, row)) = patch.at(place) else {
+            continue;
+        };
+        note_row(
+            &mut aliases,
+            &mut vanity_paths,
+            alloc,
+            index,
+            tree,
+            patch,
+            path,
+            row,
+        )?;
+    }
+    Ok(IndexChange {
+        aliases,
+        vanity_paths,
+    })
+}
+
+// Notes what a row changes.
+fn note_row(
+    aliases: &mut ClaimsChange,
+    vanity_paths: &mut ClaimsChange,
+    alloc: Global,
+    index: &MapIndex,
+    tree: &Tree,
+    patch: &Patch,
+    path: &Path,
+    row: &PatchNode,
+) -> Mem<()>
+    ensures aliases { OnOk result (NotesRow index.now.aliases.rows patch.now path.now (claims_alias tree.now path.now) (left_alias path.now row.now) aliases.old aliases.new) }
+    ensures vanity_paths { OnOk result (NotesRow index.now.vanity_paths.rows patch.now path.now (claims_vanity_path tree.now path.now) (left_vanity_path path.now row.now) vanity_paths.old vanity_paths.new) }
+{
+    let old = tree.node(path);
+    let new = left_by(row);
+    let before = alias_texts(alloc, path, old)?;
+    let after = alias_texts(alloc, path, new)?;
+    aliases.note_node(alloc, &index.aliases, patch, path, &before, &after)?;
+    let before = vanity_texts(alloc, old)?;
+    let after = vanity_texts(alloc, new)?;
+    vanity_paths.note_node(alloc, &index.vanity_paths, patch, path, &before, &after)?;
+    Ok(())
+}
+
+// The node that a row leaves at its path.
+fn left_by(row: &PatchNode) -> Option<&Node>
+    ensures { option_copied result ≡ left_by (Some row.now) None }
+{
+    match row {
+        PatchNode::Node(node) => Some(node),
+        PatchNode::Gone => None,
+    }
+}

@@ -1,0 +1,151 @@
+// The texts whose claimants a patch changes.
+ghost use Rattle.std.specs.Prelude.{◌≡◌, ◌++◌, [], ℕ, List, IfOk, OnOk, None, Some, cond, length, option_copied, option_to_list};
+ghost use Rattle.std.specs.List.{list_any};
+ghost use Rattle.std.specs.Map.{lookup};
+ghost use Rattle.std.specs.Str.{bytes_eq};
+ghost use Rattle.resource_tree.specs.Patches.{row_at};
+ghost use Rattle.url_maps.specs.Noting.{Notes, NotesRow, is_at_some, kept, noted};
+
+use crate::claims::Claims;
+use indexmap::IndexMap;
+use resource_tree::Patch;
+use sp_base::{Mem, NoMemory, Path, PathList, TextBuf, TextList};
+use std::alloc::Global;
+use std::hash::RandomState;
+use std::marker::Model;
+
+/// Texts, each with all who claim it after the change.
+#[derive(Drop)]
+pub(crate) struct ClaimsChange {
+    pub(crate) rows: IndexMap<String, PathList, RandomState>,
+}
+
+impl Model for ClaimsChange {
+    ghost use Rattle.std.specs.Prelude.{map, string_bytes};
+    ghost use Rattle.url_maps.specs.Claims.{Rows};
+
+    ghost Value = { Rows };
+
+    ghost view = { λ c. map (λ e. (string_bytes e.0, e.1)) c.rows.entries };
+}
+
+impl ClaimsChange {
+    pub(crate) fn new(alloc: Global, seeds: RandomState) -> ClaimsChange
+        ensures { result ≡ [] }
+    {
+        ClaimsChange {
+            rows: IndexMap::with_hasher(alloc, seeds),
+        }
+    }
+
+    pub(crate) fn len(&self) -> usize
+        ensures { result ≡ length self.now }
+    {
+        self.rows.len()
+    }
+
+    // Notes the texts that the node at a path claims before the patch, and those that it claims after it.
+    pub(crate) fn note_node(
+        &mut self,
+        alloc: Global,
+        claims: &Claims,
+        patch: &Patch,
+        path: &Path,
+        before: &TextList,
+        after: &TextList,
+    ) -> Mem<()>
+        ensures { OnOk result (NotesRow claims.now.rows patch.now path.now (λ t. list_any (bytes_eq t) before.now) (λ t. list_any (bytes_eq t) after.now) self.old self.new) }
+    {
+        self.note_all(alloc, claims, patch, before.as_slice(), None)?;
+        self.note_all(alloc, claims, patch, after.as_slice(), Some(path))?;
+        Ok(())
+    }
+
+    // Notes each of some texts, with a path that claims it after the patch, or none.
+    fn note_all(
+        &mut self,
+        alloc: Global,
+        claims: &Claims,
+        patch: &Patch,
+        texts: &[TextBuf],
+        path: Option<&Path>,
+    ) -> Mem<()>
+        ensures { OnOk result (Notes claims.now.rows patch.now (is_at_some (option_copied path.entry)) (λ t. list_any (bytes_eq t) texts.now) self.old self.new) }
+    {
+        for text in texts {
+            self.note(alloc, claims, patch, text.text(), path)?;
+        }
+        Ok(())
+    }
+
+    fn note(
+        &mut self,
+        alloc: Global,
+        claims: &Claims,
+        patch: &Patch,
+        text: &str,
+        path: Option<&Path>,
+    ) -> Mem<()>
+        ensures { OnOk result ((t : List ℕ) → lookup (bytes_eq t) self.new ≡ cond (bytes_eq text.now t) (Some (noted claims.now.rows patch.now self.old text.now ++ option_to_list (option_copied path.entry))) (lookup (bytes_eq t) self.old)) }
+    {
+        let mut paths = self.take_noted(alloc, claims, patch, text)?;
+        push_some(&mut paths, alloc, path)?;
+        self.set(alloc, text, paths)?;
+        Ok(())
+    }
+
+    // Takes the row of a text away, and answers its claimants: those that the patch leaves, where it had no row.
+    fn take_noted(
+        &mut self,
+        alloc: Global,
+        claims: &Claims,
+        patch: &Patch,
+        text: &str,
+    ) -> Mem<PathList>
+        ensures value { IfOk result (λ paths. paths ≡ noted claims.now.rows patch.now self.old text.now) }
+        ensures rest { OnOk result ((t : List ℕ) → lookup (bytes_eq t) self.new ≡ cond (bytes_eq text.now t) None (lookup (bytes_eq t) self.old)) }
+    {
+        match self.take(text) {
+            Some(paths) => Ok(paths),
+            None => kept(alloc, claims.get(text), patch),
+        }
+    }
+
+    // Takes the row of a text away.
+    fn take(&mut self, text: &str) -> Option<PathList>
+        ensures value { result ≡ lookup (bytes_eq text.now) self.old }
+        ensures rest { (t : List ℕ) → lookup (bytes_eq t) self.new ≡ cond (bytes_eq text.now t) None (lookup (bytes_eq t) self.old) }
+    {
+        self.rows.swap_remove(text)
+    }
+
+    fn set(&mut self, alloc: Global, text: &str, paths: PathList) -> Mem<()>
+        ensures { OnOk result ((t : List ℕ) → lookup (bytes_eq t) self.new ≡ cond (bytes_eq text.now t) (Some paths) (lookup (bytes_eq t) self.old)) }
+    {
+        let key = String::from_str(alloc, text)?;
+        self.rows.insert(key, paths)?;
+        Ok(())
+    }
+}
+
+fn push_some(paths: &mut PathList, alloc: Global, path: Option<&Path>) -> Mem<()>
+    ensures { OnOk result (paths.new ≡ paths.old ++ option_to_list (option_copied path.entry)) }
+{
+    if let Some(path) = path {
+        paths.push(path.duplicate(alloc)?)?;
+    }
+    Ok(())
+}
+
+// Those of some paths at which a patch has nothing.
+fn kept(alloc: Global, paths: &[Path], patch: &Patch) -> Mem<PathList>
+    ensures { IfOk result (λ list. list ≡ kept patch.now paths.now) }
+{
+    let mut list = PathList::new(alloc);
+    for path in paths {
+        if patch.get(path).is_none() {
+            list.push(path.duplicate(alloc)?)?;
+        }
+    }
+    Ok(list)
+}

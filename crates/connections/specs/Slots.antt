@@ -3,7 +3,7 @@ use Rattle.std.specs.Prelude.{◌≡◌, ◌||◌, ◌⊎◌, ℕ, Bool, true, f
 use Rattle.std.specs.Cmp.Lexicographic.{pointwise}
 use Rattle.sp_base.specs.declared.answer.Answer.{Answer}
 use Rattle.sp_base.specs.declared.answer.Req.{Req}
-use Rattle.http_front.specs.Answers.{answer_bytes, fixed_507}
+use Rattle.http_front.specs.Answers.{answer_bytes, fixed_507, interim_100}
 use Rattle.connections.specs.declared.sending.Sending.{Sending}
 
 -- What a slot is answered by: 100 Continue (RFC 9110, section 15.2.1), the fixed 507, what a flight will bring, or an answer.
@@ -19,10 +19,6 @@ pub record Slot : Type 0 where
   pub head_only : Bool
   pub closes : Bool
   pub response : Response
-
--- an interim response: a status line and no field (RFC 9112, section 4)
-abbrev pub continue_bytes : List ℕ
-continue_bytes = codes "HTTP/1.1 100 Continue\r\n\r\n"
 
 -- it doesn't wait for a flight
 abbrev pub is_answered : Response → Bool
@@ -47,7 +43,7 @@ is_final (Says answer) = true
 
 -- the bytes of a response in this slot
 abbrev pub IsWritten : Slot → Response → List ℕ → Type 0
-IsWritten slot Interim bytes = bytes ≡ continue_bytes
+IsWritten slot Interim bytes = bytes ≡ interim_100
 IsWritten slot Fixed bytes = bytes ≡ fixed_507
 IsWritten slot (Awaits flight) bytes = ⊥
 IsWritten slot (Says answer) bytes = bytes ≡ answer_bytes slot.head_only slot.closes answer

@@ -1,12 +1,12 @@
 -- What the code keeps of a connection: the places of its answers that aren't sent yet.
 use Rattle.std.specs.Prelude.{◌≡◌, ◌≤◌, ◌⊎◌, ℕ, Bool, true, false, nat_eq, List, [], ◌∷◌, drop, length, take}
-use Rattle.http_front.specs.Answers.{answer_bytes, fixed_507}
+use Rattle.http_front.specs.Answers.{answer_bytes, fixed_507, interim_100}
 use Rattle.connections.specs.declared.place.Place.{Place}
 use Rattle.connections.specs.declared.place.Reply.{Reply}
 use Rattle.connections.specs.declared.place.Reply.TheVariants.{Interim, Fixed, Awaits, Says}
 use Rattle.connections.specs.declared.outbox.Outbox.{Outbox}
 use Rattle.connections.specs.declared.sending.Sending.{Sending}
-use Rattle.connections.specs.Slots.{Slot, Response, continue_bytes, is_answered}
+use Rattle.connections.specs.Slots.{Slot, Response, is_answered}
 use Rattle.connections.specs.Slots as model
 use Rattle.connections.specs.Connections.{Connection}
 
@@ -32,7 +32,7 @@ is_final_reply (Says answer) = true
 
 -- the bytes of a reply: none while it is awaited
 abbrev pub reply_bytes : Bool → Bool → Reply → List ℕ
-reply_bytes head_only closes Interim = continue_bytes
+reply_bytes head_only closes Interim = interim_100
 reply_bytes head_only closes Fixed = fixed_507
 reply_bytes head_only closes (Awaits flight) = []
 reply_bytes head_only closes (Says answer) = answer_bytes head_only closes answer

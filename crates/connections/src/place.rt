@@ -3,11 +3,9 @@ ghost use Rattle.std.specs.Prelude.{◌≡◌, ◌||◌, Bool, IfOk};
 ghost use Rattle.connections.specs.Slots as model;
 ghost use Rattle.connections.specs.Ties.{PlaceTied, ReplyTied, awaits as awaiting, is_final_reply, has_reply as answered, place_bytes};
 
-use http_front::{answer_bytes, fixed_507};
+use http_front::{answer_bytes, fixed_507, interim_100};
 use sp_base::{Answer, ByteBuf, Mem, Req};
 use std::alloc::Global;
-
-const CONTINUE: &[u8] = b"HTTP/1.1 100 Continue\r\n\r\n";
 
 /// What answers a turn.
 #[derive(Drop)]
@@ -109,7 +107,7 @@ impl Place {
         ensures { IfOk result (λ bytes. bytes ≡ place_bytes self.now) }
     {
         match &self.reply {
-            Reply::Interim => ByteBuf::of(alloc, CONTINUE),
+            Reply::Interim => ByteBuf::of(alloc, interim_100()),
             Reply::Fixed => ByteBuf::of(alloc, fixed_507()),
             Reply::Awaits(_) => ByteBuf::of(alloc, b""),
             Reply::Says(answer) => answer_bytes(alloc, self.head_only, self.closes, answer),

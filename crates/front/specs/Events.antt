@@ -1,0 +1,173 @@
+-- Events, and runs of them.
+use Rattle.std.specs.Prelude.{◌≡◌, ◌+◌, ◌-◌, ◌++◌, ◌⊎◌, ◌&&◌, ℕ, Bool, true, false, not, nat_eq, nat_le, if◌then◌else◌, List, [], ◌∷◌, Option, Some, None, is_some, IsTrue}
+use Rattle.std.specs.List.{find}
+use Rattle.std.specs.Map.{update}
+use Rattle.sp_base.specs.declared.answer.Answer.{Answer}
+use Rattle.http_front.specs.Turns.{End, Spells}
+use Rattle.http_front.specs.declared.turn.Turn.{Turn}
+use Rattle.connections.specs.Connections.{Connection, fed, fresh}
+use Rattle.front.specs.declared.flying.Flying.{Flying}
+use Rattle.front.specs.declared.step.Pick.{Pick}
+use Rattle.front.specs.declared.step.Pick.TheVariants.{Number, First}
+use Rattle.front.specs.declared.step.Step.{Step}
+use Rattle.front.specs.declared.step.Step.TheVariants.{Opened, Piece, Gone, Direct, Render, Deliver, Lose}
+use Rattle.front.specs.declared.note.Note.{Note}
+use Rattle.front.specs.declared.note.Note.TheVariants.{Answer as answered, Rendered, Passed, Lost, Refused, Idle, Dry}
+use Rattle.front.specs.Publishers.{ask_of, direct_answer, fixed_answer}
+use Rattle.front.specs.States.{RunState}
+use Rattle.front.specs.Moves.{Mood, Settles, after, afters, on_line, has_number}
+
+-- An event: its step, its notes but for those that name its mood, and the mood. Of a piece it tells which further turns its
+-- connection's stream now spells, and how they end.
+pub record Event : Type 0 where
+  pub step : Step
+  pub body : List Note
+  pub mood : Mood
+  pub turns : List Turn
+  pub ends : End
+
+abbrev pub mood_notes : Mood → List Note
+mood_notes m = if m.dry then Dry ∷ [] else []
+
+-- the notes of an event: those that name its mood are last
+abbrev pub notes_of : Event → List Note
+notes_of e = e.body ++ mood_notes e.mood
+
+-- ---- what a step does before any note
+
+-- the most connections
+abbrev pub most_lines : ℕ
+most_lines = 256
+
+-- the connection is there, where there is room
+abbrev pub opened : RunState → ℕ → List ℕ → Option Connection → RunState
+opened w c peer (Some line) = w
+opened w c peer None = if nat_le most_lines w.lines then w else record w { line = update nat_eq w.line c (Some (fresh peer)); lines = w.lines + 1 }
+
+-- the connection isn't there any more
+abbrev pub gone : RunState → ℕ → Option Connection → RunState
+gone w c None = w
+gone w c (Some line) = record w { line = update nat_eq w.line c None; lines = w.lines - 1 }
+
+abbrev pub begun : RunState → Event → Step → RunState
+begun w e (Opened c peer) = opened w c peer (w.line c)
+begun w e (Piece c bytes) = on_line w c (fed bytes e.turns e.ends)
+begun w e (Gone c) = gone w c (w.line c)
+begun w e (Direct target) = w
+begun w e (Render pick) = w
+begun w e (Deliver pick) = w
+begun w e (Lose pick) = w
+
+-- the state after an event
+abbrev pub after_event : RunState → Event → RunState
+after_event w e = afters (begun w e e.step) e.body
+
+-- ---- the flight that a step takes
+
+-- the flight is one of those that are asked for
+abbrev pub is_picked : Pick → Flying → Bool
+is_picked (Number number) flying = has_number number flying
+is_picked First flying = true
+
+-- the first flight that is asked for and can be taken: with `First` the one with the least number
+abbrev pub picked : Pick → (Flying → Bool) → List Flying → Option Flying
+picked pick can air = find (λ flying. is_picked pick flying && can flying) air
+
+abbrev pub is_rendered : Flying → Bool
+is_rendered flying = is_some flying.rendered
+
+abbrev pub is_unrendered : Flying → Bool
+is_unrendered flying = not (is_rendered flying)
+
+abbrev pub is_any : Flying → Bool
+is_any flying = true
+
+-- ---- the notes of each step
+
+abbrev pub opening : ℕ → ℕ → Option Connection → List Note
+opening c lines (Some line) = Idle ∷ []
+opening c lines None = if nat_le most_lines lines then Refused c ∷ [] else []
+
+abbrev pub going : Option Connection → List Note
+going None = Idle ∷ []
+going (Some line) = []
+
+-- The stream spells these turns now too, and ends so, unless it is read no further; and the connection gets what it is owed.
+pub record PieceFeeds (w : RunState) (e : Event) (c : ℕ) (bytes : List ℕ) (line : Connection) : Type 0 where
+  pub spells : line.closing ≡ false → Spells (line.stream ++ bytes) (line.turns ++ e.turns) e.ends
+  pub settles : Settles e.mood (on_line w c (fed bytes e.turns e.ends)) c e.body
+
+abbrev pub PieceTo : RunState → Event → ℕ → List ℕ → Option Connection → Type 0
+PieceTo w e c bytes None = e.body ≡ Idle ∷ []
+PieceTo w e c bytes (Some line) = PieceFeeds w e c bytes line
+
+-- the answer that is wanted, or in a dry event the fixed one
+abbrev pub IsOrFixed : Mood → Answer → Answer → Type 0
+IsOrFixed m answer wanted = (answer ≡ wanted) ⊎ (IsTrue m.dry × (answer ≡ fixed_answer))
+
+-- the publisher's answer to the target, on the content of this moment
+abbrev pub DirectTo : RunState → Event → List ℕ → Type 0
+DirectTo w e target = (answer : Answer) × IsOrFixed e.mood answer (direct_answer w.publishing w.content target) × (e.body ≡ answered answer ∷ [])
+
+-- the publisher's answer to the flight's request, on the content of this moment
+abbrev pub RenderTo : RunState → Event → Option Flying → Type 0
+RenderTo w e None = e.body ≡ Idle ∷ []
+RenderTo w e (Some flying) = (answer : Answer) × IsOrFixed e.mood answer (w.publishing w.content (ask_of flying.request)) × (e.body ≡ Rendered flying.number answer ∷ [])
+
+-- a first note, and then what its connection is owed
+pub record Leads (w : RunState) (m : Mood) (first : Note) (c : ℕ) (notes : List Note) : Type 0 where
+  pub rest : List Note
+  pub begins : notes ≡ first ∷ rest
+  pub settles : Settles m (after w first) c rest
+
+-- which note a landing has: without a cache its answer is passed on
+abbrev pub MayLand : RunState → Mood → Flying → Answer → Note → Type 0
+MayLand w m flying answer note = note ≡ Passed flying.number
+
+abbrev pub DeliverAs : RunState → Event → Flying → Option Answer → Type 0
+DeliverAs w e flying None = e.body ≡ Idle ∷ []
+DeliverAs w e flying (Some answer) = (note : Note) × MayLand w e.mood flying answer note × Leads w e.mood note flying.line e.body
+
+abbrev pub DeliverTo : RunState → Event → Option Flying → Type 0
+DeliverTo w e None = e.body ≡ Idle ∷ []
+DeliverTo w e (Some flying) = DeliverAs w e flying flying.rendered
+
+abbrev pub LoseTo : RunState → Event → Option Flying → Type 0
+LoseTo w e None = e.body ≡ Idle ∷ []
+LoseTo w e (Some flying) = Leads w e.mood (Lost flying.number) flying.line e.body
+
+-- the event is one of this step
+abbrev pub HappensBy : RunState → Event → Step → Type 0
+HappensBy w e (Opened c peer) = e.body ≡ opening c w.lines (w.line c)
+HappensBy w e (Piece c bytes) = PieceTo w e c bytes (w.line c)
+HappensBy w e (Gone c) = e.body ≡ going (w.line c)
+HappensBy w e (Direct target) = DirectTo w e target
+HappensBy w e (Render pick) = RenderTo w e (picked pick is_unrendered w.air)
+HappensBy w e (Deliver pick) = DeliverTo w e (picked pick is_rendered w.air)
+HappensBy w e (Lose pick) = LoseTo w e (picked pick is_any w.air)
+
+abbrev pub Happens : RunState → Event → Type 0
+Happens w e = HappensBy w e e.step
+
+-- a run: each event happens in the state that those before it left
+abbrev pub Run : RunState → List Event → Type 0
+Run w [] = Unit {0}
+Run w (e ∷ events) = Happens w e × Run (after_event w e) events
+
+abbrev pub after_run : RunState → List Event → RunState
+after_run w [] = w
+after_run w (e ∷ events) = after_run (after_event w e) events
+
+-- ---- what a call of the front adds
+
+-- an event with this step and these notes, after which the front stands for what it left
+pub record Extended (Stands : RunState → Type 0) (w : RunState) (step : Step) (notes : List Note) : Type 0 where
+  pub event : Event
+  pub step_is : event.step ≡ step
+  pub notes_are : notes_of event ≡ notes
+  pub happens : Happens w event
+  pub stands : Stands (after_event w event)
+
+-- Each run that the front stood for goes on with one event more.
+pub record Extends (Before After : RunState → Type 0) (step : Step) (notes : List Note) : Type 0 where
+  pub extended : (w : RunState) → Before w → Extended After w step notes

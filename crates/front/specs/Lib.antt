@@ -1,0 +1,4 @@
+pub mod Publishers
+pub mod States
+pub mod Moves
+pub mod Events

@@ -1,0 +1,215 @@
+-- What each note does to the state of a run, and what a connection is given where it is owed something.
+use Rattle.std.specs.Prelude.{◌≡◌, ◌+◌, ◌-◌, ◌^◌, ◌==◌, ◌||◌, ◌++◌, ◌⊎◌, ℕ, Bool, false, not, nat_eq, nat_le, if◌then◌else◌, List, [], ◌∷◌, Option, Some, None, IsTrue, length, map, filter, unwrap_or, option_and_then}
+use Rattle.std.specs.List.{find}
+use Rattle.std.specs.Option.{option_map}
+use Rattle.std.specs.Map.{update}
+use Rattle.sp_base.specs.declared.answer.Answer.{Answer}
+use Rattle.sp_base.specs.declared.answer.Req.{Req}
+use Rattle.cover_rules.specs.declared.page.PageKey.{PageKey}
+use Rattle.error_answers.specs.Errors.{error_answer}
+use Rattle.http_front.specs.Answers.{fixed_507}
+use Rattle.http_front.specs.Faults.{status_of}
+use Rattle.http_front.specs.declared.turn.Turn.{Turn}
+use Rattle.http_front.specs.declared.turn.Turn.TheVariants.{Continue, Whole}
+use Rattle.connections.specs.Slots.{Slot, Response, Fixed, Awaits, Says, IsWritten, request_slot, fault_slot}
+use Rattle.connections.specs.Connections.{Connection, Due, Send, Treat, Refuse, Close, Nothing, advanced, is_crowded, with_slot, with_landing, with_sent}
+use Rattle.connections.specs.Connections as connection
+use Rattle.front.specs.declared.flying.Flying.{Flying}
+use Rattle.front.specs.declared.note.Note.{Note}
+use Rattle.front.specs.declared.note.Note.TheVariants.{Answer as answered, Ask as asked, Local, Rendered, Passed, Lost, Sent, Shut, Refused, Idle, Dry}
+use Rattle.front.specs.Publishers.{fixed_answer}
+use Rattle.front.specs.States.{RunState, Log, Entry, Asked, Landed, Lost as lost_entry, Passed as passed_fate, asked_in}
+
+-- what an event allows: in a dry one memory was wanting
+pub record Mood : Type 0 where
+  pub dry : Bool
+
+-- ---- flights
+
+-- the flight has this number
+abbrev pub has_number : ℕ → Flying → Bool
+has_number number flying = nat_eq flying.number number
+
+-- the flight with this number
+abbrev pub flight_at : ℕ → List Flying → Option Flying
+flight_at number air = find (has_number number) air
+
+-- the flights but for that one
+abbrev pub without : ℕ → List Flying → List Flying
+without number air = filter (λ flying. not (has_number number flying)) air
+
+-- the flight is rendered
+abbrev pub with_rendered : Answer → Flying → Flying
+with_rendered answer flying = record flying { rendered = Some answer }
+
+abbrev pub with_rendered_at : ℕ → Answer → Flying → Flying
+with_rendered_at number answer flying = if has_number number flying then with_rendered answer flying else flying
+
+-- ---- what is owed
+
+abbrev pub line_due : Option Connection → Due
+line_due None = Nothing
+line_due (Some c) = connection.due c
+
+-- what a connection is owed next
+abbrev pub due : RunState → ℕ → Due
+due w c = line_due (w.line c)
+
+-- ---- requests
+
+-- Where a request may get its answer, the first that applies: its connection has too many requests that are unanswered; too many flights
+-- are in the air, or too many were asked; else the renderer is asked.
+pub data Point : Type 0 where
+  Crowded : Point
+  Full : Point
+  Free : Point
+
+abbrev pub points : List Point
+points = Crowded ∷ Full ∷ Free ∷ []
+
+abbrev pub is_crowded_line : Option Connection → Bool
+is_crowded_line None = false
+is_crowded_line (Some c) = is_crowded c
+
+-- the most flights in the air, and the most that are asked
+abbrev pub most_flights : ℕ
+most_flights = 256
+
+abbrev pub most_numbers : ℕ
+most_numbers = 2 ^ 63
+
+abbrev pub is_full : RunState → Bool
+is_full w = nat_le most_flights (length w.air) || nat_le most_numbers (asked_in w.log.entries)
+
+-- the point may answer a request
+abbrev pub Applies : Mood → RunState → ℕ → Req → Point → Type 0
+Applies m w c request Crowded = IsTrue (is_crowded_line (w.line c))
+Applies m w c request Full = IsTrue (is_full w)
+Applies m w c request Free = Unit {0}
+
+-- a later point may answer it instead
+abbrev pub MayPass : Mood → RunState → ℕ → Req → Point → Type 0
+MayPass m w c request Crowded = Applies m w c request Crowded → ⊥
+MayPass m w c request Full = Applies m w c request Full → ⊥
+MayPass m w c request Free = ⊥
+
+-- the page of the cache that a request has: none without a cache
+abbrev pub key_of : RunState → Req → Option PageKey
+key_of w request = None
+
+-- what a point answers: Service Unavailable (RFC 9110, section 15.6.4), or a flight with the next number
+abbrev pub Answers : RunState → ℕ → Req → Point → Note → Type 0
+Answers w c request Crowded note = note ≡ Local c 503
+Answers w c request Full note = note ≡ Local c 503
+Answers w c request Free note = note ≡ asked (asked_in w.log.entries + 1) c (key_of w request)
+
+-- the note is that of the first of these points which applies
+abbrev pub IsFirst : Mood → RunState → ℕ → Req → Note → List Point → Type 0
+IsFirst m w c request note [] = ⊥
+IsFirst m w c request note (point ∷ later) = (Applies m w c request point × Answers w c request point note) ⊎ (MayPass m w c request point × IsFirst m w c request note later)
+
+-- ---- what a note gives
+
+abbrev pub TreatedBy : Mood → RunState → ℕ → Turn → Note → Type 0
+TreatedBy m w c Continue note = ⊥
+TreatedBy m w c (Whole request) note = IsFirst m w c request note points ⊎ (IsTrue m.dry × (note ≡ Local c 507))
+
+-- these bytes may be sent for the slot: its own, or in a dry event the fixed 507
+abbrev pub MaySend : Mood → Slot → List ℕ → Type 0
+MaySend m slot bytes = IsWritten slot slot.response bytes ⊎ (IsTrue m.dry × (bytes ≡ fixed_507))
+
+-- the note gives the connection what it is owed
+abbrev pub Gives : Mood → RunState → ℕ → Due → Note → Type 0
+Gives m w c (Send slot) note = (bytes : List ℕ) × (note ≡ Sent c bytes) × MaySend m slot bytes
+Gives m w c (Treat turn) note = TreatedBy m w c turn note
+Gives m w c (Refuse fault) note = note ≡ Local c (status_of fault)
+Gives m w c Close note = note ≡ Shut c
+Gives m w c Nothing note = ⊥
+
+-- ---- what a note does
+
+-- the request that is treated, if one is
+abbrev pub request_of : Due → Option Req
+request_of (Send slot) = None
+request_of (Treat Continue) = None
+request_of (Treat (Whole request)) = Some request
+request_of (Refuse fault) = None
+request_of Close = None
+request_of Nothing = None
+
+-- the slot of a request, or without one that of a fault
+abbrev pub slot_for : Option Req → Bool → Response → Slot
+slot_for None closes response = fault_slot response
+slot_for (Some request) closes response = request_slot request closes response
+
+-- what the front answers by itself
+abbrev pub local_response : ℕ → Response
+local_response status = if status == 507 then Fixed else Says (error_answer status)
+
+-- one connection changes, if it is open
+abbrev pub on_line : RunState → ℕ → (Connection → Connection) → RunState
+on_line w c change = record w { line = update nat_eq w.line c (option_map change (w.line c)) }
+
+-- the turn that is treated has its slot, and the sender that waits next has its 100 Continue
+abbrev pub treated : Slot → Connection → Connection
+treated slot c = advanced (with_slot slot c)
+
+abbrev pub local_slot : Option Req → ℕ → Connection → Slot
+local_slot request status c = slot_for request (is_crowded c || status == 507) (local_response status)
+
+abbrev pub logged : Log → Entry → Log
+logged log entry = record log { entries = entry ∷ log.entries }
+
+abbrev pub new_flight : ℕ → ℕ → Req → Flying
+new_flight number c request = record { number = number; line = c; request = request; rendered = None }
+
+abbrev pub asked_by : RunState → ℕ → ℕ → Option PageKey → Option Req → RunState
+asked_by w number c key None = w
+asked_by w number c key (Some request) =
+    record w {
+      line = update nat_eq w.line c (option_map (treated (request_slot request false (Awaits number))) (w.line c));
+      air = w.air ++ new_flight number c request ∷ [];
+      log = logged w.log (Asked number key);
+    }
+
+-- a flight is out of the air, and its connection has this answer
+abbrev pub over_with : RunState → ℕ → Answer → Entry → Option Flying → RunState
+over_with w number answer entry None = w
+over_with w number answer entry (Some flying) =
+    record w {
+      line = update nat_eq w.line flying.line (option_map (with_landing number answer) (w.line flying.line));
+      air = without number w.air;
+      log = logged w.log entry;
+    }
+
+-- the answer that a flight was rendered
+abbrev pub answer_in : Option Flying → Answer
+answer_in flying = unwrap_or (option_and_then (λ f. f.rendered) flying) fixed_answer
+
+-- the state after a note
+abbrev pub after : RunState → Note → RunState
+after w (answered answer) = w
+after w (asked number c key) = asked_by w number c key (request_of (due w c))
+after w (Local c status) = on_line w c (λ line. treated (local_slot (request_of (due w c)) status line) line)
+after w (Rendered number answer) = record w { air = map (with_rendered_at number answer) w.air }
+after w (Passed number) = over_with w number (answer_in (flight_at number w.air)) (Landed number (answer_in (flight_at number w.air)) passed_fate) (flight_at number w.air)
+after w (Lost number) = over_with w number (error_answer 502) (lost_entry number) (flight_at number w.air)
+after w (Sent c bytes) = on_line w c (with_sent bytes)
+after w (Shut c) = record w { line = update nat_eq w.line c None; lines = w.lines - 1 }
+after w (Refused c) = w
+after w Idle = w
+after w Dry = w
+
+abbrev pub afters : RunState → List Note → RunState
+afters w [] = w
+afters w (note ∷ notes) = afters (after w note) notes
+
+-- each note gives the connection what it is owed then
+abbrev pub Serves : Mood → RunState → ℕ → List Note → Type 0
+Serves m w c [] = Unit {0}
+Serves m w c (note ∷ notes) = Gives m w c (due w c) note × Serves m (after w note) c notes
+
+-- the notes give a connection all that it is owed, and no other
+pub record Settles (m : Mood) (w : RunState) (c : ℕ) (notes : List Note) : Type 0 where
+  pub serves : Serves m w c notes
+  pub idle : due (afters w notes) c ≡ Nothing

@@ -1,0 +1,39 @@
+-- What events act on: the state of a run.
+use Rattle.std.specs.Prelude.{◌+◌, ℕ, List, [], ◌∷◌, Option}
+use Rattle.sp_base.specs.declared.answer.Answer.{Answer}
+use Rattle.resource_tree.specs.Content.{Content}
+use Rattle.cover_rules.specs.declared.page.PageKey.{PageKey}
+use Rattle.connections.specs.Connections.{Connection}
+use Rattle.front.specs.declared.flying.Flying.{Flying}
+use Rattle.front.specs.Publishers.{Publishing}
+
+-- what became of a landing: its answer was passed on
+pub data Fate : Type 0 where
+  Passed : Fate
+
+-- An entry of the log: a flight was asked, for a page of the cache if it has one; it has landed with an answer; it was lost.
+pub data Entry : Type 0 where
+  Asked : (number : ℕ) (key : Option PageKey) → Entry
+  Landed : (number : ℕ) (answer : Answer) (fate : Fate) → Entry
+  Lost : (number : ℕ) → Entry
+
+-- the log, its newest entry first
+pub record Log : Type 0 where
+  pub entries : List Entry
+
+-- The state of a run: the publisher and its content, the open connections and how many they are, the flights in the air by number,
+-- and the log.
+pub record RunState : Type 0 where
+  pub publishing : Publishing
+  pub content : Content
+  pub line : ℕ → Option Connection
+  pub lines : ℕ
+  pub air : List Flying
+  pub log : Log
+
+-- how many flights were asked
+abbrev pub asked_in : List Entry → ℕ
+asked_in [] = 0
+asked_in (Asked number key ∷ entries) = asked_in entries + 1
+asked_in (Landed number answer fate ∷ entries) = asked_in entries
+asked_in (Lost number ∷ entries) = asked_in entries

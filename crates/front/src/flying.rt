@@ -1,0 +1,11 @@
+//! The flights in the air.
+use sp_base::{Answer, Req};
+
+/// A flight in the air: a request that the publisher was asked for a connection, and its answer once it is rendered.
+#[derive(Drop)]
+pub struct Flying {
+    pub number: u64,
+    pub line: u32,
+    pub request: Req,
+    pub rendered: Option<Answer>,
+}

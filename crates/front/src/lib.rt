@@ -3,6 +3,7 @@
 
 mod flying;
 mod laws;
+mod line;
 mod note;
 mod renderer;
 mod step;

@@ -1,0 +1,10 @@
+use Rattle.std.proofs.Common.{refl, sym, ◌∙◌}
+use Rattle.connections.specs.Slots.{interim_slot}
+use Rattle.front.proofs.LineLemmas.{advance-continue, popped-continue}
+use Rattle.front.proofs.line.Line.advance.Goals as goal
+
+pub returns-clause-holds : goal.returns-clause-holds
+returns-clause-holds c = λ m keeps.
+    let stays = sym (c.is_closing.ensures m keeps.tied) ∙ c.if-is_closing.false in
+    let begins = sym c.begins_with_continue.ensures ∙ c.if-not-begins_with_continue.false in
+    advance-continue c.args.self.now _ m stays refl refl (popped-continue _ _ begins c.pop_front.ensures.rest) (c.in_ok-push.ensures.ok m interim_slot keeps.tied c.interim.ensures) keeps

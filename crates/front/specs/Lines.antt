@@ -1,0 +1,107 @@
+-- What the front keeps of a connection. (Of the theorem's reader this file is no concern.)
+use Rattle.std.specs.Prelude.{◌≡◌, ◌+◌, ◌*◌, ◌++◌, ℕ, Bool, true, false, List, [], ◌∷◌, Option, Some, None, length}
+use Rattle.http_front.specs.Turns.{End, Waits, Breaks, Spells}
+use Rattle.http_front.specs.Intakes.{StandsFor}
+use Rattle.http_front.specs.declared.fault.InFault.{InFault}
+use Rattle.http_front.specs.declared.intake.Intake.{Intake}
+use Rattle.http_front.specs.declared.turn.Turn.{Turn}
+use Rattle.http_front.specs.declared.turn.Turn.TheVariants.{Continue, Whole}
+use Rattle.connections.specs.Connections.{Connection, Treat, Refuse, Close, Nothing, due, fed}
+use Rattle.connections.specs.Ties.{Tied, unsent_count}
+use Rattle.front.specs.declared.line.Line.{Line}
+use Rattle.front.specs.declared.line.Taken.{Taken}
+use Rattle.front.specs.declared.line.Taken.TheVariants.{Request, Fault, Waiting, Over}
+
+abbrev pub end_of : Option InFault → End
+end_of None = Waits
+end_of (Some fault) = Breaks fault
+
+-- the turns don't begin with a Continue
+abbrev pub IsReady : List Turn → Type 0
+IsReady [] = Unit {0}
+IsReady (Continue ∷ turns) = ⊥
+IsReady (Whole request ∷ turns) = Unit {0}
+
+-- no Continue stands after a Continue
+abbrev pub IsPaired : List Turn → Type 0
+IsPaired [] = Unit {0}
+IsPaired (Continue ∷ turns) = IsReady turns × IsPaired turns
+IsPaired (Whole request ∷ turns) = IsPaired turns
+
+-- so many of the turns are treated, and these are left
+pub record Splits (turns : List Turn) (count : ℕ) (left : List Turn) : Type 0 where
+  pub done : List Turn
+  pub counted : length done ≡ count
+  pub joined : turns ≡ done ++ left
+
+-- what is kept of a stream that is read on
+pub record ReadsOn (k : Line) (c : Connection) : Type 0 where
+  pub told : StandsFor k.intake c.stream c.turns
+  pub splits : Splits c.turns (length c.slots) k.turns.items
+  pub ends : c.ends ≡ end_of k.fault
+  pub paired : IsPaired k.turns.items
+
+-- the line is what is left of the connection, but that a 100 Continue may be owed
+pub record Keeps (k : Line) (c : Connection) : Type 0 where
+  pub tied : Tied k.outbox c
+  pub reads : c.closing ≡ false → ReadsOn k c
+
+-- the line is what is left of the connection
+pub record Holds (k : Line) (c : Connection) : Type 0 where
+  pub keeps : Keeps k c
+  pub ready : c.closing ≡ false → IsReady k.turns.items
+
+-- the same, but that a slot is owed for the turn that was taken
+pub record Owes (k : Line) (c : Connection) : Type 0 where
+  pub tied : Tied k.outbox c
+  pub told : StandsFor k.intake c.stream c.turns
+  pub splits : Splits c.turns (length c.slots + 1) k.turns.items
+  pub ends : c.ends ≡ end_of k.fault
+  pub paired : IsPaired k.turns.items
+
+-- the bytes spell further turns, and the line is what is left of the connection with them
+pub record Reads (bytes : List ℕ) (c : Connection) (k : Line) : Type 0 where
+  pub turns : List Turn
+  pub ends : End
+  pub spells : c.closing ≡ false → Spells (c.stream ++ bytes) (c.turns ++ turns) ends
+  pub holds : Holds k (fed bytes turns ends c)
+
+-- further turns are told, and then the stream ends so
+pub record Tells (old : Intake) (before : List Turn) (new : Intake) (after : List Turn) (fault : Option InFault) : Type 0 where
+  pub turns : List Turn
+  pub joined : after ≡ before ++ turns
+  pub told : (stream : List ℕ) (told : List Turn) → StandsFor old stream told → StandsFor new stream (told ++ turns)
+  pub spells : (stream : List ℕ) (told : List Turn) → StandsFor old stream told → Spells stream (told ++ turns) (end_of fault)
+
+-- the same before the end is found
+pub record TellsOn (old : Intake) (before : List Turn) (new : Intake) (after : List Turn) : Type 0 where
+  pub turns : List Turn
+  pub joined : after ≡ before ++ turns
+  pub told : (stream : List ℕ) (told : List Turn) → StandsFor old stream told → StandsFor new stream (told ++ turns)
+
+-- the turns begin with a Continue
+abbrev pub begins_with_continue : List Turn → Bool
+begins_with_continue [] = false
+begins_with_continue (Continue ∷ turns) = true
+begins_with_continue (Whole request ∷ turns) = false
+
+abbrev pub TakenAs : Taken → Connection → Line → Type 0
+TakenAs (Request request) c k = (due c ≡ Treat (Whole request)) × Owes k c
+TakenAs (Fault fault) c k = (due c ≡ Refuse fault) × Tied k.outbox c
+TakenAs Waiting c k = (due c ≡ Nothing) × Holds k c
+TakenAs Over c k = (due c ≡ Close) × Holds k c
+
+-- by how much less work is left after it
+abbrev pub owed : Taken → ℕ
+owed (Request request) = 2
+owed (Fault fault) = 2
+owed Waiting = 0
+owed Over = 0
+
+abbrev pub fault_work : Option InFault → ℕ
+fault_work None = 0
+fault_work (Some fault) = 2
+
+-- at most how many notes the line can still give
+abbrev pub work_of : Line → ℕ
+work_of k = unsent_count k.outbox + 2 * length k.turns.items + fault_work k.fault

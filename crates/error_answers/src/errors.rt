@@ -6,9 +6,9 @@ use http::StatusCode;
 use sp_base::{Answer, ByteBuf, Mark, Mem, TextBuf};
 use std::alloc::Global;
 
-// The reason phrase of a status code, empty where it has none.
+/// The reason phrase of a status code (RFC 9110, section 15), empty where it has none.
 #[tactic(auto, unfolding(crate::specs::Errors::phrase_of))]
-fn phrase_of(status: u16) -> &'static str
+pub fn phrase_of(status: u16) -> &'static str
     ensures { result.now ≡ phrase_of status }
 {
     if status == 413 {

@@ -3,4 +3,4 @@
 
 mod errors;
 
-pub use errors::error_answer;
+pub use errors::{error_answer, phrase_of};

@@ -1,5 +1,4 @@
 pub mod TargetLemmas
-pub mod PhraseLemmas
 pub mod LocationLemmas
 pub mod FieldLemmas
 pub mod HostLemmas

@@ -1,15 +1,11 @@
 -- An answer as bytes (RFC 9112, sections 4 to 6): a status line, field lines, an empty line, and the body.
-use Rattle.std.specs.Prelude.{◌==◌, ◌&&◌, ◌||◌, ◌++◌, ℕ, Bool, not, nat_le, if◌then◌else◌, List, [], ◌∷◌, codes, decimal, flat_map, length, map, unwrap_or}
+use Rattle.std.specs.Prelude.{◌==◌, ◌&&◌, ◌||◌, ◌++◌, ℕ, Bool, not, nat_le, if◌then◌else◌, List, [], ◌∷◌, codes, decimal, flat_map, length, map}
 use Rattle.httparse.specs.Ascii.{crlf_bytes}
-use Rattle.http.specs.StatusCode.{reason_phrase}
+use Rattle.error_answers.specs.Errors.{phrase_of}
 use Rattle.percent_encoding.specs.Percent.{percent_encode_byte}
 use Rattle.sp_base.specs.declared.answer.Answer.{Answer}
 use Rattle.sp_base.specs.declared.answer.Mark.{Mark}
 use Rattle.sp_base.specs.declared.answer.Mark.TheVariants.{Plain, NoCache, NoStore, MustRevalidate}
-
--- the reason phrase of a status code (RFC 9110, section 15), which has another for 413 than the lists before it
-unfoldable pub phrase_of : ℕ → List ℕ
-phrase_of status = if status == 413 then codes "Content Too Large" else unwrap_or (reason_phrase status) []
 
 -- RFC 9112, section 4
 unfoldable pub status_line : ℕ → List ℕ

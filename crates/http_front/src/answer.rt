@@ -4,7 +4,7 @@ ghost use Rattle.std.specs.Fmt.{decimal};
 ghost use Rattle.httparse.specs.Ascii.{crlf_bytes};
 ghost use Rattle.http_front.specs.Answers as spec;
 
-use http::StatusCode;
+use error_answers::phrase_of;
 use percent_encoding::{AsciiSet, CONTROLS, ascii_set, percent_encode};
 use sp_base::{Answer, ByteBuf, Mark, Mem, TextBuf};
 use std::alloc::Global;
@@ -84,20 +84,6 @@ fn push_status_line(alloc: Global, out: &mut Vec<u8>, status: u16) -> Mem<()>
     push(out, b" ")?;
     push(out, phrase_of(status).as_bytes())?;
     push(out, b"\r\n")
-}
-
-// The reason phrase of a status code, empty where it has none.
-#[tactic(auto, unfolding(crate::specs::Answers::phrase_of))]
-fn phrase_of(status: u16) -> &'static str
-    ensures { result.now ≡ spec.phrase_of status }
-{
-    if status == 413 {
-        return "Content Too Large";
-    }
-    match StatusCode::from_u16(status) {
-        Ok(code) => code.canonical_reason().unwrap_or(""),
-        Err(_) => "",
-    }
 }
 
 fn push_fields(

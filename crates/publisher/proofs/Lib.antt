@@ -1,4 +1,3 @@
-pub mod PhraseLemmas
 pub mod DepthLemmas
 pub mod ChoiceLemmas
 pub mod RenderingLemmas

@@ -17,7 +17,8 @@ use Rattle.script_rank.specs.Ranking.{HasNoCandidate, IsFirst, script_text}
 use Rattle.script_rank.specs.Search.{search_result}
 use Rattle.htl_text.specs.declared.piece.Piece.{Piece}
 use Rattle.htl_text.specs.Template.{template_of, template_output as written_by}
-use Rattle.publisher.specs.Errors.{answer_of, error_answer, redirect}
+use Rattle.error_answers.specs.Errors.{error_answer}
+use Rattle.publisher.specs.Errors.{answer_of, redirect}
 use Rattle.publisher.specs.Readings.{reading_in}
 use Rattle.overlay_merge.specs.Merged.{has_resource}
 use Rattle.publisher.specs.Rendering.{seen, answer_by, html_kind, is_read, mark_of, most_bytes, rendered, representation_of, resource_answer, scope_of, script_for, script_representation, split_answer, text_answer, mapped_answer, mapping}

@@ -29,7 +29,8 @@ use Rattle.get_servlet.specs.Streams.{stream_of}
 use Rattle.publisher.specs.declared.templates.Reading.{Reading}
 use Rattle.publisher.specs.declared.templates.Reading.TheVariants.{Parsed, Refused}
 use Rattle.publisher.specs.Readings.{reading_of}
-use Rattle.publisher.specs.Errors.{answer_of, error_answer, redirect}
+use Rattle.error_answers.specs.Errors.{error_answer}
+use Rattle.publisher.specs.Errors.{answer_of, redirect}
 use Rattle.publisher.specs.Depths.{depth_of}
 use Rattle.publisher.specs.Choices.{choices_text}
 

@@ -14,7 +14,8 @@ ghost use Rattle.script_rank.specs.Ranking.{IsFirst, script_text};
 ghost use Rattle.htl_text.specs.declared.piece.Piece.{Piece};
 ghost use Rattle.htl_text.specs.Spelling.{SpellsTemplate};
 ghost use Rattle.htl_text.specs.Template.{template_output as written_by};
-ghost use Rattle.publisher.specs.Errors.{error_answer, redirect};
+ghost use Rattle.error_answers.specs.Errors.{error_answer};
+ghost use Rattle.publisher.specs.Errors.{redirect};
 ghost use Rattle.publisher.specs.Rendering.{is_read, rendered, scope_of, seen};
 
 use htl_text::the_pieces_are_the_text;

@@ -13,7 +13,6 @@ mod templates;
 #[cfg(test)]
 mod tests;
 
-pub use errors::error_answer;
 pub use laws::{
     a_script_writes_its_pieces, reads_depend_on_host_port_and_path, representations_fit,
     statuses_are_short, what_leads_away_is_a_redirect,

@@ -8,10 +8,11 @@ ghost use Rattle.publisher.specs.Rendering.{answer_by, representation_of, json_r
 
 use crate::choices::choices_text;
 use crate::depths::depth_of;
-use crate::errors::{answer_of, error_answer};
+use crate::errors::answer_of;
 use crate::methods::mark_of;
 use crate::scripts::script_representation;
 use crate::templates::{Templates, read};
+use error_answers::error_answer;
 use get_servlet::{JsonAnswer, Stream, json_of, stream_of};
 use overlay_merge::MergedView;
 use resource_tree::{Look, Res, Tree};

@@ -4,10 +4,10 @@ ghost use Rattle.resource_tree.specs.Content.{name_of};
 ghost use Rattle.htl_text.specs.Template.{template_output as written_by};
 ghost use Rattle.publisher.specs.Rendering.{html_kind, mark_of, representation_of, scope_of, script_representation};
 
-use crate::errors::error_answer;
 use crate::methods::mark_of;
 use crate::representations::representation_of;
 use crate::templates::Reading;
+use error_answers::error_answer;
 use htl_expr::Scope;
 use htl_text::{RenderFault, Template};
 use resource_tree::Res;

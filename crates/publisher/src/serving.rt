@@ -6,10 +6,11 @@ ghost use Rattle.url_maps.specs.Claims.{IsIndexOf};
 ghost use Rattle.publisher.specs.Kept.{IsIndexFor};
 ghost use Rattle.publisher.specs.Rendering.{seen, mapping, text_answer, resource_answer, rendered};
 
-use crate::errors::{error_answer, redirect};
+use crate::errors::redirect;
 use crate::methods::is_read;
 use crate::representations::resource_answer;
 use crate::templates::Templates;
+use error_answers::error_answer;
 use overlay_merge::{AlongView, merged};
 use resource_tree::Tree;
 use sp_base::{Answer, Ask, Mem};

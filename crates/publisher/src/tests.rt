@@ -1,5 +1,6 @@
 //! Answers of whole requests on small contents.
-use crate::{Publisher, error_answer};
+use crate::Publisher;
+use error_answers::error_answer;
 use resource_tree::{Tree, TreeFault};
 use sp_base::{Answer, Ask, ByteBuf, Mark, NoMemory, Path, TextBuf, TruthList, Value};
 use std::alloc::{AllocError, Global};

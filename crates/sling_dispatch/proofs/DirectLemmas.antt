@@ -3,7 +3,7 @@ use Rattle.std.specs.Option.{option_map}
 use Rattle.sp_base.specs.declared.answer.Answer.{Answer}
 use Rattle.sp_base.specs.Paths.{unmangled}
 use Rattle.resource_tree.specs.Content.{Content}
-use Rattle.publisher.specs.Errors.{error_answer}
+use Rattle.error_answers.specs.Errors.{error_answer}
 use Rattle.publisher.specs.Rendering.{rendered}
 use Rattle.http_front.specs.Targets.{begins_with_slash, path_bytes, ends_in_slash, path_of_bytes, with_path}
 use Rattle.sling_dispatch.specs.Rendering.{get_of, answer_to, direct_answer}

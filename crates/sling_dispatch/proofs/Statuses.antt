@@ -2,7 +2,7 @@
 use Rattle.std.proofs.Common.{◌≡◌, ◌<◌, ℕ, List, [], ◌∷◌, Option, Some, None, subst, sym, ap, arith}
 use Rattle.sp_base.specs.declared.answer.Ask.{Ask}
 use Rattle.resource_tree.specs.Content.{Content}
-use Rattle.publisher.specs.Errors.{error_answer}
+use Rattle.error_answers.specs.Errors.{error_answer}
 use Rattle.publisher.specs.Rendering.{rendered}
 use Rattle.replay_text.specs.declared.note.Note.{Note}
 use Rattle.replay_text.specs.declared.note.Note.TheVariants.{Answer as answered}

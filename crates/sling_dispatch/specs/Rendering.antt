@@ -3,7 +3,7 @@ use Rattle.std.specs.Prelude.{ℕ, List, [], Option, Some, None, codes}
 use Rattle.sp_base.specs.declared.answer.Answer.{Answer}
 use Rattle.sp_base.specs.declared.answer.Ask.{Ask}
 use Rattle.resource_tree.specs.Content.{Content}
-use Rattle.publisher.specs.Errors.{error_answer}
+use Rattle.error_answers.specs.Errors.{error_answer}
 use Rattle.publisher.specs.Rendering.{rendered}
 use Rattle.http_front.specs.Targets.{target_of}
 use Rattle.http_front.specs.declared.target.Target.{Target}

@@ -2,8 +2,9 @@
 ghost use Rattle.std.specs.Prelude.{◌≡◌, IfOk};
 ghost use Rattle.sling_dispatch.specs.Rendering.{get_of, direct_answer};
 
+use error_answers::error_answer;
 use http_front::{Target, read_target};
-use publisher::{Publisher, error_answer};
+use publisher::Publisher;
 use sp_base::{Answer, Ask, ByteBuf, Mem, TextBuf};
 use std::alloc::Global;
 

@@ -1,0 +1,167 @@
+//! A tree with changes over it, which it doesn't know yet.
+ghost use Rattle.std.specs.Prelude.{◌≡◌, ◌+◌, ℕ, List, Some, None, OnOk, OnErr, IfOk, IsTrue, true, false, cond, length, is_some, option_copied};
+ghost use Rattle.std.specs.List.{IsDistinct};
+ghost use Rattle.std.specs.List.Sorted.{IsStrictlySortedBy};
+ghost use Rattle.std.specs.Map.{keys_of};
+ghost use Rattle.std.specs.Ordering.{eq_by_cmp};
+ghost use Rattle.resource_tree.specs.Content.{IsGood, by_path, node_at, same_path};
+ghost use Rattle.resource_tree.specs.Changes.{change_at};
+ghost use Rattle.resource_tree.specs.Patches.{left_by, over, patching};
+ghost use Rattle.tree_draft.specs.Drafts.{IsCounted, IsSound, one_if, is_node, edited};
+
+use crate::edit::{Edit, edited};
+use indexmap::IndexMap;
+use resource_tree::{Node, PatchNode, Tree};
+use sp_base::{Mem, NoMemory, Path};
+use std::alloc::Global;
+use std::hash::RandomState;
+use std::marker::Model;
+
+/// A tree and what is to stand at some of its paths. Contracts see the content that the tree will have, and the count of its nodes.
+#[derive(Drop)]
+pub struct Draft<'a> {
+    pub(crate) tree: &'a Tree,
+    pub(crate) rows: IndexMap<Path, PatchNode, RandomState>,
+    pub(crate) count: usize,
+}
+
+impl<'a> Model for Draft<'a> {
+    ghost use Rattle.resource_tree.specs.Patches.{patching};
+    ghost use Rattle.tree_draft.specs.Drafts.{Drafted};
+
+    ghost Value = { Drafted };
+
+    ghost view = { λ d. record { tree = d.tree.now; content = patching d.tree.now d.rows.entries; count = d.count } };
+}
+
+impl<'a> Draft<'a> {
+    /// The tree as it is.
+    pub fn new(alloc: Global, tree: &'a Tree) -> Draft<'a>
+        ensures tree { result.tree ≡ tree.now }
+        ensures content { result.content ≡ tree.now }
+        ensures sound { IsSound result }
+    {
+        Draft {
+            tree,
+            rows: IndexMap::with_hasher(alloc, tree.seeds()),
+            count: tree.len(),
+        }
+    }
+
+    /// The count of nodes.
+    pub fn len(&self) -> usize
+        requires { IsCounted self.now }
+        ensures { result ≡ length self.now.content }
+    {
+        self.count
+    }
+
+    /// The node that is to stand at a path.
+    pub fn node(&self, path: &Path) -> Option<&Node>
+        ensures value { option_copied result ≡ node_at self.now.content path.now }
+        ensures ordered { IsStrictlySortedBy by_path (keys_of self.now.content) }
+    {
+        let _rows = self.rows.len();
+        let _nodes = self.tree.len();
+        match self.rows.get(path) {
+            Some(PatchNode::Node(node)) => Some(node),
+            Some(PatchNode::Gone) => None,
+            None => self.tree.node(path),
+        }
+    }
+
+    /// Sets what is to stand at a path.
+    pub fn put(&mut self, path: Path, row: PatchNode) -> Mem<()>
+        ensures content { OnOk result (self.new.content ≡ over self.old.content path row) }
+        ensures counted { OnOk result (IsCounted self.old → IsCounted self.new) }
+        ensures tree { self.new.tree ≡ self.old.tree }
+        ensures ordered { OnOk result (IsStrictlySortedBy by_path (keys_of self.new.content)) }
+    {
+        let count = recount(self.count, self.node(&path).is_some(), is_node(&row))?;
+        self.insert(path, row)?;
+        self.count = count;
+        Ok(())
+    }
+
+    /// Changes the node at a path.
+    pub fn change(&mut self, alloc: Global, path: &Path, edit: Edit) -> Mem<()>
+        requires { is_some (node_at self.old.content path.now) ≡ true }
+        ensures content { OnOk result (self.new.content ≡ change_at self.old.content path.now (edited edit)) }
+        ensures counted { OnOk result (IsCounted self.old → IsCounted self.new) }
+        ensures tree { self.new.tree ≡ self.old.tree }
+        ensures ordered { OnOk result (IsStrictlySortedBy by_path (keys_of self.new.content)) }
+    {
+        let Some(node) = self.taken(alloc, path)? else {
+            return Ok(());
+        };
+        let node = edited(alloc, node, edit)?;
+        self.insert(path.duplicate(alloc)?, PatchNode::Node(node))?;
+        Ok(())
+    }
+
+    // Takes the node at a path out, to be put back changed. Until then nothing is said of that path.
+    fn taken(&mut self, alloc: Global, path: &Path) -> Mem<Option<Node>>
+        ensures value { IfOk result (λ o. o ≡ node_at self.old.content path.now) }
+        ensures others { OnOk result ((q : List (List ℕ)) → same_path path.now q ≡ false → node_at self.new.content q ≡ node_at self.old.content q) }
+        ensures count { self.new.count ≡ self.old.count }
+        ensures tree { self.new.tree ≡ self.old.tree }
+        ensures ordered { OnOk result (IsStrictlySortedBy by_path (keys_of self.old.content)) }
+    {
+        let _rows = self.rows.len();
+        let _nodes = self.tree.len();
+        let row = self.rows.swap_remove(path);
+        or_copy(alloc, row, self.tree.node(path))
+    }
+
+    // Sets what is to stand at a path, and leaves the count.
+    fn insert(&mut self, path: Path, row: PatchNode) -> Mem<()>
+        ensures content { OnOk result (self.new.content ≡ over self.old.content path row) }
+        ensures count { self.new.count ≡ self.old.count }
+        ensures tree { self.new.tree ≡ self.old.tree }
+        ensures before { OnOk result (IsStrictlySortedBy by_path (keys_of self.old.content)) }
+        ensures ordered { OnOk result (IsStrictlySortedBy by_path (keys_of self.new.content)) }
+    {
+        let _rows = self.rows.len();
+        let _nodes = self.tree.len();
+        self.rows.insert(path, row)?;
+        Ok(())
+    }
+}
+
+// The node that a row leaves, or a copy of the one that is there.
+fn or_copy(alloc: Global, row: Option<PatchNode>, node: Option<&Node>) -> Mem<Option<Node>>
+    ensures { IfOk result (λ o. o ≡ left_by row (option_copied node.entry)) }
+{
+    match row {
+        Some(PatchNode::Node(node)) => Ok(Some(node)),
+        Some(PatchNode::Gone) => Ok(None),
+        None => match node {
+            Some(node) => Ok(Some(node.duplicate(alloc)?)),
+            None => Ok(None),
+        },
+    }
+}
+
+fn is_node(row: &PatchNode) -> bool
+    ensures { result ≡ is_node row.now }
+{
+    match row {
+        PatchNode::Node(_) => true,
+        PatchNode::Gone => false,
+    }
+}
+
+// The count where something was or is at a path.
+fn recount(count: usize, was: bool, is: bool) -> Mem<usize>
+    ensures { IfOk result (λ n. n + one_if was ≡ count + one_if is) }
+{
+    let more = match (was, is) {
+        (true, false) => count.checked_sub(1),
+        (false, true) => count.checked_add(1),
+        _ => Some(count),
+    };
+    match more {
+        Some(n) => Ok(n),
+        None => Err(NoMemory),
+    }
+}

@@ -1,0 +1,48 @@
+// Kids in another place among their parent's.
+ghost use Rattle.std.specs.Prelude.{◌≡◌, ◌≢◌, None, Some, OnOk, IfOk, IfErr};
+ghost use Rattle.resource_tree.specs.Changes.{fixed_fault, order_fault, reordering};
+ghost use Rattle.tree_draft.specs.Drafts.{Follows, IsSound};
+
+use crate::Draft;
+use crate::create::last_segment;
+use crate::edit::Edit;
+use crate::kids::kids_in_order;
+use crate::part::kids_at;
+use resource_tree::{Place, TreeFault};
+use sp_base::Path;
+use std::alloc::Global;
+
+impl<'a> Draft<'a> {
+    /// Puts a node in another place among the kids of its parent.
+    pub fn order(&mut self, alloc: Global, path: &Path, place: &Place) -> Result<(), TreeFault>
+        requires { IsSound self.old }
+        ensures allowed { OnOk result (order_fault self.old.content path.now place.now ≡ None) }
+        ensures ok { OnOk result (self.new.content ≡ reordering self.old.content path.now place.now) }
+        ensures err { IfErr result (λ e. e ≢ TreeFault.NoMemory → order_fault self.old.content path.now place.now ≡ Some e) }
+        ensures follows { OnOk result (Follows self.old self.new) }
+    {
+        let parent = path.parent(alloc)?;
+        self.check_fixed(alloc, path)?;
+        let Some(name) = last_segment(path) else {
+            return Err(TreeFault::RootFixed);
+        };
+        let Some(kids) = kids_in_order(alloc, kids_at(self, &parent), name, place)? else {
+            return Err(TreeFault::NoSibling);
+        };
+        self.change(alloc, &parent, Edit::Kids(kids))?;
+        Ok(())
+    }
+    // Whether a node may be taken from its place.
+    pub(crate) fn check_fixed(&self, alloc: Global, path: &Path) -> Result<(), TreeFault>
+        ensures ok { OnOk result (fixed_fault self.now.content path.now ≡ None) }
+        ensures err { IfErr result (λ e. e ≢ TreeFault.NoMemory → fixed_fault self.now.content path.now ≡ Some e) }
+    {
+        if self.node(path).is_none() {
+            return Err(TreeFault::NoSuch(path.duplicate(alloc)?));
+        }
+        if path.depth() == 0 {
+            return Err(TreeFault::RootFixed);
+        }
+        Ok(())
+    }
+}

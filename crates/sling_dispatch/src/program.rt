@@ -64,11 +64,17 @@ fn ending<S: Source, K: Sink>(
     }
 }
 
+fn is_same(a: &[u8], b: &[u8]) -> bool
+    ensures { IsTrue result ↔ (a.now ≡ b.now) }
+{
+    a == b
+}
+
 fn is_replay(words: &[&[u8]]) -> bool
     ensures { IsTrue result ↔ IsReplay (map (λ w. w.now) words.now) }
 {
     match words {
-        [word] => *word == b"replay".as_slice(),
+        [word] => is_same(word, b"replay"),
         _ => false,
     }
 }

@@ -206,3 +206,31 @@ fn follows_no_links(rt: HostRuntime) -> Result<(), Fail> {
     assert!(rt; matches!(&outside, Ok(text) if text.as_str() == "secret"));
     Ok(())
 }
+
+#[test]
+fn a_failed_change_leaves_what_is_held(rt: HostRuntime) -> Result<(), Fail> {
+    let mut disk = fresh(&rt, "disk_of_failures")?;
+    assert!(rt; puts(&mut disk, &[("a/x", "1"), ("a/y", "2")]));
+    // A folder where the file beside would stand: no put of the file can be made.
+    assert!(rt; fs::create_dir(&rt, "disk_of_failures/a/x%t").is_ok());
+    assert!(rt; refuses(&mut disk, &["a/x"]));
+    assert!(rt; holds(rt.alloc(), &mut disk, &[("a/x", "1")]));
+    assert!(rt; lists(rt.alloc(), &mut disk, &[("", "", 9, &["a/x", "a/y"])]));
+    // A folder in the place of a file: its removal can't be made.
+    assert!(rt; fs::remove_file(&rt, "disk_of_failures/a/y").is_ok());
+    assert!(rt; fs::create_dir(&rt, "disk_of_failures/a/y").is_ok());
+    assert_eq!(rt; disk.remove("a/y"), Err(DiskFault::Failed));
+    assert_eq!(rt; disk.remove("a/x"), Ok(()));
+    assert!(rt; matches!(fs::exists(&rt, "disk_of_failures/a/x"), Ok(false)));
+    Ok(())
+}
+
+#[test]
+fn a_folder_may_end_in_a_slash(rt: HostRuntime) -> Result<(), Fail> {
+    let mut before = fresh(&rt, "disk_of_a_slash")?;
+    assert!(rt; puts(&mut before, &[("a/x", "1")]));
+    let mut disk = RealDisk::below(&rt, "disk_of_a_slash/")?;
+    assert!(rt; lists(rt.alloc(), &mut disk, &[("", "", 9, &["a/x"])]));
+    assert!(rt; holds(rt.alloc(), &mut disk, &[("a/x", "1")]));
+    Ok(())
+}

@@ -131,7 +131,9 @@ fn keeps_a_page(rt: HostRuntime) -> Result<(), Fail> {
     assert!(rt; stand(alloc, &mut disk, NEW_HEAD, Some("x")));
     let stamp = Stamp { epoch: 1, count: 4 };
     assert!(rt; is_page(get(alloc, &mut disk), stamp, "text/html;charset=utf-8", "x"));
+    let before = disk.calls();
     assert_eq!(rt; take_away(alloc, &mut disk), Ok(()));
+    assert_eq!(rt; disk.calls().saturating_sub(before), 2);
     assert!(rt; stand(alloc, &mut disk, None, None));
     Ok(())
 }
@@ -156,6 +158,21 @@ fn a_put_fails_in_each_call(rt: HostRuntime) -> Result<(), Fail> {
         assert_eq!(rt; put(rt.alloc(), &mut disk), Err(FileFault::Disk), "at {n}");
         assert!(rt; stand(rt.alloc(), &mut disk, *head, *body), "at {n}");
     }
+    Ok(())
+}
+
+// After a put whose second call failed the body is there, no head, and no page.
+fn has_lost_its_page(alloc: Global, mut disk: MemDisk) -> bool {
+    disk.fail(2, Way::New);
+    put(alloc, &mut disk) == Err(FileFault::Disk)
+        && stand(alloc, &mut disk, None, Some("x"))
+        && matches!(get(alloc, &mut disk), Ok(None))
+}
+
+#[test]
+fn a_failed_put_leaves_no_page(rt: HostRuntime) -> Result<(), Fail> {
+    assert!(rt; has_lost_its_page(rt.alloc(), MemDisk::new(rt.alloc())));
+    assert!(rt; has_lost_its_page(rt.alloc(), disk_with(rt.alloc(), OLD)));
     Ok(())
 }
 
@@ -240,6 +257,7 @@ fn a_body_is_read_after_a_good_head(rt: HostRuntime) -> Result<(), Fail> {
 fn sessions_are_counted(rt: HostRuntime) -> Result<(), Fail> {
     let mut disk = MemDisk::new(rt.alloc());
     assert_eq!(rt; open_epoch(rt.alloc(), &mut disk), Ok(1));
+    assert_eq!(rt; disk.calls(), 2);
     assert!(rt; stands(rt.alloc(), &mut disk, ".epoch", Some("epoch 1 1\n")));
     assert_eq!(rt; open_epoch(rt.alloc(), &mut disk), Ok(2));
     for (text, fault) in [

@@ -54,7 +54,7 @@ pub trait Disk {
         ensures err { IfErr result (IsOldOrNew (files self.old) (told_with (files self.old) name.now bytes.now) (files self.new)) }
         ensures cause { HasDiskCause (faults self.old) (faults self.new) result };
 
-    /// Takes the file of this name away, if there is one. This takes no memory.
+    /// Takes the file of this name away, if there is one. This takes no memory, but for what a disk keeps of names from its first call on.
     fn remove(&mut self, name: &str) -> Result<(), DiskFault>
         ensures ok { OnOk result (files self.new ≡ told_without (files self.old) name.now) }
         ensures err { IfErr result (IsOldOrNew (files self.old) (told_without (files self.old) name.now) (files self.new)) }

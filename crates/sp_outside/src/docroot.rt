@@ -86,6 +86,16 @@ fn is_file<R: Files>(rt: &R, path: &str) -> Result<bool, DiskFault> {
     }
 }
 
+/// Makes what was renamed in a folder or taken out of it last.
+pub(crate) fn sync_folder<R: Files>(rt: &R, folder: &str) -> Result<(), DiskFault> {
+    match fs::open(rt, folder) {
+        Ok(folder) => Ok(folder.sync_all()?),
+        // A folder that is gone has nothing to keep.
+        Err(fault) if fault.kind() == ErrorKind::NotFound => Ok(()),
+        Err(fault) => Err(DiskFault::from(fault)),
+    }
+}
+
 impl<R: Files + AllocGlobal + Clone + Drop> Docroot<R> {
     pub(crate) fn new(rt: R, folder: &str) -> Mem<Docroot<R>> {
         let alloc = rt.alloc();
@@ -128,16 +138,6 @@ impl<R: Files + AllocGlobal + Clone + Drop> Docroot<R> {
     fn is_there(&self, alloc: Global, name: &str) -> Result<bool, DiskFault> {
         let path = format!(in alloc; "{}/{name}", self.folder)?;
         is_file(&self.rt, path.as_str())
-    }
-
-    // Makes what was renamed in the folder or taken out of it last.
-    fn sync_folder(&self, folder: &str) -> Result<(), DiskFault> {
-        match fs::open(&self.rt, folder) {
-            Ok(folder) => Ok(folder.sync_all()?),
-            // A folder that is gone has nothing to keep.
-            Err(fault) if fault.kind() == ErrorKind::NotFound => Ok(()),
-            Err(fault) => Err(DiskFault::from(fault)),
-        }
     }
 }
 
@@ -213,8 +213,9 @@ impl<R: Files + AllocGlobal + Clone + Drop> Docroot<R> {
             let _ = fs::remove_file(&self.rt, beside);
             return Err(DiskFault::from(fault));
         }
-        if lasts {
-            self.sync_folder(parent(path))?;
+        // The files are changed already, so this is never want of memory.
+        if lasts && sync_folder(&self.rt, parent(path)).is_err() {
+            return Err(DiskFault::Failed);
         }
         Ok(())
     }
@@ -266,7 +267,7 @@ impl<R: Files + AllocGlobal + Clone + Drop> Docroot<R> {
         {
             return Err(DiskFault::from(fault));
         }
-        self.sync_folder(parent(folder))
+        sync_folder(&self.rt, parent(folder))
     }
 
     // The docroot itself may be a link to a folder.
@@ -290,7 +291,7 @@ impl<R: Files + AllocGlobal + Clone + Drop> Docroot<R> {
             Err(fault) if fault.kind() != ErrorKind::NotFound => return Err(DiskFault::from(fault)),
             _ => {}
         }
-        self.sync_folder(parent(self.path.as_str()))?;
+        sync_folder(&self.rt, parent(self.path.as_str()))?;
         self.names.forget(name);
         Ok(())
     }

@@ -1,5 +1,5 @@
 //! The walk over a folder and all folders below it.
-use crate::docroot::BESIDE;
+use crate::docroot::{BESIDE, sync_folder};
 use crate::name_index::{NameIndex, Standing};
 use crate::{DiskFault, LONGEST_NAME};
 use sp_base::Mem;
@@ -8,7 +8,7 @@ use std::fs::{self, DirEntry, Files};
 use std::io::{self, ErrorKind};
 
 /// The names of all files below a folder. A link is no file and no folder here, and a name that isn't UTF-8 is passed over. A folder
-/// that isn't there has none.
+/// that isn't there has none. Each folder is synced, so that what was seen lasts, also where a process that was killed left it so.
 pub(crate) fn names_below<R: Files + AllocGlobal + Clone + Drop>(
     rt: &R,
     folder: &str,
@@ -19,6 +19,7 @@ pub(crate) fn names_below<R: Files + AllocGlobal + Clone + Drop>(
         Err(fault) if fault.kind() == ErrorKind::NotFound => return Ok(names),
         _ => {}
     }
+    let prefix = prefix_bytes(folder);
     let mut folders = Vec::new(alloc);
     push_path(alloc, &mut folders, folder)?;
     for _ in 0..u64::MAX {
@@ -26,10 +27,20 @@ pub(crate) fn names_below<R: Files + AllocGlobal + Clone + Drop>(
             return Ok(names);
         };
         for entry in fs::read_dir(rt, next.as_str())? {
-            take_entry(alloc, entry, folder, &mut folders, &mut names)?;
+            take_entry(alloc, entry, prefix, &mut folders, &mut names)?;
         }
+        sync_folder(rt, next.as_str())?;
     }
     Err(DiskFault::Failed)
+}
+
+// How many bytes of a path below a folder stand before the name.
+fn prefix_bytes(folder: &str) -> usize {
+    if folder.ends_with('/') {
+        folder.len()
+    } else {
+        folder.len().saturating_add(1)
+    }
 }
 
 fn push_path(alloc: Global, paths: &mut Vec<String>, path: &str) -> Mem<()> {
@@ -40,7 +51,7 @@ fn push_path(alloc: Global, paths: &mut Vec<String>, path: &str) -> Mem<()> {
 fn take_entry<R: Files + AllocGlobal + Clone + Drop>(
     alloc: Global,
     entry: io::Result<DirEntry<R>>,
-    folder: &str,
+    prefix: usize,
     folders: &mut Vec<String>,
     names: &mut NameIndex,
 ) -> Result<(), DiskFault> {
@@ -54,7 +65,7 @@ fn take_entry<R: Files + AllocGlobal + Clone + Drop>(
     if found.is_dir() {
         push_path(alloc, folders, path)?;
     } else if found.is_file() && !path.ends_with(BESIDE) {
-        let name = path.get(folder.len().saturating_add(1)..).unwrap_or("");
+        let name = path.get(prefix..).unwrap_or("");
         if name.len() > LONGEST_NAME {
             return Err(DiskFault::Failed);
         }

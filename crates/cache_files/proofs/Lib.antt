@@ -1,1 +1,2 @@
 pub mod PageFiles
+pub mod StoppedChanges

@@ -1,14 +1,15 @@
 //! What follows from the definitions of pages and epochs: laws, on functions that do nothing.
-ghost use Rattle.std.specs.Prelude.{◌≡◌, ◌≢◌, ◌<◌, ◌≤◌, ◌+◌, ◌^◌, ℕ, List, [], Some, None, Ok, IfSome, length};
+ghost use Rattle.std.specs.Prelude.{◌≡◌, ◌≢◌, ◌⊎◌, ◌<◌, ◌≤◌, ◌+◌, ◌^◌, ℕ, List, [], Some, None, Ok, IfSome, length};
 ghost use Rattle.sp_base.specs.declared.answer.Answer.{Answer};
 ghost use Rattle.sp_base.specs.declared.answer.Mark.TheVariants.{Plain};
 ghost use Rattle.sp_outside.specs.Files.{Files, with_file, without_file};
+ghost use Rattle.docroot_format.specs.declared.fault.FileFault.{FileFault};
 ghost use Rattle.docroot_format.specs.Names.{IsTextKey, body_name, epoch_name, head_name};
-ghost use Rattle.docroot_format.specs.Texts.{epoch_text};
+ghost use Rattle.docroot_format.specs.Texts.{epoch_text, head_text};
 ghost use Rattle.cover_rules.specs.declared.page.PageKey.{PageKey};
 ghost use Rattle.cover_rules.specs.declared.stamp.Stamp.{Stamp};
 ghost use Rattle.cache_files.specs.Epochs.{epoch_held, last_epoch, next_epoch};
-ghost use Rattle.cache_files.specs.Pages.{IsStorable, files_with_page, files_without_page, page_at};
+ghost use Rattle.cache_files.specs.Pages.{IsDropLeft, IsPutLeft, IsStorable, files_with_page, files_without_page, page_at};
 
 use docroot_format::{names_are_apart, texts_are_read_back};
 use sp_outside::files_have_names;
@@ -41,6 +42,35 @@ pub fn a_stopped_put_leaves_no_page()
     ensures written { (files : Files) (key : PageKey) (bytes : List ℕ) → page_at (with_file (without_file files (head_name key.folder key.file)) (body_name key.folder key.file) bytes) key ≡ None }
 {
     files_have_names();
+}
+
+/// A put that failed leaves the old page, no page, or the new one, and each other page as it was.
+pub fn a_failed_put_leaves_whole_pages()
+    ensures page { (files new : Files) (key : PageKey) (stamp : Stamp) (answer : Answer) (fault : FileFault)
+        → IsPutLeft (Some files) (Some new) (head_name key.folder key.file) (body_name key.folder key.file) answer.body (head_text stamp.epoch stamp.count (length answer.body) answer.kind) fault
+        → (page_at new key ≡ page_at files key) ⊎ ((page_at new key ≡ None) ⊎ (page_at new key ≡ page_at (files_with_page files key stamp answer) key)) }
+    ensures others { (files new : Files) (key other : PageKey) (stamp : Stamp) (answer : Answer) (fault : FileFault) → IsTextKey key → IsTextKey other → other ≢ key
+        → IsPutLeft (Some files) (Some new) (head_name key.folder key.file) (body_name key.folder key.file) answer.body (head_text stamp.epoch stamp.count (length answer.body) answer.kind) fault
+        → page_at new other ≡ page_at files other }
+{
+    files_have_names();
+    names_are_apart();
+    a_stopped_put_leaves_no_page();
+    pages_have_files_of_their_own();
+}
+
+/// A drop that failed leaves the old page or none, and each other page as it was.
+pub fn a_failed_drop_leaves_whole_pages()
+    ensures page { (files new : Files) (key : PageKey) (fault : FileFault) → IsDropLeft (Some files) (Some new) (head_name key.folder key.file) (body_name key.folder key.file) fault
+        → (page_at new key ≡ page_at files key) ⊎ (page_at new key ≡ None) }
+    ensures others { (files new : Files) (key other : PageKey) (fault : FileFault) → IsTextKey key → IsTextKey other → other ≢ key
+        → IsDropLeft (Some files) (Some new) (head_name key.folder key.file) (body_name key.folder key.file) fault
+        → page_at new other ≡ page_at files other }
+{
+    files_have_names();
+    names_are_apart();
+    a_stopped_put_leaves_no_page();
+    pages_have_files_of_their_own();
 }
 
 /// Each session has a number above that of the last one, and so above every number up to it.

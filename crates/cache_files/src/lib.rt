@@ -10,6 +10,7 @@ mod tests;
 
 pub use epoch::{OpenFault, open_epoch};
 pub use laws::{
-    a_page_is_read_back, a_stopped_put_leaves_no_page, epochs_rise, pages_have_files_of_their_own,
+    a_failed_drop_leaves_whole_pages, a_failed_put_leaves_whole_pages, a_page_is_read_back,
+    a_stopped_put_leaves_no_page, epochs_rise, pages_have_files_of_their_own,
 };
 pub use page::{Page, drop_page, get_page, put_page};

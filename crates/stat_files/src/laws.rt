@@ -1,10 +1,10 @@
-//! What follows from the definitions of stamps: a law, on a function that does nothing.
-ghost use Rattle.std.specs.Prelude.{◌≡◌, ◌<◌, ◌^◌, ℕ, List, Some};
+//! What follows from the definitions of stamps: laws, on functions that do nothing.
+ghost use Rattle.std.specs.Prelude.{◌≡◌, ◌⊎◌, ◌<◌, ◌≤◌, ◌^◌, ℕ, List, Some, None};
 ghost use Rattle.sp_outside.specs.Files.{Files, with_file};
 ghost use Rattle.docroot_format.specs.Names.{stat_name};
 ghost use Rattle.docroot_format.specs.Texts.{stat_text};
 ghost use Rattle.cover_rules.specs.declared.stamp.Stamp.{Stamp};
-ghost use Rattle.stat_files.specs.Stamps.{stamp_at};
+ghost use Rattle.stat_files.specs.Stamps.{greatest, stamp_at, stamp_or_greatest};
 
 use docroot_format::texts_are_read_back;
 use sp_outside::files_have_names;
@@ -16,3 +16,10 @@ pub fn a_stamp_is_read_back()
     files_have_names();
     texts_are_read_back();
 }
+
+/// A .stat file of another form has the greatest stamp: no stamp is above it, by the session and then by the count, so it outdates
+/// every page.
+pub fn a_foreign_stamp_is_the_greatest()
+    ensures foreign { stamp_or_greatest None ≡ greatest }
+    ensures greatest { (stamp : Stamp) → stamp.epoch < 2 ^ 64 → stamp.count < 2 ^ 64 → (stamp.epoch < greatest.epoch) ⊎ ((stamp.epoch ≡ greatest.epoch) × (stamp.count ≤ greatest.count)) }
+{}

@@ -7,5 +7,5 @@ mod stat;
 #[cfg(test)]
 mod tests;
 
-pub use laws::a_stamp_is_read_back;
+pub use laws::{a_foreign_stamp_is_the_greatest, a_stamp_is_read_back};
 pub use stat::{stamp_of, touch};

@@ -7,3 +7,4 @@ pub mod PagePlaces
 pub mod ReadBack
 pub mod Inside
 pub mod Apart
+pub mod Spelled

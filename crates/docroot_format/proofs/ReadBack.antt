@@ -12,7 +12,7 @@ fits : (m k n : ℕ) → k < 10 → n ≡ m * 10 + k → n < 2 ^ 64 → is_digit
 fits m k n small is short = grind (arith, nat_tests)
 
 -- a digit more
-digit : (m k n : ℕ) (t : List ℕ) → k < 10 → n ≡ m * 10 + k → n < 2 ^ 64 → digits_from m ((48 + k) ∷ t) ≡ digits_from n t
+pub digit : (m k n : ℕ) (t : List ℕ) → k < 10 → n ≡ m * 10 + k → n < 2 ^ 64 → digits_from m ((48 + k) ∷ t) ≡ digits_from n t
 unfolding digit_fits digits_from
 digit m k n t small is short =
     let same : m * 10 + (48 + k - 48) ≡ n = omega (arith, is) in
@@ -34,7 +34,7 @@ digits_read : (n : ℕ) (t : List ℕ) → n < 2 ^ 64 → digits_from 0 (decimal
 digits_read n t short = decimal_by_steps Reads one_digit more_digits n short short t
 
 -- no digit, so the number ends
-ends : (n : ℕ) (t : List ℕ) → is_digit (slice_index t 0) ≡ false → digits_from n t ≡ (n, t)
+pub ends : (n : ℕ) (t : List ℕ) → is_digit (slice_index t 0) ≡ false → digits_from n t ≡ (n, t)
 unfolding digit_fits digits_from
 ends n [] none = refl
 ends n (b ∷ t) none = rw none refl

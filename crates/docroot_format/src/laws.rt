@@ -21,6 +21,13 @@ pub fn texts_are_read_back()
     ensures epoch { (epoch : ℕ) → 0 < epoch → epoch < 2 ^ 64 → epoch_of (epoch_text epoch) ≡ Some epoch }
 {}
 
+/// What reads as a head, a stamp or the number of a session is the text of it: a text of one form has no other spelling.
+pub fn what_reads_is_its_text()
+    ensures head { (text : List ℕ) (line : HeadLine) → head_of text ≡ Some line → text ≡ head_text line.epoch line.count line.size line.kind }
+    ensures stat { (text : List ℕ) (epoch count : ℕ) → stat_of text ≡ Some (epoch, count) → text ≡ stat_text epoch count }
+    ensures epoch { (text : List ℕ) (epoch : ℕ) → epoch_of text ≡ Some epoch → text ≡ epoch_text epoch }
+{}
+
 /// The name of each file lies in the docroot: it has no empty segment and none that is `.` or `..`, so it begins with no slash, and
 /// each of its bytes is a letter, a digit or one of `.`, `_`, `-`, `%` and the slashes between segments.
 pub fn names_lie_in_the_docroot()

@@ -1,0 +1,194 @@
+-- What reads as a number, a stamp, a head or an epoch is its text: the converse of reading back.
+use Rattle.std.proofs.Common.{◌≡◌, ◌<◌, ◌≤◌, ◌+◌, ◌-◌, ◌*◌, ◌/◌, ◌%◌, ◌^◌, ℕ, zero, suc, Bool, true, false, not, cond, ◌&&◌, ◌==◌, ◌++◌, List, [], ◌∷◌, Option, Some, None, length, take, drop, slice_index, nat_le, nat_eq, nat_lt, codes, refl, sym, ◌∙◌, ap, subst, arith, append_assoc, ⊎_elim, option_and_then, option_map}
+use Rattle.std.specs.Fmt.{decimal}
+use Rattle.std.specs.Cmp.Lexicographic.{bytes_decides, pointwise}
+use Rattle.std.specs.List.{starts_with}
+use Rattle.std.proofs.lemmas.Bool.{cases_Bool, true≢false}
+use Rattle.std.proofs.lemmas.Bool.Decides.{nat_tests}
+use Rattle.std.proofs.lemmas.Fmt.{decimal_digit, decimal_step}
+use Rattle.std.proofs.lemmas.List.{take-append-drop}
+use Rattle.docroot_format.specs.Readings.{is_digit, digit_fits, digits_from, begins_number, number_of, after_word, is_end, stamp_of, stat_of, epoch_of, is_kind, kind_of, HeadLine, body_of, head_of, greatest}
+use Rattle.docroot_format.specs.Texts.{head_text, stat_text, epoch_text}
+use Rattle.docroot_format.proofs.NameLemmas.{append_both}
+use Rattle.docroot_format.proofs.ReadBack.{digit, ends}
+
+-- ---- numbers
+
+digit_spelled : (m k : ℕ) → 1 ≤ m → k < 10 → m * 10 + k < 2 ^ 64 → decimal (m * 10 + k) ≡ decimal m ++ (48 + k) ∷ []
+digit_spelled m k some small short =
+    let front : (m * 10 + k) / 10 ≡ m = omega (arith, small) in
+    let last : (m * 10 + k) % 10 ≡ k = omega (arith, small) in
+    decimal_step (m * 10 + k) (omega (arith, some)) short
+    ∙ ap (λ q. decimal q ++ (48 + (m * 10 + k) % 10) ∷ []) front
+    ∙ ap (λ r. decimal m ++ (48 + r) ∷ []) last
+
+digits_spelled : (t : List ℕ) (m : ℕ) → 1 ≤ m → decimal m ++ t ≡ decimal (digits_from m t).0 ++ (digits_from m t).1
+unfolding digit_fits digits_from
+digits_spelled [] m some = refl
+digits_spelled (b ∷ t) m some = ⊎_elim
+    (λ (e : is_digit b && nat_le (m * 10 + (b - 48)) greatest ≡ true).
+    let small : b - 48 < 10 = grind (arith, nat_tests) in
+    let is : 48 + (b - 48) ≡ b = grind (arith, nat_tests) in
+    let short : m * 10 + (b - 48) < 2 ^ 64 = grind (arith, nat_tests) in
+    rw e (sym (append_assoc (decimal m) (b ∷ []) t)
+    ∙ ap (λ x. (decimal m ++ x ∷ []) ++ t) (sym is)
+    ∙ ap (λ d. d ++ t) (sym (digit_spelled m (b - 48) some small short))
+    ∙ digits_spelled t (m * 10 + (b - 48)) (omega (arith, some))))
+    (λ (e : is_digit b && nat_le (m * 10 + (b - 48)) greatest ≡ false). rw e refl)
+    (cases_Bool (is_digit b && nat_le (m * 10 + (b - 48)) greatest))
+
+first_spelled : (k : ℕ) (t : List ℕ) → k < 10 → (k ≡ 0 → is_digit (slice_index t 0) ≡ false)
+    → (48 + k) ∷ t ≡ decimal (digits_from 0 ((48 + k) ∷ t)).0 ++ (digits_from 0 ((48 + k) ∷ t)).1
+first_spelled zero t small none =
+    let d : digits_from 0 (48 ∷ t) ≡ (0, t) = digit 0 0 0 t (omega arith) (omega arith) (omega arith) ∙ ends 0 t (none refl) in
+    ap (λ x. x ++ t) (sym (decimal_digit 0 (omega arith))) ∙ ap (λ p. decimal p.0 ++ p.1) (sym d)
+first_spelled (suc k) t small none =
+    let d : digits_from 0 ((48 + suc k) ∷ t) ≡ digits_from (suc k) t = digit 0 (suc k) (suc k) t small (omega arith) (omega (arith, small)) in
+    ap (λ x. x ++ t) (sym (decimal_digit (suc k) small)) ∙ digits_spelled t (suc k) (omega arith) ∙ ap (λ p. decimal p.0 ++ p.1) (sym d)
+
+some_of : {A : Type 0} (c : Bool) (x y : A) → cond c (Some x) None ≡ Some y → (c ≡ true) × (x ≡ y)
+some_of true x y e = (refl, cc (e))
+some_of false x y e = absurd (cc (e))
+
+first_of : (a b : Bool) → a && b ≡ true → a ≡ true
+first_of true b e = refl
+first_of false b e = absurd (true≢false (sym e))
+
+second_of : (a b : Bool) → a && b ≡ true → b ≡ true
+second_of true b e = e
+second_of false b e = absurd (true≢false (sym e))
+
+no_digit_after : (zero_first next : Bool) → not (zero_first && next) ≡ true → zero_first ≡ true → next ≡ false
+no_digit_after true true e is = absurd (true≢false (sym e))
+no_digit_after true false e is = refl
+no_digit_after false next e is = absurd (true≢false (sym is))
+
+number_spelled : (t : List ℕ) (p : ℕ × List ℕ) → number_of t ≡ Some p → t ≡ decimal p.0 ++ p.1
+unfolding number_of
+number_spelled [] p e = absurd (cc (e))
+number_spelled (b ∷ t) p e =
+    let s = some_of (begins_number (b ∷ t)) (digits_from 0 (b ∷ t)) p e in
+    let is_first : is_digit b ≡ true = first_of (is_digit b) (not (b == 48 && is_digit (slice_index t 0))) s.0 in
+    let small : b - 48 < 10 = grind (arith, nat_tests) in
+    let is : 48 + (b - 48) ≡ b = grind (arith, nat_tests) in
+    let none : b - 48 ≡ 0 → is_digit (slice_index t 0) ≡ false = λ z.
+    let begins : (b == 48) ≡ true = grind (arith, nat_tests) in
+    no_digit_after (b == 48) (is_digit (slice_index t 0)) (second_of (is_digit b) (not (b == 48 && is_digit (slice_index t 0))) s.0) begins in
+    subst (λ x. x ∷ t ≡ decimal (digits_from 0 (x ∷ t)).0 ++ (digits_from 0 (x ∷ t)).1) is (first_spelled (b - 48) t small none)
+    ∙ ap (λ q. decimal q.0 ++ q.1) s.1
+
+-- ---- words, and the end
+
+stripped : (text prefix : List ℕ) → starts_with nat_eq text prefix ≡ true → text ≡ prefix ++ drop (length prefix) text
+stripped text prefix e =
+    sym (take-append-drop (length prefix) text) ∙ ap (λ (t : List ℕ). t ++ drop (length prefix) text) (sym ((bytes_decides prefix (take (length prefix) text)).0 e))
+
+word_spelled : (word text rest : List ℕ) → after_word word text ≡ Some rest → text ≡ word ++ rest
+unfolding after_word
+word_spelled word text rest e =
+    let s = some_of (starts_with nat_eq text word) (drop (length word) text) rest e in
+    stripped text word s.0 ∙ ap (λ (t : List ℕ). word ++ t) s.1
+
+end_spelled : (rest : List ℕ) → is_end rest ≡ true → rest ≡ codes "\n"
+end_spelled rest e = (bytes_decides rest (codes "\n")).0 e
+
+record Then {A B : Type 0} (f : A → Option B) (o : Option A) (y : B) : Type 0 where
+  first : A
+  is : o ≡ Some first
+  next : f first ≡ Some y
+
+then_some : {A B : Type 0} (f : A → Option B) (o : Option A) (y : B) → option_and_then f o ≡ Some y → Then f o y
+then_some f None y e = absurd (cc (e))
+then_some f (Some x) y e = record { first = x; is = refl; next = e }
+
+record Mapped {A B : Type 0} (f : A → B) (o : Option A) (y : B) : Type 0 where
+  first : A
+  is : o ≡ Some first
+  same : f first ≡ y
+
+map_some : {A B : Type 0} (f : A → B) (o : Option A) (y : B) → option_map f o ≡ Some y → Mapped f o y
+map_some f None y e = absurd (cc (e))
+map_some f (Some x) y e = record { first = x; is = refl; same = cc (e) }
+
+-- ---- the texts
+
+nested : (a b c d e : List ℕ) → a ++ (b ++ (c ++ (d ++ e))) ≡ (((a ++ b) ++ c) ++ d) ++ e
+nested a b c d e = append_both a b (c ++ (d ++ e)) ∙ append_both (a ++ b) c (d ++ e) ∙ append_both ((a ++ b) ++ c) d e
+
+stamp_spelled : (text : List ℕ) (s : (ℕ × ℕ) × List ℕ) → stamp_of text ≡ Some s → text ≡ decimal s.0.0 ++ (codes " " ++ (decimal s.0.1 ++ s.1))
+unfolding stamp_of
+stamp_spelled text s e =
+    let a = then_some _ (number_of text) s e in
+    let b = then_some _ (after_word (codes " ") a.first.1) s a.next in
+    let c = map_some _ (number_of b.first) s b.next in
+    number_spelled text a.first a.is
+    ∙ ap (λ t. decimal a.first.0 ++ t) (word_spelled (codes " ") a.first.1 b.first b.is)
+    ∙ ap (λ t. decimal a.first.0 ++ (codes " " ++ t)) (number_spelled b.first c.first c.is)
+    ∙ ap (λ (z : (ℕ × ℕ) × List ℕ). decimal z.0.0 ++ (codes " " ++ (decimal z.0.1 ++ z.1))) c.same
+
+pub stat_spelled : (text : List ℕ) (epoch count : ℕ) → stat_of text ≡ Some (epoch, count) → text ≡ stat_text epoch count
+unfolding stat_of
+stat_spelled text epoch count e =
+    let a = then_some _ (option_and_then stamp_of (after_word (codes "stat 1 ") text)) (epoch, count) e in
+    let b = then_some stamp_of (after_word (codes "stat 1 ") text) a.first a.is in
+    let s = some_of (is_end a.first.1) a.first.0 (epoch, count) a.next in
+    word_spelled (codes "stat 1 ") text b.first b.is
+    ∙ ap (λ t. codes "stat 1 " ++ t) (stamp_spelled b.first a.first b.next)
+    ∙ ap (λ t. codes "stat 1 " ++ (decimal a.first.0.0 ++ (codes " " ++ (decimal a.first.0.1 ++ t)))) (end_spelled a.first.1 s.0)
+    ∙ nested (codes "stat 1 ") (decimal a.first.0.0) (codes " ") (decimal a.first.0.1) (codes "\n")
+    ∙ ap (λ (z : ℕ × ℕ). stat_text z.0 z.1) s.1
+
+pub epoch_spelled : (text : List ℕ) (epoch : ℕ) → epoch_of text ≡ Some epoch → text ≡ epoch_text epoch
+unfolding epoch_of
+epoch_spelled text epoch e =
+    let a = then_some _ (option_and_then number_of (after_word (codes "epoch 1 ") text)) epoch e in
+    let b = then_some number_of (after_word (codes "epoch 1 ") text) a.first a.is in
+    let s = some_of (is_end a.first.1 && nat_lt 0 a.first.0) a.first.0 epoch a.next in
+    word_spelled (codes "epoch 1 ") text b.first b.is
+    ∙ ap (λ t. codes "epoch 1 " ++ t) (number_spelled b.first a.first b.next)
+    ∙ ap (λ t. codes "epoch 1 " ++ (decimal a.first.0 ++ t)) (end_spelled a.first.1 (first_of (is_end a.first.1) (nat_lt 0 a.first.0) s.0))
+    ∙ append_both (codes "epoch 1 ") (decimal a.first.0) (codes "\n")
+    ∙ ap epoch_text s.1
+
+kind_spelled : (text kind : List ℕ) → kind_of text ≡ Some kind → text ≡ kind ++ codes "\n"
+unfolding kind_of
+kind_spelled text kind e =
+    let n = length text - 1 in
+    let s = some_of (is_end (drop n text) && is_kind (take n text)) (take n text) kind e in
+    sym (take-append-drop n text)
+    ∙ ap (λ (t : List ℕ). take n text ++ t) (end_spelled (drop n text) (first_of (is_end (drop n text)) (is_kind (take n text)) s.0))
+    ∙ ap (λ (t : List ℕ). t ++ codes "\n") s.1
+
+body_spelled : (stamp : ℕ × ℕ) (text : List ℕ) (line : HeadLine) → body_of stamp text ≡ Some line
+    → (text ≡ codes " " ++ (decimal line.size ++ (codes " " ++ (line.kind ++ codes "\n")))) × ((stamp.0 ≡ line.epoch) × (stamp.1 ≡ line.count))
+unfolding body_of
+body_spelled stamp text line e =
+    let a = then_some _ (option_and_then number_of (after_word (codes " ") text)) line e in
+    let b = then_some number_of (after_word (codes " ") text) a.first a.is in
+    let c = map_some _ (option_and_then kind_of (after_word (codes " ") a.first.1)) line a.next in
+    let d = then_some kind_of (after_word (codes " ") a.first.1) c.first c.is in (
+      word_spelled (codes " ") text b.first b.is
+          ∙ ap (λ t. codes " " ++ t) (number_spelled b.first a.first b.next)
+          ∙ ap (λ t. codes " " ++ (decimal a.first.0 ++ t)) (word_spelled (codes " ") a.first.1 d.first d.is)
+          ∙ ap (λ t. codes " " ++ (decimal a.first.0 ++ (codes " " ++ t))) (kind_spelled d.first c.first d.next)
+          ∙ ap (λ (l : HeadLine). codes " " ++ (decimal l.size ++ (codes " " ++ (l.kind ++ codes "\n")))) c.same,
+      (ap (λ (l : HeadLine). l.epoch) c.same, ap (λ (l : HeadLine). l.count) c.same),
+    )
+
+nested_more : (a b c d e f g h i : List ℕ) → a ++ (b ++ (c ++ (d ++ (e ++ (f ++ (g ++ (h ++ i))))))) ≡ (((((((a ++ b) ++ c) ++ d) ++ e) ++ f) ++ g) ++ h) ++ i
+nested_more a b c d e f g h i = nested a b c d (e ++ (f ++ (g ++ (h ++ i)))) ∙ nested (((a ++ b) ++ c) ++ d) e f g (h ++ i)
+    ∙ append_both ((((((a ++ b) ++ c) ++ d) ++ e) ++ f) ++ g) h i
+
+pub head_spelled : (text : List ℕ) (line : HeadLine) → head_of text ≡ Some line → text ≡ head_text line.epoch line.count line.size line.kind
+unfolding head_of
+head_spelled text line e =
+    let a = then_some _ (option_and_then stamp_of (after_word (codes "page 1 ") text)) line e in
+    let b = then_some stamp_of (after_word (codes "page 1 ") text) a.first a.is in
+    let body = body_spelled a.first.0 a.first.1 line a.next in
+    let end : List ℕ = codes " " ++ (decimal line.size ++ (codes " " ++ (line.kind ++ codes "\n"))) in
+    word_spelled (codes "page 1 ") text b.first b.is
+    ∙ ap (λ t. codes "page 1 " ++ t) (stamp_spelled b.first a.first b.next)
+    ∙ ap (λ t. codes "page 1 " ++ (decimal a.first.0.0 ++ (codes " " ++ (decimal a.first.0.1 ++ t)))) body.0
+    ∙ ap (λ n. codes "page 1 " ++ (decimal n ++ (codes " " ++ (decimal a.first.0.1 ++ end)))) body.1.0
+    ∙ ap (λ n. codes "page 1 " ++ (decimal line.epoch ++ (codes " " ++ (decimal n ++ end)))) body.1.1
+    ∙ nested_more (codes "page 1 ") (decimal line.epoch) (codes " ") (decimal line.count) (codes " ") (decimal line.size) (codes " ") line.kind (codes "\n")

@@ -161,21 +161,6 @@ fn a_put_fails_in_each_call(rt: HostRuntime) -> Result<(), Fail> {
     Ok(())
 }
 
-// After a put whose second call failed the body is there, no head, and no page.
-fn has_lost_its_page(alloc: Global, mut disk: MemDisk) -> bool {
-    disk.fail(2, Way::New);
-    put(alloc, &mut disk) == Err(FileFault::Disk)
-        && stand(alloc, &mut disk, None, Some("x"))
-        && matches!(get(alloc, &mut disk), Ok(None))
-}
-
-#[test]
-fn a_failed_put_leaves_no_page(rt: HostRuntime) -> Result<(), Fail> {
-    assert!(rt; has_lost_its_page(rt.alloc(), MemDisk::new(rt.alloc())));
-    assert!(rt; has_lost_its_page(rt.alloc(), disk_with(rt.alloc(), OLD)));
-    Ok(())
-}
-
 const DROP_ROWS: Rows<'_> = &[
     (1, Way::Old, OLD_HEAD, Some("old")),
     (1, Way::New, None, Some("old")),

@@ -220,6 +220,14 @@ fn a_failed_change_leaves_what_is_held(rt: HostRuntime) -> Result<(), Fail> {
     assert!(rt; fs::remove_file(&rt, "disk_of_failures/a/y").is_ok());
     assert!(rt; fs::create_dir(&rt, "disk_of_failures/a/y").is_ok());
     assert_eq!(rt; disk.remove("a/y"), Err(DiskFault::Failed));
+    assert!(rt; matches!(disk.get(rt.alloc(), "a/y"), Ok(None)));
+    assert!(rt; lists(rt.alloc(), &mut disk, &[("", "", 9, &["a/x"])]));
+    // The file stands after all: it is found, and its removal is made again.
+    assert!(rt; fs::remove_dir_all(&rt, "disk_of_failures/a/y").is_ok());
+    assert!(rt; fs::write(&rt, "disk_of_failures/a/y", "2").is_ok());
+    assert!(rt; holds(rt.alloc(), &mut disk, &[("a/y", "2")]));
+    assert_eq!(rt; disk.remove("a/y"), Ok(()));
+    assert!(rt; matches!(fs::exists(&rt, "disk_of_failures/a/y"), Ok(false)));
     assert_eq!(rt; disk.remove("a/x"), Ok(()));
     assert!(rt; matches!(fs::exists(&rt, "disk_of_failures/a/x"), Ok(false)));
     Ok(())

@@ -1,5 +1,5 @@
 -- What a list of a disk in memory gives: names in their order, after one, with a prefix.
-use Rattle.std.proofs.Common.{◌≡◌, ◌≤◌, ◌<◌, ℕ, zero, suc, Bool, true, false, not, ◌&&◌, T, List, [], ◌∷◌, ◌++◌, map, take, length, cond, refl, sym, ◌∙◌, ap, subst, arith}
+use Rattle.std.proofs.Common.{◌≡◌, ◌≤◌, ◌<◌, ℕ, zero, suc, Bool, true, false, ◌&&◌, T, List, [], ◌∷◌, ◌++◌, map, take, length, get_or, cond, refl, sym, ◌∙◌, ap, subst, arith}
 use Rattle.std.specs.Prelude.{string_bytes, string_cmp, IsTrue}
 use Rattle.std.specs.Borrow.{Bor}
 use Rattle.std.specs.List.{filter, All, AllByRecursion}
@@ -7,23 +7,26 @@ use Rattle.std.specs.List.Sorted.{IsStrictlySortedBy}
 use Rattle.std.specs.Map.{keys_of}
 use Rattle.std.specs.Map.Iter.{deref_pair}
 use Rattle.std.specs.BTreeMap.Range.{range_contains}
-use Rattle.std.specs.Ordering.{is_lt}
+use Rattle.std.specs.Ordering.{is_le, is_lt}
 use Rattle.std.specs.declared.cmp.Ordering.{Ordering}
 use Rattle.std.specs.declared.cmp.Ordering.TheVariants.{Less, Equal, Greater}
-use Rattle.std.specs.declared.ops.Bound.TheVariants.{Excluded, Unbounded}
+use Rattle.std.specs.declared.ops.Bound.{Bound}
+use Rattle.std.specs.declared.ops.Bound.TheVariants.{Included, Excluded, Unbounded}
 use Rattle.std.specs.declared.string.String.{String}
 use Rattle.std.specs.declared.alloc.Global.{Global}
 use Rattle.std.specs.Cmp.Lexicographic.{nat_list_cmp_total}
-use Rattle.std.specs.FinMap.{FinMap, keys, entries, entries_sorted, from_entries, from_sorted, get-from_entries, get-from_sorted, entries-from_sorted, same_map}
+use Rattle.std.specs.FinMap.{keys, entries, entries_sorted, from_sorted, get-from_entries, get-from_sorted, entries-from_sorted, same_map}
 use Rattle.std.specs.FinMap.Entries.{is_sorted, below_all}
 use Rattle.std.proofs.lemmas.Bool.{true≢false}
-use Rattle.std.proofs.lemmas.List.{append-nil, map-append, take_all, take_at, length-take}
+use Rattle.std.proofs.Math.Seq.{get_or-append_seam}
+use Rattle.std.proofs.lemmas.List.{append-nil, length-append, map-append, take_all, take_at, length-take}
 use Rattle.std.proofs.lemmas.List.Kept.{IsStrictlySortedBy-filter}
 use Rattle.std.proofs.lemmas.List.Elements.{filter-append, filter_passes, All-filter, All-take}
 use Rattle.sp_base.specs.Names.{by_name}
 use Rattle.sp_outside.specs.Files.{Files, IsName, IsListing, has_prefix, names_after}
-use Rattle.sp_outside.specs.MemoryFiles.{Held, named, files_of}
+use Rattle.sp_outside.specs.MemoryFiles.{Held, IsFirstPlace, named, files_of}
 use Rattle.sp_outside.proofs.HeldFiles.{same_name}
+use Rattle.sp_outside.proofs.Prefixes.{after_both, behind_both, prefix_between, prefix_first}
 
 -- the names of entries, in their order
 abbrev pub names_of : Held → List (List ℕ)
@@ -78,22 +81,60 @@ sizes_held [] h k d lt = absurd (omega (arith, lt))
 sizes_held (e ∷ held) h zero d lt = h zero e.0 (omega arith)
 sizes_held (e ∷ held) h (suc k) d lt = sizes_held held (λ j x l. h (suc j) x (omega (arith, l))) k d (omega (arith, lt))
 
-abbrev in_range : String Global → (String Global × List ℕ) → Bool
-in_range key e = range_contains string_cmp (Excluded key) Unbounded e.0
+first_true : (a b : Bool) → a && b ≡ true → a ≡ true
+first_true true b e = refl
+first_true false b e = absurd (true≢false (sym e))
+
+second_true : (a b : Bool) → a && b ≡ true → b ≡ true
+second_true true b e = e
+second_true false b e = absurd (true≢false (sym e))
+
+abbrev in_range : Bound (String Global) → String Global × List ℕ → Bool
+in_range start e = range_contains string_cmp start Unbounded e.0
 
 abbrev wanted : List ℕ → List ℕ → List ℕ → Bool
 wanted prefix after name = has_prefix prefix name && is_lt (by_name after name)
 
-ranged : (prefix : List ℕ) (key : String Global) (held : Held)
-    → filter (wanted prefix (string_bytes key)) (names_of held) ≡ filter (has_prefix prefix) (names_of (filter (in_range key) held))
-ranged prefix key [] = refl
-ranged prefix key (e ∷ held) =
+-- of the names with the prefix those are after a name that stand from the first place on
+same_true : (a b c : Bool) → (a ≡ true → b ≡ c) → a && b ≡ a && c
+same_true true b c e = e refl
+same_true false b c e = refl
+
+and_true : (b : Bool) → b && true ≡ b
+and_true true = refl
+and_true false = refl
+
+from_place : (prefix after : List ℕ) (start : Bound (String Global)) → IsFirstPlace prefix after start → (key : String Global)
+    → wanted prefix after (string_bytes key) ≡ has_prefix prefix (string_bytes key) && range_contains string_cmp start Unbounded key
+from_place prefix after (Included place) is key = same_true (has_prefix prefix (string_bytes key)) _ _ (λ has.
+    let le = prefix_first prefix (string_bytes key) has in
+    after_both after prefix (string_bytes key) (by_name prefix (string_bytes key)) refl is.1 le
+    ∙ sym (and_true (is_le (string_cmp place key)) ∙ ap (λ p. is_le (by_name p (string_bytes key))) is.0 ∙ le))
+from_place prefix after (Excluded place) is key = same_true (has_prefix prefix (string_bytes key)) _ _ (λ has.
+    sym (and_true (is_lt (string_cmp place key)) ∙ ap (λ p. is_lt (by_name p (string_bytes key))) is.0))
+from_place prefix after Unbounded is key = absurd is
+
+-- from the first place on no name is before the prefix
+place_first : (prefix after : List ℕ) (start : Bound (String Global)) → IsFirstPlace prefix after start → (key : String Global)
+    → range_contains string_cmp start Unbounded key ≡ true → is_le (by_name prefix (string_bytes key)) ≡ true
+place_first prefix after (Included place) is key e =
+    sym (ap (λ p. is_le (by_name p (string_bytes key))) is.0) ∙ first_true _ _ e
+place_first prefix after (Excluded place) is key e =
+    behind_both after prefix (string_bytes key) (by_name after prefix) refl is.1
+    (sym (ap (λ p. is_lt (by_name p (string_bytes key))) is.0) ∙ first_true _ _ e)
+place_first prefix after Unbounded is key e = absurd is
+
+ranged : (prefix after : List ℕ) (start : Bound (String Global)) → IsFirstPlace prefix after start → (held : Held)
+    → filter (wanted prefix after) (names_of held) ≡ filter (has_prefix prefix) (names_of (filter (in_range start) held))
+ranged prefix after start is [] = refl
+ranged prefix after start is (e ∷ held) =
     let name = string_bytes e.0 in
-    let left = filter (wanted prefix (string_bytes key)) (names_of held) in
-    let rest = filter (in_range key) held in
-    let so_far = ranged prefix key held in
-    elim (is_lt (string_cmp key e.0)) as (λ l. cond (has_prefix prefix name && l) (name ∷ left) left
-    ≡ filter (has_prefix prefix) (names_of (cond (l && not false) (e ∷ rest) rest))) [
+    let left = filter (wanted prefix after) (names_of held) in
+    let rest = filter (in_range start) held in
+    let so_far = ranged prefix after start is held in
+    ap (λ b. cond b (name ∷ left) left) (from_place prefix after start is e.0)
+    ∙ elim (range_contains string_cmp start Unbounded e.0) as (λ l. cond (has_prefix prefix name && l) (name ∷ left) left
+    ≡ filter (has_prefix prefix) (names_of (cond l (e ∷ rest) rest))) [
       | true ↦ elim (has_prefix prefix name) as (λ p. cond (p && true) (name ∷ left) left
           ≡ cond p (name ∷ filter (has_prefix prefix) (names_of rest)) (filter (has_prefix prefix) (names_of rest))) [
             | true ↦ ap (λ names. name ∷ names) so_far
@@ -106,13 +147,12 @@ ranged prefix key (e ∷ held) =
     ]
 
 -- the names wanted are those with the prefix among the names of the range
-pub after_held : (prefix after : List ℕ) (key : String Global) (held range : Held) → IsStrictlySortedBy string_cmp (keys_of held)
-    → string_bytes key ≡ after → range ≡ filter (in_range key) held
+pub after_held : (prefix after : List ℕ) (start : Bound (String Global)) (held range : Held) → IsStrictlySortedBy string_cmp (keys_of held)
+    → IsFirstPlace prefix after start → range ≡ filter (in_range start) held
     → names_after (files_of held) prefix after ≡ filter (has_prefix prefix) (names_of range)
-after_held prefix after key held range rising is ranges =
-    ap (λ a. filter (wanted prefix a) (keys (files_of held))) (sym is)
-    ∙ ap (filter (wanted prefix (string_bytes key))) (keys_held held rising)
-    ∙ ranged prefix key held ∙ ap (λ r. filter (has_prefix prefix) (names_of r)) (sym ranges)
+after_held prefix after start held range rising is ranges =
+    ap (filter (wanted prefix after)) (keys_held held rising)
+    ∙ ranged prefix after start is held ∙ ap (λ r. filter (has_prefix prefix) (names_of r)) (sym ranges)
 
 -- what a loop over a range has yielded
 abbrev pub Seen : Type 0
@@ -158,15 +198,69 @@ all_names prefix range items names most parts is few =
     let whole : names ≡ filter (has_prefix prefix) (names_of range) = is ∙ ap (filter (has_prefix prefix)) (seen items ∙ ap names_of parts) in
     whole ∙ sym (take_all most (filter (has_prefix prefix) (names_of range)) (subst (λ (ns : List (List ℕ)). length ns ≤ most) whole few))
 
+-- the keys of a range rise
+range_keys : (start : Bound (String Global)) (held : Held) → keys_of (filter (in_range start) held) ≡ filter (range_contains string_cmp start Unbounded) (keys_of held)
+range_keys start [] = refl
+range_keys start (e ∷ held) =
+    elim (range_contains string_cmp start Unbounded e.0) as (λ b. keys_of (cond b (e ∷ filter (in_range start) held) (filter (in_range start) held))
+    ≡ cond b (e.0 ∷ filter (range_contains string_cmp start Unbounded) (keys_of held)) (filter (range_contains string_cmp start Unbounded) (keys_of held))) [
+      | true ↦ ap (λ keys. e.0 ∷ keys) (range_keys start held)
+      | false ↦ range_keys start held
+    ]
+
+rest_above : (seen : Held) (item : String Global × List ℕ) (rest : Held) → IsStrictlySortedBy string_cmp (keys_of (seen ++ item ∷ rest))
+    → AllByRecursion (λ other. string_cmp item.0 other ≡ Less) (keys_of rest)
+unfolding IsStrictlySortedBy
+rest_above [] item rest h = h.0
+rest_above (e ∷ seen) item rest h = rest_above seen item rest h.1
+
+not_true : (b : Bool) → (b ≡ true → ⊥) → b ≡ false
+not_true true none = absurd (none refl)
+not_true false none = refl
+
+-- behind a name that isn't before the prefix and doesn't begin with it no name does
+none_behind : (prefix : List ℕ) (item : String Global × List ℕ) (rest : Held) → is_le (by_name prefix (string_bytes item.0)) ≡ true
+    → has_prefix prefix (string_bytes item.0) ≡ false → AllByRecursion (λ other. string_cmp item.0 other ≡ Less) (keys_of rest)
+    → filter (has_prefix prefix) (names_of rest) ≡ []
+none_behind prefix item [] le lacks above = refl
+none_behind prefix item (e ∷ rest) le lacks above =
+    let none : has_prefix prefix (string_bytes e.0) ≡ false = not_true _ (λ has.
+    true≢false (sym (prefix_between prefix (string_bytes item.0) (string_bytes e.0) le (ap is_lt above.0) has) ∙ lacks)) in
+    ap (λ b. cond b (string_bytes e.0 ∷ filter (has_prefix prefix) (names_of rest)) (filter (has_prefix prefix) (names_of rest))) none
+    ∙ none_behind prefix item rest le lacks above.1
+
+in_seen : (start : Bound (String Global)) (held seen : Held) (item : String Global × List ℕ) (rest : Held)
+    → filter (in_range start) held ≡ seen ++ item ∷ rest → in_range start item ≡ true
+in_seen start held seen item rest parts =
+    let passes = filter_passes (in_range start) held (length seen) item
+    (subst (λ (r : Held). length seen < length r) (sym parts) (omega (arith, length-append seen (item ∷ rest)))) in
+    sym (ap (in_range start) (ap (λ (r : Held). get_or r (length seen) item) parts ∙ get_or-append_seam seen item rest item)) ∙ passes
+
+-- a loop that ends at a name that doesn't begin with the prefix
+pub lacking : (prefix after : List ℕ) (start : Bound (String Global)) (held range : Held) (items : Seen) (item : String Global × List ℕ) (rest : Held) (names : List (List ℕ)) (most : ℕ)
+    → IsStrictlySortedBy string_cmp (keys_of held) → IsFirstPlace prefix after start → range ≡ filter (in_range start) held
+    → range ≡ map deref_pair items ++ item ∷ rest → has_prefix prefix (string_bytes item.0) ≡ false
+    → names ≡ filter (has_prefix prefix) (map name_in items) → length names ≤ most
+    → names ≡ take most (filter (has_prefix prefix) (names_of range))
+lacking prefix after start held range items item rest names most rising place ranges parts lacks is few =
+    let seen_items = map deref_pair items in
+    let cut : filter (in_range start) held ≡ seen_items ++ item ∷ rest = sym ranges ∙ parts in
+    let sorted : IsStrictlySortedBy string_cmp (keys_of (seen_items ++ item ∷ rest)) =
+    subst (λ (r : Held). IsStrictlySortedBy string_cmp (keys_of r)) cut
+    (subst (IsStrictlySortedBy string_cmp) (sym (range_keys start held)) (IsStrictlySortedBy-filter string_cmp (range_contains string_cmp start Unbounded) (keys_of held) rising)) in
+    let le = place_first prefix after start place item.0 (in_seen start held seen_items item rest cut) in
+    let none : filter (has_prefix prefix) (names_of (item ∷ rest)) ≡ [] =
+    ap (λ b. cond b (string_bytes item.0 ∷ filter (has_prefix prefix) (names_of rest)) (filter (has_prefix prefix) (names_of rest))) lacks
+    ∙ none_behind prefix item rest le lacks (rest_above seen_items item rest sorted) in
+    let whole : names ≡ filter (has_prefix prefix) (names_of range) =
+    is ∙ ap (filter (has_prefix prefix)) (seen items) ∙ sym (ap (filter (has_prefix prefix)) (ap names_of parts
+    ∙ map-append (λ (e : String Global × List ℕ). string_bytes e.0) seen_items (item ∷ rest))
+    ∙ filter-append (has_prefix prefix) (names_of seen_items) (names_of (item ∷ rest))
+    ∙ ap (λ ns. filter (has_prefix prefix) (names_of seen_items) ++ ns) none
+    ∙ append-nil (filter (has_prefix prefix) (names_of seen_items))) in
+    whole ∙ sym (take_all most (filter (has_prefix prefix) (names_of range)) (subst (λ (ns : List (List ℕ)). length ns ≤ most) whole few))
+
 -- ---- what every listing is
-
-first_true : (a b : Bool) → a && b ≡ true → a ≡ true
-first_true true b e = refl
-first_true false b e = absurd (true≢false (sym e))
-
-second_true : (a b : Bool) → a && b ≡ true → b ≡ true
-second_true true b e = e
-second_true false b e = absurd (true≢false (sym e))
 
 less_is : (o : Ordering) → is_lt o ≡ true → o ≡ Less
 less_is Less e = refl

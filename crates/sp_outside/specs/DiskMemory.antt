@@ -1,8 +1,7 @@
 -- The state of a disk in memory, which of its calls fail, and what each call does to it.
-use Rattle.std.specs.Prelude.{◌≡◌, ◌==◌, ◌-◌, ℕ, Option, Some, None, Result, Ok, Err, IsSome, refl, if◌then◌else◌}
-use Rattle.std.specs.Coded.{Coded, code_by, coded×, coded_ℕ}
+use Rattle.std.specs.Prelude.{◌≡◌, ◌==◌, ◌-◌, ℕ, Option, Some, None, Result, Ok, Err, IsSome, if◌then◌else◌}
 use Rattle.sp_outside.specs.Causes.{next}
-use Rattle.sp_outside.specs.Files.{Files, with_file, without_file}
+use Rattle.sp_outside.specs.Files.{Files}
 use Rattle.sp_outside.specs.declared.disk.DiskFault.{DiskFault}
 use Rattle.sp_outside.specs.declared.disk.DiskFault.TheVariants.{Failed, NoMemory}
 use Rattle.sp_outside.specs.declared.mem_disk.Way.{Way}

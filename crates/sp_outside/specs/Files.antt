@@ -1,5 +1,5 @@
 -- The files of a disk, a finite map from names to bytes, and what its calls make of them.
-use Rattle.std.specs.Prelude.{◌≡◌, ◌⊎◌, ◌≤◌, ◌∷◌, ◌&&◌, ℕ, Bool, List, Option, IsTrue, nat_eq, length, take, option_map}
+use Rattle.std.specs.Prelude.{◌≡◌, ◌⊎◌, ◌≤◌, ◌∷◌, ◌&&◌, ℕ, Bool, List, Option, IsTrue, nat_eq, length, option_map}
 use Rattle.std.specs.Coded.{Coded, coded_ℕ, coded_list}
 use Rattle.std.specs.FinMap.{FinMap, get, insert, remove, keys, code}
 use Rattle.std.specs.List.{filter, starts_with, All}

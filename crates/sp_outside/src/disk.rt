@@ -1,7 +1,8 @@
 //! Disks: where files are kept by their names.
-ghost use Rattle.std.specs.Prelude.{◌≡◌, ℕ, Option, IfSome, IfOk, IfErr, OnOk, take};
+ghost use Rattle.std.specs.Prelude.{◌≡◌, ℕ, List, Option, IfSome, IfOk, IfErr, OnOk, take};
 ghost use Rattle.sp_outside.specs.Files.{Files, IsName, IsListing, IsOldOrNew, file_at, told_with, told_without, names_after};
 ghost use Rattle.sp_outside.specs.Causes.{HasDiskCause};
+ghost use Rattle.sp_outside.specs.Calls.{Call, Get, Put, Remove, Names, told_call};
 ghost use Rattle.sp_outside.specs.declared.disk.DiskFault.TheVariants.{NoMemory as no_memory};
 
 use sp_base::{ByteBuf, NameList, NoMemory};
@@ -41,25 +42,31 @@ pub trait Disk {
     /// The files, where the disk tells them.
     ghost files: { Self → Option Files };
 
+    /// The calls that were made of the disk, the last one at the end, where it tells them.
+    ghost calls: { Self → Option (List Call) };
+
     /// The bytes of a file, or None where there is none of this name.
     fn get(&mut self, alloc: Global, name: &str) -> Result<Option<ByteBuf>, DiskFault>
         ensures value { IfOk result (λ found. IfSome (files self.old) (λ held. found ≡ file_at held name.now)) }
         ensures same { files self.new ≡ files self.old }
-        ensures cause { HasDiskCause (faults self.old) (faults self.new) result };
+        ensures cause { HasDiskCause (faults self.old) (faults self.new) result }
+        ensures made { calls self.new ≡ told_call (calls self.old) (Get name.now) };
 
     /// Makes the file of this name exactly these bytes.
     fn put(&mut self, name: &str, bytes: &[u8]) -> Result<(), DiskFault>
         requires { IsName name.now }
         ensures ok { OnOk result (files self.new ≡ told_with (files self.old) name.now bytes.now) }
         ensures err { IfErr result (IsOldOrNew (files self.old) (told_with (files self.old) name.now bytes.now) (files self.new)) }
-        ensures cause { HasDiskCause (faults self.old) (faults self.new) result };
+        ensures cause { HasDiskCause (faults self.old) (faults self.new) result }
+        ensures made { calls self.new ≡ told_call (calls self.old) (Put name.now bytes.now) };
 
     /// Takes the file of this name away, if there is one. This takes no memory, but for what a disk keeps of names from its first call on.
     fn remove(&mut self, name: &str) -> Result<(), DiskFault>
         ensures ok { OnOk result (files self.new ≡ told_without (files self.old) name.now) }
         ensures err { IfErr result (IsOldOrNew (files self.old) (told_without (files self.old) name.now) (files self.new)) }
         ensures fails { IfErr result (λ e. e ≡ DiskFault.Failed) }
-        ensures cause { HasDiskCause (faults self.old) (faults self.new) result };
+        ensures cause { HasDiskCause (faults self.old) (faults self.new) result }
+        ensures made { calls self.new ≡ told_call (calls self.old) (Remove name.now) };
 
     /// The first names, at most `most`, that begin with a prefix and are greater than `after`, in the order of their bytes.
     fn list(
@@ -72,5 +79,6 @@ pub trait Disk {
         ensures names { IfOk result (IsListing prefix.now after.now most) }
         ensures value { IfOk result (λ names. IfSome (files self.old) (λ held. names ≡ take most (names_after held prefix.now after.now))) }
         ensures same { files self.new ≡ files self.old }
-        ensures cause { HasDiskCause (faults self.old) (faults self.new) result };
+        ensures cause { HasDiskCause (faults self.old) (faults self.new) result }
+        ensures made { calls self.new ≡ told_call (calls self.old) (Names prefix.now after.now most) };
 }

@@ -1,9 +1,13 @@
 //! A disk in memory, which tells its files, and of which a chosen call fails, or every call from one on.
-ghost use Rattle.std.specs.Prelude.{◌≡◌, IfOk, IfErr, OnOk, OnErr, Some, take};
+ghost use Rattle.std.specs.Prelude.{◌≡◌, IfOk, IfErr, OnOk, OnErr, Some, None, take};
 ghost use Rattle.std.specs.FinMap.{empty};
+ghost use Rattle.std.specs.Ordering.{is_lt};
+ghost use Rattle.sp_base.specs.Names.{by_name};
 ghost use Rattle.sp_outside.specs.Files.{IsName, IsListing, IsOldOrNew, file_at, with_file, without_file, names_after};
 ghost use Rattle.sp_outside.specs.DiskMemory.{IsPlanned, next_fails, plan_after, plan_gone, read_after, write_after};
+ghost use Rattle.sp_outside.specs.Calls.{Get, Put, Remove, Names, told_call};
 ghost use Rattle.sp_outside.specs.Causes.{HasDiskCause, Rose, next};
+ghost use Rattle.sp_outside.specs.MemoryFiles.{IsFirstPlace};
 
 use crate::{Disk, DiskFault};
 use sp_base::{ByteBuf, Mem, NameList, TextBuf};
@@ -108,6 +112,23 @@ impl MemDisk {
     }
 }
 
+fn is_before(name: &str, other: &str) -> bool
+    ensures { result ≡ is_lt (by_name name.now other.now) }
+{
+    name < other
+}
+
+// Where the names begin that are after a name and may begin with a prefix.
+fn first_place(alloc: Global, prefix: &str, after: &str) -> Mem<Bound<String>>
+    ensures { IfOk result (IsFirstPlace prefix.now after.now) }
+{
+    if is_before(after, prefix) {
+        Ok(Bound::Included(String::from_str(alloc, prefix)?))
+    } else {
+        Ok(Bound::Excluded(String::from_str(alloc, after)?))
+    }
+}
+
 impl MemDisk {
     // Counts a call, and answers how it fails, if it does.
     fn begin(&mut self) -> Option<Way>
@@ -150,14 +171,12 @@ impl MemDisk {
         ensures value { IfOk result (λ names. names ≡ take most (names_after self.now.files prefix.now after.now)) }
     {
         let mut names = NameList::new(alloc);
-        let start = Bound::Excluded(String::from_str(alloc, after)?);
+        let start = first_place(alloc, prefix, after)?;
         for (name, _) in self.files.range((start, Bound::Unbounded)) {
-            if names.len() >= most {
+            if names.len() >= most || !name.starts_with(prefix) {
                 break;
             }
-            if name.starts_with(prefix) {
-                names.push(TextBuf::of(alloc, name.as_str())?)?;
-            }
+            names.push(TextBuf::of(alloc, name.as_str())?)?;
         }
         Ok(names)
     }
@@ -187,6 +206,8 @@ impl Disk for MemDisk {
 
     ghost files = { λ d. Some d.files };
 
+    ghost calls = { λ _. None };
+
     fn get(&mut self, alloc: Global, name: &str) -> Result<Option<ByteBuf>, DiskFault>
         ensures fails { IsPlanned self.old.plan result }
         ensures found { IfOk result (λ found. found ≡ file_at self.old.files name.now) }
@@ -196,6 +217,7 @@ impl Disk for MemDisk {
         ensures value { IfOk result (λ found. found ≡ file_at self.old.files name.now) }
         ensures same { Some self.new.files ≡ Some self.old.files }
         ensures cause { HasDiskCause self.old.failed self.new.failed result }
+        ensures made { None ≡ told_call None (Get name.now) }
     {
         if self.begin().is_some() {
             return Err(self.fault());
@@ -212,6 +234,7 @@ impl Disk for MemDisk {
         ensures ok { OnOk result (Some self.new.files ≡ Some (with_file self.old.files name.now bytes.now)) }
         ensures err { IfErr result (IsOldOrNew (Some self.old.files) (Some (with_file self.old.files name.now bytes.now)) (Some self.new.files)) }
         ensures cause { HasDiskCause self.old.failed self.new.failed result }
+        ensures made { None ≡ told_call None (Put name.now bytes.now) }
     {
         match self.begin() {
             None => Ok(self.write(name, bytes)?),
@@ -232,6 +255,7 @@ impl Disk for MemDisk {
         ensures err { IfErr result (IsOldOrNew (Some self.old.files) (Some (without_file self.old.files name.now)) (Some self.new.files)) }
         ensures fails { IfErr result (λ e. e ≡ DiskFault.Failed) }
         ensures cause { HasDiskCause self.old.failed self.new.failed result }
+        ensures made { None ≡ told_call None (Remove name.now) }
     {
         match self.begin() {
             None => {
@@ -261,6 +285,7 @@ impl Disk for MemDisk {
         ensures value { IfOk result (λ names. names ≡ take most (names_after self.old.files prefix.now after.now)) }
         ensures same { Some self.new.files ≡ Some self.old.files }
         ensures cause { HasDiskCause self.old.failed self.new.failed result }
+        ensures made { None ≡ told_call None (Names prefix.now after.now most) }
     {
         if self.begin().is_some() {
             return Err(self.fault());

@@ -71,6 +71,8 @@ impl<R: Files + AllocGlobal + Clone + Drop> Disk for RealDisk<R> {
 
     ghost files = { λ _. None };
 
+    ghost calls = { λ _. None };
+
     fn get(&mut self, alloc: Global, name: &str) -> Result<Option<ByteBuf>, DiskFault> {
         let found = self.docroot.read(alloc, name);
         self.counted(found)

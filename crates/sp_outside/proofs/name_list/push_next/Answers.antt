@@ -1,6 +1,6 @@
-use Rattle.std.proofs.Common.{◌≡◌, ◌++◌, ◌∷◌, [], true, List, ℕ, refl, sym, ◌∙◌, ap, subst, arith}
+use Rattle.std.proofs.Common.{◌++◌, ◌∷◌, [], refl, sym, ◌∙◌, ap, subst, arith}
 use Rattle.std.proofs.lemmas.Str.Pattern.{starts_text}
-use Rattle.sp_outside.specs.Files.{IsListing, has_prefix}
+use Rattle.sp_outside.specs.Files.{IsListing}
 use Rattle.sp_outside.proofs.NameList.{grows}
 use Rattle.sp_outside.proofs.name_list.push_next.Goals as goal
 

@@ -1,4 +1,4 @@
-use Rattle.std.proofs.Common.{◌≡◌, sym, subst}
+use Rattle.std.proofs.Common.{sym, subst}
 use Rattle.sp_outside.specs.Files.{IsListing}
 use Rattle.sp_outside.proofs.NameList.{begins}
 use Rattle.sp_outside.proofs.docroot.Docroot.list.Goals as goal

@@ -1,9 +1,9 @@
-use Rattle.std.proofs.Common.{◌≡◌, ◌∙◌, ap, sym, subst}
-use Rattle.std.specs.Prelude.{string_bytes, string_cmp}
+use Rattle.std.proofs.Common.{◌∙◌, ap, sym, subst}
+use Rattle.std.specs.Prelude.{string_bytes}
 use Rattle.std.specs.List.{All}
 use Rattle.std.specs.Map.{keys_of}
 use Rattle.std.proofs.lemmas.Map.Views.{All-map-remove_entry}
-use Rattle.sp_outside.specs.Files.{Files, IsName, without_file}
+use Rattle.sp_outside.specs.Files.{IsName, without_file}
 use Rattle.sp_outside.specs.DiskMemory.{DiskState}
 use Rattle.sp_outside.specs.MemoryFiles.{Held, files_of}
 use Rattle.sp_outside.proofs.HeldFiles.{held_without, is_key}

@@ -1,5 +1,5 @@
 -- Different pages and folders have different files.
-use Rattle.std.proofs.Common.{◌≡◌, ◌≢◌, ◌<◌, ◌≤◌, ◌+◌, ◌*◌, ◌/◌, ◌%◌, ℕ, zero, suc, Bool, true, false, cond, ◌&&◌, ◌++◌, List, [], ◌∷◌, IsTrue, length, get_or, take, map, nat_eq, codes, flat_map, refl, sym, ◌∙◌, ap, subst, arith}
+use Rattle.std.proofs.Common.{◌≡◌, ◌≢◌, ◌<◌, ◌/◌, ◌%◌, ℕ, Bool, true, false, cond, ◌++◌, List, [], ◌∷◌, get_or, map, nat_eq, codes, refl, sym, ◌∙◌, ap, arith}
 use Rattle.std.specs.List.{AllByRecursion, list_all}
 use Rattle.std.specs.Fmt.{digit_glyph}
 use Rattle.std.proofs.lemmas.Bool.{true≢false}
@@ -60,7 +60,7 @@ same_name (b ∷ s) (c ∷ t) small_s small_t e =
 
 -- ---- a name's pieces are its segments' names
 
-pieces_body : (folder : List (List ℕ)) (last : List ℕ) → list_all is_name_byte last ≡ true → pieces (folder_name folder ++ last) ≡ map file_name folder ++ last ∷ []
+pub pieces_body : (folder : List (List ℕ)) (last : List ℕ) → list_all is_name_byte last ≡ true → pieces (folder_name folder ++ last) ≡ map file_name folder ++ last ∷ []
 pieces_body [] last ok = slice_split_none (λ b. nat_eq b 47) last (no_slash last ok)
 pieces_body (seg ∷ folder) last ok =
     ap pieces (sym (append_both (file_name seg ++ 47 ∷ []) (folder_name folder) last) ∙ sym (append_both (file_name seg) (47 ∷ []) (folder_name folder ++ last)))
@@ -100,39 +100,61 @@ heads a b x y small_a small_b small_x small_y e = bodies a b x y small_a small_b
 pub stats : (a b : List (List ℕ)) → AllByRecursion are_bytes a → AllByRecursion are_bytes b → stat_name a ≡ stat_name b → a ≡ b
 stats a b small_a small_b e = (same_place a b (codes ".stat") (codes ".stat") small_a small_b refl refl e).0
 
--- no file's name ends as a head's does
+-- no file's name ends in `%` and one byte, as a head's does
 low_glyph : (d : ℕ) → d < 16 → digit_glyph true d ≡ 37 → ⊥
 low_glyph d small e = grind (arith, nat_tests)
 
 -- a byte taken off the front leaves the end
-peel : (b : ℕ) (p : Bool) (xs t : List ℕ) → is_plain b ≡ p → written p b ++ xs ≡ t ++ 37 ∷ 104 ∷ [] → (rest : List ℕ) × (xs ≡ rest ++ 37 ∷ 104 ∷ [])
-peel b true xs [] plain e = absurd (never_percent b plain (head_of_two b 37 xs (104 ∷ []) e).0)
-peel b true xs (c ∷ t) plain e = (t, (head_of_two b c xs (t ++ 37 ∷ 104 ∷ []) e).1)
-peel b false xs [] plain e = absurd cc
-peel b false xs (c ∷ []) plain e =
-    absurd (low_glyph (b / 16 % 16) (omega arith) (head_of_two _ 37 (digit_glyph true (b % 16) ∷ xs) (104 ∷ []) (head_of_two 37 c _ _ e).1).0)
-peel b false xs (c ∷ d ∷ []) plain e =
-    absurd (low_glyph (b % 16) (omega arith) (head_of_two _ 37 xs (104 ∷ []) (head_of_two _ d _ _ (head_of_two 37 c _ _ e).1).1).0)
-peel b false xs (c ∷ d ∷ f ∷ t) plain e = (t, (head_of_two _ f xs (t ++ 37 ∷ 104 ∷ []) (head_of_two _ d _ _ (head_of_two 37 c _ _ e).1).1).1)
+peel : (mark b : ℕ) (p : Bool) (xs t : List ℕ) → is_plain b ≡ p → written p b ++ xs ≡ t ++ 37 ∷ mark ∷ [] → (rest : List ℕ) × (xs ≡ rest ++ 37 ∷ mark ∷ [])
+peel mark b true xs [] plain e = absurd (never_percent b plain (head_of_two b 37 xs (mark ∷ []) e).0)
+peel mark b true xs (c ∷ t) plain e = (t, (head_of_two b c xs (t ++ 37 ∷ mark ∷ []) e).1)
+peel mark b false xs [] plain e = absurd cc
+peel mark b false xs (c ∷ []) plain e =
+    absurd (low_glyph (b / 16 % 16) (omega arith) (head_of_two _ 37 (digit_glyph true (b % 16) ∷ xs) (mark ∷ []) (head_of_two 37 c _ _ e).1).0)
+peel mark b false xs (c ∷ d ∷ []) plain e =
+    absurd (low_glyph (b % 16) (omega arith) (head_of_two _ 37 xs (mark ∷ []) (head_of_two _ d _ _ (head_of_two 37 c _ _ e).1).1).0)
+peel mark b false xs (c ∷ d ∷ f ∷ t) plain e = (t, (head_of_two _ f xs (t ++ 37 ∷ mark ∷ []) (head_of_two _ d _ _ (head_of_two 37 c _ _ e).1).1).1)
 
-no_head : (s t : List ℕ) → file_name s ≡ t ++ 37 ∷ 104 ∷ [] → ⊥
+pub no_ending : (mark : ℕ) (s t : List ℕ) → file_name s ≡ t ++ 37 ∷ mark ∷ [] → ⊥
 unfolding file_name
-no_head [] [] e = absurd cc
-no_head [] (x ∷ t) e = absurd cc
-no_head (b ∷ s) t e =
-    let p = peel b (is_plain b) (file_name s) t refl e in
-    no_head s p.0 p.1
+no_ending mark [] [] e = absurd cc
+no_ending mark [] (x ∷ t) e = absurd cc
+no_ending mark (b ∷ s) t e =
+    let p = peel mark b (is_plain b) (file_name s) t refl e in
+    no_ending mark s p.0 p.1
 
-head_bytes : (x : List ℕ) → list_all is_name_byte (file_name x ++ codes "%h") ≡ true
+-- a segment's name, and a folder's, taken off the front leave the end
+pub after_segment : (mark : ℕ) (s xs t : List ℕ) → file_name s ++ xs ≡ t ++ 37 ∷ mark ∷ [] → (rest : List ℕ) × (xs ≡ rest ++ 37 ∷ mark ∷ [])
+unfolding file_name
+after_segment mark [] xs t e = (t, e)
+after_segment mark (b ∷ s) xs t e =
+    let p = peel mark b (is_plain b) (file_name s ++ xs) t refl (append_both (file_byte b) (file_name s) xs ∙ e) in
+    after_segment mark s xs p.0 p.1
+
+after_slash : (mark : ℕ) (xs t : List ℕ) → 47 ∷ xs ≡ t ++ 37 ∷ mark ∷ [] → (rest : List ℕ) × (xs ≡ rest ++ 37 ∷ mark ∷ [])
+after_slash mark xs [] e =
+    let slash : 47 ≡ 37 = ap (λ l. get_or l 0 0) e in
+    absurd (omega (arith, slash))
+after_slash mark xs (c ∷ t) e = (t, (head_of_two 47 c xs (t ++ 37 ∷ mark ∷ []) e).1)
+
+pub after_folder : (mark : ℕ) (folder : List (List ℕ)) (xs t : List ℕ) → folder_name folder ++ xs ≡ t ++ 37 ∷ mark ∷ [] → (rest : List ℕ) × (xs ≡ rest ++ 37 ∷ mark ∷ [])
+after_folder mark [] xs t e = (t, e)
+after_folder mark (seg ∷ folder) xs t e =
+    let name = after_segment mark seg (47 ∷ (folder_name folder ++ xs)) t
+    (append_both (file_name seg) (47 ∷ []) (folder_name folder ++ xs) ∙ append_both (file_name seg ++ 47 ∷ []) (folder_name folder) xs ∙ e) in
+    let slash = after_slash mark (folder_name folder ++ xs) name.0 name.1 in
+    after_folder mark folder xs slash.0 slash.1
+
+pub head_bytes : (x : List ℕ) → list_all is_name_byte (file_name x ++ codes "%h") ≡ true
 head_bytes x = list_all-append is_name_byte (file_name x) (codes "%h") ∙ both _ _ (bytes_ok x) refl
 
 pub head_not_body : (a b : List (List ℕ)) (x y : List ℕ) → AllByRecursion are_bytes a → AllByRecursion are_bytes b → head_name a x ≢ body_name b y
 head_not_body a b x y small_a small_b e =
-    no_head y (file_name x) (sym (same_place a b (file_name x ++ codes "%h") (file_name y) small_a small_b (head_bytes x) (bytes_ok y)
+    no_ending 104 y (file_name x) (sym (same_place a b (file_name x ++ codes "%h") (file_name y) small_a small_b (head_bytes x) (bytes_ok y)
     (append_both (folder_name a) (file_name x) (codes "%h") ∙ e)).1)
 
 -- a page's file doesn't begin with a dot, and neither do its names
-no_dot : (y more rest : List ℕ) → is_file y ≡ true → file_name y ++ more ≡ 46 ∷ rest → ⊥
+pub no_dot : (y more rest : List ℕ) → is_file y ≡ true → file_name y ++ more ≡ 46 ∷ rest → ⊥
 unfolding file_name
 no_dot [] more rest file e = true≢false (sym file)
 no_dot (c ∷ y) more rest file e =

@@ -1,5 +1,5 @@
 -- Steps of reading a number.
-use Rattle.std.proofs.Common.{◌≡◌, ◌<◌, ◌≤◌, ◌+◌, ◌-◌, ◌*◌, ℕ, Bool, true, false, cond, ◌&&◌, leb, List, [], ◌∷◌, drop, length, slice_index, Some, None, refl, sym, arith}
+use Rattle.std.proofs.Common.{◌≡◌, ◌<◌, ◌+◌, ◌-◌, ◌*◌, ℕ, Bool, true, false, cond, ◌&&◌, leb, List, [], ◌∷◌, drop, length, Some, None, refl, sym, arith}
 use Rattle.docroot_format.specs.Readings.{is_digit, digit_fits, digits_from, next_of, greatest}
 
 pub record Next (m n : ℕ) (t : List ℕ) : Type 0 where

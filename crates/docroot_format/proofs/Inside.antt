@@ -1,7 +1,6 @@
 -- Names of files lie in the docroot: no segment of one is empty, `.` or `..`, and each byte is one that names have.
-use Rattle.std.proofs.Common.{◌≡◌, ◌<◌, ◌≤◌, ◌+◌, ◌/◌, ◌%◌, ℕ, zero, suc, Bool, true, false, not, cond, ◌&&◌, ◌||◌, ◌++◌, List, [], ◌∷◌, IsTrue, length, get_or, nat_le, nat_eq, nat_lt, codes, flat_map, Option, Some, None, refl, sym, ◌∙◌, ap, subst, arith}
-use Rattle.std.specs.List.{All, list_all, list_any}
-use Rattle.std.specs.Char.{is_ascii_alphanumeric}
+use Rattle.std.proofs.Common.{◌≡◌, ◌<◌, ◌≤◌, ◌+◌, ◌/◌, ◌%◌, ℕ, zero, suc, Bool, true, false, not, cond, ◌&&◌, ◌||◌, ◌++◌, List, [], ◌∷◌, IsTrue, length, get_or, nat_eq, codes, flat_map, Option, Some, None, refl, sym, ◌∙◌, ap, subst, arith}
+use Rattle.std.specs.List.{All, list_all}
 use Rattle.std.specs.Fmt.{digit_glyph}
 use Rattle.std.specs.Cmp.Lexicographic.{pointwise, bytes_decides}
 use Rattle.std.proofs.lemmas.Bool.{true≢false}
@@ -9,19 +8,19 @@ use Rattle.std.proofs.lemmas.Bool.Decides.{nat_tests}
 use Rattle.std.proofs.lemmas.List.Splits.{slice_split_at, slice_split_none}
 use Rattle.std.proofs.lemmas.List.Folds.{list_all-append}
 use Rattle.std.proofs.lemmas.List.{length-append}
-use Rattle.sp_base.specs.Paths.{is_empty, is_dots, is_long, has_slash, is_path, mangled, parent_of, pieces, seg_ok}
+use Rattle.sp_base.specs.Paths.{is_empty, is_dots, is_path, mangled, parent_of, seg_ok}
 use Rattle.cover_rules.specs.declared.page.PageKey.{PageKey}
-use Rattle.cover_rules.specs.Pages.{has_dot, is_file, is_page, key_at, last_segment, page_key_of}
+use Rattle.cover_rules.specs.Pages.{is_file, is_page, key_at, last_segment, page_key_of}
 use Rattle.cover_rules.specs.Names.{is_plain, file_byte, file_name}
 use Rattle.docroot_format.specs.Names.{body_name, epoch_name, folder_name, head_name, stat_name, is_name_byte, is_segment, is_inside}
 use Rattle.docroot_format.proofs.NameLemmas.{append_both}
 use Rattle.docroot_format.proofs.NameSizes.{file_some}
 
-first_of : (a b : Bool) → a && b ≡ true → a ≡ true
+pub first_of : (a b : Bool) → a && b ≡ true → a ≡ true
 first_of true b e = refl
 first_of false b e = absurd (true≢false (sym e))
 
-second_of : (a b : Bool) → a && b ≡ true → b ≡ true
+pub second_of : (a b : Bool) → a && b ≡ true → b ≡ true
 second_of true b e = e
 second_of false b e = absurd (true≢false (sym e))
 
@@ -40,7 +39,7 @@ unfolding file_name
 bytes_ok [] = refl
 bytes_ok (b ∷ seg) = list_all-append is_name_byte (file_byte b) (flat_map file_byte seg) ∙ both _ _ (byte_ok b (is_plain b) refl) (bytes_ok seg)
 
-not_true : (b : Bool) → (b ≡ true → ⊥) → b ≡ false
+pub not_true : (b : Bool) → (b ≡ true → ⊥) → b ≡ false
 not_true true none = absurd (none refl)
 not_true false none = refl
 

@@ -7,4 +7,5 @@ pub mod PagePlaces
 pub mod ReadBack
 pub mod Inside
 pub mod Apart
+pub mod FileKinds
 pub mod Spelled

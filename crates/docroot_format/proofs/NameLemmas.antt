@@ -1,5 +1,5 @@
 -- Names that grow by a byte or a segment.
-use Rattle.std.proofs.Common.{◌≡◌, ◌<◌, ◌+◌, ◌++◌, ◌∷◌, ℕ, zero, suc, List, [], length, take, get_or, flat_map, refl, sym, ◌∙◌, ap, arith, add-one}
+use Rattle.std.proofs.Common.{◌≡◌, ◌<◌, ◌+◌, ◌++◌, ◌∷◌, ℕ, zero, suc, List, [], length, take, get_or, flat_map, refl, ◌∙◌, ap, arith, add-one}
 use Rattle.cover_rules.specs.Names.{file_byte, file_name}
 
 append_nil : {A : Type 0} (xs : List A) → xs ++ [] ≡ xs

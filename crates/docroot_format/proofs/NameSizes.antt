@@ -1,11 +1,10 @@
 -- How long the names of files are.
-use Rattle.std.proofs.Common.{◌≡◌, ◌<◌, ◌≤◌, ◌+◌, ◌*◌, ◌&&◌, ◌++◌, ◌∷◌, ℕ, Bool, true, false, List, [], IsTrue, length, flat_map, codes, sym, refl, ap, cond, arith, nat_le, nat_lt}
-use Rattle.std.specs.List.{list_all}
+use Rattle.std.proofs.Common.{◌≡◌, ◌<◌, ◌≤◌, ◌+◌, ◌*◌, ◌&&◌, ◌++◌, ◌∷◌, ℕ, Bool, true, false, List, [], IsTrue, length, flat_map, codes, sym, refl, arith, nat_le, nat_lt}
 use Rattle.std.proofs.lemmas.Bool.{true≢false}
 use Rattle.std.proofs.lemmas.Bool.Decides.{nat_tests}
 use Rattle.std.proofs.lemmas.List.{length-append}
 use Rattle.sp_outside.specs.Files.{IsName}
-use Rattle.cover_rules.specs.Names.{file_byte, file_name, has_name, is_plain}
+use Rattle.cover_rules.specs.Names.{file_byte, file_name, has_name}
 use Rattle.docroot_format.specs.Names.{folder_name, body_name, head_name, stat_name, have_names, is_place}
 
 pub first_true : (a b : Bool) → a && b ≡ true → a ≡ true

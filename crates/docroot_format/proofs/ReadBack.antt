@@ -1,5 +1,5 @@
 -- What is written is read back: numbers, and the texts of heads, stamps and epochs.
-use Rattle.std.proofs.Common.{◌≡◌, ◌<◌, ◌≤◌, ◌+◌, ◌-◌, ◌*◌, ◌/◌, ◌%◌, ◌^◌, ℕ, zero, suc, Bool, true, false, not, cond, ◌&&◌, ◌++◌, List, [], ◌∷◌, Option, Some, None, IsTrue, length, take, drop, slice_index, get_or, nat_le, nat_eq, nat_lt, codes, refl, sym, ◌∙◌, ap, arith, option_and_then, option_map}
+use Rattle.std.proofs.Common.{◌≡◌, ◌<◌, ◌≤◌, ◌+◌, ◌-◌, ◌*◌, ◌/◌, ◌%◌, ◌^◌, ℕ, zero, suc, true, false, not, cond, ◌&&◌, ◌++◌, List, [], ◌∷◌, Some, None, IsTrue, length, slice_index, get_or, nat_le, nat_eq, nat_lt, codes, refl, sym, ◌∙◌, ap, arith, option_and_then, option_map}
 use Rattle.std.specs.Fmt.{decimal}
 use Rattle.std.proofs.lemmas.Bool.Decides.{nat_tests}
 use Rattle.std.proofs.lemmas.Fmt.{decimal_by_steps, decimal_digit}

@@ -1,7 +1,7 @@
 -- What reads as a number, a stamp, a head or an epoch is its text: the converse of reading back.
 use Rattle.std.proofs.Common.{◌≡◌, ◌<◌, ◌≤◌, ◌+◌, ◌-◌, ◌*◌, ◌/◌, ◌%◌, ◌^◌, ℕ, zero, suc, Bool, true, false, not, cond, ◌&&◌, ◌==◌, ◌++◌, List, [], ◌∷◌, Option, Some, None, length, take, drop, slice_index, nat_le, nat_eq, nat_lt, codes, refl, sym, ◌∙◌, ap, subst, arith, append_assoc, ⊎_elim, option_and_then, option_map}
 use Rattle.std.specs.Fmt.{decimal}
-use Rattle.std.specs.Cmp.Lexicographic.{bytes_decides, pointwise}
+use Rattle.std.specs.Cmp.Lexicographic.{bytes_decides}
 use Rattle.std.specs.List.{starts_with}
 use Rattle.std.proofs.lemmas.Bool.{cases_Bool, true≢false}
 use Rattle.std.proofs.lemmas.Bool.Decides.{nat_tests}

@@ -1,9 +1,11 @@
 -- The names of the files of the docroot.
-use Rattle.std.specs.Prelude.{◌<◌, ◌==◌, ◌||◌, ◌&&◌, ◌++◌, ◌∷◌, [], ℕ, Bool, not, List, codes, flat_map, length, nat_lt}
+use Rattle.std.specs.Prelude.{◌<◌, ◌==◌, ◌||◌, ◌&&◌, ◌++◌, ◌∷◌, [], ℕ, Bool, not, List, codes, flat_map, length, nat_eq, nat_lt, slice_index}
+use Rattle.std.specs.Cmp.Lexicographic.{pointwise}
 use Rattle.std.specs.List.{AllByRecursion, list_all}
 use Rattle.sp_base.specs.Paths.{is_dots, is_empty, pieces}
 use Rattle.cover_rules.specs.declared.page.PageKey.{PageKey}
 use Rattle.cover_rules.specs.Names.{file_name, has_name, is_plain}
+use Rattle.cover_rules.specs.Pages.{last_segment}
 
 -- the file names of a folder's segments, a slash after each
 abbrev pub folder_name : List (List ℕ) → List ℕ
@@ -43,6 +45,22 @@ is_segment piece = not (is_empty piece) && (not (is_dots piece) && list_all is_n
 -- A name that lies in the docroot: no piece of it is empty, so it neither begins nor ends with a slash, and none is `.` or `..`.
 abbrev pub is_inside : List ℕ → Bool
 is_inside name = list_all is_segment (pieces name)
+
+-- A name whose pieces are segments: none of them is empty, `.` or `..`.
+abbrev pub has_segments : List ℕ → Bool
+has_segments name = list_all (λ piece. not (is_empty piece) && not (is_dots piece)) (pieces name)
+
+-- a page file, of a body or a head: a name of segments of which the last doesn't begin with a dot
+abbrev pub is_page_file : List ℕ → Bool
+is_page_file name = has_segments name && not (slice_index (last_segment (pieces name)) 0 == 46)
+
+-- a .stat file: a name of segments of which the last is `.stat`
+abbrev pub is_stat_file : List ℕ → Bool
+is_stat_file name = has_segments name && pointwise nat_eq (last_segment (pieces name)) (codes ".stat")
+
+-- what the name of a file ends in that a disk writes beside another
+abbrev pub beside_ending : List ℕ
+beside_ending = codes "%t"
 
 -- a segment's bytes, as of every text
 abbrev pub are_bytes : List ℕ → Type 0

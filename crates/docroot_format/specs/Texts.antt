@@ -1,5 +1,5 @@
 -- The texts of the files of the docroot but for bodies, as they are written.
-use Rattle.std.specs.Prelude.{◌++◌, ◌∷◌, ℕ, List, codes, decimal}
+use Rattle.std.specs.Prelude.{◌++◌, ℕ, List, codes, decimal}
 
 -- the head of a page: its stamp, the length of its body, and the body's media type
 abbrev pub head_text : ℕ → ℕ → ℕ → List ℕ → List ℕ

@@ -1,10 +1,10 @@
 //! What follows from the definitions of names and texts: laws, on functions that do nothing.
-ghost use Rattle.std.specs.Prelude.{◌≡◌, ◌≢◌, ◌<◌, ◌^◌, ℕ, List, IsTrue, Some};
+ghost use Rattle.std.specs.Prelude.{◌≡◌, ◌≢◌, ◌<◌, ◌^◌, ◌++◌, ℕ, List, IsTrue, Some, false};
 ghost use Rattle.cover_rules.specs.declared.page.PageKey.{PageKey};
 ghost use Rattle.cover_rules.specs.Pages.{page_key_of, page_path};
 ghost use Rattle.sp_base.specs.Paths.{is_path};
 ghost use Rattle.std.specs.List.{AllByRecursion};
-ghost use Rattle.docroot_format.specs.Names.{body_name, epoch_name, have_names, head_name, is_inside, is_place, stat_name, IsTextKey, are_bytes};
+ghost use Rattle.docroot_format.specs.Names.{beside_ending, body_name, epoch_name, have_names, head_name, is_inside, is_page_file, is_place, is_stat_file, stat_name, IsTextKey, are_bytes};
 ghost use Rattle.docroot_format.specs.Readings.{HeadLine, epoch_of, head_of, is_kind, stat_of};
 ghost use Rattle.docroot_format.specs.Texts.{epoch_text, head_text, stat_text};
 
@@ -49,4 +49,23 @@ pub fn names_are_apart()
     ensures epoch_body { (key : PageKey) → IsTextKey key → page_key_of (page_path key) ≡ Some key → epoch_name ≢ body_name key.folder key.file }
     ensures epoch_head { (key : PageKey) → IsTextKey key → page_key_of (page_path key) ≡ Some key → epoch_name ≢ head_name key.folder key.file }
     ensures epoch_stat { (folder : List (List ℕ)) → AllByRecursion are_bytes folder → stat_name folder ≢ epoch_name }
+{}
+
+/// The files of pages and the .stat files are told by their names: a page's body and head are page files, a folder's stamp is a .stat
+/// file, no name is both, and the session's number is neither.
+pub fn names_tell_their_files()
+    ensures body { (key : PageKey) → IsTrue (is_path key.folder) → page_key_of (page_path key) ≡ Some key → IsTrue (is_page_file (body_name key.folder key.file)) }
+    ensures head { (key : PageKey) → IsTrue (is_path key.folder) → page_key_of (page_path key) ≡ Some key → IsTrue (is_page_file (head_name key.folder key.file)) }
+    ensures stat { (folder : List (List ℕ)) → IsTrue (is_path folder) → IsTrue (is_stat_file (stat_name folder)) }
+    ensures apart { (name : List ℕ) → IsTrue (is_page_file name) → is_stat_file name ≡ false }
+    ensures epoch_page { is_page_file epoch_name ≡ false }
+    ensures epoch_stat { is_stat_file epoch_name ≡ false }
+{}
+
+/// No name ends as that of a file which a disk writes beside another, so that a file of the cache is never taken for one of those.
+pub fn no_name_ends_as_one_beside()
+    ensures body { (folder : List (List ℕ)) (file rest : List ℕ) → body_name folder file ≢ rest ++ beside_ending }
+    ensures head { (folder : List (List ℕ)) (file rest : List ℕ) → head_name folder file ≢ rest ++ beside_ending }
+    ensures stat { (folder : List (List ℕ)) (rest : List ℕ) → stat_name folder ≢ rest ++ beside_ending }
+    ensures epoch { (rest : List ℕ) → epoch_name ≢ rest ++ beside_ending }
 {}

@@ -1,5 +1,5 @@
 -- A page by its two files.
-use Rattle.std.proofs.Common.{◌≡◌, ◌≢◌, ◌++◌, ◌+◌, ℕ, List, Option, Some, None, length, codes, sym, ◌∙◌, ap, arith}
+use Rattle.std.proofs.Common.{◌≡◌, ◌≢◌, ◌++◌, ℕ, List, Option, length, codes, ◌∙◌, ap, arith}
 use Rattle.std.specs.Prelude.{option_and_then}
 use Rattle.std.proofs.lemmas.List.{length-append}
 use Rattle.docroot_format.specs.Readings.{head_of}

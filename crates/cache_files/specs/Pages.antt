@@ -1,5 +1,6 @@
--- The pages that the files of the docroot hold, and what a write or a removal that stops leaves.
-use Rattle.std.specs.Prelude.{◌==◌, ◌≡◌, ◌⊎◌, ℕ, List, [], Option, Some, None, IsTrue, option_and_then, length, if◌then◌else◌}
+-- The pages that the files of the docroot hold, which calls of the disk put, get and drop one, and what a put or a drop that stops leaves.
+use Rattle.std.specs.Prelude.{◌==◌, ◌≡◌, ◌⊎◌, ◌∷◌, ℕ, List, [], Option, Some, None, IsTrue, option_and_then, length, if◌then◌else◌}
+use Rattle.sp_outside.specs.Calls.{Call, Get, Put, Remove, told_calls}
 use Rattle.sp_outside.specs.Files.{Files, file_at, told_with, told_without, with_file, without_file}
 use Rattle.sp_base.specs.declared.answer.Answer.{Answer}
 use Rattle.sp_base.specs.declared.answer.Mark.TheVariants.{Plain}
@@ -8,6 +9,7 @@ use Rattle.docroot_format.specs.Names.{body_name, head_name}
 use Rattle.docroot_format.specs.Texts.{head_text}
 use Rattle.docroot_format.specs.Readings.{HeadLine, head_of, is_kind}
 use Rattle.docroot_format.specs.declared.fault.FileFault.{FileFault}
+use Rattle.docroot_format.specs.declared.fault.FileFault.TheVariants.{Disk, NoMemory}
 use Rattle.cover_rules.specs.Pages.{page_key_of, page_path}
 use Rattle.cover_rules.specs.declared.page.PageKey.{PageKey}
 use Rattle.cover_rules.specs.declared.stamp.Stamp.{Stamp}
@@ -48,15 +50,32 @@ files_with_page files key stamp answer = with_file (with_file (without_file file
 abbrev pub files_without_page : Files → PageKey → Files
 files_without_page files key = without_file (without_file files (head_name key.folder key.file)) (body_name key.folder key.file)
 
--- A write of a page stopped: at the removal of the old head, at the body, or at the new head.
-abbrev pub IsPutLeft : Option Files → Option Files → List ℕ → List ℕ → List ℕ → List ℕ → FileFault → Type 0
-IsPutLeft old new head body bytes text fault =
-    IsLeft old (told_without old head) new fault
-    ⊎ (IsLeft (told_without old head) (told_with (told_without old head) body bytes) new fault
-    ⊎ IsLeft (told_with (told_without old head) body bytes) (with_page old head body bytes text) new fault)
+-- ---- calls of the disk
 
--- A removal of a page stopped: at the head, or at the body.
-abbrev pub IsDropLeft : Option Files → Option Files → List ℕ → List ℕ → FileFault → Type 0
-IsDropLeft old new head body fault =
-    IsLeft old (told_without old head) new fault
-    ⊎ IsLeft (told_without old head) (told_without (told_without old head) body) new fault
+-- a put: the old head is taken away, the body is written, then the head
+abbrev pub put_calls : List ℕ → List ℕ → List ℕ → List ℕ → List Call
+put_calls head body bytes text = Remove head ∷ Put body bytes ∷ Put head text ∷ []
+
+-- a get: the head is read, and where it is of the form, the body
+abbrev pub get_calls : List ℕ → List ℕ → Option HeadLine → List Call
+get_calls head body None = Get head ∷ []
+get_calls head body (Some line) = Get head ∷ Get body ∷ []
+
+-- a drop: the head is taken away, then the body
+abbrev pub drop_calls : List ℕ → List ℕ → List Call
+drop_calls head body = Remove head ∷ Remove body ∷ []
+
+-- A put stopped: before it asked anything of the disk, for want of memory; at the removal of the old head; at the body; or at the new head.
+abbrev pub IsPutLeft : Option (List Call) → Option (List Call) → Option Files → Option Files → List ℕ → List ℕ → List ℕ → List ℕ → FileFault → Type 0
+IsPutLeft asked made old new head body bytes text fault =
+    ((fault ≡ NoMemory) × ((made ≡ asked) × (new ≡ old)))
+    ⊎ (((fault ≡ Disk) × ((made ≡ told_calls asked (Remove head ∷ [])) × IsLeft old (told_without old head) new fault))
+    ⊎ (((made ≡ told_calls asked (Remove head ∷ Put body bytes ∷ [])) × IsLeft (told_without old head) (told_with (told_without old head) body bytes) new fault)
+    ⊎ ((made ≡ told_calls asked (put_calls head body bytes text)) × IsLeft (told_with (told_without old head) body bytes) (with_page old head body bytes text) new fault)))
+
+-- A drop stopped: before it asked anything of the disk, for want of memory; at the removal of the head; or at that of the body.
+abbrev pub IsDropLeft : Option (List Call) → Option (List Call) → Option Files → Option Files → List ℕ → List ℕ → FileFault → Type 0
+IsDropLeft asked made old new head body fault =
+    ((fault ≡ NoMemory) × ((made ≡ asked) × (new ≡ old)))
+    ⊎ (((fault ≡ Disk) × ((made ≡ told_calls asked (Remove head ∷ [])) × IsLeft old (told_without old head) new fault))
+    ⊎ ((fault ≡ Disk) × ((made ≡ told_calls asked (drop_calls head body)) × IsLeft (told_without old head) (told_without (told_without old head) body) new fault)))

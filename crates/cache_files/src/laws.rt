@@ -1,7 +1,8 @@
 //! What follows from the definitions of pages and epochs: laws, on functions that do nothing.
-ghost use Rattle.std.specs.Prelude.{◌≡◌, ◌≢◌, ◌⊎◌, ◌<◌, ◌≤◌, ◌+◌, ◌^◌, ℕ, List, [], Some, None, Ok, IfSome, length};
+ghost use Rattle.std.specs.Prelude.{◌≡◌, ◌≢◌, ◌⊎◌, ◌<◌, ◌≤◌, ◌+◌, ◌^◌, ℕ, List, [], Option, Some, None, Ok, IfSome, length};
 ghost use Rattle.sp_base.specs.declared.answer.Answer.{Answer};
 ghost use Rattle.sp_base.specs.declared.answer.Mark.TheVariants.{Plain};
+ghost use Rattle.sp_outside.specs.Calls.{Call};
 ghost use Rattle.sp_outside.specs.Files.{Files, with_file, without_file};
 ghost use Rattle.docroot_format.specs.declared.fault.FileFault.{FileFault};
 ghost use Rattle.docroot_format.specs.Names.{IsTextKey, body_name, epoch_name, head_name};
@@ -46,11 +47,11 @@ pub fn a_stopped_put_leaves_no_page()
 
 /// A put that failed leaves the old page, no page, or the new one, and each other page as it was.
 pub fn a_failed_put_leaves_whole_pages()
-    ensures page { (files new : Files) (key : PageKey) (stamp : Stamp) (answer : Answer) (fault : FileFault)
-        → IsPutLeft (Some files) (Some new) (head_name key.folder key.file) (body_name key.folder key.file) answer.body (head_text stamp.epoch stamp.count (length answer.body) answer.kind) fault
+    ensures page { (asked made : Option (List Call)) (files new : Files) (key : PageKey) (stamp : Stamp) (answer : Answer) (fault : FileFault)
+        → IsPutLeft asked made (Some files) (Some new) (head_name key.folder key.file) (body_name key.folder key.file) answer.body (head_text stamp.epoch stamp.count (length answer.body) answer.kind) fault
         → (page_at new key ≡ page_at files key) ⊎ ((page_at new key ≡ None) ⊎ (page_at new key ≡ page_at (files_with_page files key stamp answer) key)) }
-    ensures others { (files new : Files) (key other : PageKey) (stamp : Stamp) (answer : Answer) (fault : FileFault) → IsTextKey key → IsTextKey other → other ≢ key
-        → IsPutLeft (Some files) (Some new) (head_name key.folder key.file) (body_name key.folder key.file) answer.body (head_text stamp.epoch stamp.count (length answer.body) answer.kind) fault
+    ensures others { (asked made : Option (List Call)) (files new : Files) (key other : PageKey) (stamp : Stamp) (answer : Answer) (fault : FileFault) → IsTextKey key → IsTextKey other → other ≢ key
+        → IsPutLeft asked made (Some files) (Some new) (head_name key.folder key.file) (body_name key.folder key.file) answer.body (head_text stamp.epoch stamp.count (length answer.body) answer.kind) fault
         → page_at new other ≡ page_at files other }
 {
     files_have_names();
@@ -61,10 +62,10 @@ pub fn a_failed_put_leaves_whole_pages()
 
 /// A drop that failed leaves the old page or none, and each other page as it was.
 pub fn a_failed_drop_leaves_whole_pages()
-    ensures page { (files new : Files) (key : PageKey) (fault : FileFault) → IsDropLeft (Some files) (Some new) (head_name key.folder key.file) (body_name key.folder key.file) fault
+    ensures page { (asked made : Option (List Call)) (files new : Files) (key : PageKey) (fault : FileFault) → IsDropLeft asked made (Some files) (Some new) (head_name key.folder key.file) (body_name key.folder key.file) fault
         → (page_at new key ≡ page_at files key) ⊎ (page_at new key ≡ None) }
-    ensures others { (files new : Files) (key other : PageKey) (fault : FileFault) → IsTextKey key → IsTextKey other → other ≢ key
-        → IsDropLeft (Some files) (Some new) (head_name key.folder key.file) (body_name key.folder key.file) fault
+    ensures others { (asked made : Option (List Call)) (files new : Files) (key other : PageKey) (fault : FileFault) → IsTextKey key → IsTextKey other → other ≢ key
+        → IsDropLeft asked made (Some files) (Some new) (head_name key.folder key.file) (body_name key.folder key.file) fault
         → page_at new other ≡ page_at files other }
 {
     files_have_names();

@@ -1,11 +1,12 @@
 //! Pages, each a file of its body and a file of its head.
-ghost use Rattle.std.specs.Prelude.{◌≡◌, IfOk, IfErr, IfSome, OnOk, length, option_and_then};
-ghost use Rattle.sp_outside.specs.Files.{IsName, told_without};
+ghost use Rattle.std.specs.Prelude.{◌≡◌, ◌∷◌, [], IfOk, IfErr, IfSome, OnOk, length, option_and_then};
+ghost use Rattle.sp_outside.specs.Calls.{Get, MadeFirst, told_calls};
+ghost use Rattle.sp_outside.specs.Files.{IsName, file_at, told_without};
 ghost use Rattle.docroot_format.specs.Faults.{HasFileCause};
 ghost use Rattle.docroot_format.specs.Names as name;
 ghost use Rattle.docroot_format.specs.Readings.{head_of};
 ghost use Rattle.docroot_format.specs.Texts as text;
-ghost use Rattle.cache_files.specs.Pages.{IsKey, IsStorable, IsPutLeft, IsDropLeft, page_at, page_of, with_page};
+ghost use Rattle.cache_files.specs.Pages.{IsKey, IsStorable, IsPutLeft, IsDropLeft, drop_calls, get_calls, page_at, page_of, put_calls, with_page};
 
 use cover_rules::{PageKey, Stamp};
 use docroot_format::{FileFault, Head, a_page_has_files, body_name, head_in, head_name, head_text};
@@ -33,7 +34,9 @@ pub fn put_page<D: Disk>(
     requires storable { IsStorable answer.now }
     ensures ok { OnOk result (D.files disk.new ≡ with_page (D.files disk.old) (name.head_name key.now.folder key.now.file)
         (name.body_name key.now.folder key.now.file) answer.now.body (text.head_text stamp.epoch stamp.count (length answer.now.body) answer.now.kind)) }
-    ensures err { IfErr result (IsPutLeft (D.files disk.old) (D.files disk.new) (name.head_name key.now.folder key.now.file)
+    ensures made { OnOk result (D.calls disk.new ≡ told_calls (D.calls disk.old) (put_calls (name.head_name key.now.folder key.now.file)
+        (name.body_name key.now.folder key.now.file) answer.now.body (text.head_text stamp.epoch stamp.count (length answer.now.body) answer.now.kind))) }
+    ensures err { IfErr result (IsPutLeft (D.calls disk.old) (D.calls disk.new) (D.files disk.old) (D.files disk.new) (name.head_name key.now.folder key.now.file)
         (name.body_name key.now.folder key.now.file) answer.now.body (text.head_text stamp.epoch stamp.count (length answer.now.body) answer.now.kind)) }
     ensures cause { HasFileCause (D.faults disk.old) (D.faults disk.new) result }
 {
@@ -67,7 +70,8 @@ fn put_parts<D: Disk>(
     requires head { IsName head.now }
     requires body { IsName body.now }
     ensures ok { OnOk result (D.files disk.new ≡ with_page (D.files disk.old) head.now body.now bytes.now text.now) }
-    ensures err { IfErr result (IsPutLeft (D.files disk.old) (D.files disk.new) head.now body.now bytes.now text.now) }
+    ensures made { OnOk result (D.calls disk.new ≡ told_calls (D.calls disk.old) (put_calls head.now body.now bytes.now text.now)) }
+    ensures err { IfErr result (IsPutLeft (D.calls disk.old) (D.calls disk.new) (D.files disk.old) (D.files disk.new) head.now body.now bytes.now text.now) }
     ensures cause { HasFileCause (D.faults disk.old) (D.faults disk.new) result }
 {
     disk.remove(head)?;
@@ -86,6 +90,9 @@ pub fn get_page<D: Disk>(
     requires { IsKey key.now }
     ensures value { IfOk result (λ page. IfSome (D.files disk.old) (λ files. page ≡ page_at files key.now)) }
     ensures same { D.files disk.new ≡ D.files disk.old }
+    ensures made { IfOk result (λ _. IfSome (D.files disk.old) (λ files. D.calls disk.new ≡ told_calls (D.calls disk.old)
+        (get_calls (name.head_name key.now.folder key.now.file) (name.body_name key.now.folder key.now.file) (option_and_then head_of (file_at files (name.head_name key.now.folder key.now.file)))))) }
+    ensures asked { MadeFirst (D.calls disk.old) (D.calls disk.new) (Get (name.head_name key.now.folder key.now.file) ∷ Get (name.body_name key.now.folder key.now.file) ∷ []) }
     ensures cause { HasFileCause (D.faults disk.old) (D.faults disk.new) result }
 {
     a_page_has_files();
@@ -129,7 +136,8 @@ fn page_of(alloc: Global, line: &Head<'_>, body: ByteBuf) -> Mem<Option<Page>>
 pub fn drop_page<D: Disk>(alloc: Global, disk: &mut D, key: &PageKey) -> Result<(), FileFault>
     requires { IsKey key.now }
     ensures ok { OnOk result (D.files disk.new ≡ told_without (told_without (D.files disk.old) (name.head_name key.now.folder key.now.file)) (name.body_name key.now.folder key.now.file)) }
-    ensures err { IfErr result (IsDropLeft (D.files disk.old) (D.files disk.new) (name.head_name key.now.folder key.now.file) (name.body_name key.now.folder key.now.file)) }
+    ensures made { OnOk result (D.calls disk.new ≡ told_calls (D.calls disk.old) (drop_calls (name.head_name key.now.folder key.now.file) (name.body_name key.now.folder key.now.file))) }
+    ensures err { IfErr result (IsDropLeft (D.calls disk.old) (D.calls disk.new) (D.files disk.old) (D.files disk.new) (name.head_name key.now.folder key.now.file) (name.body_name key.now.folder key.now.file)) }
     ensures cause { HasFileCause (D.faults disk.old) (D.faults disk.new) result }
 {
     a_page_has_files();

@@ -115,6 +115,10 @@ fn is_page(found: Result<Option<Page>, FileFault>, stamp: Stamp, kind: &str, bod
     }
 }
 
+fn is_no_page(found: Result<Option<Page>, FileFault>) -> bool {
+    matches!(found, Ok(None))
+}
+
 fn take_away(alloc: Global, disk: &mut MemDisk) -> Result<(), FileFault> {
     match key(alloc, EN) {
         Some(key) => drop_page(alloc, disk, &key),
@@ -155,8 +159,28 @@ fn a_put_fails_in_each_call(rt: HostRuntime) -> Result<(), Fail> {
     for (n, way, head, body) in PUT_ROWS {
         let mut disk = disk_with(rt.alloc(), OLD);
         disk.fail(*n, *way);
+        let before = disk.calls();
         assert_eq!(rt; put(rt.alloc(), &mut disk), Err(FileFault::Disk), "at {n}");
+        assert_eq!(rt; disk.calls().saturating_sub(before), *n, "at {n}");
         assert!(rt; stand(rt.alloc(), &mut disk, *head, *body), "at {n}");
+        if head.is_none() {
+            assert!(rt; is_no_page(get(rt.alloc(), &mut disk)), "at {n}");
+        }
+    }
+    Ok(())
+}
+
+// The body is there already, and no head, whether a page of this key was there before or not.
+#[test]
+fn a_put_whose_body_fails_new_leaves_no_page(rt: HostRuntime) -> Result<(), Fail> {
+    let before: [&[(&str, &str)]; 2] = [&[], OLD];
+    for files in before {
+        let mut disk = disk_with(rt.alloc(), files);
+        disk.fail(2, Way::New);
+        assert_eq!(rt; put(rt.alloc(), &mut disk), Err(FileFault::Disk));
+        assert!(rt; stands(rt.alloc(), &mut disk, HEAD, None));
+        assert!(rt; stands(rt.alloc(), &mut disk, BODY, Some("x")));
+        assert!(rt; is_no_page(get(rt.alloc(), &mut disk)));
     }
     Ok(())
 }
@@ -173,12 +197,17 @@ fn a_drop_fails_in_each_call(rt: HostRuntime) -> Result<(), Fail> {
     for (n, way, head, body) in DROP_ROWS {
         let mut disk = disk_with(rt.alloc(), OLD);
         disk.fail(*n, *way);
+        let before = disk.calls();
         assert_eq!(rt;
             take_away(rt.alloc(), &mut disk),
             Err(FileFault::Disk),
             "at {n}"
         );
+        assert_eq!(rt; disk.calls().saturating_sub(before), *n, "at {n}");
         assert!(rt; stand(rt.alloc(), &mut disk, *head, *body), "at {n}");
+        if head.is_none() {
+            assert!(rt; is_no_page(get(rt.alloc(), &mut disk)), "at {n}");
+        }
     }
     Ok(())
 }
@@ -188,10 +217,12 @@ fn a_get_fails_in_each_call(rt: HostRuntime) -> Result<(), Fail> {
     for (n, way) in [(1, Way::Old), (1, Way::New), (2, Way::Old), (2, Way::New)] {
         let mut disk = disk_with(rt.alloc(), OLD);
         disk.fail(n, way);
+        let before = disk.calls();
         assert!(rt;
             matches!(get(rt.alloc(), &mut disk), Err(FileFault::Disk)),
             "at {n}"
         );
+        assert_eq!(rt; disk.calls().saturating_sub(before), n, "at {n}");
         assert!(rt;
             stand(rt.alloc(), &mut disk, OLD_HEAD, Some("old")),
             "at {n}"
@@ -253,7 +284,9 @@ fn sessions_are_counted(rt: HostRuntime) -> Result<(), Fail> {
         ("x", OpenFault::Foreign),
     ] {
         let mut disk = disk_with(rt.alloc(), &[(".epoch", text)]);
+        let before = disk.calls();
         assert_eq!(rt; open_epoch(rt.alloc(), &mut disk), Err(fault), "at {text}");
+        assert_eq!(rt; disk.calls().saturating_sub(before), 1, "at {text}");
         assert!(rt;
             stands(rt.alloc(), &mut disk, ".epoch", Some(text)),
             "at {text}"
@@ -272,11 +305,13 @@ fn an_opening_fails_in_each_call(rt: HostRuntime) -> Result<(), Fail> {
     ] {
         let mut disk = disk_with(rt.alloc(), &[(".epoch", "epoch 1 6\n")]);
         disk.fail(n, way);
+        let before = disk.calls();
         assert_eq!(rt;
             open_epoch(rt.alloc(), &mut disk),
             Err(OpenFault::Disk),
             "at {n}"
         );
+        assert_eq!(rt; disk.calls().saturating_sub(before), n, "at {n}");
         assert!(rt;
             stands(rt.alloc(), &mut disk, ".epoch", Some(left)),
             "at {n}"

@@ -1,5 +1,6 @@
 //! .stat files, written and read.
 ghost use Rattle.std.specs.Prelude.{◌≡◌, IfOk, IfErr, IfSome, OnOk, IsTrue};
+ghost use Rattle.sp_outside.specs.Calls.{Get, Put, told_call};
 ghost use Rattle.sp_outside.specs.Files.{told_with};
 ghost use Rattle.docroot_format.specs.Faults.{HasFileCause, IsLeft};
 ghost use Rattle.docroot_format.specs.Names.{have_names};
@@ -20,6 +21,9 @@ pub fn touch<D: Disk>(disk: &mut D, folder: &Path, stamp: Stamp) -> Result<(), F
     ensures ok { OnOk result (D.files disk.new ≡ told_with (D.files disk.old) (name.stat_name folder.now) (text.stat_text stamp.epoch stamp.count)) }
     ensures err { IfErr result (IsLeft (D.files disk.old) (told_with (D.files disk.old) (name.stat_name folder.now) (text.stat_text stamp.epoch stamp.count)) (D.files disk.new)) }
     ensures cause { HasFileCause (D.faults disk.old) (D.faults disk.new) result }
+
+    // This call of the disk is made, and no other.
+    ensures made { D.calls disk.new ≡ told_call (D.calls disk.old) (Put (name.stat_name folder.now) (text.stat_text stamp.epoch stamp.count)) }
 {
     let name = stat_name(folder);
     let text = stat_text(stamp.epoch, stamp.count);
@@ -52,6 +56,9 @@ pub fn stamp_of<D: Disk>(
     ensures value { IfOk result (λ stamp. IfSome (D.files disk.old) (λ files. stamp ≡ stamp_at files folder.now)) }
     ensures same { D.files disk.new ≡ D.files disk.old }
     ensures cause { HasFileCause (D.faults disk.old) (D.faults disk.new) result }
+
+    // This call of the disk is made, and no other.
+    ensures made { D.calls disk.new ≡ told_call (D.calls disk.old) (Get (name.stat_name folder.now)) }
 {
     let name = stat_name(folder);
     match disk.get(alloc, name.as_str()) {

@@ -95,10 +95,14 @@ fn fails_in_each_call(rt: HostRuntime) -> Result<(), Fail> {
     for (way, left) in [(Way::Old, "stat 1 1 2\n"), (Way::New, "stat 1 1 5\n")] {
         let mut disk = disk_with(rt.alloc(), "stat 1 1 2\n");
         disk.fail(1, way);
+        let before = disk.calls();
         assert_eq!(rt; touched(rt.alloc(), &mut disk), Err(FileFault::Disk));
+        assert_eq!(rt; disk.calls().saturating_sub(before), 1);
         assert!(rt; stands(rt.alloc(), &mut disk, left));
         disk.fail(1, way);
+        let before = disk.calls();
         assert!(rt; matches!(stamp(rt.alloc(), &mut disk), Err(FileFault::Disk)));
+        assert_eq!(rt; disk.calls().saturating_sub(before), 1);
         assert!(rt; stands(rt.alloc(), &mut disk, left));
     }
     Ok(())

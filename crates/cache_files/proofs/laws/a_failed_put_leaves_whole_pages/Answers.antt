@@ -8,16 +8,16 @@ use Rattle.cache_files.proofs.StoppedChanges.{put_left}
 use Rattle.cache_files.proofs.laws.a_failed_put_leaves_whole_pages.Goals as goal
 
 pub returns-clause-page : goal.returns-clause-page
-returns-clause-page c = λ files new key stamp answer fault left.
+returns-clause-page c = λ asked made files new key stamp answer fault left.
     let head = head_name key.folder key.file in
     let body = body_name key.folder key.file in
     let P : Files → Type 0 = λ f. (page_at f key ≡ page_at files key) ⊎ ((page_at f key ≡ None) ⊎ (page_at f key ≡ page_at (files_with_page files key stamp answer) key)) in
-    put_left P files new head body answer.body (head_text stamp.epoch stamp.count _ answer.kind) fault (inl refl)
+    put_left P asked made files new head body answer.body (head_text stamp.epoch stamp.count _ answer.kind) fault (inl refl)
     (inr (inl (c.a_stopped_put_leaves_no_page.ensures.headless files key)))
     (inr (inl (c.a_stopped_put_leaves_no_page.ensures.written files key answer.body))) (inr (inr refl)) left
 
 pub returns-clause-others : goal.returns-clause-others
-returns-clause-others c = λ files new key other stamp answer fault text more differ left.
+returns-clause-others c = λ asked made files new key other stamp answer fault text more differ left.
     let head = head_name key.folder key.file in
     let body = body_name key.folder key.file in
     let head2 = head_name other.folder other.file in
@@ -29,7 +29,7 @@ returns-clause-others c = λ files new key other stamp answer fault text more di
     let head_left = named.left files head head2 (λ e. differ (apart.heads other key more text e)) in
     let body_left = named.left files head body2 (λ e. apart.head key other text more (sym e)) in
     let P : Files → Type 0 = λ f. page_at f other ≡ page_at files other in
-    put_left P files new head body answer.body (head_text stamp.epoch stamp.count _ answer.kind) fault refl
+    put_left P asked made files new head body answer.body (head_text stamp.epoch stamp.count _ answer.kind) fault refl
     (same_page (file_at bare head2) (file_at bare body2) (file_at files head2) (file_at files body2) head_left body_left)
     (same_page (file_at half head2) (file_at half body2) (file_at files head2) (file_at files body2)
     (named.beside bare body head2 answer.body (apart.head other key more text) ∙ head_left)

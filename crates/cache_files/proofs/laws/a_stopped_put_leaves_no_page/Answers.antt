@@ -1,4 +1,4 @@
-use Rattle.std.proofs.Common.{◌≡◌, ◌∙◌, sym, ap, None}
+use Rattle.std.proofs.Common.{◌∙◌, sym, ap}
 use Rattle.sp_outside.specs.Files.{file_at, with_file, without_file}
 use Rattle.docroot_format.specs.Names.{body_name, head_name}
 use Rattle.cache_files.proofs.PageFiles.{head_apart, page_from}

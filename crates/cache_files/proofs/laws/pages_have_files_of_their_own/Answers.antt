@@ -1,7 +1,6 @@
-use Rattle.std.proofs.Common.{◌≡◌, ◌∙◌, sym, ap, None}
+use Rattle.std.proofs.Common.{◌∙◌, sym, ap}
 use Rattle.sp_outside.specs.Files.{file_at, with_file, without_file}
 use Rattle.docroot_format.specs.Names.{body_name, head_name}
-use Rattle.docroot_format.specs.Texts.{head_text}
 use Rattle.cache_files.specs.Pages.{files_with_page, files_without_page}
 use Rattle.cache_files.proofs.PageFiles.{head_apart, page_from, same_page}
 use Rattle.cache_files.proofs.laws.pages_have_files_of_their_own.Goals as goal

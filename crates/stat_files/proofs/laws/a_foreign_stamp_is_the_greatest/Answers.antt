@@ -1,4 +1,4 @@
-use Rattle.std.proofs.Common.{◌≡◌, ◌<◌, ◌≤◌, ◌+◌, ◌⊎◌, ℕ, inl, inr, ⊎_elim, refl, arith}
+use Rattle.std.proofs.Common.{◌<◌, ◌≤◌, inl, inr, ⊎_elim, refl, arith}
 use Rattle.std.proofs.lemmas.Bool.{cases_lt}
 use Rattle.stat_files.proofs.laws.a_foreign_stamp_is_the_greatest.Goals as goal
 

@@ -1,3 +1,4 @@
 pub mod DraftLemmas
 pub mod OrderLemmas
 pub mod CreateLemmas
+pub mod MoveLemmas

@@ -29,6 +29,7 @@ impl<'a> Draft<'a> {
         ensures allowed { OnOk result (create_fault self.old.content path.now ≡ None) }
         ensures ok { OnOk result (self.new.content ≡ creation self.old.content path.now empty_node) }
         ensures err { IfErr result (λ e. e ≢ TreeFault.NoMemory → create_fault self.old.content path.now ≡ Some e) }
+        ensures unchanged { IfErr result (λ e. e ≢ TreeFault.NoMemory → self.new ≡ self.old) }
         ensures follows { OnOk result (Follows self.old self.new) }
     {
         let parent = path.parent(alloc)?;

@@ -4,13 +4,16 @@
 //! are made, what it holds over the tree is a patch of the tree.
 #![tactic(auto)]
 
+mod copy;
 mod create;
 mod draft;
 mod edit;
 mod kids;
 mod order;
 mod part;
+mod patch;
 mod properties;
+mod relocate;
 mod remove;
 
 pub use draft::Draft;

@@ -19,6 +19,7 @@ impl<'a> Draft<'a> {
         ensures allowed { OnOk result (order_fault self.old.content path.now place.now ≡ None) }
         ensures ok { OnOk result (self.new.content ≡ reordering self.old.content path.now place.now) }
         ensures err { IfErr result (λ e. e ≢ TreeFault.NoMemory → order_fault self.old.content path.now place.now ≡ Some e) }
+        ensures unchanged { IfErr result (λ e. e ≢ TreeFault.NoMemory → self.new ≡ self.old) }
         ensures follows { OnOk result (Follows self.old self.new) }
     {
         let parent = path.parent(alloc)?;

@@ -25,6 +25,7 @@ impl<'a> Draft<'a> {
         ensures allowed { OnOk result (set_fault self.old.content path.now name.now ≡ None) }
         ensures ok { OnOk result (self.new.content ≡ update self.old.content path.now name.now value) }
         ensures err { IfErr result (λ e. e ≢ TreeFault.NoMemory → set_fault self.old.content path.now name.now ≡ Some e) }
+        ensures unchanged { IfErr result (λ e. e ≢ TreeFault.NoMemory → self.new ≡ self.old) }
         ensures follows { OnOk result (Follows self.old self.new) }
     {
         self.check_set(alloc, path, name)?;
@@ -39,6 +40,7 @@ impl<'a> Draft<'a> {
         ensures allowed { OnOk result (unset_fault self.old.content path.now ≡ None) }
         ensures ok { OnOk result (self.new.content ≡ clearing self.old.content path.now name.now) }
         ensures err { IfErr result (λ e. e ≢ TreeFault.NoMemory → unset_fault self.old.content path.now ≡ Some e) }
+        ensures unchanged { IfErr result (λ e. e ≢ TreeFault.NoMemory → self.new ≡ self.old) }
         ensures follows { OnOk result (Follows self.old self.new) }
     {
         if self.node(path).is_none() {

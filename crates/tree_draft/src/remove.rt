@@ -13,7 +13,7 @@ use crate::create::last_segment;
 use crate::edit::Edit;
 use crate::part::paths_under;
 use resource_tree::{PatchNode, TreeFault};
-use sp_base::{Mem, Path, TextBuf};
+use sp_base::{Mem, NoMemory, Path, TextBuf};
 use std::alloc::Global;
 
 impl<'a> Draft<'a> {
@@ -23,17 +23,31 @@ impl<'a> Draft<'a> {
         ensures allowed { OnOk result (fixed_fault self.old.content path.now ≡ None) }
         ensures ok { OnOk result (self.new.content ≡ removal self.old.content path.now) }
         ensures err { IfErr result (λ e. e ≢ TreeFault.NoMemory → fixed_fault self.old.content path.now ≡ Some e) }
+        ensures unchanged { IfErr result (λ e. e ≢ TreeFault.NoMemory → self.new ≡ self.old) }
+        ensures follows { OnOk result (Follows self.old self.new) }
+    {
+        self.check_fixed(alloc, path)?;
+        let paths = paths_under(self, alloc, path)?;
+        self.cut(alloc, path, &paths)?;
+        Ok(())
+    }
+
+    // Takes the nodes at a path and under it away, whose paths are given, and the name from the parent's kids.
+    pub(crate) fn cut(&mut self, alloc: Global, path: &Path, paths: &[Path]) -> Mem<()>
+        requires sound { IsSound self.old }
+        requires fixed { fixed_fault self.old.content path.now ≡ None }
+        requires all { (q : List (List ℕ)) → list_any (same_path q) paths.now ≡ (is_some (node_at self.old.content q) && is_under q path.now) }
+        ensures ok { OnOk result (self.new.content ≡ removal self.old.content path.now) }
         ensures follows { OnOk result (Follows self.old self.new) }
     {
         let parent = path.parent(alloc)?;
-        self.check_fixed(alloc, path)?;
         let Some(name) = last_segment(path) else {
-            return Err(TreeFault::RootFixed);
+            // The root is never taken away, so this is a lack of memory.
+            return Err(NoMemory);
         };
         let name = TextBuf::of(alloc, name)?;
-        let paths = paths_under(self, alloc, path)?;
         self.change(alloc, &parent, Edit::WithoutKid(name))?;
-        self.drop_nodes(alloc, path, &paths)?;
+        self.drop_nodes(alloc, path, paths)?;
         Ok(())
     }
 

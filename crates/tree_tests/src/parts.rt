@@ -58,7 +58,7 @@ fn told_both(
 }
 
 // Source and target, and how the copy and the move are refused.
-const REFUSALS: &str = "/x /y/z => NoSuch /x | NoSuch /x
+pub(crate) const REFUSALS: &str = "/x /y/z => NoSuch /x | NoSuch /x
 /a /y/z => NoSuch /y | NoSuch /y
 / /y/z => NoSuch /y | NoSuch /y
 / / => RootFixed | RootFixed
@@ -128,7 +128,7 @@ fn changed(
 }
 
 // Source and target, and the tree after the copy and after the move.
-const PARTS: &str =
+pub(crate) const PARTS: &str =
     "/a /c/b => / /a /c /a/z* /a/b /c/k /c/b /a/z/y /c/b/z* /c/b/b /c/b/z/y | / /c /c/k /c/b /c/b/z* /c/b/b /c/b/z/y 
 /a/z /a/x => / /a /c /a/z* /a/b /a/x* /c/k /a/z/y /a/x/y | / /a /c /a/b /a/x* /c/k /a/x/y 
 /a/z /c/z => / /a /c /a/z* /a/b /c/k /c/z* /a/z/y /c/z/y | / /a /c /a/b /c/k /c/z* /c/z/y 

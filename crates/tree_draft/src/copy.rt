@@ -1,0 +1,143 @@
+// A node that is copied with all below it to another path.
+ghost use Rattle.std.specs.Prelude.{◌≡◌, ◌≢◌, ◌&&◌, ℕ, List, None, Some, OnOk, IfOk, IfErr, IsTrue, is_some, not, true, false};
+ghost use Rattle.std.specs.List.{list_any, IsDistinct};
+ghost use Rattle.std.specs.List.Sorted.{IsStrictlySortedBy};
+ghost use Rattle.std.specs.Map.{keys_of};
+ghost use Rattle.std.specs.Ordering.{eq_by_cmp};
+ghost use Rattle.sp_base.specs.Paths.{is_path, is_under, path_or_none};
+ghost use Rattle.resource_tree.specs.Content.{by_path, node_at, same_path, parent_of};
+ghost use Rattle.resource_tree.specs.Patches.{patching, row_at};
+ghost use Rattle.resource_tree.specs.Moves.{copy, copy_fault, part_there, path_there, target_fault};
+ghost use Rattle.tree_draft.specs.Drafts.{Follows, IsCounted, IsSound};
+
+use crate::Draft;
+use crate::create::{MOST_NODES, last_segment};
+use crate::edit::Edit;
+use crate::part::paths_under;
+use indexmap::IndexMap;
+use resource_tree::{PatchNode, TreeFault};
+use sp_base::{Mem, Path, TextBuf};
+use std::alloc::Global;
+use std::hash::RandomState;
+
+impl<'a> Draft<'a> {
+    /// Copies a node and all below it to another path. The copy stands last among the kids of its
+    /// parent, and each kid below it in the order that it has.
+    pub fn copy_to(&mut self, alloc: Global, source: &Path, target: &Path) -> Result<(), TreeFault>
+        requires { IsSound self.old }
+        ensures allowed { OnOk result (copy_fault self.old.content source.now target.now ≡ None) }
+        ensures ok { OnOk result (self.new.content ≡ copy self.old.content source.now target.now) }
+        ensures err { IfErr result (λ e. e ≢ TreeFault.NoMemory → copy_fault self.old.content source.now target.now ≡ Some e) }
+        ensures unchanged { IfErr result (λ e. e ≢ TreeFault.NoMemory → self.new ≡ self.old) }
+        ensures follows { OnOk result (Follows self.old self.new) }
+    {
+        let parent = target.parent(alloc)?;
+        self.check_target(alloc, source, target, &parent)?;
+        let Some(name) = last_segment(target) else {
+            return Err(TreeFault::RootFixed);
+        };
+        let name = TextBuf::of(alloc, name)?;
+        let paths = paths_under(self, alloc, source)?;
+        let part = part_there(self, alloc, source, target, &paths)?;
+        if part.len() > MOST_NODES.saturating_sub(self.len()) {
+            return Err(TreeFault::FullTree);
+        }
+        self.change(alloc, &parent, Edit::Kid(name))?;
+        self.put_all(part)?;
+        Ok(())
+    }
+
+    // Whether a path is free for a copy.
+    pub(crate) fn check_target(
+        &self,
+        alloc: Global,
+        source: &Path,
+        target: &Path,
+        parent: &Path,
+    ) -> Result<(), TreeFault>
+        requires { parent.now ≡ parent_of target.now }
+        ensures ok { OnOk result (target_fault self.now.content source.now target.now ≡ None) }
+        ensures err { IfErr result (λ e. e ≢ TreeFault.NoMemory → target_fault self.now.content source.now target.now ≡ Some e) }
+    {
+        if self.node(source).is_none() {
+            return Err(TreeFault::NoSuch(source.duplicate(alloc)?));
+        }
+        let Some(above) = self.node(parent) else {
+            return Err(TreeFault::NoSuch(parent.duplicate(alloc)?));
+        };
+        let Some(name) = last_segment(target) else {
+            return Err(TreeFault::RootFixed);
+        };
+        if target.is_under(source) || source.is_under(target) {
+            return Err(TreeFault::IntoItself);
+        }
+        if self.node(target).is_some() {
+            return Err(TreeFault::Exists(target.duplicate(alloc)?));
+        }
+        if above.props.get(name).is_some() {
+            return Err(TreeFault::Taken(target.duplicate(alloc)?));
+        }
+        Ok(())
+    }
+
+    // Sets what is to stand at the paths of some rows.
+    pub(crate) fn put_all(&mut self, rows: IndexMap<Path, PatchNode, RandomState>) -> Mem<()>
+        requires { IsStrictlySortedBy by_path (keys_of self.old.content) }
+        ensures content { OnOk result (self.new.content ≡ patching self.old.content rows.entries) }
+        ensures counted { OnOk result (IsCounted self.old → IsCounted self.new) }
+        ensures tree { OnOk result (self.new.tree ≡ self.old.tree) }
+        ensures ordered { OnOk result (IsStrictlySortedBy by_path (keys_of self.new.content)) }
+    {
+        for (path, row) in rows {
+            self.put(path, row)?;
+        }
+        Ok(())
+    }
+}
+
+// The path at the target of one at the source or under it, if it has at most 64 segments.
+fn path_there(alloc: Global, source: &Path, target: &Path, path: &Path) -> Mem<Option<Path>>
+    requires { IsTrue (is_path target.now) }
+    ensures { IfOk result (λ o. o ≡ path_or_none (path_there source.now target.now path.now)) }
+{
+    let mut there = target.duplicate(alloc)?;
+    for n in source.depth()..path.depth() {
+        let Some(segment) = path.seg(n) else {
+            return Ok(None);
+        };
+        let Some(below) = there.child_or_none(alloc, segment)? else {
+            return Ok(None);
+        };
+        there = below;
+    }
+    Ok(Some(there))
+}
+
+// The nodes at some paths, which are all those at the source and under it, at the target.
+pub(crate) fn part_there(
+    draft: &Draft,
+    alloc: Global,
+    source: &Path,
+    target: &Path,
+    paths: &[Path],
+) -> Result<IndexMap<Path, PatchNode, RandomState>, TreeFault>
+    requires target { IsTrue (is_path target.now) }
+    requires all { (q : List (List ℕ)) → list_any (same_path q) paths.now ≡ (is_some (node_at draft.now.content q) && is_under q source.now) }
+    ensures ok { IfOk result (λ part. (q : List (List ℕ)) → row_at part.entries q ≡ row_at (part_there draft.now.content source.now target.now) q) }
+    ensures once { IfOk result (λ part. IsDistinct (eq_by_cmp by_path) (keys_of part.entries)) }
+    ensures fits { OnOk result (list_any (λ p. not (is_path (path_there source.now target.now p))) paths.now ≡ false) }
+    ensures err { IfErr result (λ e. e ≢ TreeFault.NoMemory → (e ≡ TreeFault.TooDeep) × (list_any (λ p. not (is_path (path_there source.now target.now p))) paths.now ≡ true)) }
+{
+    let mut part = IndexMap::with_hasher(alloc, draft.tree.seeds());
+    for path in paths {
+        let Some(there) = path_there(alloc, source, target, path)? else {
+            return Err(TreeFault::TooDeep);
+        };
+        let Some(node) = draft.node(path) else {
+            continue;
+        };
+        let node = node.duplicate(alloc)?;
+        part.insert(there, PatchNode::Node(node))?;
+    }
+    Ok(part)
+}

@@ -1,0 +1,64 @@
+// A node that is moved with all below it to another path.
+ghost use Rattle.std.specs.Prelude.{◌≡◌, ◌≢◌, None, Some, OnOk, IfErr};
+ghost use Rattle.resource_tree.specs.Content.{parent_of};
+ghost use Rattle.resource_tree.specs.Moves.{ends_fault, move_fault, relocation};
+ghost use Rattle.tree_draft.specs.Drafts.{Follows, IsSound};
+
+use crate::Draft;
+use crate::copy::part_there;
+use crate::create::last_segment;
+use crate::edit::Edit;
+use crate::part::paths_under;
+use resource_tree::TreeFault;
+use sp_base::{Path, TextBuf};
+use std::alloc::Global;
+
+impl<'a> Draft<'a> {
+    /// Moves a node and all below it to another path. The node stands last among the kids of its
+    /// new parent, and each kid below it in the order that it has.
+    pub fn move_to(&mut self, alloc: Global, source: &Path, target: &Path) -> Result<(), TreeFault>
+        requires { IsSound self.old }
+        ensures allowed { OnOk result (move_fault self.old.content source.now target.now ≡ None) }
+        ensures ok { OnOk result (self.new.content ≡ relocation self.old.content source.now target.now) }
+        ensures err { IfErr result (λ e. e ≢ TreeFault.NoMemory → move_fault self.old.content source.now target.now ≡ Some e) }
+        ensures unchanged { IfErr result (λ e. e ≢ TreeFault.NoMemory → self.new ≡ self.old) }
+        ensures follows { OnOk result (Follows self.old self.new) }
+    {
+        let parent = target.parent(alloc)?;
+        self.check_ends(alloc, source, target, &parent)?;
+        let Some(name) = last_segment(target) else {
+            return Err(TreeFault::RootFixed);
+        };
+        let name = TextBuf::of(alloc, name)?;
+        let paths = paths_under(self, alloc, source)?;
+        let part = part_there(self, alloc, source, target, &paths)?;
+        self.cut(alloc, source, &paths)?;
+        self.change(alloc, &parent, Edit::Kid(name))?;
+        self.put_all(part)?;
+        Ok(())
+    }
+
+    // Whether a node may go to a path.
+    fn check_ends(
+        &self,
+        alloc: Global,
+        source: &Path,
+        target: &Path,
+        parent: &Path,
+    ) -> Result<(), TreeFault>
+        requires { parent.now ≡ parent_of target.now }
+        ensures ok { OnOk result (ends_fault self.now.content source.now target.now ≡ None) }
+        ensures err { IfErr result (λ e. e ≢ TreeFault.NoMemory → ends_fault self.now.content source.now target.now ≡ Some e) }
+    {
+        if self.node(source).is_none() {
+            return Err(TreeFault::NoSuch(source.duplicate(alloc)?));
+        }
+        if self.node(parent).is_none() {
+            return Err(TreeFault::NoSuch(parent.duplicate(alloc)?));
+        }
+        if source.depth() == 0 {
+            return Err(TreeFault::RootFixed);
+        }
+        self.check_target(alloc, source, target, parent)
+    }
+}

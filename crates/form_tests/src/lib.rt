@@ -1,4 +1,4 @@
-//! Tests of calls of `form_input` and `post_plan`, which are proved apart from these crates.
+//! Tests of calls of `form_input`, `post_plan` and `post_apply`, which are proved apart from these crates.
 #![tactic(auto)]
 
 #[cfg(test)]
@@ -7,6 +7,8 @@ mod bodies;
 mod faults;
 #[cfg(test)]
 mod names;
+#[cfg(test)]
+mod posts;
 #[cfg(test)]
 mod shown;
 #[cfg(test)]

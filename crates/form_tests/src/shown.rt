@@ -154,3 +154,10 @@ pub fn planned(alloc: Global, target: &str, star: bool, lines: &str) -> Result<S
     let target = Path::read(alloc, target)?;
     Ok(answer(alloc, &plan(alloc, &target, star, &form))?)
 }
+
+/// The operation that a form asks for at a target.
+pub fn operation(alloc: Global, target: &str, star: bool, lines: &str) -> Result<Op, Fail> {
+    let form = form(alloc, lines)?;
+    let target = Path::read(alloc, target)?;
+    Ok(plan(alloc, &target, star, &form).map_err(|_| AllocError)?)
+}

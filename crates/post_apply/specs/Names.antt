@@ -1,0 +1,33 @@
+-- The name that a new node gets (Apache Sling, "SlingPostServlet", "Algorithm for node name creation").
+use Rattle.std.specs.Prelude.{◌+◌, ◌++◌, ◌∷◌, ◌||◌, ℕ, zero, suc, Bool, List, is_some, length, decimal, if◌then◌else◌}
+use Rattle.std.specs.Option.{option_map_or}
+use Rattle.resource_tree.specs.Content.{Content, kid, node_at}
+use Rattle.resource_tree.specs.Changes.{has_prop_at}
+use Rattle.post_plan.specs.declared.operation.NameWish.{NameWish}
+use Rattle.post_plan.specs.declared.operation.NameWish.TheVariants.{Exact, Hint}
+
+-- whether a kid or a property of the parent has the name
+abbrev pub is_taken : Content → List (List ℕ) → List ℕ → Bool
+is_taken tree parent name = has_prop_at tree parent name || is_some (node_at tree (kid parent name))
+
+-- a name, `_` and a number
+abbrev pub numbered : List ℕ → ℕ → List ℕ
+numbered name n = name ++ 95 ∷ decimal n
+
+-- the least number from `n` on, with so many after it, with which the name isn't taken
+unfoldable pub free_number : Content → List (List ℕ) → List ℕ → ℕ → ℕ → ℕ
+free_number tree parent name n zero = n
+free_number tree parent name n (suc more) = if is_taken tree parent (numbered name n) then free_number tree parent name (n + 1) more else n
+
+-- as many as the parent has kids and properties: after so many numbers one is free
+abbrev pub most_taken : Content → List (List ℕ) → ℕ
+most_taken tree parent = option_map_or (λ node. length node.kids + length node.props) (node_at tree parent) 0
+
+-- a made name, with the least number where it is taken
+abbrev pub free_name : Content → List (List ℕ) → List ℕ → List ℕ
+free_name tree parent name = if is_taken tree parent name then numbered name (free_number tree parent name 0 (most_taken tree parent)) else name
+
+-- the name of a new node below a parent
+abbrev pub name_given : Content → List (List ℕ) → NameWish → List ℕ
+name_given tree parent (Exact name) = name
+name_given tree parent (Hint name) = free_name tree parent name

@@ -1,0 +1,57 @@
+//! Why an operation is refused.
+ghost use Rattle.std.specs.Prelude.{◌≡◌};
+ghost use Rattle.post_apply.specs.declared.fault.ApplyFault.TheVariants.{NoMemory as no_memory};
+
+use resource_tree::TreeFault;
+use sp_base::{NoMemory, Path, TextBuf, ValueFault};
+use std::alloc::{AllocError, AllocFailed};
+
+/// Why an operation is refused.
+#[derive(Drop)]
+pub enum ApplyFault {
+    /// The tree refuses a change.
+    Tree(TreeFault),
+    /// The words of the property of this name are no value of its type.
+    Value(TextBuf, ValueFault),
+    /// The goal of a copy or a move is there, and isn't to be replaced.
+    DestThere(Path),
+    /// Out of memory.
+    NoMemory,
+}
+
+impl From<NoMemory> for ApplyFault {
+    ghost from_gives = { λ _ e. e ≡ no_memory };
+
+    fn from(_fault: NoMemory) -> ApplyFault {
+        ApplyFault::NoMemory
+    }
+}
+
+impl From<AllocError> for ApplyFault {
+    ghost from_gives = { λ _ e. e ≡ no_memory };
+
+    fn from(_fault: AllocError) -> ApplyFault {
+        ApplyFault::NoMemory
+    }
+}
+
+impl<T: Drop> From<AllocFailed<T>> for ApplyFault {
+    ghost from_gives = { λ _ e. e ≡ no_memory };
+
+    fn from(_fault: AllocFailed<T>) -> ApplyFault {
+        ApplyFault::NoMemory
+    }
+}
+
+impl From<TreeFault> for ApplyFault {
+    ghost use Rattle.post_apply.specs.Faults.{of_tree};
+
+    ghost from_gives = { λ fault e. e ≡ of_tree fault };
+
+    fn from(fault: TreeFault) -> ApplyFault {
+        match fault {
+            TreeFault::NoMemory => ApplyFault::NoMemory,
+            fault => ApplyFault::Tree(fault),
+        }
+    }
+}

@@ -1,0 +1,19 @@
+//! What a POST makes of the content: the operation that its form asks for, done over a tree, or refused with the first cause (Apache
+//! Sling, "SlingPostServlet").
+#![tactic(auto)]
+
+mod carries;
+mod fault;
+mod modify;
+mod names;
+mod posting;
+mod removals;
+mod report;
+mod spots;
+mod steps;
+mod values;
+mod way;
+
+pub use fault::ApplyFault;
+pub use posting::{Planned, apply, patch_of};
+pub use report::PostReport;

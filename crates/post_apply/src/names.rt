@@ -1,0 +1,75 @@
+//! The name that a new node gets.
+ghost use Rattle.std.specs.Prelude.{◌≡◌, IfOk, IfSome};
+ghost use Rattle.tree_draft.specs.Drafts.{IsSound};
+ghost use Rattle.post_apply.specs.Names as spec;
+
+use crate::removals::has_property;
+use post_plan::NameWish;
+use sp_base::{Mem, NoMemory, Path, TextBuf};
+use std::alloc::Global;
+use tree_draft::Draft;
+
+// Whether a kid or a property of the parent has the name.
+#[tactic(auto, using(crate::proofs::NameLemmas::no_path))]
+fn is_taken(alloc: Global, draft: &Draft, parent: &Path, name: &str) -> Mem<bool>
+    requires { IsSound draft.now }
+    ensures { IfOk result (λ b. b ≡ spec.is_taken draft.now.content parent.now name.now) }
+{
+    if has_property(draft, parent, name) {
+        return Ok(true);
+    }
+    match parent.child_or_none(alloc, name)? {
+        Some(kid) => Ok(draft.node(&kid).is_some()),
+        None => Ok(false),
+    }
+}
+
+fn numbered(alloc: Global, name: &str, n: usize) -> Mem<TextBuf>
+    ensures { IfOk result (λ t. t ≡ spec.numbered name.now n) }
+{
+    Ok(TextBuf::from(format!(in alloc; "{name}_{n}")?))
+}
+
+// As many as the parent has kids and properties.
+fn most_taken(draft: &Draft, parent: &Path) -> Option<usize>
+    ensures { IfSome result (λ n. n ≡ spec.most_taken draft.now.content parent.now) }
+{
+    match draft.node(parent) {
+        Some(node) => node.kids.len().checked_add(node.props.len()),
+        None => Some(0),
+    }
+}
+
+// A name with the least number with which it isn't taken.
+#[tactic(auto, using(crate::proofs::NameLemmas::passed, crate::proofs::NameLemmas::found, crate::proofs::NameLemmas::last))]
+fn free_numbered(alloc: Global, draft: &Draft, parent: &Path, name: &str) -> Mem<TextBuf>
+    requires { IsSound draft.now }
+    ensures { IfOk result (λ t. t ≡ spec.numbered name.now (spec.free_number draft.now.content parent.now name.now 0 (spec.most_taken draft.now.content parent.now))) }
+{
+    let Some(most) = most_taken(draft, parent) else {
+        return Err(NoMemory);
+    };
+    for n in 0..most {
+        let made = numbered(alloc, name, n)?;
+        if !is_taken(alloc, draft, parent, made.text())? {
+            return Ok(made);
+        }
+    }
+    numbered(alloc, name, most)
+}
+
+/// The name of a new node below a parent.
+pub fn name_given(alloc: Global, draft: &Draft, parent: &Path, wish: &NameWish) -> Mem<TextBuf>
+    requires { IsSound draft.now }
+    ensures { IfOk result (λ t. t ≡ spec.name_given draft.now.content parent.now wish.now) }
+{
+    match wish {
+        NameWish::Exact(name) => name.duplicate(alloc),
+        NameWish::Hint(name) => {
+            if is_taken(alloc, draft, parent, name.text())? {
+                return free_numbered(alloc, draft, parent, name.text());
+            }
+            name.duplicate(alloc)
+        }
+    }
+}

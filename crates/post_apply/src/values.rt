@@ -1,0 +1,137 @@
+//! Properties that are set.
+ghost use Rattle.std.specs.Prelude.{◌≡◌, ◌≢◌, ◌-◌, IfOk, IfSome, OnOk, IfErr, IsTrue, Ok, Err, length, option_copied, slice_get};
+ghost use Rattle.sp_base.specs.Paths.{seg_ok};
+ghost use Rattle.tree_draft.specs.Drafts.{Follows, IsSound};
+ghost use Rattle.resource_tree.specs.Content.{name_of};
+ghost use Rattle.post_apply.specs.Values as spec;
+ghost use Rattle.post_apply.specs.Steps as step;
+
+use crate::ApplyFault;
+use crate::spots::path_of_spot;
+use crate::steps::set;
+use crate::way::make_way;
+use post_plan::PropSet;
+use resource_tree::TreeFault;
+use sp_base::{Hint, Mem, Path, TextBuf, TextList, Value, ValueFault};
+use std::alloc::Global;
+use tree_draft::Draft;
+
+fn untyped(alloc: Global, words: &TextList) -> Mem<Value>
+    ensures { IfOk result (λ v. v ≡ spec.untyped words.now) }
+{
+    match words.as_slice() {
+        [word] => Ok(Value::Text(word.duplicate(alloc)?)),
+        _ => Ok(Value::Texts(words.duplicate(alloc)?)),
+    }
+}
+
+fn value_of(alloc: Global, hint: Option<Hint>, words: &TextList) -> Result<Value, ValueFault>
+    ensures ok { IfOk result (λ v. spec.value_of hint words.now ≡ Ok v) }
+    ensures err { IfErr result (λ e. e ≢ ValueFault.NoMemory → spec.value_of hint words.now ≡ Err e) }
+{
+    match hint {
+        Some(hint) => Value::typed(alloc, hint, words),
+        None => Ok(untyped(alloc, words)?),
+    }
+}
+
+// The value of words; a fault is told with the property's name.
+fn named_value(
+    alloc: Global,
+    name: &str,
+    hint: Option<Hint>,
+    words: &TextList,
+) -> Result<Value, ApplyFault>
+    ensures ok { IfOk result (λ v. spec.named name.now (spec.value_of hint words.now) ≡ Ok v) }
+    ensures err { IfErr result (λ e. e ≢ ApplyFault.NoMemory → spec.named name.now (spec.value_of hint words.now) ≡ Err e) }
+{
+    match value_of(alloc, hint, words) {
+        Ok(value) => Ok(value),
+        Err(ValueFault::NoMemory) => Err(ApplyFault::NoMemory),
+        Err(fault) => Err(ApplyFault::Value(TextBuf::of(alloc, name)?, fault)),
+    }
+}
+
+/// Sets the property at a path, whose node is there.
+pub fn put_at(alloc: Global, draft: &mut Draft, path: &Path, value: Value) -> Result<(), ApplyFault>
+    requires { IsSound draft.old }
+    ensures ok { OnOk result (spec.put_at draft.old.content path.now value ≡ Ok draft.new.content) }
+    ensures err { IfErr result (λ e. e ≢ ApplyFault.NoMemory → spec.put_at draft.old.content path.now value ≡ Err e) }
+    ensures follows { OnOk result (Follows draft.old draft.new) }
+{
+    let parent = path.parent(alloc)?;
+    let Some(name) = last_segment(path) else {
+        return Err(ApplyFault::Tree(TreeFault::Taken(path.duplicate(alloc)?)));
+    };
+    set(alloc, draft, &parent, name, value)
+}
+
+/// The same, with its node and all above it made where they aren't there.
+pub fn put_on_way(
+    alloc: Global,
+    draft: &mut Draft,
+    path: &Path,
+    value: Value,
+) -> Result<(), ApplyFault>
+    requires { IsSound draft.old }
+    ensures ok { OnOk result (spec.put_on_way draft.old.content path.now value ≡ Ok draft.new.content) }
+    ensures err { IfErr result (λ e. e ≢ ApplyFault.NoMemory → spec.put_on_way draft.old.content path.now value ≡ Err e) }
+    ensures follows { OnOk result (Follows draft.old draft.new) }
+{
+    let parent = path.parent(alloc)?;
+    make_way(alloc, draft, &parent)?;
+    put_at(alloc, draft, path, value)
+}
+
+/// The name of the property at a path; the root has none.
+#[tactic(auto, using(crate::proofs::PathLemmas::name_is))]
+pub fn name_of(path: &Path) -> &str
+    ensures { result.now ≡ name_of path.now }
+{
+    match path.last() {
+        Some(name) => name,
+        None => "",
+    }
+}
+
+// The last segment of a path, which is one that a path may have.
+#[tactic(auto, using(crate::proofs::PathLemmas::segment_ok))]
+fn last_segment(path: &Path) -> Option<&str>
+    ensures value { option_copied result ≡ slice_get path.now (length path.now - 1) }
+    ensures segment { IfSome result (λ name. IsTrue (seg_ok name.now)) }
+{
+    let _valid = path.depth();
+    path.last()
+}
+
+fn set_at(alloc: Global, draft: &mut Draft, node: &Path, set: &PropSet) -> Result<(), ApplyFault>
+    requires { IsSound draft.old }
+    ensures ok { OnOk result (spec.set_at node.now draft.old.content set.now ≡ Ok draft.new.content) }
+    ensures err { IfErr result (λ e. e ≢ ApplyFault.NoMemory → spec.set_at node.now draft.old.content set.now ≡ Err e) }
+    ensures follows { OnOk result (Follows draft.old draft.new) }
+{
+    let value = named_value(alloc, name_of(&set.spot.path), set.hint, &set.words)?;
+    let path = path_of_spot(alloc, node, &set.spot)?;
+    put_on_way(alloc, draft, &path, value)
+}
+
+/// Sets some properties.
+#[tactic(auto, unfolding(crate::specs::Steps::in_turn))]
+pub fn set_all(
+    alloc: Global,
+    draft: &mut Draft,
+    node: &Path,
+    sets: &[PropSet],
+) -> Result<(), ApplyFault>
+    requires { IsSound draft.old }
+    ensures ok { OnOk result (step.in_turn (spec.set_at node.now) sets.now draft.old.content ≡ Ok draft.new.content) }
+    ensures err { IfErr result (λ e. e ≢ ApplyFault.NoMemory → step.in_turn (spec.set_at node.now) sets.now draft.old.content ≡ Err e) }
+    ensures follows { OnOk result (Follows draft.old draft.new) }
+{
+    let mut rest = sets;
+    while let [set, more @ ..] = rest {
+        set_at(alloc, draft, node, set)?;
+        rest = more;
+    }
+    Ok(())
+}

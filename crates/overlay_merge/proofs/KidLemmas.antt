@@ -1,6 +1,6 @@
 -- The kids of layers, and their order.
 use Rattle.std.proofs.Common.{◌≡◌, ◌+◌, ◌<◌, ◌++◌, ◌&&◌, ◌||◌, ◌==◌, ℕ, Bool, true, false, not, cond, List, [], ◌∷◌, Option, Some, None, take, drop, length, get_or, refl, sym, ◌∙◌, ap, append_assoc}
-use Rattle.std.specs.Prelude.{is_some, filter, fold, insert, nat_eq, option_map, position, remove, unwrap_or}
+use Rattle.std.specs.Prelude.{is_some, filter, fold, nat_eq, option_map}
 use Rattle.std.specs.List.{list_any}
 use Rattle.std.specs.Cmp.Lexicographic.{pointwise, same_text}
 use Rattle.std.proofs.lemmas.Bool.{false≢true}
@@ -9,7 +9,6 @@ use Rattle.std.proofs.lemmas.List.Folds.{list_any-append}
 use Rattle.std.proofs.lemmas.List.Sums.{fold-append}
 use Rattle.overlay_merge.proofs.PropertyLemmas.{filter_same}
 use Rattle.overlay_merge.proofs.WalkLemmas.{not_merged}
-use Rattle.std.proofs.lemmas.List.Quantifiers.{position-Some}
 use Rattle.std.proofs.lemmas.Map.Views.{any-filter_same}
 use Rattle.std.proofs.lemmas.List.Elements.{All-append, All-cons, All-get_or, All-nil, filter-append}
 use Rattle.sp_base.specs.Paths.{is_path, path_or_none}
@@ -18,13 +17,13 @@ use Rattle.resource_tree.specs.Seen.{Resource, res_at, res_of}
 use Rattle.resource_tree.specs.declared.nodes.Node.{Node}
 use Rattle.overlay_merge.specs.declared.layers.Layer.{Layer}
 use Rattle.overlay_merge.specs.Hiding.{is_cut, list_of, merged_from, uncut, uncut_of}
-use Rattle.overlay_merge.specs.Kids.{all_kids, has_text, is_merged_there, moved_from, with_kids_of}
+use Rattle.overlay_merge.specs.Kids.{all_kids, has_text, is_merged_there, with_kids_of}
 use Rattle.overlay_merge.specs.Layers.{layers_of}
 use Rattle.overlay_merge.specs.Walk.{AreNodesOf}
 
 -- ---- kids by look-ups
 
-node_of : (tree : Content) (path : List (List ℕ)) (res : Resource) (o : Option Node) → node_at tree path ≡ o → option_map (res_of path) o ≡ Some res
+pub node_of : (tree : Content) (path : List (List ℕ)) (res : Resource) (o : Option Node) → node_at tree path ≡ o → option_map (res_of path) o ≡ Some res
     → (node : Node) × ((node_at tree path ≡ Some node) × (res ≡ res_of path node))
 node_of tree path res (Some node) is e = (node, (is, cc))
 node_of tree path res None is e = absurd (cc)
@@ -108,10 +107,6 @@ are_nodes tree (layer ∷ above) =
 pub any_step : {X : Type 0} (p : X → Bool) (xs : List X) (i : ℕ) (d : X) → i < length xs → list_any p (drop i xs) ≡ (p (get_or xs i d) || list_any p (drop (i + 1) xs))
 any_step p xs i d within = ap (list_any p) (drop_more xs i d within)
 
--- what a search has found
-pub found_at : {X : Type 0} (p : X → Bool) (xs : List X) (i : ℕ) (d : X) → position p xs ≡ Some i → p (get_or xs i d) ≡ true
-found_at p xs i d is = (position-Some p xs i d is).1
-
 -- whether the layer at a place has such a kid, and whether one after it has
 pub any_kid : (tree : Content) (layers : List Resource) (name : List ℕ) (i : ℕ) (layer : Resource) (here : Bool) → IsTree (node_at tree) → AreNodesOf tree layers → i < length layers
     → layer ≡ get_or layers i layer → here ≡ is_some (node_at tree (kid layer.path name))
@@ -154,17 +149,6 @@ not_path p =
 
 pub not_there : (tree : Content) (path : List (List ℕ)) → None ≡ path_or_none path → false ≡ is_merged_there tree path
 not_there tree path none = sym (ap (λ (l : List Resource). not (length l == 0)) (not_merged tree path (not_path path none)))
-
--- ---- moves
-
-pub moved_is : (names left new : List (List ℕ)) (name other taken : List ℕ) (at before : ℕ) → position (pointwise nat_eq name) names ≡ Some at → has_text names other ≡ true
-    → taken ≡ get_or names at taken → left ≡ remove names at → before ≡ unwrap_or (position (pointwise nat_eq other) left) (length left) → new ≡ insert left before taken
-    → new ≡ moved_from name other names (Some at)
-moved_is names left new name other taken at before place there taken_is left_is before_is is =
-    let same : name ≡ get_or names at taken = same_text name (get_or names at taken) (sym (found_at (pointwise nat_eq name) names at taken place)) in
-    let end = λ (l : List (List ℕ)). unwrap_or (position (pointwise nat_eq other) l) (length l) in
-    is ∙ ap (λ n. insert left n taken) before_is ∙ ap (λ l. insert l (end l) taken) left_is ∙ ap (insert (remove names at) (end (remove names at))) (taken_is ∙ sym same)
-    ∙ sym (ap (λ t. cond t (insert (remove names at) (end (remove names at)) name) names) there)
 
 -- ---- loops over kids
 

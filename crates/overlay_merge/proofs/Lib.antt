@@ -10,3 +10,7 @@ pub mod ReachLemmas
 pub mod LawLemmas
 pub mod CutLemmas
 pub mod SeenLemmas
+pub mod MoveLemmas
+pub mod SlotLemmas
+pub mod SlotsKept
+pub mod OrderLemmas

@@ -7,3 +7,4 @@ pub mod Kids
 pub mod Merged
 pub mod Walk
 pub mod HidingTexts
+pub mod Slots

@@ -5,7 +5,7 @@ ghost use Rattle.resource_tree.specs.Content.{kid, node_at};
 ghost use Rattle.overlay_merge.specs.Kids.{all_kids, has_text, is_merged_there, kids_of, kids_there, with_kids_of};
 ghost use Rattle.overlay_merge.specs.Walk.{AreNodesOf};
 
-use crate::order::order_by;
+use crate::order::{moves_of, ordered};
 use crate::uncut::merged_from;
 use resource_tree::{Res, Tree};
 use sp_base::{Mem, Path, TextBuf, TextList};
@@ -107,10 +107,13 @@ pub(crate) fn kids_of(alloc: Global, tree: &Tree, path: &Path, layers: &[Res<'_>
     requires { AreNodesOf tree.now layers.now }
     ensures { IfOk result (λ kids. kids ≡ kids_of tree.now path.now layers.now) }
 {
+    // `len` says that no kid of a node is listed twice.
+    let _ = tree.len();
     let names = all_kids(alloc, tree, layers)?;
-    let mut kids = kids_there(alloc, tree, path, names)?;
-    for layer in layers {
-        order_by(alloc, tree, layer, &mut kids)?;
+    let kids = kids_there(alloc, tree, path, names)?;
+    let moves = moves_of(alloc, tree, layers)?;
+    if moves.is_empty() {
+        return Ok(TextList::from(kids));
     }
-    Ok(TextList::from(kids))
+    Ok(TextList::from(ordered(alloc, kids.as_slice(), &moves)?))
 }

@@ -12,6 +12,7 @@ mod properties;
 mod reach;
 mod rebase;
 mod roots;
+mod slots;
 mod uncut;
 mod view;
 

@@ -1,76 +1,21 @@
 // Kids that are moved to where they wish to stand.
-ghost use Rattle.std.specs.Prelude.{◌≡◌, Some, nat_eq, position, OnOk, IfOk, IfSome, ◌<◌, ◌≤◌, length, unwrap_or};
-ghost use Rattle.std.specs.Option.{option_copied};
+ghost use Rattle.std.specs.Prelude.{◌≡◌, ℕ, List, nat_eq, IfOk, OnOk, fold, option_copied};
 ghost use Rattle.std.specs.Cmp.Lexicographic.{pointwise};
+ghost use Rattle.std.specs.List.{IsDistinct};
 ghost use Rattle.resource_tree.specs.Content.{kid};
-ghost use Rattle.overlay_merge.specs.Kids.{has_text, moved, moved_from, ordered_by, wish_at};
+ghost use Rattle.overlay_merge.specs.Kids.{moved, ordered_by, wish_at};
+ghost use Rattle.overlay_merge.specs.Slots.{IsGood, moved_by, names_of};
 
+use crate::slots::{Slots, slots_of};
 use resource_tree::{Res, Tree};
 use sp_base::{Mem, Path, TextBuf};
 use std::alloc::Global;
 
-fn place_of(names: &[TextBuf], name: &str) -> Option<usize>
-    ensures value { result ≡ position (pointwise nat_eq name.now) names.now }
-    ensures within { IfSome result (λ place. place < length names.now) }
-{
-    names.iter().position(|other| name == other.text())
-}
-
-fn has_text(names: &[TextBuf], name: &str) -> bool
-    ensures { result ≡ has_text names.now name.now }
-{
-    names.iter().any(|other| name == other.text())
-}
-
-// The place of a name, or the end.
-fn place_or_end(names: &[TextBuf], name: &str) -> usize
-    ensures value { result ≡ unwrap_or (position (pointwise nat_eq name.now) names.now) (length names.now) }
-    ensures within { result ≤ length names.now }
-{
-    match place_of(names, name) {
-        Some(place) => place,
-        None => names.len(),
-    }
-}
-
-// Moves a name, which stands at a place, directly before another, if that is there.
-fn move_from(names: &mut Vec<TextBuf>, at: usize, name: &str, other: &str) -> Mem<()>
-    requires there { position (pointwise nat_eq name.now) names.old.items ≡ Some at }
-    requires within { at < length names.old.items }
-    ensures { OnOk result (names.new.items ≡ moved_from name.now other.now names.old.items (Some at)) }
-{
-    if !has_text(names, other) {
-        return Ok(());
-    }
-    let taken = names.remove(at);
-    let before = place_or_end(names, other);
-    names.insert(before, taken)?;
-    Ok(())
-}
-
-// Moves a name directly before another.
-#[tactic(auto, unfolding(crate::specs::Kids::moved))]
-fn move_before(names: &mut Vec<TextBuf>, name: &str, other: &str) -> Mem<()>
-    ensures { OnOk result (names.new.items ≡ moved name.now (Some other.now) names.old.items) }
-{
-    if name == other {
-        return Ok(());
-    }
-    match place_of(names, name) {
-        Some(at) => move_from(names, at, name, other),
-        None => Ok(()),
-    }
-}
-
-// Moves a name to where it wishes to stand.
-#[tactic(auto, unfolding(crate::specs::Kids::moved))]
-fn move_by(names: &mut Vec<TextBuf>, name: &str, wish: Option<&TextBuf>) -> Mem<()>
-    ensures { OnOk result (names.new.items ≡ moved name.now (option_copied wish.entry) names.old.items) }
-{
-    match wish {
-        Some(other) => move_before(names, name, other.text()),
-        None => Ok(()),
-    }
+/// A name that is moved directly before another.
+#[derive(Clone, Copy, Drop)]
+pub(crate) struct Move<'a> {
+    pub name: &'a str,
+    pub other: &'a str,
 }
 
 // The name before which a kid of a layer wishes to stand.
@@ -88,19 +33,71 @@ fn wish_of<'a>(alloc: Global, tree: &'a Tree, path: &Path, name: &str) -> Mem<Op
     }
 }
 
-/// Moves each kid of a layer to where it wishes to stand.
+// Adds the move of a name, if it wishes one.
+#[tactic(auto, unfolding(crate::specs::Kids::moved))]
+fn push_move<'a>(moves: &mut Vec<Move<'a>>, name: &'a str, wish: Option<&'a TextBuf>) -> Mem<()>
+    ensures { OnOk result ((names : List (List ℕ)) → moved_by moves.new.items names ≡ moved name.entry.now (option_copied wish.entry) (moved_by moves.old.items names)) }
+{
+    if let Some(other) = wish {
+        let other = other.text();
+        moves.push(Move { name, other })?;
+    }
+    Ok(())
+}
+
+// Adds the moves of a layer's kids.
 #[tactic(auto, unfolding(crate::specs::Kids::ordered_by))]
-pub(crate) fn order_by(
+fn add_moves<'a>(
     alloc: Global,
-    tree: &Tree,
-    layer: &Res<'_>,
-    names: &mut Vec<TextBuf>,
+    tree: &'a Tree,
+    layer: &'a Res<'_>,
+    moves: &mut Vec<Move<'a>>,
 ) -> Mem<()>
-    ensures { OnOk result (names.new.items ≡ ordered_by tree.now names.old.items layer.now) }
+    ensures { OnOk result ((names : List (List ℕ)) → moved_by moves.new.items names ≡ ordered_by tree.entry.now (moved_by moves.old.items names) layer.entry.now) }
 {
     for name in layer.kids() {
         let wish = wish_of(alloc, tree, layer.path(), name.text())?;
-        move_by(names, name.text(), wish)?;
+        push_move(moves, name.text(), wish)?;
     }
     Ok(())
+}
+
+/// The moves of the kids of layers, the lowest layer first.
+pub(crate) fn moves_of<'a>(
+    alloc: Global,
+    tree: &'a Tree,
+    layers: &'a [Res<'_>],
+) -> Mem<Vec<Move<'a>>>
+    ensures { IfOk result (λ moves. (names : List (List ℕ)) → moved_by moves.items names ≡ fold (ordered_by tree.now) names layers.now) }
+{
+    let mut moves = Vec::new(alloc);
+    for layer in layers {
+        add_moves(alloc, tree, layer, &mut moves)?;
+    }
+    Ok(moves)
+}
+
+fn move_all<'a>(slots: &mut Slots<'a>, moves: &[Move<'a>]) -> Mem<()>
+    requires { IsGood slots.old }
+    ensures good { OnOk result (IsGood slots.new) }
+    ensures names { OnOk result (names_of slots.new ≡ moved_by moves.now (names_of slots.old)) }
+{
+    for step in moves {
+        slots.move_before(step.name, step.other)?;
+    }
+    Ok(())
+}
+
+/// Names that differ, with moves made one after the other: each looks its two names up, and walks over no others.
+pub(crate) fn ordered<'a>(
+    alloc: Global,
+    names: &'a [TextBuf],
+    moves: &[Move<'a>],
+) -> Mem<Vec<TextBuf>>
+    requires { IsDistinct (pointwise nat_eq) names.now }
+    ensures { IfOk result (λ list. list.items ≡ moved_by moves.now names.now) }
+{
+    let mut slots = slots_of(alloc, names)?;
+    move_all(&mut slots, moves)?;
+    slots.names(alloc)
 }

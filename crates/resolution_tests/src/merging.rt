@@ -108,6 +108,16 @@ const OVERLAYS: &[(&str, &str, &str)] = &[
         "/mnt/overlay/x",
         "own | a c b",
     ),
+    (
+        "/libs/m/a; /libs/m/b; /libs/m/c; /libs/m/d before a; /apps/m/c before d; /apps/m/a before c",
+        "/mnt/overlay/m",
+        "| a c d b",
+    ),
+    (
+        "/libs/m/a before c; /libs/m/b; /libs/m/c before b; /libs/m/d before zz",
+        "/mnt/overlay/m",
+        "| c b a d",
+    ),
     ("/libs/m/a x y; /apps/m/a hide true", "/mnt/overlay/m", "|"),
     ("/libs/m/a x y; /apps/m/a hide true", "/mnt/overlay/m/a", ""),
     (

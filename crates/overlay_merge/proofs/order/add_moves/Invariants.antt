@@ -1,0 +1,9 @@
+use Rattle.std.proofs.Common.{◌≡◌, ℕ, List, take}
+use Rattle.std.specs.Prelude.{fold}
+use Rattle.resource_tree.specs.Content.{kid}
+use Rattle.overlay_merge.specs.Kids.{moved, wish_at}
+use Rattle.overlay_merge.specs.Slots.{moved_by}
+use Rattle.overlay_merge.proofs.order.add_moves.Given as goal
+
+abbrev pub invariant-loop-name : goal.invariant-loop-name
+invariant-loop-name l = (names : List (List ℕ)) → moved_by l.moves.items names ≡ fold (λ so_far name. moved name (wish_at l.tree (kid l.layer.path name)) so_far) (moved_by l.fn.moves.items names) (take l.name-index l.layer.kids)

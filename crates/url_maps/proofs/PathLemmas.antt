@@ -23,6 +23,9 @@ path_from_same p q h = tells_apart exact_paths p q h
 pub same_path_self : (p : List (List ℕ)) → same_path p p ≡ true
 same_path_self p = (eq_by_cmp_equiv by_path_total).refl p
 
+pub same_path_flips : (p q : List (List ℕ)) → same_path p q ≡ same_path q p
+same_path_flips p q = (eq_by_cmp_equiv by_path_total).symm p q
+
 length-kid : (p : List (List ℕ)) (name : List ℕ) → length (kid p name) ≡ length p + 1
 length-kid p name = length-append p (name ∷ [])
 
@@ -74,6 +77,19 @@ IsReadBack = (path : List (List ℕ)) → IsTrue (is_path path) → path_of (tex
 -- paths of one text are one
 pub path_from_text : IsReadBack → (p q : List (List ℕ)) → is_path p ≡ true → is_path q ≡ true → text_of p ≡ text_of q → p ≡ q
 path_from_text read p q a b e = let same : Ok p ≡ path_of (text_of q) = sym (read p a) ∙ ap path_of e in let other = read q b in cc
+
+-- paths are one where their texts are
+pub texts_and_paths : IsReadBack → (p q : List (List ℕ)) → IsTrue (is_path p) → IsTrue (is_path q) → pointwise nat_eq (text_of p) (text_of q) ≡ same_path p q
+texts_and_paths read p q valid other_valid =
+    ⊎_elim
+    (λ (same : pointwise nat_eq (text_of p) (text_of q) ≡ true).
+    let one : p ≡ q = path_from_text read p q valid other_valid (same_text (text_of p) (text_of q) (sym same)) in
+    same ∙ sym (ap (same_path p) (sym one) ∙ same_path_self p))
+    (λ (differ : pointwise nat_eq (text_of p) (text_of q) ≡ false).
+    differ
+    ∙ sym (false_from_ne_true (same_path p q)
+    (λ one. true≢false (sym (nat_list_eq_equiv.refl (text_of p)) ∙ ap (λ r. pointwise nat_eq (text_of p) (text_of r)) (path_from_same p q one) ∙ differ))))
+    (cases_Bool (pointwise nat_eq (text_of p) (text_of q)))
 
 -- which of a parent's aliases a text spells
 pub spells_is : IsReadBack → (p : List (List ℕ)) (alias word : List ℕ) → is_path (kid p alias) ≡ true → seg_ok alias ≡ true

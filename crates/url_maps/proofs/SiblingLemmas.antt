@@ -14,7 +14,7 @@ use Rattle.resource_tree.specs.Content.{Content, IsTree, kid, name_of, node_at, 
 use Rattle.resource_tree.specs.Changes.{kids_at}
 use Rattle.url_maps.specs.Search.{first_kid, first_path}
 use Rattle.url_maps.proofs.AliasLemmas.{find_any}
-use Rattle.url_maps.proofs.PathLemmas.{kid_parts, path_from_same, same_path_self, valid_name}
+use Rattle.url_maps.proofs.PathLemmas.{kid_parts, path_from_same, same_path_flips, same_path_self, valid_name}
 
 -- ---- a loop that looks for the first
 
@@ -55,6 +55,29 @@ one_of : (xs : List (List (List ℕ))) → length xs ≡ 1 → xs ≡ first_path
 one_of [] e = absurd (omega (arith, e))
 one_of (x ∷ []) e = refl
 one_of (x ∷ y ∷ xs) e = absurd (omega (arith, e))
+
+-- ---- a loop that puts paths into a set
+
+pub any_here : {X : Type 0} (test : X → Bool) (xs : List X) (i : ℕ) (x : X) → i < length xs → x ≡ get_or xs i x → list_any test (drop i xs) ≡ (test x || list_any test (drop (i + 1) xs))
+any_here test xs i x within item =
+    ap (list_any test) (drop-cons xs i x within) ∙ ap (λ y. test y || list_any test (drop (suc i) xs)) (sym item)
+    ∙ ap (λ n. test x || list_any test (drop n xs)) (sym (add-one i))
+
+moves_over : (here had rest : Bool) → (cond here true had || rest) ≡ (had || (here || rest))
+moves_over true true rest = refl
+moves_over true false rest = refl
+moves_over false had rest = refl
+
+pub set_over : (item q : List (List ℕ)) (had has rest all : Bool) → has ≡ cond (same_path item q) true had → (had || (same_path q item || rest)) ≡ all → (has || rest) ≡ all
+set_over item q had has rest all is was =
+    ap (λ b. b || rest) (is ∙ ap (λ t. cond t true had) (same_path_flips item q)) ∙ moves_over (same_path q item) had rest ∙ was
+
+or_false : (a : Bool) → (a || false) ≡ a
+or_false true = refl
+or_false false = refl
+
+pub none_over : {X : Type 0} (test : X → Bool) (xs : List X) (i : ℕ) (had : Bool) → length xs ≤ i → (had || list_any test (drop i xs)) ≡ list_any test xs → had ≡ list_any test xs
+none_over test xs i had end was = sym (or_false had) ∙ sym (ap (λ l. had || list_any test l) (none_left xs i end)) ∙ was
 
 -- ---- in a tree
 

@@ -1,7 +1,10 @@
 // The alias that a text is.
-ghost use Rattle.std.specs.Prelude.{◌≡◌, ◌<◌, true, is_some, IfOk, IsTrue, None, length};
+ghost use Rattle.std.specs.Prelude.{◌≡◌, ◌<◌, ℕ, List, true, is_some, IfOk, IsTrue, None, length};
+ghost use Rattle.std.specs.BTreeSet.{contains_by};
 ghost use Rattle.std.specs.List.{list_any};
-ghost use Rattle.sp_base.specs.Paths.{parent_of, seg_ok};
+ghost use Rattle.std.specs.Cmp.Lexicographic.{slice_cmp};
+ghost use Rattle.std.specs.Ordering.{nat_cmp};
+ghost use Rattle.sp_base.specs.Paths.{is_path, parent_of, seg_ok, text_of};
 ghost use Rattle.resource_tree.specs.Content.{IsTree, kid, node_at, same_path};
 ghost use Rattle.url_maps.specs.Claims.{IsIndexOf};
 ghost use Rattle.url_maps.specs.Search.{IsOf, first_kid, first_path, is_free};
@@ -11,6 +14,7 @@ use crate::pairs::{Pair, PairKind};
 use resource_tree::Tree;
 use sp_base::{Mem, NoMemory, Path, PathFault, a_path_and_its_text};
 use std::alloc::Global;
+use std::collections::BTreeSet;
 
 impl MapIndex {
     // The pair of an alias, if the tree has one with this prefix.
@@ -73,10 +77,11 @@ fn first_among(alloc: Global, tree: &Tree, parent: &Path, paths: &[Path]) -> Mem
     let Some(node) = tree.node(parent) else {
         return Ok(None);
     };
+    let among = text_set(alloc, paths)?;
     let names = node.kids.as_slice();
     for name in names {
         let kid = kid_path(alloc, parent, name.text())?;
-        if is_among(&kid, paths) {
+        if is_among(&kid, &among) {
             return Ok(Some(kid));
         }
     }
@@ -94,8 +99,25 @@ fn kid_path(alloc: Global, parent: &Path, name: &str) -> Mem<Path>
     }
 }
 
-fn is_among(path: &Path, paths: &[Path]) -> bool
-    ensures { result ≡ list_any (same_path path.now) paths.now }
+// The texts of some paths as a set, in which each is found without a walk over the others.
+fn text_set(alloc: Global, paths: &[Path]) -> Mem<BTreeSet<&str>>
+    ensures { IfOk result (λ set. (q : List (List ℕ)) → IsTrue (is_path q) → contains_by (λ t. slice_cmp nat_cmp (text_of q) t.now) set ≡ list_any (same_path q) paths.now) }
 {
-    paths.iter().any(|other| path == other)
+    a_path_and_its_text();
+    let mut set = BTreeSet::new(alloc);
+    for path in paths {
+        // `depth` says that the path is one.
+        let _ = path.depth();
+        set.insert(path.as_text())?;
+    }
+    Ok(set)
+}
+
+fn is_among(path: &Path, texts: &BTreeSet<&str>) -> bool
+    ensures value { result ≡ contains_by (λ t. slice_cmp nat_cmp (text_of path.now) t.now) texts.now }
+    ensures valid { IsTrue (is_path path.now) }
+{
+    // `depth` says that the path is one.
+    let _ = path.depth();
+    texts.contains(path.as_text())
 }

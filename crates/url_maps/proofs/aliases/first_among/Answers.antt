@@ -18,7 +18,7 @@ loop-name-preserved c =
     let parent = c.args.parent.now in
     let paths = c.args.paths.now in
     let kid_is : c.in_ok-kid.kid ≡ kid parent c.name-item.result = c.in_ok-kid.ensures ∙ ap (kid parent) c.text.ensures in
-    let fails : is_named parent paths c.name-item.result ≡ false = ap (λ p. list_any (same_path p) paths) (sym kid_is) ∙ sym c.is_among.ensures ∙ c.if-is_among.false in
+    let fails : is_named parent paths c.name-item.result ≡ false = ap (λ p. list_any (same_path p) paths) (sym kid_is) ∙ sym (c.in_ok-among.ensures c.in_ok-kid.kid c.is_among.ensures.valid) ∙ sym c.is_among.ensures.value ∙ c.if-is_among.false in
     find_on (is_named parent paths) c.as_slice-names.result.now c.loop-name.name-index c.name-item.result c.loop-name-test.true c.name-item.is fails c.loop-name.invariant
 
 pub returns-then-is_among : goal.returns-then-is_among
@@ -26,7 +26,7 @@ returns-then-is_among c =
     let parent = c.args.parent.now in
     let paths = c.args.paths.now in
     let kid_is : c.in_ok-kid.kid ≡ kid parent c.name-item.result = c.in_ok-kid.ensures ∙ ap (kid parent) c.text.ensures in
-    let passes_it : is_named parent paths c.name-item.result ≡ true = ap (λ p. list_any (same_path p) paths) (sym kid_is) ∙ sym c.is_among.ensures ∙ c.if-is_among.true in
+    let passes_it : is_named parent paths c.name-item.result ≡ true = ap (λ p. list_any (same_path p) paths) (sym kid_is) ∙ sym (c.in_ok-among.ensures c.in_ok-kid.kid c.is_among.ensures.valid) ∙ sym c.is_among.ensures.value ∙ c.if-is_among.true in
     ap (λ p. Some p) kid_is
     ∙ first_kid_is c.args.tree.now parent paths c.in-Some.node.now c.as_slice-names.result.now (Some c.name-item.result) (sym c.in-Some.ensures) c.as_slice-names.ensures
     (find_here (is_named parent paths) c.as_slice-names.result.now c.loop-name.name-index c.name-item.result c.loop-name-test.true c.name-item.is passes_it c.loop-name.invariant)

@@ -1,7 +1,6 @@
 -- What is left of a connection, when something happens to it.
-use Rattle.std.proofs.Common.{◌≡◌, ℕ, ◌<◌, ◌≤◌, ◌||◌, ◌+◌, zero, suc, Bool, true, false, cond, List, [], ◌∷◌, ◌++◌, length, drop, Option, Some, None, refl, ap, sym, subst, ◌∙◌, arith, append_assoc, append-nil, length-append}
+use Rattle.std.proofs.Common.{◌≡◌, ℕ, ◌||◌, ◌+◌, suc, Bool, true, false, cond, List, [], ◌∷◌, ◌++◌, length, drop, Option, Some, None, refl, ap, sym, subst, ◌∙◌, arith, append_assoc, append-nil, length-append}
 use Rattle.std.specs.Prelude.{IfSome, slice_get}
-use Rattle.std.proofs.lemmas.Grind.{common_steps}
 use Rattle.http_front.specs.Turns.{End, Spells}
 use Rattle.http_front.specs.Intakes.{StandsFor}
 use Rattle.http_front.specs.declared.fault.InFault.{InFault}
@@ -10,10 +9,10 @@ use Rattle.http_front.specs.declared.turn.Turn.{Turn}
 use Rattle.http_front.specs.declared.turn.Turn.TheVariants.{Continue, Whole}
 use Rattle.sp_base.specs.declared.answer.Answer.{Answer}
 use Rattle.connections.specs.Slots.{Slot, interim_slot, is_awaiting}
-use Rattle.connections.specs.Connections.{Close, Connection, Nothing, Treat, advanced, after_turn, due, due_at_turn, due_unsent, fed, filled, fresh, next_turn, with_answer, with_landing, with_sent, with_slot}
+use Rattle.connections.specs.Connections.{Close, Connection, Nothing, Treat, advanced, after_turn, due, due_at_turn, due_unsent, filled, fresh, next_turn, with_answer, with_landing, with_sent, with_slot}
 use Rattle.connections.specs.Histories.{IsDueSending}
 use Rattle.connections.specs.declared.sending.Sending.{Sending}
-use Rattle.connections.specs.Ties.{Tied, PlaceTied}
+use Rattle.connections.specs.Ties.{Tied}
 use Rattle.connections.specs.declared.outbox.Outbox.{Outbox}
 use Rattle.front.specs.Lines.{Holds, IsPaired, Keeps, Owes, Reads, Splits, Tells, TellsOn, begins_with_continue, end_of}
 use Rattle.front.specs.declared.line.Line.{Line}

@@ -1,5 +1,5 @@
 -- What events act on: the state of a run.
-use Rattle.std.specs.Prelude.{◌+◌, ℕ, List, [], ◌∷◌, Option}
+use Rattle.std.specs.Prelude.{◌+◌, ℕ, List, [], ◌∷◌, Option, None}
 use Rattle.sp_base.specs.declared.answer.Answer.{Answer}
 use Rattle.resource_tree.specs.Content.{Content}
 use Rattle.cover_rules.specs.declared.page.PageKey.{PageKey}
@@ -37,3 +37,7 @@ asked_in [] = 0
 asked_in (Asked number key ∷ entries) = asked_in entries + 1
 asked_in (Landed number answer fate ∷ entries) = asked_in entries
 asked_in (Lost number ∷ entries) = asked_in entries
+
+-- the state in which a run begins: no connection is open, and nothing was asked
+abbrev pub start_of : Publishing → Content → RunState
+start_of publishing content = record { publishing = publishing; content = content; line = λ c. None; lines = 0; air = []; log = record { entries = [] } }

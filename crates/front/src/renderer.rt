@@ -9,14 +9,13 @@ use std::alloc::Global;
 /// What answers requests on a content.
 pub trait Renderer {
     /// What a request is answered on a content.
-    ghost publishing: { Self → Publishing };
+    ghost publishing: { Publishing };
 
     /// The content of this moment.
     ghost content: { Self → Content };
 
     /// What a request is answered now.
     fn render(&mut self, alloc: Global, ask: &Ask) -> Mem<Answer>
-        ensures ok { IfOk result (λ a. a ≡ publishing self.old (content self.old) ask.now) }
-        ensures publishing { publishing self.new ≡ publishing self.old }
+        ensures ok { IfOk result (λ a. a ≡ publishing (content self.old) ask.now) }
         ensures content { content self.new ≡ content self.old };
 }

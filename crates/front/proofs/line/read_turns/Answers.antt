@@ -1,4 +1,4 @@
-use Rattle.std.proofs.Common.{Some, None, ap, sym, subst}
+use Rattle.std.proofs.Common.{Some, None, sym, subst}
 use Rattle.front.specs.Lines.{Tells}
 use Rattle.front.proofs.LineLemmas.{tells_end, tells_start, tells_step}
 use Rattle.front.proofs.line.read_turns.Goals as goal

@@ -1,0 +1,177 @@
+-- Whole steps of a front.
+use Rattle.std.proofs.Common.{◌≡◌, ℕ, ◌||◌, ◌&&◌, ◌++◌, Bool, true, false, List, [], ◌∷◌, Some, None, Result, Ok, Err, map, refl, ap, sym, subst, ◌∙◌, inl, inr}
+use Rattle.std.specs.Prelude.{IfOk, IsTrue, position, slice_get, slice_set}
+use Rattle.std.specs.Ordering.{nat_cmp}
+use Rattle.std.specs.BTreeMap.{BTreeMap, get, WritesThrough}
+use Rattle.sp_base.specs.declared.answer.Answer.{Answer}
+use Rattle.resource_tree.specs.Content.{Content}
+use Rattle.http_front.specs.Turns.{Waits}
+use Rattle.connections.specs.Connections.{Connection}
+use Rattle.front.specs.Boards.{BoardTells, BoardTied, Given, Meets, ReadAt, ServedAs, SkyTied, event_of}
+use Rattle.front.specs.Events.{Event, Extends, IsOrFixed, RenderTo, is_picked, is_unrendered, mood_notes, picked}
+use Rattle.front.specs.Fronts.{IsGiven, Stands, Tells}
+use Rattle.front.specs.Lines.{Holds, Reads}
+use Rattle.front.specs.Moves.{Serves, after, afters, with_rendered, with_rendered_at}
+use Rattle.front.specs.Publishers.{Publishing, ask_of, direct_answer}
+use Rattle.front.specs.States.{RunState}
+use Rattle.front.specs.declared.board.Board.{Board}
+use Rattle.front.specs.declared.flying.Flying.{Flying}
+use Rattle.front.specs.declared.line.Line.{Line}
+use Rattle.front.specs.declared.note.Note.{Note}
+use Rattle.front.specs.declared.note.Note.TheVariants.{Answer as answered, Idle, Rendered}
+use Rattle.front.specs.declared.serve.Served.TheVariants.{Said}
+use Rattle.front.specs.declared.sky.Sky.{Sky}
+use Rattle.front.specs.declared.step.Pick.{Pick}
+use Rattle.front.specs.declared.step.Step.{Step}
+use Rattle.front.specs.declared.step.Step.TheVariants.{Direct, Render}
+use Rattle.front.specs.declared.told.Told.{Told}
+use Rattle.front.proofs.BoardLemmas.{at-other, some-there}
+use Rattle.front.proofs.MoveLemmas.{afters-push, event-same, serves-push}
+use Rattle.front.proofs.SkyLemmas.{found-none, found-some, get-within, place, rising-set}
+
+-- what follows from what an answer is
+pub ok-map : {A E : Type 0} {P Q : A → Type 0} (r : Result A E) → IfOk r P → ((a : A) → P a → Q a) → IfOk r Q
+ok-map (Ok a) p f = f a p
+ok-map (Err e) p f = tt
+
+-- ---- a line that is there reads
+pub read-at : (b : Board) (lines : BTreeMap ℕ Line) (c : ℕ) (bytes : List ℕ) (k j : Line) → Some k ≡ get nat_cmp b.lines c → WritesThrough nat_cmp (nat_cmp c) b.lines j lines
+    → ((m : Connection) → Holds k m → Reads bytes m j) → ReadAt b (record { lines = lines; sky = b.sky }) c bytes
+read-at b lines c bytes k j here writes reads =
+    let updates = writes.3 (some-there _ k (sym here)) in
+    record {
+      before = k;
+      line = j;
+      before_is = sym here;
+      line_is = updates.1;
+      others = λ q other. updates.2 q (at-other c q other);
+      count = writes.2;
+      sky = refl;
+      reads = reads;
+    }
+
+-- ---- one note more
+or-left : (a b : Bool) → IsTrue a → IsTrue (a || b)
+or-left true b is = refl
+or-left false b is = absurd (let no : ⊥ = cc in no)
+
+or-right : (a b : Bool) → IsTrue b → IsTrue (a || b)
+or-right true b is = refl
+or-right false b is = is
+
+pub given-none : (told : Told) (w : RunState) (c : ℕ) (k : Line) (sky : Sky) → told.notes.items ≡ [] → Meets w c k sky → Given told.dry told.notes.items w c k sky
+given-none told w c k sky none meets = rw none (record { serves = λ m allows. tt; meets = meets })
+
+pub given-more : (told next : Told) (w : RunState) (c : ℕ) (k j : Line) (sky new : Sky) (note : Note) (dry : Bool) → Given told.dry told.notes.items w c k sky
+    → ((u : RunState) → Meets u c k sky → ServedAs (Said note dry) u c j new) → next.notes.items ≡ told.notes.items ++ note ∷ [] → next.dry ≡ (told.dry || dry) → Given next.dry next.notes.items w c j new
+given-more told next w c k j sky new note dry given served notes dried =
+    let one = served (afters w told.notes.items) given.meets in
+    record {
+      serves = λ m allows. subst (Serves m w c) (sym notes)
+          (serves-push m w c told.notes.items note (given.serves m (λ is. allows (sym-true (or-left told.dry dry is)))) (one.0 m (λ is. allows (sym-true (or-right told.dry dry is)))));
+      meets = subst (λ u. Meets u c j new) (sym (ap (afters w) notes ∙ afters-push w told.notes.items note)) one.1;
+    }
+  where
+    sym-true : IsTrue (told.dry || dry) → IsTrue next.dry
+    sym-true is = dried ∙ is
+
+-- ---- an answer past the connections
+pub either : {E : Type 0} (r : Result Answer E) (answer wanted : Answer) (dry : Bool) → IsGiven r answer dry → IfOk r (λ a. a ≡ wanted) → IsOrFixed (record { dry = dry }) answer wanted
+either (Ok a) answer wanted dry given ok = inl (given.0 ∙ ok)
+either (Err e) answer wanted dry given ok = inr (given.1, given.0)
+
+pub direct-event : (p : Publishing) (content later : Content) (b h : Board) (target : List ℕ) (answer : Answer) (dry : Bool) (told : Told) → later ≡ content → h ≡ b
+    → IsOrFixed (record { dry = dry }) answer (direct_answer p content target) → told.notes.items ≡ answered answer ∷ [] → told.dry ≡ dry → Tells (Stands p content b) (Stands p later h) (Direct target) told
+direct-event p content later b h target answer dry told same_content same_board given notes dried = λ w stands.
+    let wanted : direct_answer w.publishing w.content target ≡ direct_answer p content target = rw (stands.publishing_is, stands.content_is) refl in
+    let or : IsOrFixed (record { dry = told.dry }) answer (direct_answer w.publishing w.content target) = rw (wanted, dried) given in
+    record {
+      turns = [];
+      ends = Waits;
+      happens = (answer, or, notes);
+      stands = subst (Stands p later h) (sym (ap (afters w) notes)) (record {
+        publishing_is = stands.publishing_is;
+        content_is = stands.content_is ∙ sym same_content;
+        board_is = subst (λ x. BoardTied x w) (sym same_board) stands.board_is;
+      });
+    }
+
+-- ---- a flight is rendered
+pub render-none : (p : Publishing) (content : Content) (b : Board) (pick : Pick) (told : Told) → position (λ flying. is_picked pick flying && is_unrendered flying) b.sky.flights.items ≡ None → told.notes.items ≡ Idle ∷ []
+    → Tells (Stands p content b) (Stands p content b) (Render pick) told
+render-none p content b pick told none notes = λ w stands.
+    let e : Event = event_of (Render pick) told [] Waits in
+    let no : picked pick is_unrendered w.air ≡ None = ap (picked pick is_unrendered) (sym stands.board_is.sky.air) ∙ found-none (λ flying. is_picked pick flying && is_unrendered flying) b.sky.flights.items none in
+    record {
+      turns = [];
+      ends = Waits;
+      happens = subst (RenderTo w e) (sym no) notes;
+      stands = subst (Stands p content b) (sym (ap (afters w) notes)) stands;
+    }
+
+sky-rendered : (old new : Sky) (w : RunState) (at : ℕ) (f : Flying) (answer : Answer) → SkyTied old w → slice_get old.flights.items at ≡ Some f → new.flights.items ≡ slice_set old.flights.items at (with_rendered answer f) → new.asked ≡ old.asked
+    → SkyTied new (after w (Rendered f.number answer))
+sky-rendered old new w at f answer tied here flights asked = record {
+  air = flights ∙ sym ((place 0 old.flights.items old.asked at f tied.rising here).set answer) ∙ ap (map (with_rendered_at f.number answer)) tied.air;
+  asked = asked ∙ tied.asked;
+  rising = rw (flights, asked) (rising-set 0 old.flights.items old.asked at f answer tied.rising here);
+}
+
+pub render-event : (p : Publishing) (content later : Content) (b mid h : Board) (pick : Pick) (at n : ℕ) (answer copy : Answer) (dry : Bool) (told : Told) → later ≡ content → mid ≡ b
+    → position (λ flying. is_picked pick flying && is_unrendered flying) b.sky.flights.items ≡ Some at
+    → ((f : Flying) → slice_get b.sky.flights.items at ≡ Some f → IsOrFixed (record { dry = dry }) answer (p content (ask_of f.request)))
+    → copy ≡ answer → ((f : Flying) → slice_get mid.sky.flights.items at ≡ Some f → n ≡ f.number)
+    → ((f : Flying) → slice_get mid.sky.flights.items at ≡ Some f → h.sky.flights.items ≡ slice_set mid.sky.flights.items at (with_rendered copy f)) → h.sky.asked ≡ mid.sky.asked → h.lines ≡ mid.lines
+    → told.notes.items ≡ Rendered n answer ∷ [] → told.dry ≡ dry → Tells (Stands p content b) (Stands p later h) (Render pick) told
+render-event p content later b mid h pick at n answer copy dry told same_content same_board found given copied number flights asked lines notes dried = λ w stands.
+    let e : Event = event_of (Render pick) told [] Waits in
+    let found_at = found-some (λ flying. is_picked pick flying && is_unrendered flying) b.sky.flights.items at found in
+    let there = get-within b.sky.flights.items at found_at.0 in
+    let f = there.0 in
+    let here : slice_get mid.sky.flights.items at ≡ Some f = ap (λ (x : Board). slice_get x.sky.flights.items at) same_board ∙ there.1 in
+    let some : picked pick is_unrendered w.air ≡ Some f = ap (picked pick is_unrendered) (sym stands.board_is.sky.air) ∙ found_at.1 ∙ there.1 in
+    let wanted : w.publishing w.content (ask_of f.request) ≡ p content (ask_of f.request) = rw (stands.publishing_is, stands.content_is) refl in
+    let or : IsOrFixed (record { dry = told.dry }) answer (w.publishing w.content (ask_of f.request)) = rw (wanted, dried) (given f there.1) in
+    let note : told.notes.items ≡ Rendered f.number answer ∷ [] = notes ∙ ap (λ x. Rendered x answer ∷ []) (number f here) in
+    let set : h.sky.flights.items ≡ slice_set b.sky.flights.items at (with_rendered answer f) =
+    flights f here ∙ ap (λ a. slice_set mid.sky.flights.items at (with_rendered a f)) copied ∙ ap (λ (x : Board). slice_set x.sky.flights.items at (with_rendered answer f)) same_board in
+    let counted : h.sky.asked ≡ b.sky.asked = asked ∙ ap (λ (x : Board). x.sky.asked) same_board in
+    let same_lines : h.lines ≡ b.lines = lines ∙ ap (λ (x : Board). x.lines) same_board in
+    record {
+      turns = [];
+      ends = Waits;
+      happens = subst (RenderTo w e) (sym some) (answer, or, note);
+      stands = subst (Stands p later h) (sym (ap (afters w) note)) (record {
+        publishing_is = stands.publishing_is;
+        content_is = stands.content_is ∙ sym same_content;
+        board_is = record {
+          lines = rw same_lines (record { each = stands.board_is.lines.each; count = stands.board_is.lines.count });
+          sky = sky-rendered b.sky h.sky w at f answer stands.board_is.sky there.1 set counted;
+        };
+      });
+    }
+
+-- ---- a step of the board
+pub board-tells : (p : Publishing) (content : Content) (b h : Board) (step : Step) (told : Told) → BoardTells b h step told → Tells (Stands p content b) (Stands p content h) step told
+board-tells p content b h step told tells = λ w stands.
+    let done = tells w stands.board_is in
+    let e : Event = event_of step told done.turns done.ends in
+    let stays = event-same w e in
+    record {
+      turns = done.turns;
+      ends = done.ends;
+      happens = done.happens;
+      stands = record { publishing_is = stays.publishing ∙ stands.publishing_is; content_is = stays.content ∙ stands.content_is; board_is = done.stands };
+    }
+
+-- ---- the notes of a step
+pub extends : (Before After : RunState → Type 0) (step : Step) (told : Told) (notes : List Note) → Tells Before After step told → notes ≡ told.notes.items ++ mood_notes (record { dry = told.dry }) → Extends Before After step notes
+extends Before After step told notes tells is = record {
+  extended = λ w before.
+      let done = tells w before in
+      record { event = event_of step told done.turns done.ends; step_is = refl; notes_are = sym is; happens = done.happens; stands = done.stands };
+}
+
+pub ok-map-two : {A E : Type 0} {P Q R : A → Type 0} (r : Result A E) → IfOk r P → IfOk r Q → ((a : A) → P a → Q a → R a) → IfOk r R
+ok-map-two (Ok a) p q f = f a p q
+ok-map-two (Err e) p q f = tt

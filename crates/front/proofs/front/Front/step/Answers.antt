@@ -1,0 +1,5 @@
+use Rattle.front.proofs.FrontLemmas.{extends}
+use Rattle.front.proofs.front.Front.step.Goals as goal
+
+pub returns : goal.returns
+returns g c = extends _ _ c.args.step.now c.in_ok-told.told c.in_ok-notes.notes c.in_ok-told.ensures c.in_ok-notes.ensures

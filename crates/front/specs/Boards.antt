@@ -1,0 +1,175 @@
+-- What a front keeps of its connections and flights. (Of the theorem's reader this file is no concern.)
+use Rattle.std.specs.Prelude.{◌≡◌, ◌≢◌, ◌<◌, ◌≤◌, ◌||◌, ℕ, Bool, if◌then◌else◌, nat_le, nat_eq, List, [], ◌∷◌, Option, Some, None, IsTrue, length}
+use Rattle.std.specs.BTreeMap.{BTreeMap, get, btree_map_len}
+use Rattle.std.specs.Ordering.{nat_cmp}
+use Rattle.std.specs.Map.{update}
+use Rattle.std.specs.Option.{option_map}
+use Rattle.sp_base.specs.declared.answer.Answer.{Answer}
+use Rattle.sp_base.specs.declared.answer.Req.{Req}
+use Rattle.http_front.specs.Turns.{End}
+use Rattle.http_front.specs.declared.fault.InFault.{InFault}
+use Rattle.http_front.specs.declared.turn.Turn.{Turn}
+use Rattle.http_front.specs.declared.turn.Turn.TheVariants.{Whole}
+use Rattle.connections.specs.Connections.{Connection, Close, Nothing, Refuse, Treat, due_unsent, with_landing}
+use Rattle.connections.specs.Connections as model
+use Rattle.connections.specs.Ties.{Tied}
+use Rattle.front.specs.declared.board.Board.{Board}
+use Rattle.front.specs.declared.flying.Flying.{Flying}
+use Rattle.front.specs.declared.line.Line.{Line}
+use Rattle.front.specs.declared.note.Note.{Note}
+use Rattle.front.specs.declared.serve.Served.{Served}
+use Rattle.front.specs.declared.serve.Served.TheVariants.{Said, Quiet, Ended}
+use Rattle.front.specs.declared.sky.Sky.{Sky}
+use Rattle.front.specs.declared.step.Step.{Step}
+use Rattle.front.specs.declared.told.Told.{Told}
+use Rattle.front.specs.Events.{Event, Happens, after_event}
+use Rattle.front.specs.Lines.{Holds, Owes, Reads}
+use Rattle.front.specs.Moves.{Mood, Gives, Serves, Settles, after, afters, due, most_flights, most_numbers}
+use Rattle.front.specs.States.{RunState, asked_in}
+
+-- ---- flights
+
+-- the numbers of the flights rise, all above the one and none above the other
+abbrev pub AreRising : ℕ → List Flying → ℕ → Type 0
+AreRising least [] most = least ≤ most
+AreRising least (flying ∷ air) most = (least < flying.number) × AreRising flying.number air most
+
+-- the flights are those in the air, and as many were asked
+pub record SkyTied (sky : Sky) (w : RunState) : Type 0 where
+  pub air : sky.flights.items ≡ w.air
+  pub asked : sky.asked ≡ asked_in w.log.entries
+  pub rising : AreRising 0 sky.flights.items sky.asked
+
+-- no further flight is asked
+abbrev pub is_full_sky : Sky → Bool
+is_full_sky sky = nat_le most_flights (length sky.flights.items) || nat_le most_numbers sky.asked
+
+-- ---- connections
+
+-- what is kept is what is left of the connection
+abbrev pub LineTied : Option Line → Option Connection → Type 0
+LineTied None None = Unit {0}
+LineTied None (Some c) = ⊥
+LineTied (Some k) None = ⊥
+LineTied (Some k) (Some c) = Holds k c
+
+-- each connection has its line
+pub record LinesTied (lines : BTreeMap ℕ Line) (w : RunState) : Type 0 where
+  pub each : (c : ℕ) → LineTied (get nat_cmp lines c) (w.line c)
+  pub count : btree_map_len lines ≡ w.lines
+
+-- the board is what is left of the state
+pub record BoardTied (board : Board) (w : RunState) : Type 0 where
+  pub lines : LinesTied board.lines w
+  pub sky : SkyTied board.sky w
+
+-- ---- one connection beside the flights
+
+-- memory may have been wanting
+abbrev pub Allows : Bool → Mood → Type 0
+Allows dry m = IsTrue dry → IsTrue m.dry
+
+-- the connection is there, with its line and the flights
+pub record Meets (w : RunState) (c : ℕ) (k : Line) (sky : Sky) : Type 0 where
+  pub connection : Connection
+  pub open_is : w.line c ≡ Some connection
+  pub holds : Holds k connection
+  pub sky_is : SkyTied sky w
+
+-- the same where nothing of the connection can be sent
+pub record MeetsUnsent (w : RunState) (c : ℕ) (k : Line) (sky : Sky) : Type 0 where
+  pub meets : Meets w c k sky
+  pub unsent : model.due meets.connection ≡ due_unsent meets.connection
+
+-- a slot is owed for a request that was taken
+pub record OwesRequest (w : RunState) (c : ℕ) (k : Line) (sky : Sky) (request : Req) : Type 0 where
+  pub connection : Connection
+  pub open_is : w.line c ≡ Some connection
+  pub due_is : model.due connection ≡ Treat (Whole request)
+  pub owes : Owes k connection
+  pub sky_is : SkyTied sky w
+
+-- a slot is owed for a fault that was taken
+pub record OwesFault (w : RunState) (c : ℕ) (k : Line) (sky : Sky) (fault : InFault) : Type 0 where
+  pub connection : Connection
+  pub open_is : w.line c ≡ Some connection
+  pub due_is : model.due connection ≡ Refuse fault
+  pub tied : Tied k.outbox connection
+  pub sky_is : SkyTied sky w
+
+-- in such an event the note gives what is owed
+abbrev pub GivesDry : Bool → RunState → ℕ → Note → Type 0
+GivesDry dry w c note = (m : Mood) → Allows dry m → Gives m w c (due w c) note
+
+abbrev pub ServesDry : Bool → RunState → ℕ → List Note → Type 0
+ServesDry dry w c notes = (m : Mood) → Allows dry m → Serves m w c notes
+
+abbrev pub SettlesDry : Bool → RunState → ℕ → List Note → Type 0
+SettlesDry dry w c notes = (m : Mood) → Allows dry m → Settles m w c notes
+
+-- one note was given, or none is owed, or the connection's end is
+abbrev pub ServedAs : Served → RunState → ℕ → Line → Sky → Type 0
+ServedAs (Said note dry) w c k sky = GivesDry dry w c note × Meets (after w note) c k sky
+ServedAs Quiet w c k sky = (due w c ≡ Nothing) × Meets w c k sky
+ServedAs Ended w c k sky = (due w c ≡ Close) × Meets w c k sky
+
+-- less is owed after it, where a note was given
+abbrev pub IsLess : Served → ℕ → ℕ → Type 0
+IsLess (Said note dry) left before = left < before
+IsLess Quiet left before = Unit {0}
+IsLess Ended left before = Unit {0}
+
+-- these notes were given
+pub record Given (dry : Bool) (notes : List Note) (w : RunState) (c : ℕ) (k : Line) (sky : Sky) : Type 0 where
+  pub serves : ServesDry dry w c notes
+  pub meets : Meets (afters w notes) c k sky
+
+-- the end is owed, or nothing
+abbrev pub end_or_nothing : Bool → model.Due
+end_or_nothing over = if over then Close else Nothing
+
+-- all that is owed was given, but for the end
+pub record AllGiven (told : Told) (over : Bool) (w : RunState) (c : ℕ) (k : Line) (sky : Sky) : Type 0 where
+  pub given : Given told.dry told.notes.items w c k sky
+  pub then_due : due (afters w told.notes.items) c ≡ end_or_nothing over
+
+-- ---- whole events
+
+-- the event of a step with these notes
+abbrev pub event_of : Step → Told → List Turn → End → Event
+event_of step told turns ends = record { step = step; body = told.notes.items; mood = record { dry = told.dry }; turns = turns; ends = ends }
+
+-- what was told is an event of this step
+pub record Happened (Stands : RunState → Type 0) (w : RunState) (step : Step) (told : Told) : Type 0 where
+  pub turns : List Turn
+  pub ends : End
+  pub happens : Happens w (event_of step told turns ends)
+  pub stands : Stands (after_event w (event_of step told turns ends))
+
+abbrev pub BoardTells : Board → Board → Step → Told → Type 0
+BoardTells old new step told = (w : RunState) → BoardTied old w → Happened (BoardTied new) w step told
+
+-- the line at this number has read the bytes, and the others are as before
+pub record ReadAt (old new : Board) (c : ℕ) (bytes : List ℕ) : Type 0 where
+  pub before : Line
+  pub line : Line
+  pub before_is : get nat_cmp old.lines c ≡ Some before
+  pub line_is : get nat_cmp new.lines c ≡ Some line
+  pub others : (q : ℕ) → q ≢ c → get nat_cmp new.lines q ≡ get nat_cmp old.lines q
+  pub count : btree_map_len new.lines ≡ btree_map_len old.lines
+  pub sky : new.sky ≡ old.sky
+  pub reads : (connection : Connection) → Holds before connection → Reads bytes connection line
+
+-- the flight is out of the air, and its connection isn't told yet
+pub record Landing (board : Board) (w v : RunState) (c number : ℕ) (answer : Answer) : Type 0 where
+  pub lines : LinesTied board.lines w
+  pub line_is : v.line ≡ update nat_eq w.line c (option_map (with_landing number answer) (w.line c))
+  pub count_is : v.lines ≡ w.lines
+  pub sky : SkyTied board.sky v
+
+-- after the first note the connection was given all that it is owed
+pub record FirstThen (first : Note) (v : RunState) (c : ℕ) (told : Told) (board : Board) : Type 0 where
+  pub rest : List Note
+  pub begins : told.notes.items ≡ first ∷ rest
+  pub settles : SettlesDry told.dry v c rest
+  pub board_is : BoardTied board (afters v rest)

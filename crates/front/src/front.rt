@@ -1,0 +1,126 @@
+//! The front: one call for each step.
+ghost use Rattle.std.specs.Prelude.{◌≡◌, ◌<◌, IfOk, Some, length, slice_get};
+ghost use Rattle.front.specs.declared.step.Step.TheVariants.{Direct, Render};
+ghost use Rattle.front.specs.Events.{Extends};
+ghost use Rattle.front.specs.Fronts.{IsGiven, Stands, Tells};
+ghost use Rattle.front.specs.Publishers as publishers;
+ghost use Rattle.front.specs.Publishers.{direct_answer};
+ghost use Rattle.front.specs.States.{start_of};
+
+use crate::asking::{ask_of, copied, fixed_answer, get_of};
+use crate::board::Board;
+use crate::flying::Flying;
+use crate::note::{Note, NoteList};
+use crate::renderer::Renderer;
+use crate::step::{Pick, Step};
+use crate::told::Told;
+use error_answers::error_answer;
+use http_front::read_target;
+use sp_base::{Answer, Mem};
+use std::alloc::Global;
+
+/// Connections before a publisher, and the flights between them.
+#[derive(Drop)]
+pub struct Front<R: Renderer + Drop> {
+    renderer: R,
+    board: Board,
+}
+
+/// An answer, and whether it is the fixed one since memory was wanting.
+#[derive(Drop)]
+pub(crate) struct OrFixed {
+    answer: Answer,
+    dry: bool,
+}
+
+impl<R: Renderer + Drop> Front<R> {
+    /// A front without a connection.
+    pub fn new(alloc: Global, renderer: R) -> Self
+        ensures { Stands R.publishing (R.content result.renderer) result.board (start_of R.publishing (R.content renderer)) }
+    {
+        Front {
+            renderer,
+            board: Board::new(alloc),
+        }
+    }
+
+    /// One step, with what happens in it: its event. An `Err` ends the run.
+    pub fn step(&mut self, alloc: Global, step: &Step) -> Mem<NoteList>
+        ensures { IfOk result (λ notes. Extends (Stands R.publishing (R.content self.old.renderer) self.old.board) (Stands R.publishing (R.content self.new.renderer) self.new.board) step.now notes) }
+    {
+        let told = self.told(alloc, step)?;
+        let notes = told.all()?;
+        Ok(notes)
+    }
+
+    fn told(&mut self, alloc: Global, step: &Step) -> Mem<Told>
+        ensures { IfOk result (λ told. Tells (Stands R.publishing (R.content self.old.renderer) self.old.board) (Stands R.publishing (R.content self.new.renderer) self.new.board) step.now told) }
+    {
+        match step {
+            Step::Opened(c, _) => self.board.open(alloc, *c),
+            Step::Piece(c, bytes) => self.board.piece(alloc, *c, bytes),
+            Step::Gone(c) => self.board.close(alloc, *c),
+            Step::Direct(target) => self.direct(alloc, target.text().as_bytes()),
+            Step::Render(pick) => self.render(alloc, pick),
+            Step::Deliver(pick) => self.board.deliver(alloc, pick),
+            Step::Lose(pick) => self.board.lose(alloc, pick),
+        }
+    }
+
+    fn direct(&mut self, alloc: Global, target: &[u8]) -> Mem<Told>
+        ensures { IfOk result (λ told. Tells (Stands R.publishing (R.content self.old.renderer) self.old.board) (Stands R.publishing (R.content self.new.renderer) self.new.board) (Direct target.now) told) }
+    {
+        let answer = self.direct_answer(alloc, target);
+        let OrFixed { answer, dry } = or_fixed(alloc, answer)?;
+        Told::one(alloc, Note::Answer(answer), dry)
+    }
+
+    fn render(&mut self, alloc: Global, pick: &Pick) -> Mem<Told>
+        ensures { IfOk result (λ told. Tells (Stands R.publishing (R.content self.old.renderer) self.old.board) (Stands R.publishing (R.content self.new.renderer) self.new.board) (Render pick.now) told) }
+    {
+        let Some(at) = self.board.sky.unrendered(pick) else {
+            return Told::one(alloc, Note::Idle, false);
+        };
+        let answer = self.rendered(alloc, at);
+        let OrFixed { answer, dry } = or_fixed(alloc, answer)?;
+        let copy = copied(alloc, &answer)?;
+        let number = self.board.sky.render(at, copy);
+        Told::one(alloc, Note::Rendered(number, answer), dry)
+    }
+
+    // The publisher's answer to a target.
+    fn direct_answer(&mut self, alloc: Global, target: &[u8]) -> Mem<Answer>
+        ensures ok { IfOk result (λ a. a ≡ direct_answer R.publishing (R.content self.old.renderer) target.now) }
+        ensures content { R.content self.new.renderer ≡ R.content self.old.renderer }
+        ensures board { self.new.board ≡ self.old.board }
+    {
+        match read_target(alloc, target)? {
+            Some(target) => self.renderer.render(alloc, &get_of(alloc, target)?),
+            None => error_answer(alloc, 400),
+        }
+    }
+
+    // The publisher's answer to the request of the flight at a place.
+    fn rendered(&mut self, alloc: Global, at: usize) -> Mem<Answer>
+        requires { at < length self.old.board.sky.flights.items }
+        ensures ok { IfOk result (λ a. (flying : Flying) → slice_get self.old.board.sky.flights.items at ≡ Some flying → a ≡ R.publishing (R.content self.old.renderer) (publishers.ask_of flying.request)) }
+        ensures content { R.content self.new.renderer ≡ R.content self.old.renderer }
+        ensures board { self.new.board ≡ self.old.board }
+    {
+        let ask = ask_of(alloc, &self.board.sky.flights[at].request)?;
+        self.renderer.render(alloc, &ask)
+    }
+}
+
+// The answer, or the fixed one where memory was wanting.
+fn or_fixed(alloc: Global, answer: Mem<Answer>) -> Mem<OrFixed>
+    ensures { IfOk result (λ given. IsGiven answer given.answer given.dry) }
+{
+    match answer {
+        Ok(answer) => Ok(OrFixed { answer, dry: false }),
+        Err(_) => Ok(OrFixed {
+            answer: fixed_answer(alloc)?,
+            dry: true,
+        }),
+    }
+}

@@ -6,7 +6,7 @@ use Rattle.replay_text.specs.Scenario.{AreActs, AreBlock, act_lines, SpellsScena
 use Rattle.replay_text.specs.Reading.{SpellsBody, IsBody, IsContent, EndsBlock, Refuses, fault_further, FirstLine, Lacks, Acts}
 use Rattle.replay_text.specs.declared.scenario.ScenarioFault.{ScenarioFault}
 use Rattle.replay_text.specs.declared.scenario.ScenarioFault.TheVariants.{Line, NoMemory}
-use Rattle.replay_text.specs.declared.scenario.Act.{Act}
+use Rattle.replay_text.specs.declared.event_line.EventLine.{EventLine}
 use Rattle.replay_text.specs.declared.scenario.Scenario.{Scenario}
 use Rattle.replay_text.proofs.LineLaws.{newlines-append, one_first_line}
 use Rattle.replay_text.proofs.Refusals.{refused_line, refused_end}
@@ -18,12 +18,12 @@ text_of_lines-append [] b = refl
 text_of_lines-append (l ∷ a) b = ap (λ t. l ++ 10 ∷ t) (text_of_lines-append a b) ∙ sym (append_assoc l (10 ∷ text_of_lines a) (text_of_lines b))
 
 -- what a body is, taken apart
-body_from : (block : List (List ℕ)) (acts : List Act) (r : List ℕ) → AreLines block → AreBlock block → AreActs acts
+body_from : (block : List (List ℕ)) (acts : List EventLine) (r : List ℕ) → AreLines block → AreBlock block → AreActs acts
     → r ≡ text_of_lines (block ++ codes "." ∷ act_lines acts) → IsBody r
 body_from block acts r lines dots oks e =
     (record { content = text_of_lines block; acts = acts }, record { block = block; lines = lines; no_dot = dots; content = refl; acts = oks; text_is = e })
 
-behind_block_of : (line r : List ℕ) (block : List (List ℕ)) (acts : List Act) → newlines line ≡ 0 → line ≢ codes "."
+behind_block_of : (line r : List ℕ) (block : List (List ℕ)) (acts : List EventLine) → newlines line ≡ 0 → line ≢ codes "."
     → AreLines block → AreBlock block → AreActs acts → line ++ 10 ∷ r ≡ text_of_lines (block ++ codes "." ∷ act_lines acts) → IsBody r
 behind_block_of line r [] acts one other lines dots oks e =
     absurd (other (one_first_line line (codes ".") r (text_of_lines (act_lines acts)) one refl e).0)
@@ -37,7 +37,7 @@ pub before_block_line : (line : List ℕ) → newlines line ≡ 0 → line ≢ c
 before_block_line line one other r b =
     body_from (line ∷ b.1.block) b.0.acts (line ++ 10 ∷ r) (one, b.1.lines) (other, b.1.no_dot) b.1.acts (ap (λ t. line ++ 10 ∷ t) b.1.text_is)
 
-behind_dot_of : (r : List ℕ) (block : List (List ℕ)) (acts : List Act)
+behind_dot_of : (r : List ℕ) (block : List (List ℕ)) (acts : List EventLine)
     → AreLines block → AreBlock block → AreActs acts → codes "." ++ 10 ∷ r ≡ text_of_lines (block ++ codes "." ∷ act_lines acts) → Acts r
 behind_dot_of r [] acts lines dots oks e = (acts, oks, (one_first_line (codes ".") (codes ".") r (text_of_lines (act_lines acts)) refl refl e).1)
 behind_dot_of r (l ∷ block) acts lines dots oks e =

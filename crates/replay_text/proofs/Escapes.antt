@@ -1,6 +1,6 @@
 -- A quoted text is read back: which byte an escape stands for, and where it ends.
-use Rattle.std.proofs.Common.{◌≡◌, ◌≢◌, ◌+◌, ◌-◌, ◌*◌, ◌/◌, ◌%◌, ◌<◌, ◌≤◌, ◌++◌, ◌&&◌, ◌==◌, ◌∙◌, ℕ, Bool, true, false, List, [], ◌∷◌, codes, sym, ap, subst, refl, arith, length, drop, get_or, eqb, append_assoc, ⊎_elim, if◌then◌else◌}
-use Rattle.std.specs.Prelude.{flat_map, nat_lt, nat_le}
+use Rattle.std.proofs.Common.{◌≡◌, ◌≢◌, ◌/◌, ◌%◌, ◌<◌, ◌≤◌, ◌++◌, ◌&&◌, ◌==◌, ◌∙◌, ℕ, Bool, true, false, List, [], ◌∷◌, codes, sym, ap, subst, refl, arith, length, drop, get_or, eqb, append_assoc, ⊎_elim, if◌then◌else◌}
+use Rattle.std.specs.Prelude.{flat_map, nat_le}
 use Rattle.std.proofs.lemmas.Bool.{cases_eq, cases_lt}
 use Rattle.std.proofs.lemmas.Bool.Decides.{nat_tests}
 use Rattle.replay_text.specs.Transcript.{hex, quoted_byte, quotation}

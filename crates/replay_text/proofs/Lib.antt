@@ -1,4 +1,6 @@
 pub mod LineLaws
+pub mod NumberLemmas
+pub mod EventLaws
 pub mod Refusals
 pub mod ActLaws
 pub mod ReadingActs
@@ -7,5 +9,6 @@ pub mod Limits
 pub mod Texts
 pub mod OneReading
 pub mod Escapes
+pub mod PageLaws
 pub mod Telling
 pub mod WordLemmas

@@ -3,13 +3,12 @@ use Rattle.std.proofs.lemmas.List.{take_all}
 use Rattle.std.proofs.lemmas.Bool.{cases_eq}
 use Rattle.replay_text.specs.Lines.{text_of_lines, AreLines}
 use Rattle.replay_text.specs.Languages.{IsPrefixIn, IsRefusedBy}
-use Rattle.replay_text.specs.Scenario.{act_line, AreActs, AreBlock, act_lines, SpellsScenario, IsScenario}
-use Rattle.replay_text.specs.declared.scenario.Act.{Act}
-use Rattle.replay_text.specs.declared.scenario.Act.TheVariants.{Do}
-use Rattle.replay_text.specs.declared.scenario.Step.TheVariants.{Direct}
+use Rattle.replay_text.specs.Scenario.{AreActs, AreBlock, act_lines, SpellsScenario, IsScenario}
+use Rattle.replay_text.specs.EventLines.{line_of}
+use Rattle.replay_text.specs.declared.event_line.EventLine.{EventLine}
 use Rattle.replay_text.specs.declared.scenario.Scenario.{Scenario}
 use Rattle.replay_text.proofs.LineLaws.{one_first_line}
-use Rattle.replay_text.proofs.ActLaws.{newlines-act_line, act_is_not_end}
+use Rattle.replay_text.proofs.EventLaws.{newlines-line_of, one_event, event_is_not_end}
 use Rattle.replay_text.proofs.BodyLaws.{before_first, before_content, some_body}
 
 -- A text is refused at one line: the definition leaves no choice.
@@ -32,22 +31,19 @@ refused_once Text Front bytes n m start p q = ⊎_elim
     (cases_eq n m)
 
 -- A text spells one scenario.
-one_act : (a b : Act) → act_line a ≡ act_line b → a ≡ b
-one_act (Do (Direct s)) (Do (Direct t)) e = cc
-
-one_act_list : (xs ys : List Act) → AreActs xs → AreActs ys → text_of_lines (act_lines xs) ≡ text_of_lines (act_lines ys) → xs ≡ ys
+one_act_list : (xs ys : List EventLine) → AreActs xs → AreActs ys → text_of_lines (act_lines xs) ≡ text_of_lines (act_lines ys) → xs ≡ ys
 one_act_list [] [] p q e = refl
 one_act_list [] (y ∷ ys) p q e =
-    absurd (act_is_not_end y (sym (one_first_line (codes "end") (act_line y) [] (text_of_lines (act_lines ys)) refl (newlines-act_line y q.0) e).0))
+    absurd (event_is_not_end y (sym (one_first_line (codes "end") (line_of y) [] (text_of_lines (act_lines ys)) refl (newlines-line_of y q.0) e).0))
 one_act_list (x ∷ xs) [] p q e =
-    absurd (act_is_not_end x (one_first_line (act_line x) (codes "end") (text_of_lines (act_lines xs)) [] (newlines-act_line x p.0) refl e).0)
+    absurd (event_is_not_end x (one_first_line (line_of x) (codes "end") (text_of_lines (act_lines xs)) [] (newlines-line_of x p.0) refl e).0)
 one_act_list (x ∷ xs) (y ∷ ys) p q e =
-    let same = one_first_line (act_line x) (act_line y) (text_of_lines (act_lines xs)) (text_of_lines (act_lines ys)) (newlines-act_line x p.0) (newlines-act_line y q.0) e in
-    let heads = one_act x y same.0 in
+    let same = one_first_line (line_of x) (line_of y) (text_of_lines (act_lines xs)) (text_of_lines (act_lines ys)) (newlines-line_of x p.0) (newlines-line_of y q.0) e in
+    let heads = one_event x y p.0 q.0 same.0 in
     let tails = one_act_list xs ys p.1 q.1 same.1 in
     cc (heads, tails)
 
-one_block : (b d : List (List ℕ)) (xs ys : List Act) → AreLines b → AreLines d → AreBlock b → AreBlock d → AreActs xs → AreActs ys
+one_block : (b d : List (List ℕ)) (xs ys : List EventLine) → AreLines b → AreLines d → AreBlock b → AreBlock d → AreActs xs → AreActs ys
     → text_of_lines (b ++ codes "." ∷ act_lines xs) ≡ text_of_lines (d ++ codes "." ∷ act_lines ys) → (b ≡ d) × (xs ≡ ys)
 one_block [] [] xs ys lb ld nb nd p q e =
     (refl, one_act_list xs ys p q (one_first_line (codes ".") (codes ".") (text_of_lines (act_lines xs)) (text_of_lines (act_lines ys)) refl refl e).1)
@@ -62,7 +58,7 @@ one_block (l ∷ b) (k ∷ d) xs ys lb ld nb nd p q e =
 
 same_scenario : (s t : Scenario) → s.content ≡ t.content → s.acts ≡ t.acts → s ≡ t
 same_scenario s t e k =
-    let make : List ℕ → List Act → Scenario = λ content acts. record { content = content; acts = acts } in
+    let make : List ℕ → List EventLine → Scenario = λ content acts. record { content = content; acts = acts } in
     ap (λ content. make content s.acts) e ∙ ap (λ acts. make t.content acts) k
 
 pub one_reading : (text : List ℕ) (s t : Scenario) → SpellsScenario text s → SpellsScenario text t → s ≡ t

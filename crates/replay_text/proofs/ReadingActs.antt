@@ -2,17 +2,18 @@ use Rattle.std.proofs.Common.{◌≡◌, ◌≢◌, ◌+◌, ◌≤◌, ◌++◌
 use Rattle.std.proofs.lemmas.List.{append-nil}
 use Rattle.replay_text.specs.Lines.{newlines, text_of_lines}
 use Rattle.replay_text.specs.Languages.{IsRefused}
-use Rattle.replay_text.specs.Scenario.{act_line, IsAct, AreActs, act_lines}
+use Rattle.replay_text.specs.Scenario.{AreActs, act_lines}
+use Rattle.replay_text.specs.EventLines.{line_of, IsEventLine}
 use Rattle.replay_text.specs.Reading.{FirstLine, Acts}
-use Rattle.replay_text.specs.declared.scenario.Act.{Act}
+use Rattle.replay_text.specs.declared.event_line.EventLine.{EventLine}
 use Rattle.replay_text.proofs.LineLaws.{newlines-append}
 use Rattle.replay_text.proofs.Refusals.{refused_behind, refused_line, refused_end, refused_more, IsNothing}
 use Rattle.replay_text.proofs.ActLaws.{behind_act, before_acts, no_acts, behind_end, before_end, neither_act_nor_end, acts_have_newline}
 
 -- the reader has before some lines, which spell these acts
-pub record Passed (text rest : List ℕ) (acts : List Act) (before : ℕ) : Type 0 where
+pub record Passed (text rest : List ℕ) (acts : List EventLine) (before : ℕ) : Type 0 where
   pub are : AreActs acts
-  pub path_of_bytes : (later : List Act) → rest ≡ text_of_lines (act_lines later) → text ≡ text_of_lines (act_lines (acts ++ later))
+  pub path_of_bytes : (later : List EventLine) → rest ≡ text_of_lines (act_lines later) → text ≡ text_of_lines (act_lines (acts ++ later))
   pub refused : (n : ℕ) → IsRefused Acts rest n → IsRefused Acts text (before + n)
   pub small : before + length rest ≤ length text
 
@@ -28,62 +29,62 @@ after_line A B line rest n one to from w b refused =
     let count : newlines front + n ≡ 1 + n = omega (arith, newlines-append line (10 ∷ [])) in
     subst (λ t. IsRefused A t (1 + n)) (whole rest) (subst (λ k. IsRefused A (front ++ rest) k) count r0)
 
-are_push : (acts : List Act) (act : Act) → AreActs acts → IsAct act → AreActs (acts ++ act ∷ [])
+are_push : (acts : List EventLine) (act : EventLine) → AreActs acts → IsEventLine act → AreActs (acts ++ act ∷ [])
 are_push [] act oks ok = (ok, tt)
 are_push (a ∷ acts) act oks ok = (oks.0, are_push acts act oks.1 ok)
 
-pub passed_act : (text rest line after : List ℕ) (acts : List Act) (act : Act) (before : ℕ) → Passed text rest acts before
-    → FirstLine rest line after → IsAct act → line ≡ act_line act → Passed text after (acts ++ act ∷ []) (before + 1)
+pub passed_act : (text rest line after : List ℕ) (acts : List EventLine) (act : EventLine) (before : ℕ) → Passed text rest acts before
+    → FirstLine rest line after → IsEventLine act → line ≡ line_of act → Passed text after (acts ++ act ∷ []) (before + 1)
 passed_act text rest line after acts act before p f ok e =
-    let here : rest ≡ act_line act ++ 10 ∷ after = f.is ∙ ap (λ l. l ++ 10 ∷ after) e in
-    let one : newlines (act_line act) ≡ 0 = sym (ap newlines e) ∙ f.one in
+    let here : rest ≡ line_of act ++ 10 ∷ after = f.is ∙ ap (λ l. l ++ 10 ∷ after) e in
+    let one : newlines (line_of act) ≡ 0 = sym (ap newlines e) ∙ f.one in
     record {
       are = are_push acts act p.are ok;
-      path_of_bytes = λ later h. p.path_of_bytes (act ∷ later) (here ∙ ap (λ t. act_line act ++ 10 ∷ t) h)
+      path_of_bytes = λ later h. p.path_of_bytes (act ∷ later) (here ∙ ap (λ t. line_of act ++ 10 ∷ t) h)
           ∙ ap (λ list. text_of_lines (act_lines list)) (sym (append_assoc acts (act ∷ []) later));
       refused = λ n h.
-          let r = after_line Acts Acts (act_line act) after n one (behind_act act ok) (before_acts act ok) (text_of_lines (act_lines [])) no_acts h in
+          let r = after_line Acts Acts (line_of act) after n one (behind_act act ok) (before_acts act ok) (text_of_lines (act_lines [])) no_acts h in
           let r1 : IsRefused Acts text (before + (1 + n)) = p.refused (1 + n) (subst (λ t. IsRefused Acts t (1 + n)) (sym here) r) in
           let count : before + (1 + n) ≡ before + 1 + n = omega arith in
           subst (λ k. IsRefused Acts text k) count r1;
       small =
           let size = ap length here in
-          let parts = length-append (act_line act) (10 ∷ after) in
+          let parts = length-append (line_of act) (10 ∷ after) in
           omega (arith, size, parts, p.small);
     }
 
 -- the end was before, and nothing follows
-pub passed_all : (text rest line after : List ℕ) (acts : List Act) (before : ℕ) → Passed text rest acts before
+pub passed_all : (text rest line after : List ℕ) (acts : List EventLine) (before : ℕ) → Passed text rest acts before
     → FirstLine rest line after → line ≡ 101 ∷ 110 ∷ 100 ∷ [] → after ≡ [] → text ≡ text_of_lines (act_lines acts)
 passed_all text rest line after acts before p f e none =
     p.path_of_bytes [] (f.is ∙ ap (λ l. l ++ 10 ∷ after) e ∙ ap (λ t. 101 ∷ 110 ∷ 100 ∷ 10 ∷ t) none)
     ∙ ap (λ list. text_of_lines (act_lines list)) (append-nil acts)
 
-pub refused_past_end : (text rest line after : List ℕ) (acts : List Act) (before : ℕ) → Passed text rest acts before
+pub refused_past_end : (text rest line after : List ℕ) (acts : List EventLine) (before : ℕ) → Passed text rest acts before
     → FirstLine rest line after → line ≡ 101 ∷ 110 ∷ 100 ∷ [] → after ≢ [] → IsRefused Acts text (before + 1)
 refused_past_end text rest line after acts before p f e some =
     let here : rest ≡ 101 ∷ 110 ∷ 100 ∷ 10 ∷ after = f.is ∙ ap (λ l. l ++ 10 ∷ after) e in
     let r = after_line Acts IsNothing (101 ∷ 110 ∷ 100 ∷ []) after 0 refl behind_end before_end [] refl (refused_more after some) in
     p.refused 1 (subst (λ t. IsRefused Acts t 1) (sym here) r)
 
-pub refused_at_line : (text rest line after : List ℕ) (acts : List Act) (before : ℕ) → Passed text rest acts before
-    → FirstLine rest line after → ((act : Act) → IsAct act → line ≢ act_line act) → line ≢ 101 ∷ 110 ∷ 100 ∷ []
+pub refused_at_line : (text rest line after : List ℕ) (acts : List EventLine) (before : ℕ) → Passed text rest acts before
+    → FirstLine rest line after → ((act : EventLine) → IsEventLine act → line ≢ line_of act) → line ≢ 101 ∷ 110 ∷ 100 ∷ []
     → IsRefused Acts text before
 refused_at_line text rest line after acts before p f no_act no_end =
     let r = refused_line Acts line after f.one (neither_act_nor_end line f.one no_act no_end) in
     let count : before + 0 ≡ before = omega arith in
     subst (λ k. IsRefused Acts text k) count (p.refused 0 (subst (λ t. IsRefused Acts t 0) (sym f.is) r))
 
-pub refused_at_end : (text rest : List ℕ) (acts : List Act) (before : ℕ) → Passed text rest acts before → newlines rest ≡ 0
+pub refused_at_end : (text rest : List ℕ) (acts : List EventLine) (before : ℕ) → Passed text rest acts before → newlines rest ≡ 0
     → IsRefused Acts text before
 refused_at_end text rest acts before p one =
     let count : before + 0 ≡ before = omega arith in
     subst (λ k. IsRefused Acts text k) count (p.refused 0 (refused_end Acts rest one (acts_have_newline rest one)))
 
-pub passed_within : (text rest : List ℕ) (acts : List Act) (before : ℕ) → Passed text rest acts before → before ≤ length text
+pub passed_within : (text rest : List ℕ) (acts : List EventLine) (before : ℕ) → Passed text rest acts before → before ≤ length text
 passed_within text rest acts before p = omega (arith, p.small)
 
-pub passed_one_more : (text rest line after : List ℕ) (acts : List Act) (before : ℕ) → Passed text rest acts before
+pub passed_one_more : (text rest line after : List ℕ) (acts : List EventLine) (before : ℕ) → Passed text rest acts before
     → FirstLine rest line after → before + 1 ≤ length text
 passed_one_more text rest line after acts before p f =
     let size = ap length f.is in

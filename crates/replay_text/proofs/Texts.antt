@@ -5,7 +5,7 @@ use Rattle.std.proofs.lemmas.Str.{IsUtf8-from_ascii}
 use Rattle.std.proofs.lemmas.Str.Ascii.{IsAscii-from_all}
 use Rattle.std.specs.List.{list_all}
 use Rattle.std.specs.Str.{IsUtf8}
-use Rattle.replay_text.specs.Scenario.{is_visible}
+use Rattle.replay_text.specs.EventLines.{is_visible}
 
 visible_small : (b : ℕ) → is_visible b ≡ true → b < 128
 visible_small b e = grind (arith, nat_tests)

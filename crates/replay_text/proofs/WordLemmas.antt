@@ -1,5 +1,5 @@
 -- A text has one first word: it ends at the first blank. No number has a blank.
-use Rattle.std.proofs.Common.{◌≡◌, ◌+◌, ◌<◌, ◌≤◌, ◌^◌, ◌++◌, ◌&&◌, ℕ, Bool, List, [], ◌∷◌, length, take, drop, nat_eq, Option, Some, None, IfSome, IfNone, Result, Ok, Err, IfOk, ◌∙◌, ap, sym, subst, refl, arith, eqb, get_or, ⊎_elim, codes, true, false, ◌==◌, not}
+use Rattle.std.proofs.Common.{◌≡◌, ◌+◌, ◌<◌, ◌≤◌, ◌++◌, ◌&&◌, ℕ, Bool, List, [], ◌∷◌, length, take, drop, nat_eq, Option, Some, None, IfSome, IfNone, Result, Ok, Err, IfOk, ◌∙◌, ap, sym, subst, refl, arith, eqb, get_or, ⊎_elim, codes, true, false, ◌==◌, not}
 use Rattle.std.proofs.lemmas.Bool.{false≢true, cases_Bool}
 use Rattle.std.proofs.lemmas.Bool.Decides.{nat_tests}
 use Rattle.std.proofs.lemmas.List.{take_more, take-append-drop, take_at}
@@ -12,8 +12,7 @@ use Rattle.std.specs.List.{list_all}
 use Rattle.std.specs.Option.{MatchOption}
 use Rattle.std.specs.Fmt.{decimal}
 use Rattle.replay_text.specs.Quoting.{not_blank, connection_text}
-use Rattle.replay_text.specs.Scenario.{is_visible, is_target}
-use Rattle.replay_text.specs.EventLines.{flight_text, IsFlight, IsConnection}
+use Rattle.replay_text.specs.EventLines.{is_visible, is_target, flight_text, IsFlight, IsConnection}
 use Rattle.replay_text.specs.declared.event_line.Flight.{Flight}
 use Rattle.replay_text.specs.declared.event_line.Flight.TheVariants.{First, Numbered}
 

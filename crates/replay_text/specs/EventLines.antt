@@ -1,12 +1,20 @@
--- The lines of events: what each asks for, and how it is spelled. A scenario has `direct` lines alone, until there is a front.
-use Rattle.std.specs.Prelude.{◌≡◌, ◌≢◌, ◌≤◌, ◌<◌, ◌++◌, ℕ, List, [], ◌∷◌, codes, IsTrue}
+-- The lines of events: what each asks for, and how it is spelled.
+use Rattle.std.specs.Prelude.{◌≢◌, ◌≤◌, ◌<◌, ◌++◌, ◌&&◌, ◌==◌, ℕ, Bool, not, nat_le, List, [], ◌∷◌, codes, IsTrue, length}
+use Rattle.std.specs.List.{list_all}
 use Rattle.std.specs.Fmt.{decimal}
-use Rattle.replay_text.specs.Scenario.{is_target}
 use Rattle.replay_text.specs.Transcript.{quotation}
 use Rattle.replay_text.specs.declared.event_line.EventLine.{EventLine}
 use Rattle.replay_text.specs.declared.event_line.EventLine.TheVariants.{Direct, Open, Close, Bytes, Get, Post, Render, Deliver, Lose}
 use Rattle.replay_text.specs.declared.event_line.Flight.{Flight}
 use Rattle.replay_text.specs.declared.event_line.Flight.TheVariants.{First, Numbered}
+
+-- a visible byte of ASCII
+abbrev pub is_visible : ℕ → Bool
+is_visible b = nat_le 33 b && nat_le b 126
+
+-- a target: one or more visible bytes
+abbrev pub is_target : List ℕ → Bool
+is_target text = not (length text == 0) && list_all is_visible text
 
 -- a flight: the first there is, or that of a number
 abbrev pub flight_text : Flight → List ℕ

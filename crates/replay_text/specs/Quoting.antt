@@ -1,10 +1,9 @@
 -- Scaffolding: how the bytes of a quoted text are told from their spellings, for the private functions of the readers and for proofs
 -- alone. A reader of the theorem needs none of it.
 use Rattle.std.specs.Fmt.{decimal}
-use Rattle.std.specs.Prelude.{◌≡◌, ◌≢◌, ◌<◌, ◌+◌, ◌-◌, ◌*◌, ◌++◌, ◌==◌, ℕ, Bool, not, if◌then◌else◌, nat_lt, List, [], ◌∷◌, get_or, codes, IsTrue}
+use Rattle.std.specs.Prelude.{◌≢◌, ◌<◌, ◌+◌, ◌-◌, ◌*◌, ◌++◌, ◌==◌, ℕ, Bool, not, if◌then◌else◌, nat_lt, List, [], ◌∷◌, get_or, codes, IsTrue}
 use Rattle.replay_text.specs.Transcript.{quoted_byte, quotation}
-use Rattle.replay_text.specs.EventLines.{AreBytes, IsConnection, IsFlight, flight_text}
-use Rattle.replay_text.specs.Scenario.{is_target}
+use Rattle.replay_text.specs.EventLines.{is_target, AreBytes, IsConnection, IsFlight, flight_text}
 use Rattle.replay_text.specs.declared.event_line.Flight.{Flight}
 
 -- the number that a hexadecimal digit stands for

@@ -4,7 +4,7 @@ use Rattle.std.specs.Prelude.{◌≡◌, ◌≢◌, ◌⊎◌, ◌+◌, ◌≤�
 use Rattle.replay_text.specs.Lines.{newlines, text_of_lines, AreLines}
 use Rattle.replay_text.specs.Languages.{IsRefused, IsRefusedWithin}
 use Rattle.replay_text.specs.Scenario.{AreActs, AreBlock, act_lines}
-use Rattle.replay_text.specs.declared.scenario.Act.{Act}
+use Rattle.replay_text.specs.declared.event_line.EventLine.{EventLine}
 use Rattle.replay_text.specs.declared.scenario.Scenario.{Scenario}
 use Rattle.replay_text.specs.declared.scenario.ScenarioFault.{ScenarioFault}
 use Rattle.replay_text.specs.declared.scenario.ScenarioFault.TheVariants.{Line, NoMemory}
@@ -20,7 +20,7 @@ Lacks want text = (newlines text ≡ 0) ⊎ ((line : List ℕ) × (rest : List �
 
 -- the part after the content
 abbrev pub Acts : List ℕ → Type 0
-Acts text = (acts : List Act) × AreActs acts × (text ≡ text_of_lines (act_lines acts))
+Acts text = (acts : List EventLine) × AreActs acts × (text ≡ text_of_lines (act_lines acts))
 
 -- the fault names the line at which the text is refused
 abbrev pub Refuses : (List ℕ → Type 0) → List ℕ → ScenarioFault → Type 0

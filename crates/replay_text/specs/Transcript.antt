@@ -1,11 +1,14 @@
 -- How events are written.
-use Rattle.std.specs.Prelude.{◌+◌, ◌<◌, ◌/◌, ◌%◌, ◌++◌, ◌==◌, ◌&&◌, ℕ, if◌then◌else◌, nat_lt, nat_le, List, [], ◌∷◌, codes, flat_map}
+use Rattle.std.specs.Prelude.{◌≡◌, ◌+◌, ◌<◌, ◌/◌, ◌%◌, ◌++◌, ◌==◌, ◌&&◌, ℕ, if◌then◌else◌, nat_lt, nat_le, List, [], ◌∷◌, codes, flat_map, Option, Some, None, IsTrue}
 use Rattle.std.specs.Fmt.{decimal}
 use Rattle.sp_base.specs.declared.answer.Answer.{Answer}
 use Rattle.sp_base.specs.declared.answer.Mark.{Mark}
 use Rattle.sp_base.specs.declared.answer.Mark.TheVariants.{Plain, NoCache, NoStore, MustRevalidate}
-use Rattle.replay_text.specs.declared.note.Note.{Note}
-use Rattle.replay_text.specs.declared.note.Note.TheVariants.{Answer as answered}
+use Rattle.sp_base.specs.Paths.{is_path}
+use Rattle.cover_rules.specs.Pages.{page_key_of, page_text}
+use Rattle.cover_rules.specs.declared.page.PageKey.{PageKey}
+use Rattle.front.specs.declared.note.Note.{Note}
+use Rattle.front.specs.declared.note.Note.TheVariants.{Answer as answered, Ask, Local, Rendered, Passed, Lost, Sent, Shut, Refused, Idle, Dry}
 
 -- a hexadecimal digit, in lower case
 abbrev pub hex : ℕ → ℕ
@@ -37,9 +40,28 @@ abbrev pub answer_text : Answer → List ℕ
 answer_text a = decimal a.status ++ codes " " ++ quotation_or_dash a.kind ++ codes " " ++ quotation_or_dash a.location ++ codes " "
     ++ mark_text a.mark ++ codes " " ++ quotation a.body
 
+-- the quoted path of a page, or a dash where there is none
+abbrev pub key_text : Option PageKey → List ℕ
+key_text None = codes "-"
+key_text (Some key) = quotation (page_text key)
+
+-- the line of a note, without its newline: flights and connections stand there by their numbers
+abbrev pub note_line : Note → List ℕ
+note_line (answered a) = codes "answer " ++ answer_text a
+note_line (Ask n c key) = codes "ask " ++ decimal n ++ codes " " ++ decimal c ++ codes " " ++ key_text key
+note_line (Local c status) = codes "local " ++ decimal c ++ codes " " ++ decimal status
+note_line (Rendered n a) = codes "rendered " ++ decimal n ++ codes " " ++ answer_text a
+note_line (Passed n) = codes "passed " ++ decimal n
+note_line (Lost n) = codes "lost " ++ decimal n
+note_line (Sent c bytes) = codes "sent " ++ decimal c ++ codes " " ++ quotation bytes
+note_line (Shut c) = codes "shut " ++ decimal c
+note_line (Refused c) = codes "refused " ++ decimal c
+note_line Idle = codes "none"
+note_line Dry = codes "dry"
+
 -- the line of a note
 abbrev pub note_text : Note → List ℕ
-note_text (answered a) = codes "answer " ++ answer_text a ++ 10 ∷ []
+note_text note = note_line note ++ 10 ∷ []
 
 -- the lines of an event
 abbrev pub event_text : ℕ → List Note → List ℕ
@@ -54,15 +76,43 @@ transcript_from n (notes ∷ events) = event_text n notes ++ transcript_from (n 
 abbrev pub transcript : List (List Note) → List ℕ
 transcript events = transcript_from 1 events
 
--- a status has 16 bits
+-- statuses have 16 bits
+abbrev pub IsStatus : ℕ → Type 0
+IsStatus status = status < 65536
+
+-- numbers of flights have 64 bits
+abbrev pub IsFlightNumber : ℕ → Type 0
+IsFlightNumber n = n < 18446744073709551616
+
+-- numbers of connections have 32 bits
+abbrev pub IsLineNumber : ℕ → Type 0
+IsLineNumber c = c < 4294967296
+
+-- a key is that of the page at some path
+abbrev pub IsPage : Option PageKey → Type 0
+IsPage None = Unit {0}
+IsPage (Some key) = (path : List (List ℕ)) × IsTrue (is_path path) × (page_key_of path ≡ Some key)
+
+-- The numbers of the note fit, and its key is one of a page. Without the latter two keys may have one text: a file `b/c.html` in
+-- `/a`, and a file `c.html` in `/a/b`.
 abbrev pub IsWritable : Note → Type 0
-IsWritable (answered a) = a.status < 65536
+IsWritable (answered a) = IsStatus a.status
+IsWritable (Ask n c key) = IsFlightNumber n × IsLineNumber c × IsPage key
+IsWritable (Local c status) = IsLineNumber c × IsStatus status
+IsWritable (Rendered n a) = IsFlightNumber n × IsStatus a.status
+IsWritable (Passed n) = IsFlightNumber n
+IsWritable (Lost n) = IsFlightNumber n
+IsWritable (Sent c bytes) = IsLineNumber c
+IsWritable (Shut c) = IsLineNumber c
+IsWritable (Refused c) = IsLineNumber c
+IsWritable Idle = Unit {0}
+IsWritable Dry = Unit {0}
 
 abbrev pub AreWritable : List Note → Type 0
 AreWritable [] = Unit {0}
 AreWritable (note ∷ notes) = IsWritable note × AreWritable notes
 
--- each status of the events has 16 bits, as those have that the program makes
+-- the same of each note of the events
 abbrev pub EventsAreWritable : List (List Note) → Type 0
 EventsAreWritable [] = Unit {0}
 EventsAreWritable (notes ∷ events) = AreWritable notes × EventsAreWritable events

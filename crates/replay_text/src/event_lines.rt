@@ -1,28 +1,15 @@
 //! What the lines of events ask for.
 ghost use Rattle.std.specs.Prelude.{◌≡◌, ◌≢◌, ◌↔◌, ◌++◌, ◌∷◌, [], ℕ, List, IfOk, IfSome, IfNone, IsTrue, codes};
-ghost use Rattle.replay_text.specs.EventLines.{line_of, AreBytes, IsConnection, IsEventLine};
+ghost use Rattle.replay_text.specs.EventLines.{is_target, line_of, AreBytes, IsConnection, IsEventLine};
 ghost use Rattle.replay_text.specs.Quoting.{connection_text, IsNoDirect, IsNoTargetOf, IsNoClose, IsNoBytes, IsNoPost, IsOfNoConnection, IsOfNoFlight};
-ghost use Rattle.replay_text.specs.Scenario.{is_target};
 ghost use Rattle.replay_text.specs.Transcript.{quotation};
 
 use crate::event_line::EventLine;
 use crate::event_reader::{after_word, connection, connection_after, first_word, flight_after};
 use crate::quoted::unquoted;
-use crate::reader::{is_target_text, visible_text};
+use crate::targets::target;
 use sp_base::{ByteBuf, Mem, TextBuf};
 use std::alloc::Global;
-
-// The target or the peer that a text is.
-fn target(alloc: Global, text: &[u8]) -> Mem<Option<TextBuf>>
-    ensures some { IfOk result (λ o. IfSome o (λ t. IsTrue (is_target t) × (text.now ≡ t))) }
-    ensures none { IfOk result (λ o. IfNone o ((t : List ℕ) → IsTrue (is_target t) → text.now ≢ t)) }
-{
-    if is_target_text(text) {
-        Ok(Some(visible_text(alloc, text)?))
-    } else {
-        Ok(None)
-    }
-}
 
 fn direct_line(alloc: Global, line: &[u8]) -> Mem<Option<EventLine>>
     ensures some { IfOk result (λ o. IfSome o (λ e. IsEventLine e × (line.now ≡ line_of e))) }

@@ -4,7 +4,6 @@ ghost use Rattle.std.specs.List.{list_all};
 ghost use Rattle.std.specs.Fmt.{decimal};
 ghost use Rattle.replay_text.specs.EventLines.{flight_text, line_of, IsFlight, IsConnection, IsEventLine};
 ghost use Rattle.replay_text.specs.Quoting.{not_blank, connection_text};
-ghost use Rattle.replay_text.specs.Scenario.{is_target};
 
 use crate::event_line::Flight;
 use crate::lines::same;

@@ -3,8 +3,11 @@ ghost use Rattle.std.specs.Prelude.{◌≡◌, ℕ, List};
 ghost use Rattle.replay_text.specs.Languages.{IsRefusedWithin};
 ghost use Rattle.replay_text.specs.Scenario.{SpellsScenario, IsScenario, most};
 ghost use Rattle.replay_text.specs.Transcript.{transcript, EventsAreWritable};
-ghost use Rattle.replay_text.specs.declared.note.Note.{Note};
+ghost use Rattle.front.specs.declared.note.Note.{Note};
 ghost use Rattle.replay_text.specs.declared.scenario.Scenario.{Scenario};
+
+use cover_rules::a_page_has_one_key;
+use sp_base::segments_and_their_spelling;
 
 /// A text spells one scenario.
 pub fn one_reading()
@@ -16,7 +19,10 @@ pub fn one_refusal()
     ensures { (text : List ℕ) (n m : ℕ) → IsRefusedWithin most IsScenario text n → IsRefusedWithin most IsScenario text m → n ≡ m }
 {}
 
-/// A transcript tells its events: no two lists of events are written alike, where statuses have 16 bits.
+/// A transcript tells its events: no two lists of events are written alike, where their numbers fit and their keys are those of pages.
 pub fn a_transcript_tells_its_events()
     ensures { (a b : List (List Note)) → EventsAreWritable a → EventsAreWritable b → transcript a ≡ transcript b → a ≡ b }
-{}
+{
+    a_page_has_one_key();
+    segments_and_their_spelling();
+}

@@ -6,18 +6,17 @@ mod event_lines;
 mod event_reader;
 mod laws;
 mod lines;
-mod note;
 mod quoted;
 mod reader;
 mod scenario;
+mod targets;
 #[cfg(test)]
 mod tests;
 mod transcript;
 
-pub use event_line::{EventLine, Flight};
+pub use event_line::{EventLine, EventLineList, Flight};
 pub use event_lines::read_event_line;
 pub use laws::{a_transcript_tells_its_events, one_reading, one_refusal};
-pub use note::{Note, NoteList};
 pub use reader::{LONGEST_SCENARIO, read_scenario};
-pub use scenario::{Act, ActList, Scenario, ScenarioFault, Step};
+pub use scenario::{Scenario, ScenarioFault};
 pub use transcript::write_notes;

@@ -1,59 +1,23 @@
 //! Reads a scenario by its grammar.
 ghost use Rattle.std.specs.Prelude.{[], ◌≡◌, ◌≢◌, ◌+◌, ◌≤◌, ◌<◌, ◌^◌, ◌++◌, ◌∷◌, ℕ, List, IfOk, IfErr, IfSome, IfNone, MatchResult, IsTrue, length, take, drop, codes};
-ghost use Rattle.std.specs.List.{list_all};
 ghost use Rattle.replay_text.specs.Lines.{newlines, text_of_lines, AreLines};
 ghost use Rattle.replay_text.specs.Languages.{IsRefused};
-ghost use Rattle.replay_text.specs.Scenario.{is_visible, is_target, act_line, IsAct, AreActs, AreBlock, act_lines, SpellsScenario, IsScenario, Reads, most};
+ghost use Rattle.replay_text.specs.Scenario.{AreActs, AreBlock, act_lines, SpellsScenario, IsScenario, Reads, most};
 ghost use Rattle.replay_text.specs.Reading.{Refuses, RefusesWithin, SpellsBody, IsBody, EndsBlock, IfLine, fault_further, Acts};
 ghost use Rattle.replay_text.specs.declared.scenario.ScenarioFault.TheVariants.{Line, NoMemory as no_memory};
 
+use crate::event_line::EventLineList;
+use crate::event_lines::read_event_line;
 use crate::lines::{after_line, count_newlines, first_line, same};
-use crate::scenario::{Act, ActList, Scenario, ScenarioFault, Step};
-use sp_base::{ByteBuf, Items, Mem, TextBuf};
+use crate::scenario::{Scenario, ScenarioFault};
+use sp_base::{ByteBuf, Items};
 use std::alloc::Global;
-use std::str;
 
 /// The most bytes that a scenario has.
 pub const LONGEST_SCENARIO: usize = 67_108_864;
 
-fn all_visible(text: &[u8]) -> bool
-    ensures { result ≡ list_all is_visible text.now }
-{
-    text.iter().all(|b| *b >= 33 && *b <= 126)
-}
-
-pub fn is_target_text(text: &[u8]) -> bool
-    ensures { result ≡ is_target text.now }
-{
-    !text.is_empty() && all_visible(text)
-}
-
-pub fn visible_text(alloc: Global, bytes: &[u8]) -> Mem<TextBuf>
-    requires { IsTrue (list_all is_visible bytes.now) }
-    ensures { IfOk result (λ t. t ≡ bytes.now) }
-{
-    match str::from_utf8(bytes) {
-        Ok(text) => TextBuf::of(alloc, text),
-        Err(_) => unreachable!(),
-    }
-}
-
-// The act that a line spells.
-fn read_act(alloc: Global, line: &[u8]) -> Mem<Option<Act>>
-    ensures some { IfOk result (λ o. IfSome o (λ act. IsAct act × (line.now ≡ act_line act))) }
-    ensures none { IfOk result (λ o. IfNone o ((act : Act) → IsAct act → line.now ≢ act_line act)) }
-{
-    match line.strip_prefix(b"direct ") {
-        Some(target) if is_target_text(target) => {
-            let text = visible_text(alloc, target)?;
-            Ok(Some(Act::Do(Step::Direct(text))))
-        }
-        _ => Ok(None),
-    }
-}
-
 // What is read where the line `end` was before.
-fn ended(acts: ActList, after: &[u8], before: u64) -> Result<ActList, ScenarioFault>
+fn ended(acts: EventLineList, after: &[u8], before: u64) -> Result<EventLineList, ScenarioFault>
     requires { before + 1 < 2 ^ 64 }
     ensures { MatchResult result (λ list. (list ≡ acts) × (after.now ≡ [])) (λ e. (e ≡ Line (before + 1)) × (after.now ≢ [])) }
 {
@@ -65,7 +29,7 @@ fn ended(acts: ActList, after: &[u8], before: u64) -> Result<ActList, ScenarioFa
 }
 
 // Reads acts up to the end.
-fn read_acts(alloc: Global, text: &[u8]) -> Result<ActList, ScenarioFault>
+fn read_acts(alloc: Global, text: &[u8]) -> Result<EventLineList, ScenarioFault>
     ensures ok { IfOk result (λ acts. AreActs acts × (text.now ≡ text_of_lines (act_lines acts))) }
     ensures err { IfErr result (Refuses Acts text.now) }
 {
@@ -76,7 +40,7 @@ fn read_acts(alloc: Global, text: &[u8]) -> Result<ActList, ScenarioFault>
         if same(line, b"end") {
             return ended(acts, after, before);
         }
-        let Some(act) = read_act(alloc, line)? else {
+        let Some(act) = read_event_line(alloc, line)? else {
             return Err(ScenarioFault::Line(before));
         };
         acts.push(act)?;

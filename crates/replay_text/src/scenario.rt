@@ -2,29 +2,15 @@
 ghost use Rattle.std.specs.Prelude.{◌≡◌};
 ghost use Rattle.replay_text.specs.declared.scenario.ScenarioFault.TheVariants.{NoMemory as no_memory};
 
-use sp_base::{ByteBuf, Items, NoMemory, TextBuf};
+use crate::event_line::EventLineList;
+use sp_base::{ByteBuf, NoMemory};
 use std::alloc::AllocError;
 
-/// What an event does.
-#[derive(Drop)]
-pub enum Step {
-    /// The target is asked of the publisher, past the cache.
-    Direct(TextBuf),
-}
-
-/// A line of a scenario after its content.
-#[derive(Drop)]
-pub enum Act {
-    Do(Step),
-}
-
-pub type ActList = Items<Act>;
-
-/// A content in JSON, and what is done with it.
+/// A content in JSON, and the events that are asked for.
 #[derive(Drop)]
 pub struct Scenario {
     pub content: ByteBuf,
-    pub acts: ActList,
+    pub acts: EventLineList,
 }
 
 #[derive(Clone, Copy, PartialEq, Eq, Debug, Drop)]

@@ -1,6 +1,8 @@
-//! Lines of events, worked out by hand from their table in `docs/formats/FORMATS.md`.
-use crate::{EventLine, Flight, read_event_line};
-use sp_base::NoMemory;
+//! Lines of events and of notes, worked out by hand from their tables in `docs/formats/FORMATS.md`.
+use crate::{EventLine, Flight, ScenarioFault, read_event_line, read_scenario, write_notes};
+use cover_rules::{PageKey, page_key};
+use front::{Note, NoteList};
+use sp_base::{Answer, ByteBuf, Items, Mark, Mem, NoMemory, Path, TextBuf};
 use std::alloc::{AllocError, Global};
 use std::test::Fail;
 
@@ -101,5 +103,144 @@ fn lines_of_events(rt: HostRuntime) -> Result<(), Fail> {
     for line in NO_LINES.lines() {
         assert_eq!(rt; read(rt.alloc(), line)?.as_str(), "no line", "{line}");
     }
+    Ok(())
+}
+
+// What the acts of a scenario of these lines ask for.
+fn acts(alloc: Global, lines: &str) -> Result<String, NoMemory> {
+    let text = format!(in alloc; "scenario 1\ncontent\n{{}}\n.\n{lines}end\n")?;
+    match read_scenario(alloc, text.as_bytes()) {
+        Ok(scenario) => {
+            let mut told = String::new(alloc);
+            for act in scenario.acts.as_slice() {
+                let act = shown(alloc, act)?;
+                told.push_str(act.as_str())?;
+                told.push_str("\n")?;
+            }
+            Ok(told)
+        }
+        Err(ScenarioFault::Line(n)) => Ok(format!(in alloc; "refused behind {n} newlines")?),
+        Err(ScenarioFault::NoMemory) => Err(NoMemory),
+    }
+}
+
+const SCENARIO: &str = r#"open 1 10.0.0.1
+get 1 /content/en.html
+render first
+bytes 1 "GET / HTTP/1.1\r\n"
+post 1 /content/en ":operation=delete"
+deliver 1
+lose 2
+direct /content/en.json
+close 1
+"#;
+
+const ACTS: &str = "open 1: 10.0.0.1
+get 1: /content/en.html
+render the first
+bytes 1: GET / HTTP/1.1\r
+
+post 1: /content/en, :operation=delete
+deliver number 1
+lose number 2
+direct /content/en.json
+close 1
+";
+
+const FAULTY: &str = "open 1 p
+render first
+render 0
+close 1
+";
+
+#[test]
+fn acts_of_scenarios(rt: HostRuntime) -> Result<(), Fail> {
+    assert_eq!(rt; acts(rt.alloc(), SCENARIO)?.as_str(), ACTS);
+    assert_eq!(rt; acts(rt.alloc(), "")?.as_str(), "");
+    assert_eq!(rt;
+        acts(rt.alloc(), FAULTY)?.as_str(),
+        "refused behind 6 newlines"
+    );
+    assert_eq!(rt;
+        acts(rt.alloc(), "end\n")?.as_str(),
+        "refused behind 5 newlines"
+    );
+    Ok(())
+}
+
+fn answer(
+    alloc: Global,
+    status: u16,
+    kind: &str,
+    location: &str,
+    mark: Mark,
+    body: &str,
+) -> Mem<Answer> {
+    Ok(Answer {
+        status,
+        kind: TextBuf::of(alloc, kind)?,
+        location: TextBuf::of(alloc, location)?,
+        mark,
+        body: ByteBuf::of(alloc, body.as_bytes())?,
+    })
+}
+
+fn key(alloc: Global, path: &str) -> Mem<Option<PageKey>> {
+    match Path::read(alloc, path) {
+        Ok(path) => page_key(alloc, &path),
+        Err(_) => Ok(None),
+    }
+}
+
+fn notes(alloc: Global) -> Mem<NoteList> {
+    let mut notes = Items::new(alloc);
+    let page = answer(
+        alloc,
+        200,
+        "text/html;charset=utf-8",
+        "",
+        Mark::Plain,
+        "<p>\"a\"</p>\n",
+    )?;
+    notes.push(Note::Answer(page))?;
+    let folder = key(alloc, "/content/site/en.html")?;
+    notes.push(Note::Ask(18_446_744_073_709_551_615, 4_294_967_295, folder))?;
+    notes.push(Note::Ask(2, 0, None))?;
+    notes.push(Note::Local(3, 405))?;
+    let redirect = answer(alloc, 302, "", "/a\\b", Mark::NoStore, "")?;
+    notes.push(Note::Rendered(2, redirect))?;
+    notes.push(Note::Passed(2))?;
+    notes.push(Note::Lost(4))?;
+    let sent = ByteBuf::of(alloc, b"HTTP/1.1 204 No Content\r\n\r\n\"\x00\xff")?;
+    notes.push(Note::Sent(3, sent))?;
+    notes.push(Note::Shut(3))?;
+    notes.push(Note::Refused(5))?;
+    notes.push(Note::Idle)?;
+    notes.push(Note::Dry)?;
+    Ok(notes)
+}
+
+const NOTES: &str = r#"@ 12
+answer 200 "text/html;charset=utf-8" - - "<p>\"a\"</p>\n"
+ask 18446744073709551615 4294967295 "/content/site/en.html"
+ask 2 0 -
+local 3 405
+rendered 2 302 - "/a\\b" no-store ""
+passed 2
+lost 4
+sent 3 "HTTP/1.1 204 No Content\r\n\r\n\"\x00\xff"
+shut 3
+refused 5
+none
+dry
+"#;
+
+#[test]
+fn lines_of_notes(rt: HostRuntime) -> Result<(), Fail> {
+    let notes = notes(rt.alloc())?;
+    let text = write_notes(rt.alloc(), 12, notes.as_slice())?;
+    assert_eq!(rt; lossy(&text), NOTES);
+    let none = write_notes(rt.alloc(), 1, &[])?;
+    assert_eq!(rt; lossy(&none), "@ 1\n");
     Ok(())
 }

@@ -1,9 +1,10 @@
 //! Writes the lines of events.
-ghost use Rattle.std.specs.Prelude.{◌≡◌, ◌++◌, ◌∷◌, [], ◌<◌, IfOk, OnOk};
+ghost use Rattle.std.specs.Prelude.{◌≡◌, ◌++◌, ◌∷◌, [], ◌<◌, IfOk, OnOk, codes};
 ghost use Rattle.std.specs.Fmt.{decimal};
-ghost use Rattle.replay_text.specs.Transcript.{hex, quoted_byte, quotation, quotation_or_dash, mark_text, answer_text, note_text, event_text};
+ghost use Rattle.replay_text.specs.Transcript.{hex, quoted_byte, quotation, quotation_or_dash, mark_text, answer_text, key_text, note_line, note_text, event_text};
 
-use crate::note::Note;
+use cover_rules::PageKey;
+use front::Note;
 use sp_base::{Answer, Mark, Mem};
 use std::alloc::Global;
 
@@ -87,19 +88,94 @@ fn push_answer(alloc: Global, out: &mut Vec<u8>, answer: &Answer) -> Mem<()>
     push_quoted(out, answer.body.bytes())
 }
 
-fn push_note(alloc: Global, out: &mut Vec<u8>, note: &Note) -> Mem<()>
-    ensures { OnOk result (out.new.items ≡ out.old.items ++ note_text note.now) }
+fn push_key(alloc: Global, out: &mut Vec<u8>, key: &Option<PageKey>) -> Mem<()>
+    ensures { OnOk result (out.new.items ≡ out.old.items ++ key_text key.now) }
+{
+    match key {
+        Some(key) => {
+            let path = key.text(alloc)?;
+            push_quoted(out, path.text().as_bytes())
+        }
+        None => push(out, b"-"),
+    }
+}
+
+// A word and a number.
+fn push_numbered(alloc: Global, out: &mut Vec<u8>, word: &[u8], n: u64) -> Mem<()>
+    ensures { OnOk result (out.new.items ≡ out.old.items ++ (word.now ++ decimal n)) }
+{
+    push(out, word)?;
+    push_number(alloc, out, n)
+}
+
+fn push_ask(
+    alloc: Global,
+    out: &mut Vec<u8>,
+    flight: u64,
+    line: u32,
+    key: &Option<PageKey>,
+) -> Mem<()>
+    ensures { OnOk result (out.new.items ≡ out.old.items ++ (codes "ask " ++ decimal flight ++ codes " " ++ decimal line ++ codes " " ++ key_text key.now)) }
+{
+    push_numbered(alloc, out, b"ask ", flight)?;
+    push_numbered(alloc, out, b" ", u64::from(line))?;
+    push(out, b" ")?;
+    push_key(alloc, out, key)
+}
+
+fn push_local(alloc: Global, out: &mut Vec<u8>, line: u32, status: u16) -> Mem<()>
+    ensures { OnOk result (out.new.items ≡ out.old.items ++ (codes "local " ++ decimal line ++ codes " " ++ decimal status)) }
+{
+    push_numbered(alloc, out, b"local ", u64::from(line))?;
+    push_numbered(alloc, out, b" ", u64::from(status))
+}
+
+fn push_rendered(alloc: Global, out: &mut Vec<u8>, flight: u64, answer: &Answer) -> Mem<()>
+    ensures { OnOk result (out.new.items ≡ out.old.items ++ (codes "rendered " ++ decimal flight ++ codes " " ++ answer_text answer.now)) }
+{
+    push_numbered(alloc, out, b"rendered ", flight)?;
+    push(out, b" ")?;
+    push_answer(alloc, out, answer)
+}
+
+fn push_sent(alloc: Global, out: &mut Vec<u8>, line: u32, bytes: &[u8]) -> Mem<()>
+    ensures { OnOk result (out.new.items ≡ out.old.items ++ (codes "sent " ++ decimal line ++ codes " " ++ quotation bytes.now)) }
+{
+    push_numbered(alloc, out, b"sent ", u64::from(line))?;
+    push(out, b" ")?;
+    push_quoted(out, bytes)
+}
+
+// The line of a note, without its newline.
+fn push_note_line(alloc: Global, out: &mut Vec<u8>, note: &Note) -> Mem<()>
+    ensures { OnOk result (out.new.items ≡ out.old.items ++ note_line note.now) }
 {
     match note {
         Note::Answer(answer) => {
             push(out, b"answer ")?;
-            push_answer(alloc, out, answer)?;
-            push(out, b"\n")
+            push_answer(alloc, out, answer)
         }
+        Note::Ask(flight, line, key) => push_ask(alloc, out, *flight, *line, key),
+        Note::Local(line, status) => push_local(alloc, out, *line, *status),
+        Note::Rendered(flight, answer) => push_rendered(alloc, out, *flight, answer),
+        Note::Passed(flight) => push_numbered(alloc, out, b"passed ", *flight),
+        Note::Lost(flight) => push_numbered(alloc, out, b"lost ", *flight),
+        Note::Sent(line, bytes) => push_sent(alloc, out, *line, bytes.bytes()),
+        Note::Shut(line) => push_numbered(alloc, out, b"shut ", u64::from(*line)),
+        Note::Refused(line) => push_numbered(alloc, out, b"refused ", u64::from(*line)),
+        Note::Idle => push(out, b"none"),
+        Note::Dry => push(out, b"dry"),
     }
 }
 
-// The lines of an event.
+fn push_note(alloc: Global, out: &mut Vec<u8>, note: &Note) -> Mem<()>
+    ensures { OnOk result (out.new.items ≡ out.old.items ++ note_text note.now) }
+{
+    push_note_line(alloc, out, note)?;
+    push(out, b"\n")
+}
+
+/// The lines of an event.
 pub fn write_notes(alloc: Global, event: u64, notes: &[Note]) -> Mem<Vec<u8>>
     ensures { IfOk result (λ text. text.items ≡ event_text event notes.now) }
 {

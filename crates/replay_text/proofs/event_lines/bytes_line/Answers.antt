@@ -1,4 +1,4 @@
-use Rattle.std.proofs.Common.{rules, ◌≡◌, ◌++◌, ◌∙◌, [], ℕ, List, codes, sym, ap, subst}
+use Rattle.std.proofs.Common.{◌≡◌, ◌++◌, ◌∙◌, [], ℕ, List, codes, sym, ap, subst}
 use Rattle.std.specs.Prelude.{IfNone, IfSome}
 use Rattle.replay_text.specs.EventLines.{IsConnection, AreBytes}
 use Rattle.replay_text.specs.Quoting.{connection_text, IsNoQuotation}

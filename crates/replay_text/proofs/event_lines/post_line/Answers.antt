@@ -1,8 +1,7 @@
-use Rattle.std.proofs.Common.{◌≡◌, ◌∷◌, ◌++◌, ℕ, List, codes, sym, subst}
+use Rattle.std.proofs.Common.{◌≡◌, ◌∷◌, ◌++◌, ℕ, List, codes, subst}
 use Rattle.std.specs.Prelude.{IfNone, IfSome, IsTrue}
-use Rattle.replay_text.specs.EventLines.{IsConnection, AreBytes}
+use Rattle.replay_text.specs.EventLines.{is_target, IsConnection, AreBytes}
 use Rattle.replay_text.specs.Quoting.{connection_text}
-use Rattle.replay_text.specs.Scenario.{is_target}
 use Rattle.replay_text.specs.Transcript.{quotation}
 use Rattle.replay_text.proofs.WordLemmas.{one_connection}
 use Rattle.replay_text.proofs.event_lines.post_line.Goals as goal

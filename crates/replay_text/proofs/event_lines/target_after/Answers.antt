@@ -1,8 +1,7 @@
-use Rattle.std.proofs.Common.{◌≡◌, ℕ, List, sym, subst}
+use Rattle.std.proofs.Common.{◌≡◌, ℕ, List, subst}
 use Rattle.std.specs.Prelude.{IfNone, IfSome, IsTrue}
-use Rattle.replay_text.specs.EventLines.{IsConnection}
+use Rattle.replay_text.specs.EventLines.{is_target, IsConnection}
 use Rattle.replay_text.specs.Quoting.{connection_text}
-use Rattle.replay_text.specs.Scenario.{is_target}
 use Rattle.replay_text.proofs.WordLemmas.{one_connection}
 use Rattle.replay_text.proofs.event_lines.target_after.Goals as goal
 

@@ -1,8 +1,7 @@
-use Rattle.std.proofs.Common.{◌≡◌, ◌∷◌, ◌++◌, ◌∙◌, ℕ, List, sym, ap, subst}
-use Rattle.std.specs.Prelude.{IfNone, IfSome, IsTrue}
-use Rattle.replay_text.specs.EventLines.{AreBytes}
+use Rattle.std.proofs.Common.{◌≡◌, ◌∙◌, ℕ, List, sym, subst}
+use Rattle.std.specs.Prelude.{IfNone, IsTrue}
+use Rattle.replay_text.specs.EventLines.{is_target}
 use Rattle.replay_text.specs.Quoting.{IsNoQuotation}
-use Rattle.replay_text.specs.Scenario.{is_target}
 use Rattle.replay_text.specs.Transcript.{quotation}
 use Rattle.replay_text.proofs.WordLemmas.{one_first_word, target_no_blank}
 use Rattle.replay_text.proofs.event_lines.target_and_body.Goals as goal

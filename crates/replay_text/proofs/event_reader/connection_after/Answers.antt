@@ -1,4 +1,4 @@
-use Rattle.std.proofs.Common.{◌≡◌, ◌<◌, ◌++◌, ◌∷◌, ◌∙◌, ℕ, List, sym, ap, subst, arith}
+use Rattle.std.proofs.Common.{◌≡◌, ◌++◌, ◌∷◌, ◌∙◌, ℕ, sym, subst}
 use Rattle.std.specs.Prelude.{IfNone}
 use Rattle.std.specs.Fmt.{decimal}
 use Rattle.replay_text.specs.EventLines.{IsConnection}

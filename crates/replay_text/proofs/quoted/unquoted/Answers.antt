@@ -1,8 +1,8 @@
-use Rattle.std.proofs.Common.{◌≡◌, ◌++◌, ◌∷◌, ◌∙◌, [], ℕ, List, ap, sym, subst, drop, true, false}
+use Rattle.std.proofs.Common.{◌≡◌, ◌++◌, ◌∷◌, ◌∙◌, [], ap, sym, subst, drop}
 use Rattle.std.specs.Prelude.{flat_map}
 use Rattle.std.proofs.lemmas.Bool.{false≢true}
 use Rattle.replay_text.specs.EventLines.{AreBytes}
-use Rattle.replay_text.specs.Transcript.{quoted_byte, quotation}
+use Rattle.replay_text.specs.Transcript.{quoted_byte}
 use Rattle.replay_text.proofs.Escapes.{AreBytes-snoc, spelled-snoc, goes_on}
 use Rattle.replay_text.proofs.quoted.unquoted.Goals as goal
 

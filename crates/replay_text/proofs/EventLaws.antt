@@ -1,0 +1,137 @@
+-- A line tells the event that it asks for, and has no newline within.
+use Rattle.std.proofs.Common.{◌≡◌, ◌≢◌, ◌≤◌, ◌/◌, ◌%◌, ◌++◌, ◌&&◌, ◌==◌, ℕ, Bool, true, false, List, [], ◌∷◌, codes, sym, ◌∙◌, ap, refl, arith, length, not, eqb, get_or, drop, if◌then◌else◌}
+use Rattle.std.specs.Prelude.{flat_map, nat_le}
+use Rattle.std.specs.List.{list_all}
+use Rattle.std.specs.Fmt.{decimal}
+use Rattle.std.proofs.lemmas.Bool.Decides.{nat_tests}
+use Rattle.std.proofs.lemmas.Fmt.{decimal_injective}
+use Rattle.replay_text.specs.Lines.{newlines}
+use Rattle.replay_text.specs.Transcript.{hex, quoted_byte, quotation}
+use Rattle.replay_text.specs.EventLines.{is_visible, is_target, flight_text, line_of, IsFlight, IsConnection, IsEventLine}
+use Rattle.replay_text.specs.declared.event_line.EventLine.{EventLine}
+use Rattle.replay_text.specs.declared.event_line.EventLine.TheVariants.{Direct, Open, Close, Bytes, Get, Post, Render, Deliver, Lose}
+use Rattle.replay_text.specs.declared.event_line.Flight.{Flight}
+use Rattle.replay_text.specs.declared.event_line.Flight.TheVariants.{First, Numbered}
+use Rattle.replay_text.proofs.LineLaws.{newlines-append}
+use Rattle.replay_text.proofs.NumberLemmas.{both_true, one_number, decimal_not_first, newlines-decimal}
+use Rattle.replay_text.proofs.Escapes.{one_quoted}
+use Rattle.replay_text.proofs.WordLemmas.{one_first_word, target_no_blank}
+
+-- ---- no newline within
+
+visible_is_no_newline : (b : ℕ) → is_visible b ≡ true → eqb b 10 ≡ false
+visible_is_no_newline b e = grind (arith, nat_tests)
+
+newlines-visible : (text : List ℕ) → list_all is_visible text ≡ true → newlines text ≡ 0
+newlines-visible [] e = refl
+newlines-visible (b ∷ text) e =
+    let parts = both_true (is_visible b) (list_all is_visible text) e in
+    let apart = visible_is_no_newline b parts.0 in
+    rw apart (omega (arith, newlines-visible text parts.1))
+
+newlines-target : (text : List ℕ) → is_target text ≡ true → newlines text ≡ 0
+newlines-target text is = newlines-visible text (both_true (not (eqb (length text) 0)) (list_all is_visible text) is).1
+
+above_is_no_newline : (b : ℕ) → 11 ≤ b → eqb b 10 ≡ false
+above_is_no_newline b le = grind (arith, nat_tests)
+
+newlines-above : (b : ℕ) (text : List ℕ) → 11 ≤ b → newlines (b ∷ text) ≡ newlines text
+newlines-above b text le = let apart = above_is_no_newline b le in rw apart (omega arith)
+
+hex_above : (n : ℕ) → 11 ≤ hex n
+hex_above n = grind (arith, nat_tests)
+
+newlines-choice : (t : Bool) (x y : List ℕ) → newlines x ≡ 0 → newlines y ≡ 0 → newlines (if t then x else y) ≡ 0
+newlines-choice true x y p q = p
+newlines-choice false x y p q = q
+
+plain_above : (b : ℕ) → (nat_le 32 b && nat_le b 126) ≡ true → 11 ≤ b
+plain_above b e = grind (arith, nat_tests)
+
+newlines-hex : (b : ℕ) → newlines (codes "\\x" ++ hex (b / 16) ∷ hex (b % 16) ∷ []) ≡ 0
+newlines-hex b =
+    omega (arith, newlines-above (hex (b / 16)) (hex (b % 16) ∷ []) (hex_above (b / 16)), newlines-above (hex (b % 16)) [] (hex_above (b % 16)))
+
+newlines-plain : (b : ℕ) (t : Bool) → (t ≡ true → 11 ≤ b) → newlines (if t then b ∷ [] else codes "\\x" ++ hex (b / 16) ∷ hex (b % 16) ∷ []) ≡ 0
+newlines-plain b true above = newlines-above b [] (above refl)
+newlines-plain b false above = newlines-hex b
+
+newlines-quoted_byte : (b : ℕ) → newlines (quoted_byte b) ≡ 0
+newlines-quoted_byte b =
+    newlines-choice (b == 34) _ _ refl (newlines-choice (b == 92) _ _ refl (newlines-choice (b == 13) _ _ refl (newlines-choice (b == 10) _ _ refl
+    (newlines-choice (b == 9) _ _ refl (newlines-plain b (nat_le 32 b && nat_le b 126) (plain_above b))))))
+
+newlines-quoted : (bytes : List ℕ) → newlines (flat_map quoted_byte bytes) ≡ 0
+newlines-quoted [] = refl
+newlines-quoted (b ∷ bytes) =
+    newlines-append (quoted_byte b) (flat_map quoted_byte bytes) ∙ omega (arith, newlines-quoted_byte b, newlines-quoted bytes)
+
+newlines-quotation : (bytes : List ℕ) → newlines (quotation bytes) ≡ 0
+newlines-quotation bytes = omega (arith, newlines-append (flat_map quoted_byte bytes) (34 ∷ []), newlines-quoted bytes)
+
+newlines-connection : (c : ℕ) (rest : List ℕ) → IsConnection c → newlines rest ≡ 0 → newlines (decimal c ++ 32 ∷ rest) ≡ 0
+newlines-connection c rest is none = newlines-append (decimal c) (32 ∷ rest) ∙ omega (arith, newlines-decimal c (omega (arith, is)), none)
+
+newlines-flight : (f : Flight) → IsFlight f → newlines (flight_text f) ≡ 0
+newlines-flight First is = refl
+newlines-flight (Numbered n) is = newlines-decimal n (omega (arith, is.1))
+
+newlines-form : (target body : List ℕ) → is_target target ≡ true → newlines (target ++ 32 ∷ quotation body) ≡ 0
+newlines-form target body is =
+    newlines-append target (32 ∷ quotation body) ∙ omega (arith, newlines-target target is, newlines-quotation body)
+
+pub newlines-line_of : (event : EventLine) → IsEventLine event → newlines (line_of event) ≡ 0
+newlines-line_of (Direct target) is = omega (arith, newlines-target target is)
+newlines-line_of (Open c peer) is = omega (arith, newlines-connection c peer is.0 (newlines-target peer is.1))
+newlines-line_of (Close c) is = omega (arith, newlines-decimal c (omega (arith, is)))
+newlines-line_of (Bytes c bytes) is = omega (arith, newlines-connection c (quotation bytes) is.0 (newlines-quotation bytes))
+newlines-line_of (Get c target) is = omega (arith, newlines-connection c target is.0 (newlines-target target is.1))
+newlines-line_of (Post c target body) is = omega (arith, newlines-connection c (target ++ 32 ∷ quotation body) is.0 (newlines-form target body is.1))
+newlines-line_of (Render flight) is = omega (arith, newlines-flight flight is)
+newlines-line_of (Deliver flight) is = omega (arith, newlines-flight flight is)
+newlines-line_of (Lose flight) is = omega (arith, newlines-flight flight is)
+
+-- ---- a line tells its event
+
+one_connection : (c d : ℕ) (r s : List ℕ) → IsConnection c → IsConnection d → decimal c ++ 32 ∷ r ≡ decimal d ++ 32 ∷ s → (c ≡ d) × (r ≡ s)
+one_connection c d r s p q e = one_number 32 c d r s refl (omega (arith, p)) (omega (arith, q)) e
+
+one_flight : (f g : Flight) → IsFlight f → IsFlight g → flight_text f ≡ flight_text g → f ≡ g
+one_flight First First p q e = refl
+one_flight First (Numbered n) p q e = absurd (decimal_not_first n (omega (arith, q.1)) e)
+one_flight (Numbered n) First p q e = absurd (decimal_not_first n (omega (arith, p.1)) (sym e))
+one_flight (Numbered n) (Numbered m) p q e = ap (λ k. Numbered k) (decimal_injective n m (omega (arith, p.1)) (omega (arith, q.1)) e)
+
+one_quotation : (x y : List ℕ) → quotation x ≡ quotation y → x ≡ y
+one_quotation x y e = (one_quoted x y [] [] (ap (λ t. t ++ []) e)).0
+
+pub one_event : (a b : EventLine) → IsEventLine a → IsEventLine b → line_of a ≡ line_of b → a ≡ b
+one_event (Direct s) (Direct t) p q e = ap (λ v. Direct v) (ap (drop 7) e)
+one_event (Open c s) (Open d t) p q e =
+    let same = one_connection c d s t p.0 q.0 (ap (drop 5) e) in cc (same.0, same.1)
+one_event (Close c) (Close d) p q e = ap (λ n. Close n) (decimal_injective c d (omega (arith, p)) (omega (arith, q)) (ap (drop 6) e))
+one_event (Bytes c x) (Bytes d y) p q e =
+    let same = one_connection c d (quotation x) (quotation y) p.0 q.0 (ap (drop 6) e) in
+    let bytes = one_quotation x y same.1 in cc (same.0, bytes)
+one_event (Get c s) (Get d t) p q e =
+    let same = one_connection c d s t p.0 q.0 (ap (drop 4) e) in cc (same.0, same.1)
+one_event (Post c s x) (Post d t y) p q e =
+    let same = one_connection c d (s ++ 32 ∷ quotation x) (t ++ 32 ∷ quotation y) p.0 q.0 (ap (drop 5) e) in
+    let form = one_first_word s t (quotation x) (quotation y) (target_no_blank s p.1) (target_no_blank t q.1) same.1 in
+    let body = one_quotation x y form.1 in cc (same.0, form.0, body)
+one_event (Render f) (Render g) p q e = ap (λ v. Render v) (one_flight f g p q (ap (drop 7) e))
+one_event (Deliver f) (Deliver g) p q e = ap (λ v. Deliver v) (one_flight f g p q (ap (drop 8) e))
+one_event (Lose f) (Lose g) p q e = ap (λ v. Lose v) (one_flight f g p q (ap (drop 5) e))
+one_event a b p q e = absurd (omega (arith, ap (λ t. get_or t 0 0) e, ap (λ t. get_or t 1 0) e))
+
+-- the end is the line of no event
+pub event_is_not_end : (event : EventLine) → line_of event ≢ codes "end"
+event_is_not_end (Direct target) e = absurd (omega (arith, ap (λ t. get_or t 0 0) e))
+event_is_not_end (Open c peer) e = absurd (omega (arith, ap (λ t. get_or t 0 0) e))
+event_is_not_end (Close c) e = absurd (omega (arith, ap (λ t. get_or t 0 0) e))
+event_is_not_end (Bytes c bytes) e = absurd (omega (arith, ap (λ t. get_or t 0 0) e))
+event_is_not_end (Get c target) e = absurd (omega (arith, ap (λ t. get_or t 0 0) e))
+event_is_not_end (Post c target body) e = absurd (omega (arith, ap (λ t. get_or t 0 0) e))
+event_is_not_end (Render flight) e = absurd (omega (arith, ap (λ t. get_or t 0 0) e))
+event_is_not_end (Deliver flight) e = absurd (omega (arith, ap (λ t. get_or t 0 0) e))
+event_is_not_end (Lose flight) e = absurd (omega (arith, ap (λ t. get_or t 0 0) e))

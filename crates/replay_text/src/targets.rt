@@ -1,0 +1,42 @@
+//! Targets and peers: visible bytes of ASCII.
+ghost use Rattle.std.specs.Prelude.{◌≡◌, ◌≢◌, ℕ, List, IfOk, IfSome, IfNone, IsTrue};
+ghost use Rattle.std.specs.List.{list_all};
+ghost use Rattle.replay_text.specs.EventLines.{is_visible, is_target};
+
+use sp_base::{Mem, TextBuf};
+use std::alloc::Global;
+use std::str;
+
+fn all_visible(text: &[u8]) -> bool
+    ensures { result ≡ list_all is_visible text.now }
+{
+    text.iter().all(|b| *b >= 33 && *b <= 126)
+}
+
+fn is_target_text(text: &[u8]) -> bool
+    ensures { result ≡ is_target text.now }
+{
+    !text.is_empty() && all_visible(text)
+}
+
+fn visible_text(alloc: Global, bytes: &[u8]) -> Mem<TextBuf>
+    requires { IsTrue (list_all is_visible bytes.now) }
+    ensures { IfOk result (λ t. t ≡ bytes.now) }
+{
+    match str::from_utf8(bytes) {
+        Ok(text) => TextBuf::of(alloc, text),
+        Err(_) => unreachable!(),
+    }
+}
+
+// The target or the peer that a text is.
+pub fn target(alloc: Global, text: &[u8]) -> Mem<Option<TextBuf>>
+    ensures some { IfOk result (λ o. IfSome o (λ t. IsTrue (is_target t) × (text.now ≡ t))) }
+    ensures none { IfOk result (λ o. IfNone o ((t : List ℕ) → IsTrue (is_target t) → text.now ≢ t)) }
+{
+    if is_target_text(text) {
+        Ok(Some(visible_text(alloc, text)?))
+    } else {
+        Ok(None)
+    }
+}

@@ -6,7 +6,7 @@ use Rattle.resource_tree.specs.Content.{Content}
 use Rattle.error_answers.specs.Errors.{error_answer}
 use Rattle.publisher.specs.Rendering.{rendered}
 use Rattle.http_front.specs.Targets.{begins_with_slash, path_bytes, ends_in_slash, path_of_bytes, with_path}
-use Rattle.sling_dispatch.specs.Rendering.{get_of, answer_to, direct_answer}
+use Rattle.front.specs.Publishers.{get_of, answer_to, direct_answer}
 
 -- the answer to a target by its decoded path alone
 answer_at : Content → Bool → Option (List (List ℕ)) → Answer
@@ -14,21 +14,21 @@ answer_at content slash (Some path) = rendered content (get_of (record { path = 
 answer_at content slash None = error_answer 400
 
 answer_is : (content : Content) (target : List ℕ) (path : Option (List (List ℕ)))
-    → answer_to content (option_map (with_path target) path) ≡ answer_at content (ends_in_slash (path_bytes target)) path
+    → answer_to rendered content (option_map (with_path target) path) ≡ answer_at content (ends_in_slash (path_bytes target)) path
 unfolding answer_at
 answer_is content target (Some path) = refl
 answer_is content target None = refl
 
 -- the same of a target that may not begin with a slash
 answer_from : (content : Content) (begins : Bool) (target text : List ℕ) → path_bytes target ≡ text
-    → answer_to content (cond begins (option_map (with_path target) (path_of_bytes (path_bytes target))) None)
+    → answer_to rendered content (cond begins (option_map (with_path target) (path_of_bytes (path_bytes target))) None)
     ≡ cond begins (answer_at content (ends_in_slash text) (path_of_bytes text)) (error_answer 400)
 answer_from content true target text e =
     answer_is content target (path_of_bytes (path_bytes target)) ∙ ap (λ t. answer_at content (ends_in_slash t) (path_of_bytes t)) e
 answer_from content false target text e = refl
 
 pub same_answer : (content : Content) (a b : List ℕ) → begins_with_slash a ≡ begins_with_slash b → path_bytes a ≡ path_bytes b
-    → direct_answer content a ≡ direct_answer content b
+    → direct_answer rendered content a ≡ direct_answer rendered content b
 same_answer content a b slash e =
     answer_from content (begins_with_slash a) a (path_bytes a) refl
     ∙ ap (λ begins. cond begins (answer_at content (ends_in_slash (path_bytes a)) (path_of_bytes (path_bytes a))) (error_answer 400)) slash

@@ -3,6 +3,6 @@ pub mod Sessions
 pub mod Meanings
 pub mod Completeness
 pub mod DirectLemmas
-pub mod OneRun
 pub mod Words
 pub mod Statuses
+pub mod RequestLemmas

@@ -1,31 +1,276 @@
--- The statuses of a session have 16 bits, so its transcript tells its events.
-use Rattle.std.proofs.Common.{◌≡◌, ◌<◌, ℕ, List, [], ◌∷◌, Option, Some, None, subst, sym, ap, arith}
+-- The numbers in the notes of a session fit, so its transcript tells its notes.
+use Rattle.std.proofs.Common.{◌≡◌, ◌+◌, ◌<◌, ◌≤◌, ◌++◌, ◌^◌, ◌||◌, ◌&&◌, ℕ, zero, suc, Bool, true, false, not, cond, List, [], ◌∷◌, Option, Some, None, map, length, take, refl, subst, sym, ap, ◌∙◌, arith, inl, inr, ⊎_elim}
+use Rattle.std.specs.Prelude.{IsTrue, nat_eq, nat_le, if◌then◌else◌, unwrap_or}
+use Rattle.std.specs.List.{find}
+use Rattle.std.specs.Map.{update}
+use Rattle.sp_base.specs.declared.answer.Answer.{Answer}
 use Rattle.sp_base.specs.declared.answer.Ask.{Ask}
+use Rattle.sp_base.specs.declared.answer.Req.{Req}
 use Rattle.resource_tree.specs.Content.{Content}
 use Rattle.error_answers.specs.Errors.{error_answer}
 use Rattle.publisher.specs.Rendering.{rendered}
-use Rattle.replay_text.specs.declared.note.Note.{Note}
-use Rattle.replay_text.specs.declared.note.Note.TheVariants.{Answer as answered}
-use Rattle.replay_text.specs.declared.scenario.Step.{Step}
-use Rattle.replay_text.specs.declared.scenario.Step.TheVariants.{Direct}
-use Rattle.replay_text.specs.declared.scenario.Scenario.{Scenario}
+use Rattle.cover_rules.specs.declared.page.PageKey.{PageKey}
+use Rattle.http_front.specs.Faults.{status_of}
+use Rattle.http_front.specs.declared.fault.InFault.{InFault}
+use Rattle.http_front.specs.declared.fault.InFault.TheVariants as fault
 use Rattle.http_front.specs.declared.target.Target.{Target}
-use Rattle.sling_dispatch.specs.Rendering.{answer_to, direct_answer, get_of}
-use Rattle.sling_dispatch.specs.Runs.{IsSession, Run, RunState}
-use Rattle.replay_text.specs.Transcript.{AreWritable, EventsAreWritable}
 use Rattle.http_front.specs.Targets.{target_of}
+use Rattle.http_front.specs.declared.turn.Turn.TheVariants.{Continue, Whole}
+use Rattle.connections.specs.Connections.{Connection, Due, Send, Treat, Refuse, Close, Nothing, fresh}
+use Rattle.front.specs.declared.flying.Flying.{Flying}
+use Rattle.front.specs.declared.note.Note.{Note}
+use Rattle.front.specs.declared.note.Note.TheVariants.{Answer as answered, Ask as asked, Local, Rendered, Passed, Lost, Sent, Shut, Refused, Idle, Dry}
+use Rattle.front.specs.declared.step.Pick.{Pick}
+use Rattle.front.specs.declared.step.Step.{Step}
+use Rattle.front.specs.declared.step.Step.TheVariants as step
+use Rattle.front.specs.Events.{Event, Extended, DeliverAs, DeliverTo, Happens, HappensBy, IsOrFixed, Leads, LoseTo, PieceTo, RenderTo, Run, after_event, after_run, begun, gone, going, is_any, is_picked, is_rendered, is_unrendered, mood_notes, most_lines, notes_of, opened, opening, picked}
+use Rattle.front.specs.Moves.{Gives, IsFirst, Mood, Serves, after, afters, asked_by, due, flight_at, has_number, is_full, over_with, points, request_of, with_rendered_at, without}
+use Rattle.front.specs.Publishers.{answer_to, ask_of, direct_answer, fixed_answer, get_of}
+use Rattle.front.specs.States.{Entry, RunState, asked_in, start_of}
+use Rattle.replay_text.specs.declared.event_line.EventLine.{EventLine}
+use Rattle.replay_text.specs.declared.event_line.EventLine.TheVariants as line
+use Rattle.replay_text.specs.declared.scenario.Scenario.{Scenario}
+use Rattle.replay_text.specs.EventLines.{IsEventLine}
+use Rattle.replay_text.specs.Scenario.{AreActs}
+use Rattle.replay_text.specs.Transcript.{AreWritable, EventsAreWritable, IsLineNumber, IsWritable}
+use Rattle.sling_dispatch.specs.Runs.{IsSession, step_of}
 
+-- ---- lists of notes
+pub both_writable : (a b : List Note) → AreWritable a → AreWritable b → AreWritable (a ++ b)
+both_writable [] b first second = second
+both_writable (note ∷ a) b first second = (first.0, both_writable a b first.1 second)
+
+mood_writable : (m : Mood) → AreWritable (mood_notes m)
+mood_writable m = by_dry m.dry
+  where
+    by_dry : (b : Bool) → AreWritable (if b then Dry ∷ [] else [])
+    by_dry true = (tt, tt)
+    by_dry false = tt
+
+-- ---- states in which the numbers fit
+pub record Fits (f : Flying) : Type 0 where
+  pub number : f.number ≤ 9223372036854775808
+  pub line : f.line < 4294967296
+
+abbrev pub AllFit : List Flying → Type 0
+AllFit [] = Unit {0}
+AllFit (f ∷ air) = Fits f × AllFit air
+
+pub record StateFits (w : RunState) : Type 0 where
+  pub asked_is : asked_in w.log.entries ≤ 9223372036854775808
+  pub air : AllFit w.air
+  pub publishing_is : w.publishing ≡ rendered
+
+all-push : (air : List Flying) (f : Flying) → AllFit air → Fits f → AllFit (air ++ f ∷ [])
+all-push [] f all fits = (fits, tt)
+all-push (g ∷ air) f all fits = (all.0, all-push air f all.1 fits)
+
+all-without : (n : ℕ) (air : List Flying) → AllFit air → AllFit (without n air)
+all-without n [] all = tt
+all-without n (f ∷ air) all = by_test (has_number n f) (all-without n air all.1)
+  where
+    by_test : (b : Bool) → AllFit (without n air) → AllFit (cond (not b) (f ∷ without n air) (without n air))
+    by_test true rest = rest
+    by_test false rest = (all.0, rest)
+
+all-rendered : (n : ℕ) (a : Answer) (air : List Flying) → AllFit air → AllFit (map (with_rendered_at n a) air)
+all-rendered n a [] all = tt
+all-rendered n a (f ∷ air) all = (by_test (has_number n f), all-rendered n a air all.1)
+  where
+    by_test : (b : Bool) → Fits (if b then record f { rendered = Some a } else f)
+    by_test true = record { number = all.0.number; line = all.0.line }
+    by_test false = all.0
+
+found-fits : (test : Flying → Bool) (air : List Flying) (f : Flying) → AllFit air → find test air ≡ Some f → Fits f
+found-fits test [] f all e = absurd (let no : ⊥ = cc in no)
+found-fits test (g ∷ air) f all e = by_test (test g) refl (found-fits test air f all.1)
+  where
+    by_test : (b : Bool) → test g ≡ b → (find test air ≡ Some f → Fits f) → Fits f
+    by_test true passes rest = let some : Some g ≡ Some f = rw passes at e in let same : g ≡ f = cc in subst Fits same all.0
+    by_test false passes rest = rest (rw passes at e)
+
+-- ---- notes
+over-fits : (w : RunState) (n : ℕ) (a : Answer) (entry : Entry) (flying : Option Flying) → StateFits w → asked_in (entry ∷ w.log.entries) ≡ asked_in w.log.entries → StateFits (over_with w n a entry flying)
+over-fits w n a entry None fits same = fits
+over-fits w n a entry (Some f) fits same = record { asked_is = rw same fits.asked_is; air = all-without n w.air fits.air; publishing_is = fits.publishing_is }
+
+keeps-fits : (w v : RunState) → StateFits w → v.air ≡ w.air → v.log ≡ w.log → v.publishing ≡ w.publishing → StateFits v
+keeps-fits w v fits air log publishing = record { asked_is = rw log fits.asked_is; air = rw air fits.air; publishing_is = publishing ∙ fits.publishing_is }
+
+asked-fits : (w : RunState) (n c : ℕ) (key : Option PageKey) (request : Option Req) → StateFits w → n ≡ asked_in w.log.entries + 1 → n ≤ 9223372036854775808 → c < 4294967296 → StateFits (asked_by w n c key request)
+asked-fits w n c key None fits number most small = fits
+asked-fits w n c key (Some request) fits number most small = record {
+  asked_is = rw (← number) most;
+  air = all-push w.air (record { number = n; line = c; request = request; rendered = None }) fits.air (record { number = most; line = small });
+  publishing_is = fits.publishing_is;
+}
+
+local-fits : (w : RunState) (c status : ℕ) → StateFits w → StateFits (after w (Local c status))
+local-fits w c status fits = keeps-fits w _ fits refl refl refl
+
+fault-short : (f : InFault) → status_of f < 65536
+fault-short fault.BadHead = omega arith
+fault-short fault.ManyHeaders = omega arith
+fault-short fault.BadTarget = omega arith
+fault-short fault.NoLength = omega arith
+fault-short fault.BadLength = omega arith
+fault-short fault.LongBody = omega arith
+fault-short fault.LongHead = omega arith
+fault-short fault.NoMemory = omega arith
+
+or-none : (a b : Bool) → ((a || b) ≡ true → ⊥) → b ≡ false
+or-none true b never = absurd (never refl)
+or-none false true never = absurd (never refl)
+or-none false false never = refl
+
+pub record NoteFits (w : RunState) (note : Note) : Type 0 where
+  pub writable : IsWritable note
+  pub state : StateFits (after w note)
+
+first-fits : (m : Mood) (w : RunState) (c : ℕ) (request : Req) (note : Note) → StateFits w → c < 4294967296 → IsFirst m w c request note points → NoteFits w note
+first-fits m w c request note fits small (inl crowded) = rw crowded.1 (record { writable = (small, omega arith); state = local-fits w c 503 fits })
+first-fits m w c request note fits small (inr (_, inl full)) = rw full.1 (record { writable = (small, omega arith); state = local-fits w c 503 fits })
+first-fits m w c request note fits small (inr (_, inr (free, inl ask))) =
+    let room : nat_le 9223372036854775808 (asked_in w.log.entries) ≡ false = or-none (nat_le 256 (length w.air)) _ free in
+    let most : asked_in w.log.entries + 1 ≤ 9223372036854775808 = grind (arith, room) in
+    rw ask.1 (record { writable = (omega (arith, most), small, tt); state = asked-fits w _ c None (request_of (due w c)) fits refl most small })
+first-fits m w c request note fits small (inr (_, inr (_, inr (never, _)))) = absurd never
+
+gives-fits : (m : Mood) (w : RunState) (c : ℕ) (owed : Due) (note : Note) → StateFits w → c < 4294967296 → Gives m w c owed note → NoteFits w note
+gives-fits m w c (Send slot) note fits small gives = rw gives.1 (record { writable = small; state = keeps-fits w _ fits refl refl refl })
+gives-fits m w c (Treat Continue) note fits small gives = absurd gives
+gives-fits m w c (Treat (Whole request)) note fits small (inl first) = first-fits m w c request note fits small first
+gives-fits m w c (Treat (Whole request)) note fits small (inr dry) = rw dry.1 (record { writable = (small, omega arith); state = local-fits w c 507 fits })
+gives-fits m w c (Refuse f) note fits small gives = rw gives (record { writable = (small, fault-short f); state = local-fits w c (status_of f) fits })
+gives-fits m w c Close note fits small gives = rw gives (record { writable = small; state = keeps-fits w _ fits refl refl refl })
+gives-fits m w c Nothing note fits small gives = absurd gives
+
+pub record NotesFit (w : RunState) (notes : List Note) : Type 0 where
+  pub writable : AreWritable notes
+  pub state : StateFits (afters w notes)
+
+serves-fit : (m : Mood) (w : RunState) (c : ℕ) (notes : List Note) → StateFits w → c < 4294967296 → Serves m w c notes → NotesFit w notes
+serves-fit m w c [] fits small serves = record { writable = tt; state = fits }
+serves-fit m w c (note ∷ notes) fits small serves =
+    let one = gives-fits m w c (due w c) note fits small serves.0 in
+    let rest = serves-fit m (after w note) c notes one.state small serves.1 in
+    record { writable = (one.writable, rest.writable); state = rest.state }
+
+idle-fits : (w : RunState) (notes : List Note) → StateFits w → notes ≡ Idle ∷ [] → NotesFit w notes
+idle-fits w notes fits is = rw is (record { writable = (tt, tt); state = fits })
+
+-- ---- events
 module _ (short : (tree : Content) (ask : Ask) → (rendered tree ask).status < 1000) (error : (status : ℕ) → (error_answer status).status ≡ status) where
-  answer_short : (content : Content) (target : Option Target) → (answer_to content target).status < 65536
+  answer_short : (content : Content) (target : Option Target) → (answer_to rendered content target).status < 65536
   answer_short content (Some target) = omega (arith, short content (get_of target))
   answer_short content None = omega (arith, error 400)
 
-  run_writable : (w : RunState) (steps : List Step) (events : List (List Note)) → Run w steps events → EventsAreWritable events
-  run_writable w [] [] run = tt
-  run_writable w [] (notes ∷ events) run = absurd run
-  run_writable w (step ∷ steps) [] run = absurd run
-  run_writable w (Direct target ∷ steps) (notes ∷ events) run =
-      (subst AreWritable (sym run.0) (answer_short w.content (target_of target), tt), run_writable w steps events run.1)
+  or_fixed_short : (m : Mood) (answer wanted : Answer) → wanted.status < 65536 → IsOrFixed m answer wanted → answer.status < 65536
+  or_fixed_short m answer wanted small (inl is) = subst (λ (a : Answer). a.status < 65536) (sym is) small
+  or_fixed_short m answer wanted small (inr fixed) = subst (λ (a : Answer). a.status < 65536) (sym fixed.1) (omega arith)
 
-  pub session_writable : (s : Scenario) (n : ℕ) (events : List (List Note)) → IsSession s n events → EventsAreWritable events
-  session_writable s n events session = run_writable _ _ events session.run
+  -- the step names a connection that fits, if it names one
+  abbrev StepFits : Step → Type 0
+  StepFits (step.Opened c peer) = c < 4294967296
+  StepFits (step.Piece c bytes) = c < 4294967296
+  StepFits (step.Gone c) = c < 4294967296
+  StepFits (step.Direct target) = Unit {0}
+  StepFits (step.Render pick) = Unit {0}
+  StepFits (step.Deliver pick) = Unit {0}
+  StepFits (step.Lose pick) = Unit {0}
+
+  opened_fits : (w : RunState) (c : ℕ) (peer : List ℕ) (notes : List Note) (at : Option Connection) → StateFits w → c < 4294967296 → notes ≡ opening c w.lines at → NotesFit (opened w c peer at) notes
+  opened_fits w c peer notes (Some k) fits small is = idle-fits w notes fits is
+  opened_fits w c peer notes None fits small is = by_test (nat_le most_lines w.lines) is
+    where
+      by_test : (full : Bool) → notes ≡ (if full then Refused c ∷ [] else []) → NotesFit (if full then w else record w { line = update nat_eq w.line c (Some (fresh peer)); lines = w.lines + 1 }) notes
+      by_test true is = rw is (record { writable = (small, tt); state = fits })
+      by_test false is = rw is (record { writable = tt; state = keeps-fits w _ fits refl refl refl })
+
+  gone_fits : (w : RunState) (c : ℕ) (notes : List Note) (at : Option Connection) → StateFits w → notes ≡ going at → NotesFit (gone w c at) notes
+  gone_fits w c notes None fits is = idle-fits w notes fits is
+  gone_fits w c notes (Some k) fits is = rw is (record { writable = tt; state = keeps-fits w _ fits refl refl refl })
+
+  piece_fits : (w : RunState) (e : Event) (c : ℕ) (bytes : List ℕ) (at : Option Connection) → StateFits (begun w e (step.Piece c bytes)) → c < 4294967296 → PieceTo w e c bytes at → NotesFit (begun w e (step.Piece c bytes)) e.body
+  piece_fits w e c bytes None fits small is = idle-fits _ e.body fits is
+  piece_fits w e c bytes (Some k) fits small feeds = serves-fit e.mood _ c e.body fits small feeds.settles.serves
+
+  render_fits : (w : RunState) (e : Event) (flying : Option Flying) → StateFits w → ((f : Flying) → flying ≡ Some f → Fits f) → RenderTo w e flying → NotesFit w e.body
+  render_fits w e None fits each is = idle-fits w e.body fits is
+  render_fits w e (Some f) fits each to =
+      let here = each f refl in
+      let wanted : (w.publishing w.content (ask_of f.request)).status < 65536 = rw fits.publishing_is (omega (arith, short w.content (ask_of f.request))) in
+      rw to.2 (record {
+        writable = ((omega (arith, here.number), or_fixed_short e.mood to.0 _ wanted to.1), tt);
+        state = record { asked_is = fits.asked_is; air = all-rendered f.number to.0 w.air fits.air; publishing_is = fits.publishing_is };
+      })
+
+  leads_fit : (w : RunState) (m : Mood) (first : Note) (c : ℕ) (notes : List Note) → IsWritable first → StateFits (after w first) → c < 4294967296 → Leads w m first c notes → NotesFit w notes
+  leads_fit w m first c notes writable fits small leads =
+      let rest = serves-fit m (after w first) c leads.rest fits small leads.settles.serves in
+      rw leads.begins (record { writable = (writable, rest.writable); state = rest.state })
+
+  deliver_fits : (w : RunState) (e : Event) (f : Flying) (answer : Option Answer) → StateFits w → Fits f → DeliverAs w e f answer → NotesFit w e.body
+  deliver_fits w e f None fits here is = idle-fits w e.body fits is
+  deliver_fits w e f (Some answer) fits here lands =
+      let first : lands.0 ≡ Passed f.number = lands.1 in
+      let leads : Leads w e.mood (Passed f.number) f.line e.body = subst (λ note. Leads w e.mood note f.line e.body) first lands.2 in
+      leads_fit w e.mood (Passed f.number) f.line e.body (omega (arith, here.number)) (over-fits w f.number _ _ (flight_at f.number w.air) fits refl) here.line leads
+
+  delivers_fit : (w : RunState) (e : Event) (flying : Option Flying) → StateFits w → ((f : Flying) → flying ≡ Some f → Fits f) → DeliverTo w e flying → NotesFit w e.body
+  delivers_fit w e None fits each is = idle-fits w e.body fits is
+  delivers_fit w e (Some f) fits each to = deliver_fits w e f f.rendered fits (each f refl) to
+
+  loses_fit : (w : RunState) (e : Event) (flying : Option Flying) → StateFits w → ((f : Flying) → flying ≡ Some f → Fits f) → LoseTo w e flying → NotesFit w e.body
+  loses_fit w e None fits each is = idle-fits w e.body fits is
+  loses_fit w e (Some f) fits each to =
+      let here = each f refl in
+      leads_fit w e.mood (Lost f.number) f.line e.body (omega (arith, here.number)) (over-fits w f.number _ _ (flight_at f.number w.air) fits refl) here.line to
+
+  picked_fits : (pick : Pick) (can : Flying → Bool) (air : List Flying) → AllFit air → (f : Flying) → picked pick can air ≡ Some f → Fits f
+  picked_fits pick can air all f found = found-fits (λ flying. is_picked pick flying && can flying) air f all found
+
+  by_step : (w : RunState) (e : Event) (s : Step) → StateFits w → StepFits s → HappensBy w e s → NotesFit (begun w e s) e.body
+  by_step w e (step.Opened c peer) fits small is = opened_fits w c peer e.body (w.line c) fits small is
+  by_step w e (step.Piece c bytes) fits small to = piece_fits w e c bytes (w.line c) (keeps-fits w _ fits refl refl refl) small to
+  by_step w e (step.Gone c) fits small is = gone_fits w c e.body (w.line c) fits is
+  by_step w e (step.Direct target) fits small to =
+      let wanted : (direct_answer w.publishing w.content target).status < 65536 = rw fits.publishing_is (answer_short w.content (target_of target)) in
+      rw to.2 (record { writable = (or_fixed_short e.mood to.0 _ wanted to.1, tt); state = fits })
+  by_step w e (step.Render pick) fits small to = render_fits w e (picked pick is_unrendered w.air) fits (picked_fits pick is_unrendered w.air fits.air) to
+  by_step w e (step.Deliver pick) fits small to = delivers_fit w e (picked pick is_rendered w.air) fits (picked_fits pick is_rendered w.air fits.air) to
+  by_step w e (step.Lose pick) fits small to = loses_fit w e (picked pick is_any w.air) fits (picked_fits pick is_any w.air fits.air) to
+
+  abbrev AllStepsFit : List Event → Type 0
+  AllStepsFit [] = Unit {0}
+  AllStepsFit (e ∷ events) = StepFits e.step × AllStepsFit events
+
+  run_writable : (w : RunState) (events : List Event) → StateFits w → AllStepsFit events → Run w events → EventsAreWritable (map notes_of events)
+  run_writable w [] fits steps run = tt
+  run_writable w (e ∷ events) fits steps run =
+      let one = by_step w e e.step fits steps.0 run.0 in
+      (both_writable e.body (mood_notes e.mood) one.writable (mood_writable e.mood), run_writable (after_event w e) events one.state steps.1 run.1)
+
+  line_fits : (act : EventLine) → IsEventLine act → StepFits (step_of act)
+  line_fits (line.Direct target) is = tt
+  line_fits (line.Open c peer) is = is.0
+  line_fits (line.Close c) is = is
+  line_fits (line.Bytes c bytes) is = is.0
+  line_fits (line.Get c target) is = is.0
+  line_fits (line.Post c target form) is = is.0
+  line_fits (line.Render flight) is = tt
+  line_fits (line.Deliver flight) is = tt
+  line_fits (line.Lose flight) is = tt
+
+  steps_fit : (n : ℕ) (acts : List EventLine) (events : List Event) → AreActs acts → map (λ (e : Event). e.step) events ≡ map step_of (take n acts) → AllStepsFit events
+  steps_fit n acts [] all same = tt
+  steps_fit zero acts (e ∷ events) all same = absurd (let no : ⊥ = cc in no)
+  steps_fit (suc n) [] (e ∷ events) all same = absurd (let no : ⊥ = cc in no)
+  steps_fit (suc n) (act ∷ acts) (e ∷ events) all same =
+      let head : e.step ≡ step_of act = cc in
+      let tail : map (λ (x : Event). x.step) events ≡ map step_of (take n acts) = cc in
+      (subst StepFits (sym head) (line_fits act all.0), steps_fit n acts events all.1 tail)
+
+  pub session_writable : (s : Scenario) (n : ℕ) (events : List Event) → AreActs s.acts → IsSession s n events → EventsAreWritable (map notes_of events)
+  session_writable s n events acts session =
+      run_writable _ events (record { asked_is = omega arith; air = tt; publishing_is = refl }) (steps_fit n s.acts events acts session.steps) session.run

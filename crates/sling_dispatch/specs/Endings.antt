@@ -9,12 +9,11 @@ use Rattle.content_json.specs.declared.fault.ContentFault.{ContentFault}
 use Rattle.content_json.specs.declared.fault.ContentFault.TheVariants.{NoMemory as no_memory}
 use Rattle.replay_text.specs.Languages.{IsRefusedWithin}
 use Rattle.replay_text.specs.Scenario.{IsScenario, Reads, most}
-use Rattle.replay_text.specs.Transcript.{transcript}
-use Rattle.sling_dispatch.specs.Runs.{IsSession}
+use Rattle.sling_dispatch.specs.Runs.{IsSession, told_of_events}
 use Rattle.sling_dispatch.specs.Streams.{IsReadOut}
 use Rattle.sling_dispatch.specs.Faults.{fault_text}
 use Rattle.replay_text.specs.declared.scenario.Scenario.{Scenario}
-use Rattle.replay_text.specs.declared.note.Note.{Note}
+use Rattle.front.specs.Events.{Event}
 use Rattle.sling_dispatch.specs.declared.ending.Ending.{Ending}
 use Rattle.sling_dispatch.specs.declared.ending.Ending.TheVariants.{Done, Usage, SourceFailed, SinkFailed, Refused, ContentRefused, NoMemory}
 
@@ -47,7 +46,7 @@ pub data Writing : Type 0 where
   SourceLine : Writing
   RefusalLine : ℕ → Writing
   ContentLine : ContentFault → Writing
-  Events : Scenario → List (List Note) → Writing
+  Events : Scenario → List Event → Writing
 
 -- the text of what is written
 abbrev pub output_of : Writing → List ℕ
@@ -56,7 +55,7 @@ output_of UsageLine = codes "usage: replay" ++ 10 ∷ []
 output_of SourceLine = codes "source failed" ++ 10 ∷ []
 output_of (RefusalLine before) = codes "scenario refused at line " ++ decimal (before + 1) ++ 10 ∷ []
 output_of (ContentLine fault) = codes "content refused: " ++ fault_text fault ++ 10 ∷ []
-output_of (Events s events) = transcript events
+output_of (Events s events) = told_of_events events
 
 -- the whole text was written
 abbrev pub HasWritten : Told (List ℕ) → Writing → Type 0
@@ -68,7 +67,7 @@ HasWrittenPrefix sink w = (n : ℕ) × (sink.new ≡ added sink.old (take n (out
 
 -- What each ending says of the sink, where IsDue says what may be written.
 abbrev pub Means : (Writing → Type 0) → Ending → Told (List ℕ) → Type 0
-Means IsDue Done sink = (s : Scenario) × (events : List (List Note)) × IsDue (Events s events) × IsSession s (length s.acts) events
+Means IsDue Done sink = (s : Scenario) × (events : List Event) × IsDue (Events s events) × IsSession s (length s.acts) events
     × HasWritten sink (Events s events)
 Means IsDue Usage sink = IsDue UsageLine × HasWritten sink UsageLine
 Means IsDue SourceFailed sink = IsDue SourceLine × HasWritten sink SourceLine
@@ -78,7 +77,7 @@ Means IsDue SinkFailed sink = (w : Writing) × IsDue w × HasWrittenPrefix sink 
 Means IsDue NoMemory sink = (w : Writing) × IsDue w × HasWrittenPrefix sink w × HasNotFailed sink
 
 -- these are first events of the scenario
-abbrev pub IsRunOf : Scenario → List (List Note) → Type 0
+abbrev pub IsRunOf : Scenario → List Event → Type 0
 IsRunOf s events = (n : ℕ) × IsSession s n events
 
 -- the content of the scenario has a reading

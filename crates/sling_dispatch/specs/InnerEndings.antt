@@ -11,7 +11,7 @@ use Rattle.content_json.specs.declared.fault.ContentFault.TheVariants.{NoMemory 
 use Rattle.replay_text.specs.Languages.{IsRefusedWithin}
 use Rattle.replay_text.specs.Scenario.{IsScenario, Reads, most}
 use Rattle.sling_dispatch.specs.Endings.{Told, HasNotFailed, HasFailed, Writing, Nothing, UsageLine, SourceLine, RefusalLine, ContentLine, Events, Means, IsRunOf}
-use Rattle.replay_text.specs.declared.scenario.Act.{Act}
+use Rattle.replay_text.specs.declared.event_line.EventLine.{EventLine}
 use Rattle.replay_text.specs.declared.scenario.Scenario.{Scenario}
 use Rattle.sling_dispatch.specs.declared.streams.ReadFault.{ReadFault}
 use Rattle.sling_dispatch.specs.declared.streams.ReadFault.TheVariants.{Failed as read_failed, NoMemory as read_memory}
@@ -66,7 +66,7 @@ ending_by sink_failed = SinkFailed
 ending_by sink_memory = NoMemory
 
 -- what is written where acts are played on a content, whichever scenario has them
-abbrev pub PlaysAll : Content → List Act → Ending → Told (List ℕ) → Type 0
+abbrev pub PlaysAll : Content → List EventLine → Ending → Told (List ℕ) → Type 0
 PlaysAll tree acts ending sink = (s : Scenario) → s.acts ≡ acts → content_of s.content ≡ Ok tree → Means (IsDueOf s) ending sink
 
 -- A read answers Failed only where the count rose, and any other answer leaves the count.

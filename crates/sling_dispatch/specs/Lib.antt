@@ -1,4 +1,3 @@
-pub mod Rendering
 pub mod Runs
 pub mod Fronts
 pub mod Streams

@@ -1,15 +1,15 @@
 //! Laws of the definitions, on functions that do nothing.
-ghost use Rattle.std.specs.Prelude.{◌≡◌, ◌⊎◌, ◌<◌, ℕ, List, Some};
+ghost use Rattle.std.specs.Prelude.{◌≡◌, ◌⊎◌, ◌<◌, ℕ, List, Some, map};
 ghost use Rattle.resource_tree.specs.Content.{Content};
 ghost use Rattle.http_front.specs.Targets.{begins_with_slash, path_bytes};
-ghost use Rattle.sling_dispatch.specs.Rendering.{direct_answer};
-ghost use Rattle.replay_text.specs.Scenario.{Reads};
+ghost use Rattle.publisher.specs.Rendering.{rendered};
+ghost use Rattle.front.specs.Publishers.{direct_answer};
+ghost use Rattle.front.specs.Events.{Event, notes_of};
+ghost use Rattle.replay_text.specs.Scenario.{AreActs, Reads};
 ghost use Rattle.sling_dispatch.specs.Endings.{Told, Call, Means, IsDue, IsReplay, HasNotFailed, HasContent};
 ghost use Rattle.sling_dispatch.specs.declared.ending.Ending.{Ending};
 ghost use Rattle.sling_dispatch.specs.declared.ending.Ending.TheVariants.{Done, NoMemory};
-ghost use Rattle.sling_dispatch.specs.Runs.{IsSession};
-ghost use Rattle.replay_text.specs.Transcript.{transcript};
-ghost use Rattle.replay_text.specs.declared.note.Note.{Note};
+ghost use Rattle.sling_dispatch.specs.Runs.{IsSession, told_of_events};
 ghost use Rattle.replay_text.specs.declared.scenario.Scenario.{Scenario};
 
 use publisher::statuses_are_short;
@@ -18,7 +18,7 @@ use replay_text::{a_transcript_tells_its_events, one_reading};
 /// How the path of a target is escaped doesn't matter, apart from the slash that it begins with, nor which query follows.
 pub fn spellings_are_answered_alike()
     ensures { (content : Content) (a b : List ℕ) → begins_with_slash a ≡ begins_with_slash b → path_bytes a ≡ path_bytes b
-        → direct_answer content a ≡ direct_answer content b }
+        → direct_answer rendered content a ≡ direct_answer rendered content b }
 {}
 
 /// Where the words are right, the source's bytes are a scenario whose content has a reading, and neither the source nor the
@@ -32,15 +32,9 @@ pub fn complete()
     one_reading();
 }
 
-/// A scenario has one run, and so one transcript: whatever is done with its first acts has the same events.
-pub fn one_transcript()
-    ensures events { (s : Scenario) (n : ℕ) (a b : List (List Note)) → IsSession s n a → IsSession s n b → a ≡ b }
-    ensures transcript { (s : Scenario) (n : ℕ) (a b : List (List Note)) → IsSession s n a → IsSession s n b → transcript a ≡ transcript b }
-{}
-
-/// A transcript tells the events of its session: no two sessions have the same.
+/// A transcript tells what happened in its session: no two sessions have the same, but those in which the same happened.
 pub fn a_transcript_tells_its_session()
-    ensures { (s t : Scenario) (n m : ℕ) (a b : List (List Note)) → IsSession s n a → IsSession t m b → transcript a ≡ transcript b → a ≡ b }
+    ensures { (s t : Scenario) (n m : ℕ) (a b : List Event) → AreActs s.acts → AreActs t.acts → IsSession s n a → IsSession t m b → told_of_events a ≡ told_of_events b → map notes_of a ≡ map notes_of b }
 {
     statuses_are_short();
     a_transcript_tells_its_events();

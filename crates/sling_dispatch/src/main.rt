@@ -4,13 +4,13 @@
 mod command;
 mod ending;
 mod faults;
-mod front;
 mod laws;
 mod play;
 mod program;
-mod rendering;
 #[cfg(test)]
 mod run_tests;
+mod site;
+mod steps;
 mod streams;
 #[cfg(test)]
 mod tests;

@@ -3,14 +3,19 @@ ghost use Rattle.std.specs.Prelude.{◌≡◌, ◌++◌, ℕ, List, IfOk, OnOk, 
 ghost use Rattle.sp_outside.specs.Told.{added};
 ghost use Rattle.sp_outside.specs.Causes.{HasSinkCause};
 ghost use Rattle.sling_dispatch.specs.Fronts.{IsNext};
+ghost use Rattle.sling_dispatch.specs.Runs.{step_of};
+ghost use Rattle.front.specs.Fronts.{Stands};
+ghost use Rattle.publisher.specs.Rendering.{rendered};
 ghost use Rattle.sling_dispatch.specs.Endings.{told_of};
 ghost use Rattle.sling_dispatch.specs.InnerEndings.{Tells, ending_by, PlaysAll};
 
 use crate::ending::Ending;
-use crate::front::Front;
+use crate::site::Site;
+use crate::steps::step_of;
 use crate::streams::write_all;
+use front::{Front, events_extend};
 use publisher::Publisher;
-use replay_text::{Act, ActList, Step, write_notes};
+use replay_text::{EventLine, EventLineList, write_notes};
 use sp_base::Mem;
 use sp_outside::{Sink, SinkFault};
 use std::alloc::Global;
@@ -39,15 +44,21 @@ fn ending_by(fault: SinkFault) -> Ending
 }
 
 // Makes the events of acts, and writes their transcript. What was gathered is written whatever the run ends with.
-pub fn play<K: Sink>(alloc: Global, publisher: Publisher, acts: &ActList, sink: &mut K) -> Ending
+pub fn play<K: Sink>(
+    alloc: Global,
+    publisher: Publisher,
+    acts: &EventLineList,
+    sink: &mut K,
+) -> Ending
     ensures { PlaysAll publisher acts.now result (told_of (K.held sink.old) (K.held sink.new) (K.faults sink.old) (K.faults sink.new)) }
 {
-    let mut front = Front { publisher };
+    events_extend();
+    let mut front = Front::new(alloc, Site { publisher });
     let mut gathered = Vec::new(alloc);
     let mut event = 0;
     for act in acts.as_slice() {
         event += 1;
-        let Ok(text) = event_of(alloc, &mut front, event, step_of(act)) else {
+        let Ok(text) = event_of(alloc, &mut front, event, act) else {
             return say(sink, &gathered, Ending::NoMemory);
         };
         if let Err(fault) = gather(sink, &mut gathered, &text) {
@@ -83,18 +94,11 @@ fn keep(gathered: &mut Vec<u8>, text: &[u8]) -> bool
     gathered.extend_from_slice(text).is_ok()
 }
 
-fn step_of(act: &Act) -> &Step
-    ensures { act.now ≡ Act.Do result.now }
-{
-    match act {
-        Act::Do(step) => step,
-    }
-}
-
 // The lines of the next event.
-fn event_of(alloc: Global, front: &mut Front, event: u64, step: &Step) -> Mem<Vec<u8>>
-    ensures { IfOk result (λ text. IsNext front.old step.now front.new event text.items) }
+fn event_of(alloc: Global, front: &mut Front<Site>, event: u64, act: &EventLine) -> Mem<Vec<u8>>
+    ensures { IfOk result (λ text. IsNext (Stands rendered front.old.renderer.publisher front.old.board) (Stands rendered front.new.renderer.publisher front.new.board) (step_of act.now) event text.items) }
 {
-    let notes = front.step(alloc, step)?;
+    let step = step_of(alloc, act)?;
+    let notes = front.step(alloc, &step)?;
     write_notes(alloc, event, notes.as_slice())
 }

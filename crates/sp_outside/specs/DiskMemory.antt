@@ -1,5 +1,5 @@
 -- The state of a disk in memory, which of its calls fail, and what each call does to it.
-use Rattle.std.specs.Prelude.{◌≡◌, ◌==◌, ◌-◌, ℕ, Option, Some, None, Result, Ok, Err, IsSome, if◌then◌else◌}
+use Rattle.std.specs.Prelude.{◌≡◌, ◌≢◌, ◌==◌, ◌-◌, ℕ, Option, Some, None, Result, Ok, Err, IsSome, if◌then◌else◌}
 use Rattle.sp_outside.specs.Causes.{next}
 use Rattle.sp_outside.specs.Files.{Files}
 use Rattle.sp_outside.specs.declared.disk.DiskFault.{DiskFault}
@@ -37,11 +37,17 @@ plan_gone (Once n way) = Once n way
 plan_gone (From n way) = Never
 plan_gone Stopped = Never
 
--- a call is Ok only where the plan lets it pass, and has failed only where the plan says so
+-- a call fails exactly where the plan says so, and is out of memory only where it may pass
 abbrev pub IsPlanned : {T : Type 0} → Plan → Result T DiskFault → Type 0
 IsPlanned plan (Ok _) = next_fails plan ≡ None
 IsPlanned plan (Err Failed) = IsSome (next_fails plan)
-IsPlanned plan (Err NoMemory) = Unit {0}
+IsPlanned plan (Err NoMemory) = next_fails plan ≡ None
+
+-- the same of a put, which may also be out of memory where it was to fail with its change made, since it then has to make it
+abbrev pub IsPlannedPut : {T : Type 0} → Plan → Result T DiskFault → Type 0
+IsPlannedPut plan (Ok _) = next_fails plan ≡ None
+IsPlannedPut plan (Err Failed) = IsSome (next_fails plan)
+IsPlannedPut plan (Err NoMemory) = next_fails plan ≢ Some Old
 
 -- what a change that fails makes of the files: nothing, or the whole change
 abbrev pub files_left : Option Way → Files → Files → Files

@@ -4,7 +4,7 @@ ghost use Rattle.std.specs.FinMap.{empty};
 ghost use Rattle.std.specs.Ordering.{is_lt};
 ghost use Rattle.sp_base.specs.Names.{by_name};
 ghost use Rattle.sp_outside.specs.Files.{IsName, IsListing, IsOldOrNew, file_at, with_file, without_file, names_after};
-ghost use Rattle.sp_outside.specs.DiskMemory.{IsPlanned, next_fails, plan_after, plan_gone, read_after, write_after};
+ghost use Rattle.sp_outside.specs.DiskMemory.{IsPlanned, IsPlannedPut, next_fails, plan_after, plan_gone, read_after, write_after};
 ghost use Rattle.sp_outside.specs.Calls.{Get, Put, Remove, Names, told_call};
 ghost use Rattle.sp_outside.specs.Causes.{HasDiskCause, Rose, next};
 ghost use Rattle.sp_outside.specs.MemoryFiles.{IsFirstPlace};
@@ -227,7 +227,7 @@ impl Disk for MemDisk {
 
     fn put(&mut self, name: &str, bytes: &[u8]) -> Result<(), DiskFault>
         requires { IsName name.now }
-        ensures fails { IsPlanned self.old.plan result }
+        ensures fails { IsPlannedPut self.old.plan result }
         ensures after { self.new ≡ write_after self.old (with_file self.old.files name.now bytes.now) result }
 
         // What every disk promises.

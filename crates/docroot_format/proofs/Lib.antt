@@ -9,3 +9,5 @@ pub mod Inside
 pub mod Apart
 pub mod FileKinds
 pub mod Spelled
+pub mod Folders
+pub mod TextKeys

@@ -19,10 +19,10 @@ second_of : (a b : Bool) → a && b ≡ true → b ≡ true
 second_of true b e = e
 second_of false b e = absurd (true≢false (sym e))
 
-both : (a b : Bool) → a ≡ true → b ≡ true → a && b ≡ true
+pub both : (a b : Bool) → a ≡ true → b ≡ true → a && b ≡ true
 both a b ea eb = ap (λ x. x && b) ea ∙ eb
 
-all_taken : (p : List ℕ → Bool) (segs : List (List ℕ)) (n : ℕ) → list_all p segs ≡ true → list_all p (take n segs) ≡ true
+pub all_taken : (p : List ℕ → Bool) (segs : List (List ℕ)) (n : ℕ) → list_all p segs ≡ true → list_all p (take n segs) ≡ true
 all_taken p [] zero e = refl
 all_taken p [] (suc n) e = refl
 all_taken p (seg ∷ segs) zero e = refl

@@ -1,11 +1,14 @@
 -- The names of the files of the docroot.
-use Rattle.std.specs.Prelude.{◌<◌, ◌==◌, ◌||◌, ◌&&◌, ◌++◌, ◌∷◌, [], ℕ, Bool, not, List, codes, flat_map, length, nat_eq, nat_lt, slice_index}
+use Rattle.std.specs.Prelude.{◌≡◌, ◌<◌, ◌==◌, ◌||◌, ◌&&◌, ◌++◌, ◌∷◌, [], ℕ, Bool, IsTrue, not, List, codes, flat_map, length, nat_eq, nat_lt, slice_index}
 use Rattle.std.specs.Cmp.Lexicographic.{pointwise}
 use Rattle.std.specs.List.{AllByRecursion, list_all}
-use Rattle.sp_base.specs.Paths.{is_dots, is_empty, pieces}
+use Rattle.sp_base.specs.Paths.{is_dots, is_empty, mangled, pieces}
 use Rattle.cover_rules.specs.declared.page.PageKey.{PageKey}
 use Rattle.cover_rules.specs.Names.{file_name, has_name, is_plain}
 use Rattle.cover_rules.specs.Pages.{last_segment}
+
+-- The names of pages and stamps are of mangled segments, spelled as in URLs: a folder is a mangled path (`IsFolder`), and both the
+-- folder and the file of a key are mangled. So what lies below `jcr:content` stands below `_jcr_content`.
 
 -- the file names of a folder's segments, a slash after each
 abbrev pub folder_name : List (List ℕ) → List ℕ
@@ -26,6 +29,10 @@ stat_name folder = folder_name folder ++ codes ".stat"
 -- each segment of a folder has a file name
 abbrev pub have_names : List (List ℕ) → Bool
 have_names segs = list_all has_name segs
+
+-- a folder of the docroot: a mangled path whose segments have file names
+abbrev pub IsFolder : List (List ℕ) → Type 0
+IsFolder folder = (mangled folder ≡ folder) × IsTrue (have_names folder)
 
 -- a folder and a file in which a page may stand
 abbrev pub is_place : List (List ℕ) → List ℕ → Bool

@@ -1,18 +1,54 @@
 //! What follows from the definitions of names and texts: laws, on functions that do nothing.
-ghost use Rattle.std.specs.Prelude.{◌≡◌, ◌≢◌, ◌<◌, ◌^◌, ◌++◌, ℕ, List, IsTrue, Some, false};
+ghost use Rattle.std.specs.Prelude.{◌≡◌, ◌≢◌, ◌<◌, ◌^◌, ◌++◌, ◌∷◌, [], ℕ, List, Contains, IsTrue, Some, false};
 ghost use Rattle.cover_rules.specs.declared.page.PageKey.{PageKey};
+ghost use Rattle.cover_rules.specs.declared.invalidation.Invalidation.{Invalidation};
+ghost use Rattle.cover_rules.specs.Coverage.{stat_folder, touched_of};
 ghost use Rattle.cover_rules.specs.Pages.{page_key_of, page_path};
-ghost use Rattle.sp_base.specs.Paths.{is_path};
+ghost use Rattle.sp_base.specs.Paths.{is_path, mangled};
 ghost use Rattle.std.specs.List.{AllByRecursion};
-ghost use Rattle.docroot_format.specs.Names.{beside_ending, body_name, epoch_name, have_names, head_name, is_inside, is_page_file, is_place, is_stat_file, stat_name, IsTextKey, are_bytes};
+ghost use Rattle.docroot_format.specs.Names.{beside_ending, body_name, epoch_name, have_names, head_name, is_inside, is_page_file, is_place, is_stat_file, stat_name, IsFolder, IsTextKey, are_bytes};
 ghost use Rattle.docroot_format.specs.Readings.{HeadLine, epoch_of, head_of, is_kind, stat_of};
 ghost use Rattle.docroot_format.specs.Texts.{epoch_text, head_text, stat_text};
+
+use cover_rules::PageKey;
+use sp_base::{Path, mangling_and_unmangling};
 
 /// A page that has a key has files, and so have the .stat files of its folder.
 pub fn a_page_has_files()
     ensures page { (path : List (List ℕ)) (key : PageKey) → page_key_of path ≡ Some key → IsTrue (is_place key.folder key.file) }
     ensures folder { (path : List (List ℕ)) (key : PageKey) → page_key_of path ≡ Some key → IsTrue (have_names key.folder) }
 {}
+
+/// The folder and the file of a page's key are mangled, and so are the folders that may have stamps for it: those of the key's folder,
+/// and each folder that an invalidation touches. Each of their segments has a file name.
+pub fn folders_are_mangled()
+    ensures page { (path : List (List ℕ)) (key : PageKey) → page_key_of path ≡ Some key → IsFolder key.folder }
+    ensures file { (path : List (List ℕ)) (key : PageKey) → page_key_of path ≡ Some key → mangled (key.file ∷ []) ≡ key.file ∷ [] }
+    ensures stat { (level : ℕ) (path : List (List ℕ)) (key : PageKey) → page_key_of path ≡ Some key → IsFolder (stat_folder level key) }
+    ensures touched { (level : ℕ) (inv : Invalidation) (folder : List (List ℕ)) → Contains (touched_of level inv) folder → IsFolder folder }
+{
+    mangling_and_unmangling();
+}
+
+/// The key of a page whose path is of texts is of texts.
+pub fn keys_are_of_texts()
+    ensures { (path : List (List ℕ)) (key : PageKey) → AllByRecursion are_bytes path → page_key_of path ≡ Some key → IsTextKey key }
+{}
+
+/// A key is of texts, as the laws on different keys want it.
+pub fn a_key_is_of_texts(key: &PageKey)
+    ensures { IsTextKey key.now }
+{
+    let _folder = key.folder.spelling().as_bytes();
+    let _file = key.file.text().as_bytes();
+}
+
+/// A path is of texts, as the laws on different folders want it.
+pub fn a_path_is_of_texts(path: &Path)
+    ensures { AllByRecursion are_bytes path.now }
+{
+    let _spelling = path.spelling().as_bytes();
+}
 
 /// The texts that are written read as what they were written of.
 pub fn texts_are_read_back()

@@ -1,0 +1,91 @@
+-- The folders of keys and of invalidations are mangled paths whose segments have file names.
+use Rattle.std.proofs.Common.{◌≡◌, ◌≤◌, ◌<◌, ◌+◌, ◌-◌, ◌&&◌, ℕ, zero, suc, Bool, true, false, cond, List, [], ◌∷◌, Some, None, Contains, drop, length, take, map, get_or, refl, sym, ◌∙◌, ap, subst, arith}
+use Rattle.std.proofs.lemmas.List.{length-map, take-map}
+use Rattle.std.proofs.lemmas.Option.{unwrap_or-slice_get}
+use Rattle.std.specs.List.{list_all, prefix_len, take_while}
+use Rattle.sp_base.specs.Paths.{mangled, mangled_seg, parent_of}
+use Rattle.cover_rules.specs.declared.invalidation.Invalidation.{Invalidation}
+use Rattle.cover_rules.specs.declared.page.PageKey.{PageKey}
+use Rattle.cover_rules.specs.Names.{has_name}
+use Rattle.cover_rules.specs.Pages.{is_page, key_at, last_segment, page_key_of}
+use Rattle.cover_rules.specs.Coverage.{handle_of, lineage, stat_depth_of, stat_folder, touched_of}
+use Rattle.docroot_format.specs.Names.{IsFolder, have_names}
+use Rattle.docroot_format.proofs.PagePlaces.{all_taken, both, page_has_folder}
+
+taken : (segs : List (List ℕ)) (n : ℕ) → mangled segs ≡ segs → mangled (take n segs) ≡ take n segs
+taken segs n e = sym (take-map mangled_seg n segs) ∙ ap (take n) e
+
+folder_taken : (folder : List (List ℕ)) (n : ℕ) → IsFolder folder → IsFolder (take n folder)
+folder_taken folder n f = (taken folder n f.0, all_taken has_name folder n f.1)
+
+key_is : (segs : List (List ℕ)) (key : PageKey) (test : Bool) → cond test (Some (record { folder = parent_of segs; file = last_segment segs })) None ≡ Some key
+    → (key.folder ≡ parent_of segs) × (key.file ≡ last_segment segs)
+key_is segs key true e = let same : key ≡ record { folder = parent_of segs; file = last_segment segs } = cc (e) in (ap (λ (k : PageKey). k.folder) same, ap (λ (k : PageKey). k.file) same)
+key_is segs key false e = absurd cc
+
+page_is : (path : List (List ℕ)) (key : PageKey) → page_key_of path ≡ Some key → (key.folder ≡ parent_of (mangled path)) × (key.file ≡ last_segment (mangled path))
+unfolding key_at
+page_is path key e = key_is (mangled path) key (is_page (mangled path)) e
+
+pub page_folder : (path : List (List ℕ)) (key : PageKey) → mangled (mangled path) ≡ mangled path → page_key_of path ≡ Some key → IsFolder key.folder
+page_folder path key again e = (
+  subst (λ (f : List (List ℕ)). mangled f ≡ f) (sym (page_is path key e).0) (taken (mangled path) (length (mangled path) - 1) again),
+  page_has_folder path key e,
+)
+
+pub page_stat_folder : (level : ℕ) (path : List (List ℕ)) (key : PageKey) → mangled (mangled path) ≡ mangled path → page_key_of path ≡ Some key → IsFolder (stat_folder level key)
+page_stat_folder level path key again e = folder_taken key.folder (stat_depth_of level key) (page_folder path key again e)
+
+segment_is : (segs : List (List ℕ)) (n : ℕ) → mangled segs ≡ segs → mangled_seg (get_or segs n []) ≡ get_or segs n []
+segment_is [] n e = refl
+segment_is (seg ∷ segs) zero e = ap (λ (l : List (List ℕ)). get_or l 0 []) e
+segment_is (seg ∷ segs) (suc n) e = segment_is segs n (ap (λ (l : List (List ℕ)). drop 1 l) e)
+
+last_is : (segs : List (List ℕ)) → mangled segs ≡ segs → mangled (last_segment segs ∷ []) ≡ last_segment segs ∷ []
+last_is segs e = subst (λ (seg : List ℕ). mangled (seg ∷ []) ≡ seg ∷ []) (sym (unwrap_or-slice_get segs (length segs - 1) [])) (ap (λ (seg : List ℕ). seg ∷ []) (segment_is segs (length segs - 1) e))
+
+pub page_file : (path : List (List ℕ)) (key : PageKey) → mangled (mangled path) ≡ mangled path → page_key_of path ≡ Some key → mangled (key.file ∷ []) ≡ key.file ∷ []
+page_file path key again e = subst (λ (f : List ℕ). mangled (f ∷ []) ≡ f ∷ []) (sym (page_is path key e).1) (last_is (mangled path) again)
+
+-- ---- the folders that an invalidation touches
+
+get_map : (seg : List ℕ) (paths : List (List (List ℕ))) (n : ℕ) (d e : List (List ℕ)) → n < length paths → get_or (map (λ path. seg ∷ path) paths) n d ≡ seg ∷ get_or paths n e
+get_map seg [] n d e h = absurd (omega arith)
+get_map seg (path ∷ paths) zero d e h = refl
+get_map seg (path ∷ paths) (suc n) d e h = get_map seg paths n d e (omega arith)
+
+length-lineage : (path : List (List ℕ)) → length (lineage path) ≡ length path + 1
+length-lineage [] = refl
+length-lineage (seg ∷ path) = omega (arith, length-map (lineage path) (λ p. seg ∷ p), length-lineage path)
+
+lineage_at : (path : List (List ℕ)) (n : ℕ) (d : List (List ℕ)) → n ≤ length path → get_or (lineage path) n d ≡ take n path
+lineage_at [] zero d h = refl
+lineage_at [] (suc n) d h = absurd (omega arith)
+lineage_at (seg ∷ path) zero d h = refl
+lineage_at (seg ∷ path) (suc n) d h =
+    get_map seg (lineage path) n d d (omega (arith, length-lineage path)) ∙ ap (λ p. seg ∷ p) (lineage_at path n d (omega arith))
+
+named : (segs : List (List ℕ)) → list_all has_name (take_while has_name segs) ≡ true
+named [] = refl
+named (seg ∷ segs) = elim (has_name seg) as (λ t. has_name seg ≡ t → list_all has_name (take (cond t (1 + prefix_len has_name segs) 0) (seg ∷ segs)) ≡ true) [
+  | true ↦ λ e. let next : 1 + prefix_len has_name segs ≡ suc (prefix_len has_name segs) = omega arith in
+      ap (λ n. list_all has_name (take n (seg ∷ segs))) next ∙ both (has_name seg) (list_all has_name (take_while has_name segs)) e (named segs)
+  | false ↦ λ e. refl
+] refl
+
+of_lineage : (path folder : List (List ℕ)) → IsFolder path → Contains (lineage path) folder → IsFolder folder
+of_lineage path folder f has =
+    let is : folder ≡ take has.0 path = sym has.2 ∙ lineage_at path has.0 folder (omega (arith, has.1, length-lineage path)) in
+    subst IsFolder (sym is) (folder_taken path has.0 f)
+
+by_scope : (only : Bool) (path folder : List (List ℕ)) → IsFolder path → Contains (cond only [] (lineage path)) folder → IsFolder folder
+by_scope true path folder f has = absurd (omega (arith, has.1))
+by_scope false path folder f has = of_lineage path folder f has
+
+pub touched_folder : (level : ℕ) (inv : Invalidation) (folder : List (List ℕ)) → mangled (handle_of inv) ≡ handle_of inv → Contains (touched_of level inv) folder → IsFolder folder
+touched_folder level inv folder again has =
+    let above = parent_of (handle_of inv) in
+    let first = take level above in
+    let path = take_while has_name first in
+    let kept : mangled path ≡ path = taken first (prefix_len has_name first) (taken above level (taken (handle_of inv) (length (handle_of inv) - 1) again)) in
+    by_scope inv.only path folder (kept, named first) has

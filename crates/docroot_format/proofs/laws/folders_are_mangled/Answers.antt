@@ -1,0 +1,14 @@
+use Rattle.docroot_format.proofs.Folders.{page_file, page_folder, page_stat_folder, touched_folder}
+use Rattle.docroot_format.proofs.laws.folders_are_mangled.Goals as goal
+
+pub returns-clause-page : goal.returns-clause-page
+returns-clause-page c = λ path key. page_folder path key (c.mangling_and_unmangling.ensures.again path)
+
+pub returns-clause-file : goal.returns-clause-file
+returns-clause-file c = λ path key. page_file path key (c.mangling_and_unmangling.ensures.again path)
+
+pub returns-clause-stat : goal.returns-clause-stat
+returns-clause-stat c = λ level path key. page_stat_folder level path key (c.mangling_and_unmangling.ensures.again path)
+
+pub returns-clause-touched : goal.returns-clause-touched
+returns-clause-touched c = λ level inv folder. touched_folder level inv folder (c.mangling_and_unmangling.ensures.again inv.handle)

@@ -1,12 +1,17 @@
 //! What follows from the definitions of stamps: laws, on functions that do nothing.
-ghost use Rattle.std.specs.Prelude.{◌≡◌, ◌⊎◌, ◌<◌, ◌≤◌, ◌^◌, ℕ, List, Some, None};
-ghost use Rattle.sp_outside.specs.Files.{Files, with_file};
-ghost use Rattle.docroot_format.specs.Names.{stat_name};
+ghost use Rattle.std.specs.Prelude.{◌≡◌, ◌≢◌, ◌⊎◌, ◌<◌, ◌≤◌, ◌^◌, ℕ, Bool, true, false, not, List, Some, None};
+ghost use Rattle.std.specs.List.{AllByRecursion};
+ghost use Rattle.sp_outside.specs.Files.{Files, file_at, with_file};
+ghost use Rattle.docroot_format.specs.Names.{are_bytes, stat_name};
+ghost use Rattle.docroot_format.specs.Readings.{stat_of};
 ghost use Rattle.docroot_format.specs.Texts.{stat_text};
+ghost use Rattle.cover_rules.specs.Coverage.{stat_folder};
+ghost use Rattle.cover_rules.specs.declared.page.PageKey.{PageKey};
 ghost use Rattle.cover_rules.specs.declared.stamp.Stamp.{Stamp};
+ghost use Rattle.stat_files.specs.Outdated.{is_older, is_outdated, outdates_page};
 ghost use Rattle.stat_files.specs.Stamps.{greatest, stamp_at, stamp_or_greatest};
 
-use docroot_format::texts_are_read_back;
+use docroot_format::{names_are_apart, texts_are_read_back};
 use sp_outside::files_have_names;
 
 /// The stamp of a folder is the one that it was given last.
@@ -23,3 +28,38 @@ pub fn a_foreign_stamp_is_the_greatest()
     ensures foreign { stamp_or_greatest None ≡ greatest }
     ensures greatest { (stamp : Stamp) → stamp.epoch < 2 ^ 64 → stamp.count < 2 ^ 64 → (stamp.epoch < greatest.epoch) ⊎ ((stamp.epoch ≡ greatest.epoch) × (stamp.count ≤ greatest.count)) }
 {}
+
+/// Of two stamps one is older, or they are the same.
+pub fn stamps_are_in_order()
+    ensures one { (stamp other : Stamp) → (is_older stamp other ≡ true) ⊎ ((stamp ≡ other) ⊎ (is_older other stamp ≡ true)) }
+    ensures same { (stamp : Stamp) → is_older stamp stamp ≡ false }
+    ensures apart { (stamp other : Stamp) → is_older stamp other ≡ true → is_older other stamp ≡ false }
+    ensures through { (stamp other more : Stamp) → is_older stamp other ≡ true → is_older other more ≡ true → is_older stamp more ≡ true }
+{}
+
+/// A page is outdated where the stamp of its .stat file is newer than its own, or the same, and where that file is of another form; it
+/// isn't where that stamp is older, and where there is no such file.
+pub fn what_outdates_a_page()
+    ensures same { (stamp : Stamp) → outdates_page (Some stamp) stamp ≡ true }
+    ensures newer { (stat page : Stamp) → is_older page stat ≡ true → outdates_page (Some stat) page ≡ true }
+    ensures older { (stat page : Stamp) → is_older stat page ≡ true → outdates_page (Some stat) page ≡ false }
+    ensures foreign { (level : ℕ) (files : Files) (key : PageKey) (bytes : List ℕ) (page : Stamp) → page.epoch < 2 ^ 64 → page.count < 2 ^ 64 → file_at files (stat_name (stat_folder level key)) ≡ Some bytes
+        → stat_of bytes ≡ None → is_outdated level true files key page ≡ true }
+    ensures missing { (level : ℕ) (auto : Bool) (files : Files) (key : PageKey) (page : Stamp) → file_at files (stat_name (stat_folder level key)) ≡ None → is_outdated level auto files key page ≡ false }
+{
+    a_foreign_stamp_is_the_greatest();
+    stamps_are_in_order();
+}
+
+/// A touch of a page's .stat folder outdates the page unless its stamp is newer than the touch, and a touch of another folder doesn't
+/// change whether it is outdated.
+pub fn a_touch_outdates_what_is_not_newer()
+    ensures touched { (level : ℕ) (files : Files) (key : PageKey) (stamp page : Stamp) → stamp.epoch < 2 ^ 64 → stamp.count < 2 ^ 64
+        → is_outdated level true (with_file files (stat_name (stat_folder level key)) (stat_text stamp.epoch stamp.count)) key page ≡ not (is_older stamp page) }
+    ensures beside { (level : ℕ) (auto : Bool) (files : Files) (key : PageKey) (folder : List (List ℕ)) (stamp page : Stamp) → AllByRecursion are_bytes key.folder → AllByRecursion are_bytes folder
+        → folder ≢ stat_folder level key → is_outdated level auto (with_file files (stat_name folder) (stat_text stamp.epoch stamp.count)) key page ≡ is_outdated level auto files key page }
+{
+    a_stamp_is_read_back();
+    files_have_names();
+    names_are_apart();
+}

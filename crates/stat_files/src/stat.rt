@@ -14,8 +14,8 @@ use sp_base::Path;
 use sp_outside::Disk;
 use std::alloc::Global;
 
-/// Gives a folder a stamp. Each segment of the folder has a file name of at most 200 bytes. This takes no memory but what the disk's
-/// `put` takes.
+/// Gives a folder a stamp. The folder is a mangled path, each segment of which has a file name of at most 200 bytes. This takes no memory
+/// but what the disk's `put` takes.
 pub fn touch<D: Disk>(disk: &mut D, folder: &Path, stamp: Stamp) -> Result<(), FileFault>
     requires { IsTrue (have_names folder.now) }
     ensures ok { OnOk result (D.files disk.new ≡ told_with (D.files disk.old) (name.stat_name folder.now) (text.stat_text stamp.epoch stamp.count)) }
@@ -45,7 +45,7 @@ fn stamp_in(bytes: &[u8]) -> Stamp
     }
 }
 
-/// The stamp of a folder, or None where it has no .stat file. A .stat file of another form has the greatest stamp, so that it
+/// The stamp of a folder, a mangled path, or None where it has no .stat file. A .stat file of another form has the greatest stamp, so that it
 /// outdates every page.
 pub fn stamp_of<D: Disk>(
     alloc: Global,

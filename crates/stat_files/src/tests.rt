@@ -107,3 +107,19 @@ fn fails_in_each_call(rt: HostRuntime) -> Result<(), Fail> {
     }
     Ok(())
 }
+
+#[test]
+fn a_page_of_the_same_stamp_is_outdated(rt: HostRuntime) -> Result<(), Fail> {
+    let page = Stamp { epoch: 2, count: 5 };
+    for (stat, wanted) in [
+        (None, false),
+        (Some(Stamp { epoch: 2, count: 4 }), false),
+        (Some(page), true),
+        (Some(Stamp { epoch: 2, count: 6 }), true),
+        (Some(Stamp { epoch: 1, count: 6 }), false),
+        (Some(Stamp { epoch: 3, count: 0 }), true),
+    ] {
+        assert_eq!(rt; outdates_page(stat, page), wanted);
+    }
+    Ok(())
+}

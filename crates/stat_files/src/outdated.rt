@@ -1,0 +1,22 @@
+//! Which pages a .stat file outdates.
+ghost use Rattle.std.specs.Prelude.{◌≡◌};
+ghost use Rattle.stat_files.specs.Outdated as spec;
+
+use cover_rules::Stamp;
+
+fn is_older(stamp: Stamp, other: Stamp) -> bool
+    ensures { result ≡ spec.is_older stamp other }
+{
+    stamp.epoch < other.epoch || (stamp.epoch == other.epoch && stamp.count < other.count)
+}
+
+/// Whether the stamp of a page's .stat file, where there is one, outdates the page: it isn't older than the page's own. The .stat file is
+/// that of the first `stat_depth` segments of the page's folder, and is asked only for a page that .stat files outdate.
+pub fn outdates_page(stat: Option<Stamp>, page: Stamp) -> bool
+    ensures { result ≡ spec.outdates_page stat page }
+{
+    match stat {
+        Some(stat) => !is_older(stat, page),
+        None => false,
+    }
+}

@@ -1,2 +1,4 @@
 pub mod PageFiles
 pub mod StoppedChanges
+pub mod HeldLemmas
+pub mod NextEpochs

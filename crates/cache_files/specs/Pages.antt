@@ -1,6 +1,6 @@
 -- The pages that the files of the docroot hold, which calls of the disk put, get and drop one, and what a put or a drop that stops leaves.
-use Rattle.std.specs.Prelude.{◌==◌, ◌≡◌, ◌⊎◌, ◌∷◌, ℕ, List, [], Option, Some, None, IsTrue, option_and_then, length, if◌then◌else◌}
-use Rattle.sp_outside.specs.Calls.{Call, Get, Put, Remove, told_calls}
+use Rattle.std.specs.Prelude.{◌==◌, ◌≡◌, ◌⊎◌, ◌∷◌, ℕ, List, [], Option, Some, None, IfSome, IsSome, IsTrue, option_and_then, option_map, length, if◌then◌else◌}
+use Rattle.sp_outside.specs.Calls.{Call, Get, Put, Remove, told_call, told_calls}
 use Rattle.sp_outside.specs.Files.{Files, file_at, told_with, told_without, with_file, without_file}
 use Rattle.sp_base.specs.declared.answer.Answer.{Answer}
 use Rattle.sp_base.specs.declared.answer.Mark.TheVariants.{Plain}
@@ -13,6 +13,7 @@ use Rattle.docroot_format.specs.declared.fault.FileFault.TheVariants.{Disk, NoMe
 use Rattle.cover_rules.specs.Pages.{page_key_of, page_path}
 use Rattle.cover_rules.specs.declared.page.PageKey.{PageKey}
 use Rattle.cover_rules.specs.declared.stamp.Stamp.{Stamp}
+use Rattle.cache_files.specs.declared.head_note.HeadNote.{HeadNote}
 use Rattle.cache_files.specs.declared.page.Page.{Page}
 
 -- a key that is the one of its own path, as every answer of `page_key` is
@@ -36,6 +37,29 @@ page_of head body = if length body == head.size then Some (record {
 abbrev pub page_at : Files → PageKey → Option Page
 page_at files key = option_and_then (λ head. option_and_then (page_of head) (file_at files (body_name key.folder key.file)))
     (option_and_then head_of (file_at files (head_name key.folder key.file)))
+
+-- ---- a page by its head, and then its body
+
+-- what a head says, as a note of it
+abbrev pub note_of : HeadLine → HeadNote
+note_of line = record { stamp = record { epoch = line.epoch; count = line.count }; kind = line.kind; length = line.size }
+
+-- the head that the files hold for a key, where it is of the form
+abbrev pub head_at : Files → PageKey → Option HeadNote
+head_at files key = option_map note_of (option_and_then head_of (file_at files (head_name key.folder key.file)))
+
+-- the page that a head which was noted and a body make, where the body has the head's length
+abbrev pub page_under : HeadNote → List ℕ → Option Page
+page_under head body = if length body == head.length then Some (record {
+  stamp = head.stamp;
+  answer = record { status = 200; kind = head.kind; location = []; mark = Plain; body = body };
+}) else None
+
+-- the page that the files hold for a key under a head
+abbrev pub known_at : Files → PageKey → HeadNote → Option Page
+known_at files key head = option_and_then (page_under head) (file_at files (body_name key.folder key.file))
+
+-- ---- files after a call
 
 -- the files after a page's body and head were replaced, the old head first taken away
 abbrev pub with_page : Option Files → List ℕ → List ℕ → List ℕ → List ℕ → Option Files
@@ -64,6 +88,17 @@ get_calls head body (Some line) = Get head ∷ Get body ∷ []
 -- a drop: the head is taken away, then the body
 abbrev pub drop_calls : List ℕ → List ℕ → List Call
 drop_calls head body = Remove head ∷ Remove body ∷ []
+
+-- A reading by one call of the disk stopped: before it, for want of memory, or after it.
+abbrev pub IsCallLeft : Option (List Call) → Option (List Call) → Call → FileFault → Type 0
+IsCallLeft asked made call fault = ((fault ≡ NoMemory) × (made ≡ asked)) ⊎ (made ≡ told_call asked call)
+
+-- A get stopped: before it asked anything of the disk, for want of memory; after it read the head; or, where that is of the form, after
+-- it read the body.
+abbrev pub IsGetLeft : Option (List Call) → Option (List Call) → Option Files → PageKey → FileFault → Type 0
+IsGetLeft asked made told key fault =
+    IsCallLeft asked made (Get (head_name key.folder key.file)) fault
+    ⊎ (IfSome told (λ files. IsSome (head_at files key)) × (made ≡ told_calls asked (Get (head_name key.folder key.file) ∷ Get (body_name key.folder key.file) ∷ [])))
 
 -- A put stopped: before it asked anything of the disk, for want of memory; at the removal of the old head; at the body; or at the new head.
 abbrev pub IsPutLeft : Option (List Call) → Option (List Call) → Option Files → Option Files → List ℕ → List ℕ → List ℕ → List ℕ → FileFault → Type 0

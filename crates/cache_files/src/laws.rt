@@ -1,16 +1,17 @@
 //! What follows from the definitions of pages and epochs: laws, on functions that do nothing.
-ghost use Rattle.std.specs.Prelude.{◌≡◌, ◌≢◌, ◌⊎◌, ◌<◌, ◌≤◌, ◌+◌, ◌^◌, ℕ, List, [], Option, Some, None, Ok, IfSome, length};
+ghost use Rattle.std.specs.Prelude.{◌≡◌, ◌≢◌, ◌⊎◌, ◌<◌, ◌≤◌, ◌+◌, ◌^◌, ℕ, List, [], Option, Some, None, Ok, IfSome, length, option_and_then};
 ghost use Rattle.sp_base.specs.declared.answer.Answer.{Answer};
 ghost use Rattle.sp_base.specs.declared.answer.Mark.TheVariants.{Plain};
 ghost use Rattle.sp_outside.specs.Calls.{Call};
 ghost use Rattle.sp_outside.specs.Files.{Files, with_file, without_file};
 ghost use Rattle.docroot_format.specs.declared.fault.FileFault.{FileFault};
+ghost use Rattle.docroot_format.specs.declared.fault.FileFault.TheVariants.{NoMemory as no_memory};
 ghost use Rattle.docroot_format.specs.Names.{IsTextKey, body_name, epoch_name, head_name};
 ghost use Rattle.docroot_format.specs.Texts.{epoch_text, head_text};
 ghost use Rattle.cover_rules.specs.declared.page.PageKey.{PageKey};
 ghost use Rattle.cover_rules.specs.declared.stamp.Stamp.{Stamp};
 ghost use Rattle.cache_files.specs.Epochs.{epoch_held, last_epoch, next_epoch};
-ghost use Rattle.cache_files.specs.Pages.{IsDropLeft, IsPutLeft, IsStorable, files_with_page, files_without_page, page_at};
+ghost use Rattle.cache_files.specs.Pages.{IsDropLeft, IsPutLeft, IsStorable, files_with_page, files_without_page, head_at, known_at, page_at};
 
 use docroot_format::{names_are_apart, texts_are_read_back};
 use sp_outside::files_have_names;
@@ -23,6 +24,11 @@ pub fn a_page_is_read_back()
     files_have_names();
     texts_are_read_back();
 }
+
+/// The page of a key is the one under its head, so a page may be read by its head, and then its body.
+pub fn a_page_is_its_head_and_its_body()
+    ensures { (files : Files) (key : PageKey) → page_at files key ≡ option_and_then (known_at files key) (head_at files key) }
+{}
 
 /// A page is there as it was while another is put, and while another is dropped, and one that was dropped isn't there.
 pub fn pages_have_files_of_their_own()
@@ -58,6 +64,15 @@ pub fn a_failed_put_leaves_whole_pages()
     names_are_apart();
     a_stopped_put_leaves_no_page();
     pages_have_files_of_their_own();
+}
+
+/// A put that found no memory on its way leaves the old page or no page.
+pub fn a_put_out_of_memory_leaves_the_old_page_or_none()
+    ensures { (asked made : Option (List Call)) (files new : Files) (key : PageKey) (stamp : Stamp) (answer : Answer)
+        → IsPutLeft asked made (Some files) (Some new) (head_name key.folder key.file) (body_name key.folder key.file) answer.body (head_text stamp.epoch stamp.count (length answer.body) answer.kind) no_memory
+        → (page_at new key ≡ page_at files key) ⊎ (page_at new key ≡ None) }
+{
+    a_stopped_put_leaves_no_page();
 }
 
 /// A drop that failed leaves the old page or none, and each other page as it was.

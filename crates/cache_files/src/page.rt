@@ -6,11 +6,12 @@ ghost use Rattle.docroot_format.specs.Faults.{HasFileCause};
 ghost use Rattle.docroot_format.specs.Names as name;
 ghost use Rattle.docroot_format.specs.Readings.{head_of};
 ghost use Rattle.docroot_format.specs.Texts as text;
-ghost use Rattle.cache_files.specs.Pages.{IsKey, IsStorable, IsPutLeft, IsDropLeft, drop_calls, get_calls, page_at, page_of, put_calls, with_page};
+ghost use Rattle.cache_files.specs.Pages.{IsKey, IsStorable, IsPutLeft, IsDropLeft, IsGetLeft, drop_calls, get_calls, page_at, put_calls, with_page};
 
+use crate::head_note::{get_head, get_known};
 use cover_rules::{PageKey, Stamp};
-use docroot_format::{FileFault, Head, a_page_has_files, body_name, head_in, head_name, head_text};
-use sp_base::{Answer, ByteBuf, Mark, Mem, TextBuf};
+use docroot_format::{FileFault, a_page_has_files, body_name, head_name, head_text};
+use sp_base::Answer;
 use sp_outside::Disk;
 use std::alloc::Global;
 
@@ -93,43 +94,13 @@ pub fn get_page<D: Disk>(
     ensures made { IfOk result (λ _. IfSome (D.files disk.old) (λ files. D.calls disk.new ≡ told_calls (D.calls disk.old)
         (get_calls (name.head_name key.now.folder key.now.file) (name.body_name key.now.folder key.now.file) (option_and_then head_of (file_at files (name.head_name key.now.folder key.now.file)))))) }
     ensures asked { MadeFirst (D.calls disk.old) (D.calls disk.new) (Get (name.head_name key.now.folder key.now.file) ∷ Get (name.body_name key.now.folder key.now.file) ∷ []) }
+    ensures left { IfErr result (IsGetLeft (D.calls disk.old) (D.calls disk.new) (D.files disk.old) key.now) }
     ensures cause { HasFileCause (D.faults disk.old) (D.faults disk.new) result }
 {
-    a_page_has_files();
-    let name = head_name(alloc, &key.folder, key.file.text())?;
-    let Some(head) = disk.get(alloc, name.text())? else {
+    let Some(head) = get_head(alloc, disk, key)? else {
         return Ok(None);
     };
-    let Some(line) = head_in(head.bytes()) else {
-        return Ok(None);
-    };
-    let name = body_name(alloc, &key.folder, key.file.text())?;
-    let Some(body) = disk.get(alloc, name.text())? else {
-        return Ok(None);
-    };
-    Ok(page_of(alloc, &line, body)?)
-}
-
-// The page that a head and a body make.
-fn page_of(alloc: Global, line: &Head<'_>, body: ByteBuf) -> Mem<Option<Page>>
-    ensures { IfOk result (λ page. page ≡ page_of (record { epoch = line.now.epoch; count = line.now.count; size = line.now.size; kind = line.now.kind.now }) body) }
-{
-    if body.bytes().len() as u64 != line.size {
-        return Ok(None);
-    }
-    Ok(Some(Page {
-        stamp: Stamp {
-            epoch: line.epoch,
-            count: line.count,
-        },
-        answer: Answer {
-            status: 200,
-            kind: TextBuf::of(alloc, line.kind)?,
-            location: TextBuf::of(alloc, "")?,
-            mark: Mark::Plain,
-            body,
-        },
-    }))
+    get_known(alloc, disk, key, &head)
 }
 
 /// Takes a page away: its head, then its body.

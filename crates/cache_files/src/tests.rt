@@ -231,6 +231,35 @@ fn a_get_fails_in_each_call(rt: HostRuntime) -> Result<(), Fail> {
     Ok(())
 }
 
+// The head of the page by itself, and then the page under it; and how many calls of the disk each took.
+fn parts(alloc: Global, disk: &mut MemDisk) -> Option<(HeadNote, u64, Page, u64)> {
+    let key = key(alloc, EN)?;
+    let before = disk.calls();
+    let Ok(Some(head)) = get_head(alloc, disk, &key) else {
+        return None;
+    };
+    let first = disk.calls().saturating_sub(before);
+    let Ok(Some(page)) = get_known(alloc, disk, &key, &head) else {
+        return None;
+    };
+    let both = disk.calls().saturating_sub(before);
+    Some((head, first, page, both.saturating_sub(first)))
+}
+
+#[test]
+fn a_head_is_read_by_itself(rt: HostRuntime) -> Result<(), Fail> {
+    let mut disk = disk_with(rt.alloc(), OLD);
+    let Some((head, first, page, second)) = parts(rt.alloc(), &mut disk) else {
+        assert!(rt; false);
+        return Ok(());
+    };
+    let stamp = Stamp { epoch: 1, count: 3 };
+    assert!(rt; head.stamp == stamp && head.length == 3 && head.kind.text() == "text/plain");
+    assert_eq!(rt; (first, second), (1, 1));
+    assert!(rt; is_page(Ok(Some(page)), stamp, "text/plain", "old"));
+    Ok(())
+}
+
 // Whether a page with this head and body counts, and how many calls of the disk tell.
 fn tells(alloc: Global, files: &[(&str, &str)]) -> (bool, u64) {
     let mut disk = disk_with(alloc, files);

@@ -31,3 +31,11 @@ kids_in (Some res) = res.kids
 -- whether a resource is seen at a path
 unfoldable pub has_resource : Content → List (List ℕ) → Bool
 has_resource tree path = is_some (merged tree path)
+
+-- the same resource without its kids
+abbrev pub without_kids : Resource → Resource
+without_kids res = record res { kids = [] }
+
+-- what is seen at a path, without its kids where resources are merged
+unfoldable pub merged_alone : Content → List (List ℕ) → Option Resource
+merged_alone tree path = if is_merged_path path then option_map without_kids (merged tree path) else merged tree path

@@ -23,5 +23,6 @@ pub use laws::{
     wishes_only_reorder,
 };
 pub use layers::Layer;
-pub use merging::{has_resource, merged, merged_kids};
+pub use merging::{has_resource, merged, merged_alone, merged_kids};
+pub use roots::is_merged_path;
 pub use view::MergedView;

@@ -1,8 +1,8 @@
 //! What is seen at a path when resources are merged.
-ghost use Rattle.std.specs.Prelude.{◌≡◌, IfOk, not, filter};
+ghost use Rattle.std.specs.Prelude.{◌≡◌, IfOk, not, filter, option_map};
 ghost use Rattle.overlay_merge.specs.Hiding.{merged_from};
 ghost use Rattle.overlay_merge.specs.Roots.{is_name_of_root};
-ghost use Rattle.overlay_merge.specs.Merged.{has_resource, kids_in, merge, merged, unmerged};
+ghost use Rattle.overlay_merge.specs.Merged.{has_resource, kids_in, merge, merged, merged_alone, unmerged, without_kids};
 
 use crate::kids::kids_of;
 use crate::properties::merged_props;
@@ -61,6 +61,32 @@ pub fn merged<'a>(alloc: Global, tree: &'a Tree, path: &Path) -> Mem<Option<Res<
 {
     if is_merged_path(path) {
         merge(alloc, tree, path)
+    } else {
+        unmerged(alloc, tree, path)
+    }
+}
+
+// What the layers of a path make together, without the kids.
+fn merge_alone<'a>(alloc: Global, tree: &'a Tree, path: &Path) -> Mem<Option<Res<'a>>>
+    ensures { IfOk result (λ o. o ≡ option_map without_kids (merge tree.now path.now (merged_from tree.now path.now))) }
+{
+    let layers = merged_from(alloc, tree, path)?;
+    if layers.is_empty() {
+        return Ok(None);
+    }
+    let props = merged_props(alloc, &layers)?;
+    let kids = TextList::new(alloc);
+    Ok(Some(Res::owned(path.duplicate(alloc)?, Node { props, kids })))
+}
+
+/// The resource that is seen at a path, for its properties alone: where resources are merged its kids, which cost a look at each,
+/// are left out.
+#[tactic(auto, unfolding(crate::specs::Merged::merged, crate::specs::Merged::merged_alone))]
+pub fn merged_alone<'a>(alloc: Global, tree: &'a Tree, path: &Path) -> Mem<Option<Res<'a>>>
+    ensures { IfOk result (λ o. o ≡ merged_alone tree.now path.now) }
+{
+    if is_merged_path(path) {
+        merge_alone(alloc, tree, path)
     } else {
         unmerged(alloc, tree, path)
     }

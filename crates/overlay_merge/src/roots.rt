@@ -41,7 +41,7 @@ pub(crate) fn is_override(path: &Path) -> bool
 }
 
 /// Whether what is at a path is merged.
-pub(crate) fn is_merged_path(path: &Path) -> bool
+pub fn is_merged_path(path: &Path) -> bool
     ensures { result ≡ is_merged_path path.now }
 {
     is_overlay(path) || is_override(path)

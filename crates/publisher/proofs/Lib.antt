@@ -4,3 +4,7 @@ pub mod RenderingLemmas
 pub mod ScriptLaw
 pub mod KeptLemmas
 pub mod StatusLemmas
+pub mod ForgetLemmas
+pub mod PostLemmas
+pub mod ReportLemmas
+pub mod SeenAloneLemmas

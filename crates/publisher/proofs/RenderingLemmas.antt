@@ -1,5 +1,5 @@
 -- What every answer has, and what an answer depends on.
-use Rattle.std.proofs.Common.{◌≡◌, ◌≢◌, ◌≤◌, ℕ, Bool, true, false, cond, List, Option, Some, None, length, nat_le, refl, sym, ◌∙◌, ap, arith}
+use Rattle.std.proofs.Common.{◌≡◌, ◌≢◌, ◌≤◌, ℕ, Bool, true, false, cond, List, Option, Some, None, Result, Ok, Err, IfOk, length, nat_le, refl, sym, ◌∙◌, ap, subst, arith}
 use Rattle.std.proofs.lemmas.Bool.Decides.{nat_tests}
 use Rattle.sp_base.specs.Paths.{text_of}
 use Rattle.sp_base.specs.declared.answer.Answer.{Answer}
@@ -23,17 +23,17 @@ use Rattle.publisher.specs.declared.templates.Reading.{Reading}
 use Rattle.publisher.specs.declared.templates.Reading.TheVariants.{Parsed, Refused}
 use Rattle.publisher.specs.Readings.{reading_of}
 use Rattle.error_answers.specs.Errors.{error_answer}
-use Rattle.publisher.specs.Errors.{answer_of}
+use Rattle.publisher.specs.Errors.{answer_of, redirect}
 use Rattle.publisher.specs.Depths.{depth_of}
 use Rattle.overlay_merge.specs.Merged.{has_resource}
-use Rattle.publisher.specs.Rendering.{seen, is_read, mark_of, most_bytes, representation_of, json_representation, json_to_depth, file_representation, is_json, is_bare, default_answer, script_for, scope_of, script_representation, answer_by, resource_answer, split_answer, text_answer, mapping, mapped_answer, rendered}
+use Rattle.publisher.specs.Rendering.{seen, is_read, mark_of, most_bytes, representation_of, json_representation, json_to_depth, file_representation, is_json, is_bare, default_answer, script_for, scope_of, script_representation, answer_by, resource_answer, split_answer, text_answer, mapping, mapped_answer, is_post, posted_answer, rendered}
 
 -- ---- a representation isn't too long
 
-abbrev Fits : Answer → Type 0
+abbrev pub Fits : Answer → Type 0
 Fits a = a.status ≡ 200 → length a.body ≤ 4194304
 
-error_fits : (status : ℕ) → status ≢ 200 → Fits (error_answer status)
+pub error_fits : (status : ℕ) → status ≢ 200 → Fits (error_answer status)
 unfolding error_answer
 error_fits status other e = absurd (other e)
 
@@ -85,21 +85,34 @@ found_fits : (tree : Content) (parts : Option Parts) → Fits (split_answer tree
 found_fits tree None = missing_fits
 found_fits tree (Some parts) = resource_fits tree parts (seen tree parts.path)
 
-mapped_fits : (tree : Content) (answer : MapAnswer) → Fits (mapped_answer tree answer)
-mapped_fits tree (Inside text) = found_fits tree (split_of (has_resource tree) text)
+pub text_fits : (tree : Content) (text : List ℕ) → Fits (text_answer tree text)
+text_fits tree text = found_fits tree (split_of (has_resource tree) text)
+
+pub mapped_fits : (tree : Content) (answer : MapAnswer) → Fits (mapped_answer tree answer)
+mapped_fits tree (Inside text) = text_fits tree text
 mapped_fits tree (Away status target) = λ e. omega arith
 
-pub rendered_fits : (tree : Content) (ask : Ask) → (rendered tree ask).status ≡ 200 → length (rendered tree ask).body ≤ 4194304
+-- what is asked by a GET or a HEAD
+pub read_is : (tree : Content) (ask : Ask) → is_read ask.method ≡ true → rendered tree ask ≡ mapped_answer tree (mapping tree ask)
 unfolding rendered
-rendered_fits tree ask =
-    either (is_read ask.method) _ _ (mapped_fits tree (mapping tree ask))
-    (error_fits 405 (λ h. absurd (omega (arith, h))))
+read_is tree ask read = ap (λ b. cond b (mapped_answer tree (mapping tree ask)) (cond (is_post ask.method) (posted_answer tree ask (mapping tree ask)) (error_answer 405))) read
+
+pub rendered_fits : (tree : Content) (ask : Ask) → is_read ask.method ≡ true → (rendered tree ask).status ≡ 200 → length (rendered tree ask).body ≤ 4194304
+rendered_fits tree ask read = subst Fits (sym (read_is tree ask read)) (mapped_fits tree (mapping tree ask))
+
+-- ---- what is answered has at most 4,194,304 bytes, where its status is 200
+
+-- an answer that is this one
+pub fits_as : {E : Type 0} (r : Result Answer E) (x : Answer) → Fits x → IfOk r (λ a. a ≡ x) → IfOk r (λ a. a.status ≡ 200 → length a.body ≤ 4194304)
+fits_as (Ok a) x fits is = subst Fits (sym is) fits
+fits_as (Err e) x fits is = tt
+
+pub redirect_fits : (status : ℕ) (target : List ℕ) → Fits (redirect status target)
+redirect_fits status target = λ e. omega arith
 
 -- ---- the host, the port and the path alone count
 
 pub same_reading : (tree : Content) (a b : Ask) → is_read a.method ≡ true → is_read b.method ≡ true → a.host ≡ b.host → a.port ≡ b.port → a.path ≡ b.path → rendered tree a ≡ rendered tree b
-unfolding rendered
 same_reading tree a b first second host port path =
     let same : mapping tree a ≡ mapping tree b = λ i. map_answer tree (host i) (port i) (text_of (path i)) in
-    ap (λ t. cond t (mapped_answer tree (mapping tree a)) (error_answer 405)) first ∙ ap (mapped_answer tree) same
-    ∙ sym (ap (λ t. cond t (mapped_answer tree (mapping tree b)) (error_answer 405)) second)
+    read_is tree a first ∙ ap (mapped_answer tree) same ∙ sym (read_is tree b second)

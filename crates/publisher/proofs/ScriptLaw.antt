@@ -21,6 +21,7 @@ use Rattle.error_answers.specs.Errors.{error_answer}
 use Rattle.publisher.specs.Errors.{answer_of, redirect}
 use Rattle.publisher.specs.Readings.{reading_in}
 use Rattle.overlay_merge.specs.Merged.{has_resource}
+use Rattle.publisher.proofs.RenderingLemmas.{read_is}
 use Rattle.publisher.specs.Rendering.{seen, answer_by, html_kind, is_read, mark_of, most_bytes, rendered, representation_of, resource_answer, scope_of, script_for, script_representation, split_answer, text_answer, mapped_answer, mapping}
 
 -- the search gives the script that ranks first, where one does
@@ -39,8 +40,7 @@ written_body false mark body is ok = absurd (omega (arith, ok))
 
 -- the answer to a request that is mapped
 pub mapped_is : (tree : Content) (ask : Ask) (answer : MapAnswer) → is_read ask.method ≡ true → mapping tree ask ≡ answer → rendered tree ask ≡ mapped_answer tree answer
-unfolding rendered
-mapped_is tree ask answer read mapped = ap (λ b. cond b (mapped_answer tree (mapping tree ask)) (error_answer 405)) read ∙ ap (mapped_answer tree) mapped
+mapped_is tree ask answer read mapped = read_is tree ask read ∙ ap (mapped_answer tree) mapped
 
 -- the answer of a resource by its first script
 pub answer_is : (tree : Content) (ask : Ask) (mapped : List ℕ) (parts : Parts) (res : Resource) (script : List (List ℕ)) (text : List ℕ) (pieces : List Piece)

@@ -1,7 +1,8 @@
 -- What a publisher keeps beside its tree: the readings of scripts, and the index of mappings. What is answered needs none of it: only the publisher's type and its proofs cite this.
-use Rattle.std.specs.Prelude.{◌≡◌, ℕ, List, Option, Some, IfSome, option_map}
+use Rattle.std.specs.Prelude.{◌≡◌, ℕ, List, Option, Some, None, IfSome, codes, option_map}
 use Rattle.std.specs.Map.{lookup}
-use Rattle.resource_tree.specs.Content.{Content, same_path}
+use Rattle.resource_tree.specs.Content.{Content, kid, same_path}
+use Rattle.resource_tree.specs.Patches.{Rows, row_at}
 use Rattle.script_rank.specs.Ranking.{script_text}
 use Rattle.url_maps.specs.Claims.{Index, IsIndexOf}
 use Rattle.publisher.specs.declared.templates.Reading.{Reading}
@@ -18,6 +19,18 @@ reading_at kept path = lookup (same_path path) kept
 abbrev pub AreReadings : Content → Kept → Type 0
 AreReadings tree kept = (path : List (List ℕ)) (reading : Reading) → reading_at kept path ≡ Some reading
     → option_map reading_of (script_text tree path) ≡ Some reading
+
+-- no reading is kept that wasn't before
+abbrev pub AreAmong : Kept → Kept → Type 0
+AreAmong old new = (path : List (List ℕ)) (reading : Reading) → reading_at new path ≡ Some reading → reading_at old path ≡ Some reading
+
+-- where the text of a script stands
+abbrev pub text_path : List (List ℕ) → List (List ℕ)
+text_path path = kid path (codes "jcr:content")
+
+-- no reading is kept of a script at whose text a patch has something
+abbrev pub AreUnpatched : Rows → Kept → Type 0
+AreUnpatched patch kept = (path : List (List ℕ)) (reading : Reading) → reading_at kept path ≡ Some reading → row_at patch (text_path path) ≡ None
 
 -- an index that is kept is the tree's
 abbrev pub IsIndexFor : Content → Option Index → Type 0

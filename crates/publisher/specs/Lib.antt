@@ -2,5 +2,8 @@ pub mod Errors
 pub mod Depths
 pub mod Choices
 pub mod Readings
+pub mod Refusals
+pub mod Posting
 pub mod Rendering
 pub mod Kept
+pub mod SeenAlone

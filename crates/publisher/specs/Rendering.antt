@@ -33,6 +33,7 @@ use Rattle.error_answers.specs.Errors.{error_answer}
 use Rattle.publisher.specs.Errors.{answer_of, redirect}
 use Rattle.publisher.specs.Depths.{depth_of}
 use Rattle.publisher.specs.Choices.{choices_text}
+use Rattle.publisher.specs.Posting.{posting, posting_answer, posting_content}
 
 -- the method asks for a representation (RFC 9110, sections 9.3.1 and 9.3.2)
 abbrev pub is_read : List ℕ → Bool
@@ -140,6 +141,25 @@ abbrev pub mapped_answer : Content → MapAnswer → Answer
 mapped_answer tree (Inside text) = text_answer tree text
 mapped_answer tree (Away status target) = redirect status target
 
--- the answer to a request: another method than GET and HEAD isn't allowed; else the text of the path is mapped
+-- the method asks for a change of the content (RFC 9110, section 9.3.3)
+abbrev pub is_post : List ℕ → Bool
+is_post method = pointwise nat_eq method (codes "POST")
+
+-- the answer to a POST: a mapping that leads away is a redirect of it too
+abbrev pub posted_answer : Content → Ask → MapAnswer → Answer
+posted_answer tree ask (Inside text) = posting_answer (posting tree ask text)
+posted_answer tree ask (Away status target) = redirect status target
+
+-- the content after a POST: as before where it is led away
+abbrev pub posted_content : Content → Ask → MapAnswer → Content
+posted_content tree ask (Inside text) = posting_content tree (posting tree ask text)
+posted_content tree ask (Away status target) = tree
+
+-- the answer to a request: the text of the path is mapped; another method than GET, HEAD and POST isn't allowed
 unfoldable pub rendered : Content → Ask → Answer
-rendered tree ask = if is_read ask.method then mapped_answer tree (mapping tree ask) else error_answer 405
+rendered tree ask = if is_read ask.method then mapped_answer tree (mapping tree ask)
+    else (if is_post ask.method then posted_answer tree ask (mapping tree ask) else error_answer 405)
+
+-- the content after a request: no other method than POST changes it
+unfoldable pub content_after : Content → Ask → Content
+content_after tree ask = if is_post ask.method then posted_content tree ask (mapping tree ask) else tree

@@ -1,5 +1,5 @@
 //! Laws of the rendering, on functions that do nothing.
-ghost use Rattle.std.specs.Prelude.{◌≡◌, ◌≤◌, ◌<◌, [], ℕ, List, Some, true, length};
+ghost use Rattle.std.specs.Prelude.{◌≡◌, ◌≢◌, ◌≤◌, ◌<◌, [], ℕ, List, Some, true, length};
 ghost use Rattle.sp_base.specs.Paths.{text_of};
 ghost use Rattle.sp_base.specs.declared.answer.Ask.{Ask};
 ghost use Rattle.resource_tree.specs.Content.{Content, IsGood};
@@ -16,7 +16,7 @@ ghost use Rattle.htl_text.specs.Spelling.{SpellsTemplate};
 ghost use Rattle.htl_text.specs.Template.{template_output as written_by};
 ghost use Rattle.error_answers.specs.Errors.{error_answer};
 ghost use Rattle.publisher.specs.Errors.{redirect};
-ghost use Rattle.publisher.specs.Rendering.{is_read, rendered, scope_of, seen};
+ghost use Rattle.publisher.specs.Rendering.{content_after, is_read, rendered, scope_of, seen};
 
 use htl_text::the_pieces_are_the_text;
 use script_rank::{one_script_is_first, search_finds_the_first};
@@ -28,14 +28,25 @@ pub fn reads_depend_on_host_port_and_path()
     ensures { (tree : Content) (a b : Ask) → is_read a.method ≡ true → is_read b.method ≡ true → a.host ≡ b.host → a.port ≡ b.port → a.path ≡ b.path → rendered tree a ≡ rendered tree b }
 {}
 
-/// A representation has at most 4,194,304 bytes.
-pub fn representations_fit()
-    ensures { (tree : Content) (ask : Ask) → (rendered tree ask).status ≡ 200 → length (rendered tree ask).body ≤ 4194304 }
+/// A GET and a HEAD change nothing (RFC 9110, section 9.2.1).
+pub fn reads_change_nothing()
+    ensures { (tree : Content) (ask : Ask) → is_read ask.method ≡ true → content_after tree ask ≡ tree }
 {}
 
-/// Every status has three digits at most.
+/// What is answered neither 200 nor 201 changes nothing: a POST is done whole or not at all.
+pub fn refusals_change_nothing()
+    ensures { (tree : Content) (ask : Ask) → (rendered tree ask).status ≢ 200 → (rendered tree ask).status ≢ 201 → content_after tree ask ≡ tree }
+{}
+
+/// A representation has at most 4,194,304 bytes. (That a 200 to a POST has no more either is a clause of `Publisher::answer`.)
+pub fn representations_fit()
+    ensures { (tree : Content) (ask : Ask) → is_read ask.method ≡ true → (rendered tree ask).status ≡ 200 → length (rendered tree ask).body ≤ 4194304 }
+{}
+
+/// Every status has three digits at most, and none is 507 (Insufficient Storage): out of memory is no answer of the content.
 pub fn statuses_are_short()
     ensures rendered { (tree : Content) (ask : Ask) → (rendered tree ask).status < 1000 }
+    ensures memory { (tree : Content) (ask : Ask) → (rendered tree ask).status ≢ 507 }
     ensures error { (status : ℕ) → (error_answer status).status ≡ status }
 {
     away_is_a_redirect();

@@ -1,20 +1,27 @@
 //! The publisher: what a request is answered on a content tree (Apache Sling, "Rendering content, default GET servlets").
 #![tactic(auto)]
 
+mod changes;
 mod choices;
 mod depths;
 mod errors;
 mod laws;
 mod methods;
+mod parts;
+mod posting;
+mod posts;
+mod refusal;
 mod representations;
 mod scripts;
 mod serving;
+mod targets;
 mod templates;
 #[cfg(test)]
 mod tests;
 
 pub use laws::{
-    a_script_writes_its_pieces, reads_depend_on_host_port_and_path, representations_fit,
-    statuses_are_short, what_leads_away_is_a_redirect,
+    a_script_writes_its_pieces, reads_change_nothing, reads_depend_on_host_port_and_path,
+    refusals_change_nothing, representations_fit, statuses_are_short,
+    what_leads_away_is_a_redirect,
 };
 pub use serving::Publisher;

@@ -1,7 +1,7 @@
 // What a request's method and a resource's mark say.
 ghost use Rattle.std.specs.Prelude.{◌≡◌};
 ghost use Rattle.std.specs.Option.{option_copied};
-ghost use Rattle.publisher.specs.Rendering.{is_read, mark_in, mark_of};
+ghost use Rattle.publisher.specs.Rendering.{is_post, is_read, mark_in, mark_of};
 
 use resource_tree::Res;
 use sp_base::{Mark, TextBuf};
@@ -11,6 +11,13 @@ pub(crate) fn is_read(method: &str) -> bool
     ensures { result ≡ is_read method.now }
 {
     method == "GET" || method == "HEAD"
+}
+
+/// Whether a method asks for a change of the content.
+pub(crate) fn is_post(method: &str) -> bool
+    ensures { result ≡ is_post method.now }
+{
+    method == "POST"
 }
 
 fn mark_in(name: Option<&TextBuf>) -> Mark

@@ -4,7 +4,8 @@ ghost use Rattle.get_servlet.specs.Streams.{stream_of};
 ghost use Rattle.publisher.specs.Depths.{depth_of};
 ghost use Rattle.script_rank.specs.Ranking.{script_text};
 ghost use Rattle.publisher.specs.Kept.{AreReadings};
-ghost use Rattle.publisher.specs.Rendering.{answer_by, representation_of, json_representation, json_to_depth, file_representation, is_bare, default_answer, resource_answer, seen};
+ghost use Rattle.publisher.specs.Rendering.{representation_of, json_representation, json_to_depth, file_representation, is_bare, default_answer, resource_answer, seen};
+ghost use Rattle.publisher.specs.SeenAlone.{IsSeenAlone, seen_answer};
 
 use crate::choices::choices_text;
 use crate::depths::depth_of;
@@ -14,7 +15,7 @@ use crate::scripts::script_representation;
 use crate::templates::{Templates, read};
 use error_answers::error_answer;
 use get_servlet::{JsonAnswer, Stream, json_of, stream_of};
-use overlay_merge::MergedView;
+use overlay_merge::{MergedView, is_merged_path, merged};
 use resource_tree::{Look, Res, Tree};
 use script_rank::{script_of, script_text};
 use sp_base::{Answer, ByteBuf, Mark, Mem, Path, TextBuf};
@@ -91,6 +92,21 @@ fn default_answer<L: Look>(alloc: Global, look: &L, parts: &Parts, res: &Res) ->
     error_answer(alloc, 404)
 }
 
+// The answer of the default GET servlet for the resource that is seen at the path of the parts. It is seen with its kids now.
+fn default_answer_there(alloc: Global, tree: &Tree, parts: &Parts, res: &Res) -> Mem<Answer>
+    requires { IsSeenAlone tree.now parts.now res.now }
+    ensures { IfOk result (λ a. a ≡ seen_answer None tree.now parts.now) }
+{
+    let view = MergedView { tree };
+    if !is_merged_path(&parts.path) {
+        return default_answer(alloc, &view, parts, res);
+    }
+    match merged(alloc, tree, &parts.path)? {
+        Some(whole) => default_answer(alloc, &view, parts, &whole),
+        None => error_answer(alloc, 404),
+    }
+}
+
 // The answer of a resource by the script at a path, or of the default GET servlet where there is no script's text. A script is
 // read once, and its reading kept.
 fn answer_by_script(
@@ -101,15 +117,16 @@ fn answer_by_script(
     res: &Res,
     script: Path,
 ) -> Mem<Answer>
-    requires { AreReadings tree.now templates.old }
-    ensures answer { IfOk result (λ a. a ≡ answer_by (script_text tree.now script) (seen tree.now) parts.now res.now) }
+    requires kept { AreReadings tree.now templates.old }
+    requires seen { IsSeenAlone tree.now parts.now res.now }
+    ensures answer { IfOk result (λ a. a ≡ seen_answer (script_text tree.now script) tree.now parts.now) }
     ensures kept { AreReadings tree.now templates.new }
 {
     if let Some(reading) = templates.get(&script) {
         return script_representation(alloc, reading, res);
     }
     let Some(text) = script_text(alloc, tree, &script)? else {
-        return default_answer(alloc, &MergedView { tree }, parts, res);
+        return default_answer_there(alloc, tree, parts, res);
     };
     let reading = read(alloc, text.text())?;
     let answer = script_representation(alloc, &reading, res)?;
@@ -117,7 +134,8 @@ fn answer_by_script(
     Ok(answer)
 }
 
-/// The answer of a resource that the parts of a URL name: what its first script writes, or what the default GET servlet answers.
+/// The answer of the resource that the parts of a URL name, as it is seen without its kids: what its first script writes, which asks
+/// for its properties alone, or what the default GET servlet answers.
 #[tactic(auto, unfolding(crate::specs::Rendering::script_for))]
 pub(crate) fn resource_answer(
     alloc: Global,
@@ -126,12 +144,13 @@ pub(crate) fn resource_answer(
     parts: &Parts,
     res: &Res,
 ) -> Mem<Answer>
-    requires { AreReadings tree.now templates.old }
-    ensures answer { IfOk result (λ a. a ≡ resource_answer tree.now parts.now (Some res.now)) }
+    requires kept { AreReadings tree.now templates.old }
+    requires seen { IsSeenAlone tree.now parts.now res.now }
+    ensures answer { IfOk result (λ a. a ≡ resource_answer tree.now parts.now (seen tree.now parts.now.path)) }
     ensures kept { AreReadings tree.now templates.new }
 {
     match script_of(alloc, tree, res.props(), parts)? {
         Some(script) => answer_by_script(alloc, tree, templates, parts, res, script),
-        None => default_answer(alloc, &MergedView { tree }, parts, res),
+        None => default_answer_there(alloc, tree, parts, res),
     }
 }

@@ -17,8 +17,8 @@ use type_chain::type_text;
 
 const HTML_KIND: &str = "text/html;charset=utf-8";
 
-// The last segment of a path, empty for the root.
-fn name_of(path: &Path) -> &str
+/// The last segment of a path, empty for the root.
+pub(crate) fn name_of(path: &Path) -> &str
     ensures { result.now ≡ name_of path.now }
 {
     match path.last() {

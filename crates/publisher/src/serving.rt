@@ -1,17 +1,17 @@
 //! The publisher: a content tree, what is kept beside it, and the answer to a request.
-ghost use Rattle.std.specs.Prelude.{◌≡◌, IfOk};
-ghost use Rattle.overlay_merge.specs.Merged.{has_resource};
-ghost use Rattle.url_split.specs.Split.{split_of};
+ghost use Rattle.std.specs.Prelude.{◌≡◌, ◌≤◌, IfOk, OnOk, OnErr, length};
+ghost use Rattle.resource_tree.specs.Content.{IsGood};
 ghost use Rattle.url_maps.specs.Claims.{IsIndexOf};
 ghost use Rattle.publisher.specs.Kept.{IsIndexFor};
-ghost use Rattle.publisher.specs.Rendering.{seen, mapping, text_answer, resource_answer, rendered};
+ghost use Rattle.publisher.specs.Rendering.{seen, mapped_answer, mapping, text_answer, resource_answer, rendered, content_after};
 
 use crate::errors::redirect;
-use crate::methods::is_read;
+use crate::methods::{is_post, is_read};
+use crate::parts::parts_of;
 use crate::representations::resource_answer;
 use crate::templates::Templates;
 use error_answers::error_answer;
-use overlay_merge::{AlongView, merged};
+use overlay_merge::merged_alone;
 use resource_tree::Tree;
 use sp_base::{Answer, Ask, Mem};
 use std::alloc::Global;
@@ -19,15 +19,15 @@ use std::hash::RandomState;
 use std::marker::Model;
 use std::mem;
 use url_maps::{MapAnswer, MapIndex};
-use url_split::{Parts, split};
+use url_split::Parts;
 
 /// Answers requests on a content tree. Contracts see the tree.
 #[derive(Drop)]
 pub struct Publisher {
-    tree: Tree,
-    templates: Templates,
+    pub(crate) tree: Tree,
+    pub(crate) templates: Templates,
     /// The index of the tree's aliases and vanity paths, made at the first answer.
-    index: Option<MapIndex>,
+    pub(crate) index: Option<MapIndex>,
 }
 
 impl Model for Publisher {
@@ -69,23 +69,51 @@ impl Publisher {
         &self.tree
     }
 
-    /// What a request is answered.
-    #[tactic(auto, unfolding(crate::specs::Rendering::rendered))]
+    /// What a request is answered. A POST that isn't refused changes the tree.
     pub fn answer(&mut self, alloc: Global, ask: &Ask) -> Mem<Answer>
         ensures ok { IfOk result (λ a. a ≡ rendered self.old ask.now) }
+        ensures after { OnOk result (self.new ≡ content_after self.old ask.now) }
+        ensures unchanged { OnErr result (self.new ≡ self.old) }
+        ensures good { IsGood self.new }
+        ensures fits { IfOk result (λ a. a.status ≡ 200 → length a.body ≤ 4194304) }
+    {
+        let answer = self.answer_by_method(alloc, ask);
+        // `len` says that the tree is good.
+        let _nodes = self.tree.len();
+        answer
+    }
+
+    #[tactic(auto, unfolding(crate::specs::Rendering::rendered, crate::specs::Rendering::content_after))]
+    fn answer_by_method(&mut self, alloc: Global, ask: &Ask) -> Mem<Answer>
+        ensures ok { IfOk result (λ a. a ≡ rendered self.old ask.now) }
+        ensures after { OnOk result (self.new ≡ content_after self.old ask.now) }
+        ensures unchanged { OnErr result (self.new ≡ self.old) }
+        ensures fits { IfOk result (λ a. a.status ≡ 200 → length a.body ≤ 4194304) }
+    {
+        let method = ask.method.text();
+        if is_read(method) {
+            return self.read_answer(alloc, ask);
+        }
+        if is_post(method) {
+            return self.posted_answer(alloc, ask);
+        }
+        error_answer(alloc, 405)
+    }
+
+    // The answer to a GET or a HEAD.
+    fn read_answer(&mut self, alloc: Global, ask: &Ask) -> Mem<Answer>
+        ensures answer { IfOk result (λ a. a ≡ mapped_answer self.old (mapping self.old ask.now)) }
+        ensures fits { IfOk result (λ a. a.status ≡ 200 → length a.body ≤ 4194304) }
         ensures unchanged { self.new ≡ self.old }
     {
-        if !is_read(ask.method.text()) {
-            return error_answer(alloc, 405);
-        }
         match self.mapping(alloc, ask)? {
             MapAnswer::Inside(text) => self.text_answer(alloc, text.text()),
             MapAnswer::Away(status, target) => redirect(alloc, status, target.text()),
         }
     }
 
-    // What the text of a request's path is mapped to.
-    fn mapping(&mut self, alloc: Global, ask: &Ask) -> Mem<MapAnswer>
+    /// What the text of a request's path is mapped to.
+    pub(crate) fn mapping(&mut self, alloc: Global, ask: &Ask) -> Mem<MapAnswer>
         ensures answer { IfOk result (λ a. a ≡ mapping self.old ask.now) }
         ensures unchanged { self.new ≡ self.old }
     {
@@ -112,23 +140,15 @@ impl Publisher {
         ensures answer { IfOk result (λ a. a ≡ resource_answer self.old parts.now (seen self.old parts.now.path)) }
         ensures unchanged { self.new ≡ self.old }
     {
-        match merged(alloc, &self.tree, &parts.path)? {
+        match merged_alone(alloc, &self.tree, &parts.path)? {
             Some(res) => resource_answer(alloc, &self.tree, &mut self.templates, parts, &res),
             None => error_answer(alloc, 404),
         }
     }
 }
 
-// The parts of a text, over the paths at which a resource is seen.
-fn parts_of(alloc: Global, tree: &Tree, text: &str) -> Mem<Option<Parts>>
-    ensures { IfOk result (λ parts. parts ≡ split_of (has_resource tree.now) text.now) }
-{
-    let view = AlongView::of(alloc, tree, text)?;
-    split(alloc, &view, text)
-}
-
-// The index of a tree: the one that is there, or a new one.
-fn index_of(alloc: Global, tree: &Tree, index: Option<MapIndex>) -> Mem<MapIndex>
+/// The index of a tree: the one that is there, or a new one.
+pub(crate) fn index_of(alloc: Global, tree: &Tree, index: Option<MapIndex>) -> Mem<MapIndex>
     requires { IsIndexFor tree.now index }
     ensures { IfOk result (λ made. IsIndexOf tree.now made) }
 {

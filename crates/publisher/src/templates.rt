@@ -1,5 +1,6 @@
-// The templates of scripts, each read once and kept until the tree changes.
-ghost use Rattle.std.specs.Prelude.{◌≡◌, ◌⊎◌, List, ℕ, [], Some, IfOk, option_copied};
+// The templates of scripts, each read once and kept until a POST changes its text, or another tree comes.
+ghost use Rattle.std.specs.Prelude.{◌≡◌, ◌⊎◌, cond, List, ℕ, [], Some, None, IfOk, option_copied};
+ghost use Rattle.resource_tree.specs.Content.{same_path};
 ghost use Rattle.publisher.specs.declared.templates.Reading.{Reading};
 ghost use Rattle.publisher.specs.Kept.{reading_at};
 ghost use Rattle.publisher.specs.Readings.{reading_of};
@@ -58,6 +59,12 @@ impl Templates {
             → (reading_at self.old path ≡ Some kept) ⊎ ((path ≡ script) × (kept ≡ reading)) }
     {
         let _ = self.readings.insert(script, reading);
+    }
+
+    pub(crate) fn forget(&mut self, script: &Path)
+        ensures { (path : List (List ℕ)) → reading_at self.new path ≡ cond (same_path script.now path) None (reading_at self.old path) }
+    {
+        drop(self.readings.remove(script));
     }
 
     pub(crate) fn forget_all(&mut self)

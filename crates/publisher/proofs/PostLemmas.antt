@@ -1,0 +1,64 @@
+-- What leaves the content as it is.
+use Rattle.std.proofs.Common.{◌≡◌, ◌≢◌, ℕ, Bool, true, false, cond, List, Ok, Err, refl, sym, ◌∙◌, ap, ⊎_elim}
+use Rattle.std.specs.Prelude.{codes, nat_eq, if◌then◌else◌}
+use Rattle.std.specs.Cmp.Lexicographic.{pointwise, same_text}
+use Rattle.std.proofs.lemmas.Bool.{or_cases, true≢false}
+use Rattle.sp_base.specs.declared.answer.Ask.{Ask}
+use Rattle.resource_tree.specs.Content.{Content}
+use Rattle.url_maps.specs.declared.answer.MapAnswer.{MapAnswer}
+use Rattle.url_maps.specs.declared.answer.MapAnswer.TheVariants.{Inside, Away}
+use Rattle.error_answers.specs.Errors.{error_answer}
+use Rattle.post_apply.specs.Posting.{Posted}
+use Rattle.publisher.specs.Posting.{Outcome, posting, posting_answer, posting_content}
+use Rattle.publisher.specs.Rendering.{content_after, is_post, is_read, mapped_answer, mapping, posted_answer, posted_content, rendered}
+
+-- ---- methods
+
+-- a method that is this one
+named : (method word : List ℕ) → pointwise nat_eq method word ≡ true → method ≡ word
+named method word is = same_text method word (sym is)
+
+read_is_no_post : (method : List ℕ) → is_read method ≡ true → is_post method ≡ false
+read_is_no_post method read =
+    ⊎_elim (λ get. ap is_post (named method (codes "GET") get)) (λ head. ap is_post (named method (codes "HEAD") head))
+    (or_cases (pointwise nat_eq method (codes "GET")) (pointwise nat_eq method (codes "HEAD")) read)
+
+post_is_no_read : (method : List ℕ) → is_post method ≡ true → is_read method ≡ false
+post_is_no_read method post = ap is_read (named method (codes "POST") post)
+
+pub reads_keep : (tree : Content) (ask : Ask) → is_read ask.method ≡ true → content_after tree ask ≡ tree
+unfolding content_after
+reads_keep tree ask read = ap (λ b. cond b (posted_content tree ask (mapping tree ask)) tree) (read_is_no_post ask.method read)
+
+-- ---- refusals
+
+abbrev status_by : Bool → ℕ
+status_by created = if created then 201 else 200
+
+created_by : (created : Bool) → status_by created ≢ 200 → status_by created ≢ 201 → ⊥
+created_by true one other = other refl
+created_by false one other = one refl
+
+outcome_keeps : (tree : Content) (outcome : Outcome Posted) → (posting_answer outcome).status ≢ 200 → (posting_answer outcome).status ≢ 201 → posting_content tree outcome ≡ tree
+outcome_keeps tree (Ok done) one other = absurd (created_by done.report.created one other)
+outcome_keeps tree (Err refusal) one other = refl
+
+posted_keeps : (tree : Content) (ask : Ask) (answer : MapAnswer) → (posted_answer tree ask answer).status ≢ 200 → (posted_answer tree ask answer).status ≢ 201 → posted_content tree ask answer ≡ tree
+posted_keeps tree ask (Inside text) one other = outcome_keeps tree (posting tree ask text) one other
+posted_keeps tree ask (Away status target) one other = refl
+
+post_is : (tree : Content) (ask : Ask) → is_post ask.method ≡ true → rendered tree ask ≡ posted_answer tree ask (mapping tree ask)
+unfolding rendered
+post_is tree ask post =
+    ap (λ b. cond b (mapped_answer tree (mapping tree ask)) (cond (is_post ask.method) (posted_answer tree ask (mapping tree ask)) (error_answer 405))) (post_is_no_read ask.method post)
+    ∙ ap (λ b. cond b (posted_answer tree ask (mapping tree ask)) (error_answer 405)) post
+
+keeps_by : (post : Bool) (tree : Content) (ask : Ask) → is_post ask.method ≡ post → (rendered tree ask).status ≢ 200 → (rendered tree ask).status ≢ 201 → cond post (posted_content tree ask (mapping tree ask)) tree ≡ tree
+keeps_by true tree ask is one other =
+    let same = post_is tree ask is in
+    posted_keeps tree ask (mapping tree ask) (λ e. one (ap (λ a. a.status) same ∙ e)) (λ e. other (ap (λ a. a.status) same ∙ e))
+keeps_by false tree ask is one other = refl
+
+pub refusals_keep : (tree : Content) (ask : Ask) → (rendered tree ask).status ≢ 200 → (rendered tree ask).status ≢ 201 → content_after tree ask ≡ tree
+unfolding content_after
+refusals_keep tree ask one other = keeps_by (is_post ask.method) tree ask refl one other

@@ -1,0 +1,47 @@
+-- The line that tells of a POST is short.
+use Rattle.std.proofs.Common.{◌≡◌, ◌≢◌, ◌+◌, ◌*◌, ◌≤◌, ◌++◌, ◌∷◌, [], ℕ, Bool, true, false, List, length, refl, sym, ◌∙◌, ap, arith, length-append}
+use Rattle.std.specs.Prelude.{◌&&◌, IsTrue, codes, decimal, flat_map, nat_le, not, if◌then◌else◌}
+use Rattle.std.specs.List.{list_all}
+use Rattle.std.proofs.lemmas.Bool.{and_parts}
+use Rattle.std.proofs.lemmas.Fmt.{length-decimal-le}
+use Rattle.std.proofs.lemmas.Bool.Decides.{nat_tests}
+use Rattle.sp_base.specs.Paths.{has_slash, is_dots, is_empty, is_long, is_path, seg_ok, text_of}
+use Rattle.post_apply.specs.declared.report.PostReport.{PostReport}
+use Rattle.publisher.specs.Posting.{report_line, report_status}
+
+segment_short : (seg : List ℕ) → seg_ok seg ≡ true → length seg ≤ 200
+segment_short seg ok =
+    let names = and_parts (not (is_empty seg)) (not (is_dots seg) && (not (is_long seg) && not (has_slash seg))) ok in
+    let short = and_parts (not (is_dots seg)) (not (is_long seg) && not (has_slash seg)) names.1 in
+    let fits : not (is_long seg) ≡ true = (and_parts (not (is_long seg)) (not (has_slash seg)) short.1).0 in
+    grind (arith, nat_tests)
+
+spelling_short : (path : List (List ℕ)) → list_all seg_ok path ≡ true → length (flat_map (λ s. 47 ∷ s) path) ≤ length path * 201
+spelling_short [] ok = omega arith
+spelling_short (seg ∷ path) ok =
+    let parts = and_parts (seg_ok seg) (list_all seg_ok path) ok in
+    let first = segment_short seg parts.0 in
+    let more = spelling_short path parts.1 in
+    let size = length-append (47 ∷ seg) (flat_map (λ s. 47 ∷ s) path) in
+    omega (arith, first, more, size)
+
+text_short : (path : List (List ℕ)) → is_path path ≡ true → length (text_of path) ≤ 12864
+text_short [] is = omega arith
+text_short (seg ∷ path) is =
+    let parts = and_parts (list_all seg_ok (seg ∷ path)) (nat_le (length (seg ∷ path)) 64) is in
+    let few : length (seg ∷ path) ≤ 64 = grind (arith, nat_tests) in
+    omega (arith, few, spelling_short (seg ∷ path) parts.0)
+
+status_short : (created : Bool) → length (decimal (if created then 201 else 200)) ≤ 3
+status_short true = length-decimal-le 3 201 (omega arith) (omega arith) (omega arith)
+status_short false = length-decimal-le 3 200 (omega arith) (omega arith) (omega arith)
+
+line_of : (status space text end : List ℕ) → length status ≤ 3 → length space ≡ 1 → length text ≤ 12864 → length end ≡ 1 → length (status ++ space ++ text ++ end) ≤ 4194304
+line_of status space text end few one short last =
+    let first : length (status ++ space ++ text ++ end) ≡ length (status ++ space ++ text) + length end = length-append (status ++ space ++ text) end in
+    let second : length (status ++ space ++ text) ≡ length (status ++ space) + length text = length-append (status ++ space) text in
+    let third : length (status ++ space) ≡ length status + length space = length-append status space in
+    omega (arith, few, one, short, last, first, second, third)
+
+pub line_short : (report : PostReport) → is_path report.path ≡ true → length (report_line report) ≤ 4194304
+line_short report is = line_of (decimal (report_status report)) (codes " ") (text_of report.path) (10 ∷ []) (status_short report.created) refl (text_short report.path is) refl

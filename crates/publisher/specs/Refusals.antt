@@ -1,0 +1,48 @@
+-- The statuses of the POSTs that are refused (RFC 9110, section 15.5).
+use Rattle.std.specs.Prelude.{ℕ}
+use Rattle.resource_tree.specs.declared.faults.TreeFault.{TreeFault}
+use Rattle.resource_tree.specs.declared.faults.TreeFault.TheVariants.{NoSuch, RootFixed, IntoItself, Exists, Taken, NoSibling, TooDeep, FullTree, NoMemory as NoMemoryOfTree}
+use Rattle.form_input.specs.declared.fault.FormFault.{FormFault}
+use Rattle.form_input.specs.declared.fault.FormFault.TheVariants.{WrongKind, NoBoundary, BadPart, TooMany, NoMemory as NoMemoryOfForm}
+use Rattle.post_plan.specs.declared.fault.PlanFault.{PlanFault}
+use Rattle.post_plan.specs.declared.fault.PlanFault.TheVariants.{BadOperation, NoDest, BadOrder, BadHint, BadPath, NoMemory as NoMemoryOfPlan}
+use Rattle.post_apply.specs.declared.fault.ApplyFault.{ApplyFault}
+use Rattle.post_apply.specs.declared.fault.ApplyFault.TheVariants.{Tree, Value, DestThere, NoMemory as NoMemoryOfOperation}
+use Rattle.publisher.specs.declared.refusal.Refusal.{Refusal}
+use Rattle.publisher.specs.declared.refusal.Refusal.TheVariants.{Status, NoMemory}
+
+-- a body of another kind than a form's is an unsupported media type, a body that isn't well formed a bad request
+abbrev pub of_form : FormFault → Refusal
+of_form WrongKind = Status 415
+of_form NoBoundary = Status 400
+of_form (BadPart at) = Status 400
+of_form TooMany = Status 400
+of_form NoMemoryOfForm = NoMemory
+
+-- parameters that ask for no operation are a bad request
+abbrev pub of_plan : PlanFault → Refusal
+of_plan BadOperation = Status 400
+of_plan NoDest = Status 400
+of_plan BadOrder = Status 400
+of_plan (BadHint name) = Status 400
+of_plan (BadPath text) = Status 400
+of_plan NoMemoryOfPlan = NoMemory
+
+-- a node that isn't there isn't found; what else the tree refuses is a conflict
+abbrev pub of_tree : TreeFault → Refusal
+of_tree (NoSuch path) = Status 404
+of_tree RootFixed = Status 409
+of_tree IntoItself = Status 409
+of_tree (Exists path) = Status 409
+of_tree (Taken path) = Status 409
+of_tree NoSibling = Status 409
+of_tree TooDeep = Status 409
+of_tree FullTree = Status 409
+of_tree NoMemoryOfTree = NoMemory
+
+-- words that are no value of their type are a bad request; a goal that is there and isn't to be replaced fails a precondition
+abbrev pub of_operation : ApplyFault → Refusal
+of_operation (Tree fault) = of_tree fault
+of_operation (Value name fault) = Status 400
+of_operation (DestThere path) = Status 412
+of_operation NoMemoryOfOperation = NoMemory

@@ -1,0 +1,64 @@
+// The change of a tree, and of what is kept beside it.
+ghost use Rattle.std.specs.Prelude.{◌≡◌, ℕ, List, Some, false, OnOk, OnErr};
+ghost use Rattle.resource_tree.specs.Content.{IsGood, same_path};
+ghost use Rattle.resource_tree.specs.Patches.{patching};
+ghost use Rattle.url_maps.specs.Claims.{IsIndexOf};
+ghost use Rattle.publisher.specs.declared.templates.Reading.{Reading};
+ghost use Rattle.publisher.specs.Kept.{AreAmong, AreReadings, AreUnpatched, reading_at, text_path};
+
+use crate::scripts::name_of;
+use crate::templates::Templates;
+use resource_tree::{Patch, Tree};
+use sp_base::{Mem, Path};
+use std::alloc::Global;
+use url_maps::MapIndex;
+
+/// Puts a patch over a tree. All memory is taken before the tree changes.
+pub(crate) fn put_over(
+    alloc: Global,
+    tree: &mut Tree,
+    templates: &mut Templates,
+    index: &mut MapIndex,
+    patch: Patch,
+) -> Mem<()>
+    requires good { IsGood (patching tree.old patch) }
+    requires index { IsIndexOf tree.old index.old }
+    requires kept { AreReadings tree.old templates.old }
+    ensures ok { OnOk result (tree.new ≡ patching tree.old patch) }
+    ensures unchanged { OnErr result (tree.new ≡ tree.old) }
+    ensures index { IsIndexOf tree.new index.new }
+    ensures kept { AreReadings tree.new templates.new }
+{
+    let change = index.change_of(alloc, tree, &patch)?;
+    forget_patched(alloc, templates, &patch)?;
+    tree.apply(patch)?;
+    index.take(change);
+    Ok(())
+}
+
+// Forgets the readings of the scripts whose text a patch may change.
+fn forget_patched(alloc: Global, templates: &mut Templates, patch: &Patch) -> Mem<()>
+    ensures fewer { AreAmong templates.old templates.new }
+    ensures unpatched { OnOk result (AreUnpatched patch.now templates.new) }
+{
+    for place in 0..patch.len() {
+        let Some((path, _row)) = patch.at(place) else {
+            continue;
+        };
+        forget_text(alloc, templates, path)?;
+    }
+    Ok(())
+}
+
+// Forgets the reading of the script whose text stands at a path.
+fn forget_text(alloc: Global, templates: &mut Templates, path: &Path) -> Mem<()>
+    ensures fewer { AreAmong templates.old templates.new }
+    ensures forgotten { OnOk result ((script : List (List ℕ)) (reading : Reading) → reading_at templates.new script ≡ Some reading → same_path (text_path script) path.now ≡ false) }
+{
+    if name_of(path) != "jcr:content" {
+        return Ok(());
+    }
+    let script = path.parent(alloc)?;
+    templates.forget(&script);
+    Ok(())
+}

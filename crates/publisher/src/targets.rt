@@ -1,0 +1,68 @@
+// The target of a POST.
+ghost use Rattle.std.specs.Prelude.{◌≡◌, IfOk};
+ghost use Rattle.publisher.specs.Posting as spec;
+
+use crate::parts::parts_of;
+use resource_tree::Tree;
+use sp_base::{Mem, NoMemory, Path, PathFault};
+use std::alloc::Global;
+
+/// The path that a POST acts at.
+#[derive(Drop)]
+pub(crate) struct Target {
+    pub(crate) path: Path,
+    /// A new node is wished below the path.
+    pub(crate) star: bool,
+}
+
+fn ends_in_star(text: &str) -> bool
+    ensures { result ≡ spec.ends_in_star text.now }
+{
+    text.as_bytes().ends_with(b"/*")
+}
+
+fn path_in(alloc: Global, text: &str) -> Mem<Option<Path>>
+    ensures { IfOk result (λ o. o ≡ spec.path_in text.now) }
+{
+    match Path::read(alloc, text) {
+        Ok(path) => Ok(Some(path)),
+        Err(PathFault::NoMemory) => Err(NoMemory),
+        Err(_) => Ok(None),
+    }
+}
+
+// The path of the resource that a text names, else the path that it spells.
+fn named_path(alloc: Global, tree: &Tree, text: &str) -> Mem<Option<Path>>
+    ensures { IfOk result (λ o. o ≡ spec.named_path tree.now text.now) }
+{
+    match parts_of(alloc, tree, text)? {
+        Some(parts) => Ok(Some(parts.path)),
+        None => path_in(alloc, text),
+    }
+}
+
+// A new node below the path before the last segment of a text.
+fn starred(alloc: Global, text: &str) -> Mem<Option<Target>>
+    ensures { IfOk result (λ o. o ≡ spec.starred text.now) }
+{
+    match path_in(alloc, text)? {
+        Some(path) => Ok(Some(Target {
+            path: path.parent(alloc)?,
+            star: true,
+        })),
+        None => Ok(None),
+    }
+}
+
+/// The target of a text; `slash` says that a slash at its end was dropped.
+pub(crate) fn target_of(alloc: Global, tree: &Tree, text: &str, slash: bool) -> Mem<Option<Target>>
+    ensures { IfOk result (λ o. o ≡ spec.target_of tree.now text.now slash) }
+{
+    if ends_in_star(text) {
+        return starred(alloc, text);
+    }
+    match named_path(alloc, tree, text)? {
+        Some(path) => Ok(Some(Target { path, star: slash })),
+        None => Ok(None),
+    }
+}

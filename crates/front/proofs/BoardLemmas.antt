@@ -9,6 +9,7 @@ use Rattle.std.proofs.lemmas.Map.{update_apart, update_here}
 use Rattle.std.proofs.lemmas.Map.Lookups.{exact_unsigned}
 use Rattle.std.proofs.lemmas.Bool.{cases_eq, ne_eqb}
 use Rattle.sp_base.specs.declared.answer.Answer.{Answer}
+use Rattle.any_config.specs.declared.farm.Farm.{Farm}
 use Rattle.connections.specs.Connections.{Connection, with_landing}
 use Rattle.front.specs.Boards.{AllGiven, BoardTied, FirstThen, Landing, LineTied, LinesTied, Meets, ServesDry, SettlesDry, SkyTied}
 use Rattle.front.specs.Lines.{Holds}
@@ -60,10 +61,10 @@ tied-none None None tied e = refl
 tied-none None (Some m) tied e = absurd tied
 tied-none (Some k) line tied e = absurd (let no : ⊥ = cc in no)
 
-pub meets : (b : Board) (w : RunState) (c : ℕ) (k : Line) → BoardTied b w → get nat_cmp b.lines c ≡ Some k → Meets w c k b.sky
+pub meets : {farm : Farm} (b : Board) (w : RunState) (c : ℕ) (k : Line) → BoardTied farm b w → get nat_cmp b.lines c ≡ Some k → Meets farm w c k b.sky
 meets b w c k tied here =
     let opened = tied-some _ _ k (tied.lines.each c) here in
-    record { connection = opened.connection; open_is = opened.open_is; holds = opened.holds; sky_is = tied.sky }
+    record { connection = opened.connection; open_is = opened.open_is; holds = opened.holds; sky_is = tied.sky; farm_is = tied.farm_is }
 
 -- the line is the new one in both, and the others are as before
 pub lines-after : (old new : BTreeMap ℕ Line) (w v : RunState) (c : ℕ) (k : Line) (m : Connection) → LinesTied old w → get nat_cmp new c ≡ Some k → ((q : ℕ) → q ≢ c → get nat_cmp new q ≡ get nat_cmp old q)
@@ -91,21 +92,21 @@ lines-without old new w v c tied updates fewer none others count = record {
 dry-frame : (dry : Bool) (w : RunState) (c : ℕ) (notes : List Note) (m : Connection) → ServesDry dry w c notes → (afters w notes).line c ≡ Some m → Frame c w (afters w notes)
 dry-frame dry w c notes m serves is = serves-frame (record { dry = dry }) w c notes m (serves (record { dry = dry }) (λ x. x)) is
 
-lines-given : (b : Board) (w : RunState) (c : ℕ) (k j : Line) (sky : Sky) (lines : BTreeMap ℕ Line) (told : Told) (over : Bool) → BoardTied b w → Some k ≡ get nat_cmp b.lines c
-    → AllGiven told over w c j sky → WritesThrough nat_cmp (nat_cmp c) b.lines j lines → LinesTied lines (afters w told.notes.items)
+lines-given : {farm : Farm} (b : Board) (w : RunState) (c : ℕ) (k j : Line) (sky : Sky) (lines : BTreeMap ℕ Line) (told : Told) (over : Bool) → BoardTied farm b w → Some k ≡ get nat_cmp b.lines c
+    → AllGiven told over farm w c j sky → WritesThrough nat_cmp (nat_cmp c) b.lines j lines → LinesTied lines (afters w told.notes.items)
 lines-given b w c k j sky lines told over tied here all writes =
     let given = all.given in
     let updates = writes.3 (some-there _ k (sym here)) in
     let frame = dry-frame told.dry w c told.notes.items given.meets.connection given.serves given.meets.open_is in
     lines-after b.lines lines w (afters w told.notes.items) c j given.meets.connection tied.lines updates.1 (λ q other. updates.2 q (at-other c q other)) writes.2 given.meets.open_is given.meets.holds frame
 
-pub settled-quiet : (b : Board) (w : RunState) (c : ℕ) (k j : Line) (sky : Sky) (lines : BTreeMap ℕ Line) (told : Told) (over : Bool) → BoardTied b w → Some k ≡ get nat_cmp b.lines c
-    → ((u : RunState) → Meets u c k b.sky → AllGiven told over u c j sky) → over ≡ false → WritesThrough nat_cmp (nat_cmp c) b.lines j lines
-    → SettlesDry told.dry w c told.notes.items × BoardTied (record { lines = lines; sky = sky }) (afters w told.notes.items)
-settled-quiet b w c k j sky lines told over tied here serves stays writes =
-    let all = subst (λ o. AllGiven told o w c j sky) stays (serves w (meets b w c k tied (sym here))) in (
+pub settled-quiet : {farm : Farm} (b : Board) (w : RunState) (c : ℕ) (k j : Line) (sky : Sky) (lines : BTreeMap ℕ Line) (told : Told) (over : Bool) → BoardTied farm b w → Some k ≡ get nat_cmp b.lines c
+    → ((u : RunState) → Meets farm u c k b.sky → AllGiven told over farm u c j sky) → over ≡ false → WritesThrough nat_cmp (nat_cmp c) b.lines j lines
+    → SettlesDry told.dry w c told.notes.items × BoardTied farm (record { lines = lines; sky = sky }) (afters w told.notes.items)
+settled-quiet {farm} b w c k j sky lines told over tied here serves stays writes =
+    let all = subst (λ o. AllGiven told o farm w c j sky) stays (serves w (meets b w c k tied (sym here))) in (
       λ m allows. record { serves = all.given.serves m allows; idle = all.then_due },
-      record { lines = lines-given b w c k j sky lines told false tied here all writes; sky = all.given.meets.sky_is },
+      record { farm_is = all.given.meets.farm_is; lines = lines-given b w c k j sky lines told false tied here all writes; sky = all.given.meets.sky_is },
     )
 
 or-false : (b : Bool) → (b || false) ≡ b
@@ -127,13 +128,13 @@ some-of (Some k) e = (k, refl)
 pub one-fewer : (o : Option Line) (k : Line) (m n : ℕ) → o ≡ Some k → n + (if is_some o then 1 else 0) ≡ m → n + 1 ≡ m
 one-fewer o k m n some len = sym (some-one o k n some) ∙ len
 
-pub settled-over : (b : Board) (w : RunState) (c : ℕ) (k j : Line) (sky : Sky) (lines left : BTreeMap ℕ Line) (told all : Told) (over : Bool) → BoardTied b w → Some k ≡ get nat_cmp b.lines c
-    → ((u : RunState) → Meets u c k b.sky → AllGiven told over u c j sky) → over ≡ true → WritesThrough nat_cmp (nat_cmp c) b.lines j lines
+pub settled-over : {farm : Farm} (b : Board) (w : RunState) (c : ℕ) (k j : Line) (sky : Sky) (lines left : BTreeMap ℕ Line) (told all : Told) (over : Bool) → BoardTied farm b w → Some k ≡ get nat_cmp b.lines c
+    → ((u : RunState) → Meets farm u c k b.sky → AllGiven told over farm u c j sky) → over ≡ true → WritesThrough nat_cmp (nat_cmp c) b.lines j lines
     → Updates nat_cmp lines left c None → (o : Option Line) → o ≡ get nat_cmp lines c → btree_map_len left + (if is_some o then 1 else 0) ≡ btree_map_len lines
     → all.notes.items ≡ told.notes.items ++ Shut c ∷ [] → all.dry ≡ (told.dry || false)
-    → SettlesDry all.dry w c all.notes.items × BoardTied (record { lines = left; sky = sky }) (afters w all.notes.items)
-settled-over b w c k j sky lines left told all over tied here serves ends writes updates o was len notes dry =
-    let given = subst (λ x. AllGiven told x w c j sky) ends (serves w (meets b w c k tied (sym here))) in
+    → SettlesDry all.dry w c all.notes.items × BoardTied farm (record { lines = left; sky = sky }) (afters w all.notes.items)
+settled-over {farm} b w c k j sky lines left told all over tied here serves ends writes updates o was len notes dry =
+    let given = subst (λ x. AllGiven told x farm w c j sky) ends (serves w (meets b w c k tied (sym here))) in
     let v = afters w told.notes.items in
     let mid = lines-given b w c k j sky lines told true tied here given writes in
     let there = some-there _ k (sym here) in
@@ -146,7 +147,8 @@ settled-over b w c k j sky lines left told all over tied here serves ends writes
         serves = subst (Serves m w c) (sym notes) (serves-push m w c told.notes.items (Shut c) (given.given.serves m (λ is. allows (same_dry ∙ is))) (subst (λ d. Gives m v c d (Shut c)) (sym given.then_due) refl));
         idle = ap (λ u. due u c) end ∙ rw (update_here v.line c None) refl;
       },
-      subst (BoardTied (record { lines = left; sky = sky })) (sym end) (record {
+      subst (BoardTied farm (record { lines = left; sky = sky })) (sym end) (record {
+        farm_is = given.given.meets.farm_is;
         lines = lines-without lines left v (after v (Shut c)) c mid updates fewer (update_here v.line c None) (λ q other. update_apart v.line c None q other) (omega (arith, fewer, size));
         sky = sky-shut sky v c given.given.meets.sky_is;
       }),
@@ -156,12 +158,12 @@ settled-over b w c k j sky lines left told all over tied here serves ends writes
     sky-shut sky v c tied = record { air = tied.air; asked = tied.asked; rising = tied.rising }
 
 -- ---- a flight has landed
-pub landed : (b g h : Board) (w v : RunState) (c number : ℕ) (answer : Answer) (first : Note) (told all : Told) → Landing b w v c number answer
+pub landed : {farm : Farm} (b g h : Board) (w v : RunState) (c number : ℕ) (answer : Answer) (first : Note) (told all : Told) → Landing farm b w v c number answer
     → ((q : ℕ) (o : Option Connection) → LineTied (get nat_cmp b.lines q) o → LineTied (get nat_cmp g.lines q) (cond (nat_eq q c) (option_map (with_landing number answer) o) o))
     → btree_map_len g.lines ≡ btree_map_len b.lines → g.sky ≡ b.sky
-    → ((u : RunState) → BoardTied g u → SettlesDry told.dry u c told.notes.items × BoardTied h (afters u told.notes.items)) → all.notes.items ≡ first ∷ told.notes.items → all.dry ≡ told.dry
-    → FirstThen first v c all h
-landed b g h w v c number answer first told all landing fill count sky settled notes dry =
+    → ((u : RunState) → BoardTied farm g u → SettlesDry told.dry u c told.notes.items × BoardTied farm h (afters u told.notes.items)) → all.notes.items ≡ first ∷ told.notes.items → all.dry ≡ told.dry
+    → FirstThen first farm v c all h
+landed {farm} b g h w v c number answer first told all landing fill count sky settled notes dry =
     let lines : LinesTied g.lines v = record {
       each = λ q. ⊎_elim
           (λ at.
@@ -175,6 +177,6 @@ landed b g h w v c number answer first told all landing fill count sky settled n
           (cases_eq c q);
       count = count ∙ landing.lines.count ∙ sym landing.count_is;
     } in
-    let tied : BoardTied g v = record { lines = lines; sky = rw sky landing.sky } in
+    let tied : BoardTied farm g v = record { farm_is = landing.farm_is; lines = lines; sky = rw sky landing.sky } in
     let done = settled v tied in
     record { rest = told.notes.items; begins = notes; settles = subst (λ d. SettlesDry d v c told.notes.items) (sym dry) done.0; board_is = done.1 }

@@ -9,6 +9,7 @@ use Rattle.std.specs.BTreeMap.{BTreeMap, get, Updates, btree_map_len}
 use Rattle.std.proofs.lemmas.Map.{update_apart, update_here}
 use Rattle.std.proofs.lemmas.Bool.{cases_eq}
 use Rattle.sp_base.specs.declared.answer.Answer.{Answer}
+use Rattle.any_config.specs.declared.farm.Farm.{Farm}
 use Rattle.error_answers.specs.Errors.{error_answer}
 use Rattle.http_front.specs.Turns.{Waits}
 use Rattle.connections.specs.Connections.{Connection, fed, fresh}
@@ -35,16 +36,16 @@ sky-as : (sky : Sky) (w v : RunState) → SkyTied sky w → v.air ≡ w.air → 
 sky-as sky w v tied air log = record { air = tied.air ∙ sym air; asked = rw log tied.asked; rising = tied.rising }
 
 -- ---- a connection is there
-pub opened-there : (b : Board) (w : RunState) (c : ℕ) (peer : List ℕ) (told : Told) → BoardTied b w → is_some (get nat_cmp b.lines c) ≡ true → told.notes.items ≡ Idle ∷ [] → Happened (BoardTied b) w (Opened c peer) told
-opened-there b w c peer told tied there notes = by_line (w.line c) refl (get nat_cmp b.lines c) (tied.lines.each c) there
+pub opened-there : {farm : Farm} (b : Board) (w : RunState) (c : ℕ) (peer : List ℕ) (told : Told) → BoardTied farm b w → is_some (get nat_cmp b.lines c) ≡ true → told.notes.items ≡ Idle ∷ [] → Happened (BoardTied farm b) w (Opened c peer) told
+opened-there {farm} b w c peer told tied there notes = by_line (w.line c) refl (get nat_cmp b.lines c) (tied.lines.each c) there
   where
-    by_line : (line : Option Connection) → w.line c ≡ line → (o : Option Line) → LineTied o line → is_some o ≡ true → Happened (BoardTied b) w (Opened c peer) told
+    by_line : (line : Option Connection) → w.line c ≡ line → (o : Option Line) → LineTied o line → is_some o ≡ true → Happened (BoardTied farm b) w (Opened c peer) told
     by_line None is None each some = absurd (let no : ⊥ = cc in no)
     by_line None is (Some k) each some = absurd each
     by_line (Some m) is o each some =
         let begins : opened w c peer (w.line c) ≡ w = ap (opened w c peer) is in
         let state : afters (opened w c peer (w.line c)) told.notes.items ≡ w = ap (afters (opened w c peer (w.line c))) notes ∙ begins in
-        record { turns = []; ends = Waits; happens = notes ∙ sym (ap (opening c w.lines) is); stands = subst (BoardTied b) (sym state) tied }
+        record { turns = []; ends = Waits; happens = notes ∙ sym (ap (opening c w.lines) is); stands = subst (BoardTied farm b) (sym state) tied }
 
 full-opening : (c lines : ℕ) → nat_le most_lines lines ≡ true → opening c lines None ≡ Refused c ∷ []
 full-opening c lines full = rw full refl
@@ -58,16 +59,16 @@ full-opened w c peer full = rw full refl
 free-opened : (w : RunState) (c : ℕ) (peer : List ℕ) → nat_le most_lines w.lines ≡ false → opened w c peer None ≡ record w { line = update nat_eq w.line c (Some (fresh peer)); lines = w.lines + 1 }
 free-opened w c peer free = rw free refl
 
-pub opened-full : (b : Board) (w : RunState) (c : ℕ) (peer : List ℕ) (told : Told) → BoardTied b w → get nat_cmp b.lines c ≡ None → most_lines ≤ btree_map_len b.lines → told.notes.items ≡ Refused c ∷ [] → Happened (BoardTied b) w (Opened c peer) told
-opened-full b w c peer told tied absent many notes =
+pub opened-full : {farm : Farm} (b : Board) (w : RunState) (c : ℕ) (peer : List ℕ) (told : Told) → BoardTied farm b w → get nat_cmp b.lines c ≡ None → most_lines ≤ btree_map_len b.lines → told.notes.items ≡ Refused c ∷ [] → Happened (BoardTied farm b) w (Opened c peer) told
+opened-full {farm} b w c peer told tied absent many notes =
     let none : w.line c ≡ None = tied-none _ _ (tied.lines.each c) absent in
     let full : nat_le most_lines w.lines ≡ true = grind (arith, many, tied.lines.count) in
     let state : afters (opened w c peer (w.line c)) told.notes.items ≡ w = ap (afters (opened w c peer (w.line c))) notes ∙ ap (opened w c peer) none ∙ full-opened w c peer full in
-    record { turns = []; ends = Waits; happens = notes ∙ sym (ap (opening c w.lines) none ∙ full-opening c w.lines full); stands = subst (BoardTied b) (sym state) tied }
+    record { turns = []; ends = Waits; happens = notes ∙ sym (ap (opening c w.lines) none ∙ full-opening c w.lines full); stands = subst (BoardTied farm b) (sym state) tied }
 
-pub opened-new : (b : Board) (w : RunState) (c : ℕ) (peer : List ℕ) (k : Line) (lines : BTreeMap ℕ Line) (told : Told) → BoardTied b w → get nat_cmp b.lines c ≡ None → btree_map_len b.lines < most_lines
-    → Holds k (fresh peer) → Updates nat_cmp b.lines lines c (Some k) → btree_map_len lines ≡ btree_map_len b.lines + 1 → told.notes.items ≡ [] → Happened (BoardTied (record { lines = lines; sky = b.sky })) w (Opened c peer) told
-opened-new b w c peer k lines told tied absent few holds updates more notes =
+pub opened-new : {farm : Farm} (b : Board) (w : RunState) (c : ℕ) (peer : List ℕ) (k : Line) (lines : BTreeMap ℕ Line) (told : Told) → BoardTied farm b w → get nat_cmp b.lines c ≡ None → btree_map_len b.lines < most_lines
+    → Holds k (fresh peer) → Updates nat_cmp b.lines lines c (Some k) → btree_map_len lines ≡ btree_map_len b.lines + 1 → told.notes.items ≡ [] → Happened (BoardTied farm (record { lines = lines; sky = b.sky })) w (Opened c peer) told
+opened-new {farm} b w c peer k lines told tied absent few holds updates more notes =
     let none : w.line c ≡ None = tied-none _ _ (tied.lines.each c) absent in
     let free : nat_le most_lines w.lines ≡ false = grind (arith, few, tied.lines.count) in
     let v : RunState = record w { line = update nat_eq w.line c (Some (fresh peer)); lines = w.lines + 1 } in
@@ -76,7 +77,8 @@ opened-new b w c peer k lines told tied absent few holds updates more notes =
       turns = [];
       ends = Waits;
       happens = notes ∙ sym (ap (opening c w.lines) none ∙ free-opening c w.lines free);
-      stands = subst (BoardTied (record { lines = lines; sky = b.sky })) (sym state) (record {
+      stands = subst (BoardTied farm (record { lines = lines; sky = b.sky })) (sym state) (record {
+        farm_is = tied.farm_is;
         lines = record {
           each = λ q. ⊎_elim
               (λ at. rw (← at, updates.1, update_here w.line c (Some (fresh peer))) holds)
@@ -89,16 +91,17 @@ opened-new b w c peer k lines told tied absent few holds updates more notes =
     }
 
 -- ---- bytes come
-pub piece-there : (b g h : Board) (w : RunState) (c : ℕ) (bytes : List ℕ) (told : Told) → BoardTied b w → ReadAt b g c bytes
-    → ((u : RunState) → BoardTied g u → SettlesDry told.dry u c told.notes.items × BoardTied h (afters u told.notes.items)) → Happened (BoardTied h) w (Piece c bytes) told
-piece-there b g h w c bytes told tied read settled =
+pub piece-there : {farm : Farm} (b g h : Board) (w : RunState) (c : ℕ) (bytes : List ℕ) (told : Told) → BoardTied farm b w → ReadAt b g c bytes
+    → ((u : RunState) → BoardTied farm g u → SettlesDry told.dry u c told.notes.items × BoardTied farm h (afters u told.notes.items)) → Happened (BoardTied farm h) w (Piece c bytes) told
+piece-there {farm} b g h w c bytes told tied read settled =
     let line = tied-some _ _ read.before (tied.lines.each c) read.before_is in
     let got = read.reads line.connection line.holds in
     let e : Event = event_of (Piece c bytes) told got.turns got.ends in
     let v = on_line w c (fed bytes got.turns got.ends) in
     let now : v.line c ≡ Some (fed bytes got.turns got.ends line.connection) = update_here w.line c _ ∙ ap (option_map (fed bytes got.turns got.ends)) line.open_is in
     let frame : Frame c w v = record { others = λ d apart. update_apart w.line c _ d apart; lines = refl } in
-    let fed_tied : BoardTied g v = record {
+    let fed_tied : BoardTied farm g v = record {
+      farm_is = tied.farm_is;
       lines = lines-after b.lines g.lines w v c read.line _ tied.lines read.line_is read.others read.count now got.holds frame;
       sky = rw read.sky (sky-as b.sky w v tied.sky refl refl);
     } in
@@ -110,8 +113,8 @@ piece-there b g h w c bytes told tied read settled =
       stands = done.1;
     }
 
-pub piece-none : (b : Board) (w : RunState) (c : ℕ) (bytes : List ℕ) (told : Told) → BoardTied b w → is_some (get nat_cmp b.lines c) ≡ false → told.notes.items ≡ Idle ∷ [] → Happened (BoardTied b) w (Piece c bytes) told
-piece-none b w c bytes told tied absent notes =
+pub piece-none : {farm : Farm} (b : Board) (w : RunState) (c : ℕ) (bytes : List ℕ) (told : Told) → BoardTied farm b w → is_some (get nat_cmp b.lines c) ≡ false → told.notes.items ≡ Idle ∷ [] → Happened (BoardTied farm b) w (Piece c bytes) told
+piece-none {farm} b w c bytes told tied absent notes =
     let none : w.line c ≡ None = tied-none _ _ (tied.lines.each c) (is-none _ absent) in
     let e : Event = event_of (Piece c bytes) told [] Waits in
     let v = on_line w c (fed bytes [] Waits) in
@@ -124,16 +127,17 @@ piece-none b w c bytes told tied absent notes =
       turns = [];
       ends = Waits;
       happens = subst (PieceTo w e c bytes) (sym none) notes;
-      stands = subst (BoardTied b) (sym state) (record {
+      stands = subst (BoardTied farm b) (sym state) (record {
+        farm_is = tied.farm_is;
         lines = record { each = λ q. rw (same q) (tied.lines.each q); count = tied.lines.count };
         sky = sky-as b.sky w v tied.sky refl refl;
       });
     }
 
 -- ---- a connection is gone
-pub gone-there : (b : Board) (w : RunState) (c : ℕ) (lines : BTreeMap ℕ Line) (o : Option Line) (told : Told) → BoardTied b w → is_some (get nat_cmp b.lines c) ≡ true → Updates nat_cmp b.lines lines c None
-    → o ≡ get nat_cmp b.lines c → btree_map_len lines + (if is_some o then 1 else 0) ≡ btree_map_len b.lines → told.notes.items ≡ [] → Happened (BoardTied (record { lines = lines; sky = b.sky })) w (Gone c) told
-gone-there b w c lines o told tied there updates was len notes =
+pub gone-there : {farm : Farm} (b : Board) (w : RunState) (c : ℕ) (lines : BTreeMap ℕ Line) (o : Option Line) (told : Told) → BoardTied farm b w → is_some (get nat_cmp b.lines c) ≡ true → Updates nat_cmp b.lines lines c None
+    → o ≡ get nat_cmp b.lines c → btree_map_len lines + (if is_some o then 1 else 0) ≡ btree_map_len b.lines → told.notes.items ≡ [] → Happened (BoardTied farm (record { lines = lines; sky = b.sky })) w (Gone c) told
+gone-there {farm} b w c lines o told tied there updates was len notes =
     let some = some-of _ there in
     let fewer = one-fewer o some.0 _ _ (was ∙ some.1) len in
     let line = tied-some _ _ some.0 (tied.lines.each c) some.1 in
@@ -143,21 +147,22 @@ gone-there b w c lines o told tied there updates was len notes =
       turns = [];
       ends = Waits;
       happens = notes ∙ sym (ap going line.open_is);
-      stands = subst (BoardTied (record { lines = lines; sky = b.sky })) (sym state) (record {
+      stands = subst (BoardTied farm (record { lines = lines; sky = b.sky })) (sym state) (record {
+        farm_is = tied.farm_is;
         lines = lines-without b.lines lines w v c tied.lines updates fewer (update_here w.line c None) (λ q other. update_apart w.line c None q other) (omega (arith, fewer, tied.lines.count));
         sky = sky-as b.sky w v tied.sky refl refl;
       });
     }
 
-pub gone-none : (b : Board) (w : RunState) (c : ℕ) (told : Told) → BoardTied b w → is_some (get nat_cmp b.lines c) ≡ false → told.notes.items ≡ Idle ∷ [] → Happened (BoardTied b) w (Gone c) told
-gone-none b w c told tied absent notes =
+pub gone-none : {farm : Farm} (b : Board) (w : RunState) (c : ℕ) (told : Told) → BoardTied farm b w → is_some (get nat_cmp b.lines c) ≡ false → told.notes.items ≡ Idle ∷ [] → Happened (BoardTied farm b) w (Gone c) told
+gone-none {farm} b w c told tied absent notes =
     let none : w.line c ≡ None = tied-none _ _ (tied.lines.each c) (is-none _ absent) in
     let state : afters (gone w c (w.line c)) told.notes.items ≡ w = ap (afters (gone w c (w.line c))) notes ∙ ap (gone w c) none in
     record {
       turns = [];
       ends = Waits;
       happens = notes ∙ sym (ap going none);
-      stands = subst (BoardTied b) (sym state) tied;
+      stands = subst (BoardTied farm b) (sym state) tied;
     }
 
 -- ---- a flight is over
@@ -182,47 +187,48 @@ picked-there sky w pick can at f tied found here = ap (find (λ flying. is_picke
 pub picked-none : (sky : Sky) (w : RunState) (pick : Pick) (can : Flying → Bool) → SkyTied sky w → position (λ flying. is_picked pick flying && can flying) sky.flights.items ≡ None → picked pick can w.air ≡ None
 picked-none sky w pick can tied none = ap (find (λ flying. is_picked pick flying && can flying)) (sym tied.air) ∙ found-none (λ flying. is_picked pick flying && can flying) sky.flights.items none
 
-pub delivered-none : (b : Board) (w : RunState) (pick : Pick) (told : Told) → BoardTied b w → position (λ flying. is_picked pick flying && is_rendered flying) b.sky.flights.items ≡ None → told.notes.items ≡ Idle ∷ []
-    → Happened (BoardTied b) w (Deliver pick) told
-delivered-none b w pick told tied none notes =
+pub delivered-none : {farm : Farm} (b : Board) (w : RunState) (pick : Pick) (told : Told) → BoardTied farm b w → position (λ flying. is_picked pick flying && is_rendered flying) b.sky.flights.items ≡ None → told.notes.items ≡ Idle ∷ []
+    → Happened (BoardTied farm b) w (Deliver pick) told
+delivered-none {farm} b w pick told tied none notes =
     let e : Event = event_of (Deliver pick) told [] Waits in
     record {
       turns = [];
       ends = Waits;
       happens = subst (DeliverTo w e) (sym (picked-none b.sky w pick is_rendered tied.sky none)) notes;
-      stands = subst (BoardTied b) (sym (ap (afters w) notes)) tied;
+      stands = subst (BoardTied farm b) (sym (ap (afters w) notes)) tied;
     }
 
-pub lost-none : (b : Board) (w : RunState) (pick : Pick) (told : Told) → BoardTied b w → position (λ flying. is_picked pick flying && is_any flying) b.sky.flights.items ≡ None → told.notes.items ≡ Idle ∷ []
-    → Happened (BoardTied b) w (Lose pick) told
-lost-none b w pick told tied none notes =
+pub lost-none : {farm : Farm} (b : Board) (w : RunState) (pick : Pick) (told : Told) → BoardTied farm b w → position (λ flying. is_picked pick flying && is_any flying) b.sky.flights.items ≡ None → told.notes.items ≡ Idle ∷ []
+    → Happened (BoardTied farm b) w (Lose pick) told
+lost-none {farm} b w pick told tied none notes =
     let e : Event = event_of (Lose pick) told [] Waits in
     record {
       turns = [];
       ends = Waits;
       happens = subst (LoseTo w e) (sym (picked-none b.sky w pick is_any tied.sky none)) notes;
-      stands = subst (BoardTied b) (sym (ap (afters w) notes)) tied;
+      stands = subst (BoardTied farm b) (sym (ap (afters w) notes)) tied;
     }
 
 -- a first note, and then what the connection is owed
-leads : (w v : RunState) (first : Note) (c : ℕ) (told : Told) (h : Board) → after w first ≡ v → FirstThen first v c told h → Leads w (record { dry = told.dry }) first c told.notes.items × BoardTied h (afters w told.notes.items)
-leads w v first c told h is led = (
+leads : {farm : Farm} (w v : RunState) (first : Note) (c : ℕ) (told : Told) (h : Board) → after w first ≡ v → FirstThen first farm v c told h → Leads w (record { dry = told.dry }) first c told.notes.items × BoardTied farm h (afters w told.notes.items)
+leads {farm} w v first c told h is led = (
   record { rest = led.rest; begins = led.begins; settles = subst (λ u. Settles (record { dry = told.dry }) u c led.rest) (sym is) (led.settles (record { dry = told.dry }) (λ x. x)) },
-  subst (BoardTied h) (sym (ap (afters w) led.begins ∙ ap (λ u. afters u led.rest) is)) led.board_is,
+  subst (BoardTied farm h) (sym (ap (afters w) led.begins ∙ ap (λ u. afters u led.rest) is)) led.board_is,
 )
 
-pub delivered : (b h : Board) (sky : Sky) (w : RunState) (pick : Pick) (at : ℕ) (f : Flying) (answer : Answer) (told : Told) → BoardTied b w
+pub delivered : {farm : Farm} (b h : Board) (sky : Sky) (w : RunState) (pick : Pick) (at : ℕ) (f : Flying) (answer : Answer) (told : Told) → BoardTied farm b w
     → position (λ flying. is_picked pick flying && is_rendered flying) b.sky.flights.items ≡ Some at → slice_get b.sky.flights.items at ≡ Some f → f.rendered ≡ Some answer
     → sky.flights.items ≡ remove b.sky.flights.items at → sky.asked ≡ b.sky.asked
-    → ((u v : RunState) → Landing (record { lines = b.lines; sky = sky }) u v f.line f.number answer → FirstThen (Passed f.number) v f.line told h) → Happened (BoardTied h) w (Deliver pick) told
-delivered b h sky w pick at f answer told tied found here rendered flights asked finished =
+    → ((u v : RunState) → Landing farm (record { lines = b.lines; sky = sky }) u v f.line f.number answer → FirstThen (Passed f.number) farm v f.line told h) → Happened (BoardTied farm h) w (Deliver pick) told
+delivered {farm} b h sky w pick at f answer told tied found here rendered flights asked finished =
     let e : Event = event_of (Deliver pick) told [] Waits in
     let there = flight-there b.sky w at f tied.sky here in
     let entry : Entry = Landed f.number answer passed_fate in
     let v = over_with w f.number answer entry (Some f) in
     let brings : answer_in (flight_at f.number w.air) ≡ answer = ap answer_in there ∙ ap (λ o. unwrap_or o fixed_answer) rendered in
     let is : after w (Passed f.number) ≡ v = ap (λ a. over_with w f.number a (Landed f.number a passed_fate) (flight_at f.number w.air)) brings ∙ ap (over_with w f.number answer entry) there in
-    let landing : Landing (record { lines = b.lines; sky = sky }) w v f.line f.number answer = record {
+    let landing : Landing farm (record { lines = b.lines; sky = sky }) w v f.line f.number answer = record {
+      farm_is = tied.farm_is;
       lines = tied.lines;
       line_is = refl;
       count_is = refl;
@@ -237,16 +243,17 @@ delivered b h sky w pick at f answer told tied found here rendered flights asked
       stands = done.1;
     }
 
-pub lost : (b h : Board) (sky : Sky) (w : RunState) (pick : Pick) (at : ℕ) (f : Flying) (told : Told) → BoardTied b w
+pub lost : {farm : Farm} (b h : Board) (sky : Sky) (w : RunState) (pick : Pick) (at : ℕ) (f : Flying) (told : Told) → BoardTied farm b w
     → position (λ flying. is_picked pick flying && is_any flying) b.sky.flights.items ≡ Some at → slice_get b.sky.flights.items at ≡ Some f
     → sky.flights.items ≡ remove b.sky.flights.items at → sky.asked ≡ b.sky.asked
-    → ((u v : RunState) → Landing (record { lines = b.lines; sky = sky }) u v f.line f.number (error_answer 502) → FirstThen (Lost f.number) v f.line told h) → Happened (BoardTied h) w (Lose pick) told
-lost b h sky w pick at f told tied found here flights asked finished =
+    → ((u v : RunState) → Landing farm (record { lines = b.lines; sky = sky }) u v f.line f.number (error_answer 502) → FirstThen (Lost f.number) farm v f.line told h) → Happened (BoardTied farm h) w (Lose pick) told
+lost {farm} b h sky w pick at f told tied found here flights asked finished =
     let e : Event = event_of (Lose pick) told [] Waits in
     let there = flight-there b.sky w at f tied.sky here in
     let v = over_with w f.number (error_answer 502) (lost_entry f.number) (Some f) in
     let is : after w (Lost f.number) ≡ v = ap (over_with w f.number (error_answer 502) (lost_entry f.number)) there in
-    let landing : Landing (record { lines = b.lines; sky = sky }) w v f.line f.number (error_answer 502) = record {
+    let landing : Landing farm (record { lines = b.lines; sky = sky }) w v f.line f.number (error_answer 502) = record {
+      farm_is = tied.farm_is;
       lines = tied.lines;
       line_is = refl;
       count_is = refl;

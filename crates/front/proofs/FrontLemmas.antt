@@ -1,18 +1,21 @@
 -- Whole steps of a front.
 use Rattle.std.proofs.Common.{◌≡◌, ℕ, ◌||◌, ◌&&◌, ◌++◌, Bool, true, false, List, [], ◌∷◌, Some, None, Result, Ok, Err, map, refl, ap, sym, subst, ◌∙◌, inl, inr}
-use Rattle.std.specs.Prelude.{IfOk, IsTrue, position, slice_get, slice_set}
+use Rattle.std.specs.Prelude.{◌==◌, ◌≢◌, IfOk, IsTrue, OnErr, OnOk, if◌then◌else◌, position, slice_get, slice_set}
+use Rattle.std.proofs.lemmas.Bool.{ne_eqb}
 use Rattle.std.specs.Ordering.{nat_cmp}
 use Rattle.std.specs.BTreeMap.{BTreeMap, get, WritesThrough}
 use Rattle.sp_base.specs.declared.answer.Answer.{Answer}
 use Rattle.resource_tree.specs.Content.{Content}
+use Rattle.any_config.specs.declared.farm.Farm.{Farm}
+use Rattle.dispatch_rules.specs.Asking.{asked_of}
 use Rattle.http_front.specs.Turns.{Waits}
 use Rattle.connections.specs.Connections.{Connection}
-use Rattle.front.specs.Boards.{BoardTells, BoardTied, Given, Meets, ReadAt, ServedAs, SkyTied, event_of}
+use Rattle.front.specs.Boards.{BoardTells, Given, Meets, ReadAt, ServedAs, SkyTied, event_of}
 use Rattle.front.specs.Events.{Event, Extends, IsOrFixed, RenderTo, is_picked, is_unrendered, mood_notes, picked}
 use Rattle.front.specs.Fronts.{IsGiven, Stands, Tells}
 use Rattle.front.specs.Lines.{Holds, Reads}
-use Rattle.front.specs.Moves.{Serves, after, afters, with_rendered, with_rendered_at}
-use Rattle.front.specs.Publishers.{Publishing, ask_of, direct_answer}
+use Rattle.front.specs.Moves.{Serves, after, afters, content_rendered, flight_at, published, with_rendered, with_rendered_at}
+use Rattle.front.specs.Publishers.{Published, Publishing, direct_answer}
 use Rattle.front.specs.States.{RunState}
 use Rattle.front.specs.declared.board.Board.{Board}
 use Rattle.front.specs.declared.flying.Flying.{Flying}
@@ -26,7 +29,7 @@ use Rattle.front.specs.declared.step.Step.{Step}
 use Rattle.front.specs.declared.step.Step.TheVariants.{Direct, Render}
 use Rattle.front.specs.declared.told.Told.{Told}
 use Rattle.front.proofs.BoardLemmas.{at-other, some-there}
-use Rattle.front.proofs.MoveLemmas.{afters-push, event-same, serves-push}
+use Rattle.front.proofs.MoveLemmas.{IsStillStep, afters-push, event-same, serves-push}
 use Rattle.front.proofs.SkyLemmas.{found-none, found-some, get-within, place, rising-set}
 
 -- what follows from what an answer is
@@ -59,17 +62,17 @@ or-right : (a b : Bool) → IsTrue b → IsTrue (a || b)
 or-right true b is = refl
 or-right false b is = is
 
-pub given-none : (told : Told) (w : RunState) (c : ℕ) (k : Line) (sky : Sky) → told.notes.items ≡ [] → Meets w c k sky → Given told.dry told.notes.items w c k sky
+pub given-none : {farm : Farm} (told : Told) (w : RunState) (c : ℕ) (k : Line) (sky : Sky) → told.notes.items ≡ [] → Meets farm w c k sky → Given told.dry told.notes.items farm w c k sky
 given-none told w c k sky none meets = rw none (record { serves = λ m allows. tt; meets = meets })
 
-pub given-more : (told next : Told) (w : RunState) (c : ℕ) (k j : Line) (sky new : Sky) (note : Note) (dry : Bool) → Given told.dry told.notes.items w c k sky
-    → ((u : RunState) → Meets u c k sky → ServedAs (Said note dry) u c j new) → next.notes.items ≡ told.notes.items ++ note ∷ [] → next.dry ≡ (told.dry || dry) → Given next.dry next.notes.items w c j new
-given-more told next w c k j sky new note dry given served notes dried =
+pub given-more : {farm : Farm} (told next : Told) (w : RunState) (c : ℕ) (k j : Line) (sky new : Sky) (note : Note) (dry : Bool) → Given told.dry told.notes.items farm w c k sky
+    → ((u : RunState) → Meets farm u c k sky → ServedAs (Said note dry) farm u c j new) → next.notes.items ≡ told.notes.items ++ note ∷ [] → next.dry ≡ (told.dry || dry) → Given next.dry next.notes.items farm w c j new
+given-more {farm} told next w c k j sky new note dry given served notes dried =
     let one = served (afters w told.notes.items) given.meets in
     record {
       serves = λ m allows. subst (Serves m w c) (sym notes)
           (serves-push m w c told.notes.items note (given.serves m (λ is. allows (sym-true (or-left told.dry dry is)))) (one.0 m (λ is. allows (sym-true (or-right told.dry dry is)))));
-      meets = subst (λ u. Meets u c j new) (sym (ap (afters w) notes ∙ afters-push w told.notes.items note)) one.1;
+      meets = subst (λ u. Meets farm u c j new) (sym (ap (afters w) notes ∙ afters-push w told.notes.items note)) one.1;
     }
   where
     sym-true : IsTrue (told.dry || dry) → IsTrue next.dry
@@ -80,33 +83,33 @@ pub either : {E : Type 0} (r : Result Answer E) (answer wanted : Answer) (dry : 
 either (Ok a) answer wanted dry given ok = inl (given.0 ∙ ok)
 either (Err e) answer wanted dry given ok = inr (given.1, given.0)
 
-pub direct-event : (p : Publishing) (content later : Content) (b h : Board) (target : List ℕ) (answer : Answer) (dry : Bool) (told : Told) → later ≡ content → h ≡ b
-    → IsOrFixed (record { dry = dry }) answer (direct_answer p content target) → told.notes.items ≡ answered answer ∷ [] → told.dry ≡ dry → Tells (Stands p content b) (Stands p later h) (Direct target) told
-direct-event p content later b h target answer dry told same_content same_board given notes dried = λ w stands.
-    let wanted : direct_answer w.publishing w.content target ≡ direct_answer p content target = rw (stands.publishing_is, stands.content_is) refl in
-    let or : IsOrFixed (record { dry = told.dry }) answer (direct_answer w.publishing w.content target) = rw (wanted, dried) given in
+pub direct-event : (p : Publishing) (content later : Content) (farm other : Farm) (b h : Board) (target : List ℕ) (answer : Answer) (dry : Bool) (told : Told) → later ≡ content → other ≡ farm → h ≡ b
+    → IsOrFixed (record { dry = dry }) answer (direct_answer p farm content target) → told.notes.items ≡ answered answer ∷ [] → told.dry ≡ dry → Tells (Stands p content farm b) (Stands p later other h) (Direct target) told
+direct-event p content later farm other b h target answer dry told same_content same_farm same_board given notes dried = λ w stands.
+    let wanted : direct_answer w.publishing w.farm w.content target ≡ direct_answer p farm content target = rw (stands.publishing_is, stands.content_is, stands.board_is.farm_is) refl in
+    let or : IsOrFixed (record { dry = told.dry }) answer (direct_answer w.publishing w.farm w.content target) = rw (wanted, dried) given in
     record {
       turns = [];
       ends = Waits;
       happens = (answer, or, notes);
-      stands = subst (Stands p later h) (sym (ap (afters w) notes)) (record {
+      stands = subst (Stands p later other h) (sym (ap (afters w) notes)) (record {
         publishing_is = stands.publishing_is;
         content_is = stands.content_is ∙ sym same_content;
-        board_is = subst (λ x. BoardTied x w) (sym same_board) stands.board_is;
+        board_is = rw (same_farm, same_board) stands.board_is;
       });
     }
 
 -- ---- a flight is rendered
-pub render-none : (p : Publishing) (content : Content) (b : Board) (pick : Pick) (told : Told) → position (λ flying. is_picked pick flying && is_unrendered flying) b.sky.flights.items ≡ None → told.notes.items ≡ Idle ∷ []
-    → Tells (Stands p content b) (Stands p content b) (Render pick) told
-render-none p content b pick told none notes = λ w stands.
+pub render-none : (p : Publishing) (content : Content) (farm : Farm) (b : Board) (pick : Pick) (told : Told) → position (λ flying. is_picked pick flying && is_unrendered flying) b.sky.flights.items ≡ None → told.notes.items ≡ Idle ∷ []
+    → Tells (Stands p content farm b) (Stands p content farm b) (Render pick) told
+render-none p content farm b pick told none notes = λ w stands.
     let e : Event = event_of (Render pick) told [] Waits in
     let no : picked pick is_unrendered w.air ≡ None = ap (picked pick is_unrendered) (sym stands.board_is.sky.air) ∙ found-none (λ flying. is_picked pick flying && is_unrendered flying) b.sky.flights.items none in
     record {
       turns = [];
       ends = Waits;
       happens = subst (RenderTo w e) (sym no) notes;
-      stands = subst (Stands p content b) (sym (ap (afters w) notes)) stands;
+      stands = subst (Stands p content farm b) (sym (ap (afters w) notes)) stands;
     }
 
 sky-rendered : (old new : Sky) (w : RunState) (at : ℕ) (f : Flying) (answer : Answer) → SkyTied old w → slice_get old.flights.items at ≡ Some f → new.flights.items ≡ slice_set old.flights.items at (with_rendered answer f) → new.asked ≡ old.asked
@@ -117,34 +120,55 @@ sky-rendered old new w at f answer tied here flights asked = record {
   rising = rw (flights, asked) (rising-set 0 old.flights.items old.asked at f answer tied.rising here);
 }
 
-pub render-event : (p : Publishing) (content later : Content) (b mid h : Board) (pick : Pick) (at n : ℕ) (answer copy : Answer) (dry : Bool) (told : Told) → later ≡ content → mid ≡ b
+-- what was given for the flight's request: the answer, or the fixed one, and the content after it
+pub record Renders (given : Published) (content later : Content) (answer : Answer) (dry : Bool) : Type 0 where
+  pub answer_is : IsOrFixed (record { dry = dry }) answer given.answer
+  pub content_is : later ≡ (if answer.status == 507 then content else given.content)
+
+pub renders : {E : Type 0} (r : Result Answer E) (given : Published) (content later : Content) (answer : Answer) (dry : Bool) → IsGiven r answer dry → IfOk r (λ a. a ≡ given.answer) → IfOk r (λ a. a.status ≢ 507) → OnOk r (later ≡ given.content)
+    → OnErr r (later ≡ content) → Renders given content later answer dry
+renders (Ok a) given content later answer dry gives ok status moves stays =
+    let other : (answer.status == 507) ≡ false = rw gives.0 (ne_eqb a.status 507 status) in
+    record { answer_is = inl (gives.0 ∙ ok); content_is = moves ∙ rw other refl }
+renders (Err e) given content later answer dry gives ok status moves stays =
+    let fixed : (answer.status == 507) ≡ true = rw gives.0 refl in
+    record { answer_is = inr (gives.1, gives.0); content_is = stays ∙ rw fixed refl }
+
+-- what follows in the one case
+pub ok-then : {A E : Type 0} {P Q : Type 0} (r : Result A E) → OnOk r P → (P → Q) → OnOk r Q
+ok-then (Ok a) p f = f p
+ok-then (Err e) p f = tt
+
+pub render-event : (p : Publishing) (content later : Content) (farm other : Farm) (b mid h : Board) (pick : Pick) (at n : ℕ) (answer copy : Answer) (dry : Bool) (told : Told) → other ≡ farm → mid ≡ b
     → position (λ flying. is_picked pick flying && is_unrendered flying) b.sky.flights.items ≡ Some at
-    → ((f : Flying) → slice_get b.sky.flights.items at ≡ Some f → IsOrFixed (record { dry = dry }) answer (p content (ask_of f.request)))
+    → ((f : Flying) → slice_get b.sky.flights.items at ≡ Some f → Renders (p content (asked_of farm f.request)) content later answer dry)
     → copy ≡ answer → ((f : Flying) → slice_get mid.sky.flights.items at ≡ Some f → n ≡ f.number)
     → ((f : Flying) → slice_get mid.sky.flights.items at ≡ Some f → h.sky.flights.items ≡ slice_set mid.sky.flights.items at (with_rendered copy f)) → h.sky.asked ≡ mid.sky.asked → h.lines ≡ mid.lines
-    → told.notes.items ≡ Rendered n answer ∷ [] → told.dry ≡ dry → Tells (Stands p content b) (Stands p later h) (Render pick) told
-render-event p content later b mid h pick at n answer copy dry told same_content same_board found given copied number flights asked lines notes dried = λ w stands.
+    → told.notes.items ≡ Rendered n answer ∷ [] → told.dry ≡ dry → Tells (Stands p content farm b) (Stands p later other h) (Render pick) told
+render-event p content later farm other b mid h pick at n answer copy dry told same_farm same_board found given copied number flights asked lines notes dried = λ w stands.
     let e : Event = event_of (Render pick) told [] Waits in
     let found_at = found-some (λ flying. is_picked pick flying && is_unrendered flying) b.sky.flights.items at found in
     let there = get-within b.sky.flights.items at found_at.0 in
     let f = there.0 in
     let here : slice_get mid.sky.flights.items at ≡ Some f = ap (λ (x : Board). slice_get x.sky.flights.items at) same_board ∙ there.1 in
     let some : picked pick is_unrendered w.air ≡ Some f = ap (picked pick is_unrendered) (sym stands.board_is.sky.air) ∙ found_at.1 ∙ there.1 in
-    let wanted : w.publishing w.content (ask_of f.request) ≡ p content (ask_of f.request) = rw (stands.publishing_is, stands.content_is) refl in
-    let or : IsOrFixed (record { dry = told.dry }) answer (w.publishing w.content (ask_of f.request)) = rw (wanted, dried) (given f there.1) in
+    let wanted : published w f.request ≡ p content (asked_of farm f.request) = rw (stands.publishing_is, stands.content_is, stands.board_is.farm_is) refl in
+    let gives : Renders (published w f.request) w.content later answer told.dry = rw (wanted, dried, stands.content_is) (given f there.1) in
     let note : told.notes.items ≡ Rendered f.number answer ∷ [] = notes ∙ ap (λ x. Rendered x answer ∷ []) (number f here) in
     let set : h.sky.flights.items ≡ slice_set b.sky.flights.items at (with_rendered answer f) =
     flights f here ∙ ap (λ a. slice_set mid.sky.flights.items at (with_rendered a f)) copied ∙ ap (λ (x : Board). slice_set x.sky.flights.items at (with_rendered answer f)) same_board in
     let counted : h.sky.asked ≡ b.sky.asked = asked ∙ ap (λ (x : Board). x.sky.asked) same_board in
     let same_lines : h.lines ≡ b.lines = lines ∙ ap (λ (x : Board). x.lines) same_board in
+    let number_is : flight_at f.number w.air ≡ Some f = ap (flight_at f.number) (sym stands.board_is.sky.air) ∙ (place 0 b.sky.flights.items b.sky.asked at f stands.board_is.sky.rising there.1).at in
     record {
       turns = [];
       ends = Waits;
-      happens = subst (RenderTo w e) (sym some) (answer, or, note);
-      stands = subst (Stands p later h) (sym (ap (afters w) note)) (record {
+      happens = subst (RenderTo w e) (sym some) (answer, gives.answer_is, note);
+      stands = subst (Stands p later other h) (sym (ap (afters w) note)) (record {
         publishing_is = stands.publishing_is;
-        content_is = stands.content_is ∙ sym same_content;
+        content_is = ap (content_rendered w answer) number_is ∙ sym gives.content_is;
         board_is = record {
+          farm_is = stands.board_is.farm_is ∙ sym same_farm;
           lines = rw same_lines (record { each = stands.board_is.lines.each; count = stands.board_is.lines.count });
           sky = sky-rendered b.sky h.sky w at f answer stands.board_is.sky there.1 set counted;
         };
@@ -152,11 +176,11 @@ render-event p content later b mid h pick at n answer copy dry told same_content
     }
 
 -- ---- a step of the board
-pub board-tells : (p : Publishing) (content : Content) (b h : Board) (step : Step) (told : Told) → BoardTells b h step told → Tells (Stands p content b) (Stands p content h) step told
-board-tells p content b h step told tells = λ w stands.
+pub board-tells : (p : Publishing) (content : Content) (farm : Farm) (b h : Board) (step : Step) (told : Told) → IsStillStep step → BoardTells farm b h step told → Tells (Stands p content farm b) (Stands p content farm h) step told
+board-tells p content farm b h step told still tells = λ w stands.
     let done = tells w stands.board_is in
     let e : Event = event_of step told done.turns done.ends in
-    let stays = event-same w e in
+    let stays = event-same w e still done.happens in
     record {
       turns = done.turns;
       ends = done.ends;

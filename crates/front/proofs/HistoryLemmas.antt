@@ -1,4 +1,4 @@
--- What happens to one connection in a run, as moves of it.
+-- What happens to one connection in a run, as moves of it; what came on it, and what was sent.
 use Rattle.std.proofs.Common.{◌≡◌, ◌≢◌, ℕ, ◌+◌, ◌-◌, ◌≤◌, ◌<◌, ◌++◌, Bool, true, false, List, [], ◌∷◌, Option, Some, None, cond, not, map, refl, ap, sym, subst, ◌∙◌, arith, inl, inr, ⊎_elim, append-nil, append_assoc, eq-eqb}
 use Rattle.std.specs.Prelude.{nat_eq, nat_le, flat_map, if◌then◌else◌}
 use Rattle.std.specs.List.{find, position_or_len}
@@ -10,13 +10,14 @@ use Rattle.std.proofs.lemmas.Bool.{cases_eq, ne_eqb}
 use Rattle.sp_base.specs.declared.answer.Answer.{Answer}
 use Rattle.sp_base.specs.declared.answer.Req.{Req}
 use Rattle.resource_tree.specs.Content.{Content}
+use Rattle.any_config.specs.declared.farm.Farm.{Farm}
 use Rattle.cover_rules.specs.declared.page.PageKey.{PageKey}
 use Rattle.http_front.specs.Faults.{status_of}
 use Rattle.http_front.specs.declared.turn.Turn.TheVariants.{Continue, Whole}
 use Rattle.connections.specs.Slots.{Slot, Awaits, fault_slot, request_slot}
 use Rattle.connections.specs.Connections.{Connection, Due, Send, Treat, Refuse, Close, Nothing, fed, fresh, is_crowded, with_landing, with_sent}
 use Rattle.connections.specs.Connections as connection
-use Rattle.connections.specs.Histories.{AnswersRun, AreOfTurns, Follows, IsMove, Landing, Move, Shut as ShutMove, Sent as SentMove, Piece as PieceMove, Treatment, after_all, sendings}
+use Rattle.connections.specs.Histories.{IsMove, Landing, Sent as SentMove, Treatment}
 use Rattle.connections.specs.Histories as history
 use Rattle.connections.specs.declared.sending.Sending.{Sending}
 use Rattle.front.specs.declared.flying.Flying.{Flying}
@@ -25,130 +26,107 @@ use Rattle.front.specs.declared.note.Note.TheVariants.{Answer as answered, Ask a
 use Rattle.front.specs.declared.step.Step.{Step}
 use Rattle.front.specs.declared.step.Step.TheVariants as step
 use Rattle.front.specs.Events.{DeliverAs, DeliverTo, Event, Happens, HappensBy, Leads, LoseTo, PieceTo, RenderTo, Run, after_event, after_run, begun, gone, going, is_any, is_rendered, is_unrendered, most_lines, opened, opening, picked}
-use Rattle.front.specs.Histories.{opens, sent_after, sent_by, sent_in}
+use Rattle.front.specs.Histories.{brought_by, came_after, opens, sent_after, sent_by, sent_in}
+use Rattle.front.proofs.PastLemmas.{Last, Past, last-later, last-now, past-as, past-fed, past-fresh, past-move, same-landing, same-sent, same-treated}
+use Rattle.any_config.specs.declared.farm.Farm.{Farm}
+use Rattle.http_front.specs.Turns.{Spells}
 use Rattle.front.specs.Moves.{Gives, IsFirst, Mood, Serves, Settles, after, afters, asked_by, due, flight_at, has_number, line_due, local_slot, new_flight, on_line, over_with, points, request_of, treated, with_rendered, with_rendered_at, without}
 use Rattle.front.specs.Publishers.{Publishing}
 use Rattle.front.specs.Boards.{AreRising}
 use Rattle.front.specs.States.{Entry, RunState, asked_in, start_of}
 use Rattle.front.proofs.SkyLemmas.{place, rising-lower, rising-push}
 
--- ---- moves of one connection
--- the moves that made a connection what it is, in which this was sent
-pub record Past (d : Connection) (sent : List Sending) : Type 0 where
-  pub peer : List ℕ
-  pub moves : List Move
-  pub follows : Follows (fresh peer) moves
-  pub is : after_all (fresh peer) moves ≡ d
-  pub sent_is : sendings moves ≡ sent
+-- ---- the past of one connection
+-- the connection has such a past, whether it is open or not any more
+pub record Held (w : RunState) (c : ℕ) (came : List ℕ) (sent : List Sending) : Type 0 where
+  pub here : (d : Connection) → w.line c ≡ Some d → Past d came sent
+  pub over : w.line c ≡ None → Last came sent
 
-follows-push : (c : Connection) (moves : List Move) (move : Move) → Follows c moves → IsMove (after_all c moves) move → Follows c (moves ++ move ∷ [])
-follows-push c [] move follows may = (may, tt)
-follows-push c (first ∷ moves) move follows may = (follows.0, follows-push (history.after c first) moves move follows.1 may)
+held-none : (w : RunState) (c : ℕ) (came : List ℕ) (sent : List Sending) → w.line c ≡ None → Last came sent → Held w c came sent
+held-none w c came sent none last = record { here = λ d some. absurd (let no : ⊥ = cc in no); over = λ e. last }
 
-after-push : (c : Connection) (moves : List Move) (move : Move) → after_all c (moves ++ move ∷ []) ≡ history.after (after_all c moves) move
-after-push c [] move = refl
-after-push c (first ∷ moves) move = after-push (history.after c first) moves move
-
-sendings-push : (moves : List Move) (move : Move) → sendings (moves ++ move ∷ []) ≡ sendings moves ++ sendings (move ∷ [])
-sendings-push [] move = refl
-sendings-push (SentMove sending ∷ moves) move = ap (λ xs. sending ∷ xs) (sendings-push moves move)
-sendings-push (PieceMove bytes turns ends ∷ moves) move = sendings-push moves move
-sendings-push (Treatment slot ∷ moves) move = sendings-push moves move
-sendings-push (Landing flight answer ∷ moves) move = sendings-push moves move
-sendings-push (ShutMove ∷ moves) move = sendings-push moves move
-
-past-move : (d : Connection) (sent : List Sending) (move : Move) → Past d sent → IsMove d move → Past (history.after d move) (sent ++ sendings (move ∷ []))
-past-move d sent move past may = record {
-  peer = past.peer;
-  moves = past.moves ++ move ∷ [];
-  follows = follows-push (fresh past.peer) past.moves move past.follows (subst (λ x. IsMove x move) (sym past.is) may);
-  is = after-push (fresh past.peer) past.moves move ∙ ap (λ x. history.after x move) past.is;
-  sent_is = sendings-push past.moves move ∙ ap (λ xs. xs ++ sendings (move ∷ [])) past.sent_is;
+held-one : (w : RunState) (c : ℕ) (d : Connection) (came : List ℕ) (sent : List Sending) → w.line c ≡ Some d → Past d came sent → Held w c came sent
+held-one w c d came sent is past = record {
+  here = λ x some. let same : d ≡ x = cc in subst (λ y. Past y came sent) same past;
+  over = λ none. absurd (let no : ⊥ = cc in no);
 }
 
-past-as : (d : Connection) (a b : List Sending) → a ≡ b → Past d a → Past d b
-past-as d a b same past = record { peer = past.peer; moves = past.moves; follows = past.follows; is = past.is; sent_is = past.sent_is ∙ same }
-
--- the connection, if it is open, has such a past
-abbrev pub Held : RunState → ℕ → List Sending → Type 0
-Held w c sent = (d : Connection) → w.line c ≡ Some d → Past d sent
-
-held-none : (w : RunState) (c : ℕ) (sent : List Sending) → w.line c ≡ None → Held w c sent
-held-none w c sent none = λ d some. absurd (let no : ⊥ = cc in no)
-
-held-one : (w : RunState) (c : ℕ) (d : Connection) (sent : List Sending) → w.line c ≡ Some d → Past d sent → Held w c sent
-held-one w c d sent is past = λ x some. let same : d ≡ x = cc in subst (λ y. Past y sent) same past
-
-held-same : (w v : RunState) (c : ℕ) (a b : List Sending) → v.line c ≡ w.line c → a ≡ b → Held w c a → Held v c b
-held-same w v c a b line same held = λ d some. past-as d a b same (held d (sym line ∙ some))
+held-same : (w v : RunState) (c : ℕ) (came : List ℕ) (a b : List Sending) → v.line c ≡ w.line c → a ≡ b → Held w c came a → Held v c came b
+held-same w v c came a b line same held = subst (λ xs. Held v c came xs) same (record {
+  here = λ d some. held.here d (sym line ∙ some);
+  over = λ none. held.over (sym line ∙ none);
+})
 
 -- ---- a note that is owed
-slot-held : (w v : RunState) (c : ℕ) (d : Connection) (sent : List Sending) (slot : Slot) → Past d sent → IsMove d (Treatment slot) → v.line c ≡ Some (treated slot d) → Held v c (sent ++ [])
-slot-held w v c d sent slot past may is = held-one v c (treated slot d) (sent ++ []) is (past-move d sent (Treatment slot) past may)
+slot-held : (w v : RunState) (c : ℕ) (d : Connection) (came : List ℕ) (sent : List Sending) (slot : Slot) → Past d came sent → IsMove d (Treatment slot) → v.line c ≡ Some (treated slot d) → Held v c came (sent ++ [])
+slot-held w v c d came sent slot past may is = held-one v c (treated slot d) came (sent ++ []) is (past-move d came sent (Treatment slot) past may (same-treated slot d))
 
-local-held : (w : RunState) (c : ℕ) (d : Connection) (sent : List Sending) (request : Req) (status : ℕ) → w.line c ≡ Some d → connection.due d ≡ Treat (Whole request) → Past d sent → Held (after w (Local c status)) c (sent ++ [])
-local-held w c d sent request status is owed past =
+local-held : (w : RunState) (c : ℕ) (d : Connection) (came : List ℕ) (sent : List Sending) (request : Req) (status : ℕ) → w.line c ≡ Some d → connection.due d ≡ Treat (Whole request) → Past d came sent → Held (after w (Local c status)) c came (sent ++ [])
+local-held w c d came sent request status is owed past =
     let some : request_of (due w c) ≡ Some request = ap request_of (ap line_due is ∙ owed) in
     let slot = local_slot (Some request) status d in
     let now : (after w (Local c status)).line c ≡ Some (treated slot d) = update_here w.line c _ ∙ ap (option_map (λ line. treated (local_slot (request_of (due w c)) status line) line)) is ∙ ap (λ r. Some (treated (local_slot r status d) d)) some in
-    slot-held w (after w (Local c status)) c d sent slot past (rw owed (_, _, refl)) now
+    slot-held w (after w (Local c status)) c d came sent slot past (rw owed (_, _, refl)) now
 
-refused-held : (w : RunState) (c : ℕ) (d : Connection) (sent : List Sending) (fault : _) (status : ℕ) → w.line c ≡ Some d → connection.due d ≡ Refuse fault → Past d sent → Held (after w (Local c status)) c (sent ++ [])
-refused-held w c d sent fault status is owed past =
+refused-held : (w : RunState) (c : ℕ) (d : Connection) (came : List ℕ) (sent : List Sending) (fault : _) (status : ℕ) → w.line c ≡ Some d → connection.due d ≡ Refuse fault → Past d came sent → Held (after w (Local c status)) c came (sent ++ [])
+refused-held w c d came sent fault status is owed past =
     let none : request_of (due w c) ≡ None = ap request_of (ap line_due is ∙ owed) in
     let slot = local_slot None status d in
     let now : (after w (Local c status)).line c ≡ Some (treated slot d) = update_here w.line c _ ∙ ap (option_map (λ line. treated (local_slot (request_of (due w c)) status line) line)) is ∙ ap (λ r. Some (treated (local_slot r status d) d)) none in
-    slot-held w (after w (Local c status)) c d sent slot past (rw owed (_, refl)) now
+    slot-held w (after w (Local c status)) c d came sent slot past (rw owed (_, refl)) now
 
-asked-held : (w : RunState) (c n : ℕ) (key : Option PageKey) (d : Connection) (sent : List Sending) (request : Req) → w.line c ≡ Some d → connection.due d ≡ Treat (Whole request) → Past d sent → Held (after w (asked n c key)) c (sent ++ [])
-asked-held w c n key d sent request is owed past =
+asked-held : (w : RunState) (c n : ℕ) (key : Option PageKey) (d : Connection) (came : List ℕ) (sent : List Sending) (request : Req) → w.line c ≡ Some d → connection.due d ≡ Treat (Whole request) → Past d came sent → Held (after w (asked n c key)) c came (sent ++ [])
+asked-held w c n key d came sent request is owed past =
     let some : request_of (due w c) ≡ Some request = ap request_of (ap line_due is ∙ owed) in
     let slot = request_slot request false (Awaits n) in
     let now : (after w (asked n c key)).line c ≡ Some (treated slot d) = ap (λ r. (asked_by w n c key r).line c) some ∙ update_here w.line c _ ∙ ap (option_map (treated slot)) is in
-    slot-held w (after w (asked n c key)) c d sent slot past (rw owed (false, Awaits n, refl)) now
+    slot-held w (after w (asked n c key)) c d came sent slot past (rw owed (false, Awaits n, refl)) now
 
 sent-here : (m : Mood) (c : ℕ) (bytes : List ℕ) → sent_by c m (Sent c bytes) ≡ record { bytes = bytes; dry = m.dry } ∷ []
 sent-here m c bytes =
     let here : nat_eq c c ≡ true = grind arith in
     rw here refl
 
-sent-held : (m : Mood) (w : RunState) (c : ℕ) (d : Connection) (sent : List Sending) (slot : Slot) (bytes : List ℕ) → w.line c ≡ Some d → (history.IsDueSending d (record { bytes = bytes; dry = m.dry })) → Past d sent
-    → Held (after w (Sent c bytes)) c (sent ++ sent_by c m (Sent c bytes))
-sent-held m w c d sent slot bytes is may past =
+sent-held : (m : Mood) (w : RunState) (c : ℕ) (d : Connection) (came : List ℕ) (sent : List Sending) (slot : Slot) (bytes : List ℕ) → w.line c ≡ Some d → (history.IsDueSending d (record { bytes = bytes; dry = m.dry })) → Past d came sent
+    → Held (after w (Sent c bytes)) c came (sent ++ sent_by c m (Sent c bytes))
+sent-held m w c d came sent slot bytes is may past =
     let now : (after w (Sent c bytes)).line c ≡ Some (with_sent bytes d) = update_here w.line c _ ∙ ap (option_map (with_sent bytes)) is in
     let v = after w (Sent c bytes) in
     let sending : Sending = record { bytes = bytes; dry = m.dry } in
-    held-same v v c (sent ++ sending ∷ []) (sent ++ sent_by c m (Sent c bytes)) refl (ap (λ xs. sent ++ xs) (sym (sent-here m c bytes))) (held-one v c (with_sent bytes d) (sent ++ sending ∷ []) now (past-move d sent (SentMove sending) past may))
+    held-same v v c came (sent ++ sending ∷ []) (sent ++ sent_by c m (Sent c bytes)) refl (ap (λ xs. sent ++ xs) (sym (sent-here m c bytes))) (held-one v c (with_sent bytes d) came (sent ++ sending ∷ []) now (past-move d came sent (SentMove sending) past may (same-sent bytes d)))
 
-first-held : (m : Mood) (w : RunState) (c : ℕ) (d : Connection) (sent : List Sending) (request : Req) (note : Note) → w.line c ≡ Some d → connection.due d ≡ Treat (Whole request) → Past d sent → IsFirst m w c request note points
-    → Held (after w note) c (sent ++ sent_by c m note)
-first-held m w c d sent request note is owed past (inl crowded) = rw crowded.1 (local-held w c d sent request 503 is owed past)
-first-held m w c d sent request note is owed past (inr (_, inl full)) = rw full.1 (local-held w c d sent request 503 is owed past)
-first-held m w c d sent request note is owed past (inr (_, inr (_, inl ask))) = rw ask.1 (asked-held w c _ None d sent request is owed past)
-first-held m w c d sent request note is owed past (inr (_, inr (_, inr (never, _)))) = absurd never
+first-held : (m : Mood) (w : RunState) (c : ℕ) (d : Connection) (came : List ℕ) (sent : List Sending) (request : Req) (note : Note) → w.line c ≡ Some d → connection.due d ≡ Treat (Whole request) → Past d came sent → IsFirst m w c request note points
+    → Held (after w note) c came (sent ++ sent_by c m note)
+first-held m w c d came sent request note is owed past (inl crowd) = rw crowd.1 (local-held w c d came sent request 503 is owed past)
+first-held m w c d came sent request note is owed past (inr (_, inl hidden)) = rw hidden.1 (local-held w c d came sent request 404 is owed past)
+first-held m w c d came sent request note is owed past (inr (_, inr (_, inl full))) = rw full.1 (local-held w c d came sent request 503 is owed past)
+first-held m w c d came sent request note is owed past (inr (_, inr (_, inr (_, inl ask)))) = rw ask.1 (asked-held w c _ None d came sent request is owed past)
+first-held m w c d came sent request note is owed past (inr (_, inr (_, inr (_, inr (never, _))))) = absurd never
 
-gives-held : (m : Mood) (w : RunState) (c : ℕ) (d : Connection) (sent : List Sending) (owed : Due) (note : Note) → w.line c ≡ Some d → connection.due d ≡ owed → Past d sent → Gives m w c owed note → Held (after w note) c (sent ++ sent_by c m note)
-gives-held m w c d sent (Send slot) note is owed past gives =
+gives-held : (m : Mood) (w : RunState) (c : ℕ) (d : Connection) (came : List ℕ) (sent : List Sending) (owed : Due) (note : Note) → w.line c ≡ Some d → connection.due d ≡ owed → Past d came sent → Gives m w c owed note → Held (after w note) c came (sent ++ sent_by c m note)
+gives-held m w c d came sent (Send slot) note is owed past gives =
     let answers : history.IsDueSending d (record { bytes = gives.0; dry = m.dry }) = record { slot = slot; is_due = owed; answers = ⊎_elim (λ written. inl written) (λ fixed. inr (fixed.0, fixed.1)) gives.2 } in
-    rw gives.1 (sent-held m w c d sent slot gives.0 is answers past)
-gives-held m w c d sent (Treat Continue) note is owed past gives = absurd gives
-gives-held m w c d sent (Treat (Whole request)) note is owed past (inl first) = first-held m w c d sent request note is owed past first
-gives-held m w c d sent (Treat (Whole request)) note is owed past (inr dry) = rw dry.1 (local-held w c d sent request 507 is owed past)
-gives-held m w c d sent (Refuse fault) note is owed past gives = rw gives (refused-held w c d sent fault (status_of fault) is owed past)
-gives-held m w c d sent Close note is owed past gives = rw gives (held-none (after w (Shut c)) c (sent ++ []) (update_here w.line c None))
-gives-held m w c d sent Nothing note is owed past gives = absurd gives
+    rw gives.1 (sent-held m w c d came sent slot gives.0 is answers past)
+gives-held m w c d came sent (Treat Continue) note is owed past gives = absurd gives
+gives-held m w c d came sent (Treat (Whole request)) note is owed past (inl first) = first-held m w c d came sent request note is owed past first
+gives-held m w c d came sent (Treat (Whole request)) note is owed past (inr dry) = rw dry.1 (local-held w c d came sent request 507 is owed past)
+gives-held m w c d came sent (Refuse fault) note is owed past gives = rw gives (refused-held w c d came sent fault (status_of fault) is owed past)
+gives-held m w c d came sent Close note is owed past gives =
+    let last = last-now d came (sent ++ []) (past-as d came sent (sent ++ []) (sym (append-nil sent)) past) (λ slot e. let no : ⊥ = cc in no) in
+    rw gives (held-none (after w (Shut c)) c came (sent ++ []) (update_here w.line c None) last)
+gives-held m w c d came sent Nothing note is owed past gives = absurd gives
 
-line-held : (m : Mood) (w : RunState) (c : ℕ) (sent : List Sending) (note : Note) (line : Option Connection) → w.line c ≡ line → Held w c sent → Gives m w c (line_due line) note → Held (after w note) c (sent ++ sent_by c m note)
-line-held m w c sent note None is held gives = absurd gives
-line-held m w c sent note (Some d) is held gives = gives-held m w c d sent (connection.due d) note is refl (held d is) gives
+line-held : (m : Mood) (w : RunState) (c : ℕ) (came : List ℕ) (sent : List Sending) (note : Note) (line : Option Connection) → w.line c ≡ line → Held w c came sent → Gives m w c (line_due line) note → Held (after w note) c came (sent ++ sent_by c m note)
+line-held m w c came sent note None is held gives = absurd gives
+line-held m w c came sent note (Some d) is held gives = gives-held m w c d came sent (connection.due d) note is refl (held.here d is) gives
 
-serves-held : (m : Mood) (w : RunState) (c : ℕ) (sent : List Sending) (notes : List Note) → Held w c sent → Serves m w c notes → Held (afters w notes) c (sent ++ sent_in c m notes)
-serves-held m w c sent [] held serves = held-same w w c sent (sent ++ []) refl (sym (append-nil sent)) held
-serves-held m w c sent (note ∷ notes) held serves =
-    let one = line-held m w c sent note (w.line c) refl held serves.0 in
-    let rest = serves-held m (after w note) c (sent ++ sent_by c m note) notes one serves.1 in
+serves-held : (m : Mood) (w : RunState) (c : ℕ) (came : List ℕ) (sent : List Sending) (notes : List Note) → Held w c came sent → Serves m w c notes → Held (afters w notes) c came (sent ++ sent_in c m notes)
+serves-held m w c came sent [] held serves = held-same w w c came sent (sent ++ []) refl (sym (append-nil sent)) held
+serves-held m w c came sent (note ∷ notes) held serves =
+    let one = line-held m w c came sent note (w.line c) refl held serves.0 in
+    let rest = serves-held m (after w note) c came (sent ++ sent_by c m note) notes one serves.1 in
     let v = afters (after w note) notes in
-    held-same v v c ((sent ++ sent_by c m note) ++ sent_in c m notes) (sent ++ sent_in c m (note ∷ notes)) refl (append_assoc sent (sent_by c m note) (sent_in c m notes)) rest
+    held-same v v c came ((sent ++ sent_by c m note) ++ sent_in c m notes) (sent ++ sent_in c m (note ∷ notes)) refl (append_assoc sent (sent_by c m note) (sent_in c m notes)) rest
 
 -- ---- notes on another connection
 pub record Apart (w v : RunState) (c : ℕ) (sent : List Sending) : Type 0 where
@@ -163,10 +141,11 @@ asked-apart w c n d key None apart = refl
 asked-apart w c n d key (Some request) apart = update_apart w.line d _ c apart
 
 first-apart : (m : Mood) (w : RunState) (c d : ℕ) (request : Req) (note : Note) → c ≢ d → IsFirst m w d request note points → Apart w (after w note) c (sent_by c m note)
-first-apart m w c d request note apart (inl crowded) = rw crowded.1 (local-apart w c d 503 m apart)
-first-apart m w c d request note apart (inr (_, inl full)) = rw full.1 (local-apart w c d 503 m apart)
-first-apart m w c d request note apart (inr (_, inr (_, inl ask))) = rw ask.1 (record { line = asked-apart w c _ d None (request_of (due w d)) apart; none = refl })
-first-apart m w c d request note apart (inr (_, inr (_, inr (never, _)))) = absurd never
+first-apart m w c d request note apart (inl crowd) = rw crowd.1 (local-apart w c d 503 m apart)
+first-apart m w c d request note apart (inr (_, inl hidden)) = rw hidden.1 (local-apart w c d 404 m apart)
+first-apart m w c d request note apart (inr (_, inr (_, inl full))) = rw full.1 (local-apart w c d 503 m apart)
+first-apart m w c d request note apart (inr (_, inr (_, inr (_, inl ask)))) = rw ask.1 (record { line = asked-apart w c _ d None (request_of (due w d)) apart; none = refl })
+first-apart m w c d request note apart (inr (_, inr (_, inr (_, inr (never, _))))) = absurd never
 
 gives-apart : (m : Mood) (w : RunState) (c d : ℕ) (owed : Due) (note : Note) → c ≢ d → Gives m w d owed note → Apart w (after w note) c (sent_by c m note)
 gives-apart m w c d (Send slot) note apart gives =
@@ -198,7 +177,7 @@ rising-without least n (f ∷ air) most rising = by_test (has_number n f) (risin
     by_test true rest = rising-lower f.number least (without n air) most (omega (arith, rising.0)) rest
     by_test false rest = (rising.0, rest)
 
-rising-rendered : (least n : ℕ) (answer : Answer) (air : List Flying) (most : ℕ) → AreRising least air most → AreRising least (map (with_rendered_at n answer) air) most
+pub rising-rendered : (least n : ℕ) (answer : Answer) (air : List Flying) (most : ℕ) → AreRising least air most → AreRising least (map (with_rendered_at n answer) air) most
 rising-rendered least n answer [] most rising = rising
 rising-rendered least n answer (f ∷ air) most rising = by_test (has_number n f) (rising-rendered f.number n answer air most rising.1)
   where
@@ -211,10 +190,11 @@ asked-numbered w c key None numbered = numbered
 asked-numbered w c key (Some request) numbered = rising-push 0 w.air (asked_in w.log.entries) (new_flight (asked_in w.log.entries + 1) c request) numbered (omega arith)
 
 first-numbered : (m : Mood) (w : RunState) (c : ℕ) (request : Req) (note : Note) → Numbered w → IsFirst m w c request note points → Numbered (after w note)
-first-numbered m w c request note numbered (inl crowded) = rw crowded.1 numbered
-first-numbered m w c request note numbered (inr (_, inl full)) = rw full.1 numbered
-first-numbered m w c request note numbered (inr (_, inr (_, inl ask))) = rw ask.1 (asked-numbered w c None (request_of (due w c)) numbered)
-first-numbered m w c request note numbered (inr (_, inr (_, inr (never, _)))) = absurd never
+first-numbered m w c request note numbered (inl crowd) = rw crowd.1 numbered
+first-numbered m w c request note numbered (inr (_, inl hidden)) = rw hidden.1 numbered
+first-numbered m w c request note numbered (inr (_, inr (_, inl full))) = rw full.1 numbered
+first-numbered m w c request note numbered (inr (_, inr (_, inr (_, inl ask)))) = rw ask.1 (asked-numbered w c None (request_of (due w c)) numbered)
+first-numbered m w c request note numbered (inr (_, inr (_, inr (_, inr (never, _))))) = absurd never
 
 gives-numbered : (m : Mood) (w : RunState) (c : ℕ) (owed : Due) (note : Note) → Numbered w → Gives m w c owed note → Numbered (after w note)
 gives-numbered m w c (Send slot) note numbered gives = rw gives.1 numbered
@@ -225,215 +205,244 @@ gives-numbered m w c (Refuse fault) note numbered gives = rw gives numbered
 gives-numbered m w c Close note numbered gives = rw gives numbered
 gives-numbered m w c Nothing note numbered gives = absurd gives
 
-serves-numbered : (m : Mood) (w : RunState) (c : ℕ) (notes : List Note) → Numbered w → Serves m w c notes → Numbered (afters w notes)
+pub serves-numbered : (m : Mood) (w : RunState) (c : ℕ) (notes : List Note) → Numbered w → Serves m w c notes → Numbered (afters w notes)
 serves-numbered m w c [] numbered serves = numbered
 serves-numbered m w c (note ∷ notes) numbered serves = serves-numbered m (after w note) c notes (gives-numbered m w c (due w c) note numbered serves.0) serves.1
 
-over-numbered : (w : RunState) (n : ℕ) (answer : Answer) (entry : Entry) (flying : Option Flying) → asked_in (entry ∷ w.log.entries) ≡ asked_in w.log.entries → Numbered w → Numbered (over_with w n answer entry flying)
+pub over-numbered : (w : RunState) (n : ℕ) (answer : Answer) (entry : Entry) (flying : Option Flying) → asked_in (entry ∷ w.log.entries) ≡ asked_in w.log.entries → Numbered w → Numbered (over_with w n answer entry flying)
 over-numbered w n answer entry None same numbered = numbered
 over-numbered w n answer entry (Some f) same numbered = rw same (rising-without 0 n w.air (asked_in w.log.entries) numbered)
 
 -- the flight that is picked is the one with its number
-picked-at : (w : RunState) (test : Flying → Bool) (f : Flying) → Numbered w → find test w.air ≡ Some f → flight_at f.number w.air ≡ Some f
+pub picked-at : (w : RunState) (test : Flying → Bool) (f : Flying) → Numbered w → find test w.air ≡ Some f → flight_at f.number w.air ≡ Some f
 picked-at w test f numbered found = (place 0 w.air (asked_in w.log.entries) (position_or_len test w.air) f numbered (sym (find_at test w.air) ∙ found)).at
 
 -- ---- events
--- nothing can be sent on the connection
+-- the connection is owed nothing
 abbrev pub IsStill : RunState → ℕ → Type 0
-IsStill w c = (d : Connection) → w.line c ≡ Some d → (slot : Slot) → connection.due d ≡ Send slot → ⊥
+IsStill w c = (d : Connection) → w.line c ≡ Some d → connection.due d ≡ Nothing
 
-pub record Kept (w : RunState) (c : ℕ) (sent : List Sending) : Type 0 where
-  pub held : Held w c sent
+pub record Kept (w : RunState) (c : ℕ) (came : List ℕ) (sent : List Sending) : Type 0 where
+  pub held : Held w c came sent
   pub still : IsStill w c
   pub numbered : Numbered w
 
 still-same : (w v : RunState) (c : ℕ) → v.line c ≡ w.line c → IsStill w c → IsStill v c
-still-same w v c line still = λ d some slot e. still d (sym line ∙ some) slot e
+still-same w v c line still = λ d some. still d (sym line ∙ some)
 
-kept-same : (w v : RunState) (c : ℕ) (sent : List Sending) → v.line c ≡ w.line c → Numbered v → Kept w c sent → Kept v c (sent ++ [])
-kept-same w v c sent line numbered kept = record { held = held-same w v c sent (sent ++ []) line (sym (append-nil sent)) kept.held; still = still-same w v c line kept.still; numbered = numbered }
+kept-same : (w v : RunState) (c : ℕ) (came : List ℕ) (sent : List Sending) → v.line c ≡ w.line c → Numbered v → Kept w c came sent → Kept v c came (sent ++ [])
+kept-same w v c came sent line numbered kept = record { held = held-same w v c came sent (sent ++ []) line (sym (append-nil sent)) kept.held; still = still-same w v c line kept.still; numbered = numbered }
 
 -- the connection d is given all that it is owed
-settles-kept : (m : Mood) (w : RunState) (c d : ℕ) (sent : List Sending) (notes : List Note) → Held w c sent → (c ≢ d → IsStill w c) → Numbered w → Settles m w d notes → Kept (afters w notes) c (sent ++ sent_in c m notes)
-settles-kept m w c d sent notes held still numbered settles = ⊎_elim here there (cases_eq d c)
+settles-kept : (m : Mood) (w : RunState) (c d : ℕ) (came : List ℕ) (sent : List Sending) (notes : List Note) → Held w c came sent → (c ≢ d → IsStill w c) → Numbered w → Settles m w d notes → Kept (afters w notes) c came (sent ++ sent_in c m notes)
+settles-kept m w c d came sent notes held still numbered settles = ⊎_elim here there (cases_eq d c)
   where
-    here : d ≡ c → Kept (afters w notes) c (sent ++ sent_in c m notes)
+    here : d ≡ c → Kept (afters w notes) c came (sent ++ sent_in c m notes)
     here same =
         let at : Settles m w c notes = subst (λ x. Settles m w x notes) same settles in
         record {
-          held = serves-held m w c sent notes held at.serves;
-          still = λ k some slot e. let none : connection.due k ≡ Nothing = sym (ap line_due some) ∙ at.idle in let no : ⊥ = cc in no;
+          held = serves-held m w c came sent notes held at.serves;
+          still = λ k some. sym (ap line_due some) ∙ at.idle;
           numbered = serves-numbered m w c notes numbered at.serves;
         }
 
-    there : d ≢ c → Kept (afters w notes) c (sent ++ sent_in c m notes)
+    there : d ≢ c → Kept (afters w notes) c came (sent ++ sent_in c m notes)
     there apart =
         let other : c ≢ d = λ e. apart (sym e) in
         let kept = serves-apart m w c d notes other settles.serves in
         record {
-          held = held-same w (afters w notes) c sent (sent ++ sent_in c m notes) kept.line (sym (append-nil sent) ∙ ap (λ xs. sent ++ xs) (sym kept.none)) held;
+          held = held-same w (afters w notes) c came sent (sent ++ sent_in c m notes) kept.line (sym (append-nil sent) ∙ ap (λ xs. sent ++ xs) (sym kept.none)) held;
           still = still-same w (afters w notes) c kept.line (still other);
           numbered = serves-numbered m w d notes numbered settles.serves;
         }
 
-idle-kept : (m : Mood) (w v : RunState) (c : ℕ) (sent : List Sending) (notes : List Note) → v.line c ≡ w.line c → Numbered v → Kept w c sent → notes ≡ Idle ∷ [] → Kept (afters v notes) c (sent ++ sent_in c m notes)
-idle-kept m w v c sent notes line numbered kept is = rw is (kept-same w v c sent line numbered kept)
+idle-kept : (m : Mood) (w v : RunState) (c : ℕ) (came : List ℕ) (sent : List Sending) (notes : List Note) → v.line c ≡ w.line c → Numbered v → Kept w c came sent → notes ≡ Idle ∷ [] → Kept (afters v notes) c came (sent ++ sent_in c m notes)
+idle-kept m w v c came sent notes line numbered kept is = rw is (kept-same w v c came sent line numbered kept)
 
-fresh-still : (peer : List ℕ) (d : Connection) → fresh peer ≡ d → (slot : Slot) → connection.due d ≡ Send slot → ⊥
-fresh-still peer d same slot e = let at : connection.due (fresh peer) ≡ Send slot = ap connection.due same ∙ e in let no : ⊥ = cc in no
+fresh-still : (peer : List ℕ) (d : Connection) → fresh peer ≡ d → connection.due d ≡ Nothing
+fresh-still peer d same = sym (ap connection.due same)
 
--- the event's sendings, after those before it
-abbrev pub then_sent : ℕ → List Sending → Event → List Sending
-then_sent c sent e = if opens c e.step e.body then [] else sent ++ sent_in c e.mood e.body
+-- what came and what was sent after the event
+abbrev pub then_came : ℕ → List ℕ → Event → Step → List ℕ
+then_came c came e s = if opens c s e.body then [] else came ++ brought_by c s
 
-abbrev KeptBy : RunState → Event → ℕ → List Sending → Step → RunState → Type 0
-KeptBy w e c sent s v = Kept (afters v e.body) c (if opens c s e.body then [] else sent ++ sent_in c e.mood e.body)
+abbrev pub then_sent : ℕ → List Sending → Event → Step → List Sending
+then_sent c sent e s = if opens c s e.body then [] else sent ++ sent_in c e.mood e.body
 
-opened-kept : (w : RunState) (e : Event) (c d : ℕ) (peer : List ℕ) (sent : List Sending) (at : Option Connection) → w.line d ≡ at → Kept w c sent → e.body ≡ opening d w.lines at
-    → KeptBy w e c sent (step.Opened d peer) (opened w d peer at)
-opened-kept w e c d peer sent (Some k) line kept is = rw is (kept-same w w c sent refl kept.numbered kept)
-opened-kept w e c d peer sent None line kept is = by_room (nat_le most_lines w.lines) is
+abbrev KeptBy : RunState → Event → ℕ → List ℕ → List Sending → Step → RunState → Type 0
+KeptBy w e c came sent s v = Kept (afters v e.body) c (then_came c came e s) (then_sent c sent e s)
+
+-- nothing came in it
+came-none : (w : RunState) (c : ℕ) (came : List ℕ) (sent : List Sending) → Kept w c came sent → Kept w c (came ++ []) sent
+came-none w c came sent kept = subst (λ xs. Kept w c xs sent) (sym (append-nil came)) kept
+
+opened-kept : (w : RunState) (e : Event) (c d : ℕ) (peer : List ℕ) (came : List ℕ) (sent : List Sending) (at : Option Connection) → w.line d ≡ at → Kept w c came sent → e.body ≡ opening d w.lines at
+    → KeptBy w e c came sent (step.Opened d peer) (opened w d peer at)
+opened-kept w e c d peer came sent (Some k) line kept is = rw is (came-none w c came (sent ++ []) (kept-same w w c came sent refl kept.numbered kept))
+opened-kept w e c d peer came sent None line kept is = by_room (nat_le most_lines w.lines) is
   where
-    free : e.body ≡ [] → KeptBy w e c sent (step.Opened d peer) (record w { line = update nat_eq w.line d (Some (fresh peer)); lines = w.lines + 1 })
+    free : e.body ≡ [] → KeptBy w e c came sent (step.Opened d peer) (record w { line = update nat_eq w.line d (Some (fresh peer)); lines = w.lines + 1 })
     free none = rw none (⊎_elim same apart (cases_eq d c))
       where
         v : RunState
         v = record w { line = update nat_eq w.line d (Some (fresh peer)); lines = w.lines + 1 }
 
-        same : d ≡ c → Kept v c (if nat_eq d c then [] else sent ++ [])
+        same : d ≡ c → Kept v c (if nat_eq d c then [] else came ++ []) (if nat_eq d c then [] else sent ++ [])
         same e =
             let here : nat_eq d c ≡ true = eq-eqb d c e in
             let now : v.line c ≡ Some (fresh peer) = subst (λ x. v.line x ≡ Some (fresh peer)) e (update_here w.line d (Some (fresh peer))) in
             rw here (record {
-              held = held-one v c (fresh peer) [] now (record { peer = peer; moves = []; follows = tt; is = refl; sent_is = refl });
-              still = λ k some slot due. fresh-still peer k (let is : fresh peer ≡ k = cc in is) slot due;
+              held = held-one v c (fresh peer) [] [] now (past-fresh peer);
+              still = λ k some. fresh-still peer k (let is : fresh peer ≡ k = cc in is);
               numbered = kept.numbered;
             })
 
-        apart : d ≢ c → Kept v c (if nat_eq d c then [] else sent ++ [])
+        apart : d ≢ c → Kept v c (if nat_eq d c then [] else came ++ []) (if nat_eq d c then [] else sent ++ [])
         apart other =
             let test : nat_eq d c ≡ false = ne_eqb d c other in
-            rw test (kept-same w v c sent (update_apart w.line d (Some (fresh peer)) c (λ x. other (sym x))) kept.numbered kept)
+            rw test (came-none v c came (sent ++ []) (kept-same w v c came sent (update_apart w.line d (Some (fresh peer)) c (λ x. other (sym x))) kept.numbered kept))
 
-    by_room : (full : Bool) → e.body ≡ (if full then Refused d ∷ [] else []) → KeptBy w e c sent (step.Opened d peer) (if full then w else record w { line = update nat_eq w.line d (Some (fresh peer)); lines = w.lines + 1 })
-    by_room true is = rw is (kept-same w w c sent refl kept.numbered kept)
+    by_room : (full : Bool) → e.body ≡ (if full then Refused d ∷ [] else []) → KeptBy w e c came sent (step.Opened d peer) (if full then w else record w { line = update nat_eq w.line d (Some (fresh peer)); lines = w.lines + 1 })
+    by_room true is = rw is (came-none w c came (sent ++ []) (kept-same w w c came sent refl kept.numbered kept))
     by_room false is = free is
 
-piece-kept : (w : RunState) (e : Event) (c d : ℕ) (bytes : List ℕ) (sent : List Sending) (at : Option Connection) → w.line d ≡ at → Kept w c sent → PieceTo w e d bytes at
-    → Kept (afters (on_line w d (fed bytes e.turns e.ends)) e.body) c (sent ++ sent_in c e.mood e.body)
-piece-kept w e c d bytes sent None line kept is = idle-kept e.mood w v c sent e.body same kept.numbered kept is
+-- a piece on a connection that isn't there
+later-held : (w : RunState) (c : ℕ) (came more : List ℕ) (sent : List Sending) → w.line c ≡ None → Held w c came sent → Held w c (came ++ more) sent
+later-held w c came more sent none held = held-none w c (came ++ more) sent none (last-later came more sent sent refl (held.over none))
+
+piece-past : (w : RunState) (c d : ℕ) (bytes came : List ℕ) (sent : List Sending) → w.line d ≡ None → Held w c came sent → Held w c (came ++ brought_by c (step.Piece d bytes)) sent
+piece-past w c d bytes came sent none held = ⊎_elim here apart (cases_eq d c)
+  where
+    here : d ≡ c → Held w c (came ++ (if nat_eq d c then bytes else [])) sent
+    here same =
+        let test : nat_eq d c ≡ true = eq-eqb d c same in
+        rw test (later-held w c came bytes sent (sym (ap w.line same) ∙ none) held)
+
+    apart : d ≢ c → Held w c (came ++ (if nat_eq d c then bytes else [])) sent
+    apart other =
+        let test : nat_eq d c ≡ false = ne_eqb d c other in
+        rw test (subst (λ xs. Held w c xs sent) (sym (append-nil came)) held)
+
+piece-read : (w : RunState) (e : Event) (c d : ℕ) (bytes came : List ℕ) (sent : List Sending) (k : Connection) → w.line d ≡ Some k → (k.closing ≡ false → Spells (k.stream ++ bytes) (k.turns ++ e.turns) e.ends) → Held w c came sent
+    → Held (on_line w d (fed bytes e.turns e.ends)) c (came ++ brought_by c (step.Piece d bytes)) sent
+piece-read w e c d bytes came sent k line spells held = ⊎_elim here apart (cases_eq d c)
   where
     v : RunState
     v = on_line w d (fed bytes e.turns e.ends)
+
+    here : d ≡ c → Held v c (came ++ (if nat_eq d c then bytes else [])) sent
+    here same =
+        let test : nat_eq d c ≡ true = eq-eqb d c same in
+        let now : v.line d ≡ Some (fed bytes e.turns e.ends k) = update_here w.line d _ ∙ ap (option_map (fed bytes e.turns e.ends)) line in
+        let past : Past k came sent = held.here k (sym (ap w.line same) ∙ line) in
+        let there = held-one v d (fed bytes e.turns e.ends k) (came ++ bytes) sent now (past-fed k came sent bytes e.turns e.ends spells past) in
+        rw test (subst (λ y. Held v y (came ++ bytes) sent) same there)
+
+    apart : d ≢ c → Held v c (came ++ (if nat_eq d c then bytes else [])) sent
+    apart other =
+        let test : nat_eq d c ≡ false = ne_eqb d c other in
+        rw test (subst (λ xs. Held v c xs sent) (sym (append-nil came)) (held-same w v c came sent sent (update_apart w.line d _ c (λ x. other (sym x))) refl held))
+
+piece-kept : (w : RunState) (e : Event) (c d : ℕ) (bytes came : List ℕ) (sent : List Sending) (at : Option Connection) → w.line d ≡ at → Kept w c came sent → PieceTo w e d bytes at
+    → Kept (afters (on_line w d (fed bytes e.turns e.ends)) e.body) c (came ++ brought_by c (step.Piece d bytes)) (sent ++ sent_in c e.mood e.body)
+piece-kept w e c d bytes came sent None line kept is = idle-kept e.mood w v c all sent e.body same kept.numbered now is
+  where
+    v : RunState
+    v = on_line w d (fed bytes e.turns e.ends)
+
+    all : List ℕ
+    all = came ++ brought_by c (step.Piece d bytes)
+
+    now : Kept w c all sent
+    now = record { held = piece-past w c d bytes came sent line kept.held; still = kept.still; numbered = kept.numbered }
 
     same : v.line c ≡ w.line c
     same = ⊎_elim
         (λ x. subst (λ y. v.line y ≡ w.line y) x (update_here w.line d _ ∙ ap (option_map (fed bytes e.turns e.ends)) line ∙ sym line))
         (λ other. update_apart w.line d _ c (λ x. other (sym x)))
         (cases_eq d c)
-piece-kept w e c d bytes sent (Some k) line kept feeds = settles-kept e.mood v c d sent e.body held (λ other. still-same w v c (update_apart w.line d _ c other) kept.still) kept.numbered feeds.settles
-  where
-    v : RunState
-    v = on_line w d (fed bytes e.turns e.ends)
+piece-kept w e c d bytes came sent (Some k) line kept feeds =
+    settles-kept e.mood (on_line w d (fed bytes e.turns e.ends)) c d (came ++ brought_by c (step.Piece d bytes)) sent e.body (piece-read w e c d bytes came sent k line feeds.spells kept.held)
+    (λ other. still-same w (on_line w d (fed bytes e.turns e.ends)) c (update_apart w.line d _ c other) kept.still) kept.numbered feeds.settles
 
-    held : Held v c sent
-    held = ⊎_elim
-        (λ x.
-        let now : v.line d ≡ Some (fed bytes e.turns e.ends k) = update_here w.line d _ ∙ ap (option_map (fed bytes e.turns e.ends)) line in
-        let past : Past k sent = kept.held k (sym (ap w.line x) ∙ line) in
-        let moved = past-as _ _ _ (append-nil sent) (past-move k sent (PieceMove bytes e.turns e.ends) past tt) in
-        subst (λ y. Held v y sent) x (held-one v d (fed bytes e.turns e.ends k) sent now moved))
-        (λ other. held-same w v c sent sent (update_apart w.line d _ c (λ x. other (sym x))) refl kept.held)
-        (cases_eq d c)
-
-gone-kept : (w : RunState) (e : Event) (c d : ℕ) (sent : List Sending) (at : Option Connection) → Kept w c sent → e.body ≡ going at → Kept (afters (gone w d at) e.body) c (sent ++ sent_in c e.mood e.body)
-gone-kept w e c d sent None kept is = idle-kept e.mood w w c sent e.body refl kept.numbered kept is
-gone-kept w e c d sent (Some k) kept is = rw is (⊎_elim same apart (cases_eq d c))
+gone-kept : (w : RunState) (e : Event) (c d : ℕ) (came : List ℕ) (sent : List Sending) (at : Option Connection) → w.line d ≡ at → Kept w c came sent → e.body ≡ going at → Kept (afters (gone w d at) e.body) c came (sent ++ sent_in c e.mood e.body)
+gone-kept w e c d came sent None line kept is = idle-kept e.mood w w c came sent e.body refl kept.numbered kept is
+gone-kept w e c d came sent (Some k) line kept is = rw is (⊎_elim same apart (cases_eq d c))
   where
     v : RunState
     v = record w { line = update nat_eq w.line d None; lines = w.lines - 1 }
 
-    same : d ≡ c → Kept v c (sent ++ [])
+    same : d ≡ c → Kept v c came (sent ++ [])
     same x =
         let none : v.line c ≡ None = subst (λ y. v.line y ≡ None) x (update_here w.line d None) in
-        record { held = held-none v c (sent ++ []) none; still = λ k some slot due. absurd (let no : ⊥ = cc in no); numbered = kept.numbered }
+        let open_ : w.line c ≡ Some k = sym (ap w.line x) ∙ line in
+        let idle : connection.due k ≡ Nothing = kept.still k open_ in
+        let last = last-now k came (sent ++ []) (past-as k came sent (sent ++ []) (sym (append-nil sent)) (kept.held.here k open_)) (λ slot e. let no : ⊥ = cc in no) in
+        record { held = held-none v c came (sent ++ []) none last; still = λ d some. absurd (let no : ⊥ = cc in no); numbered = kept.numbered }
 
-    apart : d ≢ c → Kept v c (sent ++ [])
-    apart other = kept-same w v c sent (update_apart w.line d None c (λ x. other (sym x))) kept.numbered kept
+    apart : d ≢ c → Kept v c came (sent ++ [])
+    apart other = kept-same w v c came sent (update_apart w.line d None c (λ x. other (sym x))) kept.numbered kept
 
-render-kept : (w : RunState) (e : Event) (c : ℕ) (sent : List Sending) (flying : Option Flying) → Kept w c sent → RenderTo w e flying → Kept (afters w e.body) c (sent ++ sent_in c e.mood e.body)
-render-kept w e c sent None kept is = idle-kept e.mood w w c sent e.body refl kept.numbered kept is
-render-kept w e c sent (Some f) kept to = rw to.2 (kept-same w (after w (Rendered f.number to.0)) c sent refl (rising-rendered 0 f.number to.0 w.air (asked_in w.log.entries) kept.numbered) kept)
+render-kept : (w : RunState) (e : Event) (c : ℕ) (came : List ℕ) (sent : List Sending) (flying : Option Flying) → Kept w c came sent → RenderTo w e flying → Kept (afters w e.body) c came (sent ++ sent_in c e.mood e.body)
+render-kept w e c came sent None kept is = idle-kept e.mood w w c came sent e.body refl kept.numbered kept is
+render-kept w e c came sent (Some f) kept to = rw to.2 (kept-same w (after w (Rendered f.number to.0)) c came sent refl (rising-rendered 0 f.number to.0 w.air (asked_in w.log.entries) kept.numbered) kept)
 
 -- a flight is over, and its connection is given what it is owed
-leads-kept : (m : Mood) (w : RunState) (first : Note) (c : ℕ) (sent : List Sending) (f : Flying) (answer : Answer) (entry : Entry) (notes : List Note) → Kept w c sent → after w first ≡ over_with w f.number answer entry (Some f)
-    → asked_in (entry ∷ w.log.entries) ≡ asked_in w.log.entries → sent_by c m first ≡ [] → Leads w m first f.line notes → Kept (afters w notes) c (sent ++ sent_in c m notes)
-leads-kept m w first c sent f answer entry notes kept is same none leads =
+leads-kept : (m : Mood) (w : RunState) (first : Note) (c : ℕ) (came : List ℕ) (sent : List Sending) (f : Flying) (answer : Answer) (entry : Entry) (notes : List Note) → Kept w c came sent → after w first ≡ over_with w f.number answer entry (Some f)
+    → asked_in (entry ∷ w.log.entries) ≡ asked_in w.log.entries → sent_by c m first ≡ [] → Leads w m first f.line notes → Kept (afters w notes) c came (sent ++ sent_in c m notes)
+leads-kept m w first c came sent f answer entry notes kept is same none leads =
     let settles : Settles m v f.line leads.rest = subst (λ u. Settles m u f.line leads.rest) is leads.settles in
     let numbered : Numbered v = over-numbered w f.number answer entry (Some f) same kept.numbered in
-    let done = settles-kept m v c f.line sent leads.rest held (λ other. still-same w v c (update_apart w.line f.line _ c other) kept.still) numbered settles in
+    let done = settles-kept m v c f.line came sent leads.rest held (λ other. still-same w v c (update_apart w.line f.line _ c other) kept.still) numbered settles in
     let state : afters v leads.rest ≡ afters w notes = sym (ap (afters w) leads.begins ∙ ap (λ u. afters u leads.rest) is) in
     let all : sent_in c m leads.rest ≡ sent_in c m notes = ap (λ xs. xs ++ sent_in c m leads.rest) (sym none) ∙ sym (ap (sent_in c m) leads.begins) in
-    subst (λ u. Kept u c (sent ++ sent_in c m notes)) state (subst (λ xs. Kept (afters v leads.rest) c (sent ++ xs)) all done)
+    subst (λ u. Kept u c came (sent ++ sent_in c m notes)) state (subst (λ xs. Kept (afters v leads.rest) c came (sent ++ xs)) all done)
   where
     v : RunState
     v = over_with w f.number answer entry (Some f)
 
-    moved : (at : Option Connection) → w.line f.line ≡ at → f.line ≡ c → Held v c sent
-    moved None line x = held-none v c sent (subst (λ y. v.line y ≡ None) x (update_here w.line f.line _ ∙ ap (option_map (with_landing f.number answer)) line))
+    moved : (at : Option Connection) → w.line f.line ≡ at → f.line ≡ c → Held v c came sent
+    moved None line x = held-none v c came sent (subst (λ y. v.line y ≡ None) x (update_here w.line f.line _ ∙ ap (option_map (with_landing f.number answer)) line)) (kept.held.over (sym (ap w.line x) ∙ line))
     moved (Some k) line x =
         let now : v.line f.line ≡ Some (with_landing f.number answer k) = update_here w.line f.line _ ∙ ap (option_map (with_landing f.number answer)) line in
-        let past : Past k sent = kept.held k (sym (ap w.line x) ∙ line) in
-        subst (λ y. Held v y sent) x (held-one v f.line (with_landing f.number answer k) sent now (past-as _ _ _ (append-nil sent) (past-move k sent (Landing f.number answer) past tt)))
+        let past : Past k came sent = kept.held.here k (sym (ap w.line x) ∙ line) in
+        subst (λ y. Held v y came sent) x (held-one v f.line (with_landing f.number answer k) came sent now (past-as _ _ _ _ (append-nil sent) (past-move k came sent (Landing f.number answer) past tt (same-landing f.number answer k))))
 
-    held : Held v c sent
-    held = ⊎_elim (moved (w.line f.line) refl) (λ other. held-same w v c sent sent (update_apart w.line f.line _ c (λ x. other (sym x))) refl kept.held) (cases_eq f.line c)
+    held : Held v c came sent
+    held = ⊎_elim (moved (w.line f.line) refl) (λ other. held-same w v c came sent sent (update_apart w.line f.line _ c (λ x. other (sym x))) refl kept.held) (cases_eq f.line c)
 
-deliver-kept : (w : RunState) (e : Event) (c : ℕ) (sent : List Sending) (f : Flying) (answer : Option Answer) → flight_at f.number w.air ≡ Some f → Kept w c sent → DeliverAs w e f answer → Kept (afters w e.body) c (sent ++ sent_in c e.mood e.body)
-deliver-kept w e c sent f None there kept is = idle-kept e.mood w w c sent e.body refl kept.numbered kept is
-deliver-kept w e c sent f (Some answer) there kept to =
+deliver-kept : (w : RunState) (e : Event) (c : ℕ) (came : List ℕ) (sent : List Sending) (f : Flying) (answer : Option Answer) → flight_at f.number w.air ≡ Some f → Kept w c came sent → DeliverAs w e f answer → Kept (afters w e.body) c came (sent ++ sent_in c e.mood e.body)
+deliver-kept w e c came sent f None there kept is = idle-kept e.mood w w c came sent e.body refl kept.numbered kept is
+deliver-kept w e c came sent f (Some answer) there kept to =
     let leads : Leads w e.mood (Passed f.number) f.line e.body = subst (λ note. Leads w e.mood note f.line e.body) to.1 to.2 in
-    leads-kept e.mood w (Passed f.number) c sent f _ _ e.body kept (ap (over_with w f.number _ _) there) refl refl leads
+    leads-kept e.mood w (Passed f.number) c came sent f _ _ e.body kept (ap (over_with w f.number _ _) there) refl refl leads
 
-delivers-kept : (w : RunState) (e : Event) (c : ℕ) (sent : List Sending) (flying : Option Flying) → ((f : Flying) → flying ≡ Some f → flight_at f.number w.air ≡ Some f) → Kept w c sent → DeliverTo w e flying
-    → Kept (afters w e.body) c (sent ++ sent_in c e.mood e.body)
-delivers-kept w e c sent None there kept is = idle-kept e.mood w w c sent e.body refl kept.numbered kept is
-delivers-kept w e c sent (Some f) there kept to = deliver-kept w e c sent f f.rendered (there f refl) kept to
+delivers-kept : (w : RunState) (e : Event) (c : ℕ) (came : List ℕ) (sent : List Sending) (flying : Option Flying) → ((f : Flying) → flying ≡ Some f → flight_at f.number w.air ≡ Some f) → Kept w c came sent → DeliverTo w e flying
+    → Kept (afters w e.body) c came (sent ++ sent_in c e.mood e.body)
+delivers-kept w e c came sent None there kept is = idle-kept e.mood w w c came sent e.body refl kept.numbered kept is
+delivers-kept w e c came sent (Some f) there kept to = deliver-kept w e c came sent f f.rendered (there f refl) kept to
 
-loses-kept : (w : RunState) (e : Event) (c : ℕ) (sent : List Sending) (flying : Option Flying) → ((f : Flying) → flying ≡ Some f → flight_at f.number w.air ≡ Some f) → Kept w c sent → LoseTo w e flying
-    → Kept (afters w e.body) c (sent ++ sent_in c e.mood e.body)
-loses-kept w e c sent None there kept is = idle-kept e.mood w w c sent e.body refl kept.numbered kept is
-loses-kept w e c sent (Some f) there kept to = leads-kept e.mood w (Lost f.number) c sent f _ _ e.body kept (ap (over_with w f.number _ _) (there f refl)) refl refl to
+loses-kept : (w : RunState) (e : Event) (c : ℕ) (came : List ℕ) (sent : List Sending) (flying : Option Flying) → ((f : Flying) → flying ≡ Some f → flight_at f.number w.air ≡ Some f) → Kept w c came sent → LoseTo w e flying
+    → Kept (afters w e.body) c came (sent ++ sent_in c e.mood e.body)
+loses-kept w e c came sent None there kept is = idle-kept e.mood w w c came sent e.body refl kept.numbered kept is
+loses-kept w e c came sent (Some f) there kept to = leads-kept e.mood w (Lost f.number) c came sent f _ _ e.body kept (ap (over_with w f.number _ _) (there f refl)) refl refl to
 
-by-step : (w : RunState) (e : Event) (c : ℕ) (sent : List Sending) (s : Step) → Kept w c sent → HappensBy w e s → KeptBy w e c sent s (begun w e s)
-by-step w e c sent (step.Opened d peer) kept is = opened-kept w e c d peer sent (w.line d) refl kept is
-by-step w e c sent (step.Piece d bytes) kept to = piece-kept w e c d bytes sent (w.line d) refl kept to
-by-step w e c sent (step.Gone d) kept is = gone-kept w e c d sent (w.line d) kept is
-by-step w e c sent (step.Direct target) kept to = rw to.2 (kept-same w w c sent refl kept.numbered kept)
-by-step w e c sent (step.Render pick) kept to = render-kept w e c sent (picked pick is_unrendered w.air) kept to
-by-step w e c sent (step.Deliver pick) kept to = delivers-kept w e c sent (picked pick is_rendered w.air) (λ f found. picked-at w _ f kept.numbered found) kept to
-by-step w e c sent (step.Lose pick) kept to = loses-kept w e c sent (picked pick is_any w.air) (λ f found. picked-at w _ f kept.numbered found) kept to
+by-step : (w : RunState) (e : Event) (c : ℕ) (came : List ℕ) (sent : List Sending) (s : Step) → Kept w c came sent → HappensBy w e s → KeptBy w e c came sent s (begun w e s)
+by-step w e c came sent (step.Opened d peer) kept is = opened-kept w e c d peer came sent (w.line d) refl kept is
+by-step w e c came sent (step.Piece d bytes) kept to = piece-kept w e c d bytes came sent (w.line d) refl kept to
+by-step w e c came sent (step.Gone d) kept is = came-none _ c came _ (gone-kept w e c d came sent (w.line d) refl kept is)
+by-step w e c came sent (step.Direct target) kept to = came-none _ c came _ (rw to.2 (kept-same w w c came sent refl kept.numbered kept))
+by-step w e c came sent (step.Render pick) kept to = came-none _ c came _ (render-kept w e c came sent (picked pick is_unrendered w.air) kept to)
+by-step w e c came sent (step.Deliver pick) kept to = came-none _ c came _ (delivers-kept w e c came sent (picked pick is_rendered w.air) (λ f found. picked-at w _ f kept.numbered found) kept to)
+by-step w e c came sent (step.Lose pick) kept to = came-none _ c came _ (loses-kept w e c came sent (picked pick is_any w.air) (λ f found. picked-at w _ f kept.numbered found) kept to)
 
-pub run-kept : (w : RunState) (events : List Event) (c : ℕ) (sent : List Sending) → Kept w c sent → Run w events → Kept (after_run w events) c (sent_after c sent events)
-run-kept w [] c sent kept run = kept
-run-kept w (e ∷ events) c sent kept run = run-kept (after_event w e) events c (then_sent c sent e) (by-step w e c sent e.step kept run.0) run.1
+pub run-kept : (w : RunState) (events : List Event) (c : ℕ) (came : List ℕ) (sent : List Sending) → Kept w c came sent → Run w events → Kept (after_run w events) c (came_after c came events) (sent_after c sent events)
+run-kept w [] c came sent kept run = kept
+run-kept w (e ∷ events) c came sent kept run = run-kept (after_event w e) events c (then_came c came e e.step) (then_sent c sent e e.step) (by-step w e c came sent e.step kept run.0) run.1
 
--- ---- the laws
-start-kept : (publishing : Publishing) (content : Content) (c : ℕ) → Kept (start_of publishing content) c []
-start-kept publishing content c = record { held = λ d some. absurd (let no : ⊥ = cc in no); still = λ d some. absurd (let no : ⊥ = cc in no); numbered = omega arith }
-
-pub answered-in-order : ((peer : List ℕ) (moves : List Move) → Follows (fresh peer) moves → ((slot : Slot) → connection.due (after_all (fresh peer) moves) ≢ Send slot) → AnswersRun (after_all (fresh peer) moves).slots (sendings moves))
-    → (publishing : Publishing) (content : Content) (events : List Event) (c : ℕ) (d : Connection) → Run (start_of publishing content) events → (after_run (start_of publishing content) events).line c ≡ Some d
-    → AnswersRun d.slots (sent_after c [] events)
-answered-in-order law publishing content events c d run some =
-    let kept = run-kept (start_of publishing content) events c [] (start-kept publishing content c) run in
-    let past = kept.held d some in
-    let answers = law past.peer past.moves past.follows (λ slot e. kept.still d some slot (ap connection.due (sym past.is) ∙ e)) in
-    rw (past.is, past.sent_is) at answers
-
-pub slots-of-turns : ((peer : List ℕ) (moves : List Move) → Follows (fresh peer) moves → AreOfTurns (after_all (fresh peer) moves).turns (after_all (fresh peer) moves).slots)
-    → (publishing : Publishing) (content : Content) (events : List Event) (c : ℕ) (d : Connection) → Run (start_of publishing content) events → (after_run (start_of publishing content) events).line c ≡ Some d
-    → AreOfTurns d.turns d.slots
-slots-of-turns law publishing content events c d run some =
-    let past = (run-kept (start_of publishing content) events c [] (start-kept publishing content c) run).held d some in
-    subst (λ (x : Connection). AreOfTurns x.turns x.slots) past.is (law past.peer past.moves past.follows)
+pub start-kept : (publishing : Publishing) (farm : Farm) (content : Content) (c : ℕ) → Kept (start_of publishing farm content) c [] []
+start-kept publishing farm content c = record {
+  held = held-none (start_of publishing farm content) c [] [] refl (last-now (fresh []) [] [] (past-fresh []) (λ slot e. let no : ⊥ = cc in no));
+  still = λ d some. absurd (let no : ⊥ = cc in no);
+  numbered = omega arith;
+}

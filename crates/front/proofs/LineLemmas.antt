@@ -116,6 +116,15 @@ advance-continue k j c stays intake fault first tied keeps =
       ready = λ still. paired.0;
     })
 
+-- a connection that closes is as it was, whatever turns are left of it
+pub advance-closing : (k j : Line) (c : Connection) → c.closing ≡ true → j.outbox ≡ k.outbox → Keeps k c → Holds j (advanced c)
+advance-closing k j c closes outbox keeps =
+    let is : advanced c ≡ c = ap (λ b. cond b c (after_turn (next_turn c) c)) closes in
+    subst (Holds j) (sym is) (record {
+      keeps = record { tied = rw outbox keeps.tied; reads = λ stays. absurd (let no : ⊥ = cc in no) };
+      ready = λ stays. absurd (let no : ⊥ = cc in no);
+    })
+
 -- ---- a turn is taken
 due-open : (c : Connection) (turn : Option Turn) → c.over ≡ false → c.closing ≡ false → due c ≡ due_unsent c → next_turn c ≡ turn → due c ≡ due_at_turn turn c.ends
 due-open c turn lasts stays unsent next =

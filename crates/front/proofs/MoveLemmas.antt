@@ -1,5 +1,5 @@
 -- Notes, one after another, and what they leave alone.
-use Rattle.std.proofs.Common.{◌≡◌, ◌≢◌, ℕ, ◌+◌, ◌++◌, Bool, true, false, List, [], ◌∷◌, Option, Some, None, refl, ◌∙◌, ◌⊎◌, inl, inr, ⊎_elim}
+use Rattle.std.proofs.Common.{◌≡◌, ◌≢◌, ℕ, ◌+◌, ◌++◌, Bool, true, false, List, [], ◌∷◌, Option, Some, None, refl, sym, subst, ◌∙◌, ◌⊎◌, inl, inr, ⊎_elim}
 use Rattle.std.specs.Prelude.{nat_eq, nat_le, if◌then◌else◌}
 use Rattle.std.specs.Map.{update}
 use Rattle.std.proofs.lemmas.Map.{update_apart, update_here}
@@ -14,7 +14,7 @@ use Rattle.front.specs.declared.note.Note.TheVariants.{Answer as answered, Ask a
 use Rattle.front.specs.declared.step.Step.{Step}
 use Rattle.front.specs.declared.step.Step.TheVariants as step
 use Rattle.front.specs.States.{RunState, Entry}
-use Rattle.front.specs.Events.{begun, opened, gone, most_lines, Event, after_event}
+use Rattle.front.specs.Events.{DeliverAs, DeliverTo, Event, Happens, HappensBy, Leads, LoseTo, PieceTo, after_event, begun, gone, going, is_any, is_rendered, most_lines, opened, opening, picked}
 use Rattle.front.specs.Moves.{Mood, Gives, IsFirst, points, Serves, after, afters, asked_by, due, flight_at, over_with, request_of}
 
 pub afters-push : (w : RunState) (notes : List Note) (note : Note) → afters w (notes ++ note ∷ []) ≡ after (afters w notes) note
@@ -25,41 +25,52 @@ pub serves-push : (m : Mood) (w : RunState) (c : ℕ) (notes : List Note) (note 
 serves-push m w c [] note serves gives = (gives, tt)
 serves-push m w c (n ∷ notes) note serves gives = (serves.0, serves-push m (after w n) c notes note serves.1 gives)
 
--- ---- the publisher and its content stay
+-- ---- the publisher and the farm stay, and but for a render the content does
 pub record SameContent (w v : RunState) : Type 0 where
   pub publishing : v.publishing ≡ w.publishing
+  pub farm : v.farm ≡ w.farm
   pub content : v.content ≡ w.content
 
 same : (w : RunState) → SameContent w w
-same w = record { publishing = refl; content = refl }
+same w = record { publishing = refl; farm = refl; content = refl }
 
 chain : (u v w : RunState) → SameContent u v → SameContent v w → SameContent u w
-chain u v w f g = record { publishing = g.publishing ∙ f.publishing; content = g.content ∙ f.content }
+chain u v w f g = record { publishing = g.publishing ∙ f.publishing; farm = g.farm ∙ f.farm; content = g.content ∙ f.content }
 
 asked-same : (w : RunState) (number c : ℕ) (key : Option PageKey) (request : Option Req) → SameContent w (asked_by w number c key request)
 asked-same w number c key None = same w
-asked-same w number c key (Some request) = record { publishing = refl; content = refl }
+asked-same w number c key (Some request) = record { publishing = refl; farm = refl; content = refl }
 
 over-same : (w : RunState) (number : ℕ) (answer : Answer) (entry : Entry) (flying : Option Flying) → SameContent w (over_with w number answer entry flying)
 over-same w number answer entry None = same w
-over-same w number answer entry (Some flying) = record { publishing = refl; content = refl }
+over-same w number answer entry (Some flying) = record { publishing = refl; farm = refl; content = refl }
 
-pub after-same : (w : RunState) (note : Note) → SameContent w (after w note)
-after-same w (answered answer) = same w
-after-same w (asked number c key) = asked-same w number c key (request_of (due w c))
-after-same w (Local c status) = record { publishing = refl; content = refl }
-after-same w (Rendered number answer) = record { publishing = refl; content = refl }
-after-same w (Passed number) = over-same w number _ _ (flight_at number w.air)
-after-same w (Lost number) = over-same w number _ _ (flight_at number w.air)
-after-same w (Sent c bytes) = record { publishing = refl; content = refl }
-after-same w (Shut c) = record { publishing = refl; content = refl }
-after-same w (Refused c) = same w
-after-same w Idle = same w
-after-same w Dry = same w
+-- the note doesn't tell a render
+abbrev pub IsStillNote : Note → Type 0
+IsStillNote (answered answer) = Unit {0}
+IsStillNote (asked number c key) = Unit {0}
+IsStillNote (Local c status) = Unit {0}
+IsStillNote (Rendered number answer) = ⊥
+IsStillNote (Passed number) = Unit {0}
+IsStillNote (Lost number) = Unit {0}
+IsStillNote (Sent c bytes) = Unit {0}
+IsStillNote (Shut c) = Unit {0}
+IsStillNote (Refused c) = Unit {0}
+IsStillNote Idle = Unit {0}
+IsStillNote Dry = Unit {0}
 
-pub afters-same : (w : RunState) (notes : List Note) → SameContent w (afters w notes)
-afters-same w [] = same w
-afters-same w (n ∷ notes) = chain w (after w n) (afters (after w n) notes) (after-same w n) (afters-same (after w n) notes)
+pub after-same : (w : RunState) (note : Note) → IsStillNote note → SameContent w (after w note)
+after-same w (answered answer) is = same w
+after-same w (asked number c key) is = asked-same w number c key (request_of (due w c))
+after-same w (Local c status) is = record { publishing = refl; farm = refl; content = refl }
+after-same w (Rendered number answer) is = absurd is
+after-same w (Passed number) is = over-same w number _ _ (flight_at number w.air)
+after-same w (Lost number) is = over-same w number _ _ (flight_at number w.air)
+after-same w (Sent c bytes) is = record { publishing = refl; farm = refl; content = refl }
+after-same w (Shut c) is = record { publishing = refl; farm = refl; content = refl }
+after-same w (Refused c) is = same w
+after-same w Idle is = same w
+after-same w Dry is = same w
 
 opened-same : (w : RunState) (c : ℕ) (peer : List ℕ) (line : Option Connection) → SameContent w (opened w c peer line)
 opened-same w c peer (Some line) = same w
@@ -67,23 +78,113 @@ opened-same w c peer None = by_test (nat_le most_lines w.lines)
   where
     by_test : (full : Bool) → SameContent w (if full then w else record w { line = update nat_eq w.line c (Some (fresh peer)); lines = w.lines + 1 })
     by_test true = same w
-    by_test false = record { publishing = refl; content = refl }
+    by_test false = record { publishing = refl; farm = refl; content = refl }
 
 gone-same : (w : RunState) (c : ℕ) (line : Option Connection) → SameContent w (gone w c line)
 gone-same w c None = same w
-gone-same w c (Some line) = record { publishing = refl; content = refl }
+gone-same w c (Some line) = record { publishing = refl; farm = refl; content = refl }
 
 begun-same : (w : RunState) (e : Event) (s : Step) → SameContent w (begun w e s)
 begun-same w e (step.Opened c peer) = opened-same w c peer (w.line c)
-begun-same w e (step.Piece c bytes) = record { publishing = refl; content = refl }
+begun-same w e (step.Piece c bytes) = record { publishing = refl; farm = refl; content = refl }
 begun-same w e (step.Gone c) = gone-same w c (w.line c)
 begun-same w e (step.Direct target) = same w
 begun-same w e (step.Render pick) = same w
 begun-same w e (step.Deliver pick) = same w
 begun-same w e (step.Lose pick) = same w
 
-pub event-same : (w : RunState) (e : Event) → SameContent w (after_event w e)
-event-same w e = chain w (begun w e e.step) (after_event w e) (begun-same w e e.step) (afters-same (begun w e e.step) e.body)
+-- no note of these tells a render
+abbrev pub AreStillNotes : List Note → Type 0
+AreStillNotes [] = Unit {0}
+AreStillNotes (note ∷ notes) = IsStillNote note × AreStillNotes notes
+
+pub afters-same : (w : RunState) (notes : List Note) → AreStillNotes notes → SameContent w (afters w notes)
+afters-same w [] are = same w
+afters-same w (n ∷ notes) are = chain w (after w n) (afters (after w n) notes) (after-same w n are.0) (afters-same (after w n) notes are.1)
+
+first-still : (m : Mood) (w : RunState) (c : ℕ) (request : Req) (note : Note) → IsFirst m w c request note points → IsStillNote note
+first-still m w c request note (inl crowded) = rw crowded.1 tt
+first-still m w c request note (inr (_, inl hidden)) = rw hidden.1 tt
+first-still m w c request note (inr (_, inr (_, inl full))) = rw full.1 tt
+first-still m w c request note (inr (_, inr (_, inr (_, inl free)))) = rw free.1 tt
+first-still m w c request note (inr (_, inr (_, inr (_, inr (never, _))))) = absurd never
+
+-- a note that gives a connection what it is owed tells no render
+gives-still : (m : Mood) (w : RunState) (c : ℕ) (owed : Due) (note : Note) → Gives m w c owed note → IsStillNote note
+gives-still m w c (Send slot) note gives = rw gives.1 tt
+gives-still m w c (Treat Continue) note gives = absurd gives
+gives-still m w c (Treat (Whole request)) note (inl first) = first-still m w c request note first
+gives-still m w c (Treat (Whole request)) note (inr dry) = rw dry.1 tt
+gives-still m w c (Refuse fault) note gives = rw gives tt
+gives-still m w c Close note gives = rw gives tt
+gives-still m w c Nothing note gives = absurd gives
+
+serves-still : (m : Mood) (w : RunState) (c : ℕ) (notes : List Note) → Serves m w c notes → AreStillNotes notes
+serves-still m w c [] serves = tt
+serves-still m w c (n ∷ notes) serves = (gives-still m w c (due w c) n serves.0, serves-still m (after w n) c notes serves.1)
+
+pub serves-same : (m : Mood) (w : RunState) (c : ℕ) (notes : List Note) → Serves m w c notes → SameContent w (afters w notes)
+serves-same m w c notes serves = afters-same w notes (serves-still m w c notes serves)
+
+opening-still : (w : RunState) (c : ℕ) (line : Option Connection) (notes : List Note) → notes ≡ opening c w.lines line → AreStillNotes notes
+opening-still w c (Some line) notes is = rw is (tt, tt)
+opening-still w c None notes is = by_test (nat_le most_lines w.lines) is
+  where
+    by_test : (full : Bool) → notes ≡ (if full then Refused c ∷ [] else []) → AreStillNotes notes
+    by_test true is = rw is (tt, tt)
+    by_test false is = rw is tt
+
+going-still : (line : Option Connection) (notes : List Note) → notes ≡ going line → AreStillNotes notes
+going-still None notes is = rw is (tt, tt)
+going-still (Some line) notes is = rw is tt
+
+idle-still : (notes : List Note) → notes ≡ Idle ∷ [] → AreStillNotes notes
+idle-still notes is = rw is (tt, tt)
+
+piece-still : (w : RunState) (e : Event) (c : ℕ) (bytes : List ℕ) (line : Option Connection) → PieceTo w e c bytes line → AreStillNotes e.body
+piece-still w e c bytes None to = idle-still e.body to
+piece-still w e c bytes (Some line) to = serves-still e.mood _ c e.body to.settles.serves
+
+leads-still : (w : RunState) (m : Mood) (first : Note) (c : ℕ) (notes : List Note) → IsStillNote first → Leads w m first c notes → AreStillNotes notes
+leads-still w m first c notes is leads = rw leads.begins (is, serves-still m (after w first) c leads.rest leads.settles.serves)
+
+deliver-still : (w : RunState) (e : Event) (flying : Flying) (answer : Option Answer) → DeliverAs w e flying answer → AreStillNotes e.body
+deliver-still w e flying None to = idle-still e.body to
+deliver-still w e flying (Some answer) to = leads-still w e.mood to.0 flying.line e.body (subst IsStillNote (sym to.1) tt) to.2
+
+delivers-still : (w : RunState) (e : Event) (flying : Option Flying) → DeliverTo w e flying → AreStillNotes e.body
+delivers-still w e None to = idle-still e.body to
+delivers-still w e (Some flying) to = deliver-still w e flying flying.rendered to
+
+loses-still : (w : RunState) (e : Event) (flying : Option Flying) → LoseTo w e flying → AreStillNotes e.body
+loses-still w e None to = idle-still e.body to
+loses-still w e (Some flying) to = leads-still w e.mood (Lost flying.number) flying.line e.body tt to
+
+-- the step renders no flight
+abbrev pub IsStillStep : Step → Type 0
+IsStillStep (step.Opened c peer) = Unit {0}
+IsStillStep (step.Piece c bytes) = Unit {0}
+IsStillStep (step.Gone c) = Unit {0}
+IsStillStep (step.Direct target) = Unit {0}
+IsStillStep (step.Render pick) = ⊥
+IsStillStep (step.Deliver pick) = Unit {0}
+IsStillStep (step.Lose pick) = Unit {0}
+
+pub step-still : (w : RunState) (e : Event) (s : Step) → IsStillStep s → HappensBy w e s → AreStillNotes e.body
+step-still w e (step.Opened c peer) still is = opening-still w c (w.line c) e.body is
+step-still w e (step.Piece c bytes) still to = piece-still w e c bytes (w.line c) to
+step-still w e (step.Gone c) still is = going-still (w.line c) e.body is
+step-still w e (step.Direct target) still to = rw to.2 (tt, tt)
+step-still w e (step.Render pick) still to = absurd still
+step-still w e (step.Deliver pick) still to = delivers-still w e (picked pick is_rendered w.air) to
+step-still w e (step.Lose pick) still to = loses-still w e (picked pick is_any w.air) to
+
+-- an event that renders no flight leaves the content
+pub step-same : (w : RunState) (e : Event) (s : Step) → IsStillStep s → HappensBy w e s → SameContent w (afters (begun w e s) e.body)
+step-same w e s still happens = chain w (begun w e s) (afters (begun w e s) e.body) (begun-same w e s) (afters-same (begun w e s) e.body (step-still w e s still happens))
+
+pub event-same : (w : RunState) (e : Event) → IsStillStep e.step → Happens w e → SameContent w (after_event w e)
+event-same w e still happens = step-same w e e.step still happens
 
 -- ---- what notes on one connection leave alone
 pub record Frame (c : ℕ) (w v : RunState) : Type 0 where
@@ -105,9 +206,10 @@ local-frame w c status = record { others = λ d apart. update_apart w.line c _ d
 
 first-frame : (m : Mood) (w : RunState) (c : ℕ) (request : Req) (note : Note) → IsFirst m w c request note points → Frame c w (after w note)
 first-frame m w c request note (inl crowded) = rw crowded.1 (local-frame w c 503)
-first-frame m w c request note (inr (_, inl full)) = rw full.1 (local-frame w c 503)
-first-frame m w c request note (inr (_, inr (_, inl free))) = rw free.1 (asked-frame w _ c None (request_of (due w c)))
-first-frame m w c request note (inr (_, inr (_, inr (never, _)))) = absurd never
+first-frame m w c request note (inr (_, inl hidden)) = rw hidden.1 (local-frame w c 404)
+first-frame m w c request note (inr (_, inr (_, inl full))) = rw full.1 (local-frame w c 503)
+first-frame m w c request note (inr (_, inr (_, inr (_, inl free)))) = rw free.1 (asked-frame w _ c None (request_of (due w c)))
+first-frame m w c request note (inr (_, inr (_, inr (_, inr (never, _))))) = absurd never
 
 -- a note that gives what is due leaves the other connections alone, and shuts its own or keeps their number
 gives-frame : (m : Mood) (w : RunState) (c : ℕ) (owed : Due) (note : Note) → Gives m w c owed note → (note ≡ Shut c) ⊎ Frame c w (after w note)

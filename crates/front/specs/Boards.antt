@@ -1,11 +1,12 @@
 -- What a front keeps of its connections and flights. (Of the theorem's reader this file is no concern.)
-use Rattle.std.specs.Prelude.{◌≡◌, ◌≢◌, ◌<◌, ◌≤◌, ◌||◌, ℕ, Bool, if◌then◌else◌, nat_le, nat_eq, List, [], ◌∷◌, Option, Some, None, IsTrue, length}
+use Rattle.std.specs.Prelude.{◌≡◌, ◌≢◌, ◌<◌, ◌≤◌, ◌||◌, ◌⊎◌, ℕ, Bool, true, false, not, if◌then◌else◌, nat_le, nat_eq, List, [], ◌∷◌, Option, Some, None, IsTrue, length}
 use Rattle.std.specs.BTreeMap.{BTreeMap, get, btree_map_len}
 use Rattle.std.specs.Ordering.{nat_cmp}
 use Rattle.std.specs.Map.{update}
 use Rattle.std.specs.Option.{option_map}
 use Rattle.sp_base.specs.declared.answer.Answer.{Answer}
 use Rattle.sp_base.specs.declared.answer.Req.{Req}
+use Rattle.any_config.specs.declared.farm.Farm.{Farm}
 use Rattle.http_front.specs.Turns.{End}
 use Rattle.http_front.specs.declared.fault.InFault.{InFault}
 use Rattle.http_front.specs.declared.turn.Turn.{Turn}
@@ -18,6 +19,8 @@ use Rattle.front.specs.declared.flying.Flying.{Flying}
 use Rattle.front.specs.declared.line.Line.{Line}
 use Rattle.front.specs.declared.note.Note.{Note}
 use Rattle.front.specs.declared.serve.Served.{Served}
+use Rattle.front.specs.declared.treat.Answering.{Answering}
+use Rattle.front.specs.declared.treat.Answering.TheVariants.{Here, InFlight}
 use Rattle.front.specs.declared.serve.Served.TheVariants.{Said, Quiet, Ended}
 use Rattle.front.specs.declared.sky.Sky.{Sky}
 use Rattle.front.specs.declared.step.Step.{Step}
@@ -58,8 +61,9 @@ pub record LinesTied (lines : BTreeMap ℕ Line) (w : RunState) : Type 0 where
   pub each : (c : ℕ) → LineTied (get nat_cmp lines c) (w.line c)
   pub count : btree_map_len lines ≡ w.lines
 
--- the board is what is left of the state
-pub record BoardTied (board : Board) (w : RunState) : Type 0 where
+-- the farm is that of the state, and the board is what is left of it
+pub record BoardTied (farm : Farm) (board : Board) (w : RunState) : Type 0 where
+  pub farm_is : w.farm ≡ farm
   pub lines : LinesTied board.lines w
   pub sky : SkyTied board.sky w
 
@@ -69,33 +73,36 @@ pub record BoardTied (board : Board) (w : RunState) : Type 0 where
 abbrev pub Allows : Bool → Mood → Type 0
 Allows dry m = IsTrue dry → IsTrue m.dry
 
--- the connection is there, with its line and the flights
-pub record Meets (w : RunState) (c : ℕ) (k : Line) (sky : Sky) : Type 0 where
+-- the connection is there, with its line, the farm and the flights
+pub record Meets (farm : Farm) (w : RunState) (c : ℕ) (k : Line) (sky : Sky) : Type 0 where
   pub connection : Connection
   pub open_is : w.line c ≡ Some connection
   pub holds : Holds k connection
   pub sky_is : SkyTied sky w
+  pub farm_is : w.farm ≡ farm
 
 -- the same where nothing of the connection can be sent
-pub record MeetsUnsent (w : RunState) (c : ℕ) (k : Line) (sky : Sky) : Type 0 where
-  pub meets : Meets w c k sky
+pub record MeetsUnsent (farm : Farm) (w : RunState) (c : ℕ) (k : Line) (sky : Sky) : Type 0 where
+  pub meets : Meets farm w c k sky
   pub unsent : model.due meets.connection ≡ due_unsent meets.connection
 
 -- a slot is owed for a request that was taken
-pub record OwesRequest (w : RunState) (c : ℕ) (k : Line) (sky : Sky) (request : Req) : Type 0 where
+pub record OwesRequest (farm : Farm) (w : RunState) (c : ℕ) (k : Line) (sky : Sky) (request : Req) : Type 0 where
   pub connection : Connection
   pub open_is : w.line c ≡ Some connection
   pub due_is : model.due connection ≡ Treat (Whole request)
   pub owes : Owes k connection
   pub sky_is : SkyTied sky w
+  pub farm_is : w.farm ≡ farm
 
 -- a slot is owed for a fault that was taken
-pub record OwesFault (w : RunState) (c : ℕ) (k : Line) (sky : Sky) (fault : InFault) : Type 0 where
+pub record OwesFault (farm : Farm) (w : RunState) (c : ℕ) (k : Line) (sky : Sky) (fault : InFault) : Type 0 where
   pub connection : Connection
   pub open_is : w.line c ≡ Some connection
   pub due_is : model.due connection ≡ Refuse fault
   pub tied : Tied k.outbox connection
   pub sky_is : SkyTied sky w
+  pub farm_is : w.farm ≡ farm
 
 -- in such an event the note gives what is owed
 abbrev pub GivesDry : Bool → RunState → ℕ → Note → Type 0
@@ -107,11 +114,19 @@ ServesDry dry w c notes = (m : Mood) → Allows dry m → Serves m w c notes
 abbrev pub SettlesDry : Bool → RunState → ℕ → List Note → Type 0
 SettlesDry dry w c notes = (m : Mood) → Allows dry m → Settles m w c notes
 
+-- by its first point a request is answered so
+abbrev pub first_point : Bool → Bool → Bool → Answering
+first_point crowded admitted full = if crowded then Here 503 false else (if not admitted then Here 404 false else (if full then Here 503 false else InFlight))
+
+-- the same, or 507 where memory was wanting to find the point
+abbrev pub IsAnswering : Bool → Bool → Bool → Answering → Type 0
+IsAnswering crowded admitted full answering = (answering ≡ first_point crowded admitted full) ⊎ (answering ≡ Here 507 true)
+
 -- one note was given, or none is owed, or the connection's end is
-abbrev pub ServedAs : Served → RunState → ℕ → Line → Sky → Type 0
-ServedAs (Said note dry) w c k sky = GivesDry dry w c note × Meets (after w note) c k sky
-ServedAs Quiet w c k sky = (due w c ≡ Nothing) × Meets w c k sky
-ServedAs Ended w c k sky = (due w c ≡ Close) × Meets w c k sky
+abbrev pub ServedAs : Served → Farm → RunState → ℕ → Line → Sky → Type 0
+ServedAs (Said note dry) farm w c k sky = GivesDry dry w c note × Meets farm (after w note) c k sky
+ServedAs Quiet farm w c k sky = (due w c ≡ Nothing) × Meets farm w c k sky
+ServedAs Ended farm w c k sky = (due w c ≡ Close) × Meets farm w c k sky
 
 -- less is owed after it, where a note was given
 abbrev pub IsLess : Served → ℕ → ℕ → Type 0
@@ -120,17 +135,17 @@ IsLess Quiet left before = Unit {0}
 IsLess Ended left before = Unit {0}
 
 -- these notes were given
-pub record Given (dry : Bool) (notes : List Note) (w : RunState) (c : ℕ) (k : Line) (sky : Sky) : Type 0 where
+pub record Given (dry : Bool) (notes : List Note) (farm : Farm) (w : RunState) (c : ℕ) (k : Line) (sky : Sky) : Type 0 where
   pub serves : ServesDry dry w c notes
-  pub meets : Meets (afters w notes) c k sky
+  pub meets : Meets farm (afters w notes) c k sky
 
 -- the end is owed, or nothing
 abbrev pub end_or_nothing : Bool → model.Due
 end_or_nothing over = if over then Close else Nothing
 
 -- all that is owed was given, but for the end
-pub record AllGiven (told : Told) (over : Bool) (w : RunState) (c : ℕ) (k : Line) (sky : Sky) : Type 0 where
-  pub given : Given told.dry told.notes.items w c k sky
+pub record AllGiven (told : Told) (over : Bool) (farm : Farm) (w : RunState) (c : ℕ) (k : Line) (sky : Sky) : Type 0 where
+  pub given : Given told.dry told.notes.items farm w c k sky
   pub then_due : due (afters w told.notes.items) c ≡ end_or_nothing over
 
 -- ---- whole events
@@ -146,8 +161,8 @@ pub record Happened (Stands : RunState → Type 0) (w : RunState) (step : Step) 
   pub happens : Happens w (event_of step told turns ends)
   pub stands : Stands (after_event w (event_of step told turns ends))
 
-abbrev pub BoardTells : Board → Board → Step → Told → Type 0
-BoardTells old new step told = (w : RunState) → BoardTied old w → Happened (BoardTied new) w step told
+abbrev pub BoardTells : Farm → Board → Board → Step → Told → Type 0
+BoardTells farm old new step told = (w : RunState) → BoardTied farm old w → Happened (BoardTied farm new) w step told
 
 -- the line at this number has read the bytes, and the others are as before
 pub record ReadAt (old new : Board) (c : ℕ) (bytes : List ℕ) : Type 0 where
@@ -161,15 +176,16 @@ pub record ReadAt (old new : Board) (c : ℕ) (bytes : List ℕ) : Type 0 where
   pub reads : (connection : Connection) → Holds before connection → Reads bytes connection line
 
 -- the flight is out of the air, and its connection isn't told yet
-pub record Landing (board : Board) (w v : RunState) (c number : ℕ) (answer : Answer) : Type 0 where
+pub record Landing (farm : Farm) (board : Board) (w v : RunState) (c number : ℕ) (answer : Answer) : Type 0 where
+  pub farm_is : v.farm ≡ farm
   pub lines : LinesTied board.lines w
   pub line_is : v.line ≡ update nat_eq w.line c (option_map (with_landing number answer) (w.line c))
   pub count_is : v.lines ≡ w.lines
   pub sky : SkyTied board.sky v
 
 -- after the first note the connection was given all that it is owed
-pub record FirstThen (first : Note) (v : RunState) (c : ℕ) (told : Told) (board : Board) : Type 0 where
+pub record FirstThen (first : Note) (farm : Farm) (v : RunState) (c : ℕ) (told : Told) (board : Board) : Type 0 where
   pub rest : List Note
   pub begins : told.notes.items ≡ first ∷ rest
   pub settles : SettlesDry told.dry v c rest
-  pub board_is : BoardTied board (afters v rest)
+  pub board_is : BoardTied farm board (afters v rest)

@@ -13,9 +13,9 @@ use Rattle.front.specs.declared.step.Step.{Step}
 use Rattle.front.specs.declared.step.Step.TheVariants.{Opened, Piece, Gone, Direct, Render, Deliver, Lose}
 use Rattle.front.specs.declared.note.Note.{Note}
 use Rattle.front.specs.declared.note.Note.TheVariants.{Answer as answered, Rendered, Passed, Lost, Refused, Idle, Dry}
-use Rattle.front.specs.Publishers.{ask_of, direct_answer, fixed_answer}
+use Rattle.front.specs.Publishers.{direct_answer, fixed_answer}
 use Rattle.front.specs.States.{RunState}
-use Rattle.front.specs.Moves.{Mood, Settles, after, afters, on_line, has_number}
+use Rattle.front.specs.Moves.{Mood, Settles, after, afters, on_line, has_number, published}
 
 -- An event: its step, its notes but for those that name its mood, and the mood. Of a piece it tells which further turns its
 -- connection's stream now spells, and how they end.
@@ -107,12 +107,12 @@ IsOrFixed m answer wanted = (answer ≡ wanted) ⊎ (IsTrue m.dry × (answer ≡
 
 -- the publisher's answer to the target, on the content of this moment
 abbrev pub DirectTo : RunState → Event → List ℕ → Type 0
-DirectTo w e target = (answer : Answer) × IsOrFixed e.mood answer (direct_answer w.publishing w.content target) × (e.body ≡ answered answer ∷ [])
+DirectTo w e target = (answer : Answer) × IsOrFixed e.mood answer (direct_answer w.publishing w.farm w.content target) × (e.body ≡ answered answer ∷ [])
 
 -- the publisher's answer to the flight's request, on the content of this moment
 abbrev pub RenderTo : RunState → Event → Option Flying → Type 0
 RenderTo w e None = e.body ≡ Idle ∷ []
-RenderTo w e (Some flying) = (answer : Answer) × IsOrFixed e.mood answer (w.publishing w.content (ask_of flying.request)) × (e.body ≡ Rendered flying.number answer ∷ [])
+RenderTo w e (Some flying) = (answer : Answer) × IsOrFixed e.mood answer (published w flying.request).answer × (e.body ≡ Rendered flying.number answer ∷ [])
 
 -- a first note, and then what its connection is owed
 pub record Leads (w : RunState) (m : Mood) (first : Note) (c : ℕ) (notes : List Note) : Type 0 where

@@ -1,6 +1,7 @@
 -- What a front stands for: the states of a run that it may be in. (Of the theorem's reader this file is no concern.)
 use Rattle.std.specs.Prelude.{◌≡◌, Bool, true, false, Result, Ok, Err}
 use Rattle.resource_tree.specs.Content.{Content}
+use Rattle.any_config.specs.declared.farm.Farm.{Farm}
 use Rattle.sp_base.specs.declared.answer.Answer.{Answer}
 use Rattle.front.specs.declared.board.Board.{Board}
 use Rattle.front.specs.declared.step.Step.{Step}
@@ -9,11 +10,11 @@ use Rattle.front.specs.Boards.{BoardTied, Happened}
 use Rattle.front.specs.Publishers.{Publishing, fixed_answer}
 use Rattle.front.specs.States.{RunState}
 
--- the publisher is that of the state, and the board is what is left of it
-pub record Stands (publishing : Publishing) (content : Content) (board : Board) (w : RunState) : Type 0 where
+-- the publisher and the farm are those of the state, and the board is what is left of it
+pub record Stands (publishing : Publishing) (content : Content) (farm : Farm) (board : Board) (w : RunState) : Type 0 where
   pub publishing_is : w.publishing ≡ publishing
   pub content_is : w.content ≡ content
-  pub board_is : BoardTied board w
+  pub board_is : BoardTied farm board w
 
 -- what was told is an event of this step, of each state that was stood for
 abbrev pub Tells : (RunState → Type 0) → (RunState → Type 0) → Step → Told → Type 0

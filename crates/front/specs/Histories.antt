@@ -1,5 +1,10 @@
--- What was sent on a connection since it was opened.
-use Rattle.std.specs.Prelude.{◌++◌, ℕ, Bool, false, nat_eq, if◌then◌else◌, List, [], ◌∷◌, flat_map}
+-- What came on a connection since it was opened, and what was sent on it.
+use Rattle.std.specs.Prelude.{◌≡◌, ◌++◌, ℕ, Bool, false, nat_eq, if◌then◌else◌, List, [], ◌∷◌, None, flat_map}
+use Rattle.http_front.specs.Turns.{End, Spells, Waits}
+use Rattle.http_front.specs.declared.turn.Turn.{Turn}
+use Rattle.connections.specs.Connections.{Connection, next_turn}
+use Rattle.connections.specs.Histories.{AnswersRun, AreOfTurns}
+use Rattle.connections.specs.Slots.{Slot}
 use Rattle.connections.specs.declared.sending.Sending.{Sending}
 use Rattle.front.specs.declared.note.Note.{Note}
 use Rattle.front.specs.declared.note.Note.TheVariants.{Answer as answered, Ask as asked, Local, Rendered, Passed, Lost, Sent, Shut, Refused, Idle, Dry}
@@ -43,3 +48,43 @@ sent_after c sent (e ∷ events) = sent_after c (if opens c e.step e.body then [
 -- what was sent on the connection since it was opened last
 abbrev pub sent_since_opened : ℕ → List Event → List Sending
 sent_since_opened c events = sent_after c [] events
+
+-- the bytes that a step brings on the connection
+abbrev pub brought_by : ℕ → Step → List ℕ
+brought_by c (Opened d peer) = []
+brought_by c (Piece d bytes) = if nat_eq d c then bytes else []
+brought_by c (Gone d) = []
+brought_by c (Direct target) = []
+brought_by c (Render pick) = []
+brought_by c (Deliver pick) = []
+brought_by c (Lose pick) = []
+
+abbrev pub came_after : ℕ → List ℕ → List Event → List ℕ
+came_after c came [] = came
+came_after c came (e ∷ events) = came_after c (if opens c e.step e.body then [] else came ++ brought_by c e.step) events
+
+-- what came on the connection since it was opened last
+abbrev pub came_since_opened : ℕ → List Event → List ℕ
+came_since_opened c events = came_after c [] events
+
+-- What was sent answers the stream: the stream spells turns, which have slots in their order, and what was sent answers these in their
+-- order (RFC 9112, section 9.3.2).
+pub record AnswersStream (stream : List ℕ) (sent : List Sending) : Type 0 where
+  pub turns : List Turn
+  pub ends : End
+  pub slots : List Slot
+  pub spells : Spells stream turns ends
+  pub of_turns : AreOfTurns turns slots
+  pub answers : AnswersRun slots sent
+
+-- what was sent answers what came, or, on a connection that was closing before the rest came, a prefix of it
+pub record AnswersWhatCame (came : List ℕ) (sent : List Sending) : Type 0 where
+  pub stream : List ℕ
+  pub rest : List ℕ
+  pub came_is : came ≡ stream ++ rest
+  pub answers : AnswersStream stream sent
+
+-- each turn of what came has its slot, and further turns are awaited
+pub record HasReadAll (came : List ℕ) (connection : Connection) : Type 0 where
+  pub spells : Spells came connection.turns Waits
+  pub treated : next_turn connection ≡ None

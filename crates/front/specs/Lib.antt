@@ -3,6 +3,7 @@ pub mod States
 pub mod Moves
 pub mod Events
 pub mod Histories
+pub mod Renders
 pub mod Lines
 pub mod Boards
 pub mod Fronts

@@ -5,7 +5,10 @@ use Rattle.std.specs.Option.{option_map}
 use Rattle.std.specs.Map.{update}
 use Rattle.sp_base.specs.declared.answer.Answer.{Answer}
 use Rattle.sp_base.specs.declared.answer.Req.{Req}
+use Rattle.resource_tree.specs.Content.{Content}
 use Rattle.cover_rules.specs.declared.page.PageKey.{PageKey}
+use Rattle.dispatch_rules.specs.Admission.{admits}
+use Rattle.dispatch_rules.specs.Asking.{asked_of}
 use Rattle.error_answers.specs.Errors.{error_answer}
 use Rattle.http_front.specs.Answers.{fixed_507}
 use Rattle.http_front.specs.Faults.{status_of}
@@ -17,7 +20,7 @@ use Rattle.connections.specs.Connections as connection
 use Rattle.front.specs.declared.flying.Flying.{Flying}
 use Rattle.front.specs.declared.note.Note.{Note}
 use Rattle.front.specs.declared.note.Note.TheVariants.{Answer as answered, Ask as asked, Local, Rendered, Passed, Lost, Sent, Shut, Refused, Idle, Dry}
-use Rattle.front.specs.Publishers.{fixed_answer}
+use Rattle.front.specs.Publishers.{Published, fixed_answer}
 use Rattle.front.specs.States.{RunState, Log, Entry, Asked, Landed, Lost as lost_entry, Passed as passed_fate, asked_in}
 
 -- what an event allows: in a dry one memory was wanting
@@ -57,15 +60,16 @@ due w c = line_due (w.line c)
 
 -- ---- requests
 
--- Where a request may get its answer, the first that applies: its connection has too many requests that are unanswered; too many flights
--- are in the air, or too many were asked; else the renderer is asked.
+-- Where a request may get its answer, the first that applies: its connection has too many requests that are unanswered; the farm doesn't
+-- admit it; too many flights are in the air, or too many were asked; else the publisher is asked.
 pub data Point : Type 0 where
   Crowded : Point
+  Hidden : Point
   Full : Point
   Free : Point
 
 abbrev pub points : List Point
-points = Crowded ∷ Full ∷ Free ∷ []
+points = Crowded ∷ Hidden ∷ Full ∷ Free ∷ []
 
 abbrev pub is_crowded_line : Option Connection → Bool
 is_crowded_line None = false
@@ -84,12 +88,14 @@ is_full w = nat_le most_flights (length w.air) || nat_le most_numbers (asked_in 
 -- the point may answer a request
 abbrev pub Applies : Mood → RunState → ℕ → Req → Point → Type 0
 Applies m w c request Crowded = IsTrue (is_crowded_line (w.line c))
+Applies m w c request Hidden = admits w.farm request ≡ false
 Applies m w c request Full = IsTrue (is_full w)
 Applies m w c request Free = Unit {0}
 
 -- a later point may answer it instead
 abbrev pub MayPass : Mood → RunState → ℕ → Req → Point → Type 0
 MayPass m w c request Crowded = Applies m w c request Crowded → ⊥
+MayPass m w c request Hidden = Applies m w c request Hidden → ⊥
 MayPass m w c request Full = Applies m w c request Full → ⊥
 MayPass m w c request Free = ⊥
 
@@ -97,9 +103,10 @@ MayPass m w c request Free = ⊥
 abbrev pub key_of : RunState → Req → Option PageKey
 key_of w request = None
 
--- what a point answers: Service Unavailable (RFC 9110, section 15.6.4), or a flight with the next number
+-- what a point answers: Service Unavailable (RFC 9110, section 15.6.4), Not Found (section 15.5.5), or a flight with the next number
 abbrev pub Answers : RunState → ℕ → Req → Point → Note → Type 0
 Answers w c request Crowded note = note ≡ Local c 503
+Answers w c request Hidden note = note ≡ Local c 404
 Answers w c request Full note = note ≡ Local c 503
 Answers w c request Free note = note ≡ asked (asked_in w.log.entries + 1) c (key_of w request)
 
@@ -186,12 +193,21 @@ over_with w number answer entry (Some flying) =
 abbrev pub answer_in : Option Flying → Answer
 answer_in flying = unwrap_or (option_and_then (λ f. f.rendered) flying) fixed_answer
 
+-- what the publisher gives for a request of a client, asked by the farm, on the content of this moment
+abbrev pub published : RunState → Req → Published
+published w request = w.publishing w.content (asked_of w.farm request)
+
+-- the content after a flight is rendered: what the publisher leaves, but the fixed answer stands where it did nothing
+abbrev pub content_rendered : RunState → Answer → Option Flying → Content
+content_rendered w answer None = w.content
+content_rendered w answer (Some flying) = if answer.status == 507 then w.content else (published w flying.request).content
+
 -- the state after a note
 abbrev pub after : RunState → Note → RunState
 after w (answered answer) = w
 after w (asked number c key) = asked_by w number c key (request_of (due w c))
 after w (Local c status) = on_line w c (λ line. treated (local_slot (request_of (due w c)) status line) line)
-after w (Rendered number answer) = record w { air = map (with_rendered_at number answer) w.air }
+after w (Rendered number answer) = record w { content = content_rendered w answer (flight_at number w.air); air = map (with_rendered_at number answer) w.air }
 after w (Passed number) = over_with w number (answer_in (flight_at number w.air)) (Landed number (answer_in (flight_at number w.air)) passed_fate) (flight_at number w.air)
 after w (Lost number) = over_with w number (error_answer 502) (lost_entry number) (flight_at number w.air)
 after w (Sent c bytes) = on_line w c (with_sent bytes)

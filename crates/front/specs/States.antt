@@ -2,6 +2,7 @@
 use Rattle.std.specs.Prelude.{◌+◌, ℕ, List, [], ◌∷◌, Option, None}
 use Rattle.sp_base.specs.declared.answer.Answer.{Answer}
 use Rattle.resource_tree.specs.Content.{Content}
+use Rattle.any_config.specs.declared.farm.Farm.{Farm}
 use Rattle.cover_rules.specs.declared.page.PageKey.{PageKey}
 use Rattle.connections.specs.Connections.{Connection}
 use Rattle.front.specs.declared.flying.Flying.{Flying}
@@ -21,10 +22,11 @@ pub data Entry : Type 0 where
 pub record Log : Type 0 where
   pub entries : List Entry
 
--- The state of a run: the publisher and its content, the open connections and how many they are, the flights in the air by number,
--- and the log.
+-- The state of a run: the publisher, the farm before it, and its content; the open connections and how many they are; the flights in
+-- the air by number; and the log.
 pub record RunState : Type 0 where
   pub publishing : Publishing
+  pub farm : Farm
   pub content : Content
   pub line : ℕ → Option Connection
   pub lines : ℕ
@@ -39,5 +41,5 @@ asked_in (Landed number answer fate ∷ entries) = asked_in entries
 asked_in (Lost number ∷ entries) = asked_in entries
 
 -- the state in which a run begins: no connection is open, and nothing was asked
-abbrev pub start_of : Publishing → Content → RunState
-start_of publishing content = record { publishing = publishing; content = content; line = λ c. None; lines = 0; air = []; log = record { entries = [] } }
+abbrev pub start_of : Publishing → Farm → Content → RunState
+start_of publishing farm content = record { publishing = publishing; farm = farm; content = content; line = λ c. None; lines = 0; air = []; log = record { entries = [] } }

@@ -1,39 +1,20 @@
-//! What the publisher is asked, and the answer where no memory was there for its own.
+//! What the publisher is asked for a target, and the answer where no memory was there for its own.
 ghost use Rattle.std.specs.Prelude.{◌≡◌, IfOk};
 ghost use Rattle.front.specs.Publishers as spec;
 
+use any_config::Farm;
 use http_front::Target;
-use sp_base::{Answer, Ask, ByteBuf, Mark, Mem, Req, TextBuf};
+use sp_base::{Answer, Ask, ByteBuf, Mark, Mem, TextBuf};
 use std::alloc::Global;
 
-// The host and the port that the publisher is asked at.
-const ASKED_HOST: &str = "localhost";
-
-const ASKED_PORT: u16 = 80;
-
-/// What the publisher is asked for a client's request.
-pub(crate) fn ask_of(alloc: Global, request: &Req) -> Mem<Ask>
-    ensures { IfOk result (λ ask. ask ≡ spec.ask_of request.now) }
-{
-    Ok(Ask {
-        method: request.method.duplicate(alloc)?,
-        host: TextBuf::of(alloc, ASKED_HOST)?,
-        port: ASKED_PORT,
-        path: request.path.duplicate(alloc)?,
-        slash: request.slash,
-        kind: TextBuf::of(alloc, "")?,
-        body: ByteBuf::of(alloc, request.body.bytes())?,
-    })
-}
-
 /// What the publisher is asked for a target alone.
-pub(crate) fn get_of(alloc: Global, target: Target) -> Mem<Ask>
-    ensures { IfOk result (λ ask. ask ≡ spec.get_of target) }
+pub(crate) fn get_of(alloc: Global, farm: &Farm, target: Target) -> Mem<Ask>
+    ensures { IfOk result (λ ask. ask ≡ spec.get_of farm.now target) }
 {
     Ok(Ask {
         method: TextBuf::of(alloc, "GET")?,
-        host: TextBuf::of(alloc, ASKED_HOST)?,
-        port: ASKED_PORT,
+        host: farm.ask_host.duplicate(alloc)?,
+        port: farm.ask_port,
         path: target.path,
         slash: target.slash,
         kind: TextBuf::of(alloc, "")?,

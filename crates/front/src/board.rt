@@ -16,6 +16,7 @@ use crate::serve::{AllServed, serve_all};
 use crate::sky::Sky;
 use crate::step::Pick;
 use crate::told::Told;
+use any_config::Farm;
 use error_answers::error_answer;
 use sp_base::{Answer, ByteBuf, Mem, NoMemory};
 use std::alloc::Global;
@@ -43,13 +44,13 @@ impl Board {
     }
 
     // Gives a connection all that it is owed.
-    fn settle(&mut self, alloc: Global, c: u32) -> Mem<Told>
-        ensures { IfOk result (λ told. (w : RunState) → BoardTied self.old w → SettlesDry told.dry w c told.notes.items × BoardTied self.new (afters w told.notes.items)) }
+    fn settle(&mut self, alloc: Global, farm: &Farm, c: u32) -> Mem<Told>
+        ensures { IfOk result (λ told. (w : RunState) → BoardTied farm.now self.old w → SettlesDry told.dry w c told.notes.items × BoardTied farm.now self.new (afters w told.notes.items)) }
     {
         let Some(line) = self.lines.get_mut(&c) else {
             return Ok(Told::nothing(alloc));
         };
-        let AllServed { mut told, over } = serve_all(alloc, c, line, &mut self.sky)?;
+        let AllServed { mut told, over } = serve_all(alloc, farm, c, line, &mut self.sky)?;
         if over {
             self.lines.remove(&c);
             told.push(Note::Shut(c), false)?;
@@ -59,7 +60,7 @@ impl Board {
 
     /// A connection is there, where there is room for it.
     pub(crate) fn open(&mut self, alloc: Global, c: u32) -> Mem<Told>
-        ensures { IfOk result (λ told. (peer : List ℕ) → BoardTells self.old self.new (Opened c peer) told) }
+        ensures { IfOk result (λ told. (farm : Farm) (peer : List ℕ) → BoardTells farm self.old self.new (Opened c peer) told) }
     {
         if self.lines.contains_key(&c) {
             return Told::one(alloc, Note::Idle, false);
@@ -87,19 +88,19 @@ impl Board {
     }
 
     /// Bytes come on a connection.
-    pub(crate) fn piece(&mut self, alloc: Global, c: u32, bytes: &ByteBuf) -> Mem<Told>
-        ensures { IfOk result (λ told. BoardTells self.old self.new (Piece c bytes.now) told) }
+    pub(crate) fn piece(&mut self, alloc: Global, farm: &Farm, c: u32, bytes: &ByteBuf) -> Mem<Told>
+        ensures { IfOk result (λ told. BoardTells farm.now self.old self.new (Piece c bytes.now) told) }
     {
         if !self.read(alloc, c, bytes.bytes())? {
             return Told::one(alloc, Note::Idle, false);
         }
-        let told = self.settle(alloc, c)?;
+        let told = self.settle(alloc, farm, c)?;
         Ok(told)
     }
 
     /// A connection is gone.
     pub(crate) fn close(&mut self, alloc: Global, c: u32) -> Mem<Told>
-        ensures { IfOk result (λ told. BoardTells self.old self.new (Gone c) told) }
+        ensures { IfOk result (λ told. (farm : Farm) → BoardTells farm self.old self.new (Gone c) told) }
     {
         if !self.lines.contains_key(&c) {
             return Told::one(alloc, Note::Idle, false);
@@ -123,22 +124,23 @@ impl Board {
     fn finish(
         &mut self,
         alloc: Global,
+        farm: &Farm,
         first: Note,
         c: u32,
         number: u64,
         answer: Answer,
     ) -> Mem<Told>
-        ensures { IfOk result (λ told. (w v : RunState) → Landing self.old w v c number answer → FirstThen first v c told self.new) }
+        ensures { IfOk result (λ told. (w v : RunState) → Landing farm.now self.old w v c number answer → FirstThen first farm.now v c told self.new) }
     {
         self.fill(c, number, answer);
-        let told = self.settle(alloc, c)?;
+        let told = self.settle(alloc, farm, c)?;
         let told = told.after(alloc, first)?;
         Ok(told)
     }
 
     /// A rendered flight lands.
-    pub(crate) fn deliver(&mut self, alloc: Global, pick: &Pick) -> Mem<Told>
-        ensures { IfOk result (λ told. BoardTells self.old self.new (Deliver pick.now) told) }
+    pub(crate) fn deliver(&mut self, alloc: Global, farm: &Farm, pick: &Pick) -> Mem<Told>
+        ensures { IfOk result (λ told. BoardTells farm.now self.old self.new (Deliver pick.now) told) }
     {
         let Some(at) = self.sky.rendered(pick) else {
             return Told::one(alloc, Note::Idle, false);
@@ -152,13 +154,13 @@ impl Board {
         let Some(answer) = rendered else {
             unreachable!();
         };
-        let told = self.finish(alloc, Note::Passed(number), line, number, answer)?;
+        let told = self.finish(alloc, farm, Note::Passed(number), line, number, answer)?;
         Ok(told)
     }
 
     /// A flight is lost.
-    pub(crate) fn lose(&mut self, alloc: Global, pick: &Pick) -> Mem<Told>
-        ensures { IfOk result (λ told. BoardTells self.old self.new (Lose pick.now) told) }
+    pub(crate) fn lose(&mut self, alloc: Global, farm: &Farm, pick: &Pick) -> Mem<Told>
+        ensures { IfOk result (λ told. BoardTells farm.now self.old self.new (Lose pick.now) told) }
     {
         let Some(at) = self.sky.any(pick) else {
             return Told::one(alloc, Note::Idle, false);
@@ -170,7 +172,7 @@ impl Board {
             request: _,
             rendered: _,
         } = self.sky.land(at);
-        let told = self.finish(alloc, Note::Lost(number), line, number, answer)?;
+        let told = self.finish(alloc, farm, Note::Lost(number), line, number, answer)?;
         Ok(told)
     }
 }

@@ -1,28 +1,31 @@
 //! The front: one call for each step.
-ghost use Rattle.std.specs.Prelude.{◌≡◌, ◌<◌, IfOk, Some, length, slice_get};
+ghost use Rattle.std.specs.Prelude.{◌≡◌, ◌≢◌, ◌<◌, IfOk, OnOk, OnErr, Some, length, slice_get};
 ghost use Rattle.front.specs.declared.step.Step.TheVariants.{Direct, Render};
 ghost use Rattle.front.specs.Events.{Extends};
 ghost use Rattle.front.specs.Fronts.{IsGiven, Stands, Tells};
-ghost use Rattle.front.specs.Publishers as publishers;
+ghost use Rattle.dispatch_rules.specs.Asking.{asked_of};
 ghost use Rattle.front.specs.Publishers.{direct_answer};
 ghost use Rattle.front.specs.States.{start_of};
 
-use crate::asking::{ask_of, copied, fixed_answer, get_of};
+use crate::asking::{copied, fixed_answer, get_of};
 use crate::board::Board;
 use crate::flying::Flying;
 use crate::note::{Note, NoteList};
 use crate::renderer::Renderer;
 use crate::step::{Pick, Step};
 use crate::told::Told;
+use any_config::Farm;
+use dispatch_rules::ask_of;
 use error_answers::error_answer;
 use http_front::read_target;
 use sp_base::{Answer, Mem};
 use std::alloc::Global;
 
-/// Connections before a publisher, and the flights between them.
+/// Connections before a publisher, the farm that admits their requests, and the flights between them.
 #[derive(Drop)]
 pub struct Front<R: Renderer + Drop> {
     renderer: R,
+    farm: Farm,
     board: Board,
 }
 
@@ -35,18 +38,19 @@ pub(crate) struct OrFixed {
 
 impl<R: Renderer + Drop> Front<R> {
     /// A front without a connection.
-    pub fn new(alloc: Global, renderer: R) -> Self
-        ensures { Stands R.publishing (R.content result.renderer) result.board (start_of R.publishing (R.content renderer)) }
+    pub fn new(alloc: Global, renderer: R, farm: Farm) -> Self
+        ensures { Stands R.publishing (R.content result.renderer) result.farm result.board (start_of R.publishing farm (R.content renderer)) }
     {
         Front {
             renderer,
+            farm,
             board: Board::new(alloc),
         }
     }
 
     /// One step, with what happens in it: its event. An `Err` ends the run.
     pub fn step(&mut self, alloc: Global, step: &Step) -> Mem<NoteList>
-        ensures { IfOk result (λ notes. Extends (Stands R.publishing (R.content self.old.renderer) self.old.board) (Stands R.publishing (R.content self.new.renderer) self.new.board) step.now notes) }
+        ensures { IfOk result (λ notes. Extends (Stands R.publishing (R.content self.old.renderer) self.old.farm self.old.board) (Stands R.publishing (R.content self.new.renderer) self.new.farm self.new.board) step.now notes) }
     {
         let told = self.told(alloc, step)?;
         let notes = told.all()?;
@@ -54,21 +58,21 @@ impl<R: Renderer + Drop> Front<R> {
     }
 
     fn told(&mut self, alloc: Global, step: &Step) -> Mem<Told>
-        ensures { IfOk result (λ told. Tells (Stands R.publishing (R.content self.old.renderer) self.old.board) (Stands R.publishing (R.content self.new.renderer) self.new.board) step.now told) }
+        ensures { IfOk result (λ told. Tells (Stands R.publishing (R.content self.old.renderer) self.old.farm self.old.board) (Stands R.publishing (R.content self.new.renderer) self.new.farm self.new.board) step.now told) }
     {
         match step {
             Step::Opened(c, _) => self.board.open(alloc, *c),
-            Step::Piece(c, bytes) => self.board.piece(alloc, *c, bytes),
+            Step::Piece(c, bytes) => self.board.piece(alloc, &self.farm, *c, bytes),
             Step::Gone(c) => self.board.close(alloc, *c),
             Step::Direct(target) => self.direct(alloc, target.text().as_bytes()),
             Step::Render(pick) => self.render(alloc, pick),
-            Step::Deliver(pick) => self.board.deliver(alloc, pick),
-            Step::Lose(pick) => self.board.lose(alloc, pick),
+            Step::Deliver(pick) => self.board.deliver(alloc, &self.farm, pick),
+            Step::Lose(pick) => self.board.lose(alloc, &self.farm, pick),
         }
     }
 
     fn direct(&mut self, alloc: Global, target: &[u8]) -> Mem<Told>
-        ensures { IfOk result (λ told. Tells (Stands R.publishing (R.content self.old.renderer) self.old.board) (Stands R.publishing (R.content self.new.renderer) self.new.board) (Direct target.now) told) }
+        ensures { IfOk result (λ told. Tells (Stands R.publishing (R.content self.old.renderer) self.old.farm self.old.board) (Stands R.publishing (R.content self.new.renderer) self.new.farm self.new.board) (Direct target.now) told) }
     {
         let answer = self.direct_answer(alloc, target);
         let OrFixed { answer, dry } = or_fixed(alloc, answer)?;
@@ -76,7 +80,7 @@ impl<R: Renderer + Drop> Front<R> {
     }
 
     fn render(&mut self, alloc: Global, pick: &Pick) -> Mem<Told>
-        ensures { IfOk result (λ told. Tells (Stands R.publishing (R.content self.old.renderer) self.old.board) (Stands R.publishing (R.content self.new.renderer) self.new.board) (Render pick.now) told) }
+        ensures { IfOk result (λ told. Tells (Stands R.publishing (R.content self.old.renderer) self.old.farm self.old.board) (Stands R.publishing (R.content self.new.renderer) self.new.farm self.new.board) (Render pick.now) told) }
     {
         let Some(at) = self.board.sky.unrendered(pick) else {
             return Told::one(alloc, Note::Idle, false);
@@ -90,12 +94,15 @@ impl<R: Renderer + Drop> Front<R> {
 
     // The publisher's answer to a target.
     fn direct_answer(&mut self, alloc: Global, target: &[u8]) -> Mem<Answer>
-        ensures ok { IfOk result (λ a. a ≡ direct_answer R.publishing (R.content self.old.renderer) target.now) }
+        ensures ok { IfOk result (λ a. a ≡ direct_answer R.publishing self.old.farm (R.content self.old.renderer) target.now) }
         ensures content { R.content self.new.renderer ≡ R.content self.old.renderer }
+        ensures farm { self.new.farm ≡ self.old.farm }
         ensures board { self.new.board ≡ self.old.board }
     {
         match read_target(alloc, target)? {
-            Some(target) => self.renderer.render(alloc, &get_of(alloc, target)?),
+            Some(target) => self
+                .renderer
+                .render(alloc, &get_of(alloc, &self.farm, target)?),
             None => error_answer(alloc, 400),
         }
     }
@@ -103,11 +110,14 @@ impl<R: Renderer + Drop> Front<R> {
     // The publisher's answer to the request of the flight at a place.
     fn rendered(&mut self, alloc: Global, at: usize) -> Mem<Answer>
         requires { at < length self.old.board.sky.flights.items }
-        ensures ok { IfOk result (λ a. (flying : Flying) → slice_get self.old.board.sky.flights.items at ≡ Some flying → a ≡ R.publishing (R.content self.old.renderer) (publishers.ask_of flying.request)) }
-        ensures content { R.content self.new.renderer ≡ R.content self.old.renderer }
+        ensures ok { IfOk result (λ a. (flying : Flying) → slice_get self.old.board.sky.flights.items at ≡ Some flying → a ≡ (R.publishing (R.content self.old.renderer) (asked_of self.old.farm flying.request)).answer) }
+        ensures after { OnOk result ((flying : Flying) → slice_get self.old.board.sky.flights.items at ≡ Some flying → R.content self.new.renderer ≡ (R.publishing (R.content self.old.renderer) (asked_of self.old.farm flying.request)).content) }
+        ensures status { IfOk result (λ a. a.status ≢ 507) }
+        ensures unchanged { OnErr result (R.content self.new.renderer ≡ R.content self.old.renderer) }
+        ensures farm { self.new.farm ≡ self.old.farm }
         ensures board { self.new.board ≡ self.old.board }
     {
-        let ask = ask_of(alloc, &self.board.sky.flights[at].request)?;
+        let ask = ask_of(alloc, &self.farm, &self.board.sky.flights[at].request)?;
         self.renderer.render(alloc, &ask)
     }
 }

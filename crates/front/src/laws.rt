@@ -1,14 +1,17 @@
 //! Laws of the definitions: functions that do nothing.
-ghost use Rattle.std.specs.Prelude.{◌≡◌, ◌++◌, ◌∷◌, [], ℕ, List, Some};
+ghost use Rattle.std.specs.Prelude.{◌≡◌, ◌++◌, ◌∷◌, [], ℕ, List, Some, false};
 ghost use Rattle.resource_tree.specs.Content.{Content};
+ghost use Rattle.any_config.specs.declared.farm.Farm as models;
 ghost use Rattle.connections.specs.Connections.{Connection};
 ghost use Rattle.connections.specs.Histories.{AnswersRun, AreOfTurns};
 ghost use Rattle.front.specs.Events.{Event, Happens, Run, after_event, after_run};
-ghost use Rattle.front.specs.Histories.{sent_since_opened};
+ghost use Rattle.front.specs.Histories.{AnswersWhatCame, HasReadAll, came_since_opened, sent_since_opened};
 ghost use Rattle.front.specs.Publishers.{Publishing};
+ghost use Rattle.front.specs.Renders.{ArePublished, IsNeverFixed, renders_of};
 ghost use Rattle.front.specs.States.{RunState, start_of};
 
 use connections::{answers_in_order, slots_of_turns};
+use http_front::the_turns_of_a_beginning;
 
 /// A run goes on with what happens next, in the state that it left.
 pub fn events_extend()
@@ -17,14 +20,36 @@ pub fn events_extend()
 {}
 
 /// Whatever happens: what was sent on an open connection since it was opened answers its slots in their order, each once, up to the
-/// first that waits for a flight, and nothing after one that closes it; and its slots are those of the turns of its stream, in their
-/// order (RFC 9112, section 9.3).
+/// first that waits for a flight, and nothing after one that closes it; its slots are those of the turns of its stream, in their
+/// order; and unless it is closing, its stream is all that came, and each turn of it has its slot (RFC 9112, section 9.3). On a
+/// connection that is shut or gone, too, what was sent answers what came, or a prefix of it.
 pub fn connections_are_answered_in_order()
-    ensures answers { (publishing : Publishing) (content : Content) (events : List Event) (c : ℕ) (connection : Connection) → Run (start_of publishing content) events
-        → (after_run (start_of publishing content) events).line c ≡ Some connection → AnswersRun connection.slots (sent_since_opened c events) }
-    ensures slots { (publishing : Publishing) (content : Content) (events : List Event) (c : ℕ) (connection : Connection) → Run (start_of publishing content) events
-        → (after_run (start_of publishing content) events).line c ≡ Some connection → AreOfTurns connection.turns connection.slots }
+    ensures answers { (publishing : Publishing) (farm : models.Farm) (content : Content) (events : List Event) (c : ℕ) (connection : Connection) → Run (start_of publishing farm content) events
+        → (after_run (start_of publishing farm content) events).line c ≡ Some connection → AnswersRun connection.slots (sent_since_opened c events) }
+    ensures slots { (publishing : Publishing) (farm : models.Farm) (content : Content) (events : List Event) (c : ℕ) (connection : Connection) → Run (start_of publishing farm content) events
+        → (after_run (start_of publishing farm content) events).line c ≡ Some connection → AreOfTurns connection.turns connection.slots }
+    ensures reads { (publishing : Publishing) (farm : models.Farm) (content : Content) (events : List Event) (c : ℕ) (connection : Connection) → Run (start_of publishing farm content) events
+        → (after_run (start_of publishing farm content) events).line c ≡ Some connection → connection.closing ≡ false → HasReadAll (came_since_opened c events) connection }
+    ensures streams { (publishing : Publishing) (farm : models.Farm) (content : Content) (events : List Event) (c : ℕ) → Run (start_of publishing farm content) events
+        → AnswersWhatCame (came_since_opened c events) (sent_since_opened c events) }
 {
     answers_in_order();
     slots_of_turns();
 }
+
+/// How a stream was cut into pieces changes no request: where the same bytes came on two open connections that aren't closing, in
+/// one run or in two, the same turns are treated on both.
+pub fn a_cutting_changes_no_turn()
+    ensures { (p q : Publishing) (f g : models.Farm) (one other : Content) (a b : List Event) (c d : ℕ) (x y : Connection) → Run (start_of p f one) a → Run (start_of q g other) b
+        → (after_run (start_of p f one) a).line c ≡ Some x → (after_run (start_of q g other) b).line d ≡ Some y → x.closing ≡ false → y.closing ≡ false
+        → came_since_opened c a ≡ came_since_opened d b → x.turns ≡ y.turns }
+{
+    connections_are_answered_in_order();
+    the_turns_of_a_beginning();
+}
+/// Whatever happens: each flight that was rendered has the publisher's answer, on the content that the renders before it left, or where
+/// memory was wanting the fixed one, which leaves the content; and the content of the moment is what they all left.
+pub fn renders_are_published()
+    ensures { (publishing : Publishing) (farm : models.Farm) (content : Content) (events : List Event) → IsNeverFixed publishing → Run (start_of publishing farm content) events
+        → ArePublished publishing farm content (renders_of (start_of publishing farm content) events) (after_run (start_of publishing farm content) events).content }
+{}

@@ -1,4 +1,5 @@
-//! The front: connections before a publisher, and the flights of their requests between them. One step is one event of a run.
+//! The front: connections before a publisher, the farm that admits their requests, and the flights of these between them. One step is
+//! one event of a run.
 #![tactic(auto)]
 
 mod asking;
@@ -13,10 +14,14 @@ mod serve;
 mod sky;
 mod step;
 mod told;
+mod treat;
 
 pub use flying::Flying;
 pub use front::Front;
-pub use laws::{connections_are_answered_in_order, events_extend};
+pub use laws::{
+    a_cutting_changes_no_turn, connections_are_answered_in_order, events_extend,
+    renders_are_published,
+};
 pub use note::{Note, NoteList};
 pub use renderer::Renderer;
 pub use step::{Pick, Step};

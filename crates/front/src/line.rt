@@ -64,12 +64,13 @@ impl Line {
         Ok(())
     }
 
-    // A sender that waits next for 100 Continue gets it.
+    // A sender that waits next for 100 Continue gets it. Once the connection closes, the turns that came after are let go.
     fn advance(&mut self) -> Mem<()>
         ensures holds { OnOk result ((c : Connection) → Keeps self.old c → Holds self.new (advanced c)) }
         ensures work { OnOk result (work_of self.new ≤ work_of self.old) }
     {
         if self.outbox.is_closing() {
+            self.turns.clear();
             return Ok(());
         }
         if !begins_with_continue(&self.turns) {

@@ -1,21 +1,24 @@
 //! What a front asks of its publisher.
-ghost use Rattle.std.specs.Prelude.{◌≡◌, IfOk};
+ghost use Rattle.std.specs.Prelude.{◌≡◌, ◌≢◌, IfOk, OnOk, OnErr, codes};
 ghost use Rattle.resource_tree.specs.Content.{Content};
 ghost use Rattle.front.specs.Publishers.{Publishing};
 
 use sp_base::{Answer, Ask, Mem};
 use std::alloc::Global;
 
-/// What answers requests on a content.
+/// What answers requests on a content, and may change it.
 pub trait Renderer {
-    /// What a request is answered on a content.
+    /// What is given for a request on a content.
     ghost publishing: { Publishing };
 
     /// The content of this moment.
     ghost content: { Self → Content };
 
-    /// What a request is answered now.
+    /// What a request is answered now. A GET changes nothing (RFC 9110, section 9.2.1), and no answer has the status of the fixed one.
     fn render(&mut self, alloc: Global, ask: &Ask) -> Mem<Answer>
-        ensures ok { IfOk result (λ a. a ≡ publishing (content self.old) ask.now) }
-        ensures content { content self.new ≡ content self.old };
+        ensures ok { IfOk result (λ a. a ≡ (publishing (content self.old) ask.now).answer) }
+        ensures after { OnOk result (content self.new ≡ (publishing (content self.old) ask.now).content) }
+        ensures status { IfOk result (λ a. a.status ≢ 507) }
+        ensures safe { ask.now.method ≡ codes "GET" → content self.new ≡ content self.old }
+        ensures unchanged { OnErr result (content self.new ≡ content self.old) };
 }

@@ -1,7 +1,10 @@
 use Rattle.std.proofs.Common.{refl, sym, ◌∙◌}
 use Rattle.connections.specs.Slots.{interim_slot}
-use Rattle.front.proofs.LineLemmas.{advance-continue, popped-continue}
+use Rattle.front.proofs.LineLemmas.{advance-closing, advance-continue, popped-continue}
 use Rattle.front.proofs.line.Line.advance.Goals as goal
+
+pub returns-then-is_closing-clause-holds : goal.returns-then-is_closing-clause-holds
+returns-then-is_closing-clause-holds c = λ m keeps. advance-closing c.args.self.now _ m (sym (c.is_closing.ensures m keeps.tied) ∙ c.if-is_closing.true) refl keeps
 
 pub returns-clause-holds : goal.returns-clause-holds
 returns-clause-holds c = λ m keeps.

@@ -1,0 +1,139 @@
+-- What the laws of whole runs say of streams, from the past of a connection.
+use Rattle.std.proofs.Common.{◌≡◌, ◌≢◌, ℕ, ◌+◌, ◌++◌, Bool, true, false, List, [], ◌∷◌, Option, Some, None, refl, ap, sym, subst, ◌∙◌, arith, append-nil, append_assoc, length-append}
+use Rattle.std.specs.Prelude.{if◌then◌else◌, length, slice_get}
+use Rattle.resource_tree.specs.Content.{Content}
+use Rattle.any_config.specs.declared.farm.Farm.{Farm}
+use Rattle.http_front.specs.Turns.{Breaks, End, Spells, Waits}
+use Rattle.http_front.specs.declared.turn.Turn.{Turn}
+use Rattle.connections.specs.Slots.{Slot, is_answered}
+use Rattle.connections.specs.Connections.{Close, Connection, Due, Nothing, Refuse, Send, Treat, due_at_end, due_at_slot, due_at_turn, due_unsent, fresh, next_turn}
+use Rattle.connections.specs.Connections as connection
+use Rattle.connections.specs.Histories.{AnswersRun, AreOfTurns, Follows, Move, after_all, sendings}
+use Rattle.connections.specs.declared.sending.Sending.{Sending}
+use Rattle.front.specs.Events.{Event, Run, after_run}
+use Rattle.front.specs.Histories.{AnswersStream, AnswersWhatCame, HasReadAll, came_since_opened, sent_since_opened}
+use Rattle.front.specs.Publishers.{Publishing}
+use Rattle.front.specs.States.{RunState, start_of}
+use Rattle.front.proofs.HistoryLemmas.{Kept, run-kept, start-kept}
+use Rattle.front.proofs.PastLemmas.{Last, Past}
+
+-- the laws of one connection
+abbrev pub InOrder : Type 0
+InOrder = (peer : List ℕ) (moves : List Move) → Follows (fresh peer) moves → ((slot : Slot) → connection.due (after_all (fresh peer) moves) ≢ Send slot) → AnswersRun (after_all (fresh peer) moves).slots (sendings moves)
+
+abbrev pub OfTurns : Type 0
+OfTurns = (peer : List ℕ) (moves : List Move) → Follows (fresh peer) moves → AreOfTurns (after_all (fresh peer) moves).turns (after_all (fresh peer) moves).slots
+
+answers-past : InOrder → (d : Connection) (came : List ℕ) (sent : List Sending) → Past d came sent → ((slot : Slot) → connection.due d ≡ Send slot → ⊥) → AnswersRun d.slots sent
+answers-past law d came sent past still =
+    let answers = law past.peer past.moves past.follows (λ slot e. still slot (ap connection.due (sym past.is) ∙ e)) in
+    rw (past.is, past.sent_is) at answers
+
+turns-past : OfTurns → (d : Connection) (came : List ℕ) (sent : List Sending) → Past d came sent → AreOfTurns d.turns d.slots
+turns-past law d came sent past = subst (λ (x : Connection). AreOfTurns x.turns x.slots) past.is (law past.peer past.moves past.follows)
+
+stream-past : InOrder → OfTurns → (d : Connection) (came : List ℕ) (sent : List Sending) → Past d came sent → ((slot : Slot) → connection.due d ≡ Send slot → ⊥) → AnswersStream d.stream sent
+stream-past order turns d came sent past still = record {
+  turns = d.turns;
+  ends = d.ends;
+  slots = d.slots;
+  spells = past.spells;
+  of_turns = turns-past turns d came sent past;
+  answers = answers-past order d came sent past still;
+}
+
+idle-still : (d : Connection) → connection.due d ≡ Nothing → (slot : Slot) → connection.due d ≡ Send slot → ⊥
+idle-still d idle slot e = let no : ⊥ = cc in no
+
+-- ---- an open connection that reads on
+idle-end : (ends : End) → due_at_end ends ≡ Nothing → ends ≡ Waits
+idle-end Waits e = refl
+idle-end (Breaks fault) e = absurd (let no : ⊥ = cc in no)
+
+idle-turn : (turn : Option Turn) (ends : End) → due_at_turn turn ends ≡ Nothing → (turn ≡ None) × (ends ≡ Waits)
+idle-turn None ends e = (refl, idle-end ends e)
+idle-turn (Some turn) ends e = absurd (let no : ⊥ = cc in no)
+
+idle-unsent : (d : Connection) → d.closing ≡ false → due_unsent d ≡ Nothing → (next_turn d ≡ None) × (d.ends ≡ Waits)
+idle-unsent d reads idle = by_over d.over idle
+  where
+    by_over : (over : Bool) → (if over then Close else (if d.closing then Nothing else due_at_turn (next_turn d) d.ends)) ≡ Nothing → (next_turn d ≡ None) × (d.ends ≡ Waits)
+    by_over true e = absurd (let no : ⊥ = cc in no)
+    by_over false e = idle-turn (next_turn d) d.ends (sym (ap (λ b. if b then Nothing else due_at_turn (next_turn d) d.ends) reads) ∙ e)
+
+idle-slot : (slot : Option Slot) (d : Connection) → d.closing ≡ false → due_at_slot slot d ≡ Nothing → (next_turn d ≡ None) × (d.ends ≡ Waits)
+idle-slot None d reads idle = idle-unsent d reads idle
+idle-slot (Some slot) d reads idle = by_answer (is_answered slot.response) idle
+  where
+    by_answer : (answered : Bool) → (if answered then Send slot else due_unsent d) ≡ Nothing → (next_turn d ≡ None) × (d.ends ≡ Waits)
+    by_answer true e = absurd (let no : ⊥ = cc in no)
+    by_answer false e = idle-unsent d reads e
+
+idle-due : (d : Connection) → d.closing ≡ false → connection.due d ≡ Nothing → (next_turn d ≡ None) × (d.ends ≡ Waits)
+idle-due d reads idle = by_over d.over idle
+  where
+    by_over : (over : Bool) → (if over then Close else due_at_slot (slice_get d.slots d.sent) d) ≡ Nothing → (next_turn d ≡ None) × (d.ends ≡ Waits)
+    by_over true e = absurd (let no : ⊥ = cc in no)
+    by_over false e = idle-slot (slice_get d.slots d.sent) d reads e
+
+read-past : (d : Connection) (came : List ℕ) (sent : List Sending) → Past d came sent → d.closing ≡ false → connection.due d ≡ Nothing → HasReadAll came d
+read-past d came sent past reads idle =
+    let none = idle-due d reads idle in
+    let all : came ≡ d.stream = past.came_is ∙ ap (λ xs. d.stream ++ xs) (past.read reads) ∙ append-nil d.stream in
+    record { spells = rw all (subst (λ end. Spells d.stream d.turns end) none.1 past.spells); treated = none.0 }
+
+-- ---- the laws
+end-kept : (publishing : Publishing) (farm : Farm) (content : Content) (events : List Event) (c : ℕ) → Run (start_of publishing farm content) events
+    → Kept (after_run (start_of publishing farm content) events) c (came_since_opened c events) (sent_since_opened c events)
+end-kept publishing farm content events c run = run-kept (start_of publishing farm content) events c [] [] (start-kept publishing farm content c) run
+
+pub answered-in-order : InOrder → (publishing : Publishing) (farm : Farm) (content : Content) (events : List Event) (c : ℕ) (d : Connection) → Run (start_of publishing farm content) events
+    → (after_run (start_of publishing farm content) events).line c ≡ Some d → AnswersRun d.slots (sent_since_opened c events)
+answered-in-order law publishing farm content events c d run some =
+    let kept = end-kept publishing farm content events c run in
+    answers-past law d _ _ (kept.held.here d some) (idle-still d (kept.still d some))
+
+pub slots-of-turns : OfTurns → (publishing : Publishing) (farm : Farm) (content : Content) (events : List Event) (c : ℕ) (d : Connection) → Run (start_of publishing farm content) events
+    → (after_run (start_of publishing farm content) events).line c ≡ Some d → AreOfTurns d.turns d.slots
+slots-of-turns law publishing farm content events c d run some = turns-past law d _ _ ((end-kept publishing farm content events c run).held.here d some)
+
+pub read-all : (publishing : Publishing) (farm : Farm) (content : Content) (events : List Event) (c : ℕ) (d : Connection) → Run (start_of publishing farm content) events
+    → (after_run (start_of publishing farm content) events).line c ≡ Some d → d.closing ≡ false → HasReadAll (came_since_opened c events) d
+read-all publishing farm content events c d run some reads =
+    let kept = end-kept publishing farm content events c run in
+    read-past d _ _ (kept.held.here d some) reads (kept.still d some)
+
+answers-kept : InOrder → OfTurns → (w : RunState) (c : ℕ) (came : List ℕ) (sent : List Sending) (line : Option Connection) → w.line c ≡ line → Kept w c came sent → AnswersWhatCame came sent
+answers-kept order turns w c came sent (Some d) is kept =
+    let past = kept.held.here d is in
+    record { stream = d.stream; rest = past.unread; came_is = past.came_is; answers = stream-past order turns d came sent past (idle-still d (kept.still d is)) }
+answers-kept order turns w c came sent None is kept =
+    let last = kept.held.over is in
+    record {
+      stream = last.last.stream;
+      rest = last.past.unread ++ last.later;
+      came_is = last.came_is ∙ ap (λ xs. xs ++ last.later) last.past.came_is ∙ append_assoc last.last.stream last.past.unread last.later;
+      answers = stream-past order turns last.last last.came_then sent last.past last.still;
+    }
+
+pub answered-streams : InOrder → OfTurns → (publishing : Publishing) (farm : Farm) (content : Content) (events : List Event) (c : ℕ) → Run (start_of publishing farm content) events
+    → AnswersWhatCame (came_since_opened c events) (sent_since_opened c events)
+answered-streams order turns publishing farm content events c run =
+    answers-kept order turns (after_run (start_of publishing farm content) events) c _ _ ((after_run (start_of publishing farm content) events).line c) refl (end-kept publishing farm content events c run)
+
+-- ---- cuttings
+abbrev pub Beginnings : Type 0
+Beginnings = (stream more : List ℕ) (turns all : List Turn) (end last : End) → Spells stream turns end → Spells (stream ++ more) all last → (later : List Turn) × (all ≡ turns ++ later)
+
+no-more : (a b later earlier : List Turn) → b ≡ a ++ later → a ≡ b ++ earlier → a ≡ b
+no-more a b later earlier first second = by_rest later first (omega (arith, ap length first, ap length second, length-append a later, length-append b earlier))
+  where
+    by_rest : (rest : List Turn) → b ≡ a ++ rest → length rest ≡ 0 → a ≡ b
+    by_rest [] e none = sym (e ∙ append-nil a)
+    by_rest (turn ∷ rest) e none = absurd (omega (arith, none))
+
+pub same-turns : Beginnings → (came : List ℕ) (x y : Connection) → HasReadAll came x → HasReadAll came y → x.turns ≡ y.turns
+same-turns law came x y one other =
+    let first = law came [] x.turns y.turns Waits Waits one.spells (subst (λ s. Spells s y.turns Waits) (sym (append-nil came)) other.spells) in
+    let second = law came [] y.turns x.turns Waits Waits other.spells (subst (λ s. Spells s x.turns Waits) (sym (append-nil came)) one.spells) in
+    no-more x.turns y.turns first.0 second.0 first.1 second.1

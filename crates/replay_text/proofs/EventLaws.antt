@@ -135,3 +135,15 @@ event_is_not_end (Post c target body) e = absurd (omega (arith, ap (λ t. get_or
 event_is_not_end (Render flight) e = absurd (omega (arith, ap (λ t. get_or t 0 0) e))
 event_is_not_end (Deliver flight) e = absurd (omega (arith, ap (λ t. get_or t 0 0) e))
 event_is_not_end (Lose flight) e = absurd (omega (arith, ap (λ t. get_or t 0 0) e))
+
+-- nor is the line that begins a farm
+pub event_is_not_farm : (event : EventLine) → line_of event ≢ codes "farm"
+event_is_not_farm (Direct target) e = absurd (omega (arith, ap (λ t. get_or t 0 0) e))
+event_is_not_farm (Open c peer) e = absurd (omega (arith, ap (λ t. get_or t 0 0) e))
+event_is_not_farm (Close c) e = absurd (omega (arith, ap (λ t. get_or t 0 0) e))
+event_is_not_farm (Bytes c bytes) e = absurd (omega (arith, ap (λ t. get_or t 0 0) e))
+event_is_not_farm (Get c target) e = absurd (omega (arith, ap (λ t. get_or t 0 0) e))
+event_is_not_farm (Post c target body) e = absurd (omega (arith, ap (λ t. get_or t 0 0) e))
+event_is_not_farm (Render flight) e = absurd (omega (arith, ap (λ t. get_or t 0 0) e))
+event_is_not_farm (Deliver flight) e = absurd (omega (arith, ap (λ t. get_or t 0 0) e))
+event_is_not_farm (Lose flight) e = absurd (omega (arith, ap (λ t. get_or t 0 0) e))

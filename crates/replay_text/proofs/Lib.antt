@@ -4,10 +4,13 @@ pub mod EventLaws
 pub mod Refusals
 pub mod ActLaws
 pub mod ReadingActs
+pub mod BlockLaws
+pub mod TailLaws
 pub mod BodyLaws
 pub mod Limits
 pub mod Texts
 pub mod OneReading
+pub mod WrittenLaws
 pub mod Escapes
 pub mod PageLaws
 pub mod Telling

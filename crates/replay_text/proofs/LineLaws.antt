@@ -1,7 +1,7 @@
-use Rattle.std.proofs.Common.{◌≡◌, ◌+◌, ◌<◌, ◌++◌, ℕ, List, [], ◌∷◌, length, take, drop, ◌∙◌, ap, subst, refl, arith, eqb, get_or, false, ◌==◌, if◌then◌else◌}
+use Rattle.std.proofs.Common.{◌≡◌, ◌+◌, ◌<◌, ◌++◌, ℕ, List, [], ◌∷◌, length, take, drop, sym, ◌∙◌, ap, subst, refl, append_assoc, arith, eqb, get_or, false, ◌==◌, if◌then◌else◌}
 use Rattle.std.proofs.lemmas.Bool.Decides.{nat_tests}
 use Rattle.std.proofs.lemmas.List.{take-append-drop, take_more}
-use Rattle.replay_text.specs.Lines.{newlines}
+use Rattle.replay_text.specs.Lines.{newlines, text_of_lines}
 
 pub newlines-append : (a b : List ℕ) → newlines (a ++ b) ≡ newlines a + newlines b
 newlines-append [] b = omega arith
@@ -18,6 +18,10 @@ no_newline_first y line none e =
     let P : ℕ → Type 0 = λ v. newlines (v ∷ line) ≡ 0 in
     let h : newlines (10 ∷ line) ≡ 0 = subst P e none in
     absurd (omega (arith, h))
+
+pub text_of_lines-append : (a b : List (List ℕ)) → text_of_lines (a ++ b) ≡ text_of_lines a ++ text_of_lines b
+text_of_lines-append [] b = refl
+text_of_lines-append (l ∷ a) b = ap (λ t. l ++ 10 ∷ t) (text_of_lines-append a b) ∙ sym (append_assoc l (10 ∷ text_of_lines a) (text_of_lines b))
 
 -- a text has one first line
 pub one_first_line : (l m r s : List ℕ) → newlines l ≡ 0 → newlines m ≡ 0 → l ++ 10 ∷ r ≡ m ++ 10 ∷ s → (l ≡ m) × (r ≡ s)

@@ -13,7 +13,7 @@ begins_front A k text h = (drop k text, subst A (sym (take-append-drop k text)) 
 take_within : (k : ℕ) (front rest other : List ℕ) → k ≤ length front → take k (front ++ other) ≡ take k (front ++ rest)
 take_within k front rest other le = take-append-le k front other le ∙ sym (take-append-le k front rest le)
 
-take_past : (k j : ℕ) (front rest : List ℕ) → k ≡ length front + j → take k (front ++ rest) ≡ front ++ take j rest
+pub take_past : (k j : ℕ) (front rest : List ℕ) → k ≡ length front + j → take k (front ++ rest) ≡ front ++ take j rest
 take_past k j front rest e = ap (λ n. take n (front ++ rest)) e ∙ take-append-add front rest j
 
 -- Where a text of A that begins with a prefix goes on as a text of B, the refusal is B's, after the newlines of the prefix.

@@ -1,9 +1,9 @@
 -- Scaffolding: the languages of the parts of a scenario, for the private functions of the reader and for proofs alone. A reader
 -- of the theorem needs none of it.
-use Rattle.std.specs.Prelude.{◌≡◌, ◌≢◌, ◌⊎◌, ◌+◌, ◌≤◌, ◌++◌, ℕ, List, ◌∷◌, [], length, take, drop, codes}
+use Rattle.std.specs.Prelude.{◌≡◌, ◌≢◌, ◌⊎◌, ◌+◌, ◌≤◌, ◌++◌, ℕ, List, ◌∷◌, [], length, take, drop, codes, Option}
 use Rattle.replay_text.specs.Lines.{newlines, text_of_lines, AreLines}
 use Rattle.replay_text.specs.Languages.{IsRefused, IsRefusedWithin}
-use Rattle.replay_text.specs.Scenario.{AreActs, AreBlock, act_lines}
+use Rattle.replay_text.specs.Scenario.{AreActs, HaveNoDot, IsActs, IsBlock, IsFarm, act_lines}
 use Rattle.replay_text.specs.declared.event_line.EventLine.{EventLine}
 use Rattle.replay_text.specs.declared.scenario.Scenario.{Scenario}
 use Rattle.replay_text.specs.declared.scenario.ScenarioFault.{ScenarioFault}
@@ -22,6 +22,12 @@ Lacks want text = (newlines text ≡ 0) ⊎ ((line : List ℕ) × (rest : List �
 abbrev pub Acts : List ℕ → Type 0
 Acts text = (acts : List EventLine) × AreActs acts × (text ≡ text_of_lines (act_lines acts))
 
+-- what the part after the content, and the farm if there is one, spells
+pub record SpellsActs (text bytes : List ℕ) : Type 0 where
+  pub acts : List EventLine
+  pub acts_are : IsActs bytes acts
+  pub text_is : text ≡ text_of_lines (act_lines acts)
+
 -- the fault names the line at which the text is refused
 abbrev pub Refuses : (List ℕ → Type 0) → List ℕ → ScenarioFault → Type 0
 Refuses Text bytes (Line n) = IsRefused Text bytes n × (n ≤ length bytes)
@@ -33,32 +39,76 @@ RefusesWithin most Text bytes (Line n) =
     ((rest : List ℕ) → (length bytes ≤ most → rest ≡ []) → IsRefusedWithin most Text (bytes ++ rest) n) × (n ≤ length bytes)
 RefusesWithin most Text bytes NoMemory = Unit {0}
 
--- the part of a scenario after its head, and what it spells
-pub record SpellsBody (text : List ℕ) (s : Scenario) : Type 0 where
+-- a block, and after its dot a text of the language
+pub record BlockThen (Rest : List ℕ → Type 0) (text : List ℕ) : Type 0 where
   pub block : List (List ℕ)
-  pub lines : AreLines block
-  pub no_dot : AreBlock block
-  pub content : s.content ≡ text_of_lines block
-  pub acts : AreActs s.acts
-  pub text_is : text ≡ text_of_lines (block ++ codes "." ∷ act_lines s.acts)
+  pub are : AreLines block
+  pub no_dot : HaveNoDot block
+  pub rest : List ℕ
+  pub goes_on : Rest rest
+  pub text_is : text ≡ text_of_lines block ++ 46 ∷ 10 ∷ rest
 
+-- the farm, and the acts after it
+abbrev pub FarmThenActs : List ℕ → Type 0
+FarmThenActs text = (rest : List ℕ) × BlockThen Acts rest × (text ≡ codes "farm" ++ 10 ∷ rest)
+
+-- the part after the content's dot
+abbrev pub IsTail : List ℕ → Type 0
+IsTail text = Acts text ⊎ FarmThenActs text
+
+-- the part after the line `content`
 abbrev pub IsBody : List ℕ → Type 0
-IsBody text = (s : Scenario) × SpellsBody text s
+IsBody text = BlockThen IsTail text
 
 -- the part after the first line
 abbrev pub IsContent : List ℕ → Type 0
 IsContent text = (body : List ℕ) × IsBody body × (text ≡ codes "content" ++ 10 ∷ body)
 
--- a block ends at a place, with `before` newlines before it
-pub record EndsBlock (text : List ℕ) (at before : ℕ) : Type 0 where
+-- what the part after the content's dot spells
+pub record SpellsTail (text : List ℕ) (farm : Option (List ℕ)) (bytes : List ℕ) : Type 0 where
+  pub lines : List (List ℕ)
+  pub farm_is : IsFarm farm lines
+  pub acts : List EventLine
+  pub acts_are : IsActs bytes acts
+  pub text_is : text ≡ text_of_lines (lines ++ act_lines acts)
+
+-- what the part after the line `farm` spells
+pub record SpellsFarm (text farm bytes : List ℕ) : Type 0 where
   pub block : List (List ℕ)
-  pub lines : AreLines block
-  pub no_dot : AreBlock block
-  pub content : take at text ≡ text_of_lines block
+  pub farm_is : IsBlock farm block
+  pub acts : List EventLine
+  pub acts_are : IsActs bytes acts
+  pub text_is : text ≡ text_of_lines (block ++ codes "." ∷ act_lines acts)
+
+-- what the part after the line `content` spells
+pub record SpellsBody (text : List ℕ) (s : Scenario) : Type 0 where
+  pub block : List (List ℕ)
+  pub content : IsBlock s.content block
+  pub farm_lines : List (List ℕ)
+  pub farm : IsFarm s.farm farm_lines
+  pub acts : List EventLine
+  pub acts_are : IsActs s.acts acts
+  pub text_is : text ≡ text_of_lines (block ++ codes "." ∷ (farm_lines ++ act_lines acts))
+
+-- a block ends at a place, and has `count` lines
+pub record EndsBlock (text : List ℕ) (at count : ℕ) : Type 0 where
+  pub block : List (List ℕ)
+  pub is_block : IsBlock (take at text) block
   pub text_is : text ≡ text_of_lines block ++ 46 ∷ 10 ∷ drop (at + 2) text
   pub within : at + 2 ≤ length text
-  pub refused : (n : ℕ) → IsRefused Acts (drop (at + 2) text) n → IsRefused IsBody text (before + 1 + n)
-  pub small : before ≤ at
+  pub count_is : count ≡ length block
+  pub small : count ≤ at
+
+-- no block ends in the text, and it has `count` whole lines
+pub record EndsNoBlock (text : List ℕ) (count : ℕ) : Type 0 where
+  pub block : List (List ℕ)
+  pub are : AreLines block
+  pub no_dot : HaveNoDot block
+  pub rest : List ℕ
+  pub one : newlines rest ≡ 0
+  pub text_is : text ≡ text_of_lines block ++ rest
+  pub count_is : count ≡ length block
+  pub small : count ≤ length text
 
 abbrev pub IfLine : ScenarioFault → (ℕ → Type 0) → Type 0
 IfLine (Line n) P = P n

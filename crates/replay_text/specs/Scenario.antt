@@ -1,5 +1,5 @@
 -- Which scenario bytes spell.
-use Rattle.std.specs.Prelude.{◌≡◌, ◌≢◌, ◌≤◌, ◌++◌, ℕ, List, [], ◌∷◌, map, codes, length}
+use Rattle.std.specs.Prelude.{◌≡◌, ◌≢◌, ◌≤◌, ◌++◌, ℕ, List, [], ◌∷◌, map, codes, length, Option, Some, None}
 use Rattle.replay_text.specs.Lines.{text_of_lines, AreLines}
 use Rattle.replay_text.specs.EventLines.{line_of, IsEventLine}
 use Rattle.replay_text.specs.declared.event_line.EventLine.{EventLine}
@@ -10,23 +10,44 @@ abbrev pub AreActs : List EventLine → Type 0
 AreActs [] = Unit {0}
 AreActs (act ∷ acts) = IsEventLine act × AreActs acts
 
--- the lines of a block: none of them is a dot
-abbrev pub AreBlock : List (List ℕ) → Type 0
-AreBlock [] = Unit {0}
-AreBlock (line ∷ lines) = (line ≢ codes ".") × AreBlock lines
+-- none of the lines is a dot
+abbrev pub HaveNoDot : List (List ℕ) → Type 0
+HaveNoDot [] = Unit {0}
+HaveNoDot (line ∷ lines) = (line ≢ codes ".") × HaveNoDot lines
+
+-- the bytes of a block are its lines, none of which is a dot
+pub record IsBlock (bytes : List ℕ) (block : List (List ℕ)) : Type 0 where
+  pub are : AreLines block
+  pub no_dot : HaveNoDot block
+  pub bytes_are : bytes ≡ text_of_lines block
+
+-- the lines about the farm: none where there is no farm, else its block up to a dot
+abbrev pub IsFarm : Option (List ℕ) → List (List ℕ) → Type 0
+IsFarm None lines = lines ≡ []
+IsFarm (Some bytes) lines = (block : List (List ℕ)) × IsBlock bytes block × (lines ≡ codes "farm" ∷ (block ++ codes "." ∷ []))
 
 -- the lines of acts, and the line that ends them
 abbrev pub act_lines : List EventLine → List (List ℕ)
 act_lines acts = map line_of acts ++ codes "end" ∷ []
 
--- The text spells the scenario: its head, the lines of its content up to a dot, its acts, and the end.
+-- the bytes of acts are their lines, and what each asks for can be asked for
+pub record IsActs (bytes : List ℕ) (acts : List EventLine) : Type 0 where
+  pub are : AreActs acts
+  pub bytes_are : bytes ≡ text_of_lines (map line_of acts)
+
+-- The text spells the scenario: its head, the lines of its content up to a dot, those about its farm, its acts, and the end.
 pub record SpellsScenario (text : List ℕ) (s : Scenario) : Type 0 where
   pub block : List (List ℕ)
-  pub lines : AreLines block
-  pub no_dot : AreBlock block
-  pub content : s.content ≡ text_of_lines block
-  pub acts : AreActs s.acts
-  pub text_is : text ≡ text_of_lines (codes "scenario 1" ∷ codes "content" ∷ (block ++ codes "." ∷ act_lines s.acts))
+  pub content : IsBlock s.content block
+  pub farm_lines : List (List ℕ)
+  pub farm : IsFarm s.farm farm_lines
+  pub acts : List EventLine
+  pub acts_are : IsActs s.acts acts
+  pub text_is : text ≡ text_of_lines (codes "scenario 1" ∷ codes "content" ∷ (block ++ codes "." ∷ (farm_lines ++ act_lines acts)))
+
+-- some text spells the scenario
+abbrev pub IsSpelled : Scenario → Type 0
+IsSpelled s = (text : List ℕ) × SpellsScenario text s
 
 -- the greatest length of a scenario
 abbrev pub most : ℕ

@@ -1,5 +1,5 @@
 //! The lines of events.
-use sp_base::{ByteBuf, Items, TextBuf};
+use sp_base::{ByteBuf, TextBuf};
 
 /// Which flight an event is about.
 #[derive(Clone, Copy, PartialEq, Eq, Debug, Drop)]
@@ -32,5 +32,3 @@ pub enum EventLine {
     /// The answer of a flight is lost.
     Lose(Flight),
 }
-
-pub type EventLineList = Items<EventLine>;

@@ -4,6 +4,7 @@ ghost use Rattle.replay_text.specs.Languages.{IsRefusedWithin};
 ghost use Rattle.replay_text.specs.Scenario.{SpellsScenario, IsScenario, most};
 ghost use Rattle.replay_text.specs.Transcript.{transcript, EventsAreWritable};
 ghost use Rattle.front.specs.declared.note.Note.{Note};
+ghost use Rattle.replay_text.specs.Written.{scenario_text};
 ghost use Rattle.replay_text.specs.declared.scenario.Scenario.{Scenario};
 
 use cover_rules::a_page_has_one_key;
@@ -17,6 +18,11 @@ pub fn one_reading()
 /// A text is refused at one line.
 pub fn one_refusal()
     ensures { (text : List ℕ) (n m : ℕ) → IsRefusedWithin most IsScenario text n → IsRefusedWithin most IsScenario text m → n ≡ m }
+{}
+
+/// A scenario has one text.
+pub fn a_scenario_has_one_text()
+    ensures { (text : List ℕ) (s : Scenario) → SpellsScenario text s → text ≡ scenario_text s }
 {}
 
 /// A transcript tells its events: no two lists of events are written alike, where their numbers fit and their keys are those of pages.

@@ -1,6 +1,7 @@
 //! Scenarios and transcripts as texts: how the events of a run are asked for, and how what happened in them is told.
 #![tactic(auto)]
 
+mod acts;
 mod event_line;
 mod event_lines;
 mod event_reader;
@@ -13,10 +14,13 @@ mod targets;
 #[cfg(test)]
 mod tests;
 mod transcript;
+mod writer;
 
-pub use event_line::{EventLine, EventLineList, Flight};
+pub use acts::{acts_are_told_by_their_lines, first_act};
+pub use event_line::{EventLine, Flight};
 pub use event_lines::read_event_line;
-pub use laws::{a_transcript_tells_its_events, one_reading, one_refusal};
+pub use laws::{a_scenario_has_one_text, a_transcript_tells_its_events, one_reading, one_refusal};
 pub use reader::{LONGEST_SCENARIO, read_scenario};
 pub use scenario::{Scenario, ScenarioFault};
 pub use transcript::write_notes;
+pub use writer::write_scenario;

@@ -1,70 +1,91 @@
 //! Reads a scenario by its grammar.
-ghost use Rattle.std.specs.Prelude.{[], ◌≡◌, ◌≢◌, ◌+◌, ◌≤◌, ◌<◌, ◌^◌, ◌++◌, ◌∷◌, ℕ, List, IfOk, IfErr, IfSome, IfNone, MatchResult, IsTrue, length, take, drop, codes};
+ghost use Rattle.std.specs.Prelude.{[], ◌≡◌, ◌≢◌, ◌+◌, ◌≤◌, ◌<◌, ◌^◌, ◌++◌, ◌∷◌, ℕ, List, IfOk, IfErr, IfSome, IfNone, MatchResult, IsTrue, true, false, length, take, drop, codes};
 ghost use Rattle.replay_text.specs.Lines.{newlines, text_of_lines, AreLines};
-ghost use Rattle.replay_text.specs.Languages.{IsRefused};
-ghost use Rattle.replay_text.specs.Scenario.{AreActs, AreBlock, act_lines, SpellsScenario, IsScenario, Reads, most};
-ghost use Rattle.replay_text.specs.Reading.{Refuses, RefusesWithin, SpellsBody, IsBody, EndsBlock, IfLine, fault_further, Acts};
+ghost use Rattle.replay_text.specs.EventLines.{line_of, IsEventLine};
+ghost use Rattle.replay_text.specs.declared.event_line.EventLine as models;
+ghost use Rattle.replay_text.specs.Scenario.{AreActs, act_lines, SpellsScenario, IsScenario, Reads, most};
+ghost use Rattle.replay_text.specs.Reading.{Refuses, RefusesWithin, SpellsActs, SpellsBody, SpellsTail, SpellsFarm, IsBody, IsTail, BlockThen, EndsBlock, EndsNoBlock, IfLine, fault_further, Acts};
 ghost use Rattle.replay_text.specs.declared.scenario.ScenarioFault.TheVariants.{Line, NoMemory as no_memory};
 
-use crate::event_line::EventLineList;
 use crate::event_lines::read_event_line;
 use crate::lines::{after_line, count_newlines, first_line, same};
 use crate::scenario::{Scenario, ScenarioFault};
-use sp_base::{ByteBuf, Items};
+use sp_base::{ByteBuf, Mem};
 use std::alloc::Global;
 
 /// The most bytes that a scenario has.
 pub const LONGEST_SCENARIO: usize = 67_108_864;
 
-// What is read where the line `end` was before.
-fn ended(acts: EventLineList, after: &[u8], before: u64) -> Result<EventLineList, ScenarioFault>
+// Where the acts end, if the line `end` after them is the last one.
+fn ended(at: usize, after: &[u8], before: u64) -> Result<usize, ScenarioFault>
     requires { before + 1 < 2 ^ 64 }
-    ensures { MatchResult result (λ list. (list ≡ acts) × (after.now ≡ [])) (λ e. (e ≡ Line (before + 1)) × (after.now ≢ [])) }
+    ensures { MatchResult result (λ end. (end ≡ at) × (after.now ≡ [])) (λ e. (e ≡ Line (before + 1)) × (after.now ≢ [])) }
 {
     if after.is_empty() {
-        Ok(acts)
+        Ok(at)
     } else {
         Err(ScenarioFault::Line(before + 1))
     }
 }
 
-// Reads acts up to the end.
-fn read_acts(alloc: Global, text: &[u8]) -> Result<EventLineList, ScenarioFault>
-    ensures ok { IfOk result (λ acts. AreActs acts × (text.now ≡ text_of_lines (act_lines acts))) }
+// Whether a line is that of an act.
+fn is_act(alloc: Global, line: &[u8]) -> Mem<bool>
+    ensures yes { IfOk result (λ is. is ≡ true → (act : models.EventLine) × IsEventLine act × (line.now ≡ line_of act)) }
+    ensures no { IfOk result (λ is. is ≡ false → (act : models.EventLine) → IsEventLine act → line.now ≢ line_of act) }
+{
+    match read_event_line(alloc, line)? {
+        Some(_) => Ok(true),
+        None => Ok(false),
+    }
+}
+
+// Where the acts end. Each is read, and kept as its line alone: what it asks for takes more.
+fn acts_end(alloc: Global, text: &[u8]) -> Result<usize, ScenarioFault>
+    ensures ok { IfOk result (λ at. (at ≤ length text.now) × SpellsActs text.now (take at text.now)) }
     ensures err { IfErr result (Refuses Acts text.now) }
 {
-    let mut acts = Items::new(alloc);
     let mut rest = text;
     let mut before = 0;
     while let Some((line, after)) = first_line(rest) {
         if same(line, b"end") {
-            return ended(acts, after, before);
+            return ended(text.len() - rest.len(), after, before);
         }
-        let Some(act) = read_event_line(alloc, line)? else {
+        let known = is_act(alloc, line)?;
+        if !known {
             return Err(ScenarioFault::Line(before));
-        };
-        acts.push(act)?;
+        }
         rest = after;
         before += 1;
     }
     Err(ScenarioFault::Line(before))
 }
 
-// Where a block ends, and how many lines it has; or how many newlines stand before the place of the refusal.
+// Reads acts up to the end.
+fn read_acts(alloc: Global, text: &[u8]) -> Result<ByteBuf, ScenarioFault>
+    ensures ok { IfOk result (λ bytes. SpellsActs text.now bytes) }
+    ensures err { IfErr result (Refuses Acts text.now) }
+{
+    match acts_end(alloc, text) {
+        Ok(at) => Ok(ByteBuf::of(alloc, &text[..at])?),
+        Err(fault) => Err(fault),
+    }
+}
+
+// Where a block ends, and how many lines it has; or how many whole lines the text has, none of which ends it.
 fn block_end(text: &[u8]) -> Result<(usize, u64), u64>
     ensures ok { IfOk result (λ p. EndsBlock text.now p.0 p.1) }
-    ensures err { IfErr result (λ n. IsRefused IsBody text.now n × (n ≤ length text.now)) }
+    ensures err { IfErr result (λ n. EndsNoBlock text.now n) }
 {
     let mut rest = text;
-    let mut before = 0;
+    let mut count = 0;
     while let Some((line, after)) = first_line(rest) {
         if same(line, b".") {
-            return Ok((text.len() - rest.len(), before));
+            return Ok((text.len() - rest.len(), count));
         }
         rest = after;
-        before += 1;
+        count += 1;
     }
-    Err(before)
+    Err(count)
 }
 
 // The same fault, lines further down.
@@ -78,19 +99,56 @@ fn later(fault: ScenarioFault, lines: u64) -> ScenarioFault
     }
 }
 
+// Reads a farm up to its dot, and the acts after it.
+fn read_farm(alloc: Global, text: &[u8]) -> Result<(ByteBuf, ByteBuf), ScenarioFault>
+    ensures ok { IfOk result (λ p. SpellsFarm text.now p.0 p.1) }
+    ensures err { IfErr result (Refuses (BlockThen Acts) text.now) }
+{
+    let (at, count) = match block_end(text) {
+        Ok(end) => end,
+        Err(n) => return Err(ScenarioFault::Line(n)),
+    };
+    let farm = ByteBuf::of(alloc, &text[..at])?;
+    match read_acts(alloc, &text[at + 2..]) {
+        Ok(acts) => Ok((farm, acts)),
+        Err(fault) => Err(later(fault, count + 1)),
+    }
+}
+
+// Reads the part after the content's dot: the farm, where there is one, and the acts.
+fn read_tail(alloc: Global, text: &[u8]) -> Result<(Option<ByteBuf>, ByteBuf), ScenarioFault>
+    ensures ok { IfOk result (λ p. SpellsTail text.now p.0 p.1) }
+    ensures err { IfErr result (Refuses IsTail text.now) }
+{
+    let Some(block) = after_line(text, b"farm") else {
+        return match read_acts(alloc, text) {
+            Ok(acts) => Ok((None, acts)),
+            Err(fault) => Err(fault),
+        };
+    };
+    match read_farm(alloc, block) {
+        Ok((farm, acts)) => Ok((Some(farm), acts)),
+        Err(fault) => Err(later(fault, 1)),
+    }
+}
+
 // Reads the part after the head.
 fn read_body(alloc: Global, text: &[u8]) -> Result<Scenario, ScenarioFault>
     ensures ok { IfOk result (λ s. SpellsBody text.now s) }
     ensures err { IfErr result (Refuses IsBody text.now) }
 {
-    let (at, before) = match block_end(text) {
+    let (at, count) = match block_end(text) {
         Ok(end) => end,
         Err(n) => return Err(ScenarioFault::Line(n)),
     };
     let content = ByteBuf::of(alloc, &text[..at])?;
-    match read_acts(alloc, &text[at + 2..]) {
-        Ok(acts) => Ok(Scenario { content, acts }),
-        Err(fault) => Err(later(fault, before + 1)),
+    match read_tail(alloc, &text[at + 2..]) {
+        Ok((farm, acts)) => Ok(Scenario {
+            content,
+            farm,
+            acts,
+        }),
+        Err(fault) => Err(later(fault, count + 1)),
     }
 }
 

@@ -2,15 +2,16 @@
 ghost use Rattle.std.specs.Prelude.{◌≡◌};
 ghost use Rattle.replay_text.specs.declared.scenario.ScenarioFault.TheVariants.{NoMemory as no_memory};
 
-use crate::event_line::EventLineList;
 use sp_base::{ByteBuf, NoMemory};
 use std::alloc::AllocError;
 
-/// A content in JSON, and the events that are asked for.
+/// A content in JSON, a farm in the form of `dispatcher.any` where one is given, and the lines of the events that are asked for.
 #[derive(Drop)]
 pub struct Scenario {
     pub content: ByteBuf,
-    pub acts: EventLineList,
+    pub farm: Option<ByteBuf>,
+    /// The lines of its acts.
+    pub acts: ByteBuf,
 }
 
 #[derive(Clone, Copy, PartialEq, Eq, Debug, Drop)]

@@ -1,5 +1,8 @@
 //! Lines of events and of notes, worked out by hand from their tables in `docs/formats/FORMATS.md`.
-use crate::{EventLine, Flight, ScenarioFault, read_event_line, read_scenario, write_notes};
+use crate::{
+    EventLine, Flight, ScenarioFault, first_act, read_event_line, read_scenario, write_notes,
+    write_scenario,
+};
 use cover_rules::{PageKey, page_key};
 use front::{Note, NoteList};
 use sp_base::{Answer, ByteBuf, Items, Mark, Mem, NoMemory, Path, TextBuf};
@@ -112,10 +115,15 @@ fn acts(alloc: Global, lines: &str) -> Result<String, NoMemory> {
     match read_scenario(alloc, text.as_bytes()) {
         Ok(scenario) => {
             let mut told = String::new(alloc);
-            for act in scenario.acts.as_slice() {
-                let act = shown(alloc, act)?;
+            let mut lines = scenario.acts.bytes();
+            for _ in 0..20 {
+                let Some((act, after)) = first_act(alloc, lines)? else {
+                    break;
+                };
+                let act = shown(alloc, &act)?;
                 told.push_str(act.as_str())?;
                 told.push_str("\n")?;
+                lines = after;
             }
             Ok(told)
         }
@@ -164,6 +172,38 @@ fn acts_of_scenarios(rt: HostRuntime) -> Result<(), Fail> {
     assert_eq!(rt;
         acts(rt.alloc(), "end\n")?.as_str(),
         "refused behind 5 newlines"
+    );
+    Ok(())
+}
+
+const WITH_FARM: &str = "scenario 1
+content
+{}
+
+.
+farm
+/a { }
+.
+direct /a.json
+end
+";
+
+#[test]
+fn scenarios_with_a_farm(rt: HostRuntime) -> Result<(), Fail> {
+    for text in [
+        WITH_FARM,
+        "scenario 1\ncontent\n.\nfarm\n.\nend\n",
+        "scenario 1\ncontent\n.\nend\n",
+    ] {
+        let scenario = read_scenario(rt.alloc(), text.as_bytes())
+            .ok()
+            .ok_or("a scenario")?;
+        let written = write_scenario(rt.alloc(), &scenario)?;
+        assert_eq!(rt; lossy(written.bytes()), text);
+    }
+    assert_eq!(rt;
+        acts(rt.alloc(), "farm\nend\n.\nfarm\n")?.as_str(),
+        "refused behind 7 newlines"
     );
     Ok(())
 }

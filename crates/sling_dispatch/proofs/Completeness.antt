@@ -2,10 +2,11 @@ use Rattle.std.proofs.Common.{◌≡◌, ◌<◌, ◌⊎◌, inl, inr, ℕ, List
 use Rattle.content_json.specs.ContentOf.{content as content_of}
 use Rattle.replay_text.specs.Languages.{IsRefusedWithin}
 use Rattle.replay_text.specs.Scenario.{SpellsScenario, IsScenario, Reads, most}
-use Rattle.sling_dispatch.specs.Endings.{Told, Call, Means, IsDue, IsReplay, HasNotFailed, HasFailed, HasContent}
+use Rattle.sling_dispatch.specs.Endings.{Told, Call, Means, IsDue, IsReplay, HasNotFailed, HasFailed, HasContent, HasFarm}
+use Rattle.sling_dispatch.specs.Farms.{farm_in, farm_text}
 use Rattle.replay_text.specs.declared.scenario.Scenario.{Scenario}
 use Rattle.sling_dispatch.specs.declared.ending.Ending.{Ending}
-use Rattle.sling_dispatch.specs.declared.ending.Ending.TheVariants.{Done, Usage, SourceFailed, SinkFailed, Refused, ContentRefused, NoMemory}
+use Rattle.sling_dispatch.specs.declared.ending.Ending.TheVariants.{Done, Usage, SourceFailed, SinkFailed, Refused, ContentRefused, FarmRefused, NoMemory}
 
 -- a text spells one scenario
 abbrev IsOneReading : Type 0
@@ -21,18 +22,28 @@ content_reads one bytes s t reads has other fault e =
     let ok = sym (ap (λ (x : Scenario). content_of x.content) same) ∙ has.1 in
     cc (ok, e)
 
+-- a text whose farm has a reading isn't refused for its farm
+farm_reads : IsOneReading → (bytes : List ℕ) (s t : Scenario) → Reads bytes s → HasFarm s → Reads bytes t → (refusal : _) → farm_in (farm_text t.farm) ≡ Err refusal → ⊥
+farm_reads one bytes s t reads has other refusal e =
+    let same = one bytes s t reads.0 other.0 in
+    let ok = sym (ap (λ (x : Scenario). farm_in (farm_text x.farm)) same) ∙ has.1 in
+    cc (ok, e)
+
 pub complete : IsOneReading → (c : Call) (sink : Told (List ℕ)) (bytes : List ℕ) (s : Scenario) (ending : Ending) → Means (IsDue c) ending sink
-    → IsReplay c.words → c.source.old ≡ Some bytes → Reads bytes s → HasContent s
+    → IsReplay c.words → c.source.old ≡ Some bytes → Reads bytes s → HasContent s → HasFarm s
     → c.source.faults_old < 18446744073709551615 → HasNotFailed c.source → sink.faults_old < 18446744073709551615 → HasNotFailed sink
     → (ending ≡ Done) ⊎ (ending ≡ NoMemory)
-complete one c sink bytes s Done m is told reads has bs cs bk ck = inl refl
-complete one c sink bytes s Usage m is told reads has bs cs bk ck = absurd (m.0.0 is)
-complete one c sink bytes s SourceFailed m is told reads has bs cs bk ck = absurd (both_failed_and_not c.source bs cs m.0.1)
-complete one c sink bytes s SinkFailed m is told reads has bs cs bk ck = absurd (both_failed_and_not sink bk ck m.3)
-complete one c sink bytes s Refused m is told reads has bs cs bk ck =
+complete one c sink bytes s Done m is told reads has farm bs cs bk ck = inl refl
+complete one c sink bytes s Usage m is told reads has farm bs cs bk ck = absurd (m.0.0 is)
+complete one c sink bytes s SourceFailed m is told reads has farm bs cs bk ck = absurd (both_failed_and_not c.source bs cs m.0.1)
+complete one c sink bytes s SinkFailed m is told reads has farm bs cs bk ck = absurd (both_failed_and_not sink bk ck m.3)
+complete one c sink bytes s Refused m is told reads has farm bs cs bk ck =
     let r = subst (λ o. IfSome o (λ t. IsRefusedWithin most IsScenario t m.0)) told m.1.0.2 in
     absurd (r.none ((s, reads.0), reads.1))
-complete one c sink bytes s ContentRefused m is told reads has bs cs bk ck =
+complete one c sink bytes s ContentRefused m is told reads has farm bs cs bk ck =
     let r = subst (λ o. IfSome o (λ t. (x : Scenario) × Reads t x × (content_of x.content ≡ Err m.0))) told m.1.0.2 in
     absurd (content_reads one bytes s r.0 reads has r.1 m.0 r.2)
-complete one c sink bytes s NoMemory m is told reads has bs cs bk ck = inr refl
+complete one c sink bytes s FarmRefused m is told reads has farm bs cs bk ck =
+    let r = subst (λ o. IfSome o (λ t. (x : Scenario) × Reads t x × HasContent x × (farm_in (farm_text x.farm) ≡ Err m.0))) told m.1.0.2 in
+    absurd (farm_reads one bytes s r.0 reads farm r.1 m.0 r.3)
+complete one c sink bytes s NoMemory m is told reads has farm bs cs bk ck = inr refl

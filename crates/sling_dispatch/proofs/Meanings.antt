@@ -1,4 +1,4 @@
-use Rattle.std.proofs.Common.{◌≡◌, ◌≢◌, ◌≤◌, ◌+◌, ◌++◌, inl, inr, ⊎_elim, arith, ℕ, List, Option, Some, None, IfSome, IfOk, OnErr, Result, Ok, Err, length, take, sym, ◌∙◌, ap, subst}
+use Rattle.std.proofs.Common.{◌≡◌, ◌≢◌, ◌≤◌, ◌+◌, ◌++◌, inl, inr, ⊎_elim, arith, ℕ, List, Option, Some, None, IfSome, IfOk, OnErr, Result, Ok, Err, false, length, take, sym, ◌∙◌, ap, subst}
 use Rattle.std.proofs.lemmas.List.{append-nil}
 use Rattle.std.proofs.lemmas.Bool.{cases_lt}
 use Rattle.sp_outside.specs.Told.{added, before_taking, IsAtEnd}
@@ -8,12 +8,14 @@ use Rattle.content_json.specs.declared.fault.ContentFault.TheVariants.{NoMemory 
 use Rattle.replay_text.specs.Languages.{IsRefusedWithin}
 use Rattle.sling_dispatch.specs.Streams.{IsReadOut}
 use Rattle.replay_text.specs.Scenario.{IsScenario, Reads, most}
-use Rattle.sling_dispatch.specs.Endings.{Told, Call, IsRunOf, Writing, Nothing, UsageLine, SourceLine, RefusalLine, ContentLine, Events, output_of, HasWritten, Means, IsDue, IsReplay, HasNotFailed, IsUntouched}
-use Rattle.sling_dispatch.specs.InnerEndings.{IsDueIn, IsContentOr, Tells, IsDueAt}
+use Rattle.sling_dispatch.specs.Endings.{Told, Call, IsRunOf, Writing, Nothing, UsageLine, SourceLine, RefusalLine, ContentLine, FarmLine, Events, output_of, HasWritten, Means, IsDue, HasContent, IsReplay, HasNotFailed, IsUntouched}
+use Rattle.sling_dispatch.specs.InnerEndings.{IsDueIn, IsDueOf, IsContentOr, IsFarmOr, Tells, IsDueAt}
+use Rattle.sling_dispatch.specs.Farms.{farm_in, farm_text, lacks_memory}
+use Rattle.sling_dispatch.specs.declared.farms.FarmRefusal.{FarmRefusal}
 use Rattle.replay_text.specs.declared.scenario.Scenario.{Scenario}
 use Rattle.sling_dispatch.proofs.Writing.{added-nothing}
 use Rattle.sling_dispatch.specs.declared.ending.Ending.{Ending}
-use Rattle.sling_dispatch.specs.declared.ending.Ending.TheVariants.{Done, Usage, SourceFailed, SinkFailed, Refused, ContentRefused, NoMemory}
+use Rattle.sling_dispatch.specs.declared.ending.Ending.TheVariants.{Done, Usage, SourceFailed, SinkFailed, Refused, ContentRefused, FarmRefused, NoMemory}
 
 -- what may be written here may be written there
 pub means_weaker : (D E : Writing → Type 0) → ((w : Writing) → D w → E w) → (ending : Ending) (sink : Told (List ℕ)) → Means D ending sink → Means E ending sink
@@ -22,6 +24,7 @@ means_weaker D E to Usage sink m = (to UsageLine m.0, m.1)
 means_weaker D E to SourceFailed sink m = (to SourceLine m.0, m.1)
 means_weaker D E to Refused sink m = (m.0, to (RefusalLine m.0) m.1, m.2)
 means_weaker D E to ContentRefused sink m = (m.0, to (ContentLine m.0) m.1, m.2)
+means_weaker D E to FarmRefused sink m = (m.0, to (FarmLine m.0) m.1, m.2)
 means_weaker D E to SinkFailed sink m = (m.0, to m.0 m.1, m.2, m.3)
 means_weaker D E to NoMemory sink m = (m.0, to m.0 m.1, m.2, m.3)
 
@@ -53,7 +56,28 @@ due_content s fault e UsageLine d = d
 due_content s fault e SourceLine d = d
 due_content s fault e (RefusalLine before) d = d
 due_content s fault e (ContentLine f) d = (e d.1 ∙ ap (λ x. Err x) (sym d.0), λ h. d.1 (sym d.0 ∙ h))
+due_content s fault e (FarmLine refusal) d = absurd d
 due_content s fault e (Events t events) d = absurd d
+
+pub due_farm : (s : Scenario) (refusal : FarmRefusal) → HasContent s → (lacks_memory refusal ≡ false → farm_in (farm_text s.farm) ≡ Err refusal)
+    → (w : Writing) → IsFarmOr refusal w → IsDueIn s w
+due_farm s refusal has e Nothing d = tt
+due_farm s refusal has e UsageLine d = d
+due_farm s refusal has e SourceLine d = d
+due_farm s refusal has e (RefusalLine before) d = d
+due_farm s refusal has e (ContentLine fault) d = absurd d
+due_farm s refusal has e (FarmLine r) d = (has, e d.1 ∙ ap (λ x. Err x) (sym d.0), ap lacks_memory d.0 ∙ d.1)
+due_farm s refusal has e (Events t events) d = absurd d
+
+-- what is written of the acts is written of the scenario
+pub due_acts : (s : Scenario) (w : Writing) → IsDueOf s w → IsDueIn s w
+due_acts s Nothing d = tt
+due_acts s UsageLine d = d
+due_acts s SourceLine d = d
+due_acts s (RefusalLine before) d = d
+due_acts s (ContentLine fault) d = absurd d
+due_acts s (FarmLine refusal) d = absurd d
+due_acts s (Events t events) d = d
 
 pub content_told : (s : Scenario) (fault : ContentFault) (bytes : List ℕ) (ending : Ending) (sink : Told (List ℕ)) → bytes ≡ s.content
     → (fault ≢ no_memory → content_of bytes ≡ Err fault) → Means (IsContentOr fault) ending sink → Means (IsDueIn s) ending sink
@@ -67,6 +91,7 @@ in_text text s reads UsageLine d = d
 in_text text s reads SourceLine d = d
 in_text text s reads (RefusalLine before) d = absurd d
 in_text text s reads (ContentLine fault) d = (d.1, s, reads, d.0)
+in_text text s reads (FarmLine refusal) d = (d.2, s, reads, d.0, d.1)
 in_text text s reads (Events t events) d =
     let same = sym d.0 in (subst (Reads text) same reads, subst (λ (x : Scenario). IsRunOf x events) same d.1)
 
@@ -99,6 +124,10 @@ due_of_source c text is not_failed e end within (ContentLine fault) d =
     let Q : List ℕ → Type 0 = λ bytes. (s : Scenario) × Reads bytes s × (content_of s.content ≡ Err fault) in
     let done = end d.2.1 in
     ((is, not_failed, told Q text c.source.old c.source.new e done (d.1, d.2, d.3)), done, d.0)
+due_of_source c text is not_failed e end within (FarmLine refusal) d =
+    let Q : List ℕ → Type 0 = λ bytes. (s : Scenario) × Reads bytes s × HasContent s × (farm_in (farm_text s.farm) ≡ Err refusal) in
+    let done = end d.2.1 in
+    ((is, not_failed, told Q text c.source.old c.source.new e done (d.1, d.2, d.3, d.4)), done, d.0)
 due_of_source c text is not_failed e end within (Events s events) d =
     let Q : List ℕ → Type 0 = λ bytes. Reads bytes s in
     let done = end d.0.1 in

@@ -1,5 +1,5 @@
-use Rattle.std.proofs.Common.{◌≡◌, ◌+◌, ◌<◌, ◌++◌, ℕ, List, [], ◌∷◌, Option, Ok, Err, inl, inr, length, map, suc, take, sym, ◌∙◌, ap, subst, refl, arith, append_assoc, length-append, get_or}
-use Rattle.std.proofs.lemmas.List.{take_all, take_more, append-nil}
+use Rattle.std.proofs.Common.{◌≡◌, ◌≤◌, ◌+◌, ◌++◌, ℕ, List, [], ◌∷◌, Option, Ok, Err, inl, inr, length, map, suc, take, sym, ◌∙◌, ap, subst, refl, arith, append_assoc, length-append}
+use Rattle.std.proofs.lemmas.List.{take_all, append-nil}
 use Rattle.std.proofs.Math.Seq.{take-append-add}
 use Rattle.sp_outside.specs.Told.{added}
 use Rattle.sp_outside.specs.Causes.{HasSinkCause}
@@ -7,17 +7,21 @@ use Rattle.sp_outside.specs.declared.sink.SinkFault.{SinkFault}
 use Rattle.sp_outside.specs.declared.sink.SinkFault.TheVariants.{Failed as sink_failed, NoMemory as sink_memory}
 use Rattle.resource_tree.specs.Content.{Content}
 use Rattle.content_json.specs.ContentOf.{content as content_of}
-use Rattle.publisher.specs.Rendering.{rendered}
+use Rattle.any_config.specs.declared.farm.Farm.{Farm}
+use Rattle.sling_dispatch.specs.Farms.{farm_in, farm_text}
 use Rattle.front.specs.Events.{Event, Extended, Happens, Run, after_event, after_run, notes_of}
 use Rattle.front.specs.States.{RunState, start_of}
 use Rattle.front.specs.declared.note.Note.{Note}
+use Rattle.replay_text.specs.EventLines.{line_of, IsEventLine}
+use Rattle.replay_text.specs.Lines.{text_of_lines}
+use Rattle.replay_text.specs.Scenario.{IsActs}
 use Rattle.replay_text.specs.Transcript.{event_text, transcript_from, transcript}
 use Rattle.replay_text.specs.declared.event_line.EventLine.{EventLine}
 use Rattle.replay_text.specs.declared.scenario.Scenario.{Scenario}
-use Rattle.sling_dispatch.specs.Runs.{IsSession, step_of, told_of_events}
+use Rattle.sling_dispatch.specs.Runs.{IsSession, asked_host, published, step_of, told_of_events}
 use Rattle.sling_dispatch.specs.Fronts.{IsNext}
 use Rattle.sling_dispatch.specs.Endings.{Writing, Events, Told, told_of, HasWrittenPrefix}
-use Rattle.sling_dispatch.specs.InnerEndings.{IsDueOf, Tells, ending_by, PlaysAll}
+use Rattle.sling_dispatch.specs.InnerEndings.{AreActLines, IsDueOf, Tells, ending_by, PlaysAll}
 use Rattle.sling_dispatch.specs.declared.ending.Ending.{Ending}
 use Rattle.sling_dispatch.specs.declared.ending.Ending.TheVariants.{Done, NoMemory}
 use Rattle.sling_dispatch.proofs.Writing.{added-added, added-nothing}
@@ -36,6 +40,10 @@ map_push : {A B : Type 0} (f : A → B) (xs : List A) (x : A) → map f (xs ++ x
 map_push f [] x = refl
 map_push f (y ∷ xs) x = ap (λ t. f y ∷ t) (map_push f xs x)
 
+list_assoc : {A : Type 0} (a b c : List A) → (a ++ b) ++ c ≡ a ++ (b ++ c)
+list_assoc [] b c = refl
+list_assoc (x ∷ a) b c = ap (λ t. x ∷ t) (list_assoc a b c)
+
 length_map : {A B : Type 0} (f : A → B) (xs : List A) → length (map f xs) ≡ length xs
 length_map f [] = refl
 length_map f (x ∷ xs) = ap (λ n. suc n) (length_map f xs)
@@ -47,19 +55,28 @@ Goes = (w : RunState) (events : List Event) (e : Event) → Run w events → Hap
 abbrev pub Leaves : Type 0
 Leaves = (w : RunState) (events : List Event) (e : Event) → after_run w (events ++ e ∷ []) ≡ after_event (after_run w events) e
 
--- The first n lines were done. Of the lines of their events some were sent, and the rest is gathered.
-pub record Played (tree : Content) (acts : List EventLine) (n count : ℕ) (Stands : RunState → Type 0) (old new : Option (List ℕ)) (gathered : List ℕ) : Type 0 where
+-- Some acts were done. Of the lines of their events some were sent, and the rest is gathered.
+pub record Played (tree : Content) (farm : Farm) (acts rest : List ℕ) (count : ℕ) (Stands : RunState → Type 0) (old new : Option (List ℕ)) (gathered : List ℕ) : Type 0 where
+  pub made : List EventLine
+  pub left : List EventLine
+  pub acts_are : IsActs acts (made ++ left)
+  pub left_are : IsActs rest left
   pub events : List Event
-  pub steps : map (λ (e : Event). e.step) events ≡ map step_of (take n acts)
-  pub run : Run (start_of rendered tree) events
+  pub steps : map (λ (e : Event). e.step) events ≡ map (step_of (asked_host farm)) made
+  pub run : Run (start_of published farm tree) events
   pub count_is : length events ≡ count
-  pub stands : Stands (after_run (start_of rendered tree) events)
+  pub stands : Stands (after_run (start_of published farm tree) events)
   pub sent : List ℕ
   pub written : new ≡ added old sent
   pub text_is : told_of_events events ≡ sent ++ gathered
 
-pub played_none : (tree : Content) (acts : List EventLine) (Stands : RunState → Type 0) (old : Option (List ℕ)) → Stands (start_of rendered tree) → Played tree acts 0 0 Stands old old []
-played_none tree acts Stands old stands = record {
+pub played_none : (tree : Content) (farm : Farm) (acts : List ℕ) (Stands : RunState → Type 0) (old : Option (List ℕ)) → AreActLines acts → Stands (start_of published farm tree)
+    → Played tree farm acts acts 0 Stands old old []
+played_none tree farm acts Stands old are stands = record {
+  made = [];
+  left = are.0;
+  acts_are = are.1;
+  left_are = are.1;
   events = [];
   steps = refl;
   run = tt;
@@ -70,12 +87,19 @@ played_none tree acts Stands old stands = record {
   text_is = refl;
 }
 
+-- how lines tell their acts
+abbrev pub FirstIsTold : Type 0
+FirstIsTold = (lines rest : List ℕ) (acts : List EventLine) (act : EventLine) → IsActs lines acts → IsEventLine act → lines ≡ line_of act ++ 10 ∷ rest
+    → (left : List EventLine) × (acts ≡ act ∷ left) × IsActs rest left
+
 -- the next event was made, and its lines are to be gathered
-pub played_next : Goes → Leaves → (tree : Content) (acts : List EventLine) (n count : ℕ) (Stands After : RunState → Type 0) (old new : Option (List ℕ)) (gathered : List ℕ) (act : EventLine)
-    (text : List ℕ) → Played tree acts n count Stands old new gathered → take (n + 1) acts ≡ take n acts ++ act ∷ []
-    → IsNext Stands After (step_of act) (count + 1) text → Played tree acts (n + 1) (count + 1) After old new (gathered ++ text)
-played_next goes leaves tree acts n count Stands After old new gathered act text p e x =
-    let w = start_of rendered tree in
+pub played_next : Goes → Leaves → FirstIsTold → (tree : Content) (farm : Farm) (acts rest after : List ℕ) (count : ℕ) (Stands After : RunState → Type 0) (old new : Option (List ℕ)) (gathered text : List ℕ)
+    → Played tree farm acts rest count Stands old new gathered
+    → IsNext Stands After (asked_host farm) rest after (count + 1) text → Played tree farm acts after (count + 1) After old new (gathered ++ text)
+played_next goes leaves told_first tree farm acts rest after count Stands After old new gathered text p x =
+    let host = asked_host farm in
+    let first = told_first rest after p.left x.act p.left_are x.is_line x.lines_are in
+    let w = start_of published farm tree in
     let next = x.extends.extended (after_run w p.events) p.stands in
     let event = next.event in
     let events = p.events ++ event ∷ [] in
@@ -83,9 +107,13 @@ played_next goes leaves tree acts n count Stands After old new gathered act text
     let told : told_of_events events ≡ told_of_events p.events ++ event_text (count + 1) x.notes = ap transcript (map_push notes_of p.events event) ∙ transcript_push 1 (map notes_of p.events) (notes_of event)
     ∙ ap (λ k. told_of_events p.events ++ event_text k (notes_of event)) number ∙ ap (λ notes. told_of_events p.events ++ event_text (count + 1) notes) next.notes_are in
     record {
+      made = p.made ++ x.act ∷ [];
+      left = first.0;
+      acts_are = subst (IsActs acts) (ap (λ t. p.made ++ t) first.1 ∙ sym (list_assoc p.made (x.act ∷ []) first.0)) p.acts_are;
+      left_are = first.2;
       events = events;
-      steps = map_push (λ (y : Event). y.step) p.events event ∙ ap (λ t. t ++ event.step ∷ []) p.steps ∙ ap (λ s. map step_of (take n acts) ++ s ∷ []) next.step_is
-          ∙ sym (map_push step_of (take n acts) act) ∙ ap (map step_of) (sym e);
+      steps = map_push (λ (y : Event). y.step) p.events event ∙ ap (λ t. t ++ event.step ∷ []) p.steps ∙ ap (λ s. map (step_of host) p.made ++ s ∷ []) next.step_is
+          ∙ sym (map_push (step_of host) p.made x.act);
       run = goes w p.events event p.run next.happens;
       count_is = omega (arith, p.count_is, length-append p.events (event ∷ []));
       stands = subst After (sym (leaves w p.events event)) next.stands;
@@ -94,10 +122,18 @@ played_next goes leaves tree acts n count Stands After old new gathered act text
       text_is = told ∙ ap (λ t. told_of_events p.events ++ t) (sym x.text_is) ∙ ap (λ t. t ++ text) p.text_is ∙ append_assoc p.sent gathered text;
     }
 
+-- the lines after an act's are shorter
+pub next_shorter : (Stands After : RunState → Type 0) (host rest after : List ℕ) (count : ℕ) (text : List ℕ) → IsNext Stands After host rest after count text → length after + 1 ≤ length rest
+next_shorter Stands After host rest after count text x = omega (arith, ap length x.lines_are, length-append (line_of x.act) (10 ∷ after))
+
 -- more of the lines were sent
-pub played_sent : (tree : Content) (acts : List EventLine) (n count : ℕ) (Stands : RunState → Type 0) (old mid new : Option (List ℕ)) (gathered sent left : List ℕ)
-    → Played tree acts n count Stands old mid gathered → new ≡ added mid sent → sent ++ left ≡ gathered → Played tree acts n count Stands old new left
-played_sent tree acts n count Stands old mid new gathered sent left p e rest = record {
+pub played_sent : (tree : Content) (farm : Farm) (acts rest : List ℕ) (count : ℕ) (Stands : RunState → Type 0) (old mid new : Option (List ℕ)) (gathered sent left : List ℕ)
+    → Played tree farm acts rest count Stands old mid gathered → new ≡ added mid sent → sent ++ left ≡ gathered → Played tree farm acts rest count Stands old new left
+played_sent tree farm acts rest count Stands old mid new gathered sent left p e same = record {
+  made = p.made;
+  left = p.left;
+  acts_are = p.acts_are;
+  left_are = p.left_are;
   events = p.events;
   steps = p.steps;
   run = p.run;
@@ -105,26 +141,31 @@ played_sent tree acts n count Stands old mid new gathered sent left p e rest = r
   stands = p.stands;
   sent = p.sent ++ sent;
   written = e ∙ ap (λ m. added m sent) p.written ∙ added-added old p.sent sent;
-  text_is = p.text_is ∙ ap (λ t. p.sent ++ t) (sym rest) ∙ sym (append_assoc p.sent sent left);
+  text_is = p.text_is ∙ ap (λ t. p.sent ++ t) (sym same) ∙ sym (append_assoc p.sent sent left);
 }
 
-session_of : (tree : Content) (acts : List EventLine) (n : ℕ) (events : List Event) (s : Scenario) → s.acts ≡ acts → content_of s.content ≡ Ok tree → map (λ (e : Event). e.step) events ≡ map step_of (take n acts)
-    → Run (start_of rendered tree) events → IsSession s n events
-session_of tree acts n events s same reads steps run = record {
+session_of : (tree : Content) (farm : Farm) (acts : List ℕ) (made left : List EventLine) (events : List Event) (s : Scenario) → s.acts ≡ acts → content_of s.content ≡ Ok tree
+    → farm_in (farm_text s.farm) ≡ Ok farm → IsActs acts (made ++ left) → map (λ (e : Event). e.step) events ≡ map (step_of (asked_host farm)) made
+    → Run (start_of published farm tree) events → IsSession s left events
+session_of tree farm acts made left events s same reads farm_reads are steps run = record {
   tree = tree;
   reads = reads;
-  steps = steps ∙ ap (λ list. map step_of (take n list)) (sym same);
+  farm = farm;
+  farm_reads = farm_reads;
+  made = made;
+  acts = subst (λ (b : List ℕ). IsActs b (made ++ left)) (sym same) are;
+  steps = steps;
   run = run;
 }
 
 -- only a prefix of what was gathered was written
-prefix_due : (tree : Content) (acts : List EventLine) (n count k : ℕ) (Stands : RunState → Type 0) (mid : Option (List ℕ)) (gathered : List ℕ) (sink : Told (List ℕ))
-    → Played tree acts n count Stands sink.old mid gathered → sink.new ≡ added mid (take k gathered) → (s : Scenario) → s.acts ≡ acts
-    → content_of s.content ≡ Ok tree → (w : Writing) × IsDueOf s w × HasWrittenPrefix sink w
-prefix_due tree acts n count k Stands mid gathered sink p e s same reads =
+prefix_due : (tree : Content) (farm : Farm) (acts rest : List ℕ) (count k : ℕ) (Stands : RunState → Type 0) (mid : Option (List ℕ)) (gathered : List ℕ) (sink : Told (List ℕ))
+    → Played tree farm acts rest count Stands sink.old mid gathered → sink.new ≡ added mid (take k gathered) → (s : Scenario) → s.acts ≡ acts
+    → content_of s.content ≡ Ok tree → farm_in (farm_text s.farm) ≡ Ok farm → (w : Writing) × IsDueOf s w × HasWrittenPrefix sink w
+prefix_due tree farm acts rest count k Stands mid gathered sink p e s same reads farm_reads =
     let long = length p.sent in (
       Events s p.events,
-      (refl, (n, session_of tree acts n p.events s same reads p.steps p.run)),
+      (refl, (p.left, session_of tree farm acts p.made p.left p.events s same reads farm_reads p.acts_are p.steps p.run)),
       (
         long + k,
         e ∙ ap (λ m. added m (take k gathered)) p.written ∙ added-added sink.old p.sent (take k gathered)
@@ -133,45 +174,54 @@ prefix_due tree acts n count k Stands mid gathered sink p e s same reads =
     )
 
 -- the sink failed, or lacked memory, while it was to take what was gathered
-pub broken_off : (tree : Content) (acts : List EventLine) (n count k : ℕ) (Stands : RunState → Type 0) (mid : Option (List ℕ)) (gathered : List ℕ) (fault : SinkFault)
-    (sink : Told (List ℕ)) → Played tree acts n count Stands sink.old mid gathered → sink.new ≡ added mid (take k gathered)
-    → HasSinkCause {T = Unit {0}} sink.faults_old sink.faults_new (Err fault) → PlaysAll tree acts (ending_by fault) sink
-broken_off tree acts n count k Stands mid gathered sink_failed sink p e cause = λ s same reads.
-    let x = prefix_due tree acts n count k Stands mid gathered sink p e s same reads in (x.0, x.1, x.2, cause)
-broken_off tree acts n count k Stands mid gathered sink_memory sink p e cause = λ s same reads.
-    let x = prefix_due tree acts n count k Stands mid gathered sink p e s same reads in (x.0, x.1, x.2, cause)
+pub broken_off : (tree : Content) (farm : Farm) (acts rest : List ℕ) (count k : ℕ) (Stands : RunState → Type 0) (mid : Option (List ℕ)) (gathered : List ℕ) (fault : SinkFault)
+    (sink : Told (List ℕ)) → Played tree farm acts rest count Stands sink.old mid gathered → sink.new ≡ added mid (take k gathered)
+    → HasSinkCause {T = Unit {0}} sink.faults_old sink.faults_new (Err fault) → PlaysAll tree farm acts (ending_by fault) sink
+broken_off tree farm acts rest count k Stands mid gathered sink_failed sink p e cause = λ s same reads farm_reads.
+    let x = prefix_due tree farm acts rest count k Stands mid gathered sink p e s same reads farm_reads in (x.0, x.1, x.2, cause)
+broken_off tree farm acts rest count k Stands mid gathered sink_memory sink p e cause = λ s same reads farm_reads.
+    let x = prefix_due tree farm acts rest count k Stands mid gathered sink p e s same reads farm_reads in (x.0, x.1, x.2, cause)
 
 -- no more events are made for want of memory, and what was gathered is written
-pub played_stopped : (tree : Content) (acts : List EventLine) (n count : ℕ) (Stands : RunState → Type 0) (mid : Option (List ℕ)) (gathered : List ℕ) (ending : Ending)
-    (sink : Told (List ℕ)) → Played tree acts n count Stands sink.old mid gathered
-    → Tells NoMemory gathered ending (told_of mid sink.new sink.faults_old sink.faults_new) → PlaysAll tree acts ending sink
-played_stopped tree acts n count Stands mid gathered ending sink p (inl t) =
-    subst (λ x. PlaysAll tree acts x sink) (sym t.0)
-    (broken_off tree acts n count (length gathered) Stands mid gathered sink_memory sink p
+pub played_stopped : (tree : Content) (farm : Farm) (acts rest : List ℕ) (count : ℕ) (Stands : RunState → Type 0) (mid : Option (List ℕ)) (gathered : List ℕ) (ending : Ending)
+    (sink : Told (List ℕ)) → Played tree farm acts rest count Stands sink.old mid gathered
+    → Tells NoMemory gathered ending (told_of mid sink.new sink.faults_old sink.faults_new) → PlaysAll tree farm acts ending sink
+played_stopped tree farm acts rest count Stands mid gathered ending sink p (inl t) =
+    subst (λ x. PlaysAll tree farm acts x sink) (sym t.0)
+    (broken_off tree farm acts rest count (length gathered) Stands mid gathered sink_memory sink p
     (t.1 ∙ ap (added mid) (sym (take_all (length gathered) gathered (omega arith)))) t.2)
-played_stopped tree acts n count Stands mid gathered ending sink p (inr (inl t)) =
-    subst (λ x. PlaysAll tree acts x sink) (sym t.0) (broken_off tree acts n count t.1.0 Stands mid gathered sink_failed sink p t.1.1 t.2)
-played_stopped tree acts n count Stands mid gathered ending sink p (inr (inr t)) =
-    subst (λ x. PlaysAll tree acts x sink) (sym t.0) (broken_off tree acts n count t.1.0 Stands mid gathered sink_memory sink p t.1.1 t.2)
+played_stopped tree farm acts rest count Stands mid gathered ending sink p (inr (inl t)) =
+    subst (λ x. PlaysAll tree farm acts x sink) (sym t.0) (broken_off tree farm acts rest count t.1.0 Stands mid gathered sink_failed sink p t.1.1 t.2)
+played_stopped tree farm acts rest count Stands mid gathered ending sink p (inr (inr t)) =
+    subst (λ x. PlaysAll tree farm acts x sink) (sym t.0) (broken_off tree farm acts rest count t.1.0 Stands mid gathered sink_memory sink p t.1.1 t.2)
+
+pub no_bytes : (xs : List ℕ) → length xs ≡ 0 → xs ≡ []
+no_bytes [] e = refl
+no_bytes (x ∷ xs) e = absurd (omega (arith, e))
+
+-- no act is left where no byte is
+none_left : (rest : List ℕ) (left : List EventLine) → IsActs rest left → rest ≡ [] → left ≡ []
+none_left rest [] are e = refl
+none_left rest (act ∷ left) are e =
+    absurd (omega (arith, ap length (sym are.bytes_are ∙ e), length-append (line_of act) (10 ∷ text_of_lines (map line_of left))))
 
 -- all acts were done, and what was gathered is written
-pub played_all : (tree : Content) (acts : List EventLine) (n count : ℕ) (Stands : RunState → Type 0) (mid : Option (List ℕ)) (gathered : List ℕ) (ending : Ending)
-    (sink : Told (List ℕ)) → n ≡ length acts → Played tree acts n count Stands sink.old mid gathered
-    → Tells Done gathered ending (told_of mid sink.new sink.faults_old sink.faults_new) → PlaysAll tree acts ending sink
-played_all tree acts n count Stands mid gathered ending sink whole p (inl t) =
-    subst (λ x. PlaysAll tree acts x sink) (sym t.0) (λ s same reads.
-    let session = session_of tree acts n p.events s same reads p.steps p.run in
-    let number : n ≡ length s.acts = whole ∙ ap length (sym same) in (
+pub played_all : (tree : Content) (farm : Farm) (acts rest : List ℕ) (count : ℕ) (Stands : RunState → Type 0) (mid : Option (List ℕ)) (gathered : List ℕ) (ending : Ending)
+    (sink : Told (List ℕ)) → rest ≡ [] → Played tree farm acts rest count Stands sink.old mid gathered
+    → Tells Done gathered ending (told_of mid sink.new sink.faults_old sink.faults_new) → PlaysAll tree farm acts ending sink
+played_all tree farm acts rest count Stands mid gathered ending sink whole p (inl t) =
+    subst (λ x. PlaysAll tree farm acts x sink) (sym t.0) (λ s same reads farm_reads.
+    let session = session_of tree farm acts p.made p.left p.events s same reads farm_reads p.acts_are p.steps p.run in (
       s,
       p.events,
-      (refl, (n, session)),
-      subst (λ k. IsSession s k p.events) number session,
+      (refl, (p.left, session)),
+      subst (λ (left : List EventLine). IsSession s left p.events) (none_left rest p.left p.left_are whole) session,
       (t.1 ∙ ap (λ m. added m gathered) p.written ∙ added-added sink.old p.sent gathered ∙ ap (added sink.old) (sym p.text_is), t.2),
     ))
-played_all tree acts n count Stands mid gathered ending sink whole p (inr (inl t)) =
-    subst (λ x. PlaysAll tree acts x sink) (sym t.0) (broken_off tree acts n count t.1.0 Stands mid gathered sink_failed sink p t.1.1 t.2)
-played_all tree acts n count Stands mid gathered ending sink whole p (inr (inr t)) =
-    subst (λ x. PlaysAll tree acts x sink) (sym t.0) (broken_off tree acts n count t.1.0 Stands mid gathered sink_memory sink p t.1.1 t.2)
+played_all tree farm acts rest count Stands mid gathered ending sink whole p (inr (inl t)) =
+    subst (λ x. PlaysAll tree farm acts x sink) (sym t.0) (broken_off tree farm acts rest count t.1.0 Stands mid gathered sink_failed sink p t.1.1 t.2)
+played_all tree farm acts rest count Stands mid gathered ending sink whole p (inr (inr t)) =
+    subst (λ x. PlaysAll tree farm acts x sink) (sym t.0) (broken_off tree farm acts rest count t.1.0 Stands mid gathered sink_memory sink p t.1.1 t.2)
 
 -- what a text tells of the sink, from the call's beginning on
 pub told_from : (good : Ending) (gathered text : List ℕ) (ending : Ending) (mid : Option (List ℕ)) (faults : ℕ) (sink : Told (List ℕ)) → text ≡ gathered
@@ -180,10 +230,3 @@ pub told_from : (good : Ending) (gathered text : List ℕ) (ending : Ending) (mi
 told_from good gathered text ending mid faults sink same none t =
     subst (λ (b : List ℕ). Tells good b ending (told_of mid sink.new sink.faults_old sink.faults_new)) same
     (subst (λ (n : ℕ). Tells good text ending (told_of mid sink.new n sink.faults_new)) none t)
-
--- the act at a place of the list
-pub act_at : (acts items : List EventLine) (i : ℕ) (act : EventLine) → items ≡ acts → i < length items → act ≡ get_or items i act
-    → take (i + 1) acts ≡ take i acts ++ act ∷ []
-act_at acts items i act same lt is =
-    subst (λ list. take (i + 1) list ≡ take i list ++ act ∷ []) same
-    (take_more items i act lt ∙ ap (λ a. take i items ++ a ∷ []) (sym is))

@@ -8,6 +8,7 @@ use Rattle.sp_base.specs.declared.answer.Ask.{Ask}
 use Rattle.sp_base.specs.declared.answer.Req.{Req}
 use Rattle.resource_tree.specs.Content.{Content}
 use Rattle.error_answers.specs.Errors.{error_answer}
+use Rattle.any_config.specs.declared.farm.Farm.{Farm}
 use Rattle.publisher.specs.Rendering.{rendered}
 use Rattle.cover_rules.specs.declared.page.PageKey.{PageKey}
 use Rattle.http_front.specs.Faults.{status_of}
@@ -25,7 +26,8 @@ use Rattle.front.specs.declared.step.Step.{Step}
 use Rattle.front.specs.declared.step.Step.TheVariants as step
 use Rattle.front.specs.Events.{Event, Extended, DeliverAs, DeliverTo, Happens, HappensBy, IsOrFixed, Leads, LoseTo, PieceTo, RenderTo, Run, after_event, after_run, begun, gone, going, is_any, is_picked, is_rendered, is_unrendered, mood_notes, most_lines, notes_of, opened, opening, picked}
 use Rattle.front.specs.Moves.{Gives, IsFirst, Mood, Serves, after, afters, asked_by, due, flight_at, has_number, is_full, over_with, points, request_of, with_rendered_at, without}
-use Rattle.front.specs.Publishers.{answer_to, ask_of, direct_answer, fixed_answer, get_of}
+use Rattle.front.specs.Publishers.{Publishing, answer_to, direct_answer, fixed_answer, get_of}
+use Rattle.dispatch_rules.specs.Asking.{asked_of}
 use Rattle.front.specs.States.{Entry, RunState, asked_in, start_of}
 use Rattle.replay_text.specs.declared.event_line.EventLine.{EventLine}
 use Rattle.replay_text.specs.declared.event_line.EventLine.TheVariants as line
@@ -33,7 +35,7 @@ use Rattle.replay_text.specs.declared.scenario.Scenario.{Scenario}
 use Rattle.replay_text.specs.EventLines.{IsEventLine}
 use Rattle.replay_text.specs.Scenario.{AreActs}
 use Rattle.replay_text.specs.Transcript.{AreWritable, EventsAreWritable, IsLineNumber, IsWritable}
-use Rattle.sling_dispatch.specs.Runs.{IsSession, step_of}
+use Rattle.sling_dispatch.specs.Runs.{IsSession, published, step_of}
 
 -- ---- lists of notes
 pub both_writable : (a b : List Note) → AreWritable a → AreWritable b → AreWritable (a ++ b)
@@ -59,7 +61,7 @@ AllFit (f ∷ air) = Fits f × AllFit air
 pub record StateFits (w : RunState) : Type 0 where
   pub asked_is : asked_in w.log.entries ≤ 9223372036854775808
   pub air : AllFit w.air
-  pub publishing_is : w.publishing ≡ rendered
+  pub publishing_is : w.publishing ≡ published
 
 all-push : (air : List Flying) (f : Flying) → AllFit air → Fits f → AllFit (air ++ f ∷ [])
 all-push [] f all fits = (fits, tt)
@@ -129,12 +131,13 @@ pub record NoteFits (w : RunState) (note : Note) : Type 0 where
 
 first-fits : (m : Mood) (w : RunState) (c : ℕ) (request : Req) (note : Note) → StateFits w → c < 4294967296 → IsFirst m w c request note points → NoteFits w note
 first-fits m w c request note fits small (inl crowded) = rw crowded.1 (record { writable = (small, omega arith); state = local-fits w c 503 fits })
-first-fits m w c request note fits small (inr (_, inl full)) = rw full.1 (record { writable = (small, omega arith); state = local-fits w c 503 fits })
-first-fits m w c request note fits small (inr (_, inr (free, inl ask))) =
+first-fits m w c request note fits small (inr (_, inl hidden)) = rw hidden.1 (record { writable = (small, omega arith); state = local-fits w c 404 fits })
+first-fits m w c request note fits small (inr (_, inr (_, inl full))) = rw full.1 (record { writable = (small, omega arith); state = local-fits w c 503 fits })
+first-fits m w c request note fits small (inr (_, inr (_, inr (free, inl ask)))) =
     let room : nat_le 9223372036854775808 (asked_in w.log.entries) ≡ false = or-none (nat_le 256 (length w.air)) _ free in
     let most : asked_in w.log.entries + 1 ≤ 9223372036854775808 = grind (arith, room) in
     rw ask.1 (record { writable = (omega (arith, most), small, tt); state = asked-fits w _ c None (request_of (due w c)) fits refl most small })
-first-fits m w c request note fits small (inr (_, inr (_, inr (never, _)))) = absurd never
+first-fits m w c request note fits small (inr (_, inr (_, inr (_, inr (never, _))))) = absurd never
 
 gives-fits : (m : Mood) (w : RunState) (c : ℕ) (owed : Due) (note : Note) → StateFits w → c < 4294967296 → Gives m w c owed note → NoteFits w note
 gives-fits m w c (Send slot) note fits small gives = rw gives.1 (record { writable = small; state = keeps-fits w _ fits refl refl refl })
@@ -161,9 +164,9 @@ idle-fits w notes fits is = rw is (record { writable = (tt, tt); state = fits })
 
 -- ---- events
 module _ (short : (tree : Content) (ask : Ask) → (rendered tree ask).status < 1000) (error : (status : ℕ) → (error_answer status).status ≡ status) where
-  answer_short : (content : Content) (target : Option Target) → (answer_to rendered content target).status < 65536
-  answer_short content (Some target) = omega (arith, short content (get_of target))
-  answer_short content None = omega (arith, error 400)
+  answer_short : (farm : Farm) (content : Content) (target : Option Target) → (answer_to published farm content target).status < 65536
+  answer_short farm content (Some target) = omega (arith, short content (get_of farm target))
+  answer_short farm content None = omega (arith, error 400)
 
   or_fixed_short : (m : Mood) (answer wanted : Answer) → wanted.status < 65536 → IsOrFixed m answer wanted → answer.status < 65536
   or_fixed_short m answer wanted small (inl is) = subst (λ (a : Answer). a.status < 65536) (sym is) small
@@ -199,7 +202,7 @@ module _ (short : (tree : Content) (ask : Ask) → (rendered tree ask).status < 
   render_fits w e None fits each is = idle-fits w e.body fits is
   render_fits w e (Some f) fits each to =
       let here = each f refl in
-      let wanted : (w.publishing w.content (ask_of f.request)).status < 65536 = rw fits.publishing_is (omega (arith, short w.content (ask_of f.request))) in
+      let wanted : (w.publishing w.content (asked_of w.farm f.request)).answer.status < 65536 = rw fits.publishing_is (omega (arith, short w.content (asked_of w.farm f.request))) in
       rw to.2 (record {
         writable = ((omega (arith, here.number), or_fixed_short e.mood to.0 _ wanted to.1), tt);
         state = record { asked_is = fits.asked_is; air = all-rendered f.number to.0 w.air fits.air; publishing_is = fits.publishing_is };
@@ -235,7 +238,7 @@ module _ (short : (tree : Content) (ask : Ask) → (rendered tree ask).status < 
   by_step w e (step.Piece c bytes) fits small to = piece_fits w e c bytes (w.line c) (keeps-fits w _ fits refl refl refl) small to
   by_step w e (step.Gone c) fits small is = gone_fits w c e.body (w.line c) fits is
   by_step w e (step.Direct target) fits small to =
-      let wanted : (direct_answer w.publishing w.content target).status < 65536 = rw fits.publishing_is (answer_short w.content (target_of target)) in
+      let wanted : (direct_answer w.publishing w.farm w.content target).status < 65536 = rw fits.publishing_is (answer_short w.farm w.content (target_of target)) in
       rw to.2 (record { writable = (or_fixed_short e.mood to.0 _ wanted to.1, tt); state = fits })
   by_step w e (step.Render pick) fits small to = render_fits w e (picked pick is_unrendered w.air) fits (picked_fits pick is_unrendered w.air fits.air) to
   by_step w e (step.Deliver pick) fits small to = delivers_fit w e (picked pick is_rendered w.air) fits (picked_fits pick is_rendered w.air fits.air) to
@@ -251,26 +254,25 @@ module _ (short : (tree : Content) (ask : Ask) → (rendered tree ask).status < 
       let one = by_step w e e.step fits steps.0 run.0 in
       (both_writable e.body (mood_notes e.mood) one.writable (mood_writable e.mood), run_writable (after_event w e) events one.state steps.1 run.1)
 
-  line_fits : (act : EventLine) → IsEventLine act → StepFits (step_of act)
-  line_fits (line.Direct target) is = tt
-  line_fits (line.Open c peer) is = is.0
-  line_fits (line.Close c) is = is
-  line_fits (line.Bytes c bytes) is = is.0
-  line_fits (line.Get c target) is = is.0
-  line_fits (line.Post c target form) is = is.0
-  line_fits (line.Render flight) is = tt
-  line_fits (line.Deliver flight) is = tt
-  line_fits (line.Lose flight) is = tt
+  line_fits : (host : List ℕ) (act : EventLine) → IsEventLine act → StepFits (step_of host act)
+  line_fits host (line.Direct target) is = tt
+  line_fits host (line.Open c peer) is = is.0
+  line_fits host (line.Close c) is = is
+  line_fits host (line.Bytes c bytes) is = is.0
+  line_fits host (line.Get c target) is = is.0
+  line_fits host (line.Post c target form) is = is.0
+  line_fits host (line.Render flight) is = tt
+  line_fits host (line.Deliver flight) is = tt
+  line_fits host (line.Lose flight) is = tt
 
-  steps_fit : (n : ℕ) (acts : List EventLine) (events : List Event) → AreActs acts → map (λ (e : Event). e.step) events ≡ map step_of (take n acts) → AllStepsFit events
-  steps_fit n acts [] all same = tt
-  steps_fit zero acts (e ∷ events) all same = absurd (let no : ⊥ = cc in no)
-  steps_fit (suc n) [] (e ∷ events) all same = absurd (let no : ⊥ = cc in no)
-  steps_fit (suc n) (act ∷ acts) (e ∷ events) all same =
-      let head : e.step ≡ step_of act = cc in
-      let tail : map (λ (x : Event). x.step) events ≡ map step_of (take n acts) = cc in
-      (subst StepFits (sym head) (line_fits act all.0), steps_fit n acts events all.1 tail)
+  steps_fit : (host : List ℕ) (made left : List EventLine) (events : List Event) → AreActs (made ++ left) → map (λ (e : Event). e.step) events ≡ map (step_of host) made → AllStepsFit events
+  steps_fit host made left [] all same = tt
+  steps_fit host [] left (e ∷ events) all same = absurd (let no : ⊥ = cc in no)
+  steps_fit host (act ∷ made) left (e ∷ events) all same =
+      let head : e.step ≡ step_of host act = cc in
+      let tail : map (λ (x : Event). x.step) events ≡ map (step_of host) made = cc in
+      (subst StepFits (sym head) (line_fits host act all.0), steps_fit host made left events all.1 tail)
 
-  pub session_writable : (s : Scenario) (n : ℕ) (events : List Event) → AreActs s.acts → IsSession s n events → EventsAreWritable (map notes_of events)
-  session_writable s n events acts session =
-      run_writable _ events (record { asked_is = omega arith; air = tt; publishing_is = refl }) (steps_fit n s.acts events acts session.steps) session.run
+  pub session_writable : (s : Scenario) (left : List EventLine) (events : List Event) → IsSession s left events → EventsAreWritable (map notes_of events)
+  session_writable s left events session =
+      run_writable _ events (record { asked_is = omega arith; air = tt; publishing_is = refl }) (steps_fit _ session.made left events session.acts.are session.steps) session.run

@@ -1,5 +1,5 @@
 -- How a run may end, and what each ending says of the source and the sink.
-use Rattle.std.specs.Prelude.{◌≡◌, ◌≢◌, ◌≤◌, ◌+◌, ◌++◌, ◌⊎◌, ℕ, List, [], ◌∷◌, Option, IfSome, Ok, Err, codes, length, take}
+use Rattle.std.specs.Prelude.{false, ◌≡◌, ◌≢◌, ◌≤◌, ◌+◌, ◌++◌, ◌⊎◌, ℕ, List, [], ◌∷◌, Option, IfSome, Ok, Err, codes, take}
 use Rattle.std.specs.Fmt.{decimal}
 use Rattle.sp_outside.specs.Told.{added, IsAtEnd}
 use Rattle.sp_outside.specs.Causes.{Rose}
@@ -11,11 +11,15 @@ use Rattle.replay_text.specs.Languages.{IsRefusedWithin}
 use Rattle.replay_text.specs.Scenario.{IsScenario, Reads, most}
 use Rattle.sling_dispatch.specs.Runs.{IsSession, told_of_events}
 use Rattle.sling_dispatch.specs.Streams.{IsReadOut}
-use Rattle.sling_dispatch.specs.Faults.{fault_text}
+use Rattle.sling_dispatch.specs.Farms.{farm_in, farm_text, lacks_memory}
+use Rattle.sling_dispatch.specs.Faults.{fault_text, refusal_text}
+use Rattle.any_config.specs.declared.farm.Farm.{Farm}
+use Rattle.sling_dispatch.specs.declared.farms.FarmRefusal.{FarmRefusal}
+use Rattle.replay_text.specs.declared.event_line.EventLine.{EventLine}
 use Rattle.replay_text.specs.declared.scenario.Scenario.{Scenario}
 use Rattle.front.specs.Events.{Event}
 use Rattle.sling_dispatch.specs.declared.ending.Ending.{Ending}
-use Rattle.sling_dispatch.specs.declared.ending.Ending.TheVariants.{Done, Usage, SourceFailed, SinkFailed, Refused, ContentRefused, NoMemory}
+use Rattle.sling_dispatch.specs.declared.ending.Ending.TheVariants.{Done, Usage, SourceFailed, SinkFailed, Refused, ContentRefused, FarmRefused, NoMemory}
 
 -- an object of the outside over one call: what it told before and after, and its count of faults before and after
 pub record Told (T : Type 0) : Type 0 where
@@ -39,13 +43,14 @@ HasFailed o = Rose o.faults_old o.faults_new
 abbrev pub IsUntouched : {T : Type 0} → Told T → Type 0
 IsUntouched o = (o.new ≡ o.old) × HasNotFailed o
 
--- what a call may be writing: of a refusal how many newlines stand before its place, of a content its fault
+-- what a call may be writing: of a refusal how many newlines stand before its place, of a content its fault, of a farm why there is none
 pub data Writing : Type 0 where
   Nothing : Writing
   UsageLine : Writing
   SourceLine : Writing
   RefusalLine : ℕ → Writing
   ContentLine : ContentFault → Writing
+  FarmLine : FarmRefusal → Writing
   Events : Scenario → List Event → Writing
 
 -- the text of what is written
@@ -55,6 +60,7 @@ output_of UsageLine = codes "usage: replay" ++ 10 ∷ []
 output_of SourceLine = codes "source failed" ++ 10 ∷ []
 output_of (RefusalLine before) = codes "scenario refused at line " ++ decimal (before + 1) ++ 10 ∷ []
 output_of (ContentLine fault) = codes "content refused: " ++ fault_text fault ++ 10 ∷ []
+output_of (FarmLine refusal) = codes "farm refused: " ++ refusal_text refusal ++ 10 ∷ []
 output_of (Events s events) = told_of_events events
 
 -- the whole text was written
@@ -67,22 +73,27 @@ HasWrittenPrefix sink w = (n : ℕ) × (sink.new ≡ added sink.old (take n (out
 
 -- What each ending says of the sink, where IsDue says what may be written.
 abbrev pub Means : (Writing → Type 0) → Ending → Told (List ℕ) → Type 0
-Means IsDue Done sink = (s : Scenario) × (events : List Event) × IsDue (Events s events) × IsSession s (length s.acts) events
+Means IsDue Done sink = (s : Scenario) × (events : List Event) × IsDue (Events s events) × IsSession s [] events
     × HasWritten sink (Events s events)
 Means IsDue Usage sink = IsDue UsageLine × HasWritten sink UsageLine
 Means IsDue SourceFailed sink = IsDue SourceLine × HasWritten sink SourceLine
 Means IsDue Refused sink = (before : ℕ) × IsDue (RefusalLine before) × HasWritten sink (RefusalLine before)
 Means IsDue ContentRefused sink = (fault : ContentFault) × IsDue (ContentLine fault) × HasWritten sink (ContentLine fault)
+Means IsDue FarmRefused sink = (refusal : FarmRefusal) × IsDue (FarmLine refusal) × HasWritten sink (FarmLine refusal)
 Means IsDue SinkFailed sink = (w : Writing) × IsDue w × HasWrittenPrefix sink w × HasFailed sink
 Means IsDue NoMemory sink = (w : Writing) × IsDue w × HasWrittenPrefix sink w × HasNotFailed sink
 
 -- these are first events of the scenario
 abbrev pub IsRunOf : Scenario → List Event → Type 0
-IsRunOf s events = (n : ℕ) × IsSession s n events
+IsRunOf s events = (left : List EventLine) × IsSession s left events
 
 -- the content of the scenario has a reading
 abbrev pub HasContent : Scenario → Type 0
 HasContent s = (tree : Content) × (content_of s.content ≡ Ok tree)
+
+-- so has its farm, or the standard one
+abbrev pub HasFarm : Scenario → Type 0
+HasFarm s = (farm : Farm) × (farm_in (farm_text s.farm) ≡ Ok farm)
 
 -- the words are `replay` alone
 abbrev pub IsReplay : List (List ℕ) → Type 0
@@ -109,6 +120,8 @@ IsDue c SourceLine = IsReplay c.words × HasFailed c.source
 IsDue c (RefusalLine before) = Replays c (λ bytes. IsRefusedWithin most IsScenario bytes before) × IsReadOut (most + 1) c.source.old c.source.new
 IsDue c (ContentLine fault) = Replays c (λ bytes. (s : Scenario) × Reads bytes s × (content_of s.content ≡ Err fault)) × IsAtEnd c.source.new
     × (fault ≢ no_memory)
+IsDue c (FarmLine refusal) = Replays c (λ bytes. (s : Scenario) × Reads bytes s × HasContent s × (farm_in (farm_text s.farm) ≡ Err refusal))
+    × IsAtEnd c.source.new × (lacks_memory refusal ≡ false)
 IsDue c (Events s events) = Replays c (λ bytes. Reads bytes s) × IsAtEnd c.source.new × IsRunOf s events
 
 -- the exit status of an ending
@@ -119,4 +132,5 @@ status_of SourceFailed = 3
 status_of SinkFailed = 4
 status_of Refused = 5
 status_of ContentRefused = 6
+status_of FarmRefused = 7
 status_of NoMemory = 70

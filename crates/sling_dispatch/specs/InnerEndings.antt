@@ -1,5 +1,5 @@
 -- Scaffolding: what the private functions of the run promise, for proofs alone. A reader of the theorem needs none of it.
-use Rattle.std.specs.Prelude.{◌≡◌, ◌≢◌, ◌≤◌, ◌++◌, ◌⊎◌, ℕ, List, [], Result, Ok, Err, length, take}
+use Rattle.std.specs.Prelude.{◌≡◌, ◌≢◌, ◌≤◌, ◌++◌, ◌⊎◌, ℕ, List, [], Option, Result, Ok, Err, length, take, false}
 use Rattle.sp_outside.specs.Told.{added}
 use Rattle.sp_outside.specs.Causes.{Rose}
 use Rattle.sp_outside.specs.declared.sink.SinkFault.{SinkFault}
@@ -9,8 +9,11 @@ use Rattle.content_json.specs.ContentOf.{content as content_of}
 use Rattle.content_json.specs.declared.fault.ContentFault.{ContentFault}
 use Rattle.content_json.specs.declared.fault.ContentFault.TheVariants.{NoMemory as no_memory}
 use Rattle.replay_text.specs.Languages.{IsRefusedWithin}
-use Rattle.replay_text.specs.Scenario.{IsScenario, Reads, most}
-use Rattle.sling_dispatch.specs.Endings.{Told, HasNotFailed, HasFailed, Writing, Nothing, UsageLine, SourceLine, RefusalLine, ContentLine, Events, Means, IsRunOf}
+use Rattle.replay_text.specs.Scenario.{IsActs, IsScenario, Reads, most}
+use Rattle.sling_dispatch.specs.Endings.{Told, HasNotFailed, HasFailed, Writing, Nothing, UsageLine, SourceLine, RefusalLine, ContentLine, FarmLine, Events, Means, HasContent, IsRunOf}
+use Rattle.sling_dispatch.specs.Farms.{farm_in, farm_text, lacks_memory}
+use Rattle.any_config.specs.declared.farm.Farm.{Farm}
+use Rattle.sling_dispatch.specs.declared.farms.FarmRefusal.{FarmRefusal}
 use Rattle.replay_text.specs.declared.event_line.EventLine.{EventLine}
 use Rattle.replay_text.specs.declared.scenario.Scenario.{Scenario}
 use Rattle.sling_dispatch.specs.declared.streams.ReadFault.{ReadFault}
@@ -25,6 +28,7 @@ IsDueAt text UsageLine = ⊥
 IsDueAt text SourceLine = ⊥
 IsDueAt text (RefusalLine before) = (rest : List ℕ) → (length text ≤ most → rest ≡ []) → IsRefusedWithin most IsScenario (text ++ rest) before
 IsDueAt text (ContentLine fault) = (fault ≢ no_memory) × (s : Scenario) × Reads text s × (content_of s.content ≡ Err fault)
+IsDueAt text (FarmLine refusal) = (lacks_memory refusal ≡ false) × (s : Scenario) × Reads text s × HasContent s × (farm_in (farm_text s.farm) ≡ Err refusal)
 IsDueAt text (Events s events) = Reads text s × IsRunOf s events
 
 -- what is written of a scenario
@@ -34,6 +38,7 @@ IsDueIn s UsageLine = ⊥
 IsDueIn s SourceLine = ⊥
 IsDueIn s (RefusalLine before) = ⊥
 IsDueIn s (ContentLine fault) = (content_of s.content ≡ Err fault) × (fault ≢ no_memory)
+IsDueIn s (FarmLine refusal) = HasContent s × (farm_in (farm_text s.farm) ≡ Err refusal) × (lacks_memory refusal ≡ false)
 IsDueIn s (Events t events) = (t ≡ s) × IsRunOf s events
 
 -- what a session writes
@@ -43,6 +48,7 @@ IsDueOf s UsageLine = ⊥
 IsDueOf s SourceLine = ⊥
 IsDueOf s (RefusalLine before) = ⊥
 IsDueOf s (ContentLine fault) = ⊥
+IsDueOf s (FarmLine refusal) = ⊥
 IsDueOf s (Events t events) = (t ≡ s) × IsRunOf s events
 
 -- nothing, or this line about a content
@@ -52,7 +58,18 @@ IsContentOr fault UsageLine = ⊥
 IsContentOr fault SourceLine = ⊥
 IsContentOr fault (RefusalLine before) = ⊥
 IsContentOr fault (ContentLine f) = (f ≡ fault) × (fault ≢ no_memory)
+IsContentOr fault (FarmLine refusal) = ⊥
 IsContentOr fault (Events s events) = ⊥
+
+-- nothing, or this line about a farm
+abbrev pub IsFarmOr : FarmRefusal → Writing → Type 0
+IsFarmOr refusal Nothing = Unit {0}
+IsFarmOr refusal UsageLine = ⊥
+IsFarmOr refusal SourceLine = ⊥
+IsFarmOr refusal (RefusalLine before) = ⊥
+IsFarmOr refusal (ContentLine fault) = ⊥
+IsFarmOr refusal (FarmLine r) = (r ≡ refusal) × (lacks_memory refusal ≡ false)
+IsFarmOr refusal (Events s events) = ⊥
 
 -- What came of writing a text, of which good was to be the ending: that, or the sink failed, or memory did.
 abbrev pub Tells : Ending → List ℕ → Ending → Told (List ℕ) → Type 0
@@ -65,9 +82,19 @@ abbrev pub ending_by : SinkFault → Ending
 ending_by sink_failed = SinkFailed
 ending_by sink_memory = NoMemory
 
--- what is written where acts are played on a content, whichever scenario has them
-abbrev pub PlaysAll : Content → List EventLine → Ending → Told (List ℕ) → Type 0
-PlaysAll tree acts ending sink = (s : Scenario) → s.acts ≡ acts → content_of s.content ≡ Ok tree → Means (IsDueOf s) ending sink
+-- the bytes are acts
+abbrev pub AreActLines : List ℕ → Type 0
+AreActLines bytes = (acts : List EventLine) × IsActs bytes acts
+
+-- what is written where acts are played on a content by a farm, whichever scenario has them
+abbrev pub PlaysAll : Content → Farm → List ℕ → Ending → Told (List ℕ) → Type 0
+PlaysAll tree farm acts ending sink =
+    (s : Scenario) → s.acts ≡ acts → content_of s.content ≡ Ok tree → farm_in (farm_text s.farm) ≡ Ok farm → Means (IsDueOf s) ending sink
+
+-- the same before the farm is read
+abbrev pub PlaysOn : Content → Option (List ℕ) → List ℕ → Ending → Told (List ℕ) → Type 0
+PlaysOn tree given acts ending sink =
+    (s : Scenario) → s.acts ≡ acts → s.farm ≡ given → content_of s.content ≡ Ok tree → Means (IsDueIn s) ending sink
 
 -- A read answers Failed only where the count rose, and any other answer leaves the count.
 abbrev pub HasReadCause : {T : Type 0} → ℕ → ℕ → Result T ReadFault → Type 0

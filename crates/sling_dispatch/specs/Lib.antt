@@ -1,3 +1,4 @@
+pub mod Farms
 pub mod Runs
 pub mod Fronts
 pub mod Streams

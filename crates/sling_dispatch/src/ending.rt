@@ -15,6 +15,8 @@ pub enum Ending {
     Refused,
     /// The content has no reading.
     ContentRefused,
+    /// The farm's text has no reading.
+    FarmRefused,
     NoMemory,
 }
 
@@ -30,6 +32,7 @@ impl Ending {
             Ending::SinkFailed => 4,
             Ending::Refused => 5,
             Ending::ContentRefused => 6,
+            Ending::FarmRefused => 7,
             Ending::NoMemory => 70,
         }
     }

@@ -2,14 +2,15 @@
 ghost use Rattle.std.specs.Prelude.{◌≡◌, ◌⊎◌, ◌<◌, ℕ, List, Some, map};
 ghost use Rattle.resource_tree.specs.Content.{Content};
 ghost use Rattle.http_front.specs.Targets.{begins_with_slash, path_bytes};
-ghost use Rattle.publisher.specs.Rendering.{rendered};
+ghost use Rattle.any_config.specs.declared.farm.Farm as models;
 ghost use Rattle.front.specs.Publishers.{direct_answer};
 ghost use Rattle.front.specs.Events.{Event, notes_of};
-ghost use Rattle.replay_text.specs.Scenario.{AreActs, Reads};
-ghost use Rattle.sling_dispatch.specs.Endings.{Told, Call, Means, IsDue, IsReplay, HasNotFailed, HasContent};
+ghost use Rattle.replay_text.specs.Scenario.{Reads};
+ghost use Rattle.sling_dispatch.specs.Endings.{Told, Call, Means, IsDue, IsReplay, HasNotFailed, HasContent, HasFarm};
 ghost use Rattle.sling_dispatch.specs.declared.ending.Ending.{Ending};
 ghost use Rattle.sling_dispatch.specs.declared.ending.Ending.TheVariants.{Done, NoMemory};
-ghost use Rattle.sling_dispatch.specs.Runs.{IsSession, told_of_events};
+ghost use Rattle.sling_dispatch.specs.Runs.{IsSession, published, told_of_events};
+ghost use Rattle.replay_text.specs.declared.event_line.EventLine.{EventLine};
 ghost use Rattle.replay_text.specs.declared.scenario.Scenario.{Scenario};
 
 use publisher::statuses_are_short;
@@ -17,15 +18,15 @@ use replay_text::{a_transcript_tells_its_events, one_reading};
 
 /// How the path of a target is escaped doesn't matter, apart from the slash that it begins with, nor which query follows.
 pub fn spellings_are_answered_alike()
-    ensures { (content : Content) (a b : List ℕ) → begins_with_slash a ≡ begins_with_slash b → path_bytes a ≡ path_bytes b
-        → direct_answer rendered content a ≡ direct_answer rendered content b }
+    ensures { (farm : models.Farm) (content : Content) (a b : List ℕ) → begins_with_slash a ≡ begins_with_slash b → path_bytes a ≡ path_bytes b
+        → direct_answer published farm content a ≡ direct_answer published farm content b }
 {}
 
-/// Where the words are right, the source's bytes are a scenario whose content has a reading, and neither the source nor the
+/// Where the words are right, the source's bytes are a scenario whose content and farm have a reading, and neither the source nor the
 /// sink failed, the run is done, unless it ran out of memory.
 pub fn complete()
     ensures { (c : Call) (sink : Told (List ℕ)) (bytes : List ℕ) (s : Scenario) (ending : Ending) → Means (IsDue c) ending sink
-        → IsReplay c.words → c.source.old ≡ Some bytes → Reads bytes s → HasContent s
+        → IsReplay c.words → c.source.old ≡ Some bytes → Reads bytes s → HasContent s → HasFarm s
         → c.source.faults_old < 18446744073709551615 → HasNotFailed c.source → sink.faults_old < 18446744073709551615 → HasNotFailed sink
         → (ending ≡ Done) ⊎ (ending ≡ NoMemory) }
 {
@@ -34,7 +35,7 @@ pub fn complete()
 
 /// A transcript tells what happened in its session: no two sessions have the same, but those in which the same happened.
 pub fn a_transcript_tells_its_session()
-    ensures { (s t : Scenario) (n m : ℕ) (a b : List Event) → AreActs s.acts → AreActs t.acts → IsSession s n a → IsSession t m b → told_of_events a ≡ told_of_events b → map notes_of a ≡ map notes_of b }
+    ensures { (s t : Scenario) (left right : List EventLine) (a b : List Event) → IsSession s left a → IsSession t right b → told_of_events a ≡ told_of_events b → map notes_of a ≡ map notes_of b }
 {
     statuses_are_short();
     a_transcript_tells_its_events();

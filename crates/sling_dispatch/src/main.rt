@@ -3,14 +3,15 @@
 
 mod command;
 mod ending;
+mod farms;
 mod faults;
 mod laws;
 mod play;
 mod program;
-#[cfg(test)]
-mod run_tests;
 mod site;
 mod steps;
+#[cfg(test)]
+mod stream_tests;
 mod streams;
 #[cfg(test)]
 mod tests;

@@ -1,21 +1,21 @@
 //! Makes the events of a scenario, and writes its transcript in large parts.
-ghost use Rattle.std.specs.Prelude.{◌≡◌, ◌++◌, ℕ, List, IfOk, OnOk, OnErr, take, true, false};
+ghost use Rattle.std.specs.Prelude.{◌≡◌, ◌≢◌, ◌++◌, [], ℕ, List, IfOk, OnOk, OnErr, take, true, false};
 ghost use Rattle.sp_outside.specs.Told.{added};
 ghost use Rattle.sp_outside.specs.Causes.{HasSinkCause};
 ghost use Rattle.sling_dispatch.specs.Fronts.{IsNext};
-ghost use Rattle.sling_dispatch.specs.Runs.{step_of};
+ghost use Rattle.sling_dispatch.specs.Runs.{published};
 ghost use Rattle.front.specs.Fronts.{Stands};
-ghost use Rattle.publisher.specs.Rendering.{rendered};
 ghost use Rattle.sling_dispatch.specs.Endings.{told_of};
-ghost use Rattle.sling_dispatch.specs.InnerEndings.{Tells, ending_by, PlaysAll};
+ghost use Rattle.sling_dispatch.specs.InnerEndings.{AreActLines, Tells, ending_by, PlaysAll};
 
 use crate::ending::Ending;
 use crate::site::Site;
-use crate::steps::step_of;
+use crate::steps::{asked_host, step_of};
 use crate::streams::write_all;
+use any_config::Farm;
 use front::{Front, events_extend};
 use publisher::Publisher;
-use replay_text::{EventLine, EventLineList, write_notes};
+use replay_text::{acts_are_told_by_their_lines, first_act, write_notes};
 use sp_base::Mem;
 use sp_outside::{Sink, SinkFault};
 use std::alloc::Global;
@@ -47,23 +47,31 @@ fn ending_by(fault: SinkFault) -> Ending
 pub fn play<K: Sink>(
     alloc: Global,
     publisher: Publisher,
-    acts: &EventLineList,
+    farm: Farm,
+    acts: &[u8],
     sink: &mut K,
 ) -> Ending
-    ensures { PlaysAll publisher acts.now result (told_of (K.held sink.old) (K.held sink.new) (K.faults sink.old) (K.faults sink.new)) }
+    requires { AreActLines acts.now }
+    ensures { PlaysAll publisher farm acts.now result (told_of (K.held sink.old) (K.held sink.new) (K.faults sink.old) (K.faults sink.new)) }
 {
     events_extend();
-    let mut front = Front::new(alloc, Site { publisher });
+    acts_are_told_by_their_lines();
+    let Ok(host) = asked_host(alloc, &farm) else {
+        return Ending::NoMemory;
+    };
+    let mut front = Front::new(alloc, Site { publisher }, farm);
     let mut gathered = Vec::new(alloc);
     let mut event = 0;
-    for act in acts.as_slice() {
+    let mut rest = acts;
+    while !rest.is_empty() {
         event += 1;
-        let Ok(text) = event_of(alloc, &mut front, event, act) else {
+        let Ok((text, after)) = event_of(alloc, &mut front, &host, event, rest) else {
             return say(sink, &gathered, Ending::NoMemory);
         };
         if let Err(fault) = gather(sink, &mut gathered, &text) {
             return ending_by(fault);
         }
+        rest = after;
     }
     say(sink, &gathered, Ending::Done)
 }
@@ -94,11 +102,23 @@ fn keep(gathered: &mut Vec<u8>, text: &[u8]) -> bool
     gathered.extend_from_slice(text).is_ok()
 }
 
-// The lines of the next event.
-fn event_of(alloc: Global, front: &mut Front<Site>, event: u64, act: &EventLine) -> Mem<Vec<u8>>
-    ensures { IfOk result (λ text. IsNext (Stands rendered front.old.renderer.publisher front.old.board) (Stands rendered front.new.renderer.publisher front.new.board) (step_of act.now) event text.items) }
+// The lines of the next event, that of the act whose line stands first, and the lines after that one.
+fn event_of<'a>(
+    alloc: Global,
+    front: &mut Front<Site>,
+    host: &[u8],
+    event: u64,
+    lines: &'a [u8],
+) -> Mem<(Vec<u8>, &'a [u8])>
+    requires { AreActLines lines.now × (lines.now ≢ []) }
+    ensures { IfOk result (λ p. IsNext (Stands published front.old.renderer.publisher front.old.farm front.old.board) (Stands published front.new.renderer.publisher front.new.farm front.new.board) host.now lines.now p.1.now event p.0.items) }
 {
-    let step = step_of(alloc, act)?;
+    acts_are_told_by_their_lines();
+    let Some((act, rest)) = first_act(alloc, lines)? else {
+        unreachable!();
+    };
+    let step = step_of(alloc, host, &act)?;
     let notes = front.step(alloc, &step)?;
-    write_notes(alloc, event, notes.as_slice())
+    let text = write_notes(alloc, event, notes.as_slice())?;
+    Ok((text, rest))
 }

@@ -1,20 +1,23 @@
 //! The run: what the words say is done, from the source to the sink.
-ghost use Rattle.std.specs.Prelude.{◌≡◌, ◌≢◌, ◌↔◌, ◌++◌, ◌∷◌, ◌+◌, [], ℕ, List, Err, map, codes, IsTrue, IfOk, IfErr, OnErr};
+ghost use Rattle.std.specs.Prelude.{◌≡◌, ◌≢◌, ◌↔◌, ◌++◌, ◌∷◌, ◌+◌, [], ℕ, List, Ok, Err, false, map, codes, IsTrue, IfOk, IfErr, OnErr};
 ghost use Rattle.sling_dispatch.specs.declared.ending.Ending.{Ending};
 ghost use Rattle.replay_text.specs.Scenario.{Reads, IsScenario, most};
 ghost use Rattle.replay_text.specs.Reading.{RefusesWithin};
 ghost use Rattle.sling_dispatch.specs.Streams.{HasTaken};
 ghost use Rattle.sling_dispatch.specs.Endings.{Means, IsDue, IsReplay, IsUntouched, told_of, status_of};
-ghost use Rattle.sling_dispatch.specs.InnerEndings.{IsDueAt, IsDueIn, IsContentOr, Tells};
+ghost use Rattle.sling_dispatch.specs.InnerEndings.{AreActLines, IsDueAt, IsDueIn, IsContentOr, IsFarmOr, PlaysOn, Tells};
+ghost use Rattle.sling_dispatch.specs.Farms as spec;
 
 use crate::ending::Ending;
-use crate::faults::{content_line, is_memory, refusal_line};
+use crate::farms::{FarmRefusal, farm_in, farm_text, lacks_memory};
+use crate::faults::{content_line, farm_line, is_memory, refusal_line};
 use crate::play::{play, say};
 use crate::streams::{ReadFault, read_whole};
+use any_config::Farm;
 use content_json::{ContentFault, read_tree};
 use publisher::Publisher;
 use replay_text::{LONGEST_SCENARIO, Scenario, ScenarioFault, read_scenario};
-use sp_base::Mem;
+use sp_base::{ByteBuf, Mem};
 use sp_outside::{Sink, Source};
 use std::alloc::Global;
 use std::hash::RandomState;
@@ -113,14 +116,50 @@ fn scenario_of(alloc: Global, text: Vec<u8>) -> Result<Scenario, ScenarioFault>
 
 // Runs a scenario. The bytes of its content are given up before the run begins.
 fn session<K: Sink>(alloc: Global, seeds: RandomState, scenario: Scenario, sink: &mut K) -> Ending
+    requires { AreActLines scenario.acts }
     ensures { Means (IsDueIn scenario) result (told_of (K.held sink.old) (K.held sink.new) (K.faults sink.old) (K.faults sink.new)) }
 {
-    let Scenario { content, acts } = scenario;
+    let Scenario {
+        content,
+        farm,
+        acts,
+    } = scenario;
     let read = read_tree(alloc, seeds, content.bytes());
     drop(content);
     match read {
-        Ok(tree) => play(alloc, Publisher::new(alloc, seeds, tree), &acts, sink),
+        Ok(tree) => run_on(
+            alloc,
+            Publisher::new(alloc, seeds, tree),
+            farm,
+            acts.bytes(),
+            sink,
+        ),
         Err(fault) => refuse_content(alloc, &fault, sink),
+    }
+}
+
+// The farm that a text gives, or the standard one. The text is given up.
+fn farm_given(alloc: Global, given: Option<ByteBuf>) -> Result<Farm, FarmRefusal>
+    ensures ok { IfOk result (λ farm. spec.farm_in (spec.farm_text given) ≡ Ok farm) }
+    ensures err { IfErr result (λ refusal. spec.lacks_memory refusal ≡ false → spec.farm_in (spec.farm_text given) ≡ Err refusal) }
+{
+    farm_in(alloc, farm_text(&given))
+}
+
+// Makes the events of acts on a content, before the farm that a text gives.
+fn run_on<K: Sink>(
+    alloc: Global,
+    publisher: Publisher,
+    given: Option<ByteBuf>,
+    acts: &[u8],
+    sink: &mut K,
+) -> Ending
+    requires { AreActLines acts.now }
+    ensures { PlaysOn publisher given acts.now result (told_of (K.held sink.old) (K.held sink.new) (K.faults sink.old) (K.faults sink.new)) }
+{
+    match farm_given(alloc, given) {
+        Ok(farm) => play(alloc, publisher, farm, acts, sink),
+        Err(refusal) => refuse_farm(alloc, &refusal, sink),
     }
 }
 
@@ -132,4 +171,14 @@ fn refuse_content<K: Sink>(alloc: Global, fault: &ContentFault, sink: &mut K) ->
         return Ending::NoMemory;
     }
     say_line(sink, content_line(alloc, fault), Ending::ContentRefused)
+}
+
+// Says why the farm is refused.
+fn refuse_farm<K: Sink>(alloc: Global, refusal: &FarmRefusal, sink: &mut K) -> Ending
+    ensures { Means (IsFarmOr refusal.now) result (told_of (K.held sink.old) (K.held sink.new) (K.faults sink.old) (K.faults sink.new)) }
+{
+    if lacks_memory(refusal) {
+        return Ending::NoMemory;
+    }
+    say_line(sink, farm_line(alloc, refusal), Ending::FarmRefused)
 }

@@ -1,8 +1,8 @@
 //! The publisher as a front asks it.
-ghost use Rattle.publisher.specs.Rendering.{rendered};
+ghost use Rattle.sling_dispatch.specs.Runs.{published};
 
 use front::Renderer;
-use publisher::Publisher;
+use publisher::{Publisher, reads_change_nothing, statuses_are_short};
 use sp_base::{Answer, Ask, Mem};
 use std::alloc::Global;
 
@@ -13,11 +13,13 @@ pub struct Site {
 }
 
 impl Renderer for Site {
-    ghost publishing = { rendered };
+    ghost publishing = { published };
 
     ghost content = { λ site. site.publisher };
 
     fn render(&mut self, alloc: Global, ask: &Ask) -> Mem<Answer> {
+        reads_change_nothing();
+        statuses_are_short();
         self.publisher.answer(alloc, ask)
     }
 }

@@ -1,24 +1,42 @@
 //! What the lines of a scenario do.
-ghost use Rattle.std.specs.Prelude.{◌≡◌, ◌++◌, ◌≤◌, IfOk, OnOk};
+ghost use Rattle.std.specs.Prelude.{◌≡◌, ◌++◌, IfOk, OnOk, codes};
 ghost use Rattle.sling_dispatch.specs.Runs as runs;
 
+use any_config::Farm;
 use front::{Pick, Step};
 use replay_text::{EventLine, Flight};
 use sp_base::{ByteBuf, Mem};
 use std::alloc::Global;
 
-/// What a line of a scenario does.
-pub fn step_of(alloc: Global, line: &EventLine) -> Mem<Step>
-    ensures { IfOk result (λ step. step ≡ runs.step_of line.now) }
+/// The port of HTTP.
+const HTTP_PORT: u16 = 80;
+
+/// The host that a farm's publisher is asked at, with its port where it isn't that of HTTP.
+pub fn asked_host(alloc: Global, farm: &Farm) -> Mem<Vec<u8>>
+    ensures { IfOk result (λ host. host.items ≡ runs.asked_host farm.now) }
+{
+    let mut host = Vec::new(alloc);
+    host.extend_from_slice(farm.ask_host.text().as_bytes())?;
+    if farm.ask_port != HTTP_PORT {
+        let port = farm.ask_port.to_string(alloc)?;
+        host.extend_from_slice(b":")?;
+        host.extend_from_slice(port.as_bytes())?;
+    }
+    Ok(host)
+}
+
+/// What a line of a scenario does, where this host is asked.
+pub fn step_of(alloc: Global, host: &[u8], line: &EventLine) -> Mem<Step>
+    ensures { IfOk result (λ step. step ≡ runs.step_of host.now line.now) }
 {
     match line {
         EventLine::Direct(target) => Ok(Step::Direct(target.duplicate(alloc)?)),
         EventLine::Open(c, peer) => Ok(Step::Opened(*c, peer.duplicate(alloc)?)),
         EventLine::Close(c) => Ok(Step::Gone(*c)),
         EventLine::Bytes(c, bytes) => Ok(Step::Piece(*c, ByteBuf::of(alloc, bytes.bytes())?)),
-        EventLine::Get(c, target) => Ok(Step::Piece(*c, get_bytes(alloc, target.text())?)),
+        EventLine::Get(c, target) => Ok(Step::Piece(*c, get_bytes(alloc, host, target.text())?)),
         EventLine::Post(c, target, form) => {
-            Ok(Step::Piece(*c, post_bytes(alloc, target.text(), form.bytes())?))
+            Ok(Step::Piece(*c, post_bytes(alloc, host, target.text(), form.bytes())?))
         }
         EventLine::Render(flight) => Ok(Step::Render(pick_of(*flight))),
         EventLine::Deliver(flight) => Ok(Step::Deliver(pick_of(*flight))),
@@ -35,30 +53,48 @@ fn pick_of(flight: Flight) -> Pick
     }
 }
 
-// A GET of a target.
-fn get_bytes(alloc: Global, target: &str) -> Mem<ByteBuf>
-    ensures { IfOk result (λ bytes. bytes ≡ runs.get_bytes target.now) }
+// A line of a head.
+fn push_head_line(out: &mut Vec<u8>, name: &[u8], value: &[u8]) -> Mem<()>
+    ensures { OnOk result (out.new.items ≡ out.old.items ++ runs.head_line (name.now ++ value.now)) }
+{
+    out.extend_from_slice(name)?;
+    out.extend_from_slice(value)?;
+    out.extend_from_slice(b"\r\n")?;
+    Ok(())
+}
+
+// The line of a request, whose method stands before a blank.
+fn push_request_line(out: &mut Vec<u8>, method: &[u8], target: &str) -> Mem<()>
+    ensures { OnOk result (out.new.items ≡ out.old.items ++ runs.head_line (method.now ++ (target.now ++ codes " HTTP/1.1"))) }
+{
+    out.extend_from_slice(method)?;
+    out.extend_from_slice(target.as_bytes())?;
+    out.extend_from_slice(b" HTTP/1.1\r\n")?;
+    Ok(())
+}
+
+// A GET of a target at a host.
+fn get_bytes(alloc: Global, host: &[u8], target: &str) -> Mem<ByteBuf>
+    ensures { IfOk result (λ bytes. bytes ≡ runs.get_bytes host.now target.now) }
 {
     let mut bytes = Vec::new(alloc);
-    bytes.extend_from_slice(b"GET ")?;
-    bytes.extend_from_slice(target.as_bytes())?;
-    bytes.extend_from_slice(b" HTTP/1.1\r\nHost: localhost\r\n\r\n")?;
+    push_request_line(&mut bytes, b"GET ", target)?;
+    push_head_line(&mut bytes, b"Host: ", host)?;
+    bytes.extend_from_slice(b"\r\n")?;
     Ok(ByteBuf::from(bytes))
 }
 
-// A POST of a form to a target.
-fn post_bytes(alloc: Global, target: &str, form: &[u8]) -> Mem<ByteBuf>
-    ensures { IfOk result (λ bytes. bytes ≡ runs.post_bytes target.now form.now) }
+// A POST of a form to a target at a host.
+fn post_bytes(alloc: Global, host: &[u8], target: &str, form: &[u8]) -> Mem<ByteBuf>
+    ensures { IfOk result (λ bytes. bytes ≡ runs.post_bytes host.now target.now form.now) }
 {
     let length = form.len().to_string(alloc)?;
     let mut bytes = Vec::new(alloc);
-    bytes.extend_from_slice(b"POST ")?;
-    bytes.extend_from_slice(target.as_bytes())?;
-    bytes.extend_from_slice(
-        b" HTTP/1.1\r\nHost: localhost\r\nContent-Type: application/x-www-form-urlencoded\r\nContent-Length: ",
-    )?;
-    bytes.extend_from_slice(length.as_bytes())?;
-    bytes.extend_from_slice(b"\r\n\r\n")?;
+    push_request_line(&mut bytes, b"POST ", target)?;
+    push_head_line(&mut bytes, b"Host: ", host)?;
+    bytes.extend_from_slice(b"Content-Type: application/x-www-form-urlencoded\r\n")?;
+    push_head_line(&mut bytes, b"Content-Length: ", length.as_bytes())?;
+    bytes.extend_from_slice(b"\r\n")?;
     bytes.extend_from_slice(form)?;
     Ok(ByteBuf::from(bytes))
 }

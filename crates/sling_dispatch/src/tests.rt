@@ -1,4 +1,4 @@
-//! The run over sources and sinks in memory, against texts that were written by hand.
+//! The run over sources and sinks that fail, and at its limits. What runs write is compared in the stored runs (examples/runs).
 use crate::program::run;
 use sp_base::{ByteBuf, CallList};
 use sp_outside::{MemSink, MemSource};
@@ -32,11 +32,7 @@ fn ran(
 }
 
 // The same for a scenario, over a source and a sink that hold back nothing.
-pub fn replayed(
-    alloc: Global,
-    seeds: RandomState,
-    text: Vec<u8>,
-) -> Result<(u8, Vec<u8>), AllocError> {
+fn replayed(alloc: Global, seeds: RandomState, text: Vec<u8>) -> Result<(u8, Vec<u8>), AllocError> {
     let mut source = MemSource::new(ByteBuf::from(text), CallList::new(alloc));
     let mut sink = MemSink::new(alloc, CallList::new(alloc));
     let status = run(alloc, seeds, &[b"replay"], &mut source, &mut sink);
@@ -54,110 +50,16 @@ fn scenario(alloc: Global, content: &[u8], line: &[u8]) -> Result<Vec<u8>, Alloc
     Ok(text)
 }
 
-#[test]
-fn replays_scenarios(rt: HostRuntime) -> Result<(), Fail> {
-    let seeds = RandomState::new(&rt)?;
-    let empty: &[u8] = b"scenario 1\ncontent\n{}\n.\nend\n";
-    let cases: [(&[&[u8]], &[u8], u8, &[u8]); 7] = [
-        (&[b"replay"], empty, 0, b""),
-        (&[b"replay"], FIRST, 0, FIRST_TRANSCRIPT),
-        (&[b"play"], FIRST, 2, b"usage: replay\n"),
-        (&[], FIRST, 2, b"usage: replay\n"),
-        (&[b"replay", b"replay"], FIRST, 2, b"usage: replay\n"),
-        (&[b"replay "], FIRST, 2, b"usage: replay\n"),
-        (&[b"\xff"], FIRST, 2, b"usage: replay\n"),
-    ];
-    for (words, text, status, wanted) in cases {
-        let (got, written) = ran(rt.alloc(), seeds, words, text, &[], &[])?;
-        assert_eq!(rt; got, status, "{words:?}");
-        assert_eq!(rt; written.as_slice(), wanted);
-    }
-    Ok(())
-}
-
-#[test]
-fn refuses_what_is_no_scenario(rt: HostRuntime) -> Result<(), Fail> {
-    let seeds = RandomState::new(&rt)?;
-    let cases: [(&[u8], u32); 13] = [
-        (b"", 1),
-        (b"scenario 1\ncontent\n{}\n.\nope", 5),
-        (b"scenario 1\ncontent\n{}\n.\n", 5),
-        (b"scenario 1\ncontent\n{}\n.\nend", 5),
-        (b"scenario 1\ncontent\n{}\nend\n", 5),
-        (b"scenario 1\ncontent\n{\n}\n.\npurge\nend\n", 6),
-        (b"scenario 2\ncontent\n{}\n.\nend\n", 1),
-        (b"scenario 1\ncontents\n{}\n.\nend\n", 2),
-        (b"scenario 1\ncontent\n{}\n.\nend\n\n", 6),
-        (b"scenario 1\ncontent\n{}\n.\ndirect \nend\n", 5),
-        (b"scenario 1\ncontent\n{}\n.\ndirect /a b.json\nend\n", 5),
-        (b"scenario 1\ncontent\n{}\n.\ndirect /\xff.json\nend\n", 5),
-        (b"scenario 1\ncontent\n{}\n.\ndirect /\ndirect/\nend\n", 6),
-    ];
-    for (text, line) in cases {
-        let (status, written) = ran(rt.alloc(), seeds, &[b"replay"], text, &[], &[])?;
-        assert_eq!(rt; status, 5, "{text:?}");
-        let wanted = format!(in rt.alloc(); "scenario refused at line {line}\n")?;
-        assert_eq!(rt; written.as_slice(), wanted.as_bytes(), "{text:?}");
-    }
-    Ok(())
-}
-
-#[test]
-fn refuses_contents(rt: HostRuntime) -> Result<(), Fail> {
-    let seeds = RandomState::new(&rt)?;
-    let cases: [(&[u8], &[u8]); 8] = [
-        (b"[]", b"content refused: NotObject\n"),
-        (b"{", b"content refused: NotJson\n"),
-        (b"\xff", b"content refused: NotJson\n"),
-        (
-            b"{\"content\":{\"a/b\":{}}}",
-            b"content refused: BadName at /content\n",
-        ),
-        (
-            b"{\"a\":{\"b\":1.5}}",
-            b"content refused: BadNumber at /a/b\n",
-        ),
-        (b"{\"a\":[1,\"b\"]}", b"content refused: MixedArray at /a\n"),
-        (b"{\":order\":1}", b"content refused: BadOrder at /\n"),
-        (b"{\":mine\":{}}", b"content refused: BadName at /\n"),
-    ];
-    for (content, wanted) in cases {
-        let text = scenario(rt.alloc(), content, b"direct /a\n")?;
-        let (status, written) = replayed(rt.alloc(), seeds, text)?;
-        assert_eq!(rt; status, 6, "{content:?}");
-        assert_eq!(rt; written.as_slice(), wanted);
-    }
-    Ok(())
-}
-
-// An answer has at most 4,194,304 bytes.
+// An answer may have 4,194,304 bytes.
 #[test]
 fn measures_answers(rt: HostRuntime) -> Result<(), Fail> {
     let seeds = RandomState::new(&rt)?;
     let json = "@ 1\nanswer 200 \"application/json;charset=utf-8\" - - \"{\\\"";
-    let failed =
-        "@ 1\nanswer 500 \"text/plain;charset=utf-8\" - - \"500 Internal Server Error\\n\"\n";
-    let cases: [(Vec<u8>, &[u8], &str); 2] = [
-        (long(rt.alloc(), 4_194_304)?, b"/.json", json),
-        (long(rt.alloc(), 4_194_305)?, b"/.json", failed),
-    ];
-    for (content, target, wanted) in cases {
-        let written = answered(rt.alloc(), seeds, &content, target)?;
-        assert!(rt; written.starts_with(wanted.as_bytes()), "{target:?}");
-    }
+    let content = long(rt.alloc(), 4_194_304)?;
+    let text = scenario(rt.alloc(), &content, b"direct /.json\n")?;
+    let (_, written) = replayed(rt.alloc(), seeds, text)?;
+    assert!(rt; written.starts_with(json.as_bytes()));
     Ok(())
-}
-
-// What a run writes where a target is asked of a content.
-fn answered(
-    alloc: Global,
-    seeds: RandomState,
-    content: &[u8],
-    target: &[u8],
-) -> Result<Vec<u8>, AllocError> {
-    let line = line_of(alloc, target)?;
-    let (_, written) = replayed(alloc, seeds, scenario(alloc, content, &line)?)?;
-    Ok(written)
 }
 
 // An object of `len` bytes, with one text.
@@ -167,13 +69,6 @@ fn long(alloc: Global, len: usize) -> Result<Vec<u8>, AllocError> {
     text.extend_from_slice(&filler)?;
     text.extend_from_slice(b"\"}")?;
     Ok(text)
-}
-
-fn line_of(alloc: Global, target: &[u8]) -> Result<Vec<u8>, AllocError> {
-    let mut line = b"direct ".to_vec(alloc)?;
-    line.extend_from_slice(target)?;
-    line.extend_from_slice(b"\n")?;
-    Ok(line)
 }
 
 // An object with empty members.
@@ -190,19 +85,6 @@ fn wide(alloc: Global, members: u32) -> Result<Vec<u8>, AllocError> {
     Ok(text)
 }
 
-// Objects within one another, `levels` below the first.
-fn deep(alloc: Global, levels: u32) -> Result<Vec<u8>, AllocError> {
-    let mut text = Vec::new(alloc);
-    for _ in 0..levels {
-        text.extend_from_slice(b"{\"a\":")?;
-    }
-    text.extend_from_slice(b"{}")?;
-    for _ in 0..levels {
-        text.push(b'}')?;
-    }
-    Ok(text)
-}
-
 #[test]
 fn refuses_contents_that_are_too_big(rt: HostRuntime) -> Result<(), Fail> {
     let seeds = RandomState::new(&rt)?;
@@ -210,8 +92,6 @@ fn refuses_contents_that_are_too_big(rt: HostRuntime) -> Result<(), Fail> {
     for (content, status, wanted) in [
         (wide(rt.alloc(), 199_999)?, 0, b"".as_slice()),
         (wide(rt.alloc(), 200_000)?, 6, too_big),
-        (deep(rt.alloc(), 64)?, 0, b"".as_slice()),
-        (deep(rt.alloc(), 65)?, 6, too_big),
     ] {
         let (got, written) = replayed(rt.alloc(), seeds, scenario(rt.alloc(), &content, b"")?)?;
         assert_eq!(rt; got, status);

@@ -2,6 +2,6 @@ use Rattle.sling_dispatch.proofs.Statuses.{session_writable}
 use Rattle.sling_dispatch.proofs.laws.a_transcript_tells_its_session.Goals as goal
 
 pub returns : goal.returns
-returns c s t n m a b acts other first second same =
+returns c s t left right a b first second same =
     let writable = session_writable c.statuses_are_short.ensures.rendered c.statuses_are_short.ensures.error in
-    c.a_transcript_tells_its_events.ensures _ _ (writable s n a acts first) (writable t m b other second) same
+    c.a_transcript_tells_its_events.ensures _ _ (writable s left a first) (writable t right b second) same

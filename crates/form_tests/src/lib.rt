@@ -4,12 +4,8 @@
 #[cfg(test)]
 mod bodies;
 #[cfg(test)]
-mod faults;
+mod forms;
 #[cfg(test)]
-mod names;
+mod plans;
 #[cfg(test)]
 mod posts;
-#[cfg(test)]
-mod shown;
-#[cfg(test)]
-mod values;

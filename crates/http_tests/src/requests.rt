@@ -1,4 +1,4 @@
-//! Worked rows, through the public calls.
+//! A stream, answers and a target, through the public calls. Streams in each cutting, heads that are refused and limits are stored runs (examples/runs).
 use http_front::{InFault, Intake, Turn, answer_bytes, read_target};
 use sp_base::{Answer, ByteBuf, Mark, Mem, NoMemory, Path, TextBuf};
 use std::alloc::Global;
@@ -50,34 +50,11 @@ fn tell(alloc: Global, intake: &mut Intake, out: &mut String) -> Mem<bool> {
     Ok(true)
 }
 
-// The turns of a stream in pieces.
-fn told(alloc: Global, pieces: &[&[u8]]) -> Mem<String> {
-    let mut intake = Intake::new(alloc)?;
-    let mut out = String::new(alloc);
-    for piece in pieces {
-        intake.feed(piece)?;
-        if !tell(alloc, &mut intake, &mut out)? {
-            break;
-        }
-    }
-    Ok(out)
-}
-
 const POST: &[u8] =
     b"POST /content/new HTTP/1.1\r\nHost: localhost\r\nExpect: 100-continue\r\nContent-Type: application/x-www-form-urlencoded\r\nContent-Length: 7\r\n\r\ntitle=xGET /a.html?b=c HTTP/1.0\n\nGET /a HTTP/1.1\r\nHOST: h:81\r\nconnection: x, Close\r\n\r\nGET /\r\n\r\n";
 
 const TOLD: &str =
     "100;POST /content/new HTTP/1.1 localhost title=x;GET /a.html?b=c HTTP/1.0 closes  ;GET /a HTTP/1.1 closes h ;BadHead";
-
-#[test]
-fn tells_one_list_of_turns_in_any_cutting(rt: HostRuntime) -> Result<(), Fail> {
-    let alloc = rt.alloc();
-    for at in 0..POST.len() {
-        let (front, back) = POST.split_at(at);
-        assert_eq!(rt; told(alloc, &[front, back])?.as_str(), TOLD);
-    }
-    Ok(())
-}
 
 #[test]
 fn tells_one_list_of_turns_byte_by_byte(rt: HostRuntime) -> Result<(), Fail> {
@@ -91,95 +68,6 @@ fn tells_one_list_of_turns_byte_by_byte(rt: HostRuntime) -> Result<(), Fail> {
         }
     }
     assert_eq!(rt; out.as_str(), TOLD);
-    Ok(())
-}
-
-#[test]
-fn refuses_bad_heads(rt: HostRuntime) -> Result<(), Fail> {
-    let alloc = rt.alloc();
-    let table: [(&[u8], &str); 24] = [
-        (b"GET / HTTP/1.1\r\n\r\n", "BadHead"),
-        (b"GET / HTTP/1.1\r\nHost: a\r\nhost: a\r\n\r\n", "BadHead"),
-        (b"GET / HTTP/1.1\r\nHost:\r\n\r\n", "BadHead"),
-        (b"GET / HTTP/1.1\r\nHost: [::1]\r\n\r\n", "BadHead"),
-        (b"GET / HTTP/1.1\r\nHost: a:080\r\n\r\n", "BadHead"),
-        (b"GET / HTTP/1.1\r\nHost: a:65536\r\n\r\n", "BadHead"),
-        (b"GET / HTTP/1.1\r\nHost : a\r\n\r\n", "BadHead"),
-        (b"GET / HTTP/1.1\r\nHost: a\r\n b\r\n\r\n", "BadHead"),
-        (b"GET / HTTP/1.1\r\nHost: a\0\r\n\r\n", "BadHead"),
-        (b"GET /\ta HTTP/1.1\r\nHost: a\r\n\r\n", "BadHead"),
-        (b"GET / HTTP/2.0\r\nHost: a\r\n\r\n", "BadHead"),
-        (b"GET http://a/ HTTP/1.1\r\nHost: a\r\n\r\n", "BadTarget"),
-        (b"GET /a//b HTTP/1.1\r\nHost: a\r\n\r\n", "BadTarget"),
-        (b"GET /%ff HTTP/1.1\r\nHost: a\r\n\r\n", "BadTarget"),
-        (
-            b"POST / HTTP/1.1\r\nHost: a\r\nTransfer-Encoding: chunked\r\nContent-Length: 5\r\n\r\n",
-            "NoLength",
-        ),
-        (
-            b"POST / HTTP/1.1\r\nHost: a\r\nContent-Length: +5\r\n\r\n",
-            "BadLength",
-        ),
-        (
-            b"POST / HTTP/1.1\r\nHost: a\r\nContent-Length: 5\r\ncontent-length: 5\r\n\r\n",
-            "BadLength",
-        ),
-        (
-            b"POST / HTTP/1.1\r\nHost: a\r\nContent-Length: 0000000000000000005\r\n\r\n",
-            "BadLength",
-        ),
-        (
-            b"POST / HTTP/1.1\r\nHost: a\r\nContent-Length: 8388609\r\n\r\n",
-            "LongBody",
-        ),
-        (
-            b"POST / HTTP/1.1\r\nHost: a\r\nContent-Length: 8388608\r\n\r\n",
-            "",
-        ),
-        (
-            b"POST / HTTP/1.1\r\nHost: a\r\nContent-Length: 05\r\n\r\n12345",
-            "POST / HTTP/1.1 a 12345;",
-        ),
-        (b"GET / HTTP/1.1\nHost: a:\n\n", "GET / HTTP/1.1 a ;"),
-        (
-            b"\r\n\r\nGET / HTTP/1.1\r\nHost: a\r\nExpect: 100-Continue\r\n\r\n",
-            "GET / HTTP/1.1 a ;",
-        ),
-        (
-            b"GET / HTTP/1.1\r\nHost: a\r\nTransfer-Encoding: chunked\r\nHost: b\r\n\r\n",
-            "BadHead",
-        ),
-    ];
-    for (head, turns) in table {
-        assert_eq!(rt; told(alloc, &[head])?.as_str(), turns);
-    }
-    Ok(())
-}
-
-#[test]
-fn refuses_large_heads(rt: HostRuntime) -> Result<(), Fail> {
-    let alloc = rt.alloc();
-    // 16,384 bytes with the line end and the empty line: the longest head.
-    for (spaces, turns) in [(16_357, "GET / HTTP/1.1 a ;"), (16_358, "LongHead")] {
-        let mut head = Vec::from_slice(alloc, b"GET / HTTP/1.1\r\nHost: a")?;
-        for _ in 0..spaces {
-            head.push(b' ')?;
-        }
-        head.extend_from_slice(b"\r\n\r\n")?;
-        assert_eq!(rt; told(alloc, &[head.as_slice()])?.as_str(), turns);
-    }
-    for (fields, turns) in [
-        (99, "GET / HTTP/1.1 a ;"),
-        (100, "ManyHeaders"),
-        (4000, "ManyHeaders"),
-    ] {
-        let mut head = Vec::from_slice(alloc, b"GET / HTTP/1.1\r\nHost: a\r\n")?;
-        for _ in 0..fields {
-            head.extend_from_slice(b"x:\r\n")?;
-        }
-        head.extend_from_slice(b"\r\n")?;
-        assert_eq!(rt; told(alloc, &[head.as_slice()])?.as_str(), turns);
-    }
     Ok(())
 }
 

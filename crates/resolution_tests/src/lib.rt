@@ -12,4 +12,6 @@ mod scripts;
 #[cfg(test)]
 mod splits;
 #[cfg(test)]
+mod trees;
+#[cfg(test)]
 mod types;

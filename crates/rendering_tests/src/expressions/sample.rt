@@ -1,20 +1,9 @@
-//! The resource of the tests, and how a row of a table is tried.
+//! The resource of the tests.
 
 use crate::failed::Failed;
-use htl_expr::{Expr, ExprFault, Out, Scope};
-use sp_base::{LongList, NoMemory, PropList, TextBuf, TextList, TruthList, Value};
-use std::alloc::{AllocError, Global};
-
-/// A value that a row expects.
-#[derive(Debug, Clone, Copy, Drop)]
-pub enum Want {
-    Nothing,
-    Truth(bool),
-    Long(i64),
-    Text(&'static str),
-    /// The items, with `|` behind each.
-    List(&'static str),
-}
+use htl_expr::Scope;
+use sp_base::{LongList, PropList, TextBuf, TextList, TruthList, Value};
+use std::alloc::Global;
 
 fn texts(alloc: Global, all: &[&str]) -> Result<TextList, Failed> {
     let mut texts = TextList::new(alloc);
@@ -62,42 +51,4 @@ impl Sample {
             kind: "s/page",
         }
     }
-}
-
-fn listed(alloc: Global, texts: &TextList) -> Result<String, Failed> {
-    let mut all = String::new(alloc);
-    for text in texts.as_slice() {
-        all.push_str(text.text())?;
-        all.push_str("|")?;
-    }
-    Ok(all)
-}
-
-fn is_wanted(alloc: Global, value: &Out, want: Want) -> Result<bool, Failed> {
-    Ok(match (value, want) {
-        (Out::Nothing, Want::Nothing) => true,
-        (Out::Truth(a), Want::Truth(b)) => *a == b,
-        (Out::Long(a), Want::Long(b)) => *a == b,
-        (Out::Text(a), Want::Text(b)) => a.text() == b,
-        (Out::List(a), Want::List(b)) => listed(alloc, a)?.as_str() == b,
-        _ => false,
-    })
-}
-
-/// The first expression that gives another value for the resource, or writes another text.
-pub fn first_other(
-    alloc: Global,
-    rows: &[(&'static str, Want, &'static str)],
-) -> Result<Option<&'static str>, Failed> {
-    let sample = Sample::new(alloc)?;
-    let scope = sample.scope();
-    for (text, want, printed) in rows {
-        let e = Expr::read(alloc, text)?;
-        if !is_wanted(alloc, &e.value(alloc, &scope)?, *want)?
-            || e.print(alloc, &scope)?.text() != *printed
-        {
-            return Ok(Some(*text));
-        }
-    }
-    Ok(None)
 }

@@ -1,27 +1,16 @@
-use super::sample::{Want, first_other};
+//! The value and the text of an expression. More are printed through the program (examples/runs/expressions).
+
+use super::sample::Sample;
 use crate::failed::Failed;
+use htl_expr::{Expr, Out};
 
 #[test]
-fn values_have_a_kind(rt: HostRuntime) -> Result<(), Failed> {
-    let other = first_other(
-        rt.alloc(),
-        &[
-            ("x", Want::Nothing, ""),
-            ("properties.yes", Want::Truth(true), "true"),
-            ("-7", Want::Long(-7), "-7"),
-            ("resource.path", Want::Text("/content/en"), "/content/en"),
-            (
-                "properties.tags @ join='; '",
-                Want::List("a|b<|"),
-                "a; b&lt;",
-            ),
-            (
-                "['<', [properties.longs, 1]]",
-                Want::List("<|7,8,1|"),
-                "&lt;,7,8,1",
-            ),
-        ],
-    )?;
-    assert_eq!(rt; other, None);
+fn value_has_a_kind(rt: HostRuntime) -> Result<(), Failed> {
+    let alloc = rt.alloc();
+    let sample = Sample::new(alloc)?;
+    let scope = sample.scope();
+    let e = Expr::read(alloc, "properties.longs @ join='; '")?;
+    assert!(rt; matches!(e.value(alloc, &scope)?, Out::List(_)));
+    assert_eq!(rt; e.print(alloc, &scope)?.text(), "7; 8");
     Ok(())
 }

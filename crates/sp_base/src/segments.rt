@@ -1,3 +1,4 @@
+// The segments of a path: which texts are one, and what a text of segments spells.
 ghost use Rattle.std.specs.Prelude.{◌+◌, ◌-◌, ◌≤◌, ◌≡◌, ◌≢◌, ◌==◌, ◌∷◌, ◌++◌, List, ℕ, true, false, drop, take, length, IfOk, OnOk, IfSome, IfNone, option_copied, slice_get, string_bytes};
 ghost use Rattle.std.specs.List.{list_any, position, position_from, count_by};
 ghost use Rattle.sp_base.specs.Paths.{seg_ok, is_empty, is_dots, is_long, has_slash, pieces, size_fault, fault_of, is_mangled, unmangled_seg, unmangled, mangled_seg, mangled};

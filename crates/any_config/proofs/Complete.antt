@@ -3,16 +3,16 @@ use Rattle.std.proofs.Common.{◌≡◌, ◌<◌, ◌≤◌, ℕ, zero, suc, tru
 use Rattle.std.proofs.lemmas.List.{append-nil}
 use Rattle.any_config.specs.declared.node.AnyNode.{AnyNode}
 use Rattle.any_config.specs.declared.node.AnyNode.TheVariants as node
-use Rattle.any_config.specs.Tokens.{skip, is_at, name, leaf}
-use Rattle.any_config.specs.Read.{Members, ends_members, value, member, more_members, members, opened, group, read, placed, any_of}
+use Rattle.any_config.specs.Tokens.{comments_skipped, is_byte_at_front, member_name, ungrouped_value}
+use Rattle.any_config.specs.Read.{Members, ends_members, value, member, more_members, members, opened, group, file_read, placed_answer, any_of}
 use Rattle.any_config.specs.Grammar.{IsValue, AreMembers, IsFile}
 use Rattle.any_config.proofs.Progress.{leaf_any, skip_less, name_less, value_less, group_takes}
 
-single_is : (depth at a : ℕ) (t : List ℕ) (x : AnyNode × List ℕ) → is_at 123 t ≡ false → leaf a t ≡ Ok x → value (group depth) at t ≡ Ok x
+single_is : (depth at a : ℕ) (t : List ℕ) (x : AnyNode × List ℕ) → is_byte_at_front 123 t ≡ false → ungrouped_value a t ≡ Ok x → value (group depth) at t ≡ Ok x
 unfolding value
 single_is depth at a t x e h = rw e (leaf_any a at t x h)
 
-braces_is : (depth at : ℕ) (t inside : List ℕ) (ms : Members) → is_at 123 t ≡ true → more_members (group depth) (length (skip (drop 1 t))) [] (skip (drop 1 t)) ≡ Ok (ms, inside) → is_at 125 inside ≡ true
+braces_is : (depth at : ℕ) (t inside : List ℕ) (ms : Members) → is_byte_at_front 123 t ≡ true → more_members (group depth) (length (comments_skipped (drop 1 t))) [] (comments_skipped (drop 1 t)) ≡ Ok (ms, inside) → is_byte_at_front 125 inside ≡ true
     → value (group (suc depth)) at t ≡ Ok (node.Group ms, drop 1 inside)
 unfolding value group opened members
 braces_is depth at t inside ms e h c = rw (e, h, c) refl
@@ -27,8 +27,8 @@ unfolding ends_members
 not_empty [] e = absurd cc
 not_empty (c ∷ t) e = omega arith
 
-more_is : (depth k : ℕ) (found : Members) (t inside : List ℕ) (x : List ℕ × List ℕ) (n : AnyNode) (y : Members × List ℕ) → ends_members t ≡ false → name t ≡ Ok x → value (group depth) (length t) x.1 ≡ Ok (n, inside)
-    → more_members (group depth) k (found ++ (x.0, n) ∷ []) (skip inside) ≡ Ok y → more_members (group depth) (suc k) found t ≡ Ok y
+more_is : (depth k : ℕ) (found : Members) (t inside : List ℕ) (x : List ℕ × List ℕ) (n : AnyNode) (y : Members × List ℕ) → ends_members t ≡ false → member_name t ≡ Ok x → value (group depth) (length t) x.1 ≡ Ok (n, inside)
+    → more_members (group depth) k (found ++ (x.0, n) ∷ []) (comments_skipped inside) ≡ Ok y → more_members (group depth) (suc k) found t ≡ Ok y
 unfolding more_members member
 more_is depth k found t inside x n y e h v m = rw (e, h, v) m
 
@@ -36,25 +36,25 @@ mutual
   pub value_complete : (depth : ℕ) (t : List ℕ) (n : AnyNode) (r : List ℕ) → IsValue depth t n r → (at : ℕ) → value (group depth) at t ≡ Ok (n, r)
   value_complete _ _ _ _ (IsValue.single {depth} {t} {r} {n} a e h) at = single_is depth at a t (n, r) e h
   value_complete _ _ _ _ (IsValue.braces {depth} {t} {r} {n} ms inside e all c g d) at =
-      braces_is depth at t inside ms e (members_complete depth (skip (drop 1 t)) ms inside all (length (skip (drop 1 t))) [] (omega arith)) c
+      braces_is depth at t inside ms e (members_complete depth (comments_skipped (drop 1 t)) ms inside all (length (comments_skipped (drop 1 t))) [] (omega arith)) c
       ∙ ap (λ (m : AnyNode). Ok (m, drop 1 inside)) (sym g) ∙ ap (λ (l : List ℕ). Ok (n, l)) (sym d)
 
   pub members_complete : (depth : ℕ) (t : List ℕ) (ms : Members) (r : List ℕ) → AreMembers depth t ms r → (k : ℕ) (found : Members) → length t ≤ k → more_members (group depth) k found t ≡ Ok (found ++ ms, r)
   members_complete _ _ _ _ (AreMembers.none {depth} {t} e) k found le = ends_is depth k found t e
   members_complete _ _ _ _ (AreMembers.more {depth} {t} {r} {m} {ms} x n inside e h v g all) k found le =
-      go k le (value_complete depth x.1 n inside v (length t)) (λ j f l. members_complete depth (skip inside) ms r all j f l)
+      go k le (value_complete depth x.1 n inside v (length t)) (λ j f l. members_complete depth (comments_skipped inside) ms r all j f l)
     where
-      go : (k : ℕ) → length t ≤ k → value (group depth) (length t) x.1 ≡ Ok (n, inside) → ((j : ℕ) (f : Members) → length (skip inside) ≤ j → more_members (group depth) j f (skip inside) ≡ Ok (f ++ ms, r))
+      go : (k : ℕ) → length t ≤ k → value (group depth) (length t) x.1 ≡ Ok (n, inside) → ((j : ℕ) (f : Members) → length (comments_skipped inside) ≤ j → more_members (group depth) j f (comments_skipped inside) ≡ Ok (f ++ ms, r))
           → more_members (group depth) k found t ≡ Ok (found ++ m ∷ ms, r)
       go zero le value_is ih = absurd (omega (arith, not_empty t e))
       go (suc j) le value_is ih =
-          let less : length (skip inside) ≤ j = omega (arith, skip_less inside, value_less (group depth) (group_takes depth) (length t) x.1 (n, inside) value_is, name_less t x h) in
+          let less : length (comments_skipped inside) ≤ j = omega (arith, skip_less inside, value_less (group depth) (group_takes depth) (length t) x.1 (n, inside) value_is, name_less t x h) in
           more_is depth j found t inside x n _ e h value_is (ih j (found ++ (x.0, n) ∷ []) less)
           ∙ ap (λ (l : Members). Ok (l, r)) (append_assoc found ((x.0, n) ∷ []) ms) ∙ ap (λ (p : List ℕ × AnyNode). Ok (found ++ p ∷ ms, r)) (sym g)
 
-read_complete : (text : List ℕ) (ms : Members) → AreMembers 32 (skip text) ms [] → read text ≡ Ok (node.Group ms)
-unfolding read members
-read_complete text ms all = rw (members_complete 32 (skip text) ms [] all (length (skip text)) [] (omega arith)) refl
+read_complete : (text : List ℕ) (ms : Members) → AreMembers 32 (comments_skipped text) ms [] → file_read text ≡ Ok (node.Group ms)
+unfolding file_read members
+read_complete text ms all = rw (members_complete 32 (comments_skipped text) ms [] all (length (comments_skipped text)) [] (omega arith)) refl
 
 pub any_complete : (text : List ℕ) (top : AnyNode) → IsFile text top → any_of text ≡ Ok top
-any_complete text top file = ap (placed text) (read_complete text file.members file.spelled) ∙ ap (λ (n : AnyNode). Ok n) (sym file.group)
+any_complete text top file = ap (placed_answer text) (read_complete text file.members file.spelled) ∙ ap (λ (n : AnyNode). Ok n) (sym file.group)

@@ -16,137 +16,137 @@ use Rattle.any_config.specs.Read.{Members}
 use Rattle.any_config.specs.Tokens.{is_letter_or_digit}
 
 -- what was read, or the first fault
-abbrev pub Outcome : Type 0 → Type 0
-Outcome A = Result A FarmFault
+abbrev pub FarmOutcome : Type 0 → Type 0
+FarmOutcome A = Result A FarmFault
 
 infixl 10 ◌>>=◌
 -- a step, and the next one with what the first gave
-abbrev pub ◌>>=◌ : {A B : Type 0} → Outcome A → (A → Outcome B) → Outcome B
+abbrev pub ◌>>=◌ : {A B : Type 0} → FarmOutcome A → (A → FarmOutcome B) → FarmOutcome B
 (Ok x) >>= f = f x
 (Err e) >>= f = Err e
 
 -- the fault is that of the reading, unless memory ran out
-abbrev pub Fails : {A : Type 0} → FarmFault → Outcome A → Type 0
-Fails NoMemory read = Unit {0}
-Fails (Missing name) read = read ≡ Err (Missing name)
-Fails (BadKind name) read = read ≡ Err (BadKind name)
-Fails (NotSupported name) read = read ≡ Err (NotSupported name)
+abbrev pub FarmFails : {A : Type 0} → FarmFault → FarmOutcome A → Type 0
+FarmFails NoMemory read = Unit {0}
+FarmFails (Missing name) read = read ≡ Err (Missing name)
+FarmFails (BadKind name) read = read ≡ Err (BadKind name)
+FarmFails (NotSupported name) read = read ≡ Err (NotSupported name)
 
 -- what a function returned is what reading gives, unless memory ran out
-abbrev pub Gives : {X A : Type 0} → (X → A) → Result X FarmFault → Outcome A → Type 0
-Gives view (Ok x) read = read ≡ Ok (view x)
-Gives view (Err e) read = Fails e read
+abbrev pub FarmGives : {X A : Type 0} → (X → A) → Result X FarmFault → FarmOutcome A → Type 0
+FarmGives view (Ok x) read = read ≡ Ok (view x)
+FarmGives view (Err e) read = FarmFails e read
 
 -- ---- members and values
 
-abbrev pub is_name : List ℕ → List ℕ → Bool
-is_name name text = pointwise nat_eq text name
+abbrev pub is_member_name : List ℕ → List ℕ → Bool
+is_member_name name text = pointwise nat_eq text name
 
 -- a name that stands twice counts by its first
-abbrev pub value_of : List ℕ → Members → Option AnyNode
-value_of name [] = None
-value_of name (m ∷ ms) = if is_name name m.0 then Some m.1 else value_of name ms
+abbrev pub member_value : List ℕ → Members → Option AnyNode
+member_value name [] = None
+member_value name (m ∷ ms) = if is_member_name name m.0 then Some m.1 else member_value name ms
 
 -- a member without a name is told by its group
 abbrev pub name_or : List ℕ → List ℕ → List ℕ
 name_or name group = if length name == 0 then group else name
 
-abbrev pub group_in : List ℕ → AnyNode-F AnyNode → Outcome Members
+abbrev pub group_in : List ℕ → AnyNode-F AnyNode → FarmOutcome Members
 group_in name (AnyNode-F.Word text) = Err (BadKind name)
 group_in name (AnyNode-F.Pattern text) = Err (NotSupported name)
 group_in name (AnyNode-F.Group ms) = Ok ms
 
 -- a value that has to be a group
-abbrev pub group_of : List ℕ → AnyNode → Outcome Members
+abbrev pub group_of : List ℕ → AnyNode → FarmOutcome Members
 group_of name value = group_in name (out-AnyNode value)
 
-abbrev pub word_in : List ℕ → AnyNode-F AnyNode → Outcome (List ℕ)
-word_in name (AnyNode-F.Word text) = Ok text
-word_in name (AnyNode-F.Pattern text) = Err (NotSupported name)
-word_in name (AnyNode-F.Group ms) = Err (BadKind name)
+abbrev pub member_word_in : List ℕ → AnyNode-F AnyNode → FarmOutcome (List ℕ)
+member_word_in name (AnyNode-F.Word text) = Ok text
+member_word_in name (AnyNode-F.Pattern text) = Err (NotSupported name)
+member_word_in name (AnyNode-F.Group ms) = Err (BadKind name)
 
 -- a value that has to be a word
-abbrev pub word_of : List ℕ → AnyNode → Outcome (List ℕ)
-word_of name value = word_in name (out-AnyNode value)
+abbrev pub member_word : List ℕ → AnyNode → FarmOutcome (List ℕ)
+member_word name value = member_word_in name (out-AnyNode value)
 
-abbrev pub or_missing : List ℕ → Option AnyNode → Outcome AnyNode
+abbrev pub or_missing : List ℕ → Option AnyNode → FarmOutcome AnyNode
 or_missing name None = Err (Missing name)
 or_missing name (Some value) = Ok value
 
 -- a group that has to be there
-unfoldable pub needed_group : List ℕ → Members → Outcome Members
-needed_group name ms = or_missing name (value_of name ms) >>= λ value. group_of name value
+unfoldable pub needed_group : List ℕ → Members → FarmOutcome Members
+needed_group name ms = or_missing name (member_value name ms) >>= λ value. group_of name value
 
-abbrev pub group_or_none : List ℕ → Option AnyNode → Outcome Members
+abbrev pub group_or_none : List ℕ → Option AnyNode → FarmOutcome Members
 group_or_none name None = Ok []
 group_or_none name (Some value) = group_of name value
 
 -- a group without members where there is none
-unfoldable pub optional_group : List ℕ → Members → Outcome Members
-optional_group name ms = group_or_none name (value_of name ms)
+unfoldable pub optional_group : List ℕ → Members → FarmOutcome Members
+optional_group name ms = group_or_none name (member_value name ms)
 
 -- what each item gives, or the first fault
-abbrev pub each_after : {A B : Type 0} → (A → Outcome B) → List B → List A → Outcome (List B)
+abbrev pub each_after : {A B : Type 0} → (A → FarmOutcome B) → List B → List A → FarmOutcome (List B)
 each_after read found [] = Ok found
 each_after read found (x ∷ xs) = read x >>= λ y. each_after read (found ++ y ∷ []) xs
 
-abbrev pub each : {A B : Type 0} → (A → Outcome B) → List A → Outcome (List B)
+abbrev pub each : {A B : Type 0} → (A → FarmOutcome B) → List A → FarmOutcome (List B)
 each read xs = each_after read [] xs
 
 -- ---- numbers
 
-abbrev pub is_digit : ℕ → Bool
-is_digit c = nat_le 48 c && nat_le c 57
+abbrev pub is_config_digit : ℕ → Bool
+is_config_digit c = nat_le 48 c && nat_le c 57
 
 -- the number with these digits more, where it is at most this
 abbrev pub digits_after : ℕ → ℕ → List ℕ → Option ℕ
 digits_after most n [] = Some n
-digits_after most n (c ∷ t) = if is_digit c && nat_le (n * 10 + (c - 48)) most then digits_after most (n * 10 + (c - 48)) t else None
+digits_after most n (c ∷ t) = if is_config_digit c && nat_le (n * 10 + (c - 48)) most then digits_after most (n * 10 + (c - 48)) t else None
 
 -- decimal digits without a leading zero
 unfoldable pub decimal : ℕ → List ℕ → Option ℕ
 decimal most [] = None
 decimal most (c ∷ t) = if c == 48 && not (length t == 0) then None else digits_after most 0 (c ∷ t)
 
-abbrev pub or_bad : {A : Type 0} → List ℕ → Option A → Outcome A
+abbrev pub or_bad : {A : Type 0} → List ℕ → Option A → FarmOutcome A
 or_bad name None = Err (BadKind name)
 or_bad name (Some x) = Ok x
 
-abbrev pub number_or_zero : List ℕ → ℕ → Option AnyNode → Outcome ℕ
+abbrev pub number_or_zero : List ℕ → ℕ → Option AnyNode → FarmOutcome ℕ
 number_or_zero name most None = Ok 0
-number_or_zero name most (Some value) = word_of name value >>= λ text. or_bad name (decimal most text)
+number_or_zero name most (Some value) = member_word name value >>= λ text. or_bad name (decimal most text)
 
 -- a number up to this, 0 where there is none
-unfoldable pub number : List ℕ → ℕ → Members → Outcome ℕ
-number name most ms = number_or_zero name most (value_of name ms)
+unfoldable pub member_number : List ℕ → ℕ → Members → FarmOutcome ℕ
+member_number name most ms = number_or_zero name most (member_value name ms)
 
 -- ---- entries
 
-abbrev pub glob_or_bad : List ℕ → Result (List Piece) GlobFault → Outcome (List Piece)
+abbrev pub glob_or_bad : List ℕ → Result (List Piece) GlobFault → FarmOutcome (List Piece)
 glob_or_bad name (Ok glob) = Ok glob
 glob_or_bad name (Err fault) = Err (BadKind name)
 
 -- the glob that a word spells
-unfoldable pub glob : List ℕ → List ℕ → Outcome (List Piece)
+unfoldable pub glob : List ℕ → List ℕ → FarmOutcome (List Piece)
 glob name text = glob_or_bad name (glob_of text)
 
-abbrev pub glob_or_none : List ℕ → Option AnyNode → Outcome (Option (List Piece))
+abbrev pub glob_or_none : List ℕ → Option AnyNode → FarmOutcome (Option (List Piece))
 glob_or_none name None = Ok None
-glob_or_none name (Some value) = word_of name value >>= λ text. glob name text >>= λ g. Ok (Some g)
+glob_or_none name (Some value) = member_word name value >>= λ text. glob name text >>= λ g. Ok (Some g)
 
 -- the glob of this name, where there is one
-unfoldable pub glob_at : List ℕ → Members → Outcome (Option (List Piece))
-glob_at name ms = glob_or_none name (value_of name ms)
+unfoldable pub glob_at : List ℕ → Members → FarmOutcome (Option (List Piece))
+glob_at name ms = glob_or_none name (member_value name ms)
 
-abbrev pub type_of : List ℕ → Outcome Bool
-type_of text = if is_name (codes "allow") text then Ok true else (if is_name (codes "deny") text then Ok false else Err (BadKind (codes "type")))
+abbrev pub rule_type : List ℕ → FarmOutcome Bool
+rule_type text = if is_member_name (codes "allow") text then Ok true else (if is_member_name (codes "deny") text then Ok false else Err (BadKind (codes "type")))
 
 -- whether an entry allows or denies
-unfoldable pub allow : Members → Outcome Bool
-allow ms = or_bad (codes "type") (value_of (codes "type") ms) >>= λ value. word_of (codes "type") value >>= type_of
+unfoldable pub allow : Members → FarmOutcome Bool
+allow ms = or_bad (codes "type") (member_value (codes "type") ms) >>= λ value. member_word (codes "type") value >>= rule_type
 
 -- an entry of rules
-unfoldable pub rule : Members → Outcome Rule
+unfoldable pub rule : Members → FarmOutcome Rule
 rule ms = do
   a ← allow ms
   o ← glob_at (codes "glob") ms
@@ -154,7 +154,7 @@ rule ms = do
   Ok (record { allow = a; glob = g })
 
 -- an entry of the filter
-unfoldable pub filter : Members → Outcome Filter
+unfoldable pub filter : Members → FarmOutcome Filter
 filter ms = do
   a ← allow ms
   line ← glob_at (codes "glob") ms
@@ -168,7 +168,7 @@ filter ms = do
   Ok (record { allow = a; line = line; method = method; url = url; path = path; selectors = selectors; extension = extension; suffix = suffix; query = query })
 
 -- an entry of the group of this name
-abbrev pub entry : {B : Type 0} → List ℕ → (Members → Outcome B) → List ℕ × AnyNode → Outcome B
+abbrev pub entry : {B : Type 0} → List ℕ → (Members → FarmOutcome B) → List ℕ × AnyNode → FarmOutcome B
 entry group read m = group_of (name_or m.0 group) m.1 >>= read
 
 -- ---- hosts
@@ -182,7 +182,7 @@ abbrev pub at_last_colon : List ℕ → Option (List ℕ × List ℕ)
 at_last_colon [] = None
 at_last_colon (c ∷ t) = cut_again c t (at_last_colon t)
 
-abbrev pub host_cut : List ℕ → List ℕ → Option (List ℕ × List ℕ) → Outcome (List Piece × Option ℕ)
+abbrev pub host_cut : List ℕ → List ℕ → Option (List ℕ × List ℕ) → FarmOutcome (List Piece × Option ℕ)
 host_cut name text None = glob name text >>= λ g. Ok (g, None)
 host_cut name text (Some cut) = do
   g ← glob name cut.0
@@ -190,12 +190,12 @@ host_cut name text (Some cut) = do
   Ok (g, Some port)
 
 -- a glob, and a port after the last colon
-unfoldable pub host : List ℕ → List ℕ → Outcome (List Piece × Option ℕ)
+unfoldable pub host : List ℕ → List ℕ → FarmOutcome (List Piece × Option ℕ)
 host name text = host_cut name text (at_last_colon text)
 
 -- a served host has no name
-unfoldable pub host_of : List ℕ × AnyNode → Outcome (List Piece × Option ℕ)
-host_of m = if length m.0 == 0 then (word_of (codes "virtualhosts") m.1 >>= λ text. host (codes "virtualhosts") text) else Err (BadKind m.0)
+unfoldable pub served_host : List ℕ × AnyNode → FarmOutcome (List Piece × Option ℕ)
+served_host m = if length m.0 == 0 then (member_word (codes "virtualhosts") m.1 >>= λ text. host (codes "virtualhosts") text) else Err (BadKind m.0)
 
 -- letters, digits, `-`, `_` and `.`
 abbrev pub is_host_byte : ℕ → Bool
@@ -225,7 +225,7 @@ asked (m ∷ ms) = asked_in (out-AnyNode m.1)
 
 -- ---- the farm
 
-abbrev pub only_in : Members → Outcome Members
+abbrev pub only_in : Members → FarmOutcome Members
 only_in [] = Err (BadKind (codes "farms"))
 only_in (m ∷ []) = group_of (name_or m.0 (codes "farms")) m.1
 only_in (m ∷ n ∷ ms) = Err (NotSupported (codes "farms"))
@@ -236,35 +236,35 @@ members_in (AnyNode-F.Pattern text) = []
 members_in (AnyNode-F.Group ms) = ms
 
 -- the one farm of a file
-unfoldable pub only_farm : AnyNode → Outcome Members
+unfoldable pub only_farm : AnyNode → FarmOutcome Members
 only_farm top = needed_group (codes "farms") (members_in (out-AnyNode top)) >>= only_in
 
-unfoldable pub needed_rules : List ℕ → Members → Outcome (List Rule)
+unfoldable pub needed_rules : List ℕ → Members → FarmOutcome (List Rule)
 needed_rules name ms = needed_group name ms >>= λ group. each (entry name rule) group
 
-unfoldable pub optional_rules : List ℕ → Members → Outcome (List Rule)
+unfoldable pub optional_rules : List ℕ → Members → FarmOutcome (List Rule)
 optional_rules name ms = optional_group name ms >>= λ group. each (entry name rule) group
 
-unfoldable pub filters : Members → Outcome (List Filter)
+unfoldable pub filters : Members → FarmOutcome (List Filter)
 filters ms = needed_group (codes "filter") ms >>= λ group. each (entry (codes "filter") filter) group
 
 -- what a farm keeps, and who may invalidate it
-unfoldable pub with_cache : List (List Piece × Option ℕ) → List ℕ × ℕ → List Filter → Members → Outcome Farm
+unfoldable pub with_cache : List (List Piece × Option ℕ) → List ℕ × ℕ → List Filter → Members → FarmOutcome Farm
 with_cache hosts ask filter cache = do
   rules ← needed_rules (codes "rules") cache
-  level ← number (codes "statfileslevel") 32 cache
-  authorized ← number (codes "allowAuthorized") 1 cache
+  level ← member_number (codes "statfileslevel") 32 cache
+  authorized ← member_number (codes "allowAuthorized") 1 cache
   auto ← optional_rules (codes "invalidate") cache
   clients ← optional_rules (codes "allowedClients") cache
   ignored ← optional_rules (codes "ignoreUrlParams") cache
   Ok (record { hosts = hosts; ask_host = ask.0; ask_port = ask.1; filter = filter; level = level; authorized = authorized == 1; rules = rules; auto = auto; clients = clients; ignored = ignored })
 
 -- The members are looked at in this order, and other names are passed over.
-unfoldable pub farm_of : AnyNode → Outcome Farm
+unfoldable pub farm_of : AnyNode → FarmOutcome Farm
 farm_of top = do
   farm ← only_farm top
   served ← needed_group (codes "virtualhosts") farm
-  hosts ← each host_of served
+  hosts ← each served_host served
   entries ← filters farm
   cache ← needed_group (codes "cache") farm
   with_cache hosts (asked served) entries cache

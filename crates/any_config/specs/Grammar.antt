@@ -2,25 +2,25 @@
 use Rattle.std.specs.Prelude.{◌≡◌, ℕ, suc, true, false, List, [], ◌∷◌, Ok, drop}
 use Rattle.any_config.specs.declared.node.AnyNode.{AnyNode}
 use Rattle.any_config.specs.declared.node.AnyNode.TheVariants as node
-use Rattle.any_config.specs.Tokens.{is_at, skip, name, leaf}
+use Rattle.any_config.specs.Tokens.{is_byte_at_front, comments_skipped, member_name, ungrouped_value}
 use Rattle.any_config.specs.Read.{Members, ends_members}
 
 -- The number is how many more groups may open within one another.
 mutual
   -- a word or a text in quotes, or members between braces
   pub data IsValue : ℕ → List ℕ → AnyNode → List ℕ → Type 0 where
-    single : {depth : ℕ} {t r : List ℕ} {n : AnyNode} (at : ℕ) → is_at 123 t ≡ false → leaf at t ≡ Ok (n, r) → IsValue depth t n r
-    braces : {depth : ℕ} {t r : List ℕ} {n : AnyNode} (ms : Members) (inside : List ℕ) → is_at 123 t ≡ true → AreMembers depth (skip (drop 1 t)) ms inside → is_at 125 inside ≡ true
+    single : {depth : ℕ} {t r : List ℕ} {n : AnyNode} (at : ℕ) → is_byte_at_front 123 t ≡ false → ungrouped_value at t ≡ Ok (n, r) → IsValue depth t n r
+    braces : {depth : ℕ} {t r : List ℕ} {n : AnyNode} (ms : Members) (inside : List ℕ) → is_byte_at_front 123 t ≡ true → AreMembers depth (comments_skipped (drop 1 t)) ms inside → is_byte_at_front 125 inside ≡ true
         → n ≡ node.Group ms → r ≡ drop 1 inside → IsValue (suc depth) t n r
 
   -- names and their values up to a brace that closes, or to the text's end
   pub data AreMembers : ℕ → List ℕ → Members → List ℕ → Type 0 where
     none : {depth : ℕ} {t : List ℕ} → ends_members t ≡ true → AreMembers depth t [] t
-    more : {depth : ℕ} {t r : List ℕ} {m : List ℕ × AnyNode} {ms : Members} (x : List ℕ × List ℕ) (n : AnyNode) (inside : List ℕ) → ends_members t ≡ false → name t ≡ Ok x
-        → IsValue depth x.1 n inside → m ≡ (x.0, n) → AreMembers depth (skip inside) ms r → AreMembers depth t (m ∷ ms) r
+    more : {depth : ℕ} {t r : List ℕ} {m : List ℕ × AnyNode} {ms : Members} (x : List ℕ × List ℕ) (n : AnyNode) (inside : List ℕ) → ends_members t ≡ false → member_name t ≡ Ok x
+        → IsValue depth x.1 n inside → m ≡ (x.0, n) → AreMembers depth (comments_skipped inside) ms r → AreMembers depth t (m ∷ ms) r
 
 -- the whole file is a group without braces
 pub record IsFile (text : List ℕ) (top : AnyNode) : Type 0 where
   pub members : Members
   pub group : top ≡ node.Group members
-  pub spelled : AreMembers 32 (skip text) members []
+  pub spelled : AreMembers 32 (comments_skipped text) members []

@@ -6,7 +6,7 @@ use Rattle.any_config.specs.declared.any_fault.AnyFault.{AnyFault}
 use Rattle.any_config.specs.declared.any_fault.AnyFault.TheVariants as fault
 use Rattle.any_config.specs.declared.node.AnyNode.{AnyNode}
 use Rattle.any_config.specs.declared.node.AnyNode.TheVariants as node
-use Rattle.any_config.specs.Tokens.{Outcome, ◌>>=◌, skip, is_at, name, leaf}
+use Rattle.any_config.specs.Tokens.{TokenOutcome, ◌>>=◌, comments_skipped, is_byte_at_front, member_name, ungrouped_value}
 
 -- the names of a group and their values
 abbrev pub Members : Type 0
@@ -14,57 +14,57 @@ Members = List (List ℕ × AnyNode)
 
 -- members end at a `}` and at the end of the text
 unfoldable pub ends_members : List ℕ → Bool
-ends_members t = length t == 0 || is_at 125 t
+ends_members t = length t == 0 || is_byte_at_front 125 t
 
 -- Inside a group, `inner` reads the groups that it holds.
-module _ (inner : List ℕ → Outcome AnyNode) where
+module _ (inner : List ℕ → TokenOutcome AnyNode) where
   -- a value of the member that begins at a place
-  unfoldable pub value : ℕ → List ℕ → Outcome AnyNode
-  value at t = if is_at 123 t then inner t else leaf at t
+  unfoldable pub value : ℕ → List ℕ → TokenOutcome AnyNode
+  value at t = if is_byte_at_front 123 t then inner t else ungrouped_value at t
 
   -- a name and its value, or a value alone
-  unfoldable pub member : List ℕ → Outcome (List ℕ × AnyNode)
+  unfoldable pub member : List ℕ → TokenOutcome (List ℕ × AnyNode)
   member t = do
-    n ← name t
+    n ← member_name t
     v ← value (length t) n.1
     Ok ((n.0, v.0), v.1)
 
   -- Members follow one another between blanks and comments. Each has a byte at least, so the count of bytes is enough.
-  unfoldable pub more_members : ℕ → Members → List ℕ → Outcome Members
+  unfoldable pub more_members : ℕ → Members → List ℕ → TokenOutcome Members
   more_members zero found t = Ok (found, t)
   more_members (suc k) found t = if ends_members t then Ok (found, t) else (do
     m ← member t
-    more_members k (found ++ m.0 ∷ []) (skip m.1))
+    more_members k (found ++ m.0 ∷ []) (comments_skipped m.1))
 
-  unfoldable pub members : List ℕ → Outcome Members
-  members t = more_members (length (skip t)) [] (skip t)
+  unfoldable pub members : List ℕ → TokenOutcome Members
+  members t = more_members (length (comments_skipped t)) [] (comments_skipped t)
 
   -- a group from its `{` to its `}`
-  unfoldable pub opened : List ℕ → Outcome AnyNode
+  unfoldable pub opened : List ℕ → TokenOutcome AnyNode
   opened t = do
     ms ← members (drop 1 t)
-    if is_at 125 ms.1 then Ok (node.Group ms.0, drop 1 ms.1) else Err (stop.Unclosed (length t))
+    if is_byte_at_front 125 ms.1 then Ok (node.Group ms.0, drop 1 ms.1) else Err (stop.Unclosed (length t))
 
 -- a group in a place where so many may still open
-unfoldable pub group : ℕ → List ℕ → Outcome AnyNode
+unfoldable pub group : ℕ → List ℕ → TokenOutcome AnyNode
 group zero t = Err (stop.TooDeep (length t))
 group (suc depth) t = opened (group depth) t
 
 -- the whole file is a group without braces, in which groups nest 32 levels
-unfoldable pub read : List ℕ → Result AnyNode Stop
-read t = do
+unfoldable pub file_read : List ℕ → Result AnyNode Stop
+file_read t = do
   ms ← members (group 32) t
   if length ms.1 == 0 then Ok (node.Group ms.0) else Err (stop.BadName (length ms.1))
 
 -- the answer of the reading, with its place counted from the beginning
-abbrev pub placed : List ℕ → Result AnyNode Stop → Result AnyNode AnyFault
-placed t (Ok n) = Ok n
-placed t (Err stop.Memory) = Err fault.NoMemory
-placed t (Err (stop.BadName left)) = Err (fault.BadName (length t - left))
-placed t (Err (stop.BadQuote left)) = Err (fault.BadQuote (length t - left))
-placed t (Err (stop.TooDeep left)) = Err (fault.TooDeep (length t - left))
-placed t (Err (stop.Unclosed left)) = Err (fault.Unclosed (length t - left))
+abbrev pub placed_answer : List ℕ → Result AnyNode Stop → Result AnyNode AnyFault
+placed_answer t (Ok n) = Ok n
+placed_answer t (Err stop.Memory) = Err fault.NoMemory
+placed_answer t (Err (stop.BadName left)) = Err (fault.BadName (length t - left))
+placed_answer t (Err (stop.BadQuote left)) = Err (fault.BadQuote (length t - left))
+placed_answer t (Err (stop.TooDeep left)) = Err (fault.TooDeep (length t - left))
+placed_answer t (Err (stop.Unclosed left)) = Err (fault.Unclosed (length t - left))
 
 -- what bytes are read as
 abbrev pub any_of : List ℕ → Result AnyNode AnyFault
-any_of t = placed t (read t)
+any_of t = placed_answer t (file_read t)

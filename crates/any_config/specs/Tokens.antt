@@ -10,8 +10,8 @@ use Rattle.any_config.specs.declared.node.AnyNode.{AnyNode}
 use Rattle.any_config.specs.declared.node.AnyNode.TheVariants as node
 
 -- what was read and the bytes after it, or why nothing was; a place is told by the bytes that are left there
-abbrev pub Outcome : Type 0 → Type 0
-Outcome A = Result (A × List ℕ) Stop
+abbrev pub TokenOutcome : Type 0 → Type 0
+TokenOutcome A = Result (A × List ℕ) Stop
 
 infixl 10 ◌>>=◌
 -- a step, and the next one with what the first gave
@@ -20,53 +20,53 @@ abbrev pub ◌>>=◌ : {A B : Type 0} → Result A Stop → (A → Result B Stop
 (Err e) >>= f = Err e
 
 -- the reason is that of the reading, unless memory ran out
-abbrev pub Fails : {Y : Type 0} → Stop → Result Y Stop → Type 0
-Fails Memory read = Unit {0}
-Fails (BadName n) read = read ≡ Err (BadName n)
-Fails (BadQuote n) read = read ≡ Err (BadQuote n)
-Fails (TooDeep n) read = read ≡ Err (TooDeep n)
-Fails (Unclosed n) read = read ≡ Err (Unclosed n)
+abbrev pub TokenFails : {Y : Type 0} → Stop → Result Y Stop → Type 0
+TokenFails Memory read = Unit {0}
+TokenFails (BadName n) read = read ≡ Err (BadName n)
+TokenFails (BadQuote n) read = read ≡ Err (BadQuote n)
+TokenFails (TooDeep n) read = read ≡ Err (TooDeep n)
+TokenFails (Unclosed n) read = read ≡ Err (Unclosed n)
 
 -- what a function returned, seen by view, is what reading gives, unless memory ran out
-abbrev pub Gives : {X Y : Type 0} → (X → Y) → Result X Stop → Result Y Stop → Type 0
-Gives view (Ok x) read = read ≡ Ok (view x)
-Gives view (Err e) read = Fails e read
+abbrev pub TokenGives : {X Y : Type 0} → (X → Y) → Result X Stop → Result Y Stop → Type 0
+TokenGives view (Ok x) read = read ≡ Ok (view x)
+TokenGives view (Err e) read = TokenFails e read
 
 -- a line feed or a carriage return ends a line
 abbrev pub is_line_end : ℕ → Bool
 is_line_end c = c == 10 || c == 13
 
-abbrev pub is_blank : ℕ → Bool
-is_blank c = c == 32 || (c == 9 || is_line_end c)
+abbrev pub is_config_blank : ℕ → Bool
+is_config_blank c = c == 32 || (c == 9 || is_line_end c)
 
 -- the bytes from the first one on that is neither a blank nor in a comment, which goes from a `#` to the line's end
-abbrev pub after_blanks : Bool → List ℕ → List ℕ
-after_blanks in_comment [] = []
-after_blanks true (c ∷ t) = after_blanks (not (is_line_end c)) t
-after_blanks false (c ∷ t) = if c == 35 then after_blanks true t else (if is_blank c then after_blanks false t else c ∷ t)
+abbrev pub after_blanks_and_comments : Bool → List ℕ → List ℕ
+after_blanks_and_comments in_comment [] = []
+after_blanks_and_comments true (c ∷ t) = after_blanks_and_comments (not (is_line_end c)) t
+after_blanks_and_comments false (c ∷ t) = if c == 35 then after_blanks_and_comments true t else (if is_config_blank c then after_blanks_and_comments false t else c ∷ t)
 
-unfoldable pub skip : List ℕ → List ℕ
-skip t = after_blanks false t
+unfoldable pub comments_skipped : List ℕ → List ℕ
+comments_skipped t = after_blanks_and_comments false t
 
 -- whether the text begins with this byte
-unfoldable pub is_at : ℕ → List ℕ → Bool
-is_at c [] = false
-is_at c (d ∷ t) = d == c
+unfoldable pub is_byte_at_front : ℕ → List ℕ → Bool
+is_byte_at_front c [] = false
+is_byte_at_front c (d ∷ t) = d == c
 
 abbrev pub is_letter_or_digit : ℕ → Bool
 is_letter_or_digit c = (nat_le 65 c && nat_le c 90) || ((nat_le 97 c && nat_le c 122) || (nat_le 48 c && nat_le c 57))
 
 -- letters, digits, `_`, `-` and `.`
-abbrev pub is_name_byte : ℕ → Bool
-is_name_byte c = is_letter_or_digit c || (c == 95 || (c == 45 || c == 46))
+abbrev pub is_config_name_byte : ℕ → Bool
+is_config_name_byte c = is_letter_or_digit c || (c == 95 || (c == 45 || c == 46))
 
 -- letters, digits, `.`, `_`, `:`, `*` and `-`
 abbrev pub is_plain_byte : ℕ → Bool
-is_plain_byte c = is_name_byte c || (c == 58 || c == 42)
+is_plain_byte c = is_config_name_byte c || (c == 58 || c == 42)
 
 -- whether a byte ends a run: of a name, of a plain word, of what stands in quotes
 abbrev pub ends : Run → ℕ → Bool
-ends Name c = not (is_name_byte c)
+ends Name c = not (is_config_name_byte c)
 ends Plain c = not (is_plain_byte c)
 ends (Quoted mark) c = c == mark || is_line_end c
 
@@ -75,15 +75,15 @@ unfoldable pub run_len : Run → List ℕ → ℕ
 run_len run t = position_or_len (ends run) t
 
 -- the name of a member, empty where it has none
-unfoldable pub name : List ℕ → Outcome (List ℕ)
-name t =
-    if is_at 47 t then (
+unfoldable pub member_name : List ℕ → TokenOutcome (List ℕ)
+member_name t =
+    if is_byte_at_front 47 t then (
     if run_len Name (drop 1 t) == 0 then Err (BadName (length t))
-    else Ok (take (run_len Name (drop 1 t)) (drop 1 t), skip (drop (run_len Name (drop 1 t)) (drop 1 t))))
+    else Ok (take (run_len Name (drop 1 t)) (drop 1 t), comments_skipped (drop (run_len Name (drop 1 t)) (drop 1 t))))
     else Ok ([], t)
 
 -- a plain word; where there is none the fault is at the member
-unfoldable pub word : ℕ → List ℕ → Outcome AnyNode
+unfoldable pub word : ℕ → List ℕ → TokenOutcome AnyNode
 word at t = if run_len Plain t == 0 then Err (BadName at) else Ok (node.Word (take (run_len Plain t) t), drop (run_len Plain t) t)
 
 -- a text in double quotes is a word, one in single quotes a pattern
@@ -91,12 +91,12 @@ abbrev pub quoted_node : ℕ → List ℕ → AnyNode
 quoted_node mark text = if mark == 34 then node.Word text else node.Pattern text
 
 -- a text in quotes: UTF-8 up to the same mark, on one line
-unfoldable pub quoted : ℕ → List ℕ → Outcome AnyNode
+unfoldable pub quoted : ℕ → List ℕ → TokenOutcome AnyNode
 quoted mark t =
-    if is_at mark (drop (run_len (Quoted mark) (drop 1 t)) (drop 1 t)) && is_utf8 (take (run_len (Quoted mark) (drop 1 t)) (drop 1 t))
+    if is_byte_at_front mark (drop (run_len (Quoted mark) (drop 1 t)) (drop 1 t)) && is_utf8 (take (run_len (Quoted mark) (drop 1 t)) (drop 1 t))
     then Ok (quoted_node mark (take (run_len (Quoted mark) (drop 1 t)) (drop 1 t)), drop 1 (drop (run_len (Quoted mark) (drop 1 t)) (drop 1 t)))
     else Err (BadQuote (length t))
 
 -- a value that is no group
-unfoldable pub leaf : ℕ → List ℕ → Outcome AnyNode
-leaf at t = if is_at 34 t then quoted 34 t else (if is_at 39 t then quoted 39 t else word at t)
+unfoldable pub ungrouped_value : ℕ → List ℕ → TokenOutcome AnyNode
+ungrouped_value at t = if is_byte_at_front 34 t then quoted 34 t else (if is_byte_at_front 39 t then quoted 39 t else word at t)

@@ -1,7 +1,7 @@
 //! The entries of rules and of the filter.
 ghost use Rattle.std.specs.Prelude.{◌≡◌, codes, [], IfOk};
 ghost use Rattle.any_config.specs.Farms as spec;
-ghost use Rattle.any_config.specs.Farms.{Gives};
+ghost use Rattle.any_config.specs.Farms.{FarmGives};
 
 use crate::farm::{Filter, FilterList};
 use crate::farm_fault::FarmFault;
@@ -13,7 +13,7 @@ use std::alloc::Global;
 /// The glob that a word spells.
 #[tactic(auto, unfolding(crate::specs::Farms::glob))]
 pub fn glob(alloc: Global, name: &str, text: &str) -> Result<Glob, FarmFault>
-    ensures { Gives (λ g. g) result (spec.glob name.now text.now) }
+    ensures { FarmGives (λ g. g) result (spec.glob name.now text.now) }
 {
     match Glob::read(alloc, text) {
         Ok(glob) => Ok(glob),
@@ -25,7 +25,7 @@ pub fn glob(alloc: Global, name: &str, text: &str) -> Result<Glob, FarmFault>
 /// The glob of a name, where there is one.
 #[tactic(auto, unfolding(crate::specs::Farms::glob_at))]
 fn glob_at(alloc: Global, name: &str, members: &[Member]) -> Result<Option<Glob>, FarmFault>
-    ensures { Gives (λ g. g) result (spec.glob_at name.now members.now) }
+    ensures { FarmGives (λ g. g) result (spec.glob_at name.now members.now) }
 {
     let Some(value) = value_of(name, members) else {
         return Ok(None);
@@ -35,7 +35,7 @@ fn glob_at(alloc: Global, name: &str, members: &[Member]) -> Result<Option<Glob>
 }
 
 fn type_of(alloc: Global, text: &str) -> Result<bool, FarmFault>
-    ensures { Gives (λ b. b) result (spec.type_of text.now) }
+    ensures { FarmGives (λ b. b) result (spec.rule_type text.now) }
 {
     if text == "allow" {
         Ok(true)
@@ -49,7 +49,7 @@ fn type_of(alloc: Global, text: &str) -> Result<bool, FarmFault>
 /// Whether an entry allows or denies.
 #[tactic(auto, unfolding(crate::specs::Farms::allow))]
 fn allow(alloc: Global, members: &[Member]) -> Result<bool, FarmFault>
-    ensures { Gives (λ b. b) result (spec.allow members.now) }
+    ensures { FarmGives (λ b. b) result (spec.allow members.now) }
 {
     let Some(value) = value_of("type", members) else {
         return Err(FarmFault::BadKind(TextBuf::of(alloc, "type")?));
@@ -60,7 +60,7 @@ fn allow(alloc: Global, members: &[Member]) -> Result<bool, FarmFault>
 
 #[tactic(auto, unfolding(crate::specs::Farms::rule))]
 fn rule(alloc: Global, members: &[Member]) -> Result<Rule, FarmFault>
-    ensures { Gives (λ r. r) result (spec.rule members.now) }
+    ensures { FarmGives (λ r. r) result (spec.rule members.now) }
 {
     let allow = allow(alloc, members)?;
     match glob_at(alloc, "glob", members)? {
@@ -71,7 +71,7 @@ fn rule(alloc: Global, members: &[Member]) -> Result<Rule, FarmFault>
 
 #[tactic(auto, unfolding(crate::specs::Farms::filter))]
 fn filter(alloc: Global, members: &[Member]) -> Result<Filter, FarmFault>
-    ensures { Gives (λ f. f) result (spec.filter members.now) }
+    ensures { FarmGives (λ f. f) result (spec.filter members.now) }
 {
     Ok(Filter {
         allow: allow(alloc, members)?,
@@ -87,21 +87,21 @@ fn filter(alloc: Global, members: &[Member]) -> Result<Filter, FarmFault>
 }
 
 fn rule_entry(alloc: Global, group: &str, member: &Member) -> Result<Rule, FarmFault>
-    ensures { Gives (λ r. r) result (spec.entry group.now spec.rule member.now) }
+    ensures { FarmGives (λ r. r) result (spec.entry group.now spec.rule member.now) }
 {
     let members = group_of(alloc, name_or(&member.0, group), &member.1)?;
     rule(alloc, members)
 }
 
 fn filter_entry(alloc: Global, member: &Member) -> Result<Filter, FarmFault>
-    ensures { Gives (λ f. f) result (spec.entry (codes "filter") spec.filter member.now) }
+    ensures { FarmGives (λ f. f) result (spec.entry (codes "filter") spec.filter member.now) }
 {
     let members = group_of(alloc, name_or(&member.0, "filter"), &member.1)?;
     filter(alloc, members)
 }
 
 fn rules(alloc: Global, group: &str, entries: &[Member]) -> Result<RuleList, FarmFault>
-    ensures { Gives (λ l. l) result (spec.each (spec.entry group.now spec.rule) entries.now) }
+    ensures { FarmGives (λ l. l) result (spec.each (spec.entry group.now spec.rule) entries.now) }
 {
     let mut found = RuleList::new(alloc);
     for entry in entries {
@@ -113,7 +113,7 @@ fn rules(alloc: Global, group: &str, entries: &[Member]) -> Result<RuleList, Far
 /// Rules that have to be there.
 #[tactic(auto, unfolding(crate::specs::Farms::needed_rules))]
 pub fn needed_rules(alloc: Global, name: &str, members: &[Member]) -> Result<RuleList, FarmFault>
-    ensures { Gives (λ l. l) result (spec.needed_rules name.now members.now) }
+    ensures { FarmGives (λ l. l) result (spec.needed_rules name.now members.now) }
 {
     let entries = needed_group(alloc, name, members)?;
     rules(alloc, name, entries)
@@ -122,14 +122,14 @@ pub fn needed_rules(alloc: Global, name: &str, members: &[Member]) -> Result<Rul
 /// Rules, none where the group isn't there.
 #[tactic(auto, unfolding(crate::specs::Farms::optional_rules))]
 pub fn optional_rules(alloc: Global, name: &str, members: &[Member]) -> Result<RuleList, FarmFault>
-    ensures { Gives (λ l. l) result (spec.optional_rules name.now members.now) }
+    ensures { FarmGives (λ l. l) result (spec.optional_rules name.now members.now) }
 {
     let entries = optional_group(alloc, name, members)?;
     rules(alloc, name, entries)
 }
 
 fn filter_entries(alloc: Global, entries: &[Member]) -> Result<FilterList, FarmFault>
-    ensures { Gives (λ l. l) result (spec.each (spec.entry (codes "filter") spec.filter) entries.now) }
+    ensures { FarmGives (λ l. l) result (spec.each (spec.entry (codes "filter") spec.filter) entries.now) }
 {
     let mut found = FilterList::new(alloc);
     for entry in entries {
@@ -141,7 +141,7 @@ fn filter_entries(alloc: Global, entries: &[Member]) -> Result<FilterList, FarmF
 /// The entries of the filter.
 #[tactic(auto, unfolding(crate::specs::Farms::filters))]
 pub fn filters(alloc: Global, members: &[Member]) -> Result<FilterList, FarmFault>
-    ensures { Gives (λ l. l) result (spec.filters members.now) }
+    ensures { FarmGives (λ l. l) result (spec.filters members.now) }
 {
     let entries = needed_group(alloc, "filter", members)?;
     filter_entries(alloc, entries)

@@ -2,7 +2,7 @@
 ghost use Rattle.std.specs.Prelude.{◌≡◌, ◌≢◌, codes, IfOk, IfErr, Ok, Err};
 ghost use Rattle.any_config.specs.Farms as spec;
 ghost use Rattle.any_config.specs.declared.node.AnyNode.{out-AnyNode};
-ghost use Rattle.any_config.specs.Farms.{Gives};
+ghost use Rattle.any_config.specs.Farms.{FarmGives};
 
 use crate::entries::{filters, needed_rules, optional_rules};
 use crate::farm::{Farm, FilterList, HostList};
@@ -18,7 +18,7 @@ use std::alloc::Global;
 const DEEPEST_LEVEL: u32 = 32;
 
 fn only_in(alloc: Global, farms: &[Member]) -> Result<&[Member], FarmFault>
-    ensures { Gives (λ ms. ms.now) result (spec.only_in farms.now) }
+    ensures { FarmGives (λ ms. ms.now) result (spec.only_in farms.now) }
 {
     match farms {
         [] => Err(FarmFault::BadKind(TextBuf::of(alloc, "farms")?)),
@@ -38,7 +38,7 @@ fn members_in(top: &AnyNode) -> &[Member]
 
 #[tactic(auto, unfolding(crate::specs::Farms::only_farm))]
 fn only_farm(alloc: Global, top: &AnyNode) -> Result<&[Member], FarmFault>
-    ensures { Gives (λ ms. ms.now) result (spec.only_farm top.now) }
+    ensures { FarmGives (λ ms. ms.now) result (spec.only_farm top.now) }
 {
     let farms = needed_group(alloc, "farms", members_in(top))?;
     only_in(alloc, farms)
@@ -53,7 +53,7 @@ fn with_cache(
     filter: FilterList,
     cache: &[Member],
 ) -> Result<Farm, FarmFault>
-    ensures { Gives (λ f. f) result (spec.with_cache hosts ask filter cache.now) }
+    ensures { FarmGives (λ f. f) result (spec.with_cache hosts ask filter cache.now) }
 {
     let rules = needed_rules(alloc, "rules", cache)?;
     let level = number(alloc, "statfileslevel", DEEPEST_LEVEL, cache)?;
@@ -78,7 +78,7 @@ fn with_cache(
 
 #[tactic(auto, unfolding(crate::specs::Farms::farm_of))]
 fn read_farm(alloc: Global, top: &AnyNode) -> Result<Farm, FarmFault>
-    ensures { Gives (λ f. f) result (spec.farm_of top.now) }
+    ensures { FarmGives (λ f. f) result (spec.farm_of top.now) }
 {
     let farm = only_farm(alloc, top)?;
     let served = needed_group(alloc, "virtualhosts", farm)?;

@@ -3,7 +3,7 @@ ghost use Rattle.std.specs.Prelude.{◌≡◌, codes, [], IfOk, MatchOption, Som
 ghost use Rattle.std.specs.List.{list_all};
 ghost use Rattle.any_config.specs.Farms as spec;
 ghost use Rattle.any_config.specs.Tokens.{is_letter_or_digit};
-ghost use Rattle.any_config.specs.Farms.{Gives};
+ghost use Rattle.any_config.specs.Farms.{FarmGives};
 
 use crate::entries::glob;
 use crate::farm::HostList;
@@ -42,7 +42,7 @@ fn port(text: &str) -> Option<u16>
 
 #[tactic(auto, unfolding(crate::specs::Farms::host))]
 fn host(alloc: Global, name: &str, text: &str) -> Result<(Glob, Option<u16>), FarmFault>
-    ensures { Gives (λ h. h) result (spec.host name.now text.now) }
+    ensures { FarmGives (λ h. h) result (spec.host name.now text.now) }
 {
     let Some((front, back)) = at_last_colon(text) else {
         return Ok((glob(alloc, name, text)?, None));
@@ -54,9 +54,9 @@ fn host(alloc: Global, name: &str, text: &str) -> Result<(Glob, Option<u16>), Fa
     }
 }
 
-#[tactic(auto, unfolding(crate::specs::Farms::host_of))]
+#[tactic(auto, unfolding(crate::specs::Farms::served_host))]
 fn host_of(alloc: Global, member: &Member) -> Result<(Glob, Option<u16>), FarmFault>
-    ensures { Gives (λ h. h) result (spec.host_of member.now) }
+    ensures { FarmGives (λ h. h) result (spec.served_host member.now) }
 {
     let name = member.0.text();
     if !name.is_empty() {
@@ -68,7 +68,7 @@ fn host_of(alloc: Global, member: &Member) -> Result<(Glob, Option<u16>), FarmFa
 
 /// The hosts that are served.
 pub fn hosts(alloc: Global, served: &[Member]) -> Result<HostList, FarmFault>
-    ensures { Gives (λ l. l) result (spec.each spec.host_of served.now) }
+    ensures { FarmGives (λ l. l) result (spec.each spec.served_host served.now) }
 {
     let mut found = HostList::new(alloc);
     for member in served {

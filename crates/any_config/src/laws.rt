@@ -1,6 +1,6 @@
 //! What the reading is: a law of the definitions, on a function that does nothing.
 ghost use Rattle.std.specs.Prelude.{◌≡◌, ℕ, List, Ok, Err};
-ghost use Rattle.any_config.specs.Faults.{IsFault};
+ghost use Rattle.any_config.specs.Faults.{IsConfigFault};
 ghost use Rattle.any_config.specs.Grammar.{IsFile};
 ghost use Rattle.any_config.specs.Read.{any_of};
 ghost use Rattle.any_config.specs.declared.any_fault.AnyFault.{AnyFault};
@@ -16,6 +16,6 @@ pub fn the_reading_is_the_grammar()
 /// members before it are whole. A group that nothing closes is told only where all that it holds is whole up to the end of the bytes, so
 /// it is the innermost.
 pub fn a_fault_is_the_first()
-    ensures found { (text : List ℕ) (fault : AnyFault) → any_of text ≡ Err fault → IsFault text fault }
-    ensures only { (text : List ℕ) (fault : AnyFault) → IsFault text fault → any_of text ≡ Err fault }
+    ensures found { (text : List ℕ) (fault : AnyFault) → any_of text ≡ Err fault → IsConfigFault text fault }
+    ensures only { (text : List ℕ) (fault : AnyFault) → IsConfigFault text fault → any_of text ≡ Err fault }
 {}

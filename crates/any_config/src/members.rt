@@ -1,7 +1,7 @@
 //! Members of groups, and the shapes of their values.
 ghost use Rattle.std.specs.Prelude.{◌≡◌, IfOk, option_copied};
 ghost use Rattle.any_config.specs.Farms as spec;
-ghost use Rattle.any_config.specs.Farms.{Gives};
+ghost use Rattle.any_config.specs.Farms.{FarmGives};
 
 use crate::farm_fault::FarmFault;
 use crate::node::AnyNode;
@@ -12,14 +12,14 @@ use std::alloc::Global;
 pub type Member = (TextBuf, AnyNode);
 
 fn is_name(name: &str, text: &TextBuf) -> bool
-    ensures { result ≡ spec.is_name name.now text.now }
+    ensures { result ≡ spec.is_member_name name.now text.now }
 {
     text.text() == name
 }
 
 /// The value of the first member of a name.
 pub fn value_of<'a>(name: &str, members: &'a [Member]) -> Option<&'a AnyNode>
-    ensures { option_copied result ≡ spec.value_of name.now members.now }
+    ensures { option_copied result ≡ spec.member_value name.now members.now }
 {
     for member in members {
         if is_name(name, &member.0) {
@@ -42,7 +42,7 @@ pub fn group_of<'a>(
     name: &str,
     value: &'a AnyNode,
 ) -> Result<&'a [Member], FarmFault>
-    ensures { Gives (λ ms. ms.now) result (spec.group_of name.now value.now) }
+    ensures { FarmGives (λ ms. ms.now) result (spec.group_of name.now value.now) }
 {
     match value {
         AnyNode::Word(_) => Err(FarmFault::BadKind(TextBuf::of(alloc, name)?)),
@@ -52,7 +52,7 @@ pub fn group_of<'a>(
 }
 
 pub fn word_of<'a>(alloc: Global, name: &str, value: &'a AnyNode) -> Result<&'a str, FarmFault>
-    ensures { Gives (λ text. text.now) result (spec.word_of name.now value.now) }
+    ensures { FarmGives (λ text. text.now) result (spec.member_word name.now value.now) }
 {
     match value {
         AnyNode::Word(text) => Ok(text.text()),
@@ -68,7 +68,7 @@ pub fn needed_group<'a>(
     name: &str,
     members: &'a [Member],
 ) -> Result<&'a [Member], FarmFault>
-    ensures { Gives (λ ms. ms.now) result (spec.needed_group name.now members.now) }
+    ensures { FarmGives (λ ms. ms.now) result (spec.needed_group name.now members.now) }
 {
     match value_of(name, members) {
         None => Err(FarmFault::Missing(TextBuf::of(alloc, name)?)),
@@ -83,7 +83,7 @@ pub fn optional_group<'a>(
     name: &str,
     members: &'a [Member],
 ) -> Result<&'a [Member], FarmFault>
-    ensures { Gives (λ ms. ms.now) result (spec.optional_group name.now members.now) }
+    ensures { FarmGives (λ ms. ms.now) result (spec.optional_group name.now members.now) }
 {
     match value_of(name, members) {
         None => Ok(&[]),

@@ -1,7 +1,7 @@
 //! Numbers of a farm.
 ghost use Rattle.std.specs.Prelude.{◌≡◌, ◌≤◌, ◌<◌, ◌^◌, IfOk, IfSome};
 ghost use Rattle.any_config.specs.Farms as spec;
-ghost use Rattle.any_config.specs.Farms.{Gives};
+ghost use Rattle.any_config.specs.Farms.{FarmGives};
 
 use crate::farm_fault::FarmFault;
 use crate::members::{Member, value_of, word_of};
@@ -9,7 +9,7 @@ use sp_base::TextBuf;
 use std::alloc::Global;
 
 fn is_digit(c: u8) -> bool
-    ensures { result ≡ spec.is_digit c }
+    ensures { result ≡ spec.is_config_digit c }
 {
     c >= b'0' && c <= b'9'
 }
@@ -48,10 +48,10 @@ pub fn decimal(most: u32, text: &[u8]) -> Option<u32>
 }
 
 /// A number up to this, 0 where there is none.
-#[tactic(auto, unfolding(crate::specs::Farms::number))]
+#[tactic(auto, unfolding(crate::specs::Farms::member_number))]
 pub fn number(alloc: Global, name: &str, most: u32, members: &[Member]) -> Result<u32, FarmFault>
     requires { most < 2 ^ 16 }
-    ensures value { Gives (λ n. n) result (spec.number name.now most members.now) }
+    ensures value { FarmGives (λ n. n) result (spec.member_number name.now most members.now) }
     ensures within { IfOk result (λ n. n ≤ most) }
 {
     let Some(value) = value_of(name, members) else {

@@ -1,6 +1,6 @@
 //! The reader of a file.
 ghost use Rattle.std.specs.Prelude.{◌≡◌, ◌≢◌, [], length, IfOk, IfErr, Ok, Err};
-ghost use Rattle.any_config.specs.Tokens.{Gives};
+ghost use Rattle.any_config.specs.Tokens.{TokenGives};
 ghost use Rattle.any_config.specs.Read as spec;
 ghost use Rattle.any_config.specs.Read.{any_of};
 
@@ -25,7 +25,7 @@ fn ends_members(text: &[u8]) -> bool
 #[cycle(reader)]
 #[tactic(auto, unfolding(crate::specs::Read::value))]
 fn value(alloc: Global, depth: usize, at: usize, text: &[u8]) -> Result<(AnyNode, &[u8]), Stop>
-    ensures { Gives (λ x. (x.0, x.1.now)) result (spec.value (spec.group depth) at text.now) }
+    ensures { TokenGives (λ x. (x.0, x.1.now)) result (spec.value (spec.group depth) at text.now) }
 {
     if is_at(b'{', text) {
         group(alloc, depth, text)
@@ -37,7 +37,7 @@ fn value(alloc: Global, depth: usize, at: usize, text: &[u8]) -> Result<(AnyNode
 #[cycle(reader)]
 #[tactic(auto, unfolding(crate::specs::Read::member))]
 fn member(alloc: Global, depth: usize, text: &[u8]) -> Result<(TextBuf, AnyNode, &[u8]), Stop>
-    ensures { Gives (λ x. ((x.0, x.1), x.2.now)) result (spec.member (spec.group depth) text.now) }
+    ensures { TokenGives (λ x. ((x.0, x.1), x.2.now)) result (spec.member (spec.group depth) text.now) }
 {
     let (name, rest) = name(alloc, text)?;
     let (node, rest) = value(alloc, depth, text.len(), rest)?;
@@ -47,7 +47,7 @@ fn member(alloc: Global, depth: usize, text: &[u8]) -> Result<(TextBuf, AnyNode,
 #[cycle(reader)]
 #[tactic(auto, unfolding(crate::specs::Read::members, crate::specs::Read::more_members))]
 fn members(alloc: Global, depth: usize, text: &[u8]) -> Result<(AnyList, &[u8]), Stop>
-    ensures { Gives (λ x. (x.0, x.1.now)) result (spec.members (spec.group depth) text.now) }
+    ensures { TokenGives (λ x. (x.0, x.1.now)) result (spec.members (spec.group depth) text.now) }
 {
     let mut found = AnyList::new(alloc);
     let mut rest = skip(text);
@@ -65,7 +65,7 @@ fn members(alloc: Global, depth: usize, text: &[u8]) -> Result<(AnyList, &[u8]),
 #[cycle(reader)]
 #[tactic(auto, unfolding(crate::specs::Read::opened))]
 fn opened(alloc: Global, depth: usize, text: &[u8]) -> Result<(AnyNode, &[u8]), Stop>
-    ensures { Gives (λ x. (x.0, x.1.now)) result (spec.opened (spec.group depth) text.now) }
+    ensures { TokenGives (λ x. (x.0, x.1.now)) result (spec.opened (spec.group depth) text.now) }
 {
     let (list, rest) = members(alloc, depth, tail(text))?;
     if !is_at(b'}', rest) {
@@ -76,7 +76,7 @@ fn opened(alloc: Global, depth: usize, text: &[u8]) -> Result<(AnyNode, &[u8]), 
 
 #[cycle(reader)]
 fn group(alloc: Global, depth: usize, text: &[u8]) -> Result<(AnyNode, &[u8]), Stop>
-    ensures { Gives (λ x. (x.0, x.1.now)) result (spec.group depth text.now) }
+    ensures { TokenGives (λ x. (x.0, x.1.now)) result (spec.group depth text.now) }
 {
     if depth == 0 {
         return Err(Stop::TooDeep(text.len()));
@@ -84,9 +84,9 @@ fn group(alloc: Global, depth: usize, text: &[u8]) -> Result<(AnyNode, &[u8]), S
     opened(alloc, depth - 1, text)
 }
 
-#[tactic(auto, unfolding(crate::specs::Read::read))]
+#[tactic(auto, unfolding(crate::specs::Read::file_read))]
 fn read(alloc: Global, bytes: &[u8]) -> Result<AnyNode, Stop>
-    ensures { Gives (λ x. x) result (spec.read bytes.now) }
+    ensures { TokenGives (λ x. x) result (spec.file_read bytes.now) }
 {
     let (list, rest) = members(alloc, DEEPEST_GROUP, bytes)?;
     if !rest.is_empty() {

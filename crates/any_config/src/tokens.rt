@@ -2,7 +2,7 @@
 ghost use Rattle.std.specs.Prelude.{◌≡◌, ◌≤◌, ◌<◌, length, drop, IfOk, true, IsUtf8};
 ghost use Rattle.std.specs.List.{position, position_or_len};
 ghost use Rattle.any_config.specs.Tokens as spec;
-ghost use Rattle.any_config.specs.Tokens.{Gives};
+ghost use Rattle.any_config.specs.Tokens.{TokenGives};
 
 use crate::node::AnyNode;
 use crate::stop::Stop;
@@ -26,7 +26,7 @@ fn is_line_end(c: u8) -> bool
 }
 
 fn is_blank(c: u8) -> bool
-    ensures { result ≡ spec.is_blank c }
+    ensures { result ≡ spec.is_config_blank c }
 {
     c == b' ' || (c == b'\t' || is_line_end(c))
 }
@@ -38,7 +38,7 @@ fn is_letter_or_digit(c: u8) -> bool
 }
 
 fn is_name_byte(c: u8) -> bool
-    ensures { result ≡ spec.is_name_byte c }
+    ensures { result ≡ spec.is_config_name_byte c }
 {
     is_letter_or_digit(c) || (c == b'_' || (c == b'-' || c == b'.'))
 }
@@ -77,9 +77,9 @@ fn run_len(run: Run, text: &[u8]) -> usize
     }
 }
 
-#[tactic(auto, unfolding(crate::specs::Tokens::is_at))]
+#[tactic(auto, unfolding(crate::specs::Tokens::is_byte_at_front))]
 pub fn is_at(c: u8, text: &[u8]) -> bool
-    ensures { result ≡ spec.is_at c text.now }
+    ensures { result ≡ spec.is_byte_at_front c text.now }
 {
     match text {
         [] => false,
@@ -88,9 +88,9 @@ pub fn is_at(c: u8, text: &[u8]) -> bool
 }
 
 /// The bytes from the first one on that is neither a blank nor in a comment.
-#[tactic(auto, unfolding(crate::specs::Tokens::skip))]
+#[tactic(auto, unfolding(crate::specs::Tokens::comments_skipped))]
 pub fn skip(text: &[u8]) -> &[u8]
-    ensures { result.now ≡ spec.skip text.now }
+    ensures { result.now ≡ spec.comments_skipped text.now }
 {
     let mut in_comment = false;
     let mut rest = text;
@@ -128,9 +128,9 @@ fn text_of(alloc: Global, bytes: &[u8]) -> Mem<TextBuf>
 }
 
 /// The name of a member, empty where it has none.
-#[tactic(auto, using(crate::proofs::TokenLemmas::name_utf8), unfolding(crate::specs::Tokens::name))]
+#[tactic(auto, using(crate::proofs::TokenLemmas::name_utf8), unfolding(crate::specs::Tokens::member_name))]
 pub fn name(alloc: Global, text: &[u8]) -> Result<(TextBuf, &[u8]), Stop>
-    ensures { Gives (λ x. (x.0, x.1.now)) result (spec.name text.now) }
+    ensures { TokenGives (λ x. (x.0, x.1.now)) result (spec.member_name text.now) }
 {
     if !is_at(b'/', text) {
         return Ok((TextBuf::of(alloc, "")?, text));
@@ -146,7 +146,7 @@ pub fn name(alloc: Global, text: &[u8]) -> Result<(TextBuf, &[u8]), Stop>
 
 #[tactic(auto, using(crate::proofs::TokenLemmas::plain_utf8), unfolding(crate::specs::Tokens::word))]
 fn word(alloc: Global, at: usize, text: &[u8]) -> Result<(AnyNode, &[u8]), Stop>
-    ensures { Gives (λ x. (x.0, x.1.now)) result (spec.word at text.now) }
+    ensures { TokenGives (λ x. (x.0, x.1.now)) result (spec.word at text.now) }
 {
     let len = run_len(Run::Plain, text);
     if len == 0 {
@@ -168,7 +168,7 @@ fn quoted_node(mark: u8, text: TextBuf) -> AnyNode
 
 #[tactic(auto, unfolding(crate::specs::Tokens::quoted))]
 fn quoted(alloc: Global, mark: u8, text: &[u8]) -> Result<(AnyNode, &[u8]), Stop>
-    ensures { Gives (λ x. (x.0, x.1.now)) result (spec.quoted mark text.now) }
+    ensures { TokenGives (λ x. (x.0, x.1.now)) result (spec.quoted mark text.now) }
 {
     let inside = tail(text);
     let (bytes, rest) = inside.split_at(run_len(Run::Quoted(mark), inside));
@@ -182,9 +182,9 @@ fn quoted(alloc: Global, mark: u8, text: &[u8]) -> Result<(AnyNode, &[u8]), Stop
 }
 
 /// A value that is no group. Where there is none the fault is at the member, at which so many bytes are left.
-#[tactic(auto, unfolding(crate::specs::Tokens::leaf))]
+#[tactic(auto, unfolding(crate::specs::Tokens::ungrouped_value))]
 pub fn leaf(alloc: Global, at: usize, text: &[u8]) -> Result<(AnyNode, &[u8]), Stop>
-    ensures { Gives (λ x. (x.0, x.1.now)) result (spec.leaf at text.now) }
+    ensures { TokenGives (λ x. (x.0, x.1.now)) result (spec.ungrouped_value at text.now) }
 {
     if is_at(b'"', text) {
         quoted(alloc, b'"', text)

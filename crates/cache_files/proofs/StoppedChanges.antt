@@ -2,7 +2,7 @@
 use Rattle.std.proofs.Common.{◌≡◌, ◌≢◌, ⊎_elim, ℕ, List, Option, Some, sym, subst}
 use Rattle.sp_outside.specs.Calls.{Call}
 use Rattle.sp_outside.specs.Files.{Files, with_file, without_file}
-use Rattle.docroot_format.specs.Faults.{IsLeft}
+use Rattle.docroot_format.specs.Faults.{IsLeftByFault}
 use Rattle.docroot_format.specs.declared.fault.FileFault.{FileFault}
 use Rattle.docroot_format.specs.declared.fault.FileFault.TheVariants.{Disk, NoMemory}
 use Rattle.cache_files.specs.Pages.{IsDropLeft, IsPutLeft}
@@ -10,7 +10,7 @@ use Rattle.cache_files.specs.Pages.{IsDropLeft, IsPutLeft}
 some_same : (x y : Files) → Some x ≡ Some y → x ≡ y
 some_same x y e = cc (e)
 
-left_state : (P : Files → Type 0) (old wanted new : Files) (fault : FileFault) → P old → P wanted → IsLeft (Some old) (Some wanted) (Some new) fault → P new
+left_state : (P : Files → Type 0) (old wanted new : Files) (fault : FileFault) → P old → P wanted → IsLeftByFault (Some old) (Some wanted) (Some new) fault → P new
 left_state P old wanted new fault p q left = ⊎_elim (λ e. subst P (sym (some_same new old e)) p) (λ e. subst P (sym (some_same new wanted e.1)) q) left
 
 pub put_left : (P : Files → Type 0) (asked made : Option (List Call)) (files new : Files) (head body bytes text : List ℕ) (fault : FileFault) → P files → P (without_file files head)
@@ -34,7 +34,7 @@ drop_left P asked made files new head body fault old bare gone left =
 not_disk : NoMemory ≢ Disk
 not_disk e = cc (e)
 
-dry_state : (P : Files → Type 0) (old wanted new : Files) → P old → IsLeft (Some old) (Some wanted) (Some new) NoMemory → P new
+dry_state : (P : Files → Type 0) (old wanted new : Files) → P old → IsLeftByFault (Some old) (Some wanted) (Some new) NoMemory → P new
 dry_state P old wanted new p left = ⊎_elim (λ e. subst P (sym (some_same new old e)) p) (λ e. absurd (not_disk e.0)) left
 
 pub put_left_dry : (P : Files → Type 0) (asked made : Option (List Call)) (files new : Files) (head body bytes text : List ℕ) → P files → P (without_file files head)

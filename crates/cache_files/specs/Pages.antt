@@ -4,7 +4,7 @@ use Rattle.sp_outside.specs.Calls.{Call, Get, Put, Remove, told_call, told_calls
 use Rattle.sp_outside.specs.Files.{Files, file_at, told_with, told_without, with_file, without_file}
 use Rattle.sp_base.specs.declared.answer.Answer.{Answer}
 use Rattle.sp_base.specs.declared.answer.Mark.TheVariants.{Plain}
-use Rattle.docroot_format.specs.Faults.{IsLeft}
+use Rattle.docroot_format.specs.Faults.{IsLeftByFault}
 use Rattle.docroot_format.specs.Names.{body_name, head_name}
 use Rattle.docroot_format.specs.Texts.{head_text}
 use Rattle.docroot_format.specs.Readings.{HeadLine, head_of, is_kind}
@@ -27,15 +27,15 @@ pub record IsStorable (answer : Answer) : Type 0 where
   pub kind : IsTrue (is_kind answer.kind)
 
 -- the page that a head and a body make, where the body has the head's length
-abbrev pub page_of : HeadLine → List ℕ → Option Page
-page_of head body = if length body == head.size then Some (record {
+abbrev pub stored_page : HeadLine → List ℕ → Option Page
+stored_page head body = if length body == head.size then Some (record {
   stamp = record { epoch = head.epoch; count = head.count };
   answer = record { status = 200; kind = head.kind; location = []; mark = Plain; body = body };
 }) else None
 
 -- the page that the files hold for a key: one whose head is of the form, and whose body has the length that the head says
 abbrev pub page_at : Files → PageKey → Option Page
-page_at files key = option_and_then (λ head. option_and_then (page_of head) (file_at files (body_name key.folder key.file)))
+page_at files key = option_and_then (λ head. option_and_then (stored_page head) (file_at files (body_name key.folder key.file)))
     (option_and_then head_of (file_at files (head_name key.folder key.file)))
 
 -- ---- a page by its head, and then its body
@@ -104,13 +104,13 @@ IsGetLeft asked made told key fault =
 abbrev pub IsPutLeft : Option (List Call) → Option (List Call) → Option Files → Option Files → List ℕ → List ℕ → List ℕ → List ℕ → FileFault → Type 0
 IsPutLeft asked made old new head body bytes text fault =
     ((fault ≡ NoMemory) × ((made ≡ asked) × (new ≡ old)))
-    ⊎ (((fault ≡ Disk) × ((made ≡ told_calls asked (Remove head ∷ [])) × IsLeft old (told_without old head) new fault))
-    ⊎ (((made ≡ told_calls asked (Remove head ∷ Put body bytes ∷ [])) × IsLeft (told_without old head) (told_with (told_without old head) body bytes) new fault)
-    ⊎ ((made ≡ told_calls asked (put_calls head body bytes text)) × IsLeft (told_with (told_without old head) body bytes) (with_page old head body bytes text) new fault)))
+    ⊎ (((fault ≡ Disk) × ((made ≡ told_calls asked (Remove head ∷ [])) × IsLeftByFault old (told_without old head) new fault))
+    ⊎ (((made ≡ told_calls asked (Remove head ∷ Put body bytes ∷ [])) × IsLeftByFault (told_without old head) (told_with (told_without old head) body bytes) new fault)
+    ⊎ ((made ≡ told_calls asked (put_calls head body bytes text)) × IsLeftByFault (told_with (told_without old head) body bytes) (with_page old head body bytes text) new fault)))
 
 -- A drop stopped: before it asked anything of the disk, for want of memory; at the removal of the head; or at that of the body.
 abbrev pub IsDropLeft : Option (List Call) → Option (List Call) → Option Files → Option Files → List ℕ → List ℕ → FileFault → Type 0
 IsDropLeft asked made old new head body fault =
     ((fault ≡ NoMemory) × ((made ≡ asked) × (new ≡ old)))
-    ⊎ (((fault ≡ Disk) × ((made ≡ told_calls asked (Remove head ∷ [])) × IsLeft old (told_without old head) new fault))
-    ⊎ ((fault ≡ Disk) × ((made ≡ told_calls asked (drop_calls head body)) × IsLeft (told_without old head) (told_without (told_without old head) body) new fault)))
+    ⊎ (((fault ≡ Disk) × ((made ≡ told_calls asked (Remove head ∷ [])) × IsLeftByFault old (told_without old head) new fault))
+    ⊎ ((fault ≡ Disk) × ((made ≡ told_calls asked (drop_calls head body)) × IsLeftByFault (told_without old head) (told_without (told_without old head) body) new fault)))

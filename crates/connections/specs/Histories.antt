@@ -17,12 +17,12 @@ pub data Move : Type 0 where
   Sent : (sending : Sending) → Move
   Shut : Move
 
-abbrev pub after : Connection → Move → Connection
-after c (Piece bytes turns ends) = fed bytes turns ends c
-after c (Treatment slot) = advanced (with_slot slot c)
-after c (Landing flight answer) = with_landing flight answer c
-after c (Sent sending) = with_sent sending.bytes c
-after c Shut = c
+abbrev pub connection_after_move : Connection → Move → Connection
+connection_after_move c (Piece bytes turns ends) = fed bytes turns ends c
+connection_after_move c (Treatment slot) = advanced (with_slot slot c)
+connection_after_move c (Landing flight answer) = with_landing flight answer c
+connection_after_move c (Sent sending) = with_sent sending.bytes c
+connection_after_move c Shut = c
 
 -- the slot is that of the turn: a 100 Continue of a sender that waits for it, or a request's own
 abbrev pub IsOfTurn : Turn → Slot → Type 0
@@ -58,11 +58,11 @@ IsMove c Shut = due c ≡ Close
 
 abbrev pub Follows : Connection → List Move → Type 0
 Follows c [] = Unit {0}
-Follows c (move ∷ moves) = IsMove c move × Follows (after c move) moves
+Follows c (move ∷ moves) = IsMove c move × Follows (connection_after_move c move) moves
 
 abbrev pub after_all : Connection → List Move → Connection
 after_all c [] = c
-after_all c (move ∷ moves) = after_all (after c move) moves
+after_all c (move ∷ moves) = after_all (connection_after_move c move) moves
 
 -- what was sent
 abbrev pub sendings : List Move → List Sending
@@ -75,8 +75,8 @@ sendings (Shut ∷ moves) = sendings moves
 
 -- nothing comes after the last, and after another the rest
 abbrev pub IsEndOr : {A : Type 0} → Bool → List A → Type 0 → Type 0
-IsEndOr true after Rest = after ≡ []
-IsEndOr false after Rest = Rest
+IsEndOr true connection_after_move Rest = connection_after_move ≡ []
+IsEndOr false connection_after_move Rest = Rest
 
 -- What was sent answers the slots in their order, each once, up to the first that waits for a flight, and nothing after one that closes
 -- the connection.

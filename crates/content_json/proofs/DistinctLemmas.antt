@@ -12,7 +12,7 @@ use Rattle.serde_json.specs.Data.{Items, no_items, item, Members, no_members, me
 use Rattle.serde_json.specs.Find.{as_str, as_array, get_member}
 use Rattle.sp_base.specs.Names.{by_name}
 use Rattle.content_json.specs.Names.{order_name, is_kid, is_kid_member, kid_names}
-use Rattle.content_json.specs.Lists.{list_of}
+use Rattle.content_json.specs.Lists.{item_list}
 use Rattle.content_json.specs.Faults.{names_kids, has_good_order}
 use Rattle.content_json.specs.Nodes.{order_names, kids_of}
 use Rattle.content_json.proofs.Under.{both, bytes_eq_swapped}
@@ -66,11 +66,11 @@ others_apart order (k ∷ kids) =
 
 -- what `:order` names is named once, and none of it before
 named_once : (ms : Members) (before : List (List ℕ)) (ds : Items) → names_kids ms before ds ≡ true
-    → IsDistinct bytes_eq (filter_map as_str (list_of ds)) × AllByRecursion (λ y. list_any (λ other. bytes_eq other y) before ≡ false) (filter_map as_str (list_of ds))
+    → IsDistinct bytes_eq (filter_map as_str (item_list ds)) × AllByRecursion (λ y. list_any (λ other. bytes_eq other y) before ≡ false) (filter_map as_str (item_list ds))
 unfolding IsDistinct
 named_once ms before no_items h = (tt, tt)
 named_once ms before (item d ds) h =
-    let rest = filter_map as_str (list_of ds) in
+    let rest = filter_map as_str (item_list ds) in
     elim (as_str d) as (λ o. option_map_or (λ name. is_kid ms name && not (list_any (λ other. bytes_eq other name) before) && names_kids ms (name ∷ before) ds) o false ≡ true
     → IsDistinct bytes_eq (cons_option o rest) × AllByRecursion (λ y. list_any (λ other. bytes_eq other y) before ≡ false) (cons_option o rest)) [
       | None ↦ λ g. absurd (false≢true g)
@@ -87,7 +87,7 @@ order_distinct : (ms : Members) → has_good_order ms ≡ true → IsDistinct by
 unfolding IsDistinct
 order_distinct ms h = order_by (option_and_then as_array (get_member order_name ms)) refl
   where
-    order_by : (o : Option Items) → option_and_then as_array (get_member order_name ms) ≡ o → IsDistinct bytes_eq (filter_map as_str (list_of (unwrap_or o no_items)))
+    order_by : (o : Option Items) → option_and_then as_array (get_member order_name ms) ≡ o → IsDistinct bytes_eq (filter_map as_str (item_list (unwrap_or o no_items)))
     order_by None is = tt
     order_by (Some ds) is = (named_once ms [] ds (good_items ms h ds is)).0
 

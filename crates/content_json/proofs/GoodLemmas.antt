@@ -17,8 +17,8 @@ use Rattle.sp_base.specs.Names.{by_name}
 use Rattle.sp_base.specs.Paths.{seg_ok}
 use Rattle.resource_tree.specs.declared.nodes.Node.{Node}
 use Rattle.resource_tree.specs.Content.{Content, IsGood, IsTree, IsNodeOf, by_path, node_at, kid, prop_at}
-use Rattle.content_json.specs.Names.{is_order, is_plain, has_bad_name, is_object, is_kid, is_kid_member, kid_names}
-use Rattle.content_json.specs.Lists.{value_of}
+use Rattle.content_json.specs.Names.{is_order, is_content_name, has_bad_name, is_object, is_kid, is_kid_member, kid_names}
+use Rattle.content_json.specs.Lists.{data_value}
 use Rattle.content_json.specs.Faults.{fault_in, fault_below, own_fault, has_good_order}
 use Rattle.content_json.specs.Steps.{member_fault}
 use Rattle.content_json.specs.Nodes.{node_of_members, nodes_in, kids_of, is_deeper, is_deeper_below, count_below}
@@ -51,7 +51,7 @@ same_found x y e = cc
 
 -- a member of a sound object, but for `:order`
 member_sound : (name : List ℕ) (ms : Members) (x : Data) → AreInOrder ms → has_bad_name ms ≡ false → fault_below ms ≡ None → is_order name ≡ false → get_member name ms ≡ Some x
-    → IsSound x × (is_plain name ≡ true)
+    → IsSound x × (is_content_name name ≡ true)
 member_sound name no_members x h plain faultless other is = absurd (none_found x is)
 member_sound name (member k d ms) x h plain faultless other is =
     let parts = none_of_both (member_fault k d) (fault_below ms) faultless in
@@ -60,11 +60,11 @@ member_sound name (member k d ms) x h plain faultless other is =
     (λ e.
     let same : k ≡ name = sym (same_text name k (sym e)) in
     let here : is_order k ≡ false = ap is_order same ∙ other in
-    (subst IsSound (same_found d x (got true e)) (record { faultless = faultless_value k d here parts.0; in_order = h.0 }), ap is_plain (sym same) ∙ is_plain-here k d ms plain here))
+    (subst IsSound (same_found d x (got true e)) (record { faultless = faultless_value k d here parts.0; in_order = h.0 }), ap is_content_name (sym same) ∙ is_plain-here k d ms plain here))
     (λ e. member_sound name ms x h.1 (has_bad_name-rest k d ms plain) parts.1 other (got false e))
     (cases_Bool (bytes_eq name k))
 
-sound_step : (name : List ℕ) (d x : Data) → IsSound d → is_order name ≡ false → get name d ≡ Some x → IsSound x × (is_plain name ≡ true)
+sound_step : (name : List ℕ) (d x : Data) → IsSound d → is_order name ≡ false → get name d ≡ Some x → IsSound x × (is_content_name name ≡ true)
 sound_step name null x h other is = absurd (none_found x is)
 sound_step name (boolean b) x h other is = absurd (none_found x is)
 sound_step name (number n) x h other is = absurd (none_found x is)
@@ -188,7 +188,7 @@ kids_are name ms s good =
 props_are : (name : List ℕ) (ms : Members) → AreSorted ms → prop_at (node_of_members ms) name ≡ read_value name (get_member name ms)
 props_are name ms s = find_added ms [] name s ∙ option_or-none (read_value name (get_member name ms))
 
-apart_at : (b : Bool) (o : Option Data) → (not b && option_map_or is_object o false) ≡ true → (if b then None else option_and_then value_of o) ≡ None
+apart_at : (b : Bool) (o : Option Data) → (not b && option_map_or is_object o false) ≡ true → (if b then None else option_and_then data_value o) ≡ None
 apart_at true o h = refl
 apart_at false None h = refl
 apart_at false (Some null) h = refl
@@ -198,7 +198,7 @@ apart_at false (Some (string s)) h = absurd (false≢true h)
 apart_at false (Some (array ds)) h = absurd (false≢true h)
 apart_at false (Some (object ms)) h = refl
 
-named_at : (name : List ℕ) (ms : Members) → IsSound (object ms) → (b : Bool) (o : Option Data) → is_order name ≡ b → get_member name ms ≡ o → is_some (if b then None else option_and_then value_of o) ≡ true → is_plain name ≡ true
+named_at : (name : List ℕ) (ms : Members) → IsSound (object ms) → (b : Bool) (o : Option Data) → is_order name ≡ b → get_member name ms ≡ o → is_some (if b then None else option_and_then data_value o) ≡ true → is_content_name name ≡ true
 named_at name ms sound true o other at h = absurd (false≢true h)
 named_at name ms sound false None other at h = absurd (false≢true h)
 named_at name ms sound false (Some x) other at h = (sound_step name (object ms) x sound other at).1

@@ -6,7 +6,7 @@ use Rattle.std.specs.List.{list_all, list_any, position, position_from}
 use Rattle.sp_base.specs.declared.path.PathFault.{PathFault}
 use Rattle.sp_base.specs.declared.path.PathFault.TheVariants.{NotAbsolute, EmptySegment, DotSegment, LongSegment, TooDeep, NoMemory}
 use Rattle.sp_base.specs.Paths.{seg_ok, is_empty, is_dots, is_long, is_path, fault_of, size_fault, unless_fault, join_of}
-use Rattle.content_json.specs.Names.{is_plain}
+use Rattle.content_json.specs.Names.{is_content_name}
 
 first : (a b : Bool) → T (a && b) → T a
 first true b p = tt
@@ -52,7 +52,7 @@ no_fault segs h small =
     ∙ ap (λ o. size_fault o (length segs)) (position_from-zero is_long segs ∙ none_long segs 0 long)
     ∙ ap (λ t. cond t (Some TooDeep) None) few
 
-pub name_and_path : (name : List ℕ) (rest : List (List ℕ)) → is_plain name ≡ true → is_path rest ≡ true → length rest ≤ 63
+pub name_and_path : (name : List ℕ) (rest : List (List ℕ)) → is_content_name name ≡ true → is_path rest ≡ true → length rest ≤ 63
     → join_of (name ∷ []) rest ≡ Ok (name ∷ rest)
 name_and_path name rest plain path few =
     ap (λ o. unless_fault o (name ∷ rest)) (no_fault (name ∷ rest) (both _ _ (first (seg_ok name) _ (subst T (sym plain) tt)) (first (list_all seg_ok rest) _ (subst T (sym path) tt))) (omega (arith, few)))

@@ -13,7 +13,7 @@ use Rattle.std.proofs.lemmas.List.Folds.{list_any-append}
 use Rattle.serde_json.specs.Data.{Data, null, boolean, number, string, array, object, Items, no_items, item, Members, no_members, member}
 use Rattle.serde_json.specs.Find.{as_str, as_array, get_member}
 use Rattle.content_json.specs.Names.{order_name, is_order, is_object, is_kid_member, kid_names, is_kid}
-use Rattle.content_json.specs.Lists.{list_of}
+use Rattle.content_json.specs.Lists.{item_list}
 use Rattle.content_json.specs.Faults.{names_kids, has_good_order, is_good_order}
 use Rattle.content_json.specs.Nodes.{order_names, kids_of}
 use Rattle.content_json.proofs.Under.{both, bytes_eq_itself}
@@ -101,14 +101,14 @@ kid_names_have k (member name d ms) other h =
       | Greater ↦ λ e found. later (is_kid_member name d) k name (kid_names ms) (kid_names_have k ms other found)
     ] refl h
 
-all_kids : (ms : Members) (before : List (List ℕ)) (ds : Items) → names_kids ms before ds ≡ true → list_all (is_kid ms) (filter_map as_str (list_of ds)) ≡ true
+all_kids : (ms : Members) (before : List (List ℕ)) (ds : Items) → names_kids ms before ds ≡ true → list_all (is_kid ms) (filter_map as_str (item_list ds)) ≡ true
 all_kids ms before no_items h = refl
 all_kids ms before (item d ds) h =
-    elim (as_str d) as (λ o. option_map_or (λ name. is_kid ms name && not (list_any (λ other. bytes_eq other name) before) && names_kids ms (name ∷ before) ds) o false ≡ true → list_all (is_kid ms) (cons_option o (filter_map as_str (list_of ds))) ≡ true) [
+    elim (as_str d) as (λ o. option_map_or (λ name. is_kid ms name && not (list_any (λ other. bytes_eq other name) before) && names_kids ms (name ∷ before) ds) o false ≡ true → list_all (is_kid ms) (cons_option o (filter_map as_str (item_list ds))) ≡ true) [
       | None ↦ λ g. absurd (false≢true g)
       | Some name ↦ λ g.
           let parts = both (is_kid ms name && not (list_any (λ other. bytes_eq other name) before)) (names_kids ms (name ∷ before) ds) g in
-          and_true (is_kid ms name) (list_all (is_kid ms) (filter_map as_str (list_of ds))) (both (is_kid ms name) (not (list_any (λ other. bytes_eq other name) before)) parts.0).0 (all_kids ms (name ∷ before) ds parts.1)
+          and_true (is_kid ms name) (list_all (is_kid ms) (filter_map as_str (item_list ds))) (both (is_kid ms name) (not (list_any (λ other. bytes_eq other name) before)) parts.0).0 (all_kids ms (name ∷ before) ds parts.1)
     ] h
 
 no_object : (o : Option Data) (ds : Items) → option_and_then as_array o ≡ Some ds → option_map_or is_object o false ≡ true → ⊥
@@ -140,9 +140,9 @@ good_items ms h ds is = good_at ms (get_member order_name ms) h ds is
 pub order_within : (ms : Members) → has_good_order ms ≡ true → list_all (λ k. list_any (bytes_eq k) (kid_names ms)) (order_names ms) ≡ true
 order_within ms h = order_by (option_and_then as_array (get_member order_name ms)) refl
   where
-    order_by : (o : Option Items) → option_and_then as_array (get_member order_name ms) ≡ o → list_all (λ k. list_any (bytes_eq k) (kid_names ms)) (filter_map as_str (list_of (unwrap_or o no_items))) ≡ true
+    order_by : (o : Option Items) → option_and_then as_array (get_member order_name ms) ≡ o → list_all (λ k. list_any (bytes_eq k) (kid_names ms)) (filter_map as_str (item_list (unwrap_or o no_items))) ≡ true
     order_by None is = refl
-    order_by (Some ds) is = all_weaker (is_kid ms) (λ k. list_any (bytes_eq k) (kid_names ms)) (λ k kid. kid_names_have k ms (order_no_kid ms ds k is kid) kid) (filter_map as_str (list_of ds)) (all_kids ms [] ds (good_items ms h ds is))
+    order_by (Some ds) is = all_weaker (is_kid ms) (λ k. list_any (bytes_eq k) (kid_names ms)) (λ k kid. kid_names_have k ms (order_no_kid ms ds k is kid) kid) (filter_map as_str (item_list ds)) (all_kids ms [] ds (good_items ms h ds is))
 
 -- each kid in its order is a member with an object
 pub kids_within : (ms : Members) → has_good_order ms ≡ true → list_all (λ k. list_any (bytes_eq k) (kid_names ms)) (kids_of ms) ≡ true

@@ -2,7 +2,7 @@
 use Rattle.std.proofs.Common.{◌≡◌, ℕ, List, Bool, true, false, not, ◌||◌, Option, Some, None, option_map, if◌then◌else◌, refl, sym, ap, ◌∙◌}
 use Rattle.std.specs.Option.{option_or}
 use Rattle.serde_json.specs.Data.{Data, Members, member}
-use Rattle.content_json.specs.Names.{is_order, is_plain, has_bad_name}
+use Rattle.content_json.specs.Names.{is_order, is_content_name, has_bad_name}
 use Rattle.content_json.specs.Faults.{own_fault, has_good_order, in_member, fault_in}
 use Rattle.content_json.specs.Steps.{member_fault}
 
@@ -15,8 +15,8 @@ tail : (a rest : Bool) → (a || rest) ≡ false → rest ≡ false
 tail true rest h = absurd (cc)
 tail false rest h = h
 
-pub is_plain-here : (name : List ℕ) (d : Data) (ms : Members) → has_bad_name (member name d ms) ≡ false → is_order name ≡ false → is_plain name ≡ true
-is_plain-here name d ms h other = split (is_order name) (is_plain name) (has_bad_name ms) h other
+pub is_plain-here : (name : List ℕ) (d : Data) (ms : Members) → has_bad_name (member name d ms) ≡ false → is_order name ≡ false → is_content_name name ≡ true
+is_plain-here name d ms h other = split (is_order name) (is_content_name name) (has_bad_name ms) h other
 
 pub has_bad_name-rest : (name : List ℕ) (d : Data) (ms : Members) → has_bad_name (member name d ms) ≡ false → has_bad_name ms ≡ false
 has_bad_name-rest name d ms h = tail _ _ h
@@ -46,8 +46,8 @@ named true plain rest h = refl
 named false true rest h = refl
 named false false rest h = absurd (cc)
 
-pub may_stand-first : (name : List ℕ) (d : Data) (ms : Members) → has_bad_name (member name d ms) ≡ false → (is_order name || is_plain name) ≡ true
-may_stand-first name d ms h = named (is_order name) (is_plain name) (has_bad_name ms) h
+pub may_stand-first : (name : List ℕ) (d : Data) (ms : Members) → has_bad_name (member name d ms) ≡ false → (is_order name || is_content_name name) ≡ true
+may_stand-first name d ms h = named (is_order name) (is_content_name name) (has_bad_name ms) h
 
 none_of_map : {A B : Type 0} (f : A → B) (o : Option A) → option_map f o ≡ None → o ≡ None
 none_of_map f None h = refl

@@ -18,7 +18,7 @@ use Rattle.resource_tree.specs.Content.{Content, node_at, same_path}
 use Rattle.resource_tree.specs.Content as content
 use Rattle.property_json.specs.PropertyJson.{has_longs}
 use Rattle.content_json.specs.declared.fault.Cause.TheVariants.{BadName as bad_name, BadOrder as bad_order}
-use Rattle.content_json.specs.Names.{order_name, is_order, is_plain, has_bad_name, is_object, is_kid}
+use Rattle.content_json.specs.Names.{order_name, is_order, is_content_name, has_bad_name, is_object, is_kid}
 use Rattle.content_json.specs.Faults.{names_kids, is_good_order, has_good_order, here, in_member, fault_in, fault_below}
 use Rattle.content_json.specs.Nodes.{nodes_in, is_deeper, is_deeper_below}
 use Rattle.content_json.specs.Steps.{member_fault, is_at_or_below}
@@ -43,7 +43,7 @@ pub record Node-is (tree : Content) (levels : ℕ) (path : List (List ℕ)) (f :
   pub sorted : T (is_sorted by_name node.props)
   pub longs : list_all (λ p. has_longs p.1) node.props ≡ true
   pub plain_props : list_all (λ p. has_no_colon p.0 && keeps_kind p.1) node.props ≡ true
-  pub plain_kids : (k : List ℕ) → list_any (bytes_eq k) node.kids ≡ true → is_plain k ≡ true
+  pub plain_kids : (k : List ℕ) → list_any (bytes_eq k) node.kids ≡ true → is_content_name k ≡ true
   pub distinct : IsDistinct bytes_eq node.kids
   pub apart : (k : List ℕ) → list_any (bytes_eq k) node.kids ≡ true → find by_name k node.props ≡ None
   pub members : AllMembers (IsMember f node) (members_of f node)
@@ -70,10 +70,10 @@ order_no_prop {node = node} n = find_colon order_name refl node.props n.plain_pr
 module _ {tree : Content} {levels : ℕ} {path : List (List ℕ)} {f : List ℕ → Data} {node : Node} (n : Node-is tree levels path f node) where
   -- ---- the names
 
-  may_stand : (name : List ℕ) (d : Data) → IsMember f node name d → (is_order name || is_plain name) ≡ true
-  may_stand name d (prop value is plain longs) = or_right (is_order name) (is_plain name) plain
-  may_stand name d (order is) = or_left (is_order name) (is_plain name) (ap is_order is ∙ bytes_eq_itself order_name)
-  may_stand name d (kid among is) = or_right (is_order name) (is_plain name) (n.plain_kids name among)
+  may_stand : (name : List ℕ) (d : Data) → IsMember f node name d → (is_order name || is_content_name name) ≡ true
+  may_stand name d (prop value is plain longs) = or_right (is_order name) (is_content_name name) plain
+  may_stand name d (order is) = or_left (is_order name) (is_content_name name) (ap is_order is ∙ bytes_eq_itself order_name)
+  may_stand name d (kid among is) = or_right (is_order name) (is_content_name name) (n.plain_kids name among)
 
   good_names : (ms : Members) → AllMembers (IsMember f node) ms → has_bad_name ms ≡ false
   good_names no_members h = refl

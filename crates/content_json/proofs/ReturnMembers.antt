@@ -20,7 +20,7 @@ use Rattle.sp_base.specs.Paths.{seg_ok}
 use Rattle.sp_base.specs.declared.value.Value.{Value}
 use Rattle.resource_tree.specs.declared.nodes.Node.{Node}
 use Rattle.property_json.specs.PropertyJson.{has_longs, members_before}
-use Rattle.content_json.specs.Names.{order_name, is_order, is_plain}
+use Rattle.content_json.specs.Names.{order_name, is_order, is_content_name}
 use Rattle.content_json.specs.Written.{order_before, kids_json, has_no_colon, keeps_kind}
 use Rattle.content_json.proofs.Under.{both, bytes_eq_itself}
 use Rattle.content_json.proofs.KidLemmas.{and_true, or_left, or_right}
@@ -78,7 +78,7 @@ members_sorted f node = sorted-insert_all (kid_entries f node.kids) _ (sorted-in
 -- ---- each is a property, `:order` or a kid
 
 pub data IsMember (f : List ℕ → Data) (node : Node) (name : List ℕ) (d : Data) : Type 0 where
-  prop : (value : Value) → d ≡ data_of value → is_plain name ≡ true → has_longs value ≡ true → IsMember f node name d
+  prop : (value : Value) → d ≡ data_of value → is_content_name name ≡ true → has_longs value ≡ true → IsMember f node name d
   order : name ≡ order_name → IsMember f node name d
   kid : list_any (bytes_eq name) node.kids ≡ true → d ≡ f name → IsMember f node name d
 

@@ -17,7 +17,7 @@ use Rattle.resource_tree.specs.declared.nodes.Node.{Node}
 use Rattle.resource_tree.specs.Content.{Content}
 use Rattle.property_json.specs.PropertyJson.{has_longs}
 use Rattle.content_json.specs.Names.{order_name, is_order, is_object, is_kid_member, kid_names}
-use Rattle.content_json.specs.Lists.{list_of, value_of}
+use Rattle.content_json.specs.Lists.{item_list, data_value}
 use Rattle.content_json.specs.Nodes.{order_names, kids_of, with_member, add_props, node_of_members}
 use Rattle.content_json.specs.Written.{has_no_colon, keeps_kind}
 use Rattle.content_json.proofs.Under.{both, bytes_eq_itself}
@@ -42,13 +42,13 @@ find_put q k v es = find-put by_name nat_list_cmp_total q k v es ∙ ap (λ t. c
 
 -- the value that a property of this name gets, if it gets one
 abbrev pub read_value : List ℕ → Option Data → Option Value
-read_value q o = if is_order q then None else option_and_then value_of o
+read_value q o = if is_order q then None else option_and_then data_value o
 
 added_other : (q name : List ℕ) (d : Data) (props : List (List ℕ × Value)) → bytes_eq q name ≡ false → find by_name q (with_member name d props) ≡ find by_name q props
 added_other q name d props e =
-    elim (is_order name) as (λ t. find by_name q (if t then props else option_map_or (λ value. entries.put by_name name value props) (value_of d) props) ≡ find by_name q props) [
+    elim (is_order name) as (λ t. find by_name q (if t then props else option_map_or (λ value. entries.put by_name name value props) (data_value d) props) ≡ find by_name q props) [
       | true ↦ refl
-      | false ↦ elim (value_of d) as (λ o. find by_name q (option_map_or (λ value. entries.put by_name name value props) o props) ≡ find by_name q props) [
+      | false ↦ elim (data_value d) as (λ o. find by_name q (option_map_or (λ value. entries.put by_name name value props) o props) ≡ find by_name q props) [
         | None ↦ refl
         | Some v ↦ find_put q name v props ∙ ap (λ t. cond t (Some v) (find by_name q props)) e
       ]
@@ -56,16 +56,16 @@ added_other q name d props e =
 
 added_same : (q : List ℕ) (d : Data) (props : List (List ℕ × Value)) → find by_name q (with_member q d props) ≡ option_or (read_value q (Some d)) (find by_name q props)
 added_same q d props =
-    elim (is_order q) as (λ t. find by_name q (if t then props else option_map_or (λ value. entries.put by_name q value props) (value_of d) props) ≡ option_or (if t then None else value_of d) (find by_name q props)) [
+    elim (is_order q) as (λ t. find by_name q (if t then props else option_map_or (λ value. entries.put by_name q value props) (data_value d) props) ≡ option_or (if t then None else data_value d) (find by_name q props)) [
       | true ↦ refl
-      | false ↦ elim (value_of d) as (λ o. find by_name q (option_map_or (λ value. entries.put by_name q value props) o props) ≡ option_or o (find by_name q props)) [
+      | false ↦ elim (data_value d) as (λ o. find by_name q (option_map_or (λ value. entries.put by_name q value props) o props) ≡ option_or o (find by_name q props)) [
         | None ↦ refl
         | Some v ↦ find_put q q v props ∙ ap (λ t. cond t (Some v) (find by_name q props)) (bytes_eq_itself q)
       ]
     ]
 
 no_value : (q : List ℕ) → read_value q None ≡ None
-no_value q = elim (is_order q) as (λ t. (if t then None else option_and_then value_of None) ≡ None) [ true ↦ refl | false ↦ refl ]
+no_value q = elim (is_order q) as (λ t. (if t then None else option_and_then data_value None) ≡ None) [ true ↦ refl | false ↦ refl ]
 
 pub find_added : (ms : Members) (props : List (List ℕ × Value)) (q : List ℕ) → AreSorted ms
     → find by_name q (add_props props ms) ≡ option_or (read_value q (get_member q ms)) (find by_name q props)
@@ -86,9 +86,9 @@ find_added (member name d ms) props q sorted =
 
 added_sorted : (name : List ℕ) (d : Data) (props : List (List ℕ × Value)) → T (is_sorted by_name props) → T (is_sorted by_name (with_member name d props))
 added_sorted name d props h =
-    elim (is_order name) as (λ t. T (is_sorted by_name (if t then props else option_map_or (λ value. entries.put by_name name value props) (value_of d) props))) [
+    elim (is_order name) as (λ t. T (is_sorted by_name (if t then props else option_map_or (λ value. entries.put by_name name value props) (data_value d) props))) [
       | true ↦ h
-      | false ↦ elim (value_of d) as (λ o. T (is_sorted by_name (option_map_or (λ value. entries.put by_name name value props) o props))) [
+      | false ↦ elim (data_value d) as (λ o. T (is_sorted by_name (option_map_or (λ value. entries.put by_name name value props) o props))) [
         | None ↦ h
         | Some v ↦ is_sorted-put by_name nat_list_cmp_total name v props h
       ]
@@ -98,7 +98,7 @@ sorted_props : (ms : Members) (props : List (List ℕ × Value)) → T (is_sorte
 sorted_props no_members props h = h
 sorted_props (member name d ms) props h = sorted_props ms (with_member name d props) (added_sorted name d props h)
 
-object_no_value : (d : Data) → is_object d ≡ true → value_of d ≡ None
+object_no_value : (d : Data) → is_object d ≡ true → data_value d ≡ None
 object_no_value null h = absurd (false≢true h)
 object_no_value (boolean b) h = absurd (false≢true h)
 object_no_value (number x) h = absurd (false≢true h)
@@ -117,7 +117,7 @@ found_holds P (p ∷ ps) q v h e =
     ] e
 
 module _ {tree : Content} {levels : ℕ} {path : List (List ℕ)} {f : List ℕ → Data} {node : Node} (n : Node-is tree levels path f node) where
-  value_found : (q : List ℕ) (o : Option Value) → find by_name q node.props ≡ o → option_and_then value_of (option_map data_of o) ≡ o
+  value_found : (q : List ℕ) (o : Option Value) → find by_name q node.props ≡ o → option_and_then data_value (option_map data_of o) ≡ o
   value_found q None e = refl
   value_found q (Some v) e =
       value_back v (found_holds has_longs node.props q v n.longs e)
@@ -126,11 +126,11 @@ module _ {tree : Content} {levels : ℕ} {path : List (List ℕ)} {f : List ℕ 
   value_read : (q : List ℕ) → read_value q (get_member q (members_of f node)) ≡ find by_name q node.props
   value_read q =
       ⊎_elim
-      (λ e. ap (λ t. if t then None else option_and_then value_of (get_member q (members_of f node))) e ∙ sym (order_no_prop n) ∙ ap (λ k. find by_name k node.props) (sym (same_text q order_name (sym e))))
-      (λ e. ap (λ t. if t then None else option_and_then value_of (get_member q (members_of f node))) e
+      (λ e. ap (λ t. if t then None else option_and_then data_value (get_member q (members_of f node))) e ∙ sym (order_no_prop n) ∙ ap (λ k. find by_name k node.props) (sym (same_text q order_name (sym e))))
+      (λ e. ap (λ t. if t then None else option_and_then data_value (get_member q (members_of f node))) e
       ∙ ⊎_elim
-      (λ h. ap (option_and_then value_of) (get_kid f node q h) ∙ object_no_value (f q) (n.kids q h).is_an_object ∙ sym (n.apart q h))
-      (λ h. ap (option_and_then value_of) (get_prop f node q n.sorted h e) ∙ value_found q (find by_name q node.props) refl)
+      (λ h. ap (option_and_then data_value) (get_kid f node q h) ∙ object_no_value (f q) (n.kids q h).is_an_object ∙ sym (n.apart q h))
+      (λ h. ap (option_and_then data_value) (get_prop f node q n.sorted h e) ∙ value_found q (find by_name q node.props) refl)
       (cases_Bool (list_any (bytes_eq q) node.kids)))
       (cases_Bool (is_order q))
 
@@ -145,8 +145,8 @@ module _ {tree : Content} {levels : ℕ} {path : List (List ℕ)} {f : List ℕ 
   names_back = by node.kids refl
     where
       by : (ks : List (List ℕ)) → node.kids ≡ ks → order_names (members_of f node) ≡ node.kids
-      by [] e = ap (λ o. filter_map as_str (list_of (unwrap_or (option_and_then as_array o) no_items))) (get_order_none f node n.sorted e (order_no_prop n)) ∙ sym e
-      by (k ∷ ks) e = ap (λ o. filter_map as_str (list_of (unwrap_or (option_and_then as_array o) no_items))) (get_order_some f node k ks e (order_no_kid n)) ∙ texts_back node.kids
+      by [] e = ap (λ o. filter_map as_str (item_list (unwrap_or (option_and_then as_array o) no_items))) (get_order_none f node n.sorted e (order_no_prop n)) ∙ sym e
+      by (k ∷ ks) e = ap (λ o. filter_map as_str (item_list (unwrap_or (option_and_then as_array o) no_items))) (get_order_some f node k ks e (order_no_kid n)) ∙ texts_back node.kids
 
   -- which members are kids
   pub prop_no_kid : (name : List ℕ) (d : Data) (value : Value) → d ≡ data_of value → is_kid_member name d ≡ false

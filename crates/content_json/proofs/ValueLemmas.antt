@@ -14,7 +14,7 @@ use Rattle.sp_base.specs.declared.value.Value.TheVariants.{Text, Long, Truth, Te
 use Rattle.property_json.specs.PropertyJson.{fits_i64, has_longs, items_of, json_of_long, json_of_value}
 use Rattle.content_json.specs.declared.kind.Kind.TheVariants as kind
 use Rattle.content_json.specs.Names.{is_object}
-use Rattle.content_json.specs.Lists.{as_long, items_cause, list_of, value_of}
+use Rattle.content_json.specs.Lists.{as_long, items_cause, item_list, data_value}
 use Rattle.content_json.specs.Faults.{here, fault_in}
 use Rattle.content_json.specs.Nodes.{nodes_in, is_deeper}
 use Rattle.content_json.specs.Written.{keeps_kind}
@@ -71,19 +71,19 @@ long_back : (n : ℤ) → fits_i64 n ≡ true → as_i64 (of_integer n) ≡ Some
 long_back (pos n) h = rw h refl
 long_back (negsuc n) h = refl
 
-pub texts_back : (ts : List (List ℕ)) → filter_map as_str (list_of (items_from string ts)) ≡ ts
+pub texts_back : (ts : List (List ℕ)) → filter_map as_str (item_list (items_from string ts)) ≡ ts
 texts_back [] = refl
 texts_back (t ∷ ts) = ap (λ l. t ∷ l) (texts_back ts)
 
-longs_back : (ns : List ℤ) → list_all fits_i64 ns ≡ true → filter_map as_long (list_of (items_from data_of_long ns)) ≡ ns
+longs_back : (ns : List ℤ) → list_all fits_i64 ns ≡ true → filter_map as_long (item_list (items_from data_of_long ns)) ≡ ns
 longs_back [] h = refl
 longs_back (n ∷ ns) h = let parts = both (fits_i64 n) (list_all fits_i64 ns) h in rw (long_back n parts.0) (ap (λ l. n ∷ l) (longs_back ns parts.1))
 
-truths_back : (bs : List Bool) → filter_map as_bool (list_of (items_from boolean bs)) ≡ bs
+truths_back : (bs : List Bool) → filter_map as_bool (item_list (items_from boolean bs)) ≡ bs
 truths_back [] = refl
 truths_back (b ∷ bs) = ap (λ l. b ∷ l) (truths_back bs)
 
-pub value_back : (v : Value) → has_longs v ≡ true → keeps_kind v ≡ true → value_of (data_of v) ≡ Some v
+pub value_back : (v : Value) → has_longs v ≡ true → keeps_kind v ≡ true → data_value (data_of v) ≡ Some v
 value_back (Text t) h k = refl
 value_back (Long n) h k = ap (option_map Long) (long_back n h)
 value_back (Truth b) h k = refl

@@ -45,14 +45,14 @@ abbrev pub array_cause : Items → Option Cause
 array_cause no_items = None
 array_cause (item d ds) = option_map_or (λ k. items_cause k (item d ds)) (item_kind d) (Some MixedArray)
 
-abbrev pub list_of : Items → List Data
-list_of no_items = []
-list_of (item d ds) = d ∷ list_of ds
+abbrev pub item_list : Items → List Data
+item_list no_items = []
+item_list (item d ds) = d ∷ item_list ds
 
 abbrev pub list_value : Kind → Items → Value
-list_value kind.Text ds = Texts (filter_map as_str (list_of ds))
-list_value kind.Long ds = Longs (filter_map as_long (list_of ds))
-list_value kind.Truth ds = Truths (filter_map as_bool (list_of ds))
+list_value kind.Text ds = Texts (filter_map as_str (item_list ds))
+list_value kind.Long ds = Longs (filter_map as_long (item_list ds))
+list_value kind.Truth ds = Truths (filter_map as_bool (item_list ds))
 
 -- the kind of the first item
 abbrev pub first_kind : Items → Option Kind
@@ -64,10 +64,10 @@ abbrev pub array_value : Items → Value
 array_value ds = option_map_or (λ k. list_value k ds) (first_kind ds) (Texts [])
 
 -- the value of a property; `null` is none, and an object is a kid
-abbrev pub value_of : Data → Option Value
-value_of null = None
-value_of (boolean b) = Some (Truth b)
-value_of (number n) = option_map Long (as_i64 n)
-value_of (string s) = Some (Text s)
-value_of (array ds) = Some (array_value ds)
-value_of (object ms) = None
+abbrev pub data_value : Data → Option Value
+data_value null = None
+data_value (boolean b) = Some (Truth b)
+data_value (number n) = option_map Long (as_i64 n)
+data_value (string s) = Some (Text s)
+data_value (array ds) = Some (array_value ds)
+data_value (object ms) = None

@@ -14,12 +14,12 @@ abbrev pub is_order : List ℕ → Bool
 is_order name = bytes_eq name order_name
 
 -- a name that may stand in content: a segment that doesn't begin with a colon
-abbrev pub is_plain : List ℕ → Bool
-is_plain name = seg_ok name && not (slice_index name 0 == 58)
+abbrev pub is_content_name : List ℕ → Bool
+is_content_name name = seg_ok name && not (slice_index name 0 == 58)
 
 abbrev pub has_bad_name : Members → Bool
 has_bad_name no_members = false
-has_bad_name (member name d ms) = not (is_order name || is_plain name) || has_bad_name ms
+has_bad_name (member name d ms) = not (is_order name || is_content_name name) || has_bad_name ms
 
 abbrev pub is_object : Data → Bool
 is_object d = is_some (as_object d)

@@ -11,14 +11,14 @@ use Rattle.sp_base.specs.declared.value.Value.{Value}
 use Rattle.resource_tree.specs.declared.nodes.Node.{Node}
 use Rattle.resource_tree.specs.Content.{Content, kid}
 use Rattle.content_json.specs.Names.{order_name, is_order, kid_names}
-use Rattle.content_json.specs.Lists.{list_of, value_of}
+use Rattle.content_json.specs.Lists.{item_list, data_value}
 
 -- what `:order` lists
 abbrev pub order_items : Members → Items
 order_items ms = unwrap_or (option_and_then as_array (get_member order_name ms)) no_items
 
 abbrev pub order_names : Members → List (List ℕ)
-order_names ms = filter_map as_str (list_of (order_items ms))
+order_names ms = filter_map as_str (item_list (order_items ms))
 
 -- the kids that `:order` names come first, the rest follow in the order of their bytes
 abbrev pub kids_of : Members → List (List ℕ)
@@ -26,7 +26,7 @@ kids_of ms = order_names ms ++ filter (λ name. not (list_any (bytes_eq name) (o
 
 -- the properties, and a member's value under its name
 abbrev pub with_member : List ℕ → Data → List (List ℕ × Value) → List (List ℕ × Value)
-with_member name d props = if is_order name then props else option_map_or (λ value. put by_name name value props) (value_of d) props
+with_member name d props = if is_order name then props else option_map_or (λ value. put by_name name value props) (data_value d) props
 
 -- the properties, and each member's value under its name
 abbrev pub add_props : List (List ℕ × Value) → Members → List (List ℕ × Value)

@@ -1,7 +1,7 @@
 // Which names of members may stand in content, and which members are kids.
 ghost use Rattle.std.specs.Prelude.{◌≡◌};
 ghost use Rattle.serde_json.specs.View.{view, members_view};
-ghost use Rattle.content_json.specs.Names.{is_order, is_plain, has_bad_name, is_object, is_kid};
+ghost use Rattle.content_json.specs.Names.{is_order, is_content_name, has_bad_name, is_object, is_kid};
 
 use serde_json::{Map, Value};
 use sp_base::seg_ok;
@@ -15,7 +15,7 @@ pub(crate) fn is_order(name: &str) -> bool
 }
 
 fn is_plain(name: &str) -> bool
-    ensures { result ≡ is_plain name.now }
+    ensures { result ≡ is_content_name name.now }
 {
     seg_ok(name) && !name.starts_with(':')
 }

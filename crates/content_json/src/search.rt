@@ -3,7 +3,7 @@
 ghost use Rattle.std.specs.Prelude.{◌≡◌, ◌∷◌, IfOk, IsTrue, false, take};
 ghost use Rattle.serde_json.specs.Data.{object};
 ghost use Rattle.serde_json.specs.View.{view, members_view};
-ghost use Rattle.content_json.specs.Names.{has_bad_name, is_plain};
+ghost use Rattle.content_json.specs.Names.{has_bad_name, is_content_name};
 ghost use Rattle.content_json.specs.Faults.{own_fault, fault_in, fault_below, in_member, here};
 
 use crate::fault::{Cause, Found};
@@ -36,7 +36,7 @@ fn out_of_memory(fault: PathFault) -> NoMemory
 
 // A name, and after it the first segments of a path, as many as fit.
 fn after_name(alloc: Global, name: &str, path: &Path) -> Mem<Path>
-    requires { IsTrue (is_plain name.now) }
+    requires { IsTrue (is_content_name name.now) }
     ensures { IfOk result (λ made. made ≡ take 64 (name.now ∷ path.now)) }
 {
     let top = kid_path(alloc, &Path::root(alloc), name)?;
@@ -51,7 +51,7 @@ fn after_name(alloc: Global, name: &str, path: &Path) -> Mem<Path>
 
 // The fault seen from the object that has it in its member of this name.
 fn in_member(alloc: Global, name: &str, found: &Found) -> Mem<Found>
-    requires { IsTrue (is_plain name.now) }
+    requires { IsTrue (is_content_name name.now) }
     ensures { IfOk result (λ f. f ≡ in_member name.now found.now) }
 {
     Ok(Found {

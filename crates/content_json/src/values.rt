@@ -3,7 +3,7 @@ ghost use Rattle.std.specs.Prelude.{◌≡◌, IfOk};
 ghost use Rattle.std.specs.List.{filter_map};
 ghost use Rattle.serde_json.specs.Find.{as_str, as_bool};
 ghost use Rattle.serde_json.specs.View.{view, items_view};
-ghost use Rattle.content_json.specs.Lists.{list_of, as_long, first_kind, list_value, array_value, value_of};
+ghost use Rattle.content_json.specs.Lists.{item_list, as_long, first_kind, list_value, array_value, data_value};
 
 use crate::kind::{Kind, item_kind};
 use serde_json::Value as Json;
@@ -12,7 +12,7 @@ use std::alloc::Global;
 
 /// Copies of the texts among the items.
 pub(crate) fn copied_texts(alloc: Global, items: &[Json]) -> Mem<TextList>
-    ensures { IfOk result (λ texts. texts ≡ filter_map as_str (list_of (items_view items.now))) }
+    ensures { IfOk result (λ texts. texts ≡ filter_map as_str (item_list (items_view items.now))) }
 {
     let mut texts = TextList::new(alloc);
     for item in items {
@@ -38,7 +38,7 @@ fn text_of(item: Json) -> Option<TextBuf>
 
 // The texts among the items, taken out of them.
 fn texts(alloc: Global, items: Vec<Json>) -> Mem<TextList>
-    ensures { IfOk result (λ texts. texts ≡ filter_map as_str (list_of (items_view items.items))) }
+    ensures { IfOk result (λ texts. texts ≡ filter_map as_str (item_list (items_view items.items))) }
 {
     let mut texts = TextList::new(alloc);
     for item in items {
@@ -50,7 +50,7 @@ fn texts(alloc: Global, items: Vec<Json>) -> Mem<TextList>
 }
 
 fn longs(alloc: Global, items: &[Json]) -> Mem<LongList>
-    ensures { IfOk result (λ longs. longs ≡ filter_map as_long (list_of (items_view items.now))) }
+    ensures { IfOk result (λ longs. longs ≡ filter_map as_long (item_list (items_view items.now))) }
 {
     let mut longs = LongList::new(alloc);
     for item in items {
@@ -62,7 +62,7 @@ fn longs(alloc: Global, items: &[Json]) -> Mem<LongList>
 }
 
 fn truths(alloc: Global, items: &[Json]) -> Mem<TruthList>
-    ensures { IfOk result (λ truths. truths ≡ filter_map as_bool (list_of (items_view items.now))) }
+    ensures { IfOk result (λ truths. truths ≡ filter_map as_bool (item_list (items_view items.now))) }
 {
     let mut truths = TruthList::new(alloc);
     for item in items {
@@ -104,7 +104,7 @@ fn array_value(alloc: Global, items: Vec<Json>) -> Mem<Value>
 
 /// The value of a property, where the member is one. Its texts are moved.
 pub(crate) fn value_of(alloc: Global, value: Json) -> Mem<Option<Value>>
-    ensures { IfOk result (λ found. found ≡ value_of (view value)) }
+    ensures { IfOk result (λ found. found ≡ data_value (view value)) }
 {
     Ok(match value {
         Json::Null => None,

@@ -12,8 +12,8 @@ ghost use Rattle.serde_json.specs.Find.{as_str};
 ghost use Rattle.serde_json.specs.View.{view, items_view, members_view};
 ghost use Rattle.sp_base.specs.Names.{by_name};
 ghost use Rattle.resource_tree.specs.Content.{node_at, kid};
-ghost use Rattle.content_json.specs.Names.{has_bad_name, is_plain, is_order, is_kid_member};
-ghost use Rattle.content_json.specs.Lists.{list_of, value_of};
+ghost use Rattle.content_json.specs.Names.{has_bad_name, is_content_name, is_order, is_kid_member};
+ghost use Rattle.content_json.specs.Lists.{item_list, data_value};
 ghost use Rattle.content_json.specs.Faults.{fault_in, fault_below};
 ghost use Rattle.content_json.specs.Nodes.{order_items, kids_of, with_member, add_props, nodes_in, nodes_below, is_deeper, is_deeper_below};
 ghost use Rattle.content_json.specs.Steps.{member_fault, member_nodes, with_nodes_at};
@@ -42,7 +42,7 @@ fn order_items(members: &Map<String, Value>) -> &[Value]
 // The texts among the items.
 fn text_set(alloc: Global, items: &[Value]) -> Mem<BTreeSet<&str>>
     ensures { IfOk result (λ set. (q : List ℕ) → contains_by (λ k. slice_cmp nat_cmp q k.now) set
-        ≡ list_any (bytes_eq q) (filter_map as_str (list_of (items_view items.now)))) }
+        ≡ list_any (bytes_eq q) (filter_map as_str (item_list (items_view items.now)))) }
 {
     let mut set = BTreeSet::new(alloc);
     for item in items {
@@ -77,7 +77,7 @@ fn kids_of(alloc: Global, members: &Map<String, Value>) -> Mem<TextList>
 
 // The path of a kid. Its name and the depth were looked at before.
 pub(crate) fn kid_path(alloc: Global, path: &Path, name: &str) -> Mem<Path>
-    requires plain { is_plain name.now ≡ true }
+    requires plain { is_content_name name.now ≡ true }
     requires shallow { length path.now < 64 }
     ensures { IfOk result (λ found. found ≡ kid path.now name.now) }
 {
@@ -138,7 +138,7 @@ fn add_member(
     name: &str,
     value: Value,
 ) -> Mem<()>
-    requires plain { (is_order name.now || is_plain name.now) ≡ true }
+    requires plain { (is_order name.now || is_content_name name.now) ≡ true }
     requires faultless { member_fault name.now (view value) ≡ None }
     requires shallow { (if is_order name.now then false else is_deeper (64 - length path.now) (view value)) ≡ false }
     ensures props { OnOk result (props.new ≡ with_member name.now (view value) props.old) }

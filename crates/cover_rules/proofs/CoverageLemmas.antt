@@ -13,8 +13,8 @@ use Rattle.cover_rules.specs.declared.invalidation.Invalidation.{Invalidation}
 use Rattle.cover_rules.specs.declared.walk.Rest.{Rest}
 use Rattle.cover_rules.specs.declared.walk.Rest.TheVariants.{Folder, File}
 use Rattle.cover_rules.specs.Pages.{page_path, page_text}
-use Rattle.cover_rules.specs.Coverage.{deletes, handle_of, is_handle, is_part, is_rendering, takes_below}
-use Rattle.cover_rules.specs.Walk.{Lacks, Leaves, left, page_spelling}
+use Rattle.cover_rules.specs.Coverage.{deletes, handle_of, is_handle, is_part_page, is_rendering, takes_below}
+use Rattle.cover_rules.specs.Walk.{Lacks, Leaves, left_text, page_spelling}
 use Rattle.cover_rules.proofs.PageLemmas.{page_text_is}
 use Rattle.cover_rules.proofs.WalkLemmas.{whole}
 
@@ -109,14 +109,14 @@ dot_before_file (b ∷ text) file = refl
 part_of : (handle : List (List ℕ)) → lack_slashes handle ≡ true → lack_slashes (handle ++ codes "_jcr_content" ∷ []) ≡ true
 part_of handle h = list_all-append (λ seg. not (has_slash seg)) handle (codes "_jcr_content" ∷ []) ∙ ap (λ b. b && true) h
 
-part_left : (key : PageKey) (handle : List (List ℕ)) (text : List ℕ) → Texts key handle → spelled key.folder ≡ spelled handle ++ text → is_part handle key ≡ text_under text (codes "/_jcr_content")
+part_left : (key : PageKey) (handle : List (List ℕ)) (text : List ℕ) → Texts key handle → spelled key.folder ≡ spelled handle ++ text → is_part_page handle key ≡ text_under text (codes "/_jcr_content")
 part_left key handle text texts e =
     sym (texts.under key.folder (handle ++ codes "_jcr_content" ∷ []) texts.folder (part_of handle texts.slashless))
     ∙ ap (λ (t : List ℕ). text_under t (spelled (handle ++ codes "_jcr_content" ∷ []))) e
     ∙ ap (λ (t : List ℕ). text_under (spelled handle ++ text) t) (flat_map-append (λ s. 47 ∷ s) handle (codes "_jcr_content" ∷ []))
     ∙ under_cancel (spelled handle) text (codes "/_jcr_content")
 
-part_beyond : (key : PageKey) (handle : List (List ℕ)) → Texts key handle → length (spelled key.folder) < length (spelled handle) → is_part handle key ≡ false
+part_beyond : (key : PageKey) (handle : List (List ℕ)) → Texts key handle → length (spelled key.folder) < length (spelled handle) → is_part_page handle key ≡ false
 part_beyond key handle texts long =
     let all = flat_map-append (λ s. 47 ∷ s) handle (codes "_jcr_content" ∷ []) in
     sym (texts.under key.folder (handle ++ codes "_jcr_content" ∷ []) texts.folder (part_of handle texts.slashless))
@@ -167,7 +167,7 @@ deletes_none inv key texts lacks =
     let below = never (is_under (page_path key) handle) (λ h.
     let e = starts_is (spelled (page_path key)) (spelled handle) (and_left _ _ (texts.under (page_path key) handle texts.page texts.slashless ∙ h)) in
     lacks (drop (length (spelled handle)) (spelled (page_path key))) (sym texts.spelling ∙ e)) in
-    let part = never (is_part handle key) (λ h.
+    let part = never (is_part_page handle key) (λ h.
     let all = handle ++ codes "_jcr_content" ∷ [] in
     let e = starts_is (spelled key.folder) (spelled all) (and_left _ _ (texts.under key.folder all texts.folder (part_of handle texts.slashless) ∙ h)) in
     let f = e ∙ ap (λ (t : List ℕ). t ++ drop (length (spelled all)) (spelled key.folder)) (flat_map-append (λ s. 47 ∷ s) handle (codes "_jcr_content" ∷ []))

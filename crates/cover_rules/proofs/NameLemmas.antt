@@ -3,7 +3,7 @@ use Rattle.std.proofs.Common.{ℕ, Bool, true, false, cond, List, [], ◌∷◌,
 use Rattle.std.proofs.lemmas.Bool.Decides.{nat_tests}
 use Rattle.std.proofs.lemmas.List.{take_more}
 use Rattle.std.proofs.lemmas.List.Concat.{flat_map-append}
-use Rattle.cover_rules.specs.Names.{file_byte, file_name, has_name, is_plain}
+use Rattle.cover_rules.specs.Names.{file_byte, file_name, has_file_name, is_plain_name_byte}
 
 some_bytes : (b : ℕ) → 1 ≤ length (file_byte b)
 some_bytes b = grind arith
@@ -13,7 +13,7 @@ unfolding file_name
 no_shorter [] = omega arith
 no_shorter (b ∷ seg) = omega (arith, some_bytes b, no_shorter seg, length-append (file_byte b) (flat_map file_byte seg))
 
-pub long_lacks : (seg : List ℕ) → 200 < length seg → has_name seg ≡ false
+pub long_lacks : (seg : List ℕ) → 200 < length seg → has_file_name seg ≡ false
 long_lacks seg h = let long = no_shorter seg in grind (arith, nat_tests)
 
 pub name_more : (seg : List ℕ) (i : ℕ) → i < length seg → length (file_name (take (i + 1) seg)) ≡ length (file_name (take i seg)) + length (file_byte (get_or seg i 0))
@@ -28,5 +28,5 @@ unfolding file_name
 name_parts mark rest seg e =
     sym (length-append (flat_map file_byte mark) (flat_map file_byte rest)) ∙ sym (ap length (flat_map-append file_byte mark rest)) ∙ ap (λ (s : List ℕ). length (flat_map file_byte s)) e
 
-pub parts_lack : (mark rest seg : List ℕ) → mark ++ rest ≡ seg → 200 < length mark + length rest → has_name seg ≡ false
+pub parts_lack : (mark rest seg : List ℕ) → mark ++ rest ≡ seg → 200 < length mark + length rest → has_file_name seg ≡ false
 parts_lack mark rest seg e h = long_lacks seg (omega (arith, h, ap length e, length-append mark rest))

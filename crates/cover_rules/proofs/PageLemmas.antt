@@ -10,7 +10,7 @@ use Rattle.sp_base.specs.declared.path.PathFault.{PathFault}
 use Rattle.sp_base.specs.Paths.{has_slash, is_long, mangled, mangled_of, parent_of, pieces, text_of}
 use Rattle.sp_base.specs.PathTexts.{lack_slashes, segs_in, spelled}
 use Rattle.cover_rules.specs.declared.page.PageKey.{PageKey}
-use Rattle.cover_rules.specs.Names.{has_name}
+use Rattle.cover_rules.specs.Names.{has_file_name}
 use Rattle.cover_rules.specs.Pages.{has_dot, is_file, is_page, key_at, last_segment, page_key_of, page_path, page_text}
 use Rattle.cover_rules.proofs.NameLemmas.{long_lacks}
 
@@ -23,7 +23,7 @@ unfolding key_at
 a_key segs h = ap (λ t. cond t (Some (record { folder = parent_of segs; file = last_segment segs })) None) h
 
 pub no_file : (segs : List (List ℕ)) → is_file (last_segment segs) ≡ false → is_page segs ≡ false
-no_file segs h = ap (λ t. t && (list_all (λ seg. not (has_dot seg)) (parent_of segs) && list_all has_name segs)) h
+no_file segs h = ap (λ t. t && (list_all (λ seg. not (has_dot seg)) (parent_of segs) && list_all has_file_name segs)) h
 
 third_false : (a b c : Bool) → c ≡ false → (a && (b && c)) ≡ false
 third_false true true c h = h
@@ -38,8 +38,8 @@ second_false false b c h = refl
 all_true : (a b c : Bool) → a ≡ true → b ≡ true → c ≡ true → (a && (b && c)) ≡ true
 all_true a b c e f g = ap (λ t. t && (b && c)) e ∙ ap (λ t. t && c) f ∙ g
 
-pub no_names : (segs : List (List ℕ)) → list_all has_name segs ≡ false → is_page segs ≡ false
-no_names segs h = third_false (is_file (last_segment segs)) (list_all (λ seg. not (has_dot seg)) (parent_of segs)) (list_all has_name segs) h
+pub no_names : (segs : List (List ℕ)) → list_all has_file_name segs ≡ false → is_page segs ≡ false
+no_names segs h = third_false (is_file (last_segment segs)) (list_all (λ seg. not (has_dot seg)) (parent_of segs)) (list_all has_file_name segs) h
 
 nots : (a b : Bool) (t : Bool) → t ≡ not b → (a || t) ≡ not (not a && b)
 nots true b t h = refl
@@ -72,12 +72,12 @@ not_false false h = sym h
 
 pub dotted_folder : (segs : List (List ℕ)) → has_dot (spelled (parent_of segs)) ≡ true → is_page segs ≡ false
 dotted_folder segs h =
-    second_false (is_file (last_segment segs)) (list_all (λ seg. not (has_dot seg)) (parent_of segs)) (list_all has_name segs)
+    second_false (is_file (last_segment segs)) (list_all (λ seg. not (has_dot seg)) (parent_of segs)) (list_all has_file_name segs)
     (not_true (list_all (λ seg. not (has_dot seg)) (parent_of segs)) (sym (dots (parent_of segs)) ∙ h))
 
-pub a_page : (segs : List (List ℕ)) → is_file (last_segment segs) ≡ true → list_all has_name segs ≡ true → has_dot (spelled (parent_of segs)) ≡ false → is_page segs ≡ true
+pub a_page : (segs : List (List ℕ)) → is_file (last_segment segs) ≡ true → list_all has_file_name segs ≡ true → has_dot (spelled (parent_of segs)) ≡ false → is_page segs ≡ true
 a_page segs f n d =
-    all_true (is_file (last_segment segs)) (list_all (λ seg. not (has_dot seg)) (parent_of segs)) (list_all has_name segs) f
+    all_true (is_file (last_segment segs)) (list_all (λ seg. not (has_dot seg)) (parent_of segs)) (list_all has_file_name segs) f
     (not_false (list_all (λ seg. not (has_dot seg)) (parent_of segs)) (sym (dots (parent_of segs)) ∙ d)) n
 
 -- the text of a page's path
@@ -99,12 +99,12 @@ root_lacks [] h = refl
 root_lacks (seg ∷ path) h = absurd (omega arith)
 
 -- where a mangled path is no path a segment's file name is too long
-any_long : (segs : List (List ℕ)) → list_any is_long segs ≡ true → list_all has_name segs ≡ false
+any_long : (segs : List (List ℕ)) → list_any is_long segs ≡ true → list_all has_file_name segs ≡ false
 any_long [] h = absurd (cc (h))
 any_long (seg ∷ segs) h =
-    elim (is_long seg) as (λ t. is_long seg ≡ t → (t || list_any is_long segs) ≡ true → (has_name seg && list_all has_name segs) ≡ false) [
-      | true ↦ λ e k. ap (λ t. t && list_all has_name segs) (long_lacks seg (long_is seg e))
-      | false ↦ λ e k. and_false (has_name seg) (list_all has_name segs) (any_long segs k)
+    elim (is_long seg) as (λ t. is_long seg ≡ t → (t || list_any is_long segs) ≡ true → (has_file_name seg && list_all has_file_name segs) ≡ false) [
+      | true ↦ λ e k. ap (λ t. t && list_all has_file_name segs) (long_lacks seg (long_is seg e))
+      | false ↦ λ e k. and_false (has_file_name seg) (list_all has_file_name segs) (any_long segs k)
     ] refl h
 
 pub unmangled_lacks : (path : List (List ℕ)) (e : PathFault) → (list_any is_long (mangled path) ≡ false → mangled_of path ≡ Ok (mangled path)) → mangled_of path ≡ Err e → page_key_of path ≡ None

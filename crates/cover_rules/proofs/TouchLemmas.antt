@@ -8,7 +8,7 @@ use Rattle.std.specs.List.{list_any, list_all, prefix_len, take_while}
 use Rattle.sp_base.specs.Paths.{is_long, is_under, mangled, mangled_seg, parent_of}
 use Rattle.cover_rules.specs.declared.page.PageKey.{PageKey}
 use Rattle.cover_rules.specs.declared.invalidation.Invalidation.{Invalidation}
-use Rattle.cover_rules.specs.Names.{has_name}
+use Rattle.cover_rules.specs.Names.{has_file_name}
 use Rattle.cover_rules.specs.Coverage.{handle_of, lineage, outdates, stat_depth_of, stat_folder, touched_of}
 use Rattle.cover_rules.proofs.CoverageLemmas.{lists_equal, take_first}
 use Rattle.cover_rules.proofs.NameLemmas.{long_lacks}
@@ -48,34 +48,34 @@ lineage_whole path =
     ∙ take_all (length path + 1) (lineage path) (omega (arith, length-lineage path))
 
 -- names of mangled segments
-pub prefix_mangled : (segs : List (List ℕ)) → prefix_len (λ seg. has_name (mangled_seg seg)) segs ≡ prefix_len has_name (mangled segs)
+pub prefix_mangled : (segs : List (List ℕ)) → prefix_len (λ seg. has_file_name (mangled_seg seg)) segs ≡ prefix_len has_file_name (mangled segs)
 prefix_mangled [] = refl
-prefix_mangled (seg ∷ segs) = ap (λ n. cond (has_name (mangled_seg seg)) (1 + n) 0) (prefix_mangled segs)
+prefix_mangled (seg ∷ segs) = ap (λ n. cond (has_file_name (mangled_seg seg)) (1 + n) 0) (prefix_mangled segs)
 
 long_is : (seg : List ℕ) → is_long seg ≡ true → 200 < length seg
 long_is seg h = grind (arith, nat_tests)
 
-short_named : (seg : List ℕ) → has_name seg ≡ true → is_long seg ≡ false
+short_named : (seg : List ℕ) → has_file_name seg ≡ true → is_long seg ≡ false
 short_named seg h = elim (is_long seg) as (λ t. is_long seg ≡ t → t ≡ false) [
   | true ↦ λ e. absurd (cc (h, long_lacks seg (long_is seg e)))
   | false ↦ λ e. refl
 ] refl
 
-none_long : (segs : List (List ℕ)) → list_any is_long (take_while has_name segs) ≡ false
+none_long : (segs : List (List ℕ)) → list_any is_long (take_while has_file_name segs) ≡ false
 none_long [] = refl
-none_long (seg ∷ segs) = elim (has_name seg) as (λ t. has_name seg ≡ t → list_any is_long (take (cond t (1 + prefix_len has_name segs) 0) (seg ∷ segs)) ≡ false) [
-  | true ↦ λ e. let next : 1 + prefix_len has_name segs ≡ suc (prefix_len has_name segs) = omega arith in
-      ap (λ n. list_any is_long (take n (seg ∷ segs))) next ∙ ap (λ b. b || list_any is_long (take_while has_name segs)) (short_named seg e) ∙ none_long segs
+none_long (seg ∷ segs) = elim (has_file_name seg) as (λ t. has_file_name seg ≡ t → list_any is_long (take (cond t (1 + prefix_len has_file_name segs) 0) (seg ∷ segs)) ≡ false) [
+  | true ↦ λ e. let next : 1 + prefix_len has_file_name segs ≡ suc (prefix_len has_file_name segs) = omega arith in
+      ap (λ n. list_any is_long (take n (seg ∷ segs))) next ∙ ap (λ b. b || list_any is_long (take_while has_file_name segs)) (short_named seg e) ∙ none_long segs
   | false ↦ λ e. refl
 ] refl
 
 -- the first segments of a path that have names
-pub first_named : (path : List (List ℕ)) (most n : ℕ) → n ≡ prefix_len has_name (take most (mangled path)) → mangled (take n path) ≡ take_while has_name (take most (mangled path))
+pub first_named : (path : List (List ℕ)) (most n : ℕ) → n ≡ prefix_len has_file_name (take most (mangled path)) → mangled (take n path) ≡ take_while has_file_name (take most (mangled path))
 first_named path most n e =
-    let fewer = prefix_len-le-length has_name (take most (mangled path)) in
+    let fewer = prefix_len-le-length has_file_name (take most (mangled path)) in
     sym (take-map mangled_seg n path) ∙ sym (take_first (mangled path) n most (omega (arith, fewer, length-take most (mangled path)))) ∙ ap (λ k. take k (take most (mangled path))) e
 
-pub first_fits : (path : List (List ℕ)) (most n : ℕ) → n ≡ prefix_len has_name (take most (mangled path)) → list_any is_long (mangled (take n path)) ≡ false
+pub first_fits : (path : List (List ℕ)) (most n : ℕ) → n ≡ prefix_len has_file_name (take most (mangled path)) → list_any is_long (mangled (take n path)) ≡ false
 first_fits path most n e = ap (list_any is_long) (first_named path most n e) ∙ none_long (take most (mangled path))
 
 -- what a folder begins with
@@ -97,27 +97,27 @@ take_within (x ∷ xs) zero m = (0, refl)
 take_within (x ∷ xs) (suc n) zero = (0, refl)
 take_within (x ∷ xs) (suc n) (suc m) = let more = take_within xs n m in (suc more.0, ap (λ (ys : List (List ℕ)). x ∷ ys) more.1)
 
-all_named : (segs : List (List ℕ)) (n : ℕ) → list_all has_name segs ≡ true → list_all has_name (take n segs) ≡ true
+all_named : (segs : List (List ℕ)) (n : ℕ) → list_all has_file_name segs ≡ true → list_all has_file_name (take n segs) ≡ true
 all_named [] zero h = refl
 all_named [] (suc n) h = refl
 all_named (seg ∷ segs) zero h = refl
-all_named (seg ∷ segs) (suc n) h = ap (λ t. t && list_all has_name (take n segs)) (and_left _ _ h) ∙ all_named segs n (and_right _ _ h)
+all_named (seg ∷ segs) (suc n) h = ap (λ t. t && list_all has_file_name (take n segs)) (and_left _ _ h) ∙ all_named segs n (and_right _ _ h)
 
 -- a prefix whose segments all have names is one of the named prefix
-named_prefix : (segs : List (List ℕ)) (n : ℕ) → n ≤ length segs → list_all has_name (take n segs) ≡ true → n ≤ prefix_len has_name segs
+named_prefix : (segs : List (List ℕ)) (n : ℕ) → n ≤ length segs → list_all has_file_name (take n segs) ≡ true → n ≤ prefix_len has_file_name segs
 named_prefix segs zero h all = omega arith
 named_prefix [] (suc n) h all = absurd (omega arith)
 named_prefix (seg ∷ segs) (suc n) h all =
     let more = named_prefix segs n (omega arith) (and_right _ _ all) in
-    subst (λ t. suc n ≤ cond t (1 + prefix_len has_name segs) 0) (sym (and_left (has_name seg) _ all)) (omega arith)
+    subst (λ t. suc n ≤ cond t (1 + prefix_len has_file_name segs) 0) (sym (and_left (has_file_name seg) _ all)) (omega arith)
 
 -- a page is outdated where its .stat folder is touched
 not_only : (b : Bool) → not b ≡ true → b ≡ false
 not_only true h = sym h
 not_only false h = refl
 
-in_lineage : (above : List (List ℕ)) (level : ℕ) (first : List (List ℕ)) → is_under above first ≡ true → length first ≤ level → list_all has_name first ≡ true
-    → Contains (lineage (take_while has_name (take level above))) first
+in_lineage : (above : List (List ℕ)) (level : ℕ) (first : List (List ℕ)) → is_under above first ≡ true → length first ≤ level → list_all has_file_name first ≡ true
+    → Contains (lineage (take_while has_file_name (take level above))) first
 in_lineage above level first under short names =
     let d = length first in
     let all = take level above in
@@ -125,30 +125,30 @@ in_lineage above level first under short names =
     let within : d ≤ length above = omega (arith, ap length is, length-take d above) in
     let same : take d all ≡ take d above = take_first above d level short in
     let most : d ≤ length all = omega (arith, length-take level above) in
-    let named : d ≤ prefix_len has_name all = named_prefix all d most (ap (list_all has_name) (same ∙ sym is) ∙ names) in
-    let size : d ≤ length (take_while has_name all) = omega (arith, length-take (prefix_len has_name all) all) in (
+    let named : d ≤ prefix_len has_file_name all = named_prefix all d most (ap (list_all has_file_name) (same ∙ sym is) ∙ names) in
+    let size : d ≤ length (take_while has_file_name all) = omega (arith, length-take (prefix_len has_file_name all) all) in (
       d,
-      omega (arith, length-lineage (take_while has_name all)),
-      lineage_at (take_while has_name all) d first size ∙ take_first all d (prefix_len has_name all) named ∙ same ∙ sym is,
+      omega (arith, length-lineage (take_while has_file_name all)),
+      lineage_at (take_while has_file_name all) d first size ∙ take_first all d (prefix_len has_file_name all) named ∙ same ∙ sym is,
     )
 
-pub touched_where : (level : ℕ) (inv : Invalidation) (key : PageKey) → list_all has_name key.folder ≡ true → outdates level true inv key ≡ true → Contains (touched_of level inv) (stat_folder level key)
+pub touched_where : (level : ℕ) (inv : Invalidation) (key : PageKey) → list_all has_file_name key.folder ≡ true → outdates level true inv key ≡ true → Contains (touched_of level inv) (stat_folder level key)
 touched_where level inv key names h =
     let only = not_only inv.only (and_left (not inv.only) _ h) in
     let size : length (stat_folder level key) ≤ level = omega (arith, length-take (stat_depth_of level key) key.folder) in
-    subst (λ b. Contains (cond b [] (lineage (take_while has_name (take level (parent_of (handle_of inv)))))) (stat_folder level key)) (sym only)
+    subst (λ b. Contains (cond b [] (lineage (take_while has_file_name (take level (parent_of (handle_of inv)))))) (stat_folder level key)) (sym only)
     (in_lineage (parent_of (handle_of inv)) level (stat_folder level key) (and_right (not inv.only) _ h) size (all_named key.folder (stat_depth_of level key) names))
 
-of_lineage : (above : List (List ℕ)) (level : ℕ) (first : List (List ℕ)) → Contains (lineage (take_while has_name (take level above))) first → is_under above first ≡ true
+of_lineage : (above : List (List ℕ)) (level : ℕ) (first : List (List ℕ)) → Contains (lineage (take_while has_file_name (take level above))) first → is_under above first ≡ true
 of_lineage above level first has =
     let all = take level above in
-    let named = take_while has_name all in
+    let named = take_while has_file_name all in
     let is : first ≡ take has.0 named = sym has.2 ∙ lineage_at named has.0 first (omega (arith, has.1, length-lineage named)) in
-    let one = take_within all has.0 (prefix_len has_name all) in
+    let one = take_within all has.0 (prefix_len has_file_name all) in
     let two = take_within above one.0 level in
     ap (is_under above) (is ∙ one.1 ∙ two.1) ∙ begins_with_first above two.0
 
-by_scope : (only : Bool) (above : List (List ℕ)) (level : ℕ) (first : List (List ℕ)) → Contains (cond only [] (lineage (take_while has_name (take level above)))) first → (not only && is_under above first) ≡ true
+by_scope : (only : Bool) (above : List (List ℕ)) (level : ℕ) (first : List (List ℕ)) → Contains (cond only [] (lineage (take_while has_file_name (take level above)))) first → (not only && is_under above first) ≡ true
 by_scope true above level first has = absurd (omega (arith, has.1))
 by_scope false above level first has = of_lineage above level first has
 

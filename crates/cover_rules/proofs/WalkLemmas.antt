@@ -12,7 +12,7 @@ use Rattle.sp_base.specs.PathTexts.{lack_slashes, spelled}
 use Rattle.cover_rules.specs.declared.page.PageKey.{PageKey}
 use Rattle.cover_rules.specs.declared.walk.Rest.{Rest}
 use Rattle.cover_rules.specs.declared.walk.Rest.TheVariants.{Folder, File}
-use Rattle.cover_rules.specs.Walk.{Lacks, Leaves, LeavesNext, left, page_spelling}
+use Rattle.cover_rules.specs.Walk.{Lacks, Leaves, LeavesNext, left_text, page_spelling}
 
 pub IfNone-map : {A : Type 0} (o : Option A) (P Q : Type 0) → (P → Q) → IfNone o P → IfNone o Q
 IfNone-map None P Q f h = f h
@@ -66,16 +66,16 @@ unstripped text prefix more e is =
     cc (e, (bytes_decides (take (length prefix) text) prefix).1 (ap (take (length prefix)) is ∙ take_at prefix more (length prefix) refl))
 
 -- no next segment, by where the page's path has come
-pub folder_ends : (rest : Rest) (text : Bor (List ℕ)) (file seg more : List ℕ) → rest ≡ Folder text → length text.now ≡ 0 → ((r : List ℕ) → file ≢ seg ++ r) → left file rest ≡ 47 ∷ seg ++ more → ⊥
+pub folder_ends : (rest : Rest) (text : Bor (List ℕ)) (file seg more : List ℕ) → rest ≡ Folder text → length text.now ≡ 0 → ((r : List ℕ) → file ≢ seg ++ r) → left_text file rest ≡ 47 ∷ seg ++ more → ⊥
 folder_ends rest text file seg more is empty none e =
-    ends_at text.now file seg more empty none (ap (left file) (sym is) ∙ e) where
+    ends_at text.now file seg more empty none (ap (left_text file) (sym is) ∙ e) where
       ends_at : (text file seg more : List ℕ) → length text ≡ 0 → ((r : List ℕ) → file ≢ seg ++ r) → text ++ 47 ∷ file ≡ 47 ∷ seg ++ more → ⊥
       ends_at [] file seg more empty none e = none more (cc (e))
       ends_at (b ∷ text) file seg more empty none e = absurd (omega arith)
 
-pub folder_differs : (rest : Rest) (text : Bor (List ℕ)) (file seg more : List ℕ) → rest ≡ Folder text → 0 < length text.now → has_slash seg ≡ false → ((r : List ℕ) → text.now ≢ 47 ∷ seg ++ r) → left file rest ≡ 47 ∷ seg ++ more → ⊥
+pub folder_differs : (rest : Rest) (text : Bor (List ℕ)) (file seg more : List ℕ) → rest ≡ Folder text → 0 < length text.now → has_slash seg ≡ false → ((r : List ℕ) → text.now ≢ 47 ∷ seg ++ r) → left_text file rest ≡ 47 ∷ seg ++ more → ⊥
 folder_differs rest text file seg more is some lacks none e =
-    differs_at text.now file seg more some lacks none (ap (left file) (sym is) ∙ e) where
+    differs_at text.now file seg more some lacks none (ap (left_text file) (sym is) ∙ e) where
       differs_at : (text file seg more : List ℕ) → 0 < length text → has_slash seg ≡ false → ((r : List ℕ) → text ≢ 47 ∷ seg ++ r) → text ++ 47 ∷ file ≡ 47 ∷ seg ++ more → ⊥
       differs_at [] file seg more some lacks none e = absurd (omega arith)
       differs_at (b ∷ text) file seg more some lacks none e =
@@ -95,7 +95,7 @@ leaves_next key prefix front (File text) (Folder more) some h n = absurd n
 leaves_next key prefix front (File text) (File more) some h n =
     (h.0 ∙ ap (λ (t : List ℕ). prefix ++ t) n ∙ sym (append_assoc prefix front more.now), omega (arith, h.1, length-append prefix front))
 
-pub whole : (key : PageKey) (prefix : List ℕ) (rest : Rest) → Leaves key prefix rest → page_spelling key ≡ prefix ++ left key.file rest
+pub whole : (key : PageKey) (prefix : List ℕ) (rest : Rest) → Leaves key prefix rest → page_spelling key ≡ prefix ++ left_text key.file rest
 whole key prefix (Folder text) h = ap (λ (t : List ℕ). t ++ 47 ∷ key.file) h ∙ append_assoc prefix text.now (47 ∷ key.file)
 whole key prefix (File text) h = h.0
 
@@ -120,7 +120,7 @@ lacking_middle (s ∷ segs) later seg h = lacking_middle segs later seg (and_sec
 
 -- and the page's path isn't the handle's any further
 pub astray : (key : PageKey) (seen : List (Bor (List ℕ))) (seg : Bor (List ℕ)) (rest : Rest) (all later : List (List ℕ)) → lack_slashes all ≡ true → all ≡ map (λ s. s.now) (seen ++ seg ∷ []) ++ later
-    → Leaves key (spelled (mangled (map (λ s. s.now) seen))) rest → (has_slash seg.now ≡ false → (more : List ℕ) → left key.file rest ≢ 47 ∷ mangled_seg seg.now ++ more)
+    → Leaves key (spelled (mangled (map (λ s. s.now) seen))) rest → (has_slash seg.now ≡ false → (more : List ℕ) → left_text key.file rest ≢ 47 ∷ mangled_seg seg.now ++ more)
     → Lacks key (spelled (mangled all))
 astray key seen seg rest all later lacks is h none more e =
     let segs = map (λ s. s.now) seen in
@@ -128,7 +128,7 @@ astray key seen seg rest all later lacks is h none more e =
     let slashless = lacking_middle segs later seg.now (ap lack_slashes (sym parts) ∙ lacks) in
     let spelling = ap (λ (l : List (List ℕ)). spelled (mangled l)) parts ∙ spelled_more segs seg.now later in
     none slashless (spelled (mangled later) ++ more)
-    (same_after (spelled (mangled segs)) (left key.file rest) (47 ∷ mangled_seg seg.now ++ (spelled (mangled later) ++ more))
+    (same_after (spelled (mangled segs)) (left_text key.file rest) (47 ∷ mangled_seg seg.now ++ (spelled (mangled later) ++ more))
     (sym (whole key (spelled (mangled segs)) rest h) ∙ e ∙ ap (λ (t : List ℕ). t ++ more) spelling ∙ append_assoc (spelled (mangled segs)) (47 ∷ mangled_seg seg.now ++ spelled (mangled later)) more
     ∙ ap (λ (t : List ℕ). spelled (mangled segs) ++ 47 ∷ t) (append_assoc (mangled_seg seg.now) (spelled (mangled later)) more)))
 
@@ -147,8 +147,8 @@ pub next_of : {S A B : Type 0} {steps : S → Option A → S → Type 0} {v : A 
     → (o : Option A) (u : S) (x : A) → o ≡ Some x → steps t o u → (later : List B) × (all ≡ map v (xs ++ x ∷ []) ++ later)
 next_of {steps = steps} {v = v} {s = s} {all = all} list xs t was o u x is step = yields_next steps v s t u xs x all list.runs was (subst (λ r. steps t r u) is step)
 
-pub file_differs : (rest : Rest) (text : Bor (List ℕ)) (file seg more : List ℕ) → rest ≡ File text → ((r : List ℕ) → text.now ≢ 47 ∷ seg ++ r) → left file rest ≡ 47 ∷ seg ++ more → ⊥
-file_differs rest text file seg more is none e = none more (ap (left file) (sym is) ∙ e)
+pub file_differs : (rest : Rest) (text : Bor (List ℕ)) (file seg more : List ℕ) → rest ≡ File text → ((r : List ℕ) → text.now ≢ 47 ∷ seg ++ r) → left_text file rest ≡ 47 ∷ seg ++ more → ⊥
+file_differs rest text file seg more is none e = none more (ap (left_text file) (sym is) ∙ e)
 
 unslashed : (b : Bool) → (not b && true) ≡ true → b ≡ false
 unslashed true h = sym h

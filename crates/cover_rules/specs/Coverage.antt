@@ -7,7 +7,7 @@ use Rattle.cover_rules.specs.declared.page.PageKey.{PageKey}
 use Rattle.cover_rules.specs.declared.invalidation.Action.{Action}
 use Rattle.cover_rules.specs.declared.invalidation.Action.TheVariants.{Activate, Deactivate, Delete}
 use Rattle.cover_rules.specs.declared.invalidation.Invalidation.{Invalidation}
-use Rattle.cover_rules.specs.Names.{has_name}
+use Rattle.cover_rules.specs.Names.{has_file_name}
 use Rattle.cover_rules.specs.Pages.{page_path, page_text}
 
 -- the handle as URLs spell it
@@ -23,8 +23,8 @@ abbrev pub is_rendering : List (List ℕ) → PageKey → Bool
 is_rendering handle key = not (length handle == 0) && starts_with nat_eq (page_text key) (text_of handle ++ codes ".")
 
 -- a page of a part of the handle's content
-abbrev pub is_part : List (List ℕ) → PageKey → Bool
-is_part handle key = is_under key.folder (handle ++ codes "_jcr_content" ∷ [])
+abbrev pub is_part_page : List (List ℕ) → PageKey → Bool
+is_part_page handle key = is_under key.folder (handle ++ codes "_jcr_content" ∷ [])
 
 -- these actions take away what is below the handle
 abbrev pub takes_below : Action → Bool
@@ -34,7 +34,7 @@ takes_below Delete = true
 
 -- the invalidation deletes the page
 abbrev pub deletes : Invalidation → PageKey → Bool
-deletes inv key = is_handle (handle_of inv) key || (is_rendering (handle_of inv) key || (is_part (handle_of inv) key || takes_below inv.action && is_under (page_path key) (handle_of inv)))
+deletes inv key = is_handle (handle_of inv) key || (is_rendering (handle_of inv) key || (is_part_page (handle_of inv) key || takes_below inv.action && is_under (page_path key) (handle_of inv)))
 
 -- how deep the folder is whose .stat file a page is asked by: the page's folder, or its ancestor at the level
 abbrev pub stat_depth_of : ℕ → PageKey → ℕ
@@ -59,4 +59,4 @@ lineage (seg ∷ segs) = [] ∷ map (λ path. seg ∷ path) (lineage segs)
 -- The folders whose .stat files are touched: those above the handle, from the document root down to the level, as far as they have
 -- file names. Below one without a name no page can lie.
 abbrev pub touched_of : ℕ → Invalidation → List (List (List ℕ))
-touched_of level inv = if inv.only then [] else lineage (take_while has_name (take level (parent_of (handle_of inv))))
+touched_of level inv = if inv.only then [] else lineage (take_while has_file_name (take level (parent_of (handle_of inv))))

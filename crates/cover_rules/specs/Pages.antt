@@ -3,7 +3,7 @@ use Rattle.std.specs.Prelude.{◌==◌, ◌&&◌, ◌++◌, ◌-◌, ℕ, Bool, 
 use Rattle.std.specs.List.{list_any, list_all}
 use Rattle.sp_base.specs.Paths.{mangled, parent_of, pieces, text_of}
 use Rattle.cover_rules.specs.declared.page.PageKey.{PageKey}
-use Rattle.cover_rules.specs.Names.{has_name}
+use Rattle.cover_rules.specs.Names.{has_file_name}
 
 abbrev pub has_dot : List ℕ → Bool
 has_dot seg = list_any (λ b. b == 46) seg
@@ -18,7 +18,7 @@ is_file seg = has_dot seg && (not (slice_index seg 0 == 46) && not (slice_index 
 
 -- a mangled path at which a page may be: a file in folders without a dot, each with a file name
 abbrev pub is_page : List (List ℕ) → Bool
-is_page segs = is_file (last_segment segs) && (list_all (λ seg. not (has_dot seg)) (parent_of segs) && list_all has_name segs)
+is_page segs = is_file (last_segment segs) && (list_all (λ seg. not (has_dot seg)) (parent_of segs) && list_all has_file_name segs)
 
 -- the key of the page at a mangled path
 unfoldable pub key_at : List (List ℕ) → Option PageKey

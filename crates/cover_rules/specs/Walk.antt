@@ -10,9 +10,9 @@ abbrev pub page_spelling : PageKey → List ℕ
 page_spelling key = spelled key.folder ++ 47 ∷ key.file
 
 -- the text that is left
-abbrev pub left : List ℕ → Rest → List ℕ
-left file (Folder text) = text.now ++ 47 ∷ file
-left file (File text) = text.now
+abbrev pub left_text : List ℕ → Rest → List ℕ
+left_text file (Folder text) = text.now ++ 47 ∷ file
+left_text file (File text) = text.now
 
 -- a page's path begins with a prefix, which ends in its folder, or which goes on into its file
 abbrev pub Leaves : PageKey → List ℕ → Rest → Type 0

@@ -5,7 +5,7 @@ ghost use Rattle.sp_base.specs.Paths.{is_path, mangled, unmangled, parent_of};
 ghost use Rattle.cover_rules.specs.declared.page.PageKey.{PageKey};
 ghost use Rattle.cover_rules.specs.declared.invalidation.Action.{Action};
 ghost use Rattle.cover_rules.specs.declared.invalidation.Invalidation.{Invalidation};
-ghost use Rattle.cover_rules.specs.Names.{has_name};
+ghost use Rattle.cover_rules.specs.Names.{has_file_name};
 ghost use Rattle.cover_rules.specs.Pages.{page_key_of, page_path};
 ghost use Rattle.cover_rules.specs.Coverage.{covers, handle_of, outdates, stat_folder, touched_of};
 
@@ -32,6 +32,6 @@ pub fn the_spelling_of_a_handle()
 /// A touch outdates exactly the pages, of those that .stat files outdate, whose .stat folder is touched, where the names of the
 /// page's folders fit. That folder is one of those above the handle, so a page elsewhere isn't outdated.
 pub fn a_touch_outdates_the_pages_of_its_folders()
-    ensures folders { (level : ℕ) (inv : Invalidation) (key : PageKey) → IsTrue (list_all has_name key.folder) → (outdates level true inv key ≡ true) ↔ Contains (touched_of level inv) (stat_folder level key) }
+    ensures folders { (level : ℕ) (inv : Invalidation) (key : PageKey) → IsTrue (list_all has_file_name key.folder) → (outdates level true inv key ≡ true) ↔ Contains (touched_of level inv) (stat_folder level key) }
     ensures above { (level : ℕ) (auto : Bool) (inv : Invalidation) (key : PageKey) → outdates level auto inv key ≡ true → (n : ℕ) × (stat_folder level key ≡ take n (parent_of (handle_of inv))) }
 {}

@@ -1,6 +1,6 @@
 //! How long a segment's file name is.
 ghost use Rattle.std.specs.Prelude.{◌≡◌, ◌++◌, ◌≤◌, length};
-ghost use Rattle.cover_rules.specs.Names.{file_byte, file_name, is_plain};
+ghost use Rattle.cover_rules.specs.Names.{file_byte, file_name, is_plain_name_byte};
 ghost use Rattle.cover_rules.specs.Names as spec;
 ghost use Rattle.sp_base.specs.Paths.{mangled_seg};
 
@@ -10,7 +10,7 @@ use sp_base::mangled_parts;
 pub const LONGEST_NAME: usize = 200;
 
 fn is_plain(b: u8) -> bool
-    ensures { result ≡ is_plain b }
+    ensures { result ≡ is_plain_name_byte b }
 {
     b.is_ascii_alphanumeric() || (b == b'.' || (b == b'_' || b == b'-'))
 }
@@ -39,7 +39,7 @@ fn name_length(text: &str) -> usize
 /// Whether the file name of a mangled segment has at most `LONGEST_NAME` bytes. In a file name each byte but ASCII letters, digits,
 /// `.`, `_` and `-` is `%` and two capital hexadecimal digits.
 pub fn has_name(seg: &str) -> bool
-    ensures { result ≡ spec.has_name seg.now }
+    ensures { result ≡ spec.has_file_name seg.now }
 {
     if seg.len() > LONGEST_NAME {
         return false;
@@ -49,7 +49,7 @@ pub fn has_name(seg: &str) -> bool
 
 /// The same of a segment that isn't mangled yet.
 pub fn has_mangled_name(seg: &str) -> bool
-    ensures { result ≡ spec.has_name (mangled_seg seg.now) }
+    ensures { result ≡ spec.has_file_name (mangled_seg seg.now) }
 {
     let (mark, rest) = mangled_parts(seg);
     if mark.len() > LONGEST_NAME || rest.len() > LONGEST_NAME {

@@ -104,7 +104,7 @@ fn is_file(seg: &str) -> bool
 
 // Whether each segment of a path has a file name.
 fn have_names(path: &Path) -> bool
-    ensures { result ≡ list_all name.has_name path.now }
+    ensures { result ≡ list_all name.has_file_name path.now }
 {
     match path.relative() {
         Some(rest) => rest.split('/').all(|piece| has_name(piece)),

@@ -2,7 +2,7 @@
 ghost use Rattle.std.specs.Prelude.{◌≡◌, ◌≢◌, ◌∷◌, ◌++◌, [], ℕ, List, IfNone, IfSome, false, take};
 ghost use Rattle.sp_base.specs.Paths.{has_slash, mangled, mangled_seg};
 ghost use Rattle.sp_base.specs.PathTexts.{spelled};
-ghost use Rattle.cover_rules.specs.Walk.{Lacks, Leaves, LeavesNext, left};
+ghost use Rattle.cover_rules.specs.Walk.{Lacks, Leaves, LeavesNext, left_text};
 
 use crate::PageKey;
 use sp_base::{Path, mangled_parts, segments_and_their_spelling};
@@ -37,7 +37,7 @@ pub fn after<'a>(handle: &Path, n: usize, key: &'a PageKey) -> Option<Rest<'a>>
 
 fn after_segment<'a>(rest: Rest<'a>, segment: &str, file: &'a [u8]) -> Option<Rest<'a>>
     ensures some { IfSome result (λ more. LeavesNext file.now (47 ∷ mangled_seg segment.now) rest.entry more) }
-    ensures none { IfNone result (has_slash segment.now ≡ false → (more : List ℕ) → left file.now rest.entry ≢ 47 ∷ mangled_seg segment.now ++ more) }
+    ensures none { IfNone result (has_slash segment.now ≡ false → (more : List ℕ) → left_text file.now rest.entry ≢ 47 ∷ mangled_seg segment.now ++ more) }
 {
     segments_and_their_spelling();
     match rest {

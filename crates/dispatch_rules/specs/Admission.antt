@@ -13,11 +13,11 @@ use Rattle.any_config.specs.declared.farm.Filter.{Filter}
 use Rattle.dispatch_rules.specs.UrlParts.{stem, selectors, extension, suffix}
 
 -- the host that a request asks for, in lower case, and its port: those of the farm where the request names none
-abbrev pub host_of : Farm → Req → List ℕ
-host_of farm req = str_to_ascii_lowercase (if length req.host == 0 then farm.ask_host else req.host)
+abbrev pub request_host : Farm → Req → List ℕ
+request_host farm req = str_to_ascii_lowercase (if length req.host == 0 then farm.ask_host else req.host)
 
-abbrev pub port_of : Farm → Req → ℕ
-port_of farm req = if length req.host == 0 then farm.ask_port else req.port
+abbrev pub request_port : Farm → Req → ℕ
+request_port farm req = if length req.host == 0 then farm.ask_port else req.port
 
 abbrev pub has_port : Option ℕ → ℕ → Bool
 has_port None port = true
@@ -27,7 +27,7 @@ abbrev pub serves : List ℕ → ℕ → (List Piece × Option ℕ) → Bool
 serves host port entry = is_match entry.0 (chars host) && has_port entry.1 port
 
 abbrev pub is_served : Farm → Req → Bool
-is_served farm req = list_any (serves (host_of farm req) (port_of farm req)) farm.hosts
+is_served farm req = list_any (serves (request_host farm req) (request_port farm req)) farm.hosts
 
 -- a glob of an entry fits a part of the request; one that the entry lacks fits any
 abbrev pub fits : Option (List Piece) → List ℕ → Bool
@@ -35,13 +35,13 @@ fits None text = true
 fits (Some glob) text = is_match glob (chars text)
 
 -- the query as it came, where what is no UTF-8 is the replacement character
-abbrev pub query_of : Req → List ℕ
-query_of req = utf8_lossy (unwrap_or req.query [])
+abbrev pub request_query : Req → List ℕ
+request_query req = utf8_lossy (unwrap_or req.query [])
 
 -- each glob that a filter entry has fits its part of the request
 abbrev pub applies : Req → Filter → Bool
 applies req entry = fits entry.line req.line && (fits entry.method req.method && (fits entry.url (text_of req.path) && (fits entry.path (stem (text_of req.path))
-    && (fits entry.selectors (selectors (text_of req.path)) && (fits entry.extension (extension (text_of req.path)) && (fits entry.suffix (suffix (text_of req.path)) && fits entry.query (query_of req)))))))
+    && (fits entry.selectors (selectors (text_of req.path)) && (fits entry.extension (extension (text_of req.path)) && (fits entry.suffix (suffix (text_of req.path)) && fits entry.query (request_query req)))))))
 
 abbrev pub admits : Farm → Req → Bool
 admits farm req = is_served farm req && decision (applies req) (λ entry. entry.allow) farm.filter

@@ -12,17 +12,17 @@ abbrev pub text_or_none : Option (List ℕ) → List ℕ
 text_or_none None = []
 text_or_none (Some value) = if is_utf8 value then value else []
 
-abbrev pub is_post : Req → Bool
-is_post req = pointwise nat_eq req.method (codes "POST")
+abbrev pub is_post_request : Req → Bool
+is_post_request req = pointwise nat_eq req.method (codes "POST")
 
 -- the method, the path and its slash, at the farm's host, and for POST the body and its media type
-abbrev pub asked_of : Farm → Req → Ask
-asked_of farm req = record {
+abbrev pub publisher_ask : Farm → Req → Ask
+publisher_ask farm req = record {
   method = req.method;
   host = farm.ask_host;
   port = farm.ask_port;
   path = req.path;
   slash = req.slash;
-  kind = if is_post req then text_or_none (field_of req.heads (codes "content-type")) else [];
-  body = if is_post req then req.body else [];
+  kind = if is_post_request req then text_or_none (field_of req.heads (codes "content-type")) else [];
+  body = if is_post_request req then req.body else [];
 }

@@ -37,11 +37,11 @@ cache_key farm req = if may_keep farm req then option_and_then (allowed_key farm
 abbrev pub is_auto : Farm → PageKey → Bool
 is_auto farm key = allows farm.auto (page_text key)
 
-abbrev pub is_plain : Mark → Bool
-is_plain Plain = true
-is_plain NoCache = false
-is_plain NoStore = false
-is_plain MustRevalidate = false
+abbrev pub is_plain_mark : Mark → Bool
+is_plain_mark Plain = true
+is_plain_mark NoCache = false
+is_plain_mark NoStore = false
+is_plain_mark MustRevalidate = false
 
 abbrev pub is_storable : Answer → Bool
-is_storable answer = answer.status == 200 && is_plain answer.mark
+is_storable answer = answer.status == 200 && is_plain_mark answer.mark

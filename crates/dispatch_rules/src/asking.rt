@@ -10,7 +10,7 @@ use std::str::from_utf8;
 
 /// What the publisher is asked for a request: at the farm's host, without the query, and with a body for POST alone.
 pub fn ask_of(alloc: Global, farm: &Farm, req: &Req) -> Mem<Ask>
-    ensures { IfOk result (λ ask. ask ≡ spec.asked_of farm.now req.now) }
+    ensures { IfOk result (λ ask. ask ≡ spec.publisher_ask farm.now req.now) }
 {
     let post = req.method.text() == "POST";
     let kind = if post { media_type(req) } else { "" };

@@ -87,7 +87,7 @@ pub fn storable(answer: &Answer) -> bool
 }
 
 fn is_plain(mark: Mark) -> bool
-    ensures { result ≡ spec.is_plain mark }
+    ensures { result ≡ spec.is_plain_mark mark }
 {
     match mark {
         Mark::Plain => true,

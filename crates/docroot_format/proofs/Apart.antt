@@ -8,9 +8,9 @@ use Rattle.std.proofs.lemmas.List.{append_cancel_right, append-nil}
 use Rattle.std.proofs.lemmas.List.Splits.{slice_split_at, slice_split_none}
 use Rattle.std.proofs.lemmas.List.Folds.{list_all-append}
 use Rattle.sp_base.specs.Paths.{pieces}
-use Rattle.cover_rules.specs.Names.{is_plain, file_byte, file_name}
+use Rattle.cover_rules.specs.Names.{is_plain_name_byte, file_byte, file_name}
 use Rattle.cover_rules.specs.Pages.{is_file}
-use Rattle.docroot_format.specs.Names.{are_bytes, body_name, folder_name, head_name, stat_name, epoch_name, is_name_byte}
+use Rattle.docroot_format.specs.Names.{are_bytes, body_name, folder_name, head_name, stat_name, epoch_name, is_file_name_byte}
 use Rattle.docroot_format.proofs.NameLemmas.{append_both}
 use Rattle.docroot_format.proofs.Inside.{both, bytes_ok, file_first, first_byte, no_slash}
 
@@ -31,10 +31,10 @@ first xs = get_or xs 0 0
 head_of_two : (x y : ℕ) (xs ys : List ℕ) → x ∷ xs ≡ y ∷ ys → (x ≡ y) × (xs ≡ ys)
 head_of_two x y xs ys e = (cc, cc)
 
-never_percent : (b : ℕ) → is_plain b ≡ true → b ≡ 37 → ⊥
-never_percent b plain e = true≢false (sym plain ∙ ap is_plain e)
+never_percent : (b : ℕ) → is_plain_name_byte b ≡ true → b ≡ 37 → ⊥
+never_percent b plain e = true≢false (sym plain ∙ ap is_plain_name_byte e)
 
-same_byte : (b c : ℕ) (xs ys : List ℕ) (p q : Bool) → is_plain b ≡ p → is_plain c ≡ q → b < 256 → c < 256
+same_byte : (b c : ℕ) (xs ys : List ℕ) (p q : Bool) → is_plain_name_byte b ≡ p → is_plain_name_byte c ≡ q → b < 256 → c < 256
     → written p b ++ xs ≡ written q c ++ ys → (b ≡ c) × (xs ≡ ys)
 same_byte b c xs ys true true pb pc small_b small_c e = head_of_two b c xs ys e
 same_byte b c xs ys true false pb pc small_b small_c e = absurd (never_percent b pb (head_of_two b 37 xs _ e).0)
@@ -52,15 +52,15 @@ some_written b false xs e = absurd cc
 same_name : (s t : List ℕ) → are_bytes s → are_bytes t → file_name s ≡ file_name t → s ≡ t
 unfolding file_name
 same_name [] [] small_s small_t e = refl
-same_name [] (c ∷ t) small_s small_t e = absurd (some_written c (is_plain c) (file_name t) (sym e))
-same_name (b ∷ s) [] small_s small_t e = absurd (some_written b (is_plain b) (file_name s) e)
+same_name [] (c ∷ t) small_s small_t e = absurd (some_written c (is_plain_name_byte c) (file_name t) (sym e))
+same_name (b ∷ s) [] small_s small_t e = absurd (some_written b (is_plain_name_byte b) (file_name s) e)
 same_name (b ∷ s) (c ∷ t) small_s small_t e =
-    let one = same_byte b c (file_name s) (file_name t) (is_plain b) (is_plain c) refl refl small_s.0 small_t.0 e in
+    let one = same_byte b c (file_name s) (file_name t) (is_plain_name_byte b) (is_plain_name_byte c) refl refl small_s.0 small_t.0 e in
     ap (λ x. x ∷ s) one.0 ∙ ap (λ r. c ∷ r) (same_name s t small_s.1 small_t.1 one.1)
 
 -- ---- a name's pieces are its segments' names
 
-pub pieces_body : (folder : List (List ℕ)) (last : List ℕ) → list_all is_name_byte last ≡ true → pieces (folder_name folder ++ last) ≡ map file_name folder ++ last ∷ []
+pub pieces_body : (folder : List (List ℕ)) (last : List ℕ) → list_all is_file_name_byte last ≡ true → pieces (folder_name folder ++ last) ≡ map file_name folder ++ last ∷ []
 pieces_body [] last ok = slice_split_none (λ b. nat_eq b 47) last (no_slash last ok)
 pieces_body (seg ∷ folder) last ok =
     ap pieces (sym (append_both (file_name seg ++ 47 ∷ []) (folder_name folder) last) ∙ sym (append_both (file_name seg) (47 ∷ []) (folder_name folder ++ last)))
@@ -83,7 +83,7 @@ same_pieces (s ∷ a) (t ∷ b) x y small_a small_b e =
     let rest = same_pieces a b x y small_a.1 small_b.1 one.1 in
     (ap (λ seg. seg ∷ a) (same_name s t small_a.0 small_b.0 one.0) ∙ ap (λ segs. t ∷ segs) rest.0, rest.1)
 
-same_place : (a b : List (List ℕ)) (x y : List ℕ) → AllByRecursion are_bytes a → AllByRecursion are_bytes b → list_all is_name_byte x ≡ true → list_all is_name_byte y ≡ true
+same_place : (a b : List (List ℕ)) (x y : List ℕ) → AllByRecursion are_bytes a → AllByRecursion are_bytes b → list_all is_file_name_byte x ≡ true → list_all is_file_name_byte y ≡ true
     → folder_name a ++ x ≡ folder_name b ++ y → (a ≡ b) × (x ≡ y)
 same_place a b x y small_a small_b ok_x ok_y e = same_pieces a b x y small_a small_b (sym (pieces_body a x ok_x) ∙ ap pieces e ∙ pieces_body b y ok_y)
 
@@ -105,7 +105,7 @@ low_glyph : (d : ℕ) → d < 16 → digit_glyph true d ≡ 37 → ⊥
 low_glyph d small e = grind (arith, nat_tests)
 
 -- a byte taken off the front leaves the end
-peel : (mark b : ℕ) (p : Bool) (xs t : List ℕ) → is_plain b ≡ p → written p b ++ xs ≡ t ++ 37 ∷ mark ∷ [] → (rest : List ℕ) × (xs ≡ rest ++ 37 ∷ mark ∷ [])
+peel : (mark b : ℕ) (p : Bool) (xs t : List ℕ) → is_plain_name_byte b ≡ p → written p b ++ xs ≡ t ++ 37 ∷ mark ∷ [] → (rest : List ℕ) × (xs ≡ rest ++ 37 ∷ mark ∷ [])
 peel mark b true xs [] plain e = absurd (never_percent b plain (head_of_two b 37 xs (mark ∷ []) e).0)
 peel mark b true xs (c ∷ t) plain e = (t, (head_of_two b c xs (t ++ 37 ∷ mark ∷ []) e).1)
 peel mark b false xs [] plain e = absurd cc
@@ -120,7 +120,7 @@ unfolding file_name
 no_ending mark [] [] e = absurd cc
 no_ending mark [] (x ∷ t) e = absurd cc
 no_ending mark (b ∷ s) t e =
-    let p = peel mark b (is_plain b) (file_name s) t refl e in
+    let p = peel mark b (is_plain_name_byte b) (file_name s) t refl e in
     no_ending mark s p.0 p.1
 
 -- a segment's name, and a folder's, taken off the front leave the end
@@ -128,7 +128,7 @@ pub after_segment : (mark : ℕ) (s xs t : List ℕ) → file_name s ++ xs ≡ t
 unfolding file_name
 after_segment mark [] xs t e = (t, e)
 after_segment mark (b ∷ s) xs t e =
-    let p = peel mark b (is_plain b) (file_name s ++ xs) t refl (append_both (file_byte b) (file_name s) xs ∙ e) in
+    let p = peel mark b (is_plain_name_byte b) (file_name s ++ xs) t refl (append_both (file_byte b) (file_name s) xs ∙ e) in
     after_segment mark s xs p.0 p.1
 
 after_slash : (mark : ℕ) (xs t : List ℕ) → 47 ∷ xs ≡ t ++ 37 ∷ mark ∷ [] → (rest : List ℕ) × (xs ≡ rest ++ 37 ∷ mark ∷ [])
@@ -145,8 +145,8 @@ after_folder mark (seg ∷ folder) xs t e =
     let slash = after_slash mark (folder_name folder ++ xs) name.0 name.1 in
     after_folder mark folder xs slash.0 slash.1
 
-pub head_bytes : (x : List ℕ) → list_all is_name_byte (file_name x ++ codes "%h") ≡ true
-head_bytes x = list_all-append is_name_byte (file_name x) (codes "%h") ∙ both _ _ (bytes_ok x) refl
+pub head_bytes : (x : List ℕ) → list_all is_file_name_byte (file_name x ++ codes "%h") ≡ true
+head_bytes x = list_all-append is_file_name_byte (file_name x) (codes "%h") ∙ both _ _ (bytes_ok x) refl
 
 pub head_not_body : (a b : List (List ℕ)) (x y : List ℕ) → AllByRecursion are_bytes a → AllByRecursion are_bytes b → head_name a x ≢ body_name b y
 head_not_body a b x y small_a small_b e =
@@ -158,15 +158,15 @@ pub no_dot : (y more rest : List ℕ) → is_file y ≡ true → file_name y ++ 
 unfolding file_name
 no_dot [] more rest file e = true≢false (sym file)
 no_dot (c ∷ y) more rest file e =
-    let dot : c ≡ 46 = (first_byte c (is_plain c) (file_name y ++ more) rest (append_both (file_byte c) (file_name y) more ∙ e)).0 in
+    let dot : c ≡ 46 = (first_byte c (is_plain_name_byte c) (file_name y ++ more) rest (append_both (file_byte c) (file_name y) more ∙ e)).0 in
     true≢false (sym (ap (λ b. nat_eq b 46) dot) ∙ file_first (c ∷ y) file)
 
-pub dot_not_body : (a b : List (List ℕ)) (rest y : List ℕ) → AllByRecursion are_bytes a → AllByRecursion are_bytes b → list_all is_name_byte (46 ∷ rest) ≡ true → is_file y ≡ true
+pub dot_not_body : (a b : List (List ℕ)) (rest y : List ℕ) → AllByRecursion are_bytes a → AllByRecursion are_bytes b → list_all is_file_name_byte (46 ∷ rest) ≡ true → is_file y ≡ true
     → folder_name a ++ 46 ∷ rest ≢ body_name b y
 dot_not_body a b rest y small_a small_b ok file e =
     no_dot y [] rest file (append-nil (file_name y) ∙ sym (same_place a b (46 ∷ rest) (file_name y) small_a small_b ok (bytes_ok y) e).1)
 
-pub dot_not_head : (a b : List (List ℕ)) (rest y : List ℕ) → AllByRecursion are_bytes a → AllByRecursion are_bytes b → list_all is_name_byte (46 ∷ rest) ≡ true → is_file y ≡ true
+pub dot_not_head : (a b : List (List ℕ)) (rest y : List ℕ) → AllByRecursion are_bytes a → AllByRecursion are_bytes b → list_all is_file_name_byte (46 ∷ rest) ≡ true → is_file y ≡ true
     → folder_name a ++ 46 ∷ rest ≢ head_name b y
 dot_not_head a b rest y small_a small_b ok file e =
     no_dot y (codes "%h") rest file (sym (same_place a b (46 ∷ rest) (file_name y ++ codes "%h") small_a small_b ok (head_bytes y)

@@ -11,7 +11,7 @@ use Rattle.sp_base.specs.Paths.{is_dots, is_empty, is_path, pieces}
 use Rattle.cover_rules.specs.declared.page.PageKey.{PageKey}
 use Rattle.cover_rules.specs.Names.{file_name}
 use Rattle.cover_rules.specs.Pages.{last_segment, page_key_of}
-use Rattle.docroot_format.specs.Names.{beside_ending, body_name, epoch_name, folder_name, has_segments, head_name, is_inside, is_name_byte, is_page_file, is_segment, is_stat_file, stat_name}
+use Rattle.docroot_format.specs.Names.{beside_ending, body_name, epoch_name, folder_name, has_segments, head_name, is_inside, is_file_name_byte, is_page_file, is_segment, is_stat_file, stat_name}
 use Rattle.docroot_format.proofs.NameLemmas.{append_both}
 use Rattle.docroot_format.proofs.Inside.{body_inside, both, bytes_ok, first_of, head_inside, key_file, not_true, second_of, stat_inside}
 use Rattle.docroot_format.proofs.Apart.{after_folder, after_segment, head_bytes, no_dot, no_ending, pieces_body}
@@ -25,7 +25,7 @@ last_of xs x =
     ∙ ap (λ n. get_or (xs ++ x ∷ []) n []) place
     ∙ get_or-append_seam xs x [] []
 
-last_piece : (folder : List (List ℕ)) (last : List ℕ) → list_all is_name_byte last ≡ true → last_segment (pieces (folder_name folder ++ last)) ≡ last
+last_piece : (folder : List (List ℕ)) (last : List ℕ) → list_all is_file_name_byte last ≡ true → last_segment (pieces (folder_name folder ++ last)) ≡ last
 last_piece folder last ok = ap last_segment (pieces_body folder last ok) ∙ last_of (map file_name folder) last
 
 piece_ok : (a b c : Bool) → a && (b && c) ≡ true → a && b ≡ true
@@ -36,7 +36,7 @@ are_segments : (xs : List (List ℕ)) → list_all is_segment xs ≡ true → li
 are_segments [] ok = refl
 are_segments (x ∷ xs) ok =
     both (not (is_empty x) && not (is_dots x)) (list_all (λ piece. not (is_empty piece) && not (is_dots piece)) xs)
-    (piece_ok (not (is_empty x)) (not (is_dots x)) (list_all is_name_byte x) (first_of (is_segment x) (list_all is_segment xs) ok))
+    (piece_ok (not (is_empty x)) (not (is_dots x)) (list_all is_file_name_byte x) (first_of (is_segment x) (list_all is_segment xs) ok))
     (are_segments xs (second_of (is_segment x) (list_all is_segment xs) ok))
 
 inside_segments : (name : List ℕ) → is_inside name ≡ true → has_segments name ≡ true
@@ -51,7 +51,7 @@ undotted : (xs : List ℕ) → ((rest : List ℕ) → xs ≡ 46 ∷ rest → ⊥
 undotted [] none = refl
 undotted (b ∷ xs) none = ap not (not_true (nat_eq b 46) (λ e. none xs (ap (λ c. c ∷ xs) (dot b e))))
 
-page_file : (folder : List (List ℕ)) (last : List ℕ) → list_all is_name_byte last ≡ true → ((rest : List ℕ) → last ≡ 46 ∷ rest → ⊥)
+page_file : (folder : List (List ℕ)) (last : List ℕ) → list_all is_file_name_byte last ≡ true → ((rest : List ℕ) → last ≡ 46 ∷ rest → ⊥)
     → is_inside (folder_name folder ++ last) ≡ true → is_page_file (folder_name folder ++ last) ≡ true
 page_file folder last ok none inside =
     both _ _ (inside_segments (folder_name folder ++ last) inside)

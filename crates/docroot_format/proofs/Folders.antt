@@ -6,7 +6,7 @@ use Rattle.std.specs.List.{list_all, prefix_len, take_while}
 use Rattle.sp_base.specs.Paths.{mangled, mangled_seg, parent_of}
 use Rattle.cover_rules.specs.declared.invalidation.Invalidation.{Invalidation}
 use Rattle.cover_rules.specs.declared.page.PageKey.{PageKey}
-use Rattle.cover_rules.specs.Names.{has_name}
+use Rattle.cover_rules.specs.Names.{has_file_name}
 use Rattle.cover_rules.specs.Pages.{is_page, key_at, last_segment, page_key_of}
 use Rattle.cover_rules.specs.Coverage.{handle_of, lineage, stat_depth_of, stat_folder, touched_of}
 use Rattle.docroot_format.specs.Names.{IsFolder, have_names}
@@ -16,7 +16,7 @@ taken : (segs : List (List ℕ)) (n : ℕ) → mangled segs ≡ segs → mangled
 taken segs n e = sym (take-map mangled_seg n segs) ∙ ap (take n) e
 
 folder_taken : (folder : List (List ℕ)) (n : ℕ) → IsFolder folder → IsFolder (take n folder)
-folder_taken folder n f = (taken folder n f.0, all_taken has_name folder n f.1)
+folder_taken folder n f = (taken folder n f.0, all_taken has_file_name folder n f.1)
 
 key_is : (segs : List (List ℕ)) (key : PageKey) (test : Bool) → cond test (Some (record { folder = parent_of segs; file = last_segment segs })) None ≡ Some key
     → (key.folder ≡ parent_of segs) × (key.file ≡ last_segment segs)
@@ -65,11 +65,11 @@ lineage_at (seg ∷ path) zero d h = refl
 lineage_at (seg ∷ path) (suc n) d h =
     get_map seg (lineage path) n d d (omega (arith, length-lineage path)) ∙ ap (λ p. seg ∷ p) (lineage_at path n d (omega arith))
 
-named : (segs : List (List ℕ)) → list_all has_name (take_while has_name segs) ≡ true
+named : (segs : List (List ℕ)) → list_all has_file_name (take_while has_file_name segs) ≡ true
 named [] = refl
-named (seg ∷ segs) = elim (has_name seg) as (λ t. has_name seg ≡ t → list_all has_name (take (cond t (1 + prefix_len has_name segs) 0) (seg ∷ segs)) ≡ true) [
-  | true ↦ λ e. let next : 1 + prefix_len has_name segs ≡ suc (prefix_len has_name segs) = omega arith in
-      ap (λ n. list_all has_name (take n (seg ∷ segs))) next ∙ both (has_name seg) (list_all has_name (take_while has_name segs)) e (named segs)
+named (seg ∷ segs) = elim (has_file_name seg) as (λ t. has_file_name seg ≡ t → list_all has_file_name (take (cond t (1 + prefix_len has_file_name segs) 0) (seg ∷ segs)) ≡ true) [
+  | true ↦ λ e. let next : 1 + prefix_len has_file_name segs ≡ suc (prefix_len has_file_name segs) = omega arith in
+      ap (λ n. list_all has_file_name (take n (seg ∷ segs))) next ∙ both (has_file_name seg) (list_all has_file_name (take_while has_file_name segs)) e (named segs)
   | false ↦ λ e. refl
 ] refl
 
@@ -86,6 +86,6 @@ pub touched_folder : (level : ℕ) (inv : Invalidation) (folder : List (List ℕ
 touched_folder level inv folder again has =
     let above = parent_of (handle_of inv) in
     let first = take level above in
-    let path = take_while has_name first in
-    let kept : mangled path ≡ path = taken first (prefix_len has_name first) (taken above level (taken (handle_of inv) (length (handle_of inv) - 1) again)) in
+    let path = take_while has_file_name first in
+    let kept : mangled path ≡ path = taken first (prefix_len has_file_name first) (taken above level (taken (handle_of inv) (length (handle_of inv) - 1) again)) in
     by_scope inv.only path folder (kept, named first) has

@@ -11,8 +11,8 @@ use Rattle.std.proofs.lemmas.List.{length-append}
 use Rattle.sp_base.specs.Paths.{is_empty, is_dots, is_path, mangled, parent_of, seg_ok}
 use Rattle.cover_rules.specs.declared.page.PageKey.{PageKey}
 use Rattle.cover_rules.specs.Pages.{is_file, is_page, key_at, last_segment, page_key_of}
-use Rattle.cover_rules.specs.Names.{is_plain, file_byte, file_name}
-use Rattle.docroot_format.specs.Names.{body_name, epoch_name, folder_name, head_name, stat_name, is_name_byte, is_segment, is_inside}
+use Rattle.cover_rules.specs.Names.{is_plain_name_byte, file_byte, file_name}
+use Rattle.docroot_format.specs.Names.{body_name, epoch_name, folder_name, head_name, stat_name, is_file_name_byte, is_segment, is_inside}
 use Rattle.docroot_format.proofs.NameLemmas.{append_both}
 use Rattle.docroot_format.proofs.NameSizes.{file_some}
 
@@ -27,17 +27,17 @@ second_of false b e = absurd (true≢false (sym e))
 pub both : (a b : Bool) → a ≡ true → b ≡ true → a && b ≡ true
 both a b ea eb = ap (λ x. x && b) ea ∙ eb
 
-glyph_ok : (d : ℕ) → d < 16 → is_name_byte (digit_glyph true d) ≡ true
+glyph_ok : (d : ℕ) → d < 16 → is_file_name_byte (digit_glyph true d) ≡ true
 glyph_ok d small = grind (arith, nat_tests)
 
-byte_ok : (b : ℕ) (plain : Bool) → is_plain b ≡ plain → list_all is_name_byte (cond plain (b ∷ []) (37 ∷ digit_glyph true (b / 16 % 16) ∷ digit_glyph true (b % 16) ∷ [])) ≡ true
+byte_ok : (b : ℕ) (plain : Bool) → is_plain_name_byte b ≡ plain → list_all is_file_name_byte (cond plain (b ∷ []) (37 ∷ digit_glyph true (b / 16 % 16) ∷ digit_glyph true (b % 16) ∷ [])) ≡ true
 byte_ok b true e = ap (λ p. (p || nat_eq b 37) && true) e
 byte_ok b false e = both _ _ (glyph_ok (b / 16 % 16) (omega arith)) (both _ _ (glyph_ok (b % 16) (omega arith)) refl)
 
-pub bytes_ok : (seg : List ℕ) → list_all is_name_byte (file_name seg) ≡ true
+pub bytes_ok : (seg : List ℕ) → list_all is_file_name_byte (file_name seg) ≡ true
 unfolding file_name
 bytes_ok [] = refl
-bytes_ok (b ∷ seg) = list_all-append is_name_byte (file_byte b) (flat_map file_byte seg) ∙ both _ _ (byte_ok b (is_plain b) refl) (bytes_ok seg)
+bytes_ok (b ∷ seg) = list_all-append is_file_name_byte (file_byte b) (flat_map file_byte seg) ∙ both _ _ (byte_ok b (is_plain_name_byte b) refl) (bytes_ok seg)
 
 pub not_true : (b : Bool) → (b ≡ true → ⊥) → b ≡ false
 not_true true none = absurd (none refl)
@@ -65,14 +65,14 @@ one_dot : (seg : List ℕ) → file_name seg ≡ 46 ∷ [] → seg ≡ 46 ∷ []
 unfolding file_name
 one_dot [] e = absurd cc
 one_dot (b ∷ seg) e =
-    let f = first_byte b (is_plain b) (file_name seg) [] e in
+    let f = first_byte b (is_plain_name_byte b) (file_name seg) [] e in
     ap (λ x. x ∷ seg) f.0 ∙ ap (λ s. 46 ∷ s) (empty_name seg f.1)
 
 two_dots : (seg : List ℕ) → file_name seg ≡ 46 ∷ 46 ∷ [] → seg ≡ 46 ∷ 46 ∷ []
 unfolding file_name
 two_dots [] e = absurd cc
 two_dots (b ∷ seg) e =
-    let f = first_byte b (is_plain b) (file_name seg) (46 ∷ []) e in
+    let f = first_byte b (is_plain_name_byte b) (file_name seg) (46 ∷ []) e in
     ap (λ x. x ∷ seg) f.0 ∙ ap (λ s. 46 ∷ s) (one_dot seg f.1)
 
 no_dots : (xs : List ℕ) → (xs ≡ codes "." → ⊥) → (xs ≡ codes ".." → ⊥) → is_dots xs ≡ false
@@ -105,15 +105,15 @@ segment_name seg some none =
     both _ _ (some_not_empty (file_name seg) (file_some seg (not_empty_some seg some)))
     (both _ _ (ap not (name_no_dots seg none)) (bytes_ok seg))
 
-not_slash : (b : ℕ) → is_name_byte b ≡ true → nat_eq b 47 ≡ false
+not_slash : (b : ℕ) → is_file_name_byte b ≡ true → nat_eq b 47 ≡ false
 not_slash b e = grind (arith, nat_tests)
 
-pub no_slash : (xs : List ℕ) → list_all is_name_byte xs ≡ true → All (λ b. nat_eq b 47 ≡ false) xs
+pub no_slash : (xs : List ℕ) → list_all is_file_name_byte xs ≡ true → All (λ b. nat_eq b 47 ≡ false) xs
 no_slash [] e k d lt = absurd (omega (arith, lt))
 no_slash (x ∷ xs) e zero d lt = not_slash x (first_of _ _ e)
 no_slash (x ∷ xs) e (suc k) d lt = no_slash xs (second_of _ _ e) k d (omega (arith, lt))
 
-segment_bytes : (piece : List ℕ) → is_segment piece ≡ true → list_all is_name_byte piece ≡ true
+segment_bytes : (piece : List ℕ) → is_segment piece ≡ true → list_all is_file_name_byte piece ≡ true
 segment_bytes piece ok = second_of _ _ (second_of _ _ ok)
 
 inside_piece : (piece rest : List ℕ) → is_segment piece ≡ true → is_inside rest ≡ true → is_inside (piece ++ 47 ∷ rest) ≡ true
@@ -176,7 +176,7 @@ head_segment file e =
     let long : length (file_name file ++ codes "%h") ≡ length (file_name file) + 2 = length-append (file_name file) (codes "%h") in
     both _ _ (some_not_empty (file_name file ++ codes "%h") (omega (arith, long)))
     (both _ _ (ap not (long_no_dots (file_name file ++ codes "%h") (omega (arith, long, some))))
-    (list_all-append is_name_byte (file_name file) (codes "%h") ∙ both _ _ (bytes_ok file) refl))
+    (list_all-append is_file_name_byte (file_name file) (codes "%h") ∙ both _ _ (bytes_ok file) refl))
 
 pub head_inside : (path : List (List ℕ)) (key : PageKey) → IsTrue (is_path key.folder) → page_key_of path ≡ Some key → IsTrue (is_inside (head_name key.folder key.file))
 head_inside path key folder e =

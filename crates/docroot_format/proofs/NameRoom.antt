@@ -3,7 +3,7 @@ use Rattle.std.proofs.Common.{◌≡◌, ◌<◌, ◌≤◌, ◌+◌, ◌*◌, �
 use Rattle.std.proofs.lemmas.List.{length-append}
 use Rattle.sp_base.specs.Paths.{is_path}
 use Rattle.sp_outside.specs.Files.{IsName}
-use Rattle.cover_rules.specs.Names.{file_byte, file_name, has_name}
+use Rattle.cover_rules.specs.Names.{file_byte, file_name, has_file_name}
 use Rattle.docroot_format.specs.Names.{folder_name, have_names}
 use Rattle.docroot_format.proofs.NameSizes.{first_true, second_true, within}
 
@@ -18,12 +18,12 @@ pub segment_room : (n : ℕ) (segs : List (List ℕ)) (d : List ℕ) → n < len
     → length (flat_map (λ seg. file_name seg ++ 47 ∷ []) (take n segs)) + length (file_name (get_or segs n d)) < 201 * length segs
 segment_room n [] d lt e = absurd (omega (arith, lt))
 segment_room zero (seg ∷ segs) d lt e =
-    let short : length (file_name seg) ≤ 200 = within (length (file_name seg)) 200 (first_true (has_name seg) (have_names segs) e) in
+    let short : length (file_name seg) ≤ 200 = within (length (file_name seg)) 200 (first_true (has_file_name seg) (have_names segs) e) in
     omega (arith, short)
 segment_room (suc n) (seg ∷ segs) d lt e =
-    let short : length (file_name seg) ≤ 200 = within (length (file_name seg)) 200 (first_true (has_name seg) (have_names segs) e) in
+    let short : length (file_name seg) ≤ 200 = within (length (file_name seg)) 200 (first_true (has_file_name seg) (have_names segs) e) in
     let rest : length (folder_name (take n segs)) + length (file_name (get_or segs n d)) < 201 * length segs
-    = segment_room n segs d (omega (arith, lt)) (second_true (has_name seg) (have_names segs) e) in
+    = segment_room n segs d (omega (arith, lt)) (second_true (has_file_name seg) (have_names segs) e) in
     omega (arith, short, rest, length-append (file_name seg ++ 47 ∷ []) (folder_name (take n segs)), length-append (file_name seg) (47 ∷ []))
 
 -- a name that grew by the first bytes of a segment has room for the next
@@ -38,8 +38,8 @@ prefix_len zero [] e = omega arith
 prefix_len (suc n) [] e = omega arith
 prefix_len zero (seg ∷ segs) e = omega arith
 prefix_len (suc n) (seg ∷ segs) e =
-    let short : length (file_name seg) ≤ 200 = within (length (file_name seg)) 200 (first_true (has_name seg) (have_names segs) e) in
-    let rest : length (folder_name (take n segs)) ≤ 201 * length segs = prefix_len n segs (second_true (has_name seg) (have_names segs) e) in
+    let short : length (file_name seg) ≤ 200 = within (length (file_name seg)) 200 (first_true (has_file_name seg) (have_names segs) e) in
+    let rest : length (folder_name (take n segs)) ≤ 201 * length segs = prefix_len n segs (second_true (has_file_name seg) (have_names segs) e) in
     omega (arith, short, rest, length-append (file_name seg ++ 47 ∷ []) (folder_name (take n segs)), length-append (file_name seg) (47 ∷ []))
 
 -- after the first segments of a folder there is room for the last word

@@ -4,7 +4,7 @@ use Rattle.std.proofs.lemmas.Bool.{true≢false}
 use Rattle.std.proofs.lemmas.Bool.Decides.{nat_tests}
 use Rattle.std.proofs.lemmas.List.{length-append}
 use Rattle.sp_outside.specs.Files.{IsName}
-use Rattle.cover_rules.specs.Names.{file_byte, file_name, has_name}
+use Rattle.cover_rules.specs.Names.{file_byte, file_name, has_file_name}
 use Rattle.docroot_format.specs.Names.{folder_name, body_name, head_name, stat_name, have_names, is_place}
 
 pub first_true : (a b : Bool) → a && b ≡ true → a ≡ true
@@ -24,8 +24,8 @@ below n m e = grind (arith, nat_tests)
 pub folder_len : (segs : List (List ℕ)) → have_names segs ≡ true → length (folder_name segs) ≤ 201 * length segs
 folder_len [] e = omega arith
 folder_len (seg ∷ segs) e =
-    let short : length (file_name seg) ≤ 200 = within (length (file_name seg)) 200 (first_true (has_name seg) (have_names segs) e) in
-    let rest : length (folder_name segs) ≤ 201 * length segs = folder_len segs (second_true (has_name seg) (have_names segs) e) in
+    let short : length (file_name seg) ≤ 200 = within (length (file_name seg)) 200 (first_true (has_file_name seg) (have_names segs) e) in
+    let rest : length (folder_name segs) ≤ 201 * length segs = folder_len segs (second_true (has_file_name seg) (have_names segs) e) in
     omega (arith, short, rest, length-append (file_name seg ++ 47 ∷ []) (folder_name segs), length-append (file_name seg) (47 ∷ []))
 
 byte_some : (b : ℕ) → 0 < length (file_byte b)
@@ -44,28 +44,9 @@ record IsShort (folder : List (List ℕ)) (file : List ℕ) : Type 0 where
 
 short : (folder : List (List ℕ)) (file : List ℕ) → is_place folder file ≡ true → IsShort folder file
 short folder file e =
-    let rest : has_name file && nat_lt 0 (length file) ≡ true = second_true (have_names folder) (has_name file && nat_lt 0 (length file)) e in
+    let rest : has_file_name file && nat_lt 0 (length file) ≡ true = second_true (have_names folder) (has_file_name file && nat_lt 0 (length file)) e in
     record {
-      folder_short = folder_len folder (first_true (have_names folder) (has_name file && nat_lt 0 (length file)) e);
-      file_short = within (length (file_name file)) 200 (first_true (has_name file) (nat_lt 0 (length file)) rest);
-      some = file_some file (below 0 (length file) (second_true (has_name file) (nat_lt 0 (length file)) rest));
+      folder_short = folder_len folder (first_true (have_names folder) (has_file_name file && nat_lt 0 (length file)) e);
+      file_short = within (length (file_name file)) 200 (first_true (has_file_name file) (nat_lt 0 (length file)) rest);
+      some = file_some file (below 0 (length file) (second_true (has_file_name file) (nat_lt 0 (length file)) rest));
     }
-
-pub body_fits : (folder : List (List ℕ)) (file : List ℕ) → length folder ≤ 64 → IsTrue (is_place folder file) → IsName (body_name folder file)
-body_fits folder file deep e =
-    let s = short folder file e in
-    let long : length (body_name folder file) ≡ length (folder_name folder) + length (file_name file) = length-append (folder_name folder) (file_name file) in
-    (omega (arith, s.some, long), omega (arith, deep, long, s.folder_short, s.file_short))
-
-pub head_fits : (folder : List (List ℕ)) (file : List ℕ) → length folder ≤ 64 → IsTrue (is_place folder file) → IsName (head_name folder file)
-head_fits folder file deep e =
-    let s = short folder file e in
-    let long : length (body_name folder file) ≡ length (folder_name folder) + length (file_name file) = length-append (folder_name folder) (file_name file) in
-    let more : length (head_name folder file) ≡ length (body_name folder file) + 2 = length-append (body_name folder file) (codes "%h") in
-    (omega (arith, more), omega (arith, deep, long, more, s.folder_short, s.file_short))
-
-pub stat_fits : (folder : List (List ℕ)) → length folder ≤ 64 → IsTrue (have_names folder) → IsName (stat_name folder)
-stat_fits folder deep e =
-    let more : length (stat_name folder) ≡ length (folder_name folder) + 5 = length-append (folder_name folder) (codes ".stat") in
-    let few = folder_len folder e in
-    (omega (arith, more), omega (arith, deep, more, few))

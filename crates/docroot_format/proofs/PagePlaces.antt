@@ -7,7 +7,7 @@ use Rattle.std.proofs.lemmas.Bool.Decides.{nat_tests}
 use Rattle.std.proofs.lemmas.Option.{unwrap_or-slice_get}
 use Rattle.sp_base.specs.Paths.{mangled, parent_of}
 use Rattle.cover_rules.specs.declared.page.PageKey.{PageKey}
-use Rattle.cover_rules.specs.Names.{has_name}
+use Rattle.cover_rules.specs.Names.{has_file_name}
 use Rattle.cover_rules.specs.Pages.{has_dot, is_file, is_page, key_at, last_segment, page_key_of}
 use Rattle.docroot_format.specs.Names.{have_names, is_place}
 
@@ -46,10 +46,10 @@ place_of_page : (segs : List (List ℕ)) → is_page segs ≡ true → is_place 
 place_of_page segs e =
     let file = first_of (is_file (last_segment segs)) _ e in
     let dot = first_of (has_dot (last_segment segs)) _ file in
-    let all : list_all has_name segs ≡ true = second_of (list_all (λ seg. not (has_dot seg)) (parent_of segs)) (list_all has_name segs) (second_of (is_file (last_segment segs)) _ e) in
-    let last : has_name (last_segment segs) ≡ true =
-    ap has_name (unwrap_or-slice_get segs (length segs - 1) []) ∙ at_place has_name segs (length segs - 1) (some_segments segs dot) all in
-    both (have_names (parent_of segs)) _ (all_taken has_name segs (length segs - 1) all) (both (has_name (last_segment segs)) _ last (some_bytes (last_segment segs) dot))
+    let all : list_all has_file_name segs ≡ true = second_of (list_all (λ seg. not (has_dot seg)) (parent_of segs)) (list_all has_file_name segs) (second_of (is_file (last_segment segs)) _ e) in
+    let last : has_file_name (last_segment segs) ≡ true =
+    ap has_file_name (unwrap_or-slice_get segs (length segs - 1) []) ∙ at_place has_file_name segs (length segs - 1) (some_segments segs dot) all in
+    both (have_names (parent_of segs)) _ (all_taken has_file_name segs (length segs - 1) all) (both (has_file_name (last_segment segs)) _ last (some_bytes (last_segment segs) dot))
 
 abbrev place_in : Option PageKey → Bool
 place_in None = true

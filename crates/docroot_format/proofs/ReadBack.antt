@@ -4,11 +4,11 @@ use Rattle.std.specs.Fmt.{decimal}
 use Rattle.std.proofs.lemmas.Bool.Decides.{nat_tests}
 use Rattle.std.proofs.lemmas.Fmt.{decimal_by_steps, decimal_digit}
 use Rattle.std.proofs.lemmas.List.{length-append, take_at, drop_at}
-use Rattle.docroot_format.specs.Readings.{is_digit, digit_fits, digits_from, begins_number, number_of, after_word, is_end, stamp_of, stat_of, epoch_of, is_kind, kind_of, HeadLine, body_of, head_of, greatest}
+use Rattle.docroot_format.specs.Readings.{is_digit, digit_fits, digits_from, begins_number, number_in_front, after_word, is_end, stamp_of, stat_of, epoch_of, is_kind, stored_kind, HeadLine, body_of, head_of, greatest_number}
 use Rattle.docroot_format.specs.Texts.{head_text, stat_text, epoch_text}
 use Rattle.docroot_format.proofs.NameLemmas.{append_both}
 
-fits : (m k n : ℕ) → k < 10 → n ≡ m * 10 + k → n < 2 ^ 64 → is_digit (48 + k) && nat_le (m * 10 + (48 + k - 48)) greatest ≡ true
+fits : (m k n : ℕ) → k < 10 → n ≡ m * 10 + k → n < 2 ^ 64 → is_digit (48 + k) && nat_le (m * 10 + (48 + k - 48)) greatest_number ≡ true
 fits m k n small is short = grind (arith, nat_tests)
 
 -- a digit more
@@ -71,8 +71,8 @@ begins zero t short none =
     ∙ ap (λ b. is_digit 48 && not (nat_eq 48 48 && b)) none
 begins (suc n) t short none = begins_from (decimal (suc n)) t (decimal_by_steps HasFirst one_first more_first (suc n) short (omega arith))
 
-pub number_read : (n : ℕ) (t : List ℕ) → n < 2 ^ 64 → is_digit (slice_index t 0) ≡ false → number_of (decimal n ++ t) ≡ Some (n, t)
-unfolding number_of
+pub number_read : (n : ℕ) (t : List ℕ) → n < 2 ^ 64 → is_digit (slice_index t 0) ≡ false → number_in_front (decimal n ++ t) ≡ Some (n, t)
+unfolding number_in_front
 number_read n t short none =
     ap (λ b. cond b (Some (digits_from 0 (decimal n ++ t))) None) (begins n t short none)
     ∙ ap Some (digits_read n t short ∙ ends n t none)
@@ -84,7 +84,7 @@ stamp_read : (e c : ℕ) (t : List ℕ) → e < 2 ^ 64 → c < 2 ^ 64 → is_dig
     → stamp_of (decimal e ++ (codes " " ++ (decimal c ++ t))) ≡ Some ((e, c), t)
 unfolding stamp_of after_word
 stamp_read e c t short_e short_c none =
-    ap (option_and_then (λ p. option_and_then (λ rest. option_map (pair p.0) (number_of rest)) (after_word (codes " ") p.1)))
+    ap (option_and_then (λ p. option_and_then (λ rest. option_map (pair p.0) (number_in_front rest)) (after_word (codes " ") p.1)))
     (number_read e (codes " " ++ (decimal c ++ t)) short_e refl)
     ∙ ap (option_map (pair e)) (number_read c t short_c none)
 
@@ -105,8 +105,8 @@ pub epoch_read : (e : ℕ) → 0 < e → e < 2 ^ 64 → epoch_of (epoch_text e) 
 unfolding epoch_of after_word
 epoch_read e some short = rw (number_read e (codes "\n") short refl, above_zero e some) refl
 
-kind_read : (kind : List ℕ) → is_kind kind ≡ true → kind_of (kind ++ codes "\n") ≡ Some kind
-unfolding kind_of
+kind_read : (kind : List ℕ) → is_kind kind ≡ true → stored_kind (kind ++ codes "\n") ≡ Some kind
+unfolding stored_kind
 kind_read kind good =
     let len : length (kind ++ codes "\n") - 1 ≡ length kind = omega (arith, length-append kind (codes "\n")) in
     rw (len, take_at kind (codes "\n") (length kind) refl, drop_at kind (codes "\n") (length kind) refl, good) refl
@@ -118,7 +118,7 @@ body_read : (stamp : ℕ × ℕ) (n : ℕ) (kind : List ℕ) → n < 2 ^ 64 → 
     → body_of stamp (codes " " ++ (decimal n ++ (codes " " ++ (kind ++ codes "\n")))) ≡ Some (record { epoch = stamp.0; count = stamp.1; size = n; kind = kind })
 unfolding body_of after_word
 body_read stamp n kind short good =
-    ap (option_and_then (λ p. option_map (line stamp p.0) (option_and_then kind_of (after_word (codes " ") p.1))))
+    ap (option_and_then (λ p. option_map (line stamp p.0) (option_and_then stored_kind (after_word (codes " ") p.1))))
     (number_read n (codes " " ++ (kind ++ codes "\n")) short refl)
     ∙ ap (option_map (line stamp n)) (kind_read kind good)
 

@@ -7,7 +7,7 @@ use Rattle.std.proofs.lemmas.Bool.{cases_Bool, true≢false}
 use Rattle.std.proofs.lemmas.Bool.Decides.{nat_tests}
 use Rattle.std.proofs.lemmas.Fmt.{decimal_digit, decimal_step}
 use Rattle.std.proofs.lemmas.List.{take-append-drop}
-use Rattle.docroot_format.specs.Readings.{is_digit, digit_fits, digits_from, begins_number, number_of, after_word, is_end, stamp_of, stat_of, epoch_of, is_kind, kind_of, HeadLine, body_of, head_of, greatest}
+use Rattle.docroot_format.specs.Readings.{is_digit, digit_fits, digits_from, begins_number, number_in_front, after_word, is_end, stamp_of, stat_of, epoch_of, is_kind, stored_kind, HeadLine, body_of, head_of, greatest_number}
 use Rattle.docroot_format.specs.Texts.{head_text, stat_text, epoch_text}
 use Rattle.docroot_format.proofs.NameLemmas.{append_both}
 use Rattle.docroot_format.proofs.ReadBack.{digit, ends}
@@ -26,7 +26,7 @@ digits_spelled : (t : List ℕ) (m : ℕ) → 1 ≤ m → decimal m ++ t ≡ dec
 unfolding digit_fits digits_from
 digits_spelled [] m some = refl
 digits_spelled (b ∷ t) m some = ⊎_elim
-    (λ (e : is_digit b && nat_le (m * 10 + (b - 48)) greatest ≡ true).
+    (λ (e : is_digit b && nat_le (m * 10 + (b - 48)) greatest_number ≡ true).
     let small : b - 48 < 10 = grind (arith, nat_tests) in
     let is : 48 + (b - 48) ≡ b = grind (arith, nat_tests) in
     let short : m * 10 + (b - 48) < 2 ^ 64 = grind (arith, nat_tests) in
@@ -34,8 +34,8 @@ digits_spelled (b ∷ t) m some = ⊎_elim
     ∙ ap (λ x. (decimal m ++ x ∷ []) ++ t) (sym is)
     ∙ ap (λ d. d ++ t) (sym (digit_spelled m (b - 48) some small short))
     ∙ digits_spelled t (m * 10 + (b - 48)) (omega (arith, some))))
-    (λ (e : is_digit b && nat_le (m * 10 + (b - 48)) greatest ≡ false). rw e refl)
-    (cases_Bool (is_digit b && nat_le (m * 10 + (b - 48)) greatest))
+    (λ (e : is_digit b && nat_le (m * 10 + (b - 48)) greatest_number ≡ false). rw e refl)
+    (cases_Bool (is_digit b && nat_le (m * 10 + (b - 48)) greatest_number))
 
 first_spelled : (k : ℕ) (t : List ℕ) → k < 10 → (k ≡ 0 → is_digit (slice_index t 0) ≡ false)
     → (48 + k) ∷ t ≡ decimal (digits_from 0 ((48 + k) ∷ t)).0 ++ (digits_from 0 ((48 + k) ∷ t)).1
@@ -63,8 +63,8 @@ no_digit_after true true e is = absurd (true≢false (sym e))
 no_digit_after true false e is = refl
 no_digit_after false next e is = absurd (true≢false (sym is))
 
-number_spelled : (t : List ℕ) (p : ℕ × List ℕ) → number_of t ≡ Some p → t ≡ decimal p.0 ++ p.1
-unfolding number_of
+number_spelled : (t : List ℕ) (p : ℕ × List ℕ) → number_in_front t ≡ Some p → t ≡ decimal p.0 ++ p.1
+unfolding number_in_front
 number_spelled [] p e = absurd (cc (e))
 number_spelled (b ∷ t) p e =
     let s = some_of (begins_number (b ∷ t)) (digits_from 0 (b ∷ t)) p e in
@@ -118,9 +118,9 @@ nested a b c d e = append_both a b (c ++ (d ++ e)) ∙ append_both (a ++ b) c (d
 stamp_spelled : (text : List ℕ) (s : (ℕ × ℕ) × List ℕ) → stamp_of text ≡ Some s → text ≡ decimal s.0.0 ++ (codes " " ++ (decimal s.0.1 ++ s.1))
 unfolding stamp_of
 stamp_spelled text s e =
-    let a = then_some _ (number_of text) s e in
+    let a = then_some _ (number_in_front text) s e in
     let b = then_some _ (after_word (codes " ") a.first.1) s a.next in
-    let c = map_some _ (number_of b.first) s b.next in
+    let c = map_some _ (number_in_front b.first) s b.next in
     number_spelled text a.first a.is
     ∙ ap (λ t. decimal a.first.0 ++ t) (word_spelled (codes " ") a.first.1 b.first b.is)
     ∙ ap (λ t. decimal a.first.0 ++ (codes " " ++ t)) (number_spelled b.first c.first c.is)
@@ -141,8 +141,8 @@ stat_spelled text epoch count e =
 pub epoch_spelled : (text : List ℕ) (epoch : ℕ) → epoch_of text ≡ Some epoch → text ≡ epoch_text epoch
 unfolding epoch_of
 epoch_spelled text epoch e =
-    let a = then_some _ (option_and_then number_of (after_word (codes "epoch 1 ") text)) epoch e in
-    let b = then_some number_of (after_word (codes "epoch 1 ") text) a.first a.is in
+    let a = then_some _ (option_and_then number_in_front (after_word (codes "epoch 1 ") text)) epoch e in
+    let b = then_some number_in_front (after_word (codes "epoch 1 ") text) a.first a.is in
     let s = some_of (is_end a.first.1 && nat_lt 0 a.first.0) a.first.0 epoch a.next in
     word_spelled (codes "epoch 1 ") text b.first b.is
     ∙ ap (λ t. codes "epoch 1 " ++ t) (number_spelled b.first a.first b.next)
@@ -150,8 +150,8 @@ epoch_spelled text epoch e =
     ∙ append_both (codes "epoch 1 ") (decimal a.first.0) (codes "\n")
     ∙ ap epoch_text s.1
 
-kind_spelled : (text kind : List ℕ) → kind_of text ≡ Some kind → text ≡ kind ++ codes "\n"
-unfolding kind_of
+kind_spelled : (text kind : List ℕ) → stored_kind text ≡ Some kind → text ≡ kind ++ codes "\n"
+unfolding stored_kind
 kind_spelled text kind e =
     let n = length text - 1 in
     let s = some_of (is_end (drop n text) && is_kind (take n text)) (take n text) kind e in
@@ -163,10 +163,10 @@ body_spelled : (stamp : ℕ × ℕ) (text : List ℕ) (line : HeadLine) → body
     → (text ≡ codes " " ++ (decimal line.size ++ (codes " " ++ (line.kind ++ codes "\n")))) × ((stamp.0 ≡ line.epoch) × (stamp.1 ≡ line.count))
 unfolding body_of
 body_spelled stamp text line e =
-    let a = then_some _ (option_and_then number_of (after_word (codes " ") text)) line e in
-    let b = then_some number_of (after_word (codes " ") text) a.first a.is in
-    let c = map_some _ (option_and_then kind_of (after_word (codes " ") a.first.1)) line a.next in
-    let d = then_some kind_of (after_word (codes " ") a.first.1) c.first c.is in (
+    let a = then_some _ (option_and_then number_in_front (after_word (codes " ") text)) line e in
+    let b = then_some number_in_front (after_word (codes " ") text) a.first a.is in
+    let c = map_some _ (option_and_then stored_kind (after_word (codes " ") a.first.1)) line a.next in
+    let d = then_some stored_kind (after_word (codes " ") a.first.1) c.first c.is in (
       word_spelled (codes " ") text b.first b.is
           ∙ ap (λ t. codes " " ++ t) (number_spelled b.first a.first b.next)
           ∙ ap (λ t. codes " " ++ (decimal a.first.0 ++ t)) (word_spelled (codes " ") a.first.1 d.first d.is)

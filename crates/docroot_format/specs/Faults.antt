@@ -7,9 +7,9 @@ use Rattle.sp_outside.specs.declared.disk.DiskFault.TheVariants.{Failed, NoMemor
 use Rattle.docroot_format.specs.declared.fault.FileFault.{FileFault}
 use Rattle.docroot_format.specs.declared.fault.FileFault.TheVariants.{Disk, NoMemory}
 
-abbrev pub fault_of : DiskFault → FileFault
-fault_of Failed = Disk
-fault_of no_room = NoMemory
+abbrev pub disk_file_fault : DiskFault → FileFault
+disk_file_fault Failed = Disk
+disk_file_fault no_room = NoMemory
 
 -- Disk comes only where the disk's count of faults rose, and any other answer leaves that count.
 abbrev pub HasFileCause : {T : Type 0} → ℕ → ℕ → Result T FileFault → Type 0
@@ -18,5 +18,5 @@ HasFileCause before after (Err Disk) = Rose before after
 HasFileCause before after (Err NoMemory) = after ≡ before
 
 -- One change of the files failed: it was not made, or the disk failed after it was made whole.
-abbrev pub IsLeft : Option Files → Option Files → Option Files → FileFault → Type 0
-IsLeft old wanted new fault = (new ≡ old) ⊎ ((fault ≡ Disk) × (new ≡ wanted))
+abbrev pub IsLeftByFault : Option Files → Option Files → Option Files → FileFault → Type 0
+IsLeftByFault old wanted new fault = (new ≡ old) ⊎ ((fault ≡ Disk) × (new ≡ wanted))

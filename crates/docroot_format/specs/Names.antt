@@ -4,7 +4,7 @@ use Rattle.std.specs.Cmp.Lexicographic.{pointwise}
 use Rattle.std.specs.List.{AllByRecursion, list_all}
 use Rattle.sp_base.specs.Paths.{is_dots, is_empty, mangled, pieces}
 use Rattle.cover_rules.specs.declared.page.PageKey.{PageKey}
-use Rattle.cover_rules.specs.Names.{file_name, has_name, is_plain}
+use Rattle.cover_rules.specs.Names.{file_name, has_file_name, is_plain_name_byte}
 use Rattle.cover_rules.specs.Pages.{last_segment}
 
 -- The names of pages and stamps are of mangled segments, spelled as in URLs: a folder is a mangled path (`IsFolder`), and both the
@@ -28,7 +28,7 @@ stat_name folder = folder_name folder ++ codes ".stat"
 
 -- each segment of a folder has a file name
 abbrev pub have_names : List (List ℕ) → Bool
-have_names segs = list_all has_name segs
+have_names segs = list_all has_file_name segs
 
 -- a folder of the docroot: a mangled path whose segments have file names
 abbrev pub IsFolder : List (List ℕ) → Type 0
@@ -36,18 +36,18 @@ IsFolder folder = (mangled folder ≡ folder) × IsTrue (have_names folder)
 
 -- a folder and a file in which a page may stand
 abbrev pub is_place : List (List ℕ) → List ℕ → Bool
-is_place folder file = have_names folder && (has_name file && nat_lt 0 (length file))
+is_place folder file = have_names folder && (has_file_name file && nat_lt 0 (length file))
 
 abbrev pub epoch_name : List ℕ
 epoch_name = codes ".epoch"
 
 -- a byte of a file's name
-abbrev pub is_name_byte : ℕ → Bool
-is_name_byte b = is_plain b || b == 37
+abbrev pub is_file_name_byte : ℕ → Bool
+is_file_name_byte b = is_plain_name_byte b || b == 37
 
 -- a piece of a name between slashes that leads into a folder, and not out of it
 abbrev pub is_segment : List ℕ → Bool
-is_segment piece = not (is_empty piece) && (not (is_dots piece) && list_all is_name_byte piece)
+is_segment piece = not (is_empty piece) && (not (is_dots piece) && list_all is_file_name_byte piece)
 
 -- A name that lies in the docroot: no piece of it is empty, so it neither begins nor ends with a slash, and none is `.` or `..`.
 abbrev pub is_inside : List ℕ → Bool

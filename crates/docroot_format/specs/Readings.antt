@@ -6,13 +6,13 @@ use Rattle.std.specs.Cmp.Lexicographic.{pointwise}
 abbrev pub is_digit : ℕ → Bool
 is_digit b = nat_le 48 b && nat_le b 57
 
-abbrev pub greatest : ℕ
-greatest = 18446744073709551615
+abbrev pub greatest_number : ℕ
+greatest_number = 18446744073709551615
 
 -- the text begins with a digit that fits after a number
 unfoldable pub digit_fits : ℕ → List ℕ → Bool
 digit_fits n [] = false
-digit_fits n (b ∷ text) = is_digit b && nat_le (n * 10 + (b - 48)) greatest
+digit_fits n (b ∷ text) = is_digit b && nat_le (n * 10 + (b - 48)) greatest_number
 
 -- the longest number at the beginning that fits, after one that was read, and what is left
 unfoldable pub digits_from : ℕ → List ℕ → ℕ × List ℕ
@@ -28,8 +28,8 @@ abbrev pub begins_number : List ℕ → Bool
 begins_number text = is_digit (slice_index text 0) && not (slice_index text 0 == 48 && is_digit (slice_index text 1))
 
 -- the number at the beginning of a text, and what is left
-unfoldable pub number_of : List ℕ → Option (ℕ × List ℕ)
-number_of text = if begins_number text then Some (digits_from 0 text) else None
+unfoldable pub number_in_front : List ℕ → Option (ℕ × List ℕ)
+number_in_front text = if begins_number text then Some (digits_from 0 text) else None
 
 -- what is left after a word at the beginning
 unfoldable pub after_word : List ℕ → List ℕ → Option (List ℕ)
@@ -40,7 +40,7 @@ is_end text = pointwise nat_eq text (codes "\n")
 
 -- the stamp at the beginning of a text, epoch and count, and what is left
 unfoldable pub stamp_of : List ℕ → Option ((ℕ × ℕ) × List ℕ)
-stamp_of text = option_and_then (λ e. option_and_then (λ rest. option_map (λ c. ((e.0, c.0), c.1)) (number_of rest)) (after_word (codes " ") e.1)) (number_of text)
+stamp_of text = option_and_then (λ e. option_and_then (λ rest. option_map (λ c. ((e.0, c.0), c.1)) (number_in_front rest)) (after_word (codes " ") e.1)) (number_in_front text)
 
 -- the stamp that a .stat file holds
 unfoldable pub stat_of : List ℕ → Option (ℕ × ℕ)
@@ -48,7 +48,7 @@ stat_of text = option_and_then (λ s. if is_end s.1 then Some s.0 else None) (op
 
 -- the epoch that a file holds, from 1 on
 unfoldable pub epoch_of : List ℕ → Option ℕ
-epoch_of text = option_and_then (λ e. if is_end e.1 && nat_lt 0 e.0 then Some e.0 else None) (option_and_then number_of (after_word (codes "epoch 1 ") text))
+epoch_of text = option_and_then (λ e. if is_end e.1 && nat_lt 0 e.0 then Some e.0 else None) (option_and_then number_in_front (after_word (codes "epoch 1 ") text))
 
 -- the most bytes of a media type in a head
 abbrev pub longest_kind : ℕ
@@ -59,8 +59,8 @@ abbrev pub is_kind : List ℕ → Bool
 is_kind kind = nat_le (length kind) longest_kind && list_all (λ b. nat_le 32 b && nat_le b 126) kind
 
 -- a media type up to the end of the line
-unfoldable pub kind_of : List ℕ → Option (List ℕ)
-kind_of text = if is_end (drop (length text - 1) text) && is_kind (take (length text - 1) text) then Some (take (length text - 1) text) else None
+unfoldable pub stored_kind : List ℕ → Option (List ℕ)
+stored_kind text = if is_end (drop (length text - 1) text) && is_kind (take (length text - 1) text) then Some (take (length text - 1) text) else None
 
 -- what a head says: the stamp, and the length and the media type of the body
 pub record HeadLine : Type 0 where
@@ -70,7 +70,7 @@ pub record HeadLine : Type 0 where
   pub kind : List ℕ
 
 unfoldable pub body_of : (ℕ × ℕ) → List ℕ → Option HeadLine
-body_of stamp text = option_and_then (λ n. option_map (λ kind. record { epoch = stamp.0; count = stamp.1; size = n.0; kind = kind }) (option_and_then kind_of (after_word (codes " ") n.1))) (option_and_then number_of (after_word (codes " ") text))
+body_of stamp text = option_and_then (λ n. option_map (λ kind. record { epoch = stamp.0; count = stamp.1; size = n.0; kind = kind }) (option_and_then stored_kind (after_word (codes " ") n.1))) (option_and_then number_in_front (after_word (codes " ") text))
 
 -- the head that bytes are
 unfoldable pub head_of : List ℕ → Option HeadLine

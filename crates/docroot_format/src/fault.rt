@@ -1,6 +1,6 @@
 //! Why a file of the docroot couldn't be read or written.
 ghost use Rattle.std.specs.Prelude.{◌≡◌};
-ghost use Rattle.docroot_format.specs.Faults.{fault_of};
+ghost use Rattle.docroot_format.specs.Faults.{disk_file_fault};
 ghost use Rattle.docroot_format.specs.declared.fault.FileFault.TheVariants.{NoMemory as no_memory};
 
 use sp_base::NoMemory;
@@ -22,7 +22,7 @@ impl From<NoMemory> for FileFault {
 }
 
 impl From<DiskFault> for FileFault {
-    ghost from_gives = { λ fault e. e ≡ fault_of fault };
+    ghost from_gives = { λ fault e. e ≡ disk_file_fault fault };
 
     fn from(fault: DiskFault) -> FileFault {
         match fault {

@@ -46,9 +46,9 @@ fn text_of(kind: &[u8]) -> Option<&str>
 }
 
 // A media type up to the end of the line.
-#[tactic(auto, unfolding(crate::specs::Readings::kind_of))]
+#[tactic(auto, unfolding(crate::specs::Readings::stored_kind))]
 fn kind(text: &[u8]) -> Option<&str>
-    ensures { option_map (λ k. k.now) result ≡ spec.kind_of text.now }
+    ensures { option_map (λ k. k.now) result ≡ spec.stored_kind text.now }
 {
     let end = text.len().saturating_sub(1);
     if !is_end(&text[end..]) {

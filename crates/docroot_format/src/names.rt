@@ -12,7 +12,7 @@ use std::alloc::Global;
 pub const EPOCH_NAME: &str = ".epoch";
 
 pub(crate) fn is_plain(b: u8) -> bool
-    ensures { result ≡ file.is_plain b }
+    ensures { result ≡ file.is_plain_name_byte b }
 {
     b.is_ascii_alphanumeric() || (b == b'.' || (b == b'_' || b == b'-'))
 }

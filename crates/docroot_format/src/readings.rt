@@ -54,9 +54,9 @@ fn begins_number(text: &[u8]) -> bool
     }
 }
 
-#[tactic(auto, unfolding(crate::specs::Readings::number_of))]
+#[tactic(auto, unfolding(crate::specs::Readings::number_in_front))]
 pub(crate) fn number(text: &[u8]) -> Option<(u64, &[u8])>
-    ensures { option_map (λ p. (p.0, p.1.now)) result ≡ spec.number_of text.now }
+    ensures { option_map (λ p. (p.0, p.1.now)) result ≡ spec.number_in_front text.now }
 {
     if begins_number(text) {
         Some(digits(text))

@@ -7,9 +7,9 @@ use Rattle.form_input.specs.declared.fault.FormFault.{FormFault}
 use Rattle.form_input.specs.declared.fault.FormFault.TheVariants.{BadPart, TooMany}
 use Rattle.form_input.specs.declared.boundary.LineKind.{LineKind}
 use Rattle.form_input.specs.declared.boundary.LineKind.TheVariants.{Opening, Closing, Plain}
-use Rattle.form_input.specs.Multipart.{Section, Sections, kind_of, is_plain, is_closing, with_line, sections, pair_of, before_all, with_part, pairs_of, dash_boundary, multipart_of}
+use Rattle.form_input.specs.Multipart.{Section, Sections, line_kind, is_plain_line, is_closing_line, with_line, sections, pair_of, before_all, with_part, pairs_of, dash_boundary, multipart_of}
 use Rattle.form_input.specs.Lines.{lines}
-use Rattle.form_input.specs.Bodies.{Part, part_lines, are_plain, is_part, IsMultipart, HasPairs}
+use Rattle.form_input.specs.Bodies.{BodyPart, part_lines, are_plain, is_body_part, IsMultipart, HasPairs}
 use Rattle.form_input.proofs.FormLemmas.{Pairs, closing_section, part_section, end_of_sections, last_section}
 
 and_left : (a b : Bool) → (a && b) ≡ true → a ≡ true
@@ -20,33 +20,33 @@ and_right : (a b : Bool) → (a && b) ≡ true → b ≡ true
 and_right true b e = e
 and_right false b e = absurd cc
 
-plain_kind : (k : LineKind) → is_plain k ≡ true → k ≡ Plain
+plain_kind : (k : LineKind) → is_plain_line k ≡ true → k ≡ Plain
 plain_kind Opening e = absurd cc
 plain_kind Closing e = absurd cc
 plain_kind Plain e = refl
 
-closing_kind : (k : LineKind) → is_closing k ≡ true → k ≡ Closing
+closing_kind : (k : LineKind) → is_closing_line k ≡ true → k ≡ Closing
 closing_kind Opening e = absurd cc
 closing_kind Closing e = refl
 closing_kind Plain e = absurd cc
 
-opening_kind : (k : LineKind) → not (is_plain k) ≡ true → not (is_closing k) ≡ true → k ≡ Opening
+opening_kind : (k : LineKind) → not (is_plain_line k) ≡ true → not (is_closing_line k) ≡ true → k ≡ Opening
 opening_kind Opening e f = refl
 opening_kind Closing e f = absurd cc
 opening_kind Plain e f = absurd cc
 
 module _ (dash : List ℕ) where
-  plain_line : (at : ℕ) (line : List ℕ) (more : List (List ℕ)) → kind_of dash line ≡ Plain
+  plain_line : (at : ℕ) (line : List ℕ) (more : List (List ℕ)) → line_kind dash line ≡ Plain
       → ◌≡◌ {A = Sections} (sections dash at (line ∷ more)) (record { before = line ∷ (sections dash (at + length line + 2) more).before; later = (sections dash (at + length line + 2) more).later })
   unfolding sections
   plain_line at line more e = rw e refl
 
-  opening_line : (at : ℕ) (line : List ℕ) (more : List (List ℕ)) → kind_of dash line ≡ Opening
+  opening_line : (at : ℕ) (line : List ℕ) (more : List (List ℕ)) → line_kind dash line ≡ Opening
       → ◌≡◌ {A = Sections} (sections dash at (line ∷ more)) (record { before = []; later = record { place = at; closing = false; content = (sections dash (at + length line + 2) more).before } ∷ (sections dash (at + length line + 2) more).later })
   unfolding sections
   opening_line at line more e = rw e refl
 
-  closing_line : (at : ℕ) (line : List ℕ) (more : List (List ℕ)) → kind_of dash line ≡ Closing
+  closing_line : (at : ℕ) (line : List ℕ) (more : List (List ℕ)) → line_kind dash line ≡ Closing
       → ◌≡◌ {A = Sections} (sections dash at (line ∷ more)) (record { before = []; later = record { place = at; closing = true; content = (sections dash (at + length line + 2) more).before } ∷ (sections dash (at + length line + 2) more).later })
   unfolding sections
   closing_line at line more e = rw e refl
@@ -62,8 +62,8 @@ module _ (dash : List ℕ) where
   unfolding place_after
   plain_lines at [] rest e = refl
   plain_lines at (line ∷ front) rest e =
-      let ih = plain_lines (at + length line + 2) front rest (and_right (is_plain (kind_of dash line)) _ e) in
-      plain_line at line (front ++ rest) (plain_kind (kind_of dash line) (and_left (is_plain (kind_of dash line)) _ e))
+      let ih = plain_lines (at + length line + 2) front rest (and_right (is_plain_line (line_kind dash line)) _ e) in
+      plain_line at line (front ++ rest) (plain_kind (line_kind dash line) (and_left (is_plain_line (line_kind dash line)) _ e))
       ∙ ap (λ (s : Sections). record { before = line ∷ s.before; later = s.later }) ih
 
   -- the sections of parts and a closing line begin with a boundary line
@@ -73,14 +73,14 @@ module _ (dash : List ℕ) where
     before : (sections dash at ls).before ≡ []
     later : (sections dash at ls).later ≡ first ∷ more
 
-  begins : (at : ℕ) (parts : List Part) (closing : List ℕ) (epilogue : List (List ℕ)) → list_all (is_part dash) parts ≡ true → is_closing (kind_of dash closing) ≡ true
+  begins : (at : ℕ) (parts : List BodyPart) (closing : List ℕ) (epilogue : List (List ℕ)) → list_all (is_body_part dash) parts ≡ true → is_closing_line (line_kind dash closing) ≡ true
       → Begins at (part_lines parts ++ closing ∷ epilogue)
   begins at [] closing epilogue opened closed =
-      let e = closing_line at closing epilogue (closing_kind (kind_of dash closing) closed) in
+      let e = closing_line at closing epilogue (closing_kind (line_kind dash closing) closed) in
       record { first = _; more = _; before = ap (λ (s : Sections). s.before) e; later = ap (λ (s : Sections). s.later) e }
   begins at (p ∷ parts) closing epilogue opened closed =
-      let here = and_left (is_part dash p) _ opened in
-      let kind = opening_kind (kind_of dash p.line) (and_left _ _ here) (and_left _ _ (and_right (not (is_plain (kind_of dash p.line))) _ here)) in
+      let here = and_left (is_body_part dash p) _ opened in
+      let kind = opening_kind (line_kind dash p.line) (and_left _ _ here) (and_left _ _ (and_right (not (is_plain_line (line_kind dash p.line))) _ here)) in
       let e = opening_line at p.line ((p.content ++ part_lines parts) ++ closing ∷ epilogue) kind in
       record { first = _; more = _; before = ap (λ (s : Sections). s.before) e; later = ap (λ (s : Sections). s.later) e }
 
@@ -88,40 +88,40 @@ module _ (dash : List ℕ) where
   few_more end n place pair rest low = let other : eqb n 1000 ≡ false = grind (arith, nat_tests) in rw other refl
 
   -- parts and a closing line read as their pairs
-  read_parts : (end n at : ℕ) (parts : List Part) (pairs : Pairs) (closing : List ℕ) (epilogue : List (List ℕ)) → list_all (is_part dash) parts ≡ true → is_closing (kind_of dash closing) ≡ true
-      → map (λ (p : Part). pair_of p.content) parts ≡ map Some pairs → n + length pairs ≤ 1000 → pairs_of end n (sections dash at (part_lines parts ++ closing ∷ epilogue)).later ≡ Ok pairs
+  read_parts : (end n at : ℕ) (parts : List BodyPart) (pairs : Pairs) (closing : List ℕ) (epilogue : List (List ℕ)) → list_all (is_body_part dash) parts ≡ true → is_closing_line (line_kind dash closing) ≡ true
+      → map (λ (p : BodyPart). pair_of p.content) parts ≡ map Some pairs → n + length pairs ≤ 1000 → pairs_of end n (sections dash at (part_lines parts ++ closing ∷ epilogue)).later ≡ Ok pairs
   read_parts end n at [] [] closing epilogue opened closed each few =
-      ap (λ (s : Sections). pairs_of end n s.later) (closing_line at closing epilogue (closing_kind (kind_of dash closing) closed)) ∙ closing_section end n _ _ refl
+      ap (λ (s : Sections). pairs_of end n s.later) (closing_line at closing epilogue (closing_kind (line_kind dash closing) closed)) ∙ closing_section end n _ _ refl
   read_parts end n at [] (q ∷ pairs) closing epilogue opened closed each few = absurd cc
   read_parts end n at (p ∷ parts) [] closing epilogue opened closed each few = absurd cc
   read_parts end n at (p ∷ parts) (q ∷ pairs) closing epilogue opened closed each few =
-      let here = and_left (is_part dash p) _ opened in
-      let rest = and_right (not (is_plain (kind_of dash p.line))) _ here in
-      let kind = opening_kind (kind_of dash p.line) (and_left _ _ here) (and_left _ _ rest) in
+      let here = and_left (is_body_part dash p) _ opened in
+      let rest = and_right (not (is_plain_line (line_kind dash p.line))) _ here in
+      let kind = opening_kind (line_kind dash p.line) (and_left _ _ here) (and_left _ _ rest) in
       let tail = part_lines parts ++ closing ∷ epilogue in
       let after = place_after (at + length p.line + 2) p.content in
-      let b = begins after parts closing epilogue (and_right (is_part dash p) _ opened) closed in
-      let inner = ap (sections dash (at + length p.line + 2)) (append_assoc p.content (part_lines parts) (closing ∷ epilogue)) ∙ plain_lines (at + length p.line + 2) p.content tail (and_right (not (is_closing (kind_of dash p.line))) _ rest) in
+      let b = begins after parts closing epilogue (and_right (is_body_part dash p) _ opened) closed in
+      let inner = ap (sections dash (at + length p.line + 2)) (append_assoc p.content (part_lines parts) (closing ∷ epilogue)) ∙ plain_lines (at + length p.line + 2) p.content tail (and_right (not (is_closing_line (line_kind dash p.line))) _ rest) in
       let content : (sections dash (at + length p.line + 2) ((p.content ++ part_lines parts) ++ closing ∷ epilogue)).before ≡ p.content = ap (λ (s : Sections). s.before) inner ∙ ap (λ (ls : List (List ℕ)). p.content ++ ls) b.before ∙ append-nil p.content in
       let later : (sections dash (at + length p.line + 2) ((p.content ++ part_lines parts) ++ closing ∷ epilogue)).later ≡ (sections dash after tail).later = ap (λ (s : Sections). s.later) inner in
       let pair : pair_of p.content ≡ Some q = cc in
-      let others : map (λ (p : Part). pair_of p.content) parts ≡ map Some pairs = cc in
-      let ih = read_parts end (n + 1) after parts pairs closing epilogue (and_right (is_part dash p) _ opened) closed others (omega (arith, few)) in
+      let others : map (λ (p : BodyPart). pair_of p.content) parts ≡ map Some pairs = cc in
+      let ih = read_parts end (n + 1) after parts pairs closing epilogue (and_right (is_body_part dash p) _ opened) closed others (omega (arith, few)) in
       ap (λ (s : Sections). pairs_of end n s.later) (opening_line at p.line ((p.content ++ part_lines parts) ++ closing ∷ epilogue) kind)
       ∙ rw (content, later, b.later) (part_section end n _ b.first b.more refl ∙ rw (pair, ← b.later, ih) (few_more end n at q pairs (omega (arith, few))))
 
   -- lines that read as pairs are spelled by parts
   record Spelled (n at : ℕ) (ls : List (List ℕ)) (pairs : Pairs) : Type 0 where
     preamble : List (List ℕ)
-    parts : List Part
+    parts : List BodyPart
     closing : List ℕ
     epilogue : List (List ℕ)
     spells : ls ≡ preamble ++ (part_lines parts ++ closing ∷ epilogue)
     plain : are_plain dash preamble ≡ true
-    opened : list_all (is_part dash) parts ≡ true
-    closed : is_closing (kind_of dash closing) ≡ true
+    opened : list_all (is_body_part dash) parts ≡ true
+    closed : is_closing_line (line_kind dash closing) ≡ true
     front : (sections dash at ls).before ≡ preamble
-    each : map (λ (p : Part). pair_of p.content) parts ≡ map Some pairs
+    each : map (λ (p : BodyPart). pair_of p.content) parts ≡ map Some pairs
     few : n + length pairs ≤ 1000
 
   record PartRead (n : ℕ) (o : Option (List ℕ × List ℕ)) (r : Result Pairs FormFault) (pairs : Pairs) : Type 0 where
@@ -145,13 +145,13 @@ module _ (dash : List ℕ) where
   unfolding sections
   no_lines at = refl
 
-  opened_part : (line : List ℕ) (content : List (List ℕ)) (parts : List Part) → kind_of dash line ≡ Opening → are_plain dash content ≡ true → list_all (is_part dash) parts ≡ true
-      → list_all (is_part dash) (record { line = line; content = content } ∷ parts) ≡ true
+  opened_part : (line : List ℕ) (content : List (List ℕ)) (parts : List BodyPart) → line_kind dash line ≡ Opening → are_plain dash content ≡ true → list_all (is_body_part dash) parts ≡ true
+      → list_all (is_body_part dash) (record { line = line; content = content } ∷ parts) ≡ true
   opened_part line content parts k plain opened = rw (k, plain) opened
 
-  each_part : (line : List ℕ) (content : List (List ℕ)) (parts : List Part) (pair : List ℕ × List ℕ) (rest pairs : Pairs) → pair_of content ≡ Some pair → map (λ (p : Part). pair_of p.content) parts ≡ map Some rest → pairs ≡ pair ∷ rest
-      → map (λ (p : Part). pair_of p.content) (record { line = line; content = content } ∷ parts) ≡ map Some pairs
-  each_part line content parts pair rest pairs has each all = rw all (ap (λ (o : Option (List ℕ × List ℕ)). o ∷ map (λ (p : Part). pair_of p.content) parts) has ∙ ap (λ (os : List (Option (List ℕ × List ℕ))). Some pair ∷ os) each)
+  each_part : (line : List ℕ) (content : List (List ℕ)) (parts : List BodyPart) (pair : List ℕ × List ℕ) (rest pairs : Pairs) → pair_of content ≡ Some pair → map (λ (p : BodyPart). pair_of p.content) parts ≡ map Some rest → pairs ≡ pair ∷ rest
+      → map (λ (p : BodyPart). pair_of p.content) (record { line = line; content = content } ∷ parts) ≡ map Some pairs
+  each_part line content parts pair rest pairs has each all = rw all (ap (λ (o : Option (List ℕ × List ℕ)). o ∷ map (λ (p : BodyPart). pair_of p.content) parts) has ∙ ap (λ (os : List (Option (List ℕ × List ℕ))). Some pair ∷ os) each)
 
   few_part : (n : ℕ) (pair : List ℕ × List ℕ) (rest pairs : Pairs) → pairs ≡ pair ∷ rest → n + 1 + length rest ≤ 1000 → n + length pairs ≤ 1000
   few_part n pair rest pairs all few = rw all (omega (arith, few))
@@ -164,9 +164,9 @@ module _ (dash : List ℕ) where
       let none = end_of_sections end n in
       let nil = no_lines at in
       absurd (let f : pairs_of end n [] ≡ Ok pairs = sym (ap (pairs_of end n) nil) ∙ e in cc)
-  spelled end n at (line ∷ more) pairs small e = go (kind_of dash line) refl (λ m qs low f. spelled end m (at + length line + 2) more qs low f)
+  spelled end n at (line ∷ more) pairs small e = go (line_kind dash line) refl (λ m qs low f. spelled end m (at + length line + 2) more qs low f)
     where
-      go : (k : LineKind) → kind_of dash line ≡ k → ((m : ℕ) (qs : Pairs) → m ≤ 1000 → pairs_of end m (sections dash (at + length line + 2) more).later ≡ Ok qs → Spelled m (at + length line + 2) more qs) → Spelled n at (line ∷ more) pairs
+      go : (k : LineKind) → line_kind dash line ≡ k → ((m : ℕ) (qs : Pairs) → m ≤ 1000 → pairs_of end m (sections dash (at + length line + 2) more).later ≡ Ok qs → Spelled m (at + length line + 2) more qs) → Spelled n at (line ∷ more) pairs
       go Plain k ih =
           let here = plain_line at line more k in
           let w = ih n pairs small (sym (ap (λ (s : Sections). pairs_of end n s.later) here) ∙ e) in

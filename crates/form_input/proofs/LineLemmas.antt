@@ -3,20 +3,20 @@ use Rattle.std.proofs.Common.{◌≡◌, ◌<◌, ◌≤◌, ◌+◌, ◌-◌, �
 use Rattle.std.proofs.lemmas.Bool.{eqb-true}
 use Rattle.std.specs.List.{onto_first}
 use Rattle.memchr.specs.Find.{OccursAt}
-use Rattle.form_input.specs.Lines.{is_line_end, lines, joined, lines_left}
+use Rattle.form_input.specs.Lines.{is_line_end_pair, lines, joined, lines_left}
 
 -- CR LF
 abbrev pub line_end : List ℕ
 line_end = 13 ∷ 10 ∷ []
 
-line_end_is : (b c : ℕ) → is_line_end b c ≡ true → (b ≡ 13) × (c ≡ 10)
+line_end_is : (b c : ℕ) → is_line_end_pair b c ≡ true → (b ≡ 13) × (c ≡ 10)
 line_end_is b c e = go (eqb b 13) refl e
   where
     go : (x : Bool) → eqb b 13 ≡ x → (x && eqb c 10) ≡ true → (b ≡ 13) × (c ≡ 10)
     go true eb e = (eqb-true b 13 eb, eqb-true c 10 e)
     go false eb e = absurd cc
 
-is_line_end_at : (b c : ℕ) → b ≡ 13 → c ≡ 10 → is_line_end b c ≡ true
+is_line_end_at : (b c : ℕ) → b ≡ 13 → c ≡ 10 → is_line_end_pair b c ≡ true
 is_line_end_at b c eb ec = rw (eb, ec) refl
 
 reads_front : (b c : ℕ) (t : List ℕ) → b ≡ 13 → c ≡ 10 → (j : ℕ) → j < 2 → slice_index (b ∷ c ∷ t) (0 + j) ≡ slice_index line_end j
@@ -24,10 +24,10 @@ reads_front b c t eb ec zero low = eb
 reads_front b c t eb ec (suc zero) low = ec
 reads_front b c t eb ec (suc (suc j)) low = absurd (omega (arith, low))
 
-occurs_front : (b c : ℕ) (t : List ℕ) → is_line_end b c ≡ true → OccursAt (b ∷ c ∷ t) line_end 0
+occurs_front : (b c : ℕ) (t : List ℕ) → is_line_end_pair b c ≡ true → OccursAt (b ∷ c ∷ t) line_end 0
 occurs_front b c t e = let both = line_end_is b c e in record { fits = omega arith; reads = reads_front b c t both.0 both.1 }
 
-front_occurs : (b c : ℕ) (t : List ℕ) → OccursAt (b ∷ c ∷ t) line_end 0 → is_line_end b c ≡ true
+front_occurs : (b c : ℕ) (t : List ℕ) → OccursAt (b ∷ c ∷ t) line_end 0 → is_line_end_pair b c ≡ true
 front_occurs b c t o = is_line_end_at b c (o.reads 0 (omega arith)) (o.reads 1 (omega arith))
 
 occurs_later : (b : ℕ) (t : List ℕ) (k : ℕ) → OccursAt t line_end k → OccursAt (b ∷ t) line_end (suc k)
@@ -47,9 +47,9 @@ pub lines_alone : (t : List ℕ) → ((k : ℕ) → OccursAt t line_end k → �
 unfolding lines
 lines_alone [] none = refl
 lines_alone (b ∷ []) none = refl
-lines_alone (b ∷ c ∷ t) none = go (is_line_end b c) refl (lines_alone (c ∷ t) (λ k o. none (suc k) (occurs_later b (c ∷ t) k o)))
+lines_alone (b ∷ c ∷ t) none = go (is_line_end_pair b c) refl (lines_alone (c ∷ t) (λ k o. none (suc k) (occurs_later b (c ∷ t) k o)))
   where
-    go : (x : Bool) → is_line_end b c ≡ x → lines (c ∷ t) ≡ (c ∷ t) ∷ [] → cond x ([] ∷ lines t) (onto_first b (lines (c ∷ t))) ≡ (b ∷ c ∷ t) ∷ []
+    go : (x : Bool) → is_line_end_pair b c ≡ x → lines (c ∷ t) ≡ (c ∷ t) ∷ [] → cond x ([] ∷ lines t) (onto_first b (lines (c ∷ t))) ≡ (b ∷ c ∷ t) ∷ []
     go true e ih = absurd (none 0 (occurs_front b c t e))
     go false e ih = ap (onto_first b) ih
 
@@ -66,12 +66,12 @@ cut_at k (b ∷ []) o none = absurd (let f = o.fits in omega (arith, f))
 cut_at zero (b ∷ c ∷ t) o none =
     let e = front_occurs b c t o in
     let both = line_end_is b c e in
-    record { split = go (is_line_end b c) e; alone = refl; parts = rw (both.0, both.1) refl }
+    record { split = go (is_line_end_pair b c) e; alone = refl; parts = rw (both.0, both.1) refl }
   where
     go : (x : Bool) → x ≡ true → cond x ([] ∷ lines t) (onto_first b (lines (c ∷ t))) ≡ [] ∷ lines t
     go true e = refl
     go false e = absurd cc
-cut_at (suc k) (b ∷ c ∷ t) o none = go (is_line_end b c) refl k (cut_at k (c ∷ t) (occurs_before b (c ∷ t) k o) (λ m low p. none (suc m) (omega (arith, low)) (occurs_later b (c ∷ t) m p)))
+cut_at (suc k) (b ∷ c ∷ t) o none = go (is_line_end_pair b c) refl k (cut_at k (c ∷ t) (occurs_before b (c ∷ t) k o) (λ m low p. none (suc m) (omega (arith, low)) (occurs_later b (c ∷ t) m p)))
   where
     more : (x : Bool) → x ≡ false → cond x ([] ∷ lines t) (onto_first b (lines (c ∷ t))) ≡ onto_first b (lines (c ∷ t))
     more true e = absurd cc
@@ -81,16 +81,16 @@ cut_at (suc k) (b ∷ c ∷ t) o none = go (is_line_end b c) refl k (cut_at k (c
     shut true s e = absurd cc
     shut false s e = refl
 
-    alone : (k : ℕ) → is_line_end b c ≡ false → lines (take k (c ∷ t)) ≡ take k (c ∷ t) ∷ [] → lines (b ∷ take k (c ∷ t)) ≡ (b ∷ take k (c ∷ t)) ∷ []
+    alone : (k : ℕ) → is_line_end_pair b c ≡ false → lines (take k (c ∷ t)) ≡ take k (c ∷ t) ∷ [] → lines (b ∷ take k (c ∷ t)) ≡ (b ∷ take k (c ∷ t)) ∷ []
     alone zero e ih = refl
-    alone (suc k) e ih = shut (is_line_end b c) (take k t) e ∙ ap (onto_first b) ih
+    alone (suc k) e ih = shut (is_line_end_pair b c) (take k t) e ∙ ap (onto_first b) ih
 
-    go : (x : Bool) → is_line_end b c ≡ x → (k : ℕ) → Cut k (c ∷ t) → Cut (suc k) (b ∷ c ∷ t)
+    go : (x : Bool) → is_line_end_pair b c ≡ x → (k : ℕ) → Cut k (c ∷ t) → Cut (suc k) (b ∷ c ∷ t)
     go true e k ih = absurd (none 0 (omega arith) (occurs_front b c t e))
     go false e k ih =
         let next : suc k + 2 ≡ suc (k + 2) = omega arith in
         record {
-          split = rw next (more (is_line_end b c) e ∙ ap (onto_first b) ih.split);
+          split = rw next (more (is_line_end_pair b c) e ∙ ap (onto_first b) ih.split);
           alone = alone k e ih.alone;
           parts = rw next (ap (λ (s : List ℕ). b ∷ s) ih.parts);
         }
@@ -109,12 +109,12 @@ pub has_first : (t : List ℕ) → HasFirst t
 unfolding lines
 has_first [] = record { first = []; more = []; is = refl }
 has_first (b ∷ []) = record { first = b ∷ []; more = []; is = refl }
-has_first (b ∷ c ∷ t) = go (is_line_end b c) refl
+has_first (b ∷ c ∷ t) = go (is_line_end_pair b c) refl
   where
-    is : (x : Bool) → is_line_end b c ≡ x → lines (b ∷ c ∷ t) ≡ cond x ([] ∷ lines t) (onto_first b (lines (c ∷ t)))
+    is : (x : Bool) → is_line_end_pair b c ≡ x → lines (b ∷ c ∷ t) ≡ cond x ([] ∷ lines t) (onto_first b (lines (c ∷ t)))
     is x e = ap (λ (y : Bool). cond y ([] ∷ lines t) (onto_first b (lines (c ∷ t)))) e
 
-    go : (x : Bool) → is_line_end b c ≡ x → HasFirst (b ∷ c ∷ t)
+    go : (x : Bool) → is_line_end_pair b c ≡ x → HasFirst (b ∷ c ∷ t)
     go true e = record { first = []; more = lines t; is = is true e }
     go false e = let o = onto_cons b (lines (c ∷ t)) in record { first = o.0; more = o.1; is = is false e ∙ o.2 }
 
@@ -133,9 +133,9 @@ pub joined_lines : (t : List ℕ) → joined (lines t) ≡ t
 unfolding lines joined
 joined_lines [] = refl
 joined_lines (b ∷ []) = refl
-joined_lines (b ∷ c ∷ t) = go (is_line_end b c) refl (joined_lines t) (joined_lines (c ∷ t))
+joined_lines (b ∷ c ∷ t) = go (is_line_end_pair b c) refl (joined_lines t) (joined_lines (c ∷ t))
   where
-    go : (x : Bool) → is_line_end b c ≡ x → joined (lines t) ≡ t → joined (lines (c ∷ t)) ≡ c ∷ t → joined (cond x ([] ∷ lines t) (onto_first b (lines (c ∷ t)))) ≡ b ∷ c ∷ t
+    go : (x : Bool) → is_line_end_pair b c ≡ x → joined (lines t) ≡ t → joined (lines (c ∷ t)) ≡ c ∷ t → joined (cond x ([] ∷ lines t) (onto_first b (lines (c ∷ t)))) ≡ b ∷ c ∷ t
     go true e here ih = let both = line_end_is b c e in joined_first t ∙ rw (both.0, both.1) (ap (λ (s : List ℕ). 13 ∷ 10 ∷ s) here)
     go false e here ih = joined_onto b (lines (c ∷ t)) ∙ ap (λ (s : List ℕ). b ∷ s) ih
 
@@ -152,7 +152,7 @@ lines_append (x ∷ []) b = go (eqb x 13)
     go : (y : Bool) → cond (y && false) ([] ∷ lines (10 ∷ b)) (onto_first x ([] ∷ lines b)) ≡ (x ∷ []) ∷ lines b
     go true = refl
     go false = refl
-lines_append (x ∷ y ∷ a) b = go (is_line_end x y) (lines_append a b) (lines_append (y ∷ a) b)
+lines_append (x ∷ y ∷ a) b = go (is_line_end_pair x y) (lines_append a b) (lines_append (y ∷ a) b)
   where
     go : (z : Bool) → lines (a ++ 13 ∷ 10 ∷ b) ≡ lines a ++ lines b → lines (y ∷ a ++ 13 ∷ 10 ∷ b) ≡ lines (y ∷ a) ++ lines b
         → cond z ([] ∷ lines (a ++ 13 ∷ 10 ∷ b)) (onto_first x (lines (y ∷ a ++ 13 ∷ 10 ∷ b))) ≡ cond z ([] ∷ lines a) (onto_first x (lines (y ∷ a))) ++ lines b

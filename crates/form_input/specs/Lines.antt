@@ -2,13 +2,13 @@
 use Rattle.std.specs.Prelude.{◌==◌, ◌&&◌, ℕ, Bool, if◌then◌else◌, List, [], ◌∷◌, ◌++◌, Option, Some, None}
 use Rattle.std.specs.List.{onto_first}
 
-abbrev pub is_line_end : ℕ → ℕ → Bool
-is_line_end b c = b == 13 && c == 10
+abbrev pub is_line_end_pair : ℕ → ℕ → Bool
+is_line_end_pair b c = b == 13 && c == 10
 
 unfoldable pub lines : List ℕ → List (List ℕ)
 lines [] = [] ∷ []
 lines (b ∷ []) = (b ∷ []) ∷ []
-lines (b ∷ c ∷ text) = if is_line_end b c then [] ∷ lines text else onto_first b (lines (c ∷ text))
+lines (b ∷ c ∷ text) = if is_line_end_pair b c then [] ∷ lines text else onto_first b (lines (c ∷ text))
 
 -- the lines with CR LF between each two
 unfoldable pub joined : List (List ℕ) → List ℕ

@@ -7,7 +7,7 @@ use Rattle.form_input.specs.declared.fault.FormFault.TheVariants.{BadPart, TooMa
 use Rattle.form_input.specs.declared.boundary.LineKind.{LineKind}
 use Rattle.form_input.specs.declared.boundary.LineKind.TheVariants.{Opening, Closing, Plain}
 use Rattle.form_input.specs.Lines.{lines, joined}
-use Rattle.form_input.specs.Parameters.{is_blank, is_type, after_name, parameter}
+use Rattle.form_input.specs.Parameters.{is_space_or_tab, is_type, after_name, parameter}
 
 -- the bytes that begin a boundary line: `--` and the boundary
 abbrev pub dash_boundary : List ℕ → List ℕ
@@ -15,20 +15,20 @@ dash_boundary boundary = codes "--" ++ boundary
 
 -- what a line is by what follows those bytes: blanks, or `--` and blanks
 abbrev pub kind_after : List ℕ → LineKind
-kind_after rest = if list_all is_blank rest then Opening else (if bytes_eq (take 2 rest) (codes "--") && list_all is_blank (drop 2 rest) then Closing else Plain)
+kind_after rest = if list_all is_space_or_tab rest then Opening else (if bytes_eq (take 2 rest) (codes "--") && list_all is_space_or_tab (drop 2 rest) then Closing else Plain)
 
-abbrev pub kind_of : List ℕ → List ℕ → LineKind
-kind_of dash line = if bytes_eq (take (length dash) line) dash then kind_after (drop (length dash) line) else Plain
+abbrev pub line_kind : List ℕ → List ℕ → LineKind
+line_kind dash line = if bytes_eq (take (length dash) line) dash then kind_after (drop (length dash) line) else Plain
 
-abbrev pub is_plain : LineKind → Bool
-is_plain Opening = false
-is_plain Closing = false
-is_plain Plain = true
+abbrev pub is_plain_line : LineKind → Bool
+is_plain_line Opening = false
+is_plain_line Closing = false
+is_plain_line Plain = true
 
-abbrev pub is_closing : LineKind → Bool
-is_closing Opening = false
-is_closing Closing = true
-is_closing Plain = false
+abbrev pub is_closing_line : LineKind → Bool
+is_closing_line Opening = false
+is_closing_line Closing = true
+is_closing_line Plain = false
 
 -- a boundary line and the lines from it up to the next
 pub record Section : Type 0 where
@@ -43,13 +43,13 @@ pub record Sections : Type 0 where
 
 -- a line at a place before sections
 abbrev pub with_line : LineKind → ℕ → List ℕ → Sections → Sections
-with_line kind at line s = if is_plain kind then record { before = line ∷ s.before; later = s.later }
-    else record { before = []; later = record { place = at; closing = is_closing kind; content = s.before } ∷ s.later }
+with_line kind at line s = if is_plain_line kind then record { before = line ∷ s.before; later = s.later }
+    else record { before = []; later = record { place = at; closing = is_closing_line kind; content = s.before } ∷ s.later }
 
 -- the sections of lines, of which the first begins at this place of the body; a line takes its bytes and CR LF
 unfoldable pub sections : List ℕ → ℕ → List (List ℕ) → Sections
 sections dash at [] = record { before = []; later = [] }
-sections dash at (line ∷ more) = with_line (kind_of dash line) at line (sections dash (at + length line + 2) more)
+sections dash at (line ∷ more) = with_line (line_kind dash line) at line (sections dash (at + length line + 2) more)
 
 abbrev pub first_some : Option (List ℕ) → Option (List ℕ) → Option (List ℕ)
 first_some None other = other
@@ -73,9 +73,9 @@ abbrev pub if_utf8 : Option (List ℕ) → Option (List ℕ)
 if_utf8 None = None
 if_utf8 (Some text) = if is_utf8 text then Some text else None
 
-abbrev pub name_of : Option (List ℕ) → Option (List ℕ)
-name_of None = None
-name_of (Some disposition) = if is_type (codes "form-data") disposition then if_utf8 (parameter (codes "name") disposition) else None
+abbrev pub part_name : Option (List ℕ) → Option (List ℕ)
+part_name None = None
+part_name (Some disposition) = if is_type (codes "form-data") disposition then if_utf8 (parameter (codes "name") disposition) else None
 
 abbrev pub both : Option (List ℕ) → Option (List ℕ) → Option (List ℕ × List ℕ)
 both None value = None
@@ -84,7 +84,7 @@ both (Some name) (Some value) = Some (name, value)
 
 -- the name and the value of a part, where it has a Content-Disposition of `form-data` with a name, and a body, both in UTF-8
 abbrev pub pair_of : List (List ℕ) → Option (List ℕ × List ℕ)
-pair_of content = both (name_of (disposition_in content)) (if_utf8 (value_in content))
+pair_of content = both (part_name (disposition_in content)) (if_utf8 (value_in content))
 
 -- the most pairs of a form
 abbrev pub most_pairs : ℕ

@@ -6,26 +6,26 @@ use Rattle.form_input.specs.declared.parameters.Quoting.{Quoting}
 use Rattle.form_input.specs.declared.parameters.Quoting.TheVariants.{Outside, Inside, Escaped}
 
 -- a space or a tab
-abbrev pub is_blank : ℕ → Bool
-is_blank b = if b == 32 then true else b == 9
+abbrev pub is_space_or_tab : ℕ → Bool
+is_space_or_tab b = if b == 32 then true else b == 9
 
 unfoldable pub after_blanks : List ℕ → List ℕ
 after_blanks [] = []
-after_blanks (b ∷ text) = if is_blank b then after_blanks text else b ∷ text
+after_blanks (b ∷ text) = if is_space_or_tab b then after_blanks text else b ∷ text
 
 unfoldable pub before_blanks : List ℕ → List ℕ
 before_blanks [] = []
-before_blanks (b ∷ text) = if is_blank b && length (before_blanks text) == 0 then [] else b ∷ before_blanks text
+before_blanks (b ∷ text) = if is_space_or_tab b && length (before_blanks text) == 0 then [] else b ∷ before_blanks text
 
 -- a text without the blanks around it
 abbrev pub trimmed : List ℕ → List ℕ
 trimmed text = before_blanks (after_blanks text)
 
 -- where the next byte stands: a quote opens and closes quotes, and in them a backslash takes the next byte with it
-abbrev pub step : Quoting → ℕ → Quoting
-step Outside b = if b == 34 then Inside else Outside
-step Inside b = if b == 34 then Outside else (if b == 92 then Escaped else Inside)
-step Escaped b = Inside
+abbrev pub quoting_step : Quoting → ℕ → Quoting
+quoting_step Outside b = if b == 34 then Inside else Outside
+quoting_step Inside b = if b == 34 then Outside else (if b == 92 then Escaped else Inside)
+quoting_step Escaped b = Inside
 
 -- a semicolon outside quotes
 abbrev pub separates : Quoting → ℕ → Bool
@@ -34,16 +34,16 @@ separates Inside b = false
 separates Escaped b = false
 
 -- the pieces between the semicolons that stand outside quotes
-unfoldable pub pieces_from : Quoting → List ℕ → List (List ℕ)
-pieces_from quoting [] = [] ∷ []
-pieces_from quoting (b ∷ text) = if separates quoting b then [] ∷ pieces_from Outside text else onto_first b (pieces_from (step quoting b) text)
+unfoldable pub parameter_pieces_from : Quoting → List ℕ → List (List ℕ)
+parameter_pieces_from quoting [] = [] ∷ []
+parameter_pieces_from quoting (b ∷ text) = if separates quoting b then [] ∷ parameter_pieces_from Outside text else onto_first b (parameter_pieces_from (quoting_step quoting b) text)
 
-abbrev pub pieces : List ℕ → List (List ℕ)
-pieces text = pieces_from Outside text
+abbrev pub parameter_pieces : List ℕ → List (List ℕ)
+parameter_pieces text = parameter_pieces_from Outside text
 
 -- whether the type, which is the first piece, is this word, without case
 abbrev pub is_type : List ℕ → List ℕ → Bool
-is_type word text = str_eq_ignore_ascii_case (trimmed (slice_index_or (pieces text) 0 [])) word
+is_type word text = str_eq_ignore_ascii_case (trimmed (slice_index_or (parameter_pieces text) 0 [])) word
 
 -- what follows a separator
 abbrev pub after_separator : ℕ → List ℕ → Option (List ℕ)
@@ -63,27 +63,27 @@ unfoldable pub unquoted : Bool → List ℕ → Option (List ℕ)
 unquoted escaped [] = None
 unquoted true (b ∷ text) = with_byte b (unquoted false text)
 unquoted false (b ∷ text) = if b == 92 then unquoted true text
-    else (if b == 34 then (if list_all is_blank text then Some [] else None)
+    else (if b == 34 then (if list_all is_space_or_tab text then Some [] else None)
     else with_byte b (unquoted false text))
 
 -- the word of a parameter, plain or in quotes
-abbrev pub word_of : List ℕ → Option (List ℕ)
-word_of text = if slice_index text 0 == 34 then unquoted false (drop 1 text) else Some (before_blanks text)
+abbrev pub parameter_word : List ℕ → Option (List ℕ)
+parameter_word text = if slice_index text 0 == 34 then unquoted false (drop 1 text) else Some (before_blanks text)
 
 abbrev pub word_or : Option (List ℕ) → Option (List ℕ) → Option (List ℕ)
 word_or None other = other
-word_or (Some text) other = word_of text
+word_or (Some text) other = parameter_word text
 
 -- the word of the first piece that has this name
-unfoldable pub word_in : List ℕ → List (List ℕ) → Option (List ℕ)
-word_in name [] = None
-word_in name (piece ∷ more) = word_or (after_name 61 name (after_blanks piece)) (word_in name more)
+unfoldable pub parameter_word_in : List ℕ → List (List ℕ) → Option (List ℕ)
+parameter_word_in name [] = None
+parameter_word_in name (piece ∷ more) = word_or (after_name 61 name (after_blanks piece)) (parameter_word_in name more)
 
 -- the word of the first parameter of this name, where it can be read
 abbrev pub parameter : List ℕ → List ℕ → Option (List ℕ)
-parameter name text = word_in name (drop 1 (pieces text))
+parameter name text = parameter_word_in name (drop 1 (parameter_pieces text))
 
 -- the pieces of what is left of a text, where none or a text is left
 abbrev pub pieces_left : Option (List ℕ) → List (List ℕ)
 pieces_left None = []
-pieces_left (Some text) = pieces text
+pieces_left (Some text) = parameter_pieces text

@@ -1,6 +1,6 @@
 //! The boundary lines of a multipart body.
 ghost use Rattle.std.specs.Prelude.{◌≡◌, ◌<◌, ◌≤◌, [], Some, length, option_copied, IfSome, IfNone};
-ghost use Rattle.form_input.specs.Multipart.{kind_after, kind_of, is_plain, is_closing};
+ghost use Rattle.form_input.specs.Multipart.{kind_after, line_kind, is_plain_line, is_closing_line};
 ghost use Rattle.form_input.specs.Boundaries.{IsMark, front_of, sections_left};
 
 use crate::lines::{LINE_END, next_line};
@@ -35,7 +35,7 @@ fn kind_after(rest: &[u8]) -> LineKind
 }
 
 fn kind_of(dash: &[u8], line: &[u8]) -> LineKind
-    ensures { result ≡ kind_of dash.now line.now }
+    ensures { result ≡ line_kind dash.now line.now }
 {
     match line.strip_prefix(dash) {
         Some(rest) => kind_after(rest),
@@ -82,7 +82,7 @@ pub fn next_mark<'a>(dash: &[u8], end: usize, text: &'a [u8]) -> Option<Mark<'a>
 }
 
 fn is_plain(kind: LineKind) -> bool
-    ensures { result ≡ is_plain kind }
+    ensures { result ≡ is_plain_line kind }
 {
     match kind {
         LineKind::Opening => false,
@@ -92,7 +92,7 @@ fn is_plain(kind: LineKind) -> bool
 }
 
 fn is_closing(kind: LineKind) -> bool
-    ensures { result ≡ is_closing kind }
+    ensures { result ≡ is_closing_line kind }
 {
     match kind {
         LineKind::Opening => false,

@@ -16,7 +16,7 @@ pub enum Quoting {
 }
 
 fn step(quoting: Quoting, b: u8) -> Quoting
-    ensures { result ≡ spec.step quoting b }
+    ensures { result ≡ spec.quoting_step quoting b }
 {
     match quoting {
         Quoting::Outside => {
@@ -50,14 +50,14 @@ fn separates(quoting: Quoting, b: u8) -> bool
 }
 
 fn is_blank(b: u8) -> bool
-    ensures { result ≡ spec.is_blank b }
+    ensures { result ≡ spec.is_space_or_tab b }
 {
     if b == b' ' { true } else { b == b'\t' }
 }
 
 /// Whether a text has blanks alone.
 pub fn all_blank(text: &[u8]) -> bool
-    ensures { result ≡ list_all spec.is_blank text.now }
+    ensures { result ≡ list_all spec.is_space_or_tab text.now }
 {
     let mut rest = text;
     while let [b, more @ ..] = rest {
@@ -99,7 +99,7 @@ fn before_blanks(text: &[u8]) -> &[u8]
 
 // The first piece, and the text after its semicolon where it has one.
 fn next_piece(text: &[u8]) -> (&[u8], Option<&[u8]>)
-    ensures pieces { spec.pieces text.now ≡ result.0.now ∷ spec.pieces_left (option_copied result.1) }
+    ensures pieces { spec.parameter_pieces text.now ≡ result.0.now ∷ spec.pieces_left (option_copied result.1) }
     ensures shorter { IfSome result.1 (λ rest. length rest.now < length text.now) }
 {
     let mut quoting = Quoting::Outside;
@@ -176,7 +176,7 @@ fn unquoted(alloc: Global, text: &[u8]) -> Result<Option<Vec<u8>>, AllocError>
 }
 
 fn word_of(alloc: Global, text: &[u8]) -> Result<Option<Vec<u8>>, AllocError>
-    ensures { IfOk result (λ o. option_map (λ v. v.items) o ≡ spec.word_of text.now) }
+    ensures { IfOk result (λ o. option_map (λ v. v.items) o ≡ spec.parameter_word text.now) }
 {
     match text {
         [b'"', rest @ ..] => unquoted(alloc, rest),
@@ -185,7 +185,7 @@ fn word_of(alloc: Global, text: &[u8]) -> Result<Option<Vec<u8>>, AllocError>
 }
 
 /// The word of the first parameter with this name, in lower case; none too where that word has no closing quote.
-#[tactic(auto, unfolding(crate::specs::Parameters::word_in))]
+#[tactic(auto, unfolding(crate::specs::Parameters::parameter_word_in))]
 pub fn parameter(alloc: Global, name: &[u8], text: &[u8]) -> Result<Option<Vec<u8>>, AllocError>
     ensures { IfOk result (λ o. option_map (λ v. v.items) o ≡ spec.parameter name.now text.now) }
 {

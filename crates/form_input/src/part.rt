@@ -62,7 +62,7 @@ fn utf8(alloc: Global, bytes: &[u8]) -> Mem<Option<TextBuf>>
 }
 
 fn name_of(alloc: Global, disposition: &[u8]) -> Mem<Option<TextBuf>>
-    ensures { IfOk result (λ o. o ≡ spec.name_of (Some disposition.now)) }
+    ensures { IfOk result (λ o. o ≡ spec.part_name (Some disposition.now)) }
 {
     if !is_type(FORM_DATA, disposition) {
         return Ok(None);

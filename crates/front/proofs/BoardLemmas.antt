@@ -13,7 +13,7 @@ use Rattle.any_config.specs.declared.farm.Farm.{Farm}
 use Rattle.connections.specs.Connections.{Connection, with_landing}
 use Rattle.front.specs.Boards.{AllGiven, BoardTied, FirstThen, Landing, LineTied, LinesTied, Meets, ServesDry, SettlesDry, SkyTied}
 use Rattle.front.specs.Lines.{Holds}
-use Rattle.front.specs.Moves.{Gives, Serves, after, afters, due}
+use Rattle.front.specs.Moves.{GivesDue, Serves, state_after_note, afters, due_of_connection}
 use Rattle.front.specs.States.{RunState}
 use Rattle.front.specs.declared.board.Board.{Board}
 use Rattle.front.specs.declared.line.Line.{Line}
@@ -140,21 +140,21 @@ settled-over {farm} b w c k j sky lines left told all over tied here serves ends
     let there = some-there _ k (sym here) in
     let some : o ≡ Some j = was ∙ (writes.3 there).1 in
     let fewer : btree_map_len left + 1 ≡ btree_map_len lines = one-fewer o j _ _ some len in
-    let end : afters w all.notes.items ≡ after v (Shut c) = ap (afters w) notes ∙ afters-push w told.notes.items (Shut c) in
+    let end : afters w all.notes.items ≡ state_after_note v (Shut c) = ap (afters w) notes ∙ afters-push w told.notes.items (Shut c) in
     let same_dry : all.dry ≡ told.dry = dry ∙ or-false told.dry in
     let size : v.lines ≡ btree_map_len lines = sym mid.count in (
       λ m allows. record {
-        serves = subst (Serves m w c) (sym notes) (serves-push m w c told.notes.items (Shut c) (given.given.serves m (λ is. allows (same_dry ∙ is))) (subst (λ d. Gives m v c d (Shut c)) (sym given.then_due) refl));
-        idle = ap (λ u. due u c) end ∙ rw (update_here v.line c None) refl;
+        serves = subst (Serves m w c) (sym notes) (serves-push m w c told.notes.items (Shut c) (given.given.serves m (λ is. allows (same_dry ∙ is))) (subst (λ d. GivesDue m v c d (Shut c)) (sym given.then_due) refl));
+        idle = ap (λ u. due_of_connection u c) end ∙ rw (update_here v.line c None) refl;
       },
       subst (BoardTied farm (record { lines = left; sky = sky })) (sym end) (record {
         farm_is = given.given.meets.farm_is;
-        lines = lines-without lines left v (after v (Shut c)) c mid updates fewer (update_here v.line c None) (λ q other. update_apart v.line c None q other) (omega (arith, fewer, size));
+        lines = lines-without lines left v (state_after_note v (Shut c)) c mid updates fewer (update_here v.line c None) (λ q other. update_apart v.line c None q other) (omega (arith, fewer, size));
         sky = sky-shut sky v c given.given.meets.sky_is;
       }),
     )
   where
-    sky-shut : (sky : Sky) (v : RunState) (c : ℕ) → SkyTied sky v → SkyTied sky (after v (Shut c))
+    sky-shut : (sky : Sky) (v : RunState) (c : ℕ) → SkyTied sky v → SkyTied sky (state_after_note v (Shut c))
     sky-shut sky v c tied = record { air = tied.air; asked = tied.asked; rising = tied.rising }
 
 -- ---- a flight has landed

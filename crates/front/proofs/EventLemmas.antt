@@ -14,11 +14,11 @@ use Rattle.error_answers.specs.Errors.{error_answer}
 use Rattle.http_front.specs.Turns.{Waits}
 use Rattle.connections.specs.Connections.{Connection, fed, fresh}
 use Rattle.front.specs.Boards.{BoardTied, FirstThen, Happened, Landing, LineTied, ReadAt, SettlesDry, SkyTied, event_of}
-use Rattle.front.specs.Events.{DeliverAs, DeliverTo, Event, Leads, LoseTo, PieceTo, after_event, gone, going, is_any, is_picked, is_rendered, most_lines, opened, opening, picked}
+use Rattle.front.specs.Events.{DeliverAs, DeliverTo, Event, LeadsNotes, LoseTo, PieceTo, after_event, gone, going, is_any, is_picked, is_rendered, most_lines, opened, opening, picked}
 use Rattle.front.specs.Lines.{Holds}
 use Rattle.front.specs.Publishers.{fixed_answer}
-use Rattle.front.specs.Moves.{after, afters, Settles, answer_in, flight_at, on_line, over_with, without}
-use Rattle.front.specs.States.{Entry, Landed, Lost as lost_entry, Passed as passed_fate, RunState, asked_in}
+use Rattle.front.specs.Moves.{state_after_note, afters, Settles, answer_in, flight_at, on_line, over_with, without}
+use Rattle.front.specs.States.{LogEntry, Landed, Lost as lost_entry, Passed as passed_fate, RunState, flights_asked}
 use Rattle.front.specs.declared.board.Board.{Board}
 use Rattle.front.specs.declared.flying.Flying.{Flying}
 use Rattle.front.specs.declared.line.Line.{Line}
@@ -36,16 +36,6 @@ sky-as : (sky : Sky) (w v : RunState) → SkyTied sky w → v.air ≡ w.air → 
 sky-as sky w v tied air log = record { air = tied.air ∙ sym air; asked = rw log tied.asked; rising = tied.rising }
 
 -- ---- a connection is there
-pub opened-there : {farm : Farm} (b : Board) (w : RunState) (c : ℕ) (peer : List ℕ) (told : Told) → BoardTied farm b w → is_some (get nat_cmp b.lines c) ≡ true → told.notes.items ≡ Idle ∷ [] → Happened (BoardTied farm b) w (Opened c peer) told
-opened-there {farm} b w c peer told tied there notes = by_line (w.line c) refl (get nat_cmp b.lines c) (tied.lines.each c) there
-  where
-    by_line : (line : Option Connection) → w.line c ≡ line → (o : Option Line) → LineTied o line → is_some o ≡ true → Happened (BoardTied farm b) w (Opened c peer) told
-    by_line None is None each some = absurd (let no : ⊥ = cc in no)
-    by_line None is (Some k) each some = absurd each
-    by_line (Some m) is o each some =
-        let begins : opened w c peer (w.line c) ≡ w = ap (opened w c peer) is in
-        let state : afters (opened w c peer (w.line c)) told.notes.items ≡ w = ap (afters (opened w c peer (w.line c))) notes ∙ begins in
-        record { turns = []; ends = Waits; happens = notes ∙ sym (ap (opening c w.lines) is); stands = subst (BoardTied farm b) (sym state) tied }
 
 full-opening : (c lines : ℕ) → nat_le most_lines lines ≡ true → opening c lines None ≡ Refused c ∷ []
 full-opening c lines full = rw full refl
@@ -168,7 +158,7 @@ gone-none {farm} b w c told tied absent notes =
 -- ---- a flight is over
 -- the flight at a place, taken out
 sky-landed : (old new : Sky) (w v : RunState) (at : ℕ) (f : Flying) → SkyTied old w → slice_get old.flights.items at ≡ Some f → new.flights.items ≡ remove old.flights.items at → new.asked ≡ old.asked
-    → v.air ≡ without f.number w.air → asked_in v.log.entries ≡ asked_in w.log.entries → SkyTied new v
+    → v.air ≡ without f.number w.air → flights_asked v.log.entries ≡ flights_asked w.log.entries → SkyTied new v
 sky-landed old new w v at f tied here flights asked air log =
     let there = place 0 old.flights.items old.asked at f tied.rising here in
     record {
@@ -210,7 +200,7 @@ lost-none {farm} b w pick told tied none notes =
     }
 
 -- a first note, and then what the connection is owed
-leads : {farm : Farm} (w v : RunState) (first : Note) (c : ℕ) (told : Told) (h : Board) → after w first ≡ v → FirstThen first farm v c told h → Leads w (record { dry = told.dry }) first c told.notes.items × BoardTied farm h (afters w told.notes.items)
+leads : {farm : Farm} (w v : RunState) (first : Note) (c : ℕ) (told : Told) (h : Board) → state_after_note w first ≡ v → FirstThen first farm v c told h → LeadsNotes w (record { dry = told.dry }) first c told.notes.items × BoardTied farm h (afters w told.notes.items)
 leads {farm} w v first c told h is led = (
   record { rest = led.rest; begins = led.begins; settles = subst (λ u. Settles (record { dry = told.dry }) u c led.rest) (sym is) (led.settles (record { dry = told.dry }) (λ x. x)) },
   subst (BoardTied farm h) (sym (ap (afters w) led.begins ∙ ap (λ u. afters u led.rest) is)) led.board_is,
@@ -223,10 +213,10 @@ pub delivered : {farm : Farm} (b h : Board) (sky : Sky) (w : RunState) (pick : P
 delivered {farm} b h sky w pick at f answer told tied found here rendered flights asked finished =
     let e : Event = event_of (Deliver pick) told [] Waits in
     let there = flight-there b.sky w at f tied.sky here in
-    let entry : Entry = Landed f.number answer passed_fate in
+    let entry : LogEntry = Landed f.number answer passed_fate in
     let v = over_with w f.number answer entry (Some f) in
     let brings : answer_in (flight_at f.number w.air) ≡ answer = ap answer_in there ∙ ap (λ o. unwrap_or o fixed_answer) rendered in
-    let is : after w (Passed f.number) ≡ v = ap (λ a. over_with w f.number a (Landed f.number a passed_fate) (flight_at f.number w.air)) brings ∙ ap (over_with w f.number answer entry) there in
+    let is : state_after_note w (Passed f.number) ≡ v = ap (λ a. over_with w f.number a (Landed f.number a passed_fate) (flight_at f.number w.air)) brings ∙ ap (over_with w f.number answer entry) there in
     let landing : Landing farm (record { lines = b.lines; sky = sky }) w v f.line f.number answer = record {
       farm_is = tied.farm_is;
       lines = tied.lines;
@@ -251,7 +241,7 @@ lost {farm} b h sky w pick at f told tied found here flights asked finished =
     let e : Event = event_of (Lose pick) told [] Waits in
     let there = flight-there b.sky w at f tied.sky here in
     let v = over_with w f.number (error_answer 502) (lost_entry f.number) (Some f) in
-    let is : after w (Lost f.number) ≡ v = ap (over_with w f.number (error_answer 502) (lost_entry f.number)) there in
+    let is : state_after_note w (Lost f.number) ≡ v = ap (over_with w f.number (error_answer 502) (lost_entry f.number)) there in
     let landing : Landing farm (record { lines = b.lines; sky = sky }) w v f.line f.number (error_answer 502) = record {
       farm_is = tied.farm_is;
       lines = tied.lines;

@@ -7,14 +7,14 @@ use Rattle.std.specs.BTreeMap.{BTreeMap, get, WritesThrough}
 use Rattle.sp_base.specs.declared.answer.Answer.{Answer}
 use Rattle.resource_tree.specs.Content.{Content}
 use Rattle.any_config.specs.declared.farm.Farm.{Farm}
-use Rattle.dispatch_rules.specs.Asking.{asked_of}
+use Rattle.dispatch_rules.specs.Asking.{publisher_ask}
 use Rattle.http_front.specs.Turns.{Waits}
 use Rattle.connections.specs.Connections.{Connection}
-use Rattle.front.specs.Boards.{BoardTells, Given, Meets, ReadAt, ServedAs, SkyTied, event_of}
+use Rattle.front.specs.Boards.{BoardTells, NotesGiven, Meets, ReadAt, ServedAs, SkyTied, event_of}
 use Rattle.front.specs.Events.{Event, Extends, IsOrFixed, RenderTo, is_picked, is_unrendered, mood_notes, picked}
-use Rattle.front.specs.Fronts.{IsGiven, Stands, Tells}
-use Rattle.front.specs.Lines.{Holds, Reads}
-use Rattle.front.specs.Moves.{Serves, after, afters, content_rendered, flight_at, published, with_rendered, with_rendered_at}
+use Rattle.front.specs.Fronts.{IsGiven, BoardStands, TellsStep}
+use Rattle.front.specs.Lines.{Holds, LineReads}
+use Rattle.front.specs.Moves.{Serves, state_after_note, afters, content_rendered, flight_at, published_for, with_rendered, with_rendered_at}
 use Rattle.front.specs.Publishers.{Published, Publishing, direct_answer}
 use Rattle.front.specs.States.{RunState}
 use Rattle.front.specs.declared.board.Board.{Board}
@@ -39,7 +39,7 @@ ok-map (Err e) p f = tt
 
 -- ---- a line that is there reads
 pub read-at : (b : Board) (lines : BTreeMap ℕ Line) (c : ℕ) (bytes : List ℕ) (k j : Line) → Some k ≡ get nat_cmp b.lines c → WritesThrough nat_cmp (nat_cmp c) b.lines j lines
-    → ((m : Connection) → Holds k m → Reads bytes m j) → ReadAt b (record { lines = lines; sky = b.sky }) c bytes
+    → ((m : Connection) → Holds k m → LineReads bytes m j) → ReadAt b (record { lines = lines; sky = b.sky }) c bytes
 read-at b lines c bytes k j here writes reads =
     let updates = writes.3 (some-there _ k (sym here)) in
     record {
@@ -62,11 +62,11 @@ or-right : (a b : Bool) → IsTrue b → IsTrue (a || b)
 or-right true b is = refl
 or-right false b is = is
 
-pub given-none : {farm : Farm} (told : Told) (w : RunState) (c : ℕ) (k : Line) (sky : Sky) → told.notes.items ≡ [] → Meets farm w c k sky → Given told.dry told.notes.items farm w c k sky
+pub given-none : {farm : Farm} (told : Told) (w : RunState) (c : ℕ) (k : Line) (sky : Sky) → told.notes.items ≡ [] → Meets farm w c k sky → NotesGiven told.dry told.notes.items farm w c k sky
 given-none told w c k sky none meets = rw none (record { serves = λ m allows. tt; meets = meets })
 
-pub given-more : {farm : Farm} (told next : Told) (w : RunState) (c : ℕ) (k j : Line) (sky new : Sky) (note : Note) (dry : Bool) → Given told.dry told.notes.items farm w c k sky
-    → ((u : RunState) → Meets farm u c k sky → ServedAs (Said note dry) farm u c j new) → next.notes.items ≡ told.notes.items ++ note ∷ [] → next.dry ≡ (told.dry || dry) → Given next.dry next.notes.items farm w c j new
+pub given-more : {farm : Farm} (told next : Told) (w : RunState) (c : ℕ) (k j : Line) (sky new : Sky) (note : Note) (dry : Bool) → NotesGiven told.dry told.notes.items farm w c k sky
+    → ((u : RunState) → Meets farm u c k sky → ServedAs (Said note dry) farm u c j new) → next.notes.items ≡ told.notes.items ++ note ∷ [] → next.dry ≡ (told.dry || dry) → NotesGiven next.dry next.notes.items farm w c j new
 given-more {farm} told next w c k j sky new note dry given served notes dried =
     let one = served (afters w told.notes.items) given.meets in
     record {
@@ -84,7 +84,7 @@ either (Ok a) answer wanted dry given ok = inl (given.0 ∙ ok)
 either (Err e) answer wanted dry given ok = inr (given.1, given.0)
 
 pub direct-event : (p : Publishing) (content later : Content) (farm other : Farm) (b h : Board) (target : List ℕ) (answer : Answer) (dry : Bool) (told : Told) → later ≡ content → other ≡ farm → h ≡ b
-    → IsOrFixed (record { dry = dry }) answer (direct_answer p farm content target) → told.notes.items ≡ answered answer ∷ [] → told.dry ≡ dry → Tells (Stands p content farm b) (Stands p later other h) (Direct target) told
+    → IsOrFixed (record { dry = dry }) answer (direct_answer p farm content target) → told.notes.items ≡ answered answer ∷ [] → told.dry ≡ dry → TellsStep (BoardStands p content farm b) (BoardStands p later other h) (Direct target) told
 direct-event p content later farm other b h target answer dry told same_content same_farm same_board given notes dried = λ w stands.
     let wanted : direct_answer w.publishing w.farm w.content target ≡ direct_answer p farm content target = rw (stands.publishing_is, stands.content_is, stands.board_is.farm_is) refl in
     let or : IsOrFixed (record { dry = told.dry }) answer (direct_answer w.publishing w.farm w.content target) = rw (wanted, dried) given in
@@ -92,7 +92,7 @@ direct-event p content later farm other b h target answer dry told same_content 
       turns = [];
       ends = Waits;
       happens = (answer, or, notes);
-      stands = subst (Stands p later other h) (sym (ap (afters w) notes)) (record {
+      stands = subst (BoardStands p later other h) (sym (ap (afters w) notes)) (record {
         publishing_is = stands.publishing_is;
         content_is = stands.content_is ∙ sym same_content;
         board_is = rw (same_farm, same_board) stands.board_is;
@@ -101,7 +101,7 @@ direct-event p content later farm other b h target answer dry told same_content 
 
 -- ---- a flight is rendered
 pub render-none : (p : Publishing) (content : Content) (farm : Farm) (b : Board) (pick : Pick) (told : Told) → position (λ flying. is_picked pick flying && is_unrendered flying) b.sky.flights.items ≡ None → told.notes.items ≡ Idle ∷ []
-    → Tells (Stands p content farm b) (Stands p content farm b) (Render pick) told
+    → TellsStep (BoardStands p content farm b) (BoardStands p content farm b) (Render pick) told
 render-none p content farm b pick told none notes = λ w stands.
     let e : Event = event_of (Render pick) told [] Waits in
     let no : picked pick is_unrendered w.air ≡ None = ap (picked pick is_unrendered) (sym stands.board_is.sky.air) ∙ found-none (λ flying. is_picked pick flying && is_unrendered flying) b.sky.flights.items none in
@@ -109,11 +109,11 @@ render-none p content farm b pick told none notes = λ w stands.
       turns = [];
       ends = Waits;
       happens = subst (RenderTo w e) (sym no) notes;
-      stands = subst (Stands p content farm b) (sym (ap (afters w) notes)) stands;
+      stands = subst (BoardStands p content farm b) (sym (ap (afters w) notes)) stands;
     }
 
 sky-rendered : (old new : Sky) (w : RunState) (at : ℕ) (f : Flying) (answer : Answer) → SkyTied old w → slice_get old.flights.items at ≡ Some f → new.flights.items ≡ slice_set old.flights.items at (with_rendered answer f) → new.asked ≡ old.asked
-    → SkyTied new (after w (Rendered f.number answer))
+    → SkyTied new (state_after_note w (Rendered f.number answer))
 sky-rendered old new w at f answer tied here flights asked = record {
   air = flights ∙ sym ((place 0 old.flights.items old.asked at f tied.rising here).set answer) ∙ ap (map (with_rendered_at f.number answer)) tied.air;
   asked = asked ∙ tied.asked;
@@ -141,10 +141,10 @@ ok-then (Err e) p f = tt
 
 pub render-event : (p : Publishing) (content later : Content) (farm other : Farm) (b mid h : Board) (pick : Pick) (at n : ℕ) (answer copy : Answer) (dry : Bool) (told : Told) → other ≡ farm → mid ≡ b
     → position (λ flying. is_picked pick flying && is_unrendered flying) b.sky.flights.items ≡ Some at
-    → ((f : Flying) → slice_get b.sky.flights.items at ≡ Some f → Renders (p content (asked_of farm f.request)) content later answer dry)
+    → ((f : Flying) → slice_get b.sky.flights.items at ≡ Some f → Renders (p content (publisher_ask farm f.request)) content later answer dry)
     → copy ≡ answer → ((f : Flying) → slice_get mid.sky.flights.items at ≡ Some f → n ≡ f.number)
     → ((f : Flying) → slice_get mid.sky.flights.items at ≡ Some f → h.sky.flights.items ≡ slice_set mid.sky.flights.items at (with_rendered copy f)) → h.sky.asked ≡ mid.sky.asked → h.lines ≡ mid.lines
-    → told.notes.items ≡ Rendered n answer ∷ [] → told.dry ≡ dry → Tells (Stands p content farm b) (Stands p later other h) (Render pick) told
+    → told.notes.items ≡ Rendered n answer ∷ [] → told.dry ≡ dry → TellsStep (BoardStands p content farm b) (BoardStands p later other h) (Render pick) told
 render-event p content later farm other b mid h pick at n answer copy dry told same_farm same_board found given copied number flights asked lines notes dried = λ w stands.
     let e : Event = event_of (Render pick) told [] Waits in
     let found_at = found-some (λ flying. is_picked pick flying && is_unrendered flying) b.sky.flights.items at found in
@@ -152,8 +152,8 @@ render-event p content later farm other b mid h pick at n answer copy dry told s
     let f = there.0 in
     let here : slice_get mid.sky.flights.items at ≡ Some f = ap (λ (x : Board). slice_get x.sky.flights.items at) same_board ∙ there.1 in
     let some : picked pick is_unrendered w.air ≡ Some f = ap (picked pick is_unrendered) (sym stands.board_is.sky.air) ∙ found_at.1 ∙ there.1 in
-    let wanted : published w f.request ≡ p content (asked_of farm f.request) = rw (stands.publishing_is, stands.content_is, stands.board_is.farm_is) refl in
-    let gives : Renders (published w f.request) w.content later answer told.dry = rw (wanted, dried, stands.content_is) (given f there.1) in
+    let wanted : published_for w f.request ≡ p content (publisher_ask farm f.request) = rw (stands.publishing_is, stands.content_is, stands.board_is.farm_is) refl in
+    let gives : Renders (published_for w f.request) w.content later answer told.dry = rw (wanted, dried, stands.content_is) (given f there.1) in
     let note : told.notes.items ≡ Rendered f.number answer ∷ [] = notes ∙ ap (λ x. Rendered x answer ∷ []) (number f here) in
     let set : h.sky.flights.items ≡ slice_set b.sky.flights.items at (with_rendered answer f) =
     flights f here ∙ ap (λ a. slice_set mid.sky.flights.items at (with_rendered a f)) copied ∙ ap (λ (x : Board). slice_set x.sky.flights.items at (with_rendered answer f)) same_board in
@@ -164,7 +164,7 @@ render-event p content later farm other b mid h pick at n answer copy dry told s
       turns = [];
       ends = Waits;
       happens = subst (RenderTo w e) (sym some) (answer, gives.answer_is, note);
-      stands = subst (Stands p later other h) (sym (ap (afters w) note)) (record {
+      stands = subst (BoardStands p later other h) (sym (ap (afters w) note)) (record {
         publishing_is = stands.publishing_is;
         content_is = ap (content_rendered w answer) number_is ∙ sym gives.content_is;
         board_is = record {
@@ -176,7 +176,7 @@ render-event p content later farm other b mid h pick at n answer copy dry told s
     }
 
 -- ---- a step of the board
-pub board-tells : (p : Publishing) (content : Content) (farm : Farm) (b h : Board) (step : Step) (told : Told) → IsStillStep step → BoardTells farm b h step told → Tells (Stands p content farm b) (Stands p content farm h) step told
+pub board-tells : (p : Publishing) (content : Content) (farm : Farm) (b h : Board) (step : Step) (told : Told) → IsStillStep step → BoardTells farm b h step told → TellsStep (BoardStands p content farm b) (BoardStands p content farm h) step told
 board-tells p content farm b h step told still tells = λ w stands.
     let done = tells w stands.board_is in
     let e : Event = event_of step told done.turns done.ends in
@@ -189,7 +189,7 @@ board-tells p content farm b h step told still tells = λ w stands.
     }
 
 -- ---- the notes of a step
-pub extends : (Before After : RunState → Type 0) (step : Step) (told : Told) (notes : List Note) → Tells Before After step told → notes ≡ told.notes.items ++ mood_notes (record { dry = told.dry }) → Extends Before After step notes
+pub extends : (Before After : RunState → Type 0) (step : Step) (told : Told) (notes : List Note) → TellsStep Before After step told → notes ≡ told.notes.items ++ mood_notes (record { dry = told.dry }) → Extends Before After step notes
 extends Before After step told notes tells is = record {
   extended = λ w before.
       let done = tells w before in

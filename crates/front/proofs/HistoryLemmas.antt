@@ -12,7 +12,7 @@ use Rattle.sp_base.specs.declared.answer.Req.{Req}
 use Rattle.resource_tree.specs.Content.{Content}
 use Rattle.any_config.specs.declared.farm.Farm.{Farm}
 use Rattle.cover_rules.specs.declared.page.PageKey.{PageKey}
-use Rattle.http_front.specs.Faults.{status_of}
+use Rattle.http_front.specs.Faults.{fault_status}
 use Rattle.http_front.specs.declared.turn.Turn.TheVariants.{Continue, Whole}
 use Rattle.connections.specs.Slots.{Slot, Awaits, fault_slot, request_slot}
 use Rattle.connections.specs.Connections.{Connection, Due, Send, Treat, Refuse, Close, Nothing, fed, fresh, is_crowded, with_landing, with_sent}
@@ -25,15 +25,15 @@ use Rattle.front.specs.declared.note.Note.{Note}
 use Rattle.front.specs.declared.note.Note.TheVariants.{Answer as answered, Ask as asked, Local, Rendered, Passed, Lost, Sent, Shut, Refused, Idle, Dry}
 use Rattle.front.specs.declared.step.Step.{Step}
 use Rattle.front.specs.declared.step.Step.TheVariants as step
-use Rattle.front.specs.Events.{DeliverAs, DeliverTo, Event, Happens, HappensBy, Leads, LoseTo, PieceTo, RenderTo, Run, after_event, after_run, begun, gone, going, is_any, is_rendered, is_unrendered, most_lines, opened, opening, picked}
-use Rattle.front.specs.Histories.{brought_by, came_after, opens, sent_after, sent_by, sent_in}
+use Rattle.front.specs.Events.{DeliverAs, DeliverTo, Event, Happens, HappensBy, LeadsNotes, LoseTo, PieceTo, RenderTo, Run, after_event, state_after_events, begun, gone, going, is_any, is_rendered, is_unrendered, most_lines, opened, opening, picked}
+use Rattle.front.specs.Histories.{brought_by, came_after, opens_connection, sent_after, sent_by, sent_in}
 use Rattle.front.proofs.PastLemmas.{Last, Past, last-later, last-now, past-as, past-fed, past-fresh, past-move, same-landing, same-sent, same-treated}
 use Rattle.any_config.specs.declared.farm.Farm.{Farm}
-use Rattle.http_front.specs.Turns.{Spells}
-use Rattle.front.specs.Moves.{Gives, IsFirst, Mood, Serves, Settles, after, afters, asked_by, due, flight_at, has_number, line_due, local_slot, new_flight, on_line, over_with, points, request_of, treated, with_rendered, with_rendered_at, without}
+use Rattle.http_front.specs.Turns.{SpellsTurns}
+use Rattle.front.specs.Moves.{GivesDue, IsFirstPoint, Mood, Serves, Settles, state_after_note, afters, asked_by, due_of_connection, flight_at, has_number, line_due, local_slot, new_flight, on_line, over_with, points, request_of, treated, with_rendered, with_rendered_at, without}
 use Rattle.front.specs.Publishers.{Publishing}
 use Rattle.front.specs.Boards.{AreRising}
-use Rattle.front.specs.States.{Entry, RunState, asked_in, start_of}
+use Rattle.front.specs.States.{LogEntry, RunState, flights_asked, start_of}
 use Rattle.front.proofs.SkyLemmas.{place, rising-lower, rising-push}
 
 -- ---- the past of one connection
@@ -61,26 +61,26 @@ held-same w v c came a b line same held = subst (λ xs. Held v c came xs) same (
 slot-held : (w v : RunState) (c : ℕ) (d : Connection) (came : List ℕ) (sent : List Sending) (slot : Slot) → Past d came sent → IsMove d (Treatment slot) → v.line c ≡ Some (treated slot d) → Held v c came (sent ++ [])
 slot-held w v c d came sent slot past may is = held-one v c (treated slot d) came (sent ++ []) is (past-move d came sent (Treatment slot) past may (same-treated slot d))
 
-local-held : (w : RunState) (c : ℕ) (d : Connection) (came : List ℕ) (sent : List Sending) (request : Req) (status : ℕ) → w.line c ≡ Some d → connection.due d ≡ Treat (Whole request) → Past d came sent → Held (after w (Local c status)) c came (sent ++ [])
+local-held : (w : RunState) (c : ℕ) (d : Connection) (came : List ℕ) (sent : List Sending) (request : Req) (status : ℕ) → w.line c ≡ Some d → connection.due d ≡ Treat (Whole request) → Past d came sent → Held (state_after_note w (Local c status)) c came (sent ++ [])
 local-held w c d came sent request status is owed past =
-    let some : request_of (due w c) ≡ Some request = ap request_of (ap line_due is ∙ owed) in
+    let some : request_of (due_of_connection w c) ≡ Some request = ap request_of (ap line_due is ∙ owed) in
     let slot = local_slot (Some request) status d in
-    let now : (after w (Local c status)).line c ≡ Some (treated slot d) = update_here w.line c _ ∙ ap (option_map (λ line. treated (local_slot (request_of (due w c)) status line) line)) is ∙ ap (λ r. Some (treated (local_slot r status d) d)) some in
-    slot-held w (after w (Local c status)) c d came sent slot past (rw owed (_, _, refl)) now
+    let now : (state_after_note w (Local c status)).line c ≡ Some (treated slot d) = update_here w.line c _ ∙ ap (option_map (λ line. treated (local_slot (request_of (due_of_connection w c)) status line) line)) is ∙ ap (λ r. Some (treated (local_slot r status d) d)) some in
+    slot-held w (state_after_note w (Local c status)) c d came sent slot past (rw owed (_, _, refl)) now
 
-refused-held : (w : RunState) (c : ℕ) (d : Connection) (came : List ℕ) (sent : List Sending) (fault : _) (status : ℕ) → w.line c ≡ Some d → connection.due d ≡ Refuse fault → Past d came sent → Held (after w (Local c status)) c came (sent ++ [])
+refused-held : (w : RunState) (c : ℕ) (d : Connection) (came : List ℕ) (sent : List Sending) (fault : _) (status : ℕ) → w.line c ≡ Some d → connection.due d ≡ Refuse fault → Past d came sent → Held (state_after_note w (Local c status)) c came (sent ++ [])
 refused-held w c d came sent fault status is owed past =
-    let none : request_of (due w c) ≡ None = ap request_of (ap line_due is ∙ owed) in
+    let none : request_of (due_of_connection w c) ≡ None = ap request_of (ap line_due is ∙ owed) in
     let slot = local_slot None status d in
-    let now : (after w (Local c status)).line c ≡ Some (treated slot d) = update_here w.line c _ ∙ ap (option_map (λ line. treated (local_slot (request_of (due w c)) status line) line)) is ∙ ap (λ r. Some (treated (local_slot r status d) d)) none in
-    slot-held w (after w (Local c status)) c d came sent slot past (rw owed (_, refl)) now
+    let now : (state_after_note w (Local c status)).line c ≡ Some (treated slot d) = update_here w.line c _ ∙ ap (option_map (λ line. treated (local_slot (request_of (due_of_connection w c)) status line) line)) is ∙ ap (λ r. Some (treated (local_slot r status d) d)) none in
+    slot-held w (state_after_note w (Local c status)) c d came sent slot past (rw owed (_, refl)) now
 
-asked-held : (w : RunState) (c n : ℕ) (key : Option PageKey) (d : Connection) (came : List ℕ) (sent : List Sending) (request : Req) → w.line c ≡ Some d → connection.due d ≡ Treat (Whole request) → Past d came sent → Held (after w (asked n c key)) c came (sent ++ [])
+asked-held : (w : RunState) (c n : ℕ) (key : Option PageKey) (d : Connection) (came : List ℕ) (sent : List Sending) (request : Req) → w.line c ≡ Some d → connection.due d ≡ Treat (Whole request) → Past d came sent → Held (state_after_note w (asked n c key)) c came (sent ++ [])
 asked-held w c n key d came sent request is owed past =
-    let some : request_of (due w c) ≡ Some request = ap request_of (ap line_due is ∙ owed) in
+    let some : request_of (due_of_connection w c) ≡ Some request = ap request_of (ap line_due is ∙ owed) in
     let slot = request_slot request false (Awaits n) in
-    let now : (after w (asked n c key)).line c ≡ Some (treated slot d) = ap (λ r. (asked_by w n c key r).line c) some ∙ update_here w.line c _ ∙ ap (option_map (treated slot)) is in
-    slot-held w (after w (asked n c key)) c d came sent slot past (rw owed (false, Awaits n, refl)) now
+    let now : (state_after_note w (asked n c key)).line c ≡ Some (treated slot d) = ap (λ r. (asked_by w n c key r).line c) some ∙ update_here w.line c _ ∙ ap (option_map (treated slot)) is in
+    slot-held w (state_after_note w (asked n c key)) c d came sent slot past (rw owed (false, Awaits n, refl)) now
 
 sent-here : (m : Mood) (c : ℕ) (bytes : List ℕ) → sent_by c m (Sent c bytes) ≡ record { bytes = bytes; dry = m.dry } ∷ []
 sent-here m c bytes =
@@ -88,35 +88,35 @@ sent-here m c bytes =
     rw here refl
 
 sent-held : (m : Mood) (w : RunState) (c : ℕ) (d : Connection) (came : List ℕ) (sent : List Sending) (slot : Slot) (bytes : List ℕ) → w.line c ≡ Some d → (history.IsDueSending d (record { bytes = bytes; dry = m.dry })) → Past d came sent
-    → Held (after w (Sent c bytes)) c came (sent ++ sent_by c m (Sent c bytes))
+    → Held (state_after_note w (Sent c bytes)) c came (sent ++ sent_by c m (Sent c bytes))
 sent-held m w c d came sent slot bytes is may past =
-    let now : (after w (Sent c bytes)).line c ≡ Some (with_sent bytes d) = update_here w.line c _ ∙ ap (option_map (with_sent bytes)) is in
-    let v = after w (Sent c bytes) in
+    let now : (state_after_note w (Sent c bytes)).line c ≡ Some (with_sent bytes d) = update_here w.line c _ ∙ ap (option_map (with_sent bytes)) is in
+    let v = state_after_note w (Sent c bytes) in
     let sending : Sending = record { bytes = bytes; dry = m.dry } in
     held-same v v c came (sent ++ sending ∷ []) (sent ++ sent_by c m (Sent c bytes)) refl (ap (λ xs. sent ++ xs) (sym (sent-here m c bytes))) (held-one v c (with_sent bytes d) came (sent ++ sending ∷ []) now (past-move d came sent (SentMove sending) past may (same-sent bytes d)))
 
-first-held : (m : Mood) (w : RunState) (c : ℕ) (d : Connection) (came : List ℕ) (sent : List Sending) (request : Req) (note : Note) → w.line c ≡ Some d → connection.due d ≡ Treat (Whole request) → Past d came sent → IsFirst m w c request note points
-    → Held (after w note) c came (sent ++ sent_by c m note)
+first-held : (m : Mood) (w : RunState) (c : ℕ) (d : Connection) (came : List ℕ) (sent : List Sending) (request : Req) (note : Note) → w.line c ≡ Some d → connection.due d ≡ Treat (Whole request) → Past d came sent → IsFirstPoint m w c request note points
+    → Held (state_after_note w note) c came (sent ++ sent_by c m note)
 first-held m w c d came sent request note is owed past (inl crowd) = rw crowd.1 (local-held w c d came sent request 503 is owed past)
 first-held m w c d came sent request note is owed past (inr (_, inl hidden)) = rw hidden.1 (local-held w c d came sent request 404 is owed past)
 first-held m w c d came sent request note is owed past (inr (_, inr (_, inl full))) = rw full.1 (local-held w c d came sent request 503 is owed past)
 first-held m w c d came sent request note is owed past (inr (_, inr (_, inr (_, inl ask)))) = rw ask.1 (asked-held w c _ None d came sent request is owed past)
 first-held m w c d came sent request note is owed past (inr (_, inr (_, inr (_, inr (never, _))))) = absurd never
 
-gives-held : (m : Mood) (w : RunState) (c : ℕ) (d : Connection) (came : List ℕ) (sent : List Sending) (owed : Due) (note : Note) → w.line c ≡ Some d → connection.due d ≡ owed → Past d came sent → Gives m w c owed note → Held (after w note) c came (sent ++ sent_by c m note)
+gives-held : (m : Mood) (w : RunState) (c : ℕ) (d : Connection) (came : List ℕ) (sent : List Sending) (owed : Due) (note : Note) → w.line c ≡ Some d → connection.due d ≡ owed → Past d came sent → GivesDue m w c owed note → Held (state_after_note w note) c came (sent ++ sent_by c m note)
 gives-held m w c d came sent (Send slot) note is owed past gives =
     let answers : history.IsDueSending d (record { bytes = gives.0; dry = m.dry }) = record { slot = slot; is_due = owed; answers = ⊎_elim (λ written. inl written) (λ fixed. inr (fixed.0, fixed.1)) gives.2 } in
     rw gives.1 (sent-held m w c d came sent slot gives.0 is answers past)
 gives-held m w c d came sent (Treat Continue) note is owed past gives = absurd gives
 gives-held m w c d came sent (Treat (Whole request)) note is owed past (inl first) = first-held m w c d came sent request note is owed past first
 gives-held m w c d came sent (Treat (Whole request)) note is owed past (inr dry) = rw dry.1 (local-held w c d came sent request 507 is owed past)
-gives-held m w c d came sent (Refuse fault) note is owed past gives = rw gives (refused-held w c d came sent fault (status_of fault) is owed past)
+gives-held m w c d came sent (Refuse fault) note is owed past gives = rw gives (refused-held w c d came sent fault (fault_status fault) is owed past)
 gives-held m w c d came sent Close note is owed past gives =
     let last = last-now d came (sent ++ []) (past-as d came sent (sent ++ []) (sym (append-nil sent)) past) (λ slot e. let no : ⊥ = cc in no) in
-    rw gives (held-none (after w (Shut c)) c came (sent ++ []) (update_here w.line c None) last)
+    rw gives (held-none (state_after_note w (Shut c)) c came (sent ++ []) (update_here w.line c None) last)
 gives-held m w c d came sent Nothing note is owed past gives = absurd gives
 
-line-held : (m : Mood) (w : RunState) (c : ℕ) (came : List ℕ) (sent : List Sending) (note : Note) (line : Option Connection) → w.line c ≡ line → Held w c came sent → Gives m w c (line_due line) note → Held (after w note) c came (sent ++ sent_by c m note)
+line-held : (m : Mood) (w : RunState) (c : ℕ) (came : List ℕ) (sent : List Sending) (note : Note) (line : Option Connection) → w.line c ≡ line → Held w c came sent → GivesDue m w c (line_due line) note → Held (state_after_note w note) c came (sent ++ sent_by c m note)
 line-held m w c came sent note None is held gives = absurd gives
 line-held m w c came sent note (Some d) is held gives = gives-held m w c d came sent (connection.due d) note is refl (held.here d is) gives
 
@@ -124,8 +124,8 @@ serves-held : (m : Mood) (w : RunState) (c : ℕ) (came : List ℕ) (sent : List
 serves-held m w c came sent [] held serves = held-same w w c came sent (sent ++ []) refl (sym (append-nil sent)) held
 serves-held m w c came sent (note ∷ notes) held serves =
     let one = line-held m w c came sent note (w.line c) refl held serves.0 in
-    let rest = serves-held m (after w note) c came (sent ++ sent_by c m note) notes one serves.1 in
-    let v = afters (after w note) notes in
+    let rest = serves-held m (state_after_note w note) c came (sent ++ sent_by c m note) notes one serves.1 in
+    let v = afters (state_after_note w note) notes in
     held-same v v c came ((sent ++ sent_by c m note) ++ sent_in c m notes) (sent ++ sent_in c m (note ∷ notes)) refl (append_assoc sent (sent_by c m note) (sent_in c m notes)) rest
 
 -- ---- notes on another connection
@@ -133,41 +133,41 @@ pub record Apart (w v : RunState) (c : ℕ) (sent : List Sending) : Type 0 where
   pub line : v.line c ≡ w.line c
   pub none : sent ≡ []
 
-local-apart : (w : RunState) (c d status : ℕ) (m : Mood) → c ≢ d → Apart w (after w (Local d status)) c (sent_by c m (Local d status))
+local-apart : (w : RunState) (c d status : ℕ) (m : Mood) → c ≢ d → Apart w (state_after_note w (Local d status)) c (sent_by c m (Local d status))
 local-apart w c d status m apart = record { line = update_apart w.line d _ c apart; none = refl }
 
 asked-apart : (w : RunState) (c n d : ℕ) (key : Option PageKey) (request : Option Req) → c ≢ d → (asked_by w n d key request).line c ≡ w.line c
 asked-apart w c n d key None apart = refl
 asked-apart w c n d key (Some request) apart = update_apart w.line d _ c apart
 
-first-apart : (m : Mood) (w : RunState) (c d : ℕ) (request : Req) (note : Note) → c ≢ d → IsFirst m w d request note points → Apart w (after w note) c (sent_by c m note)
+first-apart : (m : Mood) (w : RunState) (c d : ℕ) (request : Req) (note : Note) → c ≢ d → IsFirstPoint m w d request note points → Apart w (state_after_note w note) c (sent_by c m note)
 first-apart m w c d request note apart (inl crowd) = rw crowd.1 (local-apart w c d 503 m apart)
 first-apart m w c d request note apart (inr (_, inl hidden)) = rw hidden.1 (local-apart w c d 404 m apart)
 first-apart m w c d request note apart (inr (_, inr (_, inl full))) = rw full.1 (local-apart w c d 503 m apart)
-first-apart m w c d request note apart (inr (_, inr (_, inr (_, inl ask)))) = rw ask.1 (record { line = asked-apart w c _ d None (request_of (due w d)) apart; none = refl })
+first-apart m w c d request note apart (inr (_, inr (_, inr (_, inl ask)))) = rw ask.1 (record { line = asked-apart w c _ d None (request_of (due_of_connection w d)) apart; none = refl })
 first-apart m w c d request note apart (inr (_, inr (_, inr (_, inr (never, _))))) = absurd never
 
-gives-apart : (m : Mood) (w : RunState) (c d : ℕ) (owed : Due) (note : Note) → c ≢ d → Gives m w d owed note → Apart w (after w note) c (sent_by c m note)
+gives-apart : (m : Mood) (w : RunState) (c d : ℕ) (owed : Due) (note : Note) → c ≢ d → GivesDue m w d owed note → Apart w (state_after_note w note) c (sent_by c m note)
 gives-apart m w c d (Send slot) note apart gives =
     let other : nat_eq d c ≡ false = ne_eqb d c (λ e. apart (sym e)) in
     rw gives.1 (record { line = update_apart w.line d _ c apart; none = rw other refl })
 gives-apart m w c d (Treat Continue) note apart gives = absurd gives
 gives-apart m w c d (Treat (Whole request)) note apart (inl first) = first-apart m w c d request note apart first
 gives-apart m w c d (Treat (Whole request)) note apart (inr dry) = rw dry.1 (local-apart w c d 507 m apart)
-gives-apart m w c d (Refuse fault) note apart gives = rw gives (local-apart w c d (status_of fault) m apart)
+gives-apart m w c d (Refuse fault) note apart gives = rw gives (local-apart w c d (fault_status fault) m apart)
 gives-apart m w c d Close note apart gives = rw gives (record { line = update_apart w.line d None c apart; none = refl })
 gives-apart m w c d Nothing note apart gives = absurd gives
 
 serves-apart : (m : Mood) (w : RunState) (c d : ℕ) (notes : List Note) → c ≢ d → Serves m w d notes → Apart w (afters w notes) c (sent_in c m notes)
 serves-apart m w c d [] apart serves = record { line = refl; none = refl }
 serves-apart m w c d (note ∷ notes) apart serves =
-    let one = gives-apart m w c d (due w d) note apart serves.0 in
-    let rest = serves-apart m (after w note) c d notes apart serves.1 in
+    let one = gives-apart m w c d (due_of_connection w d) note apart serves.0 in
+    let rest = serves-apart m (state_after_note w note) c d notes apart serves.1 in
     record { line = rest.line ∙ one.line; none = ap (λ xs. xs ++ sent_in c m notes) one.none ∙ rest.none }
 
 -- ---- flights have numbers of their own
 abbrev pub Numbered : RunState → Type 0
-Numbered w = AreRising 0 w.air (asked_in w.log.entries)
+Numbered w = AreRising 0 w.air (flights_asked w.log.entries)
 
 rising-without : (least n : ℕ) (air : List Flying) (most : ℕ) → AreRising least air most → AreRising least (without n air) most
 rising-without least n [] most rising = rising
@@ -185,18 +185,18 @@ rising-rendered least n answer (f ∷ air) most rising = by_test (has_number n f
     by_test true rest = (rising.0, rest)
     by_test false rest = (rising.0, rest)
 
-asked-numbered : (w : RunState) (c : ℕ) (key : Option PageKey) (request : Option Req) → Numbered w → Numbered (asked_by w (asked_in w.log.entries + 1) c key request)
+asked-numbered : (w : RunState) (c : ℕ) (key : Option PageKey) (request : Option Req) → Numbered w → Numbered (asked_by w (flights_asked w.log.entries + 1) c key request)
 asked-numbered w c key None numbered = numbered
-asked-numbered w c key (Some request) numbered = rising-push 0 w.air (asked_in w.log.entries) (new_flight (asked_in w.log.entries + 1) c request) numbered (omega arith)
+asked-numbered w c key (Some request) numbered = rising-push 0 w.air (flights_asked w.log.entries) (new_flight (flights_asked w.log.entries + 1) c request) numbered (omega arith)
 
-first-numbered : (m : Mood) (w : RunState) (c : ℕ) (request : Req) (note : Note) → Numbered w → IsFirst m w c request note points → Numbered (after w note)
+first-numbered : (m : Mood) (w : RunState) (c : ℕ) (request : Req) (note : Note) → Numbered w → IsFirstPoint m w c request note points → Numbered (state_after_note w note)
 first-numbered m w c request note numbered (inl crowd) = rw crowd.1 numbered
 first-numbered m w c request note numbered (inr (_, inl hidden)) = rw hidden.1 numbered
 first-numbered m w c request note numbered (inr (_, inr (_, inl full))) = rw full.1 numbered
-first-numbered m w c request note numbered (inr (_, inr (_, inr (_, inl ask)))) = rw ask.1 (asked-numbered w c None (request_of (due w c)) numbered)
+first-numbered m w c request note numbered (inr (_, inr (_, inr (_, inl ask)))) = rw ask.1 (asked-numbered w c None (request_of (due_of_connection w c)) numbered)
 first-numbered m w c request note numbered (inr (_, inr (_, inr (_, inr (never, _))))) = absurd never
 
-gives-numbered : (m : Mood) (w : RunState) (c : ℕ) (owed : Due) (note : Note) → Numbered w → Gives m w c owed note → Numbered (after w note)
+gives-numbered : (m : Mood) (w : RunState) (c : ℕ) (owed : Due) (note : Note) → Numbered w → GivesDue m w c owed note → Numbered (state_after_note w note)
 gives-numbered m w c (Send slot) note numbered gives = rw gives.1 numbered
 gives-numbered m w c (Treat Continue) note numbered gives = absurd gives
 gives-numbered m w c (Treat (Whole request)) note numbered (inl first) = first-numbered m w c request note numbered first
@@ -207,15 +207,15 @@ gives-numbered m w c Nothing note numbered gives = absurd gives
 
 pub serves-numbered : (m : Mood) (w : RunState) (c : ℕ) (notes : List Note) → Numbered w → Serves m w c notes → Numbered (afters w notes)
 serves-numbered m w c [] numbered serves = numbered
-serves-numbered m w c (note ∷ notes) numbered serves = serves-numbered m (after w note) c notes (gives-numbered m w c (due w c) note numbered serves.0) serves.1
+serves-numbered m w c (note ∷ notes) numbered serves = serves-numbered m (state_after_note w note) c notes (gives-numbered m w c (due_of_connection w c) note numbered serves.0) serves.1
 
-pub over-numbered : (w : RunState) (n : ℕ) (answer : Answer) (entry : Entry) (flying : Option Flying) → asked_in (entry ∷ w.log.entries) ≡ asked_in w.log.entries → Numbered w → Numbered (over_with w n answer entry flying)
+pub over-numbered : (w : RunState) (n : ℕ) (answer : Answer) (entry : LogEntry) (flying : Option Flying) → flights_asked (entry ∷ w.log.entries) ≡ flights_asked w.log.entries → Numbered w → Numbered (over_with w n answer entry flying)
 over-numbered w n answer entry None same numbered = numbered
-over-numbered w n answer entry (Some f) same numbered = rw same (rising-without 0 n w.air (asked_in w.log.entries) numbered)
+over-numbered w n answer entry (Some f) same numbered = rw same (rising-without 0 n w.air (flights_asked w.log.entries) numbered)
 
 -- the flight that is picked is the one with its number
 pub picked-at : (w : RunState) (test : Flying → Bool) (f : Flying) → Numbered w → find test w.air ≡ Some f → flight_at f.number w.air ≡ Some f
-picked-at w test f numbered found = (place 0 w.air (asked_in w.log.entries) (position_or_len test w.air) f numbered (sym (find_at test w.air) ∙ found)).at
+picked-at w test f numbered found = (place 0 w.air (flights_asked w.log.entries) (position_or_len test w.air) f numbered (sym (find_at test w.air) ∙ found)).at
 
 -- ---- events
 -- the connection is owed nothing
@@ -264,10 +264,10 @@ fresh-still peer d same = sym (ap connection.due same)
 
 -- what came and what was sent after the event
 abbrev pub then_came : ℕ → List ℕ → Event → Step → List ℕ
-then_came c came e s = if opens c s e.body then [] else came ++ brought_by c s
+then_came c came e s = if opens_connection c s e.body then [] else came ++ brought_by c s
 
 abbrev pub then_sent : ℕ → List Sending → Event → Step → List Sending
-then_sent c sent e s = if opens c s e.body then [] else sent ++ sent_in c e.mood e.body
+then_sent c sent e s = if opens_connection c s e.body then [] else sent ++ sent_in c e.mood e.body
 
 abbrev KeptBy : RunState → Event → ℕ → List ℕ → List Sending → Step → RunState → Type 0
 KeptBy w e c came sent s v = Kept (afters v e.body) c (then_came c came e s) (then_sent c sent e s)
@@ -323,7 +323,7 @@ piece-past w c d bytes came sent none held = ⊎_elim here apart (cases_eq d c)
         let test : nat_eq d c ≡ false = ne_eqb d c other in
         rw test (subst (λ xs. Held w c xs sent) (sym (append-nil came)) held)
 
-piece-read : (w : RunState) (e : Event) (c d : ℕ) (bytes came : List ℕ) (sent : List Sending) (k : Connection) → w.line d ≡ Some k → (k.closing ≡ false → Spells (k.stream ++ bytes) (k.turns ++ e.turns) e.ends) → Held w c came sent
+piece-read : (w : RunState) (e : Event) (c d : ℕ) (bytes came : List ℕ) (sent : List Sending) (k : Connection) → w.line d ≡ Some k → (k.closing ≡ false → SpellsTurns (k.stream ++ bytes) (k.turns ++ e.turns) e.ends) → Held w c came sent
     → Held (on_line w d (fed bytes e.turns e.ends)) c (came ++ brought_by c (step.Piece d bytes)) sent
 piece-read w e c d bytes came sent k line spells held = ⊎_elim here apart (cases_eq d c)
   where
@@ -385,11 +385,11 @@ gone-kept w e c d came sent (Some k) line kept is = rw is (⊎_elim same apart (
 
 render-kept : (w : RunState) (e : Event) (c : ℕ) (came : List ℕ) (sent : List Sending) (flying : Option Flying) → Kept w c came sent → RenderTo w e flying → Kept (afters w e.body) c came (sent ++ sent_in c e.mood e.body)
 render-kept w e c came sent None kept is = idle-kept e.mood w w c came sent e.body refl kept.numbered kept is
-render-kept w e c came sent (Some f) kept to = rw to.2 (kept-same w (after w (Rendered f.number to.0)) c came sent refl (rising-rendered 0 f.number to.0 w.air (asked_in w.log.entries) kept.numbered) kept)
+render-kept w e c came sent (Some f) kept to = rw to.2 (kept-same w (state_after_note w (Rendered f.number to.0)) c came sent refl (rising-rendered 0 f.number to.0 w.air (flights_asked w.log.entries) kept.numbered) kept)
 
 -- a flight is over, and its connection is given what it is owed
-leads-kept : (m : Mood) (w : RunState) (first : Note) (c : ℕ) (came : List ℕ) (sent : List Sending) (f : Flying) (answer : Answer) (entry : Entry) (notes : List Note) → Kept w c came sent → after w first ≡ over_with w f.number answer entry (Some f)
-    → asked_in (entry ∷ w.log.entries) ≡ asked_in w.log.entries → sent_by c m first ≡ [] → Leads w m first f.line notes → Kept (afters w notes) c came (sent ++ sent_in c m notes)
+leads-kept : (m : Mood) (w : RunState) (first : Note) (c : ℕ) (came : List ℕ) (sent : List Sending) (f : Flying) (answer : Answer) (entry : LogEntry) (notes : List Note) → Kept w c came sent → state_after_note w first ≡ over_with w f.number answer entry (Some f)
+    → flights_asked (entry ∷ w.log.entries) ≡ flights_asked w.log.entries → sent_by c m first ≡ [] → LeadsNotes w m first f.line notes → Kept (afters w notes) c came (sent ++ sent_in c m notes)
 leads-kept m w first c came sent f answer entry notes kept is same none leads =
     let settles : Settles m v f.line leads.rest = subst (λ u. Settles m u f.line leads.rest) is leads.settles in
     let numbered : Numbered v = over-numbered w f.number answer entry (Some f) same kept.numbered in
@@ -414,7 +414,7 @@ leads-kept m w first c came sent f answer entry notes kept is same none leads =
 deliver-kept : (w : RunState) (e : Event) (c : ℕ) (came : List ℕ) (sent : List Sending) (f : Flying) (answer : Option Answer) → flight_at f.number w.air ≡ Some f → Kept w c came sent → DeliverAs w e f answer → Kept (afters w e.body) c came (sent ++ sent_in c e.mood e.body)
 deliver-kept w e c came sent f None there kept is = idle-kept e.mood w w c came sent e.body refl kept.numbered kept is
 deliver-kept w e c came sent f (Some answer) there kept to =
-    let leads : Leads w e.mood (Passed f.number) f.line e.body = subst (λ note. Leads w e.mood note f.line e.body) to.1 to.2 in
+    let leads : LeadsNotes w e.mood (Passed f.number) f.line e.body = subst (λ note. LeadsNotes w e.mood note f.line e.body) to.1 to.2 in
     leads-kept e.mood w (Passed f.number) c came sent f _ _ e.body kept (ap (over_with w f.number _ _) there) refl refl leads
 
 delivers-kept : (w : RunState) (e : Event) (c : ℕ) (came : List ℕ) (sent : List Sending) (flying : Option Flying) → ((f : Flying) → flying ≡ Some f → flight_at f.number w.air ≡ Some f) → Kept w c came sent → DeliverTo w e flying
@@ -436,7 +436,7 @@ by-step w e c came sent (step.Render pick) kept to = came-none _ c came _ (rende
 by-step w e c came sent (step.Deliver pick) kept to = came-none _ c came _ (delivers-kept w e c came sent (picked pick is_rendered w.air) (λ f found. picked-at w _ f kept.numbered found) kept to)
 by-step w e c came sent (step.Lose pick) kept to = came-none _ c came _ (loses-kept w e c came sent (picked pick is_any w.air) (λ f found. picked-at w _ f kept.numbered found) kept to)
 
-pub run-kept : (w : RunState) (events : List Event) (c : ℕ) (came : List ℕ) (sent : List Sending) → Kept w c came sent → Run w events → Kept (after_run w events) c (came_after c came events) (sent_after c sent events)
+pub run-kept : (w : RunState) (events : List Event) (c : ℕ) (came : List ℕ) (sent : List Sending) → Kept w c came sent → Run w events → Kept (state_after_events w events) c (came_after c came events) (sent_after c sent events)
 run-kept w [] c came sent kept run = kept
 run-kept w (e ∷ events) c came sent kept run = run-kept (after_event w e) events c (then_came c came e e.step) (then_sent c sent e e.step) (by-step w e c came sent e.step kept run.0) run.1
 

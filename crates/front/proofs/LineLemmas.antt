@@ -1,7 +1,7 @@
 -- What is left of a connection, when something happens to it.
 use Rattle.std.proofs.Common.{◌≡◌, ℕ, ◌||◌, ◌+◌, suc, Bool, true, false, cond, List, [], ◌∷◌, ◌++◌, length, drop, Option, Some, None, refl, ap, sym, subst, ◌∙◌, arith, append_assoc, append-nil, length-append}
 use Rattle.std.specs.Prelude.{IfSome, slice_get}
-use Rattle.http_front.specs.Turns.{End, Spells}
+use Rattle.http_front.specs.Turns.{End, SpellsTurns}
 use Rattle.http_front.specs.Intakes.{StandsFor}
 use Rattle.http_front.specs.declared.fault.InFault.{InFault}
 use Rattle.http_front.specs.declared.intake.Intake.{Intake}
@@ -14,7 +14,7 @@ use Rattle.connections.specs.Histories.{IsDueSending}
 use Rattle.connections.specs.declared.sending.Sending.{Sending}
 use Rattle.connections.specs.Ties.{Tied}
 use Rattle.connections.specs.declared.outbox.Outbox.{Outbox}
-use Rattle.front.specs.Lines.{Holds, IsPaired, Keeps, Owes, Reads, Splits, Tells, TellsOn, begins_with_continue, end_of}
+use Rattle.front.specs.Lines.{Holds, IsPaired, LineKeeps, Owes, LineReads, Splits, TellsTurns, TellsOn, begins_with_continue, end_of}
 use Rattle.front.specs.declared.line.Line.{Line}
 
 -- ---- turns that are left
@@ -39,7 +39,7 @@ pub split-head : (turns left : List Turn) (n : ℕ) → Splits turns n left → 
 split-head turns left n splits = rw (splits.joined, ← splits.counted) (get-after splits.done left)
 
 -- ---- turns come in pairs
-pub spells-paired : (stream : List ℕ) (turns : List Turn) (end : End) → Spells stream turns end → IsPaired turns
+pub spells-paired : (stream : List ℕ) (turns : List Turn) (end : End) → SpellsTurns stream turns end → IsPaired turns
 spells-paired stream [] end spells = tt
 spells-paired stream (Whole request ∷ turns) end spells = spells-paired spells.0 turns end spells.2
 spells-paired stream (Continue ∷ []) end spells = (tt, tt)
@@ -96,7 +96,7 @@ popped-continue [] new begins rest = absurd (let no : ⊥ = cc in no)
 popped-continue (Continue ∷ old) new begins rest = ap (λ turns. Continue ∷ turns) (sym rest)
 popped-continue (Whole request ∷ old) new begins rest = absurd (let no : ⊥ = cc in no)
 
-pub advance-continue : (k j : Line) (c : Connection) → c.closing ≡ false → j.intake ≡ k.intake → j.fault ≡ k.fault → k.turns.items ≡ Continue ∷ j.turns.items → Tied j.outbox (with_slot interim_slot c) → Keeps k c
+pub advance-continue : (k j : Line) (c : Connection) → c.closing ≡ false → j.intake ≡ k.intake → j.fault ≡ k.fault → k.turns.items ≡ Continue ∷ j.turns.items → Tied j.outbox (with_slot interim_slot c) → LineKeeps k c
     → Holds j (advanced c)
 advance-continue k j c stays intake fault first tied keeps =
     let reads = keeps.reads stays in
@@ -117,7 +117,7 @@ advance-continue k j c stays intake fault first tied keeps =
     })
 
 -- a connection that closes is as it was, whatever turns are left of it
-pub advance-closing : (k j : Line) (c : Connection) → c.closing ≡ true → j.outbox ≡ k.outbox → Keeps k c → Holds j (advanced c)
+pub advance-closing : (k j : Line) (c : Connection) → c.closing ≡ true → j.outbox ≡ k.outbox → LineKeeps k c → Holds j (advanced c)
 advance-closing k j c closes outbox keeps =
     let is : advanced c ≡ c = ap (λ b. cond b c (after_turn (next_turn c) c)) closes in
     subst (Holds j) (sym is) (record {
@@ -175,7 +175,7 @@ take-none k c lasts stays unsent none holds =
     due-open c None lasts stays unsent (split-head _ _ _ splits) ∙ ap (due_at_turn None) reads.ends
 
 -- ---- a turn gets its place
-pub push-owed : (k j : Line) (c : Connection) (slot : Slot) → Owes k c → j.intake ≡ k.intake → j.fault ≡ k.fault → j.turns ≡ k.turns → Tied j.outbox (with_slot slot c) → Keeps j (with_slot slot c)
+pub push-owed : (k j : Line) (c : Connection) (slot : Slot) → Owes k c → j.intake ≡ k.intake → j.fault ≡ k.fault → j.turns ≡ k.turns → Tied j.outbox (with_slot slot c) → LineKeeps j (with_slot slot c)
 push-owed k j c slot owes intake fault turns tied = record {
   tied = tied;
   reads = λ stays. record {
@@ -190,11 +190,11 @@ or-closes : (b d : Bool) → d ≡ true → (b || d) ≡ false → ⊥
 or-closes true d e f = cc
 or-closes false d e f = cc
 
-pub push-fault : (j : Line) (c : Connection) (slot : Slot) → slot.closes ≡ true → Tied j.outbox (with_slot slot c) → Keeps j (with_slot slot c)
+pub push-fault : (j : Line) (c : Connection) (slot : Slot) → slot.closes ≡ true → Tied j.outbox (with_slot slot c) → LineKeeps j (with_slot slot c)
 push-fault j c slot closes tied = record { tied = tied; reads = λ stays. absurd (or-closes c.closing slot.closes closes stays) }
 
 -- ---- bytes come
-pub read-closing : (k : Line) (c : Connection) (bytes : List ℕ) → c.closing ≡ true → Holds k c → Reads bytes c k
+pub read-closing : (k : Line) (c : Connection) (bytes : List ℕ) → c.closing ≡ true → Holds k c → LineReads bytes c k
 read-closing k c bytes closes holds = record {
   turns = [];
   ends = c.ends;
@@ -202,15 +202,15 @@ read-closing k c bytes closes holds = record {
   holds = subst (Holds k) (sym (ap (λ b. cond b c (advanced (record c { stream = c.stream ++ bytes; turns = c.turns ++ []; ends = c.ends }))) closes)) holds;
 }
 
-pub read-open : (k j m : Line) (i : Intake) (c : Connection) (bytes : List ℕ) → c.closing ≡ false → Holds k c → StandsFor i (c.stream ++ bytes) c.turns → Tells i k.turns.items j.intake j.turns.items j.fault → j.outbox ≡ k.outbox
-    → ((d : Connection) → Keeps j d → Holds m (advanced d)) → Reads bytes c m
+pub read-open : (k j m : Line) (i : Intake) (c : Connection) (bytes : List ℕ) → c.closing ≡ false → Holds k c → StandsFor i (c.stream ++ bytes) c.turns → TellsTurns i k.turns.items j.intake j.turns.items j.fault → j.outbox ≡ k.outbox
+    → ((d : Connection) → LineKeeps j d → Holds m (advanced d)) → LineReads bytes c m
 read-open k j m i c bytes stays holds stands tells outbox advances =
     let reads = holds.keeps.reads stays in
     let tied = holds.keeps.tied in
-    let spells : Spells (c.stream ++ bytes) (c.turns ++ tells.turns) (end_of j.fault) = tells.spells _ _ stands in
+    let spells : SpellsTurns (c.stream ++ bytes) (c.turns ++ tells.turns) (end_of j.fault) = tells.spells _ _ stands in
     let joined : c.turns ++ tells.turns ≡ reads.splits.done ++ j.turns.items = ap (λ xs. xs ++ tells.turns) reads.splits.joined ∙ append_assoc reads.splits.done k.turns.items tells.turns ∙ ap (λ xs. reads.splits.done ++ xs) (sym tells.joined) in
     let fed_c : Connection = record c { stream = c.stream ++ bytes; turns = c.turns ++ tells.turns; ends = end_of j.fault } in
-    let keeps : Keeps j fed_c = record {
+    let keeps : LineKeeps j fed_c = record {
       tied = rw outbox (record { unsent = tied.unsent; within = tied.within; past = tied.past; closing_is = tied.closing_is; over_is = tied.over_is; spare_is = tied.spare_is });
       reads = λ still. record {
         told = tells.told _ _ stands;
@@ -239,7 +239,7 @@ tells_step i j m before so_far after_ turn on tells is = record {
 }
 
 pub tells_end : (i j m : Intake) (before after_ : List Turn) (fault : Option InFault) → TellsOn i before j after_ → ((stream : List ℕ) (told : List Turn) → StandsFor j stream told → StandsFor m stream told)
-    → ((stream : List ℕ) (told : List Turn) → StandsFor j stream told → Spells stream told (end_of fault)) → Tells i before m after_ fault
+    → ((stream : List ℕ) (told : List Turn) → StandsFor j stream told → SpellsTurns stream told (end_of fault)) → TellsTurns i before m after_ fault
 tells_end i j m before after_ fault on keeps ends = record {
   turns = on.turns;
   joined = on.joined;

@@ -13,17 +13,17 @@ use Rattle.front.specs.declared.note.Note.{Note}
 use Rattle.front.specs.declared.note.Note.TheVariants.{Answer as answered, Ask as asked, Local, Rendered, Passed, Lost, Sent, Shut, Refused, Idle, Dry}
 use Rattle.front.specs.declared.step.Step.{Step}
 use Rattle.front.specs.declared.step.Step.TheVariants as step
-use Rattle.front.specs.States.{RunState, Entry}
-use Rattle.front.specs.Events.{DeliverAs, DeliverTo, Event, Happens, HappensBy, Leads, LoseTo, PieceTo, after_event, begun, gone, going, is_any, is_rendered, most_lines, opened, opening, picked}
-use Rattle.front.specs.Moves.{Mood, Gives, IsFirst, points, Serves, after, afters, asked_by, due, flight_at, over_with, request_of}
+use Rattle.front.specs.States.{RunState, LogEntry}
+use Rattle.front.specs.Events.{DeliverAs, DeliverTo, Event, Happens, HappensBy, LeadsNotes, LoseTo, PieceTo, after_event, begun, gone, going, is_any, is_rendered, most_lines, opened, opening, picked}
+use Rattle.front.specs.Moves.{Mood, GivesDue, IsFirstPoint, points, Serves, state_after_note, afters, asked_by, due_of_connection, flight_at, over_with, request_of}
 
-pub afters-push : (w : RunState) (notes : List Note) (note : Note) → afters w (notes ++ note ∷ []) ≡ after (afters w notes) note
+pub afters-push : (w : RunState) (notes : List Note) (note : Note) → afters w (notes ++ note ∷ []) ≡ state_after_note (afters w notes) note
 afters-push w [] note = refl
-afters-push w (n ∷ notes) note = afters-push (after w n) notes note
+afters-push w (n ∷ notes) note = afters-push (state_after_note w n) notes note
 
-pub serves-push : (m : Mood) (w : RunState) (c : ℕ) (notes : List Note) (note : Note) → Serves m w c notes → Gives m (afters w notes) c (due (afters w notes) c) note → Serves m w c (notes ++ note ∷ [])
+pub serves-push : (m : Mood) (w : RunState) (c : ℕ) (notes : List Note) (note : Note) → Serves m w c notes → GivesDue m (afters w notes) c (due_of_connection (afters w notes) c) note → Serves m w c (notes ++ note ∷ [])
 serves-push m w c [] note serves gives = (gives, tt)
-serves-push m w c (n ∷ notes) note serves gives = (serves.0, serves-push m (after w n) c notes note serves.1 gives)
+serves-push m w c (n ∷ notes) note serves gives = (serves.0, serves-push m (state_after_note w n) c notes note serves.1 gives)
 
 -- ---- the publisher and the farm stay, and but for a render the content does
 pub record SameContent (w v : RunState) : Type 0 where
@@ -41,7 +41,7 @@ asked-same : (w : RunState) (number c : ℕ) (key : Option PageKey) (request : O
 asked-same w number c key None = same w
 asked-same w number c key (Some request) = record { publishing = refl; farm = refl; content = refl }
 
-over-same : (w : RunState) (number : ℕ) (answer : Answer) (entry : Entry) (flying : Option Flying) → SameContent w (over_with w number answer entry flying)
+over-same : (w : RunState) (number : ℕ) (answer : Answer) (entry : LogEntry) (flying : Option Flying) → SameContent w (over_with w number answer entry flying)
 over-same w number answer entry None = same w
 over-same w number answer entry (Some flying) = record { publishing = refl; farm = refl; content = refl }
 
@@ -59,9 +59,9 @@ IsStillNote (Refused c) = Unit {0}
 IsStillNote Idle = Unit {0}
 IsStillNote Dry = Unit {0}
 
-pub after-same : (w : RunState) (note : Note) → IsStillNote note → SameContent w (after w note)
+pub after-same : (w : RunState) (note : Note) → IsStillNote note → SameContent w (state_after_note w note)
 after-same w (answered answer) is = same w
-after-same w (asked number c key) is = asked-same w number c key (request_of (due w c))
+after-same w (asked number c key) is = asked-same w number c key (request_of (due_of_connection w c))
 after-same w (Local c status) is = record { publishing = refl; farm = refl; content = refl }
 after-same w (Rendered number answer) is = absurd is
 after-same w (Passed number) is = over-same w number _ _ (flight_at number w.air)
@@ -100,9 +100,9 @@ AreStillNotes (note ∷ notes) = IsStillNote note × AreStillNotes notes
 
 pub afters-same : (w : RunState) (notes : List Note) → AreStillNotes notes → SameContent w (afters w notes)
 afters-same w [] are = same w
-afters-same w (n ∷ notes) are = chain w (after w n) (afters (after w n) notes) (after-same w n are.0) (afters-same (after w n) notes are.1)
+afters-same w (n ∷ notes) are = chain w (state_after_note w n) (afters (state_after_note w n) notes) (after-same w n are.0) (afters-same (state_after_note w n) notes are.1)
 
-first-still : (m : Mood) (w : RunState) (c : ℕ) (request : Req) (note : Note) → IsFirst m w c request note points → IsStillNote note
+first-still : (m : Mood) (w : RunState) (c : ℕ) (request : Req) (note : Note) → IsFirstPoint m w c request note points → IsStillNote note
 first-still m w c request note (inl crowded) = rw crowded.1 tt
 first-still m w c request note (inr (_, inl hidden)) = rw hidden.1 tt
 first-still m w c request note (inr (_, inr (_, inl full))) = rw full.1 tt
@@ -110,7 +110,7 @@ first-still m w c request note (inr (_, inr (_, inr (_, inl free)))) = rw free.1
 first-still m w c request note (inr (_, inr (_, inr (_, inr (never, _))))) = absurd never
 
 -- a note that gives a connection what it is owed tells no render
-gives-still : (m : Mood) (w : RunState) (c : ℕ) (owed : Due) (note : Note) → Gives m w c owed note → IsStillNote note
+gives-still : (m : Mood) (w : RunState) (c : ℕ) (owed : Due) (note : Note) → GivesDue m w c owed note → IsStillNote note
 gives-still m w c (Send slot) note gives = rw gives.1 tt
 gives-still m w c (Treat Continue) note gives = absurd gives
 gives-still m w c (Treat (Whole request)) note (inl first) = first-still m w c request note first
@@ -121,10 +121,7 @@ gives-still m w c Nothing note gives = absurd gives
 
 serves-still : (m : Mood) (w : RunState) (c : ℕ) (notes : List Note) → Serves m w c notes → AreStillNotes notes
 serves-still m w c [] serves = tt
-serves-still m w c (n ∷ notes) serves = (gives-still m w c (due w c) n serves.0, serves-still m (after w n) c notes serves.1)
-
-pub serves-same : (m : Mood) (w : RunState) (c : ℕ) (notes : List Note) → Serves m w c notes → SameContent w (afters w notes)
-serves-same m w c notes serves = afters-same w notes (serves-still m w c notes serves)
+serves-still m w c (n ∷ notes) serves = (gives-still m w c (due_of_connection w c) n serves.0, serves-still m (state_after_note w n) c notes serves.1)
 
 opening-still : (w : RunState) (c : ℕ) (line : Option Connection) (notes : List Note) → notes ≡ opening c w.lines line → AreStillNotes notes
 opening-still w c (Some line) notes is = rw is (tt, tt)
@@ -145,8 +142,8 @@ piece-still : (w : RunState) (e : Event) (c : ℕ) (bytes : List ℕ) (line : Op
 piece-still w e c bytes None to = idle-still e.body to
 piece-still w e c bytes (Some line) to = serves-still e.mood _ c e.body to.settles.serves
 
-leads-still : (w : RunState) (m : Mood) (first : Note) (c : ℕ) (notes : List Note) → IsStillNote first → Leads w m first c notes → AreStillNotes notes
-leads-still w m first c notes is leads = rw leads.begins (is, serves-still m (after w first) c leads.rest leads.settles.serves)
+leads-still : (w : RunState) (m : Mood) (first : Note) (c : ℕ) (notes : List Note) → IsStillNote first → LeadsNotes w m first c notes → AreStillNotes notes
+leads-still w m first c notes is leads = rw leads.begins (is, serves-still m (state_after_note w first) c leads.rest leads.settles.serves)
 
 deliver-still : (w : RunState) (e : Event) (flying : Flying) (answer : Option Answer) → DeliverAs w e flying answer → AreStillNotes e.body
 deliver-still w e flying None to = idle-still e.body to
@@ -201,18 +198,18 @@ asked-frame : (w : RunState) (number c : ℕ) (key : Option PageKey) (request : 
 asked-frame w number c key None = record { others = λ d apart. refl; lines = refl }
 asked-frame w number c key (Some request) = record { others = λ d apart. update_apart w.line c _ d apart; lines = refl }
 
-local-frame : (w : RunState) (c status : ℕ) → Frame c w (after w (Local c status))
+local-frame : (w : RunState) (c status : ℕ) → Frame c w (state_after_note w (Local c status))
 local-frame w c status = record { others = λ d apart. update_apart w.line c _ d apart; lines = refl }
 
-first-frame : (m : Mood) (w : RunState) (c : ℕ) (request : Req) (note : Note) → IsFirst m w c request note points → Frame c w (after w note)
+first-frame : (m : Mood) (w : RunState) (c : ℕ) (request : Req) (note : Note) → IsFirstPoint m w c request note points → Frame c w (state_after_note w note)
 first-frame m w c request note (inl crowded) = rw crowded.1 (local-frame w c 503)
 first-frame m w c request note (inr (_, inl hidden)) = rw hidden.1 (local-frame w c 404)
 first-frame m w c request note (inr (_, inr (_, inl full))) = rw full.1 (local-frame w c 503)
-first-frame m w c request note (inr (_, inr (_, inr (_, inl free)))) = rw free.1 (asked-frame w _ c None (request_of (due w c)))
+first-frame m w c request note (inr (_, inr (_, inr (_, inl free)))) = rw free.1 (asked-frame w _ c None (request_of (due_of_connection w c)))
 first-frame m w c request note (inr (_, inr (_, inr (_, inr (never, _))))) = absurd never
 
 -- a note that gives what is due leaves the other connections alone, and shuts its own or keeps their number
-gives-frame : (m : Mood) (w : RunState) (c : ℕ) (owed : Due) (note : Note) → Gives m w c owed note → (note ≡ Shut c) ⊎ Frame c w (after w note)
+gives-frame : (m : Mood) (w : RunState) (c : ℕ) (owed : Due) (note : Note) → GivesDue m w c owed note → (note ≡ Shut c) ⊎ Frame c w (state_after_note w note)
 gives-frame m w c (Send slot) note gives = inr (rw gives.1 (record { others = λ d apart. update_apart w.line c _ d apart; lines = refl }))
 gives-frame m w c (Treat Continue) note gives = absurd gives
 gives-frame m w c (Treat (Whole request)) note (inl first) = inr (first-frame m w c request note first)
@@ -230,6 +227,6 @@ pub serves-frame : (m : Mood) (w : RunState) (c : ℕ) (notes : List Note) (k : 
 serves-frame m w c [] k serves some = record { others = λ d apart. refl; lines = refl }
 serves-frame m w c (n ∷ notes) k serves some =
     ⊎_elim
-    (λ shut. absurd (shut-last m (after w n) c notes k (rw shut (update_here w.line c None)) serves.1 some))
-    (λ frame. frame-more c w (after w n) _ frame (serves-frame m (after w n) c notes k serves.1 some))
-    (gives-frame m w c (due w c) n serves.0)
+    (λ shut. absurd (shut-last m (state_after_note w n) c notes k (rw shut (update_here w.line c None)) serves.1 some))
+    (λ frame. frame-more c w (state_after_note w n) _ frame (serves-frame m (state_after_note w n) c notes k serves.1 some))
+    (gives-frame m w c (due_of_connection w c) n serves.0)

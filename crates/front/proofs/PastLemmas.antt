@@ -5,7 +5,7 @@ use Rattle.std.proofs.lemmas.List.Elements.{All-nil, All-push}
 use Rattle.std.proofs.lemmas.Str.{IsUtf8-from_ascii}
 use Rattle.std.proofs.lemmas.Str.Ascii.{IsAscii-cons, IsAscii-nil}
 use Rattle.httparse.specs.Grammar.{RequestHead, IsRequestHead, HasNoRequest, MayBecomeRequest, ReadsRequest, is_token_byte, is_uri_byte, print_blank, print_end, print_request, print_section, print_version, lf}
-use Rattle.http_front.specs.Turns.{End, Spells, Waits}
+use Rattle.http_front.specs.Turns.{End, SpellsTurns, Waits}
 use Rattle.http_front.specs.declared.turn.Turn.{Turn}
 use Rattle.http_front.specs.declared.turn.Turn.TheVariants.{Continue, Whole}
 use Rattle.sp_base.specs.declared.answer.Answer.{Answer}
@@ -111,7 +111,7 @@ is-long h =
 none-yet : HasNoRequest []
 none-yet h rest x = omega (arith, is-long h, ap length x.1, length-append (print_request h) rest)
 
-nothing-spelled : Spells [] [] Waits
+nothing-spelled : SpellsTurns [] [] Waits
 nothing-spelled = inl ((none-yet, may-begin), omega arith)
 
 -- ---- the past of a connection
@@ -123,7 +123,7 @@ pub record Past (d : Connection) (came : List ℕ) (sent : List Sending) : Type 
   pub follows : Follows (fresh peer) moves
   pub is : after_all (fresh peer) moves ≡ d
   pub sent_is : sendings moves ≡ sent
-  pub spells : Spells d.stream d.turns d.ends
+  pub spells : SpellsTurns d.stream d.turns d.ends
   pub unread : List ℕ
   pub came_is : came ≡ d.stream ++ unread
   pub read : d.closing ≡ false → unread ≡ []
@@ -133,11 +133,11 @@ past-fresh peer = record { peer = peer; moves = []; follows = tt; is = refl; sen
 
 follows-push : (c : Connection) (moves : List Move) (move : Move) → Follows c moves → IsMove (after_all c moves) move → Follows c (moves ++ move ∷ [])
 follows-push c [] move follows may = (may, tt)
-follows-push c (first ∷ moves) move follows may = (follows.0, follows-push (history.after c first) moves move follows.1 may)
+follows-push c (first ∷ moves) move follows may = (follows.0, follows-push (history.connection_after_move c first) moves move follows.1 may)
 
-after-push : (c : Connection) (moves : List Move) (move : Move) → after_all c (moves ++ move ∷ []) ≡ history.after (after_all c moves) move
+after-push : (c : Connection) (moves : List Move) (move : Move) → after_all c (moves ++ move ∷ []) ≡ history.connection_after_move (after_all c moves) move
 after-push c [] move = refl
-after-push c (first ∷ moves) move = after-push (history.after c first) moves move
+after-push c (first ∷ moves) move = after-push (history.connection_after_move c first) moves move
 
 sendings-push : (moves : List Move) (move : Move) → sendings (moves ++ move ∷ []) ≡ sendings moves ++ sendings (move ∷ [])
 sendings-push [] move = refl
@@ -148,12 +148,12 @@ sendings-push (Landing flight answer ∷ moves) move = sendings-push moves move
 sendings-push (ShutMove ∷ moves) move = sendings-push moves move
 
 -- a move in which nothing is read
-pub past-move : (d : Connection) (came : List ℕ) (sent : List Sending) (move : Move) → Past d came sent → IsMove d move → Same d (history.after d move) → Past (history.after d move) came (sent ++ sendings (move ∷ []))
+pub past-move : (d : Connection) (came : List ℕ) (sent : List Sending) (move : Move) → Past d came sent → IsMove d move → Same d (history.connection_after_move d move) → Past (history.connection_after_move d move) came (sent ++ sendings (move ∷ []))
 past-move d came sent move past may same = record {
   peer = past.peer;
   moves = past.moves ++ move ∷ [];
   follows = follows-push (fresh past.peer) past.moves move past.follows (subst (λ x. IsMove x move) (sym past.is) may);
-  is = after-push (fresh past.peer) past.moves move ∙ ap (λ x. history.after x move) past.is;
+  is = after-push (fresh past.peer) past.moves move ∙ ap (λ x. history.connection_after_move x move) past.is;
   sent_is = sendings-push past.moves move ∙ ap (λ xs. xs ++ sendings (move ∷ [])) past.sent_is;
   spells = rw (same.stream, same.turns, same.ends) past.spells;
   unread = past.unread;
@@ -167,20 +167,20 @@ past-as d came a b same past = subst (λ xs. Past d came xs) same past
 -- ---- a piece
 -- what was read of it
 pub record FedRead (d v : Connection) (bytes came : List ℕ) : Type 0 where
-  pub spells : Spells v.stream v.turns v.ends
+  pub spells : SpellsTurns v.stream v.turns v.ends
   pub unread : List ℕ
   pub came_is : came ++ bytes ≡ v.stream ++ unread
   pub read : v.closing ≡ false → unread ≡ []
 
 read-closed : (d v : Connection) (bytes came : List ℕ) (sent : List Sending) → v ≡ d → d.closing ≡ true → Past d came sent → FedRead d v bytes came
 read-closed d v bytes came sent same closed past = record {
-  spells = subst (λ (x : Connection). Spells x.stream x.turns x.ends) (sym same) past.spells;
+  spells = subst (λ (x : Connection). SpellsTurns x.stream x.turns x.ends) (sym same) past.spells;
   unread = past.unread ++ bytes;
   came_is = subst (λ (x : Connection). came ++ bytes ≡ x.stream ++ (past.unread ++ bytes)) (sym same) (ap (λ xs. xs ++ bytes) past.came_is ∙ append_assoc d.stream past.unread bytes);
   read = λ e. let now : v.closing ≡ true = ap (λ (x : Connection). x.closing) same ∙ closed in let no : ⊥ = cc in absurd no;
 }
 
-read-open : (d v : Connection) (bytes came : List ℕ) (sent : List Sending) (turns : List Turn) (ends : End) → Same (longer bytes turns ends d) v → d.closing ≡ false → Spells (d.stream ++ bytes) (d.turns ++ turns) ends → Past d came sent → FedRead d v bytes came
+read-open : (d v : Connection) (bytes came : List ℕ) (sent : List Sending) (turns : List Turn) (ends : End) → Same (longer bytes turns ends d) v → d.closing ≡ false → SpellsTurns (d.stream ++ bytes) (d.turns ++ turns) ends → Past d came sent → FedRead d v bytes came
 read-open d v bytes came sent turns ends same still spells past =
     let all : came ≡ d.stream = past.came_is ∙ ap (λ xs. d.stream ++ xs) (past.read still) ∙ append-nil d.stream in
     record {
@@ -195,7 +195,7 @@ past-read d came sent bytes turns ends past now = record {
   peer = past.peer;
   moves = past.moves ++ PieceMove bytes turns ends ∷ [];
   follows = follows-push (fresh past.peer) past.moves (PieceMove bytes turns ends) past.follows tt;
-  is = after-push (fresh past.peer) past.moves (PieceMove bytes turns ends) ∙ ap (λ x. history.after x (PieceMove bytes turns ends)) past.is;
+  is = after-push (fresh past.peer) past.moves (PieceMove bytes turns ends) ∙ ap (λ x. history.connection_after_move x (PieceMove bytes turns ends)) past.is;
   sent_is = sendings-push past.moves (PieceMove bytes turns ends) ∙ append-nil (sendings past.moves) ∙ past.sent_is;
   spells = now.spells;
   unread = now.unread;
@@ -203,7 +203,7 @@ past-read d came sent bytes turns ends past now = record {
   read = now.read;
 }
 
-pub past-fed : (d : Connection) (came : List ℕ) (sent : List Sending) (bytes : List ℕ) (turns : List Turn) (ends : End) → (d.closing ≡ false → Spells (d.stream ++ bytes) (d.turns ++ turns) ends) → Past d came sent → Past (fed bytes turns ends d) (came ++ bytes) sent
+pub past-fed : (d : Connection) (came : List ℕ) (sent : List Sending) (bytes : List ℕ) (turns : List Turn) (ends : End) → (d.closing ≡ false → SpellsTurns (d.stream ++ bytes) (d.turns ++ turns) ends) → Past d came sent → Past (fed bytes turns ends d) (came ++ bytes) sent
 past-fed d came sent bytes turns ends spells past = past-read d came sent bytes turns ends past (by_test d.closing refl)
   where
     by_test : (b : Bool) → d.closing ≡ b → FedRead d (fed bytes turns ends d) bytes came

@@ -6,18 +6,18 @@ use Rattle.std.proofs.lemmas.Bool.{ne_eqb}
 use Rattle.sp_base.specs.declared.answer.Answer.{Answer}
 use Rattle.resource_tree.specs.Content.{Content}
 use Rattle.any_config.specs.declared.farm.Farm.{Farm}
-use Rattle.dispatch_rules.specs.Asking.{asked_of}
+use Rattle.dispatch_rules.specs.Asking.{publisher_ask}
 use Rattle.connections.specs.Connections.{Connection, fed, fresh}
 use Rattle.front.specs.declared.flying.Flying.{Flying}
 use Rattle.front.specs.declared.note.Note.{Note}
 use Rattle.front.specs.declared.note.Note.TheVariants.{Answer as answered, Ask as asked, Local, Rendered, Passed, Lost, Sent, Shut, Refused, Idle, Dry}
 use Rattle.front.specs.declared.step.Step.{Step}
 use Rattle.front.specs.declared.step.Step.TheVariants as step
-use Rattle.front.specs.Events.{DeliverAs, DeliverTo, Event, HappensBy, IsOrFixed, Leads, LoseTo, PieceTo, RenderTo, Run, after_event, after_run, begun, gone, going, is_any, is_rendered, is_unrendered, most_lines, opened, opening, picked}
-use Rattle.front.specs.Moves.{Mood, Settles, after, afters, content_rendered, flight_at, on_line, over_with, published}
+use Rattle.front.specs.Events.{DeliverAs, DeliverTo, Event, HappensBy, IsOrFixed, LeadsNotes, LoseTo, PieceTo, RenderTo, Run, after_event, state_after_events, begun, gone, going, is_any, is_rendered, is_unrendered, most_lines, opened, opening, picked}
+use Rattle.front.specs.Moves.{Mood, Settles, state_after_note, afters, content_rendered, flight_at, on_line, over_with, published_for}
 use Rattle.front.specs.Publishers.{Publishing}
 use Rattle.front.specs.Renders.{ArePublished, IsNeverFixed, Rendering, rendered_by, rendering_of, renders_in, renders_of}
-use Rattle.front.specs.States.{Entry, RunState, asked_in, start_of}
+use Rattle.front.specs.States.{LogEntry, RunState, flights_asked, start_of}
 use Rattle.front.proofs.HistoryLemmas.{Numbered, over-numbered, picked-at, rising-rendered, serves-numbered}
 use Rattle.front.proofs.MoveLemmas.{AreStillNotes, IsStillNote, IsStillStep, SameContent, step-same, step-still}
 
@@ -37,7 +37,7 @@ note-renders w dry Dry is = refl
 
 still-renders : (w : RunState) (dry : Bool) (notes : List Note) → AreStillNotes notes → renders_in w dry notes ≡ []
 still-renders w dry [] are = refl
-still-renders w dry (note ∷ notes) are = rw (note-renders w dry note are.0) (still-renders (after w note) dry notes are.1)
+still-renders w dry (note ∷ notes) are = rw (note-renders w dry note are.0) (still-renders (state_after_note w note) dry notes are.1)
 
 -- what is published after it is what would be before
 abbrev From : RunState → List Rendering → Content → Type 0
@@ -50,15 +50,15 @@ from-still : (w : RunState) (e : Event) (s : Step) (renders : List Rendering) (l
 from-still w e s renders last still happens from = rw (still-renders (begun w e s) e.mood.dry e.body (step-still w e s still happens)) (from-same w (afters (begun w e s) e.body) renders last (step-same w e s still happens) from)
 
 -- ---- an event with one
-render-from : (w : RunState) (dry : Bool) (f : Flying) (answer : Answer) (renders : List Rendering) (last : Content) → IsNeverFixed w.publishing → flight_at f.number w.air ≡ Some f → IsOrFixed (record { dry = dry }) answer (published w f.request).answer
-    → From (after w (Rendered f.number answer)) renders last → From w (record { request = f.request; answer = answer; dry = dry } ∷ renders) last
+render-from : (w : RunState) (dry : Bool) (f : Flying) (answer : Answer) (renders : List Rendering) (last : Content) → IsNeverFixed w.publishing → flight_at f.number w.air ≡ Some f → IsOrFixed (record { dry = dry }) answer (published_for w f.request).answer
+    → From (state_after_note w (Rendered f.number answer)) renders last → From w (record { request = f.request; answer = answer; dry = dry } ∷ renders) last
 render-from w dry f answer renders last never there (inl is) from =
-    let other : (answer.status == 507) ≡ false = rw is (ne_eqb (published w f.request).answer.status 507 (never w.content (asked_of w.farm f.request))) in
-    let moved : (after w (Rendered f.number answer)).content ≡ (published w f.request).content = ap (content_rendered w answer) there ∙ rw other refl in
+    let other : (answer.status == 507) ≡ false = rw is (ne_eqb (published_for w f.request).answer.status 507 (never w.content (publisher_ask w.farm f.request))) in
+    let moved : (state_after_note w (Rendered f.number answer)).content ≡ (published_for w f.request).content = ap (content_rendered w answer) there ∙ rw other refl in
     inl (is, subst (λ x. ArePublished w.publishing w.farm x renders last) moved from)
 render-from w dry f answer renders last never there (inr fixed) from =
     let same : (answer.status == 507) ≡ true = rw fixed.1 refl in
-    let stays : (after w (Rendered f.number answer)).content ≡ w.content = ap (content_rendered w answer) there ∙ rw same refl in
+    let stays : (state_after_note w (Rendered f.number answer)).content ≡ w.content = ap (content_rendered w answer) there ∙ rw same refl in
     inr (fixed.0, fixed.1, subst (λ x. ArePublished w.publishing w.farm x renders last) stays from)
 
 from-render : (w : RunState) (e : Event) (flying : Option Flying) (renders : List Rendering) (last : Content) → IsNeverFixed w.publishing → ((f : Flying) → flying ≡ Some f → flight_at f.number w.air ≡ Some f) → RenderTo w e flying
@@ -68,13 +68,13 @@ from-render w e None renders last never there to from =
     rw to stays
 from-render w e (Some f) renders last never there to from =
     let at = there f refl in
-    let body : From (after w (Rendered f.number to.0)) renders last = rw to.2 at from in
+    let body : From (state_after_note w (Rendered f.number to.0)) renders last = rw to.2 at from in
     let told : renders_in w e.mood.dry (Rendered f.number to.0 ∷ []) ≡ record { request = f.request; answer = to.0; dry = e.mood.dry } ∷ [] = ap (λ o. rendering_of to.0 e.mood.dry o ++ []) at in
     subst (λ xs. From w (xs ++ renders) last) (sym (ap (renders_in w e.mood.dry) to.2 ∙ told)) (render-from w e.mood.dry f to.0 renders last never at to.1 body)
 
 -- ---- the flights keep numbers of their own
-leads-numbered : (m : Mood) (w : RunState) (first : Note) (f : Flying) (answer : Answer) (entry : Entry) (notes : List Note) → Numbered w → after w first ≡ over_with w f.number answer entry (Some f) → asked_in (entry ∷ w.log.entries) ≡ asked_in w.log.entries
-    → Leads w m first f.line notes → Numbered (afters w notes)
+leads-numbered : (m : Mood) (w : RunState) (first : Note) (f : Flying) (answer : Answer) (entry : LogEntry) (notes : List Note) → Numbered w → state_after_note w first ≡ over_with w f.number answer entry (Some f) → flights_asked (entry ∷ w.log.entries) ≡ flights_asked w.log.entries
+    → LeadsNotes w m first f.line notes → Numbered (afters w notes)
 leads-numbered m w first f answer entry notes numbered is same leads =
     let v = over_with w f.number answer entry (Some f) in
     let settles : Settles m v f.line leads.rest = subst (λ u. Settles m u f.line leads.rest) is leads.settles in
@@ -102,12 +102,12 @@ gone-numbered w c (Some k) notes numbered is = rw is numbered
 
 render-numbered : (w : RunState) (e : Event) (flying : Option Flying) → Numbered w → RenderTo w e flying → Numbered (afters w e.body)
 render-numbered w e None numbered to = idle-numbered w e.body numbered to
-render-numbered w e (Some f) numbered to = rw to.2 (rising-rendered 0 f.number to.0 w.air (asked_in w.log.entries) numbered)
+render-numbered w e (Some f) numbered to = rw to.2 (rising-rendered 0 f.number to.0 w.air (flights_asked w.log.entries) numbered)
 
 deliver-numbered : (w : RunState) (e : Event) (f : Flying) (answer : Option Answer) → flight_at f.number w.air ≡ Some f → Numbered w → DeliverAs w e f answer → Numbered (afters w e.body)
 deliver-numbered w e f None there numbered to = idle-numbered w e.body numbered to
 deliver-numbered w e f (Some answer) there numbered to =
-    let leads : Leads w e.mood (Passed f.number) f.line e.body = subst (λ note. Leads w e.mood note f.line e.body) to.1 to.2 in
+    let leads : LeadsNotes w e.mood (Passed f.number) f.line e.body = subst (λ note. LeadsNotes w e.mood note f.line e.body) to.1 to.2 in
     leads-numbered e.mood w (Passed f.number) f _ _ e.body numbered (ap (over_with w f.number _ _) there) refl leads
 
 delivers-numbered : (w : RunState) (e : Event) (flying : Option Flying) → ((f : Flying) → flying ≡ Some f → flight_at f.number w.air ≡ Some f) → Numbered w → DeliverTo w e flying → Numbered (afters w e.body)
@@ -152,12 +152,12 @@ step-publishing w e (step.Render pick) happens = by_flying (picked pick is_unren
 step-publishing w e (step.Deliver pick) happens = (step-same w e (step.Deliver pick) tt happens).publishing
 step-publishing w e (step.Lose pick) happens = (step-same w e (step.Lose pick) tt happens).publishing
 
-run-from : (w : RunState) (events : List Event) → IsNeverFixed w.publishing → Numbered w → Run w events → From w (renders_of w events) (after_run w events).content
+run-from : (w : RunState) (events : List Event) → IsNeverFixed w.publishing → Numbered w → Run w events → From w (renders_of w events) (state_after_events w events).content
 run-from w [] never numbered run = refl
 run-from w (e ∷ events) never numbered run =
     let later = run-from (after_event w e) events (subst IsNeverFixed (sym (step-publishing w e e.step run.0)) never) (step-numbered w e e.step numbered run.0) run.1 in
     from-step w e e.step (renders_of (after_event w e) events) _ never numbered run.0 later
 
 pub renders-published : (publishing : Publishing) (farm : Farm) (content : Content) (events : List Event) → IsNeverFixed publishing → Run (start_of publishing farm content) events
-    → ArePublished publishing farm content (renders_of (start_of publishing farm content) events) (after_run (start_of publishing farm content) events).content
+    → ArePublished publishing farm content (renders_of (start_of publishing farm content) events) (state_after_events (start_of publishing farm content) events).content
 renders-published publishing farm content events never run = run-from (start_of publishing farm content) events never (omega arith) run

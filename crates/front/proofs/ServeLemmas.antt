@@ -6,7 +6,7 @@ use Rattle.std.proofs.lemmas.Map.{update_here}
 use Rattle.sp_base.specs.declared.answer.Req.{Req}
 use Rattle.any_config.specs.declared.farm.Farm.{Farm}
 use Rattle.dispatch_rules.specs.Admission.{admits}
-use Rattle.http_front.specs.Faults.{status_of}
+use Rattle.http_front.specs.Faults.{fault_status}
 use Rattle.http_front.specs.declared.fault.InFault.{InFault}
 use Rattle.http_front.specs.declared.turn.Turn.TheVariants.{Whole}
 use Rattle.connections.specs.Slots.{Slot, Awaits, MayAnswer, fault_slot, request_slot}
@@ -16,8 +16,8 @@ use Rattle.connections.specs.Ties.{Tied}
 use Rattle.connections.specs.declared.sending.Sending.{Sending}
 use Rattle.front.specs.Boards.{GivesDry, IsAnswering, Meets, OwesFault, OwesRequest, SkyTied, is_full_sky}
 use Rattle.front.specs.Lines.{Holds, Owes}
-use Rattle.front.specs.Moves.{Mood, Gives, IsFirst, MaySend, after, asked_by, points, due, line_due, is_crowded_line, is_full, local_response, local_slot, new_flight, request_of, treated}
-use Rattle.front.specs.States.{RunState, asked_in}
+use Rattle.front.specs.Moves.{Mood, GivesDue, IsFirstPoint, MaySend, state_after_note, asked_by, points, due_of_connection, line_due, is_crowded_line, is_front_full, local_response, local_slot, new_flight, request_of, treated}
+use Rattle.front.specs.States.{RunState, flights_asked}
 use Rattle.front.specs.declared.line.Line.{Line}
 use Rattle.front.specs.declared.note.Note.{Note}
 use Rattle.front.specs.declared.note.Note.TheVariants.{Ask as asked, Local, Sent}
@@ -33,58 +33,19 @@ sky-same sky w v tied air log = record {
 }
 
 -- what is due decides what a note has to be
-due-gives : (m : Mood) (w : RunState) (c : ℕ) (owed : Due) (note : Note) → due w c ≡ owed → Gives m w c owed note → Gives m w c (due w c) note
-due-gives m w c owed note is gives = subst (λ d. Gives m w c d note) (sym is) gives
-
--- ---- an answer is sent
-may-send : (m : Mood) (slot : Slot) (sending : Sending) → (IsTrue sending.dry → IsTrue m.dry) → MayAnswer slot sending → MaySend m slot sending.bytes
-may-send m slot sending allows answers = ⊎_elim (λ written. inl written) (λ fixed. inr (allows fixed.0, fixed.1)) answers
-
-pub given-send : {farm : Farm} (w : RunState) (c : ℕ) (k j : Line) (sky : Sky) (sending : Sending) → ((m : Connection) → Holds k m → IsDueSending m sending × Holds j (with_sent sending.bytes m)) → Meets farm w c k sky
-    → GivesDry sending.dry w c (Sent c sending.bytes) × Meets farm (after w (Sent c sending.bytes)) c j sky
-given-send {farm} w c k j sky sending sends meets =
-    let m = meets.connection in
-    let sent = sends m meets.holds in
-    let owed : due w c ≡ Send sent.0.slot = ap line_due meets.open_is ∙ sent.0.is_due in (
-      λ mood allows. due-gives mood w c _ _ owed (sending.bytes, refl, may-send mood sent.0.slot sending allows sent.0.answers),
-      record {
-        connection = with_sent sending.bytes m;
-        open_is = update_here w.line c _ ∙ ap (option_map (with_sent sending.bytes)) meets.open_is;
-        holds = sent.1;
-        sky_is = sky-same sky w _ meets.sky_is refl refl;
-        farm_is = meets.farm_is;
-      },
-    )
-
--- ---- a fault is answered
-pub given-fault : {farm : Farm} (w : RunState) (c : ℕ) (k j : Line) (sky : Sky) (fault : InFault) → OwesFault farm w c k sky fault
-    → ((m : Connection) → Tied k.outbox m → Holds j (treated (fault_slot (local_response (status_of fault))) m))
-    → GivesDry false w c (Local c (status_of fault)) × Meets farm (after w (Local c (status_of fault))) c j sky
-given-fault {farm} w c k j sky fault owes holds =
-    let m = owes.connection in
-    let owed : due w c ≡ Refuse fault = ap line_due owes.open_is ∙ owes.due_is in
-    let none : request_of (due w c) ≡ None = ap request_of owed in (
-      λ mood allows. due-gives mood w c _ _ owed refl,
-      record {
-        connection = treated (fault_slot (local_response (status_of fault))) m;
-        open_is = update_here w.line c _ ∙ ap (option_map (λ line. treated (local_slot (request_of (due w c)) (status_of fault) line) line)) owes.open_is
-            ∙ ap (λ r. Some (treated (local_slot r (status_of fault) m) m)) none;
-        holds = holds m owes.tied;
-        sky_is = sky-same sky w _ owes.sky_is refl refl;
-        farm_is = owes.farm_is;
-      },
-    )
+due-gives : (m : Mood) (w : RunState) (c : ℕ) (owed : Due) (note : Note) → due_of_connection w c ≡ owed → GivesDue m w c owed note → GivesDue m w c (due_of_connection w c) note
+due-gives m w c owed note is gives = subst (λ d. GivesDue m w c d note) (sym is) gives
 
 -- ---- a request is turned away
-full-is : (sky : Sky) (w : RunState) → SkyTied sky w → is_full w ≡ is_full_sky sky
+full-is : (sky : Sky) (w : RunState) → SkyTied sky w → is_front_full w ≡ is_full_sky sky
 full-is sky w tied = rw (tied.air, tied.asked) refl
 
 crowded-is : (w : RunState) (c : ℕ) (m : Connection) → w.line c ≡ Some m → is_crowded_line (w.line c) ≡ is_crowded m
 crowded-is w c m is = ap is_crowded_line is
 
 -- what the front answers itself is owed: by the first point, or since memory was wanting
-away-owed : (w : RunState) (c status : ℕ) (request : Req) (crowded admitted full dry : Bool) → is_crowded_line (w.line c) ≡ crowded → admits w.farm request ≡ admitted → is_full w ≡ full → IsAnswering crowded admitted full (Here status dry)
-    → (m : Mood) → (IsTrue dry → IsTrue m.dry) → IsFirst m w c request (Local c status) points ⊎ (IsTrue m.dry × (Local c status ≡ Local c 507))
+away-owed : (w : RunState) (c status : ℕ) (request : Req) (crowded admitted full dry : Bool) → is_crowded_line (w.line c) ≡ crowded → admits w.farm request ≡ admitted → is_front_full w ≡ full → IsAnswering crowded admitted full (Here status dry)
+    → (m : Mood) → (IsTrue dry → IsTrue m.dry) → IsFirstPoint m w c request (Local c status) points ⊎ (IsTrue m.dry × (Local c status ≡ Local c 507))
 away-owed w c status request true admitted full dry crowd may room (inl is) m allows =
     let at : Here status dry ≡ Here 503 false = is in
     let same : status ≡ 503 = cc in
@@ -105,16 +66,16 @@ away-owed w c status request crowded admitted full dry crowd may room (inr is) m
 
 pub given-away : {farm : Farm} (w : RunState) (c status : ℕ) (k j : Line) (sky : Sky) (request : Req) (crowded dry : Bool) → (owes : OwesRequest farm w c k sky request) → crowded ≡ is_crowded owes.connection
     → IsAnswering crowded (admits farm request) (is_full_sky sky) (Here status dry) → ((m : Connection) → Owes k m → Holds j (treated (request_slot request (crowded || status == 507) (local_response status)) m))
-    → GivesDry dry w c (Local c status) × Meets farm (after w (Local c status)) c j sky
+    → GivesDry dry w c (Local c status) × Meets farm (state_after_note w (Local c status)) c j sky
 given-away {farm} w c status k j sky request crowded dry owes is_crowd answering holds =
     let m = owes.connection in
-    let owed : due w c ≡ Treat (Whole request) = ap line_due owes.open_is ∙ owes.due_is in
-    let some : request_of (due w c) ≡ Some request = ap request_of owed in
+    let owed : due_of_connection w c ≡ Treat (Whole request) = ap line_due owes.open_is ∙ owes.due_is in
+    let some : request_of (due_of_connection w c) ≡ Some request = ap request_of owed in
     let line_crowd : is_crowded_line (w.line c) ≡ crowded = crowded-is w c m owes.open_is ∙ sym is_crowd in (
       λ mood allows. due-gives mood w c _ _ owed (away-owed w c status request crowded (admits farm request) (is_full_sky sky) dry line_crowd (ap (λ x. admits x request) owes.farm_is) (full-is sky w owes.sky_is) answering mood allows),
       record {
         connection = treated (request_slot request (crowded || status == 507) (local_response status)) m;
-        open_is = update_here w.line c _ ∙ ap (option_map (λ line. treated (local_slot (request_of (due w c)) status line) line)) owes.open_is
+        open_is = update_here w.line c _ ∙ ap (option_map (λ line. treated (local_slot (request_of (due_of_connection w c)) status line) line)) owes.open_is
             ∙ ap (λ r. Some (treated (local_slot r status m) m)) some ∙ ap (λ b. Some (treated (request_slot request (b || status == 507) (local_response status)) m)) (sym is_crowd);
         holds = holds m owes.owes;
         sky_is = sky-same sky w _ owes.sky_is refl refl;
@@ -134,17 +95,17 @@ flight-owed crowded admitted full (inr is) = absurd (let no : ⊥ = cc in no)
 pub given-ask : {farm : Farm} (w : RunState) (c n : ℕ) (k j : Line) (sky new : Sky) (request : Req) (crowded : Bool) → (owes : OwesRequest farm w c k sky request) → crowded ≡ is_crowded owes.connection
     → IsAnswering crowded (admits farm request) (is_full_sky sky) InFlight → n ≡ sky.asked + 1
     → new.asked ≡ sky.asked + 1 → new.flights.items ≡ sky.flights.items ++ new_flight (sky.asked + 1) c request ∷ [] → ((m : Connection) → Owes k m → Holds j (treated (request_slot request false (Awaits n)) m))
-    → GivesDry false w c (asked n c None) × Meets farm (after w (asked n c None)) c j new
+    → GivesDry false w c (asked n c None) × Meets farm (state_after_note w (asked n c None)) c j new
 given-ask {farm} w c n k j sky new request crowded owes is_crowd answering number counted flights holds =
     let m = owes.connection in
     let passes = flight-owed crowded (admits farm request) (is_full_sky sky) answering in
-    let owed : due w c ≡ Treat (Whole request) = ap line_due owes.open_is ∙ owes.due_is in
-    let some : request_of (due w c) ≡ Some request = ap request_of owed in
+    let owed : due_of_connection w c ≡ Treat (Whole request) = ap line_due owes.open_is ∙ owes.due_is in
+    let some : request_of (due_of_connection w c) ≡ Some request = ap request_of owed in
     let line_calm : is_crowded_line (w.line c) ≡ false = crowded-is w c m owes.open_is ∙ sym is_crowd ∙ passes.0 in
     let admitted : admits w.farm request ≡ true = ap (λ x. admits x request) owes.farm_is ∙ passes.1 in
-    let free : is_full w ≡ false = full-is sky w owes.sky_is ∙ passes.2 in
-    let next : asked n c None ≡ asked (asked_in w.log.entries + 1) c None = ap (λ x. asked x c None) (number ∙ ap (λ x. x + 1) owes.sky_is.asked) in
-    let is : after w (asked n c None) ≡ asked_by w n c None (Some request) = ap (asked_by w n c None) some in (
+    let free : is_front_full w ≡ false = full-is sky w owes.sky_is ∙ passes.2 in
+    let next : asked n c None ≡ asked (flights_asked w.log.entries + 1) c None = ap (λ x. asked x c None) (number ∙ ap (λ x. x + 1) owes.sky_is.asked) in
+    let is : state_after_note w (asked n c None) ≡ asked_by w n c None (Some request) = ap (asked_by w n c None) some in (
       λ mood allows. due-gives mood w c _ _ owed (inl (inr (λ crowd. let no : ⊥ = cc in no, inr (λ hidden. let no : ⊥ = cc in no, inr (λ full. let no : ⊥ = cc in no, inl (tt, next)))))),
       subst (λ v. Meets farm v c j new) (sym is) (record {
         connection = treated (request_slot request false (Awaits n)) m;

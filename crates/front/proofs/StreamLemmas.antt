@@ -3,14 +3,14 @@ use Rattle.std.proofs.Common.{◌≡◌, ◌≢◌, ℕ, ◌+◌, ◌++◌, Bool
 use Rattle.std.specs.Prelude.{if◌then◌else◌, length, slice_get}
 use Rattle.resource_tree.specs.Content.{Content}
 use Rattle.any_config.specs.declared.farm.Farm.{Farm}
-use Rattle.http_front.specs.Turns.{Breaks, End, Spells, Waits}
+use Rattle.http_front.specs.Turns.{Breaks, End, SpellsTurns, Waits}
 use Rattle.http_front.specs.declared.turn.Turn.{Turn}
 use Rattle.connections.specs.Slots.{Slot, is_answered}
 use Rattle.connections.specs.Connections.{Close, Connection, Due, Nothing, Refuse, Send, Treat, due_at_end, due_at_slot, due_at_turn, due_unsent, fresh, next_turn}
 use Rattle.connections.specs.Connections as connection
 use Rattle.connections.specs.Histories.{AnswersRun, AreOfTurns, Follows, Move, after_all, sendings}
 use Rattle.connections.specs.declared.sending.Sending.{Sending}
-use Rattle.front.specs.Events.{Event, Run, after_run}
+use Rattle.front.specs.Events.{Event, Run, state_after_events}
 use Rattle.front.specs.Histories.{AnswersStream, AnswersWhatCame, HasReadAll, came_since_opened, sent_since_opened}
 use Rattle.front.specs.Publishers.{Publishing}
 use Rattle.front.specs.States.{RunState, start_of}
@@ -80,25 +80,25 @@ read-past : (d : Connection) (came : List ℕ) (sent : List Sending) → Past d 
 read-past d came sent past reads idle =
     let none = idle-due d reads idle in
     let all : came ≡ d.stream = past.came_is ∙ ap (λ xs. d.stream ++ xs) (past.read reads) ∙ append-nil d.stream in
-    record { spells = rw all (subst (λ end. Spells d.stream d.turns end) none.1 past.spells); treated = none.0 }
+    record { spells = rw all (subst (λ end. SpellsTurns d.stream d.turns end) none.1 past.spells); treated = none.0 }
 
 -- ---- the laws
 end-kept : (publishing : Publishing) (farm : Farm) (content : Content) (events : List Event) (c : ℕ) → Run (start_of publishing farm content) events
-    → Kept (after_run (start_of publishing farm content) events) c (came_since_opened c events) (sent_since_opened c events)
+    → Kept (state_after_events (start_of publishing farm content) events) c (came_since_opened c events) (sent_since_opened c events)
 end-kept publishing farm content events c run = run-kept (start_of publishing farm content) events c [] [] (start-kept publishing farm content c) run
 
 pub answered-in-order : InOrder → (publishing : Publishing) (farm : Farm) (content : Content) (events : List Event) (c : ℕ) (d : Connection) → Run (start_of publishing farm content) events
-    → (after_run (start_of publishing farm content) events).line c ≡ Some d → AnswersRun d.slots (sent_since_opened c events)
+    → (state_after_events (start_of publishing farm content) events).line c ≡ Some d → AnswersRun d.slots (sent_since_opened c events)
 answered-in-order law publishing farm content events c d run some =
     let kept = end-kept publishing farm content events c run in
     answers-past law d _ _ (kept.held.here d some) (idle-still d (kept.still d some))
 
 pub slots-of-turns : OfTurns → (publishing : Publishing) (farm : Farm) (content : Content) (events : List Event) (c : ℕ) (d : Connection) → Run (start_of publishing farm content) events
-    → (after_run (start_of publishing farm content) events).line c ≡ Some d → AreOfTurns d.turns d.slots
+    → (state_after_events (start_of publishing farm content) events).line c ≡ Some d → AreOfTurns d.turns d.slots
 slots-of-turns law publishing farm content events c d run some = turns-past law d _ _ ((end-kept publishing farm content events c run).held.here d some)
 
 pub read-all : (publishing : Publishing) (farm : Farm) (content : Content) (events : List Event) (c : ℕ) (d : Connection) → Run (start_of publishing farm content) events
-    → (after_run (start_of publishing farm content) events).line c ≡ Some d → d.closing ≡ false → HasReadAll (came_since_opened c events) d
+    → (state_after_events (start_of publishing farm content) events).line c ≡ Some d → d.closing ≡ false → HasReadAll (came_since_opened c events) d
 read-all publishing farm content events c d run some reads =
     let kept = end-kept publishing farm content events c run in
     read-past d _ _ (kept.held.here d some) reads (kept.still d some)
@@ -119,11 +119,11 @@ answers-kept order turns w c came sent None is kept =
 pub answered-streams : InOrder → OfTurns → (publishing : Publishing) (farm : Farm) (content : Content) (events : List Event) (c : ℕ) → Run (start_of publishing farm content) events
     → AnswersWhatCame (came_since_opened c events) (sent_since_opened c events)
 answered-streams order turns publishing farm content events c run =
-    answers-kept order turns (after_run (start_of publishing farm content) events) c _ _ ((after_run (start_of publishing farm content) events).line c) refl (end-kept publishing farm content events c run)
+    answers-kept order turns (state_after_events (start_of publishing farm content) events) c _ _ ((state_after_events (start_of publishing farm content) events).line c) refl (end-kept publishing farm content events c run)
 
 -- ---- cuttings
 abbrev pub Beginnings : Type 0
-Beginnings = (stream more : List ℕ) (turns all : List Turn) (end last : End) → Spells stream turns end → Spells (stream ++ more) all last → (later : List Turn) × (all ≡ turns ++ later)
+Beginnings = (stream more : List ℕ) (turns all : List Turn) (end last : End) → SpellsTurns stream turns end → SpellsTurns (stream ++ more) all last → (later : List Turn) × (all ≡ turns ++ later)
 
 no-more : (a b later earlier : List Turn) → b ≡ a ++ later → a ≡ b ++ earlier → a ≡ b
 no-more a b later earlier first second = by_rest later first (omega (arith, ap length first, ap length second, length-append a later, length-append b earlier))
@@ -134,6 +134,6 @@ no-more a b later earlier first second = by_rest later first (omega (arith, ap l
 
 pub same-turns : Beginnings → (came : List ℕ) (x y : Connection) → HasReadAll came x → HasReadAll came y → x.turns ≡ y.turns
 same-turns law came x y one other =
-    let first = law came [] x.turns y.turns Waits Waits one.spells (subst (λ s. Spells s y.turns Waits) (sym (append-nil came)) other.spells) in
-    let second = law came [] y.turns x.turns Waits Waits other.spells (subst (λ s. Spells s x.turns Waits) (sym (append-nil came)) one.spells) in
+    let first = law came [] x.turns y.turns Waits Waits one.spells (subst (λ s. SpellsTurns s y.turns Waits) (sym (append-nil came)) other.spells) in
+    let second = law came [] y.turns x.turns Waits Waits other.spells (subst (λ s. SpellsTurns s x.turns Waits) (sym (append-nil came)) one.spells) in
     no-more x.turns y.turns first.0 second.0 first.1 second.1

@@ -26,9 +26,9 @@ use Rattle.front.specs.declared.sky.Sky.{Sky}
 use Rattle.front.specs.declared.step.Step.{Step}
 use Rattle.front.specs.declared.told.Told.{Told}
 use Rattle.front.specs.Events.{Event, Happens, after_event}
-use Rattle.front.specs.Lines.{Holds, Owes, Reads}
-use Rattle.front.specs.Moves.{Mood, Gives, Serves, Settles, after, afters, due, most_flights, most_numbers}
-use Rattle.front.specs.States.{RunState, asked_in}
+use Rattle.front.specs.Lines.{Holds, Owes, LineReads}
+use Rattle.front.specs.Moves.{Mood, GivesDue, Serves, Settles, state_after_note, afters, due_of_connection, most_flights, most_numbers}
+use Rattle.front.specs.States.{RunState, flights_asked}
 
 -- ---- flights
 
@@ -40,7 +40,7 @@ AreRising least (flying ∷ air) most = (least < flying.number) × AreRising fly
 -- the flights are those in the air, and as many were asked
 pub record SkyTied (sky : Sky) (w : RunState) : Type 0 where
   pub air : sky.flights.items ≡ w.air
-  pub asked : sky.asked ≡ asked_in w.log.entries
+  pub asked : sky.asked ≡ flights_asked w.log.entries
   pub rising : AreRising 0 sky.flights.items sky.asked
 
 -- no further flight is asked
@@ -106,7 +106,7 @@ pub record OwesFault (farm : Farm) (w : RunState) (c : ℕ) (k : Line) (sky : Sk
 
 -- in such an event the note gives what is owed
 abbrev pub GivesDry : Bool → RunState → ℕ → Note → Type 0
-GivesDry dry w c note = (m : Mood) → Allows dry m → Gives m w c (due w c) note
+GivesDry dry w c note = (m : Mood) → Allows dry m → GivesDue m w c (due_of_connection w c) note
 
 abbrev pub ServesDry : Bool → RunState → ℕ → List Note → Type 0
 ServesDry dry w c notes = (m : Mood) → Allows dry m → Serves m w c notes
@@ -124,9 +124,9 @@ IsAnswering crowded admitted full answering = (answering ≡ first_point crowded
 
 -- one note was given, or none is owed, or the connection's end is
 abbrev pub ServedAs : Served → Farm → RunState → ℕ → Line → Sky → Type 0
-ServedAs (Said note dry) farm w c k sky = GivesDry dry w c note × Meets farm (after w note) c k sky
-ServedAs Quiet farm w c k sky = (due w c ≡ Nothing) × Meets farm w c k sky
-ServedAs Ended farm w c k sky = (due w c ≡ Close) × Meets farm w c k sky
+ServedAs (Said note dry) farm w c k sky = GivesDry dry w c note × Meets farm (state_after_note w note) c k sky
+ServedAs Quiet farm w c k sky = (due_of_connection w c ≡ Nothing) × Meets farm w c k sky
+ServedAs Ended farm w c k sky = (due_of_connection w c ≡ Close) × Meets farm w c k sky
 
 -- less is owed after it, where a note was given
 abbrev pub IsLess : Served → ℕ → ℕ → Type 0
@@ -135,7 +135,7 @@ IsLess Quiet left before = Unit {0}
 IsLess Ended left before = Unit {0}
 
 -- these notes were given
-pub record Given (dry : Bool) (notes : List Note) (farm : Farm) (w : RunState) (c : ℕ) (k : Line) (sky : Sky) : Type 0 where
+pub record NotesGiven (dry : Bool) (notes : List Note) (farm : Farm) (w : RunState) (c : ℕ) (k : Line) (sky : Sky) : Type 0 where
   pub serves : ServesDry dry w c notes
   pub meets : Meets farm (afters w notes) c k sky
 
@@ -145,8 +145,8 @@ end_or_nothing over = if over then Close else Nothing
 
 -- all that is owed was given, but for the end
 pub record AllGiven (told : Told) (over : Bool) (farm : Farm) (w : RunState) (c : ℕ) (k : Line) (sky : Sky) : Type 0 where
-  pub given : Given told.dry told.notes.items farm w c k sky
-  pub then_due : due (afters w told.notes.items) c ≡ end_or_nothing over
+  pub given : NotesGiven told.dry told.notes.items farm w c k sky
+  pub then_due : due_of_connection (afters w told.notes.items) c ≡ end_or_nothing over
 
 -- ---- whole events
 
@@ -173,7 +173,7 @@ pub record ReadAt (old new : Board) (c : ℕ) (bytes : List ℕ) : Type 0 where
   pub others : (q : ℕ) → q ≢ c → get nat_cmp new.lines q ≡ get nat_cmp old.lines q
   pub count : btree_map_len new.lines ≡ btree_map_len old.lines
   pub sky : new.sky ≡ old.sky
-  pub reads : (connection : Connection) → Holds before connection → Reads bytes connection line
+  pub reads : (connection : Connection) → Holds before connection → LineReads bytes connection line
 
 -- the flight is out of the air, and its connection isn't told yet
 pub record Landing (farm : Farm) (board : Board) (w v : RunState) (c number : ℕ) (answer : Answer) : Type 0 where

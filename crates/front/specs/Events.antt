@@ -3,7 +3,7 @@ use Rattle.std.specs.Prelude.{◌≡◌, ◌+◌, ◌-◌, ◌++◌, ◌⊎◌, 
 use Rattle.std.specs.List.{find}
 use Rattle.std.specs.Map.{update}
 use Rattle.sp_base.specs.declared.answer.Answer.{Answer}
-use Rattle.http_front.specs.Turns.{End, Spells}
+use Rattle.http_front.specs.Turns.{End, SpellsTurns}
 use Rattle.http_front.specs.declared.turn.Turn.{Turn}
 use Rattle.connections.specs.Connections.{Connection, fed, fresh}
 use Rattle.front.specs.declared.flying.Flying.{Flying}
@@ -15,7 +15,7 @@ use Rattle.front.specs.declared.note.Note.{Note}
 use Rattle.front.specs.declared.note.Note.TheVariants.{Answer as answered, Rendered, Passed, Lost, Refused, Idle, Dry}
 use Rattle.front.specs.Publishers.{direct_answer, fixed_answer}
 use Rattle.front.specs.States.{RunState}
-use Rattle.front.specs.Moves.{Mood, Settles, after, afters, on_line, has_number, published}
+use Rattle.front.specs.Moves.{Mood, Settles, state_after_note, afters, on_line, has_number, published_for}
 
 -- An event: its step, its notes but for those that name its mood, and the mood. Of a piece it tells which further turns its
 -- connection's stream now spells, and how they end.
@@ -94,7 +94,7 @@ going (Some line) = []
 
 -- The stream spells these turns now too, and ends so, unless it is read no further; and the connection gets what it is owed.
 pub record PieceFeeds (w : RunState) (e : Event) (c : ℕ) (bytes : List ℕ) (line : Connection) : Type 0 where
-  pub spells : line.closing ≡ false → Spells (line.stream ++ bytes) (line.turns ++ e.turns) e.ends
+  pub spells : line.closing ≡ false → SpellsTurns (line.stream ++ bytes) (line.turns ++ e.turns) e.ends
   pub settles : Settles e.mood (on_line w c (fed bytes e.turns e.ends)) c e.body
 
 abbrev pub PieceTo : RunState → Event → ℕ → List ℕ → Option Connection → Type 0
@@ -112,13 +112,13 @@ DirectTo w e target = (answer : Answer) × IsOrFixed e.mood answer (direct_answe
 -- the publisher's answer to the flight's request, on the content of this moment
 abbrev pub RenderTo : RunState → Event → Option Flying → Type 0
 RenderTo w e None = e.body ≡ Idle ∷ []
-RenderTo w e (Some flying) = (answer : Answer) × IsOrFixed e.mood answer (published w flying.request).answer × (e.body ≡ Rendered flying.number answer ∷ [])
+RenderTo w e (Some flying) = (answer : Answer) × IsOrFixed e.mood answer (published_for w flying.request).answer × (e.body ≡ Rendered flying.number answer ∷ [])
 
 -- a first note, and then what its connection is owed
-pub record Leads (w : RunState) (m : Mood) (first : Note) (c : ℕ) (notes : List Note) : Type 0 where
+pub record LeadsNotes (w : RunState) (m : Mood) (first : Note) (c : ℕ) (notes : List Note) : Type 0 where
   pub rest : List Note
   pub begins : notes ≡ first ∷ rest
-  pub settles : Settles m (after w first) c rest
+  pub settles : Settles m (state_after_note w first) c rest
 
 -- which note a landing has: without a cache its answer is passed on
 abbrev pub MayLand : RunState → Mood → Flying → Answer → Note → Type 0
@@ -126,7 +126,7 @@ MayLand w m flying answer note = note ≡ Passed flying.number
 
 abbrev pub DeliverAs : RunState → Event → Flying → Option Answer → Type 0
 DeliverAs w e flying None = e.body ≡ Idle ∷ []
-DeliverAs w e flying (Some answer) = (note : Note) × MayLand w e.mood flying answer note × Leads w e.mood note flying.line e.body
+DeliverAs w e flying (Some answer) = (note : Note) × MayLand w e.mood flying answer note × LeadsNotes w e.mood note flying.line e.body
 
 abbrev pub DeliverTo : RunState → Event → Option Flying → Type 0
 DeliverTo w e None = e.body ≡ Idle ∷ []
@@ -134,7 +134,7 @@ DeliverTo w e (Some flying) = DeliverAs w e flying flying.rendered
 
 abbrev pub LoseTo : RunState → Event → Option Flying → Type 0
 LoseTo w e None = e.body ≡ Idle ∷ []
-LoseTo w e (Some flying) = Leads w e.mood (Lost flying.number) flying.line e.body
+LoseTo w e (Some flying) = LeadsNotes w e.mood (Lost flying.number) flying.line e.body
 
 -- the event is one of this step
 abbrev pub HappensBy : RunState → Event → Step → Type 0
@@ -154,9 +154,9 @@ abbrev pub Run : RunState → List Event → Type 0
 Run w [] = Unit {0}
 Run w (e ∷ events) = Happens w e × Run (after_event w e) events
 
-abbrev pub after_run : RunState → List Event → RunState
-after_run w [] = w
-after_run w (e ∷ events) = after_run (after_event w e) events
+abbrev pub state_after_events : RunState → List Event → RunState
+state_after_events w [] = w
+state_after_events w (e ∷ events) = state_after_events (after_event w e) events
 
 -- ---- what a call of the front adds
 

@@ -11,14 +11,14 @@ use Rattle.front.specs.Publishers.{Publishing, fixed_answer}
 use Rattle.front.specs.States.{RunState}
 
 -- the publisher and the farm are those of the state, and the board is what is left of it
-pub record Stands (publishing : Publishing) (content : Content) (farm : Farm) (board : Board) (w : RunState) : Type 0 where
+pub record BoardStands (publishing : Publishing) (content : Content) (farm : Farm) (board : Board) (w : RunState) : Type 0 where
   pub publishing_is : w.publishing ≡ publishing
   pub content_is : w.content ≡ content
   pub board_is : BoardTied farm board w
 
 -- what was told is an event of this step, of each state that was stood for
-abbrev pub Tells : (RunState → Type 0) → (RunState → Type 0) → Step → Told → Type 0
-Tells Before After step told = (w : RunState) → Before w → Happened After w step told
+abbrev pub TellsStep : (RunState → Type 0) → (RunState → Type 0) → Step → Told → Type 0
+TellsStep Before After step told = (w : RunState) → Before w → Happened After w step told
 
 -- the answer that was made, or in place of none the fixed one
 abbrev pub IsGiven : {E : Type 0} → Result Answer E → Answer → Bool → Type 0

@@ -1,6 +1,6 @@
 -- What came on a connection since it was opened, and what was sent on it.
 use Rattle.std.specs.Prelude.{◌≡◌, ◌++◌, ℕ, Bool, false, nat_eq, if◌then◌else◌, List, [], ◌∷◌, None, flat_map}
-use Rattle.http_front.specs.Turns.{End, Spells, Waits}
+use Rattle.http_front.specs.Turns.{End, SpellsTurns, Waits}
 use Rattle.http_front.specs.declared.turn.Turn.{Turn}
 use Rattle.connections.specs.Connections.{Connection, next_turn}
 use Rattle.connections.specs.Histories.{AnswersRun, AreOfTurns}
@@ -31,19 +31,19 @@ abbrev pub sent_in : ℕ → Mood → List Note → List Sending
 sent_in c m notes = flat_map (sent_by c m) notes
 
 -- the event opens the connection: it was not there, and there was room
-abbrev pub opens : ℕ → Step → List Note → Bool
-opens c (Opened d peer) [] = nat_eq d c
-opens c (Opened d peer) (note ∷ notes) = false
-opens c (Piece d bytes) notes = false
-opens c (Gone d) notes = false
-opens c (Direct target) notes = false
-opens c (Render pick) notes = false
-opens c (Deliver pick) notes = false
-opens c (Lose pick) notes = false
+abbrev pub opens_connection : ℕ → Step → List Note → Bool
+opens_connection c (Opened d peer) [] = nat_eq d c
+opens_connection c (Opened d peer) (note ∷ notes) = false
+opens_connection c (Piece d bytes) notes = false
+opens_connection c (Gone d) notes = false
+opens_connection c (Direct target) notes = false
+opens_connection c (Render pick) notes = false
+opens_connection c (Deliver pick) notes = false
+opens_connection c (Lose pick) notes = false
 
 abbrev pub sent_after : ℕ → List Sending → List Event → List Sending
 sent_after c sent [] = sent
-sent_after c sent (e ∷ events) = sent_after c (if opens c e.step e.body then [] else sent ++ sent_in c e.mood e.body) events
+sent_after c sent (e ∷ events) = sent_after c (if opens_connection c e.step e.body then [] else sent ++ sent_in c e.mood e.body) events
 
 -- what was sent on the connection since it was opened last
 abbrev pub sent_since_opened : ℕ → List Event → List Sending
@@ -61,7 +61,7 @@ brought_by c (Lose pick) = []
 
 abbrev pub came_after : ℕ → List ℕ → List Event → List ℕ
 came_after c came [] = came
-came_after c came (e ∷ events) = came_after c (if opens c e.step e.body then [] else came ++ brought_by c e.step) events
+came_after c came (e ∷ events) = came_after c (if opens_connection c e.step e.body then [] else came ++ brought_by c e.step) events
 
 -- what came on the connection since it was opened last
 abbrev pub came_since_opened : ℕ → List Event → List ℕ
@@ -73,7 +73,7 @@ pub record AnswersStream (stream : List ℕ) (sent : List Sending) : Type 0 wher
   pub turns : List Turn
   pub ends : End
   pub slots : List Slot
-  pub spells : Spells stream turns ends
+  pub spells : SpellsTurns stream turns ends
   pub of_turns : AreOfTurns turns slots
   pub answers : AnswersRun slots sent
 
@@ -86,5 +86,5 @@ pub record AnswersWhatCame (came : List ℕ) (sent : List Sending) : Type 0 wher
 
 -- each turn of what came has its slot, and further turns are awaited
 pub record HasReadAll (came : List ℕ) (connection : Connection) : Type 0 where
-  pub spells : Spells came connection.turns Waits
+  pub spells : SpellsTurns came connection.turns Waits
   pub treated : next_turn connection ≡ None

@@ -1,6 +1,6 @@
 -- What the front keeps of a connection. (Of the theorem's reader this file is no concern.)
 use Rattle.std.specs.Prelude.{◌≡◌, ◌+◌, ◌*◌, ◌++◌, ℕ, Bool, true, false, List, [], ◌∷◌, Option, Some, None, length}
-use Rattle.http_front.specs.Turns.{End, Waits, Breaks, Spells}
+use Rattle.http_front.specs.Turns.{End, Waits, Breaks, SpellsTurns}
 use Rattle.http_front.specs.Intakes.{StandsFor}
 use Rattle.http_front.specs.declared.fault.InFault.{InFault}
 use Rattle.http_front.specs.declared.intake.Intake.{Intake}
@@ -42,13 +42,13 @@ pub record ReadsOn (k : Line) (c : Connection) : Type 0 where
   pub paired : IsPaired k.turns.items
 
 -- the line is what is left of the connection, but that a 100 Continue may be owed
-pub record Keeps (k : Line) (c : Connection) : Type 0 where
+pub record LineKeeps (k : Line) (c : Connection) : Type 0 where
   pub tied : Tied k.outbox c
   pub reads : c.closing ≡ false → ReadsOn k c
 
 -- the line is what is left of the connection
 pub record Holds (k : Line) (c : Connection) : Type 0 where
-  pub keeps : Keeps k c
+  pub keeps : LineKeeps k c
   pub ready : c.closing ≡ false → IsReady k.turns.items
 
 -- the same, but that a slot is owed for the turn that was taken
@@ -60,18 +60,18 @@ pub record Owes (k : Line) (c : Connection) : Type 0 where
   pub paired : IsPaired k.turns.items
 
 -- the bytes spell further turns, and the line is what is left of the connection with them
-pub record Reads (bytes : List ℕ) (c : Connection) (k : Line) : Type 0 where
+pub record LineReads (bytes : List ℕ) (c : Connection) (k : Line) : Type 0 where
   pub turns : List Turn
   pub ends : End
-  pub spells : c.closing ≡ false → Spells (c.stream ++ bytes) (c.turns ++ turns) ends
+  pub spells : c.closing ≡ false → SpellsTurns (c.stream ++ bytes) (c.turns ++ turns) ends
   pub holds : Holds k (fed bytes turns ends c)
 
 -- further turns are told, and then the stream ends so
-pub record Tells (old : Intake) (before : List Turn) (new : Intake) (after : List Turn) (fault : Option InFault) : Type 0 where
+pub record TellsTurns (old : Intake) (before : List Turn) (new : Intake) (after : List Turn) (fault : Option InFault) : Type 0 where
   pub turns : List Turn
   pub joined : after ≡ before ++ turns
   pub told : (stream : List ℕ) (told : List Turn) → StandsFor old stream told → StandsFor new stream (told ++ turns)
-  pub spells : (stream : List ℕ) (told : List Turn) → StandsFor old stream told → Spells stream (told ++ turns) (end_of fault)
+  pub spells : (stream : List ℕ) (told : List Turn) → StandsFor old stream told → SpellsTurns stream (told ++ turns) (end_of fault)
 
 -- the same before the end is found
 pub record TellsOn (old : Intake) (before : List Turn) (new : Intake) (after : List Turn) : Type 0 where

@@ -8,10 +8,10 @@ use Rattle.sp_base.specs.declared.answer.Req.{Req}
 use Rattle.resource_tree.specs.Content.{Content}
 use Rattle.cover_rules.specs.declared.page.PageKey.{PageKey}
 use Rattle.dispatch_rules.specs.Admission.{admits}
-use Rattle.dispatch_rules.specs.Asking.{asked_of}
+use Rattle.dispatch_rules.specs.Asking.{publisher_ask}
 use Rattle.error_answers.specs.Errors.{error_answer}
 use Rattle.http_front.specs.Answers.{fixed_507}
-use Rattle.http_front.specs.Faults.{status_of}
+use Rattle.http_front.specs.Faults.{fault_status}
 use Rattle.http_front.specs.declared.turn.Turn.{Turn}
 use Rattle.http_front.specs.declared.turn.Turn.TheVariants.{Continue, Whole}
 use Rattle.connections.specs.Slots.{Slot, Response, Fixed, Awaits, Says, IsWritten, request_slot, fault_slot}
@@ -21,7 +21,7 @@ use Rattle.front.specs.declared.flying.Flying.{Flying}
 use Rattle.front.specs.declared.note.Note.{Note}
 use Rattle.front.specs.declared.note.Note.TheVariants.{Answer as answered, Ask as asked, Local, Rendered, Passed, Lost, Sent, Shut, Refused, Idle, Dry}
 use Rattle.front.specs.Publishers.{Published, fixed_answer}
-use Rattle.front.specs.States.{RunState, Log, Entry, Asked, Landed, Lost as lost_entry, Passed as passed_fate, asked_in}
+use Rattle.front.specs.States.{RunState, Log, LogEntry, Asked, Landed, Lost as lost_entry, Passed as passed_fate, flights_asked}
 
 -- what an event allows: in a dry one memory was wanting
 pub record Mood : Type 0 where
@@ -55,8 +55,8 @@ line_due None = Nothing
 line_due (Some c) = connection.due c
 
 -- what a connection is owed next
-abbrev pub due : RunState → ℕ → Due
-due w c = line_due (w.line c)
+abbrev pub due_of_connection : RunState → ℕ → Due
+due_of_connection w c = line_due (w.line c)
 
 -- ---- requests
 
@@ -82,21 +82,21 @@ most_flights = 256
 abbrev pub most_numbers : ℕ
 most_numbers = 2 ^ 63
 
-abbrev pub is_full : RunState → Bool
-is_full w = nat_le most_flights (length w.air) || nat_le most_numbers (asked_in w.log.entries)
+abbrev pub is_front_full : RunState → Bool
+is_front_full w = nat_le most_flights (length w.air) || nat_le most_numbers (flights_asked w.log.entries)
 
 -- the point may answer a request
-abbrev pub Applies : Mood → RunState → ℕ → Req → Point → Type 0
-Applies m w c request Crowded = IsTrue (is_crowded_line (w.line c))
-Applies m w c request Hidden = admits w.farm request ≡ false
-Applies m w c request Full = IsTrue (is_full w)
-Applies m w c request Free = Unit {0}
+abbrev pub PointApplies : Mood → RunState → ℕ → Req → Point → Type 0
+PointApplies m w c request Crowded = IsTrue (is_crowded_line (w.line c))
+PointApplies m w c request Hidden = admits w.farm request ≡ false
+PointApplies m w c request Full = IsTrue (is_front_full w)
+PointApplies m w c request Free = Unit {0}
 
 -- a later point may answer it instead
 abbrev pub MayPass : Mood → RunState → ℕ → Req → Point → Type 0
-MayPass m w c request Crowded = Applies m w c request Crowded → ⊥
-MayPass m w c request Hidden = Applies m w c request Hidden → ⊥
-MayPass m w c request Full = Applies m w c request Full → ⊥
+MayPass m w c request Crowded = PointApplies m w c request Crowded → ⊥
+MayPass m w c request Hidden = PointApplies m w c request Hidden → ⊥
+MayPass m w c request Full = PointApplies m w c request Full → ⊥
 MayPass m w c request Free = ⊥
 
 -- the page of the cache that a request has: none without a cache
@@ -104,34 +104,34 @@ abbrev pub key_of : RunState → Req → Option PageKey
 key_of w request = None
 
 -- what a point answers: Service Unavailable (RFC 9110, section 15.6.4), Not Found (section 15.5.5), or a flight with the next number
-abbrev pub Answers : RunState → ℕ → Req → Point → Note → Type 0
-Answers w c request Crowded note = note ≡ Local c 503
-Answers w c request Hidden note = note ≡ Local c 404
-Answers w c request Full note = note ≡ Local c 503
-Answers w c request Free note = note ≡ asked (asked_in w.log.entries + 1) c (key_of w request)
+abbrev pub AnswersPoint : RunState → ℕ → Req → Point → Note → Type 0
+AnswersPoint w c request Crowded note = note ≡ Local c 503
+AnswersPoint w c request Hidden note = note ≡ Local c 404
+AnswersPoint w c request Full note = note ≡ Local c 503
+AnswersPoint w c request Free note = note ≡ asked (flights_asked w.log.entries + 1) c (key_of w request)
 
 -- the note is that of the first of these points which applies
-abbrev pub IsFirst : Mood → RunState → ℕ → Req → Note → List Point → Type 0
-IsFirst m w c request note [] = ⊥
-IsFirst m w c request note (point ∷ later) = (Applies m w c request point × Answers w c request point note) ⊎ (MayPass m w c request point × IsFirst m w c request note later)
+abbrev pub IsFirstPoint : Mood → RunState → ℕ → Req → Note → List Point → Type 0
+IsFirstPoint m w c request note [] = ⊥
+IsFirstPoint m w c request note (point ∷ later) = (PointApplies m w c request point × AnswersPoint w c request point note) ⊎ (MayPass m w c request point × IsFirstPoint m w c request note later)
 
 -- ---- what a note gives
 
 abbrev pub TreatedBy : Mood → RunState → ℕ → Turn → Note → Type 0
 TreatedBy m w c Continue note = ⊥
-TreatedBy m w c (Whole request) note = IsFirst m w c request note points ⊎ (IsTrue m.dry × (note ≡ Local c 507))
+TreatedBy m w c (Whole request) note = IsFirstPoint m w c request note points ⊎ (IsTrue m.dry × (note ≡ Local c 507))
 
 -- these bytes may be sent for the slot: its own, or in a dry event the fixed 507
 abbrev pub MaySend : Mood → Slot → List ℕ → Type 0
 MaySend m slot bytes = IsWritten slot slot.response bytes ⊎ (IsTrue m.dry × (bytes ≡ fixed_507))
 
 -- the note gives the connection what it is owed
-abbrev pub Gives : Mood → RunState → ℕ → Due → Note → Type 0
-Gives m w c (Send slot) note = (bytes : List ℕ) × (note ≡ Sent c bytes) × MaySend m slot bytes
-Gives m w c (Treat turn) note = TreatedBy m w c turn note
-Gives m w c (Refuse fault) note = note ≡ Local c (status_of fault)
-Gives m w c Close note = note ≡ Shut c
-Gives m w c Nothing note = ⊥
+abbrev pub GivesDue : Mood → RunState → ℕ → Due → Note → Type 0
+GivesDue m w c (Send slot) note = (bytes : List ℕ) × (note ≡ Sent c bytes) × MaySend m slot bytes
+GivesDue m w c (Treat turn) note = TreatedBy m w c turn note
+GivesDue m w c (Refuse fault) note = note ≡ Local c (fault_status fault)
+GivesDue m w c Close note = note ≡ Shut c
+GivesDue m w c Nothing note = ⊥
 
 -- ---- what a note does
 
@@ -164,7 +164,7 @@ treated slot c = advanced (with_slot slot c)
 abbrev pub local_slot : Option Req → ℕ → Connection → Slot
 local_slot request status c = slot_for request (is_crowded c || status == 507) (local_response status)
 
-abbrev pub logged : Log → Entry → Log
+abbrev pub logged : Log → LogEntry → Log
 logged log entry = record log { entries = entry ∷ log.entries }
 
 abbrev pub new_flight : ℕ → ℕ → Req → Flying
@@ -180,7 +180,7 @@ asked_by w number c key (Some request) =
     }
 
 -- a flight is out of the air, and its connection has this answer
-abbrev pub over_with : RunState → ℕ → Answer → Entry → Option Flying → RunState
+abbrev pub over_with : RunState → ℕ → Answer → LogEntry → Option Flying → RunState
 over_with w number answer entry None = w
 over_with w number answer entry (Some flying) =
     record w {
@@ -194,38 +194,38 @@ abbrev pub answer_in : Option Flying → Answer
 answer_in flying = unwrap_or (option_and_then (λ f. f.rendered) flying) fixed_answer
 
 -- what the publisher gives for a request of a client, asked by the farm, on the content of this moment
-abbrev pub published : RunState → Req → Published
-published w request = w.publishing w.content (asked_of w.farm request)
+abbrev pub published_for : RunState → Req → Published
+published_for w request = w.publishing w.content (publisher_ask w.farm request)
 
 -- the content after a flight is rendered: what the publisher leaves, but the fixed answer stands where it did nothing
 abbrev pub content_rendered : RunState → Answer → Option Flying → Content
 content_rendered w answer None = w.content
-content_rendered w answer (Some flying) = if answer.status == 507 then w.content else (published w flying.request).content
+content_rendered w answer (Some flying) = if answer.status == 507 then w.content else (published_for w flying.request).content
 
 -- the state after a note
-abbrev pub after : RunState → Note → RunState
-after w (answered answer) = w
-after w (asked number c key) = asked_by w number c key (request_of (due w c))
-after w (Local c status) = on_line w c (λ line. treated (local_slot (request_of (due w c)) status line) line)
-after w (Rendered number answer) = record w { content = content_rendered w answer (flight_at number w.air); air = map (with_rendered_at number answer) w.air }
-after w (Passed number) = over_with w number (answer_in (flight_at number w.air)) (Landed number (answer_in (flight_at number w.air)) passed_fate) (flight_at number w.air)
-after w (Lost number) = over_with w number (error_answer 502) (lost_entry number) (flight_at number w.air)
-after w (Sent c bytes) = on_line w c (with_sent bytes)
-after w (Shut c) = record w { line = update nat_eq w.line c None; lines = w.lines - 1 }
-after w (Refused c) = w
-after w Idle = w
-after w Dry = w
+abbrev pub state_after_note : RunState → Note → RunState
+state_after_note w (answered answer) = w
+state_after_note w (asked number c key) = asked_by w number c key (request_of (due_of_connection w c))
+state_after_note w (Local c status) = on_line w c (λ line. treated (local_slot (request_of (due_of_connection w c)) status line) line)
+state_after_note w (Rendered number answer) = record w { content = content_rendered w answer (flight_at number w.air); air = map (with_rendered_at number answer) w.air }
+state_after_note w (Passed number) = over_with w number (answer_in (flight_at number w.air)) (Landed number (answer_in (flight_at number w.air)) passed_fate) (flight_at number w.air)
+state_after_note w (Lost number) = over_with w number (error_answer 502) (lost_entry number) (flight_at number w.air)
+state_after_note w (Sent c bytes) = on_line w c (with_sent bytes)
+state_after_note w (Shut c) = record w { line = update nat_eq w.line c None; lines = w.lines - 1 }
+state_after_note w (Refused c) = w
+state_after_note w Idle = w
+state_after_note w Dry = w
 
 abbrev pub afters : RunState → List Note → RunState
 afters w [] = w
-afters w (note ∷ notes) = afters (after w note) notes
+afters w (note ∷ notes) = afters (state_after_note w note) notes
 
 -- each note gives the connection what it is owed then
 abbrev pub Serves : Mood → RunState → ℕ → List Note → Type 0
 Serves m w c [] = Unit {0}
-Serves m w c (note ∷ notes) = Gives m w c (due w c) note × Serves m (after w note) c notes
+Serves m w c (note ∷ notes) = GivesDue m w c (due_of_connection w c) note × Serves m (state_after_note w note) c notes
 
 -- the notes give a connection all that it is owed, and no other
 pub record Settles (m : Mood) (w : RunState) (c : ℕ) (notes : List Note) : Type 0 where
   pub serves : Serves m w c notes
-  pub idle : due (afters w notes) c ≡ Nothing
+  pub idle : due_of_connection (afters w notes) c ≡ Nothing

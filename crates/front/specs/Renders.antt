@@ -5,14 +5,14 @@ use Rattle.sp_base.specs.declared.answer.Ask.{Ask}
 use Rattle.sp_base.specs.declared.answer.Req.{Req}
 use Rattle.resource_tree.specs.Content.{Content}
 use Rattle.any_config.specs.declared.farm.Farm.{Farm}
-use Rattle.dispatch_rules.specs.Asking.{asked_of}
+use Rattle.dispatch_rules.specs.Asking.{publisher_ask}
 use Rattle.front.specs.declared.flying.Flying.{Flying}
 use Rattle.front.specs.declared.note.Note.{Note}
 use Rattle.front.specs.declared.note.Note.TheVariants.{Answer as answered, Ask as asked, Local, Rendered, Passed, Lost, Sent, Shut, Refused, Idle, Dry}
 use Rattle.front.specs.Publishers.{Publishing, fixed_answer}
 use Rattle.front.specs.States.{RunState}
 use Rattle.front.specs.Events.{Event, after_event, begun}
-use Rattle.front.specs.Moves.{after, flight_at}
+use Rattle.front.specs.Moves.{state_after_note, flight_at}
 
 -- A flight was rendered: its request, its answer, and whether memory was wanting in that event.
 pub record Rendering : Type 0 where
@@ -40,7 +40,7 @@ rendered_by w dry Dry = []
 
 abbrev pub renders_in : RunState → Bool → List Note → List Rendering
 renders_in w dry [] = []
-renders_in w dry (note ∷ notes) = rendered_by w dry note ++ renders_in (after w note) dry notes
+renders_in w dry (note ∷ notes) = rendered_by w dry note ++ renders_in (state_after_note w note) dry notes
 
 -- the renders of a run that begins in this state, one after another
 abbrev pub renders_of : RunState → List Event → List Rendering
@@ -56,5 +56,5 @@ IsNeverFixed publishing = (content : Content) (ask : Ask) → (publishing conten
 abbrev pub ArePublished : Publishing → Farm → Content → List Rendering → Content → Type 0
 ArePublished publishing farm content [] last = last ≡ content
 ArePublished publishing farm content (rendering ∷ renders) last =
-    ((rendering.answer ≡ (publishing content (asked_of farm rendering.request)).answer) × ArePublished publishing farm (publishing content (asked_of farm rendering.request)).content renders last)
+    ((rendering.answer ≡ (publishing content (publisher_ask farm rendering.request)).answer) × ArePublished publishing farm (publishing content (publisher_ask farm rendering.request)).content renders last)
     ⊎ (IsTrue rendering.dry × (rendering.answer ≡ fixed_answer) × ArePublished publishing farm content renders last)

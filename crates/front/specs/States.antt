@@ -13,14 +13,14 @@ pub data Fate : Type 0 where
   Passed : Fate
 
 -- An entry of the log: a flight was asked, for a page of the cache if it has one; it has landed with an answer; it was lost.
-pub data Entry : Type 0 where
-  Asked : (number : ℕ) (key : Option PageKey) → Entry
-  Landed : (number : ℕ) (answer : Answer) (fate : Fate) → Entry
-  Lost : (number : ℕ) → Entry
+pub data LogEntry : Type 0 where
+  Asked : (number : ℕ) (key : Option PageKey) → LogEntry
+  Landed : (number : ℕ) (answer : Answer) (fate : Fate) → LogEntry
+  Lost : (number : ℕ) → LogEntry
 
 -- the log, its newest entry first
 pub record Log : Type 0 where
-  pub entries : List Entry
+  pub entries : List LogEntry
 
 -- The state of a run: the publisher, the farm before it, and its content; the open connections and how many they are; the flights in
 -- the air by number; and the log.
@@ -34,11 +34,11 @@ pub record RunState : Type 0 where
   pub log : Log
 
 -- how many flights were asked
-abbrev pub asked_in : List Entry → ℕ
-asked_in [] = 0
-asked_in (Asked number key ∷ entries) = asked_in entries + 1
-asked_in (Landed number answer fate ∷ entries) = asked_in entries
-asked_in (Lost number ∷ entries) = asked_in entries
+abbrev pub flights_asked : List LogEntry → ℕ
+flights_asked [] = 0
+flights_asked (Asked number key ∷ entries) = flights_asked entries + 1
+flights_asked (Landed number answer fate ∷ entries) = flights_asked entries
+flights_asked (Lost number ∷ entries) = flights_asked entries
 
 -- the state in which a run begins: no connection is open, and nothing was asked
 abbrev pub start_of : Publishing → Farm → Content → RunState

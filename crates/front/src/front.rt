@@ -2,8 +2,8 @@
 ghost use Rattle.std.specs.Prelude.{◌≡◌, ◌≢◌, ◌<◌, IfOk, OnOk, OnErr, Some, length, slice_get};
 ghost use Rattle.front.specs.declared.step.Step.TheVariants.{Direct, Render};
 ghost use Rattle.front.specs.Events.{Extends};
-ghost use Rattle.front.specs.Fronts.{IsGiven, Stands, Tells};
-ghost use Rattle.dispatch_rules.specs.Asking.{asked_of};
+ghost use Rattle.front.specs.Fronts.{IsGiven, BoardStands, TellsStep};
+ghost use Rattle.dispatch_rules.specs.Asking.{publisher_ask};
 ghost use Rattle.front.specs.Publishers.{direct_answer};
 ghost use Rattle.front.specs.States.{start_of};
 
@@ -39,7 +39,7 @@ pub(crate) struct OrFixed {
 impl<R: Renderer + Drop> Front<R> {
     /// A front without a connection.
     pub fn new(alloc: Global, renderer: R, farm: Farm) -> Self
-        ensures { Stands R.publishing (R.content result.renderer) result.farm result.board (start_of R.publishing farm (R.content renderer)) }
+        ensures { BoardStands R.publishing (R.content result.renderer) result.farm result.board (start_of R.publishing farm (R.content renderer)) }
     {
         Front {
             renderer,
@@ -50,7 +50,7 @@ impl<R: Renderer + Drop> Front<R> {
 
     /// One step, with what happens in it: its event. An `Err` ends the run.
     pub fn step(&mut self, alloc: Global, step: &Step) -> Mem<NoteList>
-        ensures { IfOk result (λ notes. Extends (Stands R.publishing (R.content self.old.renderer) self.old.farm self.old.board) (Stands R.publishing (R.content self.new.renderer) self.new.farm self.new.board) step.now notes) }
+        ensures { IfOk result (λ notes. Extends (BoardStands R.publishing (R.content self.old.renderer) self.old.farm self.old.board) (BoardStands R.publishing (R.content self.new.renderer) self.new.farm self.new.board) step.now notes) }
     {
         let told = self.told(alloc, step)?;
         let notes = told.all()?;
@@ -58,7 +58,7 @@ impl<R: Renderer + Drop> Front<R> {
     }
 
     fn told(&mut self, alloc: Global, step: &Step) -> Mem<Told>
-        ensures { IfOk result (λ told. Tells (Stands R.publishing (R.content self.old.renderer) self.old.farm self.old.board) (Stands R.publishing (R.content self.new.renderer) self.new.farm self.new.board) step.now told) }
+        ensures { IfOk result (λ told. TellsStep (BoardStands R.publishing (R.content self.old.renderer) self.old.farm self.old.board) (BoardStands R.publishing (R.content self.new.renderer) self.new.farm self.new.board) step.now told) }
     {
         match step {
             Step::Opened(c, _) => self.board.open(alloc, *c),
@@ -72,7 +72,7 @@ impl<R: Renderer + Drop> Front<R> {
     }
 
     fn direct(&mut self, alloc: Global, target: &[u8]) -> Mem<Told>
-        ensures { IfOk result (λ told. Tells (Stands R.publishing (R.content self.old.renderer) self.old.farm self.old.board) (Stands R.publishing (R.content self.new.renderer) self.new.farm self.new.board) (Direct target.now) told) }
+        ensures { IfOk result (λ told. TellsStep (BoardStands R.publishing (R.content self.old.renderer) self.old.farm self.old.board) (BoardStands R.publishing (R.content self.new.renderer) self.new.farm self.new.board) (Direct target.now) told) }
     {
         let answer = self.direct_answer(alloc, target);
         let OrFixed { answer, dry } = or_fixed(alloc, answer)?;
@@ -80,7 +80,7 @@ impl<R: Renderer + Drop> Front<R> {
     }
 
     fn render(&mut self, alloc: Global, pick: &Pick) -> Mem<Told>
-        ensures { IfOk result (λ told. Tells (Stands R.publishing (R.content self.old.renderer) self.old.farm self.old.board) (Stands R.publishing (R.content self.new.renderer) self.new.farm self.new.board) (Render pick.now) told) }
+        ensures { IfOk result (λ told. TellsStep (BoardStands R.publishing (R.content self.old.renderer) self.old.farm self.old.board) (BoardStands R.publishing (R.content self.new.renderer) self.new.farm self.new.board) (Render pick.now) told) }
     {
         let Some(at) = self.board.sky.unrendered(pick) else {
             return Told::one(alloc, Note::Idle, false);
@@ -110,8 +110,8 @@ impl<R: Renderer + Drop> Front<R> {
     // The publisher's answer to the request of the flight at a place.
     fn rendered(&mut self, alloc: Global, at: usize) -> Mem<Answer>
         requires { at < length self.old.board.sky.flights.items }
-        ensures ok { IfOk result (λ a. (flying : Flying) → slice_get self.old.board.sky.flights.items at ≡ Some flying → a ≡ (R.publishing (R.content self.old.renderer) (asked_of self.old.farm flying.request)).answer) }
-        ensures after { OnOk result ((flying : Flying) → slice_get self.old.board.sky.flights.items at ≡ Some flying → R.content self.new.renderer ≡ (R.publishing (R.content self.old.renderer) (asked_of self.old.farm flying.request)).content) }
+        ensures ok { IfOk result (λ a. (flying : Flying) → slice_get self.old.board.sky.flights.items at ≡ Some flying → a ≡ (R.publishing (R.content self.old.renderer) (publisher_ask self.old.farm flying.request)).answer) }
+        ensures after { OnOk result ((flying : Flying) → slice_get self.old.board.sky.flights.items at ≡ Some flying → R.content self.new.renderer ≡ (R.publishing (R.content self.old.renderer) (publisher_ask self.old.farm flying.request)).content) }
         ensures status { IfOk result (λ a. a.status ≢ 507) }
         ensures unchanged { OnErr result (R.content self.new.renderer ≡ R.content self.old.renderer) }
         ensures farm { self.new.farm ≡ self.old.farm }

@@ -4,7 +4,7 @@ ghost use Rattle.resource_tree.specs.Content.{Content};
 ghost use Rattle.any_config.specs.declared.farm.Farm as models;
 ghost use Rattle.connections.specs.Connections.{Connection};
 ghost use Rattle.connections.specs.Histories.{AnswersRun, AreOfTurns};
-ghost use Rattle.front.specs.Events.{Event, Happens, Run, after_event, after_run};
+ghost use Rattle.front.specs.Events.{Event, Happens, Run, after_event, state_after_events};
 ghost use Rattle.front.specs.Histories.{AnswersWhatCame, HasReadAll, came_since_opened, sent_since_opened};
 ghost use Rattle.front.specs.Publishers.{Publishing};
 ghost use Rattle.front.specs.Renders.{ArePublished, IsNeverFixed, renders_of};
@@ -15,8 +15,8 @@ use http_front::the_turns_of_a_beginning;
 
 /// A run goes on with what happens next, in the state that it left.
 pub fn events_extend()
-    ensures run { (w : RunState) (events : List Event) (e : Event) → Run w events → Happens (after_run w events) e → Run w (events ++ e ∷ []) }
-    ensures state { (w : RunState) (events : List Event) (e : Event) → after_run w (events ++ e ∷ []) ≡ after_event (after_run w events) e }
+    ensures run { (w : RunState) (events : List Event) (e : Event) → Run w events → Happens (state_after_events w events) e → Run w (events ++ e ∷ []) }
+    ensures state { (w : RunState) (events : List Event) (e : Event) → state_after_events w (events ++ e ∷ []) ≡ after_event (state_after_events w events) e }
 {}
 
 /// Whatever happens: what was sent on an open connection since it was opened answers its slots in their order, each once, up to the
@@ -25,11 +25,11 @@ pub fn events_extend()
 /// connection that is shut or gone, too, what was sent answers what came, or a prefix of it.
 pub fn connections_are_answered_in_order()
     ensures answers { (publishing : Publishing) (farm : models.Farm) (content : Content) (events : List Event) (c : ℕ) (connection : Connection) → Run (start_of publishing farm content) events
-        → (after_run (start_of publishing farm content) events).line c ≡ Some connection → AnswersRun connection.slots (sent_since_opened c events) }
+        → (state_after_events (start_of publishing farm content) events).line c ≡ Some connection → AnswersRun connection.slots (sent_since_opened c events) }
     ensures slots { (publishing : Publishing) (farm : models.Farm) (content : Content) (events : List Event) (c : ℕ) (connection : Connection) → Run (start_of publishing farm content) events
-        → (after_run (start_of publishing farm content) events).line c ≡ Some connection → AreOfTurns connection.turns connection.slots }
+        → (state_after_events (start_of publishing farm content) events).line c ≡ Some connection → AreOfTurns connection.turns connection.slots }
     ensures reads { (publishing : Publishing) (farm : models.Farm) (content : Content) (events : List Event) (c : ℕ) (connection : Connection) → Run (start_of publishing farm content) events
-        → (after_run (start_of publishing farm content) events).line c ≡ Some connection → connection.closing ≡ false → HasReadAll (came_since_opened c events) connection }
+        → (state_after_events (start_of publishing farm content) events).line c ≡ Some connection → connection.closing ≡ false → HasReadAll (came_since_opened c events) connection }
     ensures streams { (publishing : Publishing) (farm : models.Farm) (content : Content) (events : List Event) (c : ℕ) → Run (start_of publishing farm content) events
         → AnswersWhatCame (came_since_opened c events) (sent_since_opened c events) }
 {
@@ -41,7 +41,7 @@ pub fn connections_are_answered_in_order()
 /// one run or in two, the same turns are treated on both.
 pub fn a_cutting_changes_no_turn()
     ensures { (p q : Publishing) (f g : models.Farm) (one other : Content) (a b : List Event) (c d : ℕ) (x y : Connection) → Run (start_of p f one) a → Run (start_of q g other) b
-        → (after_run (start_of p f one) a).line c ≡ Some x → (after_run (start_of q g other) b).line d ≡ Some y → x.closing ≡ false → y.closing ≡ false
+        → (state_after_events (start_of p f one) a).line c ≡ Some x → (state_after_events (start_of q g other) b).line d ≡ Some y → x.closing ≡ false → y.closing ≡ false
         → came_since_opened c a ≡ came_since_opened d b → x.turns ≡ y.turns }
 {
     connections_are_answered_in_order();
@@ -51,5 +51,5 @@ pub fn a_cutting_changes_no_turn()
 /// memory was wanting the fixed one, which leaves the content; and the content of the moment is what they all left.
 pub fn renders_are_published()
     ensures { (publishing : Publishing) (farm : models.Farm) (content : Content) (events : List Event) → IsNeverFixed publishing → Run (start_of publishing farm content) events
-        → ArePublished publishing farm content (renders_of (start_of publishing farm content) events) (after_run (start_of publishing farm content) events).content }
+        → ArePublished publishing farm content (renders_of (start_of publishing farm content) events) (state_after_events (start_of publishing farm content) events).content }
 {}

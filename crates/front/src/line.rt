@@ -9,7 +9,7 @@ ghost use Rattle.connections.specs.Connections.{Connection, advanced, due, due_u
 ghost use Rattle.connections.specs.Histories.{IsDueSending};
 ghost use Rattle.connections.specs.Ties.{PlaceTied, Tied};
 ghost use Rattle.front.specs.Lines as lines;
-ghost use Rattle.front.specs.Lines.{Holds, Keeps, Owes, Reads, TakenAs, Tells, owed, work_of};
+ghost use Rattle.front.specs.Lines.{Holds, LineKeeps, Owes, LineReads, TakenAs, TellsTurns, owed, work_of};
 
 use connections::{Outbox, Place, Sending};
 use http_front::{InFault, Intake, Turn};
@@ -53,7 +53,7 @@ impl Line {
 
     /// Takes the next bytes of its stream, unless that is read no further.
     pub(crate) fn read(&mut self, alloc: Global, bytes: &[u8]) -> Mem<()>
-        ensures { OnOk result ((c : Connection) → Holds self.old c → Reads bytes.now c self.new) }
+        ensures { OnOk result ((c : Connection) → Holds self.old c → LineReads bytes.now c self.new) }
     {
         if self.outbox.is_closing() {
             return Ok(());
@@ -66,7 +66,7 @@ impl Line {
 
     // A sender that waits next for 100 Continue gets it. Once the connection closes, the turns that came after are let go.
     fn advance(&mut self) -> Mem<()>
-        ensures holds { OnOk result ((c : Connection) → Keeps self.old c → Holds self.new (advanced c)) }
+        ensures holds { OnOk result ((c : Connection) → LineKeeps self.old c → Holds self.new (advanced c)) }
         ensures work { OnOk result (work_of self.new ≤ work_of self.old) }
     {
         if self.outbox.is_closing() {
@@ -152,7 +152,7 @@ fn read_turns(
     intake: &mut Intake,
     turns: &mut VecDeque<Turn>,
 ) -> Mem<Option<InFault>>
-    ensures { IfOk result (λ fault. Tells intake.old turns.old.items intake.new turns.new.items fault) }
+    ensures { IfOk result (λ fault. TellsTurns intake.old turns.old.items intake.new turns.new.items fault) }
 {
     loop {
         match intake.next(alloc) {

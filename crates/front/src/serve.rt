@@ -2,7 +2,7 @@
 ghost use Rattle.std.specs.Prelude.{◌≤◌, ◌+◌, false, IfOk, OnOk};
 ghost use Rattle.front.specs.Boards.{AllGiven, GivesDry, IsLess, Meets, MeetsUnsent, OwesFault, ServedAs};
 ghost use Rattle.front.specs.Lines.{work_of};
-ghost use Rattle.front.specs.Moves.{after};
+ghost use Rattle.front.specs.Moves.{state_after_note};
 ghost use Rattle.front.specs.States.{RunState};
 
 use crate::line::{Line, Taken};
@@ -66,7 +66,7 @@ fn serve_turn(alloc: Global, farm: &Farm, c: u32, line: &mut Line, sky: &mut Sky
 
 // Answers the fault of a stream.
 fn refuse(alloc: Global, c: u32, fault: InFault, line: &mut Line) -> Mem<Note>
-    ensures given { IfOk result (λ note. (farm : Farm) (w : RunState) (sky : Sky) → OwesFault farm w c line.old sky fault → GivesDry false w c note × Meets farm (after w note) c line.new sky) }
+    ensures given { IfOk result (λ note. (farm : Farm) (w : RunState) (sky : Sky) → OwesFault farm w c line.old sky fault → GivesDry false w c note × Meets farm (state_after_note w note) c line.new sky) }
     ensures work { OnOk result (work_of line.new ≤ work_of line.old + 1) }
 {
     let status = fault.status();

@@ -7,7 +7,7 @@ ghost use Rattle.dispatch_rules.specs.Admission as rules;
 ghost use Rattle.front.specs.Boards.{GivesDry, IsAnswering, Meets, OwesRequest, is_full_sky};
 ghost use Rattle.front.specs.declared.treat.Answering.TheVariants as variant;
 ghost use Rattle.front.specs.Lines.{Holds, Owes, work_of};
-ghost use Rattle.front.specs.Moves.{after, local_response, treated};
+ghost use Rattle.front.specs.Moves.{state_after_note, local_response, treated};
 ghost use Rattle.front.specs.States.{RunState};
 
 use crate::line::Line;
@@ -45,7 +45,7 @@ pub(crate) fn treat(
     line: &mut Line,
     sky: &mut Sky,
 ) -> Mem<Treated>
-    ensures given { IfOk result (λ it. (w : RunState) → OwesRequest farm.now w c line.old sky.old request → GivesDry it.dry w c it.note × Meets farm.now (after w it.note) c line.new sky.new) }
+    ensures given { IfOk result (λ it. (w : RunState) → OwesRequest farm.now w c line.old sky.old request → GivesDry it.dry w c it.note × Meets farm.now (state_after_note w it.note) c line.new sky.new) }
     ensures work { OnOk result (work_of line.new ≤ work_of line.old + 1) }
 {
     let crowded = line.is_crowded();

@@ -16,23 +16,23 @@ use Rattle.get_servlet.specs.declared.kids.Kid.{Kid}
 use Rattle.get_servlet.specs.declared.answer.JsonAnswer.TheVariants.{Whole, TooLong}
 use Rattle.get_servlet.specs.Answers.{text_within}
 use Rattle.get_servlet.specs.Rendering.{shown_kid, kid_before, members_of_kids, resource_json, json_text}
-use Rattle.get_servlet.specs.Steps.{kid_tokens, kids_tokens, below_tokens, bytes_in, Spends}
+use Rattle.get_servlet.specs.Steps.{kid_member_tokens, kids_tokens, below_tokens, bytes_in, Spends}
 use Rattle.get_servlet.proofs.BytesLemmas.{text_bytes, bytes-append, bytes-cons, bytes-taken, key_bytes}
 
 -- ---- the tokens
 
 member_is : (name : List ℕ) (json : List (List ℕ) → Resource → Json) (kid : Option Kid) (ms : Members)
-    → members_tokens (kid_before name json kid ms) ≡ kid_tokens name json kid ++ members_tokens ms
+    → members_tokens (kid_before name json kid ms) ≡ kid_member_tokens name json kid ++ members_tokens ms
 member_is name json None ms = refl
 member_is name json (Some kid) ms = refl
 
 kids_are : (kid : List ℕ → Option Kid) (json : List (List ℕ) → Resource → Json) (names : List (List ℕ))
-    → members_tokens (members_of_kids kid json names) ≡ flat_map (λ name. kid_tokens name json (kid name)) names ++ Token.end_object ∷ []
+    → members_tokens (members_of_kids kid json names) ≡ flat_map (λ name. kid_member_tokens name json (kid name)) names ++ Token.end_object ∷ []
 kids_are kid json [] = refl
 kids_are kid json (name ∷ names) =
     member_is name json (kid name) (members_of_kids kid json names)
-    ∙ ap (λ ts. kid_tokens name json (kid name) ++ ts) (kids_are kid json names)
-    ∙ sym (append_assoc (kid_tokens name json (kid name)) (flat_map (λ n. kid_tokens n json (kid n)) names) (Token.end_object ∷ []))
+    ∙ ap (λ ts. kid_member_tokens name json (kid name) ++ ts) (kids_are kid json names)
+    ∙ sym (append_assoc (kid_member_tokens name json (kid name)) (flat_map (λ n. kid_member_tokens n json (kid n)) names) (Token.end_object ∷ []))
 
 -- the law of `property_json`: the tokens of the properties come first
 abbrev pub ComeFirst : Type 0
@@ -97,7 +97,7 @@ object_written come_first seen depth room least within left path res old begun m
 
 -- ---- a kid is written: its name, and its object
 
-pub kid_no_room : (room : ℕ) (name : List ℕ) (json : List (List ℕ) → Resource → Json) (kid : Kid) → room < length name → room < bytes_in (kid_tokens name json (Some kid))
+pub kid_no_room : (room : ℕ) (name : List ℕ) (json : List (List ℕ) → Resource → Json) (kid : Kid) → room < length name → room < bytes_in (kid_member_tokens name json (Some kid))
 kid_no_room room name json kid over = omega (arith, over, key_bytes name, bytes-cons (Token.key name) (json_tokens (json kid.path kid.res)))
 
 pub kid_written : (room within : ℕ) (left : Option ℕ) (name : List ℕ) (ts : List Token) (old key new : Written) → within + length name ≡ room
@@ -137,16 +137,16 @@ name_more items names i item same lt is =
 
 -- its kid's tokens stand after theirs
 pub kids_more : (seen : Seen) (depth : ℕ) (path : List (List ℕ)) (res : Resource) (first names : List (List ℕ)) (name text : List ℕ) → names ≡ first ++ name ∷ [] → text ≡ name
-    → kids_tokens seen depth path res names ≡ kids_tokens seen depth path res first ++ kid_tokens text (resource_json seen depth) (shown_kid seen path res text)
+    → kids_tokens seen depth path res names ≡ kids_tokens seen depth path res first ++ kid_member_tokens text (resource_json seen depth) (shown_kid seen path res text)
 unfolding kids_tokens
 kids_more seen depth path res first names name text more same =
-    let f = λ (n : List ℕ). kid_tokens n (resource_json seen depth) (shown_kid seen path res n) in
+    let f = λ (n : List ℕ). kid_member_tokens n (resource_json seen depth) (shown_kid seen path res n) in
     ap (flat_map f) more ∙ flat_map-append f first (name ∷ []) ∙ ap (λ ts. flat_map f first ++ ts) (append-nil (f name)) ∙ ap (λ n. flat_map f first ++ f n) (sym same)
 
 pub kids_taken : (seen : Seen) (depth : ℕ) (path : List (List ℕ)) (res : Resource) (i : ℕ)
     → bytes_in (kids_tokens seen depth path res (take i res.kids)) ≤ bytes_in (kids_tokens seen depth path res res.kids)
 unfolding kids_tokens
-kids_taken seen depth path res i = bytes-taken (λ n. kid_tokens n (resource_json seen depth) (shown_kid seen path res n)) res.kids i
+kids_taken seen depth path res i = bytes-taken (λ n. kid_member_tokens n (resource_json seen depth) (shown_kid seen path res n)) res.kids i
 
 pub more_spent : (room left rest : ℕ) (old mid new : Written) (ts us : List Token) → Spends room (Some left) old mid ts → Spends left (Some rest) mid new us
     → Spends room (Some rest) old new (ts ++ us)

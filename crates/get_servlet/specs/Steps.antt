@@ -21,13 +21,13 @@ path_made (Ok path) = Some path
 -- ---- writing
 
 -- the tokens of a kid as a member
-abbrev pub kid_tokens : List ℕ → (List (List ℕ) → Resource → Json) → Option Kid → List Token
-kid_tokens name json None = []
-kid_tokens name json (Some kid) = Token.key name ∷ json_tokens (json kid.path kid.res)
+abbrev pub kid_member_tokens : List ℕ → (List (List ℕ) → Resource → Json) → Option Kid → List Token
+kid_member_tokens name json None = []
+kid_member_tokens name json (Some kid) = Token.key name ∷ json_tokens (json kid.path kid.res)
 
 -- the tokens of the kids of these names
 unfoldable pub kids_tokens : Seen → ℕ → List (List ℕ) → Resource → List (List ℕ) → List Token
-kids_tokens seen depth path res names = flat_map (λ name. kid_tokens name (resource_json seen depth) (shown_kid seen path res name)) names
+kids_tokens seen depth path res names = flat_map (λ name. kid_member_tokens name (resource_json seen depth) (shown_kid seen path res name)) names
 
 -- the tokens of the kids of a resource, n levels of them
 unfoldable pub below_tokens : Seen → ℕ → List (List ℕ) → Resource → List Token

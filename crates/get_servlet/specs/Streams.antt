@@ -8,8 +8,8 @@ use Rattle.get_servlet.specs.declared.kids.Kid.{Kid}
 use Rattle.get_servlet.specs.declared.streams.Stream.{Stream}
 use Rattle.get_servlet.specs.Rendering.{lists_kid, kid_named}
 
-abbrev pub is_printable : List ℕ → Bool
-is_printable text = list_all (λ b. nat_le 32 b && nat_le b 126) text
+abbrev pub is_printable_text : List ℕ → Bool
+is_printable_text text = list_all (λ b. nat_le 32 b && nat_le b 126) text
 
 -- the most bytes of a media type
 abbrev pub longest_media_type : ℕ
@@ -17,7 +17,7 @@ longest_media_type = 100
 
 -- a text that may be sent as a media type: 1 to 100 bytes of 0x20 to 0x7E, the first and the last no spaces
 abbrev pub is_media_type : List ℕ → Bool
-is_media_type text = not (length text == 0) && (nat_le (length text) longest_media_type && (is_printable text
+is_media_type text = not (length text == 0) && (nat_le (length text) longest_media_type && (is_printable_text text
     && (not (slice_index text 0 == 32) && not (slice_index text (length text - 1) == 32))))
 
 -- the media type of a file whose kid has this text as its type

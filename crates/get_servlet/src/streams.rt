@@ -1,7 +1,7 @@
 // The content of a resource that is a file.
 ghost use Rattle.std.specs.Prelude.{◌≡◌, IfOk};
 ghost use Rattle.std.specs.Option.{option_copied};
-ghost use Rattle.get_servlet.specs.Streams.{is_printable, is_media_type, media_type_of, stream_of};
+ghost use Rattle.get_servlet.specs.Streams.{is_printable_text, is_media_type, media_type_of, stream_of};
 
 use crate::kids::{kid_named, lists_kid};
 use resource_tree::{Look, Res};
@@ -19,7 +19,7 @@ pub struct Stream {
 }
 
 fn is_printable(text: &str) -> bool
-    ensures { result ≡ is_printable text.now }
+    ensures { result ≡ is_printable_text text.now }
 {
     text.as_bytes().iter().all(|b| *b >= b' ' && *b <= b'~')
 }

@@ -7,7 +7,7 @@ use Rattle.std.specs.List.{position_or_len}
 use Rattle.std.specs.Option.{option_or}
 use Rattle.glob_rules.specs.declared.piece.Piece.{Piece}
 use Rattle.glob_rules.specs.declared.piece.Piece.TheVariants.{Star, AnyChar, Literal, Class}
-use Rattle.glob_rules.specs.Globs.{is_match, is_star, stands_for, somewhere, is_empty}
+use Rattle.glob_rules.specs.Globs.{is_match, is_star, stands_for, somewhere, is_empty_text}
 use Rattle.glob_rules.specs.Runs.{after_run, after_first_run, IsRun, IsAfterRun}
 use Rattle.glob_rules.proofs.MatchLemmas.{one_is, somewhere_drop, somewhere_here}
 
@@ -71,7 +71,7 @@ run_then (piece ∷ run) later (c ∷ cs) plain =
 pub run_whole : (run : List Piece) (cs : List ℕ) → IsRun run → is_match run cs ≡ then_match [] (after_run run cs)
 run_whole run cs plain = subst (λ (r : List Piece). is_match r cs ≡ then_match [] (after_run run cs)) (append-nil run) (run_then run [] cs plain)
 
-pub over : (cs : List ℕ) → is_match [] cs ≡ is_empty cs
+pub over : (cs : List ℕ) → is_match [] cs ≡ is_empty_text cs
 unfolding is_match
 over cs = refl
 
@@ -224,7 +224,7 @@ nil_is : (later : List Piece) → length later < 1 → later ≡ []
 nil_is [] lt = refl
 nil_is (piece ∷ pieces) lt = absurd (omega arith)
 
-pub front_whole : (left run later : List Piece) (cs rest : List ℕ) → left ≡ run ++ later → length later < 1 → IsRun run → after_run run cs ≡ Some rest → is_match left cs ≡ is_empty rest
+pub front_whole : (left run later : List Piece) (cs rest : List ℕ) → left ≡ run ++ later → length later < 1 → IsRun run → after_run run cs ≡ Some rest → is_match left cs ≡ is_empty_text rest
 front_whole left run later cs rest parts nil plain some =
     ap (λ (l : List Piece). is_match l cs) (parts ∙ ap (λ (l : List Piece). run ++ l) (nil_is later nil)) ∙ run_then run [] cs plain ∙ ap (then_match []) some ∙ over rest
 

@@ -35,9 +35,9 @@ pub data Matches : List Piece → List ℕ → Type 0 where
 
 -- The same as a test.
 
-abbrev pub is_empty : List ℕ → Bool
-is_empty [] = true
-is_empty (c ∷ cs) = false
+abbrev pub is_empty_text : List ℕ → Bool
+is_empty_text [] = true
+is_empty_text (c ∷ cs) = false
 
 -- whether a test holds of the characters from some place on
 abbrev pub somewhere : (List ℕ → Bool) → List ℕ → Bool
@@ -53,5 +53,5 @@ abbrev pub after_piece : Piece → (List ℕ → Bool) → List ℕ → Bool
 after_piece piece test cs = if is_star piece then somewhere test cs else at_first piece test cs
 
 unfoldable pub is_match : List Piece → List ℕ → Bool
-is_match [] cs = is_empty cs
+is_match [] cs = is_empty_text cs
 is_match (piece ∷ pieces) cs = after_piece piece (is_match pieces) cs

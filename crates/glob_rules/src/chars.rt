@@ -1,11 +1,11 @@
 //! The characters of a text.
 ghost use Rattle.std.specs.Prelude.{◌≡◌, ◌<◌, ◌∷◌, [], MatchOption, length};
 ghost use Rattle.std.specs.Str.{chars};
-ghost use Rattle.glob_rules.specs.Globs.{is_empty};
+ghost use Rattle.glob_rules.specs.Globs.{is_empty_text};
 
 /// Whether there is no character.
 pub fn is_empty(text: &str) -> bool
-    ensures { result ≡ is_empty (chars text.now) }
+    ensures { result ≡ is_empty_text (chars text.now) }
 {
     text.is_empty()
 }

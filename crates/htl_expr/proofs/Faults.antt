@@ -2,15 +2,15 @@
 use Rattle.std.proofs.Common.{◌≡◌, ℕ, ◌-◌, List, length, Err}
 use Rattle.htl_expr.specs.declared.stop.Stop.TheVariants as stop
 use Rattle.htl_expr.specs.declared.expression.ExprFault.TheVariants.{Unexpected, TooDeep}
-use Rattle.htl_expr.specs.Read.{read}
+use Rattle.htl_expr.specs.Read.{expression_read}
 use Rattle.htl_expr.specs.Grammar.{nesting_limit}
-use Rattle.htl_expr.specs.Fault.{place_of, IsFault}
+use Rattle.htl_expr.specs.Fault.{fault_place, IsExpressionFault}
 use Rattle.htl_expr.proofs.More.{more_left, more_deep}
 use Rattle.htl_expr.proofs.NoneLeft.{none_deep, nests_deep}
 use Rattle.htl_expr.proofs.Limit.{none_any, some_deeper}
 
-pub unexpected_is : (s : List ℕ) (left place : ℕ) → read nesting_limit s ≡ Err (stop.Unexpected left) → place ≡ place_of nesting_limit s (length s - left) → IsFault (Unexpected place) s
+pub unexpected_is : (s : List ℕ) (left place : ℕ) → expression_read nesting_limit s ≡ Err (stop.Unexpected left) → place ≡ fault_place nesting_limit s (length s - left) → IsExpressionFault (Unexpected place) s
 unexpected_is s left place e p = rw p (more_left nesting_limit s left e, none_any nesting_limit s left e)
 
-pub too_deep_is : (s : List ℕ) (left place : ℕ) → read nesting_limit s ≡ Err (stop.TooDeep left) → place ≡ length s - left → IsFault (TooDeep place) s
+pub too_deep_is : (s : List ℕ) (left place : ℕ) → expression_read nesting_limit s ≡ Err (stop.TooDeep left) → place ≡ length s - left → IsExpressionFault (TooDeep place) s
 too_deep_is s left place e p = rw p (more_deep nesting_limit s left e, (none_deep nesting_limit s left e, (some_deeper nesting_limit s left e, nests_deep nesting_limit s left e)))

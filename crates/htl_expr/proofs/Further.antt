@@ -2,7 +2,7 @@
 use Rattle.std.proofs.Common.{◌≡◌, ℕ, zero, suc, ◌<◌, ◌≤◌, Bool, true, false, cond, List, [], ◌∷◌, drop, length, Result, Ok, Err, refl, sym, subst, arith}
 use Rattle.htl_expr.specs.declared.stop.Stop.{Stop}
 use Rattle.htl_expr.specs.declared.stop.Stop.TheVariants.{Memory, Unexpected, TooDeep}
-use Rattle.htl_expr.specs.Tokens.{◌>>=◌, skip}
+use Rattle.htl_expr.specs.Tokens.{◌>>=◌, blanks_skipped}
 use Rattle.htl_expr.proofs.TokensAgain.{skip-short}
 
 -- how many bytes are left where reading stopped
@@ -88,9 +88,9 @@ drop-short zero t = omega arith
 drop-short (suc k) [] = omega arith
 drop-short (suc k) (c ∷ t) = omega (arith, drop-short k t)
 
-pub skip_drop-short : (k : ℕ) (t : List ℕ) → length (skip (drop k t)) ≤ length t
+pub skip_drop-short : (k : ℕ) (t : List ℕ) → length (blanks_skipped (drop k t)) ≤ length t
 skip_drop-short k t = omega (arith, skip-short (drop k t), drop-short k t)
 
-pub skip_drop-less : (t : List ℕ) → 0 < length t → length (skip (drop 1 t)) < length t
+pub skip_drop-less : (t : List ℕ) → 0 < length t → length (blanks_skipped (drop 1 t)) < length t
 skip_drop-less [] some = absurd (omega (arith, some))
 skip_drop-less (c ∷ t) some = omega (arith, skip-short t)

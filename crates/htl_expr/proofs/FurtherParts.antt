@@ -9,7 +9,7 @@ use Rattle.htl_expr.specs.declared.expression.Expr.{Expr}
 use Rattle.htl_expr.specs.declared.tokens.NameKind.TheVariants.{Name, Field}
 use Rattle.htl_expr.specs.declared.reader.Inside.{Inside}
 use Rattle.htl_expr.specs.declared.reader.Inside.TheVariants.{Choice, Operand, Items}
-use Rattle.htl_expr.specs.Tokens.{Outcome, ◌>>=◌, skip, is_at, begins, is_digit, is_quote, expect, string}
+use Rattle.htl_expr.specs.Tokens.{Outcome, ◌>>=◌, blanks_skipped, is_at, begins, is_expression_digit, is_quote, expect, string}
 use Rattle.htl_expr.specs.Read as spec
 use Rattle.htl_expr.proofs.TokensAgain.{skip-short}
 use Rattle.htl_expr.proofs.Local.{IsAt, Local}
@@ -24,23 +24,23 @@ some_at c (d ∷ t) e = omega arith
 
 -- ---- accesses
 
-inside_keeps : (t : List ℕ) → Keeps behind (length (skip (drop 1 t))) (string (skip (drop 1 t)) >>= λ s. expect 93 s.1 >>= λ r. Ok (s.0, r))
+inside_keeps : (t : List ℕ) → Keeps behind (length (blanks_skipped (drop 1 t))) (string (blanks_skipped (drop 1 t)) >>= λ s. expect 93 s.1 >>= λ r. Ok (s.0, r))
 inside_keeps t =
-    goes_bind behind behind (length (skip (drop 1 t))) _ _ _ _ (string_keeps (skip (drop 1 t)))
+    goes_bind behind behind (length (blanks_skipped (drop 1 t))) _ _ _ _ (string_keeps (blanks_skipped (drop 1 t)))
     (λ s. goes_bind bytes behind (length s.1) _ _ _ _ (expect_keeps 93 s.1) (λ r. pair_keeps s.0 r))
 
 bracket_goes : (depth : ℕ) (t : List ℕ) → 0 < length t → Goes behind (length t) (spec.bracket_access depth t) (spec.bracket_access (suc depth) t)
 unfolding spec.bracket_access
-bracket_goes zero t some = goes_deep behind (length (skip (drop 1 t))) (length t) _ (inside_keeps t).within (skip_drop-less t some)
+bracket_goes zero t some = goes_deep behind (length (blanks_skipped (drop 1 t))) (length t) _ (inside_keeps t).within (skip_drop-less t some)
 bracket_goes (suc depth) t some =
     let one : eqb (suc depth) 0 ≡ false = search rules in
     let two : eqb (suc (suc depth)) 0 ≡ false = search rules in
-    rw (one, two) (goes_more behind (length (skip (drop 1 t))) (length t) _ _ (skip_drop-short 1 t) (inside_keeps t))
+    rw (one, two) (goes_more behind (length (blanks_skipped (drop 1 t))) (length t) _ _ (skip_drop-short 1 t) (inside_keeps t))
 
 access_goes : (depth : ℕ) (t : List ℕ) → 0 < length t → Goes behind (length t) (spec.access depth t) (spec.access (suc depth) t)
 unfolding spec.access
 access_goes depth t some =
-    goes_if behind (length t) (is_at 46 t) _ _ _ _ (λ e. goes_more behind (length (skip (drop 1 t))) (length t) _ _ (skip_drop-short 1 t) (name_keeps Field (skip (drop 1 t)))) (λ e. bracket_goes depth t some)
+    goes_if behind (length t) (is_at 46 t) _ _ _ _ (λ e. goes_more behind (length (blanks_skipped (drop 1 t))) (length t) _ _ (skip_drop-short 1 t) (name_keeps Field (blanks_skipped (drop 1 t)))) (λ e. bracket_goes depth t some)
 
 either_true : (a b : Bool) (m : ℕ) → (a ≡ true → 0 < m) → (b ≡ true → 0 < m) → (a || b) ≡ true → 0 < m
 either_true true b m first second e = first refl
@@ -64,7 +64,7 @@ first_access_goes depth t = goes_if behind (length t) (spec.access_at t) _ _ _ _
 -- ---- starts without brackets
 
 object_goes : (depth : ℕ) (o : Option (List ℕ → Node)) (w t : List ℕ) → Goes behind (length t) (spec.name_or_object_of depth o w t) (spec.name_or_object_of (suc depth) o w t)
-object_goes depth None w t = pair_keeps (spec.word_of w) t
+object_goes depth None w t = pair_keeps (spec.word_node w) t
 object_goes depth (Some make) w t = goes_bind behind behind (length t) _ _ _ _ (first_access_goes depth t) (λ f. pair_keeps (make f.0) f.1)
 
 name_goes : (depth : ℕ) (t : List ℕ) → Goes behind (length t) (spec.name_or_object depth t) (spec.name_or_object (suc depth) t)
@@ -75,7 +75,7 @@ leaf_goes : (depth : ℕ) (t : List ℕ) → Goes behind (length t) (spec.leaf d
 unfolding spec.leaf
 leaf_goes depth t =
     goes_if behind (length t) (begins is_quote t) _ _ _ _ (λ e. goes_bind behind behind (length t) _ _ _ _ (string_keeps t) (λ x. pair_keeps (n.Text x.0) x.1))
-    (λ e. goes_if behind (length t) (is_at 45 t || begins is_digit t) _ _ _ _ (λ h. goes_bind behind behind (length t) _ _ _ _ (number_keeps t) (λ x. pair_keeps (n.Long x.0) x.1)) (λ h. name_goes depth t))
+    (λ e. goes_if behind (length t) (is_at 45 t || begins is_expression_digit t) _ _ _ _ (λ h. goes_bind behind behind (length t) _ _ _ _ (number_keeps t) (λ x. pair_keeps (n.Long x.0) x.1)) (λ h. name_goes depth t))
 
 -- ---- chains
 
@@ -175,25 +175,25 @@ forward which s = go (deeper zero which s) refl
 
 nesting_goes : (depth : ℕ) (which : Inside) (t : List ℕ) → 0 < length t → Goes behind (length t) (spec.nesting depth which t) (spec.nesting (suc depth) which t)
 unfolding spec.nesting
-nesting_goes zero which t some = goes_deep behind (length (skip (drop 1 t))) (length t) _ (forward which (skip (drop 1 t))) (skip_drop-less t some)
+nesting_goes zero which t some = goes_deep behind (length (blanks_skipped (drop 1 t))) (length t) _ (forward which (blanks_skipped (drop 1 t))) (skip_drop-less t some)
 nesting_goes (suc depth) which t some =
-    goes_more behind (length (skip (drop 1 t))) (length t) _ _ (skip_drop-short 1 t) (level_goes depth (spec.nesting depth) (spec.nesting (suc depth)) (nesting_goes depth) which (skip (drop 1 t)))
+    goes_more behind (length (blanks_skipped (drop 1 t))) (length t) _ _ (skip_drop-short 1 t) (level_goes depth (spec.nesting depth) (spec.nesting (suc depth)) (nesting_goes depth) which (blanks_skipped (drop 1 t)))
 
 -- ---- the whole
 
 abbrev pub nothing : Expr → ℕ
 nothing e = 0
 
-first_goes : (levels : ℕ) (t : List ℕ) → Goes behind (length t) (spec.first levels t) (spec.first (suc levels) t)
-unfolding spec.first
+first_goes : (levels : ℕ) (t : List ℕ) → Goes behind (length t) (spec.optional_choice levels t) (spec.optional_choice (suc levels) t)
+unfolding spec.optional_choice
 first_goes levels t =
     goes_if behind (length t) (eqb (length t) 0 || is_at 64 t) _ _ _ _ (λ e. pair_keeps None t)
     (λ e. goes_bind behind behind (length t) _ _ _ _ (choice_goes levels (spec.nesting levels) (spec.nesting (suc levels)) (nesting_goes levels) t) (λ x. pair_keeps (Some x.0) x.1))
 
-pub read_goes : (levels : ℕ) (s : List ℕ) → Goes nothing (length s) (spec.read levels s) (spec.read (suc levels) s)
-unfolding spec.read
+pub read_goes : (levels : ℕ) (s : List ℕ) → Goes nothing (length s) (spec.expression_read levels s) (spec.expression_read (suc levels) s)
+unfolding spec.expression_read
 read_goes levels s =
-    goes_more nothing (length (skip s)) (length s) _ _ (skip-short s)
-    (goes_bind behind nothing (length (skip s)) _ _ _ _ (first_goes levels (skip s))
+    goes_more nothing (length (blanks_skipped s)) (length s) _ _ (skip-short s)
+    (goes_bind behind nothing (length (blanks_skipped s)) _ _ _ _ (first_goes levels (blanks_skipped s))
     (λ x. goes_bind behind nothing (length x.1) _ _ _ _ (options_keeps x.1)
     (λ o. goes_if nothing (length o.1) (eqb (length o.1) 0) _ _ _ _ (λ e. goes_ok nothing (length o.1) _ (omega arith)) (λ e. goes_refuse nothing (length o.1) (length o.1) (omega arith)))))

@@ -5,7 +5,7 @@ use Rattle.htl_expr.specs.declared.node.Comparison.{Comparison}
 use Rattle.htl_expr.specs.declared.node.Comparison.TheVariants.{Equal, NotEqual, Below, Above, AtMost, AtLeast}
 use Rattle.htl_expr.specs.declared.expression.Context.TheVariants.{Text, Unsafe}
 use Rattle.htl_expr.specs.declared.tokens.NameKind.{NameKind}
-use Rattle.htl_expr.specs.Tokens.{Outcome, ◌>>=◌, skip, is_at, begins, is_first, is_digit, is_quote, name_len, name, expect, second, literal, unescape, string_after_escape, in_front, string_from, string, digit_fits, digits_from, limit, digits, number}
+use Rattle.htl_expr.specs.Tokens.{Outcome, ◌>>=◌, blanks_skipped, is_at, begins, is_first, is_expression_digit, is_quote, name_len, read_name, expect, second, literal, unescape, string_after_escape, read_in_front, string_from, string, expression_digit_fits, expression_digits_from, limit, digits, signed_number}
 use Rattle.htl_expr.specs.Read as spec
 use Rattle.htl_expr.proofs.TokensAgain.{skip-short}
 use Rattle.htl_expr.proofs.Further.{Goes, goes_bind, goes_if, goes_ok, goes_refuse, goes_more, behind, bytes, drop-short, skip_drop-short}
@@ -19,7 +19,7 @@ here t = omega arith
 
 pub expect_keeps : (c : ℕ) (t : List ℕ) → Keeps bytes (length t) (expect c t)
 unfolding expect
-expect_keeps c t = goes_if bytes (length t) (is_at c t) _ _ _ _ (λ e. goes_ok bytes (length t) (skip (drop 1 t)) (skip_drop-short 1 t)) (λ e. goes_refuse bytes (length t) (length t) (here t))
+expect_keeps c t = goes_if bytes (length t) (is_at c t) _ _ _ _ (λ e. goes_ok bytes (length t) (blanks_skipped (drop 1 t)) (skip_drop-short 1 t)) (λ e. goes_refuse bytes (length t) (length t) (here t))
 
 pub second_keeps : (c : ℕ) (t : List ℕ) → Keeps bytes (length t) (second c t)
 unfolding second
@@ -32,13 +32,13 @@ between_keeps c t = goes_if bytes (length t) (eqb c 44) _ _ _ _ (λ e. expect_ke
 pub pair_keeps : {A : Type 0} (x : A) (r : List ℕ) → Keeps behind (length r) (Ok (x, r))
 pair_keeps x r = goes_ok behind (length r) (x, r) (here r)
 
-pub name_keeps : (kind : NameKind) (t : List ℕ) → Keeps behind (length t) (name kind t)
-unfolding name
+pub name_keeps : (kind : NameKind) (t : List ℕ) → Keeps behind (length t) (read_name kind t)
+unfolding read_name
 name_keeps kind t = goes_if behind (length t) (begins is_first t) _ _ _ _ (λ e. goes_ok behind (length t) _ (skip_drop-short (name_len kind t) t)) (λ e. goes_refuse behind (length t) (length t) (here t))
 
 -- ---- strings
 
-front_keeps : (w : List ℕ) (n : ℕ) (o : Outcome (List ℕ)) → Keeps behind n o → Keeps behind n (in_front w o)
+front_keeps : (w : List ℕ) (n : ℕ) (o : Outcome (List ℕ)) → Keeps behind n o → Keeps behind n (read_in_front w o)
 front_keeps w n o g = goes_bind behind behind n o o _ _ g (λ x. pair_keeps (w ++ x.0) x.1)
 
 string_from_keeps : (is_escaped : Bool) (mark : ℕ) (t : List ℕ) → Keeps behind (length t) (string_from is_escaped mark t)
@@ -51,7 +51,7 @@ string_from_keeps true mark (c ∷ t) = go (unescape c) (string_from_keeps false
     go None k = goes_refuse behind (length (c ∷ t)) (length (c ∷ t)) (omega arith)
     go (Some d) k = goes_more behind (length t) (length (c ∷ t)) _ _ (omega arith) (front_keeps (d ∷ []) (length t) _ k)
 string_from_keeps false mark (c ∷ t) =
-    goes_if behind (length (c ∷ t)) (eqb c mark) _ _ _ _ (λ e. goes_ok behind (length (c ∷ t)) ([], skip t) (omega (arith, skip-short t)))
+    goes_if behind (length (c ∷ t)) (eqb c mark) _ _ _ _ (λ e. goes_ok behind (length (c ∷ t)) ([], blanks_skipped t) (omega (arith, skip-short t)))
     (λ e. goes_if behind (length (c ∷ t)) (eqb c 92) _ _ _ _ (λ h. goes_more behind (length t) (length (c ∷ t)) _ _ (omega arith) (string_from_keeps true mark t))
     (λ h. goes_more behind (length t) (length (c ∷ t)) _ _ (omega arith) (front_keeps (c ∷ []) (length t) _ (string_from_keeps false mark t))))
 
@@ -63,24 +63,24 @@ string_keeps (c ∷ t) =
 
 -- ---- numbers
 
-digits_from-short : (most m : ℕ) (t : List ℕ) → length (digits_from most m t).1 ≤ length t
-unfolding digits_from
+digits_from-short : (most m : ℕ) (t : List ℕ) → length (expression_digits_from most m t).1 ≤ length t
+unfolding expression_digits_from
 digits_from-short most m [] = omega arith
-digits_from-short most m (c ∷ t) = go (digit_fits most m (c ∷ t)) (digits_from-short most (m * 10 + (c - 48)) t)
+digits_from-short most m (c ∷ t) = go (expression_digit_fits most m (c ∷ t)) (digits_from-short most (m * 10 + (c - 48)) t)
   where
-    go : (b : Bool) → length (digits_from most (m * 10 + (c - 48)) t).1 ≤ length t → length (cond {A = ℕ × List ℕ} b (digits_from most (m * 10 + (c - 48)) t) (m, c ∷ t)).1 ≤ length (c ∷ t)
+    go : (b : Bool) → length (expression_digits_from most (m * 10 + (c - 48)) t).1 ≤ length t → length (cond {A = ℕ × List ℕ} b (expression_digits_from most (m * 10 + (c - 48)) t) (m, c ∷ t)).1 ≤ length (c ∷ t)
     go true le = omega (arith, le)
     go false le = omega arith
 
 digits_keeps : (negative : Bool) (t : List ℕ) → Keeps behind (length t) (digits negative t)
 unfolding digits
 digits_keeps negative t =
-    goes_if behind (length t) (begins is_digit t) _ _ _ _
-    (λ e. goes_ok behind (length t) _ (omega (arith, skip-short (digits_from (limit negative) 0 t).1, digits_from-short (limit negative) 0 t)))
+    goes_if behind (length t) (begins is_expression_digit t) _ _ _ _
+    (λ e. goes_ok behind (length t) _ (omega (arith, skip-short (expression_digits_from (limit negative) 0 t).1, digits_from-short (limit negative) 0 t)))
     (λ e. goes_refuse behind (length t) (length t) (here t))
 
-pub number_keeps : (t : List ℕ) → Keeps behind (length t) (number t)
-unfolding number
+pub number_keeps : (t : List ℕ) → Keeps behind (length t) (signed_number t)
+unfolding signed_number
 number_keeps t = goes_if behind (length t) (is_at 45 t) _ _ _ _ (λ e. goes_more behind (length (drop 1 t)) (length t) _ _ (drop-short 1 t) (digits_keeps true (drop 1 t))) (λ e. digits_keeps false t)
 
 -- ---- comparisons
@@ -89,7 +89,7 @@ or_equal-short : (bare equal : Comparison) (t : List ℕ) → length (spec.or_eq
 unfolding spec.or_equal
 or_equal-short bare equal t = go (is_at 61 (drop 1 t))
   where
-    go : (b : Bool) → length (cond {A = Comparison × List ℕ} b (equal, skip (drop 1 (drop 1 t))) (bare, skip (drop 1 t))).1 ≤ length t
+    go : (b : Bool) → length (cond {A = Comparison × List ℕ} b (equal, blanks_skipped (drop 1 (drop 1 t))) (bare, blanks_skipped (drop 1 t))).1 ≤ length t
     go true = omega (arith, skip_drop-short 1 (drop 1 t), drop-short 1 t)
     go false = skip_drop-short 1 t
 
@@ -122,10 +122,10 @@ context_string_keeps t =
     (λ e. goes_refuse behind (length t) (length t) (here t))
 
 -- a word, `=` and a value
-given_keeps : {A : Type 0} (word : List ℕ) (value : List ℕ → Outcome A) (t : List ℕ) → ((s : List ℕ) → Keeps behind (length s) (value s)) → Keeps behind (length t) (literal word t >>= λ a. expect 61 (skip a) >>= λ b. value b)
+given_keeps : {A : Type 0} (word : List ℕ) (value : List ℕ → Outcome A) (t : List ℕ) → ((s : List ℕ) → Keeps behind (length s) (value s)) → Keeps behind (length t) (literal word t >>= λ a. expect 61 (blanks_skipped a) >>= λ b. value b)
 given_keeps word value t keeps =
     goes_bind bytes behind (length t) _ _ _ _ (literal_keeps word t)
-    (λ a. goes_more behind (length (skip a)) (length a) _ _ (skip-short a) (goes_bind bytes behind (length (skip a)) _ _ _ _ (expect_keeps 61 (skip a)) (λ b. keeps b)))
+    (λ a. goes_more behind (length (blanks_skipped a)) (length a) _ _ (skip-short a) (goes_bind bytes behind (length (blanks_skipped a)) _ _ _ _ (expect_keeps 61 (blanks_skipped a)) (λ b. keeps b)))
 
 option_keeps : (given : spec.Given) (t : List ℕ) → Keeps behind (length t) (spec.option given t)
 unfolding spec.option spec.join_option spec.context_option
@@ -138,7 +138,7 @@ pub options_keeps : (t : List ℕ) → Keeps behind (length t) (spec.options t)
 unfolding spec.options
 options_keeps t =
     goes_if behind (length t) (is_at 64 t) _ _ _ _
-    (λ e. goes_more behind (length (skip (drop 1 t))) (length t) _ _ (skip_drop-short 1 t)
-    (goes_bind behind behind (length (skip (drop 1 t))) _ _ _ _ (option_keeps (None, None) (skip (drop 1 t)))
-    (λ o. goes_if behind (length o.1) (is_at 44 o.1) _ _ _ _ (λ h. goes_more behind (length (skip (drop 1 o.1))) (length o.1) _ _ (skip_drop-short 1 o.1) (option_keeps o.0 (skip (drop 1 o.1)))) (λ h. goes_ok behind (length o.1) o (here o.1)))))
+    (λ e. goes_more behind (length (blanks_skipped (drop 1 t))) (length t) _ _ (skip_drop-short 1 t)
+    (goes_bind behind behind (length (blanks_skipped (drop 1 t))) _ _ _ _ (option_keeps (None, None) (blanks_skipped (drop 1 t)))
+    (λ o. goes_if behind (length o.1) (is_at 44 o.1) _ _ _ _ (λ h. goes_more behind (length (blanks_skipped (drop 1 o.1))) (length o.1) _ _ (skip_drop-short 1 o.1) (option_keeps o.0 (blanks_skipped (drop 1 o.1)))) (λ h. goes_ok behind (length o.1) o (here o.1)))))
     (λ e. pair_keeps (None, None) t)

@@ -9,9 +9,9 @@ use Rattle.htl_expr.specs.declared.expression.ExprFault.{ExprFault}
 use Rattle.htl_expr.specs.declared.expression.ExprFault.TheVariants as fault
 use Rattle.htl_expr.specs.declared.expression.ExprFault.TheVariants.{NoMemory}
 use Rattle.htl_expr.specs.Tokens.{is_at, begins}
-use Rattle.htl_expr.specs.Read.{read}
+use Rattle.htl_expr.specs.Read.{expression_read}
 use Rattle.htl_expr.specs.Grammar.{nesting_limit, WholeWithin}
-use Rattle.htl_expr.specs.Fault.{nests, SameHead, Agree, HasNone, HasSome, MayGoOn, colon_letter, passes, takes_colon, place_of, IsFault}
+use Rattle.htl_expr.specs.Fault.{nests, SameHead, Agree, HasNone, HasSome, MayGoOn, colon_letter, passes, takes_colon, fault_place, IsExpressionFault}
 use Rattle.htl_expr.proofs.WholeRead.{read_sound}
 use Rattle.htl_expr.proofs.WholeAgain.{read_again}
 use Rattle.htl_expr.proofs.LocalOptions.{failed}
@@ -23,13 +23,13 @@ use Rattle.htl_expr.proofs.FurtherParts.{nothing, read_goes}
 
 -- ---- one level more
 
-deeper_ok : (levels : ℕ) (s : List ℕ) (e : Expr) → read levels s ≡ Ok e → read (suc levels) s ≡ Ok e
+deeper_ok : (levels : ℕ) (s : List ℕ) (e : Expr) → expression_read levels s ≡ Ok e → expression_read (suc levels) s ≡ Ok e
 deeper_ok levels s e r = let g = (read_goes levels s).further in rw r at g
 
-deeper_unexpected : (levels : ℕ) (s : List ℕ) (left : ℕ) → read levels s ≡ Err (Unexpected left) → read (suc levels) s ≡ Err (Unexpected left)
+deeper_unexpected : (levels : ℕ) (s : List ℕ) (left : ℕ) → expression_read levels s ≡ Err (Unexpected left) → expression_read (suc levels) s ≡ Err (Unexpected left)
 deeper_unexpected levels s left r = let g = (read_goes levels s).further in rw r at g
 
-deeper_beyond : (levels : ℕ) (s : List ℕ) (left : ℕ) → read levels s ≡ Err (TooDeep left) → Beyond nothing left (read (suc levels) s)
+deeper_beyond : (levels : ℕ) (s : List ℕ) (left : ℕ) → expression_read levels s ≡ Err (TooDeep left) → Beyond nothing left (expression_read (suc levels) s)
 deeper_beyond levels s left r = let g = (read_goes levels s).further in rw r at g
 
 -- ---- as many more as one likes
@@ -43,12 +43,12 @@ unfolding up
 up_is zero levels = omega arith
 up_is (suc more) levels = omega (arith, up_is more levels)
 
-more_ok : (more levels : ℕ) (s : List ℕ) (e : Expr) → read levels s ≡ Ok e → read (up more levels) s ≡ Ok e
+more_ok : (more levels : ℕ) (s : List ℕ) (e : Expr) → expression_read levels s ≡ Ok e → expression_read (up more levels) s ≡ Ok e
 unfolding up
 more_ok zero levels s e r = r
 more_ok (suc more) levels s e r = deeper_ok (up more levels) s e (more_ok more levels s e r)
 
-more_unexpected : (more levels : ℕ) (s : List ℕ) (left : ℕ) → read levels s ≡ Err (Unexpected left) → read (up more levels) s ≡ Err (Unexpected left)
+more_unexpected : (more levels : ℕ) (s : List ℕ) (left : ℕ) → expression_read levels s ≡ Err (Unexpected left) → expression_read (up more levels) s ≡ Err (Unexpected left)
 unfolding up
 more_unexpected zero levels s left r = r
 more_unexpected (suc more) levels s left r = deeper_unexpected (up more levels) s left (more_unexpected more levels s left r)
@@ -56,7 +56,7 @@ more_unexpected (suc more) levels s left r = deeper_unexpected (up more levels) 
 pub deepens : (levels deeper : ℕ) (s : List ℕ) (e : Expr) → levels ≤ deeper → WholeWithin levels s e → WholeWithin deeper s e
 deepens levels deeper s e le w =
     let same : (deeper - levels) + levels ≡ deeper = omega (arith, le) in
-    read_sound deeper s e (subst (λ (n : ℕ). read n s ≡ Ok e) (up_is (deeper - levels) levels ∙ same) (more_ok (deeper - levels) levels s e (read_again levels s e w)))
+    read_sound deeper s e (subst (λ (n : ℕ). expression_read n s ≡ Ok e) (up_is (deeper - levels) levels ∙ same) (more_ok (deeper - levels) levels s e (read_again levels s e w)))
 
 -- ---- texts that agree
 
@@ -86,20 +86,20 @@ agree_same place s = record { front = refl; here = same_head (drop place s) }
 
 -- ---- a byte that nests too deep
 
-deep_within : (levels : ℕ) (s : List ℕ) (left : ℕ) → read levels s ≡ Err (TooDeep left) → left ≤ length s
+deep_within : (levels : ℕ) (s : List ℕ) (left : ℕ) → expression_read levels s ≡ Err (TooDeep left) → left ≤ length s
 deep_within levels s left e = let k = failed levels (TooDeep left) s e in omega (arith, ap length k.parts, length-append k.front k.rest, k.left.0)
 
 -- what is read up to a later byte
 later_some : (levels : ℕ) (s : List ℕ) (place later : ℕ) → place < later → place < length s → MayGoOn levels s later → HasSome levels s place
 later_some levels s place later lt some m = record { text = take later s ++ m.more; tree = m.tree; agree = agree_take place later s m.more lt some; whole = m.whole }
 
-pub some_deeper : (levels : ℕ) (s : List ℕ) (left : ℕ) → read levels s ≡ Err (TooDeep left) → HasSome (suc levels) s (length s - left)
-some_deeper levels s left e = go (read (suc levels) s) refl (deeper_beyond levels s left e)
+pub some_deeper : (levels : ℕ) (s : List ℕ) (left : ℕ) → expression_read levels s ≡ Err (TooDeep left) → HasSome (suc levels) s (length s - left)
+some_deeper levels s left e = go (expression_read (suc levels) s) refl (deeper_beyond levels s left e)
   where
     within : left ≤ length s
     within = deep_within levels s left e
 
-    go : (o : Result Expr Stop) → read (suc levels) s ≡ o → Beyond nothing left o → HasSome (suc levels) s (length s - left)
+    go : (o : Result Expr Stop) → expression_read (suc levels) s ≡ o → Beyond nothing left o → HasSome (suc levels) s (length s - left)
     go (Ok x) r b = record { text = s; tree = x; agree = agree_same (length s - left) s; whole = read_sound (suc levels) s x r }
     go (Err Memory) r b = absurd ((failed (suc levels) Memory s r).left)
     go (Err (Unexpected k)) r b = later_some (suc levels) s (length s - left) (length s - k) (omega (arith, within, b)) (omega (arith, within, b)) (stopped (suc levels) s (Unexpected k) k r refl)
@@ -126,7 +126,7 @@ lt_or_le (suc a) (suc b) = elim (lt_or_le a b) [
 ]
 
 -- where what stands before a colon may go on, nothing nests too deep in it, nor does the colon or a letter
-letter_not_deep : (levels : ℕ) (s : List ℕ) (place : ℕ) → MayGoOn levels s place → (k : ℕ) → read levels (take place s ++ colon_letter) ≡ Err (TooDeep k) → ⊥
+letter_not_deep : (levels : ℕ) (s : List ℕ) (place : ℕ) → MayGoOn levels s place → (k : ℕ) → expression_read levels (take place s ++ colon_letter) ≡ Err (TooDeep k) → ⊥
 letter_not_deep levels s place m k r = elim (lt_or_le deep (length front)) [
   | inl lt ↦ (none_deep levels u k r).none (front ++ m.more) m.tree (agree_front deep front colon_letter m.more lt) m.whole
   | inr le ↦
@@ -144,18 +144,18 @@ letter_not_deep levels s place m k r = elim (lt_or_le deep (length front)) [
     deep = length u - k
 
 same_takes : (levels : ℕ) (s : List ℕ) (place : ℕ) → MayGoOn levels s place → takes_colon (suc levels) (take place s) ≡ takes_colon levels (take place s)
-same_takes levels s place m = go (read levels u) refl
+same_takes levels s place m = go (expression_read levels u) refl
   where
     u : List ℕ
     u = take place s ++ colon_letter
 
-    go : (o : Result Expr Stop) → read levels u ≡ o → passes (read (suc levels) u) ≡ passes (read levels u)
+    go : (o : Result Expr Stop) → expression_read levels u ≡ o → passes (expression_read (suc levels) u) ≡ passes (expression_read levels u)
     go (Ok e) r = ap passes (deeper_ok levels u e r ∙ sym r)
     go (Err Memory) r = absurd ((failed levels Memory u r).left)
     go (Err (Unexpected k)) r = ap passes (deeper_unexpected levels u k r ∙ sym r)
     go (Err (TooDeep k)) r = absurd (letter_not_deep levels s place m k r)
 
-same_place : (more levels : ℕ) (s : List ℕ) (left : ℕ) → read levels s ≡ Err (Unexpected left) → place_of (up more levels) s (length s - left) ≡ place_of levels s (length s - left)
+same_place : (more levels : ℕ) (s : List ℕ) (left : ℕ) → expression_read levels s ≡ Err (Unexpected left) → fault_place (up more levels) s (length s - left) ≡ fault_place levels s (length s - left)
 unfolding up
 same_place zero levels s left r = refl
 same_place (suc more) levels s left r =
@@ -166,12 +166,12 @@ none_less : (levels deeper : ℕ) (s : List ℕ) (place : ℕ) → levels ≤ de
 none_less levels deeper s place le h = record { within = h.within; none = λ t e a w. h.none t e a (deepens levels deeper t e le w) }
 
 -- no expression goes on with it, however many levels may nest
-pub none_any : (limit : ℕ) (s : List ℕ) (left : ℕ) → read limit s ≡ Err (Unexpected left) → (levels : ℕ) → HasNone levels s (place_of limit s (length s - left))
+pub none_any : (limit : ℕ) (s : List ℕ) (left : ℕ) → expression_read limit s ≡ Err (Unexpected left) → (levels : ℕ) → HasNone levels s (fault_place limit s (length s - left))
 none_any limit s left e levels = elim (lt_or_le levels limit) [
   | inl lt ↦ none_less levels limit s _ (omega (arith, lt)) (none_left limit s left e)
   | inr le ↦
       let same : (levels - limit) + limit ≡ levels = omega (arith, le) in
-      subst (λ (n : ℕ). HasNone n s (place_of limit s (length s - left))) (up_is (levels - limit) limit ∙ same)
+      subst (λ (n : ℕ). HasNone n s (fault_place limit s (length s - left))) (up_is (levels - limit) limit ∙ same)
       (subst (HasNone (up (levels - limit) limit) s) (same_place (levels - limit) limit s left e) (none_left (up (levels - limit) limit) s left (more_unexpected (levels - limit) limit s left e)))
 ]
 
@@ -193,7 +193,7 @@ one_place levels s p q m n k o = elim (lt_or_le p q) [
 apart : (s : List ℕ) (p q : ℕ) → p ≡ q → ((levels : ℕ) → HasNone levels s p) → HasSome (suc nesting_limit) s q → ⊥
 apart s p q e none some = (none (suc nesting_limit)).none some.text some.tree (subst (λ (n : ℕ). Agree n s some.text) (sym e) some.agree) some.whole
 
-pub one_fault : (s : List ℕ) (f g : ExprFault) → f ≢ NoMemory → g ≢ NoMemory → IsFault f s → IsFault g s → f ≡ g
+pub one_fault : (s : List ℕ) (f g : ExprFault) → f ≢ NoMemory → g ≢ NoMemory → IsExpressionFault f s → IsExpressionFault g s → f ≡ g
 one_fault s NoMemory g a b x y = absurd (a refl)
 one_fault s f NoMemory a b x y = absurd (b refl)
 one_fault s (fault.Unexpected p) (fault.Unexpected q) a b x y = ap fault.Unexpected (one_place nesting_limit s p q x.0 (x.1 nesting_limit) y.0 (y.1 nesting_limit))

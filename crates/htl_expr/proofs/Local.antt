@@ -3,7 +3,7 @@ use Rattle.std.proofs.Common.{◌≡◌, ℕ, Bool, true, false, cond, ◌||◌,
 use Rattle.htl_expr.specs.declared.stop.Stop.{Stop}
 use Rattle.htl_expr.specs.declared.stop.Stop.TheVariants.{Memory, Unexpected, TooDeep}
 use Rattle.htl_expr.specs.declared.tokens.NameKind.TheVariants.{Field}
-use Rattle.htl_expr.specs.Tokens.{Outcome, ◌>>=◌, is_at, begins, goes_on, is_letter, is_word}
+use Rattle.htl_expr.specs.Tokens.{Outcome, ◌>>=◌, is_at, begins, goes_on, is_letter, is_word_byte}
 use Rattle.htl_expr.specs.Fault.{SameHead, nests}
 use Rattle.htl_expr.proofs.Tools.{bind_ok, chosen, ok_is}
 
@@ -30,7 +30,7 @@ front_same (c ∷ front) r z h = refl
 
 pub same_behind : (c : ℕ) (r z : List ℕ) → SameHead r z → Same (c ∷ r) (c ∷ z)
 unfolding goes_on
-same_behind c r z h = (refl, λ e. ap (λ (b : Bool). is_word c || (eqb c 58 && b)) (sym (begins_same is_letter r z h)) ∙ e)
+same_behind c r z h = (refl, λ e. ap (λ (b : Bool). is_word_byte c || (eqb c 58 && b)) (sym (begins_same is_letter r z h)) ∙ e)
 
 pub head_in : (front r z : List ℕ) → Same r z → Same (front ++ r) (front ++ z)
 head_in [] r z h = h

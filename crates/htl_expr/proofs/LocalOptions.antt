@@ -6,7 +6,7 @@ use Rattle.htl_expr.specs.declared.node.Node.{Node}
 use Rattle.htl_expr.specs.declared.expression.Context.{Context}
 use Rattle.htl_expr.specs.declared.expression.Context.TheVariants.{Text, Unsafe}
 use Rattle.htl_expr.specs.declared.expression.Expr.{Expr}
-use Rattle.htl_expr.specs.Tokens.{Outcome, ◌>>=◌, skip, is_at, begins, expect, literal, string}
+use Rattle.htl_expr.specs.Tokens.{Outcome, ◌>>=◌, blanks_skipped, is_at, begins, expect, literal, string}
 use Rattle.htl_expr.specs.Read as spec
 use Rattle.htl_expr.proofs.TokensRead.{eqb_is}
 use Rattle.htl_expr.proofs.Local.{Same, at_same, IsAt, moved, Local, local_ext, local_bind, local_pure, local_refuse, local_if, local_drop, got, refuse}
@@ -43,8 +43,8 @@ local_context_string : Local spec.context_string
 local_context_string = local_ext (λ t. cond (is_at 39 t) (quoted 39 t) (cond (is_at 34 t) (quoted 34 t) (refuse t))) spec.context_string by_mark
     (local_if (is_at 39) (quoted 39) (λ t. cond (is_at 34 t) (quoted 34 t) (refuse t)) (at_same 39) (local_quoted 39) (local_if (is_at 34) (quoted 34) refuse (at_same 34) (local_quoted 34) local_refuse))
 
-local_given : {A : Type 0} (word : List ℕ) (value : List ℕ → Outcome A) → Local value → Local (λ t. literal word t >>= λ a. expect 61 (skip a) >>= λ b. value b)
-local_given word value l = local_step (literal word) (λ a. expect 61 (skip a) >>= λ b. value b) (local_literal word) (local_skip (λ a. expect 61 a >>= λ b. value b) (local_step (expect 61) value (local_expect 61) l))
+local_given : {A : Type 0} (word : List ℕ) (value : List ℕ → Outcome A) → Local value → Local (λ t. literal word t >>= λ a. expect 61 (blanks_skipped a) >>= λ b. value b)
+local_given word value l = local_step (literal word) (λ a. expect 61 (blanks_skipped a) >>= λ b. value b) (local_literal word) (local_skip (λ a. expect 61 a >>= λ b. value b) (local_step (expect 61) value (local_expect 61) l))
 
 local_join : Local spec.join_option
 unfolding spec.join_option
@@ -63,18 +63,18 @@ local_option given =
     (local_bind spec.context_option (λ c t. Ok ((given.0, Some c), t)) local_context (λ c. local_pure (given.0, Some c))) local_refuse)
 
 another : spec.Given → List ℕ → Outcome spec.Given
-another given t = cond (is_at 44 t) (spec.option given (skip (drop 1 t))) (Ok (given, t))
+another given t = cond (is_at 44 t) (spec.option given (blanks_skipped (drop 1 t))) (Ok (given, t))
 
 local_another : (given : spec.Given) → Local (another given)
 unfolding another
-local_another given = local_if (is_at 44) (λ t. spec.option given (skip (drop 1 t))) (got given) (at_same 44) (local_drop (λ t. spec.option given (skip t)) (local_skip (spec.option given) (local_option given))) (local_pure given)
+local_another given = local_if (is_at 44) (λ t. spec.option given (blanks_skipped (drop 1 t))) (got given) (at_same 44) (local_drop (λ t. spec.option given (blanks_skipped t)) (local_skip (spec.option given) (local_option given))) (local_pure given)
 
 local_options : Local spec.options
 unfolding spec.options another
 local_options =
-    local_if (is_at 64) (λ t. spec.option (None, None) (skip (drop 1 t)) >>= λ o. another o.0 o.1) (got (None, None)) (at_same 64)
-    (local_drop (λ t. spec.option (None, None) (skip t) >>= λ o. another o.0 o.1)
-    (local_bind (λ t. spec.option (None, None) (skip t)) another (local_skip (spec.option (None, None)) (local_option (None, None))) local_another)) (local_pure (None, None))
+    local_if (is_at 64) (λ t. spec.option (None, None) (blanks_skipped (drop 1 t)) >>= λ o. another o.0 o.1) (got (None, None)) (at_same 64)
+    (local_drop (λ t. spec.option (None, None) (blanks_skipped t) >>= λ o. another o.0 o.1)
+    (local_bind (λ t. spec.option (None, None) (blanks_skipped t)) another (local_skip (spec.option (None, None)) (local_option (None, None))) local_another)) (local_pure (None, None))
 
 -- ---- the whole
 
@@ -91,8 +91,8 @@ nothing_same : (r z : List ℕ) → Same r z → (at_end z || is_at 64 z) ≡ (a
 nothing_same r z h = rw (end_same r z h, at_same 64 r z h) refl
 
 module _ (levels : ℕ) where
-  local_first : Local (spec.first levels)
-  unfolding spec.first
+  local_first : Local (spec.optional_choice levels)
+  unfolding spec.optional_choice
   local_first =
       local_if (λ t. at_end t || is_at 64 t) (got None) (λ t. spec.choice levels (spec.nesting levels) t >>= λ x. Ok (Some x.0, x.1)) nothing_same (local_pure None)
       (local_bind (spec.choice levels (spec.nesting levels)) (λ e t. Ok (Some e, t)) (local_tree levels) (λ e. local_pure (Some e)))
@@ -107,10 +107,10 @@ module _ (levels : ℕ) where
 
   -- the reading, with the text that is left
   abbrev text : List ℕ → Outcome Expr
-  text t = spec.first levels (skip t) >>= λ x. ended x.0 x.1
+  text t = spec.optional_choice levels (blanks_skipped t) >>= λ x. ended x.0 x.1
 
   local_text : Local text
-  local_text = local_bind (λ t. spec.first levels (skip t)) ended (local_skip (spec.first levels) local_first) local_ended
+  local_text = local_bind (λ t. spec.optional_choice levels (blanks_skipped t)) ended (local_skip (spec.optional_choice levels) local_first) local_ended
 
   abbrev alone : Outcome Expr → Result Expr Stop
   alone (Ok x) = Ok x.0
@@ -124,9 +124,9 @@ module _ (levels : ℕ) where
   past (Ok x) f h e = e x
   past (Err d) f h e = refl
 
-  read_is : (t : List ℕ) → alone (text t) ≡ spec.read levels t
-  unfolding spec.read ended
-  read_is t = past (spec.first levels (skip t)) _ _ (λ x. past (spec.options x.1) _ _ (λ o. last (at_end o.1) (spec.expr_of x.0 o.0) o.1))
+  read_is : (t : List ℕ) → alone (text t) ≡ spec.expression_read levels t
+  unfolding spec.expression_read ended
+  read_is t = past (spec.optional_choice levels (blanks_skipped t)) _ _ (λ x. past (spec.options x.1) _ _ (λ o. last (at_end o.1) (spec.expr_of x.0 o.0) o.1))
     where
       last : (b : Bool) (e : Expr) (r : List ℕ) → alone (cond b (Ok (e, r)) (refuse r)) ≡ cond b (Ok e) (Err (Unexpected (length r)))
       last true e r = refl
@@ -138,9 +138,9 @@ module _ (levels : ℕ) where
     pub rest : List ℕ
     pub parts : s ≡ front ++ rest
     pub left : IsAt d rest
-    pub same : (z : List ℕ) → Same rest z → spec.read levels (front ++ z) ≡ Err (moved d (length z))
+    pub same : (z : List ℕ) → Same rest z → spec.expression_read levels (front ++ z) ≡ Err (moved d (length z))
 
-  pub failed : (d : Stop) (s : List ℕ) → spec.read levels s ≡ Err d → Left d s
+  pub failed : (d : Stop) (s : List ℕ) → spec.expression_read levels s ≡ Err d → Left d s
   failed d s e =
       let k = local_text.err d s (alone_err (text s) d (read_is s ∙ e)) in
       record { front = k.front; rest = k.rest; parts = k.parts; left = k.left; same = λ z w. sym (read_is (k.front ++ z)) ∙ ap alone (k.same z w) }

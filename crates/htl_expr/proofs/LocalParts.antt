@@ -7,7 +7,7 @@ use Rattle.htl_expr.specs.declared.node.Node.TheVariants as n
 use Rattle.htl_expr.specs.declared.tokens.NameKind.TheVariants.{Name, Field}
 use Rattle.htl_expr.specs.declared.reader.Inside.{Inside}
 use Rattle.htl_expr.specs.declared.reader.Inside.TheVariants.{Choice, Operand, Items}
-use Rattle.htl_expr.specs.Tokens.{Outcome, ◌>>=◌, skip, is_at, begins, is_digit, is_quote, name, expect, string, number}
+use Rattle.htl_expr.specs.Tokens.{Outcome, ◌>>=◌, blanks_skipped, is_at, begins, is_expression_digit, is_quote, read_name, expect, string, signed_number}
 use Rattle.htl_expr.specs.Read as spec
 use Rattle.htl_expr.proofs.Tools.{bind_ok, chosen}
 use Rattle.htl_expr.proofs.TokensRead.{expect_sound, second_sound}
@@ -23,12 +23,12 @@ use Rattle.htl_expr.proofs.LocalLoops.{loop, whole_loop, local_loop}
 -- ---- accesses
 
 inside_brackets : List ℕ → Outcome (List ℕ)
-inside_brackets t = string (skip (drop 1 t)) >>= λ s. expect 93 s.1 >>= λ r. Ok (s.0, r)
+inside_brackets t = string (blanks_skipped (drop 1 t)) >>= λ s. expect 93 s.1 >>= λ r. Ok (s.0, r)
 
 local_inside : Local inside_brackets
 unfolding inside_brackets
 local_inside =
-    local_bind (λ t. string (skip (drop 1 t))) (λ w t. expect 93 t >>= λ r. Ok (w, r)) (local_drop (λ t. string (skip t)) (local_skip string local_string))
+    local_bind (λ t. string (blanks_skipped (drop 1 t))) (λ w t. expect 93 t >>= λ r. Ok (w, r)) (local_drop (λ t. string (blanks_skipped t)) (local_skip string local_string))
     (λ w. local_step (expect 93) (got w) (local_expect 93) (local_pure w))
 
 local_bracketed : (depth : ℕ) → Local (guarded 91 (spec.bracket_access depth))
@@ -47,9 +47,9 @@ either_first false false x y z = refl
 local_first_access : (depth : ℕ) → Local (spec.first_access depth)
 unfolding spec.first_access spec.access spec.access_at
 local_first_access depth =
-    local_ext (λ t. cond (is_at 46 t) (name Field (skip (drop 1 t))) (guarded 91 (spec.bracket_access depth) t)) (λ t. cond (is_at 46 t || is_at 91 t) (cond (is_at 46 t) (name Field (skip (drop 1 t))) (spec.bracket_access depth t)) (refuse t))
-    (λ t. either_first (is_at 46 t) (is_at 91 t) (name Field (skip (drop 1 t))) (spec.bracket_access depth t) (refuse t))
-    (local_if (is_at 46) (λ t. name Field (skip (drop 1 t))) (guarded 91 (spec.bracket_access depth)) (at_same 46) (local_drop (λ t. name Field (skip t)) (local_skip (name Field) (local_name Field))) (local_bracketed depth))
+    local_ext (λ t. cond (is_at 46 t) (read_name Field (blanks_skipped (drop 1 t))) (guarded 91 (spec.bracket_access depth) t)) (λ t. cond (is_at 46 t || is_at 91 t) (cond (is_at 46 t) (read_name Field (blanks_skipped (drop 1 t))) (spec.bracket_access depth t)) (refuse t))
+    (λ t. either_first (is_at 46 t) (is_at 91 t) (read_name Field (blanks_skipped (drop 1 t))) (spec.bracket_access depth t) (refuse t))
+    (local_if (is_at 46) (λ t. read_name Field (blanks_skipped (drop 1 t))) (guarded 91 (spec.bracket_access depth)) (at_same 46) (local_drop (λ t. read_name Field (blanks_skipped t)) (local_skip (read_name Field) (local_name Field))) (local_bracketed depth))
 
 first_access-short : (depth : ℕ) (t : List ℕ) (x : List ℕ) (r : List ℕ) → spec.access_at t ≡ true → spec.first_access depth t ≡ Ok (x, r) → length r < length t
 first_access-short depth t x r at e = access-short depth t x r (first_access_sound depth t (x, r) e)
@@ -120,26 +120,26 @@ module _ (c : ℕ) (item : List ℕ → Outcome Node) (local : Local item) where
 
 -- ---- parts
 
-number_same : (r z : List ℕ) → Same r z → (is_at 45 z || begins is_digit z) ≡ (is_at 45 r || begins is_digit r)
-number_same r z h = rw (at_same 45 r z h, head_same is_digit r z h) refl
+number_same : (r z : List ℕ) → Same r z → (is_at 45 z || begins is_expression_digit z) ≡ (is_at 45 r || begins is_expression_digit r)
+number_same r z h = rw (at_same 45 r z h, head_same is_expression_digit r z h) refl
 
 compares_same : (r z : List ℕ) → Same r z → spec.compares z ≡ spec.compares r
 unfolding spec.compares
 compares_same r z h = rw (at_same 61 r z h, at_same 33 r z h, at_same 60 r z h, at_same 62 r z h) refl
 
 local_named_of : (depth : ℕ) (o : Option (List ℕ → Node)) (w : List ℕ) → Local (spec.name_or_object_of depth o w)
-local_named_of depth None w = local_pure (spec.word_of w)
+local_named_of depth None w = local_pure (spec.word_node w)
 local_named_of depth (Some make) w = local_bind (spec.first_access depth) (λ f t. Ok (make f, t)) (local_first_access depth) (λ f. local_pure (make f))
 
 local_named : (depth : ℕ) → Local (spec.name_or_object depth)
 unfolding spec.name_or_object
-local_named depth = local_bind (name Name) (λ w t. spec.name_or_object_of depth (spec.object_of w) w t) (local_name Name) (λ w. local_named_of depth (spec.object_of w) w)
+local_named depth = local_bind (read_name Name) (λ w t. spec.name_or_object_of depth (spec.object_of w) w t) (local_name Name) (λ w. local_named_of depth (spec.object_of w) w)
 
 local_leaf : (depth : ℕ) → Local (spec.leaf depth)
 unfolding spec.leaf
 local_leaf depth =
     local_if (begins is_quote) (λ t. string t >>= λ x. Ok (n.Text x.0, x.1)) _ (head_same is_quote) (local_bind string (λ w t. Ok (n.Text w, t)) local_string (λ w. local_pure (n.Text w)))
-    (local_if (λ t. is_at 45 t || begins is_digit t) (λ t. number t >>= λ x. Ok (n.Long x.0, x.1)) (spec.name_or_object depth) number_same (local_bind number (λ k t. Ok (n.Long k, t)) local_number (λ k. local_pure (n.Long k))) (local_named depth))
+    (local_if (λ t. is_at 45 t || begins is_expression_digit t) (λ t. signed_number t >>= λ x. Ok (n.Long x.0, x.1)) (spec.name_or_object depth) number_same (local_bind signed_number (λ k t. Ok (n.Long k, t)) local_number (λ k. local_pure (n.Long k))) (local_named depth))
 
 -- A choice is read at a colon only behind one that was read, so never where no level is left.
 abbrev Other : (Inside → List ℕ → Outcome Node) → Type 0
@@ -236,7 +236,7 @@ deeper depth which t = spec.level depth (spec.nesting depth) which t
 
 local_behind : (d : ℕ) (which : Inside) (c : ℕ) → Local (deeper d which) → Local (guarded c (spec.nesting (suc d) which))
 unfolding spec.nesting
-local_behind d which c l = local_if (is_at c) (λ t. deeper d which (skip (drop 1 t))) refuse (at_same c) (local_drop (λ t. deeper d which (skip t)) (local_skip (deeper d which) l)) local_refuse
+local_behind d which c l = local_if (is_at c) (λ t. deeper d which (blanks_skipped (drop 1 t))) refuse (at_same c) (local_drop (λ t. deeper d which (blanks_skipped t)) (local_skip (deeper d which) l)) local_refuse
 
 local_zero : (which : Inside) (c : ℕ) → nests c ≡ true → Local (guarded c (spec.nesting zero which))
 unfolding spec.nesting

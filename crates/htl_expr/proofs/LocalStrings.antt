@@ -2,7 +2,7 @@
 use Rattle.std.proofs.Common.{◌≡◌, ℕ, Bool, true, false, eqb, List, [], ◌∷◌, ◌++◌, length, Option, Some, None, Ok, Err, refl, ap, sym, subst, ◌∙◌, inl, inr}
 use Rattle.htl_expr.specs.declared.stop.Stop.{Stop}
 use Rattle.htl_expr.specs.declared.stop.Stop.TheVariants.{Unexpected}
-use Rattle.htl_expr.specs.Tokens.{Outcome, ◌>>=◌, done, skip, string, string_from, unescape, is_quote}
+use Rattle.htl_expr.specs.Tokens.{Outcome, ◌>>=◌, done, blanks_skipped, string, string_from, unescape, is_quote}
 use Rattle.htl_expr.proofs.Tools.{bind_ok, chosen, ok_is}
 use Rattle.htl_expr.proofs.Local.{bind_err, Same, nil_same, Kept, Failed, Local, err_is}
 use Rattle.htl_expr.proofs.LocalTokens.{blanks}
@@ -38,7 +38,7 @@ closed : (mark c : ℕ) (s x r : List ℕ) → eqb c mark ≡ true → string_fr
 unfolding string_from
 closed mark c s x r m e =
     let bl = blanks s in
-    let e' : got_text [] (skip s) ≡ got_text x r = rw m at e in
+    let e' : got_text [] (blanks_skipped s) ≡ got_text x r = rw m at e in
     subst (λ (q : List ℕ × List ℕ). Kept (string_from false mark) (c ∷ s) q.0 q.1) (ok_is _ _ e')
     (record { front = c ∷ bl.front; parts = ap (λ (t : List ℕ). c ∷ t) bl.parts; same = λ z h. rw (m, bl.same z h) refl })
 
@@ -83,7 +83,7 @@ stays_at mark c s (d ∷ z) u h = no_escape mark d z (ap unescape (sym h.0) ∙ 
 
 close_no : (mark c : ℕ) (s : List ℕ) (d : Stop) → eqb c mark ≡ true → string_from false mark (c ∷ s) ≡ Err d → ⊥
 unfolding string_from
-close_no mark c s d m e = let e' : got_text [] (skip s) ≡ Err d = rw m at e in cc
+close_no mark c s d m e = let e' : got_text [] (blanks_skipped s) ≡ Err d = rw m at e in cc
 
 string_err : (b : Bool) (mark : ℕ) (d : Stop) (s : List ℕ) → string_from b mark s ≡ Err d → Failed (string_from b mark) d s
 string_err b mark d [] e =

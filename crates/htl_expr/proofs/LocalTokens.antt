@@ -7,7 +7,7 @@ use Rattle.htl_expr.specs.declared.tokens.NameKind.{NameKind}
 use Rattle.htl_expr.specs.declared.tokens.NameKind.TheVariants.{Name, Field}
 use Rattle.htl_expr.specs.declared.node.Comparison.{Comparison}
 use Rattle.htl_expr.specs.declared.node.Comparison.TheVariants.{Equal, NotEqual, Below, Above, AtMost, AtLeast}
-use Rattle.htl_expr.specs.Tokens.{Outcome, ◌>>=◌, skip, is_at, is_blank, begins, expect, second, literal, goes_on, run, name_len, name, is_digit, is_letter, is_word, is_first, digits, digits_from, digit_fits, limit, signed, number}
+use Rattle.htl_expr.specs.Tokens.{Outcome, ◌>>=◌, blanks_skipped, is_at, is_blank, begins, expect, second, literal, goes_on, run, name_len, read_name, is_expression_digit, is_letter, is_word_byte, is_first, digits, expression_digits_from, expression_digit_fits, limit, signed, signed_number}
 use Rattle.htl_expr.specs.Read.{comparison, or_equal, between}
 use Rattle.htl_expr.specs.Grammar.{Passes}
 use Rattle.htl_expr.specs.Fault.{nests, SameHead}
@@ -20,28 +20,28 @@ use Rattle.htl_expr.proofs.Local.{Same, begins_same, front_same, head_in, head_s
 
 pub record Blanks (u : List ℕ) : Type 0 where
   pub front : List ℕ
-  pub parts : u ≡ front ++ skip u
-  pub same : (z : List ℕ) → Same (skip u) z → skip (front ++ z) ≡ z
+  pub parts : u ≡ front ++ blanks_skipped u
+  pub same : (z : List ℕ) → Same (blanks_skipped u) z → blanks_skipped (front ++ z) ≡ z
 
 pub blanks : (u : List ℕ) → Blanks u
-unfolding skip
+unfolding blanks_skipped
 blanks [] = record { front = []; parts = refl; same = λ z h. (let e : z ≡ [] = nil_same z h in rw e refl) }
 blanks (c ∷ u) = go (is_blank c) refl (blanks u)
   where
-    here : (z : List ℕ) → is_blank c ≡ false → Same (c ∷ u) z → skip z ≡ z
+    here : (z : List ℕ) → is_blank c ≡ false → Same (c ∷ u) z → blanks_skipped z ≡ z
     here [] e h = absurd h.0
     here (d ∷ z) e h = (let f : is_blank d ≡ false = ap is_blank (sym h.0) ∙ e in rw f refl)
 
     go : (b : Bool) → is_blank c ≡ b → Blanks u → Blanks (c ∷ u)
-    go true e ih = (let k : skip (c ∷ u) ≡ skip u = rw e refl in
-        record { front = c ∷ ih.front; parts = rw k (ap (λ (t : List ℕ). c ∷ t) ih.parts); same = λ z h. (let h' : Same (skip u) z = rw k at h in rw e (ih.same z h')) })
-    go false e ih = (let k : skip (c ∷ u) ≡ c ∷ u = rw e refl in
+    go true e ih = (let k : blanks_skipped (c ∷ u) ≡ blanks_skipped u = rw e refl in
+        record { front = c ∷ ih.front; parts = rw k (ap (λ (t : List ℕ). c ∷ t) ih.parts); same = λ z h. (let h' : Same (blanks_skipped u) z = rw k at h in rw e (ih.same z h')) })
+    go false e ih = (let k : blanks_skipped (c ∷ u) ≡ c ∷ u = rw e refl in
         record { front = []; parts = rw k refl; same = λ z h. (let h' : Same (c ∷ u) z = rw k at h in here z e h') })
 
-pub local_skip : {A : Type 0} (f : List ℕ → Outcome A) → Local f → Local (λ s. f (skip s))
+pub local_skip : {A : Type 0} (f : List ℕ → Outcome A) → Local f → Local (λ s. f (blanks_skipped s))
 local_skip f l = record {
   ok = λ s x r e.
-      (let k = l.ok (skip s) x r e in
+      (let k = l.ok (blanks_skipped s) x r e in
       let bl = blanks s in
       record {
         front = bl.front ++ k.front;
@@ -49,7 +49,7 @@ local_skip f l = record {
         same = λ z w. rw (append_assoc bl.front k.front z, bl.same (k.front ++ z) (subst (λ (t : List ℕ). Same t (k.front ++ z)) (sym k.parts) (head_in k.front r z w))) (k.same z w);
       });
   err = λ d s e.
-      (let k = l.err d (skip s) e in
+      (let k = l.err d (blanks_skipped s) e in
       let bl = blanks s in
       record {
         front = bl.front ++ k.front;
@@ -125,8 +125,8 @@ tagged_if false o p = refl
 
 pub local_expect : (c : ℕ) → Local (λ s. tagged (expect c s))
 unfolding expect
-local_expect c = local_ext (λ s. cond (is_at c s) (one (skip (drop 1 s))) (refuse s)) (λ s. tagged (cond (is_at c s) (Ok (skip (drop 1 s))) (Err (Unexpected (length s))))) (λ s. tagged_if (is_at c s) (Ok (skip (drop 1 s))) (Err (Unexpected (length s))))
-    (local_if (is_at c) (λ s. one (skip (drop 1 s))) refuse (at_same c) (local_drop (λ s. one (skip s)) (local_skip one (local_pure tt))) local_refuse)
+local_expect c = local_ext (λ s. cond (is_at c s) (one (blanks_skipped (drop 1 s))) (refuse s)) (λ s. tagged (cond (is_at c s) (Ok (blanks_skipped (drop 1 s))) (Err (Unexpected (length s))))) (λ s. tagged_if (is_at c s) (Ok (blanks_skipped (drop 1 s))) (Err (Unexpected (length s))))
+    (local_if (is_at c) (λ s. one (blanks_skipped (drop 1 s))) refuse (at_same c) (local_drop (λ s. one (blanks_skipped s)) (local_skip one (local_pure tt))) local_refuse)
 
 pub local_second : (c : ℕ) → Local (λ s. tagged (second c s))
 unfolding second
@@ -146,7 +146,7 @@ local_literal (c ∷ w) = local_ext (λ s. cond (is_at c s) (tagged (literal w (
 
 goes_same : (kind : NameKind) (r z : List ℕ) → Same r z → goes_on kind r ≡ false → goes_on kind z ≡ false
 unfolding goes_on
-goes_same Name r z h e = head_same is_word r z h ∙ e
+goes_same Name r z h e = head_same is_word_byte r z h ∙ e
 goes_same Field r z h e = no (goes_on Field z) refl
   where
     no : (b : Bool) → goes_on Field z ≡ b → b ≡ false
@@ -156,7 +156,7 @@ goes_same Field r z h e = no (goes_on Field z) refl
 step_same : (kind : NameKind) (c : ℕ) (r z : List ℕ) → SameHead r z → goes_on kind (c ∷ z) ≡ goes_on kind (c ∷ r)
 unfolding goes_on begins
 step_same Name c r z h = refl
-step_same Field c r z h = ap (λ (b : Bool). is_word c || (eqb c 58 && b)) (begins_same is_letter r z h)
+step_same Field c r z h = ap (λ (b : Bool). is_word_byte c || (eqb c 58 && b)) (begins_same is_letter r z h)
 
 passes_same : (kind : NameKind) (w r z : List ℕ) → SameHead r z → Passes kind w r → Passes kind w z
 passes_same kind [] r z h p = tt
@@ -175,9 +175,9 @@ local_run kind = record { ok = ok; err = λ d s e. absurd cc }
         let bl = blanks u in
         record {
           front = w ++ bl.front;
-          parts = sym (take-append-drop (name_len kind s) s) ∙ ap (λ (t : List ℕ). w ++ t) bl.parts ∙ sym (append_assoc w bl.front (skip u));
+          parts = sym (take-append-drop (name_len kind s) s) ∙ ap (λ (t : List ℕ). w ++ t) bl.parts ∙ sym (append_assoc w bl.front (blanks_skipped u));
           same = λ z h.
-              (let near : Same u (bl.front ++ z) = subst (λ (t : List ℕ). Same t (bl.front ++ z)) (sym bl.parts) (head_in bl.front (skip u) z h) in
+              (let near : Same u (bl.front ++ z) = subst (λ (t : List ℕ). Same t (bl.front ++ z)) (sym bl.parts) (head_in bl.front (blanks_skipped u) z h) in
               let stops : goes_on kind (bl.front ++ z) ≡ false = goes_same kind u (bl.front ++ z) near (ends_run kind s) in
               let passes : Passes kind w (bl.front ++ z) = passes_same kind w u (bl.front ++ z) near.0 (passes_run kind s) in
               rw (append_assoc w bl.front z, name_len-is kind w (bl.front ++ z) passes stops, take_at w (bl.front ++ z) (length w) refl, drop_at w (bl.front ++ z) (length w) refl, bl.same z h) refl);
@@ -186,26 +186,26 @@ local_run kind = record { ok = ok; err = λ d s e. absurd cc }
     ok : (s : List ℕ) (x : List ℕ) (r : List ℕ) → run_of kind s ≡ Ok (x, r) → Kept (run_of kind) s x r
     ok s x r e = subst (λ (q : List ℕ × List ℕ). Kept (run_of kind) s q.0 q.1) (ok_is _ _ e) (kept s)
 
-pub local_name : (kind : NameKind) → Local (name kind)
-unfolding name
+pub local_name : (kind : NameKind) → Local (read_name kind)
+unfolding read_name
 local_name kind = local_if (begins is_first) (run_of kind) refuse (head_same is_first) (local_run kind) local_refuse
 
 -- ---- numbers
 
 abbrev digits_at : ℕ → ℕ → List ℕ → Outcome ℕ
-digits_at most m s = Ok (digits_from most m s)
+digits_at most m s = Ok (expression_digits_from most m s)
 
-digits_kept : (most m : ℕ) (s : List ℕ) → Kept (digits_at most m) s (digits_from most m s).0 (digits_from most m s).1
-unfolding digits_from digit_fits
+digits_kept : (most m : ℕ) (s : List ℕ) → Kept (digits_at most m) s (expression_digits_from most m s).0 (expression_digits_from most m s).1
+unfolding expression_digits_from expression_digit_fits
 digits_kept most m [] = record { front = []; parts = refl; same = λ z h. (let e : z ≡ [] = nil_same z h in rw e refl) }
-digits_kept most m (c ∷ s) = go (digit_fits most m (c ∷ s)) refl (digits_kept most (m * 10 + (c - 48)) s)
+digits_kept most m (c ∷ s) = go (expression_digit_fits most m (c ∷ s)) refl (digits_kept most (m * 10 + (c - 48)) s)
   where
-    here : (z : List ℕ) → digit_fits most m (c ∷ s) ≡ false → Same (c ∷ s) z → digits_at most m z ≡ Ok (m, z)
+    here : (z : List ℕ) → expression_digit_fits most m (c ∷ s) ≡ false → Same (c ∷ s) z → digits_at most m z ≡ Ok (m, z)
     here [] e h = absurd h.0
-    here (d ∷ z) e h = (let k : digit_fits most m (d ∷ z) ≡ false = ap (λ (x : ℕ). is_digit x && nat_le (m * 10 + (x - 48)) most) (sym h.0) ∙ e in rw k refl)
+    here (d ∷ z) e h = (let k : expression_digit_fits most m (d ∷ z) ≡ false = ap (λ (x : ℕ). is_expression_digit x && nat_le (m * 10 + (x - 48)) most) (sym h.0) ∙ e in rw k refl)
 
-    go : (b : Bool) → digit_fits most m (c ∷ s) ≡ b → Kept (digits_at most (m * 10 + (c - 48))) s (digits_from most (m * 10 + (c - 48)) s).0 (digits_from most (m * 10 + (c - 48)) s).1
-        → Kept (digits_at most m) (c ∷ s) (cond b (digits_from most (m * 10 + (c - 48)) s) (m, c ∷ s)).0 (cond b (digits_from most (m * 10 + (c - 48)) s) (m, c ∷ s)).1
+    go : (b : Bool) → expression_digit_fits most m (c ∷ s) ≡ b → Kept (digits_at most (m * 10 + (c - 48))) s (expression_digits_from most (m * 10 + (c - 48)) s).0 (expression_digits_from most (m * 10 + (c - 48)) s).1
+        → Kept (digits_at most m) (c ∷ s) (cond b (expression_digits_from most (m * 10 + (c - 48)) s) (m, c ∷ s)).0 (cond b (expression_digits_from most (m * 10 + (c - 48)) s) (m, c ∷ s)).1
     go true e k = record { front = c ∷ k.front; parts = ap (λ (t : List ℕ). c ∷ t) k.parts; same = λ z h. rw e (k.same z h) }
     go false e k = record { front = []; parts = refl; same = λ z h. here z e h }
 
@@ -218,11 +218,11 @@ local_digits_at most m = record { ok = ok; err = λ d s e. absurd cc }
 local_digits : (negative : Bool) → Local (digits negative)
 unfolding digits
 local_digits negative =
-    local_if (begins is_digit) (λ s. digits_at (limit negative) 0 s >>= λ x. Ok (signed negative x.0, skip x.1)) refuse (head_same is_digit)
-    (local_bind (digits_at (limit negative) 0) (λ k t. Ok (signed negative k, skip t)) (local_digits_at (limit negative) 0) (λ k. local_skip (got (signed negative k)) (local_pure (signed negative k)))) local_refuse
+    local_if (begins is_expression_digit) (λ s. digits_at (limit negative) 0 s >>= λ x. Ok (signed negative x.0, blanks_skipped x.1)) refuse (head_same is_expression_digit)
+    (local_bind (digits_at (limit negative) 0) (λ k t. Ok (signed negative k, blanks_skipped t)) (local_digits_at (limit negative) 0) (λ k. local_skip (got (signed negative k)) (local_pure (signed negative k)))) local_refuse
 
-pub local_number : Local number
-unfolding number
+pub local_number : Local signed_number
+unfolding signed_number
 local_number = local_if (is_at 45) (λ s. digits true (drop 1 s)) (digits false) (at_same 45) (local_drop (digits true) (local_digits true)) (local_digits false)
 
 -- ---- comparisons
@@ -230,9 +230,9 @@ local_number = local_if (is_at 45) (λ s. digits true (drop 1 s)) (digits false)
 local_or_equal : (bare equal : Comparison) → Local (λ s. Ok (or_equal bare equal s))
 unfolding or_equal
 local_or_equal bare equal =
-    local_ext (λ s. cond (is_at 61 (drop 1 s)) (got equal (skip (drop 1 (drop 1 s)))) (got bare (skip (drop 1 s)))) (λ s. Ok (cond (is_at 61 (drop 1 s)) (equal, skip (drop 1 (drop 1 s))) (bare, skip (drop 1 s)))) (λ s. go (is_at 61 (drop 1 s)) _ _)
-    (local_drop (λ s. cond (is_at 61 s) (got equal (skip (drop 1 s))) (got bare (skip s)))
-    (local_if (is_at 61) (λ s. got equal (skip (drop 1 s))) (λ s. got bare (skip s)) (at_same 61) (local_drop (λ s. got equal (skip s)) (local_skip (got equal) (local_pure equal))) (local_skip (got bare) (local_pure bare))))
+    local_ext (λ s. cond (is_at 61 (drop 1 s)) (got equal (blanks_skipped (drop 1 (drop 1 s)))) (got bare (blanks_skipped (drop 1 s)))) (λ s. Ok (cond (is_at 61 (drop 1 s)) (equal, blanks_skipped (drop 1 (drop 1 s))) (bare, blanks_skipped (drop 1 s)))) (λ s. go (is_at 61 (drop 1 s)) _ _)
+    (local_drop (λ s. cond (is_at 61 s) (got equal (blanks_skipped (drop 1 s))) (got bare (blanks_skipped s)))
+    (local_if (is_at 61) (λ s. got equal (blanks_skipped (drop 1 s))) (λ s. got bare (blanks_skipped s)) (at_same 61) (local_drop (λ s. got equal (blanks_skipped s)) (local_skip (got equal) (local_pure equal))) (local_skip (got bare) (local_pure bare))))
   where
     go : (b : Bool) (p q : Comparison × List ℕ) → ◌≡◌ {A = Outcome Comparison} (cond b (Ok p) (Ok q)) (Ok (cond b p q))
     go true p q = refl

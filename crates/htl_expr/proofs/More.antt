@@ -6,18 +6,18 @@ use Rattle.htl_expr.specs.declared.stop.Stop.{Stop}
 use Rattle.htl_expr.specs.declared.stop.Stop.TheVariants.{Memory, Unexpected, TooDeep}
 use Rattle.htl_expr.specs.declared.expression.Expr.{Expr}
 use Rattle.htl_expr.specs.Tokens.{is_at}
-use Rattle.htl_expr.specs.Read.{read}
+use Rattle.htl_expr.specs.Read.{expression_read}
 use Rattle.htl_expr.specs.Grammar.{WholeWithin}
-use Rattle.htl_expr.specs.Fault.{colon_letter, passes, takes_colon, place_of, MayGoOn}
+use Rattle.htl_expr.specs.Fault.{colon_letter, passes, takes_colon, fault_place, MayGoOn}
 use Rattle.htl_expr.proofs.TokensRead.{eqb_is}
 use Rattle.htl_expr.proofs.WholeRead.{read_sound}
 use Rattle.htl_expr.proofs.StuckWhole.{stopped}
 
 module _ (levels : ℕ) where
-  pub more_here : (s : List ℕ) (left : ℕ) → read levels s ≡ Err (Unexpected left) → MayGoOn levels s (length s - left)
+  pub more_here : (s : List ℕ) (left : ℕ) → expression_read levels s ≡ Err (Unexpected left) → MayGoOn levels s (length s - left)
   more_here s left e = stopped levels s (Unexpected left) left e refl
 
-  pub more_deep : (s : List ℕ) (left : ℕ) → read levels s ≡ Err (TooDeep left) → MayGoOn levels s (length s - left)
+  pub more_deep : (s : List ℕ) (left : ℕ) → expression_read levels s ≡ Err (TooDeep left) → MayGoOn levels s (length s - left)
   more_deep s left e = stopped levels s (TooDeep left) left e refl
 
   -- ---- a colon that may belong to a field's name
@@ -50,7 +50,7 @@ module _ (levels : ℕ) where
   whole_letter p e w = record { more = 98 ∷ []; tree = e; whole = subst (λ (l : List ℕ). WholeWithin levels l e) (sym (append_assoc p (58 ∷ []) (98 ∷ []))) w }
 
   -- reading passed the colon
-  passed : (p : List ℕ) (r : Result Expr Stop) → read levels (p ++ colon_letter) ≡ r → passes r ≡ true → Begun (p ++ 58 ∷ [])
+  passed : (p : List ℕ) (r : Result Expr Stop) → expression_read levels (p ++ colon_letter) ≡ r → passes r ≡ true → Begun (p ++ 58 ∷ [])
   passed p (Ok e) r-is h = whole_letter p e (read_sound levels (p ++ colon_letter) e r-is)
   passed p (Err Memory) r-is h = absurd cc
   passed p (Err (Unexpected zero)) r-is h = with_letter p (more_here (p ++ colon_letter) 0 r-is)
@@ -70,7 +70,7 @@ module _ (levels : ℕ) where
   both_true true b e = (refl, e)
   both_true false b e = absurd cc
 
-  pub more_left : (s : List ℕ) (left : ℕ) → read levels s ≡ Err (Unexpected left) → MayGoOn levels s (place_of levels s (length s - left))
+  pub more_left : (s : List ℕ) (left : ℕ) → expression_read levels s ≡ Err (Unexpected left) → MayGoOn levels s (fault_place levels s (length s - left))
   more_left s left e = go (is_at 58 (drop place s) && takes_colon levels (take place s)) refl
     where
       place : ℕ
@@ -83,4 +83,4 @@ module _ (levels : ℕ) where
       go false h = more_here s left e
       go true h =
           let both = both_true (is_at 58 (drop place s)) (takes_colon levels (take place s)) h in
-          behind (passed (take place s) (read levels (take place s ++ colon_letter)) refl both.1) both.0
+          behind (passed (take place s) (expression_read levels (take place s ++ colon_letter)) refl both.1) both.0

@@ -2,7 +2,7 @@
 use Rattle.std.proofs.Common.{◌≡◌, ℕ, ◌<◌, Bool, true, false, ◌||◌, ◌&&◌, eqb, List, [], ◌∷◌, ◌++◌, length, refl, ap, sym, subst, ◌∙◌, ◌⊎◌, inl, inr, arith, append_assoc}
 use Rattle.htl_expr.specs.declared.tokens.NameKind.{NameKind}
 use Rattle.htl_expr.specs.declared.tokens.NameKind.TheVariants.{Name, Field}
-use Rattle.htl_expr.specs.Tokens.{skip, begins, goes_on, is_blank, is_letter, is_first, is_digit, is_word}
+use Rattle.htl_expr.specs.Tokens.{blanks_skipped, begins, goes_on, is_blank, is_letter, is_first, is_expression_digit, is_word_byte}
 use Rattle.htl_expr.specs.Fault.{SameHead}
 use Rattle.htl_expr.proofs.Local.{begins_same}
 
@@ -17,7 +17,7 @@ Fresh [] = Unit {0}
 Fresh (c ∷ z) = (is_letter c ≡ false) × (is_blank c ≡ false) × (eqb c 61 ≡ false)
 
 abbrev pub Settled : List ℕ → Type 0
-Settled z = skip z ≡ z
+Settled z = blanks_skipped z ≡ z
 
 -- what may stand in the place of r behind blanks
 abbrev pub Clear : List ℕ → List ℕ → Type 0
@@ -35,30 +35,30 @@ or_left : (a b : Bool) → (a || b) ≡ false → a ≡ false
 or_left true b e = absurd cc
 or_left false b e = refl
 
-pub letter_word : (c : ℕ) → is_word c ≡ false → is_letter c ≡ false
-letter_word c e = or_left (is_letter c) (eqb c 95) (or_left (is_first c) (is_digit c) e)
+pub letter_word : (c : ℕ) → is_word_byte c ≡ false → is_letter c ≡ false
+letter_word c e = or_left (is_letter c) (eqb c 95) (or_left (is_first c) (is_expression_digit c) e)
 
-pub digit_word : (c : ℕ) → is_word c ≡ false → is_digit c ≡ false
-digit_word c e = go (is_first c) (is_digit c) e
+pub digit_word : (c : ℕ) → is_word_byte c ≡ false → is_expression_digit c ≡ false
+digit_word c e = go (is_first c) (is_expression_digit c) e
   where
     go : (a b : Bool) → (a || b) ≡ false → b ≡ false
     go true b w = absurd cc
     go false b w = w
 
-pub field_word : (c : ℕ) (z : List ℕ) → goes_on Field (c ∷ z) ≡ false → is_word c ≡ false
+pub field_word : (c : ℕ) (z : List ℕ) → goes_on Field (c ∷ z) ≡ false → is_word_byte c ≡ false
 unfolding goes_on
-field_word c z e = or_left (is_word c) (eqb c 58 && begins is_letter z) e
+field_word c z e = or_left (is_word_byte c) (eqb c 58 && begins is_letter z) e
 
 pub plain_fresh : (z : List ℕ) → Plain z → Fresh z
 plain_fresh [] p = tt
 plain_fresh (c ∷ z) p = (letter_word c (field_word c z p.0), p.1, p.2)
 
 pub settled_at : (c : ℕ) (z : List ℕ) → is_blank c ≡ false → Settled (c ∷ z)
-unfolding skip
+unfolding blanks_skipped
 settled_at c z e = rw e refl
 
 pub fresh_settled : (z : List ℕ) → Fresh z → Settled z
-unfolding skip
+unfolding blanks_skipped
 fresh_settled [] p = refl
 fresh_settled (c ∷ z) p = settled_at c z p.1
 
@@ -87,7 +87,7 @@ colon_near false false r z h e = refl
 -- behind a byte the text may go on as it likes, but a letter behind a colon
 pub field_behind : (c : ℕ) (r z : List ℕ) → Near r z → goes_on Field (c ∷ r) ≡ false → goes_on Field (c ∷ z) ≡ false
 unfolding goes_on
-field_behind c r z h e = colon_near (is_word c) (eqb c 58) r z h e
+field_behind c r z h e = colon_near (is_word_byte c) (eqb c 58) r z h e
 
 pub near_in : (m front r z : List ℕ) → m ≡ front ++ r → Near r z → Near m (front ++ z)
 near_in m [] r z e f = subst (λ (q : List ℕ). Near q z) (sym e) f
@@ -109,7 +109,7 @@ fits_behind m [] r z e lt f = absurd (omega (arith, ap length e))
 fits_behind m (c ∷ front) r z e lt f =
     subst (λ (q : List ℕ). Fits q (c ∷ (front ++ z))) (sym e) (inl (refl, field_behind c (front ++ r) (front ++ z) (near_in (front ++ r) front r z refl f)))
 
-word_plain : (z : List ℕ) → Plain z → begins is_word z ≡ false
+word_plain : (z : List ℕ) → Plain z → begins is_word_byte z ≡ false
 unfolding begins
 word_plain [] p = refl
 word_plain (c ∷ z) p = field_word c z p.0
@@ -122,7 +122,7 @@ field_plain (c ∷ z) p = p.0
 -- a name that ended still ends
 pub ends_fit : (kind : NameKind) (r z : List ℕ) → Fits r z → goes_on kind r ≡ false → goes_on kind z ≡ false
 unfolding goes_on
-ends_fit Name r z (inl h) e = begins_same is_word r z h.0 ∙ e
+ends_fit Name r z (inl h) e = begins_same is_word_byte r z h.0 ∙ e
 ends_fit Name r z (inr p) e = word_plain z p
 ends_fit Field r z (inl h) e = h.1 e
 ends_fit Field r z (inr p) e = field_plain z p
@@ -136,8 +136,8 @@ plain_ends Field z p = field_plain z p
 
 pub record Blanks (u : List ℕ) : Type 0 where
   pub front : List ℕ
-  pub parts : u ≡ front ++ skip u
-  pub over : (z : List ℕ) → Clear (skip u) z → skip (front ++ z) ≡ z
+  pub parts : u ≡ front ++ blanks_skipped u
+  pub over : (z : List ℕ) → Clear (blanks_skipped u) z → blanks_skipped (front ++ z) ≡ z
 
 head_settled : (c : ℕ) (u z : List ℕ) → is_blank c ≡ false → Clear (c ∷ u) z → Settled z
 head_settled c u [] e (inl h) = absurd h
@@ -145,20 +145,20 @@ head_settled c u (d ∷ z) e (inl h) = settled_at d z (ap is_blank (sym h) ∙ e
 head_settled c u z e (inr p) = p
 
 nil_settled : (z : List ℕ) → Clear [] z → Settled z
-unfolding skip
+unfolding blanks_skipped
 nil_settled [] (inl h) = refl
 nil_settled (d ∷ z) (inl h) = absurd h
 nil_settled z (inr p) = p
 
 pub blanks : (u : List ℕ) → Blanks u
-unfolding skip
+unfolding blanks_skipped
 blanks [] = record { front = []; parts = refl; over = nil_settled }
 blanks (c ∷ u) = go (is_blank c) refl (blanks u)
   where
     go : (b : Bool) → is_blank c ≡ b → Blanks u → Blanks (c ∷ u)
-    go true e ih = (let k : skip (c ∷ u) ≡ skip u = rw e refl in
-        record { front = c ∷ ih.front; parts = rw k (ap (λ (t : List ℕ). c ∷ t) ih.parts); over = λ z h. (let h' : Clear (skip u) z = rw k at h in rw e (ih.over z h')) })
-    go false e ih = (let k : skip (c ∷ u) ≡ c ∷ u = rw e refl in
+    go true e ih = (let k : blanks_skipped (c ∷ u) ≡ blanks_skipped u = rw e refl in
+        record { front = c ∷ ih.front; parts = rw k (ap (λ (t : List ℕ). c ∷ t) ih.parts); over = λ z h. (let h' : Clear (blanks_skipped u) z = rw k at h in rw e (ih.over z h')) })
+    go false e ih = (let k : blanks_skipped (c ∷ u) ≡ c ∷ u = rw e refl in
         record { front = []; parts = rw k refl; over = λ z h. (let h' : Clear (c ∷ u) z = rw k at h in head_settled c u z e h') })
 
 -- ---- steps

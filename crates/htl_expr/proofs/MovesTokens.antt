@@ -6,7 +6,7 @@ use Rattle.htl_expr.specs.declared.tokens.NameKind.TheVariants.{Name, Field}
 use Rattle.htl_expr.specs.declared.node.Comparison.{Comparison}
 use Rattle.htl_expr.specs.declared.node.Comparison.TheVariants.{Equal, NotEqual, Below, Above, AtMost, AtLeast}
 use Rattle.htl_expr.specs.declared.expression.Context.{Context}
-use Rattle.htl_expr.specs.Tokens.{skip, is_at, begins, goes_on, is_letter, is_first, is_digit, is_word, digit_fits, limit}
+use Rattle.htl_expr.specs.Tokens.{blanks_skipped, is_at, begins, goes_on, is_letter, is_first, is_expression_digit, is_word_byte, expression_digit_fits, limit}
 use Rattle.htl_expr.specs.Fault.{SameHead}
 use Rattle.htl_expr.specs.Grammar.{Byte, Operator, Bare, Passes, NameToken, StringBody, String, Digits, Sign, Number, Compares, Literal, ContextString, context_text, Join, InContext}
 use Rattle.htl_expr.specs.Grammar as g
@@ -14,7 +14,7 @@ use Rattle.htl_expr.proofs.Moves.{Plain, Near, Fits, near_clear, fits_near, fits
 
 pub byte_jumps : (c : ℕ) (s r : List ℕ) → Byte c s r → Jumps (Byte c) s r
 byte_jumps c s r b =
-    at_jumps (Byte c) s (c ∷ b.after) r (skip b.after) b.parts b.rest (record {
+    at_jumps (Byte c) s (c ∷ b.after) r (blanks_skipped b.after) b.parts b.rest (record {
       front = c ∷ (blanks b.after).front;
       parts = ap (λ (t : List ℕ). c ∷ t) (blanks b.after).parts;
       same = λ z h. record { after = (blanks b.after).front ++ z; parts = refl; rest = sym ((blanks b.after).over z h) };
@@ -25,10 +25,10 @@ byte_steps c s r b = steps_of (Byte c) s r (byte_jumps c s r b)
 
 pub operator_steps : (c d : ℕ) (s r : List ℕ) → Operator c d s r → Steps (Operator c d) s r
 operator_steps c d s r b =
-    at_steps (Operator c d) s (c ∷ d ∷ b.after) r (skip b.after) b.parts b.rest (record {
+    at_steps (Operator c d) s (c ∷ d ∷ b.after) r (blanks_skipped b.after) b.parts b.rest (record {
       front = c ∷ d ∷ (blanks b.after).front;
       parts = ap (λ (t : List ℕ). c ∷ d ∷ t) (blanks b.after).parts;
-      same = λ z h. record { after = (blanks b.after).front ++ z; parts = refl; rest = sym ((blanks b.after).over z (near_clear (skip b.after) z h)) };
+      same = λ z h. record { after = (blanks b.after).front ++ z; parts = refl; rest = sym ((blanks b.after).over z (near_clear (blanks_skipped b.after) z h)) };
     })
 
 no_equal : (r z : List ℕ) → Near r z → is_at 61 r ≡ false → is_at 61 z ≡ false
@@ -43,10 +43,10 @@ no_equal r (c ∷ z) (inr p) e = p.2
 bare_steps : (c : ℕ) (s r : List ℕ) → Bare c s r → Steps (Bare c) s r
 bare_steps c s r b =
     let bl = blanks b.after in
-    at_steps (Bare c) s (c ∷ b.after) r (skip b.after) b.parts b.rest (record {
+    at_steps (Bare c) s (c ∷ b.after) r (blanks_skipped b.after) b.parts b.rest (record {
       front = c ∷ bl.front;
       parts = ap (λ (t : List ℕ). c ∷ t) bl.parts;
-      same = λ z h. record { after = bl.front ++ z; parts = refl; longest = no_equal b.after (bl.front ++ z) (near_in b.after bl.front (skip b.after) z bl.parts h) b.longest; rest = sym (bl.over z (near_clear (skip b.after) z h)) };
+      same = λ z h. record { after = bl.front ++ z; parts = refl; longest = no_equal b.after (bl.front ++ z) (near_in b.after bl.front (blanks_skipped b.after) z bl.parts h) b.longest; rest = sym (bl.over z (near_clear (blanks_skipped b.after) z h)) };
     })
 
 abbrev pub ComparesOf : Comparison → List ℕ → List ℕ → Type 0
@@ -79,10 +79,10 @@ pub string_steps : (s w r : List ℕ) → String s w r → Steps (StringOf w) s 
 string_steps s w r x =
     let k = quote_moves x.mark x.inside w x.after x.body in
     let bl = blanks x.after in
-    at_steps (StringOf w) s (x.mark ∷ x.inside) r (skip x.after) x.parts x.rest (record {
+    at_steps (StringOf w) s (x.mark ∷ x.inside) r (blanks_skipped x.after) x.parts x.rest (record {
       front = x.mark ∷ (k.front ++ bl.front);
-      parts = ap (λ (t : List ℕ). x.mark ∷ t) (k.parts ∙ ap (λ (t : List ℕ). k.front ++ t) bl.parts ∙ sym (append_assoc k.front bl.front (skip x.after)));
-      same = λ z h. record { mark = x.mark; inside = k.front ++ (bl.front ++ z); after = bl.front ++ z; parts = ap (λ (t : List ℕ). x.mark ∷ t) (append_assoc k.front bl.front z); is_mark = x.is_mark; body = k.same (bl.front ++ z); rest = sym (bl.over z (near_clear (skip x.after) z h)) };
+      parts = ap (λ (t : List ℕ). x.mark ∷ t) (k.parts ∙ ap (λ (t : List ℕ). k.front ++ t) bl.parts ∙ sym (append_assoc k.front bl.front (blanks_skipped x.after)));
+      same = λ z h. record { mark = x.mark; inside = k.front ++ (bl.front ++ z); after = bl.front ++ z; parts = ap (λ (t : List ℕ). x.mark ∷ t) (append_assoc k.front bl.front z); is_mark = x.is_mark; body = k.same (bl.front ++ z); rest = sym (bl.over z (near_clear (blanks_skipped x.after) z h)) };
     })
 
 -- ---- names
@@ -91,9 +91,9 @@ or_right : (a b : Bool) → (a || b) ≡ true → b ≡ false → a ≡ true
 or_right true b e f = refl
 or_right false b e f = absurd cc
 
-no_colon : (c : ℕ) (r : List ℕ) → begins is_letter r ≡ false → goes_on Field (c ∷ r) ≡ true → is_word c ≡ true
+no_colon : (c : ℕ) (r : List ℕ) → begins is_letter r ≡ false → goes_on Field (c ∷ r) ≡ true → is_word_byte c ≡ true
 unfolding goes_on
-no_colon c r e h = or_right (is_word c) (eqb c 58 && begins is_letter r) h (rw e (none (eqb c 58)))
+no_colon c r e h = or_right (is_word_byte c) (eqb c 58 && begins is_letter r) h (rw e (none (eqb c 58)))
   where
     none : (b : Bool) → (b && false) ≡ false
     none true = refl
@@ -102,7 +102,7 @@ no_colon c r e h = or_right (is_word c) (eqb c 58 && begins is_letter r) h (rw e
 letter_goes_on : (r : List ℕ) → goes_on Field r ≡ false → begins is_letter r ≡ false
 unfolding begins goes_on
 letter_goes_on [] e = refl
-letter_goes_on (c ∷ r) e = letter (is_letter c) (eqb c 95) (is_digit c) (field_word c r e)
+letter_goes_on (c ∷ r) e = letter (is_letter c) (eqb c 95) (is_expression_digit c) (field_word c r e)
   where
     letter : (a b d : Bool) → ((a || b) || d) ≡ false → a ≡ false
     letter true b d e' = absurd cc
@@ -146,33 +146,33 @@ name_moves kind s w r x =
       front = w ++ bl.front;
       parts = x.parts ∙ ap (λ (q : List ℕ). w ++ q) (bl.parts ∙ ap (λ (q : List ℕ). bl.front ++ q) (sym x.rest)) ∙ sym (append_assoc w bl.front r);
       same = λ z h.
-          (let h' : Fits (skip x.after) z = subst (λ (q : List ℕ). Fits q z) x.rest h in
-          let whole : Fits x.after (bl.front ++ z) = fits_in x.after bl.front (skip x.after) z bl.parts h' in
+          (let h' : Fits (blanks_skipped x.after) z = subst (λ (q : List ℕ). Fits q z) x.rest h in
+          let whole : Fits x.after (bl.front ++ z) = fits_in x.after bl.front (blanks_skipped x.after) z bl.parts h' in
           record {
             after = bl.front ++ z;
             parts = append_assoc w bl.front z;
             first = rw (append_assoc w bl.front z) (first_before kind w x.after (bl.front ++ z) (subst (λ (q : List ℕ). begins is_first q ≡ true) x.parts x.first) x.longest);
             passes = passes_before kind w x.after (bl.front ++ z) x.longest x.passes;
             longest = ends_fit kind x.after (bl.front ++ z) whole x.longest;
-            rest = sym (bl.over z (near_clear (skip x.after) z (fits_near (skip x.after) z h')));
+            rest = sym (bl.over z (near_clear (blanks_skipped x.after) z (fits_near (blanks_skipped x.after) z h')));
           });
     }
 
 -- ---- numbers
 
-pub no_digit : (most m : ℕ) (z : List ℕ) → Plain z → digit_fits most m z ≡ false
-unfolding digit_fits
+pub no_digit : (most m : ℕ) (z : List ℕ) → Plain z → expression_digit_fits most m z ≡ false
+unfolding expression_digit_fits
 no_digit most m [] p = refl
 no_digit most m (c ∷ z) p = rw (digit_word c (field_word c z p.0)) refl
 
-fits_same : (most m : ℕ) (r z : List ℕ) → SameHead r z → digit_fits most m z ≡ digit_fits most m r
-unfolding digit_fits
+fits_same : (most m : ℕ) (r z : List ℕ) → SameHead r z → expression_digit_fits most m z ≡ expression_digit_fits most m r
+unfolding expression_digit_fits
 fits_same most m [] [] h = refl
 fits_same most m [] (d ∷ z) h = absurd h
 fits_same most m (c ∷ r) [] h = absurd h
 fits_same most m (c ∷ r) (d ∷ z) h = rw h refl
 
-digits_end : (most m : ℕ) (r z : List ℕ) → Fits r z → digit_fits most m r ≡ false → digit_fits most m z ≡ false
+digits_end : (most m : ℕ) (r z : List ℕ) → Fits r z → expression_digit_fits most m r ≡ false → expression_digit_fits most m z ≡ false
 digits_end most m r z (inl h) e = fits_same most m r z h.0 ∙ e
 digits_end most m r z (inr p) e = no_digit most m z p
 
@@ -182,22 +182,22 @@ record DigitMoves (most m : ℕ) (s : List ℕ) (k : ℕ) (after : List ℕ) : T
   same : (z : List ℕ) → Fits after z → Digits most m (front ++ z) k z
 
 digit_moves : (most m : ℕ) (s : List ℕ) (k : ℕ) (after : List ℕ) → Digits most m s k after → DigitMoves most m s k after
-unfolding digit_fits
+unfolding expression_digit_fits
 digit_moves most m s _ _ (g.none e) = record { front = []; parts = refl; same = λ z h. g.none (digits_end most m s z h e) }
 digit_moves most m _ k after (g.digit {c = c} {s = s} e d) = (let i = digit_moves most _ s k after d in record { front = c ∷ i.front; parts = ap (λ (t : List ℕ). c ∷ t) i.parts; same = λ z h. g.digit e (i.same z h) })
 
-first_fits : (negative : Bool) (c : ℕ) (s : List ℕ) → is_digit c ≡ true → digit_fits (limit negative) 0 (c ∷ s) ≡ true
-unfolding digit_fits
+first_fits : (negative : Bool) (c : ℕ) (s : List ℕ) → is_expression_digit c ≡ true → expression_digit_fits (limit negative) 0 (c ∷ s) ≡ true
+unfolding expression_digit_fits
 first_fits true c s h = grind (arith, nat_tests)
 first_fits false c s h = grind (arith, nat_tests)
 
 -- the digits of a number, of which one at least stands there
 record FirstDigit (negative : Bool) (s : List ℕ) (k : ℕ) (after : List ℕ) : Type 0 where
   moves : DigitMoves (limit negative) 0 s k after
-  begin : (z : List ℕ) → begins is_digit (moves.front ++ z) ≡ true
+  begin : (z : List ℕ) → begins is_expression_digit (moves.front ++ z) ≡ true
 
-first_digit : (negative : Bool) (s : List ℕ) (k : ℕ) (after : List ℕ) → begins is_digit s ≡ true → Digits (limit negative) 0 s k after → FirstDigit negative s k after
-unfolding begins digit_fits
+first_digit : (negative : Bool) (s : List ℕ) (k : ℕ) (after : List ℕ) → begins is_expression_digit s ≡ true → Digits (limit negative) 0 s k after → FirstDigit negative s k after
+unfolding begins expression_digit_fits
 first_digit negative [] _ _ h (g.none e) = absurd cc
 first_digit negative (c ∷ s) _ _ h (g.none e) = absurd (let x = first_fits negative c s h in cc)
 first_digit negative _ k after h (g.digit {c = c} {s = s} e d) =
@@ -229,7 +229,7 @@ number_moves s k r x =
       front = sign ++ (f.moves.front ++ bl.front);
       parts = minus_is x.negative s x.inside x.sign ∙ ap (λ (t : List ℕ). sign ++ t) (f.moves.parts ∙ ap (λ (t : List ℕ). f.moves.front ++ t) (bl.parts ∙ ap (λ (t : List ℕ). bl.front ++ t) (sym x.rest))) ∙ sym (shape r);
       same = λ z h.
-          (let h' : Fits (skip x.after) z = subst (λ (q : List ℕ). Fits q z) x.rest h in
+          (let h' : Fits (blanks_skipped x.after) z = subst (λ (q : List ℕ). Fits q z) x.rest h in
           subst (λ (t : List ℕ). Number t k z) (sym (shape z))
           (record {
             negative = x.negative;
@@ -238,9 +238,9 @@ number_moves s k r x =
             after = bl.front ++ z;
             sign = minus_sign x.negative (f.moves.front ++ (bl.front ++ z));
             first = f.begin (bl.front ++ z);
-            body = f.moves.same (bl.front ++ z) (fits_in x.after bl.front (skip x.after) z bl.parts h');
+            body = f.moves.same (bl.front ++ z) (fits_in x.after bl.front (blanks_skipped x.after) z bl.parts h');
             value = x.value;
-            rest = sym (bl.over z (near_clear (skip x.after) z (fits_near (skip x.after) z h')));
+            rest = sym (bl.over z (near_clear (blanks_skipped x.after) z (fits_near (blanks_skipped x.after) z h')));
           }));
     }
 
@@ -249,9 +249,9 @@ number_moves s k r x =
 pub literal_jumps : (w s r : List ℕ) → Literal w s r → Jumps (Literal w) s r
 literal_jumps w s r b =
     let bl = blanks b.after in
-    at_jumps (Literal w) s (w ++ b.after) r (skip b.after) b.parts b.rest (record {
+    at_jumps (Literal w) s (w ++ b.after) r (blanks_skipped b.after) b.parts b.rest (record {
       front = w ++ bl.front;
-      parts = ap (λ (t : List ℕ). w ++ t) bl.parts ∙ sym (append_assoc w bl.front (skip b.after));
+      parts = ap (λ (t : List ℕ). w ++ t) bl.parts ∙ sym (append_assoc w bl.front (blanks_skipped b.after));
       same = λ z h. record { after = bl.front ++ z; parts = append_assoc w bl.front z; rest = sym (bl.over z h) };
     })
 
@@ -265,10 +265,10 @@ pub context_string_steps : (s : List ℕ) (c : Context) (r : List ℕ) → Conte
 context_string_steps s c r x =
     let bl = blanks x.after in
     let w = context_text c in
-    at_steps (ContextStringOf c) s (x.mark ∷ (w ++ x.mark ∷ x.after)) r (skip x.after) x.parts x.rest (record {
+    at_steps (ContextStringOf c) s (x.mark ∷ (w ++ x.mark ∷ x.after)) r (blanks_skipped x.after) x.parts x.rest (record {
       front = x.mark ∷ (w ++ x.mark ∷ bl.front);
-      parts = ap (λ (t : List ℕ). x.mark ∷ t) (ap (λ (t : List ℕ). w ++ x.mark ∷ t) bl.parts ∙ sym (append_assoc w (x.mark ∷ bl.front) (skip x.after)));
-      same = λ z h. record { mark = x.mark; after = bl.front ++ z; parts = ap (λ (t : List ℕ). x.mark ∷ t) (append_assoc w (x.mark ∷ bl.front) z); is_mark = x.is_mark; rest = sym (bl.over z (near_clear (skip x.after) z h)) };
+      parts = ap (λ (t : List ℕ). x.mark ∷ t) (ap (λ (t : List ℕ). w ++ x.mark ∷ t) bl.parts ∙ sym (append_assoc w (x.mark ∷ bl.front) (blanks_skipped x.after)));
+      same = λ z h. record { mark = x.mark; after = bl.front ++ z; parts = ap (λ (t : List ℕ). x.mark ∷ t) (append_assoc w (x.mark ∷ bl.front) z); is_mark = x.is_mark; rest = sym (bl.over z (near_clear (blanks_skipped x.after) z h)) };
     })
 
 abbrev pub JoinOf : List ℕ → List ℕ → List ℕ → Type 0

@@ -6,10 +6,10 @@ use Rattle.htl_expr.specs.declared.stop.Stop.{Stop}
 use Rattle.htl_expr.specs.declared.stop.Stop.TheVariants.{Memory, Unexpected, TooDeep}
 use Rattle.htl_expr.specs.declared.expression.Expr.{Expr}
 use Rattle.htl_expr.specs.declared.tokens.NameKind.TheVariants.{Field}
-use Rattle.htl_expr.specs.Tokens.{is_at, begins, goes_on, is_letter, is_word}
-use Rattle.htl_expr.specs.Read.{read}
+use Rattle.htl_expr.specs.Tokens.{is_at, begins, goes_on, is_letter, is_word_byte}
+use Rattle.htl_expr.specs.Read.{expression_read}
 use Rattle.htl_expr.specs.Grammar.{WholeWithin}
-use Rattle.htl_expr.specs.Fault.{nests, SameHead, Agree, HasNone, colon_letter, passes, takes_colon, place_of}
+use Rattle.htl_expr.specs.Fault.{nests, SameHead, Agree, HasNone, colon_letter, passes, takes_colon, fault_place}
 use Rattle.htl_expr.proofs.TokensRead.{eqb_is, byte_at}
 use Rattle.htl_expr.proofs.Unique.{only_err}
 use Rattle.htl_expr.proofs.Local.{Same, same_behind, head_in, IsAt, moved}
@@ -18,14 +18,14 @@ use Rattle.htl_expr.proofs.LocalOptions.{Left, failed}
 module _ (levels : ℕ) where
   -- a text that isn't read
   abbrev IsRefused : List ℕ → Type 0
-  IsRefused t = (d : Stop) × (read levels t ≡ Err d)
+  IsRefused t = (d : Stop) × (expression_read levels t ≡ Err d)
 
   no_colon : (r z : List ℕ) → is_at 58 r ≡ false → SameHead r z → Same r z
   unfolding is_at goes_on
   no_colon [] [] n h = (tt, λ e. e)
   no_colon [] (d ∷ z) n h = absurd h
   no_colon (c ∷ r) [] n h = absurd h
-  no_colon (c ∷ r) (d ∷ z) n h = (h, λ e. (let a : goes_on Field (c ∷ z) ≡ true = ap (λ (x : ℕ). is_word x || (eqb x 58 && begins is_letter z)) h ∙ e in let b : (is_word c || (false && begins is_letter z)) ≡ true = ap (λ (y : Bool). is_word c || (y && begins is_letter z)) (sym n) ∙ a in ap (λ (y : Bool). is_word c || (y && begins is_letter r)) n ∙ b))
+  no_colon (c ∷ r) (d ∷ z) n h = (h, λ e. (let a : goes_on Field (c ∷ z) ≡ true = ap (λ (x : ℕ). is_word_byte x || (eqb x 58 && begins is_letter z)) h ∙ e in let b : (is_word_byte c || (false && begins is_letter z)) ≡ true = ap (λ (y : Bool). is_word_byte c || (y && begins is_letter z)) (sym n) ∙ a in ap (λ (y : Bool). is_word_byte c || (y && begins is_letter r)) n ∙ b))
 
   colon_same : (z : List ℕ) → is_at 58 z ≡ true → Same colon_letter z
   unfolding is_at goes_on begins
@@ -69,16 +69,16 @@ module _ (levels : ℕ) where
   rest_len front (TooDeep left) begin rest e i p = deep_rest front begin rest e i.1
 
   colon_refused : (front z : List ℕ) → takes_colon levels front ≡ false → is_at 58 z ≡ true → IsRefused (front ++ z)
-  colon_refused front z alone at = go (read levels (front ++ colon_letter)) refl alone
+  colon_refused front z alone at = go (expression_read levels (front ++ colon_letter)) refl alone
     where
       by_fault : (d : Stop) → Left levels d (front ++ colon_letter) → passes (Err d) ≡ false → IsRefused (front ++ z)
       by_fault d k p =
           let q = part front colon_letter k.front k.rest k.parts (rest_len front d k.front k.rest k.parts k.left p) in
           let near : Same k.rest (q.middle ++ z) = subst (λ (t : List ℕ). Same t (q.middle ++ z)) (sym q.rest_is) (head_in q.middle colon_letter z (colon_same z at)) in
           let parts : front ++ z ≡ k.front ++ (q.middle ++ z) = ap (λ (t : List ℕ). t ++ z) q.front_is ∙ append_assoc k.front q.middle z in
-          (moved d (length (q.middle ++ z)), ap (read levels) parts ∙ k.same (q.middle ++ z) near)
+          (moved d (length (q.middle ++ z)), ap (expression_read levels) parts ∙ k.same (q.middle ++ z) near)
 
-      go : (o : Result Expr Stop) → read levels (front ++ colon_letter) ≡ o → passes o ≡ false → IsRefused (front ++ z)
+      go : (o : Result Expr Stop) → expression_read levels (front ++ colon_letter) ≡ o → passes o ≡ false → IsRefused (front ++ z)
       go (Ok e) r p = absurd cc
       go (Err d) r p = by_fault d (failed levels d (front ++ colon_letter) r) p
 
@@ -100,7 +100,7 @@ module _ (levels : ℕ) where
           let t_is : t ≡ front ++ z = sym (take-append-drop (length front) t) ∙ ap (λ (q : List ℕ). q ++ z) (agree.front ∙ front_is) in
           let near : SameHead rest z = subst (λ (q : List ℕ). SameHead q z) rest_is agree.here in
           let f = refused z near in
-          only_err levels t f.0 (ap (read levels) t_is ∙ f.1) e w
+          only_err levels t f.0 (ap (expression_read levels) t_is ∙ f.1) e w
 
   none_plain : (d : Stop) (s : List ℕ) (k : Left levels d s) → is_at 58 k.rest ≡ false → HasNone levels s (length k.front)
   none_plain d s k plain = none_from s k.front k.rest k.parts (λ z h. (moved d (length z), k.same z (no_colon k.rest z plain h)))
@@ -113,7 +113,7 @@ module _ (levels : ℕ) where
       let rest_is : k.rest ≡ 58 ∷ u = byte_at 58 k.rest at in
       let parts : s ≡ front ++ u = k.parts ∙ ap (λ (t : List ℕ). k.front ++ t) rest_is ∙ sym (append_assoc k.front (58 ∷ []) u) in
       subst (HasNone levels s) (length-append k.front (58 ∷ []))
-      (none_from s front u parts (λ z h. (moved d (length (58 ∷ z)), ap (read levels) (append_assoc k.front (58 ∷ []) z) ∙ k.same (58 ∷ z) (subst (λ (t : List ℕ). Same t (58 ∷ z)) (sym rest_is) (same_behind 58 u z h)))))
+      (none_from s front u parts (λ z h. (moved d (length (58 ∷ z)), ap (expression_read levels) (append_assoc k.front (58 ∷ []) z) ∙ k.same (58 ∷ z) (subst (λ (t : List ℕ). Same t (58 ∷ z)) (sym rest_is) (same_behind 58 u z h)))))
 
   colon_head : (r z : List ℕ) → SameHead r z → is_at 58 r ≡ true → is_at 58 z ≡ true
   unfolding is_at
@@ -125,16 +125,16 @@ module _ (levels : ℕ) where
   front_len : (d : Stop) (s : List ℕ) (k : Left levels d s) (left : ℕ) → length k.rest ≡ left → length s - left ≡ length k.front
   front_len d s k left len = omega (arith, ap length k.parts, length-append k.front k.rest, len)
 
-  place_is : (d : Stop) (s : List ℕ) (k : Left levels d s) → place_of levels s (length k.front) ≡ cond (is_at 58 k.rest && takes_colon levels k.front) (length k.front + 1) (length k.front)
+  place_is : (d : Stop) (s : List ℕ) (k : Left levels d s) → fault_place levels s (length k.front) ≡ cond (is_at 58 k.rest && takes_colon levels k.front) (length k.front + 1) (length k.front)
   place_is d s k =
       let front_is : take (length k.front) s ≡ k.front = ap (λ (q : List ℕ). take (length k.front) q) k.parts ∙ take_at k.front k.rest (length k.front) refl in
       let rest_is : drop (length k.front) s ≡ k.rest = ap (λ (q : List ℕ). drop (length k.front) q) k.parts ∙ drop_at k.front k.rest (length k.front) refl in
       ap (λ (q : List ℕ). cond (is_at 58 q && takes_colon levels (take (length k.front) s)) (length k.front + 1) (length k.front)) rest_is ∙ ap (λ (q : List ℕ). cond (is_at 58 k.rest && takes_colon levels q) (length k.front + 1) (length k.front)) front_is
 
-  pub none_left : (s : List ℕ) (left : ℕ) → read levels s ≡ Err (Unexpected left) → HasNone levels s (place_of levels s (length s - left))
+  pub none_left : (s : List ℕ) (left : ℕ) → expression_read levels s ≡ Err (Unexpected left) → HasNone levels s (fault_place levels s (length s - left))
   none_left s left e =
       let len : length s - left ≡ length k.front = front_len (Unexpected left) s k left k.left in
-      subst (HasNone levels s) (sym (ap (place_of levels s) len ∙ place_is (Unexpected left) s k)) (go (is_at 58 k.rest) (takes_colon levels k.front) refl refl)
+      subst (HasNone levels s) (sym (ap (fault_place levels s) len ∙ place_is (Unexpected left) s k)) (go (is_at 58 k.rest) (takes_colon levels k.front) refl refl)
     where
       k : Left levels (Unexpected left) s
       k = failed levels (Unexpected left) s e
@@ -149,12 +149,12 @@ module _ (levels : ℕ) where
   deep_plain [] e = absurd cc
   deep_plain (c ∷ rest) e = grind (arith, nat_tests)
 
-  pub none_deep : (s : List ℕ) (left : ℕ) → read levels s ≡ Err (TooDeep left) → HasNone levels s (length s - left)
+  pub none_deep : (s : List ℕ) (left : ℕ) → expression_read levels s ≡ Err (TooDeep left) → HasNone levels s (length s - left)
   none_deep s left e =
       let k = failed levels (TooDeep left) s e in
       subst (HasNone levels s) (sym (front_len (TooDeep left) s k left k.left.0)) (none_plain (TooDeep left) s k (deep_plain k.rest k.left.1))
 
-  pub nests_deep : (s : List ℕ) (left : ℕ) → read levels s ≡ Err (TooDeep left) → begins nests (drop (length s - left) s) ≡ true
+  pub nests_deep : (s : List ℕ) (left : ℕ) → expression_read levels s ≡ Err (TooDeep left) → begins nests (drop (length s - left) s) ≡ true
   nests_deep s left e =
       let k = failed levels (TooDeep left) s e in
       let rest_is : drop (length k.front) s ≡ k.rest = ap (λ (q : List ℕ). drop (length k.front) q) k.parts ∙ drop_at k.front k.rest (length k.front) refl in

@@ -6,7 +6,7 @@ use Rattle.htl_expr.specs.declared.node.Node.TheVariants as n
 use Rattle.htl_expr.specs.declared.tokens.NameKind.TheVariants.{Name, Field}
 use Rattle.htl_expr.specs.declared.reader.Inside.{Inside}
 use Rattle.htl_expr.specs.declared.reader.Inside.TheVariants as i
-use Rattle.htl_expr.specs.Tokens.{Outcome, ◌>>=◌, skip, is_at, begins, expect, string, number, name, is_digit, is_quote}
+use Rattle.htl_expr.specs.Tokens.{Outcome, ◌>>=◌, blanks_skipped, is_at, begins, expect, string, signed_number, read_name, is_expression_digit, is_quote}
 use Rattle.htl_expr.specs.Read as spec
 use Rattle.htl_expr.specs.Grammar.{Byte, Operator, Separator, And, Or, Comma, Separates, Part, part_of, Choice, Either, Both, Compare, Operand, Atom, Start, Items, Reads, More, Access, Accesses}
 use Rattle.htl_expr.specs.Grammar as g
@@ -27,7 +27,7 @@ part_inside i.Items = Items
 -- one level deeper, behind the byte that nests it
 abbrev pub Deeper : Inside → ℕ → List ℕ → Node × List ℕ → Type 0
 Deeper which zero s p = ⊥
-Deeper which (suc depth) s p = Gave (part_inside which) depth (skip (drop 1 s)) p
+Deeper which (suc depth) s p = Gave (part_inside which) depth (blanks_skipped (drop 1 s)) p
 
 abbrev pub Inner : ℕ → (Inside → List ℕ → Outcome Node) → Type 0
 Inner depth inner = (which : Inside) (s : List ℕ) (p : Node × List ℕ) → inner which s ≡ Ok p → Deeper which depth s p
@@ -87,17 +87,17 @@ bracketed_sound (suc d) t x at e =
     elim (chosen (eqb (suc d) 0) _ _ _ e) [
       | inl k ↦ absurd cc
       | inr k ↦
-          let w = bind_ok (string (skip (drop 1 t))) (λ s. expect 93 s.1 >>= λ r'. Ok (s.0, r')) x k.1 in
+          let w = bind_ok (string (blanks_skipped (drop 1 t))) (λ s. expect 93 s.1 >>= λ r'. Ok (s.0, r')) x k.1 in
           let close = bind_ok (expect 93 w.0.1) (λ r'. Ok (w.0.0, r')) x w.2 in
           subst (λ (q : List ℕ × List ℕ). Access (suc d) t q.0 q.1) (ok_is _ _ close.2)
-          (g.bracket (byte 91 t at) (string_sound (skip (drop 1 t)) w.0 w.1) (expect_sound 93 w.0.1 close.0 close.1))
+          (g.bracket (byte 91 t at) (string_sound (blanks_skipped (drop 1 t)) w.0 w.1) (expect_sound 93 w.0.1 close.0 close.1))
     ]
 
 pub access_sound : (depth : ℕ) (t : List ℕ) (x : List ℕ × List ℕ) → spec.access_at t ≡ true → spec.access depth t ≡ Ok x → Access depth t x.0 x.1
 unfolding spec.access spec.access_at
 access_sound depth t x at e =
     elim (chosen (is_at 46 t) _ _ _ e) [
-      | inl h ↦ g.field (byte 46 t h.0) (name_sound Field (skip (drop 1 t)) x h.1)
+      | inl h ↦ g.field (byte 46 t h.0) (name_sound Field (blanks_skipped (drop 1 t)) x h.1)
       | inr h ↦ bracketed_sound depth t x (rw h.0 at at) h.1
     ]
 
@@ -129,7 +129,7 @@ accesses_sound depth (suc k) found t p e =
 named_sound : (depth : ℕ) → Sound Start depth (spec.name_or_object depth)
 unfolding spec.name_or_object
 named_sound depth s p e =
-    let x = bind_ok (name Name s) (λ x. spec.name_or_object_of depth (spec.object_of x.0) x.0 x.1) p e in
+    let x = bind_ok (read_name Name s) (λ x. spec.name_or_object_of depth (spec.object_of x.0) x.0 x.1) p e in
     go (spec.object_of x.0.0) x.0 refl (name_sound Name s x.0 x.1) x.2
   where
     go : (o : Option (List ℕ → Node)) (w : List ℕ × List ℕ) → spec.object_of w.0 ≡ o → g.NameToken Name s w.0 w.1 → spec.name_or_object_of depth o w.0 w.1 ≡ Ok p → Gave Start depth s p
@@ -146,9 +146,9 @@ leaf_sound depth s p e =
           let w = bind_ok (string s) (λ x. Ok (n.Text x.0, x.1)) p h.1 in
           subst (Gave Start depth s) (ok_is _ _ w.2) (g.string (string_sound s w.0 w.1))
       | inr h ↦
-          elim (chosen (is_at 45 s || begins is_digit s) _ _ _ h.1) [
+          elim (chosen (is_at 45 s || begins is_expression_digit s) _ _ _ h.1) [
             | inl k ↦
-                let w = bind_ok (number s) (λ x. Ok (n.Long x.0, x.1)) p k.1 in
+                let w = bind_ok (signed_number s) (λ x. Ok (n.Long x.0, x.1)) p k.1 in
                 subst (Gave Start depth s) (ok_is _ _ w.2) (g.number (number_sound s w.0 w.1))
             | inr k ↦ named_sound depth s p k.1
           ]
@@ -254,9 +254,9 @@ module _ (depth : ℕ) (inner : Inside → List ℕ → Outcome Node) (deeper : 
 pub nested_sound : (depth : ℕ) → Inner depth (spec.nesting depth)
 unfolding spec.nesting
 nested_sound zero which s p e = absurd cc
-nested_sound (suc d) i.Choice s p e = choice_sound d (spec.nesting d) (nested_sound d) (skip (drop 1 s)) p e
-nested_sound (suc d) i.Operand s p e = operand_sound d (spec.nesting d) (nested_sound d) (skip (drop 1 s)) p e
-nested_sound (suc d) i.Items s p e = items_sound d (spec.nesting d) (nested_sound d) (skip (drop 1 s)) p e
+nested_sound (suc d) i.Choice s p e = choice_sound d (spec.nesting d) (nested_sound d) (blanks_skipped (drop 1 s)) p e
+nested_sound (suc d) i.Operand s p e = operand_sound d (spec.nesting d) (nested_sound d) (blanks_skipped (drop 1 s)) p e
+nested_sound (suc d) i.Items s p e = items_sound d (spec.nesting d) (nested_sound d) (blanks_skipped (drop 1 s)) p e
 
 pub sound : (depth : ℕ) → Sound Choice depth (spec.choice depth (spec.nesting depth))
 sound depth = choice_sound depth (spec.nesting depth) (nested_sound depth)

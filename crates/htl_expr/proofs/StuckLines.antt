@@ -5,7 +5,7 @@ use Rattle.htl_expr.specs.declared.node.Node.{Node}
 use Rattle.htl_expr.specs.declared.node.Node.TheVariants as n
 use Rattle.htl_expr.specs.declared.reader.Inside.{Inside}
 use Rattle.htl_expr.specs.declared.reader.Inside.TheVariants as i
-use Rattle.htl_expr.specs.Tokens.{Outcome, ◌>>=◌, skip, is_at, begins, expect, goes_on}
+use Rattle.htl_expr.specs.Tokens.{Outcome, ◌>>=◌, blanks_skipped, is_at, begins, expect, goes_on}
 use Rattle.htl_expr.specs.Read as spec
 use Rattle.htl_expr.specs.Grammar.{Byte, And, Or, Comma, Part, Choice, Either, Both, Compare, Operand, Atom, Start, Items, Reads, More}
 use Rattle.htl_expr.specs.Grammar as g
@@ -24,16 +24,16 @@ use Rattle.htl_expr.proofs.StuckParts.{SomePart, Sticks, moves_some, SomeAccesse
 -- one level deeper, behind the byte that nests it; where none may nest, reading stopped at that byte
 abbrev DeepStuck : Inside → ℕ → List ℕ → ℕ → Type 0
 DeepStuck which zero s k = length s ≡ k
-DeepStuck which (suc depth) s k = Stuck (SomePart (sound.part_inside which) depth) (skip (drop 1 s)) k
+DeepStuck which (suc depth) s k = Stuck (SomePart (sound.part_inside which) depth) (blanks_skipped (drop 1 s)) k
 
 abbrev InnerSticks : ℕ → (Inside → List ℕ → Outcome Node) → Type 0
 InnerSticks depth inner = (which : Inside) (s : List ℕ) (d : Stop) (k : ℕ) → inner which s ≡ Err d → At d k → DeepStuck which depth s k
 
 -- behind the byte that nests it
-deep_late : (c : ℕ) (s : List ℕ) (k : ℕ) (R : List ℕ → List ℕ → Type 0) → is_at c s ≡ true → Stuck R (skip (drop 1 s)) k → Late (Then (Byte c) R) s k
+deep_late : (c : ℕ) (s : List ℕ) (k : ℕ) (R : List ℕ → List ℕ → Type 0) → is_at c s ≡ true → Stuck R (blanks_skipped (drop 1 s)) k → Late (Then (Byte c) R) s k
 deep_late c s k R at q =
     let b = byte c s at in
-    steps_late (Byte c) R s (skip (drop 1 s)) k (byte_steps c s (skip (drop 1 s)) b) (byte-short c s (skip (drop 1 s)) b) q
+    steps_late (Byte c) R s (blanks_skipped (drop 1 s)) k (byte_steps c s (blanks_skipped (drop 1 s)) b) (byte-short c s (blanks_skipped (drop 1 s)) b) q
 
 not_stuck : (depth : ℕ) (s : List ℕ) (k : ℕ) → is_at 33 s ≡ true → DeepStuck i.Operand depth s k → Stuck (SomePart Operand depth) s k
 not_stuck zero s k at q = stuck_map (SomePart Start 0) (SomePart Operand 0) s k (λ s' r' x. part.atom_operand 0 s' r' (part.start_atom 0 s' r' x)) (start_missing 0 s k q)
@@ -43,15 +43,15 @@ not_stuck (suc d) s k at q = stuck_map (Then (Byte 33) (SomePart Operand d)) (So
 
 module _ (begin close : ℕ) (inside : Part) (close_plain : (z : List ℕ) → Plain (close ∷ z)) (make : (d : ℕ) (s r : List ℕ) → Then (Byte begin) (Then (SomePart inside d) (Byte close)) s r → SomePart Start (suc d) s r) where
   -- a bracket is open
-  opened : (d : ℕ) (s : List ℕ) (k : ℕ) → is_at begin s ≡ true → Stuck (Then (SomePart inside d) (Byte close)) (skip (drop 1 s)) k → Stuck (SomePart Start (suc d)) s k
+  opened : (d : ℕ) (s : List ℕ) (k : ℕ) → is_at begin s ≡ true → Stuck (Then (SomePart inside d) (Byte close)) (blanks_skipped (drop 1 s)) k → Stuck (SomePart Start (suc d)) s k
   opened d s k at q = stuck_map (Then (Byte begin) (Then (SomePart inside d) (Byte close))) (SomePart Start (suc d)) s k (make d) (deep_late begin s k (Then (SomePart inside d) (Byte close)) at q).stuck
 
-  pub inside_stuck : (d : ℕ) (s : List ℕ) (k : ℕ) → is_at begin s ≡ true → Stuck (SomePart inside d) (skip (drop 1 s)) k → Stuck (SomePart Start (suc d)) s k
-  inside_stuck d s k at q = opened d s k at (stuck_then (SomePart inside d) (Byte close) (skip (drop 1 s)) k (close ∷ []) q (λ z p. close_plain z) (λ z p. byte_of close z (plain_settled z p)))
+  pub inside_stuck : (d : ℕ) (s : List ℕ) (k : ℕ) → is_at begin s ≡ true → Stuck (SomePart inside d) (blanks_skipped (drop 1 s)) k → Stuck (SomePart Start (suc d)) s k
+  inside_stuck d s k at q = opened d s k at (stuck_then (SomePart inside d) (Byte close) (blanks_skipped (drop 1 s)) k (close ∷ []) q (λ z p. close_plain z) (λ z p. byte_of close z (plain_settled z p)))
 
-  pub close_stuck : (d : ℕ) (s : List ℕ) (x : Node × List ℕ) (stop : Stop) (k : ℕ) → is_at begin s ≡ true → Reads inside d (skip (drop 1 s)) x.0 x.1 → expect close x.1 ≡ Err stop → At stop k → Stuck (SomePart Start (suc d)) s k
+  pub close_stuck : (d : ℕ) (s : List ℕ) (x : Node × List ℕ) (stop : Stop) (k : ℕ) → is_at begin s ≡ true → Reads inside d (blanks_skipped (drop 1 s)) x.0 x.1 → expect close x.1 ≡ Err stop → At stop k → Stuck (SomePart Start (suc d)) s k
   close_stuck d s x stop k at q e a =
-      opened d s k at (moves_stuck (SomePart inside d) (Byte close) (skip (drop 1 s)) x.1 k (moves_some inside d (skip (drop 1 s)) x.0 x.1 q) (byte_missing close close_plain x.1 stop k e a))
+      opened d s k at (moves_stuck (SomePart inside d) (Byte close) (blanks_skipped (drop 1 s)) x.1 k (moves_some inside d (blanks_skipped (drop 1 s)) x.0 x.1 q) (byte_missing close close_plain x.1 stop k e a))
 
 round_of : (d : ℕ) (s r : List ℕ) → Then (Byte 40) (Then (SomePart Choice d) (Byte 41)) s r → SomePart Start (suc d) s r
 round_of d s r x = (x.2.1.0, g.inside x.1 x.2.1.1 x.2.2)
@@ -90,14 +90,14 @@ colon_plain z = (refl, refl, refl)
 one_colon : (d : ℕ) (z : List ℕ) → Plain z → Colon d (58 ∷ operand z) z
 one_colon d z p = (operand z, byte_of 58 (operand z) (operand_settled z), part.one_choice d z p)
 
-with_condition : (d : ℕ) (s : List ℕ) (c : Node × List ℕ) (k : ℕ) → Reads Either (suc d) s c.0 c.1 → is_at 63 c.1 ≡ true → Stuck (Branches d) (skip (drop 1 c.1)) k → Stuck (SomePart Choice (suc d)) s k
+with_condition : (d : ℕ) (s : List ℕ) (c : Node × List ℕ) (k : ℕ) → Reads Either (suc d) s c.0 c.1 → is_at 63 c.1 ≡ true → Stuck (Branches d) (blanks_skipped (drop 1 c.1)) k → Stuck (SomePart Choice (suc d)) s k
 with_condition d s c k x at q =
     stuck_map (Then (SomePart Either (suc d)) (Then (Byte 63) (Branches d))) (SomePart Choice (suc d)) s k (λ s' r' y. (n.Choice y.1.0 y.2.2.1.0 y.2.2.2.2.0, g.choice y.1.1 y.2.1 y.2.2.1.1 y.2.2.2.1 y.2.2.2.2.1))
     (moves_stuck (SomePart Either (suc d)) (Then (Byte 63) (Branches d)) s c.1 k (moves_some Either (suc d) s c.0 c.1 x) (deep_late 63 c.1 k (Branches d) at q))
 
 first_stuck : (depth : ℕ) (s : List ℕ) (c : Node × List ℕ) (k : ℕ) → Reads Either depth s c.0 c.1 → is_at 63 c.1 ≡ true → DeepStuck i.Choice depth c.1 k → Stuck (SomePart Choice depth) s k
 first_stuck zero s c k x at q = stuck_map (SomePart Either 0) (SomePart Choice 0) s k (part.either_choice 0) (moves_end (SomePart Either 0) s c.1 k (moves_some Either 0 s c.0 c.1 x) q)
-first_stuck (suc d) s c k x at q = with_condition d s c k x at (stuck_then (SomePart Choice d) (Colon d) (skip (drop 1 c.1)) k (58 ∷ 39 ∷ 39 ∷ []) q (λ z p. colon_plain z) (one_colon d))
+first_stuck (suc d) s c k x at q = with_condition d s c k x at (stuck_then (SomePart Choice d) (Colon d) (blanks_skipped (drop 1 c.1)) k (58 ∷ 39 ∷ 39 ∷ []) q (λ z p. colon_plain z) (one_colon d))
 
 colon_missing : (d : ℕ) (m : List ℕ) (k : ℕ) → length m ≡ k → Late (Colon d) m k
 colon_missing d m k e = record {
@@ -111,9 +111,9 @@ OtherStuck depth m k = (length m ≡ k) ⊎ ((is_at 58 m ≡ true) × DeepStuck 
 second_stuck : (depth : ℕ) (s : List ℕ) (c a : Node × List ℕ) (k : ℕ) → Reads Either depth s c.0 c.1 → is_at 63 c.1 ≡ true → sound.Deeper i.Choice depth c.1 a → OtherStuck depth a.1 k → Stuck (SomePart Choice depth) s k
 second_stuck zero s c a k x at y o = absurd y
 second_stuck (suc d) s c a k x at y (inl e) =
-    with_condition d s c k x at (moves_stuck (SomePart Choice d) (Colon d) (skip (drop 1 c.1)) a.1 k (moves_some Choice d (skip (drop 1 c.1)) a.0 a.1 y) (colon_missing d a.1 k e))
+    with_condition d s c k x at (moves_stuck (SomePart Choice d) (Colon d) (blanks_skipped (drop 1 c.1)) a.1 k (moves_some Choice d (blanks_skipped (drop 1 c.1)) a.0 a.1 y) (colon_missing d a.1 k e))
 second_stuck (suc d) s c a k x at y (inr o) =
-    with_condition d s c k x at (moves_stuck (SomePart Choice d) (Colon d) (skip (drop 1 c.1)) a.1 k (moves_some Choice d (skip (drop 1 c.1)) a.0 a.1 y) (deep_late 58 a.1 k (SomePart Choice d) o.0 o.1))
+    with_condition d s c k x at (moves_stuck (SomePart Choice d) (Colon d) (blanks_skipped (drop 1 c.1)) a.1 k (moves_some Choice d (blanks_skipped (drop 1 c.1)) a.0 a.1 y) (deep_late 58 a.1 k (SomePart Choice d) o.0 o.1))
 
 -- ---- each line, where what stands deeper can be completed
 
@@ -281,7 +281,7 @@ module _ (depth : ℕ) (inner : Inside → List ℕ → Outcome Node) (deeper : 
 nested_stuck : (depth : ℕ) → InnerSticks depth (spec.nesting depth)
 unfolding spec.nesting
 nested_stuck zero which s d k e a = at_depth (length s) d k e a
-nested_stuck (suc depth) which s d k e a = level_stuck depth (spec.nesting depth) (sound.nested_sound depth) (nested_stuck depth) which (skip (drop 1 s)) d k e a
+nested_stuck (suc depth) which s d k e a = level_stuck depth (spec.nesting depth) (sound.nested_sound depth) (nested_stuck depth) which (blanks_skipped (drop 1 s)) d k e a
 
 -- a choice in which reading stopped, for any reason but a lack of memory
 pub stuck : (depth : ℕ) → Sticks Choice depth (spec.choice depth (spec.nesting depth))

@@ -3,7 +3,7 @@ use Rattle.std.proofs.Common.{◌≡◌, ℕ, true, List, [], ◌∷◌, ◌++�
 use Rattle.htl_expr.specs.declared.stop.Stop.{Stop}
 use Rattle.htl_expr.specs.declared.expression.Context.{Context}
 use Rattle.htl_expr.specs.declared.expression.Context.TheVariants.{Text, Unsafe}
-use Rattle.htl_expr.specs.Tokens.{◌>>=◌, skip, is_at, begins, is_quote, expect, literal, string}
+use Rattle.htl_expr.specs.Tokens.{◌>>=◌, blanks_skipped, is_at, begins, is_quote, expect, literal, string}
 use Rattle.htl_expr.specs.Read as spec
 use Rattle.htl_expr.specs.Grammar.{Byte, Literal, ContextString, context_text, Join, InContext}
 use Rattle.htl_expr.proofs.Tools.{chosen}
@@ -90,17 +90,17 @@ module _ (A : Type 0) (c : ℕ) (w more : List ℕ) (Q : List ℕ → List ℕ �
     ends = λ z p. ((61 ∷ more) ++ z, record { after = (61 ∷ more) ++ z; parts = append_assoc (c ∷ w) (61 ∷ more) z; rest = sym (sign_settled z) }, (more ++ z, byte_of 61 (more ++ z) (settled z), make z p));
   }
 
-  pub option_cut : (s : List ℕ) (d : Stop) (k : ℕ) → (literal (c ∷ w) s >>= λ a. expect 61 (skip a) >>= λ b. value b) ≡ Err d → At d k → Cut (Then (Literal (c ∷ w)) Behind) s k
-  option_cut s d k e a = elim (bind_err (literal (c ∷ w) s) (λ x. expect 61 (skip x) >>= λ b. value b) d e) [
+  pub option_cut : (s : List ℕ) (d : Stop) (k : ℕ) → (literal (c ∷ w) s >>= λ a. expect 61 (blanks_skipped a) >>= λ b. value b) ≡ Err d → At d k → Cut (Then (Literal (c ∷ w)) Behind) s k
+  option_cut s d k e a = elim (bind_err (literal (c ∷ w) s) (λ x. expect 61 (blanks_skipped x) >>= λ b. value b) d e) [
     | inl at ↦ word_cut c w s d k Behind (61 ∷ more) first sign_settled (λ z p. (more ++ z, byte_of 61 (more ++ z) (settled z), make z p)) at a
     | inr x ↦
-        let word : Literal (c ∷ w) s (skip x.0) = record { after = x.0; parts = whole.literal_parts (c ∷ w) s x.0 x.1; rest = refl } in
-        elim (bind_err (expect 61 (skip x.0)) (λ b. value b) d x.2) [
-          | inl at ↦ jumps_cut (Literal (c ∷ w)) Behind s (skip x.0) k (literal_jumps (c ∷ w) s (skip x.0) word) (sign_cut Q more (skip x.0) d k settled make at a)
+        let word : Literal (c ∷ w) s (blanks_skipped x.0) = record { after = x.0; parts = whole.literal_parts (c ∷ w) s x.0 x.1; rest = refl } in
+        elim (bind_err (expect 61 (blanks_skipped x.0)) (λ b. value b) d x.2) [
+          | inl at ↦ jumps_cut (Literal (c ∷ w)) Behind s (blanks_skipped x.0) k (literal_jumps (c ∷ w) s (blanks_skipped x.0) word) (sign_cut Q more (blanks_skipped x.0) d k settled make at a)
           | inr b ↦
-              let sign = expect_sound 61 (skip x.0) b.0 b.1 in
-              jumps_cut (Literal (c ∷ w)) Behind s (skip x.0) k (literal_jumps (c ∷ w) s (skip x.0) word)
-              (jumps_cut (Byte 61) Q (skip x.0) b.0 k (byte_jumps 61 (skip x.0) b.0 sign) (sticks b.0 d k b.2 a))
+              let sign = expect_sound 61 (blanks_skipped x.0) b.0 b.1 in
+              jumps_cut (Literal (c ∷ w)) Behind s (blanks_skipped x.0) k (literal_jumps (c ∷ w) s (blanks_skipped x.0) word)
+              (jumps_cut (Byte 61) Q (blanks_skipped x.0) b.0 k (byte_jumps 61 (blanks_skipped x.0) b.0 sign) (sticks b.0 d k b.2 a))
         ]
   ]
 

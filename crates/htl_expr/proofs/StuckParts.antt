@@ -4,7 +4,7 @@ use Rattle.htl_expr.specs.declared.stop.Stop.{Stop}
 use Rattle.htl_expr.specs.declared.node.Node.{Node}
 use Rattle.htl_expr.specs.declared.node.Node.TheVariants as n
 use Rattle.htl_expr.specs.declared.tokens.NameKind.TheVariants.{Name}
-use Rattle.htl_expr.specs.Tokens.{Outcome, ◌>>=◌, skip, is_at, begins, goes_on, is_digit, is_quote, is_first, expect, name, number, string}
+use Rattle.htl_expr.specs.Tokens.{Outcome, ◌>>=◌, blanks_skipped, is_at, begins, goes_on, is_expression_digit, is_quote, is_first, expect, read_name, signed_number, string}
 use Rattle.htl_expr.specs.Read as spec
 use Rattle.htl_expr.specs.Grammar.{Byte, NameToken, String, Separator, And, Or, Comma, Separates, Part, part_of, Choice, Either, Both, Compare, Operand, Atom, Start, Reads, More, Access, Accesses}
 use Rattle.htl_expr.specs.Grammar as g
@@ -62,7 +62,7 @@ bracketed_stuck zero t d k at e a = access_missing zero t k (at_depth (length t)
 bracketed_stuck (suc depth) t d k at e a = elim (chosen (eqb (suc depth) 0) _ _ _ e) [
   | inl h ↦ access_missing (suc depth) t k (at_depth (length t) d k h.1 a)
   | inr h ↦
-      let m = skip (drop 1 t) in
+      let m = blanks_skipped (drop 1 t) in
       let b = byte 91 t at in
       let R = Then SomeString (Byte 93) in
       let late : Stuck R m k → Late (SomeAccess (suc depth)) t k = λ q.
@@ -85,7 +85,7 @@ access_stuck depth t d k at e a = elim (chosen (is_at 46 t) _ _ _ e) [
   | inl h ↦
       let b = byte 46 t h.0 in
       late_map (Then (Byte 46) SomeField) (SomeAccess depth) t k (λ s' r' x. (x.2.0, g.field x.1 x.2.1))
-      (steps_late (Byte 46) SomeField t (skip (drop 1 t)) k (byte_steps 46 t (skip (drop 1 t)) b) (byte-short 46 t (skip (drop 1 t)) b) (field_stuck (skip (drop 1 t)) d k h.1 a))
+      (steps_late (Byte 46) SomeField t (blanks_skipped (drop 1 t)) k (byte_steps 46 t (blanks_skipped (drop 1 t)) b) (byte-short 46 t (blanks_skipped (drop 1 t)) b) (field_stuck (blanks_skipped (drop 1 t)) d k h.1 a))
   | inr h ↦ bracketed_stuck depth t d k (rw h.0 at at) h.1 a
 ]
 
@@ -167,8 +167,8 @@ object_stuck depth s w m (Some make) d k o t e a = elim (bind_err (spec.first_ac
 ]
 
 named_stuck : (depth : ℕ) → Sticks Start depth (spec.name_or_object depth)
-unfolding spec.name_or_object name
-named_stuck depth s d k e a = elim (bind_err (name Name s) (λ x. spec.name_or_object_of depth (spec.object_of x.0) x.0 x.1) d e) [
+unfolding spec.name_or_object read_name
+named_stuck depth s d k e a = elim (bind_err (read_name Name s) (λ x. spec.name_or_object_of depth (spec.object_of x.0) x.0 x.1) d e) [
   | inl at ↦
       elim (chosen (begins is_first s) _ _ _ at) [
         | inl h ↦ absurd (let x = h.1 in cc)
@@ -186,9 +186,9 @@ leaf_stuck depth s d k e a = elim (chosen (begins is_quote s) _ _ _ e) [
         | inr at ↦ absurd (let x = at.2 in cc)
       ]
   | inr h ↦
-      elim (chosen (is_at 45 s || begins is_digit s) _ _ _ h.1) [
+      elim (chosen (is_at 45 s || begins is_expression_digit s) _ _ _ h.1) [
         | inl j ↦
-            elim (bind_err (number s) (λ x. Ok (n.Long x.0, x.1)) d j.1) [
+            elim (bind_err (signed_number s) (λ x. Ok (n.Long x.0, x.1)) d j.1) [
               | inl at ↦ stuck_map SomeNumber (SomePart Start depth) s k (λ s' r' x. (n.Long x.0, g.number x.1)) (number_stuck s d k j.0 at a)
               | inr at ↦ absurd (let x = at.2 in cc)
             ]

@@ -4,7 +4,7 @@ use Rattle.htl_expr.specs.declared.stop.Stop.{Stop}
 use Rattle.htl_expr.specs.declared.tokens.NameKind.TheVariants.{Field}
 use Rattle.htl_expr.specs.declared.node.Comparison.{Comparison}
 use Rattle.htl_expr.specs.declared.node.Comparison.TheVariants.{Equal, NotEqual}
-use Rattle.htl_expr.specs.Tokens.{is_at, begins, goes_on, is_first, is_digit, is_quote, expect, second, name, unescape, string_after_escape, string, string_from, digits, number, digit_fits, limit}
+use Rattle.htl_expr.specs.Tokens.{is_at, begins, goes_on, is_first, is_expression_digit, is_quote, expect, second, read_name, unescape, string_after_escape, string, string_from, digits, signed_number, expression_digit_fits, limit}
 use Rattle.htl_expr.specs.Read as spec
 use Rattle.htl_expr.specs.Fault.{SameHead}
 use Rattle.htl_expr.specs.Grammar.{Byte, Operator, NameToken, StringBody, String, Number, Compares}
@@ -142,8 +142,8 @@ pub one_field : (z : List ℕ) → Plain z → NameToken Field (95 ∷ z) (95 �
 unfolding begins goes_on
 one_field z p = record { after = z; parts = refl; first = refl; passes = (refl, tt); longest = plain_ends Field z p; rest = sym (plain_settled z p) }
 
-pub field_stuck : (s : List ℕ) (d : Stop) (k : ℕ) → name Field s ≡ Err d → At d k → Stuck SomeField s k
-unfolding name
+pub field_stuck : (s : List ℕ) (d : Stop) (k : ℕ) → read_name Field s ≡ Err d → At d k → Stuck SomeField s k
+unfolding read_name
 field_stuck s d k e a = elim (chosen (begins is_first s) _ _ _ e) [
   | inl h ↦ absurd (let x = h.1 in cc)
   | inr h ↦ record { front = []; rest = s; more = 95 ∷ []; parts = refl; left = at_length (length s) d k h.1 a; near = λ z p. inr (refl, refl, refl); ends = λ z p. (95 ∷ [], one_field z p) }
@@ -153,7 +153,7 @@ abbrev pub SomeNumber : List ℕ → List ℕ → Type 0
 SomeNumber s r = (k : ℤ) × Number s k r
 
 minus_one : (z : List ℕ) → Plain z → SomeNumber (45 ∷ 49 ∷ z) z
-unfolding begins digit_fits
+unfolding begins expression_digit_fits
 minus_one z p = (
   _,
   record {
@@ -169,11 +169,11 @@ minus_one z p = (
   },
 )
 
-pub number_stuck : (s : List ℕ) (d : Stop) (k : ℕ) → (is_at 45 s || begins is_digit s) ≡ true → number s ≡ Err d → At d k → Stuck SomeNumber s k
-unfolding number digits
+pub number_stuck : (s : List ℕ) (d : Stop) (k : ℕ) → (is_at 45 s || begins is_expression_digit s) ≡ true → signed_number s ≡ Err d → At d k → Stuck SomeNumber s k
+unfolding signed_number digits
 number_stuck s d k at e a = elim (chosen (is_at 45 s) _ _ _ e) [
   | inl h ↦
-      elim (chosen (begins is_digit (drop 1 s)) _ _ _ h.1) [
+      elim (chosen (begins is_expression_digit (drop 1 s)) _ _ _ h.1) [
         | inl j ↦ absurd (let x = j.1 in cc)
         | inr j ↦ record {
           front = 45 ∷ [];
@@ -186,8 +186,8 @@ number_stuck s d k at e a = elim (chosen (is_at 45 s) _ _ _ e) [
         }
       ]
   | inr h ↦
-      let begin : begins is_digit s ≡ true = rw h.0 at at in
-      elim (chosen (begins is_digit s) _ _ _ h.1) [
+      let begin : begins is_expression_digit s ≡ true = rw h.0 at at in
+      elim (chosen (begins is_expression_digit s) _ _ _ h.1) [
         | inl j ↦ absurd (let x = j.1 in cc)
         | inr j ↦ absurd (let x = j.0 in cc)
       ]

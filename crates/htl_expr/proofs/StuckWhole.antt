@@ -6,7 +6,7 @@ use Rattle.htl_expr.specs.declared.stop.Stop.TheVariants.{Unexpected}
 use Rattle.htl_expr.specs.declared.node.Node.{Node}
 use Rattle.htl_expr.specs.declared.expression.Context.{Context}
 use Rattle.htl_expr.specs.declared.expression.Expr.{Expr}
-use Rattle.htl_expr.specs.Tokens.{◌>>=◌, skip, is_at, goes_on}
+use Rattle.htl_expr.specs.Tokens.{◌>>=◌, blanks_skipped, is_at, goes_on}
 use Rattle.htl_expr.specs.Read as spec
 use Rattle.htl_expr.specs.Grammar.{Byte, Join, InContext, Options, Tree, WholeWithin, Choice}
 use Rattle.htl_expr.specs.Grammar as g
@@ -40,7 +40,7 @@ to_end s r (join_context {w = w} {m = m} {c = c} b j comma x) e = (Some w, Some 
 to_end s r (context_join {m = m} {w = w} {c = c} b x comma j) e = (Some w, Some c, g.context_join b x comma (subst (λ (t : List ℕ). Join m w t) e j))
 
 -- behind a byte that ends a name
-byte_late : (c : ℕ) (s : List ℕ) (k : ℕ) (Q : List ℕ → List ℕ → Type 0) → Quiet c → is_at c s ≡ true → Cut Q (skip (drop 1 s)) k → Late (Then (Byte c) Q) s k
+byte_late : (c : ℕ) (s : List ℕ) (k : ℕ) (Q : List ℕ → List ℕ → Type 0) → Quiet c → is_at c s ≡ true → Cut Q (blanks_skipped (drop 1 s)) k → Late (Then (Byte c) Q) s k
 byte_late c s k Q quiet at q =
     let bl = blanks (drop 1 s) in
     let shape : (t : List ℕ) → c ∷ ((bl.front ++ q.front) ++ t) ≡ c ∷ (bl.front ++ (q.front ++ t)) = λ t. ap (λ (u : List ℕ). c ∷ u) (append_assoc bl.front q.front t) in
@@ -113,17 +113,17 @@ after_context c s d k e a = elim (chosen (is_at 106 s) _ _ _ e) [
 ]
 
 -- the second option behind the first
-second_late : (t m : List ℕ) (given : spec.Given) (rest : List ℕ) (d : Stop) (k : ℕ) → Byte 64 t m → whole.Adds (None, None) m given rest → is_at 44 rest ≡ true → spec.option given (skip (drop 1 rest)) ≡ Err d → At d k → Late SomeOptions t k
+second_late : (t m : List ℕ) (given : spec.Given) (rest : List ℕ) (d : Stop) (k : ℕ) → Byte 64 t m → whole.Adds (None, None) m given rest → is_at 44 rest ≡ true → spec.option given (blanks_skipped (drop 1 rest)) ≡ Err d → At d k → Late SomeOptions t k
 second_late t m _ rest d k b (whole.joins {w = w} n j) at e a =
     late_map (Then (Then (Byte 64) (JoinOf w)) (Then (Byte 44) SomeContext)) SomeOptions t k (λ s' r' x. join_context x.1.1 x.1.2 x.2.1 x.2.2.1)
     (moves_late (Then (Byte 64) (JoinOf w)) (Then (Byte 44) SomeContext) t rest k
     (moves_of (Then (Byte 64) (JoinOf w)) (Then (Byte 64) (JoinOf w)) t rest (λ s' r' x. x) (steps_steps (Byte 64) (JoinOf w) t m rest (byte_steps 64 t m b) (join_steps m w rest j)))
-    (byte_late 44 rest k SomeContext quiet_comma at (after_join w (skip (drop 1 rest)) d k e a)))
+    (byte_late 44 rest k SomeContext quiet_comma at (after_join w (blanks_skipped (drop 1 rest)) d k e a)))
 second_late t m _ rest d k b (whole.contexts {c = c} n x) at e a =
     late_map (Then (Then (Byte 64) (InContextOf c)) (Then (Byte 44) SomeJoin)) SomeOptions t k (λ s' r' y. context_join y.1.1 y.1.2 y.2.1 y.2.2.1)
     (moves_late (Then (Byte 64) (InContextOf c)) (Then (Byte 44) SomeJoin) t rest k
     (moves_of (Then (Byte 64) (InContextOf c)) (Then (Byte 64) (InContextOf c)) t rest (λ s' r' y. y) (steps_steps (Byte 64) (InContextOf c) t m rest (byte_steps 64 t m b) (in_context_steps m c rest x)))
-    (byte_late 44 rest k SomeJoin quiet_comma at (after_context c (skip (drop 1 rest)) d k e a)))
+    (byte_late 44 rest k SomeJoin quiet_comma at (after_context c (blanks_skipped (drop 1 rest)) d k e a)))
 
 one_option : (s r : List ℕ) → Then (Byte 64) SomeOption s r → SomeOptions s r
 one_option s r (m, b, inl j) = join b j.1
@@ -133,8 +133,8 @@ options_stuck : (t : List ℕ) (d : Stop) (k : ℕ) → spec.options t ≡ Err d
 unfolding spec.options
 options_stuck t d k e a = elim (chosen (is_at 64 t) _ _ _ e) [
   | inl h ↦
-      let m = skip (drop 1 t) in
-      elim (bind_err (spec.option (None, None) m) (λ o. cond (is_at 44 o.1) (spec.option o.0 (skip (drop 1 o.1))) (Ok o)) d h.1) [
+      let m = blanks_skipped (drop 1 t) in
+      elim (bind_err (spec.option (None, None) m) (λ o. cond (is_at 44 o.1) (spec.option o.0 (blanks_skipped (drop 1 o.1))) (Ok o)) d h.1) [
         | inl at ↦ late_map (Then (Byte 64) SomeOption) SomeOptions t k one_option (byte_late 64 t k SomeOption quiet_options h.0 (first_cut m d k at a))
         | inr o ↦
             elim (chosen (is_at 44 o.0.1) _ _ _ o.2) [
@@ -171,11 +171,11 @@ options_moves : (t : List ℕ) (p : spec.Given × List ℕ) → spec.options t �
 unfolding spec.options
 options_moves t p e = elim (chosen (is_at 64 t) _ _ _ e) [
   | inl h ↦
-      let m = skip (drop 1 t) in
-      let o = bind_ok (spec.option (None, None) m) (λ o. cond (is_at 44 o.1) (spec.option o.0 (skip (drop 1 o.1))) (Ok o)) p h.1 in
+      let m = blanks_skipped (drop 1 t) in
+      let o = bind_ok (spec.option (None, None) m) (λ o. cond (is_at 44 o.1) (spec.option o.0 (blanks_skipped (drop 1 o.1))) (Ok o)) p h.1 in
       let one = whole.option_sound (None, None) m o.0 o.1 in
       elim (chosen (is_at 44 o.0.1) _ _ _ o.2) [
-        | inl j ↦ second_moves t m o.0.1 (skip (drop 1 o.0.1)) o.0.0 p.0 p.1 (byte 64 t h.0) one (byte 44 o.0.1 j.0) (whole.option_sound o.0.0 (skip (drop 1 o.0.1)) p j.1)
+        | inl j ↦ second_moves t m o.0.1 (blanks_skipped (drop 1 o.0.1)) o.0.0 p.0 p.1 (byte 64 t h.0) one (byte 44 o.0.1 j.0) (whole.option_sound o.0.0 (blanks_skipped (drop 1 o.0.1)) p j.1)
         | inr j ↦ subst (Moved t) (ok_is _ _ j.1) (first_moves t m o.0.0 o.0.1 (byte 64 t h.0) one)
       ]
   | inr h ↦ subst (Moved t) (ok_is _ _ h.1) (none_moves SomeOptions t (λ z. none))
@@ -191,8 +191,8 @@ module _ (levels : ℕ) where
   tree_moves s None r x = subst (λ (t : List ℕ). Moves SomeTree s t) (sym x) (none_moves SomeTree s (λ z. (None, refl)))
   tree_moves s (Some e) r x = moves_map (ReadsOf Choice levels e) SomeTree s r (λ s' r' y. (Some e, y)) (reads_moves Choice levels s e r x)
 
-  tree_stuck : (s : List ℕ) (d : Stop) (k : ℕ) → spec.first levels s ≡ Err d → At d k → Stuck SomeTree s k
-  unfolding spec.first
+  tree_stuck : (s : List ℕ) (d : Stop) (k : ℕ) → spec.optional_choice levels s ≡ Err d → At d k → Stuck SomeTree s k
+  unfolding spec.optional_choice
   tree_stuck s d k e a = elim (chosen (eqb (length s) 0 || is_at 64 s) _ _ _ e) [
     | inl h ↦ absurd (let x = h.1 in cc)
     | inr h ↦
@@ -207,28 +207,28 @@ module _ (levels : ℕ) where
   abbrev Text : List ℕ → List ℕ → Type 0
   Text = Then SomeTree SomeOptions
 
-  text_stuck : (s : List ℕ) (d : Stop) (k : ℕ) → spec.read levels s ≡ Err d → At d k → Stuck Text (skip s) k
-  unfolding spec.read
-  text_stuck s d k e a = elim (bind_err (spec.first levels (skip s)) (λ x. spec.options x.1 >>= λ o. cond (eqb (length o.1) 0) (Ok (spec.expr_of x.0 o.0)) (Err (Unexpected (length o.1)))) d e) [
-    | inl at ↦ stuck_then SomeTree SomeOptions (skip s) k [] (tree_stuck (skip s) d k at a) (λ z p. p) (λ z p. none)
+  text_stuck : (s : List ℕ) (d : Stop) (k : ℕ) → spec.expression_read levels s ≡ Err d → At d k → Stuck Text (blanks_skipped s) k
+  unfolding spec.expression_read
+  text_stuck s d k e a = elim (bind_err (spec.optional_choice levels (blanks_skipped s)) (λ x. spec.options x.1 >>= λ o. cond (eqb (length o.1) 0) (Ok (spec.expr_of x.0 o.0)) (Err (Unexpected (length o.1)))) d e) [
+    | inl at ↦ stuck_then SomeTree SomeOptions (blanks_skipped s) k [] (tree_stuck (blanks_skipped s) d k at a) (λ z p. p) (λ z p. none)
     | inr x ↦
-        let tree = tree_moves (skip s) x.0.0 x.0.1 (whole.first_sound levels (skip s) x.0 x.1) in
+        let tree = tree_moves (blanks_skipped s) x.0.0 x.0.1 (whole.first_sound levels (blanks_skipped s) x.0 x.1) in
         elim (bind_err (spec.options x.0.1) (λ o. cond (eqb (length o.1) 0) (Ok (spec.expr_of x.0.0 o.0)) (Err (Unexpected (length o.1)))) d x.2) [
-          | inl at ↦ moves_stuck SomeTree SomeOptions (skip s) x.0.1 k tree (options_stuck x.0.1 d k at a)
+          | inl at ↦ moves_stuck SomeTree SomeOptions (blanks_skipped s) x.0.1 k tree (options_stuck x.0.1 d k at a)
           | inr o ↦
               elim (chosen (eqb (length o.0.1) 0) _ _ _ o.2) [
                 | inl h ↦ absurd (let y = h.1 in cc)
-                | inr h ↦ moves_end Text (skip s) o.0.1 k (moves_then SomeTree SomeOptions (skip s) x.0.1 o.0.1 tree (options_moves x.0.1 o.0 o.1)) (at_length (length o.0.1) d k h.1 a)
+                | inr h ↦ moves_end Text (blanks_skipped s) o.0.1 k (moves_then SomeTree SomeOptions (blanks_skipped s) x.0.1 o.0.1 tree (options_moves x.0.1 o.0 o.1)) (at_length (length o.0.1) d k h.1 a)
               ]
         ]
   ]
 
-  whole_of : (t : List ℕ) → Text (skip t) [] → (e : Expr) × WholeWithin levels t e
+  whole_of : (t : List ℕ) → Text (blanks_skipped t) [] → (e : Expr) × WholeWithin levels t e
   whole_of t x =
       let o = to_end x.0 [] x.2 refl in
       (spec.expr_of x.1.0 (o.0, o.1), record { behind = x.0; tree = x.1.1; options = o.2 })
 
-  finish : (s : List ℕ) (k : ℕ) → Stuck Text (skip s) k → MayGoOn levels s (length s - k)
+  finish : (s : List ℕ) (k : ℕ) → Stuck Text (blanks_skipped s) k → MayGoOn levels s (length s - k)
   finish s k q =
       let bl = blanks s in
       let more = q.more ++ [] in
@@ -236,10 +236,10 @@ module _ (levels : ℕ) where
       let len : length s - k ≡ length (bl.front ++ q.front) = omega (arith, ap length parts, length-append (bl.front ++ q.front) q.rest, q.left) in
       let front_is : take (length s - k) s ≡ bl.front ++ q.front = ap (λ (i : ℕ). take i s) len ∙ ap (λ (t : List ℕ). take (length (bl.front ++ q.front)) t) parts ∙ take_at (bl.front ++ q.front) q.rest (length (bl.front ++ q.front)) refl in
       let text_is : take (length s - k) s ++ more ≡ bl.front ++ (q.front ++ more) = ap (λ (t : List ℕ). t ++ more) front_is ∙ append_assoc bl.front q.front more in
-      let behind : skip (take (length s - k) s ++ more) ≡ q.front ++ more = ap skip text_is ∙ bl.over (q.front ++ more) (near_clear (skip s) (q.front ++ more) (q.near [] tt)) in
+      let behind : blanks_skipped (take (length s - k) s ++ more) ≡ q.front ++ more = ap blanks_skipped text_is ∙ bl.over (q.front ++ more) (near_clear (blanks_skipped s) (q.front ++ more) (q.near [] tt)) in
       let x = whole_of (take (length s - k) s ++ more) (subst (λ (t : List ℕ). Text t []) (sym behind) (q.ends [] tt)) in
       record { more = more; tree = x.0; whole = x.1 }
 
   -- what stands before the byte at which reading stopped may go on
-  pub stopped : (s : List ℕ) (d : Stop) (k : ℕ) → spec.read levels s ≡ Err d → At d k → MayGoOn levels s (length s - k)
+  pub stopped : (s : List ℕ) (d : Stop) (k : ℕ) → spec.expression_read levels s ≡ Err d → At d k → MayGoOn levels s (length s - k)
   stopped s d k e a = finish s k (text_stuck s d k e a)

@@ -4,7 +4,7 @@ use Rattle.std.proofs.lemmas.List.{take_at, drop_at, length-append}
 use Rattle.std.proofs.lemmas.Bool.Decides.{nat_tests}
 use Rattle.htl_expr.specs.declared.tokens.NameKind.{NameKind}
 use Rattle.htl_expr.specs.declared.node.Comparison.{Comparison}
-use Rattle.htl_expr.specs.Tokens.{skip, is_at, begins, is_blank, expect, second, name_len, goes_on, name, string, string_from, is_digit, is_first, is_quote, digits_from, digits, number, limit, signed}
+use Rattle.htl_expr.specs.Tokens.{blanks_skipped, is_at, begins, is_blank, expect, second, name_len, goes_on, read_name, string, string_from, is_expression_digit, is_first, is_quote, expression_digits_from, digits, signed_number, limit, signed}
 use Rattle.htl_expr.specs.Read.{comparison, compares, or_equal}
 use Rattle.htl_expr.specs.Grammar.{Byte, Operator, Bare, NameToken, String, StringBody, Passes, Digits, Number, Sign, Compares}
 use Rattle.htl_expr.specs.Grammar as g
@@ -31,7 +31,7 @@ pub at_here : (c : ℕ) (s r : List ℕ) → Byte c s r → is_at c s ≡ true
 unfolding is_at
 at_here c s r b = rw b.parts (eqb_same c)
 
-pub behind : (c : ℕ) (s r : List ℕ) → Byte c s r → skip (drop 1 s) ≡ r
+pub behind : (c : ℕ) (s r : List ℕ) → Byte c s r → blanks_skipped (drop 1 s) ≡ r
 behind c s r b = rw (b.parts, b.rest) refl
 
 pub expect_again : (c : ℕ) (s r : List ℕ) → Byte c s r → expect c s ≡ Ok r
@@ -52,13 +52,13 @@ name_len-is kind [] [] p e = refl
 name_len-is kind [] (c ∷ after) p e = rw e refl
 name_len-is kind (c ∷ w) after p e = rw p.0 (ap suc (name_len-is kind w after p.1 e))
 
-pub name_again : (kind : NameKind) (s w r : List ℕ) → NameToken kind s w r → name kind s ≡ Ok (w, r)
-unfolding name
+pub name_again : (kind : NameKind) (s w r : List ℕ) → NameToken kind s w r → read_name kind s ≡ Ok (w, r)
+unfolding read_name
 name_again kind s w r x =
     let begin : begins is_first (w ++ x.after) ≡ true = rw x.parts at x.first in
     rw (x.parts, begin, name_len-is kind w x.after x.passes x.longest, take_at w x.after (length w) refl, drop_at w x.after (length w) refl, x.rest) refl
 
-quoted_again : (mark : ℕ) (s w after : List ℕ) → eqb 92 mark ≡ false → StringBody mark s w after → string_from false mark s ≡ Ok (w, skip after)
+quoted_again : (mark : ℕ) (s w after : List ℕ) → eqb 92 mark ≡ false → StringBody mark s w after → string_from false mark s ≡ Ok (w, blanks_skipped after)
 unfolding string_from
 quoted_again mark _ _ _ m g.closes = rw (eqb_same mark) refl
 quoted_again mark _ _ _ m (g.plain a b q) = rw (a, b, quoted_again mark _ _ _ m q) refl
@@ -80,47 +80,47 @@ pub string_begins : (s w r : List ℕ) → String s w r → begins is_quote s �
 unfolding begins
 string_begins s w r x = rw x.parts x.is_mark
 
-digits_from_again : (most m : ℕ) (s : List ℕ) (k : ℕ) (after : List ℕ) → Digits most m s k after → digits_from most m s ≡ (k, after)
-unfolding digits_from
+digits_from_again : (most m : ℕ) (s : List ℕ) (k : ℕ) (after : List ℕ) → Digits most m s k after → expression_digits_from most m s ≡ (k, after)
+unfolding expression_digits_from
 digits_from_again most m [] _ _ (g.none e) = refl
 digits_from_again most m (c ∷ s) _ _ (g.none e) = rw e refl
 digits_from_again most m _ k after (g.digit e d) = rw e (digits_from_again most _ _ k after d)
 
-digits_again : (negative : Bool) (t : List ℕ) (m : ℕ) (after : List ℕ) → begins is_digit t ≡ true → Digits (limit negative) 0 t m after → digits negative t ≡ Ok (signed negative m, skip after)
+digits_again : (negative : Bool) (t : List ℕ) (m : ℕ) (after : List ℕ) → begins is_expression_digit t ≡ true → Digits (limit negative) 0 t m after → digits negative t ≡ Ok (signed negative m, blanks_skipped after)
 unfolding digits
 digits_again negative t m after h d = rw (h, digits_from_again (limit negative) 0 t m after d) refl
 
-number_by : (s : List ℕ) (negative : Bool) (t : List ℕ) → Sign negative s t → begins is_digit t ≡ true → number s ≡ digits negative t
-unfolding number is_at
+number_by : (s : List ℕ) (negative : Bool) (t : List ℕ) → Sign negative s t → begins is_expression_digit t ≡ true → signed_number s ≡ digits negative t
+unfolding signed_number is_at
 number_by s true t sign h = rw sign refl
-number_by s false t sign h = rw (sign, not_at is_digit 45 t h refl) refl
+number_by s false t sign h = rw (sign, not_at is_expression_digit 45 t h refl) refl
 
-pub number_again : (s : List ℕ) (k : ℤ) (r : List ℕ) → Number s k r → number s ≡ Ok (k, r)
+pub number_again : (s : List ℕ) (k : ℤ) (r : List ℕ) → Number s k r → signed_number s ≡ Ok (k, r)
 number_again s k r x =
     number_by s x.negative x.inside x.sign x.first ∙ digits_again x.negative x.inside x.magnitude x.after x.first x.body ∙ rw (x.value, x.rest) refl
 
-sign_begins : (s : List ℕ) (negative : Bool) (t : List ℕ) → Sign negative s t → begins is_digit t ≡ true → (is_at 45 s || begins is_digit s) ≡ true
+sign_begins : (s : List ℕ) (negative : Bool) (t : List ℕ) → Sign negative s t → begins is_expression_digit t ≡ true → (is_at 45 s || begins is_expression_digit s) ≡ true
 unfolding is_at
 sign_begins s true t sign h = rw sign refl
-sign_begins s false t sign h = rw (sign, not_at is_digit 45 t h refl) h
+sign_begins s false t sign h = rw (sign, not_at is_expression_digit 45 t h refl) h
 
-pub number_begins : (s : List ℕ) (k : ℤ) (r : List ℕ) → Number s k r → (is_at 45 s || begins is_digit s) ≡ true
+pub number_begins : (s : List ℕ) (k : ℤ) (r : List ℕ) → Number s k r → (is_at 45 s || begins is_expression_digit s) ≡ true
 number_begins s k r x = sign_begins s x.negative x.inside x.sign x.first
 
-sign_starts : (test : ℕ → Bool) (s : List ℕ) (negative : Bool) (t : List ℕ) → test 45 ≡ false → ((c : ℕ) → is_digit c ≡ true → test c ≡ false) → Sign negative s t → begins is_digit t ≡ true → begins test s ≡ false
+sign_starts : (test : ℕ → Bool) (s : List ℕ) (negative : Bool) (t : List ℕ) → test 45 ≡ false → ((c : ℕ) → is_expression_digit c ≡ true → test c ≡ false) → Sign negative s t → begins is_expression_digit t ≡ true → begins test s ≡ false
 unfolding begins
 sign_starts test s true t minus none sign h = rw sign minus
 sign_starts test s false [] minus none sign h = absurd cc
 sign_starts test s false (c ∷ t) minus none sign h = rw sign (none c h)
 
 -- a number begins with no byte of another kind
-pub number_starts : (test : ℕ → Bool) (s : List ℕ) (k : ℤ) (r : List ℕ) → test 45 ≡ false → ((c : ℕ) → is_digit c ≡ true → test c ≡ false) → Number s k r → begins test s ≡ false
+pub number_starts : (test : ℕ → Bool) (s : List ℕ) (k : ℤ) (r : List ℕ) → test 45 ≡ false → ((c : ℕ) → is_expression_digit c ≡ true → test c ≡ false) → Number s k r → begins test s ≡ false
 number_starts test s k r minus none x = sign_starts test s x.negative x.inside minus none x.sign x.first
 
-pub digit_quote : (c : ℕ) → is_digit c ≡ true → is_quote c ≡ false
+pub digit_quote : (c : ℕ) → is_expression_digit c ≡ true → is_quote c ≡ false
 digit_quote c h = grind (arith, nat_tests)
 
-pub digit_first : (c : ℕ) → is_first c ≡ true → is_digit c ≡ false
+pub digit_first : (c : ℕ) → is_first c ≡ true → is_expression_digit c ≡ false
 digit_first c h = grind (arith, nat_tests)
 
 pub first_quote : (c : ℕ) → is_first c ≡ true → is_quote c ≡ false
@@ -159,12 +159,12 @@ comparison_again s _ r (g.above o) = rw (o.parts, o.longest, o.rest) refl
 
 -- ---- what was read is taken off
 
-pub skip-short : (s : List ℕ) → length (skip s) ≤ length s
-unfolding skip
+pub skip-short : (s : List ℕ) → length (blanks_skipped s) ≤ length s
+unfolding blanks_skipped
 skip-short [] = omega arith
 skip-short (c ∷ s) = go (is_blank c) (skip-short s)
   where
-    go : (b : Bool) → length (skip s) ≤ length s → length (cond b (skip s) (c ∷ s)) ≤ length (c ∷ s)
+    go : (b : Bool) → length (blanks_skipped s) ≤ length s → length (cond b (blanks_skipped s) (c ∷ s)) ≤ length (c ∷ s)
     go true ih = omega arith
     go false ih = omega arith
 

@@ -4,7 +4,7 @@ use Rattle.std.proofs.lemmas.List.{take-append-drop}
 use Rattle.htl_expr.specs.declared.tokens.NameKind.{NameKind}
 use Rattle.htl_expr.specs.declared.node.Comparison.{Comparison}
 use Rattle.htl_expr.specs.declared.node.Comparison.TheVariants.{Equal, NotEqual, Below, Above, AtMost, AtLeast}
-use Rattle.htl_expr.specs.Tokens.{skip, is_at, begins, expect, second, name_len, goes_on, name, string, string_from, string_after_escape, unescape, is_digit, is_first, is_quote, digit_fits, digits_from, digits, number, limit}
+use Rattle.htl_expr.specs.Tokens.{blanks_skipped, is_at, begins, expect, second, name_len, goes_on, read_name, string, string_from, string_after_escape, unescape, is_expression_digit, is_first, is_quote, expression_digit_fits, expression_digits_from, digits, signed_number, limit}
 use Rattle.htl_expr.specs.Read.{comparison, compares, or_equal}
 use Rattle.htl_expr.specs.Grammar.{Byte, Operator, Bare, NameToken, String, StringBody, Passes, Digits, Number, Sign, Compares}
 use Rattle.htl_expr.specs.Grammar as g
@@ -18,7 +18,7 @@ unfolding is_at
 byte_at c [] e = absurd cc
 byte_at c (d ∷ s) e = ap (λ (x : ℕ). x ∷ s) (eqb_is d c e)
 
-pub byte : (c : ℕ) (s : List ℕ) → is_at c s ≡ true → Byte c s (skip (drop 1 s))
+pub byte : (c : ℕ) (s : List ℕ) → is_at c s ≡ true → Byte c s (blanks_skipped (drop 1 s))
 byte c s e = record { after = drop 1 s; parts = byte_at c s e; rest = refl }
 
 pub expect_sound : (c : ℕ) (s r : List ℕ) → expect c s ≡ Ok r → Byte c s r
@@ -55,8 +55,8 @@ ends_run kind (c ∷ s) = go (goes_on kind (c ∷ s)) refl (ends_run kind s)
     go true e ih = ih
     go false e ih = e
 
-pub name_sound : (kind : NameKind) (s : List ℕ) (p : List ℕ × List ℕ) → name kind s ≡ Ok p → NameToken kind s p.0 p.1
-unfolding name
+pub name_sound : (kind : NameKind) (s : List ℕ) (p : List ℕ × List ℕ) → read_name kind s ≡ Ok p → NameToken kind s p.0 p.1
+unfolding read_name
 name_sound kind s p e =
     elim (chosen (begins is_first s) _ _ _ e) [
       | inl h ↦
@@ -71,7 +71,7 @@ Inside true mark s w after = StringBody mark (92 ∷ s) w after
 Inside false mark s w after = StringBody mark s w after
 
 abbrev InsideOf : Bool → ℕ → List ℕ → List ℕ × List ℕ → Type 0
-InsideOf is_escaped mark s p = (after : List ℕ) × Inside is_escaped mark s p.0 after × (p.1 ≡ skip after)
+InsideOf is_escaped mark s p = (after : List ℕ) × Inside is_escaped mark s p.0 after × (p.1 ≡ blanks_skipped after)
 
 string_from_sound : (is_escaped : Bool) (mark : ℕ) (s : List ℕ) (p : List ℕ × List ℕ) → string_from is_escaped mark s ≡ Ok p → InsideOf is_escaped mark s p
 unfolding string_from
@@ -113,28 +113,28 @@ string_sound (c ∷ s) p e =
       | inr h ↦ absurd cc
     ]
 
-digits_from_sound : (most m : ℕ) (s : List ℕ) → Digits most m s (digits_from most m s).0 (digits_from most m s).1
-unfolding digits_from digit_fits
+digits_from_sound : (most m : ℕ) (s : List ℕ) → Digits most m s (expression_digits_from most m s).0 (expression_digits_from most m s).1
+unfolding expression_digits_from expression_digit_fits
 digits_from_sound most m [] = g.none refl
-digits_from_sound most m (c ∷ s) = go (digit_fits most m (c ∷ s)) refl (digits_from_sound most (m * 10 + (c - 48)) s)
+digits_from_sound most m (c ∷ s) = go (expression_digit_fits most m (c ∷ s)) refl (digits_from_sound most (m * 10 + (c - 48)) s)
   where
-    go : (b : Bool) → digit_fits most m (c ∷ s) ≡ b → Digits most (m * 10 + (c - 48)) s (digits_from most (m * 10 + (c - 48)) s).0 (digits_from most (m * 10 + (c - 48)) s).1
-        → Digits most m (c ∷ s) (cond b (digits_from most (m * 10 + (c - 48)) s) (m, c ∷ s)).0 (cond b (digits_from most (m * 10 + (c - 48)) s) (m, c ∷ s)).1
+    go : (b : Bool) → expression_digit_fits most m (c ∷ s) ≡ b → Digits most (m * 10 + (c - 48)) s (expression_digits_from most (m * 10 + (c - 48)) s).0 (expression_digits_from most (m * 10 + (c - 48)) s).1
+        → Digits most m (c ∷ s) (cond b (expression_digits_from most (m * 10 + (c - 48)) s) (m, c ∷ s)).0 (cond b (expression_digits_from most (m * 10 + (c - 48)) s) (m, c ∷ s)).1
     go true e ih = g.digit e ih
     go false e ih = g.none e
 
 digits_sound : (negative : Bool) (s t : List ℕ) (p : ℤ × List ℕ) → Sign negative s t → digits negative t ≡ Ok p → Number s p.0 p.1
 unfolding digits
 digits_sound negative s t p sign e =
-    elim (chosen (begins is_digit t) _ _ _ e) [
+    elim (chosen (begins is_expression_digit t) _ _ _ e) [
       | inl h ↦
           subst (λ (q : ℤ × List ℕ). Number s q.0 q.1) (ok_is _ _ h.1)
-          (record { negative = negative; magnitude = (digits_from (limit negative) 0 t).0; inside = t; after = (digits_from (limit negative) 0 t).1; sign = sign; first = h.0; body = digits_from_sound (limit negative) 0 t; value = refl; rest = refl })
+          (record { negative = negative; magnitude = (expression_digits_from (limit negative) 0 t).0; inside = t; after = (expression_digits_from (limit negative) 0 t).1; sign = sign; first = h.0; body = digits_from_sound (limit negative) 0 t; value = refl; rest = refl })
       | inr h ↦ absurd cc
     ]
 
-pub number_sound : (s : List ℕ) (p : ℤ × List ℕ) → number s ≡ Ok p → Number s p.0 p.1
-unfolding number
+pub number_sound : (s : List ℕ) (p : ℤ × List ℕ) → signed_number s ≡ Ok p → Number s p.0 p.1
+unfolding signed_number
 number_sound s p e =
     elim (chosen (is_at 45 s) _ _ _ e) [
       | inl h ↦ digits_sound true s (drop 1 s) p (byte_at 45 s h.0) h.1
@@ -151,8 +151,8 @@ or_equal_sound s c bare wide p at with_equal alone e =
     elim (chosen (is_at 61 (drop 1 s)) _ _ _ e) [
       | inl h ↦
           subst (IsCompared s) h.1
-          (with_equal (skip (drop 1 (drop 1 s))) (record { after = drop 1 (drop 1 s); parts = byte_at c s at ∙ ap (λ (t : List ℕ). c ∷ t) (byte_at 61 (drop 1 s) h.0); rest = refl }))
-      | inr h ↦ subst (IsCompared s) h.1 (alone (skip (drop 1 s)) (record { after = drop 1 s; parts = byte_at c s at; longest = h.0; rest = refl }))
+          (with_equal (blanks_skipped (drop 1 (drop 1 s))) (record { after = drop 1 (drop 1 s); parts = byte_at c s at ∙ ap (λ (t : List ℕ). c ∷ t) (byte_at 61 (drop 1 s) h.0); rest = refl }))
+      | inr h ↦ subst (IsCompared s) h.1 (alone (blanks_skipped (drop 1 s)) (record { after = drop 1 s; parts = byte_at c s at; longest = h.0; rest = refl }))
     ]
 
 pub comparison_sound : (s : List ℕ) (p : Comparison × List ℕ) → compares s ≡ true → comparison s ≡ Ok p → Compares s p.0 p.1

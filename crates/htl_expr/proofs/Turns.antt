@@ -2,7 +2,7 @@
 use Rattle.std.proofs.Common.{◌≡◌, ◌≢◌, ℕ, zero, suc, ◌+◌, ◌-◌, ◌<◌, true, List, [], ◌∷◌, ◌++◌, drop, Ok, refl, arith, sub-one}
 use Rattle.htl_expr.specs.declared.node.Node.{Node}
 use Rattle.htl_expr.specs.declared.reader.Inside.{Inside}
-use Rattle.htl_expr.specs.Tokens.{Outcome, is_at, skip}
+use Rattle.htl_expr.specs.Tokens.{Outcome, is_at, blanks_skipped}
 use Rattle.htl_expr.specs.Read.{chain, between, nesting, level, accesses, access, access_at}
 
 pub chain_more : (item : List ℕ → Outcome Node) (c n i : ℕ) (found : List Node) (t r : List ℕ) (x : Node) (after : List ℕ) → i < n → is_at c t ≡ true → between c t ≡ Ok r → item r ≡ Ok (x, after)
@@ -19,7 +19,7 @@ access_more depth n i found t x after lt at e =
     let k : n - i ≡ suc (n - (i + 1)) = omega arith in
     rw (k, at, e) refl
 
-pub nested_less : (depth : ℕ) (which : Inside) (t : List ℕ) → depth ≢ 0 → nesting depth which t ≡ level (depth - 1) (nesting (depth - 1)) which (skip (drop 1 t))
+pub nested_less : (depth : ℕ) (which : Inside) (t : List ℕ) → depth ≢ 0 → nesting depth which t ≡ level (depth - 1) (nesting (depth - 1)) which (blanks_skipped (drop 1 t))
 unfolding nesting
 nested_less zero which t h = absurd (h refl)
 nested_less (suc d) which t h = rw sub-one refl

@@ -2,15 +2,15 @@
 use Rattle.std.proofs.Common.{◌≡◌, ℕ, List, Ok, Err, sym, ◌∙◌}
 use Rattle.htl_expr.specs.declared.stop.Stop.{Stop}
 use Rattle.htl_expr.specs.declared.expression.Expr.{Expr}
-use Rattle.htl_expr.specs.Read.{read}
+use Rattle.htl_expr.specs.Read.{expression_read}
 use Rattle.htl_expr.specs.Grammar.{WholeWithin}
 use Rattle.htl_expr.proofs.Tools.{ok_is}
 use Rattle.htl_expr.proofs.WholeAgain.{read_again}
 
 -- a text has one expression
-pub only_ok : (levels : ℕ) (s : List ℕ) (found : Expr) → read levels s ≡ Ok found → (e : Expr) → WholeWithin levels s e → found ≡ e
+pub only_ok : (levels : ℕ) (s : List ℕ) (found : Expr) → expression_read levels s ≡ Ok found → (e : Expr) → WholeWithin levels s e → found ≡ e
 only_ok levels s found r e w = ok_is found e (sym r ∙ read_again levels s e w)
 
 -- a text that isn't read has none
-pub only_err : (levels : ℕ) (s : List ℕ) (d : Stop) → read levels s ≡ Err d → (e : Expr) → WholeWithin levels s e → ⊥
+pub only_err : (levels : ℕ) (s : List ℕ) (d : Stop) → expression_read levels s ≡ Err d → (e : Expr) → WholeWithin levels s e → ⊥
 only_err levels s d f e w = let x = sym f ∙ read_again levels s e w in absurd cc

@@ -4,7 +4,7 @@ use Rattle.htl_expr.specs.declared.node.Node.{Node}
 use Rattle.htl_expr.specs.declared.expression.Context.{Context}
 use Rattle.htl_expr.specs.declared.expression.Context.TheVariants.{Text, Unsafe}
 use Rattle.htl_expr.specs.declared.expression.Expr.{Expr}
-use Rattle.htl_expr.specs.Tokens.{skip, is_at, begins, expect, literal}
+use Rattle.htl_expr.specs.Tokens.{blanks_skipped, is_at, begins, expect, literal}
 use Rattle.htl_expr.specs.Read as spec
 use Rattle.htl_expr.specs.Grammar.{Byte, Literal, ContextString, context_text, Join, InContext, Options, Tree, WholeWithin, Reads, Choice}
 use Rattle.htl_expr.specs.Grammar as g
@@ -84,11 +84,11 @@ options_stop s _ _ (g.join_context at j comma c) = at_stops s _ at
 options_stop s _ _ (g.context_join at c comma j) = at_stops s _ at
 
 module _ (levels : ℕ) where
-  first_tree : (s : List ℕ) (tree : Option Node) (r : List ℕ) → Tree levels s tree r → Stops Choice r × ((eqb (length r) 0 || is_at 64 r) ≡ true) → spec.first levels s ≡ Ok (tree, r)
-  unfolding spec.first
+  first_tree : (s : List ℕ) (tree : Option Node) (r : List ℕ) → Tree levels s tree r → Stops Choice r × ((eqb (length r) 0 || is_at 64 r) ≡ true) → spec.optional_choice levels s ≡ Ok (tree, r)
+  unfolding spec.optional_choice
   first_tree s None r e st = rw (sym e, st.1) refl
   first_tree s (Some e) r x st = rw (part_some Choice levels s e r x tt, part_at 64 Choice levels s e r foreign_options x tt, complete Choice levels s e r x st.0) refl
 
-  pub read_again : (s : List ℕ) (e : Expr) → WholeWithin levels s e → spec.read levels s ≡ Ok e
-  unfolding spec.read
-  read_again s e w = rw (first_tree (skip s) e.node w.behind w.tree (options_stop w.behind e.join e.context w.options), options_again w.behind e.join e.context w.options) refl
+  pub read_again : (s : List ℕ) (e : Expr) → WholeWithin levels s e → spec.expression_read levels s ≡ Ok e
+  unfolding spec.expression_read
+  read_again s e w = rw (first_tree (blanks_skipped s) e.node w.behind w.tree (options_stop w.behind e.join e.context w.options), options_again w.behind e.join e.context w.options) refl

@@ -5,7 +5,7 @@ use Rattle.htl_expr.specs.declared.node.Node.{Node}
 use Rattle.htl_expr.specs.declared.expression.Context.{Context}
 use Rattle.htl_expr.specs.declared.expression.Context.TheVariants.{Text, Unsafe}
 use Rattle.htl_expr.specs.declared.expression.Expr.{Expr}
-use Rattle.htl_expr.specs.Tokens.{◌>>=◌, skip, is_at, begins, is_quote, expect, literal, string}
+use Rattle.htl_expr.specs.Tokens.{◌>>=◌, blanks_skipped, is_at, begins, is_quote, expect, literal, string}
 use Rattle.htl_expr.specs.Read as spec
 use Rattle.htl_expr.specs.Grammar.{Byte, Literal, ContextString, context_text, Join, InContext, Options, Tree, WholeWithin, Reads, Choice}
 use Rattle.htl_expr.specs.Grammar as g
@@ -54,26 +54,26 @@ context_string_sound (c ∷ s) p e =
 join_sound : (s : List ℕ) (p : List ℕ × List ℕ) → spec.join_option s ≡ Ok p → Join s p.0 p.1
 unfolding spec.join_option
 join_sound s p e =
-    let a = bind_ok (literal (codes "join") s) (λ a. expect 61 (skip a) >>= λ b. string b) p e in
-    let b = bind_ok (expect 61 (skip a.0)) (λ b. string b) p a.2 in
+    let a = bind_ok (literal (codes "join") s) (λ a. expect 61 (blanks_skipped a) >>= λ b. string b) p e in
+    let b = bind_ok (expect 61 (blanks_skipped a.0)) (λ b. string b) p a.2 in
     record {
-      behind_word = skip a.0;
+      behind_word = blanks_skipped a.0;
       behind_sign = b.0;
       word = record { after = a.0; parts = literal_parts (codes "join") s a.0 a.1; rest = refl };
-      sign = expect_sound 61 (skip a.0) b.0 b.1;
+      sign = expect_sound 61 (blanks_skipped a.0) b.0 b.1;
       value = string_sound b.0 p b.2;
     }
 
 in_context_sound : (s : List ℕ) (p : Context × List ℕ) → spec.context_option s ≡ Ok p → InContext s p.0 p.1
 unfolding spec.context_option
 in_context_sound s p e =
-    let a = bind_ok (literal (codes "context") s) (λ a. expect 61 (skip a) >>= λ b. spec.context_string b) p e in
-    let b = bind_ok (expect 61 (skip a.0)) (λ b. spec.context_string b) p a.2 in
+    let a = bind_ok (literal (codes "context") s) (λ a. expect 61 (blanks_skipped a) >>= λ b. spec.context_string b) p e in
+    let b = bind_ok (expect 61 (blanks_skipped a.0)) (λ b. spec.context_string b) p a.2 in
     record {
-      behind_word = skip a.0;
+      behind_word = blanks_skipped a.0;
       behind_sign = b.0;
       word = record { after = a.0; parts = literal_parts (codes "context") s a.0 a.1; rest = refl };
-      sign = expect_sound 61 (skip a.0) b.0 b.1;
+      sign = expect_sound 61 (blanks_skipped a.0) b.0 b.1;
       value = context_string_sound b.0 p b.2;
     }
 
@@ -121,11 +121,11 @@ unfolding spec.options
 options_sound s p e =
     elim (chosen (is_at 64 s) _ _ _ e) [
       | inl h ↦
-          let o = bind_ok (spec.option (None, None) (skip (drop 1 s))) (λ o. cond (is_at 44 o.1) (spec.option o.0 (skip (drop 1 o.1))) (Ok o)) p h.1 in
-          let one = option_sound (None, None) (skip (drop 1 s)) o.0 o.1 in
+          let o = bind_ok (spec.option (None, None) (blanks_skipped (drop 1 s))) (λ o. cond (is_at 44 o.1) (spec.option o.0 (blanks_skipped (drop 1 o.1))) (Ok o)) p h.1 in
+          let one = option_sound (None, None) (blanks_skipped (drop 1 s)) o.0 o.1 in
           elim (chosen (is_at 44 o.0.1) _ _ _ o.2) [
-            | inl k ↦ λ nil. second_option s (skip (drop 1 s)) o.0.1 (skip (drop 1 o.0.1)) o.0.0 p.0 p.1 (byte 64 s h.0) one (byte 44 o.0.1 k.0) (option_sound o.0.0 (skip (drop 1 o.0.1)) p k.1) nil
-            | inr k ↦ subst (Ended s) (ok_is _ _ k.1) (λ nil. first_option s (skip (drop 1 s)) o.0.0 o.0.1 (byte 64 s h.0) one nil)
+            | inl k ↦ λ nil. second_option s (blanks_skipped (drop 1 s)) o.0.1 (blanks_skipped (drop 1 o.0.1)) o.0.0 p.0 p.1 (byte 64 s h.0) one (byte 44 o.0.1 k.0) (option_sound o.0.0 (blanks_skipped (drop 1 o.0.1)) p k.1) nil
+            | inr k ↦ subst (Ended s) (ok_is _ _ k.1) (λ nil. first_option s (blanks_skipped (drop 1 s)) o.0.0 o.0.1 (byte 64 s h.0) one nil)
           ]
       | inr h ↦ subst (Ended s) (ok_is _ _ h.1) (λ nil. subst (λ (t : List ℕ). Options t None None) (sym nil) g.none)
     ]
@@ -138,8 +138,8 @@ module _ (levels : ℕ) where
   abbrev HasTree : List ℕ → Option Node × List ℕ → Type 0
   HasTree s q = Tree levels s q.0 q.1
 
-  pub first_sound : (s : List ℕ) (p : Option Node × List ℕ) → spec.first levels s ≡ Ok p → HasTree s p
-  unfolding spec.first
+  pub first_sound : (s : List ℕ) (p : Option Node × List ℕ) → spec.optional_choice levels s ≡ Ok p → HasTree s p
+  unfolding spec.optional_choice
   first_sound s p e =
       elim (chosen (eqb (length s) 0 || is_at 64 s) _ _ _ e) [
         | inl h ↦ subst (HasTree s) (ok_is _ _ h.1) refl
@@ -148,12 +148,12 @@ module _ (levels : ℕ) where
             subst (HasTree s) (ok_is _ _ x.2) (sound levels s x.0 x.1)
       ]
 
-  pub read_sound : (s : List ℕ) (e : Expr) → spec.read levels s ≡ Ok e → WholeWithin levels s e
-  unfolding spec.read
+  pub read_sound : (s : List ℕ) (e : Expr) → spec.expression_read levels s ≡ Ok e → WholeWithin levels s e
+  unfolding spec.expression_read
   read_sound s e w =
-      let x = bind_ok (spec.first levels (skip s)) (λ x. spec.options x.1 >>= λ o. cond (eqb (length o.1) 0) (Ok (spec.expr_of x.0 o.0)) (Err (Unexpected (length o.1)))) e w in
+      let x = bind_ok (spec.optional_choice levels (blanks_skipped s)) (λ x. spec.options x.1 >>= λ o. cond (eqb (length o.1) 0) (Ok (spec.expr_of x.0 o.0)) (Err (Unexpected (length o.1)))) e w in
       let o = bind_ok (spec.options x.0.1) (λ o. cond (eqb (length o.1) 0) (Ok (spec.expr_of x.0.0 o.0)) (Err (Unexpected (length o.1)))) e x.2 in
       elim (chosen (eqb (length o.0.1) 0) _ _ _ o.2) [
-        | inl h ↦ subst (λ (y : Expr). WholeWithin levels s y) (ok_is _ _ h.1) (record { behind = x.0.1; tree = first_sound (skip s) x.0 x.1; options = options_sound x.0.1 o.0 o.1 (nil_of o.0.1 h.0) })
+        | inl h ↦ subst (λ (y : Expr). WholeWithin levels s y) (ok_is _ _ h.1) (record { behind = x.0.1; tree = first_sound (blanks_skipped s) x.0 x.1; options = options_sound x.0.1 o.0 o.1 (nil_of o.0.1 h.0) })
         | inr h ↦ absurd (let z = h.1 in cc)
       ]

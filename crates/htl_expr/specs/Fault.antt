@@ -1,4 +1,4 @@
--- What a text is read as, and the place where it leaves the grammar. `colon_letter`, `passes`, `takes_colon` and `place_of` are needed by `expression_of` and private functions alone.
+-- What a text is read as, and the place where it leaves the grammar. `colon_letter`, `passes`, `takes_colon` and `fault_place` are needed by `expression_of` and private functions alone.
 use Rattle.std.specs.Prelude.{◌≡◌, ℕ, suc, ◌+◌, ◌-◌, ◌≤◌, Bool, true, false, nat_le, ◌&&◌, ◌||◌, ◌==◌, if◌then◌else◌, List, [], ◌∷◌, ◌++◌, length, take, drop, Result, Ok, Err}
 use Rattle.htl_expr.specs.declared.stop.Stop.{Stop}
 use Rattle.htl_expr.specs.declared.stop.Stop.TheVariants as stop
@@ -6,7 +6,7 @@ use Rattle.htl_expr.specs.declared.expression.Expr.{Expr}
 use Rattle.htl_expr.specs.declared.expression.ExprFault.{ExprFault}
 use Rattle.htl_expr.specs.declared.expression.ExprFault.TheVariants.{NoMemory, Unexpected, TooDeep}
 use Rattle.htl_expr.specs.Tokens.{is_at, begins}
-use Rattle.htl_expr.specs.Read.{read}
+use Rattle.htl_expr.specs.Read.{expression_read}
 use Rattle.htl_expr.specs.Grammar.{nesting_limit, WholeWithin}
 
 -- a colon and a letter, with which a field's name goes on
@@ -22,22 +22,22 @@ passes (Err (stop.TooDeep left)) = false
 
 -- whether a colon after a text may belong to a field's name, where so many levels may nest
 abbrev pub takes_colon : ℕ → List ℕ → Bool
-takes_colon levels t = passes (read levels (t ++ colon_letter))
+takes_colon levels t = passes (expression_read levels (t ++ colon_letter))
 
 -- where a colon may belong to a field's name, the byte after it is the one that doesn't fit
-abbrev pub place_of : ℕ → List ℕ → ℕ → ℕ
-place_of levels t place = if is_at 58 (drop place t) && takes_colon levels (take place t) then place + 1 else place
+abbrev pub fault_place : ℕ → List ℕ → ℕ → ℕ
+fault_place levels t place = if is_at 58 (drop place t) && takes_colon levels (take place t) then place + 1 else place
 
 -- the answer of the reading, with its place counted from the front
-abbrev pub answer_of : ℕ → List ℕ → Result Expr Stop → Result Expr ExprFault
-answer_of levels t (Ok e) = Ok e
-answer_of levels t (Err stop.Memory) = Err NoMemory
-answer_of levels t (Err (stop.Unexpected left)) = Err (Unexpected (place_of levels t (length t - left)))
-answer_of levels t (Err (stop.TooDeep left)) = Err (TooDeep (length t - left))
+abbrev pub expression_answer : ℕ → List ℕ → Result Expr Stop → Result Expr ExprFault
+expression_answer levels t (Ok e) = Ok e
+expression_answer levels t (Err stop.Memory) = Err NoMemory
+expression_answer levels t (Err (stop.Unexpected left)) = Err (Unexpected (fault_place levels t (length t - left)))
+expression_answer levels t (Err (stop.TooDeep left)) = Err (TooDeep (length t - left))
 
 -- what a text is read as
 abbrev pub expression_of : List ℕ → Result Expr ExprFault
-expression_of t = answer_of nesting_limit t (read nesting_limit t)
+expression_of t = expression_answer nesting_limit t (expression_read nesting_limit t)
 
 -- the expression was read, unless memory ran out
 abbrev pub IsReadAs : Expr → Result Expr ExprFault → Type 0
@@ -84,7 +84,7 @@ nests c = c == 40 || (c == 91 || (c == 33 || c == 63))
 
 -- The place is the first byte with which no expression goes on. Unexpected is a byte with which none goes on however many levels may nest;
 -- too deep is a byte that nests, with which one goes on where one level more may nest.
-abbrev pub IsFault : ExprFault → List ℕ → Type 0
-IsFault NoMemory s = Unit {0}
-IsFault (Unexpected place) s = MayGoOn nesting_limit s place × ((levels : ℕ) → HasNone levels s place)
-IsFault (TooDeep place) s = MayGoOn nesting_limit s place × (HasNone nesting_limit s place × (HasSome (suc nesting_limit) s place × (begins nests (drop place s) ≡ true)))
+abbrev pub IsExpressionFault : ExprFault → List ℕ → Type 0
+IsExpressionFault NoMemory s = Unit {0}
+IsExpressionFault (Unexpected place) s = MayGoOn nesting_limit s place × ((levels : ℕ) → HasNone levels s place)
+IsExpressionFault (TooDeep place) s = MayGoOn nesting_limit s place × (HasNone nesting_limit s place × (HasSome (suc nesting_limit) s place × (begins nests (drop place s) ≡ true)))

@@ -9,8 +9,8 @@ use Rattle.htl_expr.specs.declared.tokens.NameKind.TheVariants.{Name, Field}
 use Rattle.htl_expr.specs.declared.expression.Context.{Context}
 use Rattle.htl_expr.specs.declared.expression.Context.TheVariants.{Text, Unsafe}
 use Rattle.htl_expr.specs.declared.expression.Expr.{Expr}
-use Rattle.htl_expr.specs.Tokens.{skip, is_at, begins, goes_on, is_digit, is_first, is_quote, unescape, digit_fits, limit, signed}
-use Rattle.htl_expr.specs.Read.{access_of, and_of, or_of, word_of, object_of}
+use Rattle.htl_expr.specs.Tokens.{blanks_skipped, is_at, begins, goes_on, is_expression_digit, is_first, is_quote, unescape, expression_digit_fits, limit, signed}
+use Rattle.htl_expr.specs.Read.{access_of, and_of, or_of, word_node, object_of}
 
 -- ---- tokens, each with the blanks after it
 
@@ -18,20 +18,20 @@ use Rattle.htl_expr.specs.Read.{access_of, and_of, or_of, word_of, object_of}
 pub record Byte (c : ℕ) (s r : List ℕ) : Type 0 where
   pub after : List ℕ
   pub parts : s ≡ c ∷ after
-  pub rest : r ≡ skip after
+  pub rest : r ≡ blanks_skipped after
 
 -- an operator of two bytes
 pub record Operator (c d : ℕ) (s r : List ℕ) : Type 0 where
   pub after : List ℕ
   pub parts : s ≡ c ∷ d ∷ after
-  pub rest : r ≡ skip after
+  pub rest : r ≡ blanks_skipped after
 
 -- an operator of one byte that `=` would make longer
 pub record Bare (c : ℕ) (s r : List ℕ) : Type 0 where
   pub after : List ℕ
   pub parts : s ≡ c ∷ after
   pub longest : is_at 61 after ≡ false
-  pub rest : r ≡ skip after
+  pub rest : r ≡ blanks_skipped after
 
 -- each byte goes on with the name, where `after` stands after it
 abbrev pub Passes : NameKind → List ℕ → List ℕ → Type 0
@@ -45,7 +45,7 @@ pub record NameToken (kind : NameKind) (s w r : List ℕ) : Type 0 where
   pub first : begins is_first s ≡ true
   pub passes : Passes kind w after
   pub longest : goes_on kind after ≡ false
-  pub rest : r ≡ skip after
+  pub rest : r ≡ blanks_skipped after
 
 -- what stands after the mark that opens a string, up to the mark that closes it
 pub data StringBody (mark : ℕ) : List ℕ → List ℕ → List ℕ → Type 0 where
@@ -61,12 +61,12 @@ pub record String (s w r : List ℕ) : Type 0 where
   pub parts : s ≡ mark ∷ inside
   pub is_mark : is_quote mark ≡ true
   pub body : StringBody mark inside w after
-  pub rest : r ≡ skip after
+  pub rest : r ≡ blanks_skipped after
 
 -- the digits of a number that is at most `most`, as many as fit, after those that make m
 pub data Digits (most : ℕ) : ℕ → List ℕ → ℕ → List ℕ → Type 0 where
-  none : {m : ℕ} {s : List ℕ} → digit_fits most m s ≡ false → Digits most m s m s
-  digit : {m k c : ℕ} {s after : List ℕ} → digit_fits most m (c ∷ s) ≡ true → Digits most (m * 10 + (c - 48)) s k after → Digits most m (c ∷ s) k after
+  none : {m : ℕ} {s : List ℕ} → expression_digit_fits most m s ≡ false → Digits most m s m s
+  digit : {m k c : ℕ} {s after : List ℕ} → expression_digit_fits most m (c ∷ s) ≡ true → Digits most (m * 10 + (c - 48)) s k after → Digits most m (c ∷ s) k after
 
 -- a minus or none
 abbrev pub Sign : Bool → List ℕ → List ℕ → Type 0
@@ -80,10 +80,10 @@ pub record Number (s : List ℕ) (k : ℤ) (r : List ℕ) : Type 0 where
   pub inside : List ℕ
   pub after : List ℕ
   pub sign : Sign negative s inside
-  pub first : begins is_digit inside ≡ true
+  pub first : begins is_expression_digit inside ≡ true
   pub body : Digits (limit negative) 0 inside magnitude after
   pub value : k ≡ signed negative magnitude
-  pub rest : r ≡ skip after
+  pub rest : r ≡ blanks_skipped after
 
 -- "==" | "!=" | "<" | ">" | "<=" | ">="
 pub data Compares (s : List ℕ) : Comparison → List ℕ → Type 0 where
@@ -141,7 +141,7 @@ mutual
   pub data Reads : Part → ℕ → List ℕ → Node → List ℕ → Type 0 where
     string : {depth : ℕ} {s w r : List ℕ} → String s w r → Reads Start depth s (n.Text w) r
     number : {depth : ℕ} {s : List ℕ} {k : ℤ} {r : List ℕ} → Number s k r → Reads Start depth s (n.Long k) r
-    name : {depth : ℕ} {s w r : List ℕ} → NameToken Name s w r → object_of w ≡ None → Reads Start depth s (word_of w) r
+    name : {depth : ℕ} {s w r : List ℕ} → NameToken Name s w r → object_of w ≡ None → Reads Start depth s (word_node w) r
     object : {depth : ℕ} {s w r1 f r : List ℕ} {make : List ℕ → Node} → NameToken Name s w r1 → object_of w ≡ Some make → Access depth r1 f r → Reads Start depth s (make f) r
     inside : {depth : ℕ} {s r1 r2 r : List ℕ} {e : Node} → Byte 40 s r1 → Reads Choice depth r1 e r2 → Byte 41 r2 r → Reads Start (suc depth) s e r
     list : {depth : ℕ} {s r1 r2 r : List ℕ} {e : Node} → Byte 91 s r1 → Reads Items depth r1 e r2 → Byte 93 r2 r → Reads Start (suc depth) s e r
@@ -167,7 +167,7 @@ mutual
 pub record Literal (w s r : List ℕ) : Type 0 where
   pub after : List ℕ
   pub parts : s ≡ w ++ after
-  pub rest : r ≡ skip after
+  pub rest : r ≡ blanks_skipped after
 
 -- the names of the contexts
 abbrev pub context_text : Context → List ℕ
@@ -180,7 +180,7 @@ pub record ContextString (s : List ℕ) (c : Context) (r : List ℕ) : Type 0 wh
   pub after : List ℕ
   pub parts : s ≡ mark ∷ (context_text c ++ mark ∷ after)
   pub is_mark : is_quote mark ≡ true
-  pub rest : r ≡ skip after
+  pub rest : r ≡ blanks_skipped after
 
 -- "join" "=" string
 pub record Join (s w r : List ℕ) : Type 0 where
@@ -218,7 +218,7 @@ Tree levels s (Some e) r = Reads Choice levels s e r
 -- the expression of a whole text in which so many levels may nest
 pub record WholeWithin (levels : ℕ) (s : List ℕ) (e : Expr) : Type 0 where
   pub behind : List ℕ
-  pub tree : Tree levels (skip s) e.node behind
+  pub tree : Tree levels (blanks_skipped s) e.node behind
   pub options : Options behind e.join e.context
 
 -- the expression of a whole text

@@ -28,9 +28,9 @@ abbrev pub plain_item : Lent → List ℕ
 plain_item value = plain (codes ",") (out_of_lent value)
 
 -- the texts of a list
-abbrev pub texts_of : Out → List (List ℕ)
-texts_of (out.List texts) = texts
-texts_of _ = []
+abbrev pub listed_texts : Out → List (List ℕ)
+listed_texts (out.List texts) = texts
+listed_texts _ = []
 
 -- whether a value is a list
 abbrev pub is_list : Out → Bool

@@ -13,7 +13,7 @@ use Rattle.htl_expr.specs.declared.expression.Expr.{Expr}
 use Rattle.htl_expr.specs.declared.tokens.NameKind.TheVariants.{Name, Field}
 use Rattle.htl_expr.specs.declared.reader.Inside.{Inside}
 use Rattle.htl_expr.specs.declared.reader.Inside.TheVariants.{Choice, Operand, Items}
-use Rattle.htl_expr.specs.Tokens.{Outcome, ◌>>=◌, skip, is_at, begins, is_digit, is_quote, name, expect, second, literal, string, number}
+use Rattle.htl_expr.specs.Tokens.{Outcome, ◌>>=◌, blanks_skipped, is_at, begins, is_expression_digit, is_quote, read_name, expect, second, literal, string, signed_number}
 
 -- without accesses there is no node for them
 abbrev pub access_of : Node → List (List ℕ) → Node
@@ -34,8 +34,8 @@ abbrev pub is_text : List ℕ → List ℕ → Bool
 is_text w text = pointwise nat_eq w text
 
 -- the literals `true` and `false`, or a variable
-abbrev pub word_of : List ℕ → Node
-word_of w = if is_text w (codes "true") then n.Truth true else (if is_text w (codes "false") then n.Truth false else n.Variable w)
+abbrev pub word_node : List ℕ → Node
+word_node w = if is_text w (codes "true") then n.Truth true else (if is_text w (codes "false") then n.Truth false else n.Variable w)
 
 -- the names that must be followed by an access
 abbrev pub object_of : List ℕ → Option (List ℕ → Node)
@@ -49,7 +49,7 @@ compares t = is_at 61 t || (is_at 33 t || (is_at 60 t || is_at 62 t))
 
 -- `<` or `<=`, `>` or `>=`
 unfoldable pub or_equal : Comparison → Comparison → List ℕ → Comparison × List ℕ
-or_equal bare equal t = if is_at 61 (drop 1 t) then (equal, skip (drop 1 (drop 1 t))) else (bare, skip (drop 1 t))
+or_equal bare equal t = if is_at 61 (drop 1 t) then (equal, blanks_skipped (drop 1 (drop 1 t))) else (bare, blanks_skipped (drop 1 t))
 
 -- the comparison at the front
 unfoldable pub comparison : List ℕ → Outcome Comparison
@@ -82,12 +82,12 @@ access_at t = is_at 46 t || is_at 91 t
 module _ (depth : ℕ) where
   unfoldable pub bracket_access : List ℕ → Outcome (List ℕ)
   bracket_access t = if depth == 0 then Err (TooDeep (length t)) else (do
-    s ← string (skip (drop 1 t))
+    s ← string (blanks_skipped (drop 1 t))
     r ← expect 93 s.1
     Ok (s.0, r))
 
   unfoldable pub access : List ℕ → Outcome (List ℕ)
-  access t = if is_at 46 t then name Field (skip (drop 1 t)) else bracket_access t
+  access t = if is_at 46 t then read_name Field (blanks_skipped (drop 1 t)) else bracket_access t
 
   unfoldable pub accesses : ℕ → List (List ℕ) → List ℕ → Outcome (List (List ℕ))
   accesses zero found t = Ok (found, t)
@@ -97,16 +97,16 @@ module _ (depth : ℕ) where
   first_access t = if access_at t then access t else Err (Unexpected (length t))
 
   abbrev pub name_or_object_of : Option (List ℕ → Node) → List ℕ → List ℕ → Outcome Node
-  name_or_object_of None w t = Ok (word_of w, t)
+  name_or_object_of None w t = Ok (word_node w, t)
   name_or_object_of (Some make) w t = first_access t >>= λ f. Ok (make f.0, f.1)
 
   unfoldable pub name_or_object : List ℕ → Outcome Node
-  name_or_object t = name Name t >>= λ x. name_or_object_of (object_of x.0) x.0 x.1
+  name_or_object t = read_name Name t >>= λ x. name_or_object_of (object_of x.0) x.0 x.1
 
   unfoldable pub leaf : List ℕ → Outcome Node
   leaf t =
       if begins is_quote t then (string t >>= λ x. Ok (n.Text x.0, x.1))
-      else if is_at 45 t || begins is_digit t then (number t >>= λ x. Ok (n.Long x.0, x.1))
+      else if is_at 45 t || begins is_expression_digit t then (signed_number t >>= λ x. Ok (n.Long x.0, x.1))
       else name_or_object t
 
   -- Inside, what nests is read; the text begins at the byte that nests it.
@@ -178,7 +178,7 @@ module _ (depth : ℕ) where
 -- what stands after the byte that nests it
 unfoldable pub nesting : ℕ → Inside → List ℕ → Outcome Node
 nesting zero which t = Err (TooDeep (length t))
-nesting (suc depth) which t = level depth (nesting depth) which (skip (drop 1 t))
+nesting (suc depth) which t = level depth (nesting depth) which (blanks_skipped (drop 1 t))
 
 -- ---- options
 
@@ -199,10 +199,10 @@ context_string t = if begins is_quote t then (do
 
 -- `join` and its string, `context` and its own
 unfoldable pub join_option : List ℕ → Outcome (List ℕ)
-join_option t = literal (codes "join") t >>= λ a. expect 61 (skip a) >>= λ b. string b
+join_option t = literal (codes "join") t >>= λ a. expect 61 (blanks_skipped a) >>= λ b. string b
 
 unfoldable pub context_option : List ℕ → Outcome Context
-context_option t = literal (codes "context") t >>= λ a. expect 61 (skip a) >>= λ b. context_string b
+context_option t = literal (codes "context") t >>= λ a. expect 61 (blanks_skipped a) >>= λ b. context_string b
 
 -- an option that isn't given yet
 unfoldable pub option : Given → List ℕ → Outcome Given
@@ -214,20 +214,20 @@ option given t =
 -- each option once at most
 unfoldable pub options : List ℕ → Outcome Given
 options t = if is_at 64 t then (do
-  o ← option (None, None) (skip (drop 1 t))
-  if is_at 44 o.1 then option o.0 (skip (drop 1 o.1)) else Ok o) else Ok ((None, None), t)
+  o ← option (None, None) (blanks_skipped (drop 1 t))
+  if is_at 44 o.1 then option o.0 (blanks_skipped (drop 1 o.1)) else Ok o) else Ok ((None, None), t)
 
 -- nothing, or a choice in which so many levels may nest
-unfoldable pub first : ℕ → List ℕ → Outcome (Option Node)
-first levels t = if length t == 0 || is_at 64 t then Ok (None, t) else (choice levels (nesting levels) t >>= λ x. Ok (Some x.0, x.1))
+unfoldable pub optional_choice : ℕ → List ℕ → Outcome (Option Node)
+optional_choice levels t = if length t == 0 || is_at 64 t then Ok (None, t) else (choice levels (nesting levels) t >>= λ x. Ok (Some x.0, x.1))
 
 -- an expression of a tree and the options that are given
 abbrev pub expr_of : Option Node → Given → Expr
 expr_of node given = record { node = node; join = given.0; context = given.1 }
 
 -- the whole text, in which so many levels may nest
-unfoldable pub read : ℕ → List ℕ → Result Expr Stop
-read levels t = do
-  x ← first levels (skip t)
+unfoldable pub expression_read : ℕ → List ℕ → Result Expr Stop
+expression_read levels t = do
+  x ← optional_choice levels (blanks_skipped t)
   o ← options x.1
   if length o.1 == 0 then Ok (expr_of x.0 o.0) else Err (Unexpected (length o.1))

@@ -31,9 +31,9 @@ abbrev pub is_blank : ℕ → Bool
 is_blank c = c == 32 || (c == 9 || (c == 10 || c == 13))
 
 -- the text from its first byte on that is no blank
-unfoldable pub skip : List ℕ → List ℕ
-skip [] = []
-skip (c ∷ t) = if is_blank c then skip t else c ∷ t
+unfoldable pub blanks_skipped : List ℕ → List ℕ
+blanks_skipped [] = []
+blanks_skipped (c ∷ t) = if is_blank c then blanks_skipped t else c ∷ t
 
 -- whether the text begins with this byte
 unfoldable pub is_at : ℕ → List ℕ → Bool
@@ -41,8 +41,8 @@ is_at c [] = false
 is_at c (d ∷ t) = d == c
 
 -- digits and letters are those of ASCII
-abbrev pub is_digit : ℕ → Bool
-is_digit c = nat_le 48 c && nat_le c 57
+abbrev pub is_expression_digit : ℕ → Bool
+is_expression_digit c = nat_le 48 c && nat_le c 57
 
 abbrev pub is_letter : ℕ → Bool
 is_letter c = (nat_le 65 c && nat_le c 90) || (nat_le 97 c && nat_le c 122)
@@ -52,8 +52,8 @@ abbrev pub is_first : ℕ → Bool
 is_first c = is_letter c || c == 95
 
 -- and goes on with letters, digits and "_"
-abbrev pub is_word : ℕ → Bool
-is_word c = is_first c || is_digit c
+abbrev pub is_word_byte : ℕ → Bool
+is_word_byte c = is_first c || is_expression_digit c
 
 -- the marks that a string stands between
 abbrev pub is_quote : ℕ → Bool
@@ -66,9 +66,9 @@ begins test (c ∷ t) = test c
 
 -- whether a name goes on with the next byte; a field also with ":" where a letter follows
 unfoldable pub goes_on : NameKind → List ℕ → Bool
-goes_on Name t = begins is_word t
+goes_on Name t = begins is_word_byte t
 goes_on Field [] = false
-goes_on Field (c ∷ t) = is_word c || (c == 58 && begins is_letter t)
+goes_on Field (c ∷ t) = is_word_byte c || (c == 58 && begins is_letter t)
 
 -- how many bytes at the front belong to the name
 unfoldable pub name_len : NameKind → List ℕ → ℕ
@@ -81,15 +81,15 @@ done x = Ok x
 
 -- the bytes of a name, and the text after it
 abbrev pub run : NameKind → List ℕ → List ℕ × List ℕ
-run kind t = (take (name_len kind t) t, skip (drop (name_len kind t) t))
+run kind t = (take (name_len kind t) t, blanks_skipped (drop (name_len kind t) t))
 
 -- a name or a field's name
-unfoldable pub name : NameKind → List ℕ → Outcome (List ℕ)
-name kind t = if begins is_first t then Ok (run kind t) else Err (Unexpected (length t))
+unfoldable pub read_name : NameKind → List ℕ → Outcome (List ℕ)
+read_name kind t = if begins is_first t then Ok (run kind t) else Err (Unexpected (length t))
 
 -- one byte
 unfoldable pub expect : ℕ → List ℕ → Result (List ℕ) Stop
-expect c t = if is_at c t then Ok (skip (drop 1 t)) else Err (Unexpected (length t))
+expect c t = if is_at c t then Ok (blanks_skipped (drop 1 t)) else Err (Unexpected (length t))
 
 -- an operator of two bytes, of which the first is there
 unfoldable pub second : ℕ → List ℕ → Result (List ℕ) Stop
@@ -125,27 +125,27 @@ escape [] = Err (Unexpected 0)
 escape (c ∷ t) = escape_of (unescape c) (c ∷ t)
 
 -- how many bytes stand before a mark or a backslash
-unfoldable pub plain_len : ℕ → List ℕ → ℕ
-plain_len mark [] = 0
-plain_len mark (c ∷ t) = if c == mark || c == 92 then 0 else suc (plain_len mark t)
+unfoldable pub plain_quoted_len : ℕ → List ℕ → ℕ
+plain_quoted_len mark [] = 0
+plain_quoted_len mark (c ∷ t) = if c == mark || c == 92 then 0 else suc (plain_quoted_len mark t)
 
 -- characters in front of what was read
-abbrev pub in_front : List ℕ → Outcome (List ℕ) → Outcome (List ℕ)
-in_front front o = o >>= λ x. Ok (front ++ x.0, x.1)
+abbrev pub read_in_front : List ℕ → Outcome (List ℕ) → Outcome (List ℕ)
+read_in_front front o = o >>= λ x. Ok (front ++ x.0, x.1)
 
 -- the character of an escape in front of what was read
 abbrev pub string_after_escape : Option ℕ → List ℕ → Outcome (List ℕ) → Outcome (List ℕ)
 string_after_escape None at rest = Err (Unexpected (length at))
-string_after_escape (Some d) at rest = in_front (d ∷ []) rest
+string_after_escape (Some d) at rest = read_in_front (d ∷ []) rest
 
 -- a string up to the mark that closes it; the flag says that a backslash stands before
 unfoldable pub string_from : Bool → ℕ → List ℕ → Outcome (List ℕ)
 string_from is_escaped mark [] = Err (Unexpected 0)
 string_from true mark (c ∷ t) = string_after_escape (unescape c) (c ∷ t) (string_from false mark t)
 string_from false mark (c ∷ t) =
-    if c == mark then Ok ([], skip t)
+    if c == mark then Ok ([], blanks_skipped t)
     else if c == 92 then string_from true mark t
-    else in_front (c ∷ []) (string_from false mark t)
+    else read_in_front (c ∷ []) (string_from false mark t)
 
 -- a string from its mark on
 unfoldable pub string : List ℕ → Outcome (List ℕ)
@@ -153,18 +153,18 @@ string [] = Err (Unexpected 0)
 string (c ∷ t) = if is_quote c then string_from false c t else Err (Unexpected (length (c ∷ t)))
 
 -- whether the next byte is a digit with which the number still fits
-unfoldable pub digit_fits : ℕ → ℕ → List ℕ → Bool
-digit_fits limit m [] = false
-digit_fits limit m (c ∷ t) = is_digit c && nat_le (m * 10 + (c - 48)) limit
+unfoldable pub expression_digit_fits : ℕ → ℕ → List ℕ → Bool
+expression_digit_fits limit m [] = false
+expression_digit_fits limit m (c ∷ t) = is_expression_digit c && nat_le (m * 10 + (c - 48)) limit
 
 -- the longest number at the front that fits
-unfoldable pub digits_from : ℕ → ℕ → List ℕ → ℕ × List ℕ
-digits_from limit m [] = (m, [])
-digits_from limit m (c ∷ t) = if digit_fits limit m (c ∷ t) then digits_from limit (m * 10 + (c - 48)) t else (m, c ∷ t)
+unfoldable pub expression_digits_from : ℕ → ℕ → List ℕ → ℕ × List ℕ
+expression_digits_from limit m [] = (m, [])
+expression_digits_from limit m (c ∷ t) = if expression_digit_fits limit m (c ∷ t) then expression_digits_from limit (m * 10 + (c - 48)) t else (m, c ∷ t)
 
 -- the number with the next digit, where that fits
-abbrev pub next_of : ℕ → ℕ → List ℕ → Option ℕ
-next_of limit m t = if digit_fits limit m t then Some (m * 10 + (slice_index t 0 - 48)) else None
+abbrev pub next_number : ℕ → ℕ → List ℕ → Option ℕ
+next_number limit m t = if expression_digit_fits limit m t then Some (m * 10 + (slice_index t 0 - 48)) else None
 
 -- the greatest magnitude of a number of 64 bits with a minus or without one
 abbrev pub limit : Bool → ℕ
@@ -176,8 +176,8 @@ signed negative m = if negative then neg_ℤ (pos m) else pos m
 
 -- one digit at least
 unfoldable pub digits : Bool → List ℕ → Outcome ℤ
-digits negative t = if begins is_digit t then (let x = digits_from (limit negative) 0 t in Ok (signed negative x.0, skip x.1)) else Err (Unexpected (length t))
+digits negative t = if begins is_expression_digit t then (let x = expression_digits_from (limit negative) 0 t in Ok (signed negative x.0, blanks_skipped x.1)) else Err (Unexpected (length t))
 
 -- digits with a minus or without one
-unfoldable pub number : List ℕ → Outcome ℤ
-number t = if is_at 45 t then digits true (drop 1 t) else digits false t
+unfoldable pub signed_number : List ℕ → Outcome ℤ
+signed_number t = if is_at 45 t then digits true (drop 1 t) else digits false t

@@ -5,7 +5,7 @@ ghost use Rattle.htl_expr.specs.Tokens.{Gives, is_at};
 ghost use Rattle.htl_expr.specs.Read as spec;
 ghost use Rattle.htl_expr.specs.Grammar.{nesting_limit, Whole};
 ghost use Rattle.htl_expr.specs.declared.expression.Expr.{Expr};
-ghost use Rattle.htl_expr.specs.Fault.{takes_colon, place_of, expression_of, IsReadAs, IsFault};
+ghost use Rattle.htl_expr.specs.Fault.{takes_colon, fault_place, expression_of, IsReadAs, IsExpressionFault};
 
 use crate::node::Node;
 use crate::options::{Options, read_options};
@@ -50,9 +50,9 @@ fn colon_at(text: &[u8]) -> bool
     }
 }
 
-#[tactic(auto, unfolding(crate::specs::Read::read))]
+#[tactic(auto, unfolding(crate::specs::Read::expression_read))]
 fn whole(alloc: Global, text: &str) -> Result<Expr, Stop>
-    ensures { Gives (λ e. e) result (spec.read nesting_limit text.now) }
+    ensures { Gives (λ e. e) result (spec.expression_read nesting_limit text.now) }
 {
     let (node, rest) = first(alloc, skip(text))?;
     let (Options { join, context }, rest) = read_options(alloc, rest)?;
@@ -84,7 +84,7 @@ fn takes_colon(alloc: Global, front: &str) -> Mem<bool>
 /// The place of a fault. Where a colon may belong to a field's name, the byte after it is the one that doesn't fit.
 fn place_of(alloc: Global, text: &str, place: usize) -> Mem<usize>
     requires { place ≤ length text.now }
-    ensures { IfOk result (λ p. p ≡ place_of nesting_limit text.now place) }
+    ensures { IfOk result (λ p. p ≡ fault_place nesting_limit text.now place) }
 {
     if !colon_at(&text.as_bytes()[place..]) {
         return Ok(place);
@@ -111,7 +111,7 @@ impl Expr {
         ensures only { (e : Expr) → Whole text.now e → IsReadAs e result }
 
         // The place of a fault is the first byte with which no expression goes on; it is TooDeep exactly where one would with one level more.
-        ensures fault { IfErr result (λ f. IsFault f text.now) }
+        ensures fault { IfErr result (λ f. IsExpressionFault f text.now) }
     {
         match whole(alloc, text) {
             Ok(e) => Ok(e),

@@ -4,7 +4,7 @@ ghost use Rattle.std.specs.Prelude.{◌≡◌, ◌≢◌, ◌≤◌, ℕ, List, 
 ghost use Rattle.htl_expr.specs.declared.expression.Expr.{Expr};
 ghost use Rattle.htl_expr.specs.declared.expression.ExprFault.{ExprFault};
 ghost use Rattle.htl_expr.specs.Grammar.{Whole, WholeWithin};
-ghost use Rattle.htl_expr.specs.Fault.{expression_of, IsFault};
+ghost use Rattle.htl_expr.specs.Fault.{expression_of, IsExpressionFault};
 ghost use Rattle.htl_expr.specs.Print.{IsInert};
 ghost use Rattle.htl_expr.specs.Value.{print};
 ghost use Rattle.htl_expr.specs.declared.scope.Scope.{Scope};
@@ -14,7 +14,7 @@ ghost use Rattle.htl_expr.specs.declared.scope.Scope.{Scope};
 pub fn the_reading_is_the_grammar()
     ensures found { (text : List ℕ) (e : Expr) → expression_of text ≡ Ok e → Whole text e }
     ensures only { (text : List ℕ) (e : Expr) → Whole text e → expression_of text ≡ Ok e }
-    ensures fault { (text : List ℕ) (f : ExprFault) → expression_of text ≡ Err f → IsFault f text }
+    ensures fault { (text : List ℕ) (f : ExprFault) → expression_of text ≡ Err f → IsExpressionFault f text }
     ensures memory { (text : List ℕ) → expression_of text ≢ Err ExprFault.NoMemory }
 {}
 
@@ -22,7 +22,7 @@ pub fn the_reading_is_the_grammar()
 /// unexpected exactly where none would with any number of levels.
 pub fn too_deep_is_the_limit()
     ensures deeper { (levels deeper : ℕ) (text : List ℕ) (e : Expr) → levels ≤ deeper → WholeWithin levels text e → WholeWithin deeper text e }
-    ensures one { (text : List ℕ) (f g : ExprFault) → f ≢ ExprFault.NoMemory → g ≢ ExprFault.NoMemory → IsFault f text → IsFault g text → f ≡ g }
+    ensures one { (text : List ℕ) (f g : ExprFault) → f ≢ ExprFault.NoMemory → g ≢ ExprFault.NoMemory → IsExpressionFault f text → IsExpressionFault g text → f ≡ g }
 {}
 
 /// Unless the option `context` is 'unsafe', what an expression writes begins no tag and ends no attribute's value that stands in quotes.

@@ -7,9 +7,9 @@ ghost use Rattle.htl_expr.specs.Tokens.{Gives};
 use crate::stop::Stop;
 use crate::tokens::{digit_at, is_at, is_digit, skip, tail};
 
-#[tactic(auto, unfolding(crate::specs::Tokens::digit_fits))]
+#[tactic(auto, unfolding(crate::specs::Tokens::expression_digit_fits))]
 fn next(limit: u64, magnitude: u64, text: &[u8]) -> Option<u64>
-    ensures { result ≡ spec.next_of limit magnitude text.now }
+    ensures { result ≡ spec.next_number limit magnitude text.now }
 {
     match text {
         [] => None,
@@ -30,7 +30,7 @@ fn next(limit: u64, magnitude: u64, text: &[u8]) -> Option<u64>
 /// The longest number at the front that fits.
 #[tactic(auto, using(crate::proofs::Decimal::next_some, crate::proofs::Decimal::next_none))]
 fn digits_from(limit: u64, text: &str) -> (u64, &str)
-    ensures value { spec.digits_from limit 0 text.now ≡ (result.0, result.1.now) }
+    ensures value { spec.expression_digits_from limit 0 text.now ≡ (result.0, result.1.now) }
     ensures fits { result.0 ≤ limit }
 {
     let mut magnitude = 0;
@@ -72,9 +72,9 @@ fn digits(is_negative: bool, text: &str) -> Result<(i64, &str), Stop>
     Ok((signed(is_negative, magnitude), skip(rest)))
 }
 
-#[tactic(auto, using(crate::proofs::Scan::minus_ascii), unfolding(crate::specs::Tokens::number))]
+#[tactic(auto, using(crate::proofs::Scan::minus_ascii), unfolding(crate::specs::Tokens::signed_number))]
 pub fn number(text: &str) -> Result<(i64, &str), Stop>
-    ensures { Gives (λ x. (x.0, x.1.now)) result (spec.number text.now) }
+    ensures { Gives (λ x. (x.0, x.1.now)) result (spec.signed_number text.now) }
 {
     if is_at(b'-', text) {
         digits(true, tail(text))

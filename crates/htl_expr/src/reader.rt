@@ -44,7 +44,7 @@ fn or_of(alloc: Global, e: Node, more: NodeList<Node>) -> Result<Node, AllocErro
 }
 
 fn word_of(word: TextBuf) -> Node
-    ensures { result ≡ spec.word_of word }
+    ensures { result ≡ spec.word_node word }
 {
     if word.text() == "true" {
         Node::Truth(true)
@@ -338,9 +338,9 @@ fn items(alloc: Global, depth: u32, text: &str) -> Result<(Node, &str), Stop>
 const NESTING_LIMIT: u32 = 32;
 
 /// Nothing, or a choice in which that many levels may nest.
-#[tactic(auto, unfolding(crate::specs::Read::first))]
+#[tactic(auto, unfolding(crate::specs::Read::optional_choice))]
 pub fn first(alloc: Global, text: &str) -> Result<(Option<Node>, &str), Stop>
-    ensures { Gives (λ x. (x.0, x.1.now)) result (spec.first nesting_limit text.now) }
+    ensures { Gives (λ x. (x.0, x.1.now)) result (spec.optional_choice nesting_limit text.now) }
 {
     if text.is_empty() || is_at(b'@', text) {
         return Ok((None, text));

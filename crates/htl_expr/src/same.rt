@@ -6,7 +6,7 @@ ghost use Rattle.std.specs.Ordering.{int_eq};
 ghost use Rattle.std.specs.Cmp.Lexicographic.{pointwise};
 ghost use Rattle.std.specs.Fmt.{signed_decimal};
 ghost use Rattle.htl_expr.specs.Print.{truth_text};
-ghost use Rattle.htl_expr.specs.Lent.{out_of_lent, plain_item, texts_of};
+ghost use Rattle.htl_expr.specs.Lent.{out_of_lent, plain_item, listed_texts};
 ghost use Rattle.htl_expr.specs.Lent as spec;
 
 use crate::lent::Lent;
@@ -29,7 +29,7 @@ pub(crate) fn is_list(value: &Lent) -> bool
 // How many items a list has.
 #[tactic(auto, using(crate::proofs::Chains::items_out))]
 fn count(list: &Lent) -> usize
-    ensures { result ≡ length (texts_of (out_of_lent list.now)) }
+    ensures { result ≡ length (listed_texts (out_of_lent list.now)) }
 {
     match list {
         Lent::Texts(texts) => texts.len(),
@@ -72,8 +72,8 @@ fn item_text_at(alloc: Global, items: &[Lent], place: usize) -> Mem<TextBuf>
 // Whether a list has this text at a place.
 #[tactic(auto, using(crate::proofs::Chains::items_out, crate::proofs::SameItems::get_or_of_map))]
 fn has_text_at(alloc: Global, text: &str, list: &Lent, place: usize) -> Mem<bool>
-    requires { place < length (texts_of (out_of_lent list.now)) }
-    ensures { IfOk result (λ same. same ≡ pointwise nat_eq text.now (get_or (texts_of (out_of_lent list.now)) place [])) }
+    requires { place < length (listed_texts (out_of_lent list.now)) }
+    ensures { IfOk result (λ same. same ≡ pointwise nat_eq text.now (get_or (listed_texts (out_of_lent list.now)) place [])) }
 {
     match list {
         Lent::Texts(texts) => Ok(text == texts.as_slice()[place].text()),
@@ -87,9 +87,9 @@ fn has_text_at(alloc: Global, text: &str, list: &Lent, place: usize) -> Mem<bool
 // Whether two lists have the same item at a place.
 #[tactic(auto, using(crate::proofs::Chains::items_out, crate::proofs::SameItems::get_or_of_map))]
 fn is_same_at(alloc: Global, a: &Lent, b: &Lent, place: usize) -> Mem<bool>
-    requires within { place < length (texts_of (out_of_lent a.now)) }
-    requires within_other { place < length (texts_of (out_of_lent b.now)) }
-    ensures { IfOk result (λ same. same ≡ pointwise nat_eq (get_or (texts_of (out_of_lent a.now)) place []) (get_or (texts_of (out_of_lent b.now)) place [])) }
+    requires within { place < length (listed_texts (out_of_lent a.now)) }
+    requires within_other { place < length (listed_texts (out_of_lent b.now)) }
+    ensures { IfOk result (λ same. same ≡ pointwise nat_eq (get_or (listed_texts (out_of_lent a.now)) place []) (get_or (listed_texts (out_of_lent b.now)) place [])) }
 {
     match (a, b) {
         (Lent::Longs(a), Lent::Longs(b)) => {
@@ -125,7 +125,7 @@ fn is_same_at(alloc: Global, a: &Lent, b: &Lent, place: usize) -> Mem<bool>
 /// Whether two lists have the same items.
 #[tactic(auto, using(crate::proofs::SameItems::unequal_lengths))]
 pub(crate) fn has_same_items(alloc: Global, a: &Lent, b: &Lent) -> Mem<bool>
-    ensures { IfOk result (λ same. same ≡ pointwise (pointwise nat_eq) (texts_of (out_of_lent a.now)) (texts_of (out_of_lent b.now))) }
+    ensures { IfOk result (λ same. same ≡ pointwise (pointwise nat_eq) (listed_texts (out_of_lent a.now)) (listed_texts (out_of_lent b.now))) }
 {
     let items = count(a);
     if items != count(b) {

@@ -23,7 +23,7 @@ pub fn is_blank(c: u8) -> bool
 }
 
 pub fn is_digit(c: u8) -> bool
-    ensures { result ≡ spec.is_digit c }
+    ensures { result ≡ spec.is_expression_digit c }
 {
     c >= b'0' && c <= b'9'
 }
@@ -41,7 +41,7 @@ pub fn is_first(c: u8) -> bool
 }
 
 pub fn is_word(c: u8) -> bool
-    ensures { result ≡ spec.is_word c }
+    ensures { result ≡ spec.is_word_byte c }
 {
     is_first(c) || is_digit(c)
 }
@@ -75,7 +75,7 @@ fn blank_at(text: &str) -> bool
 
 #[tactic(auto, unfolding(crate::specs::Tokens::begins))]
 pub fn digit_at(text: &str) -> bool
-    ensures { result ≡ spec.begins spec.is_digit text.now }
+    ensures { result ≡ spec.begins spec.is_expression_digit text.now }
 {
     match text.as_bytes() {
         [] => false,
@@ -95,7 +95,7 @@ fn letter_at(text: &[u8]) -> bool
 
 #[tactic(auto, unfolding(crate::specs::Tokens::begins))]
 fn word_at(text: &[u8]) -> bool
-    ensures { result ≡ spec.begins spec.is_word text.now }
+    ensures { result ≡ spec.begins spec.is_word_byte text.now }
 {
     match text {
         [] => false,
@@ -135,7 +135,7 @@ pub fn is_at(c: u8, text: &str) -> bool
 
 #[tactic(auto, using(crate::proofs::Scan::blank_front, crate::proofs::Scan::blank_more, crate::proofs::Scan::blank_less, crate::proofs::Scan::blank_none))]
 pub fn skip(text: &str) -> &str
-    ensures { result.now ≡ spec.skip text.now }
+    ensures { result.now ≡ spec.blanks_skipped text.now }
 {
     let mut rest = text;
     while blank_at(rest) {
@@ -148,7 +148,7 @@ pub fn skip(text: &str) -> &str
 pub fn behind(c: u8, text: &str) -> &str
     requires ascii { c < 128 }
     requires there { spec.is_at c text.now ≡ true }
-    ensures { result.now ≡ spec.skip (drop 1 text.now) }
+    ensures { result.now ≡ spec.blanks_skipped (drop 1 text.now) }
 {
     skip(tail(text))
 }
@@ -220,9 +220,9 @@ fn name_len(kind: NameKind, text: &str) -> usize
 }
 
 /// A name or a field's name.
-#[tactic(auto, unfolding(crate::specs::Tokens::name))]
+#[tactic(auto, unfolding(crate::specs::Tokens::read_name))]
 pub fn name(alloc: Global, kind: NameKind, text: &str) -> Result<(TextBuf, &str), Stop>
-    ensures { Gives (λ x. (x.0, x.1.now)) result (spec.name kind text.now) }
+    ensures { Gives (λ x. (x.0, x.1.now)) result (spec.read_name kind text.now) }
 {
     if !first_at(text) {
         return Err(Stop::Unexpected(text.len()));
@@ -264,9 +264,9 @@ fn escape(text: &str) -> Result<(char, &str), Stop>
 }
 
 /// How many bytes stand before a mark or a backslash.
-#[tactic(auto, unfolding(crate::specs::Tokens::plain_len))]
+#[tactic(auto, unfolding(crate::specs::Tokens::plain_quoted_len))]
 fn plain_len(mark: u8, text: &[u8]) -> usize
-    ensures { result ≡ spec.plain_len mark text.now }
+    ensures { result ≡ spec.plain_quoted_len mark text.now }
 {
     let mut len = 0;
     let mut rest = text;

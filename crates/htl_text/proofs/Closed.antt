@@ -6,7 +6,7 @@ use Rattle.htl_expr.specs.Tokens.{is_quote}
 use Rattle.htl_text.specs.declared.fault.TextFault.{TextFault}
 use Rattle.htl_text.specs.declared.quotes.Quotes.{Quotes}
 use Rattle.htl_text.specs.declared.quotes.Quotes.TheVariants as q
-use Rattle.htl_text.specs.Template.{step, closes, closing, read_value, value_at}
+use Rattle.htl_text.specs.Template.{quotes_step, closes_expression, closing, read_value, value_at}
 use Rattle.htl_text.specs.Spelling.{Quotation, Inside, NeverCloses}
 use Rattle.htl_text.specs.Spelling as s
 
@@ -44,7 +44,7 @@ pub record Closed (quotes : Quotes) (n : ℕ) (t : List ℕ) (m : ℕ) : Type 0 
   pub place : n + length inside ≡ m
   pub closed : From quotes inside
 
-from : (quotes : Quotes) (c : ℕ) (w : List ℕ) → closes quotes c ≡ false → From (step quotes c) w → From quotes (c ∷ w)
+from : (quotes : Quotes) (c : ℕ) (w : List ℕ) → closes_expression quotes c ≡ false → From (quotes_step quotes c) w → From quotes (c ∷ w)
 from q.Outside c w left x = go (is_quote c) refl x
   where
     go : (b : Bool) → is_quote c ≡ b → From (cond b (q.Inside c) q.Outside) w → Inside (c ∷ w)
@@ -58,7 +58,7 @@ from (q.Inside mark) c w left x = go (eqb c mark) (eqb c 92) refl refl x
     go false false ea eb y = (c ∷ y.0, y.1, ap (λ (t : List ℕ). c ∷ t) y.2, s.plain ea eb y.3, y.4)
 from (q.Escaped mark) c w left x = (c, x.0, x.1, ap (λ (t : List ℕ). c ∷ t) x.2, x.3, x.4)
 
-closed_here : (quotes : Quotes) (c n : ℕ) (t : List ℕ) (m : ℕ) → closes quotes c ≡ true → Some n ≡ Some m → Closed quotes n (c ∷ t) m
+closed_here : (quotes : Quotes) (c n : ℕ) (t : List ℕ) (m : ℕ) → closes_expression quotes c ≡ true → Some n ≡ Some m → Closed quotes n (c ∷ t) m
 closed_here q.Outside c n t m h e = let same : n ≡ m = cc in record { inside = []; text = t; parts = ap (λ (d : ℕ). d ∷ t) (byte_is c 125 h); place = omega (arith, same); closed = s.nothing }
 closed_here (q.Inside mark) c n t m h e = absurd cc
 closed_here (q.Escaped mark) c n t m h e = absurd cc
@@ -68,10 +68,10 @@ pub closed : (quotes : Quotes) (n : ℕ) (t : List ℕ) (m : ℕ) → closing qu
 unfolding closing
 closed quotes n [] m h = absurd cc
 closed quotes n (c ∷ t) m h =
-    elim (chosen (closes quotes c) _ _ _ h) [
+    elim (chosen (closes_expression quotes c) _ _ _ h) [
       | inl x ↦ closed_here quotes c n t m x.0 x.1
       | inr x ↦
-          let ih = closed (step quotes c) (n + 1) t m x.1 in
+          let ih = closed (quotes_step quotes c) (n + 1) t m x.1 in
           let place = ih.place in
           record { inside = c ∷ ih.inside; text = ih.text; parts = ap (λ (u : List ℕ). c ∷ u) ih.parts; place = omega (arith, place); closed = from quotes c ih.inside x.0 ih.closed }
     ]

@@ -2,14 +2,14 @@
 use Rattle.std.proofs.Common.{◌≡◌, ◌<◌, ◌≤◌, ◌+◌, ◌-◌, ℕ, zero, suc, Bool, true, false, cond, ◌||◌, ◌&&◌, eqb, List, [], ◌∷◌, drop, length, refl, ap, sym, ◌∙◌, arith}
 use Rattle.std.proofs.lemmas.List.{length-drop}
 use Rattle.memchr.specs.Find.{Nowhere, NoneBefore, Passes, is_byte}
-use Rattle.htl_text.specs.Template.{is_at, opens, escapes, opening_len, plain_len}
+use Rattle.htl_text.specs.Template.{is_in_front, opens_expression, escapes, opening_len, plain_len}
 
 -- "${" isn't in front where the first byte is another
-not_dollar : (c : ℕ) (t : List ℕ) → (eqb c 36 ≡ true → ⊥) → opens (c ∷ t) ≡ false
-unfolding opens
+not_dollar : (c : ℕ) (t : List ℕ) → (eqb c 36 ≡ true → ⊥) → opens_expression (c ∷ t) ≡ false
+unfolding opens_expression
 not_dollar c t other = go (eqb c 36) refl
   where
-    go : (b : Bool) → eqb c 36 ≡ b → (b && is_at 123 t) ≡ false
+    go : (b : Bool) → eqb c 36 ≡ b → (b && is_in_front 123 t) ≡ false
     go true e = absurd (other e)
     go false e = refl
 
@@ -23,12 +23,12 @@ passed (suc n) (c ∷ t) within none =
     rw (not_dollar c t (none 0 (omega arith) (omega arith))) (omega (arith, ih))
 
 -- a "$" that opens nothing is passed
-passed_dollar : (t : List ℕ) → 0 < length t → opens t ≡ false → opening_len t ≡ suc (opening_len (drop 1 t))
+passed_dollar : (t : List ℕ) → 0 < length t → opens_expression t ≡ false → opening_len t ≡ suc (opening_len (drop 1 t))
 unfolding opening_len
 passed_dollar [] some e = absurd (omega (arith, some))
 passed_dollar (c ∷ t) some e = rw e refl
 
-opens_there : (t : List ℕ) → opens t ≡ true → opening_len t ≡ 0
+opens_there : (t : List ℕ) → opens_expression t ≡ true → opening_len t ≡ 0
 unfolding opening_len
 opens_there [] e = refl
 opens_there (c ∷ t) e = rw e refl
@@ -46,7 +46,7 @@ returns_all rest text none within inv =
     omega (arith, all, end, within, inv)
 
 -- the next "$" opens an expression
-pub returns_open : (n : ℕ) (rest front text : List ℕ) → NoneBefore (Passes (is_byte 36) rest) 0 (length rest) n → front ≡ drop n rest → opens front ≡ true → length rest ≤ length text
+pub returns_open : (n : ℕ) (rest front text : List ℕ) → NoneBefore (Passes (is_byte 36) rest) 0 (length rest) n → front ≡ drop n rest → opens_expression front ≡ true → length rest ≤ length text
     → opening_len text ≡ (length text - length rest) + opening_len rest → length text - length front ≡ opening_len text
 returns_open n rest front text first ef e within inv =
     let below = first.high in
@@ -56,7 +56,7 @@ returns_open n rest front text first ef e within inv =
     omega (arith, below, plain, left, none, within, inv)
 
 -- the next "$" opens none
-pub goes_on : (n : ℕ) (rest front later text : List ℕ) → NoneBefore (Passes (is_byte 36) rest) 0 (length rest) n → front ≡ drop n rest → opens front ≡ false → later ≡ drop 1 front → length rest ≤ length text
+pub goes_on : (n : ℕ) (rest front later text : List ℕ) → NoneBefore (Passes (is_byte 36) rest) 0 (length rest) n → front ≡ drop n rest → opens_expression front ≡ false → later ≡ drop 1 front → length rest ≤ length text
     → opening_len text ≡ (length text - length rest) + opening_len rest → (length later ≤ length text) × (opening_len text ≡ (length text - length later) + opening_len later)
 goes_on n rest front later text first ef e el within inv =
     let below = first.high in
@@ -67,27 +67,27 @@ goes_on n rest front later text first ef e el within inv =
     let same : opening_len (drop n rest) ≡ opening_len front = rw ef refl in
     (omega (arith, left, fewer, within), omega (arith, below, plain, left, fewer, shut, same, within, inv))
 
-stays_shut : (m : ℕ) (t : List ℕ) → opening_len t ≡ suc m → opens t ≡ false
+stays_shut : (m : ℕ) (t : List ℕ) → opening_len t ≡ suc m → opens_expression t ≡ false
 unfolding opening_len
 stays_shut m [] h = absurd cc
-stays_shut m (c ∷ t) h = go (opens (c ∷ t)) refl h
+stays_shut m (c ∷ t) h = go (opens_expression (c ∷ t)) refl h
   where
-    go : (b : Bool) → opens (c ∷ t) ≡ b → cond b 0 (suc (opening_len t)) ≡ suc m → opens (c ∷ t) ≡ false
+    go : (b : Bool) → opens_expression (c ∷ t) ≡ b → cond b 0 (suc (opening_len t)) ≡ suc m → opens_expression (c ∷ t) ≡ false
     go true e x = absurd cc
     go false e x = e
 
-shut_escape : (c : ℕ) (t : List ℕ) → opens t ≡ false → escapes (c ∷ t) ≡ false
+shut_escape : (c : ℕ) (t : List ℕ) → opens_expression t ≡ false → escapes (c ∷ t) ≡ false
 unfolding escapes
 shut_escape c t e = go (eqb c 92)
   where
-    go : (b : Bool) → (b && opens t) ≡ false
+    go : (b : Bool) → (b && opens_expression t) ≡ false
     go true = e
     go false = refl
 
 pub plain_none : (t : List ℕ) → opening_len t ≡ 0 → plain_len t ≡ 0
 unfolding opening_len plain_len
 plain_none [] h = refl
-plain_none (c ∷ t) h = go (opens (c ∷ t)) h
+plain_none (c ∷ t) h = go (opens_expression (c ∷ t)) h
   where
     go : (b : Bool) → cond b 0 (suc (opening_len t)) ≡ 0 → cond (b || escapes (c ∷ t)) 0 (suc (plain_len t)) ≡ 0
     go true x = refl
@@ -101,12 +101,12 @@ later false m = refl
 pub plain_before : (m : ℕ) (t : List ℕ) → opening_len t ≡ suc m → plain_len t ≡ cond (escapes (drop m t)) m (suc m)
 unfolding opening_len plain_len
 plain_before m [] h = absurd cc
-plain_before zero (c ∷ t) h = go (opens (c ∷ t)) (stays_shut zero (c ∷ t) h) h
+plain_before zero (c ∷ t) h = go (opens_expression (c ∷ t)) (stays_shut zero (c ∷ t) h) h
   where
     go : (b : Bool) → b ≡ false → cond b 0 (suc (opening_len t)) ≡ suc zero → cond (b || escapes (c ∷ t)) 0 (suc (plain_len t)) ≡ cond (escapes (c ∷ t)) 0 1
     go true e x = absurd cc
     go false e x = let none : opening_len t ≡ 0 = omega (arith, x) in rw (plain_none t none) refl
-plain_before (suc m) (c ∷ t) h = go (opens (c ∷ t)) (stays_shut (suc m) (c ∷ t) h) h (plain_before m t)
+plain_before (suc m) (c ∷ t) h = go (opens_expression (c ∷ t)) (stays_shut (suc m) (c ∷ t) h) h (plain_before m t)
   where
     go : (b : Bool) → b ≡ false → cond b 0 (suc (opening_len t)) ≡ suc (suc m) → (opening_len t ≡ suc m → plain_len t ≡ cond (escapes (drop m t)) m (suc m))
         → cond (b || escapes (c ∷ t)) 0 (suc (plain_len t)) ≡ cond (escapes (drop m t)) (suc m) (suc (suc m))
@@ -118,7 +118,7 @@ plain_before (suc m) (c ∷ t) h = go (opens (c ∷ t)) (stays_shut (suc m) (c �
 pub opening_within : (t : List ℕ) → opening_len t ≤ length t
 unfolding opening_len
 opening_within [] = omega arith
-opening_within (c ∷ t) = go (opens (c ∷ t)) (opening_within t)
+opening_within (c ∷ t) = go (opens_expression (c ∷ t)) (opening_within t)
   where
     go : (b : Bool) → opening_len t ≤ length t → cond b 0 (suc (opening_len t)) ≤ length (c ∷ t)
     go true ih = omega arith

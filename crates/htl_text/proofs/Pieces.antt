@@ -11,7 +11,7 @@ use Rattle.htl_text.specs.declared.fault.TextFault.{TextFault}
 use Rattle.htl_text.specs.declared.piece.Piece.{Piece}
 use Rattle.htl_text.specs.declared.piece.Piece.TheVariants.{Value}
 use Rattle.htl_text.specs.declared.quotes.Quotes.TheVariants.{Outside}
-use Rattle.htl_text.specs.Template.{opens, closing, read_value, closed_value, value_at, with_plain, before, pieces, plain_pieces}
+use Rattle.htl_text.specs.Template.{opens_expression, closing, read_value, closed_value, value_at, with_plain, before, template_pieces, plain_pieces}
 use Rattle.htl_text.proofs.Steps.{skipped}
 
 abbrev Read : Type 0
@@ -64,47 +64,47 @@ value_behind place c t e behind h = go (closing Outside 0 (drop 1 t)) h
     go None x = absurd cc
     go (Some n) x = in_text n (expression_of (take n (drop 1 t))) x
 
-not_nothing : opens [] ≡ true → ⊥
-unfolding opens
+not_nothing : opens_expression [] ≡ true → ⊥
+unfolding opens_expression
 not_nothing h = absurd cc
 
-pub value_follows : (all : ℕ) (t : List ℕ) (e : Expr) (behind : List ℕ) → opens t ≡ true → value_at (all - length t) t ≡ Ok (e, behind) → pieces all 0 t ≡ before (Value e ∷ []) (pieces all 0 behind)
-unfolding pieces
+pub value_follows : (all : ℕ) (t : List ℕ) (e : Expr) (behind : List ℕ) → opens_expression t ≡ true → value_at (all - length t) t ≡ Ok (e, behind) → template_pieces all 0 t ≡ before (Value e ∷ []) (template_pieces all 0 behind)
+unfolding template_pieces
 value_follows all [] e behind h x = absurd (not_nothing h)
 value_follows all (c ∷ t) e behind h x =
     let b = value_behind (all - length (c ∷ t)) c t e behind x in
     let rest : drop (length t - length behind) t ≡ behind = rw b.same (drop_back b.n t) in
-    rw (h, x) (ap (before (Value e ∷ [])) (skipped all (length t - length behind) t ∙ ap (pieces all 0) rest))
+    rw (h, x) (ap (before (Value e ∷ [])) (skipped all (length t - length behind) t ∙ ap (template_pieces all 0) rest))
 
-pub value_fails : (all : ℕ) (t : List ℕ) (f : TextFault) → opens t ≡ true → value_at (all - length t) t ≡ Err f → pieces all 0 t ≡ Err f
-unfolding pieces
+pub value_fails : (all : ℕ) (t : List ℕ) (f : TextFault) → opens_expression t ≡ true → value_at (all - length t) t ≡ Err f → template_pieces all 0 t ≡ Err f
+unfolding template_pieces
 value_fails all [] f h x = absurd (not_nothing h)
 value_fails all (c ∷ t) f h x = rw (h, x) refl
 
-pub opens_is : (t : List ℕ) → (eqb (length t) 0 || opens t) ≡ true → eqb (length t) 0 ≡ false → opens t ≡ true
+pub opens_is : (t : List ℕ) → (eqb (length t) 0 || opens_expression t) ≡ true → eqb (length t) 0 ≡ false → opens_expression t ≡ true
 opens_is t h e = rw e at h
 
 -- nothing is left
-pub read_ends : (all : ℕ) (old new : List Piece) (front behind rest text : List ℕ) → eqb (length behind) 0 ≡ true → ((n : ℕ) → with_plain front (pieces n 0 behind) ≡ pieces n 0 rest)
-    → new ≡ old ++ plain_pieces front → before old (pieces all 0 rest) ≡ pieces all 0 text → pieces all 0 text ≡ Ok new
-unfolding pieces
+pub read_ends : (all : ℕ) (old new : List Piece) (front behind rest text : List ℕ) → eqb (length behind) 0 ≡ true → ((n : ℕ) → with_plain front (template_pieces n 0 behind) ≡ template_pieces n 0 rest)
+    → new ≡ old ++ plain_pieces front → before old (template_pieces all 0 rest) ≡ template_pieces all 0 text → template_pieces all 0 text ≡ Ok new
+unfolding template_pieces
 read_ends all old new front [] rest text e plain en inv = sym inv ∙ ap (before old) (sym (plain all)) ∙ ap Ok (sym en)
 read_ends all old new front (c ∷ t) rest text e plain en inv = absurd (grind (arith))
 
 -- an expression is left, which has a fault
-pub read_fails : (all place : ℕ) (old : List Piece) (front behind rest text : List ℕ) (f : TextFault) → opens behind ≡ true → place ≡ all - length behind → value_at place behind ≡ Err f
-    → ((n : ℕ) → with_plain front (pieces n 0 behind) ≡ pieces n 0 rest) → before old (pieces all 0 rest) ≡ pieces all 0 text → pieces all 0 text ≡ Err f
+pub read_fails : (all place : ℕ) (old : List Piece) (front behind rest text : List ℕ) (f : TextFault) → opens_expression behind ≡ true → place ≡ all - length behind → value_at place behind ≡ Err f
+    → ((n : ℕ) → with_plain front (template_pieces n 0 behind) ≡ template_pieces n 0 rest) → before old (template_pieces all 0 rest) ≡ template_pieces all 0 text → template_pieces all 0 text ≡ Err f
 read_fails all place old front behind rest text f h ep x plain inv =
     let fails = value_fails all behind f h (rw ep at x) in
     sym inv ∙ ap (before old) (sym (plain all)) ∙ ap (λ (r : Read). before old (with_plain front r)) fails
 
 -- an expression is left, and a text behind it
-pub read_more : (all place : ℕ) (old mid new : List Piece) (front behind after rest text : List ℕ) (e : Expr) → opens behind ≡ true → place ≡ all - length behind → value_at place behind ≡ Ok (e, after)
-    → ((n : ℕ) → with_plain front (pieces n 0 behind) ≡ pieces n 0 rest) → mid ≡ old ++ plain_pieces front → new ≡ mid ++ Value e ∷ [] → before old (pieces all 0 rest) ≡ pieces all 0 text
-    → before new (pieces all 0 after) ≡ pieces all 0 text
+pub read_more : (all place : ℕ) (old mid new : List Piece) (front behind after rest text : List ℕ) (e : Expr) → opens_expression behind ≡ true → place ≡ all - length behind → value_at place behind ≡ Ok (e, after)
+    → ((n : ℕ) → with_plain front (template_pieces n 0 behind) ≡ template_pieces n 0 rest) → mid ≡ old ++ plain_pieces front → new ≡ mid ++ Value e ∷ [] → before old (template_pieces all 0 rest) ≡ template_pieces all 0 text
+    → before new (template_pieces all 0 after) ≡ template_pieces all 0 text
 read_more all place old mid new front behind after rest text e h ep x plain em en inv =
     let follows = value_follows all behind e after h (rw ep at x) in
-    let later = pieces all 0 after in
+    let later = template_pieces all 0 after in
     rw (en, em) (
     sym (before_twice (old ++ plain_pieces front) (Value e ∷ []) later)
     ∙ sym (before_twice old (plain_pieces front) (before (Value e ∷ []) later))

@@ -10,7 +10,7 @@ use Rattle.htl_text.specs.declared.fault.TextFault.TheVariants.{Unclosed, BadExp
 use Rattle.htl_text.specs.declared.piece.Piece.{Piece}
 use Rattle.htl_text.specs.declared.piece.Piece.TheVariants.{Value}
 use Rattle.htl_text.specs.declared.quotes.Quotes.TheVariants.{Outside}
-use Rattle.htl_text.specs.Template.{is_at, opens, escapes, closing, read_value, value_at, in_front, with_plain, before, pieces, template_of}
+use Rattle.htl_text.specs.Template.{is_in_front, opens_expression, escapes, closing, read_value, value_at, text_in_front, with_plain, before, template_pieces, template_of}
 use Rattle.htl_text.specs.Spelling.{Inside, SpellsTemplate, HasNoExpr, Faults, IsFirstOpening}
 use Rattle.htl_text.specs.Spelling as s
 use Rattle.htl_text.proofs.Closed.{byte_is, closed, never_closes, none_closes, value_is, value_open}
@@ -31,48 +31,48 @@ both : (a b : Bool) → (a && b) ≡ true → (a ≡ true) × (b ≡ true)
 both true b h = (refl, h)
 both false b h = absurd cc
 
-at_is : (c : ℕ) (t : List ℕ) → is_at c t ≡ true → t ≡ c ∷ drop 1 t
-unfolding is_at
+at_is : (c : ℕ) (t : List ℕ) → is_in_front c t ≡ true → t ≡ c ∷ drop 1 t
+unfolding is_in_front
 at_is c [] h = absurd cc
 at_is c (d ∷ t) h = ap (λ (x : ℕ). x ∷ t) (byte_is d c h)
 
-opens_at : (t : List ℕ) → opens t ≡ true → t ≡ 36 ∷ 123 ∷ drop 2 t
-unfolding opens
+opens_at : (t : List ℕ) → opens_expression t ≡ true → t ≡ 36 ∷ 123 ∷ drop 2 t
+unfolding opens_expression
 opens_at [] h = absurd cc
 opens_at (c ∷ t) h =
-    let b = both (eqb c 36) (is_at 123 t) h in
+    let b = both (eqb c 36) (is_in_front 123 t) h in
     ap (λ (x : ℕ). x ∷ t) (byte_is c 36 b.0) ∙ ap (λ (u : List ℕ). 36 ∷ u) (at_is 123 t b.1)
 
 escapes_at : (t : List ℕ) → escapes t ≡ true → t ≡ 92 ∷ 36 ∷ 123 ∷ drop 3 t
 unfolding escapes
 escapes_at [] h = absurd cc
 escapes_at (c ∷ t) h =
-    let b = both (eqb c 92) (opens t) h in
+    let b = both (eqb c 92) (opens_expression t) h in
     ap (λ (x : ℕ). x ∷ t) (byte_is c 92 b.0) ∙ ap (λ (u : List ℕ). 92 ∷ u) (opens_at t b.1)
 
-opens_there : (t : List ℕ) → opens (36 ∷ 123 ∷ t) ≡ true
-unfolding opens is_at
+opens_there : (t : List ℕ) → opens_expression (36 ∷ 123 ∷ t) ≡ true
+unfolding opens_expression is_in_front
 opens_there t = refl
 
 -- ---- what is spelled is read
 
 -- the reading of a text by that of a rest
 abbrev Carries : ℕ → List ℕ → List Piece → List ℕ → Type 0
-Carries all text ps rest = (pieces all 0 rest ≡ Ok [] → pieces all 0 text ≡ Ok ps) × ((f : TextFault) → pieces all 0 rest ≡ Err f → pieces all 0 text ≡ Err f)
+Carries all text ps rest = (template_pieces all 0 rest ≡ Ok [] → template_pieces all 0 text ≡ Ok ps) × ((f : TextFault) → template_pieces all 0 rest ≡ Err f → template_pieces all 0 text ≡ Err f)
 
-carries : (all : ℕ) (text later : List ℕ) (ps qs : List Piece) (rest : List ℕ) (k : Read → Read) → pieces all 0 text ≡ k (pieces all 0 later) → k (Ok ps) ≡ Ok qs → ((f : TextFault) → k (Err f) ≡ Err f)
+carries : (all : ℕ) (text later : List ℕ) (ps qs : List Piece) (rest : List ℕ) (k : Read → Read) → template_pieces all 0 text ≡ k (template_pieces all 0 later) → k (Ok ps) ≡ Ok qs → ((f : TextFault) → k (Err f) ≡ Err f)
     → Carries all later ps rest → Carries all text qs rest
 carries all text later ps qs rest k e good bad x = (λ h. e ∙ ap k (x.0 h) ∙ good, λ f h. e ∙ ap k (x.1 f h) ∙ bad f)
 
-plain_read : (all c : ℕ) (t : List ℕ) → opens (c ∷ t) ≡ false → escapes (c ∷ t) ≡ false → pieces all 0 (c ∷ t) ≡ with_plain (c ∷ []) (pieces all 0 t)
-unfolding pieces
+plain_read : (all c : ℕ) (t : List ℕ) → opens_expression (c ∷ t) ≡ false → escapes (c ∷ t) ≡ false → template_pieces all 0 (c ∷ t) ≡ with_plain (c ∷ []) (template_pieces all 0 t)
+unfolding template_pieces
 plain_read all c t a b = rw (a, b) refl
 
-escaped_read : (all : ℕ) (t : List ℕ) → pieces all 0 (92 ∷ 36 ∷ 123 ∷ t) ≡ with_plain (codes "${") (pieces all 0 t)
-unfolding pieces opens escapes is_at
+escaped_read : (all : ℕ) (t : List ℕ) → template_pieces all 0 (92 ∷ 36 ∷ 123 ∷ t) ≡ with_plain (codes "${") (template_pieces all 0 t)
+unfolding template_pieces opens_expression escapes is_in_front
 escaped_read all t = refl
 
-value_read : (all : ℕ) (w t : List ℕ) (e : Expr) → Inside w → expression_of w ≡ Ok e → pieces all 0 (36 ∷ 123 ∷ (w ++ 125 ∷ t)) ≡ before (Value e ∷ []) (pieces all 0 t)
+value_read : (all : ℕ) (w t : List ℕ) (e : Expr) → Inside w → expression_of w ≡ Ok e → template_pieces all 0 (36 ∷ 123 ∷ (w ++ 125 ∷ t)) ≡ before (Value e ∷ []) (template_pieces all 0 t)
 value_read all w t e x h =
     let text = 36 ∷ 123 ∷ (w ++ 125 ∷ t) in
     value_follows all text e t (opens_there (w ++ 125 ∷ t)) (value_is (all - length text) w t x ∙ ap (read_value (all - length text) t) h)
@@ -80,14 +80,14 @@ value_read all w t e x h =
 spelled_on : Only → (all : ℕ) (text : List ℕ) (ps : List Piece) (rest : List ℕ) → SpellsTemplate text ps rest → Carries all text ps rest
 spelled_on only all _ _ _ s.end = (λ h. h, λ f h. h)
 spelled_on only all _ _ rest (s.plain {c = c} {text = t} {ps = ps} a b x) =
-    carries all (c ∷ t) t ps (in_front (c ∷ []) ps) rest (with_plain (c ∷ [])) (plain_read all c t a b) refl (λ f. refl) (spelled_on only all t ps rest x)
+    carries all (c ∷ t) t ps (text_in_front (c ∷ []) ps) rest (with_plain (c ∷ [])) (plain_read all c t a b) refl (λ f. refl) (spelled_on only all t ps rest x)
 spelled_on only all _ _ rest (s.escape {text = t} {ps = ps} x) =
-    carries all (92 ∷ 36 ∷ 123 ∷ t) t ps (in_front (codes "${") ps) rest (with_plain (codes "${")) (escaped_read all t) refl (λ f. refl) (spelled_on only all t ps rest x)
+    carries all (92 ∷ 36 ∷ 123 ∷ t) t ps (text_in_front (codes "${") ps) rest (with_plain (codes "${")) (escaped_read all t) refl (λ f. refl) (spelled_on only all t ps rest x)
 spelled_on only all _ _ rest (s.value {inside = w} {text = t} {e = e} {ps = ps} i y x) =
     carries all (36 ∷ 123 ∷ (w ++ 125 ∷ t)) t ps (Value e ∷ ps) rest (before (Value e ∷ [])) (value_read all w t e i (only w e y)) refl (λ f. refl) (spelled_on only all t ps rest x)
 
-pieces_end : (all : ℕ) → pieces all 0 [] ≡ Ok []
-unfolding pieces
+pieces_end : (all : ℕ) → template_pieces all 0 [] ≡ Ok []
+unfolding template_pieces
 pieces_end all = refl
 
 pub spelled_is_read : Only → (text : List ℕ) (ps : List Piece) → SpellsTemplate text ps [] → template_of text ≡ Ok ps
@@ -145,13 +145,13 @@ later n w text after f g e spell x =
       faulty = subst (λ (k : ℕ). Faults f k x.behind) place x.faulty;
     }
 
-plain_means : (n c : ℕ) (t : List ℕ) → opens (c ∷ t) ≡ false → escapes (c ∷ t) ≡ false → (r : Read) → Meaning (n + 1) t r → Meaning n (c ∷ t) (with_plain (c ∷ []) r)
+plain_means : (n c : ℕ) (t : List ℕ) → opens_expression (c ∷ t) ≡ false → escapes (c ∷ t) ≡ false → (r : Read) → Meaning (n + 1) t r → Meaning n (c ∷ t) (with_plain (c ∷ []) r)
 plain_means n c t a b (Ok ps) x = s.plain a b x
-plain_means n c t a b (Err f) x = later n (c ∷ []) (c ∷ t) t f (in_front (c ∷ [])) refl (λ ps rest y. s.plain a b y) x
+plain_means n c t a b (Err f) x = later n (c ∷ []) (c ∷ t) t f (text_in_front (c ∷ [])) refl (λ ps rest y. s.plain a b y) x
 
 escaped_means : (n : ℕ) (t : List ℕ) (r : Read) → Meaning (n + 3) t r → Meaning n (92 ∷ 36 ∷ 123 ∷ t) (with_plain (codes "${") r)
 escaped_means n t (Ok ps) x = s.escape x
-escaped_means n t (Err f) x = later n (92 ∷ 36 ∷ 123 ∷ []) (92 ∷ 36 ∷ 123 ∷ t) t f (in_front (codes "${")) refl (λ ps rest y. s.escape y) x
+escaped_means n t (Err f) x = later n (92 ∷ 36 ∷ 123 ∷ []) (92 ∷ 36 ∷ 123 ∷ t) t f (text_in_front (codes "${")) refl (λ ps rest y. s.escape y) x
 
 value_means : (n : ℕ) (w t : List ℕ) (e : Expr) → Inside w → Whole w e → (r : Read) → Meaning (n + (length w + 3)) t r → Meaning n (36 ∷ 123 ∷ (w ++ 125 ∷ t)) (before (Value e ∷ []) r)
 value_means n w t e i y (Ok ps) x = s.value i y x
@@ -163,7 +163,7 @@ value_means n w t e i y (Err f) x =
     (subst (λ (k : ℕ). First k t f) place x)
 
 -- a fault at the front
-fault_here : (n all : ℕ) (f : TextFault) (t : List ℕ) → n + length (36 ∷ 123 ∷ t) ≡ all → value_at n (36 ∷ 123 ∷ t) ≡ Err f → Faults f n t → Meaning n (36 ∷ 123 ∷ t) (pieces all 0 (36 ∷ 123 ∷ t))
+fault_here : (n all : ℕ) (f : TextFault) (t : List ℕ) → n + length (36 ∷ 123 ∷ t) ≡ all → value_at n (36 ∷ 123 ∷ t) ≡ Err f → Faults f n t → Meaning n (36 ∷ 123 ∷ t) (template_pieces all 0 (36 ∷ 123 ∷ t))
 fault_here n all f t e h x =
     let opening = 36 ∷ 123 ∷ t in
     let place : all - length opening ≡ n = omega (arith, e) in
@@ -172,27 +172,27 @@ fault_here n all f t e h x =
     subst (Meaning n opening) (sym (value_fails all opening f (opens_there t) (ap (λ (k : ℕ). value_at k opening) place ∙ h))) here
 
 -- an expression that is closed at the front
-closed_means : Found → Only → (n all : ℕ) (w t : List ℕ) → Inside w → n + length (36 ∷ 123 ∷ (w ++ 125 ∷ t)) ≡ all → Meaning (n + (length w + 3)) t (pieces all 0 t)
-    → Meaning n (36 ∷ 123 ∷ (w ++ 125 ∷ t)) (pieces all 0 (36 ∷ 123 ∷ (w ++ 125 ∷ t)))
+closed_means : Found → Only → (n all : ℕ) (w t : List ℕ) → Inside w → n + length (36 ∷ 123 ∷ (w ++ 125 ∷ t)) ≡ all → Meaning (n + (length w + 3)) t (template_pieces all 0 t)
+    → Meaning n (36 ∷ 123 ∷ (w ++ 125 ∷ t)) (template_pieces all 0 (36 ∷ 123 ∷ (w ++ 125 ∷ t)))
 closed_means found only n all w t i e x = go (expression_of w) refl
   where
     text : List ℕ
     text = 36 ∷ 123 ∷ (w ++ 125 ∷ t)
 
-    go : (r : Result Expr ExprFault) → expression_of w ≡ r → Meaning n text (pieces all 0 text)
-    go (Ok v) h = subst (Meaning n text) (sym (value_read all w t v i h)) (value_means n w t v i (found w v h) (pieces all 0 t) x)
+    go : (r : Result Expr ExprFault) → expression_of w ≡ r → Meaning n text (template_pieces all 0 text)
+    go (Ok v) h = subst (Meaning n text) (sym (value_read all w t v i h)) (value_means n w t v i (found w v h) (template_pieces all 0 t) x)
     go (Err g) h =
         let none : (v : Expr) → Whole w v → ⊥ = λ v y. (let again = only w v y in absurd cc) in
         fault_here n all (BadExpr n) (w ++ 125 ∷ t) e (value_is n w t i ∙ ap (read_value n t) h) (refl, record { inside = w; text = t; parts = refl; closed = i; none = none })
 
 -- what follows, up to a length, means what is read of it
 abbrev Follows : ℕ → ℕ → Type 0
-Follows all size = (n : ℕ) (t : List ℕ) → length t ≤ size → n + length t ≡ all → Meaning n t (pieces all 0 t)
+Follows all size = (n : ℕ) (t : List ℕ) → length t ≤ size → n + length t ≡ all → Meaning n t (template_pieces all 0 t)
 
-opening_means : Found → Only → (n all size : ℕ) (t : List ℕ) → n + length (36 ∷ 123 ∷ t) ≡ all → length t ≤ size → Follows all size → Meaning n (36 ∷ 123 ∷ t) (pieces all 0 (36 ∷ 123 ∷ t))
+opening_means : Found → Only → (n all size : ℕ) (t : List ℕ) → n + length (36 ∷ 123 ∷ t) ≡ all → length t ≤ size → Follows all size → Meaning n (36 ∷ 123 ∷ t) (template_pieces all 0 (36 ∷ 123 ∷ t))
 opening_means found only n all size t e le ih = go (closing Outside 0 t) refl
   where
-    go : (o : Option ℕ) → closing Outside 0 t ≡ o → Meaning n (36 ∷ 123 ∷ t) (pieces all 0 (36 ∷ 123 ∷ t))
+    go : (o : Option ℕ) → closing Outside 0 t ≡ o → Meaning n (36 ∷ 123 ∷ t) (template_pieces all 0 (36 ∷ 123 ∷ t))
     go None h = fault_here n all (Unclosed n) t e (value_open n t h) (refl, never_closes t h)
     go (Some m) h =
         let x = closed Outside 0 t m h in
@@ -200,33 +200,33 @@ opening_means found only n all size t e le ih = go (closing Outside 0 t) refl
         let less : length x.text ≤ size = omega (arith, parts, le) in
         let place : (n + (length x.inside + 3)) + length x.text ≡ all = omega (arith, parts, e) in
         let whole : n + length (36 ∷ 123 ∷ (x.inside ++ 125 ∷ x.text)) ≡ all = rw x.parts at e in
-        subst (λ (u : List ℕ). Meaning n (36 ∷ 123 ∷ u) (pieces all 0 (36 ∷ 123 ∷ u))) (sym x.parts)
+        subst (λ (u : List ℕ). Meaning n (36 ∷ 123 ∷ u) (template_pieces all 0 (36 ∷ 123 ∷ u))) (sym x.parts)
         (closed_means found only n all x.inside x.text x.closed whole (ih (n + (length x.inside + 3)) x.text less place))
 
-escape_means : (n all size : ℕ) (t : List ℕ) → n + length (92 ∷ 36 ∷ 123 ∷ t) ≡ all → length t ≤ size → Follows all size → Meaning n (92 ∷ 36 ∷ 123 ∷ t) (pieces all 0 (92 ∷ 36 ∷ 123 ∷ t))
+escape_means : (n all size : ℕ) (t : List ℕ) → n + length (92 ∷ 36 ∷ 123 ∷ t) ≡ all → length t ≤ size → Follows all size → Meaning n (92 ∷ 36 ∷ 123 ∷ t) (template_pieces all 0 (92 ∷ 36 ∷ 123 ∷ t))
 escape_means n all size t e le ih =
     let place : (n + 3) + length t ≡ all = omega (arith, e) in
-    subst (Meaning n (92 ∷ 36 ∷ 123 ∷ t)) (sym (escaped_read all t)) (escaped_means n t (pieces all 0 t) (ih (n + 3) t le place))
+    subst (Meaning n (92 ∷ 36 ∷ 123 ∷ t)) (sym (escaped_read all t)) (escaped_means n t (template_pieces all 0 t) (ih (n + 3) t le place))
 
-front_means : Found → Only → (n all size c : ℕ) (t : List ℕ) → n + length (c ∷ t) ≡ all → length t ≤ size → Follows all size → Meaning n (c ∷ t) (pieces all 0 (c ∷ t))
-front_means found only n all size c t e le ih = go (opens (c ∷ t)) (escapes (c ∷ t)) refl refl
+front_means : Found → Only → (n all size c : ℕ) (t : List ℕ) → n + length (c ∷ t) ≡ all → length t ≤ size → Follows all size → Meaning n (c ∷ t) (template_pieces all 0 (c ∷ t))
+front_means found only n all size c t e le ih = go (opens_expression (c ∷ t)) (escapes (c ∷ t)) refl refl
   where
-    go : (a b : Bool) → opens (c ∷ t) ≡ a → escapes (c ∷ t) ≡ b → Meaning n (c ∷ t) (pieces all 0 (c ∷ t))
+    go : (a b : Bool) → opens_expression (c ∷ t) ≡ a → escapes (c ∷ t) ≡ b → Meaning n (c ∷ t) (template_pieces all 0 (c ∷ t))
     go true b ea eb =
         let parts = opens_at (c ∷ t) ea in
         let size_of = ap length parts in
         let whole : n + length (36 ∷ 123 ∷ drop 1 t) ≡ all = omega (arith, e, size_of) in
         let less : length (drop 1 t) ≤ size = omega (arith, le, size_of) in
-        subst (λ (u : List ℕ). Meaning n u (pieces all 0 u)) (sym parts) (opening_means found only n all size (drop 1 t) whole less ih)
+        subst (λ (u : List ℕ). Meaning n u (template_pieces all 0 u)) (sym parts) (opening_means found only n all size (drop 1 t) whole less ih)
     go false true ea eb =
         let parts = escapes_at (c ∷ t) eb in
         let size_of = ap length parts in
         let whole : n + length (92 ∷ 36 ∷ 123 ∷ drop 2 t) ≡ all = omega (arith, e, size_of) in
         let less : length (drop 2 t) ≤ size = omega (arith, le, size_of) in
-        subst (λ (u : List ℕ). Meaning n u (pieces all 0 u)) (sym parts) (escape_means n all size (drop 2 t) whole less ih)
+        subst (λ (u : List ℕ). Meaning n u (template_pieces all 0 u)) (sym parts) (escape_means n all size (drop 2 t) whole less ih)
     go false false ea eb =
         let place : (n + 1) + length t ≡ all = omega (arith, e) in
-        subst (Meaning n (c ∷ t)) (sym (plain_read all c t ea eb)) (plain_means n c t ea eb (pieces all 0 t) (ih (n + 1) t le place))
+        subst (Meaning n (c ∷ t)) (sym (plain_read all c t ea eb)) (plain_means n c t ea eb (template_pieces all 0 t) (ih (n + 1) t le place))
 
 means : Found → Only → (all size : ℕ) → Follows all size
 means found only all size n [] le e = subst (Meaning n []) (sym (pieces_end all)) s.end

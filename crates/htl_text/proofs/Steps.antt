@@ -8,15 +8,15 @@ use Rattle.htl_text.specs.declared.piece.Piece.{Piece}
 use Rattle.htl_text.specs.declared.piece.Piece.TheVariants.{Plain, Value}
 use Rattle.htl_text.specs.declared.quotes.Quotes.{Quotes}
 use Rattle.htl_text.specs.declared.quotes.Quotes.TheVariants.{Outside, Inside, Escaped}
-use Rattle.htl_text.specs.Template.{is_at, opens, escapes, step, closes, closing, in_front, with_plain, pieces, plain_len}
+use Rattle.htl_text.specs.Template.{is_in_front, opens_expression, escapes, quotes_step, closes_expression, closing, text_in_front, with_plain, template_pieces, plain_len}
 
 written_nil : (r : Result (List Piece) TextFault) → with_plain [] r ≡ r
 written_nil (Ok ps) = refl
 written_nil (Err f) = refl
 
-in_front_twice : (a b : List ℕ) (ps : List Piece) → in_front a (in_front b ps) ≡ in_front (a ++ b) ps
+in_front_twice : (a b : List ℕ) (ps : List Piece) → text_in_front a (text_in_front b ps) ≡ text_in_front (a ++ b) ps
 in_front_twice [] b ps = refl
-in_front_twice (c ∷ a) [] ps = ap (λ (l : List ℕ). in_front (c ∷ l) ps) (sym (append-nil a))
+in_front_twice (c ∷ a) [] ps = ap (λ (l : List ℕ). text_in_front (c ∷ l) ps) (sym (append-nil a))
 in_front_twice (c ∷ a) (d ∷ b) [] = refl
 in_front_twice (c ∷ a) (d ∷ b) (Plain more ∷ ps) = ap (λ (l : List ℕ). Plain (c ∷ l) ∷ ps) (sym (append_assoc a (d ∷ b) more))
 in_front_twice (c ∷ a) (d ∷ b) (Value e ∷ ps) = refl
@@ -26,23 +26,23 @@ written_twice a b (Ok ps) = ap Ok (in_front_twice a b ps)
 written_twice a b (Err f) = refl
 
 -- bytes that belong to the piece before are passed over
-pub skipped : (all n : ℕ) (t : List ℕ) → pieces all n t ≡ pieces all 0 (drop n t)
-unfolding pieces
+pub skipped : (all n : ℕ) (t : List ℕ) → template_pieces all n t ≡ template_pieces all 0 (drop n t)
+unfolding template_pieces
 skipped all zero t = refl
 skipped all (suc n) [] = refl
 skipped all (suc n) (c ∷ t) = skipped all n t
 
 -- plain bytes are written before what follows
-pub plain_step : (all : ℕ) (t : List ℕ) → pieces all 0 t ≡ with_plain (take (plain_len t) t) (pieces all 0 (drop (plain_len t) t))
-unfolding pieces plain_len
+pub plain_step : (all : ℕ) (t : List ℕ) → template_pieces all 0 t ≡ with_plain (take (plain_len t) t) (template_pieces all 0 (drop (plain_len t) t))
+unfolding template_pieces plain_len
 plain_step all [] = refl
-plain_step all (c ∷ t) = go (opens (c ∷ t)) (escapes (c ∷ t)) refl refl (plain_step all t)
+plain_step all (c ∷ t) = go (opens_expression (c ∷ t)) (escapes (c ∷ t)) refl refl (plain_step all t)
   where
-    go : (a b : Bool) → opens (c ∷ t) ≡ a → escapes (c ∷ t) ≡ b → pieces all 0 t ≡ with_plain (take (plain_len t) t) (pieces all 0 (drop (plain_len t) t))
-        → pieces all 0 (c ∷ t) ≡ with_plain (take (cond (a || b) 0 (suc (plain_len t))) (c ∷ t)) (pieces all 0 (drop (cond (a || b) 0 (suc (plain_len t))) (c ∷ t)))
-    go true b ea eb ih = sym (written_nil (pieces all 0 (c ∷ t)))
-    go false true ea eb ih = sym (written_nil (pieces all 0 (c ∷ t)))
-    go false false ea eb ih = rw (ea, eb) (ap (with_plain (c ∷ [])) ih ∙ written_twice (c ∷ []) (take (plain_len t) t) (pieces all 0 (drop (plain_len t) t)))
+    go : (a b : Bool) → opens_expression (c ∷ t) ≡ a → escapes (c ∷ t) ≡ b → template_pieces all 0 t ≡ with_plain (take (plain_len t) t) (template_pieces all 0 (drop (plain_len t) t))
+        → template_pieces all 0 (c ∷ t) ≡ with_plain (take (cond (a || b) 0 (suc (plain_len t))) (c ∷ t)) (template_pieces all 0 (drop (cond (a || b) 0 (suc (plain_len t))) (c ∷ t)))
+    go true b ea eb ih = sym (written_nil (template_pieces all 0 (c ∷ t)))
+    go false true ea eb ih = sym (written_nil (template_pieces all 0 (c ∷ t)))
+    go false false ea eb ih = rw (ea, eb) (ap (with_plain (c ∷ [])) ih ∙ written_twice (c ∷ []) (take (plain_len t) t) (template_pieces all 0 (drop (plain_len t) t)))
 
 pub some_of : (t : List ℕ) → (eqb (length t) 0) ≡ false → 0 < length t
 some_of [] h = absurd cc
@@ -52,48 +52,48 @@ some_of (c ∷ t) h = omega arith
 pub closing_at : (quotes : Quotes) (n : ℕ) (t : List ℕ) (m : ℕ) → closing quotes n t ≡ Some m → (n ≤ m) × (m - n < length t) × (slice_index t (m - n) ≡ 125)
 unfolding closing
 closing_at quotes n [] m h = absurd cc
-closing_at quotes n (c ∷ t) m h = go (closes quotes c) refl h (closing_at (step quotes c) (n + 1) t m)
+closing_at quotes n (c ∷ t) m h = go (closes_expression quotes c) refl h (closing_at (quotes_step quotes c) (n + 1) t m)
   where
-    found : (q : Quotes) → closes q c ≡ true → c ≡ 125
+    found : (q : Quotes) → closes_expression q c ≡ true → c ≡ 125
     found Outside e = search rules
     found (Inside mark) e = absurd cc
     found (Escaped mark) e = absurd cc
 
-    go : (b : Bool) → closes quotes c ≡ b → cond b (Some n) (closing (step quotes c) (n + 1) t) ≡ Some m
-        → (closing (step quotes c) (n + 1) t ≡ Some m → (n + 1 ≤ m) × (m - (n + 1) < length t) × (slice_index t (m - (n + 1)) ≡ 125))
+    go : (b : Bool) → closes_expression quotes c ≡ b → cond b (Some n) (closing (quotes_step quotes c) (n + 1) t) ≡ Some m
+        → (closing (quotes_step quotes c) (n + 1) t ≡ Some m → (n + 1 ≤ m) × (m - (n + 1) < length t) × (slice_index t (m - (n + 1)) ≡ 125))
         → (n ≤ m) × (m - n < length (c ∷ t)) × (slice_index (c ∷ t) (m - n) ≡ 125)
     go true e h' ih = let same : n ≡ m = cc in let none : m - n ≡ 0 = omega (arith, same) in (omega (arith, same), omega (arith, none), rw none (found quotes e))
     go false e h' ih = let x = ih h' in let more : m - n ≡ suc (m - (n + 1)) = omega (arith, x.0) in (omega (arith, x.0), omega (arith, more, x.1), rw more x.2)
 
-at_front : (c : ℕ) (t : List ℕ) → c < 128 → is_at c t ≡ true → slice_index t 0 < 128
-unfolding is_at
+at_front : (c : ℕ) (t : List ℕ) → c < 128 → is_in_front c t ≡ true → slice_index t 0 < 128
+unfolding is_in_front
 at_front c [] lt h = absurd cc
 at_front c (d ∷ t) lt h = grind (arith, nat_tests)
 
-at_less : (c : ℕ) (t : List ℕ) → is_at c t ≡ true → length (drop 1 t) < length t
-unfolding is_at
+at_less : (c : ℕ) (t : List ℕ) → is_in_front c t ≡ true → length (drop 1 t) < length t
+unfolding is_in_front
 at_less c [] h = absurd cc
 at_less c (d ∷ t) h = omega arith
 
 -- "${" in front
 pub record Opening (t : List ℕ) : Type 0 where
   pub first : slice_index t 0 < 128
-  pub second : is_at 123 (drop 1 t) ≡ true
+  pub second : is_in_front 123 (drop 1 t) ≡ true
 
-pub opening : (t : List ℕ) → opens t ≡ true → Opening t
-unfolding opens
+pub opening : (t : List ℕ) → opens_expression t ≡ true → Opening t
+unfolding opens_expression
 opening [] h = absurd cc
-opening (c ∷ t) h = go (eqb c 36) (is_at 123 t) refl refl h
+opening (c ∷ t) h = go (eqb c 36) (is_in_front 123 t) refl refl h
   where
-    go : (a b : Bool) → eqb c 36 ≡ a → is_at 123 t ≡ b → (a && b) ≡ true → Opening (c ∷ t)
+    go : (a b : Bool) → eqb c 36 ≡ a → is_in_front 123 t ≡ b → (a && b) ≡ true → Opening (c ∷ t)
     go true true ea eb e = record { first = grind (arith, nat_tests); second = eb }
     go true false ea eb e = absurd cc
     go false b ea eb e = absurd cc
 
-pub opens_first : (t : List ℕ) → opens t ≡ true → slice_index t 0 < 128
+pub opens_first : (t : List ℕ) → opens_expression t ≡ true → slice_index t 0 < 128
 opens_first t h = (opening t h).first
 
-pub opens_second : (t : List ℕ) → opens t ≡ true → slice_index (drop 1 t) 0 < 128
+pub opens_second : (t : List ℕ) → opens_expression t ≡ true → slice_index (drop 1 t) 0 < 128
 opens_second t h = at_front 123 (drop 1 t) (omega arith) (opening t h).second
 
 first_less : (t : List ℕ) → length (drop 1 t) ≤ length t
@@ -105,7 +105,7 @@ drop_less zero t = omega arith
 drop_less (suc n) [] = omega arith
 drop_less (suc n) (c ∷ t) = let x = drop_less n t in omega (arith, x)
 
-pub opens_less : (n : ℕ) (t : List ℕ) → opens t ≡ true → length (drop 1 (drop n (drop 1 (drop 1 t)))) < length t
+pub opens_less : (n : ℕ) (t : List ℕ) → opens_expression t ≡ true → length (drop 1 (drop n (drop 1 (drop 1 t)))) < length t
 opens_less n t h =
     let a = at_less 123 (drop 1 t) (opening t h).second in
     let b = first_less t in
@@ -137,32 +137,32 @@ closing_front t m h = let y = closing_byte t m h in rw (index_drop m t) (omega (
 pub record Escape (t : List ℕ) : Type 0 where
   pub first : slice_index t 0 < 128
   pub less : length (drop 1 t) < length t
-  pub opens : opens (drop 1 t) ≡ true
+  pub opens : opens_expression (drop 1 t) ≡ true
 
 pub escape : (t : List ℕ) → escapes t ≡ true → Escape t
 unfolding escapes
 escape [] h = absurd cc
-escape (c ∷ t) h = go (eqb c 92) (opens t) refl refl h
+escape (c ∷ t) h = go (eqb c 92) (opens_expression t) refl refl h
   where
-    go : (a b : Bool) → eqb c 92 ≡ a → opens t ≡ b → (a && b) ≡ true → Escape (c ∷ t)
+    go : (a b : Bool) → eqb c 92 ≡ a → opens_expression t ≡ b → (a && b) ≡ true → Escape (c ∷ t)
     go true true ea eb e = record { first = grind (arith, nat_tests); less = omega arith; opens = eb }
     go true false ea eb e = absurd cc
     go false b ea eb e = absurd cc
 
-not_opening : (t : List ℕ) → escapes t ≡ true → opens t ≡ false
-unfolding escapes opens
+not_opening : (t : List ℕ) → escapes t ≡ true → opens_expression t ≡ false
+unfolding escapes opens_expression
 not_opening [] h = absurd cc
 not_opening (c ∷ t) h = go (eqb c 92) (eqb c 36) refl refl h
   where
-    go : (a b : Bool) → eqb c 92 ≡ a → eqb c 36 ≡ b → (a && opens t) ≡ true → (b && is_at 123 t) ≡ false
+    go : (a b : Bool) → eqb c 92 ≡ a → eqb c 36 ≡ b → (a && opens_expression t) ≡ true → (b && is_in_front 123 t) ≡ false
     go true true ea eb e = absurd (grind (arith, nat_tests))
     go true false ea eb e = refl
     go false b ea eb e = absurd cc
 
-pub escape_step : (all : ℕ) (t : List ℕ) → escapes t ≡ true → pieces all 0 t ≡ with_plain (codes "${") (pieces all 0 (drop 1 (drop 1 (drop 1 t))))
-unfolding pieces
+pub escape_step : (all : ℕ) (t : List ℕ) → escapes t ≡ true → template_pieces all 0 t ≡ with_plain (codes "${") (template_pieces all 0 (drop 1 (drop 1 (drop 1 t))))
+unfolding template_pieces
 escape_step all [] h = absurd (let x = (escape [] h).less in omega (arith, x))
-escape_step all (c ∷ t) h = rw (not_opening (c ∷ t) h, h) (ap (with_plain (codes "${")) (skipped all 2 t ∙ ap (pieces all 0) (two t)))
+escape_step all (c ∷ t) h = rw (not_opening (c ∷ t) h, h) (ap (with_plain (codes "${")) (skipped all 2 t ∙ ap (template_pieces all 0) (two t)))
   where
     two : (l : List ℕ) → drop 2 l ≡ drop 1 (drop 1 l)
     two [] = refl
@@ -171,7 +171,7 @@ escape_step all (c ∷ t) h = rw (not_opening (c ∷ t) h, h) (ap (with_plain (c
 pub plain_within : (t : List ℕ) → plain_len t ≤ length t
 unfolding plain_len
 plain_within [] = omega arith
-plain_within (c ∷ t) = go (opens (c ∷ t) || escapes (c ∷ t)) (plain_within t)
+plain_within (c ∷ t) = go (opens_expression (c ∷ t) || escapes (c ∷ t)) (plain_within t)
   where
     go : (b : Bool) → plain_len t ≤ length t → cond b 0 (suc (plain_len t)) ≤ length (c ∷ t)
     go true ih = omega arith
@@ -182,20 +182,20 @@ or_true true b e = refl
 or_true false b e = e
 
 -- an opening or an escape stands behind the plain bytes, or nothing
-pub plain_stops : (t : List ℕ) → (eqb (length (drop (plain_len t) t)) 0 || (opens (drop (plain_len t) t) || escapes (drop (plain_len t) t))) ≡ true
+pub plain_stops : (t : List ℕ) → (eqb (length (drop (plain_len t) t)) 0 || (opens_expression (drop (plain_len t) t) || escapes (drop (plain_len t) t))) ≡ true
 unfolding plain_len
 plain_stops [] = refl
-plain_stops (c ∷ t) = go (opens (c ∷ t) || escapes (c ∷ t)) refl (plain_stops t)
+plain_stops (c ∷ t) = go (opens_expression (c ∷ t) || escapes (c ∷ t)) refl (plain_stops t)
   where
-    go : (b : Bool) → (opens (c ∷ t) || escapes (c ∷ t)) ≡ b → (eqb (length (drop (plain_len t) t)) 0 || (opens (drop (plain_len t) t) || escapes (drop (plain_len t) t))) ≡ true
-        → (eqb (length (drop (cond b 0 (suc (plain_len t))) (c ∷ t))) 0 || (opens (drop (cond b 0 (suc (plain_len t))) (c ∷ t)) || escapes (drop (cond b 0 (suc (plain_len t))) (c ∷ t)))) ≡ true
-    go true e ih = or_true (eqb (length (c ∷ t)) 0) (opens (c ∷ t) || escapes (c ∷ t)) e
+    go : (b : Bool) → (opens_expression (c ∷ t) || escapes (c ∷ t)) ≡ b → (eqb (length (drop (plain_len t) t)) 0 || (opens_expression (drop (plain_len t) t) || escapes (drop (plain_len t) t))) ≡ true
+        → (eqb (length (drop (cond b 0 (suc (plain_len t))) (c ∷ t))) 0 || (opens_expression (drop (cond b 0 (suc (plain_len t))) (c ∷ t)) || escapes (drop (cond b 0 (suc (plain_len t))) (c ∷ t)))) ≡ true
+    go true e ih = or_true (eqb (length (c ∷ t)) 0) (opens_expression (c ∷ t) || escapes (c ∷ t)) e
     go false e ih = ih
 
-stops_first : (t : List ℕ) → 0 < length t → (eqb (length t) 0 || (opens t || escapes t)) ≡ true → slice_index t 0 < 128
-stops_first t lt h = go (eqb (length t) 0) (opens t) (escapes t) refl refl refl h
+stops_first : (t : List ℕ) → 0 < length t → (eqb (length t) 0 || (opens_expression t || escapes t)) ≡ true → slice_index t 0 < 128
+stops_first t lt h = go (eqb (length t) 0) (opens_expression t) (escapes t) refl refl refl h
   where
-    go : (a b c : Bool) → eqb (length t) 0 ≡ a → opens t ≡ b → escapes t ≡ c → (a || (b || c)) ≡ true → slice_index t 0 < 128
+    go : (a b c : Bool) → eqb (length t) 0 ≡ a → opens_expression t ≡ b → escapes t ≡ c → (a || (b || c)) ≡ true → slice_index t 0 < 128
     go true b c ea eb ec e = absurd (grind (arith, nat_tests))
     go false true c ea eb ec e = opens_first t eb
     go false false true ea eb ec e = (escape t ec).first
@@ -208,10 +208,10 @@ plain_boundary t = (plain_within t, λ lt big. let small = subst (λ (x : ℕ). 
     there n l lt = rw (length-drop n l) (omega (arith, lt))
 
 -- what is left is nothing, or an expression opens
-pub stops_is : (n : ℕ) (rest behind : List ℕ) → n ≡ plain_len rest → behind ≡ drop n rest → escapes behind ≡ false → (eqb (length behind) 0 || opens behind) ≡ true
-stops_is n rest behind en eb none = go (eqb (length behind) 0) (opens behind) refl refl (rw (eb, en) (plain_stops rest))
+pub stops_is : (n : ℕ) (rest behind : List ℕ) → n ≡ plain_len rest → behind ≡ drop n rest → escapes behind ≡ false → (eqb (length behind) 0 || opens_expression behind) ≡ true
+stops_is n rest behind en eb none = go (eqb (length behind) 0) (opens_expression behind) refl refl (rw (eb, en) (plain_stops rest))
   where
-    go : (a b : Bool) → eqb (length behind) 0 ≡ a → opens behind ≡ b → (eqb (length behind) 0 || (opens behind || escapes behind)) ≡ true → (a || b) ≡ true
+    go : (a b : Bool) → eqb (length behind) 0 ≡ a → opens_expression behind ≡ b → (eqb (length behind) 0 || (opens_expression behind || escapes behind)) ≡ true → (a || b) ≡ true
     go true b ea eo h = refl
     go false true ea eo h = refl
     go false false ea eo h = rw (ea, eo, none) at h
@@ -221,14 +221,14 @@ less_is n rest behind e = rw e (drop_less n rest)
 
 -- a text with more at its end is written before what is left
 pub plain_is : (n : ℕ) (old new front behind rest text : List ℕ) → n ≡ plain_len rest → front ≡ take n rest → behind ≡ drop n rest → new ≡ old ++ front
-    → ((all : ℕ) → with_plain old (pieces all 0 rest) ≡ pieces all 0 text) → (all : ℕ) → with_plain new (pieces all 0 behind) ≡ pieces all 0 text
+    → ((all : ℕ) → with_plain old (template_pieces all 0 rest) ≡ template_pieces all 0 text) → (all : ℕ) → with_plain new (template_pieces all 0 behind) ≡ template_pieces all 0 text
 plain_is n old new front behind rest text en ef eb ew inv all =
-    rw (ew, ef, eb, en) (sym (written_twice old (take (plain_len rest) rest) (pieces all 0 (drop (plain_len rest) rest))) ∙ ap (with_plain old) (sym (plain_step all rest)) ∙ inv all)
+    rw (ew, ef, eb, en) (sym (written_twice old (take (plain_len rest) rest) (template_pieces all 0 (drop (plain_len rest) rest))) ∙ ap (with_plain old) (sym (plain_step all rest)) ∙ inv all)
 
-pub escape_is : (old new behind text : List ℕ) → escapes behind ≡ true → new ≡ old ++ codes "${" → ((all : ℕ) → with_plain old (pieces all 0 behind) ≡ pieces all 0 text)
-    → (all : ℕ) → with_plain new (pieces all 0 (drop 1 (drop 1 (drop 1 behind)))) ≡ pieces all 0 text
+pub escape_is : (old new behind text : List ℕ) → escapes behind ≡ true → new ≡ old ++ codes "${" → ((all : ℕ) → with_plain old (template_pieces all 0 behind) ≡ template_pieces all 0 text)
+    → (all : ℕ) → with_plain new (template_pieces all 0 (drop 1 (drop 1 (drop 1 behind)))) ≡ template_pieces all 0 text
 escape_is old new behind text h ew inv all =
-    rw ew (sym (written_twice old (codes "${") (pieces all 0 (drop 1 (drop 1 (drop 1 behind))))) ∙ ap (with_plain old) (sym (escape_step all behind h)) ∙ inv all)
+    rw ew (sym (written_twice old (codes "${") (template_pieces all 0 (drop 1 (drop 1 (drop 1 behind))))) ∙ ap (with_plain old) (sym (escape_step all behind h)) ∙ inv all)
 
 pub escape_less : (t : List ℕ) → escapes t ≡ true → length (drop 1 (drop 1 (drop 1 t))) < length t
 escape_less t h = let a = (escape t h).less in let b = first_less (drop 1 t) in let c = first_less (drop 1 (drop 1 t)) in omega (arith, a, b, c)

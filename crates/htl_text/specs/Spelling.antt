@@ -7,7 +7,7 @@ use Rattle.htl_text.specs.declared.fault.TextFault.{TextFault}
 use Rattle.htl_text.specs.declared.fault.TextFault.TheVariants.{Unclosed, BadExpr, NoMemory}
 use Rattle.htl_text.specs.declared.piece.Piece.{Piece}
 use Rattle.htl_text.specs.declared.piece.Piece.TheVariants.{Value}
-use Rattle.htl_text.specs.Template.{opens, escapes, in_front}
+use Rattle.htl_text.specs.Template.{opens_expression, escapes, text_in_front}
 
 -- what stands after a quote mark, up to and with the same mark; a backslash takes the next byte with it
 pub data Quotation (mark : ℕ) : List ℕ → Type 0 where
@@ -24,8 +24,8 @@ pub data Inside : List ℕ → Type 0 where
 -- the pieces that stand in a text in front of a rest; no two of plain text stand side by side
 pub data SpellsTemplate : List ℕ → List Piece → List ℕ → Type 0 where
   end : {rest : List ℕ} → SpellsTemplate rest [] rest
-  plain : {c : ℕ} {text rest : List ℕ} {ps : List Piece} → opens (c ∷ text) ≡ false → escapes (c ∷ text) ≡ false → SpellsTemplate text ps rest → SpellsTemplate (c ∷ text) (in_front (c ∷ []) ps) rest
-  escape : {text rest : List ℕ} {ps : List Piece} → SpellsTemplate text ps rest → SpellsTemplate (92 ∷ 36 ∷ 123 ∷ text) (in_front (codes "${") ps) rest
+  plain : {c : ℕ} {text rest : List ℕ} {ps : List Piece} → opens_expression (c ∷ text) ≡ false → escapes (c ∷ text) ≡ false → SpellsTemplate text ps rest → SpellsTemplate (c ∷ text) (text_in_front (c ∷ []) ps) rest
+  escape : {text rest : List ℕ} {ps : List Piece} → SpellsTemplate text ps rest → SpellsTemplate (92 ∷ 36 ∷ 123 ∷ text) (text_in_front (codes "${") ps) rest
   value : {inside text rest : List ℕ} {e : Expr} {ps : List Piece} → Inside inside → Whole inside e → SpellsTemplate text ps rest → SpellsTemplate (36 ∷ 123 ∷ (inside ++ 125 ∷ text)) (Value e ∷ ps) rest
 
 -- no "}" closes what stands after "${"

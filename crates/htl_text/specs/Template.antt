@@ -1,5 +1,5 @@
 -- The pieces of a template, and the text that they write (HTL specification 1.4, "Expression Language"). `opening_len`, `plain_len`
--- and `plain_pieces` are needed by proofs and private functions alone; `Quotes`, `step` and `closing` say how the reading finds a closing "}", for which readers
+-- and `plain_pieces` are needed by proofs and private functions alone; `Quotes`, `quotes_step` and `closing` say how the reading finds a closing "}", for which readers
 -- have `Inside` of Spelling.antt.
 use Rattle.std.specs.Prelude.{ℕ, zero, suc, ◌+◌, ◌-◌, Bool, false, ◌||◌, ◌&&◌, ◌==◌, if◌then◌else◌, List, [], ◌∷◌, ◌++◌, length, take, drop, codes, Option, Some, None, Result, Ok, Err}
 use Rattle.std.specs.List.{flat_map}
@@ -16,36 +16,36 @@ use Rattle.htl_text.specs.declared.quotes.Quotes.{Quotes}
 use Rattle.htl_text.specs.declared.quotes.Quotes.TheVariants.{Outside, Inside, Escaped}
 
 -- whether this byte is in front
-unfoldable pub is_at : ℕ → List ℕ → Bool
-is_at c [] = false
-is_at c (d ∷ t) = d == c
+unfoldable pub is_in_front : ℕ → List ℕ → Bool
+is_in_front c [] = false
+is_in_front c (d ∷ t) = d == c
 
 -- whether "${" is in front, which opens an expression
-unfoldable pub opens : List ℕ → Bool
-opens [] = false
-opens (c ∷ t) = c == 36 && is_at 123 t
+unfoldable pub opens_expression : List ℕ → Bool
+opens_expression [] = false
+opens_expression (c ∷ t) = c == 36 && is_in_front 123 t
 
 -- whether "\${" is in front, which writes "${"
 unfoldable pub escapes : List ℕ → Bool
 escapes [] = false
-escapes (c ∷ t) = c == 92 && opens t
+escapes (c ∷ t) = c == 92 && opens_expression t
 
 -- where the next byte stands: a quote mark opens quotes, the same mark closes them, and a backslash in them takes the next byte with it
-abbrev pub step : Quotes → ℕ → Quotes
-step Outside c = if c == 39 || c == 34 then Inside c else Outside
-step (Inside mark) c = if c == mark then Outside else (if c == 92 then Escaped mark else Inside mark)
-step (Escaped mark) c = Inside mark
+abbrev pub quotes_step : Quotes → ℕ → Quotes
+quotes_step Outside c = if c == 39 || c == 34 then Inside c else Outside
+quotes_step (Inside mark) c = if c == mark then Outside else (if c == 92 then Escaped mark else Inside mark)
+quotes_step (Escaped mark) c = Inside mark
 
 -- a "}" outside quotes closes an expression
-abbrev pub closes : Quotes → ℕ → Bool
-closes Outside c = c == 125
-closes (Inside mark) c = false
-closes (Escaped mark) c = false
+abbrev pub closes_expression : Quotes → ℕ → Bool
+closes_expression Outside c = c == 125
+closes_expression (Inside mark) c = false
+closes_expression (Escaped mark) c = false
 
 -- the place of the first byte that closes an expression, where this text begins at place n
 unfoldable pub closing : Quotes → ℕ → List ℕ → Option ℕ
 closing quotes n [] = None
-closing quotes n (c ∷ t) = if closes quotes c then Some n else closing (step quotes c) (n + 1) t
+closing quotes n (c ∷ t) = if closes_expression quotes c then Some n else closing (quotes_step quotes c) (n + 1) t
 
 -- what stands between the braces as an expression, and the text after it
 abbrev pub read_value : ℕ → List ℕ → Result Expr ExprFault → Result (Expr × List ℕ) TextFault
@@ -62,15 +62,15 @@ unfoldable pub value_at : ℕ → List ℕ → Result (Expr × List ℕ) TextFau
 value_at place t = closed_value place (drop 2 t) (closing Outside 0 (drop 2 t))
 
 -- plain text in front of pieces; no piece of plain text is empty, and no two stand side by side
-abbrev pub in_front : List ℕ → List Piece → List Piece
-in_front [] ps = ps
-in_front (c ∷ t) [] = Plain (c ∷ t) ∷ []
-in_front (c ∷ t) (Plain more ∷ ps) = Plain (c ∷ (t ++ more)) ∷ ps
-in_front (c ∷ t) (Value e ∷ ps) = Plain (c ∷ t) ∷ (Value e ∷ ps)
+abbrev pub text_in_front : List ℕ → List Piece → List Piece
+text_in_front [] ps = ps
+text_in_front (c ∷ t) [] = Plain (c ∷ t) ∷ []
+text_in_front (c ∷ t) (Plain more ∷ ps) = Plain (c ∷ (t ++ more)) ∷ ps
+text_in_front (c ∷ t) (Value e ∷ ps) = Plain (c ∷ t) ∷ (Value e ∷ ps)
 
 -- plain text in front of the pieces of the rest
 abbrev pub with_plain : List ℕ → Result (List Piece) TextFault → Result (List Piece) TextFault
-with_plain t (Ok ps) = Ok (in_front t ps)
+with_plain t (Ok ps) = Ok (text_in_front t ps)
 with_plain t (Err fault) = Err fault
 
 -- pieces in front of others
@@ -79,36 +79,36 @@ before front (Ok ps) = Ok (front ++ ps)
 before front (Err fault) = Err fault
 
 -- an expression in front of the pieces of the rest
-abbrev pub with_value : Result (Expr × List ℕ) TextFault → (List ℕ → Result (List Piece) TextFault) → Result (List Piece) TextFault
-with_value (Ok x) more = before (Value x.0 ∷ []) (more x.1)
-with_value (Err fault) more = Err fault
+abbrev pub with_expression : Result (Expr × List ℕ) TextFault → (List ℕ → Result (List Piece) TextFault) → Result (List Piece) TextFault
+with_expression (Ok x) more = before (Value x.0 ∷ []) (more x.1)
+with_expression (Err fault) more = Err fault
 
 -- the pieces of a text at the end of a template of so many bytes; the first bytes to skip belong to the piece before
-unfoldable pub pieces : ℕ → ℕ → List ℕ → Result (List Piece) TextFault
-pieces all skip [] = Ok []
-pieces all (suc skip) (c ∷ t) = pieces all skip t
-pieces all zero (c ∷ t) =
-    if opens (c ∷ t) then with_value (value_at (all - length (c ∷ t)) (c ∷ t)) (λ behind. pieces all (length t - length behind) t)
-    else (if escapes (c ∷ t) then with_plain (codes "${") (pieces all 2 t)
-    else with_plain (c ∷ []) (pieces all 0 t))
+unfoldable pub template_pieces : ℕ → ℕ → List ℕ → Result (List Piece) TextFault
+template_pieces all skip [] = Ok []
+template_pieces all (suc skip) (c ∷ t) = template_pieces all skip t
+template_pieces all zero (c ∷ t) =
+    if opens_expression (c ∷ t) then with_expression (value_at (all - length (c ∷ t)) (c ∷ t)) (λ behind. template_pieces all (length t - length behind) t)
+    else (if escapes (c ∷ t) then with_plain (codes "${") (template_pieces all 2 t)
+    else with_plain (c ∷ []) (template_pieces all 0 t))
 
 -- what a text is read as: its pieces, or its first fault
 abbrev pub template_of : List ℕ → Result (List Piece) TextFault
-template_of t = pieces (length t) 0 t
+template_of t = template_pieces (length t) 0 t
 
 -- how many bytes stand before the next "${"
 unfoldable pub opening_len : List ℕ → ℕ
 opening_len [] = 0
-opening_len (c ∷ t) = if opens (c ∷ t) then 0 else suc (opening_len t)
+opening_len (c ∷ t) = if opens_expression (c ∷ t) then 0 else suc (opening_len t)
 
 -- how many bytes stand before the next "${" or "\${"
 unfoldable pub plain_len : List ℕ → ℕ
 plain_len [] = 0
-plain_len (c ∷ t) = if opens (c ∷ t) || escapes (c ∷ t) then 0 else suc (plain_len t)
+plain_len (c ∷ t) = if opens_expression (c ∷ t) || escapes (c ∷ t) then 0 else suc (plain_len t)
 
 -- a text as one piece, or as none where it is empty
 abbrev pub plain_pieces : List ℕ → List Piece
-plain_pieces t = in_front t []
+plain_pieces t = text_in_front t []
 
 -- what a piece writes
 abbrev pub piece_text : Scope → Piece → List ℕ
@@ -116,8 +116,8 @@ piece_text scope (Plain t) = t
 piece_text scope (Value e) = print scope e
 
 -- how many bytes a template may write
-abbrev pub most_bytes : ℕ
-most_bytes = 4194304
+abbrev pub most_template_bytes : ℕ
+most_template_bytes = 4194304
 
 -- the text of a template: what its pieces write, one after another
 abbrev pub template_output : Scope → List Piece → List ℕ

@@ -15,7 +15,7 @@ pub enum Quotes {
 }
 
 fn step(quotes: Quotes, c: u8) -> Quotes
-    ensures { result ≡ spec.step quotes c }
+    ensures { result ≡ spec.quotes_step quotes c }
 {
     match quotes {
         Quotes::Outside => {
@@ -39,7 +39,7 @@ fn step(quotes: Quotes, c: u8) -> Quotes
 }
 
 fn closes(quotes: Quotes, c: u8) -> bool
-    ensures { result ≡ spec.closes quotes c }
+    ensures { result ≡ spec.closes_expression quotes c }
 {
     match quotes {
         Quotes::Outside => c == b'}',

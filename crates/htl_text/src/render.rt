@@ -14,9 +14,9 @@ use std::alloc::Global;
 const MOST_BYTES: usize = 4_194_304;
 
 fn push_plain(text: &mut String, plain: &str) -> Result<(), RenderFault>
-    requires { length (string_bytes text.old) ≤ spec.most_bytes }
-    ensures ok { OnOk result ((string_bytes text.new ≡ string_bytes text.old ++ plain.now) × (length (string_bytes text.new) ≤ spec.most_bytes)) }
-    ensures err { IfErr result (λ f. f ≢ RenderFault.NoMemory → (f ≡ RenderFault.TooLong) × (spec.most_bytes < length (string_bytes text.old ++ plain.now))) }
+    requires { length (string_bytes text.old) ≤ spec.most_template_bytes }
+    ensures ok { OnOk result ((string_bytes text.new ≡ string_bytes text.old ++ plain.now) × (length (string_bytes text.new) ≤ spec.most_template_bytes)) }
+    ensures err { IfErr result (λ f. f ≢ RenderFault.NoMemory → (f ≡ RenderFault.TooLong) × (spec.most_template_bytes < length (string_bytes text.old ++ plain.now))) }
 {
     if plain.len() > MOST_BYTES - text.as_str().len() {
         return Err(RenderFault::TooLong);
@@ -32,9 +32,9 @@ fn push_piece(
     scope: &Scope,
     piece: &Piece,
 ) -> Result<(), RenderFault>
-    requires { length (string_bytes text.old) ≤ spec.most_bytes }
-    ensures ok { OnOk result ((string_bytes text.new ≡ string_bytes text.old ++ spec.piece_text scope.now piece.now) × (length (string_bytes text.new) ≤ spec.most_bytes)) }
-    ensures err { IfErr result (λ f. f ≢ RenderFault.NoMemory → (f ≡ RenderFault.TooLong) × (spec.most_bytes < length (string_bytes text.old ++ spec.piece_text scope.now piece.now))) }
+    requires { length (string_bytes text.old) ≤ spec.most_template_bytes }
+    ensures ok { OnOk result ((string_bytes text.new ≡ string_bytes text.old ++ spec.piece_text scope.now piece.now) × (length (string_bytes text.new) ≤ spec.most_template_bytes)) }
+    ensures err { IfErr result (λ f. f ≢ RenderFault.NoMemory → (f ≡ RenderFault.TooLong) × (spec.most_template_bytes < length (string_bytes text.old ++ spec.piece_text scope.now piece.now))) }
 {
     match piece {
         Piece::Plain(plain) => push_plain(text, plain.text()),
@@ -49,8 +49,8 @@ fn push_piece(
 impl Template {
     /// The text that the template writes for a resource, where it has at most 4,194,304 bytes.
     pub fn render(&self, alloc: Global, scope: &Scope) -> Result<TextBuf, RenderFault>
-        ensures ok { IfOk result (λ text. (text ≡ spec.template_output scope.now self.now) × (length text ≤ spec.most_bytes)) }
-        ensures err { IfErr result (λ f. f ≢ RenderFault.NoMemory → (f ≡ RenderFault.TooLong) × (spec.most_bytes < length (spec.template_output scope.now self.now))) }
+        ensures ok { IfOk result (λ text. (text ≡ spec.template_output scope.now self.now) × (length text ≤ spec.most_template_bytes)) }
+        ensures err { IfErr result (λ f. f ≢ RenderFault.NoMemory → (f ≡ RenderFault.TooLong) × (spec.most_template_bytes < length (spec.template_output scope.now self.now))) }
     {
         let mut text = String::new(alloc);
         for piece in self.pieces.as_slice() {

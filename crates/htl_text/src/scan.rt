@@ -7,9 +7,9 @@ use memchr::memchr;
 use sp_base::{Mem, TextBuf};
 use std::alloc::Global;
 
-#[tactic(auto, unfolding(crate::specs::Template::is_at))]
+#[tactic(auto, unfolding(crate::specs::Template::is_in_front))]
 fn is_at(c: u8, text: &[u8]) -> bool
-    ensures { result ≡ spec.is_at c text.now }
+    ensures { result ≡ spec.is_in_front c text.now }
 {
     match text {
         [] => false,
@@ -18,9 +18,9 @@ fn is_at(c: u8, text: &[u8]) -> bool
 }
 
 /// Whether `${` stands in front.
-#[tactic(auto, unfolding(crate::specs::Template::opens))]
+#[tactic(auto, unfolding(crate::specs::Template::opens_expression))]
 fn opens(text: &[u8]) -> bool
-    ensures { result ≡ spec.opens text.now }
+    ensures { result ≡ spec.opens_expression text.now }
 {
     match text {
         [] => false,
@@ -86,8 +86,8 @@ fn plain_len(text: &[u8]) -> usize
 
 /// The plain text in front of the next expression, and the text from there on.
 pub fn plain(alloc: Global, text: &str) -> Mem<(TextBuf, &str)>
-    ensures pieces { IfOk result (λ d. (all : ℕ) → spec.with_plain d.0 (spec.pieces all 0 d.1.now) ≡ spec.pieces all 0 text.now) }
-    ensures ends { IfOk result (λ d. (length d.1.now == 0) || spec.opens d.1.now ≡ true) }
+    ensures pieces { IfOk result (λ d. (all : ℕ) → spec.with_plain d.0 (spec.template_pieces all 0 d.1.now) ≡ spec.template_pieces all 0 text.now) }
+    ensures ends { IfOk result (λ d. (length d.1.now == 0) || spec.opens_expression d.1.now ≡ true) }
     ensures less { IfOk result (λ d. length d.1.now ≤ length text.now) }
 {
     let mut plain = String::new(alloc);

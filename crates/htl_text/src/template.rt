@@ -35,7 +35,7 @@ impl Model for Template {
 /// The expression that opens in front, and the text after it.
 #[tactic(auto, unfolding(crate::specs::Template::value_at))]
 fn value(alloc: Global, place: usize, text: &str) -> Result<(Expr, &str), TextFault>
-    requires { spec.opens text.now ≡ true }
+    requires { spec.opens_expression text.now ≡ true }
     ensures ok { IfOk result (λ d. spec.value_at place text.now ≡ Ok (d.0, d.1.now)) }
     ensures err { IfErr result (λ f. f ≢ TextFault.NoMemory → spec.value_at place text.now ≡ Err f) }
     ensures less { IfOk result (λ d. length d.1.now < length text.now) }

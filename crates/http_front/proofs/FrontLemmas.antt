@@ -15,7 +15,7 @@ use Rattle.httparse.specs.declared.spans.HeaderSpan.{HeaderSpan}
 use Rattle.httparse.specs.declared.spans.RequestSpans.{RequestSpans}
 use Rattle.http_front.specs.declared.fault.InFault.{InFault}
 use Rattle.http_front.specs.declared.head.Head.{Head}
-use Rattle.http_front.specs.Heads.{Parts, parts_at, parts_of, AreWithin, AreTexts, Asks, fault_of}
+use Rattle.http_front.specs.Heads.{Parts, request_parts_at, parts_of, AreWithin, AreTexts, Asks, head_fault}
 use Rattle.http_front.specs.Fronts.{HoldsHead, HoldsSomeHead}
 use Rattle.http_front.specs.Turns.{BeginsWith, BeginsAsking, BeginsRefused, longest_head}
 
@@ -27,7 +27,7 @@ token_is_text : (bytes : List ℕ) → IsToken bytes → IsUtf8 bytes
 token_is_text bytes token = IsUtf8-from_ascii _ (IsAscii-from_all _ (All-weaker (λ b. is_token_byte b ≡ true) (λ b. b < 128) token_is_ascii _ token.1))
 
 -- method, target and names of a head are texts
-pub texts : (bytes : List ℕ) (fields : List HeaderSpan) (spans : RequestSpans) → HoldsSomeHead bytes fields spans → AreTexts (parts_at bytes fields spans)
+pub texts : (bytes : List ℕ) (fields : List HeaderSpan) (spans : RequestSpans) → HoldsSomeHead bytes fields spans → AreTexts (request_parts_at bytes fields spans)
 texts bytes fields spans holds =
     let head = holds.0 in
     subst AreTexts (sym holds.1.parts_are) (record {
@@ -45,9 +45,6 @@ holds bytes places spans head w at = record {
   len_fits = w.section.len_fits;
   parts_are = λ i. record { method = at.method i; target = at.path i; minor = at.version i; fields = at.fields i };
 }
-
-fits_more : (a b : ℕ) → a ≤ b → (s : ℕ × ℕ) → s.1 ≤ a → s.1 ≤ b
-fits_more a b h s l = omega (arith, h, l)
 
 pub within : (bytes : List ℕ) (places : List HeaderSpan) (spans : RequestSpans) → IsRequestWithin bytes places spans → AreWithin bytes (take spans.headers places) spans
 within bytes places spans w = record {
@@ -81,7 +78,7 @@ head_long h =
 print_long : (h : RequestHead) → 0 < length (print_request h)
 print_long h = omega (arith, head_long h)
 
-pub asking : (bytes : List ℕ) (fields : List HeaderSpan) (spans : RequestSpans) (asked : Head) → length bytes ≤ longest_head → HoldsSomeHead bytes fields spans → Asks (parts_at bytes fields spans) asked
+pub asking : (bytes : List ℕ) (fields : List HeaderSpan) (spans : RequestSpans) (asked : Head) → length bytes ≤ longest_head → HoldsSomeHead bytes fields spans → Asks (request_parts_at bytes fields spans) asked
     → (0 < spans.len) × (spans.len ≤ length bytes) × BeginsAsking bytes asked (drop spans.len bytes)
 asking bytes fields spans asked small holds asks = (
   subst (λ n. 0 < n) (sym holds.1.len_is) (print_long holds.0),
@@ -93,13 +90,13 @@ asking bytes fields spans asked small holds asks = (
   },
 )
 
-pub refused : (bytes : List ℕ) (fields : List HeaderSpan) (spans : RequestSpans) (fault : InFault) → length bytes ≤ longest_head → HoldsSomeHead bytes fields spans → fault_of (parts_at bytes fields spans) ≡ Some fault
+pub refused : (bytes : List ℕ) (fields : List HeaderSpan) (spans : RequestSpans) (fault : InFault) → length bytes ≤ longest_head → HoldsSomeHead bytes fields spans → head_fault (request_parts_at bytes fields spans) ≡ Some fault
     → BeginsRefused bytes fault
 refused bytes fields spans fault small holds is = record {
   head = holds.0;
   rest = drop spans.len bytes;
   begins = record { reads = holds.1.reads; fits = omega (arith, holds.1.len_is, holds.1.len_fits, small) };
-  refused = subst (λ p. fault_of p ≡ Some fault) holds.1.parts_are is;
+  refused = subst (λ p. head_fault p ≡ Some fault) holds.1.parts_are is;
 }
 
 -- ---- room

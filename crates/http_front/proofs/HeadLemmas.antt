@@ -12,7 +12,7 @@ use Rattle.http_front.specs.declared.fault.InFault.TheVariants.{BadHead, ManyHea
 use Rattle.http_front.specs.declared.target.Target.{Target}
 use Rattle.http_front.specs.declared.head.Asked.{Asked}
 use Rattle.sp_base.specs.declared.answer.Req.{Req}
-use Rattle.http_front.specs.Heads.{asked_host, body_length, has_transfer_coding, first_fault, asked_of, asked_with, length_or_fault, Parts, heads, closes, is_closing, request_line, request_with, awaits_continue, Asks, within_limit, longest_body, most_fields}
+use Rattle.http_front.specs.Heads.{asked_host, body_length, has_transfer_coding, first_refusal, asked_of, asked_with, length_or_fault, Parts, heads, closes_connection, is_closing, request_line, request_with, awaits_continue, Asks, within_limit, longest_body, most_fields}
 use Rattle.std.specs.Prelude.{◌==◌, ◌||◌}
 use Rattle.std.proofs.lemmas.Bool.Decides.{nat_tests}
 use Rattle.http1.specs.declared.fields.KnownFields.{KnownFields}
@@ -26,18 +26,18 @@ name_at bytes fields i d all inside =
     subst (λ field. IsUtf8 field.0) (get_or-map (header_bytes bytes) fields i d (header_bytes bytes d) inside)
     (all i (header_bytes bytes d) (omega (arith, length-map fields (header_bytes bytes))))
 
-pub bad_head : (minor : ℕ) (target : List ℕ) (fields : List (List ℕ × List ℕ)) → asked_host minor fields ≡ None → first_fault minor target fields ≡ Some BadHead
-unfolding first_fault
+pub bad_head : (minor : ℕ) (target : List ℕ) (fields : List (List ℕ × List ℕ)) → asked_host minor fields ≡ None → first_refusal minor target fields ≡ Some BadHead
+unfolding first_refusal
 bad_head minor target fields host = rw host refl
 
 pub many_headers : (minor : ℕ) (target : List ℕ) (fields : List (List ℕ × List ℕ)) (host : List ℕ × ℕ) → asked_host minor fields ≡ Some host
-    → nat_lt most_fields (length fields) ≡ true → first_fault minor target fields ≡ Some ManyHeaders
-unfolding first_fault
+    → nat_lt most_fields (length fields) ≡ true → first_refusal minor target fields ≡ Some ManyHeaders
+unfolding first_refusal
 many_headers minor target fields host h many = rw (h, many) refl
 
 pub bad_target : (minor : ℕ) (target : List ℕ) (fields : List (List ℕ × List ℕ)) (host : List ℕ × ℕ) → asked_host minor fields ≡ Some host
-    → nat_lt most_fields (length fields) ≡ false → target_of target ≡ None → first_fault minor target fields ≡ Some BadTarget
-unfolding first_fault
+    → nat_lt most_fields (length fields) ≡ false → target_of target ≡ None → first_refusal minor target fields ≡ Some BadTarget
+unfolding first_refusal
 bad_target minor target fields host h few t = rw (h, few, t) refl
 
 -- the faults of the body's length come after the others
@@ -70,13 +70,13 @@ length_fine false None n h = absurd cc
 length_fine false (Some m) n h = within (nat_lt longest_body m) m n h
 
 pub bad_length : (minor : ℕ) (target : List ℕ) (fields : List (List ℕ × List ℕ)) (host : List ℕ × ℕ) (read : Target) (e : InFault) → asked_host minor fields ≡ Some host
-    → nat_lt most_fields (length fields) ≡ false → target_of target ≡ Some read → Err e ≡ length_or_fault fields → first_fault minor target fields ≡ Some e
-unfolding first_fault length_or_fault after_target first
+    → nat_lt most_fields (length fields) ≡ false → target_of target ≡ Some read → Err e ≡ length_or_fault fields → first_refusal minor target fields ≡ Some e
+unfolding first_refusal length_or_fault after_target first
 bad_length minor target fields host read e h few t l = rw (h, few, t) (length_fault (has_transfer_coding fields) (body_length fields) e l)
 
 pub faultless : (minor : ℕ) (target : List ℕ) (fields : List (List ℕ × List ℕ)) (host : List ℕ × ℕ) (read : Target) (n : ℕ) → asked_host minor fields ≡ Some host
-    → nat_lt most_fields (length fields) ≡ false → target_of target ≡ Some read → Ok n ≡ length_or_fault fields → first_fault minor target fields ≡ None
-unfolding first_fault length_or_fault after_target first
+    → nat_lt most_fields (length fields) ≡ false → target_of target ≡ Some read → Ok n ≡ length_or_fault fields → first_refusal minor target fields ≡ None
+unfolding first_refusal length_or_fault after_target first
 faultless minor target fields host read n h few t l = rw (h, few, t) (length_fine (has_transfer_coding fields) (body_length fields) n l).0
 
 pub asked_is : (minor : ℕ) (target : List ℕ) (fields : List (List ℕ × List ℕ)) (host : List ℕ × ℕ) (read : Target) (n : ℕ) → asked_host minor fields ≡ Some host
@@ -86,11 +86,11 @@ asked_is minor target fields host read n h t l = rw (h, t, (length_fine (has_tra
 
 -- what a head asks for, from what was read of it
 pub asks : (p : Parts) (method line target : List ℕ) (fields : List (List ℕ × List ℕ)) (asked : Asked) (close : Bool) → method ≡ p.method → target ≡ p.target → fields ≡ heads p
-    → line ≡ request_line method target p.minor → close ≡ closes p → first_fault p.minor target fields ≡ None → asked_of p.minor target fields ≡ Some asked
+    → line ≡ request_line method target p.minor → close ≡ closes_connection p → first_refusal p.minor target fields ≡ None → asked_of p.minor target fields ≡ Some asked
     → (request : Req) (await : Bool) → request ≡ request_with method line p.minor asked fields close → await ≡ awaits_continue p.minor asked.body_length fields
     → Asks p (record { request = request; body_length = asked.body_length; awaits_continue = await })
 asks p method line target fields asked close m t f l s none some request await r w = record {
-  faultless = subst (λ u. first_fault p.minor u (heads p) ≡ None) t (subst (λ fs. first_fault p.minor target fs ≡ None) f none);
+  faultless = subst (λ u. first_refusal p.minor u (heads p) ≡ None) t (subst (λ fs. first_refusal p.minor target fs ≡ None) f none);
   asked = asked;
   asked_is = subst (λ u. asked_of p.minor u (heads p) ≡ Some asked) t (subst (λ fs. asked_of p.minor target fs ≡ Some asked) f some);
   head_is = λ i. record {

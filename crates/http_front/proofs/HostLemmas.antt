@@ -15,7 +15,7 @@ use Rattle.std.proofs.Common.{subst}
 use Rattle.std.specs.Prelude.{option_map}
 use Rattle.std.proofs.lemmas.Bool.{cond-true}
 use Rattle.std.proofs.lemmas.Str.{IsUtf8-from_ascii}
-use Rattle.http_front.specs.Hosts.{is_number, is_name, is_name_byte, is_colon, port_of, host_in}
+use Rattle.http_front.specs.Hosts.{is_number, is_asked_host_name, is_asked_host_byte, is_port_colon, port_of, host_in}
 use Rattle.http_front.proofs.TargetLemmas.{before_place, before_none}
 
 in_range : (b : Bool) (n at : ℕ) → Some at ≡ cond b (Some n) None → b ≡ true
@@ -67,16 +67,16 @@ step text i h inside =
       fits = omega (arith, digits_value-take-le 10 text (i + 1) (omega arith), small text h);
     }
 
-name_byte_is_ascii : (b : ℕ) → is_name_byte b ≡ true → b < 128
+name_byte_is_ascii : (b : ℕ) → is_asked_host_byte b ≡ true → b < 128
 name_byte_is_ascii b h = grind (arith, nat_tests)
 
 -- a name is a text
-pub name_text : (name : List ℕ) → is_name name ≡ true → IsUtf8 name
+pub name_text : (name : List ℕ) → is_asked_host_name name ≡ true → IsUtf8 name
 name_text name h =
-    let parts = and_parts (nat_lt 0 (length name)) (list_all is_name_byte name) h in
+    let parts = and_parts (nat_lt 0 (length name)) (list_all is_asked_host_byte name) h in
     IsUtf8-from_ascii name (λ i. ascii_at name i parts.1)
   where
-    ascii_at : (name : List ℕ) (i : ℕ) → list_all is_name_byte name ≡ true → get_or name i 0 < 128
+    ascii_at : (name : List ℕ) (i : ℕ) → list_all is_asked_host_byte name ≡ true → get_or name i 0 < 128
     ascii_at [] i all = omega arith
-    ascii_at (b ∷ name) zero all = name_byte_is_ascii b (and_parts (is_name_byte b) (list_all is_name_byte name) all).0
-    ascii_at (b ∷ name) (suc i) all = ascii_at name i (and_parts (is_name_byte b) (list_all is_name_byte name) all).1
+    ascii_at (b ∷ name) zero all = name_byte_is_ascii b (and_parts (is_asked_host_byte b) (list_all is_asked_host_byte name) all).0
+    ascii_at (b ∷ name) (suc i) all = ascii_at name i (and_parts (is_asked_host_byte b) (list_all is_asked_host_byte name) all).1

@@ -10,8 +10,8 @@ use Rattle.http_front.specs.declared.intake.Phase.{Phase}
 use Rattle.http_front.specs.declared.intake.Phase.TheVariants.{Heading, Body, Failed}
 use Rattle.http_front.specs.declared.turn.Turn.{Turn}
 use Rattle.http_front.specs.declared.turn.Turn.TheVariants.{Continue, Whole}
-use Rattle.http_front.specs.Turns.{End, Waits, Breaks, longest_head, window, BeginsWith, BeginsAsking, BeginsRefused, HasBody, with_body, AwaitsHead, AwaitsBody, HasNoHead, Stops, BeginsWithRequest, AwaitsAskedBody, Spells}
-use Rattle.http_front.specs.Intakes.{Follows, Continues, Left, StandsFor, Keeps, Tells, Grows, Ends, Leads, LeadsBy, Stands, rest_of}
+use Rattle.http_front.specs.Turns.{End, Waits, Breaks, longest_head, window, BeginsWith, BeginsAsking, BeginsRefused, HasBody, with_body, AwaitsHead, AwaitsBody, HasNoHead, Stops, BeginsWithRequest, AwaitsAskedBody, SpellsTurns}
+use Rattle.http_front.specs.Intakes.{TurnsFollow, Continues, Left, StandsFor, Keeps, Tells, Grows, Ends, IntakeLeads, LeadsBy, Stands, rest_of}
 use Rattle.http_front.proofs.TurnLemmas.{begins_append, never_grows, window_full}
 
 append_nil : {A : Type 0} (xs : List A) → xs ++ [] ≡ xs
@@ -49,13 +49,13 @@ request_begins : (s more : List ℕ) (a : Head) (r : List ℕ) (awaits : Bool) (
 request_begins s more a r awaits request rest b is body = record { asked = a; bytes = r ++ more; begins = asking_stays s more a r b; awaits_is = is; body = body }
 
 -- a head whose sender doesn't wait leads to what follows it
-pub ready : (s more : List ℕ) (a : Head) (r : List ℕ) (turns : List Turn) (end : End) → BeginsAsking s a r → a.awaits_continue ≡ false → Follows a (r ++ more) turns end → Spells (s ++ more) turns end
+pub ready : (s more : List ℕ) (a : Head) (r : List ℕ) (turns : List Turn) (end : End) → BeginsAsking s a r → a.awaits_continue ≡ false → TurnsFollow a (r ++ more) turns end → SpellsTurns (s ++ more) turns end
 ready s more a r [] end b unasked f = subst (Stops (s ++ more)) (sym f.1) (inr (body_awaited s more a r b unasked f.0))
 ready s more a r (Continue ∷ turns) end b unasked f = absurd f
 ready s more a r (Whole request ∷ turns) end b unasked f = (f.0, request_begins s more a r false request f.0 b unasked f.1, f.2)
 
 -- a head whose sender waits is told of first
-pub asked : (s more : List ℕ) (a : Head) (r : List ℕ) (turns : List Turn) (end : End) → BeginsAsking s a r → a.awaits_continue ≡ true → Follows a (r ++ more) turns end → Spells (s ++ more) (Continue ∷ turns) end
+pub asked : (s more : List ℕ) (a : Head) (r : List ℕ) (turns : List Turn) (end : End) → BeginsAsking s a r → a.awaits_continue ≡ true → TurnsFollow a (r ++ more) turns end → SpellsTurns (s ++ more) (Continue ∷ turns) end
 asked s more a r [] end b is f = (record { asked = a; rest = r ++ more; begins = asking_stays s more a r b; asks = is; short = f.0 }, f.1)
 asked s more a r (Continue ∷ turns) end b is f = absurd f
 asked s more a r (Whole request ∷ turns) end b is f = (f.0, request_begins s more a r true request f.0 b is f.1, f.2)
@@ -63,7 +63,7 @@ asked s more a r (Whole request ∷ turns) end b is f = (f.0, request_begins s m
 -- ---- a body
 
 pub body_taken : (a : Head) (rest more : List ℕ) (request : Req) (turns : List Turn) (end : End) → a.body_length ≤ length rest → request ≡ with_body a (take a.body_length rest)
-    → Spells (drop a.body_length rest ++ more) turns end → Follows a (rest ++ more) (Whole request ∷ turns) end
+    → SpellsTurns (drop a.body_length rest ++ more) turns end → TurnsFollow a (rest ++ more) (Whole request ∷ turns) end
 body_taken a rest more request turns end fits is spells =
     let n = a.body_length in (
       drop n rest ++ more,
@@ -76,42 +76,14 @@ body_taken a rest more request turns end fits is spells =
       spells,
     )
 
-pub body_waits : (a : Head) (rest : List ℕ) → length rest < a.body_length → Follows a (rest ++ []) [] Waits
-body_waits a rest short = (subst (λ bytes. length bytes < a.body_length) (sym (append_nil rest)) short, refl)
-
 -- ---- one step after another
 
-pub keeps : (old new : Intake) → Leads old new → Keeps old new
+pub keeps : (old new : Intake) → IntakeLeads old new → Keeps old new
 keeps old new leads = λ stream told stands more turns end left. stands more turns end (leads more turns end left)
-
-pub tells : (old new : Intake) (turn : Turn) → LeadsBy old new turn → Tells old new turn
-tells old new turn leads = λ stream told stands more turns end left.
-    subst (λ all. Spells (stream ++ more) all end) (sym (append_assoc told (turn ∷ []) turns)) (stands more (turn ∷ turns) end (leads more turns end left))
 
 pub ends : (i : Intake) (end : End) → Stands i end → Ends i end
 ends i end nothing = λ stream told stands.
-    subst (λ s. Spells s told end) (append_nil stream) (subst (λ all. Spells (stream ++ []) all end) (append_nil told) (stands [] [] end nothing))
-
-pub grows : (old new : Intake) (piece : List ℕ) → rest_of new ≡ rest_of old ++ piece → new.phase ≡ old.phase → Grows old new piece
-grows old new piece rest phase = λ stream told stands more turns end left.
-    subst (λ s. Spells s (told ++ turns) end) (sym (append_assoc stream piece more))
-    (stands (piece ++ more) turns end
-    (subst (λ bytes. Continues old.phase bytes turns end) (ap (λ r. r ++ more) rest ∙ append_assoc (rest_of old) piece more)
-    (subst (λ p. Continues p (rest_of new ++ more) turns end) phase left)))
-
-pub leads_on : (old mid new : Intake) → Leads old mid → Leads mid new → Leads old new
-leads_on old mid new a b = λ more turns end left. a more turns end (b more turns end left)
-
-pub leads_on_by : (old mid new : Intake) (turn : Turn) → Leads old mid → LeadsBy mid new turn → LeadsBy old new turn
-leads_on_by old mid new turn a b = λ more turns end left. a more (turn ∷ turns) end (b more turns end left)
-
-pub leads_back : (old new : Intake) (end : End) → Leads old new → Stands new end → Stands old end
-leads_back old new end leads nothing = leads [] [] end nothing
-
--- what is left depends on the phase and on the rest alone
-pub leads_same : (old new : Intake) → rest_of new ≡ rest_of old → new.phase ≡ old.phase → Leads old new
-leads_same old new rest phase = λ more turns end left.
-    subst (λ r. Continues old.phase (r ++ more) turns end) rest (subst (λ p. Continues p (rest_of new ++ more) turns end) phase left)
+    subst (λ s. SpellsTurns s told end) (append_nil stream) (subst (λ all. SpellsTurns (stream ++ []) all end) (append_nil told) (stands [] [] end nothing))
 
 -- ---- the steps, in the words of the code
 
@@ -119,7 +91,7 @@ pub leads_failed : (old : Intake) (rest : List ℕ) (fault : InFault) → old.ph
     → (more : List ℕ) (turns : List Turn) (end : End) → Continues (Failed fault) (rest ++ more) turns end → Left old more turns end
 leads_failed old rest fault heading stops = λ more turns end l.
     subst (λ p. Continues p (rest_of old ++ more) turns end) (sym heading)
-    (subst (λ ts. Spells (rest_of old ++ more) ts end) (sym l.0) (subst (Stops (rest_of old ++ more)) (sym l.1) (fault_stays (rest_of old) more fault stops)))
+    (subst (λ ts. SpellsTurns (rest_of old ++ more) ts end) (sym l.0) (subst (Stops (rest_of old ++ more)) (sym l.1) (fault_stays (rest_of old) more fault stops)))
 
 pub stands_failed : (old : Intake) (fault : InFault) → old.phase ≡ Heading → BeginsRefused (rest_of old) fault ⊎ HasNoHead (rest_of old) fault → Stands old (Breaks fault)
 stands_failed old fault heading stops = subst (λ p. Continues p (rest_of old ++ []) [] (Breaks fault)) (sym heading) (fault_stays (rest_of old) [] fault stops)
@@ -133,21 +105,18 @@ pub leads_ready : (old : Intake) (rest : List ℕ) (a : Head) (len : ℕ) → ol
     → a.awaits_continue ≡ false → (more : List ℕ) (turns : List Turn) (end : End) → Continues (Body a) (rest ++ more) turns end → Left old more turns end
 leads_ready old rest a len heading is begins unasked = λ more turns end f.
     subst (λ p. Continues p (rest_of old ++ more) turns end) (sym heading)
-    (ready (rest_of old) more a (drop len (rest_of old)) turns end begins unasked (subst (λ r. Follows a (r ++ more) turns end) is f))
+    (ready (rest_of old) more a (drop len (rest_of old)) turns end begins unasked (subst (λ r. TurnsFollow a (r ++ more) turns end) is f))
 
 pub leads_asked : (old : Intake) (rest : List ℕ) (a : Head) (len : ℕ) → old.phase ≡ Heading → rest ≡ drop len (rest_of old) → BeginsAsking (rest_of old) a (drop len (rest_of old))
     → a.awaits_continue ≡ true → (more : List ℕ) (turns : List Turn) (end : End) → Continues (Body a) (rest ++ more) turns end → Left old more (Continue ∷ turns) end
 leads_asked old rest a len heading is begins waits = λ more turns end f.
     subst (λ p. Continues p (rest_of old ++ more) (Continue ∷ turns) end) (sym heading)
-    (asked (rest_of old) more a (drop len (rest_of old)) turns end begins waits (subst (λ r. Follows a (r ++ more) turns end) is f))
+    (asked (rest_of old) more a (drop len (rest_of old)) turns end begins waits (subst (λ r. TurnsFollow a (r ++ more) turns end) is f))
 
 pub leads_body : (old : Intake) (phase : Phase) (rest : List ℕ) (a : Head) (request : Req) → old.phase ≡ Body a → phase ≡ Heading → rest ≡ drop a.body_length (rest_of old)
     → a.body_length ≤ length (rest_of old) → request ≡ with_body a (take a.body_length (rest_of old))
     → (more : List ℕ) (turns : List Turn) (end : End) → Continues phase (rest ++ more) turns end → Left old more (Whole request ∷ turns) end
 leads_body old phase rest a request body heading is fits made = λ more turns end l.
-    let s : Spells (rest ++ more) turns end = subst (λ p. Continues p (rest ++ more) turns end) heading l in
+    let s : SpellsTurns (rest ++ more) turns end = subst (λ p. Continues p (rest ++ more) turns end) heading l in
     subst (λ p. Continues p (rest_of old ++ more) (Whole request ∷ turns) end) (sym body)
-    (body_taken a (rest_of old) more request turns end fits made (subst (λ r. Spells (r ++ more) turns end) is s))
-
-pub stands_short : (old : Intake) (a : Head) → old.phase ≡ Body a → length (rest_of old) < a.body_length → Stands old Waits
-stands_short old a body short = subst (λ p. Continues p (rest_of old ++ []) [] Waits) (sym body) (body_waits a (rest_of old) short)
+    (body_taken a (rest_of old) more request turns end fits made (subst (λ r. SpellsTurns (r ++ more) turns end) is s))

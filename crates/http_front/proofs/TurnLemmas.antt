@@ -10,8 +10,8 @@ use Rattle.http_front.specs.declared.head.Head.{Head}
 use Rattle.http_front.specs.declared.head.Asked.{Asked}
 use Rattle.http_front.specs.declared.turn.Turn.{Turn}
 use Rattle.http_front.specs.declared.turn.Turn.TheVariants.{Continue, Whole}
-use Rattle.http_front.specs.Heads.{Parts, parts_of, fault_of, Asks, head_with}
-use Rattle.http_front.specs.Turns.{End, Waits, Breaks, longest_head, window, BeginsWith, BeginsAsking, BeginsRefused, HasBody, with_body, AwaitsHead, AwaitsBody, HasNoHead, Stops, BeginsWithRequest, AwaitsAskedBody, Spells}
+use Rattle.http_front.specs.Heads.{Parts, parts_of, head_fault, Asks, head_with}
+use Rattle.http_front.specs.Turns.{End, Waits, Breaks, longest_head, window, BeginsWith, BeginsAsking, BeginsRefused, HasBody, with_body, AwaitsHead, AwaitsBody, HasNoHead, Stops, BeginsWithRequest, AwaitsAskedBody, SpellsTurns}
 
 -- ---- lists
 
@@ -96,7 +96,7 @@ same_asking s more a b r q x y =
 pub not_refused : (s more : List ℕ) (a : Head) (r : List ℕ) (fault : InFault) → BeginsAsking s a r → BeginsRefused (s ++ more) fault → ⊥
 not_refused s more a r fault x y =
     let same = begins_same s more x.head y.head r y.rest x.begins y.begins in
-    none_some (fault_of (parts_of y.head)) fault (subst (λ h. fault_of (parts_of h) ≡ None) same.0 x.asks.faultless) y.refused
+    none_some (head_fault (parts_of y.head)) fault (subst (λ h. head_fault (parts_of h) ≡ None) same.0 x.asks.faultless) y.refused
 
 pub not_awaited : (s more : List ℕ) (a : Head) (r : List ℕ) → BeginsAsking s a r → HasNoRequest (window (s ++ more)) → ⊥
 not_awaited s more a r x none = has_head (s ++ more) x.head (r ++ more) (begins_append s more x.head r x.begins) none
@@ -171,12 +171,12 @@ false_true : false ≡ true → ⊥
 false_true e = true≢false (sym e)
 
 -- The turns of the beginning of a stream are the beginning of its turns.
-pub prefix : (s more : List ℕ) (hs ks : List Turn) (e f : End) → Spells s hs e → Spells (s ++ more) ks f → (later : List Turn) × (ks ≡ hs ++ later)
+pub prefix : (s more : List ℕ) (hs ks : List Turn) (e f : End) → SpellsTurns s hs e → SpellsTurns (s ++ more) ks f → (later : List Turn) × (ks ≡ hs ++ later)
 prefix s more [] ks e f x y = (ks, refl)
 prefix s more (Whole r ∷ hs) [] e f x y = absurd (request_stays s more false r x.0 f x.1 y)
 prefix s more (Whole r ∷ hs) (Whole q ∷ ks) e f x y =
     let same = request_same s more false false r q x.0 y.0 x.1 y.1 in
-    let rest = prefix x.0 more hs ks e f x.2 (subst (λ bytes. Spells bytes ks f) (sym same.2) y.2) in
+    let rest = prefix x.0 more hs ks e f x.2 (subst (λ bytes. SpellsTurns bytes ks f) (sym same.2) y.2) in
     (rest.0, λ i. Whole (sym same.1 i) ∷ rest.1 i)
 prefix s more (Whole r ∷ hs) (Continue ∷ []) e f x y = absurd (not_asked s more false r x.0 x.1 y.0)
 prefix s more (Whole r ∷ hs) (Continue ∷ Continue ∷ ks) e f x y = absurd y
@@ -193,5 +193,5 @@ prefix s more (Continue ∷ Whole r ∷ hs) (Continue ∷ []) e f x y = absurd (
 prefix s more (Continue ∷ Whole r ∷ hs) (Continue ∷ Continue ∷ ks) e f x y = absurd y
 prefix s more (Continue ∷ Whole r ∷ hs) (Continue ∷ Whole q ∷ ks) e f x y =
     let same = request_same s more true true r q x.0 y.0 x.1 y.1 in
-    let rest = prefix x.0 more hs ks e f x.2 (subst (λ bytes. Spells bytes ks f) (sym same.2) y.2) in
+    let rest = prefix x.0 more hs ks e f x.2 (subst (λ bytes. SpellsTurns bytes ks f) (sym same.2) y.2) in
     (rest.0, λ i. Continue ∷ Whole (sym same.1 i) ∷ rest.1 i)

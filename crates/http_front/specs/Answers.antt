@@ -73,12 +73,12 @@ fields_of head_only close a =
     ++ unless_empty (codes "Connection") (connection close)
 
 -- the content: none for HEAD (RFC 9110, section 9.3.2)
-abbrev pub content_of : Bool → Answer → List ℕ
-content_of head_only a = if head_only || is_without_content a.status then [] else a.body
+abbrev pub answer_content : Bool → Answer → List ℕ
+answer_content head_only a = if head_only || is_without_content a.status then [] else a.body
 
 -- an answer as it is sent: without its body where only the head is asked for, and as the last of its connection where that closes
 unfoldable pub answer_bytes : Bool → Bool → Answer → List ℕ
-answer_bytes head_only close a = status_line a.status ++ flat_map field_line (fields_of head_only close a) ++ crlf_bytes ++ content_of head_only a
+answer_bytes head_only close a = status_line a.status ++ flat_map field_line (fields_of head_only close a) ++ crlf_bytes ++ answer_content head_only a
 
 -- the answer for which no memory is needed
 abbrev pub fixed_507 : List ℕ

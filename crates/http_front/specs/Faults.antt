@@ -3,12 +3,12 @@ use Rattle.std.specs.Prelude.{ℕ}
 use Rattle.http_front.specs.declared.fault.InFault.{InFault}
 use Rattle.http_front.specs.declared.fault.InFault.TheVariants.{BadHead, ManyHeaders, BadTarget, NoLength, BadLength, LongBody, LongHead, NoMemory}
 
-abbrev pub status_of : InFault → ℕ
-status_of BadHead = 400
-status_of ManyHeaders = 431
-status_of BadTarget = 400
-status_of NoLength = 411
-status_of BadLength = 400
-status_of LongBody = 413
-status_of LongHead = 431
-status_of NoMemory = 507
+abbrev pub fault_status : InFault → ℕ
+fault_status BadHead = 400
+fault_status ManyHeaders = 431
+fault_status BadTarget = 400
+fault_status NoLength = 411
+fault_status BadLength = 400
+fault_status LongBody = 413
+fault_status LongHead = 431
+fault_status NoMemory = 507

@@ -7,7 +7,7 @@ use Rattle.httparse.specs.declared.spans.RequestSpans.{RequestSpans}
 use Rattle.http_front.specs.declared.fault.InFault.TheVariants.{BadHead}
 use Rattle.http_front.specs.declared.window.Front.{Front}
 use Rattle.http_front.specs.declared.window.Front.TheVariants.{Whole, Partial, Refused, Crowded}
-use Rattle.http_front.specs.Heads.{parts_at, parts_of}
+use Rattle.http_front.specs.Heads.{request_parts_at, parts_of}
 use Rattle.http_front.specs.Turns.{BeginsAsking, BeginsRefused, AwaitsHead, HasNoHead, longest_head}
 
 -- the first bytes hold this head, and its parts stand at these places
@@ -15,7 +15,7 @@ pub record HoldsHead (bytes : List ℕ) (fields : List HeaderSpan) (spans : Requ
   pub reads : ReadsRequest bytes head (drop spans.len bytes)
   pub len_is : spans.len ≡ length (print_request head)
   pub len_fits : spans.len ≤ length bytes
-  pub parts_are : parts_at bytes fields spans ≡ parts_of head
+  pub parts_are : request_parts_at bytes fields spans ≡ parts_of head
 
 abbrev pub HoldsSomeHead : List ℕ → List HeaderSpan → RequestSpans → Type 0
 HoldsSomeHead bytes fields spans = (head : RequestHead) × HoldsHead bytes fields spans head

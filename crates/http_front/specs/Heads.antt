@@ -73,11 +73,11 @@ refusals minor target fields =
     ∷ (nat_lt longest_body (unwrap_or (body_length fields) 0), LongBody)
     ∷ []
 
-unfoldable pub first_fault : ℕ → List ℕ → List (List ℕ × List ℕ) → Option InFault
-first_fault minor target fields = option_map (λ refusal. refusal.1) (find (λ refusal. refusal.0) (refusals minor target fields))
+unfoldable pub first_refusal : ℕ → List ℕ → List (List ℕ × List ℕ) → Option InFault
+first_refusal minor target fields = option_map (λ refusal. refusal.1) (find (λ refusal. refusal.0) (refusals minor target fields))
 
-abbrev pub fault_of : Parts → Option InFault
-fault_of p = first_fault p.minor p.target (heads p)
+abbrev pub head_fault : Parts → Option InFault
+head_fault p = first_refusal p.minor p.target (heads p)
 
 -- where host, target and length can be read: what a head asks for
 abbrev pub asked_with : List ℕ × ℕ → Target → ℕ → Asked
@@ -90,8 +90,8 @@ asked_of minor target fields = option_and_then (λ host. option_and_then (λ rea
 abbrev pub is_closing : ℕ → List (List ℕ × List ℕ) → Bool
 is_closing minor fields = (minor == 0) || has_option (codes "close") (elements_named (codes "connection") fields)
 
-abbrev pub closes : Parts → Bool
-closes p = is_closing p.minor p.fields
+abbrev pub closes_connection : Parts → Bool
+closes_connection p = is_closing p.minor p.fields
 
 -- the first Expect field asks for an interim answer (RFC 9110, section 10.1.1)
 abbrev pub is_continue : Option (List ℕ) → Bool
@@ -124,22 +124,22 @@ request_with method line minor asked fields close = record {
 
 abbrev pub head_with : Parts → Asked → Head
 head_with p asked = record {
-  request = request_with p.method (request_line p.method p.target p.minor) p.minor asked (heads p) (closes p);
+  request = request_with p.method (request_line p.method p.target p.minor) p.minor asked (heads p) (closes_connection p);
   body_length = asked.body_length;
   awaits_continue = awaits_continue p.minor asked.body_length (heads p);
 }
 
 -- nothing is wrong with a head, and this is what it asks for
 pub record Asks (p : Parts) (head : Head) : Type 0 where
-  pub faultless : fault_of p ≡ None
+  pub faultless : head_fault p ≡ None
   pub asked : Asked
   pub asked_is : asked_of p.minor p.target (heads p) ≡ Some asked
   pub head_is : head ≡ head_with p asked
 
 -- ---- a head as the bytes that hold it, and where its parts stand in them
 
-abbrev pub parts_at : List ℕ → List HeaderSpan → RequestSpans → Parts
-parts_at bytes fields spans = record {
+abbrev pub request_parts_at : List ℕ → List HeaderSpan → RequestSpans → Parts
+request_parts_at bytes fields spans = record {
   method = span_bytes bytes spans.method;
   target = span_bytes bytes spans.path;
   minor = spans.version;

@@ -13,8 +13,8 @@ abbrev pub is_number : List ℕ → Bool
 is_number text = list_all is_ascii_digit text && (nat_lt 0 (length text) && nat_le (length text) most_digits)
 
 -- the number that a text writes
-abbrev pub number_of : List ℕ → Option ℕ
-number_of text = if is_number text then Some (digits_value 10 text) else None
+abbrev pub port_number : List ℕ → Option ℕ
+port_number text = if is_number text then Some (digits_value 10 text) else None
 
 -- a zero before other digits
 abbrev pub has_leading_zero : List ℕ → Bool
@@ -28,22 +28,22 @@ port_or_none n = if nat_le n greatest_port then Some n else None
 
 -- the port that a text writes: 80 where it is empty
 abbrev pub port_of : List ℕ → Option ℕ
-port_of text = if length text == 0 then Some 80 else (if has_leading_zero text then None else option_and_then port_or_none (number_of text))
+port_of text = if length text == 0 then Some 80 else (if has_leading_zero text then None else option_and_then port_or_none (port_number text))
 
-abbrev pub is_colon : ℕ → Bool
-is_colon b = b == 58
+abbrev pub is_port_colon : ℕ → Bool
+is_port_colon b = b == 58
 
-abbrev pub is_name_byte : ℕ → Bool
-is_name_byte b = is_ascii_alphanumeric b || ((b == 45) || ((b == 95) || (b == 46)))
+abbrev pub is_asked_host_byte : ℕ → Bool
+is_asked_host_byte b = is_ascii_alphanumeric b || ((b == 45) || ((b == 95) || (b == 46)))
 
 -- letters, digits, `-`, `_` and `.`, at least one
-abbrev pub is_name : List ℕ → Bool
-is_name text = nat_lt 0 (length text) && list_all is_name_byte text
+abbrev pub is_asked_host_name : List ℕ → Bool
+is_asked_host_name text = nat_lt 0 (length text) && list_all is_asked_host_byte text
 
 -- a name, alone or with a colon and a port after it
 abbrev pub host_in : List ℕ → Option (List ℕ × ℕ)
 host_in value =
-    if is_name (before_first is_colon value) then option_map (λ port. (before_first is_colon value, port)) (port_of (drop (length (before_first is_colon value) + 1) value))
+    if is_asked_host_name (before_first is_port_colon value) then option_map (λ port. (before_first is_port_colon value, port)) (port_of (drop (length (before_first is_port_colon value) + 1) value))
     else None
 
 -- The host of a request, from its Host field: one that is no host, and none in HTTP/1.1, make no request (RFC 9112, section 3.2). A
@@ -55,4 +55,4 @@ host_of minor (Some value) = host_in value
 -- The length of a request's body, from its Content-Length field: 0 where there is none (RFC 9112, section 6.3).
 abbrev pub length_of : Option (List ℕ) → Option ℕ
 length_of None = Some 0
-length_of (Some value) = number_of value
+length_of (Some value) = port_number value

@@ -9,18 +9,18 @@ use Rattle.http_front.specs.declared.intake.Advance.{Advance}
 use Rattle.http_front.specs.declared.intake.Advance.TheVariants.{Asked, Ready, Waiting}
 use Rattle.http_front.specs.declared.turn.Turn.{Turn}
 use Rattle.http_front.specs.declared.turn.Turn.TheVariants.{Continue, Whole}
-use Rattle.http_front.specs.Turns.{End, Waits, Breaks, BeginsAsking, HasBody, Spells}
+use Rattle.http_front.specs.Turns.{End, Waits, Breaks, BeginsAsking, HasBody, SpellsTurns}
 
 -- the turns that come after a head
-abbrev pub Follows : Head → List ℕ → List Turn → End → Type 0
-Follows asked bytes [] end = (length bytes < asked.body_length) × (end ≡ Waits)
-Follows asked bytes (Continue ∷ turns) end = ⊥
-Follows asked bytes (Whole request ∷ turns) end = (rest : List ℕ) × HasBody asked bytes request rest × Spells rest turns end
+abbrev pub TurnsFollow : Head → List ℕ → List Turn → End → Type 0
+TurnsFollow asked bytes [] end = (length bytes < asked.body_length) × (end ≡ Waits)
+TurnsFollow asked bytes (Continue ∷ turns) end = ⊥
+TurnsFollow asked bytes (Whole request ∷ turns) end = (rest : List ℕ) × HasBody asked bytes request rest × SpellsTurns rest turns end
 
 -- what these bytes spell: from a head on, after one, or after a fault
 abbrev pub Continues : Phase → List ℕ → List Turn → End → Type 0
-Continues Heading bytes turns end = Spells bytes turns end
-Continues (Body asked) bytes turns end = Follows asked bytes turns end
+Continues Heading bytes turns end = SpellsTurns bytes turns end
+Continues (Body asked) bytes turns end = TurnsFollow asked bytes turns end
 Continues (Failed fault) bytes turns end = (turns ≡ []) × (end ≡ Breaks fault)
 
 -- the bytes that no turn has taken
@@ -34,7 +34,7 @@ Left i more turns end = Continues i.phase (rest_of i ++ more) turns end
 -- The intake has been given the bytes of the stream, and has told these turns of it: whatever comes, what is left completes them to
 -- the turns of the whole stream.
 abbrev pub StandsFor : Intake → List ℕ → List Turn → Type 0
-StandsFor i stream told = (more : List ℕ) (turns : List Turn) (end : End) → Left i more turns end → Spells (stream ++ more) (told ++ turns) end
+StandsFor i stream told = (more : List ℕ) (turns : List Turn) (end : End) → Left i more turns end → SpellsTurns (stream ++ more) (told ++ turns) end
 
 abbrev pub fault_in : Phase → Option InFault
 fault_in Heading = None
@@ -61,7 +61,7 @@ Grows old new piece = (stream : List ℕ) (told : List Turn) → StandsFor old s
 
 -- the turns of what it stood for are all told, and end so
 abbrev pub Ends : Intake → End → Type 0
-Ends i end = (stream : List ℕ) (told : List Turn) → StandsFor i stream told → Spells stream told end
+Ends i end = (stream : List ℕ) (told : List Turn) → StandsFor i stream told → SpellsTurns stream told end
 
 -- a number that falls with each turn
 abbrev pub phase_weight : Phase → ℕ
@@ -75,8 +75,8 @@ weight i = 2 * length (rest_of i) + phase_weight i.phase
 -- ---- the steps within one call
 
 -- what is left of the new one is what is left of the old one
-abbrev pub Leads : Intake → Intake → Type 0
-Leads old new = (more : List ℕ) (turns : List Turn) (end : End) → Left new more turns end → Left old more turns end
+abbrev pub IntakeLeads : Intake → Intake → Type 0
+IntakeLeads old new = (more : List ℕ) (turns : List Turn) (end : End) → Left new more turns end → Left old more turns end
 
 abbrev pub LeadsBy : Intake → Intake → Turn → Type 0
 LeadsBy old new turn = (more : List ℕ) (turns : List Turn) (end : End) → Left new more turns end → Left old more (turn ∷ turns) end
@@ -93,8 +93,8 @@ IsBody (Failed fault) = ⊥
 -- the head at the front has been read, or there is none yet
 abbrev pub Advances : Intake → Intake → Advance → Type 0
 Advances old new Asked = LeadsBy old new Continue × (weight new < weight old)
-Advances old new Ready = Leads old new × IsBody new.phase × (weight new ≤ weight old)
-Advances old new Waiting = Leads old new × Stands old Waits
+Advances old new Ready = IntakeLeads old new × IsBody new.phase × (weight new ≤ weight old)
+Advances old new Waiting = IntakeLeads old new × Stands old Waits
 
 -- what stands at the front, and the phase: a head that asks for this, of so many bytes
 pub record IsAtHead (i : Intake) (head : Head) (len : ℕ) : Type 0 where

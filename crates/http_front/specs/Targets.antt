@@ -9,17 +9,17 @@ use Rattle.sp_base.specs.Paths.{path_of, unmangled}
 use Rattle.http_front.specs.declared.target.Target.{Target}
 
 -- a `?` ends the path
-abbrev pub is_mark : ℕ → Bool
-is_mark b = b == 63
+abbrev pub is_question_mark : ℕ → Bool
+is_question_mark b = b == 63
 
 -- the query: what stands after the first `?` (RFC 3986, section 3.4)
 abbrev pub query_of : List ℕ → Option (List ℕ)
-query_of target = option_map (λ at. drop (at + 1) target) (position is_mark target)
+query_of target = option_map (λ at. drop (at + 1) target) (position is_question_mark target)
 
 -- The path of a target is what stands before its query. Each escape in it is the byte of its two digits; a `%` that begins
 -- none, and any other byte, stands for itself (RFC 3986, section 2.1).
 abbrev pub path_bytes : List ℕ → List ℕ
-path_bytes target = percent_decode (before_first is_mark target)
+path_bytes target = percent_decode (before_first is_question_mark target)
 
 -- the text ends in a slash, and isn't the slash alone
 abbrev pub ends_in_slash : List ℕ → Bool

@@ -8,7 +8,7 @@ use Rattle.http_front.specs.declared.fault.InFault.TheVariants.{BadHead, LongHea
 use Rattle.http_front.specs.declared.head.Head.{Head}
 use Rattle.http_front.specs.declared.turn.Turn.{Turn}
 use Rattle.http_front.specs.declared.turn.Turn.TheVariants.{Continue, Whole}
-use Rattle.http_front.specs.Heads.{parts_of, fault_of, Asks}
+use Rattle.http_front.specs.Heads.{parts_of, head_fault, Asks}
 
 -- how the turns of a stream end: more bytes may bring more, or a fault ends them
 pub data End : Type 0 where
@@ -39,7 +39,7 @@ pub record BeginsRefused (stream : List ℕ) (fault : InFault) : Type 0 where
   pub head : RequestHead
   pub rest : List ℕ
   pub begins : BeginsWith stream head rest
-  pub refused : fault_of (parts_of head) ≡ Some fault
+  pub refused : head_fault (parts_of head) ≡ Some fault
 
 -- the request with its body
 abbrev pub with_body : Head → List ℕ → Req
@@ -92,9 +92,9 @@ pub record AwaitsAskedBody (stream : List ℕ) : Type 0 where
 
 -- The stream spells these turns, and ends so: whole requests, each after a Continue where its sender waits for one, and after them
 -- the bytes of no whole request.
-abbrev pub Spells : List ℕ → List Turn → End → Type 0
-Spells stream [] end = Stops stream end
-Spells stream (Whole request ∷ turns) end = (rest : List ℕ) × BeginsWithRequest stream false request rest × Spells rest turns end
-Spells stream (Continue ∷ []) end = AwaitsAskedBody stream × (end ≡ Waits)
-Spells stream (Continue ∷ Continue ∷ turns) end = ⊥
-Spells stream (Continue ∷ Whole request ∷ turns) end = (rest : List ℕ) × BeginsWithRequest stream true request rest × Spells rest turns end
+abbrev pub SpellsTurns : List ℕ → List Turn → End → Type 0
+SpellsTurns stream [] end = Stops stream end
+SpellsTurns stream (Whole request ∷ turns) end = (rest : List ℕ) × BeginsWithRequest stream false request rest × SpellsTurns rest turns end
+SpellsTurns stream (Continue ∷ []) end = AwaitsAskedBody stream × (end ≡ Waits)
+SpellsTurns stream (Continue ∷ Continue ∷ turns) end = ⊥
+SpellsTurns stream (Continue ∷ Whole request ∷ turns) end = (rest : List ℕ) × BeginsWithRequest stream true request rest × SpellsTurns rest turns end

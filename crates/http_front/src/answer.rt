@@ -46,7 +46,7 @@ pub fn interim_100() -> &'static [u8]
 }
 
 fn content_of(head_only: bool, answer: &Answer) -> &[u8]
-    ensures { result.now ≡ spec.content_of head_only answer.now }
+    ensures { result.now ≡ spec.answer_content head_only answer.now }
 {
     if head_only || is_without_content(answer.status) {
         b""

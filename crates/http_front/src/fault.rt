@@ -1,6 +1,6 @@
 //! Why a stream is read no further.
 ghost use Rattle.std.specs.Prelude.{◌≡◌};
-ghost use Rattle.http_front.specs.Faults.{status_of};
+ghost use Rattle.http_front.specs.Faults.{fault_status};
 
 use sp_base::NoMemory as OutOfMemory;
 use std::alloc::{AllocError, AllocFailed};
@@ -29,7 +29,7 @@ pub enum InFault {
 impl InFault {
     /// The status code that the fault is answered with.
     pub fn status(self) -> u16
-        ensures { result ≡ status_of self }
+        ensures { result ≡ fault_status self }
     {
         match self {
             InFault::BadHead | InFault::BadTarget | InFault::BadLength => 400,

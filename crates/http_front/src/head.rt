@@ -48,9 +48,9 @@ pub fn read_head(
     spans: &RequestSpans,
 ) -> Result<Head, InFault>
     requires within { spec.AreWithin bytes.now fields.now spans.now }
-    requires texts { spec.AreTexts (spec.parts_at bytes.now fields.now spans.now) }
-    ensures ok { IfOk result (spec.Asks (spec.parts_at bytes.now fields.now spans.now)) }
-    ensures err { IfErr result (λ e. e ≢ NoMemory → spec.fault_of (spec.parts_at bytes.now fields.now spans.now) ≡ Some e) }
+    requires texts { spec.AreTexts (spec.request_parts_at bytes.now fields.now spans.now) }
+    ensures ok { IfOk result (spec.Asks (spec.request_parts_at bytes.now fields.now spans.now)) }
+    ensures err { IfErr result (λ e. e ≢ NoMemory → spec.head_fault (spec.request_parts_at bytes.now fields.now spans.now) ≡ Some e) }
 {
     let method = text_of(spans.method.of(bytes));
     let target = text_of(spans.path.of(bytes));
@@ -69,9 +69,9 @@ pub fn read_head(
 }
 
 fn asked_of(alloc: Global, minor: u8, target: &str, heads: &HeadList) -> Result<Asked, InFault>
-    ensures faultless { OnOk result (spec.first_fault minor target.now heads.now ≡ None) }
+    ensures faultless { OnOk result (spec.first_refusal minor target.now heads.now ≡ None) }
     ensures ok { IfOk result (λ asked. spec.asked_of minor target.now heads.now ≡ Some asked) }
-    ensures err { IfErr result (λ e. e ≢ NoMemory → spec.first_fault minor target.now heads.now ≡ Some e) }
+    ensures err { IfErr result (λ e. e ≢ NoMemory → spec.first_refusal minor target.now heads.now ≡ Some e) }
 {
     let Some((name, port)) = asked_host(minor, heads) else {
         return Err(InFault::BadHead);

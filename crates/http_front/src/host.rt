@@ -40,8 +40,8 @@ fn host_in(value: &[u8]) -> Option<(&[u8], u16)>
 
 // What stands before the first colon, and what stands after it.
 fn cut(value: &[u8]) -> (&[u8], &[u8])
-    ensures name { result.0.now ≡ before_first spec.is_colon value.now }
-    ensures port { result.1.now ≡ drop (length (before_first spec.is_colon value.now) + 1) value.now }
+    ensures name { result.0.now ≡ before_first spec.is_port_colon value.now }
+    ensures port { result.1.now ≡ drop (length (before_first spec.is_port_colon value.now) + 1) value.now }
 {
     match first_colon(value) {
         Some(at) => (&value[..at], &value[at + 1..]),
@@ -50,25 +50,25 @@ fn cut(value: &[u8]) -> (&[u8], &[u8])
 }
 
 fn first_colon(value: &[u8]) -> Option<usize>
-    ensures { result ≡ position spec.is_colon value.now }
+    ensures { result ≡ position spec.is_port_colon value.now }
 {
     value.iter().position(|b| *b == b':')
 }
 
 fn is_name(text: &[u8]) -> bool
-    ensures { result ≡ spec.is_name text.now }
+    ensures { result ≡ spec.is_asked_host_name text.now }
 {
     !text.is_empty() && has_name_bytes_alone(text)
 }
 
 fn has_name_bytes_alone(text: &[u8]) -> bool
-    ensures { result ≡ list_all spec.is_name_byte text.now }
+    ensures { result ≡ list_all spec.is_asked_host_byte text.now }
 {
     text.iter().all(|b| is_name_byte(*b))
 }
 
 fn is_name_byte(b: u8) -> bool
-    ensures { result ≡ spec.is_name_byte b }
+    ensures { result ≡ spec.is_asked_host_byte b }
 {
     b.is_ascii_alphanumeric() || (b == b'-' || (b == b'_' || b == b'.'))
 }
@@ -101,7 +101,7 @@ pub fn length_of(value: Option<&[u8]>) -> Option<usize>
 }
 
 fn number_of(text: &[u8]) -> Option<usize>
-    ensures { result ≡ spec.number_of text.now }
+    ensures { result ≡ spec.port_number text.now }
 {
     if is_number(text) {
         Some(digits_value(text))

@@ -49,7 +49,7 @@ impl Intake {
     ghost use Rattle.http_front.specs.declared.fault.InFault.{InFault};
     ghost use Rattle.http_front.specs.declared.fault.InFault.TheVariants.{NoMemory};
     ghost use Rattle.http_front.specs.Turns.{Waits, Breaks};
-    ghost use Rattle.http_front.specs.Intakes.{StandsFor, Grows, Keeps, Tells, Ends, weight, told_fault, rest_of, Leads, LeadsBy, Stands, IsBody, IsAtHead, Advances};
+    ghost use Rattle.http_front.specs.Intakes.{StandsFor, Grows, Keeps, Tells, Ends, weight, told_fault, rest_of, IntakeLeads, LeadsBy, Stands, IsBody, IsAtHead, Advances};
 
     pub fn new(alloc: Global) -> Mem<Intake>
         ensures { IfOk result (λ intake. StandsFor intake [] []) }
@@ -109,7 +109,7 @@ impl Intake {
     fn advance(&mut self, alloc: Global) -> Result<Advance, InFault>
         ensures ok { IfOk result (Advances self.old self.new) }
         ensures breaks { IfErr result (λ fault. fault ≢ NoMemory → Stands self.old (Breaks fault)) }
-        ensures kept { OnErr result (Leads self.old self.new) }
+        ensures kept { OnErr result (IntakeLeads self.old self.new) }
         ensures latched { IfErr result (λ fault. fault ≢ NoMemory → told_fault self.new ≡ Some fault) }
         ensures again { (fault : InFault) → told_fault self.old ≡ Some fault → result ≡ Err fault }
     {

@@ -1,10 +1,10 @@
 //! Laws of the definitions: functions that do nothing.
 ghost use Rattle.std.specs.Prelude.{◌≡◌, ◌++◌, ℕ, List};
 ghost use Rattle.http_front.specs.declared.turn.Turn.{Turn};
-ghost use Rattle.http_front.specs.Turns.{End, Spells};
+ghost use Rattle.http_front.specs.Turns.{End, SpellsTurns};
 
 /// The turns of the beginning of a stream are the beginning of its turns, however the stream goes on.
 pub fn the_turns_of_a_beginning()
-    ensures { (stream more : List ℕ) (turns all : List Turn) (end last : End) → Spells stream turns end → Spells (stream ++ more) all last
+    ensures { (stream more : List ℕ) (turns all : List Turn) (end last : End) → SpellsTurns stream turns end → SpellsTurns (stream ++ more) all last
         → (later : List Turn) × (all ≡ turns ++ later) }
 {}

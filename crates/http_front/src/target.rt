@@ -5,7 +5,7 @@ ghost use Rattle.std.specs.Option.{option_map};
 ghost use Rattle.std.specs.Result.{result_ok};
 ghost use Rattle.percent_encoding.specs.Percent.{percent_decode as decoding};
 ghost use Rattle.sp_base.specs.Paths.{path_of, unmangled};
-ghost use Rattle.http_front.specs.Targets.{is_mark, query_of, begins_with_slash, ends_in_slash, without_slash as trimmed, utf8_text, target_of};
+ghost use Rattle.http_front.specs.Targets.{is_question_mark, query_of, begins_with_slash, ends_in_slash, without_slash as trimmed, utf8_text, target_of};
 
 use percent_encoding::{DecodeError, percent_decode};
 use sp_base::{ByteBuf, Mem, NoMemory, Path, PathFault, TextBuf};
@@ -53,7 +53,7 @@ fn begins_with_slash(target: &[u8]) -> bool
 
 // The path of a target as it came, and the query.
 fn cut(target: &[u8]) -> (&[u8], Option<&[u8]>)
-    ensures path { result.0.now ≡ before_first is_mark target.now }
+    ensures path { result.0.now ≡ before_first is_question_mark target.now }
     ensures query { option_copied result.1 ≡ query_of target.now }
 {
     match first_mark(target) {
@@ -63,7 +63,7 @@ fn cut(target: &[u8]) -> (&[u8], Option<&[u8]>)
 }
 
 fn first_mark(target: &[u8]) -> Option<usize>
-    ensures { result ≡ position is_mark target.now }
+    ensures { result ≡ position is_question_mark target.now }
 {
     target.iter().position(|b| *b == b'?')
 }

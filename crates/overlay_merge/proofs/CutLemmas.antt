@@ -7,8 +7,8 @@ use Rattle.std.proofs.lemmas.List.{get_or-take, length-take-le}
 use Rattle.std.proofs.lemmas.List.Folds.{Any-from_list_any, list_any-from_Any}
 use Rattle.resource_tree.specs.Content.{Content, name_of}
 use Rattle.overlay_merge.specs.declared.layers.Layer.{Layer}
-use Rattle.overlay_merge.specs.Cut.{HidesKid, HidesResource, IsCut, steps_above}
-use Rattle.overlay_merge.specs.Hiding.{hides_kid_at, hides_kid_within, hides_resource_at, hides_resource_within, in_common, is_cut, is_hidden_by, is_within, some_below}
+use Rattle.overlay_merge.specs.Cut.{HidesKid, HidesResource, LayerIsCut, steps_above}
+use Rattle.overlay_merge.specs.Hiding.{hides_kid_at, hides_kid_within, hides_resource_at, hides_resource_within, in_common, layer_is_cut, is_hidden_by, is_within, some_below}
 
 -- ---- some number below another
 
@@ -114,8 +114,8 @@ hidden_from tree upper is =
     ⊎_elim (λ (r : HidesResource tree upper.0 upper.1). some_here (hides_resource_within tree upper.0 upper.1) (hides_kid_within tree upper.0 upper.1) (hides_resource_from tree upper.0 upper.1 r))
     (λ (k : HidesKid tree upper.0 upper.1). some_later (hides_resource_within tree upper.0 upper.1) (hides_kid_within tree upper.0 upper.1) (hides_kid_from tree upper.0 upper.1 k)) is
 
-pub cut_by_node : (tree : Content) (layer : Layer) (above : List Layer) → is_cut tree layer above ≡ true → IsCut tree layer above
-unfolding is_cut
+pub cut_by_node : (tree : Content) (layer : Layer) (above : List Layer) → layer_is_cut tree layer above ≡ true → LayerIsCut tree layer above
+unfolding layer_is_cut
 cut_by_node tree layer above e =
     ⊎_elim (λ (own : hides_resource_within tree layer.own layer.path ≡ true). inl (hides_resource_is tree layer.own layer.path own))
     (λ (other : list_any (is_hidden_by tree) (in_common layer.common above) ≡ true).
@@ -123,8 +123,8 @@ cut_by_node tree layer above e =
     inr (any.0, any.1, any.2, any.3, hidden_is tree any.1 any.4))
     (either (hides_resource_within tree layer.own layer.path) (list_any (is_hidden_by tree) (in_common layer.common above)) e)
 
-pub cut_from_node : (tree : Content) (layer : Layer) (above : List Layer) → IsCut tree layer above → is_cut tree layer above ≡ true
-unfolding is_cut
+pub cut_from_node : (tree : Content) (layer : Layer) (above : List Layer) → LayerIsCut tree layer above → layer_is_cut tree layer above ≡ true
+unfolding layer_is_cut
 cut_from_node tree layer above is =
     ⊎_elim (λ (own : HidesResource tree layer.own layer.path).
     some_here (hides_resource_within tree layer.own layer.path) (list_any (is_hidden_by tree) (in_common layer.common above)) (hides_resource_from tree layer.own layer.path own))

@@ -24,7 +24,7 @@ use Rattle.url_split.specs.Split.{at_greatest}
 use Rattle.overlay_merge.specs.declared.layers.Layer.{Layer}
 use Rattle.overlay_merge.specs.Roots.{is_merged_path, is_overlay, is_override}
 use Rattle.overlay_merge.specs.Layers.{base_at, base_of, descent, has_layer, layer_below, layer_by, has_node, layers_of, overlay_layers, override_layer, override_layers, path_at}
-use Rattle.overlay_merge.specs.Hiding.{is_cut, list_of, merged_from, uncut_of}
+use Rattle.overlay_merge.specs.Hiding.{layer_is_cut, resource_list, merged_from, uncut_of}
 use Rattle.overlay_merge.specs.Merged.{has_resource}
 use Rattle.overlay_merge.specs.Walk.{has_kid_node}
 use Rattle.overlay_merge.proofs.PathLemmas.{is_path-first}
@@ -193,9 +193,6 @@ module _ (tree : Content) (good : IsTree (node_at tree)) (name : List ℕ) where
 
 -- ---- the layers of a kid
 
-no_layer : {A : Type 0} (p : A → Bool) → list_any p [] ≡ false
-no_layer p = refl
-
 none_kids : (name : List ℕ) → AreKids name [] []
 none_kids name p = refl
 
@@ -238,7 +235,7 @@ parent_there tree path name good deep there = some_above tree (layers_of tree pa
 
 -- ---- what is merged is at a node
 
-none_res : (tree : Content) (path : List (List ℕ)) (o : Option Node) → is_some o ≡ false → list_of (option_map (res_of path) o) ≡ []
+none_res : (tree : Content) (path : List (List ℕ)) (o : Option Node) → is_some o ≡ false → resource_list (option_map (res_of path) o) ≡ []
 none_res tree path None e = refl
 none_res tree path (Some node) e = absurd (true≢false e)
 
@@ -256,7 +253,7 @@ unfolding uncut_of
 no_node_merged tree [] none = refl
 no_node_merged tree (layer ∷ above) none =
     let both = or_none (is_some (node_at tree layer.path)) (has_node tree above) none in
-    ap (λ l. l ++ uncut_of tree above) (cut_none (is_cut tree layer above) (list_of (res_at tree layer.path)) (none_res tree layer.path (node_at tree layer.path) both.0))
+    ap (λ l. l ++ uncut_of tree above) (cut_none (layer_is_cut tree layer above) (resource_list (res_at tree layer.path)) (none_res tree layer.path (node_at tree layer.path) both.0))
     ∙ no_node_merged tree above both.1
 
 if_none : {A : Type 0} (valid : Bool) (xs : List A) → xs ≡ [] → cond valid xs [] ≡ []

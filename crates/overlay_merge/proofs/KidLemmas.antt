@@ -16,7 +16,7 @@ use Rattle.resource_tree.specs.Content.{Content, IsTree, kid, node_at}
 use Rattle.resource_tree.specs.Seen.{Resource, res_at, res_of}
 use Rattle.resource_tree.specs.declared.nodes.Node.{Node}
 use Rattle.overlay_merge.specs.declared.layers.Layer.{Layer}
-use Rattle.overlay_merge.specs.Hiding.{is_cut, list_of, merged_from, uncut, uncut_of}
+use Rattle.overlay_merge.specs.Hiding.{layer_is_cut, resource_list, merged_from, uncut, uncut_of}
 use Rattle.overlay_merge.specs.Kids.{all_kids, has_text, is_merged_there, with_kids_of}
 use Rattle.overlay_merge.specs.Layers.{layers_of}
 use Rattle.overlay_merge.specs.Walk.{AreNodesOf}
@@ -34,25 +34,6 @@ pub kid_is : (tree : Content) (res : Resource) (name : List ℕ) → IsTree (nod
 kid_is tree res name good is =
     let at = node_of tree res.path res (node_at tree res.path) refl is in
     ap (λ (r : Resource). has_text r.kids name) at.1.1 ∙ (good.nodes res.path at.0 at.1.0).kids name
-
-none_there : (o : Option Node) → ((node : Node) → o ≡ Some node → ⊥) → o ≡ None
-none_there (Some node) never = absurd (never node refl)
-none_there None never = refl
-
-some_path : (p : List (List ℕ)) → is_path p ≡ true → None ≡ path_or_none p → ⊥
-some_path p valid none = false≢true (ap is_some (none ∙ ap (λ t. cond t (Some p) None) valid))
-
--- at what is no path there is no node
-pub no_node : (tree : Content) (path : List (List ℕ)) → IsTree (node_at tree) → None ≡ path_or_none path → node_at tree path ≡ None
-no_node tree path good none =
-    none_there (node_at tree path) (λ node is. let valid : is_path path ≡ true = (good.nodes path node is).is_a_path in absurd (some_path path valid none))
-
-pub path_of_kid : (p q : List (List ℕ)) → Some q ≡ path_or_none p → q ≡ p
-path_of_kid p q =
-    elim (is_path p) as (λ t. Some q ≡ cond t (Some p) None → q ≡ p) [
-      | true ↦ λ e. cc
-      | false ↦ λ e. absurd (cc)
-    ]
 
 -- ---- the kids of layers together
 
@@ -87,12 +68,12 @@ has-all_kids layers name = has-fold [] layers name
 
 -- ---- the layers are nodes
 
-nodes_from : (tree : Content) (path : List (List ℕ)) (o : Option Node) → node_at tree path ≡ o → AreNodesOf tree (list_of (option_map (res_of path) o))
+nodes_from : (tree : Content) (path : List (List ℕ)) (o : Option Node) → node_at tree path ≡ o → AreNodesOf tree (resource_list (option_map (res_of path) o))
 nodes_from tree path (Some node) is =
     All-cons (λ (res : Resource). res_at tree res.path ≡ Some res) (res_of path node) [] (ap (option_map (res_of path)) is) (All-nil (λ (res : Resource). res_at tree res.path ≡ Some res))
 nodes_from tree path None is = All-nil (λ (res : Resource). res_at tree res.path ≡ Some res)
 
-nodes_uncut : (tree : Content) (layer : Layer) (cut : Bool) → AreNodesOf tree (cond cut [] (list_of (res_at tree layer.path)))
+nodes_uncut : (tree : Content) (layer : Layer) (cut : Bool) → AreNodesOf tree (cond cut [] (resource_list (res_at tree layer.path)))
 nodes_uncut tree layer true = All-nil (λ (res : Resource). res_at tree res.path ≡ Some res)
 nodes_uncut tree layer false = nodes_from tree layer.path (node_at tree layer.path) refl
 
@@ -100,7 +81,7 @@ pub are_nodes : (tree : Content) (layers : List Layer) → AreNodesOf tree (uncu
 unfolding uncut_of
 are_nodes tree [] = All-nil (λ (res : Resource). res_at tree res.path ≡ Some res)
 are_nodes tree (layer ∷ above) =
-    All-append (λ (res : Resource). res_at tree res.path ≡ Some res) (uncut tree layer above) (uncut_of tree above) (nodes_uncut tree layer (is_cut tree layer above)) (are_nodes tree above)
+    All-append (λ (res : Resource). res_at tree res.path ≡ Some res) (uncut tree layer above) (uncut_of tree above) (nodes_uncut tree layer (layer_is_cut tree layer above)) (are_nodes tree above)
 
 -- ---- steps of a list
 

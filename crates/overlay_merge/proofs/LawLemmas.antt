@@ -12,8 +12,8 @@ use Rattle.resource_tree.specs.Content.{Content, kid}
 use Rattle.resource_tree.specs.Seen.{Resource, res_at}
 use Rattle.overlay_merge.specs.declared.layers.Layer.{Layer}
 use Rattle.overlay_merge.specs.Roots.{is_merged_path, is_parent_of_roots}
-use Rattle.overlay_merge.specs.Hiding.{is_cut, list_of, merged_from, uncut_of}
-use Rattle.overlay_merge.specs.Kids.{all_kids, has_text, is_merged_there, kids_of, kids_there, moved, moved_from, ordered_by, wish_at}
+use Rattle.overlay_merge.specs.Hiding.{layer_is_cut, resource_list, merged_from, uncut_of}
+use Rattle.overlay_merge.specs.Kids.{all_kids, has_text, is_merged_there, layers_kids, kids_there, moved, moved_from, ordered_by, wish_at}
 use Rattle.overlay_merge.specs.Merged.{merge, merged, unmerged, without_roots}
 use Rattle.overlay_merge.proofs.KidLemmas.{has-all_kids}
 
@@ -22,9 +22,9 @@ unfolding merged
 unmerged_is tree path plain other =
     ap (λ t. cond t (merge tree path (merged_from tree path)) (unmerged tree path)) plain ∙ ap (λ t. cond t (option_map without_roots (res_at tree path)) (res_at tree path)) other
 
-pub cut_is : (tree : Content) (layer : Layer) (above : List Layer) → is_cut tree layer above ≡ true → uncut_of tree (layer ∷ above) ≡ uncut_of tree above
+pub cut_is : (tree : Content) (layer : Layer) (above : List Layer) → layer_is_cut tree layer above ≡ true → uncut_of tree (layer ∷ above) ≡ uncut_of tree above
 unfolding uncut_of
-cut_is tree layer above cut = ap (λ t. cond t [] (list_of (res_at tree layer.path)) ++ uncut_of tree above) cut
+cut_is tree layer above cut = ap (λ t. cond t [] (resource_list (res_at tree layer.path)) ++ uncut_of tree above) cut
 
 -- ---- moves
 
@@ -58,8 +58,8 @@ unfolding ordered_by
 ordered-reorders tree names layer =
     fold-reorders (λ so_far name. moved name (wish_at tree (kid layer.path name)) so_far) names layer.kids (λ so_far name. moved-reorders so_far name (wish_at tree (kid layer.path name)))
 
-pub kids-reorder : (tree : Content) (path : List (List ℕ)) (layers : List Resource) → IsPermutation (kids_there tree path (all_kids layers)) (kids_of tree path layers)
-unfolding kids_of
+pub kids-reorder : (tree : Content) (path : List (List ℕ)) (layers : List Resource) → IsPermutation (kids_there tree path (all_kids layers)) (layers_kids tree path layers)
+unfolding layers_kids
 kids-reorder tree path layers = fold-reorders (ordered_by tree) (kids_there tree path (all_kids layers)) layers (ordered-reorders tree)
 
 -- ---- each kid
@@ -69,9 +69,9 @@ unfolding kids_there
 there-has tree path names name =
     any-filter_same (pointwise nat_eq name) (λ n. is_merged_there tree (kid path n)) (is_merged_there tree (kid path name)) (λ n e. ap (λ s. is_merged_there tree (kid path s)) (sym (same_text name n (sym e)))) names
 
-pub kid-parts : (tree : Content) (path : List (List ℕ)) (layers : List Resource) (name : List ℕ) → has_text (kids_of tree path layers) name ≡ true
+pub kid-parts : (tree : Content) (path : List (List ℕ)) (layers : List Resource) (name : List ℕ) → has_text (layers_kids tree path layers) name ≡ true
     → (is_merged_there tree (kid path name) ≡ true) × (list_any (λ (layer : Resource). has_text layer.kids name) layers ≡ true)
 kid-parts tree path layers name is =
-    let before = list_any-IsPermutation (pointwise nat_eq name) (kids_there tree path (all_kids layers)) (kids_of tree path layers) (kids-reorder tree path layers) in
+    let before = list_any-IsPermutation (pointwise nat_eq name) (kids_there tree path (all_kids layers)) (layers_kids tree path layers) (kids-reorder tree path layers) in
     let both = and_parts (is_merged_there tree (kid path name)) (has_text (all_kids layers) name) (sym (there-has tree path (all_kids layers) name) ∙ before ∙ is) in
     (both.0, sym (has-all_kids layers name) ∙ both.1)

@@ -14,10 +14,6 @@ use Rattle.overlay_merge.proofs.PathLemmas.{none_from}
 
 -- ---- overlays
 
-pub overlay_layers-some : (rest : List (List ℕ)) → 0 < length rest → overlay_layers rest ≡ overlay_layer rest (codes "libs") ∷ overlay_layer rest (codes "apps") ∷ []
-overlay_layers-some [] some = absurd (omega (arith, some))
-overlay_layers-some (seg ∷ rest) some = refl
-
 pub no_rest : (path : List (List ℕ)) → length path ≤ 2 → drop 2 path ≡ []
 no_rest [] small = refl
 no_rest (a ∷ []) small = refl
@@ -78,9 +74,6 @@ descent-new tree n above layer new = ap (λ t. cond t [] (layer ∷ descent tree
 pub record Descends (tree : Content) (all layers : List Layer) (next : Option Layer) : Type 0 where
   pub few : length layers ≤ 32
   pub rest : layers ++ descent tree (32 - length layers) layers next ≡ all
-
-pub descends_first : (tree : Content) (next : Option Layer) → Descends tree (descent tree 32 [] next) [] next
-descends_first tree next = record { few = omega arith; rest = refl }
 
 pub descends_end : (tree : Content) (all layers : List Layer) (next : Option Layer) → Descends tree all layers next → next ≡ None → layers ≡ all
 descends_end tree all layers next so_far none =

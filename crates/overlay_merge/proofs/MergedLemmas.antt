@@ -31,7 +31,3 @@ pub has_unmerged : (tree : Content) (path : List (List ℕ)) → is_merged_path 
 unfolding has_resource merged
 has_unmerged tree path is =
     ap (λ t. is_some (cond t (merge tree path (merged_from tree path)) (unmerged tree path))) is ∙ some_unmerged (is_parent_of_roots path) path (node_at tree path)
-
-pub merge_none : (tree : Content) (path : List (List ℕ)) (layers : List Resource) → (length layers == 0) ≡ true → None ≡ merge tree path layers
-merge_none tree path [] e = refl
-merge_none tree path (lowest ∷ more) e = absurd (true≢false (sym e ∙ not_zero (length (lowest ∷ more)) (omega arith)))

@@ -15,19 +15,10 @@ use Rattle.overlay_merge.specs.Slots.{moved_by}
 use Rattle.overlay_merge.specs.Walk.{AreNodesOf}
 use Rattle.overlay_merge.proofs.KidLemmas.{node_of}
 
--- one more step of a loop
-pub one_more : {X : Type 0} (f : List (List ℕ) → X → List (List ℕ)) (start now new : List (List ℕ)) (xs : List X) (i : ℕ) (x : X) → i < length xs → x ≡ get_or xs i x → now ≡ fold f start (take i xs) → new ≡ f now x
-    → new ≡ fold f start (take (i + 1) xs)
-one_more f start now new xs i x within item so_far is = is ∙ ap (λ n. f n x) so_far ∙ ap (f (fold f start (take i xs))) item ∙ sym (fold_more f start xs i x within)
-
 pub pushed : (old new : List Move) (m : Move) → new ≡ old ++ m ∷ [] → (names : List (List ℕ)) → moved_by new names ≡ moved m.name.now (Some m.other.now) (moved_by old names)
 pushed old new m is names =
     let f = λ (so_far : List (List ℕ)) (step : Move). moved step.name.now (Some step.other.now) so_far in
     ap (λ l. moved_by l names) is ∙ fold-append f names old (m ∷ [])
-
-pub no_moves : (moves : List Move) (names : List (List ℕ)) → 0 ≡ length moves → moved_by moves names ≡ names
-no_moves [] names none = refl
-no_moves (m ∷ moves) names none = absurd (omega (arith, none))
 
 -- ---- no kid is twice among the kids of layers
 

@@ -12,15 +12,6 @@ use Rattle.sp_base.specs.Paths.{is_path, is_under, path_or_none, seg_ok}
 use Rattle.resource_tree.specs.Content.{Content, IsTree, kid, node_at}
 use Rattle.resource_tree.specs.declared.nodes.Node.{Node}
 
--- ---- the first two segments
-
-pub under_two : (path : List (List ℕ)) (a b : List ℕ)
-    → (option_map_or (pointwise nat_eq a) (slice_get path 0) false && option_map_or (pointwise nat_eq b) (slice_get path 1) false) ≡ is_under path (a ∷ b ∷ [])
-under_two [] a b = refl
-under_two (x ∷ []) a b = elim (pointwise nat_eq a x) as (λ t. (t && false) ≡ (t && false)) [ true ↦ refl | false ↦ refl ]
-under_two (x ∷ y ∷ path) a b =
-    ap (λ t. pointwise nat_eq a x && t) (elim (pointwise nat_eq b y) as (λ t. t ≡ (t && true)) [ true ↦ refl | false ↦ refl ])
-
 -- ---- other first segments
 
 pub is_path-first : (p r : List (List ℕ)) → is_path (p ++ r) ≡ true → is_path p ≡ true
@@ -81,14 +72,6 @@ is_path-below path top ok valid =
     let size = length-drop 2 path in
     let short : length (top ∷ drop 2 path) ≤ 64 = omega (arith, deep, size) in
     and_from _ _ (and_from _ _ ok (all-drop 2 path both.0)) (le-leb _ _ short)
-
-pub is_path-rest : (path : List (List ℕ)) → is_path path ≡ true → is_path (drop 2 path) ≡ true
-is_path-rest path valid =
-    let both = and_parts (list_all seg_ok path) _ valid in
-    let deep = leb-true _ _ both.1 in
-    let size = length-drop 2 path in
-    let short : length (drop 2 path) ≤ 64 = omega (arith, deep, size) in
-    and_from _ _ (all-drop 2 path both.0) (le-leb _ _ short)
 
 -- ---- below a path without a node there is none
 

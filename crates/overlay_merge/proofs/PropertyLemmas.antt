@@ -11,7 +11,7 @@ use Rattle.std.proofs.lemmas.List.Folds.{list_any-append}
 use Rattle.sp_base.specs.Names.{by_name}
 use Rattle.sp_base.specs.declared.value.Value.{Value}
 use Rattle.sp_base.specs.declared.value.Value.TheVariants.{Text, Long, Truth, Texts, Longs, Truths}
-use Rattle.overlay_merge.specs.Hiding.{has_name, stands_for, texts_of}
+use Rattle.overlay_merge.specs.Hiding.{lists_name, text_stands_for, hiding_texts}
 use Rattle.overlay_merge.specs.HidingTexts.{many_texts, one_text, text_list}
 use Rattle.overlay_merge.specs.Properties.{is_steering, put_all, without_steering}
 
@@ -53,14 +53,14 @@ pub hide_none : (props : Props) → props ≡ where_key by_name (λ name. not fa
 hide_none props = sym (filter_each (λ e. not false) props (λ e. refl))
 
 -- all is hidden by `*`
-pub hide_every : (text : List ℕ) (props : Props) → pointwise nat_eq text (codes "*") ≡ true → [] ≡ where_key by_name (λ name. not (stands_for name text)) props
-hide_every text props star = sym (filter_none (λ e. not (stands_for e.0 text)) props (λ e. ap (λ t. not (t || pointwise nat_eq text e.0)) star))
+pub hide_every : (text : List ℕ) (props : Props) → pointwise nat_eq text (codes "*") ≡ true → [] ≡ where_key by_name (λ name. not (text_stands_for name text)) props
+hide_every text props star = sym (filter_none (λ e. not (text_stands_for e.0 text)) props (λ e. ap (λ t. not (t || pointwise nat_eq text e.0)) star))
 
 -- and the property of its name by another text
 pub hide_one : (text : List ℕ) (props left : Props) → pointwise nat_eq text (codes "*") ≡ false
-    → left ≡ where_key by_name (λ key. not (eq_by_cmp by_name text key)) props → left ≡ where_key by_name (λ name. not (stands_for name text)) props
+    → left ≡ where_key by_name (λ key. not (eq_by_cmp by_name text key)) props → left ≡ where_key by_name (λ name. not (text_stands_for name text)) props
 hide_one text props left other is =
-    is ∙ keep_same (λ key. not (eq_by_cmp by_name text key)) (λ name. not (stands_for name text)) props
+    is ∙ keep_same (λ key. not (eq_by_cmp by_name text key)) (λ name. not (text_stands_for name text)) props
     (λ name. ap not (sym (texts_ties text name) ∙ sym (ap (λ t. t || pointwise nat_eq text name) other)))
 
 or_false : (b : Bool) → (b || false) ≡ b
@@ -72,15 +72,15 @@ not_or true b = refl
 not_or false b = refl
 
 pub hide_more : (texts more : List (List ℕ)) (text : List ℕ) (props before after : Props) → more ≡ texts ++ text ∷ []
-    → before ≡ where_key by_name (λ name. not (list_any (stands_for name) texts)) props → after ≡ where_key by_name (λ name. not (stands_for name text)) before
-    → after ≡ where_key by_name (λ name. not (list_any (stands_for name) more)) props
+    → before ≡ where_key by_name (λ name. not (list_any (text_stands_for name) texts)) props → after ≡ where_key by_name (λ name. not (text_stands_for name text)) before
+    → after ≡ where_key by_name (λ name. not (list_any (text_stands_for name) more)) props
 hide_more texts more text props before after more_is before_is after_is =
-    after_is ∙ ap (where_key by_name (λ name. not (stands_for name text))) before_is
-    ∙ keep_keep (λ name. not (list_any (stands_for name) texts)) (λ name. not (stands_for name text)) props
-    ∙ keep_same (λ name. not (list_any (stands_for name) texts) && not (stands_for name text)) (λ name. not (list_any (stands_for name) more)) props
-    (λ name. sym (ap (λ l. not (list_any (stands_for name) l)) more_is
-    ∙ ap not (list_any-append (stands_for name) texts (text ∷ []) ∙ ap (λ t. list_any (stands_for name) texts || t) (or_false (stands_for name text)))
-    ∙ not_or (list_any (stands_for name) texts) (stands_for name text)))
+    after_is ∙ ap (where_key by_name (λ name. not (text_stands_for name text))) before_is
+    ∙ keep_keep (λ name. not (list_any (text_stands_for name) texts)) (λ name. not (text_stands_for name text)) props
+    ∙ keep_same (λ name. not (list_any (text_stands_for name) texts) && not (text_stands_for name text)) (λ name. not (list_any (text_stands_for name) more)) props
+    (λ name. sym (ap (λ l. not (list_any (text_stands_for name) l)) more_is
+    ∙ ap not (list_any-append (text_stands_for name) texts (text ∷ []) ∙ ap (λ t. list_any (text_stands_for name) texts || t) (or_false (text_stands_for name text)))
+    ∙ not_or (list_any (text_stands_for name) texts) (text_stands_for name text)))
 
 -- a property other than that of a name
 abbrev pub is_other : List ℕ → List ℕ → Bool
@@ -132,18 +132,13 @@ put_step lower now upper whole i name value within is so_far now_is =
     let rest : drop i upper ≡ d ∷ drop (i + 1) upper = drop_more upper i d within ∙ ap (λ (p : List ℕ × Value). p ∷ drop (i + 1) upper) (get_or_from_slice_get upper i d d (sym is)) in
     ap (λ (l : Props). put_all l (drop (i + 1) upper)) now_is ∙ sym (put_more lower d (drop (i + 1) upper)) ∙ sym (ap (put_all lower) rest) ∙ so_far
 
-pub hide_text : (text : List ℕ) (props left : Props) → left ≡ where_key by_name (λ name. not (stands_for name text)) props
-    → left ≡ where_key by_name (λ name. not (list_any (stands_for name) (text ∷ []))) props
-hide_text text props left is =
-    is ∙ keep_same (λ name. not (stands_for name text)) (λ name. not (list_any (stands_for name) (text ∷ []))) props (λ name. ap not (sym (or_false (stands_for name text))))
-
 pub drop_all : (props : Props) (n : ℕ) → length props ≤ n → drop n props ≡ []
 drop_all [] zero past = refl
 drop_all [] (suc n) past = refl
 drop_all (p ∷ props) zero past = absurd (omega (arith, past))
 drop_all (p ∷ props) (suc n) past = let less : length props ≤ n = omega (arith, past) in drop_all props n less
 
-texts_are : (value : Option Value) → text_list (one_text value) ++ many_texts value ≡ texts_of value
+texts_are : (value : Option Value) → text_list (one_text value) ++ many_texts value ≡ hiding_texts value
 texts_are None = refl
 texts_are (Some (Text t)) = refl
 texts_are (Some (Long n)) = refl
@@ -153,12 +148,12 @@ texts_are (Some (Longs ns)) = refl
 texts_are (Some (Truths bs)) = refl
 
 -- one text, and then many
-pub hide_both : (value : Option Value) (props middle left : Props) → middle ≡ where_key by_name (λ name. not (list_any (stands_for name) (text_list (one_text value)))) props
-    → left ≡ where_key by_name (λ name. not (list_any (stands_for name) (many_texts value))) middle → left ≡ where_key by_name (λ name. not (has_name value name)) props
+pub hide_both : (value : Option Value) (props middle left : Props) → middle ≡ where_key by_name (λ name. not (list_any (text_stands_for name) (text_list (one_text value)))) props
+    → left ≡ where_key by_name (λ name. not (list_any (text_stands_for name) (many_texts value))) middle → left ≡ where_key by_name (λ name. not (lists_name value name)) props
 hide_both value props middle left first second =
     let one = text_list (one_text value) in
     let many = many_texts value in
-    second ∙ ap (where_key by_name (λ name. not (list_any (stands_for name) many))) first
-    ∙ keep_keep (λ name. not (list_any (stands_for name) one)) (λ name. not (list_any (stands_for name) many)) props
-    ∙ keep_same (λ name. not (list_any (stands_for name) one) && not (list_any (stands_for name) many)) (λ name. not (has_name value name)) props
-    (λ name. sym (not_or (list_any (stands_for name) one) (list_any (stands_for name) many)) ∙ ap not (sym (list_any-append (stands_for name) one many)) ∙ ap (λ l. not (list_any (stands_for name) l)) (texts_are value))
+    second ∙ ap (where_key by_name (λ name. not (list_any (text_stands_for name) many))) first
+    ∙ keep_keep (λ name. not (list_any (text_stands_for name) one)) (λ name. not (list_any (text_stands_for name) many)) props
+    ∙ keep_same (λ name. not (list_any (text_stands_for name) one) && not (list_any (text_stands_for name) many)) (λ name. not (lists_name value name)) props
+    (λ name. sym (not_or (list_any (text_stands_for name) one) (list_any (text_stands_for name) many)) ∙ ap not (sym (list_any-append (text_stands_for name) one many)) ∙ ap (λ l. not (list_any (text_stands_for name) l)) (texts_are value))

@@ -20,16 +20,13 @@ use Rattle.resource_tree.specs.declared.nodes.Node.{Node}
 use Rattle.overlay_merge.specs.declared.layers.Layer.{Layer}
 use Rattle.overlay_merge.specs.Roots.{is_merged_path}
 use Rattle.overlay_merge.specs.Layers.{has_node, layers_of}
-use Rattle.overlay_merge.specs.Hiding.{has_name, is_cut, list_of, merged_from, uncut, uncut_of}
-use Rattle.overlay_merge.specs.Properties.{is_steering, left_by, merged_props, put_all, with_layer, without_steering}
-use Rattle.overlay_merge.specs.Kids.{all_kids, has_text, is_merged_there, kids_of, kids_there, moved, ordered_by, wish_at, with_kids_of}
+use Rattle.overlay_merge.specs.Hiding.{lists_name, layer_is_cut, resource_list, merged_from, uncut, uncut_of}
+use Rattle.overlay_merge.specs.Properties.{is_steering, lower_properties_left, merged_props, put_all, with_layer, without_steering}
+use Rattle.overlay_merge.specs.Kids.{all_kids, has_text, is_merged_there, layers_kids, kids_there, moved, ordered_by, wish_at, with_kids_of}
 use Rattle.overlay_merge.specs.Merged.{merge, merged, unmerged}
 use Rattle.overlay_merge.specs.Cut.{IsOfLayer}
 use Rattle.overlay_merge.proofs.DescentLemmas.{no_node_merged}
 use Rattle.overlay_merge.proofs.LawLemmas.{kid-parts, kids-reorder}
-
-Entry : Type 0
-Entry = List ℕ × Value
 
 -- ---- properties
 
@@ -63,7 +60,7 @@ module _ (P : List ℕ × Value → Type 0) where
   all_layers lower [] low up = low
   all_layers lower (layer ∷ layers) low up =
       all_layers (with_layer lower layer) layers
-      (all_put_all (left_by layer.props lower) layer.props (All-filter (λ (e : List ℕ × Value). not (has_name (find by_name (codes "sling:hideProperties") layer.props) e.0)) P lower low) (head_of (λ (l : Resource). All P l.props) layer layers up))
+      (all_put_all (lower_properties_left layer.props lower) layer.props (All-filter (λ (e : List ℕ × Value). not (lists_name (find by_name (codes "sling:hideProperties") layer.props) e.0)) P lower low) (head_of (λ (l : Resource). All P l.props) layer layers up))
       (tail_of (λ (l : Resource). All P l.props) layer layers up)
 
   all_merged : (layers : List Resource) → All (λ (layer : Resource). All P layer.props) layers → All P (merged_props layers)
@@ -76,7 +73,7 @@ more_lower : (tree : Content) (path : List (List ℕ)) (whole lower above : List
 more_lower tree path whole lower above layer is = is ∙ sym (append_assoc lower (layer ∷ []) above)
 
 one_of : (tree : Content) (path : List (List ℕ)) (lower above : List Layer) (layer : Layer) (cut : Bool) (o : Option Resource) → layers_of tree path ≡ lower ++ layer ∷ above
-    → is_cut tree layer above ≡ cut → res_at tree layer.path ≡ o → All (IsOfLayer tree path) (cond cut [] (list_of o))
+    → layer_is_cut tree layer above ≡ cut → res_at tree layer.path ≡ o → All (IsOfLayer tree path) (cond cut [] (resource_list o))
 one_of tree path lower above layer true o whole cut there = All-nil (IsOfLayer tree path)
 one_of tree path lower above layer false None whole cut there = All-nil (IsOfLayer tree path)
 one_of tree path lower above layer false (Some res) whole cut there =
@@ -86,7 +83,7 @@ of_layers : (tree : Content) (path : List (List ℕ)) (lower layers : List Layer
 unfolding uncut_of
 of_layers tree path lower [] whole = All-nil (IsOfLayer tree path)
 of_layers tree path lower (layer ∷ above) whole =
-    All-append (IsOfLayer tree path) (uncut tree layer above) (uncut_of tree above) (one_of tree path lower above layer (is_cut tree layer above) (res_at tree layer.path) whole refl refl)
+    All-append (IsOfLayer tree path) (uncut tree layer above) (uncut_of tree above) (one_of tree path lower above layer (layer_is_cut tree layer above) (res_at tree layer.path) whole refl refl)
     (of_layers tree path (lower ++ layer ∷ []) above (more_lower tree path (layers_of tree path) lower above layer whole))
 
 all_if : {X : Type 0} (P : X → Type 0) (valid : Bool) (xs : List X) → All P xs → All P (cond valid xs [])
@@ -105,7 +102,7 @@ merged_is tree path is = ap (λ t. cond t (merge tree path (merged_from tree pat
 
 record Made (tree : Content) (path : List (List ℕ)) (layers : List Resource) (res : Resource) : Type 0 where
   props : res.props ≡ merged_props layers
-  kids : res.kids ≡ kids_of tree path layers
+  kids : res.kids ≡ layers_kids tree path layers
 
 made : (tree : Content) (path : List (List ℕ)) (layers : List Resource) (res : Resource) → merge tree path layers ≡ Some res → Made tree path layers res
 made tree path [] res e = absurd (cc)
@@ -148,9 +145,9 @@ or_none : (a b : Bool) → (a || b) ≡ false → (a ≡ false) × (b ≡ false)
 or_none true b e = absurd (true≢false e)
 or_none false b e = (refl, e)
 
-no_res : (cut : Bool) (o : Option Resource) → o ≡ None → cond cut [] (list_of o) ≡ []
+no_res : (cut : Bool) (o : Option Resource) → o ≡ None → cond cut [] (resource_list o) ≡ []
 no_res true o none = refl
-no_res false o none = ap list_of none
+no_res false o none = ap resource_list none
 
 ap_none : (path : List (List ℕ)) (o : Option Node) → is_some o ≡ false → option_map (res_of path) o ≡ None
 ap_none path None e = refl
@@ -200,20 +197,20 @@ unfolding uncut_of
 none_of tree [] rest none = refl
 none_of tree (layer ∷ layers) rest none =
     let both = or_none (is_some (node_at tree layer.path)) (has_node tree layers) none in
-    ap (λ l. l ++ uncut_of tree (layers ++ rest)) (no_res (is_cut tree layer (layers ++ rest)) (option_map (res_of layer.path) (node_at tree layer.path)) (ap_none layer.path (node_at tree layer.path) both.0))
+    ap (λ l. l ++ uncut_of tree (layers ++ rest)) (no_res (layer_is_cut tree layer (layers ++ rest)) (option_map (res_of layer.path) (node_at tree layer.path)) (ap_none layer.path (node_at tree layer.path) both.0))
     ∙ none_of tree layers rest both.1
 
 pub only_layer : (tree : Content) (path : List (List ℕ)) (lower upper : List Layer) (layer : Layer) (res : Resource) → is_path path ≡ true → is_merged_path path ≡ true
-    → layers_of tree path ≡ lower ++ layer ∷ upper → has_node tree lower ≡ false → has_node tree upper ≡ false → is_cut tree layer upper ≡ false → res_at tree layer.path ≡ Some res → is_sorted by_name res.props ≡ true
-    → merged tree path ≡ Some (record { path = path; props = without_steering res.props; kids = kids_of tree path (res ∷ []) })
+    → layers_of tree path ≡ lower ++ layer ∷ upper → has_node tree lower ≡ false → has_node tree upper ≡ false → layer_is_cut tree layer upper ≡ false → res_at tree layer.path ≡ Some res → is_sorted by_name res.props ≡ true
+    → merged tree path ≡ Some (record { path = path; props = without_steering res.props; kids = layers_kids tree path (res ∷ []) })
 unfolding merged_from uncut_of
 only_layer tree path lower upper layer res valid is layers low up uncut_is there sorted =
     let from : merged_from tree path ≡ res ∷ [] =
     ap (λ t. cond t (uncut_of tree (layers_of tree path)) []) valid ∙ ap (uncut_of tree) layers ∙ none_of tree lower (layer ∷ upper) low
-    ∙ ap (λ t. cond t [] (list_of (res_at tree layer.path)) ++ uncut_of tree upper) uncut_is ∙ ap (λ o. list_of o ++ uncut_of tree upper) there
+    ∙ ap (λ t. cond t [] (resource_list (res_at tree layer.path)) ++ uncut_of tree upper) uncut_is ∙ ap (λ o. resource_list o ++ uncut_of tree upper) there
     ∙ ap (λ l. res ∷ l) (no_node_merged tree upper up) in
     merged_is tree path is ∙ ap (merge tree path) from
-    ∙ ap (λ props. Some (record { path = path; props = props; kids = kids_of tree path (res ∷ []) })) (one_props res sorted)
+    ∙ ap (λ props. Some (record { path = path; props = props; kids = layers_kids tree path (res ∷ []) })) (one_props res sorted)
 
 each_kept : {X : Type 0} (p : X → Bool) (xs : List X) → All (λ x. p x ≡ true) xs → filter p xs ≡ xs
 each_kept p [] each = refl
@@ -223,8 +220,8 @@ one_kids : (res : Resource) → all_kids (res ∷ []) ≡ res.kids
 unfolding all_kids with_kids_of
 one_kids res = each_kept (λ name. not (has_text [] name)) res.kids (λ k d less. refl)
 
-pub only_kids : (tree : Content) (path : List (List ℕ)) (res : Resource) → IsPermutation (kids_there tree path res.kids) (kids_of tree path (res ∷ []))
-only_kids tree path res = subst (λ names. IsPermutation (kids_there tree path names) (kids_of tree path (res ∷ []))) (one_kids res) (kids-reorder tree path (res ∷ []))
+pub only_kids : (tree : Content) (path : List (List ℕ)) (res : Resource) → IsPermutation (kids_there tree path res.kids) (layers_kids tree path (res ∷ []))
+only_kids tree path res = subst (λ names. IsPermutation (kids_there tree path names) (layers_kids tree path (res ∷ []))) (one_kids res) (kids-reorder tree path (res ∷ []))
 
 unmoved_by : (tree : Content) (path names kids : List (List ℕ)) → All (λ name. wish_at tree (kid path name) ≡ None) kids
     → fold (λ so_far name. moved name (wish_at tree (kid path name)) so_far) names kids ≡ names
@@ -235,8 +232,8 @@ unmoved_by tree path names (name ∷ kids) none =
     ∙ unmoved_by tree path names kids (tail_of (λ n. wish_at tree (kid path n) ≡ None) name kids none)
 
 pub same_kids : (tree : Content) (path : List (List ℕ)) (res : Resource) → All (λ name. is_merged_there tree (kid path name) ≡ true) res.kids
-    → All (λ name. wish_at tree (kid res.path name) ≡ None) res.kids → kids_of tree path (res ∷ []) ≡ res.kids
-unfolding kids_of kids_there ordered_by
+    → All (λ name. wish_at tree (kid res.path name) ≡ None) res.kids → layers_kids tree path (res ∷ []) ≡ res.kids
+unfolding layers_kids kids_there ordered_by
 same_kids tree path res there none =
     ap (λ names. fold (ordered_by tree) (filter (λ name. is_merged_there tree (kid path name)) names) (res ∷ [])) (one_kids res)
     ∙ ap (λ names. fold (ordered_by tree) names (res ∷ [])) (each_kept (λ name. is_merged_there tree (kid path name)) res.kids there)

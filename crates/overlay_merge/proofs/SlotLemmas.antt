@@ -9,7 +9,7 @@ use Rattle.std.proofs.lemmas.Bool.{cases_Bool, eq-eqb, ne_eqb, or_from}
 use Rattle.std.proofs.lemmas.List.Folds.{list_any-append}
 use Rattle.std.proofs.lemmas.List.Elements.{filter-append}
 use Rattle.overlay_merge.specs.Kids.{moved}
-use Rattle.overlay_merge.specs.Slots.{AreApart, AreSlots, IsIn, IsPut, is_slot, name_in, names_in, walk}
+use Rattle.overlay_merge.specs.Slots.{AreApart, AreSlots, IsIn, IsPut, is_slot, slot_name, names_in, walk}
 use Rattle.overlay_merge.proofs.MoveLemmas.{but, but_none, moved_at}
 
 -- ---- what holds of each of some slots
@@ -110,20 +110,20 @@ module _ (before after : ℕ → ℕ) (n t : ℕ) (to_new : after t ≡ suc n) (
 names-append : (held : ℕ → List ℕ) (slot : List ℕ → Option ℕ) (front back : List ℕ) → names_in held slot (front ++ back) ≡ names_in held slot back ++ names_in held slot front
 names-append held slot [] back = sym (append-nil (names_in held slot back))
 names-append held slot (s ∷ front) back =
-    ap (λ l. l ++ name_in held slot s) (names-append held slot front back) ∙ append_assoc (names_in held slot back) (names_in held slot front) (name_in held slot s)
+    ap (λ l. l ++ slot_name held slot s) (names-append held slot front back) ∙ append_assoc (names_in held slot back) (names_in held slot front) (slot_name held slot s)
 
 self_slot : (s : ℕ) → is_slot (Some s) s ≡ true
 self_slot s = eq-eqb s s refl
 
-pub name_here : (held : ℕ → List ℕ) (slot : List ℕ → Option ℕ) (s : ℕ) (name : List ℕ) → held s ≡ name → slot name ≡ Some s → name_in held slot s ≡ name ∷ []
+pub name_here : (held : ℕ → List ℕ) (slot : List ℕ → Option ℕ) (s : ℕ) (name : List ℕ) → held s ≡ name → slot name ≡ Some s → slot_name held slot s ≡ name ∷ []
 name_here held slot s name holds stands =
     ap (λ q. cond (is_slot (slot q) s) (q ∷ []) []) holds ∙ ap (λ o. cond (is_slot o s) (name ∷ []) []) stands ∙ ap (λ b. cond b (name ∷ []) []) (self_slot s)
 
-pub name_else : (held : ℕ → List ℕ) (slot : List ℕ → Option ℕ) (s : ℕ) (name : List ℕ) → held s ≡ name → is_slot (slot name) s ≡ false → name_in held slot s ≡ []
+pub name_else : (held : ℕ → List ℕ) (slot : List ℕ → Option ℕ) (s : ℕ) (name : List ℕ) → held s ≡ name → is_slot (slot name) s ≡ false → slot_name held slot s ≡ []
 name_else held slot s name holds elsewhere =
     ap (λ q. cond (is_slot (slot q) s) (q ∷ []) []) holds ∙ ap (λ b. cond b (name ∷ []) []) elsewhere
 
-pub reverse_one : (held : ℕ → List ℕ) (slot : List ℕ → Option ℕ) (s : ℕ) → reverse (name_in held slot s) ≡ name_in held slot s
+pub reverse_one : (held : ℕ → List ℕ) (slot : List ℕ → Option ℕ) (s : ℕ) → reverse (slot_name held slot s) ≡ slot_name held slot s
 reverse_one held slot s = elim (is_slot (slot (held s)) s) as (λ b. reverse (cond b (held s ∷ []) []) ≡ cond b (held s ∷ []) []) [ true ↦ refl | false ↦ refl ]
 
 pub another_slot : (slot : List ℕ → Option ℕ) (name : List ℕ) (t s : ℕ) → slot name ≡ Some t → t ≢ s → is_slot (slot name) s ≡ false
@@ -137,7 +137,7 @@ names_around held slot front s back name holds stands =
     ∙ ap (λ l. (names_in held slot back ++ l) ++ names_in held slot front) (name_here held slot s name holds stands)
     ∙ append_assoc (names_in held slot back) (name ∷ []) (names_in held slot front)
 
-one_lacks : (held : ℕ → List ℕ) (slot : List ℕ → Option ℕ) (q : List ℕ) (s : ℕ) → is_slot (slot q) s ≡ false → list_any (pointwise nat_eq q) (name_in held slot s) ≡ false
+one_lacks : (held : ℕ → List ℕ) (slot : List ℕ → Option ℕ) (q : List ℕ) (s : ℕ) → is_slot (slot q) s ≡ false → list_any (pointwise nat_eq q) (slot_name held slot s) ≡ false
 one_lacks held slot q s elsewhere =
     ⊎_elim
     (λ (same : pointwise nat_eq q (held s) ≡ true).
@@ -153,8 +153,8 @@ one_lacks held slot q s elsewhere =
 pub names_lack : (held : ℕ → List ℕ) (slot : List ℕ → Option ℕ) (q : List ℕ) (slots : List ℕ) → AllByRecursion (λ s. is_slot (slot q) s ≡ false) slots → list_any (pointwise nat_eq q) (names_in held slot slots) ≡ false
 names_lack held slot q [] h = refl
 names_lack held slot q (s ∷ slots) h =
-    list_any-append (pointwise nat_eq q) (names_in held slot slots) (name_in held slot s)
-    ∙ or_from (list_any (pointwise nat_eq q) (names_in held slot slots)) (list_any (pointwise nat_eq q) (name_in held slot s)) (names_lack held slot q slots h.1) (one_lacks held slot q s h.0)
+    list_any-append (pointwise nat_eq q) (names_in held slot slots) (slot_name held slot s)
+    ∙ or_from (list_any (pointwise nat_eq q) (names_in held slot slots)) (list_any (pointwise nat_eq q) (slot_name held slot s)) (names_lack held slot q slots h.1) (one_lacks held slot q s h.0)
 
 no_slot : (q : List ℕ) (slot : List ℕ → Option ℕ) (slots : List ℕ) → slot q ≡ None → AllByRecursion (λ s. is_slot (slot q) s ≡ false) slots
 no_slot q slot [] none = tt
@@ -172,7 +172,7 @@ names_lack_elsewhere held slot q t slots stands apart =
 
 module _ (before : ℕ → ℕ) (held : ℕ → List ℕ) (slot : List ℕ → Option ℕ) (after : ℕ → ℕ) (holds : ℕ → List ℕ) (stands : List ℕ → Option ℕ) (n t : ℕ) (name : List ℕ)
     (put : IsPut before held slot after holds stands n t name) where
-  one_less : (s : ℕ) → 0 < s → s < suc n → name_in holds stands s ≡ but name (name_in held slot s)
+  one_less : (s : ℕ) → 0 < s → s < suc n → slot_name holds stands s ≡ but name (slot_name held slot s)
   one_less s low high =
       let q = held s in
       let new : is_slot (Some (suc n)) s ≡ false = ne_eqb (suc n) s (λ e. absurd (omega (arith, e, high))) in
@@ -195,10 +195,10 @@ module _ (before : ℕ → ℕ) (held : ℕ → List ℕ) (slot : List ℕ → O
   names_less : (slots : List ℕ) → AllByRecursion (λ s. (0 < s) × (s < suc n)) slots → names_in holds stands slots ≡ but name (names_in held slot slots)
   names_less [] within = refl
   names_less (s ∷ slots) within =
-      ap (λ l. l ++ name_in holds stands s) (names_less slots within.1) ∙ ap (λ l. but name (names_in held slot slots) ++ l) (one_less s within.0.0 within.0.1)
-      ∙ sym (filter-append (λ q. not (pointwise nat_eq name q)) (names_in held slot slots) (name_in held slot s))
+      ap (λ l. l ++ slot_name holds stands s) (names_less slots within.1) ∙ ap (λ l. but name (names_in held slot slots) ++ l) (one_less s within.0.0 within.0.1)
+      ∙ sym (filter-append (λ q. not (pointwise nat_eq name q)) (names_in held slot slots) (slot_name held slot s))
 
-  new_here : name_in holds stands (suc n) ≡ name ∷ []
+  new_here : slot_name holds stands (suc n) ≡ name ∷ []
   new_here = name_here holds stands (suc n) name put.holds_new (put.stands_new name (nat_list_eq_equiv.refl name))
 
   some_is : (a b : ℕ) → Some a ≡ Some b → a ≡ b
@@ -249,7 +249,7 @@ module _ (before : ℕ → ℕ) (held : ℕ → List ℕ) (slot : List ℕ → O
       let is : walk after (suc n) 0 ≡ suc n ∷ slots = walk_is (suc n ∷ slots) (ap suc (length-walk before n 0)) links in
       record {
         good = slots_put before held slot after holds stands n 0 name put [] slots good refl is;
-        names_are = ap (names_in holds stands) is ∙ ap (λ l. l ++ name_in holds stands (suc n)) (names_less before held slot after holds stands n 0 name put slots good.within ∙ but_none name (names_in held slot slots) fresh)
+        names_are = ap (names_in holds stands) is ∙ ap (λ l. l ++ slot_name holds stands (suc n)) (names_less before held slot after holds stands n 0 name put slots good.within ∙ but_none name (names_in held slot slots) fresh)
             ∙ ap (λ l. names_in held slot slots ++ l) (new_here before held slot after holds stands n 0 name put);
       }
 
@@ -278,14 +278,14 @@ module _ (before : ℕ → ℕ) (held : ℕ → List ℕ) (slot : List ℕ → O
       let is : walk after (suc n) 0 ≡ at.front ++ t ∷ (suc n ∷ at.back) = walk_is (at.front ++ t ∷ (suc n ∷ at.back)) len links in
       let above = names_in held slot at.back in
       let below = names_in held slot at.front in
-      let other_stands : name_in holds stands t ≡ other ∷ [] =
+      let other_stands : slot_name holds stands t ≡ other ∷ [] =
       one_less before held slot after holds stands n t name put t within.1.0.0 within.1.0.1 ∙ ap (but name) (name_here held slot t other o.0 there_other) ∙ ap (λ b. cond (not b) (other ∷ []) []) differ in
       record {
         good = slots_put before held slot after holds stands n t name put (at.front ++ t ∷ []) at.back good (at.is ∙ sym (append_assoc at.front (t ∷ []) at.back)) (is ∙ sym (append_assoc at.front (t ∷ []) (suc n ∷ at.back)));
         names_are =
             ap (names_in holds stands) is ∙ names-append holds stands at.front (t ∷ (suc n ∷ at.back))
-            ∙ ap (λ l. ((l ++ name_in holds stands (suc n)) ++ name_in holds stands t) ++ names_in holds stands at.front) (names_less before held slot after holds stands n t name put at.back within.1.1)
-            ∙ ap (λ l. ((but name above ++ l) ++ name_in holds stands t) ++ names_in holds stands at.front) (new_here before held slot after holds stands n t name put)
+            ∙ ap (λ l. ((l ++ slot_name holds stands (suc n)) ++ slot_name holds stands t) ++ names_in holds stands at.front) (names_less before held slot after holds stands n t name put at.back within.1.1)
+            ∙ ap (λ l. ((but name above ++ l) ++ slot_name holds stands t) ++ names_in holds stands at.front) (new_here before held slot after holds stands n t name put)
             ∙ ap (λ l. ((but name above ++ name ∷ []) ++ l) ++ names_in holds stands at.front) other_stands
             ∙ ap (λ l. ((but name above ++ name ∷ []) ++ other ∷ []) ++ l) (names_less before held slot after holds stands n t name put at.front within.0)
             ∙ append_assoc (but name above ++ name ∷ []) (other ∷ []) (but name below)

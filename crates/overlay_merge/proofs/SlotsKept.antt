@@ -8,13 +8,13 @@ use Rattle.std.proofs.lemmas.Map.Keys.{apart_from_distinct}
 use Rattle.std.specs.Cmp.Lexicographic.{nat_list_eq_equiv, pointwise}
 use Rattle.overlay_merge.specs.Kids.{moved}
 use Rattle.overlay_merge.specs.declared.slots.Slots.{Slots}
-use Rattle.overlay_merge.specs.Slots.{AreSlots, IsGood, IsPutIn, before_in, held_in, name_in, names_in, names_of, slot_in, walk}
+use Rattle.overlay_merge.specs.Slots.{AreSlots, SlotsAreGood, IsPutIn, before_in, held_in, slot_name, names_in, names_of, slot_in, walk}
 use Rattle.overlay_merge.proofs.MoveLemmas.{moved_none, moved_nowhere}
 use Rattle.overlay_merge.proofs.SlotLemmas.{all_at, names_lack_unknown, put_before, put_last, reverse_one}
 
 -- what a change leaves
 pub record Kept (slots : Slots) (names : List (List ℕ)) : Type 0 where
-  pub good : IsGood slots
+  pub good : SlotsAreGood slots
   pub names_are : names_of slots ≡ names
 
 kept : (new : Slots) (n : ℕ) (names : List (List ℕ)) → length new.before.items ≡ suc (length new.held.items) → length new.held.items ≡ suc n → AreSlots (before_in new) (held_in new) (slot_in new) (suc n)
@@ -25,14 +25,14 @@ kept new n names size more good is = record {
   names_are = ap (λ m. names_in (held_in new) (slot_in new) (walk (before_in new) m 0)) more ∙ is;
 }
 
-pub added : (old new : Slots) (name : List ℕ) → IsGood old → IsPutIn old new 0 name → length new.before.items ≡ suc (length new.held.items) → length new.held.items ≡ suc (length old.held.items)
+pub added : (old new : Slots) (name : List ℕ) → SlotsAreGood old → IsPutIn old new 0 name → length new.before.items ≡ suc (length new.held.items) → length new.held.items ≡ suc (length old.held.items)
     → list_any (pointwise nat_eq name) (names_of old) ≡ false → Kept new (names_of old ++ name ∷ [])
 unfolding names_of
 added old new name good put size more fresh =
     let p = put_last (before_in old) (held_in old) (slot_in old) (before_in new) (held_in new) (slot_in new) (length old.held.items) name good.are put fresh in
     kept new (length old.held.items) (names_of old ++ name ∷ []) size more p.good p.names_are
 
-pub moved_before : (old new : Slots) (name other : List ℕ) (t u : ℕ) → IsGood old → IsPutIn old new t name → length new.before.items ≡ suc (length new.held.items) → length new.held.items ≡ suc (length old.held.items)
+pub moved_before : (old new : Slots) (name other : List ℕ) (t u : ℕ) → SlotsAreGood old → IsPutIn old new t name → length new.before.items ≡ suc (length new.held.items) → length new.held.items ≡ suc (length old.held.items)
     → pointwise nat_eq name other ≡ false → slot_in old other ≡ Some t → slot_in old name ≡ Some u → Kept new (moved name (Some other) (names_of old))
 unfolding names_of
 moved_before old new name other t u good put size more differ there_other there_name =
@@ -49,7 +49,7 @@ unfolding names_of
 other_unknown slots name other none =
     sym (moved_nowhere name other (names_of slots) (names_lack_unknown (held_in slots) (slot_in slots) other (walk (before_in slots) (length slots.held.items) 0) none))
 
-pub slot_within : (slots : Slots) (name : List ℕ) (t : ℕ) → IsGood slots → slot_in slots name ≡ Some t → t < length slots.before.items
+pub slot_within : (slots : Slots) (name : List ℕ) (t : ℕ) → SlotsAreGood slots → slot_in slots name ≡ Some t → t < length slots.before.items
 slot_within slots name t good stands =
     let h = good.are.there name t stands in
     let at = all_at (λ s. (0 < s) × (s < suc (length slots.held.items))) t (walk (before_in slots) (length slots.held.items) 0) good.are.within h.1 in
@@ -68,30 +68,27 @@ steps slots left next at s read less is h =
     let Within = λ (t : ℕ). (0 < t) × (t < suc (length slots.held.items)) in
     subst (λ u. AllByRecursion Within (u ∷ walk (before_in slots) next u)) (sym is) (subst (λ m. AllByRecursion Within (walk (before_in slots) m at)) less h.within)
 
-pub one_slot : (slots : Slots) (left next at s : ℕ) (read more names : List (List ℕ)) → IsGood slots → left ≡ suc next → s ≡ before_in slots at
-    → read ≡ reverse names → more ≡ reverse (names ++ name_in (held_in slots) (slot_in slots) s) → Walked slots left at read → Walked slots next s more
+pub one_slot : (slots : Slots) (left next at s : ℕ) (read more names : List (List ℕ)) → SlotsAreGood slots → left ≡ suc next → s ≡ before_in slots at
+    → read ≡ reverse names → more ≡ reverse (names ++ slot_name (held_in slots) (slot_in slots) s) → Walked slots left at read → Walked slots next s more
 one_slot slots left next at s read more names good less is read_is more_is h =
     let ok = steps slots left next at s read less is h in
-    let one = name_in (held_in slots) (slot_in slots) s in
+    let one = slot_name (held_in slots) (slot_in slots) s in
     let rest = names_in (held_in slots) (slot_in slots) (walk (before_in slots) next s) in
     let all = λ (m u : ℕ). names_in (held_in slots) (slot_in slots) (walk (before_in slots) m u) in
     let turned : more ≡ one ++ read = more_is ∙ reverse-append names one ∙ ap (λ l. l ++ reverse names) (reverse_one (held_in slots) (slot_in slots) s) ∙ ap (λ l. one ++ l) (sym read_is) in
     record {
       within = ok.1;
       at_is = omega (arith, ok.0.1, good.size);
-      names_are = ap (λ l. rest ++ l) turned ∙ sym (append_assoc rest one read) ∙ ap (λ u. (all next u ++ name_in (held_in slots) (slot_in slots) u) ++ read) is ∙ ap (λ m. all m at ++ read) (sym less) ∙ h.names_are;
+      names_are = ap (λ l. rest ++ l) turned ∙ sym (append_assoc rest one read) ∙ ap (λ u. (all next u ++ slot_name (held_in slots) (slot_in slots) u) ++ read) is ∙ ap (λ m. all m at ++ read) (sym less) ∙ h.names_are;
     }
 
-pub walk_begins : (slots : Slots) → IsGood slots → Walked slots (length slots.held.items) 0 []
+pub walk_begins : (slots : Slots) → SlotsAreGood slots → Walked slots (length slots.held.items) 0 []
 unfolding names_of
 walk_begins slots good = record {
   within = good.are.within;
   at_is = omega (arith, good.size);
   names_are = append-nil (names_in (held_in slots) (slot_in slots) (walk (before_in slots) (length slots.held.items) 0));
 }
-
-pub walk_ends : (slots : Slots) (left at : ℕ) (read : List (List ℕ)) → left ≡ 0 → Walked slots left at read → read ≡ names_of slots
-walk_ends slots left at read none h = ap (λ m. names_in (held_in slots) (slot_in slots) (walk (before_in slots) m at) ++ read) (sym none) ∙ h.names_are
 
 -- ---- names that differ
 

@@ -12,7 +12,7 @@ use Rattle.overlay_merge.specs.Layers.{layers_of}
 use Rattle.overlay_merge.specs.declared.layers.Layer.{Layer}
 use Rattle.overlay_merge.specs.declared.hiding.HidingDepths.{HidingDepths}
 use Rattle.overlay_merge.specs.declared.uncut.ScreenedLayer.{ScreenedLayer}
-use Rattle.overlay_merge.specs.Hiding.{hides_kid, hides_kid_at, hides_kid_within, hides_resource, hides_resource_at, hides_resource_within, in_common, is_cut, is_hidden_by, is_within, list_of, merged_from, some_below, uncut, uncut_of}
+use Rattle.overlay_merge.specs.Hiding.{hides_kid, hides_kid_at, hides_kid_within, hides_resource, hides_resource_at, hides_resource_within, in_common, layer_is_cut, is_hidden_by, is_within, resource_list, merged_from, some_below, uncut, uncut_of}
 use Rattle.overlay_merge.specs.Walk.{hiding_depths, is_screened, kid_depth, last_below, reaches, resource_depth, screened, screens, some_screens, unscreened_of}
 use Rattle.overlay_merge.proofs.PathLemmas.{none_from}
 
@@ -96,8 +96,8 @@ some_screens-is tree n (layer ∷ above) =
     ap (λ t. t || some_screens (min n layer.common) (map (screened tree) above)) (screens_is tree n layer)
     ∙ ap (λ t. is_hidden_by tree (n, layer.path) || t) (some_screens-is tree (min n layer.common) above)
 
-is_screened-is : (tree : Content) (layer : Layer) (above : List Layer) → is_screened (screened tree layer) (map (screened tree) above) ≡ is_cut tree layer above
-unfolding is_screened is_cut
+is_screened-is : (tree : Content) (layer : Layer) (above : List Layer) → is_screened (screened tree layer) (map (screened tree) above) ≡ layer_is_cut tree layer above
+unfolding is_screened layer_is_cut
 is_screened-is tree layer above =
     ap (λ t. t || some_screens layer.common (map (screened tree) above)) (resource_reaches tree layer.own layer.path)
     ∙ ap (λ t. hides_resource_within tree layer.own layer.path || t) (some_screens-is tree layer.common above)
@@ -106,7 +106,7 @@ pub unscreened_of-is : (tree : Content) (layers : List Layer) → unscreened_of 
 unfolding unscreened_of uncut_of
 unscreened_of-is tree [] = refl
 unscreened_of-is tree (layer ∷ above) =
-    ap (λ t. cond t [] (list_of (res_at tree layer.path)) ++ unscreened_of tree (map (screened tree) above)) (is_screened-is tree layer above)
+    ap (λ t. cond t [] (resource_list (res_at tree layer.path)) ++ unscreened_of tree (map (screened tree) above)) (is_screened-is tree layer above)
     ∙ ap (λ more. uncut tree layer above ++ more) (unscreened_of-is tree above)
 
 -- ---- the notes of a walk

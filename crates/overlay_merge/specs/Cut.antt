@@ -4,7 +4,7 @@ use Rattle.resource_tree.specs.Content.{Content, name_of}
 use Rattle.resource_tree.specs.Seen.{Resource, res_at}
 use Rattle.overlay_merge.specs.declared.layers.Layer.{Layer}
 use Rattle.overlay_merge.specs.Layers.{layers_of}
-use Rattle.overlay_merge.specs.Hiding.{hides_kid_at, hides_resource_at, in_common, is_cut}
+use Rattle.overlay_merge.specs.Hiding.{hides_kid_at, hides_resource_at, in_common, layer_is_cut}
 
 -- the path so many steps above another
 abbrev pub steps_above : ℕ → List (List ℕ) → List (List ℕ)
@@ -24,8 +24,8 @@ pub record HidesKid (tree : Content) (most : ℕ) (path : List (List ℕ)) : Typ
   pub hides : hides_kid_at tree (steps_above (steps + 1) path) (name_of (steps_above steps path)) ≡ true
 
 -- a layer is cut by a node of its own path that hides its resource, or by a node of the path of a layer above that hides its resource or a kid
-abbrev pub IsCut : Content → Layer → List Layer → Type 0
-IsCut tree layer above = HidesResource tree layer.own layer.path
+abbrev pub LayerIsCut : Content → Layer → List Layer → Type 0
+LayerIsCut tree layer above = HidesResource tree layer.own layer.path
     ⊎ Any (λ (upper : ℕ × List (List ℕ)). HidesResource tree upper.0 upper.1 ⊎ HidesKid tree upper.0 upper.1) (in_common layer.common above)
 
 -- a resource is the node at a layer of a path that isn't cut
@@ -34,5 +34,5 @@ pub record IsOfLayer (tree : Content) (path : List (List ℕ)) (res : Resource) 
   pub layer : Layer
   pub upper : List Layer
   pub layers : layers_of tree path ≡ lower ++ layer ∷ upper
-  pub uncut : is_cut tree layer upper ≡ false
+  pub uncut : layer_is_cut tree layer upper ≡ false
   pub there : res_at tree layer.path ≡ Some res

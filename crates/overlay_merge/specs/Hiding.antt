@@ -16,38 +16,38 @@ use Rattle.overlay_merge.specs.Layers.{layers_of}
 -- ---- what a property says
 
 -- the one truth value true
-abbrev pub is_true : Option Value → Bool
-is_true None = false
-is_true (Some (Text t)) = false
-is_true (Some (Long n)) = false
-is_true (Some (Truth b)) = b
-is_true (Some (Texts ts)) = false
-is_true (Some (Longs ns)) = false
-is_true (Some (Truths bs)) = false
+abbrev pub is_value_true : Option Value → Bool
+is_value_true None = false
+is_value_true (Some (Text t)) = false
+is_value_true (Some (Long n)) = false
+is_value_true (Some (Truth b)) = b
+is_value_true (Some (Texts ts)) = false
+is_value_true (Some (Longs ns)) = false
+is_value_true (Some (Truths bs)) = false
 
 -- the texts of a value that is a text or texts
-abbrev pub texts_of : Option Value → List (List ℕ)
-texts_of None = []
-texts_of (Some (Text t)) = t ∷ []
-texts_of (Some (Long n)) = []
-texts_of (Some (Truth b)) = []
-texts_of (Some (Texts ts)) = ts
-texts_of (Some (Longs ns)) = []
-texts_of (Some (Truths bs)) = []
+abbrev pub hiding_texts : Option Value → List (List ℕ)
+hiding_texts None = []
+hiding_texts (Some (Text t)) = t ∷ []
+hiding_texts (Some (Long n)) = []
+hiding_texts (Some (Truth b)) = []
+hiding_texts (Some (Texts ts)) = ts
+hiding_texts (Some (Longs ns)) = []
+hiding_texts (Some (Truths bs)) = []
 
 -- a text stands for a name where it is that name, and `*` stands for each name
-abbrev pub stands_for : List ℕ → List ℕ → Bool
-stands_for name text = pointwise nat_eq text (codes "*") || pointwise nat_eq text name
+abbrev pub text_stands_for : List ℕ → List ℕ → Bool
+text_stands_for name text = pointwise nat_eq text (codes "*") || pointwise nat_eq text name
 
-abbrev pub has_name : Option Value → List ℕ → Bool
-has_name value name = list_any (stands_for name) (texts_of value)
+abbrev pub lists_name : Option Value → List ℕ → Bool
+lists_name value name = list_any (text_stands_for name) (hiding_texts value)
 
 -- whether properties hide their resource, or a kid of it
 abbrev pub hides_resource : List (List ℕ × Value) → Bool
-hides_resource props = is_true (find by_name (codes "sling:hideResource") props)
+hides_resource props = is_value_true (find by_name (codes "sling:hideResource") props)
 
 abbrev pub hides_kid : List ℕ → List (List ℕ × Value) → Bool
-hides_kid name props = has_name (find by_name (codes "sling:hideChildren") props) name
+hides_kid name props = lists_name (find by_name (codes "sling:hideChildren") props) name
 
 -- whether the node at a path does
 abbrev pub hides_resource_at : Content → List (List ℕ) → Bool
@@ -87,16 +87,16 @@ is_hidden_by tree upper = hides_resource_within tree upper.0 upper.1 || hides_ki
 
 -- A layer is cut, below these layers: in itself or in one of these a node hides its resource, or in one of these a node hides the kid on the
 -- way. Such a node counts as far up as the two have their last segments in common.
-unfoldable pub is_cut : Content → Layer → List Layer → Bool
-is_cut tree layer above = hides_resource_within tree layer.own layer.path || list_any (is_hidden_by tree) (in_common layer.common above)
+unfoldable pub layer_is_cut : Content → Layer → List Layer → Bool
+layer_is_cut tree layer above = hides_resource_within tree layer.own layer.path || list_any (is_hidden_by tree) (in_common layer.common above)
 
-abbrev pub list_of : Option Resource → List Resource
-list_of None = []
-list_of (Some res) = res ∷ []
+abbrev pub resource_list : Option Resource → List Resource
+resource_list None = []
+resource_list (Some res) = res ∷ []
 
 -- the resource that a layer adds, below these layers
 abbrev pub uncut : Content → Layer → List Layer → List Resource
-uncut tree layer above = if is_cut tree layer above then [] else list_of (res_at tree layer.path)
+uncut tree layer above = if layer_is_cut tree layer above then [] else resource_list (res_at tree layer.path)
 
 -- what is at the layers that aren't cut, the lowest first
 unfoldable pub uncut_of : Content → List Layer → List Resource

@@ -45,5 +45,5 @@ unfoldable pub ordered_by : Content → List (List ℕ) → Resource → List (L
 ordered_by tree names layer = fold (λ so_far name. moved name (wish_at tree (kid layer.path name)) so_far) names layer.kids
 
 -- the kids of layers at a path, the lowest layer first
-unfoldable pub kids_of : Content → List (List ℕ) → List Resource → List (List ℕ)
-kids_of tree path layers = fold (ordered_by tree) (kids_there tree path (all_kids layers)) layers
+unfoldable pub layers_kids : Content → List (List ℕ) → List Resource → List (List ℕ)
+layers_kids tree path layers = fold (ordered_by tree) (kids_there tree path (all_kids layers)) layers

@@ -5,12 +5,12 @@ use Rattle.resource_tree.specs.Seen.{Resource, res_at}
 use Rattle.overlay_merge.specs.Roots.{is_merged_path, is_name_of_root, is_parent_of_roots}
 use Rattle.overlay_merge.specs.Hiding.{merged_from}
 use Rattle.overlay_merge.specs.Properties.{merged_props}
-use Rattle.overlay_merge.specs.Kids.{kids_of}
+use Rattle.overlay_merge.specs.Kids.{layers_kids}
 
 -- layers merged as the resource at a path; without a layer there is none
 abbrev pub merge : Content → List (List ℕ) → List Resource → Option Resource
 merge tree path [] = None
-merge tree path (lowest ∷ more) = Some (record { path = path; props = merged_props (lowest ∷ more); kids = kids_of tree path (lowest ∷ more) })
+merge tree path (lowest ∷ more) = Some (record { path = path; props = merged_props (lowest ∷ more); kids = layers_kids tree path (lowest ∷ more) })
 
 -- the two roots aren't kids
 abbrev pub without_roots : Resource → Resource

@@ -5,7 +5,7 @@ use Rattle.std.specs.FinMap.Entries.{find, put, where_key}
 use Rattle.sp_base.specs.Names.{by_name}
 use Rattle.sp_base.specs.declared.value.Value.{Value}
 use Rattle.resource_tree.specs.Seen.{Resource}
-use Rattle.overlay_merge.specs.Hiding.{has_name}
+use Rattle.overlay_merge.specs.Hiding.{lists_name}
 
 -- properties over others
 unfoldable pub put_all : List (List ℕ × Value) → List (List ℕ × Value) → List (List ℕ × Value)
@@ -13,12 +13,12 @@ put_all lower [] = lower
 put_all lower (p ∷ upper) = put_all (put by_name p.0 p.1 lower) upper
 
 -- the lower properties that upper ones don't hide
-abbrev pub left_by : List (List ℕ × Value) → List (List ℕ × Value) → List (List ℕ × Value)
-left_by upper lower = where_key by_name (λ name. not (has_name (find by_name (codes "sling:hideProperties") upper) name)) lower
+abbrev pub lower_properties_left : List (List ℕ × Value) → List (List ℕ × Value) → List (List ℕ × Value)
+lower_properties_left upper lower = where_key by_name (λ name. not (lists_name (find by_name (codes "sling:hideProperties") upper) name)) lower
 
 -- a layer takes away the lower properties that it hides, and puts its own over the others
 unfoldable pub with_layer : List (List ℕ × Value) → Resource → List (List ℕ × Value)
-with_layer lower layer = put_all (left_by layer.props lower) layer.props
+with_layer lower layer = put_all (lower_properties_left layer.props lower) layer.props
 
 -- the properties that steer the merging
 abbrev pub is_steering : List ℕ → Bool

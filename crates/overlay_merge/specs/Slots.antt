@@ -19,13 +19,13 @@ is_slot None s = false
 is_slot (Some t) s = t == s
 
 -- the name in a slot, unless it stands in another by now
-abbrev pub name_in : (ℕ → List ℕ) → (List ℕ → Option ℕ) → ℕ → List (List ℕ)
-name_in held slot s = if is_slot (slot (held s)) s then held s ∷ [] else []
+abbrev pub slot_name : (ℕ → List ℕ) → (List ℕ → Option ℕ) → ℕ → List (List ℕ)
+slot_name held slot s = if is_slot (slot (held s)) s then held s ∷ [] else []
 
 -- the names in slots, the last of which is named first
 abbrev pub names_in : (ℕ → List ℕ) → (List ℕ → Option ℕ) → List ℕ → List (List ℕ)
 names_in held slot [] = []
-names_in held slot (s ∷ slots) = names_in held slot slots ++ name_in held slot s
+names_in held slot (s ∷ slots) = names_in held slot slots ++ slot_name held slot s
 
 abbrev pub IsIn : ℕ → List ℕ → Type 0
 IsIn t [] = ⊥
@@ -63,7 +63,7 @@ held_in slots s = (slice_index_or slots.held.items (s - 1) (record { ref_ptr = (
 abbrev pub slot_in : Slots → List ℕ → Option ℕ
 slot_in slots name = get_by (λ k. slice_cmp nat_cmp name k.now) slots.places
 
-pub record IsGood (slots : Slots) : Type 0 where
+pub record SlotsAreGood (slots : Slots) : Type 0 where
   pub size : length slots.before.items ≡ suc (length slots.held.items)
   pub are : AreSlots (before_in slots) (held_in slots) (slot_in slots) (length slots.held.items)
 

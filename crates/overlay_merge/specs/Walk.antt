@@ -8,7 +8,7 @@ use Rattle.resource_tree.specs.Seen.{Resource, res_at}
 use Rattle.overlay_merge.specs.declared.layers.Layer.{Layer}
 use Rattle.overlay_merge.specs.declared.hiding.HidingDepths.{HidingDepths}
 use Rattle.overlay_merge.specs.declared.uncut.ScreenedLayer.{ScreenedLayer}
-use Rattle.overlay_merge.specs.Hiding.{hides_kid_at, hides_resource_at, list_of}
+use Rattle.overlay_merge.specs.Hiding.{hides_kid_at, hides_resource_at, resource_list}
 
 -- one more than the last number below n that has it, and 0 where none has
 unfoldable pub last_below : ℕ → (ℕ → Bool) → ℕ
@@ -42,7 +42,7 @@ unfoldable pub is_screened : ScreenedLayer → List ScreenedLayer → Bool
 is_screened layer above = reaches layer.hiding layer.layer.own layer.hiding.resource || some_screens layer.layer.common above
 
 abbrev pub unscreened : Content → ScreenedLayer → List ScreenedLayer → List Resource
-unscreened tree layer above = if is_screened layer above then [] else list_of (res_at tree layer.layer.path)
+unscreened tree layer above = if is_screened layer above then [] else resource_list (res_at tree layer.layer.path)
 
 unfoldable pub unscreened_of : Content → List ScreenedLayer → List Resource
 unscreened_of tree [] = []

@@ -2,21 +2,21 @@
 ghost use Rattle.std.specs.Prelude.{◌≡◌, ◌<◌, ◌+◌, ◌∷◌, ◌++◌, [], IfOk, codes, map, length, slice_index_or, if◌then◌else◌};
 ghost use Rattle.overlay_merge.specs.Walk.{hiding_depths};
 ghost use Rattle.std.specs.Option.{option_copied};
-ghost use Rattle.overlay_merge.specs.Hiding.{has_name, hides_kid, hides_resource, is_true, stands_for, texts_of};
+ghost use Rattle.overlay_merge.specs.Hiding.{lists_name, hides_kid, hides_resource, is_value_true, text_stands_for, hiding_texts};
 
 use resource_tree::Tree;
 use sp_base::{Mem, Path, PropList, Value};
 use std::alloc::Global;
 
 fn stands_for(text: &str, name: &str) -> bool
-    ensures { result ≡ stands_for name.now text.now }
+    ensures { result ≡ text_stands_for name.now text.now }
 {
     text == "*" || text == name
 }
 
 /// Whether a value is a text or texts of which one stands for a name.
 pub(crate) fn has_name(value: Option<&Value>, name: &str) -> bool
-    ensures { result ≡ has_name (option_copied value.entry) name.now }
+    ensures { result ≡ lists_name (option_copied value.entry) name.now }
 {
     match value {
         Some(Value::Text(text)) => stands_for(text.text(), name),

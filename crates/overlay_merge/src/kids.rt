@@ -2,7 +2,7 @@
 ghost use Rattle.std.specs.Prelude.{◌≡◌, ◌∷◌, ◌++◌, [], not, IfOk, OnOk, filter, is_some, if◌then◌else◌};
 ghost use Rattle.std.specs.List.{list_any};
 ghost use Rattle.resource_tree.specs.Content.{kid, node_at};
-ghost use Rattle.overlay_merge.specs.Kids.{all_kids, has_text, is_merged_there, kids_of, kids_there, with_kids_of};
+ghost use Rattle.overlay_merge.specs.Kids.{all_kids, has_text, is_merged_there, layers_kids, kids_there, with_kids_of};
 ghost use Rattle.overlay_merge.specs.Walk.{AreNodesOf};
 
 use crate::order::{moves_of, ordered};
@@ -102,10 +102,10 @@ fn kids_there(alloc: Global, tree: &Tree, path: &Path, names: Vec<TextBuf>) -> M
 }
 
 /// The kids of layers at a path.
-#[tactic(auto, unfolding(crate::specs::Kids::kids_of))]
+#[tactic(auto, unfolding(crate::specs::Kids::layers_kids))]
 pub(crate) fn kids_of(alloc: Global, tree: &Tree, path: &Path, layers: &[Res<'_>]) -> Mem<TextList>
     requires { AreNodesOf tree.now layers.now }
-    ensures { IfOk result (λ kids. kids ≡ kids_of tree.now path.now layers.now) }
+    ensures { IfOk result (λ kids. kids ≡ layers_kids tree.now path.now layers.now) }
 {
     // `len` says that no kid of a node is listed twice.
     let _ = tree.len();

@@ -11,10 +11,10 @@ ghost use Rattle.resource_tree.specs.Seen.{Resource, res_at};
 ghost use Rattle.overlay_merge.specs.declared.layers.Layer.{Layer};
 ghost use Rattle.overlay_merge.specs.Roots.{is_merged_path, is_parent_of_roots};
 ghost use Rattle.overlay_merge.specs.Layers.{has_node, layers_of};
-ghost use Rattle.overlay_merge.specs.Hiding.{is_cut, merged_from, uncut_of};
-ghost use Rattle.overlay_merge.specs.Cut.{IsCut, IsOfLayer};
+ghost use Rattle.overlay_merge.specs.Hiding.{layer_is_cut, merged_from, uncut_of};
+ghost use Rattle.overlay_merge.specs.Cut.{LayerIsCut, IsOfLayer};
 ghost use Rattle.overlay_merge.specs.Properties.{without_steering};
-ghost use Rattle.overlay_merge.specs.Kids.{all_kids, has_text, is_merged_there, kids_of, kids_there, wish_at};
+ghost use Rattle.overlay_merge.specs.Kids.{all_kids, has_text, is_merged_there, layers_kids, kids_there, wish_at};
 ghost use Rattle.overlay_merge.specs.Merged.{merged};
 
 /// Elsewhere than under the two roots the node is seen as it is, but that their parent doesn't list them.
@@ -25,9 +25,9 @@ pub fn elsewhere_the_node_is_seen()
 /// Where one layer alone is a node and it isn't cut, the resource is that node without the four names that steer the merging; its kids are
 /// those at which a merged resource is there, and stand as they do there if none wishes to stand elsewhere.
 pub fn the_only_layer_is_shown()
-    ensures node { (tree : Content) (path : List (List ℕ)) (lower upper : List Layer) (layer : Layer) (res : Resource) → is_path path ≡ true → is_merged_path path ≡ true → layers_of tree path ≡ lower ++ layer ∷ upper → has_node tree lower ≡ false → has_node tree upper ≡ false → is_cut tree layer upper ≡ false → res_at tree layer.path ≡ Some res → is_sorted by_name res.props ≡ true → merged tree path ≡ Some (record { path = path; props = without_steering res.props; kids = kids_of tree path (res ∷ []) }) }
-    ensures kids { (tree : Content) (path : List (List ℕ)) (res : Resource) → IsPermutation (kids_there tree path res.kids) (kids_of tree path (res ∷ [])) }
-    ensures order { (tree : Content) (path : List (List ℕ)) (res : Resource) → All (λ (name : List ℕ). is_merged_there tree (kid path name) ≡ true) res.kids → All (λ (name : List ℕ). wish_at tree (kid res.path name) ≡ None) res.kids → kids_of tree path (res ∷ []) ≡ res.kids }
+    ensures node { (tree : Content) (path : List (List ℕ)) (lower upper : List Layer) (layer : Layer) (res : Resource) → is_path path ≡ true → is_merged_path path ≡ true → layers_of tree path ≡ lower ++ layer ∷ upper → has_node tree lower ≡ false → has_node tree upper ≡ false → layer_is_cut tree layer upper ≡ false → res_at tree layer.path ≡ Some res → is_sorted by_name res.props ≡ true → merged tree path ≡ Some (record { path = path; props = without_steering res.props; kids = layers_kids tree path (res ∷ []) }) }
+    ensures kids { (tree : Content) (path : List (List ℕ)) (res : Resource) → IsPermutation (kids_there tree path res.kids) (layers_kids tree path (res ∷ [])) }
+    ensures order { (tree : Content) (path : List (List ℕ)) (res : Resource) → All (λ (name : List ℕ). is_merged_there tree (kid path name) ≡ true) res.kids → All (λ (name : List ℕ). wish_at tree (kid res.path name) ≡ None) res.kids → layers_kids tree path (res ∷ []) ≡ res.kids }
 {}
 
 /// Each property and each kid that is seen is one of a layer that isn't cut: a layer that is hidden shows in none.
@@ -39,22 +39,22 @@ pub fn what_is_seen_is_of_a_layer()
 
 /// A layer is cut exactly where some node on its path, or on that of a layer above, hides it.
 pub fn a_layer_is_cut_by_a_node()
-    ensures cut { (tree : Content) (layer : Layer) (above : List Layer) → is_cut tree layer above ≡ true → IsCut tree layer above }
-    ensures only { (tree : Content) (layer : Layer) (above : List Layer) → IsCut tree layer above → is_cut tree layer above ≡ true }
+    ensures cut { (tree : Content) (layer : Layer) (above : List Layer) → layer_is_cut tree layer above ≡ true → LayerIsCut tree layer above }
+    ensures only { (tree : Content) (layer : Layer) (above : List Layer) → LayerIsCut tree layer above → layer_is_cut tree layer above ≡ true }
 {}
 
 /// A layer that is cut adds nothing to what is merged, neither properties nor kids.
 pub fn a_cut_layer_is_left_out()
-    ensures { (tree : Content) (layer : Layer) (above : List Layer) → is_cut tree layer above ≡ true → uncut_of tree (layer ∷ above) ≡ uncut_of tree above }
+    ensures { (tree : Content) (layer : Layer) (above : List Layer) → layer_is_cut tree layer above ≡ true → uncut_of tree (layer ∷ above) ≡ uncut_of tree above }
 {}
 
 /// What kids wish of their places changes the order of kids alone.
 pub fn wishes_only_reorder()
-    ensures { (tree : Content) (path : List (List ℕ)) (layers : List Resource) → IsPermutation (kids_there tree path (all_kids layers)) (kids_of tree path layers) }
+    ensures { (tree : Content) (path : List (List ℕ)) (layers : List Resource) → IsPermutation (kids_there tree path (all_kids layers)) (layers_kids tree path layers) }
 {}
 
 /// Each kid is one of a layer that isn't cut, and a merged resource is at its path.
 pub fn each_kid_is_there()
-    ensures of_a_layer { (tree : Content) (path : List (List ℕ)) (layers : List Resource) (name : List ℕ) → has_text (kids_of tree path layers) name ≡ true → list_any (λ (layer : Resource). has_text layer.kids name) layers ≡ true }
-    ensures there { (tree : Content) (path : List (List ℕ)) (layers : List Resource) (name : List ℕ) → has_text (kids_of tree path layers) name ≡ true → is_merged_there tree (kid path name) ≡ true }
+    ensures of_a_layer { (tree : Content) (path : List (List ℕ)) (layers : List Resource) (name : List ℕ) → has_text (layers_kids tree path layers) name ≡ true → list_any (λ (layer : Resource). has_text layer.kids name) layers ≡ true }
+    ensures there { (tree : Content) (path : List (List ℕ)) (layers : List Resource) (name : List ℕ) → has_text (layers_kids tree path layers) name ≡ true → is_merged_there tree (kid path name) ≡ true }
 {}

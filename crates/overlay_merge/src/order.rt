@@ -4,7 +4,7 @@ ghost use Rattle.std.specs.Cmp.Lexicographic.{pointwise};
 ghost use Rattle.std.specs.List.{IsDistinct};
 ghost use Rattle.resource_tree.specs.Content.{kid};
 ghost use Rattle.overlay_merge.specs.Kids.{moved, ordered_by, wish_at};
-ghost use Rattle.overlay_merge.specs.Slots.{IsGood, moved_by, names_of};
+ghost use Rattle.overlay_merge.specs.Slots.{SlotsAreGood, moved_by, names_of};
 
 use crate::slots::{Slots, slots_of};
 use resource_tree::{Res, Tree};
@@ -78,8 +78,8 @@ pub(crate) fn moves_of<'a>(
 }
 
 fn move_all<'a>(slots: &mut Slots<'a>, moves: &[Move<'a>]) -> Mem<()>
-    requires { IsGood slots.old }
-    ensures good { OnOk result (IsGood slots.new) }
+    requires { SlotsAreGood slots.old }
+    ensures good { OnOk result (SlotsAreGood slots.new) }
     ensures names { OnOk result (names_of slots.new ≡ moved_by moves.now (names_of slots.old)) }
 {
     for step in moves {

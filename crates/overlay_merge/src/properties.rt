@@ -4,9 +4,9 @@ ghost use Rattle.std.specs.List.{list_any};
 ghost use Rattle.std.specs.Option.{option_copied};
 ghost use Rattle.std.specs.FinMap.Entries.{where_key};
 ghost use Rattle.sp_base.specs.Names.{by_name};
-ghost use Rattle.overlay_merge.specs.Hiding.{stands_for, has_name};
+ghost use Rattle.overlay_merge.specs.Hiding.{text_stands_for, lists_name};
 ghost use Rattle.overlay_merge.specs.HidingTexts.{many_texts, one_text, text_list};
-ghost use Rattle.overlay_merge.specs.Properties.{left_by, merged_props, put_all, with_layer, without_steering};
+ghost use Rattle.overlay_merge.specs.Properties.{lower_properties_left, merged_props, put_all, with_layer, without_steering};
 
 use resource_tree::Res;
 use sp_base::{Mem, PropList, TextBuf, Value};
@@ -27,7 +27,7 @@ fn put_all(alloc: Global, props: &mut PropList, upper: &PropList) -> Mem<()>
 
 // Takes away the properties that a text stands for.
 fn hide_by(alloc: Global, props: &mut PropList, text: &str)
-    ensures { props.new ≡ where_key by_name (λ name. not (stands_for name text.now)) props.old }
+    ensures { props.new ≡ where_key by_name (λ name. not (text_stands_for name text.now)) props.old }
 {
     if text == "*" {
         *props = PropList::new(alloc);
@@ -37,7 +37,7 @@ fn hide_by(alloc: Global, props: &mut PropList, text: &str)
 }
 
 fn hide_by_all(alloc: Global, props: &mut PropList, texts: &[TextBuf])
-    ensures { props.new ≡ where_key by_name (λ name. not (list_any (stands_for name) texts.now)) props.old }
+    ensures { props.new ≡ where_key by_name (λ name. not (list_any (text_stands_for name) texts.now)) props.old }
 {
     for text in texts {
         hide_by(alloc, props, text.text());
@@ -45,7 +45,7 @@ fn hide_by_all(alloc: Global, props: &mut PropList, texts: &[TextBuf])
 }
 
 fn hide_by_one(alloc: Global, props: &mut PropList, text: Option<&TextBuf>)
-    ensures { props.new ≡ where_key by_name (λ name. not (list_any (stands_for name) (text_list (option_copied text.entry)))) props.old }
+    ensures { props.new ≡ where_key by_name (λ name. not (list_any (text_stands_for name) (text_list (option_copied text.entry)))) props.old }
 {
     match text {
         Some(text) => hide_by(alloc, props, text.text()),
@@ -75,7 +75,7 @@ fn many_texts(value: Option<&Value>) -> &[TextBuf]
 
 // Takes away the properties that a value names, which is a text or texts.
 fn hide(alloc: Global, props: &mut PropList, value: Option<&Value>)
-    ensures { props.new ≡ where_key by_name (λ name. not (has_name (option_copied value.entry) name)) props.old }
+    ensures { props.new ≡ where_key by_name (λ name. not (lists_name (option_copied value.entry) name)) props.old }
 {
     hide_by_one(alloc, props, one_text(value));
     hide_by_all(alloc, props, many_texts(value));

@@ -3,7 +3,7 @@ ghost use Rattle.std.specs.Prelude.{◌≡◌, ◌<◌, ◌≤◌, ◌++◌, ◌
 ghost use Rattle.std.specs.List.{IsDistinct, list_any};
 ghost use Rattle.std.specs.Cmp.Lexicographic.{pointwise};
 ghost use Rattle.overlay_merge.specs.Kids.{moved};
-ghost use Rattle.overlay_merge.specs.Slots.{IsGood, IsPutIn, held_in, name_in, names_of, slot_in};
+ghost use Rattle.overlay_merge.specs.Slots.{SlotsAreGood, IsPutIn, held_in, slot_name, names_of, slot_in};
 
 use sp_base::{Mem, TextBuf};
 use std::alloc::Global;
@@ -24,7 +24,7 @@ pub(crate) struct Slots<'a> {
 impl<'a> Slots<'a> {
     #[tactic(auto, unfolding(crate::specs::Slots::names_of))]
     pub(crate) fn new(alloc: Global) -> Mem<Slots<'a>>
-        ensures good { IfOk result (λ slots. IsGood slots) }
+        ensures good { IfOk result (λ slots. SlotsAreGood slots) }
         ensures names { IfOk result (λ slots. names_of slots ≡ []) }
     {
         let mut before = Vec::new(alloc);
@@ -55,9 +55,9 @@ impl<'a> Slots<'a> {
 
     // Adds a name at the end.
     pub(crate) fn add(&mut self, name: &'a str) -> Mem<()>
-        requires good { IsGood self.old }
+        requires good { SlotsAreGood self.old }
         requires new { list_any (pointwise nat_eq name.now) (names_of self.old) ≡ false }
-        ensures good { OnOk result (IsGood self.new) }
+        ensures good { OnOk result (SlotsAreGood self.new) }
         ensures names { OnOk result (names_of self.new ≡ names_of self.old ++ name.entry.now ∷ []) }
     {
         self.put(0, name)?;
@@ -66,8 +66,8 @@ impl<'a> Slots<'a> {
 
     // Moves a name directly before another.
     pub(crate) fn move_before(&mut self, name: &'a str, other: &str) -> Mem<()>
-        requires { IsGood self.old }
-        ensures good { OnOk result (IsGood self.new) }
+        requires { SlotsAreGood self.old }
+        ensures good { OnOk result (SlotsAreGood self.new) }
         ensures names { OnOk result (names_of self.new ≡ moved name.entry.now (Some other.now) (names_of self.old)) }
     {
         if name == other {
@@ -86,7 +86,7 @@ impl<'a> Slots<'a> {
 
     /// The names in their order.
     pub(crate) fn names(&self, alloc: Global) -> Mem<Vec<TextBuf>>
-        requires { IsGood self.now }
+        requires { SlotsAreGood self.now }
         ensures { IfOk result (λ names. names.items ≡ names_of self.now) }
     {
         let mut names = Vec::new(alloc);
@@ -102,7 +102,7 @@ impl<'a> Slots<'a> {
     // The name that stands in a slot, if one does.
     fn name_in(&self, slot: usize) -> Option<&'a str>
         requires { (0 < slot) × (slot ≤ length self.now.held.items) }
-        ensures { option_to_list (option_copied result) ≡ name_in (held_in self.now) (slot_in self.now) slot }
+        ensures { option_to_list (option_copied result) ≡ slot_name (held_in self.now) (slot_in self.now) slot }
     {
         let name = self.held[slot - 1];
         match self.places.get(name) {
@@ -124,7 +124,7 @@ fn push_some(alloc: Global, names: &mut Vec<TextBuf>, name: Option<&str>) -> Mem
 /// Names that differ, each in a slot, in their order.
 pub(crate) fn slots_of<'a>(alloc: Global, names: &'a [TextBuf]) -> Mem<Slots<'a>>
     requires { IsDistinct (pointwise nat_eq) names.now }
-    ensures good { IfOk result (λ slots. IsGood slots) }
+    ensures good { IfOk result (λ slots. SlotsAreGood slots) }
     ensures names { IfOk result (λ slots. names_of slots ≡ names.now) }
 {
     let mut slots = Slots::new(alloc)?;

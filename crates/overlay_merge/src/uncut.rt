@@ -1,6 +1,6 @@
 // The layers that aren't cut.
 ghost use Rattle.std.specs.Prelude.{◌≡◌, ◌++◌, IfOk, OnOk, map, option_map};
-ghost use Rattle.overlay_merge.specs.Hiding.{list_of, merged_from};
+ghost use Rattle.overlay_merge.specs.Hiding.{resource_list, merged_from};
 ghost use Rattle.overlay_merge.specs.Walk.{AreNodesOf, is_screened, reaches, screened, screens, some_screens, unscreened, unscreened_of};
 
 use crate::Layer;

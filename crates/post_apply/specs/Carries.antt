@@ -9,7 +9,7 @@ use Rattle.resource_tree.specs.Moves.{copy, copy_fault, move_fault, relocation}
 use Rattle.post_plan.specs.declared.spot.Carry.{Carry}
 use Rattle.post_apply.specs.declared.fault.ApplyFault.{ApplyFault}
 use Rattle.post_apply.specs.declared.fault.ApplyFault.TheVariants.{Tree, DestThere}
-use Rattle.post_apply.specs.Steps.{Outcome, ◌>>=◌, path_of_spot, unless_fault, with_way}
+use Rattle.post_apply.specs.Steps.{ApplyOutcome, ◌>>=◌, path_of_spot, changed_unless_fault, with_way}
 use Rattle.post_apply.specs.Removals.{removed, without_property}
 use Rattle.post_apply.specs.Values.{put_at}
 
@@ -26,25 +26,25 @@ carry_fault moves replaces tree from to =
     else (if is_under to from || is_under from to then Some (Tree IntoItself)
     else (if not replaces && is_some (node_at tree to) then Some (DestThere to) else None)))
 
-abbrev pub unless : Option ApplyFault → Content → Outcome Content
+abbrev pub unless : Option ApplyFault → Content → ApplyOutcome Content
 unless None tree = Ok tree
 unless (Some fault) tree = Err fault
 
 -- the content without a node at the goal
-abbrev pub given_way : Content → List (List ℕ) → Outcome Content
+abbrev pub given_way : Content → List (List ℕ) → ApplyOutcome Content
 given_way tree to = if is_some (node_at tree to) then removed tree to else Ok tree
 
 -- the node at the goal too, or there instead; all other faults of the tree
-abbrev pub carried : Bool → List (List ℕ) → List (List ℕ) → Content → Outcome Content
-carried false from to tree = unless_fault (copy_fault tree from to) (copy tree from to)
-carried true from to tree = unless_fault (move_fault tree from to) (relocation tree from to)
+abbrev pub carried : Bool → List (List ℕ) → List (List ℕ) → Content → ApplyOutcome Content
+carried false from to tree = changed_unless_fault (copy_fault tree from to) (copy tree from to)
+carried true from to tree = changed_unless_fault (move_fault tree from to) (relocation tree from to)
 
 -- a node in the place of what stands at the goal, last among its siblings
-abbrev pub replacing : Bool → List (List ℕ) → List (List ℕ) → Content → Outcome Content
+abbrev pub replacing : Bool → List (List ℕ) → List (List ℕ) → Content → ApplyOutcome Content
 replacing moves from to tree = given_way tree to >>= carried moves from to
 
 -- a node that an operation copies or moves
-abbrev pub carry_node : Bool → Bool → List (List ℕ) → List (List ℕ) → Content → Outcome Content
+abbrev pub carry_node : Bool → Bool → List (List ℕ) → List (List ℕ) → Content → ApplyOutcome Content
 carry_node moves replaces from to tree = unless (carry_fault moves replaces tree from to) tree >>= replacing moves from to
 
 -- ---- what a parameter copies or moves
@@ -54,27 +54,27 @@ abbrev pub property_at : Content → List (List ℕ) → Option Value
 property_at tree path = option_and_then (λ node. prop_at node (name_of path)) (node_at tree (parent_of path))
 
 -- the content that a property's value leaves: without it, where it moves
-abbrev pub left : Bool → List (List ℕ) → Content → Content
-left moves from tree = if moves then without_property tree from else tree
+abbrev pub content_left : Bool → List (List ℕ) → Content → Content
+content_left moves from tree = if moves then without_property tree from else tree
 
 -- a property, set at the goal, with the nodes on the way to it
-abbrev pub bring_value : Bool → List (List ℕ) → List (List ℕ) → Option Value → Content → Outcome Content
+abbrev pub bring_value : Bool → List (List ℕ) → List (List ℕ) → Option Value → Content → ApplyOutcome Content
 bring_value moves from to None tree = Ok tree
-bring_value moves from to (Some value) tree = with_way (parent_of to) tree >>= λ t. put_at (left moves from t) to value
+bring_value moves from to (Some value) tree = with_way (parent_of to) tree >>= λ t. put_at (content_left moves from t) to value
 
 -- a node, which takes the place of what stands at the goal, with the nodes on the way to it
-abbrev pub bring_node : Bool → List (List ℕ) → List (List ℕ) → Content → Outcome Content
+abbrev pub bring_node : Bool → List (List ℕ) → List (List ℕ) → Content → ApplyOutcome Content
 bring_node moves from to tree = do
   begun ← unless (carry_fault moves true tree from to) tree
   ready ← with_way (parent_of to) begun
   replacing moves from to ready
 
 -- the node at a path, else the property there; nothing where neither is there
-abbrev pub bring : Bool → List (List ℕ) → List (List ℕ) → Content → Outcome Content
+abbrev pub bring : Bool → List (List ℕ) → List (List ℕ) → Content → ApplyOutcome Content
 bring moves from to tree = if is_some (node_at tree from) then bring_node moves from to tree else bring_value moves from to (property_at tree from) tree
 
 -- the same at spots
-abbrev pub carry_at : Bool → List (List ℕ) → Content → Carry → Outcome Content
+abbrev pub carry_at : Bool → List (List ℕ) → Content → Carry → ApplyOutcome Content
 carry_at moves node tree carry = do
   to ← path_of_spot node carry.to
   from ← path_of_spot node carry.from

@@ -5,13 +5,13 @@ use Rattle.post_apply.specs.declared.fault.ApplyFault.{ApplyFault}
 use Rattle.post_apply.specs.declared.fault.ApplyFault.TheVariants.{Tree, NoMemory as no_memory}
 
 -- the tree's fault, where memory didn't run out
-abbrev pub of_tree : TreeFault → ApplyFault
-of_tree (NoSuch path) = Tree (NoSuch path)
-of_tree RootFixed = Tree RootFixed
-of_tree IntoItself = Tree IntoItself
-of_tree (Exists path) = Tree (Exists path)
-of_tree (Taken path) = Tree (Taken path)
-of_tree NoSibling = Tree NoSibling
-of_tree TooDeep = Tree TooDeep
-of_tree FullTree = Tree FullTree
-of_tree NoMemory = no_memory
+abbrev pub apply_fault : TreeFault → ApplyFault
+apply_fault (NoSuch path) = Tree (NoSuch path)
+apply_fault RootFixed = Tree RootFixed
+apply_fault IntoItself = Tree IntoItself
+apply_fault (Exists path) = Tree (Exists path)
+apply_fault (Taken path) = Tree (Taken path)
+apply_fault NoSibling = Tree NoSibling
+apply_fault TooDeep = Tree TooDeep
+apply_fault FullTree = Tree FullTree
+apply_fault NoMemory = no_memory

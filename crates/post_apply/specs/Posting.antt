@@ -10,7 +10,7 @@ use Rattle.post_plan.specs.declared.operation.NameWish.{NameWish}
 use Rattle.post_plan.specs.declared.operation.Op.{Op}
 use Rattle.post_plan.specs.declared.operation.Op.TheVariants.{Nop, Delete, Copy, Move, Modify}
 use Rattle.post_apply.specs.declared.report.PostReport.{PostReport}
-use Rattle.post_apply.specs.Steps.{Outcome, ◌>>=◌, in_turn, or_too_deep, unless_fault, with_way}
+use Rattle.post_apply.specs.Steps.{ApplyOutcome, ◌>>=◌, in_turn, or_too_deep, changed_unless_fault, with_way}
 use Rattle.post_apply.specs.Removals.{delete_at, removed}
 use Rattle.post_apply.specs.Values.{set_at}
 use Rattle.post_apply.specs.Carries.{carry_at, carry_node}
@@ -35,49 +35,49 @@ abbrev pub site : Content → List (List ℕ) → Site
 site content node = record { content = content; node = node }
 
 -- a new node below a target, which is made with all above it first
-abbrev pub new_site : List (List ℕ) → NameWish → Content → Outcome Site
+abbrev pub new_site : List (List ℕ) → NameWish → Content → ApplyOutcome Site
 new_site target wish tree = do
   above ← with_way target tree
   path ← or_too_deep (path_or_none (kid target (name_given above target wish)))
   Ok (site above path)
 
 -- the target itself, or a new node below it
-abbrev pub site_of : List (List ℕ) → Option NameWish → Content → Outcome Site
-site_of target None tree = Ok (site tree target)
-site_of target (Some wish) tree = new_site target wish tree
+abbrev pub post_site : List (List ℕ) → Option NameWish → Content → ApplyOutcome Site
+post_site target None tree = Ok (site tree target)
+post_site target (Some wish) tree = new_site target wish tree
 
 -- the node in another place, where one is asked for
-abbrev pub placed : List (List ℕ) → Option Place → Content → Outcome Content
-placed node None tree = Ok tree
-placed node (Some place) tree = unless_fault (order_fault tree node place) (reordering tree node place)
+abbrev pub content_placed : List (List ℕ) → Option Place → Content → ApplyOutcome Content
+content_placed node None tree = Ok tree
+content_placed node (Some place) tree = changed_unless_fault (order_fault tree node place) (reordering tree node place)
 
 -- the node and all above it are made, and then come removals, moves, copies, values and the node's place
-abbrev pub modified : ModifyOp → Site → Outcome Content
+abbrev pub modified : ModifyOp → Site → ApplyOutcome Content
 modified op at = do
   made ← with_way at.node at.content
   less ← in_turn (delete_at at.node) op.deletes made
   moved ← in_turn (carry_at true at.node) op.moves less
   copied ← in_turn (carry_at false at.node) op.copies moved
   valued ← in_turn (set_at at.node) op.sets copied
-  placed at.node op.place valued
+  content_placed at.node op.place valued
 
-abbrev pub modify_at : ModifyOp → Site → Outcome Posted
+abbrev pub modify_at : ModifyOp → Site → ApplyOutcome Posted
 modify_at op at = modified op at >>= λ after. Ok (reported (is_none (node_at at.content at.node)) at.node after)
 
-abbrev pub modify : ModifyOp → Content → Outcome Posted
-modify op tree = site_of op.target op.fresh tree >>= modify_at op
+abbrev pub modify : ModifyOp → Content → ApplyOutcome Posted
+modify op tree = post_site op.target op.fresh tree >>= modify_at op
 
 -- ---- the operations
 
-abbrev pub remove : List (List ℕ) → Content → Outcome Posted
+abbrev pub remove : List (List ℕ) → Content → ApplyOutcome Posted
 remove path tree = removed tree path >>= λ after. Ok (reported false path after)
 
 -- a copy, or a move
-abbrev pub carry : Bool → CarryOp → Content → Outcome Posted
+abbrev pub carry : Bool → CarryOp → Content → ApplyOutcome Posted
 carry moves op tree = carry_node moves op.replace op.from op.to tree >>= λ after. Ok (reported (is_none (node_at tree op.to)) op.to after)
 
 -- what a POST gives, or the first cause for which it is refused
-abbrev pub posted : Op → Content → Outcome Posted
+abbrev pub posted : Op → Content → ApplyOutcome Posted
 posted (Nop path) tree = Ok (reported false path tree)
 posted (Delete path) tree = remove path tree
 posted (Copy op) tree = carry false op tree
@@ -85,9 +85,9 @@ posted (Move op) tree = carry true op tree
 posted (Modify op) tree = modify op tree
 
 -- the content after a POST: as before where it is refused
-abbrev pub content_of : Content → Outcome Posted → Content
-content_of tree (Ok done) = done.content
-content_of tree (Err fault) = tree
+abbrev pub content_after_post : Content → ApplyOutcome Posted → Content
+content_after_post tree (Ok done) = done.content
+content_after_post tree (Err fault) = tree
 
 abbrev pub content_after : Op → Content → Content
-content_after op tree = content_of tree (posted op tree)
+content_after op tree = content_after_post tree (posted op tree)

@@ -10,51 +10,51 @@ use Rattle.post_apply.specs.declared.fault.ApplyFault.{ApplyFault}
 use Rattle.post_apply.specs.declared.fault.ApplyFault.TheVariants.{Tree}
 
 -- what a step gives, or why it is refused
-abbrev pub Outcome : Type 0 → Type 0
-Outcome A = Result A ApplyFault
+abbrev pub ApplyOutcome : Type 0 → Type 0
+ApplyOutcome A = Result A ApplyFault
 
 infixl 10 ◌>>=◌
 -- a step, and the next one with what the first gave
-abbrev pub ◌>>=◌ : {A B : Type 0} → Outcome A → (A → Outcome B) → Outcome B
+abbrev pub ◌>>=◌ : {A B : Type 0} → ApplyOutcome A → (A → ApplyOutcome B) → ApplyOutcome B
 (Ok x) >>= f = f x
 (Err e) >>= f = Err e
 
 -- a step for each in turn, until one is refused
-unfoldable pub in_turn : {X : Type 0} → (Content → X → Outcome Content) → List X → Content → Outcome Content
+unfoldable pub in_turn : {X : Type 0} → (Content → X → ApplyOutcome Content) → List X → Content → ApplyOutcome Content
 in_turn step [] tree = Ok tree
 in_turn step (x ∷ more) tree = step tree x >>= in_turn step more
 
 -- a change of the tree, unless it has a fault
-abbrev pub unless_fault : Option TreeFault → Content → Outcome Content
-unless_fault None changed = Ok changed
-unless_fault (Some fault) changed = Err (Tree fault)
+abbrev pub changed_unless_fault : Option TreeFault → Content → ApplyOutcome Content
+changed_unless_fault None changed = Ok changed
+changed_unless_fault (Some fault) changed = Err (Tree fault)
 
 -- ---- nodes that are made
 
 -- a new node, without properties and kids
-abbrev pub made : Content → List (List ℕ) → Outcome Content
-made tree path = unless_fault (create_fault tree path) (creation tree path empty_node)
+abbrev pub made : Content → List (List ℕ) → ApplyOutcome Content
+made tree path = changed_unless_fault (create_fault tree path) (creation tree path empty_node)
 
 -- a node at the path, new where none is there
-abbrev pub with_node : Content → List (List ℕ) → Outcome Content
+abbrev pub with_node : Content → List (List ℕ) → ApplyOutcome Content
 with_node tree path = if is_some (node_at tree path) then Ok tree else made tree path
 
 -- the nodes to which names lead from a path, one below the other, new where they aren't there
-unfoldable pub with_nodes_below : List (List ℕ) → List (List ℕ) → Content → Outcome Content
+unfoldable pub with_nodes_below : List (List ℕ) → List (List ℕ) → Content → ApplyOutcome Content
 with_nodes_below path [] tree = Ok tree
 with_nodes_below path (name ∷ names) tree = with_node tree (kid path name) >>= with_nodes_below (kid path name) names
 
 -- the node at a path and all above it, new where they aren't there
-abbrev pub with_way : List (List ℕ) → Content → Outcome Content
+abbrev pub with_way : List (List ℕ) → Content → ApplyOutcome Content
 with_way path tree = with_nodes_below [] path tree
 
 -- ---- places
 
 -- segments that make a path, at most 64
-abbrev pub or_too_deep : Option (List (List ℕ)) → Outcome (List (List ℕ))
+abbrev pub or_too_deep : Option (List (List ℕ)) → ApplyOutcome (List (List ℕ))
 or_too_deep (Some path) = Ok path
 or_too_deep None = Err (Tree TooDeep)
 
 -- the path of a spot, for a node
-abbrev pub path_of_spot : List (List ℕ) → Spot → Outcome (List (List ℕ))
+abbrev pub path_of_spot : List (List ℕ) → Spot → ApplyOutcome (List (List ℕ))
 path_of_spot node spot = if spot.at_target then or_too_deep (path_or_none (node ++ spot.path)) else Ok spot.path

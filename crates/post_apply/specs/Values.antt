@@ -10,7 +10,7 @@ use Rattle.resource_tree.specs.Content.{Content, name_of, parent_of}
 use Rattle.resource_tree.specs.Changes.{set_fault, update}
 use Rattle.post_plan.specs.declared.operation.PropSet.{PropSet}
 use Rattle.post_apply.specs.declared.fault.ApplyFault.TheVariants.{Tree, Value as ValueOf}
-use Rattle.post_apply.specs.Steps.{Outcome, ◌>>=◌, path_of_spot, unless_fault, with_way}
+use Rattle.post_apply.specs.Steps.{ApplyOutcome, ◌>>=◌, path_of_spot, changed_unless_fault, with_way}
 
 -- without a hint one word is a text, and more are a list of texts
 abbrev pub untyped : List (List ℕ) → Value
@@ -18,27 +18,27 @@ untyped [] = Texts []
 untyped (word ∷ []) = Text word
 untyped (word ∷ next ∷ more) = Texts (word ∷ next ∷ more)
 
-abbrev pub value_of : Option Hint → List (List ℕ) → Result Value ValueFault
-value_of None words = Ok (untyped words)
-value_of (Some hint) words = typed_of hint words
+abbrev pub hinted_value : Option Hint → List (List ℕ) → Result Value ValueFault
+hinted_value None words = Ok (untyped words)
+hinted_value (Some hint) words = typed_of hint words
 
 -- a fault is told with the property's name
-abbrev pub named : List ℕ → Result Value ValueFault → Outcome Value
-named name (Ok value) = Ok value
-named name (Err fault) = Err (ValueOf name fault)
+abbrev pub named_outcome : List ℕ → Result Value ValueFault → ApplyOutcome Value
+named_outcome name (Ok value) = Ok value
+named_outcome name (Err fault) = Err (ValueOf name fault)
 
 -- a property of a node that is there; the root's path is no property's
-abbrev pub put_at : Content → List (List ℕ) → Value → Outcome Content
+abbrev pub put_at : Content → List (List ℕ) → Value → ApplyOutcome Content
 put_at tree path value = if length path == 0 then Err (Tree (Taken path))
-    else unless_fault (set_fault tree (parent_of path) (name_of path)) (update tree (parent_of path) (name_of path) value)
+    else changed_unless_fault (set_fault tree (parent_of path) (name_of path)) (update tree (parent_of path) (name_of path) value)
 
 -- the same, with its node and all above it made where they aren't there
-abbrev pub put_on_way : Content → List (List ℕ) → Value → Outcome Content
+abbrev pub put_on_way : Content → List (List ℕ) → Value → ApplyOutcome Content
 put_on_way tree path value = with_way (parent_of path) tree >>= λ t. put_at t path value
 
 -- the words of a property, set at its spot
-abbrev pub set_at : List (List ℕ) → Content → PropSet → Outcome Content
+abbrev pub set_at : List (List ℕ) → Content → PropSet → ApplyOutcome Content
 set_at node tree set = do
-  value ← named (name_of set.spot.path) (value_of set.hint set.words)
+  value ← named_outcome (name_of set.spot.path) (hinted_value set.hint set.words)
   path ← path_of_spot node set.spot
   put_on_way tree path value

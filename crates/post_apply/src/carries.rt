@@ -1,6 +1,6 @@
 //! Nodes and properties that are copied or moved.
 ghost use Rattle.std.specs.Prelude.{◌≡◌, ◌≢◌, OnOk, IfOk, IfErr, Ok, Err, Some, None};
-ghost use Rattle.tree_draft.specs.Drafts.{Follows, IsSound};
+ghost use Rattle.tree_draft.specs.Drafts.{DraftFollows, IsSound};
 ghost use Rattle.post_apply.specs.Carries as spec;
 ghost use Rattle.post_apply.specs.Posting as whole;
 ghost use Rattle.post_apply.specs.Steps as step;
@@ -56,7 +56,7 @@ fn give_way(alloc: Global, draft: &mut Draft, to: &Path) -> Result<(), ApplyFaul
     requires { IsSound draft.old }
     ensures ok { OnOk result (spec.given_way draft.old.content to.now ≡ Ok draft.new.content) }
     ensures err { IfErr result (λ e. e ≢ ApplyFault.NoMemory → spec.given_way draft.old.content to.now ≡ Err e) }
-    ensures follows { OnOk result (Follows draft.old draft.new) }
+    ensures follows { OnOk result (DraftFollows draft.old draft.new) }
 {
     if draft.node(to).is_none() {
         return Ok(());
@@ -75,7 +75,7 @@ fn carried(
     requires { IsSound draft.old }
     ensures ok { OnOk result (spec.carried moves from.now to.now draft.old.content ≡ Ok draft.new.content) }
     ensures err { IfErr result (λ e. e ≢ ApplyFault.NoMemory → spec.carried moves from.now to.now draft.old.content ≡ Err e) }
-    ensures follows { OnOk result (Follows draft.old draft.new) }
+    ensures follows { OnOk result (DraftFollows draft.old draft.new) }
 {
     if moves {
         relocate(alloc, draft, from, to)
@@ -95,7 +95,7 @@ fn replace(
     requires { IsSound draft.old }
     ensures ok { OnOk result (spec.replacing moves from.now to.now draft.old.content ≡ Ok draft.new.content) }
     ensures err { IfErr result (λ e. e ≢ ApplyFault.NoMemory → spec.replacing moves from.now to.now draft.old.content ≡ Err e) }
-    ensures follows { OnOk result (Follows draft.old draft.new) }
+    ensures follows { OnOk result (DraftFollows draft.old draft.new) }
 {
     give_way(alloc, draft, to)?;
     carried(alloc, draft, moves, from, to)
@@ -111,7 +111,7 @@ pub fn carry(
     requires { IsSound draft.old }
     ensures ok { IfOk result (λ report. whole.carry moves op.now draft.old.content ≡ Ok (record { content = draft.new.content; report = report })) }
     ensures err { IfErr result (λ e. e ≢ ApplyFault.NoMemory → whole.carry moves op.now draft.old.content ≡ Err e) }
-    ensures follows { OnOk result (Follows draft.old draft.new) }
+    ensures follows { OnOk result (DraftFollows draft.old draft.new) }
 {
     check(alloc, draft, moves, op.replace, &op.from, &op.to)?;
     let created = draft.node(&op.to).is_none();
@@ -148,7 +148,7 @@ fn bring_value(
     requires { IsSound draft.old }
     ensures ok { OnOk result (spec.bring_value moves from.now to.now (Some value) draft.old.content ≡ Ok draft.new.content) }
     ensures err { IfErr result (λ e. e ≢ ApplyFault.NoMemory → spec.bring_value moves from.now to.now (Some value) draft.old.content ≡ Err e) }
-    ensures follows { OnOk result (Follows draft.old draft.new) }
+    ensures follows { OnOk result (DraftFollows draft.old draft.new) }
 {
     let parent = to.parent(alloc)?;
     make_way(alloc, draft, &parent)?;
@@ -169,7 +169,7 @@ fn bring_node(
     requires { IsSound draft.old }
     ensures ok { OnOk result (spec.bring_node moves from.now to.now draft.old.content ≡ Ok draft.new.content) }
     ensures err { IfErr result (λ e. e ≢ ApplyFault.NoMemory → spec.bring_node moves from.now to.now draft.old.content ≡ Err e) }
-    ensures follows { OnOk result (Follows draft.old draft.new) }
+    ensures follows { OnOk result (DraftFollows draft.old draft.new) }
 {
     check(alloc, draft, moves, true, from, to)?;
     let parent = to.parent(alloc)?;
@@ -188,7 +188,7 @@ fn bring(
     requires { IsSound draft.old }
     ensures ok { OnOk result (spec.bring moves from.now to.now draft.old.content ≡ Ok draft.new.content) }
     ensures err { IfErr result (λ e. e ≢ ApplyFault.NoMemory → spec.bring moves from.now to.now draft.old.content ≡ Err e) }
-    ensures follows { OnOk result (Follows draft.old draft.new) }
+    ensures follows { OnOk result (DraftFollows draft.old draft.new) }
 {
     if draft.node(from).is_some() {
         return bring_node(alloc, draft, moves, from, to);
@@ -209,7 +209,7 @@ fn carry_at(
     requires { IsSound draft.old }
     ensures ok { OnOk result (spec.carry_at moves node.now draft.old.content carry.now ≡ Ok draft.new.content) }
     ensures err { IfErr result (λ e. e ≢ ApplyFault.NoMemory → spec.carry_at moves node.now draft.old.content carry.now ≡ Err e) }
-    ensures follows { OnOk result (Follows draft.old draft.new) }
+    ensures follows { OnOk result (DraftFollows draft.old draft.new) }
 {
     let to = path_of_spot(alloc, node, &carry.to)?;
     let from = path_of_spot(alloc, node, &carry.from)?;
@@ -228,7 +228,7 @@ pub fn carry_all(
     requires { IsSound draft.old }
     ensures ok { OnOk result (step.in_turn (spec.carry_at moves node.now) carries.now draft.old.content ≡ Ok draft.new.content) }
     ensures err { IfErr result (λ e. e ≢ ApplyFault.NoMemory → step.in_turn (spec.carry_at moves node.now) carries.now draft.old.content ≡ Err e) }
-    ensures follows { OnOk result (Follows draft.old draft.new) }
+    ensures follows { OnOk result (DraftFollows draft.old draft.new) }
 {
     let mut rest = carries;
     while let [carry, more @ ..] = rest {

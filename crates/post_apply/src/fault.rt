@@ -44,9 +44,9 @@ impl<T: Drop> From<AllocFailed<T>> for ApplyFault {
 }
 
 impl From<TreeFault> for ApplyFault {
-    ghost use Rattle.post_apply.specs.Faults.{of_tree};
+    ghost use Rattle.post_apply.specs.Faults.{apply_fault};
 
-    ghost from_gives = { λ fault e. e ≡ of_tree fault };
+    ghost from_gives = { λ fault e. e ≡ apply_fault fault };
 
     fn from(fault: TreeFault) -> ApplyFault {
         match fault {

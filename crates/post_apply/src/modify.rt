@@ -1,6 +1,6 @@
 //! A node that is made or modified.
 ghost use Rattle.std.specs.Prelude.{◌≡◌, ◌≢◌, OnOk, IfOk, IfErr, Ok, Err};
-ghost use Rattle.tree_draft.specs.Drafts.{Follows, IsSound};
+ghost use Rattle.tree_draft.specs.Drafts.{DraftFollows, IsSound};
 ghost use Rattle.post_apply.specs.Posting as spec;
 
 use crate::carries::carry_all;
@@ -24,9 +24,9 @@ fn site_of(
     fresh: &Option<NameWish>,
 ) -> Result<Path, ApplyFault>
     requires { IsSound draft.old }
-    ensures ok { IfOk result (λ p. spec.site_of target.now fresh.now draft.old.content ≡ Ok (spec.site draft.new.content p)) }
-    ensures err { IfErr result (λ e. e ≢ ApplyFault.NoMemory → spec.site_of target.now fresh.now draft.old.content ≡ Err e) }
-    ensures follows { OnOk result (Follows draft.old draft.new) }
+    ensures ok { IfOk result (λ p. spec.post_site target.now fresh.now draft.old.content ≡ Ok (spec.site draft.new.content p)) }
+    ensures err { IfErr result (λ e. e ≢ ApplyFault.NoMemory → spec.post_site target.now fresh.now draft.old.content ≡ Err e) }
+    ensures follows { OnOk result (DraftFollows draft.old draft.new) }
 {
     match fresh {
         None => Ok(target.duplicate(alloc)?),
@@ -44,7 +44,7 @@ fn new_site(
     requires { IsSound draft.old }
     ensures ok { IfOk result (λ p. spec.new_site target.now wish.now draft.old.content ≡ Ok (spec.site draft.new.content p)) }
     ensures err { IfErr result (λ e. e ≢ ApplyFault.NoMemory → spec.new_site target.now wish.now draft.old.content ≡ Err e) }
-    ensures follows { OnOk result (Follows draft.old draft.new) }
+    ensures follows { OnOk result (DraftFollows draft.old draft.new) }
 {
     make_way(alloc, draft, target)?;
     let name = name_given(alloc, draft, target, wish)?;
@@ -56,7 +56,7 @@ fn modified(alloc: Global, draft: &mut Draft, op: &ModifyOp, node: &Path) -> Res
     requires { IsSound draft.old }
     ensures ok { OnOk result (spec.modified op.now (spec.site draft.old.content node.now) ≡ Ok draft.new.content) }
     ensures err { IfErr result (λ e. e ≢ ApplyFault.NoMemory → spec.modified op.now (spec.site draft.old.content node.now) ≡ Err e) }
-    ensures follows { OnOk result (Follows draft.old draft.new) }
+    ensures follows { OnOk result (DraftFollows draft.old draft.new) }
 {
     make_way(alloc, draft, node)?;
     delete_all(alloc, draft, node, op.deletes.as_slice())?;
@@ -71,7 +71,7 @@ pub fn modify(alloc: Global, draft: &mut Draft, op: &ModifyOp) -> Result<PostRep
     requires { IsSound draft.old }
     ensures ok { IfOk result (λ report. spec.modify op.now draft.old.content ≡ Ok (record { content = draft.new.content; report = report })) }
     ensures err { IfErr result (λ e. e ≢ ApplyFault.NoMemory → spec.modify op.now draft.old.content ≡ Err e) }
-    ensures follows { OnOk result (Follows draft.old draft.new) }
+    ensures follows { OnOk result (DraftFollows draft.old draft.new) }
 {
     let node = site_of(alloc, draft, &op.target, &op.fresh)?;
     let created = draft.node(&node).is_none();

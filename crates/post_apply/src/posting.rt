@@ -1,6 +1,6 @@
 //! What a POST makes of the content.
 ghost use Rattle.std.specs.Prelude.{◌≡◌, ◌≢◌, IfOk, IfErr, OnOk, OnErr, Ok, Err, false};
-ghost use Rattle.tree_draft.specs.Drafts.{Follows, IsSound};
+ghost use Rattle.tree_draft.specs.Drafts.{DraftFollows, IsSound};
 ghost use Rattle.resource_tree.specs.Content.{IsGood};
 ghost use Rattle.resource_tree.specs.Patches.{patching};
 ghost use Rattle.post_apply.specs.Posting as spec;
@@ -35,7 +35,7 @@ fn delete(alloc: Global, draft: &mut Draft, path: &Path) -> Result<PostReport, A
     requires { IsSound draft.old }
     ensures ok { IfOk result (λ report. spec.remove path.now draft.old.content ≡ Ok (record { content = draft.new.content; report = report })) }
     ensures err { IfErr result (λ e. e ≢ ApplyFault.NoMemory → spec.remove path.now draft.old.content ≡ Err e) }
-    ensures follows { OnOk result (Follows draft.old draft.new) }
+    ensures follows { OnOk result (DraftFollows draft.old draft.new) }
 {
     remove(alloc, draft, path)?;
     Ok(unchanged(alloc, path)?)
@@ -45,7 +45,7 @@ fn post(alloc: Global, draft: &mut Draft, op: &Op) -> Result<PostReport, ApplyFa
     requires { IsSound draft.old }
     ensures ok { IfOk result (λ report. spec.posted op.now draft.old.content ≡ Ok (record { content = draft.new.content; report = report })) }
     ensures err { IfErr result (λ e. e ≢ ApplyFault.NoMemory → spec.posted op.now draft.old.content ≡ Err e) }
-    ensures follows { OnOk result (Follows draft.old draft.new) }
+    ensures follows { OnOk result (DraftFollows draft.old draft.new) }
 {
     match op {
         Op::Nop(path) => Ok(unchanged(alloc, path)?),

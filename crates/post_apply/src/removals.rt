@@ -1,6 +1,6 @@
 //! Nodes and properties that are taken away.
 ghost use Rattle.std.specs.Prelude.{◌≡◌, ◌≢◌, OnOk, IfErr, Ok, Err};
-ghost use Rattle.tree_draft.specs.Drafts.{Follows, IsSound};
+ghost use Rattle.tree_draft.specs.Drafts.{DraftFollows, IsSound};
 ghost use Rattle.resource_tree.specs.Changes.{has_prop_at};
 ghost use Rattle.post_apply.specs.Removals as spec;
 ghost use Rattle.post_apply.specs.Steps as step;
@@ -28,7 +28,7 @@ pub fn clear(alloc: Global, draft: &mut Draft, path: &Path) -> Result<(), ApplyF
     requires { IsSound draft.old }
     ensures ok { OnOk result (spec.without_property draft.old.content path.now ≡ draft.new.content) }
     ensures err { IfErr result (λ e. e ≡ ApplyFault.NoMemory) }
-    ensures follows { OnOk result (Follows draft.old draft.new) }
+    ensures follows { OnOk result (DraftFollows draft.old draft.new) }
 {
     let parent = path.parent(alloc)?;
     let Some(name) = path.last() else {
@@ -46,7 +46,7 @@ fn delete(alloc: Global, draft: &mut Draft, path: &Path) -> Result<(), ApplyFaul
     requires { IsSound draft.old }
     ensures ok { OnOk result (spec.deleted draft.old.content path.now ≡ Ok draft.new.content) }
     ensures err { IfErr result (λ e. e ≢ ApplyFault.NoMemory → spec.deleted draft.old.content path.now ≡ Err e) }
-    ensures follows { OnOk result (Follows draft.old draft.new) }
+    ensures follows { OnOk result (DraftFollows draft.old draft.new) }
 {
     if draft.node(path).is_some() {
         return remove(alloc, draft, path);
@@ -58,7 +58,7 @@ fn delete_at(alloc: Global, draft: &mut Draft, node: &Path, spot: &Spot) -> Resu
     requires { IsSound draft.old }
     ensures ok { OnOk result (spec.delete_at node.now draft.old.content spot.now ≡ Ok draft.new.content) }
     ensures err { IfErr result (λ e. e ≢ ApplyFault.NoMemory → spec.delete_at node.now draft.old.content spot.now ≡ Err e) }
-    ensures follows { OnOk result (Follows draft.old draft.new) }
+    ensures follows { OnOk result (DraftFollows draft.old draft.new) }
 {
     let path = path_of_spot(alloc, node, spot)?;
     delete(alloc, draft, &path)
@@ -75,7 +75,7 @@ pub fn delete_all(
     requires { IsSound draft.old }
     ensures ok { OnOk result (step.in_turn (spec.delete_at node.now) spots.now draft.old.content ≡ Ok draft.new.content) }
     ensures err { IfErr result (λ e. e ≢ ApplyFault.NoMemory → step.in_turn (spec.delete_at node.now) spots.now draft.old.content ≡ Err e) }
-    ensures follows { OnOk result (Follows draft.old draft.new) }
+    ensures follows { OnOk result (DraftFollows draft.old draft.new) }
 {
     let mut rest = spots;
     while let [spot, more @ ..] = rest {

@@ -1,12 +1,12 @@
 //! Single changes of a draft, as steps of an operation.
 ghost use Rattle.std.specs.Prelude.{◌≡◌, ◌≢◌, OnOk, IfErr, IsTrue, Ok, Err, true, false};
 ghost use Rattle.sp_base.specs.Paths.{seg_ok};
-ghost use Rattle.tree_draft.specs.Drafts.{Follows, IsSound};
+ghost use Rattle.tree_draft.specs.Drafts.{DraftFollows, IsSound};
 ghost use Rattle.resource_tree.specs.Changes.{order_fault, reordering, set_fault, update};
 ghost use Rattle.post_apply.specs.Steps as step;
 ghost use Rattle.post_apply.specs.Removals.{removed};
 ghost use Rattle.post_apply.specs.Carries.{carried};
-ghost use Rattle.post_apply.specs.Posting.{placed};
+ghost use Rattle.post_apply.specs.Posting.{content_placed};
 
 use crate::ApplyFault;
 use resource_tree::Place;
@@ -19,7 +19,7 @@ pub fn make(alloc: Global, draft: &mut Draft, path: &Path) -> Result<(), ApplyFa
     requires { IsSound draft.old }
     ensures ok { OnOk result (step.made draft.old.content path.now ≡ Ok draft.new.content) }
     ensures err { IfErr result (λ e. e ≢ ApplyFault.NoMemory → step.made draft.old.content path.now ≡ Err e) }
-    ensures follows { OnOk result (Follows draft.old draft.new) }
+    ensures follows { OnOk result (DraftFollows draft.old draft.new) }
 {
     draft.create(alloc, path)?;
     Ok(())
@@ -30,7 +30,7 @@ pub fn remove(alloc: Global, draft: &mut Draft, path: &Path) -> Result<(), Apply
     requires { IsSound draft.old }
     ensures ok { OnOk result (removed draft.old.content path.now ≡ Ok draft.new.content) }
     ensures err { IfErr result (λ e. e ≢ ApplyFault.NoMemory → removed draft.old.content path.now ≡ Err e) }
-    ensures follows { OnOk result (Follows draft.old draft.new) }
+    ensures follows { OnOk result (DraftFollows draft.old draft.new) }
 {
     draft.remove(alloc, path)?;
     Ok(())
@@ -38,9 +38,9 @@ pub fn remove(alloc: Global, draft: &mut Draft, path: &Path) -> Result<(), Apply
 
 fn order(alloc: Global, draft: &mut Draft, path: &Path, place: &Place) -> Result<(), ApplyFault>
     requires { IsSound draft.old }
-    ensures ok { OnOk result (step.unless_fault (order_fault draft.old.content path.now place.now) (reordering draft.old.content path.now place.now) ≡ Ok draft.new.content) }
-    ensures err { IfErr result (λ e. e ≢ ApplyFault.NoMemory → step.unless_fault (order_fault draft.old.content path.now place.now) (reordering draft.old.content path.now place.now) ≡ Err e) }
-    ensures follows { OnOk result (Follows draft.old draft.new) }
+    ensures ok { OnOk result (step.changed_unless_fault (order_fault draft.old.content path.now place.now) (reordering draft.old.content path.now place.now) ≡ Ok draft.new.content) }
+    ensures err { IfErr result (λ e. e ≢ ApplyFault.NoMemory → step.changed_unless_fault (order_fault draft.old.content path.now place.now) (reordering draft.old.content path.now place.now) ≡ Err e) }
+    ensures follows { OnOk result (DraftFollows draft.old draft.new) }
 {
     draft.order(alloc, path, place)?;
     Ok(())
@@ -54,9 +54,9 @@ pub fn place(
     place: &Option<Place>,
 ) -> Result<(), ApplyFault>
     requires { IsSound draft.old }
-    ensures ok { OnOk result (placed path.now place.now draft.old.content ≡ Ok draft.new.content) }
-    ensures err { IfErr result (λ e. e ≢ ApplyFault.NoMemory → placed path.now place.now draft.old.content ≡ Err e) }
-    ensures follows { OnOk result (Follows draft.old draft.new) }
+    ensures ok { OnOk result (content_placed path.now place.now draft.old.content ≡ Ok draft.new.content) }
+    ensures err { IfErr result (λ e. e ≢ ApplyFault.NoMemory → content_placed path.now place.now draft.old.content ≡ Err e) }
+    ensures follows { OnOk result (DraftFollows draft.old draft.new) }
 {
     match place {
         Some(place) => order(alloc, draft, path, place),
@@ -69,7 +69,7 @@ pub fn copy(alloc: Global, draft: &mut Draft, from: &Path, to: &Path) -> Result<
     requires { IsSound draft.old }
     ensures ok { OnOk result (carried false from.now to.now draft.old.content ≡ Ok draft.new.content) }
     ensures err { IfErr result (λ e. e ≢ ApplyFault.NoMemory → carried false from.now to.now draft.old.content ≡ Err e) }
-    ensures follows { OnOk result (Follows draft.old draft.new) }
+    ensures follows { OnOk result (DraftFollows draft.old draft.new) }
 {
     draft.copy_to(alloc, from, to)?;
     Ok(())
@@ -80,7 +80,7 @@ pub fn relocate(alloc: Global, draft: &mut Draft, from: &Path, to: &Path) -> Res
     requires { IsSound draft.old }
     ensures ok { OnOk result (carried true from.now to.now draft.old.content ≡ Ok draft.new.content) }
     ensures err { IfErr result (λ e. e ≢ ApplyFault.NoMemory → carried true from.now to.now draft.old.content ≡ Err e) }
-    ensures follows { OnOk result (Follows draft.old draft.new) }
+    ensures follows { OnOk result (DraftFollows draft.old draft.new) }
 {
     draft.move_to(alloc, from, to)?;
     Ok(())
@@ -96,9 +96,9 @@ pub fn set(
 ) -> Result<(), ApplyFault>
     requires sound { IsSound draft.old }
     requires name { IsTrue (seg_ok name.now) }
-    ensures ok { OnOk result (step.unless_fault (set_fault draft.old.content path.now name.now) (update draft.old.content path.now name.now value) ≡ Ok draft.new.content) }
-    ensures err { IfErr result (λ e. e ≢ ApplyFault.NoMemory → step.unless_fault (set_fault draft.old.content path.now name.now) (update draft.old.content path.now name.now value) ≡ Err e) }
-    ensures follows { OnOk result (Follows draft.old draft.new) }
+    ensures ok { OnOk result (step.changed_unless_fault (set_fault draft.old.content path.now name.now) (update draft.old.content path.now name.now value) ≡ Ok draft.new.content) }
+    ensures err { IfErr result (λ e. e ≢ ApplyFault.NoMemory → step.changed_unless_fault (set_fault draft.old.content path.now name.now) (update draft.old.content path.now name.now value) ≡ Err e) }
+    ensures follows { OnOk result (DraftFollows draft.old draft.new) }
 {
     draft.set(alloc, path, name, value)?;
     Ok(())

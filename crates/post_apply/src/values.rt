@@ -1,7 +1,7 @@
 //! Properties that are set.
 ghost use Rattle.std.specs.Prelude.{◌≡◌, ◌≢◌, ◌-◌, IfOk, IfSome, OnOk, IfErr, IsTrue, Ok, Err, length, option_copied, slice_get};
 ghost use Rattle.sp_base.specs.Paths.{seg_ok};
-ghost use Rattle.tree_draft.specs.Drafts.{Follows, IsSound};
+ghost use Rattle.tree_draft.specs.Drafts.{DraftFollows, IsSound};
 ghost use Rattle.resource_tree.specs.Content.{name_of};
 ghost use Rattle.post_apply.specs.Values as spec;
 ghost use Rattle.post_apply.specs.Steps as step;
@@ -26,8 +26,8 @@ fn untyped(alloc: Global, words: &TextList) -> Mem<Value>
 }
 
 fn value_of(alloc: Global, hint: Option<Hint>, words: &TextList) -> Result<Value, ValueFault>
-    ensures ok { IfOk result (λ v. spec.value_of hint words.now ≡ Ok v) }
-    ensures err { IfErr result (λ e. e ≢ ValueFault.NoMemory → spec.value_of hint words.now ≡ Err e) }
+    ensures ok { IfOk result (λ v. spec.hinted_value hint words.now ≡ Ok v) }
+    ensures err { IfErr result (λ e. e ≢ ValueFault.NoMemory → spec.hinted_value hint words.now ≡ Err e) }
 {
     match hint {
         Some(hint) => Value::typed(alloc, hint, words),
@@ -42,8 +42,8 @@ fn named_value(
     hint: Option<Hint>,
     words: &TextList,
 ) -> Result<Value, ApplyFault>
-    ensures ok { IfOk result (λ v. spec.named name.now (spec.value_of hint words.now) ≡ Ok v) }
-    ensures err { IfErr result (λ e. e ≢ ApplyFault.NoMemory → spec.named name.now (spec.value_of hint words.now) ≡ Err e) }
+    ensures ok { IfOk result (λ v. spec.named_outcome name.now (spec.hinted_value hint words.now) ≡ Ok v) }
+    ensures err { IfErr result (λ e. e ≢ ApplyFault.NoMemory → spec.named_outcome name.now (spec.hinted_value hint words.now) ≡ Err e) }
 {
     match value_of(alloc, hint, words) {
         Ok(value) => Ok(value),
@@ -57,7 +57,7 @@ pub fn put_at(alloc: Global, draft: &mut Draft, path: &Path, value: Value) -> Re
     requires { IsSound draft.old }
     ensures ok { OnOk result (spec.put_at draft.old.content path.now value ≡ Ok draft.new.content) }
     ensures err { IfErr result (λ e. e ≢ ApplyFault.NoMemory → spec.put_at draft.old.content path.now value ≡ Err e) }
-    ensures follows { OnOk result (Follows draft.old draft.new) }
+    ensures follows { OnOk result (DraftFollows draft.old draft.new) }
 {
     let parent = path.parent(alloc)?;
     let Some(name) = last_segment(path) else {
@@ -76,7 +76,7 @@ pub fn put_on_way(
     requires { IsSound draft.old }
     ensures ok { OnOk result (spec.put_on_way draft.old.content path.now value ≡ Ok draft.new.content) }
     ensures err { IfErr result (λ e. e ≢ ApplyFault.NoMemory → spec.put_on_way draft.old.content path.now value ≡ Err e) }
-    ensures follows { OnOk result (Follows draft.old draft.new) }
+    ensures follows { OnOk result (DraftFollows draft.old draft.new) }
 {
     let parent = path.parent(alloc)?;
     make_way(alloc, draft, &parent)?;
@@ -108,7 +108,7 @@ fn set_at(alloc: Global, draft: &mut Draft, node: &Path, set: &PropSet) -> Resul
     requires { IsSound draft.old }
     ensures ok { OnOk result (spec.set_at node.now draft.old.content set.now ≡ Ok draft.new.content) }
     ensures err { IfErr result (λ e. e ≢ ApplyFault.NoMemory → spec.set_at node.now draft.old.content set.now ≡ Err e) }
-    ensures follows { OnOk result (Follows draft.old draft.new) }
+    ensures follows { OnOk result (DraftFollows draft.old draft.new) }
 {
     let value = named_value(alloc, name_of(&set.spot.path), set.hint, &set.words)?;
     let path = path_of_spot(alloc, node, &set.spot)?;
@@ -126,7 +126,7 @@ pub fn set_all(
     requires { IsSound draft.old }
     ensures ok { OnOk result (step.in_turn (spec.set_at node.now) sets.now draft.old.content ≡ Ok draft.new.content) }
     ensures err { IfErr result (λ e. e ≢ ApplyFault.NoMemory → step.in_turn (spec.set_at node.now) sets.now draft.old.content ≡ Err e) }
-    ensures follows { OnOk result (Follows draft.old draft.new) }
+    ensures follows { OnOk result (DraftFollows draft.old draft.new) }
 {
     let mut rest = sets;
     while let [set, more @ ..] = rest {

@@ -1,6 +1,6 @@
 //! The nodes on the way to a path.
 ghost use Rattle.std.specs.Prelude.{◌≡◌, ◌≢◌, OnOk, IfErr, Ok, Err};
-ghost use Rattle.tree_draft.specs.Drafts.{Follows, IsSound};
+ghost use Rattle.tree_draft.specs.Drafts.{DraftFollows, IsSound};
 ghost use Rattle.post_apply.specs.Steps as step;
 
 use crate::ApplyFault;
@@ -14,7 +14,7 @@ fn make_missing(alloc: Global, draft: &mut Draft, path: &Path) -> Result<(), App
     requires { IsSound draft.old }
     ensures ok { OnOk result (step.with_node draft.old.content path.now ≡ Ok draft.new.content) }
     ensures err { IfErr result (λ e. e ≢ ApplyFault.NoMemory → step.with_node draft.old.content path.now ≡ Err e) }
-    ensures follows { OnOk result (Follows draft.old draft.new) }
+    ensures follows { OnOk result (DraftFollows draft.old draft.new) }
 {
     if draft.node(path).is_some() {
         return Ok(());
@@ -27,7 +27,7 @@ pub fn make_way(alloc: Global, draft: &mut Draft, path: &Path) -> Result<(), App
     requires { IsSound draft.old }
     ensures ok { OnOk result (step.with_way path.now draft.old.content ≡ Ok draft.new.content) }
     ensures err { IfErr result (λ e. e ≢ ApplyFault.NoMemory → step.with_way path.now draft.old.content ≡ Err e) }
-    ensures follows { OnOk result (Follows draft.old draft.new) }
+    ensures follows { OnOk result (DraftFollows draft.old draft.new) }
 {
     for n in 0..path.depth() {
         let above = path.first(alloc, n + 1)?;

@@ -5,31 +5,31 @@ use Rattle.std.proofs.lemmas.Bool.Decides.{nat_tests}
 use Rattle.std.proofs.lemmas.List.Sums.{suffix_len_is}
 use Rattle.post_plan.specs.declared.suffix.Suffix.{Suffix}
 use Rattle.post_plan.specs.declared.suffix.Suffix.TheVariants.{Plain}
-use Rattle.post_plan.specs.Parameters.{is_at, path_text, suffix_of, suffix_named}
+use Rattle.post_plan.specs.Parameters.{is_at_sign, path_text, parameter_suffix, suffix_named}
 
-differs : (b : ℕ) → b ≢ 64 → is_at b ≡ false
+differs : (b : ℕ) → b ≢ 64 → is_at_sign b ≡ false
 differs b h = grind (arith, nat_tests)
 
-equals : (b : ℕ) → b ≡ 64 → is_at b ≡ true
+equals : (b : ℕ) → b ≡ 64 → is_at_sign b ≡ true
 equals b h = grind (arith, nat_tests)
 
-none_at : (t : List ℕ) → ((i : ℕ) → i < length t → get_or t i 0 ≢ 64) → list_any is_at t ≡ false
+none_at : (t : List ℕ) → ((i : ℕ) → i < length t → get_or t i 0 ≢ 64) → list_any is_at_sign t ≡ false
 none_at [] h = refl
-none_at (b ∷ t) h = ap (λ (x : Bool). x || list_any is_at t) (differs b (h 0 (omega arith))) ∙ none_at t (λ i lt. h (suc i) (omega arith))
+none_at (b ∷ t) h = ap (λ (x : Bool). x || list_any is_at_sign t) (differs b (h 0 (omega arith))) ∙ none_at t (λ i lt. h (suc i) (omega arith))
 
 or_true : (x y : Bool) → y ≡ true → x || y ≡ true
 or_true true y h = refl
 or_true false y h = h
 
-some_at : (t : List ℕ) (at : ℕ) → at < length t → get_or t at 0 ≡ 64 → list_any is_at t ≡ true
+some_at : (t : List ℕ) (at : ℕ) → at < length t → get_or t at 0 ≡ 64 → list_any is_at_sign t ≡ true
 some_at [] at lt e = absurd (omega (arith, lt))
-some_at (b ∷ t) zero lt e = ap (λ (x : Bool). x || list_any is_at t) (equals b e)
-some_at (b ∷ t) (suc at) lt e = or_true (is_at b) (list_any is_at t) (some_at t at (omega (arith, lt)) e)
+some_at (b ∷ t) zero lt e = ap (λ (x : Bool). x || list_any is_at_sign t) (equals b e)
+some_at (b ∷ t) (suc at) lt e = or_true (is_at_sign b) (list_any is_at_sign t) (some_at t at (omega (arith, lt)) e)
 
-behind : (t : List ℕ) (at : ℕ) → at < length t → get_or t at 0 ≡ 64 → ((i : ℕ) → at < i → i < length t → get_or t i 0 ≢ 64) → suffix_len (λ b. not (is_at b)) t ≡ length t - (at + 1)
+behind : (t : List ℕ) (at : ℕ) → at < length t → get_or t at 0 ≡ 64 → ((i : ℕ) → at < i → i < length t → get_or t i 0 ≢ 64) → suffix_len (λ b. not (is_at_sign b)) t ≡ length t - (at + 1)
 behind t at lt e after =
-    suffix_len_is (λ b. not (is_at b)) t (at + 1) 0 (omega arith) (λ k from below. ap not (differs (get_or t k 0) (after k (omega arith) below)))
-    (λ some. let here : at + 1 - 1 ≡ at = omega arith in ap not (ap (λ (n : ℕ). is_at (get_or t n 0)) here ∙ equals (get_or t at 0) e))
+    suffix_len_is (λ b. not (is_at_sign b)) t (at + 1) 0 (omega arith) (λ k from below. ap not (differs (get_or t k 0) (after k (omega arith) below)))
+    (λ some. let here : at + 1 - 1 ≡ at = omega arith in ap not (ap (λ (n : ℕ). is_at_sign (get_or t n 0)) here ∙ equals (get_or t at 0) e))
 
 pub path_at : (t : List ℕ) (at : ℕ) → at < length t → get_or t at 0 ≡ 64 → ((i : ℕ) → at < i → i < length t → get_or t i 0 ≢ 64) → slice_range t 0 at ≡ path_text t
 path_at t at lt e after =
@@ -39,7 +39,7 @@ path_at t at lt e after =
 pub path_whole : (t : List ℕ) → ((i : ℕ) → i < length t → get_or t i 0 ≢ 64) → t ≡ path_text t
 path_whole t none = rw (none_at t none) refl
 
-pub suffix_at : (t : List ℕ) (at : ℕ) → at < length t → get_or t at 0 ≡ 64 → ((i : ℕ) → at < i → i < length t → get_or t i 0 ≢ 64) → suffix_named (drop (at + 1) t) ≡ suffix_of t
+pub suffix_at : (t : List ℕ) (at : ℕ) → at < length t → get_or t at 0 ≡ 64 → ((i : ℕ) → at < i → i < length t → get_or t i 0 ≢ 64) → suffix_named (drop (at + 1) t) ≡ parameter_suffix t
 suffix_at t at lt e after =
     let len : length t - (length t - (at + 1)) ≡ at + 1 = omega arith in
     rw (some_at t at lt e, behind t at lt e after, len) refl
@@ -47,5 +47,5 @@ suffix_at t at lt e after =
 abbrev plain : Option Suffix
 plain = Some Plain
 
-pub suffix_none : (t : List ℕ) → ((i : ℕ) → i < length t → get_or t i 0 ≢ 64) → plain ≡ suffix_of t
+pub suffix_none : (t : List ℕ) → ((i : ℕ) → i < length t → get_or t i 0 ≢ 64) → plain ≡ parameter_suffix t
 suffix_none t none = rw (none_at t none) refl

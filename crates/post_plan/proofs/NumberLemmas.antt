@@ -8,7 +8,7 @@ use Rattle.std.specs.Str.{all_ascii_digits, bytes_eq}
 use Rattle.std.specs.Str.Parse.{ParsesUnsigned, digits_value}
 use Rattle.std.proofs.lemmas.Bool.Decides.{nat_tests}
 use Rattle.std.proofs.lemmas.Str.Parse.{IsNumeralModel, numerals_by_value, tells_all_ascii_digits, parse_digits}
-use Rattle.post_plan.specs.Plan.{is_numeral, number_of, place_at, place_named}
+use Rattle.post_plan.specs.Plan.{is_numeral, place_number, place_at, place_named}
 
 pub all_digits : (word : List ℕ) → list_all is_ascii_digit word ≡ all_ascii_digits word
 all_digits [] = refl
@@ -30,7 +30,7 @@ lt_is n m h = grind (arith, nat_tests)
 is_lt : (n m : ℕ) → nat_lt n m ≡ true → n < m
 is_lt n m h = grind (arith, nat_tests)
 
-pub number_value : {E : Type 0} (word : List ℕ) (r : Result ℕ E) → is_numeral word ≡ true → ParsesUnsigned 64 10 word r → result_ok r ≡ number_of word
+pub number_value : {E : Type 0} (word : List ℕ) (r : Result ℕ E) → is_numeral word ≡ true → ParsesUnsigned 64 10 word r → result_ok r ≡ place_number word
 number_value word r is h =
     let s = spelled word is in
     rw is (go r (parse_digits own 64 word r h s.digits) s.some)
@@ -44,5 +44,5 @@ number_value word r is h =
         by false e = refl
 
 pub place_rest : (word : List ℕ) → bytes_eq word (codes "first") ≡ false → bytes_eq word (codes "last") ≡ false → false ≡ starts_with nat_eq word (codes "before ") → false ≡ starts_with nat_eq word (codes "after ")
-    → place_at (number_of word) ≡ place_named word
+    → place_at (place_number word) ≡ place_named word
 place_rest word first last before after = rw (first, last, sym before, sym after) refl

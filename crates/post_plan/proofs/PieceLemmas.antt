@@ -34,36 +34,6 @@ last_absent (q ∷ ps) (suc n) e = last_absent ps n e
 
 -- ---- paths of segments
 
-both_true : (a b : Bool) → a && b ≡ true → (a ≡ true) × (b ≡ true)
-both_true true b h = (refl, h)
-both_true false b h = absurd cc
-
-true_both : (a b : Bool) → a ≡ true → b ≡ true → a && b ≡ true
-true_both a b p q = rw (p, q) refl
-
-le_less : (n m k : ℕ) → nat_le (n + m) k ≡ true → nat_le n k ≡ true
-le_less n m k h = grind (arith, nat_tests)
-
-prefix_path : (xs ys : List (List ℕ)) → is_path (xs ++ ys) ≡ true → is_path xs ≡ true
-prefix_path xs ys h =
-    let parts = both_true (list_all seg_ok (xs ++ ys)) (nat_le (length (xs ++ ys)) most_segments) h in
-    let names = both_true (list_all seg_ok xs) (list_all seg_ok ys) (sym (list_all-append seg_ok xs ys) ∙ parts.0) in
-    true_both (list_all seg_ok xs) (nat_le (length xs) most_segments) names.0
-    (le_less (length xs) (length ys) most_segments (ap (λ (n : ℕ). nat_le n most_segments) (sym (length-append xs ys)) ∙ parts.1))
-
--- where a path doesn't go on by a segment, it doesn't go on by more
-pub stopped : (path rest : List (List ℕ)) (seg : List ℕ) (all : Option (List (List ℕ))) → None ≡ path_or_none (path ++ seg ∷ []) → path_or_none (path ++ seg ∷ rest) ≡ all → None ≡ all
-stopped path rest seg all none same = go (is_path (path ++ seg ∷ rest)) refl same
-  where
-    never : is_path (path ++ seg ∷ rest) ≡ true → None ≡ Some (path ++ seg ∷ [])
-    never holds =
-        let first : is_path (path ++ seg ∷ []) ≡ true = prefix_path (path ++ seg ∷ []) rest (ap is_path (append_assoc path (seg ∷ []) rest) ∙ holds) in
-        none ∙ ap (λ (b : Bool). cond b (Some (path ++ seg ∷ [])) None) first
-
-    go : (b : Bool) → is_path (path ++ seg ∷ rest) ≡ b → cond b (Some (path ++ seg ∷ rest)) None ≡ all → None ≡ all
-    go true holds e = absurd (let f : None ≡ Some (path ++ seg ∷ []) = never holds in cc)
-    go false no_path e = e
-
 pub longer : (path next rest : List (List ℕ)) (seg : List ℕ) (all : Option (List (List ℕ))) → Some next ≡ path_or_none (path ++ seg ∷ []) → path_or_none (path ++ seg ∷ rest) ≡ all → path_or_none (next ++ rest) ≡ all
 longer path next rest seg all some same = go (is_path (path ++ seg ∷ [])) some
   where

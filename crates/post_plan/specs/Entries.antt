@@ -9,7 +9,7 @@ use Rattle.post_plan.specs.declared.suffix.Suffix.TheVariants.{Plain, TypeHint, 
 use Rattle.post_plan.specs.declared.spot.Spot.{Spot}
 use Rattle.post_plan.specs.declared.spot.Carry.{Carry}
 use Rattle.post_plan.specs.declared.operation.PropSet.{PropSet}
-use Rattle.post_plan.specs.Parameters.{path_text, suffix_of, words_of, any_marked, content_where}
+use Rattle.post_plan.specs.Parameters.{path_text, parameter_suffix, words_of, any_marked, content_where}
 use Rattle.post_plan.specs.Hints.{hint_of}
 use Rattle.post_plan.specs.Spots.{spot_of}
 
@@ -25,7 +25,7 @@ entry_by (Some spot) None word = None
 entry_by (Some spot) (Some suffix) word = Some (record { spot = spot; suffix = suffix; word = word })
 
 abbrev pub entry_of : List (List ℕ) → List ℕ × List ℕ → Option Entry
-entry_of node p = entry_by (spot_of node (path_text p.0)) (suffix_of p.0) p.1
+entry_of node p = entry_by (spot_of node (path_text p.0)) (parameter_suffix p.0) p.1
 
 abbrev pub entries_where : List (List ℕ) → Bool → List (List ℕ × List ℕ) → List Entry
 entries_where node marked pairs = filter_map (entry_of node) (content_where marked pairs)
@@ -49,8 +49,8 @@ abbrev pub with_suffix : Suffix → List Entry → List Entry
 with_suffix suffix es = filter (λ e. same_suffix suffix e.suffix) es
 
 -- each `@Delete`, in the order of the form
-abbrev pub deletes : List Entry → List Spot
-deletes es = map (λ e. e.spot) (with_suffix Delete es)
+abbrev pub deleted_spots : List Entry → List Spot
+deleted_spots es = map (λ e. e.spot) (with_suffix Delete es)
 
 abbrev pub carry_by : Option Spot → Spot → Option Carry
 carry_by None to = None
@@ -77,25 +77,25 @@ distinct [] = []
 distinct (s ∷ more) = s ∷ filter (λ t. not (same_spot s t)) (distinct more)
 
 -- a parameter of a spot with a suffix
-abbrev pub is_at : Spot → Suffix → Entry → Bool
-is_at spot suffix e = same_suffix suffix e.suffix && same_spot spot e.spot
+abbrev pub is_of_spot : Spot → Suffix → Entry → Bool
+is_of_spot spot suffix e = same_suffix suffix e.suffix && same_spot spot e.spot
 
 -- the words of a spot's parameters with a suffix
 abbrev pub words_at : Spot → Suffix → List Entry → List (List ℕ)
-words_at spot suffix es = map (λ e. e.word) (filter (is_at spot suffix) es)
+words_at spot suffix es = map (λ e. e.word) (filter (is_of_spot spot suffix) es)
 
-abbrev pub first : List (List ℕ) → Option (List ℕ)
-first [] = None
-first (word ∷ more) = Some word
+abbrev pub first_entry_text : List (List ℕ) → Option (List ℕ)
+first_entry_text [] = None
+first_entry_text (word ∷ more) = Some word
 
 -- its own words, or those of the parameter that `@ValueFrom` names
 abbrev pub given : Option (List ℕ) → List (List ℕ × List ℕ) → List (List ℕ) → List (List ℕ)
 given None pairs own = own
 given (Some name) pairs own = words_of name pairs
 
-abbrev pub is_true : Option (List ℕ) → Bool
-is_true None = false
-is_true (Some word) = bytes_eq word (codes "true")
+abbrev pub is_word_true : Option (List ℕ) → Bool
+is_word_true None = false
+is_word_true (Some word) = bytes_eq word (codes "true")
 
 abbrev pub without_blanks : Bool → List (List ℕ) → List (List ℕ)
 without_blanks ignores words = if ignores then filter (λ word. not (length word == 0)) words else words
@@ -113,8 +113,8 @@ defaulted (default ∷ more) words = if is_one_blank words then default ∷ more
 -- the words that a spot is set to
 abbrev pub set_words : List (List ℕ × List ℕ) → List Entry → Spot → List (List ℕ)
 set_words pairs es spot = defaulted (words_at spot DefaultValue es)
-    (without_blanks (is_true (first (words_at spot IgnoreBlanks es)))
-    (given (first (words_at spot ValueFrom es)) pairs (words_at spot Plain es)))
+    (without_blanks (is_word_true (first_entry_text (words_at spot IgnoreBlanks es)))
+    (given (first_entry_text (words_at spot ValueFrom es)) pairs (words_at spot Plain es)))
 
 abbrev pub set_by : Spot → Option Hint → List (List ℕ) → Option PropSet
 set_by spot hint [] = None
@@ -122,7 +122,7 @@ set_by spot hint (word ∷ more) = Some (record { spot = spot; hint = hint; word
 
 -- the type that a spot's parameters ask for
 abbrev pub hint_at : List Entry → Spot → Option Hint
-hint_at es spot = option_and_then hint_of (first (words_at spot TypeHint es))
+hint_at es spot = option_and_then hint_of (first_entry_text (words_at spot TypeHint es))
 
 abbrev pub set_of : List (List ℕ × List ℕ) → List Entry → Spot → Option PropSet
 set_of pairs es spot = set_by spot (hint_at es spot) (set_words pairs es spot)

@@ -9,13 +9,13 @@ use Rattle.post_plan.specs.declared.suffix.Suffix.{Suffix}
 use Rattle.post_plan.specs.declared.suffix.Suffix.TheVariants.{Plain, TypeHint, DefaultValue, Delete, MoveFrom, CopyFrom, ValueFrom, IgnoreBlanks}
 use Rattle.post_plan.specs.declared.fault.PlanFault.{PlanFault}
 use Rattle.post_plan.specs.declared.fault.PlanFault.TheVariants.{BadHint}
-use Rattle.post_plan.specs.Parameters.{suffix_of, any_marked, content_where}
+use Rattle.post_plan.specs.Parameters.{parameter_suffix, any_marked, content_where}
 
 abbrev pub is_text_word : List ℕ → Bool
 is_text_word word = bytes_eq word (codes "String") || (bytes_eq word (codes "Date") || (bytes_eq word (codes "Name") || (bytes_eq word (codes "Path") || bytes_eq word (codes "URI"))))
 
-abbrev pub kind_of : List ℕ → Option HintKind
-kind_of word = if is_text_word word then Some Text
+abbrev pub hint_kind : List ℕ → Option HintKind
+hint_kind word = if is_text_word word then Some Text
     else (if bytes_eq word (codes "Long") then Some Long
     else (if bytes_eq word (codes "Boolean") then Some Truth else None))
 
@@ -25,7 +25,7 @@ hint_by many (Some kind) = Some (record { kind = kind; many = many })
 
 -- the hint that a word names; `[]` at its end asks for many values
 abbrev pub hint_of : List ℕ → Option Hint
-hint_of word = if ends_with nat_eq word (codes "[]") then hint_by true (kind_of (take (length word - 2) word)) else hint_by false (kind_of word)
+hint_of word = if ends_with nat_eq word (codes "[]") then hint_by true (hint_kind (take (length word - 2) word)) else hint_by false (hint_kind word)
 
 abbrev pub is_bad_word : Option Suffix → List ℕ → Bool
 is_bad_word None word = true
@@ -40,7 +40,7 @@ is_bad_word (Some IgnoreBlanks) word = false
 
 -- the name of the first content parameter with an unknown suffix or an unknown type hint
 abbrev pub bad_hint_where : Bool → List (List ℕ × List ℕ) → Option (List ℕ)
-bad_hint_where marked pairs = option_map (λ p. p.0) (find (λ p. is_bad_word (suffix_of p.0) p.1) (content_where marked pairs))
+bad_hint_where marked pairs = option_map (λ p. p.0) (find (λ p. is_bad_word (parameter_suffix p.0) p.1) (content_where marked pairs))
 
 abbrev pub bad_hint : List (List ℕ × List ℕ) → Option (List ℕ)
 bad_hint pairs = bad_hint_where (any_marked pairs) pairs

@@ -43,14 +43,14 @@ abbrev pub hinted : Option (List ℕ) → List (List ℕ × List ℕ) → NameWi
 hinted (Some word) pairs = Hint (made_name word)
 hinted None pairs = Hint (made_name (first_source pairs))
 
-abbrev pub named : Option (List ℕ) → List (List ℕ × List ℕ) → NameWish
-named (Some word) pairs = Exact word
-named None pairs = hinted (first_word (codes ":nameHint") pairs) pairs
+abbrev pub name_wish : Option (List ℕ) → List (List ℕ × List ℕ) → NameWish
+name_wish (Some word) pairs = Exact word
+name_wish None pairs = hinted (first_word (codes ":nameHint") pairs) pairs
 
 -- the name of a new node: `:name`, else one made from `:nameHint`, else from the first word, not empty, of the sources
 abbrev pub wish_of : List (List ℕ × List ℕ) → NameWish
-wish_of pairs = named (first_word (codes ":name") pairs) pairs
+wish_of pairs = name_wish (first_word (codes ":name") pairs) pairs
 
-abbrev pub name_in : NameWish → List ℕ
-name_in (Exact name) = name
-name_in (Hint name) = name
+abbrev pub wished_name : NameWish → List ℕ
+wished_name (Exact name) = name
+wished_name (Hint name) = name

@@ -33,12 +33,12 @@ is_content marked name = not (is_control name) && (not marked || (is_marked name
 abbrev pub content_where : Bool → List (List ℕ × List ℕ) → List (List ℕ × List ℕ)
 content_where marked pairs = filter (λ p. is_content marked p.0) pairs
 
-abbrev pub is_at : ℕ → Bool
-is_at b = b == 64
+abbrev pub is_at_sign : ℕ → Bool
+is_at_sign b = b == 64
 
 -- the path in a name: what stands before its last `@`, or all of it
 abbrev pub path_text : List ℕ → List ℕ
-path_text name = if list_any is_at name then before_last is_at name else name
+path_text name = if list_any is_at_sign name then before_last is_at_sign name else name
 
 abbrev pub suffix_named : List ℕ → Option Suffix
 suffix_named s = if bytes_eq s (codes "TypeHint") then Some TypeHint
@@ -50,5 +50,5 @@ suffix_named s = if bytes_eq s (codes "TypeHint") then Some TypeHint
     else (if bytes_eq s (codes "IgnoreBlanks") then Some IgnoreBlanks else None))))))
 
 -- the suffix of a name, where it has none or one that is known
-abbrev pub suffix_of : List ℕ → Option Suffix
-suffix_of name = if list_any is_at name then suffix_named (after_last is_at name) else Some Plain
+abbrev pub parameter_suffix : List ℕ → Option Suffix
+parameter_suffix name = if list_any is_at_sign name then suffix_named (after_last is_at_sign name) else Some Plain

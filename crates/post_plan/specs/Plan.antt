@@ -17,11 +17,11 @@ use Rattle.post_plan.specs.declared.operation.Op.TheVariants.{Modify as ModifyOp
 use Rattle.post_plan.specs.declared.operation.ModifyOp.{ModifyOp}
 use Rattle.post_plan.specs.declared.operation.CarryOp.{CarryOp}
 use Rattle.post_plan.specs.declared.operation.NameWish.{NameWish}
-use Rattle.post_plan.specs.Parameters.{first_word, any_marked, is_content, path_text, suffix_of}
+use Rattle.post_plan.specs.Parameters.{first_word, any_marked, is_content, path_text, parameter_suffix}
 use Rattle.post_plan.specs.Hints.{hint_fault}
 use Rattle.post_plan.specs.Spots.{spot_of, goal_of, is_reserved, under}
-use Rattle.post_plan.specs.NewNames.{wish_of, name_in}
-use Rattle.post_plan.specs.Entries.{Entry, entries, deletes, carries, sets}
+use Rattle.post_plan.specs.NewNames.{wish_of, wished_name}
+use Rattle.post_plan.specs.Entries.{Entry, entries, deleted_spots, carries, sets}
 
 -- what `:operation` asks for; without it a node is changed
 abbrev pub verb_named : List ℕ → Option Verb
@@ -64,8 +64,8 @@ abbrev pub is_numeral : List ℕ → Bool
 is_numeral word = all_ascii_digits word && (not (length word == 0) && (length word == 1 || not (starts_with nat_eq word (codes "0"))))
 
 -- a number within 64 bits
-abbrev pub number_of : List ℕ → Option ℕ
-number_of word = if is_numeral word && nat_lt (digits_value 10 word) (2 ^ 64) then Some (digits_value 10 word) else None
+abbrev pub place_number : List ℕ → Option ℕ
+place_number word = if is_numeral word && nat_lt (digits_value 10 word) (2 ^ 64) then Some (digits_value 10 word) else None
 
 abbrev pub place_at : Option ℕ → Option Place
 place_at None = None
@@ -82,14 +82,14 @@ abbrev pub place_named : List ℕ → Option Place
 place_named word = if bytes_eq word (codes "first") then Some First
     else (if bytes_eq word (codes "last") then Some Last
     else (if starts_with nat_eq word (codes "before ") then place_before (drop 7 word)
-    else (if starts_with nat_eq word (codes "after ") then place_after (drop 6 word) else place_at (number_of word))))
+    else (if starts_with nat_eq word (codes "after ") then place_after (drop 6 word) else place_at (place_number word))))
 
 abbrev pub place_by : Option (List ℕ) → Option Place
 place_by None = None
 place_by (Some word) = place_named word
 
-abbrev pub place_of : List (List ℕ × List ℕ) → Option Place
-place_of pairs = place_by (first_word (codes ":order") pairs)
+abbrev pub order_place : List (List ℕ × List ℕ) → Option Place
+order_place pairs = place_by (first_word (codes ":order") pairs)
 
 abbrev pub is_bad_order : Option (List ℕ) → Bool
 is_bad_order None = false
@@ -100,8 +100,8 @@ abbrev pub fresh_wish : Bool → List (List ℕ × List ℕ) → Option NameWish
 fresh_wish star pairs = if star && is_modify (verb_of pairs) then Some (wish_of pairs) else None
 
 -- the node that names are relative to: the target, or the new node under it
-abbrev pub node_of : List (List ℕ) → Bool → List (List ℕ × List ℕ) → List (List ℕ)
-node_of target star pairs = under target (option_map name_in (fresh_wish star pairs))
+abbrev pub relative_node : List (List ℕ) → Bool → List (List ℕ × List ℕ) → List (List ℕ)
+relative_node target star pairs = under target (option_map wished_name (fresh_wish star pairs))
 
 abbrev pub names_source : Option Suffix → Bool
 names_source None = false
@@ -117,7 +117,7 @@ names_source (Some IgnoreBlanks) = false
 -- the text of a content parameter that names nothing that may be changed: its name's path, else its source
 abbrev pub bad_entry : List (List ℕ) → List ℕ × List ℕ → Option (List ℕ)
 bad_entry node p = if is_none (spot_of node (path_text p.0)) then Some (path_text p.0)
-    else (if names_source (suffix_of p.0) && is_none (spot_of node p.1) then Some p.1 else None)
+    else (if names_source (parameter_suffix p.0) && is_none (spot_of node p.1) then Some p.1 else None)
 
 -- the goal of a copy or a move is no path
 abbrev pub is_bad_dest : List (List ℕ) → List (List ℕ × List ℕ) → Bool
@@ -126,7 +126,7 @@ is_bad_dest target pairs = carries_node (verb_of pairs) && is_none (goal_of targ
 -- the name of a new node is none that a path may have
 abbrev pub is_bad_wish : Option NameWish → Bool
 is_bad_wish None = false
-is_bad_wish (Some wish) = not (seg_ok (name_in wish))
+is_bad_wish (Some wish) = not (seg_ok (wished_name wish))
 
 -- the same of any parameter; of control parameters `:dest` and `:name` count, each where it is bad
 abbrev pub bad_text : List (List ℕ) → Bool → Bool → Bool → List ℕ × List ℕ → Option (List ℕ)
@@ -146,13 +146,13 @@ if_fault bad fault = if bad then Some fault else None
 
 -- the node itself stands first, then the parameters in their order
 abbrev pub path_fault : List (List ℕ) → Bool → List (List ℕ × List ℕ) → Option PlanFault
-path_fault target star pairs = if is_reserved (node_of target star pairs) then Some (BadPath (text_of (node_of target star pairs)))
-    else option_map BadPath (first_bad (bad_text (node_of target star pairs) (is_bad_dest target pairs) (is_bad_wish (fresh_wish star pairs)) (any_marked pairs)) pairs)
+path_fault target star pairs = if is_reserved (relative_node target star pairs) then Some (BadPath (text_of (relative_node target star pairs)))
+    else option_map BadPath (first_bad (bad_text (relative_node target star pairs) (is_bad_dest target pairs) (is_bad_wish (fresh_wish star pairs)) (any_marked pairs)) pairs)
 
-abbrev pub first_fault : List (Option PlanFault) → Option PlanFault
-first_fault [] = None
-first_fault (None ∷ more) = first_fault more
-first_fault (Some fault ∷ more) = Some fault
+abbrev pub first_plan_fault : List (Option PlanFault) → Option PlanFault
+first_plan_fault [] = None
+first_plan_fault (None ∷ more) = first_plan_fault more
+first_plan_fault (Some fault ∷ more) = Some fault
 
 -- the faults in the order of their kinds
 abbrev pub faults : List (List ℕ) → Bool → List (List ℕ × List ℕ) → List (Option PlanFault)
@@ -166,28 +166,28 @@ abbrev pub modify_of : List (List ℕ) → Bool → List (List ℕ × List ℕ) 
 modify_of target star pairs es node = record {
   target = target;
   fresh = fresh_wish star pairs;
-  deletes = deletes es;
+  deletes = deleted_spots es;
   moves = carries node MoveFrom es;
   copies = carries node CopyFrom es;
   sets = sets pairs es;
-  place = place_of pairs;
+  place = order_place pairs;
 }
 
-abbrev pub carry_of : List (List ℕ) → List (List ℕ × List ℕ) → CarryOp
-carry_of target pairs = record { from = target; to = unwrap_or (goal_of target (dest_word pairs)) []; replace = replaces pairs }
+abbrev pub carry_operation : List (List ℕ) → List (List ℕ × List ℕ) → CarryOp
+carry_operation target pairs = record { from = target; to = unwrap_or (goal_of target (dest_word pairs)) []; replace = replaces pairs }
 
 abbrev pub operation_by : Option Verb → List (List ℕ) → Bool → List (List ℕ × List ℕ) → Op
 operation_by None target star pairs = NopOperation target
-operation_by (Some Modify) target star pairs = ModifyOperation (modify_of target star pairs (entries (node_of target star pairs) pairs) (node_of target star pairs))
+operation_by (Some Modify) target star pairs = ModifyOperation (modify_of target star pairs (entries (relative_node target star pairs) pairs) (relative_node target star pairs))
 operation_by (Some Delete) target star pairs = DeleteOperation target
-operation_by (Some Copy) target star pairs = CopyOperation (carry_of target pairs)
-operation_by (Some Move) target star pairs = MoveOperation (carry_of target pairs)
+operation_by (Some Copy) target star pairs = CopyOperation (carry_operation target pairs)
+operation_by (Some Move) target star pairs = MoveOperation (carry_operation target pairs)
 operation_by (Some Nop) target star pairs = NopOperation target
 
-abbrev pub unless_fault : Option PlanFault → Op → Result Op PlanFault
-unless_fault (Some fault) operation = Err fault
-unless_fault None operation = Ok operation
+abbrev pub operation_unless_fault : Option PlanFault → Op → Result Op PlanFault
+operation_unless_fault (Some fault) operation = Err fault
+operation_unless_fault None operation = Ok operation
 
 -- the operation that a form asks for at a target; `star` asks for a new node under the target
 abbrev pub plan_of : List (List ℕ) → Bool → List (List ℕ × List ℕ) → Result Op PlanFault
-plan_of target star pairs = unless_fault (first_fault (faults target star pairs)) (operation_by (verb_of pairs) target star pairs)
+plan_of target star pairs = operation_unless_fault (first_plan_fault (faults target star pairs)) (operation_by (verb_of pairs) target star pairs)

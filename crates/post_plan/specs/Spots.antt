@@ -56,8 +56,8 @@ spot_of node text = if ends_in_name text then option_and_then (if_changeable nod
 abbrev pub goes_under : List ℕ → Bool
 goes_under word = nat_lt 1 (length word) && ends_with nat_eq word (codes "/")
 
-abbrev pub without_slash : List ℕ → List ℕ
-without_slash word = if goes_under word then take (length word - 1) word else word
+abbrev pub word_without_slash : List ℕ → List ℕ
+word_without_slash word = if goes_under word then take (length word - 1) word else word
 
 abbrev pub goal_base : List (List ℕ) → List ℕ → Option (List (List ℕ))
 goal_base parent text = if is_absolute text then ok_path (path_of text) else (if ends_in_name text then option_and_then (led_to parent) (way_of text) else None)
@@ -76,7 +76,7 @@ goal_at target word base = unless_reserved (if goes_under word then path_or_none
 
 -- the goal that a word names for a target; a relative word is seen from the target's parent
 abbrev pub goal_of : List (List ℕ) → List ℕ → Option (List (List ℕ))
-goal_of target word = option_and_then (goal_at target word) (goal_base (parent_of target) (without_slash word))
+goal_of target word = option_and_then (goal_at target word) (goal_base (parent_of target) (word_without_slash word))
 
 -- ---- what the functions that find spots promise one another
 

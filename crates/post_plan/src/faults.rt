@@ -188,7 +188,7 @@ pub fn fault_of(
     star: bool,
     pairs: &[(TextBuf, TextBuf)],
 ) -> Mem<Option<PlanFault>>
-    ensures { IfOk result (λ o. o ≡ spec.first_fault (spec.faults target.now star pairs.now)) }
+    ensures { IfOk result (λ o. o ≡ spec.first_plan_fault (spec.faults target.now star pairs.now)) }
 {
     let verb = verb_of(pairs);
     if verb.is_none() {

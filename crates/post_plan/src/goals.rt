@@ -16,7 +16,7 @@ fn goes_under(word: &str) -> bool
 }
 
 fn without_slash(word: &str) -> &str
-    ensures { result.now ≡ spec.without_slash word.now }
+    ensures { result.now ≡ spec.word_without_slash word.now }
 {
     match word.strip_suffix("/") {
         Some(rest) => { if word.len() > 1 { rest } else { word } }

@@ -37,7 +37,7 @@ pub fn copy_of(alloc: Global, spot: &Spot) -> Mem<Spot>
 
 /// Each `@Delete`, in the order of the form.
 pub fn deletes(alloc: Global, entries: &[Entry]) -> Mem<SpotList>
-    ensures { IfOk result (λ spots. spots ≡ spec.deletes entries.now) }
+    ensures { IfOk result (λ spots. spots ≡ spec.deleted_spots entries.now) }
 {
     let mut spots = SpotList::new(alloc);
     for entry in entries {

@@ -14,7 +14,7 @@ fn is_text_word(word: &[u8]) -> bool
 }
 
 fn kind_of(word: &[u8]) -> Option<HintKind>
-    ensures { result ≡ spec.kind_of word.now }
+    ensures { result ≡ spec.hint_kind word.now }
 {
     if is_text_word(word) {
         Some(HintKind::Text)

@@ -1,7 +1,7 @@
 //! The node that names are relative to.
 ghost use Rattle.std.specs.Prelude.{◌≡◌, ◌++◌, IfOk, option_copied, option_map, slice_get};
 ghost use Rattle.sp_base.specs.Paths.{text_of};
-ghost use Rattle.post_plan.specs.NewNames.{name_in};
+ghost use Rattle.post_plan.specs.NewNames.{wished_name};
 ghost use Rattle.post_plan.specs.Spots as spec;
 
 use crate::{NameWish, wishes};
@@ -85,7 +85,7 @@ pub fn is_reserved_node(alloc: Global, node: &Node) -> bool
 
 /// The node that a form is about: the target, or the new node of this name below it.
 pub fn node_of<'a>(target: &'a Path, wish: &'a Option<NameWish>) -> Node<'a>
-    ensures { result ≡ spec.under target.now (option_map name_in wish.now) }
+    ensures { result ≡ spec.under target.now (option_map wished_name wish.now) }
 {
     let name = match wish {
         Some(wish) => Some(wishes::name_in(wish)),

@@ -25,7 +25,7 @@ fn is_numeral(word: &str) -> bool
 }
 
 fn number_of(word: &str) -> Option<u64>
-    ensures { result ≡ spec.number_of word.now }
+    ensures { result ≡ spec.place_number word.now }
 {
     if is_numeral(word) {
         word.parse().ok()

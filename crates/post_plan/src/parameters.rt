@@ -38,7 +38,7 @@ fn suffix_named(text: &str) -> Option<Suffix>
 
 /// The suffix of a name, where it has none or one that is known.
 pub fn suffix_of(name: &str) -> Option<Suffix>
-    ensures { result ≡ spec.suffix_of name.now }
+    ensures { result ≡ spec.parameter_suffix name.now }
 {
     match name.rfind('@') {
         Some(at) => suffix_named(&name[at + 1..]),

@@ -31,7 +31,7 @@ fn replaces(pairs: &[(TextBuf, TextBuf)]) -> bool
 }
 
 fn place_of(alloc: Global, pairs: &[(TextBuf, TextBuf)]) -> Mem<Option<Place>>
-    ensures { IfOk result (λ o. o ≡ spec.place_of pairs.now) }
+    ensures { IfOk result (λ o. o ≡ spec.order_place pairs.now) }
 {
     match first_word(":order", pairs) {
         Some(word) => place_named(alloc, word),
@@ -49,7 +49,7 @@ fn goal_or_root(alloc: Global, target: &Path, pairs: &[(TextBuf, TextBuf)]) -> M
 }
 
 fn carry_of(alloc: Global, target: &Path, pairs: &[(TextBuf, TextBuf)]) -> Mem<CarryOp>
-    ensures { IfOk result (λ op. op ≡ spec.carry_of target.now pairs.now) }
+    ensures { IfOk result (λ op. op ≡ spec.carry_operation target.now pairs.now) }
 {
     Ok(CarryOp {
         from: target.duplicate(alloc)?,
@@ -64,7 +64,7 @@ fn modify_of(
     star: bool,
     pairs: &[(TextBuf, TextBuf)],
 ) -> Mem<ModifyOp>
-    ensures { IfOk result (λ op. op ≡ spec.modify_of target.now star pairs.now (entry.entries (spec.node_of target.now star pairs.now) pairs.now) (spec.node_of target.now star pairs.now)) }
+    ensures { IfOk result (λ op. op ≡ spec.modify_of target.now star pairs.now (entry.entries (spec.relative_node target.now star pairs.now) pairs.now) (spec.relative_node target.now star pairs.now)) }
 {
     let wish = fresh_wish(alloc, star, pairs)?;
     let node = node_of(target, &wish);

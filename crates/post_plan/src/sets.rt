@@ -35,14 +35,14 @@ fn same_spot(one: &Spot, other: &Spot) -> bool
 }
 
 fn is_at(spot: &Spot, suffix: Suffix, entry: &Entry) -> bool
-    ensures { result ≡ spec.is_at spot.now suffix entry.now }
+    ensures { result ≡ spec.is_of_spot spot.now suffix entry.now }
 {
     same_suffix(suffix, entry.suffix) && same_spot(spot, &entry.spot)
 }
 
 // The word of the first parameter of a spot with a suffix.
 fn first_at<'a>(spot: &Spot, suffix: Suffix, entries: &[Entry<'a>]) -> Option<&'a str>
-    ensures { option_copied result ≡ spec.first (spec.words_at spot.now suffix entries.now) }
+    ensures { option_copied result ≡ spec.first_entry_text (spec.words_at spot.now suffix entries.now) }
 {
     let mut rest = entries;
     while let [entry, more @ ..] = rest {
@@ -68,7 +68,7 @@ fn words_at(alloc: Global, spot: &Spot, suffix: Suffix, entries: &[Entry]) -> Me
 }
 
 fn is_true(word: Option<&str>) -> bool
-    ensures { result ≡ spec.is_true (option_copied word.entry) }
+    ensures { result ≡ spec.is_word_true (option_copied word.entry) }
 {
     match word {
         Some(word) => word == "true",
@@ -124,7 +124,7 @@ fn given(
     spot: &Spot,
     entries: &[Entry],
 ) -> Mem<TextList>
-    ensures { IfOk result (λ l. l ≡ spec.given (spec.first (spec.words_at spot.now Suffix.ValueFrom entries.now)) pairs.now (spec.words_at spot.now Suffix.Plain entries.now)) }
+    ensures { IfOk result (λ l. l ≡ spec.given (spec.first_entry_text (spec.words_at spot.now Suffix.ValueFrom entries.now)) pairs.now (spec.words_at spot.now Suffix.Plain entries.now)) }
 {
     match first_at(spot, Suffix::ValueFrom, entries) {
         Some(name) => words_of(alloc, name, pairs),

@@ -73,7 +73,7 @@ pub fn wish_of(alloc: Global, pairs: &[(TextBuf, TextBuf)]) -> Mem<NameWish>
 
 /// The name itself.
 pub fn name_in(wish: &NameWish) -> &str
-    ensures { result.now ≡ spec.name_in wish.now }
+    ensures { result.now ≡ spec.wished_name wish.now }
 {
     match wish {
         NameWish::Exact(name) => name.text(),

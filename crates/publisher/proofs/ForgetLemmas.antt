@@ -58,9 +58,6 @@ among_by false old reading e = (refl, e)
 abbrev pub IsWithout : Kept → Kept → List (List ℕ) → Type 0
 IsWithout old new script = (path : List (List ℕ)) → reading_at new path ≡ cond (same_path script path) None (reading_at old path)
 
-pub among_without : (old new : Kept) (script : List (List ℕ)) → IsWithout old new script → AreAmong old new
-among_without old new script is path reading e = (among_by (same_path script path) (reading_at old path) reading (sym (is path) ∙ e)).1
-
 -- the script whose text stands at a path is forgotten
 pub text_without : (old new : Kept) (at path : List (List ℕ)) (reading : Reading) → IsWithout old new (parent_of at) → reading_at new path ≡ Some reading → same_path (text_path path) at ≡ false
 text_without old new at path reading is e =

@@ -9,8 +9,8 @@ use Rattle.url_maps.specs.declared.answer.MapAnswer.{MapAnswer}
 use Rattle.url_maps.specs.declared.answer.MapAnswer.TheVariants.{Inside, Away}
 use Rattle.error_answers.specs.Errors.{error_answer}
 use Rattle.post_apply.specs.Posting.{Posted}
-use Rattle.publisher.specs.Posting.{Outcome, posting, posting_answer, posting_content}
-use Rattle.publisher.specs.Rendering.{content_after, is_post, is_read, mapped_answer, mapping, posted_answer, posted_content, rendered}
+use Rattle.publisher.specs.Posting.{PostOutcome, posting, posting_answer, posting_content}
+use Rattle.publisher.specs.Rendering.{content_after_request, is_post, is_read, mapped_answer, mapping, posted_answer, posted_content, rendered}
 
 -- ---- methods
 
@@ -26,8 +26,8 @@ read_is_no_post method read =
 post_is_no_read : (method : List ℕ) → is_post method ≡ true → is_read method ≡ false
 post_is_no_read method post = ap is_read (named method (codes "POST") post)
 
-pub reads_keep : (tree : Content) (ask : Ask) → is_read ask.method ≡ true → content_after tree ask ≡ tree
-unfolding content_after
+pub reads_keep : (tree : Content) (ask : Ask) → is_read ask.method ≡ true → content_after_request tree ask ≡ tree
+unfolding content_after_request
 reads_keep tree ask read = ap (λ b. cond b (posted_content tree ask (mapping tree ask)) tree) (read_is_no_post ask.method read)
 
 -- ---- refusals
@@ -39,7 +39,7 @@ created_by : (created : Bool) → status_by created ≢ 200 → status_by create
 created_by true one other = other refl
 created_by false one other = one refl
 
-outcome_keeps : (tree : Content) (outcome : Outcome Posted) → (posting_answer outcome).status ≢ 200 → (posting_answer outcome).status ≢ 201 → posting_content tree outcome ≡ tree
+outcome_keeps : (tree : Content) (outcome : PostOutcome Posted) → (posting_answer outcome).status ≢ 200 → (posting_answer outcome).status ≢ 201 → posting_content tree outcome ≡ tree
 outcome_keeps tree (Ok done) one other = absurd (created_by done.report.created one other)
 outcome_keeps tree (Err refusal) one other = refl
 
@@ -59,6 +59,6 @@ keeps_by true tree ask is one other =
     posted_keeps tree ask (mapping tree ask) (λ e. one (ap (λ a. a.status) same ∙ e)) (λ e. other (ap (λ a. a.status) same ∙ e))
 keeps_by false tree ask is one other = refl
 
-pub refusals_keep : (tree : Content) (ask : Ask) → (rendered tree ask).status ≢ 200 → (rendered tree ask).status ≢ 201 → content_after tree ask ≡ tree
-unfolding content_after
+pub refusals_keep : (tree : Content) (ask : Ask) → (rendered tree ask).status ≢ 200 → (rendered tree ask).status ≢ 201 → content_after_request tree ask ≡ tree
+unfolding content_after_request
 refusals_keep tree ask one other = keeps_by (is_post ask.method) tree ask refl one other

@@ -23,10 +23,10 @@ use Rattle.publisher.specs.declared.templates.Reading.{Reading}
 use Rattle.publisher.specs.declared.templates.Reading.TheVariants.{Parsed, Refused}
 use Rattle.publisher.specs.Readings.{reading_of}
 use Rattle.error_answers.specs.Errors.{error_answer}
-use Rattle.publisher.specs.Errors.{answer_of, redirect}
+use Rattle.publisher.specs.Errors.{answer_with_body, redirect}
 use Rattle.publisher.specs.Depths.{depth_of}
 use Rattle.overlay_merge.specs.Merged.{has_resource}
-use Rattle.publisher.specs.Rendering.{seen, is_read, mark_of, most_bytes, representation_of, json_representation, json_to_depth, file_representation, is_json, is_bare, default_answer, script_for, scope_of, script_representation, answer_by, resource_answer, split_answer, text_answer, mapping, mapped_answer, is_post, posted_answer, rendered}
+use Rattle.publisher.specs.Rendering.{seen, is_read, mark_of, most_rendered_bytes, representation_of, json_representation, json_to_depth, file_representation, is_json, is_bare, default_answer, script_for, scope_of, script_representation, answer_by, resource_answer, split_answer, text_answer, mapping, mapped_answer, is_post, posted_answer, rendered}
 
 -- ---- a representation isn't too long
 
@@ -41,7 +41,7 @@ either : (b : Bool) (x y : Answer) → Fits x → Fits y → Fits (cond b x y)
 either true x y p q = p
 either false x y p q = q
 
-page_by : (b : Bool) (kind : List ℕ) (mark : Mark) (body : List ℕ) → nat_le (length body) 4194304 ≡ b → Fits (cond b (answer_of 200 kind mark body) (error_answer 500))
+page_by : (b : Bool) (kind : List ℕ) (mark : Mark) (body : List ℕ) → nat_le (length body) 4194304 ≡ b → Fits (cond b (answer_with_body 200 kind mark body) (error_answer 500))
 page_by true kind mark body small e = grind (arith, nat_tests)
 page_by false kind mark body small e = error_fits 500 (λ h. absurd (omega (arith, h))) e
 
@@ -55,7 +55,7 @@ json_fits res TooLong = error_fits 500 (λ h. absurd (omega (arith, h)))
 
 depth_fits : (seen : Seen) (res : Resource) (depth : Option Depth) → Fits (json_to_depth seen res depth)
 depth_fits seen res None = error_fits 400 (λ h. absurd (omega (arith, h)))
-depth_fits seen res (Some depth) = json_fits res (json_answer seen res (levels_of depth) most_bytes)
+depth_fits seen res (Some depth) = json_fits res (json_answer seen res (levels_of depth) most_rendered_bytes)
 
 missing_fits : Fits (error_answer 404)
 missing_fits = error_fits 404 (λ h. absurd (omega (arith, h)))
@@ -106,9 +106,6 @@ rendered_fits tree ask read = subst Fits (sym (read_is tree ask read)) (mapped_f
 pub fits_as : {E : Type 0} (r : Result Answer E) (x : Answer) → Fits x → IfOk r (λ a. a ≡ x) → IfOk r (λ a. a.status ≡ 200 → length a.body ≤ 4194304)
 fits_as (Ok a) x fits is = subst Fits (sym is) fits
 fits_as (Err e) x fits is = tt
-
-pub redirect_fits : (status : ℕ) (target : List ℕ) → Fits (redirect status target)
-redirect_fits status target = λ e. omega arith
 
 -- ---- the host, the port and the path alone count
 

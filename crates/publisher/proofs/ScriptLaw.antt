@@ -13,27 +13,27 @@ use Rattle.url_split.specs.declared.decompose.Parts.{Parts}
 use Rattle.url_split.specs.Split.{split_of}
 use Rattle.type_chain.specs.Chain.{chain_of}
 use Rattle.type_chain.specs.declared.type_name.TypeName.{TypeName}
-use Rattle.script_rank.specs.Ranking.{HasNoCandidate, IsFirst, script_text}
+use Rattle.script_rank.specs.Ranking.{HasNoCandidate, IsFirstScript, script_text}
 use Rattle.script_rank.specs.Search.{search_result}
 use Rattle.htl_text.specs.declared.piece.Piece.{Piece}
 use Rattle.htl_text.specs.Template.{template_of, template_output as written_by}
 use Rattle.error_answers.specs.Errors.{error_answer}
-use Rattle.publisher.specs.Errors.{answer_of, redirect}
+use Rattle.publisher.specs.Errors.{answer_with_body, redirect}
 use Rattle.publisher.specs.Readings.{reading_in}
 use Rattle.overlay_merge.specs.Merged.{has_resource}
 use Rattle.publisher.proofs.RenderingLemmas.{read_is}
-use Rattle.publisher.specs.Rendering.{seen, answer_by, html_kind, is_read, mark_of, most_bytes, rendered, representation_of, resource_answer, scope_of, script_for, script_representation, split_answer, text_answer, mapped_answer, mapping}
+use Rattle.publisher.specs.Rendering.{seen, answer_by, html_kind, is_read, mark_of, most_rendered_bytes, rendered, representation_of, resource_answer, scope_of, script_for, script_representation, split_answer, text_answer, mapped_answer, mapping}
 
 -- the search gives the script that ranks first, where one does
 pub found_first : (tree : Content) (chain : List TypeName) (parts : Parts) (script : List (List ℕ)) (found : Option (List (List ℕ)))
-    → ((p q : List (List ℕ)) → IsFirst tree chain parts p → IsFirst tree chain parts q → p ≡ q)
-    → IfSome found (λ path. IsFirst tree chain parts path) → IfNone found (HasNoCandidate tree chain parts) → IsFirst tree chain parts script
+    → ((p q : List (List ℕ)) → IsFirstScript tree chain parts p → IsFirstScript tree chain parts q → p ≡ q)
+    → IfSome found (λ path. IsFirstScript tree chain parts path) → IfNone found (HasNoCandidate tree chain parts) → IsFirstScript tree chain parts script
     → found ≡ Some script
 found_first tree chain parts script (Some path) one some none first = ap (λ (p : List (List ℕ)). Some p) (one path script some first)
 found_first tree chain parts script None one some none first = absurd (none script first.key first.candidate)
 
-written_body : (small : Bool) (mark : Mark) (body : List ℕ) → nat_le (length body) most_bytes ≡ small
-    → (cond small (answer_of 200 html_kind mark body) (error_answer 500)).status ≡ 200 → (cond small (answer_of 200 html_kind mark body) (error_answer 500)).body ≡ body
+written_body : (small : Bool) (mark : Mark) (body : List ℕ) → nat_le (length body) most_rendered_bytes ≡ small
+    → (cond small (answer_with_body 200 html_kind mark body) (error_answer 500)).status ≡ 200 → (cond small (answer_with_body 200 html_kind mark body) (error_answer 500)).body ≡ body
 unfolding error_answer
 written_body true mark body is ok = refl
 written_body false mark body is ok = absurd (omega (arith, ok))
@@ -58,4 +58,4 @@ answer_is tree ask mapped parts res script text pieces read inside split there f
 
 pub body_is : (answer : Answer) (mark : Mark) (body : List ℕ) → answer ≡ representation_of html_kind mark body → answer.status ≡ 200 → answer.body ≡ body
 body_is answer mark body is ok =
-    ap (λ (a : Answer). a.body) is ∙ written_body (nat_le (length body) most_bytes) mark body refl (sym (ap (λ (a : Answer). a.status) is) ∙ ok)
+    ap (λ (a : Answer). a.body) is ∙ written_body (nat_le (length body) most_rendered_bytes) mark body refl (sym (ap (λ (a : Answer). a.status) is) ∙ ok)

@@ -25,10 +25,10 @@ use Rattle.publisher.specs.declared.templates.Reading.{Reading}
 use Rattle.publisher.specs.declared.templates.Reading.TheVariants.{Parsed, Refused}
 use Rattle.publisher.specs.Readings.{reading_of}
 use Rattle.error_answers.specs.Errors.{error_answer}
-use Rattle.publisher.specs.Errors.{answer_of}
+use Rattle.publisher.specs.Errors.{answer_with_body}
 use Rattle.publisher.specs.Depths.{depth_of}
 use Rattle.overlay_merge.specs.Merged.{has_resource}
-use Rattle.publisher.specs.Rendering.{seen, is_read, mark_of, most_bytes, representation_of, json_representation, json_to_depth, file_representation, is_json, is_bare, default_answer, script_for, scope_of, script_representation, answer_by, resource_answer, split_answer, mapping, mapped_answer, is_post, posted_answer, rendered}
+use Rattle.publisher.specs.Rendering.{seen, is_read, mark_of, most_rendered_bytes, representation_of, json_representation, json_to_depth, file_representation, is_json, is_bare, default_answer, script_for, scope_of, script_representation, answer_by, resource_answer, split_answer, mapping, mapped_answer, is_post, posted_answer, rendered}
 use Rattle.resource_tree.specs.declared.faults.TreeFault.{TreeFault}
 use Rattle.resource_tree.specs.declared.faults.TreeFault.TheVariants.{NoSuch, RootFixed, IntoItself, Exists, Taken, NoSibling, TooDeep, FullTree, NoMemory as NoMemoryOfTree}
 use Rattle.form_input.specs.Forms.{form_of}
@@ -44,8 +44,8 @@ use Rattle.publisher.specs.declared.refusal.Refusal.{Refusal}
 use Rattle.publisher.specs.declared.refusal.Refusal.TheVariants.{Status, NoMemory}
 use Rattle.publisher.specs.declared.targets.Target.{Target}
 use Rattle.publisher.proofs.RenderingLemmas.{error_fits, fits_as}
-use Rattle.publisher.specs.Refusals.{of_form, of_operation, of_plan, of_tree}
-use Rattle.publisher.specs.Posting.{Outcome, ◌>>=◌, or_bad_request, or_refused, posting, posting_answer, refusal_answer, target_of}
+use Rattle.publisher.specs.Refusals.{of_form, of_operation, of_plan, tree_refusal}
+use Rattle.publisher.specs.Posting.{PostOutcome, ◌>>=◌, or_bad_request, or_refused, posting, posting_answer, refusal_answer, post_target}
 
 abbrev pub Short : Answer → Type 0
 Short a = a.status ≤ 500
@@ -59,7 +59,7 @@ either true x y p q = p
 either false x y p q = q
 
 representation_short : (kind : List ℕ) (mark : Mark) (body : List ℕ) → Short (representation_of kind mark body)
-representation_short kind mark body = either (nat_le (length body) most_bytes) (answer_of 200 kind mark body) (error_answer 500) (omega arith) (error_short 500 (omega arith))
+representation_short kind mark body = either (nat_le (length body) most_rendered_bytes) (answer_with_body 200 kind mark body) (error_answer 500) (omega arith) (error_short 500 (omega arith))
 
 json_short : (res : Resource) (answer : JsonAnswer) → Short (json_representation res answer)
 json_short res (Whole text) = representation_short _ (mark_of res) text
@@ -68,7 +68,7 @@ json_short res TooLong = error_short 500 (omega arith)
 
 depth_short : (seen : Seen) (res : Resource) (depth : Option Depth) → Short (json_to_depth seen res depth)
 depth_short seen res None = error_short 400 (omega arith)
-depth_short seen res (Some depth) = json_short res (json_answer seen res (levels_of depth) most_bytes)
+depth_short seen res (Some depth) = json_short res (json_answer seen res (levels_of depth) most_rendered_bytes)
 
 missing_short : Short (error_answer 404)
 missing_short = error_short 404 (omega arith)
@@ -115,11 +115,11 @@ abbrev IsErrorRefusal : Refusal → Type 0
 IsErrorRefusal (Status status) = IsErrorStatus status
 IsErrorRefusal NoMemory = Unit {0}
 
-abbrev IsErrorOutcome : {A : Type 0} → Outcome A → Type 0
+abbrev IsErrorOutcome : {A : Type 0} → PostOutcome A → Type 0
 IsErrorOutcome (Ok x) = Unit {0}
 IsErrorOutcome (Err refusal) = IsErrorRefusal refusal
 
-next_short : {A B : Type 0} (step : Outcome A) (next : A → Outcome B) → IsErrorOutcome step → ((x : A) → IsErrorOutcome (next x)) → IsErrorOutcome (step >>= next)
+next_short : {A B : Type 0} (step : PostOutcome A) (next : A → PostOutcome B) → IsErrorOutcome step → ((x : A) → IsErrorOutcome (next x)) → IsErrorOutcome (step >>= next)
 next_short (Ok x) next p q = q x
 next_short (Err refusal) next p q = p
 
@@ -142,7 +142,7 @@ plan_short (BadHint name) = (omega arith, omega arith)
 plan_short (BadPath text) = (omega arith, omega arith)
 plan_short NoMemoryOfPlan = tt
 
-tree_short : (fault : TreeFault) → IsErrorRefusal (of_tree fault)
+tree_short : (fault : TreeFault) → IsErrorRefusal (tree_refusal fault)
 tree_short (NoSuch path) = (omega arith, omega arith)
 tree_short RootFixed = (omega arith, omega arith)
 tree_short IntoItself = (omega arith, omega arith)
@@ -166,13 +166,13 @@ target_short None = (omega arith, omega arith)
 posting_short : (tree : Content) (ask : Ask) (text : List ℕ) → IsErrorOutcome (posting tree ask text)
 unfolding posting
 posting_short tree ask text =
-    next_short _ _ (target_short (target_of tree text ask.slash)) (λ target.
+    next_short _ _ (target_short (post_target tree text ask.slash)) (λ target.
     next_short _ _ (refused_short of_form (form_of ask.kind ask.body) form_short) (λ pairs.
     next_short _ _ (refused_short of_plan (plan_of target.path target.star pairs) plan_short) (λ operation.
     refused_short of_operation (posted operation tree) operation_short)))
 
 pub refused_is : (tree : Content) (ask : Ask) (text : List ℕ) (status : ℕ) → posting tree ask text ≡ Err (Status status) → IsErrorStatus status
-refused_is tree ask text status is = subst (λ (outcome : Outcome Posted). IsErrorOutcome outcome) is (posting_short tree ask text)
+refused_is tree ask text status is = subst (λ (outcome : PostOutcome Posted). IsErrorOutcome outcome) is (posting_short tree ask text)
 
 status_apart : (status : ℕ) → Status status ≡ NoMemory → ⊥
 status_apart status e = cc
@@ -197,7 +197,7 @@ refusal_short : (refusal : Refusal) → IsErrorRefusal refusal → Short (refusa
 refusal_short (Status status) error = error_short status error.1
 refusal_short NoMemory error = error_short 500 (omega arith)
 
-outcome_short : (outcome : Outcome Posted) → IsErrorOutcome outcome → Short (posting_answer outcome)
+outcome_short : (outcome : PostOutcome Posted) → IsErrorOutcome outcome → Short (posting_answer outcome)
 outcome_short (Ok done) short = report_short done.report.created
 outcome_short (Err refusal) short = refusal_short refusal short
 

@@ -9,7 +9,7 @@ use Rattle.sp_base.specs.declared.answer.Ask.{Ask}
 use Rattle.sp_base.specs.declared.answer.Mark.TheVariants.{Plain}
 use Rattle.resource_tree.specs.Content.{Content}
 use Rattle.overlay_merge.specs.Merged.{has_resource}
-use Rattle.url_maps.specs.Locations.{location_of}
+use Rattle.url_maps.specs.Locations.{mapped_location}
 use Rattle.url_split.specs.declared.decompose.Parts.{Parts}
 use Rattle.url_split.specs.Split.{split_of}
 use Rattle.form_input.specs.Forms.{form_of}
@@ -23,17 +23,17 @@ use Rattle.publisher.specs.declared.targets.Target.{Target}
 use Rattle.publisher.specs.Refusals.{of_form, of_plan, of_operation}
 
 -- what a step of a POST gives, or why the POST is refused
-abbrev pub Outcome : Type 0 → Type 0
-Outcome A = Result A Refusal
+abbrev pub PostOutcome : Type 0 → Type 0
+PostOutcome A = Result A Refusal
 
 infixl 10 ◌>>=◌
 -- a step, and the next one with what the first gave
-abbrev pub ◌>>=◌ : {A B : Type 0} → Outcome A → (A → Outcome B) → Outcome B
+abbrev pub ◌>>=◌ : {A B : Type 0} → PostOutcome A → (A → PostOutcome B) → PostOutcome B
 (Ok x) >>= f = f x
 (Err e) >>= f = Err e
 
 -- what a crate below gives, its fault as a refusal
-abbrev pub or_refused : {A E : Type 0} → (E → Refusal) → Result A E → Outcome A
+abbrev pub or_refused : {A E : Type 0} → (E → Refusal) → Result A E → PostOutcome A
 or_refused refusal (Ok x) = Ok x
 or_refused refusal (Err e) = Err (refusal e)
 
@@ -60,11 +60,11 @@ abbrev pub starred : List ℕ → Option Target
 starred text = option_map (λ path. target_at true (parent_of path)) (path_in text)
 
 -- the target of a text: a new node below it is wished where its last segment is `*`, and else where a slash stood at its end
-abbrev pub target_of : Content → List ℕ → Bool → Option Target
-target_of tree text slash = if ends_in_star text then starred text else option_map (target_at slash) (named_path tree text)
+abbrev pub post_target : Content → List ℕ → Bool → Option Target
+post_target tree text slash = if ends_in_star text then starred text else option_map (target_at slash) (named_path tree text)
 
 -- the target, or Bad Request where there is none (RFC 9110, section 15.5.1)
-abbrev pub or_bad_request : Option Target → Outcome Target
+abbrev pub or_bad_request : Option Target → PostOutcome Target
 or_bad_request (Some target) = Ok target
 or_bad_request None = Err (Status 400)
 
@@ -72,9 +72,9 @@ or_bad_request None = Err (Status 400)
 
 -- what a POST to a text gives: its target, its form, the operation that the form asks for, and what that makes of the content; or the first
 -- cause for which it is refused
-unfoldable pub posting : Content → Ask → List ℕ → Outcome Posted
+unfoldable pub posting : Content → Ask → List ℕ → PostOutcome Posted
 posting tree ask text = do
-  target ← or_bad_request (target_of tree text ask.slash)
+  target ← or_bad_request (post_target tree text ask.slash)
   pairs ← or_refused of_form (form_of ask.kind ask.body)
   operation ← or_refused of_plan (plan_of target.path target.star pairs)
   or_refused of_operation (posted operation tree)
@@ -87,7 +87,7 @@ report_status report = if report.created then 201 else 200
 
 -- the place of a new node (RFC 9110, section 10.2.2)
 abbrev pub report_location : PostReport → List ℕ
-report_location report = if report.created then location_of (text_of report.path) else []
+report_location report = if report.created then mapped_location (text_of report.path) else []
 
 -- the status code and the path in a line of text
 abbrev pub report_line : PostReport → List ℕ
@@ -108,11 +108,11 @@ refusal_answer (Status status) = error_answer status
 refusal_answer NoMemory = error_answer 500
 
 -- the answer to a POST
-abbrev pub posting_answer : Outcome Posted → Answer
+abbrev pub posting_answer : PostOutcome Posted → Answer
 posting_answer (Ok done) = report_answer done.report
 posting_answer (Err refusal) = refusal_answer refusal
 
 -- the content after a POST: as before where it is refused
-abbrev pub posting_content : Content → Outcome Posted → Content
+abbrev pub posting_content : Content → PostOutcome Posted → Content
 posting_content tree (Ok done) = done.content
 posting_content tree (Err refusal) = tree

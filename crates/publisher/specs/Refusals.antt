@@ -29,20 +29,20 @@ of_plan (BadPath text) = Status 400
 of_plan NoMemoryOfPlan = NoMemory
 
 -- a node that isn't there isn't found; what else the tree refuses is a conflict
-abbrev pub of_tree : TreeFault → Refusal
-of_tree (NoSuch path) = Status 404
-of_tree RootFixed = Status 409
-of_tree IntoItself = Status 409
-of_tree (Exists path) = Status 409
-of_tree (Taken path) = Status 409
-of_tree NoSibling = Status 409
-of_tree TooDeep = Status 409
-of_tree FullTree = Status 409
-of_tree NoMemoryOfTree = NoMemory
+abbrev pub tree_refusal : TreeFault → Refusal
+tree_refusal (NoSuch path) = Status 404
+tree_refusal RootFixed = Status 409
+tree_refusal IntoItself = Status 409
+tree_refusal (Exists path) = Status 409
+tree_refusal (Taken path) = Status 409
+tree_refusal NoSibling = Status 409
+tree_refusal TooDeep = Status 409
+tree_refusal FullTree = Status 409
+tree_refusal NoMemoryOfTree = NoMemory
 
 -- words that are no value of their type are a bad request; a goal that is there and isn't to be replaced fails a precondition
 abbrev pub of_operation : ApplyFault → Refusal
-of_operation (Tree fault) = of_tree fault
+of_operation (Tree fault) = tree_refusal fault
 of_operation (Value name fault) = Status 400
 of_operation (DestThere path) = Status 412
 of_operation NoMemoryOfOperation = NoMemory

@@ -30,7 +30,7 @@ use Rattle.publisher.specs.declared.templates.Reading.{Reading}
 use Rattle.publisher.specs.declared.templates.Reading.TheVariants.{Parsed, Refused}
 use Rattle.publisher.specs.Readings.{reading_of}
 use Rattle.error_answers.specs.Errors.{error_answer}
-use Rattle.publisher.specs.Errors.{answer_of, redirect}
+use Rattle.publisher.specs.Errors.{answer_with_body, redirect}
 use Rattle.publisher.specs.Depths.{depth_of}
 use Rattle.publisher.specs.Choices.{choices_text}
 use Rattle.publisher.specs.Posting.{posting, posting_answer, posting_content}
@@ -55,12 +55,12 @@ abbrev pub mark_of : Resource → Mark
 mark_of res = mark_in (text_in res.props (codes "sp:mark"))
 
 -- the most bytes of a representation
-abbrev pub most_bytes : ℕ
-most_bytes = 4194304
+abbrev pub most_rendered_bytes : ℕ
+most_rendered_bytes = 4194304
 
 -- a representation of at most 4,194,304 bytes; a longer one is an error
 abbrev pub representation_of : List ℕ → Mark → List ℕ → Answer
-representation_of kind mark body = if nat_le (length body) most_bytes then answer_of 200 kind mark body else error_answer 500
+representation_of kind mark body = if nat_le (length body) most_rendered_bytes then answer_with_body 200 kind mark body else error_answer 500
 
 abbrev pub json_kind : List ℕ
 json_kind = codes "application/json;charset=utf-8"
@@ -68,13 +68,13 @@ json_kind = codes "application/json;charset=utf-8"
 -- the JSON text, or the targets that may be asked for instead
 abbrev pub json_representation : Resource → JsonAnswer → Answer
 json_representation res (Whole text) = representation_of json_kind (mark_of res) text
-json_representation res (Over most) = answer_of 300 json_kind Plain (choices_text res.path most)
+json_representation res (Over most) = answer_with_body 300 json_kind Plain (choices_text res.path most)
 json_representation res TooLong = error_answer 500
 
 -- a resource as JSON at the depth that is asked for, if one is
 abbrev pub json_to_depth : Seen → Resource → Option Depth → Answer
 json_to_depth seen res None = error_answer 400
-json_to_depth seen res (Some depth) = json_representation res (json_answer seen res (levels_of depth) most_bytes)
+json_to_depth seen res (Some depth) = json_representation res (json_answer seen res (levels_of depth) most_rendered_bytes)
 
 -- the content of a file
 abbrev pub file_representation : Resource → Option Stream → Answer
@@ -161,5 +161,5 @@ rendered tree ask = if is_read ask.method then mapped_answer tree (mapping tree 
     else (if is_post ask.method then posted_answer tree ask (mapping tree ask) else error_answer 405)
 
 -- the content after a request: no other method than POST changes it
-unfoldable pub content_after : Content → Ask → Content
-content_after tree ask = if is_post ask.method then posted_content tree ask (mapping tree ask) else tree
+unfoldable pub content_after_request : Content → Ask → Content
+content_after_request tree ask = if is_post ask.method then posted_content tree ask (mapping tree ask) else tree

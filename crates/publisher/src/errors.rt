@@ -1,6 +1,6 @@
 //! Answers of a media type and a body, and those that lead elsewhere.
 ghost use Rattle.std.specs.Prelude.{◌≡◌, IfOk};
-ghost use Rattle.publisher.specs.Errors.{answer_of, redirect};
+ghost use Rattle.publisher.specs.Errors.{answer_with_body, redirect};
 
 use sp_base::{Answer, ByteBuf, Mark, Mem, TextBuf};
 use std::alloc::Global;
@@ -14,7 +14,7 @@ pub(crate) fn answer_of(
     mark: Mark,
     body: ByteBuf,
 ) -> Mem<Answer>
-    ensures { IfOk result (λ a. a ≡ answer_of status kind.now mark body) }
+    ensures { IfOk result (λ a. a ≡ answer_with_body status kind.now mark body) }
 {
     Ok(Answer {
         status,

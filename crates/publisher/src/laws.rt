@@ -10,13 +10,13 @@ ghost use Rattle.url_maps.specs.declared.answer.MapAnswer.TheVariants.{Inside, A
 ghost use Rattle.url_split.specs.declared.decompose.Parts.{Parts};
 ghost use Rattle.url_split.specs.Split.{IsSplit};
 ghost use Rattle.type_chain.specs.Chain.{chain_of};
-ghost use Rattle.script_rank.specs.Ranking.{IsFirst, script_text};
+ghost use Rattle.script_rank.specs.Ranking.{IsFirstScript, script_text};
 ghost use Rattle.htl_text.specs.declared.piece.Piece.{Piece};
 ghost use Rattle.htl_text.specs.Spelling.{SpellsTemplate};
 ghost use Rattle.htl_text.specs.Template.{template_output as written_by};
 ghost use Rattle.error_answers.specs.Errors.{error_answer};
 ghost use Rattle.publisher.specs.Errors.{redirect};
-ghost use Rattle.publisher.specs.Rendering.{content_after, is_read, rendered, scope_of, seen};
+ghost use Rattle.publisher.specs.Rendering.{content_after_request, is_read, rendered, scope_of, seen};
 
 use htl_text::the_pieces_are_the_text;
 use script_rank::{one_script_is_first, search_finds_the_first};
@@ -30,12 +30,12 @@ pub fn reads_depend_on_host_port_and_path()
 
 /// A GET and a HEAD change nothing (RFC 9110, section 9.2.1).
 pub fn reads_change_nothing()
-    ensures { (tree : Content) (ask : Ask) → is_read ask.method ≡ true → content_after tree ask ≡ tree }
+    ensures { (tree : Content) (ask : Ask) → is_read ask.method ≡ true → content_after_request tree ask ≡ tree }
 {}
 
 /// What is answered neither 200 nor 201 changes nothing: a POST is done whole or not at all.
 pub fn refusals_change_nothing()
-    ensures { (tree : Content) (ask : Ask) → (rendered tree ask).status ≢ 200 → (rendered tree ask).status ≢ 201 → content_after tree ask ≡ tree }
+    ensures { (tree : Content) (ask : Ask) → (rendered tree ask).status ≢ 200 → (rendered tree ask).status ≢ 201 → content_after_request tree ask ≡ tree }
 {}
 
 /// A representation has at most 4,194,304 bytes. (That a 200 to a POST has no more either is a clause of `Publisher::answer`.)
@@ -66,7 +66,7 @@ pub fn a_script_writes_its_pieces()
     ensures { (tree : Content) (ask : Ask) (mapped : List ℕ) (parts : Parts) (res : Resource) (script : List (List ℕ)) (text : List ℕ) (pieces : List Piece)
         → IsGood tree → is_read ask.method ≡ true → IsMapped tree ask.host ask.port (text_of ask.path) (Inside mapped)
         → IsSplit (has_resource tree) mapped parts → seen tree parts.path ≡ Some res
-        → IsFirst tree (chain_of tree res.props) parts script → script_text tree script ≡ Some text → SpellsTemplate text pieces []
+        → IsFirstScript tree (chain_of tree res.props) parts script → script_text tree script ≡ Some text → SpellsTemplate text pieces []
         → (rendered tree ask).status ≡ 200 → (rendered tree ask).body ≡ written_by (scope_of res) pieces }
 {
     the_answer_is_mapped();

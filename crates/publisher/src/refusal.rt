@@ -1,6 +1,6 @@
 //! Why a POST changes nothing.
 ghost use Rattle.std.specs.Prelude.{◌≡◌};
-ghost use Rattle.publisher.specs.Refusals.{of_tree};
+ghost use Rattle.publisher.specs.Refusals.{tree_refusal};
 ghost use Rattle.publisher.specs.declared.refusal.Refusal.TheVariants.{NoMemory as no_memory};
 
 use form_input::FormFault;
@@ -60,7 +60,7 @@ impl From<PlanFault> for Refusal {
 }
 
 fn of_tree(fault: TreeFault) -> Refusal
-    ensures { result ≡ of_tree fault }
+    ensures { result ≡ tree_refusal fault }
 {
     match fault {
         TreeFault::NoSuch(_) => Refusal::Status(404),

@@ -3,7 +3,7 @@ ghost use Rattle.std.specs.Prelude.{◌≡◌, ◌≤◌, IfOk, OnOk, OnErr, len
 ghost use Rattle.resource_tree.specs.Content.{IsGood};
 ghost use Rattle.url_maps.specs.Claims.{IsIndexOf};
 ghost use Rattle.publisher.specs.Kept.{IsIndexFor};
-ghost use Rattle.publisher.specs.Rendering.{seen, mapped_answer, mapping, text_answer, resource_answer, rendered, content_after};
+ghost use Rattle.publisher.specs.Rendering.{seen, mapped_answer, mapping, text_answer, resource_answer, rendered, content_after_request};
 
 use crate::errors::redirect;
 use crate::methods::{is_post, is_read};
@@ -72,7 +72,7 @@ impl Publisher {
     /// What a request is answered. A POST that isn't refused changes the tree.
     pub fn answer(&mut self, alloc: Global, ask: &Ask) -> Mem<Answer>
         ensures ok { IfOk result (λ a. a ≡ rendered self.old ask.now) }
-        ensures after { OnOk result (self.new ≡ content_after self.old ask.now) }
+        ensures after { OnOk result (self.new ≡ content_after_request self.old ask.now) }
         ensures unchanged { OnErr result (self.new ≡ self.old) }
         ensures good { IsGood self.new }
         ensures fits { IfOk result (λ a. a.status ≡ 200 → length a.body ≤ 4194304) }
@@ -83,10 +83,10 @@ impl Publisher {
         answer
     }
 
-    #[tactic(auto, unfolding(crate::specs::Rendering::rendered, crate::specs::Rendering::content_after))]
+    #[tactic(auto, unfolding(crate::specs::Rendering::rendered, crate::specs::Rendering::content_after_request))]
     fn answer_by_method(&mut self, alloc: Global, ask: &Ask) -> Mem<Answer>
         ensures ok { IfOk result (λ a. a ≡ rendered self.old ask.now) }
-        ensures after { OnOk result (self.new ≡ content_after self.old ask.now) }
+        ensures after { OnOk result (self.new ≡ content_after_request self.old ask.now) }
         ensures unchanged { OnErr result (self.new ≡ self.old) }
         ensures fits { IfOk result (λ a. a.status ≡ 200 → length a.body ≤ 4194304) }
     {

@@ -56,7 +56,7 @@ fn starred(alloc: Global, text: &str) -> Mem<Option<Target>>
 
 /// The target of a text; `slash` says that a slash at its end was dropped.
 pub(crate) fn target_of(alloc: Global, tree: &Tree, text: &str, slash: bool) -> Mem<Option<Target>>
-    ensures { IfOk result (λ o. o ≡ spec.target_of tree.now text.now slash) }
+    ensures { IfOk result (λ o. o ≡ spec.post_target tree.now text.now slash) }
 {
     if ends_in_star(text) {
         return starred(alloc, text);

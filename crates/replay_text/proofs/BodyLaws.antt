@@ -3,7 +3,7 @@ use Rattle.std.proofs.Common.{◌≡◌, ◌≢◌, ◌+◌, ◌≤◌, ◌++◌
 use Rattle.replay_text.specs.Lines.{newlines, text_of_lines}
 use Rattle.replay_text.specs.Languages.{IsRefused}
 use Rattle.replay_text.specs.Scenario.{act_lines, SpellsScenario, IsScenario}
-use Rattle.replay_text.specs.Reading.{SpellsBody, SpellsTail, IsTail, IsBody, IsContent, EndsBlock, Refuses, fault_further, FirstLine, Lacks}
+use Rattle.replay_text.specs.Reading.{SpellsBody, SpellsTail, IsTail, IsContentBody, IsContent, EndsBlock, Refuses, fault_further, FirstLine, LacksLine}
 use Rattle.replay_text.specs.declared.scenario.ScenarioFault.{ScenarioFault}
 use Rattle.replay_text.specs.declared.scenario.ScenarioFault.TheVariants.{Line, NoMemory}
 use Rattle.replay_text.specs.declared.scenario.Scenario.{Scenario}
@@ -27,7 +27,7 @@ body_whole text at count s b content t = record {
 }
 
 -- a body of one is a body
-body_is : (text : List ℕ) (s : Scenario) → SpellsBody text s → IsBody text
+body_is : (text : List ℕ) (s : Scenario) → SpellsBody text s → IsContentBody text
 body_is text s p = record {
   block = p.block;
   are = p.content.are;
@@ -38,7 +38,7 @@ body_is text s p = record {
 }
 
 -- a body is that of some scenario
-body_spelled : (text : List ℕ) → IsBody text → (s : Scenario) × SpellsBody text s
+body_spelled : (text : List ℕ) → IsContentBody text → (s : Scenario) × SpellsBody text s
 body_spelled text b =
     let t = tail_spelled b.rest b.goes_on in
     let s : Scenario = record { content = text_of_lines b.block; farm = t.farm; acts = t.bytes } in (
@@ -55,7 +55,7 @@ body_spelled text b =
       },
     )
 
-pub some_body : IsBody (text_of_lines (codes "." ∷ act_lines []))
+pub some_body : IsContentBody (text_of_lines (codes "." ∷ act_lines []))
 some_body = before_dot IsTail (text_of_lines (act_lines [])) some_tail
 
 -- the head
@@ -82,15 +82,15 @@ before_first r (body, b, e) =
     let p = body_spelled body b in
     (p.0, scenario_of_body (codes "scenario 1" ++ 10 ∷ r) body p.0 p.1 (ap (λ t. codes "scenario 1" ++ 10 ∷ t) e))
 
-pub behind_content : (r : List ℕ) → IsContent (codes "content" ++ 10 ∷ r) → IsBody r
-behind_content r (body, b, e) = subst IsBody (sym (one_first_line (codes "content") (codes "content") r body refl refl e).1) b
+pub behind_content : (r : List ℕ) → IsContent (codes "content" ++ 10 ∷ r) → IsContentBody r
+behind_content r (body, b, e) = subst IsContentBody (sym (one_first_line (codes "content") (codes "content") r body refl refl e).1) b
 
-pub before_content : (r : List ℕ) → IsBody r → IsContent (codes "content" ++ 10 ∷ r)
+pub before_content : (r : List ℕ) → IsContentBody r → IsContent (codes "content" ++ 10 ∷ r)
 before_content r b = (r, b, refl)
 
 -- a text that lacks the first line which each text of the language has
 pub refused_first : (A : List ℕ → Type 0) (want text : List ℕ) → newlines want ≡ 0
-    → ((t : List ℕ) → A t → (r : List ℕ) × (t ≡ want ++ 10 ∷ r)) → Lacks want text → IsRefused A text 0
+    → ((t : List ℕ) → A t → (r : List ℕ) × (t ≡ want ++ 10 ∷ r)) → LacksLine want text → IsRefused A text 0
 refused_first A want text one has lacks = ⊎_elim
     (λ (none : newlines text ≡ 0). refused_end A text none (λ h.
     let w = has text h in
@@ -107,7 +107,7 @@ scenario_has_first t (s, p) = (codes "content" ++ 10 ∷ text_of_lines (p.block 
 content_has_first : (t : List ℕ) → IsContent t → (r : List ℕ) × (t ≡ codes "content" ++ 10 ∷ r)
 content_has_first t (body, b, e) = (body, e)
 
-pub refused_at_first : (text : List ℕ) → Lacks (codes "scenario 1") text → IsRefused IsScenario text 0
+pub refused_at_first : (text : List ℕ) → LacksLine (codes "scenario 1") text → IsRefused IsScenario text 0
 refused_at_first text l = refused_first IsScenario (codes "scenario 1") text refl scenario_has_first l
 
 behind_head : (text rest : List ℕ) (n : ℕ) → text ≡ codes "scenario 1" ++ 10 ∷ rest → IsRefused IsContent rest n → IsRefused IsScenario text (1 + n)
@@ -115,18 +115,18 @@ behind_head text rest n e h = subst (λ t. IsRefused IsScenario t (1 + n)) (sym 
     (after_line IsScenario IsContent (codes "scenario 1") rest n refl behind_first before_first
     (codes "content" ++ 10 ∷ text_of_lines (codes "." ∷ act_lines [])) (before_content (text_of_lines (codes "." ∷ act_lines [])) some_body) h)
 
-pub refused_at_second : (text first : List ℕ) → text ≡ codes "scenario 1" ++ 10 ∷ first → Lacks (codes "content") first → IsRefused IsScenario text 1
+pub refused_at_second : (text first : List ℕ) → text ≡ codes "scenario 1" ++ 10 ∷ first → LacksLine (codes "content") first → IsRefused IsScenario text 1
 refused_at_second text first e l = behind_head text first 0 e (refused_first IsContent (codes "content") first refl content_has_first l)
 
 pub refused_in_body : (text first body : List ℕ) (n : ℕ) → text ≡ codes "scenario 1" ++ 10 ∷ first → first ≡ codes "content" ++ 10 ∷ body
-    → IsRefused IsBody body n → IsRefused IsScenario text (n + 2)
+    → IsRefused IsContentBody body n → IsRefused IsScenario text (n + 2)
 refused_in_body text first body n e k h =
-    let r = after_line IsContent IsBody (codes "content") body n refl behind_content before_content (text_of_lines (codes "." ∷ act_lines [])) some_body h in
+    let r = after_line IsContent IsContentBody (codes "content") body n refl behind_content before_content (text_of_lines (codes "." ∷ act_lines [])) some_body h in
     let count : 1 + (1 + n) ≡ n + 2 = omega arith in
     subst (λ m. IsRefused IsScenario text m) count (behind_head text first (1 + n) e (subst (λ t. IsRefused IsContent t (1 + n)) (sym k) r))
 
 pub refuses_in_body : (text first body : List ℕ) (fault : ScenarioFault) → text ≡ codes "scenario 1" ++ 10 ∷ first → first ≡ codes "content" ++ 10 ∷ body
-    → Refuses IsBody body fault → Refuses IsScenario text (fault_further fault 2)
+    → Refuses IsContentBody body fault → Refuses IsScenario text (fault_further fault 2)
 refuses_in_body text first body (Line n) e k h =
     (refused_in_body text first body n e k h.0, omega (arith, ap length e, ap length k, h.1))
 refuses_in_body text first body NoMemory e k h = tt

@@ -5,7 +5,7 @@ use Rattle.std.proofs.lemmas.Bool.{cases_eq, cases_lt}
 use Rattle.std.proofs.lemmas.Bool.Decides.{nat_tests}
 use Rattle.replay_text.specs.Transcript.{hex, quoted_byte, quotation}
 use Rattle.replay_text.specs.EventLines.{AreBytes}
-use Rattle.replay_text.specs.Quoting.{unhex, named, value_of, BeginsNoByte}
+use Rattle.replay_text.specs.Quoting.{unhex, escaped_byte, spelled_byte, BeginsNoByte}
 
 unhex_small : (n : ℕ) → n < 10 → unhex (hex n) ≡ n
 unhex_small n lt = grind (arith, nat_tests)
@@ -21,18 +21,18 @@ rest_of : List ℕ → List ℕ
 rest_of text = if get_or text 0 0 == 92 then (if get_or text 1 0 == 120 then drop 4 text else drop 2 text) else drop 1 text
 
 record Spelled (text : List ℕ) (b : ℕ) (r : List ℕ) : Type 0 where
-  value : value_of text ≡ b
+  value : spelled_byte text ≡ b
   rest : rest_of text ≡ r
   begins : get_or text 0 0 ≢ 34
 
 told_plain : (b : ℕ) (r : List ℕ) → b ≢ 34 → b ≢ 92 → Spelled (b ∷ r) b r
-unfolding value_of rest_of
+unfolding spelled_byte rest_of
 told_plain b r quote slash =
     let t : eqb b 92 ≡ false = grind (arith, nat_tests) in
     record { value = rw t refl; rest = rw t refl; begins = quote }
 
 told_hex : (b : ℕ) (r : List ℕ) → Spelled (codes "\\x" ++ hex (b / 16) ∷ hex (b % 16) ∷ r) b r
-unfolding value_of rest_of named
+unfolding spelled_byte rest_of escaped_byte
 told_hex b r = record { value = omega (arith, unhex-hex (b / 16), unhex-hex (b % 16)); rest = refl; begins = omega arith }
 
 told_other : (b : ℕ) (r : List ℕ) → b ≢ 34 → b ≢ 92 → (visible : Bool) →
@@ -51,14 +51,14 @@ told_at n spelling r here b other there = ⊎_elim
     rw t (there apart))
     (cases_eq b n)
 
-told_letter : (n letter : ℕ) (r : List ℕ) → named letter (get_or r 0 0) (get_or r 1 0) ≡ n → letter ≢ 120 → Spelled (92 ∷ letter ∷ r) n r
-unfolding value_of rest_of
+told_letter : (n letter : ℕ) (r : List ℕ) → escaped_byte letter (get_or r 0 0) (get_or r 1 0) ≡ n → letter ≢ 120 → Spelled (92 ∷ letter ∷ r) n r
+unfolding spelled_byte rest_of
 told_letter n letter r e apart =
     let t : eqb letter 120 ≡ false = grind (arith, nat_tests) in
     record { value = e; rest = rw t refl; begins = omega arith }
 
 told_escape : (b : ℕ) (r : List ℕ) → Spelled (quoted_byte b ++ r) b r
-unfolding named
+unfolding escaped_byte
 told_escape b r =
     told_at 34 (92 ∷ 34 ∷ []) r (told_letter 34 34 r refl (omega arith)) b _ (λ quote.
     told_at 92 (92 ∷ 92 ∷ []) r (told_letter 92 92 r refl (omega arith)) b _ (λ slash.
@@ -71,7 +71,7 @@ one_escape : (b c : ℕ) (r s : List ℕ) → quoted_byte b ++ r ≡ quoted_byte
 one_escape b c r s e =
     let x = told_escape b r in
     let y = told_escape c s in
-    (sym x.value ∙ ap value_of e ∙ y.value, sym x.rest ∙ ap rest_of e ∙ y.rest)
+    (sym x.value ∙ ap spelled_byte e ∙ y.value, sym x.rest ∙ ap rest_of e ∙ y.rest)
 
 no_quote : (b : ℕ) (r s : List ℕ) → quoted_byte b ++ r ≡ 34 ∷ s → ⊥
 no_quote b r s e = (told_escape b r).begins (ap (λ t. get_or t 0 0) e)
@@ -96,8 +96,8 @@ pub one_quoted : (x y r s : List ℕ) → quotation x ++ r ≡ quotation y ++ s 
 one_quoted x y r s e = one_escaped x y r s (ap (drop 1) (sym (quoted_then x r) ∙ e ∙ quoted_then y s))
 
 -- a text that begins with the spelling of a byte has that byte as its value
-pub value_of-spelled : (text : List ℕ) (b : ℕ) (rest : List ℕ) → text ≡ quoted_byte b ++ rest → value_of text ≡ b
-value_of-spelled text b rest e = ap value_of e ∙ (told_escape b rest).value
+pub value_of-spelled : (text : List ℕ) (b : ℕ) (rest : List ℕ) → text ≡ quoted_byte b ++ rest → spelled_byte text ≡ b
+value_of-spelled text b rest e = ap spelled_byte e ∙ (told_escape b rest).value
 
 either : (t : Bool) (x y : List ℕ) → 0 < length x → 0 < length y → 0 < length (if t then x else y)
 either true x y p q = p

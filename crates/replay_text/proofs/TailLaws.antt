@@ -6,7 +6,7 @@ use Rattle.replay_text.specs.Lines.{newlines, text_of_lines}
 use Rattle.replay_text.specs.Languages.{IsPrefixIn, IsRefused}
 use Rattle.replay_text.specs.EventLines.{line_of}
 use Rattle.replay_text.specs.Scenario.{AreActs, IsActs, IsFarm, act_lines}
-use Rattle.replay_text.specs.Reading.{BlockThen, FarmThenActs, IsTail, SpellsActs, SpellsTail, SpellsFarm, EndsBlock, Refuses, fault_further, Lacks, Acts}
+use Rattle.replay_text.specs.Reading.{BlockThen, FarmThenActs, IsTail, SpellsActs, SpellsTail, SpellsFarm, EndsBlock, Refuses, fault_further, LacksLine, Acts}
 use Rattle.replay_text.specs.declared.event_line.EventLine.{EventLine}
 use Rattle.replay_text.specs.declared.scenario.ScenarioFault.{ScenarioFault}
 use Rattle.replay_text.specs.declared.scenario.ScenarioFault.TheVariants.{Line, NoMemory}
@@ -30,12 +30,12 @@ refused_there A text n r start apart (suc k) le one not =
     (λ begins. apart (sym (r.first k (omega arith) begins (λ h. not (subst (λ j. IsPrefixIn A (take j text)) next h))) ∙ here))
 
 -- a text that lacks a line doesn't begin with it
-lacks_it : (want text r : List ℕ) → newlines want ≡ 0 → Lacks want text → text ≡ want ++ 10 ∷ r → ⊥
+lacks_it : (want text r : List ℕ) → newlines want ≡ 0 → LacksLine want text → text ≡ want ++ 10 ∷ r → ⊥
 lacks_it want text r one (inl none) e = absurd (omega (arith, ap newlines e, newlines-append want (10 ∷ r), none))
 lacks_it want text r one (inr l) e = l.3 (one_first_line l.0 want l.1 r l.2.one one (sym l.2.is ∙ e)).0
 
 -- where a prefix of it begins such a text, it ends within that line
-prefix_lacks : (want text : List ℕ) (k : ℕ) (more r : List ℕ) → newlines want ≡ 0 → Lacks want text → take k text ++ more ≡ want ++ 10 ∷ r → newlines (take k text) ≡ 0
+prefix_lacks : (want text : List ℕ) (k : ℕ) (more r : List ℕ) → newlines want ≡ 0 → LacksLine want text → take k text ++ more ≡ want ++ 10 ∷ r → newlines (take k text) ≡ 0
 prefix_lacks want text k more r one (inl none) e = newlines-take k text none
 prefix_lacks want text k more r one (inr l) e = ⊎_elim
     (λ (le : k < length l.0 + 1).
@@ -61,7 +61,7 @@ first_line_zero A text n k r start le one not = ⊎_elim
 
 -- A text of another language that begins with a line which isn't there changes no refusal.
 pub refused_or : (A B : List ℕ → Type 0) (want text : List ℕ) (n : ℕ) → newlines want ≡ 0 → ((t : List ℕ) → B t → (r : List ℕ) × (t ≡ want ++ 10 ∷ r))
-    → IsPrefixIn A [] → Lacks want text → IsRefused A text n → IsRefused (λ t. A t ⊎ B t) text n
+    → IsPrefixIn A [] → LacksLine want text → IsRefused A text n → IsRefused (λ t. A t ⊎ B t) text n
 refused_or A B want text n one has start lacks r = record {
   none = ⊎_elim (λ (a : A text). r.none a) (λ (b : B text). lacks_it want text (has text b).0 one lacks (has text b).1);
   first = λ at lt begins not. ⊎_elim
@@ -105,7 +105,7 @@ pub some_tail : IsTail (text_of_lines (act_lines []))
 some_tail = inl no_acts
 
 -- no farm: the acts are refused where they are
-pub refuses_acts : (text : List ℕ) (fault : ScenarioFault) → Lacks (codes "farm") text → Refuses Acts text fault → Refuses IsTail text fault
+pub refuses_acts : (text : List ℕ) (fault : ScenarioFault) → LacksLine (codes "farm") text → Refuses Acts text fault → Refuses IsTail text fault
 refuses_acts text (Line n) lacks r =
     (refused_or Acts FarmThenActs (codes "farm") text n refl farm_begins (text_of_lines (act_lines []), no_acts) lacks r.0, r.1)
 refuses_acts text NoMemory lacks r = tt
@@ -121,9 +121,6 @@ refuses_farm text block (Line n) e r =
 refuses_farm text block NoMemory e r = tt
 
 -- ---- what a tail spells
-
-pub tail_without_farm : (text bytes : List ℕ) → SpellsActs text bytes → SpellsTail text None bytes
-tail_without_farm text bytes s = record { lines = []; farm_is = refl; acts = s.acts; acts_are = s.acts_are; text_is = s.text_is }
 
 list_assoc : (a b c : List (List ℕ)) → (a ++ b) ++ c ≡ a ++ (b ++ c)
 list_assoc [] b c = refl

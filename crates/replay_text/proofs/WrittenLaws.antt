@@ -21,7 +21,3 @@ one_text text s p =
     = text_of_lines-append p.block (codes "." ∷ (p.farm_lines ++ act_lines p.acts)) ∙ ap (λ t. t ++ (codes ".\n" ++ text_of_lines (p.farm_lines ++ act_lines p.acts))) (sym p.content.bytes_are)
     ∙ ap (λ t. s.content ++ (codes ".\n" ++ t)) tail in
     p.text_is ∙ ap (λ t. codes "scenario 1\ncontent\n" ++ t) body
-
--- what is written spells the scenario, where some text does
-pub written_spells : (text : List ℕ) (s : Scenario) → text ≡ scenario_text s → IsSpelled s → SpellsScenario text s
-written_spells text s e (spelled, p) = subst (λ t. SpellsScenario t s) (one_text spelled s p ∙ sym e) p

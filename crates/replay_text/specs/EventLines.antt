@@ -9,12 +9,12 @@ use Rattle.replay_text.specs.declared.event_line.Flight.{Flight}
 use Rattle.replay_text.specs.declared.event_line.Flight.TheVariants.{First, Numbered}
 
 -- a visible byte of ASCII
-abbrev pub is_visible : ℕ → Bool
-is_visible b = nat_le 33 b && nat_le b 126
+abbrev pub is_visible_byte : ℕ → Bool
+is_visible_byte b = nat_le 33 b && nat_le b 126
 
 -- a target: one or more visible bytes
 abbrev pub is_target : List ℕ → Bool
-is_target text = not (length text == 0) && list_all is_visible text
+is_target text = not (length text == 0) && list_all is_visible_byte text
 
 -- a flight: the first there is, or that of a number
 abbrev pub flight_text : Flight → List ℕ

@@ -11,13 +11,13 @@ abbrev pub unhex : ℕ → ℕ
 unhex d = if nat_lt d 58 then d - 48 else d - 87
 
 -- the byte that a letter after a backslash stands for, where two digits may follow
-unfoldable pub named : ℕ → ℕ → ℕ → ℕ
-named letter high low = if letter == 34 then 34 else (if letter == 92 then 92 else (if letter == 114 then 13 else (if letter == 110 then 10 else
+unfoldable pub escaped_byte : ℕ → ℕ → ℕ → ℕ
+escaped_byte letter high low = if letter == 34 then 34 else (if letter == 92 then 92 else (if letter == 114 then 13 else (if letter == 110 then 10 else
     (if letter == 116 then 9 else 16 * unhex high + unhex low))))
 
 -- the byte whose spelling begins the text, where one does
-unfoldable pub value_of : List ℕ → ℕ
-value_of text = if get_or text 0 0 == 92 then named (get_or text 1 0) (get_or text 2 0) (get_or text 3 0) else get_or text 0 0
+unfoldable pub spelled_byte : List ℕ → ℕ
+spelled_byte text = if get_or text 0 0 == 92 then escaped_byte (get_or text 1 0) (get_or text 2 0) (get_or text 3 0) else get_or text 0 0
 
 -- no byte's spelling begins the text
 abbrev pub BeginsNoByte : List ℕ → Type 0

@@ -15,8 +15,8 @@ pub record FirstLine (text line rest : List ℕ) : Type 0 where
   pub one : newlines line ≡ 0
 
 -- the text has no first line, or another one
-abbrev pub Lacks : List ℕ → List ℕ → Type 0
-Lacks want text = (newlines text ≡ 0) ⊎ ((line : List ℕ) × (rest : List ℕ) × FirstLine text line rest × (line ≢ want))
+abbrev pub LacksLine : List ℕ → List ℕ → Type 0
+LacksLine want text = (newlines text ≡ 0) ⊎ ((line : List ℕ) × (rest : List ℕ) × FirstLine text line rest × (line ≢ want))
 
 -- the part after the content
 abbrev pub Acts : List ℕ → Type 0
@@ -57,12 +57,12 @@ abbrev pub IsTail : List ℕ → Type 0
 IsTail text = Acts text ⊎ FarmThenActs text
 
 -- the part after the line `content`
-abbrev pub IsBody : List ℕ → Type 0
-IsBody text = BlockThen IsTail text
+abbrev pub IsContentBody : List ℕ → Type 0
+IsContentBody text = BlockThen IsTail text
 
 -- the part after the first line
 abbrev pub IsContent : List ℕ → Type 0
-IsContent text = (body : List ℕ) × IsBody body × (text ≡ codes "content" ++ 10 ∷ body)
+IsContent text = (body : List ℕ) × IsContentBody body × (text ≡ codes "content" ++ 10 ∷ body)
 
 -- what the part after the content's dot spells
 pub record SpellsTail (text : List ℕ) (farm : Option (List ℕ)) (bytes : List ℕ) : Type 0 where

@@ -1,7 +1,7 @@
 //! Lines of bytes.
 ghost use Rattle.std.specs.Prelude.{◌≡◌, ◌++◌, ◌∷◌, ◌↔◌, IsTrue, IfSome, IfNone};
 ghost use Rattle.replay_text.specs.Lines.{newlines};
-ghost use Rattle.replay_text.specs.Reading.{FirstLine, Lacks};
+ghost use Rattle.replay_text.specs.Reading.{FirstLine, LacksLine};
 
 // The first line, and the text after its newline.
 pub fn first_line(text: &[u8]) -> Option<(&[u8], &[u8])>
@@ -25,7 +25,7 @@ pub fn same(a: &[u8], b: &[u8]) -> bool
 // The text after a first line that is this one.
 pub fn after_line<'a>(text: &'a [u8], want: &[u8]) -> Option<&'a [u8]>
     ensures some { IfSome result (λ rest. text.now ≡ want.now ++ 10 ∷ rest.now) }
-    ensures none { IfNone result (Lacks want.now text.now) }
+    ensures none { IfNone result (LacksLine want.now text.now) }
 {
     match first_line(text) {
         Some((line, rest)) if same(line, want) => Some(rest),

@@ -1,7 +1,7 @@
 //! Reads quoted texts. A byte has one spelling.
 ghost use Rattle.std.specs.Prelude.{◌≡◌, ◌≢◌, ◌<◌, ◌++◌, ◌∷◌, [], ℕ, List, IfOk, IfSome, IfNone, get_or, length};
 ghost use Rattle.replay_text.specs.EventLines.{AreBytes};
-ghost use Rattle.replay_text.specs.Quoting.{unhex, named, value_of, BeginsNoByte, IsNoQuotation};
+ghost use Rattle.replay_text.specs.Quoting.{unhex, escaped_byte, spelled_byte, BeginsNoByte, IsNoQuotation};
 ghost use Rattle.replay_text.specs.Transcript.{quoted_byte, quotation};
 
 use crate::lines::same;
@@ -27,9 +27,9 @@ fn byte_at(text: &[u8], place: usize) -> u8
 }
 
 // The byte that a letter after a backslash stands for.
-#[tactic(auto, unfolding(crate::specs::Quoting::named))]
+#[tactic(auto, unfolding(crate::specs::Quoting::escaped_byte))]
 fn named_byte(letter: u8, high: u8, low: u8) -> u32
-    ensures { result ≡ named letter high low }
+    ensures { result ≡ escaped_byte letter high low }
 {
     match letter {
         b'"' | b'\\' => u32::from(letter),
@@ -41,9 +41,9 @@ fn named_byte(letter: u8, high: u8, low: u8) -> u32
 }
 
 // The byte whose spelling begins a text, where one does.
-#[tactic(auto, unfolding(crate::specs::Quoting::value_of))]
+#[tactic(auto, unfolding(crate::specs::Quoting::spelled_byte))]
 fn value(text: &[u8]) -> u32
-    ensures { result ≡ value_of text.now }
+    ensures { result ≡ spelled_byte text.now }
 {
     match byte_at(text, 0) {
         b'\\' => named_byte(byte_at(text, 1), byte_at(text, 2), byte_at(text, 3)),

@@ -4,7 +4,7 @@ ghost use Rattle.replay_text.specs.Lines.{newlines, text_of_lines, AreLines};
 ghost use Rattle.replay_text.specs.EventLines.{line_of, IsEventLine};
 ghost use Rattle.replay_text.specs.declared.event_line.EventLine as models;
 ghost use Rattle.replay_text.specs.Scenario.{AreActs, act_lines, SpellsScenario, IsScenario, Reads, most};
-ghost use Rattle.replay_text.specs.Reading.{Refuses, RefusesWithin, SpellsActs, SpellsBody, SpellsTail, SpellsFarm, IsBody, IsTail, BlockThen, EndsBlock, EndsNoBlock, IfLine, fault_further, Acts};
+ghost use Rattle.replay_text.specs.Reading.{Refuses, RefusesWithin, SpellsActs, SpellsBody, SpellsTail, SpellsFarm, IsContentBody, IsTail, BlockThen, EndsBlock, EndsNoBlock, IfLine, fault_further, Acts};
 ghost use Rattle.replay_text.specs.declared.scenario.ScenarioFault.TheVariants.{Line, NoMemory as no_memory};
 
 use crate::event_lines::read_event_line;
@@ -135,7 +135,7 @@ fn read_tail(alloc: Global, text: &[u8]) -> Result<(Option<ByteBuf>, ByteBuf), S
 // Reads the part after the head.
 fn read_body(alloc: Global, text: &[u8]) -> Result<Scenario, ScenarioFault>
     ensures ok { IfOk result (λ s. SpellsBody text.now s) }
-    ensures err { IfErr result (Refuses IsBody text.now) }
+    ensures err { IfErr result (Refuses IsContentBody text.now) }
 {
     let (at, count) = match block_end(text) {
         Ok(end) => end,

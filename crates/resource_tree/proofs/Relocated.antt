@@ -48,12 +48,6 @@ neither : (a b : Bool) → (a || b) ≡ false → (a ≡ false) × (b ≡ false)
 neither true b h = absurd (true≢false h)
 neither false b h = (refl, h)
 
-pub free_from_ends : (tree : Content) (source target : List (List ℕ)) → ends_fault tree source target ≡ None → target_fault tree source target ≡ None
-free_from_ends tree source target e =
-    let a = no_fault (is_none (node_at tree source)) _ _ e in
-    let b = no_fault (is_none (node_at tree (parent_of target))) _ _ a.1 in
-    (no_fault (length source == 0) _ _ b.1).1
-
 pub may_go : (tree : Content) (source target : List (List ℕ)) → ends_fault tree source target ≡ None → MayGo tree source target
 may_go tree source target e =
     let a = no_fault (is_none (node_at tree source)) _ _ e in
@@ -70,17 +64,6 @@ may_go tree source target e =
       not_below = beside.0;
       not_above = beside.1;
     }
-
--- what is at the ends is asked first
-pub ends_from_target : (tree : Content) (source target : List (List ℕ)) → (length source == 0) ≡ false → ends_fault tree source target ≡ target_fault tree source target
-ends_from_target tree source target not_root =
-    ap (λ b. cond (is_none (node_at tree source)) (Some (NoSuch source)) (cond (is_none (node_at tree (parent_of target))) (Some (NoSuch (parent_of target))) (cond b (Some RootFixed) (target_fault tree source target)))) not_root
-    ∙ again (is_none (node_at tree source)) (is_none (node_at tree (parent_of target))) _ _ _
-  where
-    again : (a b : Bool) (x y z : Option TreeFault) → cond a x (cond b y (cond a x (cond b y z))) ≡ cond a x (cond b y z)
-    again true b x y z = refl
-    again false true x y z = refl
-    again false false x y z = refl
 
 -- the kids' names as the code changes them
 pub names : (tree old : Content) (source target old_parent parent : List (List ℕ)) (old_name name seg : List ℕ) → old ≡ tree → old_parent ≡ parent_of source → Some old_name ≡ slice_get source (length source - 1) → parent ≡ parent_of target

@@ -8,7 +8,7 @@ use Rattle.sp_base.specs.Paths.{is_empty}
 use Rattle.url_split.specs.declared.decompose.Parts.{Parts}
 use Rattle.script_rank.specs.declared.naming.Naming.{Naming}
 use Rattle.script_rank.specs.declared.naming.Naming.TheVariants.{SelectorsAndExtension, Selectors, LabelAndExtension, Extension, Label, Method}
-use Rattle.script_rank.specs.Ranking.{IsOffered, IsAbove, Decides, selectors_in, has_extension, has_label, is_html}
+use Rattle.script_rank.specs.Ranking.{IsOffered, IsAbove, IsLessInTurn, selectors_in, has_extension, has_label, is_html}
 use Rattle.script_rank.specs.Search.{most_selectors, namings, with_selectors, without_selectors}
 
 -- ---- the weight of a naming
@@ -54,8 +54,8 @@ same_low e f a b p q = let same : low e a ≡ low f b = ap (λ t. low t a) p ∙
 
 -- the heavier is not the worse
 pub better-weight : (k l : Naming) (R : Type 0)
-    → Decides (selectors_in l < selectors_in k) (selectors_in k ≡ selectors_in l)
-    (Decides (IsAbove (has_extension k) (has_extension l)) (has_extension k ≡ has_extension l) (Decides (IsAbove (has_label k) (has_label l)) (has_label k ≡ has_label l) R))
+    → IsLessInTurn (selectors_in l < selectors_in k) (selectors_in k ≡ selectors_in l)
+    (IsLessInTurn (IsAbove (has_extension k) (has_extension l)) (has_extension k ≡ has_extension l) (IsLessInTurn (IsAbove (has_label k) (has_label l)) (has_label k ≡ has_label l) R))
     → weight l ≤ weight k
 better-weight k l R better = ⊎_elim
     (λ (more : selectors_in l < selectors_in k). omega (arith, low-bound (has_extension l) (has_label l), more))

@@ -11,7 +11,7 @@ use Rattle.type_chain.specs.declared.type_name.TypeName.{TypeName}
 use Rattle.url_split.specs.declared.decompose.Parts.{Parts}
 use Rattle.script_rank.specs.declared.naming.Naming.{Naming}
 use Rattle.script_rank.specs.declared.naming.Naming.TheVariants.{SelectorsAndExtension, Selectors, LabelAndExtension, Extension, Label, Method}
-use Rattle.script_rank.specs.Ranking.{Candidate, HasNoCandidate, IsFirst, IsBetter, IsOffered, IsAbove, Decides, Key, is_script, selectors_in, has_extension, has_label, spellings}
+use Rattle.script_rank.specs.Ranking.{Candidate, HasNoCandidate, IsFirstScript, IsBetter, IsOffered, IsAbove, IsLessInTurn, Key, is_script, selectors_in, has_extension, has_label, spellings}
 use Rattle.script_rank.specs.Search.{at_naming, at_place, at_type, search_result, namings, script_at, script_in}
 use Rattle.script_rank.proofs.NamingLemmas.{weight, better-weight, namings-fall, falls-at, sound, complete}
 use Rattle.script_rank.proofs.DepthLemmas.{few_selectors}
@@ -101,7 +101,7 @@ not_above true h = cc (h.1)
 not_above false h = cc (h.0)
 
 abbrev ThenBetter : Key → Key → Type 0
-ThenBetter k l = Decides (k.type < l.type) (k.type ≡ l.type) (Decides (k.place < l.place) (k.place ≡ l.place) (k.spelling < l.spelling))
+ThenBetter k l = IsLessInTurn (k.type < l.type) (k.type ≡ l.type) (IsLessInTurn (k.place < l.place) (k.place ≡ l.place) (k.spelling < l.spelling))
 
 better-same : (k l : Key) → k.naming ≡ l.naming → IsBetter k l → ThenBetter k l
 better-same k l same better = ⊎_elim
@@ -175,7 +175,7 @@ module _ {tree : Content} {chain : List TypeName} {parts : Parts} {path : List (
       (cases_lt has.at w.naming.at)
 
 -- the result ranks first
-pub result_first : (tree : Content) (chain : List TypeName) (parts : Parts) (path : List (List ℕ)) → search_result tree chain parts ≡ Some path → IsFirst tree chain parts path
+pub result_first : (tree : Content) (chain : List TypeName) (parts : Parts) (path : List (List ℕ)) → search_result tree chain parts ≡ Some path → IsFirstScript tree chain parts path
 result_first tree chain parts path e =
     let w = way tree chain parts path e in
     record { key = key_of w; candidate = candidate_of w; best = none_better w }
@@ -261,12 +261,12 @@ pub one_key : (tree : Content) (chain : List TypeName) (parts : Parts) (p q : Li
     → Candidate tree chain parts p k → Candidate tree chain parts q k → p ≡ q
 one_key tree chain parts p q k c d = tied_scripts tree chain parts p q k k c d (irreflexive k) (irreflexive k)
 
-pub one_first : (tree : Content) (chain : List TypeName) (parts : Parts) (p q : List (List ℕ)) → IsFirst tree chain parts p → IsFirst tree chain parts q → p ≡ q
+pub one_first : (tree : Content) (chain : List TypeName) (parts : Parts) (p q : List (List ℕ)) → IsFirstScript tree chain parts p → IsFirstScript tree chain parts q → p ≡ q
 one_first tree chain parts p q f g =
     tied_scripts tree chain parts p q f.key g.key f.candidate g.candidate (g.best p f.key f.candidate) (f.best q g.key g.candidate)
 
 by_first : (tree : Content) (chain : List TypeName) (parts : Parts) (o : Option (List (List ℕ))) → o ≡ search_result tree chain parts
-    → IfSome o (λ path. IsFirst tree chain parts path)
+    → IfSome o (λ path. IsFirstScript tree chain parts path)
 by_first tree chain parts (Some path) is = result_first tree chain parts path (sym is)
 by_first tree chain parts None is = tt
 
@@ -275,14 +275,14 @@ by_none : (tree : Content) (chain : List TypeName) (parts : Parts) (o : Option (
 by_none tree chain parts (Some path) is = tt
 by_none tree chain parts None is = no_result tree chain parts (sym is)
 
-pub search_first : (tree : Content) (chain : List TypeName) (parts : Parts) → IfSome (search_result tree chain parts) (λ path. IsFirst tree chain parts path)
+pub search_first : (tree : Content) (chain : List TypeName) (parts : Parts) → IfSome (search_result tree chain parts) (λ path. IsFirstScript tree chain parts path)
 search_first tree chain parts = by_first tree chain parts (search_result tree chain parts) refl
 
 pub search_none : (tree : Content) (chain : List TypeName) (parts : Parts) → IfNone (search_result tree chain parts) (HasNoCandidate tree chain parts)
 search_none tree chain parts = by_none tree chain parts (search_result tree chain parts) refl
 
 pub answers_first : {E : Type 0} (tree : Content) (chain : List TypeName) (parts : Parts) (r : Result (Option (List (List ℕ))) E) → IfOk r (λ o. o ≡ search_result tree chain parts)
-    → IfOk r (λ o. IfSome o (λ path. IsFirst tree chain parts path))
+    → IfOk r (λ o. IfSome o (λ path. IsFirstScript tree chain parts path))
 answers_first tree chain parts (Ok o) is = by_first tree chain parts o is
 answers_first tree chain parts (Err e) is = tt
 

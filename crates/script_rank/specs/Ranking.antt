@@ -108,8 +108,8 @@ pub record Candidate (tree : Content) (chain : List TypeName) (parts : Parts) (p
 -- ---- ranks
 
 -- the first in which they differ decides
-abbrev pub Decides : Type 0 → Type 0 → Type 0 → Type 0
-Decides less same rest = less ⊎ (same × rest)
+abbrev pub IsLessInTurn : Type 0 → Type 0 → Type 0 → Type 0
+IsLessInTurn less same rest = less ⊎ (same × rest)
 
 abbrev pub IsAbove : Bool → Bool → Type 0
 IsAbove a b = (a ≡ true) × (b ≡ false)
@@ -118,15 +118,15 @@ IsAbove a b = (a ≡ true) × (b ≡ false)
 -- dot
 abbrev pub IsBetter : Key → Key → Type 0
 IsBetter k l =
-    Decides (selectors_in l.naming < selectors_in k.naming) (selectors_in k.naming ≡ selectors_in l.naming)
-    (Decides (IsAbove (has_extension k.naming) (has_extension l.naming)) (has_extension k.naming ≡ has_extension l.naming)
-    (Decides (IsAbove (has_label k.naming) (has_label l.naming)) (has_label k.naming ≡ has_label l.naming)
-    (Decides (k.type < l.type) (k.type ≡ l.type)
-    (Decides (k.place < l.place) (k.place ≡ l.place)
+    IsLessInTurn (selectors_in l.naming < selectors_in k.naming) (selectors_in k.naming ≡ selectors_in l.naming)
+    (IsLessInTurn (IsAbove (has_extension k.naming) (has_extension l.naming)) (has_extension k.naming ≡ has_extension l.naming)
+    (IsLessInTurn (IsAbove (has_label k.naming) (has_label l.naming)) (has_label k.naming ≡ has_label l.naming)
+    (IsLessInTurn (k.type < l.type) (k.type ≡ l.type)
+    (IsLessInTurn (k.place < l.place) (k.place ≡ l.place)
     (k.spelling < l.spelling)))))
 
 -- the script is a candidate, and none is better
-pub record IsFirst (tree : Content) (chain : List TypeName) (parts : Parts) (path : List (List ℕ)) : Type 0 where
+pub record IsFirstScript (tree : Content) (chain : List TypeName) (parts : Parts) (path : List (List ℕ)) : Type 0 where
   pub key : Key
   pub candidate : Candidate tree chain parts path key
   pub best : (other : List (List ℕ)) (k : Key) → Candidate tree chain parts other k → IsBetter k key → ⊥

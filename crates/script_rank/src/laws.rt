@@ -3,7 +3,7 @@ ghost use Rattle.std.specs.Prelude.{◌≡◌, ℕ, List, IfSome, IfNone};
 ghost use Rattle.resource_tree.specs.Content.{Content};
 ghost use Rattle.type_chain.specs.declared.type_name.TypeName.{TypeName};
 ghost use Rattle.url_split.specs.declared.decompose.Parts.{Parts};
-ghost use Rattle.script_rank.specs.Ranking.{Candidate, HasNoCandidate, IsBetter, IsFirst, Key};
+ghost use Rattle.script_rank.specs.Ranking.{Candidate, HasNoCandidate, IsBetter, IsFirstScript, Key};
 ghost use Rattle.script_rank.specs.Search.{search_result};
 
 /// Two candidates of which neither is better than the other are one script.
@@ -21,11 +21,11 @@ pub fn one_key_is_of_one_script()
 /// One script at most ranks first.
 pub fn one_script_is_first()
     ensures { (tree : Content) (chain : List TypeName) (parts : Parts) (p q : List (List ℕ))
-        → IsFirst tree chain parts p → IsFirst tree chain parts q → p ≡ q }
+        → IsFirstScript tree chain parts p → IsFirstScript tree chain parts q → p ≡ q }
 {}
 
 /// The result of the search is the script that ranks first, and there is none exactly where there is no candidate.
 pub fn search_finds_the_first()
-    ensures first { (tree : Content) (chain : List TypeName) (parts : Parts) → IfSome (search_result tree chain parts) (λ path. IsFirst tree chain parts path) }
+    ensures first { (tree : Content) (chain : List TypeName) (parts : Parts) → IfSome (search_result tree chain parts) (λ path. IsFirstScript tree chain parts path) }
     ensures none { (tree : Content) (chain : List TypeName) (parts : Parts) → IfNone (search_result tree chain parts) (HasNoCandidate tree chain parts) }
 {}

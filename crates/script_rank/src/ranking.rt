@@ -2,7 +2,7 @@
 ghost use Rattle.std.specs.Prelude.{◌≡◌, IfOk, IfSome, IfNone};
 ghost use Rattle.resource_tree.specs.Content.{IsGood};
 ghost use Rattle.type_chain.specs.Chain.{chain_of};
-ghost use Rattle.script_rank.specs.Ranking.{HasNoCandidate, IsFirst};
+ghost use Rattle.script_rank.specs.Ranking.{HasNoCandidate, IsFirstScript};
 ghost use Rattle.script_rank.specs.Search.{search_result};
 ghost use Rattle.script_rank.specs.SiteSearch.{at_site, at_sites, site_search};
 
@@ -25,7 +25,7 @@ pub fn first_script(
     chain: &TypeList,
     parts: &Parts,
 ) -> Mem<Option<Path>>
-    ensures some { IfOk result (λ o. IfSome o (λ path. IsFirst tree.now chain.now parts.now path)) }
+    ensures some { IfOk result (λ o. IfSome o (λ path. IsFirstScript tree.now chain.now parts.now path)) }
     ensures none { IfOk result (λ o. IfNone o (HasNoCandidate tree.now chain.now parts.now)) }
     ensures value { IfOk result (λ o. o ≡ search_result tree.now chain.now parts.now) }
 {
@@ -36,7 +36,7 @@ pub fn first_script(
 /// The script that renders a resource with these properties. Each place of each type of its chain is looked up once, for the chain and
 /// for the search.
 pub fn script_of(alloc: Global, tree: &Tree, props: &PropList, parts: &Parts) -> Mem<Option<Path>>
-    ensures some { IfOk result (λ o. IfSome o (λ path. IsFirst tree.now (chain_of tree.now props.now) parts.now path)) }
+    ensures some { IfOk result (λ o. IfSome o (λ path. IsFirstScript tree.now (chain_of tree.now props.now) parts.now path)) }
     ensures none { IfOk result (λ o. IfNone o (HasNoCandidate tree.now (chain_of tree.now props.now) parts.now)) }
     ensures value { IfOk result (λ o. o ≡ search_result tree.now (chain_of tree.now props.now) parts.now) }
 {

@@ -2,7 +2,7 @@ use Rattle.std.proofs.Common.{◌≡◌, ◌<◌, ◌⊎◌, inl, inr, ℕ, List
 use Rattle.content_json.specs.ContentOf.{content as content_of}
 use Rattle.replay_text.specs.Languages.{IsRefusedWithin}
 use Rattle.replay_text.specs.Scenario.{SpellsScenario, IsScenario, Reads, most}
-use Rattle.sling_dispatch.specs.Endings.{Told, Call, Means, IsDue, IsReplay, HasNotFailed, HasFailed, HasContent, HasFarm}
+use Rattle.sling_dispatch.specs.Endings.{Told, RunCall, Means, IsDue, IsReplay, HasNotFailed, HasFailed, HasContent, HasFarm}
 use Rattle.sling_dispatch.specs.Farms.{farm_in, farm_text}
 use Rattle.replay_text.specs.declared.scenario.Scenario.{Scenario}
 use Rattle.sling_dispatch.specs.declared.ending.Ending.{Ending}
@@ -29,7 +29,7 @@ farm_reads one bytes s t reads has other refusal e =
     let ok = sym (ap (λ (x : Scenario). farm_in (farm_text x.farm)) same) ∙ has.1 in
     cc (ok, e)
 
-pub complete : IsOneReading → (c : Call) (sink : Told (List ℕ)) (bytes : List ℕ) (s : Scenario) (ending : Ending) → Means (IsDue c) ending sink
+pub complete : IsOneReading → (c : RunCall) (sink : Told (List ℕ)) (bytes : List ℕ) (s : Scenario) (ending : Ending) → Means (IsDue c) ending sink
     → IsReplay c.words → c.source.old ≡ Some bytes → Reads bytes s → HasContent s → HasFarm s
     → c.source.faults_old < 18446744073709551615 → HasNotFailed c.source → sink.faults_old < 18446744073709551615 → HasNotFailed sink
     → (ending ≡ Done) ⊎ (ending ≡ NoMemory)

@@ -8,8 +8,8 @@ use Rattle.content_json.specs.declared.fault.ContentFault.TheVariants.{NoMemory 
 use Rattle.replay_text.specs.Languages.{IsRefusedWithin}
 use Rattle.sling_dispatch.specs.Streams.{IsReadOut}
 use Rattle.replay_text.specs.Scenario.{IsScenario, Reads, most}
-use Rattle.sling_dispatch.specs.Endings.{Told, Call, IsRunOf, Writing, Nothing, UsageLine, SourceLine, RefusalLine, ContentLine, FarmLine, Events, output_of, HasWritten, Means, IsDue, HasContent, IsReplay, HasNotFailed, IsUntouched}
-use Rattle.sling_dispatch.specs.InnerEndings.{IsDueIn, IsDueOf, IsContentOr, IsFarmOr, Tells, IsDueAt}
+use Rattle.sling_dispatch.specs.Endings.{Told, RunCall, IsRunOf, Writing, Nothing, UsageLine, SourceLine, RefusalLine, ContentLine, FarmLine, Events, output_of, HasWritten, Means, IsDue, HasContent, IsReplay, HasNotFailed, IsUntouched}
+use Rattle.sling_dispatch.specs.InnerEndings.{IsDueIn, IsDueOf, IsContentOr, IsFarmOr, TellsText, IsDueAt}
 use Rattle.sling_dispatch.specs.Farms.{farm_in, farm_text, lacks_memory}
 use Rattle.sling_dispatch.specs.declared.farms.FarmRefusal.{FarmRefusal}
 use Rattle.replay_text.specs.declared.scenario.Scenario.{Scenario}
@@ -34,7 +34,7 @@ out_of_memory D due sink e not_failed = (Nothing, due, (0, e ∙ sym (added-noth
 
 -- What came of writing a text that is due, of which good was to be the ending.
 pub told_line : (D : Writing → Type 0) (w : Writing) (good ending : Ending) (text : List ℕ) (sink : Told (List ℕ)) → D w
-    → (HasWritten sink w → Means D good sink) → text ≡ output_of w → Tells good text ending sink → Means D ending sink
+    → (HasWritten sink w → Means D good sink) → text ≡ output_of w → TellsText good text ending sink → Means D ending sink
 told_line D w good ending text sink due whole e (inl t) =
     subst (λ x. Means D x sink) (sym t.0) (whole (t.1 ∙ ap (added sink.old) e, t.2))
 told_line D w good ending text sink due whole e (inr (inl t)) =
@@ -45,7 +45,7 @@ told_line D w good ending text sink due whole e (inr (inr t)) =
 -- The same of a text for which memory may have run out.
 pub told_made : {T E : Type 0} (items : T → List ℕ) (D : Writing → Type 0) (w : Writing) (good ending : Ending) (line : Result T E)
     (sink : Told (List ℕ)) → D Nothing → D w → (HasWritten sink w → Means D good sink) → IfOk line (λ t. items t ≡ output_of w)
-    → IfOk line (λ t. Tells good (items t) ending sink) → OnErr line ((ending ≡ NoMemory) × IsUntouched sink) → Means D ending sink
+    → IfOk line (λ t. TellsText good (items t) ending sink) → OnErr line ((ending ≡ NoMemory) × IsUntouched sink) → Means D ending sink
 told_made items D w good ending (Ok t) sink none due whole e told untold = told_line D w good ending (items t) sink due whole e told
 told_made items D w good ending (Err x) sink none due whole e told untold =
     subst (λ n. Means D n sink) (sym untold.0) (out_of_memory D none sink untold.1.0 untold.1.1)
@@ -113,7 +113,7 @@ told Q text old (Some rest) e end q =
     subst (λ o. IfSome o Q) (sym (e ∙ ap Some whole)) q
 
 -- what may be written of the text that was read may be written by the call
-pub due_of_source : (c : Call) (text : List ℕ) → IsReplay c.words → HasNotFailed c.source
+pub due_of_source : (c : RunCall) (text : List ℕ) → IsReplay c.words → HasNotFailed c.source
     → c.source.old ≡ before_taking text c.source.new → (length text ≤ most → IsAtEnd c.source.new) → length text ≤ most + 1 → (w : Writing) → IsDueAt text w → IsDue c w
 due_of_source c text is not_failed e end within Nothing d = tt
 due_of_source c text is not_failed e end within UsageLine d = absurd d

@@ -9,7 +9,7 @@ use Rattle.resource_tree.specs.Content.{Content}
 use Rattle.content_json.specs.ContentOf.{content as content_of}
 use Rattle.any_config.specs.declared.farm.Farm.{Farm}
 use Rattle.sling_dispatch.specs.Farms.{farm_in, farm_text}
-use Rattle.front.specs.Events.{Event, Extended, Happens, Run, after_event, after_run, notes_of}
+use Rattle.front.specs.Events.{Event, Extended, Happens, Run, after_event, state_after_events, notes_of}
 use Rattle.front.specs.States.{RunState, start_of}
 use Rattle.front.specs.declared.note.Note.{Note}
 use Rattle.replay_text.specs.EventLines.{line_of, IsEventLine}
@@ -18,10 +18,10 @@ use Rattle.replay_text.specs.Scenario.{IsActs}
 use Rattle.replay_text.specs.Transcript.{event_text, transcript_from, transcript}
 use Rattle.replay_text.specs.declared.event_line.EventLine.{EventLine}
 use Rattle.replay_text.specs.declared.scenario.Scenario.{Scenario}
-use Rattle.sling_dispatch.specs.Runs.{IsSession, asked_host, published, step_of, told_of_events}
+use Rattle.sling_dispatch.specs.Runs.{IsSession, asked_publisher_host, published, step_of, told_of_events}
 use Rattle.sling_dispatch.specs.Fronts.{IsNext}
 use Rattle.sling_dispatch.specs.Endings.{Writing, Events, Told, told_of, HasWrittenPrefix}
-use Rattle.sling_dispatch.specs.InnerEndings.{AreActLines, IsDueOf, Tells, ending_by, PlaysAll}
+use Rattle.sling_dispatch.specs.InnerEndings.{AreActLines, IsDueOf, TellsText, ending_by, PlaysAll}
 use Rattle.sling_dispatch.specs.declared.ending.Ending.{Ending}
 use Rattle.sling_dispatch.specs.declared.ending.Ending.TheVariants.{Done, NoMemory}
 use Rattle.sling_dispatch.proofs.Writing.{added-added, added-nothing}
@@ -50,10 +50,10 @@ length_map f (x ∷ xs) = ap (λ n. suc n) (length_map f xs)
 
 -- what a run is when one more event comes
 abbrev pub Goes : Type 0
-Goes = (w : RunState) (events : List Event) (e : Event) → Run w events → Happens (after_run w events) e → Run w (events ++ e ∷ [])
+Goes = (w : RunState) (events : List Event) (e : Event) → Run w events → Happens (state_after_events w events) e → Run w (events ++ e ∷ [])
 
 abbrev pub Leaves : Type 0
-Leaves = (w : RunState) (events : List Event) (e : Event) → after_run w (events ++ e ∷ []) ≡ after_event (after_run w events) e
+Leaves = (w : RunState) (events : List Event) (e : Event) → state_after_events w (events ++ e ∷ []) ≡ after_event (state_after_events w events) e
 
 -- Some acts were done. Of the lines of their events some were sent, and the rest is gathered.
 pub record Played (tree : Content) (farm : Farm) (acts rest : List ℕ) (count : ℕ) (Stands : RunState → Type 0) (old new : Option (List ℕ)) (gathered : List ℕ) : Type 0 where
@@ -62,10 +62,10 @@ pub record Played (tree : Content) (farm : Farm) (acts rest : List ℕ) (count :
   pub acts_are : IsActs acts (made ++ left)
   pub left_are : IsActs rest left
   pub events : List Event
-  pub steps : map (λ (e : Event). e.step) events ≡ map (step_of (asked_host farm)) made
+  pub steps : map (λ (e : Event). e.step) events ≡ map (step_of (asked_publisher_host farm)) made
   pub run : Run (start_of published farm tree) events
   pub count_is : length events ≡ count
-  pub stands : Stands (after_run (start_of published farm tree) events)
+  pub stands : Stands (state_after_events (start_of published farm tree) events)
   pub sent : List ℕ
   pub written : new ≡ added old sent
   pub text_is : told_of_events events ≡ sent ++ gathered
@@ -95,12 +95,12 @@ FirstIsTold = (lines rest : List ℕ) (acts : List EventLine) (act : EventLine) 
 -- the next event was made, and its lines are to be gathered
 pub played_next : Goes → Leaves → FirstIsTold → (tree : Content) (farm : Farm) (acts rest after : List ℕ) (count : ℕ) (Stands After : RunState → Type 0) (old new : Option (List ℕ)) (gathered text : List ℕ)
     → Played tree farm acts rest count Stands old new gathered
-    → IsNext Stands After (asked_host farm) rest after (count + 1) text → Played tree farm acts after (count + 1) After old new (gathered ++ text)
+    → IsNext Stands After (asked_publisher_host farm) rest after (count + 1) text → Played tree farm acts after (count + 1) After old new (gathered ++ text)
 played_next goes leaves told_first tree farm acts rest after count Stands After old new gathered text p x =
-    let host = asked_host farm in
+    let host = asked_publisher_host farm in
     let first = told_first rest after p.left x.act p.left_are x.is_line x.lines_are in
     let w = start_of published farm tree in
-    let next = x.extends.extended (after_run w p.events) p.stands in
+    let next = x.extends.extended (state_after_events w p.events) p.stands in
     let event = next.event in
     let events = p.events ++ event ∷ [] in
     let number : 1 + length (map notes_of p.events) ≡ count + 1 = omega (arith, p.count_is, length_map notes_of p.events) in
@@ -145,7 +145,7 @@ played_sent tree farm acts rest count Stands old mid new gathered sent left p e 
 }
 
 session_of : (tree : Content) (farm : Farm) (acts : List ℕ) (made left : List EventLine) (events : List Event) (s : Scenario) → s.acts ≡ acts → content_of s.content ≡ Ok tree
-    → farm_in (farm_text s.farm) ≡ Ok farm → IsActs acts (made ++ left) → map (λ (e : Event). e.step) events ≡ map (step_of (asked_host farm)) made
+    → farm_in (farm_text s.farm) ≡ Ok farm → IsActs acts (made ++ left) → map (λ (e : Event). e.step) events ≡ map (step_of (asked_publisher_host farm)) made
     → Run (start_of published farm tree) events → IsSession s left events
 session_of tree farm acts made left events s same reads farm_reads are steps run = record {
   tree = tree;
@@ -185,7 +185,7 @@ broken_off tree farm acts rest count k Stands mid gathered sink_memory sink p e 
 -- no more events are made for want of memory, and what was gathered is written
 pub played_stopped : (tree : Content) (farm : Farm) (acts rest : List ℕ) (count : ℕ) (Stands : RunState → Type 0) (mid : Option (List ℕ)) (gathered : List ℕ) (ending : Ending)
     (sink : Told (List ℕ)) → Played tree farm acts rest count Stands sink.old mid gathered
-    → Tells NoMemory gathered ending (told_of mid sink.new sink.faults_old sink.faults_new) → PlaysAll tree farm acts ending sink
+    → TellsText NoMemory gathered ending (told_of mid sink.new sink.faults_old sink.faults_new) → PlaysAll tree farm acts ending sink
 played_stopped tree farm acts rest count Stands mid gathered ending sink p (inl t) =
     subst (λ x. PlaysAll tree farm acts x sink) (sym t.0)
     (broken_off tree farm acts rest count (length gathered) Stands mid gathered sink_memory sink p
@@ -208,7 +208,7 @@ none_left rest (act ∷ left) are e =
 -- all acts were done, and what was gathered is written
 pub played_all : (tree : Content) (farm : Farm) (acts rest : List ℕ) (count : ℕ) (Stands : RunState → Type 0) (mid : Option (List ℕ)) (gathered : List ℕ) (ending : Ending)
     (sink : Told (List ℕ)) → rest ≡ [] → Played tree farm acts rest count Stands sink.old mid gathered
-    → Tells Done gathered ending (told_of mid sink.new sink.faults_old sink.faults_new) → PlaysAll tree farm acts ending sink
+    → TellsText Done gathered ending (told_of mid sink.new sink.faults_old sink.faults_new) → PlaysAll tree farm acts ending sink
 played_all tree farm acts rest count Stands mid gathered ending sink whole p (inl t) =
     subst (λ x. PlaysAll tree farm acts x sink) (sym t.0) (λ s same reads farm_reads.
     let session = session_of tree farm acts p.made p.left p.events s same reads farm_reads p.acts_are p.steps p.run in (
@@ -225,8 +225,8 @@ played_all tree farm acts rest count Stands mid gathered ending sink whole p (in
 
 -- what a text tells of the sink, from the call's beginning on
 pub told_from : (good : Ending) (gathered text : List ℕ) (ending : Ending) (mid : Option (List ℕ)) (faults : ℕ) (sink : Told (List ℕ)) → text ≡ gathered
-    → faults ≡ sink.faults_old → Tells good text ending (told_of mid sink.new faults sink.faults_new)
-    → Tells good gathered ending (told_of mid sink.new sink.faults_old sink.faults_new)
+    → faults ≡ sink.faults_old → TellsText good text ending (told_of mid sink.new faults sink.faults_new)
+    → TellsText good gathered ending (told_of mid sink.new sink.faults_old sink.faults_new)
 told_from good gathered text ending mid faults sink same none t =
-    subst (λ (b : List ℕ). Tells good b ending (told_of mid sink.new sink.faults_old sink.faults_new)) same
-    (subst (λ (n : ℕ). Tells good text ending (told_of mid sink.new n sink.faults_new)) none t)
+    subst (λ (b : List ℕ). TellsText good b ending (told_of mid sink.new sink.faults_old sink.faults_new)) same
+    (subst (λ (n : ℕ). TellsText good text ending (told_of mid sink.new n sink.faults_new)) none t)

@@ -11,7 +11,7 @@ use Rattle.error_answers.specs.Errors.{error_answer}
 use Rattle.any_config.specs.declared.farm.Farm.{Farm}
 use Rattle.publisher.specs.Rendering.{rendered}
 use Rattle.cover_rules.specs.declared.page.PageKey.{PageKey}
-use Rattle.http_front.specs.Faults.{status_of}
+use Rattle.http_front.specs.Faults.{fault_status}
 use Rattle.http_front.specs.declared.fault.InFault.{InFault}
 use Rattle.http_front.specs.declared.fault.InFault.TheVariants as fault
 use Rattle.http_front.specs.declared.target.Target.{Target}
@@ -24,11 +24,11 @@ use Rattle.front.specs.declared.note.Note.TheVariants.{Answer as answered, Ask a
 use Rattle.front.specs.declared.step.Pick.{Pick}
 use Rattle.front.specs.declared.step.Step.{Step}
 use Rattle.front.specs.declared.step.Step.TheVariants as step
-use Rattle.front.specs.Events.{Event, Extended, DeliverAs, DeliverTo, Happens, HappensBy, IsOrFixed, Leads, LoseTo, PieceTo, RenderTo, Run, after_event, after_run, begun, gone, going, is_any, is_picked, is_rendered, is_unrendered, mood_notes, most_lines, notes_of, opened, opening, picked}
-use Rattle.front.specs.Moves.{Gives, IsFirst, Mood, Serves, after, afters, asked_by, due, flight_at, has_number, is_full, over_with, points, request_of, with_rendered_at, without}
+use Rattle.front.specs.Events.{Event, Extended, DeliverAs, DeliverTo, Happens, HappensBy, IsOrFixed, LeadsNotes, LoseTo, PieceTo, RenderTo, Run, after_event, state_after_events, begun, gone, going, is_any, is_picked, is_rendered, is_unrendered, mood_notes, most_lines, notes_of, opened, opening, picked}
+use Rattle.front.specs.Moves.{GivesDue, IsFirstPoint, Mood, Serves, state_after_note, afters, asked_by, due_of_connection, flight_at, has_number, is_front_full, over_with, points, request_of, with_rendered_at, without}
 use Rattle.front.specs.Publishers.{Publishing, answer_to, direct_answer, fixed_answer, get_of}
-use Rattle.dispatch_rules.specs.Asking.{asked_of}
-use Rattle.front.specs.States.{Entry, RunState, asked_in, start_of}
+use Rattle.dispatch_rules.specs.Asking.{publisher_ask}
+use Rattle.front.specs.States.{LogEntry, RunState, flights_asked, start_of}
 use Rattle.replay_text.specs.declared.event_line.EventLine.{EventLine}
 use Rattle.replay_text.specs.declared.event_line.EventLine.TheVariants as line
 use Rattle.replay_text.specs.declared.scenario.Scenario.{Scenario}
@@ -59,7 +59,7 @@ AllFit [] = Unit {0}
 AllFit (f ∷ air) = Fits f × AllFit air
 
 pub record StateFits (w : RunState) : Type 0 where
-  pub asked_is : asked_in w.log.entries ≤ 9223372036854775808
+  pub asked_is : flights_asked w.log.entries ≤ 9223372036854775808
   pub air : AllFit w.air
   pub publishing_is : w.publishing ≡ published
 
@@ -92,14 +92,14 @@ found-fits test (g ∷ air) f all e = by_test (test g) refl (found-fits test air
     by_test false passes rest = rest (rw passes at e)
 
 -- ---- notes
-over-fits : (w : RunState) (n : ℕ) (a : Answer) (entry : Entry) (flying : Option Flying) → StateFits w → asked_in (entry ∷ w.log.entries) ≡ asked_in w.log.entries → StateFits (over_with w n a entry flying)
+over-fits : (w : RunState) (n : ℕ) (a : Answer) (entry : LogEntry) (flying : Option Flying) → StateFits w → flights_asked (entry ∷ w.log.entries) ≡ flights_asked w.log.entries → StateFits (over_with w n a entry flying)
 over-fits w n a entry None fits same = fits
 over-fits w n a entry (Some f) fits same = record { asked_is = rw same fits.asked_is; air = all-without n w.air fits.air; publishing_is = fits.publishing_is }
 
 keeps-fits : (w v : RunState) → StateFits w → v.air ≡ w.air → v.log ≡ w.log → v.publishing ≡ w.publishing → StateFits v
 keeps-fits w v fits air log publishing = record { asked_is = rw log fits.asked_is; air = rw air fits.air; publishing_is = publishing ∙ fits.publishing_is }
 
-asked-fits : (w : RunState) (n c : ℕ) (key : Option PageKey) (request : Option Req) → StateFits w → n ≡ asked_in w.log.entries + 1 → n ≤ 9223372036854775808 → c < 4294967296 → StateFits (asked_by w n c key request)
+asked-fits : (w : RunState) (n c : ℕ) (key : Option PageKey) (request : Option Req) → StateFits w → n ≡ flights_asked w.log.entries + 1 → n ≤ 9223372036854775808 → c < 4294967296 → StateFits (asked_by w n c key request)
 asked-fits w n c key None fits number most small = fits
 asked-fits w n c key (Some request) fits number most small = record {
   asked_is = rw (← number) most;
@@ -107,10 +107,10 @@ asked-fits w n c key (Some request) fits number most small = record {
   publishing_is = fits.publishing_is;
 }
 
-local-fits : (w : RunState) (c status : ℕ) → StateFits w → StateFits (after w (Local c status))
+local-fits : (w : RunState) (c status : ℕ) → StateFits w → StateFits (state_after_note w (Local c status))
 local-fits w c status fits = keeps-fits w _ fits refl refl refl
 
-fault-short : (f : InFault) → status_of f < 65536
+fault-short : (f : InFault) → fault_status f < 65536
 fault-short fault.BadHead = omega arith
 fault-short fault.ManyHeaders = omega arith
 fault-short fault.BadTarget = omega arith
@@ -127,24 +127,24 @@ or-none false false never = refl
 
 pub record NoteFits (w : RunState) (note : Note) : Type 0 where
   pub writable : IsWritable note
-  pub state : StateFits (after w note)
+  pub state : StateFits (state_after_note w note)
 
-first-fits : (m : Mood) (w : RunState) (c : ℕ) (request : Req) (note : Note) → StateFits w → c < 4294967296 → IsFirst m w c request note points → NoteFits w note
+first-fits : (m : Mood) (w : RunState) (c : ℕ) (request : Req) (note : Note) → StateFits w → c < 4294967296 → IsFirstPoint m w c request note points → NoteFits w note
 first-fits m w c request note fits small (inl crowded) = rw crowded.1 (record { writable = (small, omega arith); state = local-fits w c 503 fits })
 first-fits m w c request note fits small (inr (_, inl hidden)) = rw hidden.1 (record { writable = (small, omega arith); state = local-fits w c 404 fits })
 first-fits m w c request note fits small (inr (_, inr (_, inl full))) = rw full.1 (record { writable = (small, omega arith); state = local-fits w c 503 fits })
 first-fits m w c request note fits small (inr (_, inr (_, inr (free, inl ask)))) =
-    let room : nat_le 9223372036854775808 (asked_in w.log.entries) ≡ false = or-none (nat_le 256 (length w.air)) _ free in
-    let most : asked_in w.log.entries + 1 ≤ 9223372036854775808 = grind (arith, room) in
-    rw ask.1 (record { writable = (omega (arith, most), small, tt); state = asked-fits w _ c None (request_of (due w c)) fits refl most small })
+    let room : nat_le 9223372036854775808 (flights_asked w.log.entries) ≡ false = or-none (nat_le 256 (length w.air)) _ free in
+    let most : flights_asked w.log.entries + 1 ≤ 9223372036854775808 = grind (arith, room) in
+    rw ask.1 (record { writable = (omega (arith, most), small, tt); state = asked-fits w _ c None (request_of (due_of_connection w c)) fits refl most small })
 first-fits m w c request note fits small (inr (_, inr (_, inr (_, inr (never, _))))) = absurd never
 
-gives-fits : (m : Mood) (w : RunState) (c : ℕ) (owed : Due) (note : Note) → StateFits w → c < 4294967296 → Gives m w c owed note → NoteFits w note
+gives-fits : (m : Mood) (w : RunState) (c : ℕ) (owed : Due) (note : Note) → StateFits w → c < 4294967296 → GivesDue m w c owed note → NoteFits w note
 gives-fits m w c (Send slot) note fits small gives = rw gives.1 (record { writable = small; state = keeps-fits w _ fits refl refl refl })
 gives-fits m w c (Treat Continue) note fits small gives = absurd gives
 gives-fits m w c (Treat (Whole request)) note fits small (inl first) = first-fits m w c request note fits small first
 gives-fits m w c (Treat (Whole request)) note fits small (inr dry) = rw dry.1 (record { writable = (small, omega arith); state = local-fits w c 507 fits })
-gives-fits m w c (Refuse f) note fits small gives = rw gives (record { writable = (small, fault-short f); state = local-fits w c (status_of f) fits })
+gives-fits m w c (Refuse f) note fits small gives = rw gives (record { writable = (small, fault-short f); state = local-fits w c (fault_status f) fits })
 gives-fits m w c Close note fits small gives = rw gives (record { writable = small; state = keeps-fits w _ fits refl refl refl })
 gives-fits m w c Nothing note fits small gives = absurd gives
 
@@ -155,8 +155,8 @@ pub record NotesFit (w : RunState) (notes : List Note) : Type 0 where
 serves-fit : (m : Mood) (w : RunState) (c : ℕ) (notes : List Note) → StateFits w → c < 4294967296 → Serves m w c notes → NotesFit w notes
 serves-fit m w c [] fits small serves = record { writable = tt; state = fits }
 serves-fit m w c (note ∷ notes) fits small serves =
-    let one = gives-fits m w c (due w c) note fits small serves.0 in
-    let rest = serves-fit m (after w note) c notes one.state small serves.1 in
+    let one = gives-fits m w c (due_of_connection w c) note fits small serves.0 in
+    let rest = serves-fit m (state_after_note w note) c notes one.state small serves.1 in
     record { writable = (one.writable, rest.writable); state = rest.state }
 
 idle-fits : (w : RunState) (notes : List Note) → StateFits w → notes ≡ Idle ∷ [] → NotesFit w notes
@@ -202,22 +202,22 @@ module _ (short : (tree : Content) (ask : Ask) → (rendered tree ask).status < 
   render_fits w e None fits each is = idle-fits w e.body fits is
   render_fits w e (Some f) fits each to =
       let here = each f refl in
-      let wanted : (w.publishing w.content (asked_of w.farm f.request)).answer.status < 65536 = rw fits.publishing_is (omega (arith, short w.content (asked_of w.farm f.request))) in
+      let wanted : (w.publishing w.content (publisher_ask w.farm f.request)).answer.status < 65536 = rw fits.publishing_is (omega (arith, short w.content (publisher_ask w.farm f.request))) in
       rw to.2 (record {
         writable = ((omega (arith, here.number), or_fixed_short e.mood to.0 _ wanted to.1), tt);
         state = record { asked_is = fits.asked_is; air = all-rendered f.number to.0 w.air fits.air; publishing_is = fits.publishing_is };
       })
 
-  leads_fit : (w : RunState) (m : Mood) (first : Note) (c : ℕ) (notes : List Note) → IsWritable first → StateFits (after w first) → c < 4294967296 → Leads w m first c notes → NotesFit w notes
+  leads_fit : (w : RunState) (m : Mood) (first : Note) (c : ℕ) (notes : List Note) → IsWritable first → StateFits (state_after_note w first) → c < 4294967296 → LeadsNotes w m first c notes → NotesFit w notes
   leads_fit w m first c notes writable fits small leads =
-      let rest = serves-fit m (after w first) c leads.rest fits small leads.settles.serves in
+      let rest = serves-fit m (state_after_note w first) c leads.rest fits small leads.settles.serves in
       rw leads.begins (record { writable = (writable, rest.writable); state = rest.state })
 
   deliver_fits : (w : RunState) (e : Event) (f : Flying) (answer : Option Answer) → StateFits w → Fits f → DeliverAs w e f answer → NotesFit w e.body
   deliver_fits w e f None fits here is = idle-fits w e.body fits is
   deliver_fits w e f (Some answer) fits here lands =
       let first : lands.0 ≡ Passed f.number = lands.1 in
-      let leads : Leads w e.mood (Passed f.number) f.line e.body = subst (λ note. Leads w e.mood note f.line e.body) first lands.2 in
+      let leads : LeadsNotes w e.mood (Passed f.number) f.line e.body = subst (λ note. LeadsNotes w e.mood note f.line e.body) first lands.2 in
       leads_fit w e.mood (Passed f.number) f.line e.body (omega (arith, here.number)) (over-fits w f.number _ _ (flight_at f.number w.air) fits refl) here.line leads
 
   delivers_fit : (w : RunState) (e : Event) (flying : Option Flying) → StateFits w → ((f : Flying) → flying ≡ Some f → Fits f) → DeliverTo w e flying → NotesFit w e.body

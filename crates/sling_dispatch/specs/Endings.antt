@@ -104,16 +104,16 @@ abbrev pub AreWordsOf : Option (List (List ℕ)) → List (List ℕ) → Type 0
 AreWordsOf told words = IfSome told (λ all. words ≡ all)
 
 -- what is told of one call of `run`, beside the sink
-pub record Call : Type 0 where
+pub record RunCall : Type 0 where
   pub words : List (List ℕ)
   pub source : Told (List ℕ)
 
 -- the call replays, no read failed, and of the source's bytes, where it tells them, this holds
-abbrev pub Replays : Call → (List ℕ → Type 0) → Type 0
+abbrev pub Replays : RunCall → (List ℕ → Type 0) → Type 0
 Replays c P = IsReplay c.words × HasNotFailed c.source × IfSome c.source.old P
 
 -- What may be written by a call. Each line denies the causes of those before it.
-abbrev pub IsDue : Call → Writing → Type 0
+abbrev pub IsDue : RunCall → Writing → Type 0
 IsDue c Nothing = Unit {0}
 IsDue c UsageLine = (IsReplay c.words → ⊥) × IsUntouched c.source
 IsDue c SourceLine = IsReplay c.words × HasFailed c.source
@@ -125,12 +125,12 @@ IsDue c (FarmLine refusal) = Replays c (λ bytes. (s : Scenario) × Reads bytes 
 IsDue c (Events s events) = Replays c (λ bytes. Reads bytes s) × IsAtEnd c.source.new × IsRunOf s events
 
 -- the exit status of an ending
-abbrev pub status_of : Ending → ℕ
-status_of Done = 0
-status_of Usage = 2
-status_of SourceFailed = 3
-status_of SinkFailed = 4
-status_of Refused = 5
-status_of ContentRefused = 6
-status_of FarmRefused = 7
-status_of NoMemory = 70
+abbrev pub ending_status : Ending → ℕ
+ending_status Done = 0
+ending_status Usage = 2
+ending_status SourceFailed = 3
+ending_status SinkFailed = 4
+ending_status Refused = 5
+ending_status ContentRefused = 6
+ending_status FarmRefused = 7
+ending_status NoMemory = 70

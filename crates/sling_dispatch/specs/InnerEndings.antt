@@ -72,8 +72,8 @@ IsFarmOr refusal (FarmLine r) = (r ≡ refusal) × (lacks_memory refusal ≡ fal
 IsFarmOr refusal (Events s events) = ⊥
 
 -- What came of writing a text, of which good was to be the ending: that, or the sink failed, or memory did.
-abbrev pub Tells : Ending → List ℕ → Ending → Told (List ℕ) → Type 0
-Tells good text ending sink = ((ending ≡ good) × (sink.new ≡ added sink.old text) × HasNotFailed sink)
+abbrev pub TellsText : Ending → List ℕ → Ending → Told (List ℕ) → Type 0
+TellsText good text ending sink = ((ending ≡ good) × (sink.new ≡ added sink.old text) × HasNotFailed sink)
     ⊎ (((ending ≡ SinkFailed) × ((n : ℕ) × (sink.new ≡ added sink.old (take n text))) × HasFailed sink)
     ⊎ ((ending ≡ NoMemory) × ((n : ℕ) × (sink.new ≡ added sink.old (take n text))) × HasNotFailed sink))
 

@@ -3,7 +3,7 @@ use Rattle.std.specs.Prelude.{◌≡◌, ◌==◌, ◌++◌, if◌then◌else◌
 use Rattle.std.specs.Fmt.{decimal}
 use Rattle.resource_tree.specs.Content.{Content}
 use Rattle.content_json.specs.ContentOf.{content as content_of}
-use Rattle.publisher.specs.Rendering.{rendered, content_after}
+use Rattle.publisher.specs.Rendering.{rendered, content_after_request}
 use Rattle.replay_text.specs.declared.event_line.EventLine.{EventLine}
 use Rattle.replay_text.specs.declared.event_line.EventLine.TheVariants as line
 use Rattle.replay_text.specs.declared.event_line.Flight.{Flight}
@@ -28,8 +28,8 @@ abbrev pub head_line : List ℕ → List ℕ
 head_line text = text ++ 13 ∷ 10 ∷ []
 
 -- the host that a farm's publisher is asked at, with its port where it isn't that of HTTP (RFC 9110, section 7.2)
-abbrev pub asked_host : Farm → List ℕ
-asked_host farm = farm.ask_host ++ (if farm.ask_port == 80 then [] else 58 ∷ decimal farm.ask_port)
+abbrev pub asked_publisher_host : Farm → List ℕ
+asked_publisher_host farm = farm.ask_host ++ (if farm.ask_port == 80 then [] else 58 ∷ decimal farm.ask_port)
 
 -- the field that names a host
 abbrev pub host_line : List ℕ → List ℕ
@@ -67,7 +67,7 @@ step_of host (line.Lose flight) = Lose (pick_of flight)
 
 -- what the publisher gives: its answer, and what it leaves of the content
 abbrev pub published : Publishing
-published content ask = record { answer = rendered content ask; content = content_after content ask }
+published content ask = record { answer = rendered content ask; content = content_after_request content ask }
 
 -- the transcript of events
 abbrev pub told_of_events : List Event → List ℕ
@@ -82,5 +82,5 @@ pub record IsSession (s : Scenario) (left : List EventLine) (events : List Event
   pub farm_reads : farm_in (farm_text s.farm) ≡ Ok farm
   pub made : List EventLine
   pub acts : IsActs s.acts (made ++ left)
-  pub steps : map (λ (e : Event). e.step) events ≡ map (step_of (asked_host farm)) made
+  pub steps : map (λ (e : Event). e.step) events ≡ map (step_of (asked_publisher_host farm)) made
   pub run : Run (start_of published farm tree) events

@@ -3,7 +3,7 @@ ghost use Rattle.std.specs.Prelude.{◌≡◌, ◌+◌, ℕ, List, map, IfOk, On
 ghost use Rattle.sling_dispatch.specs.declared.ending.Ending.{Ending};
 ghost use Rattle.replay_text.specs.Scenario.{most};
 ghost use Rattle.sling_dispatch.specs.Streams.{HasTaken};
-ghost use Rattle.sling_dispatch.specs.Endings.{Means, IsDue, AreWordsOf, told_of, status_of};
+ghost use Rattle.sling_dispatch.specs.Endings.{Means, IsDue, AreWordsOf, told_of, ending_status};
 
 use crate::ending::Ending;
 use crate::program::run;
@@ -21,7 +21,7 @@ pub fn command<W: Words, S: Source, K: Sink>(
     sink: &mut K,
 ) -> u8
     ensures taken { HasTaken (most + 1) (S.left source.old) (S.left source.new) }
-    ensures ending { (words : List (List ℕ)) × AreWordsOf (W.told line.now) words × (e : Ending) × (result ≡ status_of e) × Means
+    ensures ending { (words : List (List ℕ)) × AreWordsOf (W.told line.now) words × (e : Ending) × (result ≡ ending_status e) × Means
         (IsDue (record {
           words = words;
           source = told_of (S.left source.old) (S.left source.new) (S.faults source.old) (S.faults source.new);

@@ -1,6 +1,6 @@
 //! How a run ends, and its exit status.
 ghost use Rattle.std.specs.Prelude.{◌≡◌};
-ghost use Rattle.sling_dispatch.specs.Endings.{status_of};
+ghost use Rattle.sling_dispatch.specs.Endings.{ending_status};
 
 /// How a run ends.
 #[derive(Clone, Copy, PartialEq, Eq, Debug, Drop)]
@@ -23,7 +23,7 @@ pub enum Ending {
 impl Ending {
     /// The exit status.
     pub fn status(self) -> u8
-        ensures { result ≡ status_of self }
+        ensures { result ≡ ending_status self }
     {
         match self {
             Ending::Done => 0,

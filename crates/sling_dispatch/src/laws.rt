@@ -6,7 +6,7 @@ ghost use Rattle.any_config.specs.declared.farm.Farm as models;
 ghost use Rattle.front.specs.Publishers.{direct_answer};
 ghost use Rattle.front.specs.Events.{Event, notes_of};
 ghost use Rattle.replay_text.specs.Scenario.{Reads};
-ghost use Rattle.sling_dispatch.specs.Endings.{Told, Call, Means, IsDue, IsReplay, HasNotFailed, HasContent, HasFarm};
+ghost use Rattle.sling_dispatch.specs.Endings.{Told, RunCall, Means, IsDue, IsReplay, HasNotFailed, HasContent, HasFarm};
 ghost use Rattle.sling_dispatch.specs.declared.ending.Ending.{Ending};
 ghost use Rattle.sling_dispatch.specs.declared.ending.Ending.TheVariants.{Done, NoMemory};
 ghost use Rattle.sling_dispatch.specs.Runs.{IsSession, published, told_of_events};
@@ -25,7 +25,7 @@ pub fn spellings_are_answered_alike()
 /// Where the words are right, the source's bytes are a scenario whose content and farm have a reading, and neither the source nor the
 /// sink failed, the run is done, unless it ran out of memory.
 pub fn complete()
-    ensures { (c : Call) (sink : Told (List ℕ)) (bytes : List ℕ) (s : Scenario) (ending : Ending) → Means (IsDue c) ending sink
+    ensures { (c : RunCall) (sink : Told (List ℕ)) (bytes : List ℕ) (s : Scenario) (ending : Ending) → Means (IsDue c) ending sink
         → IsReplay c.words → c.source.old ≡ Some bytes → Reads bytes s → HasContent s → HasFarm s
         → c.source.faults_old < 18446744073709551615 → HasNotFailed c.source → sink.faults_old < 18446744073709551615 → HasNotFailed sink
         → (ending ≡ Done) ⊎ (ending ≡ NoMemory) }

@@ -4,9 +4,9 @@ ghost use Rattle.sp_outside.specs.Told.{added};
 ghost use Rattle.sp_outside.specs.Causes.{HasSinkCause};
 ghost use Rattle.sling_dispatch.specs.Fronts.{IsNext};
 ghost use Rattle.sling_dispatch.specs.Runs.{published};
-ghost use Rattle.front.specs.Fronts.{Stands};
+ghost use Rattle.front.specs.Fronts.{BoardStands};
 ghost use Rattle.sling_dispatch.specs.Endings.{told_of};
-ghost use Rattle.sling_dispatch.specs.InnerEndings.{AreActLines, Tells, ending_by, PlaysAll};
+ghost use Rattle.sling_dispatch.specs.InnerEndings.{AreActLines, TellsText, ending_by, PlaysAll};
 
 use crate::ending::Ending;
 use crate::site::Site;
@@ -25,7 +25,7 @@ const GATHERED_BYTES: usize = 65_536;
 
 // Writes a text, after which the run ends so.
 pub fn say<K: Sink>(sink: &mut K, text: &[u8], good: Ending) -> Ending
-    ensures { Tells good text.now result (told_of (K.held sink.old) (K.held sink.new) (K.faults sink.old) (K.faults sink.new)) }
+    ensures { TellsText good text.now result (told_of (K.held sink.old) (K.held sink.new) (K.faults sink.old) (K.faults sink.new)) }
 {
     match write_all(sink, text) {
         Ok(()) => good,
@@ -111,7 +111,7 @@ fn event_of<'a>(
     lines: &'a [u8],
 ) -> Mem<(Vec<u8>, &'a [u8])>
     requires { AreActLines lines.now × (lines.now ≢ []) }
-    ensures { IfOk result (λ p. IsNext (Stands published front.old.renderer.publisher front.old.farm front.old.board) (Stands published front.new.renderer.publisher front.new.farm front.new.board) host.now lines.now p.1.now event p.0.items) }
+    ensures { IfOk result (λ p. IsNext (BoardStands published front.old.renderer.publisher front.old.farm front.old.board) (BoardStands published front.new.renderer.publisher front.new.farm front.new.board) host.now lines.now p.1.now event p.0.items) }
 {
     acts_are_told_by_their_lines();
     let Some((act, rest)) = first_act(alloc, lines)? else {

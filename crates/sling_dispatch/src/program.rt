@@ -4,8 +4,8 @@ ghost use Rattle.sling_dispatch.specs.declared.ending.Ending.{Ending};
 ghost use Rattle.replay_text.specs.Scenario.{Reads, IsScenario, most};
 ghost use Rattle.replay_text.specs.Reading.{RefusesWithin};
 ghost use Rattle.sling_dispatch.specs.Streams.{HasTaken};
-ghost use Rattle.sling_dispatch.specs.Endings.{Means, IsDue, IsReplay, IsUntouched, told_of, status_of};
-ghost use Rattle.sling_dispatch.specs.InnerEndings.{AreActLines, IsDueAt, IsDueIn, IsContentOr, IsFarmOr, PlaysOn, Tells};
+ghost use Rattle.sling_dispatch.specs.Endings.{Means, IsDue, IsReplay, IsUntouched, told_of, ending_status};
+ghost use Rattle.sling_dispatch.specs.InnerEndings.{AreActLines, IsDueAt, IsDueIn, IsContentOr, IsFarmOr, PlaysOn, TellsText};
 ghost use Rattle.sling_dispatch.specs.Farms as spec;
 
 use crate::ending::Ending;
@@ -32,7 +32,7 @@ pub fn run<S: Source, K: Sink>(
     sink: &mut K,
 ) -> u8
     ensures taken { HasTaken (most + 1) (S.left source.old) (S.left source.new) }
-    ensures ending { (e : Ending) × (result ≡ status_of e) × Means
+    ensures ending { (e : Ending) × (result ≡ ending_status e) × Means
         (IsDue (record {
           words = map (λ w. w.now) words.now;
           source = told_of (S.left source.old) (S.left source.new) (S.faults source.old) (S.faults source.new);
@@ -84,7 +84,7 @@ fn is_replay(words: &[&[u8]]) -> bool
 
 // Writes a line, where memory was there to make it, after which the run ends so.
 fn say_line<K: Sink>(sink: &mut K, line: Mem<Vec<u8>>, good: Ending) -> Ending
-    ensures made { IfOk line (λ text. Tells good text.items result (told_of (K.held sink.old) (K.held sink.new) (K.faults sink.old) (K.faults sink.new))) }
+    ensures made { IfOk line (λ text. TellsText good text.items result (told_of (K.held sink.old) (K.held sink.new) (K.faults sink.old) (K.faults sink.new))) }
     ensures not_made { OnErr line ((result ≡ Ending.NoMemory) × IsUntouched (told_of (K.held sink.old) (K.held sink.new) (K.faults sink.old) (K.faults sink.new))) }
 {
     match line {

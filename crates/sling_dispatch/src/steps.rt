@@ -13,7 +13,7 @@ const HTTP_PORT: u16 = 80;
 
 /// The host that a farm's publisher is asked at, with its port where it isn't that of HTTP.
 pub fn asked_host(alloc: Global, farm: &Farm) -> Mem<Vec<u8>>
-    ensures { IfOk result (λ host. host.items ≡ runs.asked_host farm.now) }
+    ensures { IfOk result (λ host. host.items ≡ runs.asked_publisher_host farm.now) }
 {
     let mut host = Vec::new(alloc);
     host.extend_from_slice(farm.ask_host.text().as_bytes())?;

@@ -71,17 +71,6 @@ number_is word r h plain =
           (λ p. and_true _ _ (and_true _ _ (fills (length word) p.1) p.0) (is_lt (digits_value 10 word) 9223372036854775808 p.2))
     ] refl
 
-and_false : (a : Bool) → (a && false) ≡ false
-and_false true = refl
-and_false false = refl
-
-pub plus_is_none : (word : List ℕ) → get_or word 0 0 ≡ 43 → number_of word ≡ None
-plus_is_none [] e = cc (e)
-plus_is_none (b ∷ word) e =
-    let text = 43 ∷ word in
-    subst (λ (c : ℕ). number_of (c ∷ word) ≡ None) (sym e)
-    (ap (λ t. cond (t && nat_lt (digits_value 10 text) 9223372036854775808) (Some (pos (digits_value 10 text))) None) (and_false (not (length text == 0))))
-
 -- the first word that is no number stands at this place
 pub longs_fail : (words : List (List ℕ)) (i : ℕ) → i < length words → ((k : ℕ) → k < i → is_none (number_of (get_or words k [])) ≡ false)
     → number_of (get_or words i []) ≡ None → longs_of words ≡ Err (NotANumber i)

@@ -6,7 +6,7 @@ use Rattle.std.specs.List.{AllByRecursion}
 use Rattle.cover_rules.specs.declared.stamp.Stamp.{Stamp}
 use Rattle.docroot_format.specs.Names.{are_bytes}
 use Rattle.stat_files.specs.Outdated.{is_older}
-use Rattle.stat_files.specs.Stamps.{greatest}
+use Rattle.stat_files.specs.Stamps.{greatest_stamp}
 
 never_both : (e c f d : ℕ) → nat_lt e f || (nat_eq e f && nat_lt c d) ≡ true → nat_lt f e || (nat_eq f e && nat_lt d c) ≡ false
 never_both e c f d h = grind (arith, nat_tests)
@@ -19,9 +19,6 @@ chained e c f d g b h k = grind (arith, nat_tests)
 
 by_epoch : (e c f d : ℕ) → e < f → nat_lt e f || (nat_eq e f && nat_lt c d) ≡ true
 by_epoch e c f d h = grind (arith, nat_tests)
-
-by_count : (e c d : ℕ) → c < d → nat_lt e e || (nat_eq e e && nat_lt c d) ≡ true
-by_count e c d h = grind (arith, nat_tests)
 
 pub same : (stamp : Stamp) → is_older stamp stamp ≡ false
 same stamp = never_self stamp.epoch stamp.count
@@ -64,7 +61,7 @@ greatest_last : (e c : ℕ) → e < 18446744073709551616 → c < 184467440737095
 greatest_last e c p q = grind (arith, nat_tests)
 
 -- no stamp is newer than the greatest
-pub greatest_not_older : (page : Stamp) → page.epoch < 2 ^ 64 → page.count < 2 ^ 64 → is_older greatest page ≡ false
+pub greatest_not_older : (page : Stamp) → page.epoch < 2 ^ 64 → page.count < 2 ^ 64 → is_older greatest_stamp page ≡ false
 greatest_not_older page epoch count = greatest_last page.epoch page.count epoch count
 
 pub first_bytes : (n : ℕ) (segs : List (List ℕ)) → AllByRecursion are_bytes segs → AllByRecursion are_bytes (take n segs)

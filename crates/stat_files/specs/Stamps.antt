@@ -6,11 +6,11 @@ use Rattle.docroot_format.specs.Readings.{stat_of}
 use Rattle.cover_rules.specs.declared.stamp.Stamp.{Stamp}
 
 -- the greatest stamp, which outdates every page
-abbrev pub greatest : Stamp
-greatest = record { epoch = 18446744073709551615; count = 18446744073709551615 }
+abbrev pub greatest_stamp : Stamp
+greatest_stamp = record { epoch = 18446744073709551615; count = 18446744073709551615 }
 
 abbrev pub stamp_or_greatest : Option (ℕ × ℕ) → Stamp
-stamp_or_greatest None = greatest
+stamp_or_greatest None = greatest_stamp
 stamp_or_greatest (Some stamp) = record { epoch = stamp.0; count = stamp.1 }
 
 -- the stamp that the bytes of a .stat file stand for: bytes of another form stand for the greatest

@@ -9,7 +9,7 @@ ghost use Rattle.cover_rules.specs.Coverage.{stat_folder};
 ghost use Rattle.cover_rules.specs.declared.page.PageKey.{PageKey};
 ghost use Rattle.cover_rules.specs.declared.stamp.Stamp.{Stamp};
 ghost use Rattle.stat_files.specs.Outdated.{is_older, is_outdated, outdates_page};
-ghost use Rattle.stat_files.specs.Stamps.{greatest, stamp_at, stamp_or_greatest};
+ghost use Rattle.stat_files.specs.Stamps.{greatest_stamp, stamp_at, stamp_or_greatest};
 
 use docroot_format::{names_are_apart, texts_are_read_back};
 use sp_outside::files_have_names;
@@ -25,8 +25,8 @@ pub fn a_stamp_is_read_back()
 /// A .stat file of another form has the greatest stamp: no stamp is above it, by the session and then by the count, so it outdates
 /// every page.
 pub fn a_foreign_stamp_is_the_greatest()
-    ensures foreign { stamp_or_greatest None ≡ greatest }
-    ensures greatest { (stamp : Stamp) → stamp.epoch < 2 ^ 64 → stamp.count < 2 ^ 64 → (stamp.epoch < greatest.epoch) ⊎ ((stamp.epoch ≡ greatest.epoch) × (stamp.count ≤ greatest.count)) }
+    ensures foreign { stamp_or_greatest None ≡ greatest_stamp }
+    ensures greatest { (stamp : Stamp) → stamp.epoch < 2 ^ 64 → stamp.count < 2 ^ 64 → (stamp.epoch < greatest_stamp.epoch) ⊎ ((stamp.epoch ≡ greatest_stamp.epoch) × (stamp.count ≤ greatest_stamp.count)) }
 {}
 
 /// Of two stamps one is older, or they are the same.

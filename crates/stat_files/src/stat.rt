@@ -2,7 +2,7 @@
 ghost use Rattle.std.specs.Prelude.{◌≡◌, IfOk, IfErr, IfSome, OnOk, IsTrue};
 ghost use Rattle.sp_outside.specs.Calls.{Get, Put, told_call};
 ghost use Rattle.sp_outside.specs.Files.{told_with};
-ghost use Rattle.docroot_format.specs.Faults.{HasFileCause, IsLeft};
+ghost use Rattle.docroot_format.specs.Faults.{HasFileCause, IsLeftByFault};
 ghost use Rattle.docroot_format.specs.Names.{have_names};
 ghost use Rattle.docroot_format.specs.Names as name;
 ghost use Rattle.docroot_format.specs.Texts as text;
@@ -19,7 +19,7 @@ use std::alloc::Global;
 pub fn touch<D: Disk>(disk: &mut D, folder: &Path, stamp: Stamp) -> Result<(), FileFault>
     requires { IsTrue (have_names folder.now) }
     ensures ok { OnOk result (D.files disk.new ≡ told_with (D.files disk.old) (name.stat_name folder.now) (text.stat_text stamp.epoch stamp.count)) }
-    ensures err { IfErr result (IsLeft (D.files disk.old) (told_with (D.files disk.old) (name.stat_name folder.now) (text.stat_text stamp.epoch stamp.count)) (D.files disk.new)) }
+    ensures err { IfErr result (IsLeftByFault (D.files disk.old) (told_with (D.files disk.old) (name.stat_name folder.now) (text.stat_text stamp.epoch stamp.count)) (D.files disk.new)) }
     ensures cause { HasFileCause (D.faults disk.old) (D.faults disk.new) result }
 
     // This call of the disk is made, and no other.

@@ -24,7 +24,7 @@ pub record IsSound (draft : Drafted) : Type 0 where
   pub counted : IsCounted draft
 
 -- a sound draft over the same tree
-pub record Follows (before after : Drafted) : Type 0 where
+pub record DraftFollows (before after : Drafted) : Type 0 where
   pub sound : IsSound after
   pub tree : after.tree ≡ before.tree
 

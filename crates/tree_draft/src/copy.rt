@@ -8,7 +8,7 @@ ghost use Rattle.sp_base.specs.Paths.{is_path, is_under, path_or_none};
 ghost use Rattle.resource_tree.specs.Content.{by_path, node_at, same_path, parent_of};
 ghost use Rattle.resource_tree.specs.Patches.{patching, row_at};
 ghost use Rattle.resource_tree.specs.Moves.{copy, copy_fault, part_there, path_there, target_fault};
-ghost use Rattle.tree_draft.specs.Drafts.{Follows, IsCounted, IsSound};
+ghost use Rattle.tree_draft.specs.Drafts.{DraftFollows, IsCounted, IsSound};
 
 use crate::Draft;
 use crate::create::{MOST_NODES, last_segment};
@@ -29,7 +29,7 @@ impl<'a> Draft<'a> {
         ensures ok { OnOk result (self.new.content ≡ copy self.old.content source.now target.now) }
         ensures err { IfErr result (λ e. e ≢ TreeFault.NoMemory → copy_fault self.old.content source.now target.now ≡ Some e) }
         ensures unchanged { IfErr result (λ e. e ≢ TreeFault.NoMemory → self.new ≡ self.old) }
-        ensures follows { OnOk result (Follows self.old self.new) }
+        ensures follows { OnOk result (DraftFollows self.old self.new) }
     {
         let parent = target.parent(alloc)?;
         self.check_target(alloc, source, target, &parent)?;

@@ -3,7 +3,7 @@ ghost use Rattle.std.specs.Prelude.{◌≡◌, ◌≢◌, ◌≤◌, ◌-◌, So
 ghost use Rattle.sp_base.specs.Paths.{is_path};
 ghost use Rattle.resource_tree.specs.Content.{parent_of, empty_node};
 ghost use Rattle.resource_tree.specs.Changes.{create_fault, creation};
-ghost use Rattle.tree_draft.specs.Drafts.{Follows, IsSound};
+ghost use Rattle.tree_draft.specs.Drafts.{DraftFollows, IsSound};
 
 use crate::Draft;
 use crate::edit::Edit;
@@ -30,7 +30,7 @@ impl<'a> Draft<'a> {
         ensures ok { OnOk result (self.new.content ≡ creation self.old.content path.now empty_node) }
         ensures err { IfErr result (λ e. e ≢ TreeFault.NoMemory → create_fault self.old.content path.now ≡ Some e) }
         ensures unchanged { IfErr result (λ e. e ≢ TreeFault.NoMemory → self.new ≡ self.old) }
-        ensures follows { OnOk result (Follows self.old self.new) }
+        ensures follows { OnOk result (DraftFollows self.old self.new) }
     {
         let parent = path.parent(alloc)?;
         self.check_create(alloc, path, &parent)?;

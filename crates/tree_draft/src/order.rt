@@ -1,7 +1,7 @@
 // Kids in another place among their parent's.
 ghost use Rattle.std.specs.Prelude.{◌≡◌, ◌≢◌, None, Some, OnOk, IfOk, IfErr};
 ghost use Rattle.resource_tree.specs.Changes.{fixed_fault, order_fault, reordering};
-ghost use Rattle.tree_draft.specs.Drafts.{Follows, IsSound};
+ghost use Rattle.tree_draft.specs.Drafts.{DraftFollows, IsSound};
 
 use crate::Draft;
 use crate::create::last_segment;
@@ -20,7 +20,7 @@ impl<'a> Draft<'a> {
         ensures ok { OnOk result (self.new.content ≡ reordering self.old.content path.now place.now) }
         ensures err { IfErr result (λ e. e ≢ TreeFault.NoMemory → order_fault self.old.content path.now place.now ≡ Some e) }
         ensures unchanged { IfErr result (λ e. e ≢ TreeFault.NoMemory → self.new ≡ self.old) }
-        ensures follows { OnOk result (Follows self.old self.new) }
+        ensures follows { OnOk result (DraftFollows self.old self.new) }
     {
         let parent = path.parent(alloc)?;
         self.check_fixed(alloc, path)?;

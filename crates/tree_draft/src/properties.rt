@@ -3,7 +3,7 @@ ghost use Rattle.std.specs.Prelude.{◌≡◌, ◌≢◌, Some, None, OnOk, IfOk
 ghost use Rattle.sp_base.specs.Paths.{seg_ok};
 ghost use Rattle.resource_tree.specs.Content.{kid, node_at};
 ghost use Rattle.resource_tree.specs.Changes.{clearing, has_prop_at, set_fault, unset_fault, update};
-ghost use Rattle.tree_draft.specs.Drafts.{Follows, IsSound};
+ghost use Rattle.tree_draft.specs.Drafts.{DraftFollows, IsSound};
 
 use crate::Draft;
 use crate::edit::Edit;
@@ -26,7 +26,7 @@ impl<'a> Draft<'a> {
         ensures ok { OnOk result (self.new.content ≡ update self.old.content path.now name.now value) }
         ensures err { IfErr result (λ e. e ≢ TreeFault.NoMemory → set_fault self.old.content path.now name.now ≡ Some e) }
         ensures unchanged { IfErr result (λ e. e ≢ TreeFault.NoMemory → self.new ≡ self.old) }
-        ensures follows { OnOk result (Follows self.old self.new) }
+        ensures follows { OnOk result (DraftFollows self.old self.new) }
     {
         self.check_set(alloc, path, name)?;
         let name = TextBuf::of(alloc, name)?;
@@ -41,7 +41,7 @@ impl<'a> Draft<'a> {
         ensures ok { OnOk result (self.new.content ≡ clearing self.old.content path.now name.now) }
         ensures err { IfErr result (λ e. e ≢ TreeFault.NoMemory → unset_fault self.old.content path.now ≡ Some e) }
         ensures unchanged { IfErr result (λ e. e ≢ TreeFault.NoMemory → self.new ≡ self.old) }
-        ensures follows { OnOk result (Follows self.old self.new) }
+        ensures follows { OnOk result (DraftFollows self.old self.new) }
     {
         if self.node(path).is_none() {
             return Err(TreeFault::NoSuch(path.duplicate(alloc)?));

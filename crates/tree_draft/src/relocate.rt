@@ -2,7 +2,7 @@
 ghost use Rattle.std.specs.Prelude.{◌≡◌, ◌≢◌, None, Some, OnOk, IfErr};
 ghost use Rattle.resource_tree.specs.Content.{parent_of};
 ghost use Rattle.resource_tree.specs.Moves.{ends_fault, move_fault, relocation};
-ghost use Rattle.tree_draft.specs.Drafts.{Follows, IsSound};
+ghost use Rattle.tree_draft.specs.Drafts.{DraftFollows, IsSound};
 
 use crate::Draft;
 use crate::copy::part_there;
@@ -22,7 +22,7 @@ impl<'a> Draft<'a> {
         ensures ok { OnOk result (self.new.content ≡ relocation self.old.content source.now target.now) }
         ensures err { IfErr result (λ e. e ≢ TreeFault.NoMemory → move_fault self.old.content source.now target.now ≡ Some e) }
         ensures unchanged { IfErr result (λ e. e ≢ TreeFault.NoMemory → self.new ≡ self.old) }
-        ensures follows { OnOk result (Follows self.old self.new) }
+        ensures follows { OnOk result (DraftFollows self.old self.new) }
     {
         let parent = target.parent(alloc)?;
         self.check_ends(alloc, source, target, &parent)?;

@@ -6,7 +6,7 @@ ghost use Rattle.std.specs.Map.{keys_of};
 ghost use Rattle.sp_base.specs.Paths.{is_under};
 ghost use Rattle.resource_tree.specs.Content.{by_path, node_at, same_path};
 ghost use Rattle.resource_tree.specs.Changes.{fixed_fault, removal, without_under};
-ghost use Rattle.tree_draft.specs.Drafts.{Follows, IsSound, IsCounted};
+ghost use Rattle.tree_draft.specs.Drafts.{DraftFollows, IsSound, IsCounted};
 
 use crate::Draft;
 use crate::create::last_segment;
@@ -24,7 +24,7 @@ impl<'a> Draft<'a> {
         ensures ok { OnOk result (self.new.content ≡ removal self.old.content path.now) }
         ensures err { IfErr result (λ e. e ≢ TreeFault.NoMemory → fixed_fault self.old.content path.now ≡ Some e) }
         ensures unchanged { IfErr result (λ e. e ≢ TreeFault.NoMemory → self.new ≡ self.old) }
-        ensures follows { OnOk result (Follows self.old self.new) }
+        ensures follows { OnOk result (DraftFollows self.old self.new) }
     {
         self.check_fixed(alloc, path)?;
         let paths = paths_under(self, alloc, path)?;
@@ -38,7 +38,7 @@ impl<'a> Draft<'a> {
         requires fixed { fixed_fault self.old.content path.now ≡ None }
         requires all { (q : List (List ℕ)) → list_any (same_path q) paths.now ≡ (is_some (node_at self.old.content q) && is_under q path.now) }
         ensures ok { OnOk result (self.new.content ≡ removal self.old.content path.now) }
-        ensures follows { OnOk result (Follows self.old self.new) }
+        ensures follows { OnOk result (DraftFollows self.old self.new) }
     {
         let parent = path.parent(alloc)?;
         let Some(name) = last_segment(path) else {

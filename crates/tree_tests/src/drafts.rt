@@ -1,6 +1,6 @@
 // Changes of a draft, each with the whole tree compared that its patch makes.
 ghost use Rattle.std.specs.Prelude.{◌≡◌, OnOk};
-ghost use Rattle.tree_draft.specs.Drafts.{Follows, IsSound};
+ghost use Rattle.tree_draft.specs.Drafts.{DraftFollows, IsSound};
 
 use crate::changes::{Failed, at, tree_of};
 use crate::parts::{PARTS, listing};
@@ -30,7 +30,7 @@ fn carry(
     moves: bool,
 ) -> Result<(), TreeFault>
     requires { IsSound draft.old }
-    ensures { OnOk result (Follows draft.old draft.new) }
+    ensures { OnOk result (DraftFollows draft.old draft.new) }
 {
     let source = at(alloc, source)?;
     let target = at(alloc, target)?;

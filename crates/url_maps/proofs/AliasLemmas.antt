@@ -10,9 +10,9 @@ use Rattle.sp_base.specs.Paths.{is_path, parent_of, path_of, seg_ok, text_of}
 use Rattle.resource_tree.specs.declared.nodes.Node.{Node}
 use Rattle.resource_tree.specs.Content.{Content, IsTree, kid, name_of, node_at, prop_at, same_path}
 use Rattle.resource_tree.specs.Changes.{kids_at}
-use Rattle.url_maps.specs.Words.{texts_of}
+use Rattle.url_maps.specs.Words.{mapping_texts}
 use Rattle.url_maps.specs.Aliases.{IsAlias, has_alias}
-use Rattle.url_maps.specs.Claims.{AreClaims, Rows, claimants, claims_alias, node_claims_alias, spells_alias}
+use Rattle.url_maps.specs.Claims.{AreClaims, ClaimRows, claimants, claims_alias, node_claims_alias, spells_alias}
 use Rattle.url_maps.specs.declared.pairs.Pair.{Pair}
 use Rattle.url_maps.specs.declared.pairs.PairKind.TheVariants.{Alias}
 use Rattle.url_maps.specs.Pairs.{HasAlias, IsPair, IsPairOf}
@@ -90,11 +90,11 @@ module _ (read : IsReadBack) (tree : Content) (good : IsTree (node_at tree)) whe
   unfolding claims_alias node_claims_alias has_alias
   claims_is p name alias segment =
       let text = text_of (kid p alias) in
-      elim (node_at tree (kid p name)) as (λ o. node_at tree (kid p name) ≡ o → option_map_or (λ (node : Node). node_claims_alias (kid p name) node text) o false ≡ option_map_or (λ (node : Node). list_any (pointwise nat_eq alias) (texts_of (prop_at node (codes "sling:alias")))) o false) [
+      elim (node_at tree (kid p name)) as (λ o. node_at tree (kid p name) ≡ o → option_map_or (λ (node : Node). node_claims_alias (kid p name) node text) o false ≡ option_map_or (λ (node : Node). list_any (pointwise nat_eq alias) (mapping_texts (prop_at node (codes "sling:alias")))) o false) [
         | None ↦ λ is. refl
         | Some node ↦ λ is.
             let valid = valid_sibling p name alias (there_valid (kid p name) node is) segment in
-            let words = texts_of (prop_at node (codes "sling:alias")) in
+            let words = mapping_texts (prop_at node (codes "sling:alias")) in
             let below : (length (kid p name) == 0) ≡ false = not_root (kid p name) (length_kid-is p name) in
             ap (λ b. not b && list_any (spells_alias (kid p name) text) words) below
             ∙ any_alike (spells_alias (kid p name) text) (pointwise nat_eq alias) (λ word. ap (λ r. seg_ok word && pointwise nat_eq text (text_of (kid r word))) (parent_of-kid p name) ∙ spells_is read p alias word valid segment) words
@@ -106,8 +106,8 @@ module _ (read : IsReadBack) (tree : Content) (good : IsTree (node_at tree)) whe
       elim (node_at tree q) as (λ o. node_at tree q ≡ o → option_map_or (λ (node : Node). node_claims_alias q node text) o false ≡ true → Claimant tree q text) [
         | None ↦ λ is fails. absurd (false≢true fails)
         | Some node ↦ λ is passes_it.
-            let parts = and_parts (not (length q == 0)) (list_any (spells_alias q text) (texts_of (prop_at node (codes "sling:alias")))) passes_it in
-            let found = find_any (spells_alias q text) (texts_of (prop_at node (codes "sling:alias"))) parts.1 in
+            let parts = and_parts (not (length q == 0)) (list_any (spells_alias q text) (mapping_texts (prop_at node (codes "sling:alias")))) passes_it in
+            let found = find_any (spells_alias q text) (mapping_texts (prop_at node (codes "sling:alias"))) parts.1 in
             let both = and_parts (seg_ok found.item) (pointwise nat_eq text (text_of (kid (parent_of q) found.item))) found.passes in
             record {
               node = node;
@@ -125,7 +125,7 @@ module _ (read : IsReadBack) (tree : Content) (good : IsTree (node_at tree)) whe
       valid_sibling (parent_of q) (name_of q) c.alias (ap is_path (kid_parts q c.below) ∙ there_valid q c.node c.there) c.segment
 
   -- the free text that a claimant claims is the alias of the first kid that claims it
-  pub alias_from : (rows : Rows) (text : List ℕ) (q path : List (List ℕ)) → AreClaims (claims_alias tree) rows → (c : Claimant tree q text) → is_free tree text ≡ true
+  pub alias_from : (rows : ClaimRows) (text : List ℕ) (q path : List (List ℕ)) → AreClaims (claims_alias tree) rows → (c : Claimant tree q text) → is_free tree text ≡ true
       → Some path ≡ first_kid tree (parent_of q) (claimants rows text) → IsAlias tree text path
   alias_from rows text q path claims c free first =
       let p = parent_of q in
@@ -155,7 +155,7 @@ module _ (read : IsReadBack) (tree : Content) (good : IsTree (node_at tree)) whe
       ∙ find_passes (λ sibling. has_alias tree (kid a.parent sibling) a.alias) (kids_at tree a.parent) a.name a.first
 
   -- no alias without a claimant
-  pub none_claimed : (rows : Rows) (text : List ℕ) (path : List (List ℕ)) → AreClaims (claims_alias tree) rows → claimants rows text ≡ [] → IsAlias tree text path → ⊥
+  pub none_claimed : (rows : ClaimRows) (text : List ℕ) (path : List (List ℕ)) → AreClaims (claims_alias tree) rows → claimants rows text ≡ [] → IsAlias tree text path → ⊥
   none_claimed rows text path claims none a = false≢true (sym (ap (list_any (same_path path)) none) ∙ claims text path ∙ alias_claims text path a)
 
   -- nor at a text that spells a node's path
@@ -166,7 +166,7 @@ module _ (read : IsReadBack) (tree : Content) (good : IsTree (node_at tree)) whe
       true≢false (sym (ap is_none a.free) ∙ sym (ap (λ t. is_free_at tree (path_of t)) a.text_is ∙ ap (is_free_at tree) (read (kid a.parent a.alias) valid)) ∙ taken)
 
   -- nor where no kid claims it
-  pub none_first : (rows : Rows) (text : List ℕ) (q path : List (List ℕ)) → AreClaims (claims_alias tree) rows → Claimant tree q text → None ≡ first_kid tree (parent_of q) (claimants rows text) → IsAlias tree text path → ⊥
+  pub none_first : (rows : ClaimRows) (text : List ℕ) (q path : List (List ℕ)) → AreClaims (claims_alias tree) rows → Claimant tree q text → None ≡ first_kid tree (parent_of q) (claimants rows text) → IsAlias tree text path → ⊥
   none_first rows text q path claims c none a =
       let other = claimant_is path text (alias_claims text path a) in
       let valid : is_path (kid a.parent a.alias) ≡ true = valid_sibling a.parent a.name a.alias (ap is_path (sym a.path_is) ∙ there_valid path other.node other.there) a.segment in
@@ -180,14 +180,14 @@ module _ (read : IsReadBack) (tree : Content) (good : IsTree (node_at tree)) whe
 
   -- ---- from the list of claimants
 
-  pub first_claims : (rows : Rows) (text : List ℕ) → AreClaims (claims_alias tree) rows → 0 < length (claimants rows text) → claims_alias tree (first_path (claimants rows text)) text ≡ true
+  pub first_claims : (rows : ClaimRows) (text : List ℕ) → AreClaims (claims_alias tree) rows → 0 < length (claimants rows text) → claims_alias tree (first_path (claimants rows text)) text ≡ true
   first_claims rows text claims some = sym (claims text (first_path (claimants rows text))) ∙ first_among (claimants rows text) some
 
-  pub first_is : (rows : Rows) (text : List ℕ) → AreClaims (claims_alias tree) rows → 0 < length (claimants rows text) → Claimant tree (first_path (claimants rows text)) text
+  pub first_is : (rows : ClaimRows) (text : List ℕ) → AreClaims (claims_alias tree) rows → 0 < length (claimants rows text) → Claimant tree (first_path (claimants rows text)) text
   first_is rows text claims some = claimant_is (first_path (claimants rows text)) text (first_claims rows text claims some)
 
   -- the pair of an alias
-  pub is_alias_pair : (rows : Rows) (text : List ℕ) (pair : Pair) (path : List (List ℕ)) → AreClaims (claims_alias tree) rows → 0 < length (claimants rows text) → is_free tree text ≡ true
+  pub is_alias_pair : (rows : ClaimRows) (text : List ℕ) (pair : Pair) (path : List (List ℕ)) → AreClaims (claims_alias tree) rows → 0 < length (claimants rows text) → is_free tree text ≡ true
       → Some path ≡ first_kid tree (parent_of (first_path (claimants rows text))) (claimants rows text) → pair.target ≡ text_of path → pair.away ≡ None → HasAlias tree text pair
   is_alias_pair rows text pair path claims some free first target inside = record {
     path = path;
@@ -197,7 +197,7 @@ module _ (read : IsReadBack) (tree : Content) (good : IsTree (node_at tree)) whe
   }
 
   -- no pair of an alias, unless some node claims the text, ..
-  pub no_alias_claimed : (rows : Rows) (text : List ℕ) → AreClaims (claims_alias tree) rows → length (claimants rows text) ≡ 0 → (pair : Pair) → pair.kind ≡ Alias → IsPair tree None text pair → ⊥
+  pub no_alias_claimed : (rows : ClaimRows) (text : List ℕ) → AreClaims (claims_alias tree) rows → length (claimants rows text) ≡ 0 → (pair : Pair) → pair.kind ≡ Alias → IsPair tree None text pair → ⊥
   no_alias_claimed rows text claims none pair is has =
       let a = subst (λ kind. IsPairOf kind tree None text pair) is has in none_claimed rows text a.path claims (empty_from (claimants rows text) none) a.alias
 
@@ -206,7 +206,7 @@ module _ (read : IsReadBack) (tree : Content) (good : IsTree (node_at tree)) whe
   no_alias_taken text taken pair is has = let a = subst (λ kind. IsPairOf kind tree None text pair) is has in none_taken text a.path taken a.alias
 
   -- .. and a kid claims it
-  pub no_alias_first : (rows : Rows) (text : List ℕ) → AreClaims (claims_alias tree) rows → 0 < length (claimants rows text) → None ≡ first_kid tree (parent_of (first_path (claimants rows text))) (claimants rows text)
+  pub no_alias_first : (rows : ClaimRows) (text : List ℕ) → AreClaims (claims_alias tree) rows → 0 < length (claimants rows text) → None ≡ first_kid tree (parent_of (first_path (claimants rows text))) (claimants rows text)
       → (pair : Pair) → pair.kind ≡ Alias → IsPair tree None text pair → ⊥
   no_alias_first rows text claims some none pair is has =
       let a = subst (λ kind. IsPairOf kind tree None text pair) is has in none_first rows text (first_path (claimants rows text)) a.path claims (first_is rows text claims some) none a.alias

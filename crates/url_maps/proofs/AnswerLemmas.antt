@@ -16,13 +16,13 @@ use Rattle.url_maps.specs.declared.answer.MapAnswer.{MapAnswer}
 use Rattle.url_maps.specs.declared.pairs.Pair.{Pair}
 use Rattle.url_maps.specs.declared.pairs.PairKind.TheVariants.{Mapping, Alias, VanityPath}
 use Rattle.url_maps.specs.Aliases.{IsAlias, has_alias}
-use Rattle.url_maps.specs.Answers.{alias_at, alias_with, answer_of, decision, earlier, earliest, is_plain, map_answer, mapping_at, mapping_with, outcome, pair_at, pair_inside, pair_to, pair_with, sibling_with_alias, turn, vanity_at, vanity_nodes, vanity_with}
+use Rattle.url_maps.specs.Answers.{alias_at, alias_with, answer_of, deciding_pair, earlier, earliest, is_without_pattern, map_answer, mapping_at, mapping_with, outcome, pair_at, pair_inside, pair_to, pair_with, sibling_with_alias, turn, vanity_at, vanity_nodes, vanity_with}
 use Rattle.url_maps.specs.Mappings.{IsPlain, has_match, mapping_of, site_of}
-use Rattle.url_maps.specs.Pairs.{Applies, Decides, HasNoPair, IsPair, IsPairOf, goes_on}
-use Rattle.url_maps.specs.Search.{IsBest, IsFirst, IsMappingPair, IsOf, is_cut, mapped_path}
+use Rattle.url_maps.specs.Pairs.{Applies, Decides, HasNoPair, IsPair, IsPairOf, goes_on_after_prefix}
+use Rattle.url_maps.specs.Search.{IsBest, IsFirstPath, IsMappingPair, IsOf, is_prefix_end, mapped_path}
 use Rattle.url_maps.specs.Turns.{IsMapped, Turns, leads, most_turns, text_after}
-use Rattle.url_maps.specs.VanityPaths.{has_vanity_path, page_of, vanity_cmp, with_slash}
-use Rattle.url_maps.specs.Words.{texts_of}
+use Rattle.url_maps.specs.VanityPaths.{has_vanity_path, vanity_page, vanity_cmp, with_slash}
+use Rattle.url_maps.specs.Words.{mapping_texts}
 use Rattle.url_maps.proofs.LawLemmas.{alias_path}
 use Rattle.url_maps.proofs.MappingLemmas.{IsSpelled, no_node_pair, no_path_pair, no_plain_pair, pair_at_node}
 use Rattle.url_maps.proofs.PairLemmas.{best_alias, best_last, best_mapping, goes_on_cut, none_best, none_of}
@@ -53,10 +53,10 @@ plain_back tree path (suc n) d none =
     (ap not (none d (omega arith) (omega arith)))
     (plain_back tree path n (d + 1) (λ k low high. none k (omega (arith, low)) (omega (arith, high))))
 
-plain_is : (tree : Content) (site path : List (List ℕ)) → is_plain tree site path ≡ true → IsPlain tree site path
+plain_is : (tree : Content) (site path : List (List ℕ)) → is_without_pattern tree site path ≡ true → IsPlain tree site path
 plain_is tree site path all k low high = plain_from tree path (length path + 1 - length site) (length site) all k low (omega (arith, low, high))
 
-plain_only : (tree : Content) (site path : List (List ℕ)) → IsPlain tree site path → is_plain tree site path ≡ true
+plain_only : (tree : Content) (site path : List (List ℕ)) → IsPlain tree site path → is_without_pattern tree site path ≡ true
 plain_only tree site path plain = plain_back tree path (length path + 1 - length site) (length site) (λ k low high. plain k low (omega (arith, low, high)))
 
 -- ---- lists of paths
@@ -120,14 +120,14 @@ rest_valid q paths valid other among = valid other (ap (λ b. same_path other q 
 head_among : (q : List (List ℕ)) (paths : List (List (List ℕ))) → list_any (same_path q) (q ∷ paths) ≡ true
 head_among q paths = ap (λ b. b || list_any (same_path q) paths) (same_path_self q)
 
-pub earliest_is : IsReadBack → (tree : Content) (paths : List (List (List ℕ))) (path : List (List ℕ)) → AreValid paths → earliest tree paths ≡ Some path → IsFirst tree paths path
+pub earliest_is : IsReadBack → (tree : Content) (paths : List (List (List ℕ))) (path : List (List ℕ)) → AreValid paths → earliest tree paths ≡ Some path → IsFirstPath tree paths path
 earliest_is read tree [] path valid is = cc
 earliest_is read tree (q ∷ paths) path valid is =
-    elim (earliest tree paths) as (λ o. earliest tree paths ≡ o → Some (earlier tree q o) ≡ Some path → IsFirst tree (q ∷ paths) path) [
+    elim (earliest tree paths) as (λ o. earliest tree paths ≡ o → Some (earlier tree q o) ≡ Some path → IsFirstPath tree (q ∷ paths) path) [
       | None ↦ λ none one.
           let same : q ≡ path = some_same q path one in
           let alone : paths ≡ [] = earliest_none tree paths none in
-          subst (λ (p : List (List ℕ)). IsFirst tree (q ∷ paths) p) same (record {
+          subst (λ (p : List (List ℕ)). IsFirstPath tree (q ∷ paths) p) same (record {
             among = head_among q paths;
             first = λ other among. ⊎_elim
                 (λ (here : same_path other q ≡ true). inl (path_from_same other q here))
@@ -141,7 +141,7 @@ earliest_is read tree (q ∷ paths) path valid is =
           (λ (less : is_lt (vanity_cmp tree q next) ≡ true).
           let same : q ≡ path = some_same q path (sym (ap (λ b. Some (cond b q next)) less) ∙ one) in
           let is_less = less_from (vanity_cmp tree q next) less in
-          subst (λ (p : List (List ℕ)). IsFirst tree (q ∷ paths) p) same (record {
+          subst (λ (p : List (List ℕ)). IsFirstPath tree (q ∷ paths) p) same (record {
             among = head_among q paths;
             first = λ other among. ⊎_elim
                 (λ (here : same_path other q ≡ true). inl (path_from_same other q here))
@@ -153,7 +153,7 @@ earliest_is read tree (q ∷ paths) path valid is =
           }))
           (λ (not_less : is_lt (vanity_cmp tree q next) ≡ false).
           let same : next ≡ path = some_same next path (sym (ap (λ b. Some (cond b q next)) not_less) ∙ one) in
-          subst (λ (p : List (List ℕ)). IsFirst tree (q ∷ paths) p) same (record {
+          subst (λ (p : List (List ℕ)). IsFirstPath tree (q ∷ paths) p) same (record {
             among = next_among;
             first = λ other among. ⊎_elim
                 (λ (here : same_path other q ≡ true).
@@ -179,12 +179,12 @@ has_node : (tree : Content) (path : List (List ℕ)) (text : List ℕ) → has_v
 unfolding has_vanity_path
 has_node tree path text has =
     elim (node_at tree path) as (λ o. node_at tree path ≡ o → is_some o ≡ true) [
-      | None ↦ λ is. absurd (false≢true (sym (ap (λ o. option_map_or (λ (node : Node). list_any (λ word. pointwise nat_eq text (with_slash word)) (texts_of (prop_at node (codes "sling:vanityPath")))) o false) is) ∙ has))
+      | None ↦ λ is. absurd (false≢true (sym (ap (λ o. option_map_or (λ (node : Node). list_any (λ word. pointwise nat_eq text (with_slash word)) (mapping_texts (prop_at node (codes "sling:vanityPath")))) o false) is) ∙ has))
       | Some node ↦ λ is. refl
     ] refl
 
 module _ (read : IsReadBack) (spelled : IsSpelled) (valid : (text : List ℕ) (path : List (List ℕ)) → path_of text ≡ Ok path → IsTrue (is_path path)) (tree : Content) (good : IsTree (node_at tree)) where
-  mapping_there : (site : List (List ℕ)) (prefix : List ℕ) (path : List (List ℕ)) → mapped_path site prefix ≡ Some path → is_plain tree site path ≡ true
+  mapping_there : (site : List (List ℕ)) (prefix : List ℕ) (path : List (List ℕ)) → mapped_path site prefix ≡ Some path → is_without_pattern tree site path ≡ true
       → IsOf Mapping tree (Some site) prefix (option_map pair_to (option_and_then mapping_of (node_at tree path)))
   mapping_there site prefix path at plain =
       elim (node_at tree path) as (λ o. node_at tree path ≡ o → IsOf Mapping tree (Some site) prefix (option_map pair_to (option_and_then mapping_of o))) [
@@ -196,11 +196,11 @@ module _ (read : IsReadBack) (spelled : IsSpelled) (valid : (text : List ℕ) (p
   mapping_at_is site prefix path at =
       let leads_to = option_map pair_to (option_and_then mapping_of (node_at tree path)) in
       ⊎_elim
-      (λ (plain : is_plain tree site path ≡ true). subst (λ b. IsOf Mapping tree (Some site) prefix (cond b leads_to None)) (sym plain) (mapping_there site prefix path at plain))
-      (λ (fails : is_plain tree site path ≡ false).
+      (λ (plain : is_without_pattern tree site path ≡ true). subst (λ b. IsOf Mapping tree (Some site) prefix (cond b leads_to None)) (sym plain) (mapping_there site prefix path at plain))
+      (λ (fails : is_without_pattern tree site path ≡ false).
       subst (λ b. IsOf Mapping tree (Some site) prefix (cond b leads_to None)) (sym fails)
       (no_plain_pair read tree good site prefix path at (λ plain. true≢false (sym (plain_only tree site path plain) ∙ fails))))
-      (cases_Bool (is_plain tree site path))
+      (cases_Bool (is_without_pattern tree site path))
 
   mapping_is : (site : Option (List (List ℕ))) (prefix : List ℕ) → IsOf Mapping tree site prefix (mapping_with tree site prefix)
   mapping_is None prefix = λ pair is has. subst (λ kind. IsPairOf kind tree None prefix pair) is has
@@ -286,9 +286,9 @@ module _ (read : IsReadBack) (spelled : IsSpelled) (valid : (text : List ℕ) (p
   vanity_listed text q has = filter_keeps (λ path. has_vanity_path tree path text) q (keys_of tree) has (key_listed tree q (has_node tree q text has))
 
   free_vanity_is : (prefix : List ℕ) (at : List (List ℕ)) → path_of prefix ≡ Ok at → node_at tree at ≡ None
-      → IsOf VanityPath tree None prefix (option_map (λ path. pair_inside VanityPath (page_of path)) (earliest tree (vanity_nodes tree prefix)))
+      → IsOf VanityPath tree None prefix (option_map (λ path. pair_inside VanityPath (vanity_page path)) (earliest tree (vanity_nodes tree prefix)))
   free_vanity_is prefix at reads none =
-      elim (earliest tree (vanity_nodes tree prefix)) as (λ o. earliest tree (vanity_nodes tree prefix) ≡ o → IsOf VanityPath tree None prefix (option_map (λ path. pair_inside VanityPath (page_of path)) o)) [
+      elim (earliest tree (vanity_nodes tree prefix)) as (λ o. earliest tree (vanity_nodes tree prefix) ≡ o → IsOf VanityPath tree None prefix (option_map (λ path. pair_inside VanityPath (vanity_page path)) o)) [
         | None ↦ λ lacks pair is has.
             let v = subst (λ kind. IsPairOf kind tree None prefix pair) is has in
             false≢true (sym (ap (list_any (same_path v.path)) (earliest_none tree (vanity_nodes tree prefix) lacks)) ∙ vanity_listed prefix v.path v.vanity_path.has)
@@ -315,7 +315,7 @@ module _ (read : IsReadBack) (spelled : IsSpelled) (valid : (text : List ℕ) (p
       elim (path_of prefix) as (λ r. path_of prefix ≡ r → IsOf VanityPath tree None prefix (vanity_at tree prefix r)) [
         | Err e ↦ λ bad pair is has. let v = subst (λ kind. IsPairOf kind tree None prefix pair) is has in let same = v.vanity_path.reads in cc
         | Ok at ↦ λ reads.
-            let there = option_map (λ path. pair_inside VanityPath (page_of path)) (earliest tree (vanity_nodes tree prefix)) in
+            let there = option_map (λ path. pair_inside VanityPath (vanity_page path)) (earliest tree (vanity_nodes tree prefix)) in
             ⊎_elim
             (λ (free : is_none (node_at tree at) ≡ true).
             subst (λ b. IsOf VanityPath tree None prefix (cond b there None)) (sym free) (free_vanity_is prefix at reads (none_is (node_at tree at) free)))
@@ -331,9 +331,9 @@ module _ (read : IsReadBack) (spelled : IsSpelled) (valid : (text : List ℕ) (p
 
   -- ---- the pair that decides
 
-  best_is : (site : Option (List (List ℕ))) (prefix rest : List ℕ) → is_cut rest ≡ true → IsBest tree site prefix rest (pair_with tree site prefix rest)
+  best_is : (site : Option (List (List ℕ))) (prefix rest : List ℕ) → is_prefix_end rest ≡ true → IsBest tree site prefix rest (pair_with tree site prefix rest)
   best_is site prefix rest cut =
-      let vanity = cond (goes_on VanityPath rest) (vanity_with tree prefix) None in
+      let vanity = cond (goes_on_after_prefix VanityPath rest) (vanity_with tree prefix) None in
       elim (mapping_with tree site prefix) as (λ o. IsOf Mapping tree site prefix o → IsBest tree site prefix rest (option_or o (option_or (alias_with tree prefix) vanity))) [
         | Some pair ↦ λ is. best_mapping tree site prefix rest cut pair is
         | None ↦ λ no_mapping.
@@ -342,13 +342,13 @@ module _ (read : IsReadBack) (spelled : IsSpelled) (valid : (text : List ℕ) (p
               | None ↦ λ lacks.
                   let no_alias = none_of tree site prefix rest cut Alias (λ e. cc) lacks in
                   ⊎_elim
-                  (λ (dot : goes_on VanityPath rest ≡ true).
+                  (λ (dot : goes_on_after_prefix VanityPath rest ≡ true).
                   subst (λ b. IsBest tree site prefix rest (cond b (vanity_with tree prefix) None)) (sym dot)
                   (best_last tree site prefix rest cut (vanity_with tree prefix) no_mapping no_alias dot (vanity_is prefix)))
-                  (λ (slash : goes_on VanityPath rest ≡ false).
+                  (λ (slash : goes_on_after_prefix VanityPath rest ≡ false).
                   subst (λ b. IsBest tree site prefix rest (cond b (vanity_with tree prefix) None)) (sym slash)
                   (none_best tree site prefix rest cut no_mapping no_alias (inr slash)))
-                  (cases_Bool (goes_on VanityPath rest))
+                  (cases_Bool (goes_on_after_prefix VanityPath rest))
             ] (alias_is prefix)
       ] (mapping_is site prefix)
 
@@ -357,34 +357,34 @@ module _ (read : IsReadBack) (spelled : IsSpelled) (valid : (text : List ℕ) (p
       let prefix = take at text in
       let rest = drop at text in
       ⊎_elim
-      (λ (cut : is_cut rest ≡ true). subst (λ b. IsBest tree site prefix rest (cond b (pair_with tree site prefix rest) None)) (sym cut) (best_is site prefix rest cut))
-      (λ (whole : is_cut rest ≡ false).
+      (λ (cut : is_prefix_end rest ≡ true). subst (λ b. IsBest tree site prefix rest (cond b (pair_with tree site prefix rest) None)) (sym cut) (best_is site prefix rest cut))
+      (λ (whole : is_prefix_end rest ≡ false).
       subst (λ b. IsBest tree site prefix rest (cond b (pair_with tree site prefix rest) None)) (sym whole)
       (λ other has goes. true≢false (sym (goes_on_cut other.kind rest goes) ∙ whole)))
-      (cases_Bool (is_cut rest))
+      (cases_Bool (is_prefix_end rest))
 
   -- what is decided
   abbrev IsDecision : Option (List (List ℕ)) → List ℕ → Option (ℕ × Pair) → Type 0
   IsDecision site text None = HasNoPair tree site text
   IsDecision site text (Some (at, pair)) = Decides tree site text at pair
 
-  decision_is : (site : Option (List (List ℕ))) (text : List ℕ) (n : ℕ) → n ≤ length text + 1 → ((k : ℕ) (pair : Pair) → n ≤ k → Applies tree site text k pair → ⊥) → IsDecision site text (decision tree site text n)
+  decision_is : (site : Option (List (List ℕ))) (text : List ℕ) (n : ℕ) → n ≤ length text + 1 → ((k : ℕ) (pair : Pair) → n ≤ k → Applies tree site text k pair → ⊥) → IsDecision site text (deciding_pair tree site text n)
   decision_is site text zero within beyond = λ k pair applies. beyond k pair (omega arith) applies
   decision_is site text (suc n) within beyond =
-      elim (pair_at tree site text n) as (λ o. IsBest tree site (take n text) (drop n text) o → IsDecision site text (option_or (option_map (λ pair. (n, pair)) o) (decision tree site text n))) [
+      elim (pair_at tree site text n) as (λ o. IsBest tree site (take n text) (drop n text) o → IsDecision site text (option_or (option_map (λ pair. (n, pair)) o) (deciding_pair tree site text n))) [
         | Some pair ↦ λ best. record {
           applies = record { within = omega (arith, within); has = best.0; continues = best.1 };
           best = λ k other applies. ⊎_elim
               (λ (below : k < n). inl below)
               (λ (above : n ≤ k). ⊎_elim
               (λ (same : k ≡ n).
-              inr (same, best.2 other (subst (λ i. IsPair tree site (take i text) other) same applies.has) (ap (λ i. goes_on other.kind (drop i text)) (sym same) ∙ applies.continues)))
+              inr (same, best.2 other (subst (λ i. IsPair tree site (take i text) other) same applies.has) (ap (λ i. goes_on_after_prefix other.kind (drop i text)) (sym same) ∙ applies.continues)))
               (λ (apart : k ≢ n). absurd (beyond k other (omega (arith, above, apart)) applies))
               (cases_eq k n))
               (cases_lt k n);
         }
         | None ↦ λ none. decision_is site text n (omega (arith, within)) (λ k other above applies. ⊎_elim
-            (λ (same : k ≡ n). none other (subst (λ i. IsPair tree site (take i text) other) same applies.has) (ap (λ i. goes_on other.kind (drop i text)) (sym same) ∙ applies.continues))
+            (λ (same : k ≡ n). none other (subst (λ i. IsPair tree site (take i text) other) same applies.has) (ap (λ i. goes_on_after_prefix other.kind (drop i text)) (sym same) ∙ applies.continues))
             (λ (apart : k ≢ n). beyond k other (omega (arith, above, apart)) applies)
             (cases_eq k n))
       ] (at_place site text n)
@@ -398,7 +398,7 @@ module _ (read : IsReadBack) (spelled : IsSpelled) (valid : (text : List ℕ) (p
   pub turns_are : (n : ℕ) (site : Option (List (List ℕ))) (text : List ℕ) → Turns tree n site text (answer_of tree n site text)
   turns_are zero site text = refl
   turns_are (suc n) site text =
-      elim (decision tree site text (suc (length text))) as (λ o. IsDecision site text o → Turns tree (suc n) site text (turn text (answer_of tree n None) o)) [
+      elim (deciding_pair tree site text (suc (length text))) as (λ o. IsDecision site text o → Turns tree (suc n) site text (turn text (answer_of tree n None) o)) [
         | None ↦ λ none. inl (none, refl)
         | Some (at, pair) ↦ λ decides. inr (record {
           at = at;

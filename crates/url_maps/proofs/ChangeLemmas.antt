@@ -21,7 +21,7 @@ use Rattle.resource_tree.specs.declared.patch.PatchNode.{PatchNode}
 use Rattle.resource_tree.specs.declared.patch.PatchNode.TheVariants as there
 use Rattle.resource_tree.specs.Content.{Content, by_path, node_at, same_path}
 use Rattle.resource_tree.specs.Patches as patches
-use Rattle.url_maps.specs.Claims.{AreClaims, Rows, claimants, claims_alias, claims_vanity_path, node_claims_alias, node_claims_vanity_path}
+use Rattle.url_maps.specs.Claims.{AreClaims, ClaimRows, claimants, claims_alias, claims_vanity_path, node_claims_alias, node_claims_vanity_path}
 use Rattle.url_maps.specs.Changes.{AreChanged, claimants_over, patched_alias, patched_vanity_path}
 use Rattle.url_maps.specs.Noting.{Notes, NotesRow, has_row, is_at_some, kept, left_alias, left_vanity_path, noted}
 use Rattle.url_maps.proofs.ClaimLemmas.{and_false, more_words, no_words, or_false, text_sym}
@@ -49,7 +49,7 @@ or_true true b is = refl
 or_true false b is = sym is
 
 -- a text is noted, with a path or without
-pub notes_one : (rows : Rows) (patch : patches.Rows) (text : List ℕ) (path : Option (List (List ℕ))) (old new : Rows)
+pub notes_one : (rows : ClaimRows) (patch : patches.Rows) (text : List ℕ) (path : Option (List (List ℕ))) (old new : ClaimRows)
     → ((t : List ℕ) → lookup (bytes_eq t) new ≡ cond (bytes_eq text t) (Some (noted rows patch old text ++ option_to_list path)) (lookup (bytes_eq t) old)) → Notes rows patch (is_at_some path) (λ t. bytes_eq t text) old new
 notes_one rows patch text path old new is = record {
   claims = λ t q.
@@ -79,14 +79,14 @@ notes_one rows patch text path old new is = record {
 
 -- ---- all of some texts
 
-pub notes_none : (rows : Rows) (patch : patches.Rows) (who : List (List ℕ) → Bool) (changed : Rows) → Notes rows patch who (λ t. false) changed changed
+pub notes_none : (rows : ClaimRows) (patch : patches.Rows) (who : List (List ℕ) → Bool) (changed : ClaimRows) → Notes rows patch who (λ t. false) changed changed
 notes_none rows patch who changed = record {
   claims = λ t q. no_words (list_any (same_path q) (noted rows patch changed t)) (who q);
   has = λ t. sym (or_false (has_row changed t));
 }
 
 -- the first texts, and one more
-pub notes_more : (rows : Rows) (patch : patches.Rows) (who : List (List ℕ) → Bool) (first old new : Rows) (texts : List (List ℕ)) (i : ℕ) (text : List ℕ) → i < length texts → text ≡ get_or texts i text
+pub notes_more : (rows : ClaimRows) (patch : patches.Rows) (who : List (List ℕ) → Bool) (first old new : ClaimRows) (texts : List (List ℕ)) (i : ℕ) (text : List ℕ) → i < length texts → text ≡ get_or texts i text
     → Notes rows patch who (λ t. list_any (bytes_eq t) (take i texts)) first old → Notes rows patch who (λ t. bytes_eq t text) old new → Notes rows patch who (λ t. list_any (bytes_eq t) (take (i + 1) texts)) first new
 notes_more rows patch who first old new texts i text within item so_far one = record {
   claims = λ t q.
@@ -99,7 +99,7 @@ notes_more rows patch who first old new texts i text within item so_far one = re
 
 -- ---- one row
 
-pub notes_row : (rows : Rows) (patch : patches.Rows) (path : List (List ℕ)) (before after : List ℕ → Bool) (old mid new : Rows) → Notes rows patch (is_at_some None) before old mid → Notes rows patch (is_at_some (Some path)) after mid new
+pub notes_row : (rows : ClaimRows) (patch : patches.Rows) (path : List (List ℕ)) (before after : List ℕ → Bool) (old mid new : ClaimRows) → Notes rows patch (is_at_some None) before old mid → Notes rows patch (is_at_some (Some path)) after mid new
     → NotesRow rows patch path before after old new
 notes_row rows patch path before after old mid new first last = record {
   claims = λ t q.
@@ -107,7 +107,7 @@ notes_row rows patch path before after old mid new first last = record {
   has = λ t. last.has t ∙ ap (λ x. x || after t) (first.has t) ∙ or_assoc (has_row old t) (before t) (after t);
 }
 
-pub notes_row_alike : (rows : Rows) (patch : patches.Rows) (path : List (List ℕ)) (before other after another : List ℕ → Bool) (old new : Rows) → ((t : List ℕ) → before t ≡ other t) → ((t : List ℕ) → after t ≡ another t)
+pub notes_row_alike : (rows : ClaimRows) (patch : patches.Rows) (path : List (List ℕ)) (before other after another : List ℕ → Bool) (old new : ClaimRows) → ((t : List ℕ) → before t ≡ other t) → ((t : List ℕ) → after t ≡ another t)
     → NotesRow rows patch path before after old new → NotesRow rows patch path other another old new
 notes_row_alike rows patch path before other after another old new same alike is = record {
   claims = λ t q. is.claims t q ∙ ap (λ b. list_any (same_path q) (noted rows patch old t) || (same_path q path && b)) (alike t);
@@ -117,20 +117,14 @@ notes_row_alike rows patch path before other after another old new same alike is
 -- ---- the first rows
 
 -- the rows of a patch so far are noted
-pub record AreNoted (rows : Rows) (patch : patches.Rows) (before : List (List ℕ) → List ℕ → Bool) (left : List (List ℕ) → PatchNode → List ℕ → Bool) (done : patches.Rows) (changed : Rows) : Type 0 where
+pub record AreNoted (rows : ClaimRows) (patch : patches.Rows) (before : List (List ℕ) → List ℕ → Bool) (left : List (List ℕ) → PatchNode → List ℕ → Bool) (done : patches.Rows) (changed : ClaimRows) : Type 0 where
   pub claims : (t : List ℕ) (q : List (List ℕ)) → list_any (same_path q) (noted rows patch changed t) ≡ (list_any (same_path q) (kept patch (claimants rows t)) || list_any (λ row. same_path q row.0 && left row.0 row.1 t) done)
   pub has : (t : List ℕ) → has_row changed t ≡ list_any (λ row. before row.0 t || left row.0 row.1 t) done
-
-pub noted_none : (rows : Rows) (patch : patches.Rows) (before : List (List ℕ) → List ℕ → Bool) (left : List (List ℕ) → PatchNode → List ℕ → Bool) → AreNoted rows patch before left [] []
-noted_none rows patch before left = record {
-  claims = λ t q. sym (or_false (list_any (same_path q) (kept patch (claimants rows t))));
-  has = λ t. refl;
-}
 
 any_next : {X : Type 0} (test : X → Bool) (xs : List X) (i : ℕ) (x : X) → slice_get xs i ≡ Some x → list_any test (take (i + 1) xs) ≡ (list_any test (take i xs) || test x)
 any_next test xs i x is = list_any_more test xs i x (slice_get_within xs i x is) ∙ ap (λ y. list_any test (take i xs) || test y) (get_or_from_slice_get xs i x x is)
 
-pub noted_next : (rows : Rows) (patch : patches.Rows) (before : List (List ℕ) → List ℕ → Bool) (left : List (List ℕ) → PatchNode → List ℕ → Bool) (i : ℕ) (path : List (List ℕ)) (row : PatchNode) (old new : Rows)
+pub noted_next : (rows : ClaimRows) (patch : patches.Rows) (before : List (List ℕ) → List ℕ → Bool) (left : List (List ℕ) → PatchNode → List ℕ → Bool) (i : ℕ) (path : List (List ℕ)) (row : PatchNode) (old new : ClaimRows)
     → slice_get patch i ≡ Some (path, row) → AreNoted rows patch before left (take i patch) old → NotesRow rows patch path (before path) (left path row) old new → AreNoted rows patch before left (take (i + 1) patch) new
 noted_next rows patch before left i path row old new is so_far one = record {
   claims = λ t q.
@@ -223,7 +217,7 @@ unsettled before left None none = refl
 unsettled before left (Some r) none = first_false before (left r) (none r refl) ∙ sym (last_false before (left r) (none r refl))
 
 -- the claims after all rows
-pub changed_by : (rows : Rows) (patch : patches.Rows) (before after : List (List ℕ) → List ℕ → Bool) (left : List (List ℕ) → PatchNode → List ℕ → Bool) (changed : Rows) → AreClaims before rows → IsDistinct (eq_by_cmp by_path) (keys_of patch)
+pub changed_by : (rows : ClaimRows) (patch : patches.Rows) (before after : List (List ℕ) → List ℕ → Bool) (left : List (List ℕ) → PatchNode → List ℕ → Bool) (changed : ClaimRows) → AreClaims before rows → IsDistinct (eq_by_cmp by_path) (keys_of patch)
     → AreNoted rows patch before left patch changed → ((q : List (List ℕ)) (t : List ℕ) → after q t ≡ option_map_or (λ row. left q row t) (patches.row_at patch q) (before q t)) → AreChanged before after changed
 changed_by rows patch before after left changed claims once noted_all is t q =
     elim (lookup (bytes_eq t) changed) as (λ o. lookup (bytes_eq t) changed ≡ o → option_map_or (list_any (same_path q)) o (before q t) ≡ after q t) [
@@ -265,12 +259,12 @@ over_any q None old = refl
 over_any q (Some paths) old = refl
 
 -- the claims with a change over them
-pub claims_over : (before after : List (List ℕ) → List ℕ → Bool) (changed old new : Rows) → AreClaims before old → AreChanged before after changed → ((t : List ℕ) → claimants new t ≡ claimants_over changed old t) → AreClaims after new
+pub claims_over : (before after : List (List ℕ) → List ℕ → Bool) (changed old new : ClaimRows) → AreClaims before old → AreChanged before after changed → ((t : List ℕ) → claimants new t ≡ claimants_over changed old t) → AreClaims after new
 claims_over before after changed old new claims change is t q =
     ap (list_any (same_path q)) (is t) ∙ over_any q (lookup (bytes_eq t) changed) (claimants old t)
     ∙ ap (option_map_or (list_any (same_path q)) (lookup (bytes_eq t) changed)) (claims t q) ∙ change t q
 
-pub claims_alike : (before after : List (List ℕ) → List ℕ → Bool) (rows : Rows) → ((q : List (List ℕ)) (t : List ℕ) → before q t ≡ after q t) → AreClaims before rows → AreClaims after rows
+pub claims_alike : (before after : List (List ℕ) → List ℕ → Bool) (rows : ClaimRows) → ((q : List (List ℕ)) (t : List ℕ) → before q t ≡ after q t) → AreClaims before rows → AreClaims after rows
 claims_alike before after rows same claims t q = claims t q ∙ same q t
 
 -- the claims of a tree that shows what a patch over another does
@@ -294,7 +288,7 @@ over_head true paths o p new old is = refl
 over_head false paths o p new old is = is
 
 -- the last row over the claimants, and then the others
-pub over_last : {K : Type 0} (f : K → List ℕ) (es : List (K × List (List (List ℕ)))) (key : K) (paths : List (List (List ℕ))) (old new : Rows) → ((t : List ℕ) → claimants new t ≡ cond (bytes_eq (f key) t) paths (claimants old t)) → (t : List ℕ)
+pub over_last : {K : Type 0} (f : K → List ℕ) (es : List (K × List (List (List ℕ)))) (key : K) (paths : List (List (List ℕ))) (old new : ClaimRows) → ((t : List ℕ) → claimants new t ≡ cond (bytes_eq (f key) t) paths (claimants old t)) → (t : List ℕ)
     → claimants_over (map (λ (e : K × List (List (List ℕ))). (f e.0, e.1)) es) new t ≡ claimants_over (map (λ (e : K × List (List (List ℕ))). (f e.0, e.1)) (es ++ (key, paths) ∷ [])) old t
 over_last f [] key paths old new is t =
     is t ∙ ap (λ b. cond b paths (claimants old t)) (text_sym (f key) t) ∙ over_one (bytes_eq t (f key)) paths (claimants old t)

@@ -13,8 +13,8 @@ use Rattle.resource_tree.specs.declared.nodes.Node.{Node}
 use Rattle.std.specs.Str.{bytes_eq}
 use Rattle.resource_tree.specs.Content.{Content, node_at, same_path}
 use Rattle.resource_tree.specs.Content.{prop_at}
-use Rattle.url_maps.specs.Claims.{Adds, AreClaims, AreWithin, Rows, claimants, claims_alias, claims_vanity_path, node_claims_alias, node_claims_vanity_path, spells_alias, spells_vanity_path}
-use Rattle.url_maps.specs.Words.{texts_of}
+use Rattle.url_maps.specs.Claims.{AddsClaims, AreClaims, ClaimsAreWithin, ClaimRows, claimants, claims_alias, claims_vanity_path, node_claims_alias, node_claims_vanity_path, spells_alias, spells_vanity_path}
+use Rattle.url_maps.specs.Words.{mapping_texts}
 use Rattle.url_maps.proofs.PathLemmas.{path_from_same}
 
 -- a look-up through other names of the keys
@@ -118,7 +118,7 @@ took_claims f old new text is t =
     claimants_shown f new t ∙ ap (λ o. option_map_or (λ paths. paths) o []) (is t) ∙ or_gone (bytes_eq text t) (lookup (λ k. bytes_eq t (f k)) old) ∙ ap (cond (bytes_eq text t) []) (sym (claimants_shown f old t))
 
 -- one more claimant, by way of the list without it
-pub added_to : (old mid new : Rows) (text : List ℕ) (path : List (List ℕ)) (paths more : List (List (List ℕ))) → paths ≡ claimants old text → more ≡ paths ++ path ∷ []
+pub added_to : (old mid new : ClaimRows) (text : List ℕ) (path : List (List ℕ)) (paths more : List (List (List ℕ))) → paths ≡ claimants old text → more ≡ paths ++ path ∷ []
     → ((t : List ℕ) → claimants mid t ≡ cond (bytes_eq text t) [] (claimants old t)) → ((t : List ℕ) → claimants new t ≡ cond (bytes_eq text t) more (claimants mid t))
     → (t : List ℕ) → claimants new t ≡ cond (bytes_eq text t) (claimants old t ++ path ∷ []) (claimants old t)
 added_to old mid new text path paths more were are without with t =
@@ -132,20 +132,20 @@ added_to old mid new text path paths more were are without with t =
     (cases_Bool (bytes_eq text t))
 
 -- one more claimant of one text
-pub added : (rows more : Rows) (path : List (List ℕ)) (text : List ℕ) → ((t : List ℕ) → claimants more t ≡ cond (bytes_eq text t) (claimants rows t ++ path ∷ []) (claimants rows t)) → (test : List ℕ → Bool)
-    → ((t : List ℕ) → test t ≡ bytes_eq t text) → Adds path test rows more
+pub added : (rows more : ClaimRows) (path : List (List ℕ)) (text : List ℕ) → ((t : List ℕ) → claimants more t ≡ cond (bytes_eq text t) (claimants rows t ++ path ∷ []) (claimants rows t)) → (test : List ℕ → Bool)
+    → ((t : List ℕ) → test t ≡ bytes_eq t text) → AddsClaims path test rows more
 added rows more path text is test same t q = one_more q path (claimants rows t) (claimants more t) (bytes_eq text t) (is t) ∙ ap (λ b. list_any (same_path q) (claimants rows t) || (same_path q path && b)) (text_sym text t ∙ sym (same t))
 
 -- the claims of the first words
-pub words_more : {W : Type 0} (first rows more : Rows) (path : List (List ℕ)) (test : List ℕ → W → Bool) (words : List W) (i : ℕ) (word : W) → i < length words → word ≡ get_or words i word
-    → Adds path (λ t. list_any (test t) (take i words)) first rows → Adds path (λ t. test t word) rows more → Adds path (λ t. list_any (test t) (take (i + 1) words)) first more
+pub words_more : {W : Type 0} (first rows more : ClaimRows) (path : List (List ℕ)) (test : List ℕ → W → Bool) (words : List W) (i : ℕ) (word : W) → i < length words → word ≡ get_or words i word
+    → AddsClaims path (λ t. list_any (test t) (take i words)) first rows → AddsClaims path (λ t. test t word) rows more → AddsClaims path (λ t. list_any (test t) (take (i + 1) words)) first more
 words_more first rows more path test words i word within item so_far is t q =
     more_words (list_any (same_path q) (claimants first t)) (same_path q path) (list_any (same_path q) (claimants rows t)) (list_any (same_path q) (claimants more t)) (test t) words i word within (so_far t q)
     (is t q ∙ ap (λ w. list_any (same_path q) (claimants rows t) || (same_path q path && test t w)) item)
 
 -- the claims of the first nodes
-pub nodes_more : (rows more : Rows) (paths : List (List (List ℕ))) (i : ℕ) (path : List (List ℕ)) (claims : List (List ℕ) → List ℕ → Bool) → i < length paths → path ≡ get_or paths i path
-    → ((t : List ℕ) (q : List (List ℕ)) → list_any (same_path q) (claimants rows t) ≡ (list_any (same_path q) (take i paths) && claims q t)) → Adds path (claims path) rows more
+pub nodes_more : (rows more : ClaimRows) (paths : List (List (List ℕ))) (i : ℕ) (path : List (List ℕ)) (claims : List (List ℕ) → List ℕ → Bool) → i < length paths → path ≡ get_or paths i path
+    → ((t : List ℕ) (q : List (List ℕ)) → list_any (same_path q) (claimants rows t) ≡ (list_any (same_path q) (take i paths) && claims q t)) → AddsClaims path (claims path) rows more
     → (t : List ℕ) (q : List (List ℕ)) → list_any (same_path q) (claimants more t) ≡ (list_any (same_path q) (take (i + 1) paths) && claims q t)
 nodes_more rows more paths i path claims within item so_far is t q =
     more_nodes q paths i path (claims q t) (claims path t) (list_any (same_path q) (claimants rows t)) (list_any (same_path q) (claimants more t)) within item (λ same. ap (λ p. claims p t) (sym (path_from_same q path same))) (so_far t q) (is t q)
@@ -156,30 +156,30 @@ not_zero n some = grind (arith, nat_tests)
 -- the root has no alias
 pub root_claims_none : (path : List (List ℕ)) (node : Node) → length path ≡ 0 → (text : List ℕ) → node_claims_alias path node text ≡ false
 unfolding node_claims_alias
-root_claims_none path node root text = ap (λ n. not (n == 0) && list_any (spells_alias path text) (texts_of (prop_at node (codes "sling:alias")))) root
+root_claims_none path node root text = ap (λ n. not (n == 0) && list_any (spells_alias path text) (mapping_texts (prop_at node (codes "sling:alias")))) root
 
 -- below the root a node claims what its words spell
-pub below_claims : (path : List (List ℕ)) (node : Node) (words : List (List ℕ)) → (length path ≡ 0 → ⊥) → words ≡ texts_of (prop_at node (codes "sling:alias")) → (text : List ℕ) → node_claims_alias path node text ≡ list_any (spells_alias path text) words
+pub below_claims : (path : List (List ℕ)) (node : Node) (words : List (List ℕ)) → (length path ≡ 0 → ⊥) → words ≡ mapping_texts (prop_at node (codes "sling:alias")) → (text : List ℕ) → node_claims_alias path node text ≡ list_any (spells_alias path text) words
 unfolding node_claims_alias
 below_claims path node words below are text =
-    ap (λ b. not b && list_any (spells_alias path text) (texts_of (prop_at node (codes "sling:alias")))) (not_zero (length path) below) ∙ ap (list_any (spells_alias path text)) (sym are)
+    ap (λ b. not b && list_any (spells_alias path text) (mapping_texts (prop_at node (codes "sling:alias")))) (not_zero (length path) below) ∙ ap (list_any (spells_alias path text)) (sym are)
 
-pub vanity_words : (node : Node) (words : List (List ℕ)) → words ≡ texts_of (prop_at node (codes "sling:vanityPath")) → (text : List ℕ) → node_claims_vanity_path node text ≡ list_any (spells_vanity_path text) words
+pub vanity_words : (node : Node) (words : List (List ℕ)) → words ≡ mapping_texts (prop_at node (codes "sling:vanityPath")) → (text : List ℕ) → node_claims_vanity_path node text ≡ list_any (spells_vanity_path text) words
 unfolding node_claims_vanity_path
 vanity_words node words are text = ap (list_any (spells_vanity_path text)) (sym are)
 
 -- claims by another spelling of their test
-pub adds_alike : (path : List (List ℕ)) (old new : Rows) (test other : List ℕ → Bool) → ((t : List ℕ) → other t ≡ test t) → Adds path test old new → Adds path other old new
+pub adds_alike : (path : List (List ℕ)) (old new : ClaimRows) (test other : List ℕ → Bool) → ((t : List ℕ) → other t ≡ test t) → AddsClaims path test old new → AddsClaims path other old new
 adds_alike path old new test other same adds t q = adds t q ∙ ap (λ b. list_any (same_path q) (claimants old t) || (same_path q path && b)) (sym (same t))
 
 -- the claims of all nodes of a tree
-pub whole_aliases : (tree : Content) (rows : Rows) (paths : List (List (List ℕ))) (i : ℕ) → length paths ≤ i → ((q : List (List ℕ)) → list_any (same_path q) paths ≡ is_some (node_at tree q))
+pub whole_aliases : (tree : Content) (rows : ClaimRows) (paths : List (List (List ℕ))) (i : ℕ) → length paths ≤ i → ((q : List (List ℕ)) → list_any (same_path q) paths ≡ is_some (node_at tree q))
     → ((t : List ℕ) (q : List (List ℕ)) → list_any (same_path q) (claimants rows t) ≡ (list_any (same_path q) (take i paths) && claims_alias tree q t)) → AreClaims (claims_alias tree) rows
 unfolding claims_alias
 whole_aliases tree rows paths i end all is t q =
     all_nodes tree q (λ node. node_claims_alias q node t) paths (list_any (same_path q) (claimants rows t)) (all q) (is t q ∙ ap (λ ps. list_any (same_path q) ps && claims_alias tree q t) (take_all i paths end))
 
-pub whole_vanity_paths : (tree : Content) (rows : Rows) (paths : List (List (List ℕ))) (i : ℕ) → length paths ≤ i → ((q : List (List ℕ)) → list_any (same_path q) paths ≡ is_some (node_at tree q))
+pub whole_vanity_paths : (tree : Content) (rows : ClaimRows) (paths : List (List (List ℕ))) (i : ℕ) → length paths ≤ i → ((q : List (List ℕ)) → list_any (same_path q) paths ≡ is_some (node_at tree q))
     → ((t : List ℕ) (q : List (List ℕ)) → list_any (same_path q) (claimants rows t) ≡ (list_any (same_path q) (take i paths) && claims_vanity_path tree q t)) → AreClaims (claims_vanity_path tree) rows
 unfolding claims_vanity_path
 whole_vanity_paths tree rows paths i end all is t q =
@@ -192,12 +192,12 @@ no_either true none is = refl
 no_either false none is = is
 
 -- after claimants are taken away
-pub took_within : (longest : ℕ) (old new : Rows) (text : List ℕ) → AreWithin longest old → ((t : List ℕ) → claimants new t ≡ cond (bytes_eq text t) [] (claimants old t)) → AreWithin longest new
+pub took_within : (longest : ℕ) (old new : ClaimRows) (text : List ℕ) → ClaimsAreWithin longest old → ((t : List ℕ) → claimants new t ≡ cond (bytes_eq text t) [] (claimants old t)) → ClaimsAreWithin longest new
 took_within longest old new text within is t long = is t ∙ no_either (bytes_eq text t) (claimants old t) (within t long)
 
 -- after claimants are set
-pub set_within : (longest more : ℕ) (old new : Rows) (text : List ℕ) (paths : List (List (List ℕ))) → AreWithin longest old → longest ≤ more → length text ≤ more
-    → ((t : List ℕ) → claimants new t ≡ cond (bytes_eq text t) paths (claimants old t)) → AreWithin more new
+pub set_within : (longest more : ℕ) (old new : ClaimRows) (text : List ℕ) (paths : List (List (List ℕ))) → ClaimsAreWithin longest old → longest ≤ more → length text ≤ more
+    → ((t : List ℕ) → claimants new t ≡ cond (bytes_eq text t) paths (claimants old t)) → ClaimsAreWithin more new
 set_within longest more old new text paths within grown fits is t long = ⊎_elim
     (λ (same : bytes_eq text t ≡ true). let one : text ≡ t = same_text text t (sym same) in absurd (omega (arith, long, fits, ap length one)))
     (λ (other : bytes_eq text t ≡ false). is t ∙ ap (λ b. cond b paths (claimants old t)) other ∙ within t (omega (arith, long, grown)))

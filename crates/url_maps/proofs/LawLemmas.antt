@@ -15,7 +15,7 @@ use Rattle.url_maps.specs.Aliases.{IsAlias, has_alias}
 use Rattle.url_maps.specs.Mappings.{IsMapping, mapping_of}
 use Rattle.url_maps.specs.Pairs.{Decides, IsPairOf, rank}
 use Rattle.url_maps.specs.Turns.{Turns, leads, text_after}
-use Rattle.url_maps.specs.VanityPaths.{IsVanityPath, page_of, vanity_cmp}
+use Rattle.url_maps.specs.VanityPaths.{IsVanityPath, vanity_page, vanity_cmp}
 use Rattle.url_maps.proofs.AliasLemmas.{alias_claims, claimant_is}
 use Rattle.url_maps.proofs.MappingLemmas.{mapping_path}
 use Rattle.url_maps.proofs.PathLemmas.{IsReadBack, kid_name, kid_parent, path_from_text, valid_sibling}
@@ -61,7 +61,7 @@ module _ (read : IsReadBack) (tree : Content) (good : IsTree (node_at tree)) whe
   one_pair Mapping None text pair other m n = absurd m
   one_pair Mapping (Some site) text pair other m n = one_mapping site text pair.target other.target pair.away other.away m n
   one_pair Alias site text pair other a b = (a.target ∙ ap text_of (one_alias text a.path b.path a.alias b.alias) ∙ sym b.target, a.inside ∙ sym b.inside)
-  one_pair VanityPath site text pair other v w = (v.target ∙ ap (λ p. text_of (page_of p)) (one_vanity text v.path w.path v.vanity_path w.vanity_path) ∙ sym w.target, v.inside ∙ sym w.inside)
+  one_pair VanityPath site text pair other v w = (v.target ∙ ap (λ p. text_of (vanity_page p)) (one_vanity text v.path w.path v.vanity_path w.vanity_path) ∙ sym w.target, v.inside ∙ sym w.inside)
 
   one_rank : (kind other : PairKind) → rank kind ≡ rank other → kind ≡ other
   one_rank Mapping Mapping e = refl

@@ -8,24 +8,24 @@ use Rattle.resource_tree.specs.Content.{Content}
 use Rattle.url_maps.specs.declared.pairs.Pair.{Pair}
 use Rattle.url_maps.specs.declared.pairs.PairKind.{PairKind}
 use Rattle.url_maps.specs.declared.pairs.PairKind.TheVariants.{Mapping, Alias, VanityPath}
-use Rattle.url_maps.specs.Pairs.{Applies, Decides, HasNoPair, IsPair, IsPairOf, goes_on, rank}
-use Rattle.url_maps.specs.Search.{HasNoneBeyond, IsBest, IsOf, is_cut, is_separator}
+use Rattle.url_maps.specs.Pairs.{Applies, Decides, HasNoPair, IsPair, IsPairOf, goes_on_after_prefix, rank}
+use Rattle.url_maps.specs.Search.{HasNoneBeyond, IsBest, IsOf, is_prefix_end, is_separator}
 
 -- ---- among the pairs with a prefix
 
-cut_goes_on : (kind : PairKind) (rest : List ℕ) → kind ≢ VanityPath → is_cut rest ≡ true → goes_on kind rest ≡ true
+cut_goes_on : (kind : PairKind) (rest : List ℕ) → kind ≢ VanityPath → is_prefix_end rest ≡ true → goes_on_after_prefix kind rest ≡ true
 cut_goes_on kind [] other cut = refl
 cut_goes_on Mapping (b ∷ rest) other cut = cut
 cut_goes_on Alias (b ∷ rest) other cut = cut
 cut_goes_on VanityPath (b ∷ rest) other cut = absurd (other refl)
 
-pub goes_on_cut : (kind : PairKind) (rest : List ℕ) → goes_on kind rest ≡ true → is_cut rest ≡ true
+pub goes_on_cut : (kind : PairKind) (rest : List ℕ) → goes_on_after_prefix kind rest ≡ true → is_prefix_end rest ≡ true
 goes_on_cut kind [] goes = refl
 goes_on_cut Mapping (b ∷ rest) goes = goes
 goes_on_cut Alias (b ∷ rest) goes = goes
 goes_on_cut VanityPath (b ∷ rest) goes = ap (λ x. x || b == 47) goes
 
-module _ (tree : Content) (site : Option (List (List ℕ))) (prefix rest : List ℕ) (cut : is_cut rest ≡ true) where
+module _ (tree : Content) (site : Option (List (List ℕ))) (prefix rest : List ℕ) (cut : is_prefix_end rest ≡ true) where
   -- there is none of a kind
   abbrev pub HasNone : PairKind → Type 0
   HasNone kind = (pair : Pair) → pair.kind ≡ kind → IsPair tree site prefix pair → ⊥
@@ -41,7 +41,7 @@ module _ (tree : Content) (site : Option (List (List ℕ))) (prefix rest : List 
   pub best_mapping : (pair : Pair) → IsOf Mapping tree site prefix (Some pair) → IsBest tree site prefix rest (Some pair)
   best_mapping pair is = (
     is.1,
-    ap (λ k. goes_on k rest) is.0 ∙ cut_goes_on Mapping rest (λ e. cc) cut,
+    ap (λ k. goes_on_after_prefix k rest) is.0 ∙ cut_goes_on Mapping rest (λ e. cc) cut,
     λ other has goes. subst (λ k. rank k ≤ rank other.kind) (sym is.0) (omega arith),
   )
 
@@ -68,37 +68,37 @@ module _ (tree : Content) (site : Option (List (List ℕ))) (prefix rest : List 
   pub best_alias : (pair : Pair) → HasNone Mapping → IsOf Alias tree None prefix (Some pair) → IsBest tree site prefix rest (Some pair)
   best_alias pair no_mapping is = (
     of_site pair.kind pair (alias_apart pair.kind is.0) is.1,
-    ap (λ k. goes_on k rest) is.0 ∙ cut_goes_on Alias rest (λ e. cc) cut,
+    ap (λ k. goes_on_after_prefix k rest) is.0 ∙ cut_goes_on Alias rest (λ e. cc) cut,
     λ other has goes. subst (λ k. rank k ≤ rank other.kind) (sym is.0)
         (⊎_elim (λ (m : other.kind ≡ Mapping). absurd (no_mapping other m has))
         (⊎_elim (λ (a : other.kind ≡ Alias). subst (λ k. 1 ≤ rank k) (sym a) (omega arith)) (λ (v : other.kind ≡ VanityPath). subst (λ k. 1 ≤ rank k) (sym v) (omega arith)))
         (kinds other.kind)),
   )
 
-  pub best_vanity : (pair : Pair) → HasNone Mapping → HasNone Alias → goes_on VanityPath rest ≡ true → IsOf VanityPath tree None prefix (Some pair) → IsBest tree site prefix rest (Some pair)
+  pub best_vanity : (pair : Pair) → HasNone Mapping → HasNone Alias → goes_on_after_prefix VanityPath rest ≡ true → IsOf VanityPath tree None prefix (Some pair) → IsBest tree site prefix rest (Some pair)
   best_vanity pair no_mapping no_alias dot is = (
     of_site pair.kind pair (vanity_apart pair.kind is.0) is.1,
-    ap (λ k. goes_on k rest) is.0 ∙ dot,
+    ap (λ k. goes_on_after_prefix k rest) is.0 ∙ dot,
     λ other has goes. subst (λ k. rank k ≤ rank other.kind) (sym is.0)
         (⊎_elim (λ (m : other.kind ≡ Mapping). absurd (no_mapping other m has))
         (⊎_elim (λ (a : other.kind ≡ Alias). absurd (no_alias other a has)) (λ (v : other.kind ≡ VanityPath). subst (λ k. 2 ≤ rank k) (sym v) (omega arith)))
         (kinds other.kind)),
   )
 
-  pub none_best : HasNone Mapping → HasNone Alias → (HasNone VanityPath ⊎ (goes_on VanityPath rest ≡ false)) → IsBest tree site prefix rest None
+  pub none_best : HasNone Mapping → HasNone Alias → (HasNone VanityPath ⊎ (goes_on_after_prefix VanityPath rest ≡ false)) → IsBest tree site prefix rest None
   none_best no_mapping no_alias no_vanity other has goes =
       ⊎_elim (λ (m : other.kind ≡ Mapping). no_mapping other m has)
       (⊎_elim (λ (a : other.kind ≡ Alias). no_alias other a has)
-      (λ (v : other.kind ≡ VanityPath). ⊎_elim (λ none. none other v has) (λ slash. true≢false (sym goes ∙ ap (λ k. goes_on k rest) v ∙ slash)) no_vanity))
+      (λ (v : other.kind ≡ VanityPath). ⊎_elim (λ none. none other v has) (λ slash. true≢false (sym goes ∙ ap (λ k. goes_on_after_prefix k rest) v ∙ slash)) no_vanity))
       (kinds other.kind)
 
 -- a rest from a slash on is none of a vanity path
-pub slash_rest : (rest : List ℕ) → (get_or rest 0 0 == 47) ≡ true → goes_on VanityPath rest ≡ false
+pub slash_rest : (rest : List ℕ) → (get_or rest 0 0 == 47) ≡ true → goes_on_after_prefix VanityPath rest ≡ false
 slash_rest [] slash = absurd (false≢true slash)
 slash_rest (b ∷ rest) slash = let is : b ≡ 47 = eqb-true b 47 slash in ap (λ x. x == 46) is
 
 -- any other is one
-pub dot_rest : (rest : List ℕ) → is_cut rest ≡ true → (get_or rest 0 0 == 47) ≡ false → goes_on VanityPath rest ≡ true
+pub dot_rest : (rest : List ℕ) → is_prefix_end rest ≡ true → (get_or rest 0 0 == 47) ≡ false → goes_on_after_prefix VanityPath rest ≡ true
 dot_rest [] cut no_slash = refl
 dot_rest (b ∷ rest) cut no_slash =
     ⊎_elim (λ (dot : (b == 46) ≡ true). dot)
@@ -106,21 +106,21 @@ dot_rest (b ∷ rest) cut no_slash =
     (cases_Bool (b == 46))
 
 -- the last kind, where there is none of the others
-pub best_last : (tree : Content) (site : Option (List (List ℕ))) (prefix rest : List ℕ) (cut : is_cut rest ≡ true) (o : Option Pair) → HasNone tree site prefix rest cut Mapping → HasNone tree site prefix rest cut Alias → goes_on VanityPath rest ≡ true
+pub best_last : (tree : Content) (site : Option (List (List ℕ))) (prefix rest : List ℕ) (cut : is_prefix_end rest ≡ true) (o : Option Pair) → HasNone tree site prefix rest cut Mapping → HasNone tree site prefix rest cut Alias → goes_on_after_prefix VanityPath rest ≡ true
     → IsOf VanityPath tree None prefix o → IsBest tree site prefix rest o
 best_last tree site prefix rest cut (Some pair) no_mapping no_alias dot is = best_vanity tree site prefix rest cut pair no_mapping no_alias dot is
 best_last tree site prefix rest cut None no_mapping no_alias dot is = none_best tree site prefix rest cut no_mapping no_alias (inl (none_of tree site prefix rest cut VanityPath (λ e. cc) is))
 
 -- ---- in a turn, from the longest prefix down
 
-pub cut_at : (text : List ℕ) (k : ℕ) → k < length text → is_cut (drop k text) ≡ is_separator (get_or text k 0)
-cut_at text k within = ap is_cut (drop-cons text k 0 within)
+pub cut_at : (text : List ℕ) (k : ℕ) → k < length text → is_prefix_end (drop k text) ≡ is_separator (get_or text k 0)
+cut_at text k within = ap is_prefix_end (drop-cons text k 0 within)
 
 pub passed_prefix : (tree : Content) (site : Option (List (List ℕ))) (text prefix : List ℕ) → prefix ≡ take (length prefix) text → IsBest tree site prefix (drop (length prefix) text) None
     → HasNoneBeyond tree site text (length prefix) → (k : ℕ) (pair : Pair) → length prefix ≤ k → Applies tree site text k pair → ⊥
 passed_prefix tree site text prefix is none beyond k pair le applies = ⊎_elim
     (λ (same : k ≡ length prefix).
-    none pair (subst (λ t. IsPair tree site t pair) (ap (λ n. take n text) same ∙ sym is) applies.has) (ap (λ n. goes_on pair.kind (drop n text)) (sym same) ∙ applies.continues))
+    none pair (subst (λ t. IsPair tree site t pair) (ap (λ n. take n text) same ∙ sym is) applies.has) (ap (λ n. goes_on_after_prefix pair.kind (drop n text)) (sym same) ∙ applies.continues))
     (λ (other : k ≢ length prefix). beyond k pair (omega (arith, le, other)) applies)
     (cases_eq k (length prefix))
 
@@ -157,7 +157,7 @@ decides_here tree site text prefix pair is within best beyond = record {
       (λ (below : k < length prefix). inl below)
       (λ (above : length prefix ≤ k). ⊎_elim
       (λ (same : k ≡ length prefix).
-      inr (same, best.2 other (subst (λ t. IsPair tree site t other) (ap (λ n. take n text) same ∙ sym is) applies.has) (ap (λ n. goes_on other.kind (drop n text)) (sym same) ∙ applies.continues)))
+      inr (same, best.2 other (subst (λ t. IsPair tree site t other) (ap (λ n. take n text) same ∙ sym is) applies.has) (ap (λ n. goes_on_after_prefix other.kind (drop n text)) (sym same) ∙ applies.continues)))
       (λ (apart : k ≢ length prefix). absurd (beyond k other (omega (arith, above, apart)) applies))
       (cases_eq k (length prefix)))
       (cases_lt k (length prefix));
@@ -166,7 +166,7 @@ decides_here tree site text prefix pair is within best beyond = record {
 pub shorter_prefix : (text prefix front : List ℕ) → prefix ≡ take (length prefix) text → front ≡ take (length front) prefix → length front < length prefix → front ≡ take (length front) text
 shorter_prefix text prefix front is cut less = cut ∙ ap (take (length front)) is ∙ take-take (length front) (length prefix) text (omega (arith, less))
 
-pub front_cut : (text prefix front : List ℕ) → prefix ≡ take (length prefix) text → length prefix ≤ length text → length front < length prefix → is_separator (get_or prefix (length front) 0) ≡ true → is_cut (drop (length front) text) ≡ true
+pub front_cut : (text prefix front : List ℕ) → prefix ≡ take (length prefix) text → length prefix ≤ length text → length front < length prefix → is_separator (get_or prefix (length front) 0) ≡ true → is_prefix_end (drop (length front) text) ≡ true
 front_cut text prefix front is within less separator =
     cut_at text (length front) (omega (arith, within, less)) ∙ ap is_separator (sym (ap (λ t. get_or t (length front) 0) is ∙ get_or-take (length prefix) text (length front) 0 less)) ∙ separator
 

@@ -81,13 +81,3 @@ module _ (tree : Content) (good : IsTree (node_at tree)) where
       let is = path_below site m.below (good.nodes (site ++ m.below) m.node m.there).is_a_path in
       let le = within_reach read parents within site path m.below depth k valid is none (ap is_some m.there) (subst (λ t. k ≤ length t) (sym spelled) inside) (ap (take k) spelled ∙ m.text_is) in
       omega (arith, le, beyond)
-
--- a path that is too long has no node
-pub too_long : (tree : Content) → IsTree (node_at tree) → (path : List (List ℕ)) → path_or_none path ≡ None → is_some (node_at tree path) ≡ false
-too_long tree good path none = elim (node_at tree path) as (λ o. node_at tree path ≡ o → is_some o ≡ false) [
-  | None ↦ λ is. refl
-  | Some node ↦ λ is.
-      let valid : is_path path ≡ true = (good.nodes path node is).is_a_path in
-      let bad : Some path ≡ None = sym (ap (λ b. if b then Some path else None) valid) ∙ none in
-      cc
-] refl

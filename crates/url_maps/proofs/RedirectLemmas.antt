@@ -13,13 +13,13 @@ use Rattle.url_maps.specs.declared.answer.MapAnswer.TheVariants.{Inside, Away}
 use Rattle.url_maps.specs.declared.pairs.Pair.{Pair}
 use Rattle.url_maps.specs.declared.pairs.PairKind.{PairKind}
 use Rattle.url_maps.specs.declared.pairs.PairKind.TheVariants.{Alias, VanityPath}
-use Rattle.url_maps.specs.Answers.{alias_at, alias_with, answer_of, decision, earliest, is_plain, map_answer, mapping_at, mapping_with, outcome, pair_at, pair_inside, pair_to, pair_with, sibling_with_alias, turn, vanity_at, vanity_nodes, vanity_with}
-use Rattle.url_maps.specs.Mappings.{internal_target, is_redirect, mapping_of, redirect_status, redirect_target, site_of, status_in, status_of}
-use Rattle.url_maps.specs.Pairs.{goes_on}
-use Rattle.url_maps.specs.Search.{is_cut, mapped_path}
+use Rattle.url_maps.specs.Answers.{alias_at, alias_with, answer_of, deciding_pair, earliest, is_without_pattern, map_answer, mapping_at, mapping_with, outcome, pair_at, pair_inside, pair_to, pair_with, sibling_with_alias, turn, vanity_at, vanity_nodes, vanity_with}
+use Rattle.url_maps.specs.Mappings.{internal_target, is_redirect, mapping_of, redirect_status, redirect_target, site_of, status_in, mapping_status}
+use Rattle.url_maps.specs.Pairs.{goes_on_after_prefix}
+use Rattle.url_maps.specs.Search.{is_prefix_end, mapped_path}
 use Rattle.url_maps.specs.Turns.{most_turns, text_after}
-use Rattle.url_maps.specs.VanityPaths.{page_of}
-use Rattle.url_maps.specs.Words.{number_of}
+use Rattle.url_maps.specs.VanityPaths.{vanity_page}
+use Rattle.url_maps.specs.Words.{mapping_number}
 
 abbrev IsRedirect : ℕ → Type 0
 IsRedirect status = is_redirect status ≡ true
@@ -43,9 +43,9 @@ status_listed None = refl
 status_listed (Some (pos n)) = listed n
 status_listed (Some (negsuc n)) = refl
 
-redirect_leads : (node : Node) (o : Option (List ℕ)) → Leads (option_map (λ target. (target, Some (status_of node))) o)
+redirect_leads : (node : Node) (o : Option (List ℕ)) → Leads (option_map (λ target. (target, Some (mapping_status node))) o)
 redirect_leads node None = tt
-redirect_leads node (Some target) = status_listed (number_of (prop_at node (codes "sling:status")))
+redirect_leads node (Some target) = status_listed (mapping_number (prop_at node (codes "sling:status")))
 
 target_leads : (node : Node) → Leads (redirect_target node)
 unfolding redirect_target
@@ -69,7 +69,7 @@ either false o redirects = tt
 
 path_redirects : (tree : Content) (site : List (List ℕ)) (o : Option (List (List ℕ))) → Redirects (option_and_then (mapping_at tree site) o)
 path_redirects tree site None = tt
-path_redirects tree site (Some path) = either (is_plain tree site path) (option_map pair_to (option_and_then mapping_of (node_at tree path))) (node_redirects (node_at tree path))
+path_redirects tree site (Some path) = either (is_without_pattern tree site path) (option_map pair_to (option_and_then mapping_of (node_at tree path))) (node_redirects (node_at tree path))
 
 mapping_redirects : (tree : Content) (site : Option (List (List ℕ))) (prefix : List ℕ) → Redirects (mapping_with tree site prefix)
 mapping_redirects tree None prefix = tt
@@ -84,7 +84,7 @@ alias_redirects tree (Ok path) = either (is_none (node_at tree path)) (option_ma
 alias_redirects tree (Err e) = tt
 
 vanity_redirects : (tree : Content) (text : List ℕ) (r : Result (List (List ℕ)) PathFault) → Redirects (vanity_at tree text r)
-vanity_redirects tree text (Ok at) = either (is_none (node_at tree at)) (option_map (λ path. pair_inside VanityPath (page_of path)) (earliest tree (vanity_nodes tree text))) (inside_redirects VanityPath page_of (earliest tree (vanity_nodes tree text)))
+vanity_redirects tree text (Ok at) = either (is_none (node_at tree at)) (option_map (λ path. pair_inside VanityPath (vanity_page path)) (earliest tree (vanity_nodes tree text))) (inside_redirects VanityPath vanity_page (earliest tree (vanity_nodes tree text)))
 vanity_redirects tree text (Err e) = tt
 
 first_redirects : (o p : Option Pair) → Redirects o → Redirects p → Redirects (option_or o p)
@@ -95,11 +95,11 @@ place_redirects : (tree : Content) (site : Option (List (List ℕ))) (text : Lis
 place_redirects tree site text at =
     let prefix = take at text in
     let rest = drop at text in
-    let vanity = cond (goes_on VanityPath rest) (vanity_with tree prefix) None in
-    either (is_cut rest) (pair_with tree site prefix rest)
+    let vanity = cond (goes_on_after_prefix VanityPath rest) (vanity_with tree prefix) None in
+    either (is_prefix_end rest) (pair_with tree site prefix rest)
     (first_redirects (mapping_with tree site prefix) (option_or (alias_with tree prefix) vanity) (mapping_redirects tree site prefix)
     (first_redirects (alias_with tree prefix) vanity (alias_redirects tree (path_of prefix))
-    (either (goes_on VanityPath rest) (vanity_with tree prefix) (vanity_redirects tree prefix (path_of prefix)))))
+    (either (goes_on_after_prefix VanityPath rest) (vanity_with tree prefix) (vanity_redirects tree prefix (path_of prefix)))))
 
 abbrev DecisionRedirects : Option (ℕ × Pair) → Type 0
 DecisionRedirects o = IfSome o (λ d. IfSome d.1.away IsRedirect)
@@ -108,9 +108,9 @@ later_redirects : (at : ℕ) (o : Option Pair) (p : Option (ℕ × Pair)) → Re
 later_redirects at None p first second = second
 later_redirects at (Some pair) p first second = first
 
-decision_redirects : (tree : Content) (site : Option (List (List ℕ))) (text : List ℕ) (n : ℕ) → DecisionRedirects (decision tree site text n)
+decision_redirects : (tree : Content) (site : Option (List (List ℕ))) (text : List ℕ) (n : ℕ) → DecisionRedirects (deciding_pair tree site text n)
 decision_redirects tree site text zero = tt
-decision_redirects tree site text (suc at) = later_redirects at (pair_at tree site text at) (decision tree site text at) (place_redirects tree site text at) (decision_redirects tree site text at)
+decision_redirects tree site text (suc at) = later_redirects at (pair_at tree site text at) (deciding_pair tree site text at) (place_redirects tree site text at) (decision_redirects tree site text at)
 
 -- an answer that leads away does so by a status of a redirect
 abbrev AnswerRedirects : MapAnswer → Type 0
@@ -127,7 +127,7 @@ turn_redirects text further (Some (at, pair)) is rest = outcome_redirects pair.a
 
 answer_redirects : (tree : Content) (n : ℕ) (site : Option (List (List ℕ))) (text : List ℕ) → AnswerRedirects (answer_of tree n site text)
 answer_redirects tree zero site text = tt
-answer_redirects tree (suc n) site text = turn_redirects text (answer_of tree n None) (decision tree site text (suc (length text))) (decision_redirects tree site text (suc (length text))) (answer_redirects tree n None)
+answer_redirects tree (suc n) site text = turn_redirects text (answer_of tree n None) (deciding_pair tree site text (suc (length text))) (decision_redirects tree site text (suc (length text))) (answer_redirects tree n None)
 
 pub away_redirects : (tree : Content) (host : List ℕ) (port : ℕ) (text target : List ℕ) (status : ℕ) → map_answer tree host port text ≡ Away status target → is_redirect status ≡ true
 unfolding map_answer

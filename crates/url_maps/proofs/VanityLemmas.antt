@@ -17,10 +17,10 @@ use Rattle.sp_base.specs.Paths.{is_path, path_of, text_of}
 use Rattle.sp_base.specs.declared.path.PathFault.{PathFault}
 use Rattle.resource_tree.specs.declared.nodes.Node.{Node}
 use Rattle.resource_tree.specs.Content.{Content, IsTree, node_at, prop_at, same_path}
-use Rattle.url_maps.specs.Words.{texts_of}
-use Rattle.url_maps.specs.Claims.{AreClaims, Rows, claimants, claims_vanity_path, is_ok_path, node_claims_vanity_path, spells_vanity_path}
-use Rattle.url_maps.specs.Search.{IsFirst, is_free, is_free_at}
-use Rattle.url_maps.specs.VanityPaths.{IsVanityPath, has_vanity_path, page_of, vanity_cmp, vanity_order, with_slash}
+use Rattle.url_maps.specs.Words.{mapping_texts}
+use Rattle.url_maps.specs.Claims.{AreClaims, ClaimRows, claimants, claims_vanity_path, is_ok_path, node_claims_vanity_path, spells_vanity_path}
+use Rattle.url_maps.specs.Search.{IsFirstPath, is_free, is_free_at}
+use Rattle.url_maps.specs.VanityPaths.{IsVanityPath, has_vanity_path, vanity_page, vanity_cmp, vanity_order, with_slash}
 use Rattle.url_maps.specs.declared.pairs.Pair.{Pair}
 use Rattle.url_maps.specs.declared.pairs.PairKind.TheVariants.{VanityPath}
 use Rattle.url_maps.specs.Pairs.{HasVanityPath, IsPair, IsPairOf}
@@ -87,7 +87,7 @@ pub vanity_claims_is : (tree : Content) (q : List (List ℕ)) (text : List ℕ) 
 unfolding claims_vanity_path node_claims_vanity_path has_vanity_path
 vanity_claims_is tree q text ok =
     ap (λ (test : Node → Bool). option_map_or test (node_at tree q) false)
-    (λ i node. any_alike (spells_vanity_path text) (λ word. pointwise nat_eq text (with_slash word)) (λ word. ap (λ b. b && pointwise nat_eq text (with_slash word)) ok) (texts_of (prop_at node (codes "sling:vanityPath"))) i)
+    (λ i node. any_alike (spells_vanity_path text) (λ word. pointwise nat_eq text (with_slash word)) (λ word. ap (λ b. b && pointwise nat_eq text (with_slash word)) ok) (mapping_texts (prop_at node (codes "sling:vanityPath"))) i)
 
 ok_from_free : (tree : Content) (r : Result (List (List ℕ)) PathFault) → is_free_at tree r ≡ true → is_ok_path r ≡ true
 ok_from_free tree (Ok path) free = refl
@@ -98,7 +98,7 @@ none_at None is = refl
 none_at (Some node) is = absurd (false≢true is)
 
 -- the free text that is claimed is the vanity path of the first node that claims it
-pub vanity_from : (tree : Content) (rows : Rows) (text : List ℕ) (path : List (List ℕ)) → AreClaims (claims_vanity_path tree) rows → is_free tree text ≡ true → IsFirst tree (claimants rows text) path → IsVanityPath tree text path
+pub vanity_from : (tree : Content) (rows : ClaimRows) (text : List ℕ) (path : List (List ℕ)) → AreClaims (claims_vanity_path tree) rows → is_free tree text ≡ true → IsFirstPath tree (claimants rows text) path → IsVanityPath tree text path
 vanity_from tree rows text path claims free first =
     let ok = ok_from_free tree (path_of text) free in
     let is = λ (q : List (List ℕ)). claims text q ∙ vanity_claims_is tree q text ok in
@@ -116,16 +116,13 @@ vanity_from tree rows text path claims free first =
 pub vanity_claims : (tree : Content) (text : List ℕ) (path : List (List ℕ)) → IsVanityPath tree text path → claims_vanity_path tree path text ≡ true
 vanity_claims tree text path v = vanity_claims_is tree path text (ap is_ok_path v.reads) ∙ v.has
 
-pub no_vanity_claimed : (tree : Content) (rows : Rows) (text : List ℕ) (path : List (List ℕ)) → AreClaims (claims_vanity_path tree) rows → claimants rows text ≡ [] → IsVanityPath tree text path → ⊥
+pub no_vanity_claimed : (tree : Content) (rows : ClaimRows) (text : List ℕ) (path : List (List ℕ)) → AreClaims (claims_vanity_path tree) rows → claimants rows text ≡ [] → IsVanityPath tree text path → ⊥
 no_vanity_claimed tree rows text path claims none v = false≢true (sym (ap (list_any (same_path path)) none) ∙ claims text path ∙ vanity_claims tree text path v)
-
-pub no_vanity_taken : (tree : Content) (text : List ℕ) (path : List (List ℕ)) → is_free tree text ≡ false → IsVanityPath tree text path → ⊥
-no_vanity_taken tree text path taken v = true≢false (sym (ap is_none v.free) ∙ sym (ap (is_free_at tree) v.reads) ∙ taken)
 
 -- ---- from the list of claimants
 
-pub is_vanity_pair : (tree : Content) (rows : Rows) (text : List ℕ) (pair : Pair) (path : List (List ℕ)) → AreClaims (claims_vanity_path tree) rows → is_free tree text ≡ true → IsFirst tree (claimants rows text) path
-    → pair.target ≡ text_of (page_of path) → pair.away ≡ None → HasVanityPath tree text pair
+pub is_vanity_pair : (tree : Content) (rows : ClaimRows) (text : List ℕ) (pair : Pair) (path : List (List ℕ)) → AreClaims (claims_vanity_path tree) rows → is_free tree text ≡ true → IsFirstPath tree (claimants rows text) path
+    → pair.target ≡ text_of (vanity_page path) → pair.away ≡ None → HasVanityPath tree text pair
 is_vanity_pair tree rows text pair path claims free first target inside = record {
   path = path;
   vanity_path = vanity_from tree rows text path claims free first;
@@ -134,16 +131,12 @@ is_vanity_pair tree rows text pair path claims free first target inside = record
 }
 
 -- no pair of a vanity path, unless some node claims the text ..
-pub no_vanity_pair : (tree : Content) (rows : Rows) (text : List ℕ) → AreClaims (claims_vanity_path tree) rows → length (claimants rows text) ≡ 0 → (pair : Pair) → pair.kind ≡ VanityPath → IsPair tree None text pair → ⊥
+pub no_vanity_pair : (tree : Content) (rows : ClaimRows) (text : List ℕ) → AreClaims (claims_vanity_path tree) rows → length (claimants rows text) ≡ 0 → (pair : Pair) → pair.kind ≡ VanityPath → IsPair tree None text pair → ⊥
 no_vanity_pair tree rows text claims none pair is has =
     let v = subst (λ kind. IsPairOf kind tree None text pair) is has in no_vanity_claimed tree rows text v.path claims (empty_from (claimants rows text) none) v.vanity_path
 
--- .. and no node is there
-pub no_vanity_there : (tree : Content) (text : List ℕ) → is_free tree text ≡ false → (pair : Pair) → pair.kind ≡ VanityPath → IsPair tree None text pair → ⊥
-no_vanity_there tree text taken pair is has = let v = subst (λ kind. IsPairOf kind tree None text pair) is has in no_vanity_taken tree text v.path taken v.vanity_path
-
 -- the claimants of a text are paths
-pub vanity_valid : (tree : Content) → IsTree (node_at tree) → (rows : Rows) (text : List ℕ) → AreClaims (claims_vanity_path tree) rows → (q : List (List ℕ)) → list_any (same_path q) (claimants rows text) ≡ true → is_path q ≡ true
+pub vanity_valid : (tree : Content) → IsTree (node_at tree) → (rows : ClaimRows) (text : List ℕ) → AreClaims (claims_vanity_path tree) rows → (q : List (List ℕ)) → list_any (same_path q) (claimants rows text) ≡ true → is_path q ≡ true
 unfolding claims_vanity_path
 vanity_valid tree good rows text claims q among =
     elim (node_at tree q) as (λ o. node_at tree q ≡ o → option_map_or (λ (node : Node). node_claims_vanity_path node text) o false ≡ true → is_path q ≡ true) [

@@ -15,22 +15,22 @@ use Rattle.url_maps.specs.declared.pairs.PairKind.{PairKind}
 use Rattle.url_maps.specs.declared.pairs.PairKind.TheVariants.{Mapping, Alias, VanityPath}
 use Rattle.url_maps.specs.Aliases.{has_alias}
 use Rattle.url_maps.specs.Mappings.{has_match, mapping_of, site_of}
-use Rattle.url_maps.specs.Pairs.{goes_on}
-use Rattle.url_maps.specs.Search.{is_cut, mapped_path}
+use Rattle.url_maps.specs.Pairs.{goes_on_after_prefix}
+use Rattle.url_maps.specs.Search.{is_prefix_end, mapped_path}
 use Rattle.url_maps.specs.Turns.{most_turns, text_after}
-use Rattle.url_maps.specs.VanityPaths.{has_vanity_path, page_of, vanity_cmp}
+use Rattle.url_maps.specs.VanityPaths.{has_vanity_path, vanity_page, vanity_cmp}
 
 -- ---- the pair of each kind with a prefix
 
 -- whether no node from the site's down to the path has a pattern
-abbrev pub is_plain : Content → List (List ℕ) → List (List ℕ) → Bool
-is_plain tree site path = list_all (λ depth. not (has_match tree (take depth path))) (range_with_len (length site) (length path + 1 - length site))
+abbrev pub is_without_pattern : Content → List (List ℕ) → List (List ℕ) → Bool
+is_without_pattern tree site path = list_all (λ depth. not (has_match tree (take depth path))) (range_with_len (length site) (length path + 1 - length site))
 
 abbrev pub pair_to : List ℕ × Option ℕ → Pair
 pair_to leads = record { kind = Mapping; target = leads.0; away = leads.1 }
 
 abbrev pub mapping_at : Content → List (List ℕ) → List (List ℕ) → Option Pair
-mapping_at tree site path = if is_plain tree site path then option_map pair_to (option_and_then mapping_of (node_at tree path)) else None
+mapping_at tree site path = if is_without_pattern tree site path then option_map pair_to (option_and_then mapping_of (node_at tree path)) else None
 
 -- the mapping with a prefix
 abbrev pub mapping_with : Content → Option (List (List ℕ)) → List ℕ → Option Pair
@@ -68,7 +68,7 @@ earliest tree [] = None
 earliest tree (path ∷ paths) = Some (earlier tree path (earliest tree paths))
 
 abbrev pub vanity_at : Content → List ℕ → Result (List (List ℕ)) PathFault → Option Pair
-vanity_at tree text (Ok at) = if is_none (node_at tree at) then option_map (λ path. pair_inside VanityPath (page_of path)) (earliest tree (vanity_nodes tree text)) else None
+vanity_at tree text (Ok at) = if is_none (node_at tree at) then option_map (λ path. pair_inside VanityPath (vanity_page path)) (earliest tree (vanity_nodes tree text)) else None
 vanity_at tree text (Err e) = None
 
 -- the vanity path with a prefix
@@ -79,16 +79,16 @@ vanity_with tree prefix = vanity_at tree prefix (path_of prefix)
 
 -- among those with a prefix, before the rest of a text
 abbrev pub pair_with : Content → Option (List (List ℕ)) → List ℕ → List ℕ → Option Pair
-pair_with tree site prefix rest = option_or (mapping_with tree site prefix) (option_or (alias_with tree prefix) (if goes_on VanityPath rest then vanity_with tree prefix else None))
+pair_with tree site prefix rest = option_or (mapping_with tree site prefix) (option_or (alias_with tree prefix) (if goes_on_after_prefix VanityPath rest then vanity_with tree prefix else None))
 
 -- among those whose prefix ends at a place of a text
 abbrev pub pair_at : Content → Option (List (List ℕ)) → List ℕ → ℕ → Option Pair
-pair_at tree site text at = if is_cut (drop at text) then pair_with tree site (take at text) (drop at text) else None
+pair_at tree site text at = if is_prefix_end (drop at text) then pair_with tree site (take at text) (drop at text) else None
 
 -- among those whose prefix ends before a place: the one at the last place, and that place
-abbrev pub decision : Content → Option (List (List ℕ)) → List ℕ → ℕ → Option (ℕ × Pair)
-decision tree site text zero = None
-decision tree site text (suc at) = option_or (option_map (λ pair. (at, pair)) (pair_at tree site text at)) (decision tree site text at)
+abbrev pub deciding_pair : Content → Option (List (List ℕ)) → List ℕ → ℕ → Option (ℕ × Pair)
+deciding_pair tree site text zero = None
+deciding_pair tree site text (suc at) = option_or (option_map (λ pair. (at, pair)) (pair_at tree site text at)) (deciding_pair tree site text at)
 
 -- ---- the turns
 
@@ -103,7 +103,7 @@ turn text further (Some (at, pair)) = outcome pair.away (text_after pair at text
 -- the answer of so many turns
 abbrev pub answer_of : Content → ℕ → Option (List (List ℕ)) → List ℕ → MapAnswer
 answer_of tree zero site text = Inside text
-answer_of tree (suc n) site text = turn text (answer_of tree n None) (decision tree site text (suc (length text)))
+answer_of tree (suc n) site text = turn text (answer_of tree n None) (deciding_pair tree site text (suc (length text)))
 
 -- what the tree maps the text to, for a host and a port
 unfoldable pub map_answer : Content → List ℕ → ℕ → List ℕ → MapAnswer

@@ -6,15 +6,15 @@ use Rattle.std.specs.Option.{option_map_or}
 use Rattle.std.specs.Str.{bytes_eq}
 use Rattle.resource_tree.specs.Content.{Content, same_path}
 use Rattle.resource_tree.specs.Patches as patches
-use Rattle.url_maps.specs.Claims.{Index, Rows, claimants, claims_alias, claims_vanity_path, node_claims_alias, node_claims_vanity_path}
+use Rattle.url_maps.specs.Claims.{Index, ClaimRows, claimants, claims_alias, claims_vanity_path, node_claims_alias, node_claims_vanity_path}
 
 -- texts whose claimants change, each with all who claim it after the change
 pub record Change : Type 0 where
-  pub aliases : Rows
-  pub vanity_paths : Rows
+  pub aliases : ClaimRows
+  pub vanity_paths : ClaimRows
 
 -- the claimants of a text with a change over them
-abbrev pub claimants_over : Rows → Rows → List ℕ → List (List (List ℕ))
+abbrev pub claimants_over : ClaimRows → ClaimRows → List ℕ → List (List (List ℕ))
 claimants_over changed rows text = option_map_or (λ paths. paths) (lookup (bytes_eq text) changed) (claimants rows text)
 
 -- whether a node claims a text as its alias or as its vanity path, in a tree with a patch over it
@@ -25,7 +25,7 @@ abbrev pub patched_vanity_path : Content → patches.Rows → List (List ℕ) �
 patched_vanity_path tree patch path text = option_map_or (λ node. node_claims_vanity_path node text) (patches.patching_at tree patch path) false
 
 -- The rows lead from claims to others: where a text has a row, those in it claim the text after, and no others; where it has none, those claim it who did before.
-abbrev pub AreChanged : (List (List ℕ) → List ℕ → Bool) → (List (List ℕ) → List ℕ → Bool) → Rows → Type 0
+abbrev pub AreChanged : (List (List ℕ) → List ℕ → Bool) → (List (List ℕ) → List ℕ → Bool) → ClaimRows → Type 0
 AreChanged before after changed = (text : List ℕ) (path : List (List ℕ)) → option_map_or (list_any (same_path path)) (lookup (bytes_eq text) changed) (before path text) ≡ after path text
 
 -- The change is the one that a patch of a tree makes.

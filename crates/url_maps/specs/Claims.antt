@@ -9,20 +9,20 @@ use Rattle.sp_base.specs.Paths.{parent_of, path_of, seg_ok, text_of}
 use Rattle.sp_base.specs.declared.path.PathFault.{PathFault}
 use Rattle.resource_tree.specs.declared.nodes.Node.{Node}
 use Rattle.resource_tree.specs.Content.{Content, kid, node_at, prop_at, same_path}
-use Rattle.url_maps.specs.Words.{texts_of}
+use Rattle.url_maps.specs.Words.{mapping_texts}
 use Rattle.url_maps.specs.VanityPaths.{with_slash}
 
 -- texts, and the paths that claim each
-abbrev pub Rows : Type 0
-Rows = List (List ℕ × List (List (List ℕ)))
+abbrev pub ClaimRows : Type 0
+ClaimRows = List (List ℕ × List (List (List ℕ)))
 
 -- the paths that claim a text
-abbrev pub claimants : Rows → List ℕ → List (List (List ℕ))
+abbrev pub claimants : ClaimRows → List ℕ → List (List (List ℕ))
 claimants rows text = option_map_or (λ paths. paths) (lookup (bytes_eq text) rows) []
 
 -- no text of more bytes is claimed
-abbrev pub AreWithin : ℕ → Rows → Type 0
-AreWithin longest rows = (text : List ℕ) → longest < length text → claimants rows text ≡ []
+abbrev pub ClaimsAreWithin : ℕ → ClaimRows → Type 0
+ClaimsAreWithin longest rows = (text : List ℕ) → longest < length text → claimants rows text ≡ []
 
 -- the text spells a node's alias, in the place of its name
 abbrev pub spells_alias : List (List ℕ) → List ℕ → List ℕ → Bool
@@ -30,7 +30,7 @@ spells_alias path text alias = seg_ok alias && pointwise nat_eq text (text_of (k
 
 -- whether a node at a path, which isn't the root's, claims a text as its alias
 unfoldable pub node_claims_alias : List (List ℕ) → Node → List ℕ → Bool
-node_claims_alias path node text = not (length path == 0) && list_any (spells_alias path text) (texts_of (prop_at node (codes "sling:alias")))
+node_claims_alias path node text = not (length path == 0) && list_any (spells_alias path text) (mapping_texts (prop_at node (codes "sling:alias")))
 
 abbrev pub is_ok_path : Result (List (List ℕ)) PathFault → Bool
 is_ok_path (Ok path) = true
@@ -42,7 +42,7 @@ spells_vanity_path text word = is_ok_path (path_of text) && pointwise nat_eq tex
 
 -- whether a node claims a text as its vanity path
 unfoldable pub node_claims_vanity_path : Node → List ℕ → Bool
-node_claims_vanity_path node text = list_any (spells_vanity_path text) (texts_of (prop_at node (codes "sling:vanityPath")))
+node_claims_vanity_path node text = list_any (spells_vanity_path text) (mapping_texts (prop_at node (codes "sling:vanityPath")))
 
 -- the same of the node at a path of a tree, if there is one
 unfoldable pub claims_alias : Content → List (List ℕ) → List ℕ → Bool
@@ -52,16 +52,16 @@ unfoldable pub claims_vanity_path : Content → List (List ℕ) → List ℕ →
 claims_vanity_path tree path text = option_map_or (λ node. node_claims_vanity_path node text) (node_at tree path) false
 
 -- the claims with one path's more, on each text of a test
-abbrev pub Adds : List (List ℕ) → (List ℕ → Bool) → Rows → Rows → Type 0
-Adds path test old new = (text : List ℕ) (q : List (List ℕ)) → list_any (same_path q) (claimants new text) ≡ (list_any (same_path q) (claimants old text) || (same_path q path && test text))
+abbrev pub AddsClaims : List (List ℕ) → (List ℕ → Bool) → ClaimRows → ClaimRows → Type 0
+AddsClaims path test old new = (text : List ℕ) (q : List (List ℕ)) → list_any (same_path q) (claimants new text) ≡ (list_any (same_path q) (claimants old text) || (same_path q path && test text))
 
 -- the claims are those of the tree, and no other
-abbrev pub AreClaims : (List (List ℕ) → List ℕ → Bool) → Rows → Type 0
+abbrev pub AreClaims : (List (List ℕ) → List ℕ → Bool) → ClaimRows → Type 0
 AreClaims claims rows = (text : List ℕ) (path : List (List ℕ)) → list_any (same_path path) (claimants rows text) ≡ claims path text
 
 -- the claimants of texts, and for how many more texts there is room
 pub record Table : Type 0 where
-  pub rows : Rows
+  pub rows : ClaimRows
   pub room : ℕ
 
 -- the aliases and the vanity paths of a tree by their texts

@@ -3,9 +3,9 @@ use Rattle.std.specs.Prelude.{◌&&◌, ℕ, Bool, nat_le, if◌then◌else◌, 
 use Rattle.percent_encoding.specs.Percent.{percent_encode_byte}
 
 -- a visible octet of ASCII
-abbrev pub is_visible : ℕ → Bool
-is_visible b = nat_le 33 b && nat_le b 126
+abbrev pub is_visible_octet : ℕ → Bool
+is_visible_octet b = nat_le 33 b && nat_le b 126
 
 -- the text with each other octet as `%` and two capital digits
-unfoldable pub location_of : List ℕ → List ℕ
-location_of text = flat_map (λ b. if is_visible b then b ∷ [] else percent_encode_byte b) text
+unfoldable pub mapped_location : List ℕ → List ℕ
+mapped_location text = flat_map (λ b. if is_visible_octet b then b ∷ [] else percent_encode_byte b) text

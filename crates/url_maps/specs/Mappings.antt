@@ -6,7 +6,7 @@ use Rattle.std.specs.Fmt.{decimal}
 use Rattle.sp_base.specs.Properties.{text_in}
 use Rattle.resource_tree.specs.declared.nodes.Node.{Node}
 use Rattle.resource_tree.specs.Content.{Content, node_at, prop_at}
-use Rattle.url_maps.specs.Words.{texts_of, first_text, number_of}
+use Rattle.url_maps.specs.Words.{mapping_texts, first_text, mapping_number}
 
 -- the name of the node with the mappings for a host and a port: the host in lower case, a dot and the port
 abbrev pub site_name : List ℕ → ℕ → List ℕ
@@ -41,16 +41,16 @@ abbrev pub status_in : Option ℤ → ℕ
 status_in None = 302
 status_in (Some n) = option_map_or (λ s. s) (redirect_status n) 302
 
-abbrev pub status_of : Node → ℕ
-status_of node = status_in (number_of (prop_at node (codes "sling:status")))
+abbrev pub mapping_status : Node → ℕ
+mapping_status node = status_in (mapping_number (prop_at node (codes "sling:status")))
 
 -- the first text of `sling:internalRedirect`
 unfoldable pub internal_target : Node → Option (List ℕ)
-internal_target node = first_text (texts_of (prop_at node (codes "sling:internalRedirect")))
+internal_target node = first_text (mapping_texts (prop_at node (codes "sling:internalRedirect")))
 
 -- a target outside, and the status of the redirect to it: the text `sling:redirect`
 unfoldable pub redirect_target : Node → Option (List ℕ × Option ℕ)
-redirect_target node = option_map (λ target. (target, Some (status_of node))) (text_in node.props (codes "sling:redirect"))
+redirect_target node = option_map (λ target. (target, Some (mapping_status node))) (text_in node.props (codes "sling:redirect"))
 
 -- where the node of a mapping leads: a target, and the status where that is outside
 abbrev pub mapping_of : Node → Option (List ℕ × Option ℕ)

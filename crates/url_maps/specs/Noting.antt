@@ -7,14 +7,14 @@ use Rattle.std.specs.Str.{bytes_eq}
 use Rattle.resource_tree.specs.declared.patch.PatchNode.{PatchNode}
 use Rattle.resource_tree.specs.Content.{same_path}
 use Rattle.resource_tree.specs.Patches as patches
-use Rattle.url_maps.specs.Claims.{Rows, claimants, node_claims_alias, node_claims_vanity_path}
+use Rattle.url_maps.specs.Claims.{ClaimRows, claimants, node_claims_alias, node_claims_vanity_path}
 
 -- those of some paths at which a patch has nothing
 abbrev pub kept : patches.Rows → List (List (List ℕ)) → List (List (List ℕ))
 kept patch paths = filter (λ path. is_none (patches.row_at patch path)) paths
 
 -- the claimants of a text as a change has them so far
-abbrev pub noted : Rows → patches.Rows → Rows → List ℕ → List (List (List ℕ))
+abbrev pub noted : ClaimRows → patches.Rows → ClaimRows → List ℕ → List (List (List ℕ))
 noted rows patch changed text = option_map_or (λ paths. paths) (lookup (bytes_eq text) changed) (kept patch (claimants rows text))
 
 -- whether a path is the one, if there is one
@@ -22,16 +22,16 @@ abbrev pub is_at_some : Option (List (List ℕ)) → List (List ℕ) → Bool
 is_at_some path q = option_map_or (same_path q) path false
 
 -- whether a text has a row
-abbrev pub has_row : Rows → List ℕ → Bool
+abbrev pub has_row : ClaimRows → List ℕ → Bool
 has_row changed text = is_some (lookup (bytes_eq text) changed)
 
 -- Texts are noted, with more who claim them.
-pub record Notes (rows : Rows) (patch : patches.Rows) (who : List (List ℕ) → Bool) (texts : List ℕ → Bool) (old new : Rows) : Type 0 where
+pub record Notes (rows : ClaimRows) (patch : patches.Rows) (who : List (List ℕ) → Bool) (texts : List ℕ → Bool) (old new : ClaimRows) : Type 0 where
   pub claims : (text : List ℕ) (q : List (List ℕ)) → list_any (same_path q) (noted rows patch new text) ≡ (list_any (same_path q) (noted rows patch old text) || (who q && texts text))
   pub has : (text : List ℕ) → has_row new text ≡ (has_row old text || texts text)
 
 -- The texts that the node at a path claims before a patch, and those that it claims after it, are noted.
-pub record NotesRow (rows : Rows) (patch : patches.Rows) (path : List (List ℕ)) (before after : List ℕ → Bool) (old new : Rows) : Type 0 where
+pub record NotesRow (rows : ClaimRows) (patch : patches.Rows) (path : List (List ℕ)) (before after : List ℕ → Bool) (old new : ClaimRows) : Type 0 where
   pub claims : (text : List ℕ) (q : List (List ℕ)) → list_any (same_path q) (noted rows patch new text) ≡ (list_any (same_path q) (noted rows patch old text) || (same_path q path && after text))
   pub has : (text : List ℕ) → has_row new text ≡ (has_row old text || (before text || after text))
 

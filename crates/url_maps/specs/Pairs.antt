@@ -7,7 +7,7 @@ use Rattle.url_maps.specs.declared.pairs.PairKind.{PairKind}
 use Rattle.url_maps.specs.declared.pairs.PairKind.TheVariants.{Mapping, Alias, VanityPath}
 use Rattle.url_maps.specs.Aliases.{IsAlias}
 use Rattle.url_maps.specs.Mappings.{IsMapping}
-use Rattle.url_maps.specs.VanityPaths.{IsVanityPath, page_of}
+use Rattle.url_maps.specs.VanityPaths.{IsVanityPath, vanity_page}
 
 -- a mapping of a site, if there is one
 abbrev pub HasMapping : Content → Option (List (List ℕ)) → List ℕ → Pair → Type 0
@@ -25,7 +25,7 @@ pub record HasAlias (tree : Content) (prefix : List ℕ) (pair : Pair) : Type 0 
 pub record HasVanityPath (tree : Content) (prefix : List ℕ) (pair : Pair) : Type 0 where
   pub path : List (List ℕ)
   pub vanity_path : IsVanityPath tree prefix path
-  pub target : pair.target ≡ text_of (page_of path)
+  pub target : pair.target ≡ text_of (vanity_page path)
   pub inside : pair.away ≡ None
 
 abbrev pub IsPairOf : PairKind → Content → Option (List (List ℕ)) → List ℕ → Pair → Type 0
@@ -38,17 +38,17 @@ abbrev pub IsPair : Content → Option (List (List ℕ)) → List ℕ → Pair �
 IsPair tree site prefix pair = IsPairOf pair.kind tree site prefix pair
 
 -- a text may go on after a prefix with a slash or a dot, after that of a vanity path with a dot alone
-abbrev pub goes_on : PairKind → List ℕ → Bool
-goes_on kind [] = true
-goes_on Mapping (b ∷ rest) = b == 46 || b == 47
-goes_on Alias (b ∷ rest) = b == 46 || b == 47
-goes_on VanityPath (b ∷ rest) = b == 46
+abbrev pub goes_on_after_prefix : PairKind → List ℕ → Bool
+goes_on_after_prefix kind [] = true
+goes_on_after_prefix Mapping (b ∷ rest) = b == 46 || b == 47
+goes_on_after_prefix Alias (b ∷ rest) = b == 46 || b == 47
+goes_on_after_prefix VanityPath (b ∷ rest) = b == 46
 
 -- the pair whose prefix ends at a place of a text applies to the text
 pub record Applies (tree : Content) (site : Option (List (List ℕ))) (text : List ℕ) (at : ℕ) (pair : Pair) : Type 0 where
   pub within : at ≤ length text
   pub has : IsPair tree site (take at text) pair
-  pub continues : goes_on pair.kind (drop at text) ≡ true
+  pub continues : goes_on_after_prefix pair.kind (drop at text) ≡ true
 
 -- at a tie a mapping decides before an alias, and an alias before a vanity path
 abbrev pub rank : PairKind → ℕ

@@ -12,7 +12,7 @@ use Rattle.url_maps.specs.declared.turns.Step.{Step}
 use Rattle.url_maps.specs.declared.pairs.PairKind.TheVariants.{Mapping}
 use Rattle.url_maps.specs.Mappings.{mapping_of}
 use Rattle.resource_tree.specs.declared.nodes.Node.{Node}
-use Rattle.url_maps.specs.Pairs.{Applies, Decides, HasMapping, HasNoPair, IsPair, goes_on, rank}
+use Rattle.url_maps.specs.Pairs.{Applies, Decides, HasMapping, HasNoPair, IsPair, goes_on_after_prefix, rank}
 use Rattle.url_maps.specs.Turns.{text_after}
 use Rattle.url_maps.specs.VanityPaths.{vanity_cmp}
 
@@ -39,14 +39,14 @@ abbrev pub first_path : List (List (List ℕ)) → List (List ℕ)
 first_path paths = slice_index_or paths 0 []
 
 -- a path is among others, and before each of them in the order of nodes with one vanity path
-pub record IsFirst (tree : Content) (paths : List (List (List ℕ))) (path : List (List ℕ)) : Type 0 where
+pub record IsFirstPath (tree : Content) (paths : List (List (List ℕ))) (path : List (List ℕ)) : Type 0 where
   pub among : list_any (same_path path) paths ≡ true
   pub first : (other : List (List ℕ)) → list_any (same_path other) paths ≡ true → (other ≡ path) ⊎ (vanity_cmp tree path other ≡ Less)
 
 -- the end of a text, or the rest from a dot or a slash on
-abbrev pub is_cut : List ℕ → Bool
-is_cut [] = true
-is_cut (b ∷ rest) = b == 46 || b == 47
+abbrev pub is_prefix_end : List ℕ → Bool
+is_prefix_end [] = true
+is_prefix_end (b ∷ rest) = b == 46 || b == 47
 
 -- no mapping's prefix in a text has more bytes
 abbrev pub HasNoMappingBeyond : Content → Option (List (List ℕ)) → List ℕ → ℕ → Type 0
@@ -71,9 +71,9 @@ IsLastSeparator text None = (k : ℕ) → k < length text → is_separator (slic
 
 -- the pair that decides among those with a prefix, before the rest of a text
 abbrev pub IsBest : Content → Option (List (List ℕ)) → List ℕ → List ℕ → Option Pair → Type 0
-IsBest tree site prefix rest (Some pair) = IsPair tree site prefix pair × (goes_on pair.kind rest ≡ true)
-    × ((other : Pair) → IsPair tree site prefix other → goes_on other.kind rest ≡ true → rank pair.kind ≤ rank other.kind)
-IsBest tree site prefix rest None = (other : Pair) → IsPair tree site prefix other → goes_on other.kind rest ≡ true → ⊥
+IsBest tree site prefix rest (Some pair) = IsPair tree site prefix pair × (goes_on_after_prefix pair.kind rest ≡ true)
+    × ((other : Pair) → IsPair tree site prefix other → goes_on_after_prefix other.kind rest ≡ true → rank pair.kind ≤ rank other.kind)
+IsBest tree site prefix rest None = (other : Pair) → IsPair tree site prefix other → goes_on_after_prefix other.kind rest ≡ true → ⊥
 
 -- no pair with a prefix of more bytes applies
 abbrev pub HasNoneBeyond : Content → Option (List (List ℕ)) → List ℕ → ℕ → Type 0

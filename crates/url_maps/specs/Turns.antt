@@ -10,15 +10,15 @@ use Rattle.url_maps.specs.Mappings.{site_of}
 use Rattle.url_maps.specs.Pairs.{Decides, HasNoPair}
 
 -- what follows the target: what followed the prefix, after a vanity path's target at least `.html`
-abbrev pub ending : PairKind → List ℕ → List ℕ
-ending Mapping rest = rest
-ending Alias rest = rest
-ending VanityPath [] = codes ".html"
-ending VanityPath (b ∷ rest) = b ∷ rest
+abbrev pub target_ending : PairKind → List ℕ → List ℕ
+target_ending Mapping rest = rest
+target_ending Alias rest = rest
+target_ending VanityPath [] = codes ".html"
+target_ending VanityPath (b ∷ rest) = b ∷ rest
 
 -- the text after a turn
 abbrev pub text_after : Pair → ℕ → List ℕ → List ℕ
-text_after pair at text = pair.target ++ ending pair.kind (drop at text)
+text_after pair at text = pair.target ++ target_ending pair.kind (drop at text)
 
 -- a pair ends the turns by leading away
 abbrev pub leads : Option ℕ → List ℕ → (MapAnswer → Type 0) → MapAnswer → Type 0

@@ -7,7 +7,7 @@ use Rattle.std.specs.declared.cmp.Ordering.TheVariants.{Less}
 use Rattle.sp_base.specs.Names.{by_name}
 use Rattle.sp_base.specs.Paths.{parent_of, path_of, text_of}
 use Rattle.resource_tree.specs.Content.{Content, name_of, node_at, prop_at}
-use Rattle.url_maps.specs.Words.{any_text_at, number_of}
+use Rattle.url_maps.specs.Words.{any_text_at, mapping_number}
 
 -- the text of a vanity path, before which a slash is put where it has none
 abbrev pub with_slash : List ℕ → List ℕ
@@ -19,7 +19,7 @@ has_vanity_path tree path text = any_text_at tree path (codes "sling:vanityPath"
 
 -- the number `sling:vanityOrder` of the node at a path, else 0
 unfoldable pub vanity_order : Content → List (List ℕ) → ℤ
-vanity_order tree path = unwrap_or (option_and_then (λ node. number_of (prop_at node (codes "sling:vanityOrder"))) (node_at tree path)) (pos 0)
+vanity_order tree path = unwrap_or (option_and_then (λ node. mapping_number (prop_at node (codes "sling:vanityOrder"))) (node_at tree path)) (pos 0)
 
 -- the order of nodes with one vanity path: the greater number is before the less, and then the path by the bytes of its text
 abbrev pub vanity_cmp : Content → List (List ℕ) → List (List ℕ) → Ordering
@@ -35,5 +35,5 @@ pub record IsVanityPath (tree : Content) (text : List ℕ) (path : List (List �
   pub first : (other : List (List ℕ)) → has_vanity_path tree other text ≡ true → (other ≡ path) ⊎ (vanity_cmp tree path other ≡ Less)
 
 -- the page that a node with a vanity path stands for: its parent, where the node is the page's content
-abbrev pub page_of : List (List ℕ) → List (List ℕ)
-page_of path = if pointwise nat_eq (name_of path) (codes "jcr:content") then parent_of path else path
+abbrev pub vanity_page : List (List ℕ) → List (List ℕ)
+vanity_page path = if pointwise nat_eq (name_of path) (codes "jcr:content") then parent_of path else path

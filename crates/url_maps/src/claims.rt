@@ -2,7 +2,7 @@
 ghost use Rattle.std.specs.Prelude.{◌≡◌, ◌≤◌, ◌<◌, ◌+◌, ◌++◌, ◌∷◌, [], ℕ, List, OnOk, if◌then◌else◌, length, string_bytes};
 ghost use Rattle.std.specs.List.{list_any};
 ghost use Rattle.std.specs.Str.{bytes_eq};
-ghost use Rattle.url_maps.specs.Claims.{Adds, claimants};
+ghost use Rattle.url_maps.specs.Claims.{AddsClaims, claimants};
 ghost use Rattle.url_maps.specs.Changes.{claimants_over};
 
 use crate::claims_change::ClaimsChange;
@@ -23,13 +23,13 @@ pub(crate) struct Claims {
 impl Model for Claims {
     ghost use Rattle.std.specs.Prelude.{map, string_bytes};
     ghost use Rattle.std.specs.HashMap.{spare};
-    ghost use Rattle.url_maps.specs.Claims.{AreWithin, Table};
+    ghost use Rattle.url_maps.specs.Claims.{ClaimsAreWithin, Table};
 
     ghost Value = { Table };
 
     ghost view = { λ c. record { rows = map (λ e. (string_bytes e.0, e.1)) c.table.entries; room = spare c.table } };
 
-    ghost invariant = { λ c. AreWithin c.longest (map (λ e. (string_bytes e.0, e.1)) c.table.entries) };
+    ghost invariant = { λ c. ClaimsAreWithin c.longest (map (λ e. (string_bytes e.0, e.1)) c.table.entries) };
 }
 
 impl Claims {
@@ -85,7 +85,7 @@ impl Claims {
 
     // Adds a path to the claimants of each of some texts.
     pub(crate) fn add_all(&mut self, alloc: Global, texts: &[TextBuf], path: &Path) -> Mem<()>
-        ensures { OnOk result (Adds path.now (λ t. list_any (bytes_eq t) texts.now) self.old.rows self.new.rows) }
+        ensures { OnOk result (AddsClaims path.now (λ t. list_any (bytes_eq t) texts.now) self.old.rows self.new.rows) }
     {
         for text in texts {
             self.add(alloc, text.text(), path.duplicate(alloc)?)?;

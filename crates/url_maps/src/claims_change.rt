@@ -22,9 +22,9 @@ pub(crate) struct ClaimsChange {
 
 impl Model for ClaimsChange {
     ghost use Rattle.std.specs.Prelude.{map, string_bytes};
-    ghost use Rattle.url_maps.specs.Claims.{Rows};
+    ghost use Rattle.url_maps.specs.Claims.{ClaimRows};
 
-    ghost Value = { Rows };
+    ghost Value = { ClaimRows };
 
     ghost view = { λ c. map (λ e. (string_bytes e.0, e.1)) c.rows.entries };
 }

@@ -1,6 +1,6 @@
 // The index of a tree's aliases and vanity paths.
 ghost use Rattle.std.specs.Prelude.{IfOk, OnOk};
-ghost use Rattle.url_maps.specs.Claims.{Adds, IsIndexOf, claims_alias, claims_vanity_path};
+ghost use Rattle.url_maps.specs.Claims.{AddsClaims, IsIndexOf, claims_alias, claims_vanity_path};
 
 use crate::claimed::{alias_texts, vanity_texts};
 use crate::claims::Claims;
@@ -51,8 +51,8 @@ fn add_claims(
     tree: &Tree,
     path: &Path,
 ) -> Mem<()>
-    ensures aliases { OnOk result (Adds path.now (claims_alias tree.now path.now) aliases.old.rows aliases.new.rows) }
-    ensures vanity_paths { OnOk result (Adds path.now (claims_vanity_path tree.now path.now) vanity_paths.old.rows vanity_paths.new.rows) }
+    ensures aliases { OnOk result (AddsClaims path.now (claims_alias tree.now path.now) aliases.old.rows aliases.new.rows) }
+    ensures vanity_paths { OnOk result (AddsClaims path.now (claims_vanity_path tree.now path.now) vanity_paths.old.rows vanity_paths.new.rows) }
 {
     let node = tree.node(path);
     let texts = alias_texts(alloc, path, node)?;

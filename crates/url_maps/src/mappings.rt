@@ -1,7 +1,7 @@
 // The mappings of a host and a port.
 ghost use Rattle.std.specs.Prelude.{◌≡◌, ◌↔◌, IfOk, IsTrue, Some};
 ghost use Rattle.sp_base.specs.Paths.{path_or_none};
-ghost use Rattle.url_maps.specs.Mappings.{IsPlain, has_match, redirect_status, site_of, status_of};
+ghost use Rattle.url_maps.specs.Mappings.{IsPlain, has_match, redirect_status, site_of, mapping_status};
 ghost use Rattle.url_maps.specs.Search.{IsBeyond, IsMappingPair, IsOf, mapped_path};
 
 use crate::pairs::{Pair, PairKind};
@@ -134,7 +134,7 @@ fn pair_of(alloc: Global, node: &Node) -> Mem<Option<Pair>>
 }
 
 fn status_of(node: &Node) -> u16
-    ensures { result ≡ status_of node.now }
+    ensures { result ≡ mapping_status node.now }
 {
     match number(node.props.get("sling:status")) {
         Some(n) => redirect_status(n).unwrap_or(FOUND),

@@ -3,8 +3,8 @@ ghost use Rattle.std.specs.Prelude.{◌≡◌, ◌==◌, ◌≤◌, ◌<◌, ◌
 ghost use Rattle.resource_tree.specs.Content.{IsGood};
 ghost use Rattle.url_maps.specs.Answers.{map_answer};
 ghost use Rattle.url_maps.specs.Claims.{IsIndexOf};
-ghost use Rattle.url_maps.specs.Search.{IsBest, IsBeyond, IsLastSeparator, IsShorter, IsTurn, is_cut, is_separator};
-ghost use Rattle.url_maps.specs.Turns.{IsMapped, ending};
+ghost use Rattle.url_maps.specs.Search.{IsBest, IsBeyond, IsLastSeparator, IsShorter, IsTurn, is_prefix_end, is_separator};
+ghost use Rattle.url_maps.specs.Turns.{IsMapped, target_ending};
 
 use crate::mappings::{mapping_within, site_of};
 use crate::pairs::{Pair, PairKind};
@@ -105,7 +105,7 @@ impl MapIndex {
         rest: &str,
     ) -> Mem<Option<Pair>>
         requires index { IsIndexOf tree.now self.now }
-        requires cut { is_cut rest.now ≡ true }
+        requires cut { is_prefix_end rest.now ≡ true }
         requires reach { IsBeyond tree.now site.now prefix.now reach }
         ensures { IfOk result (IsBest tree.now site.now prefix.now rest.now) }
     {
@@ -159,7 +159,7 @@ fn is_separator(byte: u8) -> bool
 
 // The text after a turn: the target, and what followed the prefix, after a vanity path's target at least `.html`.
 fn text_after(alloc: Global, pair: &Pair, rest: &str) -> Mem<TextBuf>
-    ensures { IfOk result (λ t. t ≡ pair.now.target ++ ending pair.now.kind rest.now) }
+    ensures { IfOk result (λ t. t ≡ pair.now.target ++ target_ending pair.now.kind rest.now) }
 {
     let target = pair.target.text();
     let ending = ending(pair.kind, rest);
@@ -170,7 +170,7 @@ fn text_after(alloc: Global, pair: &Pair, rest: &str) -> Mem<TextBuf>
 }
 
 fn ending(kind: PairKind, rest: &str) -> &str
-    ensures { result.now ≡ ending kind rest.entry.now }
+    ensures { result.now ≡ target_ending kind rest.entry.now }
 {
     match kind {
         PairKind::VanityPath if rest.is_empty() => ".html",

@@ -6,8 +6,8 @@ ghost use Rattle.std.specs.Ordering.{is_lt};
 ghost use Rattle.sp_base.specs.Paths.{is_path};
 ghost use Rattle.resource_tree.specs.Content.{name_of, same_path};
 ghost use Rattle.url_maps.specs.Claims.{IsIndexOf};
-ghost use Rattle.url_maps.specs.Search.{IsFirst, IsOf};
-ghost use Rattle.url_maps.specs.VanityPaths.{page_of, vanity_cmp, vanity_order};
+ghost use Rattle.url_maps.specs.Search.{IsFirstPath, IsOf};
+ghost use Rattle.url_maps.specs.VanityPaths.{vanity_page, vanity_cmp, vanity_order};
 
 use crate::MapIndex;
 use crate::aliases::is_free;
@@ -51,7 +51,7 @@ impl MapIndex {
 fn first_of<'a>(tree: &Tree, paths: &'a [Path]) -> &'a Path
     requires some { 0 < length paths.now }
     requires valid { (q : List (List ℕ)) → list_any (same_path q) paths.now ≡ true → IsTrue (is_path q) }
-    ensures { IsFirst tree.now paths.now result.now }
+    ensures { IsFirstPath tree.now paths.now result.now }
 {
     a_path_and_its_text();
     let mut first = &paths[0];
@@ -93,7 +93,7 @@ fn vanity_order(tree: &Tree, path: &Path) -> i64
 
 // The page that a node with a vanity path stands for.
 fn page_of(alloc: Global, path: &Path) -> Mem<Path>
-    ensures { IfOk result (λ page. page ≡ page_of path.now) }
+    ensures { IfOk result (λ page. page ≡ vanity_page path.now) }
 {
     if is_content(path) {
         path.parent(alloc)

@@ -1,11 +1,11 @@
 // The texts of a property.
 ghost use Rattle.std.specs.Prelude.{◌≡◌, option_copied};
-ghost use Rattle.url_maps.specs.Words.{number_of, texts_of};
+ghost use Rattle.url_maps.specs.Words.{mapping_number, mapping_texts};
 
 use sp_base::{TextBuf, Value};
 
 pub(crate) fn texts(value: Option<&Value>) -> &[TextBuf]
-    ensures { result.now ≡ texts_of (option_copied value.entry) }
+    ensures { result.now ≡ mapping_texts (option_copied value.entry) }
 {
     match value {
         Some(Value::Text(text)) => std::slice::from_ref(text),
@@ -15,7 +15,7 @@ pub(crate) fn texts(value: Option<&Value>) -> &[TextBuf]
 }
 
 pub(crate) fn number(value: Option<&Value>) -> Option<i64>
-    ensures { result ≡ number_of (option_copied value.entry) }
+    ensures { result ≡ mapping_number (option_copied value.entry) }
 {
     match value {
         Some(Value::Long(n)) => Some(*n),

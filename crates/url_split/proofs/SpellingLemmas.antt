@@ -11,7 +11,7 @@ use Rattle.std.specs.List.{list_all, list_any, onto_first, slice_split, before_f
 use Rattle.sp_base.specs.Paths.{path_of, text_of}
 use Rattle.url_split.specs.declared.decompose.Parts.{Parts}
 use Rattle.url_split.specs.Split.{IsSplit, is_dot, is_slash, last_of, but_last, selectors_of, extension_of, suffix_of}
-use Rattle.url_split.specs.Spelling.{is_full, is_word, dotted, Spells}
+use Rattle.url_split.specs.Spelling.{is_full, is_word, dotted, SpellsParts}
 use Rattle.url_split.proofs.SplitLemmas.{no_more, cut_behind}
 
 both : (a b : Bool) → a ≡ true → b ≡ true → (a && b) ≡ true
@@ -158,7 +158,7 @@ are_parts (dot ∷ rest) =
 
 -- ---- the parts of a decomposition
 
-spelled_after : (rest : List ℕ) (parts : Parts) → (rest ≡ []) ⊎ ((more : List ℕ) × (rest ≡ 46 ∷ more)) → parts.selectors ≡ selectors_of rest → parts.extension ≡ extension_of rest → parts.suffix ≡ suffix_of rest → Spells rest parts
+spelled_after : (rest : List ℕ) (parts : Parts) → (rest ≡ []) ⊎ ((more : List ℕ) × (rest ≡ 46 ∷ more)) → parts.selectors ≡ selectors_of rest → parts.extension ≡ extension_of rest → parts.suffix ≡ suffix_of rest → SpellsParts rest parts
 spelled_after rest parts b selectors extension suffix = ⊎_elim
     (λ (none : rest ≡ []). inl (none, selectors ∙ ap selectors_of none, extension ∙ ap extension_of none, suffix ∙ ap suffix_of none))
     (λ (dot : (more : List ℕ) × (rest ≡ 46 ∷ more)).
@@ -171,7 +171,7 @@ spelled_after rest parts b selectors extension suffix = ⊎_elim
 
 -- the resource path's text and what the parts spell are the text
 pub parts_spell : ((text : List ℕ) (path : List (List ℕ)) → path_of text ≡ Ok path → text_of path ≡ text) → (known : List (List ℕ) → Bool) (text : List ℕ) (parts : Parts) → IsSplit known text parts
-    → (rest : List ℕ) × (text ≡ text_of parts.path ++ rest) × Spells rest parts
+    → (rest : List ℕ) × (text ≡ text_of parts.path ++ rest) × SpellsParts rest parts
 parts_spell spelled known text parts split =
     let rest = drop split.at text in (
       rest,

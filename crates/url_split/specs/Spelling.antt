@@ -17,6 +17,6 @@ dotted pieces = flat_map (λ piece. 46 ∷ piece) pieces
 
 -- The parts spell a text: nothing, of no parts, or a dot and a selector as often as there are selectors, a dot and the extension, and
 -- the suffix. Between them may stand further dots, as of selectors that are empty.
-abbrev pub Spells : List ℕ → Parts → Type 0
-Spells text parts = ((text ≡ []) × (parts.selectors ≡ []) × (parts.extension ≡ []) × (parts.suffix ≡ []))
+abbrev pub SpellsParts : List ℕ → Parts → Type 0
+SpellsParts text parts = ((text ≡ []) × (parts.selectors ≡ []) × (parts.extension ≡ []) × (parts.suffix ≡ []))
     ⊎ ((pieces : List (List ℕ)) × (text ≡ dotted (pieces ++ parts.extension ∷ []) ++ parts.suffix) × (parts.selectors ≡ filter is_full pieces))

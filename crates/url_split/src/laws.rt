@@ -3,7 +3,7 @@ ghost use Rattle.std.specs.Prelude.{◌≡◌, ◌⊎◌, ◌&&◌, ◌++◌, �
 ghost use Rattle.std.specs.List.{list_all};
 ghost use Rattle.sp_base.specs.Paths.{text_of};
 ghost use Rattle.url_split.specs.Split.{IsLost, IsSplit, split_of};
-ghost use Rattle.url_split.specs.Spelling.{Spells, is_full, is_word};
+ghost use Rattle.url_split.specs.Spelling.{SpellsParts, is_full, is_word};
 ghost use Rattle.url_split.specs.declared.decompose.Parts.{Parts};
 
 use sp_base::a_path_and_its_text;
@@ -20,7 +20,7 @@ pub fn the_split_is_the_longest()
 /// extension with a dot before each, and the suffix. No selector is empty, none has a dot or a slash, and nor has the extension; a
 /// suffix begins with a slash.
 pub fn the_parts_give_the_text_back()
-    ensures text { (known : List (List ℕ) → Bool) (text : List ℕ) (parts : Parts) → IsSplit known text parts → (rest : List ℕ) × (text ≡ text_of parts.path ++ rest) × Spells rest parts }
+    ensures text { (known : List (List ℕ) → Bool) (text : List ℕ) (parts : Parts) → IsSplit known text parts → (rest : List ℕ) × (text ≡ text_of parts.path ++ rest) × SpellsParts rest parts }
     ensures selectors { (known : List (List ℕ) → Bool) (text : List ℕ) (parts : Parts) → IsSplit known text parts → IsTrue (list_all (λ piece. is_full piece && is_word piece) parts.selectors) }
     ensures extension { (known : List (List ℕ) → Bool) (text : List ℕ) (parts : Parts) → IsSplit known text parts → IsTrue (is_word parts.extension) }
     ensures suffix { (known : List (List ℕ) → Bool) (text : List ℕ) (parts : Parts) → IsSplit known text parts → (parts.suffix ≡ []) ⊎ ((more : List ℕ) × (parts.suffix ≡ 47 ∷ more)) }

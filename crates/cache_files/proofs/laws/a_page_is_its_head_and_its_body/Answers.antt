@@ -3,11 +3,11 @@ use Rattle.std.specs.Prelude.{option_and_then}
 use Rattle.sp_outside.specs.Files.{file_at}
 use Rattle.docroot_format.specs.Names.{body_name, head_name}
 use Rattle.docroot_format.specs.Readings.{HeadLine, head_of}
-use Rattle.cache_files.specs.Pages.{note_of, page_of, page_under}
+use Rattle.cache_files.specs.Pages.{note_of, stored_page, page_under}
 use Rattle.cache_files.proofs.laws.a_page_is_its_head_and_its_body.Goals as goal
 
 by_head : (line : Option HeadLine) (body : Option (List ℕ))
-    → option_and_then (λ head. option_and_then (page_of head) body) line ≡ option_and_then (λ head. option_and_then (page_under head) body) (option_map note_of line)
+    → option_and_then (λ head. option_and_then (stored_page head) body) line ≡ option_and_then (λ head. option_and_then (page_under head) body) (option_map note_of line)
 by_head None body = refl
 by_head (Some line) body = refl
 

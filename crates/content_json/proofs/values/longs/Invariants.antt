@@ -2,9 +2,9 @@ use Rattle.std.proofs.Common.{◌≡◌, ◌++◌, drop}
 use Rattle.std.specs.List.{filter_map}
 use Rattle.content_json.specs.Lists.{as_long}
 use Rattle.serde_json.specs.View.{items_view}
-use Rattle.content_json.specs.Lists.{list_of}
+use Rattle.content_json.specs.Lists.{item_list}
 use Rattle.content_json.proofs.values.longs.Given as goal
 
 -- the list so far, and what the items that are left add
 abbrev pub invariant-loop-item : goal.invariant-loop-item
-invariant-loop-item l = l.longs ++ filter_map as_long (list_of (items_view (drop l.item-index l.items))) ≡ filter_map as_long (list_of (items_view l.items))
+invariant-loop-item l = l.longs ++ filter_map as_long (item_list (items_view (drop l.item-index l.items))) ≡ filter_map as_long (item_list (items_view l.items))

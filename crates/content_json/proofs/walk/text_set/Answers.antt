@@ -6,7 +6,7 @@ use Rattle.std.specs.Str.{bytes_eq}
 use Rattle.std.proofs.lemmas.Map.Text.{is_eq-slice_cmp}
 use Rattle.serde_json.specs.Find.{as_str}
 use Rattle.serde_json.specs.View.{view, items_view}
-use Rattle.content_json.specs.Lists.{list_of}
+use Rattle.content_json.specs.Lists.{item_list}
 use Rattle.content_json.proofs.OrderLemmas.{drop_here, moves_over}
 use Rattle.content_json.proofs.Under.{bytes_eq_swapped}
 use Rattle.content_json.proofs.walk.text_set.Goals.{in-Some+in_ok-insert, in_default}
@@ -16,12 +16,12 @@ pub loop-item-preserved : goal.loop-item-preserved
 loop-item-preserved c q =
     let i = c.loop-item.item-index in
     let items = c.args.items.now in
-    let rest = filter_map as_str (list_of (items_view (drop (i + 1) items))) in
+    let rest = filter_map as_str (item_list (items_view (drop (i + 1) items))) in
     let within : i < length items = omega arith in
     let here : drop i items ≡ c.item-item.result ∷ drop (i + 1) items = drop_here items i c.item-item.result within c.item-item.is in
-    let all = list_any (bytes_eq q) (filter_map as_str (list_of (items_view items))) in
+    let all = list_any (bytes_eq q) (filter_map as_str (item_list (items_view items))) in
     let was : (contains_by (λ k. slice_cmp nat_cmp q k.now) c.loop-item.set || list_any (bytes_eq q) (cons_option (as_str (view c.item-item.result)) rest)) ≡ all =
-    ap (λ vs. contains_by (λ k. slice_cmp nat_cmp q k.now) c.loop-item.set || list_any (bytes_eq q) (filter_map as_str (list_of (items_view vs)))) (sym here) ∙ c.loop-item.invariant q in
+    ap (λ vs. contains_by (λ k. slice_cmp nat_cmp q k.now) c.loop-item.set || list_any (bytes_eq q) (filter_map as_str (item_list (items_view vs)))) (sym here) ∙ c.loop-item.invariant q in
     elim c.match-as_str.branch [
       | in-Some+in_ok-insert w ↦
           let text = w.in-Some.text.now in

@@ -4,7 +4,7 @@ use Rattle.std.proofs.lemmas.Iterator.Consumers.{YieldsList-at, YieldsList-end}
 use Rattle.std.proofs.lemmas.Iterator.Splits.{YieldsList-from_str_split}
 use Rattle.sp_base.specs.Paths.{has_slash, mangled, mangled_seg, pieces}
 use Rattle.sp_base.specs.PathTexts.{lack_slashes, spelled}
-use Rattle.cover_rules.specs.Walk.{Lacks, Leaves, LeavesNext, left}
+use Rattle.cover_rules.specs.Walk.{Lacks, Leaves, LeavesNext, left_text}
 use Rattle.cover_rules.proofs.WalkLemmas.{along, astray, next_of, lacking_take}
 use Rattle.cover_rules.proofs.walk.after.Goals as goal
 
@@ -22,7 +22,7 @@ returns-in-None-after_segment-clause-none c =
     let next = next_of all c.loop-segment.yielded _ c.loop-segment.yielded_by _ _ c.in-Some-segment.segment c.in-Some-segment.is c.next.ensures.steps in
     let law = c.segments_and_their_spelling.ensures in
     let slashless = lacking_take (pieces c.in-Some.segments.now) c.args.n (law.pieces c.in-Some.segments.now) in
-    let none = subst (λ (f : List ℕ). has_slash c.in-Some-segment.segment.now ≡ false → (more : List ℕ) → left f c.loop-segment.rest ≢ 47 ∷ mangled_seg c.in-Some-segment.segment.now ++ more) file c.in-None-after_segment.ensures.none in
+    let none = subst (λ (f : List ℕ). has_slash c.in-Some-segment.segment.now ≡ false → (more : List ℕ) → left_text f c.loop-segment.rest ≢ 47 ∷ mangled_seg c.in-Some-segment.segment.now ++ more) file c.in-None-after_segment.ensures.none in
     subst (λ (segs : List (List ℕ)). Lacks c.args.key.now (spelled (mangled segs))) (ap (take c.args.n) c.in-Some.ensures.some)
     (astray c.args.key.now c.loop-segment.yielded c.in-Some-segment.segment c.loop-segment.rest (take c.args.n (pieces c.in-Some.segments.now)) next.0 slashless next.1 c.loop-segment.invariant none)
 

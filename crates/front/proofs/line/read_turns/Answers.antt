@@ -1,5 +1,5 @@
 use Rattle.std.proofs.Common.{Some, None, sym, subst}
-use Rattle.front.specs.Lines.{Tells}
+use Rattle.front.specs.Lines.{TellsTurns}
 use Rattle.front.proofs.LineLemmas.{tells_end, tells_start, tells_step}
 use Rattle.front.proofs.line.read_turns.Goals as goal
 
@@ -20,5 +20,5 @@ returns-in-Ok-None c =
 pub returns-in-Err : goal.returns-in-Err
 returns-in-Err c =
     let told = c.in_ok-told-in-Err.ensures in
-    subst (λ fault. Tells c.args.intake.now c.args.turns.now.items c.next.new.self c.loop-turn.turns.items (Some fault)) (sym told.same)
+    subst (λ fault. TellsTurns c.args.intake.now c.args.turns.now.items c.next.new.self c.loop-turn.turns.items (Some fault)) (sym told.same)
     (tells_end _ _ _ _ _ (Some c.in-Err.fault) c.loop-turn.invariant c.in-Err.ensures.err (c.in-Err.ensures.breaks told.other))

@@ -3,7 +3,7 @@ use Rattle.std.proofs.lemmas.List.{take_all}
 use Rattle.std.proofs.lemmas.Result.{IfOk-weaker}
 use Rattle.json.specs.Tree.{json_tokens}
 use Rattle.get_servlet.specs.Rendering.{shown_kid, resource_json}
-use Rattle.get_servlet.specs.Steps.{kid_tokens, kids_tokens, below_tokens, bytes_in, Spends}
+use Rattle.get_servlet.specs.Steps.{kid_member_tokens, kids_tokens, below_tokens, bytes_in, Spends}
 use Rattle.property_json.specs.PropertyJson.{property_tokens}
 use Rattle.get_servlet.proofs.WritingLemmas.{no_room, no_room_below, object_written, kid_no_room, kid_written, below_none, below_some, kids_tokens-nil, nothing_written, name_more, kids_more, kids_taken, more_spent, none_spent}
 use Rattle.get_servlet.proofs.writing.+writing.Goals as goal
@@ -12,7 +12,7 @@ pub write_kid-returns-in_default-checked_sub : goal.write_kid-returns-in_default
 write_kid-returns-in_default-checked_sub g t c =
     let json = resource_json (g.L.Look.seen c.args.look.now) c.args.depth in
     let there = sym c.in-Some.is ∙ c.in_ok-kid.ensures in
-    subst (λ k. c.args.room < bytes_in (kid_tokens c.args.name.now json k)) there
+    subst (λ k. c.args.room < bytes_in (kid_member_tokens c.args.name.now json k)) there
     (kid_no_room c.args.room c.args.name.now json c.in-Some.kid (omega (arith, c.in_default-checked_sub.ensures)))
 
 pub write_kid-returns : goal.write_kid-returns
@@ -23,7 +23,7 @@ write_kid-returns g t c =
     let there = sym c.in-Some.is ∙ c.in_ok-kid.ensures in
     let is : c.in-Some-checked_sub.room + length c.args.name.now ≡ c.args.room = omega (arith, c.in-Some-checked_sub.ensures) in
     IfOk-weaker c.write_resource.result _ _
-    (λ left s. subst (λ k. Spends c.args.room left old new (kid_tokens c.args.name.now json k)) there
+    (λ left s. subst (λ k. Spends c.args.room left old new (kid_member_tokens c.args.name.now json k)) there
     (kid_written c.args.room c.in-Some-checked_sub.room left c.args.name.now (json_tokens (json c.in-Some.kid.path c.in-Some.kid.res)) old c.key.new.self new is c.in_ok-key.ensures.ok c.in_ok-key.ensures.room.0 s))
     c.write_resource.ensures
 
@@ -48,7 +48,7 @@ write_kids-returns-in_default g t c =
     let depth = c.args.depth - 1 in
     let mid = c.loop-name.writer in
     let new = c.write_kid.new.writer in
-    let ts = kid_tokens text (resource_json seen depth) (shown_kid seen path res text) in
+    let ts = kid_member_tokens text (resource_json seen depth) (shown_kid seen path res text) in
     let first = kids_tokens seen depth path res (take i names) in
     let more = name_more c.kids-name-items.result.now names i c.name-item.result c.kids-name-items.ensures (omega arith) c.name-item.is in
     let tokens = kids_more seen depth path res (take i names) (take (i + 1) names) c.name-item.result text more c.text.ensures in
@@ -67,7 +67,7 @@ write_kids-loop-name-preserved g t c =
     let depth = c.args.depth - 1 in
     let mid = c.loop-name.writer in
     let new = c.write_kid.new.writer in
-    let ts = kid_tokens text (resource_json seen depth) (shown_kid seen path res text) in
+    let ts = kid_member_tokens text (resource_json seen depth) (shown_kid seen path res text) in
     let first = kids_tokens seen depth path res (take i names) in
     let more = name_more c.kids-name-items.result.now names i c.name-item.result c.kids-name-items.ensures (omega arith) c.name-item.is in
     let tokens = kids_more seen depth path res (take i names) (take (i + 1) names) c.name-item.result text more c.text.ensures in

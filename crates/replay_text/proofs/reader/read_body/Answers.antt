@@ -2,7 +2,7 @@ use Rattle.std.proofs.Common.{sym, subst, ◌∙◌, ◌+◌, []}
 use Rattle.std.proofs.lemmas.List.{take_rest}
 use Rattle.replay_text.specs.Lines.{text_of_lines}
 use Rattle.replay_text.specs.Scenario.{act_lines}
-use Rattle.replay_text.specs.Reading.{IsBody, IsTail, Refuses, SpellsTail}
+use Rattle.replay_text.specs.Reading.{IsContentBody, IsTail, Refuses, SpellsTail}
 use Rattle.replay_text.proofs.BlockLaws.{refuses_after_block, refuses_no_block}
 use Rattle.replay_text.proofs.TailLaws.{some_tail}
 use Rattle.replay_text.proofs.BodyLaws.{body_whole}
@@ -22,6 +22,6 @@ returns-in-Ok-read_tail-clause-ok c =
 pub returns-in-Err-read_tail-clause-err : goal.returns-in-Err-read_tail-clause-err
 returns-in-Err-read_tail-clause-err c =
     let fault = c.in-Err-read_tail.fault in
-    subst (Refuses IsBody c.args.text.now) (sym c.later.ensures)
+    subst (Refuses IsContentBody c.args.text.now) (sym c.later.ensures)
     (refuses_after_block IsTail (text_of_lines (act_lines [])) some_tail c.args.text.now c.in-Ok.end.0 c.in-Ok.end.1 fault c.in-Ok.ensures.ok
     (subst (λ t. Refuses IsTail t fault) (take_rest c.args.text.now (c.in-Ok.end.0 + 2)) c.in-Err-read_tail.ensures.err))

@@ -1,19 +1,19 @@
 use Rattle.std.proofs.Common.{rules, ◌≡◌, ◌∙◌, ◌++◌, ◌+◌, Err, length, length-append, ap, sym, subst, take, arith, refl}
 use Rattle.sp_outside.specs.Told.{added}
 use Rattle.sp_outside.specs.Causes.{HasSinkCause}
-use Rattle.front.specs.Fronts.{Stands}
+use Rattle.front.specs.Fronts.{BoardStands}
 use Rattle.sling_dispatch.specs.Endings.{told_of, Nothing}
 use Rattle.sling_dispatch.specs.InnerEndings.{PlaysAll}
 use Rattle.sling_dispatch.specs.declared.ending.Ending.TheVariants.{Done, NoMemory}
 use Rattle.sling_dispatch.proofs.Writing.{added-nothing}
 use Rattle.sling_dispatch.specs.Fronts.{IsNext}
-use Rattle.sling_dispatch.specs.Runs.{asked_host, published}
+use Rattle.sling_dispatch.specs.Runs.{asked_publisher_host, published}
 use Rattle.sling_dispatch.proofs.Sessions.{Played, broken_off, next_shorter, no_bytes, played_all, played_next, played_none, played_sent, played_stopped, told_from}
 use Rattle.sling_dispatch.proofs.play.play.Goals as goal
 
 pub loop-rest-init : goal.loop-rest-init
 loop-rest-init g c =
-    let start = Stands published c.new-front.result.renderer.publisher c.new-front.result.farm c.new-front.result.board in
+    let start = BoardStands published c.new-front.result.renderer.publisher c.new-front.result.farm c.new-front.result.board in
     let held = g.K.Sink.held c.args.sink.now in
     record {
       played = subst (Played c.args.publisher c.args.farm c.args.acts.now c.args.acts.now 0 start held held) (sym c.new-gathered.ensures.items)
@@ -29,11 +29,11 @@ loop-rest-preserved g c =
     let acts = c.args.acts.now in
     let old = g.K.Sink.held c.args.sink.now in
     let mid = g.K.Sink.held l.sink in
-    let before = Stands published l.front.renderer.publisher l.front.farm l.front.board in
-    let behind = Stands published c.event_of.new.front.renderer.publisher c.event_of.new.front.farm c.event_of.new.front.board in
+    let before = BoardStands published l.front.renderer.publisher l.front.farm l.front.board in
+    let behind = BoardStands published c.event_of.new.front.renderer.publisher c.event_of.new.front.farm c.event_of.new.front.board in
     let text = c.in-Ok-event_of.text.items in
     let after = c.in-Ok-event_of.after.now in
-    let made : IsNext before behind (asked_host c.args.farm) l.rest.now after (l.event + 1) text
+    let made : IsNext before behind (asked_publisher_host c.args.farm) l.rest.now after (l.event + 1) text
     = subst (λ host. IsNext before behind host l.rest.now after (l.event + 1) text) (c.deref.ensures.value ∙ l.invariant.asked) c.in-Ok-event_of.ensures in
     let next = played_next c.events_extend.ensures.run c.events_extend.ensures.state c.acts_are_told_by_their_lines.ensures.first c.args.publisher c.args.farm acts l.rest.now after
     l.event before behind old mid l.gathered.items text l.invariant.played made in
@@ -43,7 +43,7 @@ loop-rest-preserved g c =
       played = played_sent c.args.publisher c.args.farm acts after (l.event + 1) behind old mid (g.K.Sink.held c.gather.new.sink)
           (l.gathered.items ++ text) e.0 c.gather.new.gathered.items next e.1 (e.2 ∙ same);
       not_failed = c.in_default-gather.ensures.cause ∙ l.invariant.not_failed;
-      counted = omega (arith, l.invariant.counted, next_shorter before behind (asked_host c.args.farm) l.rest.now after (l.event + 1) text made);
+      counted = omega (arith, l.invariant.counted, next_shorter before behind (asked_publisher_host c.args.farm) l.rest.now after (l.event + 1) text made);
       asked = c.in-Ok.ensures;
     }
 
@@ -54,7 +54,7 @@ pub returns-in_default-event_of : goal.returns-in_default-event_of
 returns-in_default-event_of g c =
     let sink = told_of (g.K.Sink.held c.args.sink.now) (g.K.Sink.held c.say.new.sink) (g.K.Sink.faults c.args.sink.now) (g.K.Sink.faults c.say.new.sink) in
     let l = c.loop-rest in
-    let before = Stands published l.front.renderer.publisher l.front.farm l.front.board in
+    let before = BoardStands published l.front.renderer.publisher l.front.farm l.front.board in
     let text = c.deref-in_default-event_of in
     played_stopped c.args.publisher c.args.farm c.args.acts.now l.rest.now l.event before (g.K.Sink.held l.sink) l.gathered.items c.say.result sink l.invariant.played
     (told_from NoMemory l.gathered.items text.result.now c.say.result (g.K.Sink.held l.sink) (g.K.Sink.faults l.sink) sink text.ensures.value
@@ -66,12 +66,12 @@ returns-in-Err g c =
     let acts = c.args.acts.now in
     let old = g.K.Sink.held c.args.sink.now in
     let mid = g.K.Sink.held l.sink in
-    let before = Stands published l.front.renderer.publisher l.front.farm l.front.board in
-    let behind = Stands published c.event_of.new.front.renderer.publisher c.event_of.new.front.farm c.event_of.new.front.board in
+    let before = BoardStands published l.front.renderer.publisher l.front.farm l.front.board in
+    let behind = BoardStands published c.event_of.new.front.renderer.publisher c.event_of.new.front.farm c.event_of.new.front.board in
     let text = c.in-Ok-event_of.text.items in
     let after = c.in-Ok-event_of.after.now in
     let sink = told_of old (g.K.Sink.held c.gather.new.sink) (g.K.Sink.faults c.args.sink.now) (g.K.Sink.faults c.gather.new.sink) in
-    let made : IsNext before behind (asked_host c.args.farm) l.rest.now after (l.event + 1) text
+    let made : IsNext before behind (asked_publisher_host c.args.farm) l.rest.now after (l.event + 1) text
     = subst (λ host. IsNext before behind host l.rest.now after (l.event + 1) text) (c.deref.ensures.value ∙ l.invariant.asked) c.in-Ok-event_of.ensures in
     let next = played_next c.events_extend.ensures.run c.events_extend.ensures.state c.acts_are_told_by_their_lines.ensures.first c.args.publisher c.args.farm acts l.rest.now after
     l.event before behind old mid l.gathered.items text l.invariant.played made in
@@ -86,7 +86,7 @@ returns g c =
     let sink = told_of (g.K.Sink.held c.args.sink.now) (g.K.Sink.held c.say-2.new.sink) (g.K.Sink.faults c.args.sink.now) (g.K.Sink.faults c.say-2.new.sink) in
     let l = c.loop-rest in
     let none : length c.loop-rest.rest.now ≡ 0 = search rules in
-    let before = Stands published l.front.renderer.publisher l.front.farm l.front.board in
+    let before = BoardStands published l.front.renderer.publisher l.front.farm l.front.board in
     played_all c.args.publisher c.args.farm c.args.acts.now l.rest.now l.event before (g.K.Sink.held l.sink) l.gathered.items c.say-2.result sink (no_bytes l.rest.now none) l.invariant.played
     (told_from Done l.gathered.items c.deref-2.result.now c.say-2.result (g.K.Sink.held l.sink) (g.K.Sink.faults l.sink) sink c.deref-2.ensures.value
     l.invariant.not_failed c.say-2.ensures)

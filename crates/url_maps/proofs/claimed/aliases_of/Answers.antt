@@ -4,7 +4,7 @@ use Rattle.std.specs.List.{list_any}
 use Rattle.std.specs.Str.{bytes_eq}
 use Rattle.std.proofs.lemmas.List.{take_all}
 use Rattle.url_maps.specs.Claims.{spells_alias}
-use Rattle.url_maps.specs.Words.{texts_of}
+use Rattle.url_maps.specs.Words.{mapping_texts}
 use Rattle.url_maps.proofs.ClaimLemmas.{any_word, below_claims, root_claims_none}
 use Rattle.url_maps.proofs.claimed.aliases_of.Goals as goal
 
@@ -23,4 +23,4 @@ pub returns : goal.returns
 returns c = λ t.
     let words = c.texts-words.result.now in
     c.loop-word.invariant t ∙ ap (list_any (spells_alias c.args.path.now t)) (take_all c.loop-word.word-index words c.loop-word-test.false)
-    ∙ sym (below_claims c.args.path.now c.args.node.now words (λ e. c.if-depth-eq0.false (c.depth.ensures.depth ∙ e)) (c.texts-words.ensures ∙ ap texts_of c.get.ensures) t)
+    ∙ sym (below_claims c.args.path.now c.args.node.now words (λ e. c.if-depth-eq0.false (c.depth.ensures.depth ∙ e)) (c.texts-words.ensures ∙ ap mapping_texts c.get.ensures) t)

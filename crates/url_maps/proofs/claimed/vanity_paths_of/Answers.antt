@@ -4,7 +4,7 @@ use Rattle.std.specs.List.{list_any}
 use Rattle.std.specs.Str.{bytes_eq}
 use Rattle.std.proofs.lemmas.List.{take_all}
 use Rattle.url_maps.specs.Claims.{spells_vanity_path}
-use Rattle.url_maps.specs.Words.{texts_of}
+use Rattle.url_maps.specs.Words.{mapping_texts}
 use Rattle.url_maps.proofs.ClaimLemmas.{any_word, vanity_words}
 use Rattle.url_maps.proofs.claimed.vanity_paths_of.Goals as goal
 
@@ -20,4 +20,4 @@ pub returns : goal.returns
 returns c = λ t.
     let words = c.texts-words.result.now in
     c.loop-word.invariant t ∙ ap (list_any (spells_vanity_path t)) (take_all c.loop-word.word-index words c.loop-word-test.false)
-    ∙ sym (vanity_words c.args.node.now words (c.texts-words.ensures ∙ ap texts_of c.get.ensures) t)
+    ∙ sym (vanity_words c.args.node.now words (c.texts-words.ensures ∙ ap mapping_texts c.get.ensures) t)

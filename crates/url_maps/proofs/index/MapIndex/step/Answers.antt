@@ -1,6 +1,6 @@
 use Rattle.std.proofs.Common.{rules, ◌≡◌, ◌∙◌, ◌++◌, ℕ, List, Some, None, ap, subst, refl, length, drop}
 use Rattle.url_maps.specs.Search.{IsBest}
-use Rattle.url_maps.specs.Turns.{ending}
+use Rattle.url_maps.specs.Turns.{target_ending}
 use Rattle.url_maps.proofs.PairLemmas.{decides_here, front_cut, passed_all, passed_between, passed_prefix, shorter_prefix, within_text}
 use Rattle.url_maps.proofs.index.MapIndex.step.Goals as goal
 
@@ -18,7 +18,7 @@ returns-in-Some c =
       pair = pair;
       decides = decides_here tree site text prefix pair inv.prefix (within_text text prefix inv.prefix)
           (subst (λ (r : List ℕ). IsBest tree site prefix r (Some pair)) rest_is (subst (IsBest tree site prefix c.range_from-rest.result.now) c.in-Some.is c.in_ok-pair.ensures)) inv.passed;
-      text_is = c.in_ok-text_after.ensures ∙ ap (λ r. pair.target ++ ending pair.kind r) rest_is;
+      text_is = c.in_ok-text_after.ensures ∙ ap (λ r. pair.target ++ target_ending pair.kind r) rest_is;
       away_is = refl;
     }
 

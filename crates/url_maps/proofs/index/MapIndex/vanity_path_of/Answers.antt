@@ -4,7 +4,7 @@ use Rattle.std.proofs.lemmas.Bool.{eqb-true}
 use Rattle.sp_base.specs.Paths.{text_of}
 use Rattle.resource_tree.specs.Content.{same_path}
 use Rattle.url_maps.specs.Claims.{claimants}
-use Rattle.url_maps.specs.Search.{IsFirst}
+use Rattle.url_maps.specs.Search.{IsFirstPath}
 use Rattle.url_maps.proofs.VanityLemmas.{is_vanity_pair, no_vanity_pair, vanity_valid}
 use Rattle.url_maps.proofs.index.MapIndex.vanity_path_of.Goals as goal
 
@@ -23,5 +23,5 @@ returns c =
     let are : c.get-claimants.result.now ≡ claimants c.args.self.now.vanity_paths.rows c.args.prefix.now = c.get-claimants.ensures ∙ ap (λ i. claimants i.vanity_paths.rows c.args.prefix.now) c.self.view_is in (
       refl,
       is_vanity_pair c.args.tree.now c.args.self.now.vanity_paths.rows c.args.prefix.now _ c.first_of.result.now c.requires.vanity_paths (sym c.in_ok-is_free.ensures ∙ c.if-not-branch.false)
-          (subst (λ l. IsFirst c.args.tree.now l c.first_of.result.now) are c.first_of.ensures) (c.in_ok-text.ensures ∙ ap text_of c.in_ok-page.ensures) refl,
+          (subst (λ l. IsFirstPath c.args.tree.now l c.first_of.result.now) are c.first_of.ensures) (c.in_ok-text.ensures ∙ ap text_of c.in_ok-page.ensures) refl,
     )

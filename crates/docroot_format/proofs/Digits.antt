@@ -16,3 +16,12 @@ next_some m n [] e = absurd cc
 next_some m n (c ∷ t) e =
     let b = some_is (is_digit c && leb (m * 10 + (c - 48)) greatest_number) (m * 10 + (c - 48)) n e in
     record { same = rw (b.0, sym b.1) refl; less = omega arith }
+
+none_is : (b : Bool) (x : ℕ) → cond b (Some x) None ≡ None → b ≡ false
+none_is true x e = absurd cc
+none_is false x e = refl
+
+pub next_none : (m : ℕ) (t : List ℕ) → next_of m t ≡ None → digits_from m t ≡ (m, t)
+unfolding digit_fits digits_from
+next_none m [] e = refl
+next_none m (c ∷ t) e = rw (none_is (is_digit c && leb (m * 10 + (c - 48)) greatest_number) (m * 10 + (c - 48)) e) refl

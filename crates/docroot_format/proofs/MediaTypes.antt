@@ -23,3 +23,6 @@ ascii [] e zero = omega arith
 ascii [] e (suc i) = omega arith
 ascii (b ∷ bs) e zero = small b (first_true _ _ e)
 ascii (b ∷ bs) e (suc i) = ascii bs (second_true _ _ e) i
+
+pub kind_is_utf8 : (kind : List ℕ) → is_kind kind ≡ true → IsUtf8 kind
+kind_is_utf8 kind e = IsUtf8-from_ascii kind (ascii kind (second_true (nat_le (length kind) longest_kind) _ e))

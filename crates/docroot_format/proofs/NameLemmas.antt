@@ -14,3 +14,10 @@ one_more : {A : Type 0} (f : A → List ℕ) (n : ℕ) (xs : List A) (d : A) →
 one_more f n [] d lt = absurd (omega (arith, lt))
 one_more f zero (x ∷ xs) d lt = append_nil (f x)
 one_more f (suc n) (x ∷ xs) d lt = ap (λ rest. f x ++ rest) (one_more f n xs d (omega (arith, lt))) ∙ append_both (f x) (flat_map f (take n xs)) (f (get_or xs n d))
+
+pub byte_more : (n : ℕ) (seg : List ℕ) (d : ℕ) → n < length seg → flat_map file_byte (take (n + 1) seg) ≡ flat_map file_byte (take n seg) ++ file_byte (get_or seg n d)
+byte_more n seg d lt = rw (add-one n) (one_more file_byte n seg d lt)
+
+pub segment_more : (n : ℕ) (segs : List (List ℕ)) (d : List ℕ) → n < length segs
+    → flat_map (λ seg. file_name seg ++ 47 ∷ []) (take (n + 1) segs) ≡ flat_map (λ seg. file_name seg ++ 47 ∷ []) (take n segs) ++ (file_name (get_or segs n d) ++ 47 ∷ [])
+segment_more n segs d lt = rw (add-one n) (one_more (λ seg. file_name seg ++ 47 ∷ []) n segs d lt)

@@ -50,3 +50,16 @@ short folder file e =
       file_short = within (length (file_name file)) 200 (first_true (has_file_name file) (nat_lt 0 (length file)) rest);
       some = file_some file (below 0 (length file) (second_true (has_file_name file) (nat_lt 0 (length file)) rest));
     }
+
+pub body_fits : (folder : List (List ℕ)) (file : List ℕ) → length folder ≤ 64 → IsTrue (is_place folder file) → IsName (body_name folder file)
+body_fits folder file deep e =
+    let s = short folder file e in
+    let long : length (body_name folder file) ≡ length (folder_name folder) + length (file_name file) = length-append (folder_name folder) (file_name file) in
+    (omega (arith, s.some, long), omega (arith, deep, long, s.folder_short, s.file_short))
+
+pub head_fits : (folder : List (List ℕ)) (file : List ℕ) → length folder ≤ 64 → IsTrue (is_place folder file) → IsName (head_name folder file)
+head_fits folder file deep e =
+    let s = short folder file e in
+    let long : length (body_name folder file) ≡ length (folder_name folder) + length (file_name file) = length-append (folder_name folder) (file_name file) in
+    let more : length (head_name folder file) ≡ length (body_name folder file) + 2 = length-append (body_name folder file) (codes "%h") in
+    (omega (arith, more), omega (arith, deep, long, more, s.folder_short, s.file_short))

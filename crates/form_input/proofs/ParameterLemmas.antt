@@ -58,6 +58,14 @@ pub piece_last : (quoting : Quoting) (front : List ℕ) → with_front front (pa
 unfolding parameter_pieces_from
 piece_last quoting front = ap (λ (s : List ℕ). s ∷ []) (append-nil front)
 
+pub before_word_more : (word : List ℕ) (b : ℕ) (o : Option (List ℕ)) → before_word word (with_byte b o) ≡ before_word (word ++ b ∷ []) o
+before_word_more word b None = refl
+before_word_more word b (Some more) = ap Some (sym (append_assoc word (b ∷ []) more))
+
+pub before_word_none : (o : Option (List ℕ)) → before_word [] o ≡ o
+before_word_none None = refl
+before_word_none (Some word) = refl
+
 last_is : (rest : List ℕ) → 1 ≤ length rest → take (length rest - 1) rest ++ get_or rest (length rest - 1) 0 ∷ [] ≡ rest
 last_is rest some =
     let n : length rest - 1 + 1 ≡ length rest = omega (arith, some) in

@@ -48,6 +48,9 @@ pub item_texts_are : (items : List Lent) → map (plain (codes ",")) (map out_of
 item_texts_are [] = refl
 item_texts_are (x ∷ xs) = ap (λ (l : List (List ℕ)). plain_item x ∷ l) (item_texts_are xs)
 
+pub items_out : (items : List Lent) → out_of_lent (Items items) ≡ out.List (map plain_item items)
+items_out items = ap out_of_lent (sym (rolls-Items items)) ∙ fold-roll-Lent Out out_step (Lent-F.Items items) ∙ ap out.List (item_texts_are items)
+
 -- texts are their own texts
 pub texts_are : (texts : List (List ℕ)) → map itself texts ≡ texts
 texts_are [] = refl

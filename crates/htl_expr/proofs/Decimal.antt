@@ -23,3 +23,12 @@ next_some limit m n (c ∷ t) e =
     let b = some_is (is_expression_digit c && leb (m * 10 + (c - 48)) limit) (m * 10 + (c - 48)) n e in
     let f = fits_ascii limit m c b.0 in
     record { same = rw (b.0, sym b.1) refl; ascii = f.0; less = omega arith; fits = omega (arith, f.1, b.1) }
+
+none_is : (b : Bool) (x : ℕ) → cond b (Some x) None ≡ None → b ≡ false
+none_is true x e = absurd cc
+none_is false x e = refl
+
+pub next_none : (limit m : ℕ) (t : List ℕ) → next_number limit m t ≡ None → expression_digits_from limit m t ≡ (m, t)
+unfolding expression_digit_fits expression_digits_from
+next_none limit m [] e = refl
+next_none limit m (c ∷ t) e = rw (none_is (is_expression_digit c && leb (m * 10 + (c - 48)) limit) (m * 10 + (c - 48)) e) refl

@@ -25,6 +25,42 @@ unequal_lengths same (x ∷ xs) (y ∷ ys) n = at (same x y) (unequal_lengths sa
     at true e = e
     at false e = refl
 
+-- numbers have the same decimal only where they are the same
+pub decimals : (y z : ℤ) → mag y < 2 ^ 63 → mag z < 2 ^ 63 → int_eq y z ≡ pointwise nat_eq (signed_decimal y) (signed_decimal z)
+decimals y z a b =
+    both (int_eq y z) (pointwise nat_eq (signed_decimal y) (signed_decimal z)) (Decides-int_eq y z) (bytes_eq-Decides (signed_decimal y) (signed_decimal z)) (ap signed_decimal) (signed_decimal_injective y z a b)
+  where
+    both : {P Q : Type 0} (p q : Bool) → Decides p P → Decides q Q → (P → Q) → (Q → P) → p ≡ q
+    both true true d e f g = refl
+    both false false d e f g = refl
+    both true false d e f g = sym (e.1 (f (d.0 refl)))
+    both false true d e f g = d.1 (g (e.0 refl))
+
+pub get_or_of_map : {X : Type 0} (f : X → List ℕ) (xs : List X) (i : ℕ) (x : X) → i < length xs → x ≡ get_or xs i x → get_or (map f xs) i [] ≡ f x
+get_or_of_map f xs i x lt is = get_or-map f xs i x [] lt ∙ ap f (sym is)
+
+pub same_lists : (a b : Out) → is_list a ≡ true → is_list b ≡ true → is_same a b ≡ pointwise (pointwise nat_eq) (listed_texts a) (listed_texts b)
+same_lists (out.List a) (out.List b) e f = refl
+same_lists (out.List a) out.Nothing e f = absurd cc
+same_lists (out.List a) (out.Truth b) e f = absurd cc
+same_lists (out.List a) (out.Long b) e f = absurd cc
+same_lists (out.List a) (out.Text b) e f = absurd cc
+same_lists out.Nothing b e f = absurd cc
+same_lists (out.Truth a) b e f = absurd cc
+same_lists (out.Long a) b e f = absurd cc
+same_lists (out.Text a) b e f = absurd cc
+
+pub same_as_no_list : (a b : Out) → is_list a ≡ true → is_list b ≡ false → is_same a b ≡ false
+same_as_no_list (out.List a) (out.List b) e f = absurd cc
+same_as_no_list (out.List a) out.Nothing e f = refl
+same_as_no_list (out.List a) (out.Truth b) e f = refl
+same_as_no_list (out.List a) (out.Long b) e f = refl
+same_as_no_list (out.List a) (out.Text b) e f = refl
+same_as_no_list out.Nothing b e f = absurd cc
+same_as_no_list (out.Truth a) b e f = absurd cc
+same_as_no_list (out.Long a) b e f = absurd cc
+same_as_no_list (out.Text a) b e f = absurd cc
+
 -- what is the same as itself
 texts_same : (texts : List (List ℕ)) → pointwise (pointwise nat_eq) texts texts ≡ true
 texts_same [] = refl
@@ -32,3 +68,14 @@ texts_same (t ∷ texts) = rw (bytes_same t) (texts_same texts)
   where
     bytes_same : (bytes : List ℕ) → pointwise nat_eq bytes bytes ≡ true
     bytes_same bytes = (bytes_eq-Decides bytes bytes).1 refl
+
+same_as_itself : (a : Out) → is_same a a ≡ true
+same_as_itself out.Nothing = refl
+same_as_itself (out.Truth true) = refl
+same_as_itself (out.Truth false) = refl
+same_as_itself (out.Long n) = (Decides-int_eq n n).1 refl
+same_as_itself (out.Text text) = (bytes_eq-Decides text text).1 refl
+same_as_itself (out.List texts) = texts_same texts
+
+pub same_where_one : (a b : Out) → a ≡ b → is_same a b ≡ true
+same_where_one a b e = subst (λ (x : Out). is_same a x ≡ true) e (same_as_itself a)

@@ -7,12 +7,52 @@ use Rattle.htl_expr.specs.Tokens.{begins, is_at, is_blank, is_word_byte, blanks_
 use Rattle.htl_expr.specs.declared.tokens.NameKind.{NameKind}
 use Rattle.htl_expr.specs.declared.tokens.NameKind.TheVariants.{Name, Field}
 
+pub blank_ascii : (c : ℕ) → is_blank c ≡ true → c < 128
+blank_ascii c h = grind (arith, nat_tests)
+
+pub word_ascii : (c : ℕ) → is_word_byte c ≡ true → c < 128
+word_ascii c h = grind (arith, nat_tests)
+
+pub at_ascii : (test : ℕ → Bool) (t : List ℕ) → ((c : ℕ) → test c ≡ true → c < 128) → begins test t ≡ true → slice_index t 0 < 128
+unfolding begins
+at_ascii test [] all h = absurd cc
+at_ascii test (c ∷ t) all h = all c h
+
+pub blank_front : (t : List ℕ) → begins is_blank t ≡ true → slice_index t 0 < 128
+blank_front t h = at_ascii is_blank t blank_ascii h
+
+pub blank_more : (t : List ℕ) → begins is_blank t ≡ true → blanks_skipped (drop 1 t) ≡ blanks_skipped t
+unfolding begins blanks_skipped
+blank_more [] h = absurd cc
+blank_more (c ∷ t) h = rw h refl
+
+pub blank_less : (t : List ℕ) → begins is_blank t ≡ true → length (drop 1 t) < length t
+unfolding begins
+blank_less [] h = absurd cc
+blank_less (c ∷ t) h = omega arith
+
+pub blank_none : (t : List ℕ) → begins is_blank t ≡ false → blanks_skipped t ≡ t
+unfolding begins blanks_skipped
+blank_none [] h = refl
+blank_none (c ∷ t) h = rw h refl
+
+pub name_front : (kind : NameKind) (t : List ℕ) → goes_on kind t ≡ true → slice_index t 0 < 128
+unfolding begins goes_on
+name_front Name t h = at_ascii is_word_byte t word_ascii h
+name_front Field [] h = absurd cc
+name_front Field (c ∷ t) h = grind (arith, nat_tests)
+
 pub run_more : (kind : NameKind) (t : List ℕ) → goes_on kind t ≡ true → name_len kind t ≡ suc (name_len kind (drop 1 t))
 unfolding name_len goes_on begins
 run_more Name [] h = absurd cc
 run_more Field [] h = absurd cc
 run_more Name (c ∷ t) h = rw h refl
 run_more Field (c ∷ t) h = rw h refl
+
+pub run_none : (kind : NameKind) (t : List ℕ) → goes_on kind t ≡ false → name_len kind t ≡ 0
+unfolding name_len
+run_none kind [] h = refl
+run_none kind (c ∷ t) h = rw h refl
 
 pub name_less : (kind : NameKind) (t : List ℕ) → goes_on kind t ≡ true → suc (length (drop 1 t)) ≡ length t
 unfolding goes_on begins
@@ -39,6 +79,9 @@ ascii_first (c ∷ w) t a le h = front_ascii c t a.0 h
 
 pub drop_more : (text rest : List ℕ) (len : ℕ) → rest ≡ drop len text → drop 1 rest ≡ drop (len + 1) text
 drop_more text rest len e = rw e (drop-drop 1 len text)
+
+pub minus_ascii : (t : List ℕ) → is_at 45 t ≡ true → slice_index t 0 < 128
+minus_ascii t h = front_ascii 45 t (search rules) h
 
 pub colon_boundary : (t : List ℕ) (i : ℕ) → i ≤ length t → is_at 58 (drop i t) ≡ true → IsCharBoundary t i
 colon_boundary t i le h =

@@ -66,6 +66,9 @@ pub ended : (mark : ℕ) → string_from false mark [] ≡ Err (Unexpected 0)
 unfolding string_from
 ended mark = refl
 
+pub quote_ascii : (c : ℕ) → is_quote c ≡ true → c < 128
+quote_ascii c h = grind (arith, nat_tests)
+
 pub unescape_ascii : (c d : ℕ) → unescape c ≡ Some d → (c < 128) × (d < 128)
 unfolding unescape
 unescape_ascii c d h = grind (arith, nat_tests)

@@ -8,6 +8,18 @@ use Rattle.resource_tree.specs.Content.{Content, IsGood, kid, node_at}
 use Rattle.tree_draft.specs.Drafts.{Drafted, IsSound}
 use Rattle.post_apply.specs.Names.{free_number, is_taken, numbered}
 
+-- no node is where no path leads
+pub no_path : (draft : Drafted) (path : List (List ℕ)) → IsSound draft → None ≡ path_or_none path → is_some (node_at draft.content path) ≡ false
+no_path draft path sound none = by_node (node_at draft.content path) refl
+  where
+    no : (b : Bool) → None ≡ cond b (Some path) None → b ≡ false
+    no true e = absurd (cc)
+    no false e = refl
+
+    by_node : (o : Option Node) → node_at draft.content path ≡ o → is_some o ≡ false
+    by_node None is = refl
+    by_node (Some node) is = absurd (true≢false (sym (sound.good.shape.nodes path node is).is_a_path ∙ no (is_path path) none))
+
 less : (n most : ℕ) → n < most → most - n ≡ suc (most - (n + 1))
 less n most below = omega (arith, below)
 
@@ -17,6 +29,13 @@ pub passed : (tree : Content) (parent : List (List ℕ)) (name : List ℕ) (n mo
 unfolding free_number
 passed tree parent name n most below taken =
     ap (free_number tree parent name n) (less n most below) ∙ ap (λ b. cond b (free_number tree parent name (n + 1) (most - (n + 1))) n) taken
+
+-- the first that isn't taken
+pub found : (tree : Content) (parent : List (List ℕ)) (name : List ℕ) (n most : ℕ) → n < most → is_taken tree parent (numbered name n) ≡ false
+    → free_number tree parent name n (most - n) ≡ n
+unfolding free_number
+found tree parent name n most below free =
+    ap (free_number tree parent name n) (less n most below) ∙ ap (λ b. cond b (free_number tree parent name (n + 1) (most - (n + 1))) n) free
 
 -- after as many as there are names
 pub last : (tree : Content) (parent : List (List ℕ)) (name : List ℕ) (n most : ℕ) → n ≡ most → free_number tree parent name n (most - n) ≡ n

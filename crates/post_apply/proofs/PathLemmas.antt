@@ -14,6 +14,19 @@ use Rattle.post_apply.specs.declared.fault.ApplyFault.TheVariants.{Tree}
 use Rattle.post_apply.specs.Steps.{ApplyOutcome, changed_unless_fault}
 use Rattle.post_apply.specs.Values.{put_at}
 
+left : (a b : Bool) → (a && b) ≡ true → a ≡ true
+left true b e = refl
+left false b e = absurd (true≢false (sym e))
+
+-- each segment of a path is one that a path may have
+pub segment_ok : (path : List (List ℕ)) (n : ℕ) (name : List ℕ) → IsTrue (is_path path) → Some name ≡ slice_get path n → IsTrue (seg_ok name)
+segment_ok path n name valid at =
+    let there = sym at in
+    ⊎_elim
+    (λ yes. yes)
+    (λ no. absurd (true≢false (sym (left (list_all seg_ok path) _ valid) ∙ list_all_at seg_ok path n [] (slice_get_within path n name there) (ap seg_ok (get_or_from_slice_get path n name [] there) ∙ no))))
+    (cases_Bool (seg_ok name))
+
 pub name_is : (path : List (List ℕ)) (o : Option (List ℕ)) → o ≡ slice_get path (length path - 1) → unwrap_or o [] ≡ name_of path
 name_is path o at = ap (λ p. unwrap_or p []) at ∙ unwrap_or-slice_get path (length path - 1) []
 

@@ -18,6 +18,57 @@ get_back [] ys n le = let e : n ≡ n - 0 = omega arith in ap (slice_get ys) e
 get_back (x ∷ xs) ys zero le = absurd (omega (arith, le))
 get_back (x ∷ xs) ys (suc n) le = let e : n - length xs ≡ suc n - length (x ∷ xs) = omega arith in get_back xs ys n (omega (arith, le)) ∙ ap (slice_get ys) e
 
+-- a segment of the parent
+pub seg_of_parent : (parent rest : List (List ℕ)) (name : Option (List ℕ)) (n : ℕ) → n < length parent → slice_get parent n ≡ slice_get (under parent name ++ rest) n
+seg_of_parent parent rest None n lt = sym (get_front parent rest n lt)
+seg_of_parent parent rest (Some name) n lt = sym (ap (λ (l : List (List ℕ)). slice_get l n) (append_assoc parent (name ∷ []) rest) ∙ get_front parent (name ∷ rest) n lt)
+
+pub seg_of_rest : (parent rest : List (List ℕ)) (n : ℕ) → length parent ≤ n → slice_get rest (n - length parent) ≡ slice_get (parent ++ rest) n
+seg_of_rest parent rest n le = sym (get_back parent rest n le)
+
+pub seg_of_name : (parent rest : List (List ℕ)) (name : List ℕ) (n : ℕ) → n ≡ length parent → Some name ≡ slice_get ((parent ++ name ∷ []) ++ rest) n
+seg_of_name parent rest name n e =
+    let z : n - length parent ≡ 0 = omega arith in
+    sym (ap (λ (l : List (List ℕ)). slice_get l n) (append_assoc parent (name ∷ []) rest) ∙ get_back parent (name ∷ rest) n (omega (arith, e)) ∙ ap (slice_get (name ∷ rest)) z)
+
+pub seg_past_name : (parent rest : List (List ℕ)) (name : List ℕ) (n : ℕ) → length parent < n → slice_get rest (n - length parent - 1) ≡ slice_get ((parent ++ name ∷ []) ++ rest) n
+seg_past_name parent rest name n lt =
+    let one : n - length parent ≡ suc (n - length parent - 1) = omega arith in
+    sym (ap (λ (l : List (List ℕ)). slice_get l n) (append_assoc parent (name ∷ []) rest) ∙ get_back parent (name ∷ rest) n (omega (arith, lt)) ∙ ap (slice_get (name ∷ rest)) one)
+
+-- the first two segments tell
+pub reserved_by : (path : List (List ℕ)) → is_reserved (first_two (slice_get path 0) (slice_get path 1)) ≡ is_reserved path
+reserved_by [] = refl
+reserved_by (a ∷ []) = refl
+reserved_by (a ∷ b ∷ path) = refl
+
+pub reserved_of : (path : List (List ℕ)) (first second : Option (List ℕ)) (b : Bool) → b ≡ is_reserved (first_two first second) → first ≡ slice_get path 0 → second ≡ slice_get path 1 → b ≡ is_reserved path
+reserved_of path first second b e f s = rw (e, f, s) (reserved_by path)
+
+pub text_of_child : (parent : List (List ℕ)) (name : List ℕ) → text_of (parent ++ name ∷ []) ≡ lead parent ++ 47 ∷ name
+text_of_child [] name = append-nil (47 ∷ name)
+text_of_child (p ∷ parent) name = flat_map-append (λ s. 47 ∷ s) (p ∷ parent) (name ∷ []) ∙ ap (λ (l : List ℕ). lead (p ∷ parent) ++ l) (append-nil (47 ∷ name))
+
+pub lead_of : (parent : List (List ℕ)) → length parent ≢ 0 → text_of parent ≡ lead parent
+lead_of [] h = absurd (h refl)
+lead_of (p ∷ parent) h = refl
+
+pub lead_root : (parent : List (List ℕ)) → length parent ≡ 0 → [] ≡ lead parent
+lead_root [] h = refl
+lead_root (p ∷ parent) h = absurd (omega (arith, h))
+
+-- a way that leaves a new node upwards leads to the same path from its parent, with one step less
+pub led_under : (parent down : List (List ℕ)) (name : List ℕ) (up : ℕ) → 0 < up → led_to parent (record { up = up - 1; down = down }) ≡ led_to (parent ++ name ∷ []) (record { up = up; down = down })
+led_under parent down name up some =
+    let len : length (parent ++ name ∷ []) ≡ length parent + 1 = omega (arith, length-append parent (name ∷ [])) in
+    let test : nat_le (up - 1) (length parent) ≡ nat_le up (length parent + 1) = grind (arith, nat_tests) in
+    let index : length parent + 1 - up ≡ length parent - (up - 1) = omega arith in
+    let front : take (length parent - (up - 1)) (parent ++ name ∷ []) ≡ take (length parent - (up - 1)) parent = take-append-le (length parent - (up - 1)) parent (name ∷ []) (omega arith) in
+    rw (len, index, front, test) refl
+
+pub reserved_alone : (node rest : List (List ℕ)) (b : Bool) → b ≡ is_reserved (node ++ rest) → rest ≡ [] → b ≡ is_reserved node
+reserved_alone node rest b e none = e ∙ ap (λ (l : List (List ℕ)). is_reserved (node ++ l)) none ∙ ap is_reserved (append-nil node)
+
 abbrev some : Spot → Option Spot
 some spot = Some spot
 

@@ -81,6 +81,9 @@ all_fresh : (spots : List Spot) → filter (fresh []) spots ≡ spots
 all_fresh [] = refl
 all_fresh (s ∷ spots) = ap (λ (l : List Spot). s ∷ l) (all_fresh spots)
 
+pub sets_are : (pairs : List (List ℕ × List ℕ)) (es : List Entry) → sets_from pairs es [] es ≡ sets pairs es
+sets_are pairs es = from_is pairs es [] es ∙ ap (filter_map (set_of pairs es)) (all_fresh (distinct (map (λ e. e.spot) es)))
+
 cons_is : (set : Option PropSet) (more : List PropSet) → cons_option set more ≡ cons_option set [] ++ more
 cons_is None more = refl
 cons_is (Some s) more = refl
@@ -99,3 +102,9 @@ turn pairs es n e list next all set lt at is pushed same =
     ∙ append_assoc list (cons_option set []) (sets_from pairs es (take (n + 1) es) (drop (n + 1) es))
     ∙ ap (λ (l : List PropSet). list ++ l) (sym (cons_is set (sets_from pairs es (take (n + 1) es) (drop (n + 1) es))) ∙ first)
     ∙ same
+
+pub done : (pairs : List (List ℕ × List ℕ)) (es : List Entry) (n : ℕ) (list : List PropSet) → length es ≤ n → list ++ sets_from pairs es (take n es) (drop n es) ≡ sets_from pairs es [] es → list ≡ sets pairs es
+unfolding sets_from
+done pairs es n list le same =
+    let none : drop n es ≡ [] = nothing_left es n le in
+    sym (append-nil list) ∙ ap (λ (l : List PropSet). list ++ l) (sym (ap (sets_from pairs es (take n es)) none)) ∙ same ∙ sets_are pairs es

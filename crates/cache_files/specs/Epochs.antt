@@ -1,5 +1,5 @@
 -- The number of a session, which .epoch counts.
-use Rattle.std.specs.Prelude.{◌==◌, ◌+◌, ◌≡◌, ◌⊎◌, ◌∷◌, [], ℕ, List, Option, Some, None, Result, Ok, Err, IfSome, if◌then◌else◌, option_and_then, unwrap_or}
+use Rattle.std.specs.Prelude.{◌==◌, ◌+◌, ◌≡◌, ◌⊎◌, ◌∷◌, [], ℕ, true, false, List, Option, Some, None, Result, Ok, Err, IfSome, if◌then◌else◌, option_and_then, unwrap_or}
 use Rattle.sp_outside.specs.Causes.{Rose}
 use Rattle.sp_outside.specs.Calls.{Call, Get, Put, told_calls}
 use Rattle.sp_outside.specs.Files.{Files, file_at, told_with}
@@ -39,14 +39,15 @@ epoch_held files = unwrap_or (option_and_then epoch_of (file_at files epoch_name
 
 -- the calls of the disk: the file is read, then written with the number of the new session
 abbrev pub open_calls : ℕ → List Call
-open_calls epoch = Get epoch_name ∷ Put epoch_name (epoch_text epoch) ∷ []
+open_calls epoch = Get epoch_name true ∷ Put epoch_name (epoch_text epoch) true ∷ []
 
--- An opening stopped: after the file was read, or where the next number was written.
+-- An opening stopped: where the file was read, after it was, or where the next number was written.
 abbrev pub IsOpenLeft : Option (List Call) → Option (List Call) → Option Files → Option Files → OpenFault → Type 0
 IsOpenLeft asked made old new fault =
-    ((made ≡ told_calls asked (Get epoch_name ∷ [])) × (new ≡ old))
-    ⊎ ((epoch : ℕ) × (IfSome old (λ files. next_epoch files ≡ Ok epoch) × ((made ≡ told_calls asked (open_calls epoch))
-    × ((new ≡ old) ⊎ ((fault ≡ Disk) × (new ≡ told_with old epoch_name (epoch_text epoch)))))))
+    ((made ≡ told_calls asked (Get epoch_name false ∷ [])) × (new ≡ old))
+    ⊎ (((made ≡ told_calls asked (Get epoch_name true ∷ [])) × (new ≡ old))
+    ⊎ ((epoch : ℕ) × (IfSome old (λ files. next_epoch files ≡ Ok epoch) × ((made ≡ told_calls asked (Get epoch_name true ∷ Put epoch_name (epoch_text epoch) false ∷ []))
+    × ((new ≡ old) ⊎ ((fault ≡ Disk) × (new ≡ told_with old epoch_name (epoch_text epoch))))))))
 
 -- Disk comes only where the disk's count of faults rose, and any other answer leaves that count.
 abbrev pub HasOpenCause : {T : Type 0} → ℕ → ℕ → Result T OpenFault → Type 0

@@ -1,5 +1,5 @@
 -- The pages that the files of the docroot hold, which calls of the disk put, get and drop one, and what a put or a drop that stops leaves.
-use Rattle.std.specs.Prelude.{◌==◌, ◌≡◌, ◌⊎◌, ◌∷◌, ℕ, List, [], Option, Some, None, IfSome, IsSome, IsTrue, option_and_then, option_map, length, if◌then◌else◌}
+use Rattle.std.specs.Prelude.{◌==◌, ◌≡◌, ◌⊎◌, ◌∷◌, ℕ, Bool, true, false, List, [], Option, Some, None, IfSome, IsSome, IsTrue, option_and_then, option_map, length, if◌then◌else◌}
 use Rattle.sp_outside.specs.Calls.{Call, Get, Put, Remove, told_call, told_calls}
 use Rattle.sp_outside.specs.Files.{Files, file_at, told_with, told_without, with_file, without_file}
 use Rattle.sp_base.specs.declared.answer.Answer.{Answer}
@@ -78,39 +78,39 @@ files_without_page files key = without_file (without_file files (head_name key.f
 
 -- a put: the old head is taken away, the body is written, then the head
 abbrev pub put_calls : List ℕ → List ℕ → List ℕ → List ℕ → List Call
-put_calls head body bytes text = Remove head ∷ Put body bytes ∷ Put head text ∷ []
+put_calls head body bytes text = Remove head true ∷ Put body bytes true ∷ Put head text true ∷ []
 
 -- a get: the head is read, and where it is of the form, the body
 abbrev pub get_calls : List ℕ → List ℕ → Option HeadLine → List Call
-get_calls head body None = Get head ∷ []
-get_calls head body (Some line) = Get head ∷ Get body ∷ []
+get_calls head body None = Get head true ∷ []
+get_calls head body (Some line) = Get head true ∷ Get body true ∷ []
 
 -- a drop: the head is taken away, then the body
 abbrev pub drop_calls : List ℕ → List ℕ → List Call
-drop_calls head body = Remove head ∷ Remove body ∷ []
+drop_calls head body = Remove head true ∷ Remove body true ∷ []
 
--- A reading by one call of the disk stopped: before it, for want of memory, or after it.
-abbrev pub IsCallLeft : Option (List Call) → Option (List Call) → Call → FileFault → Type 0
-IsCallLeft asked made call fault = ((fault ≡ NoMemory) × (made ≡ asked)) ⊎ (made ≡ told_call asked call)
+-- A reading by one call of the disk stopped: before it, for want of memory; at it; or after it, for want of memory.
+abbrev pub IsCallLeft : Option (List Call) → Option (List Call) → (Bool → Call) → FileFault → Type 0
+IsCallLeft asked made call fault =
+    ((fault ≡ NoMemory) × (made ≡ asked)) ⊎ ((made ≡ told_call asked (call false)) ⊎ ((fault ≡ NoMemory) × (made ≡ told_call asked (call true))))
 
--- A get stopped: before it asked anything of the disk, for want of memory; after it read the head; or, where that is of the form, after
--- it read the body.
+-- A get stopped: at its reading of the head; or, where the head was read and is of the form, at its reading of the body.
 abbrev pub IsGetLeft : Option (List Call) → Option (List Call) → Option Files → PageKey → FileFault → Type 0
 IsGetLeft asked made told key fault =
     IsCallLeft asked made (Get (head_name key.folder key.file)) fault
-    ⊎ (IfSome told (λ files. IsSome (head_at files key)) × (made ≡ told_calls asked (Get (head_name key.folder key.file) ∷ Get (body_name key.folder key.file) ∷ [])))
+    ⊎ (IfSome told (λ files. IsSome (head_at files key)) × IsCallLeft (told_call asked (Get (head_name key.folder key.file) true)) made (Get (body_name key.folder key.file)) fault)
 
 -- A put stopped: before it asked anything of the disk, for want of memory; at the removal of the old head; at the body; or at the new head.
 abbrev pub IsPutLeft : Option (List Call) → Option (List Call) → Option Files → Option Files → List ℕ → List ℕ → List ℕ → List ℕ → FileFault → Type 0
 IsPutLeft asked made old new head body bytes text fault =
     ((fault ≡ NoMemory) × ((made ≡ asked) × (new ≡ old)))
-    ⊎ (((fault ≡ Disk) × ((made ≡ told_calls asked (Remove head ∷ [])) × IsLeftByFault old (told_without old head) new fault))
-    ⊎ (((made ≡ told_calls asked (Remove head ∷ Put body bytes ∷ [])) × IsLeftByFault (told_without old head) (told_with (told_without old head) body bytes) new fault)
-    ⊎ ((made ≡ told_calls asked (put_calls head body bytes text)) × IsLeftByFault (told_with (told_without old head) body bytes) (with_page old head body bytes text) new fault)))
+    ⊎ (((fault ≡ Disk) × ((made ≡ told_calls asked (Remove head false ∷ [])) × IsLeftByFault old (told_without old head) new fault))
+    ⊎ (((made ≡ told_calls asked (Remove head true ∷ Put body bytes false ∷ [])) × IsLeftByFault (told_without old head) (told_with (told_without old head) body bytes) new fault)
+    ⊎ ((made ≡ told_calls asked (Remove head true ∷ Put body bytes true ∷ Put head text false ∷ [])) × IsLeftByFault (told_with (told_without old head) body bytes) (with_page old head body bytes text) new fault)))
 
 -- A drop stopped: before it asked anything of the disk, for want of memory; at the removal of the head; or at that of the body.
 abbrev pub IsDropLeft : Option (List Call) → Option (List Call) → Option Files → Option Files → List ℕ → List ℕ → FileFault → Type 0
 IsDropLeft asked made old new head body fault =
     ((fault ≡ NoMemory) × ((made ≡ asked) × (new ≡ old)))
-    ⊎ (((fault ≡ Disk) × ((made ≡ told_calls asked (Remove head ∷ [])) × IsLeftByFault old (told_without old head) new fault))
-    ⊎ ((fault ≡ Disk) × ((made ≡ told_calls asked (drop_calls head body)) × IsLeftByFault (told_without old head) (told_without (told_without old head) body) new fault)))
+    ⊎ (((fault ≡ Disk) × ((made ≡ told_calls asked (Remove head false ∷ [])) × IsLeftByFault old (told_without old head) new fault))
+    ⊎ ((fault ≡ Disk) × ((made ≡ told_calls asked (Remove head true ∷ Remove body false ∷ [])) × IsLeftByFault (told_without old head) (told_without (told_without old head) body) new fault)))

@@ -1,19 +1,21 @@
 //! The number of a session is above each stamp of an earlier one: laws, on functions that do nothing.
-ghost use Rattle.std.specs.Prelude.{◌≡◌, ◌<◌, ◌≤◌, ◌^◌, ℕ, List, Option, Some, Ok, IfSome, length};
+ghost use Rattle.std.specs.Prelude.{◌≡◌, ◌≢◌, ◌⊎◌, ◌<◌, ◌≤◌, ◌^◌, ℕ, List, Option, Some, Ok, IfSome, length};
 ghost use Rattle.std.specs.List.{AllByRecursion};
 ghost use Rattle.sp_base.specs.declared.answer.Answer.{Answer};
 ghost use Rattle.sp_outside.specs.Calls.{Call};
-ghost use Rattle.sp_outside.specs.Files.{Files, with_file, without_file};
+ghost use Rattle.sp_outside.specs.Files.{Files, file_at, with_file, without_file};
 ghost use Rattle.docroot_format.specs.declared.fault.FileFault.{FileFault};
 ghost use Rattle.docroot_format.specs.Names.{IsTextKey, are_bytes, body_name, epoch_name, head_name, stat_name};
 ghost use Rattle.docroot_format.specs.Texts.{epoch_text, head_text, stat_text};
 ghost use Rattle.cover_rules.specs.declared.page.PageKey.{PageKey};
 ghost use Rattle.cover_rules.specs.declared.stamp.Stamp.{Stamp};
-ghost use Rattle.cache_files.specs.Epochs.{epoch_held, next_epoch};
+ghost use Rattle.cache_files.specs.Epochs.{epoch_held, next_epoch, IsOpenLeft};
+ghost use Rattle.cache_files.specs.declared.epoch.OpenFault.{OpenFault};
+ghost use Rattle.cache_files.specs.declared.epoch.OpenFault.TheVariants.{Disk as open_disk};
 ghost use Rattle.cache_files.specs.HeldStamps.{HasNoLaterStamp, HoldsStamp};
 ghost use Rattle.cache_files.specs.Pages.{IsDropLeft, IsKey, IsPutLeft, IsStorable, files_with_page, files_without_page};
 
-use docroot_format::{names_are_apart, texts_are_read_back};
+use docroot_format::{names_are_apart, texts_are_read_back, what_reads_is_its_text};
 use sp_outside::files_have_names;
 
 /// A session that is opened has a number above each stamp that earlier ones wrote, and the files then hold no later stamp than its own.
@@ -45,4 +47,18 @@ pub fn no_stamp_is_later_than_the_session()
     files_have_names();
     names_are_apart();
     texts_are_read_back();
+}
+
+/// An opening that failed leaves the old number or, where the disk failed as it was written, the next; each other file is as it was.
+pub fn a_failed_opening_leaves_the_old_number_or_the_next()
+    ensures whole { (asked made : Option (List Call)) (files new : Files) (fault : OpenFault) → IsOpenLeft asked made (Some files) (Some new) fault
+        → (new ≡ files) ⊎ ((fault ≡ open_disk) × ((epoch : ℕ) × ((next_epoch files ≡ Ok epoch) × (new ≡ with_file files epoch_name (epoch_text epoch))))) }
+    ensures number { (asked made : Option (List Call)) (files new : Files) (fault : OpenFault) → IsOpenLeft asked made (Some files) (Some new) fault
+        → (epoch_held new ≡ epoch_held files) ⊎ (next_epoch files ≡ Ok (epoch_held new)) }
+    ensures beside { (asked made : Option (List Call)) (files new : Files) (fault : OpenFault) (name : List ℕ) → IsOpenLeft asked made (Some files) (Some new) fault
+        → name ≢ epoch_name → file_at new name ≡ file_at files name }
+{
+    files_have_names();
+    texts_are_read_back();
+    what_reads_is_its_text();
 }

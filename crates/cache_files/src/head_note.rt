@@ -1,6 +1,6 @@
 //! The head of a page by itself, and the page under a head that was read: between the two a page's stamp may be compared, so that one
 //! that is outdated costs no body.
-ghost use Rattle.std.specs.Prelude.{◌≡◌, IfOk, IfErr, IfSome, option_map};
+ghost use Rattle.std.specs.Prelude.{◌≡◌, IfOk, IfErr, IfSome, true, option_map};
 ghost use Rattle.sp_outside.specs.Calls.{Get, told_call};
 ghost use Rattle.docroot_format.specs.Faults.{HasFileCause};
 ghost use Rattle.docroot_format.specs.Names as name;
@@ -50,7 +50,7 @@ pub fn get_head<D: Disk>(
     requires { IsKey key.now }
     ensures value { IfOk result (λ head. IfSome (D.files disk.old) (λ files. head ≡ head_at files key.now)) }
     ensures same { D.files disk.new ≡ D.files disk.old }
-    ensures made { IfOk result (λ _. D.calls disk.new ≡ told_call (D.calls disk.old) (Get (name.head_name key.now.folder key.now.file))) }
+    ensures made { IfOk result (λ _. D.calls disk.new ≡ told_call (D.calls disk.old) (Get (name.head_name key.now.folder key.now.file) true)) }
     ensures left { IfErr result (IsCallLeft (D.calls disk.old) (D.calls disk.new) (Get (name.head_name key.now.folder key.now.file))) }
     ensures cause { HasFileCause (D.faults disk.old) (D.faults disk.new) result }
 {
@@ -72,7 +72,7 @@ pub fn get_known<D: Disk>(
     requires { IsKey key.now }
     ensures value { IfOk result (λ page. IfSome (D.files disk.old) (λ files. page ≡ known_at files key.now head.now)) }
     ensures same { D.files disk.new ≡ D.files disk.old }
-    ensures made { IfOk result (λ _. D.calls disk.new ≡ told_call (D.calls disk.old) (Get (name.body_name key.now.folder key.now.file))) }
+    ensures made { IfOk result (λ _. D.calls disk.new ≡ told_call (D.calls disk.old) (Get (name.body_name key.now.folder key.now.file) true)) }
     ensures left { IfErr result (IsCallLeft (D.calls disk.old) (D.calls disk.new) (Get (name.body_name key.now.folder key.now.file))) }
     ensures cause { HasFileCause (D.faults disk.old) (D.faults disk.new) result }
 {

@@ -11,7 +11,10 @@ mod page;
 mod tests;
 
 pub use epoch::{OpenFault, open_epoch};
-pub use epoch_laws::{a_session_is_after_every_stamp, no_stamp_is_later_than_the_session};
+pub use epoch_laws::{
+    a_failed_opening_leaves_the_old_number_or_the_next, a_session_is_after_every_stamp,
+    no_stamp_is_later_than_the_session,
+};
 pub use head_note::{HeadNote, get_head, get_known};
 pub use laws::{
     a_failed_drop_leaves_whole_pages, a_failed_put_leaves_whole_pages,

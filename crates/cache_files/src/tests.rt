@@ -260,6 +260,45 @@ fn a_head_is_read_by_itself(rt: HostRuntime) -> Result<(), Fail> {
     Ok(())
 }
 
+// The page under the head of the old page.
+fn known(alloc: Global, disk: &mut MemDisk) -> Result<Option<Page>, FileFault> {
+    let Some(key) = key(alloc, EN) else {
+        return Err(FileFault::NoMemory);
+    };
+    let head = HeadNote {
+        stamp: Stamp { epoch: 1, count: 3 },
+        kind: TextBuf::of(alloc, "text/plain")?,
+        length: 3,
+    };
+    get_known(alloc, disk, &key, &head)
+}
+
+fn head(alloc: Global, disk: &mut MemDisk) -> Result<Option<HeadNote>, FileFault> {
+    match key(alloc, EN) {
+        Some(key) => get_head(alloc, disk, &key),
+        None => Err(FileFault::NoMemory),
+    }
+}
+
+// Each of the two is one call of the disk.
+#[test]
+fn a_head_and_a_body_fail_in_their_calls(rt: HostRuntime) -> Result<(), Fail> {
+    for way in [Way::Old, Way::New] {
+        let mut disk = disk_with(rt.alloc(), OLD);
+        let before = disk.calls();
+        disk.fail(1, way);
+        assert!(rt; matches!(head(rt.alloc(), &mut disk), Err(FileFault::Disk)));
+        assert_eq!(rt; disk.calls().saturating_sub(before), 1);
+        disk.fail(1, way);
+        assert!(rt; matches!(known(rt.alloc(), &mut disk), Err(FileFault::Disk)));
+        assert_eq!(rt; disk.calls().saturating_sub(before), 2);
+        assert!(rt; stand(rt.alloc(), &mut disk, OLD_HEAD, Some("old")));
+        let stamp = Stamp { epoch: 1, count: 3 };
+        assert!(rt; is_page(known(rt.alloc(), &mut disk), stamp, "text/plain", "old"));
+    }
+    Ok(())
+}
+
 // Whether a page with this head and body counts, and how many calls of the disk tell.
 fn tells(alloc: Global, files: &[(&str, &str)]) -> (bool, u64) {
     let mut disk = disk_with(alloc, files);

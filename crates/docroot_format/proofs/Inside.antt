@@ -1,5 +1,5 @@
 -- Names of files lie in the docroot: no segment of one is empty, `.` or `..`, and each byte is one that names have.
-use Rattle.std.proofs.Common.{◌≡◌, ◌<◌, ◌≤◌, ◌+◌, ◌/◌, ◌%◌, ℕ, zero, suc, Bool, true, false, not, cond, ◌&&◌, ◌||◌, ◌++◌, List, [], ◌∷◌, IsTrue, length, get_or, nat_eq, codes, flat_map, Option, Some, None, refl, sym, ◌∙◌, ap, subst, arith}
+use Rattle.std.proofs.Common.{◌≡◌, ◌<◌, ◌≤◌, ◌+◌, ◌/◌, ◌%◌, ℕ, zero, suc, Bool, true, false, not, cond, ◌&&◌, ◌||◌, ◌++◌, List, [], ◌∷◌, IsTrue, drop, length, get_or, nat_eq, codes, flat_map, Option, Some, None, refl, sym, ◌∙◌, ap, subst, arith}
 use Rattle.std.specs.List.{All, list_all}
 use Rattle.std.specs.Fmt.{digit_glyph}
 use Rattle.std.specs.Cmp.Lexicographic.{pointwise, bytes_decides}
@@ -8,7 +8,7 @@ use Rattle.std.proofs.lemmas.Bool.Decides.{nat_tests}
 use Rattle.std.proofs.lemmas.List.Splits.{slice_split_at, slice_split_none}
 use Rattle.std.proofs.lemmas.List.Folds.{list_all-append}
 use Rattle.std.proofs.lemmas.List.{length-append}
-use Rattle.sp_base.specs.Paths.{is_empty, is_dots, is_path, mangled, parent_of, seg_ok}
+use Rattle.sp_base.specs.Paths.{has_slash, is_empty, is_dots, is_long, is_namespaced, is_path, mangled, mangled_by, mangled_seg, parent_of, seg_ok}
 use Rattle.cover_rules.specs.declared.page.PageKey.{PageKey}
 use Rattle.cover_rules.specs.Pages.{is_file, is_page, key_at, last_segment, page_key_of}
 use Rattle.cover_rules.specs.Names.{is_plain_name_byte, file_byte, file_name}
@@ -124,10 +124,46 @@ inside_last : (piece : List ℕ) → is_segment piece ≡ true → is_inside pie
 inside_last piece ok =
     ap (list_all is_segment) (slice_split_none (λ b. nat_eq b 47) piece (no_slash piece (segment_bytes piece ok))) ∙ both _ _ ok refl
 
-ok_name : (seg : List ℕ) → seg_ok seg ≡ true → is_segment (file_name seg) ≡ true
-ok_name seg ok = segment_name seg (not_false _ (first_of _ _ ok)) (not_false _ (first_of _ _ (second_of _ _ ok)))
+-- what a segment of a path is, however long it is and also where it is mangled
+abbrev is_named : List ℕ → Bool
+is_named seg = not (is_empty seg) && not (is_dots seg)
 
-folder_inside : (folder : List (List ℕ)) (last : List ℕ) → list_all seg_ok folder ≡ true → is_inside last ≡ true → is_inside (folder_name folder ++ last) ≡ true
+named_of : (e d rest : Bool) → not e && (not d && rest) ≡ true → not e && not d ≡ true
+named_of true d rest ok = ok
+named_of false true rest ok = ok
+named_of false false rest ok = refl
+
+segs_named : (segs : List (List ℕ)) → list_all seg_ok segs ≡ true → list_all is_named segs ≡ true
+segs_named [] ok = refl
+segs_named (seg ∷ segs) ok =
+    let first = first_of (seg_ok seg) (list_all seg_ok segs) ok in
+    both (is_named seg) (list_all is_named segs) (named_of (is_empty seg) (is_dots seg) (not (is_long seg) && not (has_slash seg)) first) (segs_named segs (second_of (seg_ok seg) (list_all seg_ok segs) ok))
+
+chosen_named : (b : Bool) (x y : List ℕ) → is_named x ≡ true → is_named y ≡ true → is_named (cond b x y) ≡ true
+chosen_named true x y p q = p
+chosen_named false x y p q = q
+
+-- a mark begins with `_`
+marked_named : (rest : List ℕ) → is_named (95 ∷ rest) ≡ true
+marked_named rest = both (not (is_empty (95 ∷ rest))) (not (is_dots (95 ∷ rest))) (some_not_empty (95 ∷ rest) (omega arith)) refl
+
+mangled_named : (seg : List ℕ) → is_named seg ≡ true → is_named (mangled_seg seg) ≡ true
+mangled_named seg ok =
+    chosen_named (is_namespaced (codes "jcr:") seg) (mangled_by (codes "jcr:") (codes "_jcr_") seg) _ (marked_named (drop 1 (mangled_by (codes "jcr:") (codes "_jcr_") seg)))
+    (chosen_named (is_namespaced (codes "sling:") seg) (mangled_by (codes "sling:") (codes "_sling_") seg) _ (marked_named (drop 1 (mangled_by (codes "sling:") (codes "_sling_") seg)))
+    (chosen_named (is_namespaced (codes "nt:") seg) (mangled_by (codes "nt:") (codes "_nt_") seg) _ (marked_named (drop 1 (mangled_by (codes "nt:") (codes "_nt_") seg)))
+    (chosen_named (is_namespaced (codes "cq:") seg) (mangled_by (codes "cq:") (codes "_cq_") seg) _ (marked_named (drop 1 (mangled_by (codes "cq:") (codes "_cq_") seg))) ok)))
+
+all_named : (segs : List (List ℕ)) → list_all is_named segs ≡ true → list_all is_named (mangled segs) ≡ true
+all_named [] ok = refl
+all_named (seg ∷ segs) ok =
+    both (is_named (mangled_seg seg)) (list_all is_named (mangled segs)) (mangled_named seg (first_of (is_named seg) (list_all is_named segs) ok))
+    (all_named segs (second_of (is_named seg) (list_all is_named segs) ok))
+
+ok_name : (seg : List ℕ) → is_named seg ≡ true → is_segment (file_name seg) ≡ true
+ok_name seg ok = segment_name seg (not_false (is_empty seg) (first_of (not (is_empty seg)) (not (is_dots seg)) ok)) (not_false (is_dots seg) (second_of (not (is_empty seg)) (not (is_dots seg)) ok))
+
+folder_inside : (folder : List (List ℕ)) (last : List ℕ) → list_all is_named folder ≡ true → is_inside last ≡ true → is_inside (folder_name folder ++ last) ≡ true
 folder_inside [] last ok e = e
 folder_inside (seg ∷ folder) last ok e =
     ap is_inside (sym (append_both (file_name seg ++ 47 ∷ []) (folder_name folder) last) ∙ sym (append_both (file_name seg) (47 ∷ []) (folder_name folder ++ last)))
@@ -168,7 +204,7 @@ page_segment : (file : List ℕ) → is_file file ≡ true → is_segment (file_
 page_segment file e = segment_name file (file_some_bytes file e) (file_no_dots file e)
 
 pub body_inside : (path : List (List ℕ)) (key : PageKey) → IsTrue (is_path key.folder) → page_key_of path ≡ Some key → IsTrue (is_inside (body_name key.folder key.file))
-body_inside path key folder e = folder_inside key.folder (file_name key.file) (first_of _ _ folder) (inside_last (file_name key.file) (page_segment key.file (key_file path key e)))
+body_inside path key folder e = folder_inside key.folder (file_name key.file) (segs_named key.folder (first_of _ _ folder)) (inside_last (file_name key.file) (page_segment key.file (key_file path key e)))
 
 head_segment : (file : List ℕ) → is_file file ≡ true → is_segment (file_name file ++ codes "%h") ≡ true
 head_segment file e =
@@ -181,10 +217,10 @@ head_segment file e =
 pub head_inside : (path : List (List ℕ)) (key : PageKey) → IsTrue (is_path key.folder) → page_key_of path ≡ Some key → IsTrue (is_inside (head_name key.folder key.file))
 head_inside path key folder e =
     ap is_inside (sym (append_both (folder_name key.folder) (file_name key.file) (codes "%h")))
-    ∙ folder_inside key.folder (file_name key.file ++ codes "%h") (first_of _ _ folder) (inside_last (file_name key.file ++ codes "%h") (head_segment key.file (key_file path key e)))
+    ∙ folder_inside key.folder (file_name key.file ++ codes "%h") (segs_named key.folder (first_of _ _ folder)) (inside_last (file_name key.file ++ codes "%h") (head_segment key.file (key_file path key e)))
 
 pub stat_inside : (folder : List (List ℕ)) → IsTrue (is_path folder) → IsTrue (is_inside (stat_name folder))
-stat_inside folder ok = folder_inside folder (codes ".stat") (first_of _ _ ok) refl
+stat_inside folder ok = folder_inside (mangled folder) (codes ".stat") (all_named folder (segs_named folder (first_of _ _ ok))) refl
 
 pub epoch_inside : IsTrue (is_inside epoch_name)
 epoch_inside = refl

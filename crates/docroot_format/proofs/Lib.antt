@@ -11,3 +11,4 @@ pub mod FileKinds
 pub mod Spelled
 pub mod Folders
 pub mod TextKeys
+mod Yielded

@@ -1,6 +1,6 @@
--- Names that grow by a byte or a segment.
+-- Names that grow by a byte.
 use Rattle.std.proofs.Common.{◌≡◌, ◌<◌, ◌+◌, ◌++◌, ◌∷◌, ℕ, zero, suc, List, [], length, take, get_or, flat_map, refl, ◌∙◌, ap, arith, add-one}
-use Rattle.cover_rules.specs.Names.{file_byte, file_name}
+use Rattle.cover_rules.specs.Names.{file_byte}
 
 append_nil : {A : Type 0} (xs : List A) → xs ++ [] ≡ xs
 append_nil [] = refl
@@ -17,7 +17,3 @@ one_more f (suc n) (x ∷ xs) d lt = ap (λ rest. f x ++ rest) (one_more f n xs 
 
 pub byte_more : (n : ℕ) (seg : List ℕ) (d : ℕ) → n < length seg → flat_map file_byte (take (n + 1) seg) ≡ flat_map file_byte (take n seg) ++ file_byte (get_or seg n d)
 byte_more n seg d lt = rw (add-one n) (one_more file_byte n seg d lt)
-
-pub segment_more : (n : ℕ) (segs : List (List ℕ)) (d : List ℕ) → n < length segs
-    → flat_map (λ seg. file_name seg ++ 47 ∷ []) (take (n + 1) segs) ≡ flat_map (λ seg. file_name seg ++ 47 ∷ []) (take n segs) ++ (file_name (get_or segs n d) ++ 47 ∷ [])
-segment_more n segs d lt = rw (add-one n) (one_more (λ seg. file_name seg ++ 47 ∷ []) n segs d lt)

@@ -5,7 +5,7 @@ use Rattle.std.proofs.lemmas.Bool.Decides.{nat_tests}
 use Rattle.std.proofs.lemmas.List.{length-append}
 use Rattle.sp_outside.specs.Files.{IsName}
 use Rattle.cover_rules.specs.Names.{file_byte, file_name, has_file_name}
-use Rattle.docroot_format.specs.Names.{folder_name, body_name, head_name, stat_name, have_names, is_place}
+use Rattle.docroot_format.specs.Names.{folder_name, body_name, head_name, have_names, is_place}
 
 pub first_true : (a b : Bool) → a && b ≡ true → a ≡ true
 first_true true b e = refl

@@ -150,6 +150,37 @@ epoch_spelled text epoch e =
     ∙ append_both (codes "epoch 1 ") (decimal a.first.0) (codes "\n")
     ∙ ap epoch_text s.1
 
+-- ---- what a number fits
+
+digits_most : (t : List ℕ) (m : ℕ) → m < 2 ^ 64 → (digits_from m t).0 < 2 ^ 64
+unfolding digit_fits digits_from
+digits_most [] m small = small
+digits_most (b ∷ t) m small = ⊎_elim
+    (λ (e : is_digit b && nat_le (m * 10 + (b - 48)) greatest_number ≡ true).
+    let short : m * 10 + (b - 48) < 2 ^ 64 = grind (arith, nat_tests) in
+    rw e (digits_most t (m * 10 + (b - 48)) short))
+    (λ (e : is_digit b && nat_le (m * 10 + (b - 48)) greatest_number ≡ false). rw e small)
+    (cases_Bool (is_digit b && nat_le (m * 10 + (b - 48)) greatest_number))
+
+number_most : (t : List ℕ) (p : ℕ × List ℕ) → number_in_front t ≡ Some p → p.0 < 2 ^ 64
+unfolding number_in_front
+number_most t p e = subst (λ (q : ℕ × List ℕ). q.0 < 2 ^ 64) (some_of (begins_number t) (digits_from 0 t) p e).1 (digits_most t 0 (omega arith))
+
+above_zero : (n : ℕ) → nat_lt 0 n ≡ true → 0 < n
+above_zero n e = grind (arith, nat_tests)
+
+pub epoch_most : (text : List ℕ) (epoch : ℕ) → epoch_of text ≡ Some epoch → (0 < epoch) × (epoch < 2 ^ 64)
+unfolding epoch_of
+epoch_most text epoch e =
+    let a = then_some _ (option_and_then number_in_front (after_word (codes "epoch 1 ") text)) epoch e in
+    let b = then_some number_in_front (after_word (codes "epoch 1 ") text) a.first a.is in
+    let s = some_of (is_end a.first.1 && nat_lt 0 a.first.0) a.first.0 epoch a.next in (
+      subst (λ n. 0 < n) s.1 (above_zero a.first.0 (second_of (is_end a.first.1) (nat_lt 0 a.first.0) s.0)),
+      subst (λ n. n < 2 ^ 64) s.1 (number_most b.first a.first b.next),
+    )
+
+-- ---- heads
+
 kind_spelled : (text kind : List ℕ) → stored_kind text ≡ Some kind → text ≡ kind ++ codes "\n"
 unfolding stored_kind
 kind_spelled text kind e =

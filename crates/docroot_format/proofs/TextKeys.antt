@@ -85,7 +85,7 @@ mangled_bytes seg p =
     (chosen_bytes (is_namespaced (codes "nt:") seg) _ _ (marked_bytes (codes "nt:") (codes "_nt_") seg nt p)
     (chosen_bytes (is_namespaced (codes "cq:") seg) _ _ (marked_bytes (codes "cq:") (codes "_cq_") seg cq p) p)))
 
-all_mangled : (segs : List (List ℕ)) → AllByRecursion are_bytes segs → AllByRecursion are_bytes (mangled segs)
+pub all_mangled : (segs : List (List ℕ)) → AllByRecursion are_bytes segs → AllByRecursion are_bytes (mangled segs)
 all_mangled [] p = tt
 all_mangled (seg ∷ segs) p = (mangled_bytes seg p.0, all_mangled segs p.1)
 

@@ -7,10 +7,10 @@ use Rattle.cover_rules.specs.declared.page.PageKey.{PageKey}
 use Rattle.cover_rules.specs.Names.{file_name, has_file_name, is_plain_name_byte}
 use Rattle.cover_rules.specs.Pages.{last_segment}
 
--- The names of pages and stamps are of mangled segments, spelled as in URLs: a folder is a mangled path (`IsFolder`), and both the
--- folder and the file of a key are mangled. So what lies below `jcr:content` stands below `_jcr_content`.
+-- The names of pages and stamps are of mangled segments, spelled as in URLs, so what lies below `jcr:content` stands below `_jcr_content`.
+-- The folder and the file of a key are mangled already; a folder that gets a stamp is mangled here.
 
--- the file names of a folder's segments, a slash after each
+-- the file names of mangled segments, a slash after each
 abbrev pub folder_name : List (List ℕ) → List ℕ
 folder_name segs = flat_map (λ seg. file_name seg ++ 47 ∷ []) segs
 
@@ -24,9 +24,9 @@ head_name folder file = body_name folder file ++ codes "%h"
 
 -- where a folder's stamp stands
 abbrev pub stat_name : List (List ℕ) → List ℕ
-stat_name folder = folder_name folder ++ codes ".stat"
+stat_name folder = folder_name (mangled folder) ++ codes ".stat"
 
--- each segment of a folder has a file name
+-- each of the mangled segments has a file name
 abbrev pub have_names : List (List ℕ) → Bool
 have_names segs = list_all has_file_name segs
 

@@ -20,12 +20,14 @@ pub fn a_page_has_files()
 {}
 
 /// The folder and the file of a page's key are mangled, and so are the folders that may have stamps for it: those of the key's folder,
-/// and each folder that an invalidation touches. Each of their segments has a file name.
+/// and each folder that an invalidation touches. Each of their segments has a file name. A folder has one .stat file however it is spelled.
 pub fn folders_are_mangled()
     ensures page { (path : List (List ℕ)) (key : PageKey) → page_key_of path ≡ Some key → IsFolder key.folder }
     ensures file { (path : List (List ℕ)) (key : PageKey) → page_key_of path ≡ Some key → mangled (key.file ∷ []) ≡ key.file ∷ [] }
     ensures stat { (level : ℕ) (path : List (List ℕ)) (key : PageKey) → page_key_of path ≡ Some key → IsFolder (stat_folder level key) }
     ensures touched { (level : ℕ) (inv : Invalidation) (folder : List (List ℕ)) → Contains (touched_of level inv) folder → IsFolder folder }
+    ensures names { (folder : List (List ℕ)) → IsFolder folder → IsTrue (have_names (mangled folder)) }
+    ensures one { (folder : List (List ℕ)) → stat_name (mangled folder) ≡ stat_name folder }
 {
     mangling_and_unmangling();
 }
@@ -57,11 +59,13 @@ pub fn texts_are_read_back()
     ensures epoch { (epoch : ℕ) → 0 < epoch → epoch < 2 ^ 64 → epoch_of (epoch_text epoch) ≡ Some epoch }
 {}
 
-/// What reads as a head, a stamp or the number of a session is the text of it: a text of one form has no other spelling.
+/// What reads as a head, a stamp or the number of a session is the text of it: a text of one form has no other spelling. The number of a
+/// session is from 1 on and below 2^64.
 pub fn what_reads_is_its_text()
     ensures head { (text : List ℕ) (line : HeadLine) → head_of text ≡ Some line → text ≡ head_text line.epoch line.count line.size line.kind }
     ensures stat { (text : List ℕ) (epoch count : ℕ) → stat_of text ≡ Some (epoch, count) → text ≡ stat_text epoch count }
     ensures epoch { (text : List ℕ) (epoch : ℕ) → epoch_of text ≡ Some epoch → text ≡ epoch_text epoch }
+    ensures fits { (text : List ℕ) (epoch : ℕ) → epoch_of text ≡ Some epoch → (0 < epoch) × (epoch < 2 ^ 64) }
 {}
 
 /// The name of each file lies in the docroot: it has no empty segment and none that is `.` or `..`, so it begins with no slash, and
@@ -73,12 +77,12 @@ pub fn names_lie_in_the_docroot()
     ensures epoch { IsTrue (is_inside epoch_name) }
 {}
 
-/// Different keys have different files, and so have different folders; a page's files, stamps and the session's number stand in files
+/// Different keys have different files, and so have folders whose mangled paths differ; a page's files, stamps and the session's number stand in files
 /// of their own.
 pub fn names_are_apart()
     ensures bodies { (key other : PageKey) → IsTextKey key → IsTextKey other → body_name key.folder key.file ≡ body_name other.folder other.file → key ≡ other }
     ensures heads { (key other : PageKey) → IsTextKey key → IsTextKey other → head_name key.folder key.file ≡ head_name other.folder other.file → key ≡ other }
-    ensures stats { (folder other : List (List ℕ)) → AllByRecursion are_bytes folder → AllByRecursion are_bytes other → stat_name folder ≡ stat_name other → folder ≡ other }
+    ensures stats { (folder other : List (List ℕ)) → AllByRecursion are_bytes folder → AllByRecursion are_bytes other → stat_name folder ≡ stat_name other → mangled folder ≡ mangled other }
     ensures head { (key other : PageKey) → IsTextKey key → IsTextKey other → head_name key.folder key.file ≢ body_name other.folder other.file }
     ensures stat_body { (folder : List (List ℕ)) (key : PageKey) → AllByRecursion are_bytes folder → IsTextKey key → page_key_of (page_path key) ≡ Some key → stat_name folder ≢ body_name key.folder key.file }
     ensures stat_head { (folder : List (List ℕ)) (key : PageKey) → AllByRecursion are_bytes folder → IsTextKey key → page_key_of (page_path key) ≡ Some key → stat_name folder ≢ head_name key.folder key.file }

@@ -1,5 +1,5 @@
 //! The names of the files of the docroot.
-ghost use Rattle.std.specs.Prelude.{◌≡◌, ◌<◌, ◌≤◌, ◌++◌, ◌∷◌, [], IfOk, IsTrue, OnOk, length, slice_index_or, string_bytes};
+ghost use Rattle.std.specs.Prelude.{◌≡◌, ◌≤◌, ◌++◌, ◌∷◌, [], IfOk, IsTrue, OnOk, length, string_bytes};
 ghost use Rattle.sp_outside.specs.Files.{IsName};
 ghost use Rattle.cover_rules.specs.Names as file;
 ghost use Rattle.docroot_format.specs.Names as spec;
@@ -41,26 +41,27 @@ fn push_segment(name: &mut String, seg: &str) -> Mem<()>
     Ok(())
 }
 
-// Adds the file name of the segment at a place, and a slash.
-fn push_place(name: &mut String, folder: &Path, place: usize) -> Mem<()>
-    requires { place < length folder.now }
-    ensures { OnOk result (string_bytes name.new ≡ string_bytes name.old ++ (file.file_name (slice_index_or folder.now place []) ++ 47 ∷ [])) }
+// Adds a segment's file name, and a slash.
+fn push_piece(name: &mut String, seg: &str) -> Mem<()>
+    ensures { OnOk result (string_bytes name.new ≡ string_bytes name.old ++ (file.file_name seg.now ++ 47 ∷ [])) }
 {
-    if let Some(seg) = folder.seg(place) {
-        push_segment(name, seg)?;
-        name.push_str("/")?;
-    }
+    push_segment(name, seg)?;
+    name.push_str("/")?;
     Ok(())
 }
 
-#[tactic(auto, using(crate::proofs::NameLemmas::segment_more))]
 fn folder_name(alloc: Global, folder: &Path) -> Mem<String>
     ensures name { IfOk result (λ name. string_bytes name ≡ spec.folder_name folder.now) }
     ensures deep { length folder.now ≤ 64 }
 {
+    // That a path has at most 64 segments is a clause of its depth.
+    let _depth = folder.depth();
     let mut name = String::new(alloc);
-    for n in 0..folder.depth() {
-        push_place(&mut name, folder, n)?;
+    let Some(segments) = folder.relative() else {
+        return Ok(name);
+    };
+    for seg in segments.split('/') {
+        push_piece(&mut name, seg)?;
     }
     Ok(name)
 }

@@ -1,5 +1,6 @@
 //! The name and the text of a folder's stamp, in room of a fixed size, so that writing a stamp takes no memory.
-ghost use Rattle.std.specs.Prelude.{◌≡◌, ◌<◌, ◌≤◌, ◌+◌, ◌++◌, ◌∷◌, [], IsTrue, decimal, length, slice_index_or};
+ghost use Rattle.std.specs.Prelude.{◌≡◌, ◌<◌, ◌≤◌, ◌+◌, ◌++◌, ◌∷◌, [], IsTrue, decimal, length};
+ghost use Rattle.sp_base.specs.Paths.{mangled, mangled_seg};
 ghost use Rattle.sp_outside.specs.Files.{IsName};
 ghost use Rattle.cover_rules.specs.Names as file;
 ghost use Rattle.docroot_format.specs.Names as spec;
@@ -9,7 +10,7 @@ use crate::names::is_plain;
 use arrayvec::ArrayString;
 use itoa::Buffer;
 use percent_encoding::percent_encode_byte;
-use sp_base::Path;
+use sp_base::{Path, mangled_parts};
 
 /// The name of a .stat file: 64 segments of at most 200 bytes, a slash after each, and `.stat`.
 pub type StatName = ArrayString<12_869>;
@@ -41,29 +42,42 @@ fn push_segment(name: &mut StatName, seg: &str)
     }
 }
 
-// Adds the file name of the segment at a place, and a slash.
-fn push_place(name: &mut StatName, folder: &Path, place: usize)
-    requires place { place < length folder.now }
-    requires room { length name.old.bytes + length (file.file_name (slice_index_or folder.now place [])) < 12869 }
-    ensures { name.new.bytes ≡ name.old.bytes ++ (file.file_name (slice_index_or folder.now place []) ++ 47 ∷ []) }
+// Adds the file name of a segment, and a slash.
+fn push_piece(name: &mut StatName, seg: &str)
+    requires { length name.old.bytes + length (file.file_name (mangled_seg seg.now)) < 12869 }
+    ensures { name.new.bytes ≡ name.old.bytes ++ (file.file_name (mangled_seg seg.now) ++ 47 ∷ []) }
 {
-    if let Some(seg) = folder.seg(place) {
-        push_segment(name, seg);
-        name.push_str("/");
+    let (mark, rest) = mangled_parts(seg);
+    push_segment(name, mark);
+    push_segment(name, rest);
+    name.push_str("/");
+}
+
+// Adds the file names of a folder's segments, a slash after each.
+fn push_folder(name: &mut StatName, folder: &Path)
+    requires empty { name.old.bytes ≡ [] }
+    requires named { IsTrue (spec.have_names (mangled folder.now)) }
+    ensures name { name.new.bytes ≡ spec.folder_name (mangled folder.now) }
+    ensures few { length name.new.bytes ≤ 12864 }
+{
+    // That a path has at most 64 segments is a clause of its depth.
+    let _depth = folder.depth();
+    let Some(segments) = folder.relative() else {
+        return;
+    };
+    for seg in segments.split('/') {
+        push_piece(name, seg);
     }
 }
 
-/// The name of the file of a folder's stamp. Each segment of the folder has a file name of at most 200 bytes.
-#[tactic(auto, using(crate::proofs::NameLemmas::segment_more, crate::proofs::NameRoom::segment_room))]
+/// The name of the file of a folder's stamp, which is of the folder's mangled segments: each has a file name of at most 200 bytes.
 pub fn stat_name(folder: &Path) -> StatName
-    requires { IsTrue (spec.have_names folder.now) }
+    requires { IsTrue (spec.have_names (mangled folder.now)) }
     ensures name { result.bytes ≡ spec.stat_name folder.now }
     ensures fits { IsName result.bytes }
 {
     let mut name = StatName::new();
-    for n in 0..folder.depth() {
-        push_place(&mut name, folder, n);
-    }
+    push_folder(&mut name, folder);
     name.push_str(".stat");
     name
 }

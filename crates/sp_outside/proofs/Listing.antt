@@ -1,6 +1,6 @@
 -- What a list of a disk in memory gives: names in their order, after one, with a prefix.
 use Rattle.std.proofs.Common.{◌≡◌, ◌≤◌, ◌<◌, ℕ, zero, suc, Bool, true, false, ◌&&◌, T, List, [], ◌∷◌, ◌++◌, map, take, length, get_or, cond, refl, sym, ◌∙◌, ap, subst, arith}
-use Rattle.std.specs.Prelude.{string_bytes, string_cmp, IsTrue}
+use Rattle.std.specs.Prelude.{string_bytes, string_cmp, IsTrue, IsUtf8}
 use Rattle.std.specs.Borrow.{Bor}
 use Rattle.std.specs.List.{filter, All, AllByRecursion}
 use Rattle.std.specs.List.Sorted.{IsStrictlySortedBy}
@@ -18,6 +18,7 @@ use Rattle.std.specs.Cmp.Lexicographic.{nat_list_cmp_total}
 use Rattle.std.specs.FinMap.{keys, entries, entries_sorted, from_sorted, get-from_entries, get-from_sorted, entries-from_sorted, same_map}
 use Rattle.std.specs.FinMap.Entries.{is_sorted, below_all}
 use Rattle.std.proofs.lemmas.Bool.{true≢false}
+use Rattle.std.proofs.lemmas.Str.{IsUtf8-string_bytes}
 use Rattle.std.proofs.Math.Seq.{get_or-append_seam}
 use Rattle.std.proofs.lemmas.List.{append-nil, length-append, map-append, take_all, take_at, length-take}
 use Rattle.std.proofs.lemmas.List.Kept.{IsStrictlySortedBy-filter}
@@ -80,6 +81,12 @@ pub sizes_held : (held : Held) → All (λ key. IsName (string_bytes key)) (keys
 sizes_held [] h k d lt = absurd (omega (arith, lt))
 sizes_held (e ∷ held) h zero d lt = h zero e.0 (omega arith)
 sizes_held (e ∷ held) h (suc k) d lt = sizes_held held (λ j x l. h (suc j) x (omega (arith, l))) k d (omega (arith, lt))
+
+-- names are texts
+pub texts_held : (held : Held) → All IsUtf8 (names_of held)
+texts_held [] k d lt = absurd (omega (arith, lt))
+texts_held (e ∷ held) zero d lt = IsUtf8-string_bytes e.0
+texts_held (e ∷ held) (suc k) d lt = texts_held held k d (omega (arith, lt))
 
 first_true : (a b : Bool) → a && b ≡ true → a ≡ true
 first_true true b e = refl
@@ -295,9 +302,9 @@ begins : (after : List ℕ) (names : List (List ℕ)) → AllByRecursion (λ oth
 unfolding IsStrictlySortedBy
 begins after names above rest = (above, rest)
 
-pub listing : (files : Files) (prefix after : List ℕ) (most : ℕ) → All IsName (keys files)
+pub listing : (files : Files) (prefix after : List ℕ) (most : ℕ) → All IsName (keys files) → All IsUtf8 (keys files)
     → IsListing prefix after most (take most (names_after files prefix after))
-listing files prefix after most sizes =
+listing files prefix after most sizes texts =
     let names = names_after files prefix after in
     let passes = filter_passes (wanted prefix after) (keys files) in
     record {
@@ -306,5 +313,6 @@ listing files prefix after most sizes =
           (take_rises most names (IsStrictlySortedBy-filter by_name (wanted prefix after) (keys files) (rises (entries files) (entries_sorted files))));
       prefixed = All-take (λ name. IsTrue (has_prefix prefix name)) most names (λ k d lt. first_true _ _ (passes k d lt));
       sizes = All-take IsName most names (All-filter (wanted prefix after) IsName (keys files) sizes);
+      texts = All-take IsUtf8 most names (All-filter (wanted prefix after) IsUtf8 (keys files) texts);
       few = omega (arith, length-take most names);
     }

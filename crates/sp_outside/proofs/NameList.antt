@@ -1,6 +1,6 @@
 -- A list of names in their order that grows at its end.
 use Rattle.std.proofs.Common.{◌≡◌, ◌<◌, ◌++◌, ℕ, List, [], ◌∷◌, length, get_or, arith}
-use Rattle.std.specs.Prelude.{IsTrue}
+use Rattle.std.specs.Prelude.{IsTrue, IsUtf8}
 use Rattle.std.specs.List.{AllByRecursion}
 use Rattle.std.specs.List.Sorted.{IsStrictlySortedBy}
 use Rattle.std.specs.Cmp.Lexicographic.{nat_list_cmp_total}
@@ -24,12 +24,13 @@ rises after (next ∷ names) name sorted less =
     ((sorted.0.0, above_all after next (names ++ name ∷ []) sorted.0.0 rest.0), rest)
 
 pub grows : (prefix after : List ℕ) (most : ℕ) (names : List (List ℕ)) (name : List ℕ) → IsListing prefix after most names
-    → by_name (get_or (after ∷ names) (length names) []) name ≡ Less → IsTrue (has_prefix prefix name) → IsName name → length names < most
+    → by_name (get_or (after ∷ names) (length names) []) name ≡ Less → IsTrue (has_prefix prefix name) → IsName name → IsUtf8 name → length names < most
     → IsListing prefix after most (names ++ name ∷ [])
-grows prefix after most names name listing less has size room = record {
+grows prefix after most names name listing less has size utf8 room = record {
   rising = rises after names name listing.rising less;
   prefixed = All-push (λ n. IsTrue (has_prefix prefix n)) names name listing.prefixed has;
   sizes = All-push IsName names name listing.sizes size;
+  texts = All-push IsUtf8 names name listing.texts utf8;
   few = omega (arith, room, length-append names (name ∷ []));
 }
 
@@ -40,5 +41,6 @@ begins prefix after most = record {
   rising = (tt, tt);
   prefixed = λ k d lt. absurd (omega (arith, lt));
   sizes = λ k d lt. absurd (omega (arith, lt));
+  texts = λ k d lt. absurd (omega (arith, lt));
   few = omega arith;
 }

@@ -1,5 +1,5 @@
 -- The files of a disk, a finite map from names to bytes, and what its calls make of them.
-use Rattle.std.specs.Prelude.{◌≡◌, ◌⊎◌, ◌≤◌, ◌∷◌, ◌&&◌, ℕ, Bool, List, Option, IsTrue, nat_eq, length, option_map}
+use Rattle.std.specs.Prelude.{◌≡◌, ◌⊎◌, ◌≤◌, ◌+◌, ◌∷◌, ◌&&◌, ℕ, Bool, List, Option, Contains, IsTrue, IsUtf8, nat_eq, length, option_map}
 use Rattle.std.specs.Coded.{Coded, coded_ℕ, coded_list}
 use Rattle.std.specs.FinMap.{FinMap, get, insert, remove, keys, code}
 use Rattle.std.specs.List.{filter, starts_with, All}
@@ -54,9 +54,15 @@ has_prefix prefix name = starts_with nat_eq name prefix
 abbrev pub names_after : Files → List ℕ → List ℕ → List (List ℕ)
 names_after files prefix after = filter (λ name. has_prefix prefix name && is_lt (by_name after name)) (keys files)
 
--- What a list of names after another is, on every disk: they rise from that name on, so that a walk over the names of a prefix ends.
+-- What a list of names after another is, on every disk: they are texts in UTF-8, and rise from that name on.
 pub record IsListing (prefix after : List ℕ) (most : ℕ) (names : List (List ℕ)) : Type 0 where
   pub rising : IsStrictlySortedBy by_name (after ∷ names)
   pub prefixed : All (λ name. IsTrue (has_prefix prefix name)) names
   pub sizes : All IsName names
+  pub texts : All IsUtf8 names
   pub few : length names ≤ most
+
+-- A walk over the names of a prefix without an end: each list is after one of the names of the list before.
+pub record IsEndlessWalk (prefix : List ℕ) (most : ℕ) (after : ℕ → List ℕ) (lists : ℕ → List (List ℕ)) : Type 0 where
+  pub listed : (n : ℕ) → IsListing prefix (after n) most (lists n)
+  pub goes_on : (n : ℕ) → Contains (lists n) (after (n + 1))

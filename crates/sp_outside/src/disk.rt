@@ -1,5 +1,5 @@
 //! Disks: where files are kept by their names.
-ghost use Rattle.std.specs.Prelude.{◌≡◌, ℕ, List, Option, IfSome, IfOk, IfErr, OnOk, take};
+ghost use Rattle.std.specs.Prelude.{◌≡◌, ℕ, List, Option, IfSome, IfOk, IfErr, OnOk, is_ok, take};
 ghost use Rattle.sp_outside.specs.Files.{Files, IsName, IsListing, IsOldOrNew, file_at, told_with, told_without, names_after};
 ghost use Rattle.sp_outside.specs.Causes.{HasDiskCause};
 ghost use Rattle.sp_outside.specs.Calls.{Call, Get, Put, Remove, Names, told_call};
@@ -42,7 +42,7 @@ pub trait Disk {
     /// The files, where the disk tells them.
     ghost files: { Self → Option Files };
 
-    /// The calls that were made of the disk, the last one at the end, where it tells them.
+    /// The calls that were made of the disk and whether each was answered Ok, the last one at the end, where it tells them.
     ghost calls: { Self → Option (List Call) };
 
     /// The bytes of a file, or None where there is none of this name.
@@ -50,7 +50,7 @@ pub trait Disk {
         ensures value { IfOk result (λ found. IfSome (files self.old) (λ held. found ≡ file_at held name.now)) }
         ensures same { files self.new ≡ files self.old }
         ensures cause { HasDiskCause (faults self.old) (faults self.new) result }
-        ensures made { calls self.new ≡ told_call (calls self.old) (Get name.now) };
+        ensures made { calls self.new ≡ told_call (calls self.old) (Get name.now (is_ok result)) };
 
     /// Makes the file of this name exactly these bytes.
     fn put(&mut self, name: &str, bytes: &[u8]) -> Result<(), DiskFault>
@@ -58,7 +58,7 @@ pub trait Disk {
         ensures ok { OnOk result (files self.new ≡ told_with (files self.old) name.now bytes.now) }
         ensures err { IfErr result (IsOldOrNew (files self.old) (told_with (files self.old) name.now bytes.now) (files self.new)) }
         ensures cause { HasDiskCause (faults self.old) (faults self.new) result }
-        ensures made { calls self.new ≡ told_call (calls self.old) (Put name.now bytes.now) };
+        ensures made { calls self.new ≡ told_call (calls self.old) (Put name.now bytes.now (is_ok result)) };
 
     /// Takes the file of this name away, if there is one. This takes no memory, but for what a disk keeps of names from its first call on.
     fn remove(&mut self, name: &str) -> Result<(), DiskFault>
@@ -66,7 +66,7 @@ pub trait Disk {
         ensures err { IfErr result (IsOldOrNew (files self.old) (told_without (files self.old) name.now) (files self.new)) }
         ensures fails { IfErr result (λ e. e ≡ DiskFault.Failed) }
         ensures cause { HasDiskCause (faults self.old) (faults self.new) result }
-        ensures made { calls self.new ≡ told_call (calls self.old) (Remove name.now) };
+        ensures made { calls self.new ≡ told_call (calls self.old) (Remove name.now (is_ok result)) };
 
     /// The first names, at most `most`, that begin with a prefix and are greater than `after`, in the order of their bytes.
     fn list(
@@ -80,5 +80,5 @@ pub trait Disk {
         ensures value { IfOk result (λ names. IfSome (files self.old) (λ held. names ≡ take most (names_after held prefix.now after.now))) }
         ensures same { files self.new ≡ files self.old }
         ensures cause { HasDiskCause (faults self.old) (faults self.new) result }
-        ensures made { calls self.new ≡ told_call (calls self.old) (Names prefix.now after.now most) };
+        ensures made { calls self.new ≡ told_call (calls self.old) (Names prefix.now after.now most (is_ok result)) };
 }

@@ -39,6 +39,8 @@ pub(crate) struct Docroot<R: Files + AllocGlobal + Clone + Drop> {
     beside: String,
     names: NameIndex,
     has_names: bool,
+    // Each folder below the docroot that was found or made is synced into the one that it lies in.
+    folders_last: bool,
 }
 
 // A name that may have a file: no segment is empty, `.` or `..`, it has no NUL, and not the ending of a file beside another.
@@ -105,6 +107,7 @@ impl<R: Files + AllocGlobal + Clone + Drop> Docroot<R> {
             beside: String::with_capacity(alloc, LONGEST_PATH)?,
             names: NameIndex::new(alloc),
             has_names: false,
+            folders_last: true,
             rt,
         })
     }
@@ -190,7 +193,11 @@ impl<R: Files + AllocGlobal + Clone + Drop> Docroot<R> {
         }
         self.fill()?;
         self.point_at(name)?;
-        self.make_folders(name)?;
+        let made = self.make_folders(name);
+        if made.is_err() {
+            self.folders_last = false;
+        }
+        made?;
         let is_new = self.names.standing(name).is_none();
         self.names.add(self.rt.alloc(), name, Standing::Doubtful)?;
         let written = self.replace(bytes, is_lasting(name));
@@ -260,12 +267,16 @@ impl<R: Files + AllocGlobal + Clone + Drop> Docroot<R> {
         Ok(())
     }
 
-    // A folder that is made, or was there before, and no link. It lasts, so that what lasts below it does.
+    // A folder that is made, or was there before, and no link. It lasts, so that what lasts below it does: one that was there is synced
+    // again only where it is the docroot, or where folders were made before that may not be.
     fn make_folder(&self, folder: &str) -> Result<(), DiskFault> {
-        if let Err(fault) = fs::create_dir(&self.rt, folder)
-            && !self.is_folder(folder)
-        {
-            return Err(DiskFault::from(fault));
+        if let Err(fault) = fs::create_dir(&self.rt, folder) {
+            if !self.is_folder(folder) {
+                return Err(DiskFault::from(fault));
+            }
+            if self.folders_last && folder != self.folder.as_str() {
+                return Ok(());
+            }
         }
         sync_folder(&self.rt, parent(folder))
     }

@@ -1,6 +1,9 @@
-//! What follows from the definitions of files: a law, on a function that does nothing.
+//! What follows from the definitions of files: laws, on functions that do nothing.
 ghost use Rattle.std.specs.Prelude.{◌≡◌, ◌≢◌, ℕ, List, Some, None};
-ghost use Rattle.sp_outside.specs.Files.{Files, file_at, with_file, without_file};
+ghost use Rattle.std.specs.List.{All};
+ghost use Rattle.std.specs.declared.cmp.Ordering.TheVariants.{Less};
+ghost use Rattle.sp_base.specs.Names.{by_name};
+ghost use Rattle.sp_outside.specs.Files.{Files, IsEndlessWalk, IsListing, file_at, with_file, without_file};
 
 /// A file is what was written last under its name, and no other name's file changes with it.
 pub fn files_have_names()
@@ -8,4 +11,11 @@ pub fn files_have_names()
     ensures beside { (files : Files) (name other bytes : List ℕ) → other ≢ name → file_at (with_file files name bytes) other ≡ file_at files other }
     ensures removed { (files : Files) (name : List ℕ) → file_at (without_file files name) name ≡ None }
     ensures left { (files : Files) (name other : List ℕ) → other ≢ name → file_at (without_file files name) other ≡ file_at files other }
+{}
+
+/// A walk over the names of a disk ends, from whichever name of a list it goes on: the names that are listed after a name are greater, and
+/// names of at most `LONGEST_NAME` bytes can't rise without an end.
+pub fn walks_end()
+    ensures later { (prefix after : List ℕ) (most : ℕ) (names : List (List ℕ)) → IsListing prefix after most names → All (λ name. by_name after name ≡ Less) names }
+    ensures ends { (prefix : List ℕ) (most : ℕ) (after : ℕ → List ℕ) (lists : ℕ → List (List ℕ)) → IsEndlessWalk prefix most after lists → ⊥ }
 {}

@@ -21,7 +21,7 @@ mod source;
 mod words;
 
 pub use disk::{Disk, DiskFault, LONGEST_NAME};
-pub use laws::files_have_names;
+pub use laws::{files_have_names, walks_end};
 pub use mem_disk::{MemDisk, Plan, Way};
 pub use memory::{MemSink, MemSource};
 pub use real::{RealSink, RealSource};

@@ -1,5 +1,5 @@
 //! A disk in memory, which tells its files, and of which a chosen call fails, or every call from one on.
-ghost use Rattle.std.specs.Prelude.{◌≡◌, IfOk, IfErr, OnOk, OnErr, Some, None, take};
+ghost use Rattle.std.specs.Prelude.{◌≡◌, IfOk, IfErr, OnOk, is_ok, OnErr, Some, None, take};
 ghost use Rattle.std.specs.FinMap.{empty};
 ghost use Rattle.std.specs.Ordering.{is_lt};
 ghost use Rattle.sp_base.specs.Names.{by_name};
@@ -217,7 +217,7 @@ impl Disk for MemDisk {
         ensures value { IfOk result (λ found. found ≡ file_at self.old.files name.now) }
         ensures same { Some self.new.files ≡ Some self.old.files }
         ensures cause { HasDiskCause self.old.failed self.new.failed result }
-        ensures made { None ≡ told_call None (Get name.now) }
+        ensures made { None ≡ told_call None (Get name.now (is_ok result)) }
     {
         if self.begin().is_some() {
             return Err(self.fault());
@@ -234,7 +234,7 @@ impl Disk for MemDisk {
         ensures ok { OnOk result (Some self.new.files ≡ Some (with_file self.old.files name.now bytes.now)) }
         ensures err { IfErr result (IsOldOrNew (Some self.old.files) (Some (with_file self.old.files name.now bytes.now)) (Some self.new.files)) }
         ensures cause { HasDiskCause self.old.failed self.new.failed result }
-        ensures made { None ≡ told_call None (Put name.now bytes.now) }
+        ensures made { None ≡ told_call None (Put name.now bytes.now (is_ok result)) }
     {
         match self.begin() {
             None => Ok(self.write(name, bytes)?),
@@ -255,7 +255,7 @@ impl Disk for MemDisk {
         ensures err { IfErr result (IsOldOrNew (Some self.old.files) (Some (without_file self.old.files name.now)) (Some self.new.files)) }
         ensures fails { IfErr result (λ e. e ≡ DiskFault.Failed) }
         ensures cause { HasDiskCause self.old.failed self.new.failed result }
-        ensures made { None ≡ told_call None (Remove name.now) }
+        ensures made { None ≡ told_call None (Remove name.now (is_ok result)) }
     {
         match self.begin() {
             None => {
@@ -285,7 +285,7 @@ impl Disk for MemDisk {
         ensures value { IfOk result (λ names. names ≡ take most (names_after self.old.files prefix.now after.now)) }
         ensures same { Some self.new.files ≡ Some self.old.files }
         ensures cause { HasDiskCause self.old.failed self.new.failed result }
-        ensures made { None ≡ told_call None (Names prefix.now after.now most) }
+        ensures made { None ≡ told_call None (Names prefix.now after.now most (is_ok result)) }
     {
         if self.begin().is_some() {
             return Err(self.fault());

@@ -1,5 +1,5 @@
 //! Lists of names that grow in their order.
-ghost use Rattle.std.specs.Prelude.{◌≡◌, ◌∷◌, [], OnOk, IsTrue, length, slice_index_or};
+ghost use Rattle.std.specs.Prelude.{◌≡◌, ◌∷◌, [], OnOk, IsTrue, IsUtf8, length, slice_index_or};
 ghost use Rattle.std.specs.declared.cmp.Ordering.TheVariants.{Less};
 ghost use Rattle.sp_base.specs.Names.{by_name};
 ghost use Rattle.sp_outside.specs.Files.{IsListing, IsName};
@@ -28,8 +28,11 @@ fn goes_on(names: &NameList, after: &str, name: &str) -> bool
 }
 
 fn is_name(name: &str) -> bool
-    ensures { IsTrue result → IsName name.now }
+    ensures size { IsTrue result → IsName name.now }
+    ensures text { IsUtf8 name.now }
 {
+    // That a text is in UTF-8 is known once its bytes are read.
+    let _bytes = name.as_bytes();
     !name.is_empty() && name.len() <= LONGEST_NAME
 }
 

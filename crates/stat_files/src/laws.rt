@@ -1,7 +1,11 @@
 //! What follows from the definitions of stamps: laws, on functions that do nothing.
 ghost use Rattle.std.specs.Prelude.{◌≡◌, ◌≢◌, ◌⊎◌, ◌<◌, ◌≤◌, ◌^◌, ℕ, Bool, true, false, not, List, Some, None};
 ghost use Rattle.std.specs.List.{AllByRecursion};
-ghost use Rattle.sp_outside.specs.Files.{Files, file_at, with_file};
+ghost use Rattle.sp_outside.specs.Files.{Files, file_at, told_with, with_file};
+ghost use Rattle.sp_base.specs.Paths.{mangled};
+ghost use Rattle.docroot_format.specs.Faults.{IsLeftByFault};
+ghost use Rattle.docroot_format.specs.declared.fault.FileFault.{FileFault};
+ghost use Rattle.docroot_format.specs.declared.fault.FileFault.TheVariants.{Disk as disk_failed};
 ghost use Rattle.docroot_format.specs.Names.{are_bytes, stat_name};
 ghost use Rattle.docroot_format.specs.Readings.{stat_of};
 ghost use Rattle.docroot_format.specs.Texts.{stat_text};
@@ -57,9 +61,24 @@ pub fn a_touch_outdates_what_is_not_newer()
     ensures touched { (level : ℕ) (files : Files) (key : PageKey) (stamp page : Stamp) → stamp.epoch < 2 ^ 64 → stamp.count < 2 ^ 64
         → is_outdated level true (with_file files (stat_name (stat_folder level key)) (stat_text stamp.epoch stamp.count)) key page ≡ not (is_older stamp page) }
     ensures beside { (level : ℕ) (auto : Bool) (files : Files) (key : PageKey) (folder : List (List ℕ)) (stamp page : Stamp) → AllByRecursion are_bytes key.folder → AllByRecursion are_bytes folder
-        → folder ≢ stat_folder level key → is_outdated level auto (with_file files (stat_name folder) (stat_text stamp.epoch stamp.count)) key page ≡ is_outdated level auto files key page }
+        → mangled folder ≢ mangled (stat_folder level key) → is_outdated level auto (with_file files (stat_name folder) (stat_text stamp.epoch stamp.count)) key page ≡ is_outdated level auto files key page }
 {
     a_stamp_is_read_back();
     files_have_names();
     names_are_apart();
+}
+
+/// A touch that failed leaves the old stamp or, where the disk failed, the new one; each other file is as it was.
+pub fn a_failed_touch_leaves_the_old_stamp_or_the_new()
+    ensures whole { (files new : Files) (folder : List (List ℕ)) (stamp : Stamp) (fault : FileFault) → IsLeftByFault (Some files) (told_with (Some files) (stat_name folder) (stat_text stamp.epoch stamp.count)) (Some new) fault
+        → (new ≡ files) ⊎ ((fault ≡ disk_failed) × (new ≡ with_file files (stat_name folder) (stat_text stamp.epoch stamp.count))) }
+    ensures stamp { (files new : Files) (folder : List (List ℕ)) (stamp : Stamp) (fault : FileFault) → stamp.epoch < 2 ^ 64 → stamp.count < 2 ^ 64
+        → IsLeftByFault (Some files) (told_with (Some files) (stat_name folder) (stat_text stamp.epoch stamp.count)) (Some new) fault
+        → (stamp_at new folder ≡ stamp_at files folder) ⊎ (stamp_at new folder ≡ Some stamp) }
+    ensures beside { (files new : Files) (folder : List (List ℕ)) (stamp : Stamp) (fault : FileFault) (name : List ℕ)
+        → IsLeftByFault (Some files) (told_with (Some files) (stat_name folder) (stat_text stamp.epoch stamp.count)) (Some new) fault
+        → name ≢ stat_name folder → file_at new name ≡ file_at files name }
+{
+    a_stamp_is_read_back();
+    files_have_names();
 }

@@ -9,8 +9,9 @@ mod stat;
 mod tests;
 
 pub use laws::{
-    a_foreign_stamp_is_the_greatest, a_stamp_is_read_back, a_touch_outdates_what_is_not_newer,
-    stamps_are_in_order, what_outdates_a_page,
+    a_failed_touch_leaves_the_old_stamp_or_the_new, a_foreign_stamp_is_the_greatest,
+    a_stamp_is_read_back, a_touch_outdates_what_is_not_newer, stamps_are_in_order,
+    what_outdates_a_page,
 };
 pub use outdated::outdates_page;
 pub use stat::{stamp_of, touch};

@@ -4,10 +4,11 @@ ghost use Rattle.stat_files.specs.Outdated as spec;
 
 use cover_rules::Stamp;
 
+// Stamps are ordered by the session, then by the count.
 fn is_older(stamp: Stamp, other: Stamp) -> bool
     ensures { result ≡ spec.is_older stamp other }
 {
-    stamp.epoch < other.epoch || (stamp.epoch == other.epoch && stamp.count < other.count)
+    stamp < other
 }
 
 /// Whether the stamp of a page's .stat file, where there is one, outdates the page: it isn't older than the page's own. The .stat file is

@@ -1,7 +1,8 @@
 //! .stat files, written and read.
-ghost use Rattle.std.specs.Prelude.{◌≡◌, IfOk, IfErr, IfSome, OnOk, IsTrue};
+ghost use Rattle.std.specs.Prelude.{◌≡◌, IfOk, IfErr, IfSome, OnOk, IsTrue, is_ok};
 ghost use Rattle.sp_outside.specs.Calls.{Get, Put, told_call};
 ghost use Rattle.sp_outside.specs.Files.{told_with};
+ghost use Rattle.sp_base.specs.Paths.{mangled};
 ghost use Rattle.docroot_format.specs.Faults.{HasFileCause, IsLeftByFault};
 ghost use Rattle.docroot_format.specs.Names.{have_names};
 ghost use Rattle.docroot_format.specs.Names as name;
@@ -14,16 +15,16 @@ use sp_base::Path;
 use sp_outside::Disk;
 use std::alloc::Global;
 
-/// Gives a folder a stamp. The folder is a mangled path, each segment of which has a file name of at most 200 bytes. This takes no memory
-/// but what the disk's `put` takes.
+/// Gives a folder a stamp. Each of its segments, mangled, has a file name of at most 200 bytes. This takes no memory but what the disk's
+/// `put` takes.
 pub fn touch<D: Disk>(disk: &mut D, folder: &Path, stamp: Stamp) -> Result<(), FileFault>
-    requires { IsTrue (have_names folder.now) }
+    requires { IsTrue (have_names (mangled folder.now)) }
     ensures ok { OnOk result (D.files disk.new ≡ told_with (D.files disk.old) (name.stat_name folder.now) (text.stat_text stamp.epoch stamp.count)) }
     ensures err { IfErr result (IsLeftByFault (D.files disk.old) (told_with (D.files disk.old) (name.stat_name folder.now) (text.stat_text stamp.epoch stamp.count)) (D.files disk.new)) }
     ensures cause { HasFileCause (D.faults disk.old) (D.faults disk.new) result }
 
     // This call of the disk is made, and no other.
-    ensures made { D.calls disk.new ≡ told_call (D.calls disk.old) (Put (name.stat_name folder.now) (text.stat_text stamp.epoch stamp.count)) }
+    ensures made { D.calls disk.new ≡ told_call (D.calls disk.old) (Put (name.stat_name folder.now) (text.stat_text stamp.epoch stamp.count) (is_ok result)) }
 {
     let name = stat_name(folder);
     let text = stat_text(stamp.epoch, stamp.count);
@@ -45,20 +46,20 @@ fn stamp_in(bytes: &[u8]) -> Stamp
     }
 }
 
-/// The stamp of a folder, a mangled path, or None where it has no .stat file. A .stat file of another form has the greatest stamp, so that it
-/// outdates every page.
+/// The stamp of a folder, or None where it has no .stat file. A .stat file of another form has the greatest stamp, so that it outdates
+/// every page.
 pub fn stamp_of<D: Disk>(
     alloc: Global,
     disk: &mut D,
     folder: &Path,
 ) -> Result<Option<Stamp>, FileFault>
-    requires { IsTrue (have_names folder.now) }
+    requires { IsTrue (have_names (mangled folder.now)) }
     ensures value { IfOk result (λ stamp. IfSome (D.files disk.old) (λ files. stamp ≡ stamp_at files folder.now)) }
     ensures same { D.files disk.new ≡ D.files disk.old }
     ensures cause { HasFileCause (D.faults disk.old) (D.faults disk.new) result }
 
     // This call of the disk is made, and no other.
-    ensures made { D.calls disk.new ≡ told_call (D.calls disk.old) (Get (name.stat_name folder.now)) }
+    ensures made { D.calls disk.new ≡ told_call (D.calls disk.old) (Get (name.stat_name folder.now) (is_ok result)) }
 {
     let name = stat_name(folder);
     match disk.get(alloc, name.as_str()) {

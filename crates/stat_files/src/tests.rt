@@ -1,5 +1,6 @@
 //! Worked rows, and each call with its disk call failing, before and after its change.
 ghost use Rattle.std.specs.Prelude.{IfSome, IsTrue};
+ghost use Rattle.sp_base.specs.Paths.{mangled};
 ghost use Rattle.docroot_format.specs.Names.{have_names};
 
 use super::*;
@@ -14,9 +15,19 @@ const STAT: &str = "content/.stat";
 
 // The folder `/content`, whose segment's file name is `content`.
 fn content(alloc: Global) -> Option<Path>
-    ensures { IfSome result (λ folder. IsTrue (have_names folder)) }
+    ensures { IfSome result (λ folder. IsTrue (have_names (mangled folder))) }
 {
     match Path::read(alloc, "/content") {
+        Ok(folder) => Some(folder),
+        Err(_) => None,
+    }
+}
+
+// The folder `/content/jcr:content`, whose segments' file names are `content` and `_jcr_content`.
+fn below_content(alloc: Global) -> Option<Path>
+    ensures { IfSome result (λ folder. IsTrue (have_names (mangled folder))) }
+{
+    match Path::read(alloc, "/content/jcr:content") {
         Ok(folder) => Some(folder),
         Err(_) => None,
     }
@@ -57,6 +68,21 @@ fn keeps_a_stamp(rt: HostRuntime) -> Result<(), Fail> {
     assert_eq!(rt; disk.calls(), 2);
     assert!(rt; stands(rt.alloc(), &mut disk, "stat 1 1 5\n"));
     assert!(rt; stamp(rt.alloc(), &mut disk) == Ok(Some(Stamp { epoch: 1, count: 5 })));
+    Ok(())
+}
+
+#[test]
+fn a_stamp_stands_in_the_mangled_folder(rt: HostRuntime) -> Result<(), Fail> {
+    let mut disk = MemDisk::new(rt.alloc());
+    let Some(folder) = below_content(rt.alloc()) else {
+        assert!(rt; false);
+        return Ok(());
+    };
+    let stamp = Stamp { epoch: 1, count: 5 };
+    assert_eq!(rt; touch(&mut disk, &folder, stamp), Ok(()));
+    let found = disk.get(rt.alloc(), "content/_jcr_content/.stat");
+    assert!(rt; matches!(found, Ok(Some(_))));
+    assert!(rt; stamp_of(rt.alloc(), &mut disk, &folder) == Ok(Some(stamp)));
     Ok(())
 }
 

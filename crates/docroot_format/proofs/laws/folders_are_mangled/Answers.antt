@@ -1,3 +1,5 @@
+use Rattle.std.proofs.Common.{IsTrue, List, ℕ, codes, ◌++◌, ap, subst, sym}
+use Rattle.docroot_format.specs.Names.{folder_name, have_names}
 use Rattle.docroot_format.proofs.Folders.{page_file, page_folder, page_stat_folder, touched_folder}
 use Rattle.docroot_format.proofs.laws.folders_are_mangled.Goals as goal
 
@@ -12,3 +14,9 @@ returns-clause-stat c = λ level path key. page_stat_folder level path key (c.ma
 
 pub returns-clause-touched : goal.returns-clause-touched
 returns-clause-touched c = λ level inv folder. touched_folder level inv folder (c.mangling_and_unmangling.ensures.again inv.handle)
+
+pub returns-clause-names : goal.returns-clause-names
+returns-clause-names c = λ folder is. subst (λ (f : List (List ℕ)). IsTrue (have_names f)) (sym is.0) is.1
+
+pub returns-clause-one : goal.returns-clause-one
+returns-clause-one c = λ folder. ap (λ (f : List (List ℕ)). folder_name f ++ codes ".stat") (c.mangling_and_unmangling.ensures.again folder)

@@ -14,5 +14,6 @@ returns-in_ok-push c =
     (grows prefix c.args.after.now c.args.most names name c.requires
     (c.if-goes_on.ensures refl)
     (sym (starts_text c.starts_with.result prefix name c.starts_with.ensures.cases) ∙ c.if-starts_with.true)
-    (c.if-is_name.ensures refl)
+    (c.if-is_name.ensures.size refl)
+    c.if-is_name.ensures.text
     (omega (arith, c.if-len-most.true, c.len.ensures)))

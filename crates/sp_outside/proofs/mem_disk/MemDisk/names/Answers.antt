@@ -1,5 +1,5 @@
 use Rattle.std.proofs.Common.{◌≡◌, true, ◌≤◌, ◌++◌, ◌∷◌, [], List, ℕ, length, take, cond, map, sym, ◌∙◌, ap, subst, arith}
-use Rattle.std.specs.Prelude.{string_bytes}
+use Rattle.std.specs.Prelude.{IsUtf8, string_bytes}
 use Rattle.std.specs.List.{All, filter}
 use Rattle.std.specs.Map.Iter.{deref_pair}
 use Rattle.std.proofs.lemmas.Map.Iter.{rest_so_far, iter_end}
@@ -8,7 +8,7 @@ use Rattle.std.proofs.lemmas.Str.Pattern.{starts_text}
 use Rattle.sp_outside.specs.DiskMemory.{DiskState}
 use Rattle.sp_outside.specs.Files.{IsListing, IsName, has_prefix, names_after}
 use Rattle.sp_outside.specs.MemoryFiles.{files_of}
-use Rattle.sp_outside.proofs.Listing.{after_held, enough, all_names, lacking, one_more, listing, keys_held, sizes_held}
+use Rattle.sp_outside.proofs.Listing.{after_held, enough, all_names, lacking, one_more, listing, keys_held, sizes_held, texts_held}
 use Rattle.sp_outside.proofs.mem_disk.MemDisk.names.Goals as goal
 use Rattle.sp_outside.proofs.mem_disk.MemDisk.names.Goals.{in-None, in-Some+then-len-most, then-len-most-via-then-len-most, then-len-most-via-else-len-most+then-not-starts_with}
 
@@ -64,4 +64,5 @@ returns-clause-names c =
     let held = c.self.inside.files.entries in
     subst (IsListing c.args.prefix.now c.args.after.now c.args.most) (sym (found c))
     (listing (files_of held) c.args.prefix.now c.args.after.now c.args.most
-    (subst (All IsName) (sym (keys_held held c.self.invariant.rising)) (sizes_held held c.self.invariant.sizes)))
+    (subst (All IsName) (sym (keys_held held c.self.invariant.rising)) (sizes_held held c.self.invariant.sizes))
+    (subst (All IsUtf8) (sym (keys_held held c.self.invariant.rising)) (texts_held held)))

@@ -5,3 +5,4 @@ pub mod PartLemmas
 pub mod FormLemmas
 pub mod BodyLemmas
 pub mod UrlLemmas
+pub mod CauseLemmas

@@ -5,3 +5,4 @@ pub mod Boundaries
 pub mod Bodies
 pub mod Forms
 pub mod Words
+pub mod FormLaws

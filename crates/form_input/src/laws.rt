@@ -1,6 +1,7 @@
-//! What a multipart body is: laws of the definitions, on functions that do nothing.
+//! What a form and a multipart body are: laws of the definitions, on functions that do nothing.
 ghost use Rattle.std.specs.Prelude.{◌≡◌, ℕ, List, Ok};
 ghost use Rattle.form_input.specs.Bodies.{HasPairs};
+ghost use Rattle.form_input.specs.FormLaws.{FormsAreRefusedForCauses};
 ghost use Rattle.form_input.specs.Lines.{joined, lines};
 ghost use Rattle.form_input.specs.Multipart.{multipart_of};
 
@@ -10,4 +11,9 @@ pub fn the_parts_are_the_body()
     ensures found { (boundary body : List ℕ) (pairs : List (List ℕ × List ℕ)) → multipart_of boundary body ≡ Ok pairs → HasPairs boundary body pairs }
     ensures only { (boundary body : List ℕ) (pairs : List (List ℕ × List ℕ)) → HasPairs boundary body pairs → multipart_of boundary body ≡ Ok pairs }
     ensures lines { (body : List ℕ) → joined (lines body) ≡ body }
+{}
+
+/// What a form is refused for is a cause of its own: by definition none is out of memory.
+pub fn forms_are_refused_for_causes()
+    ensures { FormsAreRefusedForCauses }
 {}

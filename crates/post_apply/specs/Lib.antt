@@ -5,3 +5,4 @@ pub mod Values
 pub mod Carries
 pub mod Names
 pub mod Posting
+pub mod Laws

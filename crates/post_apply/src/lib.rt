@@ -4,6 +4,7 @@
 
 mod carries;
 mod fault;
+mod laws;
 mod modify;
 mod names;
 mod posting;
@@ -15,5 +16,6 @@ mod values;
 mod way;
 
 pub use fault::ApplyFault;
+pub use laws::{operations_keep_content_good, refusals_have_causes};
 pub use posting::{Planned, apply, patch_of};
 pub use report::PostReport;

@@ -4,5 +4,6 @@ pub mod PieceLemmas
 pub mod NodeLemmas
 pub mod SetLemmas
 pub mod NumberLemmas
-pub mod WayLemmas
+pub mod RelativeLemmas
 pub mod SlashLemmas
+pub mod NamedPaths

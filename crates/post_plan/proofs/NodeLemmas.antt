@@ -57,7 +57,7 @@ pub lead_root : (parent : List (List ℕ)) → length parent ≡ 0 → [] ≡ le
 lead_root [] h = refl
 lead_root (p ∷ parent) h = absurd (omega (arith, h))
 
--- a way that leaves a new node upwards leads to the same path from its parent, with one step less
+-- a relative path that leaves a new node upwards leads to the same path from its parent, with one step less
 pub led_under : (parent down : List (List ℕ)) (name : List ℕ) (up : ℕ) → 0 < up → led_to parent (record { up = up - 1; down = down }) ≡ led_to (parent ++ name ∷ []) (record { up = up; down = down })
 led_under parent down name up some =
     let len : length (parent ++ name ∷ []) ≡ length parent + 1 = omega (arith, length-append parent (name ∷ [])) in

@@ -1,14 +1,11 @@
 -- The pieces of a text, and paths of segments.
-use Rattle.std.proofs.Common.{◌≡◌, ◌≢◌, ◌<◌, ◌≤◌, ◌-◌, ◌+◌, ◌==◌, ℕ, zero, suc, Bool, true, false, cond, ◌&&◌, List, [], ◌∷◌, ◌++◌, Option, Some, None, drop, length, get_or, slice_get, refl, ap, sym, ◌∙◌, arith, append_assoc, add-one}
-use Rattle.std.specs.Prelude.{slice_index_or, nat_le}
-use Rattle.std.specs.List.{list_all}
+use Rattle.std.proofs.Common.{◌≡◌, ◌≢◌, ◌<◌, ◌≤◌, ◌-◌, ◌+◌, ◌==◌, ℕ, zero, suc, Bool, true, false, cond, List, [], ◌∷◌, ◌++◌, Option, Some, None, drop, take, length, map, Bor, get_or, slice_get, refl, ap, sym, ◌∙◌, arith, append_assoc}
+use Rattle.std.specs.Prelude.{slice_index_or}
 use Rattle.std.proofs.lemmas.Bool.Decides.{nat_tests}
-use Rattle.std.proofs.Math.Seq.{drop-cons}
 use Rattle.std.proofs.lemmas.List.Splits.{slice_split_at, slice_split_none}
 use Rattle.std.proofs.lemmas.List.Elements.{All-from_get_or}
-use Rattle.std.proofs.lemmas.List.Folds.{list_all-append}
-use Rattle.std.proofs.lemmas.List.{append-nil, length-append}
-use Rattle.sp_base.specs.Paths.{pieces, path_or_none, is_path, seg_ok, most_segments}
+use Rattle.std.proofs.lemmas.List.{append-nil, take_rest}
+use Rattle.sp_base.specs.Paths.{pieces, path_or_none, is_path}
 use Rattle.post_plan.specs.Spots.{own_name}
 
 lacks : (b : ℕ) → b ≢ 47 → (b == 47) ≡ false
@@ -41,11 +38,14 @@ longer path next rest seg all some same = go (is_path (path ++ seg ∷ [])) some
     go true e = let is : next ≡ path ++ seg ∷ [] = cc in ap path_or_none (ap (λ (l : List (List ℕ)). l ++ rest) is ∙ append_assoc path (seg ∷ []) rest) ∙ same
     go false e = absurd cc
 
+-- the same of the first of names that are lent
+pub lent_longer : (path next : List (List ℕ)) (names : List (Bor (List ℕ))) (d : Bor (List ℕ)) (found all : Option (List (List ℕ))) → 1 ≤ length names → found ≡ path_or_none (path ++ (get_or names 0 d).now ∷ []) → found ≡ Some next
+    → path_or_none (path ++ map (λ (n : Bor (List ℕ)). n.now) names) ≡ all → path_or_none (next ++ map (λ (n : Bor (List ℕ)). n.now) (take (length names - 1) (drop 1 names))) ≡ all
+lent_longer path next [] d found all some is there same = absurd (omega (arith, some))
+lent_longer path next (name ∷ more) d found all some is there same = rw take_rest (longer path next (map (λ (n : Bor (List ℕ)). n.now) more) name.now all (sym there ∙ is) same)
+
 pub whole : (path : List (List ℕ)) (all : Option (List (List ℕ))) → is_path path ≡ true → path_or_none (path ++ []) ≡ all → Some path ≡ all
 whole path all valid same = sym (ap (λ (b : Bool). cond b (Some path) None) valid) ∙ ap path_or_none (sym (append-nil path)) ∙ same
-
-pub name_at : (names : List (List ℕ)) (i : ℕ) (name : List ℕ) → i < length names → name ≡ get_or names i name → drop i names ≡ name ∷ drop (i + 1) names
-name_at names i name lt e = rw (add-one) (drop-cons names i name lt ∙ ap (λ (p : List ℕ). p ∷ drop (suc i) names) (sym e))
 
 -- ---- the last segment of a path
 

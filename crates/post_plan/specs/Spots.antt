@@ -4,11 +4,11 @@ use Rattle.std.specs.List.{starts_with, ends_with}
 use Rattle.sp_base.specs.Paths.{seg_ok, pieces, path_of, path_or_none, is_under, parent_of}
 use Rattle.sp_base.specs.declared.path.PathFault.{PathFault}
 use Rattle.post_plan.specs.declared.spot.Spot.{Spot}
-use Rattle.post_plan.specs.Ways.{Way, way_of}
+use Rattle.post_plan.specs.RelativePaths.{RelativePath, relative_path_of}
 
--- the path that a way leads to from a node; none above the root, or where there are too many segments
-abbrev pub led_to : List (List ℕ) → Way → Option (List (List ℕ))
-led_to node way = if nat_le way.up (length node) then path_or_none (take (length node - way.up) node ++ way.down) else None
+-- the path that a relative path leads to from a node; none above the root, or where there are too many segments
+abbrev pub led_to : List (List ℕ) → RelativePath → Option (List (List ℕ))
+led_to node relative = if nat_le relative.up (length node) then path_or_none (take (length node - relative.up) node ++ relative.down) else None
 
 abbrev pub is_absolute : List ℕ → Bool
 is_absolute text = starts_with nat_eq text (codes "/")
@@ -29,9 +29,9 @@ abbrev pub spot_below : Option (List (List ℕ)) → Option Spot
 spot_below None = None
 spot_below (Some path) = Some (record { at_target = true; path = path })
 
--- a way that stays below its node is kept relative to it
-abbrev pub relative_spot : List (List ℕ) → Way → Option Spot
-relative_spot node way = if way.up == 0 then spot_below (path_or_none way.down) else spot_there (led_to node way)
+-- one that stays below its node is kept relative to it
+abbrev pub relative_spot : List (List ℕ) → RelativePath → Option Spot
+relative_spot node relative = if relative.up == 0 then spot_below (path_or_none relative.down) else spot_there (led_to node relative)
 
 -- the path of a spot below a node
 abbrev pub full_path : List (List ℕ) → Spot → List (List ℕ)
@@ -46,7 +46,7 @@ if_changeable node spot = if is_reserved (full_path node spot) then None else So
 
 -- the place of a text that names one, absolute or seen from a node
 abbrev pub any_spot : List (List ℕ) → List ℕ → Option Spot
-any_spot node text = if is_absolute text then spot_there (ok_path (path_of text)) else option_and_then (relative_spot node) (way_of text)
+any_spot node text = if is_absolute text then spot_there (ok_path (path_of text)) else option_and_then (relative_spot node) (relative_path_of text)
 
 -- the property or node that a text names, seen from a node
 abbrev pub spot_of : List (List ℕ) → List ℕ → Option Spot
@@ -60,7 +60,7 @@ abbrev pub word_without_slash : List ℕ → List ℕ
 word_without_slash word = if goes_under word then take (length word - 1) word else word
 
 abbrev pub goal_base : List (List ℕ) → List ℕ → Option (List (List ℕ))
-goal_base parent text = if is_absolute text then ok_path (path_of text) else (if ends_in_name text then option_and_then (led_to parent) (way_of text) else None)
+goal_base parent text = if is_absolute text then ok_path (path_of text) else (if ends_in_name text then option_and_then (led_to parent) (relative_path_of text) else None)
 
 abbrev pub unless_reserved : Option (List (List ℕ)) → Option (List (List ℕ))
 unless_reserved None = None

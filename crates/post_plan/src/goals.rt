@@ -4,8 +4,8 @@ ghost use Rattle.sp_base.specs.Paths.{path_or_none};
 ghost use Rattle.post_plan.specs.Spots as spec;
 
 use crate::node::is_reserved;
+use crate::relative::relative_path_of;
 use crate::spots::{ends_in_name, is_absolute, led_to, path_in};
-use crate::way::way_of;
 use sp_base::{Mem, Path};
 use std::alloc::Global;
 
@@ -34,8 +34,8 @@ fn goal_base(alloc: Global, parent: &Path, text: &str) -> Mem<Option<Path>>
     if !ends_in_name(text) {
         return Ok(None);
     }
-    match way_of(alloc, text)? {
-        Some(way) => led_to(alloc, parent, &way),
+    match relative_path_of(alloc, text)? {
+        Some(relative) => led_to(alloc, parent, &relative),
         None => Ok(None),
     }
 }

@@ -12,8 +12,12 @@ use crate::hints::hint_of;
 use crate::suffix::Suffix;
 use crate::words::words_of;
 use crate::{PropSet, SetList, Spot};
-use sp_base::{Hint, Mem, Path, TextBuf, TextList};
+use sp_base::{Hint, Mem, NoMemory, Path, TextBuf, TextList};
 use std::alloc::Global;
+
+/// The most bytes of words that one form sets, as many as a whole content is read from. A form has fewer of its own, but `@ValueFrom` may
+/// name a long one for each of its parameters.
+const MOST_BYTES: usize = 67_108_864;
 
 fn same_bool(one: bool, other: bool) -> bool
     ensures { result ≡ spec.same_bool one other }
@@ -198,6 +202,17 @@ fn set_here(
     set_of(alloc, pairs, entries, &entry.spot)
 }
 
+// The bytes of the words that are set.
+fn bytes_of(set: &Option<PropSet>) -> usize {
+    let mut bytes = 0usize;
+    if let Some(set) = set {
+        for word in set.words.as_slice() {
+            bytes = bytes.saturating_add(word.text().len());
+        }
+    }
+    bytes
+}
+
 fn add(list: &mut SetList, set: Option<PropSet>) -> Mem<()>
     ensures { OnOk result (list.new ≡ list.old ++ cons_option set []) }
 {
@@ -207,14 +222,19 @@ fn add(list: &mut SetList, set: Option<PropSet>) -> Mem<()>
     }
 }
 
-/// The properties that are set, each at the place of the first parameter that names it.
+/// The properties that are set, each at the place of the first parameter that names it. Words of too many bytes are out of memory.
 #[tactic(auto, using(crate::proofs::SetLemmas::turn, crate::proofs::SetLemmas::done))]
 pub fn sets(alloc: Global, pairs: &[(TextBuf, TextBuf)], entries: &[Entry]) -> Mem<SetList>
     ensures { IfOk result (λ l. l ≡ spec.sets pairs.now entries.now) }
 {
     let mut list = SetList::new(alloc);
+    let mut bytes = 0usize;
     for n in 0..entries.len() {
         let set = set_here(alloc, pairs, entries, &entries[..n], &entries[n])?;
+        bytes = bytes.saturating_add(bytes_of(&set));
+        if bytes > MOST_BYTES {
+            return Err(NoMemory);
+        }
         add(&mut list, set)?;
     }
     Ok(list)

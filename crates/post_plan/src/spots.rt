@@ -1,12 +1,12 @@
 //! The places that texts name, seen from a node.
-ghost use Rattle.std.specs.Prelude.{◌≡◌, ◌<◌, ◌++◌, ◌-◌, IfOk, not, option_and_then, length, option_copied, slice_get};
+ghost use Rattle.std.specs.Prelude.{◌≡◌, ◌<◌, ◌++◌, ◌-◌, IfOk, not, option_and_then, length, map, option_copied, slice_get};
 ghost use Rattle.sp_base.specs.Paths.{path_or_none, pieces, path_of};
 ghost use Rattle.post_plan.specs.Spots as spec;
 
 use crate::Spot;
 use crate::node::{Node, is_reserved, is_reserved_below};
-use crate::way::{Way, way_of};
-use sp_base::{Mem, NoMemory, Path, PathFault, TextBuf, seg_ok};
+use crate::relative::{RelativePath, relative_path_of};
+use sp_base::{Mem, NoMemory, Path, PathFault, seg_ok};
 use std::alloc::Global;
 
 fn count(text: &str) -> usize
@@ -38,15 +38,17 @@ pub fn is_absolute(text: &str) -> bool
 }
 
 // The path with further segments, where that is one.
-fn extended(alloc: Global, base: Path, names: &[TextBuf]) -> Mem<Option<Path>>
-    ensures { IfOk result (λ o. o ≡ path_or_none (base ++ names.now)) }
+fn extended(alloc: Global, base: Path, names: &[&str]) -> Mem<Option<Path>>
+    ensures { IfOk result (λ o. o ≡ path_or_none (base ++ map (λ n. n.now) names.now)) }
 {
     let mut path = base;
-    for name in names {
-        let Some(next) = path.child_or_none(alloc, name.text())? else {
+    let mut rest = names;
+    while let [name, more @ ..] = rest {
+        let Some(next) = path.child_or_none(alloc, name)? else {
             return Ok(None);
         };
         path = next;
+        rest = more;
     }
     // That the segments make a path is a clause of its depth.
     let _depth = path.depth();
@@ -66,16 +68,16 @@ pub fn path_in(alloc: Global, text: &str) -> Mem<Option<Path>>
     }
 }
 
-// The path that a way leads to from a node.
-pub fn led_to(alloc: Global, node: &Path, way: &Way) -> Mem<Option<Path>>
-    ensures { IfOk result (λ o. o ≡ spec.led_to node.now way.now) }
+// The path that a relative path leads to from a node.
+pub fn led_to(alloc: Global, node: &Path, relative: &RelativePath) -> Mem<Option<Path>>
+    ensures { IfOk result (λ o. o ≡ spec.led_to node.now relative.now) }
 {
     let depth = node.depth();
-    if way.up > depth {
+    if relative.up > depth {
         return Ok(None);
     }
-    let above = node.first(alloc, depth - way.up)?;
-    extended(alloc, above, way.down.as_slice())
+    let above = node.first(alloc, depth - relative.up)?;
+    extended(alloc, above, relative.down.as_slice())
 }
 
 fn absolute_spot(path: Option<Path>) -> Option<Spot>
@@ -102,29 +104,29 @@ fn spot_below(path: Option<Path>) -> Option<Spot>
     }
 }
 
-// The path that a way leads to from a node which it leaves upwards.
+// The path that a relative path leads to from a node which it leaves upwards.
 #[tactic(auto, using(crate::proofs::NodeLemmas::led_under))]
-fn led_up(alloc: Global, node: &Node, way: Way) -> Mem<Option<Path>>
-    requires { 0 < way.up }
-    ensures { IfOk result (λ o. o ≡ spec.led_to node.now way) }
+fn led_up(alloc: Global, node: &Node, relative: RelativePath) -> Mem<Option<Path>>
+    requires { 0 < relative.up }
+    ensures { IfOk result (λ o. o ≡ spec.led_to node.now relative.entry) }
 {
     match node.name {
-        None => led_to(alloc, node.parent, &way),
+        None => led_to(alloc, node.parent, &relative),
         Some(_) => {
-            let Way { up, down } = way;
-            led_to(alloc, node.parent, &Way { up: up - 1, down })
+            let RelativePath { up, down } = relative;
+            led_to(alloc, node.parent, &RelativePath { up: up - 1, down })
         }
     }
 }
 
-fn relative_spot(alloc: Global, node: &Node, way: Way) -> Mem<Option<Spot>>
-    ensures { IfOk result (λ o. o ≡ spec.relative_spot node.now way) }
+fn relative_spot(alloc: Global, node: &Node, relative: RelativePath) -> Mem<Option<Spot>>
+    ensures { IfOk result (λ o. o ≡ spec.relative_spot node.now relative.entry) }
 {
-    if way.up == 0 {
-        let path = extended(alloc, Path::root(alloc), way.down.as_slice())?;
+    if relative.up == 0 {
+        let path = extended(alloc, Path::root(alloc), relative.down.as_slice())?;
         return Ok(spot_below(path));
     }
-    Ok(absolute_spot(led_up(alloc, node, way)?))
+    Ok(absolute_spot(led_up(alloc, node, relative)?))
 }
 
 fn any_spot(alloc: Global, node: &Node, text: &str) -> Mem<Option<Spot>>
@@ -133,8 +135,8 @@ fn any_spot(alloc: Global, node: &Node, text: &str) -> Mem<Option<Spot>>
     if is_absolute(text) {
         return Ok(absolute_spot(path_in(alloc, text)?));
     }
-    match way_of(alloc, text)? {
-        Some(way) => relative_spot(alloc, node, way),
+    match relative_path_of(alloc, text)? {
+        Some(relative) => relative_spot(alloc, node, relative),
         None => Ok(None),
     }
 }

@@ -1,0 +1,36 @@
+-- What holds of every POST.
+use Rattle.std.specs.Prelude.{◌≡◌, Bool, true, false, IsTrue, IfErr}
+use Rattle.resource_tree.specs.declared.faults.TreeFault.{TreeFault}
+use Rattle.resource_tree.specs.declared.faults.TreeFault.TheVariants.{NoSuch, RootFixed, IntoItself, Exists, Taken, NoSibling, TooDeep, FullTree, NoMemory as NoMemoryOfTree}
+use Rattle.resource_tree.specs.Content.{Content, IsGood}
+use Rattle.post_plan.specs.declared.operation.Op.{Op}
+use Rattle.post_plan.specs.OperationPaths.{names_paths}
+use Rattle.post_apply.specs.declared.fault.ApplyFault.{ApplyFault}
+use Rattle.post_apply.specs.declared.fault.ApplyFault.TheVariants.{Tree, Value, DestThere, NoMemory}
+use Rattle.post_apply.specs.Posting.{content_after, posted}
+
+-- an operation whose paths are paths leaves a good content good
+abbrev pub OperationsKeepContentGood : Type 0
+OperationsKeepContentGood = (op : Op) (tree : Content) → IsTrue (names_paths op) → IsGood tree → IsGood (content_after op tree)
+
+abbrev pub tree_wants_memory : TreeFault → Bool
+tree_wants_memory (NoSuch path) = false
+tree_wants_memory RootFixed = false
+tree_wants_memory IntoItself = false
+tree_wants_memory (Exists path) = false
+tree_wants_memory (Taken path) = false
+tree_wants_memory NoSibling = false
+tree_wants_memory TooDeep = false
+tree_wants_memory FullTree = false
+tree_wants_memory NoMemoryOfTree = true
+
+-- a fault that is no cause of the content's or the form's
+abbrev pub wants_memory : ApplyFault → Bool
+wants_memory (Tree fault) = tree_wants_memory fault
+wants_memory (Value name fault) = false
+wants_memory (DestThere path) = false
+wants_memory NoMemory = true
+
+-- what an operation is refused for is never out of memory
+abbrev pub RefusalsHaveCauses : Type 0
+RefusalsHaveCauses = (op : Op) (tree : Content) → IfErr (posted op tree) (λ fault. wants_memory fault ≡ false)

@@ -1,0 +1,12 @@
+//! What holds of every POST: laws of the definitions, on functions that do nothing.
+ghost use Rattle.post_apply.specs.Laws.{OperationsKeepContentGood, RefusalsHaveCauses};
+
+/// Whatever an operation does, the content after it is one that a tree has: with a node above each, no name twice and at most 200,000 nodes.
+pub fn operations_keep_content_good()
+    ensures { OperationsKeepContentGood }
+{}
+
+/// What an operation is refused for is a cause of its own: by definition none is out of memory.
+pub fn refusals_have_causes()
+    ensures { RefusalsHaveCauses }
+{}

@@ -64,10 +64,6 @@ pub empty_from : {X : Type 0} (xs : List X) → length xs ≡ 0 → xs ≡ []
 empty_from [] e = refl
 empty_from (x ∷ xs) e = absurd (omega (arith, e))
 
-first_among : (paths : List (List (List ℕ))) → 0 < length paths → list_any (same_path (first_path paths)) paths ≡ true
-first_among [] some = absurd (omega (arith, some))
-first_among (p ∷ paths) some = ap (λ b. b || list_any (same_path p) paths) (same_path_self p)
-
 -- what a claimant of a text is: a node that is below another and has an alias that the text spells
 pub record Claimant (tree : Content) (q : List (List ℕ)) (text : List ℕ) : Type 0 where
   pub node : Node
@@ -76,10 +72,6 @@ pub record Claimant (tree : Content) (q : List (List ℕ)) (text : List ℕ) : T
   pub alias : List ℕ
   pub segment : seg_ok alias ≡ true
   pub spelled : text ≡ text_of (kid (parent_of q) alias)
-
-none_from : (o : Option Node) → is_none o ≡ true → o ≡ None
-none_from None is = refl
-none_from (Some node) is = absurd (false≢true is)
 
 module _ (read : IsReadBack) (tree : Content) (good : IsTree (node_at tree)) where
   there_valid : (q : List (List ℕ)) (node : Node) → node_at tree q ≡ Some node → is_path q ≡ true
@@ -119,94 +111,8 @@ module _ (read : IsReadBack) (tree : Content) (good : IsTree (node_at tree)) whe
             }
       ] refl claims
 
-  -- the path that a claimed text spells
-  pub spelled_path : (q : List (List ℕ)) (text : List ℕ) (c : Claimant tree q text) → is_path (kid (parent_of q) c.alias) ≡ true
-  spelled_path q text c =
-      valid_sibling (parent_of q) (name_of q) c.alias (ap is_path (kid_parts q c.below) ∙ there_valid q c.node c.there) c.segment
-
-  -- the free text that a claimant claims is the alias of the first kid that claims it
-  pub alias_from : (rows : ClaimRows) (text : List ℕ) (q path : List (List ℕ)) → AreClaims (claims_alias tree) rows → (c : Claimant tree q text) → is_free tree text ≡ true
-      → Some path ≡ first_kid tree (parent_of q) (claimants rows text) → IsAlias tree text path
-  alias_from rows text q path claims c free first =
-      let p = parent_of q in
-      let kids = kids_at tree p in
-      let test : List ℕ → Bool = λ name. list_any (same_path (kid p name)) (claimants rows text) in
-      let alike : (name : List ℕ) → test name ≡ has_alias tree (kid p name) c.alias = λ name. claims text (kid p name) ∙ ap (claims_alias tree (kid p name)) c.spelled ∙ claims_is p name c.alias c.segment in
-      let at : is_free_at tree (path_of text) ≡ is_none (node_at tree (kid p c.alias)) = ap (λ t. is_free_at tree (path_of t)) c.spelled ∙ ap (is_free_at tree) (read (kid p c.alias) (spelled_path q text c)) in
-      elim (find test kids) as (λ o. find test kids ≡ o → Some path ≡ option_map (kid p) o → IsAlias tree text path) [
-        | None ↦ λ is e. cc
-        | Some name ↦ λ is e.
-            record {
-              parent = p;
-              name = name;
-              alias = c.alias;
-              path_is = cc;
-              text_is = c.spelled;
-              segment = c.segment;
-              free = none_from (node_at tree (kid p c.alias)) (sym at ∙ free);
-              first = sym (find_alike test (λ sibling. has_alias tree (kid p sibling) c.alias) alike kids) ∙ is;
-            }
-      ] refl first
-
   -- what an alias names claims its text
   pub alias_claims : (text : List ℕ) (path : List (List ℕ)) → IsAlias tree text path → claims_alias tree path text ≡ true
   alias_claims text path a =
       ap (λ q. claims_alias tree q text) a.path_is ∙ ap (claims_alias tree (kid a.parent a.name)) a.text_is ∙ claims_is a.parent a.name a.alias a.segment
       ∙ find_passes (λ sibling. has_alias tree (kid a.parent sibling) a.alias) (kids_at tree a.parent) a.name a.first
-
-  -- no alias without a claimant
-  pub none_claimed : (rows : ClaimRows) (text : List ℕ) (path : List (List ℕ)) → AreClaims (claims_alias tree) rows → claimants rows text ≡ [] → IsAlias tree text path → ⊥
-  none_claimed rows text path claims none a = false≢true (sym (ap (list_any (same_path path)) none) ∙ claims text path ∙ alias_claims text path a)
-
-  -- nor at a text that spells a node's path
-  pub none_taken : (text : List ℕ) (path : List (List ℕ)) → is_free tree text ≡ false → IsAlias tree text path → ⊥
-  none_taken text path taken a =
-      let c = claimant_is path text (alias_claims text path a) in
-      let valid : is_path (kid a.parent a.alias) ≡ true = valid_sibling a.parent a.name a.alias (ap is_path (sym a.path_is) ∙ there_valid path c.node c.there) a.segment in
-      true≢false (sym (ap is_none a.free) ∙ sym (ap (λ t. is_free_at tree (path_of t)) a.text_is ∙ ap (is_free_at tree) (read (kid a.parent a.alias) valid)) ∙ taken)
-
-  -- nor where no kid claims it
-  pub none_first : (rows : ClaimRows) (text : List ℕ) (q path : List (List ℕ)) → AreClaims (claims_alias tree) rows → Claimant tree q text → None ≡ first_kid tree (parent_of q) (claimants rows text) → IsAlias tree text path → ⊥
-  none_first rows text q path claims c none a =
-      let other = claimant_is path text (alias_claims text path a) in
-      let valid : is_path (kid a.parent a.alias) ≡ true = valid_sibling a.parent a.name a.alias (ap is_path (sym a.path_is) ∙ there_valid path other.node other.there) a.segment in
-      let one = path_from_text read (kid (parent_of q) c.alias) (kid a.parent a.alias) (spelled_path q text c) valid (sym c.spelled ∙ a.text_is) in
-      let p : parent_of q ≡ a.parent = kid_parent (parent_of q) a.parent c.alias a.alias one in
-      let alike : (name : List ℕ) → list_any (same_path (kid a.parent name)) (claimants rows text) ≡ has_alias tree (kid a.parent name) a.alias =
-      λ name. claims text (kid a.parent name) ∙ ap (claims_alias tree (kid a.parent name)) a.text_is ∙ claims_is a.parent name a.alias a.segment in
-      let found = find_alike (λ name. list_any (same_path (kid a.parent name)) (claimants rows text)) (λ name. has_alias tree (kid a.parent name) a.alias) alike (kids_at tree a.parent) ∙ a.first in
-      let bad : None ≡ Some (kid a.parent a.name) = none ∙ ap (λ r. first_kid tree r (claimants rows text)) p ∙ ap (option_map (kid a.parent)) found in
-      cc
-
-  -- ---- from the list of claimants
-
-  pub first_claims : (rows : ClaimRows) (text : List ℕ) → AreClaims (claims_alias tree) rows → 0 < length (claimants rows text) → claims_alias tree (first_path (claimants rows text)) text ≡ true
-  first_claims rows text claims some = sym (claims text (first_path (claimants rows text))) ∙ first_among (claimants rows text) some
-
-  pub first_is : (rows : ClaimRows) (text : List ℕ) → AreClaims (claims_alias tree) rows → 0 < length (claimants rows text) → Claimant tree (first_path (claimants rows text)) text
-  first_is rows text claims some = claimant_is (first_path (claimants rows text)) text (first_claims rows text claims some)
-
-  -- the pair of an alias
-  pub is_alias_pair : (rows : ClaimRows) (text : List ℕ) (pair : Pair) (path : List (List ℕ)) → AreClaims (claims_alias tree) rows → 0 < length (claimants rows text) → is_free tree text ≡ true
-      → Some path ≡ first_kid tree (parent_of (first_path (claimants rows text))) (claimants rows text) → pair.target ≡ text_of path → pair.away ≡ None → HasAlias tree text pair
-  is_alias_pair rows text pair path claims some free first target inside = record {
-    path = path;
-    alias = alias_from rows text (first_path (claimants rows text)) path claims (first_is rows text claims some) free first;
-    target = target;
-    inside = inside;
-  }
-
-  -- no pair of an alias, unless some node claims the text, ..
-  pub no_alias_claimed : (rows : ClaimRows) (text : List ℕ) → AreClaims (claims_alias tree) rows → length (claimants rows text) ≡ 0 → (pair : Pair) → pair.kind ≡ Alias → IsPair tree None text pair → ⊥
-  no_alias_claimed rows text claims none pair is has =
-      let a = subst (λ kind. IsPairOf kind tree None text pair) is has in none_claimed rows text a.path claims (empty_from (claimants rows text) none) a.alias
-
-  -- .. no node is there, ..
-  pub no_alias_taken : (text : List ℕ) → is_free tree text ≡ false → (pair : Pair) → pair.kind ≡ Alias → IsPair tree None text pair → ⊥
-  no_alias_taken text taken pair is has = let a = subst (λ kind. IsPairOf kind tree None text pair) is has in none_taken text a.path taken a.alias
-
-  -- .. and a kid claims it
-  pub no_alias_first : (rows : ClaimRows) (text : List ℕ) → AreClaims (claims_alias tree) rows → 0 < length (claimants rows text) → None ≡ first_kid tree (parent_of (first_path (claimants rows text))) (claimants rows text)
-      → (pair : Pair) → pair.kind ≡ Alias → IsPair tree None text pair → ⊥
-  no_alias_first rows text claims some none pair is has =
-      let a = subst (λ kind. IsPairOf kind tree None text pair) is has in none_first rows text (first_path (claimants rows text)) a.path claims (first_is rows text claims some) none a.alias

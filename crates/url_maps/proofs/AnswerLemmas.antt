@@ -214,7 +214,7 @@ module _ (read : IsReadBack) (spelled : IsSpelled) (valid : (text : List ℕ) (p
   alias_read : (text : List ℕ) (path : List (List ℕ)) (a : IsAlias tree text path) → path_of text ≡ Ok (kid a.parent a.alias)
   alias_read text path a = ap path_of a.text_is ∙ read (kid a.parent a.alias) (alias_path read tree good text path a)
 
-  below_root : (path : List (List ℕ)) → node_at tree path ≡ None → 0 < length path
+  pub below_root : (path : List (List ℕ)) → node_at tree path ≡ None → 0 < length path
   below_root [] none = absurd (true≢false (sym good.root ∙ ap is_some none))
   below_root (s ∷ path) none = omega arith
 
@@ -255,7 +255,7 @@ module _ (read : IsReadBack) (spelled : IsSpelled) (valid : (text : List ℕ) (p
         )
       ] refl
 
-  alias_is : (prefix : List ℕ) → IsOf Alias tree None prefix (alias_with tree prefix)
+  pub alias_is : (prefix : List ℕ) → IsOf Alias tree None prefix (alias_with tree prefix)
   alias_is prefix =
       elim (path_of prefix) as (λ r. path_of prefix ≡ r → IsOf Alias tree None prefix (alias_at tree r)) [
         | Err e ↦ λ bad pair is has. let a = subst (λ kind. IsPairOf kind tree None prefix pair) is has in let same = alias_read prefix a.path a.alias in cc

@@ -21,9 +21,9 @@ use Rattle.resource_tree.specs.declared.patch.PatchNode.{PatchNode}
 use Rattle.resource_tree.specs.declared.patch.PatchNode.TheVariants as there
 use Rattle.resource_tree.specs.Content.{Content, by_path, node_at, same_path}
 use Rattle.resource_tree.specs.Patches as patches
-use Rattle.url_maps.specs.Claims.{AreClaims, ClaimRows, claimants, claims_alias, claims_vanity_path, node_claims_alias, node_claims_vanity_path}
-use Rattle.url_maps.specs.Changes.{AreChanged, claimants_over, patched_alias, patched_vanity_path}
-use Rattle.url_maps.specs.Noting.{Notes, NotesRow, has_row, is_at_some, kept, left_alias, left_vanity_path, noted}
+use Rattle.url_maps.specs.Claims.{AreClaims, ClaimRows, claimants, claims_vanity_path, node_claims_vanity_path}
+use Rattle.url_maps.specs.Changes.{AreChanged, claimants_over, patched_vanity_path}
+use Rattle.url_maps.specs.Noting.{Notes, NotesRow, has_row, is_at_some, kept, left_vanity_path, noted}
 use Rattle.url_maps.proofs.ClaimLemmas.{and_false, more_words, no_words, or_false, text_sym}
 use Rattle.url_maps.proofs.PathLemmas.{path_from_same}
 
@@ -232,16 +232,7 @@ changed_by rows patch before after left changed claims once noted_all is t q =
           ∙ sym (is q t)
     ] refl
 
--- ---- the two kinds of claims
-
-pub after_alias : (tree : Content) (patch : patches.Rows) (q : List (List ℕ)) (t : List ℕ) → patched_alias tree patch q t ≡ option_map_or (λ row. left_alias q row t) (patches.row_at patch q) (claims_alias tree q t)
-unfolding claims_alias
-after_alias tree patch q t =
-    elim (patches.row_at patch q) as (λ o. option_map_or (λ (n : Node). node_claims_alias q n t) (patches.left_by o (node_at tree q)) false ≡ option_map_or (λ row. left_alias q row t) o (option_map_or (λ (n : Node). node_claims_alias q n t) (node_at tree q) false)) [
-      | None ↦ refl
-      | Some (there.Node node) ↦ refl
-      | Some there.Gone ↦ refl
-    ]
+-- ---- vanity paths
 
 pub after_vanity_path : (tree : Content) (patch : patches.Rows) (q : List (List ℕ)) (t : List ℕ) → patched_vanity_path tree patch q t ≡ option_map_or (λ row. left_vanity_path q row t) (patches.row_at patch q) (claims_vanity_path tree q t)
 unfolding claims_vanity_path
@@ -268,10 +259,6 @@ pub claims_alike : (before after : List (List ℕ) → List ℕ → Bool) (rows 
 claims_alike before after rows same claims t q = claims t q ∙ same q t
 
 -- the claims of a tree that shows what a patch over another does
-pub alias_after : (tree after : Content) (patch : patches.Rows) → ((q : List (List ℕ)) → node_at after q ≡ patches.patching_at tree patch q) → (q : List (List ℕ)) (t : List ℕ) → patched_alias tree patch q t ≡ claims_alias after q t
-unfolding claims_alias
-alias_after tree after patch shows q t = ap (λ o. option_map_or (λ (n : Node). node_claims_alias q n t) o false) (sym (shows q))
-
 pub vanity_path_after : (tree after : Content) (patch : patches.Rows) → ((q : List (List ℕ)) → node_at after q ≡ patches.patching_at tree patch q) → (q : List (List ℕ)) (t : List ℕ) → patched_vanity_path tree patch q t ≡ claims_vanity_path after q t
 unfolding claims_vanity_path
 vanity_path_after tree after patch shows q t = ap (λ o. option_map_or (λ (n : Node). node_claims_vanity_path n t) o false) (sym (shows q))

@@ -13,7 +13,7 @@ use Rattle.resource_tree.specs.declared.nodes.Node.{Node}
 use Rattle.std.specs.Str.{bytes_eq}
 use Rattle.resource_tree.specs.Content.{Content, node_at, same_path}
 use Rattle.resource_tree.specs.Content.{prop_at}
-use Rattle.url_maps.specs.Claims.{AddsClaims, AreClaims, ClaimsAreWithin, ClaimRows, claimants, claims_alias, claims_vanity_path, node_claims_alias, node_claims_vanity_path, spells_alias, spells_vanity_path}
+use Rattle.url_maps.specs.Claims.{AddsClaims, AreClaims, ClaimsAreWithin, ClaimRows, claimants, claims_vanity_path, node_claims_alias, node_claims_vanity_path, spells_alias, spells_vanity_path}
 use Rattle.url_maps.specs.Words.{mapping_texts}
 use Rattle.url_maps.proofs.PathLemmas.{path_from_same}
 
@@ -173,12 +173,6 @@ pub adds_alike : (path : List (List ℕ)) (old new : ClaimRows) (test other : Li
 adds_alike path old new test other same adds t q = adds t q ∙ ap (λ b. list_any (same_path q) (claimants old t) || (same_path q path && b)) (sym (same t))
 
 -- the claims of all nodes of a tree
-pub whole_aliases : (tree : Content) (rows : ClaimRows) (paths : List (List (List ℕ))) (i : ℕ) → length paths ≤ i → ((q : List (List ℕ)) → list_any (same_path q) paths ≡ is_some (node_at tree q))
-    → ((t : List ℕ) (q : List (List ℕ)) → list_any (same_path q) (claimants rows t) ≡ (list_any (same_path q) (take i paths) && claims_alias tree q t)) → AreClaims (claims_alias tree) rows
-unfolding claims_alias
-whole_aliases tree rows paths i end all is t q =
-    all_nodes tree q (λ node. node_claims_alias q node t) paths (list_any (same_path q) (claimants rows t)) (all q) (is t q ∙ ap (λ ps. list_any (same_path q) ps && claims_alias tree q t) (take_all i paths end))
-
 pub whole_vanity_paths : (tree : Content) (rows : ClaimRows) (paths : List (List (List ℕ))) (i : ℕ) → length paths ≤ i → ((q : List (List ℕ)) → list_any (same_path q) paths ≡ is_some (node_at tree q))
     → ((t : List ℕ) (q : List (List ℕ)) → list_any (same_path q) (claimants rows t) ≡ (list_any (same_path q) (take i paths) && claims_vanity_path tree q t)) → AreClaims (claims_vanity_path tree) rows
 unfolding claims_vanity_path
@@ -215,10 +209,6 @@ any_word test words i word old new within item so_far is =
     is ∙ ap (λ b. b || test word) so_far ∙ ap (λ w. list_any test (take i words) || test w) item ∙ sym (list_any_more test words i word within)
 
 -- what the node of a look-up claims
-pub claims_alias_is : (tree : Content) (path : List (List ℕ)) (found : Option Node) → found ≡ node_at tree path → (t : List ℕ) → claims_alias tree path t ≡ option_map_or (λ n. node_claims_alias path n t) found false
-unfolding claims_alias
-claims_alias_is tree path found is t = ap (λ o. option_map_or (λ (n : Node). node_claims_alias path n t) o false) (sym is)
-
 pub claims_vanity_path_is : (tree : Content) (path : List (List ℕ)) (found : Option Node) → found ≡ node_at tree path → (t : List ℕ) → claims_vanity_path tree path t ≡ option_map_or (λ n. node_claims_vanity_path n t) found false
 unfolding claims_vanity_path
 claims_vanity_path_is tree path found is t = ap (λ o. option_map_or (λ (n : Node). node_claims_vanity_path n t) o false) (sym is)

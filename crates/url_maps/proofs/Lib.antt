@@ -9,6 +9,7 @@ pub mod TurnLemmas
 pub mod LocationLemmas
 pub mod ShorterLemmas
 pub mod SiblingLemmas
+pub mod ParentLemmas
 pub mod LawLemmas
 pub mod AnswerLemmas
 pub mod RedirectLemmas

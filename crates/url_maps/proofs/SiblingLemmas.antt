@@ -1,140 +1,454 @@
--- The first of some siblings in the order of their parent's kids.
-use Rattle.std.proofs.Common.{◌≡◌, ◌<◌, ◌≤◌, ◌+◌, ℕ, suc, Bool, true, false, cond, List, [], ◌∷◌, Option, Some, None, drop, length, get_or, refl, sym, ◌∙◌, ap, ⊎_elim, arith, add-one}
-use Rattle.std.specs.Prelude.{◌||◌, is_some, nat_eq, find, option_map}
+-- The first siblings with an alias: how they are put into rows, and the alias that a text is by them.
+use Rattle.std.proofs.Common.{◌≡◌, ◌<◌, ◌≤◌, ◌+◌, ℕ, zero, suc, Bool, true, false, cond, List, [], ◌∷◌, ◌++◌, Option, Some, None, Ok, Err, take, length, get_or, refl, sym, ◌∙◌, ap, subst, ⊎_elim, arith}
+use Rattle.std.specs.Prelude.{◌||◌, ◌&&◌, ◌==◌, codes, find, is_none, is_some, nat_eq, not, option_map, option_to_list, slice_get}
 use Rattle.std.specs.Cmp.Lexicographic.{pointwise, nat_list_eq_equiv, same_text}
 use Rattle.std.specs.List.{list_any}
-use Rattle.std.specs.Option.{option_map_or}
-use Rattle.std.proofs.lemmas.Bool.{cases_Bool, false≢true}
-use Rattle.std.proofs.lemmas.Grind.{common_steps}
-use Rattle.std.proofs.lemmas.List.Folds.{list_any_at}
-use Rattle.std.proofs.Math.Seq.{drop-cons}
-use Rattle.sp_base.specs.Paths.{parent_of, seg_ok}
+use Rattle.std.specs.Map.{lookup}
+use Rattle.std.specs.Option.{option_map_or, option_or}
+use Rattle.std.specs.Str.{bytes_eq}
+use Rattle.std.proofs.lemmas.Bool.{cases_Bool, true≢false, false≢true, false_from_ne_true, and_parts}
+use Rattle.std.proofs.lemmas.List.{take_more}
+use Rattle.std.proofs.lemmas.List.Folds.{list_any_more}
+use Rattle.sp_base.specs.Paths.{is_path, parent_of, path_of, path_or_none, seg_ok, text_of}
+use Rattle.sp_base.specs.declared.path.PathFault.{PathFault}
 use Rattle.resource_tree.specs.declared.nodes.Node.{Node}
-use Rattle.resource_tree.specs.Content.{Content, IsTree, kid, name_of, node_at, same_path}
+use Rattle.resource_tree.specs.Content.{Content, IsTree, kid, name_of, node_at, prop_at, same_path}
 use Rattle.resource_tree.specs.Changes.{kids_at}
-use Rattle.url_maps.specs.Search.{first_kid, first_path}
-use Rattle.url_maps.proofs.AliasLemmas.{find_any}
-use Rattle.url_maps.proofs.PathLemmas.{kid_parts, path_from_same, same_path_flips, same_path_self, valid_name}
+use Rattle.resource_tree.specs.Patches as patches
+use Rattle.url_maps.specs.Aliases.{has_alias}
+use Rattle.url_maps.specs.Answers.{alias_at, alias_with, pair_inside, sibling_with_alias}
+use Rattle.url_maps.specs.Changes.{LeadsOn}
+use Rattle.url_maps.specs.Claims.{NamesFirst, ClaimRows, claimants, claims_alias, claims_by, first_claimant, kids_by, node_claims_alias, spells_alias}
+use Rattle.url_maps.specs.Noting.{has_row}
+use Rattle.url_maps.specs.Search.{IsOf, is_free, is_free_at}
+use Rattle.url_maps.specs.Siblings.{KeepsOthers, PutsFamilies, PutsKids, PutsRows, or_else, path_if}
+use Rattle.url_maps.specs.Words.{mapping_texts}
+use Rattle.url_maps.specs.declared.pairs.PairKind.TheVariants.{Alias}
+use Rattle.url_maps.proofs.AliasLemmas.{claims_is, find_alike, find_any}
+use Rattle.url_maps.proofs.AnswerLemmas.{alias_is}
+use Rattle.url_maps.proofs.ClaimLemmas.{and_false, or_false, text_sym}
+use Rattle.url_maps.proofs.MappingLemmas.{IsSpelled}
+use Rattle.url_maps.proofs.PathLemmas.{IsReadBack, kid_parts, parent_of-kid, path_from_same, path_from_text, same_path_self, valid_name, valid_sibling}
 
--- ---- a loop that looks for the first
+-- ---- lists
 
-pub find_on : {X : Type 0} (test : X → Bool) (xs : List X) (i : ℕ) (x : X) → i < length xs → x ≡ get_or xs i x → test x ≡ false → find test (drop i xs) ≡ find test xs → find test (drop (i + 1) xs) ≡ find test xs
-find_on test xs i x within item fails so_far =
-    ap (λ n. find test (drop n xs)) (add-one i)
-    ∙ sym (ap (λ b. cond b (Some (get_or xs i x)) (find test (drop (suc i) xs))) (ap test (sym item) ∙ fails))
-    ∙ sym (ap (find test) (drop-cons xs i x within)) ∙ so_far
+pub find_nothing : {X : Type 0} (xs : List X) → find (λ x. false) xs ≡ None
+find_nothing [] = refl
+find_nothing (x ∷ xs) = find_nothing xs
 
-pub find_here : {X : Type 0} (test : X → Bool) (xs : List X) (i : ℕ) (x : X) → i < length xs → x ≡ get_or xs i x → test x ≡ true → find test (drop i xs) ≡ find test xs → find test xs ≡ Some x
-find_here test xs i x within item passes_it so_far =
-    sym so_far ∙ ap (find test) (drop-cons xs i x within)
-    ∙ ap (λ b. cond b (Some (get_or xs i x)) (find test (drop (suc i) xs))) (ap test (sym item) ∙ passes_it) ∙ ap (λ y. Some y) (sym item)
+find_append : {X : Type 0} (test : X → Bool) (xs : List X) (y : X) → find test (xs ++ y ∷ []) ≡ option_or (find test xs) (cond (test y) (Some y) None)
+find_append test [] y = refl
+find_append test (x ∷ xs) y =
+    elim (test x) as (λ b. cond b (Some x) (find test (xs ++ y ∷ [])) ≡ option_or (cond b (Some x) (find test xs)) (cond (test y) (Some y) None)) [
+      | true ↦ refl
+      | false ↦ find_append test xs y
+    ]
 
-none_left : {X : Type 0} (xs : List X) (i : ℕ) → length xs ≤ i → drop i xs ≡ []
-none_left xs i end = grind (arith, common_steps)
+-- what is found among the first, and one more
+pub find_more : {X : Type 0} (test : X → Bool) (xs : List X) (i : ℕ) (x : X) → i < length xs → x ≡ get_or xs i x → find test (take (i + 1) xs) ≡ option_or (find test (take i xs)) (cond (test x) (Some x) None)
+find_more test xs i x within item =
+    ap (find test) (take_more xs i x within) ∙ find_append test (take i xs) (get_or xs i x)
+    ∙ ap (λ y. option_or (find test (take i xs)) (cond (test y) (Some y) None)) (sym item)
 
-pub find_over : {X : Type 0} (test : X → Bool) (xs : List X) (i : ℕ) → length xs ≤ i → find test (drop i xs) ≡ find test xs → find test xs ≡ None
-find_over test xs i end so_far = sym so_far ∙ ap (find test) (none_left xs i end)
+pub or_else_none : (paths : List (List (List ℕ))) → or_else paths [] ≡ paths
+or_else_none [] = refl
+or_else_none (p ∷ paths) = refl
 
-or_second : (a b : Bool) → b ≡ true → (a || b) ≡ true
-or_second true b e = refl
-or_second false b e = e
+pub or_else_empty : (paths others : List (List (List ℕ))) → length paths ≡ 0 → or_else paths others ≡ others
+or_else_empty [] others none = refl
+or_else_empty (p ∷ paths) others none = absurd (omega (arith, none))
 
-or_last : (a : Bool) → (a || false) ≡ true → a ≡ true
-or_last true e = refl
-or_last false e = e
+pub or_else_some : (paths others : List (List (List ℕ))) → (length paths ≡ 0 → ⊥) → or_else paths others ≡ paths
+or_else_some [] others some = absurd (some refl)
+or_else_some (p ∷ paths) others some = refl
 
-any_from : {X : Type 0} (f g : X → Bool) → ((x : X) → f x ≡ true → g x ≡ true) → (xs : List X) → list_any f xs ≡ true → list_any g xs ≡ true
-any_from f g h [] any = any
-any_from f g h (x ∷ xs) any =
+or_else_same : (paths : List (List (List ℕ))) → or_else paths paths ≡ paths
+or_else_same [] = refl
+or_else_same (p ∷ paths) = refl
+
+or_else_twice : (old paths : List (List (List ℕ))) (a b : Bool) → or_else (or_else old (cond a paths [])) (cond b paths []) ≡ or_else old (cond (a || b) paths [])
+or_else_twice (p ∷ old) paths a b = refl
+or_else_twice [] paths true true = or_else_same paths
+or_else_twice [] paths true false = or_else_none paths
+or_else_twice [] paths false b = refl
+
+or_assoc : (a b c : Bool) → ((a || b) || c) ≡ (a || (b || c))
+or_assoc true b c = refl
+or_assoc false b c = refl
+
+or_yes : (a : Bool) → (a || true) ≡ true
+or_yes true = refl
+or_yes false = refl
+
+-- a text that is given a row
+pub had_row : {X : Type 0} (b : Bool) (row : X) (o : Option X) → is_some (cond b (Some row) (cond b None o)) ≡ (is_some o || b)
+had_row true row o = sym (or_yes (is_some o))
+had_row false row o = sym (or_false (is_some o))
+
+-- ---- rows that are put
+
+-- one text
+pub rows_one : (path : Option (List (List ℕ))) (text : List ℕ) (old new : ClaimRows)
+    → ((t : List ℕ) → lookup (bytes_eq t) new ≡ cond (bytes_eq text t) (Some (or_else (claimants old text) (option_to_list path))) (lookup (bytes_eq t) old)) → PutsRows path (λ t. bytes_eq t text) old new
+rows_one path text old new is = record {
+  paths = λ t.
+      let row = or_else (claimants old text) (option_to_list path) in
+      ap (λ o. option_map_or (λ (paths : List (List (List ℕ))). paths) o []) (is t)
+      ∙ ⊎_elim
+      (λ (same : bytes_eq text t ≡ true).
+      ap (λ b. option_map_or (λ (paths : List (List (List ℕ))). paths) (cond b (Some row) (lookup (bytes_eq t) old)) []) same
+      ∙ ap (λ s. or_else (claimants old s) (option_to_list path)) (same_text text t (sym same))
+      ∙ ap (λ b. or_else (claimants old t) (cond b (option_to_list path) [])) (sym (text_sym t text ∙ same)))
+      (λ (other : bytes_eq text t ≡ false).
+      ap (λ b. option_map_or (λ (paths : List (List (List ℕ))). paths) (cond b (Some row) (lookup (bytes_eq t) old)) []) other
+      ∙ sym (or_else_none (claimants old t)) ∙ ap (λ b. or_else (claimants old t) (cond b (option_to_list path) [])) (sym (text_sym t text ∙ other)))
+      (cases_Bool (bytes_eq text t));
+  has = λ t.
+      let row = or_else (claimants old text) (option_to_list path) in
+      ap is_some (is t)
+      ∙ ⊎_elim
+      (λ (same : bytes_eq text t ≡ true). ap (λ b. is_some (cond b (Some row) (lookup (bytes_eq t) old))) same ∙ sym (ap (λ b. has_row old t || b) (text_sym t text ∙ same) ∙ or_yes (has_row old t)))
+      (λ (other : bytes_eq text t ≡ false). ap (λ b. is_some (cond b (Some row) (lookup (bytes_eq t) old))) other ∙ sym (ap (λ b. has_row old t || b) (text_sym t text ∙ other) ∙ or_false (has_row old t)))
+      (cases_Bool (bytes_eq text t));
+}
+
+pub rows_none : (path : Option (List (List ℕ))) (texts : List ℕ → Bool) (rows : ClaimRows) → ((t : List ℕ) → texts t ≡ false) → PutsRows path texts rows rows
+rows_none path texts rows none = record {
+  paths = λ t. sym (ap (λ b. or_else (claimants rows t) (cond b (option_to_list path) [])) (none t) ∙ or_else_none (claimants rows t));
+  has = λ t. sym (ap (λ b. has_row rows t || b) (none t) ∙ or_false (has_row rows t));
+}
+
+-- the first texts, and one more
+pub rows_more : (path : Option (List (List ℕ))) (first old new : ClaimRows) (texts : List (List ℕ)) (i : ℕ) (text : List ℕ) → i < length texts → text ≡ get_or texts i text
+    → PutsRows path (λ t. list_any (bytes_eq t) (take i texts)) first old → PutsRows path (λ t. bytes_eq t text) old new → PutsRows path (λ t. list_any (bytes_eq t) (take (i + 1) texts)) first new
+rows_more path first old new texts i text within item so_far one = record {
+  paths = λ t.
+      let more : (list_any (bytes_eq t) (take i texts) || bytes_eq t text) ≡ list_any (bytes_eq t) (take (i + 1) texts) = ap (λ x. list_any (bytes_eq t) (take i texts) || bytes_eq t x) item ∙ sym (list_any_more (bytes_eq t) texts i text within) in
+      one.paths t ∙ ap (λ x. or_else x (cond (bytes_eq t text) (option_to_list path) [])) (so_far.paths t)
+      ∙ or_else_twice (claimants first t) (option_to_list path) (list_any (bytes_eq t) (take i texts)) (bytes_eq t text)
+      ∙ ap (λ b. or_else (claimants first t) (cond b (option_to_list path) [])) more;
+  has = λ t.
+      let more : (list_any (bytes_eq t) (take i texts) || bytes_eq t text) ≡ list_any (bytes_eq t) (take (i + 1) texts) = ap (λ x. list_any (bytes_eq t) (take i texts) || bytes_eq t x) item ∙ sym (list_any_more (bytes_eq t) texts i text within) in
+      one.has t ∙ ap (λ x. x || bytes_eq t text) (so_far.has t) ∙ or_assoc (has_row first t) (list_any (bytes_eq t) (take i texts)) (bytes_eq t text) ∙ ap (λ b. has_row first t || b) more;
+}
+
+pub rows_alike : (path other : Option (List (List ℕ))) (texts others : List ℕ → Bool) (old new : ClaimRows) → path ≡ other → ((t : List ℕ) → texts t ≡ others t) → PutsRows path texts old new → PutsRows other others old new
+rows_alike path other texts others old new same alike is = record {
+  paths = λ t. is.paths t ∙ ap (λ b. or_else (claimants old t) (cond b (option_to_list path) [])) (alike t) ∙ ap (λ p. or_else (claimants old t) (cond (others t) (option_to_list p) [])) same;
+  has = λ t. is.has t ∙ ap (λ b. has_row old t || b) (alike t);
+}
+
+-- ---- the kids of a node
+
+-- what isn't a path is no node's
+pub not_a_path : (q : List (List ℕ)) → path_or_none q ≡ None → is_path q ≡ false
+not_a_path q none =
+    false_from_ne_true (is_path q) (λ valid. let e : Some q ≡ None = sym (ap (λ b. cond b (Some q) None) valid) ∙ none in cc)
+
+pub a_path : (q path : List (List ℕ)) → path_or_none q ≡ Some path → (q ≡ path) × (is_path q ≡ true)
+a_path q path some =
     ⊎_elim
-    (λ (passes_it : f x ≡ true). ap (λ b. b || list_any g xs) (h x passes_it))
-    (λ (fails : f x ≡ false). or_second (g x) (list_any g xs) (any_from f g h xs (sym (ap (λ b. b || list_any f xs) fails) ∙ any)))
-    (cases_Bool (f x))
+    (λ (valid : is_path q ≡ true). let e : Some q ≡ Some path = sym (ap (λ b. cond b (Some q) None) valid) ∙ some in let same : q ≡ path = cc in (same, valid))
+    (λ (fails : is_path q ≡ false). let e : None ≡ Some path = sym (ap (λ b. cond b (Some q) None) fails) ∙ some in cc)
+    (cases_Bool (is_path q))
 
-one_of : (xs : List (List (List ℕ))) → length xs ≡ 1 → xs ≡ first_path xs ∷ []
-one_of [] e = absurd (omega (arith, e))
-one_of (x ∷ []) e = refl
-one_of (x ∷ y ∷ xs) e = absurd (omega (arith, e))
+pub unclaimed : (at : List (List ℕ) → Option Node) (q : List (List ℕ)) (t : List ℕ) → path_or_none q ≡ None → claims_by at q t ≡ false
+unclaimed at q t none = ap (λ b. b && option_map_or (λ (node : Node). node_claims_alias q node t) (at q) false) (not_a_path q none)
 
--- ---- a loop that puts paths into a set
+-- what the node of a path claims
+pub claims_here : (at : List (List ℕ) → Option Node) (q path : List (List ℕ)) (found : Option Node) (texts : List (List ℕ)) → path_or_none q ≡ Some path → found ≡ at path
+    → ((t : List ℕ) → list_any (bytes_eq t) texts ≡ option_map_or (λ (node : Node). node_claims_alias path node t) found false) → (t : List ℕ) → list_any (bytes_eq t) texts ≡ claims_by at q t
+claims_here at q path found texts some is claims t =
+    let same = a_path q path some in
+    claims t ∙ ap (λ o. option_map_or (λ (node : Node). node_claims_alias path node t) o false) is
+    ∙ ap (λ p. option_map_or (λ (node : Node). node_claims_alias p node t) (at p) false) (sym same.0)
+    ∙ sym (ap (λ b. b && option_map_or (λ (node : Node). node_claims_alias q node t) (at q) false) same.1)
 
-pub any_here : {X : Type 0} (test : X → Bool) (xs : List X) (i : ℕ) (x : X) → i < length xs → x ≡ get_or xs i x → list_any test (drop i xs) ≡ (test x || list_any test (drop (i + 1) xs))
-any_here test xs i x within item =
-    ap (list_any test) (drop-cons xs i x within) ∙ ap (λ y. test y || list_any test (drop (suc i) xs)) (sym item)
-    ∙ ap (λ n. test x || list_any test (drop n xs)) (sym (add-one i))
+-- the first of some kids that claims a text
+abbrev pub first_among : (List (List ℕ) → Option Node) → List (List ℕ) → List (List ℕ) → List ℕ → Option (List (List ℕ))
+first_among at parent names text = option_map (kid parent) (find (λ name. claims_by at (kid parent name) text) names)
 
-moves_over : (here had rest : Bool) → (cond here true had || rest) ≡ (had || (here || rest))
-moves_over true true rest = refl
-moves_over true false rest = refl
-moves_over false had rest = refl
+-- so far as these kids
+pub record PutsSome (at : List (List ℕ) → Option Node) (names : Bool) (parent : List (List ℕ)) (done : List (List ℕ)) (old new : ClaimRows) : Type 0 where
+  pub paths : (t : List ℕ) → claimants new t ≡ or_else (claimants old t) (cond names (option_to_list (first_among at parent done t)) [])
+  pub has : (t : List ℕ) → has_row new t ≡ (has_row old t || is_some (first_among at parent done t))
 
-pub set_over : (item q : List (List ℕ)) (had has rest all : Bool) → has ≡ cond (same_path item q) true had → (had || (same_path q item || rest)) ≡ all → (has || rest) ≡ all
-set_over item q had has rest all is was =
-    ap (λ b. b || rest) (is ∙ ap (λ t. cond t true had) (same_path_flips item q)) ∙ moves_over (same_path q item) had rest ∙ was
+either_none : (names : Bool) (old : List (List (List ℕ))) → old ≡ or_else old (cond names [] [])
+either_none true old = sym (or_else_none old)
+either_none false old = sym (or_else_none old)
 
-or_false : (a : Bool) → (a || false) ≡ a
-or_false true = refl
-or_false false = refl
+pub puts_none : (at : List (List ℕ) → Option Node) (names : Bool) (parent : List (List ℕ)) (rows : ClaimRows) → PutsSome at names parent [] rows rows
+puts_none at names parent rows = record { paths = λ t. either_none names (claimants rows t); has = λ t. sym (or_false (has_row rows t)) }
 
-pub none_over : {X : Type 0} (test : X → Bool) (xs : List X) (i : ℕ) (had : Bool) → length xs ≤ i → (had || list_any test (drop i xs)) ≡ list_any test xs → had ≡ list_any test xs
-none_over test xs i had end was = sym (or_false had) ∙ sym (ap (λ l. had || list_any test l) (none_left xs i end)) ∙ was
+put_next : (old : List (List (List ℕ))) (names b : Bool) (found : Option (List ℕ)) (parent : List (List ℕ)) (name : List ℕ)
+    → or_else (or_else old (cond names (option_to_list (option_map (kid parent) found)) [])) (cond b (option_to_list (path_if names (kid parent name))) [])
+    ≡ or_else old (cond names (option_to_list (option_map (kid parent) (option_or found (cond b (Some name) None)))) [])
+put_next (p ∷ old) names b found parent name = refl
+put_next [] true b (Some x) parent name = refl
+put_next [] true true None parent name = refl
+put_next [] true false None parent name = refl
+put_next [] false true found parent name = refl
+put_next [] false false found parent name = refl
 
--- ---- in a tree
+has_next : (had b : Bool) (found : Option (List ℕ)) (parent : List (List ℕ)) (name : List ℕ)
+    → ((had || is_some (option_map (kid parent) found)) || b) ≡ (had || is_some (option_map (kid parent) (option_or found (cond b (Some name) None))))
+has_next true b found parent name = refl
+has_next false b (Some x) parent name = refl
+has_next false true None parent name = refl
+has_next false false None parent name = refl
 
-record Node_at (tree : Content) (q : List (List ℕ)) : Type 0 where
-  node : Node
-  is : node_at tree q ≡ Some node
+pub puts_more : (at : List (List ℕ) → Option Node) (names : Bool) (parent : List (List ℕ)) (kids : List (List ℕ)) (i : ℕ) (name : List ℕ) (first old new : ClaimRows) → i < length kids → name ≡ get_or kids i name
+    → PutsSome at names parent (take i kids) first old → PutsRows (path_if names (kid parent name)) (claims_by at (kid parent name)) old new → PutsSome at names parent (take (i + 1) kids) first new
+puts_more at names parent kids i name first old new within item so_far one = record {
+  paths = λ t.
+      let test : List ℕ → Bool = λ n. claims_by at (kid parent n) t in
+      one.paths t ∙ ap (λ x. or_else x (cond (test name) (option_to_list (path_if names (kid parent name))) [])) (so_far.paths t)
+      ∙ put_next (claimants first t) names (test name) (find test (take i kids)) parent name
+      ∙ ap (λ o. or_else (claimants first t) (cond names (option_to_list (option_map (kid parent) o)) [])) (sym (find_more test kids i name within item));
+  has = λ t.
+      let test : List ℕ → Bool = λ n. claims_by at (kid parent n) t in
+      one.has t ∙ ap (λ x. x || test name) (so_far.has t) ∙ has_next (has_row first t) (test name) (find test (take i kids)) parent name
+      ∙ ap (λ o. has_row first t || is_some (option_map (kid parent) o)) (sym (find_more test kids i name within item));
+}
 
-module _ (tree : Content) (good : IsTree (node_at tree)) where
-  there_is : (q : List (List ℕ)) → is_some (node_at tree q) ≡ true → Node_at tree q
-  there_is q there =
-      elim (node_at tree q) as (λ o. node_at tree q ≡ o → is_some o ≡ true → Node_at tree q) [
-        | None ↦ λ is fails. absurd (false≢true fails)
-        | Some node ↦ λ is passes_it. record { node = node; is = is }
-      ] refl there
+pub puts_all : (at : List (List ℕ) → Option Node) (names : Bool) (parent : List (List ℕ)) (done : List (List ℕ)) (old new : ClaimRows) → done ≡ kids_by at parent → PutsSome at names parent done old new → PutsKids at names parent old new
+puts_all at names parent done old new are is =
+    let whole = subst (λ (ks : List (List ℕ)). PutsSome at names parent ks old new) are is in
+    record { paths = whole.paths; has = whole.has }
 
-  -- a kid's name may be a segment
-  pub kid_segment : (parent : List (List ℕ)) (node : Node) (names : List (List ℕ)) (i : ℕ) (name : List ℕ) → node_at tree parent ≡ Some node → names ≡ node.kids → i < length names → name ≡ get_or names i name → seg_ok name ≡ true
-  kid_segment parent node names i name is are within item =
-      let any : list_any (pointwise nat_eq name) names ≡ true = list_any_at (pointwise nat_eq name) names i name within (ap (pointwise nat_eq name) (sym item) ∙ nat_list_eq_equiv.refl name) in
-      let there = sym ((good.nodes parent node is).kids name) ∙ ap (list_any (pointwise nat_eq name)) (sym are) ∙ any in
-      let below = there_is (kid parent name) there in
-      valid_name parent name (good.nodes (kid parent name) below.node below.is).is_a_path
+-- ---- the kids of some nodes
 
-  pub kid_listed : (path : List (List ℕ)) → is_some (node_at tree path) ≡ true → 0 < length path → list_any (pointwise nat_eq (name_of path)) (kids_at tree (parent_of path)) ≡ true
-  kid_listed path there below =
-      let whole = kid_parts path below in
-      let here : is_some (node_at tree (kid (parent_of path) (name_of path))) ≡ true = ap (λ q. is_some (node_at tree q)) whole ∙ there in
-      let above = there_is (parent_of path) (good.parents (parent_of path) (name_of path) here) in
-      ap (λ o. list_any (pointwise nat_eq (name_of path)) (option_map_or (λ (node : Node). node.kids) o [])) above.is ∙ (good.nodes (parent_of path) above.node above.is).kids (name_of path) ∙ here
+-- what a text spells that a node claims as its alias
+record Spelled (q : List (List ℕ)) (text : List ℕ) : Type 0 where
+  pub alias : List ℕ
+  pub segment : seg_ok alias ≡ true
+  pub text_is : text ≡ text_of (kid (parent_of q) alias)
 
-  -- one alone is the first
-  pub single_first : (siblings : List (List (List ℕ))) → length siblings ≡ 1 → is_some (node_at tree (first_path siblings)) ≡ true → 0 < length (first_path siblings)
-      → Some (first_path siblings) ≡ first_kid tree (parent_of (first_path siblings)) siblings
-  single_first siblings one there below =
-      let s = first_path siblings in
-      let p = parent_of s in
-      let test : List ℕ → Bool = λ name. list_any (same_path (kid p name)) (s ∷ []) in
-      let named : (name : List ℕ) → pointwise nat_eq (name_of s) name ≡ true → test name ≡ true =
-      λ name same. ap (λ n. same_path (kid p n) s || false) (sym (same_text (name_of s) name (sym same))) ∙ ap (λ q. same_path q s || false) (kid_parts s below) ∙ ap (λ b. b || false) (same_path_self s) in
-      let found = find_any test (kids_at tree p) (any_from (pointwise nat_eq (name_of s)) test named (kids_at tree p) (kid_listed s there below)) in
-      let is : kid p found.item ≡ s = path_from_same (kid p found.item) s (or_last (same_path (kid p found.item) s) found.passes) in
-      sym (ap (λ l. first_kid tree p l) (one_of siblings one) ∙ ap (option_map (kid p)) found.is ∙ ap (λ q. Some q) is)
+spelled_by : (q : List (List ℕ)) (node : Node) (text : List ℕ) → node_claims_alias q node text ≡ true → Spelled q text
+unfolding node_claims_alias
+spelled_by q node text claims =
+    let words = mapping_texts (prop_at node (codes "sling:alias")) in
+    let parts = and_parts (not (length q == 0)) (list_any (spells_alias q text) words) claims in
+    let found = find_any (spells_alias q text) words parts.1 in
+    let both = and_parts (seg_ok found.item) (pointwise nat_eq text (text_of (kid (parent_of q) found.item))) found.passes in
+    record { alias = found.item; segment = both.0; text_is = same_text text (text_of (kid (parent_of q) found.item)) (sym both.1) }
 
--- ---- the loop over the names of a node's kids
+claims_spelled : (o : Option Node) (q : List (List ℕ)) (text : List ℕ) → option_map_or (λ (node : Node). node_claims_alias q node text) o false ≡ true → Spelled q text
+claims_spelled None q text claims = absurd (false≢true claims)
+claims_spelled (Some node) q text claims = spelled_by q node text claims
 
-abbrev pub is_named : List (List ℕ) → List (List (List ℕ)) → List ℕ → Bool
-is_named parent paths name = list_any (same_path (kid parent name)) paths
+-- a text is claimed by siblings of the path that it spells alone
+no_other_claims : IsReadBack → (at : List (List ℕ) → Option Node) (p q : List (List ℕ)) (name : List ℕ) → is_path q ≡ true → same_path (parent_of q) p ≡ false → claims_by at (kid p name) (text_of q) ≡ false
+no_other_claims read at p q name valid other =
+    false_from_ne_true (claims_by at (kid p name) (text_of q)) (λ claims.
+    let parts = and_parts (is_path (kid p name)) (option_map_or (λ (node : Node). node_claims_alias (kid p name) node (text_of q)) (at (kid p name)) false) claims in
+    let s = claims_spelled (at (kid p name)) (kid p name) (text_of q) parts.1 in
+    let spelled : text_of q ≡ text_of (kid p s.alias) = s.text_is ∙ ap (λ r. text_of (kid r s.alias)) (parent_of-kid p name) in
+    let one : q ≡ kid p s.alias = path_from_text read q (kid p s.alias) valid (valid_sibling p name s.alias parts.0 s.segment) spelled in
+    let parents : parent_of q ≡ p = ap parent_of one ∙ parent_of-kid p s.alias in
+    true≢false (sym (same_path_self p) ∙ ap (λ r. same_path r p) (sym parents) ∙ other))
 
-pub first_kid_is : (tree : Content) (parent : List (List ℕ)) (paths : List (List (List ℕ))) (node : Node) (names : List (List ℕ)) (o : Option (List ℕ)) → node_at tree parent ≡ Some node → names ≡ node.kids → find (is_named parent paths) names ≡ o
-    → option_map (kid parent) o ≡ first_kid tree parent paths
-first_kid_is tree parent paths node names o is are found =
-    sym (ap (λ n. option_map (kid parent) (find (is_named parent paths) (option_map_or (λ (m : Node). m.kids) n []))) is ∙ ap (λ l. option_map (kid parent) (find (is_named parent paths) l)) (sym are) ∙ ap (option_map (kid parent)) found)
+no_other_first : IsReadBack → (at : List (List ℕ) → Option Node) (p q : List (List ℕ)) → is_path q ≡ true → same_path (parent_of q) p ≡ false → first_claimant at p (text_of q) ≡ None
+no_other_first read at p q valid other =
+    ap (option_map (kid p)) (find_alike (λ name. claims_by at (kid p name) (text_of q)) (λ name. false) (λ name. no_other_claims read at p q name valid other) (kids_by at p) ∙ find_nothing (kids_by at p))
 
-pub first_kid_none : (tree : Content) (parent : List (List ℕ)) (paths : List (List (List ℕ))) → node_at tree parent ≡ None → None ≡ first_kid tree parent paths
-first_kid_none tree parent paths none = sym (ap (λ n. option_map (kid parent) (find (is_named parent paths) (option_map_or (λ (m : Node). m.kids) n []))) none)
+-- one family's part in the text of a path
+one_part : (names same : Bool) (here there : Option (List (List ℕ))) → (same ≡ true → there ≡ here) → (same ≡ false → there ≡ None) → cond names (option_to_list there) [] ≡ cond (names && same) (option_to_list here) []
+one_part true true here there is none = ap option_to_list (is refl)
+one_part true false here there is none = ap option_to_list (none refl)
+one_part false same here there is none = refl
 
--- the first of some paths, as the code reads it
-pub first_is_first : (paths : List (List (List ℕ))) (first : List (List ℕ)) → 0 < length paths → first ≡ get_or paths 0 first → first ≡ first_path paths
-first_is_first [] first some is = absurd (omega (arith, some))
-first_is_first (p ∷ paths) first some is = is
+one_has : (same : Bool) (here there : Option (List (List ℕ))) → (same ≡ true → there ≡ here) → (same ≡ false → there ≡ None) → is_some there ≡ (same && is_some here)
+one_has true here there is none = ap is_some (is refl)
+one_has false here there is none = ap is_some (none refl)
+
+both_parts : (names a b : Bool) → ((names && a) || (names && b)) ≡ (names && (a || b))
+both_parts true a b = refl
+both_parts false a b = refl
+
+both_has : (had a b s : Bool) → ((had || (a && s)) || (b && s)) ≡ (had || ((a || b) && s))
+both_has true a b s = refl
+both_has false true true true = refl
+both_has false true true false = refl
+both_has false true false true = refl
+both_has false true false false = refl
+both_has false false b s = refl
+
+pub families_none : (at : List (List ℕ) → Option Node) (names : Bool) (rows : ClaimRows) → PutsFamilies at names [] rows rows
+families_none at names rows = record {
+  paths = λ q valid some. sym (ap (λ b. or_else (claimants rows (text_of q)) (cond b (option_to_list (first_claimant at (parent_of q) (text_of q))) [])) (and_false names) ∙ or_else_none (claimants rows (text_of q)));
+  has = λ q valid some. sym (or_false (has_row rows (text_of q)));
+}
+
+pub families_more : IsReadBack → (at : List (List ℕ) → Option Node) (names : Bool) (parents : List (List (List ℕ))) (i : ℕ) (p : List (List ℕ)) (first old new : ClaimRows) → i < length parents → p ≡ get_or parents i p
+    → PutsFamilies at names (take i parents) first old → PutsKids at names p old new → PutsFamilies at names (take (i + 1) parents) first new
+families_more read at names parents i p first old new within item so_far one = record {
+  paths = λ q valid some.
+      let t = text_of q in
+      let here = first_claimant at (parent_of q) t in
+      let among = list_any (same_path (parent_of q)) (take i parents) in
+      let same = same_path (parent_of q) p in
+      let more : (among || same) ≡ list_any (same_path (parent_of q)) (take (i + 1) parents) = ap (λ x. among || same_path (parent_of q) x) item ∙ sym (list_any_more (same_path (parent_of q)) parents i p within) in
+      one.paths t
+      ∙ ap (or_else (claimants old t)) (one_part names same here (first_claimant at p t) (λ is. ap (λ r. first_claimant at r t) (sym (path_from_same (parent_of q) p is))) (λ other. no_other_first read at p q valid other))
+      ∙ ap (λ x. or_else x (cond (names && same) (option_to_list here) [])) (so_far.paths q valid some)
+      ∙ or_else_twice (claimants first t) (option_to_list here) (names && among) (names && same)
+      ∙ ap (λ b. or_else (claimants first t) (cond b (option_to_list here) [])) (both_parts names among same ∙ ap (λ b. names && b) more);
+  has = λ q valid some.
+      let t = text_of q in
+      let here = first_claimant at (parent_of q) t in
+      let among = list_any (same_path (parent_of q)) (take i parents) in
+      let same = same_path (parent_of q) p in
+      let more : (among || same) ≡ list_any (same_path (parent_of q)) (take (i + 1) parents) = ap (λ x. among || same_path (parent_of q) x) item ∙ sym (list_any_more (same_path (parent_of q)) parents i p within) in
+      one.has t
+      ∙ ap (λ b. has_row old t || b) (one_has same here (first_claimant at p t) (λ is. ap (λ r. first_claimant at r t) (sym (path_from_same (parent_of q) p is))) (λ other. no_other_first read at p q valid other))
+      ∙ ap (λ x. x || (same && is_some here)) (so_far.has q valid some)
+      ∙ both_has (has_row first t) among same (is_some here)
+      ∙ ap (λ b. has_row first t || (b && is_some here)) more;
+}
+
+-- ---- the index of a tree
+
+no_node_none : (at : List (List ℕ) → Option Node) (p : List (List ℕ)) (t : List ℕ) → is_some (at p) ≡ false → first_claimant at p t ≡ None
+no_node_none at p t none =
+    elim (at p) as (λ o. is_some o ≡ false → option_map (kid p) (find (λ name. claims_by at (kid p name) t) (option_map_or (λ (n : Node). n.kids) o [])) ≡ None) [
+      | None ↦ λ e. refl
+      | Some node ↦ λ e. absurd (true≢false e)
+    ] none
+
+all_or_none : (there : Bool) (first : Option (List (List ℕ))) → (there ≡ false → first ≡ None) → or_else [] (cond there (option_to_list first) []) ≡ option_to_list first
+all_or_none true first none = refl
+all_or_none false first none = sym (ap option_to_list (none refl))
+
+-- the rows of all families
+pub names_all : (at : List (List ℕ) → Option Node) (parents : List (List (List ℕ))) (rows : ClaimRows) → ((q : List (List ℕ)) → list_any (same_path q) parents ≡ is_some (at q)) → PutsFamilies at true parents [] rows → NamesFirst at rows
+names_all at parents rows all is q valid some =
+    let first = first_claimant at (parent_of q) (text_of q) in
+    is.paths q valid some ∙ ap (λ b. or_else [] (cond b (option_to_list first) [])) (all (parent_of q))
+    ∙ all_or_none (is_some (at (parent_of q))) first (no_node_none at (parent_of q) (text_of q))
+
+-- rows put over none
+pub over_none : (changed old new : ClaimRows) → old ≡ [] → ((t : List ℕ) → claimants new t ≡ option_map_or (λ paths. paths) (lookup (bytes_eq t) changed) (claimants old t)) → (t : List ℕ) → claimants new t ≡ claimants changed t
+over_none changed old new none is t = is t ∙ ap (λ rows. option_map_or (λ paths. paths) (lookup (bytes_eq t) changed) (claimants rows t)) none
+
+pub names_alike : (at : List (List ℕ) → Option Node) (old new : ClaimRows) → ((t : List ℕ) → claimants new t ≡ claimants old t) → NamesFirst at old → NamesFirst at new
+names_alike at old new same is q valid some = same (text_of q) ∙ is q valid some
+
+-- ---- a change of it
+
+no_first : (o : Option (List (List ℕ))) → is_some o ≡ false → option_to_list o ≡ []
+no_first None e = refl
+no_first (Some p) e = absurd (true≢false e)
+
+last_no : (a b : Bool) → (a || b) ≡ false → b ≡ false
+last_no true b e = absurd (true≢false e)
+last_no false b e = e
+
+first_no : (a b : Bool) → (a || b) ≡ false → a ≡ false
+first_no true b e = e
+first_no false b e = refl
+
+first_in : (a b c d : Bool) → ((a && b) || (a && d)) ≡ true → a ≡ true
+first_in true b c d e = refl
+first_in false b c d e = absurd (false≢true e)
+
+settle : (among : Bool) (row : Option (List (List (List ℕ)))) (before after : Option (List (List ℕ))) → (among ≡ false → before ≡ after)
+    → option_map_or (λ paths. paths) row [] ≡ cond among (option_to_list after) [] → is_some row ≡ ((among && is_some before) || (among && is_some after))
+    → option_map_or (λ paths. paths) row (option_to_list before) ≡ option_to_list after
+settle true None before after same paths has = no_first before (first_no (is_some before) (is_some after) (sym has)) ∙ sym (no_first after (last_no (is_some before) (is_some after) (sym has)))
+settle true (Some row) before after same paths has = paths
+settle false None before after same paths has = ap option_to_list (same refl)
+settle false (Some row) before after same paths has = absurd (true≢false has)
+
+-- rows for the families before a patch, and then for those after it
+pub leads_on : (before after : List (List ℕ) → Option Node) (parents : List (List (List ℕ))) (mid new : ClaimRows) → ((parent : List (List ℕ)) (t : List ℕ) → list_any (same_path parent) parents ≡ false → first_claimant before parent t ≡ first_claimant after parent t)
+    → PutsFamilies before false parents [] mid → PutsFamilies after true parents mid new → LeadsOn before after new
+leads_on before after parents mid new others first last q valid some =
+    let t = text_of q in
+    let among = list_any (same_path (parent_of q)) parents in
+    settle among (lookup (bytes_eq t) new) (first_claimant before (parent_of q) t) (first_claimant after (parent_of q) t) (others (parent_of q) t)
+    (last.paths q valid some ∙ ap (λ x. or_else x (cond among (option_to_list (first_claimant after (parent_of q) t)) [])) (first.paths q valid some))
+    (last.has q valid some ∙ ap (λ b. b || (among && is_some (first_claimant after (parent_of q) t))) (first.has q valid some))
+
+-- the rows of an index with a change over them
+pub names_over : (before after : List (List ℕ) → Option Node) (changed old new : ClaimRows) → NamesFirst before old → LeadsOn before after changed
+    → ((t : List ℕ) → claimants new t ≡ option_map_or (λ paths. paths) (lookup (bytes_eq t) changed) (claimants old t)) → NamesFirst after new
+names_over before after changed old new is change over q valid some =
+    over (text_of q) ∙ ap (option_map_or (λ paths. paths) (lookup (bytes_eq (text_of q)) changed)) (is q valid some) ∙ change q valid some
+
+pub names_by : (at other : List (List ℕ) → Option Node) (rows : ClaimRows) → ((q : List (List ℕ)) → at q ≡ other q) → NamesFirst at rows → NamesFirst other rows
+names_by at other rows same is q valid some = is q valid some ∙ (λ i. option_to_list (first_claimant (λ p. same p i) (parent_of q) (text_of q)))
+
+-- ---- the alias that a text is
+
+module _ (read : IsReadBack) (tree : Content) (good : IsTree (node_at tree)) where
+  claims_by_is : (q : List (List ℕ)) (t : List ℕ) → claims_by (node_at tree) q t ≡ claims_alias tree q t
+  unfolding claims_alias
+  claims_by_is q t =
+      elim (node_at tree q) as (λ o. node_at tree q ≡ o → (is_path q && option_map_or (λ (node : Node). node_claims_alias q node t) o false) ≡ option_map_or (λ (node : Node). node_claims_alias q node t) o false) [
+        | None ↦ λ is. and_false (is_path q)
+        | Some node ↦ λ is. ap (λ b. b && node_claims_alias q node t) (good.nodes q node is).is_a_path
+      ] refl
+
+  pub first_sibling_is : (q : List (List ℕ)) → is_path q ≡ true → 0 < length q → first_claimant (node_at tree) (parent_of q) (text_of q) ≡ sibling_with_alias tree q
+  first_sibling_is q valid some =
+      let p = parent_of q in
+      let whole = kid_parts q some in
+      let segment = valid_name p (name_of q) (ap is_path whole ∙ valid) in
+      ap (option_map (kid p))
+      (find_alike (λ name. claims_by (node_at tree) (kid p name) (text_of q)) (λ sibling. has_alias tree (kid p sibling) (name_of q))
+      (λ name. claims_by_is (kid p name) (text_of q) ∙ ap (λ r. claims_alias tree (kid p name) (text_of r)) (sym whole) ∙ claims_is read tree good p name (name_of q) segment)
+      (kids_at tree p))
+
+  none_here : (o : Option Node) → is_none o ≡ true → o ≡ None
+  none_here None e = refl
+  none_here (Some node) e = absurd (false≢true e)
+
+  not_the_root : (q : List (List ℕ)) → is_none (node_at tree q) ≡ true → 0 < length q
+  not_the_root [] none = absurd (true≢false (sym good.root ∙ ap is_some (none_here (node_at tree []) none)))
+  not_the_root (s ∷ q) none = omega arith
+
+  head_is : (o : Option (List (List ℕ))) → slice_get (option_to_list o) 0 ≡ o
+  head_is None = refl
+  head_is (Some p) = refl
+
+  -- the alias of a text, by the rows of an index
+  pub alias_with_is : ((text : List ℕ) (path : List (List ℕ)) → path_of text ≡ Ok path → text_of path ≡ text) → ((text : List ℕ) (path : List (List ℕ)) → path_of text ≡ Ok path → is_path path ≡ true)
+      → (rows : ClaimRows) (text : List ℕ) → NamesFirst (node_at tree) rows → alias_with tree text ≡ cond (is_free tree text) (option_map (pair_inside Alias) (slice_get (claimants rows text) 0)) None
+  alias_with_is spelled valid rows text names =
+      elim (path_of text) as (λ r. path_of text ≡ r → alias_at tree r ≡ cond (is_free_at tree r) (option_map (pair_inside Alias) (slice_get (claimants rows text) 0)) None) [
+        | Err e ↦ λ is. refl
+        | Ok path ↦ λ is.
+            ⊎_elim
+            (λ (free : is_none (node_at tree path) ≡ true).
+            let some = not_the_root path free in
+            let a_path = valid text path is in
+            let first : sibling_with_alias tree path ≡ slice_get (claimants rows text) 0 =
+            sym (first_sibling_is path a_path some) ∙ sym (ap (λ l. slice_get l 0) (ap (claimants rows) (sym (spelled text path is)) ∙ names path a_path some) ∙ head_is (first_claimant (node_at tree) (parent_of path) (text_of path))) in
+            ap (λ o. cond (is_none (node_at tree path)) (option_map (pair_inside Alias) o) None) first)
+            (λ (taken : is_none (node_at tree path) ≡ false).
+            ap (λ b. cond b (option_map (pair_inside Alias) (sibling_with_alias tree path)) None) taken
+            ∙ sym (ap (λ b. cond b (option_map (pair_inside Alias) (slice_get (claimants rows text) 0)) None) taken))
+            (cases_Bool (is_none (node_at tree path)))
+      ] refl
+
+  nowhere : (b : Bool) → cond b (option_map (pair_inside Alias) None) None ≡ None
+  nowhere true = refl
+  nowhere false = refl
+
+  module _ (spelled : IsSpelled) (valid : (text : List ℕ) (path : List (List ℕ)) → path_of text ≡ Ok path → is_path path ≡ true) (rows : ClaimRows) (text : List ℕ) (names : NamesFirst (node_at tree) rows) where
+    by_rows : IsOf Alias tree None text (cond (is_free tree text) (option_map (pair_inside Alias) (slice_get (claimants rows text) 0)) None)
+    by_rows = subst (IsOf Alias tree None text) (alias_with_is spelled valid rows text names) (alias_is read spelled valid tree good text)
+
+    -- no path in the text's row, ..
+    pub no_alias_in_row : slice_get (claimants rows text) 0 ≡ None → IsOf Alias tree None text None
+    no_alias_in_row none = subst (IsOf Alias tree None text) (ap (λ o. cond (is_free tree text) (option_map (pair_inside Alias) o) None) none ∙ nowhere (is_free tree text)) by_rows
+
+    -- .. or a node at the path that the text spells
+    pub no_alias_at_node : is_free tree text ≡ false → IsOf Alias tree None text None
+    no_alias_at_node taken = subst (IsOf Alias tree None text) (ap (λ b. cond b (option_map (pair_inside Alias) (slice_get (claimants rows text) 0)) None) taken) by_rows
+
+    pub alias_in_row : (path : List (List ℕ)) → is_free tree text ≡ true → slice_get (claimants rows text) 0 ≡ Some path → IsOf Alias tree None text (Some (pair_inside Alias path))
+    alias_in_row path free first =
+        subst (IsOf Alias tree None text)
+        (ap (λ b. cond b (option_map (pair_inside Alias) (slice_get (claimants rows text) 0)) None) free ∙ ap (option_map (pair_inside Alias)) first) by_rows

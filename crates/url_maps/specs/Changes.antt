@@ -1,14 +1,16 @@
 -- What a patch of a tree changes in its index.
-use Rattle.std.specs.Prelude.{◌≡◌, ◌≤◌, ℕ, Bool, false, List, length}
+use Rattle.std.specs.Prelude.{◌≡◌, ◌≤◌, ◌<◌, ℕ, Bool, true, false, List, Option, length, option_to_list}
 use Rattle.std.specs.List.{list_any}
 use Rattle.std.specs.Map.{lookup}
 use Rattle.std.specs.Option.{option_map_or}
 use Rattle.std.specs.Str.{bytes_eq}
-use Rattle.resource_tree.specs.Content.{Content, same_path}
+use Rattle.sp_base.specs.Paths.{is_path, parent_of, text_of}
+use Rattle.resource_tree.specs.declared.nodes.Node.{Node}
+use Rattle.resource_tree.specs.Content.{Content, node_at, same_path}
 use Rattle.resource_tree.specs.Patches as patches
-use Rattle.url_maps.specs.Claims.{Index, ClaimRows, claimants, claims_alias, claims_vanity_path, node_claims_alias, node_claims_vanity_path}
+use Rattle.url_maps.specs.Claims.{Index, ClaimRows, claimants, claims_vanity_path, first_claimant, node_claims_vanity_path}
 
--- texts whose claimants change, each with all who claim it after the change
+-- texts whose claimants change, each with those after the change: of an alias the first, of a vanity path all
 pub record Change : Type 0 where
   pub aliases : ClaimRows
   pub vanity_paths : ClaimRows
@@ -17,10 +19,7 @@ pub record Change : Type 0 where
 abbrev pub claimants_over : ClaimRows → ClaimRows → List ℕ → List (List (List ℕ))
 claimants_over changed rows text = option_map_or (λ paths. paths) (lookup (bytes_eq text) changed) (claimants rows text)
 
--- whether a node claims a text as its alias or as its vanity path, in a tree with a patch over it
-abbrev pub patched_alias : Content → patches.Rows → List (List ℕ) → List ℕ → Bool
-patched_alias tree patch path text = option_map_or (λ node. node_claims_alias path node text) (patches.patching_at tree patch path) false
-
+-- whether a node claims a text as its vanity path, in a tree with a patch over it
 abbrev pub patched_vanity_path : Content → patches.Rows → List (List ℕ) → List ℕ → Bool
 patched_vanity_path tree patch path text = option_map_or (λ node. node_claims_vanity_path node text) (patches.patching_at tree patch path) false
 
@@ -28,9 +27,15 @@ patched_vanity_path tree patch path text = option_map_or (λ node. node_claims_v
 abbrev pub AreChanged : (List (List ℕ) → List ℕ → Bool) → (List (List ℕ) → List ℕ → Bool) → ClaimRows → Type 0
 AreChanged before after changed = (text : List ℕ) (path : List (List ℕ)) → option_map_or (list_any (same_path path)) (lookup (bytes_eq text) changed) (before path text) ≡ after path text
 
+-- The rows lead from the first siblings of a look-up to those of another: the text of each path has the first that claims it after, where it has a
+-- row, and else the first is the same before and after.
+abbrev pub LeadsOn : (List (List ℕ) → Option Node) → (List (List ℕ) → Option Node) → ClaimRows → Type 0
+LeadsOn before after changed = (path : List (List ℕ)) → is_path path ≡ true → 0 < length path
+    → option_map_or (λ paths. paths) (lookup (bytes_eq (text_of path)) changed) (option_to_list (first_claimant before (parent_of path) (text_of path))) ≡ option_to_list (first_claimant after (parent_of path) (text_of path))
+
 -- The change is the one that a patch of a tree makes.
 pub record IsChangeOf (tree : Content) (patch : patches.Rows) (change : Change) : Type 0 where
-  pub aliases : AreChanged (claims_alias tree) (patched_alias tree patch) change.aliases
+  pub aliases : LeadsOn (node_at tree) (patches.patching_at tree patch) change.aliases
   pub vanity_paths : AreChanged (claims_vanity_path tree) (patched_vanity_path tree patch) change.vanity_paths
 
 -- The index has room for the change.

@@ -1,11 +1,11 @@
 -- The nodes that claim a text as their alias or their vanity path, by the text.
-use Rattle.std.specs.Prelude.{◌≡◌, ◌<◌, ◌&&◌, ◌||◌, ◌==◌, [], ℕ, Bool, true, false, not, nat_eq, List, Result, Ok, Err, codes, length}
+use Rattle.std.specs.Prelude.{◌≡◌, ◌<◌, ◌&&◌, ◌||◌, ◌==◌, [], ℕ, Bool, true, false, not, nat_eq, find, List, Option, Result, Ok, Err, codes, length, option_map, option_to_list}
 use Rattle.std.specs.Cmp.Lexicographic.{pointwise}
 use Rattle.std.specs.List.{list_any}
 use Rattle.std.specs.Map.{lookup}
 use Rattle.std.specs.Option.{option_map_or}
 use Rattle.std.specs.Str.{bytes_eq}
-use Rattle.sp_base.specs.Paths.{parent_of, path_of, seg_ok, text_of}
+use Rattle.sp_base.specs.Paths.{is_path, parent_of, path_of, seg_ok, text_of}
 use Rattle.sp_base.specs.declared.path.PathFault.{PathFault}
 use Rattle.resource_tree.specs.declared.nodes.Node.{Node}
 use Rattle.resource_tree.specs.Content.{Content, kid, node_at, prop_at, same_path}
@@ -59,17 +59,37 @@ AddsClaims path test old new = (text : List ℕ) (q : List (List ℕ)) → list_
 abbrev pub AreClaims : (List (List ℕ) → List ℕ → Bool) → ClaimRows → Type 0
 AreClaims claims rows = (text : List ℕ) (path : List (List ℕ)) → list_any (same_path path) (claimants rows text) ≡ claims path text
 
+-- ---- aliases: of the siblings that claim a text the first in their order counts
+
+-- whether the node that a look-up has at a path claims a text as its alias
+abbrev pub claims_by : (List (List ℕ) → Option Node) → List (List ℕ) → List ℕ → Bool
+claims_by at path text = is_path path && option_map_or (λ node. node_claims_alias path node text) (at path) false
+
+-- the kids of the node that a look-up has at a path, in their order
+abbrev pub kids_by : (List (List ℕ) → Option Node) → List (List ℕ) → List (List ℕ)
+kids_by at path = option_map_or (λ node. node.kids) (at path) []
+
+-- the first kid of a node that claims a text
+abbrev pub first_claimant : (List (List ℕ) → Option Node) → List (List ℕ) → List ℕ → Option (List (List ℕ))
+first_claimant at parent text = option_map (kid parent) (find (λ name. claims_by at (kid parent name) text) (kids_by at parent))
+
+-- the text of each path has the first of its siblings that claims it, and no other
+abbrev pub NamesFirst : (List (List ℕ) → Option Node) → ClaimRows → Type 0
+NamesFirst at rows = (path : List (List ℕ)) → is_path path ≡ true → 0 < length path → claimants rows (text_of path) ≡ option_to_list (first_claimant at (parent_of path) (text_of path))
+
+-- ---- the index
+
 -- the claimants of texts, and for how many more texts there is room
 pub record Table : Type 0 where
   pub rows : ClaimRows
   pub room : ℕ
 
--- the aliases and the vanity paths of a tree by their texts
+-- by their texts the siblings that are named by an alias, and the nodes with a vanity path
 pub record Index : Type 0 where
   pub aliases : Table
   pub vanity_paths : Table
 
 -- The index is the tree's.
 pub record IsIndexOf (tree : Content) (index : Index) : Type 0 where
-  pub aliases : AreClaims (claims_alias tree) index.aliases.rows
+  pub aliases : NamesFirst (node_at tree) index.aliases.rows
   pub vanity_paths : AreClaims (claims_vanity_path tree) index.vanity_paths.rows

@@ -7,6 +7,7 @@ pub mod Turns
 pub mod Claims
 pub mod Changes
 pub mod Noting
+pub mod Siblings
 pub mod Search
 pub mod Answers
 pub mod Locations

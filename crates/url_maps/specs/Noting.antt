@@ -7,7 +7,7 @@ use Rattle.std.specs.Str.{bytes_eq}
 use Rattle.resource_tree.specs.declared.patch.PatchNode.{PatchNode}
 use Rattle.resource_tree.specs.Content.{same_path}
 use Rattle.resource_tree.specs.Patches as patches
-use Rattle.url_maps.specs.Claims.{ClaimRows, claimants, node_claims_alias, node_claims_vanity_path}
+use Rattle.url_maps.specs.Claims.{ClaimRows, claimants, node_claims_vanity_path}
 
 -- those of some paths at which a patch has nothing
 abbrev pub kept : patches.Rows → List (List (List ℕ)) → List (List (List ℕ))
@@ -36,8 +36,5 @@ pub record NotesRow (rows : ClaimRows) (patch : patches.Rows) (path : List (List
   pub has : (text : List ℕ) → has_row new text ≡ (has_row old text || (before text || after text))
 
 -- what the node that a row leaves at a path claims
-abbrev pub left_alias : List (List ℕ) → PatchNode → List ℕ → Bool
-left_alias path row text = option_map_or (λ node. node_claims_alias path node text) (patches.left_by (Some row) None) false
-
 abbrev pub left_vanity_path : List (List ℕ) → PatchNode → List ℕ → Bool
 left_vanity_path path row text = option_map_or (λ node. node_claims_vanity_path node text) (patches.left_by (Some row) None) false

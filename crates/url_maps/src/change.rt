@@ -1,20 +1,22 @@
 // The change of an index by a patch of the tree.
-ghost use Rattle.std.specs.Prelude.{◌≡◌, [], ℕ, List, IfOk, OnOk, Some, None, option_copied};
+ghost use Rattle.std.specs.Prelude.{◌≡◌, ℕ, List, IfOk, OnOk};
 ghost use Rattle.resource_tree.specs.Content.{Content, node_at};
-ghost use Rattle.resource_tree.specs.Patches.{Rows, left_by, patching_at};
-ghost use Rattle.url_maps.specs.Claims.{IsIndexOf, claims_alias, claims_vanity_path};
-ghost use Rattle.url_maps.specs.Changes.{HasRoom, IsChangeOf};
-ghost use Rattle.url_maps.specs.Noting.{NotesRow, left_alias, left_vanity_path};
+ghost use Rattle.resource_tree.specs.Patches.{Rows, patching_at};
+ghost use Rattle.url_maps.specs.Claims.{IsIndexOf, claims_vanity_path};
+ghost use Rattle.url_maps.specs.Changes.{AreChanged, HasRoom, IsChangeOf, patched_vanity_path};
+ghost use Rattle.url_maps.specs.Noting.{NotesRow, left_vanity_path};
 
 use crate::MapIndex;
-use crate::claimed::{alias_texts, vanity_texts};
+use crate::claimed::vanity_texts;
 use crate::claims_change::ClaimsChange;
-use resource_tree::{Node, Patch, PatchNode, Tree};
+use crate::parents::left_by;
+use crate::siblings::siblings_change;
+use resource_tree::{Patch, PatchNode, Tree};
 use sp_base::{Mem, Path};
 use std::alloc::Global;
 use std::marker::Model;
 
-/// What a patch changes in an index: the texts whose claimants change, and who claims them after it.
+/// What a patch changes in an index: the texts whose claimants change, and those after it.
 #[derive(Drop)]
 pub struct IndexChange {
     aliases: ClaimsChange,
@@ -31,7 +33,8 @@ impl Model for IndexChange {
 
 impl MapIndex {
     /// What a patch of the tree changes in the index, for which room is made here: all memory that the change takes. It walks over
-    /// the patch, and over the claimants of the texts that the patch's nodes claim before it or after it.
+    /// the patch, over the kids of the nodes whose kids it changes or the aliases of whose kids, and over the claimants of the
+    /// vanity paths that the patch's nodes have before it or after it.
     pub fn change_of(&mut self, alloc: Global, tree: &Tree, patch: &Patch) -> Mem<IndexChange>
         requires { IsIndexOf tree.now self.old }
         ensures change { IfOk result (IsChangeOf tree.now patch.now) }
@@ -62,33 +65,30 @@ fn change_by(alloc: Global, index: &MapIndex, tree: &Tree, patch: &Patch) -> Mem
     requires { IsIndexOf tree.now index.now }
     ensures { IfOk result (IsChangeOf tree.now patch.now) }
 {
-    let mut aliases = ClaimsChange::new(alloc, tree.seeds());
-    let mut vanity_paths = ClaimsChange::new(alloc, tree.seeds());
+    Ok(IndexChange {
+        aliases: siblings_change(alloc, tree, patch)?,
+        vanity_paths: vanity_change(alloc, index, tree, patch)?,
+    })
+}
+
+// What a patch changes of the vanity paths.
+fn vanity_change(alloc: Global, index: &MapIndex, tree: &Tree, patch: &Patch) -> Mem<ClaimsChange>
+    requires { IsIndexOf tree.now index.now }
+    ensures { IfOk result (AreChanged (claims_vanity_path tree.now) (patched_vanity_path tree.now patch.now)) }
+{
+    let mut change = ClaimsChange::new(alloc, tree.seeds());
     for place in 0..patch.len() {
         let Some((path, row)) = patch.at(place) else {
             continue;
         };
-        note_row(
-            &mut aliases,
-            &mut vanity_paths,
-            alloc,
-            index,
-            tree,
-            patch,
-            path,
-            row,
-        )?;
+        note_row(&mut change, alloc, index, tree, patch, path, row)?;
     }
-    Ok(IndexChange {
-        aliases,
-        vanity_paths,
-    })
+    Ok(change)
 }
 
 // Notes what a row changes.
 fn note_row(
-    aliases: &mut ClaimsChange,
-    vanity_paths: &mut ClaimsChange,
+    change: &mut ClaimsChange,
     alloc: Global,
     index: &MapIndex,
     tree: &Tree,
@@ -96,26 +96,12 @@ fn note_row(
     path: &Path,
     row: &PatchNode,
 ) -> Mem<()>
-    ensures aliases { OnOk result (NotesRow index.now.aliases.rows patch.now path.now (claims_alias tree.now path.now) (left_alias path.now row.now) aliases.old aliases.new) }
-    ensures vanity_paths { OnOk result (NotesRow index.now.vanity_paths.rows patch.now path.now (claims_vanity_path tree.now path.now) (left_vanity_path path.now row.now) vanity_paths.old vanity_paths.new) }
+    ensures { OnOk result (NotesRow index.now.vanity_paths.rows patch.now path.now (claims_vanity_path tree.now path.now) (left_vanity_path path.now row.now) change.old change.new) }
 {
     let old = tree.node(path);
     let new = left_by(row);
-    let before = alias_texts(alloc, path, old)?;
-    let after = alias_texts(alloc, path, new)?;
-    aliases.note_node(alloc, &index.aliases, patch, path, &before, &after)?;
     let before = vanity_texts(alloc, old)?;
     let after = vanity_texts(alloc, new)?;
-    vanity_paths.note_node(alloc, &index.vanity_paths, patch, path, &before, &after)?;
+    change.note_node(alloc, &index.vanity_paths, patch, path, &before, &after)?;
     Ok(())
-}
-
-// The node that a row leaves at its path.
-fn left_by(row: &PatchNode) -> Option<&Node>
-    ensures { option_copied result ≡ left_by (Some row.now) None }
-{
-    match row {
-        PatchNode::Node(node) => Some(node),
-        PatchNode::Gone => None,
-    }
 }

@@ -1,10 +1,12 @@
 // The texts whose claimants a patch changes.
-ghost use Rattle.std.specs.Prelude.{◌≡◌, ◌++◌, [], ℕ, List, IfOk, OnOk, None, Some, cond, length, option_copied, option_to_list};
+ghost use Rattle.std.specs.Prelude.{◌≡◌, ◌++◌, ◌||◌, [], ℕ, List, IfOk, OnOk, None, Some, cond, length, option_copied, option_to_list};
 ghost use Rattle.std.specs.List.{list_any};
 ghost use Rattle.std.specs.Map.{lookup};
 ghost use Rattle.std.specs.Str.{bytes_eq};
 ghost use Rattle.resource_tree.specs.Patches.{row_at};
-ghost use Rattle.url_maps.specs.Noting.{Notes, NotesRow, is_at_some, kept, noted};
+ghost use Rattle.url_maps.specs.Claims.{claimants};
+ghost use Rattle.url_maps.specs.Noting.{Notes, NotesRow, has_row, is_at_some, kept, noted};
+ghost use Rattle.url_maps.specs.Siblings.{PutsRows, or_else};
 
 use crate::claims::Claims;
 use indexmap::IndexMap;
@@ -111,6 +113,51 @@ impl ClaimsChange {
         }
     }
 
+    // Gives each of some texts a row, with a path where it has none yet.
+    pub(crate) fn put_all(
+        &mut self,
+        alloc: Global,
+        texts: &[TextBuf],
+        path: Option<&Path>,
+    ) -> Mem<()>
+        ensures { OnOk result (PutsRows (option_copied path.entry) (λ t. list_any (bytes_eq t) texts.now) self.old self.new) }
+    {
+        for text in texts {
+            self.put(alloc, text.text(), path)?;
+        }
+        Ok(())
+    }
+
+    fn put(&mut self, alloc: Global, text: &str, path: Option<&Path>) -> Mem<()>
+        ensures { OnOk result ((t : List ℕ) → lookup (bytes_eq t) self.new ≡ cond (bytes_eq text.now t) (Some (or_else (claimants self.old text.now) (option_to_list (option_copied path.entry)))) (lookup (bytes_eq t) self.old)) }
+    {
+        let mut paths = self.take_paths(alloc, text);
+        push_first(&mut paths, alloc, path)?;
+        self.set(alloc, text, paths)?;
+        Ok(())
+    }
+
+    // Takes the row of a text away, and answers its paths: none, where it had no row.
+    fn take_paths(&mut self, alloc: Global, text: &str) -> PathList
+        ensures value { result ≡ claimants self.old text.now }
+        ensures rest { (t : List ℕ) → lookup (bytes_eq t) self.new ≡ cond (bytes_eq text.now t) None (lookup (bytes_eq t) self.old) }
+    {
+        match self.take(text) {
+            Some(paths) => paths,
+            None => PathList::new(alloc),
+        }
+    }
+
+    // Gives a text a row without paths, and answers whether it had one.
+    pub(crate) fn had(&mut self, alloc: Global, text: &str) -> Mem<bool>
+        ensures value { IfOk result (λ had. had ≡ has_row self.old text.now) }
+        ensures rest { OnOk result ((t : List ℕ) → has_row self.new t ≡ (has_row self.old t || bytes_eq text.now t)) }
+    {
+        let had = self.take(text).is_some();
+        self.set(alloc, text, PathList::new(alloc))?;
+        Ok(had)
+    }
+
     // Takes the row of a text away.
     fn take(&mut self, text: &str) -> Option<PathList>
         ensures value { result ≡ lookup (bytes_eq text.now) self.old }
@@ -134,6 +181,17 @@ fn push_some(paths: &mut PathList, alloc: Global, path: Option<&Path>) -> Mem<()
     if let Some(path) = path {
         paths.push(path.duplicate(alloc)?)?;
     }
+    Ok(())
+}
+
+// Adds a path to no others.
+fn push_first(paths: &mut PathList, alloc: Global, path: Option<&Path>) -> Mem<()>
+    ensures { OnOk result (paths.new ≡ or_else paths.old (option_to_list (option_copied path.entry))) }
+{
+    if !paths.is_empty() {
+        return Ok(());
+    }
+    push_some(paths, alloc, path)?;
     Ok(())
 }
 

@@ -1,15 +1,16 @@
 // The index of a tree's aliases and vanity paths.
 ghost use Rattle.std.specs.Prelude.{IfOk, OnOk};
-ghost use Rattle.url_maps.specs.Claims.{AddsClaims, IsIndexOf, claims_alias, claims_vanity_path};
+ghost use Rattle.url_maps.specs.Claims.{AddsClaims, IsIndexOf, claims_vanity_path};
 
-use crate::claimed::{alias_texts, vanity_texts};
+use crate::claimed::vanity_texts;
 use crate::claims::Claims;
+use crate::siblings::first_siblings;
 use resource_tree::Tree;
 use sp_base::{Mem, Path};
 use std::alloc::Global;
 use std::marker::Model;
 
-/// The aliases and the vanity paths of a tree, found by their texts.
+/// The aliases and the vanity paths of a tree, found by their texts: of an alias the first of the siblings that have it.
 #[derive(Drop)]
 pub struct MapIndex {
     pub(crate) aliases: Claims,
@@ -29,35 +30,24 @@ impl MapIndex {
     pub fn of(alloc: Global, tree: &Tree) -> Mem<MapIndex>
         ensures { IfOk result (λ index. IsIndexOf tree.now index) }
     {
-        let mut aliases = Claims::new(alloc, tree.seeds());
         let mut vanity_paths = Claims::new(alloc, tree.seeds());
         let all = tree.paths(alloc)?;
         let paths = all.as_slice();
         for path in paths {
-            add_claims(&mut aliases, &mut vanity_paths, alloc, tree, path)?;
+            add_vanity_paths(&mut vanity_paths, alloc, tree, path)?;
         }
         Ok(MapIndex {
-            aliases,
+            aliases: first_siblings(alloc, tree, paths)?,
             vanity_paths,
         })
     }
 }
 
-// Adds what the node at a path claims, if there is one.
-fn add_claims(
-    aliases: &mut Claims,
-    vanity_paths: &mut Claims,
-    alloc: Global,
-    tree: &Tree,
-    path: &Path,
-) -> Mem<()>
-    ensures aliases { OnOk result (AddsClaims path.now (claims_alias tree.now path.now) aliases.old.rows aliases.new.rows) }
-    ensures vanity_paths { OnOk result (AddsClaims path.now (claims_vanity_path tree.now path.now) vanity_paths.old.rows vanity_paths.new.rows) }
+// Adds the vanity paths of the node at a path, if there is one.
+fn add_vanity_paths(claims: &mut Claims, alloc: Global, tree: &Tree, path: &Path) -> Mem<()>
+    ensures { OnOk result (AddsClaims path.now (claims_vanity_path tree.now path.now) claims.old.rows claims.new.rows) }
 {
-    let node = tree.node(path);
-    let texts = alias_texts(alloc, path, node)?;
-    aliases.add_all(alloc, texts.as_slice(), path)?;
-    let texts = vanity_texts(alloc, node)?;
-    vanity_paths.add_all(alloc, texts.as_slice(), path)?;
+    let texts = vanity_texts(alloc, tree.node(path))?;
+    claims.add_all(alloc, texts.as_slice(), path)?;
     Ok(())
 }

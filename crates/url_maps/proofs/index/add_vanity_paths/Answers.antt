@@ -1,0 +1,12 @@
+use Rattle.std.proofs.Common.{◌∙◌, ap, sym}
+use Rattle.std.specs.Prelude.{option_copied}
+use Rattle.std.specs.List.{list_any}
+use Rattle.std.specs.Str.{bytes_eq}
+use Rattle.url_maps.specs.Claims.{claims_vanity_path}
+use Rattle.url_maps.proofs.ClaimLemmas.{adds_alike, claims_vanity_path_is}
+use Rattle.url_maps.proofs.index.add_vanity_paths.Goals as goal
+
+pub returns : goal.returns
+returns c =
+    adds_alike c.args.path.now c.args.claims.now.rows c.add_all.new.self.rows (λ t. list_any (bytes_eq t) c.as_slice.result.now) (claims_vanity_path c.args.tree.now c.args.path.now)
+    (λ t. claims_vanity_path_is c.args.tree.now c.args.path.now (option_copied c.node.result) c.node.ensures t ∙ sym (ap (list_any (bytes_eq t)) c.as_slice.ensures ∙ c.in_ok-texts.ensures t)) c.in_ok-add_all.ensures

@@ -1,0 +1,61 @@
+-- For the making of an index and of a change alone: how far the first siblings with an alias are put into rows.
+use Rattle.std.specs.Prelude.{◌≡◌, ◌<◌, ◌&&◌, ◌||◌, ℕ, Bool, true, false, is_some, if◌then◌else◌, codes, length, List, [], ◌∷◌, Option, Some, None, option_to_list}
+use Rattle.std.specs.List.{list_any}
+use Rattle.std.specs.Option.{option_map_or}
+use Rattle.sp_base.specs.Paths.{is_path, parent_of, text_of}
+use Rattle.resource_tree.specs.declared.nodes.Node.{Node}
+use Rattle.resource_tree.specs.declared.patch.PatchNode.{PatchNode}
+use Rattle.resource_tree.specs.Content.{Content, node_at, prop_at, same_path}
+use Rattle.resource_tree.specs.Patches as patches
+use Rattle.url_maps.specs.Claims.{ClaimRows, claimants, first_claimant, kids_by}
+use Rattle.url_maps.specs.Noting.{has_row}
+use Rattle.url_maps.specs.Words.{mapping_texts}
+
+-- the paths of a list, or those of another where it has none
+abbrev pub or_else : List (List (List ℕ)) → List (List (List ℕ)) → List (List (List ℕ))
+or_else [] others = others
+or_else (path ∷ paths) others = path ∷ paths
+
+-- a path, where it is to be named
+abbrev pub path_if : Bool → List (List ℕ) → Option (List (List ℕ))
+path_if names path = if names then Some path else None
+
+-- Texts get a row each, with a path where they have none yet.
+pub record PutsRows (path : Option (List (List ℕ))) (texts : List ℕ → Bool) (old new : ClaimRows) : Type 0 where
+  pub paths : (text : List ℕ) → claimants new text ≡ or_else (claimants old text) (if texts text then option_to_list path else [])
+  pub has : (text : List ℕ) → has_row new text ≡ (has_row old text || texts text)
+
+-- The texts that a look-up's kids of a node claim get a row each, with the first of these kids where it is to be named and they have none yet.
+pub record PutsKids (at : List (List ℕ) → Option Node) (names : Bool) (parent : List (List ℕ)) (old new : ClaimRows) : Type 0 where
+  pub paths : (text : List ℕ) → claimants new text ≡ or_else (claimants old text) (if names then option_to_list (first_claimant at parent text) else [])
+  pub has : (text : List ℕ) → has_row new text ≡ (has_row old text || is_some (first_claimant at parent text))
+
+-- The same of the kids of some nodes.
+pub record PutsFamilies (at : List (List ℕ) → Option Node) (names : Bool) (parents : List (List (List ℕ))) (old new : ClaimRows) : Type 0 where
+  pub paths : (path : List (List ℕ)) → is_path path ≡ true → 0 < length path
+      → claimants new (text_of path) ≡ or_else (claimants old (text_of path)) (if names && list_any (same_path (parent_of path)) parents then option_to_list (first_claimant at (parent_of path) (text_of path)) else [])
+  pub has : (path : List (List ℕ)) → is_path path ≡ true → 0 < length path
+      → has_row new (text_of path) ≡ (has_row old (text_of path) || (list_any (same_path (parent_of path)) parents && is_some (first_claimant at (parent_of path) (text_of path))))
+
+-- ---- the nodes whose kids a patch changes, or the aliases of whose kids
+
+-- the kids of a node, if there is one
+abbrev pub kids_if : Option Node → List (List ℕ)
+kids_if node = option_map_or (λ n. n.kids) node []
+
+-- the aliases of a node, if there is one
+abbrev pub alias_words : Option Node → List (List ℕ)
+alias_words node = option_map_or (λ n. mapping_texts (prop_at n (codes "sling:alias"))) node []
+
+-- A row's node is among the parents unless the row leaves its kids, and its parent unless the row leaves its aliases.
+pub record IsSettled (tree : Content) (path : List (List ℕ)) (row : PatchNode) (parents : List (List (List ℕ))) : Type 0 where
+  pub kids : list_any (same_path path) parents ≡ false → kids_if (node_at tree path) ≡ kids_if (patches.left_by (Some row) None)
+  pub aliases : list_any (same_path (parent_of path)) parents ≡ false → alias_words (node_at tree path) ≡ alias_words (patches.left_by (Some row) None)
+
+-- paths are kept, and maybe more are added
+abbrev pub IsWithin : List (List (List ℕ)) → List (List (List ℕ)) → Type 0
+IsWithin old new = (path : List (List ℕ)) → list_any (same_path path) old ≡ true → list_any (same_path path) new ≡ true
+
+-- where a node isn't among the parents, its kids that claim a text are the same before a patch and after it
+abbrev pub KeepsOthers : Content → patches.Rows → List (List (List ℕ)) → Type 0
+KeepsOthers tree patch parents = (parent : List (List ℕ)) (text : List ℕ) → list_any (same_path parent) parents ≡ false → first_claimant (node_at tree) parent text ≡ first_claimant (patches.patching_at tree patch) parent text

@@ -1,0 +1,116 @@
+// The first of the siblings with an alias, put into rows parent by parent.
+ghost use Rattle.std.specs.Prelude.{◌≡◌, ℕ, List, IfOk, OnOk, is_some, option_copied};
+ghost use Rattle.std.specs.List.{list_any};
+ghost use Rattle.resource_tree.specs.Content.{kid, node_at, same_path};
+ghost use Rattle.resource_tree.specs.Patches.{patching_at};
+ghost use Rattle.url_maps.specs.Claims.{NamesFirst, claims_by};
+ghost use Rattle.url_maps.specs.Changes.{LeadsOn};
+ghost use Rattle.url_maps.specs.Siblings.{PutsFamilies, PutsKids, PutsRows, path_if};
+
+use crate::claimed::alias_texts;
+use crate::claims::Claims;
+use crate::claims_change::ClaimsChange;
+use crate::parents::{changed_parents, left_by};
+use resource_tree::{Node, Patch, Tree};
+use sp_base::{Mem, Path, a_path_and_its_text};
+use std::alloc::Global;
+
+// The first siblings of a tree, whose paths are handed in.
+pub(crate) fn first_siblings(alloc: Global, tree: &Tree, paths: &[Path]) -> Mem<Claims>
+    requires { (q : List (List ℕ)) → list_any (same_path q) paths.now ≡ is_some (node_at tree.now q) }
+    ensures { IfOk result (λ claims. NamesFirst (node_at tree.now) claims.rows) }
+{
+    let unchanged = Patch::new(alloc, tree.seeds());
+    let mut change = ClaimsChange::new(alloc, tree.seeds());
+    put_families(&mut change, alloc, tree, &unchanged, paths, true)?;
+    let mut claims = Claims::new(alloc, tree.seeds());
+    claims.make_room(change.len())?;
+    claims.change(change);
+    Ok(claims)
+}
+
+// What a patch changes of the first siblings. It walks over the kids of the nodes whose kids it changes, or the aliases of whose kids.
+pub(crate) fn siblings_change(alloc: Global, tree: &Tree, patch: &Patch) -> Mem<ClaimsChange>
+    ensures { IfOk result (LeadsOn (node_at tree.now) (patching_at tree.now patch.now)) }
+{
+    let changed = changed_parents(alloc, tree, patch)?;
+    let parents = changed.as_slice();
+    let unchanged = Patch::new(alloc, tree.seeds());
+    let mut change = ClaimsChange::new(alloc, tree.seeds());
+    put_families(&mut change, alloc, tree, &unchanged, parents, false)?;
+    put_families(&mut change, alloc, tree, patch, parents, true)?;
+    Ok(change)
+}
+
+// Gives the texts that the kids of some nodes claim a row, in a tree with a patch over it: with the first kid, or without.
+fn put_families(
+    change: &mut ClaimsChange,
+    alloc: Global,
+    tree: &Tree,
+    patch: &Patch,
+    parents: &[Path],
+    names: bool,
+) -> Mem<()>
+    ensures { OnOk result (PutsFamilies (patching_at tree.now patch.now) names parents.now change.old change.new) }
+{
+    a_path_and_its_text();
+    for parent in parents {
+        put_kids(change, alloc, tree, patch, parent, names)?;
+    }
+    Ok(())
+}
+
+fn put_kids(
+    change: &mut ClaimsChange,
+    alloc: Global,
+    tree: &Tree,
+    patch: &Patch,
+    parent: &Path,
+    names: bool,
+) -> Mem<()>
+    ensures { OnOk result (PutsKids (patching_at tree.now patch.now) names parent.now change.old change.new) }
+{
+    let Some(node) = node_after(tree, patch, parent) else {
+        return Ok(());
+    };
+    let kids = node.kids.as_slice();
+    for name in kids {
+        put_kid(change, alloc, tree, patch, parent, name.text(), names)?;
+    }
+    Ok(())
+}
+
+fn put_kid(
+    change: &mut ClaimsChange,
+    alloc: Global,
+    tree: &Tree,
+    patch: &Patch,
+    parent: &Path,
+    name: &str,
+    names: bool,
+) -> Mem<()>
+    ensures { OnOk result (PutsRows (path_if names (kid parent.now name.now)) (claims_by (patching_at tree.now patch.now) (kid parent.now name.now)) change.old change.new) }
+{
+    let Some(path) = parent.child_or_none(alloc, name)? else {
+        return Ok(());
+    };
+    let texts = alias_texts(alloc, &path, node_after(tree, patch, &path))?;
+    change.put_all(alloc, texts.as_slice(), path_if(names, &path))?;
+    Ok(())
+}
+
+fn path_if(names: bool, path: &Path) -> Option<&Path>
+    ensures { option_copied result ≡ path_if names path.now }
+{
+    if names { Some(path) } else { None }
+}
+
+// The node at a path of a tree with a patch over it.
+fn node_after<'a>(tree: &'a Tree, patch: &'a Patch, path: &Path) -> Option<&'a Node>
+    ensures { option_copied result ≡ patching_at tree.now patch.now path.now }
+{
+    match patch.get(path) {
+        Some(row) => left_by(row),
+        None => tree.node(path),
+    }
+}

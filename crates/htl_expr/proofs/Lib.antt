@@ -14,7 +14,9 @@ pub mod EscapeLemmas
 pub mod Writing
 pub mod Joined
 pub mod Chains
+pub mod Trees
 pub mod SameItems
+pub mod Remembered
 pub mod Moves
 pub mod MovesTokens
 pub mod MovesParts

@@ -1,12 +1,14 @@
 -- What values that lend stand for. Only proofs and private functions need this.
-use Rattle.std.specs.Prelude.{ℕ, Bool, true, false, List, [], codes, map}
+use Rattle.std.specs.Prelude.{◌≡◌, ℕ, Bool, true, false, List, [], Option, None, Some, codes, map, option_map}
 use Rattle.std.specs.Fmt.{signed_decimal}
 use Rattle.htl_expr.specs.declared.out.Out.{Out}
 use Rattle.htl_expr.specs.declared.out.Out.TheVariants as out
 use Rattle.htl_expr.specs.declared.lent.Lent.{Lent, fold-Lent}
 use Rattle.htl_expr.specs.declared.lent.Lent.TheOpen.{Lent-F}
 use Rattle.htl_expr.specs.Print.{truth_text, plain}
-use Rattle.htl_expr.specs.Value.{item_texts}
+use Rattle.htl_expr.specs.Value.{item_texts, property}
+use Rattle.htl_expr.specs.declared.lent.Operand.{Operand}
+use Rattle.htl_expr.specs.Bindings.{Bindings}
 
 -- a value that lends, with what its items stand for
 abbrev pub out_step : Lent-F Out → Out
@@ -36,3 +38,12 @@ listed_texts _ = []
 abbrev pub is_list : Out → Bool
 is_list (out.List texts) = true
 is_list _ = false
+
+-- a value that is said to be a property is the one of that name
+abbrev pub IsPropertyIfNamed : Bindings → Option (List ℕ) → Out → Type 0
+IsPropertyIfNamed scope None v = Unit {0}
+IsPropertyIfNamed scope (Some name) v = v ≡ property scope name
+
+-- what an operand says of itself holds for this resource
+abbrev pub IsOperand : Bindings → Operand → Type 0
+IsOperand scope operand = IsPropertyIfNamed scope (option_map (λ name. name.now) operand.property) (out_of_lent operand.value)

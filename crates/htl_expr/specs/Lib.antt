@@ -4,6 +4,7 @@ pub mod Grammar
 pub mod Lent
 pub mod Print
 pub mod Read
+pub mod Remembered
 pub mod Tokens
 pub mod Value
 pub mod Writing

@@ -7,7 +7,8 @@ ghost use Rattle.htl_expr.specs.Lent.{out_of_lent};
 ghost use Rattle.htl_expr.specs.Value as spec;
 ghost use Rattle.htl_expr.specs.declared.out.Out.TheVariants as out;
 
-use crate::lent::Lent;
+use crate::evaluation::Evaluation;
+use crate::lent::{Lent, Operand};
 use crate::node::Comparison;
 use crate::same::{has_same_items, is_list};
 use sp_base::Mem;
@@ -31,45 +32,44 @@ fn is_at_most(a: &Lent, b: &Lent) -> bool
     }
 }
 
-// Whether a comparison holds between two values.
-fn comparison_holds(alloc: Global, comparison: Comparison, a: &Lent, b: &Lent) -> Mem<bool>
-    ensures { IfOk result (λ holds. holds ≡ spec.comparison_holds comparison (out_of_lent a.now) (out_of_lent b.now)) }
-{
-    Ok(match comparison {
-        Comparison::Equal => is_same(alloc, a, b)?,
-        Comparison::NotEqual => !is_same(alloc, a, b)?,
-        Comparison::Below => is_below(a, b),
-        Comparison::Above => is_below(b, a),
-        Comparison::AtMost => is_at_most(a, b),
-        Comparison::AtLeast => is_at_most(b, a),
-    })
-}
-
-/// Whether a comparison holds between two operands, of which it may be known that they are one: a list is not compared with itself
-/// item by item.
-#[tactic(auto, using(crate::proofs::SameItems::same_where_one))]
+/// Whether a comparison holds between two operands. Two properties that are compared again are not looked through again.
 pub(crate) fn operands_compare(
     alloc: Global,
+    scope: &mut Evaluation,
     comparison: Comparison,
-    is_one: bool,
-    a: &Lent,
-    b: &Lent,
+    a: &Operand,
+    b: &Operand,
 ) -> Mem<bool>
-    requires { is_one ≡ true → out_of_lent a.now ≡ out_of_lent b.now }
-    ensures { IfOk result (λ holds. holds ≡ spec.comparison_holds comparison (out_of_lent a.now) (out_of_lent b.now)) }
+    requires first { lent.IsOperand scope.old a.now }
+    requires second { lent.IsOperand scope.old b.now }
+    ensures holds { IfOk result (λ holds. holds ≡ spec.comparison_holds comparison (out_of_lent a.now.value) (out_of_lent b.now.value)) }
+    ensures scope { scope.new ≡ scope.old }
 {
-    if !is_one {
-        return comparison_holds(alloc, comparison, a, b);
-    }
     match comparison {
-        Comparison::Equal => Ok(true),
-        Comparison::NotEqual => Ok(false),
-        _ => comparison_holds(alloc, comparison, a, b),
+        Comparison::Equal => operands_are_same(alloc, scope, a, b),
+        Comparison::NotEqual => Ok(!operands_are_same(alloc, scope, a, b)?),
+        Comparison::Below => Ok(is_below(&a.value, &b.value)),
+        Comparison::Above => Ok(is_below(&b.value, &a.value)),
+        Comparison::AtMost => Ok(is_at_most(&a.value, &b.value)),
+        Comparison::AtLeast => Ok(is_at_most(&b.value, &a.value)),
     }
 }
 
-// Whether two values have the same kind and the same content.
-fn is_same(alloc: Global, a: &Lent, b: &Lent) -> Mem<bool>
+// Whether two operands are the same, which is remembered where both are properties.
+fn operands_are_same(alloc: Global, scope: &mut Evaluation, a: &Operand, b: &Operand) -> Mem<bool>
+    requires first { lent.IsOperand scope.old a.now }
+    requires second { lent.IsOperand scope.old b.now }
+    ensures same { IfOk result (λ same. same ≡ spec.is_same (out_of_lent a.now.value) (out_of_lent b.now.value)) }
+    ensures scope { scope.new ≡ scope.old }
+{
+    match (a.property, b.property) {
+        (Some(a), Some(b)) => scope.has_same(alloc, a, b),
+        _ => is_same(alloc, &a.value, &b.value),
+    }
+}
+
+/// Whether two values have the same kind and the same content.
+pub(crate) fn is_same(alloc: Global, a: &Lent, b: &Lent) -> Mem<bool>
     ensures { IfOk result (λ same. same ≡ spec.is_same (out_of_lent a.now) (out_of_lent b.now)) }
 {
     if is_list(a) {

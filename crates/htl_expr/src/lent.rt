@@ -1,10 +1,10 @@
 //! Values that lend what is stored.
 
-ghost use Rattle.std.specs.Prelude.{◌≡◌, IfOk, map};
+ghost use Rattle.std.specs.Prelude.{◌≡◌, None};
 ghost use Rattle.htl_expr.specs.Value as values;
 ghost use Rattle.htl_expr.specs.Lent as spec;
 
-use sp_base::{LongList, TextList, TruthList};
+use sp_base::{LongList, TextBuf, TextList, TruthList};
 use sqlite_items::Items;
 
 /// The value of an expression, with what the resource and the expression have lent.
@@ -19,6 +19,26 @@ pub(crate) enum Lent<'a> {
     Truths(&'a TruthList),
     /// The values of the items of a list literal.
     Items(Items<Lent<'a>>),
+}
+
+/// A value, and the name of the property that it is, where it is one of the resource's.
+#[derive(Drop)]
+pub(crate) struct Operand<'a> {
+    pub(crate) value: Lent<'a>,
+    pub(crate) property: Option<&'a TextBuf>,
+}
+
+impl<'a> Operand<'a> {
+    /// A value of which nothing more is said.
+    pub(crate) fn of(value: Lent<'a>) -> Operand<'a>
+        ensures value { result.value ≡ value.entry }
+        ensures property { result.property ≡ None }
+    {
+        Operand {
+            value,
+            property: None,
+        }
+    }
 }
 
 /// Nothing, false, 0, the empty text and the empty list are false, and all else is true.

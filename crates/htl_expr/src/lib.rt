@@ -4,6 +4,7 @@
 mod access;
 mod compare;
 mod escape;
+mod evaluation;
 mod expression;
 mod laws;
 mod lent;
@@ -21,6 +22,7 @@ mod stop;
 mod tokens;
 mod value;
 
+pub use evaluation::Evaluation;
 pub use expression::{Context, Expr, ExprFault};
 pub use laws::{the_reading_is_the_grammar, too_deep_is_the_limit, what_is_written_is_inert};
 pub use node::{Comparison, Node};

@@ -7,6 +7,7 @@ ghost use Rattle.htl_expr.specs.Value.{print};
 ghost use Rattle.htl_expr.specs.Writing.{Wrote};
 
 use crate::escape::push;
+use crate::evaluation::Evaluation;
 use crate::expression::{Context, Expr};
 use crate::lent::Lent;
 use crate::lists::{long_text, push_longs, push_texts, push_truths, truth_text};
@@ -93,15 +94,16 @@ fn join_text(join: &Option<TextBuf>) -> &str
 impl Expr {
     // What `write` does to a text that is within the limit.
     #[tactic(auto, using(crate::proofs::EscapeLemmas::in_context_none))]
-    fn push_print(
-        &self,
+    fn push_print<'a>(
+        &'a self,
         alloc: Global,
         text: &mut String,
-        scope: &Scope,
+        scope: &mut Evaluation<'a>,
         most: usize,
     ) -> Result<(), WriteFault>
         requires { length (string_bytes text.old) ≤ most }
-        ensures { Wrote most result (string_bytes text.old) (print scope.now self.now) (string_bytes text.new) }
+        ensures text { Wrote most result (string_bytes text.old) (print scope.old self.now) (string_bytes text.new) }
+        ensures scope { scope.new ≡ scope.old }
     {
         match &self.node {
             Some(node) => {
@@ -112,7 +114,7 @@ impl Expr {
                     most,
                     self.context,
                     join_text(&self.join),
-                    &value,
+                    &value.value,
                 )
             }
             None => Ok(()),
@@ -120,17 +122,18 @@ impl Expr {
     }
 
     /// Writes what the expression prints for a resource after what a text has, if they have at most so many bytes together.
-    pub fn write(
-        &self,
+    pub fn write<'a>(
+        &'a self,
         alloc: Global,
         text: &mut String,
-        scope: &Scope,
+        scope: &mut Evaluation<'a>,
         most: usize,
     ) -> Result<(), WriteFault>
-        ensures ok { OnOk result ((string_bytes text.new ≡ string_bytes text.old ++ print scope.now self.now) × (length (string_bytes text.new) ≤ most)) }
-        ensures err { IfErr result (λ f. f ≢ WriteFault.NoMemory → (f ≡ WriteFault.TooLong) × (most < length (string_bytes text.old ++ print scope.now self.now))) }
+        ensures ok { OnOk result ((string_bytes text.new ≡ string_bytes text.old ++ print scope.old self.now) × (length (string_bytes text.new) ≤ most)) }
+        ensures err { IfErr result (λ f. f ≢ WriteFault.NoMemory → (f ≡ WriteFault.TooLong) × (most < length (string_bytes text.old ++ print scope.old self.now))) }
         // A text that isn't written whole isn't written in part.
         ensures kept { OnErr result (string_bytes text.new ≡ string_bytes text.old) }
+        ensures scope { scope.new ≡ scope.old }
     {
         let len = text.as_str().len();
         if len > most {
@@ -147,13 +150,14 @@ impl Expr {
 
     /// The text that the expression writes for a resource.
     #[tactic(auto, using(crate::proofs::EscapeLemmas::is_inert_in))]
-    pub fn print(&self, alloc: Global, scope: &Scope) -> Mem<TextBuf>
+    pub fn print<'a>(&'a self, alloc: Global, scope: &Scope<'a>) -> Mem<TextBuf>
         ensures exact { IfOk result (λ text. text ≡ print scope.now self.now) }
         // Without the option `context='unsafe'` it begins no tag and ends no attribute's value that stands in quotes.
         ensures inert { IfOk result (spec.IsInert self.now.context) }
     {
         let mut text = String::new(alloc);
-        match self.write(alloc, &mut text, scope, usize::MAX) {
+        let mut scope = Evaluation::of(alloc, scope);
+        match self.write(alloc, &mut text, &mut scope, usize::MAX) {
             Ok(()) => Ok(TextBuf::from(text)),
             Err(_) => Err(NoMemory),
         }

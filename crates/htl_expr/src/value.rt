@@ -2,15 +2,16 @@
 
 ghost use Rattle.std.specs.Prelude.{◌≡◌, IfOk, map, if◌then◌else◌, true};
 ghost use Rattle.htl_expr.specs.Value as spec;
-ghost use Rattle.htl_expr.specs.Lent.{out_of_lent};
+ghost use Rattle.htl_expr.specs.Lent.{out_of_lent, IsOperand};
 
 use crate::compare::operands_compare;
+use crate::evaluation::Evaluation;
 use crate::expression::Expr;
-use crate::lent::{Lent, is_true};
-use crate::node::Node;
+use crate::lent::{Lent, Operand, is_true};
+use crate::node::{Comparison, Node};
 use crate::out::{Out, owned};
 use crate::scope::{Scope, property, resource};
-use sp_base::Mem;
+use sp_base::{Mem, TextBuf};
 use sqlite_items::Items;
 use std::alloc::Global;
 
@@ -18,13 +19,16 @@ use std::alloc::Global;
 #[cycle(value)]
 fn and_next<'a>(
     alloc: Global,
-    scope: &Scope<'a>,
+    scope: &mut Evaluation<'a>,
     operand: &'a Node,
-    last: Lent<'a>,
-) -> Mem<Lent<'a>>
-    ensures { IfOk result (λ v. out_of_lent v ≡ (if spec.is_true (out_of_lent last.entry) then spec.value scope.now operand.now else out_of_lent last.entry)) }
+    last: Operand<'a>,
+) -> Mem<Operand<'a>>
+    requires { IsOperand scope.old last }
+    ensures value { IfOk result (λ v. out_of_lent v.value ≡ (if spec.is_true (out_of_lent last.entry.value) then spec.value scope.old operand.now else out_of_lent last.entry.value)) }
+    ensures operand { IfOk result (IsOperand scope.old) }
+    ensures scope { scope.new ≡ scope.old }
 {
-    if is_true(&last) {
+    if is_true(&last.value) {
         value(alloc, scope, operand)
     } else {
         Ok(last)
@@ -35,11 +39,14 @@ fn and_next<'a>(
 #[cycle(value)]
 fn and_values<'a>(
     alloc: Global,
-    scope: &Scope<'a>,
+    scope: &mut Evaluation<'a>,
     more: &'a [Node],
-    first: Lent<'a>,
-) -> Mem<Lent<'a>>
-    ensures { IfOk result (λ v. out_of_lent v ≡ spec.and_values (out_of_lent first.entry) (map (spec.value scope.now) more.now)) }
+    first: Operand<'a>,
+) -> Mem<Operand<'a>>
+    requires { IsOperand scope.old first }
+    ensures value { IfOk result (λ v. out_of_lent v.value ≡ spec.and_values (out_of_lent first.entry.value) (map (spec.value scope.old) more.now)) }
+    ensures operand { IfOk result (IsOperand scope.old) }
+    ensures scope { scope.new ≡ scope.old }
 {
     let mut last = first;
     for operand in more {
@@ -50,10 +57,18 @@ fn and_values<'a>(
 
 // The value of an operand, or of those before it if that is true.
 #[cycle(value)]
-fn or_next<'a>(alloc: Global, scope: &Scope<'a>, operand: &'a Node, last: Lent<'a>) -> Mem<Lent<'a>>
-    ensures { IfOk result (λ v. out_of_lent v ≡ (if spec.is_true (out_of_lent last.entry) then out_of_lent last.entry else spec.value scope.now operand.now)) }
+fn or_next<'a>(
+    alloc: Global,
+    scope: &mut Evaluation<'a>,
+    operand: &'a Node,
+    last: Operand<'a>,
+) -> Mem<Operand<'a>>
+    requires { IsOperand scope.old last }
+    ensures value { IfOk result (λ v. out_of_lent v.value ≡ (if spec.is_true (out_of_lent last.entry.value) then out_of_lent last.entry.value else spec.value scope.old operand.now)) }
+    ensures operand { IfOk result (IsOperand scope.old) }
+    ensures scope { scope.new ≡ scope.old }
 {
-    if is_true(&last) {
+    if is_true(&last.value) {
         Ok(last)
     } else {
         value(alloc, scope, operand)
@@ -64,11 +79,14 @@ fn or_next<'a>(alloc: Global, scope: &Scope<'a>, operand: &'a Node, last: Lent<'
 #[cycle(value)]
 fn or_values<'a>(
     alloc: Global,
-    scope: &Scope<'a>,
+    scope: &mut Evaluation<'a>,
     more: &'a [Node],
-    first: Lent<'a>,
-) -> Mem<Lent<'a>>
-    ensures { IfOk result (λ v. out_of_lent v ≡ spec.or_values (out_of_lent first.entry) (map (spec.value scope.now) more.now)) }
+    first: Operand<'a>,
+) -> Mem<Operand<'a>>
+    requires { IsOperand scope.old first }
+    ensures value { IfOk result (λ v. out_of_lent v.value ≡ spec.or_values (out_of_lent first.entry.value) (map (spec.value scope.old) more.now)) }
+    ensures operand { IfOk result (IsOperand scope.old) }
+    ensures scope { scope.new ≡ scope.old }
 {
     let mut last = first;
     for operand in more {
@@ -79,60 +97,91 @@ fn or_values<'a>(
 
 // The values of the items of a list literal.
 #[cycle(value)]
-fn item_values<'a>(alloc: Global, scope: &Scope<'a>, items: &'a [Node]) -> Mem<Items<Lent<'a>>>
-    ensures { IfOk result (λ values. map out_of_lent values ≡ map (spec.value scope.now) items.now) }
+fn item_values<'a>(
+    alloc: Global,
+    scope: &mut Evaluation<'a>,
+    items: &'a [Node],
+) -> Mem<Items<Lent<'a>>>
+    ensures values { IfOk result (λ values. map out_of_lent values ≡ map (spec.value scope.old) items.now) }
+    ensures scope { scope.new ≡ scope.old }
 {
     let mut values = Items::new(alloc);
     for item in items {
-        values.push(value(alloc, scope, item)?)?;
+        values.push(value(alloc, scope, item)?.value)?;
     }
     Ok(values)
 }
 
-// Whether two operands are one property.
-fn is_same_property(a: &Node, b: &Node) -> bool
-    ensures { result ≡ true → a.now ≡ b.now }
+// The property of this name, or nothing.
+fn property_operand<'a>(scope: &Evaluation<'a>, name: &'a TextBuf) -> Operand<'a>
+    ensures value { out_of_lent result.value ≡ spec.property scope.now name.now }
+    ensures operand { IsOperand scope.now result }
 {
-    match (a, b) {
-        (Node::Property(a), Node::Property(b)) => a.text() == b.text(),
-        _ => false,
+    Operand {
+        value: property(scope.scope(), name.text()),
+        property: Some(name),
     }
+}
+
+// Whether a comparison holds between an operand and the value of a tree.
+#[cycle(value)]
+fn compares_with<'a>(
+    alloc: Global,
+    scope: &mut Evaluation<'a>,
+    comparison: Comparison,
+    a: Operand<'a>,
+    b: &'a Node,
+) -> Mem<bool>
+    requires { IsOperand scope.old a }
+    ensures holds { IfOk result (λ holds. holds ≡ spec.comparison_holds comparison (out_of_lent a.entry.value) (spec.value scope.old b.now)) }
+    ensures scope { scope.new ≡ scope.old }
+{
+    let b = value(alloc, scope, b)?;
+    operands_compare(alloc, scope, comparison, &a, &b)
 }
 
 /// The value of a tree, with what the scope and the tree have lent.
 #[cycle(value)]
-pub(crate) fn value<'a>(alloc: Global, scope: &Scope<'a>, node: &'a Node) -> Mem<Lent<'a>>
-    ensures { IfOk result (λ v. out_of_lent v ≡ spec.value scope.now node.now) }
+pub(crate) fn value<'a>(
+    alloc: Global,
+    scope: &mut Evaluation<'a>,
+    node: &'a Node,
+) -> Mem<Operand<'a>>
+    ensures value { IfOk result (λ v. out_of_lent v.value ≡ spec.value scope.old node.now) }
+    ensures operand { IfOk result (IsOperand scope.old) }
+    ensures scope { scope.new ≡ scope.old }
 {
     match node {
-        Node::Text(text) => Ok(Lent::Text(text.text())),
-        Node::Long(number) => Ok(Lent::Long(*number)),
-        Node::Truth(truth) => Ok(Lent::Truth(*truth)),
-        Node::Variable(_) | Node::Access(_, _) => Ok(Lent::Nothing),
-        Node::Property(name) => Ok(property(scope, name.text())),
-        Node::Resource(name) => Ok(resource(scope, name.text())),
-        Node::List(items) => Ok(Lent::Items(item_values(alloc, scope, items.as_slice())?)),
-        Node::Not(operand) => Ok(Lent::Truth(!is_true(&value(alloc, scope, operand.get())?))),
+        Node::Text(text) => Ok(Operand::of(Lent::Text(text.text()))),
+        Node::Long(number) => Ok(Operand::of(Lent::Long(*number))),
+        Node::Truth(truth) => Ok(Operand::of(Lent::Truth(*truth))),
+        Node::Variable(_) | Node::Access(_, _) => Ok(Operand::of(Lent::Nothing)),
+        Node::Property(name) => Ok(property_operand(scope, name)),
+        Node::Resource(name) => Ok(Operand::of(resource(scope.scope(), name.text()))),
+        Node::List(items) => {
+            let items = item_values(alloc, scope, items.as_slice())?;
+            Ok(Operand::of(Lent::Items(items)))
+        }
+        Node::Not(operand) => {
+            let operand = value(alloc, scope, operand.get())?;
+            Ok(Operand::of(Lent::Truth(!is_true(&operand.value))))
+        }
         Node::Compare(comparison, a, b) => {
-            let is_one = is_same_property(a.get(), b.get());
             let a = value(alloc, scope, a.get())?;
-            let b = value(alloc, scope, b.get())?;
-            Ok(Lent::Truth(operands_compare(alloc, *comparison, is_one, &a, &b)?))
+            let holds = compares_with(alloc, scope, *comparison, a, b.get())?;
+            Ok(Operand::of(Lent::Truth(holds)))
         }
         Node::And(first, more) => {
-            {
-                let first = value(alloc, scope, first.get())?;
-                and_values(alloc, scope, more.as_slice(), first)
-            }
+            let first = value(alloc, scope, first.get())?;
+            and_values(alloc, scope, more.as_slice(), first)
         }
         Node::Or(first, more) => {
-            {
-                let first = value(alloc, scope, first.get())?;
-                or_values(alloc, scope, more.as_slice(), first)
-            }
+            let first = value(alloc, scope, first.get())?;
+            or_values(alloc, scope, more.as_slice(), first)
         }
         Node::Choice(condition, a, b) => {
-            if is_true(&value(alloc, scope, condition.get())?) {
+            let condition = value(alloc, scope, condition.get())?;
+            if is_true(&condition.value) {
                 value(alloc, scope, a.get())
             } else {
                 value(alloc, scope, b.get())
@@ -143,11 +192,14 @@ pub(crate) fn value<'a>(alloc: Global, scope: &Scope<'a>, node: &'a Node) -> Mem
 
 impl Expr {
     /// The value for a resource. That of an empty expression is nothing.
-    pub fn value(&self, alloc: Global, scope: &Scope) -> Mem<Out>
+    pub fn value<'a>(&'a self, alloc: Global, scope: &Scope<'a>) -> Mem<Out>
         ensures { IfOk result (λ v. v ≡ spec.expr_value scope.now self.now) }
     {
         match &self.node {
-            Some(node) => owned(alloc, &value(alloc, scope, node)?),
+            Some(node) => {
+                let mut scope = Evaluation::of(alloc, scope);
+                owned(alloc, &value(alloc, &mut scope, node)?.value)
+            }
             None => Ok(Out::Nothing),
         }
     }

@@ -6,7 +6,7 @@ ghost use Rattle.htl_text.specs.Template as spec;
 use crate::fault::RenderFault;
 use crate::piece::Piece;
 use crate::template::Template;
-use htl_expr::{Scope, WriteFault};
+use htl_expr::{Evaluation, Scope, WriteFault};
 use sp_base::TextBuf;
 use std::alloc::Global;
 
@@ -26,15 +26,16 @@ fn push_plain(text: &mut String, plain: &str) -> Result<(), RenderFault>
 }
 
 // What a piece writes, where there is room for it.
-fn push_piece(
+fn push_piece<'a>(
     text: &mut String,
     alloc: Global,
-    scope: &Scope,
-    piece: &Piece,
+    scope: &mut Evaluation<'a>,
+    piece: &'a Piece,
 ) -> Result<(), RenderFault>
     requires { length (string_bytes text.old) ≤ spec.most_template_bytes }
-    ensures ok { OnOk result ((string_bytes text.new ≡ string_bytes text.old ++ spec.piece_text scope.now piece.now) × (length (string_bytes text.new) ≤ spec.most_template_bytes)) }
-    ensures err { IfErr result (λ f. f ≢ RenderFault.NoMemory → (f ≡ RenderFault.TooLong) × (spec.most_template_bytes < length (string_bytes text.old ++ spec.piece_text scope.now piece.now))) }
+    ensures ok { OnOk result ((string_bytes text.new ≡ string_bytes text.old ++ spec.piece_text scope.old piece.now) × (length (string_bytes text.new) ≤ spec.most_template_bytes)) }
+    ensures err { IfErr result (λ f. f ≢ RenderFault.NoMemory → (f ≡ RenderFault.TooLong) × (spec.most_template_bytes < length (string_bytes text.old ++ spec.piece_text scope.old piece.now))) }
+    ensures scope { scope.new ≡ scope.old }
 {
     match piece {
         Piece::Plain(plain) => push_plain(text, plain.text()),
@@ -48,13 +49,14 @@ fn push_piece(
 
 impl Template {
     /// The text that the template writes for a resource, where it has at most 4,194,304 bytes.
-    pub fn render(&self, alloc: Global, scope: &Scope) -> Result<TextBuf, RenderFault>
+    pub fn render<'a>(&'a self, alloc: Global, scope: &Scope<'a>) -> Result<TextBuf, RenderFault>
         ensures ok { IfOk result (λ text. (text ≡ spec.template_output scope.now self.now) × (length text ≤ spec.most_template_bytes)) }
         ensures err { IfErr result (λ f. f ≢ RenderFault.NoMemory → (f ≡ RenderFault.TooLong) × (spec.most_template_bytes < length (spec.template_output scope.now self.now))) }
     {
         let mut text = String::new(alloc);
+        let mut evaluation = Evaluation::of(alloc, scope);
         for piece in self.pieces.as_slice() {
-            match push_piece(&mut text, alloc, scope, piece) {
+            match push_piece(&mut text, alloc, &mut evaluation, piece) {
                 Ok(()) => {}
                 Err(fault) => return Err(fault),
             }

@@ -2,7 +2,20 @@
 
 use super::sample::Sample;
 use crate::failed::Failed;
-use htl_expr::{Expr, WriteFault};
+use htl_expr::{Evaluation, Expr, Scope, WriteFault};
+use std::alloc::Global;
+
+// Writes an expression for a resource of which nothing is found out yet.
+fn write<'a>(
+    alloc: Global,
+    page: &mut String,
+    e: &'a Expr,
+    scope: &Scope<'a>,
+    room: usize,
+) -> Result<(), WriteFault> {
+    let mut evaluation = Evaluation::of(alloc, scope);
+    e.write(alloc, page, &mut evaluation, room)
+}
 
 #[test]
 fn refusal_leaves_the_text(rt: HostRuntime) -> Result<(), Failed> {
@@ -21,7 +34,7 @@ fn refusal_leaves_the_text(rt: HostRuntime) -> Result<(), Failed> {
         let mut page = String::from_str(alloc, "<p>")?;
         assert!(rt;
             matches!(
-                e.write(alloc, &mut page, &scope, 5),
+                write(alloc, &mut page, &e, &scope, 5),
                 Err(WriteFault::TooLong)
             )
         );
@@ -37,11 +50,11 @@ fn last_byte_of_the_room_is_written(rt: HostRuntime) -> Result<(), Failed> {
     let scope = sample.scope();
     let e = Expr::read(alloc, "['<', 1]")?;
     let mut page = String::from_str(alloc, "<p>")?;
-    assert!(rt; e.write(alloc, &mut page, &scope, 9).is_ok());
+    assert!(rt; write(alloc, &mut page, &e, &scope, 9).is_ok());
     assert_eq!(rt; page.as_str(), "<p>&lt;,1");
     assert!(rt;
         matches!(
-            e.write(alloc, &mut page, &scope, 14),
+            write(alloc, &mut page, &e, &scope, 14),
             Err(WriteFault::TooLong)
         )
     );

@@ -1,11 +1,55 @@
+use Rattle.std.proofs.Common.{◌≡◌, ◌∙◌, IfOk, sym, ap, subst}
+use Rattle.htl_expr.specs.declared.out.Out.{Out}
+use Rattle.htl_expr.specs.Lent.{out_of_lent}
 use Rattle.htl_expr.specs.Value.{value}
 use Rattle.htl_expr.proofs.Chains.{and_goes_on, or_goes_on}
+use Rattle.htl_expr.proofs.Trees.{truth_out, compare_whole, and_whole, or_whole, choice_then, choice_else, items_go_on}
 use Rattle.htl_expr.proofs.value.+value.Goals as goal
 
 pub and_values-loop-operand-preserved : goal.and_values-loop-operand-preserved
 and_values-loop-operand-preserved t c =
-    and_goes_on (value c.args.scope.now) c.args.more.now c.loop-operand.operand-index c.operand-item.result _ _ _ c.loop-operand-test.true c.operand-item.is c.in_ok-last.ensures c.loop-operand.invariant
+    let known = c.loop-operand.invariant in (
+      c.in_ok-last.ensures.scope ∙ known.0,
+      rw known.0 at c.in_ok-last.ensures.operand,
+      and_goes_on (value c.args.scope.now) c.args.more.now c.loop-operand.operand-index c.operand-item.result _ _ _ c.loop-operand-test.true c.operand-item.is (rw known.0 at c.in_ok-last.ensures.value) known.2,
+    )
 
 pub or_values-loop-operand-preserved : goal.or_values-loop-operand-preserved
 or_values-loop-operand-preserved t c =
-    or_goes_on (value c.args.scope.now) c.args.more.now c.loop-operand.operand-index c.operand-item.result _ _ _ c.loop-operand-test.true c.operand-item.is c.in_ok-last.ensures c.loop-operand.invariant
+    let known = c.loop-operand.invariant in (
+      c.in_ok-last.ensures.scope ∙ known.0,
+      rw known.0 at c.in_ok-last.ensures.operand,
+      or_goes_on (value c.args.scope.now) c.args.more.now c.loop-operand.operand-index c.operand-item.result _ _ _ c.loop-operand-test.true c.operand-item.is (rw known.0 at c.in_ok-last.ensures.value) known.2,
+    )
+
+pub item_values-loop-item-preserved : goal.item_values-loop-item-preserved
+item_values-loop-item-preserved t c =
+    let known = c.loop-item.invariant in (
+      c.value.ensures.scope ∙ known.0,
+      items_go_on (value c.args.scope.now) c.args.items.now c.loop-item.item-index c.item-item.result c.loop-item.values _ c.in_ok-value.field-0.value c.loop-item-test.true c.item-item.is c.in_ok-push.ensures.ok (rw known.0 at c.in_ok-value.ensures.value) known.1,
+    )
+
+pub value-returns-in-And-clause-value : goal.value-returns-in-And-clause-value
+value-returns-in-And-clause-value t c =
+    let whole = and_whole c.args.scope.now c.value-in-And.new.scope c.args.node.now c.in-And.first c.get-in-And.result.now c.in-And.more c.as_slice-in-And.result.now _ c.value-in-And.ensures.scope c.in-And.is c.get-in-And.ensures c.as_slice-in-And.ensures c.in_ok-first-in-And.ensures.value in
+    subst (λ (o : Out). IfOk c.and_values.result (λ v. out_of_lent v.value ≡ o)) whole c.and_values.ensures.value
+
+pub value-returns-in-Or-clause-value : goal.value-returns-in-Or-clause-value
+value-returns-in-Or-clause-value t c =
+    let whole = or_whole c.args.scope.now c.value-in-Or.new.scope c.args.node.now c.in-Or.first c.get-in-Or.result.now c.in-Or.more c.as_slice-in-Or.result.now _ c.value-in-Or.ensures.scope c.in-Or.is c.get-in-Or.ensures c.as_slice-in-Or.ensures c.in_ok-first-in-Or.ensures.value in
+    subst (λ (o : Out). IfOk c.or_values.result (λ v. out_of_lent v.value ≡ o)) whole c.or_values.ensures.value
+
+pub value-returns-then-is_true-clause-value : goal.value-returns-then-is_true-clause-value
+value-returns-then-is_true-clause-value t c =
+    let whole = choice_then c.args.scope.now c.value-in-Choice.new.scope c.args.node.now c.in-Choice.condition c.get-in-Choice.result.now c.in-Choice.a c.in-Choice.b c.get-then-is_true.result.now _ c.value-in-Choice.ensures.scope c.in-Choice.is c.get-in-Choice.ensures c.in_ok-condition-in-Choice.ensures.value (sym c.is_true-in-Choice.ensures ∙ c.if-is_true.true) c.get-then-is_true.ensures in
+    subst (λ (o : Out). IfOk c.value-then-is_true.result (λ v. out_of_lent v.value ≡ o)) whole c.value-then-is_true.ensures.value
+
+pub value-returns-clause-value : goal.value-returns-clause-value
+value-returns-clause-value t c =
+    let whole = choice_else c.args.scope.now c.value-in-Choice.new.scope c.args.node.now c.in-Choice.condition c.get-in-Choice.result.now c.in-Choice.a c.in-Choice.b c.get-else-is_true.result.now _ c.value-in-Choice.ensures.scope c.in-Choice.is c.get-in-Choice.ensures c.in_ok-condition-in-Choice.ensures.value (sym c.is_true-in-Choice.ensures ∙ c.if-is_true.false) c.get-else-is_true.ensures in
+    subst (λ (o : Out). IfOk c.value-else-is_true.result (λ v. out_of_lent v.value ≡ o)) whole c.value-else-is_true.ensures.value
+
+pub value-returns-in-Compare-clause-value : goal.value-returns-in-Compare-clause-value
+value-returns-in-Compare-clause-value t c =
+    let whole = compare_whole c.args.scope.now c.value-in-Compare.new.scope c.args.node.now c.in-Compare.a c.in-Compare.b c.get-in-Compare.result.now c.get-in-Compare-2.result.now c.in-Compare.comparison (out_of_lent c.in_ok-a-in-Compare.a.value) c.in_ok-holds-in-Compare.holds c.value-in-Compare.ensures.scope c.in-Compare.is c.get-in-Compare.ensures c.get-in-Compare-2.ensures c.in_ok-a-in-Compare.ensures.value c.in_ok-holds-in-Compare.ensures.holds in
+    ap out_of_lent c.of-in-Compare.ensures.value ∙ truth_out c.in_ok-holds-in-Compare.holds ∙ whole

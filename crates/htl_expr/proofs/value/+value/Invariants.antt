@@ -1,13 +1,13 @@
 use Rattle.std.proofs.Common.{◌≡◌, drop, take, map}
-use Rattle.htl_expr.specs.Lent.{out_of_lent}
+use Rattle.htl_expr.specs.Lent.{out_of_lent, IsOperand}
 use Rattle.htl_expr.specs.Value.{and_values, or_values, value}
 use Rattle.htl_expr.proofs.value.+value.Given as goal
 
 abbrev pub invariant-and_values-loop-operand : goal.invariant-and_values-loop-operand
-invariant-and_values-loop-operand l = and_values (out_of_lent l.last) (map (value l.fn.scope) (drop l.operand-index l.more)) ≡ and_values (out_of_lent l.fn.first) (map (value l.fn.scope) l.more)
+invariant-and_values-loop-operand l = (l.scope ≡ l.fn.scope) × IsOperand l.fn.scope l.last × (and_values (out_of_lent l.last.value) (map (value l.fn.scope) (drop l.operand-index l.more)) ≡ and_values (out_of_lent l.fn.first.value) (map (value l.fn.scope) l.more))
 
 abbrev pub invariant-or_values-loop-operand : goal.invariant-or_values-loop-operand
-invariant-or_values-loop-operand l = or_values (out_of_lent l.last) (map (value l.fn.scope) (drop l.operand-index l.more)) ≡ or_values (out_of_lent l.fn.first) (map (value l.fn.scope) l.more)
+invariant-or_values-loop-operand l = (l.scope ≡ l.fn.scope) × IsOperand l.fn.scope l.last × (or_values (out_of_lent l.last.value) (map (value l.fn.scope) (drop l.operand-index l.more)) ≡ or_values (out_of_lent l.fn.first.value) (map (value l.fn.scope) l.more))
 
 abbrev pub invariant-item_values-loop-item : goal.invariant-item_values-loop-item
-invariant-item_values-loop-item l = map out_of_lent l.values ≡ map (value l.fn.scope) (take l.item-index l.items)
+invariant-item_values-loop-item l = (l.scope ≡ l.fn.scope) × (map out_of_lent l.values ≡ map (value l.fn.scope) (take l.item-index l.items))

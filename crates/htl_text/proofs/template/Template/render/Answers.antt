@@ -8,4 +8,4 @@ returns-in-Err-clause-err c =
     let pieces = c.as_slice-piece-items.ensures ∙ c.self.view_is in
     let there = rw pieces at c.loop-piece-test.true in
     let item = rw pieces at c.piece-item.is in
-    λ known. let x = c.in-Err.ensures.err known in (x.0, piece_too_long (piece_text c.args.scope.now) c.args.self.now c.loop-piece.piece-index c.piece-item.result _ _ there item c.loop-piece.invariant.0 x.1)
+    λ known. let x = rw c.loop-piece.invariant.0 at c.in-Err.ensures.err known in (x.0, piece_too_long (piece_text c.args.scope.now) c.args.self.now c.loop-piece.piece-index c.piece-item.result _ _ there item c.loop-piece.invariant.1 x.1)

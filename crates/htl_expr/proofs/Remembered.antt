@@ -1,0 +1,29 @@
+-- What an evaluation remembers of two properties stays true when it remembers two more.
+use Rattle.std.proofs.Common.{◌≡◌, ℕ, Bool, true, false, cond, List, Option, Some, IfSome, refl, sym, ap, subst, ◌∙◌}
+use Rattle.std.proofs.lemmas.Map.Lookups.{CmpEqualImpliesEq, exact_bytes, exact_pairs}
+use Rattle.std.proofs.lemmas.Map.Views.{tells_apart}
+use Rattle.std.specs.BTreeMap.{BTreeMap, get, Updates, is_at}
+use Rattle.std.specs.Ordering.{nat_cmp}
+use Rattle.std.specs.Cmp.Lexicographic.{slice_cmp}
+use Rattle.htl_expr.specs.declared.scope.Scope.{Scope}
+use Rattle.htl_expr.specs.Remembered.{by_names, RemembersSame}
+use Rattle.htl_expr.specs.Value.{is_same, property}
+
+exact_names : CmpEqualImpliesEq by_names
+exact_names = exact_pairs (slice_cmp nat_cmp) (slice_cmp nat_cmp) exact_bytes exact_bytes
+
+pub remembers_more : (scope : Scope) (old new : BTreeMap (List ℕ × List ℕ) Bool) (names : List ℕ × List ℕ) (same : Bool) → Updates by_names old new names (Some same)
+    → same ≡ is_same (property scope names.0) (property scope names.1) → RemembersSame scope old → RemembersSame scope new
+remembers_more scope old new names same updates is known q =
+    subst (λ found. IfSome found IsRight) (sym (updates.0 q)) (chosen (is_at (by_names names) q) refl)
+  where
+    IsRight : Bool → Type 0
+    IsRight b = b ≡ is_same (property scope q.0) (property scope q.1)
+
+    chosen : (t : Bool) → is_at (by_names names) q ≡ t → IfSome (cond t (Some same) (get by_names old q)) IsRight
+    chosen true e = is ∙ ap (λ p. is_same (property scope p.0) (property scope p.1)) (tells_apart exact_names names q e)
+    chosen false e = known q
+
+pub what_is_known : (scope : Scope) (known : BTreeMap (List ℕ × List ℕ) Bool) (names : List ℕ × List ℕ) (found : Option Bool) → found ≡ get by_names known names → RemembersSame scope known
+    → IfSome found (λ same. same ≡ is_same (property scope names.0) (property scope names.1))
+what_is_known scope known names found is remembers = subst (λ (o : Option Bool). IfSome o (λ same. same ≡ is_same (property scope names.0) (property scope names.1))) (sym is) (remembers names)

@@ -1,0 +1,96 @@
+//! What is found out of a resource while expressions are evaluated for it.
+
+ghost use Rattle.std.specs.Prelude.{◌≡◌, IfOk, IfSome};
+ghost use Rattle.htl_expr.specs.Value as spec;
+
+use crate::compare::is_same;
+use crate::scope::{Scope, property};
+use sp_base::{Mem, TextBuf};
+use std::alloc::Global;
+use std::collections::BTreeMap;
+use std::marker::Model;
+
+/// A resource that expressions are evaluated for one after another. Two of its properties are looked through once, however often
+/// they are compared. Contracts see what the expressions see of the resource.
+#[derive(Drop)]
+pub struct Evaluation<'a> {
+    scope: Scope<'a>,
+    same: BTreeMap<(TextBuf, TextBuf), bool>,
+}
+
+impl<'a> Model for Evaluation<'a> {
+    ghost use Rattle.htl_expr.specs.Bindings.{Bindings};
+    ghost use Rattle.htl_expr.specs.Remembered.{RemembersSame};
+
+    ghost Value = { Bindings };
+
+    ghost view = { λ e. e.scope };
+
+    ghost invariant = { λ e. RemembersSame e.scope e.same };
+}
+
+impl<'a> Evaluation<'a> {
+    /// Of a resource of which nothing is found out yet.
+    pub fn of(alloc: Global, scope: &Scope<'a>) -> Evaluation<'a>
+        ensures { result ≡ scope.now }
+    {
+        Evaluation {
+            scope: Scope {
+                props: scope.props,
+                path: scope.path,
+                name: scope.name,
+                kind: scope.kind,
+            },
+            same: BTreeMap::new(alloc),
+        }
+    }
+
+    pub(crate) fn scope(&self) -> &Scope<'a>
+        ensures { result.now ≡ self.now }
+    {
+        &self.scope
+    }
+
+    // What is remembered of two properties, if they were compared.
+    fn known(&self, names: &(TextBuf, TextBuf)) -> Option<bool>
+        ensures { IfSome result (λ same. same ≡ spec.is_same (spec.property self.now names.now.0) (spec.property self.now names.now.1)) }
+    {
+        self.same.get(names).copied()
+    }
+
+    // Whether two properties are the same, by looking through them.
+    fn found_same(&self, alloc: Global, a: &TextBuf, b: &TextBuf) -> Mem<bool>
+        ensures { IfOk result (λ same. same ≡ spec.is_same (spec.property self.now a.now) (spec.property self.now b.now)) }
+    {
+        is_same(
+            alloc,
+            &property(&self.scope, a.text()),
+            &property(&self.scope, b.text()),
+        )
+    }
+
+    fn remember(&mut self, names: (TextBuf, TextBuf), same: bool) -> Mem<()>
+        requires { same ≡ spec.is_same (spec.property self.old names.0) (spec.property self.old names.1) }
+        ensures { self.new ≡ self.old }
+    {
+        self.same.insert(names, same)?;
+        Ok(())
+    }
+
+    /// Whether two properties have the same kind and the same content.
+    pub(crate) fn has_same(&mut self, alloc: Global, a: &TextBuf, b: &TextBuf) -> Mem<bool>
+        ensures same { IfOk result (λ same. same ≡ spec.is_same (spec.property self.old a.now) (spec.property self.old b.now)) }
+        ensures scope { self.new ≡ self.old }
+    {
+        if a == b {
+            return Ok(true);
+        }
+        let names = (a.duplicate(alloc)?, b.duplicate(alloc)?);
+        if let Some(same) = self.known(&names) {
+            return Ok(same);
+        }
+        let same = self.found_same(alloc, a, b)?;
+        self.remember(names, same)?;
+        Ok(same)
+    }
+}

@@ -8,3 +8,5 @@ pub mod ForgetLemmas
 pub mod PostLemmas
 pub mod ReportLemmas
 pub mod SeenAloneLemmas
+pub mod GoodLemmas
+pub mod CauseLemmas

@@ -1,6 +1,6 @@
 -- What leaves the content as it is.
 use Rattle.std.proofs.Common.{◌≡◌, ◌≢◌, ℕ, Bool, true, false, cond, List, Ok, Err, refl, sym, ◌∙◌, ap, ⊎_elim}
-use Rattle.std.specs.Prelude.{codes, nat_eq, if◌then◌else◌}
+use Rattle.std.specs.Prelude.{◌||◌, codes, nat_eq, if◌then◌else◌}
 use Rattle.std.specs.Cmp.Lexicographic.{pointwise, same_text}
 use Rattle.std.proofs.lemmas.Bool.{or_cases, true≢false}
 use Rattle.sp_base.specs.declared.answer.Ask.{Ask}
@@ -9,7 +9,9 @@ use Rattle.url_maps.specs.declared.answer.MapAnswer.{MapAnswer}
 use Rattle.url_maps.specs.declared.answer.MapAnswer.TheVariants.{Inside, Away}
 use Rattle.error_answers.specs.Errors.{error_answer}
 use Rattle.post_apply.specs.Posting.{Posted}
+use Rattle.publisher.specs.Errors.{redirect}
 use Rattle.publisher.specs.Posting.{PostOutcome, posting, posting_answer, posting_content}
+use Rattle.publisher.proofs.RenderingLemmas.{read_is}
 use Rattle.publisher.specs.Rendering.{content_after_request, is_post, is_read, mapped_answer, mapping, posted_answer, posted_content, rendered}
 
 -- ---- methods
@@ -62,3 +64,20 @@ keeps_by false tree ask is one other = refl
 pub refusals_keep : (tree : Content) (ask : Ask) → (rendered tree ask).status ≢ 200 → (rendered tree ask).status ≢ 201 → content_after_request tree ask ≡ tree
 unfolding content_after_request
 refusals_keep tree ask one other = keeps_by (is_post ask.method) tree ask refl one other
+
+-- ---- requests that are mapped away
+
+pub away_answer : (tree : Content) (ask : Ask) (status : ℕ) (target : List ℕ) → (is_read ask.method || is_post ask.method) ≡ true → mapping tree ask ≡ Away status target → rendered tree ask ≡ redirect status target
+away_answer tree ask status target asks away =
+    ⊎_elim
+    (λ (read : is_read ask.method ≡ true). read_is tree ask read ∙ ap (mapped_answer tree) away)
+    (λ (post : is_post ask.method ≡ true). post_is tree ask post ∙ ap (posted_answer tree ask) away)
+    (or_cases (is_read ask.method) (is_post ask.method) asks)
+
+either : (b : Bool) (tree : Content) → cond b tree tree ≡ tree
+either true tree = refl
+either false tree = refl
+
+pub away_keeps : (tree : Content) (ask : Ask) (status : ℕ) (target : List ℕ) → mapping tree ask ≡ Away status target → content_after_request tree ask ≡ tree
+unfolding content_after_request
+away_keeps tree ask status target away = ap (λ a. cond (is_post ask.method) (posted_content tree ask a) tree) away ∙ either (is_post ask.method) tree

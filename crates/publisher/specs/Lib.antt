@@ -7,3 +7,4 @@ pub mod Posting
 pub mod Rendering
 pub mod Kept
 pub mod SeenAlone
+pub mod PostLaws

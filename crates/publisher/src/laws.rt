@@ -1,5 +1,5 @@
 //! Laws of the rendering, on functions that do nothing.
-ghost use Rattle.std.specs.Prelude.{◌≡◌, ◌≢◌, ◌≤◌, ◌<◌, [], ℕ, List, Some, true, length};
+ghost use Rattle.std.specs.Prelude.{◌≡◌, ◌≢◌, ◌≤◌, ◌<◌, ◌||◌, [], ℕ, List, Some, true, length};
 ghost use Rattle.sp_base.specs.Paths.{text_of};
 ghost use Rattle.sp_base.specs.declared.answer.Ask.{Ask};
 ghost use Rattle.resource_tree.specs.Content.{Content, IsGood};
@@ -16,10 +16,15 @@ ghost use Rattle.htl_text.specs.Spelling.{SpellsTemplate};
 ghost use Rattle.htl_text.specs.Template.{template_output as written_by};
 ghost use Rattle.error_answers.specs.Errors.{error_answer};
 ghost use Rattle.publisher.specs.Errors.{redirect};
-ghost use Rattle.publisher.specs.Rendering.{content_after_request, is_read, rendered, scope_of, seen};
+ghost use Rattle.publisher.specs.PostLaws.{PostsAreRefusedForCauses, RequestsKeepContentGood};
+ghost use Rattle.publisher.specs.Rendering.{content_after_request, is_post, is_read, rendered, scope_of, seen};
 
+use form_input::forms_are_refused_for_causes;
 use htl_text::the_pieces_are_the_text;
+use post_apply::{operations_keep_content_good, refusals_have_causes};
+use post_plan::operations_name_paths;
 use script_rank::{one_script_is_first, search_finds_the_first};
+use sp_base::a_path_and_its_text;
 use url_maps::{away_is_a_redirect, the_answer_is_mapped};
 use url_split::the_split_is_the_longest;
 
@@ -38,6 +43,25 @@ pub fn refusals_change_nothing()
     ensures { (tree : Content) (ask : Ask) → (rendered tree ask).status ≢ 200 → (rendered tree ask).status ≢ 201 → content_after_request tree ask ≡ tree }
 {}
 
+/// Whatever the request, the content after it is one that a tree has.
+pub fn requests_keep_content_good()
+    ensures { RequestsKeepContentGood }
+{
+    a_path_and_its_text();
+    the_split_is_the_longest();
+    operations_name_paths();
+    operations_keep_content_good();
+}
+
+/// A POST that is refused has a cause in the request or the content: by definition none is refused for want of memory, so where
+/// `Publisher::answer` answers at all it answers for that cause.
+pub fn posts_are_refused_for_causes()
+    ensures { PostsAreRefusedForCauses }
+{
+    forms_are_refused_for_causes();
+    refusals_have_causes();
+}
+
 /// A representation has at most 4,194,304 bytes. (That a 200 to a POST has no more either is a clause of `Publisher::answer`.)
 pub fn representations_fit()
     ensures { (tree : Content) (ask : Ask) → is_read ask.method ≡ true → (rendered tree ask).status ≡ 200 → length (rendered tree ask).body ≤ 4194304 }
@@ -52,10 +76,13 @@ pub fn statuses_are_short()
     away_is_a_redirect();
 }
 
-/// A request whose path's text is mapped away is a redirect to the escaped target.
+/// A GET, a HEAD or a POST of a path whose text is mapped away is a redirect to the escaped target. Whatever the method, it changes
+/// nothing.
 pub fn what_leads_away_is_a_redirect()
-    ensures { (tree : Content) (ask : Ask) (status : ℕ) (target : List ℕ) → IsGood tree → is_read ask.method ≡ true
+    ensures answer { (tree : Content) (ask : Ask) (status : ℕ) (target : List ℕ) → IsGood tree → (is_read ask.method || is_post ask.method) ≡ true
         → IsMapped tree ask.host ask.port (text_of ask.path) (Away status target) → rendered tree ask ≡ redirect status target }
+    ensures content { (tree : Content) (ask : Ask) (status : ℕ) (target : List ℕ) → IsGood tree
+        → IsMapped tree ask.host ask.port (text_of ask.path) (Away status target) → content_after_request tree ask ≡ tree }
 {
     the_answer_is_mapped();
 }

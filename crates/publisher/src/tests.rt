@@ -1,4 +1,5 @@
-//! Requests of hosts and ports that no scenario asks for. Other requests are asked through the program (examples/runs).
+//! Requests of hosts and ports that no scenario asks for, and POSTs with the page after each. Other requests are asked through the program
+//! (examples/runs).
 use crate::Publisher;
 use resource_tree::{Tree, TreeFault};
 use sp_base::{Ask, ByteBuf, NoMemory, Path, TextBuf, Value};
@@ -51,6 +52,14 @@ fn ask_of(alloc: Global, host: &str, port: u16, method: &str, path: &str) -> Res
     })
 }
 
+// A form that is posted to a path of a host without mappings.
+fn post_of(alloc: Global, path: &str, form: &str) -> Result<Ask, Failed> {
+    let mut ask = ask_of(alloc, "localhost", 81, "POST", path)?;
+    ask.kind = TextBuf::of(alloc, "application/x-www-form-urlencoded")?;
+    ask.body = ByteBuf::of(alloc, form.as_bytes())?;
+    Ok(ask)
+}
+
 // A page, and mappings of two ports that lead to it and away.
 fn mapped_site(alloc: Global, seeds: RandomState) -> Result<Publisher, Failed> {
     let mut tree = Tree::new(alloc, seeds)?;
@@ -98,6 +107,24 @@ fn requests_are_mapped_for_their_host_and_port(rt: HostRuntime) -> Result<(), Fa
         let answer = site.answer(alloc, &ask)?;
         assert_eq!(rt; answer.status, status, "{host} {port}");
         assert_eq!(rt; answer.location.text(), location);
+    }
+    Ok(())
+}
+
+#[test]
+fn a_post_changes_what_is_answered(rt: HostRuntime) -> Result<(), Failed> {
+    let alloc = rt.alloc();
+    let mut site = mapped_site(alloc, RandomState::new(&rt)?)?;
+    for (path, form, status, location, shown) in [
+        ("/en", "n=12&n@TypeHint=Long", 200u16, "", "{\"n\":12}"),
+        ("/en", "good=1&n=x&n@TypeHint=Long", 400, "", "{\"n\":12}"),
+        ("/en/new", "", 201, "/en/new", "{\"n\":12}"),
+    ] {
+        let answer = site.answer(alloc, &post_of(alloc, path, form)?)?;
+        assert_eq!(rt; answer.status, status, "{path} {form}");
+        assert_eq!(rt; answer.location.text(), location);
+        let page = site.answer(alloc, &ask_of(alloc, "localhost", 81, "GET", "/en.json")?)?;
+        assert_eq!(rt; page.body.bytes(), shown.as_bytes());
     }
     Ok(())
 }

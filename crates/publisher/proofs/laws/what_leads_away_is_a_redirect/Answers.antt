@@ -1,9 +1,13 @@
 use Rattle.std.proofs.Common.{sym}
 use Rattle.sp_base.specs.Paths.{text_of}
 use Rattle.url_maps.specs.declared.answer.MapAnswer.TheVariants.{Away}
-use Rattle.publisher.proofs.ScriptLaw.{mapped_is}
+use Rattle.publisher.proofs.PostLemmas.{away_answer, away_keeps}
 use Rattle.publisher.proofs.laws.what_leads_away_is_a_redirect.Goals as goal
 
 pub returns : goal.returns
-returns c tree ask status target good read away =
-    mapped_is tree ask (Away status target) read (sym (c.the_answer_is_mapped.ensures.only tree ask.host ask.port (text_of ask.path) (Away status target) good away))
+returns c = record {
+  answer = λ tree ask status target good asks away.
+      away_answer tree ask status target asks (sym (c.the_answer_is_mapped.ensures.only tree ask.host ask.port (text_of ask.path) (Away status target) good away));
+  content = λ tree ask status target good away.
+      away_keeps tree ask status target (sym (c.the_answer_is_mapped.ensures.only tree ask.host ask.port (text_of ask.path) (Away status target) good away));
+}

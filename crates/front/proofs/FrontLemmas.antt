@@ -80,8 +80,8 @@ given-more {farm} told next w c k j sky new note dry given served notes dried =
 
 -- ---- an answer past the connections
 pub either : {E : Type 0} (r : Result Answer E) (answer wanted : Answer) (dry : Bool) → IsGiven r answer dry → IfOk r (λ a. a ≡ wanted) → IsOrFixed (record { dry = dry }) answer wanted
-either (Ok a) answer wanted dry given ok = inl (given.0 ∙ ok)
-either (Err e) answer wanted dry given ok = inr (given.1, given.0)
+either (Ok a) answer wanted dry given ok = inl (given.0 ∙ ok, given.1)
+either (Err e) answer wanted dry given ok = inr given
 
 pub direct-event : (p : Publishing) (content later : Content) (farm other : Farm) (b h : Board) (target : List ℕ) (answer : Answer) (dry : Bool) (told : Told) → later ≡ content → other ≡ farm → h ≡ b
     → IsOrFixed (record { dry = dry }) answer (direct_answer p farm content target) → told.notes.items ≡ answered answer ∷ [] → told.dry ≡ dry → TellsStep (BoardStands p content farm b) (BoardStands p later other h) (Direct target) told
@@ -129,10 +129,10 @@ pub renders : {E : Type 0} (r : Result Answer E) (given : Published) (content la
     → OnErr r (later ≡ content) → Renders given content later answer dry
 renders (Ok a) given content later answer dry gives ok status moves stays =
     let other : (answer.status == 507) ≡ false = rw gives.0 (ne_eqb a.status 507 status) in
-    record { answer_is = inl (gives.0 ∙ ok); content_is = moves ∙ rw other refl }
+    record { answer_is = inl (gives.0 ∙ ok, gives.1); content_is = moves ∙ rw other refl }
 renders (Err e) given content later answer dry gives ok status moves stays =
     let fixed : (answer.status == 507) ≡ true = rw gives.0 refl in
-    record { answer_is = inr (gives.1, gives.0); content_is = stays ∙ rw fixed refl }
+    record { answer_is = inr gives; content_is = stays ∙ rw fixed refl }
 
 -- what follows in the one case
 pub ok-then : {A E : Type 0} {P Q : Type 0} (r : Result A E) → OnOk r P → (P → Q) → OnOk r Q

@@ -116,7 +116,7 @@ gives-held m w c d came sent Close note is owed past gives =
     rw gives (held-none (state_after_note w (Shut c)) c came (sent ++ []) (update_here w.line c None) last)
 gives-held m w c d came sent Nothing note is owed past gives = absurd gives
 
-line-held : (m : Mood) (w : RunState) (c : ℕ) (came : List ℕ) (sent : List Sending) (note : Note) (line : Option Connection) → w.line c ≡ line → Held w c came sent → GivesDue m w c (line_due line) note → Held (state_after_note w note) c came (sent ++ sent_by c m note)
+pub line-held : (m : Mood) (w : RunState) (c : ℕ) (came : List ℕ) (sent : List Sending) (note : Note) (line : Option Connection) → w.line c ≡ line → Held w c came sent → GivesDue m w c (line_due line) note → Held (state_after_note w note) c came (sent ++ sent_by c m note)
 line-held m w c came sent note None is held gives = absurd gives
 line-held m w c came sent note (Some d) is held gives = gives-held m w c d came sent (connection.due d) note is refl (held.here d is) gives
 
@@ -147,7 +147,7 @@ first-apart m w c d request note apart (inr (_, inr (_, inl full))) = rw full.1 
 first-apart m w c d request note apart (inr (_, inr (_, inr (_, inl ask)))) = rw ask.1 (record { line = asked-apart w c _ d None (request_of (due_of_connection w d)) apart; none = refl })
 first-apart m w c d request note apart (inr (_, inr (_, inr (_, inr (never, _))))) = absurd never
 
-gives-apart : (m : Mood) (w : RunState) (c d : ℕ) (owed : Due) (note : Note) → c ≢ d → GivesDue m w d owed note → Apart w (state_after_note w note) c (sent_by c m note)
+pub gives-apart : (m : Mood) (w : RunState) (c d : ℕ) (owed : Due) (note : Note) → c ≢ d → GivesDue m w d owed note → Apart w (state_after_note w note) c (sent_by c m note)
 gives-apart m w c d (Send slot) note apart gives =
     let other : nat_eq d c ≡ false = ne_eqb d c (λ e. apart (sym e)) in
     rw gives.1 (record { line = update_apart w.line d _ c apart; none = rw other refl })
@@ -158,7 +158,7 @@ gives-apart m w c d (Refuse fault) note apart gives = rw gives (local-apart w c 
 gives-apart m w c d Close note apart gives = rw gives (record { line = update_apart w.line d None c apart; none = refl })
 gives-apart m w c d Nothing note apart gives = absurd gives
 
-serves-apart : (m : Mood) (w : RunState) (c d : ℕ) (notes : List Note) → c ≢ d → Serves m w d notes → Apart w (afters w notes) c (sent_in c m notes)
+pub serves-apart : (m : Mood) (w : RunState) (c d : ℕ) (notes : List Note) → c ≢ d → Serves m w d notes → Apart w (afters w notes) c (sent_in c m notes)
 serves-apart m w c d [] apart serves = record { line = refl; none = refl }
 serves-apart m w c d (note ∷ notes) apart serves =
     let one = gives-apart m w c d (due_of_connection w d) note apart serves.0 in
@@ -196,7 +196,7 @@ first-numbered m w c request note numbered (inr (_, inr (_, inl full))) = rw ful
 first-numbered m w c request note numbered (inr (_, inr (_, inr (_, inl ask)))) = rw ask.1 (asked-numbered w c None (request_of (due_of_connection w c)) numbered)
 first-numbered m w c request note numbered (inr (_, inr (_, inr (_, inr (never, _))))) = absurd never
 
-gives-numbered : (m : Mood) (w : RunState) (c : ℕ) (owed : Due) (note : Note) → Numbered w → GivesDue m w c owed note → Numbered (state_after_note w note)
+pub gives-numbered : (m : Mood) (w : RunState) (c : ℕ) (owed : Due) (note : Note) → Numbered w → GivesDue m w c owed note → Numbered (state_after_note w note)
 gives-numbered m w c (Send slot) note numbered gives = rw gives.1 numbered
 gives-numbered m w c (Treat Continue) note numbered gives = absurd gives
 gives-numbered m w c (Treat (Whole request)) note numbered (inl first) = first-numbered m w c request note numbered first
@@ -234,7 +234,7 @@ kept-same : (w v : RunState) (c : ℕ) (came : List ℕ) (sent : List Sending) �
 kept-same w v c came sent line numbered kept = record { held = held-same w v c came sent (sent ++ []) line (sym (append-nil sent)) kept.held; still = still-same w v c line kept.still; numbered = numbered }
 
 -- the connection d is given all that it is owed
-settles-kept : (m : Mood) (w : RunState) (c d : ℕ) (came : List ℕ) (sent : List Sending) (notes : List Note) → Held w c came sent → (c ≢ d → IsStill w c) → Numbered w → Settles m w d notes → Kept (afters w notes) c came (sent ++ sent_in c m notes)
+pub settles-kept : (m : Mood) (w : RunState) (c d : ℕ) (came : List ℕ) (sent : List Sending) (notes : List Note) → Held w c came sent → (c ≢ d → IsStill w c) → Numbered w → Settles m w d notes → Kept (afters w notes) c came (sent ++ sent_in c m notes)
 settles-kept m w c d came sent notes held still numbered settles = ⊎_elim here there (cases_eq d c)
   where
     here : d ≡ c → Kept (afters w notes) c came (sent ++ sent_in c m notes)
@@ -323,7 +323,7 @@ piece-past w c d bytes came sent none held = ⊎_elim here apart (cases_eq d c)
         let test : nat_eq d c ≡ false = ne_eqb d c other in
         rw test (subst (λ xs. Held w c xs sent) (sym (append-nil came)) held)
 
-piece-read : (w : RunState) (e : Event) (c d : ℕ) (bytes came : List ℕ) (sent : List Sending) (k : Connection) → w.line d ≡ Some k → (k.closing ≡ false → SpellsTurns (k.stream ++ bytes) (k.turns ++ e.turns) e.ends) → Held w c came sent
+pub piece-read : (w : RunState) (e : Event) (c d : ℕ) (bytes came : List ℕ) (sent : List Sending) (k : Connection) → w.line d ≡ Some k → (k.closing ≡ false → SpellsTurns (k.stream ++ bytes) (k.turns ++ e.turns) e.ends) → Held w c came sent
     → Held (on_line w d (fed bytes e.turns e.ends)) c (came ++ brought_by c (step.Piece d bytes)) sent
 piece-read w e c d bytes came sent k line spells held = ⊎_elim here apart (cases_eq d c)
   where
@@ -387,29 +387,33 @@ render-kept : (w : RunState) (e : Event) (c : ℕ) (came : List ℕ) (sent : Lis
 render-kept w e c came sent None kept is = idle-kept e.mood w w c came sent e.body refl kept.numbered kept is
 render-kept w e c came sent (Some f) kept to = rw to.2 (kept-same w (state_after_note w (Rendered f.number to.0)) c came sent refl (rising-rendered 0 f.number to.0 w.air (flights_asked w.log.entries) kept.numbered) kept)
 
+-- a flight is over
+pub over-held : (w : RunState) (c : ℕ) (came : List ℕ) (sent : List Sending) (f : Flying) (answer : Answer) (entry : LogEntry) → Held w c came sent → Held (over_with w f.number answer entry (Some f)) c came sent
+over-held w c came sent f answer entry held = ⊎_elim (moved (w.line f.line) refl) (λ other. held-same w v c came sent sent (update_apart w.line f.line _ c (λ x. other (sym x))) refl held) (cases_eq f.line c)
+  where
+    v : RunState
+    v = over_with w f.number answer entry (Some f)
+
+    moved : (at : Option Connection) → w.line f.line ≡ at → f.line ≡ c → Held v c came sent
+    moved None line x = held-none v c came sent (subst (λ y. v.line y ≡ None) x (update_here w.line f.line _ ∙ ap (option_map (with_landing f.number answer)) line)) (held.over (sym (ap w.line x) ∙ line))
+    moved (Some k) line x =
+        let now : v.line f.line ≡ Some (with_landing f.number answer k) = update_here w.line f.line _ ∙ ap (option_map (with_landing f.number answer)) line in
+        let past : Past k came sent = held.here k (sym (ap w.line x) ∙ line) in
+        subst (λ y. Held v y came sent) x (held-one v f.line (with_landing f.number answer k) came sent now (past-as _ _ _ _ (append-nil sent) (past-move k came sent (Landing f.number answer) past tt (same-landing f.number answer k))))
+
 -- a flight is over, and its connection is given what it is owed
 leads-kept : (m : Mood) (w : RunState) (first : Note) (c : ℕ) (came : List ℕ) (sent : List Sending) (f : Flying) (answer : Answer) (entry : LogEntry) (notes : List Note) → Kept w c came sent → state_after_note w first ≡ over_with w f.number answer entry (Some f)
     → flights_asked (entry ∷ w.log.entries) ≡ flights_asked w.log.entries → sent_by c m first ≡ [] → LeadsNotes w m first f.line notes → Kept (afters w notes) c came (sent ++ sent_in c m notes)
 leads-kept m w first c came sent f answer entry notes kept is same none leads =
     let settles : Settles m v f.line leads.rest = subst (λ u. Settles m u f.line leads.rest) is leads.settles in
     let numbered : Numbered v = over-numbered w f.number answer entry (Some f) same kept.numbered in
-    let done = settles-kept m v c f.line came sent leads.rest held (λ other. still-same w v c (update_apart w.line f.line _ c other) kept.still) numbered settles in
+    let done = settles-kept m v c f.line came sent leads.rest (over-held w c came sent f answer entry kept.held) (λ other. still-same w v c (update_apart w.line f.line _ c other) kept.still) numbered settles in
     let state : afters v leads.rest ≡ afters w notes = sym (ap (afters w) leads.begins ∙ ap (λ u. afters u leads.rest) is) in
     let all : sent_in c m leads.rest ≡ sent_in c m notes = ap (λ xs. xs ++ sent_in c m leads.rest) (sym none) ∙ sym (ap (sent_in c m) leads.begins) in
     subst (λ u. Kept u c came (sent ++ sent_in c m notes)) state (subst (λ xs. Kept (afters v leads.rest) c came (sent ++ xs)) all done)
   where
     v : RunState
     v = over_with w f.number answer entry (Some f)
-
-    moved : (at : Option Connection) → w.line f.line ≡ at → f.line ≡ c → Held v c came sent
-    moved None line x = held-none v c came sent (subst (λ y. v.line y ≡ None) x (update_here w.line f.line _ ∙ ap (option_map (with_landing f.number answer)) line)) (kept.held.over (sym (ap w.line x) ∙ line))
-    moved (Some k) line x =
-        let now : v.line f.line ≡ Some (with_landing f.number answer k) = update_here w.line f.line _ ∙ ap (option_map (with_landing f.number answer)) line in
-        let past : Past k came sent = kept.held.here k (sym (ap w.line x) ∙ line) in
-        subst (λ y. Held v y came sent) x (held-one v f.line (with_landing f.number answer k) came sent now (past-as _ _ _ _ (append-nil sent) (past-move k came sent (Landing f.number answer) past tt (same-landing f.number answer k))))
-
-    held : Held v c came sent
-    held = ⊎_elim (moved (w.line f.line) refl) (λ other. held-same w v c came sent sent (update_apart w.line f.line _ c (λ x. other (sym x))) refl kept.held) (cases_eq f.line c)
 
 deliver-kept : (w : RunState) (e : Event) (c : ℕ) (came : List ℕ) (sent : List Sending) (f : Flying) (answer : Option Answer) → flight_at f.number w.air ≡ Some f → Kept w c came sent → DeliverAs w e f answer → Kept (afters w e.body) c came (sent ++ sent_in c e.mood e.body)
 deliver-kept w e c came sent f None there kept is = idle-kept e.mood w w c came sent e.body refl kept.numbered kept is
@@ -427,7 +431,7 @@ loses-kept : (w : RunState) (e : Event) (c : ℕ) (came : List ℕ) (sent : List
 loses-kept w e c came sent None there kept is = idle-kept e.mood w w c came sent e.body refl kept.numbered kept is
 loses-kept w e c came sent (Some f) there kept to = leads-kept e.mood w (Lost f.number) c came sent f _ _ e.body kept (ap (over_with w f.number _ _) (there f refl)) refl refl to
 
-by-step : (w : RunState) (e : Event) (c : ℕ) (came : List ℕ) (sent : List Sending) (s : Step) → Kept w c came sent → HappensBy w e s → KeptBy w e c came sent s (begun w e s)
+pub by-step : (w : RunState) (e : Event) (c : ℕ) (came : List ℕ) (sent : List Sending) (s : Step) → Kept w c came sent → HappensBy w e s → KeptBy w e c came sent s (begun w e s)
 by-step w e c came sent (step.Opened d peer) kept is = opened-kept w e c d peer came sent (w.line d) refl kept is
 by-step w e c came sent (step.Piece d bytes) kept to = piece-kept w e c d bytes came sent (w.line d) refl kept to
 by-step w e c came sent (step.Gone d) kept is = came-none _ c came _ (gone-kept w e c d came sent (w.line d) refl kept is)

@@ -67,7 +67,7 @@ same-landing flight answer d = record { stream = refl; turns = refl; ends = refl
 abbrev pub longer : List ℕ → List Turn → End → Connection → Connection
 longer bytes turns ends d = record d { stream = d.stream ++ bytes; turns = d.turns ++ turns; ends = ends }
 
-fed-closed : (bytes : List ℕ) (turns : List Turn) (ends : End) (d : Connection) → d.closing ≡ true → fed bytes turns ends d ≡ d
+pub fed-closed : (bytes : List ℕ) (turns : List Turn) (ends : End) (d : Connection) → d.closing ≡ true → fed bytes turns ends d ≡ d
 fed-closed bytes turns ends d e = rw e refl
 
 fed-open : (bytes : List ℕ) (turns : List Turn) (ends : End) (d : Connection) → d.closing ≡ false → fed bytes turns ends d ≡ advanced (longer bytes turns ends d)

@@ -35,7 +35,7 @@ note-renders w dry (Refused c) is = refl
 note-renders w dry Idle is = refl
 note-renders w dry Dry is = refl
 
-still-renders : (w : RunState) (dry : Bool) (notes : List Note) → AreStillNotes notes → renders_in w dry notes ≡ []
+pub still-renders : (w : RunState) (dry : Bool) (notes : List Note) → AreStillNotes notes → renders_in w dry notes ≡ []
 still-renders w dry [] are = refl
 still-renders w dry (note ∷ notes) are = rw (note-renders w dry note are.0) (still-renders (state_after_note w note) dry notes are.1)
 
@@ -51,13 +51,13 @@ from-still w e s renders last still happens from = rw (still-renders (begun w e 
 
 -- ---- an event with one
 render-from : (w : RunState) (dry : Bool) (f : Flying) (answer : Answer) (renders : List Rendering) (last : Content) → IsNeverFixed w.publishing → flight_at f.number w.air ≡ Some f → IsOrFixed (record { dry = dry }) answer (published_for w f.request).answer
-    → From (state_after_note w (Rendered f.number answer)) renders last → From w (record { request = f.request; answer = answer; dry = dry } ∷ renders) last
+    → From (state_after_note w (Rendered f.number answer)) renders last → From w (record { number = f.number; request = f.request; answer = answer; dry = dry } ∷ renders) last
 render-from w dry f answer renders last never there (inl is) from =
-    let other : (answer.status == 507) ≡ false = rw is (ne_eqb (published_for w f.request).answer.status 507 (never w.content (publisher_ask w.farm f.request))) in
+    let other : (answer.status == 507) ≡ false = rw is.0 (ne_eqb (published_for w f.request).answer.status 507 (never w.content (publisher_ask w.farm f.request))) in
     let moved : (state_after_note w (Rendered f.number answer)).content ≡ (published_for w f.request).content = ap (content_rendered w answer) there ∙ rw other refl in
-    inl (is, subst (λ x. ArePublished w.publishing w.farm x renders last) moved from)
+    inl (is.0, is.1, subst (λ x. ArePublished w.publishing w.farm x renders last) moved from)
 render-from w dry f answer renders last never there (inr fixed) from =
-    let same : (answer.status == 507) ≡ true = rw fixed.1 refl in
+    let same : (answer.status == 507) ≡ true = rw fixed.0 refl in
     let stays : (state_after_note w (Rendered f.number answer)).content ≡ w.content = ap (content_rendered w answer) there ∙ rw same refl in
     inr (fixed.0, fixed.1, subst (λ x. ArePublished w.publishing w.farm x renders last) stays from)
 
@@ -69,7 +69,7 @@ from-render w e None renders last never there to from =
 from-render w e (Some f) renders last never there to from =
     let at = there f refl in
     let body : From (state_after_note w (Rendered f.number to.0)) renders last = rw to.2 at from in
-    let told : renders_in w e.mood.dry (Rendered f.number to.0 ∷ []) ≡ record { request = f.request; answer = to.0; dry = e.mood.dry } ∷ [] = ap (λ o. rendering_of to.0 e.mood.dry o ++ []) at in
+    let told : renders_in w e.mood.dry (Rendered f.number to.0 ∷ []) ≡ record { number = f.number; request = f.request; answer = to.0; dry = e.mood.dry } ∷ [] = ap (λ o. rendering_of to.0 e.mood.dry o ++ []) at in
     subst (λ xs. From w (xs ++ renders) last) (sym (ap (renders_in w e.mood.dry) to.2 ∙ told)) (render-from w e.mood.dry f to.0 renders last never at to.1 body)
 
 -- ---- the flights keep numbers of their own

@@ -64,6 +64,11 @@ away-owed w c status request crowded admitted full dry crowd may room (inr is) m
     let wanting : dry ≡ true = cc in
     inr (allows wanting, ap (Local c) same)
 
+-- where memory is wanting for the answer, too
+pub away-afforded : (crowded admitted full : Bool) (status here : ℕ) (dry wanting : Bool) → IsAnswering crowded admitted full (Here status dry) → ((here ≡ status) × (wanting ≡ dry)) ⊎ ((here ≡ 507) × (wanting ≡ true)) → IsAnswering crowded admitted full (Here here wanting)
+away-afforded crowded admitted full status here dry wanting is (inl same) = rw (same.0, same.1) is
+away-afforded crowded admitted full status here dry wanting is (inr fixed) = inr (rw (fixed.0, fixed.1) refl)
+
 pub given-away : {farm : Farm} (w : RunState) (c status : ℕ) (k j : Line) (sky : Sky) (request : Req) (crowded dry : Bool) → (owes : OwesRequest farm w c k sky request) → crowded ≡ is_crowded owes.connection
     → IsAnswering crowded (admits farm request) (is_full_sky sky) (Here status dry) → ((m : Connection) → Owes k m → Holds j (treated (request_slot request (crowded || status == 507) (local_response status)) m))
     → GivesDry dry w c (Local c status) × Meets farm (state_after_note w (Local c status)) c j sky

@@ -24,15 +24,15 @@ InOrder = (peer : List ℕ) (moves : List Move) → Follows (fresh peer) moves �
 abbrev pub OfTurns : Type 0
 OfTurns = (peer : List ℕ) (moves : List Move) → Follows (fresh peer) moves → AreOfTurns (after_all (fresh peer) moves).turns (after_all (fresh peer) moves).slots
 
-answers-past : InOrder → (d : Connection) (came : List ℕ) (sent : List Sending) → Past d came sent → ((slot : Slot) → connection.due d ≡ Send slot → ⊥) → AnswersRun d.slots sent
+pub answers-past : InOrder → (d : Connection) (came : List ℕ) (sent : List Sending) → Past d came sent → ((slot : Slot) → connection.due d ≡ Send slot → ⊥) → AnswersRun d.slots sent
 answers-past law d came sent past still =
     let answers = law past.peer past.moves past.follows (λ slot e. still slot (ap connection.due (sym past.is) ∙ e)) in
     rw (past.is, past.sent_is) at answers
 
-turns-past : OfTurns → (d : Connection) (came : List ℕ) (sent : List Sending) → Past d came sent → AreOfTurns d.turns d.slots
+pub turns-past : OfTurns → (d : Connection) (came : List ℕ) (sent : List Sending) → Past d came sent → AreOfTurns d.turns d.slots
 turns-past law d came sent past = subst (λ (x : Connection). AreOfTurns x.turns x.slots) past.is (law past.peer past.moves past.follows)
 
-stream-past : InOrder → OfTurns → (d : Connection) (came : List ℕ) (sent : List Sending) → Past d came sent → ((slot : Slot) → connection.due d ≡ Send slot → ⊥) → AnswersStream d.stream sent
+pub stream-past : InOrder → OfTurns → (d : Connection) (came : List ℕ) (sent : List Sending) → Past d came sent → ((slot : Slot) → connection.due d ≡ Send slot → ⊥) → AnswersStream d.stream sent
 stream-past order turns d came sent past still = record {
   turns = d.turns;
   ends = d.ends;
@@ -42,7 +42,7 @@ stream-past order turns d came sent past still = record {
   answers = answers-past order d came sent past still;
 }
 
-idle-still : (d : Connection) → connection.due d ≡ Nothing → (slot : Slot) → connection.due d ≡ Send slot → ⊥
+pub idle-still : (d : Connection) → connection.due d ≡ Nothing → (slot : Slot) → connection.due d ≡ Send slot → ⊥
 idle-still d idle slot e = let no : ⊥ = cc in no
 
 -- ---- an open connection that reads on
@@ -125,7 +125,7 @@ answered-streams order turns publishing farm content events c run =
 abbrev pub Beginnings : Type 0
 Beginnings = (stream more : List ℕ) (turns all : List Turn) (end last : End) → SpellsTurns stream turns end → SpellsTurns (stream ++ more) all last → (later : List Turn) × (all ≡ turns ++ later)
 
-no-more : (a b later earlier : List Turn) → b ≡ a ++ later → a ≡ b ++ earlier → a ≡ b
+pub no-more : (a b later earlier : List Turn) → b ≡ a ++ later → a ≡ b ++ earlier → a ≡ b
 no-more a b later earlier first second = by_rest later first (omega (arith, ap length first, ap length second, length-append a later, length-append b earlier))
   where
     by_rest : (rest : List Turn) → b ≡ a ++ rest → length rest ≡ 0 → a ≡ b

@@ -1,5 +1,5 @@
 -- Events, and runs of them.
-use Rattle.std.specs.Prelude.{◌≡◌, ◌+◌, ◌-◌, ◌++◌, ◌⊎◌, ◌&&◌, ℕ, Bool, true, false, not, nat_eq, nat_le, if◌then◌else◌, List, [], ◌∷◌, Option, Some, None, is_some, IsTrue}
+use Rattle.std.specs.Prelude.{◌≡◌, ◌+◌, ◌-◌, ◌++◌, ◌⊎◌, ◌&&◌, ℕ, Bool, true, false, not, nat_eq, nat_le, if◌then◌else◌, List, [], ◌∷◌, Option, Some, None, is_some}
 use Rattle.std.specs.List.{find}
 use Rattle.std.specs.Map.{update}
 use Rattle.sp_base.specs.declared.answer.Answer.{Answer}
@@ -101,9 +101,9 @@ abbrev pub PieceTo : RunState → Event → ℕ → List ℕ → Option Connecti
 PieceTo w e c bytes None = e.body ≡ Idle ∷ []
 PieceTo w e c bytes (Some line) = PieceFeeds w e c bytes line
 
--- the answer that is wanted, or in a dry event the fixed one
+-- the answer that is wanted, or in its place the fixed one: the event says that it is dry exactly where that stands there
 abbrev pub IsOrFixed : Mood → Answer → Answer → Type 0
-IsOrFixed m answer wanted = (answer ≡ wanted) ⊎ (IsTrue m.dry × (answer ≡ fixed_answer))
+IsOrFixed m answer wanted = ((answer ≡ wanted) × (m.dry ≡ false)) ⊎ ((answer ≡ fixed_answer) × (m.dry ≡ true))
 
 -- the publisher's answer to the target, on the content of this moment
 abbrev pub DirectTo : RunState → Event → List ℕ → Type 0

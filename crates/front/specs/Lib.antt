@@ -3,7 +3,10 @@ pub mod States
 pub mod Moves
 pub mod Events
 pub mod Histories
+pub mod Cuttings
 pub mod Renders
+pub mod Owned
+pub mod Determined
 pub mod Lines
 pub mod Boards
 pub mod Fronts

@@ -1,5 +1,5 @@
 -- What was rendered in a run, and on which content.
-use Rattle.std.specs.Prelude.{◌≡◌, ◌≢◌, ◌++◌, ◌⊎◌, Bool, List, [], ◌∷◌, Option, Some, None, IsTrue}
+use Rattle.std.specs.Prelude.{◌≡◌, ◌≢◌, ◌++◌, ◌⊎◌, ℕ, Bool, true, false, List, [], ◌∷◌, Option, Some, None}
 use Rattle.sp_base.specs.declared.answer.Answer.{Answer}
 use Rattle.sp_base.specs.declared.answer.Ask.{Ask}
 use Rattle.sp_base.specs.declared.answer.Req.{Req}
@@ -14,15 +14,16 @@ use Rattle.front.specs.States.{RunState}
 use Rattle.front.specs.Events.{Event, after_event, begun}
 use Rattle.front.specs.Moves.{state_after_note, flight_at}
 
--- A flight was rendered: its request, its answer, and whether memory was wanting in that event.
+-- A flight was rendered: its number, its request, its answer, and whether memory was wanting in that event.
 pub record Rendering : Type 0 where
+  pub number : ℕ
   pub request : Req
   pub answer : Answer
   pub dry : Bool
 
 abbrev pub rendering_of : Answer → Bool → Option Flying → List Rendering
 rendering_of answer dry None = []
-rendering_of answer dry (Some flying) = record { request = flying.request; answer = answer; dry = dry } ∷ []
+rendering_of answer dry (Some flying) = record { number = flying.number; request = flying.request; answer = answer; dry = dry } ∷ []
 
 -- what a note tells of it
 abbrev pub rendered_by : RunState → Bool → Note → List Rendering
@@ -51,10 +52,10 @@ renders_of w (e ∷ events) = renders_in (begun w e e.step) e.mood.dry e.body ++
 abbrev pub IsNeverFixed : Publishing → Type 0
 IsNeverFixed publishing = (content : Content) (ask : Ask) → (publishing content ask).answer.status ≢ 507
 
--- Each answer is the publisher's to its request, asked by the farm, on the content that the renders before it left; or, where memory was
--- wanting, the fixed one, and then the content stays. The last content is that after them all.
+-- Each answer is the publisher's to its request, asked by the farm, on the content that the renders before it left; or, exactly where
+-- memory was wanting, the fixed one, and then the content stays. The last content is that after them all.
 abbrev pub ArePublished : Publishing → Farm → Content → List Rendering → Content → Type 0
 ArePublished publishing farm content [] last = last ≡ content
 ArePublished publishing farm content (rendering ∷ renders) last =
-    ((rendering.answer ≡ (publishing content (publisher_ask farm rendering.request)).answer) × ArePublished publishing farm (publishing content (publisher_ask farm rendering.request)).content renders last)
-    ⊎ (IsTrue rendering.dry × (rendering.answer ≡ fixed_answer) × ArePublished publishing farm content renders last)
+    ((rendering.answer ≡ (publishing content (publisher_ask farm rendering.request)).answer) × (rendering.dry ≡ false) × ArePublished publishing farm (publishing content (publisher_ask farm rendering.request)).content renders last)
+    ⊎ ((rendering.answer ≡ fixed_answer) × (rendering.dry ≡ true) × ArePublished publishing farm content renders last)

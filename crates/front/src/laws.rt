@@ -4,8 +4,11 @@ ghost use Rattle.resource_tree.specs.Content.{Content};
 ghost use Rattle.any_config.specs.declared.farm.Farm as models;
 ghost use Rattle.connections.specs.Connections.{Connection};
 ghost use Rattle.connections.specs.Histories.{AnswersRun, AreOfTurns};
+ghost use Rattle.front.specs.Cuttings.{CuttingsAgree};
+ghost use Rattle.front.specs.Determined.{CalmRunsAreOne};
 ghost use Rattle.front.specs.Events.{Event, Happens, Run, after_event, state_after_events};
 ghost use Rattle.front.specs.Histories.{AnswersWhatCame, HasReadAll, came_since_opened, sent_since_opened};
+ghost use Rattle.front.specs.Owned.{AnswersAreOwn};
 ghost use Rattle.front.specs.Publishers.{Publishing};
 ghost use Rattle.front.specs.Renders.{ArePublished, IsNeverFixed, renders_of};
 ghost use Rattle.front.specs.States.{RunState, start_of};
@@ -47,9 +50,40 @@ pub fn a_cutting_changes_no_turn()
     connections_are_answered_in_order();
     the_turns_of_a_beginning();
 }
+
+/// How a stream was cut into pieces changes no byte that is sent. Of two connections, in one run or in two, open, shut or gone, on which
+/// the same bytes came, or on the second more: the turns that were read of the one begin those of the other, or the other way round; and
+/// where the same requests had the same answers, and memory wasn't wanting, so do the bytes that were sent. (The second may have sent
+/// fewer: its answers may be waited for, or it closed before.)
+pub fn a_cutting_changes_no_byte()
+    ensures { CuttingsAgree }
+{
+    connections_are_answered_in_order();
+    the_turns_of_a_beginning();
+}
+
+/// Whatever happens: what was sent on a connection since it was opened answers what came on it, and each request by its own answer:
+/// that which was rendered for the flight that was asked for this very request, or where it was lost a 502; or where no flight was asked
+/// for it an answer of the front's own. So it is on a connection that is shut or gone, too. (What is rendered for a flight, and on which
+/// content, is the law `renders_are_published`.)
+pub fn answers_are_of_their_own_requests()
+    ensures { AnswersAreOwn }
+{
+    answers_in_order();
+    slots_of_turns();
+}
+
 /// Whatever happens: each flight that was rendered has the publisher's answer, on the content that the renders before it left, or where
 /// memory was wanting the fixed one, which leaves the content; and the content of the moment is what they all left.
 pub fn renders_are_published()
     ensures { (publishing : Publishing) (farm : models.Farm) (content : Content) (events : List Event) → IsNeverFixed publishing → Run (start_of publishing farm content) events
         → ArePublished publishing farm content (renders_of (start_of publishing farm content) events) (state_after_events (start_of publishing farm content) events).content }
 {}
+
+/// A run in which memory isn't wanting is determined by its steps, the publisher, the farm and the content, but for one choice: where the
+/// bytes of a stream end within a target that no more bytes can save, the fault may be told at once or later.
+pub fn calm_runs_are_determined()
+    ensures { CalmRunsAreOne }
+{
+    the_turns_of_a_beginning();
+}

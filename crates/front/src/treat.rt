@@ -1,5 +1,5 @@
 //! How a request is answered: by the front itself, or by a flight.
-ghost use Rattle.std.specs.Prelude.{◌≡◌, ◌≤◌, ◌+◌, ◌==◌, ◌||◌, false, IfOk, OnOk};
+ghost use Rattle.std.specs.Prelude.{◌≡◌, ◌≤◌, ◌+◌, ◌==◌, ◌||◌, ◌⊎◌, false, true, IfOk, OnOk};
 ghost use Rattle.connections.specs.Connections.{Connection};
 ghost use Rattle.connections.specs.Slots.{request_slot};
 ghost use Rattle.connections.specs.Ties.{ReplyTied};
@@ -29,6 +29,14 @@ pub(crate) enum Answering {
     InFlight,
 }
 
+/// What the front answers by itself, and whether memory was wanting.
+#[derive(Drop)]
+pub(crate) struct OwnAnswer {
+    status: u16,
+    dry: bool,
+    reply: Reply,
+}
+
 /// The note of a request that has its place, and whether memory was wanting.
 #[derive(Drop)]
 pub(crate) struct Treated {
@@ -51,7 +59,8 @@ pub(crate) fn treat(
     let crowded = line.is_crowded();
     match answering_of(alloc, farm, &request, crowded, sky) {
         Answering::Here(status, dry) => {
-            turn_away(alloc, &request, status, crowded, line)?;
+            let OwnAnswer { status, dry, reply } = own_answer(alloc, status, dry);
+            turn_away(&request, status, crowded, reply, line)?;
             Ok(Treated {
                 note: Note::Local(c, status),
                 dry,
@@ -90,12 +99,27 @@ fn answering_of(alloc: Global, farm: &Farm, request: &Req, crowded: bool, sky: &
     Answering::InFlight
 }
 
+// What the front answers by itself: this, or the fixed 507 where memory is wanting for it.
+fn own_answer(alloc: Global, status: u16, dry: bool) -> OwnAnswer
+    ensures tied { ReplyTied result.reply (local_response result.status) }
+    ensures is { ((result.status ≡ status) × (result.dry ≡ dry)) ⊎ ((result.status ≡ 507) × (result.dry ≡ true)) }
+{
+    match local_reply(alloc, status) {
+        Ok(reply) => OwnAnswer { status, dry, reply },
+        Err(_) => OwnAnswer {
+            status: 507,
+            dry: true,
+            reply: Reply::Fixed,
+        },
+    }
+}
+
 // Answers a request with this status. Where the connection is crowded, or memory was wanting, it closes.
-fn turn_away(alloc: Global, request: &Req, status: u16, crowded: bool, line: &mut Line) -> Mem<()>
+fn turn_away(request: &Req, status: u16, crowded: bool, reply: Reply, line: &mut Line) -> Mem<()>
+    requires { ReplyTied reply (local_response status) }
     ensures holds { OnOk result ((c : Connection) → Owes line.old c → Holds line.new (treated (request_slot request.now (crowded || status == 507) (local_response status)) c)) }
     ensures work { OnOk result (work_of line.new ≤ work_of line.old + 1) }
 {
-    let reply = local_reply(alloc, status)?;
     let closes = crowded || status == 507;
     line.push(Place::of_request(request, closes, reply))?;
     Ok(())

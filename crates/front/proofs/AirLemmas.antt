@@ -1,0 +1,280 @@
+-- Which request a flight in the air is for, and what was rendered for it.
+use Rattle.std.proofs.Common.{◌≡◌, ◌≢◌, ℕ, ◌+◌, ◌<◌, ◌≤◌, ◌++◌, Bool, true, false, List, [], ◌∷◌, Option, Some, None, map, refl, ap, sym, subst, ◌∙◌, arith, inl, inr, ⊎_elim, append_assoc}
+use Rattle.std.specs.Prelude.{nat_eq, if◌then◌else◌}
+use Rattle.std.specs.Option.{option_map}
+use Rattle.std.proofs.lemmas.Bool.{cases_eq, ne_eqb}
+use Rattle.sp_base.specs.declared.answer.Answer.{Answer}
+use Rattle.sp_base.specs.declared.answer.Req.{Req}
+use Rattle.connections.specs.Slots.{Awaits, Fixed, Interim, Response, Says}
+use Rattle.front.specs.declared.flying.Flying.{Flying}
+use Rattle.front.specs.Boards.{AreRising}
+use Rattle.front.specs.Moves.{flight_at, new_flight, with_rendered, with_rendered_at, without}
+use Rattle.front.specs.Owned.{IsOfFlight, IsOfRequest, WasRendered}
+use Rattle.front.specs.Renders.{Rendering}
+use Rattle.front.proofs.SkyLemmas.{found-passes}
+
+-- ---- the flight with a number
+at-first : (n : ℕ) (f : Flying) (air : List Flying) → nat_eq f.number n ≡ true → flight_at n (f ∷ air) ≡ Some f
+at-first n f air here = rw here refl
+
+at-later : (n : ℕ) (f : Flying) (air : List Flying) → nat_eq f.number n ≡ false → flight_at n (f ∷ air) ≡ flight_at n air
+at-later n f air other = rw other refl
+
+number-rendered : (m : ℕ) (answer : Answer) (f : Flying) → (with_rendered_at m answer f).number ≡ f.number
+number-rendered m answer f = by_test (nat_eq f.number m)
+  where
+    by_test : (b : Bool) → (if b then with_rendered answer f else f).number ≡ f.number
+    by_test true = refl
+    by_test false = refl
+
+at-push : (n : ℕ) (air : List Flying) (g : Flying) → nat_eq g.number n ≡ false → flight_at n (air ++ g ∷ []) ≡ flight_at n air
+at-push n [] g other = rw other refl
+at-push n (f ∷ air) g other = by_test (nat_eq f.number n) refl (at-push n air g other)
+  where
+    by_test : (b : Bool) → nat_eq f.number n ≡ b → flight_at n (air ++ g ∷ []) ≡ flight_at n air → flight_at n ((f ∷ air) ++ g ∷ []) ≡ flight_at n (f ∷ air)
+    by_test true e rest = rw e refl
+    by_test false e rest = rw e rest
+
+at-new : (n : ℕ) (air : List Flying) (g : Flying) → flight_at n air ≡ None → nat_eq g.number n ≡ true → flight_at n (air ++ g ∷ []) ≡ Some g
+at-new n [] g none is = rw is refl
+at-new n (f ∷ air) g none is = by_test (nat_eq f.number n) refl (at-new n air g)
+  where
+    by_test : (b : Bool) → nat_eq f.number n ≡ b → (flight_at n air ≡ None → nat_eq g.number n ≡ true → flight_at n (air ++ g ∷ []) ≡ Some g) → flight_at n ((f ∷ air) ++ g ∷ []) ≡ Some g
+    by_test true e rest = absurd (let some : Some f ≡ None = rw e at none in let no : ⊥ = cc in no)
+    by_test false e rest =
+        let left : flight_at n air ≡ None = rw e at none in
+        rw e (rest left is)
+
+at-none : (n least : ℕ) (air : List Flying) (most : ℕ) → AreRising least air most → most < n → flight_at n air ≡ None
+at-none n least [] most rising above = refl
+at-none n least (f ∷ air) most rising above =
+    let under : f.number ≤ most = rising-most f.number air most rising.1 in
+    let no : nat_eq f.number n ≡ false = grind (arith, under, above) in
+    let rest = at-none n f.number air most rising.1 above in
+    rw no rest
+  where
+    rising-most : (least : ℕ) (air : List Flying) (most : ℕ) → AreRising least air most → least ≤ most
+    rising-most least [] most rising = rising
+    rising-most least (g ∷ air) most rising = omega (arith, rising.0, rising-most g.number air most rising.1)
+
+at-without-other : (n m : ℕ) (air : List Flying) → n ≢ m → flight_at n (without m air) ≡ flight_at n air
+at-without-other n m [] apart = refl
+at-without-other n m (g ∷ air) apart = by_test (nat_eq g.number m) (nat_eq g.number n) refl refl (at-without-other n m air apart)
+  where
+    by_test : (p q : Bool) → nat_eq g.number m ≡ p → nat_eq g.number n ≡ q → flight_at n (without m air) ≡ flight_at n air → flight_at n (without m (g ∷ air)) ≡ flight_at n (g ∷ air)
+    by_test true true is there rest =
+        let one : g.number ≡ m = grind (arith, is) in
+        let two : g.number ≡ n = grind (arith, there) in
+        absurd (apart (sym two ∙ one))
+    by_test true false is there rest = rw (is, there) rest
+    by_test false true is there rest = rw (is, there) refl
+    by_test false false is there rest = rw (is, there) rest
+
+at-without-same : (n : ℕ) (air : List Flying) → flight_at n (without n air) ≡ None
+at-without-same n [] = refl
+at-without-same n (g ∷ air) = by_test (nat_eq g.number n) refl (at-without-same n air)
+  where
+    by_test : (b : Bool) → nat_eq g.number n ≡ b → flight_at n (without n air) ≡ None → flight_at n (without n (g ∷ air)) ≡ None
+    by_test true e rest =
+        let left : without n (g ∷ air) ≡ without n air = rw e refl in
+        ap (flight_at n) left ∙ rest
+    by_test false e rest =
+        let left : without n (g ∷ air) ≡ g ∷ without n air = rw e refl in
+        let past : flight_at n (g ∷ without n air) ≡ flight_at n (without n air) = rw e refl in
+        ap (flight_at n) left ∙ past ∙ rest
+
+at-without : (n m : ℕ) (air : List Flying) (f : Flying) → flight_at n (without m air) ≡ Some f → flight_at n air ≡ Some f
+at-without n m air f there = ⊎_elim same apart (cases_eq n m)
+  where
+    same : n ≡ m → flight_at n air ≡ Some f
+    same e =
+        let none : flight_at n (without m air) ≡ None = subst (λ k. flight_at n (without k air) ≡ None) e (at-without-same n air) in
+        absurd (let no : ⊥ = cc in no)
+
+    apart : n ≢ m → flight_at n air ≡ Some f
+    apart other = sym (at-without-other n m air other) ∙ there
+
+at-rendered : (n m : ℕ) (answer : Answer) (air : List Flying) → flight_at n (map (with_rendered_at m answer) air) ≡ option_map (with_rendered_at m answer) (flight_at n air)
+at-rendered n m answer [] = refl
+at-rendered n m answer (g ∷ air) = by_test (nat_eq g.number n) refl (at-rendered n m answer air)
+  where
+    h : Flying
+    h = with_rendered_at m answer g
+
+    number : nat_eq h.number n ≡ nat_eq g.number n
+    number = ap (λ k. nat_eq k n) (number-rendered m answer g)
+
+    by_test : (b : Bool) → nat_eq g.number n ≡ b → flight_at n (map (with_rendered_at m answer) air) ≡ option_map (with_rendered_at m answer) (flight_at n air)
+        → flight_at n (h ∷ map (with_rendered_at m answer) air) ≡ option_map (with_rendered_at m answer) (flight_at n (g ∷ air))
+    by_test true e rest =
+        let first : flight_at n (h ∷ map (with_rendered_at m answer) air) ≡ Some h = at-first n h (map (with_rendered_at m answer) air) (number ∙ e) in
+        first ∙ ap (option_map (with_rendered_at m answer)) (sym (at-first n g air e))
+    by_test false e rest =
+        let past : flight_at n (h ∷ map (with_rendered_at m answer) air) ≡ flight_at n (map (with_rendered_at m answer) air) = at-later n h (map (with_rendered_at m answer) air) (number ∙ e) in
+        past ∙ rest ∙ ap (option_map (with_rendered_at m answer)) (sym (at-later n g air e))
+
+pub number-at : (n : ℕ) (air : List Flying) (f : Flying) → flight_at n air ≡ Some f → f.number ≡ n
+number-at n air f there =
+    let is : nat_eq f.number n ≡ true = found-passes (λ flying. nat_eq flying.number n) air f there in
+    grind (arith, is)
+
+-- ---- the request that a flight is for
+-- so many flights were asked, the one with this number among them; and if it is in the air, it is for this request
+pub record IsAskedFor (air : List Flying) (most n : ℕ) (request : Req) : Type 0 where
+  pub within : n ≤ most
+  pub same : (f : Flying) → flight_at n air ≡ Some f → f.request ≡ request
+
+-- each flight that is rendered has what was rendered for it
+abbrev pub AreRendered : List Rendering → List Flying → Type 0
+AreRendered renders air = (n : ℕ) (f : Flying) (answer : Answer) → flight_at n air ≡ Some f → f.rendered ≡ Some answer → WasRendered renders n f.request answer
+
+pub later-rendered : (renders more : List Rendering) (n : ℕ) (request : Req) (answer : Answer) → WasRendered renders n request answer → WasRendered (renders ++ more) n request answer
+later-rendered renders more n request answer was = record {
+  before = was.before;
+  later = was.later ++ more;
+  dry = was.dry;
+  is = ap (λ xs. xs ++ more) was.is ∙ append_assoc was.before (record { number = n; request = request; answer = answer; dry = was.dry } ∷ was.later) more;
+}
+
+-- what was rendered stays so
+abbrev pub AreMore : List Rendering → List Rendering → Type 0
+AreMore renders all = (n : ℕ) (request : Req) (answer : Answer) → WasRendered renders n request answer → WasRendered all n request answer
+
+-- ---- what notes do to flights
+-- what was asked for a request is so still, and each flight that is rendered has what was rendered for it
+pub record Moved (air : List Flying) (most : ℕ) (renders : List Rendering) (next : List Flying) (now : ℕ) (all : List Rendering) : Type 0 where
+  pub asked : (n : ℕ) (request : Req) → IsAskedFor air most n request → IsAskedFor next now n request
+  pub grown : AreMore renders all
+  pub air_is : AreRendered all next
+
+pub moved-same : (air : List Flying) (most : ℕ) (renders : List Rendering) → AreRendered renders air → Moved air most renders air most renders
+moved-same air most renders are = record { asked = λ n request is. is; grown = λ n request answer was. was; air_is = are }
+
+pub moved-then : (a b c : List Flying) (i j k : ℕ) (x y z : List Rendering) → Moved a i x b j y → Moved b j y c k z → Moved a i x c k z
+moved-then a b c i j k x y z first next = record {
+  asked = λ n request is. next.asked n request (first.asked n request is);
+  grown = λ n request answer was. next.grown n request answer (first.grown n request answer was);
+  air_is = next.air_is;
+}
+
+pub moved-asked : (air : List Flying) (most c : ℕ) (request : Req) (renders : List Rendering) → AreRising 0 air most → AreRendered renders air → Moved air most renders (air ++ new_flight (most + 1) c request ∷ []) (most + 1) renders
+moved-asked air most c request renders rising are = record {
+  asked = λ n other is. record {
+    within = omega (arith, is.within);
+    same = λ f there.
+        let below = is.within in
+        let no : nat_eq (most + 1) n ≡ false = grind (arith, below) in
+        is.same f (sym (at-push n air (new_flight (most + 1) c request) no) ∙ there);
+  };
+  grown = λ n other answer was. was;
+  air_is = λ n f answer there has. ⊎_elim (fresh n f answer there has) (old n f answer there has) (cases_eq (most + 1) n);
+}
+  where
+    old : (n : ℕ) (f : Flying) (answer : Answer) → flight_at n (air ++ new_flight (most + 1) c request ∷ []) ≡ Some f → f.rendered ≡ Some answer → (most + 1) ≢ n → WasRendered renders n f.request answer
+    old n f answer there has apart = are n f answer (sym (at-push n air (new_flight (most + 1) c request) (ne_eqb (most + 1) n apart)) ∙ there) has
+
+    fresh : (n : ℕ) (f : Flying) (answer : Answer) → flight_at n (air ++ new_flight (most + 1) c request ∷ []) ≡ Some f → f.rendered ≡ Some answer → (most + 1) ≡ n → WasRendered renders n f.request answer
+    fresh n f answer there has same =
+        let none : flight_at n air ≡ None = subst (λ k. flight_at k air ≡ None) same (at-none (most + 1) 0 air most rising (omega arith)) in
+        let is : nat_eq (most + 1) n ≡ true = grind (arith, same) in
+        let new : Some (new_flight (most + 1) c request) ≡ Some f = sym (at-new n air (new_flight (most + 1) c request) none is) ∙ there in
+        let eq : new_flight (most + 1) c request ≡ f = cc in
+        let waits : None ≡ Some answer = ap (λ (g : Flying). g.rendered) eq ∙ has in
+        absurd (let no : ⊥ = cc in no)
+
+-- the flight that was just asked is for its request
+pub asked-new : (air : List Flying) (most c : ℕ) (request : Req) → AreRising 0 air most → IsAskedFor (air ++ new_flight (most + 1) c request ∷ []) (most + 1) (most + 1) request
+asked-new air most c request rising = record {
+  within = omega arith;
+  same = λ f there.
+      let is : nat_eq (most + 1) (most + 1) ≡ true = grind arith in
+      let new : Some (new_flight (most + 1) c request) ≡ Some f = sym (at-new (most + 1) air (new_flight (most + 1) c request) (at-none (most + 1) 0 air most rising (omega arith)) is) ∙ there in
+      let eq : new_flight (most + 1) c request ≡ f = cc in
+      ap (λ (g : Flying). g.request) (sym eq);
+}
+
+pub moved-over : (air : List Flying) (most n : ℕ) (renders : List Rendering) → AreRendered renders air → Moved air most renders (without n air) most renders
+moved-over air most n renders are = record {
+  asked = λ k request is. record { within = is.within; same = λ f there. is.same f (at-without k n air f there) };
+  grown = λ k request answer was. was;
+  air_is = λ k f answer there has. are k f answer (at-without k n air f there) has;
+}
+
+-- ---- a flight is rendered
+some-map : {A B : Type 0} (g : A → B) (o : Option A) (b : B) → option_map g o ≡ Some b → (a : A) × (o ≡ Some a) × (g a ≡ b)
+some-map g None b e = absurd (let no : ⊥ = cc in no)
+some-map g (Some a) b e = (a, refl, let same : g a ≡ b = cc in same)
+
+request-rendered : (m : ℕ) (answer : Answer) (f : Flying) → (with_rendered_at m answer f).request ≡ f.request
+request-rendered m answer f = by_test (nat_eq f.number m)
+  where
+    by_test : (b : Bool) → (if b then with_rendered answer f else f).request ≡ f.request
+    by_test true = refl
+    by_test false = refl
+
+pub moved-rendered : (air : List Flying) (most : ℕ) (g : Flying) (answer : Answer) (dry : Bool) (renders : List Rendering) → flight_at g.number air ≡ Some g → AreRendered renders air
+    → Moved air most renders (map (with_rendered_at g.number answer) air) most (renders ++ record { number = g.number; request = g.request; answer = answer; dry = dry } ∷ [])
+moved-rendered air most g answer dry renders here are = record {
+  asked = λ n request is. record {
+    within = is.within;
+    same = λ f there.
+        let from = some-map (with_rendered_at g.number answer) (flight_at n air) f (sym (at-rendered n g.number answer air) ∙ there) in
+        ap (λ (h : Flying). h.request) (sym from.2) ∙ request-rendered g.number answer from.0 ∙ is.same from.0 from.1;
+  };
+  grown = later-rendered renders (rendering ∷ []);
+  air_is = λ n f other there has.
+      let from = some-map (with_rendered_at g.number answer) (flight_at n air) f (sym (at-rendered n g.number answer air) ∙ there) in
+      by_number n f other from.0 from.1 from.2 has (nat_eq from.0.number g.number) refl;
+}
+  where
+    rendering : Rendering
+    rendering = record { number = g.number; request = g.request; answer = answer; dry = dry }
+
+    by_number : (n : ℕ) (f : Flying) (other : Answer) (h : Flying) → flight_at n air ≡ Some h → with_rendered_at g.number answer h ≡ f → f.rendered ≡ Some other → (b : Bool) → nat_eq h.number g.number ≡ b → WasRendered (renders ++ rendering ∷ []) n f.request other
+    by_number n f other h there is has true same =
+        let number : n ≡ g.number = sym (number-at n air h there) ∙ (let e : h.number ≡ g.number = grind (arith, same) in e) in
+        let found : flight_at n air ≡ Some g = subst (λ k. flight_at k air ≡ Some g) (sym number) here in
+        let eq : h ≡ g = let both : Some h ≡ Some g = sym there ∙ found in cc in
+        let made : with_rendered answer h ≡ f = rw same at is in
+        let gives : Some answer ≡ Some other = ap (λ (x : Flying). x.rendered) made ∙ has in
+        let given : answer ≡ other = cc in
+        let request : f.request ≡ g.request = ap (λ (x : Flying). x.request) (sym made) ∙ ap (λ (x : Flying). x.request) eq in
+        rw (number, request, sym given) (record { before = renders; later = []; dry = dry; is = refl })
+    by_number n f other h there is has false apart =
+        let made : h ≡ f = rw apart at is in
+        let old : WasRendered renders n h.request other = are n h other there (ap (λ (x : Flying). x.rendered) made ∙ has) in
+        later-rendered renders (rendering ∷ []) n f.request other (subst (λ (x : Flying). WasRendered renders n x.request other) made old)
+
+-- ---- what answers a request, of the flights in the air
+abbrev pub IsOfAir : List Flying → ℕ → List Rendering → Option ℕ → Req → Response → Type 0
+IsOfAir air most renders None request response = IsOfRequest renders None request response
+IsOfAir air most renders (Some n) request Interim = ⊥
+IsOfAir air most renders (Some n) request Fixed = ⊥
+IsOfAir air most renders (Some n) request (Awaits m) = (m ≡ n) × IsAskedFor air most n request
+IsOfAir air most renders (Some n) request (Says answer) = IsOfFlight renders n request (Says answer)
+
+pub of-request : (air : List Flying) (most : ℕ) (renders : List Rendering) (flight : Option ℕ) (request : Req) (response : Response) → IsOfAir air most renders flight request response → IsOfRequest renders flight request response
+of-request air most renders None request response is = is
+of-request air most renders (Some n) request Interim is = absurd is
+of-request air most renders (Some n) request Fixed is = absurd is
+of-request air most renders (Some n) request (Awaits m) is = is.0
+of-request air most renders (Some n) request (Says answer) is = is
+
+pub later-flight : (renders all : List Rendering) → AreMore renders all → (n : ℕ) (request : Req) (response : Response) → IsOfFlight renders n request response → IsOfFlight all n request response
+later-flight renders all more n request Interim is = absurd is
+later-flight renders all more n request Fixed is = absurd is
+later-flight renders all more n request (Awaits m) is = is
+later-flight renders all more n request (Says answer) (inl was) = inl (more n request answer was)
+later-flight renders all more n request (Says answer) (inr lost) = inr lost
+
+pub later-request : (renders all : List Rendering) → AreMore renders all → (flight : Option ℕ) (request : Req) (response : Response) → IsOfRequest renders flight request response → IsOfRequest all flight request response
+later-request renders all more None request response is = is
+later-request renders all more (Some n) request response is = later-flight renders all more n request response is
+
+pub air-moved : (air : List Flying) (most : ℕ) (renders : List Rendering) (next : List Flying) (now : ℕ) (all : List Rendering) → Moved air most renders next now all → (flight : Option ℕ) (request : Req) (response : Response)
+    → IsOfAir air most renders flight request response → IsOfAir next now all flight request response
+air-moved air most renders next now all moved None request response is = is
+air-moved air most renders next now all moved (Some n) request Interim is = absurd is
+air-moved air most renders next now all moved (Some n) request Fixed is = absurd is
+air-moved air most renders next now all moved (Some n) request (Awaits m) is = (is.0, moved.asked n request is.1)
+air-moved air most renders next now all moved (Some n) request (Says answer) is = later-flight renders all moved.grown n request (Says answer) is

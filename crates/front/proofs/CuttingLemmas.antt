@@ -1,0 +1,93 @@
+-- Streams of which one begins the other: their turns, and the bytes that are sent.
+use Rattle.std.proofs.Common.{◌≡◌, ℕ, ◌++◌, Bool, true, false, List, [], ◌∷◌, refl, ap, sym, subst, ◌∙◌, inl, inr, append_assoc}
+use Rattle.resource_tree.specs.Content.{Content}
+use Rattle.any_config.specs.declared.farm.Farm.{Farm}
+use Rattle.http_front.specs.Turns.{SpellsTurns}
+use Rattle.connections.specs.Slots.{Awaits, Fixed, Interim, IsWritten, MayAnswer, Response, Says, Slot, is_last}
+use Rattle.connections.specs.Histories.{AnswersRun, IsEndOr}
+use Rattle.connections.specs.declared.sending.Sending.{Sending}
+use Rattle.front.specs.Cuttings.{AreAnsweredAlike, AreCalm, CuttingsAgree, OneBegins, bytes_sent}
+use Rattle.front.specs.Events.{Event, Run}
+use Rattle.front.specs.Histories.{AnswersWhatCame, came_since_opened, sent_since_opened}
+use Rattle.front.specs.Publishers.{Publishing}
+use Rattle.front.specs.States.{start_of}
+use Rattle.front.proofs.StreamLemmas.{Beginnings}
+
+-- ---- lists
+begins-cons : {A : Type 0} (x y : A) (a b : List A) → x ≡ y → OneBegins a b → OneBegins (x ∷ a) (y ∷ b)
+begins-cons x y a b same (inl longer) = inl (longer.0, λ i. sym same i ∷ longer.1 i)
+begins-cons x y a b same (inr longer) = inr (longer.0, λ i. same i ∷ longer.1 i)
+
+-- two lists that go on to the same
+begins-both : {A : Type 0} (a b u v : List A) → a ++ u ≡ b ++ v → OneBegins a b
+begins-both [] b u v e = inl (b, refl)
+begins-both (x ∷ a) [] u v e = inr (x ∷ a, refl)
+begins-both (x ∷ a) (y ∷ b) u v e =
+    let head : x ≡ y = cc in
+    let tail : a ++ u ≡ b ++ v = cc in
+    begins-cons x y a b head (begins-both a b u v tail)
+
+begins-append : (u v a b : List ℕ) → u ≡ v → OneBegins a b → OneBegins (u ++ a) (v ++ b)
+begins-append u v a b same (inl longer) = inl (longer.0, ap (λ xs. v ++ xs) longer.1 ∙ ap (λ xs. xs ++ (a ++ longer.0)) (sym same) ∙ sym (append_assoc u a longer.0))
+begins-append u v a b same (inr longer) = inr (longer.0, ap (λ xs. u ++ xs) longer.1 ∙ ap (λ xs. xs ++ (b ++ longer.0)) same ∙ sym (append_assoc v b longer.0))
+
+-- ---- turns
+begins-turns : Beginnings → (came more : List ℕ) (sent other : List Sending) (one : AnswersWhatCame came sent) (two : AnswersWhatCame (came ++ more) other) → OneBegins one.answers.turns two.answers.turns
+begins-turns law came more sent other one two = by_streams (begins-both one.stream two.stream (one.rest ++ more) two.rest all)
+  where
+    all : one.stream ++ (one.rest ++ more) ≡ two.stream ++ two.rest
+    all = sym (append_assoc one.stream one.rest more) ∙ ap (λ xs. xs ++ more) (sym one.came_is) ∙ two.came_is
+
+    by_streams : OneBegins one.stream two.stream → OneBegins one.answers.turns two.answers.turns
+    by_streams (inl longer) =
+        let spells : SpellsTurns (one.stream ++ longer.0) two.answers.turns two.answers.ends = subst (λ s. SpellsTurns s two.answers.turns two.answers.ends) longer.1 two.answers.spells in
+        inl (law one.stream longer.0 one.answers.turns two.answers.turns one.answers.ends two.answers.ends one.answers.spells spells)
+    by_streams (inr longer) =
+        let spells : SpellsTurns (two.stream ++ longer.0) one.answers.turns one.answers.ends = subst (λ s. SpellsTurns s one.answers.turns one.answers.ends) longer.1 one.answers.spells in
+        inr (law two.stream longer.0 two.answers.turns one.answers.turns two.answers.ends one.answers.ends two.answers.spells spells)
+
+-- ---- bytes
+pub written-same : (slot : Slot) (response : Response) (a b : List ℕ) → IsWritten slot response a → IsWritten slot response b → a ≡ b
+written-same slot Interim a b x y = x ∙ sym y
+written-same slot Fixed a b x y = x ∙ sym y
+written-same slot (Awaits flight) a b x y = absurd x
+written-same slot (Says answer) a b x y = x ∙ sym y
+
+calm-written : (slot : Slot) (sending : Sending) → sending.dry ≡ false → MayAnswer slot sending → IsWritten slot slot.response sending.bytes
+calm-written slot sending calm (inl written) = written
+calm-written slot sending calm (inr dry) = absurd (let wants : sending.dry ≡ true = dry.0 in let no : ⊥ = cc in no)
+
+same-bytes : (x y : Slot) (s t : Sending) → x ≡ y → MayAnswer x s → MayAnswer y t → s.dry ≡ false → t.dry ≡ false → s.bytes ≡ t.bytes
+same-bytes x y s t same one two calm quiet =
+    written-same y y.response s.bytes t.bytes (subst (λ (z : Slot). IsWritten z z.response s.bytes) same (calm-written x s calm one)) (calm-written y t quiet two)
+
+begins-bytes : (xs ys : List Slot) (sent other : List Sending) → AnswersRun xs sent → AnswersRun ys other → AreAnsweredAlike xs ys → AreCalm sent → AreCalm other → OneBegins (bytes_sent sent) (bytes_sent other)
+begins-bytes xs ys [] other one two same calm quiet = inl (bytes_sent other, refl)
+begins-bytes xs ys (s ∷ sent) [] one two same calm quiet = inr (bytes_sent (s ∷ sent), refl)
+begins-bytes [] ys (s ∷ sent) (t ∷ other) one two same calm quiet = absurd one
+begins-bytes (x ∷ xs) [] (s ∷ sent) (t ∷ other) one two same calm quiet = absurd two
+begins-bytes (x ∷ xs) (y ∷ ys) (s ∷ sent) (t ∷ other) one two same calm quiet =
+    begins-append s.bytes t.bytes (bytes_sent sent) (bytes_sent other) (same-bytes x y s t (same.0 one.2 two.2) one.0 two.0 calm.0 quiet.0)
+    (by_last (is_last x s.bytes) (is_last y t.bytes) one.1 two.1 (begins-bytes xs ys sent other))
+  where
+    by_last : (p q : Bool) → IsEndOr p sent (AnswersRun xs sent) → IsEndOr q other (AnswersRun ys other)
+        → (AnswersRun xs sent → AnswersRun ys other → AreAnsweredAlike xs ys → AreCalm sent → AreCalm other → OneBegins (bytes_sent sent) (bytes_sent other)) → OneBegins (bytes_sent sent) (bytes_sent other)
+    by_last true q ended next rest = inl (bytes_sent other, ap (λ xs. bytes_sent xs ++ bytes_sent other) (sym ended))
+    by_last false true next ended rest = inr (bytes_sent sent, ap (λ xs. bytes_sent xs ++ bytes_sent sent) (sym ended))
+    by_last false false first second rest = rest first second same.1 calm.1 quiet.1
+
+-- ---- the law
+-- the law of streams
+abbrev pub Streams : Type 0
+Streams = (publishing : Publishing) (farm : Farm) (content : Content) (events : List Event) (c : ℕ) → Run (start_of publishing farm content) events → AnswersWhatCame (came_since_opened c events) (sent_since_opened c events)
+
+pub cut-alike : Beginnings → Streams → CuttingsAgree
+cut-alike law streams p q f g one other a b c d more first second grows =
+    let x = streams p f one a c first in
+    let y = subst (λ came. AnswersWhatCame came (sent_since_opened d b)) grows (streams q g other b d second) in
+    record {
+      one = x;
+      two = y;
+      turns = begins-turns law (came_since_opened c a) more (sent_since_opened c a) (sent_since_opened d b) x y;
+      bytes = begins-bytes x.answers.slots y.answers.slots (sent_since_opened c a) (sent_since_opened d b) x.answers.answers y.answers.answers;
+    }

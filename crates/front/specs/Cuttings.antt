@@ -1,0 +1,43 @@
+-- Two connections on which the same bytes came, or the one's and more, in whatever pieces.
+use Rattle.std.specs.Prelude.{◌≡◌, ◌++◌, ◌⊎◌, ℕ, true, false, List, [], ◌∷◌, flat_map}
+use Rattle.resource_tree.specs.Content.{Content}
+use Rattle.any_config.specs.declared.farm.Farm.{Farm}
+use Rattle.connections.specs.Slots.{Slot, is_answered}
+use Rattle.connections.specs.declared.sending.Sending.{Sending}
+use Rattle.front.specs.Events.{Event, Run}
+use Rattle.front.specs.Histories.{AnswersWhatCame, came_since_opened, sent_since_opened}
+use Rattle.front.specs.Publishers.{Publishing}
+use Rattle.front.specs.States.{start_of}
+
+-- one of the lists begins the other
+abbrev pub OneBegins : {A : Type 0} → List A → List A → Type 0
+OneBegins {A} one other = ((more : List A) × (other ≡ one ++ more)) ⊎ ((more : List A) × (one ≡ other ++ more))
+
+-- all bytes that were sent, one after another
+abbrev pub bytes_sent : List Sending → List ℕ
+bytes_sent sent = flat_map (λ (sending : Sending). sending.bytes) sent
+
+-- memory was wanting in no event in which one of them was sent
+abbrev pub AreCalm : List Sending → Type 0
+AreCalm [] = Unit {0}
+AreCalm (sending ∷ sent) = (sending.dry ≡ false) × AreCalm sent
+
+-- wherever the slots of both are answered they are the same: the same answer, with its body or without, after which the connection
+-- closes or doesn't
+abbrev pub AreAnsweredAlike : List Slot → List Slot → Type 0
+AreAnsweredAlike [] others = Unit {0}
+AreAnsweredAlike (slot ∷ slots) [] = Unit {0}
+AreAnsweredAlike (slot ∷ slots) (other ∷ others) = (is_answered slot.response ≡ true → is_answered other.response ≡ true → slot ≡ other) × AreAnsweredAlike slots others
+
+-- This came on one connection, and this and more on another: the turns that were read of the one begin those of the other, or the
+-- other way round; and so do the bytes that were sent, where the same requests had the same answers.
+pub record AreCutAlike (came more : List ℕ) (sent other : List Sending) : Type 0 where
+  pub one : AnswersWhatCame came sent
+  pub two : AnswersWhatCame (came ++ more) other
+  pub turns : OneBegins one.answers.turns two.answers.turns
+  pub bytes : AreAnsweredAlike one.answers.slots two.answers.slots → AreCalm sent → AreCalm other → OneBegins (bytes_sent sent) (bytes_sent other)
+
+-- How a stream was cut into pieces changes no byte that is sent, in one run or in two, whether the connections are open, shut or gone.
+abbrev pub CuttingsAgree : Type 0
+CuttingsAgree = (p q : Publishing) (f g : Farm) (one other : Content) (a b : List Event) (c d : ℕ) (more : List ℕ) → Run (start_of p f one) a → Run (start_of q g other) b
+    → came_since_opened d b ≡ came_since_opened c a ++ more → AreCutAlike (came_since_opened c a) more (sent_since_opened c a) (sent_since_opened d b)

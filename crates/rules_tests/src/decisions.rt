@@ -1,5 +1,5 @@
 //! Worked rows of a farm, through the public calls.
-use any_config::{Farm, farm_of, read_any};
+use any_config::{Farm, STANDARD_FARM, farm_of, read_any};
 use cover_rules::page_key;
 use dispatch_rules::{admits, ask_of, auto_of, key_of, may_flush, storable};
 use sp_base::{Answer, ByteBuf, HeadList, Mark, NoMemory, Path, PathFault, Req, TextBuf};
@@ -23,8 +23,8 @@ const SITE: &str = r#"/farms { /site {
   }
 } }"#;
 
-fn farm(alloc: Global) -> Result<Farm, NoMemory> {
-    match read_any(alloc, SITE.as_bytes()) {
+fn farm(alloc: Global, text: &str) -> Result<Farm, NoMemory> {
+    match read_any(alloc, text.as_bytes()) {
         Ok(top) => match farm_of(alloc, &top) {
             Ok(farm) => Ok(farm),
             Err(_) => Err(NoMemory),
@@ -52,7 +52,7 @@ fn request(alloc: Global, method: &str, host: &str, path: &str) -> Result<Req, P
 #[test]
 fn admits_by_host_and_filter(rt: HostRuntime) -> Result<(), Fail> {
     let alloc = rt.alloc();
-    let farm = farm(alloc)?;
+    let farm = farm(alloc, SITE)?;
     let table = [
         ("GET", "localhost", "/content/a.html", true),
         ("GET", "", "/content/a.html", true),
@@ -81,7 +81,7 @@ fn key_text(alloc: Global, farm: &Farm, req: &Req) -> Result<TextBuf, NoMemory> 
 #[test]
 fn keys_of_requests(rt: HostRuntime) -> Result<(), Fail> {
     let alloc = rt.alloc();
-    let farm = farm(alloc)?;
+    let farm = farm(alloc, SITE)?;
     let table = [
         ("GET", "/content/en.html", "/content/en.html"),
         ("GET", "/a/jcr:content/x.html", "/a/_jcr_content/x.html"),
@@ -99,7 +99,7 @@ fn keys_of_requests(rt: HostRuntime) -> Result<(), Fail> {
 #[test]
 fn keys_by_query_and_fields(rt: HostRuntime) -> Result<(), Fail> {
     let alloc = rt.alloc();
-    let farm = farm(alloc)?;
+    let farm = farm(alloc, SITE)?;
     let mut req = request(alloc, "GET", "localhost", "/content/en.html")?;
     let table = [
         ("utm=1", true),
@@ -122,7 +122,7 @@ fn keys_by_query_and_fields(rt: HostRuntime) -> Result<(), Fail> {
 #[test]
 fn rules_of_the_cache(rt: HostRuntime) -> Result<(), Fail> {
     let alloc = rt.alloc();
-    let farm = farm(alloc)?;
+    let farm = farm(alloc, SITE)?;
     assert!(rt; may_flush(&farm, "127.0.0.1"));
     assert!(rt; !may_flush(&farm, "10.0.0.1"));
     for (path, auto) in [("/content/a.json", false), ("/content/a.html", true)] {
@@ -147,7 +147,7 @@ fn rules_of_the_cache(rt: HostRuntime) -> Result<(), Fail> {
 #[test]
 fn asks_the_publisher(rt: HostRuntime) -> Result<(), Fail> {
     let alloc = rt.alloc();
-    let farm = farm(alloc)?;
+    let farm = farm(alloc, SITE)?;
     for (method, kind, body) in [("POST", "text/plain", "a=b"), ("GET", "", "")] {
         let mut req = request(alloc, method, "localhost", "/content/en.html")?;
         let name = TextBuf::of(alloc, "content-type")?;
@@ -158,5 +158,59 @@ fn asks_the_publisher(rt: HostRuntime) -> Result<(), Fail> {
         assert_eq!(rt; ask.kind.text(), kind);
         assert_eq!(rt; ask.body.bytes(), body.as_bytes());
     }
+    Ok(())
+}
+
+#[test]
+fn the_standard_farm_of_requests(rt: HostRuntime) -> Result<(), Fail> {
+    let alloc = rt.alloc();
+    let farm = farm(alloc, STANDARD_FARM)?;
+    let table = [
+        ("GET", "localhost", "/en.html", "", true, "/en.html"),
+        ("GET", "LocalHost", "/a.json", "utm=1", true, "/a.json"),
+        ("GET", "", "/apps/a.json", "", true, "/apps/a.json"),
+        ("GET", "localhost", "/en.html", "utm_source=1", true, "-"),
+        ("GET", "localhost", "/en", "", true, "-"),
+        ("HEAD", "localhost", "/en.html", "", true, "-"),
+        ("PUT", "localhost", "/en.html", "", true, "-"),
+        ("GET", "www.example.com", "/en.html", "", false, "/en.html"),
+    ];
+    for (method, host, path, query, served, key) in table {
+        let mut req = request(alloc, method, host, path)?;
+        req.query = Some(ByteBuf::of(alloc, query.as_bytes())?);
+        assert_eq!(rt; admits(alloc, &farm, &req)?, served, "{method} {path}");
+        assert_eq!(rt;
+            key_text(alloc, &farm, &req)?.text(),
+            key,
+            "{method} {path}"
+        );
+    }
+    Ok(())
+}
+
+#[test]
+fn the_standard_farm_of_pages_and_clients(rt: HostRuntime) -> Result<(), Fail> {
+    let alloc = rt.alloc();
+    let farm = farm(alloc, STANDARD_FARM)?;
+    for (peer, yes) in [("127.0.0.1", true), ("127.0.0.12", false), ("::1", false)] {
+        assert_eq!(rt; may_flush(&farm, peer), yes, "{peer}");
+    }
+    for (path, auto) in [
+        ("/a.json", false),
+        ("/a.html", true),
+        ("/a.html.txt", false),
+    ] {
+        match page_key(alloc, &Path::read(alloc, path)?)? {
+            Some(key) => assert_eq!(rt; auto_of(alloc, &farm, &key)?, auto, "{path}"),
+            None => assert!(rt; false),
+        }
+    }
+    let mut req = request(alloc, "GET", "localhost", "/en.html")?;
+    let ask = ask_of(alloc, &farm, &req)?;
+    assert_eq!(rt; ask.host.text(), "localhost");
+    assert_eq!(rt; ask.port, 80);
+    let name = TextBuf::of(alloc, "authorization")?;
+    req.heads.push((name, ByteBuf::of(alloc, b"x")?))?;
+    assert!(rt; key_of(alloc, &farm, &req)?.is_none());
     Ok(())
 }

@@ -6,3 +6,5 @@ pub mod DirectLemmas
 pub mod Words
 pub mod Statuses
 pub mod RequestLemmas
+pub mod FilterLemmas
+pub mod CalmLemmas

@@ -169,8 +169,8 @@ module _ (short : (tree : Content) (ask : Ask) → (rendered tree ask).status < 
   answer_short farm content None = omega (arith, error 400)
 
   or_fixed_short : (m : Mood) (answer wanted : Answer) → wanted.status < 65536 → IsOrFixed m answer wanted → answer.status < 65536
-  or_fixed_short m answer wanted small (inl is) = subst (λ (a : Answer). a.status < 65536) (sym is) small
-  or_fixed_short m answer wanted small (inr fixed) = subst (λ (a : Answer). a.status < 65536) (sym fixed.1) (omega arith)
+  or_fixed_short m answer wanted small (inl is) = subst (λ (a : Answer). a.status < 65536) (sym is.0) small
+  or_fixed_short m answer wanted small (inr fixed) = subst (λ (a : Answer). a.status < 65536) (sym fixed.0) (omega arith)
 
   -- the step names a connection that fits, if it names one
   abbrev StepFits : Step → Type 0

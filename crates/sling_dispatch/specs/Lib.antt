@@ -1,5 +1,7 @@
+pub mod FilterParts
 pub mod Farms
 pub mod Runs
+pub mod CalmSessions
 pub mod Fronts
 pub mod Streams
 pub mod Faults

@@ -1,20 +1,26 @@
 //! Laws of the definitions, on functions that do nothing.
-ghost use Rattle.std.specs.Prelude.{◌≡◌, ◌⊎◌, ◌<◌, ℕ, List, Some, map};
+ghost use Rattle.std.specs.Prelude.{◌≡◌, ◌⊎◌, ◌<◌, ℕ, Bool, List, Some, length, map};
 ghost use Rattle.resource_tree.specs.Content.{Content};
 ghost use Rattle.http_front.specs.Targets.{begins_with_slash, path_bytes};
 ghost use Rattle.any_config.specs.declared.farm.Farm as models;
+ghost use Rattle.url_split.specs.declared.decompose.Parts as split;
+ghost use Rattle.url_split.specs.Split.{IsSplit};
+ghost use Rattle.dispatch_rules.specs.UrlParts.{stem};
 ghost use Rattle.front.specs.Publishers.{direct_answer};
 ghost use Rattle.front.specs.Events.{Event, notes_of};
 ghost use Rattle.replay_text.specs.Scenario.{Reads};
+ghost use Rattle.sling_dispatch.specs.CalmSessions.{CalmSessionsAreOne};
 ghost use Rattle.sling_dispatch.specs.Endings.{Told, RunCall, Means, IsDue, IsReplay, HasNotFailed, HasContent, HasFarm};
 ghost use Rattle.sling_dispatch.specs.declared.ending.Ending.{Ending};
 ghost use Rattle.sling_dispatch.specs.declared.ending.Ending.TheVariants.{Done, NoMemory};
+ghost use Rattle.sling_dispatch.specs.FilterParts.{SeesParts};
 ghost use Rattle.sling_dispatch.specs.Runs.{IsSession, published, told_of_events};
 ghost use Rattle.replay_text.specs.declared.event_line.EventLine.{EventLine};
 ghost use Rattle.replay_text.specs.declared.scenario.Scenario.{Scenario};
 
+use front::calm_runs_are_determined;
 use publisher::statuses_are_short;
-use replay_text::{a_transcript_tells_its_events, one_reading};
+use replay_text::{a_transcript_tells_its_events, acts_are_told_by_their_lines, one_reading};
 
 /// How the path of a target is escaped doesn't matter, apart from the slash that it begins with, nor which query follows.
 pub fn spellings_are_answered_alike()
@@ -39,4 +45,19 @@ pub fn a_transcript_tells_its_session()
 {
     statuses_are_short();
     a_transcript_tells_its_events();
+}
+
+/// What an entry of the filter asks about are the parts of the path text's decomposition, where the resource path of that ends at the
+/// text's first dot.
+pub fn a_filter_sees_the_decomposition()
+    ensures { (known : List (List ℕ) → Bool) (text : List ℕ) (parts : split.Parts) (s : IsSplit known text parts) → s.at ≡ length (stem text) → SeesParts text parts }
+{}
+
+/// A scenario has one transcript, but where memory is wanting in an event; and but for one choice: where the bytes of a stream end within
+/// a target that no more bytes can save, the fault may be told at once or later.
+pub fn a_calm_session_has_one_transcript()
+    ensures { CalmSessionsAreOne }
+{
+    acts_are_told_by_their_lines();
+    calm_runs_are_determined();
 }

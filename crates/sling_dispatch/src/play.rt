@@ -117,7 +117,7 @@ fn event_of<'a>(
     let Some((act, rest)) = first_act(alloc, lines)? else {
         unreachable!();
     };
-    let step = step_of(alloc, host, &act)?;
+    let step = step_of(alloc, host, act)?;
     let notes = front.step(alloc, &step)?;
     let text = write_notes(alloc, event, notes.as_slice())?;
     Ok((text, rest))

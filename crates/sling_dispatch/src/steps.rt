@@ -26,21 +26,21 @@ pub fn asked_host(alloc: Global, farm: &Farm) -> Mem<Vec<u8>>
 }
 
 /// What a line of a scenario does, where this host is asked.
-pub fn step_of(alloc: Global, host: &[u8], line: &EventLine) -> Mem<Step>
-    ensures { IfOk result (λ step. step ≡ runs.step_of host.now line.now) }
+pub fn step_of(alloc: Global, host: &[u8], line: EventLine) -> Mem<Step>
+    ensures { IfOk result (λ step. step ≡ runs.step_of host.now line) }
 {
     match line {
-        EventLine::Direct(target) => Ok(Step::Direct(target.duplicate(alloc)?)),
-        EventLine::Open(c, peer) => Ok(Step::Opened(*c, peer.duplicate(alloc)?)),
-        EventLine::Close(c) => Ok(Step::Gone(*c)),
-        EventLine::Bytes(c, bytes) => Ok(Step::Piece(*c, ByteBuf::of(alloc, bytes.bytes())?)),
-        EventLine::Get(c, target) => Ok(Step::Piece(*c, get_bytes(alloc, host, target.text())?)),
+        EventLine::Direct(target) => Ok(Step::Direct(target)),
+        EventLine::Open(c, peer) => Ok(Step::Opened(c, peer)),
+        EventLine::Close(c) => Ok(Step::Gone(c)),
+        EventLine::Bytes(c, bytes) => Ok(Step::Piece(c, bytes)),
+        EventLine::Get(c, target) => Ok(Step::Piece(c, get_bytes(alloc, host, target.text())?)),
         EventLine::Post(c, target, form) => {
-            Ok(Step::Piece(*c, post_bytes(alloc, host, target.text(), form.bytes())?))
+            Ok(Step::Piece(c, post_bytes(alloc, host, target.text(), form.bytes())?))
         }
-        EventLine::Render(flight) => Ok(Step::Render(pick_of(*flight))),
-        EventLine::Deliver(flight) => Ok(Step::Deliver(pick_of(*flight))),
-        EventLine::Lose(flight) => Ok(Step::Lose(pick_of(*flight))),
+        EventLine::Render(flight) => Ok(Step::Render(pick_of(flight))),
+        EventLine::Deliver(flight) => Ok(Step::Deliver(pick_of(flight))),
+        EventLine::Lose(flight) => Ok(Step::Lose(pick_of(flight))),
     }
 }
 

@@ -14,6 +14,9 @@ use resource_tree::{Look, Res};
 use sp_base::{Mem, Path, TextBuf};
 use std::alloc::Global;
 
+/// The bytes that are made room for before a text is begun, so that those of most resources need no more.
+const FIRST_ROOM: usize = 256;
+
 // Writes a resource, and `depth` levels below it. The text leaves no more of a room of bytes than the answer says, and none
 // is said where it needs more than the room: then, and out of memory, some of it may be written.
 #[cycle(writing)]
@@ -104,7 +107,7 @@ pub(crate) fn text_answer<L: Look>(
     ensures value { IfOk result (λ answer. answer ≡ text_within most_bytes (json_text (L.seen look.now) depth res.now)) }
     ensures reads_back { IfOk result (ReadsAs (resource_json (L.seen look.now) depth res.now.path res.now)) }
 {
-    let mut writer = Writer::new(Vec::new(alloc));
+    let mut writer = Writer::new(Vec::with_capacity(alloc, FIRST_ROOM)?);
     let Some(_) = write_resource(alloc, look, &mut writer, res.path(), res, depth, most_bytes)?
     else {
         return Ok(JsonAnswer::TooLong);

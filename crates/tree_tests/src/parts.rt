@@ -26,7 +26,7 @@ pub(crate) fn listing(alloc: Global, tree: &Tree) -> Result<String, TreeFault> {
     Ok(text)
 }
 
-fn child(alloc: Global, path: &Path, name: &str) -> Result<Path, TreeFault> {
+pub(crate) fn child(alloc: Global, path: &Path, name: &str) -> Result<Path, TreeFault> {
     match path.child(alloc, name) {
         Ok(path) => Ok(path),
         Err(_) => Err(TreeFault::NoMemory),

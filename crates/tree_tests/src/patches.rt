@@ -4,7 +4,7 @@ ghost use Rattle.resource_tree.specs.Content.{IsGood, HasSegmentNames};
 ghost use Rattle.resource_tree.specs.Patches.{patching};
 
 use crate::changes::{Failed, at, tree_of};
-use crate::parts::listing;
+use crate::parts::{child, listing};
 use resource_tree::{Patch, PatchNode, Tree};
 use sp_base::{Mem, Path, PropList, Value};
 use std::alloc::Global;
@@ -52,6 +52,22 @@ fn a_patch_takes_the_room_that_was_made(rt: HostRuntime) -> Result<(), Failed> {
             assert_eq!(rt; listing(alloc, &after)?.as_str(), "/ /a /a/b* ");
         }
         Err(tree) => assert_eq!(rt; listing(alloc, &tree)?.as_str(), "/ /a /a/b "),
+    }
+    Ok(())
+}
+
+// Room for so many rows is an allocation. Where it is refused, the tree is as it was.
+#[test]
+fn a_tree_without_room_is_as_it_was(rt: HostRuntime) -> Result<(), Failed> {
+    let alloc = rt.alloc();
+    let seeds = RandomState::new(&rt)?;
+    let tree = tree_of(alloc, seeds, &["/a", "/a/b"])?;
+    let mut patch = Patch::new(alloc, seeds);
+    for name in "a b c d e f g h i j k l m n o p q r s t u v w x y z".split(' ') {
+        patch.put(child(alloc, &at(alloc, "/a/b")?, name)?, PatchNode::Gone)?;
+    }
+    if let Err(tree) = tree.with_room(&patch) {
+        assert_eq!(rt; listing(alloc, &tree)?.as_str(), "/ /a /a/b ");
     }
     Ok(())
 }

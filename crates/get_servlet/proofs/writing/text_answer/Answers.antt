@@ -22,7 +22,7 @@ returns-then-len-most_bytes-clause-value g c =
     let spent = subst (λ (o : Option ℕ). Spends c.args.most_bytes o c.new-writer.result end (json_tokens (resource_json seen c.args.depth c.path.result.now c.args.res.now))) c.in-Some.is c.in_ok-write_resource.ensures in
     let adds = spent.0 in
     let ok = rw c.unwrap-text.ensures at c.from_utf8.ensures.ok in
-    let before : end.before ≡ [] = adds.before ∙ c.new-writer.ensures.before ∙ c.new.ensures.items in
+    let before : end.before ≡ [] = adds.before ∙ c.new-writer.ensures.before ∙ c.in_ok-with_capacity.ensures.items in
     let written = tokens_are seen c.args.depth c.path.result.now c.args.res.now c.new-writer.result end c.new-writer.ensures.tokens c.path.ensures adds in
     let bytes : c.unwrap-text.result.bytes.items ≡ json_text seen c.args.depth c.args.res.now =
     ap (λ v. v.items) ok ∙ c.into_inner.ensures.items ∙ ap (λ (first : List ℕ). first ++ print end.tokens) before ∙ text_is seen c.args.depth c.args.res.now end written in
@@ -35,7 +35,7 @@ returns-clause-value g c =
     let spent = subst (λ (o : Option ℕ). Spends c.args.most_bytes o c.new-writer.result end (json_tokens (resource_json seen c.args.depth c.path.result.now c.args.res.now))) c.in-Some.is c.in_ok-write_resource.ensures in
     let adds = spent.0 in
     let ok = rw c.unwrap-text.ensures at c.from_utf8.ensures.ok in
-    let before : end.before ≡ [] = adds.before ∙ c.new-writer.ensures.before ∙ c.new.ensures.items in
+    let before : end.before ≡ [] = adds.before ∙ c.new-writer.ensures.before ∙ c.in_ok-with_capacity.ensures.items in
     let written = tokens_are seen c.args.depth c.path.result.now c.args.res.now c.new-writer.result end c.new-writer.ensures.tokens c.path.ensures adds in
     let bytes : c.unwrap-text.result.bytes.items ≡ json_text seen c.args.depth c.args.res.now =
     ap (λ v. v.items) ok ∙ c.into_inner.ensures.items ∙ ap (λ (first : List ℕ). first ++ print end.tokens) before ∙ text_is seen c.args.depth c.args.res.now end written in
@@ -49,7 +49,7 @@ returns-clause-reads_back g c =
     let spent = subst (λ (o : Option ℕ). Spends c.args.most_bytes o c.new-writer.result end (json_tokens (resource_json seen c.args.depth c.path.result.now c.args.res.now))) c.in-Some.is c.in_ok-write_resource.ensures in
     let adds = spent.0 in
     let ok = rw c.unwrap-text.ensures at c.from_utf8.ensures.ok in
-    let before : end.before ≡ [] = adds.before ∙ c.new-writer.ensures.before ∙ c.new.ensures.items in
+    let before : end.before ≡ [] = adds.before ∙ c.new-writer.ensures.before ∙ c.in_ok-with_capacity.ensures.items in
     let written = tokens_are seen c.args.depth c.path.result.now c.args.res.now c.new-writer.result end c.new-writer.ensures.tokens c.path.ensures adds in
     let printed : c.from.result ≡ print end.tokens =
     c.from.ensures ∙ ap (λ v. v.items) ok ∙ c.into_inner.ensures.items ∙ ap (λ (first : List ℕ). first ++ print end.tokens) before in

@@ -141,17 +141,48 @@ def growth(title, counts, time_per_one):
     print(f"  greatest to least {max(each) / min(each):.2f}")
 
 
-PAGES_PROGRAM = os.path.abspath("out/bench/crates/pages_program/out/pages_program")
+PLACE = os.path.abspath("out/bench")
+
+
+def lines_below(wanted):
+    """The lines of crates.txt that these crates need, each after those that it stands on."""
+    below = {}
+    with open("crates.txt") as lines:
+        for line in lines:
+            name, colon, needed = line.partition("#")[0].partition(":")
+            if colon:
+                below[name.strip()] = needed.split()
+    found = {}
+
+    def add(name):
+        if name in below and name not in found:
+            for other in below[name]:
+                add(other)
+            found[name] = f"{name}: {' '.join(below[name])}\n"
+
+    for name in wanted:
+        add(name)
+    return found
+
+
+def build(program, wanted, words=(), given=b""):
+    """Copies the crates that a program of bench/ stands on, with what they keep of their proofs, puts it beside them, builds it and
+    runs it once. Its path."""
+    found = lines_below(wanted)
+    folder = f"{PLACE}/crates/{program}"
+    shutil.rmtree(PLACE, ignore_errors=True)
+    os.makedirs(f"{folder}/src")
+    for crate in found:
+        shutil.copytree(f"crates/{crate}", f"{PLACE}/crates/{crate}")
+    shutil.copy(f"bench/{program}/main.rt.in", f"{folder}/src/main.rt")
+    with open(f"{PLACE}/crates.txt", "w") as out:
+        out.writelines([*found.values(), f"{program}: {' '.join(wanted)}\n"])
+    subprocess.run(["rt", "run", "--", *words], cwd=folder, input=given, check=True, stdout=subprocess.DEVNULL)
+    return f"{folder}/out/{program}"
+
+
+PAGES_PROGRAM = f"{PLACE}/crates/pages_program/out/pages_program"
 
 
 def build_pages_program():
-    """Copies the crates that pages_program stands on, puts it beside them, and builds it."""
-    place = os.path.abspath("out/bench")
-    shutil.rmtree(place, ignore_errors=True)
-    os.makedirs(f"{place}/crates/pages_program/src")
-    for crate in ("sp_base", "sp_outside"):
-        shutil.copytree(f"crates/{crate}", f"{place}/crates/{crate}")
-    shutil.copy("bench/pages_program/main.rt.in", f"{place}/crates/pages_program/src/main.rt")
-    with open(f"{place}/crates.txt", "w") as out:
-        out.write("sp_base:\nsp_outside: sp_base\npages_program: sp_base sp_outside\n")
-    subprocess.run(["rt", "run", "--", "list", "0", "1"], cwd=f"{place}/crates/pages_program", check=True, stdout=subprocess.DEVNULL)
+    build("pages_program", ["sp_base", "sp_outside"], ["list", "0", "1"])

@@ -9,7 +9,7 @@ use Rattle.std.specs.List.{list_any, position, position_from, position_or_len}
 use Rattle.std.specs.Option.{option_map}
 use Rattle.sp_base.specs.declared.path.PathFault.TheVariants.{EmptySegment, DotSegment}
 use Rattle.sp_base.specs.Paths.{is_empty, is_dots, is_long, pieces, fault_of, size_fault, is_path}
-use Rattle.sp_base.specs.PathTexts.{fault_after}
+use Rattle.sp_base.specs.PathTexts.{is_unfit, fault_after}
 use Rattle.sp_base.proofs.PathLemmas.{or_first, or_second, none_empty, none_dots, none_long, all_short, path_ok}
 
 pub position-shift : (n m : ℕ) (parts : List (List ℕ)) → position_from is_long (n + m) parts ≡ option_map (λ i. n + i) (position_from is_long m parts)
@@ -70,3 +70,22 @@ fault_after_path segs rest h =
     ap (λ t. cond t (Some EmptySegment) (cond (list_any is_dots rest) (Some DotSegment) (size_fault (position_from is_long n rest) (n + length rest)))) (none_empty rest (path_ok rest h))
     ∙ ap (λ t. cond t (Some DotSegment) (size_fault (position_from is_long n rest) (n + length rest))) (none_dots rest (path_ok rest h))
     ∙ ap (λ o. size_fault o (n + length rest)) long
+
+or_false : (a b : Bool) → a ≡ false → b ≡ false → (a || b) ≡ false
+or_false true b e f = e
+or_false false b e f = f
+
+none_fit : (p : List ℕ → Bool) → ((part : List ℕ) → is_unfit part ≡ false → p part ≡ false) → (parts : List (List ℕ))
+    → list_any is_unfit parts ≡ false → list_any p parts ≡ false
+none_fit p h [] e = refl
+none_fit p h (part ∷ parts) e = or_false (p part) (list_any p parts) (h part (or_first _ _ e)) (none_fit p h parts (or_second _ _ e))
+
+-- pieces that are all fit are too many or good
+pub fit_fault : (n : ℕ) (parts : List (List ℕ)) → list_any is_unfit parts ≡ false → fault_after n parts ≡ size_fault None (n + length parts)
+fit_fault n parts e =
+    let empty : list_any is_empty parts ≡ false = none_fit is_empty (λ x h. or_first (is_empty x) _ h) parts e in
+    let dots : list_any is_dots parts ≡ false = none_fit is_dots (λ x h. or_first (is_dots x) _ (or_second (is_empty x) _ h)) parts e in
+    let long : position_from is_long n parts ≡ None = none_long parts n (none_fit is_long (λ x h. or_second (is_dots x) _ (or_second (is_empty x) _ h)) parts e) in
+    ap (λ t. cond t (Some EmptySegment) (cond (list_any is_dots parts) (Some DotSegment) (size_fault (position_from is_long n parts) (n + length parts)))) empty
+    ∙ ap (λ t. cond t (Some DotSegment) (size_fault (position_from is_long n parts) (n + length parts))) dots
+    ∙ ap (λ o. size_fault o (n + length parts)) long

@@ -1,5 +1,5 @@
 -- A path's text in memory, and how its order and its ancestors are read off it.
-use Rattle.std.specs.Prelude.{◌≡◌, ◌==◌, ◌&&◌, ◌+◌, IsTrue, true, ℕ, Bool, nat_eq, not, if◌then◌else◌, List, [], ◌∷◌, Option, Some, drop, length, flat_map}
+use Rattle.std.specs.Prelude.{◌≡◌, ◌==◌, ◌&&◌, ◌||◌, ◌+◌, IsTrue, true, ℕ, Bool, nat_eq, not, if◌then◌else◌, List, [], ◌∷◌, Option, Some, drop, length, flat_map}
 use Rattle.std.specs.List.{list_any, list_all, position_from, starts_with}
 use Rattle.std.specs.Ordering.{nat_cmp}
 use Rattle.std.specs.declared.cmp.Ordering.{Ordering}
@@ -7,6 +7,10 @@ use Rattle.std.specs.declared.cmp.Ordering.TheVariants.{Less, Equal, Greater}
 use Rattle.sp_base.specs.declared.path.PathFault.{PathFault}
 use Rattle.sp_base.specs.declared.path.PathFault.TheVariants.{EmptySegment, DotSegment}
 use Rattle.sp_base.specs.Paths.{is_empty, is_dots, is_long, has_slash, is_path, pieces, size_fault}
+
+-- a piece that is no segment, whatever stands beside it
+abbrev pub is_unfit : List ℕ → Bool
+is_unfit piece = is_empty piece || (is_dots piece || is_long piece)
 
 -- why segments of a path and pieces after them are no path
 abbrev pub fault_after : ℕ → List (List ℕ) → Option PathFault

@@ -2,7 +2,7 @@
 ghost use Rattle.std.specs.Prelude.{◌+◌, ◌-◌, ◌≤◌, ◌≡◌, ◌≢◌, ◌==◌, ◌∷◌, ◌++◌, List, ℕ, true, false, drop, take, length, IfOk, OnOk, IfSome, IfNone, option_copied, slice_get, string_bytes};
 ghost use Rattle.std.specs.List.{list_any, position, position_from, count_by};
 ghost use Rattle.sp_base.specs.Paths.{seg_ok, is_empty, is_dots, is_long, has_slash, pieces, size_fault, fault_of, is_mangled, unmangled_seg, unmangled, mangled_seg, mangled};
-ghost use Rattle.sp_base.specs.PathTexts.{segs_in, spelled, fault_after, text_under};
+ghost use Rattle.sp_base.specs.PathTexts.{segs_in, spelled, is_unfit, fault_after, text_under};
 
 use crate::{Mem, PathFault};
 use std::alloc::Global;
@@ -80,8 +80,19 @@ pub fn size_fault(long: Option<usize>, before: usize, count: usize) -> Option<Pa
     }
 }
 
-// Why segments of a path and the pieces of a text after them are no path.
-pub fn fault_after(before: usize, text: &str) -> Option<PathFault>
+fn is_unfit(piece: &str) -> bool
+    ensures { result ≡ is_unfit piece.now }
+{
+    piece.is_empty() || (is_dots(piece) || piece.len() > LONGEST_SEGMENT)
+}
+
+fn has_unfit(text: &str) -> bool
+    ensures { result ≡ list_any is_unfit (pieces text.now) }
+{
+    text.split('/').any(|piece| is_unfit(piece))
+}
+
+fn first_fault(before: usize, text: &str) -> Option<PathFault>
     requires { before ≤ 64 }
     ensures { result ≡ fault_after before (pieces text.now) }
 {
@@ -91,6 +102,18 @@ pub fn fault_after(before: usize, text: &str) -> Option<PathFault>
         Some(PathFault::DotSegment)
     } else {
         size_fault(long_after(before, text), before, count(text))
+    }
+}
+
+// Why segments of a path and the pieces of a text after them are no path. Most texts have no unfit piece, which one look tells.
+pub fn fault_after(before: usize, text: &str) -> Option<PathFault>
+    requires { before ≤ 64 }
+    ensures { result ≡ fault_after before (pieces text.now) }
+{
+    if has_unfit(text) {
+        first_fault(before, text)
+    } else {
+        size_fault(None, before, count(text))
     }
 }
 

@@ -1,5 +1,5 @@
-use Rattle.std.proofs.Common.{◌≡◌, ◌∙◌, Option, Some, None, IfNone, IfSome, sym, ap}
-use Rattle.sp_base.specs.PathTexts.{segs_in, spelled}
+use Rattle.std.proofs.Common.{◌∙◌, Option, Some, None, IfNone, IfSome, sym, ap}
+use Rattle.sp_base.specs.PathTexts.{spelled}
 use Rattle.sp_base.proofs.PathText.{segs_behind, root_segs}
 use Rattle.sp_base.proofs.path.Path.relative.Goals as goal
 

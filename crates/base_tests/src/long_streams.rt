@@ -30,7 +30,7 @@ fn reads_past_its_buffer(rt: HostRuntime) -> Result<(), Fail> {
     for len in [0usize, 1, 15, 16, 17, 31, 32, 33, 47, 48, 49] {
         let text = &LETTERS[..len.min(52)];
         let read = all_read(rt.alloc(), text)?;
-        assert_eq!(rt; read.as_slice(), text);
+        assert!(rt; read.as_slice() == text);
     }
     Ok(())
 }
@@ -88,7 +88,7 @@ fn writes_in_parts(rt: HostRuntime) -> Result<(), Fail> {
     }
     let taken = printer.taken.get();
     let len = printer.len.get().min(TAKEN_BYTES);
-    assert_eq!(rt; &taken[..len], text.as_slice());
+    assert!(rt; &taken[..len] == text.as_slice());
     Ok(())
 }
 
@@ -131,7 +131,7 @@ fn gives_words_of_any_bytes(rt: HostRuntime) -> Result<(), Fail> {
         let word = words.word(rt.alloc(), place)?;
         assert!(rt; word.is_some());
         if let Some(word) = word {
-            assert_eq!(rt; word.bytes(), *wanted);
+            assert!(rt; word.bytes() == *wanted);
         }
     }
     assert!(rt; words.word(rt.alloc(), 3)?.is_none());

@@ -13,12 +13,12 @@ fn is_file(found: Result<Option<ByteBuf>, DiskFault>, wanted: &[u8]) -> bool {
 #[test]
 fn holds_files(rt: HostRuntime) -> Result<(), Fail> {
     let mut disk = MemDisk::new(rt.alloc());
-    assert_eq!(rt; disk.put("a", b"1"), Ok(()));
-    assert_eq!(rt; disk.put("b", b"2"), Ok(()));
+    assert!(rt; disk.put("a", b"1") == Ok(()));
+    assert!(rt; disk.put("b", b"2") == Ok(()));
     assert!(rt; is_file(disk.get(rt.alloc(), "b"), b"2"));
-    assert_eq!(rt; disk.remove("a"), Ok(()));
+    assert!(rt; disk.remove("a") == Ok(()));
     assert!(rt; matches!(&disk.get(rt.alloc(), "a"), Ok(None)));
-    assert_eq!(rt; disk.calls(), 5);
+    assert!(rt; disk.calls() == 5);
     Ok(())
 }
 
@@ -26,12 +26,12 @@ fn holds_files(rt: HostRuntime) -> Result<(), Fail> {
 fn lists_names(rt: HostRuntime) -> Result<(), Fail> {
     let mut disk = MemDisk::new(rt.alloc());
     for name in ["a/x", "b", "a/y", "a/z"] {
-        assert_eq!(rt; disk.put(name, b""), Ok(()));
+        assert!(rt; disk.put(name, b"") == Ok(()));
     }
     let listed = disk.list(rt.alloc(), "a/", "a/x", 1);
     assert!(rt; listed.is_ok());
     if let Ok(names) = listed {
-        assert_eq!(rt; names.len(), 1);
+        assert!(rt; names.len() == 1);
         assert!(rt; matches!(names.get(0), Some(name) if name.text() == "a/y"));
     }
     Ok(())
@@ -41,12 +41,12 @@ fn lists_names(rt: HostRuntime) -> Result<(), Fail> {
 fn fails_as_planned(rt: HostRuntime) -> Result<(), Fail> {
     let mut disk = MemDisk::new(rt.alloc());
     disk.fail(1, Way::New);
-    assert_eq!(rt; disk.put("a", b"1"), Err(DiskFault::Failed));
+    assert!(rt; disk.put("a", b"1") == Err(DiskFault::Failed));
     assert!(rt; is_file(disk.get(rt.alloc(), "a"), b"1"));
     disk.stop(2, Way::New);
-    assert_eq!(rt; disk.put("a", b"2"), Ok(()));
-    assert_eq!(rt; disk.remove("a"), Err(DiskFault::Failed));
-    assert_eq!(rt; disk.put("a", b"3"), Err(DiskFault::Failed));
+    assert!(rt; disk.put("a", b"2") == Ok(()));
+    assert!(rt; disk.remove("a") == Err(DiskFault::Failed));
+    assert!(rt; disk.put("a", b"3") == Err(DiskFault::Failed));
     disk.go();
     assert!(rt; matches!(&disk.get(rt.alloc(), "a"), Ok(None)));
     Ok(())

@@ -11,16 +11,16 @@ fn gives_and_takes(rt: HostRuntime) -> Result<(), Fail> {
     let bytes = ByteBuf::of(rt.alloc(), b"abcdefghij")?;
     let mut source = MemSource::in_parts(bytes, 6, CallList::from([3].to_vec(rt.alloc())?));
     let mut buffer = [0u8; 8];
-    assert_eq!(rt; source.read(&mut buffer), Ok(6));
-    assert_eq!(rt; source.read(&mut buffer), Ok(4));
-    assert_eq!(rt; buffer.as_slice(), b"ghijef\0\0".as_slice());
-    assert_eq!(rt; source.read(&mut buffer), Err(SourceFault::Failed));
-    assert_eq!(rt; source.read(&mut buffer), Ok(0));
+    assert!(rt; source.read(&mut buffer) == Ok(6));
+    assert!(rt; source.read(&mut buffer) == Ok(4));
+    assert!(rt; buffer.as_slice() == b"ghijef\0\0".as_slice());
+    assert!(rt; source.read(&mut buffer) == Err(SourceFault::Failed));
+    assert!(rt; source.read(&mut buffer) == Ok(0));
     let mut sink = MemSink::in_parts(rt.alloc(), 2, CallList::from([2].to_vec(rt.alloc())?));
-    assert_eq!(rt; sink.write(b"abc"), Ok(2));
-    assert_eq!(rt; sink.write(b"c"), Err(SinkFault::Failed));
-    assert_eq!(rt; sink.write(b"c"), Ok(1));
-    assert_eq!(rt; sink.bytes(), b"abc".as_slice());
+    assert!(rt; sink.write(b"abc") == Ok(2));
+    assert!(rt; sink.write(b"c") == Err(SinkFault::Failed));
+    assert!(rt; sink.write(b"c") == Ok(1));
+    assert!(rt; sink.bytes() == b"abc".as_slice());
     Ok(())
 }
 
@@ -29,11 +29,11 @@ fn gives_all_and_takes_all(rt: HostRuntime) -> Result<(), Fail> {
     let bytes = ByteBuf::of(rt.alloc(), b"abcdef")?;
     let mut source = MemSource::new(bytes, CallList::new(rt.alloc()));
     let mut buffer = [0u8; 8];
-    assert_eq!(rt; source.read(&mut buffer), Ok(6));
-    assert_eq!(rt; source.read(&mut buffer), Ok(0));
+    assert!(rt; source.read(&mut buffer) == Ok(6));
+    assert!(rt; source.read(&mut buffer) == Ok(0));
     let mut sink = MemSink::new(rt.alloc(), CallList::new(rt.alloc()));
-    assert_eq!(rt; sink.write(b"abc"), Ok(3));
-    assert_eq!(rt; sink.bytes(), b"abc".as_slice());
+    assert!(rt; sink.write(b"abc") == Ok(3));
+    assert!(rt; sink.bytes() == b"abc".as_slice());
     Ok(())
 }
 
@@ -61,11 +61,11 @@ impl Read for Reader {
 fn reads_for_real(rt: HostRuntime) -> Result<(), Fail> {
     let mut source = RealSource::new(Reader { reads: 0 });
     let mut buffer = [0u8; 2];
-    assert_eq!(rt; source.read(&mut buffer), Ok(1));
-    assert_eq!(rt; source.read(&mut buffer), Err(SourceFault::Failed));
-    assert_eq!(rt; source.read(&mut buffer), Ok(1));
-    assert_eq!(rt; source.read(&mut buffer), Ok(0));
-    assert_eq!(rt; buffer.as_slice(), b"a\0".as_slice());
+    assert!(rt; source.read(&mut buffer) == Ok(1));
+    assert!(rt; source.read(&mut buffer) == Err(SourceFault::Failed));
+    assert!(rt; source.read(&mut buffer) == Ok(1));
+    assert!(rt; source.read(&mut buffer) == Ok(0));
+    assert!(rt; buffer.as_slice() == b"a\0".as_slice());
     Ok(())
 }
 
@@ -107,9 +107,9 @@ fn writes_for_real(rt: HostRuntime) -> Result<(), Fail> {
     let mut sink = RealSink::new(Printer {
         writes: Cell::new(0),
     });
-    assert_eq!(rt; sink.write(b"abc"), Ok(1));
-    assert_eq!(rt; sink.write(b"bc"), Err(SinkFault::Failed));
-    assert_eq!(rt; sink.write(b"bc"), Err(SinkFault::Failed));
-    assert_eq!(rt; sink.write(b"bc"), Ok(1));
+    assert!(rt; sink.write(b"abc") == Ok(1));
+    assert!(rt; sink.write(b"bc") == Err(SinkFault::Failed));
+    assert!(rt; sink.write(b"bc") == Err(SinkFault::Failed));
+    assert!(rt; sink.write(b"bc") == Ok(1));
     Ok(())
 }

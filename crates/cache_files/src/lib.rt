@@ -7,8 +7,6 @@ mod epoch_laws;
 mod head_note;
 mod laws;
 mod page;
-#[cfg(test)]
-mod tests;
 
 pub use epoch::{OpenFault, open_epoch};
 pub use epoch_laws::{

@@ -6,8 +6,6 @@ mod laws;
 mod outbox;
 mod place;
 mod sending;
-#[cfg(test)]
-mod tests;
 
 pub use laws::{a_closing_connection_ends, answers_in_order, slots_of_turns};
 pub use outbox::Outbox;

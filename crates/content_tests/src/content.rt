@@ -66,10 +66,10 @@ fn tells_the_first_fault(rt: HostRuntime) -> Result<(), Fail> {
     for row in FAULTS.lines() {
         let (content, want) = row.split_once(" => ").ok_or("a bad row")?;
         let got = answer(rt.alloc(), seeds, content.as_bytes()).or(Err("no memory"))?;
-        assert_eq!(rt; got.as_str(), want, "at {content}");
+        assert!(rt; got.as_str() == want);
     }
     let not_text = answer(rt.alloc(), seeds, b"{\"a\":\"\xff\"}").or(Err("no memory"))?;
-    assert_eq!(rt; not_text.as_str(), "NotJson");
+    assert!(rt; not_text.as_str() == "NotJson");
     Ok(())
 }
 
@@ -143,7 +143,7 @@ fn reads_nodes(rt: HostRuntime) -> Result<(), Fail> {
             return Err(Fail::from("refused"));
         };
         let got = node_text(rt.alloc(), &tree, path).or(Err("no memory"))?;
-        assert_eq!(rt; got.as_str(), want, "at {content}");
+        assert!(rt; got.as_str() == want);
     }
     Ok(())
 }
@@ -176,7 +176,7 @@ fn writes_what_it_reads(rt: HostRuntime) -> Result<(), Fail> {
         let (content, want) = row.split_once(" => ").ok_or("a bad row")?;
         for text in [content, want] {
             let got = rewritten(rt.alloc(), seeds, text).or(Err("refused"))?;
-            assert_eq!(rt; got.as_str(), want, "at {text}");
+            assert!(rt; got.as_str() == want);
         }
     }
     Ok(())
@@ -216,15 +216,15 @@ fn keeps_the_limits(rt: HostRuntime) -> Result<(), Fail> {
     ] {
         let content = nested(rt.alloc(), levels, "{}").or(Err("no memory"))?;
         let got = answer(rt.alloc(), seeds, content.as_bytes()).or(Err("no memory"))?;
-        assert_eq!(rt; got.as_str(), want, "at {levels} levels");
+        assert!(rt; got.as_str() == want);
     }
     let deep = nested(rt.alloc(), 70, "1.5").or(Err("no memory"))?;
     let got = answer(rt.alloc(), seeds, deep.as_bytes()).or(Err("no memory"))?;
-    assert_eq!(rt; got.len(), 10 + 2 * 64, "the path is cut to 64 segments");
+    assert!(rt; got.len() == 10 + 2 * 64);
     for (kids, want) in [(199_999, "reads"), (200_000, "TooBig")] {
         let content = broad(rt.alloc(), kids).or(Err("no memory"))?;
         let got = answer(rt.alloc(), seeds, content.as_bytes()).or(Err("no memory"))?;
-        assert_eq!(rt; got.as_str(), want, "at {kids} kids");
+        assert!(rt; got.as_str() == want);
     }
     Ok(())
 }

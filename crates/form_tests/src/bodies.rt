@@ -34,7 +34,7 @@ fn reads_forms(rt: HostRuntime) -> Result<(), Fail> {
     ];
     for (kind, body, wanted) in cases {
         let text = shown(rt.alloc(), kind, body.as_bytes())?;
-        assert_eq!(rt; text.as_str(), wanted);
+        assert!(rt; text.as_str() == wanted);
     }
     Ok(())
 }
@@ -49,8 +49,8 @@ fn refuses_forms(rt: HostRuntime) -> Result<(), Fail> {
     ];
     for (kind, body, wanted) in cases {
         match read_form(rt.alloc(), kind, body.as_bytes()) {
-            Ok(_) => assert!(rt; false, "{body}"),
-            Err(fault) => assert_eq!(rt; fault, wanted),
+            Ok(_) => assert!(rt; false),
+            Err(fault) => assert!(rt; fault == wanted),
         }
     }
     Ok(())
@@ -63,9 +63,9 @@ fn refuses_each_cut(rt: HostRuntime) -> Result<(), Fail> {
     for n in 0..body.len() {
         let fault = read_form(rt.alloc(), KIND, &body[..n]).err();
         if n + 2 == body.len() {
-            assert_eq!(rt; fault, None);
+            assert!(rt; fault == None);
         } else {
-            assert_eq!(rt; fault, Some(FormFault::BadPart(n)));
+            assert!(rt; fault == Some(FormFault::BadPart(n)));
         }
     }
     Ok(())

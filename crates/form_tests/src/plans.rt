@@ -22,10 +22,10 @@ fn a_form_asks_for_a_modification(rt: HostRuntime) -> Result<(), Fail> {
         return Ok(());
     };
     assert!(rt; op.target == target && op.fresh.is_none());
-    assert_eq!(rt; op.deletes.len(), 1);
-    assert_eq!(rt; op.moves.len(), 0);
-    assert_eq!(rt; op.copies.len(), 1);
-    assert_eq!(rt; op.sets.len(), 1);
+    assert!(rt; op.deletes.len() == 1);
+    assert!(rt; op.moves.len() == 0);
+    assert!(rt; op.copies.len() == 1);
+    assert!(rt; op.sets.len() == 1);
     assert!(rt; matches!(op.place, Some(Place::First)));
     Ok(())
 }
@@ -56,10 +56,10 @@ fn faults_come_in_their_order(rt: HostRuntime) -> Result<(), Fail> {
     let wanted = ["BadPath", "BadHint", "BadOrder", "NoDest"];
     for last in 0..pairs.len() {
         let planned = plan(alloc, &target, false, &form(alloc, &pairs[..last + 1])?);
-        assert_eq!(rt; name_of(&planned), wanted[last]);
+        assert!(rt; name_of(&planned) == wanted[last]);
     }
     let pairs = [(":operation", "none"), (":order", "x")];
     let planned = plan(alloc, &target, false, &form(alloc, &pairs)?);
-    assert_eq!(rt; name_of(&planned), "BadOperation");
+    assert!(rt; name_of(&planned) == "BadOperation");
     Ok(())
 }

@@ -1,5 +1,7 @@
-//! Tests of calls of `http_front`, which are proved apart from it.
+//! Tests of calls of `http_front` and `connections`, which are proved apart from them.
 #![tactic(auto)]
 
 #[cfg(test)]
 mod requests;
+#[cfg(test)]
+mod sending;

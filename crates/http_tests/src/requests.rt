@@ -26,28 +26,66 @@ fn push_bytes(out: &mut String, bytes: &[u8]) -> Mem<()> {
     Ok(())
 }
 
-// Writes the turns that are there now, and says whether more may come.
-fn tell(alloc: Global, intake: &mut Intake, out: &mut String) -> Mem<bool> {
-    for _ in 0..100 {
-        match intake.next(alloc) {
-            Ok(Some(Turn::Continue)) => out.push_str("100;")?,
-            Ok(Some(Turn::Whole(request))) => {
-                out.push_str(request.line.text())?;
-                out.push_str(if request.close { " closes " } else { " " })?;
-                out.push_str(request.host.text())?;
-                out.push_str(" ")?;
-                push_bytes(out, request.body.bytes())?;
-                out.push_str(";")?;
-            }
-            Ok(None) => return Ok(true),
-            Err(InFault::NoMemory) => return Err(NoMemory),
-            Err(fault) => {
-                out.push_str(name_of(fault))?;
-                return Ok(false);
-            }
+// Writes a turn.
+fn push_turn(out: &mut String, turn: &Turn) -> Mem<()> {
+    let Turn::Whole(request) = turn else {
+        out.push_str("100;")?;
+        return Ok(());
+    };
+    out.push_str(request.line.text())?;
+    out.push_str(if request.close { " closes " } else { " " })?;
+    out.push_str(request.host.text())?;
+    out.push_str(" ")?;
+    push_bytes(out, request.body.bytes())?;
+    out.push_str(";")?;
+    Ok(())
+}
+
+// What an intake told next.
+#[derive(Drop)]
+enum Told {
+    Turn,
+    Nothing,
+    Fault,
+}
+
+// Writes the next turn, or the fault.
+fn tell_next(alloc: Global, intake: &mut Intake, out: &mut String) -> Told {
+    match intake.next(alloc) {
+        Ok(Some(turn)) => match push_turn(out, &turn) {
+            Ok(()) => Told::Turn,
+            Err(_) => Told::Fault,
+        },
+        Ok(None) => Told::Nothing,
+        Err(fault) => {
+            let _ = out.push_str(name_of(fault));
+            Told::Fault
         }
     }
-    Ok(true)
+}
+
+// Writes all turns that are there, and says whether more may come.
+fn tell(alloc: Global, intake: &mut Intake, out: &mut String) -> bool {
+    for _ in 0..100 {
+        match tell_next(alloc, intake, out) {
+            Told::Turn => {}
+            Told::Nothing => return true,
+            Told::Fault => return false,
+        }
+    }
+    true
+}
+
+fn tell_after(alloc: Global, intake: &mut Intake, byte: u8, out: &mut String) -> bool {
+    intake.feed(&[byte]).is_ok() && tell(alloc, intake, out)
+}
+
+fn tell_each(alloc: Global, intake: &mut Intake, bytes: &[u8], out: &mut String) {
+    for byte in bytes {
+        if !tell_after(alloc, intake, *byte, out) {
+            return;
+        }
+    }
 }
 
 const POST: &[u8] =
@@ -61,13 +99,8 @@ fn tells_one_list_of_turns_byte_by_byte(rt: HostRuntime) -> Result<(), Fail> {
     let alloc = rt.alloc();
     let mut intake = Intake::new(alloc)?;
     let mut out = String::new(alloc);
-    for byte in POST {
-        intake.feed(&[*byte])?;
-        if !tell(alloc, &mut intake, &mut out)? {
-            break;
-        }
-    }
-    assert_eq!(rt; out.as_str(), TOLD);
+    tell_each(alloc, &mut intake, POST, &mut out);
+    assert!(rt; out.as_str() == TOLD);
     Ok(())
 }
 

@@ -16,8 +16,6 @@ mod scripts;
 mod serving;
 mod targets;
 mod templates;
-#[cfg(test)]
-mod tests;
 
 pub use laws::{
     a_script_writes_its_pieces, posts_are_refused_for_causes, reads_change_nothing,

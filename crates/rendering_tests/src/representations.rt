@@ -57,7 +57,7 @@ fn a_text_stops_at_the_limit(rt: HostRuntime) -> Result<(), Failed> {
         } else {
             whole
         };
-        assert_eq!(rt; told(alloc, answer)?.as_str(), want);
+        assert!(rt; told(alloc, answer)?.as_str() == want);
     }
     Ok(())
 }

@@ -33,7 +33,7 @@ fn longest_text_is_rendered(rt: HostRuntime) -> Result<(), Failed> {
     let mut text = repeated(alloc, piece.as_str(), 2_049)?;
     text.push_str("${1}")?;
     let template = Template::read(alloc, text.as_str())?;
-    assert_eq!(rt; template.render(alloc, &scope)?.text().len(), 4_194_304);
+    assert!(rt; template.render(alloc, &scope)?.text().len() == 4_194_304);
     text.push_str("${2}")?;
     let template = Template::read(alloc, text.as_str())?;
     assert!(rt; matches!(template.render(alloc, &scope), Err(RenderFault::TooLong)));
@@ -58,9 +58,9 @@ fn bad_expression(alloc: Global, text: &str) -> Option<usize> {
 fn first_faults_are_found(rt: HostRuntime) {
     let alloc = rt.alloc();
     for (text, place) in [("a${", 1), ("é${", 2), ("$$ \\${}${1}${", 11)] {
-        assert_eq!(rt; unclosed(alloc, text), Some(place));
+        assert!(rt; unclosed(alloc, text) == Some(place));
     }
     for (text, place) in [("a${1+}${", 1), ("${1}$${x y}", 5)] {
-        assert_eq!(rt; bad_expression(alloc, text), Some(place));
+        assert!(rt; bad_expression(alloc, text) == Some(place));
     }
 }

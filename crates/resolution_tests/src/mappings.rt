@@ -55,7 +55,7 @@ fn hosts_and_ports_have_their_mappings(rt: HostRuntime) -> Result<(), Failed> {
         ("", 80, "/x.html"),
     ] {
         let got = shown(alloc, &map_in(alloc, &tree, host, port, "/x.html")?)?;
-        assert_eq!(rt; got.text(), want, "{host} {port}");
+        assert!(rt; got.text() == want);
     }
     Ok(())
 }
@@ -93,7 +93,7 @@ fn a_patch_changes_the_index(rt: HostRuntime) -> Result<(), Failed> {
         let mut patch = Patch::new(alloc, seeds);
         patch.put(Path::read(alloc, "/a")?, page_after(alloc, seeds, after)?)?;
         let change = index.change_of(alloc, &tree, &patch);
-        assert!(rt; change.is_ok(), "{after}");
+        assert!(rt; change.is_ok());
         if let Ok(change) = change {
             index.take(change);
         }

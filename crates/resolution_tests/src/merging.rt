@@ -21,7 +21,7 @@ fn a_view_tells_what_is_there(rt: HostRuntime) -> Result<(), Failed> {
     assert!(rt; view.res(alloc, &path)?.is_some());
     assert!(rt; merged(alloc, &tree, &path)?.is_some());
     let kids = merged_kids(alloc, &tree, &path)?;
-    assert_eq!(rt; kids.len(), 2);
+    assert!(rt; kids.len() == 2);
     Ok(())
 }
 
@@ -47,7 +47,7 @@ fn a_view_along_a_path_tells_what_is_there(rt: HostRuntime) -> Result<(), Failed
             ("/libs/x/b", true),
             ("/libs/y", false),
         ] {
-            assert_eq!(rt; view.has(alloc, &Path::read(alloc, path)?)?, there);
+            assert!(rt; view.has(alloc, &Path::read(alloc, path)?)? == there);
         }
     }
     Ok(())

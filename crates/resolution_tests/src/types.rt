@@ -14,7 +14,7 @@ fn a_resource_has_a_chain(rt: HostRuntime) -> Result<(), Failed> {
         return Err(Failed);
     };
     // The two types, and `sling/servlet/default`.
-    assert_eq!(rt; chain(alloc, &tree, &node.props)?.len(), 3);
+    assert!(rt; chain(alloc, &tree, &node.props)?.len() == 3);
     Ok(())
 }
 
@@ -35,8 +35,8 @@ fn apps_stand_before_libs(rt: HostRuntime) -> Result<(), Failed> {
         ("d", ""),
     ] {
         match place_of(alloc, &tree, name)? {
-            Some(place) => assert_eq!(rt; place.text(alloc)?.text(), want),
-            None => assert_eq!(rt; want, ""),
+            Some(place) => assert!(rt; place.text(alloc)?.text() == want),
+            None => assert!(rt; want == ""),
         }
     }
     Ok(())

@@ -33,7 +33,7 @@ fn finds_keys(rt: HostRuntime) -> Result<(), Fail> {
         ("/a.b/en.html", "-"),
     ];
     for (text, key) in table {
-        assert_eq!(rt; key_text(alloc, text)?.as_str(), key);
+        assert!(rt; key_text(alloc, text)?.as_str() == key);
     }
     Ok(())
 }
@@ -68,14 +68,8 @@ fn covers_by_touch(rt: HostRuntime) -> Result<(), Fail> {
         ("/content/site/en/p.a4.html", true, true),
     ];
     for (page, all, only) in table {
-        assert_eq!(rt;
-            is_covered(alloc, Action::Activate, false, handle, page)?,
-            all
-        );
-        assert_eq!(rt;
-            is_covered(alloc, Action::Activate, true, handle, page)?,
-            only
-        );
+        assert!(rt; is_covered(alloc, Action::Activate, false, handle, page)? == all);
+        assert!(rt; is_covered(alloc, Action::Activate, true, handle, page)? == only);
     }
     Ok(())
 }
@@ -94,14 +88,8 @@ fn covers_by_name(rt: HostRuntime) -> Result<(), Fail> {
         ("/a/b.html", false, false),
     ];
     for (page, activate, delete) in table {
-        assert_eq!(rt;
-            is_covered(alloc, Action::Activate, true, handle, page)?,
-            activate
-        );
-        assert_eq!(rt;
-            is_covered(alloc, Action::Delete, true, handle, page)?,
-            delete
-        );
+        assert!(rt; is_covered(alloc, Action::Activate, true, handle, page)? == activate);
+        assert!(rt; is_covered(alloc, Action::Delete, true, handle, page)? == delete);
     }
     assert!(rt; is_covered(alloc, Action::Activate, true, "/logo.txt", "/logo.txt")?);
     assert!(rt; !is_covered(alloc, Action::Activate, true, "/", "/a.html")?);
@@ -133,13 +121,13 @@ fn touches_folders(rt: HostRuntime) -> Result<(), Fail> {
         ("/", "/ "),
     ];
     for (handle, folders) in table {
-        assert_eq!(rt; touched_text(alloc, 2, handle)?.as_str(), folders);
+        assert!(rt; touched_text(alloc, 2, handle)?.as_str() == folders);
     }
     let mut long = String::from_str(alloc, "/a/")?;
     for _ in 0..67u8 {
         long.push_str(" ")?;
     }
     long.push_str("/b/c")?;
-    assert_eq!(rt; touched_text(alloc, 9, long.as_str())?.as_str(), "/ /a ");
+    assert!(rt; touched_text(alloc, 9, long.as_str())?.as_str() == "/ /a ");
     Ok(())
 }

@@ -57,11 +57,11 @@ fn a_farm_is_read_whole(rt: HostRuntime) -> Result<(), Fail> {
         assert!(rt; false);
         return Ok(());
     };
-    assert_eq!(rt; farm.hosts.len(), 2);
-    assert_eq!(rt; farm.ask_host.text(), "www.example.com");
-    assert_eq!(rt; farm.ask_port, 80);
-    assert_eq!(rt; farm.filter.len(), 4);
-    assert_eq!(rt; farm.level, 3);
+    assert!(rt; farm.hosts.len() == 2);
+    assert!(rt; farm.ask_host.text() == "www.example.com");
+    assert!(rt; farm.ask_port == 80);
+    assert!(rt; farm.filter.len() == 4);
+    assert!(rt; farm.level == 3);
     assert!(rt; !farm.authorized);
     assert!(rt; allows(&farm.rules, "/content/a.html"));
     assert!(rt; !allows(&farm.rules, "/content/a.json"));

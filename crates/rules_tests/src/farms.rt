@@ -49,12 +49,12 @@ fn the_standard_farm(rt: HostRuntime) -> Result<(), Fail> {
         assert!(rt; false);
         return Ok(());
     };
-    assert_eq!(rt; farm.hosts.len(), 1);
-    assert_eq!(rt; farm.ask_host.text(), "localhost");
-    assert_eq!(rt; farm.ask_port, 80);
-    assert_eq!(rt; farm.filter.len(), 1);
-    assert_eq!(rt; farm.level, 0);
-    assert_eq!(rt; farm.clients.len(), 1);
+    assert!(rt; farm.hosts.len() == 1);
+    assert!(rt; farm.ask_host.text() == "localhost");
+    assert!(rt; farm.ask_port == 80);
+    assert!(rt; farm.filter.len() == 1);
+    assert!(rt; farm.level == 0);
+    assert!(rt; farm.clients.len() == 1);
     Ok(())
 }
 
@@ -73,7 +73,7 @@ fn faults_of_the_file(rt: HostRuntime) -> Result<(), Fail> {
     for row in FILES.lines() {
         let (text, wanted) = row.split_once(" => ").ok_or("a row")?;
         let got = refusal(rt.alloc(), text)?;
-        assert_eq!(rt; got.as_str(), wanted, "{row}");
+        assert!(rt; got.as_str() == wanted);
     }
     Ok(())
 }
@@ -98,7 +98,7 @@ fn faults_of_hosts(rt: HostRuntime) -> Result<(), Fail> {
     for row in HOSTS.lines() {
         let (text, wanted) = row.split_once(" => ").ok_or("a row")?;
         let got = refusal_in(rt.alloc(), text)?;
-        assert_eq!(rt; got.as_str(), wanted, "{row}");
+        assert!(rt; got.as_str() == wanted);
     }
     Ok(())
 }
@@ -120,7 +120,7 @@ fn faults_of_filters(rt: HostRuntime) -> Result<(), Fail> {
     for row in FILTERS.lines() {
         let (text, wanted) = row.split_once(" => ").ok_or("a row")?;
         let got = refusal_after(rt.alloc(), "/virtualhosts { }", text)?;
-        assert_eq!(rt; got.as_str(), wanted, "{row}");
+        assert!(rt; got.as_str() == wanted);
     }
     Ok(())
 }
@@ -147,11 +147,7 @@ fn faults_of_each_glob(rt: HostRuntime) -> Result<(), Fail> {
                 "/virtualhosts {{ }} /filter {{ {{ /type allow /{name} {value} }} }}"
             )?;
             let wanted = format!(in rt.alloc(); "{fault} {name}")?;
-            assert_eq!(rt;
-                refusal_in(rt.alloc(), text.as_str())?.as_str(),
-                wanted.as_str(),
-                "{text}"
-            );
+            assert!(rt; refusal_in(rt.alloc(), text.as_str())?.as_str() == wanted.as_str());
         }
     }
     Ok(())
@@ -175,7 +171,7 @@ fn faults_of_caches(rt: HostRuntime) -> Result<(), Fail> {
     for row in CACHES.lines() {
         let (text, wanted) = row.split_once(" => ").ok_or("a row")?;
         let got = refusal_after(rt.alloc(), "/virtualhosts { } /filter { }", text)?;
-        assert_eq!(rt; got.as_str(), wanted, "{row}");
+        assert!(rt; got.as_str() == wanted);
     }
     Ok(())
 }
@@ -200,7 +196,7 @@ fn faults_of_members_of_caches(rt: HostRuntime) -> Result<(), Fail> {
     for row in CACHE_MEMBERS.lines() {
         let (text, wanted) = row.split_once(" => ").ok_or("a row")?;
         let got = refusal_after(rt.alloc(), "/virtualhosts { } /filter { }", text)?;
-        assert_eq!(rt; got.as_str(), wanted, "{row}");
+        assert!(rt; got.as_str() == wanted);
     }
     Ok(())
 }

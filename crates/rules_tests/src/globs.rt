@@ -45,7 +45,7 @@ fn stars(rt: HostRuntime) -> Result<(), Fail> {
         ("*aab", "aaab", true),
     ];
     for (glob, text, wanted) in cases {
-        assert_eq!(rt; is_match(rt.alloc(), glob, text)?, wanted, "{glob} {text}");
+        assert!(rt; is_match(rt.alloc(), glob, text)? == wanted);
     }
     Ok(())
 }
@@ -70,7 +70,7 @@ fn characters(rt: HostRuntime) -> Result<(), Fail> {
         ("-", "-", true),
     ];
     for (glob, text, wanted) in cases {
-        assert_eq!(rt; is_match(rt.alloc(), glob, text)?, wanted, "{glob} {text}");
+        assert!(rt; is_match(rt.alloc(), glob, text)? == wanted);
     }
     Ok(())
 }
@@ -106,7 +106,7 @@ fn classes(rt: HostRuntime) -> Result<(), Fail> {
         ("*[0-9]", "page7", true),
     ];
     for (glob, text, wanted) in cases {
-        assert_eq!(rt; is_match(rt.alloc(), glob, text)?, wanted, "{glob} {text}");
+        assert!(rt; is_match(rt.alloc(), glob, text)? == wanted);
     }
     Ok(())
 }
@@ -121,11 +121,7 @@ fn open_classes(rt: HostRuntime) -> Result<(), Fail> {
         ("[a][b[c", 3),
     ];
     for (glob, place) in cases {
-        assert_eq!(rt;
-            is_match(rt.alloc(), glob, ""),
-            Err(GlobFault::OpenClass(place)),
-            "{glob}"
-        );
+        assert!(rt; is_match(rt.alloc(), glob, "") == Err(GlobFault::OpenClass(place)));
     }
     Ok(())
 }
@@ -135,7 +131,7 @@ fn the_last_rule_decides(rt: HostRuntime) -> Result<(), Fail> {
     let list = rules(rt.alloc(), &[(true, "*"), (false, "*.json"), (true, "/a*")])?;
     let cases = [("/b.html", true), ("/b.json", false), ("/a.json", true)];
     for (text, wanted) in cases {
-        assert_eq!(rt; allows(&list, text), wanted, "{text}");
+        assert!(rt; allows(&list, text) == wanted);
     }
     assert!(rt; !allows(&rules(rt.alloc(), &[])?, "/a"));
     assert!(rt; !allows(&rules(rt.alloc(), &[(true, "x")])?, "/a"));

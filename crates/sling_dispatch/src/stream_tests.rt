@@ -25,8 +25,8 @@ fn reads_sources_around_the_buffer(rt: HostRuntime) -> Result<(), Fail> {
         let text = counted(rt.alloc(), len)?;
         let mut source = RealSource::new(text.as_slice());
         let read = read_whole(rt.alloc(), &mut source, 100_000);
-        assert_eq!(rt; text.len(), len);
-        assert!(rt; read.is_ok_and(|read| read == text), "{len}");
+        assert!(rt; text.len() == len);
+        assert!(rt; read.is_ok_and(|read| read == text));
     }
     Ok(())
 }

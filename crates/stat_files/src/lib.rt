@@ -5,8 +5,6 @@
 mod laws;
 mod outdated;
 mod stat;
-#[cfg(test)]
-mod tests;
 
 pub use laws::{
     a_failed_touch_leaves_the_old_stamp_or_the_new, a_foreign_stamp_is_the_greatest,

@@ -81,12 +81,8 @@ fn refusals_come_in_their_order(rt: HostRuntime) -> Result<(), Failed> {
         let (source, target) = paths.split_once(" ").ok_or(Failed)?;
         let source = at(alloc, source)?;
         let got = told_both(alloc, &mut tree, &source, &at(alloc, target)?)?;
-        assert_eq!(rt; got.as_str(), want, "at {row}");
-        assert_eq!(rt;
-            listing(alloc, &tree)?.as_str(),
-            "/ /a /c* /a/b ",
-            "at {row}"
-        );
+        assert!(rt; got.as_str() == want);
+        assert!(rt; listing(alloc, &tree)?.as_str() == "/ /a /c* /a/b ");
     }
     Ok(())
 }
@@ -101,10 +97,10 @@ fn a_part_that_is_too_deep_is_refused_last(rt: HostRuntime) -> Result<(), Failed
     let before = listing(alloc, &tree)?;
     let source = at(alloc, "/a")?;
     let got = told_both(alloc, &mut tree, &source, &child(alloc, &deep, "e")?)?;
-    assert_eq!(rt; got.as_str(), "TooDeep | TooDeep");
+    assert!(rt; got.as_str() == "TooDeep | TooDeep");
     let got = told_both(alloc, &mut tree, &source, &child(alloc, &deep, "title")?)?;
     assert!(rt; got.as_str().starts_with("Taken /q/d"));
-    assert_eq!(rt; listing(alloc, &tree)?.as_str(), before.as_str());
+    assert!(rt; listing(alloc, &tree)?.as_str() == before.as_str());
     Ok(())
 }
 
@@ -145,9 +141,9 @@ fn a_part_keeps_the_order_of_its_kids(rt: HostRuntime) -> Result<(), Failed> {
         let (source, target) = paths.split_once(" ").ok_or(Failed)?;
         let (copied, moved) = wants.split_once("| ").ok_or(Failed)?;
         let got = changed(alloc, &tree, source, target, false)?;
-        assert_eq!(rt; got.as_str(), copied, "at {row}");
+        assert!(rt; got.as_str() == copied);
         let got = changed(alloc, &tree, source, target, true)?;
-        assert_eq!(rt; got.as_str(), moved, "at {row}");
+        assert!(rt; got.as_str() == (moved));
     }
     Ok(())
 }
@@ -163,14 +159,11 @@ fn large_parts_are_copied_and_moved(rt: HostRuntime) -> Result<(), Failed> {
         tree.copy_to(alloc, &first, &second)?;
         tree.move_to(alloc, &second, &child(alloc, &first, name)?)?;
     }
-    assert_eq!(rt; tree.len(), 131_073);
+    assert!(rt; tree.len() == 131_073);
     let got = told_both(alloc, &mut tree, &first, &second)?;
-    assert_eq!(rt; got.as_str(), "FullTree | Ok");
-    assert_eq!(rt; tree.len(), 131_073);
-    assert_eq!(rt; kids(alloc, &tree, "/")?.as_str(), " b");
-    assert_eq!(rt;
-        kids(alloc, &tree, "/b/q/p")?.as_str(),
-        " a b c d e f g h i j k l m n o"
-    );
+    assert!(rt; got.as_str() == "FullTree | Ok");
+    assert!(rt; tree.len() == 131_073);
+    assert!(rt; kids(alloc, &tree, "/")?.as_str() == " b");
+    assert!(rt; kids(alloc, &tree, "/b/q/p")?.as_str() == " a b c d e f g h i j k l m n o");
     Ok(())
 }

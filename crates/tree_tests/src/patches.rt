@@ -35,7 +35,7 @@ fn a_patch_is_put_over_the_tree(rt: HostRuntime) -> Result<(), Failed> {
     let mut tree = tree_of(alloc, seeds, &["/a", "/a/b"])?;
     let patch = size_patch(alloc, seeds, &tree, &at(alloc, "/a/b")?)?;
     tree.apply(patch)?;
-    assert_eq!(rt; listing(alloc, &tree)?.as_str(), "/ /a /a/b* ");
+    assert!(rt; listing(alloc, &tree)?.as_str() == "/ /a /a/b* ");
     Ok(())
 }
 
@@ -49,9 +49,9 @@ fn a_patch_takes_the_room_that_was_made(rt: HostRuntime) -> Result<(), Failed> {
     match tree.with_room(&patch) {
         Ok(roomy) => {
             let after = roomy.take(patch);
-            assert_eq!(rt; listing(alloc, &after)?.as_str(), "/ /a /a/b* ");
+            assert!(rt; listing(alloc, &after)?.as_str() == "/ /a /a/b* ");
         }
-        Err(tree) => assert_eq!(rt; listing(alloc, &tree)?.as_str(), "/ /a /a/b "),
+        Err(tree) => assert!(rt; listing(alloc, &tree)?.as_str() == "/ /a /a/b "),
     }
     Ok(())
 }
@@ -67,7 +67,7 @@ fn a_tree_without_room_is_as_it_was(rt: HostRuntime) -> Result<(), Failed> {
         patch.put(child(alloc, &at(alloc, "/a/b")?, name)?, PatchNode::Gone)?;
     }
     if let Err(tree) = tree.with_room(&patch) {
-        assert_eq!(rt; listing(alloc, &tree)?.as_str(), "/ /a /a/b ");
+        assert!(rt; listing(alloc, &tree)?.as_str() == "/ /a /a/b ");
     }
     Ok(())
 }
@@ -85,7 +85,7 @@ fn a_node_is_made_with_its_properties(rt: HostRuntime) -> Result<(), Failed> {
     let alloc = rt.alloc();
     let mut tree = tree_of(alloc, RandomState::new(&rt)?, &["/a"])?;
     tree.make(alloc, &at(alloc, "/b")?, sized(alloc)?)?;
-    assert_eq!(rt; listing(alloc, &tree)?.as_str(), "/ /a /b* ");
+    assert!(rt; listing(alloc, &tree)?.as_str() == "/ /a /b* ");
     Ok(())
 }
 
@@ -102,9 +102,9 @@ fn a_patch_keeps_one_row_a_path(rt: HostRuntime) -> Result<(), Failed> {
         None => return Err(Failed),
     };
     patch.put(at(alloc, "/b")?, PatchNode::Node(node))?;
-    assert_eq!(rt; patch.len(), 2);
+    assert!(rt; patch.len() == 2);
     match patch.at(0) {
-        Some((path, PatchNode::Node(_))) => assert_eq!(rt; path.text(alloc)?.text(), "/b"),
+        Some((path, PatchNode::Node(_))) => assert!(rt; path.text(alloc)?.text() == "/b"),
         _ => assert!(rt; false),
     }
     assert!(rt; matches!(patch.get(&at(alloc, "/a")?), Some(PatchNode::Gone)));

@@ -28,7 +28,7 @@ fn long_expressions_are_printed(rt: HostRuntime) -> Result<(), Failed> {
         ("a", "['a']", " || 1", "1"),
     ] {
         let e = Expr::read(alloc, repeated(alloc, front, piece, end)?.as_str())?;
-        assert_eq!(rt; e.print(alloc, &scope)?.text(), want);
+        assert!(rt; e.print(alloc, &scope)?.text() == want);
     }
     Ok(())
 }

@@ -38,7 +38,7 @@ fn refusal_leaves_the_text(rt: HostRuntime) -> Result<(), Failed> {
                 Err(WriteFault::TooLong)
             )
         );
-        assert_eq!(rt; page.as_str(), "<p>");
+        assert!(rt; page.as_str() == "<p>");
     }
     Ok(())
 }
@@ -51,7 +51,7 @@ fn last_byte_of_the_room_is_written(rt: HostRuntime) -> Result<(), Failed> {
     let e = Expr::read(alloc, "['<', 1]")?;
     let mut page = String::from_str(alloc, "<p>")?;
     assert!(rt; write(alloc, &mut page, &e, &scope, 9).is_ok());
-    assert_eq!(rt; page.as_str(), "<p>&lt;,1");
+    assert!(rt; page.as_str() == "<p>&lt;,1");
     assert!(rt;
         matches!(
             write(alloc, &mut page, &e, &scope, 14),

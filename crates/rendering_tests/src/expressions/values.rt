@@ -11,6 +11,6 @@ fn value_has_a_kind(rt: HostRuntime) -> Result<(), Failed> {
     let scope = sample.scope();
     let e = Expr::read(alloc, "properties.longs @ join='; '")?;
     assert!(rt; matches!(e.value(alloc, &scope)?, Out::List(_)));
-    assert_eq!(rt; e.print(alloc, &scope)?.text(), "7; 8");
+    assert!(rt; e.print(alloc, &scope)?.text() == "7; 8");
     Ok(())
 }

@@ -2,7 +2,9 @@
 ghost use Rattle.std.specs.Prelude.{IfSome};
 ghost use Rattle.cache_files.specs.Pages.{IsKey, IsStorable};
 
-use super::*;
+use cache_files::{
+    HeadNote, OpenFault, Page, drop_page, get_head, get_known, get_page, open_epoch, put_page,
+};
 use cover_rules::{PageKey, Stamp, a_page_has_one_key, page_key};
 use docroot_format::FileFault;
 use sp_base::{Answer, ByteBuf, Mark, Path, TextBuf, a_path_and_its_text};
@@ -130,14 +132,14 @@ fn take_away(alloc: Global, disk: &mut MemDisk) -> Result<(), FileFault> {
 fn keeps_a_page(rt: HostRuntime) -> Result<(), Fail> {
     let alloc = rt.alloc();
     let mut disk = disk_with(alloc, &[("content/.stat", "stat 1 1 2\n")]);
-    assert_eq!(rt; put(alloc, &mut disk), Ok(()));
-    assert_eq!(rt; disk.calls(), 4);
+    assert!(rt; put(alloc, &mut disk) == Ok(()));
+    assert!(rt; disk.calls() == 4);
     assert!(rt; stand(alloc, &mut disk, NEW_HEAD, Some("x")));
     let stamp = Stamp { epoch: 1, count: 4 };
     assert!(rt; is_page(get(alloc, &mut disk), stamp, "text/html;charset=utf-8", "x"));
     let before = disk.calls();
-    assert_eq!(rt; take_away(alloc, &mut disk), Ok(()));
-    assert_eq!(rt; disk.calls().saturating_sub(before), 2);
+    assert!(rt; take_away(alloc, &mut disk) == Ok(()));
+    assert!(rt; disk.calls().saturating_sub(before) == 2);
     assert!(rt; stand(alloc, &mut disk, None, None));
     Ok(())
 }
@@ -160,11 +162,11 @@ fn a_put_fails_in_each_call(rt: HostRuntime) -> Result<(), Fail> {
         let mut disk = disk_with(rt.alloc(), OLD);
         disk.fail(*n, *way);
         let before = disk.calls();
-        assert_eq!(rt; put(rt.alloc(), &mut disk), Err(FileFault::Disk), "at {n}");
-        assert_eq!(rt; disk.calls().saturating_sub(before), *n, "at {n}");
-        assert!(rt; stand(rt.alloc(), &mut disk, *head, *body), "at {n}");
+        assert!(rt; put(rt.alloc(), &mut disk) == Err(FileFault::Disk));
+        assert!(rt; disk.calls().saturating_sub(before) == *n);
+        assert!(rt; stand(rt.alloc(), &mut disk, *head, *body));
         if head.is_none() {
-            assert!(rt; is_no_page(get(rt.alloc(), &mut disk)), "at {n}");
+            assert!(rt; is_no_page(get(rt.alloc(), &mut disk)));
         }
     }
     Ok(())
@@ -177,7 +179,7 @@ fn a_put_whose_body_fails_new_leaves_no_page(rt: HostRuntime) -> Result<(), Fail
     for files in before {
         let mut disk = disk_with(rt.alloc(), files);
         disk.fail(2, Way::New);
-        assert_eq!(rt; put(rt.alloc(), &mut disk), Err(FileFault::Disk));
+        assert!(rt; put(rt.alloc(), &mut disk) == Err(FileFault::Disk));
         assert!(rt; stands(rt.alloc(), &mut disk, HEAD, None));
         assert!(rt; stands(rt.alloc(), &mut disk, BODY, Some("x")));
         assert!(rt; is_no_page(get(rt.alloc(), &mut disk)));
@@ -198,15 +200,11 @@ fn a_drop_fails_in_each_call(rt: HostRuntime) -> Result<(), Fail> {
         let mut disk = disk_with(rt.alloc(), OLD);
         disk.fail(*n, *way);
         let before = disk.calls();
-        assert_eq!(rt;
-            take_away(rt.alloc(), &mut disk),
-            Err(FileFault::Disk),
-            "at {n}"
-        );
-        assert_eq!(rt; disk.calls().saturating_sub(before), *n, "at {n}");
-        assert!(rt; stand(rt.alloc(), &mut disk, *head, *body), "at {n}");
+        assert!(rt; take_away(rt.alloc(), &mut disk) == Err(FileFault::Disk));
+        assert!(rt; disk.calls().saturating_sub(before) == *n);
+        assert!(rt; stand(rt.alloc(), &mut disk, *head, *body));
         if head.is_none() {
-            assert!(rt; is_no_page(get(rt.alloc(), &mut disk)), "at {n}");
+            assert!(rt; is_no_page(get(rt.alloc(), &mut disk)));
         }
     }
     Ok(())
@@ -218,15 +216,9 @@ fn a_get_fails_in_each_call(rt: HostRuntime) -> Result<(), Fail> {
         let mut disk = disk_with(rt.alloc(), OLD);
         disk.fail(n, way);
         let before = disk.calls();
-        assert!(rt;
-            matches!(get(rt.alloc(), &mut disk), Err(FileFault::Disk)),
-            "at {n}"
-        );
-        assert_eq!(rt; disk.calls().saturating_sub(before), n, "at {n}");
-        assert!(rt;
-            stand(rt.alloc(), &mut disk, OLD_HEAD, Some("old")),
-            "at {n}"
-        );
+        assert!(rt; matches!(get(rt.alloc(), &mut disk), Err(FileFault::Disk)));
+        assert!(rt; disk.calls().saturating_sub(before) == n);
+        assert!(rt; stand(rt.alloc(), &mut disk, OLD_HEAD, Some("old")));
     }
     Ok(())
 }
@@ -255,7 +247,7 @@ fn a_head_is_read_by_itself(rt: HostRuntime) -> Result<(), Fail> {
     };
     let stamp = Stamp { epoch: 1, count: 3 };
     assert!(rt; head.stamp == stamp && head.length == 3 && head.kind.text() == "text/plain");
-    assert_eq!(rt; (first, second), (1, 1));
+    assert!(rt; (first, second) == (1, 1));
     assert!(rt; is_page(Ok(Some(page)), stamp, "text/plain", "old"));
     Ok(())
 }
@@ -288,10 +280,10 @@ fn a_head_and_a_body_fail_in_their_calls(rt: HostRuntime) -> Result<(), Fail> {
         let before = disk.calls();
         disk.fail(1, way);
         assert!(rt; matches!(head(rt.alloc(), &mut disk), Err(FileFault::Disk)));
-        assert_eq!(rt; disk.calls().saturating_sub(before), 1);
+        assert!(rt; disk.calls().saturating_sub(before) == 1);
         disk.fail(1, way);
         assert!(rt; matches!(known(rt.alloc(), &mut disk), Err(FileFault::Disk)));
-        assert_eq!(rt; disk.calls().saturating_sub(before), 2);
+        assert!(rt; disk.calls().saturating_sub(before) == 2);
         assert!(rt; stand(rt.alloc(), &mut disk, OLD_HEAD, Some("old")));
         let stamp = Stamp { epoch: 1, count: 3 };
         assert!(rt; is_page(known(rt.alloc(), &mut disk), stamp, "text/plain", "old"));
@@ -332,7 +324,7 @@ fn a_body_is_read_after_a_good_head(rt: HostRuntime) -> Result<(), Fail> {
         ),
     ];
     for (row, (files, counts, calls)) in table.iter().enumerate() {
-        assert_eq!(rt; tells(rt.alloc(), files), (*counts, *calls), "at {row}");
+        assert!(rt; tells(rt.alloc(), files) == (*counts, *calls));
     }
     Ok(())
 }
@@ -340,10 +332,10 @@ fn a_body_is_read_after_a_good_head(rt: HostRuntime) -> Result<(), Fail> {
 #[test]
 fn sessions_are_counted(rt: HostRuntime) -> Result<(), Fail> {
     let mut disk = MemDisk::new(rt.alloc());
-    assert_eq!(rt; open_epoch(rt.alloc(), &mut disk), Ok(1));
-    assert_eq!(rt; disk.calls(), 2);
+    assert!(rt; open_epoch(rt.alloc(), &mut disk) == Ok(1));
+    assert!(rt; disk.calls() == 2);
     assert!(rt; stands(rt.alloc(), &mut disk, ".epoch", Some("epoch 1 1\n")));
-    assert_eq!(rt; open_epoch(rt.alloc(), &mut disk), Ok(2));
+    assert!(rt; open_epoch(rt.alloc(), &mut disk) == Ok(2));
     for (text, fault) in [
         ("epoch 1 18446744073709551615\n", OpenFault::EpochEnd),
         ("epoch 1 18446744073709551616\n", OpenFault::Foreign),
@@ -353,12 +345,9 @@ fn sessions_are_counted(rt: HostRuntime) -> Result<(), Fail> {
     ] {
         let mut disk = disk_with(rt.alloc(), &[(".epoch", text)]);
         let before = disk.calls();
-        assert_eq!(rt; open_epoch(rt.alloc(), &mut disk), Err(fault), "at {text}");
-        assert_eq!(rt; disk.calls().saturating_sub(before), 1, "at {text}");
-        assert!(rt;
-            stands(rt.alloc(), &mut disk, ".epoch", Some(text)),
-            "at {text}"
-        );
+        assert!(rt; open_epoch(rt.alloc(), &mut disk) == Err(fault));
+        assert!(rt; disk.calls().saturating_sub(before) == 1);
+        assert!(rt; stands(rt.alloc(), &mut disk, ".epoch", Some(text)));
     }
     Ok(())
 }
@@ -374,16 +363,9 @@ fn an_opening_fails_in_each_call(rt: HostRuntime) -> Result<(), Fail> {
         let mut disk = disk_with(rt.alloc(), &[(".epoch", "epoch 1 6\n")]);
         disk.fail(n, way);
         let before = disk.calls();
-        assert_eq!(rt;
-            open_epoch(rt.alloc(), &mut disk),
-            Err(OpenFault::Disk),
-            "at {n}"
-        );
-        assert_eq!(rt; disk.calls().saturating_sub(before), n, "at {n}");
-        assert!(rt;
-            stands(rt.alloc(), &mut disk, ".epoch", Some(left)),
-            "at {n}"
-        );
+        assert!(rt; open_epoch(rt.alloc(), &mut disk) == Err(OpenFault::Disk));
+        assert!(rt; disk.calls().saturating_sub(before) == n);
+        assert!(rt; stands(rt.alloc(), &mut disk, ".epoch", Some(left)));
     }
     Ok(())
 }

@@ -3,11 +3,11 @@ ghost use Rattle.std.specs.Prelude.{IfSome, IsTrue};
 ghost use Rattle.sp_base.specs.Paths.{mangled};
 ghost use Rattle.docroot_format.specs.Names.{have_names};
 
-use super::*;
 use cover_rules::Stamp;
 use docroot_format::FileFault;
 use sp_base::Path;
 use sp_outside::{Disk, MemDisk, Way};
+use stat_files::{outdates_page, stamp_of, touch};
 use std::alloc::Global;
 use std::test::Fail;
 
@@ -64,8 +64,8 @@ fn stands(alloc: Global, disk: &mut MemDisk, text: &str) -> bool {
 fn keeps_a_stamp(rt: HostRuntime) -> Result<(), Fail> {
     let mut disk = MemDisk::new(rt.alloc());
     assert!(rt; matches!(stamp(rt.alloc(), &mut disk), Ok(None)));
-    assert_eq!(rt; touched(rt.alloc(), &mut disk), Ok(()));
-    assert_eq!(rt; disk.calls(), 2);
+    assert!(rt; touched(rt.alloc(), &mut disk) == Ok(()));
+    assert!(rt; disk.calls() == 2);
     assert!(rt; stands(rt.alloc(), &mut disk, "stat 1 1 5\n"));
     assert!(rt; stamp(rt.alloc(), &mut disk) == Ok(Some(Stamp { epoch: 1, count: 5 })));
     Ok(())
@@ -79,7 +79,7 @@ fn a_stamp_stands_in_the_mangled_folder(rt: HostRuntime) -> Result<(), Fail> {
         return Ok(());
     };
     let stamp = Stamp { epoch: 1, count: 5 };
-    assert_eq!(rt; touch(&mut disk, &folder, stamp), Ok(()));
+    assert!(rt; touch(&mut disk, &folder, stamp) == Ok(()));
     let found = disk.get(rt.alloc(), "content/_jcr_content/.stat");
     assert!(rt; matches!(found, Ok(Some(_))));
     assert!(rt; stamp_of(rt.alloc(), &mut disk, &folder) == Ok(Some(stamp)));
@@ -107,11 +107,8 @@ fn reads_stamps(rt: HostRuntime) -> Result<(), Fail> {
         ("stat 2 7 0\n", greatest),
     ] {
         let mut disk = disk_with(rt.alloc(), text);
-        assert!(rt;
-            stamp(rt.alloc(), &mut disk) == Ok(Some(wanted)),
-            "at {text}"
-        );
-        assert!(rt; stands(rt.alloc(), &mut disk, text), "at {text}");
+        assert!(rt; stamp(rt.alloc(), &mut disk) == Ok(Some(wanted)));
+        assert!(rt; stands(rt.alloc(), &mut disk, text));
     }
     Ok(())
 }
@@ -122,13 +119,13 @@ fn fails_in_each_call(rt: HostRuntime) -> Result<(), Fail> {
         let mut disk = disk_with(rt.alloc(), "stat 1 1 2\n");
         disk.fail(1, way);
         let before = disk.calls();
-        assert_eq!(rt; touched(rt.alloc(), &mut disk), Err(FileFault::Disk));
-        assert_eq!(rt; disk.calls().saturating_sub(before), 1);
+        assert!(rt; touched(rt.alloc(), &mut disk) == Err(FileFault::Disk));
+        assert!(rt; disk.calls().saturating_sub(before) == 1);
         assert!(rt; stands(rt.alloc(), &mut disk, left));
         disk.fail(1, way);
         let before = disk.calls();
         assert!(rt; matches!(stamp(rt.alloc(), &mut disk), Err(FileFault::Disk)));
-        assert_eq!(rt; disk.calls().saturating_sub(before), 1);
+        assert!(rt; disk.calls().saturating_sub(before) == 1);
         assert!(rt; stands(rt.alloc(), &mut disk, left));
     }
     Ok(())
@@ -145,7 +142,7 @@ fn a_page_of_the_same_stamp_is_outdated(rt: HostRuntime) -> Result<(), Fail> {
         (Some(Stamp { epoch: 1, count: 6 }), false),
         (Some(Stamp { epoch: 3, count: 0 }), true),
     ] {
-        assert_eq!(rt; outdates_page(stat, page), wanted);
+        assert!(rt; outdates_page(stat, page) == wanted);
     }
     Ok(())
 }

@@ -1,5 +1,5 @@
 //! Whole connections, by the bytes that are sent on them.
-use crate::{Outbox, Place, Reply};
+use connections::{Outbox, Place, Reply};
 use sp_base::{Answer, ByteBuf, HeadList, Mark, NoMemory, Path, PathFault, Req, TextBuf};
 use std::alloc::{AllocError, Global};
 use std::io;

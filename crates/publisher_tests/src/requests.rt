@@ -1,6 +1,6 @@
 //! Requests of hosts and ports that no scenario asks for, and POSTs with the page after each. Other requests are asked through the program
 //! (examples/runs).
-use crate::Publisher;
+use publisher::Publisher;
 use resource_tree::{Tree, TreeFault};
 use sp_base::{Ask, ByteBuf, NoMemory, Path, TextBuf, Value};
 use std::alloc::Global;
@@ -105,8 +105,8 @@ fn requests_are_mapped_for_their_host_and_port(rt: HostRuntime) -> Result<(), Fa
     ] {
         let ask = ask_of(alloc, host, port, method, path)?;
         let answer = site.answer(alloc, &ask)?;
-        assert_eq!(rt; answer.status, status, "{host} {port}");
-        assert_eq!(rt; answer.location.text(), location);
+        assert!(rt; answer.status == status);
+        assert!(rt; answer.location.text() == location);
     }
     Ok(())
 }
@@ -121,10 +121,10 @@ fn a_post_changes_what_is_answered(rt: HostRuntime) -> Result<(), Failed> {
         ("/en/new", "", 201, "/en/new", "{\"n\":12}"),
     ] {
         let answer = site.answer(alloc, &post_of(alloc, path, form)?)?;
-        assert_eq!(rt; answer.status, status, "{path} {form}");
-        assert_eq!(rt; answer.location.text(), location);
+        assert!(rt; answer.status == status);
+        assert!(rt; answer.location.text() == location);
         let page = site.answer(alloc, &ask_of(alloc, "localhost", 81, "GET", "/en.json")?)?;
-        assert_eq!(rt; page.body.bytes(), shown.as_bytes());
+        assert!(rt; page.body.bytes() == shown.as_bytes());
     }
     Ok(())
 }

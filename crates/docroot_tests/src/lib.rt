@@ -1,0 +1,7 @@
+//! Tests of calls of `cache_files` and `stat_files`, which are proved apart from them.
+#![tactic(auto)]
+
+#[cfg(test)]
+mod pages;
+#[cfg(test)]
+mod stamps;

@@ -24,6 +24,18 @@ pub struct HeadNote {
     pub length: u64,
 }
 
+impl HeadNote {
+    fn duplicate(&self, alloc: Global) -> Mem<HeadNote>
+        ensures { IfOk result (λ head. head ≡ self.now) }
+    {
+        Ok(HeadNote {
+            stamp: self.stamp,
+            kind: self.kind.duplicate(alloc)?,
+            length: self.length,
+        })
+    }
+}
+
 // What the bytes of a head say; nothing where they are of another form.
 fn note_in(alloc: Global, head: &[u8]) -> Mem<Option<HeadNote>>
     ensures { IfOk result (λ note. note ≡ option_map note_of (head_of head.now)) }
@@ -76,6 +88,24 @@ pub fn get_known<D: Disk>(
     ensures left { IfErr result (IsCallLeft (D.calls disk.old) (D.calls disk.new) (Get (name.body_name key.now.folder key.now.file))) }
     ensures cause { HasFileCause (D.faults disk.old) (D.faults disk.new) result }
 {
+    let head = head.duplicate(alloc)?;
+    get_under(alloc, disk, key, head)
+}
+
+// The same of a head that becomes the page's.
+pub(crate) fn get_under<D: Disk>(
+    alloc: Global,
+    disk: &mut D,
+    key: &PageKey,
+    head: HeadNote,
+) -> Result<Option<Page>, FileFault>
+    requires { IsKey key.now }
+    ensures value { IfOk result (λ page. IfSome (D.files disk.old) (λ files. page ≡ known_at files key.now head)) }
+    ensures same { D.files disk.new ≡ D.files disk.old }
+    ensures made { IfOk result (λ _. D.calls disk.new ≡ told_call (D.calls disk.old) (Get (name.body_name key.now.folder key.now.file) true)) }
+    ensures left { IfErr result (IsCallLeft (D.calls disk.old) (D.calls disk.new) (Get (name.body_name key.now.folder key.now.file))) }
+    ensures cause { HasFileCause (D.faults disk.old) (D.faults disk.new) result }
+{
     a_page_has_files();
     let name = body_name(alloc, &key.folder, key.file.text())?;
     match disk.get(alloc, name.text())? {
@@ -85,17 +115,22 @@ pub fn get_known<D: Disk>(
 }
 
 // The page that a head and a body make.
-fn page_under(alloc: Global, head: &HeadNote, body: ByteBuf) -> Mem<Option<Page>>
-    ensures { IfOk result (λ page. page ≡ page_under head.now body) }
+fn page_under(alloc: Global, head: HeadNote, body: ByteBuf) -> Mem<Option<Page>>
+    ensures { IfOk result (λ page. page ≡ page_under head body) }
 {
     if body.bytes().len() as u64 != head.length {
         return Ok(None);
     }
+    let HeadNote {
+        stamp,
+        kind,
+        length: _,
+    } = head;
     Ok(Some(Page {
-        stamp: head.stamp,
+        stamp,
         answer: Answer {
             status: 200,
-            kind: head.kind.duplicate(alloc)?,
+            kind,
             location: TextBuf::of(alloc, "")?,
             mark: Mark::Plain,
             body,

@@ -1,9 +1,9 @@
 //! What follows from the definitions of pages and epochs: laws, on functions that do nothing.
-ghost use Rattle.std.specs.Prelude.{◌≡◌, ◌≢◌, ◌⊎◌, ◌<◌, ◌≤◌, ◌+◌, ◌^◌, ℕ, List, [], Option, Some, None, Ok, IfSome, length, option_and_then};
+ghost use Rattle.std.specs.Prelude.{◌≡◌, ◌≢◌, ◌⊎◌, ◌<◌, ◌≤◌, ◌+◌, ◌^◌, ℕ, List, [], Option, Some, None, Ok, length, option_and_then};
 ghost use Rattle.sp_base.specs.declared.answer.Answer.{Answer};
 ghost use Rattle.sp_base.specs.declared.answer.Mark.TheVariants.{Plain};
 ghost use Rattle.sp_outside.specs.Calls.{Call};
-ghost use Rattle.sp_outside.specs.Files.{Files, with_file, without_file};
+ghost use Rattle.sp_outside.specs.Files.{Files, file_at, with_file, without_file};
 ghost use Rattle.docroot_format.specs.declared.fault.FileFault.{FileFault};
 ghost use Rattle.docroot_format.specs.declared.fault.FileFault.TheVariants.{NoMemory as no_memory};
 ghost use Rattle.docroot_format.specs.Names.{IsTextKey, body_name, epoch_name, head_name};
@@ -51,7 +51,7 @@ pub fn a_stopped_put_leaves_no_page()
     files_have_names();
 }
 
-/// A put that failed leaves the old page, no page, or the new one, and each other page as it was.
+/// A put that failed leaves the old page, no page, or the new one, and each other page, and each other file, as it was.
 pub fn a_failed_put_leaves_whole_pages()
     ensures page { (asked made : Option (List Call)) (files new : Files) (key : PageKey) (stamp : Stamp) (answer : Answer) (fault : FileFault)
         → IsPutLeft asked made (Some files) (Some new) (head_name key.folder key.file) (body_name key.folder key.file) answer.body (head_text stamp.epoch stamp.count (length answer.body) answer.kind) fault
@@ -59,6 +59,9 @@ pub fn a_failed_put_leaves_whole_pages()
     ensures others { (asked made : Option (List Call)) (files new : Files) (key other : PageKey) (stamp : Stamp) (answer : Answer) (fault : FileFault) → IsTextKey key → IsTextKey other → other ≢ key
         → IsPutLeft asked made (Some files) (Some new) (head_name key.folder key.file) (body_name key.folder key.file) answer.body (head_text stamp.epoch stamp.count (length answer.body) answer.kind) fault
         → page_at new other ≡ page_at files other }
+    ensures files { (asked made : Option (List Call)) (files new : Files) (key : PageKey) (stamp : Stamp) (answer : Answer) (fault : FileFault) (name : List ℕ)
+        → IsPutLeft asked made (Some files) (Some new) (head_name key.folder key.file) (body_name key.folder key.file) answer.body (head_text stamp.epoch stamp.count (length answer.body) answer.kind) fault
+        → name ≢ head_name key.folder key.file → name ≢ body_name key.folder key.file → file_at new name ≡ file_at files name }
 {
     files_have_names();
     names_are_apart();
@@ -75,13 +78,15 @@ pub fn a_put_out_of_memory_leaves_the_old_page_or_none()
     a_stopped_put_leaves_no_page();
 }
 
-/// A drop that failed leaves the old page or none, and each other page as it was.
+/// A drop that failed leaves the old page or none, and each other page, and each other file, as it was.
 pub fn a_failed_drop_leaves_whole_pages()
     ensures page { (asked made : Option (List Call)) (files new : Files) (key : PageKey) (fault : FileFault) → IsDropLeft asked made (Some files) (Some new) (head_name key.folder key.file) (body_name key.folder key.file) fault
         → (page_at new key ≡ page_at files key) ⊎ (page_at new key ≡ None) }
     ensures others { (asked made : Option (List Call)) (files new : Files) (key other : PageKey) (fault : FileFault) → IsTextKey key → IsTextKey other → other ≢ key
         → IsDropLeft asked made (Some files) (Some new) (head_name key.folder key.file) (body_name key.folder key.file) fault
         → page_at new other ≡ page_at files other }
+    ensures files { (asked made : Option (List Call)) (files new : Files) (key : PageKey) (fault : FileFault) (name : List ℕ) → IsDropLeft asked made (Some files) (Some new) (head_name key.folder key.file) (body_name key.folder key.file) fault
+        → name ≢ head_name key.folder key.file → name ≢ body_name key.folder key.file → file_at new name ≡ file_at files name }
 {
     files_have_names();
     names_are_apart();

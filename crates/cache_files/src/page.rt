@@ -8,7 +8,7 @@ ghost use Rattle.docroot_format.specs.Readings.{head_of};
 ghost use Rattle.docroot_format.specs.Texts as text;
 ghost use Rattle.cache_files.specs.Pages.{IsKey, IsStorable, IsPutLeft, IsDropLeft, IsGetLeft, drop_calls, get_calls, page_at, put_calls, with_page};
 
-use crate::head_note::{get_head, get_known};
+use crate::head_note::{get_head, get_under};
 use cover_rules::{PageKey, Stamp};
 use docroot_format::{FileFault, a_page_has_files, body_name, head_name, head_text};
 use sp_base::Answer;
@@ -100,7 +100,7 @@ pub fn get_page<D: Disk>(
     let Some(head) = get_head(alloc, disk, key)? else {
         return Ok(None);
     };
-    get_known(alloc, disk, key, &head)
+    get_under(alloc, disk, key, head)
 }
 
 /// Takes a page away: its head, then its body.

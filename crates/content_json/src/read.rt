@@ -8,7 +8,7 @@ ghost use Rattle.content_json.specs.ContentOf.{json_of, is_too_big, refused_by, 
 
 use crate::ContentFault;
 use crate::fault::{Cause, Found};
-use crate::measure::{is_deeper_below, room_beside};
+use crate::measure::room_beside;
 use crate::search::object_fault;
 use crate::walk::add_nodes;
 use resource_tree::{NodeMap, Tree};
@@ -77,7 +77,7 @@ fn refused_by(found: Found) -> ContentFault
 fn is_too_big(members: &Map<String, Value>) -> bool
     ensures { result ≡ is_too_big (members_view members.now.entries) }
 {
-    room_beside(members, MOST_NODES - 1).is_none() || is_deeper_below(members, MOST_LEVELS)
+    room_beside(members, MOST_NODES - 1, MOST_LEVELS).is_none()
 }
 
 // The nodes of an object without a fault.

@@ -67,7 +67,7 @@ greatest_same f g zero same = refl
 greatest_same f g (suc n) same =
     ap (λ o. option_or o (at_greatest f n)) (same n (omega arith)) ∙ ap (option_or (g n)) (greatest_same f g n (λ k less. same k (omega (arith, less))))
 
-base_kid : (tree : Content) (path : List (List ℕ)) (name : List ℕ) → IsTree (node_at tree) → node_at tree (kid path name) ≡ None → base_of tree (kid path name) ≡ base_of tree path
+pub base_kid : (tree : Content) (path : List (List ℕ)) (name : List ℕ) → IsTree (node_at tree) → node_at tree (kid path name) ≡ None → base_of tree (kid path name) ≡ base_of tree path
 base_kid tree path name good none =
     let size : length (kid path name) ≡ suc (length path) = omega (arith, length-append path (name ∷ [])) in
     let at_kid : node_at tree (take (length (kid path name)) (kid path name)) ≡ None = ap (node_at tree) (take-length (kid path name)) ∙ none in
@@ -80,7 +80,7 @@ base_step : (n b : ℕ) (t : List ℕ) (text : Option (List ℕ)) (rest : Option
 base_step n b t None rest e = inr e
 base_step n b t (Some text) rest e = inl (sym (ap (λ o. (unwrap_or o (base_at b t)).0) e))
 
-base_less : (tree : Content) (path : List (List ℕ)) (n b : ℕ) (t : List ℕ) → base_below tree path n ≡ Some (base_at b t) → b < n
+pub base_less : (tree : Content) (path : List (List ℕ)) (n b : ℕ) (t : List ℕ) → base_below tree path n ≡ Some (base_at b t) → b < n
 base_less tree path zero b t e = absurd (cc)
 base_less tree path (suc n) b t e =
     ⊎_elim (λ (last : b ≡ n). omega (arith, last)) (λ (rest : base_below tree path n ≡ Some (base_at b t)). let less = base_less tree path n b t rest in omega (arith, less))
@@ -132,29 +132,29 @@ below_kid tree path name layer good none e =
 
 -- ---- the layers of an override
 
-abbrev AreKids : List ℕ → List Layer → List Layer → Type 0
+abbrev pub AreKids : List ℕ → List Layer → List Layer → Type 0
 AreKids name kids layers = (p : List (List ℕ)) → has_layer kids (kid p name) ≡ has_layer layers p
 
-more_kids : (name : List ℕ) (kids layers : List Layer) (k layer : Layer) → AreKids name kids layers → k.path ≡ kid layer.path name → AreKids name (kids ++ k ∷ []) (layers ++ layer ∷ [])
+pub more_kids : (name : List ℕ) (kids layers : List Layer) (k layer : Layer) → AreKids name kids layers → k.path ≡ kid layer.path name → AreKids name (kids ++ k ∷ []) (layers ++ layer ∷ [])
 more_kids name kids layers k layer so_far is p =
     list_any-append (λ (l : Layer). same_path l.path (kid p name)) kids (k ∷ [])
     ∙ ap (λ t. t || (same_path k.path (kid p name) || false)) (so_far p)
     ∙ ap (λ t. has_layer layers p || (t || false)) (ap (λ q. same_path q (kid p name)) is ∙ same_kid layer.path p name)
     ∙ sym (list_any-append (λ (l : Layer). same_path l.path p) layers (layer ∷ []))
 
-or_left : (a b : Bool) → a ≡ true → (a || b) ≡ true
+pub or_left : (a b : Bool) → a ≡ true → (a || b) ≡ true
 or_left true b e = refl
 or_left false b e = absurd (false≢true e)
 
-or_right : (a b : Bool) → b ≡ true → (a || b) ≡ true
+pub or_right : (a b : Bool) → b ≡ true → (a || b) ≡ true
 or_right true b e = refl
 or_right false b e = e
 
-or_second : (a b : Bool) → a ≡ false → (a || b) ≡ true → b ≡ true
+pub or_second : (a b : Bool) → a ≡ false → (a || b) ≡ true → b ≡ true
 or_second true b is e = absurd (true≢false is)
 or_second false b is e = e
 
-no_some : (o : Option Node) → is_some o ≡ false → o ≡ None
+pub no_some : (o : Option Node) → is_some o ≡ false → o ≡ None
 no_some None e = refl
 no_some (Some node) e = absurd (true≢false e)
 
@@ -193,10 +193,10 @@ module _ (tree : Content) (good : IsTree (node_at tree)) (name : List ℕ) where
 
 -- ---- the layers of a kid
 
-none_kids : (name : List ℕ) → AreKids name [] []
+pub none_kids : (name : List ℕ) → AreKids name [] []
 none_kids name p = refl
 
-any-reverse : {A : Type 0} (p : A → Bool) (xs : List A) → list_any p (reverse xs) ≡ list_any p xs
+pub any-reverse : {A : Type 0} (p : A → Bool) (xs : List A) → list_any p (reverse xs) ≡ list_any p xs
 any-reverse p xs = sym (list_any-IsPermutation p xs (reverse xs) (IsPermutation-reverse xs))
 
 kid_of_layers : (tree : Content) (name seg : List ℕ) (rest : List (List ℕ)) (overlay override : Bool) → IsTree (node_at tree)

@@ -8,6 +8,8 @@ pub mod MergedLemmas
 pub mod DescentLemmas
 pub mod ReachLemmas
 pub mod LawLemmas
+pub mod ThereLemmas
+pub mod KidsSeen
 pub mod CutLemmas
 pub mod SeenLemmas
 pub mod MoveLemmas

@@ -13,7 +13,7 @@ use Rattle.overlay_merge.specs.Kids.{has_text, moved, moved_from}
 abbrev pub but : List ℕ → List (List ℕ) → List (List ℕ)
 but name names = filter (λ q. not (pointwise nat_eq name q)) names
 
-self : (name : List ℕ) → pointwise nat_eq name name ≡ true
+pub self : (name : List ℕ) → pointwise nat_eq name name ≡ true
 self name = nat_list_eq_equiv.refl name
 
 place : {X : Type 0} (p : X → Bool) (xs : List X) (y : X) (ys : List X) → list_any p xs ≡ false → p y ≡ true → position_or_len p (xs ++ y ∷ ys) ≡ length xs

@@ -76,12 +76,12 @@ under_take [] (suc (suc n)) a b some = refl
 under_take (x ∷ []) (suc (suc n)) a b some = refl
 under_take (x ∷ y ∷ path) (suc (suc n)) a b some = refl
 
-merged_take : (path : List (List ℕ)) (n : ℕ) → 2 ≤ n → is_merged_path (take n path) ≡ is_merged_path path
+pub merged_take : (path : List (List ℕ)) (n : ℕ) → 2 ≤ n → is_merged_path (take n path) ≡ is_merged_path path
 merged_take path n some =
     ap (λ t. t || is_override (take n path)) (under_take path n (codes "mnt") (codes "overlay") some)
     ∙ ap (λ t. is_overlay path || t) (under_take path n (codes "mnt") (codes "override") some)
 
-no_layers : (tree : Content) (path rest : List (List ℕ)) → rest ≡ [] → (a b : Bool) → cond a (overlay_layers rest) (cond b (override_layers tree rest) []) ≡ []
+pub no_layers : (tree : Content) (path rest : List (List ℕ)) → rest ≡ [] → (a b : Bool) → cond a (overlay_layers rest) (cond b (override_layers tree rest) []) ≡ []
 no_layers tree path rest none true b = ap overlay_layers none
 no_layers tree path rest none false true = ap (override_layers tree) none
 no_layers tree path rest none false false = refl
@@ -107,7 +107,7 @@ and_no : (t : Bool) → (t && false) ≡ false
 and_no true = refl
 and_no false = refl
 
-short_plain : (q : List (List ℕ)) → length q ≤ 1 → is_merged_path q ≡ false
+pub short_plain : (q : List (List ℕ)) → length q ≤ 1 → is_merged_path q ≡ false
 short_plain [] small = refl
 short_plain (x ∷ []) small = ap (λ t. t || is_override (x ∷ [])) (and_no (pointwise nat_eq (codes "mnt") x)) ∙ and_no (pointwise nat_eq (codes "mnt") x)
 short_plain (x ∷ y ∷ q) small = absurd (omega (arith, small))

@@ -33,10 +33,10 @@ use Rattle.overlay_merge.proofs.LawLemmas.{kid-parts, kids-reorder}
 same_name : (a b : List ℕ) → by_name a b ≡ Equal → a ≡ b
 same_name a b e = slice_cmp-IsAntisymmetric nat_cmp-IsAntisymmetric a b e
 
-head_of : {X : Type 0} (P : X → Type 0) (x : X) (xs : List X) → All P (x ∷ xs) → P x
+pub head_of : {X : Type 0} (P : X → Type 0) (x : X) (xs : List X) → All P (x ∷ xs) → P x
 head_of P x xs all = all 0 x (omega arith)
 
-tail_of : {X : Type 0} (P : X → Type 0) (x : X) (xs : List X) → All P (x ∷ xs) → All P xs
+pub tail_of : {X : Type 0} (P : X → Type 0) (x : X) (xs : List X) → All P (x ∷ xs) → All P xs
 tail_of P x xs all k d less = all (suc k) d (omega (arith, less))
 
 module _ (P : List ℕ × Value → Type 0) where
@@ -96,7 +96,7 @@ all_of_layers tree path = all_if (IsOfLayer tree path) (is_path path) (uncut_of 
 
 -- ---- what is merged
 
-merged_is : (tree : Content) (path : List (List ℕ)) → is_merged_path path ≡ true → merged tree path ≡ merge tree path (merged_from tree path)
+pub merged_is : (tree : Content) (path : List (List ℕ)) → is_merged_path path ≡ true → merged tree path ≡ merge tree path (merged_from tree path)
 unfolding merged
 merged_is tree path is = ap (λ t. cond t (merge tree path (merged_from tree path)) (unmerged tree path)) is
 

@@ -1,6 +1,7 @@
 -- Which layers are cut, as a statement on single nodes, and which resources are merged (Apache Sling, "Resource Merger": sling:hideResource, sling:hideChildren).
-use Rattle.std.specs.Prelude.{◌≡◌, ◌⊎◌, ◌+◌, ◌-◌, ◌<◌, ◌≤◌, ◌++◌, ℕ, Any, true, false, List, ◌∷◌, Some, length, take}
-use Rattle.resource_tree.specs.Content.{Content, name_of}
+use Rattle.std.specs.Prelude.{◌≡◌, ◌⊎◌, ◌+◌, ◌-◌, ◌<◌, ◌≤◌, ◌++◌, ℕ, All, Any, true, false, List, ◌∷◌, Some, length, take}
+use Rattle.sp_base.specs.Paths.{is_path}
+use Rattle.resource_tree.specs.Content.{Content, kid, name_of}
 use Rattle.resource_tree.specs.Seen.{Resource, res_at}
 use Rattle.overlay_merge.specs.declared.layers.Layer.{Layer}
 use Rattle.overlay_merge.specs.Layers.{layers_of}
@@ -36,3 +37,17 @@ pub record IsOfLayer (tree : Content) (path : List (List ℕ)) (res : Resource) 
   pub layers : layers_of tree path ≡ lower ++ layer ∷ upper
   pub uncut : layer_is_cut tree layer upper ≡ false
   pub there : res_at tree layer.path ≡ Some res
+
+-- no layer of a path is cut
+abbrev pub NoLayerIsCut : Content → List (List ℕ) → Type 0
+NoLayerIsCut tree path = (lower upper : List Layer) (layer : Layer) → layers_of tree path ≡ lower ++ layer ∷ upper → layer_is_cut tree layer upper ≡ false
+
+-- no node hides its resource or a kid
+pub record HidesNothing (tree : Content) : Type 0 where
+  pub resources : (path : List (List ℕ)) → hides_resource_at tree path ≡ false
+  pub kids : (path : List (List ℕ)) (name : List ℕ) → hides_kid_at tree path name ≡ false
+
+-- a kid of this name is no deeper than a path may be, below the path and below each of its layers
+pub record HasRoomFor (tree : Content) (path : List (List ℕ)) (name : List ℕ) : Type 0 where
+  pub below_path : is_path (kid path name) ≡ true
+  pub below_layers : All (λ (layer : Layer). is_path (kid layer.path name) ≡ true) (layers_of tree path)

@@ -6,16 +6,16 @@ ghost use Rattle.sp_base.specs.Names.{by_name};
 ghost use Rattle.sp_base.specs.Paths.{is_path};
 ghost use Rattle.sp_base.specs.declared.value.Value.{Value};
 ghost use Rattle.std.specs.List.Sorted.{IsPermutation};
-ghost use Rattle.resource_tree.specs.Content.{Content, kid};
+ghost use Rattle.resource_tree.specs.Content.{Content, IsGood, kid};
 ghost use Rattle.resource_tree.specs.Seen.{Resource, res_at};
 ghost use Rattle.overlay_merge.specs.declared.layers.Layer.{Layer};
 ghost use Rattle.overlay_merge.specs.Roots.{is_merged_path, is_parent_of_roots};
 ghost use Rattle.overlay_merge.specs.Layers.{has_node, layers_of};
 ghost use Rattle.overlay_merge.specs.Hiding.{layer_is_cut, merged_from, uncut_of};
-ghost use Rattle.overlay_merge.specs.Cut.{LayerIsCut, IsOfLayer};
+ghost use Rattle.overlay_merge.specs.Cut.{HasRoomFor, HidesNothing, IsOfLayer, LayerIsCut, NoLayerIsCut};
 ghost use Rattle.overlay_merge.specs.Properties.{without_steering};
 ghost use Rattle.overlay_merge.specs.Kids.{all_kids, has_text, is_merged_there, layers_kids, kids_there, wish_at};
-ghost use Rattle.overlay_merge.specs.Merged.{merged};
+ghost use Rattle.overlay_merge.specs.Merged.{has_resource, kids_in, merged};
 
 /// Elsewhere than under the two roots the node is seen as it is, but that their parent doesn't list them.
 pub fn elsewhere_the_node_is_seen()
@@ -23,11 +23,13 @@ pub fn elsewhere_the_node_is_seen()
 {}
 
 /// Where one layer alone is a node and it isn't cut, the resource is that node without the four names that steer the merging; its kids are
-/// those at which a merged resource is there, and stand as they do there if none wishes to stand elsewhere.
+/// those at which a merged resource is there. They are the node's kids as they stand there, if no layer of a kid is cut either, their paths
+/// aren't too deep and none wishes to stand elsewhere. No layer is cut where no node hides anything.
 pub fn the_only_layer_is_shown()
     ensures node { (tree : Content) (path : List (List ℕ)) (lower upper : List Layer) (layer : Layer) (res : Resource) → is_path path ≡ true → is_merged_path path ≡ true → layers_of tree path ≡ lower ++ layer ∷ upper → has_node tree lower ≡ false → has_node tree upper ≡ false → layer_is_cut tree layer upper ≡ false → res_at tree layer.path ≡ Some res → is_sorted by_name res.props ≡ true → merged tree path ≡ Some (record { path = path; props = without_steering res.props; kids = layers_kids tree path (res ∷ []) }) }
     ensures kids { (tree : Content) (path : List (List ℕ)) (res : Resource) → IsPermutation (kids_there tree path res.kids) (layers_kids tree path (res ∷ [])) }
-    ensures order { (tree : Content) (path : List (List ℕ)) (res : Resource) → All (λ (name : List ℕ). is_merged_there tree (kid path name) ≡ true) res.kids → All (λ (name : List ℕ). wish_at tree (kid res.path name) ≡ None) res.kids → layers_kids tree path (res ∷ []) ≡ res.kids }
+    ensures order { (tree : Content) (path : List (List ℕ)) (lower upper : List Layer) (layer : Layer) (res : Resource) → IsGood tree → is_path path ≡ true → is_merged_path path ≡ true → layers_of tree path ≡ lower ++ layer ∷ upper → has_node tree lower ≡ false → has_node tree upper ≡ false → res_at tree layer.path ≡ Some res → is_sorted by_name res.props ≡ true → NoLayerIsCut tree path → All (λ (name : List ℕ). NoLayerIsCut tree (kid path name)) res.kids → All (λ (name : List ℕ). HasRoomFor tree path name) res.kids → All (λ (name : List ℕ). wish_at tree (kid res.path name) ≡ None) res.kids → merged tree path ≡ Some (record { path = path; props = without_steering res.props; kids = res.kids }) }
+    ensures hidden { (tree : Content) (path : List (List ℕ)) → HidesNothing tree → NoLayerIsCut tree path }
 {}
 
 /// Each property and each kid that is seen is one of a layer that isn't cut: a layer that is hidden shows in none.
@@ -53,8 +55,10 @@ pub fn wishes_only_reorder()
     ensures { (tree : Content) (path : List (List ℕ)) (layers : List Resource) → IsPermutation (kids_there tree path (all_kids layers)) (layers_kids tree path layers) }
 {}
 
-/// Each kid is one of a layer that isn't cut, and a merged resource is at its path.
+/// Each kid is one of a layer that isn't cut, and a merged resource is at its path. So it is of each kid that is given at any path: something
+/// is seen there.
 pub fn each_kid_is_there()
     ensures of_a_layer { (tree : Content) (path : List (List ℕ)) (layers : List Resource) (name : List ℕ) → has_text (layers_kids tree path layers) name ≡ true → list_any (λ (layer : Resource). has_text layer.kids name) layers ≡ true }
     ensures there { (tree : Content) (path : List (List ℕ)) (layers : List Resource) (name : List ℕ) → has_text (layers_kids tree path layers) name ≡ true → is_merged_there tree (kid path name) ≡ true }
+    ensures seen { (tree : Content) (path : List (List ℕ)) (name : List ℕ) → IsGood tree → has_text (kids_in (merged tree path)) name ≡ true → has_resource tree (kid path name) ≡ true }
 {}

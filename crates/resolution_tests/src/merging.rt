@@ -13,7 +13,7 @@ fn a_view_tells_what_is_there(rt: HostRuntime) -> Result<(), Failed> {
     let tree = tree_of(
         alloc,
         RandomState::new(&rt)?,
-        "/libs/x/b p q; /apps/x/a p q; /apps/x/b p q",
+        "/libs/x/a p q; /libs/x/b p q; /apps/x own yes; /apps/x/c sling:orderBefore zz",
     )?;
     let view = MergedView { tree: &tree };
     let path = Path::read(alloc, "/mnt/overlay/x")?;
@@ -21,7 +21,13 @@ fn a_view_tells_what_is_there(rt: HostRuntime) -> Result<(), Failed> {
     assert!(rt; view.res(alloc, &path)?.is_some());
     assert!(rt; merged(alloc, &tree, &path)?.is_some());
     let kids = merged_kids(alloc, &tree, &path)?;
-    assert!(rt; kids.len() == 2);
+    assert!(rt; kids.len() == 3);
+    for (place, name) in [(0, "a"), (1, "b"), (2, "c")] {
+        let Some(kid) = kids.get(place) else {
+            return Err(Failed);
+        };
+        assert!(rt; kid.text() == name);
+    }
     Ok(())
 }
 

@@ -1,4 +1,4 @@
-use Rattle.std.proofs.Common.{◌≡◌, ◌⊎◌, inl, inr, refl, sym, None}
+use Rattle.std.proofs.Common.{◌≡◌, ◌⊎◌, ◌∙◌, inl, inr, refl, sym, None}
 use Rattle.sp_outside.specs.Files.{Files, file_at, without_file}
 use Rattle.docroot_format.specs.Names.{body_name, head_name}
 use Rattle.cache_files.specs.Pages.{page_at}
@@ -27,3 +27,12 @@ returns-clause-others c = λ asked made files new key other fault text more diff
     (named.left files head head2 (λ e. differ (apart.heads other key more text e)))
     (named.left files head body2 (λ e. apart.head key other text more (sym e))))
     (c.pages_have_files_of_their_own.ensures.beside files key other text more differ) left
+
+pub returns-clause-files : goal.returns-clause-files
+returns-clause-files c = λ asked made files new key fault name left no_head no_body.
+    let head = head_name key.folder key.file in
+    let named = c.files_have_names.ensures in
+    let bare = without_file files head in
+    let bare_is = named.left files head name no_head in
+    let P : Files → Type 0 = λ f. file_at f name ≡ file_at files name in
+    drop_left P asked made files new head (body_name key.folder key.file) fault refl bare_is (named.left bare (body_name key.folder key.file) name no_body ∙ bare_is) left

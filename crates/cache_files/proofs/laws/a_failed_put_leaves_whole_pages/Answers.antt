@@ -1,4 +1,4 @@
-use Rattle.std.proofs.Common.{◌≡◌, ◌⊎◌, ◌∙◌, inl, inr, refl, sym, None}
+use Rattle.std.proofs.Common.{◌≡◌, ◌⊎◌, ◌∙◌, inl, inr, refl, sym, None, length}
 use Rattle.sp_outside.specs.Files.{Files, file_at, with_file, without_file}
 use Rattle.docroot_format.specs.Names.{body_name, head_name}
 use Rattle.docroot_format.specs.Texts.{head_text}
@@ -35,3 +35,16 @@ returns-clause-others c = λ asked made files new key other stamp answer fault t
     (named.beside bare body head2 answer.body (apart.head other key more text) ∙ head_left)
     (named.beside bare body body2 answer.body (λ e. differ (apart.bodies other key more text e)) ∙ body_left))
     (c.pages_have_files_of_their_own.ensures.put files key other stamp answer text more differ) left
+
+pub returns-clause-files : goal.returns-clause-files
+returns-clause-files c = λ asked made files new key stamp answer fault name left no_head no_body.
+    let head = head_name key.folder key.file in
+    let body = body_name key.folder key.file in
+    let named = c.files_have_names.ensures in
+    let bare = without_file files head in
+    let half = with_file bare body answer.body in
+    let text = head_text stamp.epoch stamp.count (length answer.body) answer.kind in
+    let bare_is = named.left files head name no_head in
+    let half_is = named.beside bare body name answer.body no_body ∙ bare_is in
+    let P : Files → Type 0 = λ f. file_at f name ≡ file_at files name in
+    put_left P asked made files new head body answer.body text fault refl bare_is half_is (named.beside half head name text no_head ∙ half_is) left

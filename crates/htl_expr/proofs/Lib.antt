@@ -13,6 +13,7 @@ pub mod Unique
 pub mod EscapeLemmas
 pub mod Writing
 pub mod Joined
+pub mod EmptyJoin
 pub mod Chains
 pub mod Trees
 pub mod SameItems

@@ -1,12 +1,14 @@
--- What an evaluation remembers of two properties stays true when it remembers two more.
-use Rattle.std.proofs.Common.{◌≡◌, ℕ, Bool, true, false, cond, List, Option, Some, IfSome, refl, sym, ap, subst, ◌∙◌}
+-- What an evaluation remembers stays true when it remembers more.
+use Rattle.std.proofs.Common.{◌≡◌, ℕ, Bool, true, false, cond, List, [], Option, Some, IfSome, refl, sym, ap, subst, ◌∙◌}
 use Rattle.std.proofs.lemmas.Map.Lookups.{CmpEqualImpliesEq, exact_bytes, exact_pairs}
 use Rattle.std.proofs.lemmas.Map.Views.{tells_apart}
 use Rattle.std.specs.BTreeMap.{BTreeMap, get, Updates, is_at}
 use Rattle.std.specs.Ordering.{nat_cmp}
 use Rattle.std.specs.Cmp.Lexicographic.{slice_cmp}
 use Rattle.htl_expr.specs.declared.scope.Scope.{Scope}
-use Rattle.htl_expr.specs.Remembered.{by_names, RemembersSame}
+use Rattle.htl_expr.specs.Remembered.{by_names, RemembersSame, RemembersJoined}
+use Rattle.htl_expr.specs.Print.{plain}
+use Rattle.sp_base.specs.Names.{by_name}
 use Rattle.htl_expr.specs.Value.{is_same, property}
 
 exact_names : CmpEqualImpliesEq by_names
@@ -27,3 +29,19 @@ remembers_more scope old new names same updates is known q =
 pub what_is_known : (scope : Scope) (known : BTreeMap (List ℕ × List ℕ) Bool) (names : List ℕ × List ℕ) (found : Option Bool) → found ≡ get by_names known names → RemembersSame scope known
     → IfSome found (λ same. same ≡ is_same (property scope names.0) (property scope names.1))
 what_is_known scope known names found is remembers = subst (λ (o : Option Bool). IfSome o (λ same. same ≡ is_same (property scope names.0) (property scope names.1))) (sym is) (remembers names)
+
+pub remembers_more_joined : (scope : Scope) (old new : BTreeMap (List ℕ) (List ℕ)) (name text : List ℕ) → Updates by_name old new name (Some text)
+    → text ≡ plain [] (property scope name) → RemembersJoined scope old → RemembersJoined scope new
+remembers_more_joined scope old new name text updates is known q =
+    subst (λ found. IfSome found IsRight) (sym (updates.0 q)) (chosen (is_at (by_name name) q) refl)
+  where
+    IsRight : List ℕ → Type 0
+    IsRight t = t ≡ plain [] (property scope q)
+
+    chosen : (t : Bool) → is_at (by_name name) q ≡ t → IfSome (cond t (Some text) (get by_name old q)) IsRight
+    chosen true e = is ∙ ap (λ p. plain [] (property scope p)) (tells_apart exact_bytes name q e)
+    chosen false e = known q
+
+pub what_is_joined : (scope : Scope) (known : BTreeMap (List ℕ) (List ℕ)) (name : List ℕ) (found : Option (List ℕ)) → found ≡ get by_name known name → RemembersJoined scope known
+    → IfSome found (λ text. text ≡ plain [] (property scope name))
+what_is_joined scope known name found is remembers = subst (λ (o : Option (List ℕ)). IfSome o (λ text. text ≡ plain [] (property scope name))) (sym is) (remembers name)

@@ -1,6 +1,7 @@
 //! What is found out of a resource while expressions are evaluated for it.
 
-ghost use Rattle.std.specs.Prelude.{◌≡◌, IfOk, IfSome};
+ghost use Rattle.std.specs.Prelude.{◌≡◌, [], IfOk, IfSome};
+ghost use Rattle.htl_expr.specs.Print.{plain};
 ghost use Rattle.htl_expr.specs.Value as spec;
 
 use crate::compare::is_same;
@@ -11,22 +12,24 @@ use std::collections::BTreeMap;
 use std::marker::Model;
 
 /// A resource that expressions are evaluated for one after another. Two of its properties are looked through once, however often
-/// they are compared. Contracts see what the expressions see of the resource.
+/// they are compared, and a list whose items are written with nothing between them once, however often it is. Contracts see what the
+/// expressions see of the resource.
 #[derive(Drop)]
 pub struct Evaluation<'a> {
     scope: Scope<'a>,
     same: BTreeMap<(TextBuf, TextBuf), bool>,
+    joined: BTreeMap<TextBuf, TextBuf>,
 }
 
 impl<'a> Model for Evaluation<'a> {
     ghost use Rattle.htl_expr.specs.Bindings.{Bindings};
-    ghost use Rattle.htl_expr.specs.Remembered.{RemembersSame};
+    ghost use Rattle.htl_expr.specs.Remembered.{RemembersSame, RemembersJoined};
 
     ghost Value = { Bindings };
 
     ghost view = { λ e. e.scope };
 
-    ghost invariant = { λ e. RemembersSame e.scope e.same };
+    ghost invariant = { λ e. RemembersSame e.scope e.same × RemembersJoined e.scope e.joined };
 }
 
 impl<'a> Evaluation<'a> {
@@ -42,6 +45,7 @@ impl<'a> Evaluation<'a> {
                 kind: scope.kind,
             },
             same: BTreeMap::new(alloc),
+            joined: BTreeMap::new(alloc),
         }
     }
 
@@ -92,5 +96,20 @@ impl<'a> Evaluation<'a> {
         let same = self.found_same(alloc, a, b)?;
         self.remember(names, same)?;
         Ok(same)
+    }
+
+    /// The items of a property with nothing between them, if they were put together before.
+    pub(crate) fn joined(&self, name: &TextBuf) -> Option<&TextBuf>
+        ensures { IfSome result (λ text. text.now ≡ plain [] (spec.property self.now name.now)) }
+    {
+        self.joined.get(name)
+    }
+
+    pub(crate) fn remember_joined(&mut self, name: TextBuf, text: TextBuf) -> Mem<()>
+        requires { text ≡ plain [] (spec.property self.old name) }
+        ensures { self.new ≡ self.old }
+    {
+        self.joined.insert(name, text)?;
+        Ok(())
     }
 }

@@ -3,6 +3,7 @@
 
 mod access;
 mod compare;
+mod empty_join;
 mod escape;
 mod evaluation;
 mod expression;

@@ -1,15 +1,16 @@
 //! How a value is printed.
 
-ghost use Rattle.std.specs.Prelude.{◌≡◌, ◌≢◌, ◌≤◌, ◌<◌, ◌++◌, IfOk, IfErr, OnOk, OnErr, string_bytes, map, length};
-ghost use Rattle.htl_expr.specs.Lent.{out_of_lent, plain_item};
+ghost use Rattle.std.specs.Prelude.{◌≡◌, ◌≢◌, ◌≤◌, ◌<◌, ◌++◌, [], IfOk, IfErr, OnOk, OnErr, string_bytes, map, length};
+ghost use Rattle.htl_expr.specs.Lent.{out_of_lent, plain_item, IsOperand};
 ghost use Rattle.htl_expr.specs.Print as spec;
 ghost use Rattle.htl_expr.specs.Value.{print};
 ghost use Rattle.htl_expr.specs.Writing.{Wrote};
 
+use crate::empty_join::push_joined;
 use crate::escape::push;
 use crate::evaluation::Evaluation;
 use crate::expression::{Context, Expr};
-use crate::lent::Lent;
+use crate::lent::{Lent, Operand};
 use crate::lists::{long_text, push_longs, push_texts, push_truths, truth_text};
 use crate::room::WriteFault;
 use crate::scope::Scope;
@@ -82,6 +83,51 @@ pub(crate) fn push_value(
     }
 }
 
+// Items with nothing between them may write nothing, so that a property's are put together once.
+#[tactic(auto, using(crate::proofs::Chains::items_out))]
+fn push_closed<'a>(
+    text: &mut String,
+    alloc: Global,
+    scope: &mut Evaluation<'a>,
+    most: usize,
+    context: Option<Context>,
+    operand: &Operand<'a>,
+) -> Result<(), WriteFault>
+    requires room { length (string_bytes text.old) ≤ most }
+    requires operand { IsOperand scope.old operand.now }
+    ensures text { Wrote most result (string_bytes text.old) (spec.in_context context (spec.plain [] (out_of_lent operand.now.value))) (string_bytes text.new) }
+    ensures scope { scope.new ≡ scope.old }
+{
+    match (operand.property, &operand.value) {
+        (Some(name), Lent::Texts(items)) => {
+            push_joined(text, alloc, scope, most, context, name, items.as_slice())
+        }
+        _ => push_value(text, alloc, most, context, "", &operand.value),
+    }
+}
+
+// Writes what an expression gives.
+fn push_operand<'a>(
+    text: &mut String,
+    alloc: Global,
+    scope: &mut Evaluation<'a>,
+    most: usize,
+    context: Option<Context>,
+    join: &str,
+    operand: &Operand<'a>,
+) -> Result<(), WriteFault>
+    requires room { length (string_bytes text.old) ≤ most }
+    requires operand { IsOperand scope.old operand.now }
+    ensures text { Wrote most result (string_bytes text.old) (spec.in_context context (spec.plain join.now (out_of_lent operand.now.value))) (string_bytes text.new) }
+    ensures scope { scope.new ≡ scope.old }
+{
+    if join.is_empty() {
+        push_closed(text, alloc, scope, most, context, operand)
+    } else {
+        push_value(text, alloc, most, context, join, &operand.value)
+    }
+}
+
 fn join_text(join: &Option<TextBuf>) -> &str
     ensures { result.now ≡ spec.join_text join.now }
 {
@@ -107,14 +153,15 @@ impl Expr {
     {
         match &self.node {
             Some(node) => {
-                let value = value(alloc, scope, node)?;
-                push_value(
+                let operand = value(alloc, scope, node)?;
+                push_operand(
                     text,
                     alloc,
+                    scope,
                     most,
                     self.context,
                     join_text(&self.join),
-                    &value.value,
+                    &operand,
                 )
             }
             None => Ok(()),

@@ -7,5 +7,5 @@ use Rattle.htl_expr.proofs.evaluation.Evaluation.known.Goals as goal
 pub returns : goal.returns
 returns c =
     let names = c.args.names.now in
-    let found = what_is_known c.self.inside.scope c.self.inside.same names c.copied.result (c.copied.ensures ∙ c.get.ensures.value) c.self.invariant in
+    let found = what_is_known c.self.inside.scope c.self.inside.same names c.copied.result (c.copied.ensures ∙ c.get.ensures.value) c.self.invariant.0 in
     subst (λ (s : Bindings). IfSome c.copied.result (λ same. same ≡ is_same (property s names.0) (property s names.1))) c.self.view_is found

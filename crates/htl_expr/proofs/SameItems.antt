@@ -1,5 +1,5 @@
 -- Two lists have the same items where they are as long and no two items at one place differ.
-use Rattle.std.proofs.Common.{◌≡◌, ◌≢◌, ◌<◌, ℕ, suc, ℤ, ◌^◌, Bool, true, false, ◌&&◌, List, [], ◌∷◌, length, get_or, map, refl, sym, ap, subst, ◌∙◌}
+use Rattle.std.proofs.Common.{◌≡◌, ◌≢◌, ◌<◌, ℕ, suc, ℤ, ◌^◌, Bool, true, false, ◌&&◌, List, [], ◌∷◌, length, get_or, map, refl, sym, ap, subst, ◌∙◌, arith}
 use Rattle.std.specs.Cmp.Lexicographic.{pointwise}
 use Rattle.std.specs.Ordering.{int_eq}
 use Rattle.std.specs.Prelude.{nat_eq}
@@ -79,3 +79,16 @@ same_as_itself (out.List texts) = texts_same texts
 
 pub same_where_one : (a b : Out) → a ≡ b → is_same a b ≡ true
 same_where_one a b e = subst (λ (x : Out). is_same a x ≡ true) e (same_as_itself a)
+
+-- whether two texts are the same doesn't hang on their order
+pub same_swapped : (a b : List ℕ) → pointwise nat_eq a b ≡ pointwise nat_eq b a
+same_swapped a b = both (pointwise nat_eq a b) (pointwise nat_eq b a) (bytes_eq-Decides a b) (bytes_eq-Decides b a)
+  where
+    both : (p q : Bool) → Decides p (a ≡ b) → Decides q (b ≡ a) → p ≡ q
+    both true true d e = refl
+    both false false d e = refl
+    both true false d e = sym (e.1 (sym (d.0 refl)))
+    both false true d e = d.1 (sym (e.0 refl))
+
+pub longer_differs : (a b : List ℕ) → length a < length b → pointwise nat_eq a b ≡ false
+longer_differs a b lt = unequal_lengths nat_eq a b (λ e. omega (arith, e, lt))

@@ -12,11 +12,11 @@ use Rattle.form_input.specs.Lines.{lines}
 use Rattle.form_input.specs.Bodies.{BodyPart, part_lines, are_plain, is_body_part, IsMultipart, HasPairs}
 use Rattle.form_input.proofs.FormLemmas.{Pairs, closing_section, part_section, end_of_sections, last_section}
 
-and_left : (a b : Bool) → (a && b) ≡ true → a ≡ true
+pub and_left : (a b : Bool) → (a && b) ≡ true → a ≡ true
 and_left true b e = refl
 and_left false b e = absurd cc
 
-and_right : (a b : Bool) → (a && b) ≡ true → b ≡ true
+pub and_right : (a b : Bool) → (a && b) ≡ true → b ≡ true
 and_right true b e = e
 and_right false b e = absurd cc
 
@@ -30,7 +30,7 @@ closing_kind Opening e = absurd cc
 closing_kind Closing e = refl
 closing_kind Plain e = absurd cc
 
-opening_kind : (k : LineKind) → not (is_plain_line k) ≡ true → not (is_closing_line k) ≡ true → k ≡ Opening
+pub opening_kind : (k : LineKind) → not (is_plain_line k) ≡ true → not (is_closing_line k) ≡ true → k ≡ Opening
 opening_kind Opening e f = refl
 opening_kind Closing e f = absurd cc
 opening_kind Plain e f = absurd cc
@@ -41,23 +41,23 @@ module _ (dash : List ℕ) where
   unfolding sections
   plain_line at line more e = rw e refl
 
-  opening_line : (at : ℕ) (line : List ℕ) (more : List (List ℕ)) → line_kind dash line ≡ Opening
+  pub opening_line : (at : ℕ) (line : List ℕ) (more : List (List ℕ)) → line_kind dash line ≡ Opening
       → ◌≡◌ {A = Sections} (sections dash at (line ∷ more)) (record { before = []; later = record { place = at; closing = false; content = (sections dash (at + length line + 2) more).before } ∷ (sections dash (at + length line + 2) more).later })
   unfolding sections
   opening_line at line more e = rw e refl
 
-  closing_line : (at : ℕ) (line : List ℕ) (more : List (List ℕ)) → line_kind dash line ≡ Closing
+  pub closing_line : (at : ℕ) (line : List ℕ) (more : List (List ℕ)) → line_kind dash line ≡ Closing
       → ◌≡◌ {A = Sections} (sections dash at (line ∷ more)) (record { before = []; later = record { place = at; closing = true; content = (sections dash (at + length line + 2) more).before } ∷ (sections dash (at + length line + 2) more).later })
   unfolding sections
   closing_line at line more e = rw e refl
 
   -- the place after lines
-  place_after : ℕ → List (List ℕ) → ℕ
+  unfoldable pub place_after : ℕ → List (List ℕ) → ℕ
   place_after at [] = at
   place_after at (line ∷ more) = place_after (at + length line + 2) more
 
   -- lines that are no boundary lines stand before the sections of the rest
-  plain_lines : (at : ℕ) (front rest : List (List ℕ)) → are_plain dash front ≡ true
+  pub plain_lines : (at : ℕ) (front rest : List (List ℕ)) → are_plain dash front ≡ true
       → ◌≡◌ {A = Sections} (sections dash at (front ++ rest)) (record { before = front ++ (sections dash (place_after at front) rest).before; later = (sections dash (place_after at front) rest).later })
   unfolding place_after
   plain_lines at [] rest e = refl
@@ -67,11 +67,11 @@ module _ (dash : List ℕ) where
       ∙ ap (λ (s : Sections). record { before = line ∷ s.before; later = s.later }) ih
 
   -- the sections of parts and a closing line begin with a boundary line
-  record Begins (at : ℕ) (ls : List (List ℕ)) : Type 0 where
-    first : Section
-    more : List Section
-    before : (sections dash at ls).before ≡ []
-    later : (sections dash at ls).later ≡ first ∷ more
+  pub record Begins (at : ℕ) (ls : List (List ℕ)) : Type 0 where
+    pub first : Section
+    pub more : List Section
+    pub before : (sections dash at ls).before ≡ []
+    pub later : (sections dash at ls).later ≡ first ∷ more
 
   begins : (at : ℕ) (parts : List BodyPart) (closing : List ℕ) (epilogue : List (List ℕ)) → list_all (is_body_part dash) parts ≡ true → is_closing_line (line_kind dash closing) ≡ true
       → Begins at (part_lines parts ++ closing ∷ epilogue)
@@ -141,7 +141,7 @@ module _ (dash : List ℕ) where
       go false x (Err f) e = absurd cc
       go false x (Ok rest) e = record { pair = pair; rest = rest; has = refl; later = refl; all = cc; other = x }
 
-  no_lines : (at : ℕ) → (sections dash at []).later ≡ []
+  pub no_lines : (at : ℕ) → (sections dash at []).later ≡ []
   unfolding sections
   no_lines at = refl
 

@@ -6,3 +6,5 @@ pub mod FormLemmas
 pub mod BodyLemmas
 pub mod UrlLemmas
 pub mod CauseLemmas
+pub mod FaultLemmas
+pub mod RefusalLemmas

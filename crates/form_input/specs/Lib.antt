@@ -3,6 +3,7 @@ pub mod Parameters
 pub mod Multipart
 pub mod Boundaries
 pub mod Bodies
+pub mod BodyFaults
 pub mod Forms
 pub mod Words
 pub mod FormLaws

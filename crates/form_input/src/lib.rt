@@ -12,4 +12,6 @@ mod part;
 
 pub use fault::FormFault;
 pub use form::{Form, MOST_PAIRS, read_form};
-pub use laws::{forms_are_refused_for_causes, the_parts_are_the_body};
+pub use laws::{
+    bodies_are_refused_for_their_first_fault, forms_are_refused_for_causes, the_parts_are_the_body,
+};

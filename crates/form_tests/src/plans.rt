@@ -17,7 +17,8 @@ fn a_form_asks_for_a_modification(rt: HostRuntime) -> Result<(), Fail> {
         (":order", "first"),
     ];
     let target = Path::read(alloc, "/p")?;
-    let Ok(Op::Modify(op)) = plan(alloc, &target, false, &form(alloc, &pairs)?) else {
+    let form = form(alloc, &pairs)?;
+    let Ok(Op::Modify(op)) = plan(alloc, &target, false, &form) else {
         assert!(rt; false);
         return Ok(());
     };
@@ -55,11 +56,13 @@ fn faults_come_in_their_order(rt: HostRuntime) -> Result<(), Fail> {
     ];
     let wanted = ["BadPath", "BadHint", "BadOrder", "NoDest"];
     for last in 0..pairs.len() {
-        let planned = plan(alloc, &target, false, &form(alloc, &pairs[..last + 1])?);
+        let form = form(alloc, &pairs[..last + 1])?;
+        let planned = plan(alloc, &target, false, &form);
         assert!(rt; name_of(&planned) == wanted[last]);
     }
     let pairs = [(":operation", "none"), (":order", "x")];
-    let planned = plan(alloc, &target, false, &form(alloc, &pairs)?);
+    let form = form(alloc, &pairs)?;
+    let planned = plan(alloc, &target, false, &form);
     assert!(rt; name_of(&planned) == "BadOperation");
     Ok(())
 }

@@ -1,5 +1,6 @@
 //! Operations over a tree. What POSTs one after another leave is shown through the program (examples/runs/post_operations and its neighbours).
 use crate::forms::form;
+use form_input::Form;
 use post_apply::{ApplyFault, apply};
 use post_plan::{Op, plan};
 use resource_tree::Tree;
@@ -9,9 +10,8 @@ use std::hash::RandomState;
 use std::test::Fail;
 
 // The operation that a form asks for at a target.
-fn operation(alloc: Global, target: &Path, pairs: &[(&str, &str)]) -> Result<Op, Fail> {
-    let form = form(alloc, pairs)?;
-    Ok(plan(alloc, target, false, &form).map_err(|_| AllocError)?)
+fn operation<'a>(alloc: Global, target: &Path, form: &'a Form) -> Result<Op<'a>, Fail> {
+    Ok(plan(alloc, target, false, form).map_err(|_| AllocError)?)
 }
 
 #[test]
@@ -19,7 +19,8 @@ fn an_operation_changes_the_tree(rt: HostRuntime) -> Result<(), Fail> {
     let alloc = rt.alloc();
     let mut tree = Tree::new(alloc, RandomState::new(&rt)?)?;
     let target = Path::read(alloc, "/content/t")?;
-    let op = operation(alloc, &target, &[("n", "12"), ("n@TypeHint", "Long")])?;
+    let form = form(alloc, &[("n", "12"), ("n@TypeHint", "Long")])?;
+    let op = operation(alloc, &target, &form)?;
     match apply(alloc, &mut tree, &op) {
         Ok(report) => assert!(rt; report.created && report.path == target),
         Err(_) => assert!(rt; false),
@@ -37,7 +38,8 @@ fn a_refusal_leaves_the_tree(rt: HostRuntime) -> Result<(), Fail> {
     let mut tree = Tree::new(alloc, RandomState::new(&rt)?)?;
     let target = Path::read(alloc, "/t")?;
     let pairs = [("good", "1"), ("n", "abc"), ("n@TypeHint", "Long")];
-    let op = operation(alloc, &target, &pairs)?;
+    let form = form(alloc, &pairs)?;
+    let op = operation(alloc, &target, &form)?;
     assert!(rt;
         matches!(
             apply(alloc, &mut tree, &op),

@@ -10,27 +10,27 @@ use crate::ApplyFault;
 use crate::spots::path_of_spot;
 use crate::steps::set;
 use crate::way::make_way;
-use post_plan::PropSet;
+use post_plan::{PropSet, WordList};
 use resource_tree::TreeFault;
-use sp_base::{Hint, Mem, Path, TextBuf, TextList, Value, ValueFault};
+use sp_base::{Hint, Mem, Path, TextBuf, Value, ValueFault};
 use std::alloc::Global;
 use tree_draft::Draft;
 
-fn untyped(alloc: Global, words: &TextList) -> Mem<Value>
+fn untyped(alloc: Global, words: &WordList) -> Mem<Value>
     ensures { IfOk result (λ v. v ≡ spec.untyped words.now) }
 {
-    match words.as_slice() {
-        [word] => Ok(Value::Text(word.duplicate(alloc)?)),
-        _ => Ok(Value::Texts(words.duplicate(alloc)?)),
+    match words.lone() {
+        Some(word) => Ok(Value::Text(TextBuf::of(alloc, word)?)),
+        None => Ok(Value::Texts(words.copied(alloc)?)),
     }
 }
 
-fn value_of(alloc: Global, hint: Option<Hint>, words: &TextList) -> Result<Value, ValueFault>
+fn value_of(alloc: Global, hint: Option<Hint>, words: &WordList) -> Result<Value, ValueFault>
     ensures ok { IfOk result (λ v. spec.hinted_value hint words.now ≡ Ok v) }
     ensures err { IfErr result (λ e. e ≢ ValueFault.NoMemory → spec.hinted_value hint words.now ≡ Err e) }
 {
     match hint {
-        Some(hint) => Value::typed(alloc, hint, words),
+        Some(hint) => Value::typed(alloc, hint, &words.copied(alloc)?),
         None => Ok(untyped(alloc, words)?),
     }
 }
@@ -40,7 +40,7 @@ fn named_value(
     alloc: Global,
     name: &str,
     hint: Option<Hint>,
-    words: &TextList,
+    words: &WordList,
 ) -> Result<Value, ApplyFault>
     ensures ok { IfOk result (λ v. spec.named_outcome name.now (spec.hinted_value hint words.now) ≡ Ok v) }
     ensures err { IfErr result (λ e. e ≢ ApplyFault.NoMemory → spec.named_outcome name.now (spec.hinted_value hint words.now) ≡ Err e) }

@@ -100,6 +100,11 @@ is_word_true (Some word) = bytes_eq word (codes "true")
 abbrev pub without_blanks : Bool → List (List ℕ) → List (List ℕ)
 without_blanks ignores words = if ignores then filter (λ word. not (length word == 0)) words else words
 
+abbrev pub lone_word : List (List ℕ) → Option (List ℕ)
+lone_word [] = None
+lone_word (word ∷ []) = Some word
+lone_word (word ∷ next ∷ more) = None
+
 abbrev pub is_one_blank : List (List ℕ) → Bool
 is_one_blank [] = false
 is_one_blank (word ∷ []) = length word == 0

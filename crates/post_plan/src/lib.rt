@@ -21,6 +21,7 @@ mod spots;
 mod suffix;
 mod verb;
 mod wishes;
+mod word_list;
 mod words;
 
 pub use fault::PlanFault;
@@ -28,3 +29,4 @@ pub use laws::operations_name_paths;
 pub use operation::{CarryOp, ModifyOp, NameWish, Op, PropSet, SetList};
 pub use planning::plan;
 pub use spot::{Carry, CarryList, Spot, SpotList};
+pub use word_list::WordList;

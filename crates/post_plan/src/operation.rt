@@ -1,17 +1,17 @@
 //! The operations.
-use crate::{CarryList, Spot, SpotList};
+use crate::{CarryList, Spot, SpotList, WordList};
 use resource_tree::Place;
-use sp_base::{Hint, Items, Path, TextBuf, TextList};
+use sp_base::{Hint, Items, Path, TextBuf};
 
 /// A property that is set to words, at least one.
 #[derive(Drop)]
-pub struct PropSet {
+pub struct PropSet<'a> {
     pub spot: Spot,
     pub hint: Option<Hint>,
-    pub words: TextList,
+    pub words: WordList<'a>,
 }
 
-pub type SetList = Items<PropSet>;
+pub type SetList<'a> = Items<PropSet<'a>>;
 
 /// The name of a node that is made.
 #[derive(Drop)]
@@ -24,7 +24,7 @@ pub enum NameWish {
 
 /// A node is made or modified.
 #[derive(Drop)]
-pub struct ModifyOp {
+pub struct ModifyOp<'a> {
     /// The node, or the parent of a new one.
     pub target: Path,
     /// The name of the new node.
@@ -32,7 +32,7 @@ pub struct ModifyOp {
     pub deletes: SpotList,
     pub moves: CarryList,
     pub copies: CarryList,
-    pub sets: SetList,
+    pub sets: SetList<'a>,
     /// The node's place among its siblings.
     pub place: Option<Place>,
 }
@@ -47,10 +47,10 @@ pub struct CarryOp {
 }
 
 #[derive(Drop)]
-pub enum Op {
+pub enum Op<'a> {
     Nop(Path),
     Delete(Path),
     Copy(CarryOp),
     Move(CarryOp),
-    Modify(ModifyOp),
+    Modify(ModifyOp<'a>),
 }

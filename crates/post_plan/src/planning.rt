@@ -58,12 +58,12 @@ fn carry_of(alloc: Global, target: &Path, pairs: &[(TextBuf, TextBuf)]) -> Mem<C
     })
 }
 
-fn modify_of(
+fn modify_of<'a>(
     alloc: Global,
     target: &Path,
     star: bool,
-    pairs: &[(TextBuf, TextBuf)],
-) -> Mem<ModifyOp>
+    pairs: &'a [(TextBuf, TextBuf)],
+) -> Mem<ModifyOp<'a>>
     ensures { IfOk result (λ op. op ≡ spec.modify_of target.now star pairs.now (entry.entries (spec.relative_node target.now star pairs.now) pairs.now) (spec.relative_node target.now star pairs.now)) }
 {
     let wish = fresh_wish(alloc, star, pairs)?;
@@ -82,7 +82,12 @@ fn modify_of(
     })
 }
 
-fn operation(alloc: Global, target: &Path, star: bool, pairs: &[(TextBuf, TextBuf)]) -> Mem<Op>
+fn operation<'a>(
+    alloc: Global,
+    target: &Path,
+    star: bool,
+    pairs: &'a [(TextBuf, TextBuf)],
+) -> Mem<Op<'a>>
     ensures { IfOk result (λ op. op ≡ spec.operation_by (spec.verb_of pairs.now) target.now star pairs.now) }
 {
     match verb_of(pairs) {
@@ -96,8 +101,13 @@ fn operation(alloc: Global, target: &Path, star: bool, pairs: &[(TextBuf, TextBu
 }
 
 /// The operation that a form asks for at a target; `star` asks for a new node under the target. Of several faults the first is answered in
-/// the order of the enum, and within one kind that of the first pair (Apache Sling, "SlingPostServlet").
-pub fn plan(alloc: Global, target: &Path, star: bool, form: &Form) -> Result<Op, PlanFault>
+/// the order of the enum, and within one kind that of the first pair (Apache Sling, "SlingPostServlet"). The form lends the words.
+pub fn plan<'a>(
+    alloc: Global,
+    target: &Path,
+    star: bool,
+    form: &'a Form,
+) -> Result<Op<'a>, PlanFault>
     ensures ok { IfOk result (λ op. spec.plan_of target.now star form.now ≡ Ok op) }
     ensures err { IfErr result (λ e. e ≢ PlanFault.NoMemory → spec.plan_of target.now star form.now ≡ Err e) }
 {

@@ -11,13 +11,9 @@ use crate::groups::{copy_of, same_suffix};
 use crate::hints::hint_of;
 use crate::suffix::Suffix;
 use crate::words::words_of;
-use crate::{PropSet, SetList, Spot};
-use sp_base::{Hint, Mem, NoMemory, Path, TextBuf, TextList};
+use crate::{PropSet, SetList, Spot, WordList};
+use sp_base::{Hint, Mem, Path, TextBuf};
 use std::alloc::Global;
-
-/// The most bytes of words that one form sets, as many as a whole content is read from. A form has fewer of its own, but `@ValueFrom` may
-/// name a long one for each of its parameters.
-const MOST_BYTES: usize = 67_108_864;
 
 fn same_bool(one: bool, other: bool) -> bool
     ensures { result ≡ spec.same_bool one other }
@@ -59,13 +55,18 @@ fn first_at<'a>(spot: &Spot, suffix: Suffix, entries: &[Entry<'a>]) -> Option<&'
 }
 
 // All words of a spot's parameters with a suffix.
-fn words_at(alloc: Global, spot: &Spot, suffix: Suffix, entries: &[Entry]) -> Mem<TextList>
+fn words_at<'a>(
+    alloc: Global,
+    spot: &Spot,
+    suffix: Suffix,
+    entries: &[Entry<'a>],
+) -> Mem<WordList<'a>>
     ensures { IfOk result (λ words. words ≡ spec.words_at spot.now suffix entries.now) }
 {
-    let mut words = TextList::new(alloc);
+    let mut words = WordList::new(alloc);
     for entry in entries {
         if is_at(spot, suffix, entry) {
-            words.push(TextBuf::of(alloc, entry.word)?)?;
+            words.push(entry.word)?;
         }
     }
     Ok(words)
@@ -80,20 +81,20 @@ fn is_true(word: Option<&str>) -> bool
     }
 }
 
-fn full_words(alloc: Global, words: &TextList) -> Mem<TextList>
+fn full_words<'a>(alloc: Global, words: &WordList<'a>) -> Mem<WordList<'a>>
     ensures { IfOk result (λ l. l ≡ spec.without_blanks true words.now) }
 {
-    let mut full = TextList::new(alloc);
+    let mut full = WordList::new(alloc);
     for word in words.as_slice() {
-        if !word.text().is_empty() {
-            full.push(word.duplicate(alloc)?)?;
+        if !word.is_empty() {
+            full.push(word)?;
         }
     }
     Ok(full)
 }
 
-fn without_blanks(alloc: Global, ignores: bool, words: TextList) -> Mem<TextList>
-    ensures { IfOk result (λ l. l ≡ spec.without_blanks ignores words) }
+fn without_blanks<'a>(alloc: Global, ignores: bool, words: WordList<'a>) -> Mem<WordList<'a>>
+    ensures { IfOk result (λ l. l ≡ spec.without_blanks ignores words.entry) }
 {
     if ignores {
         full_words(alloc, &words)
@@ -102,17 +103,17 @@ fn without_blanks(alloc: Global, ignores: bool, words: TextList) -> Mem<TextList
     }
 }
 
-fn is_one_blank(words: &TextList) -> bool
+fn is_one_blank(words: &WordList) -> bool
     ensures { result ≡ spec.is_one_blank words.now }
 {
-    match words.as_slice() {
-        [word] => word.text().is_empty(),
-        _ => false,
+    match words.lone() {
+        Some(word) => word.is_empty(),
+        None => false,
     }
 }
 
-fn defaulted(defaults: TextList, words: TextList) -> TextList
-    ensures { result ≡ spec.defaulted defaults words }
+fn defaulted<'a>(defaults: WordList<'a>, words: WordList<'a>) -> WordList<'a>
+    ensures { result ≡ spec.defaulted defaults.entry words.entry }
 {
     if !defaults.is_empty() && is_one_blank(&words) {
         defaults
@@ -122,12 +123,12 @@ fn defaulted(defaults: TextList, words: TextList) -> TextList
 }
 
 // Its own words, or those of the parameter that `@ValueFrom` names.
-fn given(
+fn given<'a>(
     alloc: Global,
-    pairs: &[(TextBuf, TextBuf)],
+    pairs: &'a [(TextBuf, TextBuf)],
     spot: &Spot,
-    entries: &[Entry],
-) -> Mem<TextList>
+    entries: &[Entry<'a>],
+) -> Mem<WordList<'a>>
     ensures { IfOk result (λ l. l ≡ spec.given (spec.first_entry_text (spec.words_at spot.now Suffix.ValueFrom entries.now)) pairs.now (spec.words_at spot.now Suffix.Plain entries.now)) }
 {
     match first_at(spot, Suffix::ValueFrom, entries) {
@@ -137,12 +138,12 @@ fn given(
 }
 
 // The words that a spot is set to.
-fn set_words(
+fn set_words<'a>(
     alloc: Global,
-    pairs: &[(TextBuf, TextBuf)],
-    entries: &[Entry],
+    pairs: &'a [(TextBuf, TextBuf)],
+    entries: &[Entry<'a>],
     spot: &Spot,
-) -> Mem<TextList>
+) -> Mem<WordList<'a>>
     ensures { IfOk result (λ l. l ≡ spec.set_words pairs.now entries.now spot.now) }
 {
     let words = given(alloc, pairs, spot, entries)?;
@@ -161,12 +162,12 @@ fn hint_at(spot: &Spot, entries: &[Entry]) -> Option<Hint>
     }
 }
 
-fn set_of(
+fn set_of<'a>(
     alloc: Global,
-    pairs: &[(TextBuf, TextBuf)],
-    entries: &[Entry],
+    pairs: &'a [(TextBuf, TextBuf)],
+    entries: &[Entry<'a>],
     spot: &Spot,
-) -> Mem<Option<PropSet>>
+) -> Mem<Option<PropSet<'a>>>
     ensures { IfOk result (λ o. o ≡ spec.set_of pairs.now entries.now spot.now) }
 {
     let words = set_words(alloc, pairs, entries, spot)?;
@@ -187,13 +188,13 @@ fn names_any(spot: &Spot, entries: &[Entry]) -> bool
 }
 
 // What an entry sets, where those before it don't name its spot.
-fn set_here(
+fn set_here<'a>(
     alloc: Global,
-    pairs: &[(TextBuf, TextBuf)],
-    entries: &[Entry],
+    pairs: &'a [(TextBuf, TextBuf)],
+    entries: &[Entry<'a>],
     before: &[Entry],
     entry: &Entry,
-) -> Mem<Option<PropSet>>
+) -> Mem<Option<PropSet<'a>>>
     ensures { IfOk result (λ o. o ≡ spec.set_here pairs.now entries.now before.now entry.now) }
 {
     if names_any(&entry.spot, before) {
@@ -202,19 +203,8 @@ fn set_here(
     set_of(alloc, pairs, entries, &entry.spot)
 }
 
-// The bytes of the words that are set.
-fn bytes_of(set: &Option<PropSet>) -> usize {
-    let mut bytes = 0usize;
-    if let Some(set) = set {
-        for word in set.words.as_slice() {
-            bytes = bytes.saturating_add(word.text().len());
-        }
-    }
-    bytes
-}
-
-fn add(list: &mut SetList, set: Option<PropSet>) -> Mem<()>
-    ensures { OnOk result (list.new ≡ list.old ++ cons_option set []) }
+fn add<'a>(list: &mut SetList<'a>, set: Option<PropSet<'a>>) -> Mem<()>
+    ensures { OnOk result (list.new ≡ list.old ++ cons_option set.entry []) }
 {
     match set {
         Some(set) => list.push(set),
@@ -222,19 +212,18 @@ fn add(list: &mut SetList, set: Option<PropSet>) -> Mem<()>
     }
 }
 
-/// The properties that are set, each at the place of the first parameter that names it. Words of too many bytes are out of memory.
+/// The properties that are set, each at the place of the first parameter that names it.
 #[tactic(auto, using(crate::proofs::SetLemmas::turn, crate::proofs::SetLemmas::done))]
-pub fn sets(alloc: Global, pairs: &[(TextBuf, TextBuf)], entries: &[Entry]) -> Mem<SetList>
+pub fn sets<'a>(
+    alloc: Global,
+    pairs: &'a [(TextBuf, TextBuf)],
+    entries: &[Entry<'a>],
+) -> Mem<SetList<'a>>
     ensures { IfOk result (λ l. l ≡ spec.sets pairs.now entries.now) }
 {
     let mut list = SetList::new(alloc);
-    let mut bytes = 0usize;
     for n in 0..entries.len() {
         let set = set_here(alloc, pairs, entries, &entries[..n], &entries[n])?;
-        bytes = bytes.saturating_add(bytes_of(&set));
-        if bytes > MOST_BYTES {
-            return Err(NoMemory);
-        }
         add(&mut list, set)?;
     }
     Ok(list)

@@ -2,7 +2,8 @@
 ghost use Rattle.std.specs.Prelude.{◌≡◌, IfOk, option_copied};
 ghost use Rattle.post_plan.specs.Parameters as spec;
 
-use sp_base::{Mem, TextBuf, TextList};
+use crate::WordList;
+use sp_base::{Mem, TextBuf};
 use std::alloc::Global;
 
 /// The word of the first parameter of this name.
@@ -59,13 +60,13 @@ pub fn is_content(marked: bool, name: &str) -> bool
 }
 
 /// All words of the parameters of this name.
-pub fn words_of(alloc: Global, name: &str, pairs: &[(TextBuf, TextBuf)]) -> Mem<TextList>
+pub fn words_of<'a>(alloc: Global, name: &str, pairs: &'a [(TextBuf, TextBuf)]) -> Mem<WordList<'a>>
     ensures { IfOk result (λ words. words ≡ spec.words_of name.now pairs.now) }
 {
-    let mut words = TextList::new(alloc);
+    let mut words = WordList::new(alloc);
     for (named, word) in pairs {
         if named.text() == name {
-            words.push(word.duplicate(alloc)?)?;
+            words.push(word.text())?;
         }
     }
     Ok(words)

@@ -7,10 +7,11 @@ use Rattle.sp_base.specs.declared.answer.Answer.{Answer}
 use Rattle.http_front.specs.Answers.{fixed_507}
 use Rattle.connections.specs.declared.place.Place.{Place}
 use Rattle.connections.specs.declared.sending.Sending.{Sending}
-use Rattle.connections.specs.Slots.{Slot, MayAnswer, is_answered, is_fixed}
+use Rattle.connections.specs.declared.place.Reply.{Reply}
+use Rattle.connections.specs.Slots.{Says, Slot, MayAnswer, is_answered, is_fixed}
 use Rattle.connections.specs.Connections.{Connection, Close, Send, due, due_at_slot, due_unsent, filled, with_landing, with_sent, with_slot}
 use Rattle.connections.specs.Histories.{IsDueSending}
-use Rattle.connections.specs.Ties.{AllAnswered, AllTied, IsLeft, IsSendingOf, PlaceTied, front_has_reply, has_reply}
+use Rattle.connections.specs.Ties.{AllAnswered, AllTied, IsLeft, IsSendingOf, PlaceTied, ReplyTied, front_has_reply, has_reply}
 use Rattle.connections.proofs.PlaceLemmas.{answered-tied, filled-past, filled_places, length-filled, tied-filled, tied-head, tied-none, tied-push, written-tied}
 
 -- ---- lists
@@ -74,6 +75,11 @@ may-answer sending place slot spare fixed is tied has =
     (λ e. inr (e.0, e.1 ∙ fixed))
     is
 
+-- where memory is wanting the fixed 507 is sent
+pub dry-fixed : {places : List Place} {closing over : Bool} {spare : List ℕ} (c : Connection) (place : Place) (sending : Sending) → IsLeft places closing over spare c → over ≡ false → IsSendingOf place spare sending → sending.dry ≡ true → sending.bytes ≡ fixed_507
+dry-fixed c place sending left going (inl own) dry = absurd (let calm : sending.dry ≡ false = own.0 in let no : ⊥ = cc in no)
+dry-fixed c place sending left going (inr fixed) dry = fixed.1 ∙ left.spare_is going
+
 pub due-answered : (c : Connection) (slot : Slot) → c.over ≡ false → slice_get c.slots c.sent ≡ Some slot → is_answered slot.response ≡ true → due c ≡ Send slot
 due-answered c slot going at has = rw (going, at, has) refl
 
@@ -122,8 +128,8 @@ held-waits {places} c left = by_places places left.unsent
         due-by c (Some first.0) cut.0 (rw waits refl)
 
 -- ---- a flight has landed
-pub filled-left : {places : List Place} {closing over : Bool} {spare : List ℕ} (c : Connection) (n : ℕ) (a : Answer) → IsLeft places closing over spare c → IsLeft (filled_places n a places) closing over spare (with_landing n a c)
-filled-left {places} c n a left =
+pub filled-left : {places : List Place} {closing over : Bool} {spare : List ℕ} (c : Connection) (n : ℕ) (r : Reply) (a : Answer) → ReplyTied r (Says a) → IsLeft places closing over spare c → IsLeft (filled_places n r places) closing over spare (with_landing n a c)
+filled-left {places} c n r a says left =
     let within = left.within in
     let whole : take c.sent c.slots ++ drop c.sent c.slots ≡ c.slots = grind (arith, common_steps) in
     let split : filled n a c.slots ≡ take c.sent c.slots ++ filled n a (drop c.sent c.slots) =
@@ -131,7 +137,7 @@ filled-left {places} c n a left =
     let size : length (take c.sent c.slots) ≡ c.sent = grind (arith, common_steps) in
     let cut = take-exact (take c.sent c.slots) (filled n a (drop c.sent c.slots)) c.sent size in
     record {
-      unsent = rw (split, cut.1) (tied-filled n a places (drop c.sent c.slots) left.unsent);
+      unsent = rw (split, cut.1) (tied-filled n r a places (drop c.sent c.slots) says left.unsent);
       within = omega (arith, length-filled n a c.slots);
       past = rw (split, cut.0) left.past;
       closing_is = left.closing_is;

@@ -5,9 +5,11 @@ use Rattle.std.specs.List.{count_by}
 use Rattle.std.proofs.lemmas.List.Sums.{sum_by-cons}
 use Rattle.std.proofs.lemmas.List.Quantifiers.{position-Some}
 use Rattle.sp_base.specs.declared.answer.Answer.{Answer}
+use Rattle.error_answers.specs.Errors.{error_answer}
+use Rattle.http_front.specs.Answers.{answer_bytes}
 use Rattle.connections.specs.declared.place.Place.{Place}
 use Rattle.connections.specs.declared.place.Reply.{Reply}
-use Rattle.connections.specs.declared.place.Reply.TheVariants.{Interim, Fixed, Awaits, Says}
+use Rattle.connections.specs.declared.place.Reply.TheVariants.{Interim, Fixed, Own, Awaits, Says}
 use Rattle.connections.specs.Slots.{Slot, Response, IsWritten, is_answered, is_awaiting, is_final}
 use Rattle.connections.specs.Slots as model
 use Rattle.connections.specs.Connections.{filled}
@@ -17,6 +19,7 @@ use Rattle.connections.specs.Ties.{ReplyTied, PlaceTied, AllTied, AllAnswered, h
 pub answered-tied : (r : Reply) (t : Response) → ReplyTied r t → is_answered t ≡ has_reply r
 answered-tied Interim model.Interim tied = refl
 answered-tied Fixed model.Fixed tied = refl
+answered-tied (Own status) (model.Says b) tied = refl
 answered-tied (Awaits m) (model.Awaits n) tied = refl
 answered-tied (Says a) (model.Says b) tied = refl
 answered-tied r t tied = absurd tied
@@ -24,6 +27,7 @@ answered-tied r t tied = absurd tied
 pub awaiting-tied : (n : ℕ) (r : Reply) (t : Response) → ReplyTied r t → is_awaiting n t ≡ awaits n r
 awaiting-tied n Interim model.Interim tied = refl
 awaiting-tied n Fixed model.Fixed tied = refl
+awaiting-tied n (Own status) (model.Says b) tied = refl
 awaiting-tied n (Awaits m) (model.Awaits k) tied = ap (λ x. nat_eq x n) (sym tied)
 awaiting-tied n (Says a) (model.Says b) tied = refl
 awaiting-tied n r t tied = absurd tied
@@ -31,6 +35,7 @@ awaiting-tied n r t tied = absurd tied
 pub final-tied : (r : Reply) (t : Response) → ReplyTied r t → is_final t ≡ is_final_reply r
 final-tied Interim model.Interim tied = refl
 final-tied Fixed model.Fixed tied = refl
+final-tied (Own status) (model.Says b) tied = refl
 final-tied (Awaits m) (model.Awaits n) tied = refl
 final-tied (Says a) (model.Says b) tied = refl
 final-tied r t tied = absurd tied
@@ -39,6 +44,7 @@ written-by : (head_only closes : Bool) (r : Reply) (slot : Slot) (t : Response) 
     → IsWritten slot t bytes
 written-by h c Interim slot model.Interim bytes eh ec tied has is = is
 written-by h c Fixed slot model.Fixed bytes eh ec tied has is = is
+written-by h c (Own status) slot (model.Says b) bytes eh ec tied has is = rw (is, eh, ec, tied) refl
 written-by h c (Awaits m) slot (model.Awaits n) bytes eh ec tied has is = absurd (let no : ⊥ = cc in no)
 written-by h c (Says a) slot (model.Says b) bytes eh ec tied has is = rw (is, eh, ec, tied) refl
 written-by h c r slot t bytes eh ec tied has is = absurd tied
@@ -74,20 +80,20 @@ count-tied (x ∷ xs) (y ∷ ys) all =
 
 -- ---- landings
 -- the first place that awaits the flight has its reply
-abbrev pub filled_places : ℕ → Answer → List Place → List Place
-filled_places n a [] = []
-filled_places n a (x ∷ xs) = cond (awaits n x.reply) (record x { reply = Says a } ∷ xs) (x ∷ filled_places n a xs)
+abbrev pub filled_places : ℕ → Reply → List Place → List Place
+filled_places n r [] = []
+filled_places n r (x ∷ xs) = cond (awaits n x.reply) (record x { reply = r } ∷ xs) (x ∷ filled_places n r xs)
 
-pub tied-filled : (n : ℕ) (a : Answer) (xs : List Place) (ys : List Slot) → AllTied xs ys → AllTied (filled_places n a xs) (filled n a ys)
-tied-filled n a [] [] all = tt
-tied-filled n a [] (y ∷ ys) all = absurd all
-tied-filled n a (x ∷ xs) [] all = absurd all
-tied-filled n a (x ∷ xs) (y ∷ ys) all = by_test (awaits n x.reply) refl (tied-filled n a xs ys all.1)
+pub tied-filled : (n : ℕ) (r : Reply) (a : Answer) (xs : List Place) (ys : List Slot) → ReplyTied r (model.Says a) → AllTied xs ys → AllTied (filled_places n r xs) (filled n a ys)
+tied-filled n r a [] [] says all = tt
+tied-filled n r a [] (y ∷ ys) says all = absurd all
+tied-filled n r a (x ∷ xs) [] says all = absurd all
+tied-filled n r a (x ∷ xs) (y ∷ ys) says all = by_test (awaits n x.reply) refl (tied-filled n r a xs ys says all.1)
   where
-    by_test : (t : Bool) → awaits n x.reply ≡ t → AllTied (filled_places n a xs) (filled n a ys) → AllTied (filled_places n a (x ∷ xs)) (filled n a (y ∷ ys))
+    by_test : (t : Bool) → awaits n x.reply ≡ t → AllTied (filled_places n r xs) (filled n a ys) → AllTied (filled_places n r (x ∷ xs)) (filled n a (y ∷ ys))
     by_test true e rest =
         let there : is_awaiting n y.response ≡ true = awaiting-tied n x.reply y.response all.0.replies ∙ e in
-        rw (e, there) (record { head_only_is = all.0.head_only_is; closes_is = all.0.closes_is; replies = refl }, all.1)
+        rw (e, there) (record { head_only_is = all.0.head_only_is; closes_is = all.0.closes_is; replies = says }, all.1)
     by_test false e rest =
         let there : is_awaiting n y.response ≡ false = awaiting-tied n x.reply y.response all.0.replies ∙ e in
         rw (e, there) (all.0, rest)
@@ -112,23 +118,23 @@ length-filled n a (x ∷ xs) = by_test (is_awaiting n x.response) refl (length-f
     by_test false e rest = rw e (ap suc rest)
 
 -- ---- the place that awaits a flight
-filled-at : (n : ℕ) (a : Answer) (xs : List Place) (i : ℕ) (d : Place) → i < length xs → awaits n (get_or xs i d).reply ≡ true → ((k : ℕ) → k < i → awaits n (get_or xs k d).reply ≡ false)
-    → filled_places n a xs ≡ slice_set xs i (record (get_or xs i d) { reply = Says a })
-filled-at n a [] i d within here before = absurd (omega arith)
-filled-at n a (x ∷ xs) zero d within here before = rw here refl
-filled-at n a (x ∷ xs) (suc i) d within here before =
+filled-at : (n : ℕ) (r : Reply) (xs : List Place) (i : ℕ) (d : Place) → i < length xs → awaits n (get_or xs i d).reply ≡ true → ((k : ℕ) → k < i → awaits n (get_or xs k d).reply ≡ false)
+    → filled_places n r xs ≡ slice_set xs i (record (get_or xs i d) { reply = r })
+filled-at n r [] i d within here before = absurd (omega arith)
+filled-at n r (x ∷ xs) zero d within here before = rw here refl
+filled-at n r (x ∷ xs) (suc i) d within here before =
     let other : awaits n x.reply ≡ false = before 0 (omega arith) in
-    rw other (ap (λ zs. x ∷ zs) (filled-at n a xs i d (omega arith) here (λ k h. before (suc k) (omega arith))))
+    rw other (ap (λ zs. x ∷ zs) (filled-at n r xs i d (omega arith) here (λ k h. before (suc k) (omega arith))))
 
-pub filled-some : (n : ℕ) (a : Answer) (xs : List Place) (i : ℕ) (x : Place) → Some i ≡ position (λ place. awaits n place.reply) xs → x ≡ get_or xs i x → filled_places n a xs ≡ slice_set xs i (record x { reply = Says a })
-filled-some n a xs i x found is =
+pub filled-some : (n : ℕ) (r : Reply) (xs : List Place) (i : ℕ) (x : Place) → Some i ≡ position (λ place. awaits n place.reply) xs → x ≡ get_or xs i x → filled_places n r xs ≡ slice_set xs i (record x { reply = r })
+filled-some n r xs i x found is =
     let at = position-Some (λ place. awaits n place.reply) xs i x (sym found) in
-    filled-at n a xs i x at.0 at.1 at.2 ∙ ap (λ (y : Place). slice_set xs i (record y { reply = Says a })) (sym is)
+    filled-at n r xs i x at.0 at.1 at.2 ∙ ap (λ (y : Place). slice_set xs i (record y { reply = r })) (sym is)
 
-pub filled-none : (n : ℕ) (a : Answer) (xs : List Place) → position (λ place. awaits n place.reply) xs ≡ None → filled_places n a xs ≡ xs
-filled-none n a [] e = refl
-filled-none n a (x ∷ xs) e = by_test (awaits n x.reply) refl (filled-none n a xs)
+pub filled-none : (n : ℕ) (r : Reply) (xs : List Place) → position (λ place. awaits n place.reply) xs ≡ None → filled_places n r xs ≡ xs
+filled-none n r [] e = refl
+filled-none n r (x ∷ xs) e = by_test (awaits n x.reply) refl (filled-none n r xs)
   where
-    by_test : (t : Bool) → awaits n x.reply ≡ t → (position (λ place. awaits n place.reply) xs ≡ None → filled_places n a xs ≡ xs) → filled_places n a (x ∷ xs) ≡ x ∷ xs
+    by_test : (t : Bool) → awaits n x.reply ≡ t → (position (λ place. awaits n place.reply) xs ≡ None → filled_places n r xs ≡ xs) → filled_places n r (x ∷ xs) ≡ x ∷ xs
     by_test true same rest = absurd (grind (arith, same, e))
     by_test false other rest = rw other (ap (λ zs. x ∷ zs) (rest (grind (arith, other, e))))

@@ -1,14 +1,16 @@
 -- The slots of a connection are those of its turns.
 use Rattle.std.proofs.Common.{◌≡◌, ℕ, Bool, true, false, cond, List, [], ◌∷◌, ◌++◌, length, Option, Some, None, refl, ap, sym, ◌∙◌}
-use Rattle.std.specs.Prelude.{slice_get}
+use Rattle.std.specs.Prelude.{◌==◌, if◌then◌else◌, slice_get}
 use Rattle.sp_base.specs.declared.answer.Answer.{Answer}
+use Rattle.error_answers.specs.Errors.{error_answer}
+use Rattle.http_front.specs.Faults.{fault_status}
 use Rattle.http_front.specs.Turns.{End, Waits, Breaks}
 use Rattle.http_front.specs.declared.fault.InFault.{InFault}
 use Rattle.http_front.specs.declared.turn.Turn.{Turn}
 use Rattle.http_front.specs.declared.turn.Turn.TheVariants.{Continue, Whole}
-use Rattle.connections.specs.Slots.{Says, Slot, interim_slot, is_answered, is_awaiting}
+use Rattle.connections.specs.Slots.{Fixed, Says, Slot, interim_slot, is_answered, is_awaiting, local_response}
 use Rattle.connections.specs.Connections.{Close, Connection, Due, Nothing, Refuse, Send, Treat, advanced, after_turn, due, due_at_slot, due_at_turn, due_unsent, fed, filled, fresh, next_turn, with_answer, with_landing, with_sent, with_slot}
-use Rattle.connections.specs.Histories.{AreOfTurns, Follows, IsEndOr, IsOfFault, IsOfTurn, IsSlotOf, Landing, Move, Piece, Sent, Shut, Treatment, after_all}
+use Rattle.connections.specs.Histories.{AreOfTurns, Follows, IsEndOr, IsOfEnd, IsOfFault, IsOfTurn, IsSlotOf, Landing, Move, Piece, Sent, Shut, Treatment, after_all}
 
 -- the slots are those of turns, and none closes the connection
 abbrev Open : List Turn → List Slot → Type 0
@@ -16,27 +18,27 @@ Open turns [] = Unit {0}
 Open [] (slot ∷ slots) = ⊥
 Open (turn ∷ turns) (slot ∷ slots) = IsOfTurn turn slot × (slot.closes ≡ false) × Open turns slots
 
-end-or-push : (b : Bool) (turns : List Turn) (slots : List Slot) → slots ≡ [] → AreOfTurns turns slots → IsEndOr b slots (AreOfTurns turns slots)
-end-or-push true turns slots none all = none
-end-or-push false turns slots none all = all
+end-or-push : (b : Bool) (turns : List Turn) (ends : End) (slots : List Slot) → slots ≡ [] → AreOfTurns turns ends slots → IsEndOr b slots (AreOfTurns turns ends slots)
+end-or-push true turns ends slots none all = none
+end-or-push false turns ends slots none all = all
 
 end-or-open : (b : Bool) (slots : List Slot) (P : Type 0) → b ≡ false → P → IsEndOr b slots P
 end-or-open true slots P e p = absurd (let no : ⊥ = cc in no)
 end-or-open false slots P e p = p
 
-open-are : (turns : List Turn) (slots : List Slot) → Open turns slots → AreOfTurns turns slots
-open-are turns [] open_ = tt
-open-are [] (s ∷ slots) open_ = absurd open_
-open-are (t ∷ turns) (s ∷ slots) open_ = (open_.0, end-or-open s.closes slots _ open_.1 (open-are turns slots open_.2))
+open-are : (turns : List Turn) (ends : End) (slots : List Slot) → Open turns slots → AreOfTurns turns ends slots
+open-are turns ends [] open_ = tt
+open-are [] ends (s ∷ slots) open_ = absurd open_
+open-are (t ∷ turns) ends (s ∷ slots) open_ = (open_.0, end-or-open s.closes slots _ open_.1 (open-are turns ends slots open_.2))
 
 -- ---- a turn or a fault gets its slot
-push-turn : (turns : List Turn) (slots : List Slot) (t : Turn) (s : Slot) → Open turns slots → slice_get turns (length slots) ≡ Some t → IsOfTurn t s → AreOfTurns turns (slots ++ s ∷ [])
-push-turn [] [] t s open_ at is = absurd (let no : ⊥ = cc in no)
-push-turn (u ∷ turns) [] t s open_ at is =
+push-turn : (turns : List Turn) (ends : End) (slots : List Slot) (t : Turn) (s : Slot) → Open turns slots → slice_get turns (length slots) ≡ Some t → IsOfTurn t s → AreOfTurns turns ends (slots ++ s ∷ [])
+push-turn [] ends [] t s open_ at is = absurd (let no : ⊥ = cc in no)
+push-turn (u ∷ turns) ends [] t s open_ at is =
     let same : u ≡ t = cc in
-    (rw same is, end-or-push s.closes turns [] refl tt)
-push-turn [] (r ∷ slots) t s open_ at is = absurd open_
-push-turn (u ∷ turns) (r ∷ slots) t s open_ at is = (open_.0, end-or-open r.closes (slots ++ s ∷ []) _ open_.1 (push-turn turns slots t s open_.2 at is))
+    (rw same is, end-or-push s.closes turns ends [] refl tt)
+push-turn [] ends (r ∷ slots) t s open_ at is = absurd open_
+push-turn (u ∷ turns) ends (r ∷ slots) t s open_ at is = (open_.0, end-or-open r.closes (slots ++ s ∷ []) _ open_.1 (push-turn turns ends slots t s open_.2 at is))
 
 open-turn : (turns : List Turn) (slots : List Slot) (t : Turn) (s : Slot) → Open turns slots → slice_get turns (length slots) ≡ Some t → IsOfTurn t s → s.closes ≡ false → Open turns (slots ++ s ∷ [])
 open-turn [] [] t s open_ at is stays = absurd (let no : ⊥ = cc in no)
@@ -46,11 +48,11 @@ open-turn (u ∷ turns) [] t s open_ at is stays =
 open-turn [] (r ∷ slots) t s open_ at is stays = absurd open_
 open-turn (u ∷ turns) (r ∷ slots) t s open_ at is stays = (open_.0, open_.1, open-turn turns slots t s open_.2 at is stays)
 
-push-fault : (turns : List Turn) (slots : List Slot) (s : Slot) → Open turns slots → slice_get turns (length slots) ≡ None → IsOfFault s → AreOfTurns turns (slots ++ s ∷ [])
-push-fault [] [] s open_ at is = (is, refl)
-push-fault (u ∷ turns) [] s open_ at is = absurd (let no : ⊥ = cc in no)
-push-fault [] (r ∷ slots) s open_ at is = absurd open_
-push-fault (u ∷ turns) (r ∷ slots) s open_ at is = (open_.0, end-or-open r.closes (slots ++ s ∷ []) _ open_.1 (push-fault turns slots s open_.2 at is))
+push-fault : (turns : List Turn) (ends : End) (slots : List Slot) (s : Slot) → Open turns slots → slice_get turns (length slots) ≡ None → IsOfEnd ends s → AreOfTurns turns ends (slots ++ s ∷ [])
+push-fault [] ends [] s open_ at is = (is, refl)
+push-fault (u ∷ turns) ends [] s open_ at is = absurd (let no : ⊥ = cc in no)
+push-fault [] ends (r ∷ slots) s open_ at is = absurd open_
+push-fault (u ∷ turns) ends (r ∷ slots) s open_ at is = (open_.0, end-or-open r.closes (slots ++ s ∷ []) _ open_.1 (push-fault turns ends slots s open_.2 at is))
 
 open-more : (turns more : List Turn) (slots : List Slot) → Open turns slots → Open (turns ++ more) slots
 open-more turns more [] open_ = tt
@@ -62,8 +64,17 @@ of-turn-filled : (n : ℕ) (a : Answer) (t : Turn) (s : Slot) → is_awaiting n 
 of-turn-filled n a Continue s awaits is = absurd (let no : false ≡ true = ap (λ (r : Slot). is_awaiting n r.response) (sym is) ∙ awaits in let none : ⊥ = cc in none)
 of-turn-filled n a (Whole request) s awaits is = (is.0, Says a, ap (with_answer a) is.2)
 
-of-fault-filled : (a : Answer) (s : Slot) → IsOfFault s → IsOfFault (with_answer a s)
-of-fault-filled a s is = (Says a, ap (with_answer a) is.1)
+-- the slot of a fault awaits no flight
+local-waits : (n status : ℕ) → is_awaiting n (local_response status) ≡ false
+local-waits n status = by_test (status == 507)
+  where
+    by_test : (b : Bool) → is_awaiting n (if b then Fixed else Says (error_answer status)) ≡ false
+    by_test true = refl
+    by_test false = refl
+
+end-waits : (n : ℕ) (ends : End) (s : Slot) → IsOfEnd ends s → is_awaiting n s.response ≡ false
+end-waits n Waits s is = absurd is
+end-waits n (Breaks fault) s is = ap (λ (r : Slot). is_awaiting n r.response) is ∙ local-waits n (fault_status fault)
 
 filled-none : (n : ℕ) (a : Answer) (slots : List Slot) → slots ≡ [] → filled n a slots ≡ []
 filled-none n a slots e = rw e refl
@@ -72,16 +83,16 @@ end-or-map : (b : Bool) (slots others : List Slot) (P Q : Type 0) → IsEndOr b 
 end-or-map true slots others P Q here none next = none here
 end-or-map false slots others P Q here none next = next here
 
-filled-are : (n : ℕ) (a : Answer) (turns : List Turn) (slots : List Slot) → AreOfTurns turns slots → AreOfTurns turns (filled n a slots)
-filled-are n a turns [] all = tt
-filled-are n a [] (s ∷ slots) all = by_test (is_awaiting n s.response) refl
+filled-are : (n : ℕ) (a : Answer) (turns : List Turn) (ends : End) (slots : List Slot) → AreOfTurns turns ends slots → AreOfTurns turns ends (filled n a slots)
+filled-are n a turns ends [] all = tt
+filled-are n a [] ends (s ∷ slots) all = by_test (is_awaiting n s.response) refl
   where
-    by_test : (t : Bool) → is_awaiting n s.response ≡ t → AreOfTurns [] (cond (is_awaiting n s.response) (with_answer a s ∷ slots) (s ∷ filled n a slots))
-    by_test true e = rw e (of-fault-filled a s all.0, all.1)
+    by_test : (t : Bool) → is_awaiting n s.response ≡ t → AreOfTurns [] ends (cond (is_awaiting n s.response) (with_answer a s ∷ slots) (s ∷ filled n a slots))
+    by_test true e = absurd (let waits : is_awaiting n s.response ≡ false = end-waits n ends s all.0 in let no : ⊥ = cc in no)
     by_test false e = rw e (all.0, filled-none n a slots all.1)
-filled-are n a (t ∷ turns) (s ∷ slots) all = by_test (is_awaiting n s.response) refl (filled-are n a turns slots)
+filled-are n a (t ∷ turns) ends (s ∷ slots) all = by_test (is_awaiting n s.response) refl (filled-are n a turns ends slots)
   where
-    by_test : (b : Bool) → is_awaiting n s.response ≡ b → (AreOfTurns turns slots → AreOfTurns turns (filled n a slots)) → AreOfTurns (t ∷ turns) (cond (is_awaiting n s.response) (with_answer a s ∷ slots) (s ∷ filled n a slots))
+    by_test : (b : Bool) → is_awaiting n s.response ≡ b → (AreOfTurns turns ends slots → AreOfTurns turns ends (filled n a slots)) → AreOfTurns (t ∷ turns) ends (cond (is_awaiting n s.response) (with_answer a s ∷ slots) (s ∷ filled n a slots))
     by_test true e rest = rw e (of-turn-filled n a t s e all.0, all.1)
     by_test false e rest = rw e (all.0, end-or-map s.closes slots (filled n a slots) _ _ all.1 (filled-none n a slots) rest)
 
@@ -124,7 +135,7 @@ last-filled n a (s ∷ t ∷ slots) last = by_test (is_awaiting n s.response) (l
 
 -- ---- one move
 record Good (c : Connection) : Type 0 where
-  are : AreOfTurns c.turns c.slots
+  are : AreOfTurns c.turns c.ends c.slots
   open_ : c.closing ≡ false → Open c.turns c.slots
   last : c.closing ≡ true → LastCloses c.slots
 
@@ -138,8 +149,9 @@ turn-of None Waits d e turn is = absurd (let no : ⊥ = cc in no)
 turn-of None (Breaks fault) d e turn is = absurd (let no : ⊥ = cc in no)
 turn-of (Some t) ends d e turn is = let same : t ≡ turn = cc in ap (λ x. Some x) same
 
-fault-of : (o : Option Turn) (ends : End) (d : Due) → due_at_turn o ends ≡ d → (fault : InFault) → d ≡ Refuse fault → o ≡ None
-fault-of None ends d e fault is = refl
+fault-of : (o : Option Turn) (ends : End) (d : Due) → due_at_turn o ends ≡ d → (fault : InFault) → d ≡ Refuse fault → (o ≡ None) × (ends ≡ Breaks fault)
+fault-of None Waits d e fault is = absurd (let no : ⊥ = cc in no)
+fault-of None (Breaks other) d e fault is = let same : other ≡ fault = cc in (refl, ap (λ x. Breaks x) same)
 fault-of (Some t) ends d e fault is = absurd (let no : ⊥ = cc in no)
 
 -- what is due is an answer, the end, nothing, or what is due of the turns
@@ -151,13 +163,18 @@ unsent-turn c turn e = by_over c.over c.closing refl e
     by_over false true is e = absurd (let no : ⊥ = cc in no)
     by_over false false is e = record { going = is; next = turn-of (next_turn c) c.ends _ refl turn e }
 
-unsent-fault : (c : Connection) (fault : InFault) → due_unsent c ≡ Refuse fault → OfTurn c None
+-- the stream ends by this fault, which is due
+record OfFault (c : Connection) (fault : InFault) : Type 0 where
+  turn : OfTurn c None
+  ends : c.ends ≡ Breaks fault
+
+unsent-fault : (c : Connection) (fault : InFault) → due_unsent c ≡ Refuse fault → OfFault c fault
 unsent-fault c fault e = by_over c.over c.closing refl e
   where
-    by_over : (over closing : Bool) → c.closing ≡ closing → cond over Close (cond closing Nothing (due_at_turn (next_turn c) c.ends)) ≡ Refuse fault → OfTurn c None
+    by_over : (over closing : Bool) → c.closing ≡ closing → cond over Close (cond closing Nothing (due_at_turn (next_turn c) c.ends)) ≡ Refuse fault → OfFault c fault
     by_over true closing is e = absurd (let no : ⊥ = cc in no)
     by_over false true is e = absurd (let no : ⊥ = cc in no)
-    by_over false false is e = record { going = is; next = fault-of (next_turn c) c.ends _ refl fault e }
+    by_over false false is e = let at = fault-of (next_turn c) c.ends _ refl fault e in record { turn = record { going = is; next = at.0 }; ends = at.1 }
 
 slot-turn : (c : Connection) (o : Option Slot) (turn : Turn) → due_at_slot o c ≡ Treat turn → due_unsent c ≡ Treat turn
 slot-turn c None turn e = e
@@ -182,10 +199,10 @@ due-turn c turn e = by_over c.over e
     by_over true e = absurd (let no : ⊥ = cc in no)
     by_over false e = unsent-turn c turn (slot-turn c (slice_get c.slots c.sent) turn e)
 
-due-fault : (c : Connection) (fault : InFault) → due c ≡ Refuse fault → OfTurn c None
+due-fault : (c : Connection) (fault : InFault) → due c ≡ Refuse fault → OfFault c fault
 due-fault c fault e = by_over c.over e
   where
-    by_over : (b : Bool) → cond b Close (due_at_slot (slice_get c.slots c.sent) c) ≡ Refuse fault → OfTurn c None
+    by_over : (b : Bool) → cond b Close (due_at_slot (slice_get c.slots c.sent) c) ≡ Refuse fault → OfFault c fault
     by_over true e = absurd (let no : ⊥ = cc in no)
     by_over false e = unsent-fault c fault (slot-fault c (slice_get c.slots c.sent) fault e)
 
@@ -193,19 +210,20 @@ good-turn : (c : Connection) (t : Turn) (s : Slot) → Good c → OfTurn c (Some
 good-turn c t s good of is =
     let open_ = good.open_ of.going in
     record {
-      are = push-turn c.turns c.slots t s open_ of.next is;
+      are = push-turn c.turns c.ends c.slots t s open_ of.next is;
       open_ = λ e. let stays : s.closes ≡ false = rw of.going at e in open-turn c.turns c.slots t s open_ of.next is stays;
       last = λ e. let closes : s.closes ≡ true = rw of.going at e in last-push c.slots s closes;
     }
 
-good-fault : (c : Connection) (s : Slot) → Good c → OfTurn c None → IsOfFault s → Good (with_slot s c)
-good-fault c s good of is =
+good-fault : (c : Connection) (fault : InFault) (s : Slot) → Good c → OfFault c fault → IsOfFault fault s → Good (with_slot s c)
+good-fault c fault s good at is =
+    let of = at.turn in
     let open_ = good.open_ of.going in
     record {
-      are = push-fault c.turns c.slots s open_ of.next is;
+      are = push-fault c.turns c.ends c.slots s open_ of.next (rw at.ends is);
       open_ = λ e.
           let stays : s.closes ≡ false = rw of.going at e in
-          let closes : s.closes ≡ true = ap (λ (r : Slot). r.closes) is.1 in
+          let closes : s.closes ≡ true = ap (λ (r : Slot). r.closes) is in
           absurd (let no : ⊥ = cc in no);
       last = λ e. let closes : s.closes ≡ true = rw of.going at e in last-push c.slots s closes;
     }
@@ -217,7 +235,7 @@ good-treatment c s good is = by_due (due c) refl is
     by_due (Send slot) e is = absurd is
     by_due (Treat Continue) e is = absurd is
     by_due (Treat (Whole request)) e is = good-turn c (Whole request) s good (due-turn c (Whole request) e) is
-    by_due (Refuse fault) e is = good-fault c s good (due-fault c fault e) is
+    by_due (Refuse fault) e is = good-fault c fault s good (due-fault c fault e) is
     by_due Close e is = absurd is
     by_due Nothing e is = absurd is
 
@@ -236,13 +254,13 @@ good-advanced c good = good-where c.closing c (after_turn (next_turn c) c) good 
 good-more : (c : Connection) (bytes : List ℕ) (turns : List Turn) (ends : End) → Good c → c.closing ≡ false → Good (record c { stream = c.stream ++ bytes; turns = c.turns ++ turns; ends = ends })
 good-more c bytes turns ends good going =
     let open_ = open-more c.turns turns c.slots (good.open_ going) in
-    record { are = open-are (c.turns ++ turns) c.slots open_; open_ = λ e. open_; last = good.last }
+    record { are = open-are (c.turns ++ turns) ends c.slots open_; open_ = λ e. open_; last = good.last }
 
 good-fed : (c : Connection) (bytes : List ℕ) (turns : List Turn) (ends : End) → Good c → Good (fed bytes turns ends c)
 good-fed c bytes turns ends good = good-where c.closing c (advanced (record c { stream = c.stream ++ bytes; turns = c.turns ++ turns; ends = ends })) good (λ going. good-advanced _ (good-more c bytes turns ends good going))
 
 good-landing : (c : Connection) (n : ℕ) (a : Answer) → Good c → Good (with_landing n a c)
-good-landing c n a good = record { are = filled-are n a c.turns c.slots good.are; open_ = λ e. filled-open n a c.turns c.slots (good.open_ e); last = λ e. last-filled n a c.slots (good.last e) }
+good-landing c n a good = record { are = filled-are n a c.turns c.ends c.slots good.are; open_ = λ e. filled-open n a c.turns c.slots (good.open_ e); last = λ e. last-filled n a c.slots (good.last e) }
 
 good-all : (c : Connection) (moves : List Move) → Good c → Follows c moves → Good (after_all c moves)
 good-all c [] good follows = good
@@ -255,7 +273,7 @@ good-all c (Shut ∷ moves) good follows = good-all c moves good follows.1
 fresh-good : (peer : List ℕ) → Good (fresh peer)
 fresh-good peer = record { are = tt; open_ = λ e. tt; last = λ e. absurd (let no : ⊥ = cc in no) }
 
-pub of-turns : (peer : List ℕ) (moves : List Move) → Follows (fresh peer) moves → AreOfTurns (after_all (fresh peer) moves).turns (after_all (fresh peer) moves).slots
+pub of-turns : (peer : List ℕ) (moves : List Move) → Follows (fresh peer) moves → AreOfTurns (after_all (fresh peer) moves).turns (after_all (fresh peer) moves).ends (after_all (fresh peer) moves).slots
 of-turns peer moves follows = (good-all (fresh peer) moves (fresh-good peer) follows).are
 
 pub last-of : (peer : List ℕ) (moves : List Move) → Follows (fresh peer) moves → (after_all (fresh peer) moves).closing ≡ true → LastCloses (after_all (fresh peer) moves).slots

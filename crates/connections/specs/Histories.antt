@@ -1,11 +1,13 @@
 -- What may happen to a connection, one thing after another, and what is then sent on it.
 use Rattle.std.specs.Prelude.{◌≡◌, ℕ, Bool, true, false, List, [], ◌∷◌}
 use Rattle.sp_base.specs.declared.answer.Answer.{Answer}
-use Rattle.http_front.specs.Turns.{End}
+use Rattle.http_front.specs.Faults.{fault_status}
+use Rattle.http_front.specs.Turns.{End, Waits, Breaks}
+use Rattle.http_front.specs.declared.fault.InFault.{InFault}
 use Rattle.http_front.specs.declared.turn.Turn.{Turn}
 use Rattle.http_front.specs.declared.turn.Turn.TheVariants.{Continue, Whole}
 use Rattle.connections.specs.declared.sending.Sending.{Sending}
-use Rattle.connections.specs.Slots.{Slot, Response, MayAnswer, is_answered, is_last, request_slot, fault_slot, interim_slot}
+use Rattle.connections.specs.Slots.{Slot, Response, MayAnswer, is_answered, is_last, local_response, request_slot, fault_slot, interim_slot}
 use Rattle.connections.specs.Connections.{Connection, Due, Send, Treat, Refuse, Close, Nothing, due, fed, with_slot, advanced, with_landing, with_sent}
 
 -- What happens to a connection: bytes come, with the turns that they add; a turn or a fault gets its slot; a flight lands; a slot is
@@ -29,16 +31,21 @@ abbrev pub IsOfTurn : Turn → Slot → Type 0
 IsOfTurn Continue slot = slot ≡ interim_slot
 IsOfTurn (Whole request) slot = (closes : Bool) × (response : Response) × (slot ≡ request_slot request closes response)
 
--- the slot is that of a stream's fault
-abbrev pub IsOfFault : Slot → Type 0
-IsOfFault slot = (response : Response) × (slot ≡ fault_slot response)
+-- the slot is that of a stream's fault, which is answered by its status
+abbrev pub IsOfFault : InFault → Slot → Type 0
+IsOfFault fault slot = slot ≡ fault_slot (local_response (fault_status fault))
+
+-- the slot is that of how the turns of a stream end: by a fault, which it is of
+abbrev pub IsOfEnd : End → Slot → Type 0
+IsOfEnd Waits slot = ⊥
+IsOfEnd (Breaks fault) slot = IsOfFault fault slot
 
 -- The slot is one of what is due. (A Continue has its slot without being asked for.)
 abbrev pub IsSlotOf : Due → Slot → Type 0
 IsSlotOf (Send sending) slot = ⊥
 IsSlotOf (Treat Continue) slot = ⊥
 IsSlotOf (Treat (Whole request)) slot = IsOfTurn (Whole request) slot
-IsSlotOf (Refuse fault) slot = IsOfFault slot
+IsSlotOf (Refuse fault) slot = IsOfFault fault slot
 IsSlotOf Close slot = ⊥
 IsSlotOf Nothing slot = ⊥
 
@@ -75,8 +82,8 @@ sendings (Shut ∷ moves) = sendings moves
 
 -- nothing comes after the last, and after another the rest
 abbrev pub IsEndOr : {A : Type 0} → Bool → List A → Type 0 → Type 0
-IsEndOr true connection_after_move Rest = connection_after_move ≡ []
-IsEndOr false connection_after_move Rest = Rest
+IsEndOr true later Rest = later ≡ []
+IsEndOr false later Rest = Rest
 
 -- What was sent answers the slots in their order, each once, up to the first that waits for a flight, and nothing after one that closes
 -- the connection.
@@ -86,8 +93,9 @@ AnswersRun [] (sending ∷ sent) = ⊥
 AnswersRun (slot ∷ slots) [] = is_answered slot.response ≡ false
 AnswersRun (slot ∷ slots) (sending ∷ sent) = MayAnswer slot sending × IsEndOr (is_last slot sending.bytes) sent (AnswersRun slots sent) × (is_answered slot.response ≡ true)
 
--- The slots are those of the turns in their order, and after all turns that of a fault; and none comes after one that closes the connection.
-abbrev pub AreOfTurns : List Turn → List Slot → Type 0
-AreOfTurns turns [] = Unit {0}
-AreOfTurns [] (slot ∷ slots) = IsOfFault slot × (slots ≡ [])
-AreOfTurns (turn ∷ turns) (slot ∷ slots) = IsOfTurn turn slot × IsEndOr slot.closes slots (AreOfTurns turns slots)
+-- The slots are those of the turns in their order, and after all turns, where these end by a fault, that fault's; and none comes after one
+-- that closes the connection.
+abbrev pub AreOfTurns : List Turn → End → List Slot → Type 0
+AreOfTurns turns ends [] = Unit {0}
+AreOfTurns [] ends (slot ∷ slots) = IsOfEnd ends slot × (slots ≡ [])
+AreOfTurns (turn ∷ turns) ends (slot ∷ slots) = IsOfTurn turn slot × IsEndOr slot.closes slots (AreOfTurns turns ends slots)

@@ -1,8 +1,9 @@
 -- The places of a connection's answers, one for each turn of its stream, in their order (RFC 9112, section 9.3.2).
-use Rattle.std.specs.Prelude.{◌≡◌, ◌||◌, ◌⊎◌, ℕ, Bool, true, false, nat_eq, List, IsTrue, codes}
+use Rattle.std.specs.Prelude.{◌≡◌, ◌==◌, ◌||◌, ◌⊎◌, ℕ, Bool, true, false, nat_eq, if◌then◌else◌, List, IsTrue, codes}
 use Rattle.std.specs.Cmp.Lexicographic.{pointwise}
 use Rattle.sp_base.specs.declared.answer.Answer.{Answer}
 use Rattle.sp_base.specs.declared.answer.Req.{Req}
+use Rattle.error_answers.specs.Errors.{error_answer}
 use Rattle.http_front.specs.Answers.{answer_bytes, fixed_507, interim_100}
 use Rattle.connections.specs.declared.sending.Sending.{Sending}
 
@@ -19,6 +20,10 @@ pub record Slot : Type 0 where
   pub head_only : Bool
   pub closes : Bool
   pub response : Response
+
+-- what is answered by a status alone: the answer of an error, or the fixed 507
+abbrev pub local_response : ℕ → Response
+local_response status = if status == 507 then Fixed else Says (error_answer status)
 
 -- it doesn't wait for a flight
 abbrev pub is_answered : Response → Bool

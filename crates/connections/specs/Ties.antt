@@ -1,9 +1,10 @@
 -- What the code keeps of a connection: the places of its answers that aren't sent yet.
 use Rattle.std.specs.Prelude.{◌≡◌, ◌≤◌, ◌⊎◌, ℕ, Bool, true, false, nat_eq, List, [], ◌∷◌, drop, length, take}
+use Rattle.error_answers.specs.Errors.{error_answer}
 use Rattle.http_front.specs.Answers.{answer_bytes, fixed_507, interim_100}
 use Rattle.connections.specs.declared.place.Place.{Place}
 use Rattle.connections.specs.declared.place.Reply.{Reply}
-use Rattle.connections.specs.declared.place.Reply.TheVariants.{Interim, Fixed, Awaits, Says}
+use Rattle.connections.specs.declared.place.Reply.TheVariants.{Interim, Fixed, Own, Awaits, Says}
 use Rattle.connections.specs.declared.outbox.Outbox.{Outbox}
 use Rattle.connections.specs.declared.sending.Sending.{Sending}
 use Rattle.connections.specs.Slots.{Slot, Response, is_answered}
@@ -15,18 +16,21 @@ use Rattle.connections.specs.Connections.{Connection}
 abbrev pub has_reply : Reply → Bool
 has_reply Interim = true
 has_reply Fixed = true
+has_reply (Own status) = true
 has_reply (Awaits flight) = false
 has_reply (Says answer) = true
 
 abbrev pub awaits : ℕ → Reply → Bool
 awaits flight Interim = false
 awaits flight Fixed = false
+awaits flight (Own status) = false
 awaits flight (Awaits other) = nat_eq other flight
 awaits flight (Says answer) = false
 
 abbrev pub is_final_reply : Reply → Bool
 is_final_reply Interim = false
 is_final_reply Fixed = true
+is_final_reply (Own status) = true
 is_final_reply (Awaits flight) = true
 is_final_reply (Says answer) = true
 
@@ -34,6 +38,7 @@ is_final_reply (Says answer) = true
 abbrev pub reply_bytes : Bool → Bool → Reply → List ℕ
 reply_bytes head_only closes Interim = interim_100
 reply_bytes head_only closes Fixed = fixed_507
+reply_bytes head_only closes (Own status) = answer_bytes head_only closes (error_answer status)
 reply_bytes head_only closes (Awaits flight) = []
 reply_bytes head_only closes (Says answer) = answer_bytes head_only closes answer
 
@@ -61,6 +66,10 @@ ReplyTied Fixed model.Interim = ⊥
 ReplyTied Fixed model.Fixed = Unit {0}
 ReplyTied Fixed (model.Awaits n) = ⊥
 ReplyTied Fixed (model.Says b) = ⊥
+ReplyTied (Own status) model.Interim = ⊥
+ReplyTied (Own status) model.Fixed = ⊥
+ReplyTied (Own status) (model.Awaits n) = ⊥
+ReplyTied (Own status) (model.Says b) = b ≡ error_answer status
 ReplyTied (Awaits m) model.Interim = ⊥
 ReplyTied (Awaits m) model.Fixed = ⊥
 ReplyTied (Awaits m) (model.Awaits n) = m ≡ n

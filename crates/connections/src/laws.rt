@@ -10,10 +10,10 @@ pub fn answers_in_order()
     ensures { (peer : List ℕ) (moves : List Move) → Follows (fresh peer) moves → ((slot : Slot) → due (after_all (fresh peer) moves) ≢ Send slot) → AnswersRun (after_all (fresh peer) moves).slots (sendings moves) }
 {}
 
-/// Whatever happens to a connection, its slots are those of its turns, in their order, and after all turns that of a fault; and none
-/// comes after one that closes the connection.
+/// Whatever happens to a connection, its slots are those of its turns, in their order, and after all turns, where the stream has a fault,
+/// that of this fault, with its status; and none comes after one that closes the connection.
 pub fn slots_of_turns()
-    ensures { (peer : List ℕ) (moves : List Move) → Follows (fresh peer) moves → AreOfTurns (after_all (fresh peer) moves).turns (after_all (fresh peer) moves).slots }
+    ensures { (peer : List ℕ) (moves : List Move) → Follows (fresh peer) moves → AreOfTurns (after_all (fresh peer) moves).turns (after_all (fresh peer) moves).ends (after_all (fresh peer) moves).slots }
 {}
 
 /// Whatever happens to a connection, it isn't left open: once it closes and all its slots are sent, its end is due.

@@ -1,16 +1,18 @@
 //! The answers that a connection still owes, in the order of its requests.
-ghost use Rattle.std.specs.Prelude.{◌≡◌, ◌+◌, ◌∷◌, ℕ, List, [], Bool, false, IfNone, IfOk, IfSome, OnErr, OnOk, OnSome, position};
+ghost use Rattle.std.specs.Prelude.{◌≡◌, ◌+◌, ◌∷◌, ℕ, List, [], Bool, false, IsTrue, IfNone, IfOk, IfSome, OnErr, OnOk, OnSome, position};
 ghost use Rattle.std.specs.List.{count_by};
-ghost use Rattle.connections.specs.Slots.{Slot};
+ghost use Rattle.sp_base.specs.declared.answer.Answer as models;
+ghost use Rattle.http_front.specs.Answers.{fixed_507};
+ghost use Rattle.connections.specs.Slots.{Says, Slot};
 ghost use Rattle.connections.specs.Connections as model;
 ghost use Rattle.connections.specs.Connections.{Connection, due, due_unsent, fresh, with_landing, with_sent, with_slot};
 ghost use Rattle.connections.specs.Histories.{IsDueSending};
-ghost use Rattle.connections.specs.Ties.{IsSendingOf, PlaceTied, Tied, awaits, is_final_reply, front_has_reply, unsent_count};
+ghost use Rattle.connections.specs.Ties.{IsSendingOf, PlaceTied, ReplyTied, Tied, awaits, is_final_reply, front_has_reply, unsent_count};
 
 use crate::place::{Place, Reply};
 use crate::sending::Sending;
 use http_front::fixed_507;
-use sp_base::{Answer, ByteBuf, Mem};
+use sp_base::{ByteBuf, Mem};
 use std::alloc::Global;
 use std::collections::VecDeque;
 use std::mem::replace;
@@ -59,6 +61,7 @@ impl Outbox {
     /// connection is over or the next place waits.
     pub fn send(&mut self, alloc: Global) -> Option<Sending>
         ensures sends { IfSome result (λ sending. (c : Connection) → Tied self.old c → IsDueSending c sending × Tied self.new (with_sent sending.bytes c)) }
+        ensures dry { IfSome result (λ sending. (c : Connection) → Tied self.old c → IsTrue sending.dry → sending.bytes ≡ fixed_507) }
         ensures fewer { OnSome result (unsent_count self.new + 1 ≡ unsent_count self.old) }
         ensures waits { IfNone result ((c : Connection) → Tied self.old c → due c ≡ due_unsent c) }
         ensures same { IfNone result (self.new ≡ self.old) }
@@ -98,12 +101,12 @@ impl Outbox {
     }
 
     /// Gives the first place that awaits this flight its answer. Where none does, nothing changes.
-    pub fn fill(&mut self, flight: u64, answer: Answer)
-        ensures filled { (c : Connection) → Tied self.old c → Tied self.new (with_landing flight answer c) }
+    pub fn fill(&mut self, flight: u64, reply: Reply)
+        ensures filled { (c : Connection) (answer : models.Answer) → ReplyTied reply (Says answer) → Tied self.old c → Tied self.new (with_landing flight answer c) }
         ensures same { unsent_count self.new ≡ unsent_count self.old }
     {
         if let Some(at) = awaiting_place(&self.places, flight) {
-            self.places[at].reply = Reply::Says(answer);
+            self.places[at].reply = reply;
         }
     }
 

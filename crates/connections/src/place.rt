@@ -3,17 +3,20 @@ ghost use Rattle.std.specs.Prelude.{◌≡◌, ◌||◌, Bool, IfOk};
 ghost use Rattle.connections.specs.Slots as model;
 ghost use Rattle.connections.specs.Ties.{PlaceTied, ReplyTied, awaits as awaiting, is_final_reply, has_reply as answered, place_bytes};
 
+use error_answers::error_answer;
 use http_front::{answer_bytes, fixed_507, interim_100};
 use sp_base::{Answer, ByteBuf, Mem, Req};
 use std::alloc::Global;
 
-/// What answers a turn.
+/// What answers a turn. None but an answer needs memory before it is sent.
 #[derive(Drop)]
 pub enum Reply {
     /// 100 Continue (RFC 9110, section 15.2.1).
     Interim,
     /// The fixed 507 (RFC 4918, section 11.5).
     Fixed,
+    /// The answer of an error with this status. It is made when it is sent.
+    Own(u16),
     /// What this flight will bring.
     Awaits(u64),
     /// An answer.
@@ -109,6 +112,10 @@ impl Place {
         match &self.reply {
             Reply::Interim => ByteBuf::of(alloc, interim_100()),
             Reply::Fixed => ByteBuf::of(alloc, fixed_507()),
+            Reply::Own(status) => {
+                let answer = error_answer(alloc, *status)?;
+                answer_bytes(alloc, self.head_only, self.closes, &answer)
+            }
             Reply::Awaits(_) => ByteBuf::of(alloc, b""),
             Reply::Says(answer) => answer_bytes(alloc, self.head_only, self.closes, answer),
         }

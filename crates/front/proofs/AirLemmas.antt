@@ -9,7 +9,7 @@ use Rattle.connections.specs.Slots.{Awaits, Fixed, Interim, Response, Says}
 use Rattle.front.specs.declared.flying.Flying.{Flying}
 use Rattle.front.specs.Boards.{AreRising}
 use Rattle.front.specs.Moves.{flight_at, new_flight, with_rendered, with_rendered_at, without}
-use Rattle.front.specs.Owned.{IsOfFlight, IsOfRequest, WasRendered}
+use Rattle.front.specs.Owned.{IsOfFlight, IsOfRequest, Outcomes, WasLost, WasRendered}
 use Rattle.front.specs.Renders.{Rendering}
 use Rattle.front.proofs.SkyLemmas.{found-passes}
 
@@ -125,8 +125,8 @@ pub record IsAskedFor (air : List Flying) (most n : ℕ) (request : Req) : Type 
   pub same : (f : Flying) → flight_at n air ≡ Some f → f.request ≡ request
 
 -- each flight that is rendered has what was rendered for it
-abbrev pub AreRendered : List Rendering → List Flying → Type 0
-AreRendered renders air = (n : ℕ) (f : Flying) (answer : Answer) → flight_at n air ≡ Some f → f.rendered ≡ Some answer → WasRendered renders n f.request answer
+abbrev pub AreRendered : Outcomes → List Flying → Type 0
+AreRendered outcomes air = (n : ℕ) (f : Flying) (answer : Answer) → flight_at n air ≡ Some f → f.rendered ≡ Some answer → WasRendered outcomes.renders n f.request answer
 
 pub later-rendered : (renders more : List Rendering) (n : ℕ) (request : Req) (answer : Answer) → WasRendered renders n request answer → WasRendered (renders ++ more) n request answer
 later-rendered renders more n request answer was = record {
@@ -136,29 +136,42 @@ later-rendered renders more n request answer was = record {
   is = ap (λ xs. xs ++ more) was.is ∙ append_assoc was.before (record { number = n; request = request; answer = answer; dry = was.dry } ∷ was.later) more;
 }
 
--- what was rendered stays so
-abbrev pub AreMore : List Rendering → List Rendering → Type 0
-AreMore renders all = (n : ℕ) (request : Req) (answer : Answer) → WasRendered renders n request answer → WasRendered all n request answer
+pub later-lost : (losses more : List ℕ) (n : ℕ) → WasLost losses n → WasLost (losses ++ more) n
+later-lost losses more n was = record { before = was.before; later = was.later ++ more; is = ap (λ xs. xs ++ more) was.is ∙ append_assoc was.before (n ∷ was.later) more }
+
+-- what was rendered or lost stays so
+pub record AreMore (outcomes all : Outcomes) : Type 0 where
+  pub rendered : (n : ℕ) (request : Req) (answer : Answer) → WasRendered outcomes.renders n request answer → WasRendered all.renders n request answer
+  pub lost : (n : ℕ) → WasLost outcomes.losses n → WasLost all.losses n
+
+pub more-same : (outcomes : Outcomes) → AreMore outcomes outcomes
+more-same outcomes = record { rendered = λ n request answer was. was; lost = λ n was. was }
+
+abbrev pub with_renders : Outcomes → List Rendering → Outcomes
+with_renders outcomes more = record { renders = outcomes.renders ++ more; losses = outcomes.losses }
+
+abbrev pub with_losses : Outcomes → List ℕ → Outcomes
+with_losses outcomes more = record { renders = outcomes.renders; losses = outcomes.losses ++ more }
 
 -- ---- what notes do to flights
 -- what was asked for a request is so still, and each flight that is rendered has what was rendered for it
-pub record Moved (air : List Flying) (most : ℕ) (renders : List Rendering) (next : List Flying) (now : ℕ) (all : List Rendering) : Type 0 where
+pub record Moved (air : List Flying) (most : ℕ) (outcomes : Outcomes) (next : List Flying) (now : ℕ) (all : Outcomes) : Type 0 where
   pub asked : (n : ℕ) (request : Req) → IsAskedFor air most n request → IsAskedFor next now n request
-  pub grown : AreMore renders all
+  pub grown : AreMore outcomes all
   pub air_is : AreRendered all next
 
-pub moved-same : (air : List Flying) (most : ℕ) (renders : List Rendering) → AreRendered renders air → Moved air most renders air most renders
-moved-same air most renders are = record { asked = λ n request is. is; grown = λ n request answer was. was; air_is = are }
+pub moved-same : (air : List Flying) (most : ℕ) (outcomes : Outcomes) → AreRendered outcomes air → Moved air most outcomes air most outcomes
+moved-same air most outcomes are = record { asked = λ n request is. is; grown = more-same outcomes; air_is = are }
 
-pub moved-then : (a b c : List Flying) (i j k : ℕ) (x y z : List Rendering) → Moved a i x b j y → Moved b j y c k z → Moved a i x c k z
+pub moved-then : (a b c : List Flying) (i j k : ℕ) (x y z : Outcomes) → Moved a i x b j y → Moved b j y c k z → Moved a i x c k z
 moved-then a b c i j k x y z first next = record {
   asked = λ n request is. next.asked n request (first.asked n request is);
-  grown = λ n request answer was. next.grown n request answer (first.grown n request answer was);
+  grown = record { rendered = λ n request answer was. next.grown.rendered n request answer (first.grown.rendered n request answer was); lost = λ n was. next.grown.lost n (first.grown.lost n was) };
   air_is = next.air_is;
 }
 
-pub moved-asked : (air : List Flying) (most c : ℕ) (request : Req) (renders : List Rendering) → AreRising 0 air most → AreRendered renders air → Moved air most renders (air ++ new_flight (most + 1) c request ∷ []) (most + 1) renders
-moved-asked air most c request renders rising are = record {
+pub moved-asked : (air : List Flying) (most c : ℕ) (request : Req) (outcomes : Outcomes) → AreRising 0 air most → AreRendered outcomes air → Moved air most outcomes (air ++ new_flight (most + 1) c request ∷ []) (most + 1) outcomes
+moved-asked air most c request outcomes rising are = record {
   asked = λ n other is. record {
     within = omega (arith, is.within);
     same = λ f there.
@@ -166,14 +179,14 @@ moved-asked air most c request renders rising are = record {
         let no : nat_eq (most + 1) n ≡ false = grind (arith, below) in
         is.same f (sym (at-push n air (new_flight (most + 1) c request) no) ∙ there);
   };
-  grown = λ n other answer was. was;
+  grown = more-same outcomes;
   air_is = λ n f answer there has. ⊎_elim (fresh n f answer there has) (old n f answer there has) (cases_eq (most + 1) n);
 }
   where
-    old : (n : ℕ) (f : Flying) (answer : Answer) → flight_at n (air ++ new_flight (most + 1) c request ∷ []) ≡ Some f → f.rendered ≡ Some answer → (most + 1) ≢ n → WasRendered renders n f.request answer
+    old : (n : ℕ) (f : Flying) (answer : Answer) → flight_at n (air ++ new_flight (most + 1) c request ∷ []) ≡ Some f → f.rendered ≡ Some answer → (most + 1) ≢ n → WasRendered outcomes.renders n f.request answer
     old n f answer there has apart = are n f answer (sym (at-push n air (new_flight (most + 1) c request) (ne_eqb (most + 1) n apart)) ∙ there) has
 
-    fresh : (n : ℕ) (f : Flying) (answer : Answer) → flight_at n (air ++ new_flight (most + 1) c request ∷ []) ≡ Some f → f.rendered ≡ Some answer → (most + 1) ≡ n → WasRendered renders n f.request answer
+    fresh : (n : ℕ) (f : Flying) (answer : Answer) → flight_at n (air ++ new_flight (most + 1) c request ∷ []) ≡ Some f → f.rendered ≡ Some answer → (most + 1) ≡ n → WasRendered outcomes.renders n f.request answer
     fresh n f answer there has same =
         let none : flight_at n air ≡ None = subst (λ k. flight_at k air ≡ None) same (at-none (most + 1) 0 air most rising (omega arith)) in
         let is : nat_eq (most + 1) n ≡ true = grind (arith, same) in
@@ -193,12 +206,16 @@ asked-new air most c request rising = record {
       ap (λ (g : Flying). g.request) (sym eq);
 }
 
-pub moved-over : (air : List Flying) (most n : ℕ) (renders : List Rendering) → AreRendered renders air → Moved air most renders (without n air) most renders
-moved-over air most n renders are = record {
+pub moved-over : (air : List Flying) (most n : ℕ) (outcomes : Outcomes) → AreRendered outcomes air → Moved air most outcomes (without n air) most outcomes
+moved-over air most n outcomes are = record {
   asked = λ k request is. record { within = is.within; same = λ f there. is.same f (at-without k n air f there) };
-  grown = λ k request answer was. was;
+  grown = more-same outcomes;
   air_is = λ k f answer there has. are k f answer (at-without k n air f there) has;
 }
+
+-- more flights are known to be lost
+pub moved-lost : (air : List Flying) (most : ℕ) (outcomes : Outcomes) (more : List ℕ) → AreRendered outcomes air → Moved air most outcomes air most (with_losses outcomes more)
+moved-lost air most outcomes more are = record { asked = λ n request is. is; grown = record { rendered = λ n request answer was. was; lost = later-lost outcomes.losses more }; air_is = are }
 
 -- ---- a flight is rendered
 some-map : {A B : Type 0} (g : A → B) (o : Option A) (b : B) → option_map g o ≡ Some b → (a : A) × (o ≡ Some a) × (g a ≡ b)
@@ -212,16 +229,16 @@ request-rendered m answer f = by_test (nat_eq f.number m)
     by_test true = refl
     by_test false = refl
 
-pub moved-rendered : (air : List Flying) (most : ℕ) (g : Flying) (answer : Answer) (dry : Bool) (renders : List Rendering) → flight_at g.number air ≡ Some g → AreRendered renders air
-    → Moved air most renders (map (with_rendered_at g.number answer) air) most (renders ++ record { number = g.number; request = g.request; answer = answer; dry = dry } ∷ [])
-moved-rendered air most g answer dry renders here are = record {
+pub moved-rendered : (air : List Flying) (most : ℕ) (g : Flying) (answer : Answer) (dry : Bool) (outcomes : Outcomes) → flight_at g.number air ≡ Some g → AreRendered outcomes air
+    → Moved air most outcomes (map (with_rendered_at g.number answer) air) most (with_renders outcomes (record { number = g.number; request = g.request; answer = answer; dry = dry } ∷ []))
+moved-rendered air most g answer dry outcomes here are = record {
   asked = λ n request is. record {
     within = is.within;
     same = λ f there.
         let from = some-map (with_rendered_at g.number answer) (flight_at n air) f (sym (at-rendered n g.number answer air) ∙ there) in
         ap (λ (h : Flying). h.request) (sym from.2) ∙ request-rendered g.number answer from.0 ∙ is.same from.0 from.1;
   };
-  grown = later-rendered renders (rendering ∷ []);
+  grown = record { rendered = later-rendered outcomes.renders (rendering ∷ []); lost = λ n was. was };
   air_is = λ n f other there has.
       let from = some-map (with_rendered_at g.number answer) (flight_at n air) f (sym (at-rendered n g.number answer air) ∙ there) in
       by_number n f other from.0 from.1 from.2 has (nat_eq from.0.number g.number) refl;
@@ -230,7 +247,7 @@ moved-rendered air most g answer dry renders here are = record {
     rendering : Rendering
     rendering = record { number = g.number; request = g.request; answer = answer; dry = dry }
 
-    by_number : (n : ℕ) (f : Flying) (other : Answer) (h : Flying) → flight_at n air ≡ Some h → with_rendered_at g.number answer h ≡ f → f.rendered ≡ Some other → (b : Bool) → nat_eq h.number g.number ≡ b → WasRendered (renders ++ rendering ∷ []) n f.request other
+    by_number : (n : ℕ) (f : Flying) (other : Answer) (h : Flying) → flight_at n air ≡ Some h → with_rendered_at g.number answer h ≡ f → f.rendered ≡ Some other → (b : Bool) → nat_eq h.number g.number ≡ b → WasRendered (outcomes.renders ++ rendering ∷ []) n f.request other
     by_number n f other h there is has true same =
         let number : n ≡ g.number = sym (number-at n air h there) ∙ (let e : h.number ≡ g.number = grind (arith, same) in e) in
         let found : flight_at n air ≡ Some g = subst (λ k. flight_at k air ≡ Some g) (sym number) here in
@@ -239,42 +256,42 @@ moved-rendered air most g answer dry renders here are = record {
         let gives : Some answer ≡ Some other = ap (λ (x : Flying). x.rendered) made ∙ has in
         let given : answer ≡ other = cc in
         let request : f.request ≡ g.request = ap (λ (x : Flying). x.request) (sym made) ∙ ap (λ (x : Flying). x.request) eq in
-        rw (number, request, sym given) (record { before = renders; later = []; dry = dry; is = refl })
+        rw (number, request, sym given) (record { before = outcomes.renders; later = []; dry = dry; is = refl })
     by_number n f other h there is has false apart =
         let made : h ≡ f = rw apart at is in
-        let old : WasRendered renders n h.request other = are n h other there (ap (λ (x : Flying). x.rendered) made ∙ has) in
-        later-rendered renders (rendering ∷ []) n f.request other (subst (λ (x : Flying). WasRendered renders n x.request other) made old)
+        let old : WasRendered outcomes.renders n h.request other = are n h other there (ap (λ (x : Flying). x.rendered) made ∙ has) in
+        later-rendered outcomes.renders (rendering ∷ []) n f.request other (subst (λ (x : Flying). WasRendered outcomes.renders n x.request other) made old)
 
 -- ---- what answers a request, of the flights in the air
-abbrev pub IsOfAir : List Flying → ℕ → List Rendering → Option ℕ → Req → Response → Type 0
-IsOfAir air most renders None request response = IsOfRequest renders None request response
-IsOfAir air most renders (Some n) request Interim = ⊥
-IsOfAir air most renders (Some n) request Fixed = ⊥
-IsOfAir air most renders (Some n) request (Awaits m) = (m ≡ n) × IsAskedFor air most n request
-IsOfAir air most renders (Some n) request (Says answer) = IsOfFlight renders n request (Says answer)
+abbrev pub IsOfAir : List Flying → ℕ → Outcomes → Option ℕ → Req → Response → Type 0
+IsOfAir air most outcomes None request response = IsOfRequest outcomes None request response
+IsOfAir air most outcomes (Some n) request Interim = ⊥
+IsOfAir air most outcomes (Some n) request Fixed = ⊥
+IsOfAir air most outcomes (Some n) request (Awaits m) = (m ≡ n) × IsAskedFor air most n request
+IsOfAir air most outcomes (Some n) request (Says answer) = IsOfFlight outcomes n request (Says answer)
 
-pub of-request : (air : List Flying) (most : ℕ) (renders : List Rendering) (flight : Option ℕ) (request : Req) (response : Response) → IsOfAir air most renders flight request response → IsOfRequest renders flight request response
-of-request air most renders None request response is = is
-of-request air most renders (Some n) request Interim is = absurd is
-of-request air most renders (Some n) request Fixed is = absurd is
-of-request air most renders (Some n) request (Awaits m) is = is.0
-of-request air most renders (Some n) request (Says answer) is = is
+pub of-request : (air : List Flying) (most : ℕ) (outcomes : Outcomes) (flight : Option ℕ) (request : Req) (response : Response) → IsOfAir air most outcomes flight request response → IsOfRequest outcomes flight request response
+of-request air most outcomes None request response is = is
+of-request air most outcomes (Some n) request Interim is = absurd is
+of-request air most outcomes (Some n) request Fixed is = absurd is
+of-request air most outcomes (Some n) request (Awaits m) is = is.0
+of-request air most outcomes (Some n) request (Says answer) is = is
 
-pub later-flight : (renders all : List Rendering) → AreMore renders all → (n : ℕ) (request : Req) (response : Response) → IsOfFlight renders n request response → IsOfFlight all n request response
-later-flight renders all more n request Interim is = absurd is
-later-flight renders all more n request Fixed is = absurd is
-later-flight renders all more n request (Awaits m) is = is
-later-flight renders all more n request (Says answer) (inl was) = inl (more n request answer was)
-later-flight renders all more n request (Says answer) (inr lost) = inr lost
+pub later-flight : (outcomes all : Outcomes) → AreMore outcomes all → (n : ℕ) (request : Req) (response : Response) → IsOfFlight outcomes n request response → IsOfFlight all n request response
+later-flight outcomes all more n request Interim is = absurd is
+later-flight outcomes all more n request Fixed is = absurd is
+later-flight outcomes all more n request (Awaits m) is = is
+later-flight outcomes all more n request (Says answer) (inl was) = inl (more.rendered n request answer was)
+later-flight outcomes all more n request (Says answer) (inr lost) = inr (more.lost n lost.0, lost.1)
 
-pub later-request : (renders all : List Rendering) → AreMore renders all → (flight : Option ℕ) (request : Req) (response : Response) → IsOfRequest renders flight request response → IsOfRequest all flight request response
-later-request renders all more None request response is = is
-later-request renders all more (Some n) request response is = later-flight renders all more n request response is
+pub later-request : (outcomes all : Outcomes) → AreMore outcomes all → (flight : Option ℕ) (request : Req) (response : Response) → IsOfRequest outcomes flight request response → IsOfRequest all flight request response
+later-request outcomes all more None request response is = is
+later-request outcomes all more (Some n) request response is = later-flight outcomes all more n request response is
 
-pub air-moved : (air : List Flying) (most : ℕ) (renders : List Rendering) (next : List Flying) (now : ℕ) (all : List Rendering) → Moved air most renders next now all → (flight : Option ℕ) (request : Req) (response : Response)
-    → IsOfAir air most renders flight request response → IsOfAir next now all flight request response
-air-moved air most renders next now all moved None request response is = is
-air-moved air most renders next now all moved (Some n) request Interim is = absurd is
-air-moved air most renders next now all moved (Some n) request Fixed is = absurd is
-air-moved air most renders next now all moved (Some n) request (Awaits m) is = (is.0, moved.asked n request is.1)
-air-moved air most renders next now all moved (Some n) request (Says answer) is = later-flight renders all moved.grown n request (Says answer) is
+pub air-moved : (air : List Flying) (most : ℕ) (outcomes : Outcomes) (next : List Flying) (now : ℕ) (all : Outcomes) → Moved air most outcomes next now all → (flight : Option ℕ) (request : Req) (response : Response)
+    → IsOfAir air most outcomes flight request response → IsOfAir next now all flight request response
+air-moved air most outcomes next now all moved None request response is = is
+air-moved air most outcomes next now all moved (Some n) request Interim is = absurd is
+air-moved air most outcomes next now all moved (Some n) request Fixed is = absurd is
+air-moved air most outcomes next now all moved (Some n) request (Awaits m) is = (is.0, moved.asked n request is.1)
+air-moved air most outcomes next now all moved (Some n) request (Says answer) is = later-flight outcomes all moved.grown n request (Says answer) is

@@ -88,6 +88,6 @@ cut-alike law streams p q f g one other a b c d more first second grows =
     record {
       one = x;
       two = y;
-      turns = begins-turns law (came_since_opened c a) more (sent_since_opened c a) (sent_since_opened d b) x y;
-      bytes = begins-bytes x.answers.slots y.answers.slots (sent_since_opened c a) (sent_since_opened d b) x.answers.answers y.answers.answers;
+      turns = begins-turns law (came_since_opened c a) more (sent_since_opened c a) (sent_since_opened d b);
+      bytes = λ u v. begins-bytes u.answers.slots v.answers.slots (sent_since_opened c a) (sent_since_opened d b) u.answers.answers v.answers.answers;
     }

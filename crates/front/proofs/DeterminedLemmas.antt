@@ -15,7 +15,7 @@ use Rattle.front.specs.declared.note.Note.{Note}
 use Rattle.front.specs.declared.note.Note.TheVariants.{Answer as answered, Lost, Passed, Rendered, Sent}
 use Rattle.front.specs.declared.step.Step.{Step}
 use Rattle.front.specs.declared.step.Step.TheVariants as step
-use Rattle.front.specs.Determined.{AreCalmEvents, CalmRunsAreOne, EndAlike, IsSameEnd, event_notes, event_steps}
+use Rattle.front.specs.Determined.{AreCalmEvents, CalmRunsAreOne, EndAlike, IsSameEnd, IsSameEndOf, event_notes, event_steps}
 use Rattle.front.specs.Events.{DeliverAs, DeliverTo, Event, HappensBy, IsOrFixed, LeadsNotes, LoseTo, PieceTo, RenderTo, Run, after_event, begun, is_any, is_rendered, is_unrendered, mood_notes, notes_of, picked}
 use Rattle.front.specs.Moves.{GivesDue, IsFirstPoint, MaySend, Mood, Serves, Settles, afters, due_of_connection, on_line, points, state_after_note}
 use Rattle.front.specs.States.{RunState, start_of}
@@ -104,7 +104,7 @@ turns-one law stream turns a b end last one two =
     let second = law stream [] (turns ++ b) (turns ++ a) last end two (subst (λ s. SpellsTurns s (turns ++ a) end) (sym (append-nil stream)) one) in
     append-left turns a b (no-more (turns ++ a) (turns ++ b) first.0 second.0 first.1 second.1)
 
-piece-one : Beginnings → (w : RunState) (e f : Event) (c : ℕ) (bytes : List ℕ) (at : Option Connection) → w.line c ≡ at → e.ends ≡ f.ends → e.mood.dry ≡ false → f.mood.dry ≡ false → PieceTo w e c bytes at → PieceTo w f c bytes at
+piece-one : Beginnings → (w : RunState) (e f : Event) (c : ℕ) (bytes : List ℕ) (at : Option Connection) → w.line c ≡ at → IsSameEndOf at e.ends f.ends → e.mood.dry ≡ false → f.mood.dry ≡ false → PieceTo w e c bytes at → PieceTo w f c bytes at
     → IsOneEvent w e f (step.Piece c bytes)
 piece-one law w e f c bytes None line ends calm quiet a b = record { body = a ∙ sym b; state = on-none w c (fed bytes e.turns e.ends) (fed bytes f.turns f.ends) line }
 piece-one law w e f c bytes (Some k) line ends calm quiet a b =
@@ -118,7 +118,7 @@ piece-one law w e f c bytes (Some k) line ends calm quiet a b =
     by_closing true is = fed-closed bytes e.turns e.ends k is ∙ sym (fed-closed bytes f.turns f.ends k is)
     by_closing false is =
         let turns : e.turns ≡ f.turns = turns-one law (k.stream ++ bytes) k.turns e.turns f.turns e.ends f.ends (a.spells is) (b.spells is) in
-        ap (λ ts. fed bytes ts e.ends k) turns ∙ ap (λ end. fed bytes f.turns end k) ends
+        ap (λ ts. fed bytes ts e.ends k) turns ∙ ap (λ end. fed bytes f.turns end k) (ends is)
 
 render-one : (w : RunState) (e f : Event) (flying : Option Flying) → e.mood.dry ≡ false → f.mood.dry ≡ false → RenderTo w e flying → RenderTo w f flying → e.body ≡ f.body
 render-one w e f None calm quiet a b = a ∙ sym b
@@ -139,7 +139,7 @@ loses-one : (w : RunState) (e f : Event) (flying : Option Flying) → e.mood.dry
 loses-one w e f None calm quiet a b = a ∙ sym b
 loses-one w e f (Some g) calm quiet a b = leads-one e.mood f.mood w (Lost g.number) g.line e.body f.body calm quiet a b
 
-step-one : Beginnings → (w : RunState) (e f : Event) (s : Step) → IsSameEnd s e.ends f.ends → e.mood.dry ≡ false → f.mood.dry ≡ false → HappensBy w e s → HappensBy w f s → IsOneEvent w e f s
+step-one : Beginnings → (w : RunState) (e f : Event) (s : Step) → IsSameEnd w s e.ends f.ends → e.mood.dry ≡ false → f.mood.dry ≡ false → HappensBy w e s → HappensBy w f s → IsOneEvent w e f s
 step-one law w e f (step.Opened c peer) ends calm quiet a b = record { body = a ∙ sym b; state = refl }
 step-one law w e f (step.Piece c bytes) ends calm quiet a b = piece-one law w e f c bytes (w.line c) refl ends calm quiet a b
 step-one law w e f (step.Gone c) ends calm quiet a b = record { body = a ∙ sym b; state = refl }
@@ -154,15 +154,15 @@ calm-notes e calm =
     let none : mood_notes e.mood ≡ [] = rw calm refl in
     ap (λ notes. e.body ++ notes) none ∙ append-nil e.body
 
-run-one : Beginnings → (w : RunState) (a b : List Event) → Run w a → Run w b → event_steps a ≡ event_steps b → EndAlike a b → AreCalmEvents a → AreCalmEvents b → event_notes a ≡ event_notes b
+run-one : Beginnings → (w : RunState) (a b : List Event) → Run w a → Run w b → event_steps a ≡ event_steps b → EndAlike w a b → AreCalmEvents a → AreCalmEvents b → event_notes a ≡ event_notes b
 run-one law w [] [] one two steps ends calm quiet = refl
 run-one law w [] (f ∷ b) one two steps ends calm quiet = absurd (let no : ⊥ = cc in no)
 run-one law w (e ∷ a) [] one two steps ends calm quiet = absurd (let no : ⊥ = cc in no)
 run-one law w (e ∷ a) (f ∷ b) one two steps ends calm quiet =
     let same : e.step ≡ f.step = cc in
     let more : event_steps a ≡ event_steps b = cc in
-    let happens : HappensBy w f e.step = subst (HappensBy w f) (sym same) two.0 in
-    let event = step-one law w e f e.step ends.0 calm.0 quiet.0 one.0 happens in
+    let happens : HappensBy w f e.step = subst (HappensBy w f) (sym same) two.0.0 in
+    let event = step-one law w e f e.step ends.0 calm.0 quiet.0 one.0.0 happens in
     let state : after_event w e ≡ after_event w f = ap (λ v. afters v e.body) event.state ∙ ap (λ notes. afters (begun w f e.step) notes) event.body ∙ ap (λ s. afters (begun w f s) f.body) same in
     let rest = run-one law (after_event w e) a b one.1 (subst (λ v. Run v b) (sym state) two.1) more ends.1 calm.1 quiet.1 in
     let notes : notes_of e ≡ notes_of f = calm-notes e calm.0 ∙ event.body ∙ sym (calm-notes f quiet.0) in

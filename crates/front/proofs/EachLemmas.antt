@@ -6,9 +6,8 @@ use Rattle.sp_base.specs.declared.answer.Req.{Req}
 use Rattle.error_answers.specs.Errors.{error_answer}
 use Rattle.http_front.specs.declared.turn.Turn.{Turn}
 use Rattle.http_front.specs.declared.turn.Turn.TheVariants.{Continue, Whole}
-use Rattle.connections.specs.Slots.{Awaits, Fixed, Interim, Response, Says, Slot, interim_slot, is_awaiting}
+use Rattle.connections.specs.Slots.{Awaits, Fixed, Interim, Response, Says, Slot, interim_slot, is_awaiting, local_response}
 use Rattle.connections.specs.Connections.{filled, with_answer}
-use Rattle.front.specs.Moves.{local_response}
 use Rattle.front.specs.Owned.{AreEach}
 
 pub each-map : (P Q : Option ℕ → Req → Response → Type 0) → ((flight : Option ℕ) (request : Req) (response : Response) → P flight request response → Q flight request response)

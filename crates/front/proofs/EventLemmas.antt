@@ -1,7 +1,7 @@
 -- Whole events of a board.
-use Rattle.std.proofs.Common.{◌≡◌, ◌≢◌, ℕ, ◌+◌, ◌-◌, ◌<◌, ◌≤◌, ◌&&◌, Bool, true, false, List, [], ◌∷◌, Option, Some, None, refl, ap, sym, subst, ◌∙◌, arith, ⊎_elim}
+use Rattle.std.proofs.Common.{◌≡◌, ◌≢◌, ℕ, ◌+◌, ◌-◌, ◌<◌, ◌≤◌, ◌&&◌, ◌||◌, Bool, true, false, List, [], ◌∷◌, Option, Some, None, refl, ap, sym, subst, ◌∙◌, arith, ⊎_elim}
 use Rattle.std.specs.Prelude.{if◌then◌else◌, is_some, nat_eq, nat_le, position, remove, slice_get, unwrap_or}
-use Rattle.std.specs.List.{find}
+use Rattle.std.specs.List.{find, list_any}
 use Rattle.std.specs.Map.{update}
 use Rattle.std.specs.Option.{option_map}
 use Rattle.std.specs.Ordering.{nat_cmp}
@@ -14,7 +14,7 @@ use Rattle.error_answers.specs.Errors.{error_answer}
 use Rattle.http_front.specs.Turns.{Waits}
 use Rattle.connections.specs.Connections.{Connection, fed, fresh}
 use Rattle.front.specs.Boards.{BoardTied, FirstThen, Happened, Landing, LineTied, ReadAt, SettlesDry, SkyTied, event_of}
-use Rattle.front.specs.Events.{DeliverAs, DeliverTo, Event, LeadsNotes, LoseTo, PieceTo, after_event, gone, going, is_any, is_picked, is_rendered, most_lines, opened, opening, picked}
+use Rattle.front.specs.Events.{DeliverAs, DeliverTo, Event, IsWanting, LeadsNotes, LoseTo, PieceTo, after_event, gives_fixed, gone, going, is_any, is_picked, is_rendered, most_lines, opened, opening, picked}
 use Rattle.front.specs.Lines.{Holds}
 use Rattle.front.specs.Publishers.{fixed_answer}
 use Rattle.front.specs.Moves.{state_after_note, afters, Settles, answer_in, flight_at, on_line, over_with, without}
@@ -28,7 +28,7 @@ use Rattle.front.specs.declared.sky.Sky.{Sky}
 use Rattle.front.specs.declared.step.Pick.{Pick}
 use Rattle.front.specs.declared.step.Step.TheVariants.{Deliver, Gone, Lose, Opened, Piece}
 use Rattle.front.specs.declared.told.Told.{Told}
-use Rattle.front.proofs.BoardLemmas.{at-other, is-none, lines-after, lines-without, one-fewer, some-of, tied-none, tied-some}
+use Rattle.front.proofs.BoardLemmas.{at-other, calm-wanting, is-none, lines-after, lines-without, one-fewer, some-of, tied-none, tied-some}
 use Rattle.front.proofs.MoveLemmas.{Frame}
 use Rattle.front.proofs.SkyLemmas.{found-none, found-passes, found-some, place, rising-remove}
 
@@ -49,16 +49,16 @@ full-opened w c peer full = rw full refl
 free-opened : (w : RunState) (c : ℕ) (peer : List ℕ) → nat_le most_lines w.lines ≡ false → opened w c peer None ≡ record w { line = update nat_eq w.line c (Some (fresh peer)); lines = w.lines + 1 }
 free-opened w c peer free = rw free refl
 
-pub opened-full : {farm : Farm} (b : Board) (w : RunState) (c : ℕ) (peer : List ℕ) (told : Told) → BoardTied farm b w → get nat_cmp b.lines c ≡ None → most_lines ≤ btree_map_len b.lines → told.notes.items ≡ Refused c ∷ [] → Happened (BoardTied farm b) w (Opened c peer) told
-opened-full {farm} b w c peer told tied absent many notes =
+pub opened-full : {farm : Farm} (b : Board) (w : RunState) (c : ℕ) (peer : List ℕ) (told : Told) → BoardTied farm b w → get nat_cmp b.lines c ≡ None → most_lines ≤ btree_map_len b.lines → told.notes.items ≡ Refused c ∷ [] → told.dry ≡ false → Happened (BoardTied farm b) w (Opened c peer) told
+opened-full {farm} b w c peer told tied absent many notes calm =
     let none : w.line c ≡ None = tied-none _ _ (tied.lines.each c) absent in
     let full : nat_le most_lines w.lines ≡ true = grind (arith, many, tied.lines.count) in
     let state : afters (opened w c peer (w.line c)) told.notes.items ≡ w = ap (afters (opened w c peer (w.line c))) notes ∙ ap (opened w c peer) none ∙ full-opened w c peer full in
-    record { turns = []; ends = Waits; happens = notes ∙ sym (ap (opening c w.lines) none ∙ full-opening c w.lines full); stands = subst (BoardTied farm b) (sym state) tied }
+    record { turns = []; ends = Waits; happens = notes ∙ sym (ap (opening c w.lines) none ∙ full-opening c w.lines full); wanting = calm-wanting told.dry told.notes.items calm; stands = subst (BoardTied farm b) (sym state) tied }
 
 pub opened-new : {farm : Farm} (b : Board) (w : RunState) (c : ℕ) (peer : List ℕ) (k : Line) (lines : BTreeMap ℕ Line) (told : Told) → BoardTied farm b w → get nat_cmp b.lines c ≡ None → btree_map_len b.lines < most_lines
-    → Holds k (fresh peer) → Updates nat_cmp b.lines lines c (Some k) → btree_map_len lines ≡ btree_map_len b.lines + 1 → told.notes.items ≡ [] → Happened (BoardTied farm (record { lines = lines; sky = b.sky })) w (Opened c peer) told
-opened-new {farm} b w c peer k lines told tied absent few holds updates more notes =
+    → Holds k (fresh peer) → Updates nat_cmp b.lines lines c (Some k) → btree_map_len lines ≡ btree_map_len b.lines + 1 → told.notes.items ≡ [] → told.dry ≡ false → Happened (BoardTied farm (record { lines = lines; sky = b.sky })) w (Opened c peer) told
+opened-new {farm} b w c peer k lines told tied absent few holds updates more notes calm =
     let none : w.line c ≡ None = tied-none _ _ (tied.lines.each c) absent in
     let free : nat_le most_lines w.lines ≡ false = grind (arith, few, tied.lines.count) in
     let v : RunState = record w { line = update nat_eq w.line c (Some (fresh peer)); lines = w.lines + 1 } in
@@ -67,6 +67,7 @@ opened-new {farm} b w c peer k lines told tied absent few holds updates more not
       turns = [];
       ends = Waits;
       happens = notes ∙ sym (ap (opening c w.lines) none ∙ free-opening c w.lines free);
+      wanting = calm-wanting told.dry told.notes.items calm;
       stands = subst (BoardTied farm (record { lines = lines; sky = b.sky })) (sym state) (record {
         farm_is = tied.farm_is;
         lines = record {
@@ -99,12 +100,13 @@ piece-there {farm} b g h w c bytes told tied read settled =
     record {
       turns = got.turns;
       ends = got.ends;
-      happens = subst (PieceTo w e c bytes) (sym line.open_is) (record { spells = got.spells; settles = done.0 (record { dry = told.dry }) (λ is. is) });
+      happens = subst (PieceTo w e c bytes) (sym line.open_is) (record { spells = got.spells; settles = done.0.0 (record { dry = told.dry }) (λ is. is) });
+      wanting = done.0.1;
       stands = done.1;
     }
 
-pub piece-none : {farm : Farm} (b : Board) (w : RunState) (c : ℕ) (bytes : List ℕ) (told : Told) → BoardTied farm b w → is_some (get nat_cmp b.lines c) ≡ false → told.notes.items ≡ Idle ∷ [] → Happened (BoardTied farm b) w (Piece c bytes) told
-piece-none {farm} b w c bytes told tied absent notes =
+pub piece-none : {farm : Farm} (b : Board) (w : RunState) (c : ℕ) (bytes : List ℕ) (told : Told) → BoardTied farm b w → is_some (get nat_cmp b.lines c) ≡ false → told.notes.items ≡ Idle ∷ [] → told.dry ≡ false → Happened (BoardTied farm b) w (Piece c bytes) told
+piece-none {farm} b w c bytes told tied absent notes calm =
     let none : w.line c ≡ None = tied-none _ _ (tied.lines.each c) (is-none _ absent) in
     let e : Event = event_of (Piece c bytes) told [] Waits in
     let v = on_line w c (fed bytes [] Waits) in
@@ -117,6 +119,7 @@ piece-none {farm} b w c bytes told tied absent notes =
       turns = [];
       ends = Waits;
       happens = subst (PieceTo w e c bytes) (sym none) notes;
+      wanting = calm-wanting told.dry told.notes.items calm;
       stands = subst (BoardTied farm b) (sym state) (record {
         farm_is = tied.farm_is;
         lines = record { each = λ q. rw (same q) (tied.lines.each q); count = tied.lines.count };
@@ -126,8 +129,8 @@ piece-none {farm} b w c bytes told tied absent notes =
 
 -- ---- a connection is gone
 pub gone-there : {farm : Farm} (b : Board) (w : RunState) (c : ℕ) (lines : BTreeMap ℕ Line) (o : Option Line) (told : Told) → BoardTied farm b w → is_some (get nat_cmp b.lines c) ≡ true → Updates nat_cmp b.lines lines c None
-    → o ≡ get nat_cmp b.lines c → btree_map_len lines + (if is_some o then 1 else 0) ≡ btree_map_len b.lines → told.notes.items ≡ [] → Happened (BoardTied farm (record { lines = lines; sky = b.sky })) w (Gone c) told
-gone-there {farm} b w c lines o told tied there updates was len notes =
+    → o ≡ get nat_cmp b.lines c → btree_map_len lines + (if is_some o then 1 else 0) ≡ btree_map_len b.lines → told.notes.items ≡ [] → told.dry ≡ false → Happened (BoardTied farm (record { lines = lines; sky = b.sky })) w (Gone c) told
+gone-there {farm} b w c lines o told tied there updates was len notes calm =
     let some = some-of _ there in
     let fewer = one-fewer o some.0 _ _ (was ∙ some.1) len in
     let line = tied-some _ _ some.0 (tied.lines.each c) some.1 in
@@ -137,6 +140,7 @@ gone-there {farm} b w c lines o told tied there updates was len notes =
       turns = [];
       ends = Waits;
       happens = notes ∙ sym (ap going line.open_is);
+      wanting = calm-wanting told.dry told.notes.items calm;
       stands = subst (BoardTied farm (record { lines = lines; sky = b.sky })) (sym state) (record {
         farm_is = tied.farm_is;
         lines = lines-without b.lines lines w v c tied.lines updates fewer (update_here w.line c None) (λ q other. update_apart w.line c None q other) (omega (arith, fewer, tied.lines.count));
@@ -144,14 +148,15 @@ gone-there {farm} b w c lines o told tied there updates was len notes =
       });
     }
 
-pub gone-none : {farm : Farm} (b : Board) (w : RunState) (c : ℕ) (told : Told) → BoardTied farm b w → is_some (get nat_cmp b.lines c) ≡ false → told.notes.items ≡ Idle ∷ [] → Happened (BoardTied farm b) w (Gone c) told
-gone-none {farm} b w c told tied absent notes =
+pub gone-none : {farm : Farm} (b : Board) (w : RunState) (c : ℕ) (told : Told) → BoardTied farm b w → is_some (get nat_cmp b.lines c) ≡ false → told.notes.items ≡ Idle ∷ [] → told.dry ≡ false → Happened (BoardTied farm b) w (Gone c) told
+gone-none {farm} b w c told tied absent notes calm =
     let none : w.line c ≡ None = tied-none _ _ (tied.lines.each c) (is-none _ absent) in
     let state : afters (gone w c (w.line c)) told.notes.items ≡ w = ap (afters (gone w c (w.line c))) notes ∙ ap (gone w c) none in
     record {
       turns = [];
       ends = Waits;
       happens = notes ∙ sym (ap going none);
+      wanting = calm-wanting told.dry told.notes.items calm;
       stands = subst (BoardTied farm b) (sym state) tied;
     }
 
@@ -177,33 +182,40 @@ picked-there sky w pick can at f tied found here = ap (find (λ flying. is_picke
 pub picked-none : (sky : Sky) (w : RunState) (pick : Pick) (can : Flying → Bool) → SkyTied sky w → position (λ flying. is_picked pick flying && can flying) sky.flights.items ≡ None → picked pick can w.air ≡ None
 picked-none sky w pick can tied none = ap (find (λ flying. is_picked pick flying && can flying)) (sym tied.air) ∙ found-none (λ flying. is_picked pick flying && can flying) sky.flights.items none
 
-pub delivered-none : {farm : Farm} (b : Board) (w : RunState) (pick : Pick) (told : Told) → BoardTied farm b w → position (λ flying. is_picked pick flying && is_rendered flying) b.sky.flights.items ≡ None → told.notes.items ≡ Idle ∷ []
+pub delivered-none : {farm : Farm} (b : Board) (w : RunState) (pick : Pick) (told : Told) → BoardTied farm b w → position (λ flying. is_picked pick flying && is_rendered flying) b.sky.flights.items ≡ None → told.notes.items ≡ Idle ∷ [] → told.dry ≡ false
     → Happened (BoardTied farm b) w (Deliver pick) told
-delivered-none {farm} b w pick told tied none notes =
+delivered-none {farm} b w pick told tied none notes calm =
     let e : Event = event_of (Deliver pick) told [] Waits in
     record {
       turns = [];
       ends = Waits;
       happens = subst (DeliverTo w e) (sym (picked-none b.sky w pick is_rendered tied.sky none)) notes;
+      wanting = calm-wanting told.dry told.notes.items calm;
       stands = subst (BoardTied farm b) (sym (ap (afters w) notes)) tied;
     }
 
-pub lost-none : {farm : Farm} (b : Board) (w : RunState) (pick : Pick) (told : Told) → BoardTied farm b w → position (λ flying. is_picked pick flying && is_any flying) b.sky.flights.items ≡ None → told.notes.items ≡ Idle ∷ []
+pub lost-none : {farm : Farm} (b : Board) (w : RunState) (pick : Pick) (told : Told) → BoardTied farm b w → position (λ flying. is_picked pick flying && is_any flying) b.sky.flights.items ≡ None → told.notes.items ≡ Idle ∷ [] → told.dry ≡ false
     → Happened (BoardTied farm b) w (Lose pick) told
-lost-none {farm} b w pick told tied none notes =
+lost-none {farm} b w pick told tied none notes calm =
     let e : Event = event_of (Lose pick) told [] Waits in
     record {
       turns = [];
       ends = Waits;
       happens = subst (LoseTo w e) (sym (picked-none b.sky w pick is_any tied.sky none)) notes;
+      wanting = calm-wanting told.dry told.notes.items calm;
       stands = subst (BoardTied farm b) (sym (ap (afters w) notes)) tied;
     }
 
+or-more : (a b : Bool) → b ≡ true → (a || b) ≡ true
+or-more true b is = refl
+or-more false b is = is
+
 -- a first note, and then what the connection is owed
-leads : {farm : Farm} (w v : RunState) (first : Note) (c : ℕ) (told : Told) (h : Board) → state_after_note w first ≡ v → FirstThen first farm v c told h → LeadsNotes w (record { dry = told.dry }) first c told.notes.items × BoardTied farm h (afters w told.notes.items)
+leads : {farm : Farm} (w v : RunState) (first : Note) (c : ℕ) (told : Told) (h : Board) → state_after_note w first ≡ v → FirstThen first farm v c told h → LeadsNotes w (record { dry = told.dry }) first c told.notes.items × BoardTied farm h (afters w told.notes.items) × IsWanting (record { dry = told.dry }) told.notes.items
 leads {farm} w v first c told h is led = (
-  record { rest = led.rest; begins = led.begins; settles = subst (λ u. Settles (record { dry = told.dry }) u c led.rest) (sym is) (led.settles (record { dry = told.dry }) (λ x. x)) },
+  record { rest = led.rest; begins = led.begins; settles = subst (λ u. Settles (record { dry = told.dry }) u c led.rest) (sym is) (led.settles.0 (record { dry = told.dry }) (λ x. x)) },
   subst (BoardTied farm h) (sym (ap (afters w) led.begins ∙ ap (λ u. afters u led.rest) is)) led.board_is,
+  λ wanting. ap (list_any gives_fixed) led.begins ∙ or-more (gives_fixed first) (list_any gives_fixed led.rest) (led.settles.1 wanting),
 )
 
 pub delivered : {farm : Farm} (b h : Board) (sky : Sky) (w : RunState) (pick : Pick) (at : ℕ) (f : Flying) (answer : Answer) (told : Told) → BoardTied farm b w
@@ -230,6 +242,7 @@ delivered {farm} b h sky w pick at f answer told tied found here rendered flight
       turns = [];
       ends = Waits;
       happens = subst (DeliverTo w e) (sym (picked-there b.sky w pick is_rendered at f tied.sky found here)) lands;
+      wanting = done.2;
       stands = done.1;
     }
 
@@ -254,6 +267,7 @@ lost {farm} b h sky w pick at f told tied found here flights asked finished =
       turns = [];
       ends = Waits;
       happens = subst (LoseTo w e) (sym (picked-there b.sky w pick is_any at f tied.sky found here)) done.0;
+      wanting = done.2;
       stands = done.1;
     }
 

@@ -22,11 +22,11 @@ use Rattle.front.specs.declared.step.Step.TheVariants as step
 use Rattle.front.specs.Events.{DeliverAs, DeliverTo, Event, HappensBy, LeadsNotes, LoseTo, PieceTo, RenderTo, Run, after_event, begun, gone, going, is_any, is_rendered, is_unrendered, most_lines, opened, opening, picked, state_after_events}
 use Rattle.front.specs.Histories.{brought_by, came_after, came_since_opened, opens_connection, sent_after, sent_by, sent_in, sent_since_opened}
 use Rattle.front.specs.Moves.{Mood, Settles, afters, answer_in, flight_at, on_line, over_with, state_after_note}
-use Rattle.front.specs.Owned.{AnswersAreOwn, AreOwnAnswers, IsOfFlight, IsOfRequest, WasRendered, flights_after, flights_since_opened, treated_by, treated_in}
+use Rattle.front.specs.Owned.{AnswersAreOwn, AreOwnAnswers, IsOfFlight, IsOfRequest, Outcomes, WasLost, WasRendered, flights_after, flights_since_opened, losses_of, lost_in, treated_by, treated_in}
 use Rattle.front.specs.Publishers.{Publishing, fixed_answer}
 use Rattle.front.specs.Renders.{Rendering, rendering_of, renders_in, renders_of}
 use Rattle.front.specs.States.{LogEntry, RunState, flights_asked, start_of}
-use Rattle.front.proofs.AirLemmas.{AreRendered, IsAskedFor, IsOfAir, moved-over, moved-rendered, moved-same, of-request}
+use Rattle.front.proofs.AirLemmas.{AreRendered, IsAskedFor, IsOfAir, moved-lost, moved-over, moved-rendered, moved-same, of-request, with_losses, with_renders}
 use Rattle.front.proofs.EachLemmas.{each-map}
 use Rattle.front.proofs.HistoryLemmas.{Held, Kept, Numbered, by-step, over-held, over-numbered, picked-at, piece-read, run-kept, serves-apart, start-kept, then_came, then_sent}
 use Rattle.front.proofs.MoveLemmas.{IsStillStep, step-still}
@@ -36,12 +36,12 @@ use Rattle.front.proofs.RenderLemmas.{still-renders}
 use Rattle.front.proofs.StreamLemmas.{InOrder, OfTurns, answers-past, idle-still, turns-past}
 
 -- ---- the same under other names
-own-as : (w : RunState) (c : ℕ) (renders : List Rendering) (fs gs : List (Option ℕ)) (came : List ℕ) (xs ys : List Sending) → fs ≡ gs → xs ≡ ys → Own w c renders fs came xs → Own w c renders gs came ys
-own-as w c renders fs gs came xs ys flights sent own = subst (λ hs. Own w c renders hs came ys) flights (subst (λ zs. Own w c renders fs came zs) sent own)
+own-as : (w : RunState) (c : ℕ) (outcomes : Outcomes) (fs gs : List (Option ℕ)) (came : List ℕ) (xs ys : List Sending) → fs ≡ gs → xs ≡ ys → Own w c outcomes fs came xs → Own w c outcomes gs came ys
+own-as w c outcomes fs gs came xs ys flights sent own = subst (λ hs. Own w c outcomes hs came ys) flights (subst (λ zs. Own w c outcomes fs came zs) sent own)
 
 -- more came, which the connection has read or doesn't read any more
-own-later : (w : RunState) (c : ℕ) (renders : List Rendering) (flights : List (Option ℕ)) (came more : List ℕ) (sent : List Sending) → Own w c renders flights came sent → Own w c renders flights (came ++ more) sent
-own-later w c renders flights came more sent own = record {
+own-later : (w : RunState) (c : ℕ) (outcomes : Outcomes) (flights : List (Option ℕ)) (came more : List ℕ) (sent : List Sending) → Own w c outcomes flights came sent → Own w c outcomes flights (came ++ more) sent
+own-later w c outcomes flights came more sent own = record {
   here = own.here;
   over = λ none.
       let was = own.over none in
@@ -60,75 +60,75 @@ own-later w c renders flights came more sent own = record {
   air_is = own.air_is;
 }
 
-moves-same : (w v : RunState) (renders : List Rendering) → v.air ≡ w.air → flights_asked v.log.entries ≡ flights_asked w.log.entries → AreRendered renders w.air → Moves w renders v renders
-moves-same w v renders air asked are = rw (air, asked) (moved-same w.air (flights_asked w.log.entries) renders are)
+moves-same : (w v : RunState) (outcomes : Outcomes) → v.air ≡ w.air → flights_asked v.log.entries ≡ flights_asked w.log.entries → AreRendered outcomes w.air → Moves w outcomes v outcomes
+moves-same w v outcomes air asked are = rw (air, asked) (moved-same w.air (flights_asked w.log.entries) outcomes are)
 
 -- ---- what a connection is owed
-settles-own : (m : Mood) (w : RunState) (c d : ℕ) (renders : List Rendering) (flights : List (Option ℕ)) (came : List ℕ) (sent : List Sending) (notes : List Note) → Held w c came sent → Numbered w → Own w c renders flights came sent → Settles m w d notes
-    → Own (afters w notes) c renders (flights ++ treated_in c notes) came (sent ++ sent_in c m notes)
-settles-own m w c d renders flights came sent notes held numbered own settles = ⊎_elim here there (cases_eq d c)
+settles-own : (m : Mood) (w : RunState) (c d : ℕ) (outcomes : Outcomes) (flights : List (Option ℕ)) (came : List ℕ) (sent : List Sending) (notes : List Note) → Held w c came sent → Numbered w → Own w c outcomes flights came sent → Settles m w d notes
+    → Own (afters w notes) c outcomes (flights ++ treated_in c notes) came (sent ++ sent_in c m notes)
+settles-own m w c d outcomes flights came sent notes held numbered own settles = ⊎_elim here there (cases_eq d c)
   where
-    here : d ≡ c → Own (afters w notes) c renders (flights ++ treated_in c notes) came (sent ++ sent_in c m notes)
+    here : d ≡ c → Own (afters w notes) c outcomes (flights ++ treated_in c notes) came (sent ++ sent_in c m notes)
     here same =
         let at : Settles m w c notes = subst (λ x. Settles m w x notes) same settles in
-        serves-owns m w c renders flights came sent notes held numbered own at.serves
+        serves-owns m w c outcomes flights came sent notes held numbered own at.serves
 
-    there : d ≢ c → Own (afters w notes) c renders (flights ++ treated_in c notes) came (sent ++ sent_in c m notes)
+    there : d ≢ c → Own (afters w notes) c outcomes (flights ++ treated_in c notes) came (sent ++ sent_in c m notes)
     there apart =
         let other : c ≢ d = λ e. apart (sym e) in
         let kept = serves-apart m w c d notes other settles.serves in
-        let elsewhere = serves-elsewhere m w c d renders notes other numbered own.air_is settles.serves in
-        own-as (afters w notes) c renders flights (flights ++ treated_in c notes) came sent (sent ++ sent_in c m notes)
+        let elsewhere = serves-elsewhere m w c d outcomes notes other numbered own.air_is settles.serves in
+        own-as (afters w notes) c outcomes flights (flights ++ treated_in c notes) came sent (sent ++ sent_in c m notes)
         (sym (append-nil flights) ∙ ap (λ fs. flights ++ fs) (sym elsewhere.none)) (sym (append-nil sent) ∙ ap (λ xs. sent ++ xs) (sym kept.none))
-        (own-moved w (afters w notes) c renders renders flights came sent kept.line elsewhere.moves own)
+        (own-moved w (afters w notes) c outcomes outcomes flights came sent kept.line elsewhere.moves own)
 
 -- nothing is owed
-own-quiet : (w : RunState) (c : ℕ) (renders : List Rendering) (flights : List (Option ℕ)) (came : List ℕ) (sent : List Sending) → Own w c renders flights came sent → Own w c renders (flights ++ []) (came ++ []) (sent ++ [])
-own-quiet w c renders flights came sent own = own-later w c renders (flights ++ []) came [] (sent ++ []) (own-as w c renders flights (flights ++ []) came sent (sent ++ []) (sym (append-nil flights)) (sym (append-nil sent)) own)
+own-quiet : (w : RunState) (c : ℕ) (outcomes : Outcomes) (flights : List (Option ℕ)) (came : List ℕ) (sent : List Sending) → Own w c outcomes flights came sent → Own w c outcomes (flights ++ []) (came ++ []) (sent ++ [])
+own-quiet w c outcomes flights came sent own = own-later w c outcomes (flights ++ []) came [] (sent ++ []) (own-as w c outcomes flights (flights ++ []) came sent (sent ++ []) (sym (append-nil flights)) (sym (append-nil sent)) own)
 
 -- ---- events
 abbrev pub then_flights : ℕ → List (Option ℕ) → Event → Step → List (Option ℕ)
 then_flights c flights e s = if opens_connection c s e.body then [] else flights ++ treated_in c e.body
 
-abbrev OwnBy : RunState → Event → ℕ → List Rendering → List (Option ℕ) → List ℕ → List Sending → Step → Type 0
-OwnBy v e c renders flights came sent s = Own (afters v e.body) c renders (then_flights c flights e s) (then_came c came e s) (then_sent c sent e s)
+abbrev OwnBy : RunState → Event → ℕ → Outcomes → List (Option ℕ) → List ℕ → List Sending → Step → Type 0
+OwnBy v e c outcomes flights came sent s = Own (afters v e.body) c outcomes (then_flights c flights e s) (then_came c came e s) (then_sent c sent e s)
 
-idle-own : (m : Mood) (v : RunState) (c : ℕ) (renders : List Rendering) (flights : List (Option ℕ)) (came more : List ℕ) (sent : List Sending) (notes : List Note) → Own v c renders flights came sent → notes ≡ Idle ∷ []
-    → Own (afters v notes) c renders (flights ++ treated_in c notes) (came ++ more) (sent ++ sent_in c m notes)
-idle-own m v c renders flights came more sent notes own is =
-    rw is (own-later v c renders (flights ++ []) came more (sent ++ []) (own-as v c renders flights (flights ++ []) came sent (sent ++ []) (sym (append-nil flights)) (sym (append-nil sent)) own))
+idle-own : (m : Mood) (v : RunState) (c : ℕ) (outcomes : Outcomes) (flights : List (Option ℕ)) (came more : List ℕ) (sent : List Sending) (notes : List Note) → Own v c outcomes flights came sent → notes ≡ Idle ∷ []
+    → Own (afters v notes) c outcomes (flights ++ treated_in c notes) (came ++ more) (sent ++ sent_in c m notes)
+idle-own m v c outcomes flights came more sent notes own is =
+    rw is (own-later v c outcomes (flights ++ []) came more (sent ++ []) (own-as v c outcomes flights (flights ++ []) came sent (sent ++ []) (sym (append-nil flights)) (sym (append-nil sent)) own))
 
-opened-own : (w : RunState) (e : Event) (c d : ℕ) (peer : List ℕ) (renders : List Rendering) (flights : List (Option ℕ)) (came : List ℕ) (sent : List Sending) (at : Option Connection) → Own w c renders flights came sent → e.body ≡ opening d w.lines at
-    → OwnBy (opened w d peer at) e c renders flights came sent (step.Opened d peer)
-opened-own w e c d peer renders flights came sent (Some k) own is = rw is (own-quiet w c renders flights came sent own)
-opened-own w e c d peer renders flights came sent None own is = by_room (nat_le most_lines w.lines) is
+opened-own : (w : RunState) (e : Event) (c d : ℕ) (peer : List ℕ) (outcomes : Outcomes) (flights : List (Option ℕ)) (came : List ℕ) (sent : List Sending) (at : Option Connection) → Own w c outcomes flights came sent → e.body ≡ opening d w.lines at
+    → OwnBy (opened w d peer at) e c outcomes flights came sent (step.Opened d peer)
+opened-own w e c d peer outcomes flights came sent (Some k) own is = rw is (own-quiet w c outcomes flights came sent own)
+opened-own w e c d peer outcomes flights came sent None own is = by_room (nat_le most_lines w.lines) is
   where
-    free : e.body ≡ [] → OwnBy (record w { line = update nat_eq w.line d (Some (fresh peer)); lines = w.lines + 1 }) e c renders flights came sent (step.Opened d peer)
+    free : e.body ≡ [] → OwnBy (record w { line = update nat_eq w.line d (Some (fresh peer)); lines = w.lines + 1 }) e c outcomes flights came sent (step.Opened d peer)
     free none = rw none (⊎_elim same apart (cases_eq d c))
       where
         v : RunState
         v = record w { line = update nat_eq w.line d (Some (fresh peer)); lines = w.lines + 1 }
 
-        same : d ≡ c → Own v c renders (if nat_eq d c then [] else flights ++ []) (if nat_eq d c then [] else came ++ []) (if nat_eq d c then [] else sent ++ [])
+        same : d ≡ c → Own v c outcomes (if nat_eq d c then [] else flights ++ []) (if nat_eq d c then [] else came ++ []) (if nat_eq d c then [] else sent ++ [])
         same e =
             let here : nat_eq d c ≡ true = eq-eqb d c e in
             let now : v.line c ≡ Some (fresh peer) = subst (λ x. v.line x ≡ Some (fresh peer)) e (update_here w.line d (Some (fresh peer))) in
-            let owns : Owns v renders [] (fresh peer) = record { each = refl; room = λ stays. omega arith } in
-            rw here (own-one v c renders [] [] [] (fresh peer) now owns own.air_is)
+            let owns : Owns v outcomes [] (fresh peer) = record { each = refl; room = λ stays. omega arith } in
+            rw here (own-one v c outcomes [] [] [] (fresh peer) now owns own.air_is)
 
-        apart : d ≢ c → Own v c renders (if nat_eq d c then [] else flights ++ []) (if nat_eq d c then [] else came ++ []) (if nat_eq d c then [] else sent ++ [])
+        apart : d ≢ c → Own v c outcomes (if nat_eq d c then [] else flights ++ []) (if nat_eq d c then [] else came ++ []) (if nat_eq d c then [] else sent ++ [])
         apart other =
             let test : nat_eq d c ≡ false = ne_eqb d c other in
-            let moves : Moves w renders v renders = moved-same w.air (flights_asked w.log.entries) renders own.air_is in
-            rw test (own-quiet v c renders flights came sent (own-moved w v c renders renders flights came sent (update_apart w.line d (Some (fresh peer)) c (λ x. other (sym x))) moves own))
+            let moves : Moves w outcomes v outcomes = moved-same w.air (flights_asked w.log.entries) outcomes own.air_is in
+            rw test (own-quiet v c outcomes flights came sent (own-moved w v c outcomes outcomes flights came sent (update_apart w.line d (Some (fresh peer)) c (λ x. other (sym x))) moves own))
 
-    by_room : (full : Bool) → e.body ≡ (if full then Refused d ∷ [] else []) → OwnBy (if full then w else record w { line = update nat_eq w.line d (Some (fresh peer)); lines = w.lines + 1 }) e c renders flights came sent (step.Opened d peer)
-    by_room true is = rw is (own-quiet w c renders flights came sent own)
+    by_room : (full : Bool) → e.body ≡ (if full then Refused d ∷ [] else []) → OwnBy (if full then w else record w { line = update nat_eq w.line d (Some (fresh peer)); lines = w.lines + 1 }) e c outcomes flights came sent (step.Opened d peer)
+    by_room true is = rw is (own-quiet w c outcomes flights came sent own)
     by_room false is = free is
 
-piece-own : (w : RunState) (e : Event) (c d : ℕ) (bytes : List ℕ) (renders : List Rendering) (flights : List (Option ℕ)) (came : List ℕ) (sent : List Sending) (at : Option Connection) → w.line d ≡ at → Kept w c came sent → Own w c renders flights came sent
-    → PieceTo w e d bytes at → Own (afters (on_line w d (fed bytes e.turns e.ends)) e.body) c renders (flights ++ treated_in c e.body) (came ++ brought_by c (step.Piece d bytes)) (sent ++ sent_in c e.mood e.body)
-piece-own w e c d bytes renders flights came sent None line kept own is = idle-own e.mood v c renders flights came (brought_by c (step.Piece d bytes)) sent e.body now is
+piece-own : (w : RunState) (e : Event) (c d : ℕ) (bytes : List ℕ) (outcomes : Outcomes) (flights : List (Option ℕ)) (came : List ℕ) (sent : List Sending) (at : Option Connection) → w.line d ≡ at → Kept w c came sent → Own w c outcomes flights came sent
+    → PieceTo w e d bytes at → Own (afters (on_line w d (fed bytes e.turns e.ends)) e.body) c outcomes (flights ++ treated_in c e.body) (came ++ brought_by c (step.Piece d bytes)) (sent ++ sent_in c e.mood e.body)
+piece-own w e c d bytes outcomes flights came sent None line kept own is = idle-own e.mood v c outcomes flights came (brought_by c (step.Piece d bytes)) sent e.body now is
   where
     v : RunState
     v = on_line w d (fed bytes e.turns e.ends)
@@ -139,10 +139,10 @@ piece-own w e c d bytes renders flights came sent None line kept own is = idle-o
         (λ other. update_apart w.line d _ c (λ x. other (sym x)))
         (cases_eq d c)
 
-    now : Own v c renders flights came sent
-    now = own-moved w v c renders renders flights came sent same (moved-same w.air (flights_asked w.log.entries) renders own.air_is) own
-piece-own w e c d bytes renders flights came sent (Some k) line kept own feeds =
-    settles-own e.mood v c d renders flights all sent e.body (piece-read w e c d bytes came sent k line feeds.spells kept.held) kept.numbered (own-later v c renders flights came (brought_by c (step.Piece d bytes)) sent (⊎_elim here apart (cases_eq d c))) feeds.settles
+    now : Own v c outcomes flights came sent
+    now = own-moved w v c outcomes outcomes flights came sent same (moved-same w.air (flights_asked w.log.entries) outcomes own.air_is) own
+piece-own w e c d bytes outcomes flights came sent (Some k) line kept own feeds =
+    settles-own e.mood v c d outcomes flights all sent e.body (piece-read w e c d bytes came sent k line feeds.spells kept.held) kept.numbered (own-later v c outcomes flights came (brought_by c (step.Piece d bytes)) sent (⊎_elim here apart (cases_eq d c))) feeds.settles
   where
     v : RunState
     v = on_line w d (fed bytes e.turns e.ends)
@@ -150,149 +150,175 @@ piece-own w e c d bytes renders flights came sent (Some k) line kept own feeds =
     all : List ℕ
     all = came ++ brought_by c (step.Piece d bytes)
 
-    moves : Moves w renders v renders
-    moves = moved-same w.air (flights_asked w.log.entries) renders own.air_is
+    moves : Moves w outcomes v outcomes
+    moves = moved-same w.air (flights_asked w.log.entries) outcomes own.air_is
 
-    here : d ≡ c → Own v c renders flights came sent
+    here : d ≡ c → Own v c outcomes flights came sent
     here x =
         let now : v.line d ≡ Some (fed bytes e.turns e.ends k) = update_here w.line d _ ∙ ap (option_map (fed bytes e.turns e.ends)) line in
-        let before : Owns w renders flights k = own.here k (sym (ap w.line x) ∙ line) in
-        let fed_owns : Owns w renders flights (fed bytes e.turns e.ends k) = owns-fed w renders flights bytes e.turns e.ends k before in
-        let owns : Owns v renders flights (fed bytes e.turns e.ends k) = record { each = fed_owns.each; room = fed_owns.room } in
-        own-one v c renders flights came sent (fed bytes e.turns e.ends k) (subst (λ y. v.line y ≡ Some (fed bytes e.turns e.ends k)) x now) owns own.air_is
+        let before : Owns w outcomes flights k = own.here k (sym (ap w.line x) ∙ line) in
+        let fed_owns : Owns w outcomes flights (fed bytes e.turns e.ends k) = owns-fed w outcomes flights bytes e.turns e.ends k before in
+        let owns : Owns v outcomes flights (fed bytes e.turns e.ends k) = record { each = fed_owns.each; room = fed_owns.room } in
+        own-one v c outcomes flights came sent (fed bytes e.turns e.ends k) (subst (λ y. v.line y ≡ Some (fed bytes e.turns e.ends k)) x now) owns own.air_is
 
-    apart : d ≢ c → Own v c renders flights came sent
-    apart other = own-moved w v c renders renders flights came sent (update_apart w.line d _ c (λ x. other (sym x))) moves own
+    apart : d ≢ c → Own v c outcomes flights came sent
+    apart other = own-moved w v c outcomes outcomes flights came sent (update_apart w.line d _ c (λ x. other (sym x))) moves own
 
-gone-own : (w : RunState) (e : Event) (c d : ℕ) (renders : List Rendering) (flights : List (Option ℕ)) (came : List ℕ) (sent : List Sending) (at : Option Connection) → w.line d ≡ at → Kept w c came sent → Own w c renders flights came sent → e.body ≡ going at
-    → Own (afters (gone w d at) e.body) c renders (flights ++ treated_in c e.body) (came ++ []) (sent ++ sent_in c e.mood e.body)
-gone-own w e c d renders flights came sent None line kept own is = idle-own e.mood w c renders flights came [] sent e.body own is
-gone-own w e c d renders flights came sent (Some k) line kept own is = rw is (own-later v c renders (flights ++ []) came [] (sent ++ []) (⊎_elim same apart (cases_eq d c)))
+gone-own : (w : RunState) (e : Event) (c d : ℕ) (outcomes : Outcomes) (flights : List (Option ℕ)) (came : List ℕ) (sent : List Sending) (at : Option Connection) → w.line d ≡ at → Kept w c came sent → Own w c outcomes flights came sent → e.body ≡ going at
+    → Own (afters (gone w d at) e.body) c outcomes (flights ++ treated_in c e.body) (came ++ []) (sent ++ sent_in c e.mood e.body)
+gone-own w e c d outcomes flights came sent None line kept own is = idle-own e.mood w c outcomes flights came [] sent e.body own is
+gone-own w e c d outcomes flights came sent (Some k) line kept own is = rw is (own-later v c outcomes (flights ++ []) came [] (sent ++ []) (⊎_elim same apart (cases_eq d c)))
   where
     v : RunState
     v = record w { line = update nat_eq w.line d None; lines = w.lines - 1 }
 
-    same : d ≡ c → Own v c renders (flights ++ []) came (sent ++ [])
+    same : d ≡ c → Own v c outcomes (flights ++ []) came (sent ++ [])
     same x =
         let none : v.line c ≡ None = subst (λ y. v.line y ≡ None) x (update_here w.line d None) in
         let open_ : w.line c ≡ Some k = sym (ap w.line x) ∙ line in
         let idle : connection.due k ≡ connection.Nothing = kept.still k open_ in
         let past = past-as k came sent (sent ++ []) (sym (append-nil sent)) (kept.held.here k open_) in
         let last : Last came (sent ++ []) = record { last = k; came_then = came; later = []; past = past; came_is = sym (append-nil came); still = λ slot e. let no : ⊥ = cc in no } in
-        own-none v c renders (flights ++ []) came (sent ++ []) none (last-owns w renders flights came (sent ++ []) k last refl (own.here k open_)) own.air_is
+        own-none v c outcomes (flights ++ []) came (sent ++ []) none (last-owns w outcomes flights came (sent ++ []) k last refl (own.here k open_)) own.air_is
 
-    apart : d ≢ c → Own v c renders (flights ++ []) came (sent ++ [])
+    apart : d ≢ c → Own v c outcomes (flights ++ []) came (sent ++ [])
     apart other =
-        let moves : Moves w renders v renders = moved-same w.air (flights_asked w.log.entries) renders own.air_is in
-        own-as v c renders flights (flights ++ []) came sent (sent ++ []) (sym (append-nil flights)) (sym (append-nil sent)) (own-moved w v c renders renders flights came sent (update_apart w.line d None c (λ x. other (sym x))) moves own)
+        let moves : Moves w outcomes v outcomes = moved-same w.air (flights_asked w.log.entries) outcomes own.air_is in
+        own-as v c outcomes flights (flights ++ []) came sent (sent ++ []) (sym (append-nil flights)) (sym (append-nil sent)) (own-moved w v c outcomes outcomes flights came sent (update_apart w.line d None c (λ x. other (sym x))) moves own)
 
 -- a flight is over, and its connection is given what it is owed
-leads-own : (m : Mood) (w : RunState) (first : Note) (c : ℕ) (renders : List Rendering) (flights : List (Option ℕ)) (came : List ℕ) (sent : List Sending) (f : Flying) (answer : Answer) (entry : LogEntry) (notes : List Note) → Kept w c came sent
-    → Own w c renders flights came sent → state_after_note w first ≡ over_with w f.number answer entry (Some f) → flights_asked (entry ∷ w.log.entries) ≡ flights_asked w.log.entries → sent_by c m first ≡ [] → treated_by c first ≡ []
-    → ((k : ℕ) (request : Req) → f.number ≡ k → IsAskedFor w.air (flights_asked w.log.entries) k request → IsOfFlight renders k request (Says answer)) → LeadsNotes w m first f.line notes
-    → Own (afters w notes) c renders (flights ++ treated_in c notes) (came ++ []) (sent ++ sent_in c m notes)
-leads-own m w first c renders flights came sent f answer entry notes kept own is same unsent untreated good leads =
+leads-own : (m : Mood) (w : RunState) (first : Note) (c : ℕ) (outcomes : Outcomes) (flights : List (Option ℕ)) (came : List ℕ) (sent : List Sending) (f : Flying) (answer : Answer) (entry : LogEntry) (notes : List Note) → Kept w c came sent
+    → Own w c outcomes flights came sent → state_after_note w first ≡ over_with w f.number answer entry (Some f) → flights_asked (entry ∷ w.log.entries) ≡ flights_asked w.log.entries → sent_by c m first ≡ [] → treated_by c first ≡ []
+    → ((k : ℕ) (request : Req) → f.number ≡ k → IsAskedFor w.air (flights_asked w.log.entries) k request → IsOfFlight outcomes k request (Says answer)) → LeadsNotes w m first f.line notes
+    → Own (afters w notes) c outcomes (flights ++ treated_in c notes) (came ++ []) (sent ++ sent_in c m notes)
+leads-own m w first c outcomes flights came sent f answer entry notes kept own is same unsent untreated good leads =
     let settles : Settles m v f.line leads.rest = subst (λ u. Settles m u f.line leads.rest) is leads.settles in
     let numbered : Numbered v = over-numbered w f.number answer entry (Some f) same kept.numbered in
     let held : Held v c came sent = over-held w c came sent f answer entry kept.held in
-    let done = settles-own m v c f.line renders flights came sent leads.rest held numbered (⊎_elim (here (w.line f.line) refl) apart (cases_eq f.line c)) settles in
+    let done = settles-own m v c f.line outcomes flights came sent leads.rest held numbered (⊎_elim (here (w.line f.line) refl) apart (cases_eq f.line c)) settles in
     let state : afters v leads.rest ≡ afters w notes = sym (ap (afters w) leads.begins ∙ ap (λ u. afters u leads.rest) is) in
     let told : sent_in c m leads.rest ≡ sent_in c m notes = ap (λ xs. xs ++ sent_in c m leads.rest) (sym unsent) ∙ sym (ap (sent_in c m) leads.begins) in
     let asked : treated_in c leads.rest ≡ treated_in c notes = ap (λ xs. xs ++ treated_in c leads.rest) (sym untreated) ∙ sym (ap (treated_in c) leads.begins) in
-    own-later (afters w notes) c renders (flights ++ treated_in c notes) came [] (sent ++ sent_in c m notes)
-    (subst (λ u. Own u c renders (flights ++ treated_in c notes) came (sent ++ sent_in c m notes)) state
-    (own-as (afters v leads.rest) c renders (flights ++ treated_in c leads.rest) (flights ++ treated_in c notes) came (sent ++ sent_in c m leads.rest) (sent ++ sent_in c m notes) (ap (λ xs. flights ++ xs) asked) (ap (λ xs. sent ++ xs) told) done))
+    own-later (afters w notes) c outcomes (flights ++ treated_in c notes) came [] (sent ++ sent_in c m notes)
+    (subst (λ u. Own u c outcomes (flights ++ treated_in c notes) came (sent ++ sent_in c m notes)) state
+    (own-as (afters v leads.rest) c outcomes (flights ++ treated_in c leads.rest) (flights ++ treated_in c notes) came (sent ++ sent_in c m leads.rest) (sent ++ sent_in c m notes) (ap (λ xs. flights ++ xs) asked) (ap (λ xs. sent ++ xs) told) done))
   where
     v : RunState
     v = over_with w f.number answer entry (Some f)
 
-    moves : Moves w renders v renders
-    moves = rw same (moved-over w.air (flights_asked w.log.entries) f.number renders own.air_is)
+    moves : Moves w outcomes v outcomes
+    moves = rw same (moved-over w.air (flights_asked w.log.entries) f.number outcomes own.air_is)
 
-    here : (at : Option Connection) → w.line f.line ≡ at → f.line ≡ c → Own v c renders flights came sent
-    here None line x = own-none v c renders flights came sent (subst (λ y. v.line y ≡ None) x (update_here w.line f.line _ ∙ ap (option_map (with_landing f.number answer)) line)) (own.over (sym (ap w.line x) ∙ line)) moves.air_is
+    here : (at : Option Connection) → w.line f.line ≡ at → f.line ≡ c → Own v c outcomes flights came sent
+    here None line x = own-none v c outcomes flights came sent (subst (λ y. v.line y ≡ None) x (update_here w.line f.line _ ∙ ap (option_map (with_landing f.number answer)) line)) (own.over (sym (ap w.line x) ∙ line)) moves.air_is
     here (Some k) line x =
         let now : v.line f.line ≡ Some (with_landing f.number answer k) = update_here w.line f.line _ ∙ ap (option_map (with_landing f.number answer)) line in
-        let owns : Owns v renders flights (with_landing f.number answer k) = owns-landed w v renders flights f.number answer k moves good (own.here k (sym (ap w.line x) ∙ line)) in
-        own-one v c renders flights came sent (with_landing f.number answer k) (subst (λ y. v.line y ≡ Some (with_landing f.number answer k)) x now) owns moves.air_is
+        let owns : Owns v outcomes flights (with_landing f.number answer k) = owns-landed w v outcomes flights f.number answer k moves good (own.here k (sym (ap w.line x) ∙ line)) in
+        own-one v c outcomes flights came sent (with_landing f.number answer k) (subst (λ y. v.line y ≡ Some (with_landing f.number answer k)) x now) owns moves.air_is
 
-    apart : f.line ≢ c → Own v c renders flights came sent
-    apart other = own-moved w v c renders renders flights came sent (update_apart w.line f.line _ c (λ x. other (sym x))) moves own
+    apart : f.line ≢ c → Own v c outcomes flights came sent
+    apart other = own-moved w v c outcomes outcomes flights came sent (update_apart w.line f.line _ c (λ x. other (sym x))) moves own
 
-deliver-own : (w : RunState) (e : Event) (c : ℕ) (renders : List Rendering) (flights : List (Option ℕ)) (came : List ℕ) (sent : List Sending) (f : Flying) (answer : Option Answer) → f.rendered ≡ answer → flight_at f.number w.air ≡ Some f → Kept w c came sent
-    → Own w c renders flights came sent → DeliverAs w e f answer → Own (afters w e.body) c renders (flights ++ treated_in c e.body) (came ++ []) (sent ++ sent_in c e.mood e.body)
-deliver-own w e c renders flights came sent f None has there kept own is = idle-own e.mood w c renders flights came [] sent e.body own is
-deliver-own w e c renders flights came sent f (Some answer) has there kept own to =
+deliver-own : (w : RunState) (e : Event) (c : ℕ) (outcomes : Outcomes) (flights : List (Option ℕ)) (came : List ℕ) (sent : List Sending) (f : Flying) (answer : Option Answer) → f.rendered ≡ answer → flight_at f.number w.air ≡ Some f → Kept w c came sent
+    → Own w c outcomes flights came sent → DeliverAs w e f answer → Own (afters w e.body) c outcomes (flights ++ treated_in c e.body) (came ++ []) (sent ++ sent_in c e.mood e.body)
+deliver-own w e c outcomes flights came sent f None has there kept own is = idle-own e.mood w c outcomes flights came [] sent e.body own is
+deliver-own w e c outcomes flights came sent f (Some answer) has there kept own to =
     let leads : LeadsNotes w e.mood (Passed f.number) f.line e.body = subst (λ note. LeadsNotes w e.mood note f.line e.body) to.1 to.2 in
-    leads-own e.mood w (Passed f.number) c renders flights came sent f (answer_in (flight_at f.number w.air)) _ e.body kept own (ap (over_with w f.number _ _) there) refl refl refl good leads
+    leads-own e.mood w (Passed f.number) c outcomes flights came sent f (answer_in (flight_at f.number w.air)) _ e.body kept own (ap (over_with w f.number _ _) there) refl refl refl good leads
   where
     given : answer_in (flight_at f.number w.air) ≡ answer
     given = ap answer_in there ∙ ap (λ o. unwrap_or o fixed_answer) has
 
-    good : (k : ℕ) (request : Req) → f.number ≡ k → IsAskedFor w.air (flights_asked w.log.entries) k request → IsOfFlight renders k request (Says (answer_in (flight_at f.number w.air)))
+    good : (k : ℕ) (request : Req) → f.number ≡ k → IsAskedFor w.air (flights_asked w.log.entries) k request → IsOfFlight outcomes k request (Says (answer_in (flight_at f.number w.air)))
     good k request same asked =
         let here : flight_at k w.air ≡ Some f = subst (λ n. flight_at n w.air ≡ Some f) same there in
-        let was : WasRendered renders k f.request answer = own.air_is k f answer here has in
-        subst (λ a. IsOfFlight renders k request (Says a)) (sym given) (inl (subst (λ r. WasRendered renders k r answer) (asked.same f here) was))
+        let was : WasRendered outcomes.renders k f.request answer = own.air_is k f answer here has in
+        subst (λ a. IsOfFlight outcomes k request (Says a)) (sym given) (inl (subst (λ r. WasRendered outcomes.renders k r answer) (asked.same f here) was))
 
-delivers-own : (w : RunState) (e : Event) (c : ℕ) (renders : List Rendering) (flights : List (Option ℕ)) (came : List ℕ) (sent : List Sending) (flying : Option Flying) → ((f : Flying) → flying ≡ Some f → flight_at f.number w.air ≡ Some f) → Kept w c came sent
-    → Own w c renders flights came sent → DeliverTo w e flying → Own (afters w e.body) c renders (flights ++ treated_in c e.body) (came ++ []) (sent ++ sent_in c e.mood e.body)
-delivers-own w e c renders flights came sent None there kept own is = idle-own e.mood w c renders flights came [] sent e.body own is
-delivers-own w e c renders flights came sent (Some f) there kept own to = deliver-own w e c renders flights came sent f f.rendered refl (there f refl) kept own to
+delivers-own : (w : RunState) (e : Event) (c : ℕ) (outcomes : Outcomes) (flights : List (Option ℕ)) (came : List ℕ) (sent : List Sending) (flying : Option Flying) → ((f : Flying) → flying ≡ Some f → flight_at f.number w.air ≡ Some f) → Kept w c came sent
+    → Own w c outcomes flights came sent → DeliverTo w e flying → Own (afters w e.body) c outcomes (flights ++ treated_in c e.body) (came ++ []) (sent ++ sent_in c e.mood e.body)
+delivers-own w e c outcomes flights came sent None there kept own is = idle-own e.mood w c outcomes flights came [] sent e.body own is
+delivers-own w e c outcomes flights came sent (Some f) there kept own to = deliver-own w e c outcomes flights came sent f f.rendered refl (there f refl) kept own to
 
-loses-own : (w : RunState) (e : Event) (c : ℕ) (renders : List Rendering) (flights : List (Option ℕ)) (came : List ℕ) (sent : List Sending) (flying : Option Flying) → ((f : Flying) → flying ≡ Some f → flight_at f.number w.air ≡ Some f) → Kept w c came sent
-    → Own w c renders flights came sent → LoseTo w e flying → Own (afters w e.body) c renders (flights ++ treated_in c e.body) (came ++ []) (sent ++ sent_in c e.mood e.body)
-loses-own w e c renders flights came sent None there kept own is = idle-own e.mood w c renders flights came [] sent e.body own is
-loses-own w e c renders flights came sent (Some f) there kept own to =
-    leads-own e.mood w (Lost f.number) c renders flights came sent f (error_answer 502) _ e.body kept own (ap (over_with w f.number _ _) (there f refl)) refl refl refl (λ k request same asked. inr refl) to
+loses-own : (w : RunState) (e : Event) (c : ℕ) (outcomes : Outcomes) (flights : List (Option ℕ)) (came : List ℕ) (sent : List Sending) (flying : Option Flying) → ((f : Flying) → flying ≡ Some f → flight_at f.number w.air ≡ Some f) → Kept w c came sent
+    → Own w c outcomes flights came sent → ((n : ℕ) (rest : List Note) → e.body ≡ Lost n ∷ rest → WasLost outcomes.losses n) → LoseTo w e flying → Own (afters w e.body) c outcomes (flights ++ treated_in c e.body) (came ++ []) (sent ++ sent_in c e.mood e.body)
+loses-own w e c outcomes flights came sent None there kept own lost is = idle-own e.mood w c outcomes flights came [] sent e.body own is
+loses-own w e c outcomes flights came sent (Some f) there kept own lost to =
+    leads-own e.mood w (Lost f.number) c outcomes flights came sent f (error_answer 502) _ e.body kept own (ap (over_with w f.number _ _) (there f refl)) refl refl refl (λ k request same asked. inr (subst (WasLost outcomes.losses) same (lost f.number to.rest to.begins), refl)) to
+
+renders-none : (outcomes : Outcomes) → with_renders outcomes [] ≡ outcomes
+renders-none outcomes = ap (λ rs. record { renders = rs; losses = outcomes.losses }) (append-nil outcomes.renders)
 
 -- what is rendered in the event is among what was rendered
-render-own : (w : RunState) (e : Event) (c : ℕ) (renders : List Rendering) (flights : List (Option ℕ)) (came : List ℕ) (sent : List Sending) (flying : Option Flying) → ((f : Flying) → flying ≡ Some f → flight_at f.number w.air ≡ Some f)
-    → Own w c renders flights came sent → RenderTo w e flying → Own (afters w e.body) c (renders ++ renders_in w e.mood.dry e.body) (flights ++ treated_in c e.body) (came ++ []) (sent ++ sent_in c e.mood e.body)
-render-own w e c renders flights came sent None there own is =
-    let none : renders ++ renders_in w e.mood.dry e.body ≡ renders = ap (λ notes. renders ++ renders_in w e.mood.dry notes) is ∙ append-nil renders in
-    subst (λ rs. Own (afters w e.body) c rs (flights ++ treated_in c e.body) (came ++ []) (sent ++ sent_in c e.mood e.body)) (sym none) (idle-own e.mood w c renders flights came [] sent e.body own is)
-render-own w e c renders flights came sent (Some f) there own to =
+render-own : (w : RunState) (e : Event) (c : ℕ) (outcomes : Outcomes) (flights : List (Option ℕ)) (came : List ℕ) (sent : List Sending) (flying : Option Flying) → ((f : Flying) → flying ≡ Some f → flight_at f.number w.air ≡ Some f)
+    → Own w c outcomes flights came sent → RenderTo w e flying → Own (afters w e.body) c (with_renders outcomes (renders_in w e.mood.dry e.body)) (flights ++ treated_in c e.body) (came ++ []) (sent ++ sent_in c e.mood e.body)
+render-own w e c outcomes flights came sent None there own is =
+    let none : with_renders outcomes (renders_in w e.mood.dry e.body) ≡ outcomes = ap (λ notes. with_renders outcomes (renders_in w e.mood.dry notes)) is ∙ renders-none outcomes in
+    subst (λ rs. Own (afters w e.body) c rs (flights ++ treated_in c e.body) (came ++ []) (sent ++ sent_in c e.mood e.body)) (sym none) (idle-own e.mood w c outcomes flights came [] sent e.body own is)
+render-own w e c outcomes flights came sent (Some f) there own to =
     let at = there f refl in
     let told : renders_in w e.mood.dry (Rendered f.number to.0 ∷ []) ≡ record { number = f.number; request = f.request; answer = to.0; dry = e.mood.dry } ∷ [] = ap (λ o. rendering_of to.0 e.mood.dry o ++ []) at in
-    let moves = moved-rendered w.air (flights_asked w.log.entries) f to.0 e.mood.dry renders at own.air_is in
+    let moves = moved-rendered w.air (flights_asked w.log.entries) f to.0 e.mood.dry outcomes at own.air_is in
     let v = state_after_note w (Rendered f.number to.0) in
-    let now = own-moved w v c renders _ flights came sent refl moves own in
+    let now = own-moved w v c outcomes _ flights came sent refl moves own in
     rw (to.2, told) (own-quiet v c _ flights came sent now)
 
-direct-own : (w : RunState) (e : Event) (c : ℕ) (renders : List Rendering) (flights : List (Option ℕ)) (came : List ℕ) (sent : List Sending) (answer : Answer) → Own w c renders flights came sent → e.body ≡ answered answer ∷ []
-    → Own (afters w e.body) c renders (flights ++ treated_in c e.body) (came ++ []) (sent ++ sent_in c e.mood e.body)
-direct-own w e c renders flights came sent answer own is = rw is (own-quiet w c renders flights came sent own)
+direct-own : (w : RunState) (e : Event) (c : ℕ) (outcomes : Outcomes) (flights : List (Option ℕ)) (came : List ℕ) (sent : List Sending) (answer : Answer) → Own w c outcomes flights came sent → e.body ≡ answered answer ∷ []
+    → Own (afters w e.body) c outcomes (flights ++ treated_in c e.body) (came ++ []) (sent ++ sent_in c e.mood e.body)
+direct-own w e c outcomes flights came sent answer own is = rw is (own-quiet w c outcomes flights came sent own)
 
-still-own : (w : RunState) (e : Event) (c : ℕ) (renders : List Rendering) (flights : List (Option ℕ)) (came : List ℕ) (sent : List Sending) (s : Step) → IsStillStep s → HappensBy w e s → OwnBy (begun w e s) e c renders flights came sent s
-    → OwnBy (begun w e s) e c (renders ++ renders_in (begun w e s) e.mood.dry e.body) flights came sent s
-still-own w e c renders flights came sent s still happens own =
-    let none : renders ++ renders_in (begun w e s) e.mood.dry e.body ≡ renders = ap (λ rs. renders ++ rs) (still-renders (begun w e s) e.mood.dry e.body (step-still w e s still happens)) ∙ append-nil renders in
+still-own : (w : RunState) (e : Event) (c : ℕ) (outcomes : Outcomes) (flights : List (Option ℕ)) (came : List ℕ) (sent : List Sending) (s : Step) → IsStillStep s → HappensBy w e s → OwnBy (begun w e s) e c outcomes flights came sent s
+    → OwnBy (begun w e s) e c (with_renders outcomes (renders_in (begun w e s) e.mood.dry e.body)) flights came sent s
+still-own w e c outcomes flights came sent s still happens own =
+    let none : with_renders outcomes (renders_in (begun w e s) e.mood.dry e.body) ≡ outcomes = ap (with_renders outcomes) (still-renders (begun w e s) e.mood.dry e.body (step-still w e s still happens)) ∙ renders-none outcomes in
     subst (λ rs. OwnBy (begun w e s) e c rs flights came sent s) (sym none) own
 
-step-own : (w : RunState) (e : Event) (c : ℕ) (renders : List Rendering) (flights : List (Option ℕ)) (came : List ℕ) (sent : List Sending) (s : Step) → Kept w c came sent → Own w c renders flights came sent → HappensBy w e s
-    → OwnBy (begun w e s) e c (renders ++ renders_in (begun w e s) e.mood.dry e.body) flights came sent s
-step-own w e c renders flights came sent (step.Opened d peer) kept own is = still-own w e c renders flights came sent (step.Opened d peer) tt is (opened-own w e c d peer renders flights came sent (w.line d) own is)
-step-own w e c renders flights came sent (step.Piece d bytes) kept own to = still-own w e c renders flights came sent (step.Piece d bytes) tt to (piece-own w e c d bytes renders flights came sent (w.line d) refl kept own to)
-step-own w e c renders flights came sent (step.Gone d) kept own is = still-own w e c renders flights came sent (step.Gone d) tt is (gone-own w e c d renders flights came sent (w.line d) refl kept own is)
-step-own w e c renders flights came sent (step.Direct target) kept own to = still-own w e c renders flights came sent (step.Direct target) tt to (direct-own w e c renders flights came sent to.0 own to.2)
-step-own w e c renders flights came sent (step.Render pick) kept own to = render-own w e c renders flights came sent (picked pick is_unrendered w.air) (λ f found. picked-at w _ f kept.numbered found) own to
-step-own w e c renders flights came sent (step.Deliver pick) kept own to =
-    still-own w e c renders flights came sent (step.Deliver pick) tt to (delivers-own w e c renders flights came sent (picked pick is_rendered w.air) (λ f found. picked-at w _ f kept.numbered found) kept own to)
-step-own w e c renders flights came sent (step.Lose pick) kept own to =
-    still-own w e c renders flights came sent (step.Lose pick) tt to (loses-own w e c renders flights came sent (picked pick is_any w.air) (λ f found. picked-at w _ f kept.numbered found) kept own to)
+by-own : (w : RunState) (e : Event) (c : ℕ) (outcomes : Outcomes) (flights : List (Option ℕ)) (came : List ℕ) (sent : List Sending) (s : Step) → Kept w c came sent → Own w c outcomes flights came sent → ((n : ℕ) (rest : List Note) → e.body ≡ Lost n ∷ rest → WasLost outcomes.losses n) → HappensBy w e s
+    → OwnBy (begun w e s) e c (with_renders outcomes (renders_in (begun w e s) e.mood.dry e.body)) flights came sent s
+by-own w e c outcomes flights came sent (step.Opened d peer) kept own lost is = still-own w e c outcomes flights came sent (step.Opened d peer) tt is (opened-own w e c d peer outcomes flights came sent (w.line d) own is)
+by-own w e c outcomes flights came sent (step.Piece d bytes) kept own lost to = still-own w e c outcomes flights came sent (step.Piece d bytes) tt to (piece-own w e c d bytes outcomes flights came sent (w.line d) refl kept own to)
+by-own w e c outcomes flights came sent (step.Gone d) kept own lost is = still-own w e c outcomes flights came sent (step.Gone d) tt is (gone-own w e c d outcomes flights came sent (w.line d) refl kept own is)
+by-own w e c outcomes flights came sent (step.Direct target) kept own lost to = still-own w e c outcomes flights came sent (step.Direct target) tt to (direct-own w e c outcomes flights came sent to.0 own to.2)
+by-own w e c outcomes flights came sent (step.Render pick) kept own lost to = render-own w e c outcomes flights came sent (picked pick is_unrendered w.air) (λ f found. picked-at w _ f kept.numbered found) own to
+by-own w e c outcomes flights came sent (step.Deliver pick) kept own lost to =
+    still-own w e c outcomes flights came sent (step.Deliver pick) tt to (delivers-own w e c outcomes flights came sent (picked pick is_rendered w.air) (λ f found. picked-at w _ f kept.numbered found) kept own to)
+by-own w e c outcomes flights came sent (step.Lose pick) kept own lost to =
+    still-own w e c outcomes flights came sent (step.Lose pick) tt to (loses-own w e c outcomes flights came sent (picked pick is_any w.air) (λ f found. picked-at w _ f kept.numbered found) kept own lost to)
+
+-- what became of flights, after the event
+abbrev outcomes_then : RunState → Event → Step → Outcomes → Outcomes
+outcomes_then w e s outcomes = with_renders (with_losses outcomes (lost_in e.body)) (renders_in (begun w e s) e.mood.dry e.body)
+
+step-own : (w : RunState) (e : Event) (c : ℕ) (outcomes : Outcomes) (flights : List (Option ℕ)) (came : List ℕ) (sent : List Sending) (s : Step) → Kept w c came sent → Own w c outcomes flights came sent → HappensBy w e s
+    → OwnBy (begun w e s) e c (outcomes_then w e s outcomes) flights came sent s
+step-own w e c outcomes flights came sent s kept own happens =
+    let known : Own w c (with_losses outcomes (lost_in e.body)) flights came sent = own-moved w w c outcomes (with_losses outcomes (lost_in e.body)) flights came sent refl (moved-lost w.air (flights_asked w.log.entries) outcomes (lost_in e.body) own.air_is) own in
+    by-own w e c (with_losses outcomes (lost_in e.body)) flights came sent s kept known (λ n rest begins. record { before = outcomes.losses; later = lost_in rest; is = ap (λ notes. outcomes.losses ++ lost_in notes) begins }) happens
 
 -- ---- a run
-run-own : (w : RunState) (events : List Event) (c : ℕ) (renders : List Rendering) (flights : List (Option ℕ)) (came : List ℕ) (sent : List Sending) → Kept w c came sent → Own w c renders flights came sent → Run w events
-    → Own (state_after_events w events) c (renders ++ renders_of w events) (flights_after c flights events) (came_after c came events) (sent_after c sent events)
-run-own w [] c renders flights came sent kept own run = subst (λ rs. Own w c rs flights came sent) (sym (append-nil renders)) own
-run-own w (e ∷ events) c renders flights came sent kept own run =
-    let some = renders_in (begun w e e.step) e.mood.dry e.body in
-    let rest = run-own (after_event w e) events c (renders ++ some) (then_flights c flights e e.step) (then_came c came e e.step) (then_sent c sent e e.step) (by-step w e c came sent e.step kept run.0) (step-own w e c renders flights came sent e.step kept own run.0) run.1 in
-    subst (λ rs. Own (state_after_events (after_event w e) events) c rs (flights_after c (then_flights c flights e e.step) events) (came_after c (then_came c came e e.step) events) (sent_after c (then_sent c sent e e.step) events))
-    (append_assoc renders some (renders_of (after_event w e) events)) rest
+abbrev outcomes_after : Outcomes → RunState → List Event → Outcomes
+outcomes_after outcomes w events = record { renders = outcomes.renders ++ renders_of w events; losses = outcomes.losses ++ losses_of events }
 
-start-own : (publishing : Publishing) (farm : Farm) (content : Content) (c : ℕ) → Own (start_of publishing farm content) c [] [] [] []
+outcomes-more : (outcomes : Outcomes) (w : RunState) (e : Event) (events : List Event) → outcomes_after (outcomes_then w e e.step outcomes) (after_event w e) events ≡ outcomes_after outcomes w (e ∷ events)
+outcomes-more outcomes w e events =
+    ap (λ rs. record { renders = rs; losses = (outcomes.losses ++ lost_in e.body) ++ losses_of events }) (append_assoc outcomes.renders (renders_in (begun w e e.step) e.mood.dry e.body) (renders_of (after_event w e) events))
+    ∙ ap (λ ns. record { renders = outcomes.renders ++ renders_of w (e ∷ events); losses = ns }) (append_assoc outcomes.losses (lost_in e.body) (losses_of events))
+
+outcomes-none : (outcomes : Outcomes) (w : RunState) → outcomes_after outcomes w [] ≡ outcomes
+outcomes-none outcomes w = ap (λ rs. record { renders = rs; losses = outcomes.losses ++ [] }) (append-nil outcomes.renders) ∙ ap (λ ns. record { renders = outcomes.renders; losses = ns }) (append-nil outcomes.losses)
+
+run-own : (w : RunState) (events : List Event) (c : ℕ) (outcomes : Outcomes) (flights : List (Option ℕ)) (came : List ℕ) (sent : List Sending) → Kept w c came sent → Own w c outcomes flights came sent → Run w events
+    → Own (state_after_events w events) c (outcomes_after outcomes w events) (flights_after c flights events) (came_after c came events) (sent_after c sent events)
+run-own w [] c outcomes flights came sent kept own run = subst (λ os. Own w c os flights came sent) (sym (outcomes-none outcomes w)) own
+run-own w (e ∷ events) c outcomes flights came sent kept own run =
+    let rest = run-own (after_event w e) events c (outcomes_then w e e.step outcomes) (then_flights c flights e e.step) (then_came c came e e.step) (then_sent c sent e e.step) (by-step w e c came sent e.step kept run.0.0) (step-own w e c outcomes flights came sent e.step kept own run.0.0) run.1 in
+    subst (λ os. Own (state_after_events (after_event w e) events) c os (flights_after c (then_flights c flights e e.step) events) (came_after c (then_came c came e e.step) events) (sent_after c (then_sent c sent e e.step) events))
+    (outcomes-more outcomes w e events) rest
+
+abbrev no_outcomes : Outcomes
+no_outcomes = record { renders = []; losses = [] }
+
+start-own : (publishing : Publishing) (farm : Farm) (content : Content) (c : ℕ) → Own (start_of publishing farm content) c no_outcomes [] [] []
 start-own publishing farm content c = record {
   here = λ d some. absurd (let no : ⊥ = cc in no);
   over = λ none. record {
@@ -303,9 +329,9 @@ start-own publishing farm content c = record {
 }
 
 -- the last state of a run
-own-answers : InOrder → OfTurns → (w : RunState) (c : ℕ) (renders : List Rendering) (flights : List (Option ℕ)) (came : List ℕ) (sent : List Sending) (line : Option Connection) → w.line c ≡ line → Kept w c came sent → Own w c renders flights came sent
-    → AreOwnAnswers renders flights came sent
-own-answers order turns w c renders flights came sent (Some d) is kept own =
+own-answers : InOrder → OfTurns → (w : RunState) (c : ℕ) (outcomes : Outcomes) (flights : List (Option ℕ)) (came : List ℕ) (sent : List Sending) (line : Option Connection) → w.line c ≡ line → Kept w c came sent → Own w c outcomes flights came sent
+    → AreOwnAnswers outcomes flights came sent
+own-answers order turns w c outcomes flights came sent (Some d) is kept own =
     let past = kept.held.here d is in
     let still = idle-still d (kept.still d is) in
     record {
@@ -315,9 +341,9 @@ own-answers order turns w c renders flights came sent (Some d) is kept own =
         came_is = past.came_is;
         answers = record { turns = d.turns; ends = d.ends; slots = d.slots; spells = past.spells; of_turns = turns-past turns d came sent past; answers = answers-past order d came sent past still };
       };
-      own = each-map (IsOfAir w.air (flights_asked w.log.entries) renders) (IsOfRequest renders) (of-request w.air (flights_asked w.log.entries) renders) flights d.turns d.slots (own.here d is).each;
+      own = each-map (IsOfAir w.air (flights_asked w.log.entries) outcomes) (IsOfRequest outcomes) (of-request w.air (flights_asked w.log.entries) outcomes) flights d.turns d.slots (own.here d is).each;
     }
-own-answers order turns w c renders flights came sent None is kept own =
+own-answers order turns w c outcomes flights came sent None is kept own =
     let was = own.over is in
     let last = was.last in
     record {
@@ -341,5 +367,5 @@ pub answers-own : InOrder → OfTurns → AnswersAreOwn
 answers-own order turns publishing farm content events c run =
     let w = start_of publishing farm content in
     let kept = run-kept w events c [] [] (start-kept publishing farm content c) run in
-    let own = run-own w events c [] [] [] [] (start-kept publishing farm content c) (start-own publishing farm content c) run in
-    own-answers order turns (state_after_events w events) c (renders_of w events) (flights_since_opened c events) (came_since_opened c events) (sent_since_opened c events) ((state_after_events w events).line c) refl kept own
+    let own = run-own w events c no_outcomes [] [] [] (start-kept publishing farm content c) (start-own publishing farm content c) run in
+    own-answers order turns (state_after_events w events) c (record { renders = renders_of w events; losses = losses_of events }) (flights_since_opened c events) (came_since_opened c events) (sent_since_opened c events) ((state_after_events w events).line c) refl kept own

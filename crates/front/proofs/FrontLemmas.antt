@@ -1,7 +1,9 @@
 -- Whole steps of a front.
-use Rattle.std.proofs.Common.{◌≡◌, ℕ, ◌||◌, ◌&&◌, ◌++◌, Bool, true, false, List, [], ◌∷◌, Some, None, Result, Ok, Err, map, refl, ap, sym, subst, ◌∙◌, inl, inr}
+use Rattle.std.proofs.Common.{◌≡◌, ℕ, ◌||◌, ◌&&◌, ◌++◌, Bool, true, false, List, [], ◌∷◌, Some, None, Result, Ok, Err, map, refl, ap, sym, subst, ◌∙◌, ◌⊎◌, inl, inr}
 use Rattle.std.specs.Prelude.{◌==◌, ◌≢◌, IfOk, IsTrue, OnErr, OnOk, if◌then◌else◌, position, slice_get, slice_set}
+use Rattle.std.specs.List.{list_any}
 use Rattle.std.proofs.lemmas.Bool.{ne_eqb}
+use Rattle.std.proofs.lemmas.List.Folds.{list_any-append}
 use Rattle.std.specs.Ordering.{nat_cmp}
 use Rattle.std.specs.BTreeMap.{BTreeMap, get, WritesThrough}
 use Rattle.sp_base.specs.declared.answer.Answer.{Answer}
@@ -11,10 +13,10 @@ use Rattle.dispatch_rules.specs.Asking.{publisher_ask}
 use Rattle.http_front.specs.Turns.{Waits}
 use Rattle.connections.specs.Connections.{Connection}
 use Rattle.front.specs.Boards.{BoardTells, NotesGiven, Meets, ReadAt, ServedAs, SkyTied, event_of}
-use Rattle.front.specs.Events.{Event, Extends, IsOrFixed, RenderTo, is_picked, is_unrendered, mood_notes, picked}
+use Rattle.front.specs.Events.{Event, Extends, IsOrFixed, IsWanting, RenderTo, gives_fixed, is_picked, is_unrendered, mood_notes, picked}
 use Rattle.front.specs.Fronts.{IsGiven, BoardStands, TellsStep}
 use Rattle.front.specs.Lines.{Holds, LineReads}
-use Rattle.front.specs.Moves.{Serves, state_after_note, afters, content_rendered, flight_at, published_for, with_rendered, with_rendered_at}
+use Rattle.front.specs.Moves.{Mood, Serves, state_after_note, afters, content_rendered, flight_at, published_for, with_rendered, with_rendered_at}
 use Rattle.front.specs.Publishers.{Published, Publishing, direct_answer}
 use Rattle.front.specs.States.{RunState}
 use Rattle.front.specs.declared.board.Board.{Board}
@@ -28,8 +30,8 @@ use Rattle.front.specs.declared.step.Pick.{Pick}
 use Rattle.front.specs.declared.step.Step.{Step}
 use Rattle.front.specs.declared.step.Step.TheVariants.{Direct, Render}
 use Rattle.front.specs.declared.told.Told.{Told}
-use Rattle.front.proofs.BoardLemmas.{at-other, some-there}
-use Rattle.front.proofs.MoveLemmas.{IsStillStep, afters-push, event-same, serves-push}
+use Rattle.front.proofs.BoardLemmas.{at-other, calm-wanting, some-there}
+use Rattle.front.proofs.MoveLemmas.{IsStillStep, afters-push, serves-push, step-same}
 use Rattle.front.proofs.SkyLemmas.{found-none, found-some, get-within, place, rising-set}
 
 -- what follows from what an answer is
@@ -62,8 +64,21 @@ or-right : (a b : Bool) → IsTrue b → IsTrue (a || b)
 or-right true b is = refl
 or-right false b is = is
 
-pub given-none : {farm : Farm} (told : Told) (w : RunState) (c : ℕ) (k : Line) (sky : Sky) → told.notes.items ≡ [] → Meets farm w c k sky → NotesGiven told.dry told.notes.items farm w c k sky
-given-none told w c k sky none meets = rw none (record { serves = λ m allows. tt; meets = meets })
+or-here : (b : Bool) → (b || true) ≡ true
+or-here true = refl
+or-here false = refl
+
+or-either : {P Q : Type 0} (a b : Bool) → (IsTrue a → P) → (IsTrue b → Q) → IsTrue (a || b) → P ⊎ Q
+or-either true b p q is = inl (p refl)
+or-either false b p q is = inr (q is)
+
+-- a note that gives the fixed 507 is among the notes, one more among them
+fixed-push : (notes : List Note) (note : Note) (all : List Note) → all ≡ notes ++ note ∷ [] → IsTrue (list_any gives_fixed notes) ⊎ IsTrue (gives_fixed note) → IsTrue (list_any gives_fixed all)
+fixed-push notes note all is (inl before) = ap (list_any gives_fixed) is ∙ list_any-append gives_fixed notes (note ∷ []) ∙ ap (λ b. b || (gives_fixed note || false)) before
+fixed-push notes note all is (inr here) = ap (list_any gives_fixed) is ∙ list_any-append gives_fixed notes (note ∷ []) ∙ ap (λ b. list_any gives_fixed notes || (b || false)) here ∙ or-here (list_any gives_fixed notes)
+
+pub given-none : {farm : Farm} (told : Told) (w : RunState) (c : ℕ) (k : Line) (sky : Sky) → told.notes.items ≡ [] → told.dry ≡ false → Meets farm w c k sky → NotesGiven told.dry told.notes.items farm w c k sky
+given-none told w c k sky none calm meets = rw none (record { serves = λ m allows. tt; wanting = λ dry. absurd (let no : ⊥ = cc in no); meets = meets })
 
 pub given-more : {farm : Farm} (told next : Told) (w : RunState) (c : ℕ) (k j : Line) (sky new : Sky) (note : Note) (dry : Bool) → NotesGiven told.dry told.notes.items farm w c k sky
     → ((u : RunState) → Meets farm u c k sky → ServedAs (Said note dry) farm u c j new) → next.notes.items ≡ told.notes.items ++ note ∷ [] → next.dry ≡ (told.dry || dry) → NotesGiven next.dry next.notes.items farm w c j new
@@ -71,7 +86,8 @@ given-more {farm} told next w c k j sky new note dry given served notes dried =
     let one = served (afters w told.notes.items) given.meets in
     record {
       serves = λ m allows. subst (Serves m w c) (sym notes)
-          (serves-push m w c told.notes.items note (given.serves m (λ is. allows (sym-true (or-left told.dry dry is)))) (one.0 m (λ is. allows (sym-true (or-right told.dry dry is)))));
+          (serves-push m w c told.notes.items note (given.serves m (λ is. allows (sym-true (or-left told.dry dry is)))) (one.0.0 m (λ is. allows (sym-true (or-right told.dry dry is)))));
+      wanting = λ is. fixed-push told.notes.items note next.notes.items notes (or-either told.dry dry given.wanting one.0.1 (sym dried ∙ is));
       meets = subst (λ u. Meets farm u c j new) (sym (ap (afters w) notes ∙ afters-push w told.notes.items note)) one.1;
     }
   where
@@ -83,6 +99,11 @@ pub either : {E : Type 0} (r : Result Answer E) (answer wanted : Answer) (dry : 
 either (Ok a) answer wanted dry given ok = inl (given.0 ∙ ok, given.1)
 either (Err e) answer wanted dry given ok = inr given
 
+-- where memory is wanting the answer is the fixed one
+fixed-wanting : (m : Mood) (answer wanted : Answer) → IsOrFixed m answer wanted → IsTrue m.dry → ((answer.status == 507) || false) ≡ true
+fixed-wanting m answer wanted (inl own) dry = absurd (let calm : m.dry ≡ false = own.1 in let no : ⊥ = cc in no)
+fixed-wanting m answer wanted (inr fixed) dry = rw fixed.0 refl
+
 pub direct-event : (p : Publishing) (content later : Content) (farm other : Farm) (b h : Board) (target : List ℕ) (answer : Answer) (dry : Bool) (told : Told) → later ≡ content → other ≡ farm → h ≡ b
     → IsOrFixed (record { dry = dry }) answer (direct_answer p farm content target) → told.notes.items ≡ answered answer ∷ [] → told.dry ≡ dry → TellsStep (BoardStands p content farm b) (BoardStands p later other h) (Direct target) told
 direct-event p content later farm other b h target answer dry told same_content same_farm same_board given notes dried = λ w stands.
@@ -92,6 +113,7 @@ direct-event p content later farm other b h target answer dry told same_content 
       turns = [];
       ends = Waits;
       happens = (answer, or, notes);
+      wanting = λ dry. ap (list_any gives_fixed) notes ∙ fixed-wanting (record { dry = told.dry }) answer _ or dry;
       stands = subst (BoardStands p later other h) (sym (ap (afters w) notes)) (record {
         publishing_is = stands.publishing_is;
         content_is = stands.content_is ∙ sym same_content;
@@ -100,15 +122,16 @@ direct-event p content later farm other b h target answer dry told same_content 
     }
 
 -- ---- a flight is rendered
-pub render-none : (p : Publishing) (content : Content) (farm : Farm) (b : Board) (pick : Pick) (told : Told) → position (λ flying. is_picked pick flying && is_unrendered flying) b.sky.flights.items ≡ None → told.notes.items ≡ Idle ∷ []
+pub render-none : (p : Publishing) (content : Content) (farm : Farm) (b : Board) (pick : Pick) (told : Told) → position (λ flying. is_picked pick flying && is_unrendered flying) b.sky.flights.items ≡ None → told.notes.items ≡ Idle ∷ [] → told.dry ≡ false
     → TellsStep (BoardStands p content farm b) (BoardStands p content farm b) (Render pick) told
-render-none p content farm b pick told none notes = λ w stands.
+render-none p content farm b pick told none notes calm = λ w stands.
     let e : Event = event_of (Render pick) told [] Waits in
     let no : picked pick is_unrendered w.air ≡ None = ap (picked pick is_unrendered) (sym stands.board_is.sky.air) ∙ found-none (λ flying. is_picked pick flying && is_unrendered flying) b.sky.flights.items none in
     record {
       turns = [];
       ends = Waits;
       happens = subst (RenderTo w e) (sym no) notes;
+      wanting = calm-wanting told.dry told.notes.items calm;
       stands = subst (BoardStands p content farm b) (sym (ap (afters w) notes)) stands;
     }
 
@@ -164,6 +187,7 @@ render-event p content later farm other b mid h pick at n answer copy dry told s
       turns = [];
       ends = Waits;
       happens = subst (RenderTo w e) (sym some) (answer, gives.answer_is, note);
+      wanting = λ dry. ap (list_any gives_fixed) note ∙ fixed-wanting (record { dry = told.dry }) answer _ gives.answer_is dry;
       stands = subst (BoardStands p later other h) (sym (ap (afters w) note)) (record {
         publishing_is = stands.publishing_is;
         content_is = ap (content_rendered w answer) number_is ∙ sym gives.content_is;
@@ -180,11 +204,12 @@ pub board-tells : (p : Publishing) (content : Content) (farm : Farm) (b h : Boar
 board-tells p content farm b h step told still tells = λ w stands.
     let done = tells w stands.board_is in
     let e : Event = event_of step told done.turns done.ends in
-    let stays = event-same w e still done.happens in
+    let stays = step-same w e step still done.happens in
     record {
       turns = done.turns;
       ends = done.ends;
       happens = done.happens;
+      wanting = done.wanting;
       stands = record { publishing_is = stays.publishing ∙ stands.publishing_is; content_is = stays.content ∙ stands.content_is; board_is = done.stands };
     }
 
@@ -193,7 +218,7 @@ pub extends : (Before After : RunState → Type 0) (step : Step) (told : Told) (
 extends Before After step told notes tells is = record {
   extended = λ w before.
       let done = tells w before in
-      record { event = event_of step told done.turns done.ends; step_is = refl; notes_are = sym is; happens = done.happens; stands = done.stands };
+      record { event = event_of step told done.turns done.ends; step_is = refl; notes_are = sym is; happens = (done.happens, done.wanting); stands = done.stands };
 }
 
 pub ok-map-two : {A E : Type 0} {P Q R : A → Type 0} (r : Result A E) → IfOk r P → IfOk r Q → ((a : A) → P a → Q a → R a) → IfOk r R

@@ -13,6 +13,7 @@ use Rattle.resource_tree.specs.Content.{Content}
 use Rattle.any_config.specs.declared.farm.Farm.{Farm}
 use Rattle.cover_rules.specs.declared.page.PageKey.{PageKey}
 use Rattle.http_front.specs.Faults.{fault_status}
+use Rattle.http_front.specs.declared.fault.InFault.{InFault}
 use Rattle.http_front.specs.declared.turn.Turn.TheVariants.{Continue, Whole}
 use Rattle.connections.specs.Slots.{Slot, Awaits, fault_slot, request_slot}
 use Rattle.connections.specs.Connections.{Connection, Due, Send, Treat, Refuse, Close, Nothing, fed, fresh, is_crowded, with_landing, with_sent}
@@ -68,12 +69,12 @@ local-held w c d came sent request status is owed past =
     let now : (state_after_note w (Local c status)).line c ≡ Some (treated slot d) = update_here w.line c _ ∙ ap (option_map (λ line. treated (local_slot (request_of (due_of_connection w c)) status line) line)) is ∙ ap (λ r. Some (treated (local_slot r status d) d)) some in
     slot-held w (state_after_note w (Local c status)) c d came sent slot past (rw owed (_, _, refl)) now
 
-refused-held : (w : RunState) (c : ℕ) (d : Connection) (came : List ℕ) (sent : List Sending) (fault : _) (status : ℕ) → w.line c ≡ Some d → connection.due d ≡ Refuse fault → Past d came sent → Held (state_after_note w (Local c status)) c came (sent ++ [])
-refused-held w c d came sent fault status is owed past =
+refused-held : (w : RunState) (c : ℕ) (d : Connection) (came : List ℕ) (sent : List Sending) (fault : InFault) → w.line c ≡ Some d → connection.due d ≡ Refuse fault → Past d came sent → Held (state_after_note w (Local c (fault_status fault))) c came (sent ++ [])
+refused-held w c d came sent fault is owed past =
     let none : request_of (due_of_connection w c) ≡ None = ap request_of (ap line_due is ∙ owed) in
-    let slot = local_slot None status d in
-    let now : (state_after_note w (Local c status)).line c ≡ Some (treated slot d) = update_here w.line c _ ∙ ap (option_map (λ line. treated (local_slot (request_of (due_of_connection w c)) status line) line)) is ∙ ap (λ r. Some (treated (local_slot r status d) d)) none in
-    slot-held w (state_after_note w (Local c status)) c d came sent slot past (rw owed (_, refl)) now
+    let slot = local_slot None (fault_status fault) d in
+    let now : (state_after_note w (Local c (fault_status fault))).line c ≡ Some (treated slot d) = update_here w.line c _ ∙ ap (option_map (λ line. treated (local_slot (request_of (due_of_connection w c)) (fault_status fault) line) line)) is ∙ ap (λ r. Some (treated (local_slot r (fault_status fault) d) d)) none in
+    slot-held w (state_after_note w (Local c (fault_status fault))) c d came sent slot past (rw owed refl) now
 
 asked-held : (w : RunState) (c n : ℕ) (key : Option PageKey) (d : Connection) (came : List ℕ) (sent : List Sending) (request : Req) → w.line c ≡ Some d → connection.due d ≡ Treat (Whole request) → Past d came sent → Held (state_after_note w (asked n c key)) c came (sent ++ [])
 asked-held w c n key d came sent request is owed past =
@@ -110,7 +111,7 @@ gives-held m w c d came sent (Send slot) note is owed past gives =
 gives-held m w c d came sent (Treat Continue) note is owed past gives = absurd gives
 gives-held m w c d came sent (Treat (Whole request)) note is owed past (inl first) = first-held m w c d came sent request note is owed past first
 gives-held m w c d came sent (Treat (Whole request)) note is owed past (inr dry) = rw dry.1 (local-held w c d came sent request 507 is owed past)
-gives-held m w c d came sent (Refuse fault) note is owed past gives = rw gives (refused-held w c d came sent fault (fault_status fault) is owed past)
+gives-held m w c d came sent (Refuse fault) note is owed past gives = rw gives (refused-held w c d came sent fault is owed past)
 gives-held m w c d came sent Close note is owed past gives =
     let last = last-now d came (sent ++ []) (past-as d came sent (sent ++ []) (sym (append-nil sent)) past) (λ slot e. let no : ⊥ = cc in no) in
     rw gives (held-none (state_after_note w (Shut c)) c came (sent ++ []) (update_here w.line c None) last)
@@ -442,7 +443,7 @@ by-step w e c came sent (step.Lose pick) kept to = came-none _ c came _ (loses-k
 
 pub run-kept : (w : RunState) (events : List Event) (c : ℕ) (came : List ℕ) (sent : List Sending) → Kept w c came sent → Run w events → Kept (state_after_events w events) c (came_after c came events) (sent_after c sent events)
 run-kept w [] c came sent kept run = kept
-run-kept w (e ∷ events) c came sent kept run = run-kept (after_event w e) events c (then_came c came e e.step) (then_sent c sent e e.step) (by-step w e c came sent e.step kept run.0) run.1
+run-kept w (e ∷ events) c came sent kept run = run-kept (after_event w e) events c (then_came c came e e.step) (then_sent c sent e e.step) (by-step w e c came sent e.step kept run.0.0) run.1
 
 pub start-kept : (publishing : Publishing) (farm : Farm) (content : Content) (c : ℕ) → Kept (start_of publishing farm content) c [] []
 start-kept publishing farm content c = record {

@@ -1,6 +1,7 @@
 -- What is left of a connection, when something happens to it.
 use Rattle.std.proofs.Common.{◌≡◌, ℕ, ◌||◌, ◌+◌, suc, Bool, true, false, cond, List, [], ◌∷◌, ◌++◌, length, drop, Option, Some, None, refl, ap, sym, subst, ◌∙◌, arith, append_assoc, append-nil, length-append}
-use Rattle.std.specs.Prelude.{IfSome, slice_get}
+use Rattle.std.specs.Prelude.{IsTrue, IfSome, slice_get}
+use Rattle.http_front.specs.Answers.{fixed_507}
 use Rattle.http_front.specs.Turns.{End, SpellsTurns}
 use Rattle.http_front.specs.Intakes.{StandsFor}
 use Rattle.http_front.specs.declared.fault.InFault.{InFault}
@@ -261,6 +262,10 @@ new-holds k peer stands none whole tied = record {
   };
   ready = λ stays. rw none tt;
 }
+
+pub send-dry : (k : Line) (sent : Option Sending) → IfSome sent (λ s. (m : Connection) → Tied k.outbox m → IsTrue s.dry → s.bytes ≡ fixed_507) → IfSome sent (λ s. (m : Connection) → Holds k m → IsTrue s.dry → s.bytes ≡ fixed_507)
+send-dry k None fixed = tt
+send-dry k (Some s) fixed = λ m holds dry. fixed m holds.keeps.tied dry
 
 pub send-holds : (k : Line) (o : Outbox) (sent : Option Sending) → IfSome sent (λ s. (m : Connection) → Tied k.outbox m → IsDueSending m s × Tied o (with_sent s.bytes m))
     → IfSome sent (λ s. (m : Connection) → Holds k m → IsDueSending m s × Holds (record k { outbox = o }) (with_sent s.bytes m))

@@ -181,7 +181,7 @@ pub step-same : (w : RunState) (e : Event) (s : Step) → IsStillStep s → Happ
 step-same w e s still happens = chain w (begun w e s) (afters (begun w e s) e.body) (begun-same w e s) (afters-same (begun w e s) e.body (step-still w e s still happens))
 
 pub event-same : (w : RunState) (e : Event) → IsStillStep e.step → Happens w e → SameContent w (after_event w e)
-event-same w e still happens = step-same w e e.step still happens
+event-same w e still happens = step-same w e e.step still happens.0
 
 -- ---- what notes on one connection leave alone
 pub record Frame (c : ℕ) (w v : RunState) : Type 0 where

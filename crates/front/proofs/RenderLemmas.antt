@@ -155,8 +155,8 @@ step-publishing w e (step.Lose pick) happens = (step-same w e (step.Lose pick) t
 run-from : (w : RunState) (events : List Event) → IsNeverFixed w.publishing → Numbered w → Run w events → From w (renders_of w events) (state_after_events w events).content
 run-from w [] never numbered run = refl
 run-from w (e ∷ events) never numbered run =
-    let later = run-from (after_event w e) events (subst IsNeverFixed (sym (step-publishing w e e.step run.0)) never) (step-numbered w e e.step numbered run.0) run.1 in
-    from-step w e e.step (renders_of (after_event w e) events) _ never numbered run.0 later
+    let later = run-from (after_event w e) events (subst IsNeverFixed (sym (step-publishing w e e.step run.0.0)) never) (step-numbered w e e.step numbered run.0.0) run.1 in
+    from-step w e e.step (renders_of (after_event w e) events) _ never numbered run.0.0 later
 
 pub renders-published : (publishing : Publishing) (farm : Farm) (content : Content) (events : List Event) → IsNeverFixed publishing → Run (start_of publishing farm content) events
     → ArePublished publishing farm content (renders_of (start_of publishing farm content) events) (state_after_events (start_of publishing farm content) events).content

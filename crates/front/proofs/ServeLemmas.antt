@@ -9,14 +9,14 @@ use Rattle.dispatch_rules.specs.Admission.{admits}
 use Rattle.http_front.specs.Faults.{fault_status}
 use Rattle.http_front.specs.declared.fault.InFault.{InFault}
 use Rattle.http_front.specs.declared.turn.Turn.TheVariants.{Whole}
-use Rattle.connections.specs.Slots.{Slot, Awaits, MayAnswer, fault_slot, request_slot}
+use Rattle.connections.specs.Slots.{Slot, Awaits, MayAnswer, fault_slot, local_response, request_slot}
 use Rattle.connections.specs.Connections.{Connection, Due, Refuse, Send, Treat, is_crowded, with_sent}
 use Rattle.connections.specs.Histories.{IsDueSending}
 use Rattle.connections.specs.Ties.{Tied}
 use Rattle.connections.specs.declared.sending.Sending.{Sending}
 use Rattle.front.specs.Boards.{GivesDry, IsAnswering, Meets, OwesFault, OwesRequest, SkyTied, is_full_sky}
 use Rattle.front.specs.Lines.{Holds, Owes}
-use Rattle.front.specs.Moves.{Mood, GivesDue, IsFirstPoint, MaySend, state_after_note, asked_by, points, due_of_connection, line_due, is_crowded_line, is_front_full, local_response, local_slot, new_flight, request_of, treated}
+use Rattle.front.specs.Moves.{Mood, GivesDue, IsFirstPoint, MaySend, state_after_note, asked_by, points, due_of_connection, line_due, is_crowded_line, is_front_full, local_slot, new_flight, request_of, treated}
 use Rattle.front.specs.States.{RunState, flights_asked}
 use Rattle.front.specs.declared.line.Line.{Line}
 use Rattle.front.specs.declared.note.Note.{Note}
@@ -64,10 +64,15 @@ away-owed w c status request crowded admitted full dry crowd may room (inr is) m
     let wanting : dry ≡ true = cc in
     inr (allows wanting, ap (Local c) same)
 
--- where memory is wanting for the answer, too
-pub away-afforded : (crowded admitted full : Bool) (status here : ℕ) (dry wanting : Bool) → IsAnswering crowded admitted full (Here status dry) → ((here ≡ status) × (wanting ≡ dry)) ⊎ ((here ≡ 507) × (wanting ≡ true)) → IsAnswering crowded admitted full (Here here wanting)
-away-afforded crowded admitted full status here dry wanting is (inl same) = rw (same.0, same.1) is
-away-afforded crowded admitted full status here dry wanting is (inr fixed) = inr (rw (fixed.0, fixed.1) refl)
+-- where memory was wanting to find the point, that is the fixed 507
+away-fixed : (crowded admitted full dry : Bool) (status : ℕ) → IsAnswering crowded admitted full (Here status dry) → IsTrue dry → (status == 507) ≡ true
+away-fixed true admitted full dry status (inl is) wanting = absurd (let at : Here status dry ≡ Here 503 false = is in let no : ⊥ = cc in no)
+away-fixed false false full dry status (inl is) wanting = absurd (let at : Here status dry ≡ Here 404 false = is in let no : ⊥ = cc in no)
+away-fixed false true true dry status (inl is) wanting = absurd (let at : Here status dry ≡ Here 503 false = is in let no : ⊥ = cc in no)
+away-fixed false true false dry status (inl is) wanting = absurd (let at : Here status dry ≡ InFlight = is in let no : ⊥ = cc in no)
+away-fixed crowded admitted full dry status (inr is) wanting =
+    let same : status ≡ 507 = cc in
+    rw same refl
 
 pub given-away : {farm : Farm} (w : RunState) (c status : ℕ) (k j : Line) (sky : Sky) (request : Req) (crowded dry : Bool) → (owes : OwesRequest farm w c k sky request) → crowded ≡ is_crowded owes.connection
     → IsAnswering crowded (admits farm request) (is_full_sky sky) (Here status dry) → ((m : Connection) → Owes k m → Holds j (treated (request_slot request (crowded || status == 507) (local_response status)) m))
@@ -77,7 +82,7 @@ given-away {farm} w c status k j sky request crowded dry owes is_crowd answering
     let owed : due_of_connection w c ≡ Treat (Whole request) = ap line_due owes.open_is ∙ owes.due_is in
     let some : request_of (due_of_connection w c) ≡ Some request = ap request_of owed in
     let line_crowd : is_crowded_line (w.line c) ≡ crowded = crowded-is w c m owes.open_is ∙ sym is_crowd in (
-      λ mood allows. due-gives mood w c _ _ owed (away-owed w c status request crowded (admits farm request) (is_full_sky sky) dry line_crowd (ap (λ x. admits x request) owes.farm_is) (full-is sky w owes.sky_is) answering mood allows),
+      (λ mood allows. due-gives mood w c _ _ owed (away-owed w c status request crowded (admits farm request) (is_full_sky sky) dry line_crowd (ap (λ x. admits x request) owes.farm_is) (full-is sky w owes.sky_is) answering mood allows), away-fixed crowded (admits farm request) (is_full_sky sky) dry status answering),
       record {
         connection = treated (request_slot request (crowded || status == 507) (local_response status)) m;
         open_is = update_here w.line c _ ∙ ap (option_map (λ line. treated (local_slot (request_of (due_of_connection w c)) status line) line)) owes.open_is
@@ -111,7 +116,7 @@ given-ask {farm} w c n k j sky new request crowded owes is_crowd answering numbe
     let free : is_front_full w ≡ false = full-is sky w owes.sky_is ∙ passes.2 in
     let next : asked n c None ≡ asked (flights_asked w.log.entries + 1) c None = ap (λ x. asked x c None) (number ∙ ap (λ x. x + 1) owes.sky_is.asked) in
     let is : state_after_note w (asked n c None) ≡ asked_by w n c None (Some request) = ap (asked_by w n c None) some in (
-      λ mood allows. due-gives mood w c _ _ owed (inl (inr (λ crowd. let no : ⊥ = cc in no, inr (λ hidden. let no : ⊥ = cc in no, inr (λ full. let no : ⊥ = cc in no, inl (tt, next)))))),
+      (λ mood allows. due-gives mood w c _ _ owed (inl (inr (λ crowd. let no : ⊥ = cc in no, inr (λ hidden. let no : ⊥ = cc in no, inr (λ full. let no : ⊥ = cc in no, inl (tt, next)))))), λ wanting. absurd (let no : ⊥ = cc in no)),
       subst (λ v. Meets farm v c j new) (sym is) (record {
         connection = treated (request_slot request false (Awaits n)) m;
         open_is = update_here w.line c _ ∙ ap (option_map (treated (request_slot request false (Awaits n)))) owes.open_is;

@@ -22,15 +22,15 @@ abbrev pub InOrder : Type 0
 InOrder = (peer : List ℕ) (moves : List Move) → Follows (fresh peer) moves → ((slot : Slot) → connection.due (after_all (fresh peer) moves) ≢ Send slot) → AnswersRun (after_all (fresh peer) moves).slots (sendings moves)
 
 abbrev pub OfTurns : Type 0
-OfTurns = (peer : List ℕ) (moves : List Move) → Follows (fresh peer) moves → AreOfTurns (after_all (fresh peer) moves).turns (after_all (fresh peer) moves).slots
+OfTurns = (peer : List ℕ) (moves : List Move) → Follows (fresh peer) moves → AreOfTurns (after_all (fresh peer) moves).turns (after_all (fresh peer) moves).ends (after_all (fresh peer) moves).slots
 
 pub answers-past : InOrder → (d : Connection) (came : List ℕ) (sent : List Sending) → Past d came sent → ((slot : Slot) → connection.due d ≡ Send slot → ⊥) → AnswersRun d.slots sent
 answers-past law d came sent past still =
     let answers = law past.peer past.moves past.follows (λ slot e. still slot (ap connection.due (sym past.is) ∙ e)) in
     rw (past.is, past.sent_is) at answers
 
-pub turns-past : OfTurns → (d : Connection) (came : List ℕ) (sent : List Sending) → Past d came sent → AreOfTurns d.turns d.slots
-turns-past law d came sent past = subst (λ (x : Connection). AreOfTurns x.turns x.slots) past.is (law past.peer past.moves past.follows)
+pub turns-past : OfTurns → (d : Connection) (came : List ℕ) (sent : List Sending) → Past d came sent → AreOfTurns d.turns d.ends d.slots
+turns-past law d came sent past = subst (λ (x : Connection). AreOfTurns x.turns x.ends x.slots) past.is (law past.peer past.moves past.follows)
 
 pub stream-past : InOrder → OfTurns → (d : Connection) (came : List ℕ) (sent : List Sending) → Past d came sent → ((slot : Slot) → connection.due d ≡ Send slot → ⊥) → AnswersStream d.stream sent
 stream-past order turns d came sent past still = record {
@@ -94,7 +94,7 @@ answered-in-order law publishing farm content events c d run some =
     answers-past law d _ _ (kept.held.here d some) (idle-still d (kept.still d some))
 
 pub slots-of-turns : OfTurns → (publishing : Publishing) (farm : Farm) (content : Content) (events : List Event) (c : ℕ) (d : Connection) → Run (start_of publishing farm content) events
-    → (state_after_events (start_of publishing farm content) events).line c ≡ Some d → AreOfTurns d.turns d.slots
+    → (state_after_events (start_of publishing farm content) events).line c ≡ Some d → AreOfTurns d.turns d.ends d.slots
 slots-of-turns law publishing farm content events c d run some = turns-past law d _ _ ((end-kept publishing farm content events c run).held.here d some)
 
 pub read-all : (publishing : Publishing) (farm : Farm) (content : Content) (events : List Event) (c : ℕ) (d : Connection) → Run (start_of publishing farm content) events

@@ -29,13 +29,14 @@ AreAnsweredAlike [] others = Unit {0}
 AreAnsweredAlike (slot ∷ slots) [] = Unit {0}
 AreAnsweredAlike (slot ∷ slots) (other ∷ others) = (is_answered slot.response ≡ true → is_answered other.response ≡ true → slot ≡ other) × AreAnsweredAlike slots others
 
--- This came on one connection, and this and more on another: the turns that were read of the one begin those of the other, or the
--- other way round; and so do the bytes that were sent, where the same requests had the same answers.
+-- This came on one connection, and this and more on another, and what was sent answers it. In whatever way that is seen: the turns that
+-- were read of the one begin those of the other, or the other way round; and so do the bytes that were sent, where the same requests had
+-- the same answers.
 pub record AreCutAlike (came more : List ℕ) (sent other : List Sending) : Type 0 where
   pub one : AnswersWhatCame came sent
   pub two : AnswersWhatCame (came ++ more) other
-  pub turns : OneBegins one.answers.turns two.answers.turns
-  pub bytes : AreAnsweredAlike one.answers.slots two.answers.slots → AreCalm sent → AreCalm other → OneBegins (bytes_sent sent) (bytes_sent other)
+  pub turns : (x : AnswersWhatCame came sent) (y : AnswersWhatCame (came ++ more) other) → OneBegins x.answers.turns y.answers.turns
+  pub bytes : (x : AnswersWhatCame came sent) (y : AnswersWhatCame (came ++ more) other) → AreAnsweredAlike x.answers.slots y.answers.slots → AreCalm sent → AreCalm other → OneBegins (bytes_sent sent) (bytes_sent other)
 
 -- How a stream was cut into pieces changes no byte that is sent, in one run or in two, whether the connections are open, shut or gone.
 abbrev pub CuttingsAgree : Type 0

@@ -1,34 +1,40 @@
 -- What a run's steps leave open.
-use Rattle.std.specs.Prelude.{◌≡◌, false, List, [], ◌∷◌, map}
+use Rattle.std.specs.Prelude.{◌≡◌, false, List, [], ◌∷◌, Option, Some, None, map}
 use Rattle.resource_tree.specs.Content.{Content}
 use Rattle.any_config.specs.declared.farm.Farm.{Farm}
 use Rattle.http_front.specs.Turns.{End}
+use Rattle.connections.specs.Connections.{Connection}
 use Rattle.front.specs.declared.note.Note.{Note}
 use Rattle.front.specs.declared.step.Step.{Step}
 use Rattle.front.specs.declared.step.Step.TheVariants.{Opened, Piece, Gone, Direct, Render, Deliver, Lose}
-use Rattle.front.specs.Events.{Event, Run, notes_of}
+use Rattle.front.specs.Events.{Event, Run, after_event, notes_of}
 use Rattle.front.specs.Publishers.{Publishing}
-use Rattle.front.specs.States.{start_of}
+use Rattle.front.specs.States.{RunState, start_of}
 
 -- what each event does
 abbrev pub event_steps : List Event → List Step
 event_steps events = map (λ (e : Event). e.step) events
 
--- the stream to which a step brings bytes ends alike
-abbrev pub IsSameEnd : Step → End → End → Type 0
-IsSameEnd (Opened c peer) one other = Unit {0}
-IsSameEnd (Piece c bytes) one other = one ≡ other
-IsSameEnd (Gone c) one other = Unit {0}
-IsSameEnd (Direct target) one other = Unit {0}
-IsSameEnd (Render pick) one other = Unit {0}
-IsSameEnd (Deliver pick) one other = Unit {0}
-IsSameEnd (Lose pick) one other = Unit {0}
+-- what comes on the connection is read, and then its stream ends alike
+abbrev pub IsSameEndOf : Option Connection → End → End → Type 0
+IsSameEndOf None one other = Unit {0}
+IsSameEndOf (Some line) one other = line.closing ≡ false → one ≡ other
 
--- after each event the stream ends alike to which it brought bytes
-abbrev pub EndAlike : List Event → List Event → Type 0
-EndAlike [] others = Unit {0}
-EndAlike (e ∷ events) [] = Unit {0}
-EndAlike (e ∷ events) (f ∷ others) = IsSameEnd e.step e.ends f.ends × EndAlike events others
+-- the stream to which a step brings bytes ends alike
+abbrev pub IsSameEnd : RunState → Step → End → End → Type 0
+IsSameEnd w (Opened c peer) one other = Unit {0}
+IsSameEnd w (Piece c bytes) one other = IsSameEndOf (w.line c) one other
+IsSameEnd w (Gone c) one other = Unit {0}
+IsSameEnd w (Direct target) one other = Unit {0}
+IsSameEnd w (Render pick) one other = Unit {0}
+IsSameEnd w (Deliver pick) one other = Unit {0}
+IsSameEnd w (Lose pick) one other = Unit {0}
+
+-- after each event the stream ends alike to which it brought bytes, where these are read
+abbrev pub EndAlike : RunState → List Event → List Event → Type 0
+EndAlike w [] others = Unit {0}
+EndAlike w (e ∷ events) [] = Unit {0}
+EndAlike w (e ∷ events) (f ∷ others) = IsSameEnd w e.step e.ends f.ends × EndAlike (after_event w e) events others
 
 -- what happens in each event
 abbrev pub event_notes : List Event → List (List Note)
@@ -42,5 +48,5 @@ AreCalmEvents (e ∷ events) = (e.mood.dry ≡ false) × AreCalmEvents events
 -- Two runs of the same steps in which memory isn't wanting have the same notes, if the streams end alike. (They end alike but where the
 -- bytes end within a target that no more bytes can save: there both waiting and the fault are so.)
 abbrev pub CalmRunsAreOne : Type 0
-CalmRunsAreOne = (publishing : Publishing) (farm : Farm) (content : Content) (a b : List Event) → Run (start_of publishing farm content) a → Run (start_of publishing farm content) b → event_steps a ≡ event_steps b → EndAlike a b
+CalmRunsAreOne = (publishing : Publishing) (farm : Farm) (content : Content) (a b : List Event) → Run (start_of publishing farm content) a → Run (start_of publishing farm content) b → event_steps a ≡ event_steps b → EndAlike (start_of publishing farm content) a b
     → AreCalmEvents a → AreCalmEvents b → event_notes a ≡ event_notes b

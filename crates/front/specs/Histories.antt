@@ -74,7 +74,7 @@ pub record AnswersStream (stream : List ℕ) (sent : List Sending) : Type 0 wher
   pub ends : End
   pub slots : List Slot
   pub spells : SpellsTurns stream turns ends
-  pub of_turns : AreOfTurns turns slots
+  pub of_turns : AreOfTurns turns ends slots
   pub answers : AnswersRun slots sent
 
 -- what was sent answers what came, or, on a connection that was closing before the rest came, a prefix of it

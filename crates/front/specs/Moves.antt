@@ -14,7 +14,7 @@ use Rattle.http_front.specs.Answers.{fixed_507}
 use Rattle.http_front.specs.Faults.{fault_status}
 use Rattle.http_front.specs.declared.turn.Turn.{Turn}
 use Rattle.http_front.specs.declared.turn.Turn.TheVariants.{Continue, Whole}
-use Rattle.connections.specs.Slots.{Slot, Response, Fixed, Awaits, Says, IsWritten, request_slot, fault_slot}
+use Rattle.connections.specs.Slots.{Slot, Response, Awaits, IsWritten, local_response, request_slot, fault_slot}
 use Rattle.connections.specs.Connections.{Connection, Due, Send, Treat, Refuse, Close, Nothing, advanced, is_crowded, with_slot, with_landing, with_sent}
 use Rattle.connections.specs.Connections as connection
 use Rattle.front.specs.declared.flying.Flying.{Flying}
@@ -148,10 +148,6 @@ request_of Nothing = None
 abbrev pub slot_for : Option Req → Bool → Response → Slot
 slot_for None closes response = fault_slot response
 slot_for (Some request) closes response = request_slot request closes response
-
--- what the front answers by itself
-abbrev pub local_response : ℕ → Response
-local_response status = if status == 507 then Fixed else Says (error_answer status)
 
 -- one connection changes, if it is open
 abbrev pub on_line : RunState → ℕ → (Connection → Connection) → RunState

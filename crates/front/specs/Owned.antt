@@ -7,13 +7,12 @@ use Rattle.any_config.specs.declared.farm.Farm.{Farm}
 use Rattle.error_answers.specs.Errors.{error_answer}
 use Rattle.http_front.specs.declared.turn.Turn.{Turn}
 use Rattle.http_front.specs.declared.turn.Turn.TheVariants.{Continue, Whole}
-use Rattle.connections.specs.Slots.{Awaits, Fixed, Interim, Response, Says, Slot}
+use Rattle.connections.specs.Slots.{Awaits, Fixed, Interim, Response, Says, Slot, local_response}
 use Rattle.connections.specs.declared.sending.Sending.{Sending}
 use Rattle.front.specs.declared.note.Note.{Note}
 use Rattle.front.specs.declared.note.Note.TheVariants.{Answer as answered, Ask as asked, Local, Rendered, Passed, Lost, Sent, Shut, Refused, Idle, Dry}
 use Rattle.front.specs.Events.{Event, Run}
 use Rattle.front.specs.Histories.{AnswersWhatCame, came_since_opened, opens_connection, sent_since_opened}
-use Rattle.front.specs.Moves.{local_response}
 use Rattle.front.specs.Publishers.{Publishing}
 use Rattle.front.specs.Renders.{Rendering, renders_of}
 use Rattle.front.specs.States.{start_of}
@@ -53,18 +52,50 @@ pub record WasRendered (renders : List Rendering) (number : ℕ) (request : Req)
   pub dry : Bool
   pub is : renders ≡ before ++ record { number = number; request = request; answer = answer; dry = dry } ∷ later
 
--- what answers a request for which this flight was asked: the flight is awaited; or what was rendered for it; or the flight was lost
--- (Bad Gateway, RFC 9110, section 15.6.3)
-abbrev pub IsOfFlight : List Rendering → ℕ → Req → Response → Type 0
-IsOfFlight renders number request Interim = ⊥
-IsOfFlight renders number request Fixed = ⊥
-IsOfFlight renders number request (Awaits flight) = flight ≡ number
-IsOfFlight renders number request (Says answer) = WasRendered renders number request answer ⊎ (answer ≡ error_answer 502)
+-- the flights that notes lose
+abbrev pub lost_by : Note → List ℕ
+lost_by (answered answer) = []
+lost_by (asked number c key) = []
+lost_by (Local c status) = []
+lost_by (Rendered number answer) = []
+lost_by (Passed number) = []
+lost_by (Lost number) = number ∷ []
+lost_by (Sent c bytes) = []
+lost_by (Shut c) = []
+lost_by (Refused c) = []
+lost_by Idle = []
+lost_by Dry = []
+
+abbrev pub lost_in : List Note → List ℕ
+lost_in notes = flat_map lost_by notes
+
+-- the flights that are lost in a run, one after another
+abbrev pub losses_of : List Event → List ℕ
+losses_of events = flat_map (λ (e : Event). lost_in e.body) events
+
+-- the flight with this number was lost
+pub record WasLost (losses : List ℕ) (number : ℕ) : Type 0 where
+  pub before : List ℕ
+  pub later : List ℕ
+  pub is : losses ≡ before ++ number ∷ later
+
+-- what became of the flights of a run: what was rendered for them, and which were lost
+pub record Outcomes : Type 0 where
+  pub renders : List Rendering
+  pub losses : List ℕ
+
+-- what answers a request for which this flight was asked: the flight is awaited; or what was rendered for it; or Bad Gateway, where the
+-- flight was lost (RFC 9110, section 15.6.3)
+abbrev pub IsOfFlight : Outcomes → ℕ → Req → Response → Type 0
+IsOfFlight outcomes number request Interim = ⊥
+IsOfFlight outcomes number request Fixed = ⊥
+IsOfFlight outcomes number request (Awaits flight) = flight ≡ number
+IsOfFlight outcomes number request (Says answer) = WasRendered outcomes.renders number request answer ⊎ (WasLost outcomes.losses number × (answer ≡ error_answer 502))
 
 -- what answers a request: its flight, or without one the front by a status of its own
-abbrev pub IsOfRequest : List Rendering → Option ℕ → Req → Response → Type 0
-IsOfRequest renders None request response = (status : ℕ) × (response ≡ local_response status)
-IsOfRequest renders (Some number) request response = IsOfFlight renders number request response
+abbrev pub IsOfRequest : Outcomes → Option ℕ → Req → Response → Type 0
+IsOfRequest outcomes None request response = (status : ℕ) × (response ≡ local_response status)
+IsOfRequest outcomes (Some number) request response = IsOfFlight outcomes number request response
 
 -- The slots are those of the turns: a Continue's, a request's that is answered so, and after all turns that of a fault, which the front
 -- answers itself.
@@ -76,11 +107,11 @@ AreEach Is [] (Whole request ∷ turns) (slot ∷ slots) = ⊥
 AreEach Is (flight ∷ flights) (Whole request ∷ turns) (slot ∷ slots) = Is flight request slot.response × AreEach Is flights turns slots
 
 -- what was sent answers what came, each request by its own flight's answer or by the front's own
-pub record AreOwnAnswers (renders : List Rendering) (flights : List (Option ℕ)) (came : List ℕ) (sent : List Sending) : Type 0 where
+pub record AreOwnAnswers (outcomes : Outcomes) (flights : List (Option ℕ)) (came : List ℕ) (sent : List Sending) : Type 0 where
   pub what : AnswersWhatCame came sent
-  pub own : AreEach (IsOfRequest renders) flights what.answers.turns what.answers.slots
+  pub own : AreEach (IsOfRequest outcomes) flights what.answers.turns what.answers.slots
 
 -- In every run each answer that is sent is its own request's, whether the connection is open, shut or gone.
 abbrev pub AnswersAreOwn : Type 0
 AnswersAreOwn = (publishing : Publishing) (farm : Farm) (content : Content) (events : List Event) (c : ℕ) → Run (start_of publishing farm content) events
-    → AreOwnAnswers (renders_of (start_of publishing farm content) events) (flights_since_opened c events) (came_since_opened c events) (sent_since_opened c events)
+    → AreOwnAnswers (record { renders = renders_of (start_of publishing farm content) events; losses = losses_of events }) (flights_since_opened c events) (came_since_opened c events) (sent_since_opened c events)

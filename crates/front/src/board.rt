@@ -3,6 +3,9 @@ ghost use Rattle.std.specs.Prelude.{◌≡◌, ◌==◌, ℕ, List, Option, IfOk
 ghost use Rattle.std.specs.BTreeMap.{btree_map_len, get};
 ghost use Rattle.std.specs.Option.{option_map};
 ghost use Rattle.std.specs.Ordering.{nat_cmp};
+ghost use Rattle.sp_base.specs.declared.answer.Answer as models;
+ghost use Rattle.connections.specs.Slots.{Says};
+ghost use Rattle.connections.specs.Ties.{ReplyTied};
 ghost use Rattle.connections.specs.Connections.{Connection, with_landing};
 ghost use Rattle.front.specs.Boards.{BoardTells, BoardTied, FirstThen, Landing, LineTied, ReadAt, SettlesDry};
 ghost use Rattle.front.specs.declared.step.Step.TheVariants.{Opened, Piece, Gone, Deliver, Lose};
@@ -17,8 +20,8 @@ use crate::sky::Sky;
 use crate::step::Pick;
 use crate::told::Told;
 use any_config::Farm;
-use error_answers::error_answer;
-use sp_base::{Answer, ByteBuf, Mem, NoMemory};
+use connections::Reply;
+use sp_base::{ByteBuf, Mem, NoMemory};
 use std::alloc::Global;
 use std::collections::BTreeMap;
 
@@ -110,13 +113,13 @@ impl Board {
     }
 
     // Gives a connection the answer of a flight, if it is there.
-    fn fill(&mut self, c: u32, number: u64, answer: Answer)
-        ensures line { (q : ℕ) (o : Option Connection) → LineTied (get nat_cmp self.old.lines q) o → LineTied (get nat_cmp self.new.lines q) (if q == c then option_map (with_landing number answer) o else o) }
+    fn fill(&mut self, c: u32, number: u64, reply: Reply)
+        ensures line { (q : ℕ) (o : Option Connection) (answer : models.Answer) → ReplyTied reply (Says answer) → LineTied (get nat_cmp self.old.lines q) o → LineTied (get nat_cmp self.new.lines q) (if q == c then option_map (with_landing number answer) o else o) }
         ensures count { btree_map_len self.new.lines ≡ btree_map_len self.old.lines }
         ensures sky { self.new.sky ≡ self.old.sky }
     {
         if let Some(line) = self.lines.get_mut(&c) {
-            line.fill(number, answer);
+            line.fill(number, reply);
         }
     }
 
@@ -128,11 +131,11 @@ impl Board {
         first: Note,
         c: u32,
         number: u64,
-        answer: Answer,
+        reply: Reply,
     ) -> Mem<Told>
-        ensures { IfOk result (λ told. (w v : RunState) → Landing farm.now self.old w v c number answer → FirstThen first farm.now v c told self.new) }
+        ensures { IfOk result (λ told. (w v : RunState) (answer : models.Answer) → ReplyTied reply (Says answer) → Landing farm.now self.old w v c number answer → FirstThen first farm.now v c told self.new) }
     {
-        self.fill(c, number, answer);
+        self.fill(c, number, reply);
         let told = self.settle(alloc, farm, c)?;
         let told = told.after(alloc, first)?;
         Ok(told)
@@ -154,7 +157,14 @@ impl Board {
         let Some(answer) = rendered else {
             unreachable!();
         };
-        let told = self.finish(alloc, farm, Note::Passed(number), line, number, answer)?;
+        let told = self.finish(
+            alloc,
+            farm,
+            Note::Passed(number),
+            line,
+            number,
+            Reply::Says(answer),
+        )?;
         Ok(told)
     }
 
@@ -165,14 +175,20 @@ impl Board {
         let Some(at) = self.sky.any(pick) else {
             return Told::one(alloc, Note::Idle, false);
         };
-        let answer = error_answer(alloc, 502)?;
         let Flying {
             number,
             line,
             request: _,
             rendered: _,
         } = self.sky.land(at);
-        let told = self.finish(alloc, farm, Note::Lost(number), line, number, answer)?;
+        let told = self.finish(
+            alloc,
+            farm,
+            Note::Lost(number),
+            line,
+            number,
+            Reply::Own(502),
+        )?;
         Ok(told)
     }
 }

@@ -1,19 +1,21 @@
 //! One connection, as the front keeps it.
-ghost use Rattle.std.specs.Prelude.{◌≡◌, ◌≢◌, ◌+◌, ◌≤◌, ◌<◌, ◌++◌, ℕ, List, true, false, IfSome, IfNone, IfOk, OnOk, OnSome, length};
+ghost use Rattle.std.specs.Prelude.{◌≡◌, ◌≢◌, ◌+◌, ◌≤◌, ◌<◌, ◌++◌, ℕ, List, true, false, IsTrue, IfSome, IfNone, IfOk, OnOk, OnSome, length};
 ghost use Rattle.http_front.specs.Intakes.{StandsFor};
 ghost use Rattle.http_front.specs.declared.fault.InFault.TheVariants as variant;
 ghost use Rattle.http_front.specs.declared.turn.Turn.{Turn};
-ghost use Rattle.connections.specs.Slots.{Slot};
+ghost use Rattle.http_front.specs.Answers.{fixed_507};
+ghost use Rattle.sp_base.specs.declared.answer.Answer as models;
+ghost use Rattle.connections.specs.Slots.{Says, Slot};
 ghost use Rattle.connections.specs.Connections as model;
 ghost use Rattle.connections.specs.Connections.{Connection, advanced, due, due_unsent, fresh, with_landing, with_sent, with_slot};
 ghost use Rattle.connections.specs.Histories.{IsDueSending};
-ghost use Rattle.connections.specs.Ties.{PlaceTied, Tied};
+ghost use Rattle.connections.specs.Ties.{PlaceTied, ReplyTied, Tied};
 ghost use Rattle.front.specs.Lines as lines;
 ghost use Rattle.front.specs.Lines.{Holds, LineKeeps, Owes, LineReads, TakenAs, TellsTurns, owed, work_of};
 
-use connections::{Outbox, Place, Sending};
+use connections::{Outbox, Place, Reply, Sending};
 use http_front::{InFault, Intake, Turn};
-use sp_base::{Answer, Mem, NoMemory, Req};
+use sp_base::{Mem, NoMemory, Req};
 use std::alloc::Global;
 use std::collections::VecDeque;
 
@@ -84,6 +86,7 @@ impl Line {
     /// What is sent next, if anything can be.
     pub(crate) fn send(&mut self, alloc: Global) -> Option<Sending>
         ensures sends { IfSome result (λ sending. (c : Connection) → Holds self.old c → IsDueSending c sending × Holds self.new (with_sent sending.bytes c)) }
+        ensures dry { IfSome result (λ sending. (c : Connection) → Holds self.old c → IsTrue sending.dry → sending.bytes ≡ fixed_507) }
         ensures waits { IfNone result ((c : Connection) → Holds self.old c → due c ≡ due_unsent c) }
         ensures less { OnSome result (work_of self.new < work_of self.old) }
         ensures same { IfNone result (self.new ≡ self.old) }
@@ -124,10 +127,10 @@ impl Line {
     }
 
     /// Gives the slot that awaits this flight its answer.
-    pub(crate) fn fill(&mut self, flight: u64, answer: Answer)
-        ensures { (c : Connection) → Holds self.old c → Holds self.new (with_landing flight answer c) }
+    pub(crate) fn fill(&mut self, flight: u64, reply: Reply)
+        ensures { (c : Connection) (answer : models.Answer) → ReplyTied reply (Says answer) → Holds self.old c → Holds self.new (with_landing flight answer c) }
     {
-        self.outbox.fill(flight, answer);
+        self.outbox.fill(flight, reply);
     }
 
     pub(crate) fn is_crowded(&self) -> bool

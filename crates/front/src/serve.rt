@@ -56,7 +56,7 @@ fn serve_turn(alloc: Global, farm: &Farm, c: u32, line: &mut Line, sky: &mut Sky
             Ok(Served::Said(note, dry))
         }
         Taken::Fault(fault) => {
-            let note = refuse(alloc, c, fault, line)?;
+            let note = refuse(c, fault, line)?;
             Ok(Served::Said(note, false))
         }
         Taken::Waiting => Ok(Served::Quiet),
@@ -65,13 +65,12 @@ fn serve_turn(alloc: Global, farm: &Farm, c: u32, line: &mut Line, sky: &mut Sky
 }
 
 // Answers the fault of a stream.
-fn refuse(alloc: Global, c: u32, fault: InFault, line: &mut Line) -> Mem<Note>
+fn refuse(c: u32, fault: InFault, line: &mut Line) -> Mem<Note>
     ensures given { IfOk result (λ note. (farm : Farm) (w : RunState) (sky : Sky) → OwesFault farm w c line.old sky fault → GivesDry false w c note × Meets farm (state_after_note w note) c line.new sky) }
     ensures work { OnOk result (work_of line.new ≤ work_of line.old + 1) }
 {
     let status = fault.status();
-    let reply = local_reply(alloc, status)?;
-    line.push(Place::of_fault(reply))?;
+    line.push(Place::of_fault(local_reply(status)))?;
     Ok(Note::Local(c, status))
 }
 

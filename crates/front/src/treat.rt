@@ -1,13 +1,13 @@
 //! How a request is answered: by the front itself, or by a flight.
-ghost use Rattle.std.specs.Prelude.{◌≡◌, ◌≤◌, ◌+◌, ◌==◌, ◌||◌, ◌⊎◌, false, true, IfOk, OnOk};
+ghost use Rattle.std.specs.Prelude.{◌≡◌, ◌≤◌, ◌+◌, ◌==◌, ◌||◌, false, true, IfOk, OnOk};
 ghost use Rattle.connections.specs.Connections.{Connection};
-ghost use Rattle.connections.specs.Slots.{request_slot};
+ghost use Rattle.connections.specs.Slots.{local_response, request_slot};
 ghost use Rattle.connections.specs.Ties.{ReplyTied};
 ghost use Rattle.dispatch_rules.specs.Admission as rules;
 ghost use Rattle.front.specs.Boards.{GivesDry, IsAnswering, Meets, OwesRequest, is_full_sky};
 ghost use Rattle.front.specs.declared.treat.Answering.TheVariants as variant;
 ghost use Rattle.front.specs.Lines.{Holds, Owes, work_of};
-ghost use Rattle.front.specs.Moves.{state_after_note, local_response, treated};
+ghost use Rattle.front.specs.Moves.{state_after_note, treated};
 ghost use Rattle.front.specs.States.{RunState};
 
 use crate::line::Line;
@@ -16,7 +16,6 @@ use crate::sky::Sky;
 use any_config::Farm;
 use connections::{Place, Reply};
 use dispatch_rules::admits;
-use error_answers::error_answer;
 use sp_base::{Mem, Req};
 use std::alloc::Global;
 
@@ -27,14 +26,6 @@ pub(crate) enum Answering {
     Here(u16, bool),
     /// By a flight.
     InFlight,
-}
-
-/// What the front answers by itself, and whether memory was wanting.
-#[derive(Drop)]
-pub(crate) struct OwnAnswer {
-    status: u16,
-    dry: bool,
-    reply: Reply,
 }
 
 /// The note of a request that has its place, and whether memory was wanting.
@@ -59,8 +50,7 @@ pub(crate) fn treat(
     let crowded = line.is_crowded();
     match answering_of(alloc, farm, &request, crowded, sky) {
         Answering::Here(status, dry) => {
-            let OwnAnswer { status, dry, reply } = own_answer(alloc, status, dry);
-            turn_away(&request, status, crowded, reply, line)?;
+            turn_away(&request, status, crowded, line)?;
             Ok(Treated {
                 note: Note::Local(c, status),
                 dry,
@@ -99,38 +89,24 @@ fn answering_of(alloc: Global, farm: &Farm, request: &Req, crowded: bool, sky: &
     Answering::InFlight
 }
 
-// What the front answers by itself: this, or the fixed 507 where memory is wanting for it.
-fn own_answer(alloc: Global, status: u16, dry: bool) -> OwnAnswer
-    ensures tied { ReplyTied result.reply (local_response result.status) }
-    ensures is { ((result.status ≡ status) × (result.dry ≡ dry)) ⊎ ((result.status ≡ 507) × (result.dry ≡ true)) }
-{
-    match local_reply(alloc, status) {
-        Ok(reply) => OwnAnswer { status, dry, reply },
-        Err(_) => OwnAnswer {
-            status: 507,
-            dry: true,
-            reply: Reply::Fixed,
-        },
-    }
-}
-
 // Answers a request with this status. Where the connection is crowded, or memory was wanting, it closes.
-fn turn_away(request: &Req, status: u16, crowded: bool, reply: Reply, line: &mut Line) -> Mem<()>
-    requires { ReplyTied reply (local_response status) }
+fn turn_away(request: &Req, status: u16, crowded: bool, line: &mut Line) -> Mem<()>
     ensures holds { OnOk result ((c : Connection) → Owes line.old c → Holds line.new (treated (request_slot request.now (crowded || status == 507) (local_response status)) c)) }
     ensures work { OnOk result (work_of line.new ≤ work_of line.old + 1) }
 {
     let closes = crowded || status == 507;
+    let reply = local_reply(status);
     line.push(Place::of_request(request, closes, reply))?;
     Ok(())
 }
 
-/// What the front answers by itself.
-pub(crate) fn local_reply(alloc: Global, status: u16) -> Mem<Reply>
-    ensures { IfOk result (λ reply. ReplyTied reply (local_response status)) }
+/// What the front answers by itself. It is made when it is sent, so that no memory is needed for it here.
+pub(crate) fn local_reply(status: u16) -> Reply
+    ensures { ReplyTied result (local_response status) }
 {
     if status == 507 {
-        return Ok(Reply::Fixed);
+        Reply::Fixed
+    } else {
+        Reply::Own(status)
     }
-    Ok(Reply::Says(error_answer(alloc, status)?))
 }

@@ -98,10 +98,10 @@ fn pipeline(alloc: Global) -> Result<Outbox, Failed> {
 fn answers_a_pipeline_in_its_order(rt: HostRuntime) -> Result<(), Failed> {
     let mut outbox = pipeline(rt.alloc())?;
     assert!(rt; outbox.is_closing());
-    outbox.fill(2, answer(rt.alloc(), "two")?);
-    outbox.fill(3, answer(rt.alloc(), "three")?);
+    outbox.fill(2, Reply::Says(answer(rt.alloc(), "two")?));
+    outbox.fill(3, Reply::Says(answer(rt.alloc(), "three")?));
     assert!(rt; sends(rt.alloc(), &mut outbox, &[]));
-    outbox.fill(1, answer(rt.alloc(), "one")?);
+    outbox.fill(1, Reply::Says(answer(rt.alloc(), "one")?));
     assert!(rt; sends(rt.alloc(), &mut outbox, &[GOT, CONTINUE, HEAD_ALONE]));
     assert!(rt; outbox.is_over());
     Ok(())
@@ -128,7 +128,7 @@ fn is_crowded_at_64_requests(rt: HostRuntime) -> Result<(), Failed> {
         outbox.push(place(rt.alloc(), "POST", false, flight)?)?;
     }
     assert!(rt; outbox.is_crowded());
-    outbox.fill(0, answer(rt.alloc(), "one")?);
+    outbox.fill(0, Reply::Says(answer(rt.alloc(), "one")?));
     assert!(rt; sends(rt.alloc(), &mut outbox, &[GOT, CONTINUE]));
     assert!(rt; !outbox.is_crowded());
     Ok(())

@@ -100,6 +100,7 @@ is_word_true (Some word) = bytes_eq word (codes "true")
 abbrev pub without_blanks : Bool → List (List ℕ) → List (List ℕ)
 without_blanks ignores words = if ignores then filter (λ word. not (length word == 0)) words else words
 
+-- the word of a property that is given one alone
 abbrev pub lone_word : List (List ℕ) → Option (List ℕ)
 lone_word [] = None
 lone_word (word ∷ []) = Some word

@@ -251,7 +251,7 @@ module _ (short : (tree : Content) (ask : Ask) → (rendered tree ask).status < 
   run_writable : (w : RunState) (events : List Event) → StateFits w → AllStepsFit events → Run w events → EventsAreWritable (map notes_of events)
   run_writable w [] fits steps run = tt
   run_writable w (e ∷ events) fits steps run =
-      let one = by_step w e e.step fits steps.0 run.0 in
+      let one = by_step w e e.step fits steps.0 run.0.0 in
       (both_writable e.body (mood_notes e.mood) one.writable (mood_writable e.mood), run_writable (after_event w e) events one.state steps.1 run.1)
 
   line_fits : (host : List ℕ) (act : EventLine) → IsEventLine act → StepFits (step_of host act)

@@ -3,7 +3,7 @@ use Rattle.front.proofs.FrontLemmas.{given-more, given-none}
 use Rattle.front.proofs.serve.serve_all.Goals as goal
 
 pub loop-told-init : goal.loop-told-init
-loop-told-init c = λ w meets. given-none c.nothing-told.result w c.args.c c.args.line.now c.args.sky.now c.nothing-told.ensures.notes meets
+loop-told-init c = λ w meets. given-none c.nothing-told.result w c.args.c c.args.line.now c.args.sky.now c.nothing-told.ensures.notes c.nothing-told.ensures.dry meets
 
 pub loop-told-preserved : goal.loop-told-preserved
 loop-told-preserved c = λ w meets.
@@ -16,11 +16,11 @@ returns-in-Quiet c = λ w meets.
     let so_far = c.loop-told.invariant w meets in
     let served = rw c.in-Quiet.is at c.in_ok-note.ensures.served in
     let one = served (afters w c.loop-told.told.notes.items) so_far.meets in
-    record { given = record { serves = so_far.serves; meets = one.1 }; then_due = one.0 }
+    record { given = record { serves = so_far.serves; wanting = so_far.wanting; meets = one.1 }; then_due = one.0 }
 
 pub returns-in-Ended : goal.returns-in-Ended
 returns-in-Ended c = λ w meets.
     let so_far = c.loop-told.invariant w meets in
     let served = rw c.in-Ended.is at c.in_ok-note.ensures.served in
     let one = served (afters w c.loop-told.told.notes.items) so_far.meets in
-    record { given = record { serves = so_far.serves; meets = one.1 }; then_due = one.0 }
+    record { given = record { serves = so_far.serves; wanting = so_far.wanting; meets = one.1 }; then_due = one.0 }

@@ -1,12 +1,12 @@
 use Rattle.std.proofs.Common.{false, sym}
 use Rattle.connections.specs.Slots.{Awaits, request_slot}
-use Rattle.front.proofs.ServeLemmas.{away-afforded, given-ask, given-away}
+use Rattle.front.proofs.ServeLemmas.{given-ask, given-away}
 use Rattle.front.proofs.treat.treat.Goals as goal
 
 pub returns-in_ok-turn_away-in-Here-clause-given : goal.returns-in_ok-turn_away-in-Here-clause-given
 returns-in_ok-turn_away-in-Here-clause-given c = λ w owes.
-    given-away w c.args.c c.own_answer-status.result.status c.args.line.now c.turn_away.new.line c.args.sky.now c.args.request c.is_crowded-crowded.result c.own_answer-status.result.dry owes (c.is_crowded-crowded.ensures owes.connection owes.owes.tied)
-    (away-afforded _ _ _ c.in-Here.status _ c.in-Here.dry _ (rw c.in-Here.is at c.answering_of.ensures.is) c.own_answer-status.ensures.is) c.in_ok-turn_away-in-Here.ensures.holds
+    given-away w c.args.c c.in-Here.status c.args.line.now c.turn_away.new.line c.args.sky.now c.args.request c.is_crowded-crowded.result c.in-Here.dry owes (c.is_crowded-crowded.ensures owes.connection owes.owes.tied)
+    (rw c.in-Here.is at c.answering_of.ensures.is) c.in_ok-turn_away-in-Here.ensures.holds
 
 pub returns-in_ok-push-in-InFlight-clause-given : goal.returns-in_ok-push-in-InFlight-clause-given
 returns-in_ok-push-in-InFlight-clause-given c = λ w owes.

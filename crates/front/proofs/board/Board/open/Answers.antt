@@ -2,15 +2,15 @@ use Rattle.std.proofs.Common.{sym, ◌∙◌, arith}
 use Rattle.std.proofs.lemmas.Grind.{common_steps}
 use Rattle.front.proofs.BoardLemmas.{is-none, none-one}
 use Rattle.front.proofs.EventLemmas.{opened-full, opened-new}
-use Rattle.front.proofs.FrontLemmas.{ok-map}
+use Rattle.front.proofs.FrontLemmas.{ok-map-two}
 use Rattle.front.proofs.board.Board.open.Goals as goal
 
 pub returns-then-len-ge-MOST_LINES : goal.returns-then-len-ge-MOST_LINES
 returns-then-len-ge-MOST_LINES c =
-    ok-map c.one-then-len-ge-MOST_LINES.result c.one-then-len-ge-MOST_LINES.ensures.notes (λ told notes farm peer w tied.
-    opened-full c.args.self.now w c.args.c peer told tied (is-none _ (sym c.contains_key.ensures ∙ c.if-contains_key.false)) (grind (arith, common_steps)) notes)
+    ok-map-two c.one-then-len-ge-MOST_LINES.result c.one-then-len-ge-MOST_LINES.ensures.notes c.one-then-len-ge-MOST_LINES.ensures.dry (λ told notes calm farm peer w tied.
+    opened-full c.args.self.now w c.args.c peer told tied (is-none _ (sym c.contains_key.ensures ∙ c.if-contains_key.false)) (grind (arith, common_steps)) notes calm)
 
 pub returns-in-Ok : goal.returns-in-Ok
 returns-in-Ok c = λ farm peer w tied.
     let absent = is-none _ (sym c.contains_key.ensures ∙ c.if-contains_key.false) in
-    opened-new c.args.self.now w c.args.c peer c.in_ok-new.field-0 c.insert.new.self c.nothing.result tied absent (grind (arith, common_steps)) (c.in_ok-new.ensures peer) c.in-Ok.ensures.updates (c.in-Ok.ensures.len ∙ none-one c.in-Ok.field-0 _ (c.in-Ok.ensures.old ∙ absent)) c.nothing.ensures.notes
+    opened-new c.args.self.now w c.args.c peer c.in_ok-new.field-0 c.insert.new.self c.nothing.result tied absent (grind (arith, common_steps)) (c.in_ok-new.ensures peer) c.in-Ok.ensures.updates (c.in-Ok.ensures.len ∙ none-one c.in-Ok.field-0 _ (c.in-Ok.ensures.old ∙ absent)) c.nothing.ensures.notes c.nothing.ensures.dry

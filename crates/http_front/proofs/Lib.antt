@@ -7,3 +7,4 @@ pub mod TurnLemmas
 pub mod FrontLemmas
 pub mod StartLemmas
 pub mod IntakeLemmas
+pub mod ValueLemmas

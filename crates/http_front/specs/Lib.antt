@@ -7,3 +7,4 @@ pub mod Faults
 pub mod Turns
 pub mod Fronts
 pub mod Intakes
+pub mod FieldValues

@@ -1,0 +1,114 @@
+-- The bytes of fields' values are printable.
+use Rattle.std.proofs.Common.{◌≡◌, ◌<◌, ◌==◌, ◌^◌, ℕ, Bool, true, false, cond, List, [], ◌∷◌, length, codes, decimal, refl, arith}
+use Rattle.std.specs.Prelude.{◌&&◌, ◌||◌, flat_map, map, if◌then◌else◌}
+use Rattle.std.specs.List.{All, list_all}
+use Rattle.std.specs.Str.Parse.{AllDigits}
+use Rattle.std.proofs.lemmas.Bool.Decides.{nat_tests}
+use Rattle.std.proofs.lemmas.Fmt.{decimal_is_IsNumeral}
+use Rattle.std.proofs.lemmas.List.Elements.{All-nil, All-cons, All-append, All-weaker}
+use Rattle.std.proofs.lemmas.Str.Parse.{tells_digits}
+use Rattle.percent_encoding.specs.Percent.{percent_encode_byte}
+use Rattle.percent_encoding.proofs.PercentLemmas.{IsEscapeByte, All-percent_encode_byte}
+use Rattle.sp_base.specs.declared.answer.Answer.{Answer}
+use Rattle.sp_base.specs.declared.answer.Mark.{Mark}
+use Rattle.sp_base.specs.declared.answer.Mark.TheVariants.{Plain, NoCache, NoStore, MustRevalidate}
+use Rattle.http_front.specs.Answers.{is_printable, is_visible, plain_value, location_of, unless_empty, allowed_methods, directive_of, is_without_content, content_length, connection}
+use Rattle.http_front.specs.FieldValues.{IsPrintable, StaysInItsLine, ValuesStayInTheirLines}
+
+and_first : (a b : Bool) → (a && b) ≡ true → a ≡ true
+and_first true b h = refl
+and_first false b h = h
+
+and_second : (a b : Bool) → (a && b) ≡ true → b ≡ true
+and_second true b h = h
+and_second false b h = absurd (cc)
+
+tested : (b : ℕ) → is_printable b ≡ true → IsPrintable b
+tested b h = (grind (arith, nat_tests), grind (arith, nat_tests))
+
+all_tested : (text : List ℕ) → list_all is_printable text ≡ true → All IsPrintable text
+all_tested [] h = All-nil IsPrintable
+all_tested (b ∷ text) h = All-cons IsPrintable b text (tested b (and_first _ _ h)) (all_tested text (and_second _ _ h))
+
+plain_byte : (b : ℕ) → IsPrintable (if is_printable b then b else 32)
+plain_byte b =
+    elim (is_printable b) as (λ t. is_printable b ≡ t → IsPrintable (cond t b 32)) [
+      | true ↦ λ e. tested b e
+      | false ↦ λ e. (omega arith, omega arith)
+    ] refl
+
+plain_all : (text : List ℕ) → All IsPrintable (map (λ b. if is_printable b then b else 32) text)
+plain_all [] = All-nil IsPrintable
+plain_all (b ∷ text) = All-cons IsPrintable _ _ (plain_byte b) (plain_all text)
+
+pub plain_printable : (text : List ℕ) → All IsPrintable (plain_value text)
+unfolding plain_value
+plain_printable text = plain_all text
+
+escape_printable : (b : ℕ) → IsEscapeByte b → IsPrintable b
+escape_printable b h = (grind (arith), grind (arith))
+
+seen_byte : (b : ℕ) → is_visible b ≡ true → IsPrintable b
+seen_byte b h = (grind (arith, nat_tests), grind (arith, nat_tests))
+
+location_byte : (b : ℕ) → All IsPrintable (if is_visible b then b ∷ [] else percent_encode_byte b)
+location_byte b =
+    elim (is_visible b) as (λ t. is_visible b ≡ t → All IsPrintable (cond t (b ∷ []) (percent_encode_byte b))) [
+      | true ↦ λ e. All-cons IsPrintable b [] (seen_byte b e) (All-nil IsPrintable)
+      | false ↦ λ e. All-weaker IsEscapeByte IsPrintable escape_printable (percent_encode_byte b) (All-percent_encode_byte b)
+    ] refl
+
+location_all : (text : List ℕ) → All IsPrintable (flat_map (λ b. if is_visible b then b ∷ [] else percent_encode_byte b) text)
+location_all [] = All-nil IsPrintable
+location_all (b ∷ text) = All-append IsPrintable _ _ (location_byte b) (location_all text)
+
+pub location_printable : (text : List ℕ) → All IsPrintable (location_of text)
+unfolding location_of
+location_printable text = location_all text
+
+digits_printable : (ds : List ℕ) → AllDigits 10 ds → All IsPrintable ds
+digits_printable [] h = All-nil IsPrintable
+digits_printable (d ∷ ds) h =
+    let parts = tells_digits.parts d ds h in
+    All-cons IsPrintable d ds (grind (arith), grind (arith)) (digits_printable ds parts.1)
+
+methods_printable : (status : ℕ) → All IsPrintable (allowed_methods status)
+methods_printable status =
+    elim (status == 405) as (λ t. All IsPrintable (cond t (codes "GET, HEAD, POST") [])) [
+      | true ↦ all_tested (codes "GET, HEAD, POST") refl
+      | false ↦ All-nil IsPrintable
+    ]
+
+directive_printable : (mark : Mark) → All IsPrintable (directive_of mark)
+directive_printable Plain = All-nil IsPrintable
+directive_printable NoCache = all_tested (codes "no-cache") refl
+directive_printable NoStore = all_tested (codes "no-store") refl
+directive_printable MustRevalidate = all_tested (codes "must-revalidate") refl
+
+length_printable : (head_only : Bool) (a : Answer) → length a.body < 2 ^ 64 → All IsPrintable (content_length head_only a)
+length_printable head_only a h =
+    elim (is_without_content a.status || (head_only && (length a.body == 0))) as (λ t. All IsPrintable (cond t [] (decimal (length a.body)))) [
+      | true ↦ All-nil IsPrintable
+      | false ↦ digits_printable _ (decimal_is_IsNumeral (length a.body) h).0.1
+    ]
+
+connection_printable : (close : Bool) → All IsPrintable (connection close)
+connection_printable true = all_tested (codes "close") refl
+connection_printable false = All-nil IsPrintable
+
+field_stays : (name value : List ℕ) → All IsPrintable value → All StaysInItsLine (unless_empty name value)
+field_stays name value h =
+    elim (length value == 0) as (λ t. All StaysInItsLine (cond t [] ((name, value) ∷ []))) [
+      | true ↦ All-nil StaysInItsLine
+      | false ↦ All-cons StaysInItsLine (name, value) [] h (All-nil StaysInItsLine)
+    ]
+
+pub values_stay : ValuesStayInTheirLines
+values_stay head_only close a h =
+    let kind = field_stays (codes "Content-Type") _ (plain_printable a.kind) in
+    let location = field_stays (codes "Location") _ (location_printable a.location) in
+    let methods = field_stays (codes "Allow") _ (methods_printable a.status) in
+    let directive = field_stays (codes "Cache-Control") _ (directive_printable a.mark) in
+    let size = field_stays (codes "Content-Length") _ (length_printable head_only a h) in
+    let last = field_stays (codes "Connection") _ (connection_printable close) in
+    All-append StaysInItsLine _ _ (All-append StaysInItsLine _ _ (All-append StaysInItsLine _ _ (All-append StaysInItsLine _ _ (All-append StaysInItsLine _ _ kind location) methods) directive) size) last

@@ -54,8 +54,8 @@ abbrev pub most : ℕ
 most = 67108864
 
 -- the bytes spell the scenario, within the length allowed
-abbrev pub Reads : List ℕ → Scenario → Type 0
-Reads bytes s = SpellsScenario bytes s × (length bytes ≤ most)
+abbrev pub ReadsScenario : List ℕ → Scenario → Type 0
+ReadsScenario bytes s = SpellsScenario bytes s × (length bytes ≤ most)
 
 abbrev pub IsScenario : List ℕ → Type 0
 IsScenario text = (s : Scenario) × SpellsScenario text s

@@ -1,7 +1,7 @@
 use Rattle.std.proofs.Common.{◌≡◌, ◌<◌, ◌⊎◌, inl, inr, ℕ, List, Some, IfSome, Err, subst, refl, arith, sym, ◌∙◌, ap}
 use Rattle.content_json.specs.ContentOf.{content as content_of}
 use Rattle.replay_text.specs.Languages.{IsRefusedWithin}
-use Rattle.replay_text.specs.Scenario.{SpellsScenario, IsScenario, Reads, most}
+use Rattle.replay_text.specs.Scenario.{SpellsScenario, IsScenario, ReadsScenario, most}
 use Rattle.sling_dispatch.specs.Endings.{Told, RunCall, Means, IsDue, IsReplay, HasNotFailed, HasFailed, HasContent, HasFarm}
 use Rattle.sling_dispatch.specs.Farms.{farm_in, farm_text}
 use Rattle.replay_text.specs.declared.scenario.Scenario.{Scenario}
@@ -16,21 +16,21 @@ both_failed_and_not : (o : Told (List ℕ)) → o.faults_old < 18446744073709551
 both_failed_and_not o below not_failed failed = omega (arith, not_failed, failed)
 
 -- a text whose content has a reading isn't refused for its content
-content_reads : IsOneReading → (bytes : List ℕ) (s t : Scenario) → Reads bytes s → HasContent s → Reads bytes t → (fault : _) → content_of t.content ≡ Err fault → ⊥
+content_reads : IsOneReading → (bytes : List ℕ) (s t : Scenario) → ReadsScenario bytes s → HasContent s → ReadsScenario bytes t → (fault : _) → content_of t.content ≡ Err fault → ⊥
 content_reads one bytes s t reads has other fault e =
     let same = one bytes s t reads.0 other.0 in
     let ok = sym (ap (λ (x : Scenario). content_of x.content) same) ∙ has.1 in
     cc (ok, e)
 
 -- a text whose farm has a reading isn't refused for its farm
-farm_reads : IsOneReading → (bytes : List ℕ) (s t : Scenario) → Reads bytes s → HasFarm s → Reads bytes t → (refusal : _) → farm_in (farm_text t.farm) ≡ Err refusal → ⊥
+farm_reads : IsOneReading → (bytes : List ℕ) (s t : Scenario) → ReadsScenario bytes s → HasFarm s → ReadsScenario bytes t → (refusal : _) → farm_in (farm_text t.farm) ≡ Err refusal → ⊥
 farm_reads one bytes s t reads has other refusal e =
     let same = one bytes s t reads.0 other.0 in
     let ok = sym (ap (λ (x : Scenario). farm_in (farm_text x.farm)) same) ∙ has.1 in
     cc (ok, e)
 
 pub complete : IsOneReading → (c : RunCall) (sink : Told (List ℕ)) (bytes : List ℕ) (s : Scenario) (ending : Ending) → Means (IsDue c) ending sink
-    → IsReplay c.words → c.source.old ≡ Some bytes → Reads bytes s → HasContent s → HasFarm s
+    → IsReplay c.words → c.source.old ≡ Some bytes → ReadsScenario bytes s → HasContent s → HasFarm s
     → c.source.faults_old < 18446744073709551615 → HasNotFailed c.source → sink.faults_old < 18446744073709551615 → HasNotFailed sink
     → (ending ≡ Done) ⊎ (ending ≡ NoMemory)
 complete one c sink bytes s Done m is told reads has farm bs cs bk ck = inl refl
@@ -41,9 +41,9 @@ complete one c sink bytes s Refused m is told reads has farm bs cs bk ck =
     let r = subst (λ o. IfSome o (λ t. IsRefusedWithin most IsScenario t m.0)) told m.1.0.2 in
     absurd (r.none ((s, reads.0), reads.1))
 complete one c sink bytes s ContentRefused m is told reads has farm bs cs bk ck =
-    let r = subst (λ o. IfSome o (λ t. (x : Scenario) × Reads t x × (content_of x.content ≡ Err m.0))) told m.1.0.2 in
+    let r = subst (λ o. IfSome o (λ t. (x : Scenario) × ReadsScenario t x × (content_of x.content ≡ Err m.0))) told m.1.0.2 in
     absurd (content_reads one bytes s r.0 reads has r.1 m.0 r.2)
 complete one c sink bytes s FarmRefused m is told reads has farm bs cs bk ck =
-    let r = subst (λ o. IfSome o (λ t. (x : Scenario) × Reads t x × HasContent x × (farm_in (farm_text x.farm) ≡ Err m.0))) told m.1.0.2 in
+    let r = subst (λ o. IfSome o (λ t. (x : Scenario) × ReadsScenario t x × HasContent x × (farm_in (farm_text x.farm) ≡ Err m.0))) told m.1.0.2 in
     absurd (farm_reads one bytes s r.0 reads farm r.1 m.0 r.3)
 complete one c sink bytes s NoMemory m is told reads has farm bs cs bk ck = inr refl

@@ -7,7 +7,7 @@ use Rattle.content_json.specs.declared.fault.ContentFault.{ContentFault}
 use Rattle.content_json.specs.declared.fault.ContentFault.TheVariants.{NoMemory as no_memory}
 use Rattle.replay_text.specs.Languages.{IsRefusedWithin}
 use Rattle.sling_dispatch.specs.Streams.{IsReadOut}
-use Rattle.replay_text.specs.Scenario.{IsScenario, Reads, most}
+use Rattle.replay_text.specs.Scenario.{IsScenario, ReadsScenario, most}
 use Rattle.sling_dispatch.specs.Endings.{Told, RunCall, IsRunOf, Writing, Nothing, UsageLine, SourceLine, RefusalLine, ContentLine, FarmLine, Events, output_of, HasWritten, Means, IsDue, HasContent, IsReplay, HasNotFailed, IsUntouched}
 use Rattle.sling_dispatch.specs.InnerEndings.{IsDueIn, IsDueOf, IsContentOr, IsFarmOr, TellsText, IsDueAt}
 use Rattle.sling_dispatch.specs.Farms.{farm_in, farm_text, lacks_memory}
@@ -85,7 +85,7 @@ content_told s fault bytes ending sink same e m =
     means_weaker (IsContentOr fault) (IsDueIn s) (due_content s fault (λ h. sym (ap content_of same) ∙ e h)) ending sink m
 
 -- what is written of a scenario is written of the text that spells it
-pub in_text : (text : List ℕ) (s : Scenario) → Reads text s → (w : Writing) → IsDueIn s w → IsDueAt text w
+pub in_text : (text : List ℕ) (s : Scenario) → ReadsScenario text s → (w : Writing) → IsDueIn s w → IsDueAt text w
 in_text text s reads Nothing d = tt
 in_text text s reads UsageLine d = d
 in_text text s reads SourceLine d = d
@@ -93,7 +93,7 @@ in_text text s reads (RefusalLine before) d = absurd d
 in_text text s reads (ContentLine fault) d = (d.1, s, reads, d.0)
 in_text text s reads (FarmLine refusal) d = (d.2, s, reads, d.0, d.1)
 in_text text s reads (Events t events) d =
-    let same = sym d.0 in (subst (Reads text) same reads, subst (λ (x : Scenario). IsRunOf x events) same d.1)
+    let same = sym d.0 in (subst (ReadsScenario text) same reads, subst (λ (x : Scenario). IsRunOf x events) same d.1)
 
 told_refused : (text : List ℕ) (before : ℕ) (old new : Option (List ℕ)) → old ≡ before_taking text new → (length text ≤ most → IsAtEnd new)
     → IsDueAt text (RefusalLine before) → IfSome old (λ bytes. IsRefusedWithin most IsScenario bytes before)
@@ -121,14 +121,14 @@ due_of_source c text is not_failed e end within SourceLine d = absurd d
 due_of_source c text is not_failed e end within (RefusalLine before) d =
     ((is, not_failed, told_refused text before c.source.old c.source.new e end d), read_out text c.source.old c.source.new e end within)
 due_of_source c text is not_failed e end within (ContentLine fault) d =
-    let Q : List ℕ → Type 0 = λ bytes. (s : Scenario) × Reads bytes s × (content_of s.content ≡ Err fault) in
+    let Q : List ℕ → Type 0 = λ bytes. (s : Scenario) × ReadsScenario bytes s × (content_of s.content ≡ Err fault) in
     let done = end d.2.1 in
     ((is, not_failed, told Q text c.source.old c.source.new e done (d.1, d.2, d.3)), done, d.0)
 due_of_source c text is not_failed e end within (FarmLine refusal) d =
-    let Q : List ℕ → Type 0 = λ bytes. (s : Scenario) × Reads bytes s × HasContent s × (farm_in (farm_text s.farm) ≡ Err refusal) in
+    let Q : List ℕ → Type 0 = λ bytes. (s : Scenario) × ReadsScenario bytes s × HasContent s × (farm_in (farm_text s.farm) ≡ Err refusal) in
     let done = end d.2.1 in
     ((is, not_failed, told Q text c.source.old c.source.new e done (d.1, d.2, d.3, d.4)), done, d.0)
 due_of_source c text is not_failed e end within (Events s events) d =
-    let Q : List ℕ → Type 0 = λ bytes. Reads bytes s in
+    let Q : List ℕ → Type 0 = λ bytes. ReadsScenario bytes s in
     let done = end d.0.1 in
     ((is, not_failed, told Q text c.source.old c.source.new e done d.0), done, d.1)

@@ -8,7 +8,7 @@ use Rattle.content_json.specs.ContentOf.{content as content_of}
 use Rattle.content_json.specs.declared.fault.ContentFault.{ContentFault}
 use Rattle.content_json.specs.declared.fault.ContentFault.TheVariants.{NoMemory as no_memory}
 use Rattle.replay_text.specs.Languages.{IsRefusedWithin}
-use Rattle.replay_text.specs.Scenario.{IsScenario, Reads, most}
+use Rattle.replay_text.specs.Scenario.{IsScenario, ReadsScenario, most}
 use Rattle.sling_dispatch.specs.Runs.{IsSession, told_of_events}
 use Rattle.sling_dispatch.specs.Streams.{IsReadOut}
 use Rattle.sling_dispatch.specs.Farms.{farm_in, farm_text, lacks_memory}
@@ -118,11 +118,11 @@ IsDue c Nothing = Unit {0}
 IsDue c UsageLine = (IsReplay c.words → ⊥) × IsUntouched c.source
 IsDue c SourceLine = IsReplay c.words × HasFailed c.source
 IsDue c (RefusalLine before) = Replays c (λ bytes. IsRefusedWithin most IsScenario bytes before) × IsReadOut (most + 1) c.source.old c.source.new
-IsDue c (ContentLine fault) = Replays c (λ bytes. (s : Scenario) × Reads bytes s × (content_of s.content ≡ Err fault)) × IsAtEnd c.source.new
+IsDue c (ContentLine fault) = Replays c (λ bytes. (s : Scenario) × ReadsScenario bytes s × (content_of s.content ≡ Err fault)) × IsAtEnd c.source.new
     × (fault ≢ no_memory)
-IsDue c (FarmLine refusal) = Replays c (λ bytes. (s : Scenario) × Reads bytes s × HasContent s × (farm_in (farm_text s.farm) ≡ Err refusal))
+IsDue c (FarmLine refusal) = Replays c (λ bytes. (s : Scenario) × ReadsScenario bytes s × HasContent s × (farm_in (farm_text s.farm) ≡ Err refusal))
     × IsAtEnd c.source.new × (lacks_memory refusal ≡ false)
-IsDue c (Events s events) = Replays c (λ bytes. Reads bytes s) × IsAtEnd c.source.new × IsRunOf s events
+IsDue c (Events s events) = Replays c (λ bytes. ReadsScenario bytes s) × IsAtEnd c.source.new × IsRunOf s events
 
 -- the exit status of an ending
 abbrev pub ending_status : Ending → ℕ

@@ -9,7 +9,7 @@ use Rattle.content_json.specs.ContentOf.{content as content_of}
 use Rattle.content_json.specs.declared.fault.ContentFault.{ContentFault}
 use Rattle.content_json.specs.declared.fault.ContentFault.TheVariants.{NoMemory as no_memory}
 use Rattle.replay_text.specs.Languages.{IsRefusedWithin}
-use Rattle.replay_text.specs.Scenario.{IsActs, IsScenario, Reads, most}
+use Rattle.replay_text.specs.Scenario.{IsActs, IsScenario, ReadsScenario, most}
 use Rattle.sling_dispatch.specs.Endings.{Told, HasNotFailed, HasFailed, Writing, Nothing, UsageLine, SourceLine, RefusalLine, ContentLine, FarmLine, Events, Means, HasContent, IsRunOf}
 use Rattle.sling_dispatch.specs.Farms.{farm_in, farm_text, lacks_memory}
 use Rattle.any_config.specs.declared.farm.Farm.{Farm}
@@ -27,9 +27,9 @@ IsDueAt text Nothing = Unit {0}
 IsDueAt text UsageLine = ⊥
 IsDueAt text SourceLine = ⊥
 IsDueAt text (RefusalLine before) = (rest : List ℕ) → (length text ≤ most → rest ≡ []) → IsRefusedWithin most IsScenario (text ++ rest) before
-IsDueAt text (ContentLine fault) = (fault ≢ no_memory) × (s : Scenario) × Reads text s × (content_of s.content ≡ Err fault)
-IsDueAt text (FarmLine refusal) = (lacks_memory refusal ≡ false) × (s : Scenario) × Reads text s × HasContent s × (farm_in (farm_text s.farm) ≡ Err refusal)
-IsDueAt text (Events s events) = Reads text s × IsRunOf s events
+IsDueAt text (ContentLine fault) = (fault ≢ no_memory) × (s : Scenario) × ReadsScenario text s × (content_of s.content ≡ Err fault)
+IsDueAt text (FarmLine refusal) = (lacks_memory refusal ≡ false) × (s : Scenario) × ReadsScenario text s × HasContent s × (farm_in (farm_text s.farm) ≡ Err refusal)
+IsDueAt text (Events s events) = ReadsScenario text s × IsRunOf s events
 
 -- what is written of a scenario
 abbrev pub IsDueIn : Scenario → Writing → Type 0

@@ -8,7 +8,7 @@ ghost use Rattle.url_split.specs.Split.{IsSplit};
 ghost use Rattle.dispatch_rules.specs.UrlParts.{stem};
 ghost use Rattle.front.specs.Publishers.{direct_answer};
 ghost use Rattle.front.specs.Events.{Event, notes_of};
-ghost use Rattle.replay_text.specs.Scenario.{Reads};
+ghost use Rattle.replay_text.specs.Scenario.{ReadsScenario};
 ghost use Rattle.sling_dispatch.specs.CalmSessions.{CalmSessionsAreOne};
 ghost use Rattle.sling_dispatch.specs.Endings.{Told, RunCall, Means, IsDue, IsReplay, HasNotFailed, HasContent, HasFarm};
 ghost use Rattle.sling_dispatch.specs.declared.ending.Ending.{Ending};
@@ -32,7 +32,7 @@ pub fn spellings_are_answered_alike()
 /// sink failed, the run is done, unless it ran out of memory.
 pub fn complete()
     ensures { (c : RunCall) (sink : Told (List ℕ)) (bytes : List ℕ) (s : Scenario) (ending : Ending) → Means (IsDue c) ending sink
-        → IsReplay c.words → c.source.old ≡ Some bytes → Reads bytes s → HasContent s → HasFarm s
+        → IsReplay c.words → c.source.old ≡ Some bytes → ReadsScenario bytes s → HasContent s → HasFarm s
         → c.source.faults_old < 18446744073709551615 → HasNotFailed c.source → sink.faults_old < 18446744073709551615 → HasNotFailed sink
         → (ending ≡ Done) ⊎ (ending ≡ NoMemory) }
 {

@@ -1,7 +1,7 @@
 //! The run: what the words say is done, from the source to the sink.
 ghost use Rattle.std.specs.Prelude.{◌≡◌, ◌≢◌, ◌↔◌, ◌++◌, ◌∷◌, ◌+◌, [], ℕ, List, Ok, Err, false, map, codes, IsTrue, IfOk, IfErr, OnErr};
 ghost use Rattle.sling_dispatch.specs.declared.ending.Ending.{Ending};
-ghost use Rattle.replay_text.specs.Scenario.{Reads, IsScenario, most};
+ghost use Rattle.replay_text.specs.Scenario.{ReadsScenario, IsScenario, most};
 ghost use Rattle.replay_text.specs.Reading.{RefusesWithin};
 ghost use Rattle.sling_dispatch.specs.Streams.{HasTaken};
 ghost use Rattle.sling_dispatch.specs.Endings.{Means, IsDue, IsReplay, IsUntouched, told_of, ending_status};
@@ -108,7 +108,7 @@ fn replay<K: Sink>(alloc: Global, seeds: RandomState, text: Vec<u8>, sink: &mut 
 
 // The scenario that a text spells, which is given up.
 fn scenario_of(alloc: Global, text: Vec<u8>) -> Result<Scenario, ScenarioFault>
-    ensures ok { IfOk result (λ s. Reads text.items s) }
+    ensures ok { IfOk result (λ s. ReadsScenario text.items s) }
     ensures err { IfErr result (RefusesWithin most IsScenario text.items) }
 {
     read_scenario(alloc, &text)

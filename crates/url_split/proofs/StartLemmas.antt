@@ -1,19 +1,21 @@
 -- Where the walk back over the dots of a text begins: what its prefixes read as, and how many slashes they have.
-use Rattle.std.proofs.Common.{◌≡◌, ◌<◌, ◌≤◌, ◌-◌, ◌+◌, ◌==◌, ◌&&◌, ◌⊎◌, ⊎_elim, inl, inr, min, ◌∷◌, ◌++◌, [], List, ℕ, zero, suc, Bool, true, false, cond, Option, Some, None, Ok, Err, length, map, take, drop, get_or, nat_eq, nat_le, refl, sym, ◌∙◌, ap, arith}
+use Rattle.std.proofs.Common.{◌≡◌, ◌<◌, ◌≤◌, ◌-◌, ◌+◌, ◌==◌, ◌&&◌, ◌⊎◌, ⊎_elim, inl, inr, min, ◌∷◌, ◌++◌, [], List, ℕ, zero, suc, Bool, true, false, cond, Option, Some, None, Ok, Err, length, length-append, map, take, drop, get_or, nat_eq, nat_le, not, refl, sym, ◌∙◌, ap, arith}
 use Rattle.std.specs.Prelude.{Result}
 use Rattle.std.specs.Cmp.Lexicographic.{bytes_decides, pointwise}
 use Rattle.std.specs.List.{count_by, list_all, onto_first}
-use Rattle.std.proofs.lemmas.Bool.{cases_lt, cases_eq, and_parts, and_from, leb-true, false≢true}
+use Rattle.std.proofs.lemmas.Bool.{cases_lt, cases_eq, and_parts, and_from, leb-true, false≢true, false_from_ne_true}
 use Rattle.std.proofs.lemmas.Bool.Decides.{nat_tests}
 use Rattle.std.proofs.lemmas.List.{get_or-map, length-map, take-append-drop, take_more, take-take, take_all, length-take, length-take-le}
+use Rattle.std.proofs.lemmas.List.Concat.{flat_map-append}
 use Rattle.std.proofs.lemmas.List.Folds.{list_all-append}
 use Rattle.std.proofs.lemmas.List.Splits.{length-slice_split}
 use Rattle.std.proofs.lemmas.List.Sums.{count_by-le-length, sum_by-cons}
-use Rattle.sp_base.specs.Paths.{checked, fault_of, is_empty, is_path, is_under, parent_of, path_of, path_or_none, pieces, seg_ok, unless_fault}
+use Rattle.sp_base.specs.Paths.{checked, fault_of, is_dots, is_empty, is_path, is_under, parent_of, path_of, has_slash, is_long, pieces, seg_ok, text_of, unless_fault}
+use Rattle.sp_base.specs.PathTexts.{spelled}
 use Rattle.sp_base.specs.declared.path.PathFault.{PathFault}
 use Rattle.sp_base.specs.declared.path.PathFault.TheVariants.{NotAbsolute}
 use Rattle.url_split.specs.Split.{IsCut, is_slash}
-use Rattle.url_split.specs.Walk.{AreFirstFit, HasParents, IsBeforeSlash, IsReached}
+use Rattle.url_split.specs.Walk.{HasParents, IsBeforeSlash, IsFitEnd, IsReached}
 
 -- ---- what a text reads as
 
@@ -168,21 +170,59 @@ first_under parts path i n is ends valid = ⊎_elim
     ends)
     (cases_lt n (i + 1))
 
-next_of : {A : Type 0} (f : A → List ℕ) (items : List A) (path : List (List ℕ)) (i : ℕ) (d : A) → i < length items → path ≡ take i (map f items) → take (i + 1) (map f items) ≡ path ++ f (get_or items i d) ∷ []
-next_of f items path i d within is =
-    take_more (map f items) i [] (omega (arith, within, length-map items f)) ∙ ap (λ q. take i (map f items) ++ q ∷ []) (get_or-map f items i d [] within) ∙ sym (ap (λ p. p ++ f (get_or items i d) ∷ []) is)
+few_segments : (segs : List (List ℕ)) → is_path segs ≡ true → length segs ≤ 64
+few_segments segs h = leb-true _ _ (and_parts (list_all seg_ok segs) (nat_le (length segs) 64) h).1
 
-no_path : (segs : List (List ℕ)) → path_or_none segs ≡ None → is_path segs ≡ false
-no_path segs none = elim (is_path segs) as (λ t. cond t (Some segs) None ≡ None → t ≡ false) [
-  | true ↦ λ e. absurd (cc e)
-  | false ↦ λ e. refl
-] none
+-- one more of some pieces, read off a list of references
+next_of : {A : Type 0} (f : A → List ℕ) (items : List A) (i : ℕ) (d : A) → i < length items → take (i + 1) (map f items) ≡ take i (map f items) ++ f (get_or items i d) ∷ []
+next_of f items i d within =
+    take_more (map f items) i [] (omega (arith, within, length-map items f)) ∙ ap (λ q. take i (map f items) ++ q ∷ []) (get_or-map f items i d [] within)
 
-some_path : (segs path : List (List ℕ)) → path_or_none segs ≡ Some path → path ≡ segs
-some_path segs path some = elim (is_path segs) as (λ t. cond t (Some segs) None ≡ Some path → path ≡ segs) [
-  | true ↦ λ e. cc e
-  | false ↦ λ e. absurd (cc e)
-] some
+all_next : (segs : List (List ℕ)) (seg : List ℕ) → list_all seg_ok (segs ++ seg ∷ []) ≡ (list_all seg_ok segs && (seg_ok seg && true))
+all_next segs seg = list_all-append seg_ok segs (seg ∷ [])
+
+pub fit_next : {A : Type 0} (f : A → List ℕ) (items : List A) (i : ℕ) (d : A) → i < length items → i < 64 → is_path (take i (map f items)) ≡ true → seg_ok (f (get_or items i d)) ≡ true → is_path (take (i + 1) (map f items)) ≡ true
+fit_next f items i d within few fit ok =
+    let parts = map f items in
+    let old = (and_parts (list_all seg_ok (take i parts)) (nat_le (length (take i parts)) 64) fit).0 in
+    let new : list_all seg_ok (take (i + 1) parts) ≡ true = ap (list_all seg_ok) (next_of f items i d within) ∙ all_next (take i parts) (f (get_or items i d)) ∙ and_from _ _ old (and_from _ _ ok refl) in
+    let size : length (take (i + 1) parts) ≤ 64 = omega (arith, few, length-take (i + 1) parts) in
+    and_from (list_all seg_ok (take (i + 1) parts)) (nat_le (length (take (i + 1) parts)) 64) new (grind (arith, nat_tests))
+
+pub bytes_next : {A : Type 0} (f : A → List ℕ) (items : List A) (many i end : ℕ) (d : A) → many ≡ i → i < length items → end ≡ length (spelled (take many (map f items))) → end + (1 + length (f (get_or items i d))) ≡ length (spelled (take (many + 1) (map f items)))
+bytes_next f items many i end d same within is =
+    let parts = map f items in
+    let q = f (get_or items i d) in
+    let old : end ≡ length (spelled (take i parts)) = is ∙ ap (λ n. length (spelled (take n parts))) same in
+    let whole : length (spelled (take (i + 1) parts)) ≡ length (spelled (take i parts)) + length (spelled (q ∷ [])) =
+    ap (λ segs. length (spelled segs)) (next_of f items i d within) ∙ ap length (flat_map-append (λ s. 47 ∷ s) (take i parts) (q ∷ [])) ∙ length-append (spelled (take i parts)) (spelled (q ∷ [])) in
+    let goal_is : length (spelled (take (many + 1) parts)) ≡ length (spelled (take (i + 1) parts)) = ap (λ n. length (spelled (take (n + 1) parts))) same in
+    omega (arith, old, whole, goal_is, length-append q [])
+
+false_not : (b : Bool) → b ≡ false → b ≡ true → ⊥
+false_not b is fails = absurd (false≢true (sym is ∙ fails))
+
+pub too_many : {A : Type 0} (f : A → List ℕ) (items : List A) → 64 < length items → is_path (take (64 + 1) (map f items)) ≡ false
+too_many f items more =
+    let parts = map f items in
+    let size : length (take (64 + 1) parts) ≡ 65 = omega (arith, more, length-map items f, length-take (64 + 1) parts) in
+    false_from_ne_true (is_path (take (64 + 1) parts)) (λ path. let few = few_segments (take (64 + 1) parts) path in omega (arith, few, size))
+
+pub unfit_next : {A : Type 0} (f : A → List ℕ) (items : List A) (i : ℕ) (d : A) → i < length items → seg_ok (f (get_or items i d)) ≡ false → is_path (take (i + 1) (map f items)) ≡ false
+unfit_next f items i d within bad =
+    let parts = map f items in
+    let q = f (get_or items i d) in
+    false_from_ne_true (is_path (take (i + 1) parts)) (λ path.
+    let all = (and_parts (list_all seg_ok (take (i + 1) parts)) (nat_le (length (take (i + 1) parts)) 64) path).0 in
+    let last = (and_parts (list_all seg_ok (take i parts)) (seg_ok q && true) (sym (all_next (take i parts) q) ∙ ap (list_all seg_ok) (sym (next_of f items i d within)) ∙ all)).1 in
+    false_not (seg_ok q) bad (and_parts (seg_ok q) true last).0)
+
+pub short_seg : (seg : List ℕ) → seg_ok seg ≡ true → length seg ≤ 200
+short_seg seg ok =
+    let whole : (not (is_dots seg) && (not (is_long seg) && not (has_slash seg))) ≡ true = (and_parts (not (is_empty seg)) (not (is_dots seg) && (not (is_long seg) && not (has_slash seg))) ok).1 in
+    let rest : (not (is_long seg) && not (has_slash seg)) ≡ true = (and_parts (not (is_dots seg)) (not (is_long seg) && not (has_slash seg)) whole).1 in
+    let short : not (is_long seg) ≡ true = (and_parts (not (is_long seg)) (not (has_slash seg)) rest).0 in
+    grind (arith, nat_tests)
 
 -- what a text reads as is a path
 abbrev pub AreValid : Type 0
@@ -202,21 +242,61 @@ parent_under b rest path read i n is ends valid e = ⊎_elim
 none_read : (read : List (List ℕ)) → path_of [] ≡ Ok read → ⊥
 none_read read e = cc e
 
-pub parents_of_pieces : (text rest : List ℕ) (path : List (List ℕ)) → text ≡ 47 ∷ rest → AreFirstFit (pieces rest) path → AreValid → HasParents text path
-parents_of_pieces text rest path is fit valid zero read within e = absurd (none_read read e)
-parents_of_pieces text rest path is fit valid (suc n) read within e =
-    parent_under 47 rest path read fit.many n fit.path_is fit.ends valid (ap (λ t. path_of (take (suc n) t)) (sym is) ∙ e)
+pub parents_of_pieces : (text rest : List ℕ) (path : List (List ℕ)) (end : ℕ) → text ≡ 47 ∷ rest → (fit : IsFitEnd (pieces rest) end) → path ≡ take fit.many (pieces rest) → AreValid → HasParents text path
+parents_of_pieces text rest path end is fit path_is valid zero read within e = absurd (none_read read e)
+parents_of_pieces text rest path end is fit path_is valid (suc n) read within e =
+    parent_under 47 rest path read fit.many n path_is fit.ends valid (ap (λ t. path_of (take (suc n) t)) (sym is) ∙ e)
 
--- the next of some pieces, read off a list of references, doesn't make a path with those before it, or makes one that is longer
-pub ends_at : {A : Type 0} (f : A → List ℕ) (items : List A) (path : List (List ℕ)) (i : ℕ) (d : A) → i < length items → path ≡ take i (map f items) → path_or_none (path ++ f (get_or items i d) ∷ []) ≡ None → AreFirstFit (map f items) path
-ends_at f items path i d within is none = record {
-  many = i;
-  path_is = is;
-  ends = inr (ap is_path (next_of f items path i d within is) ∙ no_path (path ++ f (get_or items i d) ∷ []) none);
-}
+-- the first pieces are spelled by a prefix of the text
+text_spelled : (segs : List (List ℕ)) → 0 < length (spelled segs) → text_of segs ≡ spelled segs
+text_spelled [] some = absurd (omega (arith, some))
+text_spelled (seg ∷ segs) some = refl
 
-pub longer_by : {A : Type 0} (f : A → List ℕ) (items : List A) (path longer : List (List ℕ)) (i : ℕ) (d : A) → i < length items → path ≡ take i (map f items) → path_or_none (path ++ f (get_or items i d) ∷ []) ≡ Some longer → longer ≡ take (i + 1) (map f items)
-longer_by f items path longer i d within is some = some_path (path ++ f (get_or items i d) ∷ []) longer some ∙ sym (next_of f items path i d within is)
+no_bytes : (segs : List (List ℕ)) → length (spelled segs) ≡ 0 → segs ≡ []
+no_bytes [] e = refl
+no_bytes (seg ∷ segs) e = absurd (omega (arith, e))
+
+some_many : (parts : List (List ℕ)) (n end : ℕ) → end ≡ length (spelled (take n parts)) → 0 < end → 0 < n
+some_many [] zero end is some = absurd (omega (arith, is, some))
+some_many (p ∷ parts) zero end is some = absurd (omega (arith, is, some))
+some_many parts (suc n) end is some = omega arith
+
+-- the paths of no pieces
+pub none_fit : (parts : List (List ℕ)) (end : ℕ) (fit : IsFitEnd parts end) → end ≡ 0 → [] ≡ take fit.many parts
+none_fit parts end fit none = sym (no_bytes (take fit.many parts) (sym fit.bytes ∙ none))
+
+pub one_path : (path read : List (List ℕ)) (r : Result (List (List ℕ)) PathFault) → r ≡ Ok path → r ≡ Ok read → path ≡ read
+one_path path read r a b = cc
+
+abbrev pub AreFirstTexts : Type 0
+AreFirstTexts = (path : List (List ℕ)) (n : ℕ) → 0 < n → text_of (take n path) ≡ take (length (text_of (take n path))) (text_of path)
+
+abbrev pub AreSlashed : Type 0
+AreSlashed = (path : List (List ℕ)) (n : ℕ) → 0 < n → length (text_of (take n path)) < length (text_of path) → get_or (text_of path) (length (text_of (take n path))) 0 ≡ 47
+
+whole_text : (text rest : List ℕ) → text ≡ 47 ∷ rest → spelled (pieces rest) ≡ 47 ∷ rest → text_of (pieces rest) ≡ text
+whole_text text rest is spells = text_spelled (pieces rest) (omega (arith, ap length spells)) ∙ spells ∙ sym is
+
+pub front_is : (text rest : List ℕ) (end : ℕ) → text ≡ 47 ∷ rest → spelled (pieces rest) ≡ 47 ∷ rest → AreFirstTexts → (fit : IsFitEnd (pieces rest) end) → 0 < end → take end text ≡ text_of (take fit.many (pieces rest))
+front_is text rest end is spells first fit some =
+    let front = take fit.many (pieces rest) in
+    let size : length (text_of front) ≡ end = ap length (text_spelled front (omega (arith, fit.bytes, some))) ∙ sym fit.bytes in
+    ap (λ t. take end t) (sym (whole_text text rest is spells)) ∙ ap (λ n. take n (text_of (pieces rest))) (sym size) ∙ sym (first (pieces rest) fit.many (some_many (pieces rest) fit.many end fit.bytes some))
+
+-- a slash follows it, unless it is the whole text
+pub front_slash : (text rest : List ℕ) (end : ℕ) → text ≡ 47 ∷ rest → spelled (pieces rest) ≡ 47 ∷ rest → AreSlashed → (fit : IsFitEnd (pieces rest) end) → 0 < end → end < length text → get_or text end 0 ≡ 47
+front_slash text rest end is spells slash fit some less =
+    let front = take fit.many (pieces rest) in
+    let size : length (text_of front) ≡ end = ap length (text_spelled front (omega (arith, fit.bytes, some))) ∙ sym fit.bytes in
+    let whole = whole_text text rest is spells in
+    ap (λ t. get_or t end 0) (sym whole) ∙ ap (λ n. get_or (text_of (pieces rest)) n 0) (sym size)
+    ∙ slash (pieces rest) fit.many (some_many (pieces rest) fit.many end fit.bytes some) (omega (arith, size, less, ap length whole))
+
+pub front_within : (text rest : List ℕ) (end : ℕ) → text ≡ 47 ∷ rest → spelled (pieces rest) ≡ 47 ∷ rest → AreFirstTexts → (fit : IsFitEnd (pieces rest) end) → 0 < end → end ≤ length text
+front_within text rest end is spells first fit some =
+    let front = take fit.many (pieces rest) in
+    let size : length (text_of front) ≡ end = ap length (text_spelled front (omega (arith, fit.bytes, some))) ∙ sym fit.bytes in
+    omega (arith, size, ap length (front_is text rest end is spells first fit some), length-take end text)
 
 slash_is : (b : ℕ) → is_slash b ≡ true → b ≡ 47
 slash_is b e = grind (arith, nat_tests)
@@ -233,9 +313,6 @@ parents_of_none (b ∷ rest) path none (suc n) read within e =
 
 not_cut : (text : List ℕ) (k : ℕ) → k < length text → get_or text k 0 ≡ 47 → IsCut text k → ⊥
 not_cut text k within slash cut = ⊎_elim (λ end. omega (arith, end, within)) (λ dot. omega (arith, slash, dot.1)) cut
-
-few_segments : (segs : List (List ℕ)) → is_path segs ≡ true → length segs ≤ 64
-few_segments segs h = leb-true _ _ (and_parts (list_all seg_ok segs) (nat_le (length segs) 64) h).1
 
 -- the pieces of a text, one more than known paths may reach above their last
 pub reached_is : (known : List (List ℕ) → Bool) (text start : List ℕ) (path : List (List ℕ)) (n most : ℕ) → most ≡ min n 64 + 1 → HasParents text path

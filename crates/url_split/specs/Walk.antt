@@ -1,6 +1,7 @@
 -- What the functions of the decomposition promise one another; a reader of its definition needs none of it.
 use Rattle.std.specs.Prelude.{◌≡◌, ◌<◌, ◌≤◌, ◌+◌, ◌⊎◌, ◌∷◌, [], ℕ, Bool, true, false, List, Option, Some, None, Ok, take, length, slice_index}
 use Rattle.std.specs.List.{count_by}
+use Rattle.sp_base.specs.PathTexts.{spelled}
 use Rattle.sp_base.specs.Paths.{is_path, is_under, parent_of, path_of}
 use Rattle.url_split.specs.Split.{Leads, is_slash}
 
@@ -13,10 +14,11 @@ pub record IsReached (known : List (List ℕ) → Bool) (text start : List ℕ) 
 abbrev pub HasParents : List ℕ → List (List ℕ) → Type 0
 HasParents text path = (k : ℕ) (read : List (List ℕ)) → k ≤ length text → path_of (take k text) ≡ Ok read → is_under path (parent_of read) ≡ true
 
--- a path is as many of some first pieces as make one
-pub record AreFirstFit (parts path : List (List ℕ)) : Type 0 where
+-- so many bytes the first of some pieces have, as many as make a path, with a slash before each
+pub record IsFitEnd (parts : List (List ℕ)) (end : ℕ) : Type 0 where
   pub many : ℕ
-  pub path_is : path ≡ take many parts
+  pub fit : is_path (take many parts) ≡ true
+  pub bytes : end ≡ length (spelled (take many parts))
   pub ends : (length parts ≤ many) ⊎ (is_path (take (many + 1) parts) ≡ false)
 
 -- a text up to the slash that stands after n others, or all of it where there is none

@@ -1,12 +1,14 @@
 //! Where the walk back over the dots of a text begins.
-ghost use Rattle.std.specs.Prelude.{◌≡◌, ◌<◌, map, IfOk};
+ghost use Rattle.std.specs.Prelude.{◌≡◌, List, ℕ, Ok, map, IfOk};
+ghost use Rattle.sp_base.specs.Paths.{path_of};
 ghost use Rattle.std.specs.List.{slice_split};
 ghost use Rattle.url_split.specs.Split.{is_slash};
-ghost use Rattle.url_split.specs.Walk.{AreFirstFit, HasParents, IsBeforeSlash, IsReached};
+ghost use Rattle.url_split.specs.Walk.{HasParents, IsBeforeSlash, IsFitEnd, IsReached};
 
 use crate::Known;
 use sp_base::{
-    MOST_SEGMENTS, Mem, NoMemory, Path, PathFault, a_path_and_its_text, the_prefixes_of_a_path,
+    MOST_SEGMENTS, Mem, NoMemory, Path, PathFault, a_path_and_its_text, seg_ok,
+    segments_and_their_spelling, the_prefixes_of_a_path,
 };
 use std::alloc::{AllocError, Global};
 
@@ -37,25 +39,45 @@ fn first_pieces(alloc: Global, text: &str) -> Mem<Path>
     ensures { IfOk result (HasParents text.now) }
 {
     a_path_and_its_text();
+    the_prefixes_of_a_path();
+    segments_and_their_spelling();
     let Some(rest) = text.strip_prefix('/') else {
         return Ok(Path::root(alloc));
     };
     let pieces = pieces_of(alloc, rest)?;
-    Ok(path_of_first(alloc, &pieces)?)
+    let end = fit_end(&pieces);
+    if end == 0 {
+        return Ok(Path::root(alloc));
+    }
+    Ok(path_in(alloc, &text[..end])?)
 }
 
-// The first of some pieces, as many as make a path.
-fn path_of_first(alloc: Global, pieces: &[&str]) -> Mem<Path>
-    ensures { IfOk result (AreFirstFit (map (λ piece. piece.now) pieces.now)) }
+// The path of a text that spells one.
+fn path_in(alloc: Global, text: &str) -> Mem<Path>
+    requires { (path : List (List ℕ)) × (path_of text.now ≡ Ok path) }
+    ensures { IfOk result (λ path. path_of text.now ≡ Ok path) }
 {
-    let mut path = Path::root(alloc);
-    for piece in pieces {
-        match path.child_or_none(alloc, piece)? {
-            Some(longer) => path = longer,
-            None => return Ok(path),
-        }
+    match Path::read(alloc, text) {
+        Ok(path) => Ok(path),
+        Err(PathFault::NoMemory) => Err(NoMemory),
+        Err(_) => unreachable!(),
     }
-    Ok(path)
+}
+
+// How many bytes the first of some pieces have, as many as make a path, with a slash before each.
+fn fit_end(pieces: &[&str]) -> usize
+    ensures { IsFitEnd (map (λ piece. piece.now) pieces.now) result }
+{
+    let mut many = 0;
+    let mut end = 0;
+    for piece in pieces {
+        if many == MOST_SEGMENTS || !seg_ok(piece) {
+            return end;
+        }
+        many += 1;
+        end += 1 + piece.len();
+    }
+    end
 }
 
 fn pieces_of(alloc: Global, text: &str) -> Result<Vec<&str>, AllocError>

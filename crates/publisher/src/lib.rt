@@ -5,6 +5,7 @@ mod changes;
 mod choices;
 mod depths;
 mod errors;
+mod kept_index;
 mod laws;
 mod methods;
 mod parts;

@@ -6,11 +6,10 @@ ghost use Rattle.publisher.specs.Posting.{posting, posting_answer, posting_conte
 ghost use Rattle.publisher.specs.Rendering.{mapping, posted_answer, posted_content};
 
 use crate::Publisher;
-use crate::changes::put_over;
 use crate::errors::redirect;
+use crate::kept_index::put_with_index;
 use crate::posting::{planned, report_answer};
 use crate::refusal::Refusal;
-use crate::serving::index_of;
 use error_answers::error_answer;
 use post_apply::Planned;
 use resource_tree::Patch;
@@ -66,15 +65,12 @@ impl Publisher {
         ensures ok { OnOk result (self.new ≡ patching self.old patch) }
         ensures unchanged { OnErr result (self.new ≡ self.old) }
     {
-        let mut index = index_of(alloc, &self.tree, self.index.take())?;
-        let put = put_over(
+        put_with_index(
             alloc,
             &mut self.tree,
             &mut self.templates,
-            &mut index,
+            &mut self.index,
             patch,
-        );
-        self.index = Some(index);
-        put
+        )
     }
 }

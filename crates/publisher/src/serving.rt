@@ -1,11 +1,10 @@
 //! The publisher: a content tree, what is kept beside it, and the answer to a request.
 ghost use Rattle.std.specs.Prelude.{◌≡◌, ◌≤◌, IfOk, OnOk, OnErr, length};
 ghost use Rattle.resource_tree.specs.Content.{IsGood};
-ghost use Rattle.url_maps.specs.Claims.{IsIndexOf};
-ghost use Rattle.publisher.specs.Kept.{IsIndexFor};
 ghost use Rattle.publisher.specs.Rendering.{seen, mapped_answer, mapping, text_answer, resource_answer, rendered, content_after_request};
 
 use crate::errors::redirect;
+use crate::kept_index::mapped;
 use crate::methods::{is_post, is_read};
 use crate::parts::parts_of;
 use crate::representations::resource_answer;
@@ -117,11 +116,7 @@ impl Publisher {
         ensures answer { IfOk result (λ a. a ≡ mapping self.old ask.now) }
         ensures unchanged { self.new ≡ self.old }
     {
-        let index = index_of(alloc, &self.tree, self.index.take())?;
-        let path = ask.path.as_text();
-        let answer = index.map_in(alloc, &self.tree, ask.host.text(), ask.port, path);
-        self.index = Some(index);
-        answer
+        mapped(alloc, &self.tree, &mut self.index, ask)
     }
 
     // The answer to a text within the content.
@@ -144,16 +139,5 @@ impl Publisher {
             Some(res) => resource_answer(alloc, &self.tree, &mut self.templates, parts, &res),
             None => error_answer(alloc, 404),
         }
-    }
-}
-
-/// The index of a tree: the one that is there, or a new one.
-pub(crate) fn index_of(alloc: Global, tree: &Tree, index: Option<MapIndex>) -> Mem<MapIndex>
-    requires { IsIndexFor tree.now index }
-    ensures { IfOk result (λ made. IsIndexOf tree.now made) }
-{
-    match index {
-        Some(index) => Ok(index),
-        None => MapIndex::of(alloc, tree),
     }
 }

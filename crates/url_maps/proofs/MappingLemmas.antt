@@ -119,9 +119,13 @@ no_node_pair read tree good site prefix path at none pair is has = no_mapped_nod
 pub no_plain_pair : IsReadBack → (tree : Content) → IsTree (node_at tree) → (site : List (List ℕ)) (prefix : List ℕ) (path : List (List ℕ)) → mapped_path site prefix ≡ Some path → (IsPlain tree site path → ⊥) → IsOf Mapping tree (Some site) prefix None
 no_plain_pair read tree good site prefix path at not pair is has = not_plain read tree good site prefix pair.target pair.away path at not (mapping_of_pair tree site prefix pair is has)
 
+pub no_target_pair : IsReadBack → (tree : Content) → IsTree (node_at tree) → (site : List (List ℕ)) (prefix : List ℕ) (path : List (List ℕ)) (node : Node) → mapped_path site prefix ≡ Some path → node_at tree path ≡ Some node → IsMappingPair node None
+    → IsOf Mapping tree (Some site) prefix None
+no_target_pair read tree good site prefix path node at there none pair kind has = leads_nowhere read tree good site prefix pair.target pair.away path node at there none (mapping_of_pair tree site prefix pair kind has)
+
 pub pair_at_node : IsReadBack → IsSpelled → (tree : Content) → IsTree (node_at tree) → (site : List (List ℕ)) (prefix : List ℕ) (path : List (List ℕ)) (node : Node) (o : Option Pair) → mapped_path site prefix ≡ Some path → node_at tree path ≡ Some node
     → IsPlain tree site path → IsMappingPair node o → IsOf Mapping tree (Some site) prefix o
 pair_at_node read spelled tree good site prefix path node (Some pair) at there plain is =
     (is.0, subst (λ kind. IsPairOf kind tree (Some site) prefix pair) (sym is.0) (mapping_from tree site prefix path node pair.target pair.away (mapped_from spelled site path prefix at) there plain is.1))
 pair_at_node read spelled tree good site prefix path node None at there plain is =
-    λ pair kind has. leads_nowhere read tree good site prefix pair.target pair.away path node at there is (mapping_of_pair tree site prefix pair kind has)
+    no_target_pair read tree good site prefix path node at there is

@@ -1,13 +1,14 @@
--- No mapping is below the first segment of a text that has no node.
-use Rattle.std.proofs.Common.{◌≡◌, ◌≤◌, ◌<◌, ◌-◌, ℕ, zero, suc, true, false, List, [], ◌∷◌, ◌++◌, Some, None, Ok, take, length, refl, sym, ◌∙◌, ap, subst, arith, ⊎_elim, append_assoc, append-nil}
-use Rattle.std.specs.Prelude.{IsTrue, is_some, nat_eq, if◌then◌else◌}
+-- No mapping is below the first segment of a text that has no node, or one with a pattern.
+use Rattle.std.proofs.Common.{◌≡◌, ◌≤◌, ◌<◌, ◌-◌, ℕ, zero, suc, true, false, List, [], ◌∷◌, ◌++◌, Some, None, Ok, take, length, refl, sym, ◌∙◌, ap, subst, arith, ⊎_elim, ◌+◌, append_assoc, append-nil, length-append}
+use Rattle.std.proofs.Math.Seq.{take-append-add, take-append_seam}
+use Rattle.std.specs.Prelude.{IsTrue, is_some, nat_eq, not, if◌then◌else◌}
 use Rattle.std.specs.Cmp.Lexicographic.{pointwise, same_text}
-use Rattle.std.proofs.lemmas.Bool.{true≢false, false≢true, and_parts, cases_lt}
+use Rattle.std.proofs.lemmas.Bool.{true≢false, false≢true, and_from, and_parts, cases_lt}
 use Rattle.std.proofs.lemmas.List.{length-take-le, take-take, take_all}
 use Rattle.sp_base.specs.Paths.{is_path, is_under, parent_of, path_of, path_or_none, text_of}
 use Rattle.resource_tree.specs.Content.{Content, IsTree, kid, node_at}
-use Rattle.url_maps.specs.Mappings.{text_below}
-use Rattle.url_maps.specs.Search.{HasNoMappingBeyond, IsMissingAt}
+use Rattle.url_maps.specs.Mappings.{IsPlain, has_match, text_below}
+use Rattle.url_maps.specs.Search.{HasNoMappingBeyond, IsBarredAt, is_passable}
 use Rattle.url_maps.proofs.MappingLemmas.{path_below}
 use Rattle.url_maps.proofs.PathLemmas.{IsReadBack}
 
@@ -50,9 +51,15 @@ module _ (tree : Content) (good : IsTree (node_at tree)) where
   abbrev pub AreWithinFirst : Type 0
   AreWithinFirst = (path below : List (List ℕ)) (n most : ℕ) → IsTrue (is_path path) → n ≤ length (text_of path) → path_of (take n (text_of path)) ≡ Ok below → length below ≤ most → n ≤ length (text_of (take most path))
 
-  -- a node below the site is no deeper than the first one that is missing along a path
-  depth_is : (site path below : List (List ℕ)) (depth : ℕ) → depth < length path → IsMissingAt tree site path depth → is_some (node_at tree (site ++ below)) ≡ true → is_under path (parent_of below) ≡ true → length below ≤ depth
-  depth_is site path below depth inside none there under = ⊎_elim
+  -- no node of a path that is plain has a pattern
+  plain_first : (site below : List (List ℕ)) (n : ℕ) → n ≤ length below → IsPlain tree site (site ++ below) → has_match tree (site ++ take n below) ≡ false
+  plain_first site below n inside plain =
+      ap (has_match tree) (sym (take-append-add site below n)) ∙ plain (length site + n) (omega arith) (omega (arith, inside, length-append site below))
+
+  -- a mapping's node below the site is no deeper than the first one along a path that is missing or has a pattern
+  depth_is : (site path below : List (List ℕ)) (depth : ℕ) → depth < length path → IsBarredAt tree site path depth → is_some (node_at tree (site ++ below)) ≡ true → IsPlain tree site (site ++ below) → is_under path (parent_of below) ≡ true
+      → length below ≤ depth
+  depth_is site path below depth inside none there plain under = ⊎_elim
       (λ (large : depth < length below).
       let q = parent_of below in
       let prefix = prefix_of path q under in
@@ -60,24 +67,32 @@ module _ (tree : Content) (good : IsTree (node_at tree)) where
       let deep : depth ≤ length q = omega (arith, large, size) in
       let same : take depth below ≡ take depth path =
       sym (take-take depth (length below - 1) below (omega (arith, large))) ∙ ap (take depth) (sym prefix.same) ∙ take-take depth (length q) path deep in
-      absurd (true≢false (sym (first_there site below depth there) ∙ ap (λ p. is_some (node_at tree (site ++ p))) same ∙ none inside)))
+      let passes_it : is_passable tree (site ++ take depth below) ≡ true =
+      and_from _ _ (first_there site below depth there) (ap not (plain_first site below depth (omega (arith, large)) plain)) in
+      absurd (true≢false (sym passes_it ∙ ap (λ p. is_passable tree (site ++ p)) same ∙ none inside)))
       (λ small. small)
       (cases_lt depth (length below))
 
-  within_reach : IsReadBack → AreParents → AreWithinFirst → (site path below : List (List ℕ)) (depth k : ℕ) → is_path path ≡ true → is_path below ≡ true → IsMissingAt tree site path depth → is_some (node_at tree (site ++ below)) ≡ true
+  within_reach : IsReadBack → AreParents → AreWithinFirst → (site path below : List (List ℕ)) (depth k : ℕ) → is_path path ≡ true → is_path below ≡ true → IsBarredAt tree site path depth → is_some (node_at tree (site ++ below)) ≡ true → IsPlain tree site (site ++ below)
       → k ≤ length (text_of path) → take k (text_of path) ≡ text_below below → k ≤ length (text_of (take depth path))
-  within_reach read parents within site path [] depth k valid is none there inside same =
+  within_reach read parents within site path [] depth k valid is none there plain inside same =
       let size : length (take k (text_of path)) ≡ k = length-take-le k (text_of path) inside in omega (arith, size, ap length same)
-  within_reach read parents within site path (s ∷ below) depth k valid is none there inside same =
+  within_reach read parents within site path (s ∷ below) depth k valid is none there plain inside same =
       let reads : path_of (take k (text_of path)) ≡ Ok (s ∷ below) = ap path_of same ∙ read (s ∷ below) is in
       ⊎_elim
-      (λ (fewer : depth < length path). within path (s ∷ below) k depth valid inside reads (depth_is site path (s ∷ below) depth fewer none there (parents path (s ∷ below) k valid inside reads)))
+      (λ (fewer : depth < length path). within path (s ∷ below) k depth valid inside reads (depth_is site path (s ∷ below) depth fewer none there plain (parents path (s ∷ below) k valid inside reads)))
       (λ (all : length path ≤ depth). subst (λ p. k ≤ length (text_of p)) (sym (take_all depth path all)) inside)
       (cases_lt depth (length path))
 
-  pub none_beyond : IsReadBack → AreParents → AreWithinFirst → (site path : List (List ℕ)) (text : List ℕ) (depth : ℕ) → is_path path ≡ true → text_of path ≡ text → IsMissingAt tree site path depth
+  pub none_beyond : IsReadBack → AreParents → AreWithinFirst → (site path : List (List ℕ)) (text : List ℕ) (depth : ℕ) → is_path path ≡ true → text_of path ≡ text → IsBarredAt tree site path depth
       → HasNoMappingBeyond tree (Some site) text (length (text_of (take depth path)))
   none_beyond read parents within site path text depth valid spelled none k pair beyond inside m =
       let is = path_below site m.below (good.nodes (site ++ m.below) m.node m.there).is_a_path in
-      let le = within_reach read parents within site path m.below depth k valid is none (ap is_some m.there) (subst (λ t. k ≤ length t) (sym spelled) inside) (ap (take k) spelled ∙ m.text_is) in
+      let le = within_reach read parents within site path m.below depth k valid is none (ap is_some m.there) m.plain (subst (λ t. k ≤ length t) (sym spelled) inside) (ap (take k) spelled ∙ m.text_is) in
       omega (arith, le, beyond)
+
+-- no mapping at all, where the site's node has a pattern
+pub none_barred : (tree : Content) (site : List (List ℕ)) (text : List ℕ) → has_match tree site ≡ true → HasNoMappingBeyond tree (Some site) text 0
+none_barred tree site text has k pair beyond inside m =
+    let none = m.plain (length site) (omega arith) (omega (arith, length-append site m.below)) in
+    absurd (true≢false (sym has ∙ ap (has_match tree) (sym (take-append_seam site m.below)) ∙ none))

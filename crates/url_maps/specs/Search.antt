@@ -1,5 +1,5 @@
 -- What the functions of the search promise one another, and its words. A reader of the relation in Turns.antt needs none of it.
-use Rattle.std.specs.Prelude.{◌≡◌, ◌≤◌, ◌<◌, ◌⊎◌, ◌||◌, ◌==◌, ◌++◌, ℕ, Bool, true, false, is_none, is_some, find, List, [], ◌∷◌, Option, Some, None, Result, Ok, Err, length, option_map, slice_index, slice_index_or, take}
+use Rattle.std.specs.Prelude.{◌≡◌, ◌≤◌, ◌<◌, ◌⊎◌, ◌&&◌, ◌||◌, ◌==◌, ◌++◌, ℕ, Bool, true, false, is_none, is_some, not, find, List, [], ◌∷◌, Option, Some, None, Result, Ok, Err, length, option_map, slice_index, slice_index_or, take}
 use Rattle.std.specs.List.{list_any}
 use Rattle.std.specs.declared.cmp.Ordering.TheVariants.{Less}
 use Rattle.sp_base.specs.Paths.{path_of, path_or_none}
@@ -10,7 +10,7 @@ use Rattle.url_maps.specs.declared.pairs.Pair.{Pair}
 use Rattle.url_maps.specs.declared.pairs.PairKind.{PairKind}
 use Rattle.url_maps.specs.declared.turns.Step.{Step}
 use Rattle.url_maps.specs.declared.pairs.PairKind.TheVariants.{Mapping}
-use Rattle.url_maps.specs.Mappings.{mapping_of}
+use Rattle.url_maps.specs.Mappings.{has_match, mapping_of}
 use Rattle.resource_tree.specs.declared.nodes.Node.{Node}
 use Rattle.url_maps.specs.Pairs.{Applies, Decides, HasMapping, HasNoPair, IsPair, goes_on_after_prefix, rank}
 use Rattle.url_maps.specs.Turns.{text_after}
@@ -56,9 +56,13 @@ HasNoMappingBeyond tree site text reach = (k : ℕ) (pair : Pair) → reach < k 
 abbrev pub IsBeyond : Content → Option (List (List ℕ)) → List ℕ → ℕ → Type 0
 IsBeyond tree site prefix reach = (pair : Pair) → reach < length prefix → HasMapping tree site prefix pair → ⊥
 
--- so many first segments of a path, unless they are all, lead to no node below a site
-abbrev pub IsMissingAt : Content → List (List ℕ) → List (List ℕ) → ℕ → Type 0
-IsMissingAt tree site path depth = depth < length path → is_some (node_at tree (site ++ take depth path)) ≡ false
+-- whether a node is at a path, and that one without a pattern
+abbrev pub is_passable : Content → List (List ℕ) → Bool
+is_passable tree path = is_some (node_at tree path) && not (has_match tree path)
+
+-- so many first segments of a path, unless they are all, lead to no node below a site, or to one with a pattern
+abbrev pub IsBarredAt : Content → List (List ℕ) → List (List ℕ) → ℕ → Type 0
+IsBarredAt tree site path depth = depth < length path → is_passable tree (site ++ take depth path) ≡ false
 
 -- a byte before which a text may be cut
 abbrev pub is_separator : ℕ → Bool

@@ -65,10 +65,13 @@ fn mapping_below(alloc: Global, tree: &Tree, site: &Path, prefix: &str) -> Mem<O
     let Some(node) = tree.node(&path) else {
         return Ok(None);
     };
+    let Some(pair) = pair_of(alloc, node)? else {
+        return Ok(None);
+    };
     if !is_plain(alloc, tree, site, &path)? {
         return Ok(None);
     }
-    Ok(pair_of(alloc, node)?)
+    Ok(Some(pair))
 }
 
 // The path below a site that a prefix names: the site for the empty one.
@@ -102,7 +105,7 @@ fn is_plain(alloc: Global, tree: &Tree, site: &Path, path: &Path) -> Mem<bool>
 }
 
 #[tactic(auto, unfolding(crate::specs::Mappings::has_match))]
-fn has_match(tree: &Tree, path: &Path) -> bool
+pub(crate) fn has_match(tree: &Tree, path: &Path) -> bool
     ensures { result ≡ has_match tree.now path.now }
 {
     match tree.node(path) {

@@ -1,13 +1,14 @@
 // How far into a text the prefix of a mapping may reach.
-ghost use Rattle.std.specs.Prelude.{◌≡◌, ◌++◌, IfOk, Some, is_some};
-ghost use Rattle.resource_tree.specs.Content.{node_at};
-ghost use Rattle.url_maps.specs.Search.{HasNoMappingBeyond, IsMissingAt};
+ghost use Rattle.std.specs.Prelude.{◌≡◌, ◌++◌, IfOk, Some};
+ghost use Rattle.url_maps.specs.Search.{HasNoMappingBeyond, IsBarredAt, is_passable};
 
+use crate::mappings::has_match;
 use resource_tree::Tree;
 use sp_base::{Mem, NoMemory, Path, PathFault, a_path_and_its_text, the_prefixes_of_a_path};
 use std::alloc::Global;
 
-// The most bytes of the prefix of a mapping in a text: no mapping is below the first of the text's segments that has no node.
+// The most bytes of the prefix of a mapping in a text: no mapping is below the first of the text's segments that has no node, or one
+// with a pattern.
 pub(crate) fn reach_of(alloc: Global, tree: &Tree, site: &Option<Path>, text: &str) -> Mem<usize>
     ensures { IfOk result (HasNoMappingBeyond tree.now site.now text.now) }
 {
@@ -24,9 +25,12 @@ fn reach_below(alloc: Global, tree: &Tree, site: &Path, text: &str) -> Mem<usize
     the_prefixes_of_a_path();
     // `len` says that the parent of each node is there.
     let _ = tree.len();
+    if has_match(tree, site) {
+        return Ok(0);
+    }
     match Path::read(alloc, text) {
         Ok(path) => {
-            let depth = missing_at(alloc, tree, site, &path)?;
+            let depth = barred_at(alloc, tree, site, &path)?;
             Ok(path.first(alloc, depth)?.as_text().len())
         }
         Err(PathFault::NoMemory) => Err(NoMemory),
@@ -34,27 +38,27 @@ fn reach_below(alloc: Global, tree: &Tree, site: &Path, text: &str) -> Mem<usize
     }
 }
 
-// How many first segments of a path lead to no node below a site while fewer do: all, where all lead to nodes.
-fn missing_at(alloc: Global, tree: &Tree, site: &Path, path: &Path) -> Mem<usize>
-    ensures { IfOk result (IsMissingAt tree.now site.now path.now) }
+// How many first segments of a path lead to no node below a site, or to one with a pattern, while fewer lead on: all, where all do.
+fn barred_at(alloc: Global, tree: &Tree, site: &Path, path: &Path) -> Mem<usize>
+    ensures { IfOk result (IsBarredAt tree.now site.now path.now) }
 {
     let depth = path.depth();
     for n in 0..depth {
         let first = path.first(alloc, n + 1)?;
-        if !has_node(alloc, tree, site, &first)? {
+        if !is_passable(alloc, tree, site, &first)? {
             return Ok(n + 1);
         }
     }
     Ok(depth)
 }
 
-fn has_node(alloc: Global, tree: &Tree, site: &Path, below: &Path) -> Mem<bool>
-    ensures { IfOk result (λ is. is ≡ is_some (node_at tree.now (site.now ++ below.now))) }
+fn is_passable(alloc: Global, tree: &Tree, site: &Path, below: &Path) -> Mem<bool>
+    ensures { IfOk result (λ is. is ≡ is_passable tree.now (site.now ++ below.now)) }
 {
     // `len` says that nodes are at paths alone.
     let _ = tree.len();
     match site.join_or_none(alloc, below)? {
-        Some(path) => Ok(tree.node(&path).is_some()),
+        Some(path) => Ok(tree.node(&path).is_some() && !has_match(tree, &path)),
         None => Ok(false),
     }
 }

@@ -2,3 +2,4 @@ pub mod SplitLemmas
 pub mod ValueLemmas
 pub mod WalkLemmas
 pub mod SpellingLemmas
+pub mod StartLemmas

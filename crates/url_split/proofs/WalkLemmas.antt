@@ -1,48 +1,12 @@
 -- How far back a text is walked, and what has been passed.
-use Rattle.std.proofs.Common.{◌≡◌, ◌≢◌, ◌<◌, ◌≤◌, ◌+◌, ◌&&◌, ⊎_elim, min, ℕ, Bool, true, false, List, Some, None, Ok, length, drop, inl, [], take, get_or, nat_le, refl, sym, ◌∙◌, ap, arith}
-use Rattle.std.proofs.lemmas.Bool.Decides.{nat_tests}
+use Rattle.std.proofs.Common.{◌≡◌, ◌≢◌, ◌<◌, ◌≤◌, ⊎_elim, ℕ, Bool, List, Some, None, Ok, length, drop, inl, [], take, get_or, refl, sym, ◌∙◌, ap, arith}
 use Rattle.std.proofs.lemmas.Bool.{cases_lt, cases_eq}
 use Rattle.std.proofs.lemmas.List.{length-take, get_or-take, take_all}
-use Rattle.std.specs.List.{list_all}
-use Rattle.sp_base.specs.Paths.{is_path, is_under, parent_of, path_of, seg_ok, text_of}
+use Rattle.sp_base.specs.Paths.{path_of}
 use Rattle.url_split.specs.Split.{IsCut, Leads, IsSplit, selectors_of, extension_of, suffix_of}
-use Rattle.url_split.specs.Walk.{IsReading, IsReached}
+use Rattle.url_split.specs.Walk.{IsReading}
 use Rattle.url_split.specs.declared.decompose.Parts.{Parts}
 use Rattle.url_split.proofs.SplitLemmas.{no_more}
-
-and_second : (a b : Bool) → (a && b) ≡ true → b ≡ true
-and_second true b e = e
-and_second false b e = absurd (cc e)
-
-few_segments : (segs : List (List ℕ)) → is_path segs ≡ true → length segs ≤ 64
-few_segments segs h = let e = and_second (list_all seg_ok segs) (nat_le (length segs) 64) h in grind (arith, nat_tests)
-
-not_cut : (text : List ℕ) (k : ℕ) → k < length text → get_or text k 0 ≡ 47 → IsCut text k → ⊥
-not_cut text k within slash cut = ⊎_elim (λ end. omega (arith, end, within)) (λ dot. omega (arith, slash, dot.1)) cut
-
--- the first segments of a path, one more than known paths may reach above their last
-pub reached_is : (known : List (List ℕ) → Bool) (path : List (List ℕ)) (n most : ℕ) → most ≡ min n 64 + 1 → is_path path ≡ true
-    → ((other : List (List ℕ)) → known other ≡ true → is_under path (parent_of other) ≡ true → length other ≤ n + 1)
-    → ((text : List ℕ) (read : List (List ℕ)) → path_of text ≡ Ok read → is_path read ≡ true)
-    → ((whole read : List (List ℕ)) (k : ℕ) → is_path whole ≡ true → k ≤ length (text_of whole) → path_of (take k (text_of whole)) ≡ Ok read → is_under whole (parent_of read) ≡ true)
-    → ((whole read : List (List ℕ)) (k m : ℕ) → is_path whole ≡ true → k ≤ length (text_of whole) → path_of (take k (text_of whole)) ≡ Ok read → length read ≤ m → k ≤ length (text_of (take m whole)))
-    → ((whole : List (List ℕ)) (m : ℕ) → 0 < m → text_of (take m whole) ≡ take (length (text_of (take m whole))) (text_of whole))
-    → ((whole : List (List ℕ)) (m : ℕ) → 0 < m → length (text_of (take m whole)) < length (text_of whole) → get_or (text_of whole) (length (text_of (take m whole))) 0 ≡ 47)
-    → IsReached known (text_of path) (text_of (take most path))
-reached_is known path n most is valid reach reads parent within first slash =
-    let text = text_of path in
-    let start = text_of (take most path) in
-    record {
-      begins = first path most (omega (arith, is));
-      all = λ k read lo hi leads.
-          let whole : k ≤ length text = omega (arith, hi) in
-          let under = parent path read k valid whole leads.reads in
-          let deep = reach read leads.there under in
-          let few = few_segments read (reads (take k text) read leads.reads) in
-          let near = within path read k most valid whole leads.reads (omega (arith, is, deep, few)) in
-          let same : length start ≡ k = omega (arith, lo, near) in
-          not_cut text k hi (ap (λ i. get_or text i 0) (sym same) ∙ slash path most (omega (arith, is)) (omega (arith, same, hi))) leads.cut;
-    }
 
 pub within_text : (text prefix : List ℕ) → prefix ≡ take (length prefix) text → length prefix ≤ length text
 within_text text prefix is = omega (arith, ap length is, length-take (length prefix) text)

@@ -1,12 +1,30 @@
 -- What the functions of the decomposition promise one another; a reader of its definition needs none of it.
-use Rattle.std.specs.Prelude.{◌≡◌, ◌<◌, ◌≤◌, ◌⊎◌, ◌∷◌, [], ℕ, Bool, true, List, Option, Some, None, Ok, take, length}
-use Rattle.sp_base.specs.Paths.{path_of}
-use Rattle.url_split.specs.Split.{Leads}
+use Rattle.std.specs.Prelude.{◌≡◌, ◌<◌, ◌≤◌, ◌+◌, ◌⊎◌, ◌∷◌, [], ℕ, Bool, true, false, List, Option, Some, None, Ok, take, length, slice_index}
+use Rattle.std.specs.List.{count_by}
+use Rattle.sp_base.specs.PathTexts.{spelled}
+use Rattle.sp_base.specs.Paths.{is_path, is_under, parent_of, path_of}
+use Rattle.url_split.specs.Split.{Leads, is_slash}
 
 -- a prefix of a text after which no cut but the text's end leads to a known path
 pub record IsReached (known : List (List ℕ) → Bool) (text start : List ℕ) : Type 0 where
   pub begins : start ≡ take (length start) text
   pub all : (k : ℕ) (path : List (List ℕ)) → length start ≤ k → k < length text → Leads known text k path → ⊥
+
+-- a path that begins with the parent of each path that a prefix of a text spells
+abbrev pub HasParents : List ℕ → List (List ℕ) → Type 0
+HasParents text path = (k : ℕ) (read : List (List ℕ)) → k ≤ length text → path_of (take k text) ≡ Ok read → is_under path (parent_of read) ≡ true
+
+-- so many bytes the first of some pieces have, as many as make a path, with a slash before each
+pub record IsFitEnd (parts : List (List ℕ)) (end : ℕ) : Type 0 where
+  pub many : ℕ
+  pub fit : is_path (take many parts) ≡ true
+  pub bytes : end ≡ length (spelled (take many parts))
+  pub ends : (length parts ≤ many) ⊎ (is_path (take (many + 1) parts) ≡ false)
+
+-- a text up to the slash that stands after n others, or all of it where there is none
+pub record IsBeforeSlash (n : ℕ) (text start : List ℕ) : Type 0 where
+  pub begins : start ≡ take (length start) text
+  pub ends : (length start ≡ length text) ⊎ ((length start < length text) × (slice_index text (length start) ≡ 47) × (count_by is_slash (take (length start) text) ≡ n))
 
 -- nothing, or a text that begins with a dot
 abbrev pub IsBehind : List ℕ → Type 0

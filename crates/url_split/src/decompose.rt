@@ -3,13 +3,10 @@ ghost use Rattle.std.specs.Prelude.{◌≡◌, ◌++◌, ◌∷◌, [], map, fil
 ghost use Rattle.std.specs.List.{slice_split, before_first};
 ghost use Rattle.url_split.specs.Split.{IsSplit, IsLost, split_of, is_dot, is_slash, selectors_of, extension_of, suffix_of};
 ghost use Rattle.url_split.specs.Walk.{IsReading, IsBehind, IsReached};
-ghost use Rattle.sp_base.specs.Paths.{is_path, text_of};
 
 use crate::Known;
-use sp_base::{
-    MOST_SEGMENTS, Mem, NoMemory, Path, PathFault, TextBuf, TextList, a_path_and_its_text,
-    the_prefixes_of_a_path,
-};
+use crate::start::reached;
+use sp_base::{Mem, NoMemory, Path, PathFault, TextBuf, TextList};
 use std::alloc::{AllocError, Global};
 
 /// What a URL's path says of the resource and of how it is asked for.
@@ -36,32 +33,7 @@ pub fn split<K: Known>(alloc: Global, known: &K, text: &str) -> Mem<Option<Parts
         return Ok(Some(parts_after(alloc, path, "")?));
     }
     let start = reached(alloc, known, text)?;
-    split_before(alloc, known, text, start.text())
-}
-
-// The prefix of a text that has all dots at which a known path may end: where the text spells a path, its segments as far as
-// known paths may reach, and else the whole text.
-fn reached<K: Known>(alloc: Global, known: &K, text: &str) -> Mem<TextBuf>
-    ensures { IfOk result (λ start. IsReached (K.known known.now) text.now start) }
-{
-    a_path_and_its_text();
-    match Path::read(alloc, text) {
-        Ok(path) => reached_of(alloc, known, &path),
-        Err(PathFault::NoMemory) => Err(NoMemory),
-        Err(_) => TextBuf::of(alloc, text),
-    }
-}
-
-// The first segments of a path as far as known paths may reach, and one more.
-fn reached_of<K: Known>(alloc: Global, known: &K, path: &Path) -> Mem<TextBuf>
-    requires { IsTrue (is_path path.now) }
-    ensures { IfOk result (λ start. IsReached (K.known known.now) (text_of path.now) start) }
-{
-    a_path_and_its_text();
-    the_prefixes_of_a_path();
-    let most = known.reach(alloc, path)?.min(MOST_SEGMENTS) + 1;
-    let start = path.first(alloc, most)?.text(alloc)?;
-    Ok(start)
+    split_before(alloc, known, text, start)
 }
 
 // The decomposition at the last dot of a prefix that leads to a known path, where no longer prefix does.

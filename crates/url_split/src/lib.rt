@@ -4,6 +4,7 @@
 mod decompose;
 mod laws;
 mod lookup;
+mod start;
 
 pub use decompose::{Parts, split};
 pub use laws::{the_parts_give_the_text_back, the_split_is_the_longest};

@@ -1,4 +1,4 @@
-use Rattle.std.proofs.Common.{◌≡◌, ◌≤◌, ◌∙◌, ℕ, List, length, ap, sym, arith}
+use Rattle.std.proofs.Common.{◌≤◌, ◌∙◌, length, ap, sym, arith}
 use Rattle.std.specs.List.{list_any}
 use Rattle.resource_tree.specs.Content.{same_path}
 use Rattle.url_maps.proofs.ParentLemmas.{keeps_others, others_alike, settled_more}

@@ -1,4 +1,4 @@
-use Rattle.std.proofs.Common.{◌≡◌, ◌∙◌, true, sym, subst}
+use Rattle.std.proofs.Common.{◌∙◌, true, subst}
 use Rattle.resource_tree.specs.Content.{node_at}
 use Rattle.resource_tree.specs.Patches.{Rows, patching_at}
 use Rattle.url_maps.specs.Claims.{ClaimRows as Named}

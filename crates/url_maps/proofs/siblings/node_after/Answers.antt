@@ -1,4 +1,4 @@
-use Rattle.std.proofs.Common.{◌≡◌, ◌∙◌, None, Some, ap, sym}
+use Rattle.std.proofs.Common.{◌∙◌, ap, sym}
 use Rattle.resource_tree.specs.Content.{node_at}
 use Rattle.resource_tree.specs.Patches.{left_by}
 use Rattle.url_maps.proofs.ParentLemmas.{left_of}

@@ -1,10 +1,9 @@
-use Rattle.std.proofs.Common.{◌≡◌, ◌∙◌, ℕ, List, [], Some, None, ap, refl, subst, sym}
+use Rattle.std.proofs.Common.{◌≡◌, ◌∙◌, ℕ, List, [], Some, None, ap, subst, sym}
 use Rattle.std.specs.Option.{option_map_or}
 use Rattle.std.proofs.lemmas.List.{take_all}
-use Rattle.sp_base.specs.Paths.{parent_of}
 use Rattle.resource_tree.specs.Content.{kid}
 use Rattle.resource_tree.specs.Patches.{patching_at}
-use Rattle.url_maps.specs.Claims.{claims_by, kids_by}
+use Rattle.url_maps.specs.Claims.{claims_by}
 use Rattle.url_maps.specs.Siblings.{PutsRows, path_if}
 use Rattle.url_maps.proofs.SiblingLemmas.{PutsSome, puts_all, puts_more, puts_none}
 use Rattle.url_maps.proofs.siblings.put_kids.Goals as goal

@@ -1,8 +1,8 @@
-use Rattle.std.proofs.Common.{◌≡◌, ℕ, List, sym, subst, false}
+use Rattle.std.proofs.Common.{◌≡◌, ℕ, List, subst, false}
 use Rattle.std.specs.List.{list_any}
 use Rattle.resource_tree.specs.Content.{node_at, same_path}
 use Rattle.resource_tree.specs.Patches.{Rows, patching_at}
-use Rattle.url_maps.specs.Claims.{first_claimant, ClaimRows as Named}
+use Rattle.url_maps.specs.Claims.{ClaimRows as Named}
 use Rattle.url_maps.specs.Siblings.{PutsFamilies}
 use Rattle.url_maps.proofs.SiblingLemmas.{leads_on}
 use Rattle.url_maps.proofs.siblings.siblings_change.Goals as goal

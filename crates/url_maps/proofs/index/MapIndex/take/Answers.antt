@@ -1,4 +1,4 @@
-use Rattle.std.proofs.Common.{◌≡◌, sym, subst}
+use Rattle.std.proofs.Common.{sym, subst}
 use Rattle.resource_tree.specs.Content.{node_at}
 use Rattle.resource_tree.specs.Patches.{patching_at}
 use Rattle.url_maps.specs.Claims.{IsIndexOf, claims_vanity_path}

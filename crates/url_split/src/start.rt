@@ -1,0 +1,104 @@
+//! Where the walk back over the dots of a text begins.
+ghost use Rattle.std.specs.Prelude.{◌≡◌, List, ℕ, Ok, map, IfOk};
+ghost use Rattle.sp_base.specs.Paths.{path_of};
+ghost use Rattle.std.specs.List.{slice_split};
+ghost use Rattle.url_split.specs.Split.{is_slash};
+ghost use Rattle.url_split.specs.Walk.{HasParents, IsBeforeSlash, IsFitEnd, IsReached};
+
+use crate::Known;
+use sp_base::{
+    MOST_SEGMENTS, Mem, NoMemory, Path, PathFault, a_path_and_its_text, seg_ok,
+    segments_and_their_spelling, the_prefixes_of_a_path,
+};
+use std::alloc::{AllocError, Global};
+
+// The prefix of a text that has all dots at which a known path may end: its pieces as far as known paths may reach.
+pub(crate) fn reached<'a, K: Known>(alloc: Global, known: &K, text: &'a str) -> Mem<&'a str>
+    ensures { IfOk result (λ start. IsReached (K.known known.now) text.now start.now) }
+{
+    a_path_and_its_text();
+    let path = with_parents(alloc, text)?;
+    let most = known.reach(alloc, &path)?.min(MOST_SEGMENTS) + 1;
+    Ok(before_slash(text, most))
+}
+
+// The path that a text spells; where it spells none, its first pieces as far as they make one.
+fn with_parents(alloc: Global, text: &str) -> Mem<Path>
+    ensures { IfOk result (HasParents text.now) }
+{
+    a_path_and_its_text();
+    the_prefixes_of_a_path();
+    match Path::read(alloc, text) {
+        Ok(path) => Ok(path),
+        Err(PathFault::NoMemory) => Err(NoMemory),
+        Err(_) => first_pieces(alloc, text),
+    }
+}
+
+fn first_pieces(alloc: Global, text: &str) -> Mem<Path>
+    ensures { IfOk result (HasParents text.now) }
+{
+    a_path_and_its_text();
+    the_prefixes_of_a_path();
+    segments_and_their_spelling();
+    let Some(rest) = text.strip_prefix('/') else {
+        return Ok(Path::root(alloc));
+    };
+    let pieces = pieces_of(alloc, rest)?;
+    let end = fit_end(&pieces);
+    if end == 0 {
+        return Ok(Path::root(alloc));
+    }
+    Ok(path_in(alloc, &text[..end])?)
+}
+
+// The path of a text that spells one.
+fn path_in(alloc: Global, text: &str) -> Mem<Path>
+    requires { (path : List (List ℕ)) × (path_of text.now ≡ Ok path) }
+    ensures { IfOk result (λ path. path_of text.now ≡ Ok path) }
+{
+    match Path::read(alloc, text) {
+        Ok(path) => Ok(path),
+        Err(PathFault::NoMemory) => Err(NoMemory),
+        Err(_) => unreachable!(),
+    }
+}
+
+// How many bytes the first of some pieces have, as many as make a path, with a slash before each.
+fn fit_end(pieces: &[&str]) -> usize
+    ensures { IsFitEnd (map (λ piece. piece.now) pieces.now) result }
+{
+    let mut many = 0;
+    let mut end = 0;
+    for piece in pieces {
+        if many == MOST_SEGMENTS || !seg_ok(piece) {
+            return end;
+        }
+        many += 1;
+        end += 1 + piece.len();
+    }
+    end
+}
+
+fn pieces_of(alloc: Global, text: &str) -> Result<Vec<&str>, AllocError>
+    ensures { IfOk result (λ pieces. map (λ piece. piece.now) pieces.items ≡ slice_split is_slash text.now) }
+{
+    text.split('/').collect(alloc)
+}
+
+// A text up to the slash that stands after so many others, or all of it where there is none.
+fn before_slash(text: &str, n: usize) -> &str
+    ensures { IsBeforeSlash n text.now result.now }
+{
+    let bytes = text.as_bytes();
+    let mut passed = 0;
+    for at in 0..bytes.len() {
+        if bytes[at] == b'/' {
+            if passed == n {
+                return &text[..at];
+            }
+            passed += 1;
+        }
+    }
+    text
+}

@@ -1,5 +1,5 @@
 //! Words that a form lends.
-ghost use Rattle.std.specs.Prelude.{◌≡◌, ◌==◌, ◌∷◌, ◌++◌, [], IfOk, OnOk, OnErr, length, map, option_copied};
+ghost use Rattle.std.specs.Prelude.{◌≡◌, ◌==◌, ◌∷◌, ◌++◌, [], IfOk, OnOk, OnErr, length, map, option_copied, slice_get};
 ghost use Rattle.post_plan.specs.Entries.{lone_word};
 
 use sp_base::{Mem, TextBuf, TextList};
@@ -21,7 +21,7 @@ impl<'a> Model for WordList<'a> {
 }
 
 impl<'a> WordList<'a> {
-    pub(crate) fn new(alloc: Global) -> WordList<'a>
+    pub fn new(alloc: Global) -> WordList<'a>
         ensures { result ≡ [] }
     {
         WordList {
@@ -41,6 +41,15 @@ impl<'a> WordList<'a> {
         self.words.is_empty()
     }
 
+    pub fn get(&self, place: usize) -> Option<&'a str>
+        ensures { option_copied result ≡ slice_get self.now place }
+    {
+        match self.words.get(place) {
+            Some(word) => Some(*word),
+            None => None,
+        }
+    }
+
     pub fn as_slice(&self) -> &[&'a str]
         ensures { map (λ word. word.now) result.now ≡ self.now }
     {
@@ -58,7 +67,7 @@ impl<'a> WordList<'a> {
     }
 
     /// Adds a word at the end.
-    pub(crate) fn push(&mut self, word: &'a str) -> Mem<()>
+    pub fn push(&mut self, word: &'a str) -> Mem<()>
         ensures ok { OnOk result (self.new ≡ self.old ++ word.entry.now ∷ []) }
         ensures err { OnErr result (self.new ≡ self.old) }
     {

@@ -1,4 +1,5 @@
 pub mod NameLemmas
+pub mod NumberLemmas
 pub mod PathLemmas
 pub mod WayLemmas
 pub mod GoodLemmas

@@ -1,12 +1,12 @@
 -- Names that are free, and those that are taken.
-use Rattle.std.proofs.Common.{◌≡◌, ◌∙◌, ◌<◌, ◌+◌, ◌-◌, ap, sym, refl, subst, arith, ℕ, suc, zero, List, ◌∷◌, [], Option, Some, None, true, false, Bool}
-use Rattle.std.specs.Prelude.{is_some, cond}
-use Rattle.std.proofs.lemmas.Bool.{true≢false, false≢true}
+use Rattle.std.proofs.Common.{◌≡◌, ◌∙◌, ◌<◌, ◌+◌, ◌-◌, ap, sym, refl, arith, ℕ, suc, List, Option, Some, None, true, false, Bool}
+use Rattle.std.specs.Prelude.{is_some, cond, slice_index_or}
+use Rattle.std.proofs.lemmas.Bool.{true≢false}
 use Rattle.sp_base.specs.Paths.{is_path, path_or_none}
 use Rattle.resource_tree.specs.declared.nodes.Node.{Node}
-use Rattle.resource_tree.specs.Content.{Content, IsGood, kid, node_at}
+use Rattle.resource_tree.specs.Content.{Content, node_at}
 use Rattle.tree_draft.specs.Drafts.{Drafted, IsSound}
-use Rattle.post_apply.specs.Names.{free_number, is_taken, numbered}
+use Rattle.post_apply.specs.Names.{MarksTaken, free_number, is_taken, numbered}
 
 -- no node is where no path leads
 pub no_path : (draft : Drafted) (path : List (List ℕ)) → IsSound draft → None ≡ path_or_none path → is_some (node_at draft.content path) ≡ false
@@ -29,6 +29,11 @@ pub passed : (tree : Content) (parent : List (List ℕ)) (name : List ℕ) (n mo
 unfolding free_number
 passed tree parent name n most below taken =
     ap (free_number tree parent name n) (less n most below) ∙ ap (λ b. cond b (free_number tree parent name (n + 1) (most - (n + 1))) n) taken
+
+-- and so is one that is marked as taken
+pub passed_marked : (tree : Content) (parent : List (List ℕ)) (name : List ℕ) (n most : ℕ) (marks : List Bool) → n < most → MarksTaken tree parent name marks → slice_index_or marks n false ≡ true
+    → free_number tree parent name n (most - n) ≡ free_number tree parent name (n + 1) (most - (n + 1))
+passed_marked tree parent name n most marks below taken marked = passed tree parent name n most below (taken n marked)
 
 -- the first that isn't taken
 pub found : (tree : Content) (parent : List (List ℕ)) (name : List ℕ) (n most : ℕ) → n < most → is_taken tree parent (numbered name n) ≡ false

@@ -7,6 +7,7 @@ mod fault;
 mod laws;
 mod modify;
 mod names;
+mod numbers;
 mod posting;
 mod removals;
 mod report;

@@ -3,6 +3,7 @@ ghost use Rattle.std.specs.Prelude.{◌≡◌, IfOk, IfSome};
 ghost use Rattle.tree_draft.specs.Drafts.{IsSound};
 ghost use Rattle.post_apply.specs.Names as spec;
 
+use crate::numbers::{is_marked, marked_numbers};
 use crate::removals::has_property;
 use post_plan::NameWish;
 use sp_base::{Mem, NoMemory, Path, TextBuf};
@@ -40,8 +41,8 @@ fn most_taken(draft: &Draft, parent: &Path) -> Option<usize>
     }
 }
 
-// A name with the least number with which it isn't taken.
-#[tactic(auto, using(crate::proofs::NameLemmas::passed, crate::proofs::NameLemmas::found, crate::proofs::NameLemmas::last))]
+// A name with the least number with which it isn't taken. What kids take is marked in one walk, so that few numbers are looked up.
+#[tactic(auto, using(crate::proofs::NameLemmas::passed, crate::proofs::NameLemmas::passed_marked, crate::proofs::NameLemmas::found, crate::proofs::NameLemmas::last))]
 fn free_numbered(alloc: Global, draft: &Draft, parent: &Path, name: &str) -> Mem<TextBuf>
     requires { IsSound draft.now }
     ensures { IfOk result (λ t. t ≡ spec.numbered name.now (spec.free_number draft.now.content parent.now name.now 0 (spec.most_taken draft.now.content parent.now))) }
@@ -49,7 +50,11 @@ fn free_numbered(alloc: Global, draft: &Draft, parent: &Path, name: &str) -> Mem
     let Some(most) = most_taken(draft, parent) else {
         return Err(NoMemory);
     };
+    let marks = marked_numbers(alloc, draft, parent, name, most)?;
     for n in 0..most {
+        if is_marked(&marks, n) {
+            continue;
+        }
         let made = numbered(alloc, name, n)?;
         if !is_taken(alloc, draft, parent, made.text())? {
             return Ok(made);

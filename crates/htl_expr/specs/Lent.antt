@@ -1,5 +1,5 @@
 -- What values that lend stand for. Only proofs and private functions need this.
-use Rattle.std.specs.Prelude.{◌≡◌, ℕ, Bool, true, false, List, [], Option, None, Some, codes, map, option_map}
+use Rattle.std.specs.Prelude.{◌≡◌, ℕ, Bool, true, false, List, [], Option, None, Some, codes, get_or, map, option_map}
 use Rattle.std.specs.Fmt.{signed_decimal}
 use Rattle.htl_expr.specs.declared.out.Out.{Out}
 use Rattle.htl_expr.specs.declared.out.Out.TheVariants as out
@@ -44,6 +44,19 @@ abbrev pub IsPropertyIfNamed : Bindings → Option (List ℕ) → Out → Type 0
 IsPropertyIfNamed scope None v = Unit {0}
 IsPropertyIfNamed scope (Some name) v = v ≡ property scope name
 
+-- the text of the property of this name as an item of a list literal
+abbrev pub property_item : Bindings → List ℕ → List ℕ
+property_item scope name = plain (codes ",") (property scope name)
+
+-- the text of an item that is said to be a property is that of the one of that name
+abbrev pub IsPropertyItemIfNamed : Bindings → Option (List ℕ) → List ℕ → Type 0
+IsPropertyItemIfNamed scope None text = Unit {0}
+IsPropertyItemIfNamed scope (Some name) text = text ≡ property_item scope name
+
+-- what is said of the items of a list literal holds for this resource
+abbrev pub AreItems : Bindings → Operand → Type 0
+AreItems scope operand = (place : ℕ) → IsPropertyItemIfNamed scope (option_map (λ name. name.now) (get_or operand.items place None)) (get_or (listed_texts (out_of_lent operand.value)) place [])
+
 -- what an operand says of itself holds for this resource
 abbrev pub IsOperand : Bindings → Operand → Type 0
-IsOperand scope operand = IsPropertyIfNamed scope (option_map (λ name. name.now) operand.property) (out_of_lent operand.value)
+IsOperand scope operand = IsPropertyIfNamed scope (option_map (λ name. name.now) operand.property) (out_of_lent operand.value) × AreItems scope operand

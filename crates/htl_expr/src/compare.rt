@@ -9,6 +9,7 @@ ghost use Rattle.htl_expr.specs.declared.out.Out.TheVariants as out;
 
 use crate::evaluation::Evaluation;
 use crate::lent::{Lent, Operand};
+use crate::literals::has_same_texts;
 use crate::node::Comparison;
 use crate::same::{has_same_items, is_list};
 use sp_base::Mem;
@@ -64,7 +65,22 @@ fn operands_are_same(alloc: Global, scope: &mut Evaluation, a: &Operand, b: &Ope
 {
     match (a.property, b.property) {
         (Some(a), Some(b)) => scope.has_same(alloc, a, b),
-        _ => is_same(alloc, &a.value, &b.value),
+        _ => has_same_content(alloc, scope, a, b),
+    }
+}
+
+// Whether two operands are the same, of which one at least is no property.
+#[tactic(auto, using(crate::proofs::SameItems::same_lists))]
+fn has_same_content(alloc: Global, scope: &mut Evaluation, a: &Operand, b: &Operand) -> Mem<bool>
+    requires first { lent.IsOperand scope.old a.now }
+    requires second { lent.IsOperand scope.old b.now }
+    ensures same { IfOk result (λ same. same ≡ spec.is_same (out_of_lent a.now.value) (out_of_lent b.now.value)) }
+    ensures scope { scope.new ≡ scope.old }
+{
+    if is_list(&a.value) && is_list(&b.value) {
+        has_same_texts(alloc, scope, a, b)
+    } else {
+        is_same(alloc, &a.value, &b.value)
     }
 }
 

@@ -1,11 +1,12 @@
 //! Values that lend what is stored.
 
-ghost use Rattle.std.specs.Prelude.{◌≡◌, None};
+ghost use Rattle.std.specs.Prelude.{◌≡◌, None, [], get_or};
 ghost use Rattle.htl_expr.specs.Value as values;
 ghost use Rattle.htl_expr.specs.Lent as spec;
 
 use sp_base::{LongList, TextBuf, TextList, TruthList};
 use sqlite_items::Items;
+use std::alloc::Global;
 
 /// The value of an expression, with what the resource and the expression have lent.
 #[derive(Drop)]
@@ -21,22 +22,26 @@ pub(crate) enum Lent<'a> {
     Items(Items<Lent<'a>>),
 }
 
-/// A value, and the name of the property that it is, where it is one of the resource's.
+/// A value, the name of the property that it is, where it is one of the resource's, and for each item of a list literal the name of
+/// the property that it is.
 #[derive(Drop)]
 pub(crate) struct Operand<'a> {
     pub(crate) value: Lent<'a>,
     pub(crate) property: Option<&'a TextBuf>,
+    pub(crate) items: Items<Option<&'a TextBuf>>,
 }
 
 impl<'a> Operand<'a> {
     /// A value of which nothing more is said.
-    pub(crate) fn of(value: Lent<'a>) -> Operand<'a>
+    pub(crate) fn of(alloc: Global, value: Lent<'a>) -> Operand<'a>
         ensures value { result.value ≡ value.entry }
         ensures property { result.property ≡ None }
+        ensures items { result.items ≡ [] }
     {
         Operand {
             value,
             property: None,
+            items: Items::new(alloc),
         }
     }
 }

@@ -10,6 +10,7 @@ mod expression;
 mod laws;
 mod lent;
 mod lists;
+mod literals;
 mod node;
 mod numbers;
 mod options;

@@ -29,9 +29,9 @@ pub(crate) fn is_list(value: &Lent) -> bool
     }
 }
 
-// How many items a list has.
+/// How many items a list has.
 #[tactic(auto, using(crate::proofs::Chains::items_out))]
-fn count(list: &Lent) -> usize
+pub(crate) fn count(list: &Lent) -> usize
     ensures { result ≡ length (listed_texts (out_of_lent list.now)) }
 {
     match list {
@@ -167,9 +167,9 @@ fn has_item_text(alloc: Global, a: &Lent, b: &Lent) -> Mem<bool>
     }
 }
 
-// Whether two items of list literals have the same text. The text of a list is made whole only where both are lists.
+/// Whether two items of list literals have the same text. The text of a list is made whole only where both are lists.
 #[tactic(auto, using(crate::proofs::SameItems::same_swapped))]
-fn is_same_item(alloc: Global, a: &Lent, b: &Lent) -> Mem<bool>
+pub(crate) fn is_same_item(alloc: Global, a: &Lent, b: &Lent) -> Mem<bool>
     ensures { IfOk result (λ same. same ≡ pointwise nat_eq (plain_item a.now) (plain_item b.now)) }
 {
     if is_list(a) {
@@ -188,9 +188,9 @@ fn is_same_item_at(alloc: Global, a: &[Lent], b: &[Lent], place: usize) -> Mem<b
     is_same_item(alloc, &a[place], &b[place])
 }
 
-// Whether two lists have the same item at a place. What is stored as a text is lent.
+/// Whether two lists have the same item at a place. What is stored as a text is lent.
 #[tactic(auto, using(crate::proofs::Chains::items_out, crate::proofs::SameItems::get_or_of_map, crate::proofs::SameItems::same_swapped))]
-fn is_same_at(alloc: Global, a: &Lent, b: &Lent, place: usize) -> Mem<bool>
+pub(crate) fn is_same_at(alloc: Global, a: &Lent, b: &Lent, place: usize) -> Mem<bool>
     requires within { place < length (listed_texts (out_of_lent a.now)) }
     requires within_other { place < length (listed_texts (out_of_lent b.now)) }
     ensures { IfOk result (λ same. same ≡ pointwise nat_eq (get_or (listed_texts (out_of_lent a.now)) place []) (get_or (listed_texts (out_of_lent b.now)) place [])) }

@@ -3,6 +3,7 @@
 ghost use Rattle.std.specs.Prelude.{◌≡◌, IfOk, map, if◌then◌else◌, true};
 ghost use Rattle.htl_expr.specs.Value as spec;
 ghost use Rattle.htl_expr.specs.Lent.{out_of_lent, IsOperand};
+ghost use Rattle.htl_expr.specs.declared.out.Out.TheVariants as out;
 
 use crate::compare::operands_compare;
 use crate::evaluation::Evaluation;
@@ -95,31 +96,36 @@ fn or_values<'a>(
     Ok(last)
 }
 
-// The values of the items of a list literal.
+// The value of a list literal.
 #[cycle(value)]
-fn item_values<'a>(
-    alloc: Global,
-    scope: &mut Evaluation<'a>,
-    items: &'a [Node],
-) -> Mem<Items<Lent<'a>>>
-    ensures values { IfOk result (λ values. map out_of_lent values ≡ map (spec.value scope.old) items.now) }
+fn list_value<'a>(alloc: Global, scope: &mut Evaluation<'a>, items: &'a [Node]) -> Mem<Operand<'a>>
+    ensures value { IfOk result (λ v. out_of_lent v.value ≡ out.List (spec.item_texts (map (spec.value scope.old) items.now))) }
+    ensures operand { IfOk result (IsOperand scope.old) }
     ensures scope { scope.new ≡ scope.old }
 {
     let mut values = Items::new(alloc);
+    let mut names = Items::new(alloc);
     for item in items {
-        values.push(value(alloc, scope, item)?.value)?;
+        let item = value(alloc, scope, item)?;
+        names.push(item.property)?;
+        values.push(item.value)?;
     }
-    Ok(values)
+    Ok(Operand {
+        value: Lent::Items(values),
+        property: None,
+        items: names,
+    })
 }
 
 // The property of this name, or nothing.
-fn property_operand<'a>(scope: &Evaluation<'a>, name: &'a TextBuf) -> Operand<'a>
+fn property_operand<'a>(alloc: Global, scope: &Evaluation<'a>, name: &'a TextBuf) -> Operand<'a>
     ensures value { out_of_lent result.value ≡ spec.property scope.now name.now }
     ensures operand { IsOperand scope.now result }
 {
     Operand {
         value: property(scope.scope(), name.text()),
         property: Some(name),
+        items: Items::new(alloc),
     }
 }
 
@@ -152,24 +158,21 @@ pub(crate) fn value<'a>(
     ensures scope { scope.new ≡ scope.old }
 {
     match node {
-        Node::Text(text) => Ok(Operand::of(Lent::Text(text.text()))),
-        Node::Long(number) => Ok(Operand::of(Lent::Long(*number))),
-        Node::Truth(truth) => Ok(Operand::of(Lent::Truth(*truth))),
-        Node::Variable(_) | Node::Access(_, _) => Ok(Operand::of(Lent::Nothing)),
-        Node::Property(name) => Ok(property_operand(scope, name)),
-        Node::Resource(name) => Ok(Operand::of(resource(scope.scope(), name.text()))),
-        Node::List(items) => {
-            let items = item_values(alloc, scope, items.as_slice())?;
-            Ok(Operand::of(Lent::Items(items)))
-        }
+        Node::Text(text) => Ok(Operand::of(alloc, Lent::Text(text.text()))),
+        Node::Long(number) => Ok(Operand::of(alloc, Lent::Long(*number))),
+        Node::Truth(truth) => Ok(Operand::of(alloc, Lent::Truth(*truth))),
+        Node::Variable(_) | Node::Access(_, _) => Ok(Operand::of(alloc, Lent::Nothing)),
+        Node::Property(name) => Ok(property_operand(alloc, scope, name)),
+        Node::Resource(name) => Ok(Operand::of(alloc, resource(scope.scope(), name.text()))),
+        Node::List(items) => list_value(alloc, scope, items.as_slice()),
         Node::Not(operand) => {
             let operand = value(alloc, scope, operand.get())?;
-            Ok(Operand::of(Lent::Truth(!is_true(&operand.value))))
+            Ok(Operand::of(alloc, Lent::Truth(!is_true(&operand.value))))
         }
         Node::Compare(comparison, a, b) => {
             let a = value(alloc, scope, a.get())?;
             let holds = compares_with(alloc, scope, *comparison, a, b.get())?;
-            Ok(Operand::of(Lent::Truth(holds)))
+            Ok(Operand::of(alloc, Lent::Truth(holds)))
         }
         Node::And(first, more) => {
             let first = value(alloc, scope, first.get())?;

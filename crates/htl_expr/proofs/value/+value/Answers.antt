@@ -1,8 +1,12 @@
-use Rattle.std.proofs.Common.{◌≡◌, ◌∙◌, IfOk, sym, ap, subst}
+use Rattle.std.proofs.Common.{◌≡◌, ◌∙◌, ℕ, List, [], Option, None, IfOk, Bor, get_or, map, option_map, arith, sym, ap, subst}
+use Rattle.std.proofs.lemmas.List.{take_all}
+use Rattle.sp_base.specs.declared.text.TextBuf.{TextBuf}
 use Rattle.htl_expr.specs.declared.out.Out.{Out}
-use Rattle.htl_expr.specs.Lent.{out_of_lent}
-use Rattle.htl_expr.specs.Value.{value}
-use Rattle.htl_expr.proofs.Chains.{and_goes_on, or_goes_on}
+use Rattle.htl_expr.specs.declared.out.Out.TheVariants as out
+use Rattle.htl_expr.specs.Lent.{out_of_lent, plain_item, listed_texts, IsPropertyItemIfNamed}
+use Rattle.htl_expr.specs.Value.{value, item_texts}
+use Rattle.htl_expr.proofs.Chains.{and_goes_on, or_goes_on, items_out, item_texts_are}
+use Rattle.htl_expr.proofs.Items.{as_many, one_item_more, property_as_item}
 use Rattle.htl_expr.proofs.Trees.{truth_out, compare_whole, and_whole, or_whole, choice_then, choice_else, items_go_on}
 use Rattle.htl_expr.proofs.value.+value.Goals as goal
 
@@ -22,12 +26,28 @@ or_values-loop-operand-preserved t c =
       or_goes_on (value c.args.scope.now) c.args.more.now c.loop-operand.operand-index c.operand-item.result _ _ _ c.loop-operand-test.true c.operand-item.is (rw known.0 at c.in_ok-last.ensures.value) known.2,
     )
 
-pub item_values-loop-item-preserved : goal.item_values-loop-item-preserved
-item_values-loop-item-preserved t c =
-    let known = c.loop-item.invariant in (
+pub list_value-loop-item-preserved : goal.list_value-loop-item-preserved
+list_value-loop-item-preserved t c =
+    let known = c.loop-item.invariant in
+    let operand = rw known.0 at c.in_ok-item.ensures.operand in (
       c.value.ensures.scope ∙ known.0,
-      items_go_on (value c.args.scope.now) c.args.items.now c.loop-item.item-index c.item-item.result c.loop-item.values _ c.in_ok-value.field-0.value c.loop-item-test.true c.item-item.is c.in_ok-push.ensures.ok (rw known.0 at c.in_ok-value.ensures.value) known.1,
+      items_go_on (value c.args.scope.now) c.args.items.now c.loop-item.item-index c.item-item.result c.loop-item.values _ c.in_ok-item.item.value c.loop-item-test.true c.item-item.is c.in_ok-push-2.ensures.ok (rw known.0 at c.in_ok-item.ensures.value) known.1,
+      as_many c.loop-item.names c.push.new.self c.loop-item.values c.push-in-loop-item.new.self c.in_ok-item.item.property c.in_ok-item.item.value c.in_ok-push.ensures.ok c.in_ok-push-2.ensures.ok known.2,
+      one_item_more (λ (name : Option (Bor TextBuf)) (text : List ℕ). IsPropertyItemIfNamed c.args.scope.now (option_map (λ (n : Bor TextBuf). n.now) name) text) plain_item
+          c.loop-item.names c.push.new.self c.loop-item.values c.push-in-loop-item.new.self None c.in_ok-item.item.property c.in_ok-item.item.value c.in_ok-push.ensures.ok c.in_ok-push-2.ensures.ok known.2 tt
+          (property_as_item c.args.scope.now (option_map (λ (n : Bor TextBuf). n.now) c.in_ok-item.item.property) (out_of_lent c.in_ok-item.item.value) operand.0) known.3,
     )
+
+pub list_value-returns-clause-value : goal.list_value-returns-clause-value
+list_value-returns-clause-value t c =
+    let whole = c.loop-item.invariant.1 ∙ ap (map (value c.args.scope.now)) (take_all c.loop-item.item-index c.args.items.now (omega arith)) in
+    items_out c.loop-item.values ∙ ap out.List (sym (item_texts_are c.loop-item.values)) ∙ ap (λ (os : List Out). out.List (item_texts os)) whole
+
+pub list_value-returns-clause-operand : goal.list_value-returns-clause-operand
+list_value-returns-clause-operand t c = (
+  tt,
+  λ place. subst (λ (o : Out). IsPropertyItemIfNamed c.args.scope.now (option_map (λ (n : Bor TextBuf). n.now) (get_or c.loop-item.names place None)) (get_or (listed_texts o) place [])) (sym (items_out c.loop-item.values)) (c.loop-item.invariant.3 place),
+)
 
 pub value-returns-in-And-clause-value : goal.value-returns-in-And-clause-value
 value-returns-in-And-clause-value t c =

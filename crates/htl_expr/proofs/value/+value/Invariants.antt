@@ -1,5 +1,5 @@
-use Rattle.std.proofs.Common.{◌≡◌, drop, take, map}
-use Rattle.htl_expr.specs.Lent.{out_of_lent, IsOperand}
+use Rattle.std.proofs.Common.{◌≡◌, ℕ, [], None, option_map, length, get_or, drop, take, map}
+use Rattle.htl_expr.specs.Lent.{out_of_lent, plain_item, IsOperand, IsPropertyItemIfNamed}
 use Rattle.htl_expr.specs.Value.{and_values, or_values, value}
 use Rattle.htl_expr.proofs.value.+value.Given as goal
 
@@ -9,5 +9,7 @@ invariant-and_values-loop-operand l = (l.scope ≡ l.fn.scope) × IsOperand l.fn
 abbrev pub invariant-or_values-loop-operand : goal.invariant-or_values-loop-operand
 invariant-or_values-loop-operand l = (l.scope ≡ l.fn.scope) × IsOperand l.fn.scope l.last × (or_values (out_of_lent l.last.value) (map (value l.fn.scope) (drop l.operand-index l.more)) ≡ or_values (out_of_lent l.fn.first.value) (map (value l.fn.scope) l.more))
 
-abbrev pub invariant-item_values-loop-item : goal.invariant-item_values-loop-item
-invariant-item_values-loop-item l = (l.scope ≡ l.fn.scope) × (map out_of_lent l.values ≡ map (value l.fn.scope) (take l.item-index l.items))
+abbrev pub invariant-list_value-loop-item : goal.invariant-list_value-loop-item
+invariant-list_value-loop-item l =
+    (l.scope ≡ l.fn.scope) × (map out_of_lent l.values ≡ map (value l.fn.scope) (take l.item-index l.items)) × (length l.names ≡ length l.values)
+    × ((place : ℕ) → IsPropertyItemIfNamed l.fn.scope (option_map (λ name. name.now) (get_or l.names place None)) (get_or (map plain_item l.values) place []))

@@ -1,5 +1,5 @@
 -- For the making of a change alone: how far it has come.
-use Rattle.std.specs.Prelude.{⊤, ◌≡◌, ◌||◌, ◌&&◌, ℕ, Bool, true, false, not, List, [], ◌∷◌, Option, Some, None, filter, is_none, is_some}
+use Rattle.std.specs.Prelude.{⊤, ◌≡◌, ◌||◌, ◌&&◌, ℕ, Bool, true, false, not, List, Option, Some, None, filter, is_none, is_some}
 use Rattle.std.specs.List.{list_any}
 use Rattle.std.specs.Map.{lookup}
 use Rattle.std.specs.Option.{option_map_or}

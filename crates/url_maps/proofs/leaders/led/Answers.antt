@@ -1,4 +1,4 @@
-use Rattle.std.proofs.Common.{◌≡◌, ◌∙◌, ◌∷◌, ap, subst, sym, arith}
+use Rattle.std.proofs.Common.{◌∙◌, ◌∷◌, ap, subst, arith}
 use Rattle.resource_tree.specs.Patches.{patching_at}
 use Rattle.url_maps.specs.Noting.{IsFirstOf, others}
 use Rattle.url_maps.proofs.LeaderLemmas.{leads_by, leads_few}

@@ -1,23 +1,19 @@
 -- From the claimants of a text to the node that it names by an alias, and back.
-use Rattle.std.proofs.Common.{◌≡◌, ◌<◌, ℕ, zero, suc, Bool, true, false, cond, List, [], ◌∷◌, Option, Some, None, length, refl, sym, ◌∙◌, ap, subst, ⊎_elim, arith}
-use Rattle.std.specs.Prelude.{◌||◌, ◌&&◌, ◌==◌, is_none, not, nat_eq, codes, find, option_map}
+use Rattle.std.proofs.Common.{◌≡◌, ◌<◌, ℕ, zero, suc, Bool, true, false, cond, List, [], ◌∷◌, Some, None, length, refl, sym, ◌∙◌, ap, ⊎_elim, arith}
+use Rattle.std.specs.Prelude.{◌||◌, ◌&&◌, ◌==◌, not, nat_eq, codes, find}
 use Rattle.std.specs.Cmp.Lexicographic.{pointwise, same_text}
 use Rattle.std.specs.List.{list_any}
 use Rattle.std.specs.Option.{option_map_or}
 use Rattle.std.proofs.lemmas.Bool.Decides.{nat_tests}
 use Rattle.std.proofs.lemmas.Bool.{cases_Bool, true≢false, false≢true, and_parts}
-use Rattle.sp_base.specs.Paths.{is_path, parent_of, path_of, seg_ok, text_of}
+use Rattle.sp_base.specs.Paths.{is_path, parent_of, seg_ok, text_of}
 use Rattle.resource_tree.specs.declared.nodes.Node.{Node}
-use Rattle.resource_tree.specs.Content.{Content, IsTree, kid, name_of, node_at, prop_at, same_path}
+use Rattle.resource_tree.specs.Content.{Content, IsTree, kid, node_at, prop_at}
 use Rattle.resource_tree.specs.Changes.{kids_at}
 use Rattle.url_maps.specs.Words.{mapping_texts}
 use Rattle.url_maps.specs.Aliases.{IsAlias, has_alias}
-use Rattle.url_maps.specs.Claims.{AreClaims, ClaimRows, claimants, claims_alias, node_claims_alias, spells_alias}
-use Rattle.url_maps.specs.declared.pairs.Pair.{Pair}
-use Rattle.url_maps.specs.declared.pairs.PairKind.TheVariants.{Alias}
-use Rattle.url_maps.specs.Pairs.{HasAlias, IsPair, IsPairOf}
-use Rattle.url_maps.specs.Search.{first_kid, first_path, is_free, is_free_at}
-use Rattle.url_maps.proofs.PathLemmas.{IsReadBack, kid_parent, kid_parts, length_kid-is, parent_of-kid, path_from_text, same_path_self, spells_is, valid_sibling}
+use Rattle.url_maps.specs.Claims.{claims_alias, node_claims_alias, spells_alias}
+use Rattle.url_maps.proofs.PathLemmas.{IsReadBack, length_kid-is, parent_of-kid, spells_is, valid_sibling}
 
 -- ---- searches in lists
 

@@ -1,6 +1,6 @@
 -- The change of an index: what is noted of a patch, and the claims after the change.
 use Rattle.std.proofs.Common.{◌≡◌, ◌<◌, ◌+◌, ℕ, Bool, true, false, cond, List, [], ◌∷◌, ◌++◌, Option, Some, None, map, take, length, get_or, refl, sym, ◌∙◌, ap, ⊎_elim}
-use Rattle.std.specs.Prelude.{◌||◌, ◌&&◌, is_none, is_some, option_to_list, slice_get}
+use Rattle.std.specs.Prelude.{◌||◌, ◌&&◌, filter, is_none, is_some, option_to_list, slice_get}
 use Rattle.std.specs.List.{IsDistinct, list_any}
 use Rattle.std.specs.Map.{keys_of, lookup}
 use Rattle.std.specs.Option.{option_map_or}
@@ -22,7 +22,7 @@ use Rattle.resource_tree.specs.declared.patch.PatchNode.TheVariants as there
 use Rattle.resource_tree.specs.Content.{Content, by_path, node_at, same_path}
 use Rattle.resource_tree.specs.Patches as patches
 use Rattle.url_maps.specs.Claims.{AreClaims, ClaimRows, claimants, claims_vanity_path, node_claims_vanity_path}
-use Rattle.url_maps.specs.Changes.{AreChanged, claimants_over, patched_vanity_path}
+use Rattle.url_maps.specs.Changes.{AreChanged, LeavesOthers, claimants_over, patched_vanity_path}
 use Rattle.url_maps.specs.Noting.{Notes, NotesRow, has_row, is_at_some, kept, left_vanity_path, noted}
 use Rattle.url_maps.proofs.ClaimLemmas.{and_false, more_words, no_words, or_false, text_sym}
 use Rattle.url_maps.proofs.PathLemmas.{path_from_same}
@@ -158,12 +158,12 @@ last_false : (a b : Bool) → (a || b) ≡ false → b ≡ false
 last_false true b is = absurd (true≢false is)
 last_false false b is = is
 
--- which of the paths are kept
-any_kept : (q : List (List ℕ)) (patch : patches.Rows) (paths : List (List (List ℕ))) → list_any (same_path q) (kept patch paths) ≡ (list_any (same_path q) paths && is_none (patches.row_at patch q))
-any_kept q patch [] = refl
-any_kept q patch (p ∷ ps) =
-    any_cond q p (is_none (patches.row_at patch p)) (kept patch ps) ∙ ap (λ x. (same_path q p && is_none (patches.row_at patch p)) || x) (any_kept q patch ps)
-    ∙ gather (same_path q p) (is_none (patches.row_at patch p)) (list_any (same_path q) ps) (is_none (patches.row_at patch q)) (λ same. ap (λ r. is_none (patches.row_at patch r)) (sym (path_from_same q p same)))
+-- which of the paths pass a test
+pub any_filter : (q : List (List ℕ)) (test : List (List ℕ) → Bool) (paths : List (List (List ℕ))) → list_any (same_path q) (filter test paths) ≡ (list_any (same_path q) paths && test q)
+any_filter q test [] = refl
+any_filter q test (p ∷ ps) =
+    any_cond q p (test p) (filter test ps) ∙ ap (λ x. (same_path q p && test p) || x) (any_filter q test ps)
+    ∙ gather (same_path q p) (test p) (list_any (same_path q) ps) (test q) (λ same. ap test (sym (path_from_same q p same)))
 
 none_else : (q : List (List ℕ)) (left : List (List ℕ) → PatchNode → List ℕ → Bool) (t : List ℕ) (patch : patches.Rows) → patches.row_at patch q ≡ None → list_any (λ row. same_path q row.0 && left row.0 row.1 t) patch ≡ false
 none_else q left t [] is = refl
@@ -223,7 +223,7 @@ changed_by rows patch before after left changed claims once noted_all is t q =
     elim (lookup (bytes_eq t) changed) as (λ o. lookup (bytes_eq t) changed ≡ o → option_map_or (list_any (same_path q)) o (before q t) ≡ after q t) [
       | Some paths ↦ λ row.
           sym (ap (λ o. list_any (same_path q) (option_map_or (λ ps. ps) o (kept patch (claimants rows t)))) row) ∙ noted_all.claims t q
-          ∙ ap (λ x. x || list_any (λ r. same_path q r.0 && left r.0 r.1 t) patch) (any_kept q patch (claimants rows t) ∙ ap (λ x. x && is_none (patches.row_at patch q)) (claims t q))
+          ∙ ap (λ x. x || list_any (λ r. same_path q r.0 && left r.0 r.1 t) patch) (any_filter q (λ p. is_none (patches.row_at patch p)) (claimants rows t) ∙ ap (λ x. x && is_none (patches.row_at patch q)) (claims t q))
           ∙ ap (λ x. (before q t && is_none (patches.row_at patch q)) || x) (any_left q left t patch once)
           ∙ settled (before q t) (λ r. left q r t) (patches.row_at patch q) ∙ sym (is q t)
       | None ↦ λ row.
@@ -233,6 +233,16 @@ changed_by rows patch before after left changed claims once noted_all is t q =
     ] refl
 
 -- ---- vanity paths
+
+-- who claims a text without a row is in no row of the patch
+pub leaves_others : (rows : ClaimRows) (tree : Content) (patch : patches.Rows) (changed : ClaimRows) → AreNoted rows patch (claims_vanity_path tree) left_vanity_path patch changed → LeavesOthers tree patch changed
+leaves_others rows tree patch changed noted_all t q none claims =
+    elim (patches.row_at patch q) as (λ o. patches.row_at patch q ≡ o → patches.left_by o (node_at tree q) ≡ node_at tree q) [
+      | None ↦ λ is. refl
+      | Some row ↦ λ is.
+          absurd (true≢false (sym claims ∙ first_false (claims_vanity_path tree q t) (left_vanity_path q row t)
+          (row_fails q (λ p r. claims_vanity_path tree p t || left_vanity_path p r t) patch row is (sym (noted_all.has t) ∙ ap is_some none))))
+    ] refl
 
 pub after_vanity_path : (tree : Content) (patch : patches.Rows) (q : List (List ℕ)) (t : List ℕ) → patched_vanity_path tree patch q t ≡ option_map_or (λ row. left_vanity_path q row t) (patches.row_at patch q) (claims_vanity_path tree q t)
 unfolding claims_vanity_path

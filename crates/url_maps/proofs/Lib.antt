@@ -3,6 +3,7 @@ pub mod ChangeLemmas
 pub mod PathLemmas
 pub mod AliasLemmas
 pub mod VanityLemmas
+pub mod LeaderLemmas
 pub mod MappingLemmas
 pub mod PairLemmas
 pub mod TurnLemmas

@@ -1,26 +1,24 @@
 -- The nodes whose kids a patch changes, or the aliases of whose kids.
-use Rattle.std.proofs.Common.{◌≡◌, ◌<◌, ◌≤◌, ◌+◌, ℕ, zero, suc, Bool, true, false, cond, List, [], ◌∷◌, Option, Some, None, take, length, get_or, refl, sym, ◌∙◌, ap, subst, ⊎_elim, arith}
-use Rattle.std.specs.Prelude.{◌||◌, ◌&&◌, ◌==◌, codes, find, is_some, nat_eq, not, option_map, slice_get}
+use Rattle.std.proofs.Common.{◌≡◌, ◌<◌, ◌≤◌, ◌+◌, ℕ, suc, Bool, true, false, cond, List, [], ◌∷◌, Option, Some, None, take, length, get_or, refl, sym, ◌∙◌, ap, subst, ⊎_elim, arith}
+use Rattle.std.specs.Prelude.{◌||◌, ◌&&◌, ◌==◌, find, nat_eq, not, option_map, slice_get}
 use Rattle.std.specs.Cmp.Lexicographic.{pointwise, same_text}
 use Rattle.std.specs.List.{list_any}
-use Rattle.std.specs.Map.{lookup}
 use Rattle.std.specs.Option.{option_map_or}
 use Rattle.std.specs.Str.{bytes_eq}
-use Rattle.std.proofs.lemmas.Bool.{and_parts, cases_Bool, true≢false, false≢true, cases_lt}
+use Rattle.std.proofs.lemmas.Bool.{and_parts, cases_Bool, true≢false, cases_lt}
 use Rattle.std.proofs.lemmas.List.Folds.{list_any_more}
 use Rattle.std.proofs.lemmas.Option.{slice_get_within}
 use Rattle.sp_base.specs.Paths.{is_path, parent_of, text_of}
 use Rattle.resource_tree.specs.declared.nodes.Node.{Node}
 use Rattle.resource_tree.specs.declared.patch.PatchNode.{PatchNode}
 use Rattle.resource_tree.specs.declared.patch.PatchNode.TheVariants as there
-use Rattle.resource_tree.specs.Content.{Content, kid, node_at, prop_at, same_path}
+use Rattle.resource_tree.specs.Content.{Content, kid, node_at, same_path}
 use Rattle.resource_tree.specs.Patches as patches
-use Rattle.url_maps.specs.Claims.{ClaimRows, claims_by, first_claimant, kids_by, node_claims_alias, spells_alias}
+use Rattle.url_maps.specs.Claims.{ClaimRows, claims_by, kids_by, node_claims_alias, spells_alias}
 use Rattle.url_maps.specs.Noting.{has_row}
 use Rattle.url_maps.specs.Siblings.{IsSettled, IsWithin, KeepsOthers, alias_words, kids_if}
-use Rattle.url_maps.specs.Words.{mapping_texts}
 use Rattle.url_maps.proofs.AliasLemmas.{find_alike}
-use Rattle.url_maps.proofs.ClaimLemmas.{and_false, or_false}
+use Rattle.url_maps.proofs.ClaimLemmas.{and_false}
 use Rattle.url_maps.proofs.PathLemmas.{IsReadBack, parent_of-kid, path_from_same, same_path_flips, same_path_self, texts_and_paths}
 
 -- ---- the rows of a patch

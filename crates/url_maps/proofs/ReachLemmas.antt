@@ -1,11 +1,11 @@
 -- No mapping is below the first segment of a text that has no node, or one with a pattern.
-use Rattle.std.proofs.Common.{◌≡◌, ◌≤◌, ◌<◌, ◌-◌, ℕ, zero, suc, true, false, List, [], ◌∷◌, ◌++◌, Some, None, Ok, take, length, refl, sym, ◌∙◌, ap, subst, arith, ⊎_elim, ◌+◌, append_assoc, append-nil, length-append}
+use Rattle.std.proofs.Common.{◌≡◌, ◌≤◌, ◌<◌, ◌-◌, ℕ, zero, suc, true, false, List, [], ◌∷◌, ◌++◌, Some, Ok, take, length, refl, sym, ◌∙◌, ap, subst, arith, ⊎_elim, ◌+◌, append_assoc, append-nil, length-append}
 use Rattle.std.proofs.Math.Seq.{take-append-add, take-append_seam}
-use Rattle.std.specs.Prelude.{IsTrue, is_some, nat_eq, not, if◌then◌else◌}
+use Rattle.std.specs.Prelude.{IsTrue, is_some, nat_eq, not}
 use Rattle.std.specs.Cmp.Lexicographic.{pointwise, same_text}
 use Rattle.std.proofs.lemmas.Bool.{true≢false, false≢true, and_from, and_parts, cases_lt}
 use Rattle.std.proofs.lemmas.List.{length-take-le, take-take, take_all}
-use Rattle.sp_base.specs.Paths.{is_path, is_under, parent_of, path_of, path_or_none, text_of}
+use Rattle.sp_base.specs.Paths.{is_path, is_under, parent_of, path_of, text_of}
 use Rattle.resource_tree.specs.Content.{Content, IsTree, kid, node_at}
 use Rattle.url_maps.specs.Mappings.{IsPlain, has_match, text_below}
 use Rattle.url_maps.specs.Search.{HasNoMappingBeyond, IsBarredAt, is_passable}

@@ -1,7 +1,7 @@
 -- The first siblings with an alias: how they are put into rows, and the alias that a text is by them.
-use Rattle.std.proofs.Common.{◌≡◌, ◌<◌, ◌≤◌, ◌+◌, ℕ, zero, suc, Bool, true, false, cond, List, [], ◌∷◌, ◌++◌, Option, Some, None, Ok, Err, take, length, get_or, refl, sym, ◌∙◌, ap, subst, ⊎_elim, arith}
+use Rattle.std.proofs.Common.{◌≡◌, ◌<◌, ◌+◌, ℕ, Bool, true, false, cond, List, [], ◌∷◌, ◌++◌, Option, Some, None, Ok, Err, take, length, get_or, refl, sym, ◌∙◌, ap, subst, ⊎_elim, arith}
 use Rattle.std.specs.Prelude.{◌||◌, ◌&&◌, ◌==◌, codes, find, is_none, is_some, nat_eq, not, option_map, option_to_list, slice_get}
-use Rattle.std.specs.Cmp.Lexicographic.{pointwise, nat_list_eq_equiv, same_text}
+use Rattle.std.specs.Cmp.Lexicographic.{pointwise, same_text}
 use Rattle.std.specs.List.{list_any}
 use Rattle.std.specs.Map.{lookup}
 use Rattle.std.specs.Option.{option_map_or, option_or}
@@ -10,18 +10,16 @@ use Rattle.std.proofs.lemmas.Bool.{cases_Bool, true≢false, false≢true, false
 use Rattle.std.proofs.lemmas.List.{take_more}
 use Rattle.std.proofs.lemmas.List.Folds.{list_any_more}
 use Rattle.sp_base.specs.Paths.{is_path, parent_of, path_of, path_or_none, seg_ok, text_of}
-use Rattle.sp_base.specs.declared.path.PathFault.{PathFault}
 use Rattle.resource_tree.specs.declared.nodes.Node.{Node}
 use Rattle.resource_tree.specs.Content.{Content, IsTree, kid, name_of, node_at, prop_at, same_path}
 use Rattle.resource_tree.specs.Changes.{kids_at}
-use Rattle.resource_tree.specs.Patches as patches
 use Rattle.url_maps.specs.Aliases.{has_alias}
 use Rattle.url_maps.specs.Answers.{alias_at, alias_with, pair_inside, sibling_with_alias}
 use Rattle.url_maps.specs.Changes.{LeadsOn}
 use Rattle.url_maps.specs.Claims.{NamesFirst, ClaimRows, claimants, claims_alias, claims_by, first_claimant, kids_by, node_claims_alias, spells_alias}
 use Rattle.url_maps.specs.Noting.{has_row}
 use Rattle.url_maps.specs.Search.{IsOf, is_free, is_free_at}
-use Rattle.url_maps.specs.Siblings.{KeepsOthers, PutsFamilies, PutsKids, PutsRows, or_else, path_if}
+use Rattle.url_maps.specs.Siblings.{PutsFamilies, PutsKids, PutsRows, or_else, path_if}
 use Rattle.url_maps.specs.Words.{mapping_texts}
 use Rattle.url_maps.specs.declared.pairs.PairKind.TheVariants.{Alias}
 use Rattle.url_maps.proofs.AliasLemmas.{claims_is, find_alike, find_any}

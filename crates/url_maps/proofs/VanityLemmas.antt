@@ -1,6 +1,6 @@
 -- From the claimants of a text to the node that it names by a vanity path, and back.
-use Rattle.std.proofs.Common.{◌≡◌, ◌<◌, ◌+◌, ℕ, Bool, true, false, cond, List, [], Option, Some, None, Result, Ok, Err, take, length, get_or, refl, sym, ◌∙◌, ap, subst, ⊎_elim, ◌⊎◌, inl, inr}
-use Rattle.std.specs.Prelude.{◌||◌, ◌&&◌, is_none, nat_eq, codes}
+use Rattle.std.proofs.Common.{◌≡◌, ℕ, Bool, true, false, List, [], Option, Some, None, Result, Ok, Err, length, refl, sym, ◌∙◌, ap, subst, ◌⊎◌, inl, inr}
+use Rattle.std.specs.Prelude.{◌&&◌, is_none, nat_eq, codes}
 use Rattle.std.specs.Cmp.{IsTotalOrder}
 use Rattle.std.specs.Cmp.Lexicographic.{pointwise, nat_list_cmp_total}
 use Rattle.std.specs.List.{list_any}
@@ -8,9 +8,8 @@ use Rattle.std.specs.Option.{option_map_or}
 use Rattle.std.specs.Ordering.{int_cmp, is_lt, ordering_then, ordering_reverse}
 use Rattle.std.specs.declared.cmp.Ordering.{Ordering}
 use Rattle.std.specs.declared.cmp.Ordering.TheVariants.{Less, Equal, Greater}
-use Rattle.std.proofs.lemmas.Bool.{cases_Bool, true≢false, false≢true}
+use Rattle.std.proofs.lemmas.Bool.{true≢false, false≢true}
 use Rattle.std.proofs.lemmas.Cmp.{back_total, int_cmp_total, on_total, then_total}
-use Rattle.std.proofs.lemmas.List.Folds.{list_any_at, list_any_more}
 use Rattle.std.proofs.lemmas.Map.Lookups.{exact_bytes}
 use Rattle.sp_base.specs.Names.{by_name}
 use Rattle.sp_base.specs.Paths.{is_path, path_of, text_of}
@@ -25,7 +24,7 @@ use Rattle.url_maps.specs.declared.pairs.Pair.{Pair}
 use Rattle.url_maps.specs.declared.pairs.PairKind.TheVariants.{VanityPath}
 use Rattle.url_maps.specs.Pairs.{HasVanityPath, IsPair, IsPairOf}
 use Rattle.url_maps.proofs.AliasLemmas.{any_alike, empty_from}
-use Rattle.url_maps.proofs.PathLemmas.{IsReadBack, path_from_same, path_from_text, same_path_self}
+use Rattle.url_maps.proofs.PathLemmas.{IsReadBack, path_from_text}
 
 -- ---- the order of nodes with one vanity path
 
@@ -49,36 +48,6 @@ pub less_from : (o : Ordering) → is_lt o ≡ true → o ≡ Less
 less_from Less e = refl
 less_from Equal e = absurd (false≢true e)
 less_from Greater e = absurd (false≢true e)
-
--- before each of the first paths
-abbrev pub IsBeforeAll : Content → List (List ℕ) → List (List (List ℕ)) → Type 0
-IsBeforeAll tree first paths = (other : List (List ℕ)) → list_any (same_path other) paths ≡ true → (other ≡ first) ⊎ (vanity_cmp tree first other ≡ Less)
-
--- one more, which is not before the first
-pub first_stays : IsReadBack → (tree : Content) (first : List (List ℕ)) (paths : List (List (List ℕ))) (i : ℕ) (path : List (List ℕ)) → i < length paths → path ≡ get_or paths i path → is_path first ≡ true → is_path path ≡ true
-    → is_lt (vanity_cmp tree path first) ≡ false → IsBeforeAll tree first (take i paths) → IsBeforeAll tree first (take (i + 1) paths)
-first_stays read tree first paths i path within item valid also not_before so_far other among =
-    ⊎_elim
-    (λ (old : list_any (same_path other) (take i paths) ≡ true). so_far other old)
-    (λ (new : list_any (same_path other) (take i paths) ≡ false).
-    let one : same_path other path ≡ true = ap (same_path other) item ∙ sym (ap (λ b. b || same_path other (get_or paths i path)) new) ∙ sym (list_any_more (same_path other) paths i path within) ∙ among in
-    subst (λ (q : List (List ℕ)). (q ≡ first) ⊎ (vanity_cmp tree first q ≡ Less)) (sym (path_from_same other path one)) (after_first read tree first path valid also not_before))
-    (cases_Bool (list_any (same_path other) (take i paths)))
-
--- one more, which is before the first
-pub first_moves : (tree : Content) (first : List (List ℕ)) (paths : List (List (List ℕ))) (i : ℕ) (path : List (List ℕ)) → i < length paths → path ≡ get_or paths i path
-    → is_lt (vanity_cmp tree path first) ≡ true → IsBeforeAll tree first (take i paths) → IsBeforeAll tree path (take (i + 1) paths)
-first_moves tree first paths i path within item before so_far other among =
-    let less = less_from (vanity_cmp tree path first) before in
-    ⊎_elim
-    (λ (old : list_any (same_path other) (take i paths) ≡ true).
-    ⊎_elim
-    (λ (same : other ≡ first). inr (ap (vanity_cmp tree path) same ∙ less))
-    (λ (after : vanity_cmp tree first other ≡ Less). inr ((vanity_total tree).trans path first other less after))
-    (so_far other old))
-    (λ (new : list_any (same_path other) (take i paths) ≡ false).
-    inl (path_from_same other path (ap (same_path other) item ∙ sym (ap (λ b. b || same_path other (get_or paths i path)) new) ∙ sym (list_any_more (same_path other) paths i path within) ∙ among)))
-    (cases_Bool (list_any (same_path other) (take i paths)))
 
 -- ---- claims and vanity paths
 
@@ -143,18 +112,3 @@ vanity_valid tree good rows text claims q among =
       | None ↦ λ is fails. absurd (false≢true fails)
       | Some node ↦ λ is passes_it. (good.nodes q node is).is_a_path
     ] refl (sym (claims text q) ∙ among)
-
--- the first of the paths so far, and of one more
-pub first_next : IsReadBack → (tree : Content) (first : List (List ℕ)) (paths : List (List (List ℕ))) (i : ℕ) (path next : List (List ℕ)) → i < length paths → path ≡ get_or paths i path
-    → ((q : List (List ℕ)) → list_any (same_path q) paths ≡ true → is_path q ≡ true) → next ≡ cond (is_lt (vanity_cmp tree path first)) path first → list_any (same_path first) paths ≡ true → IsBeforeAll tree first (take i paths)
-    → (list_any (same_path next) paths ≡ true) × IsBeforeAll tree next (take (i + 1) paths)
-first_next read tree first paths i path next within item valid is among so_far =
-    let listed : list_any (same_path path) paths ≡ true = list_any_at (same_path path) paths i path within (ap (same_path path) (sym item) ∙ same_path_self path) in
-    ⊎_elim
-    (λ (before : is_lt (vanity_cmp tree path first) ≡ true).
-    let same : next ≡ path = is ∙ ap (λ b. cond b path first) before in
-    (ap (λ q. list_any (same_path q) paths) same ∙ listed, subst (λ q. IsBeforeAll tree q (take (i + 1) paths)) (sym same) (first_moves tree first paths i path within item before so_far)))
-    (λ (after : is_lt (vanity_cmp tree path first) ≡ false).
-    let same : next ≡ first = is ∙ ap (λ b. cond b path first) after in
-    (ap (λ q. list_any (same_path q) paths) same ∙ among, subst (λ q. IsBeforeAll tree q (take (i + 1) paths)) (sym same) (first_stays read tree first paths i path within item (valid first among) (valid path listed) after so_far)))
-    (cases_Bool (is_lt (vanity_cmp tree path first)))

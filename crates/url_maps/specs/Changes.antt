@@ -1,5 +1,5 @@
 -- What a patch of a tree changes in its index.
-use Rattle.std.specs.Prelude.{◌≡◌, ◌≤◌, ◌<◌, ℕ, Bool, true, false, List, Option, length, option_to_list}
+use Rattle.std.specs.Prelude.{◌≡◌, ◌≤◌, ◌<◌, ℕ, Bool, true, false, List, Option, None, length, option_to_list}
 use Rattle.std.specs.List.{list_any}
 use Rattle.std.specs.Map.{lookup}
 use Rattle.std.specs.Option.{option_map_or}
@@ -8,9 +8,9 @@ use Rattle.sp_base.specs.Paths.{is_path, parent_of, text_of}
 use Rattle.resource_tree.specs.declared.nodes.Node.{Node}
 use Rattle.resource_tree.specs.Content.{Content, node_at, same_path}
 use Rattle.resource_tree.specs.Patches as patches
-use Rattle.url_maps.specs.Claims.{Index, ClaimRows, claimants, claims_vanity_path, first_claimant, node_claims_vanity_path}
+use Rattle.url_maps.specs.Claims.{AreLed, Index, ClaimRows, claimants, claims_vanity_path, first_claimant, node_claims_vanity_path}
 
--- texts whose claimants change, each with those after the change: of an alias the first, of a vanity path all
+-- texts whose claimants change, each with those after the change: of an alias the first, of a vanity path all, led by the one that is named
 pub record Change : Type 0 where
   pub aliases : ClaimRows
   pub vanity_paths : ClaimRows
@@ -33,10 +33,16 @@ abbrev pub LeadsOn : (List (List ℕ) → Option Node) → (List (List ℕ) → 
 LeadsOn before after changed = (path : List (List ℕ)) → is_path path ≡ true → 0 < length path
     → option_map_or (λ paths. paths) (lookup (bytes_eq (text_of path)) changed) (option_to_list (first_claimant before (parent_of path) (text_of path))) ≡ option_to_list (first_claimant after (parent_of path) (text_of path))
 
+-- The nodes that claim a text without a row are after a patch as before it.
+abbrev pub LeavesOthers : Content → patches.Rows → ClaimRows → Type 0
+LeavesOthers tree patch changed = (text : List ℕ) (path : List (List ℕ)) → lookup (bytes_eq text) changed ≡ None → claims_vanity_path tree path text ≡ true → patches.patching_at tree patch path ≡ node_at tree path
+
 -- The change is the one that a patch of a tree makes.
 pub record IsChangeOf (tree : Content) (patch : patches.Rows) (change : Change) : Type 0 where
   pub aliases : LeadsOn (node_at tree) (patches.patching_at tree patch) change.aliases
   pub vanity_paths : AreChanged (claims_vanity_path tree) (patched_vanity_path tree patch) change.vanity_paths
+  pub others : LeavesOthers tree patch change.vanity_paths
+  pub leaders : AreLed (patches.patching_at tree patch) change.vanity_paths
 
 -- The index has room for the change.
 abbrev pub HasRoom : Index → Change → Type 0

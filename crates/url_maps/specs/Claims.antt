@@ -1,16 +1,19 @@
 -- The nodes that claim a text as their alias or their vanity path, by the text.
-use Rattle.std.specs.Prelude.{◌≡◌, ◌<◌, ◌&&◌, ◌||◌, ◌==◌, [], ℕ, Bool, true, false, not, nat_eq, find, List, Option, Result, Ok, Err, codes, length, option_map, option_to_list}
+use Rattle.std.specs.Prelude.{⊤, ◌≡◌, ◌<◌, ◌&&◌, ◌||◌, ◌==◌, [], ◌∷◌, ℕ, Bool, true, false, not, nat_eq, find, List, Option, Result, Ok, Err, codes, length, option_map, option_to_list}
 use Rattle.std.specs.Cmp.Lexicographic.{pointwise}
 use Rattle.std.specs.List.{list_any}
 use Rattle.std.specs.Map.{lookup}
 use Rattle.std.specs.Option.{option_map_or}
+use Rattle.std.specs.Ordering.{int_cmp, is_lt, ordering_then}
 use Rattle.std.specs.Str.{bytes_eq}
+use Rattle.std.specs.declared.cmp.Ordering.{Ordering}
+use Rattle.sp_base.specs.Names.{by_name}
 use Rattle.sp_base.specs.Paths.{is_path, parent_of, path_of, seg_ok, text_of}
 use Rattle.sp_base.specs.declared.path.PathFault.{PathFault}
 use Rattle.resource_tree.specs.declared.nodes.Node.{Node}
 use Rattle.resource_tree.specs.Content.{Content, kid, node_at, prop_at, same_path}
 use Rattle.url_maps.specs.Words.{mapping_texts}
-use Rattle.url_maps.specs.VanityPaths.{with_slash}
+use Rattle.url_maps.specs.VanityPaths.{order_of, with_slash}
 
 -- texts, and the paths that claim each
 abbrev pub ClaimRows : Type 0
@@ -77,6 +80,25 @@ first_claimant at parent text = option_map (kid parent) (find (λ name. claims_b
 abbrev pub NamesFirst : (List (List ℕ) → Option Node) → ClaimRows → Type 0
 NamesFirst at rows = (path : List (List ℕ)) → is_path path ≡ true → 0 < length path → claimants rows (text_of path) ≡ option_to_list (first_claimant at (parent_of path) (text_of path))
 
+-- ---- vanity paths: of the nodes that claim a text the one before all others leads them
+
+-- the order of nodes with one vanity path, where a look-up has the nodes
+abbrev pub cmp_by : (List (List ℕ) → Option Node) → List (List ℕ) → List (List ℕ) → Ordering
+cmp_by at path other = ordering_then (int_cmp (order_of (at other)) (order_of (at path))) (by_name (text_of path) (text_of other))
+
+-- none of some paths is before one in that order
+abbrev pub IsLeader : (List (List ℕ) → Option Node) → List (List (List ℕ)) → List (List ℕ) → Type 0
+IsLeader at paths first = (other : List (List ℕ)) → list_any (same_path other) paths ≡ true → is_lt (cmp_by at other first) ≡ false
+
+-- the first of some paths, if there is any, is one before which none of them is
+abbrev pub IsLed : (List (List ℕ) → Option Node) → List (List (List ℕ)) → Type 0
+IsLed at [] = ⊤
+IsLed at (first ∷ paths) = IsLeader at (first ∷ paths) first
+
+-- the claimants of each text are led
+abbrev pub AreLed : (List (List ℕ) → Option Node) → ClaimRows → Type 0
+AreLed at rows = (text : List ℕ) → IsLed at (claimants rows text)
+
 -- ---- the index
 
 -- the claimants of texts, and for how many more texts there is room
@@ -93,3 +115,4 @@ pub record Index : Type 0 where
 pub record IsIndexOf (tree : Content) (index : Index) : Type 0 where
   pub aliases : NamesFirst (node_at tree) index.aliases.rows
   pub vanity_paths : AreClaims (claims_vanity_path tree) index.vanity_paths.rows
+  pub leaders : AreLed (node_at tree) index.vanity_paths.rows

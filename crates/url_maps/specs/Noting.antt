@@ -1,13 +1,14 @@
 -- For the making of a change alone: how far it has come.
-use Rattle.std.specs.Prelude.{◌≡◌, ◌||◌, ◌&&◌, ℕ, Bool, false, List, Option, Some, None, filter, is_none, is_some}
+use Rattle.std.specs.Prelude.{⊤, ◌≡◌, ◌||◌, ◌&&◌, ℕ, Bool, true, false, not, List, Option, Some, None, filter, is_none, is_some}
 use Rattle.std.specs.List.{list_any}
 use Rattle.std.specs.Map.{lookup}
 use Rattle.std.specs.Option.{option_map_or}
 use Rattle.std.specs.Str.{bytes_eq}
+use Rattle.resource_tree.specs.declared.nodes.Node.{Node}
 use Rattle.resource_tree.specs.declared.patch.PatchNode.{PatchNode}
 use Rattle.resource_tree.specs.Content.{same_path}
 use Rattle.resource_tree.specs.Patches as patches
-use Rattle.url_maps.specs.Claims.{ClaimRows, claimants, node_claims_vanity_path}
+use Rattle.url_maps.specs.Claims.{ClaimRows, IsLeader, IsLed, claimants, node_claims_vanity_path}
 
 -- those of some paths at which a patch has nothing
 abbrev pub kept : patches.Rows → List (List (List ℕ)) → List (List (List ℕ))
@@ -38,3 +39,30 @@ pub record NotesRow (rows : ClaimRows) (patch : patches.Rows) (path : List (List
 -- what the node that a row leaves at a path claims
 abbrev pub left_vanity_path : List (List ℕ) → PatchNode → List ℕ → Bool
 left_vanity_path path row text = option_map_or (λ node. node_claims_vanity_path node text) (patches.left_by (Some row) None) false
+
+-- ---- the leaders
+
+-- a path is among others, and none of them is before it
+pub record IsFirstOf (at : List (List ℕ) → Option Node) (paths : List (List (List ℕ))) (path : List (List ℕ)) : Type 0 where
+  pub among : list_any (same_path path) paths ≡ true
+  pub first : IsLeader at paths path
+
+-- those of some paths that are another one
+abbrev pub others : List (List ℕ) → List (List (List ℕ)) → List (List (List ℕ))
+others path paths = filter (λ q. not (same_path q path)) paths
+
+-- The paths are the same, maybe in another order, and led.
+pub record Leads (at : List (List ℕ) → Option Node) (old new : List (List (List ℕ))) : Type 0 where
+  pub paths : (q : List (List ℕ)) → list_any (same_path q) new ≡ list_any (same_path q) old
+  pub led : IsLed at new
+
+-- The same of a row, if there is one.
+abbrev pub LeadsRow : (List (List ℕ) → Option Node) → Option (List (List (List ℕ))) → Option (List (List (List ℕ))) → Type 0
+LeadsRow at None None = ⊤
+LeadsRow at None (Some new) = ⊥
+LeadsRow at (Some old) None = ⊥
+LeadsRow at (Some old) (Some new) = Leads at old new
+
+-- The same of each row.
+abbrev pub LeadsRows : (List (List ℕ) → Option Node) → ClaimRows → ClaimRows → Type 0
+LeadsRows at old new = (text : List ℕ) → LeadsRow at (lookup (bytes_eq text) old) (lookup (bytes_eq text) new)

@@ -7,7 +7,7 @@ use Rattle.resource_tree.specs.declared.nodes.Node.{Node}
 use Rattle.resource_tree.specs.declared.patch.PatchNode.{PatchNode}
 use Rattle.resource_tree.specs.Content.{Content, node_at, prop_at, same_path}
 use Rattle.resource_tree.specs.Patches as patches
-use Rattle.url_maps.specs.Claims.{ClaimRows, claimants, first_claimant, kids_by}
+use Rattle.url_maps.specs.Claims.{ClaimRows, claimants, first_claimant}
 use Rattle.url_maps.specs.Noting.{has_row}
 use Rattle.url_maps.specs.Words.{mapping_texts}
 

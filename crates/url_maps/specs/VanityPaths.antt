@@ -1,11 +1,12 @@
 -- The vanity paths of a tree (Apache Sling, "Mappings for resource resolution", sling:vanityPath).
-use Rattle.std.specs.Prelude.{◌≡◌, ◌==◌, ◌⊎◌, ℕ, ℤ, pos, Bool, true, nat_eq, if◌then◌else◌, List, ◌∷◌, None, Ok, codes, slice_index, unwrap_or, option_and_then}
+use Rattle.std.specs.Prelude.{◌≡◌, ◌==◌, ◌⊎◌, ℕ, ℤ, pos, Bool, true, nat_eq, if◌then◌else◌, List, ◌∷◌, Option, None, Ok, codes, slice_index, unwrap_or, option_and_then}
 use Rattle.std.specs.Cmp.Lexicographic.{pointwise}
 use Rattle.std.specs.Ordering.{int_cmp, ordering_then}
 use Rattle.std.specs.declared.cmp.Ordering.{Ordering}
 use Rattle.std.specs.declared.cmp.Ordering.TheVariants.{Less}
 use Rattle.sp_base.specs.Names.{by_name}
 use Rattle.sp_base.specs.Paths.{parent_of, path_of, text_of}
+use Rattle.resource_tree.specs.declared.nodes.Node.{Node}
 use Rattle.resource_tree.specs.Content.{Content, name_of, node_at, prop_at}
 use Rattle.url_maps.specs.Words.{any_text_at, mapping_number}
 
@@ -17,9 +18,13 @@ with_slash text = if slice_index text 0 == 47 then text else 47 ∷ text
 unfoldable pub has_vanity_path : Content → List (List ℕ) → List ℕ → Bool
 has_vanity_path tree path text = any_text_at tree path (codes "sling:vanityPath") (λ word. pointwise nat_eq text (with_slash word))
 
--- the number `sling:vanityOrder` of the node at a path, else 0
+-- the number `sling:vanityOrder` of a node, else 0
+abbrev pub order_of : Option Node → ℤ
+order_of node = unwrap_or (option_and_then (λ n. mapping_number (prop_at n (codes "sling:vanityOrder"))) node) (pos 0)
+
+-- that of the node at a path
 unfoldable pub vanity_order : Content → List (List ℕ) → ℤ
-vanity_order tree path = unwrap_or (option_and_then (λ node. mapping_number (prop_at node (codes "sling:vanityOrder"))) (node_at tree path)) (pos 0)
+vanity_order tree path = order_of (node_at tree path)
 
 -- the order of nodes with one vanity path: the greater number is before the less, and then the path by the bytes of its text
 abbrev pub vanity_cmp : Content → List (List ℕ) → List (List ℕ) → Ordering

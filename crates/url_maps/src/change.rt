@@ -3,7 +3,7 @@ ghost use Rattle.std.specs.Prelude.{◌≡◌, ℕ, List, IfOk, OnOk};
 ghost use Rattle.resource_tree.specs.Content.{Content, node_at};
 ghost use Rattle.resource_tree.specs.Patches.{Rows, patching_at};
 ghost use Rattle.url_maps.specs.Claims.{IsIndexOf, claims_vanity_path};
-ghost use Rattle.url_maps.specs.Changes.{AreChanged, HasRoom, IsChangeOf, patched_vanity_path};
+ghost use Rattle.url_maps.specs.Changes.{AreChanged, HasRoom, IsChangeOf, LeavesOthers, patched_vanity_path};
 ghost use Rattle.url_maps.specs.Noting.{NotesRow, left_vanity_path};
 
 use crate::MapIndex;
@@ -67,14 +67,15 @@ fn change_by(alloc: Global, index: &MapIndex, tree: &Tree, patch: &Patch) -> Mem
 {
     Ok(IndexChange {
         aliases: siblings_change(alloc, tree, patch)?,
-        vanity_paths: vanity_change(alloc, index, tree, patch)?,
+        vanity_paths: vanity_change(alloc, index, tree, patch)?.led(alloc, tree, patch)?,
     })
 }
 
 // What a patch changes of the vanity paths.
 fn vanity_change(alloc: Global, index: &MapIndex, tree: &Tree, patch: &Patch) -> Mem<ClaimsChange>
     requires { IsIndexOf tree.now index.now }
-    ensures { IfOk result (AreChanged (claims_vanity_path tree.now) (patched_vanity_path tree.now patch.now)) }
+    ensures changed { IfOk result (AreChanged (claims_vanity_path tree.now) (patched_vanity_path tree.now patch.now)) }
+    ensures others { IfOk result (LeavesOthers tree.now patch.now) }
 {
     let mut change = ClaimsChange::new(alloc, tree.seeds());
     for place in 0..patch.len() {

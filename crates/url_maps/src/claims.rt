@@ -1,12 +1,15 @@
 // The table of the nodes that claim a text, by the text.
-ghost use Rattle.std.specs.Prelude.{◌≡◌, ◌≤◌, ◌<◌, ◌+◌, ◌++◌, ◌∷◌, [], ℕ, List, OnOk, if◌then◌else◌, length, string_bytes};
+ghost use Rattle.std.specs.Prelude.{◌≡◌, ◌≤◌, ◌<◌, ◌+◌, ◌++◌, ◌∷◌, [], ℕ, List, IfOk, OnOk, if◌then◌else◌, length, string_bytes};
 ghost use Rattle.std.specs.List.{list_any};
 ghost use Rattle.std.specs.Str.{bytes_eq};
+ghost use Rattle.resource_tree.specs.Patches.{patching_at};
 ghost use Rattle.url_maps.specs.Claims.{AddsClaims, claimants};
 ghost use Rattle.url_maps.specs.Changes.{claimants_over};
+ghost use Rattle.url_maps.specs.Noting.{Leads};
 
 use crate::claims_change::ClaimsChange;
 use indexmap::IndexMap;
+use resource_tree::{Patch, Tree};
 use sp_base::{Mem, NoMemory, Path, PathList, TextBuf};
 use std::alloc::Global;
 use std::hash::RandomState;
@@ -91,6 +94,18 @@ impl Claims {
             self.add(alloc, text.text(), path.duplicate(alloc)?)?;
         }
         Ok(())
+    }
+
+    // Puts the path that leads before the others of its text, in each, in a tree with a patch over it.
+    pub(crate) fn led(self, alloc: Global, tree: &Tree, patch: &Patch) -> Mem<Claims>
+        ensures { IfOk result (λ claims. (t : List ℕ) → Leads (patching_at tree.now patch.now) (claimants self.rows t) (claimants claims.rows t)) }
+    {
+        let rows = ClaimsChange { rows: self.table };
+        let led = rows.led(alloc, tree, patch)?;
+        Ok(Claims {
+            table: led.rows,
+            longest: self.longest,
+        })
     }
 
     // Makes room for so many more texts.

@@ -1,16 +1,17 @@
 // The texts whose claimants a patch changes.
-ghost use Rattle.std.specs.Prelude.{◌≡◌, ◌++◌, ◌||◌, [], ℕ, List, IfOk, OnOk, None, Some, cond, length, option_copied, option_to_list};
+ghost use Rattle.std.specs.Prelude.{◌≡◌, ◌++◌, ◌||◌, [], ℕ, List, IfOk, OnOk, None, Some, cond, length, option_copied, option_to_list, string_bytes};
 ghost use Rattle.std.specs.List.{list_any};
 ghost use Rattle.std.specs.Map.{lookup};
 ghost use Rattle.std.specs.Str.{bytes_eq};
-ghost use Rattle.resource_tree.specs.Patches.{row_at};
+ghost use Rattle.resource_tree.specs.Patches.{patching_at, row_at};
 ghost use Rattle.url_maps.specs.Claims.{claimants};
-ghost use Rattle.url_maps.specs.Noting.{Notes, NotesRow, has_row, is_at_some, kept, noted};
+ghost use Rattle.url_maps.specs.Noting.{LeadsRows, Notes, NotesRow, has_row, is_at_some, kept, noted};
 ghost use Rattle.url_maps.specs.Siblings.{PutsRows, or_else};
 
 use crate::claims::Claims;
+use crate::leaders::led;
 use indexmap::IndexMap;
-use resource_tree::Patch;
+use resource_tree::{Patch, Tree};
 use sp_base::{Mem, NoMemory, Path, PathList, TextBuf, TextList};
 use std::alloc::Global;
 use std::hash::RandomState;
@@ -111,6 +112,25 @@ impl ClaimsChange {
             Some(paths) => Ok(paths),
             None => kept(alloc, claims.get(text), patch),
         }
+    }
+
+    // Puts the path that leads before the others of its row, in each, in a tree with a patch over it.
+    pub(crate) fn led(self, alloc: Global, tree: &Tree, patch: &Patch) -> Mem<ClaimsChange>
+        ensures { IfOk result (LeadsRows (patching_at tree.now patch.now) self) }
+    {
+        let mut rows = self.rows;
+        let mut change = ClaimsChange::new(alloc, tree.seeds());
+        while let Some((text, paths)) = rows.pop() {
+            change.put_row(text, led(alloc, tree, patch, paths)?)?;
+        }
+        Ok(change)
+    }
+
+    fn put_row(&mut self, text: String, paths: PathList) -> Mem<()>
+        ensures { OnOk result ((t : List ℕ) → lookup (bytes_eq t) self.new ≡ cond (bytes_eq (string_bytes text) t) (Some paths) (lookup (bytes_eq t) self.old)) }
+    {
+        self.rows.insert(text, paths)?;
+        Ok(())
     }
 
     // Gives each of some texts a row, with a path where it has none yet.

@@ -5,12 +5,13 @@ ghost use Rattle.url_maps.specs.Claims.{AddsClaims, IsIndexOf, claims_vanity_pat
 use crate::claimed::vanity_texts;
 use crate::claims::Claims;
 use crate::siblings::first_siblings;
-use resource_tree::Tree;
+use resource_tree::{Patch, Tree};
 use sp_base::{Mem, Path};
 use std::alloc::Global;
 use std::marker::Model;
 
-/// The aliases and the vanity paths of a tree, found by their texts: of an alias the first of the siblings that have it.
+/// The aliases and the vanity paths of a tree, found by their texts: of an alias the first of the siblings that have it,
+/// of a vanity path the nodes that have it, and before the others the one that it names.
 #[derive(Drop)]
 pub struct MapIndex {
     pub(crate) aliases: Claims,
@@ -36,9 +37,10 @@ impl MapIndex {
         for path in paths {
             add_vanity_paths(&mut vanity_paths, alloc, tree, path)?;
         }
+        let unchanged = Patch::new(alloc, tree.seeds());
         Ok(MapIndex {
             aliases: first_siblings(alloc, tree, paths)?,
-            vanity_paths,
+            vanity_paths: vanity_paths.led(alloc, tree, &unchanged)?,
         })
     }
 }

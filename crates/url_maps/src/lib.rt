@@ -10,6 +10,7 @@ mod claims;
 mod claims_change;
 mod index;
 mod laws;
+mod leaders;
 mod locations;
 mod mappings;
 mod pairs;

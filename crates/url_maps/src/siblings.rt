@@ -106,7 +106,7 @@ fn path_if(names: bool, path: &Path) -> Option<&Path>
 }
 
 // The node at a path of a tree with a patch over it.
-fn node_after<'a>(tree: &'a Tree, patch: &'a Patch, path: &Path) -> Option<&'a Node>
+pub(crate) fn node_after<'a>(tree: &'a Tree, patch: &'a Patch, path: &Path) -> Option<&'a Node>
     ensures { option_copied result ≡ patching_at tree.now patch.now path.now }
 {
     match patch.get(path) {

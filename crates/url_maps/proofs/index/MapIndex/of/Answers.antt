@@ -1,8 +1,10 @@
-use Rattle.std.proofs.Common.{◌≡◌, ◌∙◌, ℕ, List, ap}
+use Rattle.std.proofs.Common.{◌≡◌, ◌∙◌, ℕ, List, ap, subst}
 use Rattle.std.specs.Prelude.{is_some}
 use Rattle.std.specs.List.{list_any}
 use Rattle.resource_tree.specs.Content.{node_at, same_path}
-use Rattle.url_maps.specs.Claims.{claims_vanity_path}
+use Rattle.resource_tree.specs.Patches.{Rows, patching_at}
+use Rattle.url_maps.specs.Claims.{claimants, claims_vanity_path}
+use Rattle.url_maps.specs.Noting.{Leads}
 use Rattle.url_maps.proofs.ClaimLemmas.{nodes_more, whole_vanity_paths}
 use Rattle.url_maps.proofs.index.MapIndex.of.Goals as goal
 
@@ -15,8 +17,13 @@ first_siblings-requires c = λ q. ap (list_any (same_path q)) c.as_slice-paths.e
 
 pub returns : goal.returns
 returns c =
-    let all : (q : List (List ℕ)) → list_any (same_path q) c.as_slice-paths.result.now ≡ is_some (node_at c.args.tree.now q) = λ q. ap (list_any (same_path q)) c.as_slice-paths.ensures ∙ c.in_ok-all.ensures.all q in
+    let tree = c.args.tree.now in
+    let all : (q : List (List ℕ)) → list_any (same_path q) c.as_slice-paths.result.now ≡ is_some (node_at tree q) = λ q. ap (list_any (same_path q)) c.as_slice-paths.ensures ∙ c.in_ok-all.ensures.all q in
+    let old = whole_vanity_paths tree c.loop-path.vanity_paths.rows c.as_slice-paths.result.now c.loop-path.path-index c.loop-path-test.false all c.loop-path.invariant in
+    let leads : (t : List ℕ) → Leads (node_at tree) (claimants c.loop-path.vanity_paths.rows t) (claimants c.in_ok-led.field-0.rows t) = λ t.
+    subst (λ (rows : Rows). Leads (patching_at tree rows) (claimants c.loop-path.vanity_paths.rows t) (claimants c.in_ok-led.field-0.rows t)) c.new-unchanged.ensures (c.in_ok-led.ensures t) in
     record {
       aliases = c.in_ok-first_siblings.ensures;
-      vanity_paths = whole_vanity_paths c.args.tree.now c.loop-path.vanity_paths.rows c.as_slice-paths.result.now c.loop-path.path-index c.loop-path-test.false all c.loop-path.invariant;
+      vanity_paths = λ t q. (leads t).paths q ∙ old t q;
+      leaders = λ t. (leads t).led;
     }

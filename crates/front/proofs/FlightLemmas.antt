@@ -21,16 +21,17 @@ use Rattle.front.specs.declared.step.Step.{Step}
 use Rattle.front.specs.declared.step.Step.TheVariants as step
 use Rattle.front.specs.Events.{DeliverAs, DeliverTo, Event, HappensBy, LeadsNotes, LoseTo, PieceTo, RenderTo, Run, after_event, begun, gone, going, is_any, is_rendered, is_unrendered, most_lines, opened, opening, picked, state_after_events}
 use Rattle.front.specs.Histories.{brought_by, came_after, came_since_opened, opens_connection, sent_after, sent_by, sent_in, sent_since_opened}
-use Rattle.front.specs.Moves.{Mood, Settles, afters, answer_in, flight_at, on_line, over_with, state_after_note}
+use Rattle.front.specs.Moves.{Mood, Settles, afters, answer_in, flight_at, on_line, over_with, state_after_note, without}
 use Rattle.front.specs.Owned.{AnswersAreOwn, AreOwnAnswers, IsOfFlight, IsOfRequest, Outcomes, WasLost, WasRendered, flights_after, flights_since_opened, losses_of, lost_in, treated_by, treated_in}
 use Rattle.front.specs.Publishers.{Publishing, fixed_answer}
-use Rattle.front.specs.Renders.{Rendering, rendering_of, renders_in, renders_of}
+use Rattle.front.specs.Renders.{rendering_of, renders_in, renders_of}
 use Rattle.front.specs.States.{LogEntry, RunState, flights_asked, start_of}
-use Rattle.front.proofs.AirLemmas.{AreRendered, IsAskedFor, IsOfAir, moved-lost, moved-over, moved-rendered, moved-same, of-request, with_losses, with_renders}
+use Rattle.front.proofs.AirLemmas.{IsAskedFor, IsOfAir, IsOver, Moved, at-within, flying-unlost, moved-lost, moved-over, moved-rendered, moved-same, none-lost, of-request, over-now, with_losses, with_renders}
 use Rattle.front.proofs.EachLemmas.{each-map}
 use Rattle.front.proofs.HistoryLemmas.{Held, Kept, Numbered, by-step, over-held, over-numbered, picked-at, piece-read, run-kept, serves-apart, start-kept, then_came, then_sent}
 use Rattle.front.proofs.MoveLemmas.{IsStillStep, step-still}
-use Rattle.front.proofs.OwnedLemmas.{Moves, Own, Owns, last-owns, own-moved, own-none, own-one, owns-fed, owns-landed, serves-elsewhere, serves-owns}
+use Rattle.front.proofs.LossLemmas.{IsKeepingStep, serves-lost, step-lost}
+use Rattle.front.proofs.OwnedLemmas.{Moves, Own, Owns, last-moved, last-owns, own-moved, own-none, own-one, owns-fed, owns-landed, serves-elsewhere, serves-owns}
 use Rattle.front.proofs.PastLemmas.{Last, past-as, past-fresh}
 use Rattle.front.proofs.RenderLemmas.{still-renders}
 use Rattle.front.proofs.StreamLemmas.{InOrder, OfTurns, answers-past, idle-still, turns-past}
@@ -59,9 +60,6 @@ own-later w c outcomes flights came more sent own = record {
       };
   air_is = own.air_is;
 }
-
-moves-same : (w v : RunState) (outcomes : Outcomes) → v.air ≡ w.air → flights_asked v.log.entries ≡ flights_asked w.log.entries → AreRendered outcomes w.air → Moves w outcomes v outcomes
-moves-same w v outcomes air asked are = rw (air, asked) (moved-same w.air (flights_asked w.log.entries) outcomes are)
 
 -- ---- what a connection is owed
 settles-own : (m : Mood) (w : RunState) (c d : ℕ) (outcomes : Outcomes) (flights : List (Option ℕ)) (came : List ℕ) (sent : List Sending) (notes : List Note) → Held w c came sent → Numbered w → Own w c outcomes flights came sent → Settles m w d notes
@@ -187,44 +185,51 @@ gone-own w e c d outcomes flights came sent (Some k) line kept own is = rw is (o
         own-as v c outcomes flights (flights ++ []) came sent (sent ++ []) (sym (append-nil flights)) (sym (append-nil sent)) (own-moved w v c outcomes outcomes flights came sent (update_apart w.line d None c (λ x. other (sym x))) moves own)
 
 -- a flight is over, and its connection is given what it is owed
-leads-own : (m : Mood) (w : RunState) (first : Note) (c : ℕ) (outcomes : Outcomes) (flights : List (Option ℕ)) (came : List ℕ) (sent : List Sending) (f : Flying) (answer : Answer) (entry : LogEntry) (notes : List Note) → Kept w c came sent
+leads-own : (m : Mood) (w : RunState) (first : Note) (c : ℕ) (outcomes all : Outcomes) (flights : List (Option ℕ)) (came : List ℕ) (sent : List Sending) (f : Flying) (answer : Answer) (entry : LogEntry) (notes : List Note) → Kept w c came sent
     → Own w c outcomes flights came sent → state_after_note w first ≡ over_with w f.number answer entry (Some f) → flights_asked (entry ∷ w.log.entries) ≡ flights_asked w.log.entries → sent_by c m first ≡ [] → treated_by c first ≡ []
-    → ((k : ℕ) (request : Req) → f.number ≡ k → IsAskedFor w.air (flights_asked w.log.entries) k request → IsOfFlight outcomes k request (Says answer)) → LeadsNotes w m first f.line notes
-    → Own (afters w notes) c outcomes (flights ++ treated_in c notes) (came ++ []) (sent ++ sent_in c m notes)
-leads-own m w first c outcomes flights came sent f answer entry notes kept own is same unsent untreated good leads =
+    → Moved w.air (flights_asked w.log.entries) outcomes (without f.number w.air) (flights_asked w.log.entries) all
+    → ((k : ℕ) (request : Req) → f.number ≡ k → IsAskedFor w.air (flights_asked w.log.entries) k request → IsOfFlight all k request (Says answer)) → LeadsNotes w m first f.line notes
+    → Own (afters w notes) c all (flights ++ treated_in c notes) (came ++ []) (sent ++ sent_in c m notes)
+leads-own m w first c outcomes all flights came sent f answer entry notes kept own is same unsent untreated flies good leads =
     let settles : Settles m v f.line leads.rest = subst (λ u. Settles m u f.line leads.rest) is leads.settles in
     let numbered : Numbered v = over-numbered w f.number answer entry (Some f) same kept.numbered in
     let held : Held v c came sent = over-held w c came sent f answer entry kept.held in
-    let done = settles-own m v c f.line outcomes flights came sent leads.rest held numbered (⊎_elim (here (w.line f.line) refl) apart (cases_eq f.line c)) settles in
+    let done = settles-own m v c f.line all flights came sent leads.rest held numbered (⊎_elim (here (w.line f.line) refl) apart (cases_eq f.line c)) settles in
     let state : afters v leads.rest ≡ afters w notes = sym (ap (afters w) leads.begins ∙ ap (λ u. afters u leads.rest) is) in
     let told : sent_in c m leads.rest ≡ sent_in c m notes = ap (λ xs. xs ++ sent_in c m leads.rest) (sym unsent) ∙ sym (ap (sent_in c m) leads.begins) in
     let asked : treated_in c leads.rest ≡ treated_in c notes = ap (λ xs. xs ++ treated_in c leads.rest) (sym untreated) ∙ sym (ap (treated_in c) leads.begins) in
-    own-later (afters w notes) c outcomes (flights ++ treated_in c notes) came [] (sent ++ sent_in c m notes)
-    (subst (λ u. Own u c outcomes (flights ++ treated_in c notes) came (sent ++ sent_in c m notes)) state
-    (own-as (afters v leads.rest) c outcomes (flights ++ treated_in c leads.rest) (flights ++ treated_in c notes) came (sent ++ sent_in c m leads.rest) (sent ++ sent_in c m notes) (ap (λ xs. flights ++ xs) asked) (ap (λ xs. sent ++ xs) told) done))
+    own-later (afters w notes) c all (flights ++ treated_in c notes) came [] (sent ++ sent_in c m notes)
+    (subst (λ u. Own u c all (flights ++ treated_in c notes) came (sent ++ sent_in c m notes)) state
+    (own-as (afters v leads.rest) c all (flights ++ treated_in c leads.rest) (flights ++ treated_in c notes) came (sent ++ sent_in c m leads.rest) (sent ++ sent_in c m notes) (ap (λ xs. flights ++ xs) asked) (ap (λ xs. sent ++ xs) told) done))
   where
     v : RunState
     v = over_with w f.number answer entry (Some f)
 
-    moves : Moves w outcomes v outcomes
-    moves = rw same (moved-over w.air (flights_asked w.log.entries) f.number outcomes own.air_is)
+    moves : Moves w outcomes v all
+    moves = rw same flies
 
-    here : (at : Option Connection) → w.line f.line ≡ at → f.line ≡ c → Own v c outcomes flights came sent
-    here None line x = own-none v c outcomes flights came sent (subst (λ y. v.line y ≡ None) x (update_here w.line f.line _ ∙ ap (option_map (with_landing f.number answer)) line)) (own.over (sym (ap w.line x) ∙ line)) moves.air_is
+    lands : (k : ℕ) (request : Req) → f.number ≡ k → IsAskedFor w.air (flights_asked w.log.entries) k request → IsOfFlight all k request (Says answer) × IsOver v.air (flights_asked v.log.entries) k
+    lands k request number asked =
+        let over : IsOver v.air (flights_asked w.log.entries) k = subst (λ n. IsOver (without n w.air) (flights_asked w.log.entries) k) (sym number) (over-now w.air (flights_asked w.log.entries) k asked.within) in
+        (good k request number asked, subst (λ most. IsOver v.air most k) (sym same) over)
+
+    here : (at : Option Connection) → w.line f.line ≡ at → f.line ≡ c → Own v c all flights came sent
+    here None line x = own-none v c all flights came sent (subst (λ y. v.line y ≡ None) x (update_here w.line f.line _ ∙ ap (option_map (with_landing f.number answer)) line)) (last-moved w v outcomes all flights came sent moves (own.over (sym (ap w.line x) ∙ line))) moves.air_is
     here (Some k) line x =
         let now : v.line f.line ≡ Some (with_landing f.number answer k) = update_here w.line f.line _ ∙ ap (option_map (with_landing f.number answer)) line in
-        let owns : Owns v outcomes flights (with_landing f.number answer k) = owns-landed w v outcomes flights f.number answer k moves good (own.here k (sym (ap w.line x) ∙ line)) in
-        own-one v c outcomes flights came sent (with_landing f.number answer k) (subst (λ y. v.line y ≡ Some (with_landing f.number answer k)) x now) owns moves.air_is
+        let owns : Owns v all flights (with_landing f.number answer k) = owns-landed w v outcomes all flights f.number answer k moves lands (own.here k (sym (ap w.line x) ∙ line)) in
+        own-one v c all flights came sent (with_landing f.number answer k) (subst (λ y. v.line y ≡ Some (with_landing f.number answer k)) x now) owns moves.air_is
 
-    apart : f.line ≢ c → Own v c outcomes flights came sent
-    apart other = own-moved w v c outcomes outcomes flights came sent (update_apart w.line f.line _ c (λ x. other (sym x))) moves own
+    apart : f.line ≢ c → Own v c all flights came sent
+    apart other = own-moved w v c outcomes all flights came sent (update_apart w.line f.line _ c (λ x. other (sym x))) moves own
 
 deliver-own : (w : RunState) (e : Event) (c : ℕ) (outcomes : Outcomes) (flights : List (Option ℕ)) (came : List ℕ) (sent : List Sending) (f : Flying) (answer : Option Answer) → f.rendered ≡ answer → flight_at f.number w.air ≡ Some f → Kept w c came sent
     → Own w c outcomes flights came sent → DeliverAs w e f answer → Own (afters w e.body) c outcomes (flights ++ treated_in c e.body) (came ++ []) (sent ++ sent_in c e.mood e.body)
 deliver-own w e c outcomes flights came sent f None has there kept own is = idle-own e.mood w c outcomes flights came [] sent e.body own is
 deliver-own w e c outcomes flights came sent f (Some answer) has there kept own to =
     let leads : LeadsNotes w e.mood (Passed f.number) f.line e.body = subst (λ note. LeadsNotes w e.mood note f.line e.body) to.1 to.2 in
-    leads-own e.mood w (Passed f.number) c outcomes flights came sent f (answer_in (flight_at f.number w.air)) _ e.body kept own (ap (over_with w f.number _ _) there) refl refl refl good leads
+    leads-own e.mood w (Passed f.number) c outcomes outcomes flights came sent f (answer_in (flight_at f.number w.air)) _ e.body kept own (ap (over_with w f.number _ _) there) refl refl refl
+    (moved-over w.air (flights_asked w.log.entries) f.number outcomes own.air_is) good leads
   where
     given : answer_in (flight_at f.number w.air) ≡ answer
     given = ap answer_in there ∙ ap (λ o. unwrap_or o fixed_answer) has
@@ -232,22 +237,35 @@ deliver-own w e c outcomes flights came sent f (Some answer) has there kept own 
     good : (k : ℕ) (request : Req) → f.number ≡ k → IsAskedFor w.air (flights_asked w.log.entries) k request → IsOfFlight outcomes k request (Says (answer_in (flight_at f.number w.air)))
     good k request same asked =
         let here : flight_at k w.air ≡ Some f = subst (λ n. flight_at n w.air ≡ Some f) same there in
-        let was : WasRendered outcomes.renders k f.request answer = own.air_is k f answer here has in
-        subst (λ a. IsOfFlight outcomes k request (Says a)) (sym given) (inl (subst (λ r. WasRendered outcomes.renders k r answer) (asked.same f here) was))
+        let was : WasRendered outcomes.renders k f.request answer = own.air_is.rendered k f answer here has in
+        subst (λ a. IsOfFlight outcomes k request (Says a)) (sym given) (inl (subst (λ r. WasRendered outcomes.renders k r answer) (asked.same f here) was, flying-unlost outcomes w.air (flights_asked w.log.entries) k f own.air_is here))
 
 delivers-own : (w : RunState) (e : Event) (c : ℕ) (outcomes : Outcomes) (flights : List (Option ℕ)) (came : List ℕ) (sent : List Sending) (flying : Option Flying) → ((f : Flying) → flying ≡ Some f → flight_at f.number w.air ≡ Some f) → Kept w c came sent
     → Own w c outcomes flights came sent → DeliverTo w e flying → Own (afters w e.body) c outcomes (flights ++ treated_in c e.body) (came ++ []) (sent ++ sent_in c e.mood e.body)
 delivers-own w e c outcomes flights came sent None there kept own is = idle-own e.mood w c outcomes flights came [] sent e.body own is
 delivers-own w e c outcomes flights came sent (Some f) there kept own to = deliver-own w e c outcomes flights came sent f f.rendered refl (there f refl) kept own to
 
-loses-own : (w : RunState) (e : Event) (c : ℕ) (outcomes : Outcomes) (flights : List (Option ℕ)) (came : List ℕ) (sent : List Sending) (flying : Option Flying) → ((f : Flying) → flying ≡ Some f → flight_at f.number w.air ≡ Some f) → Kept w c came sent
-    → Own w c outcomes flights came sent → ((n : ℕ) (rest : List Note) → e.body ≡ Lost n ∷ rest → WasLost outcomes.losses n) → LoseTo w e flying → Own (afters w e.body) c outcomes (flights ++ treated_in c e.body) (came ++ []) (sent ++ sent_in c e.mood e.body)
-loses-own w e c outcomes flights came sent None there kept own lost is = idle-own e.mood w c outcomes flights came [] sent e.body own is
-loses-own w e c outcomes flights came sent (Some f) there kept own lost to =
-    leads-own e.mood w (Lost f.number) c outcomes flights came sent f (error_answer 502) _ e.body kept own (ap (over_with w f.number _ _) (there f refl)) refl refl refl (λ k request same asked. inr (subst (WasLost outcomes.losses) same (lost f.number to.rest to.begins), refl)) to
-
 renders-none : (outcomes : Outcomes) → with_renders outcomes [] ≡ outcomes
 renders-none outcomes = ap (λ rs. record { renders = rs; losses = outcomes.losses }) (append-nil outcomes.renders)
+
+losses-none : (outcomes : Outcomes) → with_losses outcomes [] ≡ outcomes
+losses-none outcomes = ap (λ ns. record { renders = outcomes.renders; losses = ns }) (append-nil outcomes.losses)
+
+-- the flight that is lost in the event is among those that were
+loses-own : (w : RunState) (e : Event) (c : ℕ) (outcomes : Outcomes) (flights : List (Option ℕ)) (came : List ℕ) (sent : List Sending) (flying : Option Flying) → ((f : Flying) → flying ≡ Some f → flight_at f.number w.air ≡ Some f) → Kept w c came sent
+    → Own w c outcomes flights came sent → LoseTo w e flying → Own (afters w e.body) c (with_losses outcomes (lost_in e.body)) (flights ++ treated_in c e.body) (came ++ []) (sent ++ sent_in c e.mood e.body)
+loses-own w e c outcomes flights came sent None there kept own is =
+    let none : with_losses outcomes (lost_in e.body) ≡ outcomes = ap (λ notes. with_losses outcomes (lost_in notes)) is ∙ losses-none outcomes in
+    subst (λ os. Own (afters w e.body) c os (flights ++ treated_in c e.body) (came ++ []) (sent ++ sent_in c e.mood e.body)) (sym none) (idle-own e.mood w c outcomes flights came [] sent e.body own is)
+loses-own w e c outcomes flights came sent (Some f) there kept own to =
+    let at = there f refl in
+    let all : Outcomes = with_losses outcomes (f.number ∷ []) in
+    let told : lost_in e.body ≡ f.number ∷ [] = ap lost_in to.begins ∙ ap (λ ns. f.number ∷ ns) (serves-lost e.mood (state_after_note w (Lost f.number)) f.line to.rest to.settles.serves) in
+    let moves = moved-lost w.air (flights_asked w.log.entries) f.number f outcomes at (at-within f.number 0 w.air (flights_asked w.log.entries) f kept.numbered at) own.air_is in
+    let good : (k : ℕ) (request : Req) → f.number ≡ k → IsAskedFor w.air (flights_asked w.log.entries) k request → IsOfFlight all k request (Says (error_answer 502)) =
+    λ k request same asked. inr (subst (WasLost all.losses) same (record { before = outcomes.losses; later = []; is = refl }), refl) in
+    let done = leads-own e.mood w (Lost f.number) c outcomes all flights came sent f (error_answer 502) _ e.body kept own (ap (over_with w f.number _ _) at) refl refl refl moves good to in
+    subst (λ ns. Own (afters w e.body) c (with_losses outcomes ns) (flights ++ treated_in c e.body) (came ++ []) (sent ++ sent_in c e.mood e.body)) (sym told) done
 
 -- what is rendered in the event is among what was rendered
 render-own : (w : RunState) (e : Event) (c : ℕ) (outcomes : Outcomes) (flights : List (Option ℕ)) (came : List ℕ) (sent : List Sending) (flying : Option Flying) → ((f : Flying) → flying ≡ Some f → flight_at f.number w.air ≡ Some f)
@@ -267,33 +285,41 @@ direct-own : (w : RunState) (e : Event) (c : ℕ) (outcomes : Outcomes) (flights
     → Own (afters w e.body) c outcomes (flights ++ treated_in c e.body) (came ++ []) (sent ++ sent_in c e.mood e.body)
 direct-own w e c outcomes flights came sent answer own is = rw is (own-quiet w c outcomes flights came sent own)
 
-still-own : (w : RunState) (e : Event) (c : ℕ) (outcomes : Outcomes) (flights : List (Option ℕ)) (came : List ℕ) (sent : List Sending) (s : Step) → IsStillStep s → HappensBy w e s → OwnBy (begun w e s) e c outcomes flights came sent s
-    → OwnBy (begun w e s) e c (with_renders outcomes (renders_in (begun w e s) e.mood.dry e.body)) flights came sent s
-still-own w e c outcomes flights came sent s still happens own =
-    let none : with_renders outcomes (renders_in (begun w e s) e.mood.dry e.body) ≡ outcomes = ap (with_renders outcomes) (still-renders (begun w e s) e.mood.dry e.body (step-still w e s still happens)) ∙ renders-none outcomes in
-    subst (λ rs. OwnBy (begun w e s) e c rs flights came sent s) (sym none) own
-
-by-own : (w : RunState) (e : Event) (c : ℕ) (outcomes : Outcomes) (flights : List (Option ℕ)) (came : List ℕ) (sent : List Sending) (s : Step) → Kept w c came sent → Own w c outcomes flights came sent → ((n : ℕ) (rest : List Note) → e.body ≡ Lost n ∷ rest → WasLost outcomes.losses n) → HappensBy w e s
-    → OwnBy (begun w e s) e c (with_renders outcomes (renders_in (begun w e s) e.mood.dry e.body)) flights came sent s
-by-own w e c outcomes flights came sent (step.Opened d peer) kept own lost is = still-own w e c outcomes flights came sent (step.Opened d peer) tt is (opened-own w e c d peer outcomes flights came sent (w.line d) own is)
-by-own w e c outcomes flights came sent (step.Piece d bytes) kept own lost to = still-own w e c outcomes flights came sent (step.Piece d bytes) tt to (piece-own w e c d bytes outcomes flights came sent (w.line d) refl kept own to)
-by-own w e c outcomes flights came sent (step.Gone d) kept own lost is = still-own w e c outcomes flights came sent (step.Gone d) tt is (gone-own w e c d outcomes flights came sent (w.line d) refl kept own is)
-by-own w e c outcomes flights came sent (step.Direct target) kept own lost to = still-own w e c outcomes flights came sent (step.Direct target) tt to (direct-own w e c outcomes flights came sent to.0 own to.2)
-by-own w e c outcomes flights came sent (step.Render pick) kept own lost to = render-own w e c outcomes flights came sent (picked pick is_unrendered w.air) (λ f found. picked-at w _ f kept.numbered found) own to
-by-own w e c outcomes flights came sent (step.Deliver pick) kept own lost to =
-    still-own w e c outcomes flights came sent (step.Deliver pick) tt to (delivers-own w e c outcomes flights came sent (picked pick is_rendered w.air) (λ f found. picked-at w _ f kept.numbered found) kept own to)
-by-own w e c outcomes flights came sent (step.Lose pick) kept own lost to =
-    still-own w e c outcomes flights came sent (step.Lose pick) tt to (loses-own w e c outcomes flights came sent (picked pick is_any w.air) (λ f found. picked-at w _ f kept.numbered found) kept own lost to)
-
 -- what became of flights, after the event
 abbrev outcomes_then : RunState → Event → Step → Outcomes → Outcomes
 outcomes_then w e s outcomes = with_renders (with_losses outcomes (lost_in e.body)) (renders_in (begun w e s) e.mood.dry e.body)
 
-step-own : (w : RunState) (e : Event) (c : ℕ) (outcomes : Outcomes) (flights : List (Option ℕ)) (came : List ℕ) (sent : List Sending) (s : Step) → Kept w c came sent → Own w c outcomes flights came sent → HappensBy w e s
-    → OwnBy (begun w e s) e c (outcomes_then w e s outcomes) flights came sent s
-step-own w e c outcomes flights came sent s kept own happens =
-    let known : Own w c (with_losses outcomes (lost_in e.body)) flights came sent = own-moved w w c outcomes (with_losses outcomes (lost_in e.body)) flights came sent refl (moved-lost w.air (flights_asked w.log.entries) outcomes (lost_in e.body) own.air_is) own in
-    by-own w e c (with_losses outcomes (lost_in e.body)) flights came sent s kept known (λ n rest begins. record { before = outcomes.losses; later = lost_in rest; is = ap (λ notes. outcomes.losses ++ lost_in notes) begins }) happens
+abbrev OwnThen : RunState → Event → ℕ → Outcomes → List (Option ℕ) → List ℕ → List Sending → Step → Type 0
+OwnThen w e c outcomes flights came sent s = OwnBy (begun w e s) e c (outcomes_then w e s outcomes) flights came sent s
+
+-- an event in which no flight is rendered, by what was lost in it
+unrendered-own : (w : RunState) (e : Event) (c : ℕ) (outcomes : Outcomes) (flights : List (Option ℕ)) (came : List ℕ) (sent : List Sending) (s : Step) → IsStillStep s → HappensBy w e s → OwnBy (begun w e s) e c (with_losses outcomes (lost_in e.body)) flights came sent s
+    → OwnThen w e c outcomes flights came sent s
+unrendered-own w e c outcomes flights came sent s still happens own =
+    let lost : Outcomes = with_losses outcomes (lost_in e.body) in
+    let none : with_renders lost (renders_in (begun w e s) e.mood.dry e.body) ≡ lost = ap (with_renders lost) (still-renders (begun w e s) e.mood.dry e.body (step-still w e s still happens)) ∙ renders-none lost in
+    subst (λ os. OwnBy (begun w e s) e c os flights came sent s) (sym none) own
+
+-- one in which none is lost either
+still-own : (w : RunState) (e : Event) (c : ℕ) (outcomes : Outcomes) (flights : List (Option ℕ)) (came : List ℕ) (sent : List Sending) (s : Step) → IsStillStep s → IsKeepingStep s → HappensBy w e s → OwnBy (begun w e s) e c outcomes flights came sent s
+    → OwnThen w e c outcomes flights came sent s
+still-own w e c outcomes flights came sent s still keeps happens own =
+    let none : with_losses outcomes (lost_in e.body) ≡ outcomes = ap (with_losses outcomes) (step-lost w e s keeps happens) ∙ losses-none outcomes in
+    unrendered-own w e c outcomes flights came sent s still happens (subst (λ os. OwnBy (begun w e s) e c os flights came sent s) (sym none) own)
+
+step-own : (w : RunState) (e : Event) (c : ℕ) (outcomes : Outcomes) (flights : List (Option ℕ)) (came : List ℕ) (sent : List Sending) (s : Step) → Kept w c came sent → Own w c outcomes flights came sent → HappensBy w e s → OwnThen w e c outcomes flights came sent s
+step-own w e c outcomes flights came sent (step.Opened d peer) kept own is = still-own w e c outcomes flights came sent (step.Opened d peer) tt tt is (opened-own w e c d peer outcomes flights came sent (w.line d) own is)
+step-own w e c outcomes flights came sent (step.Piece d bytes) kept own to = still-own w e c outcomes flights came sent (step.Piece d bytes) tt tt to (piece-own w e c d bytes outcomes flights came sent (w.line d) refl kept own to)
+step-own w e c outcomes flights came sent (step.Gone d) kept own is = still-own w e c outcomes flights came sent (step.Gone d) tt tt is (gone-own w e c d outcomes flights came sent (w.line d) refl kept own is)
+step-own w e c outcomes flights came sent (step.Direct target) kept own to = still-own w e c outcomes flights came sent (step.Direct target) tt tt to (direct-own w e c outcomes flights came sent to.0 own to.2)
+step-own w e c outcomes flights came sent (step.Render pick) kept own to =
+    let none : with_losses outcomes (lost_in e.body) ≡ outcomes = ap (with_losses outcomes) (step-lost w e (step.Render pick) tt to) ∙ losses-none outcomes in
+    subst (λ os. OwnBy w e c (with_renders os (renders_in w e.mood.dry e.body)) flights came sent (step.Render pick)) (sym none)
+    (render-own w e c outcomes flights came sent (picked pick is_unrendered w.air) (λ f found. picked-at w _ f kept.numbered found) own to)
+step-own w e c outcomes flights came sent (step.Deliver pick) kept own to =
+    still-own w e c outcomes flights came sent (step.Deliver pick) tt tt to (delivers-own w e c outcomes flights came sent (picked pick is_rendered w.air) (λ f found. picked-at w _ f kept.numbered found) kept own to)
+step-own w e c outcomes flights came sent (step.Lose pick) kept own to =
+    unrendered-own w e c outcomes flights came sent (step.Lose pick) tt to (loses-own w e c outcomes flights came sent (picked pick is_any w.air) (λ f found. picked-at w _ f kept.numbered found) kept own to)
 
 -- ---- a run
 abbrev outcomes_after : Outcomes → RunState → List Event → Outcomes
@@ -325,7 +351,7 @@ start-own publishing farm content c = record {
     last = record { last = fresh []; came_then = []; later = []; past = past-fresh []; came_is = refl; still = λ slot e. let no : ⊥ = cc in no };
     each = refl;
   };
-  air_is = λ n f answer there has. absurd (let no : ⊥ = cc in no);
+  air_is = record { rendered = λ n f answer there has. absurd (let no : ⊥ = cc in no); lost = λ n was. absurd (none-lost n was) };
 }
 
 -- the last state of a run
@@ -360,7 +386,7 @@ own-answers order turns w c outcomes flights came sent None is kept own =
           answers = answers-past order last.last last.came_then sent last.past last.still;
         };
       };
-      own = was.each;
+      own = each-map (IsOfAir w.air (flights_asked w.log.entries) outcomes) (IsOfRequest outcomes) (of-request w.air (flights_asked w.log.entries) outcomes) flights last.last.turns last.last.slots was.each;
     }
 
 pub answers-own : InOrder → OfTurns → AnswersAreOwn

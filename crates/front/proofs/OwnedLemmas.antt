@@ -15,13 +15,14 @@ use Rattle.connections.specs.Slots.{Awaits, Says, Slot, interim_slot, is_answere
 use Rattle.connections.specs.Connections.{Close, Connection, Due, Nothing, Refuse, Send, Treat, advanced, after_turn, due_at_slot, due_at_turn, due_unsent, fed, next_turn, with_landing, with_sent, with_slot}
 use Rattle.connections.specs.Connections as connection
 use Rattle.connections.specs.declared.sending.Sending.{Sending}
+use Rattle.front.specs.declared.flying.Flying.{Flying}
 use Rattle.front.specs.declared.note.Note.{Note}
 use Rattle.front.specs.declared.note.Note.TheVariants.{Ask as asked, Local, Sent, Shut}
 use Rattle.front.specs.Histories.{sent_by, sent_in}
 use Rattle.front.specs.Moves.{GivesDue, IsFirstPoint, Mood, Serves, state_after_note, afters, asked_by, due_of_connection, line_due, local_slot, points, request_of, treated}
-use Rattle.front.specs.Owned.{AreEach, IsOfFlight, IsOfRequest, Outcomes, treated_by, treated_in}
+use Rattle.front.specs.Owned.{AreEach, IsOfFlight, Outcomes, treated_by, treated_in}
 use Rattle.front.specs.States.{RunState, flights_asked}
-use Rattle.front.proofs.AirLemmas.{AreMore, AreRendered, IsAskedFor, IsOfAir, Moved, air-moved, asked-new, later-request, moved-asked, moved-same, moved-then, of-request}
+use Rattle.front.proofs.AirLemmas.{Agrees, IsAskedFor, IsOfAir, IsOver, Moved, air-moved, asked-new, moved-asked, moved-same, moved-then}
 use Rattle.front.proofs.EachLemmas.{each-fault, each-filled, each-interim, each-map, each-more, each-push, length-filled, local-answered, some-within}
 use Rattle.front.proofs.HistoryLemmas.{Held, Numbered, gives-numbered, line-held}
 use Rattle.front.proofs.PastLemmas.{Last, longer, past-as}
@@ -70,28 +71,28 @@ pub record Owns (w : RunState) (outcomes : Outcomes) (flights : List (Option ℕ
   pub room : d.closing ≡ false → length d.slots ≤ length d.turns
 
 -- the same of what it was at last
-pub record LastOwns (outcomes : Outcomes) (flights : List (Option ℕ)) (came : List ℕ) (sent : List Sending) : Type 0 where
+pub record LastOwns (air : List Flying) (most : ℕ) (outcomes : Outcomes) (flights : List (Option ℕ)) (came : List ℕ) (sent : List Sending) : Type 0 where
   pub last : Last came sent
-  pub each : AreEach (IsOfRequest outcomes) flights last.last.turns last.last.slots
+  pub each : AreEach (IsOfAir air most outcomes) flights last.last.turns last.last.slots
 
 -- whether the connection is open or not any more
 pub record Own (w : RunState) (c : ℕ) (outcomes : Outcomes) (flights : List (Option ℕ)) (came : List ℕ) (sent : List Sending) : Type 0 where
   pub here : (d : Connection) → w.line c ≡ Some d → Owns w outcomes flights d
-  pub over : w.line c ≡ None → LastOwns outcomes flights came sent
-  pub air_is : AreRendered outcomes w.air
+  pub over : w.line c ≡ None → LastOwns w.air (flights_asked w.log.entries) outcomes flights came sent
+  pub air_is : Agrees outcomes w.air (flights_asked w.log.entries)
 
 -- what notes elsewhere do
 abbrev pub Moves : RunState → Outcomes → RunState → Outcomes → Type 0
 Moves w outcomes v all = Moved w.air (flights_asked w.log.entries) outcomes v.air (flights_asked v.log.entries) all
 
-pub own-one : (v : RunState) (c : ℕ) (outcomes : Outcomes) (flights : List (Option ℕ)) (came : List ℕ) (sent : List Sending) (x : Connection) → v.line c ≡ Some x → Owns v outcomes flights x → AreRendered outcomes v.air → Own v c outcomes flights came sent
+pub own-one : (v : RunState) (c : ℕ) (outcomes : Outcomes) (flights : List (Option ℕ)) (came : List ℕ) (sent : List Sending) (x : Connection) → v.line c ≡ Some x → Owns v outcomes flights x → Agrees outcomes v.air (flights_asked v.log.entries) → Own v c outcomes flights came sent
 own-one v c outcomes flights came sent x is owns air_is = record {
   here = λ d some. let same : x ≡ d = cc in subst (Owns v outcomes flights) same owns;
   over = λ none. absurd (let no : ⊥ = cc in no);
   air_is = air_is;
 }
 
-pub own-none : (v : RunState) (c : ℕ) (outcomes : Outcomes) (flights : List (Option ℕ)) (came : List ℕ) (sent : List Sending) → v.line c ≡ None → LastOwns outcomes flights came sent → AreRendered outcomes v.air → Own v c outcomes flights came sent
+pub own-none : (v : RunState) (c : ℕ) (outcomes : Outcomes) (flights : List (Option ℕ)) (came : List ℕ) (sent : List Sending) → v.line c ≡ None → LastOwns v.air (flights_asked v.log.entries) outcomes flights came sent → Agrees outcomes v.air (flights_asked v.log.entries) → Own v c outcomes flights came sent
 own-none v c outcomes flights came sent is last air_is = record { here = λ d some. absurd (let no : ⊥ = cc in no); over = λ none. last; air_is = air_is }
 
 pub owns-moved : (w v : RunState) (outcomes all : Outcomes) (flights : List (Option ℕ)) (d : Connection) → Moves w outcomes v all → Owns w outcomes flights d → Owns v all flights d
@@ -100,16 +101,17 @@ owns-moved w v outcomes all flights d moves owns = record {
   room = owns.room;
 }
 
-pub last-moved : (outcomes all : Outcomes) (flights : List (Option ℕ)) (came : List ℕ) (sent : List Sending) → AreMore outcomes all → LastOwns outcomes flights came sent → LastOwns all flights came sent
-last-moved outcomes all flights came sent more last = record {
+pub last-moved : (w v : RunState) (outcomes all : Outcomes) (flights : List (Option ℕ)) (came : List ℕ) (sent : List Sending) → Moves w outcomes v all → LastOwns w.air (flights_asked w.log.entries) outcomes flights came sent
+    → LastOwns v.air (flights_asked v.log.entries) all flights came sent
+last-moved w v outcomes all flights came sent moves last = record {
   last = last.last;
-  each = each-map (IsOfRequest outcomes) (IsOfRequest all) (later-request outcomes all more) flights last.last.last.turns last.last.last.slots last.each;
+  each = each-map (IsOfAir w.air (flights_asked w.log.entries) outcomes) (IsOfAir v.air (flights_asked v.log.entries) all) (air-moved w.air (flights_asked w.log.entries) outcomes v.air (flights_asked v.log.entries) all moves) flights last.last.last.turns last.last.last.slots last.each;
 }
 
 pub own-moved : (w v : RunState) (c : ℕ) (outcomes all : Outcomes) (flights : List (Option ℕ)) (came : List ℕ) (sent : List Sending) → v.line c ≡ w.line c → Moves w outcomes v all → Own w c outcomes flights came sent → Own v c all flights came sent
 own-moved w v c outcomes all flights came sent line moves own = record {
   here = λ d some. owns-moved w v outcomes all flights d moves (own.here d (sym line ∙ some));
-  over = λ none. last-moved outcomes all flights came sent moves.grown (own.over (sym line ∙ none));
+  over = λ none. last-moved w v outcomes all flights came sent moves (own.over (sym line ∙ none));
   air_is = moves.air_is;
 }
 
@@ -161,11 +163,9 @@ asked-here flights c n key =
     rw here refl
 
 -- what a connection was at last owns what it owned then
-pub last-owns : (w : RunState) (outcomes : Outcomes) (flights : List (Option ℕ)) (came : List ℕ) (sent : List Sending) (d : Connection) (last : Last came sent) → last.last ≡ d → Owns w outcomes flights d → LastOwns outcomes (flights ++ []) came sent
-last-owns w outcomes flights came sent d last same owns = record {
-  last = last;
-  each = rw (append-nil flights, same) (each-map (IsOfAir w.air (flights_asked w.log.entries) outcomes) (IsOfRequest outcomes) (of-request w.air (flights_asked w.log.entries) outcomes) flights d.turns d.slots owns.each);
-}
+pub last-owns : (w : RunState) (outcomes : Outcomes) (flights : List (Option ℕ)) (came : List ℕ) (sent : List Sending) (d : Connection) (last : Last came sent) → last.last ≡ d → Owns w outcomes flights d
+    → LastOwns w.air (flights_asked w.log.entries) outcomes (flights ++ []) came sent
+last-owns w outcomes flights came sent d last same owns = record { last = last; each = rw (append-nil flights, same) owns.each }
 
 -- ---- a note that is owed
 -- the connection after the note, where the farm and the flights are those of before
@@ -275,14 +275,14 @@ pub record Elsewhere (w v : RunState) (outcomes : Outcomes) (flights : List (Opt
   pub none : flights ≡ []
   pub moves : Moves w outcomes v outcomes
 
-asked-elsewhere : (w : RunState) (d : ℕ) (outcomes : Outcomes) (request : Option Req) → Numbered w → AreRendered outcomes w.air → Moves w outcomes (asked_by w (flights_asked w.log.entries + 1) d None request) outcomes
+asked-elsewhere : (w : RunState) (d : ℕ) (outcomes : Outcomes) (request : Option Req) → Numbered w → Agrees outcomes w.air (flights_asked w.log.entries) → Moves w outcomes (asked_by w (flights_asked w.log.entries + 1) d None request) outcomes
 asked-elsewhere w d outcomes None numbered air_is = moved-same w.air (flights_asked w.log.entries) outcomes air_is
 asked-elsewhere w d outcomes (Some request) numbered air_is = moved-asked w.air (flights_asked w.log.entries) d request outcomes numbered air_is
 
-local-elsewhere : (w : RunState) (c d status : ℕ) (outcomes : Outcomes) → c ≢ d → AreRendered outcomes w.air → Elsewhere w (state_after_note w (Local d status)) outcomes (treated_by c (Local d status))
+local-elsewhere : (w : RunState) (c d status : ℕ) (outcomes : Outcomes) → c ≢ d → Agrees outcomes w.air (flights_asked w.log.entries) → Elsewhere w (state_after_note w (Local d status)) outcomes (treated_by c (Local d status))
 local-elsewhere w c d status outcomes apart air_is = record { none = local-apart c d status apart; moves = moved-same w.air (flights_asked w.log.entries) outcomes air_is }
 
-first-elsewhere : (m : Mood) (w : RunState) (c d : ℕ) (outcomes : Outcomes) (request : Req) (note : Note) → c ≢ d → Numbered w → AreRendered outcomes w.air → IsFirstPoint m w d request note points → Elsewhere w (state_after_note w note) outcomes (treated_by c note)
+first-elsewhere : (m : Mood) (w : RunState) (c d : ℕ) (outcomes : Outcomes) (request : Req) (note : Note) → c ≢ d → Numbered w → Agrees outcomes w.air (flights_asked w.log.entries) → IsFirstPoint m w d request note points → Elsewhere w (state_after_note w note) outcomes (treated_by c note)
 first-elsewhere m w c d outcomes request note apart numbered air_is (inl crowd) = rw crowd.1 (local-elsewhere w c d 503 outcomes apart air_is)
 first-elsewhere m w c d outcomes request note apart numbered air_is (inr (_, inl hidden)) = rw hidden.1 (local-elsewhere w c d 404 outcomes apart air_is)
 first-elsewhere m w c d outcomes request note apart numbered air_is (inr (_, inr (_, inl full))) = rw full.1 (local-elsewhere w c d 503 outcomes apart air_is)
@@ -290,7 +290,7 @@ first-elsewhere m w c d outcomes request note apart numbered air_is (inr (_, inr
     rw ask.1 (record { none = asked-apart c d (flights_asked w.log.entries + 1) apart; moves = asked-elsewhere w d outcomes (request_of (due_of_connection w d)) numbered air_is })
 first-elsewhere m w c d outcomes request note apart numbered air_is (inr (_, inr (_, inr (_, inr (never, _))))) = absurd never
 
-gives-elsewhere : (m : Mood) (w : RunState) (c d : ℕ) (outcomes : Outcomes) (owed : Due) (note : Note) → c ≢ d → Numbered w → AreRendered outcomes w.air → GivesDue m w d owed note → Elsewhere w (state_after_note w note) outcomes (treated_by c note)
+gives-elsewhere : (m : Mood) (w : RunState) (c d : ℕ) (outcomes : Outcomes) (owed : Due) (note : Note) → c ≢ d → Numbered w → Agrees outcomes w.air (flights_asked w.log.entries) → GivesDue m w d owed note → Elsewhere w (state_after_note w note) outcomes (treated_by c note)
 gives-elsewhere m w c d outcomes (Send slot) note apart numbered air_is gives = rw gives.1 (record { none = refl; moves = moved-same w.air (flights_asked w.log.entries) outcomes air_is })
 gives-elsewhere m w c d outcomes (Treat Continue) note apart numbered air_is gives = absurd gives
 gives-elsewhere m w c d outcomes (Treat (Whole request)) note apart numbered air_is (inl first) = first-elsewhere m w c d outcomes request note apart numbered air_is first
@@ -299,7 +299,7 @@ gives-elsewhere m w c d outcomes (Refuse fault) note apart numbered air_is gives
 gives-elsewhere m w c d outcomes Close note apart numbered air_is gives = rw gives (record { none = refl; moves = moved-same w.air (flights_asked w.log.entries) outcomes air_is })
 gives-elsewhere m w c d outcomes Nothing note apart numbered air_is gives = absurd gives
 
-pub serves-elsewhere : (m : Mood) (w : RunState) (c d : ℕ) (outcomes : Outcomes) (notes : List Note) → c ≢ d → Numbered w → AreRendered outcomes w.air → Serves m w d notes → Elsewhere w (afters w notes) outcomes (treated_in c notes)
+pub serves-elsewhere : (m : Mood) (w : RunState) (c d : ℕ) (outcomes : Outcomes) (notes : List Note) → c ≢ d → Numbered w → Agrees outcomes w.air (flights_asked w.log.entries) → Serves m w d notes → Elsewhere w (afters w notes) outcomes (treated_in c notes)
 serves-elsewhere m w c d outcomes [] apart numbered air_is serves = record { none = refl; moves = moved-same w.air (flights_asked w.log.entries) outcomes air_is }
 serves-elsewhere m w c d outcomes (note ∷ notes) apart numbered air_is serves =
     let one = gives-elsewhere m w c d outcomes (due_of_connection w d) note apart numbered air_is serves.0 in
@@ -310,15 +310,15 @@ serves-elsewhere m w c d outcomes (note ∷ notes) apart numbered air_is serves 
     }
 
 -- ---- a flight has landed
-pub owns-landed : (w v : RunState) (outcomes : Outcomes) (flights : List (Option ℕ)) (n : ℕ) (answer : Answer) (d : Connection) → Moves w outcomes v outcomes
-    → ((k : ℕ) (request : Req) → n ≡ k → IsAskedFor w.air (flights_asked w.log.entries) k request → IsOfFlight outcomes k request (Says answer)) → Owns w outcomes flights d → Owns v outcomes flights (with_landing n answer d)
-owns-landed w v outcomes flights n answer d moves good owns = record {
-  each = each-filled (IsOfAir w.air (flights_asked w.log.entries) outcomes) (IsOfAir v.air (flights_asked v.log.entries) outcomes) n answer
-      (air-moved w.air (flights_asked w.log.entries) outcomes v.air (flights_asked v.log.entries) outcomes moves) lands flights d.turns d.slots owns.each;
+pub owns-landed : (w v : RunState) (outcomes all : Outcomes) (flights : List (Option ℕ)) (n : ℕ) (answer : Answer) (d : Connection) → Moves w outcomes v all
+    → ((k : ℕ) (request : Req) → n ≡ k → IsAskedFor w.air (flights_asked w.log.entries) k request → IsOfFlight all k request (Says answer) × IsOver v.air (flights_asked v.log.entries) k) → Owns w outcomes flights d → Owns v all flights (with_landing n answer d)
+owns-landed w v outcomes all flights n answer d moves good owns = record {
+  each = each-filled (IsOfAir w.air (flights_asked w.log.entries) outcomes) (IsOfAir v.air (flights_asked v.log.entries) all) n answer
+      (air-moved w.air (flights_asked w.log.entries) outcomes v.air (flights_asked v.log.entries) all moves) lands flights d.turns d.slots owns.each;
   room = λ stays. omega (arith, owns.room stays, length-filled n answer d.slots);
 }
   where
-    lands : (flight : Option ℕ) (request : Req) → IsOfAir w.air (flights_asked w.log.entries) outcomes flight request (Awaits n) → IsOfAir v.air (flights_asked v.log.entries) outcomes flight request (Says answer)
+    lands : (flight : Option ℕ) (request : Req) → IsOfAir w.air (flights_asked w.log.entries) outcomes flight request (Awaits n) → IsOfAir v.air (flights_asked v.log.entries) all flight request (Says answer)
     lands None request is = absurd (let waits : true ≡ false = (let self : nat_eq n n ≡ true = grind arith in sym self) ∙ ap (is_awaiting n) is.1 ∙ local-answered n is.0 in let no : ⊥ = cc in no)
     lands (Some k) request is = good k request is.0 is.1
 

@@ -84,13 +84,13 @@ pub record Outcomes : Type 0 where
   pub renders : List Rendering
   pub losses : List ℕ
 
--- what answers a request for which this flight was asked: the flight is awaited; or what was rendered for it; or Bad Gateway, where the
--- flight was lost (RFC 9110, section 15.6.3)
+-- what answers a request for which this flight was asked: the flight is awaited; or what was rendered for it, where it wasn't lost; or
+-- Bad Gateway, where it was (RFC 9110, section 15.6.3)
 abbrev pub IsOfFlight : Outcomes → ℕ → Req → Response → Type 0
 IsOfFlight outcomes number request Interim = ⊥
 IsOfFlight outcomes number request Fixed = ⊥
 IsOfFlight outcomes number request (Awaits flight) = flight ≡ number
-IsOfFlight outcomes number request (Says answer) = WasRendered outcomes.renders number request answer ⊎ (WasLost outcomes.losses number × (answer ≡ error_answer 502))
+IsOfFlight outcomes number request (Says answer) = (WasRendered outcomes.renders number request answer × (WasLost outcomes.losses number → ⊥)) ⊎ (WasLost outcomes.losses number × (answer ≡ error_answer 502))
 
 -- what answers a request: its flight, or without one the front by a status of its own
 abbrev pub IsOfRequest : Outcomes → Option ℕ → Req → Response → Type 0

@@ -9,7 +9,7 @@ use Rattle.connections.specs.Slots.{Awaits, Fixed, Interim, Response, Says}
 use Rattle.front.specs.declared.flying.Flying.{Flying}
 use Rattle.front.specs.Boards.{AreRising}
 use Rattle.front.specs.Moves.{flight_at, new_flight, with_rendered, with_rendered_at, without}
-use Rattle.front.specs.Owned.{IsOfFlight, IsOfRequest, Outcomes, WasLost, WasRendered}
+use Rattle.front.specs.Owned.{ByFlight, ByStatus, IsOfFlight, IsOfRequest, Outcomes, Treating, WasLost, WasRendered}
 use Rattle.front.specs.Renders.{Rendering}
 use Rattle.front.proofs.SkyLemmas.{found-passes}
 
@@ -352,28 +352,28 @@ moved-rendered air most g answer dry outcomes here are = record {
         later-rendered outcomes.renders (rendering ∷ []) n f.request other (subst (λ (x : Flying). WasRendered outcomes.renders n x.request other) made old)
 
 -- ---- what answers a request, of the flights in the air
-abbrev pub IsOfAir : List Flying → ℕ → Outcomes → Option ℕ → Req → Response → Type 0
-IsOfAir air most outcomes None request response = IsOfRequest outcomes None request response
-IsOfAir air most outcomes (Some n) request Interim = ⊥
-IsOfAir air most outcomes (Some n) request Fixed = ⊥
-IsOfAir air most outcomes (Some n) request (Awaits m) = (m ≡ n) × IsAskedFor air most n request
-IsOfAir air most outcomes (Some n) request (Says answer) = IsOfFlight outcomes n request (Says answer) × IsOver air most n
+abbrev pub IsOfAir : List Flying → ℕ → Outcomes → Treating → Req → Response → Type 0
+IsOfAir air most outcomes (ByStatus status) request response = IsOfRequest outcomes (ByStatus status) request response
+IsOfAir air most outcomes (ByFlight n) request Interim = ⊥
+IsOfAir air most outcomes (ByFlight n) request Fixed = ⊥
+IsOfAir air most outcomes (ByFlight n) request (Awaits m) = (m ≡ n) × IsAskedFor air most n request
+IsOfAir air most outcomes (ByFlight n) request (Says answer) = IsOfFlight outcomes n request (Says answer) × IsOver air most n
 
-pub of-request : (air : List Flying) (most : ℕ) (outcomes : Outcomes) (flight : Option ℕ) (request : Req) (response : Response) → IsOfAir air most outcomes flight request response → IsOfRequest outcomes flight request response
-of-request air most outcomes None request response is = is
-of-request air most outcomes (Some n) request Interim is = absurd is
-of-request air most outcomes (Some n) request Fixed is = absurd is
-of-request air most outcomes (Some n) request (Awaits m) is = is.0
-of-request air most outcomes (Some n) request (Says answer) is = is.0
+pub of-request : (air : List Flying) (most : ℕ) (outcomes : Outcomes) (treating : Treating) (request : Req) (response : Response) → IsOfAir air most outcomes treating request response → IsOfRequest outcomes treating request response
+of-request air most outcomes (ByStatus status) request response is = is
+of-request air most outcomes (ByFlight n) request Interim is = absurd is
+of-request air most outcomes (ByFlight n) request Fixed is = absurd is
+of-request air most outcomes (ByFlight n) request (Awaits m) is = is.0
+of-request air most outcomes (ByFlight n) request (Says answer) is = is.0
 
 later-said : (outcomes all : Outcomes) (n : ℕ) (request : Req) (answer : Answer) → AreMore outcomes all → (WasLost all.losses n → WasLost outcomes.losses n) → IsOfFlight outcomes n request (Says answer) → IsOfFlight all n request (Says answer)
 later-said outcomes all n request answer more unlost (inl was) = inl (more.rendered n request answer was.0, λ lost. was.1 (unlost lost))
 later-said outcomes all n request answer more unlost (inr lost) = inr (more.lost n lost.0, lost.1)
 
-pub air-moved : (air : List Flying) (most : ℕ) (outcomes : Outcomes) (next : List Flying) (now : ℕ) (all : Outcomes) → Moved air most outcomes next now all → (flight : Option ℕ) (request : Req) (response : Response)
-    → IsOfAir air most outcomes flight request response → IsOfAir next now all flight request response
-air-moved air most outcomes next now all moved None request response is = is
-air-moved air most outcomes next now all moved (Some n) request Interim is = absurd is
-air-moved air most outcomes next now all moved (Some n) request Fixed is = absurd is
-air-moved air most outcomes next now all moved (Some n) request (Awaits m) is = (is.0, moved.asked n request is.1)
-air-moved air most outcomes next now all moved (Some n) request (Says answer) is = (later-said outcomes all n request answer moved.grown (moved.unlost n is.1) is.0, moved.over n is.1)
+pub air-moved : (air : List Flying) (most : ℕ) (outcomes : Outcomes) (next : List Flying) (now : ℕ) (all : Outcomes) → Moved air most outcomes next now all → (treating : Treating) (request : Req) (response : Response)
+    → IsOfAir air most outcomes treating request response → IsOfAir next now all treating request response
+air-moved air most outcomes next now all moved (ByStatus status) request response is = is
+air-moved air most outcomes next now all moved (ByFlight n) request Interim is = absurd is
+air-moved air most outcomes next now all moved (ByFlight n) request Fixed is = absurd is
+air-moved air most outcomes next now all moved (ByFlight n) request (Awaits m) is = (is.0, moved.asked n request is.1)
+air-moved air most outcomes next now all moved (ByFlight n) request (Says answer) is = (later-said outcomes all n request answer moved.grown (moved.unlost n is.1) is.0, moved.over n is.1)

@@ -64,8 +64,8 @@ pub fn a_cutting_changes_no_byte()
 
 /// Whatever happens: what was sent on a connection since it was opened answers what came on it, and each request by its own answer:
 /// that which was rendered for the flight that was asked for this very request, or exactly where it was lost a 502; or where no flight was
-/// asked for it an answer of the front's own. So it is on a connection that is shut or gone, too. (What is rendered for a flight, and on which
-/// content, is the law `renders_are_published`.)
+/// asked for it the answer of the front's own with the status that was noted for it. So it is on a connection that is shut or gone, too.
+/// (What is rendered for a flight, and on which content, is the law `renders_are_published`.)
 pub fn answers_are_of_their_own_requests()
     ensures { AnswersAreOwn }
 {

@@ -81,7 +81,8 @@ pub fn renders_are_published()
 {}
 
 /// A run in which memory isn't wanting is determined by its steps, the publisher, the farm and the content, but for one choice: where the
-/// bytes of a stream end within a target that no more bytes can save, the fault may be told at once or later.
+/// bytes of a stream end within a target that no more bytes can save, the fault may be told at once or later, and at 16,384 bytes which
+/// fault it is, a bad head or a long one, is open.
 pub fn calm_runs_are_determined()
     ensures { CalmRunsAreOne }
 {

@@ -1,6 +1,7 @@
 -- Each answer that is sent in a run is its own request's.
 use Rattle.std.proofs.Common.{◌≡◌, ◌≢◌, ℕ, ◌+◌, ◌-◌, ◌++◌, Bool, true, false, List, [], ◌∷◌, Option, Some, None, refl, ap, sym, subst, ◌∙◌, arith, inl, inr, ⊎_elim, append-nil, append_assoc, eq-eqb}
 use Rattle.std.specs.Prelude.{nat_eq, nat_le, if◌then◌else◌, unwrap_or}
+use Rattle.std.specs.List.{list_any}
 use Rattle.std.specs.Map.{update}
 use Rattle.std.specs.Option.{option_map}
 use Rattle.std.proofs.lemmas.Map.{update_apart, update_here}
@@ -20,7 +21,7 @@ use Rattle.front.specs.declared.note.Note.TheVariants.{Answer as answered, Rende
 use Rattle.front.specs.declared.step.Step.{Step}
 use Rattle.front.specs.declared.step.Step.TheVariants as step
 use Rattle.front.specs.Events.{DeliverAs, DeliverTo, Event, HappensBy, LeadsNotes, LoseTo, PieceTo, RenderTo, Run, after_event, begun, gone, going, is_any, is_rendered, is_unrendered, most_lines, opened, opening, picked, state_after_events}
-use Rattle.front.specs.Histories.{brought_by, came_after, came_since_opened, opens_connection, sent_after, sent_by, sent_in, sent_since_opened}
+use Rattle.front.specs.Histories.{brought_by, came_after, came_since_opened, is_idle, opens_connection, sent_after, sent_by, sent_in, sent_since_opened}
 use Rattle.front.specs.Moves.{Mood, Settles, afters, answer_in, flight_at, on_line, over_with, state_after_note, without}
 use Rattle.front.specs.Owned.{AnswersAreOwn, AreOwnAnswers, IsOfFlight, IsOfRequest, Outcomes, Treating, WasLost, WasRendered, treated_after, treated_since_opened, losses_of, lost_in, treated_by, treated_in}
 use Rattle.front.specs.Publishers.{Publishing, fixed_answer}
@@ -28,38 +29,21 @@ use Rattle.front.specs.Renders.{rendering_of, renders_in, renders_of}
 use Rattle.front.specs.States.{LogEntry, RunState, flights_asked, start_of}
 use Rattle.front.proofs.AirLemmas.{IsAskedFor, IsOfAir, IsOver, Moved, at-within, flying-unlost, moved-lost, moved-over, moved-rendered, moved-same, none-lost, of-request, over-now, with_losses, with_renders}
 use Rattle.front.proofs.EachLemmas.{each-map}
-use Rattle.front.proofs.HistoryLemmas.{Held, Kept, Numbered, by-step, over-held, over-numbered, picked-at, piece-read, run-kept, serves-apart, start-kept, then_came, then_sent}
-use Rattle.front.proofs.MoveLemmas.{IsStillStep, step-still}
+use Rattle.front.proofs.HistoryLemmas.{Held, Kept, Numbered, by-step, over-held, over-numbered, picked-at, piece-idle, piece-read, run-kept, serves-apart, start-kept, then_came, then_sent}
+use Rattle.front.proofs.MoveLemmas.{IsStillStep, serves-busy, step-still}
 use Rattle.front.proofs.LossLemmas.{IsKeepingStep, serves-lost, step-lost}
 use Rattle.front.proofs.OwnedLemmas.{Moves, Own, Owns, last-moved, last-owns, own-moved, own-none, own-one, owns-fed, owns-landed, serves-elsewhere, serves-owns}
-use Rattle.front.proofs.PastLemmas.{Last, past-as, past-fresh}
+use Rattle.front.proofs.PastLemmas.{Last, last-now, past-as, past-fresh}
 use Rattle.front.proofs.RenderLemmas.{still-renders}
-use Rattle.front.proofs.StreamLemmas.{InOrder, OfTurns, answers-past, idle-still, turns-past}
+use Rattle.front.proofs.StreamLemmas.{InOrder, OfTurns, idle-still, what-past}
 
 -- ---- the same under other names
 own-as : (w : RunState) (c : ℕ) (outcomes : Outcomes) (fs gs : List Treating) (came : List ℕ) (xs ys : List Sending) → fs ≡ gs → xs ≡ ys → Own w c outcomes fs came xs → Own w c outcomes gs came ys
 own-as w c outcomes fs gs came xs ys treatings sent own = subst (λ hs. Own w c outcomes hs came ys) treatings (subst (λ zs. Own w c outcomes fs came zs) sent own)
 
--- more came, which the connection has read or doesn't read any more
-own-later : (w : RunState) (c : ℕ) (outcomes : Outcomes) (treatings : List Treating) (came more : List ℕ) (sent : List Sending) → Own w c outcomes treatings came sent → Own w c outcomes treatings (came ++ more) sent
-own-later w c outcomes treatings came more sent own = record {
-  here = own.here;
-  over = λ none.
-      let was = own.over none in
-      let last = was.last in
-      record {
-        last = record {
-          last = last.last;
-          came_then = last.came_then;
-          later = last.later ++ more;
-          past = last.past;
-          came_is = ap (λ xs. xs ++ more) last.came_is ∙ append_assoc last.came_then last.later more;
-          still = last.still;
-        };
-        each = was.each;
-      };
-  air_is = own.air_is;
-}
+-- nothing more came
+own-came : (w : RunState) (c : ℕ) (outcomes : Outcomes) (treatings : List Treating) (came more : List ℕ) (sent : List Sending) → more ≡ [] → Own w c outcomes treatings came sent → Own w c outcomes treatings (came ++ more) sent
+own-came w c outcomes treatings came more sent none own = subst (λ xs. Own w c outcomes treatings xs sent) (sym (ap (λ xs. came ++ xs) none ∙ append-nil came)) own
 
 -- ---- what a connection is owed
 settles-own : (m : Mood) (w : RunState) (c d : ℕ) (outcomes : Outcomes) (treatings : List Treating) (came : List ℕ) (sent : List Sending) (notes : List Note) → Held w c came sent → Numbered w → Own w c outcomes treatings came sent → Settles m w d notes
@@ -82,7 +66,7 @@ settles-own m w c d outcomes treatings came sent notes held numbered own settles
 
 -- nothing is owed
 own-quiet : (w : RunState) (c : ℕ) (outcomes : Outcomes) (treatings : List Treating) (came : List ℕ) (sent : List Sending) → Own w c outcomes treatings came sent → Own w c outcomes (treatings ++ []) (came ++ []) (sent ++ [])
-own-quiet w c outcomes treatings came sent own = own-later w c outcomes (treatings ++ []) came [] (sent ++ []) (own-as w c outcomes treatings (treatings ++ []) came sent (sent ++ []) (sym (append-nil treatings)) (sym (append-nil sent)) own)
+own-quiet w c outcomes treatings came sent own = own-came w c outcomes (treatings ++ []) came [] (sent ++ []) refl (own-as w c outcomes treatings (treatings ++ []) came sent (sent ++ []) (sym (append-nil treatings)) (sym (append-nil sent)) own)
 
 -- ---- events
 abbrev pub then_treated : ℕ → List Treating → Event → Step → List Treating
@@ -91,10 +75,10 @@ then_treated c treatings e s = if opens_connection c s e.body then [] else treat
 abbrev OwnBy : RunState → Event → ℕ → Outcomes → List Treating → List ℕ → List Sending → Step → Type 0
 OwnBy v e c outcomes treatings came sent s = Own (afters v e.body) c outcomes (then_treated c treatings e s) (then_came c came e s) (then_sent c sent e s)
 
-idle-own : (m : Mood) (v : RunState) (c : ℕ) (outcomes : Outcomes) (treatings : List Treating) (came more : List ℕ) (sent : List Sending) (notes : List Note) → Own v c outcomes treatings came sent → notes ≡ Idle ∷ []
+idle-own : (m : Mood) (v : RunState) (c : ℕ) (outcomes : Outcomes) (treatings : List Treating) (came more : List ℕ) (sent : List Sending) (notes : List Note) → Own v c outcomes treatings came sent → more ≡ [] → notes ≡ Idle ∷ []
     → Own (afters v notes) c outcomes (treatings ++ treated_in c notes) (came ++ more) (sent ++ sent_in c m notes)
-idle-own m v c outcomes treatings came more sent notes own is =
-    rw is (own-later v c outcomes (treatings ++ []) came more (sent ++ []) (own-as v c outcomes treatings (treatings ++ []) came sent (sent ++ []) (sym (append-nil treatings)) (sym (append-nil sent)) own))
+idle-own m v c outcomes treatings came more sent notes own none is =
+    rw is (own-came v c outcomes (treatings ++ []) came more (sent ++ []) none (own-as v c outcomes treatings (treatings ++ []) came sent (sent ++ []) (sym (append-nil treatings)) (sym (append-nil sent)) own))
 
 opened-own : (w : RunState) (e : Event) (c d : ℕ) (peer : List ℕ) (outcomes : Outcomes) (treatings : List Treating) (came : List ℕ) (sent : List Sending) (at : Option Connection) → Own w c outcomes treatings came sent → e.body ≡ opening d w.lines at
     → OwnBy (opened w d peer at) e c outcomes treatings came sent (step.Opened d peer)
@@ -125,8 +109,8 @@ opened-own w e c d peer outcomes treatings came sent None own is = by_room (nat_
     by_room false is = free is
 
 piece-own : (w : RunState) (e : Event) (c d : ℕ) (bytes : List ℕ) (outcomes : Outcomes) (treatings : List Treating) (came : List ℕ) (sent : List Sending) (at : Option Connection) → w.line d ≡ at → Kept w c came sent → Own w c outcomes treatings came sent
-    → PieceTo w e d bytes at → Own (afters (on_line w d (fed bytes e.turns e.ends)) e.body) c outcomes (treatings ++ treated_in c e.body) (came ++ brought_by c (step.Piece d bytes)) (sent ++ sent_in c e.mood e.body)
-piece-own w e c d bytes outcomes treatings came sent None line kept own is = idle-own e.mood v c outcomes treatings came (brought_by c (step.Piece d bytes)) sent e.body now is
+    → PieceTo w e d bytes at → Own (afters (on_line w d (fed bytes e.turns e.ends)) e.body) c outcomes (treatings ++ treated_in c e.body) (came ++ brought_by c (step.Piece d bytes) e.body) (sent ++ sent_in c e.mood e.body)
+piece-own w e c d bytes outcomes treatings came sent None line kept own is = idle-own e.mood v c outcomes treatings came (brought_by c (step.Piece d bytes) e.body) sent e.body now (piece-idle c d bytes e.body is) is
   where
     v : RunState
     v = on_line w d (fed bytes e.turns e.ends)
@@ -140,32 +124,37 @@ piece-own w e c d bytes outcomes treatings came sent None line kept own is = idl
     now : Own v c outcomes treatings came sent
     now = own-moved w v c outcomes outcomes treatings came sent same (moved-same w.air (flights_asked w.log.entries) outcomes own.air_is) own
 piece-own w e c d bytes outcomes treatings came sent (Some k) line kept own feeds =
-    settles-own e.mood v c d outcomes treatings all sent e.body (piece-read w e c d bytes came sent k line feeds.spells kept.held) kept.numbered (own-later v c outcomes treatings came (brought_by c (step.Piece d bytes)) sent (⊎_elim here apart (cases_eq d c))) feeds.settles
+    settles-own e.mood v c d outcomes treatings all sent e.body (piece-read w e c d bytes came sent k busy line feeds.spells kept.held) kept.numbered (⊎_elim here apart (cases_eq d c)) feeds.settles
   where
     v : RunState
     v = on_line w d (fed bytes e.turns e.ends)
 
     all : List ℕ
-    all = came ++ brought_by c (step.Piece d bytes)
+    all = came ++ brought_by c (step.Piece d bytes) e.body
+
+    busy : list_any is_idle e.body ≡ false
+    busy = serves-busy e.mood v d e.body feeds.settles.serves
 
     moves : Moves w outcomes v outcomes
     moves = moved-same w.air (flights_asked w.log.entries) outcomes own.air_is
 
-    here : d ≡ c → Own v c outcomes treatings came sent
+    here : d ≡ c → Own v c outcomes treatings all sent
     here x =
         let now : v.line d ≡ Some (fed bytes e.turns e.ends k) = update_here w.line d _ ∙ ap (option_map (fed bytes e.turns e.ends)) line in
         let before : Owns w outcomes treatings k = own.here k (sym (ap w.line x) ∙ line) in
         let fed_owns : Owns w outcomes treatings (fed bytes e.turns e.ends k) = owns-fed w outcomes treatings bytes e.turns e.ends k before in
         let owns : Owns v outcomes treatings (fed bytes e.turns e.ends k) = record { each = fed_owns.each; room = fed_owns.room } in
-        own-one v c outcomes treatings came sent (fed bytes e.turns e.ends k) (subst (λ y. v.line y ≡ Some (fed bytes e.turns e.ends k)) x now) owns own.air_is
+        own-one v c outcomes treatings all sent (fed bytes e.turns e.ends k) (subst (λ y. v.line y ≡ Some (fed bytes e.turns e.ends k)) x now) owns own.air_is
 
-    apart : d ≢ c → Own v c outcomes treatings came sent
-    apart other = own-moved w v c outcomes outcomes treatings came sent (update_apart w.line d _ c (λ x. other (sym x))) moves own
+    apart : d ≢ c → Own v c outcomes treatings all sent
+    apart other =
+        let test : nat_eq d c ≡ false = ne_eqb d c other in
+        own-came v c outcomes treatings came (brought_by c (step.Piece d bytes) e.body) sent (rw (busy, test) refl) (own-moved w v c outcomes outcomes treatings came sent (update_apart w.line d _ c (λ x. other (sym x))) moves own)
 
 gone-own : (w : RunState) (e : Event) (c d : ℕ) (outcomes : Outcomes) (treatings : List Treating) (came : List ℕ) (sent : List Sending) (at : Option Connection) → w.line d ≡ at → Kept w c came sent → Own w c outcomes treatings came sent → e.body ≡ going at
     → Own (afters (gone w d at) e.body) c outcomes (treatings ++ treated_in c e.body) (came ++ []) (sent ++ sent_in c e.mood e.body)
-gone-own w e c d outcomes treatings came sent None line kept own is = idle-own e.mood w c outcomes treatings came [] sent e.body own is
-gone-own w e c d outcomes treatings came sent (Some k) line kept own is = rw is (own-later v c outcomes (treatings ++ []) came [] (sent ++ []) (⊎_elim same apart (cases_eq d c)))
+gone-own w e c d outcomes treatings came sent None line kept own is = idle-own e.mood w c outcomes treatings came [] sent e.body own refl is
+gone-own w e c d outcomes treatings came sent (Some k) line kept own is = rw is (own-came v c outcomes (treatings ++ []) came [] (sent ++ []) refl (⊎_elim same apart (cases_eq d c)))
   where
     v : RunState
     v = record w { line = update nat_eq w.line d None; lines = w.lines - 1 }
@@ -176,7 +165,7 @@ gone-own w e c d outcomes treatings came sent (Some k) line kept own is = rw is 
         let open_ : w.line c ≡ Some k = sym (ap w.line x) ∙ line in
         let idle : connection.due k ≡ connection.Nothing = kept.still k open_ in
         let past = past-as k came sent (sent ++ []) (sym (append-nil sent)) (kept.held.here k open_) in
-        let last : Last came (sent ++ []) = record { last = k; came_then = came; later = []; past = past; came_is = sym (append-nil came); still = λ slot e. let no : ⊥ = cc in no } in
+        let last : Last came (sent ++ []) = last-now k came (sent ++ []) past (λ slot e. let no : ⊥ = cc in no) in
         own-none v c outcomes (treatings ++ []) came (sent ++ []) none (last-owns w outcomes treatings came (sent ++ []) k last refl (own.here k open_)) own.air_is
 
     apart : d ≢ c → Own v c outcomes (treatings ++ []) came (sent ++ [])
@@ -198,7 +187,7 @@ leads-own m w first c outcomes all treatings came sent f answer entry notes kept
     let state : afters v leads.rest ≡ afters w notes = sym (ap (afters w) leads.begins ∙ ap (λ u. afters u leads.rest) is) in
     let told : sent_in c m leads.rest ≡ sent_in c m notes = ap (λ xs. xs ++ sent_in c m leads.rest) (sym unsent) ∙ sym (ap (sent_in c m) leads.begins) in
     let asked : treated_in c leads.rest ≡ treated_in c notes = ap (λ xs. xs ++ treated_in c leads.rest) (sym untreated) ∙ sym (ap (treated_in c) leads.begins) in
-    own-later (afters w notes) c all (treatings ++ treated_in c notes) came [] (sent ++ sent_in c m notes)
+    own-came (afters w notes) c all (treatings ++ treated_in c notes) came [] (sent ++ sent_in c m notes) refl
     (subst (λ u. Own u c all (treatings ++ treated_in c notes) came (sent ++ sent_in c m notes)) state
     (own-as (afters v leads.rest) c all (treatings ++ treated_in c leads.rest) (treatings ++ treated_in c notes) came (sent ++ sent_in c m leads.rest) (sent ++ sent_in c m notes) (ap (λ xs. treatings ++ xs) asked) (ap (λ xs. sent ++ xs) told) done))
   where
@@ -225,7 +214,7 @@ leads-own m w first c outcomes all treatings came sent f answer entry notes kept
 
 deliver-own : (w : RunState) (e : Event) (c : ℕ) (outcomes : Outcomes) (treatings : List Treating) (came : List ℕ) (sent : List Sending) (f : Flying) (answer : Option Answer) → f.rendered ≡ answer → flight_at f.number w.air ≡ Some f → Kept w c came sent
     → Own w c outcomes treatings came sent → DeliverAs w e f answer → Own (afters w e.body) c outcomes (treatings ++ treated_in c e.body) (came ++ []) (sent ++ sent_in c e.mood e.body)
-deliver-own w e c outcomes treatings came sent f None has there kept own is = idle-own e.mood w c outcomes treatings came [] sent e.body own is
+deliver-own w e c outcomes treatings came sent f None has there kept own is = idle-own e.mood w c outcomes treatings came [] sent e.body own refl is
 deliver-own w e c outcomes treatings came sent f (Some answer) has there kept own to =
     let leads : LeadsNotes w e.mood (Passed f.number) f.line e.body = subst (λ note. LeadsNotes w e.mood note f.line e.body) to.1 to.2 in
     leads-own e.mood w (Passed f.number) c outcomes outcomes treatings came sent f (answer_in (flight_at f.number w.air)) _ e.body kept own (ap (over_with w f.number _ _) there) refl refl refl
@@ -242,7 +231,7 @@ deliver-own w e c outcomes treatings came sent f (Some answer) has there kept ow
 
 delivers-own : (w : RunState) (e : Event) (c : ℕ) (outcomes : Outcomes) (treatings : List Treating) (came : List ℕ) (sent : List Sending) (flying : Option Flying) → ((f : Flying) → flying ≡ Some f → flight_at f.number w.air ≡ Some f) → Kept w c came sent
     → Own w c outcomes treatings came sent → DeliverTo w e flying → Own (afters w e.body) c outcomes (treatings ++ treated_in c e.body) (came ++ []) (sent ++ sent_in c e.mood e.body)
-delivers-own w e c outcomes treatings came sent None there kept own is = idle-own e.mood w c outcomes treatings came [] sent e.body own is
+delivers-own w e c outcomes treatings came sent None there kept own is = idle-own e.mood w c outcomes treatings came [] sent e.body own refl is
 delivers-own w e c outcomes treatings came sent (Some f) there kept own to = deliver-own w e c outcomes treatings came sent f f.rendered refl (there f refl) kept own to
 
 renders-none : (outcomes : Outcomes) → with_renders outcomes [] ≡ outcomes
@@ -256,7 +245,7 @@ loses-own : (w : RunState) (e : Event) (c : ℕ) (outcomes : Outcomes) (treating
     → Own w c outcomes treatings came sent → LoseTo w e flying → Own (afters w e.body) c (with_losses outcomes (lost_in e.body)) (treatings ++ treated_in c e.body) (came ++ []) (sent ++ sent_in c e.mood e.body)
 loses-own w e c outcomes treatings came sent None there kept own is =
     let none : with_losses outcomes (lost_in e.body) ≡ outcomes = ap (λ notes. with_losses outcomes (lost_in notes)) is ∙ losses-none outcomes in
-    subst (λ os. Own (afters w e.body) c os (treatings ++ treated_in c e.body) (came ++ []) (sent ++ sent_in c e.mood e.body)) (sym none) (idle-own e.mood w c outcomes treatings came [] sent e.body own is)
+    subst (λ os. Own (afters w e.body) c os (treatings ++ treated_in c e.body) (came ++ []) (sent ++ sent_in c e.mood e.body)) (sym none) (idle-own e.mood w c outcomes treatings came [] sent e.body own refl is)
 loses-own w e c outcomes treatings came sent (Some f) there kept own to =
     let at = there f refl in
     let all : Outcomes = with_losses outcomes (f.number ∷ []) in
@@ -272,7 +261,7 @@ render-own : (w : RunState) (e : Event) (c : ℕ) (outcomes : Outcomes) (treatin
     → Own w c outcomes treatings came sent → RenderTo w e flying → Own (afters w e.body) c (with_renders outcomes (renders_in w e.mood.dry e.body)) (treatings ++ treated_in c e.body) (came ++ []) (sent ++ sent_in c e.mood e.body)
 render-own w e c outcomes treatings came sent None there own is =
     let none : with_renders outcomes (renders_in w e.mood.dry e.body) ≡ outcomes = ap (λ notes. with_renders outcomes (renders_in w e.mood.dry notes)) is ∙ renders-none outcomes in
-    subst (λ rs. Own (afters w e.body) c rs (treatings ++ treated_in c e.body) (came ++ []) (sent ++ sent_in c e.mood e.body)) (sym none) (idle-own e.mood w c outcomes treatings came [] sent e.body own is)
+    subst (λ rs. Own (afters w e.body) c rs (treatings ++ treated_in c e.body) (came ++ []) (sent ++ sent_in c e.mood e.body)) (sym none) (idle-own e.mood w c outcomes treatings came [] sent e.body own refl is)
 render-own w e c outcomes treatings came sent (Some f) there own to =
     let at = there f refl in
     let told : renders_in w e.mood.dry (Rendered f.number to.0 ∷ []) ≡ record { number = f.number; request = f.request; answer = to.0; dry = e.mood.dry } ∷ [] = ap (λ o. rendering_of to.0 e.mood.dry o ++ []) at in
@@ -348,7 +337,7 @@ start-own : (publishing : Publishing) (farm : Farm) (content : Content) (c : ℕ
 start-own publishing farm content c = record {
   here = λ d some. absurd (let no : ⊥ = cc in no);
   over = λ none. record {
-    last = record { last = fresh []; came_then = []; later = []; past = past-fresh []; came_is = refl; still = λ slot e. let no : ⊥ = cc in no };
+    last = last-now (fresh []) [] [] (past-fresh []) (λ slot e. let no : ⊥ = cc in no);
     each = refl;
   };
   air_is = record { rendered = λ n f answer there has. absurd (let no : ⊥ = cc in no); lost = λ n was. absurd (none-lost n was) };
@@ -358,34 +347,15 @@ start-own publishing farm content c = record {
 own-answers : InOrder → OfTurns → (w : RunState) (c : ℕ) (outcomes : Outcomes) (treatings : List Treating) (came : List ℕ) (sent : List Sending) (line : Option Connection) → w.line c ≡ line → Kept w c came sent → Own w c outcomes treatings came sent
     → AreOwnAnswers outcomes treatings came sent
 own-answers order turns w c outcomes treatings came sent (Some d) is kept own =
-    let past = kept.held.here d is in
-    let still = idle-still d (kept.still d is) in
     record {
-      what = record {
-        stream = d.stream;
-        rest = past.unread;
-        came_is = past.came_is;
-        answers = record { turns = d.turns; ends = d.ends; slots = d.slots; spells = past.spells; of_turns = turns-past turns d came sent past; answers = answers-past order d came sent past still };
-      };
+      what = what-past order turns d came sent (kept.held.here d is) (idle-still d (kept.still d is));
       own = each-map (IsOfAir w.air (flights_asked w.log.entries) outcomes) (IsOfRequest outcomes) (of-request w.air (flights_asked w.log.entries) outcomes) treatings d.turns d.slots (own.here d is).each;
     }
 own-answers order turns w c outcomes treatings came sent None is kept own =
     let was = own.over is in
     let last = was.last in
     record {
-      what = record {
-        stream = last.last.stream;
-        rest = last.past.unread ++ last.later;
-        came_is = last.came_is ∙ ap (λ xs. xs ++ last.later) last.past.came_is ∙ append_assoc last.last.stream last.past.unread last.later;
-        answers = record {
-          turns = last.last.turns;
-          ends = last.last.ends;
-          slots = last.last.slots;
-          spells = last.past.spells;
-          of_turns = turns-past turns last.last last.came_then sent last.past;
-          answers = answers-past order last.last last.came_then sent last.past last.still;
-        };
-      };
+      what = what-past order turns last.last came sent last.past last.still;
       own = each-map (IsOfAir w.air (flights_asked w.log.entries) outcomes) (IsOfRequest outcomes) (of-request w.air (flights_asked w.log.entries) outcomes) treatings last.last.turns last.last.slots was.each;
     }
 

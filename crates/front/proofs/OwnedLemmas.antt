@@ -25,7 +25,7 @@ use Rattle.front.specs.States.{RunState, flights_asked}
 use Rattle.front.proofs.AirLemmas.{Agrees, IsAskedFor, IsOfAir, IsOver, Moved, air-moved, asked-new, moved-asked, moved-same, moved-then}
 use Rattle.front.proofs.EachLemmas.{each-fault, each-filled, each-interim, each-map, each-more, each-push, length-filled, local-answered, some-within}
 use Rattle.front.proofs.HistoryLemmas.{Held, Numbered, gives-numbered, line-held}
-use Rattle.front.proofs.PastLemmas.{Last, longer, past-as}
+use Rattle.front.proofs.PastLemmas.{Last, last-now, longer, past-as}
 
 -- ---- what is due of the turns
 abbrev IsOfStream : Due → Type 0
@@ -229,7 +229,7 @@ shut-owns : (w : RunState) (c : ℕ) (d : Connection) (outcomes : Outcomes) (tre
     → Own (state_after_note w (Shut c)) c outcomes (treatings ++ []) came (sent ++ [])
 shut-owns w c d outcomes treatings came sent is owed held own =
     let past = past-as d came sent (sent ++ []) (sym (append-nil sent)) (held.here d is) in
-    let last : Last came (sent ++ []) = record { last = d; came_then = came; later = []; past = past; came_is = sym (append-nil came); still = λ slot e. let no : ⊥ = cc in no } in
+    let last : Last came (sent ++ []) = last-now d came (sent ++ []) past (λ slot e. let no : ⊥ = cc in no) in
     own-none (state_after_note w (Shut c)) c outcomes (treatings ++ []) came (sent ++ []) (update_here w.line c None) (last-owns w outcomes treatings came (sent ++ []) d last refl (own.here d is)) own.air_is
 
 gives-owns : (m : Mood) (w : RunState) (c : ℕ) (d : Connection) (outcomes : Outcomes) (treatings : List Treating) (came : List ℕ) (sent : List Sending) (owed : Due) (note : Note) → w.line c ≡ Some d → connection.due d ≡ owed → Held w c came sent → Numbered w

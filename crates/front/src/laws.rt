@@ -25,7 +25,8 @@ pub fn events_extend()
 /// Whatever happens: what was sent on an open connection since it was opened answers its slots in their order, each once, up to the
 /// first that waits for a flight, and nothing after one that closes it; its slots are those of the turns of its stream, in their
 /// order, and after them that of the stream's fault, with its status; and unless it is closing, its stream is all that came, and each turn of it has its slot (RFC 9112, section 9.3). On a
-/// connection that is shut or gone, too, what was sent answers what came, or a prefix of it.
+/// connection that is shut or gone, too, what was sent answers what came while it was there, or, only where a slot closes it, a prefix
+/// of that.
 pub fn connections_are_answered_in_order()
     ensures answers { (publishing : Publishing) (farm : models.Farm) (content : Content) (events : List Event) (c : ℕ) (connection : Connection) → Run (start_of publishing farm content) events
         → (state_after_events (start_of publishing farm content) events).line c ≡ Some connection → AnswersRun connection.slots (sent_since_opened c events) }

@@ -1,5 +1,5 @@
 -- Which request a flight in the air is for, and what was rendered for it.
-use Rattle.std.proofs.Common.{◌≡◌, ◌≢◌, ℕ, ◌+◌, ◌<◌, ◌≤◌, ◌++◌, Bool, true, false, List, [], ◌∷◌, Option, Some, None, map, refl, ap, sym, subst, ◌∙◌, arith, inl, inr, ⊎_elim, append_assoc}
+use Rattle.std.proofs.Common.{◌≡◌, ◌≢◌, ℕ, ◌+◌, ◌<◌, ◌≤◌, ◌++◌, Bool, true, false, List, [], ◌∷◌, Option, Some, None, length, map, refl, ap, sym, subst, ◌∙◌, arith, inl, inr, ⊎_elim, append_assoc, length-append}
 use Rattle.std.specs.Prelude.{nat_eq, if◌then◌else◌}
 use Rattle.std.specs.Option.{option_map}
 use Rattle.std.proofs.lemmas.Bool.{cases_eq, ne_eqb}
@@ -9,7 +9,7 @@ use Rattle.connections.specs.Slots.{Awaits, Fixed, Interim, Response, Says}
 use Rattle.front.specs.declared.flying.Flying.{Flying}
 use Rattle.front.specs.Boards.{AreRising}
 use Rattle.front.specs.Moves.{flight_at, new_flight, with_rendered, with_rendered_at, without}
-use Rattle.front.specs.Owned.{IsOfFlight, IsOfRequest, Outcomes, WasLost, WasRendered}
+use Rattle.front.specs.Owned.{ByFlight, ByStatus, IsOfFlight, IsOfRequest, Outcomes, Treating, WasLost, WasRendered}
 use Rattle.front.specs.Renders.{Rendering}
 use Rattle.front.proofs.SkyLemmas.{found-passes}
 
@@ -45,6 +45,10 @@ at-new n (f ∷ air) g none is = by_test (nat_eq f.number n) refl (at-new n air 
         let left : flight_at n air ≡ None = rw e at none in
         rw e (rest left is)
 
+rising-most : (least : ℕ) (air : List Flying) (most : ℕ) → AreRising least air most → least ≤ most
+rising-most least [] most rising = rising
+rising-most least (g ∷ air) most rising = omega (arith, rising.0, rising-most g.number air most rising.1)
+
 at-none : (n least : ℕ) (air : List Flying) (most : ℕ) → AreRising least air most → most < n → flight_at n air ≡ None
 at-none n least [] most rising above = refl
 at-none n least (f ∷ air) most rising above =
@@ -52,10 +56,17 @@ at-none n least (f ∷ air) most rising above =
     let no : nat_eq f.number n ≡ false = grind (arith, under, above) in
     let rest = at-none n f.number air most rising.1 above in
     rw no rest
+
+-- as many were asked as its number says, or more
+pub at-within : (n least : ℕ) (air : List Flying) (most : ℕ) (f : Flying) → AreRising least air most → flight_at n air ≡ Some f → n ≤ most
+at-within n least [] most f rising there = absurd (let no : ⊥ = cc in no)
+at-within n least (g ∷ air) most f rising there = by_test (nat_eq g.number n) refl (at-within n g.number air most f rising.1)
   where
-    rising-most : (least : ℕ) (air : List Flying) (most : ℕ) → AreRising least air most → least ≤ most
-    rising-most least [] most rising = rising
-    rising-most least (g ∷ air) most rising = omega (arith, rising.0, rising-most g.number air most rising.1)
+    by_test : (b : Bool) → nat_eq g.number n ≡ b → (flight_at n air ≡ Some f → n ≤ most) → n ≤ most
+    by_test true e rest =
+        let same : g.number ≡ n = grind (arith, e) in
+        omega (arith, same, rising-most g.number air most rising.1)
+    by_test false e rest = rest (rw e at there)
 
 at-without-other : (n m : ℕ) (air : List Flying) → n ≢ m → flight_at n (without m air) ≡ flight_at n air
 at-without-other n m [] apart = refl
@@ -124,9 +135,22 @@ pub record IsAskedFor (air : List Flying) (most n : ℕ) (request : Req) : Type 
   pub within : n ≤ most
   pub same : (f : Flying) → flight_at n air ≡ Some f → f.request ≡ request
 
--- each flight that is rendered has what was rendered for it
-abbrev pub AreRendered : Outcomes → List Flying → Type 0
-AreRendered outcomes air = (n : ℕ) (f : Flying) (answer : Answer) → flight_at n air ≡ Some f → f.rendered ≡ Some answer → WasRendered outcomes.renders n f.request answer
+-- the flight with this number was asked, and is out of the air
+pub record IsOver (air : List Flying) (most n : ℕ) : Type 0 where
+  pub within : n ≤ most
+  pub out : flight_at n air ≡ None
+
+-- each flight in the air that is rendered has what was rendered for it, and each that was lost is out of the air
+pub record Agrees (outcomes : Outcomes) (air : List Flying) (most : ℕ) : Type 0 where
+  pub rendered : (n : ℕ) (f : Flying) (answer : Answer) → flight_at n air ≡ Some f → f.rendered ≡ Some answer → WasRendered outcomes.renders n f.request answer
+  pub lost : (n : ℕ) → WasLost outcomes.losses n → IsOver air most n
+
+-- a flight in the air was not lost
+pub flying-unlost : (outcomes : Outcomes) (air : List Flying) (most n : ℕ) (f : Flying) → Agrees outcomes air most → flight_at n air ≡ Some f → WasLost outcomes.losses n → ⊥
+flying-unlost outcomes air most n f are there was =
+    let out = (are.lost n was).out in
+    let no : ⊥ = cc in
+    no
 
 pub later-rendered : (renders more : List Rendering) (n : ℕ) (request : Req) (answer : Answer) → WasRendered renders n request answer → WasRendered (renders ++ more) n request answer
 later-rendered renders more n request answer was = record {
@@ -138,6 +162,24 @@ later-rendered renders more n request answer was = record {
 
 pub later-lost : (losses more : List ℕ) (n : ℕ) → WasLost losses n → WasLost (losses ++ more) n
 later-lost losses more n was = record { before = was.before; later = was.later ++ more; is = ap (λ xs. xs ++ more) was.is ∙ append_assoc was.before (n ∷ was.later) more }
+
+pub none-lost : (n : ℕ) → WasLost [] n → ⊥
+none-lost n was = omega (arith, ap length was.is, length-append was.before (n ∷ was.later))
+
+-- what was lost but for the last
+lost-before : (losses : List ℕ) (n k : ℕ) → n ≢ k → WasLost (losses ++ n ∷ []) k → WasLost losses k
+lost-before losses n k apart was = by_before losses was.before was.is
+  where
+    by_before : (losses before : List ℕ) → losses ++ n ∷ [] ≡ before ++ k ∷ was.later → WasLost losses k
+    by_before [] [] is = absurd (apart (let same : n ≡ k = cc in same))
+    by_before [] (b ∷ before) is = absurd (omega (arith, ap length is, length-append before (k ∷ was.later)))
+    by_before (x ∷ losses) [] is =
+        let same : x ≡ k = cc in
+        record { before = []; later = losses; is = ap (λ y. y ∷ losses) same }
+    by_before (x ∷ losses) (b ∷ before) is =
+        let tail : losses ++ n ∷ [] ≡ before ++ k ∷ was.later = cc in
+        let rest = by_before losses before tail in
+        record { before = x ∷ rest.before; later = rest.later; is = ap (λ ys. x ∷ ys) rest.is }
 
 -- what was rendered or lost stays so
 pub record AreMore (outcomes all : Outcomes) : Type 0 where
@@ -154,23 +196,28 @@ abbrev pub with_losses : Outcomes → List ℕ → Outcomes
 with_losses outcomes more = record { renders = outcomes.renders; losses = outcomes.losses ++ more }
 
 -- ---- what notes do to flights
--- what was asked for a request is so still, and each flight that is rendered has what was rendered for it
+-- what was asked for a request is so still, a flight that is out of the air stays so and isn't lost any more, and the outcomes agree
+-- with the air
 pub record Moved (air : List Flying) (most : ℕ) (outcomes : Outcomes) (next : List Flying) (now : ℕ) (all : Outcomes) : Type 0 where
   pub asked : (n : ℕ) (request : Req) → IsAskedFor air most n request → IsAskedFor next now n request
   pub grown : AreMore outcomes all
-  pub air_is : AreRendered all next
+  pub over : (n : ℕ) → IsOver air most n → IsOver next now n
+  pub unlost : (n : ℕ) → IsOver air most n → WasLost all.losses n → WasLost outcomes.losses n
+  pub air_is : Agrees all next now
 
-pub moved-same : (air : List Flying) (most : ℕ) (outcomes : Outcomes) → AreRendered outcomes air → Moved air most outcomes air most outcomes
-moved-same air most outcomes are = record { asked = λ n request is. is; grown = more-same outcomes; air_is = are }
+pub moved-same : (air : List Flying) (most : ℕ) (outcomes : Outcomes) → Agrees outcomes air most → Moved air most outcomes air most outcomes
+moved-same air most outcomes are = record { asked = λ n request is. is; grown = more-same outcomes; over = λ n is. is; unlost = λ n is was. was; air_is = are }
 
 pub moved-then : (a b c : List Flying) (i j k : ℕ) (x y z : Outcomes) → Moved a i x b j y → Moved b j y c k z → Moved a i x c k z
 moved-then a b c i j k x y z first next = record {
   asked = λ n request is. next.asked n request (first.asked n request is);
   grown = record { rendered = λ n request answer was. next.grown.rendered n request answer (first.grown.rendered n request answer was); lost = λ n was. next.grown.lost n (first.grown.lost n was) };
+  over = λ n is. next.over n (first.over n is);
+  unlost = λ n is was. first.unlost n is (next.unlost n (first.over n is) was);
   air_is = next.air_is;
 }
 
-pub moved-asked : (air : List Flying) (most c : ℕ) (request : Req) (outcomes : Outcomes) → AreRising 0 air most → AreRendered outcomes air → Moved air most outcomes (air ++ new_flight (most + 1) c request ∷ []) (most + 1) outcomes
+pub moved-asked : (air : List Flying) (most c : ℕ) (request : Req) (outcomes : Outcomes) → AreRising 0 air most → Agrees outcomes air most → Moved air most outcomes (air ++ new_flight (most + 1) c request ∷ []) (most + 1) outcomes
 moved-asked air most c request outcomes rising are = record {
   asked = λ n other is. record {
     within = omega (arith, is.within);
@@ -180,11 +227,19 @@ moved-asked air most c request outcomes rising are = record {
         is.same f (sym (at-push n air (new_flight (most + 1) c request) no) ∙ there);
   };
   grown = more-same outcomes;
-  air_is = λ n f answer there has. ⊎_elim (fresh n f answer there has) (old n f answer there has) (cases_eq (most + 1) n);
+  over = still;
+  unlost = λ n is was. was;
+  air_is = record { rendered = λ n f answer there has. ⊎_elim (fresh n f answer there has) (old n f answer there has) (cases_eq (most + 1) n); lost = λ n was. still n (are.lost n was) };
 }
   where
+    still : (n : ℕ) → IsOver air most n → IsOver (air ++ new_flight (most + 1) c request ∷ []) (most + 1) n
+    still n is =
+        let below = is.within in
+        let no : nat_eq (most + 1) n ≡ false = grind (arith, below) in
+        record { within = omega (arith, below); out = at-push n air (new_flight (most + 1) c request) no ∙ is.out }
+
     old : (n : ℕ) (f : Flying) (answer : Answer) → flight_at n (air ++ new_flight (most + 1) c request ∷ []) ≡ Some f → f.rendered ≡ Some answer → (most + 1) ≢ n → WasRendered outcomes.renders n f.request answer
-    old n f answer there has apart = are n f answer (sym (at-push n air (new_flight (most + 1) c request) (ne_eqb (most + 1) n apart)) ∙ there) has
+    old n f answer there has apart = are.rendered n f answer (sym (at-push n air (new_flight (most + 1) c request) (ne_eqb (most + 1) n apart)) ∙ there) has
 
     fresh : (n : ℕ) (f : Flying) (answer : Answer) → flight_at n (air ++ new_flight (most + 1) c request ∷ []) ≡ Some f → f.rendered ≡ Some answer → (most + 1) ≡ n → WasRendered outcomes.renders n f.request answer
     fresh n f answer there has same =
@@ -206,16 +261,42 @@ asked-new air most c request rising = record {
       ap (λ (g : Flying). g.request) (sym eq);
 }
 
-pub moved-over : (air : List Flying) (most n : ℕ) (outcomes : Outcomes) → AreRendered outcomes air → Moved air most outcomes (without n air) most outcomes
+over-without : (air : List Flying) (most n k : ℕ) → IsOver air most k → IsOver (without n air) most k
+over-without air most n k is = record { within = is.within; out = ⊎_elim (λ same. subst (λ i. flight_at i (without n air) ≡ None) same (at-without-same n air)) (λ apart. at-without-other k n air (λ e. apart (sym e)) ∙ is.out) (cases_eq n k) }
+
+-- a flight that was asked is out of the air
+pub over-now : (air : List Flying) (most n : ℕ) → n ≤ most → IsOver (without n air) most n
+over-now air most n within = record { within = within; out = at-without-same n air }
+
+-- a flight has landed
+pub moved-over : (air : List Flying) (most n : ℕ) (outcomes : Outcomes) → Agrees outcomes air most → Moved air most outcomes (without n air) most outcomes
 moved-over air most n outcomes are = record {
   asked = λ k request is. record { within = is.within; same = λ f there. is.same f (at-without k n air f there) };
   grown = more-same outcomes;
-  air_is = λ k f answer there has. are k f answer (at-without k n air f there) has;
+  over = over-without air most n;
+  unlost = λ k is was. was;
+  air_is = record { rendered = λ k f answer there has. are.rendered k f answer (at-without k n air f there) has; lost = λ k was. over-without air most n k (are.lost k was) };
 }
 
--- more flights are known to be lost
-pub moved-lost : (air : List Flying) (most : ℕ) (outcomes : Outcomes) (more : List ℕ) → AreRendered outcomes air → Moved air most outcomes air most (with_losses outcomes more)
-moved-lost air most outcomes more are = record { asked = λ n request is. is; grown = record { rendered = λ n request answer was. was; lost = later-lost outcomes.losses more }; air_is = are }
+-- a flight is lost
+pub moved-lost : (air : List Flying) (most n : ℕ) (f : Flying) (outcomes : Outcomes) → flight_at n air ≡ Some f → n ≤ most → Agrees outcomes air most → Moved air most outcomes (without n air) most (with_losses outcomes (n ∷ []))
+moved-lost air most n f outcomes here within are = record {
+  asked = λ k request is. record { within = is.within; same = λ g there. is.same g (at-without k n air g there) };
+  grown = record { rendered = λ k request answer was. was; lost = later-lost outcomes.losses (n ∷ []) };
+  over = over-without air most n;
+  unlost = λ k is was. lost-before outcomes.losses n k (λ same. flies k is same) was;
+  air_is = record {
+    rendered = λ k g answer there has. are.rendered k g answer (at-without k n air g there) has;
+    lost = λ k was. ⊎_elim (λ same. subst (IsOver (without n air) most) same (over-now air most n within)) (λ apart. over-without air most n k (are.lost k (lost-before outcomes.losses n k apart was))) (cases_eq n k);
+  };
+}
+  where
+    flies : (k : ℕ) → IsOver air most k → n ≡ k → ⊥
+    flies k is same =
+        let there : flight_at k air ≡ Some f = subst (λ i. flight_at i air ≡ Some f) same here in
+        let out = is.out in
+        let no : ⊥ = cc in
+        no
 
 -- ---- a flight is rendered
 some-map : {A B : Type 0} (g : A → B) (o : Option A) (b : B) → option_map g o ≡ Some b → (a : A) × (o ≡ Some a) × (g a ≡ b)
@@ -229,7 +310,7 @@ request-rendered m answer f = by_test (nat_eq f.number m)
     by_test true = refl
     by_test false = refl
 
-pub moved-rendered : (air : List Flying) (most : ℕ) (g : Flying) (answer : Answer) (dry : Bool) (outcomes : Outcomes) → flight_at g.number air ≡ Some g → AreRendered outcomes air
+pub moved-rendered : (air : List Flying) (most : ℕ) (g : Flying) (answer : Answer) (dry : Bool) (outcomes : Outcomes) → flight_at g.number air ≡ Some g → Agrees outcomes air most
     → Moved air most outcomes (map (with_rendered_at g.number answer) air) most (with_renders outcomes (record { number = g.number; request = g.request; answer = answer; dry = dry } ∷ []))
 moved-rendered air most g answer dry outcomes here are = record {
   asked = λ n request is. record {
@@ -239,11 +320,19 @@ moved-rendered air most g answer dry outcomes here are = record {
         ap (λ (h : Flying). h.request) (sym from.2) ∙ request-rendered g.number answer from.0 ∙ is.same from.0 from.1;
   };
   grown = record { rendered = later-rendered outcomes.renders (rendering ∷ []); lost = λ n was. was };
-  air_is = λ n f other there has.
-      let from = some-map (with_rendered_at g.number answer) (flight_at n air) f (sym (at-rendered n g.number answer air) ∙ there) in
-      by_number n f other from.0 from.1 from.2 has (nat_eq from.0.number g.number) refl;
+  over = still;
+  unlost = λ n is was. was;
+  air_is = record {
+    rendered = λ n f other there has.
+        let from = some-map (with_rendered_at g.number answer) (flight_at n air) f (sym (at-rendered n g.number answer air) ∙ there) in
+        by_number n f other from.0 from.1 from.2 has (nat_eq from.0.number g.number) refl;
+    lost = λ n was. still n (are.lost n was);
+  };
 }
   where
+    still : (n : ℕ) → IsOver air most n → IsOver (map (with_rendered_at g.number answer) air) most n
+    still n is = record { within = is.within; out = at-rendered n g.number answer air ∙ ap (option_map (with_rendered_at g.number answer)) is.out }
+
     rendering : Rendering
     rendering = record { number = g.number; request = g.request; answer = answer; dry = dry }
 
@@ -259,39 +348,32 @@ moved-rendered air most g answer dry outcomes here are = record {
         rw (number, request, sym given) (record { before = outcomes.renders; later = []; dry = dry; is = refl })
     by_number n f other h there is has false apart =
         let made : h ≡ f = rw apart at is in
-        let old : WasRendered outcomes.renders n h.request other = are n h other there (ap (λ (x : Flying). x.rendered) made ∙ has) in
+        let old : WasRendered outcomes.renders n h.request other = are.rendered n h other there (ap (λ (x : Flying). x.rendered) made ∙ has) in
         later-rendered outcomes.renders (rendering ∷ []) n f.request other (subst (λ (x : Flying). WasRendered outcomes.renders n x.request other) made old)
 
 -- ---- what answers a request, of the flights in the air
-abbrev pub IsOfAir : List Flying → ℕ → Outcomes → Option ℕ → Req → Response → Type 0
-IsOfAir air most outcomes None request response = IsOfRequest outcomes None request response
-IsOfAir air most outcomes (Some n) request Interim = ⊥
-IsOfAir air most outcomes (Some n) request Fixed = ⊥
-IsOfAir air most outcomes (Some n) request (Awaits m) = (m ≡ n) × IsAskedFor air most n request
-IsOfAir air most outcomes (Some n) request (Says answer) = IsOfFlight outcomes n request (Says answer)
+abbrev pub IsOfAir : List Flying → ℕ → Outcomes → Treating → Req → Response → Type 0
+IsOfAir air most outcomes (ByStatus status) request response = IsOfRequest outcomes (ByStatus status) request response
+IsOfAir air most outcomes (ByFlight n) request Interim = ⊥
+IsOfAir air most outcomes (ByFlight n) request Fixed = ⊥
+IsOfAir air most outcomes (ByFlight n) request (Awaits m) = (m ≡ n) × IsAskedFor air most n request
+IsOfAir air most outcomes (ByFlight n) request (Says answer) = IsOfFlight outcomes n request (Says answer) × IsOver air most n
 
-pub of-request : (air : List Flying) (most : ℕ) (outcomes : Outcomes) (flight : Option ℕ) (request : Req) (response : Response) → IsOfAir air most outcomes flight request response → IsOfRequest outcomes flight request response
-of-request air most outcomes None request response is = is
-of-request air most outcomes (Some n) request Interim is = absurd is
-of-request air most outcomes (Some n) request Fixed is = absurd is
-of-request air most outcomes (Some n) request (Awaits m) is = is.0
-of-request air most outcomes (Some n) request (Says answer) is = is
+pub of-request : (air : List Flying) (most : ℕ) (outcomes : Outcomes) (treating : Treating) (request : Req) (response : Response) → IsOfAir air most outcomes treating request response → IsOfRequest outcomes treating request response
+of-request air most outcomes (ByStatus status) request response is = is
+of-request air most outcomes (ByFlight n) request Interim is = absurd is
+of-request air most outcomes (ByFlight n) request Fixed is = absurd is
+of-request air most outcomes (ByFlight n) request (Awaits m) is = is.0
+of-request air most outcomes (ByFlight n) request (Says answer) is = is.0
 
-pub later-flight : (outcomes all : Outcomes) → AreMore outcomes all → (n : ℕ) (request : Req) (response : Response) → IsOfFlight outcomes n request response → IsOfFlight all n request response
-later-flight outcomes all more n request Interim is = absurd is
-later-flight outcomes all more n request Fixed is = absurd is
-later-flight outcomes all more n request (Awaits m) is = is
-later-flight outcomes all more n request (Says answer) (inl was) = inl (more.rendered n request answer was)
-later-flight outcomes all more n request (Says answer) (inr lost) = inr (more.lost n lost.0, lost.1)
+later-said : (outcomes all : Outcomes) (n : ℕ) (request : Req) (answer : Answer) → AreMore outcomes all → (WasLost all.losses n → WasLost outcomes.losses n) → IsOfFlight outcomes n request (Says answer) → IsOfFlight all n request (Says answer)
+later-said outcomes all n request answer more unlost (inl was) = inl (more.rendered n request answer was.0, λ lost. was.1 (unlost lost))
+later-said outcomes all n request answer more unlost (inr lost) = inr (more.lost n lost.0, lost.1)
 
-pub later-request : (outcomes all : Outcomes) → AreMore outcomes all → (flight : Option ℕ) (request : Req) (response : Response) → IsOfRequest outcomes flight request response → IsOfRequest all flight request response
-later-request outcomes all more None request response is = is
-later-request outcomes all more (Some n) request response is = later-flight outcomes all more n request response is
-
-pub air-moved : (air : List Flying) (most : ℕ) (outcomes : Outcomes) (next : List Flying) (now : ℕ) (all : Outcomes) → Moved air most outcomes next now all → (flight : Option ℕ) (request : Req) (response : Response)
-    → IsOfAir air most outcomes flight request response → IsOfAir next now all flight request response
-air-moved air most outcomes next now all moved None request response is = is
-air-moved air most outcomes next now all moved (Some n) request Interim is = absurd is
-air-moved air most outcomes next now all moved (Some n) request Fixed is = absurd is
-air-moved air most outcomes next now all moved (Some n) request (Awaits m) is = (is.0, moved.asked n request is.1)
-air-moved air most outcomes next now all moved (Some n) request (Says answer) is = later-flight outcomes all moved.grown n request (Says answer) is
+pub air-moved : (air : List Flying) (most : ℕ) (outcomes : Outcomes) (next : List Flying) (now : ℕ) (all : Outcomes) → Moved air most outcomes next now all → (treating : Treating) (request : Req) (response : Response)
+    → IsOfAir air most outcomes treating request response → IsOfAir next now all treating request response
+air-moved air most outcomes next now all moved (ByStatus status) request response is = is
+air-moved air most outcomes next now all moved (ByFlight n) request Interim is = absurd is
+air-moved air most outcomes next now all moved (ByFlight n) request Fixed is = absurd is
+air-moved air most outcomes next now all moved (ByFlight n) request (Awaits m) is = (is.0, moved.asked n request is.1)
+air-moved air most outcomes next now all moved (ByFlight n) request (Says answer) is = (later-said outcomes all n request answer moved.grown (moved.unlost n is.1) is.0, moved.over n is.1)

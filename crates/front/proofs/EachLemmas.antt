@@ -1,5 +1,5 @@
 -- Slots that are answered each by its own request's answer.
-use Rattle.std.proofs.Common.{◌≡◌, ℕ, ◌+◌, ◌<◌, ◌≤◌, ◌++◌, zero, suc, Bool, true, false, cond, List, [], ◌∷◌, Option, Some, None, length, refl, ap, sym, subst, ◌∙◌, arith}
+use Rattle.std.proofs.Common.{◌≡◌, ℕ, ◌+◌, ◌<◌, ◌≤◌, ◌++◌, zero, suc, Bool, true, false, cond, List, [], ◌∷◌, Some, None, length, refl, ap, sym, subst, ◌∙◌, arith}
 use Rattle.std.specs.Prelude.{◌==◌, if◌then◌else◌, slice_get}
 use Rattle.sp_base.specs.declared.answer.Answer.{Answer}
 use Rattle.sp_base.specs.declared.answer.Req.{Req}
@@ -8,15 +8,15 @@ use Rattle.http_front.specs.declared.turn.Turn.{Turn}
 use Rattle.http_front.specs.declared.turn.Turn.TheVariants.{Continue, Whole}
 use Rattle.connections.specs.Slots.{Awaits, Fixed, Interim, Response, Says, Slot, interim_slot, is_awaiting, local_response}
 use Rattle.connections.specs.Connections.{filled, with_answer}
-use Rattle.front.specs.Owned.{AreEach}
+use Rattle.front.specs.Owned.{AreEach, ByStatus, Treating}
 
-pub each-map : (P Q : Option ℕ → Req → Response → Type 0) → ((flight : Option ℕ) (request : Req) (response : Response) → P flight request response → Q flight request response)
-    → (flights : List (Option ℕ)) (turns : List Turn) (slots : List Slot) → AreEach P flights turns slots → AreEach Q flights turns slots
-each-map P Q next flights turns [] all = all
-each-map P Q next flights [] (s ∷ slots) all = all
-each-map P Q next flights (Continue ∷ turns) (s ∷ slots) all = (all.0, each-map P Q next flights turns slots all.1)
+pub each-map : (P Q : Treating → Req → Response → Type 0) → ((treating : Treating) (request : Req) (response : Response) → P treating request response → Q treating request response)
+    → (treatings : List Treating) (turns : List Turn) (slots : List Slot) → AreEach P treatings turns slots → AreEach Q treatings turns slots
+each-map P Q next treatings turns [] all = all
+each-map P Q next treatings [] (s ∷ slots) all = all
+each-map P Q next treatings (Continue ∷ turns) (s ∷ slots) all = (all.0, each-map P Q next treatings turns slots all.1)
 each-map P Q next [] (Whole r ∷ turns) (s ∷ slots) all = absurd all
-each-map P Q next (x ∷ flights) (Whole r ∷ turns) (s ∷ slots) all = (next x r s.response all.0, each-map P Q next flights turns slots all.1)
+each-map P Q next (x ∷ treatings) (Whole r ∷ turns) (s ∷ slots) all = (next x r s.response all.0, each-map P Q next treatings turns slots all.1)
 
 -- ---- a turn or a fault gets its slot
 pub some-within : {A : Type 0} (xs : List A) (i : ℕ) (x : A) → slice_get xs i ≡ Some x → i < length xs
@@ -24,45 +24,45 @@ some-within [] i x at = absurd (let no : ⊥ = cc in no)
 some-within (y ∷ xs) zero x at = omega arith
 some-within (y ∷ xs) (suc i) x at = omega (arith, some-within xs i x at)
 
-pub each-push : (P : Option ℕ → Req → Response → Type 0) (flights : List (Option ℕ)) (turns : List Turn) (slots : List Slot) (flight : Option ℕ) (request : Req) (slot : Slot) → AreEach P flights turns slots
-    → slice_get turns (length slots) ≡ Some (Whole request) → P flight request slot.response → AreEach P (flights ++ flight ∷ []) turns (slots ++ slot ∷ [])
-each-push P flights [] [] flight request slot all at is = absurd (let no : ⊥ = cc in no)
-each-push P flights (Continue ∷ turns) [] flight request slot all at is = absurd (let no : ⊥ = cc in no)
-each-push P [] (Whole r ∷ turns) [] flight request slot all at is =
+pub each-push : (P : Treating → Req → Response → Type 0) (treatings : List Treating) (turns : List Turn) (slots : List Slot) (treating : Treating) (request : Req) (slot : Slot) → AreEach P treatings turns slots
+    → slice_get turns (length slots) ≡ Some (Whole request) → P treating request slot.response → AreEach P (treatings ++ treating ∷ []) turns (slots ++ slot ∷ [])
+each-push P treatings [] [] treating request slot all at is = absurd (let no : ⊥ = cc in no)
+each-push P treatings (Continue ∷ turns) [] treating request slot all at is = absurd (let no : ⊥ = cc in no)
+each-push P [] (Whole r ∷ turns) [] treating request slot all at is =
     let same : r ≡ request = cc in
-    (subst (λ x. P flight x slot.response) (sym same) is, refl)
-each-push P (x ∷ flights) (Whole r ∷ turns) [] flight request slot all at is = absurd (let no : ⊥ = cc in no)
-each-push P flights [] (s ∷ slots) flight request slot all at is = absurd (let no : ⊥ = cc in no)
-each-push P flights (Continue ∷ turns) (s ∷ slots) flight request slot all at is = (all.0, each-push P flights turns slots flight request slot all.1 at is)
-each-push P [] (Whole r ∷ turns) (s ∷ slots) flight request slot all at is = absurd all
-each-push P (x ∷ flights) (Whole r ∷ turns) (s ∷ slots) flight request slot all at is = (all.0, each-push P flights turns slots flight request slot all.1 at is)
+    (subst (λ x. P treating x slot.response) (sym same) is, refl)
+each-push P (x ∷ treatings) (Whole r ∷ turns) [] treating request slot all at is = absurd (let no : ⊥ = cc in no)
+each-push P treatings [] (s ∷ slots) treating request slot all at is = absurd (let no : ⊥ = cc in no)
+each-push P treatings (Continue ∷ turns) (s ∷ slots) treating request slot all at is = (all.0, each-push P treatings turns slots treating request slot all.1 at is)
+each-push P [] (Whole r ∷ turns) (s ∷ slots) treating request slot all at is = absurd all
+each-push P (x ∷ treatings) (Whole r ∷ turns) (s ∷ slots) treating request slot all at is = (all.0, each-push P treatings turns slots treating request slot all.1 at is)
 
-pub each-interim : (P : Option ℕ → Req → Response → Type 0) (flights : List (Option ℕ)) (turns : List Turn) (slots : List Slot) → AreEach P flights turns slots → slice_get turns (length slots) ≡ Some Continue
-    → AreEach P flights turns (slots ++ interim_slot ∷ [])
-each-interim P flights [] [] all at = absurd (let no : ⊥ = cc in no)
-each-interim P flights (Continue ∷ turns) [] all at = (refl, all)
-each-interim P flights (Whole r ∷ turns) [] all at = absurd (let no : ⊥ = cc in no)
-each-interim P flights [] (s ∷ slots) all at = absurd (let no : ⊥ = cc in no)
-each-interim P flights (Continue ∷ turns) (s ∷ slots) all at = (all.0, each-interim P flights turns slots all.1 at)
+pub each-interim : (P : Treating → Req → Response → Type 0) (treatings : List Treating) (turns : List Turn) (slots : List Slot) → AreEach P treatings turns slots → slice_get turns (length slots) ≡ Some Continue
+    → AreEach P treatings turns (slots ++ interim_slot ∷ [])
+each-interim P treatings [] [] all at = absurd (let no : ⊥ = cc in no)
+each-interim P treatings (Continue ∷ turns) [] all at = (refl, all)
+each-interim P treatings (Whole r ∷ turns) [] all at = absurd (let no : ⊥ = cc in no)
+each-interim P treatings [] (s ∷ slots) all at = absurd (let no : ⊥ = cc in no)
+each-interim P treatings (Continue ∷ turns) (s ∷ slots) all at = (all.0, each-interim P treatings turns slots all.1 at)
 each-interim P [] (Whole r ∷ turns) (s ∷ slots) all at = absurd all
-each-interim P (x ∷ flights) (Whole r ∷ turns) (s ∷ slots) all at = (all.0, each-interim P flights turns slots all.1 at)
+each-interim P (x ∷ treatings) (Whole r ∷ turns) (s ∷ slots) all at = (all.0, each-interim P treatings turns slots all.1 at)
 
-pub each-fault : (P : Option ℕ → Req → Response → Type 0) (flights : List (Option ℕ)) (turns : List Turn) (slots : List Slot) (slot : Slot) (status : ℕ) → AreEach P flights turns slots → slice_get turns (length slots) ≡ None
-    → length slots ≤ length turns → slot.response ≡ local_response status → AreEach P (flights ++ None ∷ []) turns (slots ++ slot ∷ [])
-each-fault P flights [] [] slot status all at room is = (ap (λ fs. fs ++ None ∷ []) all, refl, (status, is))
-each-fault P flights (t ∷ turns) [] slot status all at room is = absurd (let no : ⊥ = cc in no)
-each-fault P flights [] (s ∷ slots) slot status all at room is = absurd (omega (arith, room))
-each-fault P flights (Continue ∷ turns) (s ∷ slots) slot status all at room is = (all.0, each-fault P flights turns slots slot status all.1 at (omega (arith, room)) is)
+pub each-fault : (P : Treating → Req → Response → Type 0) (treatings : List Treating) (turns : List Turn) (slots : List Slot) (slot : Slot) (status : ℕ) → AreEach P treatings turns slots → slice_get turns (length slots) ≡ None
+    → length slots ≤ length turns → slot.response ≡ local_response status → AreEach P (treatings ++ ByStatus status ∷ []) turns (slots ++ slot ∷ [])
+each-fault P treatings [] [] slot status all at room is = record { status = status; noted = ap (λ ts. ts ++ ByStatus status ∷ []) all; last = refl; response_is = is }
+each-fault P treatings (t ∷ turns) [] slot status all at room is = absurd (let no : ⊥ = cc in no)
+each-fault P treatings [] (s ∷ slots) slot status all at room is = absurd (omega (arith, room))
+each-fault P treatings (Continue ∷ turns) (s ∷ slots) slot status all at room is = (all.0, each-fault P treatings turns slots slot status all.1 at (omega (arith, room)) is)
 each-fault P [] (Whole r ∷ turns) (s ∷ slots) slot status all at room is = absurd all
-each-fault P (x ∷ flights) (Whole r ∷ turns) (s ∷ slots) slot status all at room is = (all.0, each-fault P flights turns slots slot status all.1 at (omega (arith, room)) is)
+each-fault P (x ∷ treatings) (Whole r ∷ turns) (s ∷ slots) slot status all at room is = (all.0, each-fault P treatings turns slots slot status all.1 at (omega (arith, room)) is)
 
 -- ---- further turns
-pub each-more : (P : Option ℕ → Req → Response → Type 0) (flights : List (Option ℕ)) (turns more : List Turn) (slots : List Slot) → length slots ≤ length turns → AreEach P flights turns slots → AreEach P flights (turns ++ more) slots
-each-more P flights turns more [] room all = all
-each-more P flights [] more (s ∷ slots) room all = absurd (omega (arith, room))
-each-more P flights (Continue ∷ turns) more (s ∷ slots) room all = (all.0, each-more P flights turns more slots (omega (arith, room)) all.1)
+pub each-more : (P : Treating → Req → Response → Type 0) (treatings : List Treating) (turns more : List Turn) (slots : List Slot) → length slots ≤ length turns → AreEach P treatings turns slots → AreEach P treatings (turns ++ more) slots
+each-more P treatings turns more [] room all = all
+each-more P treatings [] more (s ∷ slots) room all = absurd (omega (arith, room))
+each-more P treatings (Continue ∷ turns) more (s ∷ slots) room all = (all.0, each-more P treatings turns more slots (omega (arith, room)) all.1)
 each-more P [] (Whole r ∷ turns) more (s ∷ slots) room all = absurd all
-each-more P (x ∷ flights) (Whole r ∷ turns) more (s ∷ slots) room all = (all.0, each-more P flights turns more slots (omega (arith, room)) all.1)
+each-more P (x ∷ treatings) (Whole r ∷ turns) more (s ∷ slots) room all = (all.0, each-more P treatings turns more slots (omega (arith, room)) all.1)
 
 -- ---- a flight has landed
 pub awaiting-is : (n : ℕ) (response : Response) → is_awaiting n response ≡ true → response ≡ Awaits n
@@ -89,21 +89,21 @@ length-filled n a (s ∷ slots) = by_test (is_awaiting n s.response) (length-fil
     by_test true rest = refl
     by_test false rest = omega (arith, rest)
 
-pub each-filled : (P Q : Option ℕ → Req → Response → Type 0) (n : ℕ) (a : Answer) → ((flight : Option ℕ) (request : Req) (response : Response) → P flight request response → Q flight request response)
-    → ((flight : Option ℕ) (request : Req) → P flight request (Awaits n) → Q flight request (Says a)) → (flights : List (Option ℕ)) (turns : List Turn) (slots : List Slot) → AreEach P flights turns slots → AreEach Q flights turns (filled n a slots)
-each-filled P Q n a next lands flights turns [] all = all
-each-filled P Q n a next lands flights [] (s ∷ slots) all =
-    let still : is_awaiting n s.response ≡ false = ap (is_awaiting n) all.2.1 ∙ local-answered n all.2.0 in
-    rw still (all.0, filled-none n a slots all.1, all.2)
-each-filled P Q n a next lands flights (Continue ∷ turns) (s ∷ slots) all =
+pub each-filled : (P Q : Treating → Req → Response → Type 0) (n : ℕ) (a : Answer) → ((treating : Treating) (request : Req) (response : Response) → P treating request response → Q treating request response)
+    → ((treating : Treating) (request : Req) → P treating request (Awaits n) → Q treating request (Says a)) → (treatings : List Treating) (turns : List Turn) (slots : List Slot) → AreEach P treatings turns slots → AreEach Q treatings turns (filled n a slots)
+each-filled P Q n a next lands treatings turns [] all = all
+each-filled P Q n a next lands treatings [] (s ∷ slots) all =
+    let still : is_awaiting n s.response ≡ false = ap (is_awaiting n) all.response_is ∙ local-answered n all.status in
+    rw still (record { status = all.status; noted = all.noted; last = filled-none n a slots all.last; response_is = all.response_is })
+each-filled P Q n a next lands treatings (Continue ∷ turns) (s ∷ slots) all =
     let still : is_awaiting n s.response ≡ false = ap (is_awaiting n) all.0 in
-    let rest = each-filled P Q n a next lands flights turns slots all.1 in
+    let rest = each-filled P Q n a next lands treatings turns slots all.1 in
     rw still (all.0, rest)
 each-filled P Q n a next lands [] (Whole r ∷ turns) (s ∷ slots) all = absurd all
-each-filled P Q n a next lands (x ∷ flights) (Whole r ∷ turns) (s ∷ slots) all = by_test (is_awaiting n s.response) refl (each-filled P Q n a next lands flights turns slots all.1)
+each-filled P Q n a next lands (x ∷ treatings) (Whole r ∷ turns) (s ∷ slots) all = by_test (is_awaiting n s.response) refl (each-filled P Q n a next lands treatings turns slots all.1)
   where
-    by_test : (b : Bool) → is_awaiting n s.response ≡ b → AreEach Q flights turns (filled n a slots) → AreEach Q (x ∷ flights) (Whole r ∷ turns) (cond (is_awaiting n s.response) (with_answer a s ∷ slots) (s ∷ filled n a slots))
+    by_test : (b : Bool) → is_awaiting n s.response ≡ b → AreEach Q treatings turns (filled n a slots) → AreEach Q (x ∷ treatings) (Whole r ∷ turns) (cond (is_awaiting n s.response) (with_answer a s ∷ slots) (s ∷ filled n a slots))
     by_test true e rest =
         let waits : P x r (Awaits n) = subst (P x r) (awaiting-is n s.response e) all.0 in
-        rw e (lands x r waits, each-map P Q next flights turns slots all.1)
+        rw e (lands x r waits, each-map P Q next treatings turns slots all.1)
     by_test false e rest = rw e (next x r s.response all.0, rest)

@@ -1,6 +1,7 @@
 -- Each answer that is sent in a run is its own request's.
 use Rattle.std.proofs.Common.{◌≡◌, ◌≢◌, ℕ, ◌+◌, ◌-◌, ◌++◌, Bool, true, false, List, [], ◌∷◌, Option, Some, None, refl, ap, sym, subst, ◌∙◌, arith, inl, inr, ⊎_elim, append-nil, append_assoc, eq-eqb}
 use Rattle.std.specs.Prelude.{nat_eq, nat_le, if◌then◌else◌, unwrap_or}
+use Rattle.std.specs.List.{list_any}
 use Rattle.std.specs.Map.{update}
 use Rattle.std.specs.Option.{option_map}
 use Rattle.std.proofs.lemmas.Map.{update_apart, update_here}
@@ -20,115 +21,96 @@ use Rattle.front.specs.declared.note.Note.TheVariants.{Answer as answered, Rende
 use Rattle.front.specs.declared.step.Step.{Step}
 use Rattle.front.specs.declared.step.Step.TheVariants as step
 use Rattle.front.specs.Events.{DeliverAs, DeliverTo, Event, HappensBy, LeadsNotes, LoseTo, PieceTo, RenderTo, Run, after_event, begun, gone, going, is_any, is_rendered, is_unrendered, most_lines, opened, opening, picked, state_after_events}
-use Rattle.front.specs.Histories.{brought_by, came_after, came_since_opened, opens_connection, sent_after, sent_by, sent_in, sent_since_opened}
-use Rattle.front.specs.Moves.{Mood, Settles, afters, answer_in, flight_at, on_line, over_with, state_after_note}
-use Rattle.front.specs.Owned.{AnswersAreOwn, AreOwnAnswers, IsOfFlight, IsOfRequest, Outcomes, WasLost, WasRendered, flights_after, flights_since_opened, losses_of, lost_in, treated_by, treated_in}
+use Rattle.front.specs.Histories.{brought_by, came_after, came_since_opened, is_idle, opens_connection, sent_after, sent_by, sent_in, sent_since_opened}
+use Rattle.front.specs.Moves.{Mood, Settles, afters, answer_in, flight_at, on_line, over_with, state_after_note, without}
+use Rattle.front.specs.Owned.{AnswersAreOwn, AreOwnAnswers, IsOfFlight, IsOfRequest, Outcomes, Treating, WasLost, WasRendered, treated_after, treated_since_opened, losses_of, lost_in, treated_by, treated_in}
 use Rattle.front.specs.Publishers.{Publishing, fixed_answer}
-use Rattle.front.specs.Renders.{Rendering, rendering_of, renders_in, renders_of}
+use Rattle.front.specs.Renders.{rendering_of, renders_in, renders_of}
 use Rattle.front.specs.States.{LogEntry, RunState, flights_asked, start_of}
-use Rattle.front.proofs.AirLemmas.{AreRendered, IsAskedFor, IsOfAir, moved-lost, moved-over, moved-rendered, moved-same, of-request, with_losses, with_renders}
+use Rattle.front.proofs.AirLemmas.{IsAskedFor, IsOfAir, IsOver, Moved, at-within, flying-unlost, moved-lost, moved-over, moved-rendered, moved-same, none-lost, of-request, over-now, with_losses, with_renders}
 use Rattle.front.proofs.EachLemmas.{each-map}
-use Rattle.front.proofs.HistoryLemmas.{Held, Kept, Numbered, by-step, over-held, over-numbered, picked-at, piece-read, run-kept, serves-apart, start-kept, then_came, then_sent}
-use Rattle.front.proofs.MoveLemmas.{IsStillStep, step-still}
-use Rattle.front.proofs.OwnedLemmas.{Moves, Own, Owns, last-owns, own-moved, own-none, own-one, owns-fed, owns-landed, serves-elsewhere, serves-owns}
-use Rattle.front.proofs.PastLemmas.{Last, past-as, past-fresh}
+use Rattle.front.proofs.HistoryLemmas.{Held, Kept, Numbered, by-step, over-held, over-numbered, picked-at, piece-idle, piece-read, run-kept, serves-apart, start-kept, then_came, then_sent}
+use Rattle.front.proofs.MoveLemmas.{IsStillStep, serves-busy, step-still}
+use Rattle.front.proofs.LossLemmas.{IsKeepingStep, serves-lost, step-lost}
+use Rattle.front.proofs.OwnedLemmas.{Moves, Own, Owns, last-moved, last-owns, own-moved, own-none, own-one, owns-fed, owns-landed, serves-elsewhere, serves-owns}
+use Rattle.front.proofs.PastLemmas.{Last, last-now, past-as, past-fresh}
 use Rattle.front.proofs.RenderLemmas.{still-renders}
-use Rattle.front.proofs.StreamLemmas.{InOrder, OfTurns, answers-past, idle-still, turns-past}
+use Rattle.front.proofs.StreamLemmas.{InOrder, OfTurns, idle-still, what-past}
 
 -- ---- the same under other names
-own-as : (w : RunState) (c : ℕ) (outcomes : Outcomes) (fs gs : List (Option ℕ)) (came : List ℕ) (xs ys : List Sending) → fs ≡ gs → xs ≡ ys → Own w c outcomes fs came xs → Own w c outcomes gs came ys
-own-as w c outcomes fs gs came xs ys flights sent own = subst (λ hs. Own w c outcomes hs came ys) flights (subst (λ zs. Own w c outcomes fs came zs) sent own)
+own-as : (w : RunState) (c : ℕ) (outcomes : Outcomes) (fs gs : List Treating) (came : List ℕ) (xs ys : List Sending) → fs ≡ gs → xs ≡ ys → Own w c outcomes fs came xs → Own w c outcomes gs came ys
+own-as w c outcomes fs gs came xs ys treatings sent own = subst (λ hs. Own w c outcomes hs came ys) treatings (subst (λ zs. Own w c outcomes fs came zs) sent own)
 
--- more came, which the connection has read or doesn't read any more
-own-later : (w : RunState) (c : ℕ) (outcomes : Outcomes) (flights : List (Option ℕ)) (came more : List ℕ) (sent : List Sending) → Own w c outcomes flights came sent → Own w c outcomes flights (came ++ more) sent
-own-later w c outcomes flights came more sent own = record {
-  here = own.here;
-  over = λ none.
-      let was = own.over none in
-      let last = was.last in
-      record {
-        last = record {
-          last = last.last;
-          came_then = last.came_then;
-          later = last.later ++ more;
-          past = last.past;
-          came_is = ap (λ xs. xs ++ more) last.came_is ∙ append_assoc last.came_then last.later more;
-          still = last.still;
-        };
-        each = was.each;
-      };
-  air_is = own.air_is;
-}
-
-moves-same : (w v : RunState) (outcomes : Outcomes) → v.air ≡ w.air → flights_asked v.log.entries ≡ flights_asked w.log.entries → AreRendered outcomes w.air → Moves w outcomes v outcomes
-moves-same w v outcomes air asked are = rw (air, asked) (moved-same w.air (flights_asked w.log.entries) outcomes are)
+-- nothing more came
+own-came : (w : RunState) (c : ℕ) (outcomes : Outcomes) (treatings : List Treating) (came more : List ℕ) (sent : List Sending) → more ≡ [] → Own w c outcomes treatings came sent → Own w c outcomes treatings (came ++ more) sent
+own-came w c outcomes treatings came more sent none own = subst (λ xs. Own w c outcomes treatings xs sent) (sym (ap (λ xs. came ++ xs) none ∙ append-nil came)) own
 
 -- ---- what a connection is owed
-settles-own : (m : Mood) (w : RunState) (c d : ℕ) (outcomes : Outcomes) (flights : List (Option ℕ)) (came : List ℕ) (sent : List Sending) (notes : List Note) → Held w c came sent → Numbered w → Own w c outcomes flights came sent → Settles m w d notes
-    → Own (afters w notes) c outcomes (flights ++ treated_in c notes) came (sent ++ sent_in c m notes)
-settles-own m w c d outcomes flights came sent notes held numbered own settles = ⊎_elim here there (cases_eq d c)
+settles-own : (m : Mood) (w : RunState) (c d : ℕ) (outcomes : Outcomes) (treatings : List Treating) (came : List ℕ) (sent : List Sending) (notes : List Note) → Held w c came sent → Numbered w → Own w c outcomes treatings came sent → Settles m w d notes
+    → Own (afters w notes) c outcomes (treatings ++ treated_in c notes) came (sent ++ sent_in c m notes)
+settles-own m w c d outcomes treatings came sent notes held numbered own settles = ⊎_elim here there (cases_eq d c)
   where
-    here : d ≡ c → Own (afters w notes) c outcomes (flights ++ treated_in c notes) came (sent ++ sent_in c m notes)
+    here : d ≡ c → Own (afters w notes) c outcomes (treatings ++ treated_in c notes) came (sent ++ sent_in c m notes)
     here same =
         let at : Settles m w c notes = subst (λ x. Settles m w x notes) same settles in
-        serves-owns m w c outcomes flights came sent notes held numbered own at.serves
+        serves-owns m w c outcomes treatings came sent notes held numbered own at.serves
 
-    there : d ≢ c → Own (afters w notes) c outcomes (flights ++ treated_in c notes) came (sent ++ sent_in c m notes)
+    there : d ≢ c → Own (afters w notes) c outcomes (treatings ++ treated_in c notes) came (sent ++ sent_in c m notes)
     there apart =
         let other : c ≢ d = λ e. apart (sym e) in
         let kept = serves-apart m w c d notes other settles.serves in
         let elsewhere = serves-elsewhere m w c d outcomes notes other numbered own.air_is settles.serves in
-        own-as (afters w notes) c outcomes flights (flights ++ treated_in c notes) came sent (sent ++ sent_in c m notes)
-        (sym (append-nil flights) ∙ ap (λ fs. flights ++ fs) (sym elsewhere.none)) (sym (append-nil sent) ∙ ap (λ xs. sent ++ xs) (sym kept.none))
-        (own-moved w (afters w notes) c outcomes outcomes flights came sent kept.line elsewhere.moves own)
+        own-as (afters w notes) c outcomes treatings (treatings ++ treated_in c notes) came sent (sent ++ sent_in c m notes)
+        (sym (append-nil treatings) ∙ ap (λ fs. treatings ++ fs) (sym elsewhere.none)) (sym (append-nil sent) ∙ ap (λ xs. sent ++ xs) (sym kept.none))
+        (own-moved w (afters w notes) c outcomes outcomes treatings came sent kept.line elsewhere.moves own)
 
 -- nothing is owed
-own-quiet : (w : RunState) (c : ℕ) (outcomes : Outcomes) (flights : List (Option ℕ)) (came : List ℕ) (sent : List Sending) → Own w c outcomes flights came sent → Own w c outcomes (flights ++ []) (came ++ []) (sent ++ [])
-own-quiet w c outcomes flights came sent own = own-later w c outcomes (flights ++ []) came [] (sent ++ []) (own-as w c outcomes flights (flights ++ []) came sent (sent ++ []) (sym (append-nil flights)) (sym (append-nil sent)) own)
+own-quiet : (w : RunState) (c : ℕ) (outcomes : Outcomes) (treatings : List Treating) (came : List ℕ) (sent : List Sending) → Own w c outcomes treatings came sent → Own w c outcomes (treatings ++ []) (came ++ []) (sent ++ [])
+own-quiet w c outcomes treatings came sent own = own-came w c outcomes (treatings ++ []) came [] (sent ++ []) refl (own-as w c outcomes treatings (treatings ++ []) came sent (sent ++ []) (sym (append-nil treatings)) (sym (append-nil sent)) own)
 
 -- ---- events
-abbrev pub then_flights : ℕ → List (Option ℕ) → Event → Step → List (Option ℕ)
-then_flights c flights e s = if opens_connection c s e.body then [] else flights ++ treated_in c e.body
+abbrev pub then_treated : ℕ → List Treating → Event → Step → List Treating
+then_treated c treatings e s = if opens_connection c s e.body then [] else treatings ++ treated_in c e.body
 
-abbrev OwnBy : RunState → Event → ℕ → Outcomes → List (Option ℕ) → List ℕ → List Sending → Step → Type 0
-OwnBy v e c outcomes flights came sent s = Own (afters v e.body) c outcomes (then_flights c flights e s) (then_came c came e s) (then_sent c sent e s)
+abbrev OwnBy : RunState → Event → ℕ → Outcomes → List Treating → List ℕ → List Sending → Step → Type 0
+OwnBy v e c outcomes treatings came sent s = Own (afters v e.body) c outcomes (then_treated c treatings e s) (then_came c came e s) (then_sent c sent e s)
 
-idle-own : (m : Mood) (v : RunState) (c : ℕ) (outcomes : Outcomes) (flights : List (Option ℕ)) (came more : List ℕ) (sent : List Sending) (notes : List Note) → Own v c outcomes flights came sent → notes ≡ Idle ∷ []
-    → Own (afters v notes) c outcomes (flights ++ treated_in c notes) (came ++ more) (sent ++ sent_in c m notes)
-idle-own m v c outcomes flights came more sent notes own is =
-    rw is (own-later v c outcomes (flights ++ []) came more (sent ++ []) (own-as v c outcomes flights (flights ++ []) came sent (sent ++ []) (sym (append-nil flights)) (sym (append-nil sent)) own))
+idle-own : (m : Mood) (v : RunState) (c : ℕ) (outcomes : Outcomes) (treatings : List Treating) (came more : List ℕ) (sent : List Sending) (notes : List Note) → Own v c outcomes treatings came sent → more ≡ [] → notes ≡ Idle ∷ []
+    → Own (afters v notes) c outcomes (treatings ++ treated_in c notes) (came ++ more) (sent ++ sent_in c m notes)
+idle-own m v c outcomes treatings came more sent notes own none is =
+    rw is (own-came v c outcomes (treatings ++ []) came more (sent ++ []) none (own-as v c outcomes treatings (treatings ++ []) came sent (sent ++ []) (sym (append-nil treatings)) (sym (append-nil sent)) own))
 
-opened-own : (w : RunState) (e : Event) (c d : ℕ) (peer : List ℕ) (outcomes : Outcomes) (flights : List (Option ℕ)) (came : List ℕ) (sent : List Sending) (at : Option Connection) → Own w c outcomes flights came sent → e.body ≡ opening d w.lines at
-    → OwnBy (opened w d peer at) e c outcomes flights came sent (step.Opened d peer)
-opened-own w e c d peer outcomes flights came sent (Some k) own is = rw is (own-quiet w c outcomes flights came sent own)
-opened-own w e c d peer outcomes flights came sent None own is = by_room (nat_le most_lines w.lines) is
+opened-own : (w : RunState) (e : Event) (c d : ℕ) (peer : List ℕ) (outcomes : Outcomes) (treatings : List Treating) (came : List ℕ) (sent : List Sending) (at : Option Connection) → Own w c outcomes treatings came sent → e.body ≡ opening d w.lines at
+    → OwnBy (opened w d peer at) e c outcomes treatings came sent (step.Opened d peer)
+opened-own w e c d peer outcomes treatings came sent (Some k) own is = rw is (own-quiet w c outcomes treatings came sent own)
+opened-own w e c d peer outcomes treatings came sent None own is = by_room (nat_le most_lines w.lines) is
   where
-    free : e.body ≡ [] → OwnBy (record w { line = update nat_eq w.line d (Some (fresh peer)); lines = w.lines + 1 }) e c outcomes flights came sent (step.Opened d peer)
+    free : e.body ≡ [] → OwnBy (record w { line = update nat_eq w.line d (Some (fresh peer)); lines = w.lines + 1 }) e c outcomes treatings came sent (step.Opened d peer)
     free none = rw none (⊎_elim same apart (cases_eq d c))
       where
         v : RunState
         v = record w { line = update nat_eq w.line d (Some (fresh peer)); lines = w.lines + 1 }
 
-        same : d ≡ c → Own v c outcomes (if nat_eq d c then [] else flights ++ []) (if nat_eq d c then [] else came ++ []) (if nat_eq d c then [] else sent ++ [])
+        same : d ≡ c → Own v c outcomes (if nat_eq d c then [] else treatings ++ []) (if nat_eq d c then [] else came ++ []) (if nat_eq d c then [] else sent ++ [])
         same e =
             let here : nat_eq d c ≡ true = eq-eqb d c e in
             let now : v.line c ≡ Some (fresh peer) = subst (λ x. v.line x ≡ Some (fresh peer)) e (update_here w.line d (Some (fresh peer))) in
             let owns : Owns v outcomes [] (fresh peer) = record { each = refl; room = λ stays. omega arith } in
             rw here (own-one v c outcomes [] [] [] (fresh peer) now owns own.air_is)
 
-        apart : d ≢ c → Own v c outcomes (if nat_eq d c then [] else flights ++ []) (if nat_eq d c then [] else came ++ []) (if nat_eq d c then [] else sent ++ [])
+        apart : d ≢ c → Own v c outcomes (if nat_eq d c then [] else treatings ++ []) (if nat_eq d c then [] else came ++ []) (if nat_eq d c then [] else sent ++ [])
         apart other =
             let test : nat_eq d c ≡ false = ne_eqb d c other in
             let moves : Moves w outcomes v outcomes = moved-same w.air (flights_asked w.log.entries) outcomes own.air_is in
-            rw test (own-quiet v c outcomes flights came sent (own-moved w v c outcomes outcomes flights came sent (update_apart w.line d (Some (fresh peer)) c (λ x. other (sym x))) moves own))
+            rw test (own-quiet v c outcomes treatings came sent (own-moved w v c outcomes outcomes treatings came sent (update_apart w.line d (Some (fresh peer)) c (λ x. other (sym x))) moves own))
 
-    by_room : (full : Bool) → e.body ≡ (if full then Refused d ∷ [] else []) → OwnBy (if full then w else record w { line = update nat_eq w.line d (Some (fresh peer)); lines = w.lines + 1 }) e c outcomes flights came sent (step.Opened d peer)
-    by_room true is = rw is (own-quiet w c outcomes flights came sent own)
+    by_room : (full : Bool) → e.body ≡ (if full then Refused d ∷ [] else []) → OwnBy (if full then w else record w { line = update nat_eq w.line d (Some (fresh peer)); lines = w.lines + 1 }) e c outcomes treatings came sent (step.Opened d peer)
+    by_room true is = rw is (own-quiet w c outcomes treatings came sent own)
     by_room false is = free is
 
-piece-own : (w : RunState) (e : Event) (c d : ℕ) (bytes : List ℕ) (outcomes : Outcomes) (flights : List (Option ℕ)) (came : List ℕ) (sent : List Sending) (at : Option Connection) → w.line d ≡ at → Kept w c came sent → Own w c outcomes flights came sent
-    → PieceTo w e d bytes at → Own (afters (on_line w d (fed bytes e.turns e.ends)) e.body) c outcomes (flights ++ treated_in c e.body) (came ++ brought_by c (step.Piece d bytes)) (sent ++ sent_in c e.mood e.body)
-piece-own w e c d bytes outcomes flights came sent None line kept own is = idle-own e.mood v c outcomes flights came (brought_by c (step.Piece d bytes)) sent e.body now is
+piece-own : (w : RunState) (e : Event) (c d : ℕ) (bytes : List ℕ) (outcomes : Outcomes) (treatings : List Treating) (came : List ℕ) (sent : List Sending) (at : Option Connection) → w.line d ≡ at → Kept w c came sent → Own w c outcomes treatings came sent
+    → PieceTo w e d bytes at → Own (afters (on_line w d (fed bytes e.turns e.ends)) e.body) c outcomes (treatings ++ treated_in c e.body) (came ++ brought_by c (step.Piece d bytes) e.body) (sent ++ sent_in c e.mood e.body)
+piece-own w e c d bytes outcomes treatings came sent None line kept own is = idle-own e.mood v c outcomes treatings came (brought_by c (step.Piece d bytes) e.body) sent e.body now (piece-idle c d bytes e.body is) is
   where
     v : RunState
     v = on_line w d (fed bytes e.turns e.ends)
@@ -139,92 +121,104 @@ piece-own w e c d bytes outcomes flights came sent None line kept own is = idle-
         (λ other. update_apart w.line d _ c (λ x. other (sym x)))
         (cases_eq d c)
 
-    now : Own v c outcomes flights came sent
-    now = own-moved w v c outcomes outcomes flights came sent same (moved-same w.air (flights_asked w.log.entries) outcomes own.air_is) own
-piece-own w e c d bytes outcomes flights came sent (Some k) line kept own feeds =
-    settles-own e.mood v c d outcomes flights all sent e.body (piece-read w e c d bytes came sent k line feeds.spells kept.held) kept.numbered (own-later v c outcomes flights came (brought_by c (step.Piece d bytes)) sent (⊎_elim here apart (cases_eq d c))) feeds.settles
+    now : Own v c outcomes treatings came sent
+    now = own-moved w v c outcomes outcomes treatings came sent same (moved-same w.air (flights_asked w.log.entries) outcomes own.air_is) own
+piece-own w e c d bytes outcomes treatings came sent (Some k) line kept own feeds =
+    settles-own e.mood v c d outcomes treatings all sent e.body (piece-read w e c d bytes came sent k busy line feeds.spells kept.held) kept.numbered (⊎_elim here apart (cases_eq d c)) feeds.settles
   where
     v : RunState
     v = on_line w d (fed bytes e.turns e.ends)
 
     all : List ℕ
-    all = came ++ brought_by c (step.Piece d bytes)
+    all = came ++ brought_by c (step.Piece d bytes) e.body
+
+    busy : list_any is_idle e.body ≡ false
+    busy = serves-busy e.mood v d e.body feeds.settles.serves
 
     moves : Moves w outcomes v outcomes
     moves = moved-same w.air (flights_asked w.log.entries) outcomes own.air_is
 
-    here : d ≡ c → Own v c outcomes flights came sent
+    here : d ≡ c → Own v c outcomes treatings all sent
     here x =
         let now : v.line d ≡ Some (fed bytes e.turns e.ends k) = update_here w.line d _ ∙ ap (option_map (fed bytes e.turns e.ends)) line in
-        let before : Owns w outcomes flights k = own.here k (sym (ap w.line x) ∙ line) in
-        let fed_owns : Owns w outcomes flights (fed bytes e.turns e.ends k) = owns-fed w outcomes flights bytes e.turns e.ends k before in
-        let owns : Owns v outcomes flights (fed bytes e.turns e.ends k) = record { each = fed_owns.each; room = fed_owns.room } in
-        own-one v c outcomes flights came sent (fed bytes e.turns e.ends k) (subst (λ y. v.line y ≡ Some (fed bytes e.turns e.ends k)) x now) owns own.air_is
+        let before : Owns w outcomes treatings k = own.here k (sym (ap w.line x) ∙ line) in
+        let fed_owns : Owns w outcomes treatings (fed bytes e.turns e.ends k) = owns-fed w outcomes treatings bytes e.turns e.ends k before in
+        let owns : Owns v outcomes treatings (fed bytes e.turns e.ends k) = record { each = fed_owns.each; room = fed_owns.room } in
+        own-one v c outcomes treatings all sent (fed bytes e.turns e.ends k) (subst (λ y. v.line y ≡ Some (fed bytes e.turns e.ends k)) x now) owns own.air_is
 
-    apart : d ≢ c → Own v c outcomes flights came sent
-    apart other = own-moved w v c outcomes outcomes flights came sent (update_apart w.line d _ c (λ x. other (sym x))) moves own
+    apart : d ≢ c → Own v c outcomes treatings all sent
+    apart other =
+        let test : nat_eq d c ≡ false = ne_eqb d c other in
+        own-came v c outcomes treatings came (brought_by c (step.Piece d bytes) e.body) sent (rw (busy, test) refl) (own-moved w v c outcomes outcomes treatings came sent (update_apart w.line d _ c (λ x. other (sym x))) moves own)
 
-gone-own : (w : RunState) (e : Event) (c d : ℕ) (outcomes : Outcomes) (flights : List (Option ℕ)) (came : List ℕ) (sent : List Sending) (at : Option Connection) → w.line d ≡ at → Kept w c came sent → Own w c outcomes flights came sent → e.body ≡ going at
-    → Own (afters (gone w d at) e.body) c outcomes (flights ++ treated_in c e.body) (came ++ []) (sent ++ sent_in c e.mood e.body)
-gone-own w e c d outcomes flights came sent None line kept own is = idle-own e.mood w c outcomes flights came [] sent e.body own is
-gone-own w e c d outcomes flights came sent (Some k) line kept own is = rw is (own-later v c outcomes (flights ++ []) came [] (sent ++ []) (⊎_elim same apart (cases_eq d c)))
+gone-own : (w : RunState) (e : Event) (c d : ℕ) (outcomes : Outcomes) (treatings : List Treating) (came : List ℕ) (sent : List Sending) (at : Option Connection) → w.line d ≡ at → Kept w c came sent → Own w c outcomes treatings came sent → e.body ≡ going at
+    → Own (afters (gone w d at) e.body) c outcomes (treatings ++ treated_in c e.body) (came ++ []) (sent ++ sent_in c e.mood e.body)
+gone-own w e c d outcomes treatings came sent None line kept own is = idle-own e.mood w c outcomes treatings came [] sent e.body own refl is
+gone-own w e c d outcomes treatings came sent (Some k) line kept own is = rw is (own-came v c outcomes (treatings ++ []) came [] (sent ++ []) refl (⊎_elim same apart (cases_eq d c)))
   where
     v : RunState
     v = record w { line = update nat_eq w.line d None; lines = w.lines - 1 }
 
-    same : d ≡ c → Own v c outcomes (flights ++ []) came (sent ++ [])
+    same : d ≡ c → Own v c outcomes (treatings ++ []) came (sent ++ [])
     same x =
         let none : v.line c ≡ None = subst (λ y. v.line y ≡ None) x (update_here w.line d None) in
         let open_ : w.line c ≡ Some k = sym (ap w.line x) ∙ line in
         let idle : connection.due k ≡ connection.Nothing = kept.still k open_ in
         let past = past-as k came sent (sent ++ []) (sym (append-nil sent)) (kept.held.here k open_) in
-        let last : Last came (sent ++ []) = record { last = k; came_then = came; later = []; past = past; came_is = sym (append-nil came); still = λ slot e. let no : ⊥ = cc in no } in
-        own-none v c outcomes (flights ++ []) came (sent ++ []) none (last-owns w outcomes flights came (sent ++ []) k last refl (own.here k open_)) own.air_is
+        let last : Last came (sent ++ []) = last-now k came (sent ++ []) past (λ slot e. let no : ⊥ = cc in no) in
+        own-none v c outcomes (treatings ++ []) came (sent ++ []) none (last-owns w outcomes treatings came (sent ++ []) k last refl (own.here k open_)) own.air_is
 
-    apart : d ≢ c → Own v c outcomes (flights ++ []) came (sent ++ [])
+    apart : d ≢ c → Own v c outcomes (treatings ++ []) came (sent ++ [])
     apart other =
         let moves : Moves w outcomes v outcomes = moved-same w.air (flights_asked w.log.entries) outcomes own.air_is in
-        own-as v c outcomes flights (flights ++ []) came sent (sent ++ []) (sym (append-nil flights)) (sym (append-nil sent)) (own-moved w v c outcomes outcomes flights came sent (update_apart w.line d None c (λ x. other (sym x))) moves own)
+        own-as v c outcomes treatings (treatings ++ []) came sent (sent ++ []) (sym (append-nil treatings)) (sym (append-nil sent)) (own-moved w v c outcomes outcomes treatings came sent (update_apart w.line d None c (λ x. other (sym x))) moves own)
 
 -- a flight is over, and its connection is given what it is owed
-leads-own : (m : Mood) (w : RunState) (first : Note) (c : ℕ) (outcomes : Outcomes) (flights : List (Option ℕ)) (came : List ℕ) (sent : List Sending) (f : Flying) (answer : Answer) (entry : LogEntry) (notes : List Note) → Kept w c came sent
-    → Own w c outcomes flights came sent → state_after_note w first ≡ over_with w f.number answer entry (Some f) → flights_asked (entry ∷ w.log.entries) ≡ flights_asked w.log.entries → sent_by c m first ≡ [] → treated_by c first ≡ []
-    → ((k : ℕ) (request : Req) → f.number ≡ k → IsAskedFor w.air (flights_asked w.log.entries) k request → IsOfFlight outcomes k request (Says answer)) → LeadsNotes w m first f.line notes
-    → Own (afters w notes) c outcomes (flights ++ treated_in c notes) (came ++ []) (sent ++ sent_in c m notes)
-leads-own m w first c outcomes flights came sent f answer entry notes kept own is same unsent untreated good leads =
+leads-own : (m : Mood) (w : RunState) (first : Note) (c : ℕ) (outcomes all : Outcomes) (treatings : List Treating) (came : List ℕ) (sent : List Sending) (f : Flying) (answer : Answer) (entry : LogEntry) (notes : List Note) → Kept w c came sent
+    → Own w c outcomes treatings came sent → state_after_note w first ≡ over_with w f.number answer entry (Some f) → flights_asked (entry ∷ w.log.entries) ≡ flights_asked w.log.entries → sent_by c m first ≡ [] → treated_by c first ≡ []
+    → Moved w.air (flights_asked w.log.entries) outcomes (without f.number w.air) (flights_asked w.log.entries) all
+    → ((k : ℕ) (request : Req) → f.number ≡ k → IsAskedFor w.air (flights_asked w.log.entries) k request → IsOfFlight all k request (Says answer)) → LeadsNotes w m first f.line notes
+    → Own (afters w notes) c all (treatings ++ treated_in c notes) (came ++ []) (sent ++ sent_in c m notes)
+leads-own m w first c outcomes all treatings came sent f answer entry notes kept own is same unsent untreated flies good leads =
     let settles : Settles m v f.line leads.rest = subst (λ u. Settles m u f.line leads.rest) is leads.settles in
     let numbered : Numbered v = over-numbered w f.number answer entry (Some f) same kept.numbered in
     let held : Held v c came sent = over-held w c came sent f answer entry kept.held in
-    let done = settles-own m v c f.line outcomes flights came sent leads.rest held numbered (⊎_elim (here (w.line f.line) refl) apart (cases_eq f.line c)) settles in
+    let done = settles-own m v c f.line all treatings came sent leads.rest held numbered (⊎_elim (here (w.line f.line) refl) apart (cases_eq f.line c)) settles in
     let state : afters v leads.rest ≡ afters w notes = sym (ap (afters w) leads.begins ∙ ap (λ u. afters u leads.rest) is) in
     let told : sent_in c m leads.rest ≡ sent_in c m notes = ap (λ xs. xs ++ sent_in c m leads.rest) (sym unsent) ∙ sym (ap (sent_in c m) leads.begins) in
     let asked : treated_in c leads.rest ≡ treated_in c notes = ap (λ xs. xs ++ treated_in c leads.rest) (sym untreated) ∙ sym (ap (treated_in c) leads.begins) in
-    own-later (afters w notes) c outcomes (flights ++ treated_in c notes) came [] (sent ++ sent_in c m notes)
-    (subst (λ u. Own u c outcomes (flights ++ treated_in c notes) came (sent ++ sent_in c m notes)) state
-    (own-as (afters v leads.rest) c outcomes (flights ++ treated_in c leads.rest) (flights ++ treated_in c notes) came (sent ++ sent_in c m leads.rest) (sent ++ sent_in c m notes) (ap (λ xs. flights ++ xs) asked) (ap (λ xs. sent ++ xs) told) done))
+    own-came (afters w notes) c all (treatings ++ treated_in c notes) came [] (sent ++ sent_in c m notes) refl
+    (subst (λ u. Own u c all (treatings ++ treated_in c notes) came (sent ++ sent_in c m notes)) state
+    (own-as (afters v leads.rest) c all (treatings ++ treated_in c leads.rest) (treatings ++ treated_in c notes) came (sent ++ sent_in c m leads.rest) (sent ++ sent_in c m notes) (ap (λ xs. treatings ++ xs) asked) (ap (λ xs. sent ++ xs) told) done))
   where
     v : RunState
     v = over_with w f.number answer entry (Some f)
 
-    moves : Moves w outcomes v outcomes
-    moves = rw same (moved-over w.air (flights_asked w.log.entries) f.number outcomes own.air_is)
+    moves : Moves w outcomes v all
+    moves = rw same flies
 
-    here : (at : Option Connection) → w.line f.line ≡ at → f.line ≡ c → Own v c outcomes flights came sent
-    here None line x = own-none v c outcomes flights came sent (subst (λ y. v.line y ≡ None) x (update_here w.line f.line _ ∙ ap (option_map (with_landing f.number answer)) line)) (own.over (sym (ap w.line x) ∙ line)) moves.air_is
+    lands : (k : ℕ) (request : Req) → f.number ≡ k → IsAskedFor w.air (flights_asked w.log.entries) k request → IsOfFlight all k request (Says answer) × IsOver v.air (flights_asked v.log.entries) k
+    lands k request number asked =
+        let over : IsOver v.air (flights_asked w.log.entries) k = subst (λ n. IsOver (without n w.air) (flights_asked w.log.entries) k) (sym number) (over-now w.air (flights_asked w.log.entries) k asked.within) in
+        (good k request number asked, subst (λ most. IsOver v.air most k) (sym same) over)
+
+    here : (at : Option Connection) → w.line f.line ≡ at → f.line ≡ c → Own v c all treatings came sent
+    here None line x = own-none v c all treatings came sent (subst (λ y. v.line y ≡ None) x (update_here w.line f.line _ ∙ ap (option_map (with_landing f.number answer)) line)) (last-moved w v outcomes all treatings came sent moves (own.over (sym (ap w.line x) ∙ line))) moves.air_is
     here (Some k) line x =
         let now : v.line f.line ≡ Some (with_landing f.number answer k) = update_here w.line f.line _ ∙ ap (option_map (with_landing f.number answer)) line in
-        let owns : Owns v outcomes flights (with_landing f.number answer k) = owns-landed w v outcomes flights f.number answer k moves good (own.here k (sym (ap w.line x) ∙ line)) in
-        own-one v c outcomes flights came sent (with_landing f.number answer k) (subst (λ y. v.line y ≡ Some (with_landing f.number answer k)) x now) owns moves.air_is
+        let owns : Owns v all treatings (with_landing f.number answer k) = owns-landed w v outcomes all treatings f.number answer k moves lands (own.here k (sym (ap w.line x) ∙ line)) in
+        own-one v c all treatings came sent (with_landing f.number answer k) (subst (λ y. v.line y ≡ Some (with_landing f.number answer k)) x now) owns moves.air_is
 
-    apart : f.line ≢ c → Own v c outcomes flights came sent
-    apart other = own-moved w v c outcomes outcomes flights came sent (update_apart w.line f.line _ c (λ x. other (sym x))) moves own
+    apart : f.line ≢ c → Own v c all treatings came sent
+    apart other = own-moved w v c outcomes all treatings came sent (update_apart w.line f.line _ c (λ x. other (sym x))) moves own
 
-deliver-own : (w : RunState) (e : Event) (c : ℕ) (outcomes : Outcomes) (flights : List (Option ℕ)) (came : List ℕ) (sent : List Sending) (f : Flying) (answer : Option Answer) → f.rendered ≡ answer → flight_at f.number w.air ≡ Some f → Kept w c came sent
-    → Own w c outcomes flights came sent → DeliverAs w e f answer → Own (afters w e.body) c outcomes (flights ++ treated_in c e.body) (came ++ []) (sent ++ sent_in c e.mood e.body)
-deliver-own w e c outcomes flights came sent f None has there kept own is = idle-own e.mood w c outcomes flights came [] sent e.body own is
-deliver-own w e c outcomes flights came sent f (Some answer) has there kept own to =
+deliver-own : (w : RunState) (e : Event) (c : ℕ) (outcomes : Outcomes) (treatings : List Treating) (came : List ℕ) (sent : List Sending) (f : Flying) (answer : Option Answer) → f.rendered ≡ answer → flight_at f.number w.air ≡ Some f → Kept w c came sent
+    → Own w c outcomes treatings came sent → DeliverAs w e f answer → Own (afters w e.body) c outcomes (treatings ++ treated_in c e.body) (came ++ []) (sent ++ sent_in c e.mood e.body)
+deliver-own w e c outcomes treatings came sent f None has there kept own is = idle-own e.mood w c outcomes treatings came [] sent e.body own refl is
+deliver-own w e c outcomes treatings came sent f (Some answer) has there kept own to =
     let leads : LeadsNotes w e.mood (Passed f.number) f.line e.body = subst (λ note. LeadsNotes w e.mood note f.line e.body) to.1 to.2 in
-    leads-own e.mood w (Passed f.number) c outcomes flights came sent f (answer_in (flight_at f.number w.air)) _ e.body kept own (ap (over_with w f.number _ _) there) refl refl refl good leads
+    leads-own e.mood w (Passed f.number) c outcomes outcomes treatings came sent f (answer_in (flight_at f.number w.air)) _ e.body kept own (ap (over_with w f.number _ _) there) refl refl refl
+    (moved-over w.air (flights_asked w.log.entries) f.number outcomes own.air_is) good leads
   where
     given : answer_in (flight_at f.number w.air) ≡ answer
     given = ap answer_in there ∙ ap (λ o. unwrap_or o fixed_answer) has
@@ -232,68 +226,89 @@ deliver-own w e c outcomes flights came sent f (Some answer) has there kept own 
     good : (k : ℕ) (request : Req) → f.number ≡ k → IsAskedFor w.air (flights_asked w.log.entries) k request → IsOfFlight outcomes k request (Says (answer_in (flight_at f.number w.air)))
     good k request same asked =
         let here : flight_at k w.air ≡ Some f = subst (λ n. flight_at n w.air ≡ Some f) same there in
-        let was : WasRendered outcomes.renders k f.request answer = own.air_is k f answer here has in
-        subst (λ a. IsOfFlight outcomes k request (Says a)) (sym given) (inl (subst (λ r. WasRendered outcomes.renders k r answer) (asked.same f here) was))
+        let was : WasRendered outcomes.renders k f.request answer = own.air_is.rendered k f answer here has in
+        subst (λ a. IsOfFlight outcomes k request (Says a)) (sym given) (inl (subst (λ r. WasRendered outcomes.renders k r answer) (asked.same f here) was, flying-unlost outcomes w.air (flights_asked w.log.entries) k f own.air_is here))
 
-delivers-own : (w : RunState) (e : Event) (c : ℕ) (outcomes : Outcomes) (flights : List (Option ℕ)) (came : List ℕ) (sent : List Sending) (flying : Option Flying) → ((f : Flying) → flying ≡ Some f → flight_at f.number w.air ≡ Some f) → Kept w c came sent
-    → Own w c outcomes flights came sent → DeliverTo w e flying → Own (afters w e.body) c outcomes (flights ++ treated_in c e.body) (came ++ []) (sent ++ sent_in c e.mood e.body)
-delivers-own w e c outcomes flights came sent None there kept own is = idle-own e.mood w c outcomes flights came [] sent e.body own is
-delivers-own w e c outcomes flights came sent (Some f) there kept own to = deliver-own w e c outcomes flights came sent f f.rendered refl (there f refl) kept own to
-
-loses-own : (w : RunState) (e : Event) (c : ℕ) (outcomes : Outcomes) (flights : List (Option ℕ)) (came : List ℕ) (sent : List Sending) (flying : Option Flying) → ((f : Flying) → flying ≡ Some f → flight_at f.number w.air ≡ Some f) → Kept w c came sent
-    → Own w c outcomes flights came sent → ((n : ℕ) (rest : List Note) → e.body ≡ Lost n ∷ rest → WasLost outcomes.losses n) → LoseTo w e flying → Own (afters w e.body) c outcomes (flights ++ treated_in c e.body) (came ++ []) (sent ++ sent_in c e.mood e.body)
-loses-own w e c outcomes flights came sent None there kept own lost is = idle-own e.mood w c outcomes flights came [] sent e.body own is
-loses-own w e c outcomes flights came sent (Some f) there kept own lost to =
-    leads-own e.mood w (Lost f.number) c outcomes flights came sent f (error_answer 502) _ e.body kept own (ap (over_with w f.number _ _) (there f refl)) refl refl refl (λ k request same asked. inr (subst (WasLost outcomes.losses) same (lost f.number to.rest to.begins), refl)) to
+delivers-own : (w : RunState) (e : Event) (c : ℕ) (outcomes : Outcomes) (treatings : List Treating) (came : List ℕ) (sent : List Sending) (flying : Option Flying) → ((f : Flying) → flying ≡ Some f → flight_at f.number w.air ≡ Some f) → Kept w c came sent
+    → Own w c outcomes treatings came sent → DeliverTo w e flying → Own (afters w e.body) c outcomes (treatings ++ treated_in c e.body) (came ++ []) (sent ++ sent_in c e.mood e.body)
+delivers-own w e c outcomes treatings came sent None there kept own is = idle-own e.mood w c outcomes treatings came [] sent e.body own refl is
+delivers-own w e c outcomes treatings came sent (Some f) there kept own to = deliver-own w e c outcomes treatings came sent f f.rendered refl (there f refl) kept own to
 
 renders-none : (outcomes : Outcomes) → with_renders outcomes [] ≡ outcomes
 renders-none outcomes = ap (λ rs. record { renders = rs; losses = outcomes.losses }) (append-nil outcomes.renders)
 
+losses-none : (outcomes : Outcomes) → with_losses outcomes [] ≡ outcomes
+losses-none outcomes = ap (λ ns. record { renders = outcomes.renders; losses = ns }) (append-nil outcomes.losses)
+
+-- the flight that is lost in the event is among those that were
+loses-own : (w : RunState) (e : Event) (c : ℕ) (outcomes : Outcomes) (treatings : List Treating) (came : List ℕ) (sent : List Sending) (flying : Option Flying) → ((f : Flying) → flying ≡ Some f → flight_at f.number w.air ≡ Some f) → Kept w c came sent
+    → Own w c outcomes treatings came sent → LoseTo w e flying → Own (afters w e.body) c (with_losses outcomes (lost_in e.body)) (treatings ++ treated_in c e.body) (came ++ []) (sent ++ sent_in c e.mood e.body)
+loses-own w e c outcomes treatings came sent None there kept own is =
+    let none : with_losses outcomes (lost_in e.body) ≡ outcomes = ap (λ notes. with_losses outcomes (lost_in notes)) is ∙ losses-none outcomes in
+    subst (λ os. Own (afters w e.body) c os (treatings ++ treated_in c e.body) (came ++ []) (sent ++ sent_in c e.mood e.body)) (sym none) (idle-own e.mood w c outcomes treatings came [] sent e.body own refl is)
+loses-own w e c outcomes treatings came sent (Some f) there kept own to =
+    let at = there f refl in
+    let all : Outcomes = with_losses outcomes (f.number ∷ []) in
+    let told : lost_in e.body ≡ f.number ∷ [] = ap lost_in to.begins ∙ ap (λ ns. f.number ∷ ns) (serves-lost e.mood (state_after_note w (Lost f.number)) f.line to.rest to.settles.serves) in
+    let moves = moved-lost w.air (flights_asked w.log.entries) f.number f outcomes at (at-within f.number 0 w.air (flights_asked w.log.entries) f kept.numbered at) own.air_is in
+    let good : (k : ℕ) (request : Req) → f.number ≡ k → IsAskedFor w.air (flights_asked w.log.entries) k request → IsOfFlight all k request (Says (error_answer 502)) =
+    λ k request same asked. inr (subst (WasLost all.losses) same (record { before = outcomes.losses; later = []; is = refl }), refl) in
+    let done = leads-own e.mood w (Lost f.number) c outcomes all treatings came sent f (error_answer 502) _ e.body kept own (ap (over_with w f.number _ _) at) refl refl refl moves good to in
+    subst (λ ns. Own (afters w e.body) c (with_losses outcomes ns) (treatings ++ treated_in c e.body) (came ++ []) (sent ++ sent_in c e.mood e.body)) (sym told) done
+
 -- what is rendered in the event is among what was rendered
-render-own : (w : RunState) (e : Event) (c : ℕ) (outcomes : Outcomes) (flights : List (Option ℕ)) (came : List ℕ) (sent : List Sending) (flying : Option Flying) → ((f : Flying) → flying ≡ Some f → flight_at f.number w.air ≡ Some f)
-    → Own w c outcomes flights came sent → RenderTo w e flying → Own (afters w e.body) c (with_renders outcomes (renders_in w e.mood.dry e.body)) (flights ++ treated_in c e.body) (came ++ []) (sent ++ sent_in c e.mood e.body)
-render-own w e c outcomes flights came sent None there own is =
+render-own : (w : RunState) (e : Event) (c : ℕ) (outcomes : Outcomes) (treatings : List Treating) (came : List ℕ) (sent : List Sending) (flying : Option Flying) → ((f : Flying) → flying ≡ Some f → flight_at f.number w.air ≡ Some f)
+    → Own w c outcomes treatings came sent → RenderTo w e flying → Own (afters w e.body) c (with_renders outcomes (renders_in w e.mood.dry e.body)) (treatings ++ treated_in c e.body) (came ++ []) (sent ++ sent_in c e.mood e.body)
+render-own w e c outcomes treatings came sent None there own is =
     let none : with_renders outcomes (renders_in w e.mood.dry e.body) ≡ outcomes = ap (λ notes. with_renders outcomes (renders_in w e.mood.dry notes)) is ∙ renders-none outcomes in
-    subst (λ rs. Own (afters w e.body) c rs (flights ++ treated_in c e.body) (came ++ []) (sent ++ sent_in c e.mood e.body)) (sym none) (idle-own e.mood w c outcomes flights came [] sent e.body own is)
-render-own w e c outcomes flights came sent (Some f) there own to =
+    subst (λ rs. Own (afters w e.body) c rs (treatings ++ treated_in c e.body) (came ++ []) (sent ++ sent_in c e.mood e.body)) (sym none) (idle-own e.mood w c outcomes treatings came [] sent e.body own refl is)
+render-own w e c outcomes treatings came sent (Some f) there own to =
     let at = there f refl in
     let told : renders_in w e.mood.dry (Rendered f.number to.0 ∷ []) ≡ record { number = f.number; request = f.request; answer = to.0; dry = e.mood.dry } ∷ [] = ap (λ o. rendering_of to.0 e.mood.dry o ++ []) at in
     let moves = moved-rendered w.air (flights_asked w.log.entries) f to.0 e.mood.dry outcomes at own.air_is in
     let v = state_after_note w (Rendered f.number to.0) in
-    let now = own-moved w v c outcomes _ flights came sent refl moves own in
-    rw (to.2, told) (own-quiet v c _ flights came sent now)
+    let now = own-moved w v c outcomes _ treatings came sent refl moves own in
+    rw (to.2, told) (own-quiet v c _ treatings came sent now)
 
-direct-own : (w : RunState) (e : Event) (c : ℕ) (outcomes : Outcomes) (flights : List (Option ℕ)) (came : List ℕ) (sent : List Sending) (answer : Answer) → Own w c outcomes flights came sent → e.body ≡ answered answer ∷ []
-    → Own (afters w e.body) c outcomes (flights ++ treated_in c e.body) (came ++ []) (sent ++ sent_in c e.mood e.body)
-direct-own w e c outcomes flights came sent answer own is = rw is (own-quiet w c outcomes flights came sent own)
-
-still-own : (w : RunState) (e : Event) (c : ℕ) (outcomes : Outcomes) (flights : List (Option ℕ)) (came : List ℕ) (sent : List Sending) (s : Step) → IsStillStep s → HappensBy w e s → OwnBy (begun w e s) e c outcomes flights came sent s
-    → OwnBy (begun w e s) e c (with_renders outcomes (renders_in (begun w e s) e.mood.dry e.body)) flights came sent s
-still-own w e c outcomes flights came sent s still happens own =
-    let none : with_renders outcomes (renders_in (begun w e s) e.mood.dry e.body) ≡ outcomes = ap (with_renders outcomes) (still-renders (begun w e s) e.mood.dry e.body (step-still w e s still happens)) ∙ renders-none outcomes in
-    subst (λ rs. OwnBy (begun w e s) e c rs flights came sent s) (sym none) own
-
-by-own : (w : RunState) (e : Event) (c : ℕ) (outcomes : Outcomes) (flights : List (Option ℕ)) (came : List ℕ) (sent : List Sending) (s : Step) → Kept w c came sent → Own w c outcomes flights came sent → ((n : ℕ) (rest : List Note) → e.body ≡ Lost n ∷ rest → WasLost outcomes.losses n) → HappensBy w e s
-    → OwnBy (begun w e s) e c (with_renders outcomes (renders_in (begun w e s) e.mood.dry e.body)) flights came sent s
-by-own w e c outcomes flights came sent (step.Opened d peer) kept own lost is = still-own w e c outcomes flights came sent (step.Opened d peer) tt is (opened-own w e c d peer outcomes flights came sent (w.line d) own is)
-by-own w e c outcomes flights came sent (step.Piece d bytes) kept own lost to = still-own w e c outcomes flights came sent (step.Piece d bytes) tt to (piece-own w e c d bytes outcomes flights came sent (w.line d) refl kept own to)
-by-own w e c outcomes flights came sent (step.Gone d) kept own lost is = still-own w e c outcomes flights came sent (step.Gone d) tt is (gone-own w e c d outcomes flights came sent (w.line d) refl kept own is)
-by-own w e c outcomes flights came sent (step.Direct target) kept own lost to = still-own w e c outcomes flights came sent (step.Direct target) tt to (direct-own w e c outcomes flights came sent to.0 own to.2)
-by-own w e c outcomes flights came sent (step.Render pick) kept own lost to = render-own w e c outcomes flights came sent (picked pick is_unrendered w.air) (λ f found. picked-at w _ f kept.numbered found) own to
-by-own w e c outcomes flights came sent (step.Deliver pick) kept own lost to =
-    still-own w e c outcomes flights came sent (step.Deliver pick) tt to (delivers-own w e c outcomes flights came sent (picked pick is_rendered w.air) (λ f found. picked-at w _ f kept.numbered found) kept own to)
-by-own w e c outcomes flights came sent (step.Lose pick) kept own lost to =
-    still-own w e c outcomes flights came sent (step.Lose pick) tt to (loses-own w e c outcomes flights came sent (picked pick is_any w.air) (λ f found. picked-at w _ f kept.numbered found) kept own lost to)
+direct-own : (w : RunState) (e : Event) (c : ℕ) (outcomes : Outcomes) (treatings : List Treating) (came : List ℕ) (sent : List Sending) (answer : Answer) → Own w c outcomes treatings came sent → e.body ≡ answered answer ∷ []
+    → Own (afters w e.body) c outcomes (treatings ++ treated_in c e.body) (came ++ []) (sent ++ sent_in c e.mood e.body)
+direct-own w e c outcomes treatings came sent answer own is = rw is (own-quiet w c outcomes treatings came sent own)
 
 -- what became of flights, after the event
 abbrev outcomes_then : RunState → Event → Step → Outcomes → Outcomes
 outcomes_then w e s outcomes = with_renders (with_losses outcomes (lost_in e.body)) (renders_in (begun w e s) e.mood.dry e.body)
 
-step-own : (w : RunState) (e : Event) (c : ℕ) (outcomes : Outcomes) (flights : List (Option ℕ)) (came : List ℕ) (sent : List Sending) (s : Step) → Kept w c came sent → Own w c outcomes flights came sent → HappensBy w e s
-    → OwnBy (begun w e s) e c (outcomes_then w e s outcomes) flights came sent s
-step-own w e c outcomes flights came sent s kept own happens =
-    let known : Own w c (with_losses outcomes (lost_in e.body)) flights came sent = own-moved w w c outcomes (with_losses outcomes (lost_in e.body)) flights came sent refl (moved-lost w.air (flights_asked w.log.entries) outcomes (lost_in e.body) own.air_is) own in
-    by-own w e c (with_losses outcomes (lost_in e.body)) flights came sent s kept known (λ n rest begins. record { before = outcomes.losses; later = lost_in rest; is = ap (λ notes. outcomes.losses ++ lost_in notes) begins }) happens
+abbrev OwnThen : RunState → Event → ℕ → Outcomes → List Treating → List ℕ → List Sending → Step → Type 0
+OwnThen w e c outcomes treatings came sent s = OwnBy (begun w e s) e c (outcomes_then w e s outcomes) treatings came sent s
+
+-- an event in which no flight is rendered, by what was lost in it
+unrendered-own : (w : RunState) (e : Event) (c : ℕ) (outcomes : Outcomes) (treatings : List Treating) (came : List ℕ) (sent : List Sending) (s : Step) → IsStillStep s → HappensBy w e s → OwnBy (begun w e s) e c (with_losses outcomes (lost_in e.body)) treatings came sent s
+    → OwnThen w e c outcomes treatings came sent s
+unrendered-own w e c outcomes treatings came sent s still happens own =
+    let lost : Outcomes = with_losses outcomes (lost_in e.body) in
+    let none : with_renders lost (renders_in (begun w e s) e.mood.dry e.body) ≡ lost = ap (with_renders lost) (still-renders (begun w e s) e.mood.dry e.body (step-still w e s still happens)) ∙ renders-none lost in
+    subst (λ os. OwnBy (begun w e s) e c os treatings came sent s) (sym none) own
+
+-- one in which none is lost either
+still-own : (w : RunState) (e : Event) (c : ℕ) (outcomes : Outcomes) (treatings : List Treating) (came : List ℕ) (sent : List Sending) (s : Step) → IsStillStep s → IsKeepingStep s → HappensBy w e s → OwnBy (begun w e s) e c outcomes treatings came sent s
+    → OwnThen w e c outcomes treatings came sent s
+still-own w e c outcomes treatings came sent s still keeps happens own =
+    let none : with_losses outcomes (lost_in e.body) ≡ outcomes = ap (with_losses outcomes) (step-lost w e s keeps happens) ∙ losses-none outcomes in
+    unrendered-own w e c outcomes treatings came sent s still happens (subst (λ os. OwnBy (begun w e s) e c os treatings came sent s) (sym none) own)
+
+step-own : (w : RunState) (e : Event) (c : ℕ) (outcomes : Outcomes) (treatings : List Treating) (came : List ℕ) (sent : List Sending) (s : Step) → Kept w c came sent → Own w c outcomes treatings came sent → HappensBy w e s → OwnThen w e c outcomes treatings came sent s
+step-own w e c outcomes treatings came sent (step.Opened d peer) kept own is = still-own w e c outcomes treatings came sent (step.Opened d peer) tt tt is (opened-own w e c d peer outcomes treatings came sent (w.line d) own is)
+step-own w e c outcomes treatings came sent (step.Piece d bytes) kept own to = still-own w e c outcomes treatings came sent (step.Piece d bytes) tt tt to (piece-own w e c d bytes outcomes treatings came sent (w.line d) refl kept own to)
+step-own w e c outcomes treatings came sent (step.Gone d) kept own is = still-own w e c outcomes treatings came sent (step.Gone d) tt tt is (gone-own w e c d outcomes treatings came sent (w.line d) refl kept own is)
+step-own w e c outcomes treatings came sent (step.Direct target) kept own to = still-own w e c outcomes treatings came sent (step.Direct target) tt tt to (direct-own w e c outcomes treatings came sent to.0 own to.2)
+step-own w e c outcomes treatings came sent (step.Render pick) kept own to =
+    let none : with_losses outcomes (lost_in e.body) ≡ outcomes = ap (with_losses outcomes) (step-lost w e (step.Render pick) tt to) ∙ losses-none outcomes in
+    subst (λ os. OwnBy w e c (with_renders os (renders_in w e.mood.dry e.body)) treatings came sent (step.Render pick)) (sym none)
+    (render-own w e c outcomes treatings came sent (picked pick is_unrendered w.air) (λ f found. picked-at w _ f kept.numbered found) own to)
+step-own w e c outcomes treatings came sent (step.Deliver pick) kept own to =
+    still-own w e c outcomes treatings came sent (step.Deliver pick) tt tt to (delivers-own w e c outcomes treatings came sent (picked pick is_rendered w.air) (λ f found. picked-at w _ f kept.numbered found) kept own to)
+step-own w e c outcomes treatings came sent (step.Lose pick) kept own to =
+    unrendered-own w e c outcomes treatings came sent (step.Lose pick) tt to (loses-own w e c outcomes treatings came sent (picked pick is_any w.air) (λ f found. picked-at w _ f kept.numbered found) kept own to)
 
 -- ---- a run
 abbrev outcomes_after : Outcomes → RunState → List Event → Outcomes
@@ -307,12 +322,12 @@ outcomes-more outcomes w e events =
 outcomes-none : (outcomes : Outcomes) (w : RunState) → outcomes_after outcomes w [] ≡ outcomes
 outcomes-none outcomes w = ap (λ rs. record { renders = rs; losses = outcomes.losses ++ [] }) (append-nil outcomes.renders) ∙ ap (λ ns. record { renders = outcomes.renders; losses = ns }) (append-nil outcomes.losses)
 
-run-own : (w : RunState) (events : List Event) (c : ℕ) (outcomes : Outcomes) (flights : List (Option ℕ)) (came : List ℕ) (sent : List Sending) → Kept w c came sent → Own w c outcomes flights came sent → Run w events
-    → Own (state_after_events w events) c (outcomes_after outcomes w events) (flights_after c flights events) (came_after c came events) (sent_after c sent events)
-run-own w [] c outcomes flights came sent kept own run = subst (λ os. Own w c os flights came sent) (sym (outcomes-none outcomes w)) own
-run-own w (e ∷ events) c outcomes flights came sent kept own run =
-    let rest = run-own (after_event w e) events c (outcomes_then w e e.step outcomes) (then_flights c flights e e.step) (then_came c came e e.step) (then_sent c sent e e.step) (by-step w e c came sent e.step kept run.0.0) (step-own w e c outcomes flights came sent e.step kept own run.0.0) run.1 in
-    subst (λ os. Own (state_after_events (after_event w e) events) c os (flights_after c (then_flights c flights e e.step) events) (came_after c (then_came c came e e.step) events) (sent_after c (then_sent c sent e e.step) events))
+run-own : (w : RunState) (events : List Event) (c : ℕ) (outcomes : Outcomes) (treatings : List Treating) (came : List ℕ) (sent : List Sending) → Kept w c came sent → Own w c outcomes treatings came sent → Run w events
+    → Own (state_after_events w events) c (outcomes_after outcomes w events) (treated_after c treatings events) (came_after c came events) (sent_after c sent events)
+run-own w [] c outcomes treatings came sent kept own run = subst (λ os. Own w c os treatings came sent) (sym (outcomes-none outcomes w)) own
+run-own w (e ∷ events) c outcomes treatings came sent kept own run =
+    let rest = run-own (after_event w e) events c (outcomes_then w e e.step outcomes) (then_treated c treatings e e.step) (then_came c came e e.step) (then_sent c sent e e.step) (by-step w e c came sent e.step kept run.0.0) (step-own w e c outcomes treatings came sent e.step kept own run.0.0) run.1 in
+    subst (λ os. Own (state_after_events (after_event w e) events) c os (treated_after c (then_treated c treatings e e.step) events) (came_after c (then_came c came e e.step) events) (sent_after c (then_sent c sent e e.step) events))
     (outcomes-more outcomes w e events) rest
 
 abbrev no_outcomes : Outcomes
@@ -322,45 +337,26 @@ start-own : (publishing : Publishing) (farm : Farm) (content : Content) (c : ℕ
 start-own publishing farm content c = record {
   here = λ d some. absurd (let no : ⊥ = cc in no);
   over = λ none. record {
-    last = record { last = fresh []; came_then = []; later = []; past = past-fresh []; came_is = refl; still = λ slot e. let no : ⊥ = cc in no };
+    last = last-now (fresh []) [] [] (past-fresh []) (λ slot e. let no : ⊥ = cc in no);
     each = refl;
   };
-  air_is = λ n f answer there has. absurd (let no : ⊥ = cc in no);
+  air_is = record { rendered = λ n f answer there has. absurd (let no : ⊥ = cc in no); lost = λ n was. absurd (none-lost n was) };
 }
 
 -- the last state of a run
-own-answers : InOrder → OfTurns → (w : RunState) (c : ℕ) (outcomes : Outcomes) (flights : List (Option ℕ)) (came : List ℕ) (sent : List Sending) (line : Option Connection) → w.line c ≡ line → Kept w c came sent → Own w c outcomes flights came sent
-    → AreOwnAnswers outcomes flights came sent
-own-answers order turns w c outcomes flights came sent (Some d) is kept own =
-    let past = kept.held.here d is in
-    let still = idle-still d (kept.still d is) in
+own-answers : InOrder → OfTurns → (w : RunState) (c : ℕ) (outcomes : Outcomes) (treatings : List Treating) (came : List ℕ) (sent : List Sending) (line : Option Connection) → w.line c ≡ line → Kept w c came sent → Own w c outcomes treatings came sent
+    → AreOwnAnswers outcomes treatings came sent
+own-answers order turns w c outcomes treatings came sent (Some d) is kept own =
     record {
-      what = record {
-        stream = d.stream;
-        rest = past.unread;
-        came_is = past.came_is;
-        answers = record { turns = d.turns; ends = d.ends; slots = d.slots; spells = past.spells; of_turns = turns-past turns d came sent past; answers = answers-past order d came sent past still };
-      };
-      own = each-map (IsOfAir w.air (flights_asked w.log.entries) outcomes) (IsOfRequest outcomes) (of-request w.air (flights_asked w.log.entries) outcomes) flights d.turns d.slots (own.here d is).each;
+      what = what-past order turns d came sent (kept.held.here d is) (idle-still d (kept.still d is));
+      own = each-map (IsOfAir w.air (flights_asked w.log.entries) outcomes) (IsOfRequest outcomes) (of-request w.air (flights_asked w.log.entries) outcomes) treatings d.turns d.slots (own.here d is).each;
     }
-own-answers order turns w c outcomes flights came sent None is kept own =
+own-answers order turns w c outcomes treatings came sent None is kept own =
     let was = own.over is in
     let last = was.last in
     record {
-      what = record {
-        stream = last.last.stream;
-        rest = last.past.unread ++ last.later;
-        came_is = last.came_is ∙ ap (λ xs. xs ++ last.later) last.past.came_is ∙ append_assoc last.last.stream last.past.unread last.later;
-        answers = record {
-          turns = last.last.turns;
-          ends = last.last.ends;
-          slots = last.last.slots;
-          spells = last.past.spells;
-          of_turns = turns-past turns last.last last.came_then sent last.past;
-          answers = answers-past order last.last last.came_then sent last.past last.still;
-        };
-      };
-      own = was.each;
+      what = what-past order turns last.last came sent last.past last.still;
+      own = each-map (IsOfAir w.air (flights_asked w.log.entries) outcomes) (IsOfRequest outcomes) (of-request w.air (flights_asked w.log.entries) outcomes) treatings last.last.turns last.last.slots was.each;
     }
 
 pub answers-own : InOrder → OfTurns → AnswersAreOwn
@@ -368,4 +364,4 @@ answers-own order turns publishing farm content events c run =
     let w = start_of publishing farm content in
     let kept = run-kept w events c [] [] (start-kept publishing farm content c) run in
     let own = run-own w events c no_outcomes [] [] [] (start-kept publishing farm content c) (start-own publishing farm content c) run in
-    own-answers order turns (state_after_events w events) c (record { renders = renders_of w events; losses = losses_of events }) (flights_since_opened c events) (came_since_opened c events) (sent_since_opened c events) ((state_after_events w events).line c) refl kept own
+    own-answers order turns (state_after_events w events) c (record { renders = renders_of w events; losses = losses_of events }) (treated_since_opened c events) (came_since_opened c events) (sent_since_opened c events) ((state_after_events w events).line c) refl kept own

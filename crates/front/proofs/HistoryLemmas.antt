@@ -1,7 +1,7 @@
 -- What happens to one connection in a run, as moves of it; what came on it, and what was sent.
 use Rattle.std.proofs.Common.{◌≡◌, ◌≢◌, ℕ, ◌+◌, ◌-◌, ◌≤◌, ◌<◌, ◌++◌, Bool, true, false, List, [], ◌∷◌, Option, Some, None, cond, not, map, refl, ap, sym, subst, ◌∙◌, arith, inl, inr, ⊎_elim, append-nil, append_assoc, eq-eqb}
 use Rattle.std.specs.Prelude.{nat_eq, nat_le, flat_map, if◌then◌else◌}
-use Rattle.std.specs.List.{find, position_or_len}
+use Rattle.std.specs.List.{find, list_any, position_or_len}
 use Rattle.std.specs.Map.{update}
 use Rattle.std.specs.Option.{option_map}
 use Rattle.std.proofs.lemmas.List.Folds.{find_at}
@@ -27,8 +27,9 @@ use Rattle.front.specs.declared.note.Note.TheVariants.{Answer as answered, Ask a
 use Rattle.front.specs.declared.step.Step.{Step}
 use Rattle.front.specs.declared.step.Step.TheVariants as step
 use Rattle.front.specs.Events.{DeliverAs, DeliverTo, Event, Happens, HappensBy, LeadsNotes, LoseTo, PieceTo, RenderTo, Run, after_event, state_after_events, begun, gone, going, is_any, is_rendered, is_unrendered, most_lines, opened, opening, picked}
-use Rattle.front.specs.Histories.{brought_by, came_after, opens_connection, sent_after, sent_by, sent_in}
-use Rattle.front.proofs.PastLemmas.{Last, Past, last-later, last-now, past-as, past-fed, past-fresh, past-move, same-landing, same-sent, same-treated}
+use Rattle.front.specs.Histories.{brought_by, came_after, is_idle, opens_connection, sent_after, sent_by, sent_in}
+use Rattle.front.proofs.MoveLemmas.{serves-busy}
+use Rattle.front.proofs.PastLemmas.{Last, Past, last-now, past-as, past-fed, past-fresh, past-move, same-landing, same-sent, same-treated}
 use Rattle.any_config.specs.declared.farm.Farm.{Farm}
 use Rattle.http_front.specs.Turns.{SpellsTurns}
 use Rattle.front.specs.Moves.{GivesDue, IsFirstPoint, Mood, Serves, Settles, state_after_note, afters, asked_by, due_of_connection, flight_at, has_number, line_due, local_slot, new_flight, on_line, over_with, points, request_of, treated, with_rendered, with_rendered_at, without}
@@ -265,7 +266,7 @@ fresh-still peer d same = sym (ap connection.due same)
 
 -- what came and what was sent after the event
 abbrev pub then_came : ℕ → List ℕ → Event → Step → List ℕ
-then_came c came e s = if opens_connection c s e.body then [] else came ++ brought_by c s
+then_came c came e s = if opens_connection c s e.body then [] else came ++ brought_by c s e.body
 
 abbrev pub then_sent : ℕ → List Sending → Event → Step → List Sending
 then_sent c sent e s = if opens_connection c s e.body then [] else sent ++ sent_in c e.mood e.body
@@ -307,26 +308,14 @@ opened-kept w e c d peer came sent None line kept is = by_room (nat_le most_line
     by_room true is = rw is (came-none w c came (sent ++ []) (kept-same w w c came sent refl kept.numbered kept))
     by_room false is = free is
 
--- a piece on a connection that isn't there
-later-held : (w : RunState) (c : ℕ) (came more : List ℕ) (sent : List Sending) → w.line c ≡ None → Held w c came sent → Held w c (came ++ more) sent
-later-held w c came more sent none held = held-none w c (came ++ more) sent none (last-later came more sent sent refl (held.over none))
+-- ---- a piece
+-- on a connection that isn't there it brings nothing
+pub piece-idle : (c d : ℕ) (bytes : List ℕ) (notes : List Note) → notes ≡ Idle ∷ [] → brought_by c (step.Piece d bytes) notes ≡ []
+piece-idle c d bytes notes is = rw is refl
 
-piece-past : (w : RunState) (c d : ℕ) (bytes came : List ℕ) (sent : List Sending) → w.line d ≡ None → Held w c came sent → Held w c (came ++ brought_by c (step.Piece d bytes)) sent
-piece-past w c d bytes came sent none held = ⊎_elim here apart (cases_eq d c)
-  where
-    here : d ≡ c → Held w c (came ++ (if nat_eq d c then bytes else [])) sent
-    here same =
-        let test : nat_eq d c ≡ true = eq-eqb d c same in
-        rw test (later-held w c came bytes sent (sym (ap w.line same) ∙ none) held)
-
-    apart : d ≢ c → Held w c (came ++ (if nat_eq d c then bytes else [])) sent
-    apart other =
-        let test : nat_eq d c ≡ false = ne_eqb d c other in
-        rw test (subst (λ xs. Held w c xs sent) (sym (append-nil came)) held)
-
-pub piece-read : (w : RunState) (e : Event) (c d : ℕ) (bytes came : List ℕ) (sent : List Sending) (k : Connection) → w.line d ≡ Some k → (k.closing ≡ false → SpellsTurns (k.stream ++ bytes) (k.turns ++ e.turns) e.ends) → Held w c came sent
-    → Held (on_line w d (fed bytes e.turns e.ends)) c (came ++ brought_by c (step.Piece d bytes)) sent
-piece-read w e c d bytes came sent k line spells held = ⊎_elim here apart (cases_eq d c)
+pub piece-read : (w : RunState) (e : Event) (c d : ℕ) (bytes came : List ℕ) (sent : List Sending) (k : Connection) → list_any is_idle e.body ≡ false → w.line d ≡ Some k → (k.closing ≡ false → SpellsTurns (k.stream ++ bytes) (k.turns ++ e.turns) e.ends) → Held w c came sent
+    → Held (on_line w d (fed bytes e.turns e.ends)) c (came ++ brought_by c (step.Piece d bytes) e.body) sent
+piece-read w e c d bytes came sent k busy line spells held = rw busy (⊎_elim here apart (cases_eq d c))
   where
     v : RunState
     v = on_line w d (fed bytes e.turns e.ends)
@@ -345,17 +334,20 @@ piece-read w e c d bytes came sent k line spells held = ⊎_elim here apart (cas
         rw test (subst (λ xs. Held v c xs sent) (sym (append-nil came)) (held-same w v c came sent sent (update_apart w.line d _ c (λ x. other (sym x))) refl held))
 
 piece-kept : (w : RunState) (e : Event) (c d : ℕ) (bytes came : List ℕ) (sent : List Sending) (at : Option Connection) → w.line d ≡ at → Kept w c came sent → PieceTo w e d bytes at
-    → Kept (afters (on_line w d (fed bytes e.turns e.ends)) e.body) c (came ++ brought_by c (step.Piece d bytes)) (sent ++ sent_in c e.mood e.body)
+    → Kept (afters (on_line w d (fed bytes e.turns e.ends)) e.body) c (came ++ brought_by c (step.Piece d bytes) e.body) (sent ++ sent_in c e.mood e.body)
 piece-kept w e c d bytes came sent None line kept is = idle-kept e.mood w v c all sent e.body same kept.numbered now is
   where
     v : RunState
     v = on_line w d (fed bytes e.turns e.ends)
 
     all : List ℕ
-    all = came ++ brought_by c (step.Piece d bytes)
+    all = came ++ brought_by c (step.Piece d bytes) e.body
+
+    none : came ≡ all
+    none = sym (ap (λ more. came ++ more) (piece-idle c d bytes e.body is) ∙ append-nil came)
 
     now : Kept w c all sent
-    now = record { held = piece-past w c d bytes came sent line kept.held; still = kept.still; numbered = kept.numbered }
+    now = record { held = subst (λ xs. Held w c xs sent) none kept.held; still = kept.still; numbered = kept.numbered }
 
     same : v.line c ≡ w.line c
     same = ⊎_elim
@@ -363,7 +355,8 @@ piece-kept w e c d bytes came sent None line kept is = idle-kept e.mood w v c al
         (λ other. update_apart w.line d _ c (λ x. other (sym x)))
         (cases_eq d c)
 piece-kept w e c d bytes came sent (Some k) line kept feeds =
-    settles-kept e.mood (on_line w d (fed bytes e.turns e.ends)) c d (came ++ brought_by c (step.Piece d bytes)) sent e.body (piece-read w e c d bytes came sent k line feeds.spells kept.held)
+    settles-kept e.mood (on_line w d (fed bytes e.turns e.ends)) c d (came ++ brought_by c (step.Piece d bytes) e.body) sent e.body
+    (piece-read w e c d bytes came sent k (serves-busy e.mood _ d e.body feeds.settles.serves) line feeds.spells kept.held)
     (λ other. still-same w (on_line w d (fed bytes e.turns e.ends)) c (update_apart w.line d _ c other) kept.still) kept.numbered feeds.settles
 
 gone-kept : (w : RunState) (e : Event) (c d : ℕ) (came : List ℕ) (sent : List Sending) (at : Option Connection) → w.line d ≡ at → Kept w c came sent → e.body ≡ going at → Kept (afters (gone w d at) e.body) c came (sent ++ sent_in c e.mood e.body)

@@ -1,6 +1,7 @@
 -- Notes, one after another, and what they leave alone.
-use Rattle.std.proofs.Common.{◌≡◌, ◌≢◌, ℕ, ◌+◌, ◌++◌, Bool, true, false, List, [], ◌∷◌, Option, Some, None, refl, sym, subst, ◌∙◌, ◌⊎◌, inl, inr, ⊎_elim}
+use Rattle.std.proofs.Common.{◌≡◌, ◌≢◌, ℕ, ◌+◌, ◌++◌, ◌||◌, Bool, true, false, List, [], ◌∷◌, Option, Some, None, refl, ap, sym, subst, ◌∙◌, ◌⊎◌, inl, inr, ⊎_elim}
 use Rattle.std.specs.Prelude.{nat_eq, nat_le, if◌then◌else◌}
+use Rattle.std.specs.List.{list_any}
 use Rattle.std.specs.Map.{update}
 use Rattle.std.proofs.lemmas.Map.{update_apart, update_here}
 use Rattle.sp_base.specs.declared.answer.Answer.{Answer}
@@ -15,6 +16,7 @@ use Rattle.front.specs.declared.step.Step.{Step}
 use Rattle.front.specs.declared.step.Step.TheVariants as step
 use Rattle.front.specs.States.{RunState, LogEntry}
 use Rattle.front.specs.Events.{DeliverAs, DeliverTo, Event, Happens, HappensBy, LeadsNotes, LoseTo, PieceTo, after_event, begun, gone, going, is_any, is_rendered, most_lines, opened, opening, picked}
+use Rattle.front.specs.Histories.{is_idle}
 use Rattle.front.specs.Moves.{Mood, GivesDue, IsFirstPoint, points, Serves, state_after_note, afters, asked_by, due_of_connection, flight_at, over_with, request_of}
 
 pub afters-push : (w : RunState) (notes : List Note) (note : Note) → afters w (notes ++ note ∷ []) ≡ state_after_note (afters w notes) note
@@ -123,6 +125,28 @@ serves-still : (m : Mood) (w : RunState) (c : ℕ) (notes : List Note) → Serve
 serves-still m w c [] serves = tt
 serves-still m w c (n ∷ notes) serves = (gives-still m w c (due_of_connection w c) n serves.0, serves-still m (state_after_note w n) c notes serves.1)
 
+-- ---- a connection that is there does something
+first-busy : (m : Mood) (w : RunState) (c : ℕ) (request : Req) (note : Note) → IsFirstPoint m w c request note points → is_idle note ≡ false
+first-busy m w c request note (inl crowded) = rw crowded.1 refl
+first-busy m w c request note (inr (_, inl hidden)) = rw hidden.1 refl
+first-busy m w c request note (inr (_, inr (_, inl full))) = rw full.1 refl
+first-busy m w c request note (inr (_, inr (_, inr (_, inl free)))) = rw free.1 refl
+first-busy m w c request note (inr (_, inr (_, inr (_, inr (never, _))))) = absurd never
+
+gives-busy : (m : Mood) (w : RunState) (c : ℕ) (owed : Due) (note : Note) → GivesDue m w c owed note → is_idle note ≡ false
+gives-busy m w c (Send slot) note gives = rw gives.1 refl
+gives-busy m w c (Treat Continue) note gives = absurd gives
+gives-busy m w c (Treat (Whole request)) note (inl first) = first-busy m w c request note first
+gives-busy m w c (Treat (Whole request)) note (inr dry) = rw dry.1 refl
+gives-busy m w c (Refuse fault) note gives = rw gives refl
+gives-busy m w c Close note gives = rw gives refl
+gives-busy m w c Nothing note gives = absurd gives
+
+pub serves-busy : (m : Mood) (w : RunState) (c : ℕ) (notes : List Note) → Serves m w c notes → list_any is_idle notes ≡ false
+serves-busy m w c [] serves = refl
+serves-busy m w c (note ∷ notes) serves = ap (λ b. b || list_any is_idle notes) (gives-busy m w c (due_of_connection w c) note serves.0) ∙ serves-busy m (state_after_note w note) c notes serves.1
+
+-- ---- an event that tells no render
 opening-still : (w : RunState) (c : ℕ) (line : Option Connection) (notes : List Note) → notes ≡ opening c w.lines line → AreStillNotes notes
 opening-still w c (Some line) notes is = rw is (tt, tt)
 opening-still w c None notes is = by_test (nat_le most_lines w.lines) is

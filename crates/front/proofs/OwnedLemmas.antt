@@ -15,16 +15,17 @@ use Rattle.connections.specs.Slots.{Awaits, Says, Slot, interim_slot, is_answere
 use Rattle.connections.specs.Connections.{Close, Connection, Due, Nothing, Refuse, Send, Treat, advanced, after_turn, due_at_slot, due_at_turn, due_unsent, fed, next_turn, with_landing, with_sent, with_slot}
 use Rattle.connections.specs.Connections as connection
 use Rattle.connections.specs.declared.sending.Sending.{Sending}
+use Rattle.front.specs.declared.flying.Flying.{Flying}
 use Rattle.front.specs.declared.note.Note.{Note}
 use Rattle.front.specs.declared.note.Note.TheVariants.{Ask as asked, Local, Sent, Shut}
 use Rattle.front.specs.Histories.{sent_by, sent_in}
 use Rattle.front.specs.Moves.{GivesDue, IsFirstPoint, Mood, Serves, state_after_note, afters, asked_by, due_of_connection, line_due, local_slot, points, request_of, treated}
-use Rattle.front.specs.Owned.{AreEach, IsOfFlight, IsOfRequest, Outcomes, treated_by, treated_in}
+use Rattle.front.specs.Owned.{AreEach, ByFlight, ByStatus, IsOfFlight, Outcomes, Treating, treated_by, treated_in}
 use Rattle.front.specs.States.{RunState, flights_asked}
-use Rattle.front.proofs.AirLemmas.{AreMore, AreRendered, IsAskedFor, IsOfAir, Moved, air-moved, asked-new, later-request, moved-asked, moved-same, moved-then, of-request}
+use Rattle.front.proofs.AirLemmas.{Agrees, IsAskedFor, IsOfAir, IsOver, Moved, air-moved, asked-new, moved-asked, moved-same, moved-then}
 use Rattle.front.proofs.EachLemmas.{each-fault, each-filled, each-interim, each-map, each-more, each-push, length-filled, local-answered, some-within}
 use Rattle.front.proofs.HistoryLemmas.{Held, Numbered, gives-numbered, line-held}
-use Rattle.front.proofs.PastLemmas.{Last, longer, past-as}
+use Rattle.front.proofs.PastLemmas.{Last, last-now, longer, past-as}
 
 -- ---- what is due of the turns
 abbrev IsOfStream : Due → Type 0
@@ -65,51 +66,52 @@ fault-next (Some t) ends fault e = absurd (let no : ⊥ = cc in no)
 
 -- ---- one connection
 -- its slots have their own answers, and while it isn't closing each of them is a turn's
-pub record Owns (w : RunState) (outcomes : Outcomes) (flights : List (Option ℕ)) (d : Connection) : Type 0 where
-  pub each : AreEach (IsOfAir w.air (flights_asked w.log.entries) outcomes) flights d.turns d.slots
+pub record Owns (w : RunState) (outcomes : Outcomes) (treatings : List Treating) (d : Connection) : Type 0 where
+  pub each : AreEach (IsOfAir w.air (flights_asked w.log.entries) outcomes) treatings d.turns d.slots
   pub room : d.closing ≡ false → length d.slots ≤ length d.turns
 
 -- the same of what it was at last
-pub record LastOwns (outcomes : Outcomes) (flights : List (Option ℕ)) (came : List ℕ) (sent : List Sending) : Type 0 where
+pub record LastOwns (air : List Flying) (most : ℕ) (outcomes : Outcomes) (treatings : List Treating) (came : List ℕ) (sent : List Sending) : Type 0 where
   pub last : Last came sent
-  pub each : AreEach (IsOfRequest outcomes) flights last.last.turns last.last.slots
+  pub each : AreEach (IsOfAir air most outcomes) treatings last.last.turns last.last.slots
 
 -- whether the connection is open or not any more
-pub record Own (w : RunState) (c : ℕ) (outcomes : Outcomes) (flights : List (Option ℕ)) (came : List ℕ) (sent : List Sending) : Type 0 where
-  pub here : (d : Connection) → w.line c ≡ Some d → Owns w outcomes flights d
-  pub over : w.line c ≡ None → LastOwns outcomes flights came sent
-  pub air_is : AreRendered outcomes w.air
+pub record Own (w : RunState) (c : ℕ) (outcomes : Outcomes) (treatings : List Treating) (came : List ℕ) (sent : List Sending) : Type 0 where
+  pub here : (d : Connection) → w.line c ≡ Some d → Owns w outcomes treatings d
+  pub over : w.line c ≡ None → LastOwns w.air (flights_asked w.log.entries) outcomes treatings came sent
+  pub air_is : Agrees outcomes w.air (flights_asked w.log.entries)
 
 -- what notes elsewhere do
 abbrev pub Moves : RunState → Outcomes → RunState → Outcomes → Type 0
 Moves w outcomes v all = Moved w.air (flights_asked w.log.entries) outcomes v.air (flights_asked v.log.entries) all
 
-pub own-one : (v : RunState) (c : ℕ) (outcomes : Outcomes) (flights : List (Option ℕ)) (came : List ℕ) (sent : List Sending) (x : Connection) → v.line c ≡ Some x → Owns v outcomes flights x → AreRendered outcomes v.air → Own v c outcomes flights came sent
-own-one v c outcomes flights came sent x is owns air_is = record {
-  here = λ d some. let same : x ≡ d = cc in subst (Owns v outcomes flights) same owns;
+pub own-one : (v : RunState) (c : ℕ) (outcomes : Outcomes) (treatings : List Treating) (came : List ℕ) (sent : List Sending) (x : Connection) → v.line c ≡ Some x → Owns v outcomes treatings x → Agrees outcomes v.air (flights_asked v.log.entries) → Own v c outcomes treatings came sent
+own-one v c outcomes treatings came sent x is owns air_is = record {
+  here = λ d some. let same : x ≡ d = cc in subst (Owns v outcomes treatings) same owns;
   over = λ none. absurd (let no : ⊥ = cc in no);
   air_is = air_is;
 }
 
-pub own-none : (v : RunState) (c : ℕ) (outcomes : Outcomes) (flights : List (Option ℕ)) (came : List ℕ) (sent : List Sending) → v.line c ≡ None → LastOwns outcomes flights came sent → AreRendered outcomes v.air → Own v c outcomes flights came sent
-own-none v c outcomes flights came sent is last air_is = record { here = λ d some. absurd (let no : ⊥ = cc in no); over = λ none. last; air_is = air_is }
+pub own-none : (v : RunState) (c : ℕ) (outcomes : Outcomes) (treatings : List Treating) (came : List ℕ) (sent : List Sending) → v.line c ≡ None → LastOwns v.air (flights_asked v.log.entries) outcomes treatings came sent → Agrees outcomes v.air (flights_asked v.log.entries) → Own v c outcomes treatings came sent
+own-none v c outcomes treatings came sent is last air_is = record { here = λ d some. absurd (let no : ⊥ = cc in no); over = λ none. last; air_is = air_is }
 
-pub owns-moved : (w v : RunState) (outcomes all : Outcomes) (flights : List (Option ℕ)) (d : Connection) → Moves w outcomes v all → Owns w outcomes flights d → Owns v all flights d
-owns-moved w v outcomes all flights d moves owns = record {
-  each = each-map (IsOfAir w.air (flights_asked w.log.entries) outcomes) (IsOfAir v.air (flights_asked v.log.entries) all) (air-moved w.air (flights_asked w.log.entries) outcomes v.air (flights_asked v.log.entries) all moves) flights d.turns d.slots owns.each;
+pub owns-moved : (w v : RunState) (outcomes all : Outcomes) (treatings : List Treating) (d : Connection) → Moves w outcomes v all → Owns w outcomes treatings d → Owns v all treatings d
+owns-moved w v outcomes all treatings d moves owns = record {
+  each = each-map (IsOfAir w.air (flights_asked w.log.entries) outcomes) (IsOfAir v.air (flights_asked v.log.entries) all) (air-moved w.air (flights_asked w.log.entries) outcomes v.air (flights_asked v.log.entries) all moves) treatings d.turns d.slots owns.each;
   room = owns.room;
 }
 
-pub last-moved : (outcomes all : Outcomes) (flights : List (Option ℕ)) (came : List ℕ) (sent : List Sending) → AreMore outcomes all → LastOwns outcomes flights came sent → LastOwns all flights came sent
-last-moved outcomes all flights came sent more last = record {
+pub last-moved : (w v : RunState) (outcomes all : Outcomes) (treatings : List Treating) (came : List ℕ) (sent : List Sending) → Moves w outcomes v all → LastOwns w.air (flights_asked w.log.entries) outcomes treatings came sent
+    → LastOwns v.air (flights_asked v.log.entries) all treatings came sent
+last-moved w v outcomes all treatings came sent moves last = record {
   last = last.last;
-  each = each-map (IsOfRequest outcomes) (IsOfRequest all) (later-request outcomes all more) flights last.last.last.turns last.last.last.slots last.each;
+  each = each-map (IsOfAir w.air (flights_asked w.log.entries) outcomes) (IsOfAir v.air (flights_asked v.log.entries) all) (air-moved w.air (flights_asked w.log.entries) outcomes v.air (flights_asked v.log.entries) all moves) treatings last.last.last.turns last.last.last.slots last.each;
 }
 
-pub own-moved : (w v : RunState) (c : ℕ) (outcomes all : Outcomes) (flights : List (Option ℕ)) (came : List ℕ) (sent : List Sending) → v.line c ≡ w.line c → Moves w outcomes v all → Own w c outcomes flights came sent → Own v c all flights came sent
-own-moved w v c outcomes all flights came sent line moves own = record {
-  here = λ d some. owns-moved w v outcomes all flights d moves (own.here d (sym line ∙ some));
-  over = λ none. last-moved outcomes all flights came sent moves.grown (own.over (sym line ∙ none));
+pub own-moved : (w v : RunState) (c : ℕ) (outcomes all : Outcomes) (treatings : List Treating) (came : List ℕ) (sent : List Sending) → v.line c ≡ w.line c → Moves w outcomes v all → Own w c outcomes treatings came sent → Own v c all treatings came sent
+own-moved w v c outcomes all treatings came sent line moves own = record {
+  here = λ d some. owns-moved w v outcomes all treatings d moves (own.here d (sym line ∙ some));
+  over = λ none. last-moved w v outcomes all treatings came sent moves (own.over (sym line ∙ none));
   air_is = moves.air_is;
 }
 
@@ -118,84 +120,82 @@ or-true : (a : Bool) → (a || true) ≡ false → ⊥
 or-true true e = let no : ⊥ = cc in no
 or-true false e = let no : ⊥ = cc in no
 
-owns-interim : (w : RunState) (outcomes : Outcomes) (flights : List (Option ℕ)) (d : Connection) → next_turn d ≡ Some Continue → Owns w outcomes flights d → Owns w outcomes flights (with_slot interim_slot d)
-owns-interim w outcomes flights d next owns = record {
-  each = each-interim (IsOfAir w.air (flights_asked w.log.entries) outcomes) flights d.turns d.slots owns.each next;
+owns-interim : (w : RunState) (outcomes : Outcomes) (treatings : List Treating) (d : Connection) → next_turn d ≡ Some Continue → Owns w outcomes treatings d → Owns w outcomes treatings (with_slot interim_slot d)
+owns-interim w outcomes treatings d next owns = record {
+  each = each-interim (IsOfAir w.air (flights_asked w.log.entries) outcomes) treatings d.turns d.slots owns.each next;
   room = λ stays. omega (arith, some-within d.turns (length d.slots) Continue next, length-append d.slots (interim_slot ∷ []));
 }
 
-owns-turn : (w : RunState) (outcomes : Outcomes) (flights : List (Option ℕ)) (d : Connection) (o : Option Turn) → next_turn d ≡ o → Owns w outcomes flights d → Owns w outcomes flights (after_turn o d)
-owns-turn w outcomes flights d None next owns = owns
-owns-turn w outcomes flights d (Some Continue) next owns = owns-interim w outcomes flights d next owns
-owns-turn w outcomes flights d (Some (Whole request)) next owns = owns
+owns-turn : (w : RunState) (outcomes : Outcomes) (treatings : List Treating) (d : Connection) (o : Option Turn) → next_turn d ≡ o → Owns w outcomes treatings d → Owns w outcomes treatings (after_turn o d)
+owns-turn w outcomes treatings d None next owns = owns
+owns-turn w outcomes treatings d (Some Continue) next owns = owns-interim w outcomes treatings d next owns
+owns-turn w outcomes treatings d (Some (Whole request)) next owns = owns
 
-pub owns-advanced : (w : RunState) (outcomes : Outcomes) (flights : List (Option ℕ)) (d : Connection) → Owns w outcomes flights d → Owns w outcomes flights (advanced d)
-owns-advanced w outcomes flights d owns = by_test d.closing
+pub owns-advanced : (w : RunState) (outcomes : Outcomes) (treatings : List Treating) (d : Connection) → Owns w outcomes treatings d → Owns w outcomes treatings (advanced d)
+owns-advanced w outcomes treatings d owns = by_test d.closing
   where
-    by_test : (b : Bool) → Owns w outcomes flights (if b then d else after_turn (next_turn d) d)
+    by_test : (b : Bool) → Owns w outcomes treatings (if b then d else after_turn (next_turn d) d)
     by_test true = owns
-    by_test false = owns-turn w outcomes flights d (next_turn d) refl owns
+    by_test false = owns-turn w outcomes treatings d (next_turn d) refl owns
 
-owns-request : (w : RunState) (outcomes : Outcomes) (flights : List (Option ℕ)) (d : Connection) (flight : Option ℕ) (request : Req) (slot : Slot) → next_turn d ≡ Some (Whole request)
-    → IsOfAir w.air (flights_asked w.log.entries) outcomes flight request slot.response → Owns w outcomes flights d → Owns w outcomes (flights ++ flight ∷ []) (treated slot d)
-owns-request w outcomes flights d flight request slot next is owns = owns-advanced w outcomes (flights ++ flight ∷ []) (with_slot slot d) (record {
-  each = each-push (IsOfAir w.air (flights_asked w.log.entries) outcomes) flights d.turns d.slots flight request slot owns.each next is;
+owns-request : (w : RunState) (outcomes : Outcomes) (treatings : List Treating) (d : Connection) (treating : Treating) (request : Req) (slot : Slot) → next_turn d ≡ Some (Whole request)
+    → IsOfAir w.air (flights_asked w.log.entries) outcomes treating request slot.response → Owns w outcomes treatings d → Owns w outcomes (treatings ++ treating ∷ []) (treated slot d)
+owns-request w outcomes treatings d treating request slot next is owns = owns-advanced w outcomes (treatings ++ treating ∷ []) (with_slot slot d) (record {
+  each = each-push (IsOfAir w.air (flights_asked w.log.entries) outcomes) treatings d.turns d.slots treating request slot owns.each next is;
   room = λ stays. omega (arith, some-within d.turns (length d.slots) (Whole request) next, length-append d.slots (slot ∷ []));
 })
 
-owns-fault : (w : RunState) (outcomes : Outcomes) (flights : List (Option ℕ)) (d : Connection) (slot : Slot) (status : ℕ) → next_turn d ≡ None → d.closing ≡ false → slot.closes ≡ true → slot.response ≡ local_response status → Owns w outcomes flights d
-    → Owns w outcomes (flights ++ None ∷ []) (treated slot d)
-owns-fault w outcomes flights d slot status next stays closes is owns = owns-advanced w outcomes (flights ++ None ∷ []) (with_slot slot d) (record {
-  each = each-fault (IsOfAir w.air (flights_asked w.log.entries) outcomes) flights d.turns d.slots slot status owns.each next (owns.room stays) is;
+owns-fault : (w : RunState) (outcomes : Outcomes) (treatings : List Treating) (d : Connection) (slot : Slot) (status : ℕ) → next_turn d ≡ None → d.closing ≡ false → slot.closes ≡ true → slot.response ≡ local_response status → Owns w outcomes treatings d
+    → Owns w outcomes (treatings ++ ByStatus status ∷ []) (treated slot d)
+owns-fault w outcomes treatings d slot status next stays closes is owns = owns-advanced w outcomes (treatings ++ ByStatus status ∷ []) (with_slot slot d) (record {
+  each = each-fault (IsOfAir w.air (flights_asked w.log.entries) outcomes) treatings d.turns d.slots slot status owns.each next (owns.room stays) is;
   room = λ open_. absurd (or-true d.closing (ap (λ b. d.closing || b) (sym closes) ∙ open_));
 })
 
-treated-here : (flights : List (Option ℕ)) (c status : ℕ) → flights ++ treated_by c (Local c status) ≡ flights ++ None ∷ []
-treated-here flights c status =
+treated-here : (treatings : List Treating) (c status : ℕ) → treatings ++ treated_by c (Local c status) ≡ treatings ++ ByStatus status ∷ []
+treated-here treatings c status =
     let here : nat_eq c c ≡ true = grind arith in
     rw here refl
 
-asked-here : (flights : List (Option ℕ)) (c n : ℕ) (key : _) → flights ++ treated_by c (asked n c key) ≡ flights ++ Some n ∷ []
-asked-here flights c n key =
+asked-here : (treatings : List Treating) (c n : ℕ) (key : _) → treatings ++ treated_by c (asked n c key) ≡ treatings ++ ByFlight n ∷ []
+asked-here treatings c n key =
     let here : nat_eq c c ≡ true = grind arith in
     rw here refl
 
 -- what a connection was at last owns what it owned then
-pub last-owns : (w : RunState) (outcomes : Outcomes) (flights : List (Option ℕ)) (came : List ℕ) (sent : List Sending) (d : Connection) (last : Last came sent) → last.last ≡ d → Owns w outcomes flights d → LastOwns outcomes (flights ++ []) came sent
-last-owns w outcomes flights came sent d last same owns = record {
-  last = last;
-  each = rw (append-nil flights, same) (each-map (IsOfAir w.air (flights_asked w.log.entries) outcomes) (IsOfRequest outcomes) (of-request w.air (flights_asked w.log.entries) outcomes) flights d.turns d.slots owns.each);
-}
+pub last-owns : (w : RunState) (outcomes : Outcomes) (treatings : List Treating) (came : List ℕ) (sent : List Sending) (d : Connection) (last : Last came sent) → last.last ≡ d → Owns w outcomes treatings d
+    → LastOwns w.air (flights_asked w.log.entries) outcomes (treatings ++ []) came sent
+last-owns w outcomes treatings came sent d last same owns = record { last = last; each = rw (append-nil treatings, same) owns.each }
 
 -- ---- a note that is owed
 -- the connection after the note, where the farm and the flights are those of before
-local-owns : (w : RunState) (c : ℕ) (d : Connection) (outcomes : Outcomes) (flights : List (Option ℕ)) (came : List ℕ) (sent : List Sending) (request : Req) (status : ℕ) → w.line c ≡ Some d → connection.due d ≡ Treat (Whole request) → Own w c outcomes flights came sent
-    → Own (state_after_note w (Local c status)) c outcomes (flights ++ treated_by c (Local c status)) came (sent ++ [])
-local-owns w c d outcomes flights came sent request status is owed own =
+local-owns : (w : RunState) (c : ℕ) (d : Connection) (outcomes : Outcomes) (treatings : List Treating) (came : List ℕ) (sent : List Sending) (request : Req) (status : ℕ) → w.line c ≡ Some d → connection.due d ≡ Treat (Whole request) → Own w c outcomes treatings came sent
+    → Own (state_after_note w (Local c status)) c outcomes (treatings ++ treated_by c (Local c status)) came (sent ++ [])
+local-owns w c d outcomes treatings came sent request status is owed own =
     let next = due-of d (Treat (Whole request)) tt owed in
     let some : request_of (due_of_connection w c) ≡ Some request = ap request_of (ap line_due is ∙ owed) in
     let slot = local_slot (Some request) status d in
     let v = state_after_note w (Local c status) in
     let now : v.line c ≡ Some (treated slot d) = update_here w.line c _ ∙ ap (option_map (λ line. treated (local_slot (request_of (due_of_connection w c)) status line) line)) is ∙ ap (λ r. Some (treated (local_slot r status d) d)) some in
-    let before : Owns v outcomes flights d = owns-moved w v outcomes outcomes flights d (moved-same w.air (flights_asked w.log.entries) outcomes own.air_is) (own.here d is) in
-    let owns : Owns v outcomes (flights ++ None ∷ []) (treated slot d) = owns-request v outcomes flights d None request slot (turn-next (next_turn d) d.ends (Whole request) next.0) (status, refl) before in
-    own-one v c outcomes _ came (sent ++ []) (treated slot d) now (subst (λ fs. Owns v outcomes fs (treated slot d)) (sym (treated-here flights c status)) owns) own.air_is
+    let before : Owns v outcomes treatings d = owns-moved w v outcomes outcomes treatings d (moved-same w.air (flights_asked w.log.entries) outcomes own.air_is) (own.here d is) in
+    let owns : Owns v outcomes (treatings ++ ByStatus status ∷ []) (treated slot d) = owns-request v outcomes treatings d (ByStatus status) request slot (turn-next (next_turn d) d.ends (Whole request) next.0) refl before in
+    own-one v c outcomes _ came (sent ++ []) (treated slot d) now (subst (λ fs. Owns v outcomes fs (treated slot d)) (sym (treated-here treatings c status)) owns) own.air_is
 
-refused-owns : (w : RunState) (c : ℕ) (d : Connection) (outcomes : Outcomes) (flights : List (Option ℕ)) (came : List ℕ) (sent : List Sending) (fault : InFault) (status : ℕ) → w.line c ≡ Some d → connection.due d ≡ Refuse fault → Own w c outcomes flights came sent
-    → Own (state_after_note w (Local c status)) c outcomes (flights ++ treated_by c (Local c status)) came (sent ++ [])
-refused-owns w c d outcomes flights came sent fault status is owed own =
+refused-owns : (w : RunState) (c : ℕ) (d : Connection) (outcomes : Outcomes) (treatings : List Treating) (came : List ℕ) (sent : List Sending) (fault : InFault) (status : ℕ) → w.line c ≡ Some d → connection.due d ≡ Refuse fault → Own w c outcomes treatings came sent
+    → Own (state_after_note w (Local c status)) c outcomes (treatings ++ treated_by c (Local c status)) came (sent ++ [])
+refused-owns w c d outcomes treatings came sent fault status is owed own =
     let next = due-of d (Refuse fault) tt owed in
     let none : request_of (due_of_connection w c) ≡ None = ap request_of (ap line_due is ∙ owed) in
     let slot = local_slot None status d in
     let v = state_after_note w (Local c status) in
     let now : v.line c ≡ Some (treated slot d) = update_here w.line c _ ∙ ap (option_map (λ line. treated (local_slot (request_of (due_of_connection w c)) status line) line)) is ∙ ap (λ r. Some (treated (local_slot r status d) d)) none in
-    let before : Owns v outcomes flights d = owns-moved w v outcomes outcomes flights d (moved-same w.air (flights_asked w.log.entries) outcomes own.air_is) (own.here d is) in
-    let owns : Owns v outcomes (flights ++ None ∷ []) (treated slot d) = owns-fault v outcomes flights d slot status (fault-next (next_turn d) d.ends fault next.0) next.1 refl refl before in
-    own-one v c outcomes _ came (sent ++ []) (treated slot d) now (subst (λ fs. Owns v outcomes fs (treated slot d)) (sym (treated-here flights c status)) owns) own.air_is
+    let before : Owns v outcomes treatings d = owns-moved w v outcomes outcomes treatings d (moved-same w.air (flights_asked w.log.entries) outcomes own.air_is) (own.here d is) in
+    let owns : Owns v outcomes (treatings ++ ByStatus status ∷ []) (treated slot d) = owns-fault v outcomes treatings d slot status (fault-next (next_turn d) d.ends fault next.0) next.1 refl refl before in
+    own-one v c outcomes _ came (sent ++ []) (treated slot d) now (subst (λ fs. Owns v outcomes fs (treated slot d)) (sym (treated-here treatings c status)) owns) own.air_is
 
-asked-owns : (w : RunState) (c : ℕ) (d : Connection) (outcomes : Outcomes) (flights : List (Option ℕ)) (came : List ℕ) (sent : List Sending) (request : Req) → w.line c ≡ Some d → connection.due d ≡ Treat (Whole request) → Numbered w → Own w c outcomes flights came sent
-    → Own (state_after_note w (asked (flights_asked w.log.entries + 1) c None)) c outcomes (flights ++ treated_by c (asked (flights_asked w.log.entries + 1) c None)) came (sent ++ [])
-asked-owns w c d outcomes flights came sent request is owed numbered own =
+asked-owns : (w : RunState) (c : ℕ) (d : Connection) (outcomes : Outcomes) (treatings : List Treating) (came : List ℕ) (sent : List Sending) (request : Req) → w.line c ≡ Some d → connection.due d ≡ Treat (Whole request) → Numbered w → Own w c outcomes treatings came sent
+    → Own (state_after_note w (asked (flights_asked w.log.entries + 1) c None)) c outcomes (treatings ++ treated_by c (asked (flights_asked w.log.entries + 1) c None)) came (sent ++ [])
+asked-owns w c d outcomes treatings came sent request is owed numbered own =
     let next = due-of d (Treat (Whole request)) tt owed in
     let n = flights_asked w.log.entries + 1 in
     let some : request_of (due_of_connection w c) ≡ Some request = ap request_of (ap line_due is ∙ owed) in
@@ -203,61 +203,61 @@ asked-owns w c d outcomes flights came sent request is owed numbered own =
     let v = asked_by w n c None (Some request) in
     let now : v.line c ≡ Some (treated slot d) = update_here w.line c _ ∙ ap (option_map (treated slot)) is in
     let moves : Moves w outcomes v outcomes = moved-asked w.air (flights_asked w.log.entries) c request outcomes numbered own.air_is in
-    let before : Owns v outcomes flights d = owns-moved w v outcomes outcomes flights d moves (own.here d is) in
-    let owns : Owns v outcomes (flights ++ Some n ∷ []) (treated slot d) = owns-request v outcomes flights d (Some n) request slot (turn-next (next_turn d) d.ends (Whole request) next.0) (refl, asked-new w.air (flights_asked w.log.entries) c request numbered) before in
-    let done : Own v c outcomes (flights ++ treated_by c (asked n c None)) came (sent ++ []) = own-one v c outcomes _ came (sent ++ []) (treated slot d) now (subst (λ fs. Owns v outcomes fs (treated slot d)) (sym (asked-here flights c n None)) owns) moves.air_is in
-    subst (λ r. Own (asked_by w n c None r) c outcomes (flights ++ treated_by c (asked n c None)) came (sent ++ [])) (sym some) done
+    let before : Owns v outcomes treatings d = owns-moved w v outcomes outcomes treatings d moves (own.here d is) in
+    let owns : Owns v outcomes (treatings ++ ByFlight n ∷ []) (treated slot d) = owns-request v outcomes treatings d (ByFlight n) request slot (turn-next (next_turn d) d.ends (Whole request) next.0) (refl, asked-new w.air (flights_asked w.log.entries) c request numbered) before in
+    let done : Own v c outcomes (treatings ++ treated_by c (asked n c None)) came (sent ++ []) = own-one v c outcomes _ came (sent ++ []) (treated slot d) now (subst (λ fs. Owns v outcomes fs (treated slot d)) (sym (asked-here treatings c n None)) owns) moves.air_is in
+    subst (λ r. Own (asked_by w n c None r) c outcomes (treatings ++ treated_by c (asked n c None)) came (sent ++ [])) (sym some) done
 
-first-owns : (m : Mood) (w : RunState) (c : ℕ) (d : Connection) (outcomes : Outcomes) (flights : List (Option ℕ)) (came : List ℕ) (sent : List Sending) (request : Req) (note : Note) → w.line c ≡ Some d → connection.due d ≡ Treat (Whole request) → Numbered w
-    → Own w c outcomes flights came sent → IsFirstPoint m w c request note points → Own (state_after_note w note) c outcomes (flights ++ treated_by c note) came (sent ++ sent_by c m note)
-first-owns m w c d outcomes flights came sent request note is owed numbered own (inl crowd) = rw crowd.1 (local-owns w c d outcomes flights came sent request 503 is owed own)
-first-owns m w c d outcomes flights came sent request note is owed numbered own (inr (_, inl hidden)) = rw hidden.1 (local-owns w c d outcomes flights came sent request 404 is owed own)
-first-owns m w c d outcomes flights came sent request note is owed numbered own (inr (_, inr (_, inl full))) = rw full.1 (local-owns w c d outcomes flights came sent request 503 is owed own)
-first-owns m w c d outcomes flights came sent request note is owed numbered own (inr (_, inr (_, inr (_, inl ask)))) = rw ask.1 (asked-owns w c d outcomes flights came sent request is owed numbered own)
-first-owns m w c d outcomes flights came sent request note is owed numbered own (inr (_, inr (_, inr (_, inr (never, _))))) = absurd never
+first-owns : (m : Mood) (w : RunState) (c : ℕ) (d : Connection) (outcomes : Outcomes) (treatings : List Treating) (came : List ℕ) (sent : List Sending) (request : Req) (note : Note) → w.line c ≡ Some d → connection.due d ≡ Treat (Whole request) → Numbered w
+    → Own w c outcomes treatings came sent → IsFirstPoint m w c request note points → Own (state_after_note w note) c outcomes (treatings ++ treated_by c note) came (sent ++ sent_by c m note)
+first-owns m w c d outcomes treatings came sent request note is owed numbered own (inl crowd) = rw crowd.1 (local-owns w c d outcomes treatings came sent request 503 is owed own)
+first-owns m w c d outcomes treatings came sent request note is owed numbered own (inr (_, inl hidden)) = rw hidden.1 (local-owns w c d outcomes treatings came sent request 404 is owed own)
+first-owns m w c d outcomes treatings came sent request note is owed numbered own (inr (_, inr (_, inl full))) = rw full.1 (local-owns w c d outcomes treatings came sent request 503 is owed own)
+first-owns m w c d outcomes treatings came sent request note is owed numbered own (inr (_, inr (_, inr (_, inl ask)))) = rw ask.1 (asked-owns w c d outcomes treatings came sent request is owed numbered own)
+first-owns m w c d outcomes treatings came sent request note is owed numbered own (inr (_, inr (_, inr (_, inr (never, _))))) = absurd never
 
-sent-owns : (w : RunState) (c : ℕ) (d : Connection) (outcomes : Outcomes) (flights : List (Option ℕ)) (came : List ℕ) (sent more : List Sending) (bytes : List ℕ) → w.line c ≡ Some d → Own w c outcomes flights came sent
-    → Own (state_after_note w (Sent c bytes)) c outcomes (flights ++ []) came (sent ++ more)
-sent-owns w c d outcomes flights came sent more bytes is own =
+sent-owns : (w : RunState) (c : ℕ) (d : Connection) (outcomes : Outcomes) (treatings : List Treating) (came : List ℕ) (sent more : List Sending) (bytes : List ℕ) → w.line c ≡ Some d → Own w c outcomes treatings came sent
+    → Own (state_after_note w (Sent c bytes)) c outcomes (treatings ++ []) came (sent ++ more)
+sent-owns w c d outcomes treatings came sent more bytes is own =
     let v = state_after_note w (Sent c bytes) in
     let now : v.line c ≡ Some (with_sent bytes d) = update_here w.line c _ ∙ ap (option_map (with_sent bytes)) is in
-    let before : Owns w outcomes flights d = own.here d is in
-    let owns : Owns v outcomes flights (with_sent bytes d) = record { each = before.each; room = before.room } in
-    own-one v c outcomes (flights ++ []) came (sent ++ more) (with_sent bytes d) now (subst (λ fs. Owns v outcomes fs (with_sent bytes d)) (sym (append-nil flights)) owns) own.air_is
+    let before : Owns w outcomes treatings d = own.here d is in
+    let owns : Owns v outcomes treatings (with_sent bytes d) = record { each = before.each; room = before.room } in
+    own-one v c outcomes (treatings ++ []) came (sent ++ more) (with_sent bytes d) now (subst (λ fs. Owns v outcomes fs (with_sent bytes d)) (sym (append-nil treatings)) owns) own.air_is
 
-shut-owns : (w : RunState) (c : ℕ) (d : Connection) (outcomes : Outcomes) (flights : List (Option ℕ)) (came : List ℕ) (sent : List Sending) → w.line c ≡ Some d → connection.due d ≡ Close → Held w c came sent → Own w c outcomes flights came sent
-    → Own (state_after_note w (Shut c)) c outcomes (flights ++ []) came (sent ++ [])
-shut-owns w c d outcomes flights came sent is owed held own =
+shut-owns : (w : RunState) (c : ℕ) (d : Connection) (outcomes : Outcomes) (treatings : List Treating) (came : List ℕ) (sent : List Sending) → w.line c ≡ Some d → connection.due d ≡ Close → Held w c came sent → Own w c outcomes treatings came sent
+    → Own (state_after_note w (Shut c)) c outcomes (treatings ++ []) came (sent ++ [])
+shut-owns w c d outcomes treatings came sent is owed held own =
     let past = past-as d came sent (sent ++ []) (sym (append-nil sent)) (held.here d is) in
-    let last : Last came (sent ++ []) = record { last = d; came_then = came; later = []; past = past; came_is = sym (append-nil came); still = λ slot e. let no : ⊥ = cc in no } in
-    own-none (state_after_note w (Shut c)) c outcomes (flights ++ []) came (sent ++ []) (update_here w.line c None) (last-owns w outcomes flights came (sent ++ []) d last refl (own.here d is)) own.air_is
+    let last : Last came (sent ++ []) = last-now d came (sent ++ []) past (λ slot e. let no : ⊥ = cc in no) in
+    own-none (state_after_note w (Shut c)) c outcomes (treatings ++ []) came (sent ++ []) (update_here w.line c None) (last-owns w outcomes treatings came (sent ++ []) d last refl (own.here d is)) own.air_is
 
-gives-owns : (m : Mood) (w : RunState) (c : ℕ) (d : Connection) (outcomes : Outcomes) (flights : List (Option ℕ)) (came : List ℕ) (sent : List Sending) (owed : Due) (note : Note) → w.line c ≡ Some d → connection.due d ≡ owed → Held w c came sent → Numbered w
-    → Own w c outcomes flights came sent → GivesDue m w c owed note → Own (state_after_note w note) c outcomes (flights ++ treated_by c note) came (sent ++ sent_by c m note)
-gives-owns m w c d outcomes flights came sent (Send slot) note is owed held numbered own gives = rw gives.1 (sent-owns w c d outcomes flights came sent (sent_by c m (Sent c gives.0)) gives.0 is own)
-gives-owns m w c d outcomes flights came sent (Treat Continue) note is owed held numbered own gives = absurd gives
-gives-owns m w c d outcomes flights came sent (Treat (Whole request)) note is owed held numbered own (inl first) = first-owns m w c d outcomes flights came sent request note is owed numbered own first
-gives-owns m w c d outcomes flights came sent (Treat (Whole request)) note is owed held numbered own (inr dry) = rw dry.1 (local-owns w c d outcomes flights came sent request 507 is owed own)
-gives-owns m w c d outcomes flights came sent (Refuse fault) note is owed held numbered own gives = rw gives (refused-owns w c d outcomes flights came sent fault (fault_status fault) is owed own)
-gives-owns m w c d outcomes flights came sent Close note is owed held numbered own gives = rw gives (shut-owns w c d outcomes flights came sent is owed held own)
-gives-owns m w c d outcomes flights came sent Nothing note is owed held numbered own gives = absurd gives
+gives-owns : (m : Mood) (w : RunState) (c : ℕ) (d : Connection) (outcomes : Outcomes) (treatings : List Treating) (came : List ℕ) (sent : List Sending) (owed : Due) (note : Note) → w.line c ≡ Some d → connection.due d ≡ owed → Held w c came sent → Numbered w
+    → Own w c outcomes treatings came sent → GivesDue m w c owed note → Own (state_after_note w note) c outcomes (treatings ++ treated_by c note) came (sent ++ sent_by c m note)
+gives-owns m w c d outcomes treatings came sent (Send slot) note is owed held numbered own gives = rw gives.1 (sent-owns w c d outcomes treatings came sent (sent_by c m (Sent c gives.0)) gives.0 is own)
+gives-owns m w c d outcomes treatings came sent (Treat Continue) note is owed held numbered own gives = absurd gives
+gives-owns m w c d outcomes treatings came sent (Treat (Whole request)) note is owed held numbered own (inl first) = first-owns m w c d outcomes treatings came sent request note is owed numbered own first
+gives-owns m w c d outcomes treatings came sent (Treat (Whole request)) note is owed held numbered own (inr dry) = rw dry.1 (local-owns w c d outcomes treatings came sent request 507 is owed own)
+gives-owns m w c d outcomes treatings came sent (Refuse fault) note is owed held numbered own gives = rw gives (refused-owns w c d outcomes treatings came sent fault (fault_status fault) is owed own)
+gives-owns m w c d outcomes treatings came sent Close note is owed held numbered own gives = rw gives (shut-owns w c d outcomes treatings came sent is owed held own)
+gives-owns m w c d outcomes treatings came sent Nothing note is owed held numbered own gives = absurd gives
 
-line-owns : (m : Mood) (w : RunState) (c : ℕ) (outcomes : Outcomes) (flights : List (Option ℕ)) (came : List ℕ) (sent : List Sending) (note : Note) (line : Option Connection) → w.line c ≡ line → Held w c came sent → Numbered w → Own w c outcomes flights came sent
-    → GivesDue m w c (line_due line) note → Own (state_after_note w note) c outcomes (flights ++ treated_by c note) came (sent ++ sent_by c m note)
-line-owns m w c outcomes flights came sent note None is held numbered own gives = absurd gives
-line-owns m w c outcomes flights came sent note (Some d) is held numbered own gives = gives-owns m w c d outcomes flights came sent (connection.due d) note is refl held numbered own gives
+line-owns : (m : Mood) (w : RunState) (c : ℕ) (outcomes : Outcomes) (treatings : List Treating) (came : List ℕ) (sent : List Sending) (note : Note) (line : Option Connection) → w.line c ≡ line → Held w c came sent → Numbered w → Own w c outcomes treatings came sent
+    → GivesDue m w c (line_due line) note → Own (state_after_note w note) c outcomes (treatings ++ treated_by c note) came (sent ++ sent_by c m note)
+line-owns m w c outcomes treatings came sent note None is held numbered own gives = absurd gives
+line-owns m w c outcomes treatings came sent note (Some d) is held numbered own gives = gives-owns m w c d outcomes treatings came sent (connection.due d) note is refl held numbered own gives
 
 -- all that the connection is owed
-pub serves-owns : (m : Mood) (w : RunState) (c : ℕ) (outcomes : Outcomes) (flights : List (Option ℕ)) (came : List ℕ) (sent : List Sending) (notes : List Note) → Held w c came sent → Numbered w → Own w c outcomes flights came sent → Serves m w c notes
-    → Own (afters w notes) c outcomes (flights ++ treated_in c notes) came (sent ++ sent_in c m notes)
-serves-owns m w c outcomes flights came sent [] held numbered own serves = subst (λ fs. Own w c outcomes fs came (sent ++ [])) (sym (append-nil flights)) (subst (λ xs. Own w c outcomes flights came xs) (sym (append-nil sent)) own)
-serves-owns m w c outcomes flights came sent (note ∷ notes) held numbered own serves =
-    let one = line-owns m w c outcomes flights came sent note (w.line c) refl held numbered own serves.0 in
+pub serves-owns : (m : Mood) (w : RunState) (c : ℕ) (outcomes : Outcomes) (treatings : List Treating) (came : List ℕ) (sent : List Sending) (notes : List Note) → Held w c came sent → Numbered w → Own w c outcomes treatings came sent → Serves m w c notes
+    → Own (afters w notes) c outcomes (treatings ++ treated_in c notes) came (sent ++ sent_in c m notes)
+serves-owns m w c outcomes treatings came sent [] held numbered own serves = subst (λ fs. Own w c outcomes fs came (sent ++ [])) (sym (append-nil treatings)) (subst (λ xs. Own w c outcomes treatings came xs) (sym (append-nil sent)) own)
+serves-owns m w c outcomes treatings came sent (note ∷ notes) held numbered own serves =
+    let one = line-owns m w c outcomes treatings came sent note (w.line c) refl held numbered own serves.0 in
     let held_next = line-held m w c came sent note (w.line c) refl held serves.0 in
-    let rest = serves-owns m (state_after_note w note) c outcomes (flights ++ treated_by c note) came (sent ++ sent_by c m note) notes held_next (gives-numbered m w c (due_of_connection w c) note numbered serves.0) one serves.1 in
+    let rest = serves-owns m (state_after_note w note) c outcomes (treatings ++ treated_by c note) came (sent ++ sent_by c m note) notes held_next (gives-numbered m w c (due_of_connection w c) note numbered serves.0) one serves.1 in
     let v = afters (state_after_note w note) notes in
-    subst (λ fs. Own v c outcomes fs came (sent ++ sent_in c m (note ∷ notes))) (append_assoc flights (treated_by c note) (treated_in c notes))
-    (subst (λ xs. Own v c outcomes ((flights ++ treated_by c note) ++ treated_in c notes) came xs) (append_assoc sent (sent_by c m note) (sent_in c m notes)) rest)
+    subst (λ fs. Own v c outcomes fs came (sent ++ sent_in c m (note ∷ notes))) (append_assoc treatings (treated_by c note) (treated_in c notes))
+    (subst (λ xs. Own v c outcomes ((treatings ++ treated_by c note) ++ treated_in c notes) came xs) (append_assoc sent (sent_by c m note) (sent_in c m notes)) rest)
 
 -- ---- notes on another connection
 local-apart : (c d status : ℕ) → c ≢ d → treated_by c (Local d status) ≡ []
@@ -271,18 +271,18 @@ asked-apart c d n apart =
     rw other refl
 
 -- a note on another connection answers nothing here, and moves the flights alone
-pub record Elsewhere (w v : RunState) (outcomes : Outcomes) (flights : List (Option ℕ)) : Type 0 where
-  pub none : flights ≡ []
+pub record Elsewhere (w v : RunState) (outcomes : Outcomes) (treatings : List Treating) : Type 0 where
+  pub none : treatings ≡ []
   pub moves : Moves w outcomes v outcomes
 
-asked-elsewhere : (w : RunState) (d : ℕ) (outcomes : Outcomes) (request : Option Req) → Numbered w → AreRendered outcomes w.air → Moves w outcomes (asked_by w (flights_asked w.log.entries + 1) d None request) outcomes
+asked-elsewhere : (w : RunState) (d : ℕ) (outcomes : Outcomes) (request : Option Req) → Numbered w → Agrees outcomes w.air (flights_asked w.log.entries) → Moves w outcomes (asked_by w (flights_asked w.log.entries + 1) d None request) outcomes
 asked-elsewhere w d outcomes None numbered air_is = moved-same w.air (flights_asked w.log.entries) outcomes air_is
 asked-elsewhere w d outcomes (Some request) numbered air_is = moved-asked w.air (flights_asked w.log.entries) d request outcomes numbered air_is
 
-local-elsewhere : (w : RunState) (c d status : ℕ) (outcomes : Outcomes) → c ≢ d → AreRendered outcomes w.air → Elsewhere w (state_after_note w (Local d status)) outcomes (treated_by c (Local d status))
+local-elsewhere : (w : RunState) (c d status : ℕ) (outcomes : Outcomes) → c ≢ d → Agrees outcomes w.air (flights_asked w.log.entries) → Elsewhere w (state_after_note w (Local d status)) outcomes (treated_by c (Local d status))
 local-elsewhere w c d status outcomes apart air_is = record { none = local-apart c d status apart; moves = moved-same w.air (flights_asked w.log.entries) outcomes air_is }
 
-first-elsewhere : (m : Mood) (w : RunState) (c d : ℕ) (outcomes : Outcomes) (request : Req) (note : Note) → c ≢ d → Numbered w → AreRendered outcomes w.air → IsFirstPoint m w d request note points → Elsewhere w (state_after_note w note) outcomes (treated_by c note)
+first-elsewhere : (m : Mood) (w : RunState) (c d : ℕ) (outcomes : Outcomes) (request : Req) (note : Note) → c ≢ d → Numbered w → Agrees outcomes w.air (flights_asked w.log.entries) → IsFirstPoint m w d request note points → Elsewhere w (state_after_note w note) outcomes (treated_by c note)
 first-elsewhere m w c d outcomes request note apart numbered air_is (inl crowd) = rw crowd.1 (local-elsewhere w c d 503 outcomes apart air_is)
 first-elsewhere m w c d outcomes request note apart numbered air_is (inr (_, inl hidden)) = rw hidden.1 (local-elsewhere w c d 404 outcomes apart air_is)
 first-elsewhere m w c d outcomes request note apart numbered air_is (inr (_, inr (_, inl full))) = rw full.1 (local-elsewhere w c d 503 outcomes apart air_is)
@@ -290,7 +290,7 @@ first-elsewhere m w c d outcomes request note apart numbered air_is (inr (_, inr
     rw ask.1 (record { none = asked-apart c d (flights_asked w.log.entries + 1) apart; moves = asked-elsewhere w d outcomes (request_of (due_of_connection w d)) numbered air_is })
 first-elsewhere m w c d outcomes request note apart numbered air_is (inr (_, inr (_, inr (_, inr (never, _))))) = absurd never
 
-gives-elsewhere : (m : Mood) (w : RunState) (c d : ℕ) (outcomes : Outcomes) (owed : Due) (note : Note) → c ≢ d → Numbered w → AreRendered outcomes w.air → GivesDue m w d owed note → Elsewhere w (state_after_note w note) outcomes (treated_by c note)
+gives-elsewhere : (m : Mood) (w : RunState) (c d : ℕ) (outcomes : Outcomes) (owed : Due) (note : Note) → c ≢ d → Numbered w → Agrees outcomes w.air (flights_asked w.log.entries) → GivesDue m w d owed note → Elsewhere w (state_after_note w note) outcomes (treated_by c note)
 gives-elsewhere m w c d outcomes (Send slot) note apart numbered air_is gives = rw gives.1 (record { none = refl; moves = moved-same w.air (flights_asked w.log.entries) outcomes air_is })
 gives-elsewhere m w c d outcomes (Treat Continue) note apart numbered air_is gives = absurd gives
 gives-elsewhere m w c d outcomes (Treat (Whole request)) note apart numbered air_is (inl first) = first-elsewhere m w c d outcomes request note apart numbered air_is first
@@ -299,7 +299,7 @@ gives-elsewhere m w c d outcomes (Refuse fault) note apart numbered air_is gives
 gives-elsewhere m w c d outcomes Close note apart numbered air_is gives = rw gives (record { none = refl; moves = moved-same w.air (flights_asked w.log.entries) outcomes air_is })
 gives-elsewhere m w c d outcomes Nothing note apart numbered air_is gives = absurd gives
 
-pub serves-elsewhere : (m : Mood) (w : RunState) (c d : ℕ) (outcomes : Outcomes) (notes : List Note) → c ≢ d → Numbered w → AreRendered outcomes w.air → Serves m w d notes → Elsewhere w (afters w notes) outcomes (treated_in c notes)
+pub serves-elsewhere : (m : Mood) (w : RunState) (c d : ℕ) (outcomes : Outcomes) (notes : List Note) → c ≢ d → Numbered w → Agrees outcomes w.air (flights_asked w.log.entries) → Serves m w d notes → Elsewhere w (afters w notes) outcomes (treated_in c notes)
 serves-elsewhere m w c d outcomes [] apart numbered air_is serves = record { none = refl; moves = moved-same w.air (flights_asked w.log.entries) outcomes air_is }
 serves-elsewhere m w c d outcomes (note ∷ notes) apart numbered air_is serves =
     let one = gives-elsewhere m w c d outcomes (due_of_connection w d) note apart numbered air_is serves.0 in
@@ -310,27 +310,27 @@ serves-elsewhere m w c d outcomes (note ∷ notes) apart numbered air_is serves 
     }
 
 -- ---- a flight has landed
-pub owns-landed : (w v : RunState) (outcomes : Outcomes) (flights : List (Option ℕ)) (n : ℕ) (answer : Answer) (d : Connection) → Moves w outcomes v outcomes
-    → ((k : ℕ) (request : Req) → n ≡ k → IsAskedFor w.air (flights_asked w.log.entries) k request → IsOfFlight outcomes k request (Says answer)) → Owns w outcomes flights d → Owns v outcomes flights (with_landing n answer d)
-owns-landed w v outcomes flights n answer d moves good owns = record {
-  each = each-filled (IsOfAir w.air (flights_asked w.log.entries) outcomes) (IsOfAir v.air (flights_asked v.log.entries) outcomes) n answer
-      (air-moved w.air (flights_asked w.log.entries) outcomes v.air (flights_asked v.log.entries) outcomes moves) lands flights d.turns d.slots owns.each;
+pub owns-landed : (w v : RunState) (outcomes all : Outcomes) (treatings : List Treating) (n : ℕ) (answer : Answer) (d : Connection) → Moves w outcomes v all
+    → ((k : ℕ) (request : Req) → n ≡ k → IsAskedFor w.air (flights_asked w.log.entries) k request → IsOfFlight all k request (Says answer) × IsOver v.air (flights_asked v.log.entries) k) → Owns w outcomes treatings d → Owns v all treatings (with_landing n answer d)
+owns-landed w v outcomes all treatings n answer d moves good owns = record {
+  each = each-filled (IsOfAir w.air (flights_asked w.log.entries) outcomes) (IsOfAir v.air (flights_asked v.log.entries) all) n answer
+      (air-moved w.air (flights_asked w.log.entries) outcomes v.air (flights_asked v.log.entries) all moves) lands treatings d.turns d.slots owns.each;
   room = λ stays. omega (arith, owns.room stays, length-filled n answer d.slots);
 }
   where
-    lands : (flight : Option ℕ) (request : Req) → IsOfAir w.air (flights_asked w.log.entries) outcomes flight request (Awaits n) → IsOfAir v.air (flights_asked v.log.entries) outcomes flight request (Says answer)
-    lands None request is = absurd (let waits : true ≡ false = (let self : nat_eq n n ≡ true = grind arith in sym self) ∙ ap (is_awaiting n) is.1 ∙ local-answered n is.0 in let no : ⊥ = cc in no)
-    lands (Some k) request is = good k request is.0 is.1
+    lands : (treating : Treating) (request : Req) → IsOfAir w.air (flights_asked w.log.entries) outcomes treating request (Awaits n) → IsOfAir v.air (flights_asked v.log.entries) all treating request (Says answer)
+    lands (ByStatus status) request is = absurd (let waits : true ≡ false = (let self : nat_eq n n ≡ true = grind arith in sym self) ∙ ap (is_awaiting n) is ∙ local-answered n status in let no : ⊥ = cc in no)
+    lands (ByFlight k) request is = good k request is.0 is.1
 
 -- ---- more bytes
-pub owns-fed : (w : RunState) (outcomes : Outcomes) (flights : List (Option ℕ)) (bytes : List ℕ) (turns : List Turn) (ends : End) (d : Connection) → Owns w outcomes flights d → Owns w outcomes flights (fed bytes turns ends d)
-owns-fed w outcomes flights bytes turns ends d owns = by_test d.closing refl
+pub owns-fed : (w : RunState) (outcomes : Outcomes) (treatings : List Treating) (bytes : List ℕ) (turns : List Turn) (ends : End) (d : Connection) → Owns w outcomes treatings d → Owns w outcomes treatings (fed bytes turns ends d)
+owns-fed w outcomes treatings bytes turns ends d owns = by_test d.closing refl
   where
-    by_test : (b : Bool) → d.closing ≡ b → Owns w outcomes flights (if b then d else advanced (longer bytes turns ends d))
+    by_test : (b : Bool) → d.closing ≡ b → Owns w outcomes treatings (if b then d else advanced (longer bytes turns ends d))
     by_test true e = owns
     by_test false e =
         let room = owns.room e in
-        owns-advanced w outcomes flights (longer bytes turns ends d) (record {
-          each = each-more (IsOfAir w.air (flights_asked w.log.entries) outcomes) flights d.turns turns d.slots room owns.each;
+        owns-advanced w outcomes treatings (longer bytes turns ends d) (record {
+          each = each-more (IsOfAir w.air (flights_asked w.log.entries) outcomes) treatings d.turns turns d.slots room owns.each;
           room = λ stays. omega (arith, room, length-append d.turns turns);
         })

@@ -211,24 +211,11 @@ past-fed d came sent bytes turns ends spells past = past-read d came sent bytes 
     by_test false e = read-open d (fed bytes turns ends d) bytes came sent turns ends (subst (λ v. Same (longer bytes turns ends d) v) (sym (fed-open bytes turns ends d e)) (same-advanced (longer bytes turns ends d))) e (spells e) past
 
 -- ---- what a connection was at last
--- it is shut, or gone: what it was when nothing more could be sent, and what came up to then
+-- it is shut, or gone: what it was when nothing more could be sent
 pub record Last (came : List ℕ) (sent : List Sending) : Type 0 where
   pub last : Connection
-  pub came_then : List ℕ
-  pub later : List ℕ
-  pub past : Past last came_then sent
-  pub came_is : came ≡ came_then ++ later
+  pub past : Past last came sent
   pub still : (slot : Slot) → connection.due last ≡ Send slot → ⊥
 
-pub last-now : (d : Connection) (came : List ℕ) (sent : List Sending) → Past d came sent → ((slot : Slot) → connection.due d ≡ Send slot → ⊥) → Last came sent
-last-now d came sent past still = record { last = d; came_then = came; later = []; past = past; came_is = sym (append-nil came); still = still }
-
-pub last-later : (came more : List ℕ) (a b : List Sending) → a ≡ b → Last came a → Last (came ++ more) b
-last-later came more a b same last = record {
-  last = last.last;
-  came_then = last.came_then;
-  later = last.later ++ more;
-  past = past-as last.last last.came_then a b same last.past;
-  came_is = ap (λ xs. xs ++ more) last.came_is ∙ append_assoc last.came_then last.later more;
-  still = last.still;
-}
+abbrev pub last-now : (d : Connection) (came : List ℕ) (sent : List Sending) → Past d came sent → ((slot : Slot) → connection.due d ≡ Send slot → ⊥) → Last came sent
+last-now d came sent past still = record { last = d; past = past; still = still }

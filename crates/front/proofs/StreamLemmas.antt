@@ -1,5 +1,5 @@
 -- What the laws of whole runs say of streams, from the past of a connection.
-use Rattle.std.proofs.Common.{◌≡◌, ◌≢◌, ℕ, ◌+◌, ◌++◌, Bool, true, false, List, [], ◌∷◌, Option, Some, None, refl, ap, sym, subst, ◌∙◌, arith, append-nil, append_assoc, length-append}
+use Rattle.std.proofs.Common.{◌≡◌, ◌≢◌, ℕ, ◌+◌, ◌++◌, Bool, true, false, List, [], ◌∷◌, Option, Some, None, refl, ap, sym, subst, ◌∙◌, arith, append-nil, length-append}
 use Rattle.std.specs.Prelude.{if◌then◌else◌, length, slice_get}
 use Rattle.resource_tree.specs.Content.{Content}
 use Rattle.any_config.specs.declared.farm.Farm.{Farm}
@@ -14,6 +14,7 @@ use Rattle.front.specs.Events.{Event, Run, state_after_events}
 use Rattle.front.specs.Histories.{AnswersStream, AnswersWhatCame, HasReadAll, came_since_opened, sent_since_opened}
 use Rattle.front.specs.Publishers.{Publishing}
 use Rattle.front.specs.States.{RunState, start_of}
+use Rattle.front.proofs.ClosingLemmas.{past-all}
 use Rattle.front.proofs.HistoryLemmas.{Kept, run-kept, start-kept}
 use Rattle.front.proofs.PastLemmas.{Last, Past}
 
@@ -32,7 +33,7 @@ answers-past law d came sent past still =
 pub turns-past : OfTurns → (d : Connection) (came : List ℕ) (sent : List Sending) → Past d came sent → AreOfTurns d.turns d.ends d.slots
 turns-past law d came sent past = subst (λ (x : Connection). AreOfTurns x.turns x.ends x.slots) past.is (law past.peer past.moves past.follows)
 
-pub stream-past : InOrder → OfTurns → (d : Connection) (came : List ℕ) (sent : List Sending) → Past d came sent → ((slot : Slot) → connection.due d ≡ Send slot → ⊥) → AnswersStream d.stream sent
+abbrev pub stream-past : InOrder → OfTurns → (d : Connection) (came : List ℕ) (sent : List Sending) → Past d came sent → ((slot : Slot) → connection.due d ≡ Send slot → ⊥) → AnswersStream d.stream sent
 stream-past order turns d came sent past still = record {
   turns = d.turns;
   ends = d.ends;
@@ -40,6 +41,15 @@ stream-past order turns d came sent past still = record {
   spells = past.spells;
   of_turns = turns-past turns d came sent past;
   answers = answers-past order d came sent past still;
+}
+
+abbrev pub what-past : InOrder → OfTurns → (d : Connection) (came : List ℕ) (sent : List Sending) → Past d came sent → ((slot : Slot) → connection.due d ≡ Send slot → ⊥) → AnswersWhatCame came sent
+what-past order turns d came sent past still = record {
+  stream = d.stream;
+  rest = past.unread;
+  came_is = past.came_is;
+  answers = stream-past order turns d came sent past still;
+  all_read = past-all d came sent past;
 }
 
 pub idle-still : (d : Connection) → connection.due d ≡ Nothing → (slot : Slot) → connection.due d ≡ Send slot → ⊥
@@ -106,15 +116,10 @@ read-all publishing farm content events c d run some reads =
 answers-kept : InOrder → OfTurns → (w : RunState) (c : ℕ) (came : List ℕ) (sent : List Sending) (line : Option Connection) → w.line c ≡ line → Kept w c came sent → AnswersWhatCame came sent
 answers-kept order turns w c came sent (Some d) is kept =
     let past = kept.held.here d is in
-    record { stream = d.stream; rest = past.unread; came_is = past.came_is; answers = stream-past order turns d came sent past (idle-still d (kept.still d is)) }
+    what-past order turns d came sent past (idle-still d (kept.still d is))
 answers-kept order turns w c came sent None is kept =
     let last = kept.held.over is in
-    record {
-      stream = last.last.stream;
-      rest = last.past.unread ++ last.later;
-      came_is = last.came_is ∙ ap (λ xs. xs ++ last.later) last.past.came_is ∙ append_assoc last.last.stream last.past.unread last.later;
-      answers = stream-past order turns last.last last.came_then sent last.past last.still;
-    }
+    what-past order turns last.last came sent last.past last.still
 
 pub answered-streams : InOrder → OfTurns → (publishing : Publishing) (farm : Farm) (content : Content) (events : List Event) (c : ℕ) → Run (start_of publishing farm content) events
     → AnswersWhatCame (came_since_opened c events) (sent_since_opened c events)

@@ -46,7 +46,8 @@ AreCalmEvents [] = Unit {0}
 AreCalmEvents (e ∷ events) = (e.mood.dry ≡ false) × AreCalmEvents events
 
 -- Two runs of the same steps in which memory isn't wanting have the same notes, if the streams end alike. (They end alike but where the
--- bytes end within a target that no more bytes can save: there both waiting and the fault are so.)
+-- bytes end within a target that no more bytes can save: there both waiting and the fault are so, and at 16,384 bytes which fault, a bad
+-- head or a long one, is open.)
 abbrev pub CalmRunsAreOne : Type 0
 CalmRunsAreOne = (publishing : Publishing) (farm : Farm) (content : Content) (a b : List Event) → Run (start_of publishing farm content) a → Run (start_of publishing farm content) b → event_steps a ≡ event_steps b → EndAlike (start_of publishing farm content) a b
     → AreCalmEvents a → AreCalmEvents b → event_notes a ≡ event_notes b

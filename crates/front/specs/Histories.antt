@@ -1,5 +1,6 @@
 -- What came on a connection since it was opened, and what was sent on it.
-use Rattle.std.specs.Prelude.{◌≡◌, ◌++◌, ℕ, Bool, false, nat_eq, if◌then◌else◌, List, [], ◌∷◌, None, flat_map}
+use Rattle.std.specs.Prelude.{◌≡◌, ◌++◌, ℕ, Bool, true, false, nat_eq, if◌then◌else◌, List, [], ◌∷◌, None, flat_map}
+use Rattle.std.specs.List.{list_any}
 use Rattle.http_front.specs.Turns.{End, SpellsTurns, Waits}
 use Rattle.http_front.specs.declared.turn.Turn.{Turn}
 use Rattle.connections.specs.Connections.{Connection, next_turn}
@@ -49,21 +50,35 @@ sent_after c sent (e ∷ events) = sent_after c (if opens_connection c e.step e.
 abbrev pub sent_since_opened : ℕ → List Event → List Sending
 sent_since_opened c events = sent_after c [] events
 
--- the bytes that a step brings on the connection
-abbrev pub brought_by : ℕ → Step → List ℕ
-brought_by c (Opened d peer) = []
-brought_by c (Piece d bytes) = if nat_eq d c then bytes else []
-brought_by c (Gone d) = []
-brought_by c (Direct target) = []
-brought_by c (Render pick) = []
-brought_by c (Deliver pick) = []
-brought_by c (Lose pick) = []
+-- the note tells that the step does nothing
+abbrev pub is_idle : Note → Bool
+is_idle (answered answer) = false
+is_idle (asked number d key) = false
+is_idle (Local d status) = false
+is_idle (Rendered number answer) = false
+is_idle (Passed number) = false
+is_idle (Lost number) = false
+is_idle (Sent d bytes) = false
+is_idle (Shut d) = false
+is_idle (Refused d) = false
+is_idle Idle = true
+is_idle Dry = false
+
+-- the bytes that a step brings on the connection: none where it does nothing, since the connection isn't there
+abbrev pub brought_by : ℕ → Step → List Note → List ℕ
+brought_by c (Opened d peer) notes = []
+brought_by c (Piece d bytes) notes = if list_any is_idle notes then [] else (if nat_eq d c then bytes else [])
+brought_by c (Gone d) notes = []
+brought_by c (Direct target) notes = []
+brought_by c (Render pick) notes = []
+brought_by c (Deliver pick) notes = []
+brought_by c (Lose pick) notes = []
 
 abbrev pub came_after : ℕ → List ℕ → List Event → List ℕ
 came_after c came [] = came
-came_after c came (e ∷ events) = came_after c (if opens_connection c e.step e.body then [] else came ++ brought_by c e.step) events
+came_after c came (e ∷ events) = came_after c (if opens_connection c e.step e.body then [] else came ++ brought_by c e.step e.body) events
 
--- what came on the connection since it was opened last
+-- what came on the connection since it was opened last, while it was there
 abbrev pub came_since_opened : ℕ → List Event → List ℕ
 came_since_opened c events = came_after c [] events
 
@@ -77,12 +92,17 @@ pub record AnswersStream (stream : List ℕ) (sent : List Sending) : Type 0 wher
   pub of_turns : AreOfTurns turns ends slots
   pub answers : AnswersRun slots sent
 
--- what was sent answers what came, or, on a connection that was closing before the rest came, a prefix of it
+-- a slot after which the connection closes is among them
+abbrev pub some_closes : List Slot → Bool
+some_closes slots = list_any (λ (slot : Slot). slot.closes) slots
+
+-- what was sent answers what came, or, where a slot closes the connection, a prefix of it
 pub record AnswersWhatCame (came : List ℕ) (sent : List Sending) : Type 0 where
   pub stream : List ℕ
   pub rest : List ℕ
   pub came_is : came ≡ stream ++ rest
   pub answers : AnswersStream stream sent
+  pub all_read : some_closes answers.slots ≡ false → rest ≡ []
 
 -- each turn of what came has its slot, and further turns are awaited
 pub record HasReadAll (came : List ℕ) (connection : Connection) : Type 0 where

@@ -25,7 +25,8 @@ pub fn events_extend()
 /// Whatever happens: what was sent on an open connection since it was opened answers its slots in their order, each once, up to the
 /// first that waits for a flight, and nothing after one that closes it; its slots are those of the turns of its stream, in their
 /// order, and after them that of the stream's fault, with its status; and unless it is closing, its stream is all that came, and each turn of it has its slot (RFC 9112, section 9.3). On a
-/// connection that is shut or gone, too, what was sent answers what came, or a prefix of it.
+/// connection that is shut or gone, too, what was sent answers what came while it was there, or, only where a slot closes it, a prefix
+/// of that.
 pub fn connections_are_answered_in_order()
     ensures answers { (publishing : Publishing) (farm : models.Farm) (content : Content) (events : List Event) (c : ℕ) (connection : Connection) → Run (start_of publishing farm content) events
         → (state_after_events (start_of publishing farm content) events).line c ≡ Some connection → AnswersRun connection.slots (sent_since_opened c events) }
@@ -63,9 +64,9 @@ pub fn a_cutting_changes_no_byte()
 }
 
 /// Whatever happens: what was sent on a connection since it was opened answers what came on it, and each request by its own answer:
-/// that which was rendered for the flight that was asked for this very request, or where it was lost a 502; or where no flight was asked
-/// for it an answer of the front's own. So it is on a connection that is shut or gone, too. (What is rendered for a flight, and on which
-/// content, is the law `renders_are_published`.)
+/// that which was rendered for the flight that was asked for this very request, or exactly where it was lost a 502; or where no flight was
+/// asked for it the answer of the front's own with the status that was noted for it. So it is on a connection that is shut or gone, too.
+/// (What is rendered for a flight, and on which content, is the law `renders_are_published`.)
 pub fn answers_are_of_their_own_requests()
     ensures { AnswersAreOwn }
 {
@@ -81,7 +82,8 @@ pub fn renders_are_published()
 {}
 
 /// A run in which memory isn't wanting is determined by its steps, the publisher, the farm and the content, but for one choice: where the
-/// bytes of a stream end within a target that no more bytes can save, the fault may be told at once or later.
+/// bytes of a stream end within a target that no more bytes can save, the fault may be told at once or later, and at 16,384 bytes which
+/// fault it is, a bad head or a long one, is open.
 pub fn calm_runs_are_determined()
     ensures { CalmRunsAreOne }
 {

@@ -4,8 +4,8 @@ use Rattle.std.specs.Str.{is_utf8}
 use Rattle.std.proofs.lemmas.Bool.Decides.{nat_tests}
 use Rattle.any_config.specs.declared.node.AnyNode.{AnyNode}
 use Rattle.any_config.specs.declared.node.AnyNode.TheVariants as node
-use Rattle.any_config.specs.declared.stop.Stop.{Stop}
-use Rattle.any_config.specs.declared.stop.Stop.TheVariants as stop
+use Rattle.any_config.specs.declared.stop.AnyStop.{AnyStop}
+use Rattle.any_config.specs.declared.stop.AnyStop.TheVariants as stop
 use Rattle.any_config.specs.declared.any_fault.AnyFault.{AnyFault}
 use Rattle.any_config.specs.declared.tokens.Run.{Run}
 use Rattle.any_config.specs.declared.tokens.Run.TheVariants.{Name, Plain, Quoted}
@@ -18,14 +18,14 @@ use Rattle.any_config.proofs.Sound.{value_sound, members_sound, group_sound}
 use Rattle.any_config.proofs.Complete.{value_complete, members_complete, not_empty}
 
 -- a step fails, or the one after it
-bind_err : {A B : Type 0} (r : Result A Stop) (f : A → Result B Stop) (s : Stop) → (r >>= f) ≡ Err s → (r ≡ Err s) ⊎ ((x : A) × (r ≡ Ok x) × (f x ≡ Err s))
+bind_err : {A B : Type 0} (r : Result A AnyStop) (f : A → Result B AnyStop) (s : AnyStop) → (r >>= f) ≡ Err s → (r ≡ Err s) ⊎ ((x : A) × (r ≡ Ok x) × (f x ≡ Err s))
 bind_err (Ok x) f s e = inr (x, refl, e)
 bind_err (Err d) f s e = inl (let same : d ≡ s = cc in ap Err same)
 
-abbrev failed : {A : Type 0} → Stop → Result A Stop
+abbrev failed : {A : Type 0} → AnyStop → Result A AnyStop
 failed s = Err s
 
-err_is : {A : Type 0} (s d : Stop) → failed {A = A} s ≡ failed {A = A} d → s ≡ d
+err_is : {A : Type 0} (s d : AnyStop) → failed {A = A} s ≡ failed {A = A} d → s ≡ d
 err_is s d e = cc
 
 -- no byte of a run stands in front where the run is empty
@@ -56,7 +56,7 @@ plain_front [] = refl
 plain_front (c ∷ t) = double (is_plain_byte c)
 
 -- where there is no name
-name_stops : (t : List ℕ) (s : Stop) → member_name t ≡ Err s → (is_byte_at_front 47 t ≡ true) × (first_byte_passes is_config_name_byte (drop 1 t) ≡ false) × (stop.BadName (length t) ≡ s)
+name_stops : (t : List ℕ) (s : AnyStop) → member_name t ≡ Err s → (is_byte_at_front 47 t ≡ true) × (first_byte_passes is_config_name_byte (drop 1 t) ≡ false) × (stop.BadName (length t) ≡ s)
 unfolding member_name
 name_stops t s h = go (is_byte_at_front 47 t) (run_len Name (drop 1 t) == 0) refl refl h
   where
@@ -104,7 +104,7 @@ unfolding is_byte_at_front
 mark_no_brace [] h = absurd cc
 mark_no_brace (c ∷ t) h = grind (arith, nat_tests)
 
-quoted_stops : (mark : ℕ) (t : List ℕ) (s : Stop) → quoted mark t ≡ Err s → stop.BadQuote (length t) ≡ s
+quoted_stops : (mark : ℕ) (t : List ℕ) (s : AnyStop) → quoted mark t ≡ Err s → stop.BadQuote (length t) ≡ s
 unfolding quoted
 quoted_stops mark t s h = go (is_byte_at_front mark (drop (run_len (Quoted mark) (drop 1 t)) (drop 1 t)) && is_utf8 (take (run_len (Quoted mark) (drop 1 t)) (drop 1 t))) h
   where
@@ -114,10 +114,10 @@ quoted_stops mark t s h = go (is_byte_at_front mark (drop (run_len (Quoted mark)
     go false e = err_is _ s e
 
 -- what is wrong with a value: a mark, or a byte that begins none
-abbrev LeafStops : ℕ → List ℕ → Stop → Type 0
+abbrev LeafStops : ℕ → List ℕ → AnyStop → Type 0
 LeafStops at t s = ((first_byte_passes is_quote_mark t ≡ true) × (stop.BadQuote (length t) ≡ s)) ⊎ ((first_byte_passes begins_value t ≡ false) × (stop.BadName at ≡ s))
 
-word_stops : (at : ℕ) (t : List ℕ) (s : Stop) → word at t ≡ Err s → (first_byte_passes is_plain_byte t ≡ false) × (stop.BadName at ≡ s)
+word_stops : (at : ℕ) (t : List ℕ) (s : AnyStop) → word at t ≡ Err s → (first_byte_passes is_plain_byte t ≡ false) × (stop.BadName at ≡ s)
 unfolding word
 word_stops at t s h = go (run_len Plain t == 0) refl h
   where
@@ -125,7 +125,7 @@ word_stops at t s h = go (run_len Plain t == 0) refl h
     go true eb e = (sym (plain_front t) ∙ run_empty Plain t eb, err_is _ s e)
     go false eb e = absurd cc
 
-leaf_stops : (at : ℕ) (t : List ℕ) (s : Stop) → is_byte_at_front 123 t ≡ false → ungrouped_value at t ≡ Err s → LeafStops at t s
+leaf_stops : (at : ℕ) (t : List ℕ) (s : AnyStop) → is_byte_at_front 123 t ≡ false → ungrouped_value at t ≡ Err s → LeafStops at t s
 unfolding ungrouped_value
 leaf_stops at t s plain h = go (is_byte_at_front 34 t) (is_byte_at_front 39 t) refl refl h
   where
@@ -138,14 +138,14 @@ leaf_stops at t s plain h = go (is_byte_at_front 34 t) (is_byte_at_front 39 t) r
 abbrev none_read : AnyNode × List ℕ → TokenOutcome AnyNode
 none_read x = Ok x
 
-no_value_of : (depth at : ℕ) (t : List ℕ) (s : Stop) → value (group depth) at t ≡ Err s → (n : AnyNode) (r : List ℕ) → IsValue depth t n r → ⊥
+no_value_of : (depth at : ℕ) (t : List ℕ) (s : AnyStop) → value (group depth) at t ≡ Err s → (n : AnyNode) (r : List ℕ) → IsValue depth t n r → ⊥
 no_value_of depth at t s h n r v = let both : none_read (n, r) ≡ failed s = sym (value_complete depth t n r v at) ∙ h in absurd cc
 
 value_leaf : (inner : List ℕ → TokenOutcome AnyNode) (at : ℕ) (t : List ℕ) → is_byte_at_front 123 t ≡ false → value inner at t ≡ ungrouped_value at t
 unfolding value
 value_leaf inner at t plain = rw plain refl
 
-leaf_broken : (depth : ℕ) (t : List ℕ) (x : List ℕ × List ℕ) (s : Stop) → member_name t ≡ Ok x → is_byte_at_front 123 x.1 ≡ false → ungrouped_value (length t) x.1 ≡ Err s → IsBroken depth t s
+leaf_broken : (depth : ℕ) (t : List ℕ) (x : List ℕ × List ℕ) (s : AnyStop) → member_name t ≡ Ok x → is_byte_at_front 123 x.1 ≡ false → ungrouped_value (length t) x.1 ≡ Err s → IsBroken depth t s
 leaf_broken depth t x s named plain h = elim (leaf_stops (length t) x.1 s plain h) [
   | inl quote ↦ subst (IsBroken depth t) quote.1 (IsBroken.no_text x named quote.0 (no_value_of depth (length t) x.1 s (value_leaf (group depth) (length t) x.1 plain ∙ h)))
   | inr bare ↦ subst (IsBroken depth t) bare.1 (IsBroken.no_value x named bare.0)
@@ -154,9 +154,9 @@ leaf_broken depth t x s named plain h = elim (leaf_stops (length t) x.1 s plain 
 -- ---- where reading stops is first
 
 abbrev GroupStops : ℕ → Type 0
-GroupStops depth = (t : List ℕ) (x : List ℕ × List ℕ) (s : Stop) → ends_members t ≡ false → member_name t ≡ Ok x → is_byte_at_front 123 x.1 ≡ true → group depth x.1 ≡ Err s → IsFirstBroken depth t s
+GroupStops depth = (t : List ℕ) (x : List ℕ × List ℕ) (s : AnyStop) → ends_members t ≡ false → member_name t ≡ Ok x → is_byte_at_front 123 x.1 ≡ true → group depth x.1 ≡ Err s → IsFirstBroken depth t s
 
-value_first : (depth : ℕ) → GroupStops depth → (t : List ℕ) (x : List ℕ × List ℕ) (s : Stop) → ends_members t ≡ false → member_name t ≡ Ok x → value (group depth) (length t) x.1 ≡ Err s → IsFirstBroken depth t s
+value_first : (depth : ℕ) → GroupStops depth → (t : List ℕ) (x : List ℕ × List ℕ) (s : AnyStop) → ends_members t ≡ false → member_name t ≡ Ok x → value (group depth) (length t) x.1 ≡ Err s → IsFirstBroken depth t s
 unfolding value
 value_first depth all t x s on named h = go (is_byte_at_front 123 x.1) refl h
   where
@@ -164,7 +164,7 @@ value_first depth all t x s on named h = go (is_byte_at_front 123 x.1) refl h
     go true e f = all t x s on named e f
     go false e f = IsFirstBroken.broken on (leaf_broken depth t x s named e f)
 
-member_first : (depth : ℕ) → GroupStops depth → (t : List ℕ) (s : Stop) → ends_members t ≡ false → member (group depth) t ≡ Err s → IsFirstBroken depth t s
+member_first : (depth : ℕ) → GroupStops depth → (t : List ℕ) (s : AnyStop) → ends_members t ≡ false → member (group depth) t ≡ Err s → IsFirstBroken depth t s
 unfolding member
 member_first depth all t s on h = elim (bind_err (member_name t) (λ n. value (group depth) (length t) n.1 >>= λ v. Ok ((n.0, v.0), v.1)) s h) [
   | inl unnamed ↦ (let w = name_stops t s unnamed in IsFirstBroken.broken on (subst (IsBroken depth t) w.2 (IsBroken.slash w.0 w.1)))
@@ -174,7 +174,7 @@ member_first depth all t s on h = elim (bind_err (member_name t) (λ n. value (g
   ]
 ]
 
-member_later : (depth : ℕ) (t : List ℕ) (m : (List ℕ × AnyNode) × List ℕ) (s : Stop) → ends_members t ≡ false → member (group depth) t ≡ Ok m → IsFirstBroken depth (comments_skipped m.1) s → IsFirstBroken depth t s
+member_later : (depth : ℕ) (t : List ℕ) (m : (List ℕ × AnyNode) × List ℕ) (s : AnyStop) → ends_members t ≡ false → member (group depth) t ≡ Ok m → IsFirstBroken depth (comments_skipped m.1) s → IsFirstBroken depth t s
 unfolding member
 member_later depth t m s on h after =
     let a = bind_ok (member_name t) (λ n. value (group depth) (length t) n.1 >>= λ v. Ok ((n.0, v.0), v.1)) m h in
@@ -182,7 +182,7 @@ member_later depth t m s on h after =
     let rest = ap (λ (z : (List ℕ × AnyNode) × List ℕ). z.1) (ok_is _ m b.2) in
     IsFirstBroken.later a.0 b.0.0 b.0.1 on a.1 (value_sound depth (group_sound depth) (length t) a.0.1 b.0 b.1) (subst (λ (l : List ℕ). IsFirstBroken depth (comments_skipped l) s) (sym rest) after)
 
-members_first : (depth : ℕ) → GroupStops depth → (k : ℕ) (found : Members) (t : List ℕ) (s : Stop) → length t ≤ k → more_members (group depth) k found t ≡ Err s → IsFirstBroken depth t s
+members_first : (depth : ℕ) → GroupStops depth → (k : ℕ) (found : Members) (t : List ℕ) (s : AnyStop) → length t ≤ k → more_members (group depth) k found t ≡ Err s → IsFirstBroken depth t s
 unfolding more_members
 members_first depth all zero found t s le h = absurd cc
 members_first depth all (suc k) found t s le h = go (ends_members t) refl (λ f r l. members_first depth all k f r s l) h
@@ -212,7 +212,7 @@ unfolding ends_members
 nothing_left [] e plain = refl
 nothing_left (c ∷ r) e plain = absurd (let w = at_brace c r e in cc)
 
-opened_first : (depth : ℕ) → GroupStops depth → (t : List ℕ) (x : List ℕ × List ℕ) (s : Stop) → ends_members t ≡ false → member_name t ≡ Ok x → is_byte_at_front 123 x.1 ≡ true → opened (group depth) x.1 ≡ Err s → IsFirstBroken (suc depth) t s
+opened_first : (depth : ℕ) → GroupStops depth → (t : List ℕ) (x : List ℕ × List ℕ) (s : AnyStop) → ends_members t ≡ false → member_name t ≡ Ok x → is_byte_at_front 123 x.1 ≡ true → opened (group depth) x.1 ≡ Err s → IsFirstBroken (suc depth) t s
 unfolding opened members
 opened_first depth all t x s on named at h = elim (bind_err (more_members (group depth) (length (comments_skipped (drop 1 x.1))) [] (comments_skipped (drop 1 x.1))) _ s h) [
   | inl inner ↦ IsFirstBroken.within x on named at (members_first depth all (length (comments_skipped (drop 1 x.1))) [] (comments_skipped (drop 1 x.1)) s (omega arith) inner)
@@ -255,11 +255,11 @@ leaf_of_none inner at t none =
     let w = front_value t none in
     rw (w.0, w.1, w.2, empty_run Plain t (plain_front t ∙ w.3)) refl
 
-member_of : (inner : List ℕ → TokenOutcome AnyNode) (t : List ℕ) (x : List ℕ × List ℕ) (s : Stop) → member_name t ≡ Ok x → value inner (length t) x.1 ≡ Err s → member inner t ≡ Err s
+member_of : (inner : List ℕ → TokenOutcome AnyNode) (t : List ℕ) (x : List ℕ × List ℕ) (s : AnyStop) → member_name t ≡ Ok x → value inner (length t) x.1 ≡ Err s → member inner t ≡ Err s
 unfolding member
 member_of inner t x s named h = rw (named, h) refl
 
-member_unnamed : (inner : List ℕ → TokenOutcome AnyNode) (t : List ℕ) (s : Stop) → member_name t ≡ Err s → member inner t ≡ Err s
+member_unnamed : (inner : List ℕ → TokenOutcome AnyNode) (t : List ℕ) (s : AnyStop) → member_name t ≡ Err s → member inner t ≡ Err s
 unfolding member
 member_unnamed inner t s h = rw h refl
 
@@ -267,23 +267,23 @@ deep_is : (at : ℕ) (t : List ℕ) → is_byte_at_front 123 t ≡ true → valu
 unfolding value group
 deep_is at t e = rw e refl
 
-broken_read : (depth : ℕ) (t : List ℕ) (s : Stop) → IsBroken depth t s → member (group depth) t ≡ Err s
+broken_read : (depth : ℕ) (t : List ℕ) (s : AnyStop) → IsBroken depth t s → member (group depth) t ≡ Err s
 broken_read _ _ _ (IsBroken.slash {depth} {t} at none) = member_unnamed (group depth) t (stop.BadName (length t)) (name_broken t at none)
 broken_read _ _ _ (IsBroken.no_value {depth} {t} x named none) = member_of (group depth) t x (stop.BadName (length t)) named (leaf_of_none (group depth) (length t) x.1 none)
 broken_read _ _ _ (IsBroken.no_text {depth} {t} x named mark none) = member_of (group depth) t x (stop.BadQuote (length x.1)) named (leaf_of_mark depth (length t) x.1 mark none)
 broken_read _ _ _ (IsBroken.too_deep {t} x named at) = member_of (group zero) t x (stop.TooDeep (length x.1)) named (deep_is (length t) x.1 at)
 
-more_here : (inner : List ℕ → TokenOutcome AnyNode) (k : ℕ) (found : Members) (t : List ℕ) (s : Stop) → ends_members t ≡ false → length t ≤ k → member inner t ≡ Err s → more_members inner k found t ≡ Err s
+more_here : (inner : List ℕ → TokenOutcome AnyNode) (k : ℕ) (found : Members) (t : List ℕ) (s : AnyStop) → ends_members t ≡ false → length t ≤ k → member inner t ≡ Err s → more_members inner k found t ≡ Err s
 unfolding more_members
 more_here inner zero found t s on le h = absurd (omega (arith, le, not_empty t on))
 more_here inner (suc k) found t s on le h = rw (on, h) refl
 
-more_later : (inner : List ℕ → TokenOutcome AnyNode) (k : ℕ) (found : Members) (t rest : List ℕ) (x : List ℕ × List ℕ) (n : AnyNode) (s : Stop) → ends_members t ≡ false → member_name t ≡ Ok x → value inner (length t) x.1 ≡ Ok (n, rest)
+more_later : (inner : List ℕ → TokenOutcome AnyNode) (k : ℕ) (found : Members) (t rest : List ℕ) (x : List ℕ × List ℕ) (n : AnyNode) (s : AnyStop) → ends_members t ≡ false → member_name t ≡ Ok x → value inner (length t) x.1 ≡ Ok (n, rest)
     → more_members inner k (found ++ (x.0, n) ∷ []) (comments_skipped rest) ≡ Err s → more_members inner (suc k) found t ≡ Err s
 unfolding more_members member
 more_later inner k found t rest x n s on named v h = rw (on, named, v) h
 
-value_opens : (depth at : ℕ) (t : List ℕ) (s : Stop) → is_byte_at_front 123 t ≡ true → more_members (group depth) (length (comments_skipped (drop 1 t))) [] (comments_skipped (drop 1 t)) ≡ Err s → value (group (suc depth)) at t ≡ Err s
+value_opens : (depth at : ℕ) (t : List ℕ) (s : AnyStop) → is_byte_at_front 123 t ≡ true → more_members (group depth) (length (comments_skipped (drop 1 t))) [] (comments_skipped (drop 1 t)) ≡ Err s → value (group (suc depth)) at t ≡ Err s
 unfolding value group opened members
 value_opens depth at t s e h = rw (e, h) refl
 
@@ -291,7 +291,7 @@ value_unclosed : (depth at : ℕ) (t : List ℕ) (ms : Members) → is_byte_at_f
 unfolding value group opened members is_byte_at_front
 value_unclosed depth at t ms e h = rw (e, h) refl
 
-first_read : (depth : ℕ) (t : List ℕ) (s : Stop) → IsFirstBroken depth t s → (k : ℕ) (found : Members) → length t ≤ k → more_members (group depth) k found t ≡ Err s
+first_read : (depth : ℕ) (t : List ℕ) (s : AnyStop) → IsFirstBroken depth t s → (k : ℕ) (found : Members) → length t ≤ k → more_members (group depth) k found t ≡ Err s
 first_read _ _ _ (IsFirstBroken.broken {depth} {t} {s} on b) k found le = more_here (group depth) k found t s on le (broken_read depth t s b)
 first_read _ _ _ (IsFirstBroken.later {depth} {t} {s} x n rest on named v after) k found le = go k le (λ j f l. first_read depth (comments_skipped rest) s after j f l)
   where
@@ -316,7 +316,7 @@ unfolding ends_members
 not_nil [] plain e = absurd cc
 not_nil (c ∷ r) plain e = at_brace c r e
 
-stop_found : (text : List ℕ) (s : Stop) → file_read text ≡ Err s → IsStop text s
+stop_found : (text : List ℕ) (s : AnyStop) → file_read text ≡ Err s → IsStop text s
 unfolding file_read members
 stop_found text s h = elim (bind_err (more_members (group 32) (length (comments_skipped text)) [] (comments_skipped text)) _ s h) [
   | inl inner ↦ IsStop.member (members_first 32 (group_first 32) (length (comments_skipped text)) [] (comments_skipped text) s (omega arith) inner)
@@ -332,7 +332,7 @@ unfolding is_byte_at_front
 brace_there [] h = absurd cc
 brace_there (c ∷ r) h = grind (arith, nat_tests)
 
-stop_read : (text : List ℕ) (s : Stop) → IsStop text s → file_read text ≡ Err s
+stop_read : (text : List ℕ) (s : AnyStop) → IsStop text s → file_read text ≡ Err s
 unfolding file_read members
 stop_read text _ (IsStop.member {s} first) = rw (first_read 32 (comments_skipped text) s first (length (comments_skipped text)) [] (omega arith)) refl
 stop_read text _ (IsStop.surplus ms rest all at) = rw (members_complete 32 (comments_skipped text) ms rest all (length (comments_skipped text)) [] (omega arith), brace_there rest at) refl
@@ -340,7 +340,7 @@ stop_read text _ (IsStop.surplus ms rest all at) = rw (members_complete 32 (comm
 pub fault_found : (text : List ℕ) (fault : AnyFault) → any_of text ≡ Err fault → IsConfigFault text fault
 fault_found text fault h = go (file_read text) refl h
   where
-    go : (o : Result AnyNode Stop) → file_read text ≡ o → placed_answer text o ≡ Err fault → IsConfigFault text fault
+    go : (o : Result AnyNode AnyStop) → file_read text ≡ o → placed_answer text o ≡ Err fault → IsConfigFault text fault
     go (Ok n) e f = absurd cc
     go (Err s) e f = record { left = s; first = stop_found text s e; told = f }
 

@@ -4,19 +4,19 @@ use Rattle.std.specs.Str.{is_utf8}
 use Rattle.std.proofs.lemmas.Bool.Decides.{nat_tests}
 use Rattle.any_config.specs.declared.node.AnyNode.{AnyNode}
 use Rattle.any_config.specs.declared.node.AnyNode.TheVariants as node
-use Rattle.any_config.specs.declared.stop.Stop.{Stop}
-use Rattle.any_config.specs.declared.stop.Stop.TheVariants.{BadName, BadQuote, Unclosed}
+use Rattle.any_config.specs.declared.stop.AnyStop.{AnyStop}
+use Rattle.any_config.specs.declared.stop.AnyStop.TheVariants.{BadName, BadQuote, Unclosed}
 use Rattle.any_config.specs.declared.tokens.Run.TheVariants.{Name, Plain, Quoted}
 use Rattle.any_config.specs.Tokens.{TokenOutcome, ◌>>=◌, after_blanks_and_comments, comments_skipped, is_line_end, is_config_blank, is_byte_at_front, run_len, member_name, word, quoted, quoted_node, ungrouped_value}
 use Rattle.any_config.specs.Read.{Members, ends_members, value, member, more_members, members, opened, group}
 use Rattle.any_config.proofs.TokenLemmas.{run_within}
 
 -- the value of a step that did not fail
-pub bind_ok : {A B : Type 0} (r : Result A Stop) (f : A → Result B Stop) (y : B) → (r >>= f) ≡ Ok y → (x : A) × (r ≡ Ok x) × (f x ≡ Ok y)
+pub bind_ok : {A B : Type 0} (r : Result A AnyStop) (f : A → Result B AnyStop) (y : B) → (r >>= f) ≡ Ok y → (x : A) × (r ≡ Ok x) × (f x ≡ Ok y)
 bind_ok (Ok x) f y e = (x, refl, e)
 bind_ok (Err d) f y e = absurd cc
 
-abbrev pub done : {A : Type 0} → A → Result A Stop
+abbrev pub done : {A : Type 0} → A → Result A AnyStop
 done x = Ok x
 
 pub ok_is : {A : Type 0} (x y : A) → done x ≡ done y → x ≡ y

@@ -4,8 +4,8 @@ use Rattle.std.proofs.lemmas.List.{append-nil}
 use Rattle.std.proofs.lemmas.Bool.Decides.{nat_tests}
 use Rattle.any_config.specs.declared.node.AnyNode.{AnyNode}
 use Rattle.any_config.specs.declared.node.AnyNode.TheVariants as node
-use Rattle.any_config.specs.declared.stop.Stop.{Stop}
-use Rattle.any_config.specs.declared.stop.Stop.TheVariants as stop
+use Rattle.any_config.specs.declared.stop.AnyStop.{AnyStop}
+use Rattle.any_config.specs.declared.stop.AnyStop.TheVariants as stop
 use Rattle.any_config.specs.declared.any_fault.AnyFault.{AnyFault}
 use Rattle.any_config.specs.Tokens.{◌>>=◌, comments_skipped, is_byte_at_front, member_name, ungrouped_value}
 use Rattle.any_config.specs.Read.{Members, ends_members, value, member, more_members, members, opened, group, file_read, placed_answer, any_of}
@@ -106,7 +106,7 @@ same_ok n top e = let same : n ≡ top = cc in ap done same
 pub any_sound : (text : List ℕ) (top : AnyNode) → any_of text ≡ Ok top → IsFile text top
 any_sound text top h = go (file_read text) refl h
   where
-    go : (o : Result AnyNode Stop) → file_read text ≡ o → placed_answer text o ≡ Ok top → IsFile text top
+    go : (o : Result AnyNode AnyStop) → file_read text ≡ o → placed_answer text o ≡ Ok top → IsFile text top
     go (Ok n) e f = read_sound text top (e ∙ same_ok n top f)
     go (Err stop.Memory) e f = absurd cc
     go (Err (stop.BadName k)) e f = absurd cc

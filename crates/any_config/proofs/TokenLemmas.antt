@@ -7,7 +7,7 @@ use Rattle.std.proofs.lemmas.Bool.Decides.{nat_tests}
 use Rattle.any_config.specs.declared.tokens.Run.{Run}
 use Rattle.any_config.specs.declared.tokens.Run.TheVariants.{Name, Plain, Quoted}
 use Rattle.any_config.specs.Tokens.{ends, run_len, is_config_name_byte, is_plain_byte, is_byte_at_front, quoted, quoted_node}
-use Rattle.any_config.specs.declared.stop.Stop.TheVariants.{BadQuote}
+use Rattle.any_config.specs.declared.stop.AnyStop.TheVariants.{BadQuote}
 
 pub place_is : (n len : ℕ) → n ≤ len → (r : Option ℕ) → r ≡ cond (nat_lt n len) (Some n) None → MatchOption r (len ≡ n) (λ i. i ≡ n)
 place_is n len le r e = go (nat_lt n len) refl r e

@@ -1,8 +1,8 @@
 -- Turns of the loop over members, and the depth of groups.
 use Rattle.std.proofs.Common.{◌≡◌, ◌≢◌, ◌<◌, ℕ, zero, suc, ◌-◌, ◌+◌, false, List, [], ◌∷◌, ◌++◌, length, Ok, Err, refl, sym, ◌∙◌, arith, sub-one}
 use Rattle.any_config.specs.declared.node.AnyNode.{AnyNode}
-use Rattle.any_config.specs.declared.stop.Stop.{Stop}
-use Rattle.any_config.specs.declared.stop.Stop.TheVariants.{Memory, BadName, BadQuote, TooDeep, Unclosed}
+use Rattle.any_config.specs.declared.stop.AnyStop.{AnyStop}
+use Rattle.any_config.specs.declared.stop.AnyStop.TheVariants.{Memory, BadName, BadQuote, TooDeep, Unclosed}
 use Rattle.any_config.specs.Tokens.{TokenOutcome, TokenFails, comments_skipped}
 use Rattle.any_config.specs.Read.{Members, ends_members, member, more_members, opened, group}
 
@@ -22,13 +22,13 @@ more_step inner n i found t m after lt on e =
     let k : n - i ≡ suc (n - (i + 1)) = omega arith in
     rw (k, on, e) refl
 
-more_err : (inner : List ℕ → TokenOutcome AnyNode) (n i : ℕ) (found : Members) (t : List ℕ) (e : Stop) → i < n → ends_members t ≡ false → member inner t ≡ Err e → more_members inner (n - i) found t ≡ Err e
+more_err : (inner : List ℕ → TokenOutcome AnyNode) (n i : ℕ) (found : Members) (t : List ℕ) (e : AnyStop) → i < n → ends_members t ≡ false → member inner t ≡ Err e → more_members inner (n - i) found t ≡ Err e
 unfolding more_members
 more_err inner n i found t e lt on f =
     let k : n - i ≡ suc (n - (i + 1)) = omega arith in
     rw (k, on, f) refl
 
-pub more_fails : (inner : List ℕ → TokenOutcome AnyNode) (n i : ℕ) (found : Members) (t : List ℕ) (e : Stop) (whole : TokenOutcome Members) → i < n → ends_members t ≡ false → more_members inner (n - i) found t ≡ whole → TokenFails e (member inner t) → TokenFails e whole
+pub more_fails : (inner : List ℕ → TokenOutcome AnyNode) (n i : ℕ) (found : Members) (t : List ℕ) (e : AnyStop) (whole : TokenOutcome Members) → i < n → ends_members t ≡ false → more_members inner (n - i) found t ≡ whole → TokenFails e (member inner t) → TokenFails e whole
 more_fails inner n i found t Memory whole lt on same f = tt
 more_fails inner n i found t (BadName k) whole lt on same f = sym same ∙ more_err inner n i found t (BadName k) lt on f
 more_fails inner n i found t (BadQuote k) whole lt on same f = sym same ∙ more_err inner n i found t (BadQuote k) lt on f

@@ -1,8 +1,8 @@
--- The farm of a file.
+-- The farm of a file (Adobe Dispatcher manual, "Defining Farms").
 use Rattle.std.specs.Prelude.{◌≡◌, ℕ, ◌+◌, ◌*◌, ◌-◌, Bool, true, false, not, ◌||◌, ◌&&◌, if◌then◌else◌, ◌==◌, nat_eq, nat_le, List, [], ◌∷◌, ◌++◌, length, Option, Some, None, unwrap_or, Result, Ok, Err, codes}
 use Rattle.std.specs.List.{list_all}
 use Rattle.std.specs.Cmp.Lexicographic.{pointwise}
-use Rattle.glob_rules.specs.declared.piece.Piece.{Piece}
+use Rattle.glob_rules.specs.declared.piece.GlobPiece.{GlobPiece}
 use Rattle.glob_rules.specs.declared.rule.Rule.{Rule}
 use Rattle.glob_rules.specs.declared.fault.GlobFault.{GlobFault}
 use Rattle.glob_rules.specs.Reading.{glob_of}
@@ -122,20 +122,20 @@ member_number name most ms = number_or_zero name most (member_value name ms)
 
 -- ---- entries
 
-abbrev pub glob_or_bad : List ℕ → Result (List Piece) GlobFault → FarmOutcome (List Piece)
+abbrev pub glob_or_bad : List ℕ → Result (List GlobPiece) GlobFault → FarmOutcome (List GlobPiece)
 glob_or_bad name (Ok glob) = Ok glob
 glob_or_bad name (Err fault) = Err (BadKind name)
 
 -- the glob that a word spells
-unfoldable pub glob : List ℕ → List ℕ → FarmOutcome (List Piece)
+unfoldable pub glob : List ℕ → List ℕ → FarmOutcome (List GlobPiece)
 glob name text = glob_or_bad name (glob_of text)
 
-abbrev pub glob_or_none : List ℕ → Option AnyNode → FarmOutcome (Option (List Piece))
+abbrev pub glob_or_none : List ℕ → Option AnyNode → FarmOutcome (Option (List GlobPiece))
 glob_or_none name None = Ok None
 glob_or_none name (Some value) = member_word name value >>= λ text. glob name text >>= λ g. Ok (Some g)
 
 -- the glob of this name, where there is one
-unfoldable pub glob_at : List ℕ → Members → FarmOutcome (Option (List Piece))
+unfoldable pub glob_at : List ℕ → Members → FarmOutcome (Option (List GlobPiece))
 glob_at name ms = glob_or_none name (member_value name ms)
 
 abbrev pub rule_type : List ℕ → FarmOutcome Bool
@@ -182,7 +182,7 @@ abbrev pub at_last_colon : List ℕ → Option (List ℕ × List ℕ)
 at_last_colon [] = None
 at_last_colon (c ∷ t) = cut_again c t (at_last_colon t)
 
-abbrev pub host_cut : List ℕ → List ℕ → Option (List ℕ × List ℕ) → FarmOutcome (List Piece × Option ℕ)
+abbrev pub host_cut : List ℕ → List ℕ → Option (List ℕ × List ℕ) → FarmOutcome (List GlobPiece × Option ℕ)
 host_cut name text None = glob name text >>= λ g. Ok (g, None)
 host_cut name text (Some cut) = do
   g ← glob name cut.0
@@ -190,11 +190,11 @@ host_cut name text (Some cut) = do
   Ok (g, Some port)
 
 -- a glob, and a port after the last colon
-unfoldable pub host : List ℕ → List ℕ → FarmOutcome (List Piece × Option ℕ)
+unfoldable pub host : List ℕ → List ℕ → FarmOutcome (List GlobPiece × Option ℕ)
 host name text = host_cut name text (at_last_colon text)
 
 -- a served host has no name
-unfoldable pub served_host : List ℕ × AnyNode → FarmOutcome (List Piece × Option ℕ)
+unfoldable pub served_host : List ℕ × AnyNode → FarmOutcome (List GlobPiece × Option ℕ)
 served_host m = if length m.0 == 0 then (member_word (codes "virtualhosts") m.1 >>= λ text. host (codes "virtualhosts") text) else Err (BadKind m.0)
 
 -- letters, digits, `-`, `_` and `.`
@@ -249,7 +249,7 @@ unfoldable pub filters : Members → FarmOutcome (List Filter)
 filters ms = needed_group (codes "filter") ms >>= λ group. each (entry (codes "filter") filter) group
 
 -- what a farm keeps, and who may invalidate it
-unfoldable pub with_cache : List (List Piece × Option ℕ) → List ℕ × ℕ → List Filter → Members → FarmOutcome Farm
+unfoldable pub with_cache : List (List GlobPiece × Option ℕ) → List ℕ × ℕ → List Filter → Members → FarmOutcome Farm
 with_cache hosts ask filter cache = do
   rules ← needed_rules (codes "rules") cache
   level ← member_number (codes "statfileslevel") 32 cache

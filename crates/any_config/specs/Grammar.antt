@@ -1,4 +1,4 @@
--- The grammar of a file, by the text that is left after each part. Blanks and comments after a part belong to it.
+-- The grammar of a file dispatcher.any (Adobe Dispatcher manual, "Configuring Dispatcher"), by the text that is left after each part. Blanks and comments after a part belong to it.
 use Rattle.std.specs.Prelude.{◌≡◌, ℕ, suc, true, false, List, [], ◌∷◌, Ok, drop}
 use Rattle.any_config.specs.declared.node.AnyNode.{AnyNode}
 use Rattle.any_config.specs.declared.node.AnyNode.TheVariants as node

@@ -1,7 +1,7 @@
--- Reading a file from left to right, with the first fault that is met.
+-- Reading a file dispatcher.any (Adobe Dispatcher manual, "Configuring Dispatcher") from left to right, with the first fault that is met.
 use Rattle.std.specs.Prelude.{ℕ, zero, suc, ◌-◌, Bool, ◌||◌, if◌then◌else◌, ◌==◌, List, [], ◌∷◌, ◌++◌, length, drop, Result, Ok, Err}
-use Rattle.any_config.specs.declared.stop.Stop.{Stop}
-use Rattle.any_config.specs.declared.stop.Stop.TheVariants as stop
+use Rattle.any_config.specs.declared.stop.AnyStop.{AnyStop}
+use Rattle.any_config.specs.declared.stop.AnyStop.TheVariants as stop
 use Rattle.any_config.specs.declared.any_fault.AnyFault.{AnyFault}
 use Rattle.any_config.specs.declared.any_fault.AnyFault.TheVariants as fault
 use Rattle.any_config.specs.declared.node.AnyNode.{AnyNode}
@@ -51,13 +51,13 @@ group zero t = Err (stop.TooDeep (length t))
 group (suc depth) t = opened (group depth) t
 
 -- the whole file is a group without braces, in which groups nest 32 levels
-unfoldable pub file_read : List ℕ → Result AnyNode Stop
+unfoldable pub file_read : List ℕ → Result AnyNode AnyStop
 file_read t = do
   ms ← members (group 32) t
   if length ms.1 == 0 then Ok (node.Group ms.0) else Err (stop.BadName (length ms.1))
 
 -- the answer of the reading, with its place counted from the beginning
-abbrev pub placed_answer : List ℕ → Result AnyNode Stop → Result AnyNode AnyFault
+abbrev pub placed_answer : List ℕ → Result AnyNode AnyStop → Result AnyNode AnyFault
 placed_answer t (Ok n) = Ok n
 placed_answer t (Err stop.Memory) = Err fault.NoMemory
 placed_answer t (Err (stop.BadName left)) = Err (fault.BadName (length t - left))

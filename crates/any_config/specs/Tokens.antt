@@ -1,9 +1,9 @@
--- The tokens of a file. A name is read with the blanks and comments after it.
+-- The tokens of a file dispatcher.any (Adobe Dispatcher manual, "Configuring Dispatcher"). A name is read with the blanks and comments after it.
 use Rattle.std.specs.Prelude.{◌≡◌, ℕ, Bool, true, false, not, ◌||◌, ◌&&◌, if◌then◌else◌, ◌==◌, nat_le, List, [], ◌∷◌, length, take, drop, Result, Ok, Err}
 use Rattle.std.specs.List.{position_or_len}
 use Rattle.std.specs.Str.{is_utf8}
-use Rattle.any_config.specs.declared.stop.Stop.{Stop}
-use Rattle.any_config.specs.declared.stop.Stop.TheVariants.{Memory, BadName, BadQuote, TooDeep, Unclosed}
+use Rattle.any_config.specs.declared.stop.AnyStop.{AnyStop}
+use Rattle.any_config.specs.declared.stop.AnyStop.TheVariants.{Memory, BadName, BadQuote, TooDeep, Unclosed}
 use Rattle.any_config.specs.declared.tokens.Run.{Run}
 use Rattle.any_config.specs.declared.tokens.Run.TheVariants.{Name, Plain, Quoted}
 use Rattle.any_config.specs.declared.node.AnyNode.{AnyNode}
@@ -11,16 +11,16 @@ use Rattle.any_config.specs.declared.node.AnyNode.TheVariants as node
 
 -- what was read and the bytes after it, or why nothing was; a place is told by the bytes that are left there
 abbrev pub TokenOutcome : Type 0 → Type 0
-TokenOutcome A = Result (A × List ℕ) Stop
+TokenOutcome A = Result (A × List ℕ) AnyStop
 
 infixl 10 ◌>>=◌
 -- a step, and the next one with what the first gave
-abbrev pub ◌>>=◌ : {A B : Type 0} → Result A Stop → (A → Result B Stop) → Result B Stop
+abbrev pub ◌>>=◌ : {A B : Type 0} → Result A AnyStop → (A → Result B AnyStop) → Result B AnyStop
 (Ok x) >>= f = f x
 (Err e) >>= f = Err e
 
 -- the reason is that of the reading, unless memory ran out
-abbrev pub TokenFails : {Y : Type 0} → Stop → Result Y Stop → Type 0
+abbrev pub TokenFails : {Y : Type 0} → AnyStop → Result Y AnyStop → Type 0
 TokenFails Memory read = Unit {0}
 TokenFails (BadName n) read = read ≡ Err (BadName n)
 TokenFails (BadQuote n) read = read ≡ Err (BadQuote n)
@@ -28,7 +28,7 @@ TokenFails (TooDeep n) read = read ≡ Err (TooDeep n)
 TokenFails (Unclosed n) read = read ≡ Err (Unclosed n)
 
 -- what a function returned, seen by view, is what reading gives, unless memory ran out
-abbrev pub TokenGives : {X Y : Type 0} → (X → Y) → Result X Stop → Result Y Stop → Type 0
+abbrev pub TokenGives : {X Y : Type 0} → (X → Y) → Result X AnyStop → Result Y AnyStop → Type 0
 TokenGives view (Ok x) read = read ≡ Ok (view x)
 TokenGives view (Err e) read = TokenFails e read
 

@@ -6,7 +6,7 @@ ghost use Rattle.any_config.specs.Read.{any_of};
 
 use crate::any_fault::AnyFault;
 use crate::node::{AnyList, AnyNode};
-use crate::stop::Stop;
+use crate::stop::AnyStop;
 use crate::tokens::{is_at, leaf, name, skip, tail};
 use sp_base::TextBuf;
 use std::alloc::Global;
@@ -24,7 +24,7 @@ fn ends_members(text: &[u8]) -> bool
 // A value of the member at which so many bytes are left.
 #[cycle(reader)]
 #[tactic(auto, unfolding(crate::specs::Read::value))]
-fn value(alloc: Global, depth: usize, at: usize, text: &[u8]) -> Result<(AnyNode, &[u8]), Stop>
+fn value(alloc: Global, depth: usize, at: usize, text: &[u8]) -> Result<(AnyNode, &[u8]), AnyStop>
     ensures { TokenGives (λ x. (x.0, x.1.now)) result (spec.value (spec.group depth) at text.now) }
 {
     if is_at(b'{', text) {
@@ -36,7 +36,7 @@ fn value(alloc: Global, depth: usize, at: usize, text: &[u8]) -> Result<(AnyNode
 
 #[cycle(reader)]
 #[tactic(auto, unfolding(crate::specs::Read::member))]
-fn member(alloc: Global, depth: usize, text: &[u8]) -> Result<(TextBuf, AnyNode, &[u8]), Stop>
+fn member(alloc: Global, depth: usize, text: &[u8]) -> Result<(TextBuf, AnyNode, &[u8]), AnyStop>
     ensures { TokenGives (λ x. ((x.0, x.1), x.2.now)) result (spec.member (spec.group depth) text.now) }
 {
     let (name, rest) = name(alloc, text)?;
@@ -46,7 +46,7 @@ fn member(alloc: Global, depth: usize, text: &[u8]) -> Result<(TextBuf, AnyNode,
 
 #[cycle(reader)]
 #[tactic(auto, unfolding(crate::specs::Read::members, crate::specs::Read::more_members))]
-fn members(alloc: Global, depth: usize, text: &[u8]) -> Result<(AnyList, &[u8]), Stop>
+fn members(alloc: Global, depth: usize, text: &[u8]) -> Result<(AnyList, &[u8]), AnyStop>
     ensures { TokenGives (λ x. (x.0, x.1.now)) result (spec.members (spec.group depth) text.now) }
 {
     let mut found = AnyList::new(alloc);
@@ -64,33 +64,33 @@ fn members(alloc: Global, depth: usize, text: &[u8]) -> Result<(AnyList, &[u8]),
 
 #[cycle(reader)]
 #[tactic(auto, unfolding(crate::specs::Read::opened))]
-fn opened(alloc: Global, depth: usize, text: &[u8]) -> Result<(AnyNode, &[u8]), Stop>
+fn opened(alloc: Global, depth: usize, text: &[u8]) -> Result<(AnyNode, &[u8]), AnyStop>
     ensures { TokenGives (λ x. (x.0, x.1.now)) result (spec.opened (spec.group depth) text.now) }
 {
     let (list, rest) = members(alloc, depth, tail(text))?;
     if !is_at(b'}', rest) {
-        return Err(Stop::Unclosed(text.len()));
+        return Err(AnyStop::Unclosed(text.len()));
     }
     Ok((AnyNode::Group(list), tail(rest)))
 }
 
 #[cycle(reader)]
-fn group(alloc: Global, depth: usize, text: &[u8]) -> Result<(AnyNode, &[u8]), Stop>
+fn group(alloc: Global, depth: usize, text: &[u8]) -> Result<(AnyNode, &[u8]), AnyStop>
     ensures { TokenGives (λ x. (x.0, x.1.now)) result (spec.group depth text.now) }
 {
     if depth == 0 {
-        return Err(Stop::TooDeep(text.len()));
+        return Err(AnyStop::TooDeep(text.len()));
     }
     opened(alloc, depth - 1, text)
 }
 
 #[tactic(auto, unfolding(crate::specs::Read::file_read))]
-fn read(alloc: Global, bytes: &[u8]) -> Result<AnyNode, Stop>
+fn read(alloc: Global, bytes: &[u8]) -> Result<AnyNode, AnyStop>
     ensures { TokenGives (λ x. x) result (spec.file_read bytes.now) }
 {
     let (list, rest) = members(alloc, DEEPEST_GROUP, bytes)?;
     if !rest.is_empty() {
-        return Err(Stop::BadName(rest.len()));
+        return Err(AnyStop::BadName(rest.len()));
     }
     Ok(AnyNode::Group(list))
 }
@@ -103,10 +103,10 @@ pub fn read_any(alloc: Global, bytes: &[u8]) -> Result<AnyNode, AnyFault>
 {
     match read(alloc, bytes) {
         Ok(node) => Ok(node),
-        Err(Stop::Memory) => Err(AnyFault::NoMemory),
-        Err(Stop::BadName(left)) => Err(AnyFault::BadName(bytes.len().saturating_sub(left))),
-        Err(Stop::BadQuote(left)) => Err(AnyFault::BadQuote(bytes.len().saturating_sub(left))),
-        Err(Stop::TooDeep(left)) => Err(AnyFault::TooDeep(bytes.len().saturating_sub(left))),
-        Err(Stop::Unclosed(left)) => Err(AnyFault::Unclosed(bytes.len().saturating_sub(left))),
+        Err(AnyStop::Memory) => Err(AnyFault::NoMemory),
+        Err(AnyStop::BadName(left)) => Err(AnyFault::BadName(bytes.len().saturating_sub(left))),
+        Err(AnyStop::BadQuote(left)) => Err(AnyFault::BadQuote(bytes.len().saturating_sub(left))),
+        Err(AnyStop::TooDeep(left)) => Err(AnyFault::TooDeep(bytes.len().saturating_sub(left))),
+        Err(AnyStop::Unclosed(left)) => Err(AnyFault::Unclosed(bytes.len().saturating_sub(left))),
     }
 }

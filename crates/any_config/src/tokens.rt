@@ -5,7 +5,7 @@ ghost use Rattle.any_config.specs.Tokens as spec;
 ghost use Rattle.any_config.specs.Tokens.{TokenGives};
 
 use crate::node::AnyNode;
-use crate::stop::Stop;
+use crate::stop::AnyStop;
 use sp_base::{Mem, TextBuf};
 use std::alloc::Global;
 
@@ -129,7 +129,7 @@ fn text_of(alloc: Global, bytes: &[u8]) -> Mem<TextBuf>
 
 /// The name of a member, empty where it has none.
 #[tactic(auto, using(crate::proofs::TokenLemmas::name_utf8), unfolding(crate::specs::Tokens::member_name))]
-pub fn name(alloc: Global, text: &[u8]) -> Result<(TextBuf, &[u8]), Stop>
+pub fn name(alloc: Global, text: &[u8]) -> Result<(TextBuf, &[u8]), AnyStop>
     ensures { TokenGives (λ x. (x.0, x.1.now)) result (spec.member_name text.now) }
 {
     if !is_at(b'/', text) {
@@ -138,19 +138,19 @@ pub fn name(alloc: Global, text: &[u8]) -> Result<(TextBuf, &[u8]), Stop>
     let behind = tail(text);
     let len = run_len(Run::Name, behind);
     if len == 0 {
-        return Err(Stop::BadName(text.len()));
+        return Err(AnyStop::BadName(text.len()));
     }
     let (bytes, rest) = behind.split_at(len);
     Ok((text_of(alloc, bytes)?, skip(rest)))
 }
 
 #[tactic(auto, using(crate::proofs::TokenLemmas::plain_utf8), unfolding(crate::specs::Tokens::word))]
-fn word(alloc: Global, at: usize, text: &[u8]) -> Result<(AnyNode, &[u8]), Stop>
+fn word(alloc: Global, at: usize, text: &[u8]) -> Result<(AnyNode, &[u8]), AnyStop>
     ensures { TokenGives (λ x. (x.0, x.1.now)) result (spec.word at text.now) }
 {
     let len = run_len(Run::Plain, text);
     if len == 0 {
-        return Err(Stop::BadName(at));
+        return Err(AnyStop::BadName(at));
     }
     let (bytes, rest) = text.split_at(len);
     Ok((AnyNode::Word(text_of(alloc, bytes)?), rest))
@@ -167,23 +167,23 @@ fn quoted_node(mark: u8, text: TextBuf) -> AnyNode
 }
 
 #[tactic(auto, unfolding(crate::specs::Tokens::quoted))]
-fn quoted(alloc: Global, mark: u8, text: &[u8]) -> Result<(AnyNode, &[u8]), Stop>
+fn quoted(alloc: Global, mark: u8, text: &[u8]) -> Result<(AnyNode, &[u8]), AnyStop>
     ensures { TokenGives (λ x. (x.0, x.1.now)) result (spec.quoted mark text.now) }
 {
     let inside = tail(text);
     let (bytes, rest) = inside.split_at(run_len(Run::Quoted(mark), inside));
     if !is_at(mark, rest) {
-        return Err(Stop::BadQuote(text.len()));
+        return Err(AnyStop::BadQuote(text.len()));
     }
     match str::from_utf8(bytes) {
         Ok(words) => Ok((quoted_node(mark, TextBuf::of(alloc, words)?), tail(rest))),
-        Err(_) => Err(Stop::BadQuote(text.len())),
+        Err(_) => Err(AnyStop::BadQuote(text.len())),
     }
 }
 
 /// A value that is no group. Where there is none the fault is at the member, at which so many bytes are left.
 #[tactic(auto, unfolding(crate::specs::Tokens::ungrouped_value))]
-pub fn leaf(alloc: Global, at: usize, text: &[u8]) -> Result<(AnyNode, &[u8]), Stop>
+pub fn leaf(alloc: Global, at: usize, text: &[u8]) -> Result<(AnyNode, &[u8]), AnyStop>
     ensures { TokenGives (λ x. (x.0, x.1.now)) result (spec.ungrouped_value at text.now) }
 {
     if is_at(b'"', text) {

@@ -1,6 +1,6 @@
 //! The disk of the real system, in folders of the tests' own.
 use sp_base::Mem;
-use sp_outside::{Disk, DiskFault, LONGEST_NAME, RealDisk};
+use sp_outside::{Disk, DiskFault, LONGEST_FILE_NAME, RealDisk};
 use std::alloc::Global;
 use std::fs::{self, Files};
 use std::test::Fail;
@@ -14,7 +14,7 @@ fn fresh<'a>(rt: &'a HostRuntime, folder: &str) -> Mem<RealDisk<&'a HostRuntime>
 fn puts<D: Disk>(disk: &mut D, files: &[(&str, &str)]) -> bool {
     for (name, bytes) in files {
         if name.is_empty()
-            || name.len() > LONGEST_NAME
+            || name.len() > LONGEST_FILE_NAME
             || disk.put(name, bytes.as_bytes()).is_err()
         {
             return false;
@@ -45,7 +45,7 @@ fn lacks<D: Disk>(alloc: Global, disk: &mut D, names: &[&str]) -> bool {
 
 fn refuses<D: Disk>(disk: &mut D, names: &[&str]) -> bool {
     for name in names {
-        if name.is_empty() || name.len() > LONGEST_NAME || disk.put(name, b"x").is_ok() {
+        if name.is_empty() || name.len() > LONGEST_FILE_NAME || disk.put(name, b"x").is_ok() {
             return false;
         }
     }

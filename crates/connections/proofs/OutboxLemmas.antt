@@ -5,7 +5,7 @@ use Rattle.std.proofs.lemmas.Grind.{common_steps}
 use Rattle.std.proofs.lemmas.List.{take-append-le}
 use Rattle.sp_base.specs.declared.answer.Answer.{Answer}
 use Rattle.http_front.specs.Answers.{fixed_507}
-use Rattle.connections.specs.declared.place.Place.{Place}
+use Rattle.connections.specs.declared.place.AnswerPlace.{AnswerPlace}
 use Rattle.connections.specs.declared.sending.Sending.{Sending}
 use Rattle.connections.specs.declared.place.Reply.{Reply}
 use Rattle.connections.specs.Slots.{Says, Slot, MayAnswer, is_answered, is_fixed}
@@ -35,7 +35,7 @@ all-answered-push [] y all here = (here, tt)
 all-answered-push (x ∷ xs) y all here = (all.0, all-answered-push xs y all.1 here)
 
 -- ---- a turn gets its place
-pub push-left : {places : List Place} {closing over : Bool} {spare : List ℕ} (c : Connection) (place : Place) (slot : Slot) → IsLeft places closing over spare c → PlaceTied place slot
+pub push-left : {places : List AnswerPlace} {closing over : Bool} {spare : List ℕ} (c : Connection) (place : AnswerPlace) (slot : Slot) → IsLeft places closing over spare c → PlaceTied place slot
     → IsLeft (places ++ place ∷ []) (closing || place.closes) over spare (with_slot slot c)
 push-left {places} c place slot left tied =
     let within = left.within in
@@ -58,7 +58,7 @@ pub is_fixed-fixed : (bytes : List ℕ) → bytes ≡ fixed_507 → is_fixed byt
 is_fixed-fixed bytes e = rw e refl
 
 -- what is spare stays the fixed 507 until that is sent
-spare-fixed : (sending : Sending) (place : Place) (spare now_spare : List ℕ) (over : Bool) → spare ≡ fixed_507 → IsSendingOf place spare sending → (sending.dry ≡ false → now_spare ≡ spare)
+spare-fixed : (sending : Sending) (place : AnswerPlace) (spare now_spare : List ℕ) (over : Bool) → spare ≡ fixed_507 → IsSendingOf place spare sending → (sending.dry ≡ false → now_spare ≡ spare)
     → over ≡ (place.closes || is_fixed sending.bytes) → over ≡ false → now_spare ≡ fixed_507
 spare-fixed sending place spare now_spare over fixed is kept over_is going =
     ⊎_elim
@@ -68,7 +68,7 @@ spare-fixed sending place spare now_spare over fixed is kept over_is going =
     absurd (let no : ⊥ = cc in no))
     is
 
-may-answer : (sending : Sending) (place : Place) (slot : Slot) (spare : List ℕ) → spare ≡ fixed_507 → IsSendingOf place spare sending → PlaceTied place slot → has_reply place.reply ≡ true → MayAnswer slot sending
+may-answer : (sending : Sending) (place : AnswerPlace) (slot : Slot) (spare : List ℕ) → spare ≡ fixed_507 → IsSendingOf place spare sending → PlaceTied place slot → has_reply place.reply ≡ true → MayAnswer slot sending
 may-answer sending place slot spare fixed is tied has =
     ⊎_elim
     (λ e. inl (written-tied place slot sending.bytes tied has e.1))
@@ -76,14 +76,14 @@ may-answer sending place slot spare fixed is tied has =
     is
 
 -- where memory is wanting the fixed 507 is sent
-pub dry-fixed : {places : List Place} {closing over : Bool} {spare : List ℕ} (c : Connection) (place : Place) (sending : Sending) → IsLeft places closing over spare c → over ≡ false → IsSendingOf place spare sending → sending.dry ≡ true → sending.bytes ≡ fixed_507
+pub dry-fixed : {places : List AnswerPlace} {closing over : Bool} {spare : List ℕ} (c : Connection) (place : AnswerPlace) (sending : Sending) → IsLeft places closing over spare c → over ≡ false → IsSendingOf place spare sending → sending.dry ≡ true → sending.bytes ≡ fixed_507
 dry-fixed c place sending left going (inl own) dry = absurd (let calm : sending.dry ≡ false = own.0 in let no : ⊥ = cc in no)
 dry-fixed c place sending left going (inr fixed) dry = fixed.1 ∙ left.spare_is going
 
 pub due-answered : (c : Connection) (slot : Slot) → c.over ≡ false → slice_get c.slots c.sent ≡ Some slot → is_answered slot.response ≡ true → due c ≡ Send slot
 due-answered c slot going at has = rw (going, at, has) refl
 
-pub sent-left : {places : List Place} {closing over : Bool} {spare : List ℕ} (c : Connection) (place : Place) (rest : List Place) (sending : Sending) (now_closing now_over : Bool) (now_spare : List ℕ) → IsLeft places closing over spare c
+pub sent-left : {places : List AnswerPlace} {closing over : Bool} {spare : List ℕ} (c : Connection) (place : AnswerPlace) (rest : List AnswerPlace) (sending : Sending) (now_closing now_over : Bool) (now_spare : List ℕ) → IsLeft places closing over spare c
     → places ≡ place ∷ rest → now_closing ≡ closing → over ≡ false → has_reply place.reply ≡ true → IsSendingOf place spare sending → (sending.dry ≡ false → now_spare ≡ spare) → now_over ≡ (place.closes || is_fixed sending.bytes)
     → IsDueSending c sending × IsLeft rest now_closing now_over now_spare (with_sent sending.bytes c)
 sent-left {places} {closing} {over} {spare} c place rest sending now_closing now_over now_spare left e stays going has is kept over_is =
@@ -106,7 +106,7 @@ sent-left {places} {closing} {over} {spare} c place rest sending now_closing now
     )
 
 -- ---- nothing is sent
-pub over-waits : {places : List Place} {closing over : Bool} {spare : List ℕ} (c : Connection) → IsLeft places closing over spare c → over ≡ true → due c ≡ due_unsent c
+pub over-waits : {places : List AnswerPlace} {closing over : Bool} {spare : List ℕ} (c : Connection) → IsLeft places closing over spare c → over ≡ true → due c ≡ due_unsent c
 over-waits c left e = let ended : c.over ≡ true = sym left.over_is ∙ e in rw ended refl
 
 due-by : (c : Connection) (o : Option Slot) → slice_get c.slots c.sent ≡ o → due_at_slot o c ≡ due_unsent c → due c ≡ due_unsent c
@@ -116,10 +116,10 @@ due-by c o at e = by_over c.over refl
     by_over true is = rw is refl
     by_over false is = let going : c.over ≡ false = is in ap (λ b. cond b Close (due_at_slot (slice_get c.slots c.sent) c)) going ∙ ap (λ x. due_at_slot x c) at ∙ e
 
-pub held-waits : {places : List Place} {closing over : Bool} {spare : List ℕ} (c : Connection) → IsLeft places closing over spare c → front_has_reply places ≡ false → due c ≡ due_unsent c
+pub held-waits : {places : List AnswerPlace} {closing over : Bool} {spare : List ℕ} (c : Connection) → IsLeft places closing over spare c → front_has_reply places ≡ false → due c ≡ due_unsent c
 held-waits {places} c left = by_places places left.unsent
   where
-    by_places : (ps : List Place) → AllTied ps (drop c.sent c.slots) → front_has_reply ps ≡ false → due c ≡ due_unsent c
+    by_places : (ps : List AnswerPlace) → AllTied ps (drop c.sent c.slots) → front_has_reply ps ≡ false → due c ≡ due_unsent c
     by_places [] tied e = due-by c None (drop-end c.sent c.slots (tied-none _ tied)).0 refl
     by_places (p ∷ ps) tied e =
         let first = tied-head p ps (drop c.sent c.slots) tied in
@@ -128,7 +128,7 @@ held-waits {places} c left = by_places places left.unsent
         due-by c (Some first.0) cut.0 (rw waits refl)
 
 -- ---- a flight has landed
-pub filled-left : {places : List Place} {closing over : Bool} {spare : List ℕ} (c : Connection) (n : ℕ) (r : Reply) (a : Answer) → ReplyTied r (Says a) → IsLeft places closing over spare c → IsLeft (filled_places n r places) closing over spare (with_landing n a c)
+pub filled-left : {places : List AnswerPlace} {closing over : Bool} {spare : List ℕ} (c : Connection) (n : ℕ) (r : Reply) (a : Answer) → ReplyTied r (Says a) → IsLeft places closing over spare c → IsLeft (filled_places n r places) closing over spare (with_landing n a c)
 filled-left {places} c n r a says left =
     let within = left.within in
     let whole : take c.sent c.slots ++ drop c.sent c.slots ≡ c.slots = grind (arith, common_steps) in

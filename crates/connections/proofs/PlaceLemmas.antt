@@ -7,7 +7,7 @@ use Rattle.std.proofs.lemmas.List.Quantifiers.{position-Some}
 use Rattle.sp_base.specs.declared.answer.Answer.{Answer}
 use Rattle.error_answers.specs.Errors.{error_answer}
 use Rattle.http_front.specs.Answers.{answer_bytes}
-use Rattle.connections.specs.declared.place.Place.{Place}
+use Rattle.connections.specs.declared.place.AnswerPlace.{AnswerPlace}
 use Rattle.connections.specs.declared.place.Reply.{Reply}
 use Rattle.connections.specs.declared.place.Reply.TheVariants.{Interim, Fixed, Own, Awaits, Says}
 use Rattle.connections.specs.Slots.{Slot, Response, IsWritten, is_answered, is_awaiting, is_final}
@@ -50,18 +50,18 @@ written-by h c (Says a) slot (model.Says b) bytes eh ec tied has is = rw (is, eh
 written-by h c r slot t bytes eh ec tied has is = absurd tied
 
 -- the bytes of a place that has its reply are those of its slot
-pub written-tied : (place : Place) (slot : Slot) (bytes : List ℕ) → PlaceTied place slot → has_reply place.reply ≡ true → bytes ≡ place_bytes place → IsWritten slot slot.response bytes
+pub written-tied : (place : AnswerPlace) (slot : Slot) (bytes : List ℕ) → PlaceTied place slot → has_reply place.reply ≡ true → bytes ≡ place_bytes place → IsWritten slot slot.response bytes
 written-tied place slot bytes tied has is = written-by place.head_only place.closes place.reply slot slot.response bytes tied.head_only_is tied.closes_is tied.replies has is
 
 -- ---- places and slots
-pub tied-push : (xs : List Place) (ys : List Slot) (x : Place) (y : Slot) → AllTied xs ys → PlaceTied x y → AllTied (xs ++ x ∷ []) (ys ++ y ∷ [])
+pub tied-push : (xs : List AnswerPlace) (ys : List Slot) (x : AnswerPlace) (y : Slot) → AllTied xs ys → PlaceTied x y → AllTied (xs ++ x ∷ []) (ys ++ y ∷ [])
 tied-push [] [] x y all here = (here, tt)
 tied-push [] (z ∷ ys) x y all here = absurd all
 tied-push (z ∷ xs) [] x y all here = absurd all
 tied-push (z ∷ xs) (u ∷ ys) x y all here = (all.0, tied-push xs ys x y all.1 here)
 
 -- the first place is that of the first slot
-pub tied-head : (x : Place) (xs : List Place) (ys : List Slot) → AllTied (x ∷ xs) ys → (y : Slot) × (zs : List Slot) × (ys ≡ y ∷ zs) × PlaceTied x y × AllTied xs zs
+pub tied-head : (x : AnswerPlace) (xs : List AnswerPlace) (ys : List Slot) → AllTied (x ∷ xs) ys → (y : Slot) × (zs : List Slot) × (ys ≡ y ∷ zs) × PlaceTied x y × AllTied xs zs
 tied-head x xs [] all = absurd all
 tied-head x xs (y ∷ zs) all = (y, zs, refl, all.0, all.1)
 
@@ -69,22 +69,22 @@ pub tied-none : (ys : List Slot) → AllTied [] ys → ys ≡ []
 tied-none [] all = refl
 tied-none (y ∷ ys) all = absurd all
 
-pub count-tied : (xs : List Place) (ys : List Slot) → AllTied xs ys → count_by (λ place. is_final_reply place.reply) xs ≡ count_by (λ slot. is_final slot.response) ys
+pub count-tied : (xs : List AnswerPlace) (ys : List Slot) → AllTied xs ys → count_by (λ place. is_final_reply place.reply) xs ≡ count_by (λ slot. is_final slot.response) ys
 count-tied [] [] all = refl
 count-tied [] (y ∷ ys) all = absurd all
 count-tied (x ∷ xs) [] all = absurd all
 count-tied (x ∷ xs) (y ∷ ys) all =
-    let f : Place → ℕ = λ place. cond (is_final_reply place.reply) 1 0 in
+    let f : AnswerPlace → ℕ = λ place. cond (is_final_reply place.reply) 1 0 in
     let g : Slot → ℕ = λ slot. cond (is_final slot.response) 1 0 in
     sum_by-cons f x xs ∙ ap (λ n. f x + n) (count-tied xs ys all.1) ∙ ap (λ b. cond b 1 0 + count_by (λ slot. is_final slot.response) ys) (sym (final-tied x.reply y.response all.0.replies)) ∙ sym (sum_by-cons g y ys)
 
 -- ---- landings
 -- the first place that awaits the flight has its reply
-abbrev pub filled_places : ℕ → Reply → List Place → List Place
+abbrev pub filled_places : ℕ → Reply → List AnswerPlace → List AnswerPlace
 filled_places n r [] = []
 filled_places n r (x ∷ xs) = cond (awaits n x.reply) (record x { reply = r } ∷ xs) (x ∷ filled_places n r xs)
 
-pub tied-filled : (n : ℕ) (r : Reply) (a : Answer) (xs : List Place) (ys : List Slot) → ReplyTied r (model.Says a) → AllTied xs ys → AllTied (filled_places n r xs) (filled n a ys)
+pub tied-filled : (n : ℕ) (r : Reply) (a : Answer) (xs : List AnswerPlace) (ys : List Slot) → ReplyTied r (model.Says a) → AllTied xs ys → AllTied (filled_places n r xs) (filled n a ys)
 tied-filled n r a [] [] says all = tt
 tied-filled n r a [] (y ∷ ys) says all = absurd all
 tied-filled n r a (x ∷ xs) [] says all = absurd all
@@ -118,7 +118,7 @@ length-filled n a (x ∷ xs) = by_test (is_awaiting n x.response) refl (length-f
     by_test false e rest = rw e (ap suc rest)
 
 -- ---- the place that awaits a flight
-filled-at : (n : ℕ) (r : Reply) (xs : List Place) (i : ℕ) (d : Place) → i < length xs → awaits n (get_or xs i d).reply ≡ true → ((k : ℕ) → k < i → awaits n (get_or xs k d).reply ≡ false)
+filled-at : (n : ℕ) (r : Reply) (xs : List AnswerPlace) (i : ℕ) (d : AnswerPlace) → i < length xs → awaits n (get_or xs i d).reply ≡ true → ((k : ℕ) → k < i → awaits n (get_or xs k d).reply ≡ false)
     → filled_places n r xs ≡ slice_set xs i (record (get_or xs i d) { reply = r })
 filled-at n r [] i d within here before = absurd (omega arith)
 filled-at n r (x ∷ xs) zero d within here before = rw here refl
@@ -126,12 +126,12 @@ filled-at n r (x ∷ xs) (suc i) d within here before =
     let other : awaits n x.reply ≡ false = before 0 (omega arith) in
     rw other (ap (λ zs. x ∷ zs) (filled-at n r xs i d (omega arith) here (λ k h. before (suc k) (omega arith))))
 
-pub filled-some : (n : ℕ) (r : Reply) (xs : List Place) (i : ℕ) (x : Place) → Some i ≡ position (λ place. awaits n place.reply) xs → x ≡ get_or xs i x → filled_places n r xs ≡ slice_set xs i (record x { reply = r })
+pub filled-some : (n : ℕ) (r : Reply) (xs : List AnswerPlace) (i : ℕ) (x : AnswerPlace) → Some i ≡ position (λ place. awaits n place.reply) xs → x ≡ get_or xs i x → filled_places n r xs ≡ slice_set xs i (record x { reply = r })
 filled-some n r xs i x found is =
     let at = position-Some (λ place. awaits n place.reply) xs i x (sym found) in
-    filled-at n r xs i x at.0 at.1 at.2 ∙ ap (λ (y : Place). slice_set xs i (record y { reply = r })) (sym is)
+    filled-at n r xs i x at.0 at.1 at.2 ∙ ap (λ (y : AnswerPlace). slice_set xs i (record y { reply = r })) (sym is)
 
-pub filled-none : (n : ℕ) (r : Reply) (xs : List Place) → position (λ place. awaits n place.reply) xs ≡ None → filled_places n r xs ≡ xs
+pub filled-none : (n : ℕ) (r : Reply) (xs : List AnswerPlace) → position (λ place. awaits n place.reply) xs ≡ None → filled_places n r xs ≡ xs
 filled-none n r [] e = refl
 filled-none n r (x ∷ xs) e = by_test (awaits n x.reply) refl (filled-none n r xs)
   where

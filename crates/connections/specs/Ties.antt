@@ -2,7 +2,7 @@
 use Rattle.std.specs.Prelude.{◌≡◌, ◌≤◌, ◌⊎◌, ℕ, Bool, true, false, nat_eq, List, [], ◌∷◌, drop, length, take}
 use Rattle.error_answers.specs.Errors.{error_answer}
 use Rattle.http_front.specs.Answers.{answer_bytes, fixed_507, interim_100}
-use Rattle.connections.specs.declared.place.Place.{Place}
+use Rattle.connections.specs.declared.place.AnswerPlace.{AnswerPlace}
 use Rattle.connections.specs.declared.place.Reply.{Reply}
 use Rattle.connections.specs.declared.place.Reply.TheVariants.{Interim, Fixed, Own, Awaits, Says}
 use Rattle.connections.specs.declared.outbox.Outbox.{Outbox}
@@ -42,16 +42,16 @@ reply_bytes head_only closes (Own status) = answer_bytes head_only closes (error
 reply_bytes head_only closes (Awaits flight) = []
 reply_bytes head_only closes (Says answer) = answer_bytes head_only closes answer
 
-abbrev pub place_bytes : Place → List ℕ
+abbrev pub place_bytes : AnswerPlace → List ℕ
 place_bytes place = reply_bytes place.head_only place.closes place.reply
 
 -- the first place has its reply
-abbrev pub front_has_reply : List Place → Bool
+abbrev pub front_has_reply : List AnswerPlace → Bool
 front_has_reply [] = false
 front_has_reply (place ∷ places) = has_reply place.reply
 
 -- what is sent for the place: its bytes, or where memory is wanting the spare ones
-abbrev pub IsSendingOf : Place → List ℕ → Sending → Type 0
+abbrev pub IsSendingOf : AnswerPlace → List ℕ → Sending → Type 0
 IsSendingOf place spare sending = ((sending.dry ≡ false) × (sending.bytes ≡ place_bytes place)) ⊎ ((sending.dry ≡ true) × (sending.bytes ≡ spare))
 
 -- ---- places and slots
@@ -80,12 +80,12 @@ ReplyTied (Says a) (model.Awaits n) = ⊥
 ReplyTied (Says a) (model.Says b) = a ≡ b
 
 -- the place is one that the slot allows
-pub record PlaceTied (place : Place) (slot : Slot) : Type 0 where
+pub record PlaceTied (place : AnswerPlace) (slot : Slot) : Type 0 where
   pub head_only_is : place.head_only ≡ slot.head_only
   pub closes_is : place.closes ≡ slot.closes
   pub replies : ReplyTied place.reply slot.response
 
-abbrev pub AllTied : List Place → List Slot → Type 0
+abbrev pub AllTied : List AnswerPlace → List Slot → Type 0
 AllTied [] [] = Unit {0}
 AllTied [] (slot ∷ slots) = ⊥
 AllTied (place ∷ places) [] = ⊥
@@ -99,7 +99,7 @@ AllAnswered (slot ∷ slots) = (is_answered slot.response ≡ true) × AllAnswer
 
 -- These places are those of the slots that aren't sent, and the connection is closing and over so. While it isn't over, the spare bytes
 -- are the fixed 507.
-pub record IsLeft (places : List Place) (closing over : Bool) (spare : List ℕ) (c : Connection) : Type 0 where
+pub record IsLeft (places : List AnswerPlace) (closing over : Bool) (spare : List ℕ) (c : Connection) : Type 0 where
   pub unsent : AllTied places (drop c.sent c.slots)
   pub within : c.sent ≤ length c.slots
   pub past : AllAnswered (take c.sent c.slots)

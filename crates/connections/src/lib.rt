@@ -9,5 +9,5 @@ mod sending;
 
 pub use laws::{a_closing_connection_ends, answers_in_order, slots_of_turns};
 pub use outbox::Outbox;
-pub use place::{Place, Reply};
+pub use place::{AnswerPlace, Reply};
 pub use sending::Sending;

@@ -9,7 +9,7 @@ ghost use Rattle.connections.specs.Connections.{Connection, due, due_unsent, fre
 ghost use Rattle.connections.specs.Histories.{IsDueSending};
 ghost use Rattle.connections.specs.Ties.{IsSendingOf, PlaceTied, ReplyTied, Tied, awaits, is_final_reply, front_has_reply, unsent_count};
 
-use crate::place::{Place, Reply};
+use crate::place::{AnswerPlace, Reply};
 use crate::sending::Sending;
 use http_front::fixed_507;
 use sp_base::{ByteBuf, Mem};
@@ -23,7 +23,7 @@ const MOST_UNANSWERED: usize = 64;
 #[derive(Drop)]
 pub struct Outbox {
     // The places that aren't sent yet.
-    places: VecDeque<Place>,
+    places: VecDeque<AnswerPlace>,
     // No further turn gets a place.
     closing: bool,
     // No further place is sent.
@@ -46,7 +46,7 @@ impl Outbox {
     }
 
     /// Gives the next turn its place. After a refusal nothing has changed.
-    pub fn push(&mut self, place: Place) -> Mem<()>
+    pub fn push(&mut self, place: AnswerPlace) -> Mem<()>
         ensures ok { OnOk result ((c : Connection) (slot : Slot) → Tied self.old c → PlaceTied place slot → Tied self.new (with_slot slot c)) }
         ensures more { OnOk result (unsent_count self.new ≡ unsent_count self.old + 1) }
         ensures err { OnErr result ((c : Connection) → Tied self.old c → Tied self.new c) }
@@ -86,7 +86,7 @@ impl Outbox {
     }
 
     // A place's answer, or where memory is wanting the spare bytes.
-    fn sending(&mut self, alloc: Global, place: &Place) -> Sending
+    fn sending(&mut self, alloc: Global, place: &AnswerPlace) -> Sending
         ensures sends { IsSendingOf place.now self.old.spare result }
         ensures kept { (self.new.places ≡ self.old.places) × (self.new.closing ≡ self.old.closing) × (self.new.over ≡ self.old.over) }
         ensures spare { result.dry ≡ false → self.new.spare ≡ self.old.spare }
@@ -141,7 +141,7 @@ impl Outbox {
     }
 }
 
-fn awaiting_place(places: &VecDeque<Place>, flight: u64) -> Option<usize>
+fn awaiting_place(places: &VecDeque<AnswerPlace>, flight: u64) -> Option<usize>
     ensures { result ≡ position (λ place. awaits flight place.reply) places.now.items }
 {
     places.iter().position(|place| place.reply.awaits(flight))

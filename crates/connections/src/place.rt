@@ -25,7 +25,7 @@ pub enum Reply {
 
 /// The place of an answer.
 #[derive(Drop)]
-pub struct Place {
+pub struct AnswerPlace {
     /// Whether the answer is sent without its body.
     pub head_only: bool,
     /// Whether the connection closes after it.
@@ -64,12 +64,12 @@ impl Reply {
     }
 }
 
-impl Place {
+impl AnswerPlace {
     /// The place of a request's answer, after which the connection closes where the request asks for it, or for another reason (`closes`).
-    pub fn of_request(request: &Req, closes: bool, reply: Reply) -> Place
+    pub fn of_request(request: &Req, closes: bool, reply: Reply) -> AnswerPlace
         ensures { (response : model.Response) → ReplyTied reply response → PlaceTied result (model.request_slot request.now closes response) }
     {
-        Place {
+        AnswerPlace {
             head_only: request.method.text() == "HEAD",
             closes: closes || request.close,
             reply,
@@ -77,10 +77,10 @@ impl Place {
     }
 
     /// The place of the answer to a stream's fault, the last of its connection.
-    pub fn of_fault(reply: Reply) -> Place
+    pub fn of_fault(reply: Reply) -> AnswerPlace
         ensures { (response : model.Response) → ReplyTied reply response → PlaceTied result (model.fault_slot response) }
     {
-        Place {
+        AnswerPlace {
             head_only: false,
             closes: true,
             reply,
@@ -88,10 +88,10 @@ impl Place {
     }
 
     /// The place of 100 Continue.
-    pub fn interim() -> Place
+    pub fn interim() -> AnswerPlace
         ensures { PlaceTied result model.interim_slot }
     {
-        Place {
+        AnswerPlace {
             head_only: false,
             closes: false,
             reply: Reply::Interim,

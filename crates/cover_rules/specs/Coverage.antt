@@ -1,4 +1,4 @@
--- Which pages an invalidation covers: those that it deletes, and those that a .stat file which it touches outdates.
+-- Which pages an invalidation covers (Adobe Dispatcher manual, "Invalidating Cached Pages From AEM" and "Invalidating Files by Folder Level"): those that it deletes, and those that a .stat file which it touches outdates.
 use Rattle.std.specs.Prelude.{◌==◌, ◌&&◌, ◌||◌, ◌++◌, ℕ, Bool, true, false, not, nat_eq, min, if◌then◌else◌, List, [], ◌∷◌, codes, take, length, map}
 use Rattle.std.specs.List.{starts_with, take_while}
 use Rattle.std.specs.Cmp.Lexicographic.{pointwise}

@@ -1,4 +1,4 @@
--- How a segment of a path is named in the document root.
+-- How a segment of a path is named in the document root (Adobe Dispatcher manual, "Specifying the Cache Directory").
 use Rattle.std.specs.Prelude.{◌==◌, ◌||◌, ◌/◌, ◌%◌, ℕ, Bool, true, nat_le, if◌then◌else◌, List, [], ◌∷◌, length, flat_map}
 use Rattle.std.specs.Char.{is_ascii_alphanumeric}
 use Rattle.std.specs.Fmt.{digit_glyph}

@@ -1,4 +1,4 @@
--- Where a page of the cache stands, and which path is a page's.
+-- Where a page of the cache stands, and which path is a page's (Adobe Dispatcher manual, "Specifying the Cache Directory").
 use Rattle.std.specs.Prelude.{◌==◌, ◌&&◌, ◌++◌, ◌-◌, ℕ, Bool, not, if◌then◌else◌, List, [], ◌∷◌, Option, Some, None, length, slice_get, slice_index, unwrap_or}
 use Rattle.std.specs.List.{list_any, list_all}
 use Rattle.sp_base.specs.Paths.{mangled, parent_of, pieces, text_of}

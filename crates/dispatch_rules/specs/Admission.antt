@@ -1,11 +1,11 @@
--- Which requests are admitted: those to a host of the farm that the filter allows.
+-- Which requests are admitted (Adobe Dispatcher manual, "Configuring Access to Content"): those to a host of the farm that the filter allows.
 use Rattle.std.specs.Prelude.{◌==◌, ◌&&◌, ℕ, Bool, true, if◌then◌else◌, List, [], Option, Some, None, length, unwrap_or}
 use Rattle.std.specs.List.{list_any}
 use Rattle.std.specs.Str.{chars, str_to_ascii_lowercase}
 use Rattle.std.specs.Str.Lossy.{utf8_lossy}
 use Rattle.sp_base.specs.declared.answer.Req.{Req}
 use Rattle.sp_base.specs.Paths.{text_of}
-use Rattle.glob_rules.specs.declared.piece.Piece.{Piece}
+use Rattle.glob_rules.specs.declared.piece.GlobPiece.{GlobPiece}
 use Rattle.glob_rules.specs.Globs.{is_match}
 use Rattle.glob_rules.specs.Rules.{decision}
 use Rattle.any_config.specs.declared.farm.Farm.{Farm}
@@ -23,14 +23,14 @@ abbrev pub has_port : Option ℕ → ℕ → Bool
 has_port None port = true
 has_port (Some own) port = own == port
 
-abbrev pub serves : List ℕ → ℕ → (List Piece × Option ℕ) → Bool
+abbrev pub serves : List ℕ → ℕ → (List GlobPiece × Option ℕ) → Bool
 serves host port entry = is_match entry.0 (chars host) && has_port entry.1 port
 
 abbrev pub is_served : Farm → Req → Bool
 is_served farm req = list_any (serves (request_host farm req) (request_port farm req)) farm.hosts
 
 -- a glob of an entry fits a part of the request; one that the entry lacks fits any
-abbrev pub fits : Option (List Piece) → List ℕ → Bool
+abbrev pub fits : Option (List GlobPiece) → List ℕ → Bool
 fits None text = true
 fits (Some glob) text = is_match glob (chars text)
 

@@ -1,4 +1,4 @@
--- What the publisher is asked.
+-- What the publisher is asked (Adobe Dispatcher manual, "Specifying the HTTP Headers to Pass Through").
 use Rattle.std.specs.Prelude.{ℕ, Bool, nat_eq, if◌then◌else◌, List, [], Option, Some, None, codes}
 use Rattle.std.specs.Cmp.Lexicographic.{pointwise}
 use Rattle.std.specs.Str.{is_utf8}

@@ -1,4 +1,4 @@
--- Which answers may be kept, and under which key.
+-- Which answers may be kept, and under which key (Adobe Dispatcher manual, "Specifying the Documents to Cache").
 use Rattle.std.specs.Prelude.{◌==◌, ◌&&◌, ◌||◌, ℕ, Bool, true, false, is_none, nat_eq, if◌then◌else◌, List, [], Option, Some, None, codes, unwrap_or, option_and_then}
 use Rattle.std.specs.List.{list_all}
 use Rattle.std.specs.Cmp.Lexicographic.{pointwise}

@@ -10,7 +10,7 @@ const LONGEST_KIND: usize = 100;
 
 /// What the head of a page says.
 #[derive(Clone, Copy, Drop)]
-pub struct Head<'a> {
+pub struct PageHead<'a> {
     pub epoch: u64,
     pub count: u64,
     /// The length of the body.
@@ -59,7 +59,7 @@ fn kind(text: &[u8]) -> Option<&str>
 
 /// The head that bytes are.
 #[tactic(auto, unfolding(crate::specs::Readings::head_of, crate::specs::Readings::body_of))]
-pub fn head_in(text: &[u8]) -> Option<Head<'_>>
+pub fn head_in(text: &[u8]) -> Option<PageHead<'_>>
     ensures { option_map (λ h. record { epoch = h.epoch; count = h.count; size = h.size; kind = h.kind.now }) result ≡ spec.head_of text.now }
 {
     let rest = after_word(b"page 1 ", text)?;
@@ -68,7 +68,7 @@ pub fn head_in(text: &[u8]) -> Option<Head<'_>>
     let (size, rest) = number(rest)?;
     let rest = after_word(b" ", rest)?;
     let kind = kind(rest)?;
-    Some(Head {
+    Some(PageHead {
         epoch,
         count,
         size,

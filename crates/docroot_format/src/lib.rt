@@ -10,7 +10,7 @@ mod stat;
 mod texts;
 
 pub use fault::FileFault;
-pub use head::{Head, head_in};
+pub use head::{PageHead, head_in};
 pub use laws::{
     a_key_is_of_texts, a_page_has_files, a_path_is_of_texts, folders_are_mangled,
     keys_are_of_texts, names_are_apart, names_lie_in_the_docroot, names_tell_their_files,

@@ -8,7 +8,7 @@ use cache_files::{
 use cover_rules::{PageKey, Stamp, a_page_has_one_key, page_key};
 use docroot_format::FileFault;
 use sp_base::{Answer, ByteBuf, Mark, Path, TextBuf, a_path_and_its_text};
-use sp_outside::{Disk, LONGEST_NAME, MemDisk, Way};
+use sp_outside::{Disk, LONGEST_FILE_NAME, MemDisk, Way};
 use std::alloc::Global;
 use std::test::Fail;
 
@@ -65,7 +65,7 @@ fn answer(alloc: Global, body: &str) -> Option<Answer>
 fn disk_with(alloc: Global, files: &[(&str, &str)]) -> MemDisk {
     let mut disk = MemDisk::new(alloc);
     for (name, bytes) in files {
-        if !name.is_empty() && name.len() <= LONGEST_NAME {
+        if !name.is_empty() && name.len() <= LONGEST_FILE_NAME {
             let _ = disk.put(name, bytes.as_bytes());
         }
     }

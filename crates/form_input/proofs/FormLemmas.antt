@@ -2,7 +2,7 @@
 use Rattle.std.proofs.Common.{◌≡◌, ◌<◌, ◌≤◌, ◌+◌, ℕ, suc, Bool, true, false, eqb, List, [], ◌∷◌, ◌++◌, Option, Some, None, Result, Ok, Err, length, refl, ap, sym, ◌∙◌, arith, append_assoc, IfSome, option_copied, Bor, ◌-◌, not, length-append}
 use Rattle.std.proofs.lemmas.Bool.Decides.{nat_tests}
 use Rattle.std.proofs.lemmas.List.{append-nil}
-use Rattle.form_input.specs.declared.boundary.Mark.{Mark}
+use Rattle.form_input.specs.declared.boundary.BoundaryLine.{BoundaryLine}
 use Rattle.form_input.specs.Boundaries.{from_mark, sections_left, IsMark}
 use Rattle.form_input.specs.Lines.{lines, lines_left}
 use Rattle.form_input.specs.declared.fault.FormFault.{FormFault}
@@ -38,13 +38,13 @@ left None = 0
 left (Some text) = suc (length text)
 
 -- the pairs up to a boundary line were read
-pub record IsReadTo (dash : List ℕ) (end : ℕ) (first : Mark) (form : Pairs) (mark : Mark) : Type 0 where
+pub record IsReadTo (dash : List ℕ) (end : ℕ) (first : BoundaryLine) (form : Pairs) (mark : BoundaryLine) : Type 0 where
   pub same : before_all form (pairs_of end (length form) (from_mark dash end mark)) ≡ pairs_of end 0 (from_mark dash end first)
   pub few : length form ≤ 1000
   pub within : IfSome mark.after (λ rest. length rest.now ≤ end)
 
 -- no boundary line follows
-pub no_end : (dash : List ℕ) (end : ℕ) (first : Mark) (form : Pairs) (mark : Mark) → IsReadTo dash end first form mark → mark.closing ≡ false → (sections_left dash end (option_copied mark.after)).later ≡ []
+pub no_end : (dash : List ℕ) (end : ℕ) (first : BoundaryLine) (form : Pairs) (mark : BoundaryLine) → IsReadTo dash end first form mark → mark.closing ≡ false → (sections_left dash end (option_copied mark.after)).later ≡ []
     → pairs_of end 0 (from_mark dash end first) ≡ Err (BadPart end)
 no_end dash end first form mark inv opening none =
     sym inv.same
@@ -57,7 +57,7 @@ nothing_left dash end None e = refl
 nothing_left dash end (Some t) e = absurd cc
 
 -- the part up to the next boundary line, and the rest
-pub read_on : (dash : List ℕ) (end : ℕ) (first : Mark) (form : Pairs) (mark next : Mark) (text : List ℕ) → IsReadTo dash end first form mark → mark.closing ≡ false → option_copied mark.after ≡ Some text → IsMark dash end text next
+pub read_on : (dash : List ℕ) (end : ℕ) (first : BoundaryLine) (form : Pairs) (mark next : BoundaryLine) (text : List ℕ) → IsReadTo dash end first form mark → mark.closing ≡ false → option_copied mark.after ≡ Some text → IsMark dash end text next
     → before_all form (with_part (length form) mark.place (pair_of (lines_left (option_copied next.before))) (pairs_of end (length form + 1) (from_mark dash end next))) ≡ pairs_of end 0 (from_mark dash end first)
 read_on dash end first form mark next text inv opening after m =
     let content : (sections_left dash end (option_copied mark.after)).before ≡ lines_left (option_copied next.before) = ap (λ (o : Option (List ℕ)). (sections_left dash end o).before) after ∙ m.before in
@@ -89,7 +89,7 @@ within_end (Some r) n end h le = omega (arith, h, le)
 not_full : (n : ℕ) → (n ≡ 1000 → ⊥) → eqb n 1000 ≡ false
 not_full n other = grind (arith, nat_tests)
 
-pub pushed : (dash : List ℕ) (end : ℕ) (first : Mark) (form more : Pairs) (mark next : Mark) (after : Bor (List ℕ)) (o : Option (List ℕ × List ℕ)) (pair : List ℕ × List ℕ) → IsReadTo dash end first form mark → mark.closing ≡ false → mark.after ≡ Some after → IsMark dash end after.now next
+pub pushed : (dash : List ℕ) (end : ℕ) (first : BoundaryLine) (form more : Pairs) (mark next : BoundaryLine) (after : Bor (List ℕ)) (o : Option (List ℕ × List ℕ)) (pair : List ℕ × List ℕ) → IsReadTo dash end first form mark → mark.closing ≡ false → mark.after ≡ Some after → IsMark dash end after.now next
     → IfSome next.after (λ r. length r.now < length after.now) → o ≡ pair_of (lines_left (option_copied next.before)) → o ≡ Some pair → (length form ≡ 1000 → ⊥) → more ≡ form ++ pair ∷ [] → IsReadTo dash end first more next
 pushed dash end first form more mark next after o pair inv opening is m shorter eo some other em =
     let on = read_on dash end first form mark next after.now inv opening (ap option_copied is) m in
@@ -103,7 +103,7 @@ pushed dash end first form more mark next after o pair inv opening is m shorter 
       within = within_end next.after (length after.now) end shorter inside;
     }
 
-pub all_read : (dash : List ℕ) (end : ℕ) (first : Mark) (form : Pairs) (mark : Mark) → IsReadTo dash end first form mark → mark.closing ≡ true → pairs_of end 0 (from_mark dash end first) ≡ Ok form
+pub all_read : (dash : List ℕ) (end : ℕ) (first : BoundaryLine) (form : Pairs) (mark : BoundaryLine) → IsReadTo dash end first form mark → mark.closing ≡ true → pairs_of end 0 (from_mark dash end first) ≡ Ok form
 all_read dash end first form mark inv closed =
     sym inv.same ∙ ap (before_all form) (closing_section end (length form) (record { place = mark.place; closing = mark.closing; content = (sections_left dash end (option_copied mark.after)).before }) (sections_left dash end (option_copied mark.after)).later closed) ∙ ap Ok (append-nil form)
 

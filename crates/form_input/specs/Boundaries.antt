@@ -1,6 +1,6 @@
 -- What the search for boundary lines promises; a reader of the definition of a form needs none of it.
 use Rattle.std.specs.Prelude.{◌≡◌, ◌⊎◌, ◌-◌, ◌<◌, ◌++◌, ℕ, List, [], ◌∷◌, Option, Some, None, nat_lt, if◌then◌else◌, length, take, option_copied}
-use Rattle.form_input.specs.declared.boundary.Mark.{Mark}
+use Rattle.form_input.specs.declared.boundary.BoundaryLine.{BoundaryLine}
 use Rattle.form_input.specs.Lines.{lines, lines_left}
 use Rattle.form_input.specs.Multipart.{Section, Sections, sections}
 
@@ -30,10 +30,10 @@ abbrev pub front_of : List ℕ → ℕ → Option (List ℕ)
 front_of text left = if nat_lt (length text - left) 2 then None else Some (take (length text - left - 2) text)
 
 -- the sections from a boundary line on
-abbrev pub from_mark : List ℕ → ℕ → Mark → List Section
+abbrev pub from_mark : List ℕ → ℕ → BoundaryLine → List Section
 from_mark dash end m = record { place = m.place; closing = m.closing; content = (sections_left dash end (option_copied m.after)).before } ∷ (sections_left dash end (option_copied m.after)).later
 
 -- the first boundary line of what is left, with the lines before it and what follows it
-pub record IsMark (dash : List ℕ) (end : ℕ) (text : List ℕ) (m : Mark) : Type 0 where
+pub record IsMark (dash : List ℕ) (end : ℕ) (text : List ℕ) (m : BoundaryLine) : Type 0 where
   pub before : (sections_left dash end (Some text)).before ≡ lines_left (option_copied m.before)
   pub later : (sections_left dash end (Some text)).later ≡ from_mark dash end m

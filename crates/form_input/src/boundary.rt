@@ -45,7 +45,7 @@ fn kind_of(dash: &[u8], line: &[u8]) -> LineKind
 
 /// A boundary line of a body.
 #[derive(Clone, Copy, Drop)]
-pub struct Mark<'a> {
+pub struct BoundaryLine<'a> {
     /// Where it begins in the body.
     pub place: usize,
     pub closing: bool,
@@ -56,7 +56,7 @@ pub struct Mark<'a> {
 }
 
 /// The first boundary line of a text at the end of a body of so many bytes.
-pub fn next_mark<'a>(dash: &[u8], end: usize, text: &'a [u8]) -> Option<Mark<'a>>
+pub fn next_mark<'a>(dash: &[u8], end: usize, text: &'a [u8]) -> Option<BoundaryLine<'a>>
     requires { length text.now ≤ end }
     ensures some { IfSome result (λ m. IsMark dash.now end text.now m) }
     ensures shorter { IfSome result (λ m. IfSome m.after (λ rest. length rest.now < length text.now)) }
@@ -67,7 +67,7 @@ pub fn next_mark<'a>(dash: &[u8], end: usize, text: &'a [u8]) -> Option<Mark<'a>
         let (line, after) = next_line(rest);
         let kind = kind_of(dash, line);
         if !is_plain(kind) {
-            return Some(Mark {
+            return Some(BoundaryLine {
                 place: end - rest.len(),
                 closing: is_closing(kind),
                 before: before(text, rest.len()),

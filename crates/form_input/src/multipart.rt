@@ -4,7 +4,7 @@ ghost use Rattle.form_input.specs.Boundaries.{from_mark};
 ghost use Rattle.form_input.specs.Lines.{lines_left};
 ghost use Rattle.form_input.specs.Multipart as spec;
 
-use crate::boundary::{Mark, next_mark};
+use crate::boundary::{BoundaryLine, next_mark};
 use crate::part::pair_of;
 use crate::{Form, FormFault, MOST_PAIRS};
 use sp_base::{Mem, TextBuf};
@@ -32,7 +32,12 @@ pub fn read_multipart(alloc: Global, boundary: &[u8], body: &[u8]) -> Result<For
 }
 
 // The pairs of the parts from a boundary line on.
-fn read_parts(alloc: Global, dash: &[u8], end: usize, first: Mark) -> Result<Form, FormFault>
+fn read_parts(
+    alloc: Global,
+    dash: &[u8],
+    end: usize,
+    first: BoundaryLine,
+) -> Result<Form, FormFault>
     requires { IfSome first.after (λ rest. length rest.now ≤ end) }
     ensures ok { IfOk result (λ form. spec.pairs_of end 0 (from_mark dash.now end first.entry) ≡ Ok form) }
     ensures err { IfErr result (λ e. e ≢ FormFault.NoMemory → spec.pairs_of end 0 (from_mark dash.now end first.entry) ≡ Err e) }
@@ -60,7 +65,7 @@ fn read_parts(alloc: Global, dash: &[u8], end: usize, first: Mark) -> Result<For
 
 // The pair of the part before a boundary line.
 #[tactic(auto, unfolding(crate::specs::Multipart::disposition_in))]
-fn part_before(alloc: Global, mark: &Mark) -> Mem<Option<(TextBuf, TextBuf)>>
+fn part_before(alloc: Global, mark: &BoundaryLine) -> Mem<Option<(TextBuf, TextBuf)>>
     ensures { IfOk result (λ o. o ≡ spec.pair_of (lines_left (option_copied mark.now.before))) }
 {
     match mark.before {

@@ -13,7 +13,7 @@ ghost use Rattle.connections.specs.Ties.{PlaceTied, ReplyTied, Tied};
 ghost use Rattle.front.specs.Lines as lines;
 ghost use Rattle.front.specs.Lines.{Holds, LineKeeps, Owes, LineReads, TakenAs, TellsTurns, owed, work_of};
 
-use connections::{Outbox, Place, Reply, Sending};
+use connections::{AnswerPlace, Outbox, Reply, Sending};
 use http_front::{InFault, Intake, Turn};
 use sp_base::{Mem, NoMemory, Req};
 use std::alloc::Global;
@@ -79,7 +79,7 @@ impl Line {
             return Ok(());
         }
         self.turns.pop_front();
-        self.outbox.push(Place::interim())?;
+        self.outbox.push(AnswerPlace::interim())?;
         Ok(())
     }
 
@@ -116,7 +116,7 @@ impl Line {
     }
 
     /// Gives the turn that was taken its place.
-    pub(crate) fn push(&mut self, place: Place) -> Mem<()>
+    pub(crate) fn push(&mut self, place: AnswerPlace) -> Mem<()>
         ensures request { OnOk result ((c : Connection) (slot : Slot) → PlaceTied place slot → Owes self.old c → Holds self.new (advanced (with_slot slot c))) }
         ensures fault { OnOk result ((c : Connection) (slot : Slot) → PlaceTied place slot → slot.closes ≡ true → Tied self.old.outbox c → Holds self.new (advanced (with_slot slot c))) }
         ensures work { OnOk result (work_of self.new ≤ work_of self.old + 1) }

@@ -11,7 +11,7 @@ use crate::sky::Sky;
 use crate::told::Told;
 use crate::treat::{Treated, local_reply, treat};
 use any_config::Farm;
-use connections::Place;
+use connections::AnswerPlace;
 use http_front::InFault;
 use sp_base::Mem;
 use std::alloc::Global;
@@ -70,7 +70,7 @@ fn refuse(c: u32, fault: InFault, line: &mut Line) -> Mem<Note>
     ensures work { OnOk result (work_of line.new ≤ work_of line.old + 1) }
 {
     let status = fault.status();
-    line.push(Place::of_fault(local_reply(status)))?;
+    line.push(AnswerPlace::of_fault(local_reply(status)))?;
     Ok(Note::Local(c, status))
 }
 

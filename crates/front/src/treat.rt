@@ -14,7 +14,7 @@ use crate::line::Line;
 use crate::note::Note;
 use crate::sky::Sky;
 use any_config::Farm;
-use connections::{Place, Reply};
+use connections::{AnswerPlace, Reply};
 use dispatch_rules::admits;
 use sp_base::{Mem, Req};
 use std::alloc::Global;
@@ -57,7 +57,7 @@ pub(crate) fn treat(
             })
         }
         Answering::InFlight => {
-            let place = Place::of_request(&request, false, Reply::Awaits(sky.asked + 1));
+            let place = AnswerPlace::of_request(&request, false, Reply::Awaits(sky.asked + 1));
             let number = sky.ask(c, request)?;
             line.push(place)?;
             Ok(Treated {
@@ -96,7 +96,7 @@ fn turn_away(request: &Req, status: u16, crowded: bool, line: &mut Line) -> Mem<
 {
     let closes = crowded || status == 507;
     let reply = local_reply(status);
-    line.push(Place::of_request(request, closes, reply))?;
+    line.push(AnswerPlace::of_request(request, closes, reply))?;
     Ok(())
 }
 

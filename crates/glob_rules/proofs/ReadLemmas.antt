@@ -4,8 +4,8 @@ use lib.Utf8.{encode}
 use Rattle.std.specs.Str.{chars, NonePass, NoCharPasses}
 use Rattle.std.proofs.lemmas.List.{append-nil}
 use Rattle.std.proofs.lemmas.Str.{chars-append, chars_from_encodes, encodes-chars}
-use Rattle.glob_rules.specs.declared.piece.Piece.{Piece}
-use Rattle.glob_rules.specs.declared.piece.Piece.TheVariants.{Class}
+use Rattle.glob_rules.specs.declared.piece.GlobPiece.{GlobPiece}
+use Rattle.glob_rules.specs.declared.piece.GlobPiece.TheVariants.{Class}
 use Rattle.glob_rules.specs.declared.fault.GlobFault.TheVariants.{OpenClass}
 use Rattle.glob_rules.specs.Reading.{is_close, pieces_from, class_of, unclosed, unless_unclosed, glob_of}
 
@@ -49,11 +49,11 @@ open_class text rest cs u begins none same =
     let open_ : unclosed None (chars text) ≡ Some (chars rest) = sym same ∙ ap (unclosed None) begins ∙ stays_unclosed (91 ∷ cs) cs none ∙ ap Some (sym begins) in
     ap (λ (o : Option (List ℕ)). unless_unclosed o text) open_ ∙ ap (λ (l : List ℕ). Err (OpenClass (length text - length l))) (encodes-chars rest u)
 
-pub class_read : (pieces all : List Piece) (rest later inside after : List ℕ) → later ≡ inside ++ (93 ∷ after) → NonePass is_close inside → rest ≡ 91 ∷ later
+pub class_read : (pieces all : List GlobPiece) (rest later inside after : List ℕ) → later ≡ inside ++ (93 ∷ after) → NonePass is_close inside → rest ≡ 91 ∷ later
     → pieces ++ pieces_from None rest ≡ all → (pieces ++ Class (class_of inside) ∷ []) ++ pieces_from None after ≡ all
 class_read pieces all rest later inside after parts none begins same =
     append_assoc pieces (Class (class_of inside) ∷ []) (pieces_from None after)
-    ∙ ap (λ (l : List Piece). pieces ++ l) (sym (ap (pieces_from None) begins ∙ ap (pieces_from (Some [])) parts ∙ class_piece [] inside after none))
+    ∙ ap (λ (l : List GlobPiece). pieces ++ l) (sym (ap (pieces_from None) begins ∙ ap (pieces_from (Some [])) parts ∙ class_piece [] inside after none))
     ∙ same
 
 pub class_closes : (rest later inside after : List ℕ) (o : Option (List ℕ)) → later ≡ inside ++ (93 ∷ after) → NonePass is_close inside → rest ≡ 91 ∷ later

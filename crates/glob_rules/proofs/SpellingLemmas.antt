@@ -9,8 +9,8 @@ use Rattle.glob_rules.specs.declared.fault.GlobFault.{GlobFault}
 use Rattle.glob_rules.specs.declared.fault.GlobFault.TheVariants.{OpenClass, NoMemory}
 use Rattle.glob_rules.specs.declared.piece.CharRange.{CharRange}
 use Rattle.glob_rules.specs.declared.piece.CharClass.{CharClass}
-use Rattle.glob_rules.specs.declared.piece.Piece.{Piece}
-use Rattle.glob_rules.specs.declared.piece.Piece.TheVariants.{Star, AnyChar, Literal, Class}
+use Rattle.glob_rules.specs.declared.piece.GlobPiece.{GlobPiece}
+use Rattle.glob_rules.specs.declared.piece.GlobPiece.TheVariants.{Star, AnyChar, Literal, Class}
 use Rattle.glob_rules.specs.Reading.{is_open, is_close, is_negation, plain_piece, range, ranges_of, class_of, pieces_from, unclosed, unless_unclosed, glob_of}
 use Rattle.glob_rules.specs.Spelling.{GoesOn, AreRanges, IsClass, Spells, IsOpen, IsFault}
 use Rattle.glob_rules.proofs.ReadLemmas.{closes, class_piece, stays_unclosed}
@@ -86,9 +86,9 @@ cut (c ∷ cs) = go (is_close c) refl (cut cs)
 -- what is left of a text that spells a glob, or that a class leaves open
 abbrev Told : List ℕ → Option (List ℕ) → Type 0
 Told cs None = Spells cs (pieces_from None cs)
-Told cs (Some rest) = (front : List ℕ) × (glob : List Piece) × (inside : List ℕ) × (cs ≡ front ++ 91 ∷ inside) × (rest ≡ 91 ∷ inside) × Spells front glob × NonePass is_close inside
+Told cs (Some rest) = (front : List ℕ) × (glob : List GlobPiece) × (inside : List ℕ) × (cs ≡ front ++ 91 ∷ inside) × (rest ≡ 91 ∷ inside) × Spells front glob × NonePass is_close inside
 
-plain_spells : (c : ℕ) (cs : List ℕ) (pieces : List Piece) → is_open c ≡ false → Spells cs pieces → Spells (c ∷ cs) (plain_piece c ∷ pieces)
+plain_spells : (c : ℕ) (cs : List ℕ) (pieces : List GlobPiece) → is_open c ≡ false → Spells cs pieces → Spells (c ∷ cs) (plain_piece c ∷ pieces)
 plain_spells c cs pieces apart later = go (c == 42) (c == 63) refl refl
   where
     go : (p q : Bool) → (c == 42) ≡ p → (c == 63) ≡ q → Spells (c ∷ cs) (cond p Star (cond q AnyChar (Literal c)) ∷ pieces)
@@ -132,13 +132,13 @@ told (suc n) (c ∷ cs) le = go (λ rest less. told n rest less) (is_open c) ref
     go ih false is = plain is (unclosed None cs) (ih cs (omega (arith, le)))
 
 -- what is spelled is read
-abbrev IsRead : List ℕ → List Piece → Type 0
+abbrev IsRead : List ℕ → List GlobPiece → Type 0
 IsRead cs glob = (unclosed None cs ≡ None) × (pieces_from None cs ≡ glob)
 
-plain_read : (c : ℕ) (cs : List ℕ) (glob : List Piece) → is_open c ≡ false → IsRead cs glob → IsRead (c ∷ cs) (plain_piece c ∷ glob)
-plain_read c cs glob apart (ended, pieces) = (rw apart ended, rw apart (ap (λ (l : List Piece). plain_piece c ∷ l) pieces))
+plain_read : (c : ℕ) (cs : List ℕ) (glob : List GlobPiece) → is_open c ≡ false → IsRead cs glob → IsRead (c ∷ cs) (plain_piece c ∷ glob)
+plain_read c cs glob apart (ended, pieces) = (rw apart ended, rw apart (ap (λ (l : List GlobPiece). plain_piece c ∷ l) pieces))
 
-complete : (cs : List ℕ) (glob : List Piece) → Spells cs glob → IsRead cs glob
+complete : (cs : List ℕ) (glob : List GlobPiece) → Spells cs glob → IsRead cs glob
 complete _ _ Spells.nothing = (refl, refl)
 complete _ _ (Spells.star {cs} {pieces} later) = plain_read 42 cs pieces refl (complete cs pieces later)
 complete _ _ (Spells.any {cs} {pieces} later) = plain_read 63 cs pieces refl (complete cs pieces later)
@@ -147,12 +147,12 @@ complete _ _ (Spells.literal {c} {cs} {pieces} plain later) =
     let any : (c == 63) ≡ false = grind (arith, nat_tests) in
     let open_ : is_open c ≡ false = grind (arith, nat_tests) in
     let piece : plain_piece c ≡ Literal c = rw (star, any) refl in
-    subst (λ (p : Piece). IsRead (c ∷ cs) (p ∷ pieces)) piece (plain_read c cs pieces open_ (complete cs pieces later))
+    subst (λ (p : GlobPiece). IsRead (c ∷ cs) (p ∷ pieces)) piece (plain_read c cs pieces open_ (complete cs pieces later))
 complete _ _ (Spells.class {cs} {pieces} inside rest class none is e later) =
     let ih = complete rest pieces later in (
       ap (unclosed (Some (91 ∷ cs))) e ∙ closes (91 ∷ cs) inside rest none ∙ ih.0,
       ap (pieces_from (Some [])) e ∙ class_piece [] inside rest none ∙ ap (λ (k : CharClass). Class k ∷ pieces_from None rest) (class_complete inside class is)
-          ∙ ap (λ (l : List Piece). Class class ∷ l) ih.1,
+          ∙ ap (λ (l : List GlobPiece). Class class ∷ l) ih.1,
     )
 
 encode_append : (xs ys : List ℕ) → encode_utf8_all (xs ++ ys) ≡ encode_utf8_all xs ++ encode_utf8_all ys
@@ -161,7 +161,7 @@ encode_append (x ∷ xs) ys = ap (λ (l : List ℕ). encode x ++ l) (encode_appe
 
 -- ---- what a reading says
 
-abbrev Answers : List ℕ → Result (List Piece) GlobFault → Type 0
+abbrev Answers : List ℕ → Result (List GlobPiece) GlobFault → Type 0
 Answers cs (Ok glob) = Spells cs glob
 Answers cs (Err NoMemory) = ⊥
 Answers cs (Err (OpenClass place)) = IsOpen place cs
@@ -177,18 +177,18 @@ answered text u = go (unclosed None (chars text)) (told (length (chars text)) (c
         in
         record { front = front; glob = glob; inside = inside; parts = parts; spelled = spelled; none = none; here = omega (arith, whole) }
 
-is_only : (text : List ℕ) (glob : List Piece) → Spells (chars text) glob → glob_of text ≡ Ok glob
+is_only : (text : List ℕ) (glob : List GlobPiece) → Spells (chars text) glob → glob_of text ≡ Ok glob
 is_only text glob spelled =
     let read = complete (chars text) glob spelled in
-    ap (λ (o : Option (List ℕ)). unless_unclosed o text) read.0 ∙ ap (λ (l : List Piece). Ok l) read.1
+    ap (λ (o : Option (List ℕ)). unless_unclosed o text) read.0 ∙ ap (λ (l : List GlobPiece). Ok l) read.1
 
-abbrev done : List Piece → Result (List Piece) GlobFault
+abbrev done : List GlobPiece → Result (List GlobPiece) GlobFault
 done glob = Ok glob
 
-abbrev failed : GlobFault → Result (List Piece) GlobFault
+abbrev failed : GlobFault → Result (List GlobPiece) GlobFault
 failed fault = Err fault
 
-spelled_is : (text : List ℕ) (read glob : List Piece) → IsUtf8 text → glob_of text ≡ Ok read → Spells (chars text) glob ↔ glob ≡ read
+spelled_is : (text : List ℕ) (read glob : List GlobPiece) → IsUtf8 text → glob_of text ≡ Ok read → Spells (chars text) glob ↔ glob ≡ read
 spelled_is text read glob u e = (
   λ s. let both : done glob ≡ done read = sym (is_only text glob s) ∙ e in cc,
   λ same. rw same (subst (Answers (chars text)) e (answered text u)),
@@ -200,10 +200,10 @@ fault_is text (OpenClass place) u h =
     let e : glob_of text ≡ Err (OpenClass place) = h (λ same. absurd cc) in
     (subst (Answers (chars text)) e (answered text u), λ glob s. let both : done glob ≡ failed (OpenClass place) = sym (is_only text glob s) ∙ e in absurd cc)
 
-pub spelled_read : (text : List ℕ) (r : Result (List Piece) GlobFault) → IsUtf8 text → IfOk r (λ g. glob_of text ≡ Ok g) → IfOk r (λ g. (glob : List Piece) → Spells (chars text) glob ↔ glob ≡ g)
+pub spelled_read : (text : List ℕ) (r : Result (List GlobPiece) GlobFault) → IsUtf8 text → IfOk r (λ g. glob_of text ≡ Ok g) → IfOk r (λ g. (glob : List GlobPiece) → Spells (chars text) glob ↔ glob ≡ g)
 spelled_read text (Ok g) u e = λ glob. spelled_is text g glob u e
 spelled_read text (Err fault) u e = tt
 
-pub fault_read : (text : List ℕ) (r : Result (List Piece) GlobFault) → IsUtf8 text → IfErr r (λ e. e ≢ NoMemory → glob_of text ≡ Err e) → IfErr r (λ e. IsFault e (chars text))
+pub fault_read : (text : List ℕ) (r : Result (List GlobPiece) GlobFault) → IsUtf8 text → IfErr r (λ e. e ≢ NoMemory → glob_of text ≡ Err e) → IfErr r (λ e. IsFault e (chars text))
 fault_read text (Ok g) u e = tt
 fault_read text (Err fault) u e = fault_is text fault u e

@@ -1,10 +1,10 @@
--- What a glob matches: texts, as lists of their characters.
+-- What a glob matches (Adobe Dispatcher manual, "Designing Patterns for glob Properties"): texts, as lists of their characters.
 use Rattle.std.specs.Prelude.{◌≡◌, ℕ, Bool, true, false, not, nat_le, ◌==◌, ◌&&◌, ◌||◌, if◌then◌else◌, List, [], ◌∷◌, ◌++◌}
 use Rattle.std.specs.List.{list_any}
 use Rattle.glob_rules.specs.declared.piece.CharRange.{CharRange}
 use Rattle.glob_rules.specs.declared.piece.CharClass.{CharClass}
-use Rattle.glob_rules.specs.declared.piece.Piece.{Piece}
-use Rattle.glob_rules.specs.declared.piece.Piece.TheVariants.{Star, AnyChar, Literal, Class}
+use Rattle.glob_rules.specs.declared.piece.GlobPiece.{GlobPiece}
+use Rattle.glob_rules.specs.declared.piece.GlobPiece.TheVariants.{Star, AnyChar, Literal, Class}
 
 -- a range has both its ends
 abbrev pub in_range : ℕ → CharRange → Bool
@@ -15,23 +15,23 @@ abbrev pub in_class : ℕ → CharClass → Bool
 in_class c class = if class.negated then not (list_any (in_range c) class.ranges) else list_any (in_range c) class.ranges
 
 -- whether a piece stands for one character, and for this one
-abbrev pub stands_for : Piece → ℕ → Bool
+abbrev pub stands_for : GlobPiece → ℕ → Bool
 stands_for Star c = false
 stands_for AnyChar c = true
 stands_for (Literal d) c = c == d
 stands_for (Class class) c = in_class c class
 
-abbrev pub is_star : Piece → Bool
+abbrev pub is_star : GlobPiece → Bool
 is_star Star = true
 is_star AnyChar = false
 is_star (Literal d) = false
 is_star (Class class) = false
 
 -- A star matches any run of characters, and each other piece one character that it stands for.
-pub data Matches : List Piece → List ℕ → Type 0 where
+pub data Matches : List GlobPiece → List ℕ → Type 0 where
   nothing : Matches [] []
-  star : {pieces : List Piece} {cs rest : List ℕ} (run : List ℕ) → cs ≡ run ++ rest → Matches pieces rest → Matches (Star ∷ pieces) cs
-  one : {piece : Piece} {pieces : List Piece} {c : ℕ} {cs : List ℕ} → stands_for piece c ≡ true → Matches pieces cs → Matches (piece ∷ pieces) (c ∷ cs)
+  star : {pieces : List GlobPiece} {cs rest : List ℕ} (run : List ℕ) → cs ≡ run ++ rest → Matches pieces rest → Matches (Star ∷ pieces) cs
+  one : {piece : GlobPiece} {pieces : List GlobPiece} {c : ℕ} {cs : List ℕ} → stands_for piece c ≡ true → Matches pieces cs → Matches (piece ∷ pieces) (c ∷ cs)
 
 -- The same as a test.
 
@@ -45,13 +45,13 @@ somewhere test [] = test []
 somewhere test (c ∷ cs) = test (c ∷ cs) || somewhere test cs
 
 -- whether a piece stands for the first character, and a test holds of those after it
-abbrev pub at_first : Piece → (List ℕ → Bool) → List ℕ → Bool
+abbrev pub at_first : GlobPiece → (List ℕ → Bool) → List ℕ → Bool
 at_first piece test [] = false
 at_first piece test (c ∷ cs) = stands_for piece c && test cs
 
-abbrev pub after_piece : Piece → (List ℕ → Bool) → List ℕ → Bool
+abbrev pub after_piece : GlobPiece → (List ℕ → Bool) → List ℕ → Bool
 after_piece piece test cs = if is_star piece then somewhere test cs else at_first piece test cs
 
-unfoldable pub is_match : List Piece → List ℕ → Bool
+unfoldable pub is_match : List GlobPiece → List ℕ → Bool
 is_match [] cs = is_empty_text cs
 is_match (piece ∷ pieces) cs = after_piece piece (is_match pieces) cs

@@ -1,12 +1,12 @@
--- How a glob is spelled.
+-- How a glob is spelled (Adobe Dispatcher manual, "Designing Patterns for glob Properties").
 use Rattle.std.specs.Prelude.{ℕ, Bool, true, false, ◌==◌, ◌||◌, ◌-◌, if◌then◌else◌, List, [], ◌∷◌, ◌++◌, Option, Some, None, Result, Ok, Err, length, encode_utf8_all}
 use Rattle.std.specs.Str.{chars}
 use Rattle.glob_rules.specs.declared.fault.GlobFault.{GlobFault}
 use Rattle.glob_rules.specs.declared.fault.GlobFault.TheVariants.{OpenClass}
 use Rattle.glob_rules.specs.declared.piece.CharRange.{CharRange}
 use Rattle.glob_rules.specs.declared.piece.CharClass.{CharClass}
-use Rattle.glob_rules.specs.declared.piece.Piece.{Piece}
-use Rattle.glob_rules.specs.declared.piece.Piece.TheVariants.{Star, AnyChar, Literal, Class}
+use Rattle.glob_rules.specs.declared.piece.GlobPiece.{GlobPiece}
+use Rattle.glob_rules.specs.declared.piece.GlobPiece.TheVariants.{Star, AnyChar, Literal, Class}
 
 -- `[` begins a class
 abbrev pub is_open : ℕ → Bool
@@ -21,7 +21,7 @@ abbrev pub is_negation : ℕ → Bool
 is_negation c = c == 33 || c == 94
 
 -- a character outside a class: `*`, `?`, or itself
-abbrev pub plain_piece : ℕ → Piece
+abbrev pub plain_piece : ℕ → GlobPiece
 plain_piece c = if c == 42 then Star else (if c == 63 then AnyChar else Literal c)
 
 abbrev pub range : ℕ → ℕ → CharRange
@@ -40,7 +40,7 @@ class_of [] = record { negated = false; ranges = [] }
 class_of (c ∷ cs) = if is_negation c then record { negated = true; ranges = ranges_of cs } else record { negated = false; ranges = ranges_of (c ∷ cs) }
 
 -- the pieces of a text; of a class that is open, the characters up to here
-abbrev pub pieces_from : Option (List ℕ) → List ℕ → List Piece
+abbrev pub pieces_from : Option (List ℕ) → List ℕ → List GlobPiece
 pieces_from inside [] = []
 pieces_from None (c ∷ cs) = if is_open c then pieces_from (Some []) cs else plain_piece c ∷ pieces_from None cs
 pieces_from (Some inside) (c ∷ cs) = if is_close c then Class (class_of inside) ∷ pieces_from None cs else pieces_from (Some (inside ++ c ∷ [])) cs
@@ -52,10 +52,10 @@ unclosed None (c ∷ cs) = unclosed (if is_open c then Some (c ∷ cs) else None
 unclosed (Some rest) (c ∷ cs) = unclosed (if is_close c then None else Some rest) cs
 
 -- the pieces, unless a class is open; its `[` is placed by the bytes before it
-abbrev pub unless_unclosed : Option (List ℕ) → List ℕ → Result (List Piece) GlobFault
+abbrev pub unless_unclosed : Option (List ℕ) → List ℕ → Result (List GlobPiece) GlobFault
 unless_unclosed None text = Ok (pieces_from None (chars text))
 unless_unclosed (Some rest) text = Err (OpenClass (length text - length (encode_utf8_all rest)))
 
 -- what a text reads as: the pieces of a glob, or the fault
-abbrev pub glob_of : List ℕ → Result (List Piece) GlobFault
+abbrev pub glob_of : List ℕ → Result (List GlobPiece) GlobFault
 glob_of text = unless_unclosed (unclosed None (chars text)) text

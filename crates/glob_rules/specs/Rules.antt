@@ -1,4 +1,4 @@
--- Lists of rules.
+-- Lists of rules: the last that matches decides (Adobe Dispatcher manual, "Configuring Access to Content").
 use Rattle.std.specs.Prelude.{ℕ, Bool, false, List, [], ◌∷◌, filter}
 use Rattle.std.specs.Str.{chars}
 use Rattle.glob_rules.specs.declared.rule.Rule.{Rule}

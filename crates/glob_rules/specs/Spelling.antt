@@ -5,8 +5,8 @@ use Rattle.glob_rules.specs.declared.fault.GlobFault.{GlobFault}
 use Rattle.glob_rules.specs.declared.fault.GlobFault.TheVariants.{OpenClass, NoMemory}
 use Rattle.glob_rules.specs.declared.piece.CharRange.{CharRange}
 use Rattle.glob_rules.specs.declared.piece.CharClass.{CharClass}
-use Rattle.glob_rules.specs.declared.piece.Piece.{Piece}
-use Rattle.glob_rules.specs.declared.piece.Piece.TheVariants.{Star, AnyChar, Literal, Class}
+use Rattle.glob_rules.specs.declared.piece.GlobPiece.{GlobPiece}
+use Rattle.glob_rules.specs.declared.piece.GlobPiece.TheVariants.{Star, AnyChar, Literal, Class}
 use Rattle.glob_rules.specs.Reading.{is_close, is_negation, range}
 
 -- `*`, `?` and `[` don't stand for themselves
@@ -29,18 +29,18 @@ pub data IsClass : List ℕ → CharClass → Type 0 where
   these : {cs : List ℕ} {ranges : List CharRange} → ((c : ℕ) (more : List ℕ) → cs ≡ c ∷ more → is_negation c ≡ false) → AreRanges cs ranges → IsClass cs (record { negated = false; ranges = ranges })
 
 -- The characters of a text spell a glob, piece after piece. No `]` stands within a class.
-pub data Spells : List ℕ → List Piece → Type 0 where
+pub data Spells : List ℕ → List GlobPiece → Type 0 where
   nothing : Spells [] []
-  star : {cs : List ℕ} {pieces : List Piece} → Spells cs pieces → Spells (42 ∷ cs) (Star ∷ pieces)
-  any : {cs : List ℕ} {pieces : List Piece} → Spells cs pieces → Spells (63 ∷ cs) (AnyChar ∷ pieces)
-  literal : {c : ℕ} {cs : List ℕ} {pieces : List Piece} → is_special c ≡ false → Spells cs pieces → Spells (c ∷ cs) (Literal c ∷ pieces)
-  class : {cs : List ℕ} {pieces : List Piece} (inside rest : List ℕ) (class : CharClass) → NonePass is_close inside → IsClass inside class → cs ≡ inside ++ 93 ∷ rest → Spells rest pieces
+  star : {cs : List ℕ} {pieces : List GlobPiece} → Spells cs pieces → Spells (42 ∷ cs) (Star ∷ pieces)
+  any : {cs : List ℕ} {pieces : List GlobPiece} → Spells cs pieces → Spells (63 ∷ cs) (AnyChar ∷ pieces)
+  literal : {c : ℕ} {cs : List ℕ} {pieces : List GlobPiece} → is_special c ≡ false → Spells cs pieces → Spells (c ∷ cs) (Literal c ∷ pieces)
+  class : {cs : List ℕ} {pieces : List GlobPiece} (inside rest : List ℕ) (class : CharClass) → NonePass is_close inside → IsClass inside class → cs ≡ inside ++ 93 ∷ rest → Spells rest pieces
       → Spells (91 ∷ cs) (Class class ∷ pieces)
 
 -- a glob, and then a `[` that no `]` closes, with so many bytes before it
 pub record IsOpen (place : ℕ) (cs : List ℕ) : Type 0 where
   pub front : List ℕ
-  pub glob : List Piece
+  pub glob : List GlobPiece
   pub inside : List ℕ
   pub parts : cs ≡ front ++ 91 ∷ inside
   pub spelled : Spells front glob
@@ -50,4 +50,4 @@ pub record IsOpen (place : ℕ) (cs : List ℕ) : Type 0 where
 -- the characters spell no glob, since a class is open at this place
 abbrev pub IsFault : GlobFault → List ℕ → Type 0
 IsFault NoMemory cs = Unit {0}
-IsFault (OpenClass place) cs = IsOpen place cs × ((glob : List Piece) → Spells cs glob → ⊥)
+IsFault (OpenClass place) cs = IsOpen place cs × ((glob : List GlobPiece) → Spells cs glob → ⊥)

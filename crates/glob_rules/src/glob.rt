@@ -2,24 +2,24 @@
 ghost use Rattle.std.specs.Prelude.{◌≡◌, ◌↔◌, [], ◌∷◌, IsTrue};
 ghost use Rattle.std.specs.Str.{chars};
 ghost use Rattle.glob_rules.specs.Globs.{Matches, is_match};
-ghost use Rattle.glob_rules.specs.declared.piece.Piece.TheVariants.{Star};
+ghost use Rattle.glob_rules.specs.declared.piece.GlobPiece.TheVariants.{Star};
 
 use crate::chars::is_empty;
-use crate::piece::Piece;
+use crate::piece::GlobPiece;
 use crate::runs::{after_first_run, after_run, is_at_end, split_at_star};
 use std::marker::Model;
 
 /// A pattern for whole texts. Contracts see its pieces.
 #[derive(Drop)]
 pub struct Glob {
-    pub(crate) pieces: Vec<Piece>,
+    pub(crate) pieces: Vec<GlobPiece>,
 }
 
 impl Model for Glob {
     ghost use Rattle.std.specs.Prelude.{List};
-    ghost use Rattle.glob_rules.specs.declared.piece.Piece.{Piece};
+    ghost use Rattle.glob_rules.specs.declared.piece.GlobPiece.{GlobPiece};
 
-    ghost Value = { List Piece };
+    ghost Value = { List GlobPiece };
 
     ghost view = { λ g. g.pieces.items };
 }
@@ -34,7 +34,7 @@ impl Glob {
     }
 }
 
-fn is_match(pieces: &[Piece], text: &str) -> bool
+fn is_match(pieces: &[GlobPiece], text: &str) -> bool
     ensures { result ≡ is_match pieces.now (chars text.now) }
 {
     let (run, later) = split_at_star(pieces);
@@ -49,7 +49,7 @@ fn is_match(pieces: &[Piece], text: &str) -> bool
 
 // Whether pieces match what stands from some place on. Each run of pieces is looked for once: a text after its first place ends
 // with each text after a later one, and more of a text leaves a star more to run over.
-fn matches_somewhere(pieces: &[Piece], text: &str) -> bool
+fn matches_somewhere(pieces: &[GlobPiece], text: &str) -> bool
     ensures { result ≡ is_match (Star ∷ pieces.now) (chars text.now) }
 {
     let mut left = pieces;

@@ -13,5 +13,5 @@ mod runs;
 pub use fault::GlobFault;
 pub use glob::Glob;
 pub use laws::a_test_is_the_relation;
-pub use piece::{CharClass, CharRange, Piece};
+pub use piece::{CharClass, CharRange, GlobPiece};
 pub use rule::{Rule, RuleList, allows};

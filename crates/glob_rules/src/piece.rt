@@ -21,7 +21,7 @@ pub struct CharClass {
 
 /// A part of a glob. All but a star stand for one character.
 #[derive(Drop)]
-pub enum Piece {
+pub enum GlobPiece {
     /// Any run of characters, also none.
     Star,
     AnyChar,
@@ -51,16 +51,16 @@ fn is_in_class(c: char, class: &CharClass) -> bool
     }
 }
 
-impl Piece {
+impl GlobPiece {
     /// Whether the piece stands for one character, and for this one.
     pub(crate) fn stands_for(&self, c: char) -> bool
         ensures { result ≡ stands_for self.now c }
     {
         match self {
-            Piece::Star => false,
-            Piece::AnyChar => true,
-            Piece::Literal(d) => c == *d,
-            Piece::Class(class) => is_in_class(c, class),
+            GlobPiece::Star => false,
+            GlobPiece::AnyChar => true,
+            GlobPiece::Literal(d) => c == *d,
+            GlobPiece::Class(class) => is_in_class(c, class),
         }
     }
 
@@ -68,7 +68,7 @@ impl Piece {
         ensures { result ≡ is_star self.now }
     {
         match self {
-            Piece::Star => true,
+            GlobPiece::Star => true,
             _ => false,
         }
     }

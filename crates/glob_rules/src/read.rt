@@ -3,10 +3,10 @@ ghost use Rattle.std.specs.Prelude.{◌≡◌, ◌≢◌, ◌≤◌, ◌↔◌, 
 ghost use Rattle.std.specs.Str.{chars, NonePass};
 ghost use Rattle.glob_rules.specs.Reading as spec;
 ghost use Rattle.glob_rules.specs.Spelling.{Spells, IsFault};
-ghost use Rattle.glob_rules.specs.declared.piece.Piece.{Piece};
+ghost use Rattle.glob_rules.specs.declared.piece.GlobPiece.{GlobPiece};
 
 use crate::chars::first_char;
-use crate::piece::{CharClass, CharRange, Piece};
+use crate::piece::{CharClass, CharRange, GlobPiece};
 use crate::{Glob, GlobFault};
 use sp_base::{Items, Mem};
 use std::alloc::Global;
@@ -17,7 +17,7 @@ impl Glob {
     pub fn read(alloc: Global, text: &str) -> Result<Glob, GlobFault>
         ensures ok { IfOk result (λ g. spec.glob_of text.now ≡ Ok g) }
         ensures err { IfErr result (λ e. e ≢ GlobFault.NoMemory → spec.glob_of text.now ≡ Err e) }
-        ensures spelled { IfOk result (λ g. (glob : List Piece) → Spells (chars text.now) glob ↔ glob ≡ g) }
+        ensures spelled { IfOk result (λ g. (glob : List GlobPiece) → Spells (chars text.now) glob ↔ glob ≡ g) }
         ensures fault { IfErr result (λ e. IsFault e (chars text.now)) }
     {
         pieces_of(alloc, text)
@@ -35,7 +35,7 @@ fn pieces_of(alloc: Global, text: &str) -> Result<Glob, GlobFault>
             let Some((inside, after)) = cut_at_close(later) else {
                 return Err(GlobFault::OpenClass(text.len() - rest.len()));
             };
-            pieces.push(Piece::Class(class_of(alloc, inside)?))?;
+            pieces.push(GlobPiece::Class(class_of(alloc, inside)?))?;
             rest = after;
         } else {
             pieces.push(plain_piece(c))?;
@@ -57,15 +57,15 @@ fn cut_at_close(text: &str) -> Option<(&str, &str)>
     }
 }
 
-fn plain_piece(c: char) -> Piece
+fn plain_piece(c: char) -> GlobPiece
     ensures { result ≡ spec.plain_piece c }
 {
     if c == '*' {
-        Piece::Star
+        GlobPiece::Star
     } else if c == '?' {
-        Piece::AnyChar
+        GlobPiece::AnyChar
     } else {
-        Piece::Literal(c)
+        GlobPiece::Literal(c)
     }
 }
 

@@ -4,18 +4,18 @@ ghost use Rattle.std.specs.Str.{chars};
 ghost use Rattle.std.specs.List.{position, position_or_len};
 ghost use Rattle.glob_rules.specs.Globs.{is_match, is_star};
 ghost use Rattle.glob_rules.specs.Runs as spec;
-ghost use Rattle.glob_rules.specs.declared.piece.Piece.TheVariants.{Star};
+ghost use Rattle.glob_rules.specs.declared.piece.GlobPiece.TheVariants.{Star};
 
 use crate::chars::{first_char, is_empty};
-use crate::piece::Piece;
+use crate::piece::GlobPiece;
 
-fn first_star(pieces: &[Piece]) -> Option<usize>
+fn first_star(pieces: &[GlobPiece]) -> Option<usize>
     ensures { result ≡ position is_star pieces.now }
 {
     pieces.iter().position(|piece| piece.is_star())
 }
 
-fn star_place(pieces: &[Piece]) -> usize
+fn star_place(pieces: &[GlobPiece]) -> usize
     ensures value { result ≡ position_or_len is_star pieces.now }
     ensures within { result ≤ length pieces.now }
 {
@@ -27,7 +27,7 @@ fn star_place(pieces: &[Piece]) -> usize
 
 /// The pieces before the first star, and the star with those after it.
 #[tactic(auto, using(crate::proofs::RunLemmas::run_before, crate::proofs::RunLemmas::star_after))]
-pub fn split_at_star(pieces: &[Piece]) -> (&[Piece], &[Piece])
+pub fn split_at_star(pieces: &[GlobPiece]) -> (&[GlobPiece], &[GlobPiece])
     ensures parts { pieces.now ≡ result.0.now ++ result.1.now }
     ensures run { spec.IsRun result.0.now }
     ensures rest { spec.IsAfterRun result.1.now }
@@ -36,7 +36,7 @@ pub fn split_at_star(pieces: &[Piece]) -> (&[Piece], &[Piece])
 }
 
 /// The text after the characters that a run stands for.
-pub fn after_run<'a>(run: &[Piece], text: &'a str) -> Option<&'a str>
+pub fn after_run<'a>(run: &[GlobPiece], text: &'a str) -> Option<&'a str>
     ensures { MatchOption result (spec.after_run run.now (chars text.now) ≡ None) (λ rest. spec.after_run run.now (chars text.now) ≡ Some (chars rest.now)) }
 {
     let mut rest = text;
@@ -53,7 +53,7 @@ pub fn after_run<'a>(run: &[Piece], text: &'a str) -> Option<&'a str>
 }
 
 /// The text after the first place at which a run stands for what is there.
-pub fn after_first_run<'a>(run: &[Piece], text: &'a str) -> Option<&'a str>
+pub fn after_first_run<'a>(run: &[GlobPiece], text: &'a str) -> Option<&'a str>
     ensures { MatchOption result (spec.after_first_run run.now (chars text.now) ≡ None) (λ rest. spec.after_first_run run.now (chars text.now) ≡ Some (chars rest.now)) }
 {
     let mut rest = text;
@@ -69,7 +69,7 @@ pub fn after_first_run<'a>(run: &[Piece], text: &'a str) -> Option<&'a str>
 }
 
 /// Whether a run stands for all characters of a text.
-pub fn is_whole(run: &[Piece], text: &str) -> bool
+pub fn is_whole(run: &[GlobPiece], text: &str) -> bool
     requires { spec.IsRun run.now }
     ensures { result ≡ is_match run.now (chars text.now) }
 {
@@ -80,7 +80,7 @@ pub fn is_whole(run: &[Piece], text: &str) -> bool
 }
 
 /// Whether a run stands for the last characters of a text.
-pub fn is_at_end(run: &[Piece], text: &str) -> bool
+pub fn is_at_end(run: &[GlobPiece], text: &str) -> bool
     requires { spec.IsRun run.now }
     ensures { result ≡ is_match (Star ∷ run.now) (chars text.now) }
 {

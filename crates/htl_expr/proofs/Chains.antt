@@ -6,7 +6,7 @@ use Rattle.htl_expr.specs.declared.lent.Lent.TheVariants.{Items, rolls-Items}
 use Rattle.htl_expr.specs.declared.lent.Lent.TheOpen.{Lent-F}
 use Rattle.htl_expr.specs.declared.lent.Lent.TheFolds.{fold-roll-Lent}
 use Rattle.htl_expr.specs.declared.out.Out.TheVariants as out
-use Rattle.htl_expr.specs.declared.node.Node.{Node}
+use Rattle.htl_expr.specs.declared.node.ExprNode.{ExprNode}
 use Rattle.htl_expr.specs.declared.out.Out.{Out}
 use Rattle.htl_expr.specs.Print.{plain}
 use Rattle.htl_expr.specs.Lent.{out_step, out_of_lent, plain_item}
@@ -30,15 +30,15 @@ or_next_is a b bs = go (is_true a) refl bs
     go true e (c ∷ cs) = rw e refl
 
 -- what is left of a chain begins with the operand at this place
-left : (v : Node → Out) (more : List Node) (i : ℕ) (x : Node) → i < length more → x ≡ get_or more i x → map v (drop i more) ≡ v x ∷ map v (drop (i + 1) more)
-left v more i x lt is = ap (map v) (drop_more more i x lt ∙ ap (λ (n : Node). n ∷ drop (i + 1) more) (sym is))
+left : (v : ExprNode → Out) (more : List ExprNode) (i : ℕ) (x : ExprNode) → i < length more → x ≡ get_or more i x → map v (drop i more) ≡ v x ∷ map v (drop (i + 1) more)
+left v more i x lt is = ap (map v) (drop_more more i x lt ∙ ap (λ (n : ExprNode). n ∷ drop (i + 1) more) (sym is))
 
-pub and_goes_on : (v : Node → Out) (more : List Node) (i : ℕ) (x : Node) (a next whole : Out) → i < length more → x ≡ get_or more i x → next ≡ cond (is_true a) (v x) a
+pub and_goes_on : (v : ExprNode → Out) (more : List ExprNode) (i : ℕ) (x : ExprNode) (a next whole : Out) → i < length more → x ≡ get_or more i x → next ≡ cond (is_true a) (v x) a
     → and_values a (map v (drop i more)) ≡ whole → and_values next (map v (drop (i + 1) more)) ≡ whole
 and_goes_on v more i x a next whole lt is e inv =
     ap (λ (n : Out). and_values n (map v (drop (i + 1) more))) e ∙ sym (and_next_is a (v x) (map v (drop (i + 1) more))) ∙ sym (ap (and_values a) (left v more i x lt is)) ∙ inv
 
-pub or_goes_on : (v : Node → Out) (more : List Node) (i : ℕ) (x : Node) (a next whole : Out) → i < length more → x ≡ get_or more i x → next ≡ cond (is_true a) a (v x)
+pub or_goes_on : (v : ExprNode → Out) (more : List ExprNode) (i : ℕ) (x : ExprNode) (a next whole : Out) → i < length more → x ≡ get_or more i x → next ≡ cond (is_true a) a (v x)
     → or_values a (map v (drop i more)) ≡ whole → or_values next (map v (drop (i + 1) more)) ≡ whole
 or_goes_on v more i x a next whole lt is e inv =
     ap (λ (n : Out). or_values n (map v (drop (i + 1) more))) e ∙ sym (or_next_is a (v x) (map v (drop (i + 1) more))) ∙ sym (ap (or_values a) (left v more i x lt is)) ∙ inv

@@ -1,8 +1,8 @@
 -- What is in the grammar is read.
 use Rattle.std.proofs.Common.{◌≡◌, ℕ, ℤ, zero, suc, ◌<◌, ◌≤◌, Bool, true, false, eqb, List, [], ◌∷◌, ◌++◌, length, Ok, refl, ap, ◌∙◌, rules, arith, append_assoc}
 use Rattle.std.proofs.lemmas.List.{append-nil}
-use Rattle.htl_expr.specs.declared.node.Node.{Node}
-use Rattle.htl_expr.specs.declared.node.Node.TheVariants as n
+use Rattle.htl_expr.specs.declared.node.ExprNode.{ExprNode}
+use Rattle.htl_expr.specs.declared.node.ExprNode.TheVariants as n
 use Rattle.htl_expr.specs.declared.node.Comparison.{Comparison}
 use Rattle.htl_expr.specs.declared.tokens.NameKind.TheVariants.{Name, Field}
 use Rattle.htl_expr.specs.declared.reader.Inside.{Inside}
@@ -45,7 +45,7 @@ separates-short Or s r o = again.operator-short 124 124 s r o
 separates-short Comma s r o = again.byte-short 44 s r o
 
 mutual
-  pub reads-short : (part : Part) (depth : ℕ) (s : List ℕ) (e : Node) (r : List ℕ) → Reads part depth s e r → length r ≤ length s
+  pub reads-short : (part : Part) (depth : ℕ) (s : List ℕ) (e : ExprNode) (r : List ℕ) → Reads part depth s e r → length r ≤ length s
   reads-short _ _ _ _ _ (g.string w) = again.string-short _ _ _ w
   reads-short _ _ _ _ _ (g.number w) = again.number-short _ _ _ w
   reads-short _ _ _ _ _ (g.name w o) = again.name-short _ _ _ _ w
@@ -64,19 +64,19 @@ mutual
   reads-short _ _ _ _ _ (g.choice x b y c z) = omega (arith, reads-short _ _ _ _ _ x, again.byte-short _ _ _ b, reads-short _ _ _ _ _ y, again.byte-short _ _ _ c, reads-short _ _ _ _ _ z)
   reads-short _ _ _ _ _ (g.only x) = reads-short _ _ _ _ _ x
 
-  more-short : (sep : Separator) (depth : ℕ) (s : List ℕ) (es : List Node) (r : List ℕ) → More sep depth s es r → length r ≤ length s
+  more-short : (sep : Separator) (depth : ℕ) (s : List ℕ) (es : List ExprNode) (r : List ℕ) → More sep depth s es r → length r ≤ length s
   more-short _ _ _ _ _ g.end = omega arith
   more-short _ _ _ _ _ (g.more o x m) = omega (arith, separates-short _ _ _ o, reads-short _ _ _ _ _ x, more-short _ _ _ _ _ m)
 
 -- ---- what stands behind an item of a chain
 
-more_stops : (P : List ℕ → Type 0) (sep : Separator) (depth : ℕ) (s : List ℕ) (es : List Node) (r : List ℕ) → ((s' r' : List ℕ) → Separates sep s' r' → P s') → P r → More sep depth s es r → P s
+more_stops : (P : List ℕ → Type 0) (sep : Separator) (depth : ℕ) (s : List ℕ) (es : List ExprNode) (r : List ℕ) → ((s' r' : List ℕ) → Separates sep s' r' → P s') → P r → More sep depth s es r → P s
 more_stops P sep depth s _ _ op last g.end = last
 more_stops P sep depth s _ _ op last (g.more o x m) = op s _ o
 
 -- ---- each part, where its own parts are read
 
-leaf_start : (depth : ℕ) (inner : Inside → List ℕ → Outcome Node) (s : List ℕ) → is_at 40 s ≡ false → is_at 91 s ≡ false → spec.start depth inner s ≡ spec.leaf depth s
+leaf_start : (depth : ℕ) (inner : Inside → List ℕ → Outcome ExprNode) (s : List ℕ) → is_at 40 s ≡ false → is_at 91 s ≡ false → spec.start depth inner s ≡ spec.leaf depth s
 unfolding spec.start
 leaf_start depth inner s a b = rw (a, b) refl
 
@@ -115,7 +115,7 @@ pub record Strange (d : ℕ) : Type 0 where
   pub round : eqb 40 d ≡ false
   pub square : eqb 91 d ≡ false
 
-start_at : (d : ℕ) (part : Part) (depth : ℕ) (s : List ℕ) (e : Node) (r : List ℕ) → Strange d → part ≡ Start → Reads part depth s e r → is_at d s ≡ false
+start_at : (d : ℕ) (part : Part) (depth : ℕ) (s : List ℕ) (e : ExprNode) (r : List ℕ) → Strange d → part ≡ Start → Reads part depth s e r → is_at d s ≡ false
 start_at d _ _ s _ _ x eq (g.string w) = again.not_at is_quote d s (again.string_begins _ _ _ w) x.quote
 start_at d _ _ s _ _ x eq (g.number w) = number_not_at d s _ _ x.minus x.digit w
 start_at d _ _ s _ _ x eq (g.name w o) = again.not_at is_first d s w.first x.first
@@ -140,7 +140,7 @@ strange_not = record { quote = refl; minus = refl; digit = refl; first = refl; r
 strange_close : Strange 93
 strange_close = record { quote = refl; minus = refl; digit = refl; first = refl; round = refl; square = refl }
 
-atom_at : (depth : ℕ) (s : List ℕ) (e : Node) (r : List ℕ) → Reads Atom depth s e r → is_at 33 s ≡ false
+atom_at : (depth : ℕ) (s : List ℕ) (e : ExprNode) (r : List ℕ) → Reads Atom depth s e r → is_at 33 s ≡ false
 atom_at depth s _ r (g.atom x fs) = start_at 33 _ _ _ _ _ strange_not refl x
 
 abbrev pub NotItems : Part → Type 0
@@ -157,7 +157,7 @@ foreign_close = record { strange = strange_close; mark = refl }
 pub foreign_options : Foreign 64
 foreign_options = record { strange = record { quote = refl; minus = refl; digit = refl; first = refl; round = refl; square = refl }; mark = refl }
 
-pub part_at : (d : ℕ) (part : Part) (depth : ℕ) (s : List ℕ) (e : Node) (r : List ℕ) → Foreign d → Reads part depth s e r → NotItems part → is_at d s ≡ false
+pub part_at : (d : ℕ) (part : Part) (depth : ℕ) (s : List ℕ) (e : ExprNode) (r : List ℕ) → Foreign d → Reads part depth s e r → NotItems part → is_at d s ≡ false
 part_at d _ depth s _ r x (g.string w) ni = start_at d Start depth s _ r x.strange refl (g.string w)
 part_at d _ depth s _ r x (g.number w) ni = start_at d Start depth s _ r x.strange refl (g.number w)
 part_at d _ depth s _ r x (g.name w o) ni = start_at d Start depth s _ r x.strange refl (g.name w o)
@@ -193,7 +193,7 @@ byte_some : (c : ℕ) (s r : List ℕ) → Byte c s r → eqb (length s) 0 ≡ f
 byte_some c s r b = rw b.parts (begins_some (λ c. true) (c ∷ b.after) (first_passes c b.after))
 
 -- a part that is no list of items has a first byte
-pub part_some : (part : Part) (depth : ℕ) (s : List ℕ) (e : Node) (r : List ℕ) → Reads part depth s e r → NotItems part → eqb (length s) 0 ≡ false
+pub part_some : (part : Part) (depth : ℕ) (s : List ℕ) (e : ExprNode) (r : List ℕ) → Reads part depth s e r → NotItems part → eqb (length s) 0 ≡ false
 part_some _ depth s _ r (g.string w) ni = begins_some is_quote s (again.string_begins _ _ _ w)
 part_some _ depth s _ r (g.number w) ni = sign_some s w.negative w.inside w.sign w.first
 part_some _ depth s _ r (g.name w o) ni = begins_some is_first s w.first
@@ -251,49 +251,49 @@ accesses_again depth (suc k) found s _ r (g.more a o) st le =
     access_turn depth k found s _ _ r _ (access_begins depth s _ _ a) (access_again depth s _ _ a)
     (accesses_again depth k (found ++ _ ∷ []) _ _ r o st (omega (arith, access-short _ _ _ _ a)))
 
-module _ (depth : ℕ) (inner : Inside → List ℕ → Outcome Node) where
-  inside_start : (s r1 r2 r : List ℕ) (e : Node) → Byte 40 s r1 → inner i.Choice s ≡ Ok (e, r2) → Byte 41 r2 r → spec.start depth inner s ≡ Ok (e, r)
+module _ (depth : ℕ) (inner : Inside → List ℕ → Outcome ExprNode) where
+  inside_start : (s r1 r2 r : List ℕ) (e : ExprNode) → Byte 40 s r1 → inner i.Choice s ≡ Ok (e, r2) → Byte 41 r2 r → spec.start depth inner s ≡ Ok (e, r)
   unfolding spec.start
   inside_start s r1 r2 r e b x close = rw (again.at_here 40 s r1 b, x, again.expect_again 41 r2 r close) refl
 
-  list_start : (s r1 r2 r : List ℕ) (e : Node) → Byte 91 s r1 → inner i.Items s ≡ Ok (e, r2) → Byte 93 r2 r → spec.start depth inner s ≡ Ok (e, r)
+  list_start : (s r1 r2 r : List ℕ) (e : ExprNode) → Byte 91 s r1 → inner i.Items s ≡ Ok (e, r2) → Byte 93 r2 r → spec.start depth inner s ≡ Ok (e, r)
   unfolding spec.start
   list_start s r1 r2 r e b x close = rw (byte_not_at 91 40 s r1 refl b, again.at_here 91 s r1 b, x, again.expect_again 93 r2 r close) refl
 
-  atom_again : (s r1 r : List ℕ) (e : Node) (fs : List (List ℕ)) → spec.start depth inner s ≡ Ok (e, r1) → spec.accesses depth (length r1) [] r1 ≡ Ok (fs, r) → spec.atom depth inner s ≡ Ok (spec.access_of e fs, r)
+  atom_again : (s r1 r : List ℕ) (e : ExprNode) (fs : List (List ℕ)) → spec.start depth inner s ≡ Ok (e, r1) → spec.accesses depth (length r1) [] r1 ≡ Ok (fs, r) → spec.atom depth inner s ≡ Ok (spec.access_of e fs, r)
   unfolding spec.atom
   atom_again s r1 r e fs x y = rw (x, y) refl
 
-  not_again : (s r1 r : List ℕ) (e : Node) → Byte 33 s r1 → inner i.Operand s ≡ Ok (e, r) → spec.operand depth inner s ≡ Ok (n.Not e, r)
+  not_again : (s r1 r : List ℕ) (e : ExprNode) → Byte 33 s r1 → inner i.Operand s ≡ Ok (e, r) → spec.operand depth inner s ≡ Ok (n.Not e, r)
   unfolding spec.operand
   not_again s r1 r e b x = rw (again.at_here 33 s r1 b, x) refl
 
-  bare_again : (s r : List ℕ) (e : Node) → is_at 33 s ≡ false → spec.atom depth inner s ≡ Ok (e, r) → spec.operand depth inner s ≡ Ok (e, r)
+  bare_again : (s r : List ℕ) (e : ExprNode) → is_at 33 s ≡ false → spec.atom depth inner s ≡ Ok (e, r) → spec.operand depth inner s ≡ Ok (e, r)
   unfolding spec.operand
   bare_again s r e at x = rw at x
 
-  compare_again : (s r1 r2 r : List ℕ) (a b : Node) (op : Comparison) → spec.operand depth inner s ≡ Ok (a, r1) → Compares r1 op r2 → spec.operand depth inner r2 ≡ Ok (b, r) → spec.compare depth inner s ≡ Ok (n.Compare op a b, r)
+  compare_again : (s r1 r2 r : List ℕ) (a b : ExprNode) (op : Comparison) → spec.operand depth inner s ≡ Ok (a, r1) → Compares r1 op r2 → spec.operand depth inner r2 ≡ Ok (b, r) → spec.compare depth inner s ≡ Ok (n.Compare op a b, r)
   unfolding spec.compare
   compare_again s r1 r2 r a b op x o y = rw (x, again.compares_again r1 op r2 o, again.comparison_again r1 op r2 o, y) refl
 
-  single_again : (s r : List ℕ) (e : Node) → spec.operand depth inner s ≡ Ok (e, r) → spec.compares r ≡ false → spec.compare depth inner s ≡ Ok (e, r)
+  single_again : (s r : List ℕ) (e : ExprNode) → spec.operand depth inner s ≡ Ok (e, r) → spec.compares r ≡ false → spec.compare depth inner s ≡ Ok (e, r)
   unfolding spec.compare
   single_again s r e x at = rw (x, at) refl
 
-  both_again : (s r1 r : List ℕ) (e : Node) (es : List Node) → spec.compare depth inner s ≡ Ok (e, r1) → spec.chain (spec.compare depth inner) 38 (length r1) [] r1 ≡ Ok (es, r) → spec.both depth inner s ≡ Ok (spec.and_of e es, r)
+  both_again : (s r1 r : List ℕ) (e : ExprNode) (es : List ExprNode) → spec.compare depth inner s ≡ Ok (e, r1) → spec.chain (spec.compare depth inner) 38 (length r1) [] r1 ≡ Ok (es, r) → spec.both depth inner s ≡ Ok (spec.and_of e es, r)
   unfolding spec.both
   both_again s r1 r e es x y = rw (x, y) refl
 
-  either_again : (s r1 r : List ℕ) (e : Node) (es : List Node) → spec.both depth inner s ≡ Ok (e, r1) → spec.chain (spec.both depth inner) 124 (length r1) [] r1 ≡ Ok (es, r) → spec.either depth inner s ≡ Ok (spec.or_of e es, r)
+  either_again : (s r1 r : List ℕ) (e : ExprNode) (es : List ExprNode) → spec.both depth inner s ≡ Ok (e, r1) → spec.chain (spec.both depth inner) 124 (length r1) [] r1 ≡ Ok (es, r) → spec.either depth inner s ≡ Ok (spec.or_of e es, r)
   unfolding spec.either
   either_again s r1 r e es x y = rw (x, y) refl
 
-  choice_again : (s r1 r2 r3 r4 r : List ℕ) (c a b : Node) → spec.either depth inner s ≡ Ok (c, r1) → Byte 63 r1 r2 → inner i.Choice r1 ≡ Ok (a, r3) → Byte 58 r3 r4 → inner i.Choice r3 ≡ Ok (b, r)
+  choice_again : (s r1 r2 r3 r4 r : List ℕ) (c a b : ExprNode) → spec.either depth inner s ≡ Ok (c, r1) → Byte 63 r1 r2 → inner i.Choice r1 ≡ Ok (a, r3) → Byte 58 r3 r4 → inner i.Choice r3 ≡ Ok (b, r)
       → spec.choice depth inner s ≡ Ok (n.Choice c a b, r)
   unfolding spec.choice spec.other_choice
   choice_again s r1 r2 r3 r4 r c a b x q y colon z = rw (x, again.at_here 63 r1 r2 q, y, again.at_here 58 r3 r4 colon, z) refl
 
-  only_again : (s r : List ℕ) (e : Node) → spec.either depth inner s ≡ Ok (e, r) → is_at 63 r ≡ false → spec.choice depth inner s ≡ Ok (e, r)
+  only_again : (s r : List ℕ) (e : ExprNode) → spec.either depth inner s ≡ Ok (e, r) → is_at 63 r ≡ false → spec.choice depth inner s ≡ Ok (e, r)
   unfolding spec.choice
   only_again s r e x at = rw (x, at) refl
 
@@ -301,12 +301,12 @@ module _ (depth : ℕ) (inner : Inside → List ℕ → Outcome Node) where
   unfolding spec.items
   no_items_again s at = rw at refl
 
-  items_again : (s r1 r : List ℕ) (e : Node) (es : List Node) → is_at 93 s ≡ false → spec.choice depth inner s ≡ Ok (e, r1) → spec.chain (spec.choice depth inner) 44 (length r1) (e ∷ []) r1 ≡ Ok ((e ∷ []) ++ es, r)
+  items_again : (s r1 r : List ℕ) (e : ExprNode) (es : List ExprNode) → is_at 93 s ≡ false → spec.choice depth inner s ≡ Ok (e, r1) → spec.chain (spec.choice depth inner) 44 (length r1) (e ∷ []) r1 ≡ Ok ((e ∷ []) ++ es, r)
       → spec.items depth inner s ≡ Ok (n.List (e ∷ es), r)
   unfolding spec.items
   items_again s r1 r e es at x y = rw (at, x, y) refl
 
-nested_again : (depth : ℕ) (which : Inside) (c : ℕ) (s r1 r : List ℕ) (e : Node) → Byte c s r1 → spec.level depth (spec.nesting depth) which r1 ≡ Ok (e, r) → spec.nesting (suc depth) which s ≡ Ok (e, r)
+nested_again : (depth : ℕ) (which : Inside) (c : ℕ) (s r1 r : List ℕ) (e : ExprNode) → Byte c s r1 → spec.level depth (spec.nesting depth) which r1 ≡ Ok (e, r) → spec.nesting (suc depth) which s ≡ Ok (e, r)
 unfolding spec.nesting
 nested_again depth which c s r1 r e b x = rw (again.behind c s r1 b) x
 
@@ -322,21 +322,21 @@ between_again And s r o = again.second_again 38 38 s r o
 between_again Or s r o = again.second_again 124 124 s r o
 between_again Comma s r o = again.expect_again 44 s r o
 
-chain_stop : (item : List ℕ → Outcome Node) (c k : ℕ) (found : List Node) (s : List ℕ) → is_at c s ≡ false → spec.chain item c k found s ≡ Ok (found ++ [], s)
+chain_stop : (item : List ℕ → Outcome ExprNode) (c k : ℕ) (found : List ExprNode) (s : List ℕ) → is_at c s ≡ false → spec.chain item c k found s ≡ Ok (found ++ [], s)
 unfolding spec.chain
 chain_stop item c zero found s at = rw append-nil refl
 chain_stop item c (suc k) found s at = rw (at, append-nil) refl
 
-chain_turn : (sep : Separator) (item : List ℕ → Outcome Node) (k : ℕ) (found : List Node) (s r1 r2 r : List ℕ) (e : Node) (es : List Node) → Separates sep s r1 → item r1 ≡ Ok (e, r2)
+chain_turn : (sep : Separator) (item : List ℕ → Outcome ExprNode) (k : ℕ) (found : List ExprNode) (s r1 r2 r : List ℕ) (e : ExprNode) (es : List ExprNode) → Separates sep s r1 → item r1 ≡ Ok (e, r2)
     → spec.chain item (byte_of sep) k (found ++ e ∷ []) r2 ≡ Ok ((found ++ e ∷ []) ++ es, r) → spec.chain item (byte_of sep) (suc k) found s ≡ Ok (found ++ (e ∷ es), r)
 unfolding spec.chain
 chain_turn sep item k found s r1 r2 r e es o x y =
-    rw (separator_here sep s r1 o, between_again sep s r1 o, x) (y ∙ ap (λ (l : List Node). done (l, r)) (append_assoc found (e ∷ []) es))
+    rw (separator_here sep s r1 o, between_again sep s r1 o, x) (y ∙ ap (λ (l : List ExprNode). done (l, r)) (append_assoc found (e ∷ []) es))
 
 -- ---- the whole
 
 -- the function that reads a part
-abbrev pub parse : Part → ℕ → List ℕ → Outcome Node
+abbrev pub parse : Part → ℕ → List ℕ → Outcome ExprNode
 parse Choice depth = spec.choice depth (spec.nesting depth)
 parse Either depth = spec.either depth (spec.nesting depth)
 parse Both depth = spec.both depth (spec.nesting depth)
@@ -406,11 +406,11 @@ separates_stops And = and_compare
 separates_stops Or = or_both
 separates_stops Comma = comma_choice
 
-next_stops : (sep : Separator) (depth : ℕ) (s : List ℕ) (es : List Node) (r : List ℕ) → Behind sep r → More sep depth s es r → Stops (part_of sep) s
+next_stops : (sep : Separator) (depth : ℕ) (s : List ℕ) (es : List ExprNode) (r : List ℕ) → Behind sep r → More sep depth s es r → Stops (part_of sep) s
 next_stops sep depth s es r b m = more_stops (Stops (part_of sep)) sep depth s es r (separates_stops sep) (behind_stops sep r b) m
 
 mutual
-  pub complete : (part : Part) (depth : ℕ) (s : List ℕ) (e : Node) (r : List ℕ) → Reads part depth s e r → Stops part r → parse part depth s ≡ Ok (e, r)
+  pub complete : (part : Part) (depth : ℕ) (s : List ℕ) (e : ExprNode) (r : List ℕ) → Reads part depth s e r → Stops part r → parse part depth s ≡ Ok (e, r)
   complete _ depth s _ r (g.string w) st =
       leaf_start depth (spec.nesting depth) s (again.not_at is_quote 40 s (again.string_begins _ _ _ w) refl) (again.not_at is_quote 91 s (again.string_begins _ _ _ w) refl) ∙ string_leaf depth s _ r w
   complete _ depth s _ r (g.number w) st =
@@ -446,7 +446,7 @@ mutual
       (nested_again d i.Choice 63 _ _ _ _ b (complete _ d _ _ _ y (colon_choice _ _ c))) c (nested_again d i.Choice 58 _ _ r _ c (complete _ d _ _ r z st))
   complete _ depth s e r (g.only x) st = only_again depth (spec.nesting depth) s r e (complete _ depth s e r x (st.0, st.1, st.2, st.3)) st.4
 
-  compares_again : (depth k : ℕ) (found : List Node) (s : List ℕ) (es : List Node) (r : List ℕ) → More And depth s es r → Behind And r → length s ≤ k
+  compares_again : (depth k : ℕ) (found : List ExprNode) (s : List ℕ) (es : List ExprNode) (r : List ℕ) → More And depth s es r → Behind And r → length s ≤ k
       → spec.chain (spec.compare depth (spec.nesting depth)) 38 k found s ≡ Ok (found ++ es, r)
   compares_again depth k found s _ _ g.end st le = chain_stop (spec.compare depth (spec.nesting depth)) 38 k found s st.1
   compares_again depth zero found s _ r (g.more o x m) st le = absurd (omega (arith, separates-short And _ _ o))
@@ -454,7 +454,7 @@ mutual
       chain_turn And (spec.compare depth (spec.nesting depth)) k found s _ _ r _ _ o (complete Compare depth _ _ _ x (next_stops And depth _ _ r st m))
       (compares_again depth k (found ++ _ ∷ []) _ _ r m st (omega (arith, separates-short And _ _ o, reads-short _ _ _ _ _ x)))
 
-  boths_again : (depth k : ℕ) (found : List Node) (s : List ℕ) (es : List Node) (r : List ℕ) → More Or depth s es r → Behind Or r → length s ≤ k
+  boths_again : (depth k : ℕ) (found : List ExprNode) (s : List ℕ) (es : List ExprNode) (r : List ℕ) → More Or depth s es r → Behind Or r → length s ≤ k
       → spec.chain (spec.both depth (spec.nesting depth)) 124 k found s ≡ Ok (found ++ es, r)
   boths_again depth k found s _ _ g.end st le = chain_stop (spec.both depth (spec.nesting depth)) 124 k found s st.1
   boths_again depth zero found s _ r (g.more o x m) st le = absurd (omega (arith, separates-short Or _ _ o))
@@ -462,7 +462,7 @@ mutual
       chain_turn Or (spec.both depth (spec.nesting depth)) k found s _ _ r _ _ o (complete Both depth _ _ _ x (next_stops Or depth _ _ r st m))
       (boths_again depth k (found ++ _ ∷ []) _ _ r m st (omega (arith, separates-short Or _ _ o, reads-short _ _ _ _ _ x)))
 
-  choices_again : (depth k : ℕ) (found : List Node) (s : List ℕ) (es : List Node) (r : List ℕ) → More Comma depth s es r → Behind Comma r → length s ≤ k
+  choices_again : (depth k : ℕ) (found : List ExprNode) (s : List ℕ) (es : List ExprNode) (r : List ℕ) → More Comma depth s es r → Behind Comma r → length s ≤ k
       → spec.chain (spec.choice depth (spec.nesting depth)) 44 k found s ≡ Ok (found ++ es, r)
   choices_again depth k found s _ _ g.end st le = chain_stop (spec.choice depth (spec.nesting depth)) 44 k found s st.1
   choices_again depth zero found s _ r (g.more o x m) st le = absurd (omega (arith, separates-short Comma _ _ o))

@@ -1,6 +1,6 @@
 -- The place that a run of the reader gives is where the text leaves the grammar.
 use Rattle.std.proofs.Common.{◌≡◌, ℕ, ◌-◌, List, length, Err}
-use Rattle.htl_expr.specs.declared.stop.Stop.TheVariants as stop
+use Rattle.htl_expr.specs.declared.stop.ExprStop.TheVariants as stop
 use Rattle.htl_expr.specs.declared.expression.ExprFault.TheVariants.{Unexpected, TooDeep}
 use Rattle.htl_expr.specs.Read.{expression_read}
 use Rattle.htl_expr.specs.Grammar.{nesting_limit}

@@ -1,10 +1,10 @@
 -- Each line of the grammar, read with one level more.
 use Rattle.std.proofs.Common.{◌≡◌, ℕ, zero, suc, ◌≤◌, ◌<◌, Bool, true, false, ◌||◌, eqb, List, [], ◌∷◌, ◌++◌, drop, length, Option, Some, None, Ok, Err, refl, ap, arith, rules}
 use Rattle.std.proofs.lemmas.List.{length-append}
-use Rattle.htl_expr.specs.declared.stop.Stop.{Stop}
-use Rattle.htl_expr.specs.declared.stop.Stop.TheVariants.{Memory, Unexpected, TooDeep}
-use Rattle.htl_expr.specs.declared.node.Node.{Node}
-use Rattle.htl_expr.specs.declared.node.Node.TheVariants as n
+use Rattle.htl_expr.specs.declared.stop.ExprStop.{ExprStop}
+use Rattle.htl_expr.specs.declared.stop.ExprStop.TheVariants.{Memory, Unexpected, TooDeep}
+use Rattle.htl_expr.specs.declared.node.ExprNode.{ExprNode}
+use Rattle.htl_expr.specs.declared.node.ExprNode.TheVariants as n
 use Rattle.htl_expr.specs.declared.expression.Expr.{Expr}
 use Rattle.htl_expr.specs.declared.tokens.NameKind.TheVariants.{Name, Field}
 use Rattle.htl_expr.specs.declared.reader.Inside.{Inside}
@@ -63,7 +63,7 @@ first_access_goes depth t = goes_if behind (length t) (spec.access_at t) _ _ _ _
 
 -- ---- starts without brackets
 
-object_goes : (depth : ℕ) (o : Option (List ℕ → Node)) (w t : List ℕ) → Goes behind (length t) (spec.name_or_object_of depth o w t) (spec.name_or_object_of (suc depth) o w t)
+object_goes : (depth : ℕ) (o : Option (List ℕ → ExprNode)) (w t : List ℕ) → Goes behind (length t) (spec.name_or_object_of depth o w t) (spec.name_or_object_of (suc depth) o w t)
 object_goes depth None w t = pair_keeps (spec.word_node w) t
 object_goes depth (Some make) w t = goes_bind behind behind (length t) _ _ _ _ (first_access_goes depth t) (λ f. pair_keeps (make f.0) f.1)
 
@@ -79,7 +79,7 @@ leaf_goes depth t =
 
 -- ---- chains
 
-chain_goes : (item other : List ℕ → Outcome Node) → ((t : List ℕ) → Goes behind (length t) (item t) (other t)) → (c k : ℕ) (found : List Node) (t : List ℕ) → Goes behind (length t) (spec.chain item c k found t) (spec.chain other c k found t)
+chain_goes : (item other : List ℕ → Outcome ExprNode) → ((t : List ℕ) → Goes behind (length t) (item t) (other t)) → (c k : ℕ) (found : List ExprNode) (t : List ℕ) → Goes behind (length t) (spec.chain item c k found t) (spec.chain other c k found t)
 unfolding spec.chain
 chain_goes item other goes c zero found t = pair_keeps found t
 chain_goes item other goes c (suc k) found t =
@@ -88,11 +88,11 @@ chain_goes item other goes c (suc k) found t =
 
 -- ---- the lines, over what nests
 
-module _ (depth : ℕ) (inner more : Inside → List ℕ → Outcome Node) (nests : (which : Inside) (t : List ℕ) → 0 < length t → Goes behind (length t) (inner which t) (more which t)) where
+module _ (depth : ℕ) (inner more : Inside → List ℕ → Outcome ExprNode) (nests : (which : Inside) (t : List ℕ) → 0 < length t → Goes behind (length t) (inner which t) (more which t)) where
   at_goes : (which : Inside) (c : ℕ) (t : List ℕ) → is_at c t ≡ true → Goes behind (length t) (inner which t) (more which t)
   at_goes which c t e = nests which t (some_at c t e)
 
-  closing_keeps : (c : ℕ) (e : Node) (t : List ℕ) → Keeps behind (length t) (expect c t >>= λ r. Ok (e, r))
+  closing_keeps : (c : ℕ) (e : ExprNode) (t : List ℕ) → Keeps behind (length t) (expect c t >>= λ r. Ok (e, r))
   closing_keeps c e t = goes_bind bytes behind (length t) _ _ _ _ (expect_keeps c t) (λ r. pair_keeps e r)
 
   start_goes : (t : List ℕ) → Goes behind (length t) (spec.start depth inner t) (spec.start (suc depth) more t)
@@ -164,12 +164,12 @@ forward which s = go (deeper zero which s) refl
     line : Local (deeper zero which)
     line = local_deeper zero which
 
-    stops : (d : Stop) (front rest : List ℕ) → s ≡ front ++ rest → IsAt d rest → left_of d ≤ length s
+    stops : (d : ExprStop) (front rest : List ℕ) → s ≡ front ++ rest → IsAt d rest → left_of d ≤ length s
     stops Memory front rest e at = absurd at
     stops (Unexpected left) front rest e at = omega (arith, ap length e, length-append front rest, at)
     stops (TooDeep left) front rest e at = omega (arith, ap length e, length-append front rest, at.0)
 
-    go : (o : Outcome Node) → deeper zero which s ≡ o → Within behind (length s) o
+    go : (o : Outcome ExprNode) → deeper zero which s ≡ o → Within behind (length s) o
     go (Ok x) e = (let k = line.ok s x.0 x.1 e in omega (arith, ap length k.parts, length-append k.front x.1))
     go (Err d) e = (let k = line.err d s e in stops d k.front k.rest k.parts k.left)
 

@@ -1,6 +1,6 @@
 -- Tokens and options nest nothing, so one level more changes nothing of them.
 use Rattle.std.proofs.Common.{ℕ, ◌≤◌, ◌+◌, ◌*◌, ◌-◌, Bool, true, false, cond, ◌&&◌, eqb, List, [], ◌∷◌, ◌++◌, drop, length, slice_index, Option, Some, None, is_none, Result, Ok, codes, arith}
-use Rattle.htl_expr.specs.declared.stop.Stop.{Stop}
+use Rattle.htl_expr.specs.declared.stop.ExprStop.{ExprStop}
 use Rattle.htl_expr.specs.declared.node.Comparison.{Comparison}
 use Rattle.htl_expr.specs.declared.node.Comparison.TheVariants.{Equal, NotEqual, Below, Above, AtMost, AtLeast}
 use Rattle.htl_expr.specs.declared.expression.Context.TheVariants.{Text, Unsafe}
@@ -11,7 +11,7 @@ use Rattle.htl_expr.proofs.TokensAgain.{skip-short}
 use Rattle.htl_expr.proofs.Further.{Goes, goes_bind, goes_if, goes_ok, goes_refuse, goes_more, behind, bytes, drop-short, skip_drop-short}
 
 -- the same twice
-abbrev pub Keeps : {A : Type 0} → (A → ℕ) → ℕ → Result A Stop → Type 0
+abbrev pub Keeps : {A : Type 0} → (A → ℕ) → ℕ → Result A ExprStop → Type 0
 Keeps size n o = Goes size n o o
 
 here : (t : List ℕ) → length t ≤ length t

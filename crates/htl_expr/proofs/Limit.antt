@@ -2,8 +2,8 @@
 use Rattle.std.proofs.Common.{◌≡◌, ◌≢◌, ℕ, zero, suc, ◌+◌, ◌-◌, ◌<◌, ◌≤◌, Bool, true, cond, ◌&&◌, List, [], ◌∷◌, ◌++◌, take, drop, length, Result, Ok, Err, refl, ap, sym, subst, ◌∙◌, ◌⊎◌, inl, inr, arith}
 use Rattle.std.proofs.lemmas.List.{length-append}
 use Rattle.std.proofs.Math.Seq.{drop-nil}
-use Rattle.htl_expr.specs.declared.stop.Stop.{Stop}
-use Rattle.htl_expr.specs.declared.stop.Stop.TheVariants.{Memory, Unexpected, TooDeep}
+use Rattle.htl_expr.specs.declared.stop.ExprStop.{ExprStop}
+use Rattle.htl_expr.specs.declared.stop.ExprStop.TheVariants.{Memory, Unexpected, TooDeep}
 use Rattle.htl_expr.specs.declared.expression.Expr.{Expr}
 use Rattle.htl_expr.specs.declared.expression.ExprFault.{ExprFault}
 use Rattle.htl_expr.specs.declared.expression.ExprFault.TheVariants as fault
@@ -99,7 +99,7 @@ some_deeper levels s left e = go (expression_read (suc levels) s) refl (deeper_b
     within : left ≤ length s
     within = deep_within levels s left e
 
-    go : (o : Result Expr Stop) → expression_read (suc levels) s ≡ o → Beyond nothing left o → HasSome (suc levels) s (length s - left)
+    go : (o : Result Expr ExprStop) → expression_read (suc levels) s ≡ o → Beyond nothing left o → HasSome (suc levels) s (length s - left)
     go (Ok x) r b = record { text = s; tree = x; agree = agree_same (length s - left) s; whole = read_sound (suc levels) s x r }
     go (Err Memory) r b = absurd ((failed (suc levels) Memory s r).left)
     go (Err (Unexpected k)) r b = later_some (suc levels) s (length s - left) (length s - k) (omega (arith, within, b)) (omega (arith, within, b)) (stopped (suc levels) s (Unexpected k) k r refl)
@@ -149,7 +149,7 @@ same_takes levels s place m = go (expression_read levels u) refl
     u : List ℕ
     u = take place s ++ colon_letter
 
-    go : (o : Result Expr Stop) → expression_read levels u ≡ o → passes (expression_read (suc levels) u) ≡ passes (expression_read levels u)
+    go : (o : Result Expr ExprStop) → expression_read levels u ≡ o → passes (expression_read (suc levels) u) ≡ passes (expression_read levels u)
     go (Ok e) r = ap passes (deeper_ok levels u e r ∙ sym r)
     go (Err Memory) r = absurd ((failed levels Memory u r).left)
     go (Err (Unexpected k)) r = ap passes (deeper_unexpected levels u k r ∙ sym r)

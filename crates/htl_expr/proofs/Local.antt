@@ -1,15 +1,15 @@
 -- What was read, or why nothing was, depends on no byte behind the next one, but for a letter behind a colon.
 use Rattle.std.proofs.Common.{◌≡◌, ℕ, Bool, true, false, cond, ◌||◌, ◌&&◌, eqb, List, [], ◌∷◌, ◌++◌, drop, length, Result, Ok, Err, refl, ap, sym, subst, ◌∙◌, ◌⊎◌, inl, inr, append_assoc}
-use Rattle.htl_expr.specs.declared.stop.Stop.{Stop}
-use Rattle.htl_expr.specs.declared.stop.Stop.TheVariants.{Memory, Unexpected, TooDeep}
+use Rattle.htl_expr.specs.declared.stop.ExprStop.{ExprStop}
+use Rattle.htl_expr.specs.declared.stop.ExprStop.TheVariants.{Memory, Unexpected, TooDeep}
 use Rattle.htl_expr.specs.declared.tokens.NameKind.TheVariants.{Field}
 use Rattle.htl_expr.specs.Tokens.{Outcome, ◌>>=◌, is_at, begins, goes_on, is_letter, is_word_byte}
 use Rattle.htl_expr.specs.Fault.{SameHead, nests}
 use Rattle.htl_expr.proofs.Tools.{bind_ok, chosen, ok_is}
 
-pub bind_err : {A B : Type 0} (r : Result A Stop) (f : A → Result B Stop) (d : Stop) → (r >>= f) ≡ Err d → (r ≡ Err d) ⊎ ((x : A) × (r ≡ Ok x) × (f x ≡ Err d))
+pub bind_err : {A B : Type 0} (r : Result A ExprStop) (f : A → Result B ExprStop) (d : ExprStop) → (r >>= f) ≡ Err d → (r ≡ Err d) ⊎ ((x : A) × (r ≡ Ok x) × (f x ≡ Err d))
 bind_err (Ok x) f d e = inr (x, refl, e)
-bind_err {B = B} (Err d') f d e = inl (let same : ◌≡◌ {A = Result B Stop} (Err d') (Err d) = e in cc)
+bind_err {B = B} (Err d') f d e = inl (let same : ◌≡◌ {A = Result B ExprStop} (Err d') (Err d) = e in cc)
 
 -- ---- what may be looked at
 
@@ -53,13 +53,13 @@ nil_same (c ∷ z) h = absurd h.0
 -- ---- what stays the same
 
 -- the reason speaks of the text that is left
-abbrev pub IsAt : Stop → List ℕ → Type 0
+abbrev pub IsAt : ExprStop → List ℕ → Type 0
 IsAt Memory rest = ⊥
 IsAt (Unexpected left) rest = length rest ≡ left
 IsAt (TooDeep left) rest = (length rest ≡ left) × (begins nests rest ≡ true)
 
 -- the same reason where so many bytes are left
-abbrev pub moved : Stop → ℕ → Stop
+abbrev pub moved : ExprStop → ℕ → ExprStop
 moved Memory left = Memory
 moved (Unexpected _) left = Unexpected left
 moved (TooDeep _) left = TooDeep left
@@ -69,7 +69,7 @@ pub record Kept {A : Type 0} (f : List ℕ → Outcome A) (s : List ℕ) (x : A)
   pub parts : s ≡ front ++ r
   pub same : (z : List ℕ) → Same r z → f (front ++ z) ≡ Ok (x, z)
 
-pub record Failed {A : Type 0} (f : List ℕ → Outcome A) (d : Stop) (s : List ℕ) : Type 0 where
+pub record Failed {A : Type 0} (f : List ℕ → Outcome A) (d : ExprStop) (s : List ℕ) : Type 0 where
   pub front : List ℕ
   pub rest : List ℕ
   pub parts : s ≡ front ++ rest
@@ -78,7 +78,7 @@ pub record Failed {A : Type 0} (f : List ℕ → Outcome A) (d : Stop) (s : List
 
 pub record Local {A : Type 0} (f : List ℕ → Outcome A) : Type 0 where
   pub ok : (s : List ℕ) (x : A) (r : List ℕ) → f s ≡ Ok (x, r) → Kept f s x r
-  pub err : (d : Stop) (s : List ℕ) → f s ≡ Err d → Failed f d s
+  pub err : (d : ExprStop) (s : List ℕ) → f s ≡ Err d → Failed f d s
 
 pub local_ext : {A : Type 0} (f h : List ℕ → Outcome A) → ((s : List ℕ) → f s ≡ h s) → Local f → Local h
 local_ext f h eq l = record {
@@ -125,13 +125,13 @@ local_pure y = record {
 abbrev pub refuse : {A : Type 0} → List ℕ → Outcome A
 refuse s = Err (Unexpected (length s))
 
-pub err_is : {A : Type 0} (d e : Stop) → ◌≡◌ {A = Outcome A} (Err d) (Err e) → d ≡ e
+pub err_is : {A : Type 0} (d e : ExprStop) → ◌≡◌ {A = Outcome A} (Err d) (Err e) → d ≡ e
 err_is d e h = cc
 
 pub local_refuse : {A : Type 0} → Local (refuse {A = A})
 local_refuse {A = A} = record {
   ok = λ s x r e. absurd cc;
-  err = λ d s e. subst (λ (b : Stop). Failed (refuse {A = A}) b s) (err_is {A = A} (Unexpected (length s)) d e)
+  err = λ d s e. subst (λ (b : ExprStop). Failed (refuse {A = A}) b s) (err_is {A = A} (Unexpected (length s)) d e)
       (record { front = []; rest = s; parts = refl; left = refl; same = λ z w. refl });
 }
 
@@ -150,7 +150,7 @@ local_if {A = A} test f h sees lf lh = record { ok = ok; err = err }
           record { front = k.front; parts = k.parts; same = λ z q. (let t : test (k.front ++ z) ≡ false = seen false s k.front r z k.parts w.0 q in rw t (k.same z q)) })
     ]
 
-    err : (d : Stop) (s : List ℕ) → cond (test s) (f s) (h s) ≡ Err d → Failed (λ t. cond (test t) (f t) (h t)) d s
+    err : (d : ExprStop) (s : List ℕ) → cond (test s) (f s) (h s) ≡ Err d → Failed (λ t. cond (test t) (f t) (h t)) d s
     err d s e = elim (chosen (test s) _ _ _ e) [
       | inl w ↦ (let k = lf.err d s w.1 in
           record { front = k.front; rest = k.rest; parts = k.parts; left = k.left; same = λ z q. (let t : test (k.front ++ z) ≡ true = seen true s k.front k.rest z k.parts w.0 q in rw t (k.same z q)) })
@@ -176,7 +176,7 @@ local_drop {A = A} f l = record { ok = ok; err = err }
         nil x' r' (c ∷ front) p same = absurd cc
     ok (c ∷ s) x r e = (let k = l.ok s x r e in record { front = c ∷ k.front; parts = ap (λ (t : List ℕ). c ∷ t) k.parts; same = k.same })
 
-    err : (d : Stop) (s : List ℕ) → f (drop 1 s) ≡ Err d → Failed (λ t. f (drop 1 t)) d s
+    err : (d : ExprStop) (s : List ℕ) → f (drop 1 s) ≡ Err d → Failed (λ t. f (drop 1 t)) d s
     err d [] e = (let k = l.err d [] e in nil k.front k.rest k.parts k.left k.same)
       where
         nil : (front rest : List ℕ) → [] ≡ front ++ rest → IsAt d rest → ((z : List ℕ) → Same rest z → f (front ++ z) ≡ Err (moved d (length z))) → Failed (λ t. f (drop 1 t)) d []

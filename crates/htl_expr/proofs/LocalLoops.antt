@@ -1,7 +1,7 @@
 -- The same of loops.
 use Rattle.std.proofs.Common.{◌≡◌, ℕ, zero, suc, ◌<◌, ◌≤◌, Bool, true, false, cond, List, [], ◌∷◌, ◌++◌, length, Ok, Err, refl, ap, sym, subst, ◌∙◌, inl, inr, arith, append_assoc}
 use Rattle.std.proofs.lemmas.List.{length-append}
-use Rattle.htl_expr.specs.declared.stop.Stop.{Stop}
+use Rattle.htl_expr.specs.declared.stop.ExprStop.{ExprStop}
 use Rattle.htl_expr.specs.Tokens.{Outcome, ◌>>=◌}
 use Rattle.htl_expr.proofs.Tools.{bind_ok, chosen, ok_is}
 use Rattle.htl_expr.proofs.Local.{bind_err, Same, head_in, IsAt, moved, Kept, Failed, Local}
@@ -19,7 +19,7 @@ module _ {A : Type 0} (test : List ℕ → Bool) (item : List ℕ → Outcome A)
     pub parts : s ≡ front ++ r
     pub same : (z : List ℕ) (j : ℕ) → Same r z → length (front ++ z) ≤ j → loop j found (front ++ z) ≡ Ok (xs, z)
 
-  record LoopFailed (d : Stop) (found : List A) (s : List ℕ) : Type 0 where
+  record LoopFailed (d : ExprStop) (found : List A) (s : List ℕ) : Type 0 where
     pub front : List ℕ
     pub rest : List ℕ
     pub parts : s ≡ front ++ rest
@@ -35,7 +35,7 @@ module _ {A : Type 0} (test : List ℕ → Bool) (item : List ℕ → Outcome A)
   unfolding loop
   loop_turns j found t x r o e i h = rw (e, i) h
 
-  loop_fails : (j : ℕ) (found : List A) (t : List ℕ) (d : Stop) → test t ≡ true → item t ≡ Err d → loop (suc j) found t ≡ Err d
+  loop_fails : (j : ℕ) (found : List A) (t : List ℕ) (d : ExprStop) → test t ≡ true → item t ≡ Err d → loop (suc j) found t ≡ Err d
   unfolding loop
   loop_fails j found t d e i = rw (e, i) refl
 
@@ -63,7 +63,7 @@ module _ {A : Type 0} (test : List ℕ → Bool) (item : List ℕ → Outcome A)
           same = λ z j h le. again found s x q r z l.front j (Ok (xs, z)) k e i l.parts h le (λ m w. l.same z m h w);
         }
 
-    turn_failed : (d : Stop) (found : List A) (s : List ℕ) (x : A) (q : List ℕ) → test s ≡ true → item s ≡ Ok (x, q) → LoopFailed d (found ++ x ∷ []) q → LoopFailed d found s
+    turn_failed : (d : ExprStop) (found : List A) (s : List ℕ) (x : A) (q : List ℕ) → test s ≡ true → item s ≡ Ok (x, q) → LoopFailed d (found ++ x ∷ []) q → LoopFailed d found s
     turn_failed d found s x q e i l =
         let k = local.ok s x q i in
         record {
@@ -74,7 +74,7 @@ module _ {A : Type 0} (test : List ℕ → Bool) (item : List ℕ → Outcome A)
           same = λ z j h le. again found s x q l.rest z l.front j (Err (moved d (length z))) k e i l.parts h le (λ m w. l.same z m h w);
         }
 
-    item_failed : (d : Stop) (found : List A) (s : List ℕ) → test s ≡ true → 0 < length s → Failed item d s → LoopFailed d found s
+    item_failed : (d : ExprStop) (found : List A) (s : List ℕ) → test s ≡ true → 0 < length s → Failed item d s → LoopFailed d found s
     item_failed d found s e some k = record { front = k.front; rest = k.rest; parts = k.parts; left = k.left; same = fails }
       where
         first : (front rest z : List ℕ) → Same rest z → 0 < length (front ++ rest) → 0 < length (front ++ z)
@@ -104,7 +104,7 @@ module _ {A : Type 0} (test : List ℕ → Bool) (item : List ℕ → Outcome A)
       | inr h ↦ subst (λ (q : List A × List ℕ). LoopKept found s q.0 q.1) (ok_is _ _ h.1) (stop_kept found s h.0)
     ]
 
-    loop_err : (d : Stop) (k : ℕ) (found : List A) (s : List ℕ) → length s ≤ k → loop k found s ≡ Err d → LoopFailed d found s
+    loop_err : (d : ExprStop) (k : ℕ) (found : List A) (s : List ℕ) → length s ≤ k → loop k found s ≡ Err d → LoopFailed d found s
     unfolding loop
     loop_err d zero found s le e = absurd cc
     loop_err d (suc k) found s le e = elim (chosen (test s) _ _ _ e) [

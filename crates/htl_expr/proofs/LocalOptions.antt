@@ -1,8 +1,8 @@
 -- The same of options, and of the whole.
 use Rattle.std.proofs.Common.{◌≡◌, ℕ, suc, Bool, true, false, cond, ◌||◌, ◌&&◌, eqb, List, [], ◌∷◌, ◌++◌, drop, length, Option, Some, None, is_none, Result, Ok, Err, codes, refl, ap, sym, ◌∙◌, rules}
-use Rattle.htl_expr.specs.declared.stop.Stop.{Stop}
-use Rattle.htl_expr.specs.declared.stop.Stop.TheVariants.{Unexpected}
-use Rattle.htl_expr.specs.declared.node.Node.{Node}
+use Rattle.htl_expr.specs.declared.stop.ExprStop.{ExprStop}
+use Rattle.htl_expr.specs.declared.stop.ExprStop.TheVariants.{Unexpected}
+use Rattle.htl_expr.specs.declared.node.ExprNode.{ExprNode}
 use Rattle.htl_expr.specs.declared.expression.Context.{Context}
 use Rattle.htl_expr.specs.declared.expression.Context.TheVariants.{Text, Unsafe}
 use Rattle.htl_expr.specs.declared.expression.Expr.{Expr}
@@ -97,10 +97,10 @@ module _ (levels : ℕ) where
       local_if (λ t. at_end t || is_at 64 t) (got None) (λ t. spec.choice levels (spec.nesting levels) t >>= λ x. Ok (Some x.0, x.1)) nothing_same (local_pure None)
       (local_bind (spec.choice levels (spec.nesting levels)) (λ e t. Ok (Some e, t)) (local_tree levels) (λ e. local_pure (Some e)))
 
-  ended : Option Node → List ℕ → Outcome Expr
+  ended : Option ExprNode → List ℕ → Outcome Expr
   ended node t = spec.options t >>= λ o. cond (at_end o.1) (Ok (spec.expr_of node o.0, o.1)) (refuse o.1)
 
-  local_ended : (node : Option Node) → Local (ended node)
+  local_ended : (node : Option ExprNode) → Local (ended node)
   unfolding ended
   local_ended node = local_bind spec.options (λ given t. cond (at_end t) (Ok (spec.expr_of node given, t)) (refuse t)) local_options
       (λ given. local_if at_end (got (spec.expr_of node given)) refuse end_same (local_pure (spec.expr_of node given)) local_refuse)
@@ -112,15 +112,15 @@ module _ (levels : ℕ) where
   local_text : Local text
   local_text = local_bind (λ t. spec.optional_choice levels (blanks_skipped t)) ended (local_skip (spec.optional_choice levels) local_first) local_ended
 
-  abbrev alone : Outcome Expr → Result Expr Stop
+  abbrev alone : Outcome Expr → Result Expr ExprStop
   alone (Ok x) = Ok x.0
   alone (Err d) = Err d
 
-  alone_err : (o : Outcome Expr) (d : Stop) → alone o ≡ Err d → o ≡ Err d
+  alone_err : (o : Outcome Expr) (d : ExprStop) → alone o ≡ Err d → o ≡ Err d
   alone_err (Ok x) d e = absurd cc
-  alone_err (Err k) d e = (let same : ◌≡◌ {A = Result Expr Stop} (Err k) (Err d) = e in cc)
+  alone_err (Err k) d e = (let same : ◌≡◌ {A = Result Expr ExprStop} (Err k) (Err d) = e in cc)
 
-  past : {A : Type 0} (o : Outcome A) (f : A × List ℕ → Outcome Expr) (h : A × List ℕ → Result Expr Stop) → ((x : A × List ℕ) → alone (f x) ≡ h x) → alone (o >>= f) ≡ (o >>= h)
+  past : {A : Type 0} (o : Outcome A) (f : A × List ℕ → Outcome Expr) (h : A × List ℕ → Result Expr ExprStop) → ((x : A × List ℕ) → alone (f x) ≡ h x) → alone (o >>= f) ≡ (o >>= h)
   past (Ok x) f h e = e x
   past (Err d) f h e = refl
 
@@ -133,14 +133,14 @@ module _ (levels : ℕ) where
       last false e r = refl
 
   -- the reason for which a text is not read, and the texts that are not read for the same
-  pub record Left (d : Stop) (s : List ℕ) : Type 0 where
+  pub record Left (d : ExprStop) (s : List ℕ) : Type 0 where
     pub front : List ℕ
     pub rest : List ℕ
     pub parts : s ≡ front ++ rest
     pub left : IsAt d rest
     pub same : (z : List ℕ) → Same rest z → spec.expression_read levels (front ++ z) ≡ Err (moved d (length z))
 
-  pub failed : (d : Stop) (s : List ℕ) → spec.expression_read levels s ≡ Err d → Left d s
+  pub failed : (d : ExprStop) (s : List ℕ) → spec.expression_read levels s ≡ Err d → Left d s
   failed d s e =
       let k = local_text.err d s (alone_err (text s) d (read_is s ∙ e)) in
       record { front = k.front; rest = k.rest; parts = k.parts; left = k.left; same = λ z w. sym (read_is (k.front ++ z)) ∙ ap alone (k.same z w) }

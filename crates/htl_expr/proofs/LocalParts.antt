@@ -1,9 +1,9 @@
 -- The same of each part.
 use Rattle.std.proofs.Common.{◌≡◌, ℕ, zero, suc, ◌<◌, Bool, true, false, cond, ◌||◌, eqb, List, [], ◌∷◌, ◌++◌, drop, length, Option, Some, None, Result, Ok, Err, refl, ap, ◌∙◌, ◌⊎◌, inl, inr, arith}
 use Rattle.std.proofs.lemmas.List.{length-append}
-use Rattle.htl_expr.specs.declared.stop.Stop.{Stop}
-use Rattle.htl_expr.specs.declared.node.Node.{Node}
-use Rattle.htl_expr.specs.declared.node.Node.TheVariants as n
+use Rattle.htl_expr.specs.declared.stop.ExprStop.{ExprStop}
+use Rattle.htl_expr.specs.declared.node.ExprNode.{ExprNode}
+use Rattle.htl_expr.specs.declared.node.ExprNode.TheVariants as n
 use Rattle.htl_expr.specs.declared.tokens.NameKind.TheVariants.{Name, Field}
 use Rattle.htl_expr.specs.declared.reader.Inside.{Inside}
 use Rattle.htl_expr.specs.declared.reader.Inside.TheVariants.{Choice, Operand, Items}
@@ -89,32 +89,32 @@ between-short c t r at e = elim (chosen (eqb c 44) _ _ _ e) [
   | inr h ↦ operator-short c c t r (second_sound c c t r at h.1)
 ]
 
-module _ (c : ℕ) (item : List ℕ → Outcome Node) (local : Local item) where
-  abbrev turn : List ℕ → Outcome Node
+module _ (c : ℕ) (item : List ℕ → Outcome ExprNode) (local : Local item) where
+  abbrev turn : List ℕ → Outcome ExprNode
   turn t = spec.between c t >>= λ r. item r
 
   local_turn : Local turn
   local_turn = local_step (spec.between c) item (local_between c) local
 
-  turn-short : (t : List ℕ) (x : Node) (r : List ℕ) → is_at c t ≡ true → turn t ≡ Ok (x, r) → length r < length t
+  turn-short : (t : List ℕ) (x : ExprNode) (r : List ℕ) → is_at c t ≡ true → turn t ≡ Ok (x, r) → length r < length t
   turn-short t x r at e =
       let op = bind_ok (spec.between c t) item (x, r) e in
       let k = local.ok op.0 x r op.2 in
       omega (arith, between-short c t op.0 at op.1, ap length k.parts, length-append k.front r)
 
-  regroup : (o : Result (List ℕ) Stop) (f : Node × List ℕ → Outcome (List Node)) → ((o >>= λ r. item r) >>= f) ≡ (o >>= λ r. item r >>= f)
+  regroup : (o : Result (List ℕ) ExprStop) (f : ExprNode × List ℕ → Outcome (List ExprNode)) → ((o >>= λ r. item r) >>= f) ≡ (o >>= λ r. item r >>= f)
   regroup (Ok r) f = refl
   regroup (Err d) f = refl
 
-  chain_loop : (k : ℕ) (found : List Node) (t : List ℕ) → loop (is_at c) turn k found t ≡ spec.chain item c k found t
+  chain_loop : (k : ℕ) (found : List ExprNode) (t : List ℕ) → loop (is_at c) turn k found t ≡ spec.chain item c k found t
   unfolding loop spec.chain
   chain_loop zero found t = refl
   chain_loop (suc k) found t =
-      ap (λ (o : Outcome (List Node)). cond (is_at c t) o (Ok (found, t)))
+      ap (λ (o : Outcome (List ExprNode)). cond (is_at c t) o (Ok (found, t)))
       (under (turn t) (λ x. loop (is_at c) turn k (found ++ x.0 ∷ []) x.1) (λ x. spec.chain item c k (found ++ x.0 ∷ []) x.1) (λ x. chain_loop k (found ++ x.0 ∷ []) x.1)
       ∙ regroup (spec.between c t) (λ x. spec.chain item c k (found ++ x.0 ∷ []) x.1))
 
-  local_chain : (found : List Node) → Local (λ t. spec.chain item c (length t) found t)
+  local_chain : (found : List ExprNode) → Local (λ t. spec.chain item c (length t) found t)
   unfolding is_at
   local_chain found = local_ext (whole_loop (is_at c) turn found) (λ t. spec.chain item c (length t) found t) (λ t. chain_loop (length t) found t) (local_loop (is_at c) turn (at_same c) refl local_turn turn-short found)
 
@@ -127,7 +127,7 @@ compares_same : (r z : List ℕ) → Same r z → spec.compares z ≡ spec.compa
 unfolding spec.compares
 compares_same r z h = rw (at_same 61 r z h, at_same 33 r z h, at_same 60 r z h, at_same 62 r z h) refl
 
-local_named_of : (depth : ℕ) (o : Option (List ℕ → Node)) (w : List ℕ) → Local (spec.name_or_object_of depth o w)
+local_named_of : (depth : ℕ) (o : Option (List ℕ → ExprNode)) (w : List ℕ) → Local (spec.name_or_object_of depth o w)
 local_named_of depth None w = local_pure (spec.word_node w)
 local_named_of depth (Some make) w = local_bind (spec.first_access depth) (λ f t. Ok (make f, t)) (local_first_access depth) (λ f. local_pure (make f))
 
@@ -142,19 +142,19 @@ local_leaf depth =
     (local_if (λ t. is_at 45 t || begins is_expression_digit t) (λ t. signed_number t >>= λ x. Ok (n.Long x.0, x.1)) (spec.name_or_object depth) number_same (local_bind signed_number (λ k t. Ok (n.Long k, t)) local_number (λ k. local_pure (n.Long k))) (local_named depth))
 
 -- A choice is read at a colon only behind one that was read, so never where no level is left.
-abbrev Other : (Inside → List ℕ → Outcome Node) → Type 0
-Other inner = Local (guarded 58 (inner Choice)) ⊎ ((t : List ℕ) (x : Node × List ℕ) → inner Choice t ≡ Ok x → ⊥)
+abbrev Other : (Inside → List ℕ → Outcome ExprNode) → Type 0
+Other inner = Local (guarded 58 (inner Choice)) ⊎ ((t : List ℕ) (x : ExprNode × List ℕ) → inner Choice t ≡ Ok x → ⊥)
 
 never_is : {A B : Type 0} (b : Bool) (o : Outcome A) (f h : A × List ℕ → Outcome B) (other : Outcome B) → ((x : A × List ℕ) → o ≡ Ok x → ⊥) → cond b (o >>= f) other ≡ cond b (o >>= h) other
 never_is true (Ok x) f h other never = absurd (never x refl)
 never_is true (Err d) f h other never = refl
 never_is false o f h other never = refl
 
-module _ (depth : ℕ) (inner : Inside → List ℕ → Outcome Node) (local : (which : Inside) (c : ℕ) → nests c ≡ true → Local (guarded c (inner which))) (other : Other inner) where
-  closing : ℕ → Node → List ℕ → Outcome Node
+module _ (depth : ℕ) (inner : Inside → List ℕ → Outcome ExprNode) (local : (which : Inside) (c : ℕ) → nests c ≡ true → Local (guarded c (inner which))) (other : Other inner) where
+  closing : ℕ → ExprNode → List ℕ → Outcome ExprNode
   closing c e t = expect c t >>= λ r. Ok (e, r)
 
-  local_closing : (c : ℕ) (e : Node) → Local (closing c e)
+  local_closing : (c : ℕ) (e : ExprNode) → Local (closing c e)
   unfolding closing
   local_closing c e = local_step (expect c) (got e) (local_expect c) (local_pure e)
 
@@ -173,10 +173,10 @@ module _ (depth : ℕ) (inner : Inside → List ℕ → Outcome Node) (local : (
   unfolding spec.operand
   local_operand = local_guarded 33 (inner Operand) (λ e t. Ok (n.Not e, t)) (spec.atom depth inner) (local Operand 33 refl) (λ e. local_pure (n.Not e)) local_atom
 
-  compared : Node → List ℕ → Outcome Node
+  compared : ExprNode → List ℕ → Outcome ExprNode
   compared a t = spec.comparison t >>= λ op. spec.operand depth inner op.1 >>= λ b. Ok (n.Compare op.0 a b.0, b.1)
 
-  local_compared : (a : Node) → Local (compared a)
+  local_compared : (a : ExprNode) → Local (compared a)
   unfolding compared
   local_compared a = local_bind spec.comparison (λ op t. spec.operand depth inner t >>= λ b. Ok (n.Compare op a b.0, b.1)) local_comparison
       (λ op. local_bind (spec.operand depth inner) (λ b t. Ok (n.Compare op a b, t)) local_operand (λ b. local_pure (n.Compare op a b)))
@@ -195,17 +195,17 @@ module _ (depth : ℕ) (inner : Inside → List ℕ → Outcome Node) (local : (
   local_either = local_bind (spec.both depth inner) (λ e t. spec.chain (spec.both depth inner) 124 (length t) [] t >>= λ es. Ok (spec.or_of e es.0, es.1)) local_both
       (λ e. local_bind (λ t. spec.chain (spec.both depth inner) 124 (length t) [] t) (λ es t. Ok (spec.or_of e es, t)) (local_chain 124 (spec.both depth inner) local_both []) (λ es. local_pure (spec.or_of e es)))
 
-  others : Node → Node → List ℕ → Outcome Node
+  others : ExprNode → ExprNode → List ℕ → Outcome ExprNode
   others c a t = spec.other_choice depth inner t >>= λ b. Ok (n.Choice c a b.0, b.1)
 
-  local_others : Local (guarded 58 (inner Choice)) → (c a : Node) → Local (others c a)
+  local_others : Local (guarded 58 (inner Choice)) → (c a : ExprNode) → Local (others c a)
   unfolding others spec.other_choice
   local_others l c a = local_bind (guarded 58 (inner Choice)) (λ b t. Ok (n.Choice c a b, t)) l (λ b. local_pure (n.Choice c a b))
 
-  abbrev branches : Node → List ℕ → Outcome Node
+  abbrev branches : ExprNode → List ℕ → Outcome ExprNode
   branches c t = cond (is_at 63 t) (inner Choice t >>= λ a. others c a.0 a.1) (Ok (c, t))
 
-  local_branches : Other inner → (c : Node) → Local (branches c)
+  local_branches : Other inner → (c : ExprNode) → Local (branches c)
   local_branches (inl l) c = local_guarded 63 (inner Choice) (others c) (got c) (local Choice 63 refl) (local_others l c) (local_pure c)
   local_branches (inr never) c =
       local_ext (λ t. cond (is_at 63 t) (inner Choice t >>= λ a. got a.0 a.1) (Ok (c, t))) (branches c) (λ t. never_is (is_at 63 t) (inner Choice t) (λ a. got a.0 a.1) (λ a. others c a.0 a.1) (Ok (c, t)) (never t))
@@ -215,10 +215,10 @@ module _ (depth : ℕ) (inner : Inside → List ℕ → Outcome Node) (local : (
   unfolding spec.choice others
   local_choice = local_bind (spec.either depth inner) branches local_either (local_branches other)
 
-  more_items : Node → List ℕ → Outcome Node
+  more_items : ExprNode → List ℕ → Outcome ExprNode
   more_items e t = spec.chain (spec.choice depth inner) 44 (length t) (e ∷ []) t >>= λ es. Ok (n.List es.0, es.1)
 
-  local_more_items : (e : Node) → Local (more_items e)
+  local_more_items : (e : ExprNode) → Local (more_items e)
   unfolding more_items
   local_more_items e = local_bind (λ t. spec.chain (spec.choice depth inner) 44 (length t) (e ∷ []) t) (λ es t. Ok (n.List es, t)) (local_chain 44 (spec.choice depth inner) local_choice (e ∷ [])) (λ es. local_pure (n.List es))
 
@@ -231,7 +231,7 @@ module _ (depth : ℕ) (inner : Inside → List ℕ → Outcome Node) (local : (
   local_level Operand = local_operand
   local_level Items = local_items
 
-abbrev pub deeper : ℕ → Inside → List ℕ → Outcome Node
+abbrev pub deeper : ℕ → Inside → List ℕ → Outcome ExprNode
 deeper depth which t = spec.level depth (spec.nesting depth) which t
 
 local_behind : (d : ℕ) (which : Inside) (c : ℕ) → Local (deeper d which) → Local (guarded c (spec.nesting (suc d) which))
@@ -242,7 +242,7 @@ local_zero : (which : Inside) (c : ℕ) → nests c ≡ true → Local (guarded 
 unfolding spec.nesting
 local_zero which c nest = local_deep c nest
 
-none_nested : (t : List ℕ) (x : Node × List ℕ) → spec.nesting zero Choice t ≡ Ok x → ⊥
+none_nested : (t : List ℕ) (x : ExprNode × List ℕ) → spec.nesting zero Choice t ≡ Ok x → ⊥
 unfolding spec.nesting
 none_nested t x e = cc
 

@@ -1,7 +1,7 @@
 -- The same of strings.
 use Rattle.std.proofs.Common.{◌≡◌, ℕ, Bool, true, false, eqb, List, [], ◌∷◌, ◌++◌, length, Option, Some, None, Ok, Err, refl, ap, sym, subst, ◌∙◌, inl, inr}
-use Rattle.htl_expr.specs.declared.stop.Stop.{Stop}
-use Rattle.htl_expr.specs.declared.stop.Stop.TheVariants.{Unexpected}
+use Rattle.htl_expr.specs.declared.stop.ExprStop.{ExprStop}
+use Rattle.htl_expr.specs.declared.stop.ExprStop.TheVariants.{Unexpected}
 use Rattle.htl_expr.specs.Tokens.{Outcome, ◌>>=◌, done, blanks_skipped, string, string_from, unescape, is_quote}
 use Rattle.htl_expr.proofs.Tools.{bind_ok, chosen, ok_is}
 use Rattle.htl_expr.proofs.Local.{bind_err, Same, nil_same, Kept, Failed, Local, err_is}
@@ -17,7 +17,7 @@ body_ok b b' mark c s make x r step ih e =
     subst (λ (q : List ℕ × List ℕ). Kept (string_from b mark) (c ∷ s) q.0 q.1) (ok_is _ _ w.2)
     (record { front = c ∷ k.front; parts = ap (λ (t : List ℕ). c ∷ t) k.parts; same = λ z h. step (k.front ++ z) ∙ ap (λ (o : Outcome (List ℕ)). o >>= λ y. done (make y.0, y.1)) (k.same z h) })
 
-body_err : (b b' : Bool) (mark c : ℕ) (s : List ℕ) (make : List ℕ → List ℕ) (d : Stop)
+body_err : (b b' : Bool) (mark c : ℕ) (s : List ℕ) (make : List ℕ → List ℕ) (d : ExprStop)
     → ((t : List ℕ) → string_from b mark (c ∷ t) ≡ (string_from b' mark t >>= λ y. Ok (make y.0, y.1)))
     → (string_from b' mark s ≡ Err d → Failed (string_from b' mark) d s) → string_from b mark (c ∷ s) ≡ Err d → Failed (string_from b mark) d (c ∷ s)
 body_err b b' mark c s make d step ih e =
@@ -81,19 +81,19 @@ stays_at : (mark c : ℕ) (s z : List ℕ) → unescape c ≡ None → Same (c �
 stays_at mark c s [] u h = absurd h.0
 stays_at mark c s (d ∷ z) u h = no_escape mark d z (ap unescape (sym h.0) ∙ u)
 
-close_no : (mark c : ℕ) (s : List ℕ) (d : Stop) → eqb c mark ≡ true → string_from false mark (c ∷ s) ≡ Err d → ⊥
+close_no : (mark c : ℕ) (s : List ℕ) (d : ExprStop) → eqb c mark ≡ true → string_from false mark (c ∷ s) ≡ Err d → ⊥
 unfolding string_from
 close_no mark c s d m e = let e' : got_text [] (blanks_skipped s) ≡ Err d = rw m at e in cc
 
-string_err : (b : Bool) (mark : ℕ) (d : Stop) (s : List ℕ) → string_from b mark s ≡ Err d → Failed (string_from b mark) d s
+string_err : (b : Bool) (mark : ℕ) (d : ExprStop) (s : List ℕ) → string_from b mark s ≡ Err d → Failed (string_from b mark) d s
 string_err b mark d [] e =
-    subst (λ (k : Stop). Failed (string_from b mark) k []) (err_is {A = List ℕ} (Unexpected 0) d (sym (at_end b mark) ∙ e))
+    subst (λ (k : ExprStop). Failed (string_from b mark) k []) (err_is {A = List ℕ} (Unexpected 0) d (sym (at_end b mark) ∙ e))
     (record { front = []; rest = []; parts = refl; left = refl; same = λ z h. (let k : z ≡ [] = nil_same z h in rw k (at_end b mark)) })
 string_err true mark d (c ∷ s) e = go (unescape c) refl (λ w. string_err false mark d s w)
   where
     go : (o : Option ℕ) → unescape c ≡ o → (string_from false mark s ≡ Err d → Failed (string_from false mark) d s) → Failed (string_from true mark) d (c ∷ s)
     go None u ih =
-        subst (λ (k : Stop). Failed (string_from true mark) k (c ∷ s)) (err_is {A = List ℕ} (Unexpected (length (c ∷ s))) d (sym (no_escape mark c s u) ∙ e))
+        subst (λ (k : ExprStop). Failed (string_from true mark) k (c ∷ s)) (err_is {A = List ℕ} (Unexpected (length (c ∷ s))) d (sym (no_escape mark c s u) ∙ e))
         (record { front = []; rest = c ∷ s; parts = refl; left = refl; same = λ z h. stays_at mark c s z u h })
     go (Some b) u ih = body_err true false mark c s (λ y. b ∷ y) d (step_escape mark c b u) ih e
 string_err false mark d (c ∷ s) e = go (eqb c mark) (eqb c 92) refl refl (λ b w. string_err b mark d s w)
@@ -120,15 +120,15 @@ local_string = record { ok = ok; err = err }
     refused c s [] q h = absurd h.0
     refused c s (d ∷ z) q h = (let q' : is_quote d ≡ false = ap is_quote (sym h.0) ∙ q in rw q' refl)
 
-    err : (d : Stop) (s : List ℕ) → string s ≡ Err d → Failed string d s
+    err : (d : ExprStop) (s : List ℕ) → string s ≡ Err d → Failed string d s
     err d [] e =
-        subst (λ (k : Stop). Failed string k []) (err_is {A = List ℕ} (Unexpected 0) d e)
+        subst (λ (k : ExprStop). Failed string k []) (err_is {A = List ℕ} (Unexpected 0) d e)
         (record { front = []; rest = []; parts = refl; left = refl; same = λ z h. (let k : z ≡ [] = nil_same z h in rw k refl) })
     err d (c ∷ s) e = elim (chosen (is_quote c) _ _ _ e) [
       | inl h ↦
           let k = string_err false c d s h.1 in
           record { front = c ∷ k.front; rest = k.rest; parts = ap (λ (t : List ℕ). c ∷ t) k.parts; left = k.left; same = λ z w. rw h.0 (k.same z w) }
       | inr h ↦
-          subst (λ (k : Stop). Failed string k (c ∷ s)) (err_is {A = List ℕ} (Unexpected (length (c ∷ s))) d h.1)
+          subst (λ (k : ExprStop). Failed string k (c ∷ s)) (err_is {A = List ℕ} (Unexpected (length (c ∷ s))) d h.1)
           (record { front = []; rest = c ∷ s; parts = refl; left = refl; same = λ z w. refused c s z h.0 w })
     ]

@@ -1,8 +1,8 @@
 -- The same of each token.
 use Rattle.std.proofs.Common.{◌≡◌, ℕ, ◌+◌, ◌*◌, ◌-◌, Bool, true, false, cond, ◌||◌, ◌&&◌, eqb, nat_le, List, [], ◌∷◌, ◌++◌, take, drop, length, Result, Ok, Err, refl, ap, sym, subst, ◌∙◌, inl, inr, append_assoc}
 use Rattle.std.proofs.lemmas.List.{take-append-drop, take_at, drop_at}
-use Rattle.htl_expr.specs.declared.stop.Stop.{Stop}
-use Rattle.htl_expr.specs.declared.stop.Stop.TheVariants.{Unexpected, TooDeep}
+use Rattle.htl_expr.specs.declared.stop.ExprStop.{ExprStop}
+use Rattle.htl_expr.specs.declared.stop.ExprStop.TheVariants.{Unexpected, TooDeep}
 use Rattle.htl_expr.specs.declared.tokens.NameKind.{NameKind}
 use Rattle.htl_expr.specs.declared.tokens.NameKind.TheVariants.{Name, Field}
 use Rattle.htl_expr.specs.declared.node.Comparison.{Comparison}
@@ -82,13 +82,13 @@ local_deep {A = A} c n = record { ok = ok; err = err }
       | inr h ↦ absurd (let w = h.1 in cc)
     ]
 
-    err : (d : Stop) (s : List ℕ) → guarded {A = A} c too_deep s ≡ Err d → Failed (guarded {A = A} c too_deep) d s
+    err : (d : ExprStop) (s : List ℕ) → guarded {A = A} c too_deep s ≡ Err d → Failed (guarded {A = A} c too_deep) d s
     err d s e = elim (chosen (is_at c s) _ _ _ e) [
       | inl h ↦
-          subst (λ (b : Stop). Failed (guarded {A = A} c too_deep) b s) (err_is {A = A} (TooDeep (length s)) d h.1)
+          subst (λ (b : ExprStop). Failed (guarded {A = A} c too_deep) b s) (err_is {A = A} (TooDeep (length s)) d h.1)
           (record { front = []; rest = s; parts = refl; left = (refl, at_begins nests c s n h.0); same = λ z w. (let t : is_at c z ≡ true = at_same c s z w ∙ h.0 in rw t refl) })
       | inr h ↦
-          subst (λ (b : Stop). Failed (guarded {A = A} c too_deep) b s) (err_is {A = A} (Unexpected (length s)) d h.1)
+          subst (λ (b : ExprStop). Failed (guarded {A = A} c too_deep) b s) (err_is {A = A} (Unexpected (length s)) d h.1)
           (record { front = []; rest = s; parts = refl; left = refl; same = λ z w. (let t : is_at c z ≡ false = at_same c s z w ∙ h.0 in rw t refl) })
     ]
 
@@ -105,21 +105,21 @@ local_guarded c f g h lf lg lh =
 
 -- ---- bytes, operators and words
 
-abbrev pub tagged : Result (List ℕ) Stop → Outcome (Unit {0})
+abbrev pub tagged : Result (List ℕ) ExprStop → Outcome (Unit {0})
 tagged (Ok r) = Ok (tt, r)
 tagged (Err e) = Err e
 
-untagged : {B : Type 0} (o : Result (List ℕ) Stop) (h : List ℕ → Outcome B) → (tagged o >>= λ x. h x.1) ≡ (o >>= λ r. h r)
+untagged : {B : Type 0} (o : Result (List ℕ) ExprStop) (h : List ℕ → Outcome B) → (tagged o >>= λ x. h x.1) ≡ (o >>= λ r. h r)
 untagged (Ok r) h = refl
 untagged (Err e) h = refl
 
-pub local_step : {B : Type 0} (f : List ℕ → Result (List ℕ) Stop) (h : List ℕ → Outcome B) → Local (λ s. tagged (f s)) → Local h → Local (λ s. f s >>= λ r. h r)
+pub local_step : {B : Type 0} (f : List ℕ → Result (List ℕ) ExprStop) (h : List ℕ → Outcome B) → Local (λ s. tagged (f s)) → Local h → Local (λ s. f s >>= λ r. h r)
 local_step {B = B} f h lf lh = local_ext (λ s. tagged (f s) >>= λ x. h x.1) (λ s. f s >>= λ r. h r) (λ s. untagged (f s) h) (local_bind (λ s. tagged (f s)) (λ _. h) lf (λ _. lh))
 
 abbrev one : List ℕ → Outcome (Unit {0})
 one s = Ok (tt, s)
 
-tagged_if : (b : Bool) (o p : Result (List ℕ) Stop) → cond b (tagged o) (tagged p) ≡ tagged (cond b o p)
+tagged_if : (b : Bool) (o p : Result (List ℕ) ExprStop) → cond b (tagged o) (tagged p) ≡ tagged (cond b o p)
 tagged_if true o p = refl
 tagged_if false o p = refl
 

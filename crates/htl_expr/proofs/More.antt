@@ -2,8 +2,8 @@
 use Rattle.std.proofs.Common.{◌≡◌, ℕ, zero, suc, ◌+◌, ◌-◌, Bool, true, false, cond, ◌&&◌, List, [], ◌∷◌, ◌++◌, take, drop, length, Result, Ok, Err, refl, ap, sym, subst, ◌∙◌, arith, append_assoc}
 use Rattle.std.proofs.lemmas.List.{append-nil, length-append, take_at}
 use Rattle.std.proofs.lemmas.Bool.Decides.{nat_tests}
-use Rattle.htl_expr.specs.declared.stop.Stop.{Stop}
-use Rattle.htl_expr.specs.declared.stop.Stop.TheVariants.{Memory, Unexpected, TooDeep}
+use Rattle.htl_expr.specs.declared.stop.ExprStop.{ExprStop}
+use Rattle.htl_expr.specs.declared.stop.ExprStop.TheVariants.{Memory, Unexpected, TooDeep}
 use Rattle.htl_expr.specs.declared.expression.Expr.{Expr}
 use Rattle.htl_expr.specs.Tokens.{is_at}
 use Rattle.htl_expr.specs.Read.{expression_read}
@@ -50,7 +50,7 @@ module _ (levels : ℕ) where
   whole_letter p e w = record { more = 98 ∷ []; tree = e; whole = subst (λ (l : List ℕ). WholeWithin levels l e) (sym (append_assoc p (58 ∷ []) (98 ∷ []))) w }
 
   -- reading passed the colon
-  passed : (p : List ℕ) (r : Result Expr Stop) → expression_read levels (p ++ colon_letter) ≡ r → passes r ≡ true → Begun (p ++ 58 ∷ [])
+  passed : (p : List ℕ) (r : Result Expr ExprStop) → expression_read levels (p ++ colon_letter) ≡ r → passes r ≡ true → Begun (p ++ 58 ∷ [])
   passed p (Ok e) r-is h = whole_letter p e (read_sound levels (p ++ colon_letter) e r-is)
   passed p (Err Memory) r-is h = absurd cc
   passed p (Err (Unexpected zero)) r-is h = with_letter p (more_here (p ++ colon_letter) 0 r-is)

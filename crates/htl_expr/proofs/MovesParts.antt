@@ -1,7 +1,7 @@
 -- Each part is read before other texts too, which makes each front that reading passed a front of a text of the grammar.
 use Rattle.std.proofs.Common.{ℕ, suc, List, [], ◌∷◌}
-use Rattle.htl_expr.specs.declared.node.Node.{Node}
-use Rattle.htl_expr.specs.declared.node.Node.TheVariants as n
+use Rattle.htl_expr.specs.declared.node.ExprNode.{ExprNode}
+use Rattle.htl_expr.specs.declared.node.ExprNode.TheVariants as n
 use Rattle.htl_expr.specs.declared.tokens.NameKind.TheVariants.{Name, Field}
 use Rattle.htl_expr.specs.Grammar.{Byte, Separator, And, Or, Comma, Separates, Part, part_of, Choice, Either, Both, Compare, Operand, Atom, Start, Items, Reads, More, Access, Accesses}
 use Rattle.htl_expr.specs.Grammar as g
@@ -14,10 +14,10 @@ AccessOf depth f s r = Access depth s f r
 abbrev pub AccessesOf : ℕ → List (List ℕ) → List ℕ → List ℕ → Type 0
 AccessesOf depth fs s r = Accesses depth s fs r
 
-abbrev pub ReadsOf : Part → ℕ → Node → List ℕ → List ℕ → Type 0
+abbrev pub ReadsOf : Part → ℕ → ExprNode → List ℕ → List ℕ → Type 0
 ReadsOf part depth e s r = Reads part depth s e r
 
-abbrev pub MoreOf : Separator → ℕ → List Node → List ℕ → List ℕ → Type 0
+abbrev pub MoreOf : Separator → ℕ → List ExprNode → List ℕ → List ℕ → Type 0
 MoreOf sep depth es s r = More sep depth s es r
 
 pub access_moves : (depth : ℕ) (s f r : List ℕ) → Access depth s f r → Moves (AccessOf depth f) s r
@@ -41,7 +41,7 @@ separates_steps Or s r o = operator_steps 124 124 s r o
 separates_steps Comma s r o = byte_steps 44 s r o
 
 mutual
-  pub reads_moves : (part : Part) (depth : ℕ) (s : List ℕ) (e : Node) (r : List ℕ) → Reads part depth s e r → Moves (ReadsOf part depth e) s r
+  pub reads_moves : (part : Part) (depth : ℕ) (s : List ℕ) (e : ExprNode) (r : List ℕ) → Reads part depth s e r → Moves (ReadsOf part depth e) s r
   reads_moves _ depth s e r (g.string {w = w} x) = moves_of (StringOf w) (ReadsOf Start depth _) s r (λ s' r' q. g.string q) (string_steps s w r x)
   reads_moves _ depth s e r (g.number {k = k} x) = moves_map (NumberOf k) (ReadsOf Start depth _) s r (λ s' r' q. g.number q) (number_moves s k r x)
   reads_moves _ depth s e r (g.name {w = w} x o) = moves_map (NameTokenOf Name w) (ReadsOf Start depth _) s r (λ s' r' q. g.name q o) (name_moves Name s w r x)
@@ -80,7 +80,7 @@ mutual
       (steps_then (Byte 58) (ReadsOf Choice d b) r3 r4 r (byte_steps 58 r3 r4 k) (reads_moves Choice d r4 b r z)))))
   reads_moves _ depth s e r (g.only x) = moves_map (ReadsOf Either depth e) (ReadsOf Choice depth e) s r (λ s' r' q. g.only q) (reads_moves Either depth s e r x)
 
-  pub more_moves : (sep : Separator) (depth : ℕ) (s : List ℕ) (es : List Node) (r : List ℕ) → More sep depth s es r → Moves (MoreOf sep depth es) s r
+  pub more_moves : (sep : Separator) (depth : ℕ) (s : List ℕ) (es : List ExprNode) (r : List ℕ) → More sep depth s es r → Moves (MoreOf sep depth es) s r
   more_moves sep depth s _ _ g.end = none_moves (MoreOf sep depth []) s (λ z. g.end)
   more_moves sep depth s _ r (g.more {r1 = r1} {r2 = r2} {e = e} {es = es} o x m) =
       moves_map _ (MoreOf sep depth (e ∷ es)) s r (λ s' r' q. g.more q.1 q.2.1 q.2.2)

@@ -2,8 +2,8 @@
 use Rattle.std.proofs.Common.{◌≡◌, ℕ, ◌+◌, ◌-◌, ◌≤◌, Bool, true, false, cond, ◌||◌, ◌&&◌, eqb, List, [], ◌∷◌, ◌++◌, take, drop, length, Result, Ok, Err, refl, ap, sym, subst, ◌∙◌, arith, append_assoc}
 use Rattle.std.proofs.lemmas.List.{length-append, take-append-drop, take_at, drop_at}
 use Rattle.std.proofs.lemmas.Bool.Decides.{nat_tests}
-use Rattle.htl_expr.specs.declared.stop.Stop.{Stop}
-use Rattle.htl_expr.specs.declared.stop.Stop.TheVariants.{Memory, Unexpected, TooDeep}
+use Rattle.htl_expr.specs.declared.stop.ExprStop.{ExprStop}
+use Rattle.htl_expr.specs.declared.stop.ExprStop.TheVariants.{Memory, Unexpected, TooDeep}
 use Rattle.htl_expr.specs.declared.expression.Expr.{Expr}
 use Rattle.htl_expr.specs.declared.tokens.NameKind.TheVariants.{Field}
 use Rattle.htl_expr.specs.Tokens.{is_at, begins, goes_on, is_letter, is_word_byte}
@@ -18,7 +18,7 @@ use Rattle.htl_expr.proofs.LocalOptions.{Left, failed}
 module _ (levels : ℕ) where
   -- a text that isn't read
   abbrev IsRefused : List ℕ → Type 0
-  IsRefused t = (d : Stop) × (expression_read levels t ≡ Err d)
+  IsRefused t = (d : ExprStop) × (expression_read levels t ≡ Err d)
 
   no_colon : (r z : List ℕ) → is_at 58 r ≡ false → SameHead r z → Same r z
   unfolding is_at goes_on
@@ -63,7 +63,7 @@ module _ (levels : ℕ) where
       absurd cc
   deep_rest front begin (c ∷ d ∷ rest) e n = omega arith
 
-  rest_len : (front : List ℕ) (d : Stop) (begin rest : List ℕ) → front ++ colon_letter ≡ begin ++ rest → IsAt d rest → passes (Err d) ≡ false → 2 ≤ length rest
+  rest_len : (front : List ℕ) (d : ExprStop) (begin rest : List ℕ) → front ++ colon_letter ≡ begin ++ rest → IsAt d rest → passes (Err d) ≡ false → 2 ≤ length rest
   rest_len front Memory begin rest e i p = absurd i
   rest_len front (Unexpected left) begin rest e i p = rw i (grind (arith, nat_tests))
   rest_len front (TooDeep left) begin rest e i p = deep_rest front begin rest e i.1
@@ -71,14 +71,14 @@ module _ (levels : ℕ) where
   colon_refused : (front z : List ℕ) → takes_colon levels front ≡ false → is_at 58 z ≡ true → IsRefused (front ++ z)
   colon_refused front z alone at = go (expression_read levels (front ++ colon_letter)) refl alone
     where
-      by_fault : (d : Stop) → Left levels d (front ++ colon_letter) → passes (Err d) ≡ false → IsRefused (front ++ z)
+      by_fault : (d : ExprStop) → Left levels d (front ++ colon_letter) → passes (Err d) ≡ false → IsRefused (front ++ z)
       by_fault d k p =
           let q = part front colon_letter k.front k.rest k.parts (rest_len front d k.front k.rest k.parts k.left p) in
           let near : Same k.rest (q.middle ++ z) = subst (λ (t : List ℕ). Same t (q.middle ++ z)) (sym q.rest_is) (head_in q.middle colon_letter z (colon_same z at)) in
           let parts : front ++ z ≡ k.front ++ (q.middle ++ z) = ap (λ (t : List ℕ). t ++ z) q.front_is ∙ append_assoc k.front q.middle z in
           (moved d (length (q.middle ++ z)), ap (expression_read levels) parts ∙ k.same (q.middle ++ z) near)
 
-      go : (o : Result Expr Stop) → expression_read levels (front ++ colon_letter) ≡ o → passes o ≡ false → IsRefused (front ++ z)
+      go : (o : Result Expr ExprStop) → expression_read levels (front ++ colon_letter) ≡ o → passes o ≡ false → IsRefused (front ++ z)
       go (Ok e) r p = absurd cc
       go (Err d) r p = by_fault d (failed levels d (front ++ colon_letter) r) p
 
@@ -102,11 +102,11 @@ module _ (levels : ℕ) where
           let f = refused z near in
           only_err levels t f.0 (ap (expression_read levels) t_is ∙ f.1) e w
 
-  none_plain : (d : Stop) (s : List ℕ) (k : Left levels d s) → is_at 58 k.rest ≡ false → HasNone levels s (length k.front)
+  none_plain : (d : ExprStop) (s : List ℕ) (k : Left levels d s) → is_at 58 k.rest ≡ false → HasNone levels s (length k.front)
   none_plain d s k plain = none_from s k.front k.rest k.parts (λ z h. (moved d (length z), k.same z (no_colon k.rest z plain h)))
 
   -- behind a colon that may belong to a name
-  none_behind : (d : Stop) (s : List ℕ) (k : Left levels d s) → is_at 58 k.rest ≡ true → HasNone levels s (length k.front + 1)
+  none_behind : (d : ExprStop) (s : List ℕ) (k : Left levels d s) → is_at 58 k.rest ≡ true → HasNone levels s (length k.front + 1)
   none_behind d s k at =
       let u = drop 1 k.rest in
       let front = k.front ++ 58 ∷ [] in
@@ -122,10 +122,10 @@ module _ (levels : ℕ) where
   colon_head (c ∷ r) (d ∷ z) h e = ap (λ (x : ℕ). eqb x 58) (sym h) ∙ e
 
   -- the front of the byte at fault, by how many bytes are left
-  front_len : (d : Stop) (s : List ℕ) (k : Left levels d s) (left : ℕ) → length k.rest ≡ left → length s - left ≡ length k.front
+  front_len : (d : ExprStop) (s : List ℕ) (k : Left levels d s) (left : ℕ) → length k.rest ≡ left → length s - left ≡ length k.front
   front_len d s k left len = omega (arith, ap length k.parts, length-append k.front k.rest, len)
 
-  place_is : (d : Stop) (s : List ℕ) (k : Left levels d s) → fault_place levels s (length k.front) ≡ cond (is_at 58 k.rest && takes_colon levels k.front) (length k.front + 1) (length k.front)
+  place_is : (d : ExprStop) (s : List ℕ) (k : Left levels d s) → fault_place levels s (length k.front) ≡ cond (is_at 58 k.rest && takes_colon levels k.front) (length k.front + 1) (length k.front)
   place_is d s k =
       let front_is : take (length k.front) s ≡ k.front = ap (λ (q : List ℕ). take (length k.front) q) k.parts ∙ take_at k.front k.rest (length k.front) refl in
       let rest_is : drop (length k.front) s ≡ k.rest = ap (λ (q : List ℕ). drop (length k.front) q) k.parts ∙ drop_at k.front k.rest (length k.front) refl in

@@ -1,7 +1,7 @@
 -- What is read as an expression, and where a fault is placed, by the answer of the reading.
 use Rattle.std.proofs.Common.{◌≡◌, ◌≢◌, ℕ, List, Result, Ok, Err, refl, ap, subst}
-use Rattle.htl_expr.specs.declared.stop.Stop.{Stop}
-use Rattle.htl_expr.specs.declared.stop.Stop.TheVariants as stop
+use Rattle.htl_expr.specs.declared.stop.ExprStop.{ExprStop}
+use Rattle.htl_expr.specs.declared.stop.ExprStop.TheVariants as stop
 use Rattle.htl_expr.specs.declared.expression.Expr.{Expr}
 use Rattle.htl_expr.specs.declared.expression.ExprFault.{ExprFault}
 use Rattle.htl_expr.specs.declared.expression.ExprFault.TheVariants.{NoMemory}
@@ -13,7 +13,7 @@ use Rattle.htl_expr.proofs.WholeRead.{read_sound}
 use Rattle.htl_expr.proofs.WholeAgain.{read_again}
 use Rattle.htl_expr.proofs.LocalOptions.{failed}
 
-ok_read : (s : List ℕ) (r : Result Expr Stop) (e : Expr) → expression_answer nesting_limit s r ≡ Ok e → r ≡ Ok e
+ok_read : (s : List ℕ) (r : Result Expr ExprStop) (e : Expr) → expression_answer nesting_limit s r ≡ Ok e → r ≡ Ok e
 ok_read s (Ok x) e p = let same : ◌≡◌ {A = Result Expr ExprFault} (Ok x) (Ok e) = p in cc
 ok_read s (Err stop.Memory) e p = absurd cc
 ok_read s (Err (stop.Unexpected left)) e p = absurd cc
@@ -22,7 +22,7 @@ ok_read s (Err (stop.TooDeep left)) e p = absurd cc
 fault_is : (s : List ℕ) (f g : ExprFault) → ◌≡◌ {A = Result Expr ExprFault} (Err f) (Err g) → IsExpressionFault f s → IsExpressionFault g s
 fault_is s f g p i = let same : f ≡ g = cc in subst (λ h. IsExpressionFault h s) same i
 
-fault_read : (s : List ℕ) (r : Result Expr Stop) (f : ExprFault) → expression_read nesting_limit s ≡ r → expression_answer nesting_limit s r ≡ Err f → IsExpressionFault f s
+fault_read : (s : List ℕ) (r : Result Expr ExprStop) (f : ExprFault) → expression_read nesting_limit s ≡ r → expression_answer nesting_limit s r ≡ Err f → IsExpressionFault f s
 fault_read s (Ok x) f q p = absurd cc
 fault_read s (Err stop.Memory) f q p = fault_is s _ f p tt
 fault_read s (Err (stop.Unexpected left)) f q p = fault_is s _ f p (unexpected_is s left _ q refl)
@@ -37,7 +37,7 @@ only s e w = ap (expression_answer nesting_limit s) (read_again nesting_limit s 
 pub fault : (s : List ℕ) (f : ExprFault) → expression_of s ≡ Err f → IsExpressionFault f s
 fault s f p = fault_read s (expression_read nesting_limit s) f refl p
 
-none_lacks : (s : List ℕ) (r : Result Expr Stop) → expression_read nesting_limit s ≡ r → expression_answer nesting_limit s r ≢ Err NoMemory
+none_lacks : (s : List ℕ) (r : Result Expr ExprStop) → expression_read nesting_limit s ≡ r → expression_answer nesting_limit s r ≢ Err NoMemory
 none_lacks s (Ok x) q p = absurd cc
 none_lacks s (Err stop.Memory) q p = (failed nesting_limit stop.Memory s q).left
 none_lacks s (Err (stop.Unexpected left)) q p = absurd cc

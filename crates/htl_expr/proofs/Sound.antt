@@ -1,8 +1,8 @@
 -- What is read is in the grammar.
 use Rattle.std.proofs.Common.{◌≡◌, ℕ, zero, suc, true, cond, ◌||◌, eqb, List, [], ◌∷◌, ◌++◌, drop, length, Option, Some, None, Ok, refl, ap, sym, subst, ◌∙◌, inl, inr, append_assoc}
 use Rattle.std.proofs.lemmas.List.{append-nil}
-use Rattle.htl_expr.specs.declared.node.Node.{Node}
-use Rattle.htl_expr.specs.declared.node.Node.TheVariants as n
+use Rattle.htl_expr.specs.declared.node.ExprNode.{ExprNode}
+use Rattle.htl_expr.specs.declared.node.ExprNode.TheVariants as n
 use Rattle.htl_expr.specs.declared.tokens.NameKind.TheVariants.{Name, Field}
 use Rattle.htl_expr.specs.declared.reader.Inside.{Inside}
 use Rattle.htl_expr.specs.declared.reader.Inside.TheVariants as i
@@ -13,11 +13,11 @@ use Rattle.htl_expr.specs.Grammar as g
 use Rattle.htl_expr.proofs.Tools.{bind_ok, chosen, ok_is}
 use Rattle.htl_expr.proofs.TokensRead.{byte, expect_sound, second_sound, name_sound, string_sound, number_sound, comparison_sound}
 
-abbrev pub Gave : Part → ℕ → List ℕ → Node × List ℕ → Type 0
+abbrev pub Gave : Part → ℕ → List ℕ → ExprNode × List ℕ → Type 0
 Gave part depth s p = Reads part depth s p.0 p.1
 
-abbrev pub Sound : Part → ℕ → (List ℕ → Outcome Node) → Type 0
-Sound part depth f = (s : List ℕ) (p : Node × List ℕ) → f s ≡ Ok p → Gave part depth s p
+abbrev pub Sound : Part → ℕ → (List ℕ → Outcome ExprNode) → Type 0
+Sound part depth f = (s : List ℕ) (p : ExprNode × List ℕ) → f s ≡ Ok p → Gave part depth s p
 
 abbrev pub part_inside : Inside → Part
 part_inside i.Choice = Choice
@@ -25,28 +25,28 @@ part_inside i.Operand = Operand
 part_inside i.Items = Items
 
 -- one level deeper, behind the byte that nests it
-abbrev pub Deeper : Inside → ℕ → List ℕ → Node × List ℕ → Type 0
+abbrev pub Deeper : Inside → ℕ → List ℕ → ExprNode × List ℕ → Type 0
 Deeper which zero s p = ⊥
 Deeper which (suc depth) s p = Gave (part_inside which) depth (blanks_skipped (drop 1 s)) p
 
-abbrev pub Inner : ℕ → (Inside → List ℕ → Outcome Node) → Type 0
-Inner depth inner = (which : Inside) (s : List ℕ) (p : Node × List ℕ) → inner which s ≡ Ok p → Deeper which depth s p
+abbrev pub Inner : ℕ → (Inside → List ℕ → Outcome ExprNode) → Type 0
+Inner depth inner = (which : Inside) (s : List ℕ) (p : ExprNode × List ℕ) → inner which s ≡ Ok p → Deeper which depth s p
 
 -- ---- what is made of what stands deeper, by cases on the depth
 
-not_deeper : (depth : ℕ) (s : List ℕ) (p : Node × List ℕ) → is_at 33 s ≡ true → Deeper i.Operand depth s p → Gave Operand depth s (n.Not p.0, p.1)
+not_deeper : (depth : ℕ) (s : List ℕ) (p : ExprNode × List ℕ) → is_at 33 s ≡ true → Deeper i.Operand depth s p → Gave Operand depth s (n.Not p.0, p.1)
 not_deeper zero s p at h = absurd h
 not_deeper (suc d) s p at h = g.not (byte 33 s at) h
 
-inside_deeper : (depth : ℕ) (s : List ℕ) (p : Node × List ℕ) (r : List ℕ) → is_at 40 s ≡ true → Deeper i.Choice depth s p → Byte 41 p.1 r → Gave Start depth s (p.0, r)
+inside_deeper : (depth : ℕ) (s : List ℕ) (p : ExprNode × List ℕ) (r : List ℕ) → is_at 40 s ≡ true → Deeper i.Choice depth s p → Byte 41 p.1 r → Gave Start depth s (p.0, r)
 inside_deeper zero s p r at h close = absurd h
 inside_deeper (suc d) s p r at h close = g.inside (byte 40 s at) h close
 
-list_deeper : (depth : ℕ) (s : List ℕ) (p : Node × List ℕ) (r : List ℕ) → is_at 91 s ≡ true → Deeper i.Items depth s p → Byte 93 p.1 r → Gave Start depth s (p.0, r)
+list_deeper : (depth : ℕ) (s : List ℕ) (p : ExprNode × List ℕ) (r : List ℕ) → is_at 91 s ≡ true → Deeper i.Items depth s p → Byte 93 p.1 r → Gave Start depth s (p.0, r)
 list_deeper zero s p r at h close = absurd h
 list_deeper (suc d) s p r at h close = g.list (byte 91 s at) h close
 
-choice_deeper : (depth : ℕ) (s : List ℕ) (c a b : Node × List ℕ) → Gave Either depth s c → is_at 63 c.1 ≡ true → Deeper i.Choice depth c.1 a → is_at 58 a.1 ≡ true → Deeper i.Choice depth a.1 b
+choice_deeper : (depth : ℕ) (s : List ℕ) (c a b : ExprNode × List ℕ) → Gave Either depth s c → is_at 63 c.1 ≡ true → Deeper i.Choice depth c.1 a → is_at 58 a.1 ≡ true → Deeper i.Choice depth a.1 b
     → Gave Choice depth s (n.Choice c.0 a.0 b.0, b.1)
 choice_deeper zero s c a b first at h at' h' = absurd h
 choice_deeper (suc d) s c a b first at h at' h' = g.choice first (byte 63 c.1 at) h (byte 58 a.1 at') h'
@@ -63,10 +63,10 @@ between_sound And s r at e = second_sound 38 38 s r at e
 between_sound Or s r at e = second_sound 124 124 s r at e
 between_sound Comma s r at e = expect_sound 44 s r e
 
-abbrev Longer : Separator → ℕ → List Node → List ℕ → List Node × List ℕ → Type 0
-Longer sep depth found t p = (es : List Node) × (p.0 ≡ found ++ es) × More sep depth t es p.1
+abbrev Longer : Separator → ℕ → List ExprNode → List ℕ → List ExprNode × List ℕ → Type 0
+Longer sep depth found t p = (es : List ExprNode) × (p.0 ≡ found ++ es) × More sep depth t es p.1
 
-chain_sound : (sep : Separator) (depth : ℕ) (item : List ℕ → Outcome Node) (k : ℕ) (found : List Node) (t : List ℕ) (p : List Node × List ℕ) → Sound (part_of sep) depth item
+chain_sound : (sep : Separator) (depth : ℕ) (item : List ℕ → Outcome ExprNode) (k : ℕ) (found : List ExprNode) (t : List ℕ) (p : List ExprNode × List ℕ) → Sound (part_of sep) depth item
     → spec.chain item (byte_of sep) k found t ≡ Ok p → Longer sep depth found t p
 unfolding spec.chain
 chain_sound sep depth item zero found t p ih e = subst (Longer sep depth found t) (ok_is _ _ e) ([], sym (append-nil found), g.end)
@@ -132,7 +132,7 @@ named_sound depth s p e =
     let x = bind_ok (read_name Name s) (λ x. spec.name_or_object_of depth (spec.object_of x.0) x.0 x.1) p e in
     go (spec.object_of x.0.0) x.0 refl (name_sound Name s x.0 x.1) x.2
   where
-    go : (o : Option (List ℕ → Node)) (w : List ℕ × List ℕ) → spec.object_of w.0 ≡ o → g.NameToken Name s w.0 w.1 → spec.name_or_object_of depth o w.0 w.1 ≡ Ok p → Gave Start depth s p
+    go : (o : Option (List ℕ → ExprNode)) (w : List ℕ × List ℕ) → spec.object_of w.0 ≡ o → g.NameToken Name s w.0 w.1 → spec.name_or_object_of depth o w.0 w.1 ≡ Ok p → Gave Start depth s p
     go None w o-is t e' = subst (Gave Start depth s) (ok_is _ _ e') (g.name t o-is)
     go (Some make) w o-is t e' =
         let f = bind_ok (spec.first_access depth w.1) (λ f. Ok (make f.0, f.1)) p e' in
@@ -156,7 +156,7 @@ leaf_sound depth s p e =
 
 -- ---- each part, where its own parts are sound
 
-module _ (depth : ℕ) (inner : Inside → List ℕ → Outcome Node) (deeper : Inner depth inner) where
+module _ (depth : ℕ) (inner : Inside → List ℕ → Outcome ExprNode) (deeper : Inner depth inner) where
   pub start_sound : Sound Start depth (spec.start depth inner)
   unfolding spec.start
   start_sound s p e =
@@ -214,7 +214,7 @@ module _ (depth : ℕ) (inner : Inside → List ℕ → Outcome Node) (deeper : 
       let x = bind_ok (spec.compare depth inner s) (λ x. spec.chain (spec.compare depth inner) 38 (length x.1) [] x.1 >>= λ xs. Ok (spec.and_of x.0 xs.0, xs.1)) p e in
       let xs = bind_ok (spec.chain (spec.compare depth inner) 38 (length x.0.1) [] x.0.1) (λ xs. Ok (spec.and_of x.0.0 xs.0, xs.1)) p x.2 in
       let l = chain_sound And depth (spec.compare depth inner) (length x.0.1) [] x.0.1 xs.0 compare_sound xs.1 in
-      subst (Gave Both depth s) (ok_is _ _ xs.2) (g.both (compare_sound s x.0 x.1) (subst (λ (es : List Node). More And depth x.0.1 es xs.0.1) (sym l.1) l.2))
+      subst (Gave Both depth s) (ok_is _ _ xs.2) (g.both (compare_sound s x.0 x.1) (subst (λ (es : List ExprNode). More And depth x.0.1 es xs.0.1) (sym l.1) l.2))
 
   pub either_sound : Sound Either depth (spec.either depth inner)
   unfolding spec.either
@@ -222,7 +222,7 @@ module _ (depth : ℕ) (inner : Inside → List ℕ → Outcome Node) (deeper : 
       let x = bind_ok (spec.both depth inner s) (λ x. spec.chain (spec.both depth inner) 124 (length x.1) [] x.1 >>= λ xs. Ok (spec.or_of x.0 xs.0, xs.1)) p e in
       let xs = bind_ok (spec.chain (spec.both depth inner) 124 (length x.0.1) [] x.0.1) (λ xs. Ok (spec.or_of x.0.0 xs.0, xs.1)) p x.2 in
       let l = chain_sound Or depth (spec.both depth inner) (length x.0.1) [] x.0.1 xs.0 both_sound xs.1 in
-      subst (Gave Either depth s) (ok_is _ _ xs.2) (g.either (both_sound s x.0 x.1) (subst (λ (es : List Node). More Or depth x.0.1 es xs.0.1) (sym l.1) l.2))
+      subst (Gave Either depth s) (ok_is _ _ xs.2) (g.either (both_sound s x.0 x.1) (subst (λ (es : List ExprNode). More Or depth x.0.1 es xs.0.1) (sym l.1) l.2))
 
   pub choice_sound : Sound Choice depth (spec.choice depth inner)
   unfolding spec.choice spec.other_choice
@@ -248,7 +248,7 @@ module _ (depth : ℕ) (inner : Inside → List ℕ → Outcome Node) (deeper : 
             let x = bind_ok (spec.choice depth inner s) (λ x. spec.chain (spec.choice depth inner) 44 (length x.1) (x.0 ∷ []) x.1 >>= λ xs. Ok (n.List xs.0, xs.1)) p h.1 in
             let xs = bind_ok (spec.chain (spec.choice depth inner) 44 (length x.0.1) (x.0.0 ∷ []) x.0.1) (λ xs. Ok (n.List xs.0, xs.1)) p x.2 in
             let l = chain_sound Comma depth (spec.choice depth inner) (length x.0.1) (x.0.0 ∷ []) x.0.1 xs.0 choice_sound xs.1 in
-            subst (Gave Items depth s) (ap (λ (es : List Node). (n.List es, xs.0.1)) (sym l.1) ∙ ok_is _ _ xs.2) (g.items (choice_sound s x.0 x.1) l.2)
+            subst (Gave Items depth s) (ap (λ (es : List ExprNode). (n.List es, xs.0.1)) (sym l.1) ∙ ok_is _ _ xs.2) (g.items (choice_sound s x.0 x.1) l.2)
       ]
 
 pub nested_sound : (depth : ℕ) → Inner depth (spec.nesting depth)

@@ -4,8 +4,8 @@ use Rattle.std.proofs.lemmas.Bool.Decides.{nat_tests}
 use Rattle.htl_expr.specs.Tokens.{Outcome, ◌>>=◌, is_at, is_quote, blanks_skipped, unescape, escape, escape_of, string_after_escape, plain_quoted_len, read_in_front, string_from, Fails, done}
 use Rattle.std.specs.Str.{IsCharBoundary}
 use Rattle.std.proofs.lemmas.List.{append-nil, length-drop}
-use Rattle.htl_expr.specs.declared.stop.Stop.{Stop}
-use Rattle.htl_expr.specs.declared.stop.Stop.TheVariants.{Memory, Unexpected, TooDeep}
+use Rattle.htl_expr.specs.declared.stop.ExprStop.{ExprStop}
+use Rattle.htl_expr.specs.declared.stop.ExprStop.TheVariants.{Memory, Unexpected, TooDeep}
 
 pub ok_is : {A : Type 0} (x y : A) → done x ≡ done y → x ≡ y
 ok_is x y e = cc
@@ -130,7 +130,7 @@ module _ (mark n : ℕ) (found front rest after found' : List ℕ) (whole : Outc
   escapes : is_at mark after ≡ false → is_at 92 after ≡ true → whole ≡ read_in_front found' (escape (drop 1 after) >>= λ d. read_in_front (d.0 ∷ []) (string_from false mark d.1))
   escapes h k = sym taken ∙ ap (read_in_front found') (backslash mark after h k ∙ escape_step mark (drop 1 after))
 
-  pub escape_fails : (e : Stop) → is_at mark after ≡ false → is_at 92 after ≡ true → Fails e (escape (drop 1 after)) → Fails e whole
+  pub escape_fails : (e : ExprStop) → is_at mark after ≡ false → is_at 92 after ≡ true → Fails e (escape (drop 1 after)) → Fails e whole
   escape_fails Memory h k f = tt
   escape_fails (Unexpected m) h k f = escapes h k ∙ rw f refl
   escape_fails (TooDeep m) h k f = escapes h k ∙ rw f refl

@@ -1,23 +1,23 @@
 -- Where reading stops, the text before can be made a text of the grammar: how what was read and what is missing are put together.
 use Rattle.std.proofs.Common.{◌≡◌, ℕ, ◌<◌, false, List, [], ◌∷◌, ◌++◌, drop, length, Result, Err, refl, ap, sym, subst, ◌∙◌, inl, inr, append_assoc}
-use Rattle.htl_expr.specs.declared.stop.Stop.{Stop}
-use Rattle.htl_expr.specs.declared.stop.Stop.TheVariants.{Memory, Unexpected, TooDeep}
+use Rattle.htl_expr.specs.declared.stop.ExprStop.{ExprStop}
+use Rattle.htl_expr.specs.declared.stop.ExprStop.TheVariants.{Memory, Unexpected, TooDeep}
 use Rattle.htl_expr.specs.declared.tokens.NameKind.TheVariants.{Field}
 use Rattle.htl_expr.specs.Tokens.{goes_on}
 use Rattle.htl_expr.proofs.Moves.{Plain, plain_fresh, Clear, Near, Fits, near_clear, fits_near, near_in, fits_in, fits_behind, clear_in, Moves, Steps, Jumps, Then}
 
 -- reading stopped where k bytes were left
-abbrev pub At : Stop → ℕ → Type 0
+abbrev pub At : ExprStop → ℕ → Type 0
 At Memory k = ⊥
 At (Unexpected n) k = n ≡ k
 At (TooDeep n) k = n ≡ k
 
-pub at_length : {A : Type 0} (m : ℕ) (d : Stop) (k : ℕ) → ◌≡◌ {A = Result A Stop} (Err (Unexpected m)) (Err d) → At d k → m ≡ k
+pub at_length : {A : Type 0} (m : ℕ) (d : ExprStop) (k : ℕ) → ◌≡◌ {A = Result A ExprStop} (Err (Unexpected m)) (Err d) → At d k → m ≡ k
 at_length m Memory k e a = absurd a
 at_length m (Unexpected n) k e a = (let same : m ≡ n = cc in same ∙ a)
 at_length m (TooDeep n) k e a = absurd cc
 
-pub at_depth : {A : Type 0} (m : ℕ) (d : Stop) (k : ℕ) → ◌≡◌ {A = Result A Stop} (Err (TooDeep m)) (Err d) → At d k → m ≡ k
+pub at_depth : {A : Type 0} (m : ℕ) (d : ExprStop) (k : ℕ) → ◌≡◌ {A = Result A ExprStop} (Err (TooDeep m)) (Err d) → At d k → m ≡ k
 at_depth m Memory k e a = absurd a
 at_depth m (Unexpected n) k e a = absurd cc
 at_depth m (TooDeep n) k e a = (let same : m ≡ n = cc in same ∙ a)

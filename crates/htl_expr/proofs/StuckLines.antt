@@ -1,8 +1,8 @@
 -- Each line of the grammar in which reading stopped can be completed, at any depth.
 use Rattle.std.proofs.Common.{◌≡◌, ℕ, zero, suc, true, cond, List, [], ◌∷◌, drop, length, Ok, Err, refl, ◌⊎◌, inl, inr}
-use Rattle.htl_expr.specs.declared.stop.Stop.{Stop}
-use Rattle.htl_expr.specs.declared.node.Node.{Node}
-use Rattle.htl_expr.specs.declared.node.Node.TheVariants as n
+use Rattle.htl_expr.specs.declared.stop.ExprStop.{ExprStop}
+use Rattle.htl_expr.specs.declared.node.ExprNode.{ExprNode}
+use Rattle.htl_expr.specs.declared.node.ExprNode.TheVariants as n
 use Rattle.htl_expr.specs.declared.reader.Inside.{Inside}
 use Rattle.htl_expr.specs.declared.reader.Inside.TheVariants as i
 use Rattle.htl_expr.specs.Tokens.{Outcome, ◌>>=◌, blanks_skipped, is_at, begins, expect, goes_on}
@@ -26,8 +26,8 @@ abbrev DeepStuck : Inside → ℕ → List ℕ → ℕ → Type 0
 DeepStuck which zero s k = length s ≡ k
 DeepStuck which (suc depth) s k = Stuck (SomePart (sound.part_inside which) depth) (blanks_skipped (drop 1 s)) k
 
-abbrev InnerSticks : ℕ → (Inside → List ℕ → Outcome Node) → Type 0
-InnerSticks depth inner = (which : Inside) (s : List ℕ) (d : Stop) (k : ℕ) → inner which s ≡ Err d → At d k → DeepStuck which depth s k
+abbrev InnerSticks : ℕ → (Inside → List ℕ → Outcome ExprNode) → Type 0
+InnerSticks depth inner = (which : Inside) (s : List ℕ) (d : ExprStop) (k : ℕ) → inner which s ≡ Err d → At d k → DeepStuck which depth s k
 
 -- behind the byte that nests it
 deep_late : (c : ℕ) (s : List ℕ) (k : ℕ) (R : List ℕ → List ℕ → Type 0) → is_at c s ≡ true → Stuck R (blanks_skipped (drop 1 s)) k → Late (Then (Byte c) R) s k
@@ -49,7 +49,7 @@ module _ (begin close : ℕ) (inside : Part) (close_plain : (z : List ℕ) → P
   pub inside_stuck : (d : ℕ) (s : List ℕ) (k : ℕ) → is_at begin s ≡ true → Stuck (SomePart inside d) (blanks_skipped (drop 1 s)) k → Stuck (SomePart Start (suc d)) s k
   inside_stuck d s k at q = opened d s k at (stuck_then (SomePart inside d) (Byte close) (blanks_skipped (drop 1 s)) k (close ∷ []) q (λ z p. close_plain z) (λ z p. byte_of close z (plain_settled z p)))
 
-  pub close_stuck : (d : ℕ) (s : List ℕ) (x : Node × List ℕ) (stop : Stop) (k : ℕ) → is_at begin s ≡ true → Reads inside d (blanks_skipped (drop 1 s)) x.0 x.1 → expect close x.1 ≡ Err stop → At stop k → Stuck (SomePart Start (suc d)) s k
+  pub close_stuck : (d : ℕ) (s : List ℕ) (x : ExprNode × List ℕ) (stop : ExprStop) (k : ℕ) → is_at begin s ≡ true → Reads inside d (blanks_skipped (drop 1 s)) x.0 x.1 → expect close x.1 ≡ Err stop → At stop k → Stuck (SomePart Start (suc d)) s k
   close_stuck d s x stop k at q e a =
       opened d s k at (moves_stuck (SomePart inside d) (Byte close) (blanks_skipped (drop 1 s)) x.1 k (moves_some inside d (blanks_skipped (drop 1 s)) x.0 x.1 q) (byte_missing close close_plain x.1 stop k e a))
 
@@ -67,11 +67,11 @@ square_stuck : (depth : ℕ) (s : List ℕ) (k : ℕ) → is_at 91 s ≡ true �
 square_stuck zero s k at q = start_missing 0 s k q
 square_stuck (suc d) s k at q = inside_stuck 91 93 Items square_plain square_of d s k at q
 
-round_close : (depth : ℕ) (s : List ℕ) (x : Node × List ℕ) (stop : Stop) (k : ℕ) → is_at 40 s ≡ true → sound.Deeper i.Choice depth s x → expect 41 x.1 ≡ Err stop → At stop k → Stuck (SomePart Start depth) s k
+round_close : (depth : ℕ) (s : List ℕ) (x : ExprNode × List ℕ) (stop : ExprStop) (k : ℕ) → is_at 40 s ≡ true → sound.Deeper i.Choice depth s x → expect 41 x.1 ≡ Err stop → At stop k → Stuck (SomePart Start depth) s k
 round_close zero s x stop k at q e a = absurd q
 round_close (suc d) s x stop k at q e a = close_stuck 40 41 Choice round_plain round_of d s x stop k at q e a
 
-square_close : (depth : ℕ) (s : List ℕ) (x : Node × List ℕ) (stop : Stop) (k : ℕ) → is_at 91 s ≡ true → sound.Deeper i.Items depth s x → expect 93 x.1 ≡ Err stop → At stop k → Stuck (SomePart Start depth) s k
+square_close : (depth : ℕ) (s : List ℕ) (x : ExprNode × List ℕ) (stop : ExprStop) (k : ℕ) → is_at 91 s ≡ true → sound.Deeper i.Items depth s x → expect 93 x.1 ≡ Err stop → At stop k → Stuck (SomePart Start depth) s k
 square_close zero s x stop k at q e a = absurd q
 square_close (suc d) s x stop k at q e a = close_stuck 91 93 Items square_plain square_of d s x stop k at q e a
 
@@ -90,12 +90,12 @@ colon_plain z = (refl, refl, refl)
 one_colon : (d : ℕ) (z : List ℕ) → Plain z → Colon d (58 ∷ operand z) z
 one_colon d z p = (operand z, byte_of 58 (operand z) (operand_settled z), part.one_choice d z p)
 
-with_condition : (d : ℕ) (s : List ℕ) (c : Node × List ℕ) (k : ℕ) → Reads Either (suc d) s c.0 c.1 → is_at 63 c.1 ≡ true → Stuck (Branches d) (blanks_skipped (drop 1 c.1)) k → Stuck (SomePart Choice (suc d)) s k
+with_condition : (d : ℕ) (s : List ℕ) (c : ExprNode × List ℕ) (k : ℕ) → Reads Either (suc d) s c.0 c.1 → is_at 63 c.1 ≡ true → Stuck (Branches d) (blanks_skipped (drop 1 c.1)) k → Stuck (SomePart Choice (suc d)) s k
 with_condition d s c k x at q =
     stuck_map (Then (SomePart Either (suc d)) (Then (Byte 63) (Branches d))) (SomePart Choice (suc d)) s k (λ s' r' y. (n.Choice y.1.0 y.2.2.1.0 y.2.2.2.2.0, g.choice y.1.1 y.2.1 y.2.2.1.1 y.2.2.2.1 y.2.2.2.2.1))
     (moves_stuck (SomePart Either (suc d)) (Then (Byte 63) (Branches d)) s c.1 k (moves_some Either (suc d) s c.0 c.1 x) (deep_late 63 c.1 k (Branches d) at q))
 
-first_stuck : (depth : ℕ) (s : List ℕ) (c : Node × List ℕ) (k : ℕ) → Reads Either depth s c.0 c.1 → is_at 63 c.1 ≡ true → DeepStuck i.Choice depth c.1 k → Stuck (SomePart Choice depth) s k
+first_stuck : (depth : ℕ) (s : List ℕ) (c : ExprNode × List ℕ) (k : ℕ) → Reads Either depth s c.0 c.1 → is_at 63 c.1 ≡ true → DeepStuck i.Choice depth c.1 k → Stuck (SomePart Choice depth) s k
 first_stuck zero s c k x at q = stuck_map (SomePart Either 0) (SomePart Choice 0) s k (part.either_choice 0) (moves_end (SomePart Either 0) s c.1 k (moves_some Either 0 s c.0 c.1 x) q)
 first_stuck (suc d) s c k x at q = with_condition d s c k x at (stuck_then (SomePart Choice d) (Colon d) (blanks_skipped (drop 1 c.1)) k (58 ∷ 39 ∷ 39 ∷ []) q (λ z p. colon_plain z) (one_colon d))
 
@@ -108,7 +108,7 @@ colon_missing d m k e = record {
 abbrev OtherStuck : ℕ → List ℕ → ℕ → Type 0
 OtherStuck depth m k = (length m ≡ k) ⊎ ((is_at 58 m ≡ true) × DeepStuck i.Choice depth m k)
 
-second_stuck : (depth : ℕ) (s : List ℕ) (c a : Node × List ℕ) (k : ℕ) → Reads Either depth s c.0 c.1 → is_at 63 c.1 ≡ true → sound.Deeper i.Choice depth c.1 a → OtherStuck depth a.1 k → Stuck (SomePart Choice depth) s k
+second_stuck : (depth : ℕ) (s : List ℕ) (c a : ExprNode × List ℕ) (k : ℕ) → Reads Either depth s c.0 c.1 → is_at 63 c.1 ≡ true → sound.Deeper i.Choice depth c.1 a → OtherStuck depth a.1 k → Stuck (SomePart Choice depth) s k
 second_stuck zero s c a k x at y o = absurd y
 second_stuck (suc d) s c a k x at y (inl e) =
     with_condition d s c k x at (moves_stuck (SomePart Choice d) (Colon d) (blanks_skipped (drop 1 c.1)) a.1 k (moves_some Choice d (blanks_skipped (drop 1 c.1)) a.0 a.1 y) (colon_missing d a.1 k e))
@@ -117,7 +117,7 @@ second_stuck (suc d) s c a k x at y (inr o) =
 
 -- ---- each line, where what stands deeper can be completed
 
-module _ (depth : ℕ) (inner : Inside → List ℕ → Outcome Node) (deeper : sound.Inner depth inner) (sticks : InnerSticks depth inner) where
+module _ (depth : ℕ) (inner : Inside → List ℕ → Outcome ExprNode) (deeper : sound.Inner depth inner) (sticks : InnerSticks depth inner) where
   start_stuck : Sticks Start depth (spec.start depth inner)
   unfolding spec.start
   start_stuck s d k e a = elim (chosen (is_at 40 s) _ _ _ e) [
@@ -227,7 +227,7 @@ module _ (depth : ℕ) (inner : Inside → List ℕ → Outcome Node) (deeper : 
         ]
   ]
 
-  other_stuck : (m : List ℕ) (d : Stop) (k : ℕ) → spec.other_choice depth inner m ≡ Err d → At d k → OtherStuck depth m k
+  other_stuck : (m : List ℕ) (d : ExprStop) (k : ℕ) → spec.other_choice depth inner m ≡ Err d → At d k → OtherStuck depth m k
   unfolding spec.other_choice
   other_stuck m d k e a = elim (chosen (is_at 58 m) _ _ _ e) [
     | inl h ↦ inr (h.0, sticks i.Choice m d k h.1 a)

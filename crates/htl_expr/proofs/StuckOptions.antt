@@ -1,6 +1,6 @@
 -- Options in which reading stopped can be completed.
 use Rattle.std.proofs.Common.{◌≡◌, ℕ, true, List, [], ◌∷◌, ◌++◌, drop, length, Result, Ok, Err, codes, refl, ap, sym, subst, ◌∙◌, inl, inr, append_assoc}
-use Rattle.htl_expr.specs.declared.stop.Stop.{Stop}
+use Rattle.htl_expr.specs.declared.stop.ExprStop.{ExprStop}
 use Rattle.htl_expr.specs.declared.expression.Context.{Context}
 use Rattle.htl_expr.specs.declared.expression.Context.TheVariants.{Text, Unsafe}
 use Rattle.htl_expr.specs.Tokens.{◌>>=◌, blanks_skipped, is_at, begins, is_quote, expect, literal, string}
@@ -26,7 +26,7 @@ record Unread (w s : List ℕ) (k : ℕ) : Type 0 where
   parts : s ≡ front ++ rest
   left : length rest ≡ k
 
-unread : (w s : List ℕ) (d : Stop) (k : ℕ) → literal w s ≡ Err d → At d k → Unread w s k
+unread : (w s : List ℕ) (d : ExprStop) (k : ℕ) → literal w s ≡ Err d → At d k → Unread w s k
 unfolding literal
 unread [] s d k e a = absurd cc
 unread (c ∷ w) s d k e a = elim (chosen (is_at c s) _ _ _ e) [
@@ -41,7 +41,7 @@ word_whole : (w s : List ℕ) (k : ℕ) (i : Unread w s k) (z : List ℕ) → i.
 word_whole w s k i z = sym (append_assoc i.front i.tail z) ∙ ap (λ (t : List ℕ). t ++ z) (sym i.word)
 
 -- a word, and then a part that a text spells
-word_cut : (c : ℕ) (w s : List ℕ) (d : Stop) (k : ℕ) (Q : List ℕ → List ℕ → Type 0) (more : List ℕ) → ((z : List ℕ) → Settled ((c ∷ w) ++ z)) → ((z : List ℕ) → Settled (more ++ z)) → ((z : List ℕ) → Plain z → Q (more ++ z) z)
+word_cut : (c : ℕ) (w s : List ℕ) (d : ExprStop) (k : ℕ) (Q : List ℕ → List ℕ → Type 0) (more : List ℕ) → ((z : List ℕ) → Settled ((c ∷ w) ++ z)) → ((z : List ℕ) → Settled (more ++ z)) → ((z : List ℕ) → Plain z → Q (more ++ z) z)
     → literal (c ∷ w) s ≡ Err d → At d k → Cut (Then (Literal (c ∷ w)) Q) s k
 word_cut c w s d k Q more first settled make e a =
     let i = unread (c ∷ w) s d k e a in
@@ -59,7 +59,7 @@ word_cut c w s d k Q more first settled make e a =
 -- ---- the sign behind the word, and the value
 
 -- "=" and the value that a text spells, where neither stands
-sign_cut : (Q : List ℕ → List ℕ → Type 0) (more m : List ℕ) (d : Stop) (k : ℕ) → ((z : List ℕ) → Settled (more ++ z)) → ((z : List ℕ) → Plain z → Q (more ++ z) z) → expect 61 m ≡ Err d → At d k → Cut (Then (Byte 61) Q) m k
+sign_cut : (Q : List ℕ → List ℕ → Type 0) (more m : List ℕ) (d : ExprStop) (k : ℕ) → ((z : List ℕ) → Settled (more ++ z)) → ((z : List ℕ) → Plain z → Q (more ++ z) z) → expect 61 m ≡ Err d → At d k → Cut (Then (Byte 61) Q) m k
 sign_cut Q more m d k settled make e a = record {
   front = [];
   rest = m;
@@ -71,8 +71,8 @@ sign_cut Q more m d k settled make e a = record {
 }
 
 -- an option: its word, "=" and its value
-module _ (A : Type 0) (c : ℕ) (w more : List ℕ) (Q : List ℕ → List ℕ → Type 0) (value : List ℕ → Result (A × List ℕ) Stop) (first : (z : List ℕ) → Settled ((c ∷ w) ++ z)) (settled : (z : List ℕ) → Settled (more ++ z))
-    (make : (z : List ℕ) → Plain z → Q (more ++ z) z) (sticks : (s : List ℕ) (d : Stop) (k : ℕ) → value s ≡ Err d → At d k → Cut Q s k) where
+module _ (A : Type 0) (c : ℕ) (w more : List ℕ) (Q : List ℕ → List ℕ → Type 0) (value : List ℕ → Result (A × List ℕ) ExprStop) (first : (z : List ℕ) → Settled ((c ∷ w) ++ z)) (settled : (z : List ℕ) → Settled (more ++ z))
+    (make : (z : List ℕ) → Plain z → Q (more ++ z) z) (sticks : (s : List ℕ) (d : ExprStop) (k : ℕ) → value s ≡ Err d → At d k → Cut Q s k) where
   abbrev Behind : List ℕ → List ℕ → Type 0
   Behind = Then (Byte 61) Q
 
@@ -90,7 +90,7 @@ module _ (A : Type 0) (c : ℕ) (w more : List ℕ) (Q : List ℕ → List ℕ �
     ends = λ z p. ((61 ∷ more) ++ z, record { after = (61 ∷ more) ++ z; parts = append_assoc (c ∷ w) (61 ∷ more) z; rest = sym (sign_settled z) }, (more ++ z, byte_of 61 (more ++ z) (settled z), make z p));
   }
 
-  pub option_cut : (s : List ℕ) (d : Stop) (k : ℕ) → (literal (c ∷ w) s >>= λ a. expect 61 (blanks_skipped a) >>= λ b. value b) ≡ Err d → At d k → Cut (Then (Literal (c ∷ w)) Behind) s k
+  pub option_cut : (s : List ℕ) (d : ExprStop) (k : ℕ) → (literal (c ∷ w) s >>= λ a. expect 61 (blanks_skipped a) >>= λ b. value b) ≡ Err d → At d k → Cut (Then (Literal (c ∷ w)) Behind) s k
   option_cut s d k e a = elim (bind_err (literal (c ∷ w) s) (λ x. expect 61 (blanks_skipped x) >>= λ b. value b) d e) [
     | inl at ↦ word_cut c w s d k Behind (61 ∷ more) first sign_settled (λ z p. (more ++ z, byte_of 61 (more ++ z) (settled z), make z p)) at a
     | inr x ↦
@@ -118,14 +118,14 @@ j_settled z = settled_at 106 (codes "oin" ++ z) refl
 any_string : (z : List ℕ) → Plain z → SomeString (operand z) z
 any_string z p = ([], empty_string z p)
 
-string_cut : (s : List ℕ) (d : Stop) (k : ℕ) → string s ≡ Err d → At d k → Cut SomeString s k
+string_cut : (s : List ℕ) (d : ExprStop) (k : ℕ) → string s ≡ Err d → At d k → Cut SomeString s k
 string_cut s d k e a = cut_of SomeString s k (string_stuck s d k e a)
 
 pub join_missing : (s : List ℕ) (k : ℕ) → length s ≡ k → Cut SomeJoin s k
 join_missing s k e =
     cut_map (Then (Literal (codes "join")) (Then (Byte 61) SomeString)) SomeJoin s k join_made (option_missing (List ℕ) 106 (codes "oin") (39 ∷ 39 ∷ []) SomeString string j_settled operand_settled any_string string_cut s k e)
 
-pub join_cut : (s : List ℕ) (d : Stop) (k : ℕ) → spec.join_option s ≡ Err d → At d k → Cut SomeJoin s k
+pub join_cut : (s : List ℕ) (d : ExprStop) (k : ℕ) → spec.join_option s ≡ Err d → At d k → Cut SomeJoin s k
 unfolding spec.join_option
 join_cut s d k e a =
     cut_map (Then (Literal (codes "join")) (Then (Byte 61) SomeString)) SomeJoin s k join_made (option_cut (List ℕ) 106 (codes "oin") (39 ∷ 39 ∷ []) SomeString string j_settled operand_settled any_string string_cut s d k e a)
@@ -148,7 +148,7 @@ context_string_missing : (s : List ℕ) (k : ℕ) → length s ≡ k → Cut Som
 context_string_missing s k e = record { front = []; rest = s; more = context_more; parts = refl; left = e; clear = λ z p. inr (context_settled z); ends = any_context }
 
 -- the word behind the mark was cut
-context_word_cut : (c : ℕ) (s : List ℕ) (context : Context) (d : Stop) (k : ℕ) → is_quote c ≡ true → literal (context_text context) s ≡ Err d → At d k → Cut SomeContextString (c ∷ s) k
+context_word_cut : (c : ℕ) (s : List ℕ) (context : Context) (d : ExprStop) (k : ℕ) → is_quote c ≡ true → literal (context_text context) s ≡ Err d → At d k → Cut SomeContextString (c ∷ s) k
 context_word_cut c s context d k quote e a =
     let w = context_text context in
     let i = unread w s d k e a in
@@ -182,7 +182,7 @@ context_close_cut c s x k quote parts e = record {
   ends = λ z p. (x.0, record { mark = c; after = z; parts = refl; is_mark = quote; rest = sym (plain_settled z p) });
 }
 
-context_string_cut : (s : List ℕ) (d : Stop) (k : ℕ) → spec.context_string s ≡ Err d → At d k → Cut SomeContextString s k
+context_string_cut : (s : List ℕ) (d : ExprStop) (k : ℕ) → spec.context_string s ≡ Err d → At d k → Cut SomeContextString s k
 unfolding spec.context_string spec.context_word begins
 context_string_cut [] d k e a = context_string_missing [] k (at_length 0 d k e a)
 context_string_cut (c ∷ s) d k e a = elim (chosen (is_quote c) _ _ _ e) [
@@ -224,7 +224,7 @@ context_missing s k e =
     cut_map (Then (Literal (codes "context")) (Then (Byte 61) SomeContextString)) SomeContext s k context_made
     (option_missing Context 99 (codes "ontext") context_more SomeContextString spec.context_string c_settled context_settled any_context context_string_cut s k e)
 
-pub context_cut : (s : List ℕ) (d : Stop) (k : ℕ) → spec.context_option s ≡ Err d → At d k → Cut SomeContext s k
+pub context_cut : (s : List ℕ) (d : ExprStop) (k : ℕ) → spec.context_option s ≡ Err d → At d k → Cut SomeContext s k
 unfolding spec.context_option
 context_cut s d k e a =
     cut_map (Then (Literal (codes "context")) (Then (Byte 61) SomeContextString)) SomeContext s k context_made

@@ -1,8 +1,8 @@
 -- Accesses, operands and chains in which reading stopped can be completed.
 use Rattle.std.proofs.Common.{◌≡◌, ℕ, zero, suc, true, ◌||◌, eqb, List, [], ◌∷◌, ◌++◌, drop, length, Option, Some, None, Ok, Err, refl, inl, inr}
-use Rattle.htl_expr.specs.declared.stop.Stop.{Stop}
-use Rattle.htl_expr.specs.declared.node.Node.{Node}
-use Rattle.htl_expr.specs.declared.node.Node.TheVariants as n
+use Rattle.htl_expr.specs.declared.stop.ExprStop.{ExprStop}
+use Rattle.htl_expr.specs.declared.node.ExprNode.{ExprNode}
+use Rattle.htl_expr.specs.declared.node.ExprNode.TheVariants as n
 use Rattle.htl_expr.specs.declared.tokens.NameKind.TheVariants.{Name}
 use Rattle.htl_expr.specs.Tokens.{Outcome, ◌>>=◌, blanks_skipped, is_at, begins, goes_on, is_expression_digit, is_quote, is_first, expect, read_name, signed_number, string}
 use Rattle.htl_expr.specs.Read as spec
@@ -56,7 +56,7 @@ access_missing depth t k e = record {
   later = λ z p. inr (dot_plain (95 ∷ z));
 }
 
-bracketed_stuck : (depth : ℕ) (t : List ℕ) (d : Stop) (k : ℕ) → is_at 91 t ≡ true → spec.bracket_access depth t ≡ Err d → At d k → Late (SomeAccess depth) t k
+bracketed_stuck : (depth : ℕ) (t : List ℕ) (d : ExprStop) (k : ℕ) → is_at 91 t ≡ true → spec.bracket_access depth t ≡ Err d → At d k → Late (SomeAccess depth) t k
 unfolding spec.bracket_access
 bracketed_stuck zero t d k at e a = access_missing zero t k (at_depth (length t) d k e a)
 bracketed_stuck (suc depth) t d k at e a = elim (chosen (eqb (suc depth) 0) _ _ _ e) [
@@ -79,7 +79,7 @@ bracketed_stuck (suc depth) t d k at e a = elim (chosen (eqb (suc depth) 0) _ _ 
       ]
 ]
 
-access_stuck : (depth : ℕ) (t : List ℕ) (d : Stop) (k : ℕ) → spec.access_at t ≡ true → spec.access depth t ≡ Err d → At d k → Late (SomeAccess depth) t k
+access_stuck : (depth : ℕ) (t : List ℕ) (d : ExprStop) (k : ℕ) → spec.access_at t ≡ true → spec.access depth t ≡ Err d → At d k → Late (SomeAccess depth) t k
 unfolding spec.access spec.access_at
 access_stuck depth t d k at e a = elim (chosen (is_at 46 t) _ _ _ e) [
   | inl h ↦
@@ -89,14 +89,14 @@ access_stuck depth t d k at e a = elim (chosen (is_at 46 t) _ _ _ e) [
   | inr h ↦ bracketed_stuck depth t d k (rw h.0 at at) h.1 a
 ]
 
-first_access_stuck : (depth : ℕ) (t : List ℕ) (d : Stop) (k : ℕ) → spec.first_access depth t ≡ Err d → At d k → Late (SomeAccess depth) t k
+first_access_stuck : (depth : ℕ) (t : List ℕ) (d : ExprStop) (k : ℕ) → spec.first_access depth t ≡ Err d → At d k → Late (SomeAccess depth) t k
 unfolding spec.first_access
 first_access_stuck depth t d k e a = elim (chosen (spec.access_at t) _ _ _ e) [
   | inl h ↦ access_stuck depth t d k h.0 h.1 a
   | inr h ↦ access_missing depth t k (at_length (length t) d k h.1 a)
 ]
 
-pub accesses_stuck : (depth fuel : ℕ) (found : List (List ℕ)) (t : List ℕ) (d : Stop) (k : ℕ) → spec.accesses depth fuel found t ≡ Err d → At d k → Late (SomeAccesses depth) t k
+pub accesses_stuck : (depth fuel : ℕ) (found : List (List ℕ)) (t : List ℕ) (d : ExprStop) (k : ℕ) → spec.accesses depth fuel found t ≡ Err d → At d k → Late (SomeAccesses depth) t k
 unfolding spec.accesses
 accesses_stuck depth zero found t d k e a = absurd cc
 accesses_stuck depth (suc fuel) found t d k e a = elim (chosen (spec.access_at t) _ _ _ e) [
@@ -113,12 +113,12 @@ accesses_stuck depth (suc fuel) found t d k e a = elim (chosen (spec.access_at t
 -- ---- one operand
 
 abbrev pub SomePart : Part → ℕ → List ℕ → List ℕ → Type 0
-SomePart part depth s r = (e : Node) × Reads part depth s e r
+SomePart part depth s r = (e : ExprNode) × Reads part depth s e r
 
-abbrev pub Sticks : Part → ℕ → (List ℕ → Outcome Node) → Type 0
-Sticks part depth f = (s : List ℕ) (d : Stop) (k : ℕ) → f s ≡ Err d → At d k → Stuck (SomePart part depth) s k
+abbrev pub Sticks : Part → ℕ → (List ℕ → Outcome ExprNode) → Type 0
+Sticks part depth f = (s : List ℕ) (d : ExprStop) (k : ℕ) → f s ≡ Err d → At d k → Stuck (SomePart part depth) s k
 
-pub moves_some : (part : Part) (depth : ℕ) (s : List ℕ) (e : Node) (r : List ℕ) → Reads part depth s e r → Moves (SomePart part depth) s r
+pub moves_some : (part : Part) (depth : ℕ) (s : List ℕ) (e : ExprNode) (r : List ℕ) → Reads part depth s e r → Moves (SomePart part depth) s r
 moves_some part depth s e r x = moves_map (ReadsOf part depth e) (SomePart part depth) s r (λ s' r' y. (e, y)) (reads_moves part depth s e r x)
 
 pub start_atom : (depth : ℕ) (s r : List ℕ) → SomePart Start depth s r → SomePart Atom depth s r
@@ -157,7 +157,7 @@ one_choice depth z p = either_choice depth (operand z) z (both_either depth (ope
 pub start_missing : (depth : ℕ) (s : List ℕ) (k : ℕ) → length s ≡ k → Stuck (SomePart Start depth) s k
 start_missing depth s k e = record { front = []; rest = s; more = 39 ∷ 39 ∷ []; parts = refl; left = e; near = λ z p. inr (refl, refl, refl); ends = one_start depth }
 
-object_stuck : (depth : ℕ) (s w m : List ℕ) (o : Option (List ℕ → Node)) (d : Stop) (k : ℕ) → spec.object_of w ≡ o → NameToken Name s w m → spec.name_or_object_of depth o w m ≡ Err d → At d k → Stuck (SomePart Start depth) s k
+object_stuck : (depth : ℕ) (s w m : List ℕ) (o : Option (List ℕ → ExprNode)) (d : ExprStop) (k : ℕ) → spec.object_of w ≡ o → NameToken Name s w m → spec.name_or_object_of depth o w m ≡ Err d → At d k → Stuck (SomePart Start depth) s k
 object_stuck depth s w m None d k o t e a = absurd cc
 object_stuck depth s w m (Some make) d k o t e a = elim (bind_err (spec.first_access depth m) (λ f. Ok (make f.0, f.1)) d e) [
   | inl at ↦
@@ -206,7 +206,7 @@ quiet_or : Quiet 124
 unfolding goes_on
 quiet_or t = refl
 
-between_stuck : (sep : Separator) (Q : List ℕ → List ℕ → Type 0) → ((z : List ℕ) → Plain z → Q (operand z) z) → (m : List ℕ) (d : Stop) (k : ℕ) → is_at (byte_of sep) m ≡ true → spec.between (byte_of sep) m ≡ Err d → At d k
+between_stuck : (sep : Separator) (Q : List ℕ → List ℕ → Type 0) → ((z : List ℕ) → Plain z → Q (operand z) z) → (m : List ℕ) (d : ExprStop) (k : ℕ) → is_at (byte_of sep) m ≡ true → spec.between (byte_of sep) m ≡ Err d → At d k
     → Late (Then (Separates sep) Q) m k
 unfolding expect
 between_stuck And Q one m d k at e a = second_missing 38 38 quiet_and Q one m d k at e a
@@ -217,17 +217,17 @@ between_stuck Comma Q one m d k at e a = elim (chosen (is_at 44 m) _ _ _ e) [
 ]
 
 abbrev pub SomeMore : Separator → ℕ → List ℕ → List ℕ → Type 0
-SomeMore sep depth s r = (es : List Node) × More sep depth s es r
+SomeMore sep depth s r = (es : List ExprNode) × More sep depth s es r
 
-more_then : (sep : Separator) (depth : ℕ) (x : Node) (s m : List ℕ) (es : List Node) (r : List ℕ) → More sep depth s (x ∷ []) m → More sep depth m es r → More sep depth s (x ∷ es) r
+more_then : (sep : Separator) (depth : ℕ) (x : ExprNode) (s m : List ℕ) (es : List ExprNode) (r : List ℕ) → More sep depth s (x ∷ []) m → More sep depth m es r → More sep depth s (x ∷ es) r
 more_then sep depth x s m es r (g.more o i g.end) y = g.more o i y
 
-module _ (sep : Separator) (depth : ℕ) (item : List ℕ → Outcome Node) (one : (z : List ℕ) → Plain z → SomePart (part_of sep) depth (operand z) z) (item_sound : sound.Sound (part_of sep) depth item)
+module _ (sep : Separator) (depth : ℕ) (item : List ℕ → Outcome ExprNode) (one : (z : List ℕ) → Plain z → SomePart (part_of sep) depth (operand z) z) (item_sound : sound.Sound (part_of sep) depth item)
     (sticks : Sticks (part_of sep) depth item) where
   single : (s r : List ℕ) → Then (Separates sep) (SomePart (part_of sep) depth) s r → SomeMore sep depth s r
   single s r x = (x.2.0 ∷ [], g.more x.1 x.2.1 g.end)
 
-  pub chain_stuck : (fuel : ℕ) (found : List Node) (t : List ℕ) (d : Stop) (k : ℕ) → spec.chain item (byte_of sep) fuel found t ≡ Err d → At d k → Late (SomeMore sep depth) t k
+  pub chain_stuck : (fuel : ℕ) (found : List ExprNode) (t : List ℕ) (d : ExprStop) (k : ℕ) → spec.chain item (byte_of sep) fuel found t ≡ Err d → At d k → Late (SomeMore sep depth) t k
   unfolding spec.chain
   chain_stuck zero found t d k e a = absurd cc
   chain_stuck (suc fuel) found t d k e a = elim (chosen (is_at (byte_of sep) t) _ _ _ e) [

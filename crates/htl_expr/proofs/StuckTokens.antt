@@ -1,6 +1,6 @@
 -- Where a token is missing or was cut, it can be completed.
 use Rattle.std.proofs.Common.{◌≡◌, ℕ, ℤ, Bool, true, false, ◌||◌, eqb, List, [], ◌∷◌, ◌++◌, drop, length, Option, Some, None, Ok, Err, refl, ap, sym, subst, inl, inr}
-use Rattle.htl_expr.specs.declared.stop.Stop.{Stop}
+use Rattle.htl_expr.specs.declared.stop.ExprStop.{ExprStop}
 use Rattle.htl_expr.specs.declared.tokens.NameKind.TheVariants.{Field}
 use Rattle.htl_expr.specs.declared.node.Comparison.{Comparison}
 use Rattle.htl_expr.specs.declared.node.Comparison.TheVariants.{Equal, NotEqual}
@@ -22,14 +22,14 @@ byte_of c z e = record { after = z; parts = refl; rest = sym e }
 pub operator_of : (c d : ℕ) (z : List ℕ) → Settled z → Operator c d (c ∷ d ∷ z) z
 operator_of c d z e = record { after = z; parts = refl; rest = sym e }
 
-pub expect_missing : (c : ℕ) (m : List ℕ) (d : Stop) (k : ℕ) → expect c m ≡ Err d → At d k → length m ≡ k
+pub expect_missing : (c : ℕ) (m : List ℕ) (d : ExprStop) (k : ℕ) → expect c m ≡ Err d → At d k → length m ≡ k
 unfolding expect
 expect_missing c m d k e a = elim (chosen (is_at c m) _ _ _ e) [
   | inl h ↦ absurd (let x = h.1 in cc)
   | inr h ↦ at_length (length m) d k h.1 a
 ]
 
-pub byte_missing : (c : ℕ) → ((z : List ℕ) → Plain (c ∷ z)) → (m : List ℕ) (d : Stop) (k : ℕ) → expect c m ≡ Err d → At d k → Late (Byte c) m k
+pub byte_missing : (c : ℕ) → ((z : List ℕ) → Plain (c ∷ z)) → (m : List ℕ) (d : ExprStop) (k : ℕ) → expect c m ≡ Err d → At d k → Late (Byte c) m k
 byte_missing c plain m d k e a = record {
   stuck = record { front = []; rest = m; more = c ∷ []; parts = refl; left = expect_missing c m d k e a; near = λ z p. fits_near m (c ∷ z) (inr (plain z)); ends = λ z p. byte_of c z (plain_settled z p) };
   later = λ z p. inr (plain z);
@@ -43,7 +43,7 @@ pub operand_settled : (z : List ℕ) → Settled (operand z)
 operand_settled z = settled_at 39 (39 ∷ z) refl
 
 -- an operator whose second byte is missing, before an operand
-pub second_missing : (c d : ℕ) → Quiet c → (Q : List ℕ → List ℕ → Type 0) → ((z : List ℕ) → Plain z → Q (operand z) z) → (m : List ℕ) (stop : Stop) (k : ℕ) → is_at c m ≡ true → second d m ≡ Err stop → At stop k → Late (Then (Operator c d) Q) m k
+pub second_missing : (c d : ℕ) → Quiet c → (Q : List ℕ → List ℕ → Type 0) → ((z : List ℕ) → Plain z → Q (operand z) z) → (m : List ℕ) (stop : ExprStop) (k : ℕ) → is_at c m ≡ true → second d m ≡ Err stop → At stop k → Late (Then (Operator c d) Q) m k
 unfolding second
 second_missing c d quiet Q one m stop k at e a = record {
   stuck = record {
@@ -78,7 +78,7 @@ record Unclosed (b : Bool) (mark : ℕ) (s : List ℕ) (k : ℕ) : Type 0 where
   left : length rest ≡ k
   ends : (z : List ℕ) → Body b mark (front ++ (more ++ z)) z
 
-unclosed : (b : Bool) (mark : ℕ) (s : List ℕ) (d : Stop) (k : ℕ) → string_from b mark s ≡ Err d → At d k → Unclosed b mark s k
+unclosed : (b : Bool) (mark : ℕ) (s : List ℕ) (d : ExprStop) (k : ℕ) → string_from b mark s ≡ Err d → At d k → Unclosed b mark s k
 unfolding string_from unescape
 unclosed true mark [] d k e a = record { front = []; rest = []; more = 110 ∷ mark ∷ []; parts = refl; left = at_length 0 d k e a; ends = λ z. (10 ∷ [], g.escape refl g.closes) }
 unclosed false mark [] d k e a = record { front = []; rest = []; more = mark ∷ []; parts = refl; left = at_length 0 d k e a; ends = λ z. ([], g.closes) }
@@ -115,7 +115,7 @@ empty_string z p = record { mark = 39; inside = 39 ∷ z; after = z; parts = ref
 string_missing : (s : List ℕ) (k : ℕ) → length s ≡ k → Stuck SomeString s k
 string_missing s k e = record { front = []; rest = s; more = 39 ∷ 39 ∷ []; parts = refl; left = e; near = λ z p. inr (refl, refl, refl); ends = λ z p. ([], empty_string z p) }
 
-pub string_stuck : (s : List ℕ) (d : Stop) (k : ℕ) → string s ≡ Err d → At d k → Stuck SomeString s k
+pub string_stuck : (s : List ℕ) (d : ExprStop) (k : ℕ) → string s ≡ Err d → At d k → Stuck SomeString s k
 unfolding string
 string_stuck [] d k e a = string_missing [] k (at_length 0 d k e a)
 string_stuck (c ∷ s) d k e a = elim (chosen (is_quote c) _ _ _ e) [
@@ -142,7 +142,7 @@ pub one_field : (z : List ℕ) → Plain z → NameToken Field (95 ∷ z) (95 �
 unfolding begins goes_on
 one_field z p = record { after = z; parts = refl; first = refl; passes = (refl, tt); longest = plain_ends Field z p; rest = sym (plain_settled z p) }
 
-pub field_stuck : (s : List ℕ) (d : Stop) (k : ℕ) → read_name Field s ≡ Err d → At d k → Stuck SomeField s k
+pub field_stuck : (s : List ℕ) (d : ExprStop) (k : ℕ) → read_name Field s ≡ Err d → At d k → Stuck SomeField s k
 unfolding read_name
 field_stuck s d k e a = elim (chosen (begins is_first s) _ _ _ e) [
   | inl h ↦ absurd (let x = h.1 in cc)
@@ -169,7 +169,7 @@ minus_one z p = (
   },
 )
 
-pub number_stuck : (s : List ℕ) (d : Stop) (k : ℕ) → (is_at 45 s || begins is_expression_digit s) ≡ true → signed_number s ≡ Err d → At d k → Stuck SomeNumber s k
+pub number_stuck : (s : List ℕ) (d : ExprStop) (k : ℕ) → (is_at 45 s || begins is_expression_digit s) ≡ true → signed_number s ≡ Err d → At d k → Stuck SomeNumber s k
 unfolding signed_number digits
 number_stuck s d k at e a = elim (chosen (is_at 45 s) _ _ _ e) [
   | inl h ↦
@@ -203,7 +203,7 @@ quiet_not : Quiet 33
 unfolding goes_on
 quiet_not t = refl
 
-pub comparison_stuck : (Q : List ℕ → List ℕ → Type 0) → ((z : List ℕ) → Plain z → Q (operand z) z) → (m : List ℕ) (d : Stop) (k : ℕ) → spec.comparison m ≡ Err d → At d k → Late (Then SomeCompares Q) m k
+pub comparison_stuck : (Q : List ℕ → List ℕ → Type 0) → ((z : List ℕ) → Plain z → Q (operand z) z) → (m : List ℕ) (d : ExprStop) (k : ℕ) → spec.comparison m ≡ Err d → At d k → Late (Then SomeCompares Q) m k
 unfolding spec.comparison
 comparison_stuck Q one m d k e a = elim (chosen (is_at 61 m) _ _ _ e) [
   | inl h ↦

@@ -1,9 +1,9 @@
 -- A whole text in which reading stopped can be completed.
 use Rattle.std.proofs.Common.{◌≡◌, ℕ, ◌-◌, true, cond, ◌||◌, eqb, List, [], ◌∷◌, ◌++◌, take, drop, length, Option, Some, None, Ok, Err, refl, ap, sym, subst, ◌∙◌, ◌⊎◌, inl, inr, arith, append_assoc}
 use Rattle.std.proofs.lemmas.List.{length-append, take_at}
-use Rattle.htl_expr.specs.declared.stop.Stop.{Stop}
-use Rattle.htl_expr.specs.declared.stop.Stop.TheVariants.{Unexpected}
-use Rattle.htl_expr.specs.declared.node.Node.{Node}
+use Rattle.htl_expr.specs.declared.stop.ExprStop.{ExprStop}
+use Rattle.htl_expr.specs.declared.stop.ExprStop.TheVariants.{Unexpected}
+use Rattle.htl_expr.specs.declared.node.ExprNode.{ExprNode}
 use Rattle.htl_expr.specs.declared.expression.Context.{Context}
 use Rattle.htl_expr.specs.declared.expression.Expr.{Expr}
 use Rattle.htl_expr.specs.Tokens.{◌>>=◌, blanks_skipped, is_at, goes_on}
@@ -70,7 +70,7 @@ quiet_comma t = refl
 abbrev SomeOption : List ℕ → List ℕ → Type 0
 SomeOption s r = SomeJoin s r ⊎ SomeContext s r
 
-first_cut : (s : List ℕ) (d : Stop) (k : ℕ) → spec.option (None, None) s ≡ Err d → At d k → Cut SomeOption s k
+first_cut : (s : List ℕ) (d : ExprStop) (k : ℕ) → spec.option (None, None) s ≡ Err d → At d k → Cut SomeOption s k
 unfolding spec.option
 first_cut s d k e a = elim (chosen (is_at 106 s) _ _ _ e) [
   | inl h ↦
@@ -90,7 +90,7 @@ first_cut s d k e a = elim (chosen (is_at 106 s) _ _ _ e) [
 ]
 
 -- behind a join, and behind a context
-after_join : (w s : List ℕ) (d : Stop) (k : ℕ) → spec.option (Some w, None) s ≡ Err d → At d k → Cut SomeContext s k
+after_join : (w s : List ℕ) (d : ExprStop) (k : ℕ) → spec.option (Some w, None) s ≡ Err d → At d k → Cut SomeContext s k
 unfolding spec.option
 after_join w s d k e a = elim (chosen (is_at 99 s) _ _ _ e) [
   | inl j ↦
@@ -101,7 +101,7 @@ after_join w s d k e a = elim (chosen (is_at 99 s) _ _ _ e) [
   | inr j ↦ context_missing s k (at_length (length s) d k j.1 a)
 ]
 
-after_context : (c : Context) (s : List ℕ) (d : Stop) (k : ℕ) → spec.option (None, Some c) s ≡ Err d → At d k → Cut SomeJoin s k
+after_context : (c : Context) (s : List ℕ) (d : ExprStop) (k : ℕ) → spec.option (None, Some c) s ≡ Err d → At d k → Cut SomeJoin s k
 unfolding spec.option
 after_context c s d k e a = elim (chosen (is_at 106 s) _ _ _ e) [
   | inl h ↦
@@ -113,7 +113,7 @@ after_context c s d k e a = elim (chosen (is_at 106 s) _ _ _ e) [
 ]
 
 -- the second option behind the first
-second_late : (t m : List ℕ) (given : spec.Given) (rest : List ℕ) (d : Stop) (k : ℕ) → Byte 64 t m → whole.Adds (None, None) m given rest → is_at 44 rest ≡ true → spec.option given (blanks_skipped (drop 1 rest)) ≡ Err d → At d k → Late SomeOptions t k
+second_late : (t m : List ℕ) (given : spec.Given) (rest : List ℕ) (d : ExprStop) (k : ℕ) → Byte 64 t m → whole.Adds (None, None) m given rest → is_at 44 rest ≡ true → spec.option given (blanks_skipped (drop 1 rest)) ≡ Err d → At d k → Late SomeOptions t k
 second_late t m _ rest d k b (whole.joins {w = w} n j) at e a =
     late_map (Then (Then (Byte 64) (JoinOf w)) (Then (Byte 44) SomeContext)) SomeOptions t k (λ s' r' x. join_context x.1.1 x.1.2 x.2.1 x.2.2.1)
     (moves_late (Then (Byte 64) (JoinOf w)) (Then (Byte 44) SomeContext) t rest k
@@ -129,7 +129,7 @@ one_option : (s r : List ℕ) → Then (Byte 64) SomeOption s r → SomeOptions 
 one_option s r (m, b, inl j) = join b j.1
 one_option s r (m, b, inr c) = context b c.1
 
-options_stuck : (t : List ℕ) (d : Stop) (k : ℕ) → spec.options t ≡ Err d → At d k → Late SomeOptions t k
+options_stuck : (t : List ℕ) (d : ExprStop) (k : ℕ) → spec.options t ≡ Err d → At d k → Late SomeOptions t k
 unfolding spec.options
 options_stuck t d k e a = elim (chosen (is_at 64 t) _ _ _ e) [
   | inl h ↦
@@ -185,19 +185,19 @@ options_moves t p e = elim (chosen (is_at 64 t) _ _ _ e) [
 
 module _ (levels : ℕ) where
   abbrev SomeTree : List ℕ → List ℕ → Type 0
-  SomeTree s r = (o : Option Node) × Tree levels s o r
+  SomeTree s r = (o : Option ExprNode) × Tree levels s o r
 
-  tree_moves : (s : List ℕ) (o : Option Node) (r : List ℕ) → Tree levels s o r → Moves SomeTree s r
+  tree_moves : (s : List ℕ) (o : Option ExprNode) (r : List ℕ) → Tree levels s o r → Moves SomeTree s r
   tree_moves s None r x = subst (λ (t : List ℕ). Moves SomeTree s t) (sym x) (none_moves SomeTree s (λ z. (None, refl)))
   tree_moves s (Some e) r x = moves_map (ReadsOf Choice levels e) SomeTree s r (λ s' r' y. (Some e, y)) (reads_moves Choice levels s e r x)
 
-  tree_stuck : (s : List ℕ) (d : Stop) (k : ℕ) → spec.optional_choice levels s ≡ Err d → At d k → Stuck SomeTree s k
+  tree_stuck : (s : List ℕ) (d : ExprStop) (k : ℕ) → spec.optional_choice levels s ≡ Err d → At d k → Stuck SomeTree s k
   unfolding spec.optional_choice
   tree_stuck s d k e a = elim (chosen (eqb (length s) 0 || is_at 64 s) _ _ _ e) [
     | inl h ↦ absurd (let x = h.1 in cc)
     | inr h ↦
         elim (bind_err (spec.choice levels (spec.nesting levels) s) (λ x. Ok (Some x.0, x.1)) d h.1) [
-          | inl at ↦ stuck_map (λ s' r'. (e : Node) × g.Reads Choice levels s' e r') SomeTree s k (λ s' r' x. (Some x.0, x.1)) (stuck levels s d k at a)
+          | inl at ↦ stuck_map (λ s' r'. (e : ExprNode) × g.Reads Choice levels s' e r') SomeTree s k (λ s' r' x. (Some x.0, x.1)) (stuck levels s d k at a)
           | inr at ↦ absurd (let x = at.2 in cc)
         ]
   ]
@@ -207,7 +207,7 @@ module _ (levels : ℕ) where
   abbrev Text : List ℕ → List ℕ → Type 0
   Text = Then SomeTree SomeOptions
 
-  text_stuck : (s : List ℕ) (d : Stop) (k : ℕ) → spec.expression_read levels s ≡ Err d → At d k → Stuck Text (blanks_skipped s) k
+  text_stuck : (s : List ℕ) (d : ExprStop) (k : ℕ) → spec.expression_read levels s ≡ Err d → At d k → Stuck Text (blanks_skipped s) k
   unfolding spec.expression_read
   text_stuck s d k e a = elim (bind_err (spec.optional_choice levels (blanks_skipped s)) (λ x. spec.options x.1 >>= λ o. cond (eqb (length o.1) 0) (Ok (spec.expr_of x.0 o.0)) (Err (Unexpected (length o.1)))) d e) [
     | inl at ↦ stuck_then SomeTree SomeOptions (blanks_skipped s) k [] (tree_stuck (blanks_skipped s) d k at a) (λ z p. p) (λ z p. none)
@@ -241,5 +241,5 @@ module _ (levels : ℕ) where
       record { more = more; tree = x.0; whole = x.1 }
 
   -- what stands before the byte at which reading stopped may go on
-  pub stopped : (s : List ℕ) (d : Stop) (k : ℕ) → spec.expression_read levels s ≡ Err d → At d k → MayGoOn levels s (length s - k)
+  pub stopped : (s : List ℕ) (d : ExprStop) (k : ℕ) → spec.expression_read levels s ≡ Err d → At d k → MayGoOn levels s (length s - k)
   stopped s d k e a = finish s k (text_stuck s d k e a)

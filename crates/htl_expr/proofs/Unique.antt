@@ -1,6 +1,6 @@
 -- A text has one expression at most.
 use Rattle.std.proofs.Common.{◌≡◌, ℕ, List, Ok, Err, sym, ◌∙◌}
-use Rattle.htl_expr.specs.declared.stop.Stop.{Stop}
+use Rattle.htl_expr.specs.declared.stop.ExprStop.{ExprStop}
 use Rattle.htl_expr.specs.declared.expression.Expr.{Expr}
 use Rattle.htl_expr.specs.Read.{expression_read}
 use Rattle.htl_expr.specs.Grammar.{WholeWithin}
@@ -12,5 +12,5 @@ pub only_ok : (levels : ℕ) (s : List ℕ) (found : Expr) → expression_read l
 only_ok levels s found r e w = ok_is found e (sym r ∙ read_again levels s e w)
 
 -- a text that isn't read has none
-pub only_err : (levels : ℕ) (s : List ℕ) (d : Stop) → expression_read levels s ≡ Err d → (e : Expr) → WholeWithin levels s e → ⊥
+pub only_err : (levels : ℕ) (s : List ℕ) (d : ExprStop) → expression_read levels s ≡ Err d → (e : Expr) → WholeWithin levels s e → ⊥
 only_err levels s d f e w = let x = sym f ∙ read_again levels s e w in absurd cc

@@ -1,6 +1,6 @@
 -- An expression of the grammar is what its text is read as.
 use Rattle.std.proofs.Common.{◌≡◌, ℕ, true, false, ◌||◌, eqb, List, [], ◌∷◌, ◌++◌, length, Option, Some, None, Ok, codes, refl, sym, rules}
-use Rattle.htl_expr.specs.declared.node.Node.{Node}
+use Rattle.htl_expr.specs.declared.node.ExprNode.{ExprNode}
 use Rattle.htl_expr.specs.declared.expression.Context.{Context}
 use Rattle.htl_expr.specs.declared.expression.Context.TheVariants.{Text, Unsafe}
 use Rattle.htl_expr.specs.declared.expression.Expr.{Expr}
@@ -84,7 +84,7 @@ options_stop s _ _ (g.join_context at j comma c) = at_stops s _ at
 options_stop s _ _ (g.context_join at c comma j) = at_stops s _ at
 
 module _ (levels : ℕ) where
-  first_tree : (s : List ℕ) (tree : Option Node) (r : List ℕ) → Tree levels s tree r → Stops Choice r × ((eqb (length r) 0 || is_at 64 r) ≡ true) → spec.optional_choice levels s ≡ Ok (tree, r)
+  first_tree : (s : List ℕ) (tree : Option ExprNode) (r : List ℕ) → Tree levels s tree r → Stops Choice r × ((eqb (length r) 0 || is_at 64 r) ≡ true) → spec.optional_choice levels s ≡ Ok (tree, r)
   unfolding spec.optional_choice
   first_tree s None r e st = rw (sym e, st.1) refl
   first_tree s (Some e) r x st = rw (part_some Choice levels s e r x tt, part_at 64 Choice levels s e r foreign_options x tt, complete Choice levels s e r x st.0) refl

@@ -1,7 +1,7 @@
 -- A whole text that is read is an expression of the grammar.
 use Rattle.std.proofs.Common.{◌≡◌, ℕ, Bool, true, false, cond, ◌||◌, ◌&&◌, eqb, List, [], ◌∷◌, ◌++◌, drop, length, Option, Some, None, is_none, Ok, Err, codes, refl, ap, sym, subst, ◌∙◌, inl, inr, rules}
-use Rattle.htl_expr.specs.declared.stop.Stop.TheVariants.{Unexpected}
-use Rattle.htl_expr.specs.declared.node.Node.{Node}
+use Rattle.htl_expr.specs.declared.stop.ExprStop.TheVariants.{Unexpected}
+use Rattle.htl_expr.specs.declared.node.ExprNode.{ExprNode}
 use Rattle.htl_expr.specs.declared.expression.Context.{Context}
 use Rattle.htl_expr.specs.declared.expression.Context.TheVariants.{Text, Unsafe}
 use Rattle.htl_expr.specs.declared.expression.Expr.{Expr}
@@ -135,10 +135,10 @@ nil_of [] e = refl
 nil_of (c ∷ s) e = absurd (let w : eqb (length (c ∷ s)) 0 ≡ false = search rules in cc)
 
 module _ (levels : ℕ) where
-  abbrev HasTree : List ℕ → Option Node × List ℕ → Type 0
+  abbrev HasTree : List ℕ → Option ExprNode × List ℕ → Type 0
   HasTree s q = Tree levels s q.0 q.1
 
-  pub first_sound : (s : List ℕ) (p : Option Node × List ℕ) → spec.optional_choice levels s ≡ Ok p → HasTree s p
+  pub first_sound : (s : List ℕ) (p : Option ExprNode × List ℕ) → spec.optional_choice levels s ≡ Ok p → HasTree s p
   unfolding spec.optional_choice
   first_sound s p e =
       elim (chosen (eqb (length s) 0 || is_at 64 s) _ _ _ e) [

@@ -1,7 +1,7 @@
 -- What a text is read as, and the place where it leaves the grammar. `colon_letter`, `passes`, `takes_colon` and `fault_place` are needed by `expression_of` and private functions alone.
 use Rattle.std.specs.Prelude.{◌≡◌, ℕ, suc, ◌+◌, ◌-◌, ◌≤◌, Bool, true, false, nat_le, ◌&&◌, ◌||◌, ◌==◌, if◌then◌else◌, List, [], ◌∷◌, ◌++◌, length, take, drop, Result, Ok, Err}
-use Rattle.htl_expr.specs.declared.stop.Stop.{Stop}
-use Rattle.htl_expr.specs.declared.stop.Stop.TheVariants as stop
+use Rattle.htl_expr.specs.declared.stop.ExprStop.{ExprStop}
+use Rattle.htl_expr.specs.declared.stop.ExprStop.TheVariants as stop
 use Rattle.htl_expr.specs.declared.expression.Expr.{Expr}
 use Rattle.htl_expr.specs.declared.expression.ExprFault.{ExprFault}
 use Rattle.htl_expr.specs.declared.expression.ExprFault.TheVariants.{NoMemory, Unexpected, TooDeep}
@@ -14,7 +14,7 @@ abbrev pub colon_letter : List ℕ
 colon_letter = 58 ∷ 98 ∷ []
 
 -- whether reading passes the colon, where a colon and a letter stand at the end
-abbrev pub passes : Result Expr Stop → Bool
+abbrev pub passes : Result Expr ExprStop → Bool
 passes (Ok e) = true
 passes (Err stop.Memory) = false
 passes (Err (stop.Unexpected left)) = nat_le left 1
@@ -29,7 +29,7 @@ abbrev pub fault_place : ℕ → List ℕ → ℕ → ℕ
 fault_place levels t place = if is_at 58 (drop place t) && takes_colon levels (take place t) then place + 1 else place
 
 -- the answer of the reading, with its place counted from the front
-abbrev pub expression_answer : ℕ → List ℕ → Result Expr Stop → Result Expr ExprFault
+abbrev pub expression_answer : ℕ → List ℕ → Result Expr ExprStop → Result Expr ExprFault
 expression_answer levels t (Ok e) = Ok e
 expression_answer levels t (Err stop.Memory) = Err NoMemory
 expression_answer levels t (Err (stop.Unexpected left)) = Err (Unexpected (fault_place levels t (length t - left)))

@@ -1,10 +1,10 @@
 -- Reading an expression from left to right, with the first fault that is met.
 use Rattle.std.specs.Prelude.{ℕ, zero, suc, Bool, true, false, nat_eq, if◌then◌else◌, ◌==◌, ◌||◌, ◌&&◌, List, [], ◌∷◌, ◌++◌, length, drop, Option, Some, None, is_none, Result, Ok, Err, codes, slice_index}
 use Rattle.std.specs.Cmp.Lexicographic.{pointwise}
-use Rattle.htl_expr.specs.declared.stop.Stop.{Stop}
-use Rattle.htl_expr.specs.declared.stop.Stop.TheVariants.{Unexpected, TooDeep}
-use Rattle.htl_expr.specs.declared.node.Node.{Node}
-use Rattle.htl_expr.specs.declared.node.Node.TheVariants as n
+use Rattle.htl_expr.specs.declared.stop.ExprStop.{ExprStop}
+use Rattle.htl_expr.specs.declared.stop.ExprStop.TheVariants.{Unexpected, TooDeep}
+use Rattle.htl_expr.specs.declared.node.ExprNode.{ExprNode}
+use Rattle.htl_expr.specs.declared.node.ExprNode.TheVariants as n
 use Rattle.htl_expr.specs.declared.node.Comparison.{Comparison}
 use Rattle.htl_expr.specs.declared.node.Comparison.TheVariants.{Equal, NotEqual, Below, Above, AtMost, AtLeast}
 use Rattle.htl_expr.specs.declared.expression.Context.{Context}
@@ -16,16 +16,16 @@ use Rattle.htl_expr.specs.declared.reader.Inside.TheVariants.{Choice, Operand, I
 use Rattle.htl_expr.specs.Tokens.{Outcome, ◌>>=◌, blanks_skipped, is_at, begins, is_expression_digit, is_quote, read_name, expect, second, literal, string, signed_number}
 
 -- without accesses there is no node for them
-abbrev pub access_of : Node → List (List ℕ) → Node
+abbrev pub access_of : ExprNode → List (List ℕ) → ExprNode
 access_of e [] = e
 access_of e (f ∷ fs) = n.Access e (f ∷ fs)
 
 -- one operand is itself
-abbrev pub and_of : Node → List Node → Node
+abbrev pub and_of : ExprNode → List ExprNode → ExprNode
 and_of e [] = e
 and_of e (f ∷ fs) = n.And e (f ∷ fs)
 
-abbrev pub or_of : Node → List Node → Node
+abbrev pub or_of : ExprNode → List ExprNode → ExprNode
 or_of e [] = e
 or_of e (f ∷ fs) = n.Or e (f ∷ fs)
 
@@ -34,11 +34,11 @@ abbrev pub is_text : List ℕ → List ℕ → Bool
 is_text w text = pointwise nat_eq w text
 
 -- the literals `true` and `false`, or a variable
-abbrev pub word_node : List ℕ → Node
+abbrev pub word_node : List ℕ → ExprNode
 word_node w = if is_text w (codes "true") then n.Truth true else (if is_text w (codes "false") then n.Truth false else n.Variable w)
 
 -- the names that must be followed by an access
-abbrev pub object_of : List ℕ → Option (List ℕ → Node)
+abbrev pub object_of : List ℕ → Option (List ℕ → ExprNode)
 object_of w = if is_text w (codes "properties") then Some n.Property else (if is_text w (codes "resource") then Some n.Resource else None)
 
 -- ---- comparisons, of which the longest counts
@@ -62,11 +62,11 @@ comparison t =
 -- ---- items after the first; each turn takes a byte, so the count of bytes is enough
 
 -- what stands between the items: `&&`, `||` or `,`
-abbrev pub between : ℕ → List ℕ → Result (List ℕ) Stop
+abbrev pub between : ℕ → List ℕ → Result (List ℕ) ExprStop
 between c t = if c == 44 then expect c t else second c t
 
 -- items and what stands between them, up to a byte that begins no separator
-unfoldable pub chain : (List ℕ → Outcome Node) → ℕ → ℕ → List Node → List ℕ → Outcome (List Node)
+unfoldable pub chain : (List ℕ → Outcome ExprNode) → ℕ → ℕ → List ExprNode → List ℕ → Outcome (List ExprNode)
 chain item c zero found t = Ok (found, t)
 chain item c (suc k) found t = if is_at c t then (do
   r ← between c t
@@ -96,22 +96,22 @@ module _ (depth : ℕ) where
   unfoldable pub first_access : List ℕ → Outcome (List ℕ)
   first_access t = if access_at t then access t else Err (Unexpected (length t))
 
-  abbrev pub name_or_object_of : Option (List ℕ → Node) → List ℕ → List ℕ → Outcome Node
+  abbrev pub name_or_object_of : Option (List ℕ → ExprNode) → List ℕ → List ℕ → Outcome ExprNode
   name_or_object_of None w t = Ok (word_node w, t)
   name_or_object_of (Some make) w t = first_access t >>= λ f. Ok (make f.0, f.1)
 
-  unfoldable pub name_or_object : List ℕ → Outcome Node
+  unfoldable pub name_or_object : List ℕ → Outcome ExprNode
   name_or_object t = read_name Name t >>= λ x. name_or_object_of (object_of x.0) x.0 x.1
 
-  unfoldable pub leaf : List ℕ → Outcome Node
+  unfoldable pub leaf : List ℕ → Outcome ExprNode
   leaf t =
       if begins is_quote t then (string t >>= λ x. Ok (n.Text x.0, x.1))
       else if is_at 45 t || begins is_expression_digit t then (signed_number t >>= λ x. Ok (n.Long x.0, x.1))
       else name_or_object t
 
   -- Inside, what nests is read; the text begins at the byte that nests it.
-  module _ (inner : Inside → List ℕ → Outcome Node) where
-    unfoldable pub start : List ℕ → Outcome Node
+  module _ (inner : Inside → List ℕ → Outcome ExprNode) where
+    unfoldable pub start : List ℕ → Outcome ExprNode
     start t =
         if is_at 40 t then (do
           x ← inner Choice t
@@ -123,16 +123,16 @@ module _ (depth : ℕ) where
           Ok (x.0, r))
         else leaf t
 
-    unfoldable pub atom : List ℕ → Outcome Node
+    unfoldable pub atom : List ℕ → Outcome ExprNode
     atom t = do
       x ← start t
       fs ← accesses (length x.1) [] x.1
       Ok (access_of x.0 fs.0, fs.1)
 
-    unfoldable pub operand : List ℕ → Outcome Node
+    unfoldable pub operand : List ℕ → Outcome ExprNode
     operand t = if is_at 33 t then (inner Operand t >>= λ x. Ok (n.Not x.0, x.1)) else atom t
 
-    unfoldable pub compare : List ℕ → Outcome Node
+    unfoldable pub compare : List ℕ → Outcome ExprNode
     compare t = do
       a ← operand t
       if compares a.1 then (do
@@ -140,22 +140,22 @@ module _ (depth : ℕ) where
         b ← operand op.1
         Ok (n.Compare op.0 a.0 b.0, b.1)) else Ok a
 
-    unfoldable pub both : List ℕ → Outcome Node
+    unfoldable pub both : List ℕ → Outcome ExprNode
     both t = do
       x ← compare t
       xs ← chain compare 38 (length x.1) [] x.1
       Ok (and_of x.0 xs.0, xs.1)
 
-    unfoldable pub either : List ℕ → Outcome Node
+    unfoldable pub either : List ℕ → Outcome ExprNode
     either t = do
       x ← both t
       xs ← chain both 124 (length x.1) [] x.1
       Ok (or_of x.0 xs.0, xs.1)
 
-    unfoldable pub other_choice : List ℕ → Outcome Node
+    unfoldable pub other_choice : List ℕ → Outcome ExprNode
     other_choice t = if is_at 58 t then inner Choice t else Err (Unexpected (length t))
 
-    unfoldable pub choice : List ℕ → Outcome Node
+    unfoldable pub choice : List ℕ → Outcome ExprNode
     choice t = do
       c ← either t
       if is_at 63 c.1 then (do
@@ -164,19 +164,19 @@ module _ (depth : ℕ) where
         Ok (n.Choice c.0 a.0 b.0, b.1)) else Ok c
 
     -- the items of a list, up to the bracket that closes it
-    unfoldable pub items : List ℕ → Outcome Node
+    unfoldable pub items : List ℕ → Outcome ExprNode
     items t = if is_at 93 t then Ok (n.List [], t) else (do
       x ← choice t
       xs ← chain choice 44 (length x.1) (x.0 ∷ []) x.1
       Ok (n.List xs.0, xs.1))
 
-    abbrev pub level : Inside → List ℕ → Outcome Node
+    abbrev pub level : Inside → List ℕ → Outcome ExprNode
     level Choice = choice
     level Operand = operand
     level Items = items
 
 -- what stands after the byte that nests it
-unfoldable pub nesting : ℕ → Inside → List ℕ → Outcome Node
+unfoldable pub nesting : ℕ → Inside → List ℕ → Outcome ExprNode
 nesting zero which t = Err (TooDeep (length t))
 nesting (suc depth) which t = level depth (nesting depth) which (blanks_skipped (drop 1 t))
 
@@ -218,15 +218,15 @@ options t = if is_at 64 t then (do
   if is_at 44 o.1 then option o.0 (blanks_skipped (drop 1 o.1)) else Ok o) else Ok ((None, None), t)
 
 -- nothing, or a choice in which so many levels may nest
-unfoldable pub optional_choice : ℕ → List ℕ → Outcome (Option Node)
+unfoldable pub optional_choice : ℕ → List ℕ → Outcome (Option ExprNode)
 optional_choice levels t = if length t == 0 || is_at 64 t then Ok (None, t) else (choice levels (nesting levels) t >>= λ x. Ok (Some x.0, x.1))
 
 -- an expression of a tree and the options that are given
-abbrev pub expr_of : Option Node → Given → Expr
+abbrev pub expr_of : Option ExprNode → Given → Expr
 expr_of node given = record { node = node; join = given.0; context = given.1 }
 
 -- the whole text, in which so many levels may nest
-unfoldable pub expression_read : ℕ → List ℕ → Result Expr Stop
+unfoldable pub expression_read : ℕ → List ℕ → Result Expr ExprStop
 expression_read levels t = do
   x ← optional_choice levels (blanks_skipped t)
   o ← options x.1

@@ -1,28 +1,28 @@
 -- The tokens at the front of a text. A token is read with the blanks after it (HTL specification 1.4, "Expression Language").
 use Rattle.std.specs.Prelude.{◌≡◌, ◌<◌, ℕ, ℤ, pos, neg_ℤ, suc, ◌+◌, ◌*◌, ◌-◌, Bool, true, false, ◌||◌, ◌&&◌, if◌then◌else◌, ◌==◌, nat_le, List, [], ◌∷◌, ◌++◌, length, take, drop, Option, Some, None, Result, Ok, Err, slice_index}
-use Rattle.htl_expr.specs.declared.stop.Stop.{Stop}
-use Rattle.htl_expr.specs.declared.stop.Stop.TheVariants.{Memory, Unexpected, TooDeep}
+use Rattle.htl_expr.specs.declared.stop.ExprStop.{ExprStop}
+use Rattle.htl_expr.specs.declared.stop.ExprStop.TheVariants.{Memory, Unexpected, TooDeep}
 use Rattle.htl_expr.specs.declared.tokens.NameKind.{NameKind}
 use Rattle.htl_expr.specs.declared.tokens.NameKind.TheVariants.{Name, Field}
 
 -- what was read and the text after it, or why nothing was
 abbrev pub Outcome : Type 0 → Type 0
-Outcome A = Result (A × List ℕ) Stop
+Outcome A = Result (A × List ℕ) ExprStop
 
 infixl 10 ◌>>=◌
 -- a step, and the next one with what the first gave
-abbrev pub ◌>>=◌ : {A B : Type 0} → Result A Stop → (A → Result B Stop) → Result B Stop
+abbrev pub ◌>>=◌ : {A B : Type 0} → Result A ExprStop → (A → Result B ExprStop) → Result B ExprStop
 (Ok x) >>= f = f x
 (Err e) >>= f = Err e
 
 -- the reason is that of the reading, unless memory ran out
-abbrev pub Fails : {Y : Type 0} → Stop → Result Y Stop → Type 0
+abbrev pub Fails : {Y : Type 0} → ExprStop → Result Y ExprStop → Type 0
 Fails Memory read = Unit {0}
 Fails (Unexpected n) read = read ≡ Err (Unexpected n)
 Fails (TooDeep n) read = read ≡ Err (TooDeep n)
 
 -- what a function returned, seen by view, is what reading gives, unless memory ran out
-abbrev pub Gives : {X Y : Type 0} → (X → Y) → Result X Stop → Result Y Stop → Type 0
+abbrev pub Gives : {X Y : Type 0} → (X → Y) → Result X ExprStop → Result Y ExprStop → Type 0
 Gives view (Ok x) read = read ≡ Ok (view x)
 Gives view (Err e) read = Fails e read
 
@@ -76,7 +76,7 @@ name_len kind [] = 0
 name_len kind (c ∷ t) = if goes_on kind (c ∷ t) then suc (name_len kind t) else 0
 
 -- a step that reads nothing
-abbrev pub done : {A : Type 0} → A → Result A Stop
+abbrev pub done : {A : Type 0} → A → Result A ExprStop
 done x = Ok x
 
 -- the bytes of a name, and the text after it
@@ -88,15 +88,15 @@ unfoldable pub read_name : NameKind → List ℕ → Outcome (List ℕ)
 read_name kind t = if begins is_first t then Ok (run kind t) else Err (Unexpected (length t))
 
 -- one byte
-unfoldable pub expect : ℕ → List ℕ → Result (List ℕ) Stop
+unfoldable pub expect : ℕ → List ℕ → Result (List ℕ) ExprStop
 expect c t = if is_at c t then Ok (blanks_skipped (drop 1 t)) else Err (Unexpected (length t))
 
 -- an operator of two bytes, of which the first is there
-unfoldable pub second : ℕ → List ℕ → Result (List ℕ) Stop
+unfoldable pub second : ℕ → List ℕ → Result (List ℕ) ExprStop
 second c t = expect c (drop 1 t)
 
 -- a word byte by byte
-unfoldable pub literal : List ℕ → List ℕ → Result (List ℕ) Stop
+unfoldable pub literal : List ℕ → List ℕ → Result (List ℕ) ExprStop
 literal [] t = Ok t
 literal (c ∷ w) t = if is_at c t then literal w (drop 1 t) else Err (Unexpected (length t))
 

@@ -12,8 +12,8 @@ use Rattle.htl_expr.specs.declared.out.Out.TheVariants as out
 use Rattle.htl_expr.specs.declared.scope.Scope.{Scope}
 use Rattle.htl_expr.specs.declared.node.Comparison.{Comparison}
 use Rattle.htl_expr.specs.declared.node.Comparison.TheVariants.{Equal, NotEqual, Below, Above, AtMost, AtLeast}
-use Rattle.htl_expr.specs.declared.node.Node.{Node, fold-Node}
-use Rattle.htl_expr.specs.declared.node.Node.TheOpen.{Node-F}
+use Rattle.htl_expr.specs.declared.node.ExprNode.{ExprNode, fold-ExprNode}
+use Rattle.htl_expr.specs.declared.node.ExprNode.TheOpen.{ExprNode-F}
 use Rattle.htl_expr.specs.declared.expression.Expr.{Expr}
 use Rattle.htl_expr.specs.Print.{truth_text, plain, join_text, in_context}
 
@@ -97,27 +97,27 @@ abbrev pub resource : Scope → List ℕ → Out
 resource scope name = text_or_nothing (field scope name)
 
 -- a node, with the values of the nodes that it holds
-abbrev pub value_step : Scope → Node-F Out → Out
-value_step scope (Node-F.Text text) = out.Text text
-value_step scope (Node-F.Long n) = out.Long n
-value_step scope (Node-F.Truth b) = out.Truth b
-value_step scope (Node-F.Variable name) = out.Nothing
-value_step scope (Node-F.Property name) = property scope name
-value_step scope (Node-F.Resource name) = resource scope name
-value_step scope (Node-F.List items) = out.List (item_texts items)
-value_step scope (Node-F.Access v names) = out.Nothing
-value_step scope (Node-F.Not v) = out.Truth (not (is_true v))
-value_step scope (Node-F.Compare comparison a b) = out.Truth (comparison_holds comparison a b)
-value_step scope (Node-F.And a more) = and_values a more
-value_step scope (Node-F.Or a more) = or_values a more
-value_step scope (Node-F.Choice condition a b) = if is_true condition then a else b
+abbrev pub value_step : Scope → ExprNode-F Out → Out
+value_step scope (ExprNode-F.Text text) = out.Text text
+value_step scope (ExprNode-F.Long n) = out.Long n
+value_step scope (ExprNode-F.Truth b) = out.Truth b
+value_step scope (ExprNode-F.Variable name) = out.Nothing
+value_step scope (ExprNode-F.Property name) = property scope name
+value_step scope (ExprNode-F.Resource name) = resource scope name
+value_step scope (ExprNode-F.List items) = out.List (item_texts items)
+value_step scope (ExprNode-F.Access v names) = out.Nothing
+value_step scope (ExprNode-F.Not v) = out.Truth (not (is_true v))
+value_step scope (ExprNode-F.Compare comparison a b) = out.Truth (comparison_holds comparison a b)
+value_step scope (ExprNode-F.And a more) = and_values a more
+value_step scope (ExprNode-F.Or a more) = or_values a more
+value_step scope (ExprNode-F.Choice condition a b) = if is_true condition then a else b
 
 -- the value of a tree
-abbrev pub value : Scope → Node → Out
-value scope = fold-Node Out (value_step scope)
+abbrev pub value : Scope → ExprNode → Out
+value scope = fold-ExprNode Out (value_step scope)
 
 -- an expression without a tree is nothing
-abbrev pub value_or_nothing : Scope → Option Node → Out
+abbrev pub value_or_nothing : Scope → Option ExprNode → Out
 value_or_nothing scope None = out.Nothing
 value_or_nothing scope (Some node) = value scope node
 

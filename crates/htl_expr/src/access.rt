@@ -5,20 +5,20 @@ ghost use Rattle.htl_expr.specs.Read as spec;
 ghost use Rattle.htl_expr.specs.Tokens as tokens;
 ghost use Rattle.htl_expr.specs.Tokens.{Gives};
 
-use crate::node::Node;
-use crate::stop::Stop;
+use crate::node::ExprNode;
+use crate::stop::ExprStop;
 use crate::tokens::{NameKind, behind, expect, is_at, name, string};
 use sp_base::{TextBuf, TextList};
 use sqlite_items::Boxed;
 use std::alloc::{AllocError, Global};
 
-pub fn access_of(alloc: Global, e: Node, fields: TextList) -> Result<Node, AllocError>
+pub fn access_of(alloc: Global, e: ExprNode, fields: TextList) -> Result<ExprNode, AllocError>
     ensures { IfOk result (λ r. r ≡ spec.access_of e fields) }
 {
     if fields.len() == 0 {
         return Ok(e);
     }
-    Ok(Node::Access(Boxed::new(alloc, e)?, fields))
+    Ok(ExprNode::Access(Boxed::new(alloc, e)?, fields))
 }
 
 #[tactic(auto, unfolding(crate::specs::Read::access_at))]
@@ -29,12 +29,12 @@ fn access_at(text: &str) -> bool
 }
 
 #[tactic(auto, unfolding(crate::specs::Read::bracket_access))]
-fn bracket_access(alloc: Global, depth: u32, text: &str) -> Result<(TextBuf, &str), Stop>
+fn bracket_access(alloc: Global, depth: u32, text: &str) -> Result<(TextBuf, &str), ExprStop>
     requires { tokens.is_at 91 text.now ≡ true }
     ensures { Gives (λ x. (x.0, x.1.now)) result (spec.bracket_access depth text.now) }
 {
     if depth == 0 {
-        return Err(Stop::TooDeep(text.len()));
+        return Err(ExprStop::TooDeep(text.len()));
     }
     let (s, rest) = string(alloc, behind(b'[', text))?;
     let rest = expect(b']', rest)?;
@@ -42,7 +42,7 @@ fn bracket_access(alloc: Global, depth: u32, text: &str) -> Result<(TextBuf, &st
 }
 
 #[tactic(auto, unfolding(crate::specs::Read::access, crate::specs::Read::access_at))]
-fn access(alloc: Global, depth: u32, text: &str) -> Result<(TextBuf, &str), Stop>
+fn access(alloc: Global, depth: u32, text: &str) -> Result<(TextBuf, &str), ExprStop>
     requires { spec.access_at text.now ≡ true }
     ensures { Gives (λ x. (x.0, x.1.now)) result (spec.access depth text.now) }
 {
@@ -55,18 +55,18 @@ fn access(alloc: Global, depth: u32, text: &str) -> Result<(TextBuf, &str), Stop
 
 /// An access that has to be there.
 #[tactic(auto, unfolding(crate::specs::Read::first_access))]
-pub fn first_access(alloc: Global, depth: u32, text: &str) -> Result<(TextBuf, &str), Stop>
+pub fn first_access(alloc: Global, depth: u32, text: &str) -> Result<(TextBuf, &str), ExprStop>
     ensures { Gives (λ x. (x.0, x.1.now)) result (spec.first_access depth text.now) }
 {
     if access_at(text) {
         access(alloc, depth, text)
     } else {
-        Err(Stop::Unexpected(text.len()))
+        Err(ExprStop::Unexpected(text.len()))
     }
 }
 
 #[tactic(auto, unfolding(crate::specs::Read::accesses))]
-pub fn accesses(alloc: Global, depth: u32, text: &str) -> Result<(TextList, &str), Stop>
+pub fn accesses(alloc: Global, depth: u32, text: &str) -> Result<(TextList, &str), ExprStop>
     ensures { Gives (λ x. (x.0, x.1.now)) result (spec.accesses depth (length text.now) [] text.now) }
 {
     let mut found = TextList::new(alloc);

@@ -7,10 +7,10 @@ ghost use Rattle.htl_expr.specs.Grammar.{nesting_limit, Whole};
 ghost use Rattle.htl_expr.specs.declared.expression.Expr.{Expr};
 ghost use Rattle.htl_expr.specs.Fault.{takes_colon, fault_place, expression_of, IsReadAs, IsExpressionFault};
 
-use crate::node::Node;
+use crate::node::ExprNode;
 use crate::options::{Options, read_options};
 use crate::reader::first;
-use crate::stop::Stop;
+use crate::stop::ExprStop;
 use crate::tokens::skip;
 use sp_base::{Mem, NoMemory, TextBuf};
 use std::alloc::Global;
@@ -35,7 +35,7 @@ pub enum Context {
 /// An expression with its options.
 #[derive(Drop)]
 pub struct Expr {
-    pub(crate) node: Option<Node>,
+    pub(crate) node: Option<ExprNode>,
     pub(crate) join: Option<TextBuf>,
     pub(crate) context: Option<Context>,
 }
@@ -51,7 +51,7 @@ fn colon_at(text: &[u8]) -> bool
 }
 
 #[tactic(auto, unfolding(crate::specs::Read::expression_read))]
-fn whole(alloc: Global, text: &str) -> Result<Expr, Stop>
+fn whole(alloc: Global, text: &str) -> Result<Expr, ExprStop>
     ensures { Gives (λ e. e) result (spec.expression_read nesting_limit text.now) }
 {
     let (node, rest) = first(alloc, skip(text))?;
@@ -63,7 +63,7 @@ fn whole(alloc: Global, text: &str) -> Result<Expr, Stop>
             context,
         })
     } else {
-        Err(Stop::Unexpected(rest.len()))
+        Err(ExprStop::Unexpected(rest.len()))
     }
 }
 
@@ -75,9 +75,9 @@ fn takes_colon(alloc: Global, front: &str) -> Mem<bool>
     text.push_str(":b")?;
     match whole(alloc, text.as_str()) {
         Ok(_) => Ok(true),
-        Err(Stop::Memory) => Err(NoMemory),
-        Err(Stop::Unexpected(left)) => Ok(left <= 1),
-        Err(Stop::TooDeep(_)) => Ok(false),
+        Err(ExprStop::Memory) => Err(NoMemory),
+        Err(ExprStop::Unexpected(left)) => Ok(left <= 1),
+        Err(ExprStop::TooDeep(_)) => Ok(false),
     }
 }
 
@@ -115,14 +115,16 @@ impl Expr {
     {
         match whole(alloc, text) {
             Ok(e) => Ok(e),
-            Err(Stop::Memory) => Err(ExprFault::NoMemory),
-            Err(Stop::Unexpected(left)) => {
+            Err(ExprStop::Memory) => Err(ExprFault::NoMemory),
+            Err(ExprStop::Unexpected(left)) => {
                 match place_of(alloc, text, text.len().saturating_sub(left)) {
                     Ok(place) => Err(ExprFault::Unexpected(place)),
                     Err(NoMemory) => Err(ExprFault::NoMemory),
                 }
             }
-            Err(Stop::TooDeep(left)) => Err(ExprFault::TooDeep(text.len().saturating_sub(left))),
+            Err(ExprStop::TooDeep(left)) => Err(ExprFault::TooDeep(
+                text.len().saturating_sub(left),
+            )),
         }
     }
 }

@@ -27,7 +27,7 @@ mod value;
 pub use evaluation::Evaluation;
 pub use expression::{Context, Expr, ExprFault};
 pub use laws::{the_reading_is_the_grammar, too_deep_is_the_limit, what_is_written_is_inert};
-pub use node::{Comparison, Node};
+pub use node::{Comparison, ExprNode};
 pub use out::Out;
 pub use room::WriteFault;
 pub use scope::Scope;

@@ -16,7 +16,7 @@ pub enum Comparison {
 
 /// An expression as it is written, without its brackets.
 #[derive(Drop)]
-pub enum Node {
+pub enum ExprNode {
     Text(TextBuf),
     Long(i64),
     Truth(bool),
@@ -27,13 +27,13 @@ pub enum Node {
     /// `resource` and its first access.
     Resource(TextBuf),
     /// The items of a list literal.
-    List(Items<Node>),
+    List(Items<ExprNode>),
     /// The names that follow each other, one at least.
-    Access(Boxed<Node>, TextList),
-    Not(Boxed<Node>),
-    Compare(Comparison, Boxed<Node>, Boxed<Node>),
+    Access(Boxed<ExprNode>, TextList),
+    Not(Boxed<ExprNode>),
+    Compare(Comparison, Boxed<ExprNode>, Boxed<ExprNode>),
     /// The first, and the others, one at least.
-    And(Boxed<Node>, Items<Node>),
-    Or(Boxed<Node>, Items<Node>),
-    Choice(Boxed<Node>, Boxed<Node>, Boxed<Node>),
+    And(Boxed<ExprNode>, Items<ExprNode>),
+    Or(Boxed<ExprNode>, Items<ExprNode>),
+    Choice(Boxed<ExprNode>, Boxed<ExprNode>, Boxed<ExprNode>),
 }

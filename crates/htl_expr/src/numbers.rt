@@ -4,7 +4,7 @@ ghost use Rattle.std.specs.Prelude.{◌≡◌, ◌≤◌, ◌<◌, true, false, 
 ghost use Rattle.htl_expr.specs.Tokens as spec;
 ghost use Rattle.htl_expr.specs.Tokens.{Gives};
 
-use crate::stop::Stop;
+use crate::stop::ExprStop;
 use crate::tokens::{digit_at, is_at, is_digit, skip, tail};
 
 #[tactic(auto, unfolding(crate::specs::Tokens::expression_digit_fits))]
@@ -62,18 +62,18 @@ fn signed(is_negative: bool, magnitude: u64) -> i64
 }
 
 #[tactic(auto, unfolding(crate::specs::Tokens::digits))]
-fn digits(is_negative: bool, text: &str) -> Result<(i64, &str), Stop>
+fn digits(is_negative: bool, text: &str) -> Result<(i64, &str), ExprStop>
     ensures { Gives (λ x. (x.0, x.1.now)) result (spec.digits is_negative text.now) }
 {
     if !digit_at(text) {
-        return Err(Stop::Unexpected(text.len()));
+        return Err(ExprStop::Unexpected(text.len()));
     }
     let (magnitude, rest) = digits_from(limit(is_negative), text);
     Ok((signed(is_negative, magnitude), skip(rest)))
 }
 
 #[tactic(auto, using(crate::proofs::Scan::minus_ascii), unfolding(crate::specs::Tokens::signed_number))]
-pub fn number(text: &str) -> Result<(i64, &str), Stop>
+pub fn number(text: &str) -> Result<(i64, &str), ExprStop>
     ensures { Gives (λ x. (x.0, x.1.now)) result (spec.signed_number text.now) }
 {
     if is_at(b'-', text) {

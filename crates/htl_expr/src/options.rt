@@ -6,7 +6,7 @@ ghost use Rattle.htl_expr.specs.Tokens as tokens;
 ghost use Rattle.htl_expr.specs.Tokens.{Gives};
 
 use crate::expression::Context;
-use crate::stop::Stop;
+use crate::stop::ExprStop;
 use crate::tokens::{behind, expect, is_at, is_quote, literal, skip, string, tail};
 use sp_base::TextBuf;
 use std::alloc::Global;
@@ -19,7 +19,7 @@ pub struct Options {
 }
 
 #[tactic(auto, unfolding(crate::specs::Read::context_word))]
-fn context_word(text: &str) -> Result<(Context, &str), Stop>
+fn context_word(text: &str) -> Result<(Context, &str), ExprStop>
     ensures { Gives (λ x. (x.0, x.1.now)) result (spec.context_word text.now) }
 {
     if is_at(b't', text) {
@@ -33,14 +33,14 @@ fn context_word(text: &str) -> Result<(Context, &str), Stop>
 
 /// `'text'` or `'unsafe'` with either mark.
 #[tactic(auto, using(crate::proofs::Strings::quote_ascii), unfolding(crate::specs::Read::context_string, crate::specs::Tokens::begins))]
-fn context_string(text: &str) -> Result<(Context, &str), Stop>
+fn context_string(text: &str) -> Result<(Context, &str), ExprStop>
     ensures { Gives (λ x. (x.0, x.1.now)) result (spec.context_string text.now) }
 {
     match text.as_bytes() {
-        [] => Err(Stop::Unexpected(0)),
+        [] => Err(ExprStop::Unexpected(0)),
         [mark, ..] => {
             if !is_quote(*mark) {
-                return Err(Stop::Unexpected(text.len()));
+                return Err(ExprStop::Unexpected(text.len()));
             }
             let (context, rest) = context_word(tail(text))?;
             let rest = expect(*mark, rest)?;
@@ -50,7 +50,7 @@ fn context_string(text: &str) -> Result<(Context, &str), Stop>
 }
 
 #[tactic(auto, unfolding(crate::specs::Read::join_option))]
-fn join_option(alloc: Global, text: &str) -> Result<(TextBuf, &str), Stop>
+fn join_option(alloc: Global, text: &str) -> Result<(TextBuf, &str), ExprStop>
     ensures { Gives (λ x. (x.0, x.1.now)) result (spec.join_option text.now) }
 {
     let rest = literal(b"join", text)?;
@@ -59,7 +59,7 @@ fn join_option(alloc: Global, text: &str) -> Result<(TextBuf, &str), Stop>
 }
 
 #[tactic(auto, unfolding(crate::specs::Read::context_option))]
-fn context_option(text: &str) -> Result<(Context, &str), Stop>
+fn context_option(text: &str) -> Result<(Context, &str), ExprStop>
     ensures { Gives (λ x. (x.0, x.1.now)) result (spec.context_option text.now) }
 {
     let rest = literal(b"context", text)?;
@@ -69,7 +69,11 @@ fn context_option(text: &str) -> Result<(Context, &str), Stop>
 
 /// An option that isn't given yet.
 #[tactic(auto, unfolding(crate::specs::Read::option))]
-fn read_option<'a>(alloc: Global, given: Options, text: &'a str) -> Result<(Options, &'a str), Stop>
+fn read_option<'a>(
+    alloc: Global,
+    given: Options,
+    text: &'a str,
+) -> Result<(Options, &'a str), ExprStop>
     ensures { Gives (λ x. ((x.0.join, x.0.context), x.1.now)) result (spec.option (given.join, given.context) text.now) }
 {
     let Options { join, context } = given;
@@ -82,13 +86,13 @@ fn read_option<'a>(alloc: Global, given: Options, text: &'a str) -> Result<(Opti
         let context = Some(word);
         Ok((Options { join, context }, rest))
     } else {
-        Err(Stop::Unexpected(text.len()))
+        Err(ExprStop::Unexpected(text.len()))
     }
 }
 
 /// Each option once at most.
 #[tactic(auto, unfolding(crate::specs::Read::options))]
-pub fn read_options(alloc: Global, text: &str) -> Result<(Options, &str), Stop>
+pub fn read_options(alloc: Global, text: &str) -> Result<(Options, &str), ExprStop>
     ensures { Gives (λ x. ((x.0.join, x.0.context), x.1.now)) result (spec.options text.now) }
 {
     let none = Options {

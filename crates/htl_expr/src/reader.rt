@@ -7,9 +7,9 @@ ghost use Rattle.htl_expr.specs.Read as spec;
 ghost use Rattle.htl_expr.specs.Grammar.{nesting_limit};
 
 use crate::access::{access_of, accesses, first_access};
-use crate::node::{Comparison, Node};
+use crate::node::{Comparison, ExprNode};
 use crate::numbers::number;
-use crate::stop::Stop;
+use crate::stop::ExprStop;
 use crate::tokens::{
     NameKind, behind, digit_at, expect, is_at, name, quote_at, second, skip, string, tail,
 };
@@ -25,33 +25,33 @@ pub enum Inside {
     Items,
 }
 
-fn and_of(alloc: Global, e: Node, more: NodeList<Node>) -> Result<Node, AllocError>
+fn and_of(alloc: Global, e: ExprNode, more: NodeList<ExprNode>) -> Result<ExprNode, AllocError>
     ensures { IfOk result (λ r. r ≡ spec.and_of e more) }
 {
     if more.len() == 0 {
         return Ok(e);
     }
-    Ok(Node::And(Boxed::new(alloc, e)?, more))
+    Ok(ExprNode::And(Boxed::new(alloc, e)?, more))
 }
 
-fn or_of(alloc: Global, e: Node, more: NodeList<Node>) -> Result<Node, AllocError>
+fn or_of(alloc: Global, e: ExprNode, more: NodeList<ExprNode>) -> Result<ExprNode, AllocError>
     ensures { IfOk result (λ r. r ≡ spec.or_of e more) }
 {
     if more.len() == 0 {
         return Ok(e);
     }
-    Ok(Node::Or(Boxed::new(alloc, e)?, more))
+    Ok(ExprNode::Or(Boxed::new(alloc, e)?, more))
 }
 
-fn word_of(word: TextBuf) -> Node
+fn word_of(word: TextBuf) -> ExprNode
     ensures { result ≡ spec.word_node word }
 {
     if word.text() == "true" {
-        Node::Truth(true)
+        ExprNode::Truth(true)
     } else if word.text() == "false" {
-        Node::Truth(false)
+        ExprNode::Truth(false)
     } else {
-        Node::Variable(word)
+        ExprNode::Variable(word)
     }
 }
 
@@ -77,7 +77,7 @@ fn or_equal(bare: Comparison, equal: Comparison, text: &str) -> (Comparison, &st
 }
 
 #[tactic(auto, using(crate::proofs::Scan::front_ascii), unfolding(crate::specs::Read::comparison, crate::specs::Read::compares))]
-fn comparison(text: &str) -> Result<(Comparison, &str), Stop>
+fn comparison(text: &str) -> Result<(Comparison, &str), ExprStop>
     requires { spec.compares text.now ≡ true }
     ensures { Gives (λ x. (x.0, x.1.now)) result (spec.comparison text.now) }
 {
@@ -96,31 +96,31 @@ fn comparison(text: &str) -> Result<(Comparison, &str), Stop>
 
 /// A literal or a variable; `properties` and `resource` with their first access.
 #[tactic(auto, unfolding(crate::specs::Read::name_or_object))]
-fn name_or_object(alloc: Global, depth: u32, text: &str) -> Result<(Node, &str), Stop>
+fn name_or_object(alloc: Global, depth: u32, text: &str) -> Result<(ExprNode, &str), ExprStop>
     ensures { Gives (λ x. (x.0, x.1.now)) result (spec.name_or_object depth text.now) }
 {
     let (word, rest) = name(alloc, NameKind::Name, text)?;
     if word.text() == "properties" {
         let (field, rest) = first_access(alloc, depth, rest)?;
-        Ok((Node::Property(field), rest))
+        Ok((ExprNode::Property(field), rest))
     } else if word.text() == "resource" {
         let (field, rest) = first_access(alloc, depth, rest)?;
-        Ok((Node::Resource(field), rest))
+        Ok((ExprNode::Resource(field), rest))
     } else {
         Ok((word_of(word), rest))
     }
 }
 
 #[tactic(auto, unfolding(crate::specs::Read::leaf))]
-fn leaf(alloc: Global, depth: u32, text: &str) -> Result<(Node, &str), Stop>
+fn leaf(alloc: Global, depth: u32, text: &str) -> Result<(ExprNode, &str), ExprStop>
     ensures { Gives (λ x. (x.0, x.1.now)) result (spec.leaf depth text.now) }
 {
     if quote_at(text) {
         let (s, rest) = string(alloc, text)?;
-        Ok((Node::Text(s), rest))
+        Ok((ExprNode::Text(s), rest))
     } else if is_at(b'-', text) || digit_at(text) {
         let (n, rest) = number(text)?;
-        Ok((Node::Long(n), rest))
+        Ok((ExprNode::Long(n), rest))
     } else {
         name_or_object(alloc, depth, text)
     }
@@ -129,12 +129,17 @@ fn leaf(alloc: Global, depth: u32, text: &str) -> Result<(Node, &str), Stop>
 /// What stands after the byte that nests it.
 #[cycle(reader)]
 #[tactic(auto, unfolding(crate::specs::Read::nesting))]
-fn nesting(alloc: Global, depth: u32, inside: Inside, text: &str) -> Result<(Node, &str), Stop>
+fn nesting(
+    alloc: Global,
+    depth: u32,
+    inside: Inside,
+    text: &str,
+) -> Result<(ExprNode, &str), ExprStop>
     requires { slice_index text.now 0 < 128 }
     ensures { Gives (λ x. (x.0, x.1.now)) result (spec.nesting depth inside text.now) }
 {
     if depth == 0 {
-        return Err(Stop::TooDeep(text.len()));
+        return Err(ExprStop::TooDeep(text.len()));
     }
     let rest = skip(tail(text));
     match inside {
@@ -146,7 +151,7 @@ fn nesting(alloc: Global, depth: u32, inside: Inside, text: &str) -> Result<(Nod
 
 #[cycle(reader)]
 #[tactic(auto, using(crate::proofs::Scan::front_ascii), unfolding(crate::specs::Read::start))]
-fn start(alloc: Global, depth: u32, text: &str) -> Result<(Node, &str), Stop>
+fn start(alloc: Global, depth: u32, text: &str) -> Result<(ExprNode, &str), ExprStop>
     ensures { Gives (λ x. (x.0, x.1.now)) result (spec.start depth (spec.nesting depth) text.now) }
 {
     if is_at(b'(', text) {
@@ -164,7 +169,7 @@ fn start(alloc: Global, depth: u32, text: &str) -> Result<(Node, &str), Stop>
 
 #[cycle(reader)]
 #[tactic(auto, unfolding(crate::specs::Read::atom))]
-fn atom(alloc: Global, depth: u32, text: &str) -> Result<(Node, &str), Stop>
+fn atom(alloc: Global, depth: u32, text: &str) -> Result<(ExprNode, &str), ExprStop>
     ensures { Gives (λ x. (x.0, x.1.now)) result (spec.atom depth (spec.nesting depth) text.now) }
 {
     let (e, rest) = start(alloc, depth, text)?;
@@ -174,19 +179,19 @@ fn atom(alloc: Global, depth: u32, text: &str) -> Result<(Node, &str), Stop>
 
 #[cycle(reader)]
 #[tactic(auto, using(crate::proofs::Scan::front_ascii), unfolding(crate::specs::Read::operand))]
-fn operand(alloc: Global, depth: u32, text: &str) -> Result<(Node, &str), Stop>
+fn operand(alloc: Global, depth: u32, text: &str) -> Result<(ExprNode, &str), ExprStop>
     ensures { Gives (λ x. (x.0, x.1.now)) result (spec.operand depth (spec.nesting depth) text.now) }
 {
     if is_at(b'!', text) {
         let (e, rest) = nesting(alloc, depth, Inside::Operand, text)?;
-        return Ok((Node::Not(Boxed::new(alloc, e)?), rest));
+        return Ok((ExprNode::Not(Boxed::new(alloc, e)?), rest));
     }
     atom(alloc, depth, text)
 }
 
 #[cycle(reader)]
 #[tactic(auto, unfolding(crate::specs::Read::compare))]
-fn compare(alloc: Global, depth: u32, text: &str) -> Result<(Node, &str), Stop>
+fn compare(alloc: Global, depth: u32, text: &str) -> Result<(ExprNode, &str), ExprStop>
     ensures { Gives (λ x. (x.0, x.1.now)) result (spec.compare depth (spec.nesting depth) text.now) }
 {
     let (a, rest) = operand(alloc, depth, text)?;
@@ -196,7 +201,7 @@ fn compare(alloc: Global, depth: u32, text: &str) -> Result<(Node, &str), Stop>
     let (op, rest) = comparison(rest)?;
     let (b, rest) = operand(alloc, depth, rest)?;
     Ok((
-        Node::Compare(op, Boxed::new(alloc, a)?, Boxed::new(alloc, b)?),
+        ExprNode::Compare(op, Boxed::new(alloc, a)?, Boxed::new(alloc, b)?),
         rest,
     ))
 }
@@ -204,7 +209,11 @@ fn compare(alloc: Global, depth: u32, text: &str) -> Result<(Node, &str), Stop>
 /// The operands after the first one and their `&&`.
 #[cycle(reader)]
 #[tactic(auto, using(crate::proofs::Scan::front_ascii), unfolding(crate::specs::Read::chain))]
-fn more_compares(alloc: Global, depth: u32, text: &str) -> Result<(NodeList<Node>, &str), Stop>
+fn more_compares(
+    alloc: Global,
+    depth: u32,
+    text: &str,
+) -> Result<(NodeList<ExprNode>, &str), ExprStop>
     ensures { Gives (λ x. (x.0, x.1.now)) result (spec.chain (spec.compare depth (spec.nesting depth)) 38 (length text.now) [] text.now) }
 {
     let mut found = NodeList::new(alloc);
@@ -223,7 +232,7 @@ fn more_compares(alloc: Global, depth: u32, text: &str) -> Result<(NodeList<Node
 
 #[cycle(reader)]
 #[tactic(auto, unfolding(crate::specs::Read::both))]
-fn both(alloc: Global, depth: u32, text: &str) -> Result<(Node, &str), Stop>
+fn both(alloc: Global, depth: u32, text: &str) -> Result<(ExprNode, &str), ExprStop>
     ensures { Gives (λ x. (x.0, x.1.now)) result (spec.both depth (spec.nesting depth) text.now) }
 {
     let (e, rest) = compare(alloc, depth, text)?;
@@ -234,7 +243,7 @@ fn both(alloc: Global, depth: u32, text: &str) -> Result<(Node, &str), Stop>
 /// The operands after the first one and their `||`.
 #[cycle(reader)]
 #[tactic(auto, using(crate::proofs::Scan::front_ascii), unfolding(crate::specs::Read::chain))]
-fn more_boths(alloc: Global, depth: u32, text: &str) -> Result<(NodeList<Node>, &str), Stop>
+fn more_boths(alloc: Global, depth: u32, text: &str) -> Result<(NodeList<ExprNode>, &str), ExprStop>
     ensures { Gives (λ x. (x.0, x.1.now)) result (spec.chain (spec.both depth (spec.nesting depth)) 124 (length text.now) [] text.now) }
 {
     let mut found = NodeList::new(alloc);
@@ -253,7 +262,7 @@ fn more_boths(alloc: Global, depth: u32, text: &str) -> Result<(NodeList<Node>, 
 
 #[cycle(reader)]
 #[tactic(auto, unfolding(crate::specs::Read::either))]
-fn either(alloc: Global, depth: u32, text: &str) -> Result<(Node, &str), Stop>
+fn either(alloc: Global, depth: u32, text: &str) -> Result<(ExprNode, &str), ExprStop>
     ensures { Gives (λ x. (x.0, x.1.now)) result (spec.either depth (spec.nesting depth) text.now) }
 {
     let (e, rest) = both(alloc, depth, text)?;
@@ -263,19 +272,19 @@ fn either(alloc: Global, depth: u32, text: &str) -> Result<(Node, &str), Stop>
 
 #[cycle(reader)]
 #[tactic(auto, using(crate::proofs::Scan::front_ascii), unfolding(crate::specs::Read::other_choice))]
-fn other_choice(alloc: Global, depth: u32, text: &str) -> Result<(Node, &str), Stop>
+fn other_choice(alloc: Global, depth: u32, text: &str) -> Result<(ExprNode, &str), ExprStop>
     ensures { Gives (λ x. (x.0, x.1.now)) result (spec.other_choice depth (spec.nesting depth) text.now) }
 {
     if is_at(b':', text) {
         nesting(alloc, depth, Inside::Choice, text)
     } else {
-        Err(Stop::Unexpected(text.len()))
+        Err(ExprStop::Unexpected(text.len()))
     }
 }
 
 #[cycle(reader)]
 #[tactic(auto, using(crate::proofs::Scan::front_ascii), unfolding(crate::specs::Read::choice))]
-fn choice(alloc: Global, depth: u32, text: &str) -> Result<(Node, &str), Stop>
+fn choice(alloc: Global, depth: u32, text: &str) -> Result<(ExprNode, &str), ExprStop>
     ensures { Gives (λ x. (x.0, x.1.now)) result (spec.choice depth (spec.nesting depth) text.now) }
 {
     let (c, rest) = either(alloc, depth, text)?;
@@ -285,7 +294,7 @@ fn choice(alloc: Global, depth: u32, text: &str) -> Result<(Node, &str), Stop>
     let (a, rest) = nesting(alloc, depth, Inside::Choice, rest)?;
     let (b, rest) = other_choice(alloc, depth, rest)?;
     Ok((
-        Node::Choice(
+        ExprNode::Choice(
             Boxed::new(alloc, c)?,
             Boxed::new(alloc, a)?,
             Boxed::new(alloc, b)?,
@@ -300,9 +309,9 @@ fn choice(alloc: Global, depth: u32, text: &str) -> Result<(Node, &str), Stop>
 fn more_items(
     alloc: Global,
     depth: u32,
-    first: Node,
+    first: ExprNode,
     text: &str,
-) -> Result<(NodeList<Node>, &str), Stop>
+) -> Result<(NodeList<ExprNode>, &str), ExprStop>
     ensures { Gives (λ x. (x.0, x.1.now)) result (spec.chain (spec.choice depth (spec.nesting depth)) 44 (length text.now) (first ∷ []) text.now) }
 {
     let mut found = NodeList::new(alloc);
@@ -323,15 +332,15 @@ fn more_items(
 /// The items of a list, up to the bracket that closes it.
 #[cycle(reader)]
 #[tactic(auto, unfolding(crate::specs::Read::items))]
-fn items(alloc: Global, depth: u32, text: &str) -> Result<(Node, &str), Stop>
+fn items(alloc: Global, depth: u32, text: &str) -> Result<(ExprNode, &str), ExprStop>
     ensures { Gives (λ x. (x.0, x.1.now)) result (spec.items depth (spec.nesting depth) text.now) }
 {
     if is_at(b']', text) {
-        return Ok((Node::List(NodeList::new(alloc)), text));
+        return Ok((ExprNode::List(NodeList::new(alloc)), text));
     }
     let (first, rest) = choice(alloc, depth, text)?;
     let (all, rest) = more_items(alloc, depth, first, rest)?;
-    Ok((Node::List(all), rest))
+    Ok((ExprNode::List(all), rest))
 }
 
 /// How many levels may nest.
@@ -339,7 +348,7 @@ const NESTING_LIMIT: u32 = 32;
 
 /// Nothing, or a choice in which that many levels may nest.
 #[tactic(auto, unfolding(crate::specs::Read::optional_choice))]
-pub fn first(alloc: Global, text: &str) -> Result<(Option<Node>, &str), Stop>
+pub fn first(alloc: Global, text: &str) -> Result<(Option<ExprNode>, &str), ExprStop>
     ensures { Gives (λ x. (x.0, x.1.now)) result (spec.optional_choice nesting_limit text.now) }
 {
     if text.is_empty() || is_at(b'@', text) {

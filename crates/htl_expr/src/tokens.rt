@@ -5,7 +5,7 @@ ghost use Rattle.std.specs.Str.{IsCharBoundary};
 ghost use Rattle.htl_expr.specs.Tokens as spec;
 ghost use Rattle.htl_expr.specs.Tokens.{Gives, AreAscii};
 
-use crate::stop::Stop;
+use crate::stop::ExprStop;
 use sp_base::TextBuf;
 use std::alloc::Global;
 
@@ -154,20 +154,20 @@ pub fn behind(c: u8, text: &str) -> &str
 }
 
 #[tactic(auto, unfolding(crate::specs::Tokens::expect))]
-pub fn expect(c: u8, text: &str) -> Result<&str, Stop>
+pub fn expect(c: u8, text: &str) -> Result<&str, ExprStop>
     requires { c < 128 }
     ensures { Gives (λ r. r.now) result (spec.expect c text.now) }
 {
     if is_at(c, text) {
         Ok(behind(c, text))
     } else {
-        Err(Stop::Unexpected(text.len()))
+        Err(ExprStop::Unexpected(text.len()))
     }
 }
 
 /// An operator of two bytes, of which the first is there.
 #[tactic(auto, unfolding(crate::specs::Tokens::second))]
-pub fn second(c: u8, text: &str) -> Result<&str, Stop>
+pub fn second(c: u8, text: &str) -> Result<&str, ExprStop>
     requires ascii { c < 128 }
     requires first { slice_index text.now 0 < 128 }
     ensures { Gives (λ r. r.now) result (spec.second c text.now) }
@@ -176,7 +176,7 @@ pub fn second(c: u8, text: &str) -> Result<&str, Stop>
 }
 
 #[tactic(auto, unfolding(crate::specs::Tokens::literal))]
-pub fn literal<'a>(word: &[u8], text: &'a str) -> Result<&'a str, Stop>
+pub fn literal<'a>(word: &[u8], text: &'a str) -> Result<&'a str, ExprStop>
     requires { AreAscii word.now }
     ensures { Gives (λ r. r.now) result (spec.literal word.now text.now) }
 {
@@ -184,7 +184,7 @@ pub fn literal<'a>(word: &[u8], text: &'a str) -> Result<&'a str, Stop>
     let mut left = word;
     while let [c, later @ ..] = left {
         if !is_at(*c, rest) {
-            return Err(Stop::Unexpected(rest.len()));
+            return Err(ExprStop::Unexpected(rest.len()));
         }
         rest = tail(rest);
         left = later;
@@ -221,11 +221,11 @@ fn name_len(kind: NameKind, text: &str) -> usize
 
 /// A name or a field's name.
 #[tactic(auto, unfolding(crate::specs::Tokens::read_name))]
-pub fn name(alloc: Global, kind: NameKind, text: &str) -> Result<(TextBuf, &str), Stop>
+pub fn name(alloc: Global, kind: NameKind, text: &str) -> Result<(TextBuf, &str), ExprStop>
     ensures { Gives (λ x. (x.0, x.1.now)) result (spec.read_name kind text.now) }
 {
     if !first_at(text) {
-        return Err(Stop::Unexpected(text.len()));
+        return Err(ExprStop::Unexpected(text.len()));
     }
     let (front, rest) = text.split_at(name_len(kind, text));
     Ok((TextBuf::of(alloc, front)?, skip(rest)))
@@ -250,14 +250,14 @@ fn unescape(c: u8) -> Option<u8>
 
 /// The character that a text after a backslash stands for.
 #[tactic(auto, unfolding(crate::specs::Tokens::escape))]
-fn escape(text: &str) -> Result<(char, &str), Stop>
+fn escape(text: &str) -> Result<(char, &str), ExprStop>
     ensures value { Gives (λ x. (x.0, x.1.now)) result (spec.escape text.now) }
     ensures ascii { IfOk result (λ x. x.0 < 128) }
 {
     match text.as_bytes() {
-        [] => Err(Stop::Unexpected(0)),
+        [] => Err(ExprStop::Unexpected(0)),
         [c, ..] => match unescape(*c) {
-            None => Err(Stop::Unexpected(text.len())),
+            None => Err(ExprStop::Unexpected(text.len())),
             Some(d) => Ok((d as char, tail(text))),
         },
     }
@@ -281,7 +281,7 @@ fn plain_len(mark: u8, text: &[u8]) -> usize
 }
 
 /// A string after the mark that opens it.
-fn string_from(alloc: Global, mark: u8, text: &str) -> Result<(TextBuf, &str), Stop>
+fn string_from(alloc: Global, mark: u8, text: &str) -> Result<(TextBuf, &str), ExprStop>
     requires { mark < 128 }
     ensures { Gives (λ x. (x.0, x.1.now)) result (spec.string_from false mark text.now) }
 {
@@ -294,7 +294,7 @@ fn string_from(alloc: Global, mark: u8, text: &str) -> Result<(TextBuf, &str), S
             return Ok((TextBuf::from(found), behind(mark, after)));
         }
         if !is_at(b'\\', after) {
-            return Err(Stop::Unexpected(after.len()));
+            return Err(ExprStop::Unexpected(after.len()));
         }
         let (c, later) = escape(tail(after))?;
         found.push(c)?;
@@ -303,16 +303,16 @@ fn string_from(alloc: Global, mark: u8, text: &str) -> Result<(TextBuf, &str), S
 }
 
 #[tactic(auto, unfolding(crate::specs::Tokens::string))]
-pub fn string(alloc: Global, text: &str) -> Result<(TextBuf, &str), Stop>
+pub fn string(alloc: Global, text: &str) -> Result<(TextBuf, &str), ExprStop>
     ensures { Gives (λ x. (x.0, x.1.now)) result (spec.string text.now) }
 {
     match text.as_bytes() {
-        [] => Err(Stop::Unexpected(0)),
+        [] => Err(ExprStop::Unexpected(0)),
         [c, ..] => {
             if is_quote(*c) {
                 string_from(alloc, *c, tail(text))
             } else {
-                Err(Stop::Unexpected(text.len()))
+                Err(ExprStop::Unexpected(text.len()))
             }
         }
     }

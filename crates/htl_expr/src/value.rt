@@ -9,7 +9,7 @@ use crate::compare::operands_compare;
 use crate::evaluation::Evaluation;
 use crate::expression::Expr;
 use crate::lent::{Lent, Operand, is_true};
-use crate::node::{Comparison, Node};
+use crate::node::{Comparison, ExprNode};
 use crate::out::{Out, owned};
 use crate::scope::{Scope, property, resource};
 use sp_base::{Mem, TextBuf};
@@ -21,7 +21,7 @@ use std::alloc::Global;
 fn and_next<'a>(
     alloc: Global,
     scope: &mut Evaluation<'a>,
-    operand: &'a Node,
+    operand: &'a ExprNode,
     last: Operand<'a>,
 ) -> Mem<Operand<'a>>
     requires { IsOperand scope.old last }
@@ -41,7 +41,7 @@ fn and_next<'a>(
 fn and_values<'a>(
     alloc: Global,
     scope: &mut Evaluation<'a>,
-    more: &'a [Node],
+    more: &'a [ExprNode],
     first: Operand<'a>,
 ) -> Mem<Operand<'a>>
     requires { IsOperand scope.old first }
@@ -61,7 +61,7 @@ fn and_values<'a>(
 fn or_next<'a>(
     alloc: Global,
     scope: &mut Evaluation<'a>,
-    operand: &'a Node,
+    operand: &'a ExprNode,
     last: Operand<'a>,
 ) -> Mem<Operand<'a>>
     requires { IsOperand scope.old last }
@@ -81,7 +81,7 @@ fn or_next<'a>(
 fn or_values<'a>(
     alloc: Global,
     scope: &mut Evaluation<'a>,
-    more: &'a [Node],
+    more: &'a [ExprNode],
     first: Operand<'a>,
 ) -> Mem<Operand<'a>>
     requires { IsOperand scope.old first }
@@ -98,7 +98,11 @@ fn or_values<'a>(
 
 // The value of a list literal.
 #[cycle(value)]
-fn list_value<'a>(alloc: Global, scope: &mut Evaluation<'a>, items: &'a [Node]) -> Mem<Operand<'a>>
+fn list_value<'a>(
+    alloc: Global,
+    scope: &mut Evaluation<'a>,
+    items: &'a [ExprNode],
+) -> Mem<Operand<'a>>
     ensures value { IfOk result (λ v. out_of_lent v.value ≡ out.List (spec.item_texts (map (spec.value scope.old) items.now))) }
     ensures operand { IfOk result (IsOperand scope.old) }
     ensures scope { scope.new ≡ scope.old }
@@ -136,7 +140,7 @@ fn compares_with<'a>(
     scope: &mut Evaluation<'a>,
     comparison: Comparison,
     a: Operand<'a>,
-    b: &'a Node,
+    b: &'a ExprNode,
 ) -> Mem<bool>
     requires { IsOperand scope.old a }
     ensures holds { IfOk result (λ holds. holds ≡ spec.comparison_holds comparison (out_of_lent a.entry.value) (spec.value scope.old b.now)) }
@@ -151,38 +155,38 @@ fn compares_with<'a>(
 pub(crate) fn value<'a>(
     alloc: Global,
     scope: &mut Evaluation<'a>,
-    node: &'a Node,
+    node: &'a ExprNode,
 ) -> Mem<Operand<'a>>
     ensures value { IfOk result (λ v. out_of_lent v.value ≡ spec.value scope.old node.now) }
     ensures operand { IfOk result (IsOperand scope.old) }
     ensures scope { scope.new ≡ scope.old }
 {
     match node {
-        Node::Text(text) => Ok(Operand::of(alloc, Lent::Text(text.text()))),
-        Node::Long(number) => Ok(Operand::of(alloc, Lent::Long(*number))),
-        Node::Truth(truth) => Ok(Operand::of(alloc, Lent::Truth(*truth))),
-        Node::Variable(_) | Node::Access(_, _) => Ok(Operand::of(alloc, Lent::Nothing)),
-        Node::Property(name) => Ok(property_operand(alloc, scope, name)),
-        Node::Resource(name) => Ok(Operand::of(alloc, resource(scope.scope(), name.text()))),
-        Node::List(items) => list_value(alloc, scope, items.as_slice()),
-        Node::Not(operand) => {
+        ExprNode::Text(text) => Ok(Operand::of(alloc, Lent::Text(text.text()))),
+        ExprNode::Long(number) => Ok(Operand::of(alloc, Lent::Long(*number))),
+        ExprNode::Truth(truth) => Ok(Operand::of(alloc, Lent::Truth(*truth))),
+        ExprNode::Variable(_) | ExprNode::Access(_, _) => Ok(Operand::of(alloc, Lent::Nothing)),
+        ExprNode::Property(name) => Ok(property_operand(alloc, scope, name)),
+        ExprNode::Resource(name) => Ok(Operand::of(alloc, resource(scope.scope(), name.text()))),
+        ExprNode::List(items) => list_value(alloc, scope, items.as_slice()),
+        ExprNode::Not(operand) => {
             let operand = value(alloc, scope, operand.get())?;
             Ok(Operand::of(alloc, Lent::Truth(!is_true(&operand.value))))
         }
-        Node::Compare(comparison, a, b) => {
+        ExprNode::Compare(comparison, a, b) => {
             let a = value(alloc, scope, a.get())?;
             let holds = compares_with(alloc, scope, *comparison, a, b.get())?;
             Ok(Operand::of(alloc, Lent::Truth(holds)))
         }
-        Node::And(first, more) => {
+        ExprNode::And(first, more) => {
             let first = value(alloc, scope, first.get())?;
             and_values(alloc, scope, more.as_slice(), first)
         }
-        Node::Or(first, more) => {
+        ExprNode::Or(first, more) => {
             let first = value(alloc, scope, first.get())?;
             or_values(alloc, scope, more.as_slice(), first)
         }
-        Node::Choice(condition, a, b) => {
+        ExprNode::Choice(condition, a, b) => {
             let condition = value(alloc, scope, condition.get())?;
             if is_true(&condition.value) {
                 value(alloc, scope, a.get())

@@ -8,16 +8,16 @@ use Rattle.htl_expr.specs.declared.expression.Expr.{Expr}
 use Rattle.htl_expr.specs.declared.expression.ExprFault.{ExprFault}
 use Rattle.htl_expr.specs.Fault.{expression_of}
 use Rattle.htl_text.specs.declared.fault.TextFault.{TextFault}
-use Rattle.htl_text.specs.declared.piece.Piece.{Piece}
-use Rattle.htl_text.specs.declared.piece.Piece.TheVariants.{Value}
+use Rattle.htl_text.specs.declared.piece.TemplatePiece.{TemplatePiece}
+use Rattle.htl_text.specs.declared.piece.TemplatePiece.TheVariants.{Value}
 use Rattle.htl_text.specs.declared.quotes.Quotes.TheVariants.{Outside}
 use Rattle.htl_text.specs.Template.{opens_expression, closing, read_value, closed_value, value_at, with_plain, before, template_pieces, plain_pieces}
 use Rattle.htl_text.proofs.Steps.{skipped}
 
 abbrev Read : Type 0
-Read = Result (List Piece) TextFault
+Read = Result (List TemplatePiece) TextFault
 
-before_twice : (a b : List Piece) (r : Read) → before a (before b r) ≡ before (a ++ b) r
+before_twice : (a b : List TemplatePiece) (r : Read) → before a (before b r) ≡ before (a ++ b) r
 before_twice a b (Ok ps) = ap Ok (sym (append_assoc a b ps))
 before_twice a b (Err f) = refl
 
@@ -85,21 +85,21 @@ pub opens_is : (t : List ℕ) → (eqb (length t) 0 || opens_expression t) ≡ t
 opens_is t h e = rw e at h
 
 -- nothing is left
-pub read_ends : (all : ℕ) (old new : List Piece) (front behind rest text : List ℕ) → eqb (length behind) 0 ≡ true → ((n : ℕ) → with_plain front (template_pieces n 0 behind) ≡ template_pieces n 0 rest)
+pub read_ends : (all : ℕ) (old new : List TemplatePiece) (front behind rest text : List ℕ) → eqb (length behind) 0 ≡ true → ((n : ℕ) → with_plain front (template_pieces n 0 behind) ≡ template_pieces n 0 rest)
     → new ≡ old ++ plain_pieces front → before old (template_pieces all 0 rest) ≡ template_pieces all 0 text → template_pieces all 0 text ≡ Ok new
 unfolding template_pieces
 read_ends all old new front [] rest text e plain en inv = sym inv ∙ ap (before old) (sym (plain all)) ∙ ap Ok (sym en)
 read_ends all old new front (c ∷ t) rest text e plain en inv = absurd (grind (arith))
 
 -- an expression is left, which has a fault
-pub read_fails : (all place : ℕ) (old : List Piece) (front behind rest text : List ℕ) (f : TextFault) → opens_expression behind ≡ true → place ≡ all - length behind → value_at place behind ≡ Err f
+pub read_fails : (all place : ℕ) (old : List TemplatePiece) (front behind rest text : List ℕ) (f : TextFault) → opens_expression behind ≡ true → place ≡ all - length behind → value_at place behind ≡ Err f
     → ((n : ℕ) → with_plain front (template_pieces n 0 behind) ≡ template_pieces n 0 rest) → before old (template_pieces all 0 rest) ≡ template_pieces all 0 text → template_pieces all 0 text ≡ Err f
 read_fails all place old front behind rest text f h ep x plain inv =
     let fails = value_fails all behind f h (rw ep at x) in
     sym inv ∙ ap (before old) (sym (plain all)) ∙ ap (λ (r : Read). before old (with_plain front r)) fails
 
 -- an expression is left, and a text behind it
-pub read_more : (all place : ℕ) (old mid new : List Piece) (front behind after rest text : List ℕ) (e : Expr) → opens_expression behind ≡ true → place ≡ all - length behind → value_at place behind ≡ Ok (e, after)
+pub read_more : (all place : ℕ) (old mid new : List TemplatePiece) (front behind after rest text : List ℕ) (e : Expr) → opens_expression behind ≡ true → place ≡ all - length behind → value_at place behind ≡ Ok (e, after)
     → ((n : ℕ) → with_plain front (template_pieces n 0 behind) ≡ template_pieces n 0 rest) → mid ≡ old ++ plain_pieces front → new ≡ mid ++ Value e ∷ [] → before old (template_pieces all 0 rest) ≡ template_pieces all 0 text
     → before new (template_pieces all 0 after) ≡ template_pieces all 0 text
 read_more all place old mid new front behind after rest text e h ep x plain em en inv =

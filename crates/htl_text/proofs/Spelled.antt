@@ -7,8 +7,8 @@ use Rattle.htl_expr.specs.Fault.{expression_of}
 use Rattle.htl_expr.specs.Grammar.{Whole}
 use Rattle.htl_text.specs.declared.fault.TextFault.{TextFault}
 use Rattle.htl_text.specs.declared.fault.TextFault.TheVariants.{Unclosed, BadExpr, NoMemory}
-use Rattle.htl_text.specs.declared.piece.Piece.{Piece}
-use Rattle.htl_text.specs.declared.piece.Piece.TheVariants.{Value}
+use Rattle.htl_text.specs.declared.piece.TemplatePiece.{TemplatePiece}
+use Rattle.htl_text.specs.declared.piece.TemplatePiece.TheVariants.{Value}
 use Rattle.htl_text.specs.declared.quotes.Quotes.TheVariants.{Outside}
 use Rattle.htl_text.specs.Template.{is_in_front, opens_expression, escapes, closing, read_value, value_at, text_in_front, with_plain, before, template_pieces, template_of}
 use Rattle.htl_text.specs.Spelling.{Inside, SpellsTemplate, HasNoExpr, Faults, IsFirstOpening}
@@ -17,7 +17,7 @@ use Rattle.htl_text.proofs.Closed.{byte_is, closed, never_closes, none_closes, v
 use Rattle.htl_text.proofs.Pieces.{value_follows, value_fails}
 
 abbrev Read : Type 0
-Read = Result (List Piece) TextFault
+Read = Result (List TemplatePiece) TextFault
 
 -- what is read as an expression is one by the grammar
 abbrev Found : Type 0
@@ -57,10 +57,10 @@ opens_there t = refl
 -- ---- what is spelled is read
 
 -- the reading of a text by that of a rest
-abbrev Carries : ℕ → List ℕ → List Piece → List ℕ → Type 0
+abbrev Carries : ℕ → List ℕ → List TemplatePiece → List ℕ → Type 0
 Carries all text ps rest = (template_pieces all 0 rest ≡ Ok [] → template_pieces all 0 text ≡ Ok ps) × ((f : TextFault) → template_pieces all 0 rest ≡ Err f → template_pieces all 0 text ≡ Err f)
 
-carries : (all : ℕ) (text later : List ℕ) (ps qs : List Piece) (rest : List ℕ) (k : Read → Read) → template_pieces all 0 text ≡ k (template_pieces all 0 later) → k (Ok ps) ≡ Ok qs → ((f : TextFault) → k (Err f) ≡ Err f)
+carries : (all : ℕ) (text later : List ℕ) (ps qs : List TemplatePiece) (rest : List ℕ) (k : Read → Read) → template_pieces all 0 text ≡ k (template_pieces all 0 later) → k (Ok ps) ≡ Ok qs → ((f : TextFault) → k (Err f) ≡ Err f)
     → Carries all later ps rest → Carries all text qs rest
 carries all text later ps qs rest k e good bad x = (λ h. e ∙ ap k (x.0 h) ∙ good, λ f h. e ∙ ap k (x.1 f h) ∙ bad f)
 
@@ -77,7 +77,7 @@ value_read all w t e x h =
     let text = 36 ∷ 123 ∷ (w ++ 125 ∷ t) in
     value_follows all text e t (opens_there (w ++ 125 ∷ t)) (value_is (all - length text) w t x ∙ ap (read_value (all - length text) t) h)
 
-spelled_on : Only → (all : ℕ) (text : List ℕ) (ps : List Piece) (rest : List ℕ) → SpellsTemplate text ps rest → Carries all text ps rest
+spelled_on : Only → (all : ℕ) (text : List ℕ) (ps : List TemplatePiece) (rest : List ℕ) → SpellsTemplate text ps rest → Carries all text ps rest
 spelled_on only all _ _ _ s.end = (λ h. h, λ f h. h)
 spelled_on only all _ _ rest (s.plain {c = c} {text = t} {ps = ps} a b x) =
     carries all (c ∷ t) t ps (text_in_front (c ∷ []) ps) rest (with_plain (c ∷ [])) (plain_read all c t a b) refl (λ f. refl) (spelled_on only all t ps rest x)
@@ -90,7 +90,7 @@ pieces_end : (all : ℕ) → template_pieces all 0 [] ≡ Ok []
 unfolding template_pieces
 pieces_end all = refl
 
-pub spelled_is_read : Only → (text : List ℕ) (ps : List Piece) → SpellsTemplate text ps [] → template_of text ≡ Ok ps
+pub spelled_is_read : Only → (text : List ℕ) (ps : List TemplatePiece) → SpellsTemplate text ps [] → template_of text ≡ Ok ps
 spelled_is_read only text ps x = (spelled_on only (length text) text ps [] x).0 (pieces_end (length text))
 
 -- a fault is read where it is
@@ -120,7 +120,7 @@ first_is_read found only text f x =
 record First (n : ℕ) (text : List ℕ) (fault : TextFault) : Type 0 where
   front : List ℕ
   behind : List ℕ
-  ps : List Piece
+  ps : List TemplatePiece
   parts : text ≡ front ++ 36 ∷ 123 ∷ behind
   spelling : SpellsTemplate text ps (36 ∷ 123 ∷ behind)
   faulty : Faults fault (n + length front) behind
@@ -131,7 +131,7 @@ Meaning n text (Ok ps) = SpellsTemplate text ps []
 Meaning n text (Err f) = First n text f
 
 -- a fault of what follows is one of the whole
-later : (n : ℕ) (w text after : List ℕ) (f : TextFault) (g : List Piece → List Piece) → text ≡ w ++ after → ((ps : List Piece) (rest : List ℕ) → SpellsTemplate after ps rest → SpellsTemplate text (g ps) rest)
+later : (n : ℕ) (w text after : List ℕ) (f : TextFault) (g : List TemplatePiece → List TemplatePiece) → text ≡ w ++ after → ((ps : List TemplatePiece) (rest : List ℕ) → SpellsTemplate after ps rest → SpellsTemplate text (g ps) rest)
     → First (n + length w) after f → First n text f
 later n w text after f g e spell x =
     let size = length-append w x.front in
@@ -236,7 +236,7 @@ means found only all (suc size) n (c ∷ t) le e = front_means found only n all 
 whole_means : Found → Only → (text : List ℕ) (r : Read) → template_of text ≡ r → Meaning 0 text r
 whole_means found only text r e = subst (Meaning 0 text) e (means found only (length text) (length text) 0 text (omega arith) (omega arith))
 
-pub read_is_spelled : Found → Only → (text : List ℕ) (ps : List Piece) → template_of text ≡ Ok ps → SpellsTemplate text ps []
+pub read_is_spelled : Found → Only → (text : List ℕ) (ps : List TemplatePiece) → template_of text ≡ Ok ps → SpellsTemplate text ps []
 read_is_spelled found only text ps e = whole_means found only text (Ok ps) e
 
 pub fault_is_first : Found → Only → (text : List ℕ) (f : TextFault) → template_of text ≡ Err f → IsFirstOpening f text

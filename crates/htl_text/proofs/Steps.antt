@@ -4,24 +4,24 @@ use Rattle.std.specs.Str.{IsCharBoundary}
 use Rattle.std.proofs.lemmas.Bool.Decides.{nat_tests}
 use Rattle.std.proofs.lemmas.List.{append-nil, length-drop}
 use Rattle.htl_text.specs.declared.fault.TextFault.{TextFault}
-use Rattle.htl_text.specs.declared.piece.Piece.{Piece}
-use Rattle.htl_text.specs.declared.piece.Piece.TheVariants.{Plain, Value}
+use Rattle.htl_text.specs.declared.piece.TemplatePiece.{TemplatePiece}
+use Rattle.htl_text.specs.declared.piece.TemplatePiece.TheVariants.{Plain, Value}
 use Rattle.htl_text.specs.declared.quotes.Quotes.{Quotes}
 use Rattle.htl_text.specs.declared.quotes.Quotes.TheVariants.{Outside, Inside, Escaped}
 use Rattle.htl_text.specs.Template.{is_in_front, opens_expression, escapes, quotes_step, closes_expression, closing, text_in_front, with_plain, template_pieces, plain_len}
 
-written_nil : (r : Result (List Piece) TextFault) → with_plain [] r ≡ r
+written_nil : (r : Result (List TemplatePiece) TextFault) → with_plain [] r ≡ r
 written_nil (Ok ps) = refl
 written_nil (Err f) = refl
 
-in_front_twice : (a b : List ℕ) (ps : List Piece) → text_in_front a (text_in_front b ps) ≡ text_in_front (a ++ b) ps
+in_front_twice : (a b : List ℕ) (ps : List TemplatePiece) → text_in_front a (text_in_front b ps) ≡ text_in_front (a ++ b) ps
 in_front_twice [] b ps = refl
 in_front_twice (c ∷ a) [] ps = ap (λ (l : List ℕ). text_in_front (c ∷ l) ps) (sym (append-nil a))
 in_front_twice (c ∷ a) (d ∷ b) [] = refl
 in_front_twice (c ∷ a) (d ∷ b) (Plain more ∷ ps) = ap (λ (l : List ℕ). Plain (c ∷ l) ∷ ps) (sym (append_assoc a (d ∷ b) more))
 in_front_twice (c ∷ a) (d ∷ b) (Value e ∷ ps) = refl
 
-pub written_twice : (a b : List ℕ) (r : Result (List Piece) TextFault) → with_plain a (with_plain b r) ≡ with_plain (a ++ b) r
+pub written_twice : (a b : List ℕ) (r : Result (List TemplatePiece) TextFault) → with_plain a (with_plain b r) ≡ with_plain (a ++ b) r
 written_twice a b (Ok ps) = ap Ok (in_front_twice a b ps)
 written_twice a b (Err f) = refl
 

@@ -5,8 +5,8 @@ use Rattle.htl_expr.specs.Grammar.{Whole}
 use Rattle.htl_expr.specs.Tokens.{is_quote}
 use Rattle.htl_text.specs.declared.fault.TextFault.{TextFault}
 use Rattle.htl_text.specs.declared.fault.TextFault.TheVariants.{Unclosed, BadExpr, NoMemory}
-use Rattle.htl_text.specs.declared.piece.Piece.{Piece}
-use Rattle.htl_text.specs.declared.piece.Piece.TheVariants.{Value}
+use Rattle.htl_text.specs.declared.piece.TemplatePiece.{TemplatePiece}
+use Rattle.htl_text.specs.declared.piece.TemplatePiece.TheVariants.{Value}
 use Rattle.htl_text.specs.Template.{opens_expression, escapes, text_in_front}
 
 -- what stands after a quote mark, up to and with the same mark; a backslash takes the next byte with it
@@ -22,11 +22,11 @@ pub data Inside : List ℕ → Type 0 where
   string : {mark : ℕ} {w t : List ℕ} → is_quote mark ≡ true → Quotation mark w → Inside t → Inside (mark ∷ (w ++ t))
 
 -- the pieces that stand in a text in front of a rest; no two of plain text stand side by side
-pub data SpellsTemplate : List ℕ → List Piece → List ℕ → Type 0 where
+pub data SpellsTemplate : List ℕ → List TemplatePiece → List ℕ → Type 0 where
   end : {rest : List ℕ} → SpellsTemplate rest [] rest
-  plain : {c : ℕ} {text rest : List ℕ} {ps : List Piece} → opens_expression (c ∷ text) ≡ false → escapes (c ∷ text) ≡ false → SpellsTemplate text ps rest → SpellsTemplate (c ∷ text) (text_in_front (c ∷ []) ps) rest
-  escape : {text rest : List ℕ} {ps : List Piece} → SpellsTemplate text ps rest → SpellsTemplate (92 ∷ 36 ∷ 123 ∷ text) (text_in_front (codes "${") ps) rest
-  value : {inside text rest : List ℕ} {e : Expr} {ps : List Piece} → Inside inside → Whole inside e → SpellsTemplate text ps rest → SpellsTemplate (36 ∷ 123 ∷ (inside ++ 125 ∷ text)) (Value e ∷ ps) rest
+  plain : {c : ℕ} {text rest : List ℕ} {ps : List TemplatePiece} → opens_expression (c ∷ text) ≡ false → escapes (c ∷ text) ≡ false → SpellsTemplate text ps rest → SpellsTemplate (c ∷ text) (text_in_front (c ∷ []) ps) rest
+  escape : {text rest : List ℕ} {ps : List TemplatePiece} → SpellsTemplate text ps rest → SpellsTemplate (92 ∷ 36 ∷ 123 ∷ text) (text_in_front (codes "${") ps) rest
+  value : {inside text rest : List ℕ} {e : Expr} {ps : List TemplatePiece} → Inside inside → Whole inside e → SpellsTemplate text ps rest → SpellsTemplate (36 ∷ 123 ∷ (inside ++ 125 ∷ text)) (Value e ∷ ps) rest
 
 -- no "}" closes what stands after "${"
 abbrev pub NeverCloses : List ℕ → Type 0
@@ -50,7 +50,7 @@ Faults NoMemory place behind = ⊥
 pub record IsFirstOpening (fault : TextFault) (text : List ℕ) : Type 0 where
   pub front : List ℕ
   pub behind : List ℕ
-  pub ps : List Piece
+  pub ps : List TemplatePiece
   pub parts : text ≡ front ++ 36 ∷ 123 ∷ behind
   pub spelling : SpellsTemplate text ps (36 ∷ 123 ∷ behind)
   pub faulty : Faults fault (length front) behind

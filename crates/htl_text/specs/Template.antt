@@ -10,8 +10,8 @@ use Rattle.htl_expr.specs.Fault.{expression_of}
 use Rattle.htl_expr.specs.Value.{print}
 use Rattle.htl_text.specs.declared.fault.TextFault.{TextFault}
 use Rattle.htl_text.specs.declared.fault.TextFault.TheVariants.{Unclosed, BadExpr}
-use Rattle.htl_text.specs.declared.piece.Piece.{Piece}
-use Rattle.htl_text.specs.declared.piece.Piece.TheVariants.{Plain, Value}
+use Rattle.htl_text.specs.declared.piece.TemplatePiece.{TemplatePiece}
+use Rattle.htl_text.specs.declared.piece.TemplatePiece.TheVariants.{Plain, Value}
 use Rattle.htl_text.specs.declared.quotes.Quotes.{Quotes}
 use Rattle.htl_text.specs.declared.quotes.Quotes.TheVariants.{Outside, Inside, Escaped}
 
@@ -62,29 +62,29 @@ unfoldable pub value_at : ℕ → List ℕ → Result (Expr × List ℕ) TextFau
 value_at place t = closed_value place (drop 2 t) (closing Outside 0 (drop 2 t))
 
 -- plain text in front of pieces; no piece of plain text is empty, and no two stand side by side
-abbrev pub text_in_front : List ℕ → List Piece → List Piece
+abbrev pub text_in_front : List ℕ → List TemplatePiece → List TemplatePiece
 text_in_front [] ps = ps
 text_in_front (c ∷ t) [] = Plain (c ∷ t) ∷ []
 text_in_front (c ∷ t) (Plain more ∷ ps) = Plain (c ∷ (t ++ more)) ∷ ps
 text_in_front (c ∷ t) (Value e ∷ ps) = Plain (c ∷ t) ∷ (Value e ∷ ps)
 
 -- plain text in front of the pieces of the rest
-abbrev pub with_plain : List ℕ → Result (List Piece) TextFault → Result (List Piece) TextFault
+abbrev pub with_plain : List ℕ → Result (List TemplatePiece) TextFault → Result (List TemplatePiece) TextFault
 with_plain t (Ok ps) = Ok (text_in_front t ps)
 with_plain t (Err fault) = Err fault
 
 -- pieces in front of others
-abbrev pub before : List Piece → Result (List Piece) TextFault → Result (List Piece) TextFault
+abbrev pub before : List TemplatePiece → Result (List TemplatePiece) TextFault → Result (List TemplatePiece) TextFault
 before front (Ok ps) = Ok (front ++ ps)
 before front (Err fault) = Err fault
 
 -- an expression in front of the pieces of the rest
-abbrev pub with_expression : Result (Expr × List ℕ) TextFault → (List ℕ → Result (List Piece) TextFault) → Result (List Piece) TextFault
+abbrev pub with_expression : Result (Expr × List ℕ) TextFault → (List ℕ → Result (List TemplatePiece) TextFault) → Result (List TemplatePiece) TextFault
 with_expression (Ok x) more = before (Value x.0 ∷ []) (more x.1)
 with_expression (Err fault) more = Err fault
 
 -- the pieces of a text at the end of a template of so many bytes; the first bytes to skip belong to the piece before
-unfoldable pub template_pieces : ℕ → ℕ → List ℕ → Result (List Piece) TextFault
+unfoldable pub template_pieces : ℕ → ℕ → List ℕ → Result (List TemplatePiece) TextFault
 template_pieces all skip [] = Ok []
 template_pieces all (suc skip) (c ∷ t) = template_pieces all skip t
 template_pieces all zero (c ∷ t) =
@@ -93,7 +93,7 @@ template_pieces all zero (c ∷ t) =
     else with_plain (c ∷ []) (template_pieces all 0 t))
 
 -- what a text is read as: its pieces, or its first fault
-abbrev pub template_of : List ℕ → Result (List Piece) TextFault
+abbrev pub template_of : List ℕ → Result (List TemplatePiece) TextFault
 template_of t = template_pieces (length t) 0 t
 
 -- how many bytes stand before the next "${"
@@ -107,11 +107,11 @@ plain_len [] = 0
 plain_len (c ∷ t) = if opens_expression (c ∷ t) || escapes (c ∷ t) then 0 else suc (plain_len t)
 
 -- a text as one piece, or as none where it is empty
-abbrev pub plain_pieces : List ℕ → List Piece
+abbrev pub plain_pieces : List ℕ → List TemplatePiece
 plain_pieces t = text_in_front t []
 
 -- what a piece writes
-abbrev pub piece_text : Scope → Piece → List ℕ
+abbrev pub piece_text : Scope → TemplatePiece → List ℕ
 piece_text scope (Plain t) = t
 piece_text scope (Value e) = print scope e
 
@@ -120,5 +120,5 @@ abbrev pub most_template_bytes : ℕ
 most_template_bytes = 4194304
 
 -- the text of a template: what its pieces write, one after another
-abbrev pub template_output : Scope → List Piece → List ℕ
+abbrev pub template_output : Scope → List TemplatePiece → List ℕ
 template_output scope ps = flat_map (piece_text scope) ps

@@ -11,5 +11,5 @@ mod template;
 
 pub use fault::{RenderFault, TextFault};
 pub use laws::the_pieces_are_the_text;
-pub use piece::Piece;
+pub use piece::TemplatePiece;
 pub use template::Template;

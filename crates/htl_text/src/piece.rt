@@ -5,7 +5,7 @@ use sp_base::TextBuf;
 
 /// A piece of a template.
 #[derive(Drop)]
-pub enum Piece {
+pub enum TemplatePiece {
     /// Text that is written as it is.
     Plain(TextBuf),
     /// An expression, of which the printed value is written.

@@ -4,7 +4,7 @@ ghost use Rattle.std.specs.Prelude.{◌≡◌, ◌≢◌, ◌<◌, ◌≤◌, �
 ghost use Rattle.htl_text.specs.Template as spec;
 
 use crate::fault::RenderFault;
-use crate::piece::Piece;
+use crate::piece::TemplatePiece;
 use crate::template::Template;
 use htl_expr::{Evaluation, Scope, WriteFault};
 use sp_base::TextBuf;
@@ -30,7 +30,7 @@ fn push_piece<'a>(
     text: &mut String,
     alloc: Global,
     scope: &mut Evaluation<'a>,
-    piece: &'a Piece,
+    piece: &'a TemplatePiece,
 ) -> Result<(), RenderFault>
     requires { length (string_bytes text.old) ≤ spec.most_template_bytes }
     ensures ok { OnOk result ((string_bytes text.new ≡ string_bytes text.old ++ spec.piece_text scope.old piece.now) × (length (string_bytes text.new) ≤ spec.most_template_bytes)) }
@@ -38,8 +38,8 @@ fn push_piece<'a>(
     ensures scope { scope.new ≡ scope.old }
 {
     match piece {
-        Piece::Plain(plain) => push_plain(text, plain.text()),
-        Piece::Value(expression) => match expression.write(alloc, text, scope, MOST_BYTES) {
+        TemplatePiece::Plain(plain) => push_plain(text, plain.text()),
+        TemplatePiece::Value(expression) => match expression.write(alloc, text, scope, MOST_BYTES) {
             Ok(()) => Ok(()),
             Err(WriteFault::TooLong) => Err(RenderFault::TooLong),
             Err(WriteFault::NoMemory) => Err(RenderFault::NoMemory),

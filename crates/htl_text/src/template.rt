@@ -5,7 +5,7 @@ ghost use Rattle.htl_text.specs.Template as spec;
 ghost use Rattle.htl_text.specs.Template.{template_of};
 
 use crate::fault::TextFault;
-use crate::piece::Piece;
+use crate::piece::TemplatePiece;
 use crate::quotes::closing;
 use crate::scan::{plain, tail};
 use htl_expr::{Expr, ExprFault};
@@ -16,16 +16,16 @@ use std::marker::Model;
 /// Text with expressions in it. Contracts see its pieces.
 #[derive(Drop)]
 pub struct Template {
-    pub(crate) pieces: Items<Piece>,
+    pub(crate) pieces: Items<TemplatePiece>,
 }
 
 impl Model for Template {
     ghost use Rattle.std.specs.Prelude.{List};
     ghost use Rattle.std.specs.Coded.{codes};
     ghost use Rattle.htl_expr.specs.contracts.node.Node as node;
-    ghost use Rattle.htl_text.specs.declared.piece.Piece.{Piece};
+    ghost use Rattle.htl_text.specs.declared.piece.TemplatePiece.{TemplatePiece};
 
-    ghost Value = { List Piece };
+    ghost Value = { List TemplatePiece };
 
     ghost coded = { Prim.hlevel (codes, node.the_row.coded) };
 
@@ -55,11 +55,11 @@ fn value(alloc: Global, place: usize, text: &str) -> Result<(Expr, &str), TextFa
     }
 }
 
-fn push_plain(pieces: &mut Items<Piece>, text: TextBuf) -> Mem<()>
+fn push_plain(pieces: &mut Items<TemplatePiece>, text: TextBuf) -> Mem<()>
     ensures { OnOk result (pieces.new ≡ pieces.old ++ spec.plain_pieces text) }
 {
     if !text.text().is_empty() {
-        pieces.push(Piece::Plain(text))?;
+        pieces.push(TemplatePiece::Plain(text))?;
     }
     Ok(())
 }
@@ -80,7 +80,7 @@ impl Template {
             }
             let place = text.len().saturating_sub(behind.len());
             let (expression, after) = value(alloc, place, behind)?;
-            pieces.push(Piece::Value(expression))?;
+            pieces.push(TemplatePiece::Value(expression))?;
             rest = after;
         }
     }

@@ -5,8 +5,8 @@ use Rattle.httparse.specs.Spans.{RequestExceeds}
 use Rattle.httparse.specs.declared.spans.HeaderSpan.{HeaderSpan}
 use Rattle.httparse.specs.declared.spans.RequestSpans.{RequestSpans}
 use Rattle.http_front.specs.declared.fault.InFault.TheVariants.{BadHead}
-use Rattle.http_front.specs.declared.window.Front.{Front}
-use Rattle.http_front.specs.declared.window.Front.TheVariants.{Whole, Partial, Refused, Crowded}
+use Rattle.http_front.specs.declared.window.StreamStart.{StreamStart}
+use Rattle.http_front.specs.declared.window.StreamStart.TheVariants.{Whole, Partial, Refused, Crowded}
 use Rattle.http_front.specs.Heads.{request_parts_at, parts_of}
 use Rattle.http_front.specs.Turns.{BeginsAsking, BeginsRefused, AwaitsHead, HasNoHead, longest_head}
 
@@ -20,14 +20,14 @@ pub record HoldsHead (bytes : List ℕ) (fields : List HeaderSpan) (spans : Requ
 abbrev pub HoldsSomeHead : List ℕ → List HeaderSpan → RequestSpans → Type 0
 HoldsSomeHead bytes fields spans = (head : RequestHead) × HoldsHead bytes fields spans head
 
-abbrev pub IsFront : List ℕ → ℕ → Front → Type 0
+abbrev pub IsFront : List ℕ → ℕ → StreamStart → Type 0
 IsFront bytes room (Whole head len) = (0 < len) × (len ≤ length bytes) × BeginsAsking bytes head (drop len bytes)
 IsFront bytes room Partial = HasNoRequest bytes × MayBecomeRequest bytes
 IsFront bytes room (Refused fault) = BeginsRefused bytes fault ⊎ ((fault ≡ BadHead) × NeverHasRequest bytes)
 IsFront bytes room Crowded = RequestExceeds room bytes
 
 -- what is found at the front of a whole stream
-abbrev pub IsStart : List ℕ → Front → Type 0
+abbrev pub IsStart : List ℕ → StreamStart → Type 0
 IsStart stream (Whole head len) = (0 < len) × (len ≤ length stream) × BeginsAsking stream head (drop len stream)
 IsStart stream Partial = AwaitsHead stream × (length stream < longest_head)
 IsStart stream (Refused fault) = BeginsRefused stream fault ⊎ HasNoHead stream fault

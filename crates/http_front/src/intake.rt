@@ -3,9 +3,9 @@ ghost use Rattle.std.specs.Prelude.{◌≡◌, ◌≤◌, drop, length};
 ghost use Rattle.http_front.specs.Turns.{with_body};
 
 use crate::fault::InFault;
-use crate::head::Head;
+use crate::head::RequestHead;
 use crate::turn::Turn;
-use crate::window::{Front, read_front};
+use crate::window::{StreamStart, read_front};
 use httparse::spans::{EMPTY_HEADER_SPAN, HeaderSpan};
 use sp_base::{ByteBuf, Mem, Req};
 use std::alloc::Global;
@@ -18,7 +18,7 @@ const USUAL_PLACES: usize = 100;
 #[derive(Drop)]
 enum Phase {
     Heading,
-    Body(Head),
+    Body(RequestHead),
     Failed(InFault),
 }
 
@@ -120,16 +120,16 @@ impl Intake {
         }
         let rest = left(&self.buffer, self.start);
         match read_front(alloc, rest, self.places.as_mut_slice())? {
-            Front::Whole(head, len) => Ok(self.begin_body(head, len)),
-            Front::Partial | Front::Crowded => Ok(Advance::Waiting),
-            Front::Refused(fault) => {
+            StreamStart::Whole(head, len) => Ok(self.begin_body(head, len)),
+            StreamStart::Partial | StreamStart::Crowded => Ok(Advance::Waiting),
+            StreamStart::Refused(fault) => {
                 self.phase = Phase::Failed(fault);
                 Err(fault)
             }
         }
     }
 
-    fn begin_body(&mut self, head: Head, len: usize) -> Advance
+    fn begin_body(&mut self, head: RequestHead, len: usize) -> Advance
         requires { IsAtHead self.old head len }
         ensures { Advances self.old self.new result }
     {
@@ -178,7 +178,7 @@ fn left(buffer: &Vec<u8>, start: usize) -> &[u8]
     &buffer[start..]
 }
 
-fn with_body(head: Head, body: ByteBuf) -> Req
+fn with_body(head: RequestHead, body: ByteBuf) -> Req
     ensures { result ≡ with_body head body }
 {
     let mut request = head.request;

@@ -5,7 +5,7 @@ ghost use Rattle.http_front.specs.Fronts.{IsFront, IsStart, HoldsSomeHead};
 ghost use Rattle.http_front.specs.Heads.{AreWithin};
 
 use crate::fault::InFault;
-use crate::head::{Head, read_head};
+use crate::head::{RequestHead, read_head};
 use httparse::spans::{EMPTY_HEADER_SPAN, HeaderSpan, RequestSpans, parse_request};
 use httparse::{Error, Status};
 use sp_base::{Mem, NoMemory};
@@ -18,9 +18,9 @@ const MOST_PLACES: usize = 8_192;
 
 /// What stands at the front of a stream.
 #[derive(Drop)]
-pub enum Front {
+pub enum StreamStart {
     /// A whole head, and the number of its bytes.
-    Whole(Head, usize),
+    Whole(RequestHead, usize),
     /// No whole head, and one may still come.
     Partial,
     /// A head that is refused, or bytes that begin none.
@@ -30,17 +30,19 @@ pub enum Front {
 }
 
 /// Reads the head at the front of a stream. The places are written over.
-pub fn read_front(alloc: Global, stream: &[u8], places: &mut [HeaderSpan]) -> Mem<Front>
+pub fn read_front(alloc: Global, stream: &[u8], places: &mut [HeaderSpan]) -> Mem<StreamStart>
     ensures { IfOk result (IsStart stream.now) }
 {
     let window = window(stream);
     match read_whole(alloc, window, places)? {
-        Front::Whole(head, len) => Ok(Front::Whole(head, len)),
-        Front::Partial if window.len() == LONGEST_HEAD => { Ok(Front::Refused(InFault::LongHead)) }
-        Front::Partial => Ok(Front::Partial),
-        Front::Refused(fault) => Ok(Front::Refused(fault)),
+        StreamStart::Whole(head, len) => Ok(StreamStart::Whole(head, len)),
+        StreamStart::Partial if window.len() == LONGEST_HEAD => {
+            Ok(StreamStart::Refused(InFault::LongHead))
+        }
+        StreamStart::Partial => Ok(StreamStart::Partial),
+        StreamStart::Refused(fault) => Ok(StreamStart::Refused(fault)),
         // There are places for as many fields as so many bytes can hold.
-        Front::Crowded => Ok(Front::Refused(InFault::BadHead)),
+        StreamStart::Crowded => Ok(StreamStart::Refused(InFault::BadHead)),
     }
 }
 
@@ -55,15 +57,15 @@ fn window(stream: &[u8]) -> &[u8]
 }
 
 // Most heads have fewer fields than there are places at hand. Those with more are read again with places for all.
-fn read_whole(alloc: Global, bytes: &[u8], places: &mut [HeaderSpan]) -> Mem<Front>
+fn read_whole(alloc: Global, bytes: &[u8], places: &mut [HeaderSpan]) -> Mem<StreamStart>
     requires { length bytes.now ≤ longest_head }
     ensures { IfOk result (IsFront bytes.now 8192) }
 {
     match read_window(alloc, bytes, places)? {
-        Front::Whole(head, len) => Ok(Front::Whole(head, len)),
-        Front::Partial => Ok(Front::Partial),
-        Front::Refused(fault) => Ok(Front::Refused(fault)),
-        Front::Crowded => {
+        StreamStart::Whole(head, len) => Ok(StreamStart::Whole(head, len)),
+        StreamStart::Partial => Ok(StreamStart::Partial),
+        StreamStart::Refused(fault) => Ok(StreamStart::Refused(fault)),
+        StreamStart::Crowded => {
             let mut all = vec![in alloc; EMPTY_HEADER_SPAN; MOST_PLACES]?;
             read_window(alloc, bytes, all.as_mut_slice())
         }
@@ -71,27 +73,32 @@ fn read_whole(alloc: Global, bytes: &[u8], places: &mut [HeaderSpan]) -> Mem<Fro
 }
 
 // Reads the head at the front of so many bytes as one may have. The places are written over.
-fn read_window(alloc: Global, bytes: &[u8], places: &mut [HeaderSpan]) -> Mem<Front>
+fn read_window(alloc: Global, bytes: &[u8], places: &mut [HeaderSpan]) -> Mem<StreamStart>
     requires { length bytes.now ≤ longest_head }
     ensures { IfOk result (IsFront bytes.now (length places.old)) }
 {
     match parse_request(bytes, places) {
         Ok(Status::Complete(head)) => whole(alloc, bytes, &places[..head.headers], &head),
-        Ok(Status::Partial) => Ok(Front::Partial),
-        Err(Error::TooManyHeaders) => Ok(Front::Crowded),
-        Err(_) => Ok(Front::Refused(InFault::BadHead)),
+        Ok(Status::Partial) => Ok(StreamStart::Partial),
+        Err(Error::TooManyHeaders) => Ok(StreamStart::Crowded),
+        Err(_) => Ok(StreamStart::Refused(InFault::BadHead)),
     }
 }
 
-fn whole(alloc: Global, bytes: &[u8], fields: &[HeaderSpan], spans: &RequestSpans) -> Mem<Front>
+fn whole(
+    alloc: Global,
+    bytes: &[u8],
+    fields: &[HeaderSpan],
+    spans: &RequestSpans,
+) -> Mem<StreamStart>
     requires small { length bytes.now ≤ longest_head }
     requires within { AreWithin bytes.now fields.now spans.now }
     requires holds { HoldsSomeHead bytes.now fields.now spans.now }
     ensures { (room : ℕ) → IfOk result (IsFront bytes.now room) }
 {
     match read_head(alloc, bytes, fields, spans) {
-        Ok(head) => Ok(Front::Whole(head, spans.len)),
+        Ok(head) => Ok(StreamStart::Whole(head, spans.len)),
         Err(InFault::NoMemory) => Err(NoMemory),
-        Err(fault) => Ok(Front::Refused(fault)),
+        Err(fault) => Ok(StreamStart::Refused(fault)),
     }
 }

@@ -1,5 +1,5 @@
 //! Whole connections, by the bytes that are sent on them.
-use connections::{Outbox, Place, Reply};
+use connections::{AnswerPlace, Outbox, Reply};
 use sp_base::{Answer, ByteBuf, HeadList, Mark, NoMemory, Path, PathFault, Req, TextBuf};
 use std::alloc::{AllocError, Global};
 use std::io;
@@ -59,9 +59,9 @@ fn answer(alloc: Global, body: &str) -> Result<Answer, Failed> {
 }
 
 // The place of a request that awaits a flight.
-fn place(alloc: Global, method: &str, close: bool, flight: u64) -> Result<Place, Failed> {
+fn place(alloc: Global, method: &str, close: bool, flight: u64) -> Result<AnswerPlace, Failed> {
     let request = request(alloc, method, close)?;
-    Ok(Place::of_request(&request, false, Reply::Awaits(flight)))
+    Ok(AnswerPlace::of_request(&request, false, Reply::Awaits(flight)))
 }
 
 // Whether these texts are sent next, one after another, and then nothing.
@@ -89,7 +89,7 @@ const FIXED: &str =
 fn pipeline(alloc: Global) -> Result<Outbox, Failed> {
     let mut outbox = Outbox::new(alloc)?;
     outbox.push(place(alloc, "GET", false, 1)?)?;
-    outbox.push(Place::interim())?;
+    outbox.push(AnswerPlace::interim())?;
     outbox.push(place(alloc, "HEAD", true, 2)?)?;
     Ok(outbox)
 }
@@ -111,8 +111,8 @@ fn answers_a_pipeline_in_its_order(rt: HostRuntime) -> Result<(), Failed> {
 fn closes_after_the_fixed_507(rt: HostRuntime) -> Result<(), Failed> {
     let mut outbox = Outbox::new(rt.alloc())?;
     let request = request(rt.alloc(), "GET", false)?;
-    outbox.push(Place::of_request(&request, false, Reply::Fixed))?;
-    outbox.push(Place::of_fault(Reply::Says(answer(rt.alloc(), "")?)))?;
+    outbox.push(AnswerPlace::of_request(&request, false, Reply::Fixed))?;
+    outbox.push(AnswerPlace::of_fault(Reply::Says(answer(rt.alloc(), "")?)))?;
     assert!(rt; sends(rt.alloc(), &mut outbox, &[FIXED]));
     assert!(rt; outbox.is_over());
     Ok(())
@@ -124,7 +124,7 @@ fn is_crowded_at_64_requests(rt: HostRuntime) -> Result<(), Failed> {
     outbox.push(place(rt.alloc(), "GET", false, 0)?)?;
     for flight in 1..64u64 {
         assert!(rt; !outbox.is_crowded());
-        outbox.push(Place::interim())?;
+        outbox.push(AnswerPlace::interim())?;
         outbox.push(place(rt.alloc(), "POST", false, flight)?)?;
     }
     assert!(rt; outbox.is_crowded());

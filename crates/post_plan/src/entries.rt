@@ -3,7 +3,7 @@ ghost use Rattle.std.specs.Prelude.{◌≡◌, IfOk, filter, map};
 ghost use Rattle.std.specs.List.{filter_map};
 ghost use Rattle.post_plan.specs.Entries as spec;
 
-use crate::node::Node;
+use crate::node::TargetNode;
 use crate::parameters::{path_text, suffix_of};
 use crate::spots::spot_of;
 use crate::suffix::Suffix;
@@ -29,7 +29,12 @@ impl<'a> Model for Entry<'a> {
     ghost view = { λ e. record { spot = e.spot; suffix = e.suffix; word = e.word.now } };
 }
 
-fn entry_of<'a>(alloc: Global, node: &Node, name: &str, word: &'a str) -> Mem<Option<Entry<'a>>>
+fn entry_of<'a>(
+    alloc: Global,
+    node: &TargetNode,
+    name: &str,
+    word: &'a str,
+) -> Mem<Option<Entry<'a>>>
     ensures { IfOk result (λ o. o ≡ spec.entry_of node.now (name.now, word.now)) }
 {
     let Some(spot) = spot_of(alloc, node, path_text(name))? else {
@@ -44,7 +49,7 @@ fn entry_of<'a>(alloc: Global, node: &Node, name: &str, word: &'a str) -> Mem<Op
 /// The content parameters of a form, seen from a node.
 pub fn entries<'a>(
     alloc: Global,
-    node: &Node,
+    node: &TargetNode,
     pairs: &'a [(TextBuf, TextBuf)],
 ) -> Mem<Vec<Entry<'a>>>
     ensures { IfOk result (λ es. es.items ≡ spec.entries node.now pairs.now) }

@@ -7,7 +7,7 @@ ghost use Rattle.post_plan.specs.Plan as spec;
 
 use crate::goals::goal_of;
 use crate::hints::hint_of;
-use crate::node::{Node, is_reserved_node, node_of, node_text};
+use crate::node::{TargetNode, is_reserved_node, node_of, node_text};
 use crate::orders::place_named;
 use crate::parameters::{path_text, suffix_of};
 use crate::spots::spot_of;
@@ -74,7 +74,12 @@ fn names_source(suffix: Option<Suffix>) -> bool
 }
 
 // The text of a content parameter that names nothing that may be changed.
-fn bad_entry<'a>(alloc: Global, node: &Node, name: &'a str, word: &'a str) -> Mem<Option<&'a str>>
+fn bad_entry<'a>(
+    alloc: Global,
+    node: &TargetNode,
+    name: &'a str,
+    word: &'a str,
+) -> Mem<Option<&'a str>>
     ensures { IfOk result (λ o. option_copied o ≡ spec.bad_entry node.now (name.now, word.now)) }
 {
     let path = path_text(name);
@@ -98,7 +103,7 @@ struct Verdict {
 // The text of a parameter that is no path, or leads to what isn't changed.
 fn bad_text<'a>(
     alloc: Global,
-    node: &Node,
+    node: &TargetNode,
     verdict: Verdict,
     name: &'a str,
     word: &'a str,
@@ -121,7 +126,7 @@ fn bad_text<'a>(
 #[tactic(auto, unfolding(crate::specs::Plan::first_bad))]
 fn first_bad<'a>(
     alloc: Global,
-    node: &Node,
+    node: &TargetNode,
     verdict: Verdict,
     pairs: &'a [(TextBuf, TextBuf)],
 ) -> Mem<Option<&'a str>>

@@ -3,7 +3,7 @@ ghost use Rattle.std.specs.Prelude.{◌≡◌, IfOk};
 ghost use Rattle.post_plan.specs.Entries as spec;
 
 use crate::entries::Entry;
-use crate::node::Node;
+use crate::node::TargetNode;
 use crate::spots::spot_of;
 use crate::suffix::Suffix;
 use crate::{Carry, CarryList, Spot, SpotList};
@@ -49,7 +49,7 @@ pub fn deletes(alloc: Global, entries: &[Entry]) -> Mem<SpotList>
 }
 
 // The move or the copy that an entry asks for, where its word names a place.
-fn carry_of(alloc: Global, node: &Node, entry: &Entry) -> Mem<Option<Carry>>
+fn carry_of(alloc: Global, node: &TargetNode, entry: &Entry) -> Mem<Option<Carry>>
     ensures { IfOk result (λ o. o ≡ spec.carry_of node.now entry.now) }
 {
     match spot_of(alloc, node, entry.word)? {
@@ -62,7 +62,12 @@ fn carry_of(alloc: Global, node: &Node, entry: &Entry) -> Mem<Option<Carry>>
 }
 
 /// Each `@MoveFrom`, or each `@CopyFrom`, in the order of the form.
-pub fn carries(alloc: Global, node: &Node, suffix: Suffix, entries: &[Entry]) -> Mem<CarryList>
+pub fn carries(
+    alloc: Global,
+    node: &TargetNode,
+    suffix: Suffix,
+    entries: &[Entry],
+) -> Mem<CarryList>
     ensures { IfOk result (λ list. list ≡ spec.carries node.now suffix entries.now) }
 {
     let mut list = CarryList::new(alloc);

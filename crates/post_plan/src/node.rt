@@ -11,12 +11,12 @@ use std::marker::Model;
 
 /// A node, or a new one below it, whose name need not be one that a path may have. Contracts see the segments.
 #[derive(Drop)]
-pub struct Node<'a> {
+pub struct TargetNode<'a> {
     pub parent: &'a Path,
     pub name: Option<&'a str>,
 }
 
-impl<'a> Model for Node<'a> {
+impl<'a> Model for TargetNode<'a> {
     ghost use Rattle.std.specs.Prelude.{List, ℕ, option_copied};
     ghost use Rattle.post_plan.specs.Spots.{under};
 
@@ -27,7 +27,7 @@ impl<'a> Model for Node<'a> {
 
 // A segment of the path of what stands below a node.
 #[tactic(auto, using(crate::proofs::NodeLemmas::seg_of_parent, crate::proofs::NodeLemmas::seg_of_rest, crate::proofs::NodeLemmas::seg_of_name, crate::proofs::NodeLemmas::seg_past_name))]
-fn seg_below<'a>(node: &Node<'a>, rest: &'a Path, n: usize) -> Option<&'a str>
+fn seg_below<'a>(node: &TargetNode<'a>, rest: &'a Path, n: usize) -> Option<&'a str>
     ensures { option_copied result ≡ slice_get (node.now ++ rest.now) n }
 {
     let depth = node.parent.depth();
@@ -68,7 +68,7 @@ pub fn is_reserved(path: &Path) -> bool
 
 /// The same of a path below a node.
 #[tactic(auto, using(crate::proofs::NodeLemmas::reserved_of))]
-pub fn is_reserved_below(node: &Node, rest: &Path) -> bool
+pub fn is_reserved_below(node: &TargetNode, rest: &Path) -> bool
     ensures { result ≡ spec.is_reserved (node.now ++ rest.now) }
 {
     is_merge_root(seg_below(node, rest, 0), seg_below(node, rest, 1))
@@ -76,7 +76,7 @@ pub fn is_reserved_below(node: &Node, rest: &Path) -> bool
 
 /// The same of the node itself.
 #[tactic(auto, using(crate::proofs::NodeLemmas::reserved_alone))]
-pub fn is_reserved_node(alloc: Global, node: &Node) -> bool
+pub fn is_reserved_node(alloc: Global, node: &TargetNode) -> bool
     ensures { result ≡ spec.is_reserved node.now }
 {
     let root = Path::root(alloc);
@@ -84,14 +84,14 @@ pub fn is_reserved_node(alloc: Global, node: &Node) -> bool
 }
 
 /// The node that a form is about: the target, or the new node of this name below it.
-pub fn node_of<'a>(target: &'a Path, wish: &'a Option<NameWish>) -> Node<'a>
+pub fn node_of<'a>(target: &'a Path, wish: &'a Option<NameWish>) -> TargetNode<'a>
     ensures { result ≡ spec.under target.now (option_map wished_name wish.now) }
 {
     let name = match wish {
         Some(wish) => Some(wishes::name_in(wish)),
         None => None,
     };
-    Node {
+    TargetNode {
         parent: target,
         name,
     }
@@ -111,7 +111,7 @@ fn parent_text(path: &Path) -> &str
 
 /// The text of a node's segments.
 #[tactic(auto, using(crate::proofs::NodeLemmas::text_of_child))]
-pub fn node_text(alloc: Global, node: &Node) -> Mem<TextBuf>
+pub fn node_text(alloc: Global, node: &TargetNode) -> Mem<TextBuf>
     ensures { IfOk result (λ t. t ≡ text_of node.now) }
 {
     match node.name {

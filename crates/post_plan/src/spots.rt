@@ -4,7 +4,7 @@ ghost use Rattle.sp_base.specs.Paths.{path_or_none, pieces, path_of};
 ghost use Rattle.post_plan.specs.Spots as spec;
 
 use crate::Spot;
-use crate::node::{Node, is_reserved, is_reserved_below};
+use crate::node::{TargetNode, is_reserved, is_reserved_below};
 use crate::relative::{RelativePath, relative_path_of};
 use sp_base::{Mem, NoMemory, Path, PathFault, seg_ok};
 use std::alloc::Global;
@@ -106,7 +106,7 @@ fn spot_below(path: Option<Path>) -> Option<Spot>
 
 // The path that a relative path leads to from a node which it leaves upwards.
 #[tactic(auto, using(crate::proofs::NodeLemmas::led_under))]
-fn led_up(alloc: Global, node: &Node, relative: RelativePath) -> Mem<Option<Path>>
+fn led_up(alloc: Global, node: &TargetNode, relative: RelativePath) -> Mem<Option<Path>>
     requires { 0 < relative.up }
     ensures { IfOk result (λ o. o ≡ spec.led_to node.now relative.entry) }
 {
@@ -119,7 +119,7 @@ fn led_up(alloc: Global, node: &Node, relative: RelativePath) -> Mem<Option<Path
     }
 }
 
-fn relative_spot(alloc: Global, node: &Node, relative: RelativePath) -> Mem<Option<Spot>>
+fn relative_spot(alloc: Global, node: &TargetNode, relative: RelativePath) -> Mem<Option<Spot>>
     ensures { IfOk result (λ o. o ≡ spec.relative_spot node.now relative.entry) }
 {
     if relative.up == 0 {
@@ -129,7 +129,7 @@ fn relative_spot(alloc: Global, node: &Node, relative: RelativePath) -> Mem<Opti
     Ok(absolute_spot(led_up(alloc, node, relative)?))
 }
 
-fn any_spot(alloc: Global, node: &Node, text: &str) -> Mem<Option<Spot>>
+fn any_spot(alloc: Global, node: &TargetNode, text: &str) -> Mem<Option<Spot>>
     ensures { IfOk result (λ o. o ≡ spec.any_spot node.now text.now) }
 {
     if is_absolute(text) {
@@ -141,7 +141,7 @@ fn any_spot(alloc: Global, node: &Node, text: &str) -> Mem<Option<Spot>>
     }
 }
 
-fn is_changeable(node: &Node, spot: &Spot) -> bool
+fn is_changeable(node: &TargetNode, spot: &Spot) -> bool
     ensures { result ≡ not (spec.is_reserved (spec.full_path node.now spot.now)) }
 {
     if spot.at_target {
@@ -151,7 +151,7 @@ fn is_changeable(node: &Node, spot: &Spot) -> bool
     }
 }
 
-fn if_changeable(node: &Node, spot: Option<Spot>) -> Option<Spot>
+fn if_changeable(node: &TargetNode, spot: Option<Spot>) -> Option<Spot>
     ensures { result ≡ option_and_then (spec.if_changeable node.now) spot }
 {
     match spot {
@@ -167,7 +167,7 @@ fn if_changeable(node: &Node, spot: Option<Spot>) -> Option<Spot>
 }
 
 /// The property or node that a text names, seen from a node, where that may be changed.
-pub fn spot_of(alloc: Global, node: &Node, text: &str) -> Mem<Option<Spot>>
+pub fn spot_of(alloc: Global, node: &TargetNode, text: &str) -> Mem<Option<Spot>>
     ensures { IfOk result (λ o. o ≡ spec.spot_of node.now text.now) }
 {
     if !ends_in_name(text) {

@@ -22,7 +22,7 @@ use Rattle.post_apply.specs.declared.fault.ApplyFault.{ApplyFault}
 use Rattle.post_apply.specs.declared.fault.ApplyFault.TheVariants.{Tree, Value, DestThere, NoMemory as NoMemoryOfOperation}
 use Rattle.publisher.specs.declared.refusal.Refusal.{Refusal}
 use Rattle.publisher.specs.declared.refusal.Refusal.TheVariants.{Status, NoMemory}
-use Rattle.publisher.specs.declared.targets.Target.{Target}
+use Rattle.publisher.specs.declared.targets.PostTarget.{PostTarget}
 use Rattle.publisher.specs.Refusals.{of_form, of_operation, of_plan, tree_refusal}
 use Rattle.publisher.specs.Posting.{PostOutcome, ◌>>=◌, or_bad_request, or_refused, posting, post_target}
 use Rattle.publisher.specs.PostLaws.{PostsAreRefusedForCauses}
@@ -44,7 +44,7 @@ refused_so : {A E : Type 0} (refusal : E → Refusal) (r : Result A E) → IfErr
 refused_so refusal (Ok x) was = tt
 refused_so refusal (Err e) was = was
 
-target_cause : (o : Option Target) → HasCause (or_bad_request o)
+target_cause : (o : Option PostTarget) → HasCause (or_bad_request o)
 target_cause (Some target) = tt
 target_cause None = refl
 

@@ -26,7 +26,7 @@ use Rattle.post_apply.specs.Posting.{Posted, content_after_post, posted}
 use Rattle.post_apply.specs.Laws.{OperationsKeepContentGood}
 use Rattle.post_apply.specs.declared.fault.ApplyFault.{ApplyFault}
 use Rattle.publisher.specs.declared.refusal.Refusal.{Refusal}
-use Rattle.publisher.specs.declared.targets.Target.{Target}
+use Rattle.publisher.specs.declared.targets.PostTarget.{PostTarget}
 use Rattle.publisher.specs.Refusals.{of_form, of_operation, of_plan}
 use Rattle.publisher.specs.Posting.{PostOutcome, ◌>>=◌, ends_in_star, named_path, or_bad_request, or_refused, path_in, posting, posting_content, starred, target_at, post_target}
 use Rattle.publisher.specs.Rendering.{content_after_request, is_post, mapping, posted_content}
@@ -73,8 +73,8 @@ any_is (Err e) = tt
 abbrev IsPathIf : Option (List (List ℕ)) → Type 0
 IsPathIf o = IfSome o (λ (p : List (List ℕ)). is_path p ≡ true)
 
-abbrev HasPathIf : Option Target → Type 0
-HasPathIf o = IfSome o (λ (t : Target). is_path t.path ≡ true)
+abbrev HasPathIf : Option PostTarget → Type 0
+HasPathIf o = IfSome o (λ (t : PostTarget). is_path t.path ≡ true)
 
 at_path : (star : Bool) (o : Option (List (List ℕ))) → IsPathIf o → HasPathIf (option_map (target_at star) o)
 at_path star None is = tt
@@ -84,7 +84,7 @@ at_parent : (o : Option (List (List ℕ))) → IsPathIf o → HasPathIf (option_
 at_parent None is = tt
 at_parent (Some path) is = parent_path path is
 
-by_test : (b : Bool) (one other : Option Target) → HasPathIf one → HasPathIf other → HasPathIf (cond b one other)
+by_test : (b : Bool) (one other : Option PostTarget) → HasPathIf one → HasPathIf other → HasPathIf (cond b one other)
 by_test true one other this that = this
 by_test false one other this that = that
 
@@ -112,14 +112,14 @@ module _ (valid : (text : List ℕ) (path : List (List ℕ)) → path_of text �
       by_test (ends_in_star text) (starred text) (option_map (target_at slash) (named_path tree text)) (at_parent (path_in text) (spelled_is text))
       (at_path slash (named_path tree text) (or_other (split_of (has_resource tree) text) (path_in text) (split_is (has_resource tree) text) (spelled_is text)))
 
-  asked_is : (o : Option Target) → HasPathIf o → IfOk (or_bad_request o) (λ (t : Target). is_path t.path ≡ true)
+  asked_is : (o : Option PostTarget) → HasPathIf o → IfOk (or_bad_request o) (λ (t : PostTarget). is_path t.path ≡ true)
   asked_is None is = tt
   asked_is (Some target) is = is
 
   -- ---- the content
 
   module _ (paths : AsksForPaths) (keeps : OperationsKeepContentGood) where
-    planned_is : (target : Target) (pairs : List (List ℕ × List ℕ)) → is_path target.path ≡ true → IfOk (plan_of target.path target.star pairs) (λ (op : Op). names_paths op ≡ true)
+    planned_is : (target : PostTarget) (pairs : List (List ℕ × List ℕ)) → is_path target.path ≡ true → IfOk (plan_of target.path target.star pairs) (λ (op : Op). names_paths op ≡ true)
     planned_is target pairs is = go (plan_of target.path target.star pairs) refl
       where
         go : (r : Result Op PlanFault) → plan_of target.path target.star pairs ≡ r → IfOk r (λ (op : Op). names_paths op ≡ true)
@@ -136,7 +136,7 @@ module _ (valid : (text : List ℕ) (path : List (List ℕ)) → path_of text �
     posting_is : (tree : Content) (ask : Ask) (text : List ℕ) → IsGood tree → IfOk (posting tree ask text) (λ (done : Posted). IsGood done.content)
     unfolding posting
     posting_is tree ask text good =
-        followed (λ (t : Target). is_path t.path ≡ true) (λ (done : Posted). IsGood done.content) (or_bad_request (post_target tree text ask.slash)) _ (asked_is (post_target tree text ask.slash) (target_is tree text ask.slash)) (λ target is.
+        followed (λ (t : PostTarget). is_path t.path ≡ true) (λ (done : Posted). IsGood done.content) (or_bad_request (post_target tree text ask.slash)) _ (asked_is (post_target tree text ask.slash) (target_is tree text ask.slash)) (λ target is.
         followed (λ (pairs : List (List ℕ × List ℕ)). pairs ≡ pairs) (λ (done : Posted). IsGood done.content) (or_refused of_form (form_of ask.kind ask.body)) _ (any_is _) (λ pairs _.
         followed (λ (op : Op). names_paths op ≡ true) (λ (done : Posted). IsGood done.content) (or_refused of_plan (plan_of target.path target.star pairs)) _ (taken_on (λ (op : Op). names_paths op ≡ true) of_plan (plan_of target.path target.star pairs) (planned_is target pairs is)) (λ op all.
         taken_on (λ (done : Posted). IsGood done.content) of_operation (posted op tree) (done_is op tree all good))))

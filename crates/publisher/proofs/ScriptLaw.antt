@@ -15,7 +15,7 @@ use Rattle.type_chain.specs.Chain.{chain_of}
 use Rattle.type_chain.specs.declared.type_name.TypeName.{TypeName}
 use Rattle.script_rank.specs.Ranking.{HasNoCandidate, IsFirstScript, script_text}
 use Rattle.script_rank.specs.Search.{search_result}
-use Rattle.htl_text.specs.declared.piece.Piece.{Piece}
+use Rattle.htl_text.specs.declared.piece.TemplatePiece.{TemplatePiece}
 use Rattle.htl_text.specs.Template.{template_of, template_output as written_by}
 use Rattle.error_answers.specs.Errors.{error_answer}
 use Rattle.publisher.specs.Errors.{answer_with_body, redirect}
@@ -43,7 +43,7 @@ pub mapped_is : (tree : Content) (ask : Ask) (answer : MapAnswer) → is_read as
 mapped_is tree ask answer read mapped = read_is tree ask read ∙ ap (mapped_answer tree) mapped
 
 -- the answer of a resource by its first script
-pub answer_is : (tree : Content) (ask : Ask) (mapped : List ℕ) (parts : Parts) (res : Resource) (script : List (List ℕ)) (text : List ℕ) (pieces : List Piece)
+pub answer_is : (tree : Content) (ask : Ask) (mapped : List ℕ) (parts : Parts) (res : Resource) (script : List (List ℕ)) (text : List ℕ) (pieces : List TemplatePiece)
     → is_read ask.method ≡ true → mapping tree ask ≡ Inside mapped → split_of (has_resource tree) mapped ≡ Some parts → seen tree parts.path ≡ Some res
     → search_result tree (chain_of tree res.props) parts ≡ Some script → script_text tree script ≡ Some text → template_of text ≡ Ok pieces
     → rendered tree ask ≡ representation_of html_kind (mark_of res) (written_by (scope_of res) pieces)

@@ -42,7 +42,7 @@ use Rattle.post_apply.specs.declared.fault.ApplyFault.{ApplyFault}
 use Rattle.post_apply.specs.declared.fault.ApplyFault.TheVariants.{Tree, Value, DestThere, NoMemory as NoMemoryOfOperation}
 use Rattle.publisher.specs.declared.refusal.Refusal.{Refusal}
 use Rattle.publisher.specs.declared.refusal.Refusal.TheVariants.{Status, NoMemory}
-use Rattle.publisher.specs.declared.targets.Target.{Target}
+use Rattle.publisher.specs.declared.targets.PostTarget.{PostTarget}
 use Rattle.publisher.proofs.RenderingLemmas.{error_fits, fits_as}
 use Rattle.publisher.specs.Refusals.{of_form, of_operation, of_plan, tree_refusal}
 use Rattle.publisher.specs.Posting.{PostOutcome, ◌>>=◌, or_bad_request, or_refused, posting, posting_answer, refusal_answer, post_target}
@@ -159,7 +159,7 @@ operation_short (Value name fault) = (omega arith, omega arith)
 operation_short (DestThere path) = (omega arith, omega arith)
 operation_short NoMemoryOfOperation = tt
 
-target_short : (target : Option Target) → IsErrorOutcome (or_bad_request target)
+target_short : (target : Option PostTarget) → IsErrorOutcome (or_bad_request target)
 target_short (Some target) = tt
 target_short None = (omega arith, omega arith)
 

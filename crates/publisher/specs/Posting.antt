@@ -19,7 +19,7 @@ use Rattle.post_apply.specs.declared.report.PostReport.{PostReport}
 use Rattle.error_answers.specs.Errors.{error_answer}
 use Rattle.publisher.specs.declared.refusal.Refusal.{Refusal}
 use Rattle.publisher.specs.declared.refusal.Refusal.TheVariants.{Status, NoMemory}
-use Rattle.publisher.specs.declared.targets.Target.{Target}
+use Rattle.publisher.specs.declared.targets.PostTarget.{PostTarget}
 use Rattle.publisher.specs.Refusals.{of_form, of_plan, of_operation}
 
 -- what a step of a POST gives, or why the POST is refused
@@ -40,7 +40,7 @@ or_refused refusal (Err e) = Err (refusal e)
 -- ---- the target
 
 -- a path, and whether a new node is wished below it
-abbrev pub target_at : Bool → List (List ℕ) → Target
+abbrev pub target_at : Bool → List (List ℕ) → PostTarget
 target_at star path = record { path = path; star = star }
 
 -- the last segment of a text is `*`
@@ -56,15 +56,15 @@ abbrev pub named_path : Content → List ℕ → Option (List (List ℕ))
 named_path tree text = option_or (option_map (λ (parts : Parts). parts.path) (split_of (has_resource tree) text)) (path_in text)
 
 -- a new node is wished below the path before the last segment
-abbrev pub starred : List ℕ → Option Target
+abbrev pub starred : List ℕ → Option PostTarget
 starred text = option_map (λ path. target_at true (parent_of path)) (path_in text)
 
 -- the target of a text: a new node below it is wished where its last segment is `*`, and else where a slash stood at its end
-abbrev pub post_target : Content → List ℕ → Bool → Option Target
+abbrev pub post_target : Content → List ℕ → Bool → Option PostTarget
 post_target tree text slash = if ends_in_star text then starred text else option_map (target_at slash) (named_path tree text)
 
 -- the target, or Bad Request where there is none (RFC 9110, section 15.5.1)
-abbrev pub or_bad_request : Option Target → PostOutcome Target
+abbrev pub or_bad_request : Option PostTarget → PostOutcome PostTarget
 or_bad_request (Some target) = Ok target
 or_bad_request None = Err (Status 400)
 

@@ -11,7 +11,7 @@ ghost use Rattle.url_split.specs.declared.decompose.Parts.{Parts};
 ghost use Rattle.url_split.specs.Split.{IsSplit};
 ghost use Rattle.type_chain.specs.Chain.{chain_of};
 ghost use Rattle.script_rank.specs.Ranking.{IsFirstScript, script_text};
-ghost use Rattle.htl_text.specs.declared.piece.Piece.{Piece};
+ghost use Rattle.htl_text.specs.declared.piece.TemplatePiece.{TemplatePiece};
 ghost use Rattle.htl_text.specs.Spelling.{SpellsTemplate};
 ghost use Rattle.htl_text.specs.Template.{template_output as written_by};
 ghost use Rattle.error_answers.specs.Errors.{error_answer};
@@ -90,7 +90,7 @@ pub fn what_leads_away_is_a_redirect()
 /// A page that a script gives is what the pieces write that its text spells, for the resource: the resource is the one that the text is
 /// taken apart into to which the path's text is mapped, and the script the one that ranks first for its types.
 pub fn a_script_writes_its_pieces()
-    ensures { (tree : Content) (ask : Ask) (mapped : List ℕ) (parts : Parts) (res : Resource) (script : List (List ℕ)) (text : List ℕ) (pieces : List Piece)
+    ensures { (tree : Content) (ask : Ask) (mapped : List ℕ) (parts : Parts) (res : Resource) (script : List (List ℕ)) (text : List ℕ) (pieces : List TemplatePiece)
         → IsGood tree → is_read ask.method ≡ true → IsMapped tree ask.host ask.port (text_of ask.path) (Inside mapped)
         → IsSplit (has_resource tree) mapped parts → seen tree parts.path ≡ Some res
         → IsFirstScript tree (chain_of tree res.props) parts script → script_text tree script ≡ Some text → SpellsTemplate text pieces []

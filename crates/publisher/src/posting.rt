@@ -5,7 +5,7 @@ ghost use Rattle.resource_tree.specs.Patches.{patching};
 ghost use Rattle.publisher.specs.Posting as spec;
 
 use crate::refusal::Refusal;
-use crate::targets::{Target, target_of};
+use crate::targets::{PostTarget, target_of};
 use form_input::read_form;
 use post_apply::{Planned, PostReport, patch_of};
 use post_plan::plan;
@@ -14,7 +14,7 @@ use sp_base::{Answer, Ask, ByteBuf, Mark, Mem, TextBuf};
 use std::alloc::Global;
 use url_maps::location_of;
 
-fn or_bad_request(target: Option<Target>) -> Result<Target, Refusal>
+fn or_bad_request(target: Option<PostTarget>) -> Result<PostTarget, Refusal>
     ensures ok { IfOk result (λ t. spec.or_bad_request target ≡ Ok t) }
     ensures err { IfErr result (λ e. spec.or_bad_request target ≡ Err e) }
 {

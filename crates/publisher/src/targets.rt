@@ -9,7 +9,7 @@ use std::alloc::Global;
 
 /// The path that a POST acts at.
 #[derive(Drop)]
-pub(crate) struct Target {
+pub(crate) struct PostTarget {
     pub(crate) path: Path,
     /// A new node is wished below the path.
     pub(crate) star: bool,
@@ -42,11 +42,11 @@ fn named_path(alloc: Global, tree: &Tree, text: &str) -> Mem<Option<Path>>
 }
 
 // A new node below the path before the last segment of a text.
-fn starred(alloc: Global, text: &str) -> Mem<Option<Target>>
+fn starred(alloc: Global, text: &str) -> Mem<Option<PostTarget>>
     ensures { IfOk result (λ o. o ≡ spec.starred text.now) }
 {
     match path_in(alloc, text)? {
-        Some(path) => Ok(Some(Target {
+        Some(path) => Ok(Some(PostTarget {
             path: path.parent(alloc)?,
             star: true,
         })),
@@ -55,14 +55,19 @@ fn starred(alloc: Global, text: &str) -> Mem<Option<Target>>
 }
 
 /// The target of a text; `slash` says that a slash at its end was dropped.
-pub(crate) fn target_of(alloc: Global, tree: &Tree, text: &str, slash: bool) -> Mem<Option<Target>>
+pub(crate) fn target_of(
+    alloc: Global,
+    tree: &Tree,
+    text: &str,
+    slash: bool,
+) -> Mem<Option<PostTarget>>
     ensures { IfOk result (λ o. o ≡ spec.post_target tree.now text.now slash) }
 {
     if ends_in_star(text) {
         return starred(alloc, text);
     }
     match named_path(alloc, tree, text)? {
-        Some(path) => Ok(Some(Target { path, star: slash })),
+        Some(path) => Ok(Some(PostTarget { path, star: slash })),
         None => Ok(None),
     }
 }

@@ -8,11 +8,11 @@ use std::alloc::Global;
 
 /// A publisher behind a front.
 #[derive(Drop)]
-pub struct Site {
+pub struct SiteRenderer {
     pub publisher: Publisher,
 }
 
-impl Renderer for Site {
+impl Renderer for SiteRenderer {
     ghost publishing = { published };
 
     ghost content = { λ site. site.publisher };

@@ -9,7 +9,7 @@ use sp_base::{ByteBuf, NameList, NoMemory};
 use std::alloc::{AllocError, Global};
 
 /// The most bytes of a file's name.
-pub const LONGEST_NAME: usize = 16_384;
+pub const LONGEST_FILE_NAME: usize = 16_384;
 
 #[derive(Clone, Copy, PartialEq, Eq, Debug, Drop)]
 pub enum DiskFault {

@@ -1,7 +1,7 @@
 //! The walk over a folder and all folders below it.
 use crate::docroot::{BESIDE, sync_folder};
 use crate::name_index::{NameIndex, Standing};
-use crate::{DiskFault, LONGEST_NAME};
+use crate::{DiskFault, LONGEST_FILE_NAME};
 use sp_base::Mem;
 use std::alloc::Global;
 use std::fs::{self, DirEntry, Files};
@@ -66,7 +66,7 @@ fn take_entry<R: Files + AllocGlobal + Clone + Drop>(
         push_path(alloc, folders, path)?;
     } else if found.is_file() && !path.ends_with(BESIDE) {
         let name = path.get(prefix..).unwrap_or("");
-        if name.len() > LONGEST_NAME {
+        if name.len() > LONGEST_FILE_NAME {
             return Err(DiskFault::Failed);
         }
         names.add(alloc, name, Standing::Held)?;

@@ -14,7 +14,7 @@ pub fn files_have_names()
 {}
 
 /// A walk over the names of a disk ends, from whichever name of a list it goes on: the names that are listed after a name are greater, and
-/// names of at most `LONGEST_NAME` bytes can't rise without an end.
+/// names of at most `LONGEST_FILE_NAME` bytes can't rise without an end.
 pub fn walks_end()
     ensures later { (prefix after : List ℕ) (most : ℕ) (names : List (List ℕ)) → IsListing prefix after most names → All (λ name. by_name after name ≡ Less) names }
     ensures ends { (prefix : List ℕ) (most : ℕ) (after : ℕ → List ℕ) (lists : ℕ → List (List ℕ)) → IsEndlessWalk prefix most after lists → ⊥ }

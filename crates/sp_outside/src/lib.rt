@@ -20,7 +20,7 @@ mod sink;
 mod source;
 mod words;
 
-pub use disk::{Disk, DiskFault, LONGEST_NAME};
+pub use disk::{Disk, DiskFault, LONGEST_FILE_NAME};
 pub use laws::{files_have_names, walks_end};
 pub use mem_disk::{MemDisk, Plan, Way};
 pub use memory::{MemSink, MemSource};

@@ -4,7 +4,7 @@ ghost use Rattle.std.specs.declared.cmp.Ordering.TheVariants.{Less};
 ghost use Rattle.sp_base.specs.Names.{by_name};
 ghost use Rattle.sp_outside.specs.Files.{IsListing, IsName};
 
-use crate::LONGEST_NAME;
+use crate::LONGEST_FILE_NAME;
 use sp_base::{Mem, NameList, TextBuf};
 use std::alloc::Global;
 
@@ -33,7 +33,7 @@ fn is_name(name: &str) -> bool
 {
     // That a text is in UTF-8 is known once its bytes are read.
     let _bytes = name.as_bytes();
-    !name.is_empty() && name.len() <= LONGEST_NAME
+    !name.is_empty() && name.len() <= LONGEST_FILE_NAME
 }
 
 /// Adds a name, where it is one that the list goes on with.

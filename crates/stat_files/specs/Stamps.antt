@@ -1,4 +1,4 @@
--- The stamps of folders, as the files of the docroot hold them.
+-- The stamps of folders, as the files of the docroot hold them (Adobe Dispatcher manual, "Invalidating Files by Folder Level").
 use Rattle.std.specs.Prelude.{ℕ, List, Option, Some, None, option_map}
 use Rattle.sp_outside.specs.Files.{Files, file_at}
 use Rattle.docroot_format.specs.Names.{stat_name}

@@ -19,7 +19,7 @@ const MOST_TURNS: usize = 16;
 
 // What a turn in which a pair decides makes of a text.
 #[derive(Drop)]
-pub(crate) struct Step {
+pub(crate) struct Turn {
     pub text: TextBuf,
     /// The status of a redirect, where the pair leads away.
     pub away: Option<u16>,
@@ -73,7 +73,7 @@ impl MapIndex {
     }
 
     // A turn, if a pair applies: the longest prefix is looked at first.
-    fn step(&self, alloc: Global, tree: &Tree, site: &Option<Path>, text: &str) -> Mem<Option<Step>>
+    fn step(&self, alloc: Global, tree: &Tree, site: &Option<Path>, text: &str) -> Mem<Option<Turn>>
         requires { IsIndexOf tree.now self.now }
         ensures { IfOk result (IsTurn tree.now site.now text.now) }
     {
@@ -82,7 +82,7 @@ impl MapIndex {
         loop {
             let rest = &text[prefix.len()..];
             if let Some(pair) = self.best(alloc, tree, site, reach, prefix, rest)? {
-                return Ok(Some(Step {
+                return Ok(Some(Turn {
                     text: text_after(alloc, &pair, rest)?,
                     away: pair.away,
                 }));

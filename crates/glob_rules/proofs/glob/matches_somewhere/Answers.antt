@@ -1,6 +1,6 @@
 use Rattle.std.proofs.Common.{◌≡◌, ◌∷◌, ◌∙◌, sym, ap, rules, arith, None, length, ◌-◌, take, drop}
 use Rattle.std.specs.Str.{chars}
-use Rattle.glob_rules.specs.declared.piece.Piece.TheVariants.{Star}
+use Rattle.glob_rules.specs.declared.piece.GlobPiece.TheVariants.{Star}
 use Rattle.glob_rules.specs.Runs.{after_first_run}
 use Rattle.glob_rules.proofs.RunLemmas.{greedy_at, then_match}
 use Rattle.glob_rules.proofs.glob.matches_somewhere.Goals as goal

@@ -2,7 +2,7 @@ use Rattle.std.proofs.Common.{◌≡◌, ◌∷◌, length}
 use denote.Text.{Utf8}
 use denote.Shadow.{shadow}
 use Rattle.std.specs.Str.{chars}
-use Rattle.glob_rules.specs.declared.piece.Piece.TheVariants.{Star}
+use Rattle.glob_rules.specs.declared.piece.GlobPiece.TheVariants.{Star}
 use Rattle.glob_rules.specs.Globs.{is_match}
 use Rattle.glob_rules.proofs.glob.matches_somewhere.Given as goal
 

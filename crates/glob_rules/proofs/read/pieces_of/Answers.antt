@@ -1,7 +1,7 @@
 use Rattle.std.proofs.Common.{◌≡◌, ◌∷◌, ◌++◌, ◌∙◌, ap, rules, arith, [], List, None}
 use Rattle.std.specs.Str.{chars, NonePass}
-use Rattle.glob_rules.specs.declared.piece.Piece.{Piece}
-use Rattle.glob_rules.specs.declared.piece.Piece.TheVariants.{Class}
+use Rattle.glob_rules.specs.declared.piece.GlobPiece.{GlobPiece}
+use Rattle.glob_rules.specs.declared.piece.GlobPiece.TheVariants.{Class}
 use Rattle.glob_rules.specs.declared.piece.CharClass.{CharClass}
 use Rattle.glob_rules.specs.Reading.{class_of, is_close, pieces_from}
 use Rattle.glob_rules.proofs.ReadLemmas.{open_class, class_read, class_closes}
@@ -22,7 +22,7 @@ loop-c-preserved-then-c-eq91 c =
     let pushed = c.in_ok-push.ensures.items ∙ ap (λ (k : CharClass). c.loop-c.pieces.items ++ Class k ∷ []) class in
     record {
       text = search rules;
-      pieces = ap (λ (l : List Piece). l ++ pieces_from None (chars c.in-Some-cut_at_close.after.now)) pushed ∙ class_read c.loop-c.pieces.items _ _ _ _ _ parts none begins c.loop-c.invariant.pieces;
+      pieces = ap (λ (l : List GlobPiece). l ++ pieces_from None (chars c.in-Some-cut_at_close.after.now)) pushed ∙ class_read c.loop-c.pieces.items _ _ _ _ _ parts none begins c.loop-c.invariant.pieces;
       unclosed = class_closes _ _ _ _ _ parts none begins c.loop-c.invariant.unclosed;
       within = omega (arith, c.in-Some-cut_at_close.ensures.shorter, c.in-Some.ensures.shorter);
     }

@@ -1,6 +1,6 @@
 use Rattle.std.proofs.Common.{◌≡◌, ◌∷◌, [], ap, sym, ◌∙◌, rules, true, false}
 use Rattle.std.specs.Str.{chars}
-use Rattle.glob_rules.specs.declared.piece.Piece.TheVariants.{Star}
+use Rattle.glob_rules.specs.declared.piece.GlobPiece.TheVariants.{Star}
 use Rattle.glob_rules.specs.Globs.{is_match}
 use Rattle.glob_rules.proofs.RunLemmas.{end_here, end_over, end_step}
 use Rattle.glob_rules.proofs.runs.is_at_end.Goals as goal

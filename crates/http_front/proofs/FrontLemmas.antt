@@ -14,7 +14,7 @@ use Rattle.httparse.specs.Spans.{IsHeaderWithin, IsRequestWithin, IsRequestAt, R
 use Rattle.httparse.specs.declared.spans.HeaderSpan.{HeaderSpan}
 use Rattle.httparse.specs.declared.spans.RequestSpans.{RequestSpans}
 use Rattle.http_front.specs.declared.fault.InFault.{InFault}
-use Rattle.http_front.specs.declared.head.RequestHead.{RequestHead}
+use Rattle.http_front.specs.declared.head.AskedHead.{AskedHead}
 use Rattle.http_front.specs.Heads.{Parts, request_parts_at, parts_of, AreWithin, AreTexts, Asks, head_fault}
 use Rattle.http_front.specs.Fronts.{HoldsHead, HoldsSomeHead}
 use Rattle.http_front.specs.Turns.{BeginsWith, BeginsAsking, BeginsRefused, longest_head}
@@ -78,7 +78,7 @@ head_long h =
 print_long : (h : RequestHead) → 0 < length (print_request h)
 print_long h = omega (arith, head_long h)
 
-pub asking : (bytes : List ℕ) (fields : List HeaderSpan) (spans : RequestSpans) (asked : RequestHead) → length bytes ≤ longest_head → HoldsSomeHead bytes fields spans → Asks (request_parts_at bytes fields spans) asked
+pub asking : (bytes : List ℕ) (fields : List HeaderSpan) (spans : RequestSpans) (asked : AskedHead) → length bytes ≤ longest_head → HoldsSomeHead bytes fields spans → Asks (request_parts_at bytes fields spans) asked
     → (0 < spans.len) × (spans.len ≤ length bytes) × BeginsAsking bytes asked (drop spans.len bytes)
 asking bytes fields spans asked small holds asks = (
   subst (λ n. 0 < n) (sym holds.1.len_is) (print_long holds.0),

@@ -4,7 +4,7 @@ use Rattle.std.proofs.lemmas.List.{take-append-drop, drop-append-le, length-take
 use Rattle.httparse.specs.Grammar.{HasNoRequest, MayBecomeRequest}
 use Rattle.sp_base.specs.declared.answer.Req.{Req}
 use Rattle.http_front.specs.declared.fault.InFault.{InFault}
-use Rattle.http_front.specs.declared.head.RequestHead.{RequestHead}
+use Rattle.http_front.specs.declared.head.AskedHead.{AskedHead}
 use Rattle.http_front.specs.declared.intake.Intake.{Intake}
 use Rattle.http_front.specs.declared.intake.Phase.{Phase}
 use Rattle.http_front.specs.declared.intake.Phase.TheVariants.{Heading, Body, Failed}
@@ -20,7 +20,7 @@ append_nil (x ∷ xs) = ap (λ ys. x ∷ ys) (append_nil xs)
 
 -- ---- what a stream begins with stays
 
-asking_stays : (s more : List ℕ) (a : RequestHead) (r : List ℕ) → BeginsAsking s a r → BeginsAsking (s ++ more) a (r ++ more)
+asking_stays : (s more : List ℕ) (a : AskedHead) (r : List ℕ) → BeginsAsking s a r → BeginsAsking (s ++ more) a (r ++ more)
 asking_stays s more a r b = record { head = b.head; begins = begins_append s more b.head r b.begins; asks = b.asks }
 
 refused_stays : (s more : List ℕ) (fault : InFault) → BeginsRefused s fault → BeginsRefused (s ++ more) fault
@@ -41,28 +41,28 @@ fault_stays s more fault stops = ⊎_elim (λ refused. inl (refused_stays s more
 
 -- ---- after a head
 
-body_awaited : (s more : List ℕ) (a : RequestHead) (r : List ℕ) → BeginsAsking s a r → a.awaits_continue ≡ false → length (r ++ more) < a.body_length → AwaitsBody (s ++ more)
+body_awaited : (s more : List ℕ) (a : AskedHead) (r : List ℕ) → BeginsAsking s a r → a.awaits_continue ≡ false → length (r ++ more) < a.body_length → AwaitsBody (s ++ more)
 body_awaited s more a r b unasked short = record { asked = a; rest = r ++ more; begins = asking_stays s more a r b; unasked = unasked; short = short }
 
-request_begins : (s more : List ℕ) (a : RequestHead) (r : List ℕ) (awaits : Bool) (request : Req) (rest : List ℕ) → BeginsAsking s a r → a.awaits_continue ≡ awaits → HasBody a (r ++ more) request rest
+request_begins : (s more : List ℕ) (a : AskedHead) (r : List ℕ) (awaits : Bool) (request : Req) (rest : List ℕ) → BeginsAsking s a r → a.awaits_continue ≡ awaits → HasBody a (r ++ more) request rest
     → BeginsWithRequest (s ++ more) awaits request rest
 request_begins s more a r awaits request rest b is body = record { asked = a; bytes = r ++ more; begins = asking_stays s more a r b; awaits_is = is; body = body }
 
 -- a head whose sender doesn't wait leads to what follows it
-pub ready : (s more : List ℕ) (a : RequestHead) (r : List ℕ) (turns : List Turn) (end : End) → BeginsAsking s a r → a.awaits_continue ≡ false → TurnsFollow a (r ++ more) turns end → SpellsTurns (s ++ more) turns end
+pub ready : (s more : List ℕ) (a : AskedHead) (r : List ℕ) (turns : List Turn) (end : End) → BeginsAsking s a r → a.awaits_continue ≡ false → TurnsFollow a (r ++ more) turns end → SpellsTurns (s ++ more) turns end
 ready s more a r [] end b unasked f = subst (Stops (s ++ more)) (sym f.1) (inr (body_awaited s more a r b unasked f.0))
 ready s more a r (Continue ∷ turns) end b unasked f = absurd f
 ready s more a r (Whole request ∷ turns) end b unasked f = (f.0, request_begins s more a r false request f.0 b unasked f.1, f.2)
 
 -- a head whose sender waits is told of first
-pub asked : (s more : List ℕ) (a : RequestHead) (r : List ℕ) (turns : List Turn) (end : End) → BeginsAsking s a r → a.awaits_continue ≡ true → TurnsFollow a (r ++ more) turns end → SpellsTurns (s ++ more) (Continue ∷ turns) end
+pub asked : (s more : List ℕ) (a : AskedHead) (r : List ℕ) (turns : List Turn) (end : End) → BeginsAsking s a r → a.awaits_continue ≡ true → TurnsFollow a (r ++ more) turns end → SpellsTurns (s ++ more) (Continue ∷ turns) end
 asked s more a r [] end b is f = (record { asked = a; rest = r ++ more; begins = asking_stays s more a r b; asks = is; short = f.0 }, f.1)
 asked s more a r (Continue ∷ turns) end b is f = absurd f
 asked s more a r (Whole request ∷ turns) end b is f = (f.0, request_begins s more a r true request f.0 b is f.1, f.2)
 
 -- ---- a body
 
-pub body_taken : (a : RequestHead) (rest more : List ℕ) (request : Req) (turns : List Turn) (end : End) → a.body_length ≤ length rest → request ≡ with_body a (take a.body_length rest)
+pub body_taken : (a : AskedHead) (rest more : List ℕ) (request : Req) (turns : List Turn) (end : End) → a.body_length ≤ length rest → request ≡ with_body a (take a.body_length rest)
     → SpellsTurns (drop a.body_length rest ++ more) turns end → TurnsFollow a (rest ++ more) (Whole request ∷ turns) end
 body_taken a rest more request turns end fits is spells =
     let n = a.body_length in (
@@ -101,19 +101,19 @@ stands_waiting old heading awaits short =
     subst (λ p. Continues p (rest_of old ++ []) [] Waits) (sym heading)
     (subst (λ s. Stops s Waits) (sym (append_nil (rest_of old))) (inl (awaits, short)))
 
-pub leads_ready : (old : Intake) (rest : List ℕ) (a : RequestHead) (len : ℕ) → old.phase ≡ Heading → rest ≡ drop len (rest_of old) → BeginsAsking (rest_of old) a (drop len (rest_of old))
+pub leads_ready : (old : Intake) (rest : List ℕ) (a : AskedHead) (len : ℕ) → old.phase ≡ Heading → rest ≡ drop len (rest_of old) → BeginsAsking (rest_of old) a (drop len (rest_of old))
     → a.awaits_continue ≡ false → (more : List ℕ) (turns : List Turn) (end : End) → Continues (Body a) (rest ++ more) turns end → Left old more turns end
 leads_ready old rest a len heading is begins unasked = λ more turns end f.
     subst (λ p. Continues p (rest_of old ++ more) turns end) (sym heading)
     (ready (rest_of old) more a (drop len (rest_of old)) turns end begins unasked (subst (λ r. TurnsFollow a (r ++ more) turns end) is f))
 
-pub leads_asked : (old : Intake) (rest : List ℕ) (a : RequestHead) (len : ℕ) → old.phase ≡ Heading → rest ≡ drop len (rest_of old) → BeginsAsking (rest_of old) a (drop len (rest_of old))
+pub leads_asked : (old : Intake) (rest : List ℕ) (a : AskedHead) (len : ℕ) → old.phase ≡ Heading → rest ≡ drop len (rest_of old) → BeginsAsking (rest_of old) a (drop len (rest_of old))
     → a.awaits_continue ≡ true → (more : List ℕ) (turns : List Turn) (end : End) → Continues (Body a) (rest ++ more) turns end → Left old more (Continue ∷ turns) end
 leads_asked old rest a len heading is begins waits = λ more turns end f.
     subst (λ p. Continues p (rest_of old ++ more) (Continue ∷ turns) end) (sym heading)
     (asked (rest_of old) more a (drop len (rest_of old)) turns end begins waits (subst (λ r. TurnsFollow a (r ++ more) turns end) is f))
 
-pub leads_body : (old : Intake) (phase : Phase) (rest : List ℕ) (a : RequestHead) (request : Req) → old.phase ≡ Body a → phase ≡ Heading → rest ≡ drop a.body_length (rest_of old)
+pub leads_body : (old : Intake) (phase : Phase) (rest : List ℕ) (a : AskedHead) (request : Req) → old.phase ≡ Body a → phase ≡ Heading → rest ≡ drop a.body_length (rest_of old)
     → a.body_length ≤ length (rest_of old) → request ≡ with_body a (take a.body_length (rest_of old))
     → (more : List ℕ) (turns : List Turn) (end : End) → Continues phase (rest ++ more) turns end → Left old more (Whole request ∷ turns) end
 leads_body old phase rest a request body heading is fits made = λ more turns end l.

@@ -4,7 +4,7 @@ use Rattle.std.proofs.lemmas.List.{take-append-drop, drop-append-le, length-take
 use Rattle.httparse.specs.Grammar.{HasNoRequest, NeverHasRequest, MayBecomeRequest}
 use Rattle.http_front.specs.declared.fault.InFault.{InFault}
 use Rattle.http_front.specs.declared.fault.InFault.TheVariants.{BadHead, LongHead}
-use Rattle.http_front.specs.declared.head.RequestHead.{RequestHead}
+use Rattle.http_front.specs.declared.head.AskedHead.{AskedHead}
 use Rattle.http_front.specs.declared.window.StreamStart.{StreamStart}
 use Rattle.http_front.specs.declared.window.StreamStart.TheVariants.{Partial, Crowded}
 use Rattle.http_front.specs.Fronts.{IsStart}
@@ -20,7 +20,7 @@ window_within s = let e = ap length (rejoined s) in omega (arith, e, length-appe
 pub window_short : (s : List ℕ) → length (window s) ≤ longest_head
 window_short s = let e = length-take longest_head s in grind arith
 
-pub start_whole : (s w : List ℕ) (a : RequestHead) (len : ℕ) → w ≡ window s → (0 < len) × (len ≤ length w) × BeginsAsking w a (drop len w) → (0 < len) × (len ≤ length s) × BeginsAsking s a (drop len s)
+pub start_whole : (s w : List ℕ) (a : AskedHead) (len : ℕ) → w ≡ window s → (0 < len) × (len ≤ length w) × BeginsAsking w a (drop len w) → (0 < len) × (len ≤ length s) × BeginsAsking s a (drop len s)
 start_whole s w a len e found =
     let more = drop longest_head s in
     let whole : w ++ more ≡ s = ap (λ x. x ++ more) e ∙ rejoined s in

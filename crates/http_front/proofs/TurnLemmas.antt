@@ -6,7 +6,7 @@ use Rattle.httparse.specs.Grammar.{RequestHead, print_request, ReadsRequest, Has
 use Rattle.httparse.proofs.GrammarLemmas.{ReadsRequest-append, request_prefix_free, request_unique}
 use Rattle.sp_base.specs.declared.answer.Req.{Req}
 use Rattle.http_front.specs.declared.fault.InFault.{InFault}
-use Rattle.http_front.specs.declared.head.RequestHead.{RequestHead}
+use Rattle.http_front.specs.declared.head.AskedHead.{AskedHead}
 use Rattle.http_front.specs.declared.head.Asked.{Asked}
 use Rattle.http_front.specs.declared.turn.Turn.{Turn}
 use Rattle.http_front.specs.declared.turn.Turn.TheVariants.{Continue, Whole}
@@ -83,22 +83,22 @@ window_full s more full = take-append-le longest_head s more full
 
 -- ---- what a head asks for
 
-pub asks_same : (p : Parts) (a b : RequestHead) → Asks p a → Asks p b → a ≡ b
+pub asks_same : (p : Parts) (a b : AskedHead) → Asks p a → Asks p b → a ≡ b
 asks_same p a b x y =
     let same : x.asked ≡ y.asked = cc (x.asked_is, y.asked_is) in
     x.head_is ∙ ap (head_with p) same ∙ sym y.head_is
 
-pub same_asking : (s more : List ℕ) (a b : RequestHead) (r q : List ℕ) → BeginsAsking s a r → BeginsAsking (s ++ more) b q → (a ≡ b) × (r ++ more ≡ q)
+pub same_asking : (s more : List ℕ) (a b : AskedHead) (r q : List ℕ) → BeginsAsking s a r → BeginsAsking (s ++ more) b q → (a ≡ b) × (r ++ more ≡ q)
 same_asking s more a b r q x y =
     let same = begins_same s more x.head y.head r q x.begins y.begins in
     (asks_same (parts_of y.head) a b (subst (λ h. Asks (parts_of h) a) same.0 x.asks) y.asks, same.1)
 
-pub not_refused : (s more : List ℕ) (a : RequestHead) (r : List ℕ) (fault : InFault) → BeginsAsking s a r → BeginsRefused (s ++ more) fault → ⊥
+pub not_refused : (s more : List ℕ) (a : AskedHead) (r : List ℕ) (fault : InFault) → BeginsAsking s a r → BeginsRefused (s ++ more) fault → ⊥
 not_refused s more a r fault x y =
     let same = begins_same s more x.head y.head r y.rest x.begins y.begins in
     none_some (head_fault (parts_of y.head)) fault (subst (λ h. head_fault (parts_of h) ≡ None) same.0 x.asks.faultless) y.refused
 
-pub not_awaited : (s more : List ℕ) (a : RequestHead) (r : List ℕ) → BeginsAsking s a r → HasNoRequest (window (s ++ more)) → ⊥
+pub not_awaited : (s more : List ℕ) (a : AskedHead) (r : List ℕ) → BeginsAsking s a r → HasNoRequest (window (s ++ more)) → ⊥
 not_awaited s more a r x none = has_head (s ++ more) x.head (r ++ more) (begins_append s more x.head r x.begins) none
 
 never_none : (w : List ℕ) → NeverHasRequest w → HasNoRequest w
@@ -109,11 +109,11 @@ never_none w never = subst HasNoRequest (append_nil w) (never [])
     append_nil (x ∷ xs) = ap (λ ys. x ∷ ys) (append_nil xs)
 
 -- a stream that begins with a head stops only for want of its body
-pub record Short (a : RequestHead) (bytes : List ℕ) : Type 0 where
+pub record Short (a : AskedHead) (bytes : List ℕ) : Type 0 where
   pub unasked : a.awaits_continue ≡ false
   pub short : length bytes < a.body_length
 
-pub stops_short : (s more : List ℕ) (a : RequestHead) (r : List ℕ) (end : End) → BeginsAsking s a r → Stops (s ++ more) end → Short a (r ++ more)
+pub stops_short : (s more : List ℕ) (a : AskedHead) (r : List ℕ) (end : End) → BeginsAsking s a r → Stops (s ++ more) end → Short a (r ++ more)
 stops_short s more a r Waits x stops = ⊎_elim
     (λ awaits. absurd (not_awaited s more a r x awaits.0.0))
     (λ body.
@@ -133,7 +133,7 @@ stops_short s more a r (Breaks fault) x stops = ⊎_elim
 
 -- ---- the request at the front
 
-whole_long : (a : RequestHead) (bytes : List ℕ) (request : Req) (rest more : List ℕ) → HasBody a bytes request rest → length (bytes ++ more) < a.body_length → ⊥
+whole_long : (a : AskedHead) (bytes : List ℕ) (request : Req) (rest more : List ℕ) → HasBody a bytes request rest → length (bytes ++ more) < a.body_length → ⊥
 whole_long a bytes request rest more body short =
     let size = ap length body.joined ∙ length-append body.body rest in
     omega (arith, size, length-append bytes more, body.whole, short)

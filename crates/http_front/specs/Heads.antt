@@ -15,7 +15,7 @@ use Rattle.sp_base.specs.Fields.{field_of}
 use Rattle.http_front.specs.declared.fault.InFault.{InFault}
 use Rattle.http_front.specs.declared.fault.InFault.TheVariants.{BadHead, ManyHeaders, BadTarget, NoLength, BadLength, LongBody}
 use Rattle.http_front.specs.declared.head.Asked.{Asked}
-use Rattle.http_front.specs.declared.head.RequestHead.{RequestHead}
+use Rattle.http_front.specs.declared.head.AskedHead.{AskedHead}
 use Rattle.http_front.specs.declared.target.Target.{Target}
 use Rattle.http_front.specs.Hosts.{host_of, length_of}
 use Rattle.http_front.specs.Targets.{target_of}
@@ -122,7 +122,7 @@ request_with method line minor asked fields close = record {
   close = close;
 }
 
-abbrev pub head_with : Parts → Asked → RequestHead
+abbrev pub head_with : Parts → Asked → AskedHead
 head_with p asked = record {
   request = request_with p.method (request_line p.method p.target p.minor) p.minor asked (heads p) (closes_connection p);
   body_length = asked.body_length;
@@ -130,7 +130,7 @@ head_with p asked = record {
 }
 
 -- nothing is wrong with a head, and this is what it asks for
-pub record Asks (p : Parts) (head : RequestHead) : Type 0 where
+pub record Asks (p : Parts) (head : AskedHead) : Type 0 where
   pub faultless : head_fault p ≡ None
   pub asked : Asked
   pub asked_is : asked_of p.minor p.target (heads p) ≡ Some asked

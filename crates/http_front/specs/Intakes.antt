@@ -1,7 +1,7 @@
 -- What an intake has still to tell of the bytes that it has been given, and which stream it stands for.
 use Rattle.std.specs.Prelude.{◌≡◌, ◌<◌, ◌+◌, ◌*◌, ◌++◌, ◌≤◌, ℕ, List, [], ◌∷◌, Option, Some, None, length, drop}
 use Rattle.http_front.specs.declared.fault.InFault.{InFault}
-use Rattle.http_front.specs.declared.head.RequestHead.{RequestHead}
+use Rattle.http_front.specs.declared.head.AskedHead.{AskedHead}
 use Rattle.http_front.specs.declared.intake.Intake.{Intake}
 use Rattle.http_front.specs.declared.intake.Phase.{Phase}
 use Rattle.http_front.specs.declared.intake.Phase.TheVariants.{Heading, Body, Failed}
@@ -12,7 +12,7 @@ use Rattle.http_front.specs.declared.turn.Turn.TheVariants.{Continue, Whole}
 use Rattle.http_front.specs.Turns.{End, Waits, Breaks, BeginsAsking, HasBody, SpellsTurns}
 
 -- the turns that come after a head
-abbrev pub TurnsFollow : RequestHead → List ℕ → List Turn → End → Type 0
+abbrev pub TurnsFollow : AskedHead → List ℕ → List Turn → End → Type 0
 TurnsFollow asked bytes [] end = (length bytes < asked.body_length) × (end ≡ Waits)
 TurnsFollow asked bytes (Continue ∷ turns) end = ⊥
 TurnsFollow asked bytes (Whole request ∷ turns) end = (rest : List ℕ) × HasBody asked bytes request rest × SpellsTurns rest turns end
@@ -97,7 +97,7 @@ Advances old new Ready = IntakeLeads old new × IsBody new.phase × (weight new 
 Advances old new Waiting = IntakeLeads old new × Stands old Waits
 
 -- what stands at the front, and the phase: a head that asks for this, of so many bytes
-pub record IsAtHead (i : Intake) (head : RequestHead) (len : ℕ) : Type 0 where
+pub record IsAtHead (i : Intake) (head : AskedHead) (len : ℕ) : Type 0 where
   pub heading : i.phase ≡ Heading
   pub some : 0 < len
   pub fits : len ≤ length (rest_of i)

@@ -5,7 +5,7 @@ use Rattle.httparse.specs.Grammar.{RequestHead, print_request, ReadsRequest, Has
 use Rattle.sp_base.specs.declared.answer.Req.{Req}
 use Rattle.http_front.specs.declared.fault.InFault.{InFault}
 use Rattle.http_front.specs.declared.fault.InFault.TheVariants.{BadHead, LongHead}
-use Rattle.http_front.specs.declared.head.RequestHead.{RequestHead}
+use Rattle.http_front.specs.declared.head.AskedHead.{AskedHead}
 use Rattle.http_front.specs.declared.turn.Turn.{Turn}
 use Rattle.http_front.specs.declared.turn.Turn.TheVariants.{Continue, Whole}
 use Rattle.http_front.specs.Heads.{parts_of, head_fault, Asks}
@@ -29,7 +29,7 @@ pub record BeginsWith (stream : List ℕ) (head : RequestHead) (rest : List ℕ)
   pub fits : length (print_request head) ≤ longest_head
 
 -- the stream begins with a head that asks for this, and rest comes after it
-pub record BeginsAsking (stream : List ℕ) (asked : RequestHead) (rest : List ℕ) : Type 0 where
+pub record BeginsAsking (stream : List ℕ) (asked : AskedHead) (rest : List ℕ) : Type 0 where
   pub head : RequestHead
   pub begins : BeginsWith stream head rest
   pub asks : Asks (parts_of head) asked
@@ -42,11 +42,11 @@ pub record BeginsRefused (stream : List ℕ) (fault : InFault) : Type 0 where
   pub refused : head_fault (parts_of head) ≡ Some fault
 
 -- the request with its body
-abbrev pub with_body : RequestHead → List ℕ → Req
+abbrev pub with_body : AskedHead → List ℕ → Req
 with_body asked body = record asked.request { body = body }
 
 -- the bytes after a head are the body that it tells of, and then rest
-pub record HasBody (asked : RequestHead) (bytes : List ℕ) (request : Req) (rest : List ℕ) : Type 0 where
+pub record HasBody (asked : AskedHead) (bytes : List ℕ) (request : Req) (rest : List ℕ) : Type 0 where
   pub body : List ℕ
   pub joined : bytes ≡ body ++ rest
   pub whole : length body ≡ asked.body_length
@@ -58,7 +58,7 @@ AwaitsHead stream = HasNoRequest (window stream) × MayBecomeRequest (window str
 
 -- a head is there, and not yet the whole of its body
 pub record AwaitsBody (stream : List ℕ) : Type 0 where
-  pub asked : RequestHead
+  pub asked : AskedHead
   pub rest : List ℕ
   pub begins : BeginsAsking stream asked rest
   pub unasked : asked.awaits_continue ≡ false
@@ -76,7 +76,7 @@ Stops stream (Breaks fault) = BeginsRefused stream fault ⊎ HasNoHead stream fa
 
 -- the stream begins with a whole request, whose sender waits for 100 Continue or doesn't, and rest comes after it
 pub record BeginsWithRequest (stream : List ℕ) (awaits : Bool) (request : Req) (rest : List ℕ) : Type 0 where
-  pub asked : RequestHead
+  pub asked : AskedHead
   pub bytes : List ℕ
   pub begins : BeginsAsking stream asked bytes
   pub awaits_is : asked.awaits_continue ≡ awaits
@@ -84,7 +84,7 @@ pub record BeginsWithRequest (stream : List ℕ) (awaits : Bool) (request : Req)
 
 -- the stream is a head whose sender waits for 100 Continue, and not yet the whole of its body
 pub record AwaitsAskedBody (stream : List ℕ) : Type 0 where
-  pub asked : RequestHead
+  pub asked : AskedHead
   pub rest : List ℕ
   pub begins : BeginsAsking stream asked rest
   pub asks : asked.awaits_continue ≡ true

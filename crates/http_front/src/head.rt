@@ -23,7 +23,7 @@ const LONGEST_BODY: usize = 8_388_608;
 
 /// What a head asks for.
 #[derive(Drop)]
-pub struct RequestHead {
+pub struct AskedHead {
     /// The request, without its body.
     pub request: Req,
     pub body_length: usize,
@@ -46,7 +46,7 @@ pub fn read_head(
     bytes: &[u8],
     fields: &[HeaderSpan],
     spans: &RequestSpans,
-) -> Result<RequestHead, InFault>
+) -> Result<AskedHead, InFault>
     requires within { spec.AreWithin bytes.now fields.now spans.now }
     requires texts { spec.AreTexts (spec.request_parts_at bytes.now fields.now spans.now) }
     ensures ok { IfOk result (spec.Asks (spec.request_parts_at bytes.now fields.now spans.now)) }
@@ -61,7 +61,7 @@ pub fn read_head(
     let awaits_continue = awaits_continue(spans.version, body_length, &heads);
     let line = request_line(alloc, method, target, spans.version)?;
     let request = request_with(alloc, method, line, spans.version, asked, heads, close)?;
-    Ok(RequestHead {
+    Ok(AskedHead {
         request,
         body_length,
         awaits_continue,

@@ -3,7 +3,7 @@ ghost use Rattle.std.specs.Prelude.{◌≡◌, ◌≤◌, drop, length};
 ghost use Rattle.http_front.specs.Turns.{with_body};
 
 use crate::fault::InFault;
-use crate::head::RequestHead;
+use crate::head::AskedHead;
 use crate::turn::Turn;
 use crate::window::{StreamStart, read_front};
 use httparse::spans::{EMPTY_HEADER_SPAN, HeaderSpan};
@@ -18,7 +18,7 @@ const USUAL_PLACES: usize = 100;
 #[derive(Drop)]
 enum Phase {
     Heading,
-    Body(RequestHead),
+    Body(AskedHead),
     Failed(InFault),
 }
 
@@ -129,7 +129,7 @@ impl Intake {
         }
     }
 
-    fn begin_body(&mut self, head: RequestHead, len: usize) -> Advance
+    fn begin_body(&mut self, head: AskedHead, len: usize) -> Advance
         requires { IsAtHead self.old head len }
         ensures { Advances self.old self.new result }
     {
@@ -178,7 +178,7 @@ fn left(buffer: &Vec<u8>, start: usize) -> &[u8]
     &buffer[start..]
 }
 
-fn with_body(head: RequestHead, body: ByteBuf) -> Req
+fn with_body(head: AskedHead, body: ByteBuf) -> Req
     ensures { result ≡ with_body head body }
 {
     let mut request = head.request;

@@ -5,7 +5,7 @@ ghost use Rattle.http_front.specs.Fronts.{IsFront, IsStart, HoldsSomeHead};
 ghost use Rattle.http_front.specs.Heads.{AreWithin};
 
 use crate::fault::InFault;
-use crate::head::{RequestHead, read_head};
+use crate::head::{AskedHead, read_head};
 use httparse::spans::{EMPTY_HEADER_SPAN, HeaderSpan, RequestSpans, parse_request};
 use httparse::{Error, Status};
 use sp_base::{Mem, NoMemory};
@@ -20,7 +20,7 @@ const MOST_PLACES: usize = 8_192;
 #[derive(Drop)]
 pub enum StreamStart {
     /// A whole head, and the number of its bytes.
-    Whole(RequestHead, usize),
+    Whole(AskedHead, usize),
     /// No whole head, and one may still come.
     Partial,
     /// A head that is refused, or bytes that begin none.

@@ -8,7 +8,7 @@ use Rattle.resource_tree.specs.Content.{Content, kid, node_at, same_path}
 use Rattle.resource_tree.specs.Changes.{kids_at}
 use Rattle.url_maps.specs.declared.pairs.Pair.{Pair}
 use Rattle.url_maps.specs.declared.pairs.PairKind.{PairKind}
-use Rattle.url_maps.specs.declared.turns.Turn.{Turn}
+use Rattle.url_maps.specs.declared.turns.MappingStep.{MappingStep}
 use Rattle.url_maps.specs.declared.pairs.PairKind.TheVariants.{Mapping}
 use Rattle.url_maps.specs.Mappings.{has_match, mapping_of}
 use Rattle.resource_tree.specs.declared.nodes.Node.{Node}
@@ -84,7 +84,7 @@ abbrev pub HasNoneBeyond : Content → Option (List (List ℕ)) → List ℕ →
 HasNoneBeyond tree site text at = (k : ℕ) (pair : Pair) → at < k → Applies tree site text k pair → ⊥
 
 -- what the pair that decides makes of a text
-pub record IsStep (tree : Content) (site : Option (List (List ℕ))) (text : List ℕ) (step : Turn) : Type 0 where
+pub record IsStep (tree : Content) (site : Option (List (List ℕ))) (text : List ℕ) (step : MappingStep) : Type 0 where
   pub at : ℕ
   pub pair : Pair
   pub decides : Decides tree site text at pair
@@ -92,7 +92,7 @@ pub record IsStep (tree : Content) (site : Option (List (List ℕ))) (text : Lis
   pub away_is : step.away ≡ pair.away
 
 -- a turn, or that no pair applies
-abbrev pub IsTurn : Content → Option (List (List ℕ)) → List ℕ → Option Turn → Type 0
+abbrev pub IsTurn : Content → Option (List (List ℕ)) → List ℕ → Option MappingStep → Type 0
 IsTurn tree site text (Some step) = IsStep tree site text step
 IsTurn tree site text None = HasNoPair tree site text
 

@@ -19,7 +19,7 @@ const MOST_TURNS: usize = 16;
 
 // What a turn in which a pair decides makes of a text.
 #[derive(Drop)]
-pub(crate) struct Turn {
+pub(crate) struct MappingStep {
     pub text: TextBuf,
     /// The status of a redirect, where the pair leads away.
     pub away: Option<u16>,
@@ -73,7 +73,13 @@ impl MapIndex {
     }
 
     // A turn, if a pair applies: the longest prefix is looked at first.
-    fn step(&self, alloc: Global, tree: &Tree, site: &Option<Path>, text: &str) -> Mem<Option<Turn>>
+    fn step(
+        &self,
+        alloc: Global,
+        tree: &Tree,
+        site: &Option<Path>,
+        text: &str,
+    ) -> Mem<Option<MappingStep>>
         requires { IsIndexOf tree.now self.now }
         ensures { IfOk result (IsTurn tree.now site.now text.now) }
     {
@@ -82,7 +88,7 @@ impl MapIndex {
         loop {
             let rest = &text[prefix.len()..];
             if let Some(pair) = self.best(alloc, tree, site, reach, prefix, rest)? {
-                return Ok(Some(Turn {
+                return Ok(Some(MappingStep {
                     text: text_after(alloc, &pair, rest)?,
                     away: pair.away,
                 }));

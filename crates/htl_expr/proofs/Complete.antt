@@ -68,7 +68,7 @@ mutual
   more-short _ _ _ _ _ g.end = omega arith
   more-short _ _ _ _ _ (g.more o x m) = omega (arith, separates-short _ _ _ o, reads-short _ _ _ _ _ x, more-short _ _ _ _ _ m)
 
--- ---- what stands behind an item of a chain
+-- ---- what stands after an item of a chain
 
 more_stops : (P : List ℕ → Type 0) (sep : Separator) (depth : ℕ) (s : List ℕ) (es : List ExprNode) (r : List ℕ) → ((s' r' : List ℕ) → Separates sep s' r' → P s') → P r → More sep depth s es r → P s
 more_stops P sep depth s _ _ op last g.end = last
@@ -346,7 +346,7 @@ parse Atom depth = spec.atom depth (spec.nesting depth)
 parse Start depth = spec.start depth (spec.nesting depth)
 parse Items depth = spec.items depth (spec.nesting depth)
 
--- what stands behind the parts of a line
+-- what stands after the parts of a line
 compares_operand : (s : List ℕ) (op : Comparison) (r : List ℕ) → Compares s op r → Stops Operand s
 unfolding is_at spec.access_at
 compares_operand s _ r (g.equal o) = rw o.parts refl
@@ -390,7 +390,7 @@ unfolding is_at
 no_comma [] h = absurd cc
 no_comma (c ∷ s) h = let e : c ≡ 93 = eqb_is c 93 h in rw e refl
 
--- what stands behind the items of a chain
+-- what stands after the items of a chain
 abbrev Behind : Separator → List ℕ → Type 0
 Behind And r = Stops Compare r × (is_at 38 r ≡ false)
 Behind Or r = Stops Both r × (is_at 124 r ≡ false)

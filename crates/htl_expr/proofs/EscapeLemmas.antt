@@ -96,7 +96,7 @@ run_ends n old before new rest plain run behind en er eb none ew inv =
     let last : flat_map html_escape rest ≡ run = run_step rest ∙ rw (run_stops rest done, er, en) (append-nil (take (reference_place rest) rest)) in
     ew ∙ sym (ap (λ (l : List ℕ). before ++ l) last) ∙ inv
 
--- a run is written, and a reference behind it
+-- a run is written, and a reference after it
 pub run_goes_on : (n : ℕ) (old before run_written new rest plain run behind reference : List ℕ) → n ≡ reference_place rest → run ≡ take n rest → behind ≡ drop n rest → first_reference behind ≡ Some reference
     → run_written ≡ before ++ run → new ≡ run_written ++ reference → before ++ flat_map html_escape rest ≡ old ++ flat_map html_escape plain → new ++ flat_map html_escape (drop 1 behind) ≡ old ++ flat_map html_escape plain
 run_goes_on n old before run_written new rest plain run behind reference en er eb some ew en' inv =

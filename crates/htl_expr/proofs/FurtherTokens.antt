@@ -28,7 +28,7 @@ second_keeps c t = goes_more bytes (length (drop 1 t)) (length t) _ _ (drop-shor
 pub between_keeps : (c : ℕ) (t : List ℕ) → Keeps bytes (length t) (spec.between c t)
 between_keeps c t = goes_if bytes (length t) (eqb c 44) _ _ _ _ (λ e. expect_keeps c t) (λ e. second_keeps c t)
 
--- a value with the text behind it
+-- a value with the text after it
 pub pair_keeps : {A : Type 0} (x : A) (r : List ℕ) → Keeps behind (length r) (Ok (x, r))
 pair_keeps x r = goes_ok behind (length r) (x, r) (here r)
 

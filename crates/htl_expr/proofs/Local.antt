@@ -1,4 +1,4 @@
--- What was read, or why nothing was, depends on no byte behind the next one, but for a letter behind a colon.
+-- What was read, or why nothing was, depends on no byte after the next one, but for a letter after a colon.
 use Rattle.std.proofs.Common.{◌≡◌, ℕ, Bool, true, false, cond, ◌||◌, ◌&&◌, eqb, List, [], ◌∷◌, ◌++◌, drop, length, Result, Ok, Err, refl, ap, sym, subst, ◌∙◌, ◌⊎◌, inl, inr, append_assoc}
 use Rattle.htl_expr.specs.declared.stop.ExprStop.{ExprStop}
 use Rattle.htl_expr.specs.declared.stop.ExprStop.TheVariants.{Memory, Unexpected, TooDeep}
@@ -13,7 +13,7 @@ bind_err {B = B} (Err d') f d e = inl (let same : ◌≡◌ {A = Result B ExprSt
 
 -- ---- what may be looked at
 
--- the same first byte, and no letter behind a colon that wasn't there
+-- the same first byte, and no letter after a colon that wasn't there
 abbrev pub Same : List ℕ → List ℕ → Type 0
 Same r z = SameHead r z × (goes_on Field z ≡ true → goes_on Field r ≡ true)
 
@@ -162,7 +162,7 @@ pub local_fixed : {A : Type 0} (b : Bool) (f h : List ℕ → Outcome A) → Loc
 local_fixed true f h lf lh = lf
 local_fixed false f h lf lh = lh
 
--- ---- behind a byte
+-- ---- after a byte
 
 pub local_drop : {A : Type 0} (f : List ℕ → Outcome A) → Local f → Local (λ s. f (drop 1 s))
 local_drop {A = A} f l = record { ok = ok; err = err }

@@ -141,7 +141,7 @@ local_leaf depth =
     local_if (begins is_quote) (λ t. string t >>= λ x. Ok (n.Text x.0, x.1)) _ (head_same is_quote) (local_bind string (λ w t. Ok (n.Text w, t)) local_string (λ w. local_pure (n.Text w)))
     (local_if (λ t. is_at 45 t || begins is_expression_digit t) (λ t. signed_number t >>= λ x. Ok (n.Long x.0, x.1)) (spec.name_or_object depth) number_same (local_bind signed_number (λ k t. Ok (n.Long k, t)) local_number (λ k. local_pure (n.Long k))) (local_named depth))
 
--- A choice is read at a colon only behind one that was read, so never where no level is left.
+-- A choice is read at a colon only after one that was read, so never where no level is left.
 abbrev Other : (Inside → List ℕ → Outcome ExprNode) → Type 0
 Other inner = Local (guarded 58 (inner Choice)) ⊎ ((t : List ℕ) (x : ExprNode × List ℕ) → inner Choice t ≡ Ok x → ⊥)
 

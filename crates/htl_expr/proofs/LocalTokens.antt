@@ -60,7 +60,7 @@ local_skip f l = record {
       });
 }
 
--- ---- behind a byte that is there
+-- ---- after a byte that is there
 
 abbrev pub too_deep : {A : Type 0} → List ℕ → Outcome A
 too_deep s = Err (TooDeep (length s))

@@ -28,7 +28,7 @@ module _ (levels : ℕ) where
     tree : Expr
     whole : WholeWithin levels (front ++ more) tree
 
-  -- with the letter behind the colon the text goes on
+  -- with the letter after the colon the text goes on
   with_letter : (p : List ℕ) (m : MayGoOn levels (p ++ colon_letter) (length (p ++ colon_letter) - 0)) → Begun (p ++ 58 ∷ [])
   with_letter p m =
       let t = p ++ colon_letter in

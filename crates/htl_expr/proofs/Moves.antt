@@ -1,4 +1,4 @@
--- What was read is read before other texts too: what may stand behind it, and how that goes on.
+-- What was read is read before other texts too: what may stand after it, and how that goes on.
 use Rattle.std.proofs.Common.{◌≡◌, ℕ, ◌<◌, Bool, true, false, ◌||◌, ◌&&◌, eqb, List, [], ◌∷◌, ◌++◌, length, refl, ap, sym, subst, ◌∙◌, ◌⊎◌, inl, inr, arith, append_assoc}
 use Rattle.htl_expr.specs.declared.tokens.NameKind.{NameKind}
 use Rattle.htl_expr.specs.declared.tokens.NameKind.TheVariants.{Name, Field}
@@ -19,15 +19,15 @@ Fresh (c ∷ z) = (is_letter c ≡ false) × (is_blank c ≡ false) × (eqb c 61
 abbrev pub Settled : List ℕ → Type 0
 Settled z = blanks_skipped z ≡ z
 
--- what may stand in the place of r behind blanks
+-- what may stand in the place of r after blanks
 abbrev pub Clear : List ℕ → List ℕ → Type 0
 Clear r z = SameHead r z ⊎ Settled z
 
--- what may stand in the place of r behind a token that isn't a name or a number
+-- what may stand in the place of r after a token that isn't a name or a number
 abbrev pub Near : List ℕ → List ℕ → Type 0
 Near r z = SameHead r z ⊎ Fresh z
 
--- what may stand in the place of r behind any token
+-- what may stand in the place of r after any token
 abbrev pub Fits : List ℕ → List ℕ → Type 0
 Fits r z = (SameHead r z × (goes_on Field r ≡ false → goes_on Field z ≡ false)) ⊎ Plain z
 
@@ -84,7 +84,7 @@ colon_near true b r z h e = absurd cc
 colon_near false true r z h e = letter_near r z h e
 colon_near false false r z h e = refl
 
--- behind a byte the text may go on as it likes, but a letter behind a colon
+-- after a byte the text may go on as it likes, but a letter after a colon
 pub field_behind : (c : ℕ) (r z : List ℕ) → Near r z → goes_on Field (c ∷ r) ≡ false → goes_on Field (c ∷ z) ≡ false
 unfolding goes_on
 field_behind c r z h e = colon_near (is_word_byte c) (eqb c 58) r z h e
@@ -97,7 +97,7 @@ pub clear_in : (m front r z : List ℕ) → m ≡ front ++ r → Clear r z → C
 clear_in m [] r z e f = subst (λ (q : List ℕ). Clear q z) (sym e) f
 clear_in m (c ∷ front) r z e f = inl (subst (λ (q : List ℕ). SameHead q (c ∷ (front ++ z))) (sym e) refl)
 
--- behind a front of what stands there
+-- after a prefix of what stands there
 pub fits_in : (m front r z : List ℕ) → m ≡ front ++ r → Fits r z → Fits m (front ++ z)
 fits_in m [] r z e f = subst (λ (q : List ℕ). Fits q z) (sym e) f
 fits_in m (c ∷ front) r z e f =
@@ -163,7 +163,7 @@ blanks (c ∷ u) = go (is_blank c) refl (blanks u)
 
 -- ---- steps
 
--- what was read, before any text that may stand behind it
+-- what was read, before any text that may stand after it
 pub record Moves (R : List ℕ → List ℕ → Type 0) (s r : List ℕ) : Type 0 where
   pub front : List ℕ
   pub parts : s ≡ front ++ r

@@ -105,7 +105,7 @@ module _ (levels : ℕ) where
   none_plain : (d : ExprStop) (s : List ℕ) (k : Left levels d s) → is_at 58 k.rest ≡ false → HasNone levels s (length k.front)
   none_plain d s k plain = none_from s k.front k.rest k.parts (λ z h. (moved d (length z), k.same z (no_colon k.rest z plain h)))
 
-  -- behind a colon that may belong to a name
+  -- after a colon that may belong to a name
   none_behind : (d : ExprStop) (s : List ℕ) (k : Left levels d s) → is_at 58 k.rest ≡ true → HasNone levels s (length k.front + 1)
   none_behind d s k at =
       let u = drop 1 k.rest in

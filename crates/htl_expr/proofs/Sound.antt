@@ -24,7 +24,7 @@ part_inside i.Choice = Choice
 part_inside i.Operand = Operand
 part_inside i.Items = Items
 
--- one level deeper, behind the byte that nests it
+-- one level deeper, after the byte that nests it
 abbrev pub Deeper : Inside → ℕ → List ℕ → ExprNode × List ℕ → Type 0
 Deeper which zero s p = ⊥
 Deeper which (suc depth) s p = Gave (part_inside which) depth (blanks_skipped (drop 1 s)) p

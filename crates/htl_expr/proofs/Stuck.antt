@@ -22,7 +22,7 @@ at_depth m Memory k e a = absurd a
 at_depth m (Unexpected n) k e a = absurd cc
 at_depth m (TooDeep n) k e a = (let same : m ≡ n = cc in same ∙ a)
 
--- The text is front and what is left; front with more behind it is complete.
+-- The text is a prefix and what is left; the prefix with more after it is complete.
 pub record Stuck (R : List ℕ → List ℕ → Type 0) (s : List ℕ) (k : ℕ) : Type 0 where
   pub front : List ℕ
   pub rest : List ℕ
@@ -32,12 +32,12 @@ pub record Stuck (R : List ℕ → List ℕ → Type 0) (s : List ℕ) (k : ℕ)
   pub near : (z : List ℕ) → Plain z → Near s (front ++ (more ++ z))
   pub ends : (z : List ℕ) → Plain z → R (front ++ (more ++ z)) z
 
--- and what is made of the text may stand behind a name
+-- and what is made of the text may stand after a name
 pub record Late (R : List ℕ → List ℕ → Type 0) (s : List ℕ) (k : ℕ) : Type 0 where
   pub stuck : Stuck R s k
   pub later : (z : List ℕ) → Plain z → Fits s (stuck.front ++ (stuck.more ++ z))
 
--- and what is made of the text may stand behind blanks, as a word may
+-- and what is made of the text may stand after blanks, as a word may
 pub record Cut (R : List ℕ → List ℕ → Type 0) (s : List ℕ) (k : ℕ) : Type 0 where
   pub front : List ℕ
   pub rest : List ℕ
@@ -140,7 +140,7 @@ stuck_then R Q s k tail q plain make = record {
   ends = λ z p. (tail ++ z, subst (λ (w : List ℕ). R (q.front ++ w) (tail ++ z)) (sym (append_assoc q.more tail z)) (q.ends (tail ++ z) (plain z p)), make z p);
 }
 
--- ---- reading stopped behind what is complete
+-- ---- reading stopped after what is complete
 
 pub moves_end : (R : List ℕ → List ℕ → Type 0) (s m : List ℕ) (k : ℕ) → Moves R s m → length m ≡ k → Stuck R s k
 moves_end R s m k a e = record { front = a.front; rest = m; more = []; parts = a.parts; left = e; near = λ z p. near_in s a.front m z a.parts (inr (plain_fresh z p)); ends = λ z p. a.same z (inr p) }

@@ -21,7 +21,7 @@ use Rattle.htl_expr.proofs.StuckTokens.{operand, operand_settled, byte_of, byte_
 use Rattle.htl_expr.proofs.StuckParts as part
 use Rattle.htl_expr.proofs.StuckParts.{SomePart, Sticks, moves_some, SomeAccesses, accesses_stuck, SomeMore, chain_stuck, start_missing, leaf_stuck, square_plain, round_plain}
 
--- one level deeper, behind the byte that nests it; where none may nest, reading stopped at that byte
+-- one level deeper, after the byte that nests it; where none may nest, reading stopped at that byte
 abbrev DeepStuck : Inside → ℕ → List ℕ → ℕ → Type 0
 DeepStuck which zero s k = length s ≡ k
 DeepStuck which (suc depth) s k = Stuck (SomePart (sound.part_inside which) depth) (blanks_skipped (drop 1 s)) k
@@ -29,7 +29,7 @@ DeepStuck which (suc depth) s k = Stuck (SomePart (sound.part_inside which) dept
 abbrev InnerSticks : ℕ → (Inside → List ℕ → Outcome ExprNode) → Type 0
 InnerSticks depth inner = (which : Inside) (s : List ℕ) (d : ExprStop) (k : ℕ) → inner which s ≡ Err d → At d k → DeepStuck which depth s k
 
--- behind the byte that nests it
+-- after the byte that nests it
 deep_late : (c : ℕ) (s : List ℕ) (k : ℕ) (R : List ℕ → List ℕ → Type 0) → is_at c s ≡ true → Stuck R (blanks_skipped (drop 1 s)) k → Late (Then (Byte c) R) s k
 deep_late c s k R at q =
     let b = byte c s at in

@@ -56,7 +56,7 @@ word_cut c w s d k Q more first settled make e a =
       ends = λ z p. (more ++ z, record { after = more ++ z; parts = shape z; rest = sym (settled z) }, make z p);
     }
 
--- ---- the sign behind the word, and the value
+-- ---- the sign after the word, and the value
 
 -- "=" and the value that a text spells, where neither stands
 sign_cut : (Q : List ℕ → List ℕ → Type 0) (more m : List ℕ) (d : ExprStop) (k : ℕ) → ((z : List ℕ) → Settled (more ++ z)) → ((z : List ℕ) → Plain z → Q (more ++ z) z) → expect 61 m ≡ Err d → At d k → Cut (Then (Byte 61) Q) m k
@@ -147,7 +147,7 @@ context_settled z = settled_at 39 (codes "text" ++ 39 ∷ z) refl
 context_string_missing : (s : List ℕ) (k : ℕ) → length s ≡ k → Cut SomeContextString s k
 context_string_missing s k e = record { front = []; rest = s; more = context_more; parts = refl; left = e; clear = λ z p. inr (context_settled z); ends = any_context }
 
--- the word behind the mark was cut
+-- the word after the mark was cut
 context_word_cut : (c : ℕ) (s : List ℕ) (context : Context) (d : ExprStop) (k : ℕ) → is_quote c ≡ true → literal (context_text context) s ≡ Err d → At d k → Cut SomeContextString (c ∷ s) k
 context_word_cut c s context d k quote e a =
     let w = context_text context in

@@ -22,7 +22,7 @@ use Rattle.htl_expr.proofs.Stuck.{At, at_length, Stuck, Late, Cut, stuck_map, la
 use Rattle.htl_expr.proofs.StuckLines.{stuck}
 use Rattle.htl_expr.proofs.StuckOptions.{SomeJoin, join_missing, join_cut, SomeContext, context_missing, context_cut}
 
--- ---- options up to what is left behind them
+-- ---- options up to what is left after them
 
 data SomeOptions : List ℕ → List ℕ → Type 0 where
   none : {r : List ℕ} → SomeOptions r r
@@ -39,7 +39,7 @@ to_end s r (context {a = a} {c = c} b x) e = (None, Some c, g.context b (subst (
 to_end s r (join_context {w = w} {m = m} {c = c} b j comma x) e = (Some w, Some c, g.join_context b j comma (subst (λ (t : List ℕ). InContext m c t) e x))
 to_end s r (context_join {m = m} {w = w} {c = c} b x comma j) e = (Some w, Some c, g.context_join b x comma (subst (λ (t : List ℕ). Join m w t) e j))
 
--- behind a byte that ends a name
+-- after a byte that ends a name
 byte_late : (c : ℕ) (s : List ℕ) (k : ℕ) (Q : List ℕ → List ℕ → Type 0) → Quiet c → is_at c s ≡ true → Cut Q (blanks_skipped (drop 1 s)) k → Late (Then (Byte c) Q) s k
 byte_late c s k Q quiet at q =
     let bl = blanks (drop 1 s) in
@@ -89,7 +89,7 @@ first_cut s d k e a = elim (chosen (is_at 106 s) _ _ _ e) [
       ]
 ]
 
--- behind a join, and behind a context
+-- after a join, and after a context
 after_join : (w s : List ℕ) (d : ExprStop) (k : ℕ) → spec.option (Some w, None) s ≡ Err d → At d k → Cut SomeContext s k
 unfolding spec.option
 after_join w s d k e a = elim (chosen (is_at 99 s) _ _ _ e) [
@@ -112,7 +112,7 @@ after_context c s d k e a = elim (chosen (is_at 106 s) _ _ _ e) [
   | inr h ↦ join_missing s k (at_length (length s) d k h.1 a)
 ]
 
--- the second option behind the first
+-- the second option after the first
 second_late : (t m : List ℕ) (given : spec.Given) (rest : List ℕ) (d : ExprStop) (k : ℕ) → Byte 64 t m → whole.Adds (None, None) m given rest → is_at 44 rest ≡ true → spec.option given (blanks_skipped (drop 1 rest)) ≡ Err d → At d k → Late SomeOptions t k
 second_late t m _ rest d k b (whole.joins {w = w} n j) at e a =
     late_map (Then (Then (Byte 64) (JoinOf w)) (Then (Byte 44) SomeContext)) SomeOptions t k (λ s' r' x. join_context x.1.1 x.1.2 x.2.1 x.2.2.1)

@@ -65,7 +65,7 @@ name_sound kind s p e =
       | inr h ↦ absurd cc
     ]
 
--- behind the mark, or behind a backslash
+-- after the mark, or after a backslash
 abbrev Inside : Bool → ℕ → List ℕ → List ℕ → List ℕ → Type 0
 Inside true mark s w after = StringBody mark (92 ∷ s) w after
 Inside false mark s w after = StringBody mark s w after

@@ -41,7 +41,7 @@ drop_back (suc n) (c ∷ t) =
     let more : suc (length t) - length (drop n t) ≡ suc (length t - length (drop n t)) = omega (arith, less) in
     rw more (drop_back n t)
 
--- what stands behind an expression ends the text
+-- what stands after an expression ends the text
 record Behind (t behind : List ℕ) : Type 0 where
   n : ℕ
   same : behind ≡ drop n t
@@ -98,7 +98,7 @@ read_fails all place old front behind rest text f h ep x plain inv =
     let fails = value_fails all behind f h (rw ep at x) in
     sym inv ∙ ap (before old) (sym (plain all)) ∙ ap (λ (r : Read). before old (with_plain front r)) fails
 
--- an expression is left, and a text behind it
+-- an expression is left, and a text after it
 pub read_more : (all place : ℕ) (old mid new : List TemplatePiece) (front behind after rest text : List ℕ) (e : Expr) → opens_expression behind ≡ true → place ≡ all - length behind → value_at place behind ≡ Ok (e, after)
     → ((n : ℕ) → with_plain front (template_pieces n 0 behind) ≡ template_pieces n 0 rest) → mid ≡ old ++ plain_pieces front → new ≡ mid ++ Value e ∷ [] → before old (template_pieces all 0 rest) ≡ template_pieces all 0 text
     → before new (template_pieces all 0 after) ≡ template_pieces all 0 text

@@ -181,7 +181,7 @@ or_true : (a b : Bool) → b ≡ true → (a || b) ≡ true
 or_true true b e = refl
 or_true false b e = e
 
--- an opening or an escape stands behind the plain bytes, or nothing
+-- an opening or an escape stands after the plain bytes, or nothing
 pub plain_stops : (t : List ℕ) → (eqb (length (drop (plain_len t) t)) 0 || (opens_expression (drop (plain_len t) t) || escapes (drop (plain_len t) t))) ≡ true
 unfolding plain_len
 plain_stops [] = refl

@@ -71,7 +71,7 @@ slashes_read (b ∷ rest) path most some e few =
 count_kept : (p : ℕ → Bool) (b : ℕ) (text more : List ℕ) (n : ℕ) → count_by p text + n ≤ count_by p more → count_by p (b ∷ text) + n ≤ count_by p (b ∷ more)
 count_kept p b text more n le = omega (arith, le, count_first p b text, count_first p b more)
 
--- a longer prefix has the slashes of a shorter one, and the one behind it
+-- a longer prefix has the slashes of a shorter one, and the one after it
 slashes_after : (text : List ℕ) (s k : ℕ) → s < k → k ≤ length text → is_slash (get_or text s 0) ≡ true → count_by is_slash (take s text) + 1 ≤ count_by is_slash (take k text)
 slashes_after [] s k less within is = absurd (omega (arith, less, within))
 slashes_after (b ∷ text) s zero less within is = absurd (omega (arith, less))

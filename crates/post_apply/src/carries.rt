@@ -128,7 +128,7 @@ fn property_at(alloc: Global, draft: &Draft, path: &Path) -> Mem<Option<Value>>
 {
     let parent = path.parent(alloc)?;
     match draft.node(&parent) {
-        Some(node) => match node.props.get(name_of(path)) {
+        Some(node) => match node.props().get(name_of(path)) {
             Some(value) => Ok(Some(value.duplicate(alloc)?)),
             None => Ok(None),
         },

@@ -32,12 +32,16 @@ fn numbered(alloc: Global, name: &str, n: usize) -> Mem<TextBuf>
 }
 
 // As many as the parent has kids and properties.
-fn most_taken(draft: &Draft, parent: &Path) -> Option<usize>
-    ensures { IfSome result (λ n. n ≡ spec.most_taken draft.now.content parent.now) }
+fn most_taken(alloc: Global, draft: &Draft, parent: &Path) -> Mem<usize>
+    ensures { IfOk result (λ n. n ≡ spec.most_taken draft.now.content parent.now) }
 {
-    match draft.node(parent) {
-        Some(node) => node.kids.len().checked_add(node.props.len()),
-        None => Some(0),
+    let Some(node) = draft.node(parent) else {
+        return Ok(0);
+    };
+    let kids = node.kids(alloc)?.len();
+    match kids.checked_add(node.props().len()) {
+        Some(most) => Ok(most),
+        None => Err(NoMemory),
     }
 }
 
@@ -47,9 +51,7 @@ fn free_numbered(alloc: Global, draft: &Draft, parent: &Path, name: &str) -> Mem
     requires { IsSound draft.now }
     ensures { IfOk result (λ t. t ≡ spec.numbered name.now (spec.free_number draft.now.content parent.now name.now 0 (spec.most_taken draft.now.content parent.now))) }
 {
-    let Some(most) = most_taken(draft, parent) else {
-        return Err(NoMemory);
-    };
+    let most = most_taken(alloc, draft, parent)?;
     let marks = marked_numbers(alloc, draft, parent, name, most)?;
     for n in 0..most {
         if is_marked(&marks, n) {

@@ -66,7 +66,8 @@ pub fn marked_numbers(
     let Some(node) = draft.node(parent) else {
         return Ok(marks);
     };
-    for kid in node.kids.as_slice() {
+    let kids = node.kids(alloc)?;
+    for kid in kids.as_slice() {
         mark(&mut marks, number_in(name, kid.text()));
     }
     Ok(marks)

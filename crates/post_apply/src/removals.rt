@@ -18,7 +18,7 @@ pub fn has_property(draft: &Draft, path: &Path, name: &str) -> bool
     ensures { result ≡ has_prop_at draft.now.content path.now name.now }
 {
     match draft.node(path) {
-        Some(node) => node.props.get(name).is_some(),
+        Some(node) => node.props().get(name).is_some(),
         None => false,
     }
 }

@@ -1,6 +1,7 @@
 //! Properties that are set.
 ghost use Rattle.std.specs.Prelude.{◌≡◌, ◌≢◌, ◌-◌, IfOk, IfSome, OnOk, IfErr, IsTrue, Ok, Err, length, option_copied, slice_get};
 ghost use Rattle.sp_base.specs.Paths.{seg_ok};
+ghost use Rattle.sp_base.specs.Typed.{single_of, typed_of};
 ghost use Rattle.tree_draft.specs.Drafts.{DraftFollows, IsSound};
 ghost use Rattle.resource_tree.specs.Content.{name_of};
 ghost use Rattle.post_apply.specs.Values as spec;
@@ -12,7 +13,7 @@ use crate::steps::set;
 use crate::way::make_way;
 use post_plan::{PropSet, WordList};
 use resource_tree::TreeFault;
-use sp_base::{Hint, Mem, Path, TextBuf, Value, ValueFault};
+use sp_base::{Hint, HintKind, Mem, Path, TextBuf, Value, ValueFault};
 use std::alloc::Global;
 use tree_draft::Draft;
 
@@ -25,12 +26,35 @@ fn untyped(alloc: Global, words: &WordList) -> Mem<Value>
     }
 }
 
+// The value of words by a hint. Words that stay texts are copied once.
+fn hinted(alloc: Global, hint: Hint, words: &WordList) -> Result<Value, ValueFault>
+    ensures ok { IfOk result (λ v. typed_of hint words.now ≡ Ok v) }
+    ensures err { IfErr result (λ e. e ≢ ValueFault.NoMemory → typed_of hint words.now ≡ Err e) }
+{
+    match (hint.kind, hint.many) {
+        (HintKind::Text, true) => Ok(Value::Texts(words.copied(alloc)?)),
+        (HintKind::Text, false) => one_text(alloc, words),
+        _ => Value::typed(alloc, hint, &words.copied(alloc)?),
+    }
+}
+
+// The value of one word.
+fn one_text(alloc: Global, words: &WordList) -> Result<Value, ValueFault>
+    ensures ok { IfOk result (λ v. single_of HintKind.Text words.now ≡ Ok v) }
+    ensures err { IfErr result (λ e. e ≢ ValueFault.NoMemory → single_of HintKind.Text words.now ≡ Err e) }
+{
+    match words.lone() {
+        Some(word) => Ok(Value::Text(TextBuf::of(alloc, word)?)),
+        None => Err(ValueFault::WrongCount(words.len())),
+    }
+}
+
 fn value_of(alloc: Global, hint: Option<Hint>, words: &WordList) -> Result<Value, ValueFault>
     ensures ok { IfOk result (λ v. spec.hinted_value hint words.now ≡ Ok v) }
     ensures err { IfErr result (λ e. e ≢ ValueFault.NoMemory → spec.hinted_value hint words.now ≡ Err e) }
 {
     match hint {
-        Some(hint) => Value::typed(alloc, hint, &words.copied(alloc)?),
+        Some(hint) => hinted(alloc, hint, words),
         None => Ok(untyped(alloc, words)?),
     }
 }

@@ -14,7 +14,6 @@ use Rattle.sp_base.specs.PathExact.{exact_paths}
 use Rattle.resource_tree.specs.declared.nodes.Node.{Node}
 use Rattle.resource_tree.specs.declared.patch.PatchNode.{PatchNode}
 use Rattle.resource_tree.specs.declared.patch.PatchNode.TheVariants as there
-use Rattle.sp_base.specs.declared.value.Value.{Value}
 use Rattle.resource_tree.specs.Content.{Content, HasSegmentNames, by_path, same_path, node_at, parent_of, empty_node}
 use Rattle.resource_tree.specs.Changes.{change_at, creation, with_kid}
 use Rattle.resource_tree.proofs.Creation.{creation_from}
@@ -44,7 +43,8 @@ node_at-over tree path there.Gone q sorted =
     let laws = eq_by_cmp_equiv by_path_total in
     lookup-remove_entry laws (same_path path) (laws.congr path) q tree (IsDistinct-from_sorted by_path _ sorted)
 
-row_left : (b : Bool) (row : PatchNode) (r : Option PatchNode) (o : Option Node) → left_by (cond b (Some row) r) o ≡ cond b (left_by (Some row) None) (left_by r o)
+-- what a row leaves, whatever was there
+pub row_left : (b : Bool) (row : PatchNode) (r : Option PatchNode) (o : Option Node) → left_by (cond b (Some row) r) o ≡ cond b (left_by (Some row) None) (left_by r o)
 row_left true (there.Node node) r o = refl
 row_left true there.Gone r o = refl
 row_left false row r o = refl
@@ -147,13 +147,11 @@ still_there tree new path q node sorted is there_ =
     ] in
     ap (λ (t : Content). is_some (node_at t q)) is ∙ ap is_some (node_at-over tree path (there.Node node) q sorted) ∙ both (same_path path q)
 
-pub created-is : (old put new : Content) (path dup parent : List (List ℕ)) (props : List (List ℕ × Value)) (kids : List (List ℕ)) (name seg : List ℕ) → put ≡ over old dup (there.Node (record { props = props; kids = kids })) → dup ≡ path → props ≡ [] → kids ≡ []
+pub created-is : (old put new : Content) (path dup parent : List (List ℕ)) (row : PatchNode) (name seg : List ℕ) → put ≡ over old dup row → dup ≡ path → row ≡ there.Node empty_node
     → new ≡ change_at put parent (with_kid name) → parent ≡ parent_of path → name ≡ seg → Some seg ≡ slice_get path (length path - 1) → new ≡ creation old path empty_node
-created-is old put new path dup parent props kids name seg is_put same no_props no_kids is_new above named last =
+created-is old put new path dup parent row name seg is_put same fresh is_new above named last =
     is_new
-    ∙ ap (λ (t : Content). change_at t parent (with_kid name))
-    (is_put ∙ ap (λ p. insert_entry by_path old p (record { props = props; kids = kids })) same ∙ ap (λ (ps : List (List ℕ × Value)). insert_entry by_path old path (record { props = ps; kids = kids })) no_props
-    ∙ ap (λ (ks : List (List ℕ)). insert_entry by_path old path (record { props = []; kids = ks })) no_kids)
+    ∙ ap (λ (t : Content). change_at t parent (with_kid name)) (is_put ∙ ap (λ p. over old p row) same ∙ ap (λ (r : PatchNode). over old path r) fresh)
     ∙ creation_from old old path parent empty_node name seg refl above named last
 
 pub no_names : HasSegmentNames []

@@ -1,1 +1,4 @@
 pub mod Drafts
+pub mod Falls
+pub mod Held
+pub mod Shown

@@ -13,9 +13,10 @@ ghost use Rattle.tree_draft.specs.Drafts.{DraftFollows, IsCounted, IsSound};
 use crate::Draft;
 use crate::create::{MOST_NODES, last_segment};
 use crate::edit::Edit;
+use crate::held::Row;
 use crate::part::paths_under;
 use indexmap::IndexMap;
-use resource_tree::{PatchNode, TreeFault};
+use resource_tree::TreeFault;
 use sp_base::{Mem, Path, TextBuf};
 use std::alloc::Global;
 use std::hash::RandomState;
@@ -74,14 +75,14 @@ impl<'a> Draft<'a> {
         if self.node(target).is_some() {
             return Err(TreeFault::Exists(target.duplicate(alloc)?));
         }
-        if above.props.get(name).is_some() {
+        if above.props().get(name).is_some() {
             return Err(TreeFault::Taken(target.duplicate(alloc)?));
         }
         Ok(())
     }
 
     // Sets what is to stand at the paths of some rows.
-    pub(crate) fn put_all(&mut self, rows: IndexMap<Path, PatchNode, RandomState>) -> Mem<()>
+    pub(crate) fn put_all(&mut self, rows: IndexMap<Path, Row, RandomState>) -> Mem<()>
         requires { IsStrictlySortedBy by_path (keys_of self.old.content) }
         ensures content { OnOk result (self.new.content ≡ patching self.old.content rows.entries) }
         ensures counted { OnOk result (IsCounted self.old → IsCounted self.new) }
@@ -120,7 +121,7 @@ pub(crate) fn part_there(
     source: &Path,
     target: &Path,
     paths: &[Path],
-) -> Result<IndexMap<Path, PatchNode, RandomState>, TreeFault>
+) -> Result<IndexMap<Path, Row, RandomState>, TreeFault>
     requires target { IsTrue (is_path target.now) }
     requires all { (q : List (List ℕ)) → list_any (same_path q) paths.now ≡ (is_some (node_at draft.now.content q) && is_under q source.now) }
     ensures ok { IfOk result (λ part. (q : List (List ℕ)) → row_at part.entries q ≡ row_at (part_there draft.now.content source.now target.now) q) }
@@ -137,7 +138,7 @@ pub(crate) fn part_there(
             continue;
         };
         let node = node.duplicate(alloc)?;
-        part.insert(there, PatchNode::Node(node))?;
+        part.insert(there, Row::of(alloc, draft.tree.seeds(), node))?;
     }
     Ok(part)
 }

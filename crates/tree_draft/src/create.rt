@@ -7,8 +7,9 @@ ghost use Rattle.tree_draft.specs.Drafts.{DraftFollows, IsSound};
 
 use crate::Draft;
 use crate::edit::Edit;
-use resource_tree::{Node, PatchNode, TreeFault};
-use sp_base::{Path, PropList, TextBuf, TextList};
+use crate::held::Row;
+use resource_tree::TreeFault;
+use sp_base::{Path, TextBuf};
 use std::alloc::Global;
 
 /// The most nodes of a tree.
@@ -38,11 +39,8 @@ impl<'a> Draft<'a> {
             return Err(TreeFault::Exists(path.duplicate(alloc)?));
         };
         let name = TextBuf::of(alloc, name)?;
-        let node = Node {
-            props: PropList::new(alloc),
-            kids: TextList::new(alloc),
-        };
-        self.put(path.duplicate(alloc)?, PatchNode::Node(node))?;
+        let row = Row::fresh(alloc, self.tree.seeds());
+        self.put(path.duplicate(alloc)?, row)?;
         self.change(alloc, &parent, Edit::Kid(name))?;
         Ok(())
     }
@@ -63,7 +61,7 @@ impl<'a> Draft<'a> {
         let Some(name) = last_segment(path) else {
             return Err(TreeFault::Exists(path.duplicate(alloc)?));
         };
-        if above.props.get(name).is_some() {
+        if above.props().get(name).is_some() {
             return Err(TreeFault::Taken(path.duplicate(alloc)?));
         }
         if self.len() >= MOST_NODES {

@@ -9,9 +9,11 @@ ghost use Rattle.resource_tree.specs.Changes.{change_at};
 ghost use Rattle.resource_tree.specs.Patches.{left_by, over, patching};
 ghost use Rattle.tree_draft.specs.Drafts.{IsCounted, IsSound, one_if, is_node, edited};
 
+use crate::DraftNode;
 use crate::edit::{Edit, edited};
+use crate::held::{HeldNode, Row};
 use indexmap::IndexMap;
-use resource_tree::{Node, PatchNode, Tree};
+use resource_tree::{Node, Tree};
 use sp_base::{Mem, NoMemory, Path};
 use std::alloc::Global;
 use std::hash::RandomState;
@@ -21,7 +23,7 @@ use std::marker::Model;
 #[derive(Drop)]
 pub struct Draft<'a> {
     pub(crate) tree: &'a Tree,
-    pub(crate) rows: IndexMap<Path, PatchNode, RandomState>,
+    pub(crate) rows: IndexMap<Path, Row, RandomState>,
     pub(crate) count: usize,
 }
 
@@ -57,34 +59,33 @@ impl<'a> Draft<'a> {
     }
 
     /// The node that is to stand at a path.
-    pub fn node(&self, path: &Path) -> Option<&Node>
-        ensures value { option_copied result ≡ node_at self.now.content path.now }
+    pub fn node(&self, path: &Path) -> Option<DraftNode<'_>>
+        ensures value { result ≡ node_at self.now.content path.now }
         ensures ordered { IsStrictlySortedBy by_path (keys_of self.now.content) }
     {
         let _rows = self.rows.len();
         let _nodes = self.tree.len();
         match self.rows.get(path) {
-            Some(PatchNode::Node(node)) => Some(node),
-            Some(PatchNode::Gone) => None,
-            None => self.tree.node(path),
+            Some(row) => changed(row),
+            None => kept(self.tree.node(path)),
         }
     }
 
     /// Sets what is to stand at a path.
-    pub fn put(&mut self, path: Path, row: PatchNode) -> Mem<()>
+    pub(crate) fn put(&mut self, path: Path, row: Row) -> Mem<()>
         ensures content { OnOk result (self.new.content ≡ over self.old.content path row) }
         ensures counted { OnOk result (IsCounted self.old → IsCounted self.new) }
         ensures tree { self.new.tree ≡ self.old.tree }
         ensures ordered { OnOk result (IsStrictlySortedBy by_path (keys_of self.new.content)) }
     {
-        let count = recount(self.count, self.node(&path).is_some(), is_node(&row))?;
+        let count = recount(self.count, self.node(&path).is_some(), row.is_node())?;
         self.insert(path, row)?;
         self.count = count;
         Ok(())
     }
 
     /// Changes the node at a path.
-    pub fn change(&mut self, alloc: Global, path: &Path, edit: Edit) -> Mem<()>
+    pub(crate) fn change(&mut self, alloc: Global, path: &Path, edit: Edit) -> Mem<()>
         requires { is_some (node_at self.old.content path.now) ≡ true }
         ensures content { OnOk result (self.new.content ≡ change_at self.old.content path.now (edited edit)) }
         ensures counted { OnOk result (IsCounted self.old → IsCounted self.new) }
@@ -95,12 +96,12 @@ impl<'a> Draft<'a> {
             return Ok(());
         };
         let node = edited(alloc, node, edit)?;
-        self.insert(path.duplicate(alloc)?, PatchNode::Node(node))?;
+        self.insert(path.duplicate(alloc)?, Row::changed(node))?;
         Ok(())
     }
 
     // Takes the node at a path out, to be put back changed. Until then nothing is said of that path.
-    fn taken(&mut self, alloc: Global, path: &Path) -> Mem<Option<Node>>
+    fn taken(&mut self, alloc: Global, path: &Path) -> Mem<Option<HeldNode>>
         ensures value { IfOk result (λ o. o ≡ node_at self.old.content path.now) }
         ensures others { OnOk result ((q : List (List ℕ)) → same_path path.now q ≡ false → node_at self.new.content q ≡ node_at self.old.content q) }
         ensures count { self.new.count ≡ self.old.count }
@@ -110,11 +111,11 @@ impl<'a> Draft<'a> {
         let _rows = self.rows.len();
         let _nodes = self.tree.len();
         let row = self.rows.swap_remove(path);
-        or_copy(alloc, row, self.tree.node(path))
+        or_copy(alloc, self.tree.seeds(), row, self.tree.node(path))
     }
 
     // Sets what is to stand at a path, and leaves the count.
-    fn insert(&mut self, path: Path, row: PatchNode) -> Mem<()>
+    fn insert(&mut self, path: Path, row: Row) -> Mem<()>
         ensures content { OnOk result (self.new.content ≡ over self.old.content path row) }
         ensures count { self.new.count ≡ self.old.count }
         ensures tree { self.new.tree ≡ self.old.tree }
@@ -129,25 +130,40 @@ impl<'a> Draft<'a> {
 }
 
 // The node that a row leaves, or a copy of the one that is there.
-fn or_copy(alloc: Global, row: Option<PatchNode>, node: Option<&Node>) -> Mem<Option<Node>>
+fn or_copy(
+    alloc: Global,
+    seeds: RandomState,
+    row: Option<Row>,
+    node: Option<&Node>,
+) -> Mem<Option<HeldNode>>
     ensures { IfOk result (λ o. o ≡ left_by row (option_copied node.entry)) }
 {
     match row {
-        Some(PatchNode::Node(node)) => Ok(Some(node)),
-        Some(PatchNode::Gone) => Ok(None),
+        Some(row) => Ok(row.into_held()),
         None => match node {
-            Some(node) => Ok(Some(node.duplicate(alloc)?)),
+            Some(node) => Ok(Some(HeldNode::of(alloc, seeds, node.duplicate(alloc)?))),
             None => Ok(None),
         },
     }
 }
 
-fn is_node(row: &PatchNode) -> bool
-    ensures { result ≡ is_node row.now }
+// The node that a draft holds.
+fn changed(row: &Row) -> Option<DraftNode<'_>>
+    ensures { result ≡ left_by (Some row.now) None }
 {
-    match row {
-        PatchNode::Node(_) => true,
-        PatchNode::Gone => false,
+    match row.held() {
+        Some(node) => Some(DraftNode::changed(node)),
+        None => None,
+    }
+}
+
+// The node that a draft leaves as it is.
+fn kept(node: Option<&Node>) -> Option<DraftNode<'_>>
+    ensures { result ≡ option_copied node.entry }
+{
+    match node {
+        Some(node) => Some(DraftNode::kept(node)),
+        None => None,
     }
 }
 

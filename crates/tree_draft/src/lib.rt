@@ -8,6 +8,9 @@ mod copy;
 mod create;
 mod draft;
 mod edit;
+mod falls;
+mod held;
+mod kid_list;
 mod kids;
 mod order;
 mod part;
@@ -15,5 +18,7 @@ mod patch;
 mod properties;
 mod relocate;
 mod remove;
+mod seen;
 
 pub use draft::Draft;
+pub use seen::DraftNode;

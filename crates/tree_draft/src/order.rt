@@ -1,15 +1,15 @@
 // Kids in another place among their parent's.
 ghost use Rattle.std.specs.Prelude.{◌≡◌, ◌≢◌, None, Some, OnOk, IfOk, IfErr};
-ghost use Rattle.resource_tree.specs.Changes.{fixed_fault, order_fault, reordering};
+ghost use Rattle.resource_tree.specs.Changes.{fixed_fault, kids_at, order_fault, reordering};
 ghost use Rattle.tree_draft.specs.Drafts.{DraftFollows, IsSound};
 
 use crate::Draft;
 use crate::create::last_segment;
 use crate::edit::Edit;
+use crate::kid_list::{KidList, copied};
 use crate::kids::kids_in_order;
-use crate::part::kids_at;
 use resource_tree::{Place, TreeFault};
-use sp_base::Path;
+use sp_base::{Mem, Path, TextList};
 use std::alloc::Global;
 
 impl<'a> Draft<'a> {
@@ -27,12 +27,15 @@ impl<'a> Draft<'a> {
         let Some(name) = last_segment(path) else {
             return Err(TreeFault::RootFixed);
         };
-        let Some(kids) = kids_in_order(alloc, kids_at(self, &parent), name, place)? else {
+        let names = kids_at(self, alloc, &parent)?;
+        let Some(kids) = kids_in_order(alloc, names.as_slice(), name, place)? else {
             return Err(TreeFault::NoSibling);
         };
-        self.change(alloc, &parent, Edit::Kids(kids))?;
+        let list = KidList::new(alloc, self.tree.seeds(), kids);
+        self.change(alloc, &parent, Edit::Kids(list))?;
         Ok(())
     }
+
     // Whether a node may be taken from its place.
     pub(crate) fn check_fixed(&self, alloc: Global, path: &Path) -> Result<(), TreeFault>
         ensures ok { OnOk result (fixed_fault self.now.content path.now ≡ None) }
@@ -45,5 +48,15 @@ impl<'a> Draft<'a> {
             return Err(TreeFault::RootFixed);
         }
         Ok(())
+    }
+}
+
+// The kids' names of the node at a path.
+fn kids_at(draft: &Draft, alloc: Global, path: &Path) -> Mem<TextList>
+    ensures { IfOk result (λ kids. kids ≡ kids_at draft.now.content path.now) }
+{
+    match draft.node(path) {
+        Some(node) => copied(alloc, &node.kids(alloc)?),
+        None => Ok(TextList::new(alloc)),
     }
 }

@@ -7,21 +7,11 @@ ghost use Rattle.resource_tree.specs.Changes.{kids_at};
 ghost use Rattle.resource_tree.specs.Parts.{kids_below};
 
 use crate::Draft;
-use sp_base::{Mem, NoMemory, Path, TextBuf};
+use sp_base::{Mem, NoMemory, Path};
 use std::alloc::Global;
 
 /// The most levels of a tree: the root's, and one for each segment of a path.
 const MOST_LEVELS: usize = 65;
-
-// The kids of the node at a path.
-pub(crate) fn kids_at<'a>(draft: &'a Draft, path: &Path) -> &'a [TextBuf]
-    ensures { result.now ≡ kids_at draft.now.content path.now }
-{
-    match draft.node(path) {
-        Some(node) => node.kids.as_slice(),
-        None => &[],
-    }
-}
 
 // The paths of the nodes at a path and under it.
 pub(crate) fn paths_under(draft: &Draft, alloc: Global, path: &Path) -> Mem<Vec<Path>>
@@ -57,8 +47,11 @@ fn push_kids(draft: &Draft, alloc: Global, path: &Path, paths: &mut Vec<Path>) -
     requires { IsTree (node_at draft.now.content) }
     ensures { OnOk result (paths.new.items ≡ paths.old.items ++ map (kid path.now) (kids_at draft.now.content path.now)) }
 {
-    let names = kids_at(draft, path);
-    for name in names {
+    let Some(node) = draft.node(path) else {
+        return Ok(());
+    };
+    let names = node.kids(alloc)?;
+    for name in names.as_slice() {
         match path.child(alloc, name.text()) {
             Ok(below) => paths.push(below)?,
             // In a tree each kid has a path, so this is a lack of memory.

@@ -3,8 +3,9 @@ ghost use Rattle.std.specs.Prelude.{◌≡◌, IfOk};
 ghost use Rattle.resource_tree.specs.Patches.{patching};
 
 use crate::Draft;
+use crate::held::Row;
 use indexmap::IndexMap;
-use resource_tree::{Patch, PatchNode, Tree};
+use resource_tree::{Patch, Tree};
 use sp_base::{Mem, Path};
 use std::alloc::Global;
 use std::hash::RandomState;
@@ -23,13 +24,14 @@ impl<'a> Draft<'a> {
     }
 }
 
-fn patch_of(alloc: Global, tree: &Tree, rows: IndexMap<Path, PatchNode, RandomState>) -> Mem<Patch>
+fn patch_of(alloc: Global, tree: &Tree, rows: IndexMap<Path, Row, RandomState>) -> Mem<Patch>
     ensures { IfOk result (λ patch. patching tree.now patch ≡ patching tree.now rows.entries) }
 {
     let _nodes = tree.len();
     let mut patch = Patch::new(alloc, tree.seeds());
     for (path, row) in rows {
-        patch.put(path, row)?;
+        let node = row.into_patch_node(alloc)?;
+        patch.put(path, node)?;
         let _paths = patch.len();
     }
     Ok(patch)

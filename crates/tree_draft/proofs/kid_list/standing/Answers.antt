@@ -1,0 +1,16 @@
+use Rattle.std.proofs.Common.{rules, ◌≡◌, ◌<◌, Bor, List, ℕ, length, map, arith}
+use Rattle.tree_draft.proofs.FallLemmas.{all_stand, walked}
+use Rattle.tree_draft.proofs.kid_list.standing.Goals as goal
+
+pub loop-place-preserved : goal.loop-place-preserved
+loop-place-preserved c =
+    let within : c.loop-place.place < length c.args.names.now = search rules in
+    walked c.args.falls.now c.args.names.now c.loop-place.place c.index-names-place.result (map (λ (w : Bor (List ℕ)). w.now) c.loop-place.lent.items) (map (λ (w : Bor (List ℕ)). w.now) c.push_standing.new.lent.items) within
+    c.index-names-place.is
+    c.in_ok-push_standing.ensures
+    c.loop-place.invariant
+
+pub returns : goal.returns
+returns c =
+    let at_end : c.loop-place.place ≡ length c.args.names.now = search rules in
+    all_stand c.args.falls.now c.args.names.now c.loop-place.place (map (λ (w : Bor (List ℕ)). w.now) c.loop-place.lent.items) at_end c.loop-place.invariant

@@ -1,0 +1,69 @@
+// Names that fell away from a list.
+ghost use Rattle.std.specs.Prelude.{◌≡◌, [], ℕ, List, OnOk, OnErr, if◌then◌else◌, true};
+ghost use Rattle.std.specs.Str.{bytes_eq};
+ghost use Rattle.tree_draft.specs.Falls as spec;
+
+use indexmap::IndexMap;
+use sp_base::Mem;
+use std::alloc::Global;
+use std::hash::RandomState;
+use std::marker::Model;
+
+/// How many names stood in a list when a name last fell away from it.
+#[derive(Drop)]
+pub(crate) struct Falls {
+    rows: IndexMap<String, usize, RandomState>,
+}
+
+impl Model for Falls {
+    ghost use Rattle.std.specs.Prelude.{map, string_bytes};
+    ghost use Rattle.tree_draft.specs.Falls.{FallRows};
+
+    ghost Value = { FallRows };
+
+    ghost view = { λ f. map (λ e. (string_bytes e.0, e.1)) f.rows.entries };
+}
+
+impl Falls {
+    /// None. The seeds key the hashes of the names, which authors pick.
+    pub(crate) fn new(alloc: Global, seeds: RandomState) -> Falls
+        ensures { result ≡ [] }
+    {
+        Falls {
+            rows: IndexMap::with_hasher(alloc, seeds),
+        }
+    }
+
+    pub(crate) fn is_empty(&self) -> bool
+        ensures { result ≡ true → self.now ≡ [] }
+    {
+        self.rows.is_empty()
+    }
+
+    // How many names stood when a name last fell away.
+    fn of(&self, name: &str) -> usize
+        ensures { result ≡ spec.fall_of self.now name.now }
+    {
+        match self.rows.get(name) {
+            Some(n) => *n,
+            None => 0,
+        }
+    }
+
+    /// Whether the name at a place stands.
+    pub(crate) fn stands(&self, place: usize, name: &str) -> bool
+        ensures { result ≡ spec.stands self.now place name.now }
+    {
+        self.of(name) <= place
+    }
+
+    /// Notes that a name falls away from a list of so many.
+    pub(crate) fn note(&mut self, alloc: Global, name: &str, count: usize) -> Mem<()>
+        ensures ok { OnOk result ((k : List ℕ) → spec.fall_of self.new k ≡ (if bytes_eq name.now k then count else spec.fall_of self.old k)) }
+        ensures err { OnErr result (self.new ≡ self.old) }
+    {
+        let name = String::from_str(alloc, name)?;
+        self.rows.insert(name, count)?;
+        Ok(())
+    }
+}

@@ -1,0 +1,130 @@
+// What a draft holds at a path, and what it shows there.
+ghost use Rattle.std.specs.Prelude.{◌≡◌, IfOk, option_copied};
+ghost use Rattle.resource_tree.specs.Content.{empty_node};
+ghost use Rattle.resource_tree.specs.declared.patch.PatchNode.TheVariants as there;
+ghost use Rattle.tree_draft.specs.Drafts as draft;
+ghost use Rattle.tree_draft.specs.Held as spec;
+
+use crate::kid_list::KidList;
+use resource_tree::{Node, PatchNode};
+use sp_base::{Mem, PropList, TextList};
+use std::alloc::Global;
+use std::hash::RandomState;
+use std::marker::Model;
+
+/// A changed node.
+#[derive(Drop)]
+pub(crate) struct HeldNode {
+    pub(crate) props: PropList,
+    pub(crate) kids: KidList,
+}
+
+impl Model for HeldNode {
+    ghost use Rattle.resource_tree.specs.declared.nodes.Node.{Node};
+
+    ghost Value = { Node };
+
+    ghost view = { λ n. record { props = n.props; kids = n.kids } };
+}
+
+impl HeldNode {
+    pub(crate) fn of(alloc: Global, seeds: RandomState, node: Node) -> HeldNode
+        ensures { result ≡ node }
+    {
+        let Node { props, kids } = node;
+        HeldNode {
+            props,
+            kids: KidList::new(alloc, seeds, kids),
+        }
+    }
+
+    // The node with its kids' names in a list of their own.
+    fn into_node(self, alloc: Global) -> Mem<Node>
+        ensures { IfOk result (λ n. n ≡ self) }
+    {
+        let HeldNode { props, kids } = self;
+        Ok(Node {
+            props,
+            kids: kids.into_list(alloc)?,
+        })
+    }
+}
+
+/// What is to stand at a path: a changed node, or none.
+#[derive(Drop)]
+pub(crate) struct Row {
+    held: Option<HeldNode>,
+}
+
+impl Model for Row {
+    ghost use Rattle.resource_tree.specs.declared.patch.PatchNode.{PatchNode};
+    ghost use Rattle.tree_draft.specs.Held.{row_of};
+
+    ghost Value = { PatchNode };
+
+    ghost view = { λ r. row_of r.held };
+}
+
+impl Row {
+    /// A node that was changed.
+    pub(crate) fn changed(node: HeldNode) -> Row
+        ensures { result ≡ there.Node node }
+    {
+        Row { held: Some(node) }
+    }
+
+    /// A node as it is.
+    pub(crate) fn of(alloc: Global, seeds: RandomState, node: Node) -> Row
+        ensures { result ≡ there.Node node }
+    {
+        Row {
+            held: Some(HeldNode::of(alloc, seeds, node)),
+        }
+    }
+
+    /// A node without properties and kids.
+    pub(crate) fn fresh(alloc: Global, seeds: RandomState) -> Row
+        ensures { result ≡ there.Node empty_node }
+    {
+        let node = Node {
+            props: PropList::new(alloc),
+            kids: TextList::new(alloc),
+        };
+        Row::of(alloc, seeds, node)
+    }
+
+    pub(crate) fn gone() -> Row
+        ensures { result ≡ there.Gone }
+    {
+        Row { held: None }
+    }
+
+    pub(crate) fn is_node(&self) -> bool
+        ensures { result ≡ draft.is_node self.now }
+    {
+        self.held.is_some()
+    }
+
+    /// The node, where it isn't gone.
+    pub(crate) fn held(&self) -> Option<&HeldNode>
+        ensures { option_copied result ≡ spec.node_of self.now }
+    {
+        self.held.as_ref()
+    }
+
+    pub(crate) fn into_held(self) -> Option<HeldNode>
+        ensures { result ≡ spec.node_of self }
+    {
+        self.held
+    }
+
+    /// The row as one of a patch.
+    pub(crate) fn into_patch_node(self, alloc: Global) -> Mem<PatchNode>
+        ensures { IfOk result (λ r. r ≡ self) }
+    {
+        match self.held {
+            Some(node) => Ok(PatchNode::Node(node.into_node(alloc)?)),
+            None => Ok(PatchNode::Gone),
+        }
+    }
+}

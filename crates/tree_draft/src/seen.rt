@@ -1,0 +1,88 @@
+// A node as a draft shows it.
+ghost use Rattle.std.specs.Prelude.{◌≡◌, IfOk, map};
+
+use crate::held::HeldNode;
+use crate::kid_list::copied;
+use resource_tree::Node;
+use sp_base::{Mem, PropList, TextBuf};
+use std::alloc::Global;
+use std::marker::Model;
+
+/// The node at a path: the tree's, where a draft leaves it as it is, else the changed one.
+#[derive(Drop)]
+pub(crate) enum Seen<'a> {
+    Kept(&'a Node),
+    Changed(&'a HeldNode),
+}
+
+/// A node that a draft shows.
+#[derive(Drop)]
+pub struct DraftNode<'a> {
+    seen: Seen<'a>,
+}
+
+impl<'a> Model for DraftNode<'a> {
+    ghost use Rattle.resource_tree.specs.declared.nodes.Node.{Node};
+    ghost use Rattle.tree_draft.specs.Shown.{node_seen};
+
+    ghost Value = { Node };
+
+    ghost view = { λ n. node_seen n.seen };
+}
+
+impl<'a> DraftNode<'a> {
+    pub(crate) fn kept(node: &'a Node) -> DraftNode<'a>
+        ensures { result ≡ node.now }
+    {
+        DraftNode {
+            seen: Seen::Kept(node),
+        }
+    }
+
+    pub(crate) fn changed(node: &'a HeldNode) -> DraftNode<'a>
+        ensures { result ≡ node.now }
+    {
+        DraftNode {
+            seen: Seen::Changed(node),
+        }
+    }
+
+    pub fn props(&self) -> &PropList
+        ensures { result.now ≡ self.now.props }
+    {
+        match self.seen {
+            Seen::Kept(node) => &node.props,
+            Seen::Changed(node) => &node.props,
+        }
+    }
+
+    /// The kids' names in their order.
+    pub fn kids(&self, alloc: Global) -> Mem<Vec<&TextBuf>>
+        ensures { IfOk result (λ kids. map (λ name. name.now) kids.items ≡ self.now.kids) }
+    {
+        match self.seen {
+            Seen::Kept(node) => lent(alloc, node.kids.as_slice()),
+            Seen::Changed(node) => node.kids.lent(alloc),
+        }
+    }
+
+    pub(crate) fn duplicate(&self, alloc: Global) -> Mem<Node>
+        ensures { IfOk result (λ n. n ≡ self.now) }
+    {
+        Ok(Node {
+            props: self.props().duplicate(alloc)?,
+            kids: copied(alloc, &self.kids(alloc)?)?,
+        })
+    }
+}
+
+// The names of a list.
+fn lent<'a>(alloc: Global, names: &'a [TextBuf]) -> Mem<Vec<&'a TextBuf>>
+    ensures { IfOk result (λ lent. map (λ name. name.now) lent.items ≡ names.now) }
+{
+    let mut lent = Vec::new(alloc);
+    for name in names {
+        lent.push(name)?;
+    }
+    Ok(lent)
+}

@@ -3,3 +3,4 @@ pub mod ValueLemmas
 pub mod WalkLemmas
 pub mod SpellingLemmas
 pub mod StartLemmas
+pub mod LongLemmas

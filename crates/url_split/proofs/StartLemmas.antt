@@ -32,11 +32,11 @@ after_slash true r path e = (refl, e)
 after_slash false r path e = absurd (cc e)
 
 -- a text that reads as a path is a slash and nothing, or a slash and the path's segments
-record IsReadOf (b : ℕ) (rest : List ℕ) (path : List (List ℕ)) : Type 0 where
+pub record IsReadOf (b : ℕ) (rest : List ℕ) (path : List (List ℕ)) : Type 0 where
   pub slash : is_slash b ≡ true
   pub path_is : ((is_empty rest ≡ true) × (path ≡ [])) ⊎ (path ≡ pieces rest)
 
-read_is : (b : ℕ) (rest : List ℕ) (path : List (List ℕ)) → path_of (b ∷ rest) ≡ Ok path → IsReadOf b rest path
+pub read_is : (b : ℕ) (rest : List ℕ) (path : List (List ℕ)) → path_of (b ∷ rest) ≡ Ok path → IsReadOf b rest path
 read_is b rest path e =
     let parts = after_slash (b == 47) (cond (is_empty rest) (Ok []) (checked (pieces rest))) path e in
     record { slash = parts.0; path_is = root_or_pieces (is_empty rest) (pieces rest) path parts.1 }
@@ -239,7 +239,7 @@ parent_under b rest path read i n is ends valid e = ⊎_elim
     ap (is_under path) first ∙ first_under (pieces rest) path i (length read - 1) is ends (sym (ap is_path first) ∙ good))
     (read_is b (take n rest) read e).path_is
 
-none_read : (read : List (List ℕ)) → path_of [] ≡ Ok read → ⊥
+pub none_read : (read : List (List ℕ)) → path_of [] ≡ Ok read → ⊥
 none_read read e = cc e
 
 pub parents_of_pieces : (text rest : List ℕ) (path : List (List ℕ)) (end : ℕ) → text ≡ 47 ∷ rest → (fit : IsFitEnd (pieces rest) end) → path ≡ take fit.many (pieces rest) → AreValid → HasParents text path

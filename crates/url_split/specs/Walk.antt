@@ -1,8 +1,8 @@
 -- What the functions of the decomposition promise one another; a reader of its definition needs none of it.
-use Rattle.std.specs.Prelude.{◌≡◌, ◌<◌, ◌≤◌, ◌+◌, ◌⊎◌, ◌∷◌, [], ℕ, Bool, true, false, List, Option, Some, None, Ok, take, length, slice_index}
+use Rattle.std.specs.Prelude.{◌≡◌, ◌<◌, ◌≤◌, ◌+◌, ◌⊎◌, ◌++◌, ◌∷◌, [], ℕ, Bool, true, false, List, Option, Some, None, Ok, take, length, slice_index}
 use Rattle.std.specs.List.{count_by}
 use Rattle.sp_base.specs.PathTexts.{spelled}
-use Rattle.sp_base.specs.Paths.{is_path, is_under, parent_of, path_of}
+use Rattle.sp_base.specs.Paths.{has_slash, is_long, is_path, is_under, parent_of, path_of}
 use Rattle.url_split.specs.Split.{Leads, is_slash}
 
 -- a prefix of a text after which no cut but the text's end leads to a known path
@@ -25,6 +25,19 @@ pub record IsFitEnd (parts : List (List ℕ)) (end : ℕ) : Type 0 where
 pub record IsBeforeSlash (n : ℕ) (text start : List ℕ) : Type 0 where
   pub begins : start ≡ take (length start) text
   pub ends : (length start ≡ length text) ⊎ ((length start < length text) × (slice_index text (length start) ≡ 47) × (count_by is_slash (take (length start) text) ≡ n))
+
+-- a text whose last bytes, more than a segment has, have no slash
+pub record EndsInLong (text : List ℕ) : Type 0 where
+  pub front : List ℕ
+  pub long : List ℕ
+  pub text_is : text ≡ front ++ long
+  pub one_piece : has_slash long ≡ false
+  pub too_long : is_long long ≡ true
+
+-- a text up to a place before which more bytes than a segment has stand without a slash, or all of it
+pub record IsBeforeLong (text start : List ℕ) : Type 0 where
+  pub begins : start ≡ take (length start) text
+  pub ends : (length start ≡ length text) ⊎ EndsInLong start
 
 -- nothing, or a text that begins with a dot
 abbrev pub IsBehind : List ℕ → Type 0

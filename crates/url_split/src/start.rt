@@ -3,11 +3,11 @@ ghost use Rattle.std.specs.Prelude.{◌≡◌, List, ℕ, Ok, map, IfOk};
 ghost use Rattle.sp_base.specs.Paths.{path_of};
 ghost use Rattle.std.specs.List.{slice_split};
 ghost use Rattle.url_split.specs.Split.{is_slash};
-ghost use Rattle.url_split.specs.Walk.{HasParents, IsBeforeSlash, IsFitEnd, IsReached};
+ghost use Rattle.url_split.specs.Walk.{HasParents, IsBeforeLong, IsBeforeSlash, IsFitEnd, IsReached};
 
 use crate::Known;
 use sp_base::{
-    MOST_SEGMENTS, Mem, NoMemory, Path, PathFault, a_path_and_its_text, seg_ok,
+    LONGEST_SEGMENT, MOST_SEGMENTS, Mem, NoMemory, Path, PathFault, a_path_and_its_text, seg_ok,
     segments_and_their_spelling, the_prefixes_of_a_path,
 };
 use std::alloc::{AllocError, Global};
@@ -19,7 +19,7 @@ pub(crate) fn reached<'a, K: Known>(alloc: Global, known: &K, text: &'a str) -> 
     a_path_and_its_text();
     let path = with_parents(alloc, text)?;
     let most = known.reach(alloc, &path)?.min(MOST_SEGMENTS) + 1;
-    Ok(before_slash(text, most))
+    Ok(before_long(before_slash(text, most)))
 }
 
 // The path that a text spells; where it spells none, its first pieces as far as they make one.
@@ -98,6 +98,26 @@ fn before_slash(text: &str, n: usize) -> &str
                 return &text[..at];
             }
             passed += 1;
+        }
+    }
+    text
+}
+
+// A text up to the first dot before which a piece has grown too long for a segment, or all of it. No prefix from there on spells a
+// path, so a piece of thousands of dots is walked back over its first two hundred alone.
+fn before_long(text: &str) -> &str
+    ensures { IsBeforeLong text.now result.now }
+{
+    let bytes = text.as_bytes();
+    let mut piece = 0;
+    for at in 0..bytes.len() {
+        if bytes[at] == b'.' && piece > LONGEST_SEGMENT {
+            return &text[..at];
+        }
+        if bytes[at] == b'/' {
+            piece = 0;
+        } else {
+            piece += 1;
         }
     }
     text

@@ -5,7 +5,6 @@ use std::cell::Cell;
 use std::env::{Env, FillError};
 use std::fmt::Display;
 use std::io::{self, Print};
-use std::test::Fail;
 
 const BUFFER_BYTES: usize = 16;
 
@@ -25,14 +24,19 @@ fn all_read(alloc: Global, text: &[u8]) -> Result<Vec<u8>, AllocError> {
 
 const LETTERS: &[u8] = b"abcdefghijklmnopqrstuvwxyzABCDEFGHIJKLMNOPQRSTUVWXYZ";
 
+fn is_read_whole(alloc: Global, len: usize) -> Result<bool, AllocError> {
+    let text = &LETTERS[..len.min(52)];
+    let read = all_read(alloc, text)?;
+    Ok(read.as_slice() == text)
+}
+
+const LENGTHS: &[usize] = &[0, 1, 15, 16, 17, 31, 32, 33, 47, 48, 49];
+
 #[test]
-fn reads_past_its_buffer(rt: HostRuntime) -> Result<(), Fail> {
-    for len in [0usize, 1, 15, 16, 17, 31, 32, 33, 47, 48, 49] {
-        let text = &LETTERS[..len.min(52)];
-        let read = all_read(rt.alloc(), text)?;
-        assert!(rt; read.as_slice() == text);
+fn reads_past_its_buffer(rt: HostRuntime) {
+    for len in LENGTHS {
+        assert!(rt; matches!(is_read_whole(rt.alloc(), *len), Ok(true)));
     }
-    Ok(())
 }
 
 const TAKEN_BYTES: usize = 64;
@@ -68,14 +72,7 @@ impl Print for Printer {
     }
 }
 
-#[test]
-fn writes_in_parts(rt: HostRuntime) -> Result<(), Fail> {
-    let text = b"a text of thirty and more bytes, in parts";
-    let printer = Printer {
-        taken: Cell::new([0u8; TAKEN_BYTES]),
-        len: Cell::new(0),
-    };
-    let mut sink = RealSink::new(&printer);
+fn write_all<S: Sink>(sink: &mut S, text: &[u8]) {
     let mut at = 0usize;
     for _ in 0..20 {
         if at >= text.len() {
@@ -86,10 +83,27 @@ fn writes_in_parts(rt: HostRuntime) -> Result<(), Fail> {
         };
         at = at.saturating_add(n);
     }
+}
+
+fn has_taken(printer: &Printer, text: &[u8]) -> bool {
     let taken = printer.taken.get();
     let len = printer.len.get().min(TAKEN_BYTES);
-    assert!(rt; &taken[..len] == text.as_slice());
-    Ok(())
+    &taken[..len] == text
+}
+
+fn writes_in_parts(text: &[u8]) -> bool {
+    let printer = Printer {
+        taken: Cell::new([0u8; TAKEN_BYTES]),
+        len: Cell::new(0),
+    };
+    let mut sink = RealSink::new(&printer);
+    write_all(&mut sink, text);
+    has_taken(&printer, text)
+}
+
+#[test]
+fn writes_past_what_is_taken(rt: HostRuntime) {
+    assert!(rt; writes_in_parts(b"a text of thirty and more bytes, in parts"));
 }
 
 // A program with three words after its name, of which one isn't UTF-8 and one is longer than the first buffer.
@@ -123,18 +137,21 @@ impl Env for Arguments {
     }
 }
 
-#[test]
-fn gives_words_of_any_bytes(rt: HostRuntime) -> Result<(), Fail> {
+fn is_word(alloc: Global, place: usize, wanted: &[u8]) -> bool {
     let words = RealWords::new(&Arguments);
-    let wanted: [&[u8]; 3] = [b"replay", b"a\xff", LONG_WORD];
-    for (place, wanted) in wanted.iter().enumerate() {
-        let word = words.word(rt.alloc(), place)?;
-        assert!(rt; word.is_some());
-        if let Some(word) = word {
-            assert!(rt; word.bytes() == *wanted);
-        }
-    }
-    assert!(rt; words.word(rt.alloc(), 3)?.is_none());
-    assert!(rt; words.word(rt.alloc(), usize::MAX)?.is_none());
-    Ok(())
+    matches!(words.word(alloc, place), Ok(Some(word)) if word.bytes() == wanted)
+}
+
+fn has_no_word(alloc: Global, place: usize) -> bool {
+    let words = RealWords::new(&Arguments);
+    matches!(words.word(alloc, place), Ok(None))
+}
+
+#[test]
+fn gives_words_of_any_bytes(rt: HostRuntime) {
+    assert!(rt; is_word(rt.alloc(), 0, b"replay"));
+    assert!(rt; is_word(rt.alloc(), 1, b"a\xff"));
+    assert!(rt; is_word(rt.alloc(), 2, LONG_WORD));
+    assert!(rt; has_no_word(rt.alloc(), 3));
+    assert!(rt; has_no_word(rt.alloc(), usize::MAX));
 }

@@ -1,7 +1,7 @@
 //! A disk in memory: what it holds, and which of its calls fail.
-use sp_base::ByteBuf;
+use sp_base::{ByteBuf, NameList};
 use sp_outside::{Disk, DiskFault, MemDisk, Way};
-use std::test::Fail;
+use std::alloc::Global;
 
 fn is_file(found: Result<Option<ByteBuf>, DiskFault>, wanted: &[u8]) -> bool {
     match found {
@@ -10,44 +10,58 @@ fn is_file(found: Result<Option<ByteBuf>, DiskFault>, wanted: &[u8]) -> bool {
     }
 }
 
-#[test]
-fn holds_files(rt: HostRuntime) -> Result<(), Fail> {
-    let mut disk = MemDisk::new(rt.alloc());
-    assert!(rt; disk.put("a", b"1") == Ok(()));
-    assert!(rt; disk.put("b", b"2") == Ok(()));
-    assert!(rt; is_file(disk.get(rt.alloc(), "b"), b"2"));
-    assert!(rt; disk.remove("a") == Ok(()));
-    assert!(rt; matches!(&disk.get(rt.alloc(), "a"), Ok(None)));
-    assert!(rt; disk.calls() == 5);
-    Ok(())
+fn is_gone(found: Result<Option<ByteBuf>, DiskFault>) -> bool {
+    matches!(&found, Ok(None))
 }
 
-#[test]
-fn lists_names(rt: HostRuntime) -> Result<(), Fail> {
-    let mut disk = MemDisk::new(rt.alloc());
-    for name in ["a/x", "b", "a/y", "a/z"] {
-        assert!(rt; disk.put(name, b"") == Ok(()));
-    }
-    let listed = disk.list(rt.alloc(), "a/", "a/x", 1);
-    assert!(rt; listed.is_ok());
-    if let Ok(names) = listed {
-        assert!(rt; names.len() == 1);
-        assert!(rt; matches!(names.get(0), Some(name) if name.text() == "a/y"));
-    }
-    Ok(())
+fn holds_files(alloc: Global) -> bool {
+    let mut disk = MemDisk::new(alloc);
+    disk.put("a", b"1") == Ok(())
+        && disk.put("b", b"2") == Ok(())
+        && is_file(disk.get(alloc, "b"), b"2")
+        && disk.remove("a") == Ok(())
+        && is_gone(disk.get(alloc, "a"))
+        && disk.calls() == 5
 }
 
-#[test]
-fn fails_as_planned(rt: HostRuntime) -> Result<(), Fail> {
-    let mut disk = MemDisk::new(rt.alloc());
+fn are_listed(found: Result<NameList, DiskFault>, wanted: &str) -> bool {
+    match found {
+        Ok(names) => {
+            names.len() == 1 && matches!(names.get(0), Some(name) if name.text() == wanted)
+        }
+        Err(_) => false,
+    }
+}
+
+fn lists_names(alloc: Global) -> bool {
+    let mut disk = MemDisk::new(alloc);
+    disk.put("a/x", b"") == Ok(())
+        && disk.put("b", b"") == Ok(())
+        && disk.put("a/y", b"") == Ok(())
+        && disk.put("a/z", b"") == Ok(())
+        && are_listed(disk.list(alloc, "a/", "a/x", 1), "a/y")
+}
+
+fn fails_as_planned(alloc: Global) -> bool {
+    let mut disk = MemDisk::new(alloc);
     disk.fail(1, Way::New);
-    assert!(rt; disk.put("a", b"1") == Err(DiskFault::Failed));
-    assert!(rt; is_file(disk.get(rt.alloc(), "a"), b"1"));
+    disk.put("a", b"1") == Err(DiskFault::Failed)
+        && is_file(disk.get(alloc, "a"), b"1")
+        && stops_as_planned(alloc, &mut disk)
+}
+
+fn stops_as_planned(alloc: Global, disk: &mut MemDisk) -> bool {
     disk.stop(2, Way::New);
-    assert!(rt; disk.put("a", b"2") == Ok(()));
-    assert!(rt; disk.remove("a") == Err(DiskFault::Failed));
-    assert!(rt; disk.put("a", b"3") == Err(DiskFault::Failed));
+    let is_stopped = disk.put("a", b"2") == Ok(())
+        && disk.remove("a") == Err(DiskFault::Failed)
+        && disk.put("a", b"3") == Err(DiskFault::Failed);
     disk.go();
-    assert!(rt; matches!(&disk.get(rt.alloc(), "a"), Ok(None)));
-    Ok(())
+    is_stopped && is_gone(disk.get(alloc, "a"))
+}
+
+#[test]
+fn a_disk_in_memory(rt: HostRuntime) {
+    assert!(rt; holds_files(rt.alloc()));
+    assert!(rt; lists_names(rt.alloc()));
+    assert!(rt; fails_as_planned(rt.alloc()));
 }

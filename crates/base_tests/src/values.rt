@@ -4,131 +4,261 @@ use sp_base::{
     TextList, TruthList, Value, ValueFault,
 };
 use std::alloc::Global;
-use std::test::Fail;
 
-// What reading a text answers: the path's text, or its fault.
-fn read(alloc: Global, text: &str) -> Result<Result<TextBuf, PathFault>, NoMemory> {
+fn is_text(alloc: Global, path: &Path, wanted: &str) -> Mem<bool> {
+    Ok(path.text(alloc)?.text() == wanted)
+}
+
+fn reads_whole(alloc: Global, text: &str) -> Result<bool, PathFault> {
+    let path = Path::read(alloc, text)?;
+    Ok(is_text(alloc, &path, text)?)
+}
+
+const GOOD_PATHS: &[&str] = &[
+    "/",
+    "/a",
+    "/content/en",
+    "/a b/é",
+    "/..a/b.",
+    "/jcr:content",
+];
+
+fn fault_of(alloc: Global, text: &str) -> Option<PathFault> {
     match Path::read(alloc, text) {
-        Ok(path) => Ok(Ok(path.text(alloc)?)),
-        Err(fault) => Ok(Err(fault)),
+        Ok(_) => None,
+        Err(fault) => Some(fault),
     }
 }
 
+const BAD_PATHS: &[(&str, PathFault)] = &[
+    ("", PathFault::NotAbsolute),
+    ("a/b", PathFault::NotAbsolute),
+    ("//", PathFault::EmptySegment),
+    ("/a/", PathFault::EmptySegment),
+    ("/./a//b", PathFault::EmptySegment),
+    ("/a/../b", PathFault::DotSegment),
+    ("/.", PathFault::DotSegment),
+];
+
 #[test]
-fn reads_paths(rt: HostRuntime) -> Result<(), Fail> {
-    let good = [
-        "/",
-        "/a",
-        "/content/en",
-        "/a b/é",
-        "/..a/b.",
-        "/jcr:content",
-    ];
-    for text in good {
-        let got = read(rt.alloc(), text)?;
-        match got {
-            Ok(path) => assert!(rt; path.text() == text),
-            Err(fault) => assert!(rt; false),
-        }
+fn reads_paths(rt: HostRuntime) {
+    for text in GOOD_PATHS {
+        assert!(rt; matches!(reads_whole(rt.alloc(), *text), Ok(true)));
     }
-    let bad = [
-        ("", PathFault::NotAbsolute),
-        ("a/b", PathFault::NotAbsolute),
-        ("//", PathFault::EmptySegment),
-        ("/a/", PathFault::EmptySegment),
-        ("/./a//b", PathFault::EmptySegment),
-        ("/a/../b", PathFault::DotSegment),
-        ("/.", PathFault::DotSegment),
-    ];
-    for (text, fault) in bad {
-        match read(rt.alloc(), text)? {
-            Ok(_) => assert!(rt; false),
-            Err(got) => assert!(rt; got == fault),
-        }
+    for (text, fault) in BAD_PATHS {
+        assert!(rt; fault_of(rt.alloc(), *text) == Some(*fault));
     }
-    Ok(())
+}
+
+// The fault of a text that ends with so many of a piece.
+fn fault_of_many(alloc: Global, start: &str, piece: &str, times: usize) -> Mem<Option<PathFault>> {
+    let mut text = String::from_str(alloc, start)?;
+    text.push_str(piece.repeat(alloc, times)?.as_str())?;
+    Ok(fault_of(alloc, text.as_str()))
+}
+
+fn keeps_limits(alloc: Global) -> Mem<bool> {
+    Ok(
+        fault_of_many(alloc, "/a/", "x", 200)? == None
+            && fault_of_many(alloc, "/a/", "x", 201)? == Some(PathFault::LongSegment(1))
+            && fault_of_many(alloc, "", "/a", 64)? == None
+            && fault_of_many(alloc, "", "/a", 65)? == Some(PathFault::TooDeep),
+    )
 }
 
 #[test]
-fn keeps_limits(rt: HostRuntime) -> Result<(), Fail> {
-    let mut long = String::from_str(rt.alloc(), "/a/")?;
-    for _ in 0..200u8 {
-        long.push_str("x")?;
-    }
-    assert!(rt; read(rt.alloc(), long.as_str())?.is_ok());
-    long.push_str("x")?;
-    match read(rt.alloc(), long.as_str())? {
-        Ok(_) => assert!(rt; false),
-        Err(fault) => assert!(rt; fault == PathFault::LongSegment(1)),
-    }
-    let mut deep = String::new(rt.alloc());
-    for _ in 0..64u8 {
-        deep.push_str("/a")?;
-    }
-    assert!(rt; read(rt.alloc(), deep.as_str())?.is_ok());
-    deep.push_str("/a")?;
-    match read(rt.alloc(), deep.as_str())? {
-        Ok(_) => assert!(rt; false),
-        Err(fault) => assert!(rt; fault == PathFault::TooDeep),
-    }
-    Ok(())
+fn paths_have_limits(rt: HostRuntime) {
+    assert!(rt; matches!(keeps_limits(rt.alloc()), Ok(true)));
 }
 
-#[test]
-fn relates_paths(rt: HostRuntime) -> Result<(), Fail> {
-    let alloc = rt.alloc();
+fn parent_is(alloc: Global, path: &Path, wanted: &str) -> Mem<bool> {
+    let parent = path.parent(alloc)?;
+    is_text(alloc, &parent, wanted)
+}
+
+fn first_is(alloc: Global, path: &Path, n: usize, wanted: &str) -> Mem<bool> {
+    let first = path.first(alloc, n)?;
+    is_text(alloc, &first, wanted)
+}
+
+fn join_is(alloc: Global, path: &Path, rest: &Path, wanted: &str) -> Result<bool, PathFault> {
+    let all = path.join(alloc, rest)?;
+    Ok(is_text(alloc, &all, wanted)?)
+}
+
+fn unmangled_is(alloc: Global, text: &str, wanted: &str) -> Result<bool, PathFault> {
+    let plain = Path::read(alloc, text)?.unmangled(alloc)?;
+    Ok(is_text(alloc, &plain, wanted)?)
+}
+
+fn is_english(alloc: Global, english: &Path) -> Mem<bool> {
+    Ok(
+        is_text(alloc, english, "/content/en")?
+            && parent_is(alloc, english, "/content")?
+            && first_is(alloc, english, 1, "/content")?
+            && english.duplicate(alloc)?.depth() == 2
+            && matches!(english.seg(1), Some(name) if name == "en")
+            && english.seg(2).is_none()
+            && english.child(alloc, "..").is_err(),
+    )
+}
+
+fn relates_paths(alloc: Global) -> Result<bool, PathFault> {
     let content = Path::read(alloc, "/content")?;
     let english = content.child(alloc, "en")?;
-    assert!(rt; english.text(alloc)?.text() == "/content/en");
-    assert!(rt; english.parent(alloc)?.text(alloc)?.text() == "/content");
-    assert!(rt; Path::root(alloc).parent(alloc)?.text(alloc)?.text() == "/");
-    assert!(rt; content.join(alloc, &english)?.text(alloc)?.text() == "/content/content/en");
-    assert!(rt; english.first(alloc, 1)?.text(alloc)?.text() == "/content");
-    assert!(rt; english.duplicate(alloc)?.depth() == 2);
-    assert!(rt; english.is_under(&content));
-    assert!(rt; !content.is_under(&english));
-    assert!(rt; english.seg(1).ok_or("none")? == "en");
-    assert!(rt; english.seg(2).is_none());
-    assert!(rt; english.child(alloc, "..").is_err());
-    let mangled = Path::read(alloc, "/_jcr_content/_cq_/_x_y/_nt_a/_sling_b")?;
-    let plain = mangled.unmangled(alloc)?;
-    assert!(rt; plain.text(alloc)?.text() == "/jcr:content/_cq_/_x_y/nt:a/sling:b");
-    Ok(())
+    Ok(
+        is_english(alloc, &english)?
+            && join_is(alloc, &content, &english, "/content/content/en")?
+            && english.is_under(&content)
+            && !content.is_under(&english),
+    )
+}
+
+fn names_no_child(alloc: Global, page: &Path) -> Mem<bool> {
+    Ok(
+        page.child_or_none(alloc, "")?.is_none()
+            && page.child_or_none(alloc, ".")?.is_none()
+            && page.child_or_none(alloc, "a/b")?.is_none(),
+    )
+}
+
+fn joins_child(alloc: Global, page: &Path, child: &Path) -> Mem<bool> {
+    match page.join_or_none(alloc, child)? {
+        Some(path) => Ok(path.as_text() == "/content/en/content/en/a.b"),
+        None => Ok(false),
+    }
+}
+
+fn names_child(alloc: Global, page: &Path) -> Mem<bool> {
+    match page.child_or_none(alloc, "a.b")? {
+        Some(child) => {
+            Ok(child.as_text() == "/content/en/a.b" && joins_child(alloc, page, &child)?)
+        }
+        None => Ok(false),
+    }
+}
+
+fn makes_relatives(alloc: Global) -> Result<bool, PathFault> {
+    let page = Path::read(alloc, "/content/en")?;
+    Ok(
+        page.last().unwrap_or("") == "en"
+            && names_no_child(alloc, &page)?
+            && names_child(alloc, &page)?,
+    )
+}
+
+fn has_a_root(alloc: Global) -> Mem<bool> {
+    let root = Path::root(alloc);
+    Ok(root.last().is_none() && root.as_text() == "/" && parent_is(alloc, &root, "/")?)
 }
 
 #[test]
-fn keeps_properties(rt: HostRuntime) -> Result<(), Fail> {
-    let alloc = rt.alloc();
-    let mut props = PropList::new(alloc);
+fn paths_have_relatives(rt: HostRuntime) {
+    let mangled = "/_jcr_content/_cq_/_x_y/_nt_a/_sling_b";
+    let plain = "/jcr:content/_cq_/_x_y/nt:a/sling:b";
+    assert!(rt; matches!(relates_paths(rt.alloc()), Ok(true)));
+    assert!(rt; matches!(unmangled_is(rt.alloc(), mangled, plain), Ok(true)));
+    assert!(rt; matches!(has_a_root(rt.alloc()), Ok(true)));
+    assert!(rt; matches!(makes_relatives(rt.alloc()), Ok(true)));
+}
+
+fn mangled_is(alloc: Global, text: &str, wanted: &str) -> Result<bool, PathFault> {
+    let mangled = Path::read(alloc, text)?.mangled(alloc)?;
+    Ok(mangled.as_text() == wanted)
+}
+
+const MANGLED: &[(&str, &str)] = &[
+    ("/", "/"),
+    ("/a/jcr:content/sling:x", "/a/_jcr_content/_sling_x"),
+    ("/nt:a/cq:b:c", "/_nt_a/_cq_b:c"),
+    ("/jcr:/x:y/_jcr_a", "/jcr:/x:y/_jcr_a"),
+];
+
+#[test]
+fn mangles_paths(rt: HostRuntime) {
+    for (text, wanted) in MANGLED {
+        assert!(rt; matches!(mangled_is(rt.alloc(), *text, *wanted), Ok(true)));
+    }
+}
+
+// A title is put over another one.
+fn put_titles(alloc: Global, props: &mut PropList) -> Mem<()> {
     props.put(alloc, "title", Value::Long(1))?;
     props.put(alloc, "jcr:title", Value::Truth(true))?;
-    props.put(alloc, "title", Value::Text(TextBuf::of(alloc, "Hello")?))?;
-    assert!(rt; props.len() == 2);
-    match props.at(0) {
-        Some((name, _)) => assert!(rt; name == "jcr:title"),
-        None => assert!(rt; false),
-    }
+    let title = TextBuf::of(alloc, "Hello")?;
+    props.put(alloc, "title", Value::Text(title))
+}
+
+fn holds_titles(props: &PropList) -> bool {
+    matches!(props.get("title"), Some(Value::Text(text)) if text.text() == "Hello")
+        && props.text("title").is_some()
+        && props.text("jcr:title").is_none()
+}
+
+fn is_in_order(props: &PropList) -> bool {
+    props.len() == 2 && matches!(props.at(0), Some((name, _)) if name == "jcr:title")
+}
+
+fn takes_title_away(props: &mut PropList) -> bool {
+    props.remove("title") && !props.remove("title") && props.get("title").is_none()
+}
+
+fn keeps_properties(alloc: Global) -> Mem<bool> {
+    let mut props = PropList::new(alloc);
+    put_titles(alloc, &mut props)?;
     let copy = props.duplicate(alloc)?;
-    match copy.get("title") {
-        Some(Value::Text(text)) => assert!(rt; text.text() == "Hello"),
-        _ => assert!(rt; false),
-    }
-    assert!(rt; copy.text("title").is_some());
-    assert!(rt; copy.text("jcr:title").is_none());
-    assert!(rt; props.remove("title"));
-    assert!(rt; !props.remove("title"));
-    assert!(rt; props.get("title").is_none());
-    let bytes = ByteBuf::of(alloc, b"ab")?;
-    assert!(rt; bytes.bytes() == b"ab".as_slice());
-    Ok(())
+    Ok(is_in_order(&props) && holds_titles(&copy) && takes_title_away(&mut props))
+}
+
+fn keeps_bytes(alloc: Global) -> Mem<bool> {
+    Ok(ByteBuf::of(alloc, b"ab")?.bytes() == b"ab".as_slice())
+}
+
+fn push_field(alloc: Global, fields: &mut HeadList, name: &str, value: &[u8]) -> Mem<()> {
+    let name = TextBuf::of(alloc, name)?;
+    let value = ByteBuf::of(alloc, value)?;
+    fields.push((name, value))
+}
+
+fn keeps_fields(alloc: Global) -> Mem<bool> {
+    let mut fields = HeadList::new(alloc);
+    push_field(alloc, &mut fields, "host", b"a")?;
+    push_field(alloc, &mut fields, "accept", b"b")?;
+    push_field(alloc, &mut fields, "accept", b"c")?;
+    Ok(fields.field("accept").unwrap_or(b"") == b"b".as_slice() && fields.field("Accept").is_none())
+}
+
+#[test]
+fn keeps_what_is_put(rt: HostRuntime) {
+    assert!(rt; matches!(keeps_properties(rt.alloc()), Ok(true)));
+    assert!(rt; matches!(keeps_bytes(rt.alloc()), Ok(true)));
+    assert!(rt; matches!(keeps_fields(rt.alloc()), Ok(true)));
+}
+
+fn push_word(alloc: Global, list: &mut TextList, word: &str) -> Mem<()> {
+    let word = TextBuf::of(alloc, word)?;
+    list.push(word)
 }
 
 fn words(alloc: Global, texts: &[&str]) -> Mem<TextList> {
     let mut list = TextList::new(alloc);
     for text in texts {
-        list.push(TextBuf::of(alloc, text)?)?;
+        push_word(alloc, &mut list, *text)?;
     }
     Ok(list)
+}
+
+fn longs(alloc: Global) -> Mem<LongList> {
+    let mut numbers = LongList::new(alloc);
+    numbers.push(7)?;
+    Ok(numbers)
+}
+
+fn truths(alloc: Global) -> Mem<TruthList> {
+    let mut truths = TruthList::new(alloc);
+    truths.push(true)?;
+    truths.push(false)?;
+    Ok(truths)
 }
 
 // How many items a list value has.
@@ -141,116 +271,79 @@ fn count(value: &Value) -> usize {
     }
 }
 
-#[test]
-fn copies_values(rt: HostRuntime) -> Result<(), Fail> {
-    let alloc = rt.alloc();
-    let mut numbers = LongList::new(alloc);
-    numbers.push(7)?;
-    let mut truths = TruthList::new(alloc);
-    truths.push(true)?;
-    truths.push(false)?;
-    let texts = words(alloc, &["a", "b", "c"])?;
-    assert!(rt; count(&Value::Longs(numbers).duplicate(alloc)?) == 1);
-    assert!(rt; count(&Value::Truths(truths).duplicate(alloc)?) == 2);
-    assert!(rt; count(&Value::Texts(texts).duplicate(alloc)?) == 3);
+fn copy_has(alloc: Global, value: &Value, items: usize) -> Mem<bool> {
+    Ok(count(&value.duplicate(alloc)?) == items)
+}
+
+fn copies_lists(alloc: Global) -> Mem<bool> {
+    Ok(
+        copy_has(alloc, &Value::Longs(longs(alloc)?), 1)?
+            && copy_has(alloc, &Value::Truths(truths(alloc)?), 2)?
+            && copy_has(alloc, &Value::Texts(words(alloc, &["a", "b", "c"])?), 3)?,
+    )
+}
+
+fn copies_a_text(alloc: Global) -> Mem<bool> {
     let text = Value::Text(TextBuf::of(alloc, "x")?);
-    assert!(rt; matches!(text.duplicate(alloc)?, Value::Text(_)));
-    Ok(())
+    Ok(matches!(text.duplicate(alloc)?, Value::Text(_)))
+}
+
+#[test]
+fn copies_values(rt: HostRuntime) {
+    assert!(rt; matches!(copies_lists(rt.alloc()), Ok(true)));
+    assert!(rt; matches!(copies_a_text(rt.alloc()), Ok(true)));
+}
+
+fn typed(alloc: Global, kind: HintKind, many: bool, texts: &[&str]) -> Result<Value, ValueFault> {
+    let words = words(alloc, texts)?;
+    Value::typed(alloc, Hint { kind, many }, &words)
 }
 
 fn number(alloc: Global, word: &str) -> Result<Option<i64>, NoMemory> {
-    let hint = Hint {
-        kind: HintKind::Long,
-        many: false,
-    };
-    match Value::typed(alloc, hint, &words(alloc, &[word])?) {
+    match typed(alloc, HintKind::Long, false, &[word]) {
         Ok(Value::Long(n)) => Ok(Some(n)),
         Err(ValueFault::NoMemory) => Err(NoMemory),
         _ => Ok(None),
     }
 }
 
-#[test]
-fn types_words(rt: HostRuntime) -> Result<(), Fail> {
-    let alloc = rt.alloc();
-    assert!(rt; number(alloc, "12")? == Some(12));
-    assert!(rt; number(alloc, "-0012")? == Some(-12));
-    assert!(rt; number(alloc, "-9223372036854775808")? == Some(i64::MIN));
-    assert!(rt; number(alloc, "9223372036854775808")? == None);
-    assert!(rt; number(alloc, "+1")? == None);
-    assert!(rt; number(alloc, "")? == None);
-    assert!(rt; number(alloc, "-")? == None);
-    assert!(rt; number(alloc, "1.0")? == None);
-    let many = Hint {
-        kind: HintKind::Long,
-        many: true,
-    };
-    match Value::typed(alloc, many, &words(alloc, &["1", "abc", "x"])?) {
-        Err(fault) => assert!(rt; fault == ValueFault::NotANumber(1)),
-        Ok(_) => assert!(rt; false),
-    }
-    let one = Hint {
-        kind: HintKind::Truth,
-        many: false,
-    };
-    match Value::typed(alloc, one, &words(alloc, &[])?) {
-        Err(fault) => assert!(rt; fault == ValueFault::WrongCount(0)),
-        Ok(_) => assert!(rt; false),
-    }
-    match Value::typed(alloc, one, &words(alloc, &["True"])?) {
-        Ok(Value::Truth(truth)) => assert!(rt; !truth),
-        _ => assert!(rt; false),
-    }
-    Ok(())
+const NUMBERS: &[(&str, Option<i64>)] = &[
+    ("12", Some(12)),
+    ("-0012", Some(-12)),
+    ("-9223372036854775808", Some(i64::MIN)),
+    ("9223372036854775808", None),
+    ("+1", None),
+    ("", None),
+    ("-", None),
+    ("1.0", None),
+];
+
+fn is_number(alloc: Global, word: &str, wanted: Option<i64>) -> bool {
+    matches!(number(alloc, word), Ok(found) if found == wanted)
+}
+
+fn refuses_words(alloc: Global) -> bool {
+    matches!(
+        typed(alloc, HintKind::Long, true, &["1", "abc", "x"]),
+        Err(ValueFault::NotANumber(1))
+    ) && matches!(
+        typed(alloc, HintKind::Truth, false, &[]),
+        Err(ValueFault::WrongCount(0))
+    )
+}
+
+fn reads_another_word_as_false(alloc: Global) -> bool {
+    matches!(
+        typed(alloc, HintKind::Truth, false, &["True"]),
+        Ok(Value::Truth(false))
+    )
 }
 
 #[test]
-fn makes_relatives(rt: HostRuntime) -> Result<(), Fail> {
-    let alloc = rt.alloc();
-    let root = Path::root(alloc);
-    assert!(rt; root.last().is_none());
-    assert!(rt; root.as_text() == "/");
-    let page = Path::read(alloc, "/content/en")?;
-    assert!(rt; page.last().unwrap_or("") == "en");
-    for name in ["", ".", "a/b"] {
-        assert!(rt; page.child_or_none(alloc, name)?.is_none());
+fn types_words(rt: HostRuntime) {
+    for (word, wanted) in NUMBERS {
+        assert!(rt; is_number(rt.alloc(), *word, *wanted));
     }
-    let Some(child) = page.child_or_none(alloc, "a.b")? else {
-        assert!(rt; false);
-        return Ok(());
-    };
-    assert!(rt; child.as_text() == "/content/en/a.b");
-    match page.join_or_none(alloc, &child)? {
-        Some(path) => assert!(rt; path.as_text() == "/content/en/content/en/a.b"),
-        None => assert!(rt; false),
-    }
-    Ok(())
-}
-
-#[test]
-fn mangles_paths(rt: HostRuntime) -> Result<(), Fail> {
-    let alloc = rt.alloc();
-    let table = [
-        ("/", "/"),
-        ("/a/jcr:content/sling:x", "/a/_jcr_content/_sling_x"),
-        ("/nt:a/cq:b:c", "/_nt_a/_cq_b:c"),
-        ("/jcr:/x:y/_jcr_a", "/jcr:/x:y/_jcr_a"),
-    ];
-    for (text, mangled) in table {
-        let path = Path::read(alloc, text)?.mangled(alloc)?;
-        assert!(rt; path.as_text() == mangled);
-    }
-    Ok(())
-}
-
-#[test]
-fn keeps_fields(rt: HostRuntime) -> Result<(), Fail> {
-    let alloc = rt.alloc();
-    let mut fields = HeadList::new(alloc);
-    fields.push((TextBuf::of(alloc, "host")?, ByteBuf::of(alloc, b"a")?))?;
-    fields.push((TextBuf::of(alloc, "accept")?, ByteBuf::of(alloc, b"b")?))?;
-    fields.push((TextBuf::of(alloc, "accept")?, ByteBuf::of(alloc, b"c")?))?;
-    assert!(rt; fields.field("accept").unwrap_or(b"") == b"b".as_slice());
-    assert!(rt; fields.field("Accept").is_none());
-    Ok(())
+    assert!(rt; refuses_words(rt.alloc()));
+    assert!(rt; reads_another_word_as_false(rt.alloc()));
 }

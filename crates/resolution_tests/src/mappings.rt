@@ -1,27 +1,37 @@
 //! What texts are mapped to for hosts and ports, and the change of an index. Aliases and vanity paths are asked for through the program (examples/runs).
 use crate::failed::Failed;
+use crate::trees::make;
 use resource_tree::{Patch, PatchNode, Tree, TreeFault};
 use sp_base::{NoMemory, Path, PathFault, TextBuf, Value};
 use std::alloc::{AllocError, Global};
 use std::hash::RandomState;
 use url_maps::{MapAnswer, MapIndex, location_of, map_in};
 
-// A tree of three mappings that lead away.
+fn map_to(alloc: Global, tree: &mut Tree, path: &str, target: &str) -> Result<(), Failed> {
+    let path = Path::read(alloc, path)?;
+    tree.create(alloc, &path)?;
+    let target = Value::Text(TextBuf::of(alloc, target)?);
+    Ok(tree.set(alloc, &path, "sling:redirect", target)?)
+}
+
+// Three mappings that lead away.
+const MAPPINGS: &[(&str, &str)] = &[
+    ("/etc/map/http/localhost.80", "/local"),
+    ("/etc/map/http/localhost.8080", "/port"),
+    ("/etc/map/http/example.org.80", "https://example.com/a b"),
+];
+
+fn map_all(alloc: Global, tree: &mut Tree) -> Result<(), Failed> {
+    make(alloc, tree, &Path::read(alloc, "/etc/map/http")?)?;
+    for (path, target) in MAPPINGS {
+        map_to(alloc, tree, *path, *target)?;
+    }
+    Ok(())
+}
+
 fn mappings(alloc: Global, seeds: RandomState) -> Result<Tree, Failed> {
     let mut tree = Tree::new(alloc, seeds)?;
-    for path in ["/etc", "/etc/map", "/etc/map/http"] {
-        tree.create(alloc, &Path::read(alloc, path)?)?;
-    }
-    for (path, target) in [
-        ("/etc/map/http/localhost.80", "/local"),
-        ("/etc/map/http/localhost.8080", "/port"),
-        ("/etc/map/http/example.org.80", "https://example.com/a b"),
-    ] {
-        let path = Path::read(alloc, path)?;
-        tree.create(alloc, &path)?;
-        let target = Value::Text(TextBuf::of(alloc, target)?);
-        tree.set(alloc, &path, "sling:redirect", target)?;
-    }
+    map_all(alloc, &mut tree)?;
     Ok(tree)
 }
 
@@ -37,26 +47,45 @@ fn shown(alloc: Global, answer: &MapAnswer) -> Result<TextBuf, Failed> {
     }
 }
 
+fn is_mapped(
+    alloc: Global,
+    tree: &Tree,
+    host: &str,
+    port: u16,
+    wanted: &str,
+) -> Result<bool, Failed> {
+    let answer = map_in(alloc, tree, host, port, "/x.html")?;
+    Ok(shown(alloc, &answer)?.text() == wanted)
+}
+
+// A host, a port, and what `/x.html` is mapped to for them.
+const HOSTS: &[(&str, u16, &str)] = &[
+    ("localhost", 80, "302 /local/x.html"),
+    ("LocalHost", 80, "302 /local/x.html"),
+    ("localhost", 8080, "302 /port/x.html"),
+    ("localhost", 808, "/x.html"),
+    ("localhost", 8, "/x.html"),
+    ("example.org", 80, "302 https://example.com/a%20b/x.html"),
+    ("example.org", 443, "/x.html"),
+    ("example", 80, "/x.html"),
+    ("localhost.80", 80, "/x.html"),
+    ("http/localhost", 80, "/x.html"),
+    ("", 80, "/x.html"),
+];
+
+fn all_are_mapped(alloc: Global, tree: &Tree) -> Result<bool, Failed> {
+    for (host, port, wanted) in HOSTS {
+        if !is_mapped(alloc, tree, *host, *port, *wanted)? {
+            return Ok(false);
+        }
+    }
+    Ok(true)
+}
+
 #[test]
 fn hosts_and_ports_have_their_mappings(rt: HostRuntime) -> Result<(), Failed> {
-    let alloc = rt.alloc();
-    let tree = mappings(alloc, RandomState::new(&rt)?)?;
-    for (host, port, want) in [
-        ("localhost", 80u16, "302 /local/x.html"),
-        ("LocalHost", 80, "302 /local/x.html"),
-        ("localhost", 8080, "302 /port/x.html"),
-        ("localhost", 808, "/x.html"),
-        ("localhost", 8, "/x.html"),
-        ("example.org", 80, "302 https://example.com/a%20b/x.html"),
-        ("example.org", 443, "/x.html"),
-        ("example", 80, "/x.html"),
-        ("localhost.80", 80, "/x.html"),
-        ("http/localhost", 80, "/x.html"),
-        ("", 80, "/x.html"),
-    ] {
-        let got = shown(alloc, &map_in(alloc, &tree, host, port, "/x.html")?)?;
-        assert!(rt; got.text() == want);
-    }
+    let tree = mappings(rt.alloc(), RandomState::new(&rt)?)?;
+    assert!(rt; matches!(all_are_mapped(rt.alloc(), &tree), Ok(true)));
     Ok(())
 }
 
@@ -82,21 +111,29 @@ fn page_after(alloc: Global, seeds: RandomState, vanity_path: &str) -> Result<Pa
     }
 }
 
+// Whether there is a change of the index for this change of the page, which it then takes.
+fn is_changed(alloc: Global, seeds: RandomState, after: &str) -> Result<bool, Failed> {
+    let tree = page(alloc, seeds, "/old")?;
+    let mut index = MapIndex::of(alloc, &tree)?;
+    let mut patch = Patch::new(alloc, seeds);
+    patch.put(Path::read(alloc, "/a")?, page_after(alloc, seeds, after)?)?;
+    match index.change_of(alloc, &tree, &patch) {
+        Ok(change) => {
+            index.take(change);
+            Ok(true)
+        }
+        Err(_) => Ok(false),
+    }
+}
+
+const LATER_PATHS: &[&str] = &["/new", "/old", ""];
+
 // What the index is after it, `take` promises; here the change has the memory that it wants.
 #[test]
 fn a_patch_changes_the_index(rt: HostRuntime) -> Result<(), Failed> {
-    let alloc = rt.alloc();
     let seeds = RandomState::new(&rt)?;
-    for after in ["/new", "/old", ""] {
-        let tree = page(alloc, seeds, "/old")?;
-        let mut index = MapIndex::of(alloc, &tree)?;
-        let mut patch = Patch::new(alloc, seeds);
-        patch.put(Path::read(alloc, "/a")?, page_after(alloc, seeds, after)?)?;
-        let change = index.change_of(alloc, &tree, &patch);
-        assert!(rt; change.is_ok());
-        if let Ok(change) = change {
-            index.take(change);
-        }
+    for after in LATER_PATHS {
+        assert!(rt; matches!(is_changed(rt.alloc(), seeds, *after), Ok(true)));
     }
     Ok(())
 }

@@ -9,69 +9,99 @@ use std::hash::RandomState;
 use type_chain::{TypeList, TypeName};
 use url_split::Parts;
 
+fn put_script(alloc: Global, tree: &mut Tree, script: &str) -> Result<(), Failed> {
+    let content = Path::read(alloc, script)?.child(alloc, "jcr:content")?;
+    make(alloc, tree, &content)?;
+    let text = Value::Text(TextBuf::of(alloc, script)?);
+    Ok(tree.set(alloc, &content, "jcr:data", text)?)
+}
+
+fn put_scripts(alloc: Global, tree: &mut Tree, scripts: &[&str]) -> Result<(), Failed> {
+    for script in scripts {
+        put_script(alloc, tree, *script)?;
+    }
+    Ok(())
+}
+
 // A tree of scripts whose texts are their own paths.
 fn tree_of(alloc: Global, seeds: RandomState, scripts: &[&str]) -> Result<Tree, Failed> {
     let mut tree = Tree::new(alloc, seeds)?;
-    for script in scripts {
-        let content = Path::read(alloc, script)?.child(alloc, "jcr:content")?;
-        make(alloc, &mut tree, &content)?;
-        let text = Value::Text(TextBuf::of(alloc, script)?);
-        tree.set(alloc, &content, "jcr:data", text)?;
-    }
+    put_scripts(alloc, &mut tree, scripts)?;
     Ok(tree)
+}
+
+fn push_type(alloc: Global, chain: &mut TypeList, text: &str) -> Result<(), Failed> {
+    match TypeName::read(alloc, text)? {
+        Some(name) => Ok(chain.push(name)?),
+        None => Err(Failed),
+    }
 }
 
 fn chain_of(alloc: Global, types: &[&str]) -> Result<TypeList, Failed> {
     let mut chain = TypeList::new(alloc);
     for text in types {
-        if let Some(name) = TypeName::read(alloc, text)? {
-            chain.push(name)?;
-        }
+        push_type(alloc, &mut chain, *text)?;
     }
     Ok(chain)
 }
 
-// The parts of a request with these selectors and this extension.
-fn parts_of(alloc: Global, selectors: &[&str], extension: &str) -> Result<Parts, Failed> {
+fn push_text(alloc: Global, list: &mut TextList, text: &str) -> Result<(), Failed> {
+    let text = TextBuf::of(alloc, text)?;
+    Ok(list.push(text)?)
+}
+
+fn texts_of(alloc: Global, texts: &[&str]) -> Result<TextList, Failed> {
     let mut list = TextList::new(alloc);
-    for selector in selectors {
-        list.push(TextBuf::of(alloc, selector)?)?;
+    for text in texts {
+        push_text(alloc, &mut list, *text)?;
     }
+    Ok(list)
+}
+
+// The parts of a request with these selectors and the extension `html`.
+fn parts_of(alloc: Global, selectors: &[&str]) -> Result<Parts, Failed> {
+    let selectors = texts_of(alloc, selectors)?;
+    let extension = TextBuf::of(alloc, "html")?;
     Ok(Parts {
         path: Path::root(alloc),
-        selectors: list,
-        extension: TextBuf::of(alloc, extension)?,
-        suffix: TextBuf::of(alloc, "")?,
+        selectors,
+        extension,
+        suffix: TextBuf::from(String::new(alloc)),
     })
 }
 
-// The text of a path that is there.
-fn shown(alloc: Global, path: Option<Path>) -> Result<TextBuf, Failed> {
-    match path {
-        Some(path) => Ok(path.text(alloc)?),
-        None => Err(Failed),
-    }
+fn is_path(path: &Option<Path>, wanted: &str) -> bool {
+    matches!(path, Some(path) if path.as_text() == wanted)
 }
 
-#[test]
-fn a_chain_has_a_first_script(rt: HostRuntime) -> Result<(), Failed> {
-    let alloc = rt.alloc();
-    let scripts = ["/apps/hr/jobs/html.html", "/libs/hr/jobs/print/a4.html"];
-    let tree = tree_of(alloc, RandomState::new(&rt)?, &scripts)?;
+const OF_CHAIN: &[&str] = &["/apps/hr/jobs/html.html", "/libs/hr/jobs/print/a4.html"];
+
+fn a_chain_has_a_first_script(alloc: Global, tree: &Tree) -> Result<bool, Failed> {
     let chain = chain_of(alloc, &["hr:jobs", "sling/servlet/default"])?;
-    let parts = parts_of(alloc, &["print", "a4"], "html")?;
-    let first = first_script(alloc, &tree, &chain, &parts)?;
-    assert!(rt; shown(alloc, first)?.text() == scripts[1]);
-    Ok(())
+    let parts = parts_of(alloc, &["print", "a4"])?;
+    let first = first_script(alloc, tree, &chain, &parts)?;
+    Ok(is_path(&first, "/libs/hr/jobs/print/a4.html"))
+}
+
+const OF_RESOURCE: &[&str] = &["/apps/sling/servlet/default/GET.html"];
+
+fn the_chain_of_a_resource_is_searched(alloc: Global, tree: &Tree) -> Result<bool, Failed> {
+    let parts = parts_of(alloc, &["a"])?;
+    let first = script_of(alloc, tree, &PropList::new(alloc), &parts)?;
+    Ok(is_path(&first, "/apps/sling/servlet/default/GET.html"))
 }
 
 #[test]
-fn the_chain_of_a_resource_is_searched(rt: HostRuntime) -> Result<(), Failed> {
-    let alloc = rt.alloc();
-    let scripts = ["/apps/sling/servlet/default/GET.html"];
-    let tree = tree_of(alloc, RandomState::new(&rt)?, &scripts)?;
-    let parts = parts_of(alloc, &["a"], "html")?;
-    let first = script_of(alloc, &tree, &PropList::new(alloc), &parts)?;
-    assert!(rt; shown(alloc, first)?.text() == scripts[0]);
+fn scripts_are_ranked(rt: HostRuntime) -> Result<(), Failed> {
+    let seeds = RandomState::new(&rt)?;
+    let tree = tree_of(rt.alloc(), seeds, OF_CHAIN)?;
+    assert!(rt; matches!(a_chain_has_a_first_script(rt.alloc(), &tree), Ok(true)));
+    let tree = tree_of(rt.alloc(), seeds, OF_RESOURCE)?;
+    assert!(rt;
+        matches!(
+            the_chain_of_a_resource_is_searched(rt.alloc(), &tree),
+            Ok(true)
+        )
+    );
     Ok(())
 }

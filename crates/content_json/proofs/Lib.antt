@@ -8,6 +8,7 @@ pub mod MemberLemmas
 pub mod MapLemmas
 pub mod DistinctLemmas
 pub mod SizeLemmas
+pub mod RoomLemmas
 pub mod JoinLemmas
 pub mod WrittenLemmas
 pub mod BelowLemmas

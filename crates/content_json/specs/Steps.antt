@@ -1,5 +1,5 @@
 -- What proofs and private functions need: the steps of reading and of writing.
-use Rattle.std.specs.Prelude.{◌≡◌, ◌-◌, ◌&&◌, ℕ, List, [], ◌∷◌, Bool, true, false, T, Option, Some, None, option_map, if◌then◌else◌, flat_map, length}
+use Rattle.std.specs.Prelude.{◌≡◌, ◌-◌, ◌&&◌, ◌||◌, nat_lt, is_some, ℕ, List, [], ◌∷◌, Bool, true, false, T, Option, Some, None, option_map, if◌then◌else◌, flat_map, length}
 use Rattle.std.specs.FinMap.Entries.{is_sorted}
 use Rattle.std.specs.List.{list_all, list_any}
 use Rattle.std.specs.Option.{option_or}
@@ -7,7 +7,7 @@ use Rattle.std.specs.Str.{bytes_eq}
 use Rattle.json.specs.Json as json
 use Rattle.json.specs.Token.{Token}
 use Rattle.json.specs.Tree.{json_tokens}
-use Rattle.serde_json.specs.Data.{Data}
+use Rattle.serde_json.specs.Data.{Data, Members, object}
 use Rattle.sp_base.specs.Paths.{most_segments}
 use Rattle.sp_base.specs.Names.{by_name}
 use Rattle.sp_base.specs.declared.value.Value.{Value}
@@ -17,7 +17,7 @@ use Rattle.property_json.specs.PropertyJson.{items_of, has_longs}
 use Rattle.content_json.specs.declared.fault.Found.{Found}
 use Rattle.content_json.specs.Names.{order_name, is_order}
 use Rattle.content_json.specs.Faults.{in_member, fault_in}
-use Rattle.content_json.specs.Nodes.{nodes_in}
+use Rattle.content_json.specs.Nodes.{nodes_in, count_in, count_below, is_deeper, is_deeper_below}
 use Rattle.content_json.specs.Written.{node_json}
 
 -- the second path is the first or is below it
@@ -39,6 +39,14 @@ member_nodes path name d = if is_order name then [] else nodes_in (kid path name
 -- the node at a path of a tree with other nodes added
 abbrev pub with_nodes_at : Content → Content → List (List ℕ) → Option Node
 with_nodes_at tree nodes q = option_or (node_at nodes q) (node_at tree q)
+
+-- how many of so many nodes are left beside those of a value. There is no answer where it has a fault, more nodes, or one more levels below
+abbrev pub room_after : ℕ → ℕ → Data → Option ℕ
+room_after most levels d = if is_some (fault_in d) || (nat_lt most (count_in d) || is_deeper levels d) then None else Some (most - count_in d)
+
+-- and beside those of the members of an object
+abbrev pub room_beside : ℕ → ℕ → Members → Option ℕ
+room_beside most levels ms = if is_some (fault_in (object ms)) || (nat_lt most (count_below ms) || is_deeper_below levels ms) then None else Some (most - count_below ms)
 
 -- ---- writing
 

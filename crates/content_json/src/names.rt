@@ -14,7 +14,7 @@ pub(crate) fn is_order(name: &str) -> bool
     name == ORDER
 }
 
-fn is_plain(name: &str) -> bool
+pub(crate) fn is_plain(name: &str) -> bool
     ensures { result ≡ is_content_name name.now }
 {
     seg_ok(name) && !name.starts_with(':')

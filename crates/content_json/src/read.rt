@@ -1,10 +1,10 @@
-// Reads content: the JSON, its first fault, its size, and then its nodes.
+// Reads content: the JSON, and then its nodes, or why it is refused.
 ghost use Rattle.std.specs.Prelude.{◌≡◌, ◌≢◌, None, Some, Ok, Err, [], false, IfOk, IfErr};
 ghost use Rattle.serde_json.specs.Data.{object};
 ghost use Rattle.serde_json.specs.View.{view, members_view};
 ghost use Rattle.content_json.specs.Faults.{fault_in};
 ghost use Rattle.content_json.specs.Nodes.{nodes_in};
-ghost use Rattle.content_json.specs.ContentOf.{json_of, is_too_big, refused_by, map_of, content};
+ghost use Rattle.content_json.specs.ContentOf.{json_of, is_too_big, is_sound, refused_by, map_of, content_in, content};
 
 use crate::ContentFault;
 use crate::fault::{Cause, Found};
@@ -35,11 +35,8 @@ pub fn read_tree(alloc: Global, seeds: RandomState, bytes: &[u8]) -> Result<Tree
     let Value::Object(members) = json_of(alloc, bytes)? else {
         return Err(ContentFault::NotObject);
     };
-    if let Some(found) = object_fault(alloc, &members)? {
-        return Err(refused_by(found));
-    }
-    if is_too_big(&members) {
-        return Err(ContentFault::TooBig);
+    if !is_sound(alloc, &members)? {
+        return Err(refusal(alloc, &members)?);
     }
     let nodes = nodes_of(alloc, seeds, members)?;
     Ok(Tree::of(nodes))
@@ -74,10 +71,22 @@ fn refused_by(found: Found) -> ContentFault
     }
 }
 
-fn is_too_big(members: &Map<String, Value>) -> bool
-    ensures { result ≡ is_too_big (members_view members.now.entries) }
+// Whether an object has no fault and isn't too big: one look at each member tells.
+fn is_sound(alloc: Global, members: &Map<String, Value>) -> Mem<bool>
+    ensures { IfOk result (λ sound. sound ≡ is_sound (members_view members.now.entries)) }
 {
-    room_beside(members, MOST_NODES - 1, MOST_LEVELS).is_none()
+    Ok(room_beside(alloc, members, MOST_NODES - 1, MOST_LEVELS)?.is_some())
+}
+
+// Why an object that isn't sound is refused: its first fault, or else its size.
+fn refusal(alloc: Global, members: &Map<String, Value>) -> Mem<ContentFault>
+    requires { is_sound (members_view members.now.entries) ≡ false }
+    ensures { IfOk result (λ fault. content_in (Some (object (members_view members.now.entries))) ≡ Err fault) }
+{
+    match object_fault(alloc, members)? {
+        Some(found) => Ok(refused_by(found)),
+        None => Ok(ContentFault::TooBig),
+    }
 }
 
 // The nodes of an object without a fault.

@@ -19,6 +19,7 @@ use replay_text::{acts_are_told_by_their_lines, first_act, write_notes};
 use sp_base::Mem;
 use sp_outside::{Sink, SinkFault};
 use std::alloc::Global;
+use std::mem::forget;
 
 // How many bytes are gathered before they are written.
 const GATHERED_BYTES: usize = 65_536;
@@ -73,6 +74,9 @@ pub fn play<K: Sink>(
         }
         rest = after;
     }
+    // The program ends with its run, and the system takes all memory back at once: given up node by node, a large content would cost
+    // a seventh of the time that it took to read.
+    forget(front);
     say(sink, &gathered, Ending::Done)
 }
 

@@ -1,3 +1,4 @@
+pub mod PlainPaths
 pub mod TargetLemmas
 pub mod LocationLemmas
 pub mod FieldLemmas

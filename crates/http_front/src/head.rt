@@ -1,5 +1,6 @@
 //! Reads what a whole request head asks for.
-ghost use Rattle.std.specs.Prelude.{◌≡◌, ◌≢◌, IfOk, IfErr, IfSome, OnOk, Some, None, All, IsUtf8, length, map, option_copied, option_map};
+ghost use Rattle.std.specs.Prelude.{◌≡◌, ◌≢◌, ◌++◌, IfOk, IfErr, IfSome, OnOk, Some, None, All, IsUtf8, length, map, option_copied, option_map, string_bytes};
+ghost use Rattle.std.specs.Fmt.{decimal};
 ghost use Rattle.std.specs.Str.{str_to_ascii_lowercase};
 ghost use Rattle.httparse.specs.Spans.{IsHeaderWithin, header_bytes, span_bytes};
 ghost use Rattle.sp_base.specs.Fields.{field_of};
@@ -15,11 +16,14 @@ use http1::text::eq_ignore_case;
 use httparse::spans::{HeaderSpan, RequestSpans};
 use sp_base::{ByteBuf, HeadList, Mem, Req, TextBuf};
 use std::alloc::Global;
-use std::str::from_utf8;
+use std::str::from_utf8_unchecked;
 
 const MOST_FIELDS: usize = 100;
 
 const LONGEST_BODY: usize = 8_388_608;
+
+// Room in a request line for what stands round the target.
+const VERSION_ROOM: usize = 12;
 
 /// What a head asks for.
 #[derive(Drop)]
@@ -86,7 +90,7 @@ fn asked_of(alloc: Global, minor: u8, target: &str, heads: &HeadList) -> Result<
         Ok(length) => length,
         Err(fault) => return Err(fault),
     };
-    let host = TextBuf::from(String::from_utf8_lossy(alloc, name)?);
+    let host = TextBuf::of(alloc, text_of(name))?;
     Ok(Asked {
         host,
         port,
@@ -142,17 +146,39 @@ fn text_of(bytes: &[u8]) -> &str
     requires { IsUtf8 bytes.now }
     ensures { result.now ≡ bytes.now }
 {
-    match from_utf8(bytes) {
-        Ok(text) => text,
-        Err(_) => "",
-    }
+    // That they are UTF-8 is required, and so proved at each call.
+    unsafe { from_utf8_unchecked(bytes) }
 }
 
 fn request_line(alloc: Global, method: &str, target: &str, minor: u8) -> Mem<TextBuf>
     ensures { IfOk result (λ line. line ≡ spec.request_line method.now target.now minor) }
 {
-    let line = format!(in alloc; "{method} {target} HTTP/1.{minor}")?;
+    let room = method
+        .len()
+        .saturating_add(target.len())
+        .saturating_add(VERSION_ROOM);
+    let mut line = String::with_capacity(alloc, room)?;
+    line.push_str(method)?;
+    line.push_str(" ")?;
+    line.push_str(target)?;
+    line.push_str(" HTTP/1.")?;
+    push_minor(alloc, &mut line, minor)?;
     Ok(TextBuf::from(line))
+}
+
+// The digits of a minor version, which in a head that was read is 0 or 1.
+fn push_minor(alloc: Global, line: &mut String, minor: u8) -> Mem<()>
+    ensures { OnOk result (string_bytes line.new ≡ string_bytes line.old ++ decimal minor) }
+{
+    match minor {
+        0 => line.push_str("0")?,
+        1 => line.push_str("1")?,
+        _ => {
+            let digits = minor.to_string(alloc)?;
+            line.push_str(digits.as_str())?;
+        }
+    }
+    Ok(())
 }
 
 // The fields, with their names in lower case.
@@ -161,13 +187,13 @@ fn lowered(alloc: Global, bytes: &[u8], fields: &[HeaderSpan]) -> Mem<HeadList>
     requires names { All (λ field. IsUtf8 field.0) (map (header_bytes bytes.now) fields.now) }
     ensures { IfOk result (λ heads. heads ≡ map spec.lowered (map (header_bytes bytes.now) fields.now)) }
 {
-    let mut heads = HeadList::new(alloc);
+    let mut heads = Vec::with_capacity(alloc, fields.len())?;
     for field in fields {
         let name = lowered_name(alloc, field.name.of(bytes))?;
         let value = ByteBuf::of(alloc, field.value.of(bytes))?;
         heads.push((name, value))?;
     }
-    Ok(heads)
+    Ok(HeadList::from(heads))
 }
 
 fn lowered_name(alloc: Global, name: &[u8]) -> Mem<TextBuf>

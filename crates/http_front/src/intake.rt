@@ -1,5 +1,5 @@
 //! Reads the requests of a connection, from its bytes in any cutting.
-ghost use Rattle.std.specs.Prelude.{◌≡◌, ◌≤◌, drop, length};
+ghost use Rattle.std.specs.Prelude.{◌≡◌, ◌≤◌, ◌+◌, ◌-◌, drop, take, length};
 ghost use Rattle.http_front.specs.Turns.{with_body};
 
 use crate::fault::InFault;
@@ -80,7 +80,7 @@ impl Intake {
     {
         let left = self.buffer.len() - self.start;
         if self.start >= left {
-            self.buffer.rotate_left(self.start);
+            move_to_front(self.buffer.as_mut_slice(), self.start);
             self.buffer.truncate(left);
             self.start = 0;
         }
@@ -168,6 +168,17 @@ impl Intake {
             Phase::Heading | Phase::Failed(_) => Ok(None),
         }
     }
+}
+
+// Copies the bytes from a place on to the front, where there are as many before that place.
+fn move_to_front(bytes: &mut [u8], start: usize)
+    requires within { start ≤ length bytes.old }
+    requires apart { length bytes.old ≤ start + start }
+    ensures len { length bytes.new ≡ length bytes.old }
+    ensures front { take (length bytes.old - start) bytes.new ≡ drop start bytes.old }
+{
+    let (front, rest) = bytes.split_at_mut(start);
+    front[..rest.len()].copy_from_slice(rest);
 }
 
 // The bytes that no turn has taken.

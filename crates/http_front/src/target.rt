@@ -1,15 +1,16 @@
 //! Reads the target of a request, in the origin form: a path, and a query after it (RFC 9112, section 3.2.1).
 ghost use Rattle.std.specs.Prelude.{◌≡◌, IfOk, option_copied, position};
-ghost use Rattle.std.specs.List.{before_first};
-ghost use Rattle.std.specs.Option.{option_map};
+ghost use Rattle.std.specs.List.{before_first, list_any};
+ghost use Rattle.std.specs.Option.{option_map, option_and_then};
 ghost use Rattle.std.specs.Result.{result_ok};
 ghost use Rattle.percent_encoding.specs.Percent.{percent_decode as decoding};
 ghost use Rattle.sp_base.specs.Paths.{path_of, unmangled};
-ghost use Rattle.http_front.specs.Targets.{is_question_mark, query_of, begins_with_slash, ends_in_slash, without_slash as trimmed, utf8_text, target_of};
+ghost use Rattle.http_front.specs.Targets.{is_question_mark, is_percent, is_underscore, query_of, begins_with_slash, ends_in_slash, without_slash as trimmed, utf8_text, path_and_slash, target_of};
 
 use percent_encoding::{DecodeError, percent_decode};
-use sp_base::{ByteBuf, Mem, NoMemory, Path, PathFault, TextBuf};
+use sp_base::{ByteBuf, Mem, NoMemory, Path, PathFault};
 use std::alloc::Global;
+use std::str::from_utf8;
 
 /// What a target says.
 #[derive(Drop)]
@@ -30,11 +31,7 @@ pub fn read_target(alloc: Global, target: &[u8]) -> Mem<Option<Target>>
         return Ok(None);
     }
     let (path, query) = cut(target);
-    let Some(text) = decoded(alloc, path)? else {
-        return Ok(None);
-    };
-    let (text, slash) = without_slash(text.text());
-    let Some(path) = unmangled_path(alloc, text)? else {
+    let Some((path, slash)) = read_path(alloc, path)? else {
         return Ok(None);
     };
     let query = copied(alloc, query)?;
@@ -68,14 +65,44 @@ fn first_mark(target: &[u8]) -> Option<usize>
     target.iter().position(|b| *b == b'?')
 }
 
-// The text of a path, where it decodes to UTF-8.
-fn decoded(alloc: Global, path: &[u8]) -> Mem<Option<TextBuf>>
-    ensures { IfOk result (λ o. o ≡ utf8_text (decoding path.now)) }
+// The path that bytes stand for, each escape in them as the byte of its digits, and whether a slash at its end was dropped. Most paths
+// have no escape.
+fn read_path(alloc: Global, path: &[u8]) -> Mem<Option<(Path, bool)>>
+    ensures { IfOk result (λ o. o ≡ option_and_then path_and_slash (utf8_text (decoding path.now))) }
+{
+    if has_percent(path) {
+        return escaped_path(alloc, path);
+    }
+    match from_utf8(path) {
+        Ok(text) => path_in(alloc, text),
+        Err(_) => Ok(None),
+    }
+}
+
+fn has_percent(path: &[u8]) -> bool
+    ensures { result ≡ list_any is_percent path.now }
+{
+    path.iter().any(|b| *b == b'%')
+}
+
+fn escaped_path(alloc: Global, path: &[u8]) -> Mem<Option<(Path, bool)>>
+    ensures { IfOk result (λ o. o ≡ option_and_then path_and_slash (utf8_text (decoding path.now))) }
 {
     match percent_decode(path).decode_utf8(alloc) {
-        Ok(text) => Ok(Some(TextBuf::of(alloc, &text)?)),
+        Ok(text) => path_in(alloc, &text),
         Err(DecodeError::Utf8(_)) => Ok(None),
         Err(DecodeError::OutOfMemory) => Err(NoMemory),
+    }
+}
+
+// The path that a text spells, and whether a slash at its end was dropped.
+fn path_in(alloc: Global, text: &str) -> Mem<Option<(Path, bool)>>
+    ensures { IfOk result (λ o. o ≡ path_and_slash text.now) }
+{
+    let (text, slash) = without_slash(text);
+    match unmangled_path(alloc, text)? {
+        Some(path) => Ok(Some((path, slash))),
+        None => Ok(None),
     }
 }
 
@@ -95,10 +122,28 @@ fn unmangled_path(alloc: Global, text: &str) -> Mem<Option<Path>>
     ensures { IfOk result (λ o. o ≡ option_map unmangled (result_ok (path_of text.now))) }
 {
     match Path::read(alloc, text) {
-        Ok(path) => Ok(Some(path.unmangled(alloc)?)),
+        Ok(path) => Ok(Some(unmangled(alloc, path)?)),
         Err(PathFault::NoMemory) => Err(NoMemory),
         Err(_) => Ok(None),
     }
+}
+
+// The path with its namespace prefixes as they stand in the repository. Each mark of mangling begins with an underscore, and most paths
+// have none.
+fn unmangled(alloc: Global, path: Path) -> Mem<Path>
+    ensures { IfOk result (λ p. p ≡ unmangled path) }
+{
+    if has_underscore(path.spelling()) {
+        path.unmangled(alloc)
+    } else {
+        Ok(path)
+    }
+}
+
+fn has_underscore(text: &str) -> bool
+    ensures { result ≡ list_any is_underscore text.now }
+{
+    text.as_bytes().iter().any(|b| *b == b'_')
 }
 
 fn copied(alloc: Global, query: Option<&[u8]>) -> Mem<Option<ByteBuf>>

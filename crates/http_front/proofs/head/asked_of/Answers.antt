@@ -1,5 +1,5 @@
-use Rattle.std.proofs.Common.{◌≡◌, ◌<◌, ◌≤◌, ◌∙◌, sym, ap, arith, Some, None, true, false}
-use Rattle.std.specs.Prelude.{nat_lt, length, option_map}
+use Rattle.std.proofs.Common.{◌∙◌, sym, ap, arith, Some}
+use Rattle.std.specs.Prelude.{length, option_map}
 use Rattle.std.proofs.lemmas.Bool.{lt-ltb, le-ltb}
 use Rattle.http_front.specs.Lent.{lent}
 use Rattle.http_front.specs.Targets.{target_of}
@@ -40,5 +40,5 @@ returns-clause-ok c =
     let a = asked_is _ _ _ _ _ _ (sym c.asked_host.ensures.value ∙ ap (option_map lent) c.in-Some.is)
     (ap target_of (sym c.as_bytes.ensures.value) ∙ sym c.in_ok-target.ensures ∙ c.in-Some-2.is)
     c.in-Ok.ensures in
-    let named = sym (c.from-host.ensures ∙ c.in_ok-from_utf8_lossy.ensures.ok c.in-Some.ensures.text) in
+    let named = sym (c.in_ok-host.ensures ∙ c.text_of.ensures) in
     a ∙ ap (λ name. Some (asked_with (name, c.in-Some.port) c.in-Some-2.target c.in-Ok.length)) named

@@ -4,4 +4,4 @@ use Rattle.http_front.specs.Heads.{lowered}
 use Rattle.http_front.proofs.head.lowered.Given as goal
 
 abbrev pub invariant-loop-field : goal.invariant-loop-field
-invariant-loop-field l = l.heads ≡ map lowered (map (header_bytes l.bytes) (take l.field-index l.fields))
+invariant-loop-field l = l.heads.items ≡ map lowered (map (header_bytes l.bytes) (take l.field-index l.fields))

@@ -1,6 +1,8 @@
 -- What is left of a connection, when something happens to it.
-use Rattle.std.proofs.Common.{◌≡◌, ℕ, ◌<◌, ◌≤◌, ◌||◌, zero, suc, Bool, true, false, cond, List, [], ◌∷◌, ◌++◌, length, take, drop, Option, Some, None, refl, ap, sym, ◌∙◌, arith, inl, inr, ⊎_elim, add-one, length-append}
-use Rattle.std.specs.Prelude.{slice_get}
+use Rattle.std.proofs.Common.{◌≡◌, ℕ, ◌<◌, ◌≤◌, ◌||◌, zero, suc, Bool, true, false, cond, List, [], ◌∷◌, ◌++◌, length, take, drop, Option, Some, None, refl, ap, sym, subst, ◌∙◌, ◌⊎◌, arith, inl, inr, ⊎_elim, add-one, length-append}
+use Rattle.std.specs.Prelude.{IsTrue, not, slice_get}
+use Rattle.std.specs.Cmp.Lexicographic.{same_text}
+use Rattle.std.proofs.lemmas.Bool.{false≢true}
 use Rattle.std.proofs.lemmas.Grind.{common_steps}
 use Rattle.std.proofs.lemmas.List.{take-append-le}
 use Rattle.sp_base.specs.declared.answer.Answer.{Answer}
@@ -8,11 +10,11 @@ use Rattle.http_front.specs.Answers.{fixed_507}
 use Rattle.connections.specs.declared.place.AnswerPlace.{AnswerPlace}
 use Rattle.connections.specs.declared.sending.Sending.{Sending}
 use Rattle.connections.specs.declared.place.Reply.{Reply}
-use Rattle.connections.specs.Slots.{Says, Slot, MayAnswer, is_answered, is_fixed}
-use Rattle.connections.specs.Connections.{Connection, Close, Send, due, due_at_slot, due_unsent, filled, with_landing, with_sent, with_slot}
+use Rattle.connections.specs.Slots.{IsInPlaceOf, Says, Slot, MayAnswer, is_answered, is_fixed}
+use Rattle.connections.specs.Connections.{Connection, Close, IsInPlaceOfDue, Send, due, due_at_slot, due_unsent, filled, with_landing, with_sent, with_slot}
 use Rattle.connections.specs.Histories.{IsDueSending}
-use Rattle.connections.specs.Ties.{AllAnswered, AllTied, IsLeft, IsSendingOf, PlaceTied, ReplyTied, front_has_reply, has_reply}
-use Rattle.connections.proofs.PlaceLemmas.{answered-tied, filled-past, filled_places, length-filled, tied-filled, tied-head, tied-none, tied-push, written-tied}
+use Rattle.connections.specs.Ties.{AllAnswered, AllTied, IsLeft, IsSendingOf, PlaceTied, ReplyTied, front_has_reply, has_reply, place_bytes}
+use Rattle.connections.proofs.PlaceLemmas.{answered-tied, filled-past, filled_places, length-filled, tied-filled, tied-head, tied-none, tied-push, written-bytes, written-tied}
 
 -- ---- lists
 pub drop-head : {A : Type 0} (n : ℕ) (xs : List A) (y : A) (ys : List A) → drop n xs ≡ y ∷ ys → (slice_get xs n ≡ Some y) × (drop (suc n) xs ≡ ys) × (n < length xs) × (take (suc n) xs ≡ take n xs ++ y ∷ [])
@@ -58,33 +60,32 @@ pub is_fixed-fixed : (bytes : List ℕ) → bytes ≡ fixed_507 → is_fixed byt
 is_fixed-fixed bytes e = rw e refl
 
 -- what is spare stays the fixed 507 until that is sent
-spare-fixed : (sending : Sending) (place : AnswerPlace) (spare now_spare : List ℕ) (over : Bool) → spare ≡ fixed_507 → IsSendingOf place spare sending → (sending.dry ≡ false → now_spare ≡ spare)
-    → over ≡ (place.closes || is_fixed sending.bytes) → over ≡ false → now_spare ≡ fixed_507
-spare-fixed sending place spare now_spare over fixed is kept over_is going =
+spare-fixed : (sending : Sending) (place : AnswerPlace) (spare now_spare : List ℕ) (over : Bool) → spare ≡ fixed_507 → (now_spare ≡ spare) ⊎ (sending.bytes ≡ spare) → over ≡ (place.closes || is_fixed sending.bytes) → over ≡ false → now_spare ≡ fixed_507
+spare-fixed sending place spare now_spare over fixed kept over_is going =
     ⊎_elim
-    (λ e. kept e.0 ∙ fixed)
-    (λ e.
-    let ended : over ≡ true = over_is ∙ ap (λ b. place.closes || b) (is_fixed-fixed sending.bytes (e.1 ∙ fixed)) ∙ or-true place.closes in
+    (λ same. same ∙ fixed)
+    (λ sent.
+    let ended : over ≡ true = over_is ∙ ap (λ b. place.closes || b) (is_fixed-fixed sending.bytes (sent ∙ fixed)) ∙ or-true place.closes in
     absurd (let no : ⊥ = cc in no))
-    is
+    kept
+
+-- the spare bytes are the place's own, or memory was wanting
+own-or-dry : (t dry : Bool) (place : AnswerPlace) (slot : Slot) (sending : Sending) → is_fixed (place_bytes place) ≡ t → sending.dry ≡ not t → sending.bytes ≡ fixed_507 → PlaceTied place slot → has_reply place.reply ≡ true → MayAnswer slot sending
+own-or-dry true dry place slot sending own calm bytes tied has = inl (written-tied place slot sending.bytes tied has (bytes ∙ sym (same_text _ _ (sym own))))
+own-or-dry false dry place slot sending other wanting bytes tied has = inr (wanting, bytes)
 
 may-answer : (sending : Sending) (place : AnswerPlace) (slot : Slot) (spare : List ℕ) → spare ≡ fixed_507 → IsSendingOf place spare sending → PlaceTied place slot → has_reply place.reply ≡ true → MayAnswer slot sending
 may-answer sending place slot spare fixed is tied has =
     ⊎_elim
     (λ e. inl (written-tied place slot sending.bytes tied has e.1))
-    (λ e. inr (e.0, e.1 ∙ fixed))
+    (λ e. own-or-dry (is_fixed (place_bytes place)) sending.dry place slot sending refl e.0 (e.1 ∙ fixed) tied has)
     is
-
--- where memory is wanting the fixed 507 is sent
-pub dry-fixed : {places : List AnswerPlace} {closing over : Bool} {spare : List ℕ} (c : Connection) (place : AnswerPlace) (sending : Sending) → IsLeft places closing over spare c → over ≡ false → IsSendingOf place spare sending → sending.dry ≡ true → sending.bytes ≡ fixed_507
-dry-fixed c place sending left going (inl own) dry = absurd (let calm : sending.dry ≡ false = own.0 in let no : ⊥ = cc in no)
-dry-fixed c place sending left going (inr fixed) dry = fixed.1 ∙ left.spare_is going
 
 pub due-answered : (c : Connection) (slot : Slot) → c.over ≡ false → slice_get c.slots c.sent ≡ Some slot → is_answered slot.response ≡ true → due c ≡ Send slot
 due-answered c slot going at has = rw (going, at, has) refl
 
 pub sent-left : {places : List AnswerPlace} {closing over : Bool} {spare : List ℕ} (c : Connection) (place : AnswerPlace) (rest : List AnswerPlace) (sending : Sending) (now_closing now_over : Bool) (now_spare : List ℕ) → IsLeft places closing over spare c
-    → places ≡ place ∷ rest → now_closing ≡ closing → over ≡ false → has_reply place.reply ≡ true → IsSendingOf place spare sending → (sending.dry ≡ false → now_spare ≡ spare) → now_over ≡ (place.closes || is_fixed sending.bytes)
+    → places ≡ place ∷ rest → now_closing ≡ closing → over ≡ false → has_reply place.reply ≡ true → IsSendingOf place spare sending → (now_spare ≡ spare) ⊎ (sending.bytes ≡ spare) → now_over ≡ (place.closes || is_fixed sending.bytes)
     → IsDueSending c sending × IsLeft rest now_closing now_over now_spare (with_sent sending.bytes c)
 sent-left {places} {closing} {over} {spare} c place rest sending now_closing now_over now_spare left e stays going has is kept over_is =
     let fixed = left.spare_is going in
@@ -101,9 +102,31 @@ sent-left {places} {closing} {over} {spare} c place rest sending now_closing now
         past = rw (add-one, cut.3) (all-answered-push _ _ left.past answered);
         closing_is = stays ∙ left.closing_is;
         over_is = rw cut.0 (over_is ∙ ap (λ b. b || is_fixed sending.bytes) tied.closes_is);
-        spare_is = spare-fixed sending place spare now_spare now_over fixed is kept over_is;
+        spare_is = spare-fixed sending place spare now_spare now_over fixed kept over_is;
       },
     )
+
+-- ---- memory is wanting
+not-false : (t : Bool) → not t ≡ true → t ≡ false
+not-false true e = absurd (let no : ⊥ = cc in no)
+not-false false e = refl
+
+-- the fixed 507 stands in place of another answer
+in-place : (place : AnswerPlace) (slot : Slot) (sending : Sending) (spare : List ℕ) → spare ≡ fixed_507 → IsSendingOf place spare sending → PlaceTied place slot → has_reply place.reply ≡ true → IsTrue sending.dry → IsInPlaceOf slot sending.bytes
+in-place place slot sending spare fixed (inl own) tied has dry = absurd (let calm : sending.dry ≡ false = own.0 in let no : ⊥ = cc in no)
+in-place place slot sending spare fixed (inr sent) tied has dry =
+    let bytes : sending.bytes ≡ fixed_507 = sent.1 ∙ fixed in
+    let other : is_fixed (place_bytes place) ≡ false = not-false _ (sym sent.0 ∙ dry) in
+    (bytes, λ written. false≢true (sym other ∙ is_fixed-fixed _ (sym (written-bytes place slot sending.bytes tied has written) ∙ bytes)))
+
+pub in-place-due : {places : List AnswerPlace} {closing over : Bool} {spare : List ℕ} (c : Connection) (place : AnswerPlace) (rest : List AnswerPlace) (sending : Sending) → IsLeft places closing over spare c → places ≡ place ∷ rest → over ≡ false
+    → has_reply place.reply ≡ true → IsSendingOf place spare sending → IsTrue sending.dry → IsInPlaceOfDue (due c) sending.bytes
+in-place-due {places} c place rest sending left e going has is dry =
+    let first = tied-head place rest (drop c.sent c.slots) (rw e at left.unsent) in
+    let slot = first.0 in
+    let cut = drop-head c.sent c.slots slot first.1 first.2 in
+    let answered : is_answered slot.response ≡ true = answered-tied place.reply slot.response first.3.replies ∙ has in
+    subst (λ d. IsInPlaceOfDue d sending.bytes) (sym (due-answered c slot (sym left.over_is ∙ going) cut.0 answered)) (in-place place slot sending _ (left.spare_is going) is first.3 has dry)
 
 -- ---- nothing is sent
 pub over-waits : {places : List AnswerPlace} {closing over : Bool} {spare : List ℕ} (c : Connection) → IsLeft places closing over spare c → over ≡ true → due c ≡ due_unsent c

@@ -53,6 +53,18 @@ written-by h c r slot t bytes eh ec tied has is = absurd tied
 pub written-tied : (place : AnswerPlace) (slot : Slot) (bytes : List ℕ) → PlaceTied place slot → has_reply place.reply ≡ true → bytes ≡ place_bytes place → IsWritten slot slot.response bytes
 written-tied place slot bytes tied has is = written-by place.head_only place.closes place.reply slot slot.response bytes tied.head_only_is tied.closes_is tied.replies has is
 
+-- what is written for a slot is the bytes of its place
+bytes-by : (head_only closes : Bool) (r : Reply) (slot : Slot) (t : Response) (bytes : List ℕ) → head_only ≡ slot.head_only → closes ≡ slot.closes → ReplyTied r t → has_reply r ≡ true → IsWritten slot t bytes → bytes ≡ reply_bytes head_only closes r
+bytes-by h c Interim slot model.Interim bytes eh ec tied has is = is
+bytes-by h c Fixed slot model.Fixed bytes eh ec tied has is = is
+bytes-by h c (Own status) slot (model.Says b) bytes eh ec tied has is = rw (is, eh, ec, tied) refl
+bytes-by h c (Awaits m) slot (model.Awaits n) bytes eh ec tied has is = absurd is
+bytes-by h c (Says a) slot (model.Says b) bytes eh ec tied has is = rw (is, eh, ec, tied) refl
+bytes-by h c r slot t bytes eh ec tied has is = absurd tied
+
+pub written-bytes : (place : AnswerPlace) (slot : Slot) (bytes : List ℕ) → PlaceTied place slot → has_reply place.reply ≡ true → IsWritten slot slot.response bytes → bytes ≡ place_bytes place
+written-bytes place slot bytes tied has is = bytes-by place.head_only place.closes place.reply slot slot.response bytes tied.head_only_is tied.closes_is tied.replies has is
+
 -- ---- places and slots
 pub tied-push : (xs : List AnswerPlace) (ys : List Slot) (x : AnswerPlace) (y : Slot) → AllTied xs ys → PlaceTied x y → AllTied (xs ++ x ∷ []) (ys ++ y ∷ [])
 tied-push [] [] x y all here = (here, tt)

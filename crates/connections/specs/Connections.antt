@@ -6,7 +6,7 @@ use Rattle.http_front.specs.Turns.{End, Waits, Breaks}
 use Rattle.http_front.specs.declared.fault.InFault.{InFault}
 use Rattle.http_front.specs.declared.turn.Turn.{Turn}
 use Rattle.http_front.specs.declared.turn.Turn.TheVariants.{Continue, Whole}
-use Rattle.connections.specs.Slots.{Slot, Says, is_answered, is_awaiting, is_final, is_last, interim_slot}
+use Rattle.connections.specs.Slots.{IsInPlaceOf, Slot, Says, is_answered, is_awaiting, is_final, is_last, interim_slot}
 
 -- An open connection: its peer; its stream, as far as it was read; the turns that the stream spells, and how they end; a slot for
 -- each turn that was treated; how many of the slots were sent; whether no further turn is treated; and whether no further slot is sent.
@@ -54,13 +54,21 @@ due_at_slot (Some slot) c = if is_answered slot.response then Send slot else due
 abbrev pub due : Connection → Due
 due c = if c.over then Close else due_at_slot (slice_get c.slots c.sent) c
 
--- the most requests of a connection that may be unanswered
-abbrev pub most_unanswered : ℕ
-most_unanswered = 64
+-- the bytes stand in place of what is due to be sent
+abbrev pub IsInPlaceOfDue : Due → List ℕ → Type 0
+IsInPlaceOfDue (Send slot) bytes = IsInPlaceOf slot bytes
+IsInPlaceOfDue (Treat turn) bytes = ⊥
+IsInPlaceOfDue (Refuse fault) bytes = ⊥
+IsInPlaceOfDue Close bytes = ⊥
+IsInPlaceOfDue Nothing bytes = ⊥
 
--- so many of its requests are that the next is refused
+-- the most requests of a connection whose answers may be unsent
+abbrev pub most_unsent : ℕ
+most_unsent = 64
+
+-- the answers to so many of its requests are unsent that the next is refused
 abbrev pub is_crowded : Connection → Bool
-is_crowded c = nat_le most_unanswered (count_by (λ slot. is_final slot.response) (drop c.sent c.slots))
+is_crowded c = nat_le most_unsent (count_by (λ slot. is_final slot.response) (drop c.sent c.slots))
 
 -- ---- what happens to it
 

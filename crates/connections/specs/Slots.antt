@@ -57,6 +57,10 @@ IsWritten slot (Says answer) bytes = bytes ≡ answer_bytes slot.head_only slot.
 abbrev pub MayAnswer : Slot → Sending → Type 0
 MayAnswer slot sending = IsWritten slot slot.response sending.bytes ⊎ (IsTrue sending.dry × (sending.bytes ≡ fixed_507))
 
+-- The bytes stand in place of the slot's own: they are the fixed 507, and the slot's own aren't.
+abbrev pub IsInPlaceOf : Slot → List ℕ → Type 0
+IsInPlaceOf slot bytes = (bytes ≡ fixed_507) × (IsWritten slot slot.response bytes → ⊥)
+
 abbrev pub is_fixed : List ℕ → Bool
 is_fixed bytes = pointwise nat_eq bytes fixed_507
 

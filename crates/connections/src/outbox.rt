@@ -1,11 +1,10 @@
 //! The answers that a connection still owes, in the order of its requests.
-ghost use Rattle.std.specs.Prelude.{◌≡◌, ◌+◌, ◌∷◌, ℕ, List, [], Bool, false, IsTrue, IfNone, IfOk, IfSome, OnErr, OnOk, OnSome, position};
+ghost use Rattle.std.specs.Prelude.{◌≡◌, ◌+◌, ◌⊎◌, ◌∷◌, ℕ, List, [], Bool, false, IsTrue, IfNone, IfOk, IfSome, OnErr, OnOk, OnSome, position};
 ghost use Rattle.std.specs.List.{count_by};
 ghost use Rattle.sp_base.specs.declared.answer.Answer as models;
-ghost use Rattle.http_front.specs.Answers.{fixed_507};
 ghost use Rattle.connections.specs.Slots.{Says, Slot};
 ghost use Rattle.connections.specs.Connections as model;
-ghost use Rattle.connections.specs.Connections.{Connection, due, due_unsent, fresh, with_landing, with_sent, with_slot};
+ghost use Rattle.connections.specs.Connections.{Connection, IsInPlaceOfDue, due, due_unsent, fresh, with_landing, with_sent, with_slot};
 ghost use Rattle.connections.specs.Histories.{IsDueSending};
 ghost use Rattle.connections.specs.Ties.{IsSendingOf, PlaceTied, ReplyTied, Tied, awaits, is_final_reply, front_has_reply, unsent_count};
 
@@ -17,7 +16,7 @@ use std::alloc::Global;
 use std::collections::VecDeque;
 use std::mem::replace;
 
-const MOST_UNANSWERED: usize = 64;
+const MOST_UNSENT: usize = 64;
 
 /// The answers that a connection still owes.
 #[derive(Drop)]
@@ -28,7 +27,7 @@ pub struct Outbox {
     closing: bool,
     // No further place is sent.
     over: bool,
-    // The fixed 507, kept for when no memory is there.
+    // The fixed 507, kept so that it can be sent when no memory is there.
     spare: ByteBuf,
 }
 
@@ -57,11 +56,11 @@ impl Outbox {
         Ok(())
     }
 
-    /// What is sent next, if anything can be: the next place's answer; or the fixed 507, where memory is wanting. None where the
-    /// connection is over or the next place waits.
+    /// What is sent next, if anything can be: the next place's answer; or in place of another the fixed 507, exactly where memory is
+    /// wanting. None where the connection is over or the next place waits.
     pub fn send(&mut self, alloc: Global) -> Option<Sending>
         ensures sends { IfSome result (λ sending. (c : Connection) → Tied self.old c → IsDueSending c sending × Tied self.new (with_sent sending.bytes c)) }
-        ensures dry { IfSome result (λ sending. (c : Connection) → Tied self.old c → IsTrue sending.dry → sending.bytes ≡ fixed_507) }
+        ensures dry { IfSome result (λ sending. (c : Connection) → Tied self.old c → IsTrue sending.dry → IsInPlaceOfDue (due c) sending.bytes) }
         ensures fewer { OnSome result (unsent_count self.new + 1 ≡ unsent_count self.old) }
         ensures waits { IfNone result ((c : Connection) → Tied self.old c → due c ≡ due_unsent c) }
         ensures same { IfNone result (self.new ≡ self.old) }
@@ -85,19 +84,33 @@ impl Outbox {
         }
     }
 
-    // A place's answer, or where memory is wanting the spare bytes.
+    // A place's answer, or the spare bytes, where these are its own or memory is wanting.
     fn sending(&mut self, alloc: Global, place: &AnswerPlace) -> Sending
         ensures sends { IsSendingOf place.now self.old.spare result }
         ensures kept { (self.new.places ≡ self.old.places) × (self.new.closing ≡ self.old.closing) × (self.new.over ≡ self.old.over) }
-        ensures spare { result.dry ≡ false → self.new.spare ≡ self.old.spare }
+        ensures spare { (self.new.spare ≡ self.old.spare) ⊎ (result.bytes ≡ self.old.spare) }
     {
+        if place.is_fixed() {
+            return Sending {
+                bytes: self.take_spare(alloc),
+                dry: false,
+            };
+        }
         match place.written(alloc) {
             Ok(bytes) => Sending { bytes, dry: false },
             Err(_) => Sending {
-                bytes: replace(&mut self.spare, ByteBuf::from(Vec::new(alloc))),
+                bytes: self.take_spare(alloc),
                 dry: true,
             },
         }
+    }
+
+    // The spare bytes, which are gone then: after the fixed 507 nothing is sent.
+    fn take_spare(&mut self, alloc: Global) -> ByteBuf
+        ensures spare { result ≡ self.old.spare }
+        ensures kept { (self.new.places ≡ self.old.places) × (self.new.closing ≡ self.old.closing) × (self.new.over ≡ self.old.over) }
+    {
+        replace(&mut self.spare, ByteBuf::from(Vec::new(alloc)))
     }
 
     /// Gives the first place that awaits this flight its answer. Where none does, nothing changes.
@@ -110,14 +123,14 @@ impl Outbox {
         }
     }
 
-    /// Whether so many requests are unanswered that the next is refused.
+    /// Whether the answers to so many requests are unsent that the next is refused.
     pub fn is_crowded(&self) -> bool
         ensures { (c : Connection) → Tied self.now c → result ≡ model.is_crowded c }
     {
-        self.unanswered_count() >= MOST_UNANSWERED
+        self.unsent_requests() >= MOST_UNSENT
     }
 
-    fn unanswered_count(&self) -> usize
+    fn unsent_requests(&self) -> usize
         ensures { result ≡ count_by (λ place. is_final_reply place.reply) self.now.places.items }
     {
         self.places

@@ -1,11 +1,13 @@
 //! The place of an answer among those that a connection owes.
-ghost use Rattle.std.specs.Prelude.{◌≡◌, ◌||◌, Bool, IfOk};
+ghost use Rattle.std.specs.Prelude.{◌≡◌, ◌<◌, ◌^◌, ◌||◌, Bool, IfOk, length};
+ghost use Rattle.error_answers.specs.Errors.{error_answer as error_of};
+ghost use Rattle.http_front.specs.Answers.{answer_bytes as bytes_of};
 ghost use Rattle.connections.specs.Slots as model;
-ghost use Rattle.connections.specs.Ties.{PlaceTied, ReplyTied, awaits as awaiting, is_final_reply, has_reply as answered, place_bytes};
+ghost use Rattle.connections.specs.Ties.{PlaceTied, ReplyTied, awaits as awaiting, is_final_reply, has_reply as answered, is_bare_507 as bare, place_bytes};
 
 use error_answers::error_answer;
 use http_front::{answer_bytes, fixed_507, interim_100};
-use sp_base::{Answer, ByteBuf, Mem, Req};
+use sp_base::{Answer, ByteBuf, Mark, Mem, Req};
 use std::alloc::Global;
 
 /// What answers a turn. None but an answer needs memory before it is sent.
@@ -105,6 +107,18 @@ impl AnswerPlace {
         self.closes || bytes == fixed_507()
     }
 
+    // Whether the fixed 507 is its own answer, so that it is sent without taking memory.
+    pub(crate) fn is_fixed(&self) -> bool
+        ensures { result ≡ model.is_fixed (place_bytes self.now) }
+    {
+        match &self.reply {
+            Reply::Fixed => true,
+            Reply::Says(answer) => is_fixed_507(self.head_only, self.closes, answer),
+            Reply::Own(status) => is_error_fixed(*status),
+            Reply::Interim | Reply::Awaits(_) => false,
+        }
+    }
+
     // The bytes of its answer: none while it is awaited.
     pub(crate) fn written(&self, alloc: Global) -> Mem<ByteBuf>
         ensures { IfOk result (λ bytes. bytes ≡ place_bytes self.now) }
@@ -120,4 +134,37 @@ impl AnswerPlace {
             Reply::Says(answer) => answer_bytes(alloc, self.head_only, self.closes, answer),
         }
     }
+}
+
+// Whether an answer's bytes are those of the fixed 507.
+fn is_fixed_507(head_only: bool, closes: bool, answer: &Answer) -> bool
+    ensures { result ≡ model.is_fixed (bytes_of head_only closes answer.now) }
+{
+    let bare = is_bare_507(answer);
+    if head_only || !closes {
+        return false;
+    }
+    bare
+}
+
+// An error's answer has a media type, so that it isn't the fixed 507, whatever its status is.
+fn is_error_fixed(status: u16) -> bool
+    ensures { (head_only closes : Bool) → result ≡ model.is_fixed (bytes_of head_only closes (error_of status)) }
+{
+    let _status = status;
+    false
+}
+
+// Whether the answer is its status alone, which is 507. That its numbers are short is said since its bytes tell them.
+fn is_bare_507(answer: &Answer) -> bool
+    ensures is { result ≡ bare answer.now }
+    ensures short { (answer.now.status < 2 ^ 64) × (length answer.now.body < 2 ^ 64) }
+{
+    let status = answer.status;
+    let size = answer.body.bytes().len();
+    status == 507
+        && answer.kind.text().is_empty()
+        && answer.location.text().is_empty()
+        && answer.mark == Mark::Plain
+        && size == 0
 }

@@ -1,5 +1,5 @@
 -- The connections of a board, when one of them changes.
-use Rattle.std.proofs.Common.{◌≡◌, ◌≢◌, ℕ, ◌+◌, ◌||◌, ◌++◌, Bool, true, false, List, [], ◌∷◌, Option, Some, None, Ordering, cond, refl, ap, sym, subst, ◌∙◌, arith, eq-eqb, ⊎_elim}
+use Rattle.std.proofs.Common.{◌≡◌, ◌≢◌, ℕ, ◌+◌, ◌||◌, ◌++◌, Bool, true, false, List, [], ◌∷◌, Option, Some, None, Ordering, cond, refl, ap, sym, subst, ◌∙◌, arith, eq-eqb, inl, ⊎_elim}
 use Rattle.std.specs.Prelude.{IsSome, IsTrue, is_some, nat_eq, if◌then◌else◌}
 use Rattle.std.specs.declared.cmp.Ordering.TheVariants.{Less, Equal, Greater}
 use Rattle.std.specs.Option.{option_map}
@@ -7,14 +7,12 @@ use Rattle.std.specs.Ordering.{nat_cmp, is_eq}
 use Rattle.std.specs.BTreeMap.{BTreeMap, get, is_at, Updates, WritesThrough, btree_map_len}
 use Rattle.std.proofs.lemmas.Map.{update_apart, update_here}
 use Rattle.std.proofs.lemmas.Map.Lookups.{exact_unsigned}
-use Rattle.std.specs.List.{list_any}
-use Rattle.std.proofs.lemmas.List.Folds.{list_any-append}
 use Rattle.std.proofs.lemmas.Bool.{cases_eq, ne_eqb}
 use Rattle.sp_base.specs.declared.answer.Answer.{Answer}
 use Rattle.any_config.specs.declared.farm.Farm.{Farm}
 use Rattle.connections.specs.Connections.{Connection, with_landing}
 use Rattle.front.specs.Boards.{AllGiven, BoardTied, FirstThen, Landing, LineTied, LinesTied, Meets, ServesDry, SettlesDry, SkyTied}
-use Rattle.front.specs.Events.{IsWanting, gives_fixed}
+use Rattle.front.specs.Events.{SomeShowsLack}
 use Rattle.front.specs.Lines.{Holds}
 use Rattle.front.specs.Moves.{GivesDue, Serves, state_after_note, afters, due_of_connection}
 use Rattle.front.specs.States.{RunState}
@@ -24,7 +22,7 @@ use Rattle.front.specs.declared.note.Note.{Note}
 use Rattle.front.specs.declared.note.Note.TheVariants.{Shut}
 use Rattle.front.specs.declared.sky.Sky.{Sky}
 use Rattle.front.specs.declared.told.Told.{Told}
-use Rattle.front.proofs.MoveLemmas.{Frame, afters-push, serves-frame, serves-push}
+use Rattle.front.proofs.MoveLemmas.{Frame, afters-push, serves-frame, serves-push, shows-push}
 
 -- ---- maps by number
 is_eq-true : (r : Ordering) → is_eq r ≡ true → r ≡ Equal
@@ -92,8 +90,8 @@ lines-without old new w v c tied updates fewer none others count = record {
 }
 
 -- ---- an event in which memory isn't wanting
-pub calm-wanting : (dry : Bool) (notes : List Note) → dry ≡ false → IsWanting (record { dry = dry }) notes
-calm-wanting dry notes calm wanting = absurd (let no : ⊥ = cc in no)
+pub calm-wanting : {P : Type 0} (dry : Bool) → dry ≡ false → IsTrue dry → P
+calm-wanting dry calm wanting = absurd (let no : ⊥ = cc in no)
 
 -- ---- a connection is given all that it is owed
 dry-frame : (dry : Bool) (w : RunState) (c : ℕ) (notes : List Note) (m : Connection) → ServesDry dry w c notes → (afters w notes).line c ≡ Some m → Frame c w (afters w notes)
@@ -135,9 +133,6 @@ some-of (Some k) e = (k, refl)
 pub one-fewer : (o : Option Line) (k : Line) (m n : ℕ) → o ≡ Some k → n + (if is_some o then 1 else 0) ≡ m → n + 1 ≡ m
 one-fewer o k m n some len = sym (some-one o k n some) ∙ len
 
-fixed-shut : (notes : List Note) (c : ℕ) (all : List Note) → all ≡ notes ++ Shut c ∷ [] → IsTrue (list_any gives_fixed notes) → IsTrue (list_any gives_fixed all)
-fixed-shut notes c all is before = ap (list_any gives_fixed) is ∙ list_any-append gives_fixed notes (Shut c ∷ []) ∙ ap (λ b. b || false) before
-
 pub settled-over : {farm : Farm} (b : Board) (w : RunState) (c : ℕ) (k j : Line) (sky : Sky) (lines left : BTreeMap ℕ Line) (told all : Told) (over : Bool) → BoardTied farm b w → Some k ≡ get nat_cmp b.lines c
     → ((u : RunState) → Meets farm u c k b.sky → AllGiven told over farm u c j sky) → over ≡ true → WritesThrough nat_cmp (nat_cmp c) b.lines j lines
     → Updates nat_cmp lines left c None → (o : Option Line) → o ≡ get nat_cmp lines c → btree_map_len left + (if is_some o then 1 else 0) ≡ btree_map_len lines
@@ -158,7 +153,7 @@ settled-over {farm} b w c k j sky lines left told all over tied here serves ends
           serves = subst (Serves m w c) (sym notes) (serves-push m w c told.notes.items (Shut c) (given.given.serves m (λ is. allows (same_dry ∙ is))) (subst (λ d. GivesDue m v c d (Shut c)) (sym given.then_due) refl));
           idle = ap (λ u. due_of_connection u c) end ∙ rw (update_here v.line c None) refl;
         },
-        λ wanting. fixed-shut told.notes.items c all.notes.items notes (given.given.wanting (sym same_dry ∙ wanting)),
+        λ wanting. subst (SomeShowsLack w) (sym notes) (shows-push w told.notes.items (Shut c) (inl (given.given.wanting (sym same_dry ∙ wanting)))),
       ),
       subst (BoardTied farm (record { lines = left; sky = sky })) (sym end) (record {
         farm_is = given.given.meets.farm_is;

@@ -1,7 +1,7 @@
 -- Whole events of a board.
-use Rattle.std.proofs.Common.{◌≡◌, ◌≢◌, ℕ, ◌+◌, ◌-◌, ◌<◌, ◌≤◌, ◌&&◌, ◌||◌, Bool, true, false, List, [], ◌∷◌, Option, Some, None, refl, ap, sym, subst, ◌∙◌, arith, ⊎_elim}
+use Rattle.std.proofs.Common.{◌≡◌, ◌≢◌, ℕ, ◌+◌, ◌-◌, ◌<◌, ◌≤◌, ◌&&◌, ◌||◌, Bool, true, false, List, [], ◌∷◌, Option, Some, None, refl, ap, sym, subst, ◌∙◌, arith, inr, ⊎_elim}
 use Rattle.std.specs.Prelude.{if◌then◌else◌, is_some, nat_eq, nat_le, position, remove, slice_get, unwrap_or}
-use Rattle.std.specs.List.{find, list_any}
+use Rattle.std.specs.List.{find}
 use Rattle.std.specs.Map.{update}
 use Rattle.std.specs.Option.{option_map}
 use Rattle.std.specs.Ordering.{nat_cmp}
@@ -14,7 +14,7 @@ use Rattle.error_answers.specs.Errors.{error_answer}
 use Rattle.http_front.specs.Turns.{Waits}
 use Rattle.connections.specs.Connections.{Connection, fed, fresh}
 use Rattle.front.specs.Boards.{BoardTied, FirstThen, Happened, Landing, LineTied, ReadAt, SettlesDry, SkyTied, event_of}
-use Rattle.front.specs.Events.{DeliverAs, DeliverTo, Event, IsWanting, LeadsNotes, LoseTo, PieceTo, after_event, gives_fixed, gone, going, is_any, is_picked, is_rendered, most_lines, opened, opening, picked}
+use Rattle.front.specs.Events.{DeliverAs, DeliverTo, Event, IsWanting, LeadsNotes, LoseTo, PieceTo, SomeShowsLack, after_event, gone, going, is_any, is_picked, is_rendered, most_lines, opened, opening, picked}
 use Rattle.front.specs.Lines.{Holds}
 use Rattle.front.specs.Publishers.{fixed_answer}
 use Rattle.front.specs.Moves.{state_after_note, afters, Settles, answer_in, flight_at, on_line, over_with, without}
@@ -54,7 +54,7 @@ opened-full {farm} b w c peer told tied absent many notes calm =
     let none : w.line c ≡ None = tied-none _ _ (tied.lines.each c) absent in
     let full : nat_le most_lines w.lines ≡ true = grind (arith, many, tied.lines.count) in
     let state : afters (opened w c peer (w.line c)) told.notes.items ≡ w = ap (afters (opened w c peer (w.line c))) notes ∙ ap (opened w c peer) none ∙ full-opened w c peer full in
-    record { turns = []; ends = Waits; happens = notes ∙ sym (ap (opening c w.lines) none ∙ full-opening c w.lines full); wanting = calm-wanting told.dry told.notes.items calm; stands = subst (BoardTied farm b) (sym state) tied }
+    record { turns = []; ends = Waits; happens = notes ∙ sym (ap (opening c w.lines) none ∙ full-opening c w.lines full); wanting = calm-wanting told.dry calm; stands = subst (BoardTied farm b) (sym state) tied }
 
 pub opened-new : {farm : Farm} (b : Board) (w : RunState) (c : ℕ) (peer : List ℕ) (k : Line) (lines : BTreeMap ℕ Line) (told : Told) → BoardTied farm b w → get nat_cmp b.lines c ≡ None → btree_map_len b.lines < most_lines
     → Holds k (fresh peer) → Updates nat_cmp b.lines lines c (Some k) → btree_map_len lines ≡ btree_map_len b.lines + 1 → told.notes.items ≡ [] → told.dry ≡ false → Happened (BoardTied farm (record { lines = lines; sky = b.sky })) w (Opened c peer) told
@@ -67,7 +67,7 @@ opened-new {farm} b w c peer k lines told tied absent few holds updates more not
       turns = [];
       ends = Waits;
       happens = notes ∙ sym (ap (opening c w.lines) none ∙ free-opening c w.lines free);
-      wanting = calm-wanting told.dry told.notes.items calm;
+      wanting = calm-wanting told.dry calm;
       stands = subst (BoardTied farm (record { lines = lines; sky = b.sky })) (sym state) (record {
         farm_is = tied.farm_is;
         lines = record {
@@ -119,7 +119,7 @@ piece-none {farm} b w c bytes told tied absent notes calm =
       turns = [];
       ends = Waits;
       happens = subst (PieceTo w e c bytes) (sym none) notes;
-      wanting = calm-wanting told.dry told.notes.items calm;
+      wanting = calm-wanting told.dry calm;
       stands = subst (BoardTied farm b) (sym state) (record {
         farm_is = tied.farm_is;
         lines = record { each = λ q. rw (same q) (tied.lines.each q); count = tied.lines.count };
@@ -140,7 +140,7 @@ gone-there {farm} b w c lines o told tied there updates was len notes calm =
       turns = [];
       ends = Waits;
       happens = notes ∙ sym (ap going line.open_is);
-      wanting = calm-wanting told.dry told.notes.items calm;
+      wanting = calm-wanting told.dry calm;
       stands = subst (BoardTied farm (record { lines = lines; sky = b.sky })) (sym state) (record {
         farm_is = tied.farm_is;
         lines = lines-without b.lines lines w v c tied.lines updates fewer (update_here w.line c None) (λ q other. update_apart w.line c None q other) (omega (arith, fewer, tied.lines.count));
@@ -156,7 +156,7 @@ gone-none {farm} b w c told tied absent notes calm =
       turns = [];
       ends = Waits;
       happens = notes ∙ sym (ap going none);
-      wanting = calm-wanting told.dry told.notes.items calm;
+      wanting = calm-wanting told.dry calm;
       stands = subst (BoardTied farm b) (sym state) tied;
     }
 
@@ -190,7 +190,7 @@ delivered-none {farm} b w pick told tied none notes calm =
       turns = [];
       ends = Waits;
       happens = subst (DeliverTo w e) (sym (picked-none b.sky w pick is_rendered tied.sky none)) notes;
-      wanting = calm-wanting told.dry told.notes.items calm;
+      wanting = calm-wanting told.dry calm;
       stands = subst (BoardTied farm b) (sym (ap (afters w) notes)) tied;
     }
 
@@ -202,20 +202,16 @@ lost-none {farm} b w pick told tied none notes calm =
       turns = [];
       ends = Waits;
       happens = subst (LoseTo w e) (sym (picked-none b.sky w pick is_any tied.sky none)) notes;
-      wanting = calm-wanting told.dry told.notes.items calm;
+      wanting = calm-wanting told.dry calm;
       stands = subst (BoardTied farm b) (sym (ap (afters w) notes)) tied;
     }
 
-or-more : (a b : Bool) → b ≡ true → (a || b) ≡ true
-or-more true b is = refl
-or-more false b is = is
-
 -- a first note, and then what the connection is owed
-leads : {farm : Farm} (w v : RunState) (first : Note) (c : ℕ) (told : Told) (h : Board) → state_after_note w first ≡ v → FirstThen first farm v c told h → LeadsNotes w (record { dry = told.dry }) first c told.notes.items × BoardTied farm h (afters w told.notes.items) × IsWanting (record { dry = told.dry }) told.notes.items
+leads : {farm : Farm} (w v : RunState) (first : Note) (c : ℕ) (told : Told) (h : Board) → state_after_note w first ≡ v → FirstThen first farm v c told h → LeadsNotes w (record { dry = told.dry }) first c told.notes.items × BoardTied farm h (afters w told.notes.items) × IsWanting w (record { dry = told.dry }) told.notes.items
 leads {farm} w v first c told h is led = (
   record { rest = led.rest; begins = led.begins; settles = subst (λ u. Settles (record { dry = told.dry }) u c led.rest) (sym is) (led.settles.0 (record { dry = told.dry }) (λ x. x)) },
   subst (BoardTied farm h) (sym (ap (afters w) led.begins ∙ ap (λ u. afters u led.rest) is)) led.board_is,
-  λ wanting. ap (list_any gives_fixed) led.begins ∙ or-more (gives_fixed first) (list_any gives_fixed led.rest) (led.settles.1 wanting),
+  λ wanting. subst (SomeShowsLack w) (sym led.begins) (inr (subst (λ u. SomeShowsLack u led.rest) (sym is) (led.settles.1 wanting))),
 )
 
 pub delivered : {farm : Farm} (b h : Board) (sky : Sky) (w : RunState) (pick : Pick) (at : ℕ) (f : Flying) (answer : Answer) (told : Told) → BoardTied farm b w

@@ -1,9 +1,7 @@
 -- Whole steps of a front.
 use Rattle.std.proofs.Common.{◌≡◌, ℕ, ◌||◌, ◌&&◌, ◌++◌, Bool, true, false, List, [], ◌∷◌, Some, None, Result, Ok, Err, map, refl, ap, sym, subst, ◌∙◌, ◌⊎◌, inl, inr}
 use Rattle.std.specs.Prelude.{◌==◌, ◌≢◌, IfOk, IsTrue, OnErr, OnOk, if◌then◌else◌, position, slice_get, slice_set}
-use Rattle.std.specs.List.{list_any}
 use Rattle.std.proofs.lemmas.Bool.{ne_eqb}
-use Rattle.std.proofs.lemmas.List.Folds.{list_any-append}
 use Rattle.std.specs.Ordering.{nat_cmp}
 use Rattle.std.specs.BTreeMap.{BTreeMap, get, WritesThrough}
 use Rattle.sp_base.specs.declared.answer.Answer.{Answer}
@@ -13,11 +11,11 @@ use Rattle.dispatch_rules.specs.Asking.{publisher_ask}
 use Rattle.http_front.specs.Turns.{Waits}
 use Rattle.connections.specs.Connections.{Connection}
 use Rattle.front.specs.Boards.{BoardTells, NotesGiven, Meets, ReadAt, ServedAs, SkyTied, event_of}
-use Rattle.front.specs.Events.{Event, Extends, IsOrFixed, IsWanting, RenderTo, gives_fixed, is_picked, is_unrendered, mood_notes, picked}
+use Rattle.front.specs.Events.{Event, Extends, IsOrFixed, RenderTo, SomeShowsLack, is_picked, is_unrendered, mood_notes, picked}
 use Rattle.front.specs.Fronts.{IsGiven, BoardStands, TellsStep}
 use Rattle.front.specs.Lines.{Holds, LineReads}
 use Rattle.front.specs.Moves.{Mood, Serves, state_after_note, afters, content_rendered, flight_at, published_for, with_rendered, with_rendered_at}
-use Rattle.front.specs.Publishers.{Published, Publishing, direct_answer}
+use Rattle.front.specs.Publishers.{Published, Publishing, direct_answer, fixed_answer}
 use Rattle.front.specs.States.{RunState}
 use Rattle.front.specs.declared.board.Board.{Board}
 use Rattle.front.specs.declared.flying.Flying.{Flying}
@@ -31,7 +29,7 @@ use Rattle.front.specs.declared.step.Step.{Step}
 use Rattle.front.specs.declared.step.Step.TheVariants.{Direct, Render}
 use Rattle.front.specs.declared.told.Told.{Told}
 use Rattle.front.proofs.BoardLemmas.{at-other, calm-wanting, some-there}
-use Rattle.front.proofs.MoveLemmas.{IsStillStep, afters-push, serves-push, step-same}
+use Rattle.front.proofs.MoveLemmas.{IsStillStep, afters-push, serves-push, shows-push, step-same}
 use Rattle.front.proofs.SkyLemmas.{found-none, found-some, get-within, place, rising-set}
 
 -- what follows from what an answer is
@@ -64,18 +62,9 @@ or-right : (a b : Bool) → IsTrue b → IsTrue (a || b)
 or-right true b is = refl
 or-right false b is = is
 
-or-here : (b : Bool) → (b || true) ≡ true
-or-here true = refl
-or-here false = refl
-
 or-either : {P Q : Type 0} (a b : Bool) → (IsTrue a → P) → (IsTrue b → Q) → IsTrue (a || b) → P ⊎ Q
 or-either true b p q is = inl (p refl)
 or-either false b p q is = inr (q is)
-
--- a note that gives the fixed 507 is among the notes, one more among them
-fixed-push : (notes : List Note) (note : Note) (all : List Note) → all ≡ notes ++ note ∷ [] → IsTrue (list_any gives_fixed notes) ⊎ IsTrue (gives_fixed note) → IsTrue (list_any gives_fixed all)
-fixed-push notes note all is (inl before) = ap (list_any gives_fixed) is ∙ list_any-append gives_fixed notes (note ∷ []) ∙ ap (λ b. b || (gives_fixed note || false)) before
-fixed-push notes note all is (inr here) = ap (list_any gives_fixed) is ∙ list_any-append gives_fixed notes (note ∷ []) ∙ ap (λ b. list_any gives_fixed notes || (b || false)) here ∙ or-here (list_any gives_fixed notes)
 
 pub given-none : {farm : Farm} (told : Told) (w : RunState) (c : ℕ) (k : Line) (sky : Sky) → told.notes.items ≡ [] → told.dry ≡ false → Meets farm w c k sky → NotesGiven told.dry told.notes.items farm w c k sky
 given-none told w c k sky none calm meets = rw none (record { serves = λ m allows. tt; wanting = λ dry. absurd (let no : ⊥ = cc in no); meets = meets })
@@ -87,7 +76,7 @@ given-more {farm} told next w c k j sky new note dry given served notes dried =
     record {
       serves = λ m allows. subst (Serves m w c) (sym notes)
           (serves-push m w c told.notes.items note (given.serves m (λ is. allows (sym-true (or-left told.dry dry is)))) (one.0.0 m (λ is. allows (sym-true (or-right told.dry dry is)))));
-      wanting = λ is. fixed-push told.notes.items note next.notes.items notes (or-either told.dry dry given.wanting one.0.1 (sym dried ∙ is));
+      wanting = λ is. subst (SomeShowsLack w) (sym notes) (shows-push w told.notes.items note (or-either told.dry dry given.wanting one.0.1 (sym dried ∙ is)));
       meets = subst (λ u. Meets farm u c j new) (sym (ap (afters w) notes ∙ afters-push w told.notes.items note)) one.1;
     }
   where
@@ -100,9 +89,9 @@ either (Ok a) answer wanted dry given ok = inl (given.0 ∙ ok, given.1)
 either (Err e) answer wanted dry given ok = inr given
 
 -- where memory is wanting the answer is the fixed one
-fixed-wanting : (m : Mood) (answer wanted : Answer) → IsOrFixed m answer wanted → IsTrue m.dry → ((answer.status == 507) || false) ≡ true
+fixed-wanting : (m : Mood) (answer wanted : Answer) → IsOrFixed m answer wanted → IsTrue m.dry → answer ≡ fixed_answer
 fixed-wanting m answer wanted (inl own) dry = absurd (let calm : m.dry ≡ false = own.1 in let no : ⊥ = cc in no)
-fixed-wanting m answer wanted (inr fixed) dry = rw fixed.0 refl
+fixed-wanting m answer wanted (inr fixed) dry = fixed.0
 
 pub direct-event : (p : Publishing) (content later : Content) (farm other : Farm) (b h : Board) (target : List ℕ) (answer : Answer) (dry : Bool) (told : Told) → later ≡ content → other ≡ farm → h ≡ b
     → IsOrFixed (record { dry = dry }) answer (direct_answer p farm content target) → told.notes.items ≡ answered answer ∷ [] → told.dry ≡ dry → TellsStep (BoardStands p content farm b) (BoardStands p later other h) (Direct target) told
@@ -113,7 +102,7 @@ direct-event p content later farm other b h target answer dry told same_content 
       turns = [];
       ends = Waits;
       happens = (answer, or, notes);
-      wanting = λ dry. ap (list_any gives_fixed) notes ∙ fixed-wanting (record { dry = told.dry }) answer _ or dry;
+      wanting = λ dry. subst (SomeShowsLack w) (sym notes) (inl (fixed-wanting (record { dry = told.dry }) answer _ or dry));
       stands = subst (BoardStands p later other h) (sym (ap (afters w) notes)) (record {
         publishing_is = stands.publishing_is;
         content_is = stands.content_is ∙ sym same_content;
@@ -131,7 +120,7 @@ render-none p content farm b pick told none notes calm = λ w stands.
       turns = [];
       ends = Waits;
       happens = subst (RenderTo w e) (sym no) notes;
-      wanting = calm-wanting told.dry told.notes.items calm;
+      wanting = calm-wanting told.dry calm;
       stands = subst (BoardStands p content farm b) (sym (ap (afters w) notes)) stands;
     }
 
@@ -187,7 +176,7 @@ render-event p content later farm other b mid h pick at n answer copy dry told s
       turns = [];
       ends = Waits;
       happens = subst (RenderTo w e) (sym some) (answer, gives.answer_is, note);
-      wanting = λ dry. ap (list_any gives_fixed) note ∙ fixed-wanting (record { dry = told.dry }) answer _ gives.answer_is dry;
+      wanting = λ dry. subst (SomeShowsLack w) (sym note) (inl (fixed-wanting (record { dry = told.dry }) answer _ gives.answer_is dry));
       stands = subst (BoardStands p later other h) (sym (ap (afters w) note)) (record {
         publishing_is = stands.publishing_is;
         content_is = ap (content_rendered w answer) number_is ∙ sym gives.content_is;

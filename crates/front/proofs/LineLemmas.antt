@@ -1,7 +1,6 @@
 -- What is left of a connection, when something happens to it.
 use Rattle.std.proofs.Common.{◌≡◌, ℕ, ◌||◌, ◌+◌, suc, Bool, true, false, cond, List, [], ◌∷◌, ◌++◌, length, drop, Option, Some, None, refl, ap, sym, subst, ◌∙◌, arith, append_assoc, append-nil, length-append}
 use Rattle.std.specs.Prelude.{IsTrue, IfSome, slice_get}
-use Rattle.http_front.specs.Answers.{fixed_507}
 use Rattle.http_front.specs.Turns.{End, SpellsTurns}
 use Rattle.http_front.specs.Intakes.{StandsFor}
 use Rattle.http_front.specs.declared.fault.InFault.{InFault}
@@ -10,7 +9,7 @@ use Rattle.http_front.specs.declared.turn.Turn.{Turn}
 use Rattle.http_front.specs.declared.turn.Turn.TheVariants.{Continue, Whole}
 use Rattle.sp_base.specs.declared.answer.Answer.{Answer}
 use Rattle.connections.specs.Slots.{Slot, interim_slot, is_awaiting}
-use Rattle.connections.specs.Connections.{Close, Connection, Nothing, Treat, advanced, after_turn, due, due_at_turn, due_unsent, filled, fresh, next_turn, with_answer, with_landing, with_sent, with_slot}
+use Rattle.connections.specs.Connections.{Close, Connection, Nothing, Treat, advanced, after_turn, due, due_at_turn, due_unsent, filled, fresh, next_turn, with_answer, with_landing, with_sent, with_slot, IsInPlaceOfDue}
 use Rattle.connections.specs.Histories.{IsDueSending}
 use Rattle.connections.specs.declared.sending.Sending.{Sending}
 use Rattle.connections.specs.Ties.{Tied}
@@ -263,9 +262,9 @@ new-holds k peer stands none whole tied = record {
   ready = λ stays. rw none tt;
 }
 
-pub send-dry : (k : Line) (sent : Option Sending) → IfSome sent (λ s. (m : Connection) → Tied k.outbox m → IsTrue s.dry → s.bytes ≡ fixed_507) → IfSome sent (λ s. (m : Connection) → Holds k m → IsTrue s.dry → s.bytes ≡ fixed_507)
-send-dry k None fixed = tt
-send-dry k (Some s) fixed = λ m holds dry. fixed m holds.keeps.tied dry
+pub send-dry : (k : Line) (sent : Option Sending) → IfSome sent (λ s. (m : Connection) → Tied k.outbox m → IsTrue s.dry → IsInPlaceOfDue (due m) s.bytes) → IfSome sent (λ s. (m : Connection) → Holds k m → IsTrue s.dry → IsInPlaceOfDue (due m) s.bytes)
+send-dry k None shows = tt
+send-dry k (Some s) shows = λ m holds dry. shows m holds.keeps.tied dry
 
 pub send-holds : (k : Line) (o : Outbox) (sent : Option Sending) → IfSome sent (λ s. (m : Connection) → Tied k.outbox m → IsDueSending m s × Tied o (with_sent s.bytes m))
     → IfSome sent (λ s. (m : Connection) → Holds k m → IsDueSending m s × Holds (record k { outbox = o }) (with_sent s.bytes m))

@@ -15,7 +15,7 @@ use Rattle.front.specs.declared.note.Note.TheVariants.{Answer as answered, Ask a
 use Rattle.front.specs.declared.step.Step.{Step}
 use Rattle.front.specs.declared.step.Step.TheVariants as step
 use Rattle.front.specs.States.{RunState, LogEntry}
-use Rattle.front.specs.Events.{DeliverAs, DeliverTo, Event, Happens, HappensBy, LeadsNotes, LoseTo, PieceTo, after_event, begun, gone, going, is_any, is_rendered, most_lines, opened, opening, picked}
+use Rattle.front.specs.Events.{DeliverAs, DeliverTo, Event, Happens, HappensBy, LeadsNotes, LoseTo, PieceTo, ShowsLack, SomeShowsLack, after_event, begun, gone, going, is_any, is_rendered, most_lines, opened, opening, picked}
 use Rattle.front.specs.Histories.{is_idle}
 use Rattle.front.specs.Moves.{Mood, GivesDue, IsFirstPoint, points, Serves, state_after_note, afters, asked_by, due_of_connection, flight_at, over_with, request_of}
 
@@ -26,6 +26,14 @@ afters-push w (n ∷ notes) note = afters-push (state_after_note w n) notes note
 pub serves-push : (m : Mood) (w : RunState) (c : ℕ) (notes : List Note) (note : Note) → Serves m w c notes → GivesDue m (afters w notes) c (due_of_connection (afters w notes) c) note → Serves m w c (notes ++ note ∷ [])
 serves-push m w c [] note serves gives = (gives, tt)
 serves-push m w c (n ∷ notes) note serves gives = (serves.0, serves-push m (state_after_note w n) c notes note serves.1 gives)
+
+-- one of the notes shows that memory was wanting, with one note more
+pub shows-push : (w : RunState) (notes : List Note) (note : Note) → SomeShowsLack w notes ⊎ ShowsLack (afters w notes) note → SomeShowsLack w (notes ++ note ∷ [])
+shows-push w [] note (inl none) = absurd none
+shows-push w [] note (inr here) = inl here
+shows-push w (n ∷ notes) note (inl (inl first)) = inl first
+shows-push w (n ∷ notes) note (inl (inr later)) = inr (shows-push (state_after_note w n) notes note (inl later))
+shows-push w (n ∷ notes) note (inr here) = inr (shows-push (state_after_note w n) notes note (inr here))
 
 -- ---- the publisher and the farm stay, and but for a render the content does
 pub record SameContent (w v : RunState) : Type 0 where

@@ -10,7 +10,7 @@ use Rattle.http_front.specs.Faults.{fault_status}
 use Rattle.http_front.specs.declared.fault.InFault.{InFault}
 use Rattle.http_front.specs.declared.turn.Turn.TheVariants.{Whole}
 use Rattle.connections.specs.Slots.{Slot, Awaits, MayAnswer, fault_slot, local_response, request_slot}
-use Rattle.connections.specs.Connections.{Connection, Due, Refuse, Send, Treat, is_crowded, with_sent}
+use Rattle.connections.specs.Connections.{Connection, Due, IsInPlaceOfDue, Refuse, Send, Treat, due, is_crowded, with_sent}
 use Rattle.connections.specs.Histories.{IsDueSending}
 use Rattle.connections.specs.Ties.{Tied}
 use Rattle.connections.specs.declared.sending.Sending.{Sending}
@@ -35,6 +35,26 @@ sky-same sky w v tied air log = record {
 -- what is due decides what a note has to be
 due-gives : (m : Mood) (w : RunState) (c : ℕ) (owed : Due) (note : Note) → due_of_connection w c ≡ owed → GivesDue m w c owed note → GivesDue m w c (due_of_connection w c) note
 due-gives m w c owed note is gives = subst (λ d. GivesDue m w c d note) (sym is) gives
+
+-- ---- something is sent
+pub given-sent : {farm : Farm} (w : RunState) (c : ℕ) (k j : Line) (sky : Sky) (sending : Sending) → Meets farm w c k sky → ((m : Connection) → Holds k m → IsDueSending m sending × Holds j (with_sent sending.bytes m))
+    → ((m : Connection) → Holds k m → IsTrue sending.dry → IsInPlaceOfDue (due m) sending.bytes) → GivesDry sending.dry w c (Sent c sending.bytes) × Meets farm (state_after_note w (Sent c sending.bytes)) c j sky
+given-sent {farm} w c k j sky sending meets sends shows =
+    let m = meets.connection in
+    let sent = sends m meets.holds in
+    let owed : due_of_connection w c ≡ Send sent.0.slot = ap line_due meets.open_is ∙ sent.0.is_due in (
+      (
+        λ mood allows. due-gives mood w c _ _ owed (sending.bytes, refl, ⊎_elim (λ written. inl written) (λ fixed. inr (allows fixed.0, fixed.1)) sent.0.answers),
+        λ dry. subst (λ d. IsInPlaceOfDue d sending.bytes) (sym (ap line_due meets.open_is)) (shows m meets.holds dry),
+      ),
+      record {
+        connection = with_sent sending.bytes m;
+        open_is = update_here w.line c _ ∙ ap (option_map (with_sent sending.bytes)) meets.open_is;
+        holds = sent.1;
+        sky_is = sky-same sky w _ meets.sky_is refl refl;
+        farm_is = meets.farm_is;
+      },
+    )
 
 -- ---- a request is turned away
 full-is : (sky : Sky) (w : RunState) → SkyTied sky w → is_front_full w ≡ is_full_sky sky
@@ -65,14 +85,12 @@ away-owed w c status request crowded admitted full dry crowd may room (inr is) m
     inr (allows wanting, ap (Local c) same)
 
 -- where memory was wanting to find the point, that is the fixed 507
-away-fixed : (crowded admitted full dry : Bool) (status : ℕ) → IsAnswering crowded admitted full (Here status dry) → IsTrue dry → (status == 507) ≡ true
+away-fixed : (crowded admitted full dry : Bool) (status : ℕ) → IsAnswering crowded admitted full (Here status dry) → IsTrue dry → status ≡ 507
 away-fixed true admitted full dry status (inl is) wanting = absurd (let at : Here status dry ≡ Here 503 false = is in let no : ⊥ = cc in no)
 away-fixed false false full dry status (inl is) wanting = absurd (let at : Here status dry ≡ Here 404 false = is in let no : ⊥ = cc in no)
 away-fixed false true true dry status (inl is) wanting = absurd (let at : Here status dry ≡ Here 503 false = is in let no : ⊥ = cc in no)
 away-fixed false true false dry status (inl is) wanting = absurd (let at : Here status dry ≡ InFlight = is in let no : ⊥ = cc in no)
-away-fixed crowded admitted full dry status (inr is) wanting =
-    let same : status ≡ 507 = cc in
-    rw same refl
+away-fixed crowded admitted full dry status (inr is) wanting = let same : status ≡ 507 = cc in same
 
 pub given-away : {farm : Farm} (w : RunState) (c status : ℕ) (k j : Line) (sky : Sky) (request : Req) (crowded dry : Bool) → (owes : OwesRequest farm w c k sky request) → crowded ≡ is_crowded owes.connection
     → IsAnswering crowded (admits farm request) (is_full_sky sky) (Here status dry) → ((m : Connection) → Owes k m → Holds j (treated (request_slot request (crowded || status == 507) (local_response status)) m))

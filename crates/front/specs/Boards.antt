@@ -25,7 +25,7 @@ use Rattle.front.specs.declared.serve.Served.TheVariants.{Said, Quiet, Ended}
 use Rattle.front.specs.declared.sky.Sky.{Sky}
 use Rattle.front.specs.declared.step.Step.{Step}
 use Rattle.front.specs.declared.told.Told.{Told}
-use Rattle.front.specs.Events.{Event, HappensBy, IsWanting, after_event, gives_fixed}
+use Rattle.front.specs.Events.{Event, HappensBy, IsWanting, ShowsLack, after_event, begun}
 use Rattle.front.specs.Lines.{Holds, Owes, LineReads}
 use Rattle.front.specs.Moves.{Mood, GivesDue, Serves, Settles, state_after_note, afters, due_of_connection, most_flights, most_numbers}
 use Rattle.front.specs.States.{RunState, flights_asked}
@@ -104,15 +104,15 @@ pub record OwesFault (farm : Farm) (w : RunState) (c : ℕ) (k : Line) (sky : Sk
   pub sky_is : SkyTied sky w
   pub farm_is : w.farm ≡ farm
 
--- in such an event the note gives what is owed, and it gives the fixed 507 where it needs one in which memory was wanting
+-- in such an event the note gives what is owed, and it shows that memory was wanting where it needs an event of that mood
 abbrev pub GivesDry : Bool → RunState → ℕ → Note → Type 0
-GivesDry dry w c note = ((m : Mood) → Allows dry m → GivesDue m w c (due_of_connection w c) note) × (IsTrue dry → IsTrue (gives_fixed note))
+GivesDry dry w c note = ((m : Mood) → Allows dry m → GivesDue m w c (due_of_connection w c) note) × (IsTrue dry → ShowsLack w note)
 
 abbrev pub ServesDry : Bool → RunState → ℕ → List Note → Type 0
 ServesDry dry w c notes = (m : Mood) → Allows dry m → Serves m w c notes
 
 abbrev pub SettlesDry : Bool → RunState → ℕ → List Note → Type 0
-SettlesDry dry w c notes = ((m : Mood) → Allows dry m → Settles m w c notes) × IsWanting (record { dry = dry }) notes
+SettlesDry dry w c notes = ((m : Mood) → Allows dry m → Settles m w c notes) × IsWanting w (record { dry = dry }) notes
 
 -- by its first point a request is answered so
 abbrev pub first_point : Bool → Bool → Bool → Answering
@@ -137,7 +137,7 @@ IsLess Ended left before = Unit {0}
 -- these notes were given
 pub record NotesGiven (dry : Bool) (notes : List Note) (farm : Farm) (w : RunState) (c : ℕ) (k : Line) (sky : Sky) : Type 0 where
   pub serves : ServesDry dry w c notes
-  pub wanting : IsWanting (record { dry = dry }) notes
+  pub wanting : IsWanting w (record { dry = dry }) notes
   pub meets : Meets farm (afters w notes) c k sky
 
 -- the end is owed, or nothing
@@ -160,7 +160,7 @@ pub record Happened (Stands : RunState → Type 0) (w : RunState) (step : Step) 
   pub turns : List Turn
   pub ends : End
   pub happens : HappensBy w (event_of step told turns ends) step
-  pub wanting : IsWanting (record { dry = told.dry }) told.notes.items
+  pub wanting : IsWanting (begun w (event_of step told turns ends) step) (record { dry = told.dry }) told.notes.items
   pub stands : Stands (after_event w (event_of step told turns ends))
 
 abbrev pub BoardTells : Farm → Board → Board → Step → Told → Type 0

@@ -1,12 +1,11 @@
 -- Events, and runs of them.
-use Rattle.std.specs.Prelude.{◌≡◌, ◌==◌, ◌+◌, ◌-◌, ◌++◌, ◌⊎◌, ◌&&◌, ℕ, Bool, true, false, not, nat_eq, nat_le, if◌then◌else◌, List, [], ◌∷◌, Option, Some, None, IsTrue, is_some}
-use Rattle.std.specs.List.{find, list_any}
+use Rattle.std.specs.Prelude.{◌≡◌, ◌+◌, ◌-◌, ◌++◌, ◌⊎◌, ◌&&◌, ℕ, Bool, true, false, not, nat_eq, nat_le, if◌then◌else◌, List, [], ◌∷◌, Option, Some, None, IsTrue, is_some}
+use Rattle.std.specs.List.{find}
 use Rattle.std.specs.Map.{update}
 use Rattle.sp_base.specs.declared.answer.Answer.{Answer}
 use Rattle.http_front.specs.Turns.{End, SpellsTurns}
 use Rattle.http_front.specs.declared.turn.Turn.{Turn}
-use Rattle.connections.specs.Connections.{Connection, fed, fresh}
-use Rattle.connections.specs.Slots.{is_fixed}
+use Rattle.connections.specs.Connections.{Connection, IsInPlaceOfDue, fed, fresh}
 use Rattle.front.specs.declared.flying.Flying.{Flying}
 use Rattle.front.specs.declared.step.Pick.{Pick}
 use Rattle.front.specs.declared.step.Pick.TheVariants.{Number, First}
@@ -16,7 +15,7 @@ use Rattle.front.specs.declared.note.Note.{Note}
 use Rattle.front.specs.declared.note.Note.TheVariants.{Answer as answered, Ask as asked, Local, Rendered, Passed, Lost, Sent, Shut, Refused, Idle, Dry}
 use Rattle.front.specs.Publishers.{direct_answer, fixed_answer}
 use Rattle.front.specs.States.{RunState}
-use Rattle.front.specs.Moves.{Mood, Settles, state_after_note, afters, on_line, has_number, published_for}
+use Rattle.front.specs.Moves.{Mood, Settles, state_after_note, afters, due_of_connection, on_line, has_number, published_for}
 
 -- An event: its step, its notes but for those that name its mood, and the mood. Of a piece it tells which further turns its
 -- connection's stream now spells, and how they end.
@@ -147,26 +146,32 @@ HappensBy w e (Render pick) = RenderTo w e (picked pick is_unrendered w.air)
 HappensBy w e (Deliver pick) = DeliverTo w e (picked pick is_rendered w.air)
 HappensBy w e (Lose pick) = LoseTo w e (picked pick is_any w.air)
 
--- a note that gives the fixed 507: as an answer, as what is rendered, as a request's own, or as what is sent for one
-abbrev pub gives_fixed : Note → Bool
-gives_fixed (answered answer) = answer.status == 507
-gives_fixed (asked number c key) = false
-gives_fixed (Local c status) = status == 507
-gives_fixed (Rendered number answer) = answer.status == 507
-gives_fixed (Passed number) = false
-gives_fixed (Lost number) = false
-gives_fixed (Sent c bytes) = is_fixed bytes
-gives_fixed (Shut c) = false
-gives_fixed (Refused c) = false
-gives_fixed Idle = false
-gives_fixed Dry = false
+-- The note shows that memory was wanting: it gives the fixed 507 as an answer, as what is rendered or as a request's own, or it sends
+-- that in place of what is due to be sent.
+abbrev pub ShowsLack : RunState → Note → Type 0
+ShowsLack w (answered answer) = answer ≡ fixed_answer
+ShowsLack w (asked number c key) = ⊥
+ShowsLack w (Local c status) = status ≡ 507
+ShowsLack w (Rendered number answer) = answer ≡ fixed_answer
+ShowsLack w (Passed number) = ⊥
+ShowsLack w (Lost number) = ⊥
+ShowsLack w (Sent c bytes) = IsInPlaceOfDue (due_of_connection w c) bytes
+ShowsLack w (Shut c) = ⊥
+ShowsLack w (Refused c) = ⊥
+ShowsLack w Idle = ⊥
+ShowsLack w Dry = ⊥
 
--- an event says that memory was wanting only where one of its notes gives the fixed 507
-abbrev pub IsWanting : Mood → List Note → Type 0
-IsWanting m notes = IsTrue m.dry → IsTrue (list_any gives_fixed notes)
+-- one of the notes does, in the state in which it comes
+abbrev pub SomeShowsLack : RunState → List Note → Type 0
+SomeShowsLack w [] = ⊥
+SomeShowsLack w (note ∷ notes) = ShowsLack w note ⊎ SomeShowsLack (state_after_note w note) notes
+
+-- an event says that memory was wanting only where one of its notes shows it
+abbrev pub IsWanting : RunState → Mood → List Note → Type 0
+IsWanting w m notes = IsTrue m.dry → SomeShowsLack w notes
 
 abbrev pub Happens : RunState → Event → Type 0
-Happens w e = HappensBy w e e.step × IsWanting e.mood e.body
+Happens w e = HappensBy w e e.step × IsWanting (begun w e e.step) e.mood e.body
 
 -- a run: each event happens in the state that those before it left
 abbrev pub Run : RunState → List Event → Type 0

@@ -60,8 +60,8 @@ due_of_connection w c = line_due (w.line c)
 
 -- ---- requests
 
--- Where a request may get its answer, the first that applies: its connection has too many requests that are unanswered; the farm doesn't
--- admit it; too many flights are in the air, or too many were asked; else the publisher is asked.
+-- Where a request may get its answer, the first that applies: the answers to too many requests of its connection are unsent; the farm
+-- doesn't admit it; too many flights are in the air, or too many were asked; else the publisher is asked.
 pub data Point : Type 0 where
   Crowded : Point
   Hidden : Point

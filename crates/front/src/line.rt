@@ -3,11 +3,10 @@ ghost use Rattle.std.specs.Prelude.{◌≡◌, ◌≢◌, ◌+◌, ◌≤◌, �
 ghost use Rattle.http_front.specs.Intakes.{StandsFor};
 ghost use Rattle.http_front.specs.declared.fault.InFault.TheVariants as variant;
 ghost use Rattle.http_front.specs.declared.turn.Turn.{Turn};
-ghost use Rattle.http_front.specs.Answers.{fixed_507};
 ghost use Rattle.sp_base.specs.declared.answer.Answer as models;
 ghost use Rattle.connections.specs.Slots.{Says, Slot};
 ghost use Rattle.connections.specs.Connections as model;
-ghost use Rattle.connections.specs.Connections.{Connection, advanced, due, due_unsent, fresh, with_landing, with_sent, with_slot};
+ghost use Rattle.connections.specs.Connections.{Connection, IsInPlaceOfDue, advanced, due, due_unsent, fresh, with_landing, with_sent, with_slot};
 ghost use Rattle.connections.specs.Histories.{IsDueSending};
 ghost use Rattle.connections.specs.Ties.{PlaceTied, ReplyTied, Tied};
 ghost use Rattle.front.specs.Lines as lines;
@@ -86,7 +85,7 @@ impl Line {
     /// What is sent next, if anything can be.
     pub(crate) fn send(&mut self, alloc: Global) -> Option<Sending>
         ensures sends { IfSome result (λ sending. (c : Connection) → Holds self.old c → IsDueSending c sending × Holds self.new (with_sent sending.bytes c)) }
-        ensures dry { IfSome result (λ sending. (c : Connection) → Holds self.old c → IsTrue sending.dry → sending.bytes ≡ fixed_507) }
+        ensures dry { IfSome result (λ sending. (c : Connection) → Holds self.old c → IsTrue sending.dry → IsInPlaceOfDue (due c) sending.bytes) }
         ensures waits { IfNone result ((c : Connection) → Holds self.old c → due c ≡ due_unsent c) }
         ensures less { OnSome result (work_of self.new < work_of self.old) }
         ensures same { IfNone result (self.new ≡ self.old) }

@@ -68,8 +68,8 @@ pub(crate) fn treat(
     }
 }
 
-// The first that applies: too many requests of the connection are unanswered; the farm doesn't admit this one; no further flight is
-// asked. The farm is asked before the flights are counted, so that what it hides looks the same at all times.
+// The first that applies: the answers to too many requests of the connection are unsent; the farm doesn't admit this one; no further
+// flight is asked. The farm is asked before the flights are counted, so that what it hides looks the same at all times.
 fn answering_of(alloc: Global, farm: &Farm, request: &Req, crowded: bool, sky: &Sky) -> Answering
     ensures is { IsAnswering crowded (rules.admits farm.now request.now) (is_full_sky sky.now) result }
     ensures room { result ≡ variant.InFlight → is_full_sky sky.now ≡ false }

@@ -3,4 +3,4 @@ use Rattle.connections.proofs.PlaceLemmas.{count-tied}
 use Rattle.connections.proofs.outbox.Outbox.is_crowded.Goals as goal
 
 pub returns : goal.returns
-returns c = λ m tied. ap (λ n. nat_le 64 n) (c.unanswered_count.ensures ∙ count-tied _ _ tied.unsent)
+returns c = λ m tied. ap (λ n. nat_le 64 n) (c.unsent_requests.ensures ∙ count-tied _ _ tied.unsent)

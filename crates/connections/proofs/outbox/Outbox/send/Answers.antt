@@ -1,7 +1,7 @@
 use Rattle.std.proofs.Common.{◌≡◌, ◌||◌, ◌∷◌, ap, sym, ◌∙◌}
 use Rattle.connections.specs.Slots.{is_fixed}
 use Rattle.connections.specs.Ties.{front_has_reply}
-use Rattle.connections.proofs.OutboxLemmas.{dry-fixed, held-waits, over-waits, sent-left}
+use Rattle.connections.proofs.OutboxLemmas.{held-waits, in-place-due, over-waits, sent-left}
 use Rattle.connections.proofs.outbox.Outbox.send.Goals as goal
 use Rattle.connections.proofs.outbox.Outbox.send.Goals.{then-self-via-then-self, then-self-via-else-self+then-not-is_ready}
 
@@ -22,4 +22,9 @@ returns-clause-sends c = λ m tied.
     (c.is_last-self.ensures ∙ ap (λ bytes. place.closes || is_fixed bytes) c.bytes.ensures)
 
 pub returns-clause-dry : goal.returns-clause-dry
-returns-clause-dry c = λ m tied dry. dry-fixed m c.in_ok-place.place c.sending-sending.result tied c.if-self.false c.sending-sending.ensures.sends dry
+returns-clause-dry c = λ m tied dry.
+    let kept = c.sending-sending.ensures.kept in
+    let place = c.in_ok-place.place in
+    let places : c.args.self.now.places.items ≡ place ∷ c.sending-sending.new.self.places.items = c.in_ok-place.ensures.items ∙ ap (λ q. place ∷ q.items) (sym kept.0) in
+    let has = ap front_has_reply (sym places) ∙ sym c.is_ready.ensures ∙ c.if-not-is_ready.false in
+    in-place-due m place _ c.sending-sending.result tied places c.if-self.false has c.sending-sending.ensures.sends dry

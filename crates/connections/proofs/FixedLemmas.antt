@@ -1,0 +1,303 @@
+-- Which answers have the bytes of the fixed 507.
+use Rattle.std.proofs.Common.{◌≡◌, ◌≢◌, ◌<◌, ◌^◌, ◌++◌, ◌||◌, ◌&&◌, ◌==◌, ◌∙◌, ◌⊎◌, inl, inr, ℕ, Bool, true, false, cond, List, [], ◌∷◌, codes, decimal, drop, length, get_or, refl, ap, sym, subst, arith}
+use Rattle.std.specs.Prelude.{flat_map, if◌then◌else◌, not}
+use Rattle.std.specs.Char.{is_ascii_digit}
+use Rattle.std.specs.Fmt.{digits}
+use Rattle.std.specs.Cmp.Lexicographic.{same_text}
+use Rattle.std.specs.Str.{all_ascii_digits}
+use Rattle.std.specs.Str.Parse.{digits_value}
+use Rattle.std.proofs.lemmas.Bool.{false≢true, eqb-true}
+use Rattle.std.proofs.Math.Dec.{eqb-suc-zero}
+use Rattle.std.proofs.lemmas.Fmt.{digits_decimal, decimal_injective}
+use Rattle.std.proofs.lemmas.List.{append_assoc, append_cancel_left, nil_from_length}
+use Rattle.std.proofs.lemmas.Str.Parse.{IsNumeralModel, numerals_by_value, tells_all_ascii_digits}
+use Rattle.error_answers.specs.Errors.{error_answer, phrase_of}
+use Rattle.percent_encoding.specs.Percent.{percent_encode_byte}
+use Rattle.sp_base.specs.declared.answer.Answer.{Answer}
+use Rattle.sp_base.specs.declared.answer.Mark.{Mark}
+use Rattle.sp_base.specs.declared.answer.Mark.TheVariants.{Plain, NoCache, NoStore, MustRevalidate}
+use Rattle.http_front.specs.Answers.{Field, allowed_methods, answer_bytes, answer_content, connection, content_length, directive_of, field_line, fields_of, fixed_507, is_visible, is_without_content, location_of, plain_value, status_line, unless_empty}
+use Rattle.connections.specs.Slots.{is_fixed}
+use Rattle.connections.specs.Ties.{is_bare_507, is_plain, reply_bytes}
+use Rattle.connections.proofs.OutboxLemmas.{is_fixed-fixed}
+
+-- ---- a number ends where another byte comes
+own : IsNumeralModel (λ ds. all_ascii_digits ds ≡ true) (digits_value 10)
+own = numerals_by_value (λ ds. all_ascii_digits ds ≡ true) tells_all_ascii_digits
+
+both_true : (a b : Bool) → (a && b) ≡ true → (a ≡ true) × (b ≡ true)
+both_true true b e = (refl, e)
+both_true false b e = cc
+
+not_end : (b end : ℕ) → is_ascii_digit b ≡ true → is_ascii_digit end ≡ false → b ≢ end
+not_end b end p q e = false≢true (sym q ∙ sym (ap is_ascii_digit e) ∙ p)
+
+one_run : (end : ℕ) (x y r s : List ℕ) → is_ascii_digit end ≡ false → all_ascii_digits x ≡ true → all_ascii_digits y ≡ true → x ++ end ∷ r ≡ y ++ end ∷ s → (x ≡ y) × (r ≡ s)
+one_run end [] [] r s n p q e = (refl, cc)
+one_run end [] (c ∷ y) r s n p q e =
+    let head : c ≡ end = cc in absurd (not_end c end (both_true (is_ascii_digit c) (all_ascii_digits y) q).0 n head)
+one_run end (b ∷ x) [] r s n p q e =
+    let head : b ≡ end = cc in absurd (not_end b end (both_true (is_ascii_digit b) (all_ascii_digits x) p).0 n head)
+one_run end (b ∷ x) (c ∷ y) r s n p q e =
+    let head : b ≡ c = cc in
+    let more : x ++ end ∷ r ≡ y ++ end ∷ s = cc in
+    let tail = one_run end x y r s n (both_true (is_ascii_digit b) (all_ascii_digits x) p).1 (both_true (is_ascii_digit c) (all_ascii_digits y) q).1 more in
+    (cc (head, tail.0), tail.1)
+
+nought : decimal 0 ≡ 48 ∷ []
+unfolding digits
+nought = refl
+
+-- a number, and the byte that ends it
+one_number : (end m n : ℕ) (r s : List ℕ) → is_ascii_digit end ≡ false → m < 2 ^ 64 → n < 2 ^ 64 → decimal m ++ end ∷ r ≡ decimal n ++ end ∷ s → (m ≡ n) × (r ≡ s)
+one_number end m n r s none p q e =
+    let x = one_run end (decimal m) (decimal n) r s none (digits_decimal own m p) (digits_decimal own n q) e in
+    (decimal_injective m n p q x.0, x.1)
+
+-- ---- the status comes first
+abbrev line_end : List ℕ
+line_end = 13 ∷ 10 ∷ []
+
+-- what the fixed 507 has after its status line
+abbrev fixed_rest : List ℕ
+fixed_rest = codes "Content-Length: 0\r\nConnection: close\r\n\r\n"
+
+status_spread : (status : ℕ) (rest : List ℕ) → status_line status ++ rest ≡ codes "HTTP/1.1 " ++ (decimal status ++ 32 ∷ (phrase_of status ++ (line_end ++ rest)))
+unfolding status_line
+status_spread status rest =
+    let h : List ℕ = codes "HTTP/1.1 " in
+    let d : List ℕ = decimal status in
+    let b : List ℕ = codes " " in
+    let p : List ℕ = phrase_of status in
+    append_assoc (h ++ d ++ b ++ p) line_end rest ∙ append_assoc (h ++ d ++ b) p (line_end ++ rest) ∙ append_assoc (h ++ d) b (p ++ (line_end ++ rest)) ∙ append_assoc h d (32 ∷ (p ++ (line_end ++ rest)))
+
+fixed_spread : fixed_507 ≡ codes "HTTP/1.1 " ++ (decimal 507 ++ 32 ∷ (phrase_of 507 ++ (line_end ++ fixed_rest)))
+unfolding phrase_of digits
+fixed_spread = refl
+
+one_status : (status : ℕ) (rest : List ℕ) → status < 2 ^ 64 → status_line status ++ rest ≡ fixed_507 → (status ≡ 507) × (rest ≡ fixed_rest)
+one_status status rest p e =
+    let at = one_number 32 status 507 _ _ refl p (omega arith) (ap (drop 9) (sym (status_spread status rest) ∙ e ∙ fixed_spread)) in
+    let phrases : phrase_of 507 ++ (line_end ++ rest) ≡ phrase_of 507 ++ (line_end ++ fixed_rest) = subst (λ s. phrase_of s ++ (line_end ++ rest) ≡ phrase_of 507 ++ (line_end ++ fixed_rest)) at.0 at.1 in
+    (at.0, ap (drop 2) (append_cancel_left (phrase_of 507) _ _ phrases))
+
+-- ---- then the fields
+-- the fields, the line that ends them, and the content
+abbrev fields_text : List Field → List ℕ → List ℕ
+fields_text fields tail = flat_map field_line fields ++ (line_end ++ tail)
+
+-- the fields of an answer, one after another
+abbrev field_values : List ℕ → List ℕ → List ℕ → List ℕ → List ℕ → List ℕ → List Field
+field_values kind location methods directive size last =
+    unless_empty (codes "Content-Type") kind
+    ++ (unless_empty (codes "Location") location ++ (unless_empty (codes "Allow") methods ++ (unless_empty (codes "Cache-Control") directive ++ (unless_empty (codes "Content-Length") size ++ unless_empty (codes "Connection") last))))
+
+fields_spread : (h c : Bool) (a : Answer) → fields_of h c a ≡ field_values (plain_value a.kind) (location_of a.location) (allowed_methods a.status) (directive_of a.mark) (content_length h a) (connection c)
+fields_spread h c a =
+    let u = unless_empty (codes "Content-Type") (plain_value a.kind) in
+    let v = unless_empty (codes "Location") (location_of a.location) in
+    let w = unless_empty (codes "Allow") (allowed_methods a.status) in
+    let x = unless_empty (codes "Cache-Control") (directive_of a.mark) in
+    let y = unless_empty (codes "Content-Length") (content_length h a) in
+    let z = unless_empty (codes "Connection") (connection c) in
+    append_assoc (u ++ v ++ w ++ x) y z ∙ append_assoc (u ++ v ++ w) x (y ++ z) ∙ append_assoc (u ++ v) w (x ++ (y ++ z)) ∙ append_assoc u v (w ++ (x ++ (y ++ z)))
+
+unless_some : (name : List ℕ) (b : ℕ) (v : List ℕ) → unless_empty name (b ∷ v) ≡ (name, b ∷ v) ∷ []
+unless_some name b v = rw (eqb-suc-zero (length v)) refl
+
+-- a field that is there is the first
+first_there : (name : List ℕ) (b : ℕ) (v : List ℕ) (later : List Field) (tail : List ℕ) → fields_text (unless_empty name (b ∷ v) ++ later) tail ≡ fixed_rest → fields_text ((name, b ∷ v) ∷ later) tail ≡ fixed_rest
+first_there name b v later tail e = subst (λ u. fields_text (u ++ later) tail ≡ fixed_rest) (unless_some name b v) e
+
+no_kind : (v : List ℕ) (later : List Field) (tail : List ℕ) → fields_text (unless_empty (codes "Content-Type") v ++ later) tail ≡ fixed_rest → v ≡ []
+unfolding field_line
+no_kind [] later tail e = refl
+no_kind (b ∷ v) later tail e = absurd (let other : 84 ≡ 76 = ap (λ t. get_or t 8 0) (first_there (codes "Content-Type") b v later tail e) in omega (arith, other))
+
+no_location : (v : List ℕ) (later : List Field) (tail : List ℕ) → fields_text (unless_empty (codes "Location") v ++ later) tail ≡ fixed_rest → v ≡ []
+unfolding field_line
+no_location [] later tail e = refl
+no_location (b ∷ v) later tail e = absurd (let other : 76 ≡ 67 = ap (λ t. get_or t 0 0) (first_there (codes "Location") b v later tail e) in omega (arith, other))
+
+no_methods : (v : List ℕ) (later : List Field) (tail : List ℕ) → fields_text (unless_empty (codes "Allow") v ++ later) tail ≡ fixed_rest → v ≡ []
+unfolding field_line
+no_methods [] later tail e = refl
+no_methods (b ∷ v) later tail e = absurd (let other : 65 ≡ 67 = ap (λ t. get_or t 0 0) (first_there (codes "Allow") b v later tail e) in omega (arith, other))
+
+no_directive : (v : List ℕ) (later : List Field) (tail : List ℕ) → fields_text (unless_empty (codes "Cache-Control") v ++ later) tail ≡ fixed_rest → v ≡ []
+unfolding field_line
+no_directive [] later tail e = refl
+no_directive (b ∷ v) later tail e = absurd (let other : 97 ≡ 111 = ap (λ t. get_or t 1 0) (first_there (codes "Cache-Control") b v later tail e) in omega (arith, other))
+
+-- without a length comes the connection's field, or the end of the fields
+some_size : (c : Bool) (tail : List ℕ) → fields_text (unless_empty (codes "Connection") (connection c)) tail ≡ fixed_rest → ⊥
+unfolding field_line
+some_size true tail e = let other : 110 ≡ 116 = ap (λ t. get_or t 3 0) e in omega (arith, other)
+some_size false tail e = let other : 13 ≡ 67 = ap (λ t. get_or t 0 0) e in omega (arith, other)
+
+-- the end of a line after a text
+line_spread : (v : List ℕ) (rest : List ℕ) → field_line (codes "Content-Length", v) ++ rest ≡ codes "Content-Length: " ++ (v ++ 13 ∷ (10 ∷ rest))
+unfolding field_line
+line_spread v rest =
+    let n : List ℕ = codes "Content-Length: " in
+    append_assoc (n ++ v) line_end rest ∙ append_assoc n v (line_end ++ rest)
+
+-- the length is nought, and the connection closes
+one_size : (n : ℕ) (c : Bool) (tail : List ℕ) → n < 2 ^ 64 → fields_text ((codes "Content-Length", decimal n) ∷ unless_empty (codes "Connection") (connection c)) tail ≡ fixed_rest → (n ≡ 0) × (c ≡ true)
+one_size n c tail p e =
+    let line = append_assoc (field_line (codes "Content-Length", decimal n)) (flat_map field_line (unless_empty (codes "Connection") (connection c))) (line_end ++ tail) in
+    let end : List ℕ = 13 ∷ (10 ∷ codes "Connection: close\r\n\r\n") in
+    let spread = ap (drop 16) (sym (line_spread (decimal n) _) ∙ sym line ∙ e) in
+    let at = one_number 13 n 0 _ (10 ∷ codes "Connection: close\r\n\r\n") refl p (omega arith) (spread ∙ ap (λ d. d ++ end) (sym nought)) in
+    (at.0, closes c (ap (drop 1) at.1))
+  where
+    closes : (d : Bool) → fields_text (unless_empty (codes "Connection") (connection d)) tail ≡ codes "Connection: close\r\n\r\n" → d ≡ true
+    closes true is = refl
+    closes false is = absurd (let other : 13 ≡ 67 = ap (λ t. get_or t 0 0) is in omega (arith, other))
+
+-- ---- what an answer with these bytes is
+answer_spread : (h c : Bool) (a : Answer) → answer_bytes h c a ≡ status_line a.status ++ fields_text (fields_of h c a) (answer_content h a)
+unfolding answer_bytes
+answer_spread h c a =
+    let s = status_line a.status in
+    let f = flat_map field_line (fields_of h c a) in
+    append_assoc (s ++ f) line_end (answer_content h a) ∙ append_assoc s f (line_end ++ answer_content h a)
+
+fixed_fields : (h c : Bool) (a : Answer) → a.status < 2 ^ 64 → answer_bytes h c a ≡ fixed_507
+    → (a.status ≡ 507) × (fields_text (field_values (plain_value a.kind) (location_of a.location) (allowed_methods a.status) (directive_of a.mark) (content_length h a) (connection c)) (answer_content h a) ≡ fixed_rest)
+fixed_fields h c a p e =
+    let at = one_status a.status (fields_text (fields_of h c a) (answer_content h a)) p (sym (answer_spread h c a) ∙ e) in
+    (at.0, ap (λ fields. fields_text fields (answer_content h a)) (sym (fields_spread h c a)) ∙ at.1)
+
+plain_none : (v : List ℕ) → plain_value v ≡ [] → v ≡ []
+unfolding plain_value
+plain_none [] e = refl
+plain_none (b ∷ v) e = absurd (let no : ⊥ = cc in no)
+
+location_none : (v : List ℕ) → location_of v ≡ [] → v ≡ []
+unfolding location_of percent_encode_byte
+location_none [] e = refl
+location_none (b ∷ v) e = absurd (by_test (is_visible b) (flat_map (λ x. if is_visible x then x ∷ [] else percent_encode_byte x) v) e)
+  where
+    by_test : (t : Bool) (more : List ℕ) → (if t then b ∷ [] else percent_encode_byte b) ++ more ≡ [] → ⊥
+    by_test true more is = let no : ⊥ = cc in no
+    by_test false more is = let no : ⊥ = cc in no
+
+directive_none : (mark : Mark) → directive_of mark ≡ [] → is_plain mark ≡ true
+directive_none Plain e = refl
+directive_none NoCache e = absurd (omega (arith, ap length e))
+directive_none NoStore e = absurd (omega (arith, ap length e))
+directive_none MustRevalidate e = absurd (omega (arith, ap length e))
+
+fixed_kind : (h c : Bool) (a : Answer) → a.status < 2 ^ 64 → answer_bytes h c a ≡ fixed_507 → a.kind ≡ []
+fixed_kind h c a p e = plain_none a.kind (no_kind (plain_value a.kind) _ (answer_content h a) (fixed_fields h c a p e).1)
+
+size_there : (v : List ℕ) (c : Bool) (tail : List ℕ) → fields_text (unless_empty (codes "Content-Length") v ++ unless_empty (codes "Connection") (connection c)) tail ≡ fixed_rest
+    → fields_text ((codes "Content-Length", v) ∷ unless_empty (codes "Connection") (connection c)) tail ≡ fixed_rest
+size_there [] c tail e = absurd (some_size c tail e)
+size_there (d ∷ v) c tail e = first_there (codes "Content-Length") d v _ tail e
+
+without_head : (other h : Bool) → (other || (h && true)) ≡ false → h ≡ false
+without_head true h e = absurd (let no : ⊥ = cc in no)
+without_head false true e = absurd (let no : ⊥ = cc in no)
+without_head false false e = refl
+
+sizes_fixed : (without h c : Bool) (n : ℕ) (tail : List ℕ) → n < 2 ^ 64
+    → fields_text (unless_empty (codes "Content-Length") (if without || (h && (n == 0)) then [] else decimal n) ++ unless_empty (codes "Connection") (connection c)) tail ≡ fixed_rest → (h ≡ false) × (c ≡ true) × (n ≡ 0)
+sizes_fixed without h c n tail p e = by_test (without || (h && (n == 0))) refl e
+  where
+    by_test : (t : Bool) → (without || (h && (n == 0))) ≡ t → fields_text (unless_empty (codes "Content-Length") (if t then [] else decimal n) ++ unless_empty (codes "Connection") (connection c)) tail ≡ fixed_rest → (h ≡ false) × (c ≡ true) × (n ≡ 0)
+    by_test true is told = absurd (some_size c tail told)
+    by_test false is told =
+        let sizes = one_size n c tail p (size_there (decimal n) c tail told) in
+        (without_head without h (subst (λ m. (without || (h && (m == 0))) ≡ false) sizes.0 is), sizes.1, sizes.0)
+
+bare_by : (a : Answer) → a.status ≡ 507 → a.kind ≡ [] → a.location ≡ [] → is_plain a.mark ≡ true → length a.body ≡ 0 → is_bare_507 a ≡ true
+bare_by a status kind location mark body = rw (status, kind, location, mark, body) refl
+
+fixed_is : (h c : Bool) (a : Answer) → a.status < 2 ^ 64 → length a.body < 2 ^ 64 → answer_bytes h c a ≡ fixed_507 → (h ≡ false) × (c ≡ true) × (is_bare_507 a ≡ true)
+fixed_is h c a p q e =
+    let tail = answer_content h a in
+    let first = fixed_fields h c a p e in
+    let second = after_kind (plain_value a.kind) _ tail first.1 in
+    let third = after_location (location_of a.location) _ tail second.1 in
+    let fourth = after_methods (allowed_methods a.status) _ tail third.1 in
+    let fifth = after_directive (directive_of a.mark) _ tail fourth.1 in
+    let sizes = sizes_fixed (is_without_content a.status) h c (length a.body) tail q fifth.1 in
+    (sizes.0, sizes.1, bare_by a first.0 (plain_none a.kind second.0) (location_none a.location third.0) (directive_none a.mark fifth.0) sizes.2)
+  where
+    after_kind : (v : List ℕ) (later : List Field) (tail : List ℕ) → fields_text (unless_empty (codes "Content-Type") v ++ later) tail ≡ fixed_rest → (v ≡ []) × (fields_text later tail ≡ fixed_rest)
+    after_kind v later tail e = let none = no_kind v later tail e in (none, subst (λ x. fields_text (unless_empty (codes "Content-Type") x ++ later) tail ≡ fixed_rest) none e)
+
+    after_location : (v : List ℕ) (later : List Field) (tail : List ℕ) → fields_text (unless_empty (codes "Location") v ++ later) tail ≡ fixed_rest → (v ≡ []) × (fields_text later tail ≡ fixed_rest)
+    after_location v later tail e = let none = no_location v later tail e in (none, subst (λ x. fields_text (unless_empty (codes "Location") x ++ later) tail ≡ fixed_rest) none e)
+
+    after_methods : (v : List ℕ) (later : List Field) (tail : List ℕ) → fields_text (unless_empty (codes "Allow") v ++ later) tail ≡ fixed_rest → (v ≡ []) × (fields_text later tail ≡ fixed_rest)
+    after_methods v later tail e = let none = no_methods v later tail e in (none, subst (λ x. fields_text (unless_empty (codes "Allow") x ++ later) tail ≡ fixed_rest) none e)
+
+    after_directive : (v : List ℕ) (later : List Field) (tail : List ℕ) → fields_text (unless_empty (codes "Cache-Control") v ++ later) tail ≡ fixed_rest → (v ≡ []) × (fields_text later tail ≡ fixed_rest)
+    after_directive v later tail e = let none = no_directive v later tail e in (none, subst (λ x. fields_text (unless_empty (codes "Cache-Control") x ++ later) tail ≡ fixed_rest) none e)
+
+-- ---- and the other way round
+plain_mark : (mark : Mark) → is_plain mark ≡ true → mark ≡ Plain
+plain_mark Plain e = refl
+plain_mark NoCache e = absurd (let no : ⊥ = cc in no)
+plain_mark NoStore e = absurd (let no : ⊥ = cc in no)
+plain_mark MustRevalidate e = absurd (let no : ⊥ = cc in no)
+
+bare_bytes : (status : ℕ) (kind location : List ℕ) (mark : Mark) (body : List ℕ) → status ≡ 507 → kind ≡ [] → location ≡ [] → mark ≡ Plain → body ≡ []
+    → answer_bytes false true (record { status = status; kind = kind; location = location; mark = mark; body = body }) ≡ fixed_507
+unfolding answer_bytes status_line field_line plain_value location_of phrase_of digits
+bare_bytes status kind location mark body s k l m b = rw (s, k, l, m, b) refl
+
+bare_fixed : (a : Answer) → is_bare_507 a ≡ true → answer_bytes false true a ≡ fixed_507
+bare_fixed a e =
+    let one = both_true (a.status == 507) _ e in
+    let two = both_true (length a.kind == 0) _ one.1 in
+    let three = both_true (length a.location == 0) _ two.1 in
+    let four = both_true (is_plain a.mark) _ three.1 in
+    bare_bytes a.status a.kind a.location a.mark a.body (eqb-true a.status 507 one.0) (nil_from_length a.kind (eqb-true _ 0 two.0)) (nil_from_length a.location (eqb-true _ 0 three.0)) (plain_mark a.mark four.0) (nil_from_length a.body (eqb-true _ 0 four.1))
+
+both : (a b : Bool) → a ≡ true → b ≡ true → (a && b) ≡ true
+both a b p q = rw (p, q) refl
+
+not-true : (b : Bool) → not b ≡ true → b ≡ false
+not-true true e = absurd (let no : ⊥ = cc in no)
+not-true false e = refl
+
+-- an answer is the fixed 507 where it is bare, is sent whole and closes its connection
+pub says_fixed : (h c : Bool) (a : Answer) → a.status < 2 ^ 64 → length a.body < 2 ^ 64 → (not h && (c && is_bare_507 a)) ≡ is_fixed (answer_bytes h c a)
+says_fixed h c a p q = by_test (is_fixed (answer_bytes h c a)) refl (not h && (c && is_bare_507 a)) refl
+  where
+    by_test : (t : Bool) → is_fixed (answer_bytes h c a) ≡ t → (u : Bool) → (not h && (c && is_bare_507 a)) ≡ u → u ≡ t
+    by_test true is u at =
+        let told = fixed_is h c a p q (same_text _ _ (sym is)) in
+        sym at ∙ rw (told.0, told.1, told.2) refl
+    by_test false is true at =
+        let one = both_true (not h) _ at in
+        let two = both_true c _ one.1 in
+        let bytes : answer_bytes h c a ≡ fixed_507 = rw (not-true h one.0, two.0) (bare_fixed a two.1) in
+        absurd (false≢true (sym is ∙ is_fixed-fixed _ bytes))
+    by_test false is false at = refl
+
+-- the same where it is known whether the connection closes after a whole answer
+pub closed-fixed : (h c : Bool) (a : Answer) (bare : Bool) → bare ≡ is_bare_507 a → (a.status < 2 ^ 64) × (length a.body < 2 ^ 64) → (h ≡ false) × (c ≡ true) → bare ≡ is_fixed (answer_bytes h c a)
+closed-fixed h c a bare is short whole = is ∙ sym (rw (whole.0, whole.1) refl) ∙ says_fixed h c a short.0 short.1
+
+pub other-fixed : (h c : Bool) (a : Answer) → (a.status < 2 ^ 64) × (length a.body < 2 ^ 64) → (h ≡ true) ⊎ ((h ≡ false) × (c ≡ false)) → false ≡ is_fixed (answer_bytes h c a)
+other-fixed h c a short (inl head) = sym (rw head refl) ∙ says_fixed h c a short.0 short.1
+other-fixed h c a short (inr stays) = sym (rw (stays.0, stays.1) refl) ∙ says_fixed h c a short.0 short.1
+
+-- no answer of an error is
+error_kind : (status : ℕ) → ((error_answer status).status ≡ status) × ((error_answer status).kind ≡ codes "text/plain;charset=utf-8")
+unfolding error_answer
+error_kind status = (refl, refl)
+
+pub own_unfixed : (h c : Bool) (status : ℕ) → status < 2 ^ 64 → false ≡ is_fixed (answer_bytes h c (error_answer status))
+own_unfixed h c status p = by_test (is_fixed (answer_bytes h c (error_answer status))) refl
+  where
+    by_test : (t : Bool) → is_fixed (answer_bytes h c (error_answer status)) ≡ t → false ≡ t
+    by_test true is =
+        let kind = fixed_kind h c (error_answer status) (rw ((error_kind status).0) p) (same_text _ _ (sym is)) in
+        absurd (omega (arith, ap length (sym (error_kind status).1 ∙ kind)))
+    by_test false is = refl

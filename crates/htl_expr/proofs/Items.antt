@@ -1,11 +1,15 @@
 -- The items of a list literal and the names of the properties that they are.
-use Rattle.std.proofs.Common.{◌≡◌, ◌+◌, ℕ, zero, suc, List, [], ◌∷◌, ◌++◌, Option, None, Some, codes, length, get_or, map, sym, ap, subst, ◌∙◌}
+use Rattle.std.proofs.Common.{◌≡◌, ◌+◌, ℕ, zero, suc, List, [], ◌∷◌, ◌++◌, Option, None, Some, codes, length, get_or, map, sym, ap, subst, ◌∙◌, append-nil, arith}
 use mathlib.Core.List.{map-append}
 use Rattle.std.proofs.lemmas.List.{length-append, length-map}
 use Rattle.htl_expr.specs.Bindings.{Bindings}
 use Rattle.htl_expr.specs.declared.out.Out.{Out}
 use Rattle.htl_expr.specs.Print.{plain}
-use Rattle.htl_expr.specs.Lent.{IsPropertyIfNamed, IsPropertyItemIfNamed}
+use Rattle.htl_expr.specs.declared.out.Out.TheVariants as out
+use Rattle.htl_expr.specs.declared.lent.Lent.{Lent}
+use Rattle.htl_expr.specs.declared.lent.Lent.TheVariants.{Items as ItemsOf}
+use Rattle.htl_expr.specs.Lent.{out_of_lent, plain_item, listed_texts, IsPropertyIfNamed, IsPropertyItemIfNamed}
+use Rattle.htl_expr.proofs.Chains.{items_out}
 
 -- one item more, and its name
 pub one_more : {X : Type 0} (Is : X → List ℕ → Type 0) (names : List X) (texts : List (List ℕ)) (none name : X) (text : List ℕ) → length names ≡ length texts → Is none [] → Is name text
@@ -36,3 +40,13 @@ one_item_more {X} {Y} Is text names more_names items more_items none name item e
 pub property_as_item : (scope : Bindings) (name : Option (List ℕ)) (v : Out) → IsPropertyIfNamed scope name v → IsPropertyItemIfNamed scope name (plain (codes ",") v)
 property_as_item scope None v is = tt
 property_as_item scope (Some name) v is = ap (plain (codes ",")) is
+
+-- the text of a list literal with one item is that of the item
+pub only_item : (values : List Lent) → length values ≡ 1 → plain_item (ItemsOf values) ≡ get_or (listed_texts (out_of_lent (ItemsOf values))) 0 []
+only_item values e =
+    ap (plain (codes ",")) (items_out values) ∙ alone (map plain_item values) (length-map values plain_item ∙ e) ∙ ap (λ (o : Out). get_or (listed_texts o) 0 []) (sym (items_out values))
+  where
+    alone : (texts : List (List ℕ)) → length texts ≡ 1 → plain (codes ",") (out.List texts) ≡ get_or texts 0 []
+    alone [] e = absurd cc
+    alone (t ∷ []) e = append-nil t
+    alone (t ∷ u ∷ texts) e = absurd (omega (arith, e))

@@ -18,6 +18,7 @@ pub mod Chains
 pub mod Trees
 pub mod SameItems
 pub mod Items
+pub mod Places
 pub mod Remembered
 pub mod Moves
 pub mod MovesTokens

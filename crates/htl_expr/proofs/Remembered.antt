@@ -1,45 +1,148 @@
 -- What an evaluation remembers stays true when it remembers more.
-use Rattle.std.proofs.Common.{◌≡◌, ℕ, nat_eq, Bool, true, false, cond, List, [], Option, Some, IfSome, refl, sym, ap, subst, ◌∙◌}
-use Rattle.std.proofs.lemmas.Map.Lookups.{CmpEqualImpliesEq, exact_bytes, exact_pairs}
+use Rattle.std.proofs.Common.{◌≡◌, ◌<◌, ◌+◌, ◌==◌, ℕ, nat_eq, Bool, true, false, cond, ◌&&◌, List, [], ◌∷◌, Option, None, Some, IfSome, refl, sym, ap, subst, ◌∙◌, ◌⊎◌, inl, inr, arith}
+use Rattle.std.proofs.lemmas.Bool.Decides.{nat_tests}
+use Rattle.std.proofs.lemmas.Map.Lookups.{exact_bytes}
 use Rattle.std.proofs.lemmas.Map.Views.{tells_apart}
+use Rattle.std.proofs.lemmas.Slice.Eq.{bytes_eq-Decides}
+use Rattle.std.specs.Bool.{Decides}
 use Rattle.std.specs.BTreeMap.{BTreeMap, get, Updates, is_at}
+use Rattle.std.specs.Map.{lookup}
 use Rattle.std.specs.Ordering.{nat_cmp}
-use Rattle.std.specs.Cmp.Lexicographic.{slice_cmp, pointwise}
+use Rattle.std.specs.Cmp.Lexicographic.{slice_cmp, pointwise, pointwise_decides, lists_ties, texts_ties}
+use Rattle.htl_expr.specs.Bindings.{Bindings}
+use Rattle.htl_expr.specs.declared.numbered.Aspect.{Aspect}
 use Rattle.htl_expr.specs.declared.scope.Scope.{Scope}
-use Rattle.htl_expr.specs.Remembered.{by_names, RemembersSame, RemembersSameItem, RemembersJoined}
+use Rattle.htl_expr.specs.Content.{by_texts, number_in, TellsApart, AreNumbered, Keeps}
+use Rattle.htl_expr.specs.Remembered.{content_by, Knows, RemembersJoined}
 use Rattle.htl_expr.specs.Print.{plain}
 use Rattle.sp_base.specs.Names.{by_name}
-use Rattle.htl_expr.specs.Value.{is_same, property}
-use Rattle.htl_expr.specs.Lent.{property_item}
+use Rattle.htl_expr.specs.Value.{property}
 
-exact_names : CmpEqualImpliesEq by_names
-exact_names = exact_pairs (slice_cmp nat_cmp) (slice_cmp nat_cmp) exact_bytes exact_bytes
+abbrev Table : Type 0
+Table = BTreeMap (List (List ℕ)) ℕ
 
--- a table that has for each pair of names what a test says of it
-of_pairs : (test : List ℕ × List ℕ → Bool) (old new : BTreeMap (List ℕ × List ℕ) Bool) (names : List ℕ × List ℕ) (same : Bool) → Updates by_names old new names (Some same)
-    → same ≡ test names → ((q : List ℕ × List ℕ) → IfSome (get by_names old q) (λ b. b ≡ test q)) → (q : List ℕ × List ℕ) → IfSome (get by_names new q) (λ b. b ≡ test q)
-of_pairs test old new names same updates is known q =
-    subst (λ found. IfSome found (λ b. b ≡ test q)) (sym (updates.0 q)) (chosen (is_at (by_names names) q) refl)
+abbrev Numbers : Type 0
+Numbers = List (List (List ℕ) × ℕ)
+
+texts_decide : (x y : List (List ℕ)) → Decides (pointwise (pointwise nat_eq) x y) (x ≡ y)
+texts_decide = pointwise_decides bytes_eq-Decides
+
+-- contents at one place of the order are one
+texts_told : (x y : List (List ℕ)) → is_at (by_texts x) y ≡ true → x ≡ y
+texts_told x y e = (texts_decide x y).0 (lists_ties (slice_cmp nat_cmp) texts_ties x y ∙ e)
+
+some_is : (x y : ℕ) → Some x ≡ Some y → x ≡ y
+some_is x y e = cc
+
+clash : (n : ℕ) (o : Option ℕ) → o ≡ Some n → o ≡ None → ⊥
+clash n o e f = cc
+
+if_some : (P : ℕ → Type 0) (o : Option ℕ) (n : ℕ) → o ≡ Some n → IfSome o P → P n
+if_some P o n e h = subst (λ (p : Option ℕ). IfSome p P) e h
+
+weaker : (P Q : ℕ → Type 0) (o : Option ℕ) → ((n : ℕ) → P n → Q n) → IfSome o P → IfSome o Q
+weaker P Q None f h = tt
+weaker P Q (Some n) f h = f n h
+
+-- a content that is given a number
+pub keeps_more : (old new : Table) (content : List (List ℕ)) (next : ℕ) → Updates by_texts old new content (Some next) → number_in old.entries content ≡ None → Keeps old.entries new.entries
+keeps_more old new content next updates none texts number has = updates.0 texts ∙ chosen (is_at (by_texts content) texts) refl
   where
-    chosen : (t : Bool) → is_at (by_names names) q ≡ t → IfSome (cond t (Some same) (get by_names old q)) (λ b. b ≡ test q)
-    chosen true e = is ∙ ap test (tells_apart exact_names names q e)
-    chosen false e = known q
+    chosen : (t : Bool) → is_at (by_texts content) texts ≡ t → cond t (Some next) (number_in old.entries texts) ≡ Some number
+    chosen true e = absurd (clash number (number_in old.entries texts) has (ap (number_in old.entries) (sym (texts_told content texts e)) ∙ none))
+    chosen false e = has
 
-pub remembers_more : (scope : Scope) (old new : BTreeMap (List ℕ × List ℕ) Bool) (names : List ℕ × List ℕ) (same : Bool) → Updates by_names old new names (Some same)
-    → same ≡ is_same (property scope names.0) (property scope names.1) → RemembersSame scope old → RemembersSame scope new
-remembers_more scope old new names same updates is known = of_pairs (λ p. is_same (property scope p.0) (property scope p.1)) old new names same updates is known
+pub keeps_same : (old new : Table) → new.entries ≡ old.entries → Keeps old.entries new.entries
+keeps_same old new same texts number has = ap (λ (es : List (List (List ℕ) × ℕ)). number_in es texts) same ∙ has
 
-pub remembers_more_items : (scope : Scope) (old new : BTreeMap (List ℕ × List ℕ) Bool) (names : List ℕ × List ℕ) (same : Bool) → Updates by_names old new names (Some same)
-    → same ≡ pointwise nat_eq (property_item scope names.0) (property_item scope names.1) → RemembersSameItem scope old → RemembersSameItem scope new
-remembers_more_items scope old new names same updates is known = of_pairs (λ p. pointwise nat_eq (property_item scope p.0) (property_item scope p.1)) old new names same updates is known
+-- what has a number after a content was given one
+one_of : (old new : Table) (content : List (List ℕ)) (next : ℕ) → Updates by_texts old new content (Some next) → (texts : List (List ℕ)) (number : ℕ) → number_in new.entries texts ≡ Some number
+    → ((content ≡ texts) × (next ≡ number)) ⊎ (number_in old.entries texts ≡ Some number)
+one_of old new content next updates texts number has = chosen (is_at (by_texts content) texts) refl (sym (updates.0 texts) ∙ has)
+  where
+    chosen : (t : Bool) → is_at (by_texts content) texts ≡ t → cond t (Some next) (number_in old.entries texts) ≡ Some number → ((content ≡ texts) × (next ≡ number)) ⊎ (number_in old.entries texts ≡ Some number)
+    chosen true e h = inl (texts_told content texts e, some_is next number h)
+    chosen false e h = inr h
 
-pub what_is_known : (scope : Scope) (known : BTreeMap (List ℕ × List ℕ) Bool) (names : List ℕ × List ℕ) (found : Option Bool) → found ≡ get by_names known names → RemembersSame scope known
-    → IfSome found (λ same. same ≡ is_same (property scope names.0) (property scope names.1))
-what_is_known scope known names found is remembers = subst (λ (o : Option Bool). IfSome o (λ same. same ≡ is_same (property scope names.0) (property scope names.1))) (sym is) (remembers names)
+pub numbered_more : (old new : Table) (content : List (List ℕ)) (next : ℕ) → Updates by_texts old new content (Some next) → AreNumbered old.entries next → AreNumbered new.entries (next + 1)
+numbered_more old new content next updates known = (
+  (λ a b number h k. both a b number (one_of old new content next updates a number h) (one_of old new content next updates b number k)),
+  λ texts. below texts (number_in new.entries texts) refl,
+)
+  where
+    under : (texts : List (List ℕ)) (number : ℕ) → number_in old.entries texts ≡ Some number → number < next
+    under texts number h = if_some (λ n. n < next) (number_in old.entries texts) number h (known.1 texts)
 
-pub what_is_known_of_items : (scope : Scope) (known : BTreeMap (List ℕ × List ℕ) Bool) (names : List ℕ × List ℕ) (found : Option Bool) → found ≡ get by_names known names → RemembersSameItem scope known
-    → IfSome found (λ same. same ≡ pointwise nat_eq (property_item scope names.0) (property_item scope names.1))
-what_is_known_of_items scope known names found is remembers = subst (λ (o : Option Bool). IfSome o (λ same. same ≡ pointwise nat_eq (property_item scope names.0) (property_item scope names.1))) (sym is) (remembers names)
+    both : (a b : List (List ℕ)) (number : ℕ) → ((content ≡ a) × (next ≡ number)) ⊎ (number_in old.entries a ≡ Some number) → ((content ≡ b) × (next ≡ number)) ⊎ (number_in old.entries b ≡ Some number) → a ≡ b
+    both a b number (inl p) (inl q) = sym p.0 ∙ q.0
+    both a b number (inl p) (inr q) = absurd (omega (arith, p.1, under b number q))
+    both a b number (inr p) (inl q) = absurd (omega (arith, q.1, under a number p))
+    both a b number (inr p) (inr q) = known.0 a b number p q
+
+    bound : (texts : List (List ℕ)) (number : ℕ) → ((content ≡ texts) × (next ≡ number)) ⊎ (number_in old.entries texts ≡ Some number) → number < next + 1
+    bound texts number (inl p) = omega (arith, p.1)
+    bound texts number (inr q) = omega (arith, under texts number q)
+
+    below : (texts : List (List ℕ)) (o : Option ℕ) → number_in new.entries texts ≡ o → IfSome o (λ n. n < next + 1)
+    below texts None e = tt
+    below texts (Some n) e = bound texts n (one_of old new content next updates texts n e)
+
+pub numbered_same : (old new : Table) (next : ℕ) → new.entries ≡ old.entries → AreNumbered old.entries next → AreNumbered new.entries next
+numbered_same old new next same known = (
+  (λ a b number h k. known.0 a b number (keeps_same new old (sym same) a number h) (keeps_same new old (sym same) b number k)),
+  λ texts. subst (λ (es : List (List (List ℕ) × ℕ)). IfSome (number_in es texts) (λ n. n < next)) (sym same) (known.1 texts),
+)
+
+-- what is known of a name stays known
+pub known_still : (scope : Bindings) (of_it : Aspect) (old new : Numbers) (known : BTreeMap (List ℕ) ℕ) → Keeps old new → Knows scope of_it old known → Knows scope of_it new known
+known_still scope of_it old new known keeps knows name =
+    weaker (λ n. number_in old (content_by scope of_it name) ≡ Some n) (λ n. number_in new (content_by scope of_it name) ≡ Some n) (get by_name known name) (keeps (content_by scope of_it name)) (knows name)
+
+pub known_more : (scope : Bindings) (of_it : Aspect) (classes : Numbers) (old new : BTreeMap (List ℕ) ℕ) (name : List ℕ) (number : ℕ) → Updates by_name old new name (Some number)
+    → number_in classes (content_by scope of_it name) ≡ Some number → Knows scope of_it classes old → Knows scope of_it classes new
+known_more scope of_it classes old new name number updates is knows q =
+    subst (λ found. IfSome found IsRight) (sym (updates.0 q)) (chosen (is_at (by_name name) q) refl)
+  where
+    IsRight : ℕ → Type 0
+    IsRight n = number_in classes (content_by scope of_it q) ≡ Some n
+
+    chosen : (t : Bool) → is_at (by_name name) q ≡ t → IfSome (cond t (Some number) (get by_name old q)) IsRight
+    chosen true e = ap (λ p. number_in classes (content_by scope of_it p)) (sym (tells_apart exact_bytes name q e)) ∙ is
+    chosen false e = knows q
+
+pub known_same : (scope : Bindings) (of_it : Aspect) (classes : Numbers) (old new : BTreeMap (List ℕ) ℕ) → new.entries ≡ old.entries → Knows scope of_it classes old → Knows scope of_it classes new
+known_same scope of_it classes old new same knows q =
+    subst (λ (es : List (List ℕ × ℕ)). IfSome (lookup (is_at (by_name q)) es) (λ n. number_in classes (content_by scope of_it q) ≡ Some n)) (sym same) (knows q)
+
+pub what_is_known : (scope : Bindings) (of_it : Aspect) (classes : Numbers) (known : BTreeMap (List ℕ) ℕ) (name : List ℕ) (found : Option ℕ) (number : ℕ) → found ≡ get by_name known name → found ≡ Some number
+    → Knows scope of_it classes known → number_in classes (content_by scope of_it name) ≡ Some number
+what_is_known scope of_it classes known name found number is some knows =
+    if_some (λ n. number_in classes (content_by scope of_it name) ≡ Some n) (get by_name known name) number (sym is ∙ some) (knows name)
+
+-- two contents are one where their numbers are
+pub same_numbers : (classes : Numbers) (x y : List (List ℕ)) (n k : ℕ) → TellsApart classes → number_in classes x ≡ Some n → number_in classes y ≡ Some k → (n == k) ≡ pointwise (pointwise nat_eq) x y
+same_numbers classes x y n k apart first second = go (n == k) refl
+  where
+    alike : (n k : ℕ) → (n == k) ≡ true → n ≡ k
+    alike n k e = grind (arith, nat_tests)
+
+    unlike : (n k : ℕ) → (n == k) ≡ false → n ≡ k → ⊥
+    unlike n k e f = grind (arith, nat_tests)
+
+    is_false : (b : Bool) → (b ≡ true → ⊥) → b ≡ false
+    is_false true f = absurd (f refl)
+    is_false false f = refl
+
+    go : (t : Bool) → (n == k) ≡ t → t ≡ pointwise (pointwise nat_eq) x y
+    go true e = sym ((texts_decide x y).1 (apart x y n first (second ∙ ap Some (sym (alike n k e)))))
+    go false e = sym (is_false (pointwise (pointwise nat_eq) x y) (λ same. unlike n k e (some_is n k (sym first ∙ ap (number_in classes) ((texts_decide x y).0 same) ∙ second))))
+
+pub one_text : (x y : List ℕ) → pointwise (pointwise nat_eq) (x ∷ []) (y ∷ []) ≡ pointwise nat_eq x y
+one_text x y = alone (pointwise nat_eq x y)
+  where
+    alone : (b : Bool) → (b && true) ≡ b
+    alone true = refl
+    alone false = refl
 
 pub remembers_more_joined : (scope : Scope) (old new : BTreeMap (List ℕ) (List ℕ)) (name text : List ℕ) → Updates by_name old new name (Some text)
     → text ≡ plain [] (property scope name) → RemembersJoined scope old → RemembersJoined scope new

@@ -1,5 +1,5 @@
 -- Two lists have the same items where they are as long and no two items at one place differ.
-use Rattle.std.proofs.Common.{◌≡◌, ◌≢◌, ◌<◌, ℕ, suc, ℤ, ◌^◌, Bool, true, false, ◌&&◌, List, [], ◌∷◌, length, get_or, map, refl, sym, ap, subst, ◌∙◌, arith}
+use Rattle.std.proofs.Common.{◌≡◌, ◌≢◌, ◌<◌, ℕ, suc, ℤ, ◌^◌, Bool, true, false, ◌&&◌, List, [], ◌∷◌, codes, length, get_or, map, refl, sym, ap, subst, ◌∙◌, arith}
 use Rattle.std.specs.Cmp.Lexicographic.{pointwise}
 use Rattle.std.specs.Ordering.{int_eq}
 use Rattle.std.specs.Prelude.{nat_eq}
@@ -12,7 +12,8 @@ use Rattle.std.proofs.lemmas.List.{get_or-map}
 use Rattle.std.proofs.lemmas.Slice.Eq.{bytes_eq-Decides}
 use Rattle.htl_expr.specs.declared.out.Out.{Out}
 use Rattle.htl_expr.specs.declared.out.Out.TheVariants as out
-use Rattle.htl_expr.specs.Lent.{is_list, listed_texts}
+use Rattle.htl_expr.specs.Print.{plain}
+use Rattle.htl_expr.specs.Lent.{is_list, is_text, listed_texts}
 use Rattle.htl_expr.specs.Value.{is_same}
 
 pub unequal_lengths : {X : Type 0} (same : X → X → Bool) (xs ys : List X) → length xs ≢ length ys → pointwise same xs ys ≡ false
@@ -50,6 +51,17 @@ same_lists (out.Truth a) b e f = absurd cc
 same_lists (out.Long a) b e f = absurd cc
 same_lists (out.Text a) b e f = absurd cc
 
+pub same_texts : (a b : Out) → is_text a ≡ true → is_text b ≡ true → is_same a b ≡ pointwise nat_eq (plain (codes ",") a) (plain (codes ",") b)
+same_texts (out.Text a) (out.Text b) e f = refl
+same_texts (out.Text a) out.Nothing e f = absurd cc
+same_texts (out.Text a) (out.Truth b) e f = absurd cc
+same_texts (out.Text a) (out.Long b) e f = absurd cc
+same_texts (out.Text a) (out.List b) e f = absurd cc
+same_texts out.Nothing b e f = absurd cc
+same_texts (out.Truth a) b e f = absurd cc
+same_texts (out.Long a) b e f = absurd cc
+same_texts (out.List a) b e f = absurd cc
+
 pub same_as_no_list : (a b : Out) → is_list a ≡ true → is_list b ≡ false → is_same a b ≡ false
 same_as_no_list (out.List a) (out.List b) e f = absurd cc
 same_as_no_list (out.List a) out.Nothing e f = refl
@@ -60,25 +72,6 @@ same_as_no_list out.Nothing b e f = absurd cc
 same_as_no_list (out.Truth a) b e f = absurd cc
 same_as_no_list (out.Long a) b e f = absurd cc
 same_as_no_list (out.Text a) b e f = absurd cc
-
--- what is the same as itself
-texts_same : (texts : List (List ℕ)) → pointwise (pointwise nat_eq) texts texts ≡ true
-texts_same [] = refl
-texts_same (t ∷ texts) = rw (bytes_same t) (texts_same texts)
-  where
-    bytes_same : (bytes : List ℕ) → pointwise nat_eq bytes bytes ≡ true
-    bytes_same bytes = (bytes_eq-Decides bytes bytes).1 refl
-
-same_as_itself : (a : Out) → is_same a a ≡ true
-same_as_itself out.Nothing = refl
-same_as_itself (out.Truth true) = refl
-same_as_itself (out.Truth false) = refl
-same_as_itself (out.Long n) = (Decides-int_eq n n).1 refl
-same_as_itself (out.Text text) = (bytes_eq-Decides text text).1 refl
-same_as_itself (out.List texts) = texts_same texts
-
-pub same_where_one : (a b : Out) → a ≡ b → is_same a b ≡ true
-same_where_one a b e = subst (λ (x : Out). is_same a x ≡ true) e (same_as_itself a)
 
 -- whether two texts are the same doesn't hang on their order
 pub same_swapped : (a b : List ℕ) → pointwise nat_eq a b ≡ pointwise nat_eq b a

@@ -39,6 +39,11 @@ abbrev pub is_list : Out → Bool
 is_list (out.List texts) = true
 is_list _ = false
 
+-- whether a value is a text
+abbrev pub is_text : Out → Bool
+is_text (out.Text text) = true
+is_text _ = false
+
 -- a value that is said to be a property is the one of that name
 abbrev pub IsPropertyIfNamed : Bindings → Option (List ℕ) → Out → Type 0
 IsPropertyIfNamed scope None v = Unit {0}

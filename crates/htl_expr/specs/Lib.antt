@@ -1,4 +1,5 @@
 pub mod Bindings
+pub mod Content
 pub mod Fault
 pub mod Grammar
 pub mod Lent

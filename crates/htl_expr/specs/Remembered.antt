@@ -1,26 +1,24 @@
 -- What an evaluation remembers of its resource. Only proofs and private functions need this.
-use Rattle.std.specs.Prelude.{◌≡◌, ℕ, Bool, List, [], IfSome, nat_eq}
-use Rattle.std.specs.declared.cmp.Ordering.{Ordering}
-use Rattle.std.specs.Ordering.{ordering_then, nat_cmp}
-use Rattle.std.specs.Cmp.Lexicographic.{slice_cmp, pointwise}
+use Rattle.std.specs.Prelude.{◌≡◌, ℕ, List, [], ◌∷◌, Some, IfSome}
 use Rattle.std.specs.BTreeMap.{BTreeMap, get}
 use Rattle.sp_base.specs.Names.{by_name}
+use Rattle.htl_expr.specs.Bindings.{Bindings}
+use Rattle.htl_expr.specs.declared.numbered.Aspect.{Aspect}
+use Rattle.htl_expr.specs.declared.numbered.Aspect.TheVariants as aspect
 use Rattle.htl_expr.specs.declared.scope.Scope.{Scope}
+use Rattle.htl_expr.specs.Content.{number_in}
 use Rattle.htl_expr.specs.Print.{plain}
-use Rattle.htl_expr.specs.Value.{is_same, property}
-use Rattle.htl_expr.specs.Lent.{property_item}
+use Rattle.htl_expr.specs.Value.{property}
+use Rattle.htl_expr.specs.Lent.{property_item, listed_texts}
 
--- two pairs of names in the order of their first names, then of their second
-abbrev pub by_names : List ℕ × List ℕ → List ℕ × List ℕ → Ordering
-by_names p q = ordering_then (slice_cmp nat_cmp p.0 q.0) (slice_cmp nat_cmp p.1 q.1)
+-- what of the property of this name is compared
+abbrev pub content_by : Bindings → Aspect → List ℕ → List (List ℕ)
+content_by scope aspect.List name = listed_texts (property scope name)
+content_by scope aspect.Item name = property_item scope name ∷ []
 
--- what is remembered of two properties is whether they are the same
-abbrev pub RemembersSame : Scope → BTreeMap (List ℕ × List ℕ) Bool → Type 0
-RemembersSame scope known = (names : List ℕ × List ℕ) → IfSome (get by_names known names) (λ same. same ≡ is_same (property scope names.0) (property scope names.1))
-
--- what is remembered of two items of list literals is whether they have the same text
-abbrev pub RemembersSameItem : Scope → BTreeMap (List ℕ × List ℕ) Bool → Type 0
-RemembersSameItem scope known = (names : List ℕ × List ℕ) → IfSome (get by_names known names) (λ same. same ≡ pointwise nat_eq (property_item scope names.0) (property_item scope names.1))
+-- what is known of a name is the number of what is compared of its property
+abbrev pub Knows : Bindings → Aspect → List (List (List ℕ) × ℕ) → BTreeMap (List ℕ) ℕ → Type 0
+Knows scope of_it classes known = (name : List ℕ) → IfSome (get by_name known name) (λ number. number_in classes (content_by scope of_it name) ≡ Some number)
 
 -- what is remembered of a property is its text where nothing stands between its items
 abbrev pub RemembersJoined : Scope → BTreeMap (List ℕ) (List ℕ) → Type 0

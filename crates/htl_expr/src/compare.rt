@@ -95,7 +95,7 @@ pub(crate) fn is_same(alloc: Global, a: &Lent, b: &Lent) -> Mem<bool>
         Lent::Nothing => is_nothing(b),
         Lent::Truth(truth) => is_truth(*truth, b),
         Lent::Long(number) => is_long(*number, b),
-        Lent::Text(text) => is_text(text, b),
+        Lent::Text(text) => has_text(text, b),
         _ => false,
     })
 }
@@ -111,6 +111,13 @@ fn is_same_list(alloc: Global, list: &Lent, value: &Lent) -> Mem<bool>
     } else {
         Ok(false)
     }
+}
+
+/// Whether a value is a text.
+pub(crate) fn is_text(value: &Lent) -> bool
+    ensures { result ≡ lent.is_text (out_of_lent value.now) }
+{
+    matches!(value, Lent::Text(_))
 }
 
 fn is_nothing(value: &Lent) -> bool
@@ -137,7 +144,7 @@ fn is_long(number: i64, value: &Lent) -> bool
     }
 }
 
-fn is_text(text: &str, value: &Lent) -> bool
+fn has_text(text: &str, value: &Lent) -> bool
     ensures { result ≡ spec.is_same (out.Text text.now) (out_of_lent value.now) }
 {
     match value {

@@ -3,37 +3,42 @@
 ghost use Rattle.std.specs.Prelude.{◌≡◌, [], IfOk, IfSome, nat_eq};
 ghost use Rattle.std.specs.Cmp.Lexicographic.{pointwise};
 ghost use Rattle.htl_expr.specs.Lent.{property_item};
+ghost use Rattle.htl_expr.specs.Remembered.{content_by};
 ghost use Rattle.htl_expr.specs.Print.{plain};
 ghost use Rattle.htl_expr.specs.Value as spec;
 
-use crate::compare::is_same;
-use crate::same::is_same_item;
+use crate::classes::Classes;
+use crate::compare::{is_same, is_text};
+use crate::numbered::{Aspect, has_same_content};
+use crate::same::is_list;
 use crate::scope::{Scope, property};
 use sp_base::{Mem, TextBuf};
 use std::alloc::Global;
 use std::collections::BTreeMap;
 use std::marker::Model;
 
-/// A resource that expressions are evaluated for one after another. Two of its properties are looked through once, however often
-/// they are compared, and a list whose items are written with nothing between them once, however often it is. Contracts see what the
-/// expressions see of the resource.
+/// A resource that expressions are evaluated for one after another. A property that is compared with others gets a number for its
+/// content, once, so that those with the same content have the same number. A list whose items are written with nothing between them
+/// is looked through once, too. Contracts see what the expressions see of the resource.
 #[derive(Drop)]
 pub struct Evaluation<'a> {
     scope: Scope<'a>,
-    same: BTreeMap<(TextBuf, TextBuf), bool>,
-    same_item: BTreeMap<(TextBuf, TextBuf), bool>,
+    classes: Classes<'a>,
+    lists: BTreeMap<TextBuf, u64>,
+    items: BTreeMap<TextBuf, u64>,
     joined: BTreeMap<TextBuf, TextBuf>,
 }
 
 impl<'a> Model for Evaluation<'a> {
     ghost use Rattle.htl_expr.specs.Bindings.{Bindings};
-    ghost use Rattle.htl_expr.specs.Remembered.{RemembersSame, RemembersSameItem, RemembersJoined};
+    ghost use Rattle.htl_expr.specs.Remembered.{Knows, RemembersJoined};
+    ghost use Rattle.htl_expr.specs.declared.numbered.Aspect.TheVariants as aspect;
 
     ghost Value = { Bindings };
 
     ghost view = { λ e. e.scope };
 
-    ghost invariant = { λ e. RemembersSame e.scope e.same × (RemembersSameItem e.scope e.same_item × RemembersJoined e.scope e.joined) };
+    ghost invariant = { λ e. Knows e.scope aspect.List e.classes e.lists × (Knows e.scope aspect.Item e.classes e.items × RemembersJoined e.scope e.joined) };
 }
 
 impl<'a> Evaluation<'a> {
@@ -48,8 +53,9 @@ impl<'a> Evaluation<'a> {
                 name: scope.name,
                 kind: scope.kind,
             },
-            same: BTreeMap::new(alloc),
-            same_item: BTreeMap::new(alloc),
+            classes: Classes::new(alloc),
+            lists: BTreeMap::new(alloc),
+            items: BTreeMap::new(alloc),
             joined: BTreeMap::new(alloc),
         }
     }
@@ -60,76 +66,40 @@ impl<'a> Evaluation<'a> {
         &self.scope
     }
 
-    // What is remembered of two properties, if they were compared.
-    fn known(&self, names: &(TextBuf, TextBuf)) -> Option<bool>
-        ensures { IfSome result (λ same. same ≡ spec.is_same (spec.property self.now names.now.0) (spec.property self.now names.now.1)) }
-    {
-        self.same.get(names).copied()
-    }
-
-    // Whether two properties are the same, by looking through them.
-    fn found_same(&self, alloc: Global, a: &TextBuf, b: &TextBuf) -> Mem<bool>
-        ensures { IfOk result (λ same. same ≡ spec.is_same (spec.property self.now a.now) (spec.property self.now b.now)) }
-    {
-        is_same(
-            alloc,
-            &property(&self.scope, a.text()),
-            &property(&self.scope, b.text()),
-        )
-    }
-
-    fn remember(&mut self, names: (TextBuf, TextBuf), same: bool) -> Mem<()>
-        requires { same ≡ spec.is_same (spec.property self.old names.0) (spec.property self.old names.1) }
-        ensures { self.new ≡ self.old }
-    {
-        self.same.insert(names, same)?;
-        Ok(())
-    }
-
-    /// Whether two properties have the same kind and the same content.
-    pub(crate) fn has_same(&mut self, alloc: Global, a: &TextBuf, b: &TextBuf) -> Mem<bool>
-        ensures same { IfOk result (λ same. same ≡ spec.is_same (spec.property self.old a.now) (spec.property self.old b.now)) }
+    // Whether two lists have the same items.
+    fn has_same_list(&mut self, alloc: Global, a: &TextBuf, b: &TextBuf) -> Mem<bool>
+        ensures same { IfOk result (λ same. same ≡ pointwise (pointwise nat_eq) (content_by self.old Aspect.List a.now) (content_by self.old Aspect.List b.now)) }
         ensures scope { self.new ≡ self.old }
     {
-        if a == b {
-            return Ok(true);
-        }
-        let names = (a.duplicate(alloc)?, b.duplicate(alloc)?);
-        if let Some(same) = self.known(&names) {
-            return Ok(same);
-        }
-        let same = self.found_same(alloc, a, b)?;
-        self.remember(names, same)?;
-        Ok(same)
-    }
-
-    // What is remembered of two properties as items of list literals, if they were compared.
-    fn known_item(&self, names: &(TextBuf, TextBuf)) -> Option<bool>
-        ensures { IfSome result (λ same. same ≡ pointwise nat_eq (property_item self.now names.now.0) (property_item self.now names.now.1)) }
-    {
-        self.same_item.get(names).copied()
-    }
-
-    // Whether two properties have the same text as items of list literals, by looking through them.
-    fn found_same_item(&self, alloc: Global, a: &TextBuf, b: &TextBuf) -> Mem<bool>
-        ensures { IfOk result (λ same. same ≡ pointwise nat_eq (property_item self.now a.now) (property_item self.now b.now)) }
-    {
-        is_same_item(
+        has_same_content(
             alloc,
-            &property(&self.scope, a.text()),
-            &property(&self.scope, b.text()),
+            &self.scope,
+            Aspect::List,
+            &mut self.classes,
+            &mut self.lists,
+            a,
+            b,
         )
     }
 
-    fn remember_item(&mut self, names: (TextBuf, TextBuf), same: bool) -> Mem<()>
-        requires { same ≡ pointwise nat_eq (property_item self.old names.0) (property_item self.old names.1) }
-        ensures { self.new ≡ self.old }
+    // Whether two properties have the same text as items of list literals, by their numbers.
+    fn has_same_text(&mut self, alloc: Global, a: &TextBuf, b: &TextBuf) -> Mem<bool>
+        ensures same { IfOk result (λ same. same ≡ pointwise (pointwise nat_eq) (content_by self.old Aspect.Item a.now) (content_by self.old Aspect.Item b.now)) }
+        ensures scope { self.new ≡ self.old }
     {
-        self.same_item.insert(names, same)?;
-        Ok(())
+        has_same_content(
+            alloc,
+            &self.scope,
+            Aspect::Item,
+            &mut self.classes,
+            &mut self.items,
+            a,
+            b,
+        )
     }
 
     /// Whether two properties have the same text as items of list literals.
+    #[tactic(auto, using(crate::proofs::Remembered::one_text))]
     pub(crate) fn has_same_item(&mut self, alloc: Global, a: &TextBuf, b: &TextBuf) -> Mem<bool>
         ensures same { IfOk result (λ same. same ≡ pointwise nat_eq (property_item self.old a.now) (property_item self.old b.now)) }
         ensures scope { self.new ≡ self.old }
@@ -137,13 +107,24 @@ impl<'a> Evaluation<'a> {
         if a == b {
             return Ok(true);
         }
-        let names = (a.duplicate(alloc)?, b.duplicate(alloc)?);
-        if let Some(same) = self.known_item(&names) {
-            return Ok(same);
+        self.has_same_text(alloc, a, b)
+    }
+
+    /// Whether two properties have the same kind and the same content.
+    #[tactic(auto, using(crate::proofs::SameItems::same_lists, crate::proofs::SameItems::same_texts))]
+    pub(crate) fn has_same(&mut self, alloc: Global, a: &TextBuf, b: &TextBuf) -> Mem<bool>
+        ensures same { IfOk result (λ same. same ≡ spec.is_same (spec.property self.old a.now) (spec.property self.old b.now)) }
+        ensures scope { self.new ≡ self.old }
+    {
+        let first = property(&self.scope, a.text());
+        let second = property(&self.scope, b.text());
+        if is_list(&first) && is_list(&second) {
+            return self.has_same_list(alloc, a, b);
         }
-        let same = self.found_same_item(alloc, a, b)?;
-        self.remember_item(names, same)?;
-        Ok(same)
+        if is_text(&first) && is_text(&second) {
+            return self.has_same_item(alloc, a, b);
+        }
+        is_same(alloc, &first, &second)
     }
 
     /// The items of a property with nothing between them, if they were put together before.

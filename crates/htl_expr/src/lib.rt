@@ -2,7 +2,9 @@
 #![tactic(auto)]
 
 mod access;
+mod classes;
 mod compare;
+mod content;
 mod empty_join;
 mod escape;
 mod evaluation;
@@ -12,6 +14,7 @@ mod lent;
 mod lists;
 mod literals;
 mod node;
+mod numbered;
 mod numbers;
 mod options;
 mod out;

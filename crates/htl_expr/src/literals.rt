@@ -11,8 +11,11 @@ use sp_base::{Mem, TextBuf};
 use sqlite_items::Items;
 use std::alloc::Global;
 
-// The property that an item is, where one is known.
-fn item_property<'a>(items: &Items<Option<&'a TextBuf>>, place: usize) -> Option<&'a TextBuf>
+/// The property whose text an item has, where one is known.
+pub(crate) fn item_property<'a>(
+    items: &Items<Option<&'a TextBuf>>,
+    place: usize,
+) -> Option<&'a TextBuf>
     ensures { result ≡ get_or items.now place None }
 {
     if place < items.len() {

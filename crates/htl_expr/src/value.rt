@@ -1,14 +1,15 @@
 //! The value of a tree.
 
-ghost use Rattle.std.specs.Prelude.{◌≡◌, IfOk, map, if◌then◌else◌, true};
+ghost use Rattle.std.specs.Prelude.{◌≡◌, IfOk, map, option_map, if◌then◌else◌, true};
 ghost use Rattle.htl_expr.specs.Value as spec;
-ghost use Rattle.htl_expr.specs.Lent.{out_of_lent, IsOperand};
+ghost use Rattle.htl_expr.specs.Lent.{out_of_lent, plain_item, IsOperand, IsPropertyItemIfNamed};
 ghost use Rattle.htl_expr.specs.declared.out.Out.TheVariants as out;
 
 use crate::compare::operands_compare;
 use crate::evaluation::Evaluation;
 use crate::expression::Expr;
 use crate::lent::{Lent, Operand, is_true};
+use crate::literals::item_property;
 use crate::node::{Comparison, ExprNode};
 use crate::out::{Out, owned};
 use crate::scope::{Scope, property, resource};
@@ -96,6 +97,32 @@ fn or_values<'a>(
     Ok(last)
 }
 
+// The property that is alone in a list literal.
+#[tactic(auto, using(crate::proofs::Items::only_item))]
+fn only_property<'a>(scope: &Evaluation<'a>, item: &Operand<'a>) -> Option<&'a TextBuf>
+    requires { IsOperand scope.now item.now }
+    ensures { IsPropertyItemIfNamed scope.now (option_map (λ name. name.now) result) (plain_item item.now.value) }
+{
+    if let Lent::Items(values) = &item.value {
+        if values.len() == 1 {
+            return item_property(&item.items, 0);
+        }
+    }
+    None
+}
+
+// The property whose text an item has, where one is known: itself, or the one that is alone in it.
+#[tactic(auto, using(crate::proofs::Items::property_as_item))]
+fn named_item<'a>(scope: &Evaluation<'a>, item: &Operand<'a>) -> Option<&'a TextBuf>
+    requires { IsOperand scope.now item.now }
+    ensures { IsPropertyItemIfNamed scope.now (option_map (λ name. name.now) result) (plain_item item.now.value) }
+{
+    match item.property {
+        Some(name) => Some(name),
+        None => only_property(scope, item),
+    }
+}
+
 // The value of a list literal.
 #[cycle(value)]
 fn list_value<'a>(
@@ -111,7 +138,7 @@ fn list_value<'a>(
     let mut names = Items::new(alloc);
     for item in items {
         let item = value(alloc, scope, item)?;
-        names.push(item.property)?;
+        names.push(named_item(scope, &item))?;
         values.push(item.value)?;
     }
     Ok(Operand {

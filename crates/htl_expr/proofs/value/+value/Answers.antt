@@ -6,7 +6,7 @@ use Rattle.htl_expr.specs.declared.out.Out.TheVariants as out
 use Rattle.htl_expr.specs.Lent.{out_of_lent, plain_item, listed_texts, IsPropertyItemIfNamed}
 use Rattle.htl_expr.specs.Value.{value, item_texts}
 use Rattle.htl_expr.proofs.Chains.{and_goes_on, or_goes_on, items_out, item_texts_are}
-use Rattle.htl_expr.proofs.Items.{as_many, one_item_more, property_as_item}
+use Rattle.htl_expr.proofs.Items.{as_many, one_item_more}
 use Rattle.htl_expr.proofs.Trees.{truth_out, compare_whole, and_whole, or_whole, choice_then, choice_else, items_go_on}
 use Rattle.htl_expr.proofs.value.+value.Goals as goal
 
@@ -29,13 +29,12 @@ or_values-loop-operand-preserved t c =
 pub list_value-loop-item-preserved : goal.list_value-loop-item-preserved
 list_value-loop-item-preserved t c =
     let known = c.loop-item.invariant in
-    let operand = rw known.0 at c.in_ok-item.ensures.operand in (
+    let named = rw (c.value.ensures.scope ∙ known.0) at c.named_item.ensures in (
       c.value.ensures.scope ∙ known.0,
       items_go_on (value c.args.scope.now) c.args.items.now c.loop-item.item-index c.item-item.result c.loop-item.values _ c.in_ok-item.item.value c.loop-item-test.true c.item-item.is c.in_ok-push-2.ensures.ok (rw known.0 at c.in_ok-item.ensures.value) known.1,
-      as_many c.loop-item.names c.push.new.self c.loop-item.values c.push-in-loop-item.new.self c.in_ok-item.item.property c.in_ok-item.item.value c.in_ok-push.ensures.ok c.in_ok-push-2.ensures.ok known.2,
+      as_many c.loop-item.names c.push.new.self c.loop-item.values c.push-in-loop-item.new.self c.named_item.result c.in_ok-item.item.value c.in_ok-push.ensures.ok c.in_ok-push-2.ensures.ok known.2,
       one_item_more (λ (name : Option (Bor TextBuf)) (text : List ℕ). IsPropertyItemIfNamed c.args.scope.now (option_map (λ (n : Bor TextBuf). n.now) name) text) plain_item
-          c.loop-item.names c.push.new.self c.loop-item.values c.push-in-loop-item.new.self None c.in_ok-item.item.property c.in_ok-item.item.value c.in_ok-push.ensures.ok c.in_ok-push-2.ensures.ok known.2 tt
-          (property_as_item c.args.scope.now (option_map (λ (n : Bor TextBuf). n.now) c.in_ok-item.item.property) (out_of_lent c.in_ok-item.item.value) operand.0) known.3,
+          c.loop-item.names c.push.new.self c.loop-item.values c.push-in-loop-item.new.self None c.named_item.result c.in_ok-item.item.value c.in_ok-push.ensures.ok c.in_ok-push-2.ensures.ok known.2 tt named known.3,
     )
 
 pub list_value-returns-clause-value : goal.list_value-returns-clause-value

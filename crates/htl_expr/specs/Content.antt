@@ -1,0 +1,40 @@
+-- What two properties are told apart by. Only proofs and private functions need this.
+use Rattle.std.specs.Prelude.{◌≡◌, ℕ, ◌<◌, List, [], ◌∷◌, Option, Some, IfSome, map}
+use Rattle.std.specs.Fmt.{signed_decimal}
+use Rattle.std.specs.declared.cmp.Ordering.{Ordering}
+use Rattle.std.specs.Ordering.{nat_cmp}
+use Rattle.std.specs.Cmp.Lexicographic.{slice_cmp}
+use Rattle.std.specs.BTreeMap.{is_at}
+use Rattle.std.specs.Map.{lookup}
+use Rattle.htl_expr.specs.declared.content.Texts.{Texts}
+use Rattle.htl_expr.specs.declared.content.Texts.TheVariants as texts
+use Rattle.htl_expr.specs.Print.{truth_text}
+
+-- a text alone, or the texts of a list
+abbrev pub texts_of : Texts → List (List ℕ)
+texts_of texts.Nothing = []
+texts_of (texts.One text) = text.now ∷ []
+texts_of (texts.Joined text) = text ∷ []
+texts_of (texts.Stored list) = list.now
+texts_of (texts.Longs list) = map signed_decimal list.now
+texts_of (texts.Truths list) = map truth_text list.now
+
+-- lists of texts in the order of their first texts that differ, and else of how many they are
+abbrev pub by_texts : List (List ℕ) → List (List ℕ) → Ordering
+by_texts = slice_cmp (slice_cmp nat_cmp)
+
+-- the number that a content has in a table
+abbrev pub number_in : List (List (List ℕ) × ℕ) → List (List ℕ) → Option ℕ
+number_in numbers texts = lookup (is_at (by_texts texts)) numbers
+
+-- contents that have one number are one
+abbrev pub TellsApart : List (List (List ℕ) × ℕ) → Type 0
+TellsApart numbers = (a b : List (List ℕ)) (number : ℕ) → number_in numbers a ≡ Some number → number_in numbers b ≡ Some number → a ≡ b
+
+-- no two contents have one number, and all numbers are below the next
+abbrev pub AreNumbered : List (List (List ℕ) × ℕ) → ℕ → Type 0
+AreNumbered numbers next = TellsApart numbers × ((texts : List (List ℕ)) → IfSome (number_in numbers texts) (λ number. number < next))
+
+-- what has a number keeps it
+abbrev pub Keeps : List (List (List ℕ) × ℕ) → List (List (List ℕ) × ℕ) → Type 0
+Keeps old new = (texts : List (List ℕ)) (number : ℕ) → number_in old texts ≡ Some number → number_in new texts ≡ Some number

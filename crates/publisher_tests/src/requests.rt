@@ -36,95 +36,166 @@ fn at(alloc: Global, text: &str) -> Result<Path, Failed> {
     }
 }
 
-fn text(alloc: Global, text: &str) -> Result<Value, Failed> {
-    Ok(Value::Text(TextBuf::of(alloc, text)?))
-}
-
-fn ask_of(alloc: Global, host: &str, port: u16, method: &str, path: &str) -> Result<Ask, Failed> {
-    Ok(Ask {
-        method: TextBuf::of(alloc, method)?,
-        host: TextBuf::of(alloc, host)?,
-        port,
-        path: at(alloc, path)?,
+// A question for the root that names no host.
+fn bare_ask(alloc: Global) -> Ask {
+    Ask {
+        method: TextBuf::from(String::new(alloc)),
+        host: TextBuf::from(String::new(alloc)),
+        port: 81,
+        path: Path::root(alloc),
         slash: false,
-        kind: TextBuf::of(alloc, "")?,
-        body: ByteBuf::of(alloc, b"")?,
-    })
+        kind: TextBuf::from(String::new(alloc)),
+        body: ByteBuf::from(Vec::new(alloc)),
+    }
 }
 
-// A form that is posted to a path of a host without mappings.
-fn post_of(alloc: Global, path: &str, form: &str) -> Result<Ask, Failed> {
-    let mut ask = ask_of(alloc, "localhost", 81, "POST", path)?;
+// Asks for a path, without a form.
+fn direct(
+    alloc: Global,
+    ask: &mut Ask,
+    host: &str,
+    port: u16,
+    method: &str,
+    path: &str,
+) -> Result<(), Failed> {
+    ask.host = TextBuf::of(alloc, host)?;
+    ask.port = port;
+    ask.method = TextBuf::of(alloc, method)?;
+    ask.path = at(alloc, path)?;
+    ask.kind = TextBuf::from(String::new(alloc));
+    ask.body = ByteBuf::from(Vec::new(alloc));
+    Ok(())
+}
+
+fn put_form(alloc: Global, ask: &mut Ask, form: &str) -> Result<(), Failed> {
     ask.kind = TextBuf::of(alloc, "application/x-www-form-urlencoded")?;
     ask.body = ByteBuf::of(alloc, form.as_bytes())?;
-    Ok(ask)
+    Ok(())
+}
+
+fn create(alloc: Global, tree: &mut Tree, path: &str) -> Result<(), Failed> {
+    let path = at(alloc, path)?;
+    Ok(tree.create(alloc, &path)?)
+}
+
+const NODES: &[&str] = &[
+    "/en",
+    "/etc",
+    "/etc/map",
+    "/etc/map/http",
+    "/etc/map/http/example.org.80",
+    "/etc/map/http/example.org.8080",
+];
+
+fn create_all(alloc: Global, tree: &mut Tree) -> Result<(), Failed> {
+    for path in NODES {
+        create(alloc, tree, *path)?;
+    }
+    Ok(())
+}
+
+fn map_inside(alloc: Global, tree: &mut Tree) -> Result<(), Failed> {
+    let path = at(alloc, "/etc/map/http/example.org.80")?;
+    let target = Value::Text(TextBuf::of(alloc, "/en")?);
+    Ok(tree.set(alloc, &path, "sling:internalRedirect", target)?)
+}
+
+fn map_away(alloc: Global, tree: &mut Tree) -> Result<(), Failed> {
+    let path = at(alloc, "/etc/map/http/example.org.8080")?;
+    let target = Value::Text(TextBuf::of(alloc, "/a b")?);
+    Ok(tree.set(alloc, &path, "sling:redirect", target)?)
 }
 
 // A page, and mappings of two ports that lead to it and away.
 fn mapped_site(alloc: Global, seeds: RandomState) -> Result<Publisher, Failed> {
     let mut tree = Tree::new(alloc, seeds)?;
-    for path in [
-        "/en",
-        "/etc",
-        "/etc/map",
-        "/etc/map/http",
-        "/etc/map/http/example.org.80",
-        "/etc/map/http/example.org.8080",
-    ] {
-        tree.create(alloc, &at(alloc, path)?)?;
-    }
-    let inside = at(alloc, "/etc/map/http/example.org.80")?;
-    tree.set(
-        alloc,
-        &inside,
-        "sling:internalRedirect",
-        text(alloc, "/en")?,
-    )?;
-    let away = at(alloc, "/etc/map/http/example.org.8080")?;
-    tree.set(alloc, &away, "sling:redirect", text(alloc, "/a b")?)?;
+    create_all(alloc, &mut tree)?;
+    map_inside(alloc, &mut tree)?;
+    map_away(alloc, &mut tree)?;
     Ok(Publisher::new(alloc, seeds, tree))
 }
 
-#[test]
-fn requests_are_mapped_for_their_host_and_port(rt: HostRuntime) -> Result<(), Failed> {
-    let alloc = rt.alloc();
-    let mut site = mapped_site(alloc, RandomState::new(&rt)?)?;
-    for (host, port, method, path, status, location) in [
-        ("example.org", 80u16, "GET", "/en.json", 404u16, ""),
-        ("example.org", 81, "GET", "/en.json", 200, ""),
-        ("localhost", 80, "HEAD", "/en.json", 200, ""),
-        (
-            "Example.ORG",
-            8080,
-            "HEAD",
-            "/en.json",
-            302,
-            "/a%20b/en.json",
-        ),
-        ("example.org", 8080, "PUT", "/en.json", 405, ""),
-    ] {
-        let ask = ask_of(alloc, host, port, method, path)?;
-        let answer = site.answer(alloc, &ask)?;
-        assert!(rt; answer.status == status);
-        assert!(rt; answer.location.text() == location);
+fn is_answered(
+    alloc: Global,
+    site: &mut Publisher,
+    ask: &Ask,
+    status: u16,
+    location: &str,
+) -> Result<bool, Failed> {
+    let answer = site.answer(alloc, ask)?;
+    Ok(answer.status == status && answer.location.text() == location)
+}
+
+// A host, a port, a method and a path, and the status and the location of the answer.
+const REQUESTS: &[(&str, u16, &str, &str, u16, &str)] = &[
+    ("example.org", 80, "GET", "/en.json", 404, ""),
+    ("example.org", 81, "GET", "/en.json", 200, ""),
+    ("localhost", 80, "HEAD", "/en.json", 200, ""),
+    (
+        "Example.ORG",
+        8080,
+        "HEAD",
+        "/en.json",
+        302,
+        "/a%20b/en.json",
+    ),
+    ("example.org", 8080, "PUT", "/en.json", 405, ""),
+];
+
+fn requests_are_mapped(alloc: Global, site: &mut Publisher, ask: &mut Ask) -> Result<bool, Failed> {
+    for (host, port, method, path, status, location) in REQUESTS {
+        direct(alloc, ask, *host, *port, *method, *path)?;
+        if !is_answered(alloc, site, ask, *status, *location)? {
+            return Ok(false);
+        }
     }
-    Ok(())
+    Ok(true)
+}
+
+fn is_shown(alloc: Global, site: &mut Publisher, ask: &Ask, wanted: &str) -> Result<bool, Failed> {
+    let page = site.answer(alloc, ask)?;
+    Ok(page.body.bytes() == wanted.as_bytes())
+}
+
+// A path and a form, the status and the location of the answer, and the page after it.
+const POSTS: &[(&str, &str, u16, &str, &str)] = &[
+    ("/en", "n=12&n@TypeHint=Long", 200, "", "{\"n\":12}"),
+    ("/en", "good=1&n=x&n@TypeHint=Long", 400, "", "{\"n\":12}"),
+    ("/en/new", "", 201, "/en/new", "{\"n\":12}"),
+];
+
+fn posts_change_the_page(
+    alloc: Global,
+    site: &mut Publisher,
+    ask: &mut Ask,
+) -> Result<bool, Failed> {
+    for (path, form, status, location, shown) in POSTS {
+        direct(alloc, ask, "localhost", 81, "POST", *path)?;
+        put_form(alloc, ask, *form)?;
+        if !is_answered(alloc, site, ask, *status, *location)? {
+            return Ok(false);
+        }
+        direct(alloc, ask, "localhost", 81, "GET", "/en.json")?;
+        if !is_shown(alloc, site, ask, *shown)? {
+            return Ok(false);
+        }
+    }
+    Ok(true)
+}
+
+// Requests of hosts and ports, and then POSTs to a host without mappings.
+fn a_site_answers(alloc: Global, seeds: RandomState) -> Result<bool, Failed> {
+    let mut ask = bare_ask(alloc);
+    let mut site = mapped_site(alloc, seeds)?;
+    Ok(
+        requests_are_mapped(alloc, &mut site, &mut ask)?
+            && posts_change_the_page(alloc, &mut site, &mut ask)?,
+    )
 }
 
 #[test]
-fn a_post_changes_what_is_answered(rt: HostRuntime) -> Result<(), Failed> {
-    let alloc = rt.alloc();
-    let mut site = mapped_site(alloc, RandomState::new(&rt)?)?;
-    for (path, form, status, location, shown) in [
-        ("/en", "n=12&n@TypeHint=Long", 200u16, "", "{\"n\":12}"),
-        ("/en", "good=1&n=x&n@TypeHint=Long", 400, "", "{\"n\":12}"),
-        ("/en/new", "", 201, "/en/new", "{\"n\":12}"),
-    ] {
-        let answer = site.answer(alloc, &post_of(alloc, path, form)?)?;
-        assert!(rt; answer.status == status);
-        assert!(rt; answer.location.text() == location);
-        let page = site.answer(alloc, &ask_of(alloc, "localhost", 81, "GET", "/en.json")?)?;
-        assert!(rt; page.body.bytes() == shown.as_bytes());
-    }
+fn requests_are_mapped_and_posts_change_what_is_answered(rt: HostRuntime) -> Result<(), Failed> {
+    let seeds = RandomState::new(&rt)?;
+    assert!(rt; matches!(a_site_answers(rt.alloc(), seeds), Ok(true)));
     Ok(())
 }

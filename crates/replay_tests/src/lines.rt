@@ -1,13 +1,12 @@
 //! Lines of events and of notes, worked out by hand from their tables in `docs/formats/FORMATS.md`.
-use crate::{
-    EventLine, Flight, ScenarioFault, first_act, read_event_line, read_scenario, write_notes,
-    write_scenario,
-};
 use cover_rules::{PageKey, page_key};
 use front::{Note, NoteList};
+use replay_text::{
+    EventLine, Flight, Scenario, ScenarioFault, first_act, read_event_line, read_scenario,
+    write_notes, write_scenario,
+};
 use sp_base::{Answer, ByteBuf, Items, Mark, Mem, NoMemory, Path, TextBuf};
 use std::alloc::{AllocError, Global};
-use std::test::Fail;
 
 fn named(alloc: Global, kind: &str, flight: Flight) -> Result<String, AllocError> {
     match flight {
@@ -50,10 +49,12 @@ fn shown(alloc: Global, line: &EventLine) -> Result<String, AllocError> {
     }
 }
 
-fn read(alloc: Global, line: &str) -> Result<String, NoMemory> {
-    match read_event_line(alloc, line.as_bytes())? {
-        Some(event) => Ok(shown(alloc, &event)?),
-        None => Ok(String::from_str(alloc, "no line")?),
+// Whether a line is shown so; none where it is no line of an event.
+fn is_read(alloc: Global, line: &str, wanted: Option<&str>) -> Result<bool, NoMemory> {
+    match (read_event_line(alloc, line.as_bytes())?, wanted) {
+        (Some(event), Some(wanted)) => Ok(shown(alloc, &event)?.as_str() == wanted),
+        (None, None) => Ok(true),
+        _ => Ok(false),
     }
 }
 
@@ -97,38 +98,72 @@ lose 01
 Lose 1
 end"#;
 
+fn is_line(alloc: Global, row: &str) -> bool {
+    match row.split_once(" => ") {
+        Some((line, wanted)) => matches!(is_read(alloc, line, Some(wanted)), Ok(true)),
+        None => false,
+    }
+}
+
 #[test]
-fn lines_of_events(rt: HostRuntime) -> Result<(), Fail> {
+fn lines_of_events(rt: HostRuntime) {
     for row in LINES.lines() {
-        let (line, want) = row.split_once(" => ").ok_or("a row")?;
-        assert!(rt; read(rt.alloc(), line)?.as_str() == want);
+        assert!(rt; is_line(rt.alloc(), row));
     }
     for line in NO_LINES.lines() {
-        assert!(rt; read(rt.alloc(), line)?.as_str() == "no line");
+        assert!(rt; matches!(is_read(rt.alloc(), line, None), Ok(true)));
+    }
+}
+
+// Tells the first act of some lines, and gives the lines after it.
+fn tell_first<'a>(
+    alloc: Global,
+    told: &mut String,
+    lines: &'a [u8],
+) -> Result<Option<&'a [u8]>, NoMemory> {
+    let Some((act, after)) = first_act(alloc, lines)? else {
+        return Ok(None);
+    };
+    told.push_str(shown(alloc, &act)?.as_str())?;
+    told.push_str("\n")?;
+    Ok(Some(after))
+}
+
+fn tell_all(alloc: Global, told: &mut String, lines: &[u8]) -> Result<(), NoMemory> {
+    let mut left = lines;
+    for _ in 0..20 {
+        match tell_first(alloc, told, left)? {
+            Some(after) => left = after,
+            None => break,
+        }
     }
     Ok(())
 }
 
-// What the acts of a scenario of these lines ask for.
-fn acts(alloc: Global, lines: &str) -> Result<String, NoMemory> {
+fn acts_of(alloc: Global, scenario: &Scenario) -> Result<String, NoMemory> {
+    let mut told = String::new(alloc);
+    tell_all(alloc, &mut told, scenario.acts.bytes())?;
+    Ok(told)
+}
+
+fn scenario_of(alloc: Global, lines: &str) -> Result<Scenario, ScenarioFault> {
     let text = format!(in alloc; "scenario 1\ncontent\n{{}}\n.\n{lines}end\n")?;
-    match read_scenario(alloc, text.as_bytes()) {
-        Ok(scenario) => {
-            let mut told = String::new(alloc);
-            let mut lines = scenario.acts.bytes();
-            for _ in 0..20 {
-                let Some((act, after)) = first_act(alloc, lines)? else {
-                    break;
-                };
-                let act = shown(alloc, &act)?;
-                told.push_str(act.as_str())?;
-                told.push_str("\n")?;
-                lines = after;
-            }
-            Ok(told)
-        }
-        Err(ScenarioFault::Line(n)) => Ok(format!(in alloc; "refused behind {n} newlines")?),
-        Err(ScenarioFault::NoMemory) => Err(NoMemory),
+    read_scenario(alloc, text.as_bytes())
+}
+
+// Whether the acts of a scenario of these lines ask for this.
+fn acts_are(alloc: Global, lines: &str, wanted: &str) -> bool {
+    match scenario_of(alloc, lines) {
+        Ok(scenario) => matches!(acts_of(alloc, &scenario), Ok(told) if told.as_str() == wanted),
+        Err(_) => false,
+    }
+}
+
+// Whether a scenario of these lines is refused behind so many newlines.
+fn are_refused(alloc: Global, lines: &str, newlines: u64) -> bool {
+    match scenario_of(alloc, lines) {
+        Err(ScenarioFault::Line(found)) => found == newlines,
+        _ => false,
     }
 }
 
@@ -162,12 +197,12 @@ close 1
 ";
 
 #[test]
-fn acts_of_scenarios(rt: HostRuntime) -> Result<(), Fail> {
-    assert!(rt; acts(rt.alloc(), SCENARIO)?.as_str() == ACTS);
-    assert!(rt; acts(rt.alloc(), "")?.as_str() == "");
-    assert!(rt; acts(rt.alloc(), FAULTY)?.as_str() == "refused behind 6 newlines");
-    assert!(rt; acts(rt.alloc(), "end\n")?.as_str() == "refused behind 5 newlines");
-    Ok(())
+fn acts_of_scenarios(rt: HostRuntime) {
+    assert!(rt; acts_are(rt.alloc(), SCENARIO, ACTS));
+    assert!(rt; acts_are(rt.alloc(), "", ""));
+    assert!(rt; are_refused(rt.alloc(), FAULTY, 6));
+    assert!(rt; are_refused(rt.alloc(), "end\n", 5));
+    assert!(rt; are_refused(rt.alloc(), "farm\nend\n.\nfarm\n", 7));
 }
 
 const WITH_FARM: &str = "scenario 1
@@ -182,38 +217,56 @@ direct /a.json
 end
 ";
 
-#[test]
-fn scenarios_with_a_farm(rt: HostRuntime) -> Result<(), Fail> {
-    for text in [
-        WITH_FARM,
-        "scenario 1\ncontent\n.\nfarm\n.\nend\n",
-        "scenario 1\ncontent\n.\nend\n",
-    ] {
-        let scenario = read_scenario(rt.alloc(), text.as_bytes())
-            .ok()
-            .ok_or("a scenario")?;
-        let written = write_scenario(rt.alloc(), &scenario)?;
-        assert!(rt; lossy(written.bytes()) == text);
+const SCENARIOS: &[&str] = &[
+    WITH_FARM,
+    "scenario 1\ncontent\n.\nfarm\n.\nend\n",
+    "scenario 1\ncontent\n.\nend\n",
+];
+
+// Whether a text is a scenario that is written as it was read.
+fn is_written_again(alloc: Global, text: &str) -> bool {
+    match read_scenario(alloc, text.as_bytes()) {
+        Ok(scenario) => {
+            matches!(write_scenario(alloc, &scenario), Ok(bytes) if lossy(bytes.bytes()) == text)
+        }
+        Err(_) => false,
     }
-    assert!(rt; acts(rt.alloc(), "farm\nend\n.\nfarm\n")?.as_str() == "refused behind 7 newlines");
+}
+
+#[test]
+fn scenarios_with_a_farm(rt: HostRuntime) {
+    for text in SCENARIOS {
+        assert!(rt; is_written_again(rt.alloc(), *text));
+    }
+}
+
+fn bare_answer(alloc: Global, status: u16, mark: Mark) -> Answer {
+    Answer {
+        status,
+        kind: TextBuf::from(String::new(alloc)),
+        location: TextBuf::from(String::new(alloc)),
+        mark,
+        body: ByteBuf::from(Vec::new(alloc)),
+    }
+}
+
+fn fill_page(alloc: Global, answer: &mut Answer) -> Mem<()> {
+    answer.kind = TextBuf::of(alloc, "text/html;charset=utf-8")?;
+    answer.body = ByteBuf::of(alloc, b"<p>\"a\"</p>\n")?;
     Ok(())
 }
 
-fn answer(
-    alloc: Global,
-    status: u16,
-    kind: &str,
-    location: &str,
-    mark: Mark,
-    body: &str,
-) -> Mem<Answer> {
-    Ok(Answer {
-        status,
-        kind: TextBuf::of(alloc, kind)?,
-        location: TextBuf::of(alloc, location)?,
-        mark,
-        body: ByteBuf::of(alloc, body.as_bytes())?,
-    })
+fn page(alloc: Global) -> Mem<Answer> {
+    let mut answer = bare_answer(alloc, 200, Mark::Plain);
+    fill_page(alloc, &mut answer)?;
+    Ok(answer)
+}
+
+fn redirect(alloc: Global) -> Mem<Answer> {
+    let location = TextBuf::of(alloc, "/a\\b")?;
+    let mut answer = bare_answer(alloc, 302, Mark::NoStore);
+    answer.location = location;
+    Ok(answer)
 }
 
 fn key(alloc: Global, path: &str) -> Mem<Option<PageKey>> {
@@ -223,55 +276,57 @@ fn key(alloc: Global, path: &str) -> Mem<Option<PageKey>> {
     }
 }
 
-fn notes(alloc: Global) -> Mem<NoteList> {
-    let mut notes = Items::new(alloc);
-    let page = answer(
-        alloc,
-        200,
-        "text/html;charset=utf-8",
-        "",
-        Mark::Plain,
-        "<p>\"a\"</p>\n",
-    )?;
-    notes.push(Note::Answer(page))?;
+// The notes that hold texts.
+fn push_texts(alloc: Global, notes: &mut NoteList) -> Mem<()> {
+    notes.push(Note::Answer(page(alloc)?))?;
     let folder = key(alloc, "/content/site/en.html")?;
     notes.push(Note::Ask(18_446_744_073_709_551_615, 4_294_967_295, folder))?;
+    notes.push(Note::Rendered(2, redirect(alloc)?))?;
+    let sent = ByteBuf::of(alloc, b"HTTP/1.1 204 No Content\r\n\r\n\"\x00\xff")?;
+    notes.push(Note::Sent(3, sent))
+}
+
+fn push_others(notes: &mut NoteList) -> Mem<()> {
     notes.push(Note::Ask(2, 0, None))?;
     notes.push(Note::Local(3, 405))?;
-    let redirect = answer(alloc, 302, "", "/a\\b", Mark::NoStore, "")?;
-    notes.push(Note::Rendered(2, redirect))?;
     notes.push(Note::Passed(2))?;
     notes.push(Note::Lost(4))?;
-    let sent = ByteBuf::of(alloc, b"HTTP/1.1 204 No Content\r\n\r\n\"\x00\xff")?;
-    notes.push(Note::Sent(3, sent))?;
     notes.push(Note::Shut(3))?;
     notes.push(Note::Refused(5))?;
     notes.push(Note::Idle)?;
-    notes.push(Note::Dry)?;
-    Ok(notes)
+    notes.push(Note::Dry)
 }
 
 const NOTES: &str = r#"@ 12
 answer 200 "text/html;charset=utf-8" - - "<p>\"a\"</p>\n"
 ask 18446744073709551615 4294967295 "/content/site/en.html"
+rendered 2 302 - "/a\\b" no-store ""
+sent 3 "HTTP/1.1 204 No Content\r\n\r\n\"\x00\xff"
 ask 2 0 -
 local 3 405
-rendered 2 302 - "/a\\b" no-store ""
 passed 2
 lost 4
-sent 3 "HTTP/1.1 204 No Content\r\n\r\n\"\x00\xff"
 shut 3
 refused 5
 none
 dry
 "#;
 
+fn notes_are_written(alloc: Global) -> Mem<bool> {
+    let mut notes = Items::new(alloc);
+    push_texts(alloc, &mut notes)?;
+    push_others(&mut notes)?;
+    let text = write_notes(alloc, 12, notes.as_slice())?;
+    Ok(lossy(&text) == NOTES)
+}
+
+fn no_notes_are_written(alloc: Global) -> Mem<bool> {
+    let text = write_notes(alloc, 1, &[])?;
+    Ok(lossy(&text) == "@ 1\n")
+}
+
 #[test]
-fn lines_of_notes(rt: HostRuntime) -> Result<(), Fail> {
-    let notes = notes(rt.alloc())?;
-    let text = write_notes(rt.alloc(), 12, notes.as_slice())?;
-    assert!(rt; lossy(&text) == NOTES);
-    let none = write_notes(rt.alloc(), 1, &[])?;
-    assert!(rt; lossy(&none) == "@ 1\n");
-    Ok(())
+fn lines_of_notes(rt: HostRuntime) {
+    assert!(rt; matches!(notes_are_written(rt.alloc()), Ok(true)));
+    assert!(rt; matches!(no_notes_are_written(rt.alloc()), Ok(true)));
 }

@@ -11,8 +11,6 @@ mod quoted;
 mod reader;
 mod scenario;
 mod targets;
-#[cfg(test)]
-mod tests;
 mod transcript;
 mod writer;
 

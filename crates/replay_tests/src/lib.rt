@@ -1,0 +1,5 @@
+//! Tests of calls of `replay_text`, which are proved apart from it.
+#![tactic(auto)]
+
+#[cfg(test)]
+mod lines;

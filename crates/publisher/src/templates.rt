@@ -28,7 +28,7 @@ pub(crate) struct Templates {
 
 impl Model for Templates {
     ghost use Rattle.std.specs.Coded.{codes};
-    ghost use Rattle.htl_expr.specs.contracts.node.Node as node;
+    ghost use Rattle.htl_expr.specs.contracts.node.ExprNode as node;
     ghost use Rattle.publisher.specs.Kept.{Kept};
 
     ghost Value = { Kept };

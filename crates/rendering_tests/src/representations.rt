@@ -13,51 +13,71 @@ fn at(alloc: Global, text: &str) -> Result<Path, Failed> {
     }
 }
 
-fn seen<'a>(alloc: Global, tree: &'a Tree, path: &str) -> Result<Res<'a>, Failed> {
-    match tree.res(alloc, &at(alloc, path)?)? {
-        Some(res) => Ok(res),
-        None => Err(Failed),
+// Whether an answer is this text, or refused as too long where there is none.
+fn is_told(answer: &JsonAnswer, wanted: Option<&str>) -> bool {
+    match (answer, wanted) {
+        (JsonAnswer::Whole(text), Some(wanted)) => text.text() == wanted,
+        (JsonAnswer::TooLong, None) => true,
+        _ => false,
     }
 }
 
-// The text of an answer, or the depth to ask for instead.
-fn told(alloc: Global, answer: JsonAnswer) -> Result<String, Failed> {
-    match answer {
-        JsonAnswer::Whole(text) => Ok(String::from_str(alloc, text.text())?),
-        JsonAnswer::Over(depth) => Ok(format!(in alloc; "over {depth}")?),
-        JsonAnswer::TooLong => Ok(String::from_str(alloc, "too long")?),
-    }
+fn set_truths(alloc: Global, tree: &mut Tree, path: &Path) -> Result<(), Failed> {
+    let mut truths = TruthList::new(alloc);
+    truths.push(true)?;
+    Ok(tree.set(alloc, path, "t", Value::Truths(truths))?)
+}
+
+fn set_text(alloc: Global, tree: &mut Tree, path: &Path) -> Result<(), Failed> {
+    let text = Value::Text(TextBuf::of(alloc, "y")?);
+    Ok(tree.set(alloc, path, "x", text)?)
 }
 
 // A node with properties, and one with a property below it.
-fn small_tree(alloc: Global, seeds: RandomState) -> Result<Tree, Failed> {
-    let mut tree = Tree::new(alloc, seeds)?;
+fn grow(alloc: Global, tree: &mut Tree) -> Result<(), Failed> {
     let a = at(alloc, "/a")?;
     let k = at(alloc, "/a/k")?;
     tree.create(alloc, &a)?;
     tree.create(alloc, &k)?;
-    let mut truths = TruthList::new(alloc);
-    truths.push(true)?;
-    tree.set(alloc, &a, "t", Value::Truths(truths))?;
+    set_truths(alloc, tree, &a)?;
     tree.set(alloc, &a, "n", Value::Long(3))?;
-    tree.set(alloc, &k, "x", Value::Text(TextBuf::of(alloc, "y")?))?;
+    set_text(alloc, tree, &k)
+}
+
+fn small_tree(alloc: Global, seeds: RandomState) -> Result<Tree, Failed> {
+    let mut tree = Tree::new(alloc, seeds)?;
+    grow(alloc, &mut tree)?;
     Ok(tree)
+}
+
+const WHOLE: &str = "{\"n\":3,\"t\":[true],\"k\":{\"x\":\"y\"}}";
+
+fn stops_at(alloc: Global, tree: &Tree, res: &Res<'_>, most_bytes: usize) -> Result<bool, Failed> {
+    let answer = json_of(alloc, tree, res, Depth::Infinity, most_bytes)?;
+    let wanted = if most_bytes < WHOLE.len() {
+        None
+    } else {
+        Some(WHOLE)
+    };
+    Ok(is_told(&answer, wanted))
+}
+
+fn stops_at_each_limit(alloc: Global, tree: &Tree) -> Result<bool, Failed> {
+    let path = at(alloc, "/a")?;
+    let Some(res) = tree.res(alloc, &path)? else {
+        return Ok(false);
+    };
+    for most_bytes in 0..WHOLE.len() + 2 {
+        if !stops_at(alloc, tree, &res, most_bytes)? {
+            return Ok(false);
+        }
+    }
+    Ok(true)
 }
 
 #[test]
 fn a_text_stops_at_the_limit(rt: HostRuntime) -> Result<(), Failed> {
-    let alloc = rt.alloc();
-    let tree = small_tree(alloc, RandomState::new(&rt)?)?;
-    let res = seen(alloc, &tree, "/a")?;
-    let whole = "{\"n\":3,\"t\":[true],\"k\":{\"x\":\"y\"}}";
-    for most_bytes in 0..whole.len() + 2 {
-        let answer = json_of(alloc, &tree, &res, Depth::Infinity, most_bytes)?;
-        let want = if most_bytes < whole.len() {
-            "too long"
-        } else {
-            whole
-        };
-        assert!(rt; told(alloc, answer)?.as_str() == want);
-    }
+    let tree = small_tree(rt.alloc(), RandomState::new(&rt)?)?;
+    assert!(rt; matches!(stops_at_each_limit(rt.alloc(), &tree), Ok(true)));
     Ok(())
 }

@@ -14,30 +14,41 @@ fn scope(props: &PropList) -> Scope<'_> {
     }
 }
 
-// A text so many times.
-fn repeated(alloc: Global, piece: &str, times: usize) -> Result<String, Failed> {
-    let mut text = String::new(alloc);
-    for _turn in 0..times {
-        text.push_str(piece)?;
-    }
+// A text whose page has 4,194,304 bytes: pieces that stand for themselves, and an expression.
+fn longest_text(alloc: Global) -> Result<String, Failed> {
+    let mut piece = "a".repeat(alloc, 2_046)?;
+    piece.push_str("$")?;
+    let mut text = piece.as_str().repeat(alloc, 2_049)?;
+    text.push_str("${1}")?;
     Ok(text)
 }
 
-#[test]
-fn longest_text_is_rendered(rt: HostRuntime) -> Result<(), Failed> {
-    let alloc = rt.alloc();
-    let props = PropList::new(alloc);
-    let scope = scope(&props);
-    let mut piece = repeated(alloc, "a", 2_046)?;
-    piece.push_str("$")?;
-    let mut text = repeated(alloc, piece.as_str(), 2_049)?;
-    text.push_str("${1}")?;
-    let template = Template::read(alloc, text.as_str())?;
-    assert!(rt; template.render(alloc, &scope)?.text().len() == 4_194_304);
+fn length_of(alloc: Global, scope: &Scope<'_>, text: &str) -> Result<usize, Failed> {
+    let template = Template::read(alloc, text)?;
+    Ok(template.render(alloc, scope)?.text().len())
+}
+
+fn is_too_long(alloc: Global, scope: &Scope<'_>, text: &str) -> Result<bool, Failed> {
+    let template = Template::read(alloc, text)?;
+    Ok(matches!(template.render(alloc, scope), Err(RenderFault::TooLong)))
+}
+
+fn a_byte_more_is_too_long(alloc: Global, scope: &Scope<'_>) -> Result<bool, Failed> {
+    let mut text = longest_text(alloc)?;
+    let is_whole = length_of(alloc, scope, text.as_str())? == 4_194_304;
     text.push_str("${2}")?;
-    let template = Template::read(alloc, text.as_str())?;
-    assert!(rt; matches!(template.render(alloc, &scope), Err(RenderFault::TooLong)));
-    Ok(())
+    Ok(is_whole && is_too_long(alloc, scope, text.as_str())?)
+}
+
+#[test]
+fn longest_text_is_rendered(rt: HostRuntime) {
+    let props = PropList::new(rt.alloc());
+    assert!(rt;
+        matches!(
+            a_byte_more_is_too_long(rt.alloc(), &scope(&props)),
+            Ok(true)
+        )
+    );
 }
 
 fn unclosed(alloc: Global, text: &str) -> Option<usize> {
@@ -54,13 +65,16 @@ fn bad_expression(alloc: Global, text: &str) -> Option<usize> {
     }
 }
 
+const UNCLOSED: &[(&str, usize)] = &[("a${", 1), ("é${", 2), ("$$ \\${}${1}${", 11)];
+
+const BAD_EXPRESSIONS: &[(&str, usize)] = &[("a${1+}${", 1), ("${1}$${x y}", 5)];
+
 #[test]
 fn first_faults_are_found(rt: HostRuntime) {
-    let alloc = rt.alloc();
-    for (text, place) in [("a${", 1), ("é${", 2), ("$$ \\${}${1}${", 11)] {
-        assert!(rt; unclosed(alloc, text) == Some(place));
+    for (text, place) in UNCLOSED {
+        assert!(rt; unclosed(rt.alloc(), *text) == Some(*place));
     }
-    for (text, place) in [("a${1+}${", 1), ("${1}$${x y}", 5)] {
-        assert!(rt; bad_expression(alloc, text) == Some(place));
+    for (text, place) in BAD_EXPRESSIONS {
+        assert!(rt; bad_expression(rt.alloc(), *text) == Some(*place));
     }
 }

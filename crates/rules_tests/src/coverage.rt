@@ -1,133 +1,246 @@
 //! Worked rows, through the public calls.
-use cover_rules::{Action, Invalidation, covers, page_key, touched};
-use sp_base::{Path, PathFault};
-use std::alloc::Global;
-use std::test::Fail;
+use cover_rules::{Action, Invalidation, PageKey, covers, page_key, touched};
+use sp_base::{NoMemory, Path, PathFault, PathList};
+use std::alloc::{AllocError, Global};
 
-// The folder and the file of a path's key, with a bar between them; `-` where the path has no key.
-fn key_text(alloc: Global, text: &str) -> Result<String, PathFault> {
-    let Some(key) = page_key(alloc, &Path::read(alloc, text)?)? else {
-        return Ok(String::from_str(alloc, "-")?);
-    };
-    let mut all = String::from_str(alloc, key.folder.as_text())?;
-    all.push_str("|")?;
-    all.push_str(key.file.text())?;
-    Ok(all)
+// The folder and the file of a key, with a bar between them.
+fn shown(alloc: Global, key: &PageKey) -> Result<String, AllocError> {
+    let folder = key.folder.as_text();
+    let file = key.file.text();
+    format!(in alloc; "{folder}|{file}")
 }
 
-#[test]
-fn finds_keys(rt: HostRuntime) -> Result<(), Fail> {
-    let alloc = rt.alloc();
-    let table = [
-        ("/content/en.html", "/content|en.html"),
-        ("/en.a4.html", "/|en.a4.html"),
-        ("/a/jcr:content/x.json", "/a/_jcr_content|x.json"),
-        (
-            "/a/_jcr_content/sling:x.json",
-            "/a/_jcr_content|_sling_x.json",
-        ),
-        ("/", "-"),
-        ("/content/en", "-"),
-        ("/content/.html", "-"),
-        ("/content/en.", "-"),
-        ("/a.b/en.html", "-"),
-    ];
-    for (text, key) in table {
-        assert!(rt; key_text(alloc, text)?.as_str() == key);
+// Whether this is the key of a path; `-` where the path has none.
+fn has_key(alloc: Global, text: &str, wanted: &str) -> Result<bool, PathFault> {
+    let path = Path::read(alloc, text)?;
+    match page_key(alloc, &path)? {
+        Some(key) => Ok(shown(alloc, &key)?.as_str() == wanted),
+        None => Ok(wanted == "-"),
     }
-    Ok(())
+}
+
+const KEYS: &[(&str, &str)] = &[
+    ("/content/en.html", "/content|en.html"),
+    ("/en.a4.html", "/|en.a4.html"),
+    ("/a/jcr:content/x.json", "/a/_jcr_content|x.json"),
+    (
+        "/a/_jcr_content/sling:x.json",
+        "/a/_jcr_content|_sling_x.json",
+    ),
+    ("/", "-"),
+    ("/content/en", "-"),
+    ("/content/.html", "-"),
+    ("/content/en.", "-"),
+    ("/a.b/en.html", "-"),
+];
+
+#[test]
+fn finds_keys(rt: HostRuntime) {
+    for (text, key) in KEYS {
+        assert!(rt; matches!(has_key(rt.alloc(), *text, *key), Ok(true)));
+    }
+}
+
+fn invalidation(
+    alloc: Global,
+    action: Action,
+    only: bool,
+    handle: &str,
+) -> Result<Invalidation, PathFault> {
+    let handle = Path::read(alloc, handle)?;
+    Ok(Invalidation {
+        action,
+        handle,
+        only,
+    })
 }
 
 // Whether an invalidation covers the page of a path.
-fn is_covered(
+fn is_covered(alloc: Global, inv: &Invalidation, page: &str) -> Result<bool, PathFault> {
+    let page = Path::read(alloc, page)?;
+    match page_key(alloc, &page)? {
+        Some(key) => Ok(covers(2, true, inv, &key)),
+        None => Ok(false),
+    }
+}
+
+fn covers_as_wanted(
     alloc: Global,
     action: Action,
     only: bool,
     handle: &str,
     page: &str,
+    wanted: bool,
 ) -> Result<bool, PathFault> {
-    let inv = Invalidation {
-        action,
-        handle: Path::read(alloc, handle)?,
-        only,
-    };
-    match page_key(alloc, &Path::read(alloc, page)?)? {
-        Some(key) => Ok(covers(2, true, &inv, &key)),
-        None => Ok(false),
-    }
+    let inv = invalidation(alloc, action, only, handle)?;
+    Ok(is_covered(alloc, &inv, page)? == wanted)
 }
+
+// What was done, whether to the node alone, its path, a page, and whether it is covered.
+const COVERED: &[(Action, bool, &str, &str, bool)] = &[
+    (
+        Action::Activate,
+        false,
+        "/content/site/en/p",
+        "/content/site/fr/x.html",
+        true,
+    ),
+    (
+        Action::Activate,
+        true,
+        "/content/site/en/p",
+        "/content/site/fr/x.html",
+        false,
+    ),
+    (
+        Action::Activate,
+        false,
+        "/content/site/en/p",
+        "/content/z.html",
+        true,
+    ),
+    (
+        Action::Activate,
+        true,
+        "/content/site/en/p",
+        "/content/z.html",
+        false,
+    ),
+    (
+        Action::Activate,
+        false,
+        "/content/site/en/p",
+        "/content/other/y.html",
+        false,
+    ),
+    (
+        Action::Activate,
+        true,
+        "/content/site/en/p",
+        "/content/other/y.html",
+        false,
+    ),
+    (
+        Action::Activate,
+        false,
+        "/content/site/en/p",
+        "/content/site/en/p.a4.html",
+        true,
+    ),
+    (
+        Action::Activate,
+        true,
+        "/content/site/en/p",
+        "/content/site/en/p.a4.html",
+        true,
+    ),
+    (Action::Activate, true, "/a/en", "/a/en.html", true),
+    (Action::Delete, true, "/a/en", "/a/en.html", true),
+    (Action::Activate, true, "/a/en", "/a/enx.html", false),
+    (Action::Delete, true, "/a/en", "/a/enx.html", false),
+    (
+        Action::Activate,
+        true,
+        "/a/en",
+        "/a/en/_jcr_content/p.html",
+        true,
+    ),
+    (
+        Action::Delete,
+        true,
+        "/a/en",
+        "/a/en/_jcr_content/p.html",
+        true,
+    ),
+    (
+        Action::Activate,
+        true,
+        "/a/en",
+        "/a/en/jcr:content/p/q.html",
+        true,
+    ),
+    (
+        Action::Delete,
+        true,
+        "/a/en",
+        "/a/en/jcr:content/p/q.html",
+        true,
+    ),
+    (
+        Action::Activate,
+        true,
+        "/a/en",
+        "/a/en/_jcr_contents/p.html",
+        false,
+    ),
+    (
+        Action::Delete,
+        true,
+        "/a/en",
+        "/a/en/_jcr_contents/p.html",
+        true,
+    ),
+    (Action::Activate, true, "/a/en", "/a/en/b/c.html", false),
+    (Action::Delete, true, "/a/en", "/a/en/b/c.html", true),
+    (Action::Activate, true, "/a/en", "/a/b.html", false),
+    (Action::Delete, true, "/a/en", "/a/b.html", false),
+    (Action::Activate, true, "/logo.txt", "/logo.txt", true),
+    (Action::Activate, true, "/", "/a.html", false),
+];
 
 #[test]
-fn covers_by_touch(rt: HostRuntime) -> Result<(), Fail> {
-    let alloc = rt.alloc();
-    let handle = "/content/site/en/p";
-    let table = [
-        ("/content/site/fr/x.html", true, false),
-        ("/content/z.html", true, false),
-        ("/content/other/y.html", false, false),
-        ("/content/site/en/p.a4.html", true, true),
-    ];
-    for (page, all, only) in table {
-        assert!(rt; is_covered(alloc, Action::Activate, false, handle, page)? == all);
-        assert!(rt; is_covered(alloc, Action::Activate, true, handle, page)? == only);
+fn covers_by_touch_and_by_name(rt: HostRuntime) {
+    for (action, only, handle, page, wanted) in COVERED {
+        let told = covers_as_wanted(rt.alloc(), *action, *only, *handle, *page, *wanted);
+        assert!(rt; matches!(told, Ok(true)));
     }
-    Ok(())
 }
 
-#[test]
-fn covers_by_name(rt: HostRuntime) -> Result<(), Fail> {
-    let alloc = rt.alloc();
-    let handle = "/a/en";
-    let table = [
-        ("/a/en.html", true, true),
-        ("/a/enx.html", false, false),
-        ("/a/en/_jcr_content/p.html", true, true),
-        ("/a/en/jcr:content/p/q.html", true, true),
-        ("/a/en/_jcr_contents/p.html", false, true),
-        ("/a/en/b/c.html", false, true),
-        ("/a/b.html", false, false),
-    ];
-    for (page, activate, delete) in table {
-        assert!(rt; is_covered(alloc, Action::Activate, true, handle, page)? == activate);
-        assert!(rt; is_covered(alloc, Action::Delete, true, handle, page)? == delete);
-    }
-    assert!(rt; is_covered(alloc, Action::Activate, true, "/logo.txt", "/logo.txt")?);
-    assert!(rt; !is_covered(alloc, Action::Activate, true, "/", "/a.html")?);
-    Ok(())
-}
-
-// The folders that an invalidation touches, a space after each.
-fn touched_text(alloc: Global, level: usize, handle: &str) -> Result<String, PathFault> {
-    let inv = Invalidation {
-        action: Action::Activate,
-        handle: Path::read(alloc, handle)?,
-        only: false,
-    };
-    let mut all = String::new(alloc);
-    for folder in touched(alloc, level, &inv)?.as_slice() {
+fn push_folders(all: &mut String, folders: &PathList) -> Result<(), AllocError> {
+    for folder in folders.as_slice() {
         all.push_str(folder.as_text())?;
         all.push_str(" ")?;
     }
-    Ok(all)
+    Ok(())
 }
 
+// Whether these folders, a space after each, are this text.
+fn are_listed(alloc: Global, folders: &PathList, wanted: &str) -> Result<bool, NoMemory> {
+    let mut all = String::new(alloc);
+    push_folders(&mut all, folders)?;
+    Ok(all.as_str() == wanted)
+}
+
+fn touches(
+    alloc: Global,
+    level: usize,
+    inv: &Invalidation,
+    wanted: &str,
+) -> Result<bool, NoMemory> {
+    let folders = touched(alloc, level, inv)?;
+    are_listed(alloc, &folders, wanted)
+}
+
+fn touches_of(alloc: Global, level: usize, handle: &str, wanted: &str) -> Result<bool, PathFault> {
+    let inv = invalidation(alloc, Action::Activate, false, handle)?;
+    Ok(touches(alloc, level, &inv, wanted)?)
+}
+
+// A folder whose name is longer in a file's name than that may be stands before `/b/c`.
+const LONG: &str = "/a/                                                                   /b/c";
+
+// The level, the handle, and the folders that are touched.
+const TOUCHED: &[(usize, &str, &str)] = &[
+    (2, "/content/site/en/p", "/ /content /content/site "),
+    (2, "/content/en", "/ /content "),
+    (2, "/jcr:a/b", "/ /_jcr_a "),
+    (2, "/", "/ "),
+    (9, LONG, "/ /a "),
+];
+
 #[test]
-fn touches_folders(rt: HostRuntime) -> Result<(), Fail> {
-    let alloc = rt.alloc();
-    let table = [
-        ("/content/site/en/p", "/ /content /content/site "),
-        ("/content/en", "/ /content "),
-        ("/jcr:a/b", "/ /_jcr_a "),
-        ("/", "/ "),
-    ];
-    for (handle, folders) in table {
-        assert!(rt; touched_text(alloc, 2, handle)?.as_str() == folders);
+fn touches_folders(rt: HostRuntime) {
+    for (level, handle, folders) in TOUCHED {
+        assert!(rt; matches!(touches_of(rt.alloc(), *level, *handle, *folders), Ok(true)));
     }
-    let mut long = String::from_str(alloc, "/a/")?;
-    for _ in 0..67u8 {
-        long.push_str(" ")?;
-    }
-    long.push_str("/b/c")?;
-    assert!(rt; touched_text(alloc, 9, long.as_str())?.as_str() == "/ /a ");
-    Ok(())
 }

@@ -2,7 +2,6 @@
 use any_config::{Farm, FarmFault, farm_of, read_any};
 use glob_rules::allows;
 use std::alloc::Global;
-use std::test::Fail;
 
 const EXAMPLE: &str = r#"
 # The farm of a site: what is served, what is kept, and who may invalidate it.
@@ -51,25 +50,33 @@ fn example(alloc: Global) -> Result<Farm, FarmFault> {
     }
 }
 
+fn is_as_written(farm: &Farm) -> bool {
+    farm.hosts.len() == 2
+        && farm.ask_host.text() == "www.example.com"
+        && farm.ask_port == 80
+        && farm.filter.len() == 4
+        && farm.level == 3
+        && !farm.authorized
+}
+
+fn decides_as_written(farm: &Farm) -> bool {
+    allows(&farm.rules, "/content/a.html")
+        && !allows(&farm.rules, "/content/a.json")
+        && allows(&farm.auto, "/content/a.html")
+        && !allows(&farm.auto, "/content/a.json")
+        && allows(&farm.clients, "127.0.0.1")
+        && !allows(&farm.clients, "10.0.0.1")
+        && allows(&farm.ignored, "utm_source")
+        && !allows(&farm.ignored, "utm_2")
+}
+
 #[test]
-fn a_farm_is_read_whole(rt: HostRuntime) -> Result<(), Fail> {
-    let Ok(farm) = example(rt.alloc()) else {
-        assert!(rt; false);
-        return Ok(());
-    };
-    assert!(rt; farm.hosts.len() == 2);
-    assert!(rt; farm.ask_host.text() == "www.example.com");
-    assert!(rt; farm.ask_port == 80);
-    assert!(rt; farm.filter.len() == 4);
-    assert!(rt; farm.level == 3);
-    assert!(rt; !farm.authorized);
-    assert!(rt; allows(&farm.rules, "/content/a.html"));
-    assert!(rt; !allows(&farm.rules, "/content/a.json"));
-    assert!(rt; allows(&farm.auto, "/content/a.html"));
-    assert!(rt; !allows(&farm.auto, "/content/a.json"));
-    assert!(rt; allows(&farm.clients, "127.0.0.1"));
-    assert!(rt; !allows(&farm.clients, "10.0.0.1"));
-    assert!(rt; allows(&farm.ignored, "utm_source"));
-    assert!(rt; !allows(&farm.ignored, "utm_2"));
-    Ok(())
+fn a_farm_is_read_whole(rt: HostRuntime) {
+    match example(rt.alloc()) {
+        Ok(farm) => {
+            assert!(rt; is_as_written(&farm));
+            assert!(rt; decides_as_written(&farm));
+        }
+        Err(_) => assert!(rt; false),
+    }
 }

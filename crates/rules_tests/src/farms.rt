@@ -2,12 +2,28 @@
 use any_config::{AnyFault, Farm, FarmFault, STANDARD_FARM, farm_of, read_any};
 use sp_base::TextBuf;
 use std::alloc::{AllocError, Global};
-use std::test::Fail;
 
 // The farm of a text that is a file.
 fn farm(alloc: Global, text: &str) -> Result<Result<Farm, FarmFault>, AnyFault> {
     let top = read_any(alloc, text.as_bytes())?;
     Ok(farm_of(alloc, &top))
+}
+
+fn is_standard(farm: &Farm) -> bool {
+    farm.hosts.len() == 1
+        && farm.ask_host.text() == "localhost"
+        && farm.ask_port == 80
+        && farm.filter.len() == 1
+        && farm.level == 0
+        && farm.clients.len() == 1
+}
+
+#[test]
+fn the_standard_farm(rt: HostRuntime) {
+    match farm(rt.alloc(), STANDARD_FARM) {
+        Ok(Ok(farm)) => assert!(rt; is_standard(&farm)),
+        _ => assert!(rt; false),
+    }
 }
 
 fn named(alloc: Global, kind: &str, name: &TextBuf) -> Result<String, AllocError> {
@@ -31,31 +47,35 @@ fn refusal(alloc: Global, text: &str) -> Result<String, AnyFault> {
     Ok(shown(alloc, &farm)?)
 }
 
-// The same, of a text within `/farms { /s { .. } }`.
-fn refusal_in(alloc: Global, inner: &str) -> Result<String, AnyFault> {
-    let text = format!(in alloc; "/farms {{ /s {{ {inner} }} }}")?;
-    refusal(alloc, text.as_str())
+// Whether a text's farm, once it has its start and its end, is refused so.
+fn is_refused(
+    alloc: Global,
+    start: &str,
+    text: &str,
+    end: &str,
+    wanted: &str,
+) -> Result<bool, AnyFault> {
+    let text = format!(in alloc; "{start}{text}{end}")?;
+    let got = refusal(alloc, text.as_str())?;
+    Ok(got.as_str() == wanted)
 }
 
-// The same, of members after others.
-fn refusal_after(alloc: Global, before: &str, text: &str) -> Result<String, AnyFault> {
-    let inner = format!(in alloc; "{before} {text}")?;
-    refusal_in(alloc, inner.as_str())
+fn is_told(alloc: Global, start: &str, row: &str, end: &str) -> bool {
+    match row.split_once(" => ") {
+        Some((text, wanted)) => {
+            matches!(is_refused(alloc, start, text, end, wanted), Ok(told) if told)
+        }
+        None => false,
+    }
 }
 
-#[test]
-fn the_standard_farm(rt: HostRuntime) -> Result<(), Fail> {
-    let Ok(farm) = farm(rt.alloc(), STANDARD_FARM)? else {
-        assert!(rt; false);
-        return Ok(());
-    };
-    assert!(rt; farm.hosts.len() == 1);
-    assert!(rt; farm.ask_host.text() == "localhost");
-    assert!(rt; farm.ask_port == 80);
-    assert!(rt; farm.filter.len() == 1);
-    assert!(rt; farm.level == 0);
-    assert!(rt; farm.clients.len() == 1);
-    Ok(())
+fn are_told(alloc: Global, start: &str, rows: &str, end: &str) -> bool {
+    for row in rows.lines() {
+        if !is_told(alloc, start, row, end) {
+            return false;
+        }
+    }
+    true
 }
 
 // A file, and what its farm is or why it has none.
@@ -67,16 +87,6 @@ const FILES: &str = r#" => Missing farms
 /farms { /s "x" } => BadKind s
 /farms { "x" } => BadKind farms
 /farms { /s { } } => Missing virtualhosts"#;
-
-#[test]
-fn faults_of_the_file(rt: HostRuntime) -> Result<(), Fail> {
-    for row in FILES.lines() {
-        let (text, wanted) = row.split_once(" => ").ok_or("a row")?;
-        let got = refusal(rt.alloc(), text)?;
-        assert!(rt; got.as_str() == wanted);
-    }
-    Ok(())
-}
 
 // The same of the members of a farm, up to its hosts.
 const HOSTS: &str = r#"/virtualhosts { /a "x" } => BadKind a
@@ -93,16 +103,6 @@ const HOSTS: &str = r#"/virtualhosts { /a "x" } => BadKind a
 /virtualhosts x => BadKind virtualhosts
 /virtualhosts 'x' => NotSupported virtualhosts"#;
 
-#[test]
-fn faults_of_hosts(rt: HostRuntime) -> Result<(), Fail> {
-    for row in HOSTS.lines() {
-        let (text, wanted) = row.split_once(" => ").ok_or("a row")?;
-        let got = refusal_in(rt.alloc(), text)?;
-        assert!(rt; got.as_str() == wanted);
-    }
-    Ok(())
-}
-
 // The members that come after good hosts.
 const FILTERS: &str = r#"/filter "x" => BadKind filter
 /filter 'x' => NotSupported filter
@@ -114,44 +114,6 @@ const FILTERS: &str = r#"/filter "x" => BadKind filter
 /filter { /1 { /url '/a.*' /type allow } } => NotSupported url
 /filter { /1 { /type deny /method "[" /url 'x' } } => BadKind method
 /filter { /1 { /type deny "x" /other 'x' } } => Missing cache"#;
-
-#[test]
-fn faults_of_filters(rt: HostRuntime) -> Result<(), Fail> {
-    for row in FILTERS.lines() {
-        let (text, wanted) = row.split_once(" => ").ok_or("a row")?;
-        let got = refusal_after(rt.alloc(), "/virtualhosts { }", text)?;
-        assert!(rt; got.as_str() == wanted);
-    }
-    Ok(())
-}
-
-#[test]
-fn faults_of_each_glob(rt: HostRuntime) -> Result<(), Fail> {
-    let names = [
-        "glob",
-        "method",
-        "url",
-        "path",
-        "selectors",
-        "extension",
-        "suffix",
-        "query",
-    ];
-    for name in names {
-        for (value, fault) in [
-            ("'x'", "NotSupported"),
-            ("\"[\"", "BadKind"),
-            ("{ }", "BadKind"),
-        ] {
-            let text = format!(in rt.alloc();
-                "/virtualhosts {{ }} /filter {{ {{ /type allow /{name} {value} }} }}"
-            )?;
-            let wanted = format!(in rt.alloc(); "{fault} {name}")?;
-            assert!(rt; refusal_in(rt.alloc(), text.as_str())?.as_str() == wanted.as_str());
-        }
-    }
-    Ok(())
-}
 
 // The members that come after good hosts and a good filter.
 const CACHES: &str = r#"/cache x => BadKind cache
@@ -165,16 +127,6 @@ const CACHES: &str = r#"/cache x => BadKind cache
 /cache { /rules { /1 { /type allow } } } => BadKind glob
 /cache { /rules { } /statfileslevel 32 /allowAuthorized "1" } => a farm
 /cache { /rules { } /rules x } => a farm"#;
-
-#[test]
-fn faults_of_caches(rt: HostRuntime) -> Result<(), Fail> {
-    for row in CACHES.lines() {
-        let (text, wanted) = row.split_once(" => ").ok_or("a row")?;
-        let got = refusal_after(rt.alloc(), "/virtualhosts { } /filter { }", text)?;
-        assert!(rt; got.as_str() == wanted);
-    }
-    Ok(())
-}
 
 // The same, after good rules of the cache.
 const CACHE_MEMBERS: &str =
@@ -191,12 +143,67 @@ const CACHE_MEMBERS: &str =
 /cache { /rules { } /allowedClients 'x' } => NotSupported allowedClients
 /cache { /rules { } /ignoreUrlParams { { /glob * } } } => BadKind type"#;
 
+// What stands before the texts of a table, the table, and what stands after them.
+const TABLES: &[(&str, &str, &str)] = &[
+    ("", FILES, ""),
+    ("/farms { /s { ", HOSTS, " } }"),
+    ("/farms { /s { /virtualhosts { } ", FILTERS, " } }"),
+    (
+        "/farms { /s { /virtualhosts { } /filter { } ",
+        CACHES,
+        " } }",
+    ),
+    (
+        "/farms { /s { /virtualhosts { } /filter { } ",
+        CACHE_MEMBERS,
+        " } }",
+    ),
+];
+
 #[test]
-fn faults_of_members_of_caches(rt: HostRuntime) -> Result<(), Fail> {
-    for row in CACHE_MEMBERS.lines() {
-        let (text, wanted) = row.split_once(" => ").ok_or("a row")?;
-        let got = refusal_after(rt.alloc(), "/virtualhosts { } /filter { }", text)?;
-        assert!(rt; got.as_str() == wanted);
+fn faults_of_farms(rt: HostRuntime) {
+    for (start, rows, end) in TABLES {
+        assert!(rt; are_told(rt.alloc(), *start, *rows, *end), "after {start}");
     }
-    Ok(())
+}
+
+// The members of an entry of a filter that are globs.
+const GLOBS: &[&str] = &[
+    "glob",
+    "method",
+    "url",
+    "path",
+    "selectors",
+    "extension",
+    "suffix",
+    "query",
+];
+
+const BAD_GLOBS: &[(&str, &str)] = &[
+    ("'x'", "NotSupported"),
+    ("\"[\"", "BadKind"),
+    ("{ }", "BadKind"),
+];
+
+fn is_refused_glob(alloc: Global, name: &str, value: &str, fault: &str) -> Result<bool, AnyFault> {
+    let start = "/farms { /s { /virtualhosts { } /filter { { /type allow /";
+    let text = format!(in alloc; "{name} {value}")?;
+    let wanted = format!(in alloc; "{fault} {name}")?;
+    is_refused(alloc, start, text.as_str(), " } } } }", wanted.as_str())
+}
+
+fn are_refused_globs(alloc: Global, name: &str) -> bool {
+    for (value, fault) in BAD_GLOBS {
+        if !matches!(is_refused_glob(alloc, name, *value, *fault), Ok(told) if told) {
+            return false;
+        }
+    }
+    true
+}
+
+#[test]
+fn faults_of_each_glob(rt: HostRuntime) {
+    for name in GLOBS {
+        assert!(rt; are_refused_globs(rt.alloc(), *name), "{name}");
+    }
 }

@@ -2,10 +2,9 @@
 ghost use Rattle.std.specs.Prelude.{◌≡◌, OnOk};
 ghost use Rattle.tree_draft.specs.Drafts.{DraftFollows, IsSound};
 
-use crate::changes::{Failed, at, tree_of};
-use crate::parts::{PARTS, listing};
+use crate::changes::{Failed, at};
+use crate::parts::{PARTS, is_listed, whole};
 use resource_tree::{Tree, TreeFault};
-use sp_base::Value;
 use std::alloc::Global;
 use std::hash::RandomState;
 use tree_draft::Draft;
@@ -41,33 +40,33 @@ fn carry(
     }
 }
 
-// The tree after a copy or a move in a draft of it.
-fn carried(
+// Whether the tree after a copy or a move in a draft of it is so.
+fn is_carried(
     alloc: Global,
     tree: &Tree,
     source: &str,
     target: &str,
     moves: bool,
-) -> Result<String, Failed> {
+    wanted: &str,
+) -> Result<bool, Failed> {
     let mut draft = Draft::new(alloc, tree);
     carry(&mut draft, alloc, source, target, moves)?;
-    Ok(listing(alloc, &with_draft(alloc, tree, draft)?)?)
+    let after = with_draft(alloc, tree, draft)?;
+    Ok(is_listed(alloc, &after, wanted)?)
+}
+
+fn all_are_carried(alloc: Global, tree: &Tree) -> Result<bool, Failed> {
+    for (source, target, moves, wanted) in PARTS {
+        if !is_carried(alloc, tree, *source, *target, *moves, *wanted)? {
+            return Ok(false);
+        }
+    }
+    Ok(true)
 }
 
 #[test]
 fn a_patch_brings_the_parts_that_a_draft_copied_and_moved(rt: HostRuntime) -> Result<(), Failed> {
-    let alloc = rt.alloc();
-    let paths = ["/a", "/a/z", "/a/b", "/a/z/y", "/c", "/c/k"];
-    let mut tree = tree_of(alloc, RandomState::new(&rt)?, &paths)?;
-    tree.set(alloc, &at(alloc, "/a/z")?, "title", Value::Long(7))?;
-    for row in PARTS.lines() {
-        let (paths, wants) = row.split_once(" => ").ok_or(Failed)?;
-        let (source, target) = paths.split_once(" ").ok_or(Failed)?;
-        let (copied, moved) = wants.split_once("| ").ok_or(Failed)?;
-        let got = carried(alloc, &tree, source, target, false)?;
-        assert!(rt; got.as_str() == copied);
-        let got = carried(alloc, &tree, source, target, true)?;
-        assert!(rt; got.as_str() == (moved));
-    }
+    let tree = whole(rt.alloc(), RandomState::new(&rt)?)?;
+    assert!(rt; matches!(all_are_carried(rt.alloc(), &tree), Ok(true)));
     Ok(())
 }

@@ -4,7 +4,7 @@ ghost use Rattle.resource_tree.specs.Content.{IsGood, HasSegmentNames};
 ghost use Rattle.resource_tree.specs.Patches.{patching};
 
 use crate::changes::{Failed, at, tree_of};
-use crate::parts::{child, listing};
+use crate::parts::{child, is_listed};
 use resource_tree::{Patch, PatchNode, Tree};
 use sp_base::{Mem, Path, PropList, Value};
 use std::alloc::Global;
@@ -28,48 +28,50 @@ fn size_patch(alloc: Global, seeds: RandomState, tree: &Tree, path: &Path) -> Re
     Ok(patch)
 }
 
-#[test]
-fn a_patch_is_put_over_the_tree(rt: HostRuntime) -> Result<(), Failed> {
-    let alloc = rt.alloc();
-    let seeds = RandomState::new(&rt)?;
+fn a_patch_is_put_over_the_tree(alloc: Global, seeds: RandomState) -> Result<bool, Failed> {
     let mut tree = tree_of(alloc, seeds, &["/a", "/a/b"])?;
-    let patch = size_patch(alloc, seeds, &tree, &at(alloc, "/a/b")?)?;
+    let path = at(alloc, "/a/b")?;
+    let patch = size_patch(alloc, seeds, &tree, &path)?;
     tree.apply(patch)?;
-    assert!(rt; listing(alloc, &tree)?.as_str() == "/ /a /a/b* ");
-    Ok(())
+    Ok(is_listed(alloc, &tree, "/ /a /a/b* ")?)
 }
 
 // Out of memory, the tree comes back as it was.
-#[test]
-fn a_patch_takes_the_room_that_was_made(rt: HostRuntime) -> Result<(), Failed> {
-    let alloc = rt.alloc();
-    let seeds = RandomState::new(&rt)?;
+fn a_patch_takes_the_room_that_was_made(alloc: Global, seeds: RandomState) -> Result<bool, Failed> {
     let tree = tree_of(alloc, seeds, &["/a", "/a/b"])?;
-    let patch = size_patch(alloc, seeds, &tree, &at(alloc, "/a/b")?)?;
+    let path = at(alloc, "/a/b")?;
+    let patch = size_patch(alloc, seeds, &tree, &path)?;
     match tree.with_room(&patch) {
         Ok(roomy) => {
             let after = roomy.take(patch);
-            assert!(rt; listing(alloc, &after)?.as_str() == "/ /a /a/b* ");
+            Ok(is_listed(alloc, &after, "/ /a /a/b* ")?)
         }
-        Err(tree) => assert!(rt; listing(alloc, &tree)?.as_str() == "/ /a /a/b "),
+        Err(tree) => Ok(is_listed(alloc, &tree, "/ /a /a/b ")?),
+    }
+}
+
+const GONE: &[&str] = &[
+    "a", "b", "c", "d", "e", "f", "g", "h", "i", "j", "k", "l", "m", "n", "o", "p", "q", "r", "s",
+    "t", "u", "v", "w", "x", "y", "z",
+];
+
+fn put_gone(alloc: Global, patch: &mut Patch, path: &Path) -> Result<(), Failed> {
+    for name in GONE {
+        patch.put(child(alloc, path, *name)?, PatchNode::Gone)?;
     }
     Ok(())
 }
 
 // Room for so many rows is an allocation. Where it is refused, the tree is as it was.
-#[test]
-fn a_tree_without_room_is_as_it_was(rt: HostRuntime) -> Result<(), Failed> {
-    let alloc = rt.alloc();
-    let seeds = RandomState::new(&rt)?;
+fn a_tree_without_room_is_as_it_was(alloc: Global, seeds: RandomState) -> Result<bool, Failed> {
     let tree = tree_of(alloc, seeds, &["/a", "/a/b"])?;
+    let path = at(alloc, "/a/b")?;
     let mut patch = Patch::new(alloc, seeds);
-    for name in "a b c d e f g h i j k l m n o p q r s t u v w x y z".split(' ') {
-        patch.put(child(alloc, &at(alloc, "/a/b")?, name)?, PatchNode::Gone)?;
+    put_gone(alloc, &mut patch, &path)?;
+    match tree.with_room(&patch) {
+        Ok(_) => Ok(true),
+        Err(tree) => Ok(is_listed(alloc, &tree, "/ /a /a/b ")?),
     }
-    if let Err(tree) = tree.with_room(&patch) {
-        assert!(rt; listing(alloc, &tree)?.as_str() == "/ /a /a/b ");
-    }
-    Ok(())
 }
 
 fn sized(alloc: Global) -> Mem<PropList>
@@ -80,34 +82,67 @@ fn sized(alloc: Global) -> Mem<PropList>
     Ok(props)
 }
 
-#[test]
-fn a_node_is_made_with_its_properties(rt: HostRuntime) -> Result<(), Failed> {
-    let alloc = rt.alloc();
-    let mut tree = tree_of(alloc, RandomState::new(&rt)?, &["/a"])?;
-    tree.make(alloc, &at(alloc, "/b")?, sized(alloc)?)?;
-    assert!(rt; listing(alloc, &tree)?.as_str() == "/ /a /b* ");
-    Ok(())
+fn a_node_is_made_with_its_properties(alloc: Global, seeds: RandomState) -> Result<bool, Failed> {
+    let mut tree = tree_of(alloc, seeds, &["/a"])?;
+    let path = at(alloc, "/b")?;
+    tree.make(alloc, &path, sized(alloc)?)?;
+    Ok(is_listed(alloc, &tree, "/ /a /b* ")?)
+}
+
+// Puts rows for `/b`, `/a` and once more `/b`, which then stays.
+fn put_again(alloc: Global, tree: &Tree, patch: &mut Patch) -> Result<(), Failed> {
+    patch.put(at(alloc, "/b")?, PatchNode::Gone)?;
+    patch.put(at(alloc, "/a")?, PatchNode::Gone)?;
+    let path = at(alloc, "/b")?;
+    let Some(node) = tree.node(&path) else {
+        return Err(Failed);
+    };
+    let node = node.duplicate(alloc)?;
+    Ok(patch.put(path, PatchNode::Node(node))?)
+}
+
+fn begins_with_b(patch: &Patch) -> bool {
+    match patch.at(0) {
+        Some((path, PatchNode::Node(_))) => path.as_text() == "/b",
+        _ => false,
+    }
+}
+
+fn has_only_a_gone(alloc: Global, patch: &Patch) -> Result<bool, Failed> {
+    let gone = at(alloc, "/a")?;
+    let other = at(alloc, "/c")?;
+    Ok(matches!(patch.get(&gone), Some(PatchNode::Gone)) && patch.get(&other).is_none())
+}
+
+fn a_patch_keeps_one_row_a_path(alloc: Global, seeds: RandomState) -> Result<bool, Failed> {
+    let tree = tree_of(alloc, seeds, &["/a", "/b"])?;
+    let mut patch = Patch::new(alloc, seeds);
+    put_again(alloc, &tree, &mut patch)?;
+    Ok(patch.len() == 2 && begins_with_b(&patch) && has_only_a_gone(alloc, &patch)?)
 }
 
 #[test]
-fn a_patch_keeps_one_row_a_path(rt: HostRuntime) -> Result<(), Failed> {
-    let alloc = rt.alloc();
+fn patches_are_put_over_trees(rt: HostRuntime) -> Result<(), Failed> {
     let seeds = RandomState::new(&rt)?;
-    let tree = tree_of(alloc, seeds, &["/a", "/b"])?;
-    let mut patch = Patch::new(alloc, seeds);
-    patch.put(at(alloc, "/b")?, PatchNode::Gone)?;
-    patch.put(at(alloc, "/a")?, PatchNode::Gone)?;
-    let node = match tree.node(&at(alloc, "/b")?) {
-        Some(node) => node.duplicate(alloc)?,
-        None => return Err(Failed),
-    };
-    patch.put(at(alloc, "/b")?, PatchNode::Node(node))?;
-    assert!(rt; patch.len() == 2);
-    match patch.at(0) {
-        Some((path, PatchNode::Node(_))) => assert!(rt; path.text(alloc)?.text() == "/b"),
-        _ => assert!(rt; false),
-    }
-    assert!(rt; matches!(patch.get(&at(alloc, "/a")?), Some(PatchNode::Gone)));
-    assert!(rt; patch.get(&at(alloc, "/c")?).is_none());
+    assert!(rt; matches!(a_patch_is_put_over_the_tree(rt.alloc(), seeds), Ok(true)));
+    assert!(rt;
+        matches!(
+            a_patch_takes_the_room_that_was_made(rt.alloc(), seeds),
+            Ok(true)
+        )
+    );
+    assert!(rt;
+        matches!(
+            a_tree_without_room_is_as_it_was(rt.alloc(), seeds),
+            Ok(true)
+        )
+    );
+    assert!(rt;
+        matches!(
+            a_node_is_made_with_its_properties(rt.alloc(), seeds),
+            Ok(true)
+        )
+    );
+    assert!(rt; matches!(a_patch_keeps_one_row_a_path(rt.alloc(), seeds), Ok(true)));
     Ok(())
 }

@@ -17,45 +17,52 @@ fn write<'a>(
     e.write(alloc, page, &mut evaluation, room)
 }
 
-#[test]
-fn refusal_leaves_the_text(rt: HostRuntime) -> Result<(), Failed> {
-    let alloc = rt.alloc();
-    let sample = Sample::new(alloc)?;
-    let scope = sample.scope();
-    for text in [
-        "properties.tags",
-        "properties.title",
-        "properties.longs",
-        "properties.truths",
-        "[properties.tags, [1]]",
-        "1 == 1",
-    ] {
-        let e = Expr::read(alloc, text)?;
-        let mut page = String::from_str(alloc, "<p>")?;
-        assert!(rt;
-            matches!(
-                write(alloc, &mut page, &e, &scope, 5),
-                Err(WriteFault::TooLong)
-            )
-        );
-        assert!(rt; page.as_str() == "<p>");
+fn is_refused(alloc: Global, page: &mut String, e: &Expr, scope: &Scope<'_>, room: usize) -> bool {
+    matches!(write(alloc, page, e, scope, room), Err(WriteFault::TooLong))
+}
+
+fn leaves_the_text(alloc: Global, scope: &Scope<'_>, text: &str) -> Result<bool, Failed> {
+    let e = Expr::read(alloc, text)?;
+    let mut page = String::from_str(alloc, "<p>")?;
+    Ok(is_refused(alloc, &mut page, &e, scope, 5) && page.as_str() == "<p>")
+}
+
+const TOO_LONG: &[&str] = &[
+    "properties.tags",
+    "properties.title",
+    "properties.longs",
+    "properties.truths",
+    "[properties.tags, [1]]",
+    "1 == 1",
+];
+
+fn all_leave_the_text(alloc: Global, scope: &Scope<'_>) -> Result<bool, Failed> {
+    for text in TOO_LONG {
+        if !leaves_the_text(alloc, scope, *text)? {
+            return Ok(false);
+        }
     }
-    Ok(())
+    Ok(true)
+}
+
+fn last_byte_of_the_room_is_written(alloc: Global, scope: &Scope<'_>) -> Result<bool, Failed> {
+    let e = Expr::read(alloc, "['<', 1]")?;
+    let mut page = String::from_str(alloc, "<p>")?;
+    Ok(
+        write(alloc, &mut page, &e, scope, 9).is_ok()
+            && page.as_str() == "<p>&lt;,1"
+            && is_refused(alloc, &mut page, &e, scope, 14),
+    )
 }
 
 #[test]
-fn last_byte_of_the_room_is_written(rt: HostRuntime) -> Result<(), Failed> {
-    let alloc = rt.alloc();
-    let sample = Sample::new(alloc)?;
-    let scope = sample.scope();
-    let e = Expr::read(alloc, "['<', 1]")?;
-    let mut page = String::from_str(alloc, "<p>")?;
-    assert!(rt; write(alloc, &mut page, &e, &scope, 9).is_ok());
-    assert!(rt; page.as_str() == "<p>&lt;,1");
+fn writes_no_more_than_the_room(rt: HostRuntime) -> Result<(), Failed> {
+    let sample = Sample::new(rt.alloc())?;
+    assert!(rt; matches!(all_leave_the_text(rt.alloc(), &sample.scope()), Ok(true)));
     assert!(rt;
         matches!(
-            write(alloc, &mut page, &e, &scope, 14),
-            Err(WriteFault::TooLong)
+            last_byte_of_the_room_is_written(rt.alloc(), &sample.scope()),
+            Ok(true)
         )
     );
     Ok(())

@@ -5,28 +5,44 @@ use htl_expr::Scope;
 use sp_base::{LongList, PropList, TextBuf, TextList, TruthList, Value};
 use std::alloc::Global;
 
-fn texts(alloc: Global, all: &[&str]) -> Result<TextList, Failed> {
-    let mut texts = TextList::new(alloc);
-    for text in all {
-        texts.push(TextBuf::of(alloc, text)?)?;
-    }
-    Ok(texts)
+fn push_text(alloc: Global, texts: &mut TextList, text: &str) -> Result<(), Failed> {
+    let text = TextBuf::of(alloc, text)?;
+    Ok(texts.push(text)?)
 }
 
-fn props(alloc: Global) -> Result<PropList, Failed> {
+fn put_tags(alloc: Global, props: &mut PropList) -> Result<(), Failed> {
+    let mut texts = TextList::new(alloc);
+    push_text(alloc, &mut texts, "a")?;
+    push_text(alloc, &mut texts, "b<")?;
+    Ok(props.put(alloc, "tags", Value::Texts(texts))?)
+}
+
+fn put_longs(alloc: Global, props: &mut PropList) -> Result<(), Failed> {
     let mut longs = LongList::new(alloc);
     longs.push(7)?;
     longs.push(8)?;
+    Ok(props.put(alloc, "longs", Value::Longs(longs))?)
+}
+
+fn put_truths(alloc: Global, props: &mut PropList) -> Result<(), Failed> {
     let mut truths = TruthList::new(alloc);
     truths.push(true)?;
     truths.push(false)?;
-    let mut props = PropList::new(alloc);
+    Ok(props.put(alloc, "truths", Value::Truths(truths))?)
+}
+
+fn put_all(alloc: Global, props: &mut PropList) -> Result<(), Failed> {
     let title = TextBuf::of(alloc, "<b>Fish & \"Chips\"</b>'s")?;
     props.put(alloc, "title", Value::Text(title))?;
     props.put(alloc, "yes", Value::Truth(true))?;
-    props.put(alloc, "tags", Value::Texts(texts(alloc, &["a", "b<"])?))?;
-    props.put(alloc, "longs", Value::Longs(longs))?;
-    props.put(alloc, "truths", Value::Truths(truths))?;
+    put_tags(alloc, props)?;
+    put_longs(alloc, props)?;
+    put_truths(alloc, props)
+}
+
+fn props(alloc: Global) -> Result<PropList, Failed> {
+    let mut props = PropList::new(alloc);
+    put_all(alloc, &mut props)?;
     Ok(props)
 }
 

@@ -2,15 +2,17 @@
 
 use super::sample::Sample;
 use crate::failed::Failed;
-use htl_expr::{Expr, Out};
+use htl_expr::{Expr, Out, Scope};
+use std::alloc::Global;
+
+fn is_a_joined_list(alloc: Global, scope: &Scope<'_>) -> Result<bool, Failed> {
+    let e = Expr::read(alloc, "properties.longs @ join='; '")?;
+    Ok(matches!(e.value(alloc, scope)?, Out::List(_)) && e.print(alloc, scope)?.text() == "7; 8")
+}
 
 #[test]
 fn value_has_a_kind(rt: HostRuntime) -> Result<(), Failed> {
-    let alloc = rt.alloc();
-    let sample = Sample::new(alloc)?;
-    let scope = sample.scope();
-    let e = Expr::read(alloc, "properties.longs @ join='; '")?;
-    assert!(rt; matches!(e.value(alloc, &scope)?, Out::List(_)));
-    assert!(rt; e.print(alloc, &scope)?.text() == "7; 8");
+    let sample = Sample::new(rt.alloc())?;
+    assert!(rt; matches!(is_a_joined_list(rt.alloc(), &sample.scope()), Ok(true)));
     Ok(())
 }

@@ -16,3 +16,4 @@ pub mod AnswerLemmas
 pub mod RedirectLemmas
 pub mod ReachLemmas
 pub mod FirstLemmas
+pub mod NamedLemmas

@@ -1,6 +1,6 @@
--- The nodes whose kids a patch changes, or the aliases of whose kids.
+-- The nodes whose kids with an alias a patch changes, or the aliases of whose kids.
 use Rattle.std.proofs.Common.{◌≡◌, ◌<◌, ◌≤◌, ◌+◌, ℕ, suc, Bool, true, false, cond, List, [], ◌∷◌, Option, Some, None, take, length, get_or, refl, sym, ◌∙◌, ap, subst, ⊎_elim, arith}
-use Rattle.std.specs.Prelude.{◌||◌, ◌&&◌, ◌==◌, find, nat_eq, not, option_map, slice_get}
+use Rattle.std.specs.Prelude.{◌||◌, ◌&&◌, ◌==◌, nat_eq, not, option_map, slice_get}
 use Rattle.std.specs.Cmp.Lexicographic.{pointwise, same_text}
 use Rattle.std.specs.List.{list_any}
 use Rattle.std.specs.Option.{option_map_or}
@@ -16,9 +16,9 @@ use Rattle.resource_tree.specs.Content.{Content, kid, node_at, same_path}
 use Rattle.resource_tree.specs.Patches as patches
 use Rattle.url_maps.specs.Claims.{ClaimRows, claims_by, kids_by, node_claims_alias, spells_alias}
 use Rattle.url_maps.specs.Noting.{has_row}
-use Rattle.url_maps.specs.Siblings.{IsSettled, IsWithin, KeepsOthers, alias_words, kids_if}
+use Rattle.url_maps.specs.Siblings.{IsSettled, IsWithin, KeepsOthers, alias_words, kids_if, named_kids}
 use Rattle.url_maps.proofs.AliasLemmas.{find_alike}
-use Rattle.url_maps.proofs.ClaimLemmas.{and_false}
+use Rattle.url_maps.proofs.NamedLemmas.{first_in_named, words_claim}
 use Rattle.url_maps.proofs.PathLemmas.{IsReadBack, parent_of-kid, path_from_same, same_path_flips, same_path_self, texts_and_paths}
 
 -- ---- the rows of a patch
@@ -72,11 +72,6 @@ pub left_of : (row : PatchNode) (old : Option Node) → patches.left_by (Some ro
 left_of (there.Node node) old = refl
 left_of there.Gone old = refl
 
-words_claim : (q : List (List ℕ)) (t : List ℕ) (o : Option Node) → option_map_or (λ (node : Node). node_claims_alias q node t) o false ≡ (not (length q == 0) && list_any (spells_alias q t) (alias_words o))
-unfolding node_claims_alias
-words_claim q t None = sym (and_false (not (length q == 0)))
-words_claim q t (Some node) = refl
-
 -- where each row is settled, the other nodes keep what their kids claim
 pub keeps_others : (tree : Content) (patch : patches.Rows) (n : ℕ) (parents : List (List (List ℕ))) → length patch ≤ n → AreSettled tree patch n parents → KeepsOthers tree patch parents
 keeps_others tree patch n parents end settled p t other =
@@ -84,10 +79,10 @@ keeps_others tree patch n parents end settled p t other =
     let at = row_place patch q row is in
     let within = slice_get_within patch at.place (q, row) at.is in
     settled at.place q row (omega (arith, within, end)) at.is in
-    let kids : kids_by (node_at tree) p ≡ kids_by (patches.patching_at tree patch) p =
-    elim (patches.row_at patch p) as (λ o. patches.row_at patch p ≡ o → kids_if (node_at tree p) ≡ kids_if (patches.left_by o (node_at tree p))) [
+    let kids : named_kids tree p (kids_by (node_at tree) p) ≡ named_kids tree p (kids_by (patches.patching_at tree patch) p) =
+    elim (patches.row_at patch p) as (λ o. patches.row_at patch p ≡ o → named_kids tree p (kids_if (node_at tree p)) ≡ named_kids tree p (kids_if (patches.left_by o (node_at tree p)))) [
       | None ↦ λ is. refl
-      | Some row ↦ λ is. (settled_at p row is).kids other ∙ ap kids_if (sym (left_of row (node_at tree p)))
+      | Some row ↦ λ is. (settled_at p row is).kids other ∙ ap (λ o. named_kids tree p (kids_if o)) (sym (left_of row (node_at tree p)))
     ] refl in
     let claims : (name : List ℕ) → claims_by (node_at tree) (kid p name) t ≡ claims_by (patches.patching_at tree patch) (kid p name) t = λ name.
     elim (patches.row_at patch (kid p name)) as (λ o. patches.row_at patch (kid p name) ≡ o
@@ -99,7 +94,7 @@ keeps_others tree patch n parents end settled p t other =
           (words_claim (kid p name) t (node_at tree (kid p name)) ∙ ap (λ ws. not (length (kid p name) == 0) && list_any (spells_alias (kid p name) t) ws) words
           ∙ sym (words_claim (kid p name) t (patches.left_by (Some row) (node_at tree (kid p name)))))
     ] refl in
-    ap (λ ks. option_map (kid p) (find (λ name. claims_by (node_at tree) (kid p name) t) ks)) kids
+    ap (option_map (kid p)) (first_in_named tree p t (kids_by (node_at tree) p) (kids_by (patches.patching_at tree patch) p) kids)
     ∙ ap (option_map (kid p)) (find_alike (λ name. claims_by (node_at tree) (kid p name) t) (λ name. claims_by (patches.patching_at tree patch) (kid p name) t) claims (kids_by (patches.patching_at tree patch) p))
 
 pub others_alike : (tree : Content) (patch : patches.Rows) (parents same : List (List (List ℕ))) → ((q : List (List ℕ)) → list_any (same_path q) same ≡ list_any (same_path q) parents) → KeepsOthers tree patch parents → KeepsOthers tree patch same
@@ -141,7 +136,7 @@ first_no true b e = e
 first_no false b e = refl
 
 pub settled_row : (tree : Content) (path : List (List ℕ)) (row : PatchNode) (kids_stay aliases_stay : Bool) (old mid new : List (List (List ℕ)))
-    → (kids_stay ≡ true → kids_if (node_at tree path) ≡ kids_if (patches.left_by (Some row) None)) → (aliases_stay ≡ true → alias_words (node_at tree path) ≡ alias_words (patches.left_by (Some row) None))
+    → (kids_stay ≡ true → named_kids tree path (kids_if (node_at tree path)) ≡ named_kids tree path (kids_if (patches.left_by (Some row) None))) → (aliases_stay ≡ true → alias_words (node_at tree path) ≡ alias_words (patches.left_by (Some row) None))
     → ((q : List (List ℕ)) → list_any (same_path q) mid ≡ (list_any (same_path q) old || (not kids_stay && same_path q path)))
     → ((q : List (List ℕ)) → list_any (same_path q) new ≡ (list_any (same_path q) mid || (not aliases_stay && same_path q (parent_of path)))) → IsSettled tree path row new
 settled_row tree path row kids_stay aliases_stay old mid new kids aliases first last = record {

@@ -307,23 +307,15 @@ families_more read at names parents i p first old new within item so_far one = r
 
 -- ---- the index of a tree
 
-no_node_none : (at : List (List ℕ) → Option Node) (p : List (List ℕ)) (t : List ℕ) → is_some (at p) ≡ false → first_claimant at p t ≡ None
-no_node_none at p t none =
-    elim (at p) as (λ o. is_some o ≡ false → option_map (kid p) (find (λ name. claims_by at (kid p name) t) (option_map_or (λ (n : Node). n.kids) o [])) ≡ None) [
-      | None ↦ λ e. refl
-      | Some node ↦ λ e. absurd (true≢false e)
-    ] none
-
 all_or_none : (there : Bool) (first : Option (List (List ℕ))) → (there ≡ false → first ≡ None) → or_else [] (cond there (option_to_list first) []) ≡ option_to_list first
 all_or_none true first none = refl
 all_or_none false first none = sym (ap option_to_list (none refl))
 
--- the rows of all families
-pub names_all : (at : List (List ℕ) → Option Node) (parents : List (List (List ℕ))) (rows : ClaimRows) → ((q : List (List ℕ)) → list_any (same_path q) parents ≡ is_some (at q)) → PutsFamilies at true parents [] rows → NamesFirst at rows
-names_all at parents rows all is q valid some =
-    let first = first_claimant at (parent_of q) (text_of q) in
-    is.paths q valid some ∙ ap (λ b. or_else [] (cond b (option_to_list first) [])) (all (parent_of q))
-    ∙ all_or_none (is_some (at (parent_of q))) first (no_node_none at (parent_of q) (text_of q))
+-- the rows of all families that claim something
+pub names_all : (at : List (List ℕ) → Option Node) (parents : List (List (List ℕ))) (rows : ClaimRows) → ((p : List (List ℕ)) (t : List ℕ) → list_any (same_path p) parents ≡ false → first_claimant at p t ≡ None) → PutsFamilies at true parents [] rows
+    → NamesFirst at rows
+names_all at parents rows none is q valid some =
+    is.paths q valid some ∙ all_or_none (list_any (same_path (parent_of q)) parents) (first_claimant at (parent_of q) (text_of q)) (none (parent_of q) (text_of q))
 
 -- rows put over none
 pub over_none : (changed old new : ClaimRows) → old ≡ [] → ((t : List ℕ) → claimants new t ≡ option_map_or (λ paths. paths) (lookup (bytes_eq t) changed) (claimants old t)) → (t : List ℕ) → claimants new t ≡ claimants changed t

@@ -1,11 +1,11 @@
 -- For the making of an index and of a change alone: how far the first siblings with an alias are put into rows.
-use Rattle.std.specs.Prelude.{◌≡◌, ◌<◌, ◌&&◌, ◌||◌, ℕ, Bool, true, false, is_some, if◌then◌else◌, codes, length, List, [], ◌∷◌, Option, Some, None, option_to_list}
+use Rattle.std.specs.Prelude.{◌≡◌, ◌≤◌, ◌<◌, ◌&&◌, ◌||◌, ◌==◌, ◌-◌, ℕ, Bool, true, false, not, is_some, if◌then◌else◌, codes, drop, filter, length, take, List, [], ◌∷◌, Option, Some, None, option_to_list}
 use Rattle.std.specs.List.{list_any}
 use Rattle.std.specs.Option.{option_map_or}
 use Rattle.sp_base.specs.Paths.{is_path, parent_of, text_of}
 use Rattle.resource_tree.specs.declared.nodes.Node.{Node}
 use Rattle.resource_tree.specs.declared.patch.PatchNode.{PatchNode}
-use Rattle.resource_tree.specs.Content.{Content, node_at, prop_at, same_path}
+use Rattle.resource_tree.specs.Content.{Content, kid, node_at, prop_at, same_path}
 use Rattle.resource_tree.specs.Patches as patches
 use Rattle.url_maps.specs.Claims.{ClaimRows, claimants, first_claimant}
 use Rattle.url_maps.specs.Noting.{has_row}
@@ -37,7 +37,7 @@ pub record PutsFamilies (at : List (List ℕ) → Option Node) (names : Bool) (p
   pub has : (path : List (List ℕ)) → is_path path ≡ true → 0 < length path
       → has_row new (text_of path) ≡ (has_row old (text_of path) || (list_any (same_path (parent_of path)) parents && is_some (first_claimant at (parent_of path) (text_of path))))
 
--- ---- the nodes whose kids a patch changes, or the aliases of whose kids
+-- ---- the nodes whose kids with an alias a patch changes, or the aliases of whose kids
 
 -- the kids of a node, if there is one
 abbrev pub kids_if : Option Node → List (List ℕ)
@@ -47,9 +47,37 @@ kids_if node = option_map_or (λ n. n.kids) node []
 abbrev pub alias_words : Option Node → List (List ℕ)
 alias_words node = option_map_or (λ n. mapping_texts (prop_at n (codes "sling:alias"))) node []
 
--- A row's node is among the parents unless the row leaves its kids, and its parent unless the row leaves its aliases.
+-- whether a node has an alias
+abbrev pub is_named : Option Node → Bool
+is_named node = not (length (alias_words node) == 0)
+
+-- whether a node's kid of a name has an alias
+abbrev pub named_kid : Content → List (List ℕ) → List ℕ → Bool
+named_kid tree path name = is_path (kid path name) && is_named (node_at tree (kid path name))
+
+-- the kids with an alias among some names
+abbrev pub named_kids : Content → List (List ℕ) → List (List ℕ) → List (List ℕ)
+named_kids tree path names = filter (named_kid tree path) names
+
+-- two lists begin with the same so many texts
+pub record AreSameFirst (n : ℕ) (texts others : List (List ℕ)) : Type 0 where
+  pub within : n ≤ length texts
+  pub in_other : n ≤ length others
+  pub same : take n texts ≡ take n others
+
+-- and end with them
+pub record AreSameLast (n : ℕ) (texts others : List (List ℕ)) : Type 0 where
+  pub within : n ≤ length texts
+  pub in_other : n ≤ length others
+  pub same : drop (length texts - n) texts ≡ drop (length others - n) others
+
+-- No node but some has a kid that claims a text.
+abbrev pub HasNoOtherNamed : Content → List (List (List ℕ)) → Type 0
+HasNoOtherNamed tree parents = (parent : List (List ℕ)) (text : List ℕ) → list_any (same_path parent) parents ≡ false → first_claimant (node_at tree) parent text ≡ None
+
+-- A row's node is among the parents unless the row leaves its kids with an alias, and its parent unless the row leaves its aliases.
 pub record IsSettled (tree : Content) (path : List (List ℕ)) (row : PatchNode) (parents : List (List (List ℕ))) : Type 0 where
-  pub kids : list_any (same_path path) parents ≡ false → kids_if (node_at tree path) ≡ kids_if (patches.left_by (Some row) None)
+  pub kids : list_any (same_path path) parents ≡ false → named_kids tree path (kids_if (node_at tree path)) ≡ named_kids tree path (kids_if (patches.left_by (Some row) None))
   pub aliases : list_any (same_path (parent_of path)) parents ≡ false → alias_words (node_at tree path) ≡ alias_words (patches.left_by (Some row) None)
 
 -- paths are kept, and maybe more are added

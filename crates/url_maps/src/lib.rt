@@ -13,6 +13,7 @@ mod laws;
 mod leaders;
 mod locations;
 mod mappings;
+mod named_kids;
 mod pairs;
 mod parents;
 mod reach;

@@ -1,17 +1,18 @@
-// The nodes whose kids a patch changes, or the aliases of whose kids.
+// The nodes whose kids with an alias a patch changes, or the aliases of whose kids.
 ghost use Rattle.std.specs.Prelude.{◌≡◌, ◌||◌, ◌&&◌, ℕ, List, IfOk, OnOk, IsTrue, None, Some, not, option_copied};
 ghost use Rattle.std.specs.List.{list_any};
 ghost use Rattle.resource_tree.specs.Content.{same_path};
 ghost use Rattle.resource_tree.specs.Patches.{left_by};
-ghost use Rattle.url_maps.specs.Siblings.{IsSettled, IsWithin, KeepsOthers, alias_words, kids_if};
+ghost use Rattle.url_maps.specs.Siblings.{IsSettled, IsWithin, KeepsOthers, alias_words, is_named, kids_if};
 
 use crate::claims_change::ClaimsChange;
+use crate::named_kids::named_stay;
 use crate::words::texts;
 use resource_tree::{Node, Patch, PatchNode, Tree};
 use sp_base::{Mem, Path, PathList, TextBuf, a_path_and_its_text};
 use std::alloc::Global;
 
-// The nodes whose kids a patch changes or puts into another order, and those of whose kids it changes an alias, each once.
+// The nodes of whose kids with an alias a patch changes the list, and those of whose kids it changes an alias, each once.
 pub(crate) fn changed_parents(alloc: Global, tree: &Tree, patch: &Patch) -> Mem<PathList>
     ensures { IfOk result (KeepsOthers tree.now patch.now) }
 {
@@ -25,7 +26,7 @@ pub(crate) fn changed_parents(alloc: Global, tree: &Tree, patch: &Patch) -> Mem<
     Ok(each_once(alloc, tree, parents.as_slice())?)
 }
 
-// Adds the node of a row, unless the row leaves its kids, and its parent, unless the row leaves its aliases.
+// Adds the node of a row, unless the row leaves its kids with an alias, and its parent, unless the row leaves its aliases.
 fn push_changed(
     parents: &mut PathList,
     alloc: Global,
@@ -38,7 +39,7 @@ fn push_changed(
 {
     let old = tree.node(path);
     let new = left_by(row);
-    let kids_stay = are_same(kids_if(old), kids_if(new));
+    let kids_stay = named_stay(alloc, tree, path, kids_if(old), kids_if(new))?;
     push_unless(parents, kids_stay, path.duplicate(alloc)?)?;
     let aliases_stay = are_same(alias_words(old), alias_words(new));
     push_unless(parents, aliases_stay, path.parent(alloc)?)?;
@@ -79,6 +80,13 @@ fn alias_words(node: Option<&Node>) -> &[TextBuf]
     }
 }
 
+// Whether a node has an alias.
+pub(crate) fn is_named(node: Option<&Node>) -> bool
+    ensures { result ≡ is_named (option_copied node.entry) }
+{
+    !alias_words(node).is_empty()
+}
+
 // The node that a row leaves at its path.
 pub(crate) fn left_by(row: &PatchNode) -> Option<&Node>
     ensures { option_copied result ≡ left_by (Some row.now) None }
@@ -90,7 +98,7 @@ pub(crate) fn left_by(row: &PatchNode) -> Option<&Node>
 }
 
 // The same paths, each once.
-fn each_once(alloc: Global, tree: &Tree, paths: &[Path]) -> Mem<PathList>
+pub(crate) fn each_once(alloc: Global, tree: &Tree, paths: &[Path]) -> Mem<PathList>
     ensures { IfOk result (λ list. (q : List (List ℕ)) → list_any (same_path q) list ≡ list_any (same_path q) paths.now) }
 {
     a_path_and_its_text();

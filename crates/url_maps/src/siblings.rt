@@ -1,11 +1,10 @@
 // The first of the siblings with an alias, put into rows parent by parent.
-ghost use Rattle.std.specs.Prelude.{◌≡◌, ℕ, List, IfOk, OnOk, is_some, option_copied};
-ghost use Rattle.std.specs.List.{list_any};
-ghost use Rattle.resource_tree.specs.Content.{kid, node_at, same_path};
+ghost use Rattle.std.specs.Prelude.{◌≡◌, IfOk, OnOk, option_copied};
+ghost use Rattle.resource_tree.specs.Content.{kid, node_at};
 ghost use Rattle.resource_tree.specs.Patches.{patching_at};
 ghost use Rattle.url_maps.specs.Claims.{NamesFirst, claims_by};
 ghost use Rattle.url_maps.specs.Changes.{LeadsOn};
-ghost use Rattle.url_maps.specs.Siblings.{PutsFamilies, PutsKids, PutsRows, path_if};
+ghost use Rattle.url_maps.specs.Siblings.{HasNoOtherNamed, PutsFamilies, PutsKids, PutsRows, path_if};
 
 use crate::claimed::alias_texts;
 use crate::claims::Claims;
@@ -15,14 +14,14 @@ use resource_tree::{Node, Patch, Tree};
 use sp_base::{Mem, Path, a_path_and_its_text};
 use std::alloc::Global;
 
-// The first siblings of a tree, whose paths are handed in.
-pub(crate) fn first_siblings(alloc: Global, tree: &Tree, paths: &[Path]) -> Mem<Claims>
-    requires { (q : List (List ℕ)) → list_any (same_path q) paths.now ≡ is_some (node_at tree.now q) }
+// The first siblings of a tree. The paths of all nodes that have a kid with an alias are handed in.
+pub(crate) fn first_siblings(alloc: Global, tree: &Tree, parents: &[Path]) -> Mem<Claims>
+    requires { HasNoOtherNamed tree.now parents.now }
     ensures { IfOk result (λ claims. NamesFirst (node_at tree.now) claims.rows) }
 {
     let unchanged = Patch::new(alloc, tree.seeds());
     let mut change = ClaimsChange::new(alloc, tree.seeds());
-    put_families(&mut change, alloc, tree, &unchanged, paths, true)?;
+    put_families(&mut change, alloc, tree, &unchanged, parents, true)?;
     let mut claims = Claims::new(alloc, tree.seeds());
     claims.make_room(change.len())?;
     claims.change(change);

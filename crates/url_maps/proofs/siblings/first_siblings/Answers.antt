@@ -9,7 +9,7 @@ use Rattle.url_maps.proofs.siblings.first_siblings.Goals as goal
 pub returns : goal.returns
 returns c =
     let tree = c.args.tree.now in
-    let paths = c.args.paths.now in
+    let paths = c.args.parents.now in
     let changed = c.put_families.new.change in
     names_alike (node_at tree) changed c.change-2.new.self.rows (over_none changed c.make_room.new.self.rows c.change-2.new.self.rows (c.make_room.ensures.rows ∙ c.new-claims.ensures) c.change-2.ensures)
     (names_all (node_at tree) paths changed c.requires

@@ -1,0 +1,182 @@
+-- The kids with an alias: what they claim is what all kids claim, and two lists that have them alike name the same first ones.
+use Rattle.std.proofs.Common.{◌≡◌, ◌<◌, ◌+◌, ◌-◌, ℕ, zero, suc, Bool, true, false, cond, List, [], ◌∷◌, ◌++◌, Option, Some, None, drop, take, length, get_or, refl, sym, ◌∙◌, ap, ⊎_elim, arith}
+use Rattle.std.specs.Prelude.{◌||◌, ◌&&◌, ◌==◌, filter, find, is_some, not, option_map}
+use Rattle.std.specs.List.{list_any}
+use Rattle.std.specs.Option.{option_map_or}
+use Rattle.std.proofs.lemmas.Bool.{and_parts, cases_Bool, false_from_ne_true, true≢false, false≢true}
+use Rattle.std.proofs.lemmas.List.{drop_more, length-drop, take-append-drop, take_all, take_more}
+use Rattle.std.proofs.lemmas.List.Elements.{filter-append}
+use Rattle.std.proofs.lemmas.List.Folds.{list_any_more}
+use Rattle.sp_base.specs.Paths.{is_path, parent_of, path_or_none}
+use Rattle.resource_tree.specs.declared.nodes.Node.{Node}
+use Rattle.resource_tree.specs.Content.{Content, kid, node_at, same_path}
+use Rattle.url_maps.specs.Claims.{claims_by, kids_by, node_claims_alias, spells_alias}
+use Rattle.url_maps.specs.Siblings.{AreSameFirst, AreSameLast, HasNoOtherNamed, alias_words, is_named, named_kid, named_kids}
+use Rattle.url_maps.proofs.AliasLemmas.{find_alike, not_root}
+use Rattle.url_maps.proofs.ClaimLemmas.{and_false}
+use Rattle.url_maps.proofs.SiblingLemmas.{a_path, not_a_path}
+use Rattle.url_maps.proofs.PathLemmas.{parent_of-kid, path_from_same, same_path_self}
+
+pub words_claim : (q : List (List ℕ)) (t : List ℕ) (o : Option Node) → option_map_or (λ (node : Node). node_claims_alias q node t) o false ≡ (not (length q == 0) && list_any (spells_alias q t) (alias_words o))
+unfolding node_claims_alias
+words_claim q t None = sym (and_false (not (length q == 0)))
+words_claim q t (Some node) = refl
+
+some_word : (test : List ℕ → Bool) (words : List (List ℕ)) → list_any test words ≡ true → not (length words == 0) ≡ true
+some_word test [] any = absurd (false≢true any)
+some_word test (w ∷ words) any = ap not (not_root (w ∷ words) (omega arith))
+
+-- a kid that claims a text has an alias
+pub claimant_named : (tree : Content) (p : List (List ℕ)) (name t : List ℕ) → claims_by (node_at tree) (kid p name) t ≡ true → named_kid tree p name ≡ true
+claimant_named tree p name t claims =
+    let q = kid p name in
+    let parts = and_parts (is_path q) (option_map_or (λ (node : Node). node_claims_alias q node t) (node_at tree q) false) claims in
+    let words = and_parts (not (length q == 0)) (list_any (spells_alias q t) (alias_words (node_at tree q))) (sym (words_claim q t (node_at tree q)) ∙ parts.1) in
+    ap (λ b. b && is_named (node_at tree q)) parts.0 ∙ some_word (spells_alias q t) (alias_words (node_at tree q)) words.1
+
+-- ---- what is found among those that pass
+
+find_passing : {X : Type 0} (test pass : X → Bool) → ((x : X) → test x ≡ true → pass x ≡ true) → (xs : List X) → find test xs ≡ find test (filter pass xs)
+find_passing test pass all [] = refl
+find_passing test pass all (x ∷ xs) =
+    ⊎_elim
+    (λ (is : pass x ≡ true).
+    ap (λ o. cond (test x) (Some x) o) (find_passing test pass all xs) ∙ sym (ap (λ b. find test (cond b (x ∷ filter pass xs) (filter pass xs))) is))
+    (λ (isnt : pass x ≡ false).
+    let fails : test x ≡ false = false_from_ne_true (test x) (λ has. true≢false (sym (all x has) ∙ isnt)) in
+    ap (λ b. cond b (Some x) (find test xs)) fails ∙ find_passing test pass all xs ∙ sym (ap (λ b. find test (cond b (x ∷ filter pass xs) (filter pass xs))) isnt))
+    (cases_Bool (pass x))
+
+-- the first kid that claims a text is the same in lists with the same named kids
+pub first_in_named : (tree : Content) (p : List (List ℕ)) (t : List ℕ) (names others : List (List ℕ)) → named_kids tree p names ≡ named_kids tree p others
+    → find (λ name. claims_by (node_at tree) (kid p name) t) names ≡ find (λ name. claims_by (node_at tree) (kid p name) t) others
+first_in_named tree p t names others same =
+    let test : List ℕ → Bool = λ name. claims_by (node_at tree) (kid p name) t in
+    let all : (name : List ℕ) → test name ≡ true → named_kid tree p name ≡ true = λ name claims. claimant_named tree p name t claims in
+    find_passing test (named_kid tree p) all names ∙ ap (find test) same ∙ sym (find_passing test (named_kid tree p) all others)
+
+-- ---- what two lists have in common
+
+none_passes : {X : Type 0} (pass : X → Bool) (xs : List X) → list_any pass xs ≡ false → filter pass xs ≡ []
+none_passes pass [] none = refl
+none_passes pass (x ∷ xs) none =
+    elim (pass x) as (λ b. (b || list_any pass xs) ≡ false → cond b (x ∷ filter pass xs) (filter pass xs) ≡ []) [
+      | true ↦ λ e. absurd (true≢false e)
+      | false ↦ λ e. none_passes pass xs e
+    ] none
+
+cut_at : {X : Type 0} (pass : X → Bool) (n : ℕ) (xs : List X) → filter pass xs ≡ filter pass (take n xs) ++ filter pass (drop n xs)
+cut_at pass n xs = ap (filter pass) (sym (take-append-drop n xs)) ∙ filter-append pass (take n xs) (drop n xs)
+
+pub alike_after : (tree : Content) (p : List (List ℕ)) (n : ℕ) (names others : List (List ℕ)) → AreSameFirst n names others → named_kids tree p (drop n names) ≡ named_kids tree p (drop n others) → named_kids tree p names ≡ named_kids tree p others
+alike_after tree p n names others first rest =
+    let pass = named_kid tree p in
+    cut_at pass n names ∙ ap (λ l. filter pass l ++ filter pass (drop n names)) first.same ∙ ap (λ l. filter pass (take n others) ++ l) rest ∙ sym (cut_at pass n others)
+
+-- the named ones of a list of whose beginning none is named
+last_alone : {X : Type 0} (pass : X → Bool) (n : ℕ) (xs : List X) → list_any pass (take n xs) ≡ false → filter pass xs ≡ filter pass (drop n xs)
+last_alone pass n xs none = cut_at pass n xs ∙ ap (λ l. l ++ filter pass (drop n xs)) (none_passes pass (take n xs) none)
+
+pub alike_before : (tree : Content) (p : List (List ℕ)) (n : ℕ) (names others : List (List ℕ)) → AreSameLast n names others → list_any (named_kid tree p) (take (length names - n) names) ≡ false
+    → list_any (named_kid tree p) (take (length others - n) others) ≡ false → named_kids tree p names ≡ named_kids tree p others
+alike_before tree p n names others last none no_other =
+    let pass = named_kid tree p in
+    last_alone pass (length names - n) names none ∙ ap (filter pass) last.same ∙ sym (last_alone pass (length others - n) others no_other)
+
+-- ---- the walk over all nodes
+
+-- the parents of the first nodes with an alias
+abbrev pub AreNoted : Content → List (List (List ℕ)) → List (List (List ℕ)) → Type 0
+AreNoted tree done parents = (q : List (List ℕ)) → list_any (same_path q) done ≡ true → is_named (node_at tree q) ≡ true → list_any (same_path (parent_of q)) parents ≡ true
+
+or_true : (a b : Bool) → a ≡ true → (a || b) ≡ true
+or_true true b e = refl
+or_true false b e = absurd (true≢false (sym e))
+
+or_last : (a b : Bool) → b ≡ true → (a || b) ≡ true
+or_last true b e = refl
+or_last false b e = e
+
+either : (a b : Bool) → (a || b) ≡ true → a ≡ false → b ≡ true
+either true b e fails = absurd (true≢false fails)
+either false b e fails = e
+
+pub noted_none : (tree : Content) (parents : List (List (List ℕ))) → AreNoted tree [] parents
+noted_none tree parents q among named = absurd (false≢true among)
+
+pub noted_more : (tree : Content) (paths : List (List (List ℕ))) (i : ℕ) (path : List (List ℕ)) (old new : List (List (List ℕ))) → i < length paths → path ≡ get_or paths i path → AreNoted tree (take i paths) old
+    → ((q : List (List ℕ)) → list_any (same_path q) new ≡ (list_any (same_path q) old || (is_named (node_at tree path) && same_path q (parent_of path)))) → AreNoted tree (take (i + 1) paths) new
+noted_more tree paths i path old new within item so_far pushed q among named =
+    let both : (list_any (same_path q) (take i paths) || same_path q path) ≡ true =
+    ap (λ x. list_any (same_path q) (take i paths) || same_path q x) item ∙ sym (list_any_more (same_path q) paths i path within) ∙ among in
+    pushed (parent_of q)
+    ∙ ⊎_elim
+    (λ (before : list_any (same_path q) (take i paths) ≡ true).
+    or_true (list_any (same_path (parent_of q)) old) (is_named (node_at tree path) && same_path (parent_of q) (parent_of path)) (so_far q before named))
+    (λ (last : list_any (same_path q) (take i paths) ≡ false).
+    let one : q ≡ path = path_from_same q path (either (list_any (same_path q) (take i paths)) (same_path q path) both last) in
+    or_last (list_any (same_path (parent_of q)) old) (is_named (node_at tree path) && same_path (parent_of q) (parent_of path))
+    (ap (λ r. is_named (node_at tree r) && same_path (parent_of q) (parent_of r)) (sym one) ∙ ap (λ b. b && same_path (parent_of q) (parent_of q)) named ∙ same_path_self (parent_of q)))
+    (cases_Bool (list_any (same_path q) (take i paths)))
+
+find_none : {X : Type 0} (xs : List X) → find (λ x. false) xs ≡ None
+find_none [] = refl
+find_none (x ∷ xs) = find_none xs
+
+there_named : (o : Option Node) → is_named o ≡ true → is_some o ≡ true
+there_named None named = absurd (false≢true named)
+there_named (Some node) named = refl
+
+-- no kid of another node claims a text
+pub no_other_named : (tree : Content) (paths parents once : List (List (List ℕ))) → ((q : List (List ℕ)) → list_any (same_path q) paths ≡ is_some (node_at tree q)) → AreNoted tree paths parents
+    → ((q : List (List ℕ)) → list_any (same_path q) once ≡ list_any (same_path q) parents) → HasNoOtherNamed tree once
+no_other_named tree paths parents once all noted same p t other =
+    let none : (name : List ℕ) → claims_by (node_at tree) (kid p name) t ≡ false = λ name.
+    false_from_ne_true (claims_by (node_at tree) (kid p name) t) (λ claims.
+    let q = kid p name in
+    let named = (and_parts (is_path q) (is_named (node_at tree q)) (claimant_named tree p name t claims)).1 in
+    let among = noted q (all q ∙ there_named (node_at tree q) named) named in
+    true≢false (sym among ∙ ap (λ r. list_any (same_path r) parents) (parent_of-kid p name) ∙ sym (same p) ∙ other)) in
+    ap (option_map (kid p)) (find_alike (λ name. claims_by (node_at tree) (kid p name) t) (λ name. false) none (kids_by (node_at tree) p) ∙ find_none (kids_by (node_at tree) p))
+
+-- ---- what the looks at two lists have passed
+
+pub same_more : (xs ys : List (List ℕ)) (i : ℕ) (x y : List ℕ) → i < length xs → i < length ys → x ≡ get_or xs i x → y ≡ get_or ys i y → x ≡ y → take i xs ≡ take i ys → take (i + 1) xs ≡ take (i + 1) ys
+same_more xs ys i x y within in_other here there same so_far =
+    take_more xs i x within ∙ ap (λ l. l ++ get_or xs i x ∷ []) so_far ∙ ap (λ z. take i ys ++ z ∷ []) (sym here ∙ same ∙ there) ∙ sym (take_more ys i y in_other)
+
+one_before : (xs : List (List ℕ)) (i : ℕ) (x : List ℕ) → i < length xs → x ≡ get_or xs (length xs - 1 - i) x → drop (length xs - (i + 1)) xs ≡ x ∷ drop (length xs - i) xs
+one_before xs i x within here =
+    let a : length xs - (i + 1) ≡ length xs - 1 - i = omega arith in
+    let b : length xs - 1 - i + 1 ≡ length xs - i = omega (arith, within) in
+    ap (λ n. drop n xs) a ∙ drop_more xs (length xs - 1 - i) x (omega (arith, within)) ∙ ap (λ z. z ∷ drop (length xs - 1 - i + 1) xs) (sym here) ∙ ap (λ n. x ∷ drop n xs) b
+
+pub last_more : (xs ys : List (List ℕ)) (i : ℕ) (x y : List ℕ) → i < length xs → i < length ys → x ≡ get_or xs (length xs - 1 - i) x → y ≡ get_or ys (length ys - 1 - i) y → x ≡ y → drop (length xs - i) xs ≡ drop (length ys - i) ys
+    → drop (length xs - (i + 1)) xs ≡ drop (length ys - (i + 1)) ys
+last_more xs ys i x y within in_other here there same so_far =
+    one_before xs i x within here ∙ ap (λ z. z ∷ drop (length xs - i) xs) same ∙ ap (λ l. y ∷ l) so_far ∙ sym (one_before ys i y in_other there)
+
+pub named_is : (tree : Content) (p : List (List ℕ)) (name : List ℕ) (k : List (List ℕ)) → path_or_none (kid p name) ≡ Some k → is_named (node_at tree k) ≡ named_kid tree p name
+named_is tree p name k some =
+    let is = a_path (kid p name) k some in
+    ap (λ r. is_named (node_at tree r)) (sym is.0) ∙ sym (ap (λ b. b && is_named (node_at tree (kid p name))) is.1)
+
+pub unnamed : (tree : Content) (p : List (List ℕ)) (name : List ℕ) → path_or_none (kid p name) ≡ None → named_kid tree p name ≡ false
+unnamed tree p name none = ap (λ b. b && is_named (node_at tree (kid p name))) (not_a_path (kid p name) none)
+
+pub none_more : {X : Type 0} (test : X → Bool) (xs : List X) (i : ℕ) (x : X) → i < length xs → x ≡ get_or xs i x → list_any test (take i xs) ≡ false → test x ≡ false → list_any test (take (i + 1) xs) ≡ false
+none_more test xs i x within here none fails =
+    list_any_more test xs i x within ∙ ap (λ b. b || test (get_or xs i x)) none ∙ ap test (sym here) ∙ fails
+
+pub any_at : {X : Type 0} (test : X → Bool) (xs : List X) (i : ℕ) (x : X) → i < length xs → test (get_or xs i x) ≡ true → list_any test xs ≡ true
+any_at test [] i x within is = absurd (omega (arith, within))
+any_at test (y ∷ xs) zero x within is = or_true (test y) (list_any test xs) is
+any_at test (y ∷ xs) (suc i) x within is = or_last (test y) (list_any test xs) (any_at test xs i x (omega (arith, within)) is)
+
+pub not_so : (b : Bool) → not b ≡ true → b ≡ false
+not_so true e = absurd (false≢true e)
+not_so false e = refl
+
+-- the rest of a list, cut where the list ends
+pub rest_is : {X : Type 0} (n : ℕ) (xs : List X) → take (length xs - n) (drop n xs) ≡ drop n xs
+rest_is n xs = take_all (length xs - n) (drop n xs) (omega (arith, length-drop n xs))

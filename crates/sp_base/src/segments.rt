@@ -66,7 +66,7 @@ fn long_after(before: usize, text: &str) -> Option<usize>
 fn count(text: &str) -> usize
     ensures { result ≡ length (pieces text.now) }
 {
-    text.split('/').count()
+    slashes(text) + 1
 }
 
 pub fn size_fault(long: Option<usize>, before: usize, count: usize) -> Option<PathFault>
@@ -80,16 +80,19 @@ pub fn size_fault(long: Option<usize>, before: usize, count: usize) -> Option<Pa
     }
 }
 
-fn is_unfit(piece: &str) -> bool
+fn is_unfit(piece: &[u8]) -> bool
     ensures { result ≡ is_unfit piece.now }
 {
-    piece.is_empty() || (is_dots(piece) || piece.len() > LONGEST_SEGMENT)
+    piece.is_empty() || ((piece == b".".as_slice() || piece == b"..".as_slice()) || piece.len() > LONGEST_SEGMENT)
 }
 
+// Of bytes, since a search for a character goes through the whole text once more.
 fn has_unfit(text: &str) -> bool
     ensures { result ≡ list_any is_unfit (pieces text.now) }
 {
-    text.split('/').any(|piece| is_unfit(piece))
+    text.as_bytes()
+        .split(|b| *b == b'/')
+        .any(|piece| is_unfit(piece))
 }
 
 fn first_fault(before: usize, text: &str) -> Option<PathFault>

@@ -1,7 +1,6 @@
-use Rattle.std.proofs.Common.{lit<}
-use Rattle.std.proofs.lemmas.Iterator.Splits.{YieldsList-from_str_split}
-use Rattle.std.proofs.lemmas.Iterator.Consumers.{count_from_yields_List}
+use Rattle.std.proofs.Common.{◌∙◌, ◌+◌, ◌==◌, ap, sym}
+use Rattle.std.proofs.lemmas.List.Splits.{length-slice_split}
 use Rattle.sp_base.proofs.segments.count.Goals as goal
 
 pub returns : goal.returns
-returns c = count_from_yields_List c.split.result _ c.count.ensures.ran (YieldsList-from_str_split 47 c.args.text.now (lit< tt) c.split.ensures.text c.split.ensures.has_more c.split.ensures.pattern)
+returns c = ap (λ n. n + 1) c.slashes.ensures ∙ sym (length-slice_split (λ b. b == 47) c.args.text.now)

@@ -90,6 +90,23 @@ impl PropList {
         }
     }
 
+    /// Sets the value under a name that is handed over.
+    pub fn put_named(&mut self, name: TextBuf, value: Value) -> Mem<()>
+        ensures ok { OnOk result (self.new ≡ put by_name name value self.old) }
+        ensures err { OnErr result (self.new ≡ self.old) }
+    {
+        match place_of(&self.props, name.text()) {
+            Ok(place) => {
+                self.props[place].1 = value;
+                Ok(())
+            }
+            Err(place) => {
+                self.props.insert(place, (name, value))?;
+                Ok(())
+            }
+        }
+    }
+
     /// Takes the value under a name away. The answer says whether there was one.
     pub fn remove(&mut self, name: &str) -> bool
         ensures was { result ≡ is_some (find by_name name.now self.old) }

@@ -83,7 +83,9 @@ pub fn size_fault(long: Option<usize>, before: usize, count: usize) -> Option<Pa
 fn is_unfit(piece: &[u8]) -> bool
     ensures { result ≡ is_unfit piece.now }
 {
-    piece.is_empty() || ((piece == b".".as_slice() || piece == b"..".as_slice()) || piece.len() > LONGEST_SEGMENT)
+    piece.is_empty()
+        || ((piece == b".".as_slice() || piece == b"..".as_slice())
+            || piece.len() > LONGEST_SEGMENT)
 }
 
 // Of bytes, since a search for a character goes through the whole text once more.

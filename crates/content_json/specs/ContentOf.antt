@@ -1,5 +1,5 @@
 -- The content that bytes stand for as JSON (RFC 8259), or the first fault that they have.
-use Rattle.std.specs.Prelude.{ℕ, suc, List, [], ◌∷◌, length, Bool, not, ◌||◌, nat_lt, is_some, if◌then◌else◌, Option, Some, None, Result, Ok, Err}
+use Rattle.std.specs.Prelude.{ℕ, suc, List, [], ◌∷◌, length, Bool, ◌||◌, nat_lt, if◌then◌else◌, Option, Some, None, Result, Ok, Err}
 use Rattle.std.specs.FinMap.Entries.{put}
 use Rattle.std.specs.List.{list_any}
 use Rattle.std.specs.Str.{is_utf8}
@@ -22,10 +22,6 @@ json_of bytes = if is_utf8 bytes then read bytes else None
 -- more than 200,000 nodes, the root among them, or one below 64 levels
 abbrev pub is_too_big : Members → Bool
 is_too_big ms = nat_lt most_nodes (suc (count_below ms)) || is_deeper_below most_segments ms
-
--- no fault, and not too big
-abbrev pub is_sound : Members → Bool
-is_sound ms = not (is_some (fault_in (object ms)) || is_too_big ms)
 
 abbrev pub refused_by : Cause → List (List ℕ) → ContentFault
 refused_by cause.BadName path = BadName path

@@ -1,5 +1,5 @@
 -- What proofs and private functions need: the steps of reading and of writing.
-use Rattle.std.specs.Prelude.{◌≡◌, ◌-◌, ◌&&◌, ◌||◌, nat_lt, is_some, ℕ, List, [], ◌∷◌, Bool, true, false, T, Option, Some, None, option_map, if◌then◌else◌, flat_map, length}
+use Rattle.std.specs.Prelude.{◌≡◌, ◌-◌, ◌&&◌, ◌||◌, not, nat_lt, is_some, ℕ, List, [], ◌∷◌, Bool, true, false, T, Option, Some, None, option_map, if◌then◌else◌, flat_map, length}
 use Rattle.std.specs.FinMap.Entries.{is_sorted}
 use Rattle.std.specs.List.{list_all, list_any}
 use Rattle.std.specs.Option.{option_or}
@@ -17,6 +17,7 @@ use Rattle.property_json.specs.PropertyJson.{items_of, has_longs}
 use Rattle.content_json.specs.declared.fault.Found.{Found}
 use Rattle.content_json.specs.Names.{order_name, is_order}
 use Rattle.content_json.specs.Faults.{in_member, fault_in}
+use Rattle.content_json.specs.ContentOf.{is_too_big}
 use Rattle.content_json.specs.Nodes.{nodes_in, count_in, count_below, is_deeper, is_deeper_below}
 use Rattle.content_json.specs.Written.{node_json}
 
@@ -39,6 +40,10 @@ member_nodes path name d = if is_order name then [] else nodes_in (kid path name
 -- the node at a path of a tree with other nodes added
 abbrev pub with_nodes_at : Content → Content → List (List ℕ) → Option Node
 with_nodes_at tree nodes q = option_or (node_at nodes q) (node_at tree q)
+
+-- no fault, and not too big
+abbrev pub is_sound : Members → Bool
+is_sound ms = not (is_some (fault_in (object ms)) || is_too_big ms)
 
 -- how many of so many nodes are left beside those of a value. There is no answer where it has a fault, more nodes, or one more levels below
 abbrev pub room_after : ℕ → ℕ → Data → Option ℕ

@@ -123,38 +123,38 @@ fn add_members(
 {
     let mut props = PropList::new(alloc);
     for (name, value) in members {
-        add_member(alloc, nodes, path, &mut props, name.as_str(), value)?;
+        add_member(alloc, nodes, path, &mut props, TextBuf::from(name), value)?;
     }
     Ok(props)
 }
 
-// Adds the nodes of a member that is a kid, and the value of one that is a property.
+// Adds the nodes of a member that is a kid, and the value of one that is a property, whose name is moved.
 #[cycle(walk)]
 fn add_member(
     alloc: Global,
     nodes: &mut NodeMap,
     path: &Path,
     props: &mut PropList,
-    name: &str,
+    name: TextBuf,
     value: Value,
 ) -> Mem<()>
-    requires plain { (is_order name.now || is_content_name name.now) ≡ true }
-    requires faultless { member_fault name.now (view value) ≡ None }
-    requires shallow { (if is_order name.now then false else is_deeper (64 - length path.now) (view value)) ≡ false }
-    ensures props { OnOk result (props.new ≡ with_member name.now (view value) props.old) }
+    requires plain { (is_order name || is_content_name name) ≡ true }
+    requires faultless { member_fault name (view value) ≡ None }
+    requires shallow { (if is_order name then false else is_deeper (64 - length path.now) (view value)) ≡ false }
+    ensures props { OnOk result (props.new ≡ with_member name (view value) props.old) }
     ensures nodes { OnOk result ((q : List (List ℕ)) → node_at nodes.new q
-        ≡ with_nodes_at nodes.old (member_nodes path.now name.now (view value)) q) }
+        ≡ with_nodes_at nodes.old (member_nodes path.now name (view value)) q) }
 {
-    if is_order(name) {
+    if is_order(name.text()) {
         return Ok(());
     }
     match value {
         Value::Object(members) => {
-            let kid = kid_path(alloc, path, name)?;
+            let kid = kid_path(alloc, path, name.text())?;
             add_nodes(alloc, nodes, kid, members)
         }
         value => match value_of(alloc, value)? {
-            Some(prop) => props.put(alloc, name, prop),
+            Some(prop) => props.put_named(name, prop),
             None => Ok(()),
         },
     }

@@ -10,11 +10,7 @@ mod play;
 mod program;
 mod site;
 mod steps;
-#[cfg(test)]
-mod stream_tests;
 mod streams;
-#[cfg(test)]
-mod tests;
 
 use command::command;
 use ending::Ending;

@@ -5,6 +5,7 @@ ghost use Rattle.serde_json.specs.View.{view, members_view};
 ghost use Rattle.content_json.specs.Faults.{fault_in};
 ghost use Rattle.content_json.specs.Nodes.{nodes_in};
 ghost use Rattle.content_json.specs.ContentOf.{json_of, is_too_big, refused_by, map_of, content_in, content};
+ghost use Rattle.content_json.specs.Steps.{is_sound};
 
 use crate::ContentFault;
 use crate::fault::{Cause, Found};

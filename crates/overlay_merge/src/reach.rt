@@ -11,6 +11,9 @@ use resource_tree::Tree;
 use sp_base::{Mem, Path};
 use std::alloc::Global;
 
+/// Along a path of at most so many bytes a look for nodes costs more than what it saves: it may be cut in few places.
+const SHORT_PATH: usize = 128;
+
 // The number of segments of the deepest node at a path or above it: below it no node is the last of its line.
 fn deepest_node(alloc: Global, tree: &Tree, path: &Path) -> Mem<usize>
     requires { is_merged_path path.now ≡ false }
@@ -62,6 +65,9 @@ pub(crate) fn reach(alloc: Global, tree: &Tree, path: &Path) -> Mem<usize>
 {
     if is_merged_path(path) {
         return deepest_layer(alloc, tree, path);
+    }
+    if path.as_text().len() <= SHORT_PATH {
+        return Ok(path.depth());
     }
     deepest_node(alloc, tree, path)
 }

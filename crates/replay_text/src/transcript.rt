@@ -39,7 +39,7 @@ fn push_escaped(out: &mut Vec<u8>, b: u8) -> Mem<()>
         b'\r' => push(out, b"\\r"),
         b'\n' => push(out, b"\\n"),
         b'\t' => push(out, b"\\t"),
-        32..=126 => push(out, &[b]),
+        32..=126 => Ok(out.push(b)?),
         _ => push(out, &[b'\\', b'x', hex_digit(b / 16), hex_digit(b % 16)]),
     }
 }
@@ -47,6 +47,7 @@ fn push_escaped(out: &mut Vec<u8>, b: u8) -> Mem<()>
 fn push_quoted(out: &mut Vec<u8>, bytes: &[u8]) -> Mem<()>
     ensures { OnOk result (out.new.items ≡ out.old.items ++ quotation bytes.now) }
 {
+    out.reserve(bytes.len().saturating_add(2))?;
     push(out, b"\"")?;
     for b in bytes {
         push_escaped(out, *b)?;

@@ -91,8 +91,9 @@ module _ (tree : Content) (good : IsTree (node_at tree)) where
       let le = within_reach read parents within site path m.below depth k valid is none (ap is_some m.there) m.plain (subst (λ t. k ≤ length t) (sym spelled) inside) (ap (take k) spelled ∙ m.text_is) in
       omega (arith, le, beyond)
 
--- no mapping at all, where the site's node has a pattern
-pub none_barred : (tree : Content) (site : List (List ℕ)) (text : List ℕ) → has_match tree site ≡ true → HasNoMappingBeyond tree (Some site) text 0
-none_barred tree site text has k pair beyond inside m =
-    let none = m.plain (length site) (omega arith) (omega (arith, length-append site m.below)) in
-    absurd (true≢false (sym has ∙ ap (has_match tree) (sym (take-append_seam site m.below)) ∙ none))
+-- no mapping at all, where the site has no node, or one with a pattern
+pub none_barred : (tree : Content) → IsTree (node_at tree) → (site : List (List ℕ)) (text : List ℕ) → is_passable tree site ≡ false → HasNoMappingBeyond tree (Some site) text 0
+none_barred tree good site text none k pair beyond inside m =
+    let there : is_some (node_at tree site) ≡ true = ancestor tree good site m.below (ap is_some m.there) in
+    let plain : has_match tree site ≡ false = ap (has_match tree) (sym (take-append_seam site m.below)) ∙ m.plain (length site) (omega arith) (omega (arith, length-append site m.below)) in
+    absurd (true≢false (sym (and_from _ _ there (ap not plain)) ∙ none))

@@ -2,13 +2,12 @@
 ghost use Rattle.std.specs.Prelude.{◌≡◌, ◌++◌, IfOk, Some};
 ghost use Rattle.url_maps.specs.Search.{HasNoMappingBeyond, IsBarredAt, is_passable};
 
-use crate::mappings::has_match;
 use resource_tree::Tree;
 use sp_base::{Mem, NoMemory, Path, PathFault, a_path_and_its_text, the_prefixes_of_a_path};
 use std::alloc::Global;
 
-// The most bytes of the prefix of a mapping in a text: no mapping is below the first of the text's segments that has no node, or one
-// with a pattern.
+// The most bytes of the prefix of a mapping in a text: no mapping is below the first of the site and the text's segments that has no
+// node, or one with a pattern.
 pub(crate) fn reach_of(alloc: Global, tree: &Tree, site: &Option<Path>, text: &str) -> Mem<usize>
     ensures { IfOk result (HasNoMappingBeyond tree.now site.now text.now) }
 {
@@ -25,7 +24,7 @@ fn reach_below(alloc: Global, tree: &Tree, site: &Path, text: &str) -> Mem<usize
     the_prefixes_of_a_path();
     // `len` says that the parent of each node is there.
     let _ = tree.len();
-    if has_match(tree, site) {
+    if !is_plain_node(tree, site) {
         return Ok(0);
     }
     match Path::read(alloc, text) {
@@ -58,7 +57,18 @@ fn is_passable(alloc: Global, tree: &Tree, site: &Path, below: &Path) -> Mem<boo
     // `len` says that nodes are at paths alone.
     let _ = tree.len();
     match site.join_or_none(alloc, below)? {
-        Some(path) => Ok(tree.node(&path).is_some() && !has_match(tree, &path)),
+        Some(path) => Ok(is_plain_node(tree, &path)),
         None => Ok(false),
+    }
+}
+
+// Whether a node is at a path, and that one without a pattern: one look-up for both.
+#[tactic(auto, unfolding(crate::specs::Mappings::has_match))]
+fn is_plain_node(tree: &Tree, path: &Path) -> bool
+    ensures { result ≡ is_passable tree.now path.now }
+{
+    match tree.node(path) {
+        Some(node) => !node.props.get("sling:match").is_some(),
+        None => false,
     }
 }

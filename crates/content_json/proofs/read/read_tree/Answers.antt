@@ -4,6 +4,7 @@ use Rattle.serde_json.specs.View.{view, members_view}
 use Rattle.serde_json.proofs.Views.{view-Object}
 use Rattle.content_json.specs.Faults.{fault_in}
 use Rattle.content_json.specs.ContentOf.{json_of, is_too_big}
+use Rattle.content_json.specs.Steps.{is_sound}
 use Rattle.content_json.proofs.RoomLemmas.{neither_of}
 use Rattle.content_json.proofs.InOrder.{in_order_read}
 use Rattle.content_json.proofs.GoodLemmas.{good_content}

@@ -1,4 +1,4 @@
-use Rattle.std.proofs.Common.{◌∙◌, Some, ap, sym, subst, length}
+use Rattle.std.proofs.Common.{◌∙◌, Some, ap, sym, subst, length, rules, tests}
 use Rattle.sp_base.specs.Paths.{text_of}
 use Rattle.url_maps.specs.Search.{HasNoMappingBeyond}
 use Rattle.url_maps.proofs.ReachLemmas.{none_barred, none_beyond}
@@ -15,5 +15,5 @@ returns-in_ok-first-in-Ok c =
     (none_beyond tree c.len.ensures.good.shape c.a_path_and_its_text.ensures.read c.the_prefixes_of_a_path.ensures.parent c.the_prefixes_of_a_path.ensures.within site path text c.in_ok-depth-in-Ok.depth
     (c.a_path_and_its_text.ensures.valid text path read) (c.a_path_and_its_text.ensures.spelled text path read) c.in_ok-depth-in-Ok.ensures)
 
-pub returns-then-has_match : goal.returns-then-has_match
-returns-then-has_match c = none_barred c.args.tree.now c.args.site.now c.args.text.now (sym c.has_match.ensures ∙ c.if-has_match.true)
+pub returns-then-not-is_plain_node : goal.returns-then-not-is_plain_node
+returns-then-not-is_plain_node c = none_barred c.args.tree.now c.len.ensures.good.shape c.args.site.now c.args.text.now (search (rules, tests))

@@ -2,6 +2,7 @@ pub mod PathLemmas
 pub mod NodeLookups
 pub mod EntriesInOrder
 pub mod HashedNodes
+pub mod RowLemmas
 pub mod Patching
 pub mod Creation
 pub mod Copying

@@ -15,13 +15,12 @@ use Rattle.std.proofs.lemmas.Option.{get_or_from_slice_get}
 use Rattle.sp_base.specs.PathExact.{exact_paths}
 use Rattle.sp_base.specs.Paths.{is_path, is_under}
 use Rattle.resource_tree.specs.declared.nodes.Node.{Node}
-use Rattle.resource_tree.specs.declared.faults.TreeFault.{TreeFault}
-use Rattle.resource_tree.specs.declared.faults.TreeFault.TheVariants.{NoSuch, RootFixed, TooDeep}
+use Rattle.resource_tree.specs.declared.faults.TreeFault.TheVariants.{TooDeep}
 use Rattle.resource_tree.specs.declared.patch.PatchNode.TheVariants as there
 use Rattle.resource_tree.specs.Content.{Content, IsGood, by_path, same_path, node_at, kid, prop_at, parent_of, name_of, empty_node}
 use Rattle.resource_tree.specs.Changes.{change_at, with_kid, without_kid, has_prop_at, removal, removal_at}
 use Rattle.resource_tree.specs.Patches.{left_by}
-use Rattle.resource_tree.specs.Moves.{path_there, part, part_there, is_too_deep, target_fault, first_fault, ends_fault, move_fault, relocation, relocation_at}
+use Rattle.resource_tree.specs.Moves.{path_there, part, part_there, is_too_deep, first_fault, ends_fault, move_fault, relocation, relocation_at}
 use Rattle.resource_tree.specs.Parts.{both_paths, rekeying, renamed_at, unnamed_at}
 use Rattle.resource_tree.proofs.PathLemmas.{by_path_total, kid_parts, same_path_self, same_path_apart}
 use Rattle.resource_tree.proofs.NodeLookups.{node_at-change_at, length-change_at}

@@ -5,5 +5,6 @@ pub mod Changes
 pub mod Patches
 pub mod Moves
 pub mod Parts
+pub mod Rows
 pub mod Seen
 pub mod Shown

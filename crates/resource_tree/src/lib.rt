@@ -15,12 +15,12 @@ mod nodes;
 mod order;
 mod part;
 mod patch;
-mod paths;
 mod places;
 mod properties;
 mod relocate;
 mod remove;
 mod room;
+mod rows;
 mod table;
 mod tree;
 

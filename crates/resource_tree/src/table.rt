@@ -1,9 +1,11 @@
 // The table of a tree's nodes: found by hashing their paths, and seen in the order of the paths.
-ghost use Rattle.std.specs.Prelude.{◌≡◌, ◌+◌, ◌<◌, ◌≤◌, ℕ, List, None, cond, [], OnOk, OnErr, IsOk, length, is_some, option_copied};
+ghost use Rattle.std.specs.Prelude.{◌≡◌, ◌+◌, ◌<◌, ◌≤◌, ℕ, List, None, cond, [], IfOk, OnOk, OnErr, IsOk, length, map, is_some, option_copied};
 ghost use Rattle.std.specs.BTreeMap.{insert_entry};
 ghost use Rattle.std.specs.List.Sorted.{IsStrictlySortedBy};
 ghost use Rattle.std.specs.Map.{keys_of, remove_entry};
+ghost use Rattle.std.specs.Map.Iter.{deref_pair};
 ghost use Rattle.resource_tree.specs.Content.{by_path, node_at, same_path};
+ghost use Rattle.resource_tree.specs.Rows.{AreRowsOf};
 
 use crate::nodes::Node;
 use sp_base::{Mem, NoMemory, Path};
@@ -55,6 +57,17 @@ impl Nodes {
         ensures { result ≡ is_some (node_at self.now.entries path.now) }
     {
         self.map.contains_key(path)
+    }
+
+    // The nodes with their paths, as they lie.
+    pub(crate) fn rows(&self, alloc: Global) -> Mem<Vec<(&Path, &Node)>>
+        ensures { IfOk result (λ rows. AreRowsOf self.now.entries (map deref_pair rows.items)) }
+    {
+        let mut rows = Vec::with_capacity(alloc, self.map.len())?;
+        for (path, node) in self.map.iter() {
+            rows.push((path, node))?;
+        }
+        Ok(rows)
     }
 
     pub(crate) fn insert(&mut self, path: Path, node: Node) -> Mem<()>

@@ -1,19 +1,20 @@
 -- Who claims a text after one more claim, and after a node's.
-use Rattle.std.proofs.Common.{◌≡◌, ◌<◌, ◌≤◌, ◌+◌, ℕ, Bool, true, false, cond, List, [], ◌∷◌, ◌++◌, Option, Some, None, map, take, length, get_or, refl, sym, ◌∙◌, ap, arith, ⊎_elim}
+use Rattle.std.proofs.Common.{◌≡◌, ◌<◌, ◌≤◌, ◌+◌, ℕ, Bool, true, false, cond, List, [], ◌∷◌, ◌++◌, Option, Some, None, map, take, length, get_or, refl, sym, ◌∙◌, ap, subst, arith, ⊎_elim}
 use Rattle.std.specs.Prelude.{◌||◌, ◌&&◌, ◌==◌, not, codes, is_some, Result, Ok, Err, IsOk, OnOk}
 use Rattle.std.specs.List.{list_any}
-use Rattle.std.specs.Map.{lookup}
+use Rattle.std.specs.Map.{keys_of, lookup}
 use Rattle.std.specs.Option.{option_map_or}
 use Rattle.std.proofs.lemmas.Bool.{cases_Bool, false_from_ne_true, true≢false}
 use Rattle.std.specs.Cmp.Lexicographic.{nat_list_eq_equiv, same_text}
 use Rattle.std.proofs.lemmas.Bool.Decides.{nat_tests}
-use Rattle.std.proofs.lemmas.List.{take_all}
+use Rattle.std.proofs.lemmas.List.{get_or-map, length-map, take_all}
 use Rattle.std.proofs.lemmas.List.Folds.{list_any-append, list_any_more}
 use Rattle.resource_tree.specs.declared.nodes.Node.{Node}
 use Rattle.std.specs.Str.{bytes_eq}
 use Rattle.resource_tree.specs.Content.{Content, node_at, same_path}
 use Rattle.resource_tree.specs.Content.{prop_at}
-use Rattle.url_maps.specs.Claims.{AddsClaims, AreClaims, ClaimsAreWithin, ClaimRows, claimants, claims_vanity_path, node_claims_alias, node_claims_vanity_path, spells_alias, spells_vanity_path}
+use Rattle.resource_tree.specs.Rows.{AreRowsOf}
+use Rattle.url_maps.specs.Claims.{AddsClaims, AreClaims, ClaimsAreWithin, ClaimRows, claimants, claims_alias, claims_vanity_path, node_claims_alias, node_claims_vanity_path, spells_alias, spells_vanity_path}
 use Rattle.url_maps.specs.Words.{mapping_texts}
 use Rattle.url_maps.proofs.PathLemmas.{path_from_same}
 
@@ -66,21 +67,9 @@ law_gather true false c d h = or_false c
 law_gather false true c d h = h refl
 law_gather false false c d h = refl
 
--- the claims of a tree's first nodes, and of one node more
-pub more_nodes : (q : List (List ℕ)) (paths : List (List (List ℕ))) (i : ℕ) (path : List (List ℕ)) (c d x y : Bool) → i < length paths → path ≡ get_or paths i path → (same_path q path ≡ true → d ≡ c)
-    → x ≡ (list_any (same_path q) (take i paths) && c) → y ≡ (x || (same_path q path && d)) → y ≡ (list_any (same_path q) (take (i + 1) paths) && c)
-more_nodes q paths i path c d x y within item same so_far is =
-    is ∙ ap (λ z. z || (same_path q path && d)) so_far ∙ law_gather (list_any (same_path q) (take i paths)) (same_path q path) c d same
-    ∙ ap (λ z. z && c) (ap (λ p. list_any (same_path q) (take i paths) || same_path q p) item ∙ sym (list_any_more (same_path q) paths i path within))
-
 there_and : (test : Node → Bool) (o : Option Node) → (is_some o && option_map_or test o false) ≡ option_map_or test o false
 there_and test None = refl
 there_and test (Some node) = refl
-
--- the claims of all nodes
-pub all_nodes : (tree : Content) (q : List (List ℕ)) (test : Node → Bool) (paths : List (List (List ℕ))) (x : Bool) → list_any (same_path q) paths ≡ is_some (node_at tree q)
-    → x ≡ (list_any (same_path q) paths && option_map_or test (node_at tree q) false) → x ≡ option_map_or test (node_at tree q) false
-all_nodes tree q test paths x all is = is ∙ ap (λ z. z && option_map_or test (node_at tree q) false) all ∙ there_and test (node_at tree q)
 
 -- ---- the claims after a call
 
@@ -143,12 +132,35 @@ words_more first rows more path test words i word within item so_far is t q =
     more_words (list_any (same_path q) (claimants first t)) (same_path q path) (list_any (same_path q) (claimants rows t)) (list_any (same_path q) (claimants more t)) (test t) words i word within (so_far t q)
     (is t q ∙ ap (λ w. list_any (same_path q) (claimants rows t) || (same_path q path && test t w)) item)
 
--- the claims of the first nodes
-pub nodes_more : (rows more : ClaimRows) (paths : List (List (List ℕ))) (i : ℕ) (path : List (List ℕ)) (claims : List (List ℕ) → List ℕ → Bool) → i < length paths → path ≡ get_or paths i path
-    → ((t : List ℕ) (q : List (List ℕ)) → list_any (same_path q) (claimants rows t) ≡ (list_any (same_path q) (take i paths) && claims q t)) → AddsClaims path (claims path) rows more
-    → (t : List ℕ) (q : List (List ℕ)) → list_any (same_path q) (claimants more t) ≡ (list_any (same_path q) (take (i + 1) paths) && claims q t)
-nodes_more rows more paths i path claims within item so_far is t q =
-    more_nodes q paths i path (claims q t) (claims path t) (list_any (same_path q) (claimants rows t)) (list_any (same_path q) (claimants more t)) within item (λ same. ap (λ p. claims p t) (sym (path_from_same q path same))) (so_far t q) (is t q)
+-- the claims of a tree's first rows
+abbrev pub AreOfRows : {R : Type 0} → (R → List (List ℕ)) → (List (List ℕ) → List ℕ → Bool) → List R → ClaimRows → Type 0
+AreOfRows key claims done rows = (t : List ℕ) (q : List (List ℕ)) → list_any (same_path q) (claimants rows t) ≡ (list_any (λ r. same_path q (key r)) done && claims q t)
+
+-- and of one row more
+pub rows_more : {R : Type 0} (key : R → List (List ℕ)) (claims : List (List ℕ) → List ℕ → Bool) (here : List ℕ → Bool) (all : List R) (i : ℕ) (row : R) (old new : ClaimRows) → i < length all → row ≡ get_or all i row
+    → ((t : List ℕ) → claims (key row) t ≡ here t) → AreOfRows key claims (take i all) old → AddsClaims (key row) here old new → AreOfRows key claims (take (i + 1) all) new
+rows_more key claims here all i row old new within item same so_far is t q =
+    is t q ∙ ap (λ z. z || (same_path q (key row) && here t)) (so_far t q)
+    ∙ law_gather (list_any (λ r. same_path q (key r)) (take i all)) (same_path q (key row)) (claims q t) (here t) (λ one. sym (same t) ∙ ap (λ p. claims p t) (sym (path_from_same q (key row) one)))
+    ∙ ap (λ z. z && claims q t)
+    (ap (λ r. list_any (λ o. same_path q (key o)) (take i all) || same_path q (key r)) item ∙ sym (list_any_more (λ r. same_path q (key r)) all i row within))
+
+-- a row's path has its node
+pub row_there : {R : Type 0} (f : R → List (List ℕ) × Node) (tree : Content) (all : List R) (i : ℕ) (row : R) → AreRowsOf tree (map f all) → i < length all → row ≡ get_or all i row → node_at tree (f row).0 ≡ Some (f row).1
+row_there f tree all i row are within item =
+    subst (λ (e : List (List ℕ) × Node). node_at tree e.0 ≡ Some e.1) (get_or-map f all i row (f row) within ∙ ap f (sym item))
+    (are.nodes i (f row) (omega (arith, within, length-map all f)))
+
+any_keys : {R : Type 0} (f : R → List (List ℕ) × Node) (q : List (List ℕ)) (all : List R) → list_any (same_path q) (keys_of (map f all)) ≡ list_any (λ r. same_path q (f r).0) all
+any_keys f q [] = refl
+any_keys f q (r ∷ all) = ap (λ b. same_path q (f r).0 || b) (any_keys f q all)
+
+-- the claims of all rows
+all_rows : {R : Type 0} (f : R → List (List ℕ) × Node) (tree : Content) (q : List (List ℕ)) (test : Node → Bool) (all : List R) (i : ℕ) (x : Bool) → AreRowsOf tree (map f all) → length all ≤ i
+    → x ≡ (list_any (λ r. same_path q (f r).0) (take i all) && option_map_or test (node_at tree q) false) → x ≡ option_map_or test (node_at tree q) false
+all_rows f tree q test all i x are end is =
+    is ∙ ap (λ rs. list_any (λ r. same_path q (f r).0) rs && option_map_or test (node_at tree q) false) (take_all i all end)
+    ∙ ap (λ z. z && option_map_or test (node_at tree q) false) (sym (any_keys f q all) ∙ are.paths q) ∙ there_and test (node_at tree q)
 
 not_zero : (n : ℕ) → (n ≡ 0 → ⊥) → (n == 0) ≡ false
 not_zero n some = grind (arith, nat_tests)
@@ -168,16 +180,25 @@ pub vanity_words : (node : Node) (words : List (List ℕ)) → words ≡ mapping
 unfolding node_claims_vanity_path
 vanity_words node words are text = ap (list_any (spells_vanity_path text)) (sym are)
 
--- claims by another spelling of their test
-pub adds_alike : (path : List (List ℕ)) (old new : ClaimRows) (test other : List ℕ → Bool) → ((t : List ℕ) → other t ≡ test t) → AddsClaims path test old new → AddsClaims path other old new
-adds_alike path old new test other same adds t q = adds t q ∙ ap (λ b. list_any (same_path q) (claimants old t) || (same_path q path && b)) (sym (same t))
-
 -- the claims of all nodes of a tree
-pub whole_vanity_paths : (tree : Content) (rows : ClaimRows) (paths : List (List (List ℕ))) (i : ℕ) → length paths ≤ i → ((q : List (List ℕ)) → list_any (same_path q) paths ≡ is_some (node_at tree q))
-    → ((t : List ℕ) (q : List (List ℕ)) → list_any (same_path q) (claimants rows t) ≡ (list_any (same_path q) (take i paths) && claims_vanity_path tree q t)) → AreClaims (claims_vanity_path tree) rows
+pub whole_aliases : {R : Type 0} (f : R → List (List ℕ) × Node) (tree : Content) (rows : ClaimRows) (all : List R) (i : ℕ) → AreRowsOf tree (map f all) → length all ≤ i → AreOfRows (λ r. (f r).0) (claims_alias tree) (take i all) rows
+    → AreClaims (claims_alias tree) rows
+unfolding claims_alias
+whole_aliases f tree rows all i are end is t q = all_rows f tree q (λ node. node_claims_alias q node t) all i (list_any (same_path q) (claimants rows t)) are end (is t q)
+
+pub whole_vanity_paths : {R : Type 0} (f : R → List (List ℕ) × Node) (tree : Content) (rows : ClaimRows) (all : List R) (i : ℕ) → AreRowsOf tree (map f all) → length all ≤ i → AreOfRows (λ r. (f r).0) (claims_vanity_path tree) (take i all) rows
+    → AreClaims (claims_vanity_path tree) rows
 unfolding claims_vanity_path
-whole_vanity_paths tree rows paths i end all is t q =
-    all_nodes tree q (λ node. node_claims_vanity_path node t) paths (list_any (same_path q) (claimants rows t)) (all q) (is t q ∙ ap (λ ps. list_any (same_path q) ps && claims_vanity_path tree q t) (take_all i paths end))
+whole_vanity_paths f tree rows all i are end is t q = all_rows f tree q (λ node. node_claims_vanity_path node t) all i (list_any (same_path q) (claimants rows t)) are end (is t q)
+
+-- what the node of a path claims
+pub alias_there : (tree : Content) (path : List (List ℕ)) (node : Node) → node_at tree path ≡ Some node → (t : List ℕ) → claims_alias tree path t ≡ node_claims_alias path node t
+unfolding claims_alias
+alias_there tree path node is t = ap (λ o. option_map_or (λ (n : Node). node_claims_alias path n t) o false) is
+
+pub vanity_path_there : (tree : Content) (path : List (List ℕ)) (node : Node) → node_at tree path ≡ Some node → (t : List ℕ) → claims_vanity_path tree path t ≡ node_claims_vanity_path node t
+unfolding claims_vanity_path
+vanity_path_there tree path node is t = ap (λ o. option_map_or (λ (n : Node). node_claims_vanity_path n t) o false) is
 
 -- ---- the longest claimed text
 

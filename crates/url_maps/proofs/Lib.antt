@@ -10,6 +10,7 @@ pub mod TurnLemmas
 pub mod LocationLemmas
 pub mod ShorterLemmas
 pub mod SiblingLemmas
+pub mod SharedLemmas
 pub mod ParentLemmas
 pub mod LawLemmas
 pub mod AnswerLemmas

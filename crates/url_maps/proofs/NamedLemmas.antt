@@ -11,7 +11,7 @@ use Rattle.sp_base.specs.Paths.{is_path, parent_of, path_or_none}
 use Rattle.resource_tree.specs.declared.nodes.Node.{Node}
 use Rattle.resource_tree.specs.Content.{Content, kid, node_at, same_path}
 use Rattle.url_maps.specs.Claims.{claims_by, kids_by, node_claims_alias, spells_alias}
-use Rattle.url_maps.specs.Siblings.{AreSameFirst, AreSameLast, HasNoOtherNamed, alias_words, is_named, named_kid, named_kids}
+use Rattle.url_maps.specs.Siblings.{AreSameFirst, AreSameLast, alias_words, is_named, named_kid, named_kids}
 use Rattle.url_maps.proofs.AliasLemmas.{find_alike, not_root}
 use Rattle.url_maps.proofs.ClaimLemmas.{and_false}
 use Rattle.url_maps.proofs.SiblingLemmas.{a_path, not_a_path}
@@ -83,12 +83,6 @@ alike_before tree p n names others last none no_other =
     let pass = named_kid tree p in
     last_alone pass (length names - n) names none ∙ ap (filter pass) last.same ∙ sym (last_alone pass (length others - n) others no_other)
 
--- ---- the walk over all nodes
-
--- the parents of the first nodes with an alias
-abbrev pub AreNoted : Content → List (List (List ℕ)) → List (List (List ℕ)) → Type 0
-AreNoted tree done parents = (q : List (List ℕ)) → list_any (same_path q) done ≡ true → is_named (node_at tree q) ≡ true → list_any (same_path (parent_of q)) parents ≡ true
-
 or_true : (a b : Bool) → a ≡ true → (a || b) ≡ true
 or_true true b e = refl
 or_true false b e = absurd (true≢false (sym e))
@@ -96,48 +90,6 @@ or_true false b e = absurd (true≢false (sym e))
 or_last : (a b : Bool) → b ≡ true → (a || b) ≡ true
 or_last true b e = refl
 or_last false b e = e
-
-either : (a b : Bool) → (a || b) ≡ true → a ≡ false → b ≡ true
-either true b e fails = absurd (true≢false fails)
-either false b e fails = e
-
-pub noted_none : (tree : Content) (parents : List (List (List ℕ))) → AreNoted tree [] parents
-noted_none tree parents q among named = absurd (false≢true among)
-
-pub noted_more : (tree : Content) (paths : List (List (List ℕ))) (i : ℕ) (path : List (List ℕ)) (old new : List (List (List ℕ))) → i < length paths → path ≡ get_or paths i path → AreNoted tree (take i paths) old
-    → ((q : List (List ℕ)) → list_any (same_path q) new ≡ (list_any (same_path q) old || (is_named (node_at tree path) && same_path q (parent_of path)))) → AreNoted tree (take (i + 1) paths) new
-noted_more tree paths i path old new within item so_far pushed q among named =
-    let both : (list_any (same_path q) (take i paths) || same_path q path) ≡ true =
-    ap (λ x. list_any (same_path q) (take i paths) || same_path q x) item ∙ sym (list_any_more (same_path q) paths i path within) ∙ among in
-    pushed (parent_of q)
-    ∙ ⊎_elim
-    (λ (before : list_any (same_path q) (take i paths) ≡ true).
-    or_true (list_any (same_path (parent_of q)) old) (is_named (node_at tree path) && same_path (parent_of q) (parent_of path)) (so_far q before named))
-    (λ (last : list_any (same_path q) (take i paths) ≡ false).
-    let one : q ≡ path = path_from_same q path (either (list_any (same_path q) (take i paths)) (same_path q path) both last) in
-    or_last (list_any (same_path (parent_of q)) old) (is_named (node_at tree path) && same_path (parent_of q) (parent_of path))
-    (ap (λ r. is_named (node_at tree r) && same_path (parent_of q) (parent_of r)) (sym one) ∙ ap (λ b. b && same_path (parent_of q) (parent_of q)) named ∙ same_path_self (parent_of q)))
-    (cases_Bool (list_any (same_path q) (take i paths)))
-
-find_none : {X : Type 0} (xs : List X) → find (λ x. false) xs ≡ None
-find_none [] = refl
-find_none (x ∷ xs) = find_none xs
-
-there_named : (o : Option Node) → is_named o ≡ true → is_some o ≡ true
-there_named None named = absurd (false≢true named)
-there_named (Some node) named = refl
-
--- no kid of another node claims a text
-pub no_other_named : (tree : Content) (paths parents once : List (List (List ℕ))) → ((q : List (List ℕ)) → list_any (same_path q) paths ≡ is_some (node_at tree q)) → AreNoted tree paths parents
-    → ((q : List (List ℕ)) → list_any (same_path q) once ≡ list_any (same_path q) parents) → HasNoOtherNamed tree once
-no_other_named tree paths parents once all noted same p t other =
-    let none : (name : List ℕ) → claims_by (node_at tree) (kid p name) t ≡ false = λ name.
-    false_from_ne_true (claims_by (node_at tree) (kid p name) t) (λ claims.
-    let q = kid p name in
-    let named = (and_parts (is_path q) (is_named (node_at tree q)) (claimant_named tree p name t claims)).1 in
-    let among = noted q (all q ∙ there_named (node_at tree q) named) named in
-    true≢false (sym among ∙ ap (λ r. list_any (same_path r) parents) (parent_of-kid p name) ∙ sym (same p) ∙ other)) in
-    ap (option_map (kid p)) (find_alike (λ name. claims_by (node_at tree) (kid p name) t) (λ name. false) none (kids_by (node_at tree) p) ∙ find_none (kids_by (node_at tree) p))
 
 -- ---- what the looks at two lists have passed
 

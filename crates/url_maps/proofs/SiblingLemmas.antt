@@ -74,7 +74,7 @@ or_assoc : (a b c : Bool) → ((a || b) || c) ≡ (a || (b || c))
 or_assoc true b c = refl
 or_assoc false b c = refl
 
-or_yes : (a : Bool) → (a || true) ≡ true
+pub or_yes : (a : Bool) → (a || true) ≡ true
 or_yes true = refl
 or_yes false = refl
 
@@ -305,26 +305,7 @@ families_more read at names parents i p first old new within item so_far one = r
       ∙ ap (λ b. has_row first t || (b && is_some here)) more;
 }
 
--- ---- the index of a tree
-
-all_or_none : (there : Bool) (first : Option (List (List ℕ))) → (there ≡ false → first ≡ None) → or_else [] (cond there (option_to_list first) []) ≡ option_to_list first
-all_or_none true first none = refl
-all_or_none false first none = sym (ap option_to_list (none refl))
-
--- the rows of all families that claim something
-pub names_all : (at : List (List ℕ) → Option Node) (parents : List (List (List ℕ))) (rows : ClaimRows) → ((p : List (List ℕ)) (t : List ℕ) → list_any (same_path p) parents ≡ false → first_claimant at p t ≡ None) → PutsFamilies at true parents [] rows
-    → NamesFirst at rows
-names_all at parents rows none is q valid some =
-    is.paths q valid some ∙ all_or_none (list_any (same_path (parent_of q)) parents) (first_claimant at (parent_of q) (text_of q)) (none (parent_of q) (text_of q))
-
--- rows put over none
-pub over_none : (changed old new : ClaimRows) → old ≡ [] → ((t : List ℕ) → claimants new t ≡ option_map_or (λ paths. paths) (lookup (bytes_eq t) changed) (claimants old t)) → (t : List ℕ) → claimants new t ≡ claimants changed t
-over_none changed old new none is t = is t ∙ ap (λ rows. option_map_or (λ paths. paths) (lookup (bytes_eq t) changed) (claimants rows t)) none
-
-pub names_alike : (at : List (List ℕ) → Option Node) (old new : ClaimRows) → ((t : List ℕ) → claimants new t ≡ claimants old t) → NamesFirst at old → NamesFirst at new
-names_alike at old new same is q valid some = same (text_of q) ∙ is q valid some
-
--- ---- a change of it
+-- ---- a change of the first siblings
 
 no_first : (o : Option (List (List ℕ))) → is_some o ≡ false → option_to_list o ≡ []
 no_first None e = refl
@@ -372,7 +353,7 @@ names_by at other rows same is q valid some = is q valid some ∙ (λ i. option_
 -- ---- the alias that a text is
 
 module _ (read : IsReadBack) (tree : Content) (good : IsTree (node_at tree)) where
-  claims_by_is : (q : List (List ℕ)) (t : List ℕ) → claims_by (node_at tree) q t ≡ claims_alias tree q t
+  pub claims_by_is : (q : List (List ℕ)) (t : List ℕ) → claims_by (node_at tree) q t ≡ claims_alias tree q t
   unfolding claims_alias
   claims_by_is q t =
       elim (node_at tree q) as (λ o. node_at tree q ≡ o → (is_path q && option_map_or (λ (node : Node). node_claims_alias q node t) o false) ≡ option_map_or (λ (node : Node). node_claims_alias q node t) o false) [

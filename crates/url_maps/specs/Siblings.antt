@@ -1,5 +1,5 @@
 -- For the making of an index and of a change alone: how far the first siblings with an alias are put into rows.
-use Rattle.std.specs.Prelude.{◌≡◌, ◌≤◌, ◌<◌, ◌&&◌, ◌||◌, ◌==◌, ◌-◌, ℕ, Bool, true, false, not, is_some, if◌then◌else◌, codes, drop, filter, length, take, List, [], ◌∷◌, Option, Some, None, option_to_list}
+use Rattle.std.specs.Prelude.{⊤, ◌≡◌, ◌≤◌, ◌<◌, ◌&&◌, ◌||◌, ◌==◌, ◌-◌, ℕ, Bool, true, false, not, is_some, if◌then◌else◌, codes, drop, filter, length, take, List, [], ◌∷◌, Option, Some, None, option_to_list}
 use Rattle.std.specs.List.{list_any}
 use Rattle.std.specs.Option.{option_map_or}
 use Rattle.sp_base.specs.Paths.{is_path, parent_of, text_of}
@@ -37,6 +37,12 @@ pub record PutsFamilies (at : List (List ℕ) → Option Node) (names : Bool) (p
   pub has : (path : List (List ℕ)) → is_path path ≡ true → 0 < length path
       → has_row new (text_of path) ≡ (has_row old (text_of path) || (list_any (same_path (parent_of path)) parents && is_some (first_claimant at (parent_of path) (text_of path))))
 
+-- The parent of the first of some paths is among others, where they are more than one.
+abbrev pub HasParent : List (List (List ℕ)) → List (List (List ℕ)) → Type 0
+HasParent parents [] = ⊤
+HasParent parents (path ∷ []) = ⊤
+HasParent parents (path ∷ other ∷ paths) = list_any (same_path (parent_of path)) parents ≡ true
+
 -- ---- the nodes whose kids with an alias a patch changes, or the aliases of whose kids
 
 -- the kids of a node, if there is one
@@ -70,10 +76,6 @@ pub record AreSameLast (n : ℕ) (texts others : List (List ℕ)) : Type 0 where
   pub within : n ≤ length texts
   pub in_other : n ≤ length others
   pub same : drop (length texts - n) texts ≡ drop (length others - n) others
-
--- No node but some has a kid that claims a text.
-abbrev pub HasNoOtherNamed : Content → List (List (List ℕ)) → Type 0
-HasNoOtherNamed tree parents = (parent : List (List ℕ)) (text : List ℕ) → list_any (same_path parent) parents ≡ false → first_claimant (node_at tree) parent text ≡ None
 
 -- A row's node is among the parents unless the row leaves its kids with an alias, and its parent unless the row leaves its aliases.
 pub record IsSettled (tree : Content) (path : List (List ℕ)) (row : PatchNode) (parents : List (List (List ℕ))) : Type 0 where

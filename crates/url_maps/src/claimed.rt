@@ -22,7 +22,8 @@ pub(crate) fn alias_texts(alloc: Global, path: &Path, node: Option<&Node>) -> Me
     }
 }
 
-fn aliases_of(alloc: Global, path: &Path, node: &Node) -> Mem<TextList>
+// The texts that the node at a path claims as its aliases.
+pub(crate) fn aliases_of(alloc: Global, path: &Path, node: &Node) -> Mem<TextList>
     ensures { IfOk result (λ claimed. (t : List ℕ) → list_any (bytes_eq t) claimed ≡ node_claims_alias path.now node.now t) }
 {
     let mut claimed = TextList::new(alloc);
@@ -61,7 +62,8 @@ pub(crate) fn vanity_texts(alloc: Global, node: Option<&Node>) -> Mem<TextList>
     }
 }
 
-fn vanity_paths_of(alloc: Global, node: &Node) -> Mem<TextList>
+// The texts that a node claims as its vanity paths.
+pub(crate) fn vanity_paths_of(alloc: Global, node: &Node) -> Mem<TextList>
     ensures { IfOk result (λ claimed. (t : List ℕ) → list_any (bytes_eq t) claimed ≡ node_claims_vanity_path node.now t) }
 {
     let mut claimed = TextList::new(alloc);

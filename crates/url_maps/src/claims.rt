@@ -6,6 +6,7 @@ ghost use Rattle.resource_tree.specs.Patches.{patching_at};
 ghost use Rattle.url_maps.specs.Claims.{AddsClaims, claimants};
 ghost use Rattle.url_maps.specs.Changes.{claimants_over};
 ghost use Rattle.url_maps.specs.Noting.{Leads};
+ghost use Rattle.url_maps.specs.Siblings.{HasParent, IsWithin};
 
 use crate::claims_change::ClaimsChange;
 use indexmap::IndexMap;
@@ -96,6 +97,17 @@ impl Claims {
         Ok(())
     }
 
+    // The parents of the nodes that claim a text as their alias which others claim too.
+    pub(crate) fn shared_parents(&self, alloc: Global) -> Mem<PathList>
+        ensures { IfOk result (λ parents. (t : List ℕ) → HasParent parents (claimants self.now.rows t)) }
+    {
+        let mut parents = PathList::new(alloc);
+        for paths in self.table.values() {
+            push_shared(&mut parents, alloc, paths.as_slice())?;
+        }
+        Ok(parents)
+    }
+
     // Puts the path that leads before the others of its text, in each, in a tree with a patch over it.
     pub(crate) fn led(self, alloc: Global, tree: &Tree, patch: &Patch) -> Mem<Claims>
         ensures { IfOk result (λ claims. (t : List ℕ) → Leads (patching_at tree.now patch.now) (claimants self.rows t) (claimants claims.rows t)) }
@@ -142,4 +154,16 @@ impl Claims {
             drop(self.table.insert(text, paths));
         }
     }
+}
+
+// Adds the parent of the first of some paths, where they are more than one.
+fn push_shared(parents: &mut PathList, alloc: Global, paths: &[Path]) -> Mem<()>
+    ensures shared { OnOk result (HasParent parents.new paths.now) }
+    ensures within { OnOk result (IsWithin parents.old parents.new) }
+{
+    if paths.len() < 2 {
+        return Ok(());
+    }
+    parents.push(paths[0].parent(alloc)?)?;
+    Ok(())
 }

@@ -1,16 +1,12 @@
 // The index of a tree's aliases and vanity paths.
-ghost use Rattle.std.specs.Prelude.{◌≡◌, ◌||◌, ◌&&◌, ℕ, List, IfOk, OnOk, option_copied};
-ghost use Rattle.std.specs.List.{list_any};
-ghost use Rattle.resource_tree.specs.Content.{node_at, parent_of, same_path};
-ghost use Rattle.url_maps.specs.Claims.{AddsClaims, IsIndexOf, claims_vanity_path};
-ghost use Rattle.url_maps.specs.Siblings.{is_named};
+ghost use Rattle.std.specs.Prelude.{IfOk, OnOk};
+ghost use Rattle.url_maps.specs.Claims.{AddsClaims, IsIndexOf, node_claims_alias, node_claims_vanity_path};
 
-use crate::claimed::vanity_texts;
+use crate::claimed::{aliases_of, vanity_paths_of};
 use crate::claims::Claims;
-use crate::parents::{each_once, is_named};
 use crate::siblings::first_siblings;
 use resource_tree::{Node, Patch, Tree};
-use sp_base::{Mem, Path, PathList};
+use sp_base::{Mem, Path};
 use std::alloc::Global;
 use std::marker::Model;
 
@@ -31,51 +27,39 @@ impl Model for MapIndex {
 }
 
 impl MapIndex {
-    /// The index of a tree, made by one walk over its nodes, and one over the kids of those that have a kid with an alias.
+    /// The index of a tree, made by one walk over its nodes, and one over the kids of those of which two kids have one alias.
     pub fn of(alloc: Global, tree: &Tree) -> Mem<MapIndex>
         ensures { IfOk result (λ index. IsIndexOf tree.now index) }
     {
+        let mut aliases = Claims::new(alloc, tree.seeds());
         let mut vanity_paths = Claims::new(alloc, tree.seeds());
-        let mut parents = PathList::new(alloc);
-        let all = tree.paths(alloc)?;
-        let paths = all.as_slice();
-        for path in paths {
-            note_node(&mut vanity_paths, &mut parents, alloc, tree, path)?;
+        let all = tree.rows(alloc)?;
+        let rows = all.as_slice();
+        for row in rows {
+            note_node(&mut aliases, &mut vanity_paths, alloc, row.0, row.1)?;
         }
-        let named = each_once(alloc, tree, parents.as_slice())?;
         let unchanged = Patch::new(alloc, tree.seeds());
         Ok(MapIndex {
-            aliases: first_siblings(alloc, tree, named.as_slice())?,
+            aliases: first_siblings(alloc, tree, aliases)?,
             vanity_paths: vanity_paths.led(alloc, tree, &unchanged)?,
         })
     }
 }
 
-// Adds the vanity paths of the node at a path, if there is one, and its parent where it has an alias: one look-up for both.
+// Adds the aliases and the vanity paths of the node at a path.
 fn note_node(
-    claims: &mut Claims,
-    parents: &mut PathList,
+    aliases: &mut Claims,
+    vanity_paths: &mut Claims,
     alloc: Global,
-    tree: &Tree,
     path: &Path,
+    node: &Node,
 ) -> Mem<()>
-    ensures claims { OnOk result (AddsClaims path.now (claims_vanity_path tree.now path.now) claims.old.rows claims.new.rows) }
-    ensures parents { OnOk result ((q : List (List ℕ)) → list_any (same_path q) parents.new ≡ (list_any (same_path q) parents.old || (is_named (node_at tree.now path.now) && same_path q (parent_of path.now)))) }
+    ensures aliases { OnOk result (AddsClaims path.now (node_claims_alias path.now node.now) aliases.old.rows aliases.new.rows) }
+    ensures vanity_paths { OnOk result (AddsClaims path.now (node_claims_vanity_path node.now) vanity_paths.old.rows vanity_paths.new.rows) }
 {
-    let node = tree.node(path);
-    let texts = vanity_texts(alloc, node)?;
-    claims.add_all(alloc, texts.as_slice(), path)?;
-    push_parent(parents, alloc, path, node)?;
-    Ok(())
-}
-
-// Adds the parent of a path whose node has an alias.
-fn push_parent(parents: &mut PathList, alloc: Global, path: &Path, node: Option<&Node>) -> Mem<()>
-    ensures { OnOk result ((q : List (List ℕ)) → list_any (same_path q) parents.new ≡ (list_any (same_path q) parents.old || (is_named (option_copied node.entry) && same_path q (parent_of path.now)))) }
-{
-    if !is_named(node) {
-        return Ok(());
-    }
-    parents.push(path.parent(alloc)?)?;
+    let names = aliases_of(alloc, path, node)?;
+    aliases.add_all(alloc, names.as_slice(), path)?;
+    let texts = vanity_paths_of(alloc, node)?;
+    vanity_paths.add_all(alloc, texts.as_slice(), path)?;
     Ok(())
 }

@@ -2,30 +2,43 @@
 ghost use Rattle.std.specs.Prelude.{◌≡◌, IfOk, OnOk, option_copied};
 ghost use Rattle.resource_tree.specs.Content.{kid, node_at};
 ghost use Rattle.resource_tree.specs.Patches.{patching_at};
-ghost use Rattle.url_maps.specs.Claims.{NamesFirst, claims_by};
+ghost use Rattle.url_maps.specs.Claims.{AreClaims, NamesFirst, claims_alias, claims_by};
 ghost use Rattle.url_maps.specs.Changes.{LeadsOn};
-ghost use Rattle.url_maps.specs.Siblings.{HasNoOtherNamed, PutsFamilies, PutsKids, PutsRows, path_if};
+ghost use Rattle.url_maps.specs.Siblings.{PutsFamilies, PutsKids, PutsRows, path_if};
 
 use crate::claimed::alias_texts;
 use crate::claims::Claims;
 use crate::claims_change::ClaimsChange;
-use crate::parents::{changed_parents, left_by};
+use crate::parents::{changed_parents, each_once, left_by};
 use resource_tree::{Node, Patch, Tree};
 use sp_base::{Mem, Path, a_path_and_its_text};
 use std::alloc::Global;
 
-// The first siblings of a tree. The paths of all nodes that have a kid with an alias are handed in.
-pub(crate) fn first_siblings(alloc: Global, tree: &Tree, parents: &[Path]) -> Mem<Claims>
-    requires { HasNoOtherNamed tree.now parents.now }
-    ensures { IfOk result (λ claims. NamesFirst (node_at tree.now) claims.rows) }
+// The first siblings of a tree, made of all who claim a text as their alias. It walks over the kids of the nodes of which several kids
+// claim one text: of the others the one that claims a text is the first.
+pub(crate) fn first_siblings(alloc: Global, tree: &Tree, claims: Claims) -> Mem<Claims>
+    requires { AreClaims (claims_alias tree.now) claims.rows }
+    ensures { IfOk result (λ first. NamesFirst (node_at tree.now) first.rows) }
 {
+    a_path_and_its_text();
+    // `len` says that the tree is one.
+    let _ = tree.len();
+    let mut first = claims;
+    let shared = first.shared_parents(alloc)?;
+    let parents = each_once(alloc, tree, shared.as_slice())?;
     let unchanged = Patch::new(alloc, tree.seeds());
     let mut change = ClaimsChange::new(alloc, tree.seeds());
-    put_families(&mut change, alloc, tree, &unchanged, parents, true)?;
-    let mut claims = Claims::new(alloc, tree.seeds());
-    claims.make_room(change.len())?;
-    claims.change(change);
-    Ok(claims)
+    put_families(
+        &mut change,
+        alloc,
+        tree,
+        &unchanged,
+        parents.as_slice(),
+        true,
+    )?;
+    first.make_room(change.len())?;
+    first.change(change);
+    Ok(first)
 }
 
 // What a patch changes of the first siblings. It walks over the kids of the nodes whose kids it changes, or the aliases of whose kids.

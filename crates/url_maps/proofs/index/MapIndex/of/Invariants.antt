@@ -1,13 +1,10 @@
-use Rattle.std.proofs.Common.{◌≡◌, ℕ, List, take}
-use Rattle.std.specs.Prelude.{◌&&◌}
-use Rattle.std.specs.List.{list_any}
-use Rattle.resource_tree.specs.Content.{same_path}
-use Rattle.url_maps.specs.Claims.{claimants, claims_vanity_path}
-use Rattle.url_maps.proofs.NamedLemmas.{AreNoted}
+use Rattle.std.proofs.Common.{take}
+use Rattle.url_maps.specs.Claims.{claims_alias, claims_vanity_path}
+use Rattle.url_maps.proofs.ClaimLemmas.{AreOfRows}
 use Rattle.url_maps.proofs.index.MapIndex.of.Given as goal
 
-abbrev pub invariant-loop-path : goal.invariant-loop-path
-invariant-loop-path l = record {
-  vanity_paths : (t : List ℕ) (q : List (List ℕ)) → list_any (same_path q) (claimants l.vanity_paths.rows t) ≡ (list_any (same_path q) (take l.path-index l.paths) && claims_vanity_path l.tree q t);
-  parents : AreNoted l.tree (take l.path-index l.paths) l.parents;
+abbrev pub invariant-loop-row : goal.invariant-loop-row
+invariant-loop-row l = record {
+  aliases : AreOfRows (λ r. r.0.now) (claims_alias l.tree) (take l.row-index l.rows) l.aliases.rows;
+  vanity_paths : AreOfRows (λ r. r.0.now) (claims_vanity_path l.tree) (take l.row-index l.rows) l.vanity_paths.rows;
 }

@@ -1,5 +1,5 @@
 // Reads content: the JSON, and then its nodes, or why it is refused.
-ghost use Rattle.std.specs.Prelude.{◌≡◌, ◌≢◌, None, Some, Ok, Err, [], false, IfOk, IfErr};
+ghost use Rattle.std.specs.Prelude.{◌≡◌, ◌≢◌, None, Some, Ok, Err, [], false, is_some, IfOk, IfErr};
 ghost use Rattle.serde_json.specs.Data.{object};
 ghost use Rattle.serde_json.specs.View.{view, members_view};
 ghost use Rattle.content_json.specs.Faults.{fault_in};
@@ -36,10 +36,10 @@ pub fn read_tree(alloc: Global, seeds: RandomState, bytes: &[u8]) -> Result<Tree
     let Value::Object(members) = json_of(alloc, bytes)? else {
         return Err(ContentFault::NotObject);
     };
-    if !is_sound(alloc, &members)? {
+    let Some(room) = room_if_sound(alloc, &members)? else {
         return Err(refusal(alloc, &members)?);
-    }
-    let nodes = nodes_of(alloc, seeds, members)?;
+    };
+    let nodes = nodes_of(alloc, seeds, members, MOST_NODES.saturating_sub(room))?;
     Ok(Tree::of(nodes))
 }
 
@@ -72,11 +72,11 @@ fn refused_by(found: Found) -> ContentFault
     }
 }
 
-// Whether an object has no fault and isn't too big: one look at each member tells.
-fn is_sound(alloc: Global, members: &Map<String, Value>) -> Mem<bool>
-    ensures { IfOk result (λ sound. sound ≡ is_sound (members_view members.now.entries)) }
+// How many nodes more an object might have that has no fault and isn't too big: one look at each member tells.
+fn room_if_sound(alloc: Global, members: &Map<String, Value>) -> Mem<Option<usize>>
+    ensures { IfOk result (λ room. is_some room ≡ is_sound (members_view members.now.entries)) }
 {
-    Ok(room_beside(alloc, members, MOST_NODES - 1, MOST_LEVELS)?.is_some())
+    room_beside(alloc, members, MOST_NODES - 1, MOST_LEVELS)
 }
 
 // Why an object that isn't sound is refused: its first fault, or else its size.
@@ -90,13 +90,19 @@ fn refusal(alloc: Global, members: &Map<String, Value>) -> Mem<ContentFault>
     }
 }
 
-// The nodes of an object without a fault.
-fn nodes_of(alloc: Global, seeds: RandomState, members: Map<String, Value>) -> Mem<NodeMap>
+// The nodes of an object without a fault. How many they are is told, so that the table needn't grow.
+fn nodes_of(
+    alloc: Global,
+    seeds: RandomState,
+    members: Map<String, Value>,
+    n: usize,
+) -> Mem<NodeMap>
     requires faultless { fault_in (object (members_view members.entries)) ≡ None }
     requires small { is_too_big (members_view members.entries) ≡ false }
     ensures { IfOk result (λ nodes. nodes ≡ map_of (nodes_in [] (object (members_view members.entries)))) }
 {
     let mut nodes = NodeMap::new(alloc, seeds);
+    nodes.make_room(n)?;
     add_nodes(alloc, &mut nodes, Path::root(alloc), members)?;
     // `len` says that the nodes stand in the order of their paths, so that equal look-ups make equal maps.
     let _ = nodes.len();

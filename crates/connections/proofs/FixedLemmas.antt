@@ -1,15 +1,17 @@
 -- Which answers have the bytes of the fixed 507.
-use Rattle.std.proofs.Common.{◌≡◌, ◌≢◌, ◌<◌, ◌^◌, ◌++◌, ◌||◌, ◌&&◌, ◌==◌, ◌∙◌, ◌⊎◌, inl, inr, ℕ, Bool, true, false, cond, List, [], ◌∷◌, codes, decimal, drop, length, get_or, refl, ap, sym, subst, arith}
-use Rattle.std.specs.Prelude.{flat_map, if◌then◌else◌, not}
+use Rattle.std.proofs.Common.{◌≡◌, ◌≢◌, ◌<◌, ◌^◌, ◌++◌, ◌||◌, ◌&&◌, ◌==◌, ◌∙◌, ◌⊎◌, inl, inr, ℕ, Bool, true, false, List, [], ◌∷◌, codes, decimal, drop, length, get_or, refl, ap, sym, subst, arith}
+use Rattle.std.specs.Prelude.{IsTrue, flat_map, if◌then◌else◌}
 use Rattle.std.specs.Char.{is_ascii_digit}
+use Rattle.std.specs.List.{list_any}
 use Rattle.std.specs.Fmt.{digits}
 use Rattle.std.specs.Cmp.Lexicographic.{same_text}
 use Rattle.std.specs.Str.{all_ascii_digits}
 use Rattle.std.specs.Str.Parse.{digits_value}
-use Rattle.std.proofs.lemmas.Bool.{false≢true, eqb-true}
+use Rattle.std.proofs.lemmas.Bool.{false≢true}
 use Rattle.std.proofs.Math.Dec.{eqb-suc-zero}
 use Rattle.std.proofs.lemmas.Fmt.{digits_decimal, decimal_injective}
-use Rattle.std.proofs.lemmas.List.{append_assoc, append_cancel_left, nil_from_length}
+use Rattle.std.proofs.lemmas.List.{append_assoc, append_cancel_left}
+use Rattle.std.proofs.lemmas.List.Folds.{list_any-append}
 use Rattle.std.proofs.lemmas.Str.Parse.{IsNumeralModel, numerals_by_value, tells_all_ascii_digits}
 use Rattle.error_answers.specs.Errors.{error_answer, phrase_of}
 use Rattle.percent_encoding.specs.Percent.{percent_encode_byte}
@@ -17,8 +19,7 @@ use Rattle.sp_base.specs.declared.answer.Answer.{Answer}
 use Rattle.sp_base.specs.declared.answer.Mark.{Mark}
 use Rattle.sp_base.specs.declared.answer.Mark.TheVariants.{Plain, NoCache, NoStore, MustRevalidate}
 use Rattle.http_front.specs.Answers.{Field, allowed_methods, answer_bytes, answer_content, connection, content_length, directive_of, field_line, fields_of, fixed_507, is_visible, is_without_content, location_of, plain_value, status_line, unless_empty}
-use Rattle.connections.specs.Slots.{is_fixed}
-use Rattle.connections.specs.Ties.{is_bare_507, is_plain, reply_bytes}
+use Rattle.connections.specs.Slots.{fixed_answer, is_fixed}
 use Rattle.connections.proofs.OutboxLemmas.{is_fixed-fixed}
 
 -- ---- a number ends where another byte comes
@@ -183,14 +184,11 @@ location_none (b ∷ v) e = absurd (by_test (is_visible b) (flat_map (λ x. if i
     by_test true more is = let no : ⊥ = cc in no
     by_test false more is = let no : ⊥ = cc in no
 
-directive_none : (mark : Mark) → directive_of mark ≡ [] → is_plain mark ≡ true
+directive_none : (mark : Mark) → directive_of mark ≡ [] → mark ≡ Plain
 directive_none Plain e = refl
 directive_none NoCache e = absurd (omega (arith, ap length e))
 directive_none NoStore e = absurd (omega (arith, ap length e))
 directive_none MustRevalidate e = absurd (omega (arith, ap length e))
-
-fixed_kind : (h c : Bool) (a : Answer) → a.status < 2 ^ 64 → answer_bytes h c a ≡ fixed_507 → a.kind ≡ []
-fixed_kind h c a p e = plain_none a.kind (no_kind (plain_value a.kind) _ (answer_content h a) (fixed_fields h c a p e).1)
 
 size_there : (v : List ℕ) (c : Bool) (tail : List ℕ) → fields_text (unless_empty (codes "Content-Length") v ++ unless_empty (codes "Connection") (connection c)) tail ≡ fixed_rest
     → fields_text ((codes "Content-Length", v) ∷ unless_empty (codes "Connection") (connection c)) tail ≡ fixed_rest
@@ -212,10 +210,14 @@ sizes_fixed without h c n tail p e = by_test (without || (h && (n == 0))) refl e
         let sizes = one_size n c tail p (size_there (decimal n) c tail told) in
         (without_head without h (subst (λ m. (without || (h && (m == 0))) ≡ false) sizes.0 is), sizes.1, sizes.0)
 
-bare_by : (a : Answer) → a.status ≡ 507 → a.kind ≡ [] → a.location ≡ [] → is_plain a.mark ≡ true → length a.body ≡ 0 → is_bare_507 a ≡ true
-bare_by a status kind location mark body = rw (status, kind, location, mark, body) refl
+no_bytes : (body : List ℕ) → length body ≡ 0 → body ≡ []
+no_bytes [] e = refl
+no_bytes (b ∷ body) e = absurd (omega (arith, e))
 
-fixed_is : (h c : Bool) (a : Answer) → a.status < 2 ^ 64 → length a.body < 2 ^ 64 → answer_bytes h c a ≡ fixed_507 → (h ≡ false) × (c ≡ true) × (is_bare_507 a ≡ true)
+fixed_by : (a : Answer) → a.status ≡ 507 → a.kind ≡ [] → a.location ≡ [] → a.mark ≡ Plain → length a.body ≡ 0 → a ≡ fixed_answer
+fixed_by a status kind location mark body = λ i. record { status = status i; kind = kind i; location = location i; mark = mark i; body = no_bytes a.body body i }
+
+fixed_is : (h c : Bool) (a : Answer) → a.status < 2 ^ 64 → length a.body < 2 ^ 64 → answer_bytes h c a ≡ fixed_507 → (h ≡ false) × (c ≡ true) × (a ≡ fixed_answer)
 fixed_is h c a p q e =
     let tail = answer_content h a in
     let first = fixed_fields h c a p e in
@@ -224,7 +226,7 @@ fixed_is h c a p q e =
     let fourth = after_methods (allowed_methods a.status) _ tail third.1 in
     let fifth = after_directive (directive_of a.mark) _ tail fourth.1 in
     let sizes = sizes_fixed (is_without_content a.status) h c (length a.body) tail q fifth.1 in
-    (sizes.0, sizes.1, bare_by a first.0 (plain_none a.kind second.0) (location_none a.location third.0) (directive_none a.mark fifth.0) sizes.2)
+    (sizes.0, sizes.1, fixed_by a first.0 (plain_none a.kind second.0) (location_none a.location third.0) (directive_none a.mark fifth.0) sizes.2)
   where
     after_kind : (v : List ℕ) (later : List Field) (tail : List ℕ) → fields_text (unless_empty (codes "Content-Type") v ++ later) tail ≡ fixed_rest → (v ≡ []) × (fields_text later tail ≡ fixed_rest)
     after_kind v later tail e = let none = no_kind v later tail e in (none, subst (λ x. fields_text (unless_empty (codes "Content-Type") x ++ later) tail ≡ fixed_rest) none e)
@@ -239,65 +241,67 @@ fixed_is h c a p q e =
     after_directive v later tail e = let none = no_directive v later tail e in (none, subst (λ x. fields_text (unless_empty (codes "Cache-Control") x ++ later) tail ≡ fixed_rest) none e)
 
 -- ---- and the other way round
-plain_mark : (mark : Mark) → is_plain mark ≡ true → mark ≡ Plain
-plain_mark Plain e = refl
-plain_mark NoCache e = absurd (let no : ⊥ = cc in no)
-plain_mark NoStore e = absurd (let no : ⊥ = cc in no)
-plain_mark MustRevalidate e = absurd (let no : ⊥ = cc in no)
-
-bare_bytes : (status : ℕ) (kind location : List ℕ) (mark : Mark) (body : List ℕ) → status ≡ 507 → kind ≡ [] → location ≡ [] → mark ≡ Plain → body ≡ []
-    → answer_bytes false true (record { status = status; kind = kind; location = location; mark = mark; body = body }) ≡ fixed_507
+answer_fixed : answer_bytes false true fixed_answer ≡ fixed_507
 unfolding answer_bytes status_line field_line plain_value location_of phrase_of digits
-bare_bytes status kind location mark body s k l m b = rw (s, k, l, m, b) refl
+answer_fixed = refl
 
-bare_fixed : (a : Answer) → is_bare_507 a ≡ true → answer_bytes false true a ≡ fixed_507
-bare_fixed a e =
-    let one = both_true (a.status == 507) _ e in
-    let two = both_true (length a.kind == 0) _ one.1 in
-    let three = both_true (length a.location == 0) _ two.1 in
-    let four = both_true (is_plain a.mark) _ three.1 in
-    bare_bytes a.status a.kind a.location a.mark a.body (eqb-true a.status 507 one.0) (nil_from_length a.kind (eqb-true _ 0 two.0)) (nil_from_length a.location (eqb-true _ 0 three.0)) (plain_mark a.mark four.0) (nil_from_length a.body (eqb-true _ 0 four.1))
-
-both : (a b : Bool) → a ≡ true → b ≡ true → (a && b) ≡ true
-both a b p q = rw (p, q) refl
-
-not-true : (b : Bool) → not b ≡ true → b ≡ false
-not-true true e = absurd (let no : ⊥ = cc in no)
-not-true false e = refl
-
--- an answer is the fixed 507 where it is bare, is sent whole and closes its connection
-pub says_fixed : (h c : Bool) (a : Answer) → a.status < 2 ^ 64 → length a.body < 2 ^ 64 → (not h && (c && is_bare_507 a)) ≡ is_fixed (answer_bytes h c a)
-says_fixed h c a p q = by_test (is_fixed (answer_bytes h c a)) refl (not h && (c && is_bare_507 a)) refl
+-- An answer is sent as the fixed 507 where it is the fixed answer, is sent whole and closes its connection. That it is the fixed answer
+-- is what a test tells.
+pub closed-fixed : (h c : Bool) (a : Answer) (is : Bool) → (IsTrue is → a ≡ fixed_answer) → (a ≡ fixed_answer → IsTrue is) → (a.status < 2 ^ 64) × (length a.body < 2 ^ 64) → (h ≡ false) × (c ≡ true) → is ≡ is_fixed (answer_bytes h c a)
+closed-fixed h c a is told tells short whole = by_test (is_fixed (answer_bytes h c a)) refl is refl
   where
-    by_test : (t : Bool) → is_fixed (answer_bytes h c a) ≡ t → (u : Bool) → (not h && (c && is_bare_507 a)) ≡ u → u ≡ t
-    by_test true is u at =
-        let told = fixed_is h c a p q (same_text _ _ (sym is)) in
-        sym at ∙ rw (told.0, told.1, told.2) refl
-    by_test false is true at =
-        let one = both_true (not h) _ at in
-        let two = both_true c _ one.1 in
-        let bytes : answer_bytes h c a ≡ fixed_507 = rw (not-true h one.0, two.0) (bare_fixed a two.1) in
-        absurd (false≢true (sym is ∙ is_fixed-fixed _ bytes))
-    by_test false is false at = refl
-
--- the same where it is known whether the connection closes after a whole answer
-pub closed-fixed : (h c : Bool) (a : Answer) (bare : Bool) → bare ≡ is_bare_507 a → (a.status < 2 ^ 64) × (length a.body < 2 ^ 64) → (h ≡ false) × (c ≡ true) → bare ≡ is_fixed (answer_bytes h c a)
-closed-fixed h c a bare is short whole = is ∙ sym (rw (whole.0, whole.1) refl) ∙ says_fixed h c a short.0 short.1
+    by_test : (t : Bool) → is_fixed (answer_bytes h c a) ≡ t → (u : Bool) → is ≡ u → u ≡ t
+    by_test true sent true test = refl
+    by_test true sent false test = absurd (false≢true (sym test ∙ tells (fixed_is h c a short.0 short.1 (same_text _ _ (sym sent))).2))
+    by_test false sent true test =
+        let bytes : answer_bytes h c a ≡ fixed_507 = ap (answer_bytes h c) (told test) ∙ rw (whole.0, whole.1) answer_fixed in
+        absurd (false≢true (sym sent ∙ is_fixed-fixed _ bytes))
+    by_test false sent false test = refl
 
 pub other-fixed : (h c : Bool) (a : Answer) → (a.status < 2 ^ 64) × (length a.body < 2 ^ 64) → (h ≡ true) ⊎ ((h ≡ false) × (c ≡ false)) → false ≡ is_fixed (answer_bytes h c a)
-other-fixed h c a short (inl head) = sym (rw head refl) ∙ says_fixed h c a short.0 short.1
-other-fixed h c a short (inr stays) = sym (rw (stays.0, stays.1) refl) ∙ says_fixed h c a short.0 short.1
+other-fixed h c a short way = by_test (is_fixed (answer_bytes h c a)) refl
+  where
+    never : (h ≡ true) ⊎ ((h ≡ false) × (c ≡ false)) → (h ≡ false) × (c ≡ true) → ⊥
+    never (inl head) whole = false≢true (sym whole.0 ∙ head)
+    never (inr stays) whole = false≢true (sym stays.1 ∙ whole.1)
 
--- no answer of an error is
-error_kind : (status : ℕ) → ((error_answer status).status ≡ status) × ((error_answer status).kind ≡ codes "text/plain;charset=utf-8")
-unfolding error_answer
-error_kind status = (refl, refl)
+    by_test : (t : Bool) → is_fixed (answer_bytes h c a) ≡ t → false ≡ t
+    by_test true sent = let told = fixed_is h c a short.0 short.1 (same_text _ _ (sym sent)) in absurd (never way (told.0, told.1))
+    by_test false sent = refl
 
-pub own_unfixed : (h c : Bool) (status : ℕ) → status < 2 ^ 64 → false ≡ is_fixed (answer_bytes h c (error_answer status))
-own_unfixed h c status p = by_test (is_fixed (answer_bytes h c (error_answer status))) refl
+-- ---- no answer of an error is
+-- the fixed 507 has no `y`, and a media type's name has one
+has_y : List ℕ → Bool
+has_y bytes = list_any (λ b. b == 121) bytes
+
+or_true : (a b : Bool) → b ≡ true → (a || b) ≡ true
+or_true true b e = refl
+or_true false b e = e
+
+typed_fields : (b : ℕ) (v : List ℕ) (later : List Field) (tail : List ℕ) → has_y (fields_text (unless_empty (codes "Content-Type") (b ∷ v) ++ later) tail) ≡ true
+unfolding field_line has_y
+typed_fields b v later tail = subst (λ u. has_y (fields_text (u ++ later) tail) ≡ true) (sym (unless_some (codes "Content-Type") b v)) refl
+
+error_fields : (h c : Bool) (status : ℕ) (tail : List ℕ) → has_y (fields_text (fields_of h c (error_answer status)) tail) ≡ true
+unfolding error_answer plain_value
+error_fields h c status tail =
+    let a = error_answer status in
+    ap (λ fields. has_y (fields_text fields tail)) (fields_spread h c a) ∙ typed_fields 116 (codes "ext/plain;charset=utf-8") _ tail
+
+typed : (h c : Bool) (status : ℕ) → has_y (answer_bytes h c (error_answer status)) ≡ true
+unfolding has_y
+typed h c status =
+    let a = error_answer status in
+    let rest = fields_text (fields_of h c a) (answer_content h a) in
+    ap has_y (answer_spread h c a) ∙ list_any-append (λ b. b == 121) (status_line a.status) rest ∙ or_true (has_y (status_line a.status)) (has_y rest) (error_fields h c status (answer_content h a))
+
+pub own_unfixed : (h c : Bool) (status : ℕ) → false ≡ is_fixed (answer_bytes h c (error_answer status))
+unfolding has_y
+own_unfixed h c status = by_test (is_fixed (answer_bytes h c (error_answer status))) refl
   where
     by_test : (t : Bool) → is_fixed (answer_bytes h c (error_answer status)) ≡ t → false ≡ t
     by_test true is =
-        let kind = fixed_kind h c (error_answer status) (rw ((error_kind status).0) p) (same_text _ _ (sym is)) in
-        absurd (omega (arith, ap length (sym (error_kind status).1 ∙ kind)))
+        let none : has_y fixed_507 ≡ false = refl in
+        let same : answer_bytes h c (error_answer status) ≡ fixed_507 = same_text _ _ (sym is) in
+        absurd (false≢true (sym none ∙ ap has_y (sym same) ∙ typed h c status))
     by_test false is = refl

@@ -62,7 +62,7 @@ IsInPlaceOfDue (Refuse fault) bytes = ⊥
 IsInPlaceOfDue Close bytes = ⊥
 IsInPlaceOfDue Nothing bytes = ⊥
 
--- the most requests of a connection whose answers may be unsent
+-- the number of requests with unsent answers from which a connection's next request is refused
 abbrev pub most_unsent : ℕ
 most_unsent = 64
 

@@ -1,11 +1,16 @@
 -- The places of a connection's answers, one for each turn of its stream, in their order (RFC 9112, section 9.3.2).
-use Rattle.std.specs.Prelude.{◌≡◌, ◌==◌, ◌||◌, ◌⊎◌, ℕ, Bool, true, false, nat_eq, if◌then◌else◌, List, IsTrue, codes}
+use Rattle.std.specs.Prelude.{◌≡◌, ◌==◌, ◌||◌, ◌⊎◌, ℕ, Bool, true, false, nat_eq, if◌then◌else◌, List, [], IsTrue, codes}
 use Rattle.std.specs.Cmp.Lexicographic.{pointwise}
 use Rattle.sp_base.specs.declared.answer.Answer.{Answer}
+use Rattle.sp_base.specs.declared.answer.Mark.TheVariants.{Plain}
 use Rattle.sp_base.specs.declared.answer.Req.{Req}
 use Rattle.error_answers.specs.Errors.{error_answer}
 use Rattle.http_front.specs.Answers.{answer_bytes, fixed_507, interim_100}
 use Rattle.connections.specs.declared.sending.Sending.{Sending}
+
+-- the answer in place of one for which no memory was there (RFC 4918, section 11.5): its status alone
+abbrev pub fixed_answer : Answer
+fixed_answer = record { status = 507; kind = []; location = []; mark = Plain; body = [] }
 
 -- What a slot is answered by: 100 Continue (RFC 9110, section 15.2.1), the fixed 507, what a flight will bring, or an answer.
 pub data Response : Type 0 where

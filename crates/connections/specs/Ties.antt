@@ -1,8 +1,5 @@
 -- What the code keeps of a connection: the places of its answers that aren't sent yet.
-use Rattle.std.specs.Prelude.{◌≡◌, ◌≤◌, ◌==◌, ◌&&◌, ◌⊎◌, ℕ, Bool, true, false, not, nat_eq, List, [], ◌∷◌, drop, length, take}
-use Rattle.sp_base.specs.declared.answer.Answer.{Answer}
-use Rattle.sp_base.specs.declared.answer.Mark.{Mark}
-use Rattle.sp_base.specs.declared.answer.Mark.TheVariants.{Plain, NoCache, NoStore, MustRevalidate}
+use Rattle.std.specs.Prelude.{◌≡◌, ◌≤◌, ◌⊎◌, ℕ, Bool, true, false, not, nat_eq, List, [], ◌∷◌, drop, length, take}
 use Rattle.error_answers.specs.Errors.{error_answer}
 use Rattle.http_front.specs.Answers.{answer_bytes, fixed_507, interim_100}
 use Rattle.connections.specs.declared.place.AnswerPlace.{AnswerPlace}
@@ -56,16 +53,6 @@ front_has_reply (place ∷ places) = has_reply place.reply
 -- what is sent for the place: its bytes; or the spare ones, and then memory was wanting unless the fixed 507 is its own
 abbrev pub IsSendingOf : AnswerPlace → List ℕ → Sending → Type 0
 IsSendingOf place spare sending = ((sending.dry ≡ false) × (sending.bytes ≡ place_bytes place)) ⊎ ((sending.dry ≡ not (is_fixed (place_bytes place))) × (sending.bytes ≡ spare))
-
-abbrev pub is_plain : Mark → Bool
-is_plain Plain = true
-is_plain NoCache = false
-is_plain NoStore = false
-is_plain MustRevalidate = false
-
--- the answer is its status alone, which is 507
-abbrev pub is_bare_507 : Answer → Bool
-is_bare_507 a = (a.status == 507) && ((length a.kind == 0) && ((length a.location == 0) && (is_plain a.mark && (length a.body == 0))))
 
 -- ---- places and slots
 

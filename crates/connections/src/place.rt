@@ -1,9 +1,8 @@
 //! The place of an answer among those that a connection owes.
-ghost use Rattle.std.specs.Prelude.{◌≡◌, ◌<◌, ◌^◌, ◌||◌, Bool, IfOk, length};
-ghost use Rattle.error_answers.specs.Errors.{error_answer as error_of};
+ghost use Rattle.std.specs.Prelude.{◌≡◌, ◌<◌, ◌^◌, ◌||◌, IfOk, IsTrue, length};
 ghost use Rattle.http_front.specs.Answers.{answer_bytes as bytes_of};
 ghost use Rattle.connections.specs.Slots as model;
-ghost use Rattle.connections.specs.Ties.{PlaceTied, ReplyTied, awaits as awaiting, is_final_reply, has_reply as answered, is_bare_507 as bare, place_bytes};
+ghost use Rattle.connections.specs.Ties.{PlaceTied, ReplyTied, awaits as awaiting, is_final_reply, has_reply as answered, place_bytes};
 
 use error_answers::error_answer;
 use http_front::{answer_bytes, fixed_507, interim_100};
@@ -114,7 +113,8 @@ impl AnswerPlace {
         match &self.reply {
             Reply::Fixed => true,
             Reply::Says(answer) => is_fixed_507(self.head_only, self.closes, answer),
-            Reply::Own(status) => is_error_fixed(*status),
+            // An error's answer has a media type, whatever its status is.
+            Reply::Own(_) => false,
             Reply::Interim | Reply::Awaits(_) => false,
         }
     }
@@ -140,24 +140,17 @@ impl AnswerPlace {
 fn is_fixed_507(head_only: bool, closes: bool, answer: &Answer) -> bool
     ensures { result ≡ model.is_fixed (bytes_of head_only closes answer.now) }
 {
-    let bare = is_bare_507(answer);
+    let fixed = is_fixed_answer(answer);
     if head_only || !closes {
         return false;
     }
-    bare
+    fixed
 }
 
-// An error's answer has a media type, so that it isn't the fixed 507, whatever its status is.
-fn is_error_fixed(status: u16) -> bool
-    ensures { (head_only closes : Bool) → result ≡ model.is_fixed (bytes_of head_only closes (error_of status)) }
-{
-    let _status = status;
-    false
-}
-
-// Whether the answer is its status alone, which is 507. That its numbers are short is said since its bytes tell them.
-fn is_bare_507(answer: &Answer) -> bool
-    ensures is { result ≡ bare answer.now }
+// Whether it is the fixed answer. That its numbers are short is said since its bytes tell them.
+fn is_fixed_answer(answer: &Answer) -> bool
+    ensures is { IsTrue result → answer.now ≡ model.fixed_answer }
+    ensures tells { answer.now ≡ model.fixed_answer → IsTrue result }
     ensures short { (answer.now.status < 2 ^ 64) × (length answer.now.body < 2 ^ 64) }
 {
     let status = answer.status;

@@ -1,10 +1,11 @@
 -- What happens in an event in which memory isn't wanting is determined by its step and by how the stream ends.
-use Rattle.std.proofs.Common.{◌≡◌, ℕ, ◌++◌, Bool, true, false, List, [], ◌∷◌, Option, Some, None, refl, ap, sym, subst, ◌∙◌, inl, inr, append-nil}
+use Rattle.std.proofs.Common.{◌≡◌, ◌⊎◌, ℕ, ◌++◌, Bool, true, false, List, [], ◌∷◌, Option, Some, None, refl, ap, sym, subst, ◌∙◌, inl, inr, append-nil, ⊎_elim}
 use Rattle.std.specs.Prelude.{nat_eq}
 use Rattle.std.specs.Map.{update}
 use Rattle.std.specs.Option.{option_map}
 use Rattle.sp_base.specs.declared.answer.Answer.{Answer}
 use Rattle.sp_base.specs.declared.answer.Req.{Req}
+use Rattle.http_front.specs.OpenEnds.{HasOpenEnd}
 use Rattle.http_front.specs.Turns.{End, SpellsTurns}
 use Rattle.http_front.specs.declared.turn.Turn.{Turn}
 use Rattle.http_front.specs.declared.turn.Turn.TheVariants.{Continue, Whole}
@@ -15,7 +16,7 @@ use Rattle.front.specs.declared.note.Note.{Note}
 use Rattle.front.specs.declared.note.Note.TheVariants.{Answer as answered, Lost, Passed, Rendered, Sent}
 use Rattle.front.specs.declared.step.Step.{Step}
 use Rattle.front.specs.declared.step.Step.TheVariants as step
-use Rattle.front.specs.Determined.{AreCalmEvents, CalmRunsAreOne, EndAlike, IsSameEnd, IsSameEndOf, event_notes, event_steps}
+use Rattle.front.specs.Determined.{AreCalmEvents, CalmRunsAreOne, CalmStreamsEndAlike, EndAlike, HaveNoOpenEnd, IsOpenEnd, IsOpenEndOf, IsSameEnd, IsSameEndOf, event_notes, event_steps}
 use Rattle.front.specs.Events.{DeliverAs, DeliverTo, Event, HappensBy, IsOrFixed, LeadsNotes, LoseTo, PieceTo, RenderTo, Run, after_event, begun, is_any, is_rendered, is_unrendered, mood_notes, notes_of, picked}
 use Rattle.front.specs.Moves.{GivesDue, IsFirstPoint, MaySend, Mood, Serves, Settles, afters, due_of_connection, on_line, points, state_after_note}
 use Rattle.front.specs.States.{RunState, start_of}
@@ -154,6 +155,9 @@ calm-notes e calm =
     let none : mood_notes e.mood ≡ [] = rw calm refl in
     ap (λ notes. e.body ++ notes) none ∙ append-nil e.body
 
+state-one : (w : RunState) (e f : Event) → e.step ≡ f.step → IsOneEvent w e f e.step → after_event w e ≡ after_event w f
+state-one w e f same event = ap (λ v. afters v e.body) event.state ∙ ap (λ notes. afters (begun w f e.step) notes) event.body ∙ ap (λ s. afters (begun w f s) f.body) same
+
 run-one : Beginnings → (w : RunState) (a b : List Event) → Run w a → Run w b → event_steps a ≡ event_steps b → EndAlike w a b → AreCalmEvents a → AreCalmEvents b → event_notes a ≡ event_notes b
 run-one law w [] [] one two steps ends calm quiet = refl
 run-one law w [] (f ∷ b) one two steps ends calm quiet = absurd (let no : ⊥ = cc in no)
@@ -163,10 +167,44 @@ run-one law w (e ∷ a) (f ∷ b) one two steps ends calm quiet =
     let more : event_steps a ≡ event_steps b = cc in
     let happens : HappensBy w f e.step = subst (HappensBy w f) (sym same) two.0.0 in
     let event = step-one law w e f e.step ends.0 calm.0 quiet.0 one.0.0 happens in
-    let state : after_event w e ≡ after_event w f = ap (λ v. afters v e.body) event.state ∙ ap (λ notes. afters (begun w f e.step) notes) event.body ∙ ap (λ s. afters (begun w f s) f.body) same in
-    let rest = run-one law (after_event w e) a b one.1 (subst (λ v. Run v b) (sym state) two.1) more ends.1 calm.1 quiet.1 in
+    let rest = run-one law (after_event w e) a b one.1 (subst (λ v. Run v b) (sym (state-one w e f same event)) two.1) more ends.1 calm.1 quiet.1 in
     let notes : notes_of e ≡ notes_of f = calm-notes e calm.0 ∙ event.body ∙ sym (calm-notes f quiet.0) in
     λ i. notes i ∷ rest i
 
 pub calm-runs : Beginnings → CalmRunsAreOne
 calm-runs law publishing farm content a b = run-one law (start_of publishing farm content) a b
+
+-- ---- where streams end alike
+abbrev pub OneEnd : Type 0
+OneEnd = (stream : List ℕ) (turns : List Turn) (end last : End) → SpellsTurns stream turns end → SpellsTurns stream turns last → (end ≡ last) ⊎ HasOpenEnd stream turns
+
+piece-ends : Beginnings → OneEnd → (w : RunState) (e f : Event) (c : ℕ) (bytes : List ℕ) (at : Option Connection) → (IsOpenEndOf at bytes e.turns → ⊥) → PieceTo w e c bytes at → PieceTo w f c bytes at → IsSameEndOf at e.ends f.ends
+piece-ends law one w e f c bytes None closed a b = tt
+piece-ends law one w e f c bytes (Some k) closed a b = λ read.
+    let stream : List ℕ = k.stream ++ bytes in
+    let turns : e.turns ≡ f.turns = turns-one law stream k.turns e.turns f.turns e.ends f.ends (a.spells read) (b.spells read) in
+    let spelled : SpellsTurns stream (k.turns ++ e.turns) f.ends = subst (λ ts. SpellsTurns stream (k.turns ++ ts) f.ends) (sym turns) (b.spells read) in
+    ⊎_elim (λ same. same) (λ open_end. absurd (closed (read, open_end))) (one stream (k.turns ++ e.turns) e.ends f.ends (a.spells read) spelled)
+
+step-ends : Beginnings → OneEnd → (w : RunState) (e f : Event) (s : Step) → (IsOpenEnd w s e.turns → ⊥) → HappensBy w e s → HappensBy w f s → IsSameEnd w s e.ends f.ends
+step-ends law one w e f (step.Opened c peer) closed a b = tt
+step-ends law one w e f (step.Piece c bytes) closed a b = piece-ends law one w e f c bytes (w.line c) closed a b
+step-ends law one w e f (step.Gone c) closed a b = tt
+step-ends law one w e f (step.Direct target) closed a b = tt
+step-ends law one w e f (step.Render pick) closed a b = tt
+step-ends law one w e f (step.Deliver pick) closed a b = tt
+step-ends law one w e f (step.Lose pick) closed a b = tt
+
+run-ends : Beginnings → OneEnd → (w : RunState) (a b : List Event) → Run w a → Run w b → event_steps a ≡ event_steps b → AreCalmEvents a → AreCalmEvents b → HaveNoOpenEnd w a → EndAlike w a b
+run-ends law end w [] b one two steps calm quiet closed = tt
+run-ends law end w (e ∷ a) [] one two steps calm quiet closed = tt
+run-ends law end w (e ∷ a) (f ∷ b) one two steps calm quiet closed =
+    let same : e.step ≡ f.step = cc in
+    let more : event_steps a ≡ event_steps b = cc in
+    let happens : HappensBy w f e.step = subst (HappensBy w f) (sym same) two.0.0 in
+    let alike = step-ends law end w e f e.step closed.0 one.0.0 happens in
+    let event = step-one law w e f e.step alike calm.0 quiet.0 one.0.0 happens in
+    (alike, run-ends law end (after_event w e) a b one.1 (subst (λ v. Run v b) (sym (state-one w e f same event)) two.1) more calm.1 quiet.1 closed.1)
+
+pub calm-ends : Beginnings → OneEnd → CalmStreamsEndAlike
+calm-ends law end publishing farm content a b = run-ends law end (start_of publishing farm content) a b

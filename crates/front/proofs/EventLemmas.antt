@@ -1,5 +1,5 @@
 -- Whole events of a board.
-use Rattle.std.proofs.Common.{◌≡◌, ◌≢◌, ℕ, ◌+◌, ◌-◌, ◌<◌, ◌≤◌, ◌&&◌, ◌||◌, Bool, true, false, List, [], ◌∷◌, Option, Some, None, refl, ap, sym, subst, ◌∙◌, arith, inr, ⊎_elim}
+use Rattle.std.proofs.Common.{◌≡◌, ◌≢◌, ℕ, ◌+◌, ◌-◌, ◌<◌, ◌≤◌, ◌&&◌, Bool, true, false, List, [], ◌∷◌, Option, Some, None, refl, ap, sym, subst, ◌∙◌, arith, inr, ⊎_elim}
 use Rattle.std.specs.Prelude.{if◌then◌else◌, is_some, nat_eq, nat_le, position, remove, slice_get, unwrap_or}
 use Rattle.std.specs.List.{find}
 use Rattle.std.specs.Map.{update}
@@ -12,11 +12,11 @@ use Rattle.sp_base.specs.declared.answer.Answer.{Answer}
 use Rattle.any_config.specs.declared.farm.Farm.{Farm}
 use Rattle.error_answers.specs.Errors.{error_answer}
 use Rattle.http_front.specs.Turns.{Waits}
-use Rattle.connections.specs.Connections.{Connection, fed, fresh}
-use Rattle.front.specs.Boards.{BoardTied, FirstThen, Happened, Landing, LineTied, ReadAt, SettlesDry, SkyTied, event_of}
+use Rattle.connections.specs.Connections.{fed, fresh}
+use Rattle.front.specs.Boards.{BoardTied, FirstThen, Happened, Landing, ReadAt, SettlesDry, SkyTied, event_of}
 use Rattle.front.specs.Events.{DeliverAs, DeliverTo, Event, IsWanting, LeadsNotes, LoseTo, PieceTo, SomeShowsLack, after_event, gone, going, is_any, is_picked, is_rendered, most_lines, opened, opening, picked}
 use Rattle.front.specs.Lines.{Holds}
-use Rattle.front.specs.Publishers.{fixed_answer}
+use Rattle.connections.specs.Slots.{fixed_answer}
 use Rattle.front.specs.Moves.{state_after_note, afters, Settles, answer_in, flight_at, on_line, over_with, without}
 use Rattle.front.specs.States.{LogEntry, Landed, Lost as lost_entry, Passed as passed_fate, RunState, flights_asked}
 use Rattle.front.specs.declared.board.Board.{Board}

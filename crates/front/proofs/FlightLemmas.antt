@@ -11,7 +11,7 @@ use Rattle.sp_base.specs.declared.answer.Req.{Req}
 use Rattle.resource_tree.specs.Content.{Content}
 use Rattle.any_config.specs.declared.farm.Farm.{Farm}
 use Rattle.error_answers.specs.Errors.{error_answer}
-use Rattle.connections.specs.Slots.{Says}
+use Rattle.connections.specs.Slots.{Says, fixed_answer}
 use Rattle.connections.specs.Connections.{Connection, fed, fresh, with_landing}
 use Rattle.connections.specs.Connections as connection
 use Rattle.connections.specs.declared.sending.Sending.{Sending}
@@ -24,7 +24,7 @@ use Rattle.front.specs.Events.{DeliverAs, DeliverTo, Event, HappensBy, LeadsNote
 use Rattle.front.specs.Histories.{brought_by, came_after, came_since_opened, is_idle, opens_connection, sent_after, sent_by, sent_in, sent_since_opened}
 use Rattle.front.specs.Moves.{Mood, Settles, afters, answer_in, flight_at, on_line, over_with, state_after_note, without}
 use Rattle.front.specs.Owned.{AnswersAreOwn, AreOwnAnswers, IsOfFlight, IsOfRequest, Outcomes, Treating, WasLost, WasRendered, treated_after, treated_since_opened, losses_of, lost_in, treated_by, treated_in}
-use Rattle.front.specs.Publishers.{Publishing, fixed_answer}
+use Rattle.front.specs.Publishers.{Publishing}
 use Rattle.front.specs.Renders.{rendering_of, renders_in, renders_of}
 use Rattle.front.specs.States.{LogEntry, RunState, flights_asked, start_of}
 use Rattle.front.proofs.AirLemmas.{IsAskedFor, IsOfAir, IsOver, Moved, at-within, flying-unlost, moved-lost, moved-over, moved-rendered, moved-same, none-lost, of-request, over-now, with_losses, with_renders}

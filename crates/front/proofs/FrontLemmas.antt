@@ -15,7 +15,8 @@ use Rattle.front.specs.Events.{Event, Extends, IsOrFixed, RenderTo, SomeShowsLac
 use Rattle.front.specs.Fronts.{IsGiven, BoardStands, TellsStep}
 use Rattle.front.specs.Lines.{Holds, LineReads}
 use Rattle.front.specs.Moves.{Mood, Serves, state_after_note, afters, content_rendered, flight_at, published_for, with_rendered, with_rendered_at}
-use Rattle.front.specs.Publishers.{Published, Publishing, direct_answer, fixed_answer}
+use Rattle.connections.specs.Slots.{fixed_answer}
+use Rattle.front.specs.Publishers.{Published, Publishing, direct_answer}
 use Rattle.front.specs.States.{RunState}
 use Rattle.front.specs.declared.board.Board.{Board}
 use Rattle.front.specs.declared.flying.Flying.{Flying}

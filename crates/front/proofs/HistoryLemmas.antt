@@ -1,6 +1,6 @@
 -- What happens to one connection in a run, as moves of it; what came on it, and what was sent.
-use Rattle.std.proofs.Common.{◌≡◌, ◌≢◌, ℕ, ◌+◌, ◌-◌, ◌≤◌, ◌<◌, ◌++◌, Bool, true, false, List, [], ◌∷◌, Option, Some, None, cond, not, map, refl, ap, sym, subst, ◌∙◌, arith, inl, inr, ⊎_elim, append-nil, append_assoc, eq-eqb}
-use Rattle.std.specs.Prelude.{nat_eq, nat_le, flat_map, if◌then◌else◌}
+use Rattle.std.proofs.Common.{◌≡◌, ◌≢◌, ℕ, ◌+◌, ◌-◌, ◌++◌, Bool, true, false, List, [], ◌∷◌, Option, Some, None, cond, not, map, refl, ap, sym, subst, ◌∙◌, arith, inl, inr, ⊎_elim, append-nil, append_assoc, eq-eqb}
+use Rattle.std.specs.Prelude.{nat_eq, nat_le, if◌then◌else◌}
 use Rattle.std.specs.List.{find, list_any, position_or_len}
 use Rattle.std.specs.Map.{update}
 use Rattle.std.specs.Option.{option_map}
@@ -15,7 +15,7 @@ use Rattle.cover_rules.specs.declared.page.PageKey.{PageKey}
 use Rattle.http_front.specs.Faults.{fault_status}
 use Rattle.http_front.specs.declared.fault.InFault.{InFault}
 use Rattle.http_front.specs.declared.turn.Turn.TheVariants.{Continue, Whole}
-use Rattle.connections.specs.Slots.{Slot, Awaits, fault_slot, request_slot}
+use Rattle.connections.specs.Slots.{Slot, Awaits, request_slot}
 use Rattle.connections.specs.Connections.{Connection, Due, Send, Treat, Refuse, Close, Nothing, fed, fresh, is_crowded, with_landing, with_sent}
 use Rattle.connections.specs.Connections as connection
 use Rattle.connections.specs.Histories.{IsMove, Landing, Sent as SentMove, Treatment}
@@ -23,10 +23,10 @@ use Rattle.connections.specs.Histories as history
 use Rattle.connections.specs.declared.sending.Sending.{Sending}
 use Rattle.front.specs.declared.flying.Flying.{Flying}
 use Rattle.front.specs.declared.note.Note.{Note}
-use Rattle.front.specs.declared.note.Note.TheVariants.{Answer as answered, Ask as asked, Local, Rendered, Passed, Lost, Sent, Shut, Refused, Idle, Dry}
+use Rattle.front.specs.declared.note.Note.TheVariants.{Ask as asked, Local, Rendered, Passed, Lost, Sent, Shut, Refused, Idle}
 use Rattle.front.specs.declared.step.Step.{Step}
 use Rattle.front.specs.declared.step.Step.TheVariants as step
-use Rattle.front.specs.Events.{DeliverAs, DeliverTo, Event, Happens, HappensBy, LeadsNotes, LoseTo, PieceTo, RenderTo, Run, after_event, state_after_events, begun, gone, going, is_any, is_rendered, is_unrendered, most_lines, opened, opening, picked}
+use Rattle.front.specs.Events.{DeliverAs, DeliverTo, Event, HappensBy, LeadsNotes, LoseTo, PieceTo, RenderTo, Run, after_event, state_after_events, begun, gone, going, is_any, is_rendered, is_unrendered, most_lines, opened, opening, picked}
 use Rattle.front.specs.Histories.{brought_by, came_after, is_idle, opens_connection, sent_after, sent_by, sent_in}
 use Rattle.front.proofs.MoveLemmas.{serves-busy}
 use Rattle.front.proofs.PastLemmas.{Last, Past, last-now, past-as, past-fed, past-fresh, past-move, same-landing, same-sent, same-treated}

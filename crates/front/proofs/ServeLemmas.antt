@@ -6,17 +6,14 @@ use Rattle.std.proofs.lemmas.Map.{update_here}
 use Rattle.sp_base.specs.declared.answer.Req.{Req}
 use Rattle.any_config.specs.declared.farm.Farm.{Farm}
 use Rattle.dispatch_rules.specs.Admission.{admits}
-use Rattle.http_front.specs.Faults.{fault_status}
-use Rattle.http_front.specs.declared.fault.InFault.{InFault}
 use Rattle.http_front.specs.declared.turn.Turn.TheVariants.{Whole}
-use Rattle.connections.specs.Slots.{Slot, Awaits, MayAnswer, fault_slot, local_response, request_slot}
-use Rattle.connections.specs.Connections.{Connection, Due, IsInPlaceOfDue, Refuse, Send, Treat, due, is_crowded, with_sent}
+use Rattle.connections.specs.Slots.{Awaits, local_response, request_slot}
+use Rattle.connections.specs.Connections.{Connection, Due, IsInPlaceOfDue, Send, Treat, due, is_crowded, with_sent}
 use Rattle.connections.specs.Histories.{IsDueSending}
-use Rattle.connections.specs.Ties.{Tied}
 use Rattle.connections.specs.declared.sending.Sending.{Sending}
-use Rattle.front.specs.Boards.{GivesDry, IsAnswering, Meets, OwesFault, OwesRequest, SkyTied, is_full_sky}
+use Rattle.front.specs.Boards.{GivesDry, IsAnswering, Meets, OwesRequest, SkyTied, is_full_sky}
 use Rattle.front.specs.Lines.{Holds, Owes}
-use Rattle.front.specs.Moves.{Mood, GivesDue, IsFirstPoint, MaySend, state_after_note, asked_by, points, due_of_connection, line_due, is_crowded_line, is_front_full, local_slot, new_flight, request_of, treated}
+use Rattle.front.specs.Moves.{Mood, GivesDue, IsFirstPoint, state_after_note, asked_by, points, due_of_connection, line_due, is_crowded_line, is_front_full, local_slot, new_flight, request_of, treated}
 use Rattle.front.specs.States.{RunState, flights_asked}
 use Rattle.front.specs.declared.line.Line.{Line}
 use Rattle.front.specs.declared.note.Note.{Note}

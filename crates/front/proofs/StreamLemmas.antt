@@ -1,5 +1,5 @@
 -- What the laws of whole runs say of streams, from the past of a connection.
-use Rattle.std.proofs.Common.{◌≡◌, ◌≢◌, ℕ, ◌+◌, ◌++◌, Bool, true, false, List, [], ◌∷◌, Option, Some, None, refl, ap, sym, subst, ◌∙◌, arith, append-nil, length-append}
+use Rattle.std.proofs.Common.{◌≡◌, ◌≢◌, ℕ, ◌++◌, Bool, true, false, List, [], ◌∷◌, Option, Some, None, refl, ap, sym, subst, ◌∙◌, arith, append-nil, length-append}
 use Rattle.std.specs.Prelude.{if◌then◌else◌, length, slice_get}
 use Rattle.resource_tree.specs.Content.{Content}
 use Rattle.any_config.specs.declared.farm.Farm.{Farm}
@@ -16,7 +16,7 @@ use Rattle.front.specs.Publishers.{Publishing}
 use Rattle.front.specs.States.{RunState, start_of}
 use Rattle.front.proofs.ClosingLemmas.{past-all}
 use Rattle.front.proofs.HistoryLemmas.{Kept, run-kept, start-kept}
-use Rattle.front.proofs.PastLemmas.{Last, Past}
+use Rattle.front.proofs.PastLemmas.{Past}
 
 -- the laws of one connection
 abbrev pub InOrder : Type 0

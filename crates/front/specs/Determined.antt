@@ -1,7 +1,9 @@
 -- What a run's steps leave open.
-use Rattle.std.specs.Prelude.{◌≡◌, false, List, [], ◌∷◌, Option, Some, None, map}
+use Rattle.std.specs.Prelude.{◌≡◌, ◌++◌, ℕ, false, List, [], ◌∷◌, Option, Some, None, map}
 use Rattle.resource_tree.specs.Content.{Content}
 use Rattle.any_config.specs.declared.farm.Farm.{Farm}
+use Rattle.http_front.specs.declared.turn.Turn.{Turn}
+use Rattle.http_front.specs.OpenEnds.{HasOpenEnd}
 use Rattle.http_front.specs.Turns.{End}
 use Rattle.connections.specs.Connections.{Connection}
 use Rattle.front.specs.declared.note.Note.{Note}
@@ -45,9 +47,36 @@ abbrev pub AreCalmEvents : List Event → Type 0
 AreCalmEvents [] = Unit {0}
 AreCalmEvents (e ∷ events) = (e.mood.dry ≡ false) × AreCalmEvents events
 
--- Two runs of the same steps in which memory isn't wanting have the same notes, if the streams end alike. (They end alike but where the
--- bytes end within a target that no more bytes can save: there both waiting and the fault are so, and at 16,384 bytes which fault, a bad
--- head or a long one, is open.)
+-- Two runs of the same steps in which memory isn't wanting have the same notes, if the streams end alike.
 abbrev pub CalmRunsAreOne : Type 0
 CalmRunsAreOne = (publishing : Publishing) (farm : Farm) (content : Content) (a b : List Event) → Run (start_of publishing farm content) a → Run (start_of publishing farm content) b → event_steps a ≡ event_steps b → EndAlike (start_of publishing farm content) a b
     → AreCalmEvents a → AreCalmEvents b → event_notes a ≡ event_notes b
+
+-- ---- where streams end alike
+
+-- what comes on the connection is read, and with these bytes, which bring these turns, its stream ends within a target that can't be
+-- UTF-8 any more
+abbrev pub IsOpenEndOf : Option Connection → List ℕ → List Turn → Type 0
+IsOpenEndOf None bytes turns = ⊥
+IsOpenEndOf (Some line) bytes turns = (line.closing ≡ false) × HasOpenEnd (line.stream ++ bytes) (line.turns ++ turns)
+
+-- the stream to which a step brings bytes ends so
+abbrev pub IsOpenEnd : RunState → Step → List Turn → Type 0
+IsOpenEnd w (Opened c peer) turns = ⊥
+IsOpenEnd w (Piece c bytes) turns = IsOpenEndOf (w.line c) bytes turns
+IsOpenEnd w (Gone c) turns = ⊥
+IsOpenEnd w (Direct target) turns = ⊥
+IsOpenEnd w (Render pick) turns = ⊥
+IsOpenEnd w (Deliver pick) turns = ⊥
+IsOpenEnd w (Lose pick) turns = ⊥
+
+-- after no event the stream ends so to which it brought bytes
+abbrev pub HaveNoOpenEnd : RunState → List Event → Type 0
+HaveNoOpenEnd w [] = Unit {0}
+HaveNoOpenEnd w (e ∷ events) = (IsOpenEnd w e.step e.turns → ⊥) × HaveNoOpenEnd (after_event w e) events
+
+-- In two runs of the same steps in which memory isn't wanting the streams end alike, unless one ends within a target that can't be UTF-8
+-- any more.
+abbrev pub CalmStreamsEndAlike : Type 0
+CalmStreamsEndAlike = (publishing : Publishing) (farm : Farm) (content : Content) (a b : List Event) → Run (start_of publishing farm content) a → Run (start_of publishing farm content) b → event_steps a ≡ event_steps b
+    → AreCalmEvents a → AreCalmEvents b → HaveNoOpenEnd (start_of publishing farm content) a → EndAlike (start_of publishing farm content) a b

@@ -13,7 +13,8 @@ use Rattle.front.specs.declared.step.Step.{Step}
 use Rattle.front.specs.declared.step.Step.TheVariants.{Opened, Piece, Gone, Direct, Render, Deliver, Lose}
 use Rattle.front.specs.declared.note.Note.{Note}
 use Rattle.front.specs.declared.note.Note.TheVariants.{Answer as answered, Ask as asked, Local, Rendered, Passed, Lost, Sent, Shut, Refused, Idle, Dry}
-use Rattle.front.specs.Publishers.{direct_answer, fixed_answer}
+use Rattle.connections.specs.Slots.{fixed_answer}
+use Rattle.front.specs.Publishers.{direct_answer}
 use Rattle.front.specs.States.{RunState}
 use Rattle.front.specs.Moves.{Mood, Settles, state_after_note, afters, due_of_connection, on_line, has_number, published_for}
 

@@ -7,7 +7,8 @@ use Rattle.front.specs.declared.board.Board.{Board}
 use Rattle.front.specs.declared.step.Step.{Step}
 use Rattle.front.specs.declared.told.Told.{Told}
 use Rattle.front.specs.Boards.{BoardTied, Happened}
-use Rattle.front.specs.Publishers.{Publishing, fixed_answer}
+use Rattle.connections.specs.Slots.{fixed_answer}
+use Rattle.front.specs.Publishers.{Publishing}
 use Rattle.front.specs.States.{RunState}
 
 -- the publisher and the farm are those of the state, and the board is what is left of it

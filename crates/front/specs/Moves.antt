@@ -14,13 +14,13 @@ use Rattle.http_front.specs.Answers.{fixed_507}
 use Rattle.http_front.specs.Faults.{fault_status}
 use Rattle.http_front.specs.declared.turn.Turn.{Turn}
 use Rattle.http_front.specs.declared.turn.Turn.TheVariants.{Continue, Whole}
-use Rattle.connections.specs.Slots.{Slot, Response, Awaits, IsWritten, local_response, request_slot, fault_slot}
+use Rattle.connections.specs.Slots.{Slot, Response, Awaits, IsWritten, local_response, request_slot, fault_slot, fixed_answer}
 use Rattle.connections.specs.Connections.{Connection, Due, Send, Treat, Refuse, Close, Nothing, advanced, is_crowded, with_slot, with_landing, with_sent}
 use Rattle.connections.specs.Connections as connection
 use Rattle.front.specs.declared.flying.Flying.{Flying}
 use Rattle.front.specs.declared.note.Note.{Note}
 use Rattle.front.specs.declared.note.Note.TheVariants.{Answer as answered, Ask as asked, Local, Rendered, Passed, Lost, Sent, Shut, Refused, Idle, Dry}
-use Rattle.front.specs.Publishers.{Published, fixed_answer}
+use Rattle.front.specs.Publishers.{Published}
 use Rattle.front.specs.States.{RunState, Log, LogEntry, Asked, Landed, Lost as lost_entry, Passed as passed_fate, flights_asked}
 
 -- what an event allows: in a dry one memory was wanting
@@ -193,7 +193,8 @@ answer_in flying = unwrap_or (option_and_then (λ f. f.rendered) flying) fixed_a
 abbrev pub published_for : RunState → Req → Published
 published_for w request = w.publishing w.content (publisher_ask w.farm request)
 
--- the content after a flight is rendered: what the publisher leaves, but the fixed answer stands where it did nothing
+-- The content after a flight is rendered: what the publisher leaves; but the fixed answer stands where it did nothing. Its status tells
+-- it, since by its contract none of the publisher's own answers has that (`IsNeverFixed`).
 abbrev pub content_rendered : RunState → Answer → Option Flying → Content
 content_rendered w answer None = w.content
 content_rendered w answer (Some flying) = if answer.status == 507 then w.content else (published_for w flying.request).content

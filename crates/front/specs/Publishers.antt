@@ -2,7 +2,6 @@
 use Rattle.std.specs.Prelude.{List, [], ℕ, Option, Some, None, codes}
 use Rattle.sp_base.specs.declared.answer.Answer.{Answer}
 use Rattle.sp_base.specs.declared.answer.Ask.{Ask}
-use Rattle.sp_base.specs.declared.answer.Mark.TheVariants.{Plain}
 use Rattle.resource_tree.specs.Content.{Content}
 use Rattle.any_config.specs.declared.farm.Farm.{Farm}
 use Rattle.http_front.specs.declared.target.Target.{Target}
@@ -38,7 +37,3 @@ answer_to publishing farm content None = error_answer 400
 -- the answer to a target that is asked past the connections
 abbrev pub direct_answer : Publishing → Farm → Content → List ℕ → Answer
 direct_answer publishing farm content target = answer_to publishing farm content (target_of target)
-
--- the answer in place of one for which no memory was there (RFC 4918, section 11.5)
-abbrev pub fixed_answer : Answer
-fixed_answer = record { status = 507; kind = []; location = []; mark = Plain; body = [] }

@@ -9,7 +9,8 @@ use Rattle.dispatch_rules.specs.Asking.{publisher_ask}
 use Rattle.front.specs.declared.flying.Flying.{Flying}
 use Rattle.front.specs.declared.note.Note.{Note}
 use Rattle.front.specs.declared.note.Note.TheVariants.{Answer as answered, Ask as asked, Local, Rendered, Passed, Lost, Sent, Shut, Refused, Idle, Dry}
-use Rattle.front.specs.Publishers.{Publishing, fixed_answer}
+use Rattle.connections.specs.Slots.{fixed_answer}
+use Rattle.front.specs.Publishers.{Publishing}
 use Rattle.front.specs.States.{RunState}
 use Rattle.front.specs.Events.{Event, after_event, begun}
 use Rattle.front.specs.Moves.{state_after_note, flight_at}

@@ -1,5 +1,6 @@
 //! What the publisher is asked for a target, and the answer where no memory was there for its own.
 ghost use Rattle.std.specs.Prelude.{◌≡◌, IfOk};
+ghost use Rattle.connections.specs.Slots.{fixed_answer as fixed};
 ghost use Rattle.front.specs.Publishers as spec;
 
 use any_config::Farm;
@@ -24,7 +25,7 @@ pub(crate) fn get_of(alloc: Global, farm: &Farm, target: Target) -> Mem<Ask>
 
 /// The answer in place of one for which no memory was there (RFC 4918, section 11.5).
 pub(crate) fn fixed_answer(alloc: Global) -> Mem<Answer>
-    ensures { IfOk result (λ a. a ≡ spec.fixed_answer) }
+    ensures { IfOk result (λ a. a ≡ fixed) }
 {
     Ok(Answer {
         status: 507,

@@ -64,14 +64,14 @@ impl<R: Renderer + Drop> Front<R> {
             Step::Opened(c, _) => self.board.open(alloc, *c),
             Step::Piece(c, bytes) => self.board.piece(alloc, &self.farm, *c, bytes),
             Step::Gone(c) => self.board.close(alloc, *c),
-            Step::Direct(target) => self.direct(alloc, target.text().as_bytes()),
+            Step::Direct(target) => self.direct(alloc, target.text()),
             Step::Render(pick) => self.render(alloc, pick),
             Step::Deliver(pick) => self.board.deliver(alloc, &self.farm, pick),
             Step::Lose(pick) => self.board.lose(alloc, &self.farm, pick),
         }
     }
 
-    fn direct(&mut self, alloc: Global, target: &[u8]) -> Mem<Told>
+    fn direct(&mut self, alloc: Global, target: &str) -> Mem<Told>
         ensures { IfOk result (λ told. TellsStep (BoardStands R.publishing (R.content self.old.renderer) self.old.farm self.old.board) (BoardStands R.publishing (R.content self.new.renderer) self.new.farm self.new.board) (Direct target.now) told) }
     {
         let answer = self.direct_answer(alloc, target);
@@ -93,7 +93,7 @@ impl<R: Renderer + Drop> Front<R> {
     }
 
     // The publisher's answer to a target.
-    fn direct_answer(&mut self, alloc: Global, target: &[u8]) -> Mem<Answer>
+    fn direct_answer(&mut self, alloc: Global, target: &str) -> Mem<Answer>
         ensures ok { IfOk result (λ a. a ≡ direct_answer R.publishing self.old.farm (R.content self.old.renderer) target.now) }
         ensures content { R.content self.new.renderer ≡ R.content self.old.renderer }
         ensures farm { self.new.farm ≡ self.old.farm }

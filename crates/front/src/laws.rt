@@ -5,7 +5,7 @@ ghost use Rattle.any_config.specs.declared.farm.Farm as models;
 ghost use Rattle.connections.specs.Connections.{Connection};
 ghost use Rattle.connections.specs.Histories.{AnswersRun, AreOfTurns};
 ghost use Rattle.front.specs.Cuttings.{CuttingsAgree};
-ghost use Rattle.front.specs.Determined.{CalmRunsAreOne};
+ghost use Rattle.front.specs.Determined.{CalmRunsAreOne, CalmStreamsEndAlike};
 ghost use Rattle.front.specs.Events.{Event, Happens, Run, after_event, state_after_events};
 ghost use Rattle.front.specs.Histories.{AnswersWhatCame, HasReadAll, came_since_opened, sent_since_opened};
 ghost use Rattle.front.specs.Owned.{AnswersAreOwn};
@@ -14,7 +14,7 @@ ghost use Rattle.front.specs.Renders.{ArePublished, IsNeverFixed, renders_of};
 ghost use Rattle.front.specs.States.{RunState, start_of};
 
 use connections::{answers_in_order, slots_of_turns};
-use http_front::the_turns_of_a_beginning;
+use http_front::{the_end_of_a_stream, the_turns_of_a_beginning};
 
 /// A run goes on with what happens next, in the state that it left.
 pub fn events_extend()
@@ -81,11 +81,18 @@ pub fn renders_are_published()
         → ArePublished publishing farm content (renders_of (start_of publishing farm content) events) (state_after_events (start_of publishing farm content) events).content }
 {}
 
-/// A run in which memory isn't wanting is determined by its steps, the publisher, the farm and the content, but for one choice: where the
-/// bytes of a stream end within a target that no more bytes can save, the fault may be told at once or later, and at 16,384 bytes which
-/// fault it is, a bad head or a long one, is open.
+/// A run in which memory isn't wanting is determined by its steps, the publisher, the farm, the content and how the streams end.
 pub fn calm_runs_are_determined()
     ensures { CalmRunsAreOne }
 {
     the_turns_of_a_beginning();
+}
+
+/// How the streams end is determined by the same, but where one ends within a target that can't be UTF-8 any more: the fault may be told
+/// there or later, and at 16,384 bytes it is a bad head or a long one.
+pub fn calm_streams_end_alike()
+    ensures { CalmStreamsEndAlike }
+{
+    the_turns_of_a_beginning();
+    the_end_of_a_stream();
 }

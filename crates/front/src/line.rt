@@ -168,7 +168,7 @@ fn read_turns(
     }
 }
 
-// A fault that the stream has. Want of memory isn't one.
+// A fault that the stream has. Out of memory isn't one.
 fn told_fault(fault: InFault) -> Mem<InFault>
     ensures same { IfOk result (λ told. told ≡ fault) }
     ensures other { IfOk result (λ told. fault ≢ variant.NoMemory) }

@@ -1,23 +1,22 @@
 -- What the parser finds at the front of a stream.
-use Rattle.std.proofs.Common.{◌≡◌, ◌≢◌, ◌<◌, ◌≤◌, ◌+◌, ◌*◌, ℕ, Bool, true, List, [], ◌∷◌, ◌++◌, length, take, drop, get_or, map, refl, sym, ◌∙◌, ap, subst, arith, length-append, append_assoc, flat_map, suc, Some}
+use Rattle.std.proofs.Common.{◌≡◌, ◌<◌, ◌≤◌, ◌+◌, ◌*◌, ℕ, true, List, [], ◌∷◌, ◌++◌, length, take, drop, sym, ◌∙◌, ap, subst, arith, length-append, flat_map, suc, Some}
 use Rattle.std.specs.Prelude.{All, IsUtf8}
 use Rattle.std.proofs.lemmas.Bool.Decides.{nat_tests}
-use Rattle.std.proofs.lemmas.List.{get_or-map, length-map}
 use Rattle.std.proofs.lemmas.List.Elements.{All-weaker, All-map, All-head}
 use Rattle.std.proofs.lemmas.Str.{IsUtf8-from_ascii}
 use Rattle.std.proofs.lemmas.Str.Ascii.{IsAscii-from_all}
-use Rattle.httparse.specs.Grammar.{is_token_byte, IsToken, AllPass, LineEnd, crlf, lf, print_end, Field, IsField, print_field, print_section, RequestHead, print_request, ReadsRequest, IsRequestHead}
+use Rattle.httparse.specs.Grammar.{is_token_byte, IsToken, LineEnd, crlf, lf, print_end, Field, IsField, print_field, print_section, RequestHead, print_request, ReadsRequest}
 use Rattle.httparse.specs.Grammar.{print_blank, print_version}
 use Rattle.httparse.proofs.GrammarLemmas.{print_request-append}
 use Rattle.httparse.proofs.PieceLemmas.{print_field-append}
-use Rattle.httparse.specs.Spans.{IsHeaderWithin, IsRequestWithin, IsRequestAt, RequestExceeds, name_and_value, header_bytes}
+use Rattle.httparse.specs.Spans.{IsHeaderWithin, IsRequestWithin, IsRequestAt, RequestExceeds, name_and_value}
 use Rattle.httparse.specs.declared.spans.HeaderSpan.{HeaderSpan}
 use Rattle.httparse.specs.declared.spans.RequestSpans.{RequestSpans}
 use Rattle.http_front.specs.declared.fault.InFault.{InFault}
 use Rattle.http_front.specs.declared.head.AskedHead.{AskedHead}
-use Rattle.http_front.specs.Heads.{Parts, request_parts_at, parts_of, AreWithin, AreTexts, Asks, head_fault}
+use Rattle.http_front.specs.Heads.{request_parts_at, AreWithin, AreTexts, Asks, head_fault}
 use Rattle.http_front.specs.Fronts.{HoldsHead, HoldsSomeHead}
-use Rattle.http_front.specs.Turns.{BeginsWith, BeginsAsking, BeginsRefused, longest_head}
+use Rattle.http_front.specs.Turns.{BeginsAsking, BeginsRefused, longest_head}
 
 token_is_ascii : (b : ℕ) → is_token_byte b ≡ true → b < 128
 unfolding is_token_byte
@@ -34,6 +33,7 @@ texts bytes fields spans holds =
       method = token_is_text head.method holds.1.reads.0.method;
       target = holds.1.reads.0.target_text;
       names = All-map (λ field. IsUtf8 field.0) name_and_value head.fields (All-weaker IsField (λ f. IsUtf8 f.name) (λ f h. token_is_text f.name h.name) head.fields holds.1.reads.0.fields);
+      minor = holds.1.reads.0.minor;
     })
 
 -- the parser's spans are such places

@@ -1,8 +1,8 @@
 -- What decides about a head.
 use Rattle.std.proofs.Common.{◌≡◌, ◌≢◌, ◌<◌, ℕ, Bool, true, false, cond, List, [], ◌∷◌, Option, Some, None, Ok, Err, length, get_or, map, sym, ◌∙◌, ap, refl, arith, subst}
-use Rattle.std.specs.Prelude.{nat_lt, option_map, option_and_then, unwrap_or, All, codes}
+use Rattle.std.specs.Prelude.{nat_lt, option_map, unwrap_or, All, codes}
 use Rattle.std.specs.List.{find}
-use Rattle.std.specs.Option.{is_none, is_some}
+use Rattle.std.specs.Option.{is_none}
 use Rattle.std.specs.Str.{IsUtf8}
 use Rattle.std.proofs.lemmas.List.{get_or-map, length-map}
 use Rattle.httparse.specs.declared.spans.HeaderSpan.{HeaderSpan}

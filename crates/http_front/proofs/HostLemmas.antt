@@ -1,21 +1,18 @@
 -- The parts of a Host field's value, and numbers.
 use Rattle.std.proofs.Common.{◌≡◌, ◌<◌, ◌≤◌, ◌+◌, ◌*◌, ◌^◌, ◌-◌, ℕ, Bool, true, false, List, [], ◌∷◌, Some, None, length, take, drop, get_or, position, sym, ◌∙◌, ap, refl, arith, rules, cond, zero, suc}
-use Rattle.std.specs.Prelude.{IsTrue, ◌&&◌, nat_lt, nat_le, nat_eq}
+use Rattle.std.specs.Prelude.{IsTrue, ◌&&◌, nat_lt, nat_le}
 use Rattle.std.specs.List.{before_first, list_all, position_or_len}
 use Rattle.std.specs.Char.{is_ascii_digit, digit_value}
-use Rattle.std.specs.Str.{IsUtf8, IsAscii}
-use Rattle.std.specs.Str.Parse.{digits_value, AllDigits}
+use Rattle.std.specs.Str.{IsUtf8}
+use Rattle.std.specs.Str.Parse.{digits_value}
 use Rattle.std.specs.Int.{IsInRange}
 use Rattle.std.proofs.lemmas.Bool.{and_parts, ltb-true, leb-true}
 use Rattle.std.proofs.lemmas.Bool.Decides.{nat_tests}
 use Rattle.std.proofs.lemmas.List.{drop_all, length-take-le}
 use Rattle.std.proofs.lemmas.Int.Digits.{digits_value_more}
 use Rattle.std.proofs.lemmas.Str.Parse.{IsNumeralModel, numerals_by_value, digits_value_short, digits_value-take-le, digit_at}
-use Rattle.std.proofs.Common.{subst}
-use Rattle.std.specs.Prelude.{option_map}
-use Rattle.std.proofs.lemmas.Bool.{cond-true}
 use Rattle.std.proofs.lemmas.Str.{IsUtf8-from_ascii}
-use Rattle.http_front.specs.Hosts.{is_number, is_asked_host_name, is_asked_host_byte, is_port_colon, port_of, host_in}
+use Rattle.http_front.specs.Hosts.{is_number, is_asked_host_name, is_asked_host_byte}
 use Rattle.http_front.proofs.TargetLemmas.{before_place, before_none}
 
 in_range : (b : Bool) (n at : ℕ) → Some at ≡ cond b (Some n) None → b ≡ true

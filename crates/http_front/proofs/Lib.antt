@@ -5,6 +5,7 @@ pub mod FieldLemmas
 pub mod HostLemmas
 pub mod HeadLemmas
 pub mod TurnLemmas
+pub mod EndLemmas
 pub mod FrontLemmas
 pub mod StartLemmas
 pub mod IntakeLemmas

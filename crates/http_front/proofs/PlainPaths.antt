@@ -14,7 +14,8 @@ use Rattle.percent_encoding.proofs.PercentLemmas.{percent_decode-nil, percent_de
 use Rattle.sp_base.specs.Paths.{path_of, is_mangled, unmangled_by, unmangled_seg, unmangled}
 use Rattle.sp_base.specs.PathTexts.{spelled}
 use Rattle.http_front.specs.declared.target.Target.{Target}
-use Rattle.http_front.specs.Targets.{is_percent, is_underscore, path_bytes, ends_in_slash, without_slash, utf8_text, path_of_bytes, path_and_slash, query_of, with_path, begins_with_slash, target_of}
+use Rattle.http_front.specs.PathReading.{is_percent, is_underscore, path_and_slash}
+use Rattle.http_front.specs.Targets.{path_bytes, ends_in_slash, without_slash, utf8_text, path_of_bytes, query_of, with_path, begins_with_slash, target_of}
 use Rattle.http_front.proofs.TargetLemmas.{is_text, is_no_text}
 
 -- bytes without a `%` stand for themselves

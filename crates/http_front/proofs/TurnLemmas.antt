@@ -1,17 +1,16 @@
 -- A stream that goes on: its turns stay, and more may come after them.
-use Rattle.std.proofs.Common.{◌≡◌, ◌≢◌, ◌<◌, ◌≤◌, ◌+◌, ◌-◌, ◌⊎◌, ℕ, zero, suc, Bool, true, false, List, [], ◌∷◌, ◌++◌, Option, Some, None, length, take, drop, refl, sym, ◌∙◌, ap, subst, arith, append_assoc, length-append, ⊎_elim}
+use Rattle.std.proofs.Common.{◌≡◌, ◌<◌, ◌≤◌, ◌-◌, ℕ, zero, suc, Bool, true, false, List, [], ◌∷◌, ◌++◌, Option, Some, None, length, take, refl, sym, ◌∙◌, ap, subst, arith, append_assoc, length-append, ⊎_elim}
 use Rattle.std.proofs.lemmas.Bool.{true≢false}
 use Rattle.std.proofs.lemmas.List.{take-append-le}
-use Rattle.httparse.specs.Grammar.{RequestHead, print_request, ReadsRequest, HasNoRequest, NeverHasRequest, MayBecomeRequest}
-use Rattle.httparse.proofs.GrammarLemmas.{ReadsRequest-append, request_prefix_free, request_unique}
+use Rattle.httparse.specs.Grammar.{RequestHead, print_request, ReadsRequest, HasNoRequest, NeverHasRequest}
+use Rattle.httparse.proofs.GrammarLemmas.{ReadsRequest-append, request_prefix_free}
 use Rattle.sp_base.specs.declared.answer.Req.{Req}
 use Rattle.http_front.specs.declared.fault.InFault.{InFault}
 use Rattle.http_front.specs.declared.head.AskedHead.{AskedHead}
-use Rattle.http_front.specs.declared.head.Asked.{Asked}
 use Rattle.http_front.specs.declared.turn.Turn.{Turn}
 use Rattle.http_front.specs.declared.turn.Turn.TheVariants.{Continue, Whole}
 use Rattle.http_front.specs.Heads.{Parts, parts_of, head_fault, Asks, head_with}
-use Rattle.http_front.specs.Turns.{End, Waits, Breaks, longest_head, window, BeginsWith, BeginsAsking, BeginsRefused, HasBody, with_body, AwaitsHead, AwaitsBody, HasNoHead, Stops, BeginsWithRequest, AwaitsAskedBody, SpellsTurns}
+use Rattle.http_front.specs.Turns.{End, Waits, Breaks, longest_head, window, BeginsWith, BeginsAsking, BeginsRefused, HasBody, with_body, Stops, BeginsWithRequest, AwaitsAskedBody, SpellsTurns}
 
 -- ---- lists
 
@@ -101,7 +100,7 @@ not_refused s more a r fault x y =
 pub not_awaited : (s more : List ℕ) (a : AskedHead) (r : List ℕ) → BeginsAsking s a r → HasNoRequest (window (s ++ more)) → ⊥
 not_awaited s more a r x none = has_head (s ++ more) x.head (r ++ more) (begins_append s more x.head r x.begins) none
 
-never_none : (w : List ℕ) → NeverHasRequest w → HasNoRequest w
+pub never_none : (w : List ℕ) → NeverHasRequest w → HasNoRequest w
 never_none w never = subst HasNoRequest (append_nil w) (never [])
   where
     append_nil : (xs : List ℕ) → xs ++ [] ≡ xs

@@ -1,5 +1,5 @@
 -- The bytes of fields' values are printable.
-use Rattle.std.proofs.Common.{◌≡◌, ◌<◌, ◌==◌, ◌^◌, ℕ, Bool, true, false, cond, List, [], ◌∷◌, length, codes, decimal, refl, arith}
+use Rattle.std.proofs.Common.{◌≡◌, ◌≢◌, ◌<◌, ◌==◌, ◌^◌, ℕ, Bool, true, false, cond, List, [], ◌∷◌, length, codes, decimal, ap, refl, arith}
 use Rattle.std.specs.Prelude.{◌&&◌, ◌||◌, flat_map, map, if◌then◌else◌}
 use Rattle.std.specs.List.{All, list_all}
 use Rattle.std.specs.Str.Parse.{AllDigits}
@@ -13,7 +13,7 @@ use Rattle.sp_base.specs.declared.answer.Answer.{Answer}
 use Rattle.sp_base.specs.declared.answer.Mark.{Mark}
 use Rattle.sp_base.specs.declared.answer.Mark.TheVariants.{Plain, NoCache, NoStore, MustRevalidate}
 use Rattle.http_front.specs.Answers.{is_printable, is_visible, plain_value, location_of, unless_empty, allowed_methods, directive_of, is_without_content, content_length, connection}
-use Rattle.http_front.specs.FieldValues.{IsPrintable, StaysInItsLine, ValuesStayInTheirLines}
+use Rattle.http_front.specs.FieldValues.{IsPrintable, IsVisible, StaysInItsLine, ValuesStayInTheirLines}
 
 and_first : (a b : Bool) → (a && b) ≡ true → a ≡ true
 and_first true b h = refl
@@ -45,26 +45,29 @@ pub plain_printable : (text : List ℕ) → All IsPrintable (plain_value text)
 unfolding plain_value
 plain_printable text = plain_all text
 
-escape_printable : (b : ℕ) → IsEscapeByte b → IsPrintable b
-escape_printable b h = (grind (arith), grind (arith))
+escape_visible : (b : ℕ) → IsEscapeByte b → IsVisible b
+escape_visible b h = (grind (arith), grind (arith))
 
-seen_byte : (b : ℕ) → is_visible b ≡ true → IsPrintable b
+seen_byte : (b : ℕ) → is_visible b ≡ true → IsVisible b
 seen_byte b h = (grind (arith, nat_tests), grind (arith, nat_tests))
 
-location_byte : (b : ℕ) → All IsPrintable (if is_visible b then b ∷ [] else percent_encode_byte b)
+location_byte : (b : ℕ) → All IsVisible (if is_visible b then b ∷ [] else percent_encode_byte b)
 location_byte b =
-    elim (is_visible b) as (λ t. is_visible b ≡ t → All IsPrintable (cond t (b ∷ []) (percent_encode_byte b))) [
-      | true ↦ λ e. All-cons IsPrintable b [] (seen_byte b e) (All-nil IsPrintable)
-      | false ↦ λ e. All-weaker IsEscapeByte IsPrintable escape_printable (percent_encode_byte b) (All-percent_encode_byte b)
+    elim (is_visible b) as (λ t. is_visible b ≡ t → All IsVisible (cond t (b ∷ []) (percent_encode_byte b))) [
+      | true ↦ λ e. All-cons IsVisible b [] (seen_byte b e) (All-nil IsVisible)
+      | false ↦ λ e. All-weaker IsEscapeByte IsVisible escape_visible (percent_encode_byte b) (All-percent_encode_byte b)
     ] refl
 
-location_all : (text : List ℕ) → All IsPrintable (flat_map (λ b. if is_visible b then b ∷ [] else percent_encode_byte b) text)
-location_all [] = All-nil IsPrintable
-location_all (b ∷ text) = All-append IsPrintable _ _ (location_byte b) (location_all text)
+location_all : (text : List ℕ) → All IsVisible (flat_map (λ b. if is_visible b then b ∷ [] else percent_encode_byte b) text)
+location_all [] = All-nil IsVisible
+location_all (b ∷ text) = All-append IsVisible _ _ (location_byte b) (location_all text)
 
-pub location_printable : (text : List ℕ) → All IsPrintable (location_of text)
+location_visible : (text : List ℕ) → All IsVisible (location_of text)
 unfolding location_of
-location_printable text = location_all text
+location_visible text = location_all text
+
+visible_printable : (b : ℕ) → IsVisible b → IsPrintable b
+visible_printable b h = (omega (arith, h.0), h.1)
 
 digits_printable : (ds : List ℕ) → AllDigits 10 ds → All IsPrintable ds
 digits_printable [] h = All-nil IsPrintable
@@ -96,19 +99,24 @@ connection_printable : (close : Bool) → All IsPrintable (connection close)
 connection_printable true = all_tested (codes "close") refl
 connection_printable false = All-nil IsPrintable
 
-field_stays : (name value : List ℕ) → All IsPrintable value → All StaysInItsLine (unless_empty name value)
-field_stays name value h =
+field_stays : (name value : List ℕ) → All IsPrintable value → (name ≡ codes "Location" → All IsVisible value) → All StaysInItsLine (unless_empty name value)
+field_stays name value h located =
     elim (length value == 0) as (λ t. All StaysInItsLine (cond t [] ((name, value) ∷ []))) [
       | true ↦ All-nil StaysInItsLine
-      | false ↦ All-cons StaysInItsLine (name, value) [] h (All-nil StaysInItsLine)
+      | false ↦ All-cons StaysInItsLine (name, value) [] (h, located) (All-nil StaysInItsLine)
     ]
+
+-- a name of another length
+other_field : (name value : List ℕ) → length name ≢ 8 → name ≡ codes "Location" → All IsVisible value
+other_field name value other e = absurd (other (ap length e))
 
 pub values_stay : ValuesStayInTheirLines
 values_stay head_only close a h =
-    let kind = field_stays (codes "Content-Type") _ (plain_printable a.kind) in
-    let location = field_stays (codes "Location") _ (location_printable a.location) in
-    let methods = field_stays (codes "Allow") _ (methods_printable a.status) in
-    let directive = field_stays (codes "Cache-Control") _ (directive_printable a.mark) in
-    let size = field_stays (codes "Content-Length") _ (length_printable head_only a h) in
-    let last = field_stays (codes "Connection") _ (connection_printable close) in
+    let seen = location_visible a.location in
+    let kind = field_stays (codes "Content-Type") _ (plain_printable a.kind) (other_field (codes "Content-Type") _ (omega arith)) in
+    let location = field_stays (codes "Location") _ (All-weaker IsVisible IsPrintable visible_printable _ seen) (λ _. seen) in
+    let methods = field_stays (codes "Allow") _ (methods_printable a.status) (other_field (codes "Allow") _ (omega arith)) in
+    let directive = field_stays (codes "Cache-Control") _ (directive_printable a.mark) (other_field (codes "Cache-Control") _ (omega arith)) in
+    let size = field_stays (codes "Content-Length") _ (length_printable head_only a h) (other_field (codes "Content-Length") _ (omega arith)) in
+    let last = field_stays (codes "Connection") _ (connection_printable close) (other_field (codes "Connection") _ (omega arith)) in
     All-append StaysInItsLine _ _ (All-append StaysInItsLine _ _ (All-append StaysInItsLine _ _ (All-append StaysInItsLine _ _ (All-append StaysInItsLine _ _ kind location) methods) directive) size) last

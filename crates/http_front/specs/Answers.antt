@@ -1,5 +1,5 @@
 -- An answer as bytes (RFC 9112, sections 4 to 6): a status line, field lines, an empty line, and the body.
-use Rattle.std.specs.Prelude.{◌==◌, ◌&&◌, ◌||◌, ◌++◌, ℕ, Bool, not, nat_le, if◌then◌else◌, List, [], ◌∷◌, codes, decimal, flat_map, length, map}
+use Rattle.std.specs.Prelude.{◌==◌, ◌&&◌, ◌||◌, ◌++◌, ℕ, Bool, nat_le, if◌then◌else◌, List, [], ◌∷◌, codes, decimal, flat_map, length, map}
 use Rattle.httparse.specs.Ascii.{crlf_bytes}
 use Rattle.error_answers.specs.Errors.{phrase_of}
 use Rattle.percent_encoding.specs.Percent.{percent_encode_byte}

@@ -1,5 +1,5 @@
 -- The host that a request asks for (RFC 9110, sections 4.2.1 and 7.2): a name, and a port after a colon.
-use Rattle.std.specs.Prelude.{◌==◌, ◌&&◌, ◌||◌, ◌+◌, ℕ, Bool, not, nat_le, nat_lt, if◌then◌else◌, List, [], ◌∷◌, Option, Some, None, option_and_then, option_map, length, drop, slice_index}
+use Rattle.std.specs.Prelude.{◌==◌, ◌&&◌, ◌||◌, ◌+◌, ℕ, Bool, nat_le, nat_lt, if◌then◌else◌, List, [], Option, Some, None, option_and_then, option_map, length, drop, slice_index}
 use Rattle.std.specs.List.{before_first, list_all}
 use Rattle.std.specs.Char.{is_ascii_alphanumeric, is_ascii_digit}
 use Rattle.std.specs.Str.Parse.{digits_value}

@@ -12,14 +12,6 @@ use Rattle.http_front.specs.declared.target.Target.{Target}
 abbrev pub is_question_mark : ℕ → Bool
 is_question_mark b = b == 63
 
--- a `%` begins an escape
-abbrev pub is_percent : ℕ → Bool
-is_percent b = b == 37
-
--- a `_` begins each mark of mangling
-abbrev pub is_underscore : ℕ → Bool
-is_underscore b = b == 95
-
 -- the query: what stands after the first `?` (RFC 3986, section 3.4)
 abbrev pub query_of : List ℕ → Option (List ℕ)
 query_of target = option_map (λ at. drop (at + 1) target) (position is_question_mark target)
@@ -44,10 +36,6 @@ utf8_text bytes = if is_utf8 bytes then Some bytes else None
 -- the path that decoded bytes spell, where they spell one
 abbrev pub path_of_bytes : List ℕ → Option (List (List ℕ))
 path_of_bytes bytes = option_and_then (λ text. result_ok (path_of (without_slash text))) (utf8_text bytes)
-
--- the path that a text spells, unmangled, and whether a slash at its end was dropped, where it spells one
-abbrev pub path_and_slash : List ℕ → Option (List (List ℕ) × Bool)
-path_and_slash text = option_map (λ path. (unmangled path, ends_in_slash text)) (result_ok (path_of (without_slash text)))
 
 -- a target with this path
 abbrev pub with_path : List ℕ → List (List ℕ) → Target

@@ -1,5 +1,5 @@
 //! Reads what a whole request head asks for.
-ghost use Rattle.std.specs.Prelude.{◌≡◌, ◌≢◌, ◌++◌, IfOk, IfErr, IfSome, OnOk, Some, None, All, IsUtf8, length, map, option_copied, option_map, string_bytes};
+ghost use Rattle.std.specs.Prelude.{◌≡◌, ◌≢◌, ◌≤◌, ◌++◌, IfOk, IfErr, IfSome, OnOk, Some, None, All, IsUtf8, codes, length, map, option_copied, option_map};
 ghost use Rattle.std.specs.Fmt.{decimal};
 ghost use Rattle.std.specs.Str.{str_to_ascii_lowercase};
 ghost use Rattle.httparse.specs.Spans.{IsHeaderWithin, header_bytes, span_bytes};
@@ -83,7 +83,7 @@ fn asked_of(alloc: Global, minor: u8, target: &str, heads: &HeadList) -> Result<
     if heads.len() > MOST_FIELDS {
         return Err(InFault::ManyHeaders);
     }
-    let Some(target) = read_target(alloc, target.as_bytes())? else {
+    let Some(target) = read_target(alloc, target)? else {
         return Err(InFault::BadTarget);
     };
     let body_length = match body_length(heads) {
@@ -151,6 +151,7 @@ fn text_of(bytes: &[u8]) -> &str
 }
 
 fn request_line(alloc: Global, method: &str, target: &str, minor: u8) -> Mem<TextBuf>
+    requires { minor ≤ 1 }
     ensures { IfOk result (λ line. line ≡ spec.request_line method.now target.now minor) }
 {
     let room = method
@@ -161,24 +162,16 @@ fn request_line(alloc: Global, method: &str, target: &str, minor: u8) -> Mem<Tex
     line.push_str(method)?;
     line.push_str(" ")?;
     line.push_str(target)?;
-    line.push_str(" HTTP/1.")?;
-    push_minor(alloc, &mut line, minor)?;
+    line.push_str(version_of(minor))?;
     Ok(TextBuf::from(line))
 }
 
-// The digits of a minor version, which in a head that was read is 0 or 1.
-fn push_minor(alloc: Global, line: &mut String, minor: u8) -> Mem<()>
-    ensures { OnOk result (string_bytes line.new ≡ string_bytes line.old ++ decimal minor) }
+// What ends a request line.
+fn version_of(minor: u8) -> &'static str
+    requires { minor ≤ 1 }
+    ensures { result.now ≡ codes " HTTP/1." ++ decimal minor }
 {
-    match minor {
-        0 => line.push_str("0")?,
-        1 => line.push_str("1")?,
-        _ => {
-            let digits = minor.to_string(alloc)?;
-            line.push_str(digits.as_str())?;
-        }
-    }
-    Ok(())
+    if minor == 0 { " HTTP/1.0" } else { " HTTP/1.1" }
 }
 
 // The fields, with their names in lower case.

@@ -86,7 +86,7 @@ impl Intake {
         }
     }
 
-    /// The next turn of the stream; none where no whole one is there yet. After a fault other than want of memory it answers that
+    /// The next turn of the stream; none where no whole one is there yet. After a fault other than out of memory it answers that
     /// fault again, whatever comes.
     pub fn next(&mut self, alloc: Global) -> Result<Option<Turn>, InFault>
         ensures turn { IfOk result (λ o. IfSome o (Tells self.old self.new)) }

@@ -15,6 +15,6 @@ mod window;
 pub use answer::{answer_bytes, fixed_507, interim_100};
 pub use fault::InFault;
 pub use intake::Intake;
-pub use laws::{no_value_ends_its_line, the_turns_of_a_beginning};
+pub use laws::{no_value_ends_its_line, the_end_of_a_stream, the_turns_of_a_beginning};
 pub use target::{Target, read_target};
 pub use turn::Turn;

@@ -5,12 +5,12 @@ ghost use Rattle.std.specs.Option.{option_map, option_and_then};
 ghost use Rattle.std.specs.Result.{result_ok};
 ghost use Rattle.percent_encoding.specs.Percent.{percent_decode as decoding};
 ghost use Rattle.sp_base.specs.Paths.{path_of, unmangled};
-ghost use Rattle.http_front.specs.Targets.{is_question_mark, is_percent, is_underscore, query_of, begins_with_slash, ends_in_slash, without_slash as trimmed, utf8_text, path_and_slash, target_of};
+ghost use Rattle.http_front.specs.PathReading.{is_percent, is_underscore, path_and_slash};
+ghost use Rattle.http_front.specs.Targets.{is_question_mark, query_of, begins_with_slash, ends_in_slash, without_slash as trimmed, utf8_text, target_of};
 
 use percent_encoding::{DecodeError, percent_decode};
 use sp_base::{ByteBuf, Mem, NoMemory, Path, PathFault};
 use std::alloc::Global;
-use std::str::from_utf8;
 
 /// What a target says.
 #[derive(Drop)]
@@ -23,8 +23,8 @@ pub struct Target {
     pub query: Option<ByteBuf>,
 }
 
-/// Reads a target. None is a bad one: it doesn't begin with a slash, or its path isn't UTF-8 or spells no path.
-pub fn read_target(alloc: Global, target: &[u8]) -> Mem<Option<Target>>
+/// Reads a target. None is a bad one: it doesn't begin with a slash, or its decoded path isn't UTF-8 or spells no path.
+pub fn read_target(alloc: Global, target: &str) -> Mem<Option<Target>>
     ensures { IfOk result (λ o. o ≡ target_of target.now) }
 {
     if !begins_with_slash(target) {
@@ -39,50 +39,48 @@ pub fn read_target(alloc: Global, target: &[u8]) -> Mem<Option<Target>>
 }
 
 // An escape isn't a slash here: the target is looked at as it came.
-fn begins_with_slash(target: &[u8]) -> bool
+fn begins_with_slash(target: &str) -> bool
     ensures { result ≡ begins_with_slash target.now }
 {
-    match target {
+    match target.as_bytes() {
         [first, ..] => *first == b'/',
         [] => false,
     }
 }
 
 // The path of a target as it came, and the query.
-fn cut(target: &[u8]) -> (&[u8], Option<&[u8]>)
+fn cut(target: &str) -> (&str, Option<&[u8]>)
     ensures path { result.0.now ≡ before_first is_question_mark target.now }
     ensures query { option_copied result.1 ≡ query_of target.now }
 {
     match first_mark(target) {
-        Some(at) => (&target[..at], Some(&target[at + 1..])),
+        Some(at) => (&target[..at], Some(&target.as_bytes()[at + 1..])),
         None => (target, None),
     }
 }
 
-fn first_mark(target: &[u8]) -> Option<usize>
+fn first_mark(target: &str) -> Option<usize>
     ensures { result ≡ position is_question_mark target.now }
 {
-    target.iter().position(|b| *b == b'?')
+    target.as_bytes().iter().position(|b| *b == b'?')
 }
 
-// The path that bytes stand for, each escape in them as the byte of its digits, and whether a slash at its end was dropped. Most paths
+// The path that a text stands for, each escape in it as the byte of its digits, and whether a slash at its end was dropped. Most paths
 // have no escape.
-fn read_path(alloc: Global, path: &[u8]) -> Mem<Option<(Path, bool)>>
+fn read_path(alloc: Global, path: &str) -> Mem<Option<(Path, bool)>>
     ensures { IfOk result (λ o. o ≡ option_and_then path_and_slash (utf8_text (decoding path.now))) }
 {
     if has_percent(path) {
-        return escaped_path(alloc, path);
-    }
-    match from_utf8(path) {
-        Ok(text) => path_in(alloc, text),
-        Err(_) => Ok(None),
+        escaped_path(alloc, path.as_bytes())
+    } else {
+        path_in(alloc, path)
     }
 }
 
-fn has_percent(path: &[u8]) -> bool
+fn has_percent(path: &str) -> bool
     ensures { result ≡ list_any is_percent path.now }
 {
-    path.iter().any(|b| *b == b'%')
+    path.as_bytes().iter().any(|b| *b == b'%')
 }
 
 fn escaped_path(alloc: Global, path: &[u8]) -> Mem<Option<(Path, bool)>>

@@ -151,7 +151,7 @@ fn writes_answers(rt: HostRuntime) -> Result<(), Fail> {
 fn reads_a_target(rt: HostRuntime) -> Result<(), Fail> {
     let alloc = rt.alloc();
     let path = Path::read(alloc, "/a/jcr:content/b.html")?;
-    let found = match read_target(alloc, b"/a/_jcr_content/%62.html/?c=%64")? {
+    let found = match read_target(alloc, "/a/_jcr_content/%62.html/?c=%64")? {
         Some(target) => target.path == path && target.slash && target.query.is_some(),
         None => false,
     };

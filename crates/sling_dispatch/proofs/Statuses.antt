@@ -26,7 +26,8 @@ use Rattle.front.specs.declared.step.Step.{Step}
 use Rattle.front.specs.declared.step.Step.TheVariants as step
 use Rattle.front.specs.Events.{Event, Extended, DeliverAs, DeliverTo, Happens, HappensBy, IsOrFixed, LeadsNotes, LoseTo, PieceTo, RenderTo, Run, after_event, state_after_events, begun, gone, going, is_any, is_picked, is_rendered, is_unrendered, mood_notes, most_lines, notes_of, opened, opening, picked}
 use Rattle.front.specs.Moves.{GivesDue, IsFirstPoint, Mood, Serves, state_after_note, afters, asked_by, due_of_connection, flight_at, has_number, is_front_full, over_with, points, request_of, with_rendered_at, without}
-use Rattle.front.specs.Publishers.{Publishing, answer_to, direct_answer, fixed_answer, get_of}
+use Rattle.connections.specs.Slots.{fixed_answer}
+use Rattle.front.specs.Publishers.{Publishing, answer_to, direct_answer, get_of}
 use Rattle.dispatch_rules.specs.Asking.{publisher_ask}
 use Rattle.front.specs.States.{LogEntry, RunState, flights_asked, start_of}
 use Rattle.replay_text.specs.declared.event_line.EventLine.{EventLine}

@@ -53,8 +53,8 @@ pub fn a_filter_sees_the_decomposition()
     ensures { (known : List (List ℕ) → Bool) (text : List ℕ) (parts : split.Parts) (s : IsSplit known text parts) → s.at ≡ length (stem text) → SeesParts text parts }
 {}
 
-/// A scenario has one transcript, but where memory is wanting in an event; and but for one choice: where the bytes of a stream end within
-/// a target that no more bytes can save, the fault may be told at once or later.
+/// A scenario has one transcript, where memory is wanting in no event and the streams end alike. (They do unless one ends within a target
+/// that can't be UTF-8 any more: `front`'s law `calm_streams_end_alike`.)
 pub fn a_calm_session_has_one_transcript()
     ensures { CalmSessionsAreOne }
 {

@@ -1,4 +1,4 @@
-use Rattle.std.proofs.Common.{◌≡◌, sym, subst}
+use Rattle.std.proofs.Common.{sym, subst}
 use Rattle.front.specs.Histories.{HasReadAll}
 use Rattle.front.proofs.StreamLemmas.{same-turns}
 use Rattle.front.proofs.laws.a_cutting_changes_no_turn.Goals as goal

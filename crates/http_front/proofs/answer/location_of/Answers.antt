@@ -1,4 +1,4 @@
-use Rattle.std.proofs.Common.{◌≡◌, [], ◌++◌, sym, ◌∙◌, ap}
+use Rattle.std.proofs.Common.{◌++◌, ◌∙◌, ap}
 use Rattle.http_front.proofs.LocationLemmas.{location_is}
 use Rattle.percent_encoding.specs.Iter.{encoded_text}
 use Rattle.percent_encoding.specs.Percent.{percent_encode}

@@ -1,5 +1,5 @@
-use Rattle.std.proofs.Common.{◌≡◌, ◌++◌, ap, ◌∙◌}
-use Rattle.std.specs.Prelude.{flat_map, codes}
+use Rattle.std.proofs.Common.{ap, ◌∙◌}
+use Rattle.std.specs.Prelude.{codes}
 use Rattle.http_front.specs.Answers as spec
 use Rattle.http_front.proofs.FieldLemmas.{six, of_value}
 use Rattle.http_front.proofs.answer.push_fields.Goals as goal

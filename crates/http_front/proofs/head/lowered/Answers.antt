@@ -1,4 +1,4 @@
-use Rattle.std.proofs.Common.{◌∙◌, sym, subst}
+use Rattle.std.proofs.Common.{sym, subst}
 use Rattle.std.specs.Str.{IsUtf8}
 use Rattle.http_front.proofs.HeadLemmas.{name_at}
 use Rattle.http_front.proofs.head.lowered.Goals as goal

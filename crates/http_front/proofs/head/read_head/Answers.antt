@@ -1,4 +1,4 @@
-use Rattle.std.proofs.Common.{◌∙◌, sym, ap}
+use Rattle.std.proofs.Common.{◌∙◌}
 use Rattle.http_front.specs.Heads as spec
 use Rattle.http_front.proofs.HeadLemmas.{asks}
 use Rattle.http_front.proofs.head.read_head.Goals as goal

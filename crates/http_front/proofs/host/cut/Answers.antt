@@ -1,4 +1,4 @@
-use Rattle.std.proofs.Common.{◌+◌, ◌∙◌, ap}
+use Rattle.std.proofs.Common.{◌+◌, ◌∙◌}
 use Rattle.std.proofs.lemmas.List.{take_rest}
 use Rattle.http_front.specs.Hosts.{is_port_colon}
 use Rattle.http_front.proofs.TargetLemmas.{before_place, before_none}

@@ -2,7 +2,8 @@ use Rattle.std.proofs.Common.{◌∙◌, Some, ap, sym}
 use Rattle.std.specs.Prelude.{option_and_then}
 use Rattle.std.specs.Option.{option_map}
 use Rattle.percent_encoding.specs.Percent.{percent_decode}
-use Rattle.http_front.specs.Targets.{utf8_text, path_and_slash, query_of}
+use Rattle.http_front.specs.PathReading.{path_and_slash}
+use Rattle.http_front.specs.Targets.{utf8_text, query_of}
 use Rattle.http_front.proofs.PlainPaths.{with_query, target_told}
 use Rattle.http_front.proofs.target.read_target.Goals as goal
 

@@ -1,6 +1,6 @@
 use Rattle.std.proofs.Common.{◌∙◌, ap, sym}
 use Rattle.std.specs.List.{list_any}
-use Rattle.http_front.specs.Targets.{is_underscore}
+use Rattle.http_front.specs.PathReading.{is_underscore}
 use Rattle.http_front.proofs.PlainPaths.{plain_path}
 use Rattle.http_front.proofs.target.unmangled.Goals as goal
 

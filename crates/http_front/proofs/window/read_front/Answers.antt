@@ -1,5 +1,5 @@
-use Rattle.std.proofs.Common.{◌≤◌, length, sym, subst, ap, arith}
-use Rattle.http_front.specs.Turns.{longest_head, window}
+use Rattle.std.proofs.Common.{◌≤◌, length, sym, subst}
+use Rattle.http_front.specs.Turns.{longest_head}
 use Rattle.http_front.specs.Fronts.{IsFront}
 use Rattle.http_front.proofs.FrontLemmas.{room_is_enough}
 use Rattle.http_front.proofs.StartLemmas.{window_short, start_whole, start_refused, start_long, start_partial}

@@ -1,5 +1,4 @@
-use Rattle.std.proofs.Common.{inl, sym, ◌∙◌}
-use Rattle.http_front.proofs.FrontLemmas.{texts, asking, refused}
+use Rattle.http_front.proofs.FrontLemmas.{texts, asking}
 use Rattle.http_front.proofs.window.whole.Goals as goal
 
 pub read_head-requires-clause-texts : goal.read_head-requires-clause-texts

@@ -1,6 +1,6 @@
-use Rattle.std.proofs.Common.{◌≡◌, ◌<◌, ◌≤◌, ◌+◌, ◌*◌, ◌∙◌, sym, ap, arith, length, take, drop, length-drop}
+use Rattle.std.proofs.Common.{◌<◌, ◌+◌, ◌*◌, sym, arith, length, drop, length-drop}
 use Rattle.std.proofs.lemmas.List.{drop-drop}
-use Rattle.http_front.proofs.IntakeLemmas.{leads_asked, leads_ready}
+use Rattle.http_front.proofs.IntakeLemmas.{leads_asked}
 use Rattle.http_front.proofs.intake.Intake.begin_body.Goals as goal
 
 pub returns-then-awaits : goal.returns-then-awaits

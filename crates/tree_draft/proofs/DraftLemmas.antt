@@ -73,6 +73,17 @@ changed old mid new path node after change sorted sorted_mid was others is put =
     (cases_Bool (same_path path q)) in
     node_at-over mid path (there.Node after) q sorted_mid ∙ here ∙ sym (node_at-change_at old path change q))
 
+-- a row that is put back, with what it or the tree left changed, where the others are as they were
+pub changed_row : (old mid new : Content) (path place : List (List ℕ)) (row : PatchNode) (change : Node → Node) → IsOrdered old → IsOrdered mid → Some row ≡ option_map (λ n. there.Node (change n)) (node_at old path)
+    → ((q : List (List ℕ)) → same_path path q ≡ false → node_at mid q ≡ node_at old q) → place ≡ path → new ≡ over mid place row → new ≡ change_at old path change
+changed_row old mid new path place row change sorted sorted_mid is others same put = by_node (node_at old path) refl
+  where
+    by_node : (o : Option Node) → node_at old path ≡ o → new ≡ change_at old path change
+    by_node None was = absurd (true≢false (ap is_some (is ∙ ap (option_map (λ n. there.Node (change n))) was)))
+    by_node (Some node) was =
+        let row_is : row ≡ there.Node (change node) = ap (λ o. unwrap_or o row) (is ∙ ap (option_map (λ n. there.Node (change n))) was) in
+        changed old mid new path node (change node) change sorted sorted_mid was others refl (put ∙ ap (λ p. over mid p row) same ∙ ap (λ (r : PatchNode). over mid path r) row_is)
+
 -- ---- how many nodes
 
 replaced : (tree : Content) (path : List (List ℕ)) (node : Node) → IsOrdered tree → is_some (node_at tree path) ≡ true → insert_entry by_path tree path node ≡ change_at tree path (λ _. node)
@@ -159,10 +170,14 @@ no_names name there_ = absurd (false≢true there_)
 
 -- ---- what is so where a call succeeds
 
-pub on_ok : {A E P : Type 0} (r : Result A E) → P → OnOk r P
-on_ok (Ok x) p = p
-on_ok (Err e) p = tt
+pub on_ok_then : {A E P Q : Type 0} (r : Result A E) → (P → Q) → OnOk r P → OnOk r Q
+on_ok_then (Ok x) f p = f p
+on_ok_then (Err e) f p = tt
 
-pub if_ok_same : {A E : Type 0} (r : Result A E) (x y : A) → y ≡ x → IfOk r (λ o. o ≡ y) → IfOk r (λ o. o ≡ x)
-if_ok_same (Ok o) x y same is = is ∙ same
-if_ok_same (Err e) x y same is = tt
+pub if_ok_then : {A E : Type 0} {P Q : A → Type 0} (r : Result A E) → ((x : A) → P x → Q x) → IfOk r P → IfOk r Q
+if_ok_then (Ok x) f p = f x p
+if_ok_then (Err e) f p = tt
+
+pub if_ok_some : {A E : Type 0} (r : Result A E) (x y : Option A) → y ≡ x → IfOk r (λ o. Some o ≡ y) → IfOk r (λ o. Some o ≡ x)
+if_ok_some (Ok o) x y same is = is ∙ same
+if_ok_some (Err e) x y same is = tt

@@ -41,7 +41,7 @@ gone : (b : Bool) (name : List ℕ) (k : List ℕ) (xs : List (List ℕ)) → by
 gone true name k xs same = rw same refl
 gone false name k xs same = refl
 
--- a name that falls away when no more names stood than so many
+-- a name that falls away when the list was no longer than this
 pub standing-fallen : (old new : FallRows) (name : List ℕ) (count place : ℕ) (names : List (List ℕ)) → ((t : List ℕ) → fall_of new t ≡ cond (bytes_eq name t) count (fall_of old t)) → place + length names ≤ count
     → standing new place names ≡ other_kids name (standing old place names)
 unfolding standing

@@ -1,6 +1,6 @@
 -- The content of a draft, by look-ups, and how many nodes it has.
-use Rattle.std.proofs.Common.{◌≡◌, ◌+◌, ◌-◌, ℕ, Bool, true, false, cond, List, [], length, refl, sym, ◌∙◌, ap, Some, None, Option, ⊎_elim, arith}
-use Rattle.std.specs.Prelude.{is_some, IfOk, OnOk, Result, Ok, Err, option_map, slice_get, unwrap_or}
+use Rattle.std.proofs.Common.{◌≡◌, ◌+◌, ℕ, Bool, true, false, cond, List, [], length, refl, sym, ◌∙◌, ap, Some, None, Option, ⊎_elim, arith}
+use Rattle.std.specs.Prelude.{is_some, IfOk, OnOk, Result, Ok, Err, option_map, unwrap_or}
 use Rattle.std.specs.Ordering.{eq_by_cmp}
 use Rattle.std.specs.Cmp.{eq_by_cmp_equiv}
 use Rattle.std.specs.BTreeMap.{insert_entry}
@@ -14,9 +14,8 @@ use Rattle.sp_base.specs.PathExact.{exact_paths}
 use Rattle.resource_tree.specs.declared.nodes.Node.{Node}
 use Rattle.resource_tree.specs.declared.patch.PatchNode.{PatchNode}
 use Rattle.resource_tree.specs.declared.patch.PatchNode.TheVariants as there
-use Rattle.resource_tree.specs.Content.{Content, HasSegmentNames, by_path, same_path, node_at, parent_of, empty_node}
+use Rattle.resource_tree.specs.Content.{Content, HasSegmentNames, by_path, same_path, node_at, parent_of, name_of, empty_node}
 use Rattle.resource_tree.specs.Changes.{change_at, creation, with_kid}
-use Rattle.resource_tree.proofs.Creation.{creation_from}
 use Rattle.resource_tree.specs.Patches.{Rows, row_at, with_row, over, patching, left_by}
 use Rattle.resource_tree.proofs.PathLemmas.{by_path_total, path_from_same, same_path_self}
 use Rattle.resource_tree.proofs.NodeLookups.{node_at-change_at, length-change_at, length-insert_entry}
@@ -158,17 +157,18 @@ still_there tree new path q node sorted is there_ =
     ] in
     ap (λ (t : Content). is_some (node_at t q)) is ∙ ap is_some (node_at-over tree path (there.Node node) q sorted) ∙ both (same_path path q)
 
-pub created-is : (old put new : Content) (path dup parent : List (List ℕ)) (row : PatchNode) (name seg : List ℕ) → put ≡ over old dup row → dup ≡ path → row ≡ there.Node empty_node
-    → new ≡ change_at put parent (with_kid name) → parent ≡ parent_of path → name ≡ seg → Some seg ≡ slice_get path (length path - 1) → new ≡ creation old path empty_node
-created-is old put new path dup parent row name seg is_put same fresh is_new above named last =
-    is_new
-    ∙ ap (λ (t : Content). change_at t parent (with_kid name)) (is_put ∙ ap (λ p. over old p row) same ∙ ap (λ (r : PatchNode). over old path r) fresh)
-    ∙ creation_from old old path parent empty_node name seg refl above named last
+pub created-is : (old put new : Content) (path parent : List (List ℕ)) → put ≡ over old path (there.Node empty_node) → new ≡ change_at put parent (with_kid (name_of path)) → parent ≡ parent_of path → new ≡ creation old path empty_node
+created-is old put new path parent is_put is_new above =
+    is_new ∙ ap (λ (t : Content). change_at t parent (with_kid (name_of path))) is_put ∙ ap (λ p. change_at (over old path (there.Node empty_node)) p (with_kid (name_of path))) above
 
 pub no_names : HasSegmentNames []
 no_names name there_ = absurd (false≢true there_)
 
 -- ---- what is so where a call succeeds
+
+pub on_ok : {A E P : Type 0} (r : Result A E) → P → OnOk r P
+on_ok (Ok x) p = p
+on_ok (Err e) p = tt
 
 pub on_ok_then : {A E P Q : Type 0} (r : Result A E) → (P → Q) → OnOk r P → OnOk r Q
 on_ok_then (Ok x) f p = f p

@@ -1,5 +1,5 @@
 -- Names that are lent, and walks over them.
-use Rattle.std.proofs.Common.{◌≡◌, ◌<◌, ◌+◌, ◌++◌, ◌∷◌, [], ℕ, Bool, true, false, not, cond, List, Bor, Some, None, Option, map, take, drop, get_or, length, refl, sym, ◌∙◌, ap, subst, arith}
+use Rattle.std.proofs.Common.{◌≡◌, ◌<◌, ◌+◌, ◌++◌, ◌∷◌, [], ℕ, Bool, true, false, not, cond, List, Bor, Some, None, Option, map, take, drop, get_or, length, sym, ◌∙◌, ap, subst, arith}
 use Rattle.std.specs.Prelude.{IsTrue, nat_lt}
 use Rattle.std.specs.List.{position, position_or_len}
 use Rattle.std.specs.Option.{option_map_or}

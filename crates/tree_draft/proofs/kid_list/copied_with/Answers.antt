@@ -1,4 +1,4 @@
-use Rattle.std.proofs.Common.{◌≡◌, ◌∙◌, ◌++◌, ◌∷◌, [], ap, sym, List, ℕ, Bor, drop, map, take}
+use Rattle.std.proofs.Common.{◌∙◌, ◌++◌, ◌∷◌, [], ap, sym, List, ℕ, Bor, drop, map, take}
 use Rattle.std.proofs.lemmas.List.{append_assoc, drop-map, take-map, take_rest}
 use Rattle.tree_draft.proofs.kid_list.copied_with.Goals as goal
 

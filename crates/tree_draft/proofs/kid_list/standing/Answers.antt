@@ -1,4 +1,4 @@
-use Rattle.std.proofs.Common.{rules, ◌≡◌, ◌∙◌, ◌<◌, sym, Bor, List, ℕ, length, map, arith}
+use Rattle.std.proofs.Common.{rules, ◌≡◌, ◌∙◌, ◌<◌, sym, Bor, List, ℕ, length, map}
 use Rattle.tree_draft.proofs.DraftLemmas.{if_ok_then}
 use Rattle.tree_draft.proofs.FallLemmas.{all_stand, standing-none, walked}
 use Rattle.tree_draft.proofs.kid_list.standing.Goals as goal

@@ -50,12 +50,7 @@ fn mark(marks: &mut Vec<bool>, number: Option<usize>)
 }
 
 /// Numbers with which a name is one of these kids', marked: those below some number.
-pub fn marked_numbers(
-    alloc: Global,
-    kids: &[&TextBuf],
-    name: &str,
-    most: usize,
-) -> Mem<Vec<bool>>
+pub fn marked_numbers(alloc: Global, kids: &[&TextBuf], name: &str, most: usize) -> Mem<Vec<bool>>
     ensures { IfOk result (λ marks. spec.MarksListed (map (λ kid. kid.now) kids.now) name.now marks.items) }
 {
     let mut marks = vec![in alloc; false; most]?;

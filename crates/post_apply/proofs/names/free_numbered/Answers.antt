@@ -1,6 +1,6 @@
-use Rattle.std.proofs.Common.{rules, ◌≡◌, ◌∙◌, ◌+◌, ap, sym, Bor, List, ℕ, Some, None, length, map}
+use Rattle.std.proofs.Common.{rules, ◌≡◌, None}
 use Rattle.resource_tree.specs.Content.{node_at}
-use Rattle.post_apply.proofs.NumberLemmas.{free_given, listed_taken, most_is, none_taken, zero_given}
+use Rattle.post_apply.proofs.NumberLemmas.{free_given, none_taken, zero_given}
 use Rattle.post_apply.proofs.names.free_numbered.Goals as goal
 
 pub returns-in_default : goal.returns-in_default

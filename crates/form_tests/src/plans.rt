@@ -1,39 +1,40 @@
 //! What a form asks for, and its faults in their order. What comes of it is shown through the program (examples/runs/post_values and its neighbours).
 use crate::forms::form;
-use post_plan::{Op, PlanFault, plan};
+use form_input::Form;
+use post_plan::{ModifyOp, Op, PlanFault, plan};
 use resource_tree::Place;
 use sp_base::Path;
 use std::alloc::Global;
-use std::test::Fail;
 
-#[test]
-fn a_form_asks_for_a_modification(rt: HostRuntime) -> Result<(), Fail> {
-    let alloc = rt.alloc();
-    let pairs = [
-        ("a", "1"),
-        ("a@TypeHint", "Long"),
-        ("b@Delete", ""),
-        ("c@CopyFrom", "d"),
-        (":order", "first"),
-    ];
-    let target = Path::read(alloc, "/p")?;
-    let form = form(alloc, &pairs)?;
-    let Ok(Op::Modify(op)) = plan(alloc, &target, false, &form) else {
-        assert!(rt; false);
-        return Ok(());
-    };
-    assert!(rt; op.target == target && op.fresh.is_none());
-    assert!(rt; op.deletes.len() == 1);
-    assert!(rt; op.moves.len() == 0);
-    assert!(rt; op.copies.len() == 1);
-    assert!(rt; op.sets.len() == 1);
-    assert!(rt; matches!(op.place, Some(Place::First)));
-    Ok(())
+const PARTS: &[(&str, &str)] = &[
+    ("a", "1"),
+    ("a@TypeHint", "Long"),
+    ("b@Delete", ""),
+    ("c@CopyFrom", "d"),
+    (":order", "first"),
+];
+
+// Whether a modification is what these pairs ask for at a target.
+fn has_parts(op: &ModifyOp, target: &Path) -> bool {
+    op.target == *target
+        && op.fresh.is_none()
+        && op.deletes.len() == 1
+        && op.moves.len() == 0
+        && op.copies.len() == 1
+        && op.sets.len() == 1
+        && matches!(op.place, Some(Place::First))
 }
 
-fn name_of(planned: &Result<Op, PlanFault>) -> &'static str {
+fn name_of(planned: &Result<Op, PlanFault>, target: &Path) -> &'static str {
     match planned {
-        Ok(_) => "an operation",
+        Ok(Op::Modify(op)) => {
+            if has_parts(op, target) {
+                "the modification"
+            } else {
+                "another modification"
+            }
+        }
+        Ok(_) => "another operation",
         Err(PlanFault::BadOperation) => "BadOperation",
         Err(PlanFault::NoDest) => "NoDest",
         Err(PlanFault::BadOrder) => "BadOrder",
@@ -43,26 +44,50 @@ fn name_of(planned: &Result<Op, PlanFault>) -> &'static str {
     }
 }
 
-// Each pair has a fault, and comes before those that stand above it: the fault that is told is the last one's.
-#[test]
-fn faults_come_in_their_order(rt: HostRuntime) -> Result<(), Fail> {
-    let alloc = rt.alloc();
-    let target = Path::read(alloc, "/p")?;
-    let pairs = [
-        ("..", "1"),
-        ("a@Foo", "1"),
-        (":order", "x"),
-        (":operation", "copy"),
-    ];
-    let wanted = ["BadPath", "BadHint", "BadOrder", "NoDest"];
-    for last in 0..pairs.len() {
-        let form = form(alloc, &pairs[..last + 1])?;
-        let planned = plan(alloc, &target, false, &form);
-        assert!(rt; name_of(&planned) == wanted[last]);
+fn is_planned_at(alloc: Global, target: &Path, form: &Form, wanted: &str) -> bool {
+    name_of(&plan(alloc, target, false, form), target) == wanted
+}
+
+fn is_planned(alloc: Global, form: &Form, wanted: &str) -> bool {
+    match Path::read(alloc, "/p") {
+        Ok(target) => is_planned_at(alloc, &target, form, wanted),
+        Err(_) => false,
     }
-    let pairs = [(":operation", "none"), (":order", "x")];
-    let form = form(alloc, &pairs)?;
-    let planned = plan(alloc, &target, false, &form);
-    assert!(rt; name_of(&planned) == "BadOperation");
-    Ok(())
+}
+
+// Whether these pairs ask for that at /p.
+fn asks_for(alloc: Global, pairs: &[(&str, &str)], wanted: &str) -> bool {
+    match form(alloc, pairs) {
+        Ok(form) => is_planned(alloc, &form, wanted),
+        Err(_) => false,
+    }
+}
+
+#[test]
+fn a_form_asks_for_a_modification(rt: HostRuntime) {
+    assert!(rt; asks_for(rt.alloc(), PARTS, "the modification"));
+}
+
+// Pairs, and the fault that is told. Of the four pairs each has a fault, and comes before those that stand above it: the last one's is told.
+const FAULTS: &[(&[(&str, &str)], &str)] = &[
+    (&[("..", "1")], "BadPath"),
+    (&[("..", "1"), ("a@Foo", "1")], "BadHint"),
+    (&[("..", "1"), ("a@Foo", "1"), (":order", "x")], "BadOrder"),
+    (
+        &[
+            ("..", "1"),
+            ("a@Foo", "1"),
+            (":order", "x"),
+            (":operation", "copy"),
+        ],
+        "NoDest",
+    ),
+    (&[(":operation", "none"), (":order", "x")], "BadOperation"),
+];
+
+#[test]
+fn faults_come_in_their_order(rt: HostRuntime) {
+    for (pairs, wanted) in FAULTS {
+        assert!(rt; asks_for(rt.alloc(), *pairs, *wanted));
+    }
 }

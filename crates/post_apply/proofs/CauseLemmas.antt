@@ -1,7 +1,7 @@
 -- No step of a POST is refused for want of memory.
 use Rattle.std.proofs.Common.{◌≡◌, refl, ℕ, List, [], ◌∷◌, ◌++◌, Option, Some, None, length, Bool, true, false, cond}
 use Rattle.std.specs.Prelude.{◌==◌, ◌+◌, ◌||◌, ◌&&◌, IfErr, IfSome, Result, Ok, Err, is_none, is_some, nat_le, nat_lt, not}
-use Rattle.sp_base.specs.Paths.{is_path, is_under, path_or_none}
+use Rattle.sp_base.specs.Paths.{is_under, path_or_none}
 use Rattle.sp_base.specs.declared.value.Value.{Value}
 use Rattle.sp_base.specs.declared.hint.ValueFault.{ValueFault}
 use Rattle.resource_tree.specs.declared.places.Place.{Place}
@@ -12,7 +12,6 @@ use Rattle.resource_tree.specs.Moves.{copy, copy_fault, ends_fault, first_fault,
 use Rattle.resource_tree.specs.declared.faults.TreeFault.TheVariants.{Taken, TooDeep}
 use Rattle.post_plan.specs.declared.spot.Spot.{Spot}
 use Rattle.post_plan.specs.declared.spot.Carry.{Carry}
-use Rattle.post_plan.specs.declared.operation.CarryOp.{CarryOp}
 use Rattle.post_plan.specs.declared.operation.ModifyOp.{ModifyOp}
 use Rattle.post_plan.specs.declared.operation.NameWish.{NameWish}
 use Rattle.post_plan.specs.declared.operation.PropSet.{PropSet}
@@ -26,7 +25,7 @@ use Rattle.post_apply.specs.Removals.{delete_at, deleted, removed, without_prope
 use Rattle.post_apply.specs.Values.{named_outcome, put_at, put_on_way, set_at, hinted_value}
 use Rattle.post_apply.specs.Carries.{bring, bring_node, bring_value, carried, carry_at, carry_fault, carry_node, ends_at_root, given_way, content_left, property_at, replacing, unless}
 use Rattle.post_apply.specs.Names.{name_given}
-use Rattle.post_apply.specs.Posting.{Posted, Site, carry, modified, modify, modify_at, new_site, content_placed, posted, remove, site, post_site}
+use Rattle.post_apply.specs.Posting.{Site, carry, modified, modify, modify_at, content_placed, posted, site, post_site}
 
 -- ---- faults of the tree
 

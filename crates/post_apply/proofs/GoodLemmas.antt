@@ -1,6 +1,6 @@
 -- The content after a POST is good, since each of its steps leaves it so.
-use Rattle.std.proofs.Common.{◌≡◌, ◌∙◌, ◌<◌, ◌≤◌, ◌+◌, ◌-◌, ap, sym, refl, subst, arith, ⊎_elim, ℕ, List, [], ◌∷◌, ◌++◌, Option, Some, None, length, take, drop, Bool, true, false, cond, append_assoc}
-use Rattle.std.specs.Prelude.{◌&&◌, ◌==◌, IsTrue, IsSome, IfOk, Result, Ok, Err, is_some, is_none, not, nat_le, nat_lt}
+use Rattle.std.proofs.Common.{◌≡◌, ◌∙◌, ◌<◌, ◌≤◌, ◌+◌, ◌-◌, ap, sym, refl, subst, arith, ⊎_elim, ℕ, List, [], ◌∷◌, ◌++◌, Option, Some, None, length, drop, Bool, true, false, cond, append_assoc}
+use Rattle.std.specs.Prelude.{◌&&◌, ◌==◌, IsTrue, IsSome, IfOk, Ok, Err, is_some, is_none, not, nat_le, nat_lt}
 use Rattle.std.specs.List.{list_all}
 use Rattle.std.specs.List.Sorted.{IsStrictlySortedBy}
 use Rattle.std.specs.Map.{keys_of}
@@ -17,7 +17,7 @@ use Rattle.resource_tree.specs.declared.places.Place.{Place}
 use Rattle.resource_tree.specs.declared.faults.TreeFault.{TreeFault}
 use Rattle.resource_tree.specs.declared.faults.TreeFault.TheVariants.{FullTree, NoSuch, RootFixed, Taken, TooDeep}
 use Rattle.resource_tree.specs.Content.{Content, HasSegmentNames, IsGood, by_path, empty_node, kid, most_nodes, name_of, node_at, parent_of, prop_at}
-use Rattle.resource_tree.specs.Changes.{change_at, clearing, create_fault, creation, fixed_fault, has_place_at, has_prop_at, order_fault, removal, reordering, set_fault, update, with_kid, with_order, with_value, without_kid, without_value}
+use Rattle.resource_tree.specs.Changes.{change_at, clearing, create_fault, creation, fixed_fault, has_prop_at, order_fault, removal, reordering, set_fault, update, with_kid, with_order, with_value, without_kid, without_value}
 use Rattle.resource_tree.specs.Moves.{copy, copy_fault, ends_fault, first_fault, is_too_deep, move_fault, part, part_size_fault, part_there, relocation, target_fault}
 use Rattle.resource_tree.proofs.PathLemmas.{by_path_total}
 use Rattle.resource_tree.proofs.EntriesInOrder.{sorted-insert_entry}
@@ -45,7 +45,7 @@ use Rattle.post_apply.specs.Removals.{delete_at, deleted, removed, without_prope
 use Rattle.post_apply.specs.Values.{named_outcome, put_at, put_on_way, set_at, hinted_value}
 use Rattle.post_apply.specs.Carries.{bring, bring_node, bring_value, carried, carry_at, carry_fault, carry_node, given_way, content_left, property_at, replacing, unless}
 use Rattle.post_apply.specs.Names.{name_given}
-use Rattle.post_apply.specs.Posting.{Posted, Site, carry, content_after, content_after_post, modified, modify, modify_at, new_site, content_placed, posted, remove, site, post_site}
+use Rattle.post_apply.specs.Posting.{Posted, Site, carry, content_after, content_after_post, modified, modify, modify_at, content_placed, posted, remove, site, post_site}
 
 -- ---- paths
 

@@ -1,19 +1,22 @@
 -- The numbers of made names.
-use Rattle.std.proofs.Common.{◌≡◌, ◌≢◌, ◌∙◌, ◌<◌, ◌^◌, ◌==◌, ◌⊎◌, inl, inr, ⊎_elim, get_or, slice_set, ap, sym, refl, subst, arith, cond, ℕ, Bool, true, false, List, Result, Ok, Err, Some, Option, IfSome, decimal, length, slice_index, slice_index_or}
+use Rattle.std.proofs.Common.{◌≡◌, ◌≢◌, ◌∙◌, ◌<◌, ◌+◌, ◌^◌, ◌==◌, ◌⊎◌, Bor, map, None, IfOk, inl, inr, ⊎_elim, get_or, slice_set, ap, sym, refl, subst, arith, cond, ℕ, Bool, true, false, List, Result, Ok, Err, Some, Option, IfSome, decimal, length, slice_index, slice_index_or}
 use Rattle.std.specs.Prelude.{drop, nat_eq}
+use Rattle.std.specs.List.{list_any}
+use Rattle.std.specs.Option.{option_map_or}
 use Rattle.std.specs.Result.{result_ok, OkIff}
 use Rattle.std.specs.Cmp.Lexicographic.{pointwise, nat_list_eq_equiv}
 use Rattle.std.specs.Str.Parse.{IsNumeral, ParsesUnsigned, digits_value, without_leading_plus}
+use Rattle.std.proofs.Math.ListN.{get_or-map}
 use Rattle.std.proofs.lemmas.Bool.{or_right, cases_eq}
 use Rattle.std.proofs.lemmas.Bool.Decides.{nat_tests}
 use Rattle.std.proofs.lemmas.List.Folds.{list_any_at}
-use Rattle.std.proofs.lemmas.List.{get_or-set_other}
+use Rattle.std.proofs.lemmas.List.{get_or-set_other, length-map}
 use Rattle.std.proofs.lemmas.Fmt.{decimal-digits_value}
 use Rattle.std.proofs.lemmas.Str.Parse.{numerals_by_value, tells_digits}
 use Rattle.resource_tree.specs.declared.nodes.Node.{Node}
 use Rattle.resource_tree.specs.Content.{has_kid, node_at}
 use Rattle.tree_draft.specs.Drafts.{Drafted, IsSound}
-use Rattle.post_apply.specs.Names.{is_taken}
+use Rattle.post_apply.specs.Names.{MarksListed, MarksTaken, free_number, most_taken, numbered}
 
 no_plus : (word : List ℕ) → slice_index word 0 ≢ 43 → without_leading_plus word ≡ word
 no_plus word plus = by (slice_index word 0 == 43) refl
@@ -29,11 +32,43 @@ spelled {E} word (Ok n) plus zero h =
     let k = subst (λ bs. OkIff {T = ℕ} {E = E} (Ok n) (IsNumeral 10 bs × (digits_value 10 bs < 2 ^ 64)) (digits_value 10 bs)) (no_plus word plus) h in
     sym (ap decimal k.1 ∙ decimal-digits_value (numerals_by_value _ tells_digits) word k.0.0.1 k.0.0.0 zero k.0.1)
 
--- a kid's name is taken
-pub kid_taken : (draft : Drafted) (parent : List (List ℕ)) (node : Node) (i : ℕ) (d name : List ℕ) → IsSound draft → node_at draft.content parent ≡ Some node → i < length node.kids → get_or node.kids i d ≡ name → is_taken draft.content parent name ≡ true
-kid_taken draft parent node i d name sound there_ below is =
-    let listed : has_kid node name ≡ true = list_any_at (pointwise nat_eq name) node.kids i d below (ap (pointwise nat_eq name) is ∙ nat_list_eq_equiv.refl name) in
-    or_right _ _ (sym ((sound.good.shape.nodes parent node there_).kids name) ∙ listed)
+-- a name that is one of the kids', by their lent names
+pub listed_lent : (lent : List (Bor (List ℕ))) (i : ℕ) (item : Bor (List ℕ)) (name : List ℕ) → i < length lent → item ≡ get_or lent i item → item.now ≡ name → list_any (pointwise nat_eq name) (map (λ (w : Bor (List ℕ)). w.now) lent) ≡ true
+listed_lent lent i item name within is same =
+    let now = λ (w : Bor (List ℕ)). w.now in
+    let below : i < length (map now lent) = subst (λ n. i < n) (sym (length-map lent now)) within in
+    let at : get_or (map now lent) i item.now ≡ name = get_or-map now lent i item ∙ ap now (sym is) ∙ same in
+    list_any_at (pointwise nat_eq name) (map now lent) i item.now below (ap (pointwise nat_eq name) at ∙ nat_list_eq_equiv.refl name)
+
+-- what is marked as a kid's name is taken
+pub listed_taken : (draft : Drafted) (parent : List (List ℕ)) (node : Node) (kids : List (List ℕ)) (name : List ℕ) (marks : List Bool) → IsSound draft → node_at draft.content parent ≡ Some node → kids ≡ node.kids
+    → MarksListed kids name marks → MarksTaken draft.content parent name marks
+listed_taken draft parent node kids name marks sound there_ are listed n marked =
+    let kid : has_kid node (numbered name n) ≡ true = ap (list_any (pointwise nat_eq (numbered name n))) (sym are) ∙ listed n marked in
+    or_right _ _ (sym ((sound.good.shape.nodes parent node there_).kids (numbered name n)) ∙ kid)
+
+-- how many numbers may be taken
+pub most_is : (draft : Drafted) (parent : List (List ℕ)) (node : Node) (kids : List (Bor (List ℕ))) (most : ℕ) → node_at draft.content parent ≡ Some node → map (λ (w : Bor (List ℕ)). w.now) kids ≡ node.kids
+    → most ≡ length kids + length node.props → most ≡ most_taken draft.content parent
+most_is draft parent node kids most there_ are is =
+    is
+    ∙ ap (λ n. n + length node.props) (sym (length-map kids (λ (w : Bor (List ℕ)). w.now)) ∙ ap (λ (l : List (List ℕ)). length l) are)
+    ∙ sym (ap (λ o. option_map_or (λ (n : Node). length n.kids + length n.props) o 0) there_)
+
+-- the name with that number, where it is made
+pub free_given : {E : Type 0} (draft : Drafted) (parent : List (List ℕ)) (name : List ℕ) (most : ℕ) (r : Result (List ℕ) E) → most ≡ most_taken draft.content parent
+    → IfOk r (λ t. t ≡ numbered name (free_number draft.content parent name 0 most)) → IfOk r (λ t. t ≡ numbered name (free_number draft.content parent name 0 (most_taken draft.content parent)))
+free_given draft parent name most (Ok t) is made = made ∙ ap (λ m. numbered name (free_number draft.content parent name 0 m)) is
+free_given draft parent name most (Err e) is made = tt
+
+-- where no node is, no number is taken
+pub none_taken : (draft : Drafted) (parent : List (List ℕ)) → node_at draft.content parent ≡ None → 0 ≡ most_taken draft.content parent
+none_taken draft parent none = sym (ap (λ o. option_map_or (λ (n : Node). length n.kids + length n.props) o 0) none)
+
+pub zero_given : {E : Type 0} (draft : Drafted) (parent : List (List ℕ)) (name : List ℕ) (r : Result (List ℕ) E) → IfOk r (λ t. t ≡ numbered name 0) → IfOk r (λ t. t ≡ numbered name (free_number draft.content parent name 0 0))
+unfolding free_number
+zero_given draft parent name (Ok t) made = made
+zero_given draft parent name (Err e) made = tt
 
 -- what was marked before, or is the number
 pub marked : (marks : List Bool) (number : Option ℕ) (n m : ℕ) → number ≡ Some n → slice_index_or (slice_set marks n true) m false ≡ true → (slice_index_or marks m false ≡ true) ⊎ (number ≡ Some m)

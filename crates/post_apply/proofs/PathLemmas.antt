@@ -1,8 +1,8 @@
 -- The last segment of a path, and the property whose path it is.
-use Rattle.std.proofs.Common.{◌≡◌, ◌∙◌, ◌-◌, ◌<◌, ap, sym, refl, arith, ne_eqb, ⊎_elim, ℕ, List, [], Option, Some, None, length, Bool, true, false}
-use Rattle.std.specs.Prelude.{◌&&◌, ◌==◌, IsTrue, slice_get, cond, unwrap_or, Result, Ok, Err}
+use Rattle.std.proofs.Common.{◌≡◌, ◌∙◌, ◌-◌, ap, sym, refl, arith, ne_eqb, ⊎_elim, ℕ, List, [], Option, Some, length, Bool, true, false}
+use Rattle.std.specs.Prelude.{◌&&◌, ◌==◌, IsTrue, slice_get, cond, unwrap_or, Err}
 use Rattle.std.specs.List.{list_all}
-use Rattle.std.proofs.lemmas.Bool.{cases_Bool, true≢false, false≢true}
+use Rattle.std.proofs.lemmas.Bool.{cases_Bool, true≢false}
 use Rattle.std.proofs.lemmas.Option.{slice_get_within, get_or_from_slice_get, unwrap_or-slice_get}
 use Rattle.std.proofs.lemmas.List.Folds.{list_all_at}
 use Rattle.sp_base.specs.Paths.{is_path, seg_ok}

@@ -1,5 +1,5 @@
 -- What a POST makes of the content, and what it answers (Apache Sling, "SlingPostServlet").
-use Rattle.std.specs.Prelude.{◌∷◌, [], ℕ, Bool, true, false, List, Option, Some, None, Ok, Err, is_none}
+use Rattle.std.specs.Prelude.{ℕ, Bool, true, false, List, Option, Some, None, Ok, Err, is_none}
 use Rattle.sp_base.specs.Paths.{path_or_none}
 use Rattle.resource_tree.specs.declared.places.Place.{Place}
 use Rattle.resource_tree.specs.Content.{Content, kid, node_at}

@@ -31,30 +31,22 @@ fn numbered(alloc: Global, name: &str, n: usize) -> Mem<TextBuf>
     Ok(TextBuf::from(format!(in alloc; "{name}_{n}")?))
 }
 
-// As many as the parent has kids and properties.
-fn most_taken(alloc: Global, draft: &Draft, parent: &Path) -> Mem<usize>
-    ensures { IfOk result (λ n. n ≡ spec.most_taken draft.now.content parent.now) }
-{
-    let Some(node) = draft.node(parent) else {
-        return Ok(0);
-    };
-    let kids = node.kids(alloc)?.len();
-    match kids.checked_add(node.props().len()) {
-        Some(most) => Ok(most),
-        None => Err(NoMemory),
-    }
-}
-
-// A name with the least number with which it isn't taken. What kids take is marked in one walk, so that few numbers are looked up.
+// A name with the least number with which it isn't taken, where the numbers that kids take are marked, so that few are looked up.
 #[tactic(auto, using(crate::proofs::NameLemmas::passed, crate::proofs::NameLemmas::passed_marked, crate::proofs::NameLemmas::found, crate::proofs::NameLemmas::last))]
-fn free_numbered(alloc: Global, draft: &Draft, parent: &Path, name: &str) -> Mem<TextBuf>
-    requires { IsSound draft.now }
-    ensures { IfOk result (λ t. t ≡ spec.numbered name.now (spec.free_number draft.now.content parent.now name.now 0 (spec.most_taken draft.now.content parent.now))) }
+fn first_free(
+    alloc: Global,
+    draft: &Draft,
+    parent: &Path,
+    name: &str,
+    marks: &[bool],
+    most: usize,
+) -> Mem<TextBuf>
+    requires sound { IsSound draft.now }
+    requires marks { spec.MarksTaken draft.now.content parent.now name.now marks.now }
+    ensures { IfOk result (λ t. t ≡ spec.numbered name.now (spec.free_number draft.now.content parent.now name.now 0 most)) }
 {
-    let most = most_taken(alloc, draft, parent)?;
-    let marks = marked_numbers(alloc, draft, parent, name, most)?;
     for n in 0..most {
-        if is_marked(&marks, n) {
+        if is_marked(marks, n) {
             continue;
         }
         let made = numbered(alloc, name, n)?;
@@ -63,6 +55,22 @@ fn free_numbered(alloc: Global, draft: &Draft, parent: &Path, name: &str) -> Mem
         }
     }
     numbered(alloc, name, most)
+}
+
+// A name with the least number with which it isn't taken: at most as many as the parent has kids and properties.
+fn free_numbered(alloc: Global, draft: &Draft, parent: &Path, name: &str) -> Mem<TextBuf>
+    requires { IsSound draft.now }
+    ensures { IfOk result (λ t. t ≡ spec.numbered name.now (spec.free_number draft.now.content parent.now name.now 0 (spec.most_taken draft.now.content parent.now))) }
+{
+    let Some(node) = draft.node(parent) else {
+        return numbered(alloc, name, 0);
+    };
+    let kids = node.kids(alloc)?;
+    let Some(most) = kids.len().checked_add(node.props().len()) else {
+        return Err(NoMemory);
+    };
+    let marks = marked_numbers(alloc, &kids, name, most)?;
+    first_free(alloc, draft, parent, name, &marks, most)
 }
 
 /// The name of a new node below a parent.

@@ -1,11 +1,9 @@
 //! The numbers of made names.
-ghost use Rattle.std.specs.Prelude.{◌≡◌, ◌≢◌, ◌⊎◌, ℕ, Some, ◌++◌, ◌∷◌, IfOk, IfSome, length, slice_index, slice_index_or, false, true, decimal};
-ghost use Rattle.tree_draft.specs.Drafts.{IsSound};
+ghost use Rattle.std.specs.Prelude.{◌≡◌, ◌≢◌, ◌⊎◌, ℕ, Some, ◌++◌, ◌∷◌, IfOk, IfSome, length, map, slice_index, slice_index_or, false, true, decimal};
 ghost use Rattle.post_apply.specs.Names as spec;
 
-use sp_base::{Mem, Path};
+use sp_base::{Mem, TextBuf};
 use std::alloc::Global;
-use tree_draft::Draft;
 
 // Whether no other text spells the same number, if this spells one.
 fn is_plain(digits: &str) -> bool
@@ -51,23 +49,12 @@ fn mark(marks: &mut Vec<bool>, number: Option<usize>)
     }
 }
 
-/// Numbers with which a name is that of a kid, marked: those below some number.
-pub fn marked_numbers(
-    alloc: Global,
-    draft: &Draft,
-    parent: &Path,
-    name: &str,
-    most: usize,
-) -> Mem<Vec<bool>>
-    requires { IsSound draft.now }
-    ensures { IfOk result (λ marks. spec.MarksTaken draft.now.content parent.now name.now marks.items) }
+/// Numbers with which a name is one of these kids', marked: those below some number.
+pub fn marked_numbers(alloc: Global, kids: &[&TextBuf], name: &str, most: usize) -> Mem<Vec<bool>>
+    ensures { IfOk result (λ marks. spec.MarksListed (map (λ kid. kid.now) kids.now) name.now marks.items) }
 {
     let mut marks = vec![in alloc; false; most]?;
-    let Some(node) = draft.node(parent) else {
-        return Ok(marks);
-    };
-    let kids = node.kids(alloc)?;
-    for kid in kids.as_slice() {
+    for kid in kids {
         mark(&mut marks, number_in(name, kid.text()));
     }
     Ok(marks)

@@ -1,6 +1,6 @@
 -- The content of a draft, by look-ups, and how many nodes it has.
-use Rattle.std.proofs.Common.{◌≡◌, ◌+◌, ◌-◌, ℕ, Bool, true, false, cond, List, [], length, refl, sym, ◌∙◌, ap, Some, None, Option, ⊎_elim, arith}
-use Rattle.std.specs.Prelude.{is_some, IfOk, OnOk, Result, Ok, Err, option_map, slice_get, unwrap_or}
+use Rattle.std.proofs.Common.{◌≡◌, ◌+◌, ℕ, Bool, true, false, cond, List, [], length, refl, sym, ◌∙◌, ap, Some, None, Option, ⊎_elim, arith}
+use Rattle.std.specs.Prelude.{is_some, IfOk, OnOk, Result, Ok, Err, option_map, unwrap_or}
 use Rattle.std.specs.Ordering.{eq_by_cmp}
 use Rattle.std.specs.Cmp.{eq_by_cmp_equiv}
 use Rattle.std.specs.BTreeMap.{insert_entry}
@@ -14,9 +14,8 @@ use Rattle.sp_base.specs.PathExact.{exact_paths}
 use Rattle.resource_tree.specs.declared.nodes.Node.{Node}
 use Rattle.resource_tree.specs.declared.patch.PatchNode.{PatchNode}
 use Rattle.resource_tree.specs.declared.patch.PatchNode.TheVariants as there
-use Rattle.resource_tree.specs.Content.{Content, HasSegmentNames, by_path, same_path, node_at, parent_of, empty_node}
+use Rattle.resource_tree.specs.Content.{Content, HasSegmentNames, by_path, same_path, node_at, parent_of, name_of, empty_node}
 use Rattle.resource_tree.specs.Changes.{change_at, creation, with_kid}
-use Rattle.resource_tree.proofs.Creation.{creation_from}
 use Rattle.resource_tree.specs.Patches.{Rows, row_at, with_row, over, patching, left_by}
 use Rattle.resource_tree.proofs.PathLemmas.{by_path_total, path_from_same, same_path_self}
 use Rattle.resource_tree.proofs.NodeLookups.{node_at-change_at, length-change_at, length-insert_entry}
@@ -72,6 +71,17 @@ changed old mid new path node after change sorted sorted_mid was others is put =
     (λ apart. rw apart (others q apart))
     (cases_Bool (same_path path q)) in
     node_at-over mid path (there.Node after) q sorted_mid ∙ here ∙ sym (node_at-change_at old path change q))
+
+-- a row that is put back, with what it or the tree left changed, where the others are as they were
+pub changed_row : (old mid new : Content) (path place : List (List ℕ)) (row : PatchNode) (change : Node → Node) → IsOrdered old → IsOrdered mid → Some row ≡ option_map (λ n. there.Node (change n)) (node_at old path)
+    → ((q : List (List ℕ)) → same_path path q ≡ false → node_at mid q ≡ node_at old q) → place ≡ path → new ≡ over mid place row → new ≡ change_at old path change
+changed_row old mid new path place row change sorted sorted_mid is others same put = by_node (node_at old path) refl
+  where
+    by_node : (o : Option Node) → node_at old path ≡ o → new ≡ change_at old path change
+    by_node None was = absurd (true≢false (ap is_some (is ∙ ap (option_map (λ n. there.Node (change n))) was)))
+    by_node (Some node) was =
+        let row_is : row ≡ there.Node (change node) = ap (λ o. unwrap_or o row) (is ∙ ap (option_map (λ n. there.Node (change n))) was) in
+        changed old mid new path node (change node) change sorted sorted_mid was others refl (put ∙ ap (λ p. over mid p row) same ∙ ap (λ (r : PatchNode). over mid path r) row_is)
 
 -- ---- how many nodes
 
@@ -147,12 +157,9 @@ still_there tree new path q node sorted is there_ =
     ] in
     ap (λ (t : Content). is_some (node_at t q)) is ∙ ap is_some (node_at-over tree path (there.Node node) q sorted) ∙ both (same_path path q)
 
-pub created-is : (old put new : Content) (path dup parent : List (List ℕ)) (row : PatchNode) (name seg : List ℕ) → put ≡ over old dup row → dup ≡ path → row ≡ there.Node empty_node
-    → new ≡ change_at put parent (with_kid name) → parent ≡ parent_of path → name ≡ seg → Some seg ≡ slice_get path (length path - 1) → new ≡ creation old path empty_node
-created-is old put new path dup parent row name seg is_put same fresh is_new above named last =
-    is_new
-    ∙ ap (λ (t : Content). change_at t parent (with_kid name)) (is_put ∙ ap (λ p. over old p row) same ∙ ap (λ (r : PatchNode). over old path r) fresh)
-    ∙ creation_from old old path parent empty_node name seg refl above named last
+pub created-is : (old put new : Content) (path parent : List (List ℕ)) → put ≡ over old path (there.Node empty_node) → new ≡ change_at put parent (with_kid (name_of path)) → parent ≡ parent_of path → new ≡ creation old path empty_node
+created-is old put new path parent is_put is_new above =
+    is_new ∙ ap (λ (t : Content). change_at t parent (with_kid (name_of path))) is_put ∙ ap (λ p. change_at (over old path (there.Node empty_node)) p (with_kid (name_of path))) above
 
 pub no_names : HasSegmentNames []
 no_names name there_ = absurd (false≢true there_)
@@ -163,6 +170,14 @@ pub on_ok : {A E P : Type 0} (r : Result A E) → P → OnOk r P
 on_ok (Ok x) p = p
 on_ok (Err e) p = tt
 
-pub if_ok_same : {A E : Type 0} (r : Result A E) (x y : A) → y ≡ x → IfOk r (λ o. o ≡ y) → IfOk r (λ o. o ≡ x)
-if_ok_same (Ok o) x y same is = is ∙ same
-if_ok_same (Err e) x y same is = tt
+pub on_ok_then : {A E P Q : Type 0} (r : Result A E) → (P → Q) → OnOk r P → OnOk r Q
+on_ok_then (Ok x) f p = f p
+on_ok_then (Err e) f p = tt
+
+pub if_ok_then : {A E : Type 0} {P Q : A → Type 0} (r : Result A E) → ((x : A) → P x → Q x) → IfOk r P → IfOk r Q
+if_ok_then (Ok x) f p = f x p
+if_ok_then (Err e) f p = tt
+
+pub if_ok_some : {A E : Type 0} (r : Result A E) (x y : Option A) → y ≡ x → IfOk r (λ o. Some o ≡ y) → IfOk r (λ o. Some o ≡ x)
+if_ok_some (Ok o) x y same is = is ∙ same
+if_ok_some (Err e) x y same is = tt

@@ -1,7 +1,6 @@
 -- The names that stand in a list after one more fell away, and after one more came.
-use Rattle.std.proofs.Common.{◌≡◌, ◌≤◌, ◌<◌, ◌+◌, ℕ, Bool, true, false, cond, not, List, [], ◌∷◌, ◌++◌, Some, None, Option, length, map, drop, get_or, refl, sym, ◌∙◌, ap, arith, ⊎_elim}
+use Rattle.std.proofs.Common.{◌≡◌, ◌≤◌, ◌<◌, ◌+◌, ℕ, Bool, true, false, cond, List, [], ◌∷◌, ◌++◌, Some, Option, length, map, drop, get_or, refl, sym, ◌∙◌, ap, arith, ⊎_elim}
 use Rattle.std.specs.Prelude.{nat_le}
-use Rattle.std.specs.Cmp.Lexicographic.{same_text}
 use Rattle.std.specs.Map.{lookup}
 use Rattle.std.specs.Option.{option_map_or}
 use Rattle.std.specs.Str.{bytes_eq}
@@ -41,7 +40,7 @@ gone : (b : Bool) (name : List ℕ) (k : List ℕ) (xs : List (List ℕ)) → by
 gone true name k xs same = rw same refl
 gone false name k xs same = refl
 
--- a name that falls away when no more names stood than so many
+-- a name that falls away when the list was no longer than this
 pub standing-fallen : (old new : FallRows) (name : List ℕ) (count place : ℕ) (names : List (List ℕ)) → ((t : List ℕ) → fall_of new t ≡ cond (bytes_eq name t) count (fall_of old t)) → place + length names ≤ count
     → standing new place names ≡ other_kids name (standing old place names)
 unfolding standing

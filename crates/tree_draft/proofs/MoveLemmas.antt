@@ -1,11 +1,10 @@
 -- A part that a draft puts at a target, and when a node may be taken from its place for that.
-use Rattle.std.proofs.Common.{◌≡◌, ◌-◌, ◌==◌, ◌&&◌, ℕ, Bool, true, false, not, cond, List, [], length, refl, sym, ◌∙◌, ap, Some, None, Option}
-use Rattle.std.specs.Prelude.{is_none, is_some, option_map, slice_get}
+use Rattle.std.proofs.Common.{◌≡◌, ◌==◌, ◌&&◌, ℕ, Bool, true, false, not, cond, List, length, refl, sym, ◌∙◌, ap, Some, None, Option}
+use Rattle.std.specs.Prelude.{is_none, is_some, option_map}
 use Rattle.std.specs.Ordering.{eq_by_cmp}
 use Rattle.std.specs.List.{IsDistinct, list_any}
 use Rattle.std.specs.Map.{keys_of}
 use Rattle.std.proofs.lemmas.Bool.{true≢false, false_from_ne_true}
-use Rattle.std.proofs.lemmas.Option.{get_or_from_slice_get}
 use Rattle.sp_base.specs.Paths.{is_path, is_under}
 use Rattle.resource_tree.specs.declared.nodes.Node.{Node}
 use Rattle.resource_tree.specs.Content.{Content, by_path, same_path, node_at, parent_of, name_of}
@@ -38,15 +37,12 @@ deep_from tree source target paths listed deep all same is =
     sym (any_same source (λ p. not (is_path (path_there source target p))) tree paths all) ∙ ap (list_any (λ p. not (is_path (path_there source target p)))) (sym same) ∙ is
 
 -- the target's name among the kids of its parent, and the part over that, as the code makes them
-pub hung : (tree from named new : Content) (source target parent : List (List ℕ)) (name seg : List ℕ) (rows : Rows) → IsOrdered tree → IsOrdered from → IsDistinct (eq_by_cmp by_path) (keys_of rows)
-    → ((q : List (List ℕ)) → row_at rows q ≡ row_at (part_there tree source target) q) → named ≡ change_at from parent (with_kid name) → parent ≡ parent_of target → name ≡ seg → Some seg ≡ slice_get target (length target - 1) → new ≡ patching named rows
+pub hung : (tree from new : Content) (source target parent : List (List ℕ)) (rows : Rows) → IsOrdered tree → IsOrdered from → IsDistinct (eq_by_cmp by_path) (keys_of rows)
+    → ((q : List (List ℕ)) → row_at rows q ≡ row_at (part_there tree source target) q) → parent ≡ parent_of target → new ≡ patching (change_at from parent (with_kid (name_of target))) rows
     → new ≡ patching (change_at from (parent_of target) (with_kid (name_of target))) (part_there tree source target)
-hung tree from named new source target parent name seg rows sorted sorted_from once alike named_is above is last new_is =
-    let segment : name_of target ≡ seg = get_or_from_slice_get target (length target - 1) seg [] (sym last) in
-    let with_name : named ≡ change_at from (parent_of target) (with_kid (name_of target)) =
-    named_is ∙ ap (λ p. change_at from p (with_kid name)) above ∙ ap (λ n. change_at from (parent_of target) (with_kid n)) (is ∙ sym segment) in
+hung tree from new source target parent rows sorted sorted_from once alike above new_is =
     new_is
-    ∙ ap (λ (t : Content). patching t rows) with_name
+    ∙ ap (λ p. patching (change_at from p (with_kid (name_of target))) rows) above
     ∙ patching-alike (change_at from (parent_of target) (with_kid (name_of target))) rows (part_there tree source target) (sorted-change_at from (parent_of target) (with_kid (name_of target)) sorted_from) once (once_there source target tree sorted) alike
 
 -- a node that may go to another path may be taken from its place

@@ -4,9 +4,9 @@ use Rattle.resource_tree.specs.declared.nodes.Node.{Node}
 use Rattle.resource_tree.specs.declared.patch.PatchNode.{PatchNode}
 use Rattle.resource_tree.specs.declared.patch.PatchNode.TheVariants as there
 use Rattle.resource_tree.specs.Content.{Content, IsGood}
-use Rattle.resource_tree.specs.Changes.{with_kid, without_kid, with_kids, with_value, without_value}
+use Rattle.resource_tree.specs.Changes.{with_kid, without_kid, with_value, without_value}
 use Rattle.tree_draft.specs.declared.edit.Edit.{Edit}
-use Rattle.tree_draft.specs.declared.edit.Edit.TheVariants.{Kid, WithoutKid, Kids, Set, Unset}
+use Rattle.tree_draft.specs.declared.edit.Edit.TheVariants.{Kid, WithoutKid, Set, Unset}
 
 -- a tree's content, the content that it is to have, and a count of that one's nodes
 pub record Drafted : Type 0 where
@@ -32,7 +32,6 @@ pub record DraftFollows (before after : Drafted) : Type 0 where
 abbrev pub edited : Edit → Node → Node
 edited (Kid name) node = with_kid name node
 edited (WithoutKid name) node = without_kid name node
-edited (Kids kids) node = with_kids kids node
 edited (Set name value) node = with_value name value node
 edited (Unset name) node = without_value name node
 

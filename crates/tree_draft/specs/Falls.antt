@@ -1,14 +1,14 @@
 -- The kids' names of a changed node, of which some have fallen away. Only private functions and proofs cite this.
-use Rattle.std.specs.Prelude.{◌≡◌, ◌≤◌, ◌+◌, ◌∷◌, [], ℕ, Bool, List, nat_le, if◌then◌else◌}
+use Rattle.std.specs.Prelude.{◌≤◌, ◌+◌, ◌∷◌, [], ℕ, Bool, List, nat_le, if◌then◌else◌}
 use Rattle.std.specs.Map.{lookup}
 use Rattle.std.specs.Option.{option_map_or}
 use Rattle.std.specs.Str.{bytes_eq}
 
--- names, each with how many names stood in the list when it fell away
+-- names, each with how long the list was when it last fell away: the list keeps the names that fall away, so they count
 abbrev pub FallRows : Type 0
 FallRows = List (List ℕ × ℕ)
 
--- how many names stood in the list when a name last fell away
+-- how long the list was when a name last fell away
 abbrev pub fall_of : FallRows → List ℕ → ℕ
 fall_of falls name = option_map_or (λ n. n) (lookup (bytes_eq name) falls) 0
 
@@ -21,6 +21,6 @@ unfoldable pub standing : FallRows → ℕ → List (List ℕ) → List (List �
 standing falls place [] = []
 standing falls place (name ∷ names) = if stands falls place name then name ∷ standing falls (place + 1) names else standing falls (place + 1) names
 
--- each name fell away when no more names stood in the list than so many
+-- each name fell away when the list was no longer than this
 abbrev pub FellWithin : ℕ → FallRows → Type 0
-FellWithin count falls = (name : List ℕ) → fall_of falls name ≤ count
+FellWithin size falls = (name : List ℕ) → fall_of falls name ≤ size

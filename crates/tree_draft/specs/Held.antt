@@ -1,4 +1,4 @@
--- A changed node, and what a draft shows at a path. Only private functions and proofs cite this.
+-- What a draft holds at a path that was changed, as a row of a patch. Scaffolding: only private types and functions and proofs cite this.
 use Rattle.std.specs.Prelude.{Option, Some, None}
 use Rattle.resource_tree.specs.declared.nodes.Node.{Node}
 use Rattle.resource_tree.specs.declared.patch.PatchNode.{PatchNode}

@@ -5,19 +5,19 @@ ghost use Rattle.std.specs.List.Sorted.{IsStrictlySortedBy};
 ghost use Rattle.std.specs.Map.{keys_of};
 ghost use Rattle.std.specs.Ordering.{eq_by_cmp};
 ghost use Rattle.sp_base.specs.Paths.{is_path, is_under, path_or_none};
-ghost use Rattle.resource_tree.specs.Content.{by_path, node_at, same_path, parent_of};
+ghost use Rattle.resource_tree.specs.Content.{by_path, name_of, node_at, same_path, parent_of};
+ghost use Rattle.resource_tree.specs.Changes.{change_at, with_kid};
 ghost use Rattle.resource_tree.specs.Patches.{patching, row_at};
 ghost use Rattle.resource_tree.specs.Moves.{copy, copy_fault, part_there, path_there, target_fault};
 ghost use Rattle.tree_draft.specs.Drafts.{DraftFollows, IsCounted, IsSound};
 
 use crate::Draft;
 use crate::create::{MOST_NODES, last_segment};
-use crate::edit::Edit;
 use crate::held::Row;
 use crate::part::paths_under;
 use indexmap::IndexMap;
 use resource_tree::TreeFault;
-use sp_base::{Mem, Path, TextBuf};
+use sp_base::{Mem, Path};
 use std::alloc::Global;
 use std::hash::RandomState;
 
@@ -34,16 +34,31 @@ impl<'a> Draft<'a> {
     {
         let parent = target.parent(alloc)?;
         self.check_target(alloc, source, target, &parent)?;
-        let Some(name) = last_segment(target) else {
-            return Err(TreeFault::RootFixed);
-        };
-        let name = TextBuf::of(alloc, name)?;
+        let _segments = target.depth();
         let paths = paths_under(self, alloc, source)?;
         let part = part_there(self, alloc, source, target, &paths)?;
         if part.len() > MOST_NODES.saturating_sub(self.len()) {
             return Err(TreeFault::FullTree);
         }
-        self.change(alloc, &parent, Edit::Kid(name))?;
+        self.hang(alloc, &parent, target, part)?;
+        Ok(())
+    }
+
+    // Puts a part at a target, and names the target last among the kids of its parent.
+    pub(crate) fn hang(
+        &mut self,
+        alloc: Global,
+        parent: &Path,
+        target: &Path,
+        part: IndexMap<Path, Row, RandomState>,
+    ) -> Mem<()>
+        requires { is_some (node_at self.old.content parent.now) ≡ true }
+        ensures content { OnOk result (self.new.content ≡ patching (change_at self.old.content parent.now (with_kid (name_of target.now))) part.entries) }
+        ensures counted { OnOk result (IsCounted self.old → IsCounted self.new) }
+        ensures tree { OnOk result (self.new.tree ≡ self.old.tree) }
+        ensures ordered { OnOk result (IsStrictlySortedBy by_path (keys_of self.new.content)) }
+    {
+        self.add_kid(alloc, parent, target)?;
         self.put_all(part)?;
         Ok(())
     }

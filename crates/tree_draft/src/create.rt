@@ -1,15 +1,19 @@
 // New nodes.
-ghost use Rattle.std.specs.Prelude.{◌≡◌, ◌≢◌, ◌≤◌, ◌-◌, Some, None, OnOk, IfErr, IfOk, IsTrue, option_copied, slice_get, length};
+ghost use Rattle.std.specs.Prelude.{◌≡◌, ◌≢◌, ◌≤◌, ◌-◌, Some, None, OnOk, IfErr, IfOk, IsTrue, is_some, true, option_copied, slice_get, length};
+ghost use Rattle.std.specs.List.Sorted.{IsStrictlySortedBy};
+ghost use Rattle.std.specs.Map.{keys_of};
 ghost use Rattle.sp_base.specs.Paths.{is_path};
-ghost use Rattle.resource_tree.specs.Content.{parent_of, empty_node};
-ghost use Rattle.resource_tree.specs.Changes.{create_fault, creation};
-ghost use Rattle.tree_draft.specs.Drafts.{DraftFollows, IsSound};
+ghost use Rattle.resource_tree.specs.declared.patch.PatchNode.TheVariants as there;
+ghost use Rattle.resource_tree.specs.Content.{by_path, empty_node, name_of, node_at, parent_of};
+ghost use Rattle.resource_tree.specs.Changes.{change_at, create_fault, creation, with_kid};
+ghost use Rattle.resource_tree.specs.Patches.{over};
+ghost use Rattle.tree_draft.specs.Drafts.{DraftFollows, IsCounted, IsSound};
 
 use crate::Draft;
 use crate::edit::Edit;
 use crate::held::Row;
 use resource_tree::TreeFault;
-use sp_base::{Path, TextBuf};
+use sp_base::{Mem, NoMemory, Path, TextBuf};
 use std::alloc::Global;
 
 /// The most nodes of a tree.
@@ -35,14 +39,37 @@ impl<'a> Draft<'a> {
     {
         let parent = path.parent(alloc)?;
         self.check_create(alloc, path, &parent)?;
+        self.put_fresh(alloc, path)?;
+        self.add_kid(alloc, &parent, path)?;
+        Ok(())
+    }
+
+    // Sets a node without properties and kids at a path.
+    fn put_fresh(&mut self, alloc: Global, path: &Path) -> Mem<()>
+        ensures content { OnOk result (self.new.content ≡ over self.old.content path.now (there.Node empty_node)) }
+        ensures counted { OnOk result (IsCounted self.old → IsCounted self.new) }
+        ensures tree { self.new.tree ≡ self.old.tree }
+    {
+        let seeds = self.tree.seeds();
+        let place = path.duplicate(alloc)?;
+        self.put(place, Row::fresh(alloc, seeds))
+    }
+
+    // Names the node at a path last among the kids of its parent.
+    pub(crate) fn add_kid(&mut self, alloc: Global, parent: &Path, path: &Path) -> Mem<()>
+        requires { is_some (node_at self.old.content parent.now) ≡ true }
+        ensures content { OnOk result (self.new.content ≡ change_at self.old.content parent.now (with_kid (name_of path.now))) }
+        ensures counted { OnOk result (IsCounted self.old → IsCounted self.new) }
+        ensures tree { self.new.tree ≡ self.old.tree }
+        ensures ordered { OnOk result (IsStrictlySortedBy by_path (keys_of self.new.content)) }
+        ensures valid { OnOk result (IsTrue (is_path path.now)) }
+    {
         let Some(name) = last_segment(path) else {
-            return Err(TreeFault::Exists(path.duplicate(alloc)?));
+            // The root is no kid, so this is a lack of memory.
+            return Err(NoMemory);
         };
         let name = TextBuf::of(alloc, name)?;
-        let row = Row::fresh(alloc, self.tree.seeds());
-        self.put(path.duplicate(alloc)?, row)?;
-        self.change(alloc, &parent, Edit::Kid(name))?;
-        Ok(())
+        self.change(alloc, parent, Edit::Kid(name))
     }
 
     // Whether a node may be made.

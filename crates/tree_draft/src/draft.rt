@@ -1,20 +1,21 @@
 //! A tree with changes over it, which it doesn't know yet.
-ghost use Rattle.std.specs.Prelude.{◌≡◌, ◌+◌, ℕ, List, Some, None, OnOk, OnErr, IfOk, IsTrue, true, false, cond, length, is_some, option_copied};
+ghost use Rattle.std.specs.Prelude.{◌≡◌, ◌+◌, ℕ, List, Some, None, OnOk, OnErr, IfOk, IsTrue, true, false, cond, length, is_some, option_copied, option_map};
 ghost use Rattle.std.specs.List.{IsDistinct};
 ghost use Rattle.std.specs.List.Sorted.{IsStrictlySortedBy};
 ghost use Rattle.std.specs.Map.{keys_of};
 ghost use Rattle.std.specs.Ordering.{eq_by_cmp};
 ghost use Rattle.resource_tree.specs.Content.{IsGood, by_path, node_at, same_path};
-ghost use Rattle.resource_tree.specs.Changes.{change_at};
+ghost use Rattle.resource_tree.specs.Changes.{change_at, with_kids};
+ghost use Rattle.resource_tree.specs.declared.patch.PatchNode.TheVariants as there;
 ghost use Rattle.resource_tree.specs.Patches.{left_by, over, patching};
 ghost use Rattle.tree_draft.specs.Drafts.{IsCounted, IsSound, one_if, is_node, edited};
 
 use crate::DraftNode;
-use crate::edit::{Edit, edited};
+use crate::edit::Edit;
 use crate::held::{HeldNode, Row};
 use indexmap::IndexMap;
 use resource_tree::{Node, Tree};
-use sp_base::{Mem, NoMemory, Path};
+use sp_base::{Mem, NoMemory, Path, PropList, TextList};
 use std::alloc::Global;
 use std::hash::RandomState;
 use std::marker::Model;
@@ -92,26 +93,57 @@ impl<'a> Draft<'a> {
         ensures tree { self.new.tree ≡ self.old.tree }
         ensures ordered { OnOk result (IsStrictlySortedBy by_path (keys_of self.new.content)) }
     {
-        let Some(node) = self.taken(alloc, path)? else {
-            return Ok(());
-        };
-        let node = edited(alloc, node, edit)?;
-        self.insert(path.duplicate(alloc)?, Row::changed(node))?;
-        Ok(())
+        let row = self.take_changed(alloc, path, edit)?;
+        self.insert(path.duplicate(alloc)?, row)
     }
 
-    // Takes the node at a path out, to be put back changed. Until then nothing is said of that path.
-    fn taken(&mut self, alloc: Global, path: &Path) -> Mem<Option<HeldNode>>
-        ensures value { IfOk result (λ o. o ≡ node_at self.old.content path.now) }
-        ensures others { OnOk result ((q : List (List ℕ)) → same_path path.now q ≡ false → node_at self.new.content q ≡ node_at self.old.content q) }
+    /// Gives the node at a path other kids.
+    pub(crate) fn put_kids(&mut self, alloc: Global, path: &Path, kids: TextList) -> Mem<()>
+        requires { is_some (node_at self.old.content path.now) ≡ true }
+        ensures content { OnOk result (self.new.content ≡ change_at self.old.content path.now (with_kids kids)) }
+        ensures counted { OnOk result (IsCounted self.old → IsCounted self.new) }
+        ensures tree { self.new.tree ≡ self.old.tree }
+        ensures ordered { OnOk result (IsStrictlySortedBy by_path (keys_of self.new.content)) }
+    {
+        let row = self.take_with_kids(alloc, path, kids)?;
+        self.insert(path.duplicate(alloc)?, row)
+    }
+
+    // Takes the node at a path out, and changes it. Until it is put back nothing is said of that path.
+    fn take_changed(&mut self, alloc: Global, path: &Path, edit: Edit) -> Mem<Row>
+        ensures value { IfOk result (λ r. Some r ≡ option_map (λ n. there.Node (edited edit n)) (node_at self.old.content path.now)) }
+        ensures others { (q : List (List ℕ)) → same_path path.now q ≡ false → node_at self.new.content q ≡ node_at self.old.content q }
         ensures count { self.new.count ≡ self.old.count }
         ensures tree { self.new.tree ≡ self.old.tree }
-        ensures ordered { OnOk result (IsStrictlySortedBy by_path (keys_of self.old.content)) }
+        ensures ordered { IsStrictlySortedBy by_path (keys_of self.old.content) }
+    {
+        let row = self.take_row(path);
+        row_changed(alloc, self.tree.seeds(), row, self.tree.node(path), edit)
+    }
+
+    // Takes the node at a path out, and gives it other kids. Until it is put back nothing is said of that path.
+    fn take_with_kids(&mut self, alloc: Global, path: &Path, kids: TextList) -> Mem<Row>
+        ensures value { IfOk result (λ r. Some r ≡ option_map (λ n. there.Node (with_kids kids n)) (node_at self.old.content path.now)) }
+        ensures others { (q : List (List ℕ)) → same_path path.now q ≡ false → node_at self.new.content q ≡ node_at self.old.content q }
+        ensures count { self.new.count ≡ self.old.count }
+        ensures tree { self.new.tree ≡ self.old.tree }
+        ensures ordered { IsStrictlySortedBy by_path (keys_of self.old.content) }
+    {
+        let row = self.take_row(path);
+        row_with_kids(alloc, self.tree.seeds(), row, self.tree.node(path), kids)
+    }
+
+    // Takes what stands at a path out.
+    fn take_row(&mut self, path: &Path) -> Option<Row>
+        ensures value { left_by result (node_at self.old.tree path.now) ≡ node_at self.old.content path.now }
+        ensures others { (q : List (List ℕ)) → same_path path.now q ≡ false → node_at self.new.content q ≡ node_at self.old.content q }
+        ensures count { self.new.count ≡ self.old.count }
+        ensures tree { self.new.tree ≡ self.old.tree }
+        ensures ordered { IsStrictlySortedBy by_path (keys_of self.old.content) }
     {
         let _rows = self.rows.len();
         let _nodes = self.tree.len();
-        let row = self.rows.swap_remove(path);
-        or_copy(alloc, self.tree.seeds(), row, self.tree.node(path))
+        self.rows.swap_remove(path)
     }
 
     // Sets what is to stand at a path, and leaves the count.
@@ -119,7 +151,7 @@ impl<'a> Draft<'a> {
         ensures content { OnOk result (self.new.content ≡ over self.old.content path row) }
         ensures count { self.new.count ≡ self.old.count }
         ensures tree { self.new.tree ≡ self.old.tree }
-        ensures before { OnOk result (IsStrictlySortedBy by_path (keys_of self.old.content)) }
+        ensures before { IsStrictlySortedBy by_path (keys_of self.old.content) }
         ensures ordered { OnOk result (IsStrictlySortedBy by_path (keys_of self.new.content)) }
     {
         let _rows = self.rows.len();
@@ -129,22 +161,74 @@ impl<'a> Draft<'a> {
     }
 }
 
-// The node that a row leaves, or a copy of the one that is there.
+// The node that a row leaves, or else a copy of the tree's.
 fn or_copy(
     alloc: Global,
     seeds: RandomState,
     row: Option<Row>,
     node: Option<&Node>,
-) -> Mem<Option<HeldNode>>
-    ensures { IfOk result (λ o. o ≡ left_by row (option_copied node.entry)) }
+) -> Mem<HeldNode>
+    ensures { IfOk result (λ n. Some n ≡ left_by row (option_copied node.entry)) }
 {
     match row {
-        Some(row) => Ok(row.into_held()),
+        Some(row) => row.into_held().ok_or(NoMemory),
         None => match node {
-            Some(node) => Ok(Some(HeldNode::of(alloc, seeds, node.duplicate(alloc)?))),
-            None => Ok(None),
+            Some(node) => Ok(HeldNode::of(alloc, seeds, node.duplicate(alloc)?)),
+            // Only a node that is there is changed, so this is a lack of memory.
+            None => Err(NoMemory),
         },
     }
+}
+
+// The properties of the node that a row leaves, or else copies of those of the tree's.
+fn or_copied_props(alloc: Global, row: Option<Row>, node: Option<&Node>) -> Mem<PropList>
+    ensures { IfOk result (λ props. Some props ≡ option_map (λ n. n.props) (left_by row (option_copied node.entry))) }
+{
+    match row {
+        Some(row) => row.into_props().ok_or(NoMemory),
+        None => match node {
+            Some(node) => node.props.duplicate(alloc),
+            // Only a node that is there is changed, so this is a lack of memory.
+            None => Err(NoMemory),
+        },
+    }
+}
+
+// A row with the node that another leaves, or else with the tree's, after a change.
+fn row_changed(
+    alloc: Global,
+    seeds: RandomState,
+    row: Option<Row>,
+    node: Option<&Node>,
+    edit: Edit,
+) -> Mem<Row>
+    ensures { IfOk result (λ r. Some r ≡ option_map (λ n. there.Node (edited edit n)) (left_by row (option_copied node.entry))) }
+{
+    let node = or_copy(alloc, seeds, row, node)?;
+    changed_by(alloc, node, edit)
+}
+
+// A row with a node after a change.
+fn changed_by(alloc: Global, node: HeldNode, edit: Edit) -> Mem<Row>
+    ensures { IfOk result (λ r. r ≡ there.Node (edited edit node)) }
+{
+    let mut node = node;
+    node.edit(alloc, edit)?;
+    Ok(Row::changed(node))
+}
+
+// A row with the node that another leaves, or else with the tree's, with other kids. The kids that it had are not copied.
+fn row_with_kids(
+    alloc: Global,
+    seeds: RandomState,
+    row: Option<Row>,
+    node: Option<&Node>,
+    kids: TextList,
+) -> Mem<Row>
+    ensures { IfOk result (λ r. Some r ≡ option_map (λ n. there.Node (with_kids kids n)) (left_by row (option_copied node.entry))) }
+{
+    let props = or_copied_props(alloc, row, node)?;
+    Ok(Row::of(alloc, seeds, Node { props, kids }))
 }
 
 // The node that a draft holds.

@@ -1,9 +1,8 @@
 //! Changes of one node.
-ghost use Rattle.std.specs.Prelude.{◌≡◌, IfOk};
+ghost use Rattle.std.specs.Prelude.{◌≡◌, OnOk};
 ghost use Rattle.tree_draft.specs.Drafts as spec;
 
 use crate::held::HeldNode;
-use crate::kid_list::KidList;
 use sp_base::{Mem, TextBuf, Value};
 use std::alloc::Global;
 
@@ -13,26 +12,23 @@ pub(crate) enum Edit {
     Kid(TextBuf),
     /// One kid less.
     WithoutKid(TextBuf),
-    /// Other kids.
-    Kids(KidList),
     Set(TextBuf, Value),
     Unset(TextBuf),
 }
 
-/// The node after a change.
-pub(crate) fn edited(alloc: Global, node: HeldNode, edit: Edit) -> Mem<HeldNode>
-    ensures { IfOk result (λ n. n ≡ spec.edited edit node) }
-{
-    let HeldNode {
-        mut props,
-        mut kids,
-    } = node;
-    match edit {
-        Edit::Kid(name) => kids.push(name)?,
-        Edit::WithoutKid(name) => kids.remove(alloc, name.text())?,
-        Edit::Kids(others) => kids = others,
-        Edit::Set(name, value) => props.put(alloc, name.text(), value)?,
-        Edit::Unset(name) => drop(props.remove(name.text())),
+impl HeldNode {
+    /// Changes the node.
+    pub(crate) fn edit(&mut self, alloc: Global, edit: Edit) -> Mem<()>
+        ensures { OnOk result (self.new ≡ spec.edited edit self.old) }
+    {
+        match edit {
+            Edit::Kid(name) => self.kids.push(name),
+            Edit::WithoutKid(name) => self.kids.remove(alloc, name.text()),
+            Edit::Set(name, value) => self.props.put_named(name, value),
+            Edit::Unset(name) => {
+                drop(self.props.remove(name.text()));
+                Ok(())
+            }
+        }
     }
-    Ok(HeldNode { props, kids })
 }

@@ -1,5 +1,5 @@
 // Names that fell away from a list.
-ghost use Rattle.std.specs.Prelude.{◌≡◌, [], ℕ, List, OnOk, OnErr, if◌then◌else◌, true};
+ghost use Rattle.std.specs.Prelude.{◌≡◌, ◌↔◌, [], ℕ, List, IsTrue, OnOk, OnErr, if◌then◌else◌};
 ghost use Rattle.std.specs.Str.{bytes_eq};
 ghost use Rattle.tree_draft.specs.Falls as spec;
 
@@ -9,7 +9,7 @@ use std::alloc::Global;
 use std::hash::RandomState;
 use std::marker::Model;
 
-/// How many names stood in a list when a name last fell away from it.
+/// How long a list was when a name last fell away from it, with the names in it that had fallen away before.
 #[derive(Drop)]
 pub(crate) struct Falls {
     rows: IndexMap<String, usize, RandomState>,
@@ -35,12 +35,12 @@ impl Falls {
     }
 
     pub(crate) fn is_empty(&self) -> bool
-        ensures { result ≡ true → self.now ≡ [] }
+        ensures { IsTrue result ↔ (self.now ≡ []) }
     {
         self.rows.is_empty()
     }
 
-    // How many names stood when a name last fell away.
+    // How long the list was when a name last fell away.
     fn of(&self, name: &str) -> usize
         ensures { result ≡ spec.fall_of self.now name.now }
     {
@@ -57,13 +57,13 @@ impl Falls {
         self.of(name) <= place
     }
 
-    /// Notes that a name falls away from a list of so many.
-    pub(crate) fn note(&mut self, alloc: Global, name: &str, count: usize) -> Mem<()>
-        ensures ok { OnOk result ((k : List ℕ) → spec.fall_of self.new k ≡ (if bytes_eq name.now k then count else spec.fall_of self.old k)) }
+    /// Notes that a name falls away from a list of this length.
+    pub(crate) fn note(&mut self, alloc: Global, name: &str, length: usize) -> Mem<()>
+        ensures ok { OnOk result ((k : List ℕ) → spec.fall_of self.new k ≡ (if bytes_eq name.now k then length else spec.fall_of self.old k)) }
         ensures err { OnErr result (self.new ≡ self.old) }
     {
         let name = String::from_str(alloc, name)?;
-        self.rows.insert(name, count)?;
+        self.rows.insert(name, length)?;
         Ok(())
     }
 }

@@ -1,5 +1,6 @@
-// What a draft holds at a path, and what it shows there.
-ghost use Rattle.std.specs.Prelude.{◌≡◌, IfOk, option_copied};
+// What a draft holds at a path that was changed: the node that is to stand there, which it owns and changes in place, or none.
+// Scaffolding, which no caller sees: what a draft shows of a node, held or not, is a `DraftNode` (seen.rt).
+ghost use Rattle.std.specs.Prelude.{◌≡◌, IfOk, option_copied, option_map};
 ghost use Rattle.resource_tree.specs.Content.{empty_node};
 ghost use Rattle.resource_tree.specs.declared.patch.PatchNode.TheVariants as there;
 ghost use Rattle.tree_draft.specs.Drafts as draft;
@@ -12,7 +13,7 @@ use std::alloc::Global;
 use std::hash::RandomState;
 use std::marker::Model;
 
-/// A changed node.
+/// A changed node, whose kids' names may fall away without a walk.
 #[derive(Drop)]
 pub(crate) struct HeldNode {
     pub(crate) props: PropList,
@@ -36,6 +37,14 @@ impl HeldNode {
             props,
             kids: KidList::new(alloc, seeds, kids),
         }
+    }
+
+    fn into_props(self) -> PropList
+        ensures { result ≡ self.props }
+    {
+        let HeldNode { props, kids } = self;
+        drop(kids);
+        props
     }
 
     // The node with its kids' names in a list of their own.
@@ -116,6 +125,16 @@ impl Row {
         ensures { result ≡ spec.node_of self }
     {
         self.held
+    }
+
+    /// The node's properties, where it isn't gone.
+    pub(crate) fn into_props(self) -> Option<PropList>
+        ensures { result ≡ option_map (λ n. n.props) (spec.node_of self) }
+    {
+        match self.held {
+            Some(node) => Some(node.into_props()),
+            None => None,
+        }
     }
 
     /// The row as one of a patch.

@@ -1,5 +1,5 @@
 // The kids' names of a changed node.
-ghost use Rattle.std.specs.Prelude.{◌≡◌, ◌++◌, ◌∷◌, [], IfOk, OnOk, if◌then◌else◌, map};
+ghost use Rattle.std.specs.Prelude.{◌≡◌, ◌≤◌, ◌++◌, ◌∷◌, [], ℕ, List, IfOk, OnOk, if◌then◌else◌, map, length, insert};
 ghost use Rattle.resource_tree.specs.Kids.{other_kids};
 ghost use Rattle.tree_draft.specs.Falls as spec;
 
@@ -73,10 +73,24 @@ impl KidList {
     }
 }
 
-// The names of a list that stand.
+/// The names of a list.
+pub(crate) fn lent_names<'a>(alloc: Global, names: &'a [TextBuf]) -> Mem<Vec<&'a TextBuf>>
+    ensures { IfOk result (λ lent. map (λ name. name.now) lent.items ≡ names.now) }
+{
+    let mut lent = Vec::new(alloc);
+    for name in names {
+        lent.push(name)?;
+    }
+    Ok(lent)
+}
+
+// The names of a list that stand. Where none fell away, none is looked up.
 fn standing<'a>(alloc: Global, falls: &Falls, names: &'a [TextBuf]) -> Mem<Vec<&'a TextBuf>>
     ensures { IfOk result (λ lent. map (λ name. name.now) lent.items ≡ spec.standing falls.now 0 names.now) }
 {
+    if falls.is_empty() {
+        return lent_names(alloc, names);
+    }
     let mut lent = Vec::new(alloc);
     for place in 0..names.len() {
         push_standing(falls, place, &names[place], &mut lent)?;
@@ -99,13 +113,37 @@ fn push_standing<'a>(
     Ok(())
 }
 
+// Adds copies of lent names.
+fn push_copies(alloc: Global, list: &mut TextList, names: &[&TextBuf]) -> Mem<()>
+    ensures { OnOk result (list.new ≡ list.old ++ map (λ name. name.now) names.now) }
+{
+    for name in names {
+        list.push(name.duplicate(alloc)?)?;
+    }
+    Ok(())
+}
+
 /// Copies of lent names.
 pub(crate) fn copied(alloc: Global, names: &[&TextBuf]) -> Mem<TextList>
     ensures { IfOk result (λ list. list ≡ map (λ name. name.now) names.now) }
 {
     let mut list = TextList::new(alloc);
-    for name in names {
-        list.push(name.duplicate(alloc)?)?;
-    }
+    push_copies(alloc, &mut list, names)?;
+    Ok(list)
+}
+
+/// Copies of lent names, with one more after so many of them.
+pub(crate) fn copied_with(
+    alloc: Global,
+    names: &[&TextBuf],
+    place: usize,
+    name: &str,
+) -> Mem<TextList>
+    requires { place ≤ length names.now }
+    ensures { IfOk result (λ list. list ≡ insert (map (λ other. other.now) names.now) place name.now) }
+{
+    let mut list = copied(alloc, &names[..place])?;
+    list.push(TextBuf::of(alloc, name)?)?;
+    push_copies(alloc, &mut list, &names[place..])?;
     Ok(list)
 }

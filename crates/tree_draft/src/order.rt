@@ -1,12 +1,11 @@
 // Kids in another place among their parent's.
 ghost use Rattle.std.specs.Prelude.{◌≡◌, ◌≢◌, None, Some, OnOk, IfOk, IfErr};
 ghost use Rattle.resource_tree.specs.Changes.{fixed_fault, kids_at, order_fault, reordering};
+ghost use Rattle.resource_tree.specs.Kids.{kids_in_order};
 ghost use Rattle.tree_draft.specs.Drafts.{DraftFollows, IsSound};
 
 use crate::Draft;
 use crate::create::last_segment;
-use crate::edit::Edit;
-use crate::kid_list::{KidList, copied};
 use crate::kids::kids_in_order;
 use resource_tree::{Place, TreeFault};
 use sp_base::{Mem, Path, TextList};
@@ -27,12 +26,10 @@ impl<'a> Draft<'a> {
         let Some(name) = last_segment(path) else {
             return Err(TreeFault::RootFixed);
         };
-        let names = kids_at(self, alloc, &parent)?;
-        let Some(kids) = kids_in_order(alloc, names.as_slice(), name, place)? else {
+        let Some(kids) = kids_with(self, alloc, &parent, name, place)? else {
             return Err(TreeFault::NoSibling);
         };
-        let list = KidList::new(alloc, self.tree.seeds(), kids);
-        self.change(alloc, &parent, Edit::Kids(list))?;
+        self.put_kids(alloc, &parent, kids)?;
         Ok(())
     }
 
@@ -51,12 +48,19 @@ impl<'a> Draft<'a> {
     }
 }
 
-// The kids' names of the node at a path.
-fn kids_at(draft: &Draft, alloc: Global, path: &Path) -> Mem<TextList>
-    ensures { IfOk result (λ kids. kids ≡ kids_at draft.now.content path.now) }
+// The kids' names of the node at a path, with one of them in another place.
+fn kids_with(
+    draft: &Draft,
+    alloc: Global,
+    path: &Path,
+    name: &str,
+    place: &Place,
+) -> Mem<Option<TextList>>
+    ensures { IfOk result (λ kids. kids ≡ kids_in_order name.now place.now (kids_at draft.now.content path.now)) }
 {
-    match draft.node(path) {
-        Some(node) => copied(alloc, &node.kids(alloc)?),
-        None => Ok(TextList::new(alloc)),
-    }
+    let Some(node) = draft.node(path) else {
+        return kids_in_order(alloc, &[], name, place);
+    };
+    let kids = node.kids(alloc)?;
+    kids_in_order(alloc, &kids, name, place)
 }

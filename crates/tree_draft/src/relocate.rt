@@ -6,11 +6,9 @@ ghost use Rattle.tree_draft.specs.Drafts.{DraftFollows, IsSound};
 
 use crate::Draft;
 use crate::copy::part_there;
-use crate::create::last_segment;
-use crate::edit::Edit;
 use crate::part::paths_under;
 use resource_tree::TreeFault;
-use sp_base::{Path, TextBuf};
+use sp_base::Path;
 use std::alloc::Global;
 
 impl<'a> Draft<'a> {
@@ -26,15 +24,11 @@ impl<'a> Draft<'a> {
     {
         let parent = target.parent(alloc)?;
         self.check_ends(alloc, source, target, &parent)?;
-        let Some(name) = last_segment(target) else {
-            return Err(TreeFault::RootFixed);
-        };
-        let name = TextBuf::of(alloc, name)?;
+        let _segments = target.depth();
         let paths = paths_under(self, alloc, source)?;
         let part = part_there(self, alloc, source, target, &paths)?;
         self.cut(alloc, source, &paths)?;
-        self.change(alloc, &parent, Edit::Kid(name))?;
-        self.put_all(part)?;
+        self.hang(alloc, &parent, target, part)?;
         Ok(())
     }
 

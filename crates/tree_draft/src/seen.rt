@@ -1,21 +1,22 @@
-// A node as a draft shows it.
+// The node at a path as a draft shows it to a caller: a part of the promise. It is lent by the tree, where the draft leaves it as it is,
+// or by what the draft holds there (held.rt), and a caller can't tell which.
 ghost use Rattle.std.specs.Prelude.{◌≡◌, IfOk, map};
 
 use crate::held::HeldNode;
-use crate::kid_list::copied;
+use crate::kid_list::{copied, lent_names};
 use resource_tree::Node;
 use sp_base::{Mem, PropList, TextBuf};
 use std::alloc::Global;
 use std::marker::Model;
 
-/// The node at a path: the tree's, where a draft leaves it as it is, else the changed one.
+/// Who lends the node.
 #[derive(Drop)]
 pub(crate) enum Seen<'a> {
     Kept(&'a Node),
     Changed(&'a HeldNode),
 }
 
-/// A node that a draft shows.
+/// A node that a draft shows. Contracts see it as the node.
 #[derive(Drop)]
 pub struct DraftNode<'a> {
     seen: Seen<'a>,
@@ -61,7 +62,7 @@ impl<'a> DraftNode<'a> {
         ensures { IfOk result (λ kids. map (λ name. name.now) kids.items ≡ self.now.kids) }
     {
         match self.seen {
-            Seen::Kept(node) => lent(alloc, node.kids.as_slice()),
+            Seen::Kept(node) => lent_names(alloc, node.kids.as_slice()),
             Seen::Changed(node) => node.kids.lent(alloc),
         }
     }
@@ -74,15 +75,4 @@ impl<'a> DraftNode<'a> {
             kids: copied(alloc, &self.kids(alloc)?)?,
         })
     }
-}
-
-// The names of a list.
-fn lent<'a>(alloc: Global, names: &'a [TextBuf]) -> Mem<Vec<&'a TextBuf>>
-    ensures { IfOk result (λ lent. map (λ name. name.now) lent.items ≡ names.now) }
-{
-    let mut lent = Vec::new(alloc);
-    for name in names {
-        lent.push(name)?;
-    }
-    Ok(lent)
 }

@@ -1,4 +1,4 @@
-use Rattle.std.proofs.Common.{◌≡◌, ◌∙◌, Bor, ℕ, List, ap, sym, subst, map, arith, length}
+use Rattle.std.proofs.Common.{◌≡◌, ◌∙◌, Bor, ℕ, List, ap, sym, subst, map, arith}
 use Rattle.std.specs.Prelude.{IsTrue}
 use Rattle.sp_base.specs.Paths.{seg_ok}
 use Rattle.resource_tree.specs.Content.{kid}

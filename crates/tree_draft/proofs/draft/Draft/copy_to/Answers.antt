@@ -9,8 +9,8 @@ use Rattle.resource_tree.proofs.Copied.{is_free, allowed, too_deep, too_many, Is
 use Rattle.tree_draft.proofs.MoveLemmas.{deep_from, hung}
 use Rattle.tree_draft.proofs.draft.Draft.copy_to.Goals as goal
 
-pub change-requires : goal.change-requires
-change-requires c =
+pub hang-requires : goal.hang-requires
+hang-requires c =
     ap (λ p. is_some (node_at c.args.self.now.content p)) c.in_ok-parent.ensures ∙ (is_free c.args.self.now.content c.args.source.now c.args.target.now c.in_ok-check_target.ensures.ok).parent_there
 
 pub returns-in_err-part-clause-err : goal.returns-in_err-part-clause-err
@@ -37,16 +37,13 @@ returns-then-len-saturating_sub-clause-err c = λ _.
 
 pub returns-clause-ok : goal.returns-clause-ok
 returns-clause-ok c =
-    hung c.args.self.now.content c.args.self.now.content c.change.new.self.content c.put_all.new.self.content c.args.source.now c.args.target.now c.in_ok-parent.parent c.in_ok-name.name c.in-Some.name.now c.in_ok-part.part.entries
+    hung c.args.self.now.content c.args.self.now.content c.hang.new.self.content c.args.source.now c.args.target.now c.in_ok-parent.parent c.in_ok-part.part.entries
     c.requires.good.ordered
     c.requires.good.ordered
     c.in_ok-part.ensures.once
     c.in_ok-part.ensures.ok
-    c.in_ok-change.ensures.content
     c.in_ok-parent.ensures
-    c.in_ok-name.ensures
-    c.in-Some.ensures.segment
-    c.in_ok-put_all.ensures.content
+    c.in_ok-hang.ensures.content
 
 pub returns-clause-allowed : goal.returns-clause-allowed
 returns-clause-allowed c =
@@ -73,8 +70,8 @@ returns-clause-follows c =
     let left = c.saturating_sub.ensures in
     record {
       sound = record {
-        good = IsGood-copy tree c.args.source.now c.args.target.now c.requires.good free fits c.put_all.new.self.content (returns-clause-ok c) c.in_ok-put_all.ensures.ordered (omega (arith, rows, size, test, n, k, left));
-        counted = c.in_ok-put_all.ensures.counted (c.in_ok-change.ensures.counted c.requires.counted);
+        good = IsGood-copy tree c.args.source.now c.args.target.now c.requires.good free fits c.hang.new.self.content (returns-clause-ok c) c.in_ok-hang.ensures.ordered (omega (arith, rows, size, test, n, k, left));
+        counted = c.in_ok-hang.ensures.counted c.requires.counted;
       };
-      tree = c.in_ok-put_all.ensures.tree ∙ c.in_ok-change.ensures.tree;
+      tree = c.in_ok-hang.ensures.tree;
     }

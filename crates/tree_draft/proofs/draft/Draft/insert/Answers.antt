@@ -19,6 +19,9 @@ returns-clause-content c =
     (subst (λ (r : Rows). IsDistinct (eq_by_cmp by_path) (keys_of r)) put c.in_ok-insert.ensures.unique)
     ∙ ap (λ (d : Drafted). over d.content c.args.path c.args.row) c.self.view_is
 
+pub returns-in_err-insert-clause-before : goal.returns-in_err-insert-clause-before
+returns-in_err-insert-clause-before c = subst (λ (d : Drafted). IsOrdered d.content) c.self.view_is (sorted-patching c.self.inside.tree.now c.self.inside.rows.entries c.len-nodes.ensures.good.ordered)
+
 pub returns-clause-before : goal.returns-clause-before
 returns-clause-before c = subst (λ (d : Drafted). IsOrdered d.content) c.self.view_is (sorted-patching c.self.inside.tree.now c.self.inside.rows.entries c.len-nodes.ensures.good.ordered)
 

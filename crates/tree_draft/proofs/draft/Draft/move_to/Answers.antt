@@ -2,8 +2,9 @@ use Rattle.std.proofs.Common.{rules, ◌≡◌, ◌≢◌, ◌∙◌, sym, ap, s
 use Rattle.std.specs.Prelude.{is_some}
 use Rattle.resource_tree.specs.declared.faults.TreeFault.{TreeFault}
 use Rattle.resource_tree.specs.declared.faults.TreeFault.TheVariants.{NoMemory}
-use Rattle.resource_tree.specs.Content.{Content, node_at}
+use Rattle.resource_tree.specs.Content.{Content, name_of, node_at}
 use Rattle.resource_tree.specs.Changes.{removal, change_at, with_kid}
+use Rattle.resource_tree.specs.Patches.{patching}
 use Rattle.resource_tree.specs.Moves.{move_fault}
 use Rattle.resource_tree.proofs.Relocated.{may_go, allowed, too_deep, IsGood-relocation}
 use Rattle.tree_draft.proofs.DraftLemmas.{IsOrdered}
@@ -13,8 +14,8 @@ use Rattle.tree_draft.proofs.draft.Draft.move_to.Goals as goal
 pub cut-requires-clause-fixed : goal.cut-requires-clause-fixed
 cut-requires-clause-fixed c = fixed_not c.args.self.now.content c.args.source.now c.args.target.now c.in_ok-check_ends.ensures.ok
 
-pub change-requires : goal.change-requires
-change-requires c =
+pub hang-requires : goal.hang-requires
+hang-requires c =
     ap (λ p. is_some (node_at c.cut.new.self.content p)) c.in_ok-parent.ensures
     ∙ parent_stays c.args.self.now.content c.cut.new.self.content c.args.source.now c.args.target.now (may_go c.args.self.now.content c.args.source.now c.args.target.now c.in_ok-check_ends.ensures.ok) c.in_ok-cut.ensures.ok
 
@@ -31,16 +32,13 @@ returns-in_err-part-clause-err c =
 pub returns-clause-ok : goal.returns-clause-ok
 returns-clause-ok c =
     let tree = c.args.self.now.content in
-    hung tree (removal tree c.args.source.now) c.change.new.self.content c.put_all.new.self.content c.args.source.now c.args.target.now c.in_ok-parent.parent c.in_ok-name.name c.in-Some.name.now c.in_ok-part.part.entries
+    hung tree (removal tree c.args.source.now) c.hang.new.self.content c.args.source.now c.args.target.now c.in_ok-parent.parent c.in_ok-part.part.entries
     c.requires.good.ordered
     (subst (λ (t : Content). IsOrdered t) c.in_ok-cut.ensures.ok c.in_ok-cut.ensures.follows.sound.good.ordered)
     c.in_ok-part.ensures.once
     c.in_ok-part.ensures.ok
-    (c.in_ok-change.ensures.content ∙ ap (λ (t : Content). change_at t c.in_ok-parent.parent (with_kid c.in_ok-name.name)) c.in_ok-cut.ensures.ok)
     c.in_ok-parent.ensures
-    c.in_ok-name.ensures
-    c.in-Some.ensures.segment
-    c.in_ok-put_all.ensures.content
+    (c.in_ok-hang.ensures.content ∙ ap (λ (t : Content). patching (change_at t c.in_ok-parent.parent (with_kid (name_of c.args.target.now))) c.in_ok-part.part.entries) c.in_ok-cut.ensures.ok)
 
 pub returns-clause-allowed : goal.returns-clause-allowed
 returns-clause-allowed c =
@@ -55,8 +53,8 @@ returns-clause-follows c =
     let fits = deep_from tree c.args.source.now c.args.target.now c.in_ok-paths.paths.items c.deref.result.now false c.in_ok-paths.ensures c.deref.ensures.value c.in_ok-part.ensures.fits in
     record {
       sound = record {
-        good = IsGood-relocation tree c.args.source.now c.args.target.now c.requires.good can fits c.put_all.new.self.content (returns-clause-ok c);
-        counted = c.in_ok-put_all.ensures.counted (c.in_ok-change.ensures.counted c.in_ok-cut.ensures.follows.sound.counted);
+        good = IsGood-relocation tree c.args.source.now c.args.target.now c.requires.good can fits c.hang.new.self.content (returns-clause-ok c);
+        counted = c.in_ok-hang.ensures.counted c.in_ok-cut.ensures.follows.sound.counted;
       };
-      tree = c.in_ok-put_all.ensures.tree ∙ (c.in_ok-change.ensures.tree ∙ c.in_ok-cut.ensures.follows.tree);
+      tree = c.in_ok-hang.ensures.tree ∙ c.in_ok-cut.ensures.follows.tree;
     }

@@ -10,7 +10,7 @@ use Rattle.tree_draft.proofs.falls.Falls.note.Goals as goal
 pub returns-clause-ok : goal.returns-clause-ok
 returns-clause-ok c = λ t.
     let text = c.args.name.now in
-    let count = c.args.count in
+    let count = c.args.length in
     noted string_bytes c.self.inside.rows.entries c.insert.new.self.entries text count
     (λ (q : List ℕ). hash_map_updates_text (string_bytes c.in_ok-name.name) c.self.inside.rows c.insert.new.self (Some count) c.in_ok-insert.ensures.updates q
     ∙ ap (λ b. cond (bytes_eq b q) (Some count) (lookup (λ k. bytes_eq q (string_bytes k)) c.self.inside.rows.entries)) c.in_ok-name.ensures.ok)

@@ -1,4 +1,4 @@
-use Rattle.std.proofs.Common.{◌≡◌, ◌∙◌, ap, arith, length, List, ℕ}
+use Rattle.std.proofs.Common.{◌∙◌, ap, arith, length}
 use Rattle.resource_tree.specs.Kids.{other_kids}
 use Rattle.tree_draft.proofs.FallLemmas.{standing-fallen, within-fallen}
 use Rattle.tree_draft.proofs.kid_list.KidList.remove.Goals as goal

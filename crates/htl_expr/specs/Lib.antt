@@ -1,5 +1,5 @@
 pub mod Bindings
-pub mod Content
+pub mod ComparedValue
 pub mod Fault
 pub mod Grammar
 pub mod Lent

@@ -3,23 +3,22 @@
 ghost use Rattle.std.specs.Prelude.{◌≡◌, [], IfOk, IfSome, nat_eq};
 ghost use Rattle.std.specs.Cmp.Lexicographic.{pointwise};
 ghost use Rattle.htl_expr.specs.Lent.{property_item};
-ghost use Rattle.htl_expr.specs.Remembered.{content_by};
+ghost use Rattle.htl_expr.specs.Remembered.{compared_by};
 ghost use Rattle.htl_expr.specs.Print.{plain};
 ghost use Rattle.htl_expr.specs.Value as spec;
 
 use crate::classes::Classes;
-use crate::compare::{is_same, is_text};
-use crate::numbered::{Aspect, has_same_content};
-use crate::same::is_list;
+use crate::compare::{are_lists, is_same, is_text};
+use crate::numbered::{Aspect, has_one_number};
 use crate::scope::{Scope, property};
 use sp_base::{Mem, TextBuf};
 use std::alloc::Global;
 use std::collections::BTreeMap;
 use std::marker::Model;
 
-/// A resource that expressions are evaluated for one after another. A property that is compared with others gets a number for its
-/// content, once, so that those with the same content have the same number. A list whose items are written with nothing between them
-/// is looked through once, too. Contracts see what the expressions see of the resource.
+/// A resource that expressions are evaluated for one after another. What is compared of a property gets a number, once, so that what is
+/// the same has the same number. A list whose items are written with nothing between them is looked through once, too. Contracts see
+/// what the expressions see of the resource.
 #[derive(Drop)]
 pub struct Evaluation<'a> {
     scope: Scope<'a>,
@@ -68,10 +67,10 @@ impl<'a> Evaluation<'a> {
 
     // Whether two lists have the same items.
     fn has_same_list(&mut self, alloc: Global, a: &TextBuf, b: &TextBuf) -> Mem<bool>
-        ensures same { IfOk result (λ same. same ≡ pointwise (pointwise nat_eq) (content_by self.old Aspect.List a.now) (content_by self.old Aspect.List b.now)) }
+        ensures same { IfOk result (λ same. same ≡ pointwise (pointwise nat_eq) (compared_by self.old Aspect.List a.now) (compared_by self.old Aspect.List b.now)) }
         ensures scope { self.new ≡ self.old }
     {
-        has_same_content(
+        has_one_number(
             alloc,
             &self.scope,
             Aspect::List,
@@ -84,10 +83,10 @@ impl<'a> Evaluation<'a> {
 
     // Whether two properties have the same text as items of list literals, by their numbers.
     fn has_same_text(&mut self, alloc: Global, a: &TextBuf, b: &TextBuf) -> Mem<bool>
-        ensures same { IfOk result (λ same. same ≡ pointwise (pointwise nat_eq) (content_by self.old Aspect.Item a.now) (content_by self.old Aspect.Item b.now)) }
+        ensures same { IfOk result (λ same. same ≡ pointwise (pointwise nat_eq) (compared_by self.old Aspect.Item a.now) (compared_by self.old Aspect.Item b.now)) }
         ensures scope { self.new ≡ self.old }
     {
-        has_same_content(
+        has_one_number(
             alloc,
             &self.scope,
             Aspect::Item,
@@ -118,13 +117,13 @@ impl<'a> Evaluation<'a> {
     {
         let first = property(&self.scope, a.text());
         let second = property(&self.scope, b.text());
-        if is_list(&first) && is_list(&second) {
+        if are_lists(&first, &second) {
             return self.has_same_list(alloc, a, b);
         }
         if is_text(&first) && is_text(&second) {
             return self.has_same_item(alloc, a, b);
         }
-        is_same(alloc, &first, &second)
+        Ok(is_same(&first, &second))
     }
 
     /// The items of a property with nothing between them, if they were put together before.

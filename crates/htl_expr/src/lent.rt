@@ -23,7 +23,7 @@ pub(crate) enum Lent<'a> {
 }
 
 /// A value, the name of the property that it is, where it is one of the resource's, and for each item of a list literal the name of
-/// the property that it is.
+/// the property whose text it has, where there is one.
 #[derive(Drop)]
 pub(crate) struct Operand<'a> {
     pub(crate) value: Lent<'a>,

@@ -4,7 +4,7 @@
 mod access;
 mod classes;
 mod compare;
-mod content;
+mod compared_value;
 mod empty_join;
 mod escape;
 mod evaluation;

@@ -1,4 +1,4 @@
-//! Comparisons of list literals. Of two items that are properties it is remembered whether they have the same text.
+//! Comparisons of list literals. Two items that are properties are compared by their numbers.
 
 ghost use Rattle.std.specs.Prelude.{◌≡◌, ◌<◌, IfOk, [], None, nat_eq, length, get_or, option_map};
 ghost use Rattle.std.specs.Cmp.Lexicographic.{pointwise};
@@ -6,7 +6,7 @@ ghost use Rattle.htl_expr.specs.Lent.{out_of_lent, listed_texts, IsOperand};
 
 use crate::evaluation::Evaluation;
 use crate::lent::Operand;
-use crate::same::{count, is_same_at};
+use crate::same::{is_same_at, item_count};
 use sp_base::{Mem, TextBuf};
 use sqlite_items::Items;
 use std::alloc::Global;
@@ -62,8 +62,8 @@ pub(crate) fn has_same_texts(
     ensures same { IfOk result (λ same. same ≡ pointwise (pointwise nat_eq) (listed_texts (out_of_lent a.now.value)) (listed_texts (out_of_lent b.now.value))) }
     ensures scope { scope.new ≡ scope.old }
 {
-    let items = count(&a.value);
-    if items != count(&b.value) {
+    let items = item_count(&a.value);
+    if items != item_count(&b.value) {
         return Ok(false);
     }
     for place in 0..items {

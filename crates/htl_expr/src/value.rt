@@ -1,6 +1,6 @@
 //! The value of a tree.
 
-ghost use Rattle.std.specs.Prelude.{◌≡◌, IfOk, map, option_map, if◌then◌else◌, true};
+ghost use Rattle.std.specs.Prelude.{◌≡◌, IfOk, map, option_map, if◌then◌else◌, not, true};
 ghost use Rattle.htl_expr.specs.Value as spec;
 ghost use Rattle.htl_expr.specs.Lent.{out_of_lent, plain_item, IsOperand, IsPropertyItemIfNamed};
 ghost use Rattle.htl_expr.specs.declared.out.Out.TheVariants as out;
@@ -177,6 +177,21 @@ fn compares_with<'a>(
     operands_compare(alloc, scope, comparison, &a, &b)
 }
 
+// Whether the value of a tree is false.
+#[cycle(value)]
+fn opposite<'a>(
+    alloc: Global,
+    scope: &mut Evaluation<'a>,
+    operand: &'a ExprNode,
+) -> Mem<Operand<'a>>
+    ensures value { IfOk result (λ v. out_of_lent v.value ≡ out.Truth (not (spec.is_true (spec.value scope.old operand.now)))) }
+    ensures operand { IfOk result (IsOperand scope.old) }
+    ensures scope { scope.new ≡ scope.old }
+{
+    let operand = value(alloc, scope, operand)?;
+    Ok(Operand::of(alloc, Lent::Truth(!is_true(&operand.value))))
+}
+
 /// The value of a tree, with what the scope and the tree have lent.
 #[cycle(value)]
 pub(crate) fn value<'a>(
@@ -196,10 +211,7 @@ pub(crate) fn value<'a>(
         ExprNode::Property(name) => Ok(property_operand(alloc, scope, name)),
         ExprNode::Resource(name) => Ok(Operand::of(alloc, resource(scope.scope(), name.text()))),
         ExprNode::List(items) => list_value(alloc, scope, items.as_slice()),
-        ExprNode::Not(operand) => {
-            let operand = value(alloc, scope, operand.get())?;
-            Ok(Operand::of(alloc, Lent::Truth(!is_true(&operand.value))))
-        }
+        ExprNode::Not(operand) => opposite(alloc, scope, operand.get()),
         ExprNode::Compare(comparison, a, b) => {
             let a = value(alloc, scope, a.get())?;
             let holds = compares_with(alloc, scope, *comparison, a, b.get())?;

@@ -60,15 +60,15 @@ value-returns-in-Or-clause-value t c =
 
 pub value-returns-then-is_true-clause-value : goal.value-returns-then-is_true-clause-value
 value-returns-then-is_true-clause-value t c =
-    let whole = choice_then c.args.scope.now c.value-in-Choice.new.scope c.args.node.now c.in-Choice.condition c.get-in-Choice.result.now c.in-Choice.a c.in-Choice.b c.get-then-is_true.result.now _ c.value-in-Choice.ensures.scope c.in-Choice.is c.get-in-Choice.ensures c.in_ok-condition-in-Choice.ensures.value (sym c.is_true-in-Choice.ensures ∙ c.if-is_true.true) c.get-then-is_true.ensures in
+    let whole = choice_then c.args.scope.now c.value-in-Choice.new.scope c.args.node.now c.in-Choice.condition c.get-in-Choice.result.now c.in-Choice.a c.in-Choice.b c.get-then-is_true.result.now _ c.value-in-Choice.ensures.scope c.in-Choice.is c.get-in-Choice.ensures c.in_ok-condition-in-Choice.ensures.value (sym c.is_true.ensures ∙ c.if-is_true.true) c.get-then-is_true.ensures in
     subst (λ (o : Out). IfOk c.value-then-is_true.result (λ v. out_of_lent v.value ≡ o)) whole c.value-then-is_true.ensures.value
 
 pub value-returns-clause-value : goal.value-returns-clause-value
 value-returns-clause-value t c =
-    let whole = choice_else c.args.scope.now c.value-in-Choice.new.scope c.args.node.now c.in-Choice.condition c.get-in-Choice.result.now c.in-Choice.a c.in-Choice.b c.get-else-is_true.result.now _ c.value-in-Choice.ensures.scope c.in-Choice.is c.get-in-Choice.ensures c.in_ok-condition-in-Choice.ensures.value (sym c.is_true-in-Choice.ensures ∙ c.if-is_true.false) c.get-else-is_true.ensures in
+    let whole = choice_else c.args.scope.now c.value-in-Choice.new.scope c.args.node.now c.in-Choice.condition c.get-in-Choice.result.now c.in-Choice.a c.in-Choice.b c.get-else-is_true.result.now _ c.value-in-Choice.ensures.scope c.in-Choice.is c.get-in-Choice.ensures c.in_ok-condition-in-Choice.ensures.value (sym c.is_true.ensures ∙ c.if-is_true.false) c.get-else-is_true.ensures in
     subst (λ (o : Out). IfOk c.value-else-is_true.result (λ v. out_of_lent v.value ≡ o)) whole c.value-else-is_true.ensures.value
 
 pub value-returns-in-Compare-clause-value : goal.value-returns-in-Compare-clause-value
 value-returns-in-Compare-clause-value t c =
-    let whole = compare_whole c.args.scope.now c.value-in-Compare.new.scope c.args.node.now c.in-Compare.a c.in-Compare.b c.get-in-Compare.result.now c.get-in-Compare-2.result.now c.in-Compare.comparison (out_of_lent c.in_ok-a-in-Compare.a.value) c.in_ok-holds-in-Compare.holds c.value-in-Compare.ensures.scope c.in-Compare.is c.get-in-Compare.ensures c.get-in-Compare-2.ensures c.in_ok-a-in-Compare.ensures.value c.in_ok-holds-in-Compare.ensures.holds in
+    let whole = compare_whole c.args.scope.now c.value.new.scope c.args.node.now c.in-Compare.a c.in-Compare.b c.get-in-Compare.result.now c.get-in-Compare-2.result.now c.in-Compare.comparison (out_of_lent c.in_ok-a-in-Compare.a.value) c.in_ok-holds-in-Compare.holds c.value.ensures.scope c.in-Compare.is c.get-in-Compare.ensures c.get-in-Compare-2.ensures c.in_ok-a-in-Compare.ensures.value c.in_ok-holds-in-Compare.ensures.holds in
     ap out_of_lent c.of-in-Compare.ensures.value ∙ truth_out c.in_ok-holds-in-Compare.holds ∙ whole

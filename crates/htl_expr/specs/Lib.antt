@@ -3,6 +3,7 @@ pub mod ComparedValue
 pub mod Fault
 pub mod Grammar
 pub mod Lent
+pub mod Pieces
 pub mod Print
 pub mod Read
 pub mod Remembered

@@ -33,12 +33,12 @@ fn is_at_most(a: &Lent, b: &Lent) -> bool
 }
 
 /// Whether a comparison holds between two operands.
-pub(crate) fn operands_compare(
+pub(crate) fn operands_compare<'a>(
     alloc: Global,
-    scope: &mut Evaluation,
+    scope: &mut Evaluation<'a>,
     comparison: Comparison,
-    a: &Operand,
-    b: &Operand,
+    a: &Operand<'a>,
+    b: &Operand<'a>,
 ) -> Mem<bool>
     requires first { lent.IsOperand scope.old a.now }
     requires second { lent.IsOperand scope.old b.now }
@@ -56,7 +56,12 @@ pub(crate) fn operands_compare(
 }
 
 // Whether two operands are the same. Properties are compared by their numbers.
-fn operands_are_same(alloc: Global, scope: &mut Evaluation, a: &Operand, b: &Operand) -> Mem<bool>
+fn operands_are_same<'a>(
+    alloc: Global,
+    scope: &mut Evaluation<'a>,
+    a: &Operand<'a>,
+    b: &Operand<'a>,
+) -> Mem<bool>
     requires first { lent.IsOperand scope.old a.now }
     requires second { lent.IsOperand scope.old b.now }
     ensures same { IfOk result (λ same. same ≡ spec.is_same (out_of_lent a.now.value) (out_of_lent b.now.value)) }
@@ -70,7 +75,12 @@ fn operands_are_same(alloc: Global, scope: &mut Evaluation, a: &Operand, b: &Ope
 
 // Whether two operands are the same, of which one at least is no property.
 #[tactic(auto, using(crate::proofs::SameItems::same_lists))]
-fn others_are_same(alloc: Global, scope: &mut Evaluation, a: &Operand, b: &Operand) -> Mem<bool>
+fn others_are_same<'a>(
+    alloc: Global,
+    scope: &mut Evaluation<'a>,
+    a: &Operand<'a>,
+    b: &Operand<'a>,
+) -> Mem<bool>
     requires first { lent.IsOperand scope.old a.now }
     requires second { lent.IsOperand scope.old b.now }
     ensures same { IfOk result (λ same. same ≡ spec.is_same (out_of_lent a.now.value) (out_of_lent b.now.value)) }

@@ -1,6 +1,6 @@
 //! What is found out of a resource while expressions are evaluated for it.
 
-ghost use Rattle.std.specs.Prelude.{◌≡◌, [], IfOk, IfSome, nat_eq};
+ghost use Rattle.std.specs.Prelude.{◌≡◌, [], IfOk, IfSome, nat_eq, length};
 ghost use Rattle.std.specs.Cmp.Lexicographic.{pointwise};
 ghost use Rattle.htl_expr.specs.Lent.{property_item};
 ghost use Rattle.htl_expr.specs.Remembered.{compared_by};
@@ -10,6 +10,7 @@ ghost use Rattle.htl_expr.specs.Value as spec;
 use crate::classes::Classes;
 use crate::compare::{are_lists, is_same, is_text};
 use crate::numbered::{Aspect, has_one_number};
+use crate::out::item_text;
 use crate::scope::{Scope, property};
 use sp_base::{Mem, TextBuf};
 use std::alloc::Global;
@@ -26,18 +27,19 @@ pub struct Evaluation<'a> {
     lists: BTreeMap<TextBuf, u64>,
     items: BTreeMap<TextBuf, u64>,
     joined: BTreeMap<TextBuf, TextBuf>,
+    lens: BTreeMap<TextBuf, usize>,
 }
 
 impl<'a> Model for Evaluation<'a> {
     ghost use Rattle.htl_expr.specs.Bindings.{Bindings};
-    ghost use Rattle.htl_expr.specs.Remembered.{Knows, RemembersJoined};
+    ghost use Rattle.htl_expr.specs.Remembered.{Knows, RemembersJoined, RemembersLens};
     ghost use Rattle.htl_expr.specs.declared.numbered.Aspect.TheVariants as aspect;
 
     ghost Value = { Bindings };
 
     ghost view = { λ e. e.scope };
 
-    ghost invariant = { λ e. Knows e.scope aspect.List e.classes e.lists × (Knows e.scope aspect.Item e.classes e.items × RemembersJoined e.scope e.joined) };
+    ghost invariant = { λ e. Knows e.scope aspect.List e.classes e.lists × (Knows e.scope aspect.Item e.classes e.items × (RemembersJoined e.scope e.joined × RemembersLens e.scope e.lens)) };
 }
 
 impl<'a> Evaluation<'a> {
@@ -56,6 +58,7 @@ impl<'a> Evaluation<'a> {
             lists: BTreeMap::new(alloc),
             items: BTreeMap::new(alloc),
             joined: BTreeMap::new(alloc),
+            lens: BTreeMap::new(alloc),
         }
     }
 
@@ -107,6 +110,36 @@ impl<'a> Evaluation<'a> {
             return Ok(true);
         }
         self.has_same_text(alloc, a, b)
+    }
+
+    // How many bytes a property has as an item, if they were counted before.
+    fn known_len(&self, name: &TextBuf) -> Option<usize>
+        ensures { IfSome result (λ len. len ≡ length (property_item self.now name.now)) }
+    {
+        self.lens.get(name).copied()
+    }
+
+    fn remember_len(&mut self, name: TextBuf, len: usize) -> Mem<()>
+        requires { len ≡ length (property_item self.old name) }
+        ensures { self.new ≡ self.old }
+    {
+        self.lens.insert(name, len)?;
+        Ok(())
+    }
+
+    /// How many bytes a property has as an item of a list literal. They are counted once.
+    pub(crate) fn item_len(&mut self, alloc: Global, name: &TextBuf) -> Mem<usize>
+        ensures len { IfOk result (λ len. len ≡ length (property_item self.old name.now)) }
+        ensures scope { self.new ≡ self.old }
+    {
+        if let Some(len) = self.known_len(name) {
+            return Ok(len);
+        }
+        let len = item_text(alloc, &property(&self.scope, name.text()))?
+            .text()
+            .len();
+        self.remember_len(name.duplicate(alloc)?, len)?;
+        Ok(len)
     }
 
     /// Whether two properties have the same kind and the same content.

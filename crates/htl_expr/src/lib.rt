@@ -18,6 +18,7 @@ mod numbered;
 mod numbers;
 mod options;
 mod out;
+mod pieces;
 mod print;
 mod reader;
 mod room;

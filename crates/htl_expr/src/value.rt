@@ -1,17 +1,19 @@
 //! The value of a tree.
 
-ghost use Rattle.std.specs.Prelude.{◌≡◌, IfOk, map, option_map, if◌then◌else◌, not, true};
+ghost use Rattle.std.specs.Prelude.{◌≡◌, IfOk, IfSome, length, map, if◌then◌else◌, not, true};
 ghost use Rattle.htl_expr.specs.Value as spec;
-ghost use Rattle.htl_expr.specs.Lent.{out_of_lent, plain_item, IsOperand, IsPropertyItemIfNamed};
+ghost use Rattle.htl_expr.specs.Lent.{out_of_lent, plain_item, property_item, listed_texts, is_list, IsOperand};
+ghost use Rattle.htl_expr.specs.Pieces.{piece_text, ArePieces};
 ghost use Rattle.htl_expr.specs.declared.out.Out.TheVariants as out;
 
 use crate::compare::operands_compare;
 use crate::evaluation::Evaluation;
 use crate::expression::Expr;
 use crate::lent::{Lent, Operand, is_true};
-use crate::literals::item_property;
+use crate::lists::truth_text;
 use crate::node::{Comparison, ExprNode};
 use crate::out::{Out, owned};
+use crate::pieces::{Piece, all_pieces, piece_alone};
 use crate::scope::{Scope, property, resource};
 use sp_base::{Mem, TextBuf};
 use sqlite_items::Items;
@@ -97,30 +99,84 @@ fn or_values<'a>(
     Ok(last)
 }
 
-// The property that is alone in a list literal.
-#[tactic(auto, using(crate::proofs::Items::only_item))]
-fn only_property<'a>(scope: &Evaluation<'a>, item: &Operand<'a>) -> Option<&'a TextBuf>
-    requires { IsOperand scope.now item.now }
-    ensures { IsPropertyItemIfNamed scope.now (option_map (λ name. name.now) result) (plain_item item.now.value) }
+// The piece that a value is which is no property and no list.
+fn value_piece<'a>(scope: &Evaluation<'a>, value: &Lent<'a>) -> Option<Piece<'a>>
+    ensures { IfSome result (λ piece. plain_item value.now ≡ piece_text scope.now piece) }
 {
-    if let Lent::Items(values) = &item.value {
-        if values.len() == 1 {
-            return item_property(&item.items, 0);
-        }
+    let _ = scope;
+    match value {
+        Lent::Nothing => Some(Piece::Text("")),
+        Lent::Truth(truth) => Some(Piece::Text(truth_text(*truth))),
+        Lent::Long(number) => Some(Piece::Long(*number)),
+        Lent::Text(text) => Some(Piece::Text(text)),
+        _ => None,
     }
-    None
 }
 
-// The property whose text an item has, where one is known: itself, or the one that is alone in it.
-#[tactic(auto, using(crate::proofs::Items::property_as_item))]
-fn named_item<'a>(scope: &Evaluation<'a>, item: &Operand<'a>) -> Option<&'a TextBuf>
-    requires { IsOperand scope.now item.now }
-    ensures { IsPropertyItemIfNamed scope.now (option_map (λ name. name.now) result) (plain_item item.now.value) }
+// The pieces of a list literal, where they are known.
+#[tactic(auto, using(crate::proofs::Items::literal_of_all, crate::proofs::Items::empty_literal))]
+fn literal_pieces<'a>(
+    alloc: Global,
+    scope: &Evaluation<'a>,
+    literal: &Operand<'a>,
+    count: usize,
+) -> Mem<Items<Piece<'a>>>
+    requires operand { IsOperand scope.now literal.now }
+    requires list { is_list (out_of_lent literal.now.value) ≡ true }
+    requires count { count ≡ length (listed_texts (out_of_lent literal.now.value)) }
+    ensures { IfOk result (λ pieces. ArePieces scope.now pieces (plain_item literal.now.value)) }
 {
-    match item.property {
-        Some(name) => Some(name),
-        None => only_property(scope, item),
+    let _ = scope;
+    if count == 0 {
+        return piece_alone(alloc, Piece::Text(""));
     }
+    if literal.items.len() != count {
+        return Ok(Items::new(alloc));
+    }
+    all_pieces(alloc, literal.items.as_slice())
+}
+
+// A value that is one piece, or nothing known.
+#[tactic(auto, using(crate::proofs::PieceLemmas::alone))]
+fn pieces_of_value<'a>(
+    alloc: Global,
+    scope: &Evaluation<'a>,
+    value: &Lent<'a>,
+) -> Mem<Items<Piece<'a>>>
+    ensures { IfOk result (λ pieces. ArePieces scope.now pieces (plain_item value.now)) }
+{
+    match value_piece(scope, value) {
+        Some(piece) => piece_alone(alloc, piece),
+        None => Ok(Items::new(alloc)),
+    }
+}
+
+// A property as a piece.
+#[tactic(auto, using(crate::proofs::Items::property_piece))]
+fn pieces_of_property<'a>(
+    alloc: Global,
+    scope: &Evaluation<'a>,
+    name: &'a TextBuf,
+) -> Mem<Items<Piece<'a>>>
+    ensures { IfOk result (λ pieces. ArePieces scope.now pieces (property_item scope.now name.now)) }
+{
+    let _ = scope;
+    piece_alone(alloc, Piece::Property(name))
+}
+
+// The pieces of an item of a list literal, where they are known.
+#[tactic(auto, using(crate::proofs::Items::of_property))]
+fn pieces_of<'a>(alloc: Global, scope: &Evaluation<'a>, item: &Operand<'a>) -> Mem<Items<Piece<'a>>>
+    requires { IsOperand scope.now item.now }
+    ensures { IfOk result (λ pieces. ArePieces scope.now pieces (plain_item item.now.value)) }
+{
+    if let Some(name) = item.property {
+        return pieces_of_property(alloc, scope, name);
+    }
+    if let Lent::Items(values) = &item.value {
+        return literal_pieces(alloc, scope, item, values.len());
+    }
+    pieces_of_value(alloc, scope, &item.value)
 }
 
 // The value of a list literal.
@@ -135,16 +191,16 @@ fn list_value<'a>(
     ensures scope { scope.new ≡ scope.old }
 {
     let mut values = Items::new(alloc);
-    let mut names = Items::new(alloc);
+    let mut pieces = Items::new(alloc);
     for item in items {
         let item = value(alloc, scope, item)?;
-        names.push(named_item(scope, &item))?;
+        pieces.push(pieces_of(alloc, scope, &item)?)?;
         values.push(item.value)?;
     }
     Ok(Operand {
         value: Lent::Items(values),
         property: None,
-        items: names,
+        items: pieces,
     })
 }
 

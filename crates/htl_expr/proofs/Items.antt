@@ -1,5 +1,5 @@
 -- The items of a list literal and their pieces.
-use Rattle.std.proofs.Common.{◌≡◌, ◌+◌, ℕ, zero, suc, true, Bor, List, [], ◌∷◌, ◌++◌, Some, codes, length, get_or, map, refl, sym, ap, subst, ◌∙◌}
+use Rattle.std.proofs.Common.{◌≡◌, ◌+◌, ℕ, zero, suc, true, Bor, List, [], ◌∷◌, ◌++◌, Some, codes, length, get_or, map, refl, sym, ap, subst, ◌∙◌, append-nil}
 use mathlib.Core.List.{map-append}
 use Rattle.std.proofs.lemmas.List.{length-append, length-map}
 use Rattle.sp_base.specs.declared.text.TextBuf.{TextBuf}
@@ -9,7 +9,8 @@ use Rattle.htl_expr.specs.declared.pieces.Piece.{Piece}
 use Rattle.htl_expr.specs.declared.pieces.Piece.TheVariants as piece
 use Rattle.htl_expr.specs.Print.{concatenation, plain}
 use Rattle.htl_expr.specs.declared.out.Out.TheVariants as out
-use Rattle.htl_expr.specs.Lent.{is_list, property_item, listed_texts, IsPropertyIfNamed}
+use Rattle.htl_expr.specs.Value.{property}
+use Rattle.htl_expr.specs.Lent.{is_list, property_item, listed_texts, AreRows, IsPropertyIfNamed}
 use Rattle.htl_expr.specs.Pieces.{piece_text, ArePieces, IsAll}
 use Rattle.htl_expr.proofs.PieceLemmas.{alone, of_all}
 
@@ -53,6 +54,17 @@ listed out.Nothing e = absurd cc
 listed (out.Truth b) e = absurd cc
 listed (out.Long n) e = absurd cc
 listed (out.Text text) e = absurd cc
+
+-- a list with one item has its text
+pub only_item : (scope : Bindings) (name : Bor TextBuf) (v : Out) → v ≡ property scope name.now → length (listed_texts v) ≡ 1 → AreRows scope ((piece.Property name ∷ []) ∷ []) v
+only_item scope name v is one (suc place) = tt
+only_item scope name (out.List []) is one zero = absurd cc
+only_item scope name (out.List (t ∷ [])) is one zero = sym (append-nil t) ∙ ap (plain (codes ",")) is ∙ sym (append-nil (property_item scope name.now))
+only_item scope name (out.List (t ∷ u ∷ texts)) is one zero = absurd cc
+only_item scope name out.Nothing is one zero = absurd cc
+only_item scope name (out.Truth b) is one zero = absurd cc
+only_item scope name (out.Long n) is one zero = absurd cc
+only_item scope name (out.Text text) is one zero = absurd cc
 
 -- a list without items has the text of an empty piece
 pub empty_literal : (scope : Bindings) (v : Out) (text : Piece) → is_list v ≡ true → length (listed_texts v) ≡ 0 → piece_text scope text ≡ [] → ArePieces scope (text ∷ []) (plain (codes ",") v)

@@ -2,7 +2,7 @@
 
 ghost use Rattle.std.specs.Prelude.{◌≡◌, IfOk, IfSome, length, map, if◌then◌else◌, not, true};
 ghost use Rattle.htl_expr.specs.Value as spec;
-ghost use Rattle.htl_expr.specs.Lent.{out_of_lent, plain_item, property_item, listed_texts, is_list, IsOperand};
+ghost use Rattle.htl_expr.specs.Lent.{out_of_lent, plain_item, property_item, listed_texts, is_list, AreRows, IsOperand};
 ghost use Rattle.htl_expr.specs.Pieces.{piece_text, ArePieces};
 ghost use Rattle.htl_expr.specs.declared.out.Out.TheVariants as out;
 
@@ -14,6 +14,7 @@ use crate::lists::truth_text;
 use crate::node::{Comparison, ExprNode};
 use crate::out::{Out, owned};
 use crate::pieces::{Piece, all_pieces, piece_alone};
+use crate::same::item_count;
 use crate::scope::{Scope, property, resource};
 use sp_base::{Mem, TextBuf};
 use sqlite_items::Items;
@@ -204,16 +205,41 @@ fn list_value<'a>(
     })
 }
 
-// The property of this name, or nothing.
-fn property_operand<'a>(alloc: Global, scope: &Evaluation<'a>, name: &'a TextBuf) -> Operand<'a>
-    ensures value { out_of_lent result.value ≡ spec.property scope.now name.now }
-    ensures operand { IsOperand scope.now result }
+// The pieces of the items of a property. The only item of a list has the text that the list has as an item.
+#[tactic(auto, using(crate::proofs::Items::only_item))]
+fn property_items<'a>(
+    alloc: Global,
+    scope: &Evaluation<'a>,
+    name: &'a TextBuf,
+    value: &Lent<'a>,
+) -> Mem<Items<Items<Piece<'a>>>>
+    requires { out_of_lent value.now ≡ spec.property scope.now name.now }
+    ensures { IfOk result (λ rows. AreRows scope.now rows (out_of_lent value.now)) }
 {
-    Operand {
-        value: property(scope.scope(), name.text()),
-        property: Some(name),
-        items: Items::new(alloc),
+    let _ = scope;
+    let mut rows = Items::new(alloc);
+    if item_count(value) == 1 {
+        rows.push(piece_alone(alloc, Piece::Property(name))?)?;
     }
+    Ok(rows)
+}
+
+// The property of this name, or nothing.
+fn property_operand<'a>(
+    alloc: Global,
+    scope: &Evaluation<'a>,
+    name: &'a TextBuf,
+) -> Mem<Operand<'a>>
+    ensures value { IfOk result (λ v. out_of_lent v.value ≡ spec.property scope.now name.now) }
+    ensures operand { IfOk result (IsOperand scope.now) }
+{
+    let value = property(scope.scope(), name.text());
+    let items = property_items(alloc, scope, name, &value)?;
+    Ok(Operand {
+        value,
+        property: Some(name),
+        items,
+    })
 }
 
 // Whether a comparison holds between an operand and the value of a tree.
@@ -264,7 +290,7 @@ pub(crate) fn value<'a>(
         ExprNode::Long(number) => Ok(Operand::of(alloc, Lent::Long(*number))),
         ExprNode::Truth(truth) => Ok(Operand::of(alloc, Lent::Truth(*truth))),
         ExprNode::Variable(_) | ExprNode::Access(_, _) => Ok(Operand::of(alloc, Lent::Nothing)),
-        ExprNode::Property(name) => Ok(property_operand(alloc, scope, name)),
+        ExprNode::Property(name) => property_operand(alloc, scope, name),
         ExprNode::Resource(name) => Ok(Operand::of(alloc, resource(scope.scope(), name.text()))),
         ExprNode::List(items) => list_value(alloc, scope, items.as_slice()),
         ExprNode::Not(operand) => opposite(alloc, scope, operand.get()),

@@ -1,5 +1,5 @@
 -- Texts that are put together of pieces.
-use Rattle.std.proofs.Common.{◌≡◌, ◌≢◌, ◌<◌, ◌≤◌, ◌+◌, ℕ, zero, suc, nat_eq, Bool, true, false, ◌==◌, Result, Ok, Err, IfOk, IfSome, List, [], ◌∷◌, ◌++◌, codes, flat_map, Option, Some, length, get_or, map, take, refl, sym, ap, subst, ◌∙◌, append-nil, append_assoc, arith}
+use Rattle.std.proofs.Common.{◌≡◌, ◌≢◌, ◌<◌, ◌+◌, ℕ, zero, suc, nat_eq, Bool, true, false, ◌==◌, Result, Ok, Err, IfOk, IfSome, List, [], ◌∷◌, ◌++◌, codes, flat_map, Option, Some, length, get_or, map, take, refl, sym, ap, ◌∙◌, append-nil, append_assoc, arith}
 use Rattle.std.proofs.lemmas.List.{length-append, length-map, take_all, take_more}
 use Rattle.std.proofs.lemmas.Slice.Eq.{bytes_eq-Decides}
 use Rattle.std.specs.Cmp.Lexicographic.{pointwise}

@@ -1,4 +1,4 @@
-use Rattle.std.proofs.Common.{◌≡◌, ◌≢◌, ◌==◌, length, false, arith, sym, ap, ◌∙◌}
+use Rattle.std.proofs.Common.{◌≢◌, length, arith, sym, ◌∙◌}
 use Rattle.htl_expr.specs.Pieces.{piece_texts, with_commas}
 use Rattle.htl_expr.proofs.PieceLemmas.{told_the_same, told_at_place, told_by_length}
 use Rattle.htl_expr.proofs.pieces.told_by_pieces.Goals as goal

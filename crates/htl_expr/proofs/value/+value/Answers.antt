@@ -1,4 +1,4 @@
-use Rattle.std.proofs.Common.{◌≡◌, ◌∙◌, ℕ, List, [], IfOk, get_or, map, arith, sym, ap, subst}
+use Rattle.std.proofs.Common.{◌≡◌, ◌∙◌, List, [], IfOk, get_or, map, arith, sym, ap, subst}
 use Rattle.std.proofs.lemmas.List.{take_all}
 use Rattle.htl_expr.specs.declared.out.Out.{Out}
 use Rattle.htl_expr.specs.declared.out.Out.TheVariants as out

@@ -17,6 +17,7 @@ pub mod EmptyJoin
 pub mod Chains
 pub mod Trees
 pub mod SameItems
+pub mod PieceLemmas
 pub mod Items
 pub mod Places
 pub mod Remembered

@@ -1,10 +1,11 @@
 -- The order of two lists, by their places.
-use Rattle.std.proofs.Common.{◌≡◌, ◌<◌, ◌≤◌, ◌+◌, ◌-◌, ℕ, zero, suc, Bool, true, false, List, [], ◌∷◌, length, drop, get_or, Ordering, refl, sym, ap, ◌∙◌, arith}
+use Rattle.std.proofs.Common.{◌≡◌, ◌<◌, ◌+◌, ℕ, zero, suc, true, false, List, [], ◌∷◌, length, drop, get_or, Ordering, refl, sym, ap, ◌∙◌, arith}
 use Rattle.std.proofs.lemmas.Bool.Decides.{nat_tests}
-use Rattle.std.proofs.lemmas.List.{at_drop_more, drop_all, length-drop}
+use Rattle.std.proofs.lemmas.List.{at_drop_more, drop_all}
 use Rattle.std.specs.Cmp.Lexicographic.{slice_cmp}
 use Rattle.std.specs.Ordering.{nat_cmp, ordering_then, is_ne}
 use Rattle.std.specs.declared.cmp.Ordering.TheVariants.{Less, Equal, Greater}
+use Rattle.htl_expr.specs.ComparedValue.{by_texts}
 
 -- a text alone has one place
 pub only_place : (text : List ℕ) (place : ℕ) → place < length (text ∷ []) → get_or (text ∷ []) place [] ≡ text
@@ -39,26 +40,33 @@ differs_here order xs ys place none here whole lt more is differs inv =
     then Equal rest e = absurd cc
     then Greater rest e = refl
 
--- a list that goes on is above one that ends
-pub goes_on : {X : Type 0} (order : X → X → Ordering) (xs ys : List X) (place : ℕ) (whole : Ordering) → place < length xs → place ≡ length ys → from order place xs ys ≡ whole → Greater ≡ whole
-goes_on {X = X} order xs ys place whole lt end inv =
-    sym (above (drop place xs) (omega (arith, length-drop place xs, lt))) ∙ ap (slice_cmp order (drop place xs)) (sym (drop_all place ys (omega (arith, end)))) ∙ inv
+-- where both end, no place differs
+pub both_end : {X : Type 0} (order : X → X → Ordering) (xs ys : List X) (place : ℕ) (whole : Ordering) → place ≡ length xs → place ≡ length ys → from order place xs ys ≡ whole → Equal ≡ whole
+both_end order xs ys place whole end other_end inv =
+    sym (ap (λ rest. slice_cmp order rest (drop place ys)) (drop_all place xs (omega (arith, end))) ∙ ap (slice_cmp order []) (drop_all place ys (omega (arith, other_end)))) ∙ inv
+
+-- lists that are as long are told apart by their texts
+pub as_many : (xs ys : List (List ℕ)) → is_ne (nat_cmp (length xs) (length ys)) ≡ false → slice_cmp (slice_cmp nat_cmp) xs ys ≡ by_texts xs ys
+as_many xs ys e = go (nat_cmp (length xs) (length ys)) (slice_cmp (slice_cmp nat_cmp) xs ys) e
   where
-    above : (zs : List X) → 0 < length zs → slice_cmp order zs [] ≡ Greater
-    above [] lt = absurd (omega (arith, lt))
-    above (z ∷ zs) lt = refl
+    go : (o rest : Ordering) → is_ne o ≡ false → rest ≡ ordering_then o rest
+    go Less rest e = absurd cc
+    go Equal rest e = refl
+    go Greater rest e = absurd cc
 
--- where the first ends, the lengths decide
-pub ends : {X : Type 0} (order : X → X → Ordering) (xs ys : List X) (place : ℕ) (whole : Ordering) → place ≡ length xs → place ≤ length ys → from order place xs ys ≡ whole → nat_cmp (length xs) (length ys) ≡ whole
-ends {X = X} order xs ys place whole end le inv =
-    sym (below (drop place ys) (length xs) (length ys) (omega (arith, length-drop place ys, end, le))) ∙ ap (λ rest. slice_cmp order rest (drop place ys)) (sym (drop_all place xs (omega (arith, end)))) ∙ inv
+-- and others by their lengths
+pub unlike : (xs ys : List (List ℕ)) → is_ne (nat_cmp (length xs) (length ys)) ≡ true → nat_cmp (length xs) (length ys) ≡ by_texts xs ys
+unlike xs ys e = go (nat_cmp (length xs) (length ys)) (slice_cmp (slice_cmp nat_cmp) xs ys) e
   where
-    less : (x y : ℕ) → x < y → Less ≡ nat_cmp x y
-    less x y lt = grind (arith, nat_tests)
+    go : (o rest : Ordering) → is_ne o ≡ true → o ≡ ordering_then o rest
+    go Less rest e = refl
+    go Equal rest e = absurd cc
+    go Greater rest e = refl
 
-    equal : (x y : ℕ) → x ≡ y → Equal ≡ nat_cmp x y
-    equal x y e = grind (arith, nat_tests)
-
-    below : (zs : List X) (x y : ℕ) → x + length zs ≡ y → slice_cmp order [] zs ≡ nat_cmp x y
-    below [] x y e = equal x y (omega (arith, e))
-    below (z ∷ zs) x y e = less x y (omega (arith, e))
+-- a text is at its own place in the order
+pub texts_alike : (xs : List ℕ) → Equal ≡ slice_cmp nat_cmp xs xs
+texts_alike [] = refl
+texts_alike (x ∷ xs) = texts_alike xs ∙ sym (ap (λ o. ordering_then o (slice_cmp nat_cmp xs xs)) (nat_alike x))
+  where
+    nat_alike : (x : ℕ) → nat_cmp x x ≡ Equal
+    nat_alike x = grind (arith, nat_tests)

@@ -1,5 +1,5 @@
 -- What an evaluation remembers stays true when it remembers more.
-use Rattle.std.proofs.Common.{◌≡◌, ◌<◌, ◌+◌, ◌==◌, ℕ, nat_eq, Bool, true, false, cond, ◌&&◌, List, [], ◌∷◌, Option, None, Some, IfSome, refl, sym, ap, subst, ◌∙◌, ◌⊎◌, inl, inr, arith}
+use Rattle.std.proofs.Common.{◌≡◌, ◌<◌, ◌+◌, ◌==◌, ℕ, nat_eq, Bool, true, false, cond, ◌&&◌, List, [], ◌∷◌, length, Option, None, Some, IfSome, refl, sym, ap, subst, ◌∙◌, ◌⊎◌, inl, inr, arith}
 use Rattle.std.proofs.lemmas.Bool.Decides.{nat_tests}
 use Rattle.std.proofs.lemmas.Map.Lookups.{exact_bytes}
 use Rattle.std.proofs.lemmas.Map.Views.{tells_apart}
@@ -7,13 +7,16 @@ use Rattle.std.proofs.lemmas.Slice.Eq.{bytes_eq-Decides}
 use Rattle.std.specs.Bool.{Decides}
 use Rattle.std.specs.BTreeMap.{BTreeMap, get, Updates, is_at}
 use Rattle.std.specs.Map.{lookup}
-use Rattle.std.specs.Ordering.{nat_cmp}
+use Rattle.std.specs.Ordering.{nat_cmp, is_eq, ordering_then}
+use Rattle.std.specs.declared.cmp.Ordering.{Ordering}
+use Rattle.std.specs.declared.cmp.Ordering.TheVariants.{Less, Equal, Greater}
 use Rattle.std.specs.Cmp.Lexicographic.{slice_cmp, pointwise, pointwise_decides, lists_ties, texts_ties}
 use Rattle.htl_expr.specs.Bindings.{Bindings}
 use Rattle.htl_expr.specs.declared.numbered.Aspect.{Aspect}
 use Rattle.htl_expr.specs.declared.scope.Scope.{Scope}
-use Rattle.htl_expr.specs.Content.{by_texts, number_in, TellsApart, AreNumbered, Keeps}
-use Rattle.htl_expr.specs.Remembered.{content_by, Knows, RemembersJoined}
+use Rattle.htl_expr.specs.ComparedValue.{by_texts, number_in, TellsApart, AreNumbered, Keeps}
+use Rattle.htl_expr.specs.Lent.{property_item}
+use Rattle.htl_expr.specs.Remembered.{compared_by, Knows, RemembersJoined, RemembersLens}
 use Rattle.htl_expr.specs.Print.{plain}
 use Rattle.sp_base.specs.Names.{by_name}
 use Rattle.htl_expr.specs.Value.{property}
@@ -27,9 +30,14 @@ Numbers = List (List (List ℕ) × ℕ)
 texts_decide : (x y : List (List ℕ)) → Decides (pointwise (pointwise nat_eq) x y) (x ≡ y)
 texts_decide = pointwise_decides bytes_eq-Decides
 
--- contents at one place of the order are one
+-- compared values at one place of the order are one
 texts_told : (x y : List (List ℕ)) → is_at (by_texts x) y ≡ true → x ≡ y
-texts_told x y e = (texts_decide x y).0 (lists_ties (slice_cmp nat_cmp) texts_ties x y ∙ e)
+texts_told x y e = (texts_decide x y).0 (lists_ties (slice_cmp nat_cmp) texts_ties x y ∙ behind (nat_cmp (length x) (length y)) (slice_cmp (slice_cmp nat_cmp) x y) e)
+  where
+    behind : (o rest : Ordering) → is_eq (ordering_then o rest) ≡ true → is_eq rest ≡ true
+    behind Less rest e = absurd cc
+    behind Equal rest e = e
+    behind Greater rest e = absurd cc
 
 some_is : (x y : ℕ) → Some x ≡ Some y → x ≡ y
 some_is x y e = cc
@@ -44,48 +52,48 @@ weaker : (P Q : ℕ → Type 0) (o : Option ℕ) → ((n : ℕ) → P n → Q n)
 weaker P Q None f h = tt
 weaker P Q (Some n) f h = f n h
 
--- a content that is given a number
-pub keeps_more : (old new : Table) (content : List (List ℕ)) (next : ℕ) → Updates by_texts old new content (Some next) → number_in old.entries content ≡ None → Keeps old.entries new.entries
-keeps_more old new content next updates none texts number has = updates.0 texts ∙ chosen (is_at (by_texts content) texts) refl
+-- a compared value that is given a number
+pub keeps_more : (old new : Table) (compared : List (List ℕ)) (next : ℕ) → Updates by_texts old new compared (Some next) → number_in old.entries compared ≡ None → Keeps old.entries new.entries
+keeps_more old new compared next updates none texts number has = updates.0 texts ∙ chosen (is_at (by_texts compared) texts) refl
   where
-    chosen : (t : Bool) → is_at (by_texts content) texts ≡ t → cond t (Some next) (number_in old.entries texts) ≡ Some number
-    chosen true e = absurd (clash number (number_in old.entries texts) has (ap (number_in old.entries) (sym (texts_told content texts e)) ∙ none))
+    chosen : (t : Bool) → is_at (by_texts compared) texts ≡ t → cond t (Some next) (number_in old.entries texts) ≡ Some number
+    chosen true e = absurd (clash number (number_in old.entries texts) has (ap (number_in old.entries) (sym (texts_told compared texts e)) ∙ none))
     chosen false e = has
 
 pub keeps_same : (old new : Table) → new.entries ≡ old.entries → Keeps old.entries new.entries
 keeps_same old new same texts number has = ap (λ (es : List (List (List ℕ) × ℕ)). number_in es texts) same ∙ has
 
--- what has a number after a content was given one
-one_of : (old new : Table) (content : List (List ℕ)) (next : ℕ) → Updates by_texts old new content (Some next) → (texts : List (List ℕ)) (number : ℕ) → number_in new.entries texts ≡ Some number
-    → ((content ≡ texts) × (next ≡ number)) ⊎ (number_in old.entries texts ≡ Some number)
-one_of old new content next updates texts number has = chosen (is_at (by_texts content) texts) refl (sym (updates.0 texts) ∙ has)
+-- what has a number after a compared value was given one
+one_of : (old new : Table) (compared : List (List ℕ)) (next : ℕ) → Updates by_texts old new compared (Some next) → (texts : List (List ℕ)) (number : ℕ) → number_in new.entries texts ≡ Some number
+    → ((compared ≡ texts) × (next ≡ number)) ⊎ (number_in old.entries texts ≡ Some number)
+one_of old new compared next updates texts number has = chosen (is_at (by_texts compared) texts) refl (sym (updates.0 texts) ∙ has)
   where
-    chosen : (t : Bool) → is_at (by_texts content) texts ≡ t → cond t (Some next) (number_in old.entries texts) ≡ Some number → ((content ≡ texts) × (next ≡ number)) ⊎ (number_in old.entries texts ≡ Some number)
-    chosen true e h = inl (texts_told content texts e, some_is next number h)
+    chosen : (t : Bool) → is_at (by_texts compared) texts ≡ t → cond t (Some next) (number_in old.entries texts) ≡ Some number → ((compared ≡ texts) × (next ≡ number)) ⊎ (number_in old.entries texts ≡ Some number)
+    chosen true e h = inl (texts_told compared texts e, some_is next number h)
     chosen false e h = inr h
 
-pub numbered_more : (old new : Table) (content : List (List ℕ)) (next : ℕ) → Updates by_texts old new content (Some next) → AreNumbered old.entries next → AreNumbered new.entries (next + 1)
-numbered_more old new content next updates known = (
-  (λ a b number h k. both a b number (one_of old new content next updates a number h) (one_of old new content next updates b number k)),
+pub numbered_more : (old new : Table) (compared : List (List ℕ)) (next : ℕ) → Updates by_texts old new compared (Some next) → AreNumbered old.entries next → AreNumbered new.entries (next + 1)
+numbered_more old new compared next updates known = (
+  (λ a b number h k. both a b number (one_of old new compared next updates a number h) (one_of old new compared next updates b number k)),
   λ texts. below texts (number_in new.entries texts) refl,
 )
   where
     under : (texts : List (List ℕ)) (number : ℕ) → number_in old.entries texts ≡ Some number → number < next
     under texts number h = if_some (λ n. n < next) (number_in old.entries texts) number h (known.1 texts)
 
-    both : (a b : List (List ℕ)) (number : ℕ) → ((content ≡ a) × (next ≡ number)) ⊎ (number_in old.entries a ≡ Some number) → ((content ≡ b) × (next ≡ number)) ⊎ (number_in old.entries b ≡ Some number) → a ≡ b
+    both : (a b : List (List ℕ)) (number : ℕ) → ((compared ≡ a) × (next ≡ number)) ⊎ (number_in old.entries a ≡ Some number) → ((compared ≡ b) × (next ≡ number)) ⊎ (number_in old.entries b ≡ Some number) → a ≡ b
     both a b number (inl p) (inl q) = sym p.0 ∙ q.0
     both a b number (inl p) (inr q) = absurd (omega (arith, p.1, under b number q))
     both a b number (inr p) (inl q) = absurd (omega (arith, q.1, under a number p))
     both a b number (inr p) (inr q) = known.0 a b number p q
 
-    bound : (texts : List (List ℕ)) (number : ℕ) → ((content ≡ texts) × (next ≡ number)) ⊎ (number_in old.entries texts ≡ Some number) → number < next + 1
+    bound : (texts : List (List ℕ)) (number : ℕ) → ((compared ≡ texts) × (next ≡ number)) ⊎ (number_in old.entries texts ≡ Some number) → number < next + 1
     bound texts number (inl p) = omega (arith, p.1)
     bound texts number (inr q) = omega (arith, under texts number q)
 
     below : (texts : List (List ℕ)) (o : Option ℕ) → number_in new.entries texts ≡ o → IfSome o (λ n. n < next + 1)
     below texts None e = tt
-    below texts (Some n) e = bound texts n (one_of old new content next updates texts n e)
+    below texts (Some n) e = bound texts n (one_of old new compared next updates texts n e)
 
 pub numbered_same : (old new : Table) (next : ℕ) → new.entries ≡ old.entries → AreNumbered old.entries next → AreNumbered new.entries next
 numbered_same old new next same known = (
@@ -96,30 +104,30 @@ numbered_same old new next same known = (
 -- what is known of a name stays known
 pub known_still : (scope : Bindings) (of_it : Aspect) (old new : Numbers) (known : BTreeMap (List ℕ) ℕ) → Keeps old new → Knows scope of_it old known → Knows scope of_it new known
 known_still scope of_it old new known keeps knows name =
-    weaker (λ n. number_in old (content_by scope of_it name) ≡ Some n) (λ n. number_in new (content_by scope of_it name) ≡ Some n) (get by_name known name) (keeps (content_by scope of_it name)) (knows name)
+    weaker (λ n. number_in old (compared_by scope of_it name) ≡ Some n) (λ n. number_in new (compared_by scope of_it name) ≡ Some n) (get by_name known name) (keeps (compared_by scope of_it name)) (knows name)
 
 pub known_more : (scope : Bindings) (of_it : Aspect) (classes : Numbers) (old new : BTreeMap (List ℕ) ℕ) (name : List ℕ) (number : ℕ) → Updates by_name old new name (Some number)
-    → number_in classes (content_by scope of_it name) ≡ Some number → Knows scope of_it classes old → Knows scope of_it classes new
+    → number_in classes (compared_by scope of_it name) ≡ Some number → Knows scope of_it classes old → Knows scope of_it classes new
 known_more scope of_it classes old new name number updates is knows q =
     subst (λ found. IfSome found IsRight) (sym (updates.0 q)) (chosen (is_at (by_name name) q) refl)
   where
     IsRight : ℕ → Type 0
-    IsRight n = number_in classes (content_by scope of_it q) ≡ Some n
+    IsRight n = number_in classes (compared_by scope of_it q) ≡ Some n
 
     chosen : (t : Bool) → is_at (by_name name) q ≡ t → IfSome (cond t (Some number) (get by_name old q)) IsRight
-    chosen true e = ap (λ p. number_in classes (content_by scope of_it p)) (sym (tells_apart exact_bytes name q e)) ∙ is
+    chosen true e = ap (λ p. number_in classes (compared_by scope of_it p)) (sym (tells_apart exact_bytes name q e)) ∙ is
     chosen false e = knows q
 
 pub known_same : (scope : Bindings) (of_it : Aspect) (classes : Numbers) (old new : BTreeMap (List ℕ) ℕ) → new.entries ≡ old.entries → Knows scope of_it classes old → Knows scope of_it classes new
 known_same scope of_it classes old new same knows q =
-    subst (λ (es : List (List ℕ × ℕ)). IfSome (lookup (is_at (by_name q)) es) (λ n. number_in classes (content_by scope of_it q) ≡ Some n)) (sym same) (knows q)
+    subst (λ (es : List (List ℕ × ℕ)). IfSome (lookup (is_at (by_name q)) es) (λ n. number_in classes (compared_by scope of_it q) ≡ Some n)) (sym same) (knows q)
 
 pub what_is_known : (scope : Bindings) (of_it : Aspect) (classes : Numbers) (known : BTreeMap (List ℕ) ℕ) (name : List ℕ) (found : Option ℕ) (number : ℕ) → found ≡ get by_name known name → found ≡ Some number
-    → Knows scope of_it classes known → number_in classes (content_by scope of_it name) ≡ Some number
+    → Knows scope of_it classes known → number_in classes (compared_by scope of_it name) ≡ Some number
 what_is_known scope of_it classes known name found number is some knows =
-    if_some (λ n. number_in classes (content_by scope of_it name) ≡ Some n) (get by_name known name) number (sym is ∙ some) (knows name)
+    if_some (λ n. number_in classes (compared_by scope of_it name) ≡ Some n) (get by_name known name) number (sym is ∙ some) (knows name)
 
--- two contents are one where their numbers are
+-- two compared values are one where their numbers are
 pub same_numbers : (classes : Numbers) (x y : List (List ℕ)) (n k : ℕ) → TellsApart classes → number_in classes x ≡ Some n → number_in classes y ≡ Some k → (n == k) ≡ pointwise (pointwise nat_eq) x y
 same_numbers classes x y n k apart first second = go (n == k) refl
   where
@@ -159,3 +167,15 @@ remembers_more_joined scope old new name text updates is known q =
 pub what_is_joined : (scope : Scope) (known : BTreeMap (List ℕ) (List ℕ)) (name : List ℕ) (found : Option (List ℕ)) → found ≡ get by_name known name → RemembersJoined scope known
     → IfSome found (λ text. text ≡ plain [] (property scope name))
 what_is_joined scope known name found is remembers = subst (λ (o : Option (List ℕ)). IfSome o (λ text. text ≡ plain [] (property scope name))) (sym is) (remembers name)
+
+pub remembers_more_lens : (scope : Scope) (old new : BTreeMap (List ℕ) ℕ) (name : List ℕ) (len : ℕ) → Updates by_name old new name (Some len)
+    → len ≡ length (property_item scope name) → RemembersLens scope old → RemembersLens scope new
+remembers_more_lens scope old new name len updates is known q =
+    subst (λ found. IfSome found IsRight) (sym (updates.0 q)) (chosen (is_at (by_name name) q) refl)
+  where
+    IsRight : ℕ → Type 0
+    IsRight n = n ≡ length (property_item scope q)
+
+    chosen : (t : Bool) → is_at (by_name name) q ≡ t → IfSome (cond t (Some len) (get by_name old q)) IsRight
+    chosen true e = is ∙ ap (λ p. length (property_item scope p)) (tells_apart exact_bytes name q e)
+    chosen false e = known q

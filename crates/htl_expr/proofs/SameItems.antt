@@ -1,13 +1,8 @@
 -- Two lists have the same items where they are as long and no two items at one place differ.
-use Rattle.std.proofs.Common.{◌≡◌, ◌≢◌, ◌<◌, ℕ, suc, ℤ, ◌^◌, Bool, true, false, ◌&&◌, List, [], ◌∷◌, codes, length, get_or, map, refl, sym, ap, subst, ◌∙◌, arith}
+use Rattle.std.proofs.Common.{◌≡◌, ◌≢◌, ◌<◌, ℕ, suc, Bool, true, false, ◌&&◌, List, [], ◌∷◌, codes, length, get_or, map, refl, sym, ap, ◌∙◌, arith}
 use Rattle.std.specs.Cmp.Lexicographic.{pointwise}
-use Rattle.std.specs.Ordering.{int_eq}
 use Rattle.std.specs.Prelude.{nat_eq}
-use Rattle.std.specs.Int.Signed.{mag}
 use Rattle.std.specs.Bool.{Decides}
-use Rattle.std.specs.Fmt.{signed_decimal}
-use Rattle.std.proofs.lemmas.Bool.Decides.{Decides-int_eq}
-use Rattle.std.proofs.lemmas.Fmt.{signed_decimal_injective}
 use Rattle.std.proofs.lemmas.List.{get_or-map}
 use Rattle.std.proofs.lemmas.Slice.Eq.{bytes_eq-Decides}
 use Rattle.htl_expr.specs.declared.out.Out.{Out}
@@ -25,17 +20,6 @@ unequal_lengths same (x ∷ xs) (y ∷ ys) n = at (same x y) (unequal_lengths sa
     at : (b : Bool) {c : Bool} → c ≡ false → (b && c) ≡ false
     at true e = e
     at false e = refl
-
--- numbers have the same decimal only where they are the same
-pub decimals : (y z : ℤ) → mag y < 2 ^ 63 → mag z < 2 ^ 63 → int_eq y z ≡ pointwise nat_eq (signed_decimal y) (signed_decimal z)
-decimals y z a b =
-    both (int_eq y z) (pointwise nat_eq (signed_decimal y) (signed_decimal z)) (Decides-int_eq y z) (bytes_eq-Decides (signed_decimal y) (signed_decimal z)) (ap signed_decimal) (signed_decimal_injective y z a b)
-  where
-    both : {P Q : Type 0} (p q : Bool) → Decides p P → Decides q Q → (P → Q) → (Q → P) → p ≡ q
-    both true true d e f g = refl
-    both false false d e f g = refl
-    both true false d e f g = sym (e.1 (f (d.0 refl)))
-    both false true d e f g = d.1 (g (e.0 refl))
 
 pub get_or_of_map : {X : Type 0} (f : X → List ℕ) (xs : List X) (i : ℕ) (x : X) → i < length xs → x ≡ get_or xs i x → get_or (map f xs) i [] ≡ f x
 get_or_of_map f xs i x lt is = get_or-map f xs i x [] lt ∙ ap f (sym is)
@@ -62,7 +46,8 @@ same_texts (out.Truth a) b e f = absurd cc
 same_texts (out.Long a) b e f = absurd cc
 same_texts (out.List a) b e f = absurd cc
 
-pub same_as_no_list : (a b : Out) → is_list a ≡ true → is_list b ≡ false → is_same a b ≡ false
+-- a list is no other value
+pub same_as_no_list : (a b : Out) → is_list a ≡ true → (is_list a && is_list b) ≡ false → is_same a b ≡ false
 same_as_no_list (out.List a) (out.List b) e f = absurd cc
 same_as_no_list (out.List a) out.Nothing e f = refl
 same_as_no_list (out.List a) (out.Truth b) e f = refl

@@ -1,5 +1,5 @@
 -- The values of trees that hold operands, where each operand is evaluated after another.
-use Rattle.std.proofs.Common.{◌≡◌, ◌<◌, ◌+◌, ℕ, Bool, true, false, if◌then◌else◌, List, [], ◌∷◌, ◌++◌, length, take, get_or, map, refl, sym, ap, ◌∙◌}
+use Rattle.std.proofs.Common.{◌≡◌, ◌<◌, ◌+◌, ℕ, Bool, true, false, if◌then◌else◌, List, [], ◌∷◌, ◌++◌, length, take, get_or, map, sym, ap, ◌∙◌}
 use Rattle.std.proofs.lemmas.List.{take_more}
 use mathlib.Core.List.{map-append}
 use Rattle.htl_expr.specs.declared.lent.Lent.{Lent}

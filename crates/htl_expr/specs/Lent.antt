@@ -9,6 +9,8 @@ use Rattle.htl_expr.specs.Print.{truth_text, plain}
 use Rattle.htl_expr.specs.Value.{item_texts, property}
 use Rattle.htl_expr.specs.declared.lent.Operand.{Operand}
 use Rattle.htl_expr.specs.Bindings.{Bindings}
+use Rattle.htl_expr.specs.declared.pieces.Piece.{Piece}
+use Rattle.htl_expr.specs.Pieces.{ArePieces}
 
 -- a value that lends, with what its items stand for
 abbrev pub out_step : Lent-F Out → Out
@@ -53,14 +55,13 @@ IsPropertyIfNamed scope (Some name) v = v ≡ property scope name
 abbrev pub property_item : Bindings → List ℕ → List ℕ
 property_item scope name = plain (codes ",") (property scope name)
 
--- the text of an item that is said to be a property is that of the one of that name
-abbrev pub IsPropertyItemIfNamed : Bindings → Option (List ℕ) → List ℕ → Type 0
-IsPropertyItemIfNamed scope None text = Unit {0}
-IsPropertyItemIfNamed scope (Some name) text = text ≡ property_item scope name
+-- the items of a list are put together of the pieces that are said to be theirs
+abbrev pub AreRows : Bindings → List (List Piece) → Out → Type 0
+AreRows scope rows list = (place : ℕ) → ArePieces scope (get_or rows place []) (get_or (listed_texts list) place [])
 
--- what is said of the items of a list literal holds for this resource
+-- what is said of the items of an operand holds for this resource
 abbrev pub AreItems : Bindings → Operand → Type 0
-AreItems scope operand = (place : ℕ) → IsPropertyItemIfNamed scope (option_map (λ name. name.now) (get_or operand.items place None)) (get_or (listed_texts (out_of_lent operand.value)) place [])
+AreItems scope operand = AreRows scope operand.items (out_of_lent operand.value)
 
 -- what an operand says of itself holds for this resource
 abbrev pub IsOperand : Bindings → Operand → Type 0

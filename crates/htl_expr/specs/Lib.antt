@@ -1,8 +1,9 @@
 pub mod Bindings
-pub mod Content
+pub mod ComparedValue
 pub mod Fault
 pub mod Grammar
 pub mod Lent
+pub mod Pieces
 pub mod Print
 pub mod Read
 pub mod Remembered

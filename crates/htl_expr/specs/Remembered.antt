@@ -1,25 +1,29 @@
 -- What an evaluation remembers of its resource. Only proofs and private functions need this.
-use Rattle.std.specs.Prelude.{◌≡◌, ℕ, List, [], ◌∷◌, Some, IfSome}
+use Rattle.std.specs.Prelude.{◌≡◌, ℕ, List, [], ◌∷◌, Some, IfSome, length}
 use Rattle.std.specs.BTreeMap.{BTreeMap, get}
 use Rattle.sp_base.specs.Names.{by_name}
 use Rattle.htl_expr.specs.Bindings.{Bindings}
 use Rattle.htl_expr.specs.declared.numbered.Aspect.{Aspect}
 use Rattle.htl_expr.specs.declared.numbered.Aspect.TheVariants as aspect
 use Rattle.htl_expr.specs.declared.scope.Scope.{Scope}
-use Rattle.htl_expr.specs.Content.{number_in}
+use Rattle.htl_expr.specs.ComparedValue.{number_in}
 use Rattle.htl_expr.specs.Print.{plain}
 use Rattle.htl_expr.specs.Value.{property}
 use Rattle.htl_expr.specs.Lent.{property_item, listed_texts}
 
 -- what of the property of this name is compared
-abbrev pub content_by : Bindings → Aspect → List ℕ → List (List ℕ)
-content_by scope aspect.List name = listed_texts (property scope name)
-content_by scope aspect.Item name = property_item scope name ∷ []
+abbrev pub compared_by : Bindings → Aspect → List ℕ → List (List ℕ)
+compared_by scope aspect.List name = listed_texts (property scope name)
+compared_by scope aspect.Item name = property_item scope name ∷ []
 
 -- what is known of a name is the number of what is compared of its property
 abbrev pub Knows : Bindings → Aspect → List (List (List ℕ) × ℕ) → BTreeMap (List ℕ) ℕ → Type 0
-Knows scope of_it classes known = (name : List ℕ) → IfSome (get by_name known name) (λ number. number_in classes (content_by scope of_it name) ≡ Some number)
+Knows scope of_it classes known = (name : List ℕ) → IfSome (get by_name known name) (λ number. number_in classes (compared_by scope of_it name) ≡ Some number)
 
 -- what is remembered of a property is its text where nothing stands between its items
 abbrev pub RemembersJoined : Scope → BTreeMap (List ℕ) (List ℕ) → Type 0
 RemembersJoined scope known = (name : List ℕ) → IfSome (get by_name known name) (λ text. text ≡ plain [] (property scope name))
+
+-- what is remembered of a property is how many bytes it has as an item
+abbrev pub RemembersLens : Scope → BTreeMap (List ℕ) ℕ → Type 0
+RemembersLens scope known = (name : List ℕ) → IfSome (get by_name known name) (λ len. len ≡ length (property_item scope name))

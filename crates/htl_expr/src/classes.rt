@@ -1,25 +1,25 @@
-//! Numbers by which contents are told apart.
+//! Numbers by which compared values are told apart.
 
 ghost use Rattle.std.specs.Prelude.{◌≡◌, [], IfOk, Some, None};
-ghost use Rattle.htl_expr.specs.Content.{number_in, Keeps, TellsApart};
+ghost use Rattle.htl_expr.specs.ComparedValue.{number_in, Keeps, TellsApart};
 
-use crate::content::Content;
+use crate::compared_value::ComparedValue;
 use sp_base::{Mem, NoMemory};
 use std::alloc::Global;
 use std::collections::BTreeMap;
 use std::marker::Model;
 
-/// Contents, each with a number of its own. They are kept in their order, so that a content is compared with few others to find its
-/// number. Contracts see which number a content has.
+/// Compared values, each with a number of its own. They are kept in their order, so that one more is compared with few others to find
+/// its number. Contracts see which number each has.
 #[derive(Drop)]
 pub(crate) struct Classes<'a> {
-    numbers: BTreeMap<Content<'a>, u64>,
+    numbers: BTreeMap<ComparedValue<'a>, u64>,
     next: u64,
 }
 
 impl<'a> Model for Classes<'a> {
     ghost use Rattle.std.specs.Prelude.{List, ℕ};
-    ghost use Rattle.htl_expr.specs.Content.{AreNumbered};
+    ghost use Rattle.htl_expr.specs.ComparedValue.{AreNumbered};
 
     ghost Value = { List (List (List ℕ) × ℕ) };
 
@@ -38,40 +38,40 @@ impl<'a> Classes<'a> {
         }
     }
 
-    // Gives a content the next number.
-    fn add(&mut self, content: Content<'a>) -> Mem<u64>
-        requires { number_in self.old content ≡ None }
-        ensures number { IfOk result (λ number. number_in self.new content.entry ≡ Some number) }
+    // Gives a compared value the next number.
+    fn add(&mut self, compared: ComparedValue<'a>) -> Mem<u64>
+        requires { number_in self.old compared ≡ None }
+        ensures number { IfOk result (λ number. number_in self.new compared.entry ≡ Some number) }
         ensures kept { Keeps self.old self.new }
     {
         let number = self.next;
         let Some(next) = number.checked_add(1) else {
             return Err(NoMemory);
         };
-        self.numbers.insert(content, number)?;
+        self.numbers.insert(compared, number)?;
         self.next = next;
         Ok(number)
     }
 
-    // The number of a content, if it has one.
-    fn known(&self, content: &Content<'a>) -> Option<u64>
-        ensures { result ≡ number_in self.now content.now }
+    // The number of a compared value, if it has one.
+    fn known(&self, compared: &ComparedValue<'a>) -> Option<u64>
+        ensures { result ≡ number_in self.now compared.now }
     {
-        self.numbers.get(content).copied()
+        self.numbers.get(compared).copied()
     }
 
-    /// The number of a content. Those that have one keep it.
-    pub(crate) fn number(&mut self, content: Content<'a>) -> Mem<u64>
-        ensures number { IfOk result (λ number. number_in self.new content.entry ≡ Some number) }
+    /// The number of a compared value. Those that have one keep it.
+    pub(crate) fn number(&mut self, compared: ComparedValue<'a>) -> Mem<u64>
+        ensures number { IfOk result (λ number. number_in self.new compared.entry ≡ Some number) }
         ensures kept { Keeps self.old self.new }
     {
-        match self.known(&content) {
+        match self.known(&compared) {
             Some(number) => Ok(number),
-            None => self.add(content),
+            None => self.add(compared),
         }
     }
 
-    /// No two contents have one number.
+    /// No two compared values have one number.
     pub(crate) fn told_apart(&self)
         ensures { TellsApart self.now }
     {

@@ -1,7 +1,6 @@
 //! Comparisons of two values.
 
-ghost use Rattle.std.specs.Prelude.{◌≡◌, IfOk, Bool, nat_eq, int_le, int_lt, true};
-ghost use Rattle.std.specs.Cmp.Lexicographic.{pointwise};
+ghost use Rattle.std.specs.Prelude.{◌≡◌, ◌&&◌, IfOk, int_le, int_lt, false};
 ghost use Rattle.htl_expr.specs.Lent as lent;
 ghost use Rattle.htl_expr.specs.Lent.{out_of_lent};
 ghost use Rattle.htl_expr.specs.Value as spec;
@@ -11,7 +10,7 @@ use crate::evaluation::Evaluation;
 use crate::lent::{Lent, Operand};
 use crate::literals::has_same_texts;
 use crate::node::Comparison;
-use crate::same::{has_same_items, is_list};
+use crate::same::is_list;
 use sp_base::Mem;
 use std::alloc::Global;
 
@@ -33,13 +32,13 @@ fn is_at_most(a: &Lent, b: &Lent) -> bool
     }
 }
 
-/// Whether a comparison holds between two operands. Two properties that are compared again are not looked through again.
-pub(crate) fn operands_compare(
+/// Whether a comparison holds between two operands.
+pub(crate) fn operands_compare<'a>(
     alloc: Global,
-    scope: &mut Evaluation,
+    scope: &mut Evaluation<'a>,
     comparison: Comparison,
-    a: &Operand,
-    b: &Operand,
+    a: &Operand<'a>,
+    b: &Operand<'a>,
 ) -> Mem<bool>
     requires first { lent.IsOperand scope.old a.now }
     requires second { lent.IsOperand scope.old b.now }
@@ -56,8 +55,13 @@ pub(crate) fn operands_compare(
     }
 }
 
-// Whether two operands are the same, which is remembered where both are properties.
-fn operands_are_same(alloc: Global, scope: &mut Evaluation, a: &Operand, b: &Operand) -> Mem<bool>
+// Whether two operands are the same. Properties are compared by their numbers.
+fn operands_are_same<'a>(
+    alloc: Global,
+    scope: &mut Evaluation<'a>,
+    a: &Operand<'a>,
+    b: &Operand<'a>,
+) -> Mem<bool>
     requires first { lent.IsOperand scope.old a.now }
     requires second { lent.IsOperand scope.old b.now }
     ensures same { IfOk result (λ same. same ≡ spec.is_same (out_of_lent a.now.value) (out_of_lent b.now.value)) }
@@ -65,51 +69,52 @@ fn operands_are_same(alloc: Global, scope: &mut Evaluation, a: &Operand, b: &Ope
 {
     match (a.property, b.property) {
         (Some(a), Some(b)) => scope.has_same(alloc, a, b),
-        _ => has_same_content(alloc, scope, a, b),
+        _ => others_are_same(alloc, scope, a, b),
     }
 }
 
 // Whether two operands are the same, of which one at least is no property.
 #[tactic(auto, using(crate::proofs::SameItems::same_lists))]
-fn has_same_content(alloc: Global, scope: &mut Evaluation, a: &Operand, b: &Operand) -> Mem<bool>
+fn others_are_same<'a>(
+    alloc: Global,
+    scope: &mut Evaluation<'a>,
+    a: &Operand<'a>,
+    b: &Operand<'a>,
+) -> Mem<bool>
     requires first { lent.IsOperand scope.old a.now }
     requires second { lent.IsOperand scope.old b.now }
     ensures same { IfOk result (λ same. same ≡ spec.is_same (out_of_lent a.now.value) (out_of_lent b.now.value)) }
     ensures scope { scope.new ≡ scope.old }
 {
-    if is_list(&a.value) && is_list(&b.value) {
+    if are_lists(&a.value, &b.value) {
         has_same_texts(alloc, scope, a, b)
     } else {
-        is_same(alloc, &a.value, &b.value)
+        Ok(is_same(&a.value, &b.value))
     }
 }
 
-/// Whether two values have the same kind and the same content.
-pub(crate) fn is_same(alloc: Global, a: &Lent, b: &Lent) -> Mem<bool>
-    ensures { IfOk result (λ same. same ≡ spec.is_same (out_of_lent a.now) (out_of_lent b.now)) }
+/// Whether two values are both lists.
+pub(crate) fn are_lists(a: &Lent, b: &Lent) -> bool
+    ensures { result ≡ (lent.is_list (out_of_lent a.now) && lent.is_list (out_of_lent b.now)) }
+{
+    is_list(a) && is_list(b)
+}
+
+/// Whether two values, of which one at least is no list, have the same kind and the same content.
+#[tactic(auto, using(crate::proofs::SameItems::same_as_no_list))]
+pub(crate) fn is_same(a: &Lent, b: &Lent) -> bool
+    requires { (lent.is_list (out_of_lent a.now) && lent.is_list (out_of_lent b.now)) ≡ false }
+    ensures { result ≡ spec.is_same (out_of_lent a.now) (out_of_lent b.now) }
 {
     if is_list(a) {
-        return is_same_list(alloc, a, b);
+        return false;
     }
-    Ok(match a {
+    match a {
         Lent::Nothing => is_nothing(b),
         Lent::Truth(truth) => is_truth(*truth, b),
         Lent::Long(number) => is_long(*number, b),
         Lent::Text(text) => has_text(text, b),
         _ => false,
-    })
-}
-
-// Whether a value is a list with the same items as this one.
-#[tactic(auto, using(crate::proofs::SameItems::same_lists, crate::proofs::SameItems::same_as_no_list))]
-fn is_same_list(alloc: Global, list: &Lent, value: &Lent) -> Mem<bool>
-    requires { lent.is_list (out_of_lent list.now) ≡ true }
-    ensures { IfOk result (λ same. same ≡ spec.is_same (out_of_lent list.now) (out_of_lent value.now)) }
-{
-    if is_list(value) {
-        has_same_items(alloc, list, value)
-    } else {
-        Ok(false)
     }
 }
 

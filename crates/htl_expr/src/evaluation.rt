@@ -1,25 +1,25 @@
 //! What is found out of a resource while expressions are evaluated for it.
 
-ghost use Rattle.std.specs.Prelude.{◌≡◌, [], IfOk, IfSome, nat_eq};
+ghost use Rattle.std.specs.Prelude.{◌≡◌, [], IfOk, IfSome, nat_eq, length};
 ghost use Rattle.std.specs.Cmp.Lexicographic.{pointwise};
 ghost use Rattle.htl_expr.specs.Lent.{property_item};
-ghost use Rattle.htl_expr.specs.Remembered.{content_by};
+ghost use Rattle.htl_expr.specs.Remembered.{compared_by};
 ghost use Rattle.htl_expr.specs.Print.{plain};
 ghost use Rattle.htl_expr.specs.Value as spec;
 
 use crate::classes::Classes;
-use crate::compare::{is_same, is_text};
-use crate::numbered::{Aspect, has_same_content};
-use crate::same::is_list;
+use crate::compare::{are_lists, is_same, is_text};
+use crate::numbered::{Aspect, has_one_number};
+use crate::out::item_text;
 use crate::scope::{Scope, property};
 use sp_base::{Mem, TextBuf};
 use std::alloc::Global;
 use std::collections::BTreeMap;
 use std::marker::Model;
 
-/// A resource that expressions are evaluated for one after another. A property that is compared with others gets a number for its
-/// content, once, so that those with the same content have the same number. A list whose items are written with nothing between them
-/// is looked through once, too. Contracts see what the expressions see of the resource.
+/// A resource that expressions are evaluated for one after another. What is compared of a property gets a number, once, so that what is
+/// the same has the same number. A list whose items are written with nothing between them is looked through once, too. Contracts see
+/// what the expressions see of the resource.
 #[derive(Drop)]
 pub struct Evaluation<'a> {
     scope: Scope<'a>,
@@ -27,18 +27,19 @@ pub struct Evaluation<'a> {
     lists: BTreeMap<TextBuf, u64>,
     items: BTreeMap<TextBuf, u64>,
     joined: BTreeMap<TextBuf, TextBuf>,
+    lens: BTreeMap<TextBuf, usize>,
 }
 
 impl<'a> Model for Evaluation<'a> {
     ghost use Rattle.htl_expr.specs.Bindings.{Bindings};
-    ghost use Rattle.htl_expr.specs.Remembered.{Knows, RemembersJoined};
+    ghost use Rattle.htl_expr.specs.Remembered.{Knows, RemembersJoined, RemembersLens};
     ghost use Rattle.htl_expr.specs.declared.numbered.Aspect.TheVariants as aspect;
 
     ghost Value = { Bindings };
 
     ghost view = { λ e. e.scope };
 
-    ghost invariant = { λ e. Knows e.scope aspect.List e.classes e.lists × (Knows e.scope aspect.Item e.classes e.items × RemembersJoined e.scope e.joined) };
+    ghost invariant = { λ e. Knows e.scope aspect.List e.classes e.lists × (Knows e.scope aspect.Item e.classes e.items × (RemembersJoined e.scope e.joined × RemembersLens e.scope e.lens)) };
 }
 
 impl<'a> Evaluation<'a> {
@@ -57,6 +58,7 @@ impl<'a> Evaluation<'a> {
             lists: BTreeMap::new(alloc),
             items: BTreeMap::new(alloc),
             joined: BTreeMap::new(alloc),
+            lens: BTreeMap::new(alloc),
         }
     }
 
@@ -68,10 +70,10 @@ impl<'a> Evaluation<'a> {
 
     // Whether two lists have the same items.
     fn has_same_list(&mut self, alloc: Global, a: &TextBuf, b: &TextBuf) -> Mem<bool>
-        ensures same { IfOk result (λ same. same ≡ pointwise (pointwise nat_eq) (content_by self.old Aspect.List a.now) (content_by self.old Aspect.List b.now)) }
+        ensures same { IfOk result (λ same. same ≡ pointwise (pointwise nat_eq) (compared_by self.old Aspect.List a.now) (compared_by self.old Aspect.List b.now)) }
         ensures scope { self.new ≡ self.old }
     {
-        has_same_content(
+        has_one_number(
             alloc,
             &self.scope,
             Aspect::List,
@@ -84,10 +86,10 @@ impl<'a> Evaluation<'a> {
 
     // Whether two properties have the same text as items of list literals, by their numbers.
     fn has_same_text(&mut self, alloc: Global, a: &TextBuf, b: &TextBuf) -> Mem<bool>
-        ensures same { IfOk result (λ same. same ≡ pointwise (pointwise nat_eq) (content_by self.old Aspect.Item a.now) (content_by self.old Aspect.Item b.now)) }
+        ensures same { IfOk result (λ same. same ≡ pointwise (pointwise nat_eq) (compared_by self.old Aspect.Item a.now) (compared_by self.old Aspect.Item b.now)) }
         ensures scope { self.new ≡ self.old }
     {
-        has_same_content(
+        has_one_number(
             alloc,
             &self.scope,
             Aspect::Item,
@@ -110,6 +112,36 @@ impl<'a> Evaluation<'a> {
         self.has_same_text(alloc, a, b)
     }
 
+    // How many bytes a property has as an item, if they were counted before.
+    fn known_len(&self, name: &TextBuf) -> Option<usize>
+        ensures { IfSome result (λ len. len ≡ length (property_item self.now name.now)) }
+    {
+        self.lens.get(name).copied()
+    }
+
+    fn remember_len(&mut self, name: TextBuf, len: usize) -> Mem<()>
+        requires { len ≡ length (property_item self.old name) }
+        ensures { self.new ≡ self.old }
+    {
+        self.lens.insert(name, len)?;
+        Ok(())
+    }
+
+    /// How many bytes a property has as an item of a list literal. They are counted once.
+    pub(crate) fn item_len(&mut self, alloc: Global, name: &TextBuf) -> Mem<usize>
+        ensures len { IfOk result (λ len. len ≡ length (property_item self.old name.now)) }
+        ensures scope { self.new ≡ self.old }
+    {
+        if let Some(len) = self.known_len(name) {
+            return Ok(len);
+        }
+        let len = item_text(alloc, &property(&self.scope, name.text()))?
+            .text()
+            .len();
+        self.remember_len(name.duplicate(alloc)?, len)?;
+        Ok(len)
+    }
+
     /// Whether two properties have the same kind and the same content.
     #[tactic(auto, using(crate::proofs::SameItems::same_lists, crate::proofs::SameItems::same_texts))]
     pub(crate) fn has_same(&mut self, alloc: Global, a: &TextBuf, b: &TextBuf) -> Mem<bool>
@@ -118,13 +150,13 @@ impl<'a> Evaluation<'a> {
     {
         let first = property(&self.scope, a.text());
         let second = property(&self.scope, b.text());
-        if is_list(&first) && is_list(&second) {
+        if are_lists(&first, &second) {
             return self.has_same_list(alloc, a, b);
         }
         if is_text(&first) && is_text(&second) {
             return self.has_same_item(alloc, a, b);
         }
-        is_same(alloc, &first, &second)
+        Ok(is_same(&first, &second))
     }
 
     /// The items of a property with nothing between them, if they were put together before.

@@ -4,6 +4,7 @@ ghost use Rattle.std.specs.Prelude.{◌≡◌, None, [], get_or};
 ghost use Rattle.htl_expr.specs.Value as values;
 ghost use Rattle.htl_expr.specs.Lent as spec;
 
+use crate::pieces::Piece;
 use sp_base::{LongList, TextBuf, TextList, TruthList};
 use sqlite_items::Items;
 use std::alloc::Global;
@@ -22,13 +23,13 @@ pub(crate) enum Lent<'a> {
     Items(Items<Lent<'a>>),
 }
 
-/// A value, the name of the property that it is, where it is one of the resource's, and for each item of a list literal the name of
-/// the property that it is.
+/// A value, the name of the property that it is, where it is one of the resource's, and the pieces of the items of a list, as far as
+/// they are known.
 #[derive(Drop)]
 pub(crate) struct Operand<'a> {
     pub(crate) value: Lent<'a>,
     pub(crate) property: Option<&'a TextBuf>,
-    pub(crate) items: Items<Option<&'a TextBuf>>,
+    pub(crate) items: Items<Items<Piece<'a>>>,
 }
 
 impl<'a> Operand<'a> {

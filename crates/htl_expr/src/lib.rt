@@ -4,7 +4,7 @@
 mod access;
 mod classes;
 mod compare;
-mod content;
+mod compared_value;
 mod empty_join;
 mod escape;
 mod evaluation;
@@ -18,6 +18,7 @@ mod numbered;
 mod numbers;
 mod options;
 mod out;
+mod pieces;
 mod print;
 mod reader;
 mod room;

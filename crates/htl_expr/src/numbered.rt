@@ -1,12 +1,12 @@
-//! Properties that are compared by the numbers of their contents.
+//! Properties that are compared by numbers.
 
 ghost use Rattle.std.specs.Prelude.{◌≡◌, ◌∷◌, [], IfOk, Some, nat_eq};
 ghost use Rattle.std.specs.Cmp.Lexicographic.{pointwise};
-ghost use Rattle.htl_expr.specs.Content.{number_in, Keeps};
-ghost use Rattle.htl_expr.specs.Remembered.{content_by, Knows};
+ghost use Rattle.htl_expr.specs.ComparedValue.{number_in, Keeps};
+ghost use Rattle.htl_expr.specs.Remembered.{compared_by, Knows};
 
 use crate::classes::Classes;
-use crate::content::Content;
+use crate::compared_value::ComparedValue;
 use crate::scope::{Scope, property};
 use sp_base::{Mem, TextBuf};
 use std::alloc::Global;
@@ -21,12 +21,17 @@ pub(crate) enum Aspect {
     Item,
 }
 
-fn content<'a>(alloc: Global, scope: &Scope<'a>, aspect: Aspect, name: &TextBuf) -> Mem<Content<'a>>
-    ensures { IfOk result (λ content. content ≡ content_by scope.now aspect name.now) }
+fn compared_value<'a>(
+    alloc: Global,
+    scope: &Scope<'a>,
+    aspect: Aspect,
+    name: &TextBuf,
+) -> Mem<ComparedValue<'a>>
+    ensures { IfOk result (λ compared. compared ≡ compared_by scope.now aspect name.now) }
 {
     match aspect {
-        Aspect::List => Ok(Content::of_list(scope.props.get(name.text()))),
-        Aspect::Item => Content::of_item(alloc, property(scope, name.text())),
+        Aspect::List => Ok(ComparedValue::of_list(scope.props.get(name.text()))),
+        Aspect::Item => ComparedValue::of_item(alloc, property(scope, name.text())),
     }
 }
 
@@ -40,12 +45,12 @@ fn new_number<'a>(
     name: &TextBuf,
 ) -> Mem<u64>
     requires { Knows scope.now aspect classes.old known.old }
-    ensures number { IfOk result (λ number. number_in classes.new (content_by scope.now aspect name.now) ≡ Some number) }
+    ensures number { IfOk result (λ number. number_in classes.new (compared_by scope.now aspect name.now) ≡ Some number) }
     ensures known { Knows scope.now aspect classes.new known.new }
     ensures kept { Keeps classes.old classes.new }
 {
-    let content = content(alloc, scope, aspect, name)?;
-    let number = classes.number(content)?;
+    let compared = compared_value(alloc, scope, aspect, name)?;
+    let number = classes.number(compared)?;
     known.insert(name.duplicate(alloc)?, number)?;
     Ok(number)
 }
@@ -60,7 +65,7 @@ fn number<'a>(
     name: &TextBuf,
 ) -> Mem<u64>
     requires { Knows scope.now aspect classes.old known.old }
-    ensures number { IfOk result (λ number. number_in classes.new (content_by scope.now aspect name.now) ≡ Some number) }
+    ensures number { IfOk result (λ number. number_in classes.new (compared_by scope.now aspect name.now) ≡ Some number) }
     ensures known { Knows scope.now aspect classes.new known.new }
     ensures kept { Keeps classes.old classes.new }
 {
@@ -70,8 +75,8 @@ fn number<'a>(
     }
 }
 
-/// Whether two properties have the same content.
-pub(crate) fn has_same_content<'a>(
+/// Whether what is compared of two properties is the same: whether it has one number.
+pub(crate) fn has_one_number<'a>(
     alloc: Global,
     scope: &Scope<'a>,
     aspect: Aspect,
@@ -81,7 +86,7 @@ pub(crate) fn has_same_content<'a>(
     b: &TextBuf,
 ) -> Mem<bool>
     requires { Knows scope.now aspect classes.old known.old }
-    ensures same { IfOk result (λ same. same ≡ pointwise (pointwise nat_eq) (content_by scope.now aspect a.now) (content_by scope.now aspect b.now)) }
+    ensures same { IfOk result (λ same. same ≡ pointwise (pointwise nat_eq) (compared_by scope.now aspect a.now) (compared_by scope.now aspect b.now)) }
     ensures known { Knows scope.now aspect classes.new known.new }
     ensures kept { Keeps classes.old classes.new }
 {

@@ -1,11 +1,8 @@
-//! Whether two lists have the same items. They are compared item by item, up to the first difference. A text that the resource or the
-//! expression has is lent, and of an item that is compared with it no more is made than it has bytes.
+//! Whether two lists have the same item at a place. A text that the resource or the expression has is lent, and of an item that is
+//! compared with it no more is made than it has bytes.
 
 ghost use Rattle.std.specs.Prelude.{◌≡◌, ◌≢◌, ◌<◌, IfOk, IfErr, List, [], nat_eq, length, get_or, map};
-ghost use Rattle.std.specs.Ordering.{int_eq};
 ghost use Rattle.std.specs.Cmp.Lexicographic.{pointwise};
-ghost use Rattle.std.specs.Fmt.{signed_decimal};
-ghost use Rattle.htl_expr.specs.Print.{truth_text};
 ghost use Rattle.htl_expr.specs.Lent.{out_of_lent, plain_item, listed_texts};
 ghost use Rattle.htl_expr.specs.Lent as spec;
 
@@ -31,7 +28,7 @@ pub(crate) fn is_list(value: &Lent) -> bool
 
 /// How many items a list has.
 #[tactic(auto, using(crate::proofs::Chains::items_out))]
-pub(crate) fn count(list: &Lent) -> usize
+pub(crate) fn item_count(list: &Lent) -> usize
     ensures { result ≡ length (listed_texts (out_of_lent list.now)) }
 {
     match list {
@@ -41,26 +38,6 @@ pub(crate) fn count(list: &Lent) -> usize
         Lent::Items(items) => items.len(),
         _ => 0,
     }
-}
-
-fn is_equal(a: i64, b: i64) -> bool
-    ensures { result ≡ int_eq a b }
-{
-    a == b
-}
-
-// A number has one decimal, so that no text is made.
-#[tactic(auto, using(crate::proofs::SameItems::decimals))]
-fn is_same_long(a: i64, b: i64) -> bool
-    ensures { result ≡ pointwise nat_eq (signed_decimal a) (signed_decimal b) }
-{
-    is_equal(a, b)
-}
-
-fn is_same_truth(a: bool, b: bool) -> bool
-    ensures { result ≡ pointwise nat_eq (truth_text a) (truth_text b) }
-{
-    a == b
 }
 
 // The text of an item of a list literal, where it has at most so many bytes.
@@ -196,33 +173,10 @@ pub(crate) fn is_same_at(alloc: Global, a: &Lent, b: &Lent, place: usize) -> Mem
     ensures { IfOk result (λ same. same ≡ pointwise nat_eq (get_or (listed_texts (out_of_lent a.now)) place []) (get_or (listed_texts (out_of_lent b.now)) place [])) }
 {
     match (a, b) {
-        (Lent::Longs(a), Lent::Longs(b)) => {
-            Ok(is_same_long(a.as_slice()[place], b.as_slice()[place]))
-        }
-        (Lent::Truths(a), Lent::Truths(b)) => {
-            Ok(is_same_truth(a.as_slice()[place], b.as_slice()[place]))
-        }
         (Lent::Items(a), Lent::Items(b)) => {
             is_same_item_at(alloc, a.as_slice(), b.as_slice(), place)
         }
         (Lent::Items(_), _) => has_item_of(alloc, b, a, place),
         _ => has_item_of(alloc, a, b, place),
     }
-}
-
-/// Whether two lists have the same items.
-#[tactic(auto, using(crate::proofs::SameItems::unequal_lengths))]
-pub(crate) fn has_same_items(alloc: Global, a: &Lent, b: &Lent) -> Mem<bool>
-    ensures { IfOk result (λ same. same ≡ pointwise (pointwise nat_eq) (listed_texts (out_of_lent a.now)) (listed_texts (out_of_lent b.now))) }
-{
-    let items = count(a);
-    if items != count(b) {
-        return Ok(false);
-    }
-    for place in 0..items {
-        if !is_same_at(alloc, a, b, place)? {
-            return Ok(false);
-        }
-    }
-    Ok(true)
 }

@@ -1,9 +1,9 @@
-use Rattle.std.proofs.Common.{◌≡◌, ◌∙◌, ℕ, List, [], Option, None, IfOk, Bor, get_or, map, option_map, arith, sym, ap, subst}
+use Rattle.std.proofs.Common.{◌≡◌, ◌∙◌, List, [], IfOk, get_or, map, arith, sym, ap, subst}
 use Rattle.std.proofs.lemmas.List.{take_all}
-use Rattle.sp_base.specs.declared.text.TextBuf.{TextBuf}
 use Rattle.htl_expr.specs.declared.out.Out.{Out}
 use Rattle.htl_expr.specs.declared.out.Out.TheVariants as out
-use Rattle.htl_expr.specs.Lent.{out_of_lent, plain_item, listed_texts, IsPropertyItemIfNamed}
+use Rattle.htl_expr.specs.Lent.{out_of_lent, plain_item, listed_texts}
+use Rattle.htl_expr.specs.Pieces.{ArePieces}
 use Rattle.htl_expr.specs.Value.{value, item_texts}
 use Rattle.htl_expr.proofs.Chains.{and_goes_on, or_goes_on, items_out, item_texts_are}
 use Rattle.htl_expr.proofs.Items.{as_many, one_item_more}
@@ -29,12 +29,11 @@ or_values-loop-operand-preserved t c =
 pub list_value-loop-item-preserved : goal.list_value-loop-item-preserved
 list_value-loop-item-preserved t c =
     let known = c.loop-item.invariant in
-    let named = rw (c.value.ensures.scope ∙ known.0) at c.named_item.ensures in (
+    let are = rw (c.value.ensures.scope ∙ known.0) at c.in_ok-pieces_of.ensures in (
       c.value.ensures.scope ∙ known.0,
       items_go_on (value c.args.scope.now) c.args.items.now c.loop-item.item-index c.item-item.result c.loop-item.values _ c.in_ok-item.item.value c.loop-item-test.true c.item-item.is c.in_ok-push-2.ensures.ok (rw known.0 at c.in_ok-item.ensures.value) known.1,
-      as_many c.loop-item.names c.push.new.self c.loop-item.values c.push-in-loop-item.new.self c.named_item.result c.in_ok-item.item.value c.in_ok-push.ensures.ok c.in_ok-push-2.ensures.ok known.2,
-      one_item_more (λ (name : Option (Bor TextBuf)) (text : List ℕ). IsPropertyItemIfNamed c.args.scope.now (option_map (λ (n : Bor TextBuf). n.now) name) text) plain_item
-          c.loop-item.names c.push.new.self c.loop-item.values c.push-in-loop-item.new.self None c.named_item.result c.in_ok-item.item.value c.in_ok-push.ensures.ok c.in_ok-push-2.ensures.ok known.2 tt named known.3,
+      as_many c.loop-item.pieces c.push.new.self c.loop-item.values c.push-in-loop-item.new.self _ c.in_ok-item.item.value c.in_ok-push.ensures.ok c.in_ok-push-2.ensures.ok known.2,
+      one_item_more (ArePieces c.args.scope.now) plain_item c.loop-item.pieces c.push.new.self c.loop-item.values c.push-in-loop-item.new.self [] _ c.in_ok-item.item.value c.in_ok-push.ensures.ok c.in_ok-push-2.ensures.ok known.2 tt are known.3,
     )
 
 pub list_value-returns-clause-value : goal.list_value-returns-clause-value
@@ -45,7 +44,7 @@ list_value-returns-clause-value t c =
 pub list_value-returns-clause-operand : goal.list_value-returns-clause-operand
 list_value-returns-clause-operand t c = (
   tt,
-  λ place. subst (λ (o : Out). IsPropertyItemIfNamed c.args.scope.now (option_map (λ (n : Bor TextBuf). n.now) (get_or c.loop-item.names place None)) (get_or (listed_texts o) place [])) (sym (items_out c.loop-item.values)) (c.loop-item.invariant.3 place),
+  λ place. subst (λ (o : Out). ArePieces c.args.scope.now (get_or c.loop-item.pieces place []) (get_or (listed_texts o) place [])) (sym (items_out c.loop-item.values)) (c.loop-item.invariant.3 place),
 )
 
 pub value-returns-in-And-clause-value : goal.value-returns-in-And-clause-value
@@ -60,15 +59,15 @@ value-returns-in-Or-clause-value t c =
 
 pub value-returns-then-is_true-clause-value : goal.value-returns-then-is_true-clause-value
 value-returns-then-is_true-clause-value t c =
-    let whole = choice_then c.args.scope.now c.value-in-Choice.new.scope c.args.node.now c.in-Choice.condition c.get-in-Choice.result.now c.in-Choice.a c.in-Choice.b c.get-then-is_true.result.now _ c.value-in-Choice.ensures.scope c.in-Choice.is c.get-in-Choice.ensures c.in_ok-condition-in-Choice.ensures.value (sym c.is_true-in-Choice.ensures ∙ c.if-is_true.true) c.get-then-is_true.ensures in
+    let whole = choice_then c.args.scope.now c.value-in-Choice.new.scope c.args.node.now c.in-Choice.condition c.get-in-Choice.result.now c.in-Choice.a c.in-Choice.b c.get-then-is_true.result.now _ c.value-in-Choice.ensures.scope c.in-Choice.is c.get-in-Choice.ensures c.in_ok-condition-in-Choice.ensures.value (sym c.is_true.ensures ∙ c.if-is_true.true) c.get-then-is_true.ensures in
     subst (λ (o : Out). IfOk c.value-then-is_true.result (λ v. out_of_lent v.value ≡ o)) whole c.value-then-is_true.ensures.value
 
 pub value-returns-clause-value : goal.value-returns-clause-value
 value-returns-clause-value t c =
-    let whole = choice_else c.args.scope.now c.value-in-Choice.new.scope c.args.node.now c.in-Choice.condition c.get-in-Choice.result.now c.in-Choice.a c.in-Choice.b c.get-else-is_true.result.now _ c.value-in-Choice.ensures.scope c.in-Choice.is c.get-in-Choice.ensures c.in_ok-condition-in-Choice.ensures.value (sym c.is_true-in-Choice.ensures ∙ c.if-is_true.false) c.get-else-is_true.ensures in
+    let whole = choice_else c.args.scope.now c.value-in-Choice.new.scope c.args.node.now c.in-Choice.condition c.get-in-Choice.result.now c.in-Choice.a c.in-Choice.b c.get-else-is_true.result.now _ c.value-in-Choice.ensures.scope c.in-Choice.is c.get-in-Choice.ensures c.in_ok-condition-in-Choice.ensures.value (sym c.is_true.ensures ∙ c.if-is_true.false) c.get-else-is_true.ensures in
     subst (λ (o : Out). IfOk c.value-else-is_true.result (λ v. out_of_lent v.value ≡ o)) whole c.value-else-is_true.ensures.value
 
 pub value-returns-in-Compare-clause-value : goal.value-returns-in-Compare-clause-value
 value-returns-in-Compare-clause-value t c =
-    let whole = compare_whole c.args.scope.now c.value-in-Compare.new.scope c.args.node.now c.in-Compare.a c.in-Compare.b c.get-in-Compare.result.now c.get-in-Compare-2.result.now c.in-Compare.comparison (out_of_lent c.in_ok-a-in-Compare.a.value) c.in_ok-holds-in-Compare.holds c.value-in-Compare.ensures.scope c.in-Compare.is c.get-in-Compare.ensures c.get-in-Compare-2.ensures c.in_ok-a-in-Compare.ensures.value c.in_ok-holds-in-Compare.ensures.holds in
+    let whole = compare_whole c.args.scope.now c.value.new.scope c.args.node.now c.in-Compare.a c.in-Compare.b c.get-in-Compare.result.now c.get-in-Compare-2.result.now c.in-Compare.comparison (out_of_lent c.in_ok-a-in-Compare.a.value) c.in_ok-holds-in-Compare.holds c.value.ensures.scope c.in-Compare.is c.get-in-Compare.ensures c.get-in-Compare-2.ensures c.in_ok-a-in-Compare.ensures.value c.in_ok-holds-in-Compare.ensures.holds in
     ap out_of_lent c.of-in-Compare.ensures.value ∙ truth_out c.in_ok-holds-in-Compare.holds ∙ whole

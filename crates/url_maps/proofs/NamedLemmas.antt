@@ -1,21 +1,20 @@
 -- The kids with an alias: what they claim is what all kids claim, and two lists that have them alike name the same first ones.
 use Rattle.std.proofs.Common.{◌≡◌, ◌<◌, ◌+◌, ◌-◌, ℕ, zero, suc, Bool, true, false, cond, List, [], ◌∷◌, ◌++◌, Option, Some, None, drop, take, length, get_or, refl, sym, ◌∙◌, ap, ⊎_elim, arith}
-use Rattle.std.specs.Prelude.{◌||◌, ◌&&◌, ◌==◌, filter, find, is_some, not, option_map}
+use Rattle.std.specs.Prelude.{◌||◌, ◌&&◌, ◌==◌, filter, find, not}
 use Rattle.std.specs.List.{list_any}
 use Rattle.std.specs.Option.{option_map_or}
 use Rattle.std.proofs.lemmas.Bool.{and_parts, cases_Bool, false_from_ne_true, true≢false, false≢true}
 use Rattle.std.proofs.lemmas.List.{drop_more, length-drop, take-append-drop, take_all, take_more}
 use Rattle.std.proofs.lemmas.List.Elements.{filter-append}
 use Rattle.std.proofs.lemmas.List.Folds.{list_any_more}
-use Rattle.sp_base.specs.Paths.{is_path, parent_of, path_or_none}
+use Rattle.sp_base.specs.Paths.{is_path, path_or_none}
 use Rattle.resource_tree.specs.declared.nodes.Node.{Node}
-use Rattle.resource_tree.specs.Content.{Content, kid, node_at, same_path}
-use Rattle.url_maps.specs.Claims.{claims_by, kids_by, node_claims_alias, spells_alias}
+use Rattle.resource_tree.specs.Content.{Content, kid, node_at}
+use Rattle.url_maps.specs.Claims.{claims_by, node_claims_alias, spells_alias}
 use Rattle.url_maps.specs.Siblings.{AreSameFirst, AreSameLast, alias_words, is_named, named_kid, named_kids}
-use Rattle.url_maps.proofs.AliasLemmas.{find_alike, not_root}
+use Rattle.url_maps.proofs.AliasLemmas.{not_root}
 use Rattle.url_maps.proofs.ClaimLemmas.{and_false}
 use Rattle.url_maps.proofs.SiblingLemmas.{a_path, not_a_path}
-use Rattle.url_maps.proofs.PathLemmas.{parent_of-kid, path_from_same, same_path_self}
 
 pub words_claim : (q : List (List ℕ)) (t : List ℕ) (o : Option Node) → option_map_or (λ (node : Node). node_claims_alias q node t) o false ≡ (not (length q == 0) && list_any (spells_alias q t) (alias_words o))
 unfolding node_claims_alias

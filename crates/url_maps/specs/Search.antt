@@ -60,7 +60,8 @@ IsBeyond tree site prefix reach = (pair : Pair) → reach < length prefix → Ha
 abbrev pub is_passable : Content → List (List ℕ) → Bool
 is_passable tree path = is_some (node_at tree path) && not (has_match tree path)
 
--- so many first segments of a path, unless they are all, lead to no node below a site, or to one with a pattern
+-- So many first segments of a path, unless they are all, lead to no node below a site, or to one with a pattern. The least such depth cuts
+-- the most off: a greater one would cost time, as more prefixes are looked up, and never change an answer.
 abbrev pub IsBarredAt : Content → List (List ℕ) → List (List ℕ) → ℕ → Type 0
 IsBarredAt tree site path depth = depth < length path → is_passable tree (site ++ take depth path) ≡ false
 

@@ -1,4 +1,4 @@
-use Rattle.std.proofs.Common.{◌∙◌, ap, true, subst, [], sym}
+use Rattle.std.proofs.Common.{◌∙◌, ap, true, subst}
 use Rattle.std.specs.List.{list_any}
 use Rattle.resource_tree.specs.Content.{node_at, same_path}
 use Rattle.resource_tree.specs.Patches.{Rows, patching_at}

@@ -1,4 +1,4 @@
-use Rattle.std.proofs.Common.{◌≡◌, ◌∙◌, ℕ, List, map, sym, subst}
+use Rattle.std.proofs.Common.{◌∙◌, ℕ, List, map, sym, subst}
 use Rattle.std.specs.Map.Iter.{deref_pair}
 use Rattle.resource_tree.specs.Content.{node_at}
 use Rattle.resource_tree.specs.Patches.{Rows, patching_at}

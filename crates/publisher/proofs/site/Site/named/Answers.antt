@@ -1,5 +1,6 @@
-use Rattle.std.proofs.Common.{◌≡◌, None, sym, ap}
+use Rattle.std.proofs.Common.{◌≡◌, ◌∙◌, None, sym, ap}
 use Rattle.overlay_merge.specs.Merged.{merged_alone}
+use Rattle.publisher.specs.Kept.{IndexedTree}
 use Rattle.publisher.specs.Rendering.{resource_answer}
 use Rattle.publisher.proofs.SeenAloneLemmas.{alone-none, answer-as}
 use Rattle.publisher.proofs.site.Site.named.Goals as goal
@@ -9,5 +10,5 @@ returns-in-None-clause-answer c =
     let view = c.self.view_is in
     let found = c.in_ok-res.ensures in
     let none = c.in-None.is in
-    let at : merged_alone c.args.self.now.tree c.args.parts.now.path ≡ None = cc in
+    let at : merged_alone c.args.self.now.tree c.args.parts.now.path ≡ None = ap (λ (s : IndexedTree). merged_alone s.tree c.args.parts.now.path) (sym view) ∙ sym found ∙ none in
     answer-as _ _ _ (sym (ap (resource_answer c.args.self.now.tree c.args.parts.now) (alone-none c.args.self.now.tree c.args.parts.now.path at))) c.error_answer.ensures

@@ -1,6 +1,6 @@
 -- By definition no POST is refused for want of memory.
-use Rattle.std.proofs.Common.{◌≡◌, ◌≢◌, ◌+◌, ap, sym, refl, ℕ, List, [], ◌∷◌, Option, Some, None, length, Bool, true, false, cond, subst}
-use Rattle.std.specs.Prelude.{◌==◌, ◌&&◌, IfErr, IfSome, Result, Ok, Err, codes, is_none, nat_lt, option_map}
+use Rattle.std.proofs.Common.{◌≡◌, refl, ℕ, List, [], ◌∷◌, Option, Some, None, length, Bool, true, false, cond, subst}
+use Rattle.std.specs.Prelude.{◌==◌, ◌&&◌, IfErr, IfSome, Result, Ok, Err, codes, is_none, option_map}
 use Rattle.sp_base.specs.declared.answer.Ask.{Ask}
 use Rattle.resource_tree.specs.Content.{Content}
 use Rattle.resource_tree.specs.declared.faults.TreeFault.{TreeFault}
@@ -15,7 +15,7 @@ use Rattle.post_plan.specs.Spots.{is_reserved}
 use Rattle.post_plan.specs.Hints.{bad_hint, hint_fault}
 use Rattle.post_plan.specs.Plan.{carries_node, dest_word, faults, first_plan_fault, if_fault, is_bad_order, operation_unless_fault, path_fault, plan_of, relative_node, verb_of}
 use Rattle.post_plan.specs.declared.fault.PlanFault.{PlanFault}
-use Rattle.post_plan.specs.declared.fault.PlanFault.TheVariants.{BadOperation, NoDest, BadOrder, BadHint, BadPath, NoMemory as NoMemoryOfPlan}
+use Rattle.post_plan.specs.declared.fault.PlanFault.TheVariants.{BadOperation, NoDest, BadOrder, BadHint, BadPath}
 use Rattle.post_apply.specs.Laws.{RefusalsHaveCauses, wants_memory}
 use Rattle.post_apply.specs.Posting.{Posted, posted}
 use Rattle.post_apply.specs.declared.fault.ApplyFault.{ApplyFault}

@@ -1,6 +1,6 @@
 -- Readings that are forgotten with the texts that a patch changes.
-use Rattle.std.proofs.Common.{◌≡◌, ◌+◌, ◌-◌, ◌++◌, ◌∷◌, [], ℕ, Bool, true, false, cond, List, Option, Some, None, length, take, refl, sym, ◌∙◌, ap, arith, length-append}
-use Rattle.std.specs.Prelude.{◌||◌, Result, Ok, Err, option_and_then, option_map, slice_get, codes, nat_eq}
+use Rattle.std.proofs.Common.{◌≡◌, ◌+◌, ◌-◌, ◌∷◌, [], ℕ, Bool, true, false, cond, List, Option, Some, None, length, take, refl, sym, ◌∙◌, ap, arith, length-append}
+use Rattle.std.specs.Prelude.{◌||◌, option_and_then, option_map, slice_get, codes, nat_eq}
 use Rattle.std.specs.Cmp.{IsTotalOrder, eq_by_cmp_equiv}
 use Rattle.std.specs.Cmp.Lexicographic.{lists_total, nat_list_cmp_total, pointwise}
 use Rattle.std.specs.List.{list_any}
@@ -11,11 +11,11 @@ use Rattle.std.proofs.lemmas.Map.Views.{tells_apart}
 use Rattle.std.proofs.lemmas.Option.{get_or_from_slice_get, slice_get_within}
 use Rattle.std.proofs.Math.Seq.{take-append_seam, get_or-append_seam}
 use Rattle.sp_base.specs.PathExact.{exact_paths}
-use Rattle.sp_base.specs.Paths.{checked, fault_of, parent_of, unless_fault}
+use Rattle.sp_base.specs.Paths.{fault_of, parent_of, unless_fault}
 use Rattle.sp_base.specs.Properties.{text_in}
 use Rattle.sp_base.specs.declared.path.PathFault.{PathFault}
 use Rattle.resource_tree.specs.Content.{Content, by_path, kid, name_of, node_at, same_path}
-use Rattle.resource_tree.specs.Patches.{Rows, left_by, patching_at, row_at}
+use Rattle.resource_tree.specs.Patches.{Rows, left_by, patching_at}
 use Rattle.resource_tree.specs.declared.nodes.Node.{Node}
 use Rattle.resource_tree.specs.declared.patch.PatchNode.{PatchNode}
 use Rattle.script_rank.specs.Ranking.{node_of, script_text}

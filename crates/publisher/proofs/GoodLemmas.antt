@@ -1,5 +1,5 @@
 -- The content after a request is good: a POST's target is a path, so the operation names paths, and that leaves the content good.
-use Rattle.std.proofs.Common.{◌≡◌, ◌∙◌, ◌-◌, ◌+◌, ap, sym, refl, arith, ℕ, List, [], ◌∷◌, ◌++◌, Option, Some, None, length, take, drop, Bool, true, false, cond}
+use Rattle.std.proofs.Common.{◌≡◌, ◌∙◌, ◌-◌, ◌+◌, ap, sym, refl, arith, ℕ, List, ◌++◌, Option, Some, None, length, take, drop, Bool, true, false, cond}
 use Rattle.std.specs.Prelude.{◌&&◌, IfOk, IfSome, Result, Ok, Err, option_map, nat_le}
 use Rattle.std.specs.List.{list_all}
 use Rattle.std.specs.Option.{option_or}

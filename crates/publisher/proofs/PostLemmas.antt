@@ -2,7 +2,7 @@
 use Rattle.std.proofs.Common.{◌≡◌, ◌≢◌, ℕ, Bool, true, false, cond, List, Ok, Err, refl, sym, ◌∙◌, ap, ⊎_elim}
 use Rattle.std.specs.Prelude.{◌||◌, codes, nat_eq, if◌then◌else◌}
 use Rattle.std.specs.Cmp.Lexicographic.{pointwise, same_text}
-use Rattle.std.proofs.lemmas.Bool.{or_cases, true≢false}
+use Rattle.std.proofs.lemmas.Bool.{or_cases}
 use Rattle.sp_base.specs.declared.answer.Ask.{Ask}
 use Rattle.resource_tree.specs.Content.{Content}
 use Rattle.url_maps.specs.declared.answer.MapAnswer.{MapAnswer}

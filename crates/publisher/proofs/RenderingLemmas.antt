@@ -23,7 +23,7 @@ use Rattle.publisher.specs.declared.templates.Reading.{Reading}
 use Rattle.publisher.specs.declared.templates.Reading.TheVariants.{Parsed, Refused}
 use Rattle.publisher.specs.Readings.{reading_of}
 use Rattle.error_answers.specs.Errors.{error_answer}
-use Rattle.publisher.specs.Errors.{answer_with_body, redirect}
+use Rattle.publisher.specs.Errors.{answer_with_body}
 use Rattle.publisher.specs.Depths.{depth_of}
 use Rattle.overlay_merge.specs.Merged.{has_resource}
 use Rattle.publisher.specs.Rendering.{seen, is_read, mark_of, most_rendered_bytes, representation_of, json_representation, json_to_depth, file_representation, is_json, is_bare, default_answer, script_for, scope_of, script_representation, answer_by, resource_answer, split_answer, text_answer, mapping, mapped_answer, is_post, posted_answer, rendered}

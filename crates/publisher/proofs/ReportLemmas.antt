@@ -1,6 +1,6 @@
 -- The line that tells of a POST is short.
-use Rattle.std.proofs.Common.{◌≡◌, ◌≢◌, ◌+◌, ◌*◌, ◌≤◌, ◌++◌, ◌∷◌, [], ℕ, Bool, true, false, List, length, refl, sym, ◌∙◌, ap, arith, length-append}
-use Rattle.std.specs.Prelude.{◌&&◌, IsTrue, codes, decimal, flat_map, nat_le, not, if◌then◌else◌}
+use Rattle.std.proofs.Common.{◌≡◌, ◌+◌, ◌*◌, ◌≤◌, ◌++◌, ◌∷◌, [], ℕ, Bool, true, false, List, length, refl, arith, length-append}
+use Rattle.std.specs.Prelude.{◌&&◌, codes, decimal, flat_map, nat_le, not, if◌then◌else◌}
 use Rattle.std.specs.List.{list_all}
 use Rattle.std.proofs.lemmas.Bool.{and_parts}
 use Rattle.std.proofs.lemmas.Fmt.{length-decimal-le}

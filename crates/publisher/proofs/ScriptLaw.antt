@@ -1,14 +1,13 @@
 -- What a script writes, from the relations that tell which script it is and what its text spells.
 use Rattle.std.proofs.Common.{◌≡◌, ℕ, Bool, true, false, cond, List, Option, Some, None, Ok, IfSome, IfNone, length, nat_le, refl, sym, ◌∙◌, ap, arith}
 use Rattle.std.specs.Prelude.{option_and_then}
-use Rattle.sp_base.specs.Paths.{text_of}
 use Rattle.sp_base.specs.declared.answer.Answer.{Answer}
 use Rattle.sp_base.specs.declared.answer.Ask.{Ask}
 use Rattle.sp_base.specs.declared.answer.Mark.{Mark}
 use Rattle.resource_tree.specs.Content.{Content}
 use Rattle.resource_tree.specs.Seen.{Resource}
 use Rattle.url_maps.specs.declared.answer.MapAnswer.{MapAnswer}
-use Rattle.url_maps.specs.declared.answer.MapAnswer.TheVariants.{Inside, Away}
+use Rattle.url_maps.specs.declared.answer.MapAnswer.TheVariants.{Inside}
 use Rattle.url_split.specs.declared.decompose.Parts.{Parts}
 use Rattle.url_split.specs.Split.{split_of}
 use Rattle.type_chain.specs.Chain.{chain_of}
@@ -18,11 +17,11 @@ use Rattle.script_rank.specs.Search.{search_result}
 use Rattle.htl_text.specs.declared.piece.TemplatePiece.{TemplatePiece}
 use Rattle.htl_text.specs.Template.{template_of, template_output as written_by}
 use Rattle.error_answers.specs.Errors.{error_answer}
-use Rattle.publisher.specs.Errors.{answer_with_body, redirect}
+use Rattle.publisher.specs.Errors.{answer_with_body}
 use Rattle.publisher.specs.Readings.{reading_in}
 use Rattle.overlay_merge.specs.Merged.{has_resource}
 use Rattle.publisher.proofs.RenderingLemmas.{read_is}
-use Rattle.publisher.specs.Rendering.{seen, answer_by, html_kind, is_read, mark_of, most_rendered_bytes, rendered, representation_of, resource_answer, scope_of, script_for, script_representation, split_answer, text_answer, mapped_answer, mapping}
+use Rattle.publisher.specs.Rendering.{seen, answer_by, html_kind, is_read, mark_of, most_rendered_bytes, rendered, representation_of, resource_answer, scope_of, script_for, script_representation, split_answer, mapped_answer, mapping}
 
 -- the search gives the script that ranks first, where one does
 pub found_first : (tree : Content) (chain : List TypeName) (parts : Parts) (script : List (List ℕ)) (found : Option (List (List ℕ)))

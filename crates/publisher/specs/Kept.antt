@@ -1,5 +1,5 @@
 -- What a publisher keeps beside its tree: the readings of scripts, and the index of mappings. What is answered needs none of it: only the publisher's type and its proofs cite this.
-use Rattle.std.specs.Prelude.{◌≡◌, ℕ, List, Option, Some, None, IfSome, codes, option_map}
+use Rattle.std.specs.Prelude.{◌≡◌, ℕ, Bool, List, Option, Some, None, IfSome, codes, option_map}
 use Rattle.std.specs.Map.{lookup}
 use Rattle.resource_tree.specs.Content.{Content, kid, same_path}
 use Rattle.resource_tree.specs.Patches.{Rows, row_at}
@@ -35,3 +35,8 @@ AreUnpatched patch kept = (path : List (List ℕ)) (reading : Reading) → readi
 -- an index that is kept is the tree's
 abbrev pub IsIndexFor : Content → Option Index → Type 0
 IsIndexFor tree index = IfSome index (IsIndexOf tree)
+
+-- a tree, and whether the index of its mappings is there
+pub record IndexedTree : Type 0 where
+  pub tree : Content
+  pub is_indexed : Bool

@@ -1,5 +1,5 @@
 -- What a POST makes of the content, and what it is answered (Apache Sling, "SlingPostServlet").
-use Rattle.std.specs.Prelude.{◌==◌, ◌++◌, ℕ, Bool, true, nat_eq, if◌then◌else◌, List, [], ◌∷◌, Option, Some, None, option_map, Result, Ok, Err, codes, decimal}
+use Rattle.std.specs.Prelude.{◌++◌, ℕ, Bool, true, nat_eq, if◌then◌else◌, List, [], ◌∷◌, Option, Some, None, option_map, Result, Ok, Err, codes, decimal}
 use Rattle.std.specs.List.{ends_with}
 use Rattle.std.specs.Option.{option_or}
 use Rattle.std.specs.Result.{result_ok}

@@ -1,5 +1,4 @@
 -- The statuses of the POSTs that are refused (RFC 9110, section 15.5).
-use Rattle.std.specs.Prelude.{ℕ}
 use Rattle.resource_tree.specs.declared.faults.TreeFault.{TreeFault}
 use Rattle.resource_tree.specs.declared.faults.TreeFault.TheVariants.{NoSuch, RootFixed, IntoItself, Exists, Taken, NoSibling, TooDeep, FullTree, NoMemory as NoMemoryOfTree}
 use Rattle.form_input.specs.declared.fault.FormFault.{FormFault}

@@ -15,6 +15,7 @@ mod refusal;
 mod representations;
 mod scripts;
 mod serving;
+mod site;
 mod targets;
 mod templates;
 

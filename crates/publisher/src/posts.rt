@@ -1,15 +1,15 @@
 //! POSTs, which change the tree.
-ghost use Rattle.std.specs.Prelude.{◌≡◌, ◌≤◌, IfOk, OnOk, OnErr, length};
+ghost use Rattle.std.specs.Prelude.{◌≡◌, ◌≤◌, IfOk, IsTrue, OnOk, OnErr, length};
 ghost use Rattle.resource_tree.specs.Content.{IsGood};
 ghost use Rattle.resource_tree.specs.Patches.{patching};
 ghost use Rattle.publisher.specs.Posting.{posting, posting_answer, posting_content, report_answer};
 ghost use Rattle.publisher.specs.Rendering.{mapping, posted_answer, posted_content};
 
-use crate::Publisher;
 use crate::errors::redirect;
 use crate::kept_index::put_with_index;
 use crate::posting::{planned, report_answer};
 use crate::refusal::Refusal;
+use crate::site::Site;
 use error_answers::error_answer;
 use post_apply::Planned;
 use resource_tree::Patch;
@@ -17,13 +17,15 @@ use sp_base::{Answer, Ask, Mem, NoMemory};
 use std::alloc::Global;
 use url_maps::MapAnswer;
 
-impl Publisher {
+impl Site {
     /// The answer to a POST, which is done here.
     pub(crate) fn posted_answer(&mut self, alloc: Global, ask: &Ask) -> Mem<Answer>
-        ensures answer { IfOk result (λ a. a ≡ posted_answer self.old ask.now (mapping self.old ask.now)) }
+        ensures answer { IfOk result (λ a. a ≡ posted_answer self.old.tree ask.now (mapping self.old.tree ask.now)) }
         ensures fits { IfOk result (λ a. a.status ≡ 200 → length a.body ≤ 4194304) }
-        ensures after { OnOk result (self.new ≡ posted_content self.old ask.now (mapping self.old ask.now)) }
-        ensures unchanged { OnErr result (self.new ≡ self.old) }
+        ensures after { OnOk result (self.new.tree ≡ posted_content self.old.tree ask.now (mapping self.old.tree ask.now)) }
+        ensures unchanged { OnErr result (self.new.tree ≡ self.old.tree) }
+        ensures made { OnOk result (IsTrue self.new.is_indexed) }
+        ensures kept { IsTrue self.old.is_indexed → IsTrue self.new.is_indexed }
     {
         match self.mapping(alloc, ask)? {
             MapAnswer::Inside(text) => self.posting(alloc, ask, text.text()),
@@ -33,10 +35,11 @@ impl Publisher {
 
     // Does a POST to a text within the content.
     fn posting(&mut self, alloc: Global, ask: &Ask, text: &str) -> Mem<Answer>
-        ensures answer { IfOk result (λ a. a ≡ posting_answer (posting self.old ask.now text.now)) }
+        ensures answer { IfOk result (λ a. a ≡ posting_answer (posting self.old.tree ask.now text.now)) }
         ensures fits { IfOk result (λ a. a.status ≡ 200 → length a.body ≤ 4194304) }
-        ensures after { OnOk result (self.new ≡ posting_content self.old (posting self.old ask.now text.now)) }
-        ensures unchanged { OnErr result (self.new ≡ self.old) }
+        ensures after { OnOk result (self.new.tree ≡ posting_content self.old.tree (posting self.old.tree ask.now text.now)) }
+        ensures unchanged { OnErr result (self.new.tree ≡ self.old.tree) }
+        ensures kept { IsTrue self.old.is_indexed → IsTrue self.new.is_indexed }
     {
         match planned(alloc, &self.tree, ask, text) {
             Ok(plan) => self.done(alloc, plan),
@@ -47,11 +50,12 @@ impl Publisher {
 
     // Does what a POST puts over the tree. Its answer is made before, so that nothing changes where there is no memory for it.
     fn done(&mut self, alloc: Global, planned: Planned) -> Mem<Answer>
-        requires { IsGood (patching self.old planned.patch) }
+        requires { IsGood (patching self.old.tree planned.patch) }
         ensures answer { IfOk result (λ a. a ≡ report_answer planned.report) }
         ensures fits { IfOk result (λ a. length a.body ≤ 4194304) }
-        ensures after { OnOk result (self.new ≡ patching self.old planned.patch) }
-        ensures unchanged { OnErr result (self.new ≡ self.old) }
+        ensures after { OnOk result (self.new.tree ≡ patching self.old.tree planned.patch) }
+        ensures unchanged { OnErr result (self.new.tree ≡ self.old.tree) }
+        ensures kept { IsTrue self.old.is_indexed → IsTrue self.new.is_indexed }
     {
         let Planned { patch, report } = planned;
         let answer = report_answer(alloc, &report)?;
@@ -61,9 +65,10 @@ impl Publisher {
 
     // Puts a patch over the tree, and keeps what of the readings and the index is still right.
     fn put(&mut self, alloc: Global, patch: Patch) -> Mem<()>
-        requires { IsGood (patching self.old patch) }
-        ensures ok { OnOk result (self.new ≡ patching self.old patch) }
-        ensures unchanged { OnErr result (self.new ≡ self.old) }
+        requires { IsGood (patching self.old.tree patch) }
+        ensures ok { OnOk result (self.new.tree ≡ patching self.old.tree patch) }
+        ensures unchanged { OnErr result (self.new.tree ≡ self.old.tree) }
+        ensures kept { IsTrue self.old.is_indexed → IsTrue self.new.is_indexed }
     {
         put_with_index(
             alloc,

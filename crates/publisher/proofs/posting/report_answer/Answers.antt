@@ -1,4 +1,3 @@
-use Rattle.std.proofs.Common.{rules, ◌≡◌}
 use Rattle.publisher.proofs.ReportLemmas.{line_short}
 use Rattle.publisher.proofs.posting.report_answer.Goals as goal
 

@@ -4,7 +4,7 @@ use Rattle.std.specs.Prelude.{◌||◌, ◌&&◌, ◌==◌, not, codes, is_some,
 use Rattle.std.specs.List.{list_any}
 use Rattle.std.specs.Map.{keys_of, lookup}
 use Rattle.std.specs.Option.{option_map_or}
-use Rattle.std.proofs.lemmas.Bool.{cases_Bool, false_from_ne_true, true≢false}
+use Rattle.std.proofs.lemmas.Bool.{and_parts, cases_Bool, false_from_ne_true, true≢false}
 use Rattle.std.specs.Cmp.Lexicographic.{nat_list_eq_equiv, same_text}
 use Rattle.std.proofs.lemmas.Bool.Decides.{nat_tests}
 use Rattle.std.proofs.lemmas.List.{get_or-map, length-map, take_all}
@@ -119,6 +119,19 @@ added_to old mid new text path paths more were are without with t =
     with t ∙ ap (λ b. cond b more (claimants mid t)) other ∙ without t ∙ ap (λ b. cond b [] (claimants old t)) other
     ∙ sym (ap (λ b. cond b (claimants old t ++ path ∷ []) (claimants old t)) other))
     (cases_Bool (bytes_eq text t))
+
+-- no claimant of a text that has the path among its claimants
+pub not_added : (rows : ClaimRows) (path : List (List ℕ)) (text : List ℕ) → list_any (same_path path) (claimants rows text) ≡ true → AddsClaims path (λ t. bytes_eq t text) rows rows
+not_added rows path text there t q =
+    ⊎_elim
+    (λ (is : (same_path q path && bytes_eq t text) ≡ true).
+    let parts = and_parts (same_path q path) (bytes_eq t text) is in
+    let same : q ≡ path = path_from_same q path parts.0 in
+    let named : t ≡ text = same_text t text (sym parts.1) in
+    let has : list_any (same_path q) (claimants rows t) ≡ true = rw (same, named) there in
+    has ∙ sym (ap (λ b. b || (same_path q path && bytes_eq t text)) has))
+    (λ (is_not : (same_path q path && bytes_eq t text) ≡ false). sym (ap (λ b. list_any (same_path q) (claimants rows t) || b) is_not ∙ or_false (list_any (same_path q) (claimants rows t))))
+    (cases_Bool (same_path q path && bytes_eq t text))
 
 -- one more claimant of one text
 pub added : (rows more : ClaimRows) (path : List (List ℕ)) (text : List ℕ) → ((t : List ℕ) → claimants more t ≡ cond (bytes_eq text t) (claimants rows t ++ path ∷ []) (claimants rows t)) → (test : List ℕ → Bool)

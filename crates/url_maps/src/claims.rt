@@ -1,7 +1,8 @@
 // The table of the nodes that claim a text, by the text.
-ghost use Rattle.std.specs.Prelude.{◌≡◌, ◌≤◌, ◌<◌, ◌+◌, ◌++◌, ◌∷◌, [], ℕ, List, IfOk, OnOk, if◌then◌else◌, length, string_bytes};
+ghost use Rattle.std.specs.Prelude.{◌≡◌, ◌≤◌, ◌<◌, ◌+◌, ◌++◌, ◌∷◌, [], ℕ, List, IfOk, OnOk, if◌then◌else◌, length, string_bytes, true};
 ghost use Rattle.std.specs.List.{list_any};
 ghost use Rattle.std.specs.Str.{bytes_eq};
+ghost use Rattle.resource_tree.specs.Content.{same_path};
 ghost use Rattle.resource_tree.specs.Patches.{patching_at};
 ghost use Rattle.url_maps.specs.Claims.{AddsClaims, claimants};
 ghost use Rattle.url_maps.specs.Changes.{claimants_over};
@@ -92,12 +93,22 @@ impl Claims {
         ensures { OnOk result (AddsClaims path.now (λ t. list_any (bytes_eq t) texts.now) self.old.rows self.new.rows) }
     {
         for text in texts {
-            self.add(alloc, text.text(), path.duplicate(alloc)?)?;
+            self.add_unless_last(alloc, text.text(), path)?;
         }
         Ok(())
     }
 
-    // The parents of the nodes that claim a text as their alias which others claim too.
+    // Adds a path to the claimants of a text, unless it is the last of them: a node may give one text many times.
+    fn add_unless_last(&mut self, alloc: Global, text: &str, path: &Path) -> Mem<()>
+        ensures { OnOk result (AddsClaims path.now (λ t. bytes_eq t text.now) self.old.rows self.new.rows) }
+    {
+        if is_last(self.get(text), path) {
+            return Ok(());
+        }
+        self.add(alloc, text, path.duplicate(alloc)?)
+    }
+
+    // The parents of the nodes of which several claim one text.
     pub(crate) fn shared_parents(&self, alloc: Global) -> Mem<PathList>
         ensures { IfOk result (λ parents. (t : List ℕ) → HasParent parents (claimants self.now.rows t)) }
     {
@@ -153,6 +164,16 @@ impl Claims {
             self.longest = self.longest.max(text.len());
             drop(self.table.insert(text, paths));
         }
+    }
+}
+
+// Whether a path is the last of some.
+fn is_last(paths: &[Path], path: &Path) -> bool
+    ensures { result ≡ true → list_any (same_path path.now) paths.now ≡ true }
+{
+    match paths.last() {
+        Some(last) => path == last,
+        None => false,
     }
 }
 

@@ -1,4 +1,4 @@
--- A content that is being made, and changes of one node. Only private functions and proofs cite this.
+-- A content that is being made, as the contracts of drafts see it, and changes of one node. What `post_apply` promises of a POST cites none of it.
 use Rattle.std.specs.Prelude.{◌≡◌, ℕ, Bool, true, false, length}
 use Rattle.resource_tree.specs.declared.nodes.Node.{Node}
 use Rattle.resource_tree.specs.declared.patch.PatchNode.{PatchNode}

@@ -1,5 +1,6 @@
 pub mod NameLemmas
 pub mod NumberLemmas
+pub mod FreeLemmas
 pub mod PathLemmas
 pub mod WayLemmas
 pub mod GoodLemmas

@@ -16,7 +16,8 @@ use Rattle.std.proofs.lemmas.Str.Parse.{numerals_by_value, tells_digits}
 use Rattle.resource_tree.specs.declared.nodes.Node.{Node}
 use Rattle.resource_tree.specs.Content.{has_kid, node_at}
 use Rattle.tree_draft.specs.Drafts.{Drafted, IsSound}
-use Rattle.post_apply.specs.Names.{MarksListed, MarksTaken, free_number, most_taken, numbered}
+use Rattle.post_apply.specs.Marks.{MarksListed, MarksTaken}
+use Rattle.post_apply.specs.Names.{free_number, most_taken, numbered}
 
 no_plus : (word : List ℕ) → slice_index word 0 ≢ 43 → without_leading_plus word ≡ word
 no_plus word plus = by (slice_index word 0 == 43) refl

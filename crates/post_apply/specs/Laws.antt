@@ -1,12 +1,14 @@
 -- What holds of every POST.
-use Rattle.std.specs.Prelude.{◌≡◌, Bool, true, false, IsTrue, IfErr}
+use Rattle.std.specs.Prelude.{◌≡◌, ◌<◌, ◌^◌, ℕ, Bool, true, false, List, IsTrue, IfErr}
 use Rattle.resource_tree.specs.declared.faults.TreeFault.{TreeFault}
 use Rattle.resource_tree.specs.declared.faults.TreeFault.TheVariants.{NoSuch, RootFixed, IntoItself, Exists, Taken, NoSibling, TooDeep, FullTree, NoMemory as NoMemoryOfTree}
 use Rattle.resource_tree.specs.Content.{Content, IsGood}
 use Rattle.post_plan.specs.declared.operation.Op.{Op}
+use Rattle.post_plan.specs.declared.operation.NameWish.TheVariants.{Hint}
 use Rattle.post_plan.specs.OperationPaths.{names_paths}
 use Rattle.post_apply.specs.declared.fault.ApplyFault.{ApplyFault}
 use Rattle.post_apply.specs.declared.fault.ApplyFault.TheVariants.{Tree, Value, DestThere, NoMemory}
+use Rattle.post_apply.specs.Names.{is_taken, most_taken, name_given, numbered}
 use Rattle.post_apply.specs.Posting.{content_after, posted}
 
 -- an operation whose paths are paths leaves a good content good
@@ -34,3 +36,13 @@ wants_memory NoMemory = true
 -- what an operation is refused for is never out of memory
 abbrev pub RefusalsHaveCauses : Type 0
 RefusalsHaveCauses = (op : Op) (tree : Content) → IfErr (posted op tree) (λ fault. wants_memory fault ≡ false)
+
+-- what is made of a hint isn't taken; it is the hint where that isn't, and else has the least number with which it isn't
+pub record IsMadeName (tree : Content) (parent : List (List ℕ)) (hint made : List ℕ) : Type 0 where
+  pub free : is_taken tree parent made ≡ false
+  pub bare : is_taken tree parent hint ≡ false → made ≡ hint
+  pub least : is_taken tree parent hint ≡ true → (n : ℕ) × (made ≡ numbered hint n) × ((m : ℕ) → m < n → is_taken tree parent (numbered hint m) ≡ true)
+
+-- in a good content a new node gets such a name, below a node with fewer than 2^64 kids and properties: no node in memory has more
+abbrev pub MadeNamesAreLeast : Type 0
+MadeNamesAreLeast = (tree : Content) (parent : List (List ℕ)) (hint : List ℕ) → IsGood tree → most_taken tree parent < 2 ^ 64 → IsMadeName tree parent hint (name_given tree parent (Hint hint))

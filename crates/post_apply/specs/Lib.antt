@@ -4,5 +4,6 @@ pub mod Removals
 pub mod Values
 pub mod Carries
 pub mod Names
+pub mod Marks
 pub mod Posting
 pub mod Laws

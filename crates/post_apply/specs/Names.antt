@@ -1,7 +1,5 @@
 -- The name that a new node gets (Apache Sling, "SlingPostServlet", "Algorithm for node name creation").
-use Rattle.std.specs.Prelude.{◌≡◌, ◌+◌, ◌++◌, ◌∷◌, ◌||◌, ℕ, zero, suc, Bool, true, false, List, is_some, slice_index_or, length, decimal, if◌then◌else◌, nat_eq}
-use Rattle.std.specs.Cmp.Lexicographic.{pointwise}
-use Rattle.std.specs.List.{list_any}
+use Rattle.std.specs.Prelude.{◌+◌, ◌++◌, ◌∷◌, ◌||◌, ℕ, zero, suc, Bool, List, is_some, length, decimal, if◌then◌else◌}
 use Rattle.std.specs.Option.{option_map_or}
 use Rattle.resource_tree.specs.Content.{Content, kid, node_at}
 use Rattle.resource_tree.specs.Changes.{has_prop_at}
@@ -16,20 +14,12 @@ is_taken tree parent name = has_prop_at tree parent name || is_some (node_at tre
 abbrev pub numbered : List ℕ → ℕ → List ℕ
 numbered name n = name ++ 95 ∷ decimal n
 
--- only numbers with which the name is one of these are marked
-abbrev pub MarksListed : List (List ℕ) → List ℕ → List Bool → Type 0
-MarksListed kids name marks = (n : ℕ) → slice_index_or marks n false ≡ true → list_any (pointwise nat_eq (numbered name n)) kids ≡ true
-
--- only numbers with which the name is taken are marked
-abbrev pub MarksTaken : Content → List (List ℕ) → List ℕ → List Bool → Type 0
-MarksTaken tree parent name marks = (n : ℕ) → slice_index_or marks n false ≡ true → is_taken tree parent (numbered name n) ≡ true
-
--- the least number from `n` on, with so many after it, with which the name isn't taken
+-- the first of so many numbers from `n` on with which the name isn't taken, or the one after them where it is taken with each
 unfoldable pub free_number : Content → List (List ℕ) → List ℕ → ℕ → ℕ → ℕ
 free_number tree parent name n zero = n
 free_number tree parent name n (suc more) = if is_taken tree parent (numbered name n) then free_number tree parent name (n + 1) more else n
 
--- as many as the parent has kids and properties: after so many numbers one is free
+-- as many as the parent has kids and properties. Among so many numbers and one more one is free (`MadeNamesAreLeast` of Laws.antt)
 abbrev pub most_taken : Content → List (List ℕ) → ℕ
 most_taken tree parent = option_map_or (λ node. length node.kids + length node.props) (node_at tree parent) 0
 

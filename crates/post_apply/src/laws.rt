@@ -1,5 +1,5 @@
 //! What holds of every POST: laws of the definitions, on functions that do nothing.
-ghost use Rattle.post_apply.specs.Laws.{OperationsKeepContentGood, RefusalsHaveCauses};
+ghost use Rattle.post_apply.specs.Laws.{MadeNamesAreLeast, OperationsKeepContentGood, RefusalsHaveCauses};
 
 /// Whatever an operation does, the content after it is one that a tree has: with a node above each, no name twice and at most 200,000 nodes.
 pub fn operations_keep_content_good()
@@ -9,4 +9,9 @@ pub fn operations_keep_content_good()
 /// What an operation is refused for is a cause of its own: by definition none is out of memory.
 pub fn refusals_have_causes()
     ensures { RefusalsHaveCauses }
+{}
+
+/// No kid and no property of the parent has a made name: it is the hint where none has that, and else has the least number with which none has it.
+pub fn a_made_name_is_the_least_that_is_free()
+    ensures { MadeNamesAreLeast }
 {}

@@ -17,6 +17,8 @@ mod values;
 mod way;
 
 pub use fault::ApplyFault;
-pub use laws::{operations_keep_content_good, refusals_have_causes};
+pub use laws::{
+    a_made_name_is_the_least_that_is_free, operations_keep_content_good, refusals_have_causes,
+};
 pub use posting::{Planned, apply, patch_of};
 pub use report::PostReport;

@@ -1,6 +1,7 @@
 //! The name that a new node gets.
 ghost use Rattle.std.specs.Prelude.{◌≡◌, IfOk, IfSome};
 ghost use Rattle.tree_draft.specs.Drafts.{IsSound};
+ghost use Rattle.post_apply.specs.Marks.{MarksTaken};
 ghost use Rattle.post_apply.specs.Names as spec;
 
 use crate::numbers::{is_marked, marked_numbers};
@@ -42,7 +43,7 @@ fn first_free(
     most: usize,
 ) -> Mem<TextBuf>
     requires sound { IsSound draft.now }
-    requires marks { spec.MarksTaken draft.now.content parent.now name.now marks.now }
+    requires marks { MarksTaken draft.now.content parent.now name.now marks.now }
     ensures { IfOk result (λ t. t ≡ spec.numbered name.now (spec.free_number draft.now.content parent.now name.now 0 most)) }
 {
     for n in 0..most {

@@ -1,5 +1,6 @@
 //! The numbers of made names.
 ghost use Rattle.std.specs.Prelude.{◌≡◌, ◌≢◌, ◌⊎◌, ℕ, Some, ◌++◌, ◌∷◌, IfOk, IfSome, length, map, slice_index, slice_index_or, false, true, decimal};
+ghost use Rattle.post_apply.specs.Marks.{MarksListed};
 ghost use Rattle.post_apply.specs.Names as spec;
 
 use sp_base::{Mem, TextBuf};
@@ -51,7 +52,7 @@ fn mark(marks: &mut Vec<bool>, number: Option<usize>)
 
 /// Numbers with which a name is one of these kids', marked: those below some number.
 pub fn marked_numbers(alloc: Global, kids: &[&TextBuf], name: &str, most: usize) -> Mem<Vec<bool>>
-    ensures { IfOk result (λ marks. spec.MarksListed (map (λ kid. kid.now) kids.now) name.now marks.items) }
+    ensures { IfOk result (λ marks. MarksListed (map (λ kid. kid.now) kids.now) name.now marks.items) }
 {
     let mut marks = vec![in alloc; false; most]?;
     for kid in kids {

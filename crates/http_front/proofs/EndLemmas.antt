@@ -165,10 +165,10 @@ bad_here : (s : List ℕ) → EndsInSpoiltTarget s → HasNoHead s BadHead
 bad_here s x = inl (refl, never_head s x)
 
 -- the ends of a stream that ends within such a target
-abbrev IsOpenEnd : List ℕ → End → Type 0
-IsOpenEnd s end = (end ≡ Breaks BadHead) ⊎ (((end ≡ Waits) × (length s < longest_head)) ⊎ ((end ≡ Breaks LongHead) × (longest_head ≤ length s)))
+abbrev IsEndLeftOpen : List ℕ → End → Type 0
+IsEndLeftOpen s end = (end ≡ Breaks BadHead) ⊎ (((end ≡ Waits) × (length s < longest_head)) ⊎ ((end ≡ Breaks LongHead) × (longest_head ≤ length s)))
 
-only_here : (s : List ℕ) (end : End) → EndsInSpoiltTarget s → Stops s end → IsOpenEnd s end
+only_here : (s : List ℕ) (end : End) → EndsInSpoiltTarget s → Stops s end → IsEndLeftOpen s end
 only_here s Waits x (inl awaits) = inr (inl (refl, awaits.1))
 only_here s Waits x (inr body) = absurd (body_none s BadHead body (bad_here s x))
 only_here s (Breaks f) x (inl refused) = absurd (refused_none s f BadHead refused (bad_here s x))
@@ -202,5 +202,5 @@ open_waits s last turns begins x short = spells_after s last turns Waits begins 
 pub open_long : (s last : List ℕ) (turns : List Turn) → BeginsWithTurns s turns last → EndsInSpoiltTarget last → longest_head ≤ length last → SpellsTurns s turns (Breaks LongHead)
 open_long s last turns begins x long = spells_after s last turns (Breaks LongHead) begins (inr (inr (refl, (in_target last x, long))))
 
-pub open_only : (s last : List ℕ) (turns : List Turn) (end : End) → BeginsWithTurns s turns last → EndsInSpoiltTarget last → SpellsTurns s turns end → IsOpenEnd last end
+pub open_only : (s last : List ℕ) (turns : List Turn) (end : End) → BeginsWithTurns s turns last → EndsInSpoiltTarget last → SpellsTurns s turns end → IsEndLeftOpen last end
 open_only s last turns end begins x y = only_here last end x (stops_after s last turns end begins y)

@@ -7,7 +7,8 @@ use Rattle.http_front.specs.declared.turn.Turn.{Turn}
 use Rattle.http_front.specs.declared.turn.Turn.TheVariants.{Continue, Whole}
 use Rattle.http_front.specs.Turns.{BeginsWithRequest, window}
 
--- the bytes of the next head, or the first 16,384 of them, end within its target, which isn't UTF-8, and no more bytes of a target make it so
+-- The bytes of the next head, or the first 16,384 of them, end within its target, which isn't UTF-8, and no more bytes of a target make it
+-- so. That no bytes at all make a head of them then is the law `the_end_of_a_stream` (`bad`).
 pub record EndsInSpoiltTarget (stream : List ℕ) : Type 0 where
   pub blank : List LineEnd
   pub method : List ℕ

@@ -19,8 +19,8 @@ use Rattle.sp_base.specs.declared.answer.Answer.{Answer}
 use Rattle.sp_base.specs.declared.answer.Mark.{Mark}
 use Rattle.sp_base.specs.declared.answer.Mark.TheVariants.{Plain, NoCache, NoStore, MustRevalidate}
 use Rattle.http_front.specs.Answers.{Field, allowed_methods, answer_bytes, answer_content, connection, content_length, directive_of, field_line, fields_of, fixed_507, is_visible, is_without_content, location_of, plain_value, status_line, unless_empty}
-use Rattle.connections.specs.Slots.{fixed_answer, is_fixed}
-use Rattle.connections.proofs.OutboxLemmas.{is_fixed-fixed}
+use Rattle.connections.specs.Slots.{fixed_answer, are_fixed_507}
+use Rattle.connections.proofs.OutboxLemmas.{are_fixed_507-fixed}
 
 -- ---- a number ends where another byte comes
 own : IsNumeralModel (λ ds. all_ascii_digits ds ≡ true) (digits_value 10)
@@ -217,7 +217,7 @@ no_bytes (b ∷ body) e = absurd (omega (arith, e))
 fixed_by : (a : Answer) → a.status ≡ 507 → a.kind ≡ [] → a.location ≡ [] → a.mark ≡ Plain → length a.body ≡ 0 → a ≡ fixed_answer
 fixed_by a status kind location mark body = λ i. record { status = status i; kind = kind i; location = location i; mark = mark i; body = no_bytes a.body body i }
 
-fixed_is : (h c : Bool) (a : Answer) → a.status < 2 ^ 64 → length a.body < 2 ^ 64 → answer_bytes h c a ≡ fixed_507 → (h ≡ false) × (c ≡ true) × (a ≡ fixed_answer)
+pub fixed_is : (h c : Bool) (a : Answer) → a.status < 2 ^ 64 → length a.body < 2 ^ 64 → answer_bytes h c a ≡ fixed_507 → (h ≡ false) × (c ≡ true) × (a ≡ fixed_answer)
 fixed_is h c a p q e =
     let tail = answer_content h a in
     let first = fixed_fields h c a p e in
@@ -241,31 +241,31 @@ fixed_is h c a p q e =
     after_directive v later tail e = let none = no_directive v later tail e in (none, subst (λ x. fields_text (unless_empty (codes "Cache-Control") x ++ later) tail ≡ fixed_rest) none e)
 
 -- ---- and the other way round
-answer_fixed : answer_bytes false true fixed_answer ≡ fixed_507
+pub answer_fixed : answer_bytes false true fixed_answer ≡ fixed_507
 unfolding answer_bytes status_line field_line plain_value location_of phrase_of digits
 answer_fixed = refl
 
 -- An answer is sent as the fixed 507 where it is the fixed answer, is sent whole and closes its connection. That it is the fixed answer
 -- is what a test tells.
-pub closed-fixed : (h c : Bool) (a : Answer) (is : Bool) → (IsTrue is → a ≡ fixed_answer) → (a ≡ fixed_answer → IsTrue is) → (a.status < 2 ^ 64) × (length a.body < 2 ^ 64) → (h ≡ false) × (c ≡ true) → is ≡ is_fixed (answer_bytes h c a)
-closed-fixed h c a is told tells short whole = by_test (is_fixed (answer_bytes h c a)) refl is refl
+pub closed-fixed : (h c : Bool) (a : Answer) (is : Bool) → (IsTrue is → a ≡ fixed_answer) → (a ≡ fixed_answer → IsTrue is) → (a.status < 2 ^ 64) × (length a.body < 2 ^ 64) → (h ≡ false) × (c ≡ true) → is ≡ are_fixed_507 (answer_bytes h c a)
+closed-fixed h c a is told tells short whole = by_test (are_fixed_507 (answer_bytes h c a)) refl is refl
   where
-    by_test : (t : Bool) → is_fixed (answer_bytes h c a) ≡ t → (u : Bool) → is ≡ u → u ≡ t
+    by_test : (t : Bool) → are_fixed_507 (answer_bytes h c a) ≡ t → (u : Bool) → is ≡ u → u ≡ t
     by_test true sent true test = refl
     by_test true sent false test = absurd (false≢true (sym test ∙ tells (fixed_is h c a short.0 short.1 (same_text _ _ (sym sent))).2))
     by_test false sent true test =
         let bytes : answer_bytes h c a ≡ fixed_507 = ap (answer_bytes h c) (told test) ∙ rw (whole.0, whole.1) answer_fixed in
-        absurd (false≢true (sym sent ∙ is_fixed-fixed _ bytes))
+        absurd (false≢true (sym sent ∙ are_fixed_507-fixed _ bytes))
     by_test false sent false test = refl
 
-pub other-fixed : (h c : Bool) (a : Answer) → (a.status < 2 ^ 64) × (length a.body < 2 ^ 64) → (h ≡ true) ⊎ ((h ≡ false) × (c ≡ false)) → false ≡ is_fixed (answer_bytes h c a)
-other-fixed h c a short way = by_test (is_fixed (answer_bytes h c a)) refl
+pub other-fixed : (h c : Bool) (a : Answer) → (a.status < 2 ^ 64) × (length a.body < 2 ^ 64) → (h ≡ true) ⊎ ((h ≡ false) × (c ≡ false)) → false ≡ are_fixed_507 (answer_bytes h c a)
+other-fixed h c a short way = by_test (are_fixed_507 (answer_bytes h c a)) refl
   where
     never : (h ≡ true) ⊎ ((h ≡ false) × (c ≡ false)) → (h ≡ false) × (c ≡ true) → ⊥
     never (inl head) whole = false≢true (sym whole.0 ∙ head)
     never (inr stays) whole = false≢true (sym stays.1 ∙ whole.1)
 
-    by_test : (t : Bool) → is_fixed (answer_bytes h c a) ≡ t → false ≡ t
+    by_test : (t : Bool) → are_fixed_507 (answer_bytes h c a) ≡ t → false ≡ t
     by_test true sent = let told = fixed_is h c a short.0 short.1 (same_text _ _ (sym sent)) in absurd (never way (told.0, told.1))
     by_test false sent = refl
 
@@ -295,11 +295,11 @@ typed h c status =
     let rest = fields_text (fields_of h c a) (answer_content h a) in
     ap has_y (answer_spread h c a) ∙ list_any-append (λ b. b == 121) (status_line a.status) rest ∙ or_true (has_y (status_line a.status)) (has_y rest) (error_fields h c status (answer_content h a))
 
-pub own_unfixed : (h c : Bool) (status : ℕ) → false ≡ is_fixed (answer_bytes h c (error_answer status))
+pub own_unfixed : (h c : Bool) (status : ℕ) → false ≡ are_fixed_507 (answer_bytes h c (error_answer status))
 unfolding has_y
-own_unfixed h c status = by_test (is_fixed (answer_bytes h c (error_answer status))) refl
+own_unfixed h c status = by_test (are_fixed_507 (answer_bytes h c (error_answer status))) refl
   where
-    by_test : (t : Bool) → is_fixed (answer_bytes h c (error_answer status)) ≡ t → false ≡ t
+    by_test : (t : Bool) → are_fixed_507 (answer_bytes h c (error_answer status)) ≡ t → false ≡ t
     by_test true is =
         let none : has_y fixed_507 ≡ false = refl in
         let same : answer_bytes h c (error_answer status) ≡ fixed_507 = same_text _ _ (sym is) in

@@ -10,7 +10,7 @@ use Rattle.http_front.specs.Answers.{fixed_507}
 use Rattle.connections.specs.declared.place.AnswerPlace.{AnswerPlace}
 use Rattle.connections.specs.declared.sending.Sending.{Sending}
 use Rattle.connections.specs.declared.place.Reply.{Reply}
-use Rattle.connections.specs.Slots.{IsInPlaceOf, Says, Slot, MayAnswer, is_answered, is_fixed}
+use Rattle.connections.specs.Slots.{IsInPlaceOf, Says, Slot, MayAnswer, is_answered, are_fixed_507}
 use Rattle.connections.specs.Connections.{Connection, Close, IsInPlaceOfDue, Send, due, due_at_slot, due_unsent, filled, with_landing, with_sent, with_slot}
 use Rattle.connections.specs.Histories.{IsDueSending}
 use Rattle.connections.specs.Ties.{AllAnswered, AllTied, IsLeft, IsSendingOf, PlaceTied, ReplyTied, front_has_reply, has_reply, place_bytes}
@@ -56,21 +56,21 @@ or-true : (b : Bool) → (b || true) ≡ true
 or-true true = refl
 or-true false = refl
 
-pub is_fixed-fixed : (bytes : List ℕ) → bytes ≡ fixed_507 → is_fixed bytes ≡ true
-is_fixed-fixed bytes e = rw e refl
+pub are_fixed_507-fixed : (bytes : List ℕ) → bytes ≡ fixed_507 → are_fixed_507 bytes ≡ true
+are_fixed_507-fixed bytes e = rw e refl
 
 -- what is spare stays the fixed 507 until that is sent
-spare-fixed : (sending : Sending) (place : AnswerPlace) (spare now_spare : List ℕ) (over : Bool) → spare ≡ fixed_507 → (now_spare ≡ spare) ⊎ (sending.bytes ≡ spare) → over ≡ (place.closes || is_fixed sending.bytes) → over ≡ false → now_spare ≡ fixed_507
+spare-fixed : (sending : Sending) (place : AnswerPlace) (spare now_spare : List ℕ) (over : Bool) → spare ≡ fixed_507 → (now_spare ≡ spare) ⊎ (sending.bytes ≡ spare) → over ≡ (place.closes || are_fixed_507 sending.bytes) → over ≡ false → now_spare ≡ fixed_507
 spare-fixed sending place spare now_spare over fixed kept over_is going =
     ⊎_elim
     (λ same. same ∙ fixed)
     (λ sent.
-    let ended : over ≡ true = over_is ∙ ap (λ b. place.closes || b) (is_fixed-fixed sending.bytes (sent ∙ fixed)) ∙ or-true place.closes in
+    let ended : over ≡ true = over_is ∙ ap (λ b. place.closes || b) (are_fixed_507-fixed sending.bytes (sent ∙ fixed)) ∙ or-true place.closes in
     absurd (let no : ⊥ = cc in no))
     kept
 
 -- the spare bytes are the place's own, or memory was wanting
-own-or-dry : (t dry : Bool) (place : AnswerPlace) (slot : Slot) (sending : Sending) → is_fixed (place_bytes place) ≡ t → sending.dry ≡ not t → sending.bytes ≡ fixed_507 → PlaceTied place slot → has_reply place.reply ≡ true → MayAnswer slot sending
+own-or-dry : (t dry : Bool) (place : AnswerPlace) (slot : Slot) (sending : Sending) → are_fixed_507 (place_bytes place) ≡ t → sending.dry ≡ not t → sending.bytes ≡ fixed_507 → PlaceTied place slot → has_reply place.reply ≡ true → MayAnswer slot sending
 own-or-dry true dry place slot sending own calm bytes tied has = inl (written-tied place slot sending.bytes tied has (bytes ∙ sym (same_text _ _ (sym own))))
 own-or-dry false dry place slot sending other wanting bytes tied has = inr (wanting, bytes)
 
@@ -78,14 +78,14 @@ may-answer : (sending : Sending) (place : AnswerPlace) (slot : Slot) (spare : Li
 may-answer sending place slot spare fixed is tied has =
     ⊎_elim
     (λ e. inl (written-tied place slot sending.bytes tied has e.1))
-    (λ e. own-or-dry (is_fixed (place_bytes place)) sending.dry place slot sending refl e.0 (e.1 ∙ fixed) tied has)
+    (λ e. own-or-dry (are_fixed_507 (place_bytes place)) sending.dry place slot sending refl e.0 (e.1 ∙ fixed) tied has)
     is
 
 pub due-answered : (c : Connection) (slot : Slot) → c.over ≡ false → slice_get c.slots c.sent ≡ Some slot → is_answered slot.response ≡ true → due c ≡ Send slot
 due-answered c slot going at has = rw (going, at, has) refl
 
 pub sent-left : {places : List AnswerPlace} {closing over : Bool} {spare : List ℕ} (c : Connection) (place : AnswerPlace) (rest : List AnswerPlace) (sending : Sending) (now_closing now_over : Bool) (now_spare : List ℕ) → IsLeft places closing over spare c
-    → places ≡ place ∷ rest → now_closing ≡ closing → over ≡ false → has_reply place.reply ≡ true → IsSendingOf place spare sending → (now_spare ≡ spare) ⊎ (sending.bytes ≡ spare) → now_over ≡ (place.closes || is_fixed sending.bytes)
+    → places ≡ place ∷ rest → now_closing ≡ closing → over ≡ false → has_reply place.reply ≡ true → IsSendingOf place spare sending → (now_spare ≡ spare) ⊎ (sending.bytes ≡ spare) → now_over ≡ (place.closes || are_fixed_507 sending.bytes)
     → IsDueSending c sending × IsLeft rest now_closing now_over now_spare (with_sent sending.bytes c)
 sent-left {places} {closing} {over} {spare} c place rest sending now_closing now_over now_spare left e stays going has is kept over_is =
     let fixed = left.spare_is going in
@@ -101,7 +101,7 @@ sent-left {places} {closing} {over} {spare} c place rest sending now_closing now
         within = omega (arith, cut.2);
         past = rw (add-one, cut.3) (all-answered-push _ _ left.past answered);
         closing_is = stays ∙ left.closing_is;
-        over_is = rw cut.0 (over_is ∙ ap (λ b. b || is_fixed sending.bytes) tied.closes_is);
+        over_is = rw cut.0 (over_is ∙ ap (λ b. b || are_fixed_507 sending.bytes) tied.closes_is);
         spare_is = spare-fixed sending place spare now_spare now_over fixed kept over_is;
       },
     )
@@ -116,8 +116,8 @@ in-place : (place : AnswerPlace) (slot : Slot) (sending : Sending) (spare : List
 in-place place slot sending spare fixed (inl own) tied has dry = absurd (let calm : sending.dry ≡ false = own.0 in let no : ⊥ = cc in no)
 in-place place slot sending spare fixed (inr sent) tied has dry =
     let bytes : sending.bytes ≡ fixed_507 = sent.1 ∙ fixed in
-    let other : is_fixed (place_bytes place) ≡ false = not-false _ (sym sent.0 ∙ dry) in
-    (bytes, λ written. false≢true (sym other ∙ is_fixed-fixed _ (sym (written-bytes place slot sending.bytes tied has written) ∙ bytes)))
+    let other : are_fixed_507 (place_bytes place) ≡ false = not-false _ (sym sent.0 ∙ dry) in
+    (bytes, λ written. false≢true (sym other ∙ are_fixed_507-fixed _ (sym (written-bytes place slot sending.bytes tied has written) ∙ bytes)))
 
 pub in-place-due : {places : List AnswerPlace} {closing over : Bool} {spare : List ℕ} (c : Connection) (place : AnswerPlace) (rest : List AnswerPlace) (sending : Sending) → IsLeft places closing over spare c → places ≡ place ∷ rest → over ≡ false
     → has_reply place.reply ≡ true → IsSendingOf place spare sending → IsTrue sending.dry → IsInPlaceOfDue (due c) sending.bytes

@@ -66,12 +66,13 @@ MayAnswer slot sending = IsWritten slot slot.response sending.bytes ⊎ (IsTrue 
 abbrev pub IsInPlaceOf : Slot → List ℕ → Type 0
 IsInPlaceOf slot bytes = (bytes ≡ fixed_507) × (IsWritten slot slot.response bytes → ⊥)
 
-abbrev pub is_fixed : List ℕ → Bool
-is_fixed bytes = pointwise nat_eq bytes fixed_507
+-- the bytes are the fixed 507
+abbrev pub are_fixed_507 : List ℕ → Bool
+are_fixed_507 bytes = pointwise nat_eq bytes fixed_507
 
 -- the connection closes after these bytes of this slot
 abbrev pub is_last : Slot → List ℕ → Bool
-is_last slot bytes = slot.closes || is_fixed bytes
+is_last slot bytes = slot.closes || are_fixed_507 bytes
 
 -- HEAD is answered without a body (RFC 9110, section 9.3.2)
 abbrev pub is_head : Req → Bool

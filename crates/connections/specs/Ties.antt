@@ -7,7 +7,7 @@ use Rattle.connections.specs.declared.place.Reply.{Reply}
 use Rattle.connections.specs.declared.place.Reply.TheVariants.{Interim, Fixed, Own, Awaits, Says}
 use Rattle.connections.specs.declared.outbox.Outbox.{Outbox}
 use Rattle.connections.specs.declared.sending.Sending.{Sending}
-use Rattle.connections.specs.Slots.{Slot, Response, is_answered, is_fixed}
+use Rattle.connections.specs.Slots.{Slot, Response, is_answered, are_fixed_507}
 use Rattle.connections.specs.Slots as model
 use Rattle.connections.specs.Connections.{Connection}
 
@@ -52,7 +52,7 @@ front_has_reply (place ∷ places) = has_reply place.reply
 
 -- what is sent for the place: its bytes; or the spare ones, and then memory was wanting unless the fixed 507 is its own
 abbrev pub IsSendingOf : AnswerPlace → List ℕ → Sending → Type 0
-IsSendingOf place spare sending = ((sending.dry ≡ false) × (sending.bytes ≡ place_bytes place)) ⊎ ((sending.dry ≡ not (is_fixed (place_bytes place))) × (sending.bytes ≡ spare))
+IsSendingOf place spare sending = ((sending.dry ≡ false) × (sending.bytes ≡ place_bytes place)) ⊎ ((sending.dry ≡ not (are_fixed_507 (place_bytes place))) × (sending.bytes ≡ spare))
 
 -- ---- places and slots
 

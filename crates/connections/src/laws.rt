@@ -1,6 +1,8 @@
 //! What follows from the definitions for a whole connection, on functions that do nothing.
-ghost use Rattle.std.specs.Prelude.{◌≡◌, ◌≢◌, ℕ, List, None, slice_get, true};
-ghost use Rattle.connections.specs.Slots.{Slot};
+ghost use Rattle.std.specs.Prelude.{◌≡◌, ◌≢◌, ◌<◌, ◌^◌, ℕ, Bool, List, None, false, length, slice_get, true};
+ghost use Rattle.sp_base.specs.declared.answer.Answer as model;
+ghost use Rattle.http_front.specs.Answers.{answer_bytes, fixed_507};
+ghost use Rattle.connections.specs.Slots.{Slot, fixed_answer};
 ghost use Rattle.connections.specs.Connections.{Close, Send, due, fresh};
 ghost use Rattle.connections.specs.Histories.{AnswersRun, AreOfTurns, Follows, Move, after_all, sendings};
 
@@ -19,4 +21,12 @@ pub fn slots_of_turns()
 /// Whatever happens to a connection, it isn't left open: once it closes and all its slots are sent, its end is due.
 pub fn a_closing_connection_ends()
     ensures { (peer : List ℕ) (moves : List Move) → Follows (fresh peer) moves → (after_all (fresh peer) moves).closing ≡ true → slice_get (after_all (fresh peer) moves).slots (after_all (fresh peer) moves).sent ≡ None → due (after_all (fresh peer) moves) ≡ Close }
+{}
+
+/// The fixed answer, sent whole where the connection closes after it, is the fixed 507 (`bytes`); no other answer is, nor is it in another
+/// way (`only`).
+pub fn the_fixed_answer_is_its_bytes()
+    ensures bytes { answer_bytes false true fixed_answer ≡ fixed_507 }
+    ensures only { (head_only closes : Bool) (answer : model.Answer) → answer.status < 2 ^ 64 → length answer.body < 2 ^ 64 → answer_bytes head_only closes answer ≡ fixed_507
+        → (head_only ≡ false) × (closes ≡ true) × (answer ≡ fixed_answer) }
 {}

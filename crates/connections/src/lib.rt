@@ -7,7 +7,9 @@ mod outbox;
 mod place;
 mod sending;
 
-pub use laws::{a_closing_connection_ends, answers_in_order, slots_of_turns};
+pub use laws::{
+    a_closing_connection_ends, answers_in_order, slots_of_turns, the_fixed_answer_is_its_bytes,
+};
 pub use outbox::Outbox;
 pub use place::{AnswerPlace, Reply};
 pub use sending::Sending;

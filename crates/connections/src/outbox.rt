@@ -90,7 +90,7 @@ impl Outbox {
         ensures kept { (self.new.places ≡ self.old.places) × (self.new.closing ≡ self.old.closing) × (self.new.over ≡ self.old.over) }
         ensures spare { (self.new.spare ≡ self.old.spare) ⊎ (result.bytes ≡ self.old.spare) }
     {
-        if place.is_fixed() {
+        if place.owns_fixed_507() {
             return Sending {
                 bytes: self.take_spare(alloc),
                 dry: false,

@@ -101,18 +101,18 @@ impl AnswerPlace {
 
     // Whether the connection closes after these bytes of its answer.
     pub(crate) fn is_last(&self, bytes: &[u8]) -> bool
-        ensures { result ≡ (self.now.closes || model.is_fixed bytes.now) }
+        ensures { result ≡ (self.now.closes || model.are_fixed_507 bytes.now) }
     {
         self.closes || bytes == fixed_507()
     }
 
     // Whether the fixed 507 is its own answer, so that it is sent without taking memory.
-    pub(crate) fn is_fixed(&self) -> bool
-        ensures { result ≡ model.is_fixed (place_bytes self.now) }
+    pub(crate) fn owns_fixed_507(&self) -> bool
+        ensures { result ≡ model.are_fixed_507 (place_bytes self.now) }
     {
         match &self.reply {
             Reply::Fixed => true,
-            Reply::Says(answer) => is_fixed_507(self.head_only, self.closes, answer),
+            Reply::Says(answer) => is_sent_as_fixed_507(self.head_only, self.closes, answer),
             // An error's answer has a media type, whatever its status is.
             Reply::Own(_) => false,
             Reply::Interim | Reply::Awaits(_) => false,
@@ -137,8 +137,8 @@ impl AnswerPlace {
 }
 
 // Whether an answer's bytes are those of the fixed 507.
-fn is_fixed_507(head_only: bool, closes: bool, answer: &Answer) -> bool
-    ensures { result ≡ model.is_fixed (bytes_of head_only closes answer.now) }
+fn is_sent_as_fixed_507(head_only: bool, closes: bool, answer: &Answer) -> bool
+    ensures { result ≡ model.are_fixed_507 (bytes_of head_only closes answer.now) }
 {
     let fixed = is_fixed_answer(answer);
     if head_only || !closes {

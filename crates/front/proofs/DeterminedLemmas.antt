@@ -5,7 +5,7 @@ use Rattle.std.specs.Map.{update}
 use Rattle.std.specs.Option.{option_map}
 use Rattle.sp_base.specs.declared.answer.Answer.{Answer}
 use Rattle.sp_base.specs.declared.answer.Req.{Req}
-use Rattle.http_front.specs.OpenEnds.{HasOpenEnd}
+use Rattle.http_front.specs.OpenEnds.{LeavesEndOpen}
 use Rattle.http_front.specs.Turns.{End, SpellsTurns}
 use Rattle.http_front.specs.declared.turn.Turn.{Turn}
 use Rattle.http_front.specs.declared.turn.Turn.TheVariants.{Continue, Whole}
@@ -16,7 +16,7 @@ use Rattle.front.specs.declared.note.Note.{Note}
 use Rattle.front.specs.declared.note.Note.TheVariants.{Answer as answered, Lost, Passed, Rendered, Sent}
 use Rattle.front.specs.declared.step.Step.{Step}
 use Rattle.front.specs.declared.step.Step.TheVariants as step
-use Rattle.front.specs.Determined.{AreCalmEvents, CalmRunsAreOne, CalmStreamsEndAlike, EndAlike, HaveNoOpenEnd, IsOpenEnd, IsOpenEndOf, IsSameEnd, IsSameEndOf, event_notes, event_steps}
+use Rattle.front.specs.Determined.{AreCalmEvents, CalmRunsAreOne, CalmStreamsEndAlike, EndAlike, LeaveNoEndOpen, IsEndLeftOpen, IsEndLeftOpenOf, IsSameEnd, IsSameEndOf, event_notes, event_steps}
 use Rattle.front.specs.Events.{DeliverAs, DeliverTo, Event, HappensBy, IsOrFixed, LeadsNotes, LoseTo, PieceTo, RenderTo, Run, after_event, begun, is_any, is_rendered, is_unrendered, mood_notes, notes_of, picked}
 use Rattle.front.specs.Moves.{GivesDue, IsFirstPoint, MaySend, Mood, Serves, Settles, afters, due_of_connection, on_line, points, state_after_note}
 use Rattle.front.specs.States.{RunState, start_of}
@@ -176,9 +176,9 @@ calm-runs law publishing farm content a b = run-one law (start_of publishing far
 
 -- ---- where streams end alike
 abbrev pub OneEnd : Type 0
-OneEnd = (stream : List ℕ) (turns : List Turn) (end last : End) → SpellsTurns stream turns end → SpellsTurns stream turns last → (end ≡ last) ⊎ HasOpenEnd stream turns
+OneEnd = (stream : List ℕ) (turns : List Turn) (end last : End) → SpellsTurns stream turns end → SpellsTurns stream turns last → (end ≡ last) ⊎ LeavesEndOpen stream turns
 
-piece-ends : Beginnings → OneEnd → (w : RunState) (e f : Event) (c : ℕ) (bytes : List ℕ) (at : Option Connection) → (IsOpenEndOf at bytes e.turns → ⊥) → PieceTo w e c bytes at → PieceTo w f c bytes at → IsSameEndOf at e.ends f.ends
+piece-ends : Beginnings → OneEnd → (w : RunState) (e f : Event) (c : ℕ) (bytes : List ℕ) (at : Option Connection) → (IsEndLeftOpenOf at bytes e.turns → ⊥) → PieceTo w e c bytes at → PieceTo w f c bytes at → IsSameEndOf at e.ends f.ends
 piece-ends law one w e f c bytes None closed a b = tt
 piece-ends law one w e f c bytes (Some k) closed a b = λ read.
     let stream : List ℕ = k.stream ++ bytes in
@@ -186,7 +186,7 @@ piece-ends law one w e f c bytes (Some k) closed a b = λ read.
     let spelled : SpellsTurns stream (k.turns ++ e.turns) f.ends = subst (λ ts. SpellsTurns stream (k.turns ++ ts) f.ends) (sym turns) (b.spells read) in
     ⊎_elim (λ same. same) (λ open_end. absurd (closed (read, open_end))) (one stream (k.turns ++ e.turns) e.ends f.ends (a.spells read) spelled)
 
-step-ends : Beginnings → OneEnd → (w : RunState) (e f : Event) (s : Step) → (IsOpenEnd w s e.turns → ⊥) → HappensBy w e s → HappensBy w f s → IsSameEnd w s e.ends f.ends
+step-ends : Beginnings → OneEnd → (w : RunState) (e f : Event) (s : Step) → (IsEndLeftOpen w s e.turns → ⊥) → HappensBy w e s → HappensBy w f s → IsSameEnd w s e.ends f.ends
 step-ends law one w e f (step.Opened c peer) closed a b = tt
 step-ends law one w e f (step.Piece c bytes) closed a b = piece-ends law one w e f c bytes (w.line c) closed a b
 step-ends law one w e f (step.Gone c) closed a b = tt
@@ -195,7 +195,7 @@ step-ends law one w e f (step.Render pick) closed a b = tt
 step-ends law one w e f (step.Deliver pick) closed a b = tt
 step-ends law one w e f (step.Lose pick) closed a b = tt
 
-run-ends : Beginnings → OneEnd → (w : RunState) (a b : List Event) → Run w a → Run w b → event_steps a ≡ event_steps b → AreCalmEvents a → AreCalmEvents b → HaveNoOpenEnd w a → EndAlike w a b
+run-ends : Beginnings → OneEnd → (w : RunState) (a b : List Event) → Run w a → Run w b → event_steps a ≡ event_steps b → AreCalmEvents a → AreCalmEvents b → LeaveNoEndOpen w a → EndAlike w a b
 run-ends law end w [] b one two steps calm quiet closed = tt
 run-ends law end w (e ∷ a) [] one two steps calm quiet closed = tt
 run-ends law end w (e ∷ a) (f ∷ b) one two steps calm quiet closed =

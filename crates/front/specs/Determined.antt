@@ -3,7 +3,7 @@ use Rattle.std.specs.Prelude.{◌≡◌, ◌++◌, ℕ, false, List, [], ◌∷�
 use Rattle.resource_tree.specs.Content.{Content}
 use Rattle.any_config.specs.declared.farm.Farm.{Farm}
 use Rattle.http_front.specs.declared.turn.Turn.{Turn}
-use Rattle.http_front.specs.OpenEnds.{HasOpenEnd}
+use Rattle.http_front.specs.OpenEnds.{LeavesEndOpen}
 use Rattle.http_front.specs.Turns.{End}
 use Rattle.connections.specs.Connections.{Connection}
 use Rattle.front.specs.declared.note.Note.{Note}
@@ -54,29 +54,29 @@ CalmRunsAreOne = (publishing : Publishing) (farm : Farm) (content : Content) (a 
 
 -- ---- where streams end alike
 
--- what comes on the connection is read, and with these bytes, which bring these turns, its stream ends within a target that can't be
--- UTF-8 any more
-abbrev pub IsOpenEndOf : Option Connection → List ℕ → List Turn → Type 0
-IsOpenEndOf None bytes turns = ⊥
-IsOpenEndOf (Some line) bytes turns = (line.closing ≡ false) × HasOpenEnd (line.stream ++ bytes) (line.turns ++ turns)
+-- what comes on the connection is read, and with these bytes, which bring these turns, what comes after its turns, or the first 16,384
+-- bytes of that, ends within a target that isn't UTF-8 and can't become it
+abbrev pub IsEndLeftOpenOf : Option Connection → List ℕ → List Turn → Type 0
+IsEndLeftOpenOf None bytes turns = ⊥
+IsEndLeftOpenOf (Some line) bytes turns = (line.closing ≡ false) × LeavesEndOpen (line.stream ++ bytes) (line.turns ++ turns)
 
 -- the stream to which a step brings bytes ends so
-abbrev pub IsOpenEnd : RunState → Step → List Turn → Type 0
-IsOpenEnd w (Opened c peer) turns = ⊥
-IsOpenEnd w (Piece c bytes) turns = IsOpenEndOf (w.line c) bytes turns
-IsOpenEnd w (Gone c) turns = ⊥
-IsOpenEnd w (Direct target) turns = ⊥
-IsOpenEnd w (Render pick) turns = ⊥
-IsOpenEnd w (Deliver pick) turns = ⊥
-IsOpenEnd w (Lose pick) turns = ⊥
+abbrev pub IsEndLeftOpen : RunState → Step → List Turn → Type 0
+IsEndLeftOpen w (Opened c peer) turns = ⊥
+IsEndLeftOpen w (Piece c bytes) turns = IsEndLeftOpenOf (w.line c) bytes turns
+IsEndLeftOpen w (Gone c) turns = ⊥
+IsEndLeftOpen w (Direct target) turns = ⊥
+IsEndLeftOpen w (Render pick) turns = ⊥
+IsEndLeftOpen w (Deliver pick) turns = ⊥
+IsEndLeftOpen w (Lose pick) turns = ⊥
 
--- after no event the stream ends so to which it brought bytes
-abbrev pub HaveNoOpenEnd : RunState → List Event → Type 0
-HaveNoOpenEnd w [] = Unit {0}
-HaveNoOpenEnd w (e ∷ events) = (IsOpenEnd w e.step e.turns → ⊥) × HaveNoOpenEnd (after_event w e) events
+-- after no event the stream ends so to which it brought bytes, where these are read
+abbrev pub LeaveNoEndOpen : RunState → List Event → Type 0
+LeaveNoEndOpen w [] = Unit {0}
+LeaveNoEndOpen w (e ∷ events) = (IsEndLeftOpen w e.step e.turns → ⊥) × LeaveNoEndOpen (after_event w e) events
 
--- In two runs of the same steps in which memory isn't wanting the streams end alike, unless one ends within a target that can't be UTF-8
--- any more.
+-- In two runs of the same steps in which memory isn't wanting the streams end alike, if in the first none that is still read ends within
+-- such a target after any event.
 abbrev pub CalmStreamsEndAlike : Type 0
 CalmStreamsEndAlike = (publishing : Publishing) (farm : Farm) (content : Content) (a b : List Event) → Run (start_of publishing farm content) a → Run (start_of publishing farm content) b → event_steps a ≡ event_steps b
-    → AreCalmEvents a → AreCalmEvents b → HaveNoOpenEnd (start_of publishing farm content) a → EndAlike (start_of publishing farm content) a b
+    → AreCalmEvents a → AreCalmEvents b → LeaveNoEndOpen (start_of publishing farm content) a → EndAlike (start_of publishing farm content) a b

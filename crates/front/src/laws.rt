@@ -88,8 +88,10 @@ pub fn calm_runs_are_determined()
     the_turns_of_a_beginning();
 }
 
-/// How the streams end is determined by the same, but where one ends within a target that can't be UTF-8 any more: the fault may be told
-/// there or later, and at 16,384 bytes it is a bad head or a long one.
+/// In two runs of the same steps, before the same publisher and farm and on the same content, in which memory isn't wanting, the streams
+/// end alike, if in the first no stream that is still read ends, after any event, within a target that isn't UTF-8 and can't become it,
+/// with its bytes or with the first 16,384 of the next head's. (There a bad head may be told at once or later, and at 16,384 bytes a bad
+/// head or a long one. After one such end, on any connection, nothing is said of the others.)
 pub fn calm_streams_end_alike()
     ensures { CalmStreamsEndAlike }
 {

@@ -14,7 +14,7 @@ use Rattle.httparse.specs.declared.spans.HeaderSpan.{HeaderSpan}
 use Rattle.httparse.specs.declared.spans.RequestSpans.{RequestSpans}
 use Rattle.http_front.specs.declared.fault.InFault.{InFault}
 use Rattle.http_front.specs.declared.head.AskedHead.{AskedHead}
-use Rattle.http_front.specs.Heads.{request_parts_at, AreWithin, AreTexts, Asks, head_fault}
+use Rattle.http_front.specs.Heads.{Parts, request_parts_at, AreWithin, AreTexts, Asks, head_fault}
 use Rattle.http_front.specs.Fronts.{HoldsHead, HoldsSomeHead}
 use Rattle.http_front.specs.Turns.{BeginsAsking, BeginsRefused, longest_head}
 
@@ -33,8 +33,11 @@ texts bytes fields spans holds =
       method = token_is_text head.method holds.1.reads.0.method;
       target = holds.1.reads.0.target_text;
       names = All-map (λ field. IsUtf8 field.0) name_and_value head.fields (All-weaker IsField (λ f. IsUtf8 f.name) (λ f h. token_is_text f.name h.name) head.fields holds.1.reads.0.fields);
-      minor = holds.1.reads.0.minor;
     })
+
+-- and its version is 1.0 or 1.1
+pub version : (bytes : List ℕ) (fields : List HeaderSpan) (spans : RequestSpans) → HoldsSomeHead bytes fields spans → spans.version ≤ 1
+version bytes fields spans holds = subst (λ (p : Parts). p.minor ≤ 1) (sym holds.1.parts_are) holds.1.reads.0.minor
 
 -- the parser's spans are such places
 pub holds : (bytes : List ℕ) (places : List HeaderSpan) (spans : RequestSpans) (head : RequestHead) → IsRequestWithin bytes places spans → IsRequestAt bytes places spans head

@@ -1,5 +1,5 @@
 -- What a whole request head asks for, and why one is refused (RFC 9110, RFC 9112).
-use Rattle.std.specs.Prelude.{◌≡◌, ◌≤◌, ◌==◌, ◌&&◌, ◌||◌, ◌++◌, ℕ, Bool, false, nat_eq, nat_lt, if◌then◌else◌, List, [], ◌∷◌, Option, Some, None, option_and_then, option_map, Result, Ok, Err, All, IsUtf8, codes, decimal, length, map, unwrap_or}
+use Rattle.std.specs.Prelude.{◌≡◌, ◌==◌, ◌&&◌, ◌||◌, ◌++◌, ℕ, Bool, false, nat_eq, nat_lt, if◌then◌else◌, List, [], ◌∷◌, Option, Some, None, option_and_then, option_map, Result, Ok, Err, All, IsUtf8, codes, decimal, length, map, unwrap_or}
 use Rattle.std.specs.List.{count_by, find}
 use Rattle.std.specs.Cmp.Lexicographic.{pointwise}
 use Rattle.std.specs.Option.{is_none, is_some}
@@ -152,12 +152,11 @@ pub record AreWithin (bytes : List ℕ) (fields : List HeaderSpan) (spans : Requ
   pub path : IsWithin (length bytes) spans.path
   pub fields_fit : All (IsHeaderWithin (length bytes)) fields
 
--- method, target and names are UTF-8, and the version is one that is read
+-- method, target and names are UTF-8
 pub record AreTexts (p : Parts) : Type 0 where
   pub method : IsUtf8 p.method
   pub target : IsUtf8 p.target
   pub names : All (λ field. IsUtf8 field.0) p.fields
-  pub minor : p.minor ≤ 1
 
 abbrev pub within_limit : Option ℕ → Result ℕ InFault
 within_limit None = Err BadLength

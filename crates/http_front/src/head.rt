@@ -53,6 +53,7 @@ pub fn read_head(
 ) -> Result<AskedHead, InFault>
     requires within { spec.AreWithin bytes.now fields.now spans.now }
     requires texts { spec.AreTexts (spec.request_parts_at bytes.now fields.now spans.now) }
+    requires version { spans.now.version ≤ 1 }
     ensures ok { IfOk result (spec.Asks (spec.request_parts_at bytes.now fields.now spans.now)) }
     ensures err { IfErr result (λ e. e ≢ NoMemory → spec.head_fault (spec.request_parts_at bytes.now fields.now spans.now) ≡ Some e) }
 {

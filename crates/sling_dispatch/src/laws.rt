@@ -53,8 +53,8 @@ pub fn a_filter_sees_the_decomposition()
     ensures { (known : List (List ℕ) → Bool) (text : List ℕ) (parts : split.Parts) (s : IsSplit known text parts) → s.at ≡ length (stem text) → SeesParts text parts }
 {}
 
-/// A scenario has one transcript, where memory is wanting in no event and the streams end alike. (They do unless one ends within a target
-/// that can't be UTF-8 any more: `front`'s law `calm_streams_end_alike`.)
+/// A scenario has one transcript, where memory is wanting in no event and the streams end alike. (They do if in the first no stream that
+/// is still read ends within a target that isn't UTF-8 and can't become it: `front`'s law `calm_streams_end_alike`.)
 pub fn a_calm_session_has_one_transcript()
     ensures { CalmSessionsAreOne }
 {

@@ -1,5 +1,5 @@
 use Rattle.std.proofs.Common.{◌≡◌, ◌||◌, ◌∷◌, ap, sym, ◌∙◌}
-use Rattle.connections.specs.Slots.{is_fixed}
+use Rattle.connections.specs.Slots.{are_fixed_507}
 use Rattle.connections.specs.Ties.{front_has_reply}
 use Rattle.connections.proofs.OutboxLemmas.{held-waits, in-place-due, over-waits, sent-left}
 use Rattle.connections.proofs.outbox.Outbox.send.Goals as goal
@@ -19,7 +19,7 @@ returns-clause-sends c = λ m tied.
     let places : c.args.self.now.places.items ≡ place ∷ c.sending-sending.new.self.places.items = c.in_ok-place.ensures.items ∙ ap (λ q. place ∷ q.items) (sym kept.0) in
     let has = ap front_has_reply (sym places) ∙ sym c.is_ready.ensures ∙ c.if-not-is_ready.false in
     sent-left m place _ c.sending-sending.result _ _ _ tied places kept.1 c.if-self.false has c.sending-sending.ensures.sends c.sending-sending.ensures.spare
-    (c.is_last-self.ensures ∙ ap (λ bytes. place.closes || is_fixed bytes) c.bytes.ensures)
+    (c.is_last-self.ensures ∙ ap (λ bytes. place.closes || are_fixed_507 bytes) c.bytes.ensures)
 
 pub returns-clause-dry : goal.returns-clause-dry
 returns-clause-dry c = λ m tied dry.

@@ -4,7 +4,7 @@ ghost use Rattle.std.specs.Prelude.{◌≡◌, None, [], get_or};
 ghost use Rattle.htl_expr.specs.Value as values;
 ghost use Rattle.htl_expr.specs.Lent as spec;
 
-use crate::pieces::Piece;
+use crate::pieces::ItemPiece;
 use sp_base::{LongList, TextBuf, TextList, TruthList};
 use sqlite_items::Items;
 use std::alloc::Global;
@@ -23,13 +23,12 @@ pub(crate) enum Lent<'a> {
     Items(Items<Lent<'a>>),
 }
 
-/// A value, the name of the property that it is, where it is one of the resource's, and the pieces of the items of a list, as far as
-/// they are known.
+/// A value, with the name of the property that it is, where it is one of the resource's, or else the pieces of all items that it has.
 #[derive(Drop)]
 pub(crate) struct Operand<'a> {
     pub(crate) value: Lent<'a>,
     pub(crate) property: Option<&'a TextBuf>,
-    pub(crate) items: Items<Items<Piece<'a>>>,
+    pub(crate) items: Items<Items<ItemPiece<'a>>>,
 }
 
 impl<'a> Operand<'a> {

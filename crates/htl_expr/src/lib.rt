@@ -9,6 +9,7 @@ mod empty_join;
 mod escape;
 mod evaluation;
 mod expression;
+mod kept;
 mod laws;
 mod lent;
 mod lists;

@@ -43,7 +43,7 @@ of_all scope (ps ∷ items) [] pieces some known all = absurd known
 of_all scope (ps ∷ items) (t ∷ texts) pieces some known all =
     sym (commas_first t texts) ∙ commas_of_all scope (ps ∷ items) (t ∷ texts) known ∙ ap (λ (l : List ItemPiece). with_commas (piece_texts scope l)) (sym all)
 
--- as many texts as rows of pieces
+-- each text has its pieces
 pub as_many : (scope : Bindings) (items : List (List ItemPiece)) (texts : List (List ℕ)) → HavePieces scope items texts → length items ≡ length texts
 as_many scope [] texts known = ap length (sym known)
 as_many scope (ps ∷ items) [] known = absurd known

@@ -164,10 +164,6 @@ remembers_more_joined scope old new name text updates is known q =
     chosen true e = is ∙ ap (λ p. plain [] (property scope p)) (tells_apart exact_bytes name q e)
     chosen false e = known q
 
-pub what_is_joined : (scope : Scope) (known : BTreeMap (List ℕ) (List ℕ)) (name : List ℕ) (found : Option (List ℕ)) → found ≡ get by_name known name → RemembersJoined scope known
-    → IfSome found (λ text. text ≡ plain [] (property scope name))
-what_is_joined scope known name found is remembers = subst (λ (o : Option (List ℕ)). IfSome o (λ text. text ≡ plain [] (property scope name))) (sym is) (remembers name)
-
 pub remembers_more_items : (scope : Scope) (old new : BTreeMap (List ℕ) (List ℕ)) (name text : List ℕ) → Updates by_name old new name (Some text)
     → text ≡ property_item scope name → RemembersItemTexts scope old → RemembersItemTexts scope new
 remembers_more_items scope old new name text updates is known q =

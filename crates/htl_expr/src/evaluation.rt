@@ -9,8 +9,8 @@ ghost use Rattle.htl_expr.specs.Value as spec;
 
 use crate::classes::Classes;
 use crate::compare::{are_lists, is_same, is_text};
-use crate::numbered::{Aspect, has_one_number};
 use crate::kept::{is_item, item_len, push_item};
+use crate::numbered::{Aspect, has_one_number};
 use crate::scope::{Scope, property};
 use sp_base::{Mem, TextBuf};
 use std::alloc::Global;
@@ -18,8 +18,8 @@ use std::collections::BTreeMap;
 use std::marker::Model;
 
 /// A resource that expressions are evaluated for one after another. What is compared of a property gets a number, once, so that what is
-/// the same has the same number. A list whose items are written with nothing between them is looked through once, too. Contracts see
-/// what the expressions see of the resource.
+/// the same has the same number. A list whose items are written with nothing between them is looked through once, too, and so is one
+/// whose text as an item is compared with other texts. Contracts see what the expressions see of the resource.
 #[derive(Drop)]
 pub struct Evaluation<'a> {
     scope: Scope<'a>,

@@ -23,7 +23,6 @@ mod pieces;
 mod print;
 mod reader;
 mod room;
-mod same;
 mod scope;
 mod stop;
 mod tokens;

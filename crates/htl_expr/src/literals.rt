@@ -7,10 +7,9 @@ ghost use Rattle.htl_expr.specs.Pieces.{piece_text, piece_texts, with_commas, Ha
 ghost use Rattle.htl_expr.specs.Value as spec;
 
 use crate::evaluation::Evaluation;
-use crate::lent::Operand;
+use crate::lent::{Operand, item_count};
 use crate::lists::truth_text;
 use crate::pieces::{ItemPiece, have_same_text};
-use crate::same::item_count;
 use crate::scope::Scope;
 use sp_base::{Mem, TextBuf, Value};
 use sqlite_items::Items;

@@ -9,12 +9,11 @@ ghost use Rattle.htl_expr.specs.declared.out.Out.TheVariants as out;
 use crate::compare::operands_compare;
 use crate::evaluation::Evaluation;
 use crate::expression::Expr;
-use crate::lent::{Lent, Operand, is_true};
+use crate::lent::{Lent, Operand, is_list, is_true};
 use crate::lists::truth_text;
 use crate::node::{Comparison, ExprNode};
 use crate::out::{Out, owned};
 use crate::pieces::{ItemPiece, all_pieces, piece_alone};
-use crate::same::is_list;
 use crate::scope::{Scope, property, resource};
 use sp_base::{Mem, TextBuf};
 use sqlite_items::Items;
@@ -207,11 +206,7 @@ fn list_value<'a>(
 }
 
 // The property of this name, or nothing.
-fn property_operand<'a>(
-    alloc: Global,
-    scope: &Evaluation<'a>,
-    name: &'a TextBuf,
-) -> Operand<'a>
+fn property_operand<'a>(alloc: Global, scope: &Evaluation<'a>, name: &'a TextBuf) -> Operand<'a>
     ensures value { out_of_lent result.value ≡ spec.property scope.now name.now }
     ensures operand { IsOperand scope.now result }
 {

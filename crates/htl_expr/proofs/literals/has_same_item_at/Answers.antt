@@ -1,4 +1,4 @@
-use Rattle.std.proofs.Common.{◌∷◌, [], codes, ◌++◌, get_or, sym}
+use Rattle.std.proofs.Common.{[], codes, ◌++◌, get_or, sym}
 use Rattle.htl_expr.specs.Lent.{out_of_lent, listed_texts}
 use Rattle.htl_expr.specs.Pieces.{piece_texts, with_commas}
 use Rattle.htl_expr.proofs.Items.{piece_count, pieces_there, same_by_other_text}

@@ -1,4 +1,4 @@
-use Rattle.std.proofs.Common.{List, length, arith, ap, flat_map, ◌∙◌}
+use Rattle.std.proofs.Common.{List, arith, ap, flat_map, ◌∙◌}
 use Rattle.std.proofs.lemmas.List.{take_all}
 use Rattle.htl_expr.specs.declared.pieces.ItemPiece.{ItemPiece}
 use Rattle.htl_expr.proofs.pieces.all_pieces.Goals as goal

@@ -1,16 +1,16 @@
 -- Texts that are put together of pieces.
-use Rattle.std.proofs.Common.{◌≡◌, ◌≢◌, ◌<◌, ◌+◌, ℕ, zero, suc, nat_eq, Bool, true, false, ◌==◌, Result, Ok, Err, IfOk, IfSome, List, [], ◌∷◌, ◌++◌, codes, flat_map, Option, Some, length, get_or, map, take, refl, sym, ap, ◌∙◌, append-nil, append_assoc, arith}
-use Rattle.std.proofs.lemmas.List.{length-append, length-map, take_all, take_more}
+use Rattle.std.proofs.Common.{◌≡◌, ◌≢◌, ◌<◌, ◌≤◌, ◌+◌, ℕ, zero, suc, nat_eq, Bool, true, false, List, [], ◌∷◌, ◌++◌, codes, flat_map, length, get_or, map, take, refl, sym, ap, ◌∙◌, append-nil, append_assoc, arith}
+use Rattle.std.proofs.lemmas.List.{length-append, take_all, take_more}
 use Rattle.std.proofs.lemmas.Slice.Eq.{bytes_eq-Decides}
 use Rattle.std.specs.Cmp.Lexicographic.{pointwise}
-use Rattle.htl_expr.specs.declared.pieces.Piece.{Piece}
+use Rattle.htl_expr.specs.declared.pieces.ItemPiece.{ItemPiece}
 use Rattle.htl_expr.specs.Bindings.{Bindings}
 use Rattle.htl_expr.specs.Print.{concatenation}
-use Rattle.htl_expr.specs.Pieces.{piece_text, piece_texts, with_commas, ArePieces, IsAll, AgreeUpTo, DifferAt, Tells}
+use Rattle.htl_expr.specs.Pieces.{piece_text, piece_texts, with_commas, AreItemPieces, HavePieces, AgreeUpTo, DifferAt}
 
 -- a piece alone has the text of what it is a piece of
-pub alone : (scope : Bindings) (piece : Piece) (text : List ℕ) → text ≡ piece_text scope piece → ArePieces scope (piece ∷ []) text
-alone scope piece text is = is ∙ sym (append-nil (piece_text scope piece))
+pub alone : (scope : Bindings) (piece : ItemPiece) (text : List ℕ) → text ≡ piece_text scope piece → AreItemPieces scope (piece ∷ []) text
+alone scope piece text is = ap (λ (l : List ℕ). codes "," ++ l) is ∙ sym (append-nil (codes "," ++ piece_text scope piece))
 
 -- texts with a comma before each, one after the other
 commas_append : (xs ys : List (List ℕ)) → with_commas (xs ++ ys) ≡ with_commas xs ++ with_commas ys
@@ -25,57 +25,58 @@ map_append f [] ys = refl
 map_append f (x ∷ xs) ys = ap (λ (l : List (List ℕ)). f x ∷ l) (map_append f xs ys)
 
 -- the pieces of all items with a comma before each are the items with a comma before each
-commas_of_all : (scope : Bindings) (items : List (List Piece)) (texts : List (List ℕ)) → length items ≡ length texts → ((place : ℕ) → place < length items → get_or items place [] ≢ [])
-    → ((place : ℕ) → ArePieces scope (get_or items place []) (get_or texts place [])) → with_commas texts ≡ with_commas (piece_texts scope (flat_map (λ (ps : List Piece). ps) items))
-commas_of_all scope [] [] as_long some known = refl
-commas_of_all scope [] (t ∷ texts) as_long some known = absurd cc
-commas_of_all scope (ps ∷ items) [] as_long some known = absurd cc
-commas_of_all scope ([] ∷ items) (t ∷ texts) as_long some known = absurd (some zero (omega arith) refl)
-commas_of_all scope ((p ∷ ps) ∷ items) (t ∷ texts) as_long some known =
-    let rest = commas_of_all scope items texts (cc) (λ k lt. some (suc k) (omega (arith, lt))) (λ k. known (suc k)) in
-    let all = flat_map (λ (ps : List Piece). ps) items in
-    ap (λ (l : List ℕ). (codes "," ++ l) ++ with_commas texts) (known zero)
-    ∙ ap (λ (l : List ℕ). (codes "," ++ concatenation (codes ",") (piece_texts scope (p ∷ ps))) ++ l) rest
-    ∙ ap (λ (l : List ℕ). l ++ with_commas (piece_texts scope all)) (sym (commas_first (piece_text scope p) (piece_texts scope ps)))
-    ∙ sym (commas_append (piece_texts scope (p ∷ ps)) (piece_texts scope all))
-    ∙ ap with_commas (sym (map_append (piece_text scope) (p ∷ ps) all))
+commas_of_all : (scope : Bindings) (items : List (List ItemPiece)) (texts : List (List ℕ)) → HavePieces scope items texts → with_commas texts ≡ with_commas (piece_texts scope (flat_map (λ (ps : List ItemPiece). ps) items))
+commas_of_all scope [] texts known = ap with_commas known
+commas_of_all scope (ps ∷ items) [] known = absurd known
+commas_of_all scope (ps ∷ items) (t ∷ texts) known =
+    let all = flat_map (λ (ps : List ItemPiece). ps) items in
+    ap (λ (l : List ℕ). l ++ with_commas texts) known.0
+    ∙ ap (λ (l : List ℕ). with_commas (piece_texts scope ps) ++ l) (commas_of_all scope items texts known.1)
+    ∙ sym (commas_append (piece_texts scope ps) (piece_texts scope all))
+    ∙ ap with_commas (sym (map_append (piece_text scope) ps all))
+
+-- the text of a list literal is put together of the pieces of its items
+pub of_all : (scope : Bindings) (items : List (List ItemPiece)) (texts : List (List ℕ)) (pieces : List ItemPiece) → 0 < length items → HavePieces scope items texts → pieces ≡ flat_map (λ (ps : List ItemPiece). ps) items
+    → AreItemPieces scope pieces (concatenation (codes ",") texts)
+of_all scope [] texts pieces some known all = absurd (omega (arith, some))
+of_all scope (ps ∷ items) [] pieces some known all = absurd known
+of_all scope (ps ∷ items) (t ∷ texts) pieces some known all =
+    sym (commas_first t texts) ∙ commas_of_all scope (ps ∷ items) (t ∷ texts) known ∙ ap (λ (l : List ItemPiece). with_commas (piece_texts scope l)) (sym all)
+
+-- each text has its pieces
+pub as_many : (scope : Bindings) (items : List (List ItemPiece)) (texts : List (List ℕ)) → HavePieces scope items texts → length items ≡ length texts
+as_many scope [] texts known = ap length (sym known)
+as_many scope (ps ∷ items) [] known = absurd known
+as_many scope (ps ∷ items) (t ∷ texts) known = ap suc (as_many scope items texts known.1)
+
+-- the text at a place is put together of the pieces there
+pub at_place : (scope : Bindings) (items : List (List ItemPiece)) (texts : List (List ℕ)) (place : ℕ) → HavePieces scope items texts → place < length texts → AreItemPieces scope (get_or items place []) (get_or texts place [])
+at_place scope [] [] place known lt = absurd (omega (arith, lt))
+at_place scope [] (t ∷ texts) place known lt = absurd cc
+at_place scope (ps ∷ items) [] place known lt = absurd known
+at_place scope (ps ∷ items) (t ∷ texts) zero known lt = known.0
+at_place scope (ps ∷ items) (t ∷ texts) (suc place) known lt = at_place scope items texts place known.1 (omega (arith, lt))
+
+-- one item more, and its pieces
+pub one_more : (scope : Bindings) (items : List (List ItemPiece)) (texts : List (List ℕ)) (pieces : List ItemPiece) (text : List ℕ) → HavePieces scope items texts → AreItemPieces scope pieces text → HavePieces scope (items ++ pieces ∷ []) (texts ++ text ∷ [])
+one_more scope [] [] pieces text known are = (are, refl)
+one_more scope [] (t ∷ texts) pieces text known are = absurd cc
+one_more scope (ps ∷ items) [] pieces text known are = absurd known
+one_more scope (ps ∷ items) (t ∷ texts) pieces text known are = (known.0, one_more scope items texts pieces text known.1 are)
 
 same_behind : (c : ℕ) (x y : List ℕ) → c ∷ x ≡ c ∷ y → x ≡ y
 same_behind c x y e = cc
 
--- texts that are the same with a comma before each are the same with commas between them
-uncomma : (x : List ℕ) (xs : List (List ℕ)) (y : List ℕ) (ys : List (List ℕ)) → with_commas (x ∷ xs) ≡ with_commas (y ∷ ys) → concatenation (codes ",") (x ∷ xs) ≡ concatenation (codes ",") (y ∷ ys)
-uncomma x xs y ys e = same_behind 44 (concatenation (codes ",") (x ∷ xs)) (concatenation (codes ",") (y ∷ ys)) (sym (commas_first x xs) ∙ e ∙ commas_first y ys)
-
-recomma : (x : List ℕ) (xs : List (List ℕ)) (y : List ℕ) (ys : List (List ℕ)) → concatenation (codes ",") (x ∷ xs) ≡ concatenation (codes ",") (y ∷ ys) → with_commas (x ∷ xs) ≡ with_commas (y ∷ ys)
-recomma x xs y ys e = commas_first x xs ∙ ap (λ (l : List ℕ). codes "," ++ l) e ∙ sym (commas_first y ys)
-
--- the text of a list literal is put together of the pieces of its items
-pub of_all : (scope : Bindings) (items : List (List Piece)) (texts : List (List ℕ)) (pieces : List Piece) → length items ≡ length texts → IsAll items pieces
-    → ((place : ℕ) → ArePieces scope (get_or items place []) (get_or texts place [])) → ArePieces scope pieces (concatenation (codes ",") texts)
-of_all scope items texts [] as_long all known = tt
-of_all scope [] texts (q ∷ qs) as_long all known = absurd (empty all.0)
-  where
-    empty : q ∷ qs ≡ [] → ⊥
-    empty e = cc
-of_all scope (ps ∷ items) [] (q ∷ qs) as_long all known = absurd cc
-of_all scope (ps ∷ items) (t ∷ texts) (q ∷ qs) as_long all known =
-    uncomma t texts (piece_text scope q) (piece_texts scope qs) (commas_of_all scope (ps ∷ items) (t ∷ texts) as_long all.1 known ∙ ap (λ (l : List Piece). with_commas (piece_texts scope l)) (sym all.0))
-
-pub all_is : (items : List (List Piece)) (pieces : List Piece) → pieces ≡ flat_map (λ (ps : List Piece). ps) items → ((place : ℕ) → place < length items → get_or items place [] ≢ []) → IsAll items pieces
-all_is items [] is some = tt
-all_is items (p ∷ ps) is some = (is, some)
-
-flat_append : (xs ys : List (List Piece)) → flat_map (λ (ps : List Piece). ps) (xs ++ ys) ≡ flat_map (λ (ps : List Piece). ps) xs ++ flat_map (λ (ps : List Piece). ps) ys
+flat_append : (xs ys : List (List ItemPiece)) → flat_map (λ (ps : List ItemPiece). ps) (xs ++ ys) ≡ flat_map (λ (ps : List ItemPiece). ps) xs ++ flat_map (λ (ps : List ItemPiece). ps) ys
 flat_append [] ys = refl
-flat_append (x ∷ xs) ys = ap (λ (l : List Piece). x ++ l) (flat_append xs ys) ∙ sym (append_assoc x (flat_map (λ (ps : List Piece). ps) xs) (flat_map (λ (ps : List Piece). ps) ys))
+flat_append (x ∷ xs) ys = ap (λ (l : List ItemPiece). x ++ l) (flat_append xs ys) ∙ sym (append_assoc x (flat_map (λ (ps : List ItemPiece). ps) xs) (flat_map (λ (ps : List ItemPiece). ps) ys))
 
 -- the pieces of one item more
-pub one_item_more : (items : List (List Piece)) (i : ℕ) (x all new : List Piece) → i < length items → x ≡ get_or items i x → all ≡ flat_map (λ (ps : List Piece). ps) (take i items) → new ≡ all ++ x
-    → new ≡ flat_map (λ (ps : List Piece). ps) (take (i + 1) items)
+pub one_item_more : (items : List (List ItemPiece)) (i : ℕ) (x all new : List ItemPiece) → i < length items → x ≡ get_or items i x → all ≡ flat_map (λ (ps : List ItemPiece). ps) (take i items) → new ≡ all ++ x
+    → new ≡ flat_map (λ (ps : List ItemPiece). ps) (take (i + 1) items)
 one_item_more items i x all new lt is known pushed =
-    pushed ∙ ap (λ (l : List Piece). l ++ x) known ∙ ap (λ (l : List Piece). flat_map (λ (ps : List Piece). ps) (take i items) ++ l) (sym (append-nil x)) ∙ sym (flat_append (take i items) (x ∷ []))
-    ∙ ap (flat_map (λ (ps : List Piece). ps)) (ap (λ (l : List Piece). take i items ++ l ∷ []) is ∙ sym (take_more items i x lt))
+    pushed ∙ ap (λ (l : List ItemPiece). l ++ x) known ∙ ap (λ (l : List ItemPiece). flat_map (λ (ps : List ItemPiece). ps) (take i items) ++ l) (sym (append-nil x)) ∙ sym (flat_append (take i items) (x ∷ []))
+    ∙ ap (flat_map (λ (ps : List ItemPiece). ps)) (ap (λ (l : List ItemPiece). take i items ++ l ∷ []) is ∙ sym (take_more items i x lt))
 
 -- texts that are as long come before the same only where they are the same
 halves : (xs ys us vs : List ℕ) → length xs ≡ length ys → xs ++ us ≡ ys ++ vs → (xs ≡ ys) × (us ≡ vs)
@@ -119,30 +120,24 @@ not_same s t f = go (pointwise nat_eq s t) refl
     go false e = refl
 
 -- all pieces are the same
-pub told_the_same : (scope : Bindings) (a b : List Piece) (place : ℕ) → (length a == 0) ≡ false → (length b == 0) ≡ false → place ≡ length a → place ≡ length b → AgreeUpTo (piece_texts scope a) (piece_texts scope b) place → Tells scope a b (Some true)
-told_the_same scope [] b place some more end other_end agree s t is are = absurd cc
-told_the_same scope (p ∷ ps) [] place some more end other_end agree s t is are = absurd cc
-told_the_same scope (p ∷ ps) (q ∷ qs) place some more end other_end agree s t is are =
-    let whole = sym (take_all place (piece_texts scope (p ∷ ps)) (omega (arith, end, length-map (p ∷ ps) (piece_text scope)))) ∙ agree.2 ∙ take_all place (piece_texts scope (q ∷ qs)) (omega (arith, other_end, length-map (q ∷ qs) (piece_text scope))) in
-    sym ((bytes_eq-Decides s t).1 (is ∙ ap (concatenation (codes ",")) whole ∙ sym are))
+pub told_the_same : (xs ys : List (List ℕ)) (place : ℕ) → length xs ≤ place → length ys ≤ place → AgreeUpTo xs ys place → true ≡ pointwise nat_eq (with_commas xs) (with_commas ys)
+told_the_same xs ys place end other_end agree =
+    sym ((bytes_eq-Decides (with_commas xs) (with_commas ys)).1 (ap with_commas (sym (take_all place xs end) ∙ agree.2 ∙ take_all place ys other_end)))
 
 -- the first pieces that differ are as long
-pub told_at_place : (scope : Bindings) (a b : List Piece) (place : ℕ) → place < length a → place < length b → AgreeUpTo (piece_texts scope a) (piece_texts scope b) place → DifferAt (piece_texts scope a) (piece_texts scope b) place
-    → length (get_or (piece_texts scope a) place []) ≡ length (get_or (piece_texts scope b) place []) → Tells scope a b (Some false)
-told_at_place scope [] b place lt more agree differ len s t is are = absurd (omega (arith, lt))
-told_at_place scope (p ∷ ps) [] place lt more agree differ len s t is are = absurd (omega (arith, more))
-told_at_place scope (p ∷ ps) (q ∷ qs) place lt more agree differ len s t is are =
-    let within : place < length (piece_texts scope (p ∷ ps)) = omega (arith, lt, length-map (p ∷ ps) (piece_text scope)) in
-    let within_other : place < length (piece_texts scope (q ∷ qs)) = omega (arith, more, length-map (q ∷ qs) (piece_text scope)) in
-    not_same s t (λ same. commas_differ (piece_texts scope (p ∷ ps)) (piece_texts scope (q ∷ qs)) place within within_other agree.2 (differ within within_other) len
-    (recomma (piece_text scope p) (piece_texts scope ps) (piece_text scope q) (piece_texts scope qs) (sym is ∙ same ∙ are)))
+pub told_at_place : (xs ys : List (List ℕ)) (place : ℕ) → place < length xs → place < length ys → AgreeUpTo xs ys place → DifferAt xs ys place → length (get_or xs place []) ≡ length (get_or ys place [])
+    → false ≡ pointwise nat_eq (with_commas xs) (with_commas ys)
+told_at_place xs ys place lt more agree differ len = not_same (with_commas xs) (with_commas ys) (commas_differ xs ys place lt more agree.2 (differ lt more) len)
 
 -- all pieces together are not as long
-pub told_by_length : (scope : Bindings) (a b : List Piece) → (length a == 0) ≡ false → (length b == 0) ≡ false → length (with_commas (piece_texts scope a)) ≢ length (with_commas (piece_texts scope b)) → Tells scope a b (Some false)
-told_by_length scope [] b some more len s t is are = absurd cc
-told_by_length scope (p ∷ ps) [] some more len s t is are = absurd cc
-told_by_length scope (p ∷ ps) (q ∷ qs) some more len s t is are =
-    not_same s t (λ same. len (ap length (recomma (piece_text scope p) (piece_texts scope ps) (piece_text scope q) (piece_texts scope qs) (sym is ∙ same ∙ are))))
+pub told_by_length : (xs ys : List (List ℕ)) → length (with_commas xs) ≢ length (with_commas ys) → false ≡ pointwise nat_eq (with_commas xs) (with_commas ys)
+told_by_length xs ys len = not_same (with_commas xs) (with_commas ys) (λ same. len (ap length same))
+
+-- the text of one piece more and a comma
+pub text_with_piece : (texts : List (List ℕ)) (i : ℕ) (text new : List ℕ) → i < length texts → text ≡ with_commas (take i texts) → new ≡ text ++ (codes "," ++ get_or texts i []) → new ≡ with_commas (take (i + 1) texts)
+text_with_piece texts i text new lt known is =
+    is ∙ ap (λ (l : List ℕ). l ++ (codes "," ++ get_or texts i [])) known ∙ ap (λ (l : List ℕ). with_commas (take i texts) ++ l) (sym (append-nil (codes "," ++ get_or texts i [])))
+    ∙ sym (commas_append (take i texts) (get_or texts i [] ∷ [])) ∙ ap with_commas (sym (take_more texts i [] lt))
 
 -- one piece more and a comma
 pub longer_by_piece : (texts : List (List ℕ)) (i len more new : ℕ) → i < length texts → len ≡ length (with_commas (take i texts)) → more ≡ length (get_or texts i []) → new ≡ len + (1 + more) → new ≡ length (with_commas (take (i + 1) texts))
@@ -155,8 +150,3 @@ longer_by_piece texts i len more new lt known is sum =
 pub agree_more : (xs ys : List (List ℕ)) (i : ℕ) → i < length xs → i < length ys → pointwise nat_eq (get_or xs i []) (get_or ys i []) ≡ true → take i xs ≡ take i ys → take (i + 1) xs ≡ take (i + 1) ys
 agree_more xs ys i lt more same front =
     take_more xs i [] lt ∙ ap (λ (l : List (List ℕ)). l ++ get_or xs i [] ∷ []) front ∙ ap (λ (t : List ℕ). take i ys ++ t ∷ []) ((bytes_eq-Decides (get_or xs i []) (get_or ys i [])).0 same) ∙ sym (take_more ys i [] more)
-
--- what the pieces of two texts tell
-pub told_of : {E : Type 0} (r : Result (Option Bool) E) (scope : Bindings) (a b : List Piece) (s t : List ℕ) → ArePieces scope a s → ArePieces scope b t → IfOk r (Tells scope a b) → IfOk r (λ told. IfSome told (λ same. same ≡ pointwise nat_eq s t))
-told_of (Ok told) scope a b s t is are tells = tells s t is are
-told_of (Err e) scope a b s t is are tells = tt

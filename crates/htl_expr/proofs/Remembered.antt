@@ -16,7 +16,7 @@ use Rattle.htl_expr.specs.declared.numbered.Aspect.{Aspect}
 use Rattle.htl_expr.specs.declared.scope.Scope.{Scope}
 use Rattle.htl_expr.specs.ComparedValue.{by_texts, number_in, TellsApart, AreNumbered, Keeps}
 use Rattle.htl_expr.specs.Lent.{property_item}
-use Rattle.htl_expr.specs.Remembered.{compared_by, Knows, RemembersJoined, RemembersLens}
+use Rattle.htl_expr.specs.Remembered.{compared_by, Knows, RemembersJoined, RemembersItemTexts}
 use Rattle.htl_expr.specs.Print.{plain}
 use Rattle.sp_base.specs.Names.{by_name}
 use Rattle.htl_expr.specs.Value.{property}
@@ -164,18 +164,17 @@ remembers_more_joined scope old new name text updates is known q =
     chosen true e = is ∙ ap (λ p. plain [] (property scope p)) (tells_apart exact_bytes name q e)
     chosen false e = known q
 
-pub what_is_joined : (scope : Scope) (known : BTreeMap (List ℕ) (List ℕ)) (name : List ℕ) (found : Option (List ℕ)) → found ≡ get by_name known name → RemembersJoined scope known
-    → IfSome found (λ text. text ≡ plain [] (property scope name))
-what_is_joined scope known name found is remembers = subst (λ (o : Option (List ℕ)). IfSome o (λ text. text ≡ plain [] (property scope name))) (sym is) (remembers name)
-
-pub remembers_more_lens : (scope : Scope) (old new : BTreeMap (List ℕ) ℕ) (name : List ℕ) (len : ℕ) → Updates by_name old new name (Some len)
-    → len ≡ length (property_item scope name) → RemembersLens scope old → RemembersLens scope new
-remembers_more_lens scope old new name len updates is known q =
+pub remembers_more_items : (scope : Scope) (old new : BTreeMap (List ℕ) (List ℕ)) (name text : List ℕ) → Updates by_name old new name (Some text)
+    → text ≡ property_item scope name → RemembersItemTexts scope old → RemembersItemTexts scope new
+remembers_more_items scope old new name text updates is known q =
     subst (λ found. IfSome found IsRight) (sym (updates.0 q)) (chosen (is_at (by_name name) q) refl)
   where
-    IsRight : ℕ → Type 0
-    IsRight n = n ≡ length (property_item scope q)
+    IsRight : List ℕ → Type 0
+    IsRight t = t ≡ property_item scope q
 
-    chosen : (t : Bool) → is_at (by_name name) q ≡ t → IfSome (cond t (Some len) (get by_name old q)) IsRight
-    chosen true e = is ∙ ap (λ p. length (property_item scope p)) (tells_apart exact_bytes name q e)
+    chosen : (t : Bool) → is_at (by_name name) q ≡ t → IfSome (cond t (Some text) (get by_name old q)) IsRight
+    chosen true e = is ∙ ap (property_item scope) (tells_apart exact_bytes name q e)
     chosen false e = known q
+
+pub what_is_kept : (scope : Scope) (known : BTreeMap (List ℕ) (List ℕ)) (name text : List ℕ) → get by_name known name ≡ Some text → RemembersItemTexts scope known → text ≡ property_item scope name
+what_is_kept scope known name text is remembers = subst (λ (o : Option (List ℕ)). IfSome o (λ t. t ≡ property_item scope name)) is (remembers name)

@@ -1,5 +1,5 @@
 -- Two lists have the same items where they are as long and no two items at one place differ.
-use Rattle.std.proofs.Common.{◌≡◌, ◌≢◌, ◌<◌, ℕ, suc, Bool, true, false, ◌&&◌, List, [], ◌∷◌, codes, length, get_or, map, refl, sym, ap, ◌∙◌, arith}
+use Rattle.std.proofs.Common.{◌≡◌, ◌≢◌, ◌<◌, ℕ, suc, Bool, true, false, ◌&&◌, List, [], ◌∷◌, codes, length, get_or, map, refl, sym, ap, ◌∙◌}
 use Rattle.std.specs.Cmp.Lexicographic.{pointwise}
 use Rattle.std.specs.Prelude.{nat_eq}
 use Rattle.std.specs.Bool.{Decides}
@@ -67,6 +67,3 @@ same_swapped a b = both (pointwise nat_eq a b) (pointwise nat_eq b a) (bytes_eq-
     both false false d e = refl
     both true false d e = sym (e.1 (sym (d.0 refl)))
     both false true d e = d.1 (sym (e.0 refl))
-
-pub longer_differs : (a b : List ℕ) → length a < length b → pointwise nat_eq a b ≡ false
-longer_differs a b lt = unequal_lengths nat_eq a b (λ e. omega (arith, e, lt))

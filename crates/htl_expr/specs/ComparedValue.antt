@@ -16,7 +16,7 @@ use Rattle.htl_expr.specs.Print.{truth_text}
 abbrev pub texts_of : Texts → List (List ℕ)
 texts_of texts.Nothing = []
 texts_of (texts.One text) = text.now ∷ []
-texts_of (texts.Joined text) = text ∷ []
+texts_of (texts.Made text) = text ∷ []
 texts_of (texts.Stored list) = list.now
 texts_of (texts.Longs list) = map signed_decimal list.now
 texts_of (texts.Truths list) = map truth_text list.now

@@ -1,5 +1,5 @@
 -- What values that lend stand for. Only proofs and private functions need this.
-use Rattle.std.specs.Prelude.{◌≡◌, ℕ, Bool, true, false, List, [], Option, None, Some, codes, get_or, map, option_map}
+use Rattle.std.specs.Prelude.{◌≡◌, ℕ, Bool, true, false, List, [], Option, None, Some, codes, map, option_map}
 use Rattle.std.specs.Fmt.{signed_decimal}
 use Rattle.htl_expr.specs.declared.out.Out.{Out}
 use Rattle.htl_expr.specs.declared.out.Out.TheVariants as out
@@ -9,8 +9,8 @@ use Rattle.htl_expr.specs.Print.{truth_text, plain}
 use Rattle.htl_expr.specs.Value.{item_texts, property}
 use Rattle.htl_expr.specs.declared.lent.Operand.{Operand}
 use Rattle.htl_expr.specs.Bindings.{Bindings}
-use Rattle.htl_expr.specs.declared.pieces.Piece.{Piece}
-use Rattle.htl_expr.specs.Pieces.{ArePieces}
+use Rattle.htl_expr.specs.declared.pieces.ItemPiece.{ItemPiece}
+use Rattle.htl_expr.specs.Pieces.{HavePieces}
 
 -- a value that lends, with what its items stand for
 abbrev pub out_step : Lent-F Out → Out
@@ -46,23 +46,15 @@ abbrev pub is_text : Out → Bool
 is_text (out.Text text) = true
 is_text _ = false
 
--- a value that is said to be a property is the one of that name
-abbrev pub IsPropertyIfNamed : Bindings → Option (List ℕ) → Out → Type 0
-IsPropertyIfNamed scope None v = Unit {0}
-IsPropertyIfNamed scope (Some name) v = v ≡ property scope name
-
 -- the text of the property of this name as an item of a list literal
 abbrev pub property_item : Bindings → List ℕ → List ℕ
 property_item scope name = plain (codes ",") (property scope name)
 
--- the items of a list are put together of the pieces that are said to be theirs
-abbrev pub AreRows : Bindings → List (List Piece) → Out → Type 0
-AreRows scope rows list = (place : ℕ) → ArePieces scope (get_or rows place []) (get_or (listed_texts list) place [])
-
--- what is said of the items of an operand holds for this resource
-abbrev pub AreItems : Bindings → Operand → Type 0
-AreItems scope operand = AreRows scope operand.items (out_of_lent operand.value)
+-- a value that is said to be a property is the one of that name, and of any other the pieces of all items are known
+abbrev pub KnowsItself : Bindings → Option (List ℕ) → List (List ItemPiece) → Out → Type 0
+KnowsItself scope None items v = HavePieces scope items (listed_texts v)
+KnowsItself scope (Some name) items v = v ≡ property scope name
 
 -- what an operand says of itself holds for this resource
 abbrev pub IsOperand : Bindings → Operand → Type 0
-IsOperand scope operand = IsPropertyIfNamed scope (option_map (λ name. name.now) operand.property) (out_of_lent operand.value) × AreItems scope operand
+IsOperand scope operand = KnowsItself scope (option_map (λ name. name.now) operand.property) operand.items (out_of_lent operand.value)

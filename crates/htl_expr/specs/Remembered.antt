@@ -1,5 +1,5 @@
 -- What an evaluation remembers of its resource. Only proofs and private functions need this.
-use Rattle.std.specs.Prelude.{◌≡◌, ℕ, List, [], ◌∷◌, Some, IfSome, length}
+use Rattle.std.specs.Prelude.{◌≡◌, ℕ, List, [], ◌∷◌, Some, IfSome}
 use Rattle.std.specs.BTreeMap.{BTreeMap, get}
 use Rattle.sp_base.specs.Names.{by_name}
 use Rattle.htl_expr.specs.Bindings.{Bindings}
@@ -24,6 +24,6 @@ Knows scope of_it classes known = (name : List ℕ) → IfSome (get by_name know
 abbrev pub RemembersJoined : Scope → BTreeMap (List ℕ) (List ℕ) → Type 0
 RemembersJoined scope known = (name : List ℕ) → IfSome (get by_name known name) (λ text. text ≡ plain [] (property scope name))
 
--- what is remembered of a property is how many bytes it has as an item
-abbrev pub RemembersLens : Scope → BTreeMap (List ℕ) ℕ → Type 0
-RemembersLens scope known = (name : List ℕ) → IfSome (get by_name known name) (λ len. len ≡ length (property_item scope name))
+-- what is remembered of a property is its text as an item
+abbrev pub RemembersItemTexts : Scope → BTreeMap (List ℕ) (List ℕ) → Type 0
+RemembersItemTexts scope known = (name : List ℕ) → IfSome (get by_name known name) (λ text. text ≡ property_item scope name)

@@ -25,7 +25,7 @@ pub(crate) enum Texts<'a> {
     Nothing,
     One(&'a str),
     /// The text of a list as an item of a list literal.
-    Joined(TextBuf),
+    Made(TextBuf),
     Stored(&'a TextList),
     Longs(&'a LongList),
     Truths(&'a TruthList),
@@ -51,7 +51,7 @@ fn text_count(texts: &Texts) -> usize
 {
     match texts {
         Texts::Nothing => 0,
-        Texts::One(_) | Texts::Joined(_) => 1,
+        Texts::One(_) | Texts::Made(_) => 1,
         Texts::Stored(list) => list.len(),
         Texts::Longs(list) => list.len(),
         Texts::Truths(list) => list.len(),
@@ -67,7 +67,7 @@ fn text_at<'b>(texts: &'b Texts, place: usize, buffer: &'b mut Buffer) -> &'b st
     match texts {
         Texts::Nothing => "",
         Texts::One(text) => text,
-        Texts::Joined(text) => text.text(),
+        Texts::Made(text) => text.text(),
         Texts::Stored(list) => list.as_slice()[place].text(),
         Texts::Longs(list) => buffer.format(list.as_slice()[place]),
         Texts::Truths(list) => truth_text(list.as_slice()[place]),
@@ -204,7 +204,7 @@ impl<'a> ComparedValue<'a> {
     {
         let texts = match value {
             Lent::Text(text) => Texts::One(text),
-            _ => Texts::Joined(item_text(alloc, &value)?),
+            _ => Texts::Made(item_text(alloc, &value)?),
         };
         Ok(ComparedValue { texts })
     }

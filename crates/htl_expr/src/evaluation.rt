@@ -1,6 +1,6 @@
 //! What is found out of a resource while expressions are evaluated for it.
 
-ghost use Rattle.std.specs.Prelude.{◌≡◌, [], IfOk, IfSome, nat_eq, length};
+ghost use Rattle.std.specs.Prelude.{◌≡◌, ◌++◌, [], IfOk, IfSome, OnOk, nat_eq, length, string_bytes};
 ghost use Rattle.std.specs.Cmp.Lexicographic.{pointwise};
 ghost use Rattle.htl_expr.specs.Lent.{property_item};
 ghost use Rattle.htl_expr.specs.Remembered.{compared_by};
@@ -9,8 +9,8 @@ ghost use Rattle.htl_expr.specs.Value as spec;
 
 use crate::classes::Classes;
 use crate::compare::{are_lists, is_same, is_text};
+use crate::kept::{is_item, item_len, push_item};
 use crate::numbered::{Aspect, has_one_number};
-use crate::out::item_text;
 use crate::scope::{Scope, property};
 use sp_base::{Mem, TextBuf};
 use std::alloc::Global;
@@ -18,8 +18,8 @@ use std::collections::BTreeMap;
 use std::marker::Model;
 
 /// A resource that expressions are evaluated for one after another. What is compared of a property gets a number, once, so that what is
-/// the same has the same number. A list whose items are written with nothing between them is looked through once, too. Contracts see
-/// what the expressions see of the resource.
+/// the same has the same number. A list whose items are written with nothing between them is looked through once, too, and so is one
+/// whose text as an item is compared with other texts. Contracts see what the expressions see of the resource.
 #[derive(Drop)]
 pub struct Evaluation<'a> {
     scope: Scope<'a>,
@@ -27,19 +27,19 @@ pub struct Evaluation<'a> {
     lists: BTreeMap<TextBuf, u64>,
     items: BTreeMap<TextBuf, u64>,
     joined: BTreeMap<TextBuf, TextBuf>,
-    lens: BTreeMap<TextBuf, usize>,
+    item_texts: BTreeMap<TextBuf, TextBuf>,
 }
 
 impl<'a> Model for Evaluation<'a> {
     ghost use Rattle.htl_expr.specs.Bindings.{Bindings};
-    ghost use Rattle.htl_expr.specs.Remembered.{Knows, RemembersJoined, RemembersLens};
+    ghost use Rattle.htl_expr.specs.Remembered.{Knows, RemembersJoined, RemembersItemTexts};
     ghost use Rattle.htl_expr.specs.declared.numbered.Aspect.TheVariants as aspect;
 
     ghost Value = { Bindings };
 
     ghost view = { λ e. e.scope };
 
-    ghost invariant = { λ e. Knows e.scope aspect.List e.classes e.lists × (Knows e.scope aspect.Item e.classes e.items × (RemembersJoined e.scope e.joined × RemembersLens e.scope e.lens)) };
+    ghost invariant = { λ e. Knows e.scope aspect.List e.classes e.lists × (Knows e.scope aspect.Item e.classes e.items × (RemembersJoined e.scope e.joined × RemembersItemTexts e.scope e.item_texts)) };
 }
 
 impl<'a> Evaluation<'a> {
@@ -58,7 +58,7 @@ impl<'a> Evaluation<'a> {
             lists: BTreeMap::new(alloc),
             items: BTreeMap::new(alloc),
             joined: BTreeMap::new(alloc),
-            lens: BTreeMap::new(alloc),
+            item_texts: BTreeMap::new(alloc),
         }
     }
 
@@ -112,34 +112,28 @@ impl<'a> Evaluation<'a> {
         self.has_same_text(alloc, a, b)
     }
 
-    // How many bytes a property has as an item, if they were counted before.
-    fn known_len(&self, name: &TextBuf) -> Option<usize>
-        ensures { IfSome result (λ len. len ≡ length (property_item self.now name.now)) }
-    {
-        self.lens.get(name).copied()
-    }
-
-    fn remember_len(&mut self, name: TextBuf, len: usize) -> Mem<()>
-        requires { len ≡ length (property_item self.old name) }
-        ensures { self.new ≡ self.old }
-    {
-        self.lens.insert(name, len)?;
-        Ok(())
-    }
-
-    /// How many bytes a property has as an item of a list literal. They are counted once.
+    /// How many bytes the text of a property as an item of a list literal has.
     pub(crate) fn item_len(&mut self, alloc: Global, name: &TextBuf) -> Mem<usize>
         ensures len { IfOk result (λ len. len ≡ length (property_item self.old name.now)) }
         ensures scope { self.new ≡ self.old }
     {
-        if let Some(len) = self.known_len(name) {
-            return Ok(len);
-        }
-        let len = item_text(alloc, &property(&self.scope, name.text()))?
-            .text()
-            .len();
-        self.remember_len(name.duplicate(alloc)?, len)?;
-        Ok(len)
+        item_len(alloc, &self.scope, &mut self.item_texts, name)
+    }
+
+    /// Whether a property has this text as an item of a list literal.
+    pub(crate) fn is_item(&mut self, alloc: Global, name: &TextBuf, text: &str) -> Mem<bool>
+        ensures same { IfOk result (λ same. same ≡ pointwise nat_eq (property_item self.old name.now) text.now) }
+        ensures scope { self.new ≡ self.old }
+    {
+        is_item(alloc, &self.scope, &mut self.item_texts, name, text)
+    }
+
+    /// Adds the text of a property as an item of a list literal.
+    pub(crate) fn push_item(&mut self, text: &mut String, alloc: Global, name: &TextBuf) -> Mem<()>
+        ensures text { OnOk result (string_bytes text.new ≡ string_bytes text.old ++ property_item self.old name.now) }
+        ensures scope { self.new ≡ self.old }
+    {
+        push_item(text, alloc, &self.scope, &mut self.item_texts, name)
     }
 
     /// Whether two properties have the same kind and the same content.

@@ -1,22 +1,19 @@
 //! The pieces of which the text of an item of a list literal is put together.
 
-ghost use Rattle.std.specs.Prelude.{◌≡◌, ◌<◌, ◌+◌, ◌==◌, ◌∷◌, [], IfOk, nat_eq, length, get_or, true};
+ghost use Rattle.std.specs.Prelude.{◌≡◌, ◌<◌, ◌+◌, ◌∷◌, ◌++◌, [], List, IfOk, OnOk, nat_eq, length, get_or, flat_map, codes, string_bytes, true};
 ghost use Rattle.std.specs.Cmp.Lexicographic.{pointwise};
-ghost use Rattle.htl_expr.specs.Lent.{plain_item};
-ghost use Rattle.htl_expr.specs.Pieces.{piece_text, piece_texts, with_commas, AgreeUpTo, DifferAt, Tells, IsAll};
+ghost use Rattle.htl_expr.specs.declared.pieces.ItemPiece.{ItemPiece};
+ghost use Rattle.htl_expr.specs.Pieces.{piece_text, piece_texts, with_commas, AgreeUpTo, DifferAt};
 
 use crate::evaluation::Evaluation;
-use crate::lent::Lent;
-use crate::out::item_text;
-use crate::same::is_same_item;
-use crate::scope::property;
+use crate::lists::long_text;
 use sp_base::{Mem, NoMemory, TextBuf};
 use sqlite_items::Items;
 use std::alloc::Global;
 
 /// A part of an item's text. Between two stands a comma.
 #[derive(Clone, Copy)]
-pub(crate) enum Piece<'a> {
+pub(crate) enum ItemPiece<'a> {
     /// The text that a property has as an item.
     Property(&'a TextBuf),
     Text(&'a str),
@@ -24,7 +21,7 @@ pub(crate) enum Piece<'a> {
 }
 
 /// A piece alone.
-pub(crate) fn piece_alone<'a>(alloc: Global, piece: Piece<'a>) -> Mem<Items<Piece<'a>>>
+pub(crate) fn piece_alone<'a>(alloc: Global, piece: ItemPiece<'a>) -> Mem<Items<ItemPiece<'a>>>
     ensures { IfOk result (λ pieces. pieces ≡ piece.entry ∷ []) }
 {
     let mut pieces = Items::new(alloc);
@@ -32,64 +29,97 @@ pub(crate) fn piece_alone<'a>(alloc: Global, piece: Piece<'a>) -> Mem<Items<Piec
     Ok(pieces)
 }
 
-/// The pieces of all items of a list literal, or none where those of an item aren't known.
-pub(crate) fn all_pieces<'a>(alloc: Global, items: &[Items<Piece<'a>>]) -> Mem<Items<Piece<'a>>>
-    ensures { IfOk result (IsAll items.now) }
+/// The pieces of all items of a list literal.
+pub(crate) fn all_pieces<'a>(
+    alloc: Global,
+    items: &[Items<ItemPiece<'a>>],
+) -> Mem<Items<ItemPiece<'a>>>
+    ensures { IfOk result (λ all. all ≡ flat_map (λ (pieces : List ItemPiece). pieces) items.now) }
 {
     let mut all = Items::new(alloc);
     for pieces in items {
-        if pieces.len() == 0 {
-            return Ok(Items::new(alloc));
-        }
         all.append(Items::from_slice(alloc, pieces.as_slice())?)?;
     }
     Ok(all)
 }
 
-// A piece as an item.
-fn piece_item<'a>(scope: &Evaluation<'a>, piece: &Piece<'a>) -> Lent<'a>
-    ensures { plain_item result ≡ piece_text scope.now piece.now }
+// Whether a piece has this text.
+fn has_text<'a>(
+    alloc: Global,
+    scope: &mut Evaluation<'a>,
+    piece: &ItemPiece<'a>,
+    text: &str,
+) -> Mem<bool>
+    ensures same { IfOk result (λ same. same ≡ pointwise nat_eq (piece_text scope.old piece.now) text.now) }
+    ensures scope { scope.new ≡ scope.old }
 {
     match piece {
-        Piece::Property(name) => property(scope.scope(), name.text()),
-        Piece::Text(text) => Lent::Text(text),
-        Piece::Long(number) => Lent::Long(*number),
+        ItemPiece::Property(name) => scope.is_item(alloc, name, text),
+        ItemPiece::Text(other) => Ok(*other == text),
+        ItemPiece::Long(number) => Ok(long_text(alloc, *number)?.text() == text),
     }
 }
 
 // Whether two pieces have the same text. Properties are compared by their numbers.
+#[tactic(auto, using(crate::proofs::SameItems::same_swapped))]
 fn is_same_piece<'a>(
     alloc: Global,
     scope: &mut Evaluation<'a>,
-    a: &Piece<'a>,
-    b: &Piece<'a>,
+    a: &ItemPiece<'a>,
+    b: &ItemPiece<'a>,
 ) -> Mem<bool>
     ensures same { IfOk result (λ same. same ≡ pointwise nat_eq (piece_text scope.old a.now) (piece_text scope.old b.now)) }
     ensures scope { scope.new ≡ scope.old }
 {
     match (a, b) {
-        (Piece::Property(a), Piece::Property(b)) => scope.has_same_item(alloc, a, b),
-        _ => is_same_item(alloc, &piece_item(scope, a), &piece_item(scope, b)),
+        (ItemPiece::Property(a), ItemPiece::Property(b)) => scope.has_same_item(alloc, a, b),
+        (_, ItemPiece::Text(text)) => has_text(alloc, scope, a, text),
+        (_, ItemPiece::Long(number)) => {
+            has_text(alloc, scope, a, long_text(alloc, *number)?.text())
+        }
+        (ItemPiece::Text(text), _) => has_text(alloc, scope, b, text),
+        (ItemPiece::Long(number), _) => {
+            has_text(alloc, scope, b, long_text(alloc, *number)?.text())
+        }
     }
 }
 
-// How many bytes a piece has. Those of a property are counted once.
-fn piece_len<'a>(alloc: Global, scope: &mut Evaluation<'a>, piece: &Piece<'a>) -> Mem<usize>
+// How many bytes a piece has.
+fn piece_len<'a>(alloc: Global, scope: &mut Evaluation<'a>, piece: &ItemPiece<'a>) -> Mem<usize>
     ensures len { IfOk result (λ len. len ≡ length (piece_text scope.old piece.now)) }
     ensures scope { scope.new ≡ scope.old }
 {
     match piece {
-        Piece::Property(name) => scope.item_len(alloc, name),
-        _ => Ok(item_text(alloc, &piece_item(scope, piece))?.text().len()),
+        ItemPiece::Property(name) => scope.item_len(alloc, name),
+        ItemPiece::Text(text) => Ok(text.len()),
+        ItemPiece::Long(number) => Ok(long_text(alloc, *number)?.text().len()),
     }
+}
+
+// Adds the text of a piece.
+fn push_piece<'a>(
+    text: &mut String,
+    alloc: Global,
+    scope: &mut Evaluation<'a>,
+    piece: &ItemPiece<'a>,
+) -> Mem<()>
+    ensures text { OnOk result (string_bytes text.new ≡ string_bytes text.old ++ piece_text scope.old piece.now) }
+    ensures scope { scope.new ≡ scope.old }
+{
+    match piece {
+        ItemPiece::Property(name) => scope.push_item(text, alloc, name)?,
+        ItemPiece::Text(more) => text.push_str(more)?,
+        ItemPiece::Long(number) => text.push_str(long_text(alloc, *number)?.text())?,
+    }
+    Ok(())
 }
 
 #[tactic(auto, using(crate::proofs::SameItems::get_or_of_map))]
 fn is_same_piece_at<'a>(
     alloc: Global,
     scope: &mut Evaluation<'a>,
-    a: &[Piece<'a>],
-    b: &[Piece<'a>],
+    a: &[ItemPiece<'a>],
+    b: &[ItemPiece<'a>],
     place: usize,
 ) -> Mem<bool>
     requires within { place < length a.now }
@@ -104,8 +134,8 @@ fn is_same_piece_at<'a>(
 fn same_in_front<'a>(
     alloc: Global,
     scope: &mut Evaluation<'a>,
-    a: &[Piece<'a>],
-    b: &[Piece<'a>],
+    a: &[ItemPiece<'a>],
+    b: &[ItemPiece<'a>],
 ) -> Mem<usize>
     ensures front { IfOk result (AgreeUpTo (piece_texts scope.old a.now) (piece_texts scope.old b.now)) }
     ensures differs { IfOk result (DifferAt (piece_texts scope.old a.now) (piece_texts scope.old b.now)) }
@@ -123,7 +153,7 @@ fn same_in_front<'a>(
 fn len_at<'a>(
     alloc: Global,
     scope: &mut Evaluation<'a>,
-    pieces: &[Piece<'a>],
+    pieces: &[ItemPiece<'a>],
     place: usize,
 ) -> Mem<usize>
     requires { place < length pieces.now }
@@ -137,7 +167,7 @@ fn len_at<'a>(
 fn len_with_commas<'a>(
     alloc: Global,
     scope: &mut Evaluation<'a>,
-    pieces: &[Piece<'a>],
+    pieces: &[ItemPiece<'a>],
 ) -> Mem<usize>
     ensures len { IfOk result (λ len. len ≡ length (with_commas (piece_texts scope.old pieces.now))) }
     ensures scope { scope.new ≡ scope.old }
@@ -163,12 +193,12 @@ fn longer_by(len: usize, more: usize) -> Mem<usize>
     }
 }
 
-// Whether two rows of pieces differ at a place where their pieces have as many bytes.
+// Whether pieces at a place have as many bytes.
 fn is_as_long_at<'a>(
     alloc: Global,
     scope: &mut Evaluation<'a>,
-    a: &[Piece<'a>],
-    b: &[Piece<'a>],
+    a: &[ItemPiece<'a>],
+    b: &[ItemPiece<'a>],
     place: usize,
 ) -> Mem<bool>
     ensures long { IfOk result (λ long. long ≡ true → (place < length a.now) × (place < length b.now) × (length (get_or (piece_texts scope.old a.now) place []) ≡ length (get_or (piece_texts scope.old b.now) place []))) }
@@ -182,35 +212,76 @@ fn is_as_long_at<'a>(
     Ok(first == second)
 }
 
-// Whether no pieces are known.
-fn is_unknown(pieces: &[Piece]) -> bool
-    ensures { result ≡ (length pieces.now == 0) }
-{
-    pieces.len() == 0
-}
-
-/// Whether two items have the same text, where their pieces tell it: they are the same, or the first that differ are as long, or all
-/// together are not as long.
-pub(crate) fn told_by_pieces<'a>(
+// Adds a comma and the text of the piece at a place.
+#[tactic(auto, using(crate::proofs::SameItems::get_or_of_map))]
+fn push_piece_at<'a>(
+    text: &mut String,
     alloc: Global,
     scope: &mut Evaluation<'a>,
-    a: &[Piece<'a>],
-    b: &[Piece<'a>],
-) -> Mem<Option<bool>>
-    ensures told { IfOk result (Tells scope.old a.now b.now) }
+    pieces: &[ItemPiece<'a>],
+    place: usize,
+) -> Mem<()>
+    requires { place < length pieces.now }
+    ensures text { OnOk result (string_bytes text.new ≡ string_bytes text.old ++ (codes "," ++ get_or (piece_texts scope.old pieces.now) place [])) }
     ensures scope { scope.new ≡ scope.old }
 {
-    if is_unknown(a) || is_unknown(b) {
-        return Ok(None);
+    text.push_str(",")?;
+    push_piece(text, alloc, scope, &pieces[place])
+}
+
+// The texts of the pieces, with a comma before each.
+fn text_with_commas<'a>(
+    alloc: Global,
+    scope: &mut Evaluation<'a>,
+    pieces: &[ItemPiece<'a>],
+) -> Mem<TextBuf>
+    ensures text { IfOk result (λ text. text ≡ with_commas (piece_texts scope.old pieces.now)) }
+    ensures scope { scope.new ≡ scope.old }
+{
+    let mut text = String::new(alloc);
+    for place in 0..pieces.len() {
+        push_piece_at(&mut text, alloc, scope, pieces, place)?;
     }
+    Ok(TextBuf::from(text))
+}
+
+// Whether two items have the same text, by their bytes.
+fn have_same_bytes<'a>(
+    alloc: Global,
+    scope: &mut Evaluation<'a>,
+    a: &[ItemPiece<'a>],
+    b: &[ItemPiece<'a>],
+) -> Mem<bool>
+    ensures same { IfOk result (λ same. same ≡ pointwise nat_eq (with_commas (piece_texts scope.old a.now)) (with_commas (piece_texts scope.old b.now))) }
+    ensures scope { scope.new ≡ scope.old }
+{
+    let text = text_with_commas(alloc, scope, a)?;
+    let other = text_with_commas(alloc, scope, b)?;
+    Ok(text == other)
+}
+
+/// Whether two items have the same text, by their pieces: they are the same, or the first that differ are as long, or all together are
+/// not as long. Where none of this tells, the texts are put together.
+pub(crate) fn have_same_text<'a>(
+    alloc: Global,
+    scope: &mut Evaluation<'a>,
+    a: &[ItemPiece<'a>],
+    b: &[ItemPiece<'a>],
+) -> Mem<bool>
+    ensures same { IfOk result (λ same. same ≡ pointwise nat_eq (with_commas (piece_texts scope.old a.now)) (with_commas (piece_texts scope.old b.now))) }
+    ensures scope { scope.new ≡ scope.old }
+{
     let place = same_in_front(alloc, scope, a, b)?;
     if place == a.len() && place == b.len() {
-        return Ok(Some(true));
+        return Ok(true);
     }
     if is_as_long_at(alloc, scope, a, b, place)? {
-        return Ok(Some(false));
+        return Ok(false);
     }
-    let first = len_with_commas(alloc, scope, a)?;
-    let second = len_with_commas(alloc, scope, b)?;
-    Ok(if first == second { None } else { Some(false) })
+    let len = len_with_commas(alloc, scope, a)?;
+    let other_len = len_with_commas(alloc, scope, b)?;
+    if len != other_len {
+        return Ok(false);
+    }
+    have_same_bytes(alloc, scope, a, b)
 }

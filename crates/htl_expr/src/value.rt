@@ -1,20 +1,19 @@
 //! The value of a tree.
 
-ghost use Rattle.std.specs.Prelude.{◌≡◌, IfOk, IfSome, length, map, if◌then◌else◌, not, true};
+ghost use Rattle.std.specs.Prelude.{◌≡◌, IfOk, map, if◌then◌else◌, not, true, false};
 ghost use Rattle.htl_expr.specs.Value as spec;
-ghost use Rattle.htl_expr.specs.Lent.{out_of_lent, plain_item, property_item, listed_texts, is_list, AreRows, IsOperand};
-ghost use Rattle.htl_expr.specs.Pieces.{piece_text, ArePieces};
+ghost use Rattle.htl_expr.specs.Lent.{out_of_lent, plain_item, property_item, listed_texts, is_list, IsOperand};
+ghost use Rattle.htl_expr.specs.Pieces.{piece_text, AreItemPieces, HavePieces};
 ghost use Rattle.htl_expr.specs.declared.out.Out.TheVariants as out;
 
 use crate::compare::operands_compare;
 use crate::evaluation::Evaluation;
 use crate::expression::Expr;
-use crate::lent::{Lent, Operand, is_true};
+use crate::lent::{Lent, Operand, is_list, is_true};
 use crate::lists::truth_text;
 use crate::node::{Comparison, ExprNode};
 use crate::out::{Out, owned};
-use crate::pieces::{Piece, all_pieces, piece_alone};
-use crate::same::item_count;
+use crate::pieces::{ItemPiece, all_pieces, piece_alone};
 use crate::scope::{Scope, property, resource};
 use sp_base::{Mem, TextBuf};
 use sqlite_items::Items;
@@ -100,56 +99,56 @@ fn or_values<'a>(
     Ok(last)
 }
 
-// The piece that a value is which is no property and no list.
-fn value_piece<'a>(scope: &Evaluation<'a>, value: &Lent<'a>) -> Option<Piece<'a>>
-    ensures { IfSome result (λ piece. plain_item value.now ≡ piece_text scope.now piece) }
+// The piece that a value is which is no list.
+fn value_piece<'a>(scope: &Evaluation<'a>, value: &Lent<'a>) -> ItemPiece<'a>
+    requires { is_list (out_of_lent value.now) ≡ false }
+    ensures { piece_text scope.now result ≡ plain_item value.now }
 {
     let _ = scope;
     match value {
-        Lent::Nothing => Some(Piece::Text("")),
-        Lent::Truth(truth) => Some(Piece::Text(truth_text(*truth))),
-        Lent::Long(number) => Some(Piece::Long(*number)),
-        Lent::Text(text) => Some(Piece::Text(text)),
-        _ => None,
+        Lent::Nothing => ItemPiece::Text(""),
+        Lent::Truth(truth) => ItemPiece::Text(truth_text(*truth)),
+        Lent::Long(number) => ItemPiece::Long(*number),
+        Lent::Text(text) => ItemPiece::Text(text),
+        _ => ItemPiece::Text(""),
     }
 }
 
-// The pieces of a list literal, where they are known.
+// The pieces of a list literal, which are those of its items. One without items has the empty text.
 #[tactic(auto, using(crate::proofs::Items::literal_of_all, crate::proofs::Items::empty_literal))]
 fn literal_pieces<'a>(
     alloc: Global,
     scope: &Evaluation<'a>,
-    literal: &Operand<'a>,
-    count: usize,
-) -> Mem<Items<Piece<'a>>>
-    requires operand { IsOperand scope.now literal.now }
-    requires list { is_list (out_of_lent literal.now.value) ≡ true }
-    requires count { count ≡ length (listed_texts (out_of_lent literal.now.value)) }
-    ensures { IfOk result (λ pieces. ArePieces scope.now pieces (plain_item literal.now.value)) }
+    literal: &Lent<'a>,
+    items: &[Items<ItemPiece<'a>>],
+) -> Mem<Items<ItemPiece<'a>>>
+    requires list { is_list (out_of_lent literal.now) ≡ true }
+    requires items { HavePieces scope.now items.now (listed_texts (out_of_lent literal.now)) }
+    ensures { IfOk result (λ pieces. AreItemPieces scope.now pieces (plain_item literal.now)) }
 {
     let _ = scope;
-    if count == 0 {
-        return piece_alone(alloc, Piece::Text(""));
+    if items.is_empty() {
+        piece_alone(alloc, ItemPiece::Text(""))
+    } else {
+        all_pieces(alloc, items)
     }
-    if literal.items.len() != count {
-        return Ok(Items::new(alloc));
-    }
-    all_pieces(alloc, literal.items.as_slice())
 }
 
-// A value that is one piece, or nothing known.
+// The pieces of a value that is no property.
 #[tactic(auto, using(crate::proofs::PieceLemmas::alone))]
 fn pieces_of_value<'a>(
     alloc: Global,
     scope: &Evaluation<'a>,
     value: &Lent<'a>,
-) -> Mem<Items<Piece<'a>>>
-    ensures { IfOk result (λ pieces. ArePieces scope.now pieces (plain_item value.now)) }
+    items: &[Items<ItemPiece<'a>>],
+) -> Mem<Items<ItemPiece<'a>>>
+    requires { HavePieces scope.now items.now (listed_texts (out_of_lent value.now)) }
+    ensures { IfOk result (λ pieces. AreItemPieces scope.now pieces (plain_item value.now)) }
 {
-    match value_piece(scope, value) {
-        Some(piece) => piece_alone(alloc, piece),
-        None => Ok(Items::new(alloc)),
+    if is_list(value) {
+        return literal_pieces(alloc, scope, value, items);
     }
+    piece_alone(alloc, value_piece(scope, value))
 }
 
 // A property as a piece.
@@ -158,26 +157,27 @@ fn pieces_of_property<'a>(
     alloc: Global,
     scope: &Evaluation<'a>,
     name: &'a TextBuf,
-) -> Mem<Items<Piece<'a>>>
-    ensures { IfOk result (λ pieces. ArePieces scope.now pieces (property_item scope.now name.now)) }
+) -> Mem<Items<ItemPiece<'a>>>
+    ensures { IfOk result (λ pieces. AreItemPieces scope.now pieces (property_item scope.now name.now)) }
 {
     let _ = scope;
-    piece_alone(alloc, Piece::Property(name))
+    piece_alone(alloc, ItemPiece::Property(name))
 }
 
-// The pieces of an item of a list literal, where they are known.
+// The pieces of an item of a list literal.
 #[tactic(auto, using(crate::proofs::Items::of_property))]
-fn pieces_of<'a>(alloc: Global, scope: &Evaluation<'a>, item: &Operand<'a>) -> Mem<Items<Piece<'a>>>
+fn pieces_of<'a>(
+    alloc: Global,
+    scope: &Evaluation<'a>,
+    item: &Operand<'a>,
+) -> Mem<Items<ItemPiece<'a>>>
     requires { IsOperand scope.now item.now }
-    ensures { IfOk result (λ pieces. ArePieces scope.now pieces (plain_item item.now.value)) }
+    ensures { IfOk result (λ pieces. AreItemPieces scope.now pieces (plain_item item.now.value)) }
 {
-    if let Some(name) = item.property {
-        return pieces_of_property(alloc, scope, name);
+    match item.property {
+        Some(name) => pieces_of_property(alloc, scope, name),
+        None => pieces_of_value(alloc, scope, &item.value, item.items.as_slice()),
     }
-    if let Lent::Items(values) = &item.value {
-        return literal_pieces(alloc, scope, item, values.len());
-    }
-    pieces_of_value(alloc, scope, &item.value)
 }
 
 // The value of a list literal.
@@ -205,41 +205,25 @@ fn list_value<'a>(
     })
 }
 
-// The pieces of the items of a property. The only item of a list has the text that the list has as an item.
-#[tactic(auto, using(crate::proofs::Items::only_item))]
-fn property_items<'a>(
-    alloc: Global,
-    scope: &Evaluation<'a>,
-    name: &'a TextBuf,
-    value: &Lent<'a>,
-) -> Mem<Items<Items<Piece<'a>>>>
-    requires { out_of_lent value.now ≡ spec.property scope.now name.now }
-    ensures { IfOk result (λ rows. AreRows scope.now rows (out_of_lent value.now)) }
+// The property of this name, or nothing.
+fn property_operand<'a>(alloc: Global, scope: &Evaluation<'a>, name: &'a TextBuf) -> Operand<'a>
+    ensures value { out_of_lent result.value ≡ spec.property scope.now name.now }
+    ensures operand { IsOperand scope.now result }
 {
-    let _ = scope;
-    let mut rows = Items::new(alloc);
-    if item_count(value) == 1 {
-        rows.push(piece_alone(alloc, Piece::Property(name))?)?;
+    Operand {
+        value: property(scope.scope(), name.text()),
+        property: Some(name),
+        items: Items::new(alloc),
     }
-    Ok(rows)
 }
 
-// The property of this name, or nothing.
-fn property_operand<'a>(
-    alloc: Global,
-    scope: &Evaluation<'a>,
-    name: &'a TextBuf,
-) -> Mem<Operand<'a>>
-    ensures value { IfOk result (λ v. out_of_lent v.value ≡ spec.property scope.now name.now) }
-    ensures operand { IfOk result (IsOperand scope.now) }
+// What the resource has under a name of its own.
+#[tactic(auto, using(crate::proofs::Items::field_has_no_items))]
+fn resource_operand<'a>(alloc: Global, scope: &Evaluation<'a>, name: &TextBuf) -> Operand<'a>
+    ensures value { out_of_lent result.value ≡ spec.resource scope.now name.now }
+    ensures operand { IsOperand scope.now result }
 {
-    let value = property(scope.scope(), name.text());
-    let items = property_items(alloc, scope, name, &value)?;
-    Ok(Operand {
-        value,
-        property: Some(name),
-        items,
-    })
+    Operand::of(alloc, resource(scope.scope(), name.text()))
 }
 
 // Whether a comparison holds between an operand and the value of a tree.
@@ -290,8 +274,8 @@ pub(crate) fn value<'a>(
         ExprNode::Long(number) => Ok(Operand::of(alloc, Lent::Long(*number))),
         ExprNode::Truth(truth) => Ok(Operand::of(alloc, Lent::Truth(*truth))),
         ExprNode::Variable(_) | ExprNode::Access(_, _) => Ok(Operand::of(alloc, Lent::Nothing)),
-        ExprNode::Property(name) => property_operand(alloc, scope, name),
-        ExprNode::Resource(name) => Ok(Operand::of(alloc, resource(scope.scope(), name.text()))),
+        ExprNode::Property(name) => Ok(property_operand(alloc, scope, name)),
+        ExprNode::Resource(name) => Ok(resource_operand(alloc, scope, name)),
         ExprNode::List(items) => list_value(alloc, scope, items.as_slice()),
         ExprNode::Not(operand) => opposite(alloc, scope, operand.get()),
         ExprNode::Compare(comparison, a, b) => {

@@ -1,12 +1,12 @@
-use Rattle.std.proofs.Common.{◌≡◌, ◌∙◌, List, [], IfOk, get_or, map, arith, sym, ap, subst}
+use Rattle.std.proofs.Common.{◌≡◌, ◌∙◌, List, IfOk, map, arith, sym, ap, subst}
 use Rattle.std.proofs.lemmas.List.{take_all}
 use Rattle.htl_expr.specs.declared.out.Out.{Out}
 use Rattle.htl_expr.specs.declared.out.Out.TheVariants as out
 use Rattle.htl_expr.specs.Lent.{out_of_lent, plain_item, listed_texts}
-use Rattle.htl_expr.specs.Pieces.{ArePieces}
+use Rattle.htl_expr.specs.Pieces.{HavePieces}
 use Rattle.htl_expr.specs.Value.{value, item_texts}
 use Rattle.htl_expr.proofs.Chains.{and_goes_on, or_goes_on, items_out, item_texts_are}
-use Rattle.htl_expr.proofs.Items.{as_many, one_item_more}
+use Rattle.htl_expr.proofs.Items.{one_item_more}
 use Rattle.htl_expr.proofs.Trees.{truth_out, compare_whole, and_whole, or_whole, choice_then, choice_else, items_go_on}
 use Rattle.htl_expr.proofs.value.+value.Goals as goal
 
@@ -32,8 +32,7 @@ list_value-loop-item-preserved t c =
     let are = rw (c.value.ensures.scope ∙ known.0) at c.in_ok-pieces_of.ensures in (
       c.value.ensures.scope ∙ known.0,
       items_go_on (value c.args.scope.now) c.args.items.now c.loop-item.item-index c.item-item.result c.loop-item.values _ c.in_ok-item.item.value c.loop-item-test.true c.item-item.is c.in_ok-push-2.ensures.ok (rw known.0 at c.in_ok-item.ensures.value) known.1,
-      as_many c.loop-item.pieces c.push.new.self c.loop-item.values c.push-in-loop-item.new.self _ c.in_ok-item.item.value c.in_ok-push.ensures.ok c.in_ok-push-2.ensures.ok known.2,
-      one_item_more (ArePieces c.args.scope.now) plain_item c.loop-item.pieces c.push.new.self c.loop-item.values c.push-in-loop-item.new.self [] _ c.in_ok-item.item.value c.in_ok-push.ensures.ok c.in_ok-push-2.ensures.ok known.2 tt are known.3,
+      one_item_more c.args.scope.now plain_item c.loop-item.pieces c.push.new.self c.loop-item.values c.push-in-loop-item.new.self _ c.in_ok-item.item.value c.in_ok-push.ensures.ok c.in_ok-push-2.ensures.ok are known.2,
     )
 
 pub list_value-returns-clause-value : goal.list_value-returns-clause-value
@@ -42,10 +41,7 @@ list_value-returns-clause-value t c =
     items_out c.loop-item.values ∙ ap out.List (sym (item_texts_are c.loop-item.values)) ∙ ap (λ (os : List Out). out.List (item_texts os)) whole
 
 pub list_value-returns-clause-operand : goal.list_value-returns-clause-operand
-list_value-returns-clause-operand t c = (
-  tt,
-  λ place. subst (λ (o : Out). ArePieces c.args.scope.now (get_or c.loop-item.pieces place []) (get_or (listed_texts o) place [])) (sym (items_out c.loop-item.values)) (c.loop-item.invariant.3 place),
-)
+list_value-returns-clause-operand t c = subst (λ (o : Out). HavePieces c.args.scope.now c.loop-item.pieces (listed_texts o)) (sym (items_out c.loop-item.values)) c.loop-item.invariant.2
 
 pub value-returns-in-And-clause-value : goal.value-returns-in-And-clause-value
 value-returns-in-And-clause-value t c =

@@ -1,6 +1,6 @@
-use Rattle.std.proofs.Common.{◌≡◌, ℕ, [], length, get_or, drop, take, map}
+use Rattle.std.proofs.Common.{◌≡◌, drop, take, map}
 use Rattle.htl_expr.specs.Lent.{out_of_lent, plain_item, IsOperand}
-use Rattle.htl_expr.specs.Pieces.{ArePieces}
+use Rattle.htl_expr.specs.Pieces.{HavePieces}
 use Rattle.htl_expr.specs.Value.{and_values, or_values, value}
 use Rattle.htl_expr.proofs.value.+value.Given as goal
 
@@ -12,5 +12,4 @@ invariant-or_values-loop-operand l = (l.scope ≡ l.fn.scope) × IsOperand l.fn.
 
 abbrev pub invariant-list_value-loop-item : goal.invariant-list_value-loop-item
 invariant-list_value-loop-item l =
-    (l.scope ≡ l.fn.scope) × (map out_of_lent l.values ≡ map (value l.fn.scope) (take l.item-index l.items)) × (length l.pieces ≡ length l.values)
-    × ((place : ℕ) → ArePieces l.fn.scope (get_or l.pieces place []) (get_or (map plain_item l.values) place []))
+    (l.scope ≡ l.fn.scope) × (map out_of_lent l.values ≡ map (value l.fn.scope) (take l.item-index l.items)) × HavePieces l.fn.scope l.pieces (map plain_item l.values)

@@ -89,7 +89,7 @@ get_calls head body (Some line) = Get head true ∷ Get body true ∷ []
 abbrev pub drop_calls : List ℕ → List ℕ → List Call
 drop_calls head body = Remove head true ∷ Remove body true ∷ []
 
--- A reading by one call of the disk stopped: before it, for want of memory; at it; or after it, for want of memory.
+-- A reading by one call of the disk stopped: before it, out of memory; at it; or after it, out of memory.
 abbrev pub IsCallLeft : Option (List Call) → Option (List Call) → (Bool → Call) → FileFault → Type 0
 IsCallLeft asked made call fault =
     ((fault ≡ NoMemory) × (made ≡ asked)) ⊎ ((made ≡ told_call asked (call false)) ⊎ ((fault ≡ NoMemory) × (made ≡ told_call asked (call true))))
@@ -100,7 +100,7 @@ IsGetLeft asked made told key fault =
     IsCallLeft asked made (Get (head_name key.folder key.file)) fault
     ⊎ (IfSome told (λ files. IsSome (head_at files key)) × IsCallLeft (told_call asked (Get (head_name key.folder key.file) true)) made (Get (body_name key.folder key.file)) fault)
 
--- A put stopped: before it asked anything of the disk, for want of memory; at the removal of the old head; at the body; or at the new head.
+-- A put stopped: before it asked anything of the disk, out of memory; at the removal of the old head; at the body; or at the new head.
 abbrev pub IsPutLeft : Option (List Call) → Option (List Call) → Option Files → Option Files → List ℕ → List ℕ → List ℕ → List ℕ → FileFault → Type 0
 IsPutLeft asked made old new head body bytes text fault =
     ((fault ≡ NoMemory) × ((made ≡ asked) × (new ≡ old)))
@@ -108,7 +108,7 @@ IsPutLeft asked made old new head body bytes text fault =
     ⊎ (((made ≡ told_calls asked (Remove head true ∷ Put body bytes false ∷ [])) × IsLeftByFault (told_without old head) (told_with (told_without old head) body bytes) new fault)
     ⊎ ((made ≡ told_calls asked (Remove head true ∷ Put body bytes true ∷ Put head text false ∷ [])) × IsLeftByFault (told_with (told_without old head) body bytes) (with_page old head body bytes text) new fault)))
 
--- A drop stopped: before it asked anything of the disk, for want of memory; at the removal of the head; or at that of the body.
+-- A drop stopped: before it asked anything of the disk, out of memory; at the removal of the head; or at that of the body.
 abbrev pub IsDropLeft : Option (List Call) → Option (List Call) → Option Files → Option Files → List ℕ → List ℕ → FileFault → Type 0
 IsDropLeft asked made old new head body fault =
     ((fault ≡ NoMemory) × ((made ≡ asked) × (new ≡ old)))

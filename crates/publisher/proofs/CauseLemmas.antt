@@ -1,4 +1,4 @@
--- By definition no POST is refused for want of memory.
+-- By definition no POST is refused because memory ran out.
 use Rattle.std.proofs.Common.{◌≡◌, refl, ℕ, List, [], ◌∷◌, Option, Some, None, length, Bool, true, false, cond, subst}
 use Rattle.std.specs.Prelude.{◌==◌, ◌&&◌, IfErr, IfSome, Result, Ok, Err, codes, is_none, option_map}
 use Rattle.sp_base.specs.declared.answer.Ask.{Ask}
@@ -27,7 +27,7 @@ use Rattle.publisher.specs.Refusals.{of_form, of_operation, of_plan, tree_refusa
 use Rattle.publisher.specs.Posting.{PostOutcome, ◌>>=◌, or_bad_request, or_refused, posting, post_target}
 use Rattle.publisher.specs.PostLaws.{PostsAreRefusedForCauses}
 
--- ---- refusals that aren't for want of memory
+-- ---- refusals for other causes than memory
 
 abbrev is_cause : Refusal → Bool
 is_cause (Status status) = true

@@ -10,6 +10,6 @@ use Rattle.publisher.specs.Rendering.{content_after_request}
 abbrev pub RequestsKeepContentGood : Type 0
 RequestsKeepContentGood = (tree : Content) (ask : Ask) → IsGood tree → IsGood (content_after_request tree ask)
 
--- by definition a POST is never refused for want of memory: each refusal has a cause in the request or the content
+-- by definition no POST is refused because memory ran out: each refusal has a cause in the request or the content
 abbrev pub PostsAreRefusedForCauses : Type 0
 PostsAreRefusedForCauses = (tree : Content) (ask : Ask) (text : List ℕ) → posting tree ask text ≢ Err NoMemory

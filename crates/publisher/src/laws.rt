@@ -53,7 +53,7 @@ pub fn requests_keep_content_good()
     operations_keep_content_good();
 }
 
-/// A POST that is refused has a cause in the request or the content: by definition none is refused for want of memory, so where
+/// A POST that is refused has a cause in the request or the content: by definition none is refused because memory ran out, so where
 /// `Publisher::answer` answers at all it answers for that cause.
 pub fn posts_are_refused_for_causes()
     ensures { PostsAreRefusedForCauses }

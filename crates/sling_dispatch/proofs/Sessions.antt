@@ -182,7 +182,7 @@ broken_off tree farm acts rest count k Stands mid gathered sink_failed sink p e 
 broken_off tree farm acts rest count k Stands mid gathered sink_memory sink p e cause = λ s same reads farm_reads.
     let x = prefix_due tree farm acts rest count k Stands mid gathered sink p e s same reads farm_reads in (x.0, x.1, x.2, cause)
 
--- no more events are made for want of memory, and what was gathered is written
+-- no more events are made, since memory ran out, and what was gathered is written
 pub played_stopped : (tree : Content) (farm : Farm) (acts rest : List ℕ) (count : ℕ) (Stands : RunState → Type 0) (mid : Option (List ℕ)) (gathered : List ℕ) (ending : Ending)
     (sink : Told (List ℕ)) → Played tree farm acts rest count Stands sink.old mid gathered
     → TellsText NoMemory gathered ending (told_of mid sink.new sink.faults_old sink.faults_new) → PlaysAll tree farm acts ending sink

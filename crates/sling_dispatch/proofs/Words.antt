@@ -25,7 +25,7 @@ some_words : (told : Option (List (List ℕ))) → (words : List (List ℕ)) × 
 some_words None = ([], tt)
 some_words (Some all) = (all, refl)
 
--- nothing was done, for want of memory
+-- nothing was done, since memory ran out
 pub words_unread : (told : Option (List (List ℕ))) (source sink : Told (List ℕ)) (status : ℕ) → status ≡ ending_status NoMemory → sink.new ≡ sink.old
     → HasNotFailed sink → (words : List (List ℕ)) × AreWordsOf told words × (e : Ending) × (status ≡ ending_status e)
     × Means (IsDue (record { words = words; source = source })) e sink

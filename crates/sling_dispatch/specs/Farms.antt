@@ -29,7 +29,7 @@ farm_in_file (Err fault) = Err (NoFile fault)
 abbrev pub farm_in : List ℕ → Result Farm FarmRefusal
 farm_in text = farm_in_file (any_of text)
 
--- the farm wasn't read for want of memory
+-- the farm wasn't read, since memory ran out
 abbrev pub lacks_memory : FarmRefusal → Bool
 lacks_memory (NoFile file.NoMemory) = true
 lacks_memory (NoFile (file.BadName at)) = false

@@ -40,7 +40,7 @@ pub fn farm_in(alloc: Global, text: &[u8]) -> Result<Farm, FarmRefusal>
     }
 }
 
-/// Whether the farm wasn't read for want of memory.
+/// Whether the farm wasn't read, since memory ran out.
 pub fn lacks_memory(refusal: &FarmRefusal) -> bool
     ensures { result ≡ spec.lacks_memory refusal.now }
 {

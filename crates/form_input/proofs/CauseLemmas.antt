@@ -1,4 +1,4 @@
--- By definition no form is refused for want of memory.
+-- By definition no form is refused as out of memory.
 use Rattle.std.proofs.Common.{◌≡◌, ◌+◌, refl, ℕ, List, [], ◌∷◌, Option, Some, None, length, Bool, true, false, cond}
 use Rattle.std.specs.Prelude.{◌==◌, ◌&&◌, IfErr, Result, Ok, Err, codes, nat_lt}
 use Rattle.form_urlencoded.specs.Form.{raw_pairs}

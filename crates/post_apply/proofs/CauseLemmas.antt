@@ -1,4 +1,4 @@
--- No step of a POST is refused for want of memory.
+-- No step of a POST is refused as out of memory.
 use Rattle.std.proofs.Common.{◌≡◌, refl, ℕ, List, [], ◌∷◌, ◌++◌, Option, Some, None, length, Bool, true, false, cond}
 use Rattle.std.specs.Prelude.{◌==◌, ◌+◌, ◌||◌, ◌&&◌, IfErr, IfSome, Result, Ok, Err, is_none, is_some, nat_le, nat_lt, not}
 use Rattle.sp_base.specs.Paths.{is_under, path_or_none}

@@ -220,7 +220,7 @@ impl<R: Files + AllocGlobal + Clone + Drop> Docroot<R> {
             let _ = fs::remove_file(&self.rt, beside);
             return Err(DiskFault::from(fault));
         }
-        // The files are changed already, so this is never want of memory.
+        // The files are changed already, so this is never out of memory.
         if lasts && sync_folder(&self.rt, parent(path)).is_err() {
             return Err(DiskFault::Failed);
         }

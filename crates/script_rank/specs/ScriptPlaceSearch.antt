@@ -1,9 +1,9 @@
--- What the code does at the sites alone, which gives the same as the search at each place. Only the code and its proofs cite this.
+-- What the code does at the script places alone, which gives the same as the search at each place. Only the code and its proofs cite this.
 use Rattle.std.specs.Prelude.{◌==◌, ◌++◌, ◌∷◌, ℕ, if◌then◌else◌, List, Option, None, codes, drop, length, slice_index}
 use Rattle.sp_base.specs.Paths.{child_of}
 use Rattle.resource_tree.specs.Content.{Content}
 use Rattle.type_chain.specs.Chain.{first_of}
-use Rattle.type_chain.specs.declared.sites.Site.{Site}
+use Rattle.type_chain.specs.declared.script_places.ScriptPlace.{ScriptPlace}
 use Rattle.url_split.specs.declared.decompose.Parts.{Parts}
 use Rattle.script_rank.specs.declared.naming.Naming.{Naming}
 use Rattle.script_rank.specs.declared.naming.Naming.TheVariants.{SelectorsAndExtension, Selectors, LabelAndExtension, Extension, Label, Method}
@@ -27,11 +27,11 @@ script_below tree place text = if length place == 0 then None
 abbrev pub script_named : Content → List (List ℕ) → List ℕ → Option (List (List ℕ))
 script_named tree place spelling = script_below tree place (spelling ++ codes ".html")
 
-unfoldable pub at_site : Content → Parts → Naming → Site → Option (List (List ℕ))
-at_site tree parts naming site = first_of (script_named tree site.place) (spellings parts site.label naming)
+unfoldable pub at_script_place : Content → Parts → Naming → ScriptPlace → Option (List (List ℕ))
+at_script_place tree parts naming script_place = first_of (script_named tree script_place.place) (spellings parts script_place.label naming)
 
-unfoldable pub at_sites : Content → Parts → List Site → Naming → Option (List (List ℕ))
-at_sites tree parts sites naming = first_of (at_site tree parts naming) sites
+unfoldable pub at_script_places : Content → Parts → List ScriptPlace → Naming → Option (List (List ℕ))
+at_script_places tree parts script_places naming = first_of (at_script_place tree parts naming) script_places
 
-abbrev pub site_search : Content → List Site → Parts → Option (List (List ℕ))
-site_search tree sites parts = first_of (at_sites tree parts sites) (namings parts)
+abbrev pub script_place_search : Content → List ScriptPlace → Parts → Option (List (List ℕ))
+script_place_search tree script_places parts = first_of (at_script_places tree parts script_places) (namings parts)

@@ -1,4 +1,4 @@
--- The search at the sites alone gives what the search at each place gives.
+-- The search at the script places alone gives what the search at each place gives.
 use Rattle.std.proofs.Common.{◌≡◌, ◌≤◌, ◌++◌, ◌==◌, ℕ, zero, suc, true, false, cond, List, [], ◌∷◌, Option, Some, None, Result, length, refl, sym, ◌∙◌, ap, subst, arith, codes, take}
 use Rattle.std.specs.Prelude.{flat_map, slice_get, IfOk}
 use Rattle.std.specs.List.{AllByRecursion, list_all}
@@ -9,16 +9,16 @@ use Rattle.sp_base.specs.Paths.{checked, fault_of, is_path, unless_fault}
 use Rattle.sp_base.specs.declared.path.PathFault.{PathFault}
 use Rattle.resource_tree.specs.Content.{Content, IsGood, IsTree, name_of, node_at}
 use Rattle.type_chain.specs.Chain.{first_of}
-use Rattle.type_chain.specs.Sites.{AreSitesOf, has_kids, site_at, sites_of}
+use Rattle.type_chain.specs.ScriptPlaces.{AreScriptPlacesOf, has_kids, script_place_at, script_places_of}
 use Rattle.type_chain.specs.Types.{path_with, places}
-use Rattle.type_chain.specs.declared.sites.Site.{Site}
+use Rattle.type_chain.specs.declared.script_places.ScriptPlace.{ScriptPlace}
 use Rattle.type_chain.specs.declared.type_name.TypeName.{TypeName}
 use Rattle.url_split.specs.declared.decompose.Parts.{Parts}
 use Rattle.script_rank.specs.declared.naming.Naming.{Naming}
 use Rattle.script_rank.specs.declared.naming.Naming.TheVariants.{SelectorsAndExtension, Selectors, LabelAndExtension, Extension, Label, Method}
 use Rattle.script_rank.specs.Ranking.{IsOffered, after_slashes, spellings}
 use Rattle.script_rank.specs.Search.{at_naming, at_place, at_type, namings, script_at, search_result}
-use Rattle.script_rank.specs.SiteSearch.{at_site, at_sites, script_named, site_search}
+use Rattle.script_rank.specs.ScriptPlaceSearch.{at_script_place, at_script_places, script_named, script_place_search}
 use Rattle.script_rank.proofs.NamingLemmas.{sound}
 use Rattle.script_rank.proofs.PlaceLemmas.{LackSlashes, path_lacks, script_none, script_same}
 
@@ -81,10 +81,10 @@ named_none : (tree : Content) (place : List (List ℕ)) (s : List ℕ) → IsTre
 named_none tree place s good none lack begins = ap (script_at tree place) begins.1 ∙ script_none tree place begins.0 good none lack
 
 module _ (tree : Content) (parts : Parts) (naming : Naming) (good : IsTree (node_at tree)) (offered : IsOffered parts naming) where
-  site_same : (label : List ℕ) (place : List (List ℕ)) → LackSlashes place
-      → at_site tree parts naming (record { label = label; place = place }) ≡ at_place tree (spellings parts label naming) place
-  unfolding at_site at_place
-  site_same label place lack =
+  script_place_same : (label : List ℕ) (place : List (List ℕ)) → LackSlashes place
+      → at_script_place tree parts naming (record { label = label; place = place }) ≡ at_place tree (spellings parts label naming) place
+  unfolding at_script_place at_place
+  script_place_same label place lack =
       first_same (script_named tree place) (script_at tree place) (spellings parts label naming) (λ j s e. named_same tree place s lack (spelling_begins parts label naming j s offered e))
 
   place_none : (label : List ℕ) (place : List (List ℕ)) → LackSlashes place → has_kids (node_at tree place) ≡ false → at_place tree (spellings parts label naming) place ≡ None
@@ -96,20 +96,20 @@ module _ (tree : Content) (parts : Parts) (naming : Naming) (good : IsTree (node
   or_none None = refl
   or_none (Some x) = refl
 
-  place_same : (label : List ℕ) (place : List (List ℕ)) → LackSlashes place → first_of (at_site tree parts naming) (site_at tree label place) ≡ at_place tree (spellings parts label naming) place
+  place_same : (label : List ℕ) (place : List (List ℕ)) → LackSlashes place → first_of (at_script_place tree parts naming) (script_place_at tree label place) ≡ at_place tree (spellings parts label naming) place
   place_same label place lack =
       elim (has_kids (node_at tree place)) as (λ t. has_kids (node_at tree place) ≡ t
-      → first_of (at_site tree parts naming) (cond t (record { label = label; place = place } ∷ []) []) ≡ at_place tree (spellings parts label naming) place) [
-        | true ↦ λ e. or_none _ ∙ site_same label place lack
+      → first_of (at_script_place tree parts naming) (cond t (record { label = label; place = place } ∷ []) []) ≡ at_place tree (spellings parts label naming) place) [
+        | true ↦ λ e. or_none _ ∙ script_place_same label place lack
         | false ↦ λ e. sym (place_none label place lack e)
       ] refl
 
   places_same : (label : List ℕ) (list : List (List (List ℕ))) → AllByRecursion LackSlashes list
-      → first_of (at_site tree parts naming) (flat_map (site_at tree label) list) ≡ first_of (at_place tree (spellings parts label naming)) list
+      → first_of (at_script_place tree parts naming) (flat_map (script_place_at tree label) list) ≡ first_of (at_place tree (spellings parts label naming)) list
   places_same label [] lack = refl
   places_same label (place ∷ list) lack =
-      first_append (at_site tree parts naming) (site_at tree label place) (flat_map (site_at tree label) list)
-      ∙ ap (λ o. option_or o (first_of (at_site tree parts naming) (flat_map (site_at tree label) list))) (place_same label place lack.0)
+      first_append (at_script_place tree parts naming) (script_place_at tree label place) (flat_map (script_place_at tree label) list)
+      ∙ ap (λ o. option_or o (first_of (at_script_place tree parts naming) (flat_map (script_place_at tree label) list))) (place_same label place lack.0)
       ∙ ap (option_or (at_place tree (spellings parts label naming) place)) (places_same label list lack.1)
 
   -- ---- at a type
@@ -133,43 +133,43 @@ module _ (tree : Content) (parts : Parts) (naming : Naming) (good : IsTree (node
         | false ↦ both_lack (path_with (checked apps)) (path_with (checked libs)) (unless_lacks (fault_of apps) apps (refl, lack)) (unless_lacks (fault_of libs) libs (refl, lack))
       ]
 
-  type_same : (type : TypeName) → is_path type.segs ≡ true → first_of (at_site tree parts naming) (sites_of tree type) ≡ at_type tree parts naming type
-  unfolding sites_of at_type
+  type_same : (type : TypeName) → is_path type.segs ≡ true → first_of (at_script_place tree parts naming) (script_places_of tree type) ≡ at_type tree parts naming type
+  unfolding script_places_of at_type
   type_same type path = places_same (name_of type.segs) (places type) (places_lack type path)
 
   types_same : (types : List TypeName) → list_all (λ type. is_path type.segs) types ≡ true
-      → first_of (at_site tree parts naming) (flat_map (sites_of tree) types) ≡ first_of (at_type tree parts naming) types
+      → first_of (at_script_place tree parts naming) (flat_map (script_places_of tree) types) ≡ first_of (at_type tree parts naming) types
   types_same [] paths = refl
   types_same (type ∷ types) paths =
       let both = and_parts (is_path type.segs) (list_all (λ t. is_path t.segs) types) paths in
-      first_append (at_site tree parts naming) (sites_of tree type) (flat_map (sites_of tree) types)
-      ∙ ap (λ o. option_or o (first_of (at_site tree parts naming) (flat_map (sites_of tree) types))) (type_same type both.0)
+      first_append (at_script_place tree parts naming) (script_places_of tree type) (flat_map (script_places_of tree) types)
+      ∙ ap (λ o. option_or o (first_of (at_script_place tree parts naming) (flat_map (script_places_of tree) types))) (type_same type both.0)
       ∙ ap (option_or (at_type tree parts naming type)) (types_same types both.1)
 
-  sites_same : (types : List TypeName) (sites : List Site) → AreSitesOf tree types sites → at_sites tree parts sites naming ≡ at_naming tree types parts naming
-  unfolding at_sites at_naming
-  sites_same types sites h = ap (first_of (at_site tree parts naming)) h.0 ∙ types_same types h.1
+  script_places_same : (types : List TypeName) (script_places : List ScriptPlace) → AreScriptPlacesOf tree types script_places → at_script_places tree parts script_places naming ≡ at_naming tree types parts naming
+  unfolding at_script_places at_naming
+  script_places_same types script_places h = ap (first_of (at_script_place tree parts naming)) h.0 ∙ types_same types h.1
 
-search_same : (tree : Content) (types : List TypeName) (sites : List Site) (parts : Parts) → IsTree (node_at tree) → AreSitesOf tree types sites
-    → site_search tree sites parts ≡ search_result tree types parts
+search_same : (tree : Content) (types : List TypeName) (script_places : List ScriptPlace) (parts : Parts) → IsTree (node_at tree) → AreScriptPlacesOf tree types script_places
+    → script_place_search tree script_places parts ≡ search_result tree types parts
 unfolding search_result
-search_same tree types sites parts good h =
-    first_same (at_sites tree parts sites) (at_naming tree types parts) (namings parts) (λ j naming e. sites_same tree parts naming good (sound parts j naming e).1 types sites h)
+search_same tree types script_places parts good h =
+    first_same (at_script_places tree parts script_places) (at_naming tree types parts) (namings parts) (λ j naming e. script_places_same tree parts naming good (sound parts j naming e).1 types script_places h)
 
 same_answer : {E : Type 0} {P Q : Option (List (List ℕ))} (r : Result (Option (List (List ℕ))) E) → P ≡ Q → IfOk r (λ o. o ≡ P) → IfOk r (λ o. o ≡ Q)
 same_answer r e h = subst (λ answer. IfOk r (λ o. o ≡ answer)) e h
 
--- so an answer of the search at sites is one of the search at each place
-pub answers_same : {E : Type 0} (tree : Content) (types : List TypeName) (sites sites' : List Site) (parts : Parts) (r : Result (Option (List (List ℕ))) E) → IsGood tree → AreSitesOf tree types sites
-    → sites' ≡ sites → IfOk r (λ o. o ≡ site_search tree sites' parts) → IfOk r (λ o. o ≡ search_result tree types parts)
-answers_same tree types sites sites' parts r good h same value =
-    same_answer r (ap (λ s. site_search tree s parts) same ∙ search_same tree types sites parts good.shape h) value
+-- so an answer of the search at script places is one of the search at each place
+pub answers_same : {E : Type 0} (tree : Content) (types : List TypeName) (script_places script_places' : List ScriptPlace) (parts : Parts) (r : Result (Option (List (List ℕ))) E) → IsGood tree → AreScriptPlacesOf tree types script_places
+    → script_places' ≡ script_places → IfOk r (λ o. o ≡ script_place_search tree script_places' parts) → IfOk r (λ o. o ≡ search_result tree types parts)
+answers_same tree types script_places script_places' parts r good h same value =
+    same_answer r (ap (λ s. script_place_search tree s parts) same ∙ search_same tree types script_places parts good.shape h) value
 
--- without a site there is no script
+-- without a script place there is no script
 none_from_zero : (n : ℕ) → (n == 0) ≡ true → n ≡ 0
 none_from_zero n e = grind (arith, nat_tests)
 
-pub no_site : (tree : Content) (sites : List Site) (parts : Parts) → (length sites == 0) ≡ true → site_search tree sites parts ≡ None
-unfolding at_sites
-no_site tree [] parts e = first_none (at_sites tree parts []) (namings parts) (λ j naming is. refl)
-no_site tree (site ∷ sites) parts e = absurd (omega (arith, none_from_zero (length (site ∷ sites)) e))
+pub no_script_place : (tree : Content) (script_places : List ScriptPlace) (parts : Parts) → (length script_places == 0) ≡ true → script_place_search tree script_places parts ≡ None
+unfolding at_script_places
+no_script_place tree [] parts e = first_none (at_script_places tree parts []) (namings parts) (λ j naming is. refl)
+no_script_place tree (script_place ∷ script_places) parts e = absurd (omega (arith, none_from_zero (length (script_place ∷ script_places)) e))

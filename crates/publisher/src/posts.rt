@@ -6,10 +6,10 @@ ghost use Rattle.publisher.specs.Posting.{posting, posting_answer, posting_conte
 ghost use Rattle.publisher.specs.Rendering.{mapping, posted_answer, posted_content};
 
 use crate::errors::redirect;
+use crate::held_content::HeldContent;
 use crate::kept_index::put_with_index;
 use crate::posting::{planned, report_answer};
 use crate::refusal::Refusal;
-use crate::site::Site;
 use error_answers::error_answer;
 use post_apply::Planned;
 use resource_tree::Patch;
@@ -17,7 +17,7 @@ use sp_base::{Answer, Ask, Mem, NoMemory};
 use std::alloc::Global;
 use url_maps::MapAnswer;
 
-impl Site {
+impl HeldContent {
     /// The answer to a POST, which is done here.
     pub(crate) fn posted_answer(&mut self, alloc: Global, ask: &Ask) -> Mem<Answer>
         ensures answer { IfOk result (λ a. a ≡ posted_answer self.old.tree ask.now (mapping self.old.tree ask.now)) }

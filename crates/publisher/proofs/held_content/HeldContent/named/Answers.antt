@@ -3,7 +3,7 @@ use Rattle.overlay_merge.specs.Merged.{merged_alone}
 use Rattle.publisher.specs.Kept.{IndexedTree}
 use Rattle.publisher.specs.Rendering.{resource_answer}
 use Rattle.publisher.proofs.SeenAloneLemmas.{alone-none, answer-as}
-use Rattle.publisher.proofs.site.Site.named.Goals as goal
+use Rattle.publisher.proofs.held_content.HeldContent.named.Goals as goal
 
 pub returns-in-None-clause-answer : goal.returns-in-None-clause-answer
 returns-in-None-clause-answer c =

@@ -22,14 +22,14 @@ use url_split::Parts;
 /// A content tree, with the readings of its scripts and the index of its mappings. Contracts see the tree, and whether the index is
 /// there: an answer makes it, and from then on it stays.
 #[derive(Drop)]
-pub(crate) struct Site {
+pub(crate) struct HeldContent {
     pub(crate) tree: Tree,
     pub(crate) templates: Templates,
     /// The index of the tree's aliases and vanity paths, made at the first answer.
     pub(crate) index: Option<MapIndex>,
 }
 
-impl Model for Site {
+impl Model for HeldContent {
     ghost use Rattle.std.specs.Prelude.{is_some};
     ghost use Rattle.publisher.specs.Kept.{AreReadings, IndexedTree, IsIndexFor};
 
@@ -40,18 +40,18 @@ impl Model for Site {
     ghost invariant = { λ s. AreReadings s.tree s.templates × IsIndexFor s.tree s.index };
 }
 
-impl Site {
-    pub(crate) fn new(alloc: Global, seeds: RandomState, tree: Tree) -> Site
+impl HeldContent {
+    pub(crate) fn new(alloc: Global, seeds: RandomState, tree: Tree) -> HeldContent
         ensures { result.tree ≡ tree }
     {
-        Site {
+        HeldContent {
             tree,
             templates: Templates::new(alloc, seeds),
             index: None,
         }
     }
 
-    /// Puts another tree in the place of the site's, which is given back. What was kept beside the old one is forgotten.
+    /// Puts another tree in the place of the one that is held, which is given back. What was kept beside the old one is forgotten.
     pub(crate) fn replace(&mut self, tree: Tree) -> Tree
         ensures old { result ≡ self.old.tree }
         ensures new { self.new.tree ≡ tree }

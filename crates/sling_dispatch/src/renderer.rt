@@ -8,14 +8,14 @@ use std::alloc::Global;
 
 /// A publisher behind a front.
 #[derive(Drop)]
-pub struct SiteRenderer {
+pub struct PublisherRenderer {
     pub publisher: Publisher,
 }
 
-impl Renderer for SiteRenderer {
+impl Renderer for PublisherRenderer {
     ghost publishing = { published };
 
-    ghost content = { λ site. site.publisher };
+    ghost content = { λ renderer. renderer.publisher };
 
     fn render(&mut self, alloc: Global, ask: &Ask) -> Mem<Answer> {
         reads_change_nothing();

@@ -11,7 +11,7 @@ ghost use Rattle.tree_draft.specs.Drafts.{DraftFollows, IsCounted, IsSound};
 
 use crate::Draft;
 use crate::edit::Edit;
-use crate::held::Row;
+use crate::held::HeldEntry;
 use resource_tree::TreeFault;
 use sp_base::{Mem, NoMemory, Path, TextBuf};
 use std::alloc::Global;
@@ -52,7 +52,7 @@ impl<'a> Draft<'a> {
     {
         let seeds = self.tree.seeds();
         let place = path.duplicate(alloc)?;
-        self.put(place, Row::fresh(alloc, seeds))
+        self.put(place, HeldEntry::fresh(alloc, seeds))
     }
 
     // Names the node at a path last among the kids of its parent.

@@ -1,11 +1,11 @@
--- What the functions of the search promise one another, and its words. A reader of the relation in Turns.antt needs none of it.
-use Rattle.std.specs.Prelude.{◌≡◌, ◌≤◌, ◌<◌, ◌⊎◌, ◌&&◌, ◌||◌, ◌==◌, ◌++◌, ℕ, Bool, true, false, is_none, is_some, not, find, List, [], ◌∷◌, Option, Some, None, Result, Ok, Err, length, option_map, slice_index, slice_index_or, take}
+-- What the functions of the search promise one another, and its words. A reader of the relation in Turns.antt needs none of it, and the
+-- answer in Answers.antt `is_prefix_end`, `below_host_node` and `mapped_path` alone.
+use Rattle.std.specs.Prelude.{◌≡◌, ◌≤◌, ◌<◌, ◌⊎◌, ◌&&◌, ◌||◌, ◌==◌, ◌++◌, ℕ, Bool, true, false, is_none, is_some, not, List, [], ◌∷◌, Option, Some, None, Result, Ok, Err, length, slice_index, take}
 use Rattle.std.specs.List.{list_any}
 use Rattle.std.specs.declared.cmp.Ordering.TheVariants.{Less}
 use Rattle.sp_base.specs.Paths.{path_of, path_or_none}
 use Rattle.sp_base.specs.declared.path.PathFault.{PathFault}
-use Rattle.resource_tree.specs.Content.{Content, kid, node_at, same_path}
-use Rattle.resource_tree.specs.Changes.{kids_at}
+use Rattle.resource_tree.specs.Content.{Content, node_at, same_path}
 use Rattle.url_maps.specs.declared.pairs.Pair.{Pair}
 use Rattle.url_maps.specs.declared.pairs.PairKind.{PairKind}
 use Rattle.url_maps.specs.declared.turns.MappingStep.{MappingStep}
@@ -29,14 +29,6 @@ is_free_at tree (Err e) = false
 -- whether a text spells a path at which no node is
 abbrev pub is_free : Content → List ℕ → Bool
 is_free tree text = is_free_at tree (path_of text)
-
--- the first kid of a node that is among some paths
-abbrev pub first_kid : Content → List (List ℕ) → List (List (List ℕ)) → Option (List (List ℕ))
-first_kid tree parent paths = option_map (kid parent) (find (λ name. list_any (same_path (kid parent name)) paths) (kids_at tree parent))
-
--- the first of some paths, the root where there is none
-abbrev pub first_path : List (List (List ℕ)) → List (List ℕ)
-first_path paths = slice_index_or paths 0 []
 
 -- a path is among others, and before each of them in the order of nodes with one vanity path
 pub record IsFirstPath (tree : Content) (paths : List (List (List ℕ))) (path : List (List ℕ)) : Type 0 where

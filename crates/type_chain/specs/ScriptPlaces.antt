@@ -1,4 +1,5 @@
--- The places at which a search for scripts has to look. What the chain says needs none of it: only the search and its proofs cite this.
+-- The places at which a search for scripts has to look. What the chain says needs none of it, and `only` is needed by private functions
+-- and proofs alone.
 use Rattle.std.specs.Prelude.{◌≡◌, ◌==◌, ℕ, Bool, true, false, not, if◌then◌else◌, List, [], ◌∷◌, Option, Some, None, flat_map, length}
 use Rattle.std.specs.List.{list_all}
 use Rattle.sp_base.specs.Paths.{is_path}

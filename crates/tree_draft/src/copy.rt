@@ -12,11 +12,11 @@ ghost use Rattle.resource_tree.specs.Moves.{copy, copy_fault, part_there, path_t
 ghost use Rattle.tree_draft.specs.Drafts.{DraftFollows, IsCounted, IsSound};
 
 use crate::Draft;
-use crate::create::{MOST_NODES, last_segment};
+use crate::create::last_segment;
 use crate::held::HeldEntry;
 use crate::part::paths_under;
 use indexmap::IndexMap;
-use resource_tree::TreeFault;
+use resource_tree::{MOST_NODES, TreeFault};
 use sp_base::{Mem, Path};
 use std::alloc::Global;
 use std::hash::RandomState;

@@ -12,12 +12,9 @@ ghost use Rattle.tree_draft.specs.Drafts.{DraftFollows, IsCounted, IsSound};
 use crate::Draft;
 use crate::edit::Edit;
 use crate::held::HeldEntry;
-use resource_tree::TreeFault;
+use resource_tree::{MOST_NODES, TreeFault};
 use sp_base::{Mem, NoMemory, Path, TextBuf};
 use std::alloc::Global;
-
-/// The most nodes of a tree.
-pub(crate) const MOST_NODES: usize = 200_000;
 
 // The last segment of a path, which the root has not.
 pub(crate) fn last_segment(path: &Path) -> Option<&str>

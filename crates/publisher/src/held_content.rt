@@ -1,6 +1,6 @@
 //! What a publisher holds: a content tree, what is kept beside it, and the answers by both.
 ghost use Rattle.std.specs.Prelude.{◌≡◌, ◌≤◌, ◌||◌, IfOk, IsTrue, OnOk, OnErr, length, true};
-ghost use Rattle.publisher.specs.Rendering.{seen, mapped_answer, mapping, text_answer, resource_answer, rendered, content_after_request, is_post, is_read};
+ghost use Rattle.publisher.specs.Rendering.{seen, mapped_answer, mapping, text_answer, resource_answer, rendered, content_after_request, is_post, is_read, most_rendered_bytes};
 
 use crate::errors::redirect;
 use crate::kept_index::mapped;
@@ -73,7 +73,7 @@ impl HeldContent {
         ensures ok { IfOk result (λ a. a ≡ rendered self.old.tree ask.now) }
         ensures after { OnOk result (self.new.tree ≡ content_after_request self.old.tree ask.now) }
         ensures unchanged { OnErr result (self.new.tree ≡ self.old.tree) }
-        ensures fits { IfOk result (λ a. a.status ≡ 200 → length a.body ≤ 4194304) }
+        ensures fits { IfOk result (λ a. a.status ≡ 200 → length a.body ≤ most_rendered_bytes) }
         ensures made { (is_read ask.now.method || is_post ask.now.method) ≡ true → OnOk result (IsTrue self.new.is_indexed) }
         ensures kept { IsTrue self.old.is_indexed → IsTrue self.new.is_indexed }
     {
@@ -90,7 +90,7 @@ impl HeldContent {
     // The answer to a GET or a HEAD.
     fn read_answer(&mut self, alloc: Global, ask: &Ask) -> Mem<Answer>
         ensures answer { IfOk result (λ a. a ≡ mapped_answer self.old.tree (mapping self.old.tree ask.now)) }
-        ensures fits { IfOk result (λ a. a.status ≡ 200 → length a.body ≤ 4194304) }
+        ensures fits { IfOk result (λ a. a.status ≡ 200 → length a.body ≤ most_rendered_bytes) }
         ensures unchanged { self.new.tree ≡ self.old.tree }
         ensures made { OnOk result (IsTrue self.new.is_indexed) }
         ensures kept { IsTrue self.old.is_indexed → IsTrue self.new.is_indexed }

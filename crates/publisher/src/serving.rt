@@ -1,7 +1,7 @@
 //! The publisher: a content tree, what is kept beside it, and the answer to a request.
 ghost use Rattle.std.specs.Prelude.{◌≡◌, ◌≤◌, IfOk, OnOk, OnErr, length};
 ghost use Rattle.resource_tree.specs.Content.{IsGood};
-ghost use Rattle.publisher.specs.Rendering.{rendered, content_after_request};
+ghost use Rattle.publisher.specs.Rendering.{rendered, content_after_request, most_rendered_bytes};
 
 use crate::held_content::HeldContent;
 use resource_tree::Tree;
@@ -54,7 +54,7 @@ impl Publisher {
         ensures after { OnOk result (self.new ≡ content_after_request self.old ask.now) }
         ensures unchanged { OnErr result (self.new ≡ self.old) }
         ensures good { IsGood self.new }
-        ensures fits { IfOk result (λ a. a.status ≡ 200 → length a.body ≤ 4194304) }
+        ensures fits { IfOk result (λ a. a.status ≡ 200 → length a.body ≤ most_rendered_bytes) }
     {
         let answer = self.held.answer(alloc, ask);
         // `len` says that the tree is good.

@@ -182,11 +182,15 @@ abbrev pub at_last_colon : List ℕ → Option (List ℕ × List ℕ)
 at_last_colon [] = None
 at_last_colon (c ∷ t) = cut_again c t (at_last_colon t)
 
+-- the greatest port
+abbrev pub greatest_port : ℕ
+greatest_port = 65535
+
 abbrev pub host_cut : List ℕ → List ℕ → Option (List ℕ × List ℕ) → FarmOutcome (List GlobPiece × Option ℕ)
 host_cut name text None = glob name text >>= λ g. Ok (g, None)
 host_cut name text (Some cut) = do
   g ← glob name cut.0
-  port ← or_bad name (decimal 65535 cut.1)
+  port ← or_bad name (decimal greatest_port cut.1)
   Ok (g, Some port)
 
 -- a glob, and a port after the last colon
@@ -210,7 +214,7 @@ name_or_localhost text = if is_host_name text then text else codes "localhost"
 
 abbrev pub asked_cut : List ℕ → Option (List ℕ × List ℕ) → List ℕ × ℕ
 asked_cut text None = (name_or_localhost text, 80)
-asked_cut text (Some cut) = (name_or_localhost cut.0, unwrap_or (decimal 65535 cut.1) 80)
+asked_cut text (Some cut) = (name_or_localhost cut.0, unwrap_or (decimal greatest_port cut.1) 80)
 
 abbrev pub asked_in : AnyNode-F AnyNode → List ℕ × ℕ
 asked_in (AnyNode-F.Word text) = asked_cut text (at_last_colon text)
@@ -248,11 +252,15 @@ optional_rules name ms = optional_group name ms >>= λ group. each (entry name r
 unfoldable pub filters : Members → FarmOutcome (List Filter)
 filters ms = needed_group (codes "filter") ms >>= λ group. each (entry (codes "filter") filter) group
 
+-- the greatest level at which .stat files may lie
+abbrev pub deepest_level : ℕ
+deepest_level = 32
+
 -- what a farm keeps, and who may invalidate it
 unfoldable pub with_cache : List (List GlobPiece × Option ℕ) → List ℕ × ℕ → List Filter → Members → FarmOutcome Farm
 with_cache hosts ask filter cache = do
   rules ← needed_rules (codes "rules") cache
-  level ← member_number (codes "statfileslevel") 32 cache
+  level ← member_number (codes "statfileslevel") deepest_level cache
   authorized ← member_number (codes "allowAuthorized") 1 cache
   auto ← optional_rules (codes "invalidate") cache
   clients ← optional_rules (codes "allowedClients") cache

@@ -5,7 +5,7 @@ use Rattle.any_config.specs.declared.stop.AnyStop.TheVariants as stop
 use Rattle.any_config.specs.declared.any_fault.AnyFault.{AnyFault}
 use Rattle.any_config.specs.declared.node.AnyNode.{AnyNode}
 use Rattle.any_config.specs.Tokens.{comments_skipped, is_byte_at_front, is_config_name_byte, is_plain_byte, member_name}
-use Rattle.any_config.specs.Read.{Members, ends_members, placed_answer}
+use Rattle.any_config.specs.Read.{Members, deepest_group, ends_members, placed_answer}
 use Rattle.any_config.specs.Grammar.{IsValue, AreMembers}
 
 -- whether a byte of this kind stands in front
@@ -39,8 +39,8 @@ pub data IsFirstBroken : ℕ → List ℕ → AnyStop → Type 0 where
 
 -- the first member of a file that isn't whole, or a `}` that closes nothing
 pub data IsStop (text : List ℕ) : AnyStop → Type 0 where
-  member : {s : AnyStop} → IsFirstBroken 32 (comments_skipped text) s → IsStop text s
-  surplus : (ms : Members) (rest : List ℕ) → AreMembers 32 (comments_skipped text) ms rest → is_byte_at_front 125 rest ≡ true → IsStop text (stop.BadName (length rest))
+  member : {s : AnyStop} → IsFirstBroken deepest_group (comments_skipped text) s → IsStop text s
+  surplus : (ms : Members) (rest : List ℕ) → AreMembers deepest_group (comments_skipped text) ms rest → is_byte_at_front 125 rest ≡ true → IsStop text (stop.BadName (length rest))
 
 -- the same with the place counted from the beginning
 pub record IsConfigFault (text : List ℕ) (fault : AnyFault) : Type 0 where

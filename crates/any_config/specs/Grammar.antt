@@ -3,7 +3,7 @@ use Rattle.std.specs.Prelude.{◌≡◌, ℕ, suc, true, false, List, [], ◌∷
 use Rattle.any_config.specs.declared.node.AnyNode.{AnyNode}
 use Rattle.any_config.specs.declared.node.AnyNode.TheVariants as node
 use Rattle.any_config.specs.Tokens.{is_byte_at_front, comments_skipped, member_name, ungrouped_value}
-use Rattle.any_config.specs.Read.{Members, ends_members}
+use Rattle.any_config.specs.Read.{Members, deepest_group, ends_members}
 
 -- The number is how many more groups may open within one another.
 mutual
@@ -23,4 +23,4 @@ mutual
 pub record IsFile (text : List ℕ) (top : AnyNode) : Type 0 where
   pub members : Members
   pub group : top ≡ node.Group members
-  pub spelled : AreMembers 32 (comments_skipped text) members []
+  pub spelled : AreMembers deepest_group (comments_skipped text) members []

@@ -50,10 +50,14 @@ unfoldable pub group : ℕ → List ℕ → TokenOutcome AnyNode
 group zero t = Err (stop.TooDeep (length t))
 group (suc depth) t = opened (group depth) t
 
--- the whole file is a group without braces, in which groups nest 32 levels
+-- how many levels groups may nest
+abbrev pub deepest_group : ℕ
+deepest_group = 32
+
+-- the whole file is a group without braces
 unfoldable pub file_read : List ℕ → Result AnyNode AnyStop
 file_read t = do
-  ms ← members (group 32) t
+  ms ← members (group deepest_group) t
   if length ms.1 == 0 then Ok (node.Group ms.0) else Err (stop.BadName (length ms.1))
 
 -- the answer of the reading, with its place counted from the beginning

@@ -32,7 +32,7 @@ fn at_last_colon(text: &str) -> Option<(&str, &str)>
 }
 
 fn port(text: &str) -> Option<u16>
-    ensures { result ≡ spec.decimal 65535 text.now }
+    ensures { result ≡ spec.decimal spec.greatest_port text.now }
 {
     match decimal(GREATEST_PORT, text.as_bytes()) {
         None => None,

@@ -36,10 +36,10 @@ pub fn read_tree(alloc: Global, seeds: RandomState, bytes: &[u8]) -> Result<Tree
     let Value::Object(members) = json_of(alloc, bytes)? else {
         return Err(ContentFault::NotObject);
     };
-    let Some(room) = room_if_sound(alloc, &members)? else {
+    let Some(_room) = room_if_sound(alloc, &members)? else {
         return Err(refusal(alloc, &members)?);
     };
-    let nodes = nodes_of(alloc, seeds, members, MOST_NODES.saturating_sub(room))?;
+    let nodes = nodes_of(alloc, seeds, members)?;
     Ok(Tree::of(nodes))
 }
 
@@ -90,19 +90,13 @@ fn refusal(alloc: Global, members: &Map<String, Value>) -> Mem<ContentFault>
     }
 }
 
-// The nodes of an object without a fault. How many they are is told, so that the table needn't grow.
-fn nodes_of(
-    alloc: Global,
-    seeds: RandomState,
-    members: Map<String, Value>,
-    n: usize,
-) -> Mem<NodeMap>
+// The nodes of an object without a fault.
+fn nodes_of(alloc: Global, seeds: RandomState, members: Map<String, Value>) -> Mem<NodeMap>
     requires faultless { fault_in (object (members_view members.entries)) ≡ None }
     requires small { is_too_big (members_view members.entries) ≡ false }
     ensures { IfOk result (λ nodes. nodes ≡ map_of (nodes_in [] (object (members_view members.entries)))) }
 {
     let mut nodes = NodeMap::new(alloc, seeds);
-    nodes.make_room(n)?;
     add_nodes(alloc, &mut nodes, Path::root(alloc), members)?;
     // `len` says that the nodes stand in the order of their paths, so that equal look-ups make equal maps.
     let _ = nodes.len();

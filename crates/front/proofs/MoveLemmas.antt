@@ -15,7 +15,7 @@ use Rattle.front.specs.declared.note.Note.TheVariants.{Answer as answered, Ask a
 use Rattle.front.specs.declared.step.Step.{Step}
 use Rattle.front.specs.declared.step.Step.TheVariants as step
 use Rattle.front.specs.States.{RunState, LogEntry}
-use Rattle.front.specs.Events.{DeliverAs, DeliverTo, Event, Happens, HappensBy, LeadsNotes, LoseTo, PieceTo, ShowsLack, SomeShowsLack, after_event, begun, gone, going, is_any, is_rendered, most_lines, opened, opening, picked}
+use Rattle.front.specs.Events.{DeliverAs, DeliverTo, Event, HappensBy, LeadsNotes, LoseTo, PieceTo, ShowsLack, SomeShowsLack, begun, gone, going, is_any, is_rendered, most_lines, opened, opening, picked}
 use Rattle.front.specs.Histories.{is_idle}
 use Rattle.front.specs.Moves.{Mood, GivesDue, IsFirstPoint, points, Serves, state_after_note, afters, asked_by, due_of_connection, flight_at, over_with, request_of}
 
@@ -211,9 +211,6 @@ step-still w e (step.Lose pick) still to = loses-still w e (picked pick is_any w
 -- an event that renders no flight leaves the content
 pub step-same : (w : RunState) (e : Event) (s : Step) → IsStillStep s → HappensBy w e s → SameContent w (afters (begun w e s) e.body)
 step-same w e s still happens = chain w (begun w e s) (afters (begun w e s) e.body) (begun-same w e s) (afters-same (begun w e s) e.body (step-still w e s still happens))
-
-pub event-same : (w : RunState) (e : Event) → IsStillStep e.step → Happens w e → SameContent w (after_event w e)
-event-same w e still happens = step-same w e e.step still happens.0
 
 -- ---- what notes on one connection leave alone
 pub record Frame (c : ℕ) (w v : RunState) : Type 0 where

@@ -1,5 +1,5 @@
 -- A text is escaped run by run, and what is written is inert.
-use Rattle.std.proofs.Common.{◌≡◌, ℕ, suc, ◌<◌, ◌≤◌, ◌-◌, Bool, true, false, cond, List, [], ◌∷◌, ◌++◌, Option, Some, None, is_some, unwrap_or, length, take, drop, slice_index, inl, inr, refl, sym, ap, ap₂, ◌∙◌, arith, append-nil, append_assoc, map}
+use Rattle.std.proofs.Common.{◌≡◌, ℕ, suc, ◌<◌, ◌≤◌, ◌-◌, Bool, true, false, cond, List, [], ◌∷◌, ◌++◌, Option, Some, None, is_some, unwrap_or, length, take, drop, slice_index, inl, inr, refl, sym, ap, ap₂, ◌∙◌, arith, append-nil, append_assoc}
 use Rattle.std.specs.List.{flat_map, list_all}
 use Rattle.std.specs.Str.{IsCharBoundary}
 use Rattle.std.proofs.lemmas.Bool.{cases_lt, cases_eq}
@@ -9,7 +9,7 @@ use Rattle.std.proofs.lemmas.Grind.{common_steps, flat_map-append}
 use Rattle.htl_expr.specs.declared.expression.Context.{Context}
 use Rattle.htl_expr.specs.declared.expression.Context.TheVariants as context
 use Rattle.htl_expr.specs.Print.{reference, html_escape, reference_place, first_reference, is_inert, IsInert, in_context}
-use Rattle.htl_expr.specs.Writing.{next_in, Begins, Stopped}
+use Rattle.htl_expr.specs.Writing.{Begins, Stopped}
 use Rattle.htl_expr.specs.declared.room.WriteFault.{WriteFault}
 use Rattle.htl_expr.proofs.Writing.{begins_more, begins_later, longer}
 
@@ -141,11 +141,6 @@ pub in_context_none : (context : Option Context) → in_context context [] ≡ [
 in_context_none None = refl
 in_context_none (Some context.Text) = refl
 in_context_none (Some context.Unsafe) = refl
-
--- the further items of a list are written one after another
-pub in_context_more : {X : Type 0} (context : Option Context) (join : List ℕ) (f : X → List ℕ) (xs : List X) → in_context context (flat_map (λ next. join ++ next) (map f xs)) ≡ flat_map (next_in context join f) xs
-in_context_more context join f [] = in_context_none context
-in_context_more context join f (x ∷ xs) = in_context_append context (join ++ f x) (flat_map (λ next. join ++ next) (map f xs)) ∙ ap (λ (l : List ℕ). in_context context (join ++ f x) ++ l) (in_context_more context join f xs)
 
 escape_long : (b : ℕ) → 1 ≤ length (html_escape b)
 escape_long b = elim (cases_eq b 38) [

@@ -1,5 +1,5 @@
 -- Texts that are put together of pieces.
-use Rattle.std.proofs.Common.{◌≡◌, ◌≢◌, ◌<◌, ◌≤◌, ◌+◌, ℕ, zero, suc, nat_eq, Bool, true, false, List, [], ◌∷◌, ◌++◌, codes, flat_map, length, get_or, map, take, refl, sym, ap, ◌∙◌, append-nil, append_assoc, arith}
+use Rattle.std.proofs.Common.{◌≡◌, ◌<◌, ◌≤◌, ◌+◌, ℕ, zero, suc, nat_eq, Bool, true, false, List, [], ◌∷◌, ◌++◌, codes, flat_map, length, get_or, map, take, refl, sym, ap, ◌∙◌, append-nil, append_assoc, arith}
 use Rattle.std.proofs.lemmas.List.{length-append, take_all, take_more}
 use Rattle.std.proofs.lemmas.Slice.Eq.{bytes_eq-Decides}
 use Rattle.std.specs.Cmp.Lexicographic.{pointwise}
@@ -128,10 +128,6 @@ told_the_same xs ys place end other_end agree =
 pub told_at_place : (xs ys : List (List ℕ)) (place : ℕ) → place < length xs → place < length ys → AgreeUpTo xs ys place → DifferAt xs ys place → length (get_or xs place []) ≡ length (get_or ys place [])
     → false ≡ pointwise nat_eq (with_commas xs) (with_commas ys)
 told_at_place xs ys place lt more agree differ len = not_same (with_commas xs) (with_commas ys) (commas_differ xs ys place lt more agree.2 (differ lt more) len)
-
--- all pieces together are not as long
-pub told_by_length : (xs ys : List (List ℕ)) → length (with_commas xs) ≢ length (with_commas ys) → false ≡ pointwise nat_eq (with_commas xs) (with_commas ys)
-told_by_length xs ys len = not_same (with_commas xs) (with_commas ys) (λ same. len (ap length same))
 
 -- the text of one piece more and a comma
 pub text_with_piece : (texts : List (List ℕ)) (i : ℕ) (text new : List ℕ) → i < length texts → text ≡ with_commas (take i texts) → new ≡ text ++ (codes "," ++ get_or texts i []) → new ≡ with_commas (take (i + 1) texts)

@@ -6,7 +6,6 @@ use Rattle.std.proofs.lemmas.Map.Views.{tells_apart}
 use Rattle.std.proofs.lemmas.Slice.Eq.{bytes_eq-Decides}
 use Rattle.std.specs.Bool.{Decides}
 use Rattle.std.specs.BTreeMap.{BTreeMap, get, Updates, is_at}
-use Rattle.std.specs.Map.{lookup}
 use Rattle.std.specs.Ordering.{nat_cmp, is_eq, ordering_then}
 use Rattle.std.specs.declared.cmp.Ordering.{Ordering}
 use Rattle.std.specs.declared.cmp.Ordering.TheVariants.{Less, Equal, Greater}
@@ -60,9 +59,6 @@ keeps_more old new compared next updates none texts number has = updates.0 texts
     chosen true e = absurd (clash number (number_in old.entries texts) has (ap (number_in old.entries) (sym (texts_told compared texts e)) ∙ none))
     chosen false e = has
 
-pub keeps_same : (old new : Table) → new.entries ≡ old.entries → Keeps old.entries new.entries
-keeps_same old new same texts number has = ap (λ (es : List (List (List ℕ) × ℕ)). number_in es texts) same ∙ has
-
 -- what has a number after a compared value was given one
 one_of : (old new : Table) (compared : List (List ℕ)) (next : ℕ) → Updates by_texts old new compared (Some next) → (texts : List (List ℕ)) (number : ℕ) → number_in new.entries texts ≡ Some number
     → ((compared ≡ texts) × (next ≡ number)) ⊎ (number_in old.entries texts ≡ Some number)
@@ -95,12 +91,6 @@ numbered_more old new compared next updates known = (
     below texts None e = tt
     below texts (Some n) e = bound texts n (one_of old new compared next updates texts n e)
 
-pub numbered_same : (old new : Table) (next : ℕ) → new.entries ≡ old.entries → AreNumbered old.entries next → AreNumbered new.entries next
-numbered_same old new next same known = (
-  (λ a b number h k. known.0 a b number (keeps_same new old (sym same) a number h) (keeps_same new old (sym same) b number k)),
-  λ texts. subst (λ (es : List (List (List ℕ) × ℕ)). IfSome (number_in es texts) (λ n. n < next)) (sym same) (known.1 texts),
-)
-
 -- what is known of a name stays known
 pub known_still : (scope : Bindings) (of_it : Aspect) (old new : Numbers) (known : BTreeMap (List ℕ) ℕ) → Keeps old new → Knows scope of_it old known → Knows scope of_it new known
 known_still scope of_it old new known keeps knows name =
@@ -117,15 +107,6 @@ known_more scope of_it classes old new name number updates is knows q =
     chosen : (t : Bool) → is_at (by_name name) q ≡ t → IfSome (cond t (Some number) (get by_name old q)) IsRight
     chosen true e = ap (λ p. number_in classes (compared_by scope of_it p)) (sym (tells_apart exact_bytes name q e)) ∙ is
     chosen false e = knows q
-
-pub known_same : (scope : Bindings) (of_it : Aspect) (classes : Numbers) (old new : BTreeMap (List ℕ) ℕ) → new.entries ≡ old.entries → Knows scope of_it classes old → Knows scope of_it classes new
-known_same scope of_it classes old new same knows q =
-    subst (λ (es : List (List ℕ × ℕ)). IfSome (lookup (is_at (by_name q)) es) (λ n. number_in classes (compared_by scope of_it q) ≡ Some n)) (sym same) (knows q)
-
-pub what_is_known : (scope : Bindings) (of_it : Aspect) (classes : Numbers) (known : BTreeMap (List ℕ) ℕ) (name : List ℕ) (found : Option ℕ) (number : ℕ) → found ≡ get by_name known name → found ≡ Some number
-    → Knows scope of_it classes known → number_in classes (compared_by scope of_it name) ≡ Some number
-what_is_known scope of_it classes known name found number is some knows =
-    if_some (λ n. number_in classes (compared_by scope of_it name) ≡ Some n) (get by_name known name) number (sym is ∙ some) (knows name)
 
 -- two compared values are one where their numbers are
 pub same_numbers : (classes : Numbers) (x y : List (List ℕ)) (n k : ℕ) → TellsApart classes → number_in classes x ≡ Some n → number_in classes y ≡ Some k → (n == k) ≡ pointwise (pointwise nat_eq) x y

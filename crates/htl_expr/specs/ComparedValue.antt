@@ -1,4 +1,4 @@
--- What two properties are told apart by. Only proofs and private functions need this.
+-- What two properties are told apart by. Only the invariant of `Evaluation`, proofs and private functions need this.
 use Rattle.std.specs.Prelude.{◌≡◌, ℕ, ◌<◌, List, [], ◌∷◌, Option, Some, IfSome, length, map}
 use Rattle.std.specs.Fmt.{signed_decimal}
 use Rattle.std.specs.declared.cmp.Ordering.{Ordering}

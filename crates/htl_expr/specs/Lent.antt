@@ -1,4 +1,4 @@
--- What values that lend stand for. Only proofs and private functions need this.
+-- What values that lend stand for. Only the invariant of `Evaluation`, proofs and private functions need this.
 use Rattle.std.specs.Prelude.{◌≡◌, ℕ, Bool, true, false, List, [], Option, None, Some, codes, map, option_map}
 use Rattle.std.specs.Fmt.{signed_decimal}
 use Rattle.htl_expr.specs.declared.out.Out.{Out}

@@ -1,4 +1,4 @@
--- What an evaluation remembers of its resource. Only proofs and private functions need this.
+-- What an evaluation remembers of its resource. Only the invariant of `Evaluation`, proofs and private functions need this.
 use Rattle.std.specs.Prelude.{◌≡◌, ℕ, List, [], ◌∷◌, Some, IfSome}
 use Rattle.std.specs.BTreeMap.{BTreeMap, get}
 use Rattle.sp_base.specs.Names.{by_name}

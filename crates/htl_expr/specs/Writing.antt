@@ -1,8 +1,5 @@
 -- What a write within a limit does. Only proofs and private functions need this.
 use Rattle.std.specs.Prelude.{◌≡◌, ◌≢◌, ◌≤◌, ◌<◌, ℕ, List, ◌++◌, Result, Ok, Err, length}
-use Rattle.std.specs.Prelude.{Option}
-use Rattle.htl_expr.specs.Print.{in_context}
-use Rattle.htl_expr.specs.declared.expression.Context.{Context}
 use Rattle.htl_expr.specs.declared.room.WriteFault.{WriteFault}
 use Rattle.htl_expr.specs.declared.room.WriteFault.TheVariants.{TooLong, NoMemory}
 
@@ -19,10 +16,6 @@ Stopped most f old more new = Begins old new × (f ≢ NoMemory → (f ≡ TooLo
 abbrev pub Wrote : {A : Type 0} → ℕ → Result A WriteFault → List ℕ → List ℕ → List ℕ → Type 0
 Wrote most (Ok _) old more new = (new ≡ old ++ more) × (length new ≤ most)
 Wrote most (Err f) old more new = Stopped most f old more new
-
--- a join text and the text of an item, in a context
-abbrev pub next_in : {X : Type 0} → Option Context → List ℕ → (X → List ℕ) → X → List ℕ
-next_in context join text_of x = in_context context (join ++ text_of x)
 
 -- the text of a text
 abbrev pub itself : List ℕ → List ℕ

@@ -57,6 +57,7 @@ fn kept<'t>(scope: &Scope, texts: &'t BTreeMap<TextBuf, TextBuf>, name: &TextBuf
     requires kept { IsSome (get by_name texts.now name.now) }
     ensures { result.now ≡ property_item scope.now name.now }
 {
+    // Only the contract needs the scope.
     let _ = scope;
     texts[name].text()
 }

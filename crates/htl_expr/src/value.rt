@@ -104,6 +104,7 @@ fn value_piece<'a>(scope: &Evaluation<'a>, value: &Lent<'a>) -> ItemPiece<'a>
     requires { is_list (out_of_lent value.now) ≡ false }
     ensures { piece_text scope.now result ≡ plain_item value.now }
 {
+    // Only the contract needs the scope.
     let _ = scope;
     match value {
         Lent::Nothing => ItemPiece::Text(""),
@@ -126,6 +127,7 @@ fn literal_pieces<'a>(
     requires items { HavePieces scope.now items.now (listed_texts (out_of_lent literal.now)) }
     ensures { IfOk result (λ pieces. AreItemPieces scope.now pieces (plain_item literal.now)) }
 {
+    // Only the contract needs the scope.
     let _ = scope;
     if items.is_empty() {
         piece_alone(alloc, ItemPiece::Text(""))
@@ -160,6 +162,7 @@ fn pieces_of_property<'a>(
 ) -> Mem<Items<ItemPiece<'a>>>
     ensures { IfOk result (λ pieces. AreItemPieces scope.now pieces (property_item scope.now name.now)) }
 {
+    // Only the contract needs the scope.
     let _ = scope;
     piece_alone(alloc, ItemPiece::Property(name))
 }
@@ -293,11 +296,8 @@ pub(crate) fn value<'a>(
         }
         ExprNode::Choice(condition, a, b) => {
             let condition = value(alloc, scope, condition.get())?;
-            if is_true(&condition.value) {
-                value(alloc, scope, a.get())
-            } else {
-                value(alloc, scope, b.get())
-            }
+            let chosen = if is_true(&condition.value) { a } else { b };
+            value(alloc, scope, chosen.get())
         }
     }
 }

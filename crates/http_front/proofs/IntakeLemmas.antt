@@ -101,12 +101,6 @@ stands_waiting old heading awaits short =
     subst (λ p. Continues p (rest_of old ++ []) [] Waits) (sym heading)
     (subst (λ s. Stops s Waits) (sym (append_nil (rest_of old))) (inl (awaits, short)))
 
-pub leads_ready : (old : Intake) (rest : List ℕ) (a : AskedHead) (len : ℕ) → old.phase ≡ Heading → rest ≡ drop len (rest_of old) → BeginsAsking (rest_of old) a (drop len (rest_of old))
-    → a.awaits_continue ≡ false → (more : List ℕ) (turns : List Turn) (end : End) → Continues (Body a) (rest ++ more) turns end → Left old more turns end
-leads_ready old rest a len heading is begins unasked = λ more turns end f.
-    subst (λ p. Continues p (rest_of old ++ more) turns end) (sym heading)
-    (ready (rest_of old) more a (drop len (rest_of old)) turns end begins unasked (subst (λ r. TurnsFollow a (r ++ more) turns end) is f))
-
 pub leads_asked : (old : Intake) (rest : List ℕ) (a : AskedHead) (len : ℕ) → old.phase ≡ Heading → rest ≡ drop len (rest_of old) → BeginsAsking (rest_of old) a (drop len (rest_of old))
     → a.awaits_continue ≡ true → (more : List ℕ) (turns : List Turn) (end : End) → Continues (Body a) (rest ++ more) turns end → Left old more (Continue ∷ turns) end
 leads_asked old rest a len heading is begins waits = λ more turns end f.

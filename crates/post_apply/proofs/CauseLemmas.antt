@@ -25,7 +25,7 @@ use Rattle.post_apply.specs.Removals.{delete_at, deleted, removed, without_prope
 use Rattle.post_apply.specs.Values.{named_outcome, put_at, put_on_way, set_at, hinted_value}
 use Rattle.post_apply.specs.Carries.{bring, bring_node, bring_value, carried, carry_at, carry_fault, carry_node, ends_at_root, given_way, content_left, property_at, replacing, unless}
 use Rattle.post_apply.specs.Names.{name_given}
-use Rattle.post_apply.specs.Posting.{Site, carry, modified, modify, modify_at, content_placed, posted, site, post_site}
+use Rattle.post_apply.specs.Posting.{PostedNode, carry, modified, modify, modify_at, content_placed, posted, posted_node, posted_node_of}
 
 -- ---- faults of the tree
 
@@ -204,7 +204,7 @@ placed_told : (node : List (List ℕ)) (place : Option Place) (tree : Content) �
 placed_told node None tree = tt
 placed_told node (Some place) tree = unless_tree (order_fault tree node place) (reordering tree node place) (order_known tree node place)
 
-modified_told : (op : ModifyOp) (at : Site) → Told (modified op at)
+modified_told : (op : ModifyOp) (at : PostedNode) → Told (modified op at)
 modified_told op at =
     chained (with_way at.node at.content) _ (way_told at.node at.content) (λ made.
     chained (in_turn (delete_at at.node) op.deletes made) _ (turns (delete_at at.node) (delete_told at.node) op.deletes made) (λ less.
@@ -212,14 +212,14 @@ modified_told op at =
     chained (in_turn (carry_at false at.node) op.copies moved) _ (turns (carry_at false at.node) (carry_told false at.node) op.copies moved) (λ copied.
     chained (in_turn (set_at at.node) op.sets copied) _ (turns (set_at at.node) (set_told at.node) op.sets copied) (λ valued. placed_told at.node op.place valued)))))
 
-site_told : (target : List (List ℕ)) (fresh : Option NameWish) (tree : Content) → Told (post_site target fresh tree)
-site_told target None tree = tt
-site_told target (Some wish) tree =
-    chained (with_way target tree) (λ above. or_too_deep (path_or_none (kid target (name_given above target wish))) >>= λ path. okay (site above path)) (way_told target tree) (λ above.
-    chained (or_too_deep (path_or_none (kid target (name_given above target wish)))) (λ path. okay (site above path)) (deep_told _) (λ path. tt))
+posted_node_told : (target : List (List ℕ)) (fresh : Option NameWish) (tree : Content) → Told (posted_node_of target fresh tree)
+posted_node_told target None tree = tt
+posted_node_told target (Some wish) tree =
+    chained (with_way target tree) (λ above. or_too_deep (path_or_none (kid target (name_given above target wish))) >>= λ path. okay (posted_node above path)) (way_told target tree) (λ above.
+    chained (or_too_deep (path_or_none (kid target (name_given above target wish)))) (λ path. okay (posted_node above path)) (deep_told _) (λ path. tt))
 
 modify_told : (op : ModifyOp) (tree : Content) → Told (modify op tree)
-modify_told op tree = chained (post_site op.target op.fresh tree) (modify_at op) (site_told op.target op.fresh tree) (λ at. chained (modified op at) _ (modified_told op at) (λ t. tt))
+modify_told op tree = chained (posted_node_of op.target op.fresh tree) (modify_at op) (posted_node_told op.target op.fresh tree) (λ at. chained (modified op at) _ (modified_told op at) (λ t. tt))
 
 pub posted_told : (op : Op) (tree : Content) → Told (posted op tree)
 posted_told (Nop path) tree = tt

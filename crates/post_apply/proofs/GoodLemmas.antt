@@ -45,7 +45,7 @@ use Rattle.post_apply.specs.Removals.{delete_at, deleted, removed, without_prope
 use Rattle.post_apply.specs.Values.{named_outcome, put_at, put_on_way, set_at, hinted_value}
 use Rattle.post_apply.specs.Carries.{bring, bring_node, bring_value, carried, carry_at, carry_fault, carry_node, given_way, content_left, property_at, replacing, unless}
 use Rattle.post_apply.specs.Names.{name_given}
-use Rattle.post_apply.specs.Posting.{Posted, Site, carry, content_after, content_after_post, modified, modify, modify_at, content_placed, posted, remove, site, post_site}
+use Rattle.post_apply.specs.Posting.{Posted, PostedNode, carry, content_after, content_after_post, modified, modify, modify_at, content_placed, posted, remove, posted_node, posted_node_of}
 
 -- ---- paths
 
@@ -298,7 +298,7 @@ good_placed node (Some place) tree good =
 
 -- ---- the operations
 
-good_modified : (op : ModifyOp) (at : Site) → names_paths (Modify op) ≡ true → is_path at.node ≡ true → IsGood at.content → Good (modified op at)
+good_modified : (op : ModifyOp) (at : PostedNode) → names_paths (Modify op) ≡ true → is_path at.node ≡ true → IsGood at.content → Good (modified op at)
 good_modified op at all valid good =
     let rest = (both (is_path op.target) _ all).1 in
     let deletes = both (list_all spot_has_path op.deletes) _ rest in
@@ -310,21 +310,21 @@ good_modified op at all valid good =
     chained (in_turn (carry_at false at.node) op.copies moved) _ (turns (carry_at false at.node) carry_has_paths (λ t x f g. good_carry_at false at.node t x f g) op.copies moved copies.0 c) (λ copied d.
     chained (in_turn (set_at at.node) op.sets copied) _ (turns (set_at at.node) set_has_path (λ t x f g. good_set at.node t x f g) op.sets copied copies.1 d) (λ valued e. good_placed at.node op.place valued e)))))
 
-abbrev GoodSite : Site → Type 0
-GoodSite at = IsGood at.content × (is_path at.node ≡ true)
+abbrev GoodPostedNode : PostedNode → Type 0
+GoodPostedNode at = IsGood at.content × (is_path at.node ≡ true)
 
 abbrev GoodPosted : Posted → Type 0
 GoodPosted done = IsGood done.content
 
-good_site : (target : List (List ℕ)) (fresh : Option NameWish) (tree : Content) → is_path target ≡ true → IsGood tree → IfOk (post_site target fresh tree) GoodSite
-good_site target None tree valid good = (good, valid)
-good_site target (Some wish) tree valid good =
-    followed (λ (t : Content). IsGood t) GoodSite (with_way target tree) (λ above. or_too_deep (path_or_none (kid target (name_given above target wish))) >>= λ path. okay (site above path)) (good_way target tree valid good) (λ above g.
-    followed (λ (p : List (List ℕ)). is_path p ≡ true) GoodSite (or_too_deep (path_or_none (kid target (name_given above target wish)))) (λ path. okay (site above path)) (deep_is_path (kid target (name_given above target wish))) (λ path fits. (g, fits)))
+good_posted_node : (target : List (List ℕ)) (fresh : Option NameWish) (tree : Content) → is_path target ≡ true → IsGood tree → IfOk (posted_node_of target fresh tree) GoodPostedNode
+good_posted_node target None tree valid good = (good, valid)
+good_posted_node target (Some wish) tree valid good =
+    followed (λ (t : Content). IsGood t) GoodPostedNode (with_way target tree) (λ above. or_too_deep (path_or_none (kid target (name_given above target wish))) >>= λ path. okay (posted_node above path)) (good_way target tree valid good) (λ above g.
+    followed (λ (p : List (List ℕ)). is_path p ≡ true) GoodPostedNode (or_too_deep (path_or_none (kid target (name_given above target wish)))) (λ path. okay (posted_node above path)) (deep_is_path (kid target (name_given above target wish))) (λ path fits. (g, fits)))
 
 good_modify : (op : ModifyOp) (tree : Content) → names_paths (Modify op) ≡ true → IsGood tree → IfOk (modify op tree) GoodPosted
 good_modify op tree all good =
-    followed GoodSite GoodPosted (post_site op.target op.fresh tree) (modify_at op) (good_site op.target op.fresh tree (both (is_path op.target) _ all).0 good) (λ at g.
+    followed GoodPostedNode GoodPosted (posted_node_of op.target op.fresh tree) (modify_at op) (good_posted_node op.target op.fresh tree (both (is_path op.target) _ all).0 good) (λ at g.
     followed (λ (t : Content). IsGood t) GoodPosted (modified op at) _ (good_modified op at all g.1 g.0) (λ t h. h))
 
 good_remove : (path : List (List ℕ)) (tree : Content) → IsGood tree → IfOk (remove path tree) GoodPosted

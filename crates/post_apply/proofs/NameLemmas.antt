@@ -5,12 +5,12 @@ use Rattle.std.proofs.lemmas.Bool.{true≢false}
 use Rattle.sp_base.specs.Paths.{is_path, path_or_none}
 use Rattle.resource_tree.specs.declared.nodes.Node.{Node}
 use Rattle.resource_tree.specs.Content.{Content, node_at}
-use Rattle.tree_draft.specs.Drafts.{Drafted, IsSound}
+use Rattle.tree_draft.specs.Drafts.{DraftedContent, IsSound}
 use Rattle.post_apply.specs.Marks.{MarksTaken}
 use Rattle.post_apply.specs.Names.{free_number, is_taken, numbered}
 
 -- no node is where no path leads
-pub no_path : (draft : Drafted) (path : List (List ℕ)) → IsSound draft → None ≡ path_or_none path → is_some (node_at draft.content path) ≡ false
+pub no_path : (draft : DraftedContent) (path : List (List ℕ)) → IsSound draft → None ≡ path_or_none path → is_some (node_at draft.content path) ≡ false
 no_path draft path sound none = by_node (node_at draft.content path) refl
   where
     no : (b : Bool) → None ≡ cond b (Some path) None → b ≡ false

@@ -7,16 +7,15 @@ use Rattle.std.specs.Result.{result_ok, OkIff}
 use Rattle.std.specs.Cmp.Lexicographic.{pointwise, nat_list_eq_equiv}
 use Rattle.std.specs.Str.Parse.{IsNumeral, ParsesUnsigned, digits_value, without_leading_plus}
 use Rattle.std.proofs.Math.ListN.{get_or-map}
-use Rattle.std.proofs.lemmas.Bool.{or_right, cases_eq}
+use Rattle.std.proofs.lemmas.Bool.{cases_eq}
 use Rattle.std.proofs.lemmas.Bool.Decides.{nat_tests}
 use Rattle.std.proofs.lemmas.List.Folds.{list_any_at}
 use Rattle.std.proofs.lemmas.List.{get_or-set_other, length-map}
 use Rattle.std.proofs.lemmas.Fmt.{decimal-digits_value}
 use Rattle.std.proofs.lemmas.Str.Parse.{numerals_by_value, tells_digits}
 use Rattle.resource_tree.specs.declared.nodes.Node.{Node}
-use Rattle.resource_tree.specs.Content.{has_kid, node_at}
-use Rattle.tree_draft.specs.Drafts.{Drafted, IsSound}
-use Rattle.post_apply.specs.Marks.{MarksListed, MarksTaken}
+use Rattle.resource_tree.specs.Content.{node_at}
+use Rattle.tree_draft.specs.Drafts.{DraftedContent}
 use Rattle.post_apply.specs.Names.{free_number, most_taken, numbered}
 
 no_plus : (word : List ℕ) → slice_index word 0 ≢ 43 → without_leading_plus word ≡ word
@@ -41,32 +40,17 @@ listed_lent lent i item name within is same =
     let at : get_or (map now lent) i item.now ≡ name = get_or-map now lent i item ∙ ap now (sym is) ∙ same in
     list_any_at (pointwise nat_eq name) (map now lent) i item.now below (ap (pointwise nat_eq name) at ∙ nat_list_eq_equiv.refl name)
 
--- what is marked as a kid's name is taken
-pub listed_taken : (draft : Drafted) (parent : List (List ℕ)) (node : Node) (kids : List (List ℕ)) (name : List ℕ) (marks : List Bool) → IsSound draft → node_at draft.content parent ≡ Some node → kids ≡ node.kids
-    → MarksListed kids name marks → MarksTaken draft.content parent name marks
-listed_taken draft parent node kids name marks sound there_ are listed n marked =
-    let kid : has_kid node (numbered name n) ≡ true = ap (list_any (pointwise nat_eq (numbered name n))) (sym are) ∙ listed n marked in
-    or_right _ _ (sym ((sound.good.shape.nodes parent node there_).kids (numbered name n)) ∙ kid)
-
--- how many numbers may be taken
-pub most_is : (draft : Drafted) (parent : List (List ℕ)) (node : Node) (kids : List (Bor (List ℕ))) (most : ℕ) → node_at draft.content parent ≡ Some node → map (λ (w : Bor (List ℕ)). w.now) kids ≡ node.kids
-    → most ≡ length kids + length node.props → most ≡ most_taken draft.content parent
-most_is draft parent node kids most there_ are is =
-    is
-    ∙ ap (λ n. n + length node.props) (sym (length-map kids (λ (w : Bor (List ℕ)). w.now)) ∙ ap (λ (l : List (List ℕ)). length l) are)
-    ∙ sym (ap (λ o. option_map_or (λ (n : Node). length n.kids + length n.props) o 0) there_)
-
 -- the name with that number, where it is made
-pub free_given : {E : Type 0} (draft : Drafted) (parent : List (List ℕ)) (name : List ℕ) (most : ℕ) (r : Result (List ℕ) E) → most ≡ most_taken draft.content parent
+pub free_given : {E : Type 0} (draft : DraftedContent) (parent : List (List ℕ)) (name : List ℕ) (most : ℕ) (r : Result (List ℕ) E) → most ≡ most_taken draft.content parent
     → IfOk r (λ t. t ≡ numbered name (free_number draft.content parent name 0 most)) → IfOk r (λ t. t ≡ numbered name (free_number draft.content parent name 0 (most_taken draft.content parent)))
 free_given draft parent name most (Ok t) is made = made ∙ ap (λ m. numbered name (free_number draft.content parent name 0 m)) is
 free_given draft parent name most (Err e) is made = tt
 
 -- where no node is, no number is taken
-pub none_taken : (draft : Drafted) (parent : List (List ℕ)) → node_at draft.content parent ≡ None → 0 ≡ most_taken draft.content parent
+pub none_taken : (draft : DraftedContent) (parent : List (List ℕ)) → node_at draft.content parent ≡ None → 0 ≡ most_taken draft.content parent
 none_taken draft parent none = sym (ap (λ o. option_map_or (λ (n : Node). length n.kids + length n.props) o 0) none)
 
-pub zero_given : {E : Type 0} (draft : Drafted) (parent : List (List ℕ)) (name : List ℕ) (r : Result (List ℕ) E) → IfOk r (λ t. t ≡ numbered name 0) → IfOk r (λ t. t ≡ numbered name (free_number draft.content parent name 0 0))
+pub zero_given : {E : Type 0} (draft : DraftedContent) (parent : List (List ℕ)) (name : List ℕ) (r : Result (List ℕ) E) → IfOk r (λ t. t ≡ numbered name 0) → IfOk r (λ t. t ≡ numbered name (free_number draft.content parent name 0 0))
 unfolding free_number
 zero_given draft parent name (Ok t) made = made
 zero_given draft parent name (Err e) made = tt

@@ -26,25 +26,25 @@ reported created path content = record { content = content; report = record { cr
 
 -- ---- a node is made or modified
 
--- where a node is made or modified: a content in which the parent of a new node is there, and the node's path
-pub record Site : Type 0 where
+-- the node that a POST makes or modifies: a content in which the parent of a new one is there, and the path of the node
+pub record PostedNode : Type 0 where
   pub content : Content
   pub node : List (List ℕ)
 
-abbrev pub site : Content → List (List ℕ) → Site
-site content node = record { content = content; node = node }
+abbrev pub posted_node : Content → List (List ℕ) → PostedNode
+posted_node content node = record { content = content; node = node }
 
 -- a new node below a target, which is made with all above it first
-abbrev pub new_site : List (List ℕ) → NameWish → Content → ApplyOutcome Site
-new_site target wish tree = do
+abbrev pub new_posted_node : List (List ℕ) → NameWish → Content → ApplyOutcome PostedNode
+new_posted_node target wish tree = do
   above ← with_way target tree
   path ← or_too_deep (path_or_none (kid target (name_given above target wish)))
-  Ok (site above path)
+  Ok (posted_node above path)
 
 -- the target itself, or a new node below it
-abbrev pub post_site : List (List ℕ) → Option NameWish → Content → ApplyOutcome Site
-post_site target None tree = Ok (site tree target)
-post_site target (Some wish) tree = new_site target wish tree
+abbrev pub posted_node_of : List (List ℕ) → Option NameWish → Content → ApplyOutcome PostedNode
+posted_node_of target None tree = Ok (posted_node tree target)
+posted_node_of target (Some wish) tree = new_posted_node target wish tree
 
 -- the node in another place, where one is asked for
 abbrev pub content_placed : List (List ℕ) → Option Place → Content → ApplyOutcome Content
@@ -52,7 +52,7 @@ content_placed node None tree = Ok tree
 content_placed node (Some place) tree = changed_unless_fault (order_fault tree node place) (reordering tree node place)
 
 -- the node and all above it are made, and then come removals, moves, copies, values and the node's place
-abbrev pub modified : ModifyOp → Site → ApplyOutcome Content
+abbrev pub modified : ModifyOp → PostedNode → ApplyOutcome Content
 modified op at = do
   made ← with_way at.node at.content
   less ← in_turn (delete_at at.node) op.deletes made
@@ -61,11 +61,11 @@ modified op at = do
   valued ← in_turn (set_at at.node) op.sets copied
   content_placed at.node op.place valued
 
-abbrev pub modify_at : ModifyOp → Site → ApplyOutcome Posted
+abbrev pub modify_at : ModifyOp → PostedNode → ApplyOutcome Posted
 modify_at op at = modified op at >>= λ after. Ok (reported (is_none (node_at at.content at.node)) at.node after)
 
 abbrev pub modify : ModifyOp → Content → ApplyOutcome Posted
-modify op tree = post_site op.target op.fresh tree >>= modify_at op
+modify op tree = posted_node_of op.target op.fresh tree >>= modify_at op
 
 -- ---- the operations
 

@@ -17,33 +17,33 @@ use std::alloc::Global;
 use tree_draft::Draft;
 
 // The path of the node: the target, or a new node below it, which is made with all above it first.
-fn site_of(
+fn posted_node_of(
     alloc: Global,
     draft: &mut Draft,
     target: &Path,
     fresh: &Option<NameWish>,
 ) -> Result<Path, ApplyFault>
     requires { IsSound draft.old }
-    ensures ok { IfOk result (λ p. spec.post_site target.now fresh.now draft.old.content ≡ Ok (spec.site draft.new.content p)) }
-    ensures err { IfErr result (λ e. e ≢ ApplyFault.NoMemory → spec.post_site target.now fresh.now draft.old.content ≡ Err e) }
+    ensures ok { IfOk result (λ p. spec.posted_node_of target.now fresh.now draft.old.content ≡ Ok (spec.posted_node draft.new.content p)) }
+    ensures err { IfErr result (λ e. e ≢ ApplyFault.NoMemory → spec.posted_node_of target.now fresh.now draft.old.content ≡ Err e) }
     ensures follows { OnOk result (DraftFollows draft.old draft.new) }
 {
     match fresh {
         None => Ok(target.duplicate(alloc)?),
-        Some(wish) => new_site(alloc, draft, target, wish),
+        Some(wish) => new_posted_node(alloc, draft, target, wish),
     }
 }
 
 // The path of a new node below a target.
-fn new_site(
+fn new_posted_node(
     alloc: Global,
     draft: &mut Draft,
     target: &Path,
     wish: &NameWish,
 ) -> Result<Path, ApplyFault>
     requires { IsSound draft.old }
-    ensures ok { IfOk result (λ p. spec.new_site target.now wish.now draft.old.content ≡ Ok (spec.site draft.new.content p)) }
-    ensures err { IfErr result (λ e. e ≢ ApplyFault.NoMemory → spec.new_site target.now wish.now draft.old.content ≡ Err e) }
+    ensures ok { IfOk result (λ p. spec.new_posted_node target.now wish.now draft.old.content ≡ Ok (spec.posted_node draft.new.content p)) }
+    ensures err { IfErr result (λ e. e ≢ ApplyFault.NoMemory → spec.new_posted_node target.now wish.now draft.old.content ≡ Err e) }
     ensures follows { OnOk result (DraftFollows draft.old draft.new) }
 {
     make_way(alloc, draft, target)?;
@@ -54,8 +54,8 @@ fn new_site(
 // Makes the node and all above it, and then removes, moves, copies, sets and orders.
 fn modified(alloc: Global, draft: &mut Draft, op: &ModifyOp, node: &Path) -> Result<(), ApplyFault>
     requires { IsSound draft.old }
-    ensures ok { OnOk result (spec.modified op.now (spec.site draft.old.content node.now) ≡ Ok draft.new.content) }
-    ensures err { IfErr result (λ e. e ≢ ApplyFault.NoMemory → spec.modified op.now (spec.site draft.old.content node.now) ≡ Err e) }
+    ensures ok { OnOk result (spec.modified op.now (spec.posted_node draft.old.content node.now) ≡ Ok draft.new.content) }
+    ensures err { IfErr result (λ e. e ≢ ApplyFault.NoMemory → spec.modified op.now (spec.posted_node draft.old.content node.now) ≡ Err e) }
     ensures follows { OnOk result (DraftFollows draft.old draft.new) }
 {
     make_way(alloc, draft, node)?;
@@ -73,7 +73,7 @@ pub fn modify(alloc: Global, draft: &mut Draft, op: &ModifyOp) -> Result<PostRep
     ensures err { IfErr result (λ e. e ≢ ApplyFault.NoMemory → spec.modify op.now draft.old.content ≡ Err e) }
     ensures follows { OnOk result (DraftFollows draft.old draft.new) }
 {
-    let node = site_of(alloc, draft, &op.target, &op.fresh)?;
+    let node = posted_node_of(alloc, draft, &op.target, &op.fresh)?;
     let created = draft.node(&node).is_none();
     modified(alloc, draft, op, &node)?;
     Ok(PostReport {

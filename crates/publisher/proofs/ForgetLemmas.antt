@@ -15,7 +15,7 @@ use Rattle.sp_base.specs.Paths.{fault_of, parent_of, unless_fault}
 use Rattle.sp_base.specs.Properties.{text_in}
 use Rattle.sp_base.specs.declared.path.PathFault.{PathFault}
 use Rattle.resource_tree.specs.Content.{Content, by_path, kid, name_of, node_at, same_path}
-use Rattle.resource_tree.specs.Patches.{Rows, left_by, patching_at}
+use Rattle.resource_tree.specs.Patches.{PatchEntries, left_by, patching_at}
 use Rattle.resource_tree.specs.declared.nodes.Node.{Node}
 use Rattle.resource_tree.specs.declared.patch.PatchNode.{PatchNode}
 use Rattle.script_rank.specs.Ranking.{node_of, script_text}
@@ -76,11 +76,11 @@ not_a_text at path other =
 -- ---- those of a patch are forgotten, row by row
 
 -- no reading is kept of a script at whose text one of some rows stands
-abbrev pub AreClear : Rows → Kept → Type 0
+abbrev pub AreClear : PatchEntries → Kept → Type 0
 AreClear rows kept = (path : List (List ℕ)) (reading : Reading) → reading_at kept path ≡ Some reading → list_any (λ (row : List (List ℕ) × PatchNode). same_path (text_path path) row.0) rows ≡ false
 
 -- the readings after some rows of a patch
-pub record Forgets (first : Kept) (rows : Rows) (kept : Kept) : Type 0 where
+pub record Forgets (first : Kept) (rows : PatchEntries) (kept : Kept) : Type 0 where
   pub among : AreAmong first kept
   pub clear : AreClear rows kept
 
@@ -94,7 +94,7 @@ both_false false b e f = f
 any_next : {X : Type 0} (test : X → Bool) (xs : List X) (i : ℕ) (x : X) → slice_get xs i ≡ Some x → list_any test (take (i + 1) xs) ≡ (list_any test (take i xs) || test x)
 any_next test xs i x is = list_any_more test xs i x (slice_get_within xs i x is) ∙ ap (λ y. list_any test (take i xs) || test y) (get_or_from_slice_get xs i x x is)
 
-pub forgets_next : (first old new : Kept) (patch : Rows) (i : ℕ) (at : List (List ℕ)) (row : PatchNode) → slice_get patch i ≡ Some (at, row) → Forgets first (take i patch) old → AreAmong old new
+pub forgets_next : (first old new : Kept) (patch : PatchEntries) (i : ℕ) (at : List (List ℕ)) (row : PatchNode) → slice_get patch i ≡ Some (at, row) → Forgets first (take i patch) old → AreAmong old new
     → ((path : List (List ℕ)) (reading : Reading) → reading_at new path ≡ Some reading → same_path (text_path path) at ≡ false) → Forgets first (take (i + 1) patch) new
 forgets_next first old new patch i at row is so_far fewer forgotten = record {
   among = λ path reading e. so_far.among path reading (fewer path reading e);
@@ -103,13 +103,13 @@ forgets_next first old new patch i at row is so_far fewer forgotten = record {
       any_next test patch i (at, row) is ∙ both_false (list_any test (take i patch)) (test (at, row)) (so_far.clear path reading (fewer path reading e)) (forgotten path reading e);
 }
 
-lookup_of_none : (test : List (List ℕ) → Bool) (rows : Rows) → list_any (λ (row : List (List ℕ) × PatchNode). test row.0) rows ≡ false → lookup test rows ≡ None
+lookup_of_none : (test : List (List ℕ) → Bool) (rows : PatchEntries) → list_any (λ (row : List (List ℕ) × PatchNode). test row.0) rows ≡ false → lookup test rows ≡ None
 lookup_of_none test [] none = refl
 lookup_of_none test (row ∷ rows) none =
     let parts = or_parts (test row.0) (list_any (λ (r : List (List ℕ) × PatchNode). test r.0) rows) none in
     ap (λ b. cond b (Some row.1) (lookup test rows)) parts.0 ∙ lookup_of_none test rows parts.1
 
-pub unpatched : (patch : Rows) (kept : Kept) → AreClear patch kept → AreUnpatched patch kept
+pub unpatched : (patch : PatchEntries) (kept : Kept) → AreClear patch kept → AreUnpatched patch kept
 unpatched patch kept clear path reading e = lookup_of_none (same_path (text_path path)) patch (clear path reading e)
 
 -- ---- a script whose text stays is read as before
@@ -123,7 +123,7 @@ unfolding script_text
 same_script tree after path same =
     ap (option_and_then (λ (node : Node). text_in node.props (codes "jcr:data"))) (node_of_text tree after (text_path path) (fault_of (text_path path)) same)
 
-pub still_readings : (tree after : Content) (patch : Rows) (old new : Kept) → AreReadings tree old → AreAmong old new → AreUnpatched patch new
+pub still_readings : (tree after : Content) (patch : PatchEntries) (old new : Kept) → AreReadings tree old → AreAmong old new → AreUnpatched patch new
     → ((path : List (List ℕ)) → node_at after path ≡ patching_at tree patch path) → AreReadings after new
 still_readings tree after patch old new are fewer clear look_ups path reading e =
     let same : node_at after (text_path path) ≡ node_at tree (text_path path) = look_ups (text_path path) ∙ ap (λ o. left_by o (node_at tree (text_path path))) (clear path reading e) in

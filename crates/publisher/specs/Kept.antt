@@ -2,7 +2,7 @@
 use Rattle.std.specs.Prelude.{◌≡◌, ℕ, Bool, List, Option, Some, None, IfSome, codes, option_map}
 use Rattle.std.specs.Map.{lookup}
 use Rattle.resource_tree.specs.Content.{Content, kid, same_path}
-use Rattle.resource_tree.specs.Patches.{Rows, row_at}
+use Rattle.resource_tree.specs.Patches.{PatchEntries, entry_at}
 use Rattle.script_rank.specs.Ranking.{script_text}
 use Rattle.url_maps.specs.Claims.{Index, IsIndexOf}
 use Rattle.publisher.specs.declared.templates.Reading.{Reading}
@@ -29,8 +29,8 @@ abbrev pub text_path : List (List ℕ) → List (List ℕ)
 text_path path = kid path (codes "jcr:content")
 
 -- no reading is kept of a script at whose text a patch has something
-abbrev pub AreUnpatched : Rows → Kept → Type 0
-AreUnpatched patch kept = (path : List (List ℕ)) (reading : Reading) → reading_at kept path ≡ Some reading → row_at patch (text_path path) ≡ None
+abbrev pub AreUnpatched : PatchEntries → Kept → Type 0
+AreUnpatched patch kept = (path : List (List ℕ)) (reading : Reading) → reading_at kept path ≡ Some reading → entry_at patch (text_path path) ≡ None
 
 -- an index that is kept is the tree's
 abbrev pub IsIndexFor : Content → Option Index → Type 0

@@ -17,7 +17,7 @@ ghost use Rattle.htl_text.specs.Template.{template_output as written_by};
 ghost use Rattle.error_answers.specs.Errors.{error_answer};
 ghost use Rattle.publisher.specs.Errors.{redirect};
 ghost use Rattle.publisher.specs.PostLaws.{PostsAreRefusedForCauses, RequestsKeepContentGood};
-ghost use Rattle.publisher.specs.Rendering.{content_after_request, is_post, is_read, rendered, scope_of, seen};
+ghost use Rattle.publisher.specs.Rendering.{content_after_request, is_post, is_read, rendered, scope_of, seen, most_rendered_bytes};
 
 use form_input::forms_are_refused_for_causes;
 use htl_text::the_pieces_are_the_text;
@@ -64,7 +64,7 @@ pub fn posts_are_refused_for_causes()
 
 /// A representation has at most 4,194,304 bytes. (That a 200 to a POST has no more either is a clause of `Publisher::answer`.)
 pub fn representations_fit()
-    ensures { (tree : Content) (ask : Ask) → is_read ask.method ≡ true → (rendered tree ask).status ≡ 200 → length (rendered tree ask).body ≤ 4194304 }
+    ensures { (tree : Content) (ask : Ask) → is_read ask.method ≡ true → (rendered tree ask).status ≡ 200 → length (rendered tree ask).body ≤ most_rendered_bytes }
 {}
 
 /// Every status has three digits at most, and none is 507 (Insufficient Storage): out of memory is no answer of the content.

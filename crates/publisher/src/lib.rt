@@ -5,6 +5,7 @@ mod changes;
 mod choices;
 mod depths;
 mod errors;
+mod held_content;
 mod kept_index;
 mod laws;
 mod methods;
@@ -15,7 +16,6 @@ mod refusal;
 mod representations;
 mod scripts;
 mod serving;
-mod site;
 mod targets;
 mod templates;
 

@@ -3,6 +3,7 @@ ghost use Rattle.std.specs.Prelude.{◌≡◌, ◌≢◌, ◌≤◌, IfOk, IfErr
 ghost use Rattle.resource_tree.specs.Content.{IsGood};
 ghost use Rattle.resource_tree.specs.Patches.{patching};
 ghost use Rattle.publisher.specs.Posting as spec;
+ghost use Rattle.publisher.specs.Rendering.{most_rendered_bytes};
 
 use crate::refusal::Refusal;
 use crate::targets::{PostTarget, target_of};
@@ -64,7 +65,7 @@ fn report_line(alloc: Global, report: &PostReport) -> Mem<ByteBuf>
 /// The answer to a POST that isn't refused.
 pub(crate) fn report_answer(alloc: Global, report: &PostReport) -> Mem<Answer>
     ensures ok { IfOk result (λ a. a ≡ spec.report_answer report.now) }
-    ensures fits { IfOk result (λ a. length a.body ≤ 4194304) }
+    ensures fits { IfOk result (λ a. length a.body ≤ most_rendered_bytes) }
 {
     // `depth` says that the path is one of few segments.
     let _segments = report.path.depth();

@@ -3,13 +3,13 @@ ghost use Rattle.std.specs.Prelude.{◌≡◌, ◌≤◌, IfOk, IsTrue, OnOk, On
 ghost use Rattle.resource_tree.specs.Content.{IsGood};
 ghost use Rattle.resource_tree.specs.Patches.{patching};
 ghost use Rattle.publisher.specs.Posting.{posting, posting_answer, posting_content, report_answer};
-ghost use Rattle.publisher.specs.Rendering.{mapping, posted_answer, posted_content};
+ghost use Rattle.publisher.specs.Rendering.{mapping, posted_answer, posted_content, most_rendered_bytes};
 
 use crate::errors::redirect;
+use crate::held_content::HeldContent;
 use crate::kept_index::put_with_index;
 use crate::posting::{planned, report_answer};
 use crate::refusal::Refusal;
-use crate::site::Site;
 use error_answers::error_answer;
 use post_apply::Planned;
 use resource_tree::Patch;
@@ -17,11 +17,11 @@ use sp_base::{Answer, Ask, Mem, NoMemory};
 use std::alloc::Global;
 use url_maps::MapAnswer;
 
-impl Site {
+impl HeldContent {
     /// The answer to a POST, which is done here.
     pub(crate) fn posted_answer(&mut self, alloc: Global, ask: &Ask) -> Mem<Answer>
         ensures answer { IfOk result (λ a. a ≡ posted_answer self.old.tree ask.now (mapping self.old.tree ask.now)) }
-        ensures fits { IfOk result (λ a. a.status ≡ 200 → length a.body ≤ 4194304) }
+        ensures fits { IfOk result (λ a. a.status ≡ 200 → length a.body ≤ most_rendered_bytes) }
         ensures after { OnOk result (self.new.tree ≡ posted_content self.old.tree ask.now (mapping self.old.tree ask.now)) }
         ensures unchanged { OnErr result (self.new.tree ≡ self.old.tree) }
         ensures made { OnOk result (IsTrue self.new.is_indexed) }
@@ -36,7 +36,7 @@ impl Site {
     // Does a POST to a text within the content.
     fn posting(&mut self, alloc: Global, ask: &Ask, text: &str) -> Mem<Answer>
         ensures answer { IfOk result (λ a. a ≡ posting_answer (posting self.old.tree ask.now text.now)) }
-        ensures fits { IfOk result (λ a. a.status ≡ 200 → length a.body ≤ 4194304) }
+        ensures fits { IfOk result (λ a. a.status ≡ 200 → length a.body ≤ most_rendered_bytes) }
         ensures after { OnOk result (self.new.tree ≡ posting_content self.old.tree (posting self.old.tree ask.now text.now)) }
         ensures unchanged { OnErr result (self.new.tree ≡ self.old.tree) }
         ensures kept { IsTrue self.old.is_indexed → IsTrue self.new.is_indexed }
@@ -52,7 +52,7 @@ impl Site {
     fn done(&mut self, alloc: Global, planned: Planned) -> Mem<Answer>
         requires { IsGood (patching self.old.tree planned.patch) }
         ensures answer { IfOk result (λ a. a ≡ report_answer planned.report) }
-        ensures fits { IfOk result (λ a. length a.body ≤ 4194304) }
+        ensures fits { IfOk result (λ a. length a.body ≤ most_rendered_bytes) }
         ensures after { OnOk result (self.new.tree ≡ patching self.old.tree planned.patch) }
         ensures unchanged { OnErr result (self.new.tree ≡ self.old.tree) }
         ensures kept { IsTrue self.old.is_indexed → IsTrue self.new.is_indexed }

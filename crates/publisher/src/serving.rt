@@ -1,9 +1,9 @@
 //! The publisher: a content tree, what is kept beside it, and the answer to a request.
 ghost use Rattle.std.specs.Prelude.{◌≡◌, ◌≤◌, IfOk, OnOk, OnErr, length};
 ghost use Rattle.resource_tree.specs.Content.{IsGood};
-ghost use Rattle.publisher.specs.Rendering.{rendered, content_after_request};
+ghost use Rattle.publisher.specs.Rendering.{rendered, content_after_request, most_rendered_bytes};
 
-use crate::site::Site;
+use crate::held_content::HeldContent;
 use resource_tree::Tree;
 use sp_base::{Answer, Ask, Mem};
 use std::alloc::Global;
@@ -13,7 +13,7 @@ use std::marker::Model;
 /// Answers requests on a content tree. Contracts see the tree.
 #[derive(Drop)]
 pub struct Publisher {
-    site: Site,
+    held: HeldContent,
 }
 
 impl Model for Publisher {
@@ -21,7 +21,7 @@ impl Model for Publisher {
 
     ghost Value = { Content };
 
-    ghost view = { λ p. p.site.tree };
+    ghost view = { λ p. p.held.tree };
 }
 
 impl Publisher {
@@ -30,7 +30,7 @@ impl Publisher {
         ensures { result ≡ tree }
     {
         Publisher {
-            site: Site::new(alloc, seeds, tree),
+            held: HeldContent::new(alloc, seeds, tree),
         }
     }
 
@@ -39,13 +39,13 @@ impl Publisher {
         ensures old { result ≡ self.old }
         ensures new { self.new ≡ tree }
     {
-        self.site.replace(tree)
+        self.held.replace(tree)
     }
 
     pub fn tree(&self) -> &Tree
         ensures { result.now ≡ self.now }
     {
-        self.site.tree()
+        self.held.tree()
     }
 
     /// What a request is answered. A POST that isn't refused changes the tree.
@@ -54,11 +54,11 @@ impl Publisher {
         ensures after { OnOk result (self.new ≡ content_after_request self.old ask.now) }
         ensures unchanged { OnErr result (self.new ≡ self.old) }
         ensures good { IsGood self.new }
-        ensures fits { IfOk result (λ a. a.status ≡ 200 → length a.body ≤ 4194304) }
+        ensures fits { IfOk result (λ a. a.status ≡ 200 → length a.body ≤ most_rendered_bytes) }
     {
-        let answer = self.site.answer(alloc, ask);
+        let answer = self.held.answer(alloc, ask);
         // `len` says that the tree is good.
-        let _nodes = self.site.tree().len();
+        let _nodes = self.held.tree().len();
         answer
     }
 }

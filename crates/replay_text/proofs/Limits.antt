@@ -2,8 +2,8 @@ use Rattle.std.proofs.Common.{◌≡◌, ◌+◌, ◌<◌, ◌≤◌, ◌++◌, 
 use Rattle.std.proofs.lemmas.List.{append-nil, take-append-le, take-take, length-take, length-take-le}
 use Rattle.std.proofs.lemmas.Bool.{cases_lt}
 use Rattle.replay_text.specs.Lines.{newlines}
-use Rattle.replay_text.specs.Languages.{IsPrefixIn, IsRefused, IsRefusedWithin}
-use Rattle.replay_text.specs.Reading.{Refuses, RefusesWithin}
+use Rattle.replay_text.specs.Languages.{IsPrefixIn, IsRefused, IsRefusedWithin, RefusesWithin}
+use Rattle.replay_text.specs.Reading.{Refuses}
 use Rattle.replay_text.specs.declared.scenario.ScenarioFault.{ScenarioFault}
 use Rattle.replay_text.specs.declared.scenario.ScenarioFault.TheVariants.{Line, NoMemory}
 use Rattle.replay_text.proofs.Refusals.{begins_front}

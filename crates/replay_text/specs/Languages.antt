@@ -1,6 +1,8 @@
 -- At which line bytes are refused that are no text of a language.
-use Rattle.std.specs.Prelude.{◌≡◌, ◌+◌, ◌<◌, ◌≤◌, ◌++◌, ℕ, List, length, take}
+use Rattle.std.specs.Prelude.{◌≡◌, ◌+◌, ◌<◌, ◌≤◌, ◌++◌, ℕ, List, [], length, take}
 use Rattle.replay_text.specs.Lines.{newlines}
+use Rattle.replay_text.specs.declared.scenario.ScenarioFault.{ScenarioFault}
+use Rattle.replay_text.specs.declared.scenario.ScenarioFault.TheVariants.{Line, NoMemory}
 
 -- the bytes begin a text of the language
 abbrev pub IsPrefixIn : (List ℕ → Type 0) → List ℕ → Type 0
@@ -20,3 +22,9 @@ IsRefused Text bytes n = IsRefusedBy Text (IsPrefixIn Text) bytes n
 abbrev pub IsRefusedWithin : ℕ → (List ℕ → Type 0) → List ℕ → ℕ → Type 0
 IsRefusedWithin most Text bytes n =
     IsRefusedBy (λ t. Text t × (length t ≤ most)) (λ t. IsPrefixIn Text t × (length t ≤ most)) bytes n
+
+-- the fault names the line at which a text of at most `most` bytes is refused, with any rest after one that is too long
+abbrev pub RefusesWithin : ℕ → (List ℕ → Type 0) → List ℕ → ScenarioFault → Type 0
+RefusesWithin most Text bytes (Line n) =
+    ((rest : List ℕ) → (length bytes ≤ most → rest ≡ []) → IsRefusedWithin most Text (bytes ++ rest) n) × (n ≤ length bytes)
+RefusesWithin most Text bytes NoMemory = Unit {0}

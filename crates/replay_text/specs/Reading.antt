@@ -1,8 +1,8 @@
 -- Scaffolding: the languages of the parts of a scenario, for the private functions of the reader and for proofs alone. A reader
 -- of the theorem needs none of it.
-use Rattle.std.specs.Prelude.{◌≡◌, ◌≢◌, ◌⊎◌, ◌+◌, ◌≤◌, ◌++◌, ℕ, List, ◌∷◌, [], length, take, drop, codes, Option}
+use Rattle.std.specs.Prelude.{◌≡◌, ◌≢◌, ◌⊎◌, ◌+◌, ◌≤◌, ◌++◌, ℕ, List, ◌∷◌, length, take, drop, codes, Option}
 use Rattle.replay_text.specs.Lines.{newlines, text_of_lines, AreLines}
-use Rattle.replay_text.specs.Languages.{IsRefused, IsRefusedWithin}
+use Rattle.replay_text.specs.Languages.{IsRefused}
 use Rattle.replay_text.specs.Scenario.{AreActs, HaveNoDot, IsActs, IsBlock, IsFarm, act_lines}
 use Rattle.replay_text.specs.declared.event_line.EventLine.{EventLine}
 use Rattle.replay_text.specs.declared.scenario.Scenario.{Scenario}
@@ -32,12 +32,6 @@ pub record SpellsActs (text bytes : List ℕ) : Type 0 where
 abbrev pub Refuses : (List ℕ → Type 0) → List ℕ → ScenarioFault → Type 0
 Refuses Text bytes (Line n) = IsRefused Text bytes n × (n ≤ length bytes)
 Refuses Text bytes NoMemory = Unit {0}
-
--- the same for a text of which at most `most` bytes are allowed, with any rest after one that is too long
-abbrev pub RefusesWithin : ℕ → (List ℕ → Type 0) → List ℕ → ScenarioFault → Type 0
-RefusesWithin most Text bytes (Line n) =
-    ((rest : List ℕ) → (length bytes ≤ most → rest ≡ []) → IsRefusedWithin most Text (bytes ++ rest) n) × (n ≤ length bytes)
-RefusesWithin most Text bytes NoMemory = Unit {0}
 
 -- a block, and after its dot a text of the language
 pub record BlockThen (Rest : List ℕ → Type 0) (text : List ℕ) : Type 0 where

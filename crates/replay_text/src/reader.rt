@@ -4,7 +4,8 @@ ghost use Rattle.replay_text.specs.Lines.{newlines, text_of_lines, AreLines};
 ghost use Rattle.replay_text.specs.EventLines.{line_of, IsEventLine};
 ghost use Rattle.replay_text.specs.declared.event_line.EventLine as models;
 ghost use Rattle.replay_text.specs.Scenario.{AreActs, act_lines, SpellsScenario, IsScenario, ReadsScenario, most};
-ghost use Rattle.replay_text.specs.Reading.{Refuses, RefusesWithin, SpellsActs, SpellsBody, SpellsTail, SpellsFarm, IsContentBody, IsTail, BlockThen, EndsBlock, EndsNoBlock, IfLine, fault_further, Acts};
+ghost use Rattle.replay_text.specs.Languages.{RefusesWithin};
+ghost use Rattle.replay_text.specs.Reading.{Refuses, SpellsActs, SpellsBody, SpellsTail, SpellsFarm, IsContentBody, IsTail, BlockThen, EndsBlock, EndsNoBlock, IfLine, fault_further, Acts};
 ghost use Rattle.replay_text.specs.declared.scenario.ScenarioFault.TheVariants.{Line, NoMemory as no_memory};
 
 use crate::event_lines::read_event_line;

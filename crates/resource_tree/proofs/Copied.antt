@@ -17,7 +17,7 @@ use Rattle.resource_tree.specs.declared.faults.TreeFault.TheVariants.{TooDeep, F
 use Rattle.resource_tree.specs.declared.patch.PatchNode.TheVariants as there
 use Rattle.resource_tree.specs.Content.{Content, IsGood, by_path, same_path, node_at, kid, prop_at, parent_of, name_of, empty_node}
 use Rattle.resource_tree.specs.Changes.{change_at, with_kid, with_kids, kids_at, has_prop_at}
-use Rattle.resource_tree.specs.Patches.{Rows, row_at, patching, left_by}
+use Rattle.resource_tree.specs.Patches.{PatchEntries, entry_at, patching, left_by}
 use Rattle.resource_tree.specs.Moves.{path_there, part, part_there, copy, copy_at, is_too_deep, target_fault, part_size_fault, first_fault, copy_fault}
 use Rattle.resource_tree.proofs.PathLemmas.{by_path_total, kid_parts, path_from_same, same_path_self, same_path_apart}
 use Rattle.resource_tree.proofs.NodeLookups.{node_at-change_at, length-change_at}
@@ -27,7 +27,7 @@ use Rattle.resource_tree.proofs.Creation.{no_fault, not_none, none_from, some_fr
 use Rattle.resource_tree.proofs.Under.{under_own_kid}
 use Rattle.resource_tree.proofs.PartLemmas.{under_split, prefix}
 use Rattle.resource_tree.proofs.Copying.{Hangs, IsTree-hung, there-back}
-use Rattle.resource_tree.proofs.PartThere.{row_at-part_there, under_there}
+use Rattle.resource_tree.proofs.PartThere.{entry_at-part_there, under_there}
 use Rattle.resource_tree.proofs.CopyParts.{in_part, once_there, length-patching}
 
 -- what is known where the target is free
@@ -122,25 +122,25 @@ module _ (tree : Content) (source target : List (List ℕ)) (good : IsGood tree)
   pub node_at-copy : (q : List (List ℕ)) → node_at (copy tree source target) q ≡ copy_at tree source target q
   node_at-copy q =
       node_at-patching named (part_there tree source target) q (sorted-change_at tree (parent_of target) (with_kid (name_of target)) good.ordered) (once_there source target tree good.ordered)
-      ∙ ap (λ r. left_by r (node_at named q)) (row_at-part_there source target q tree)
+      ∙ ap (λ r. left_by r (node_at named q)) (entry_at-part_there source target q tree)
       ∙ ap (λ o. left_by (cond (is_under q target) (option_map there.Node (node_at tree (path_there target source q))) None) o) (node_at-change_at tree (parent_of target) (with_kid (name_of target)) q)
       ∙ ⊎_elim
       (λ under. let apart = parent_apart q under in let free = free_below q under in rw (under, apart, free) (left_none (node_at tree (path_there target source q))))
       (λ beside. rw beside)
       (cases_Bool (is_under q target))
 
-  module _ (rows : Rows) (once : IsDistinct (eq_by_cmp by_path) (keys_of rows)) (alike : (q : List (List ℕ)) → row_at rows q ≡ row_at (part_there tree source target) q) (kids : List (List ℕ)) (name : List ℕ) (kids_are : kids ≡ kids_at tree (parent_of target) ++ name ∷ []) (last : Some name ≡ slice_get target (length target - 1)) where
+  module _ (entries : PatchEntries) (once : IsDistinct (eq_by_cmp by_path) (keys_of entries)) (alike : (q : List (List ℕ)) → entry_at entries q ≡ entry_at (part_there tree source target) q) (kids : List (List ℕ)) (name : List ℕ) (kids_are : kids ≡ kids_at tree (parent_of target) ++ name ∷ []) (last : Some name ≡ slice_get target (length target - 1)) where
     kid_named : with_kids kids above ≡ with_kid (name_of target) above
     kid_named =
         let segment : name_of target ≡ name = get_or_from_slice_get target (length target - 1) name [] (sym last) in
         let its : kids_at tree (parent_of target) ≡ above.kids = ap (λ o. option_map_or (λ (n : Node). n.kids) o []) above_is in
         ap (λ ks. with_kids ks above) (kids_are ∙ ap (λ ks. ks ++ name ∷ []) its ∙ ap (λ (s : List ℕ). above.kids ++ s ∷ []) (sym segment))
 
-    new_at : (q : List (List ℕ)) → node_at (change_at (patching tree rows) (parent_of target) (with_kids kids)) q ≡ copy_at tree source target q
+    new_at : (q : List (List ℕ)) → node_at (change_at (patching tree entries) (parent_of target) (with_kids kids)) q ≡ copy_at tree source target q
     new_at q =
-        let patched : node_at (patching tree rows) q ≡ left_by (cond (is_under q target) (option_map there.Node (node_at tree (path_there target source q))) None) (node_at tree q) =
-        node_at-patching tree rows q good.ordered once ∙ ap (λ r. left_by r (node_at tree q)) (alike q ∙ row_at-part_there source target q tree) in
-        node_at-change_at (patching tree rows) (parent_of target) (with_kids kids) q
+        let patched : node_at (patching tree entries) q ≡ left_by (cond (is_under q target) (option_map there.Node (node_at tree (path_there target source q))) None) (node_at tree q) =
+        node_at-patching tree entries q good.ordered once ∙ ap (λ r. left_by r (node_at tree q)) (alike q ∙ entry_at-part_there source target q tree) in
+        node_at-change_at (patching tree entries) (parent_of target) (with_kids kids) q
         ∙ ap (λ o. cond (same_path (parent_of target) q) (option_map (with_kids kids) o) o) patched
         ∙ ⊎_elim
         (λ under. let apart = parent_apart q under in let free = free_below q under in rw (under, apart, free) (left_none (node_at tree (path_there target source q))))
@@ -151,7 +151,7 @@ module _ (tree : Content) (source target : List (List ℕ)) (good : IsGood tree)
         (cases_Bool (is_under q target))
 
     -- the content as the code makes it
-    pub copy_is : (new : Content) → new ≡ change_at (patching tree rows) (parent_of target) (with_kids kids) → IsStrictlySortedBy by_path (keys_of new) → new ≡ copy tree source target
+    pub copy_is : (new : Content) → new ≡ change_at (patching tree entries) (parent_of target) (with_kids kids) → IsStrictlySortedBy by_path (keys_of new) → new ≡ copy tree source target
     copy_is new is sorted =
         same_in_order by_path by_path_total exact_paths new (copy tree source target) sorted
         (sorted-patching named (part_there tree source target) (sorted-change_at tree (parent_of target) (with_kid (name_of target)) good.ordered))

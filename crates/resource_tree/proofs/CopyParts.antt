@@ -19,11 +19,11 @@ use Rattle.resource_tree.specs.declared.nodes.Node.{Node}
 use Rattle.resource_tree.specs.declared.patch.PatchNode.{PatchNode}
 use Rattle.resource_tree.specs.declared.patch.PatchNode.TheVariants as there
 use Rattle.resource_tree.specs.Content.{Content, by_path, same_path, node_at}
-use Rattle.resource_tree.specs.Patches.{Rows, row_at, over, patching}
+use Rattle.resource_tree.specs.Patches.{PatchEntries, entry_at, over, patching}
 use Rattle.resource_tree.specs.Moves.{path_there, part, part_there}
 use Rattle.resource_tree.proofs.PathLemmas.{by_path_total, path_from_same, same_path_self}
 use Rattle.resource_tree.proofs.Copying.{there-back}
-use Rattle.resource_tree.proofs.PartThere.{under_there, row_at-part_there}
+use Rattle.resource_tree.proofs.PartThere.{under_there, entry_at-part_there}
 use Rattle.resource_tree.proofs.EntriesInOrder.{length-in_order, in_order-same}
 
 module _ (source : List (List ℕ)) (test : List (List ℕ) → Bool) where
@@ -86,12 +86,12 @@ module _ (source : List (List ℕ)) (test : List (List ℕ) → Bool) where
       in_paths p paths (all p ∙ ap (λ b. b && is_under p source) there_ ∙ under) tested)) ∙ none))))
       (cases_Bool (list_any test paths))
 
-apart_from_none : (rows : Rows) (p : List (List ℕ)) → row_at rows p ≡ None → AllByRecursion (λ y. same_path p y ≡ false) (keys_of rows)
+apart_from_none : (entries : PatchEntries) (p : List (List ℕ)) → entry_at entries p ≡ None → AllByRecursion (λ y. same_path p y ≡ false) (keys_of entries)
 apart_from_none [] p none = tt
-apart_from_none (e ∷ rows) p none =
+apart_from_none (e ∷ entries) p none =
     ⊎_elim
-    (λ same. absurd (false≢true (sym (ap is_some none) ∙ ap (λ b. is_some (cond b (Some e.1) (row_at rows p))) same)))
-    (λ other. (other, apart_from_none rows p (sym (ap (λ b. cond b (Some e.1) (row_at rows p)) other) ∙ none)))
+    (λ same. absurd (false≢true (sym (ap is_some none) ∙ ap (λ b. is_some (cond b (Some e.1) (entry_at entries p))) same)))
+    (λ other. (other, apart_from_none entries p (sym (ap (λ b. cond b (Some e.1) (entry_at entries p)) other) ∙ none)))
     (cases_Bool (same_path p e.0))
 
 distinct_none : {K : Type 0} (eq : K → K → Bool) → IsDistinct eq []
@@ -108,8 +108,8 @@ distinct_there source target (e ∷ tree) once =
     elim (is_under e.0 source) as (λ b. is_under e.0 source ≡ b → IsDistinct (eq_by_cmp by_path) (keys_of (map (λ e. (path_there source target e.0, there.Node e.1)) (cond b (e ∷ part tree source) (part tree source))))) [
       | true ↦ λ under.
           let back = there-back target source e.0 under in
-          let none : row_at (part_there tree source target) (path_there source target e.0) ≡ None =
-          row_at-part_there source target (path_there source target e.0) tree
+          let none : entry_at (part_there tree source target) (path_there source target e.0) ≡ None =
+          entry_at-part_there source target (path_there source target e.0) tree
           ∙ ap (λ b. cond b (option_map there.Node (node_at tree (path_there target source (path_there source target e.0)))) None) (under_there source target e.0)
           ∙ ap (λ p. option_map there.Node (node_at tree p)) back ∙ ap (option_map there.Node) later in
           IsDistinct-cons (eq_by_cmp by_path) (path_there source target e.0) (keys_of (part_there tree source target)) (apart_from_none (part_there tree source target) (path_there source target e.0) none) rest
@@ -119,12 +119,12 @@ distinct_there source target (e ∷ tree) once =
 pub once_there : (source target : List (List ℕ)) (tree : Content) → IsStrictlySortedBy by_path (keys_of tree) → IsDistinct (eq_by_cmp by_path) (keys_of (part_there tree source target))
 once_there source target tree sorted = distinct_there source target tree (IsDistinct-from_sorted by_path _ sorted)
 
--- rows with the look-ups of the part are as many
-pub length-rows : (source target : List (List ℕ)) (tree : Content) (rows : Rows) → IsStrictlySortedBy by_path (keys_of tree) → IsDistinct (eq_by_cmp by_path) (keys_of rows) → ((q : List (List ℕ)) → row_at rows q ≡ row_at (part_there tree source target) q)
-    → length rows ≡ length (part tree source)
-length-rows source target tree rows sorted once alike =
-    sym (length-in_order by_path by_path_total rows once)
-    ∙ ap length (in_order-same by_path by_path_total exact_paths (part_there tree source target) rows alike)
+-- entries with the look-ups of the part are as many
+pub length-entries : (source target : List (List ℕ)) (tree : Content) (entries : PatchEntries) → IsStrictlySortedBy by_path (keys_of tree) → IsDistinct (eq_by_cmp by_path) (keys_of entries) → ((q : List (List ℕ)) → entry_at entries q ≡ entry_at (part_there tree source target) q)
+    → length entries ≡ length (part tree source)
+length-entries source target tree entries sorted once alike =
+    sym (length-in_order by_path by_path_total entries once)
+    ∙ ap length (in_order-same by_path by_path_total exact_paths (part_there tree source target) entries alike)
     ∙ length-in_order by_path by_path_total (part_there tree source target) (once_there source target tree sorted)
     ∙ length-map (part tree source) _
 
@@ -144,13 +144,13 @@ taken path (e ∷ tree) =
     let rest = taken path tree in
     elim (same_path path e.0) as (λ b. length (cond b tree (e ∷ remove_entry (same_path path) tree)) ≤ length (e ∷ tree)) [ true ↦ omega arith | false ↦ omega (arith, rest) ]
 
-length-over : (tree : Content) (path : List (List ℕ)) (row : PatchNode) → length (over tree path row) ≤ length tree + 1
+length-over : (tree : Content) (path : List (List ℕ)) (entry : PatchNode) → length (over tree path entry) ≤ length tree + 1
 length-over tree path (there.Node node) = inserted tree path node
 length-over tree path there.Gone = let less = taken path tree in omega (arith, less)
 
-pub length-patching : (tree : Content) (rows : Rows) → length (patching tree rows) ≤ length tree + length rows
+pub length-patching : (tree : Content) (entries : PatchEntries) → length (patching tree entries) ≤ length tree + length entries
 length-patching tree [] = omega arith
-length-patching tree (r ∷ rows) =
-    let rest = length-patching (over tree r.0 r.1) rows in
+length-patching tree (r ∷ entries) =
+    let rest = length-patching (over tree r.0 r.1) entries in
     let one = length-over tree r.0 r.1 in
     omega (arith, rest, one)

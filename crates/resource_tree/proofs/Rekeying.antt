@@ -12,33 +12,33 @@ use Rattle.sp_base.specs.Paths.{is_under}
 use Rattle.resource_tree.specs.declared.nodes.Node.{Node}
 use Rattle.resource_tree.specs.Content.{Content, by_path, same_path, node_at}
 use Rattle.resource_tree.specs.Moves.{path_there}
-use Rattle.resource_tree.specs.Parts.{both_paths, put_back, rekey, rekeying}
+use Rattle.resource_tree.specs.Parts.{both_paths, with_node_back, rekeying_once, rekeying}
 use Rattle.resource_tree.proofs.PathLemmas.{by_path_total, path_from_same, same_path_self, same_path_apart}
 use Rattle.resource_tree.proofs.EntriesInOrder.{lookup-insert_entry, sorted-insert_entry, sorted-remove_entry}
 use Rattle.resource_tree.proofs.PartThere.{same_there, under_there}
 
-sorted-put_back : (tree : Content) (path : List (List ℕ)) (o : Option Node) → IsStrictlySortedBy by_path (keys_of tree) → IsStrictlySortedBy by_path (keys_of (put_back tree path o))
-sorted-put_back tree path None sorted = sorted
-sorted-put_back tree path (Some node) sorted = sorted-insert_entry by_path by_path_total tree path node sorted
+sorted-with_node_back : (tree : Content) (path : List (List ℕ)) (o : Option Node) → IsStrictlySortedBy by_path (keys_of tree) → IsStrictlySortedBy by_path (keys_of (with_node_back tree path o))
+sorted-with_node_back tree path None sorted = sorted
+sorted-with_node_back tree path (Some node) sorted = sorted-insert_entry by_path by_path_total tree path node sorted
 
-sorted-rekey : (tree : Content) (path there : List (List ℕ)) → IsStrictlySortedBy by_path (keys_of tree) → IsStrictlySortedBy by_path (keys_of (rekey tree path there))
-sorted-rekey tree path there sorted = sorted-put_back (remove_entry (same_path path) tree) there (node_at tree path) (sorted-remove_entry by_path (same_path path) tree sorted)
+sorted-rekeying_once : (tree : Content) (path there : List (List ℕ)) → IsStrictlySortedBy by_path (keys_of tree) → IsStrictlySortedBy by_path (keys_of (rekeying_once tree path there))
+sorted-rekeying_once tree path there sorted = sorted-with_node_back (remove_entry (same_path path) tree) there (node_at tree path) (sorted-remove_entry by_path (same_path path) tree sorted)
 
 pub sorted-rekeying : (tree : Content) (paths : List (List (List ℕ) × List (List ℕ))) → IsStrictlySortedBy by_path (keys_of tree) → IsStrictlySortedBy by_path (keys_of (rekeying tree paths))
 sorted-rekeying tree [] sorted = sorted
-sorted-rekeying tree (p ∷ paths) sorted = sorted-rekeying (rekey tree p.0 p.1) paths (sorted-rekey tree p.0 p.1 sorted)
+sorted-rekeying tree (p ∷ paths) sorted = sorted-rekeying (rekeying_once tree p.0 p.1) paths (sorted-rekeying_once tree p.0 p.1 sorted)
 
-node_at-put_back : (tree : Content) (there q : List (List ℕ)) (o : Option Node) → node_at (put_back tree there o) q ≡ cond (same_path q there && is_some o) o (node_at tree q)
-node_at-put_back tree there q None = elim (same_path q there) as (λ b. node_at tree q ≡ cond (b && false) None (node_at tree q)) [ true ↦ refl | false ↦ refl ]
-node_at-put_back tree there q (Some node) =
+node_at-with_node_back : (tree : Content) (there q : List (List ℕ)) (o : Option Node) → node_at (with_node_back tree there o) q ≡ cond (same_path q there && is_some o) o (node_at tree q)
+node_at-with_node_back tree there q None = elim (same_path q there) as (λ b. node_at tree q ≡ cond (b && false) None (node_at tree q)) [ true ↦ refl | false ↦ refl ]
+node_at-with_node_back tree there q (Some node) =
     lookup-insert_entry by_path by_path_total q there node tree
     ∙ elim (same_path q there) as (λ b. cond b (Some node) (node_at tree q) ≡ cond (b && true) (Some node) (node_at tree q)) [ true ↦ refl | false ↦ refl ]
 
-node_at-rekey : (tree : Content) (path there q : List (List ℕ)) → IsStrictlySortedBy by_path (keys_of tree)
-    → node_at (rekey tree path there) q ≡ cond (same_path q there && is_some (node_at tree path)) (node_at tree path) (cond (same_path path q) None (node_at tree q))
-node_at-rekey tree path there q sorted =
+node_at-rekeying_once : (tree : Content) (path there q : List (List ℕ)) → IsStrictlySortedBy by_path (keys_of tree)
+    → node_at (rekeying_once tree path there) q ≡ cond (same_path q there && is_some (node_at tree path)) (node_at tree path) (cond (same_path path q) None (node_at tree q))
+node_at-rekeying_once tree path there q sorted =
     let laws = eq_by_cmp_equiv by_path_total in
-    node_at-put_back (remove_entry (same_path path) tree) there q (node_at tree path)
+    node_at-with_node_back (remove_entry (same_path path) tree) there q (node_at tree path)
     ∙ ap (cond (same_path q there && is_some (node_at tree path)) (node_at tree path)) (lookup-remove_entry laws (same_path path) (laws.congr path) q tree (IsDistinct-from_sorted by_path _ sorted))
 
 -- the node that comes to its path at the target
@@ -83,11 +83,11 @@ module _ (tree : Content) (source target : List (List ℕ)) where
 
   module _ (apart : (q : List (List ℕ)) → is_under q source ≡ true → is_under q target ≡ false) where
     one_more : (done : List (List ℕ) → Bool) (now : Content) (p : List (List ℕ)) → is_under p source ≡ true → IsStrictlySortedBy by_path (keys_of now) → ((q : List (List ℕ)) → node_at now q ≡ so_far done q)
-        → (q : List (List ℕ)) → node_at (rekey now p (path_there source target p)) q ≡ so_far (λ r. done r || same_path r p) q
+        → (q : List (List ℕ)) → node_at (rekeying_once now p (path_there source target p)) q ≡ so_far (λ r. done r || same_path r p) q
     one_more done now p under sorted is q =
         let back = path_there target source q in
         let from : node_at now p ≡ cond (done p) None (node_at tree p) = is p ∙ ap (λ u. cond u (cond (done (path_there target source p)) (node_at tree (path_there target source p)) None) (cond (done p) None (node_at tree p))) (apart p under) in
-        node_at-rekey now p (path_there source target p) q sorted
+        node_at-rekeying_once now p (path_there source target p) q sorted
         ∙ ap (λ b. cond (b && is_some (node_at now p)) (node_at now p) (cond (same_path p q) None (node_at now q))) (same_there source target p q under)
         ∙ ap (λ o. cond ((is_under q target && same_path back p) && is_some (node_at now p)) (node_at now p) (cond (same_path p q) None o)) (is q)
         ∙ ⊎_elim
@@ -124,7 +124,7 @@ module _ (tree : Content) (source target : List (List ℕ)) where
         or_nothing false = refl
     all_more done (p ∷ paths) now under sorted is q =
         let first = under p (ap (λ b. b || list_any (same_path p) paths) (same_path_self p)) in
-        all_more (λ r. done r || same_path r p) paths (rekey now p (path_there source target p)) (λ r found. under r (or_right _ _ found)) (sorted-rekey now p (path_there source target p) sorted) (one_more done now p first sorted is) q
+        all_more (λ r. done r || same_path r p) paths (rekeying_once now p (path_there source target p)) (λ r found. under r (or_right _ _ found)) (sorted-rekeying_once now p (path_there source target p) sorted) (one_more done now p first sorted is) q
         ∙ so_far_same (λ r. (done r || same_path r p) || list_any (same_path r) paths) (λ r. done r || (same_path r p || list_any (same_path r) paths)) (λ r. or_assoc (done r) (same_path r p) (list_any (same_path r) paths)) q
 
     -- the nodes at the source and under it are at the target, and no longer at the source

@@ -21,7 +21,7 @@ use Rattle.resource_tree.specs.Content.{Content, IsGood, by_path, same_path, nod
 use Rattle.resource_tree.specs.Changes.{change_at, with_kid, without_kid, has_prop_at, removal, removal_at}
 use Rattle.resource_tree.specs.Patches.{left_by}
 use Rattle.resource_tree.specs.Moves.{path_there, part, part_there, is_too_deep, first_fault, ends_fault, move_fault, relocation, relocation_at}
-use Rattle.resource_tree.specs.Parts.{both_paths, rekeying, renamed_at, unnamed_at}
+use Rattle.resource_tree.specs.Parts.{both_paths, rekeying, renaming_at, without_name_at}
 use Rattle.resource_tree.proofs.PathLemmas.{by_path_total, kid_parts, same_path_self, same_path_apart}
 use Rattle.resource_tree.proofs.NodeLookups.{node_at-change_at, length-change_at}
 use Rattle.resource_tree.proofs.EntriesInOrder.{same_in_order}
@@ -31,7 +31,7 @@ use Rattle.resource_tree.proofs.Removal.{node_at-removal, IsTree-removal}
 use Rattle.resource_tree.proofs.Under.{under_root, under_kid, under_own_kid, under_self}
 use Rattle.resource_tree.proofs.Without.{keys_of-filter}
 use Rattle.resource_tree.proofs.Copying.{Hangs, IsTree-hung}
-use Rattle.resource_tree.proofs.PartThere.{row_at-part_there, under_there}
+use Rattle.resource_tree.proofs.PartThere.{entry_at-part_there, under_there}
 use Rattle.resource_tree.proofs.CopyParts.{once_there, length-patching}
 use Rattle.resource_tree.proofs.Copied.{IsFree, is_free, sorted-change_at, left_none, parts, free_below, parent_apart, is_a_path}
 use Rattle.resource_tree.proofs.Rekeying.{sorted-rekeying, node_at-rekeying}
@@ -66,7 +66,7 @@ may_go tree source target e =
 
 -- the kids' names as the code changes them
 pub names : (tree old : Content) (source target old_parent parent : List (List ℕ)) (old_name name seg : List ℕ) → old ≡ tree → old_parent ≡ parent_of source → Some old_name ≡ slice_get source (length source - 1) → parent ≡ parent_of target
-    → name ≡ seg → Some seg ≡ slice_get target (length target - 1) → (q : List (List ℕ)) → renamed_at old old_parent old_name parent name q ≡ renamed_at tree (parent_of source) (name_of source) (parent_of target) (name_of target) q
+    → name ≡ seg → Some seg ≡ slice_get target (length target - 1) → (q : List (List ℕ)) → renaming_at old old_parent old_name parent name q ≡ renaming_at tree (parent_of source) (name_of source) (parent_of target) (name_of target) q
 names tree old source target old_parent parent old_name name seg same up last up_too is last_too q =
     let from : name_of source ≡ old_name = get_or_from_slice_get source (length source - 1) old_name [] (sym last) in
     let to : name_of target ≡ seg = get_or_from_slice_get target (length target - 1) seg [] (sym last_too) in
@@ -156,7 +156,7 @@ module _ (tree : Content) (source target : List (List ℕ)) (good : IsGood tree)
   pub node_at-relocation : (q : List (List ℕ)) → node_at (relocation tree source target) q ≡ relocation_at tree source target q
   node_at-relocation q =
       node_at-patching named (part_there tree source target) q sorted-named (once_there source target tree good.ordered)
-      ∙ ap (λ r. left_by r (node_at named q)) (row_at-part_there source target q tree)
+      ∙ ap (λ r. left_by r (node_at named q)) (entry_at-part_there source target q tree)
       ∙ ap (λ o. left_by (cond (is_under q target) (option_map there.Node (node_at tree (path_there target source q))) None) o)
       (node_at-change_at from (parent_of target) (with_kid (name_of target)) q ∙ ap (λ o. cond (same_path (parent_of target) q) (option_map (with_kid (name_of target)) o) o) (node_at-removal tree source q))
       ∙ ⊎_elim
@@ -183,7 +183,7 @@ module _ (tree : Content) (source target : List (List ℕ)) (good : IsGood tree)
       false_from_ne_true _ (λ is. ⊎_elim (λ below. true≢false (sym below ∙ can.not_below)) (λ above. true≢false (sym above ∙ can.not_above)) (under_both source target q under is))
 
   abbrev renamed : List (List ℕ) → Option Node
-  renamed q = renamed_at tree (parent_of source) (name_of source) (parent_of target) (name_of target) q
+  renamed q = renaming_at tree (parent_of source) (name_of source) (parent_of target) (name_of target) q
 
   renamed_below : (q : List (List ℕ)) → is_under q source ≡ true → renamed q ≡ node_at tree q
   renamed_below q under =
@@ -193,7 +193,7 @@ module _ (tree : Content) (source target : List (List ℕ)) (good : IsGood tree)
 
   renamed_there : (q : List (List ℕ)) → is_some (renamed q) ≡ is_some (node_at tree q)
   renamed_there q =
-      some_under (same_path (parent_of target) q) (with_kid (name_of target)) (unnamed_at tree (parent_of source) (name_of source) q) ∙ some_under (same_path (parent_of source) q) (without_kid (name_of source)) (node_at tree q)
+      some_under (same_path (parent_of target) q) (with_kid (name_of target)) (without_name_at tree (parent_of source) (name_of source) q) ∙ some_under (same_path (parent_of source) q) (without_kid (name_of source)) (node_at tree q)
 
   -- the content as the code makes it
   pub relocation_is : (now new : Content) (paths : List (List (List ℕ))) → ((p : List (List ℕ)) → list_any (same_path p) paths ≡ (is_some (node_at tree p) && is_under p source)) → ((q : List (List ℕ)) → node_at now q ≡ renamed q)
@@ -212,7 +212,7 @@ module _ (tree : Content) (source target : List (List ℕ)) (good : IsGood tree)
       ∙ node_at-rekeying now source target apart paths all_now sorted free_now q
       ∙ ap (λ o. cond (is_under q target) o (cond (is_under q source) None (node_at now q))) (is back ∙ renamed_below back (under_there target source q))
       ∙ ap (λ o. cond (is_under q target) (node_at tree back) (cond (is_under q source) None o)) (is q)
-      ∙ ap (cond (is_under q target) (node_at tree back)) (gone_and_named (is_under q source) (same_path (parent_of target) q) (unnamed_at tree (parent_of source) (name_of source) q))
+      ∙ ap (cond (is_under q target) (node_at tree back)) (gone_and_named (is_under q source) (same_path (parent_of target) q) (without_name_at tree (parent_of source) (name_of source) q))
       ∙ sym (node_at-relocation q))
     where
       gone_and_named : (u c : Bool) (o : Option Node) → cond u None (cond c (option_map (with_kid (name_of target)) o) o) ≡ cond c (option_map (with_kid (name_of target)) (cond u None o)) (cond u None o)
@@ -224,7 +224,7 @@ module _ (tree : Content) (source target : List (List ℕ)) (good : IsGood tree)
 
   there_above : is_some (node_at from (parent_of target)) ≡ true
   there_above =
-      ap is_some (node_at-removal tree source (parent_of target) ∙ ap (λ u. cond u None (unnamed_at tree (parent_of source) (name_of source) (parent_of target))) target_parent_apart)
+      ap is_some (node_at-removal tree source (parent_of target) ∙ ap (λ u. cond u None (without_name_at tree (parent_of source) (name_of source) (parent_of target))) target_parent_apart)
       ∙ some_under (same_path (parent_of source) (parent_of target)) (without_kid (name_of source)) (node_at tree (parent_of target))
       ∙ can.free.parent_there
 
@@ -236,7 +236,7 @@ module _ (tree : Content) (source target : List (List ℕ)) (good : IsGood tree)
 
   untaken : has_prop_at from (parent_of target) (name_of target) ≡ false
   untaken =
-      ap (λ o. option_map_or (λ node. is_some (prop_at node (name_of target))) o false) (node_at-removal tree source (parent_of target) ∙ ap (λ u. cond u None (unnamed_at tree (parent_of source) (name_of source) (parent_of target))) target_parent_apart)
+      ap (λ o. option_map_or (λ node. is_some (prop_at node (name_of target))) o false) (node_at-removal tree source (parent_of target) ∙ ap (λ u. cond u None (without_name_at tree (parent_of source) (name_of source) (parent_of target))) target_parent_apart)
       ∙ kept_props (same_path (parent_of source) (parent_of target)) (name_of source) (name_of target) (node_at tree (parent_of target))
       ∙ can.free.untaken
 

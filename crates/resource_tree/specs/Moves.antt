@@ -8,7 +8,7 @@ use Rattle.resource_tree.specs.declared.faults.TreeFault.TheVariants.{NoSuch, Ro
 use Rattle.resource_tree.specs.declared.patch.PatchNode.TheVariants as there
 use Rattle.resource_tree.specs.Content.{Content, most_nodes, same_path, node_at, parent_of, name_of}
 use Rattle.resource_tree.specs.Changes.{change_at, with_kid, has_prop_at, removal, removal_at}
-use Rattle.resource_tree.specs.Patches.{Rows, patching}
+use Rattle.resource_tree.specs.Patches.{PatchEntries, patching}
 
 -- the path at the target of one at the source
 abbrev pub path_there : List (List ℕ) → List (List ℕ) → List (List ℕ) → List (List ℕ)
@@ -19,7 +19,7 @@ abbrev pub part : Content → List (List ℕ) → Content
 part tree path = filter (λ e. is_under e.0 path) tree
 
 -- the same at the target
-abbrev pub part_there : Content → List (List ℕ) → List (List ℕ) → Rows
+abbrev pub part_there : Content → List (List ℕ) → List (List ℕ) → PatchEntries
 part_there tree source target = map (λ e. (path_there source target e.0, there.Node e.1)) (part tree source)
 
 -- the content with the nodes at the source and under it at the target too, which its parent names last

@@ -23,24 +23,24 @@ abbrev pub both_paths : List (List ℕ) → List (List ℕ) → List (List ℕ) 
 both_paths source target path = (path, path_there source target path)
 
 -- the content with a node that was taken out put at a path, if there was one
-abbrev pub put_back : Content → List (List ℕ) → Option Node → Content
-put_back tree path None = tree
-put_back tree path (Some node) = insert_entry by_path tree path node
+abbrev pub with_node_back : Content → List (List ℕ) → Option Node → Content
+with_node_back tree path None = tree
+with_node_back tree path (Some node) = insert_entry by_path tree path node
 
 -- the content with one node at another path
-abbrev pub rekey : Content → List (List ℕ) → List (List ℕ) → Content
-rekey tree path there = put_back (remove_entry (same_path path) tree) there (node_at tree path)
+abbrev pub rekeying_once : Content → List (List ℕ) → List (List ℕ) → Content
+rekeying_once tree path there = with_node_back (remove_entry (same_path path) tree) there (node_at tree path)
 
 -- the content with some nodes at other paths
 abbrev pub rekeying : Content → List (List (List ℕ) × List (List ℕ)) → Content
 rekeying tree [] = tree
-rekeying tree (paths ∷ more) = rekeying (rekey tree paths.0 paths.1) more
+rekeying tree (paths ∷ more) = rekeying (rekeying_once tree paths.0 paths.1) more
 
 -- the content in which one node doesn't name a kid any more
-abbrev pub unnamed_at : Content → List (List ℕ) → List ℕ → List (List ℕ) → Option Node
-unnamed_at tree path name q = if same_path path q then option_map (without_kid name) (node_at tree q) else node_at tree q
+abbrev pub without_name_at : Content → List (List ℕ) → List ℕ → List (List ℕ) → Option Node
+without_name_at tree path name q = if same_path path q then option_map (without_kid name) (node_at tree q) else node_at tree q
 
 -- the content in which a kid's name has gone from one node, and another stands last in the same or another node, by look-ups
-abbrev pub renamed_at : Content → List (List ℕ) → List ℕ → List (List ℕ) → List ℕ → List (List ℕ) → Option Node
-renamed_at tree old_parent old_name parent name q =
-    if same_path parent q then option_map (with_kid name) (unnamed_at tree old_parent old_name q) else unnamed_at tree old_parent old_name q
+abbrev pub renaming_at : Content → List (List ℕ) → List ℕ → List (List ℕ) → List ℕ → List (List ℕ) → Option Node
+renaming_at tree old_parent old_name parent name q =
+    if same_path parent q then option_map (with_kid name) (without_name_at tree old_parent old_name q) else without_name_at tree old_parent old_name q

@@ -8,33 +8,33 @@ use Rattle.resource_tree.specs.declared.patch.PatchNode.TheVariants as there
 use Rattle.resource_tree.specs.Content.{Content, by_path, same_path, node_at}
 
 -- what is to stand at each path of a patch, each path once, in the order in which they were first put
-abbrev pub Rows : Type 0
-Rows = List (List (List ℕ) × PatchNode)
+abbrev pub PatchEntries : Type 0
+PatchEntries = List (List (List ℕ) × PatchNode)
 
 -- what is to stand at a path, if the patch has it
-abbrev pub row_at : Rows → List (List ℕ) → Option PatchNode
-row_at rows path = lookup (same_path path) rows
+abbrev pub entry_at : PatchEntries → List (List ℕ) → Option PatchNode
+entry_at entries path = lookup (same_path path) entries
 
--- the rows with what is to stand at a path
-abbrev pub with_row : Rows → List (List ℕ) → PatchNode → Rows
-with_row rows path node = if is_some (row_at rows path) then set_value (same_path path) rows node else rows ++ (path, node) ∷ []
+-- the entries with what is to stand at a path
+abbrev pub with_entry : PatchEntries → List (List ℕ) → PatchNode → PatchEntries
+with_entry entries path node = if is_some (entry_at entries path) then set_value (same_path path) entries node else entries ++ (path, node) ∷ []
 
--- the content with one row over it
+-- the content with one entry over it
 abbrev pub over : Content → List (List ℕ) → PatchNode → Content
 over tree path (there.Node node) = insert_entry by_path tree path node
 over tree path there.Gone = remove_entry (same_path path) tree
 
 -- the content with a patch over it
-abbrev pub patching : Content → Rows → Content
+abbrev pub patching : Content → PatchEntries → Content
 patching tree [] = tree
-patching tree (row ∷ rows) = patching (over tree row.0 row.1) rows
+patching tree (entry ∷ entries) = patching (over tree entry.0 entry.1) entries
 
--- the node that a row leaves at its path, where there is a row
+-- the node that an entry leaves at its path, where there is an entry
 abbrev pub left_by : Option PatchNode → Option Node → Option Node
 left_by None old = old
 left_by (Some (there.Node node)) old = Some node
 left_by (Some there.Gone) old = None
 
 -- the content with a patch over it by look-ups
-abbrev pub patching_at : Content → Rows → List (List ℕ) → Option Node
-patching_at tree rows path = left_by (row_at rows path) (node_at tree path)
+abbrev pub patching_at : Content → PatchEntries → List (List ℕ) → Option Node
+patching_at tree entries path = left_by (entry_at entries path) (node_at tree path)

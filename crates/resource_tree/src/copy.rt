@@ -8,7 +8,7 @@ ghost use Rattle.sp_base.specs.Paths.{is_path, is_under, path_or_none};
 ghost use Rattle.resource_tree.specs.declared.patch.PatchNode.{PatchNode};
 ghost use Rattle.resource_tree.specs.Content.{IsTree, by_path, node_at, same_path, parent_of, name_of};
 ghost use Rattle.resource_tree.specs.Changes.{change_at, with_kids};
-ghost use Rattle.resource_tree.specs.Patches.{row_at, with_row, patching};
+ghost use Rattle.resource_tree.specs.Patches.{entry_at, with_entry, patching};
 ghost use Rattle.resource_tree.specs.Moves.{copy, copy_at, copy_fault, part, part_there, path_there, target_fault};
 
 use crate::create::{MOST_NODES, last_segment};
@@ -126,7 +126,7 @@ fn part_there(
 ) -> Result<Patch, TreeFault>
     requires target { IsTrue (is_path target.now) }
     requires all { (q : List (List ℕ)) → list_any (same_path q) paths.now ≡ (is_some (node_at nodes.now.entries q) && is_under q source.now) }
-    ensures ok { IfOk result (λ part. (q : List (List ℕ)) → row_at part q ≡ row_at (part_there nodes.now.entries source.now target.now) q) }
+    ensures ok { IfOk result (λ part. (q : List (List ℕ)) → entry_at part q ≡ entry_at (part_there nodes.now.entries source.now target.now) q) }
     ensures fits { OnOk result (list_any (λ p. not (is_path (path_there source.now target.now p))) paths.now ≡ false) }
     ensures err { IfErr result (λ e. e ≢ TreeFault.NoMemory → (e ≡ TreeFault.TooDeep) × (list_any (λ p. not (is_path (path_there source.now target.now p))) paths.now ≡ true)) }
 {

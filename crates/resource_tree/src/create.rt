@@ -14,7 +14,7 @@ use sp_base::{Mem, Path, PropList, TextBuf};
 use std::alloc::Global;
 
 /// The most nodes of a tree.
-pub(crate) const MOST_NODES: usize = 200_000;
+pub const MOST_NODES: usize = 200_000;
 
 impl Tree {
     /// Makes a node without properties and kids. It stands last among the kids of its parent.

@@ -24,10 +24,12 @@ mod rows;
 mod table;
 mod tree;
 
+pub use create::MOST_NODES;
 pub use faults::TreeFault;
 pub use look::{Look, Res, Shown};
 pub use node_map::NodeMap;
 pub use nodes::Node;
+pub use part::MOST_LEVELS;
 pub use patch::{Patch, PatchNode};
 pub use places::Place;
 pub use room::RoomyTree;

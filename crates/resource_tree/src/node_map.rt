@@ -49,13 +49,6 @@ impl NodeMap {
         self.nodes.insert(path, node)
     }
 
-    /// Makes room for n more nodes, so that the table needn't grow node by node.
-    pub fn make_room(&mut self, n: usize) -> Mem<()>
-        ensures { self.new ≡ self.old }
-    {
-        self.nodes.make_room(n)
-    }
-
     /// The number of paths.
     pub fn len(&self) -> usize
         ensures len { result ≡ length self.now }

@@ -5,7 +5,7 @@ ghost use Rattle.std.specs.Map.Iter.{deref_pair};
 ghost use Rattle.std.specs.List.{IsDistinct};
 ghost use Rattle.std.specs.Ordering.{eq_by_cmp};
 ghost use Rattle.resource_tree.specs.Content.{by_path};
-ghost use Rattle.resource_tree.specs.Patches.{row_at, with_row};
+ghost use Rattle.resource_tree.specs.Patches.{entry_at, with_entry};
 
 use crate::Node;
 use indexmap::IndexMap;
@@ -21,28 +21,28 @@ pub enum PatchNode {
     Gone,
 }
 
-/// A finite map from paths to what is to stand there. Contracts see its rows in the order in which
+/// A finite map from paths to what is to stand there. Contracts see its entries in the order in which
 /// the paths were first put.
 #[derive(Drop)]
 pub struct Patch {
-    pub(crate) rows: IndexMap<Path, PatchNode, RandomState>,
+    pub(crate) entries: IndexMap<Path, PatchNode, RandomState>,
 }
 
 impl Model for Patch {
-    ghost use Rattle.resource_tree.specs.Patches.{Rows};
+    ghost use Rattle.resource_tree.specs.Patches.{PatchEntries};
 
-    ghost Value = { Rows };
+    ghost Value = { PatchEntries };
 
-    ghost view = { λ p. p.rows.entries };
+    ghost view = { λ p. p.entries.entries };
 }
 
 impl Patch {
-    /// No row. The seeds key the hashes of the paths, which authors pick.
+    /// No entry. The seeds key the hashes of the paths, which authors pick.
     pub fn new(alloc: Global, seeds: RandomState) -> Patch
         ensures { result ≡ [] }
     {
         Patch {
-            rows: IndexMap::with_hasher(alloc, seeds),
+            entries: IndexMap::with_hasher(alloc, seeds),
         }
     }
 
@@ -51,29 +51,29 @@ impl Patch {
         ensures len { result ≡ length self.now }
         ensures once { IsDistinct (eq_by_cmp by_path) (keys_of self.now) }
     {
-        self.rows.len()
+        self.entries.len()
     }
 
     /// Sets what is to stand at a path.
     pub fn put(&mut self, path: Path, node: PatchNode) -> Mem<()>
-        ensures ok { OnOk result (self.new ≡ with_row self.old path node) }
+        ensures ok { OnOk result (self.new ≡ with_entry self.old path node) }
         ensures err { OnErr result (self.new ≡ self.old) }
     {
-        self.rows.insert(path, node)?;
+        self.entries.insert(path, node)?;
         Ok(())
     }
 
     /// What is to stand at a path, where the patch has it.
     pub fn get(&self, path: &Path) -> Option<&PatchNode>
-        ensures { option_copied result ≡ row_at self.now path.now }
+        ensures { option_copied result ≡ entry_at self.now path.now }
     {
-        self.rows.get(path)
+        self.entries.get(path)
     }
 
-    /// The row at a place, counted from 0.
+    /// The entry at a place, counted from 0.
     pub fn at(&self, place: usize) -> Option<(&Path, &PatchNode)>
         ensures { option_map deref_pair result ≡ slice_get self.now place }
     {
-        self.rows.get_index(place)
+        self.entries.get_index(place)
     }
 }

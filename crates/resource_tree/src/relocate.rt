@@ -6,7 +6,7 @@ ghost use Rattle.std.specs.Map.{keys_of};
 ghost use Rattle.sp_base.specs.Paths.{is_path};
 ghost use Rattle.resource_tree.specs.Content.{by_path, node_at, parent_of};
 ghost use Rattle.resource_tree.specs.Moves.{ends_fault, move_fault, path_there, relocation, relocation_at};
-ghost use Rattle.resource_tree.specs.Parts.{both_paths, rekey, rekeying, renamed_at};
+ghost use Rattle.resource_tree.specs.Parts.{both_paths, rekeying_once, rekeying, renaming_at};
 
 use crate::copy::path_there;
 use crate::create::{add_kid, last_segment};
@@ -103,7 +103,7 @@ fn rename_kid(
     parent: &Path,
     name: TextBuf,
 ) -> Mem<()>
-    ensures ok { OnOk result ((q : List (List ℕ)) → node_at nodes.new.entries q ≡ renamed_at nodes.old.entries old_parent.now old_name.now parent.now name q) }
+    ensures ok { OnOk result ((q : List (List ℕ)) → node_at nodes.new.entries q ≡ renaming_at nodes.old.entries old_parent.now old_name.now parent.now name q) }
     ensures err { OnErr result (nodes.new.entries ≡ nodes.old.entries) }
     ensures ordered { OnOk result (IsStrictlySortedBy by_path (keys_of nodes.new.entries)) }
     ensures room { nodes.old.room ≤ nodes.new.room }
@@ -132,7 +132,7 @@ fn rekey_all(nodes: &mut Nodes, paths: Vec<(Path, Path)>)
 // Puts the node at a path, if there is one, at another path, with no memory.
 fn rekey(nodes: &mut Nodes, path: &Path, there: Path)
     requires { 0 < nodes.old.room }
-    ensures after { nodes.new.entries ≡ rekey nodes.old.entries path.now there }
+    ensures after { nodes.new.entries ≡ rekeying_once nodes.old.entries path.now there }
     ensures room { nodes.old.room ≤ nodes.new.room + 1 }
 {
     if let Some(node) = nodes.remove(path) {

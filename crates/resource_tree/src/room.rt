@@ -80,13 +80,13 @@ pub(crate) fn put_all(nodes: &mut Nodes, patch: Patch)
     ensures after { nodes.new.entries ≡ patching nodes.old.entries patch }
     ensures once { IsDistinct (eq_by_cmp by_path) (keys_of patch) }
 {
-    for (path, node) in patch.rows {
-        put_row(nodes, path, node);
+    for (path, node) in patch.entries {
+        put_entry(nodes, path, node);
     }
 }
 
-// Puts one row over the nodes, with no memory.
-fn put_row(nodes: &mut Nodes, path: Path, node: PatchNode)
+// Puts one entry over the nodes, with no memory.
+fn put_entry(nodes: &mut Nodes, path: Path, node: PatchNode)
     requires { 0 < nodes.old.room }
     ensures after { nodes.new.entries ≡ over nodes.old.entries path node }
     ensures room { nodes.old.room ≤ nodes.new.room + 1 }

@@ -3,4 +3,4 @@ pub mod NamingLemmas
 pub mod PlaceLemmas
 pub mod RankLemmas
 pub mod SearchLemmas
-pub mod SiteLemmas
+pub mod ScriptPlaceLemmas

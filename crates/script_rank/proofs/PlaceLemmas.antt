@@ -11,10 +11,10 @@ use Rattle.sp_base.specs.declared.path.PathFault.{PathFault}
 use Rattle.sp_base.specs.declared.path.PathFault.TheVariants.{EmptySegment}
 use Rattle.resource_tree.specs.Content.{Content, IsTree, kid, node_at}
 use Rattle.resource_tree.specs.declared.nodes.Node.{Node}
-use Rattle.type_chain.specs.Sites.{has_kids}
+use Rattle.type_chain.specs.ScriptPlaces.{has_kids}
 use Rattle.script_rank.specs.Ranking.{is_script}
 use Rattle.script_rank.specs.Search.{script_at, script_in}
-use Rattle.script_rank.specs.SiteSearch.{script_below}
+use Rattle.script_rank.specs.ScriptPlaceSearch.{script_below}
 
 -- ---- segments without slashes
 

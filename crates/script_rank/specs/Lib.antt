@@ -1,3 +1,3 @@
 pub mod Ranking
 pub mod Search
-pub mod SiteSearch
+pub mod ScriptPlaceSearch

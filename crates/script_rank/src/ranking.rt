@@ -1,10 +1,10 @@
-//! The search for the script that ranks first: in the order of the ranks, at the sites alone.
+//! The search for the script that ranks first: in the order of the ranks, at the script places alone.
 ghost use Rattle.std.specs.Prelude.{◌≡◌, IfOk, IfSome, IfNone};
 ghost use Rattle.resource_tree.specs.Content.{IsGood};
 ghost use Rattle.type_chain.specs.Chain.{chain_of};
 ghost use Rattle.script_rank.specs.Ranking.{HasNoCandidate, IsFirstScript};
 ghost use Rattle.script_rank.specs.Search.{search_result};
-ghost use Rattle.script_rank.specs.SiteSearch.{at_site, at_sites, site_search};
+ghost use Rattle.script_rank.specs.ScriptPlaceSearch.{at_script_place, at_script_places, script_place_search};
 
 use crate::Naming;
 use crate::naming::namings;
@@ -13,7 +13,7 @@ use crate::spelling::spell;
 use resource_tree::Tree;
 use sp_base::{Mem, Path, PropList};
 use std::alloc::Global;
-use type_chain::{Site, TypeList, chain_with_sites, type_sites};
+use type_chain::{ScriptPlace, TypeList, chain_with_script_places, type_script_places};
 use url_split::Parts;
 
 /// The script that renders a resource with this chain of types: of the candidates the one that ranks first. It names more of the
@@ -29,8 +29,8 @@ pub fn first_script(
     ensures none { IfOk result (λ o. IfNone o (HasNoCandidate tree.now chain.now parts.now)) }
     ensures value { IfOk result (λ o. o ≡ search_result tree.now chain.now parts.now) }
 {
-    let sites = type_sites(alloc, tree, chain)?;
-    site_search(alloc, tree, sites.as_slice(), parts)
+    let script_places = type_script_places(alloc, tree, chain)?;
+    script_place_search(alloc, tree, script_places.as_slice(), parts)
 }
 
 /// The script that renders a resource with these properties. Each place of each type of its chain is looked up once, for the chain and
@@ -40,67 +40,79 @@ pub fn script_of(alloc: Global, tree: &Tree, props: &PropList, parts: &Parts) ->
     ensures none { IfOk result (λ o. IfNone o (HasNoCandidate tree.now (chain_of tree.now props.now) parts.now)) }
     ensures value { IfOk result (λ o. o ≡ search_result tree.now (chain_of tree.now props.now) parts.now) }
 {
-    let chain = chain_with_sites(alloc, tree, props)?;
-    site_search(alloc, tree, chain.sites.as_slice(), parts)
+    let chain = chain_with_script_places(alloc, tree, props)?;
+    script_place_search(alloc, tree, chain.script_places.as_slice(), parts)
 }
 
-// The first script in the order of the namings and the sites.
-fn site_search(alloc: Global, tree: &Tree, sites: &[Site], parts: &Parts) -> Mem<Option<Path>>
-    ensures value { IfOk result (λ o. o ≡ site_search tree.now sites.now parts.now) }
+// The first script in the order of the namings and the script places.
+fn script_place_search(
+    alloc: Global,
+    tree: &Tree,
+    script_places: &[ScriptPlace],
+    parts: &Parts,
+) -> Mem<Option<Path>>
+    ensures value { IfOk result (λ o. o ≡ script_place_search tree.now script_places.now parts.now) }
     ensures good { IsGood tree.now }
 {
     // What holds of each tree lets a place be passed: each node's parent is there, and knows its kids.
     let _ = tree.len();
-    if sites.is_empty() {
+    if script_places.is_empty() {
         return Ok(None);
     }
     let namings = namings(alloc, parts)?;
     let mut text = String::new(alloc);
     for naming in &namings {
-        if let Some(path) = at_sites(alloc, tree, parts, sites, *naming, &mut text)? {
+        if let Some(path) = at_script_places(
+            alloc,
+            tree,
+            parts,
+            script_places,
+            *naming,
+            &mut text,
+        )? {
             return Ok(Some(path));
         }
     }
     Ok(None)
 }
 
-#[tactic(auto, unfolding(crate::specs::SiteSearch::at_sites))]
-fn at_sites(
+#[tactic(auto, unfolding(crate::specs::ScriptPlaceSearch::at_script_places))]
+fn at_script_places(
     alloc: Global,
     tree: &Tree,
     parts: &Parts,
-    sites: &[Site],
+    script_places: &[ScriptPlace],
     naming: Naming,
     text: &mut String,
 ) -> Mem<Option<Path>>
-    ensures { IfOk result (λ o. o ≡ at_sites tree.now parts.now sites.now naming) }
+    ensures { IfOk result (λ o. o ≡ at_script_places tree.now parts.now script_places.now naming) }
 {
-    for site in sites {
-        if let Some(path) = at_site(alloc, tree, parts, naming, site, text)? {
+    for script_place in script_places {
+        if let Some(path) = at_script_place(alloc, tree, parts, naming, script_place, text)? {
             return Ok(Some(path));
         }
     }
     Ok(None)
 }
 
-// The script of this naming at a site. Its name is spelled in the text.
-#[tactic(auto, unfolding(crate::specs::SiteSearch::at_site))]
-fn at_site(
+// The script of this naming at a script place. Its name is spelled in the text.
+#[tactic(auto, unfolding(crate::specs::ScriptPlaceSearch::at_script_place))]
+fn at_script_place(
     alloc: Global,
     tree: &Tree,
     parts: &Parts,
     naming: Naming,
-    site: &Site,
+    script_place: &ScriptPlace,
     text: &mut String,
 ) -> Mem<Option<Path>>
-    ensures { IfOk result (λ o. o ≡ at_site tree.now parts.now naming site.now) }
+    ensures { IfOk result (λ o. o ≡ at_script_place tree.now parts.now naming script_place.now) }
 {
-    spell(text, parts, site.label.text(), naming, ".")?;
-    let found = script_below(alloc, tree, &site.place, text.as_str())?;
+    spell(text, parts, script_place.label.text(), naming, ".")?;
+    let found = script_below(alloc, tree, &script_place.place, text.as_str())?;
     match naming {
         Naming::SelectorsAndExtension(_) if found.is_none() => {
-            spell(text, parts, site.label.text(), naming, "/")?;
-            script_below(alloc, tree, &site.place, text.as_str())
+            spell(text, parts, script_place.label.text(), naming, "/")?;
+            script_below(alloc, tree, &script_place.place, text.as_str())
         }
         _ => Ok(found),
     }

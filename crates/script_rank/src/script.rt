@@ -3,14 +3,14 @@ ghost use Rattle.std.specs.Prelude.{◌≡◌, ◌==◌, true, false, codes, dro
 ghost use Rattle.sp_base.specs.Paths.{child_of};
 ghost use Rattle.script_rank.specs.Ranking.{is_script, script_text};
 ghost use Rattle.script_rank.specs.Search.{script_in};
-ghost use Rattle.script_rank.specs.SiteSearch.{script_below};
+ghost use Rattle.script_rank.specs.ScriptPlaceSearch.{script_below};
 
 use resource_tree::Tree;
 use sp_base::{Mem, NoMemory, Path, PathFault, TextBuf};
 use std::alloc::Global;
 
 /// The script below a place by a text of a slash and a name. No script lies below the root itself.
-#[tactic(auto, unfolding(crate::specs::SiteSearch::script_below))]
+#[tactic(auto, unfolding(crate::specs::ScriptPlaceSearch::script_below))]
 pub(crate) fn script_below(
     alloc: Global,
     tree: &Tree,

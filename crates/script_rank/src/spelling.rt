@@ -1,6 +1,6 @@
 //! How the names of scripts are spelled.
 ghost use Rattle.std.specs.Prelude.{◌≡◌, OnOk, ◌++◌, ◌∷◌, codes, flat_map, string_bytes, take};
-ghost use Rattle.script_rank.specs.SiteSearch.{spelling_with};
+ghost use Rattle.script_rank.specs.ScriptPlaceSearch.{spelling_with};
 
 use crate::Naming;
 use sp_base::{Mem, TextBuf};

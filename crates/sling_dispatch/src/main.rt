@@ -8,7 +8,7 @@ mod faults;
 mod laws;
 mod play;
 mod program;
-mod site;
+mod renderer;
 mod steps;
 mod streams;
 

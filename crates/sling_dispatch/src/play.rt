@@ -9,7 +9,7 @@ ghost use Rattle.sling_dispatch.specs.Endings.{told_of};
 ghost use Rattle.sling_dispatch.specs.InnerEndings.{AreActLines, TellsText, ending_by, PlaysAll};
 
 use crate::ending::Ending;
-use crate::site::SiteRenderer;
+use crate::renderer::PublisherRenderer;
 use crate::steps::{asked_host, step_of};
 use crate::streams::write_all;
 use any_config::Farm;
@@ -60,7 +60,7 @@ pub fn play<K: Sink>(
     let Ok(host) = asked_host(alloc, &farm) else {
         return Ending::NoMemory;
     };
-    let mut front = Front::new(alloc, SiteRenderer { publisher }, farm);
+    let mut front = Front::new(alloc, PublisherRenderer { publisher }, farm);
     let mut gathered = Vec::new(alloc);
     let mut event = 0;
     let mut rest = acts;
@@ -109,7 +109,7 @@ fn keep(gathered: &mut Vec<u8>, text: &[u8]) -> bool
 // The lines of the next event, that of the act whose line stands first, and the lines after that one.
 fn event_of<'a>(
     alloc: Global,
-    front: &mut Front<SiteRenderer>,
+    front: &mut Front<PublisherRenderer>,
     host: &[u8],
     event: u64,
     lines: &'a [u8],

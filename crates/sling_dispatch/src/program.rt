@@ -2,7 +2,7 @@
 ghost use Rattle.std.specs.Prelude.{◌≡◌, ◌≢◌, ◌↔◌, ◌++◌, ◌∷◌, ◌+◌, [], ℕ, List, Ok, Err, false, map, codes, IsTrue, IfOk, IfErr, OnErr};
 ghost use Rattle.sling_dispatch.specs.declared.ending.Ending.{Ending};
 ghost use Rattle.replay_text.specs.Scenario.{ReadsScenario, IsScenario, most};
-ghost use Rattle.replay_text.specs.Reading.{RefusesWithin};
+ghost use Rattle.replay_text.specs.Languages.{RefusesWithin};
 ghost use Rattle.sling_dispatch.specs.Streams.{HasTaken};
 ghost use Rattle.sling_dispatch.specs.Endings.{Means, IsDue, IsReplay, IsUntouched, told_of, ending_status};
 ghost use Rattle.sling_dispatch.specs.InnerEndings.{AreActLines, IsDueAt, IsDueIn, IsContentOr, IsFarmOr, PlaysOn, TellsText};

@@ -8,7 +8,7 @@ use Rattle.std.proofs.Math.Seq.{drop-length}
 use Rattle.std.proofs.lemmas.Bool.{cases_Bool, false_from_ne_true, leb-true, le-leb}
 use Rattle.std.proofs.lemmas.List.{append-nil, append_assoc, drop_more}
 use Rattle.resource_tree.specs.Kids.{other_kids}
-use Rattle.tree_draft.specs.Falls.{FallRows, FellWithin, fall_of, standing, stands}
+use Rattle.tree_draft.specs.Falls.{NameFalls, FellWithin, fall_of, standing_names, stands}
 
 -- ---- look-ups
 
@@ -41,97 +41,97 @@ gone true name k xs same = rw same refl
 gone false name k xs same = refl
 
 -- a name that falls away when the list was no longer than this
-pub standing-fallen : (old new : FallRows) (name : List ℕ) (count place : ℕ) (names : List (List ℕ)) → ((t : List ℕ) → fall_of new t ≡ cond (bytes_eq name t) count (fall_of old t)) → place + length names ≤ count
-    → standing new place names ≡ other_kids name (standing old place names)
-unfolding standing
-standing-fallen old new name count place [] is within = refl
-standing-fallen old new name count place (k ∷ names) is within =
-    let rest : standing new (place + 1) names ≡ other_kids name (standing old (place + 1) names) = standing-fallen old new name count (place + 1) names is (omega (arith, within)) in
+pub standing_names-fallen : (old new : NameFalls) (name : List ℕ) (count place : ℕ) (names : List (List ℕ)) → ((t : List ℕ) → fall_of new t ≡ cond (bytes_eq name t) count (fall_of old t)) → place + length names ≤ count
+    → standing_names new place names ≡ other_kids name (standing_names old place names)
+unfolding standing_names
+standing_names-fallen old new name count place [] is within = refl
+standing_names-fallen old new name count place (k ∷ names) is within =
+    let rest : standing_names new (place + 1) names ≡ other_kids name (standing_names old (place + 1) names) = standing_names-fallen old new name count (place + 1) names is (omega (arith, within)) in
     ⊎_elim
     (λ (same : bytes_eq name k ≡ true).
     let fall : fall_of new k ≡ count = is k ∙ ap (λ b. cond b count (fall_of old k)) same in
     let falls : stands new place k ≡ false = false_from_ne_true _ (λ e. let low : fall_of new k ≤ place = leb-true (fall_of new k) place e in absurd (omega (arith, low, fall, within))) in
-    ap (λ b. cond b (k ∷ standing new (place + 1) names) (standing new (place + 1) names)) falls ∙ rest ∙ sym (gone (stands old place k) name k (standing old (place + 1) names) same))
+    ap (λ b. cond b (k ∷ standing_names new (place + 1) names) (standing_names new (place + 1) names)) falls ∙ rest ∙ sym (gone (stands old place k) name k (standing_names old (place + 1) names) same))
     (λ (apart : bytes_eq name k ≡ false).
     let fall : fall_of new k ≡ fall_of old k = is k ∙ ap (λ b. cond b count (fall_of old k)) apart in
-    ap (λ n. cond (nat_le n place) (k ∷ standing new (place + 1) names) (standing new (place + 1) names)) fall
-    ∙ kept (stands old place k) name k (standing old (place + 1) names) (standing new (place + 1) names) apart rest)
+    ap (λ n. cond (nat_le n place) (k ∷ standing_names new (place + 1) names) (standing_names new (place + 1) names)) fall
+    ∙ kept (stands old place k) name k (standing_names old (place + 1) names) (standing_names new (place + 1) names) apart rest)
     (cases_Bool (bytes_eq name k))
 
 -- a name that comes at the end
-pub standing-more : (falls : FallRows) (place : ℕ) (names : List (List ℕ)) (name : List ℕ) → fall_of falls name ≤ place + length names → standing falls place (names ++ name ∷ []) ≡ standing falls place names ++ name ∷ []
-unfolding standing
-standing-more falls place [] name within =
+pub standing_names-more : (falls : NameFalls) (place : ℕ) (names : List (List ℕ)) (name : List ℕ) → fall_of falls name ≤ place + length names → standing_names falls place (names ++ name ∷ []) ≡ standing_names falls place names ++ name ∷ []
+unfolding standing_names
+standing_names-more falls place [] name within =
     let here : stands falls place name ≡ true = le-leb (fall_of falls name) place (omega (arith, within)) in
     rw here refl
-standing-more falls place (k ∷ names) name within =
-    let rest : standing falls (place + 1) (names ++ name ∷ []) ≡ standing falls (place + 1) names ++ name ∷ [] = standing-more falls (place + 1) names name (omega (arith, within)) in
-    ap (λ l. cond (stands falls place k) (k ∷ l) l) rest ∙ over_cond (stands falls place k) k (standing falls (place + 1) names) (name ∷ [])
+standing_names-more falls place (k ∷ names) name within =
+    let rest : standing_names falls (place + 1) (names ++ name ∷ []) ≡ standing_names falls (place + 1) names ++ name ∷ [] = standing_names-more falls (place + 1) names name (omega (arith, within)) in
+    ap (λ l. cond (stands falls place k) (k ∷ l) l) rest ∙ over_cond (stands falls place k) k (standing_names falls (place + 1) names) (name ∷ [])
   where
     over_cond : (b : Bool) (k : List ℕ) (xs ys : List (List ℕ)) → cond b (k ∷ (xs ++ ys)) (xs ++ ys) ≡ cond b (k ∷ xs) xs ++ ys
     over_cond true k xs ys = refl
     over_cond false k xs ys = refl
 
-standing-nil : (place : ℕ) (names : List (List ℕ)) → standing [] place names ≡ names
-unfolding standing
-standing-nil place [] = refl
-standing-nil place (k ∷ names) =
+standing_names-nil : (place : ℕ) (names : List (List ℕ)) → standing_names [] place names ≡ names
+unfolding standing_names
+standing_names-nil place [] = refl
+standing_names-nil place (k ∷ names) =
     let here : stands [] place k ≡ true = le-leb 0 place (omega arith) in
-    ap (λ b. cond b (k ∷ standing [] (place + 1) names) (standing [] (place + 1) names)) here ∙ ap (λ l. k ∷ l) (standing-nil (place + 1) names)
+    ap (λ b. cond b (k ∷ standing_names [] (place + 1) names) (standing_names [] (place + 1) names)) here ∙ ap (λ l. k ∷ l) (standing_names-nil (place + 1) names)
 
 -- without a fall each name stands
-pub standing-none : (falls : FallRows) (place : ℕ) (names : List (List ℕ)) → falls ≡ [] → standing falls place names ≡ names
-standing-none falls place names none = ap (λ (f : FallRows). standing f place names) none ∙ standing-nil place names
+pub standing_names-none : (falls : NameFalls) (place : ℕ) (names : List (List ℕ)) → falls ≡ [] → standing_names falls place names ≡ names
+standing_names-none falls place names none = ap (λ (f : NameFalls). standing_names f place names) none ∙ standing_names-nil place names
 
 -- one more fall within a list
-pub within-fallen : (old new : FallRows) (name : List ℕ) (n count : ℕ) → FellWithin count old → n ≡ count → ((t : List ℕ) → fall_of new t ≡ cond (bytes_eq name t) n (fall_of old t)) → FellWithin count new
+pub within-fallen : (old new : NameFalls) (name : List ℕ) (n count : ℕ) → FellWithin count old → n ≡ count → ((t : List ℕ) → fall_of new t ≡ cond (bytes_eq name t) n (fall_of old t)) → FellWithin count new
 within-fallen old new name n count within all is t = ⊎_elim
     (λ (same : bytes_eq name t ≡ true). let fall : fall_of new t ≡ n = is t ∙ ap (λ b. cond b n (fall_of old t)) same in omega (arith, fall, all))
     (λ (apart : bytes_eq name t ≡ false). let fall : fall_of new t ≡ fall_of old t = is t ∙ ap (λ b. cond b n (fall_of old t)) apart in let low = within t in omega (arith, fall, low))
     (cases_Bool (bytes_eq name t))
 
 -- a longer list
-pub within-more : (falls : FallRows) (count more : ℕ) → FellWithin count falls → count ≤ more → FellWithin more falls
+pub within-more : (falls : NameFalls) (count more : ℕ) → FellWithin count falls → count ≤ more → FellWithin more falls
 within-more falls count more within grown t = let low = within t in omega (arith, low, grown)
 
 -- no fall
-pub within-none : (falls : FallRows) (count : ℕ) → falls ≡ [] → FellWithin count falls
-within-none falls count none t = let fall : fall_of falls t ≡ 0 = ap (λ (f : FallRows). fall_of f t) none in omega (arith, fall)
+pub within-none : (falls : NameFalls) (count : ℕ) → falls ≡ [] → FellWithin count falls
+within-none falls count none t = let fall : fall_of falls t ≡ 0 = ap (λ (f : NameFalls). fall_of f t) none in omega (arith, fall)
 
 -- ---- a walk over a list that gathers the names that stand
 
 -- after one that stands
-stood : (falls : FallRows) (names : List (List ℕ)) (place : ℕ) (name : List ℕ) (so_far : List (List ℕ)) → place < length names → name ≡ get_or names place name → stands falls place name ≡ true
-    → so_far ++ standing falls place (drop place names) ≡ standing falls 0 names → (so_far ++ name ∷ []) ++ standing falls (place + 1) (drop (place + 1) names) ≡ standing falls 0 names
-unfolding standing
+stood : (falls : NameFalls) (names : List (List ℕ)) (place : ℕ) (name : List ℕ) (so_far : List (List ℕ)) → place < length names → name ≡ get_or names place name → stands falls place name ≡ true
+    → so_far ++ standing_names falls place (drop place names) ≡ standing_names falls 0 names → (so_far ++ name ∷ []) ++ standing_names falls (place + 1) (drop (place + 1) names) ≡ standing_names falls 0 names
+unfolding standing_names
 stood falls names place name so_far within item is all =
     let left : drop place names ≡ name ∷ drop (place + 1) names = drop_more names place name within ∙ ap (λ n. n ∷ drop (place + 1) names) (sym item) in
-    append_assoc so_far (name ∷ []) (standing falls (place + 1) (drop (place + 1) names))
-    ∙ ap (λ b. so_far ++ cond b (name ∷ standing falls (place + 1) (drop (place + 1) names)) (standing falls (place + 1) (drop (place + 1) names))) (sym is)
-    ∙ ap (λ l. so_far ++ standing falls place l) (sym left)
+    append_assoc so_far (name ∷ []) (standing_names falls (place + 1) (drop (place + 1) names))
+    ∙ ap (λ b. so_far ++ cond b (name ∷ standing_names falls (place + 1) (drop (place + 1) names)) (standing_names falls (place + 1) (drop (place + 1) names))) (sym is)
+    ∙ ap (λ l. so_far ++ standing_names falls place l) (sym left)
     ∙ all
 
 -- after one that fell away
-passed : (falls : FallRows) (names : List (List ℕ)) (place : ℕ) (name : List ℕ) (so_far : List (List ℕ)) → place < length names → name ≡ get_or names place name → stands falls place name ≡ false
-    → so_far ++ standing falls place (drop place names) ≡ standing falls 0 names → so_far ++ standing falls (place + 1) (drop (place + 1) names) ≡ standing falls 0 names
-unfolding standing
+passed : (falls : NameFalls) (names : List (List ℕ)) (place : ℕ) (name : List ℕ) (so_far : List (List ℕ)) → place < length names → name ≡ get_or names place name → stands falls place name ≡ false
+    → so_far ++ standing_names falls place (drop place names) ≡ standing_names falls 0 names → so_far ++ standing_names falls (place + 1) (drop (place + 1) names) ≡ standing_names falls 0 names
+unfolding standing_names
 passed falls names place name so_far within item is all =
     let left : drop place names ≡ name ∷ drop (place + 1) names = drop_more names place name within ∙ ap (λ n. n ∷ drop (place + 1) names) (sym item) in
-    ap (λ b. so_far ++ cond b (name ∷ standing falls (place + 1) (drop (place + 1) names)) (standing falls (place + 1) (drop (place + 1) names))) (sym is)
-    ∙ ap (λ l. so_far ++ standing falls place l) (sym left)
+    ap (λ b. so_far ++ cond b (name ∷ standing_names falls (place + 1) (drop (place + 1) names)) (standing_names falls (place + 1) (drop (place + 1) names))) (sym is)
+    ∙ ap (λ l. so_far ++ standing_names falls place l) (sym left)
     ∙ all
 
 -- after one more
-pub walked : (falls : FallRows) (names : List (List ℕ)) (place : ℕ) (name : List ℕ) (so_far more : List (List ℕ)) → place < length names → name ≡ get_or names place name
-    → more ≡ cond (stands falls place name) (so_far ++ name ∷ []) so_far → so_far ++ standing falls place (drop place names) ≡ standing falls 0 names → more ++ standing falls (place + 1) (drop (place + 1) names) ≡ standing falls 0 names
+pub walked : (falls : NameFalls) (names : List (List ℕ)) (place : ℕ) (name : List ℕ) (so_far more : List (List ℕ)) → place < length names → name ≡ get_or names place name
+    → more ≡ cond (stands falls place name) (so_far ++ name ∷ []) so_far → so_far ++ standing_names falls place (drop place names) ≡ standing_names falls 0 names → more ++ standing_names falls (place + 1) (drop (place + 1) names) ≡ standing_names falls 0 names
 walked falls names place name so_far more within item is all = ⊎_elim
-    (λ (yes : stands falls place name ≡ true). ap (λ l. l ++ standing falls (place + 1) (drop (place + 1) names)) (is ∙ ap (λ b. cond b (so_far ++ name ∷ []) so_far) yes) ∙ stood falls names place name so_far within item yes all)
-    (λ (no : stands falls place name ≡ false). ap (λ l. l ++ standing falls (place + 1) (drop (place + 1) names)) (is ∙ ap (λ b. cond b (so_far ++ name ∷ []) so_far) no) ∙ passed falls names place name so_far within item no all)
+    (λ (yes : stands falls place name ≡ true). ap (λ l. l ++ standing_names falls (place + 1) (drop (place + 1) names)) (is ∙ ap (λ b. cond b (so_far ++ name ∷ []) so_far) yes) ∙ stood falls names place name so_far within item yes all)
+    (λ (no : stands falls place name ≡ false). ap (λ l. l ++ standing_names falls (place + 1) (drop (place + 1) names)) (is ∙ ap (λ b. cond b (so_far ++ name ∷ []) so_far) no) ∙ passed falls names place name so_far within item no all)
     (cases_Bool (stands falls place name))
 
 -- at the end
-pub all_stand : (falls : FallRows) (names : List (List ℕ)) (place : ℕ) (so_far : List (List ℕ)) → place ≡ length names → so_far ++ standing falls place (drop place names) ≡ standing falls 0 names → so_far ≡ standing falls 0 names
-unfolding standing
+pub all_stand : (falls : NameFalls) (names : List (List ℕ)) (place : ℕ) (so_far : List (List ℕ)) → place ≡ length names → so_far ++ standing_names falls place (drop place names) ≡ standing_names falls 0 names → so_far ≡ standing_names falls 0 names
+unfolding standing_names
 all_stand falls names place so_far at_end all =
     let none : drop place names ≡ [] = ap (λ n. drop n names) at_end ∙ drop-length names in
-    sym (append-nil so_far) ∙ ap (λ l. so_far ++ standing falls place l) (sym none) ∙ all
+    sym (append-nil so_far) ∙ ap (λ l. so_far ++ standing_names falls place l) (sym none) ∙ all

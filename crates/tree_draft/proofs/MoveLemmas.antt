@@ -9,7 +9,7 @@ use Rattle.sp_base.specs.Paths.{is_path, is_under}
 use Rattle.resource_tree.specs.declared.nodes.Node.{Node}
 use Rattle.resource_tree.specs.Content.{Content, by_path, same_path, node_at, parent_of, name_of}
 use Rattle.resource_tree.specs.Changes.{change_at, fixed_fault, removal, with_kid, without_kid}
-use Rattle.resource_tree.specs.Patches.{Rows, row_at, patching, left_by}
+use Rattle.resource_tree.specs.Patches.{PatchEntries, entry_at, patching, left_by}
 use Rattle.resource_tree.specs.Moves.{ends_fault, is_too_deep, part_there, path_there}
 use Rattle.resource_tree.proofs.PathLemmas.{kid_parts}
 use Rattle.resource_tree.proofs.Under.{under_kid}
@@ -21,12 +21,12 @@ use Rattle.resource_tree.proofs.Copied.{sorted-change_at}
 use Rattle.resource_tree.proofs.Relocated.{MayGo}
 use Rattle.tree_draft.proofs.DraftLemmas.{IsOrdered, same_content}
 
--- rows in another order are the same patch, where each path has one
-pub patching-alike : (tree : Content) (rows others : Rows) → IsOrdered tree → IsDistinct (eq_by_cmp by_path) (keys_of rows) → IsDistinct (eq_by_cmp by_path) (keys_of others) → ((q : List (List ℕ)) → row_at rows q ≡ row_at others q)
-    → patching tree rows ≡ patching tree others
-patching-alike tree rows others sorted once once_too alike =
-    same_content _ _ (sorted-patching tree rows sorted) (sorted-patching tree others sorted) (λ q.
-    node_at-patching tree rows q sorted once
+-- entries in another order are the same patch, where each path has one
+pub patching-alike : (tree : Content) (entries others : PatchEntries) → IsOrdered tree → IsDistinct (eq_by_cmp by_path) (keys_of entries) → IsDistinct (eq_by_cmp by_path) (keys_of others) → ((q : List (List ℕ)) → entry_at entries q ≡ entry_at others q)
+    → patching tree entries ≡ patching tree others
+patching-alike tree entries others sorted once once_too alike =
+    same_content _ _ (sorted-patching tree entries sorted) (sorted-patching tree others sorted) (λ q.
+    node_at-patching tree entries q sorted once
     ∙ ap (λ r. left_by r (node_at tree q)) (alike q)
     ∙ sym (node_at-patching tree others q sorted once_too))
 
@@ -37,13 +37,13 @@ deep_from tree source target paths listed deep all same is =
     sym (any_same source (λ p. not (is_path (path_there source target p))) tree paths all) ∙ ap (list_any (λ p. not (is_path (path_there source target p)))) (sym same) ∙ is
 
 -- the target's name among the kids of its parent, and the part over that, as the code makes them
-pub hung : (tree from new : Content) (source target parent : List (List ℕ)) (rows : Rows) → IsOrdered tree → IsOrdered from → IsDistinct (eq_by_cmp by_path) (keys_of rows)
-    → ((q : List (List ℕ)) → row_at rows q ≡ row_at (part_there tree source target) q) → parent ≡ parent_of target → new ≡ patching (change_at from parent (with_kid (name_of target))) rows
+pub hung : (tree from new : Content) (source target parent : List (List ℕ)) (entries : PatchEntries) → IsOrdered tree → IsOrdered from → IsDistinct (eq_by_cmp by_path) (keys_of entries)
+    → ((q : List (List ℕ)) → entry_at entries q ≡ entry_at (part_there tree source target) q) → parent ≡ parent_of target → new ≡ patching (change_at from parent (with_kid (name_of target))) entries
     → new ≡ patching (change_at from (parent_of target) (with_kid (name_of target))) (part_there tree source target)
-hung tree from new source target parent rows sorted sorted_from once alike above new_is =
+hung tree from new source target parent entries sorted sorted_from once alike above new_is =
     new_is
-    ∙ ap (λ p. patching (change_at from p (with_kid (name_of target))) rows) above
-    ∙ patching-alike (change_at from (parent_of target) (with_kid (name_of target))) rows (part_there tree source target) (sorted-change_at from (parent_of target) (with_kid (name_of target)) sorted_from) once (once_there source target tree sorted) alike
+    ∙ ap (λ p. patching (change_at from p (with_kid (name_of target))) entries) above
+    ∙ patching-alike (change_at from (parent_of target) (with_kid (name_of target))) entries (part_there tree source target) (sorted-change_at from (parent_of target) (with_kid (name_of target)) sorted_from) once (once_there source target tree sorted) alike
 
 -- a node that may go to another path may be taken from its place
 pub fixed_not : (tree : Content) (source target : List (List ℕ)) → ends_fault tree source target ≡ None → fixed_fault tree source ≡ None

@@ -1,4 +1,5 @@
 pub mod Drafts
+pub mod Edits
 pub mod Falls
 pub mod Held
 pub mod Shown

@@ -7,16 +7,16 @@ ghost use Rattle.std.specs.Ordering.{eq_by_cmp};
 ghost use Rattle.sp_base.specs.Paths.{is_path, is_under, path_or_none};
 ghost use Rattle.resource_tree.specs.Content.{by_path, name_of, node_at, same_path, parent_of};
 ghost use Rattle.resource_tree.specs.Changes.{change_at, with_kid};
-ghost use Rattle.resource_tree.specs.Patches.{patching, row_at};
+ghost use Rattle.resource_tree.specs.Patches.{patching, entry_at};
 ghost use Rattle.resource_tree.specs.Moves.{copy, copy_fault, part_there, path_there, target_fault};
 ghost use Rattle.tree_draft.specs.Drafts.{DraftFollows, IsCounted, IsSound};
 
 use crate::Draft;
-use crate::create::{MOST_NODES, last_segment};
-use crate::held::Row;
+use crate::create::last_segment;
+use crate::held::HeldEntry;
 use crate::part::paths_under;
 use indexmap::IndexMap;
-use resource_tree::TreeFault;
+use resource_tree::{MOST_NODES, TreeFault};
 use sp_base::{Mem, Path};
 use std::alloc::Global;
 use std::hash::RandomState;
@@ -34,6 +34,7 @@ impl<'a> Draft<'a> {
     {
         let parent = target.parent(alloc)?;
         self.check_target(alloc, source, target, &parent)?;
+        // `depth` says that the target's segments are those of a path, as what is put below it asks.
         let _segments = target.depth();
         let paths = paths_under(self, alloc, source)?;
         let part = part_there(self, alloc, source, target, &paths)?;
@@ -50,7 +51,7 @@ impl<'a> Draft<'a> {
         alloc: Global,
         parent: &Path,
         target: &Path,
-        part: IndexMap<Path, Row, RandomState>,
+        part: IndexMap<Path, HeldEntry, RandomState>,
     ) -> Mem<()>
         requires { is_some (node_at self.old.content parent.now) ≡ true }
         ensures content { OnOk result (self.new.content ≡ patching (change_at self.old.content parent.now (with_kid (name_of target.now))) part.entries) }
@@ -96,16 +97,16 @@ impl<'a> Draft<'a> {
         Ok(())
     }
 
-    // Sets what is to stand at the paths of some rows.
-    pub(crate) fn put_all(&mut self, rows: IndexMap<Path, Row, RandomState>) -> Mem<()>
+    // Sets what is to stand at the paths of some entries.
+    pub(crate) fn put_all(&mut self, entries: IndexMap<Path, HeldEntry, RandomState>) -> Mem<()>
         requires { IsStrictlySortedBy by_path (keys_of self.old.content) }
-        ensures content { OnOk result (self.new.content ≡ patching self.old.content rows.entries) }
+        ensures content { OnOk result (self.new.content ≡ patching self.old.content entries.entries) }
         ensures counted { OnOk result (IsCounted self.old → IsCounted self.new) }
         ensures tree { OnOk result (self.new.tree ≡ self.old.tree) }
         ensures ordered { OnOk result (IsStrictlySortedBy by_path (keys_of self.new.content)) }
     {
-        for (path, row) in rows {
-            self.put(path, row)?;
+        for (path, entry) in entries {
+            self.put(path, entry)?;
         }
         Ok(())
     }
@@ -136,10 +137,10 @@ pub(crate) fn part_there(
     source: &Path,
     target: &Path,
     paths: &[Path],
-) -> Result<IndexMap<Path, Row, RandomState>, TreeFault>
+) -> Result<IndexMap<Path, HeldEntry, RandomState>, TreeFault>
     requires target { IsTrue (is_path target.now) }
     requires all { (q : List (List ℕ)) → list_any (same_path q) paths.now ≡ (is_some (node_at draft.now.content q) && is_under q source.now) }
-    ensures ok { IfOk result (λ part. (q : List (List ℕ)) → row_at part.entries q ≡ row_at (part_there draft.now.content source.now target.now) q) }
+    ensures ok { IfOk result (λ part. (q : List (List ℕ)) → entry_at part.entries q ≡ entry_at (part_there draft.now.content source.now target.now) q) }
     ensures once { IfOk result (λ part. IsDistinct (eq_by_cmp by_path) (keys_of part.entries)) }
     ensures fits { OnOk result (list_any (λ p. not (is_path (path_there source.now target.now p))) paths.now ≡ false) }
     ensures err { IfErr result (λ e. e ≢ TreeFault.NoMemory → (e ≡ TreeFault.TooDeep) × (list_any (λ p. not (is_path (path_there source.now target.now p))) paths.now ≡ true)) }
@@ -153,7 +154,7 @@ pub(crate) fn part_there(
             continue;
         };
         let node = node.duplicate(alloc)?;
-        part.insert(there, Row::of(alloc, draft.tree.seeds(), node))?;
+        part.insert(there, HeldEntry::of(alloc, draft.tree.seeds(), node))?;
     }
     Ok(part)
 }

@@ -11,13 +11,10 @@ ghost use Rattle.tree_draft.specs.Drafts.{DraftFollows, IsCounted, IsSound};
 
 use crate::Draft;
 use crate::edit::Edit;
-use crate::held::Row;
-use resource_tree::TreeFault;
+use crate::held::HeldEntry;
+use resource_tree::{MOST_NODES, TreeFault};
 use sp_base::{Mem, NoMemory, Path, TextBuf};
 use std::alloc::Global;
-
-/// The most nodes of a tree.
-pub(crate) const MOST_NODES: usize = 200_000;
 
 // The last segment of a path, which the root has not.
 pub(crate) fn last_segment(path: &Path) -> Option<&str>
@@ -52,7 +49,7 @@ impl<'a> Draft<'a> {
     {
         let seeds = self.tree.seeds();
         let place = path.duplicate(alloc)?;
-        self.put(place, Row::fresh(alloc, seeds))
+        self.put(place, HeldEntry::fresh(alloc, seeds))
     }
 
     // Names the node at a path last among the kids of its parent.

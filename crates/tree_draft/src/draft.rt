@@ -8,11 +8,12 @@ ghost use Rattle.resource_tree.specs.Content.{IsGood, by_path, node_at, same_pat
 ghost use Rattle.resource_tree.specs.Changes.{change_at, with_kids};
 ghost use Rattle.resource_tree.specs.declared.patch.PatchNode.TheVariants as there;
 ghost use Rattle.resource_tree.specs.Patches.{left_by, over, patching};
-ghost use Rattle.tree_draft.specs.Drafts.{IsCounted, IsSound, one_if, is_node, edited};
+ghost use Rattle.tree_draft.specs.Drafts.{IsCounted, IsSound};
+ghost use Rattle.tree_draft.specs.Edits.{one_if, is_node, edited_node};
 
 use crate::DraftNode;
 use crate::edit::Edit;
-use crate::held::{HeldNode, Row};
+use crate::held::{HeldEntry, HeldNode};
 use indexmap::IndexMap;
 use resource_tree::{Node, Tree};
 use sp_base::{Mem, NoMemory, Path, PropList, TextList};
@@ -24,17 +25,17 @@ use std::marker::Model;
 #[derive(Drop)]
 pub struct Draft<'a> {
     pub(crate) tree: &'a Tree,
-    pub(crate) rows: IndexMap<Path, Row, RandomState>,
+    pub(crate) entries: IndexMap<Path, HeldEntry, RandomState>,
     pub(crate) count: usize,
 }
 
 impl<'a> Model for Draft<'a> {
     ghost use Rattle.resource_tree.specs.Patches.{patching};
-    ghost use Rattle.tree_draft.specs.Drafts.{Drafted};
+    ghost use Rattle.tree_draft.specs.Drafts.{DraftedContent};
 
-    ghost Value = { Drafted };
+    ghost Value = { DraftedContent };
 
-    ghost view = { λ d. record { tree = d.tree.now; content = patching d.tree.now d.rows.entries; count = d.count } };
+    ghost view = { λ d. record { tree = d.tree.now; content = patching d.tree.now d.entries.entries; count = d.count } };
 }
 
 impl<'a> Draft<'a> {
@@ -46,7 +47,7 @@ impl<'a> Draft<'a> {
     {
         Draft {
             tree,
-            rows: IndexMap::with_hasher(alloc, tree.seeds()),
+            entries: IndexMap::with_hasher(alloc, tree.seeds()),
             count: tree.len(),
         }
     }
@@ -64,23 +65,23 @@ impl<'a> Draft<'a> {
         ensures value { result ≡ node_at self.now.content path.now }
         ensures ordered { IsStrictlySortedBy by_path (keys_of self.now.content) }
     {
-        let _rows = self.rows.len();
+        let _entries = self.entries.len();
         let _nodes = self.tree.len();
-        match self.rows.get(path) {
-            Some(row) => changed(row),
-            None => kept(self.tree.node(path)),
+        match self.entries.get(path) {
+            Some(entry) => changed_node(entry),
+            None => kept_node(self.tree.node(path)),
         }
     }
 
     /// Sets what is to stand at a path.
-    pub(crate) fn put(&mut self, path: Path, row: Row) -> Mem<()>
-        ensures content { OnOk result (self.new.content ≡ over self.old.content path row) }
+    pub(crate) fn put(&mut self, path: Path, entry: HeldEntry) -> Mem<()>
+        ensures content { OnOk result (self.new.content ≡ over self.old.content path entry) }
         ensures counted { OnOk result (IsCounted self.old → IsCounted self.new) }
         ensures tree { self.new.tree ≡ self.old.tree }
         ensures ordered { OnOk result (IsStrictlySortedBy by_path (keys_of self.new.content)) }
     {
-        let count = recount(self.count, self.node(&path).is_some(), row.is_node())?;
-        self.insert(path, row)?;
+        let count = recount(self.count, self.node(&path).is_some(), entry.is_node())?;
+        self.insert(path, entry)?;
         self.count = count;
         Ok(())
     }
@@ -88,13 +89,13 @@ impl<'a> Draft<'a> {
     /// Changes the node at a path.
     pub(crate) fn change(&mut self, alloc: Global, path: &Path, edit: Edit) -> Mem<()>
         requires { is_some (node_at self.old.content path.now) ≡ true }
-        ensures content { OnOk result (self.new.content ≡ change_at self.old.content path.now (edited edit)) }
+        ensures content { OnOk result (self.new.content ≡ change_at self.old.content path.now (edited_node edit)) }
         ensures counted { OnOk result (IsCounted self.old → IsCounted self.new) }
         ensures tree { self.new.tree ≡ self.old.tree }
         ensures ordered { OnOk result (IsStrictlySortedBy by_path (keys_of self.new.content)) }
     {
-        let row = self.take_changed(alloc, path, edit)?;
-        self.insert(path.duplicate(alloc)?, row)
+        let entry = self.take_with_edit(alloc, path, edit)?;
+        self.insert(path.duplicate(alloc)?, entry)
     }
 
     /// Gives the node at a path other kids.
@@ -105,73 +106,73 @@ impl<'a> Draft<'a> {
         ensures tree { self.new.tree ≡ self.old.tree }
         ensures ordered { OnOk result (IsStrictlySortedBy by_path (keys_of self.new.content)) }
     {
-        let row = self.take_with_kids(alloc, path, kids)?;
-        self.insert(path.duplicate(alloc)?, row)
+        let entry = self.take_with_kids(alloc, path, kids)?;
+        self.insert(path.duplicate(alloc)?, entry)
     }
 
     // Takes the node at a path out, and changes it. Until it is put back nothing is said of that path.
-    fn take_changed(&mut self, alloc: Global, path: &Path, edit: Edit) -> Mem<Row>
-        ensures value { IfOk result (λ r. Some r ≡ option_map (λ n. there.Node (edited edit n)) (node_at self.old.content path.now)) }
+    fn take_with_edit(&mut self, alloc: Global, path: &Path, edit: Edit) -> Mem<HeldEntry>
+        ensures value { IfOk result (λ r. Some r ≡ option_map (λ n. there.Node (edited_node edit n)) (node_at self.old.content path.now)) }
         ensures others { (q : List (List ℕ)) → same_path path.now q ≡ false → node_at self.new.content q ≡ node_at self.old.content q }
         ensures count { self.new.count ≡ self.old.count }
         ensures tree { self.new.tree ≡ self.old.tree }
         ensures ordered { IsStrictlySortedBy by_path (keys_of self.old.content) }
     {
-        let row = self.take_row(path);
-        row_changed(alloc, self.tree.seeds(), row, self.tree.node(path), edit)
+        let entry = self.take_entry(path);
+        entry_with_edit(alloc, self.tree.seeds(), entry, self.tree.node(path), edit)
     }
 
     // Takes the node at a path out, and gives it other kids. Until it is put back nothing is said of that path.
-    fn take_with_kids(&mut self, alloc: Global, path: &Path, kids: TextList) -> Mem<Row>
+    fn take_with_kids(&mut self, alloc: Global, path: &Path, kids: TextList) -> Mem<HeldEntry>
         ensures value { IfOk result (λ r. Some r ≡ option_map (λ n. there.Node (with_kids kids n)) (node_at self.old.content path.now)) }
         ensures others { (q : List (List ℕ)) → same_path path.now q ≡ false → node_at self.new.content q ≡ node_at self.old.content q }
         ensures count { self.new.count ≡ self.old.count }
         ensures tree { self.new.tree ≡ self.old.tree }
         ensures ordered { IsStrictlySortedBy by_path (keys_of self.old.content) }
     {
-        let row = self.take_row(path);
-        row_with_kids(alloc, self.tree.seeds(), row, self.tree.node(path), kids)
+        let entry = self.take_entry(path);
+        entry_with_kids(alloc, self.tree.seeds(), entry, self.tree.node(path), kids)
     }
 
     // Takes what stands at a path out.
-    fn take_row(&mut self, path: &Path) -> Option<Row>
+    fn take_entry(&mut self, path: &Path) -> Option<HeldEntry>
         ensures value { left_by result (node_at self.old.tree path.now) ≡ node_at self.old.content path.now }
         ensures others { (q : List (List ℕ)) → same_path path.now q ≡ false → node_at self.new.content q ≡ node_at self.old.content q }
         ensures count { self.new.count ≡ self.old.count }
         ensures tree { self.new.tree ≡ self.old.tree }
         ensures ordered { IsStrictlySortedBy by_path (keys_of self.old.content) }
     {
-        let _rows = self.rows.len();
+        let _entries = self.entries.len();
         let _nodes = self.tree.len();
-        self.rows.swap_remove(path)
+        self.entries.swap_remove(path)
     }
 
     // Sets what is to stand at a path, and leaves the count.
-    fn insert(&mut self, path: Path, row: Row) -> Mem<()>
-        ensures content { OnOk result (self.new.content ≡ over self.old.content path row) }
+    fn insert(&mut self, path: Path, entry: HeldEntry) -> Mem<()>
+        ensures content { OnOk result (self.new.content ≡ over self.old.content path entry) }
         ensures count { self.new.count ≡ self.old.count }
         ensures tree { self.new.tree ≡ self.old.tree }
         ensures before { IsStrictlySortedBy by_path (keys_of self.old.content) }
         ensures ordered { OnOk result (IsStrictlySortedBy by_path (keys_of self.new.content)) }
     {
-        let _rows = self.rows.len();
+        let _entries = self.entries.len();
         let _nodes = self.tree.len();
-        self.rows.insert(path, row)?;
+        self.entries.insert(path, entry)?;
         Ok(())
     }
 }
 
-// The node that a row leaves, or else a copy of the tree's.
+// The node that an entry leaves, or else a copy of the tree's.
 fn or_copy(
     alloc: Global,
     seeds: RandomState,
-    row: Option<Row>,
+    entry: Option<HeldEntry>,
     node: Option<&Node>,
 ) -> Mem<HeldNode>
-    ensures { IfOk result (λ n. Some n ≡ left_by row (option_copied node.entry)) }
+    ensures { IfOk result (λ n. Some n ≡ left_by entry (option_copied node.entry)) }
 {
-    match row {
-        Some(row) => row.into_held().ok_or(NoMemory),
+    match entry {
+        Some(entry) => entry.into_held().ok_or(NoMemory),
         None => match node {
             Some(node) => Ok(HeldNode::of(alloc, seeds, node.duplicate(alloc)?)),
             // Only a node that is there is changed, so this is a lack of memory.
@@ -180,12 +181,12 @@ fn or_copy(
     }
 }
 
-// The properties of the node that a row leaves, or else copies of those of the tree's.
-fn or_copied_props(alloc: Global, row: Option<Row>, node: Option<&Node>) -> Mem<PropList>
-    ensures { IfOk result (λ props. Some props ≡ option_map (λ n. n.props) (left_by row (option_copied node.entry))) }
+// The properties of the node that an entry leaves, or else copies of those of the tree's.
+fn or_copied_props(alloc: Global, entry: Option<HeldEntry>, node: Option<&Node>) -> Mem<PropList>
+    ensures { IfOk result (λ props. Some props ≡ option_map (λ n. n.props) (left_by entry (option_copied node.entry))) }
 {
-    match row {
-        Some(row) => row.into_props().ok_or(NoMemory),
+    match entry {
+        Some(entry) => entry.into_props().ok_or(NoMemory),
         None => match node {
             Some(node) => node.props.duplicate(alloc),
             // Only a node that is there is changed, so this is a lack of memory.
@@ -194,55 +195,55 @@ fn or_copied_props(alloc: Global, row: Option<Row>, node: Option<&Node>) -> Mem<
     }
 }
 
-// A row with the node that another leaves, or else with the tree's, after a change.
-fn row_changed(
+// An entry with the node that another leaves, or else with the tree's, after a change.
+fn entry_with_edit(
     alloc: Global,
     seeds: RandomState,
-    row: Option<Row>,
+    entry: Option<HeldEntry>,
     node: Option<&Node>,
     edit: Edit,
-) -> Mem<Row>
-    ensures { IfOk result (λ r. Some r ≡ option_map (λ n. there.Node (edited edit n)) (left_by row (option_copied node.entry))) }
+) -> Mem<HeldEntry>
+    ensures { IfOk result (λ r. Some r ≡ option_map (λ n. there.Node (edited_node edit n)) (left_by entry (option_copied node.entry))) }
 {
-    let node = or_copy(alloc, seeds, row, node)?;
-    changed_by(alloc, node, edit)
+    let node = or_copy(alloc, seeds, entry, node)?;
+    entry_of_edited(alloc, node, edit)
 }
 
-// A row with a node after a change.
-fn changed_by(alloc: Global, node: HeldNode, edit: Edit) -> Mem<Row>
-    ensures { IfOk result (λ r. r ≡ there.Node (edited edit node)) }
+// An entry with a node after a change.
+fn entry_of_edited(alloc: Global, node: HeldNode, edit: Edit) -> Mem<HeldEntry>
+    ensures { IfOk result (λ r. r ≡ there.Node (edited_node edit node)) }
 {
     let mut node = node;
     node.edit(alloc, edit)?;
-    Ok(Row::changed(node))
+    Ok(HeldEntry::of_held(node))
 }
 
-// A row with the node that another leaves, or else with the tree's, with other kids. The kids that it had are not copied.
-fn row_with_kids(
+// An entry with the node that another leaves, or else with the tree's, with other kids. The kids that it had are not copied.
+fn entry_with_kids(
     alloc: Global,
     seeds: RandomState,
-    row: Option<Row>,
+    entry: Option<HeldEntry>,
     node: Option<&Node>,
     kids: TextList,
-) -> Mem<Row>
-    ensures { IfOk result (λ r. Some r ≡ option_map (λ n. there.Node (with_kids kids n)) (left_by row (option_copied node.entry))) }
+) -> Mem<HeldEntry>
+    ensures { IfOk result (λ r. Some r ≡ option_map (λ n. there.Node (with_kids kids n)) (left_by entry (option_copied node.entry))) }
 {
-    let props = or_copied_props(alloc, row, node)?;
-    Ok(Row::of(alloc, seeds, Node { props, kids }))
+    let props = or_copied_props(alloc, entry, node)?;
+    Ok(HeldEntry::of(alloc, seeds, Node { props, kids }))
 }
 
 // The node that a draft holds.
-fn changed(row: &Row) -> Option<DraftNode<'_>>
-    ensures { result ≡ left_by (Some row.now) None }
+fn changed_node(entry: &HeldEntry) -> Option<DraftNode<'_>>
+    ensures { result ≡ left_by (Some entry.now) None }
 {
-    match row.held() {
+    match entry.held() {
         Some(node) => Some(DraftNode::changed(node)),
         None => None,
     }
 }
 
 // The node that a draft leaves as it is.
-fn kept(node: Option<&Node>) -> Option<DraftNode<'_>>
+fn kept_node(node: Option<&Node>) -> Option<DraftNode<'_>>
     ensures { result ≡ option_copied node.entry }
 {
     match node {

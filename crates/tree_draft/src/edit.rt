@@ -1,6 +1,6 @@
 //! Changes of one node.
 ghost use Rattle.std.specs.Prelude.{◌≡◌, OnOk};
-ghost use Rattle.tree_draft.specs.Drafts as spec;
+ghost use Rattle.tree_draft.specs.Edits as spec;
 
 use crate::held::HeldNode;
 use sp_base::{Mem, TextBuf, Value};
@@ -19,7 +19,7 @@ pub(crate) enum Edit {
 impl HeldNode {
     /// Changes the node.
     pub(crate) fn edit(&mut self, alloc: Global, edit: Edit) -> Mem<()>
-        ensures { OnOk result (self.new ≡ spec.edited edit self.old) }
+        ensures { OnOk result (self.new ≡ spec.edited_node edit self.old) }
     {
         match edit {
             Edit::Kid(name) => self.kids.push(name),

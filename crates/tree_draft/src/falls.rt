@@ -12,16 +12,16 @@ use std::marker::Model;
 /// How long a list was when a name last fell away from it, with the names in it that had fallen away before.
 #[derive(Drop)]
 pub(crate) struct Falls {
-    rows: IndexMap<String, usize, RandomState>,
+    lengths: IndexMap<String, usize, RandomState>,
 }
 
 impl Model for Falls {
     ghost use Rattle.std.specs.Prelude.{map, string_bytes};
-    ghost use Rattle.tree_draft.specs.Falls.{FallRows};
+    ghost use Rattle.tree_draft.specs.Falls.{NameFalls};
 
-    ghost Value = { FallRows };
+    ghost Value = { NameFalls };
 
-    ghost view = { λ f. map (λ e. (string_bytes e.0, e.1)) f.rows.entries };
+    ghost view = { λ f. map (λ e. (string_bytes e.0, e.1)) f.lengths.entries };
 }
 
 impl Falls {
@@ -30,21 +30,21 @@ impl Falls {
         ensures { result ≡ [] }
     {
         Falls {
-            rows: IndexMap::with_hasher(alloc, seeds),
+            lengths: IndexMap::with_hasher(alloc, seeds),
         }
     }
 
     pub(crate) fn is_empty(&self) -> bool
         ensures { IsTrue result ↔ (self.now ≡ []) }
     {
-        self.rows.is_empty()
+        self.lengths.is_empty()
     }
 
     // How long the list was when a name last fell away.
     fn of(&self, name: &str) -> usize
         ensures { result ≡ spec.fall_of self.now name.now }
     {
-        match self.rows.get(name) {
+        match self.lengths.get(name) {
             Some(n) => *n,
             None => 0,
         }
@@ -63,7 +63,7 @@ impl Falls {
         ensures err { OnErr result (self.new ≡ self.old) }
     {
         let name = String::from_str(alloc, name)?;
-        self.rows.insert(name, length)?;
+        self.lengths.insert(name, length)?;
         Ok(())
     }
 }

@@ -3,7 +3,7 @@
 ghost use Rattle.std.specs.Prelude.{◌≡◌, IfOk, option_copied, option_map};
 ghost use Rattle.resource_tree.specs.Content.{empty_node};
 ghost use Rattle.resource_tree.specs.declared.patch.PatchNode.TheVariants as there;
-ghost use Rattle.tree_draft.specs.Drafts as draft;
+ghost use Rattle.tree_draft.specs.Edits as edits;
 ghost use Rattle.tree_draft.specs.Held as spec;
 
 use crate::kid_list::KidList;
@@ -61,55 +61,55 @@ impl HeldNode {
 
 /// What is to stand at a path: a changed node, or none.
 #[derive(Drop)]
-pub(crate) struct Row {
+pub(crate) struct HeldEntry {
     held: Option<HeldNode>,
 }
 
-impl Model for Row {
+impl Model for HeldEntry {
     ghost use Rattle.resource_tree.specs.declared.patch.PatchNode.{PatchNode};
-    ghost use Rattle.tree_draft.specs.Held.{row_of};
+    ghost use Rattle.tree_draft.specs.Held.{entry_of};
 
     ghost Value = { PatchNode };
 
-    ghost view = { λ r. row_of r.held };
+    ghost view = { λ r. entry_of r.held };
 }
 
-impl Row {
-    /// A node that was changed.
-    pub(crate) fn changed(node: HeldNode) -> Row
+impl HeldEntry {
+    /// A changed node.
+    pub(crate) fn of_held(node: HeldNode) -> HeldEntry
         ensures { result ≡ there.Node node }
     {
-        Row { held: Some(node) }
+        HeldEntry { held: Some(node) }
     }
 
     /// A node as it is.
-    pub(crate) fn of(alloc: Global, seeds: RandomState, node: Node) -> Row
+    pub(crate) fn of(alloc: Global, seeds: RandomState, node: Node) -> HeldEntry
         ensures { result ≡ there.Node node }
     {
-        Row {
+        HeldEntry {
             held: Some(HeldNode::of(alloc, seeds, node)),
         }
     }
 
     /// A node without properties and kids.
-    pub(crate) fn fresh(alloc: Global, seeds: RandomState) -> Row
+    pub(crate) fn fresh(alloc: Global, seeds: RandomState) -> HeldEntry
         ensures { result ≡ there.Node empty_node }
     {
         let node = Node {
             props: PropList::new(alloc),
             kids: TextList::new(alloc),
         };
-        Row::of(alloc, seeds, node)
+        HeldEntry::of(alloc, seeds, node)
     }
 
-    pub(crate) fn gone() -> Row
+    pub(crate) fn gone() -> HeldEntry
         ensures { result ≡ there.Gone }
     {
-        Row { held: None }
+        HeldEntry { held: None }
     }
 
     pub(crate) fn is_node(&self) -> bool
-        ensures { result ≡ draft.is_node self.now }
+        ensures { result ≡ edits.is_node self.now }
     {
         self.held.is_some()
     }
@@ -137,7 +137,7 @@ impl Row {
         }
     }
 
-    /// The row as one of a patch.
+    /// The entry as one of a patch.
     pub(crate) fn into_patch_node(self, alloc: Global) -> Mem<PatchNode>
         ensures { IfOk result (λ r. r ≡ self) }
     {

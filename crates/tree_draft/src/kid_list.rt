@@ -19,11 +19,11 @@ pub(crate) struct KidList {
 
 impl Model for KidList {
     ghost use Rattle.std.specs.Prelude.{List, ℕ, length};
-    ghost use Rattle.tree_draft.specs.Falls.{FellWithin, standing};
+    ghost use Rattle.tree_draft.specs.Falls.{FellWithin, standing_names};
 
     ghost Value = { List (List ℕ) };
 
-    ghost view = { λ k. standing k.falls 0 k.names };
+    ghost view = { λ k. standing_names k.falls 0 k.names };
 
     ghost invariant = { λ k. FellWithin (length k.names) k.falls };
 }
@@ -58,7 +58,7 @@ impl KidList {
     pub(crate) fn lent(&self, alloc: Global) -> Mem<Vec<&TextBuf>>
         ensures { IfOk result (λ lent. map (λ name. name.now) lent.items ≡ self.now) }
     {
-        standing(alloc, &self.falls, self.names.as_slice())
+        standing_names(alloc, &self.falls, self.names.as_slice())
     }
 
     /// The names in a list of their own.
@@ -69,7 +69,7 @@ impl KidList {
         if falls.is_empty() {
             return Ok(names);
         }
-        copied(alloc, &standing(alloc, &falls, names.as_slice())?)
+        copied(alloc, &standing_names(alloc, &falls, names.as_slice())?)
     }
 }
 
@@ -85,8 +85,8 @@ pub(crate) fn lent_names<'a>(alloc: Global, names: &'a [TextBuf]) -> Mem<Vec<&'a
 }
 
 // The names of a list that stand. Where none fell away, none is looked up.
-fn standing<'a>(alloc: Global, falls: &Falls, names: &'a [TextBuf]) -> Mem<Vec<&'a TextBuf>>
-    ensures { IfOk result (λ lent. map (λ name. name.now) lent.items ≡ spec.standing falls.now 0 names.now) }
+fn standing_names<'a>(alloc: Global, falls: &Falls, names: &'a [TextBuf]) -> Mem<Vec<&'a TextBuf>>
+    ensures { IfOk result (λ lent. map (λ name. name.now) lent.items ≡ spec.standing_names falls.now 0 names.now) }
 {
     if falls.is_empty() {
         return lent_names(alloc, names);

@@ -3,7 +3,7 @@ ghost use Rattle.std.specs.Prelude.{◌≡◌, IfOk};
 ghost use Rattle.resource_tree.specs.Patches.{patching};
 
 use crate::Draft;
-use crate::held::Row;
+use crate::held::HeldEntry;
 use indexmap::IndexMap;
 use resource_tree::{Patch, Tree};
 use sp_base::{Mem, Path};
@@ -17,20 +17,24 @@ impl<'a> Draft<'a> {
     {
         let Draft {
             tree,
-            rows,
+            entries,
             count: _,
         } = self;
-        patch_of(alloc, tree, rows)
+        patch_of(alloc, tree, entries)
     }
 }
 
-fn patch_of(alloc: Global, tree: &Tree, rows: IndexMap<Path, Row, RandomState>) -> Mem<Patch>
-    ensures { IfOk result (λ patch. patching tree.now patch ≡ patching tree.now rows.entries) }
+fn patch_of(
+    alloc: Global,
+    tree: &Tree,
+    entries: IndexMap<Path, HeldEntry, RandomState>,
+) -> Mem<Patch>
+    ensures { IfOk result (λ patch. patching tree.now patch ≡ patching tree.now entries.entries) }
 {
     let _nodes = tree.len();
     let mut patch = Patch::new(alloc, tree.seeds());
-    for (path, row) in rows {
-        let node = row.into_patch_node(alloc)?;
+    for (path, entry) in entries {
+        let node = entry.into_patch_node(alloc)?;
         patch.put(path, node)?;
         let _paths = patch.len();
     }

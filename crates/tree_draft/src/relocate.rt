@@ -24,6 +24,7 @@ impl<'a> Draft<'a> {
     {
         let parent = target.parent(alloc)?;
         self.check_ends(alloc, source, target, &parent)?;
+        // `depth` says that the target's segments are those of a path, as what is put below it asks.
         let _segments = target.depth();
         let paths = paths_under(self, alloc, source)?;
         let part = part_there(self, alloc, source, target, &paths)?;

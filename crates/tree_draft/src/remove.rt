@@ -11,7 +11,7 @@ ghost use Rattle.tree_draft.specs.Drafts.{DraftFollows, IsSound, IsCounted};
 use crate::Draft;
 use crate::create::last_segment;
 use crate::edit::Edit;
-use crate::held::Row;
+use crate::held::HeldEntry;
 use crate::part::paths_under;
 use resource_tree::TreeFault;
 use sp_base::{Mem, NoMemory, Path, TextBuf};
@@ -63,7 +63,7 @@ impl<'a> Draft<'a> {
         ensures tree { OnOk result (self.new.tree ≡ self.old.tree) }
     {
         for below in paths {
-            self.put(below.duplicate(alloc)?, Row::gone())?;
+            self.put(below.duplicate(alloc)?, HeldEntry::gone())?;
         }
         Ok(())
     }

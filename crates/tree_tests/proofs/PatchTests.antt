@@ -17,20 +17,20 @@ use Rattle.resource_tree.specs.declared.nodes.Node.{Node}
 use Rattle.resource_tree.specs.declared.patch.PatchNode.TheVariants as there
 use Rattle.resource_tree.specs.Content.{Content, IsGood, HasSegmentNames, by_path, same_path, node_at}
 use Rattle.resource_tree.specs.Changes.{update, with_value}
-use Rattle.resource_tree.specs.Patches.{Rows, patching}
+use Rattle.resource_tree.specs.Patches.{PatchEntries, patching}
 use Rattle.resource_tree.proofs.PathLemmas.{by_path_total, path_from_same}
 use Rattle.resource_tree.proofs.NodeLookups.{node_at-change_at}
 use Rattle.resource_tree.proofs.EntriesInOrder.{lookup-insert_entry, same_in_order}
 use Rattle.resource_tree.proofs.Patching.{sorted-patching}
 
-pub IsGood-patched : (tree after : Content) (path : List (List ℕ)) (name : List ℕ) (value : Value) (node : Node) (rows : Rows) → IsGood tree → IsGood after → after ≡ update tree path name value → node_at after path ≡ Some node
+pub IsGood-patched : (tree after : Content) (path : List (List ℕ)) (name : List ℕ) (value : Value) (node : Node) (rows : PatchEntries) → IsGood tree → IsGood after → after ≡ update tree path name value → node_at after path ≡ Some node
     → rows ≡ (path, there.Node node) ∷ [] → IsGood (patching tree rows)
 IsGood-patched tree after path name value node rows good good_after after_is here rows_are =
     subst (λ (t : Content). IsGood t) (sym same) good_after
   where
     at : (q : List (List ℕ)) → node_at (patching tree rows) q ≡ node_at after q
     at q =
-        ap (λ (r : Rows). node_at (patching tree r) q) rows_are
+        ap (λ (r : PatchEntries). node_at (patching tree r) q) rows_are
         ∙ lookup-insert_entry by_path by_path_total q path node tree
         ∙ ⊎_elim
         (λ is. ap (λ b. cond b (Some node) (node_at tree q)) is ∙ sym here ∙ ap (node_at after) (sym (path_from_same q path is)))

@@ -8,7 +8,7 @@ use Rattle.resource_tree.specs.Content.{Content}
 use Rattle.type_chain.specs.declared.type_name.TypeName.{TypeName}
 use Rattle.type_chain.specs.Types.{same_type, type_of}
 use Rattle.type_chain.specs.Chain.{has_type, until_repeat, line, own_types, super_of, super_text, super_type}
-use Rattle.type_chain.specs.Sites.{only}
+use Rattle.type_chain.specs.ScriptPlaces.{only}
 
 -- the types before the first that is among the earlier ones, or repeats one of these
 abbrev pub fresh : List TypeName → List TypeName → List TypeName

@@ -9,7 +9,7 @@ use Rattle.resource_tree.specs.Content.{Content}
 use Rattle.type_chain.specs.declared.type_name.TypeName.{TypeName}
 use Rattle.type_chain.specs.Types.{same_type, type_of}
 use Rattle.type_chain.specs.Chain.{chain_of, default_type, has_type, line, line_from, own_super, own_types, super_of, super_text, super_type, type_text, with_default}
-use Rattle.type_chain.specs.Sites.{only}
+use Rattle.type_chain.specs.ScriptPlaces.{only}
 use Rattle.type_chain.specs.Steps.{AreOwnTypes, AreSteps, super_after, unless_there}
 use Rattle.type_chain.proofs.ChainLemmas.{fresh, fresh-none}
 

@@ -1,4 +1,4 @@
 pub mod Types
 pub mod Chain
 pub mod Steps
-pub mod Sites
+pub mod ScriptPlaces

@@ -2,10 +2,10 @@
 ghost use Rattle.std.specs.Prelude.{◌≡◌, ◌++◌, ◌∷◌, [], IfOk, OnOk, option_and_then, option_copied};
 ghost use Rattle.type_chain.specs.Types.{type_of};
 ghost use Rattle.type_chain.specs.Chain.{chain_of, default_type, has_type, own_types, own_super, super_of, super_text, type_text, with_default};
-ghost use Rattle.type_chain.specs.Sites.{AreSitesOf, only};
+ghost use Rattle.type_chain.specs.ScriptPlaces.{AreScriptPlacesOf, only};
 
-use crate::sites::visit_type;
-use crate::{SiteList, TypeList, TypeName};
+use crate::script_places::visit_type;
+use crate::{ScriptPlaceList, TypeList, TypeName};
 use resource_tree::Tree;
 use sp_base::{Mem, NoMemory, Path, PathFault, PropList, TextBuf};
 use std::alloc::Global;
@@ -27,22 +27,22 @@ pub fn type_text(props: &PropList) -> &str
     }
 }
 
-/// A chain of types with their sites.
+/// A chain of types with their script places.
 #[derive(Drop)]
-pub struct ChainWithSites {
+pub struct ChainWithScriptPlaces {
     pub types: TypeList,
-    pub sites: SiteList,
+    pub script_places: ScriptPlaceList,
 }
 
-impl ChainWithSites {
-    // Adds a type with its sites, and gives the text of its super type.
+impl ChainWithScriptPlaces {
+    // Adds a type with its script places, and gives the text of its super type.
     fn add<'a>(&mut self, alloc: Global, tree: &'a Tree, name: TypeName) -> Mem<Option<&'a TextBuf>>
-        requires { AreSitesOf tree.now self.old.types self.old.sites }
+        requires { AreScriptPlacesOf tree.now self.old.types self.old.script_places }
         ensures text { IfOk result (λ o. option_copied o ≡ super_text tree.entry.now name) }
         ensures types { OnOk result (self.new.types ≡ self.old.types ++ name ∷ []) }
-        ensures sites { OnOk result (AreSitesOf tree.entry.now self.new.types self.new.sites) }
+        ensures script_places { OnOk result (AreScriptPlacesOf tree.entry.now self.new.types self.new.script_places) }
     {
-        let text = visit_type(alloc, tree, &name, &mut self.sites)?;
+        let text = visit_type(alloc, tree, &name, &mut self.script_places)?;
         self.types.push(name)?;
         Ok(text)
     }
@@ -53,14 +53,18 @@ impl ChainWithSites {
 pub fn chain(alloc: Global, tree: &Tree, props: &PropList) -> Mem<TypeList>
     ensures { IfOk result (λ list. list ≡ chain_of tree.now props.now) }
 {
-    Ok(chain_with_sites(alloc, tree, props)?.types)
+    Ok(chain_with_script_places(alloc, tree, props)?.types)
 }
 
-/// The chain of a resource, and the sites of its types. Each place of each type is looked up once, for both.
+/// The chain of a resource, and the script places of its types. Each place of each type is looked up once, for both.
 #[tactic(auto, unfolding(crate::specs::Chain::chain_of))]
-pub fn chain_with_sites(alloc: Global, tree: &Tree, props: &PropList) -> Mem<ChainWithSites>
+pub fn chain_with_script_places(
+    alloc: Global,
+    tree: &Tree,
+    props: &PropList,
+) -> Mem<ChainWithScriptPlaces>
     ensures types { IfOk result (λ chain. chain.types ≡ chain_of tree.now props.now) }
-    ensures sites { IfOk result (λ chain. AreSitesOf tree.now chain.types chain.sites) }
+    ensures script_places { IfOk result (λ chain. AreScriptPlacesOf tree.now chain.types chain.script_places) }
 {
     let own = TypeName::read(alloc, type_text(props))?;
     let mut chain = own_types(alloc, tree, props, own)?;
@@ -73,13 +77,13 @@ fn own_types(
     tree: &Tree,
     props: &PropList,
     own: Option<TypeName>,
-) -> Mem<ChainWithSites>
+) -> Mem<ChainWithScriptPlaces>
     ensures types { IfOk result (λ chain. chain.types ≡ own_types tree.now props.now own) }
-    ensures sites { IfOk result (λ chain. AreSitesOf tree.now chain.types chain.sites) }
+    ensures script_places { IfOk result (λ chain. AreScriptPlacesOf tree.now chain.types chain.script_places) }
 {
-    let mut chain = ChainWithSites {
+    let mut chain = ChainWithScriptPlaces {
         types: TypeList::new(alloc),
-        sites: SiteList::new(alloc),
+        script_places: ScriptPlaceList::new(alloc),
     };
     let mut next = begin(alloc, tree, props, own, &mut chain)?;
     while let Some(name) = next {
@@ -99,12 +103,12 @@ fn begin(
     tree: &Tree,
     props: &PropList,
     own: Option<TypeName>,
-    chain: &mut ChainWithSites,
+    chain: &mut ChainWithScriptPlaces,
 ) -> Mem<Option<TypeName>>
-    requires { AreSitesOf tree.now chain.old.types chain.old.sites }
+    requires { AreScriptPlacesOf tree.now chain.old.types chain.old.script_places }
     ensures next { IfOk result (λ o. o ≡ super_of tree.entry.now props.entry.now own) }
     ensures types { OnOk result (chain.new.types ≡ chain.old.types ++ only own) }
-    ensures sites { OnOk result (AreSitesOf tree.entry.now chain.new.types chain.new.sites) }
+    ensures script_places { OnOk result (AreScriptPlacesOf tree.entry.now chain.new.types chain.new.script_places) }
 {
     let text = own_super(props);
     match own {
@@ -139,10 +143,10 @@ fn has_type(types: &TypeList, name: &TypeName) -> bool
     types.as_slice().iter().any(|other| other.is_same(name))
 }
 
-fn add_default(alloc: Global, tree: &Tree, chain: &mut ChainWithSites) -> Mem<()>
-    requires { AreSitesOf tree.now chain.old.types chain.old.sites }
+fn add_default(alloc: Global, tree: &Tree, chain: &mut ChainWithScriptPlaces) -> Mem<()>
+    requires { AreScriptPlacesOf tree.now chain.old.types chain.old.script_places }
     ensures types { OnOk result (chain.new.types ≡ with_default chain.old.types) }
-    ensures sites { OnOk result (AreSitesOf tree.now chain.new.types chain.new.sites) }
+    ensures script_places { OnOk result (AreScriptPlacesOf tree.now chain.new.types chain.new.script_places) }
 {
     let name = default_type(alloc)?;
     if has_type(&chain.types, &name) {

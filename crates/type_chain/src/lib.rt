@@ -4,16 +4,16 @@
 
 mod inheritance;
 mod laws;
+mod script_places;
 mod search_paths;
-mod sites;
 mod type_name;
 
-pub use inheritance::{ChainWithSites, chain, chain_with_sites, type_text};
+pub use inheritance::{ChainWithScriptPlaces, chain, chain_with_script_places, type_text};
 pub use laws::{
     a_chain_is_short, a_super_type_follows, each_type_is_the_super_type_of_the_one_before,
     no_type_repeats, the_chain_is_determined, the_default_type_ends_the_chain,
     the_own_type_is_first, the_super_type_of_the_resource_is_next,
 };
+pub use script_places::{ScriptPlace, ScriptPlaceList, type_script_places};
 pub use search_paths::{place_of, places};
-pub use sites::{Site, SiteList, type_sites};
 pub use type_name::{TypeList, TypeName};

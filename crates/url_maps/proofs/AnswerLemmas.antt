@@ -17,7 +17,7 @@ use Rattle.url_maps.specs.declared.pairs.Pair.{Pair}
 use Rattle.url_maps.specs.declared.pairs.PairKind.TheVariants.{Mapping, Alias, VanityPath}
 use Rattle.url_maps.specs.Aliases.{IsAlias, has_alias}
 use Rattle.url_maps.specs.Answers.{alias_at, alias_with, answer_of, deciding_pair, earlier, earliest, is_without_pattern, map_answer, mapping_at, mapping_with, outcome, pair_at, pair_inside, pair_to, pair_with, sibling_with_alias, turn, vanity_at, vanity_nodes, vanity_with}
-use Rattle.url_maps.specs.Mappings.{IsPlain, has_match, mapping_of, site_of}
+use Rattle.url_maps.specs.Mappings.{IsPlain, has_match, mapping_of, host_node_of}
 use Rattle.url_maps.specs.Pairs.{Applies, Decides, HasNoPair, IsPair, IsPairOf, goes_on_after_prefix}
 use Rattle.url_maps.specs.Search.{IsBest, IsFirstPath, IsMappingPair, IsOf, is_prefix_end, mapped_path}
 use Rattle.url_maps.specs.Turns.{IsMapped, Turns, leads, most_turns, text_after}
@@ -53,11 +53,11 @@ plain_back tree path (suc n) d none =
     (ap not (none d (omega arith) (omega arith)))
     (plain_back tree path n (d + 1) (λ k low high. none k (omega (arith, low)) (omega (arith, high))))
 
-plain_is : (tree : Content) (site path : List (List ℕ)) → is_without_pattern tree site path ≡ true → IsPlain tree site path
-plain_is tree site path all k low high = plain_from tree path (length path + 1 - length site) (length site) all k low (omega (arith, low, high))
+plain_is : (tree : Content) (host_node path : List (List ℕ)) → is_without_pattern tree host_node path ≡ true → IsPlain tree host_node path
+plain_is tree host_node path all k low high = plain_from tree path (length path + 1 - length host_node) (length host_node) all k low (omega (arith, low, high))
 
-plain_only : (tree : Content) (site path : List (List ℕ)) → IsPlain tree site path → is_without_pattern tree site path ≡ true
-plain_only tree site path plain = plain_back tree path (length path + 1 - length site) (length site) (λ k low high. plain k low (omega (arith, low, high)))
+plain_only : (tree : Content) (host_node path : List (List ℕ)) → IsPlain tree host_node path → is_without_pattern tree host_node path ≡ true
+plain_only tree host_node path plain = plain_back tree path (length path + 1 - length host_node) (length host_node) (λ k low high. plain k low (omega (arith, low, high)))
 
 -- ---- lists of paths
 
@@ -184,30 +184,30 @@ has_node tree path text has =
     ] refl
 
 module _ (read : IsReadBack) (spelled : IsSpelled) (valid : (text : List ℕ) (path : List (List ℕ)) → path_of text ≡ Ok path → IsTrue (is_path path)) (tree : Content) (good : IsTree (node_at tree)) where
-  mapping_there : (site : List (List ℕ)) (prefix : List ℕ) (path : List (List ℕ)) → mapped_path site prefix ≡ Some path → is_without_pattern tree site path ≡ true
-      → IsOf Mapping tree (Some site) prefix (option_map pair_to (option_and_then mapping_of (node_at tree path)))
-  mapping_there site prefix path at plain =
-      elim (node_at tree path) as (λ o. node_at tree path ≡ o → IsOf Mapping tree (Some site) prefix (option_map pair_to (option_and_then mapping_of o))) [
-        | None ↦ λ none. no_node_pair read tree good site prefix path at none
-        | Some node ↦ λ there. pair_at_node read spelled tree good site prefix path node (option_map pair_to (mapping_of node)) at there (plain_is tree site path plain) (is_mapping_pair node (mapping_of node) refl)
+  mapping_there : (host_node : List (List ℕ)) (prefix : List ℕ) (path : List (List ℕ)) → mapped_path host_node prefix ≡ Some path → is_without_pattern tree host_node path ≡ true
+      → IsOf Mapping tree (Some host_node) prefix (option_map pair_to (option_and_then mapping_of (node_at tree path)))
+  mapping_there host_node prefix path at plain =
+      elim (node_at tree path) as (λ o. node_at tree path ≡ o → IsOf Mapping tree (Some host_node) prefix (option_map pair_to (option_and_then mapping_of o))) [
+        | None ↦ λ none. no_node_pair read tree good host_node prefix path at none
+        | Some node ↦ λ there. pair_at_node read spelled tree good host_node prefix path node (option_map pair_to (mapping_of node)) at there (plain_is tree host_node path plain) (is_mapping_pair node (mapping_of node) refl)
       ] refl
 
-  mapping_at_is : (site : List (List ℕ)) (prefix : List ℕ) (path : List (List ℕ)) → mapped_path site prefix ≡ Some path → IsOf Mapping tree (Some site) prefix (mapping_at tree site path)
-  mapping_at_is site prefix path at =
+  mapping_at_is : (host_node : List (List ℕ)) (prefix : List ℕ) (path : List (List ℕ)) → mapped_path host_node prefix ≡ Some path → IsOf Mapping tree (Some host_node) prefix (mapping_at tree host_node path)
+  mapping_at_is host_node prefix path at =
       let leads_to = option_map pair_to (option_and_then mapping_of (node_at tree path)) in
       ⊎_elim
-      (λ (plain : is_without_pattern tree site path ≡ true). subst (λ b. IsOf Mapping tree (Some site) prefix (cond b leads_to None)) (sym plain) (mapping_there site prefix path at plain))
-      (λ (fails : is_without_pattern tree site path ≡ false).
-      subst (λ b. IsOf Mapping tree (Some site) prefix (cond b leads_to None)) (sym fails)
-      (no_plain_pair read tree good site prefix path at (λ plain. true≢false (sym (plain_only tree site path plain) ∙ fails))))
-      (cases_Bool (is_without_pattern tree site path))
+      (λ (plain : is_without_pattern tree host_node path ≡ true). subst (λ b. IsOf Mapping tree (Some host_node) prefix (cond b leads_to None)) (sym plain) (mapping_there host_node prefix path at plain))
+      (λ (fails : is_without_pattern tree host_node path ≡ false).
+      subst (λ b. IsOf Mapping tree (Some host_node) prefix (cond b leads_to None)) (sym fails)
+      (no_plain_pair read tree good host_node prefix path at (λ plain. true≢false (sym (plain_only tree host_node path plain) ∙ fails))))
+      (cases_Bool (is_without_pattern tree host_node path))
 
-  mapping_is : (site : Option (List (List ℕ))) (prefix : List ℕ) → IsOf Mapping tree site prefix (mapping_with tree site prefix)
+  mapping_is : (host_node : Option (List (List ℕ))) (prefix : List ℕ) → IsOf Mapping tree host_node prefix (mapping_with tree host_node prefix)
   mapping_is None prefix = λ pair is has. subst (λ kind. IsPairOf kind tree None prefix pair) is has
-  mapping_is (Some site) prefix =
-      elim (mapped_path site prefix) as (λ o. mapped_path site prefix ≡ o → IsOf Mapping tree (Some site) prefix (option_and_then (mapping_at tree site) o)) [
-        | None ↦ λ none. no_path_pair read tree good site prefix none
-        | Some path ↦ λ at. mapping_at_is site prefix path at
+  mapping_is (Some host_node) prefix =
+      elim (mapped_path host_node prefix) as (λ o. mapped_path host_node prefix ≡ o → IsOf Mapping tree (Some host_node) prefix (option_and_then (mapping_at tree host_node) o)) [
+        | None ↦ λ none. no_path_pair read tree good host_node prefix none
+        | Some path ↦ λ at. mapping_at_is host_node prefix path at
       ] refl
 
   -- the path that the text of an alias spells
@@ -331,63 +331,63 @@ module _ (read : IsReadBack) (spelled : IsSpelled) (valid : (text : List ℕ) (p
 
   -- ---- the pair that decides
 
-  best_is : (site : Option (List (List ℕ))) (prefix rest : List ℕ) → is_prefix_end rest ≡ true → IsBest tree site prefix rest (pair_with tree site prefix rest)
-  best_is site prefix rest cut =
+  best_is : (host_node : Option (List (List ℕ))) (prefix rest : List ℕ) → is_prefix_end rest ≡ true → IsBest tree host_node prefix rest (pair_with tree host_node prefix rest)
+  best_is host_node prefix rest cut =
       let vanity = cond (goes_on_after_prefix VanityPath rest) (vanity_with tree prefix) None in
-      elim (mapping_with tree site prefix) as (λ o. IsOf Mapping tree site prefix o → IsBest tree site prefix rest (option_or o (option_or (alias_with tree prefix) vanity))) [
-        | Some pair ↦ λ is. best_mapping tree site prefix rest cut pair is
+      elim (mapping_with tree host_node prefix) as (λ o. IsOf Mapping tree host_node prefix o → IsBest tree host_node prefix rest (option_or o (option_or (alias_with tree prefix) vanity))) [
+        | Some pair ↦ λ is. best_mapping tree host_node prefix rest cut pair is
         | None ↦ λ no_mapping.
-            elim (alias_with tree prefix) as (λ o. IsOf Alias tree None prefix o → IsBest tree site prefix rest (option_or o vanity)) [
-              | Some pair ↦ λ is. best_alias tree site prefix rest cut pair no_mapping is
+            elim (alias_with tree prefix) as (λ o. IsOf Alias tree None prefix o → IsBest tree host_node prefix rest (option_or o vanity)) [
+              | Some pair ↦ λ is. best_alias tree host_node prefix rest cut pair no_mapping is
               | None ↦ λ lacks.
-                  let no_alias = none_of tree site prefix rest cut Alias (λ e. cc) lacks in
+                  let no_alias = none_of tree host_node prefix rest cut Alias (λ e. cc) lacks in
                   ⊎_elim
                   (λ (dot : goes_on_after_prefix VanityPath rest ≡ true).
-                  subst (λ b. IsBest tree site prefix rest (cond b (vanity_with tree prefix) None)) (sym dot)
-                  (best_last tree site prefix rest cut (vanity_with tree prefix) no_mapping no_alias dot (vanity_is prefix)))
+                  subst (λ b. IsBest tree host_node prefix rest (cond b (vanity_with tree prefix) None)) (sym dot)
+                  (best_last tree host_node prefix rest cut (vanity_with tree prefix) no_mapping no_alias dot (vanity_is prefix)))
                   (λ (slash : goes_on_after_prefix VanityPath rest ≡ false).
-                  subst (λ b. IsBest tree site prefix rest (cond b (vanity_with tree prefix) None)) (sym slash)
-                  (none_best tree site prefix rest cut no_mapping no_alias (inr slash)))
+                  subst (λ b. IsBest tree host_node prefix rest (cond b (vanity_with tree prefix) None)) (sym slash)
+                  (none_best tree host_node prefix rest cut no_mapping no_alias (inr slash)))
                   (cases_Bool (goes_on_after_prefix VanityPath rest))
             ] (alias_is prefix)
-      ] (mapping_is site prefix)
+      ] (mapping_is host_node prefix)
 
-  at_place : (site : Option (List (List ℕ))) (text : List ℕ) (at : ℕ) → IsBest tree site (take at text) (drop at text) (pair_at tree site text at)
-  at_place site text at =
+  at_place : (host_node : Option (List (List ℕ))) (text : List ℕ) (at : ℕ) → IsBest tree host_node (take at text) (drop at text) (pair_at tree host_node text at)
+  at_place host_node text at =
       let prefix = take at text in
       let rest = drop at text in
       ⊎_elim
-      (λ (cut : is_prefix_end rest ≡ true). subst (λ b. IsBest tree site prefix rest (cond b (pair_with tree site prefix rest) None)) (sym cut) (best_is site prefix rest cut))
+      (λ (cut : is_prefix_end rest ≡ true). subst (λ b. IsBest tree host_node prefix rest (cond b (pair_with tree host_node prefix rest) None)) (sym cut) (best_is host_node prefix rest cut))
       (λ (whole : is_prefix_end rest ≡ false).
-      subst (λ b. IsBest tree site prefix rest (cond b (pair_with tree site prefix rest) None)) (sym whole)
+      subst (λ b. IsBest tree host_node prefix rest (cond b (pair_with tree host_node prefix rest) None)) (sym whole)
       (λ other has goes. true≢false (sym (goes_on_cut other.kind rest goes) ∙ whole)))
       (cases_Bool (is_prefix_end rest))
 
   -- what is decided
   abbrev IsDecision : Option (List (List ℕ)) → List ℕ → Option (ℕ × Pair) → Type 0
-  IsDecision site text None = HasNoPair tree site text
-  IsDecision site text (Some (at, pair)) = Decides tree site text at pair
+  IsDecision host_node text None = HasNoPair tree host_node text
+  IsDecision host_node text (Some (at, pair)) = Decides tree host_node text at pair
 
-  decision_is : (site : Option (List (List ℕ))) (text : List ℕ) (n : ℕ) → n ≤ length text + 1 → ((k : ℕ) (pair : Pair) → n ≤ k → Applies tree site text k pair → ⊥) → IsDecision site text (deciding_pair tree site text n)
-  decision_is site text zero within beyond = λ k pair applies. beyond k pair (omega arith) applies
-  decision_is site text (suc n) within beyond =
-      elim (pair_at tree site text n) as (λ o. IsBest tree site (take n text) (drop n text) o → IsDecision site text (option_or (option_map (λ pair. (n, pair)) o) (deciding_pair tree site text n))) [
+  decision_is : (host_node : Option (List (List ℕ))) (text : List ℕ) (n : ℕ) → n ≤ length text + 1 → ((k : ℕ) (pair : Pair) → n ≤ k → Applies tree host_node text k pair → ⊥) → IsDecision host_node text (deciding_pair tree host_node text n)
+  decision_is host_node text zero within beyond = λ k pair applies. beyond k pair (omega arith) applies
+  decision_is host_node text (suc n) within beyond =
+      elim (pair_at tree host_node text n) as (λ o. IsBest tree host_node (take n text) (drop n text) o → IsDecision host_node text (option_or (option_map (λ pair. (n, pair)) o) (deciding_pair tree host_node text n))) [
         | Some pair ↦ λ best. record {
           applies = record { within = omega (arith, within); has = best.0; continues = best.1 };
           best = λ k other applies. ⊎_elim
               (λ (below : k < n). inl below)
               (λ (above : n ≤ k). ⊎_elim
               (λ (same : k ≡ n).
-              inr (same, best.2 other (subst (λ i. IsPair tree site (take i text) other) same applies.has) (ap (λ i. goes_on_after_prefix other.kind (drop i text)) (sym same) ∙ applies.continues)))
+              inr (same, best.2 other (subst (λ i. IsPair tree host_node (take i text) other) same applies.has) (ap (λ i. goes_on_after_prefix other.kind (drop i text)) (sym same) ∙ applies.continues)))
               (λ (apart : k ≢ n). absurd (beyond k other (omega (arith, above, apart)) applies))
               (cases_eq k n))
               (cases_lt k n);
         }
-        | None ↦ λ none. decision_is site text n (omega (arith, within)) (λ k other above applies. ⊎_elim
-            (λ (same : k ≡ n). none other (subst (λ i. IsPair tree site (take i text) other) same applies.has) (ap (λ i. goes_on_after_prefix other.kind (drop i text)) (sym same) ∙ applies.continues))
+        | None ↦ λ none. decision_is host_node text n (omega (arith, within)) (λ k other above applies. ⊎_elim
+            (λ (same : k ≡ n). none other (subst (λ i. IsPair tree host_node (take i text) other) same applies.has) (ap (λ i. goes_on_after_prefix other.kind (drop i text)) (sym same) ∙ applies.continues))
             (λ (apart : k ≢ n). beyond k other (omega (arith, above, apart)) applies)
             (cases_eq k n))
-      ] (at_place site text n)
+      ] (at_place host_node text n)
 
   -- ---- the turns
 
@@ -395,10 +395,10 @@ module _ (read : IsReadBack) (spelled : IsSpelled) (valid : (text : List ℕ) (p
   outcome_is (Some status) text further Further is = refl
   outcome_is None text further Further is = is text
 
-  pub turns_are : (n : ℕ) (site : Option (List (List ℕ))) (text : List ℕ) → Turns tree n site text (answer_of tree n site text)
-  turns_are zero site text = refl
-  turns_are (suc n) site text =
-      elim (deciding_pair tree site text (suc (length text))) as (λ o. IsDecision site text o → Turns tree (suc n) site text (turn text (answer_of tree n None) o)) [
+  pub turns_are : (n : ℕ) (host_node : Option (List (List ℕ))) (text : List ℕ) → Turns tree n host_node text (answer_of tree n host_node text)
+  turns_are zero host_node text = refl
+  turns_are (suc n) host_node text =
+      elim (deciding_pair tree host_node text (suc (length text))) as (λ o. IsDecision host_node text o → Turns tree (suc n) host_node text (turn text (answer_of tree n None) o)) [
         | None ↦ λ none. inl (none, refl)
         | Some (at, pair) ↦ λ decides. inr (record {
           at = at;
@@ -406,8 +406,8 @@ module _ (read : IsReadBack) (spelled : IsSpelled) (valid : (text : List ℕ) (p
           decides = decides;
           outcome = outcome_is pair.away (text_after pair at text) (answer_of tree n None) (Turns tree n None) (turns_are n None);
         })
-      ] (decision_is site text (suc (length text)) (omega arith) (λ k pair above applies. absurd (omega (arith, above, applies.within))))
+      ] (decision_is host_node text (suc (length text)) (omega arith) (λ k pair above applies. absurd (omega (arith, above, applies.within))))
 
   pub map_answer_is : (host : List ℕ) (port : ℕ) (text : List ℕ) → IsMapped tree host port text (map_answer tree host port text)
   unfolding IsMapped map_answer
-  map_answer_is host port text = turns_are most_turns (Some (site_of host port)) text
+  map_answer_is host port text = turns_are most_turns (Some (host_node_of host port)) text

@@ -49,7 +49,7 @@ or_true true b is = refl
 or_true false b is = sym is
 
 -- a text is noted, with a path or without
-pub notes_one : (rows : ClaimRows) (patch : patches.Rows) (text : List ℕ) (path : Option (List (List ℕ))) (old new : ClaimRows)
+pub notes_one : (rows : ClaimRows) (patch : patches.PatchEntries) (text : List ℕ) (path : Option (List (List ℕ))) (old new : ClaimRows)
     → ((t : List ℕ) → lookup (bytes_eq t) new ≡ cond (bytes_eq text t) (Some (noted rows patch old text ++ option_to_list path)) (lookup (bytes_eq t) old)) → Notes rows patch (is_at_some path) (λ t. bytes_eq t text) old new
 notes_one rows patch text path old new is = record {
   claims = λ t q.
@@ -79,14 +79,14 @@ notes_one rows patch text path old new is = record {
 
 -- ---- all of some texts
 
-pub notes_none : (rows : ClaimRows) (patch : patches.Rows) (who : List (List ℕ) → Bool) (changed : ClaimRows) → Notes rows patch who (λ t. false) changed changed
+pub notes_none : (rows : ClaimRows) (patch : patches.PatchEntries) (who : List (List ℕ) → Bool) (changed : ClaimRows) → Notes rows patch who (λ t. false) changed changed
 notes_none rows patch who changed = record {
   claims = λ t q. no_words (list_any (same_path q) (noted rows patch changed t)) (who q);
   has = λ t. sym (or_false (has_row changed t));
 }
 
 -- the first texts, and one more
-pub notes_more : (rows : ClaimRows) (patch : patches.Rows) (who : List (List ℕ) → Bool) (first old new : ClaimRows) (texts : List (List ℕ)) (i : ℕ) (text : List ℕ) → i < length texts → text ≡ get_or texts i text
+pub notes_more : (rows : ClaimRows) (patch : patches.PatchEntries) (who : List (List ℕ) → Bool) (first old new : ClaimRows) (texts : List (List ℕ)) (i : ℕ) (text : List ℕ) → i < length texts → text ≡ get_or texts i text
     → Notes rows patch who (λ t. list_any (bytes_eq t) (take i texts)) first old → Notes rows patch who (λ t. bytes_eq t text) old new → Notes rows patch who (λ t. list_any (bytes_eq t) (take (i + 1) texts)) first new
 notes_more rows patch who first old new texts i text within item so_far one = record {
   claims = λ t q.
@@ -99,7 +99,7 @@ notes_more rows patch who first old new texts i text within item so_far one = re
 
 -- ---- one row
 
-pub notes_row : (rows : ClaimRows) (patch : patches.Rows) (path : List (List ℕ)) (before after : List ℕ → Bool) (old mid new : ClaimRows) → Notes rows patch (is_at_some None) before old mid → Notes rows patch (is_at_some (Some path)) after mid new
+pub notes_row : (rows : ClaimRows) (patch : patches.PatchEntries) (path : List (List ℕ)) (before after : List ℕ → Bool) (old mid new : ClaimRows) → Notes rows patch (is_at_some None) before old mid → Notes rows patch (is_at_some (Some path)) after mid new
     → NotesRow rows patch path before after old new
 notes_row rows patch path before after old mid new first last = record {
   claims = λ t q.
@@ -107,7 +107,7 @@ notes_row rows patch path before after old mid new first last = record {
   has = λ t. last.has t ∙ ap (λ x. x || after t) (first.has t) ∙ or_assoc (has_row old t) (before t) (after t);
 }
 
-pub notes_row_alike : (rows : ClaimRows) (patch : patches.Rows) (path : List (List ℕ)) (before other after another : List ℕ → Bool) (old new : ClaimRows) → ((t : List ℕ) → before t ≡ other t) → ((t : List ℕ) → after t ≡ another t)
+pub notes_row_alike : (rows : ClaimRows) (patch : patches.PatchEntries) (path : List (List ℕ)) (before other after another : List ℕ → Bool) (old new : ClaimRows) → ((t : List ℕ) → before t ≡ other t) → ((t : List ℕ) → after t ≡ another t)
     → NotesRow rows patch path before after old new → NotesRow rows patch path other another old new
 notes_row_alike rows patch path before other after another old new same alike is = record {
   claims = λ t q. is.claims t q ∙ ap (λ b. list_any (same_path q) (noted rows patch old t) || (same_path q path && b)) (alike t);
@@ -117,14 +117,14 @@ notes_row_alike rows patch path before other after another old new same alike is
 -- ---- the first rows
 
 -- the rows of a patch so far are noted
-pub record AreNoted (rows : ClaimRows) (patch : patches.Rows) (before : List (List ℕ) → List ℕ → Bool) (left : List (List ℕ) → PatchNode → List ℕ → Bool) (done : patches.Rows) (changed : ClaimRows) : Type 0 where
+pub record AreNoted (rows : ClaimRows) (patch : patches.PatchEntries) (before : List (List ℕ) → List ℕ → Bool) (left : List (List ℕ) → PatchNode → List ℕ → Bool) (done : patches.PatchEntries) (changed : ClaimRows) : Type 0 where
   pub claims : (t : List ℕ) (q : List (List ℕ)) → list_any (same_path q) (noted rows patch changed t) ≡ (list_any (same_path q) (kept patch (claimants rows t)) || list_any (λ row. same_path q row.0 && left row.0 row.1 t) done)
   pub has : (t : List ℕ) → has_row changed t ≡ list_any (λ row. before row.0 t || left row.0 row.1 t) done
 
 any_next : {X : Type 0} (test : X → Bool) (xs : List X) (i : ℕ) (x : X) → slice_get xs i ≡ Some x → list_any test (take (i + 1) xs) ≡ (list_any test (take i xs) || test x)
 any_next test xs i x is = list_any_more test xs i x (slice_get_within xs i x is) ∙ ap (λ y. list_any test (take i xs) || test y) (get_or_from_slice_get xs i x x is)
 
-pub noted_next : (rows : ClaimRows) (patch : patches.Rows) (before : List (List ℕ) → List ℕ → Bool) (left : List (List ℕ) → PatchNode → List ℕ → Bool) (i : ℕ) (path : List (List ℕ)) (row : PatchNode) (old new : ClaimRows)
+pub noted_next : (rows : ClaimRows) (patch : patches.PatchEntries) (before : List (List ℕ) → List ℕ → Bool) (left : List (List ℕ) → PatchNode → List ℕ → Bool) (i : ℕ) (path : List (List ℕ)) (row : PatchNode) (old new : ClaimRows)
     → slice_get patch i ≡ Some (path, row) → AreNoted rows patch before left (take i patch) old → NotesRow rows patch path (before path) (left path row) old new → AreNoted rows patch before left (take (i + 1) patch) new
 noted_next rows patch before left i path row old new is so_far one = record {
   claims = λ t q.
@@ -165,17 +165,17 @@ any_filter q test (p ∷ ps) =
     any_cond q p (test p) (filter test ps) ∙ ap (λ x. (same_path q p && test p) || x) (any_filter q test ps)
     ∙ gather (same_path q p) (test p) (list_any (same_path q) ps) (test q) (λ same. ap test (sym (path_from_same q p same)))
 
-none_else : (q : List (List ℕ)) (left : List (List ℕ) → PatchNode → List ℕ → Bool) (t : List ℕ) (patch : patches.Rows) → patches.row_at patch q ≡ None → list_any (λ row. same_path q row.0 && left row.0 row.1 t) patch ≡ false
+none_else : (q : List (List ℕ)) (left : List (List ℕ) → PatchNode → List ℕ → Bool) (t : List ℕ) (patch : patches.PatchEntries) → patches.entry_at patch q ≡ None → list_any (λ row. same_path q row.0 && left row.0 row.1 t) patch ≡ false
 none_else q left t [] is = refl
 none_else q left t (row ∷ patch) is =
-    elim (same_path q row.0) as (λ b. cond b (Some row.1) (patches.row_at patch q) ≡ None → ((b && left row.0 row.1 t) || list_any (λ r. same_path q r.0 && left r.0 r.1 t) patch) ≡ false) [
+    elim (same_path q row.0) as (λ b. cond b (Some row.1) (patches.entry_at patch q) ≡ None → ((b && left row.0 row.1 t) || list_any (λ r. same_path q r.0 && left r.0 r.1 t) patch) ≡ false) [
       | true ↦ λ e. cc
       | false ↦ λ e. none_else q left t patch e
     ] is
 
 -- what the rows leave at a path
-any_left : (q : List (List ℕ)) (left : List (List ℕ) → PatchNode → List ℕ → Bool) (t : List ℕ) (patch : patches.Rows) → IsDistinct (eq_by_cmp by_path) (keys_of patch)
-    → list_any (λ row. same_path q row.0 && left row.0 row.1 t) patch ≡ option_map_or (λ row. left q row t) (patches.row_at patch q) false
+any_left : (q : List (List ℕ)) (left : List (List ℕ) → PatchNode → List ℕ → Bool) (t : List ℕ) (patch : patches.PatchEntries) → IsDistinct (eq_by_cmp by_path) (keys_of patch)
+    → list_any (λ row. same_path q row.0 && left row.0 row.1 t) patch ≡ option_map_or (λ row. left q row t) (patches.entry_at patch q) false
 any_left q left t [] once = refl
 any_left q left t (row ∷ patch) once =
     let laws = eq_by_cmp_equiv by_path_total in
@@ -183,27 +183,27 @@ any_left q left t (row ∷ patch) once =
     ⊎_elim
     (λ (same : same_path q row.0 ≡ true).
     let here : q ≡ row.0 = path_from_same q row.0 same in
-    let later : patches.row_at patch row.0 ≡ None = lookup-none (same_path row.0) patch (none_past_head laws row.0 row patch once (laws.refl row.0)) in
+    let later : patches.entry_at patch row.0 ≡ None = lookup-none (same_path row.0) patch (none_past_head laws row.0 row patch once (laws.refl row.0)) in
     ap (λ b. (b && left row.0 row.1 t) || list_any (λ r. same_path q r.0 && left r.0 r.1 t) patch) same
-    ∙ ap (λ x. left row.0 row.1 t || x) (none_else q left t patch (ap (patches.row_at patch) here ∙ later)) ∙ or_false (left row.0 row.1 t)
-    ∙ ap (λ p. left p row.1 t) (sym here) ∙ sym (ap (λ b. option_map_or (λ r. left q r t) (cond b (Some row.1) (patches.row_at patch q)) false) same))
+    ∙ ap (λ x. left row.0 row.1 t || x) (none_else q left t patch (ap (patches.entry_at patch) here ∙ later)) ∙ or_false (left row.0 row.1 t)
+    ∙ ap (λ p. left p row.1 t) (sym here) ∙ sym (ap (λ b. option_map_or (λ r. left q r t) (cond b (Some row.1) (patches.entry_at patch q)) false) same))
     (λ (other : same_path q row.0 ≡ false).
     ap (λ b. (b && left row.0 row.1 t) || list_any (λ r. same_path q r.0 && left r.0 r.1 t) patch) other ∙ more
-    ∙ sym (ap (λ b. option_map_or (λ r. left q r t) (cond b (Some row.1) (patches.row_at patch q)) false) other))
+    ∙ sym (ap (λ b. option_map_or (λ r. left q r t) (cond b (Some row.1) (patches.entry_at patch q)) false) other))
     (cases_Bool (same_path q row.0))
 
 -- a row that passes no test
-row_fails : (q : List (List ℕ)) (test : List (List ℕ) → PatchNode → Bool) (patch : patches.Rows) (row : PatchNode) → patches.row_at patch q ≡ Some row → list_any (λ r. test r.0 r.1) patch ≡ false → test q row ≡ false
+row_fails : (q : List (List ℕ)) (test : List (List ℕ) → PatchNode → Bool) (patch : patches.PatchEntries) (row : PatchNode) → patches.entry_at patch q ≡ Some row → list_any (λ r. test r.0 r.1) patch ≡ false → test q row ≡ false
 row_fails q test [] row is none = cc
 row_fails q test (r ∷ patch) row is none =
     ⊎_elim
     (λ (same : same_path q r.0 ≡ true).
     let here : q ≡ r.0 = path_from_same q r.0 same in
-    let found : Some r.1 ≡ Some row = sym (ap (λ b. cond b (Some r.1) (patches.row_at patch q)) same) ∙ is in
+    let found : Some r.1 ≡ Some row = sym (ap (λ b. cond b (Some r.1) (patches.entry_at patch q)) same) ∙ is in
     let one : r.1 ≡ row = cc in
     ap (λ p. test p row) here ∙ ap (test r.0) (sym one) ∙ first_false (test r.0 r.1) (list_any (λ x. test x.0 x.1) patch) none)
     (λ (other : same_path q r.0 ≡ false).
-    row_fails q test patch row (sym (ap (λ b. cond b (Some r.1) (patches.row_at patch q)) other) ∙ is) (last_false (test r.0 r.1) (list_any (λ x. test x.0 x.1) patch) none))
+    row_fails q test patch row (sym (ap (λ b. cond b (Some r.1) (patches.entry_at patch q)) other) ∙ is) (last_false (test r.0 r.1) (list_any (λ x. test x.0 x.1) patch) none))
     (cases_Bool (same_path q r.0))
 
 settled : (before : Bool) (left : PatchNode → Bool) (row : Option PatchNode) → ((before && is_none row) || option_map_or left row false) ≡ option_map_or left row before
@@ -217,17 +217,17 @@ unsettled before left None none = refl
 unsettled before left (Some r) none = first_false before (left r) (none r refl) ∙ sym (last_false before (left r) (none r refl))
 
 -- the claims after all rows
-pub changed_by : (rows : ClaimRows) (patch : patches.Rows) (before after : List (List ℕ) → List ℕ → Bool) (left : List (List ℕ) → PatchNode → List ℕ → Bool) (changed : ClaimRows) → AreClaims before rows → IsDistinct (eq_by_cmp by_path) (keys_of patch)
-    → AreNoted rows patch before left patch changed → ((q : List (List ℕ)) (t : List ℕ) → after q t ≡ option_map_or (λ row. left q row t) (patches.row_at patch q) (before q t)) → AreChanged before after changed
+pub changed_by : (rows : ClaimRows) (patch : patches.PatchEntries) (before after : List (List ℕ) → List ℕ → Bool) (left : List (List ℕ) → PatchNode → List ℕ → Bool) (changed : ClaimRows) → AreClaims before rows → IsDistinct (eq_by_cmp by_path) (keys_of patch)
+    → AreNoted rows patch before left patch changed → ((q : List (List ℕ)) (t : List ℕ) → after q t ≡ option_map_or (λ row. left q row t) (patches.entry_at patch q) (before q t)) → AreChanged before after changed
 changed_by rows patch before after left changed claims once noted_all is t q =
     elim (lookup (bytes_eq t) changed) as (λ o. lookup (bytes_eq t) changed ≡ o → option_map_or (list_any (same_path q)) o (before q t) ≡ after q t) [
       | Some paths ↦ λ row.
           sym (ap (λ o. list_any (same_path q) (option_map_or (λ ps. ps) o (kept patch (claimants rows t)))) row) ∙ noted_all.claims t q
-          ∙ ap (λ x. x || list_any (λ r. same_path q r.0 && left r.0 r.1 t) patch) (any_filter q (λ p. is_none (patches.row_at patch p)) (claimants rows t) ∙ ap (λ x. x && is_none (patches.row_at patch q)) (claims t q))
-          ∙ ap (λ x. (before q t && is_none (patches.row_at patch q)) || x) (any_left q left t patch once)
-          ∙ settled (before q t) (λ r. left q r t) (patches.row_at patch q) ∙ sym (is q t)
+          ∙ ap (λ x. x || list_any (λ r. same_path q r.0 && left r.0 r.1 t) patch) (any_filter q (λ p. is_none (patches.entry_at patch p)) (claimants rows t) ∙ ap (λ x. x && is_none (patches.entry_at patch q)) (claims t q))
+          ∙ ap (λ x. (before q t && is_none (patches.entry_at patch q)) || x) (any_left q left t patch once)
+          ∙ settled (before q t) (λ r. left q r t) (patches.entry_at patch q) ∙ sym (is q t)
       | None ↦ λ row.
-          unsettled (before q t) (λ r. left q r t) (patches.row_at patch q)
+          unsettled (before q t) (λ r. left q r t) (patches.entry_at patch q)
           (λ r there. row_fails q (λ p x. before p t || left p x t) patch r there (sym (noted_all.has t) ∙ ap is_some row))
           ∙ sym (is q t)
     ] refl
@@ -235,19 +235,19 @@ changed_by rows patch before after left changed claims once noted_all is t q =
 -- ---- vanity paths
 
 -- who claims a text without a row is in no row of the patch
-pub leaves_others : (rows : ClaimRows) (tree : Content) (patch : patches.Rows) (changed : ClaimRows) → AreNoted rows patch (claims_vanity_path tree) left_vanity_path patch changed → LeavesOthers tree patch changed
+pub leaves_others : (rows : ClaimRows) (tree : Content) (patch : patches.PatchEntries) (changed : ClaimRows) → AreNoted rows patch (claims_vanity_path tree) left_vanity_path patch changed → LeavesOthers tree patch changed
 leaves_others rows tree patch changed noted_all t q none claims =
-    elim (patches.row_at patch q) as (λ o. patches.row_at patch q ≡ o → patches.left_by o (node_at tree q) ≡ node_at tree q) [
+    elim (patches.entry_at patch q) as (λ o. patches.entry_at patch q ≡ o → patches.left_by o (node_at tree q) ≡ node_at tree q) [
       | None ↦ λ is. refl
       | Some row ↦ λ is.
           absurd (true≢false (sym claims ∙ first_false (claims_vanity_path tree q t) (left_vanity_path q row t)
           (row_fails q (λ p r. claims_vanity_path tree p t || left_vanity_path p r t) patch row is (sym (noted_all.has t) ∙ ap is_some none))))
     ] refl
 
-pub after_vanity_path : (tree : Content) (patch : patches.Rows) (q : List (List ℕ)) (t : List ℕ) → patched_vanity_path tree patch q t ≡ option_map_or (λ row. left_vanity_path q row t) (patches.row_at patch q) (claims_vanity_path tree q t)
+pub after_vanity_path : (tree : Content) (patch : patches.PatchEntries) (q : List (List ℕ)) (t : List ℕ) → patched_vanity_path tree patch q t ≡ option_map_or (λ row. left_vanity_path q row t) (patches.entry_at patch q) (claims_vanity_path tree q t)
 unfolding claims_vanity_path
 after_vanity_path tree patch q t =
-    elim (patches.row_at patch q) as (λ o. option_map_or (λ (n : Node). node_claims_vanity_path n t) (patches.left_by o (node_at tree q)) false ≡ option_map_or (λ row. left_vanity_path q row t) o (option_map_or (λ (n : Node). node_claims_vanity_path n t) (node_at tree q) false)) [
+    elim (patches.entry_at patch q) as (λ o. option_map_or (λ (n : Node). node_claims_vanity_path n t) (patches.left_by o (node_at tree q)) false ≡ option_map_or (λ row. left_vanity_path q row t) o (option_map_or (λ (n : Node). node_claims_vanity_path n t) (node_at tree q) false)) [
       | None ↦ refl
       | Some (there.Node node) ↦ refl
       | Some there.Gone ↦ refl
@@ -269,7 +269,7 @@ pub claims_alike : (before after : List (List ℕ) → List ℕ → Bool) (rows 
 claims_alike before after rows same claims t q = claims t q ∙ same q t
 
 -- the claims of a tree that shows what a patch over another does
-pub vanity_path_after : (tree after : Content) (patch : patches.Rows) → ((q : List (List ℕ)) → node_at after q ≡ patches.patching_at tree patch q) → (q : List (List ℕ)) (t : List ℕ) → patched_vanity_path tree patch q t ≡ claims_vanity_path after q t
+pub vanity_path_after : (tree after : Content) (patch : patches.PatchEntries) → ((q : List (List ℕ)) → node_at after q ≡ patches.patching_at tree patch q) → (q : List (List ℕ)) (t : List ℕ) → patched_vanity_path tree patch q t ≡ claims_vanity_path after q t
 unfolding claims_vanity_path
 vanity_path_after tree after patch shows q t = ap (λ o. option_map_or (λ (n : Node). node_claims_vanity_path n t) o false) (sym (shows q))
 

@@ -22,10 +22,10 @@ use Rattle.url_maps.proofs.PathLemmas.{IsReadBack, kid_name, kid_parent, path_fr
 use Rattle.url_maps.proofs.VanityLemmas.{vanity_total}
 
 module _ (read : IsReadBack) (tree : Content) (good : IsTree (node_at tree)) where
-  one_mapping : (site : List (List ℕ)) (text target other : List ℕ) (away also : Option ℕ) → IsMapping tree site text target away → IsMapping tree site text other also → (target ≡ other) × (away ≡ also)
-  one_mapping site text target other away also m n =
-      let paths : Some (site ++ m.below) ≡ Some (site ++ n.below) = sym (mapping_path read tree good site text target away m) ∙ mapping_path read tree good site text other also n in
-      let path : site ++ m.below ≡ site ++ n.below = cc in
+  one_mapping : (host_node : List (List ℕ)) (text target other : List ℕ) (away also : Option ℕ) → IsMapping tree host_node text target away → IsMapping tree host_node text other also → (target ≡ other) × (away ≡ also)
+  one_mapping host_node text target other away also m n =
+      let paths : Some (host_node ++ m.below) ≡ Some (host_node ++ n.below) = sym (mapping_path read tree good host_node text target away m) ∙ mapping_path read tree good host_node text other also n in
+      let path : host_node ++ m.below ≡ host_node ++ n.below = cc in
       let nodes : Some m.node ≡ Some n.node = sym m.there ∙ ap (node_at tree) path ∙ n.there in
       let node : m.node ≡ n.node = cc in
       let leads_to : Some (target, away) ≡ Some (other, also) = sym m.leads ∙ ap mapping_of node ∙ n.leads in
@@ -57,11 +57,11 @@ module _ (read : IsReadBack) (tree : Content) (good : IsTree (node_at tree)) whe
       (w.first path v.has))
       (v.first other w.has)
 
-  one_pair : (kind : PairKind) (site : Option (List (List ℕ))) (text : List ℕ) (pair other : Pair) → IsPairOf kind tree site text pair → IsPairOf kind tree site text other → (pair.target ≡ other.target) × (pair.away ≡ other.away)
+  one_pair : (kind : PairKind) (host_node : Option (List (List ℕ))) (text : List ℕ) (pair other : Pair) → IsPairOf kind tree host_node text pair → IsPairOf kind tree host_node text other → (pair.target ≡ other.target) × (pair.away ≡ other.away)
   one_pair Mapping None text pair other m n = absurd m
-  one_pair Mapping (Some site) text pair other m n = one_mapping site text pair.target other.target pair.away other.away m n
-  one_pair Alias site text pair other a b = (a.target ∙ ap text_of (one_alias text a.path b.path a.alias b.alias) ∙ sym b.target, a.inside ∙ sym b.inside)
-  one_pair VanityPath site text pair other v w = (v.target ∙ ap (λ p. text_of (vanity_page p)) (one_vanity text v.path w.path v.vanity_path w.vanity_path) ∙ sym w.target, v.inside ∙ sym w.inside)
+  one_pair Mapping (Some host_node) text pair other m n = one_mapping host_node text pair.target other.target pair.away other.away m n
+  one_pair Alias host_node text pair other a b = (a.target ∙ ap text_of (one_alias text a.path b.path a.alias b.alias) ∙ sym b.target, a.inside ∙ sym b.inside)
+  one_pair VanityPath host_node text pair other v w = (v.target ∙ ap (λ p. text_of (vanity_page p)) (one_vanity text v.path w.path v.vanity_path w.vanity_path) ∙ sym w.target, v.inside ∙ sym w.inside)
 
   one_rank : (kind other : PairKind) → rank kind ≡ rank other → kind ≡ other
   one_rank Mapping Mapping e = refl
@@ -77,8 +77,8 @@ module _ (read : IsReadBack) (tree : Content) (good : IsTree (node_at tree)) whe
   same_pair : (pair other : Pair) → pair.kind ≡ other.kind → pair.target ≡ other.target → pair.away ≡ other.away → pair ≡ other
   same_pair pair other kinds targets aways = λ i. record { kind = kinds i; target = targets i; away = aways i }
 
-  pub one_decides : (site : Option (List (List ℕ))) (text : List ℕ) (at k : ℕ) (pair other : Pair) → Decides tree site text at pair → Decides tree site text k other → (at ≡ k) × (pair ≡ other)
-  one_decides site text at k pair other d e = ⊎_elim
+  pub one_decides : (host_node : Option (List (List ℕ))) (text : List ℕ) (at k : ℕ) (pair other : Pair) → Decides tree host_node text at pair → Decides tree host_node text k other → (at ≡ k) × (pair ≡ other)
+  one_decides host_node text at k pair other d e = ⊎_elim
       (λ (less : k < at). ⊎_elim
       (λ (more : at < k). absurd (omega (arith, less, more)))
       (λ (same : (at ≡ k) × (rank other.kind ≤ rank pair.kind)). absurd (omega (arith, less, same.0)))
@@ -88,8 +88,8 @@ module _ (read : IsReadBack) (tree : Content) (good : IsTree (node_at tree)) whe
       (λ (back : (at ≡ k) × (rank other.kind ≤ rank pair.kind)).
       let ranks : rank pair.kind ≡ rank other.kind = omega (arith, same.1, back.1) in
       let kinds = one_rank pair.kind other.kind ranks in
-      let has : IsPairOf other.kind tree site (take k text) pair = subst (λ n. IsPairOf other.kind tree site (take n text) pair) back.0 (subst (λ kind. IsPairOf kind tree site (take at text) pair) kinds d.applies.has) in
-      let one = one_pair other.kind site (take k text) pair other has e.applies.has in
+      let has : IsPairOf other.kind tree host_node (take k text) pair = subst (λ n. IsPairOf other.kind tree host_node (take n text) pair) back.0 (subst (λ kind. IsPairOf kind tree host_node (take at text) pair) kinds d.applies.has) in
+      let one = one_pair other.kind host_node (take k text) pair other has e.applies.has in
       (back.0, same_pair pair other kinds one.0 one.1))
       (e.best at pair d.applies))
       (d.best k other e.applies)
@@ -98,9 +98,9 @@ module _ (read : IsReadBack) (tree : Content) (good : IsTree (node_at tree)) whe
   further_one (Some status) text further answer other same a b = a ∙ sym b
   further_one None text further answer other same a b = same a b
 
-  pub one_answer : (n : ℕ) (site : Option (List (List ℕ))) (text : List ℕ) (answer other : MapAnswer) → Turns tree n site text answer → Turns tree n site text other → answer ≡ other
-  one_answer zero site text answer other a b = a ∙ sym b
-  one_answer (suc n) site text answer other a b = ⊎_elim
+  pub one_answer : (n : ℕ) (host_node : Option (List (List ℕ))) (text : List ℕ) (answer other : MapAnswer) → Turns tree n host_node text answer → Turns tree n host_node text other → answer ≡ other
+  one_answer zero host_node text answer other a b = a ∙ sym b
+  one_answer (suc n) host_node text answer other a b = ⊎_elim
       (λ ended. ⊎_elim
       (λ also. ended.1 ∙ sym also.1)
       (λ turn. absurd (ended.0 turn.at turn.pair turn.decides.applies))
@@ -108,7 +108,7 @@ module _ (read : IsReadBack) (tree : Content) (good : IsTree (node_at tree)) whe
       (λ turn. ⊎_elim
       (λ ended. absurd (ended.0 turn.at turn.pair turn.decides.applies))
       (λ next.
-      let one = one_decides site text turn.at next.at turn.pair next.pair turn.decides next.decides in
+      let one = one_decides host_node text turn.at next.at turn.pair next.pair turn.decides next.decides in
       let moved = subst (λ (p : Pair). leads p.away (text_after p next.at text) (Turns tree n None (text_after p next.at text)) answer) one.1
       (subst (λ k. leads turn.pair.away (text_after turn.pair k text) (Turns tree n None (text_after turn.pair k text)) answer) one.0 turn.outcome) in
       further_one next.pair.away (text_after next.pair next.at text) (Turns tree n None (text_after next.pair next.at text)) answer other (one_answer n None (text_after next.pair next.at text) answer other) moved next.outcome)

@@ -162,7 +162,7 @@ none_led at old (path ∷ new) leads none =
 pub changed_led : (at : List (List ℕ) → Option Node) (before after : List (List ℕ) → List ℕ → Bool) (old new : ClaimRows) → LeadsRows at old new → AreChanged before after old → AreChanged before after new
 changed_led at before after old new leads changed t q = row_any at q (before q t) (lookup (bytes_eq t) old) (lookup (bytes_eq t) new) (leads t) ∙ changed t q
 
-pub others_led : (tree : Content) (patch : patches.Rows) (at : List (List ℕ) → Option Node) (old new : ClaimRows) → LeadsRows at old new → LeavesOthers tree patch old → LeavesOthers tree patch new
+pub others_led : (tree : Content) (patch : patches.PatchEntries) (at : List (List ℕ) → Option Node) (old new : ClaimRows) → LeadsRows at old new → LeavesOthers tree patch old → LeavesOthers tree patch new
 others_led tree patch at old new leads leaves t q none = leaves t q (row_none at (lookup (bytes_eq t) old) (lookup (bytes_eq t) new) (leads t) none)
 
 pub rows_are_led : (at : List (List ℕ) → Option Node) (old new : ClaimRows) → LeadsRows at old new → AreLed at new
@@ -180,7 +180,7 @@ led_alike at other [] same led = tt
 led_alike at other (first ∷ paths) same led = λ q among.
     ap is_lt (cmp_alike at other q first (same q among) (same first (ap (λ b. b || list_any (same_path first) paths) (same_path_self first)))) ∙ led q among
 
-pub led_over : (tree : Content) (patch : patches.Rows) (changed old new : ClaimRows) → AreClaims (claims_vanity_path tree) old → AreLed (node_at tree) old → LeavesOthers tree patch changed → AreLed (patches.patching_at tree patch) changed
+pub led_over : (tree : Content) (patch : patches.PatchEntries) (changed old new : ClaimRows) → AreClaims (claims_vanity_path tree) old → AreLed (node_at tree) old → LeavesOthers tree patch changed → AreLed (patches.patching_at tree patch) changed
     → ((t : List ℕ) → claimants new t ≡ claimants_over changed old t) → AreLed (patches.patching_at tree patch) new
 led_over tree patch changed old new claims led leaves rows is t =
     let at = patches.patching_at tree patch in

@@ -6,7 +6,6 @@ use Rattle.std.specs.Option.{option_map_or}
 use Rattle.std.proofs.lemmas.Bool.{and_parts, cases_Bool, false_from_ne_true, true≢false, false≢true}
 use Rattle.std.proofs.lemmas.List.{drop_more, length-drop, take-append-drop, take_all, take_more}
 use Rattle.std.proofs.lemmas.List.Elements.{filter-append}
-use Rattle.std.proofs.lemmas.List.Folds.{list_any_more}
 use Rattle.sp_base.specs.Paths.{is_path, path_or_none}
 use Rattle.resource_tree.specs.declared.nodes.Node.{Node}
 use Rattle.resource_tree.specs.Content.{Content, kid, node_at}
@@ -114,10 +113,6 @@ named_is tree p name k some =
 
 pub unnamed : (tree : Content) (p : List (List ℕ)) (name : List ℕ) → path_or_none (kid p name) ≡ None → named_kid tree p name ≡ false
 unnamed tree p name none = ap (λ b. b && is_named (node_at tree (kid p name))) (not_a_path (kid p name) none)
-
-pub none_more : {X : Type 0} (test : X → Bool) (xs : List X) (i : ℕ) (x : X) → i < length xs → x ≡ get_or xs i x → list_any test (take i xs) ≡ false → test x ≡ false → list_any test (take (i + 1) xs) ≡ false
-none_more test xs i x within here none fails =
-    list_any_more test xs i x within ∙ ap (λ b. b || test (get_or xs i x)) none ∙ ap test (sym here) ∙ fails
 
 pub any_at : {X : Type 0} (test : X → Bool) (xs : List X) (i : ℕ) (x : X) → i < length xs → test (get_or xs i x) ≡ true → list_any test xs ≡ true
 any_at test [] i x within is = absurd (omega (arith, within))

@@ -25,10 +25,10 @@ goes_on_cut Mapping (b ∷ rest) goes = goes
 goes_on_cut Alias (b ∷ rest) goes = goes
 goes_on_cut VanityPath (b ∷ rest) goes = ap (λ x. x || b == 47) goes
 
-module _ (tree : Content) (site : Option (List (List ℕ))) (prefix rest : List ℕ) (cut : is_prefix_end rest ≡ true) where
+module _ (tree : Content) (host_node : Option (List (List ℕ))) (prefix rest : List ℕ) (cut : is_prefix_end rest ≡ true) where
   -- there is none of a kind
   abbrev pub HasNone : PairKind → Type 0
-  HasNone kind = (pair : Pair) → pair.kind ≡ kind → IsPair tree site prefix pair → ⊥
+  HasNone kind = (pair : Pair) → pair.kind ≡ kind → IsPair tree host_node prefix pair → ⊥
 
   abbrev Kinds : PairKind → Type 0
   Kinds kind = (kind ≡ Mapping) ⊎ ((kind ≡ Alias) ⊎ (kind ≡ VanityPath))
@@ -38,19 +38,19 @@ module _ (tree : Content) (site : Option (List (List ℕ))) (prefix rest : List 
   kinds Alias = inr (inl refl)
   kinds VanityPath = inr (inr refl)
 
-  pub best_mapping : (pair : Pair) → IsOf Mapping tree site prefix (Some pair) → IsBest tree site prefix rest (Some pair)
+  pub best_mapping : (pair : Pair) → IsOf Mapping tree host_node prefix (Some pair) → IsBest tree host_node prefix rest (Some pair)
   best_mapping pair is = (
     is.1,
     ap (λ k. goes_on_after_prefix k rest) is.0 ∙ cut_goes_on Mapping rest (λ e. cc) cut,
     λ other has goes. subst (λ k. rank k ≤ rank other.kind) (sym is.0) (omega arith),
   )
 
-  of_site : (kind : PairKind) (pair : Pair) → kind ≢ Mapping → IsPairOf kind tree None prefix pair → IsPairOf kind tree site prefix pair
-  of_site Mapping pair other is = absurd (other refl)
-  of_site Alias pair other is = is
-  of_site VanityPath pair other is = is
+  of_host_node : (kind : PairKind) (pair : Pair) → kind ≢ Mapping → IsPairOf kind tree None prefix pair → IsPairOf kind tree host_node prefix pair
+  of_host_node Mapping pair other is = absurd (other refl)
+  of_host_node Alias pair other is = is
+  of_host_node VanityPath pair other is = is
 
-  of_none : (kind : PairKind) (pair : Pair) → kind ≢ Mapping → IsPairOf kind tree site prefix pair → IsPairOf kind tree None prefix pair
+  of_none : (kind : PairKind) (pair : Pair) → kind ≢ Mapping → IsPairOf kind tree host_node prefix pair → IsPairOf kind tree None prefix pair
   of_none Mapping pair other is = absurd (other refl)
   of_none Alias pair other is = is
   of_none VanityPath pair other is = is
@@ -61,13 +61,13 @@ module _ (tree : Content) (site : Option (List (List ℕ))) (prefix rest : List 
   vanity_apart : (kind : PairKind) → kind ≡ VanityPath → kind ≢ Mapping
   vanity_apart kind is e = cc
 
-  -- none of a kind, whatever the site
+  -- none of a kind, whatever the host node
   pub none_of : (kind : PairKind) → kind ≢ Mapping → IsOf kind tree None prefix None → HasNone kind
   none_of kind apart none pair is has = none pair is (of_none pair.kind pair (λ e. apart (sym is ∙ e)) has)
 
-  pub best_alias : (pair : Pair) → HasNone Mapping → IsOf Alias tree None prefix (Some pair) → IsBest tree site prefix rest (Some pair)
+  pub best_alias : (pair : Pair) → HasNone Mapping → IsOf Alias tree None prefix (Some pair) → IsBest tree host_node prefix rest (Some pair)
   best_alias pair no_mapping is = (
-    of_site pair.kind pair (alias_apart pair.kind is.0) is.1,
+    of_host_node pair.kind pair (alias_apart pair.kind is.0) is.1,
     ap (λ k. goes_on_after_prefix k rest) is.0 ∙ cut_goes_on Alias rest (λ e. cc) cut,
     λ other has goes. subst (λ k. rank k ≤ rank other.kind) (sym is.0)
         (⊎_elim (λ (m : other.kind ≡ Mapping). absurd (no_mapping other m has))
@@ -75,9 +75,9 @@ module _ (tree : Content) (site : Option (List (List ℕ))) (prefix rest : List 
         (kinds other.kind)),
   )
 
-  pub best_vanity : (pair : Pair) → HasNone Mapping → HasNone Alias → goes_on_after_prefix VanityPath rest ≡ true → IsOf VanityPath tree None prefix (Some pair) → IsBest tree site prefix rest (Some pair)
+  pub best_vanity : (pair : Pair) → HasNone Mapping → HasNone Alias → goes_on_after_prefix VanityPath rest ≡ true → IsOf VanityPath tree None prefix (Some pair) → IsBest tree host_node prefix rest (Some pair)
   best_vanity pair no_mapping no_alias dot is = (
-    of_site pair.kind pair (vanity_apart pair.kind is.0) is.1,
+    of_host_node pair.kind pair (vanity_apart pair.kind is.0) is.1,
     ap (λ k. goes_on_after_prefix k rest) is.0 ∙ dot,
     λ other has goes. subst (λ k. rank k ≤ rank other.kind) (sym is.0)
         (⊎_elim (λ (m : other.kind ≡ Mapping). absurd (no_mapping other m has))
@@ -85,7 +85,7 @@ module _ (tree : Content) (site : Option (List (List ℕ))) (prefix rest : List 
         (kinds other.kind)),
   )
 
-  pub none_best : HasNone Mapping → HasNone Alias → (HasNone VanityPath ⊎ (goes_on_after_prefix VanityPath rest ≡ false)) → IsBest tree site prefix rest None
+  pub none_best : HasNone Mapping → HasNone Alias → (HasNone VanityPath ⊎ (goes_on_after_prefix VanityPath rest ≡ false)) → IsBest tree host_node prefix rest None
   none_best no_mapping no_alias no_vanity other has goes =
       ⊎_elim (λ (m : other.kind ≡ Mapping). no_mapping other m has)
       (⊎_elim (λ (a : other.kind ≡ Alias). no_alias other a has)
@@ -106,29 +106,29 @@ dot_rest (b ∷ rest) cut no_slash =
     (cases_Bool (b == 46))
 
 -- the last kind, where there is none of the others
-pub best_last : (tree : Content) (site : Option (List (List ℕ))) (prefix rest : List ℕ) (cut : is_prefix_end rest ≡ true) (o : Option Pair) → HasNone tree site prefix rest cut Mapping → HasNone tree site prefix rest cut Alias → goes_on_after_prefix VanityPath rest ≡ true
-    → IsOf VanityPath tree None prefix o → IsBest tree site prefix rest o
-best_last tree site prefix rest cut (Some pair) no_mapping no_alias dot is = best_vanity tree site prefix rest cut pair no_mapping no_alias dot is
-best_last tree site prefix rest cut None no_mapping no_alias dot is = none_best tree site prefix rest cut no_mapping no_alias (inl (none_of tree site prefix rest cut VanityPath (λ e. cc) is))
+pub best_last : (tree : Content) (host_node : Option (List (List ℕ))) (prefix rest : List ℕ) (cut : is_prefix_end rest ≡ true) (o : Option Pair) → HasNone tree host_node prefix rest cut Mapping → HasNone tree host_node prefix rest cut Alias → goes_on_after_prefix VanityPath rest ≡ true
+    → IsOf VanityPath tree None prefix o → IsBest tree host_node prefix rest o
+best_last tree host_node prefix rest cut (Some pair) no_mapping no_alias dot is = best_vanity tree host_node prefix rest cut pair no_mapping no_alias dot is
+best_last tree host_node prefix rest cut None no_mapping no_alias dot is = none_best tree host_node prefix rest cut no_mapping no_alias (inl (none_of tree host_node prefix rest cut VanityPath (λ e. cc) is))
 
 -- ---- in a turn, from the longest prefix down
 
 pub cut_at : (text : List ℕ) (k : ℕ) → k < length text → is_prefix_end (drop k text) ≡ is_separator (get_or text k 0)
 cut_at text k within = ap is_prefix_end (drop-cons text k 0 within)
 
-pub passed_prefix : (tree : Content) (site : Option (List (List ℕ))) (text prefix : List ℕ) → prefix ≡ take (length prefix) text → IsBest tree site prefix (drop (length prefix) text) None
-    → HasNoneBeyond tree site text (length prefix) → (k : ℕ) (pair : Pair) → length prefix ≤ k → Applies tree site text k pair → ⊥
-passed_prefix tree site text prefix is none beyond k pair le applies = ⊎_elim
+pub passed_prefix : (tree : Content) (host_node : Option (List (List ℕ))) (text prefix : List ℕ) → prefix ≡ take (length prefix) text → IsBest tree host_node prefix (drop (length prefix) text) None
+    → HasNoneBeyond tree host_node text (length prefix) → (k : ℕ) (pair : Pair) → length prefix ≤ k → Applies tree host_node text k pair → ⊥
+passed_prefix tree host_node text prefix is none beyond k pair le applies = ⊎_elim
     (λ (same : k ≡ length prefix).
-    none pair (subst (λ t. IsPair tree site t pair) (ap (λ n. take n text) same ∙ sym is) applies.has) (ap (λ n. goes_on_after_prefix pair.kind (drop n text)) (sym same) ∙ applies.continues))
+    none pair (subst (λ t. IsPair tree host_node t pair) (ap (λ n. take n text) same ∙ sym is) applies.has) (ap (λ n. goes_on_after_prefix pair.kind (drop n text)) (sym same) ∙ applies.continues))
     (λ (other : k ≢ length prefix). beyond k pair (omega (arith, le, other)) applies)
     (cases_eq k (length prefix))
 
 -- nor between a prefix and the next shorter one
-pub passed_between : (tree : Content) (site : Option (List (List ℕ))) (text prefix : List ℕ) (at : ℕ) → prefix ≡ take (length prefix) text → length prefix ≤ length text
-    → ((k : ℕ) (pair : Pair) → length prefix ≤ k → Applies tree site text k pair → ⊥) → ((k : ℕ) → at < k → k < length prefix → is_separator (get_or prefix k 0) ≡ false)
-    → HasNoneBeyond tree site text at
-passed_between tree site text prefix at is within passed none k pair lt applies = ⊎_elim
+pub passed_between : (tree : Content) (host_node : Option (List (List ℕ))) (text prefix : List ℕ) (at : ℕ) → prefix ≡ take (length prefix) text → length prefix ≤ length text
+    → ((k : ℕ) (pair : Pair) → length prefix ≤ k → Applies tree host_node text k pair → ⊥) → ((k : ℕ) → at < k → k < length prefix → is_separator (get_or prefix k 0) ≡ false)
+    → HasNoneBeyond tree host_node text at
+passed_between tree host_node text prefix at is within passed none k pair lt applies = ⊎_elim
     (λ (below : k < length prefix).
     let inside : k < length text = omega (arith, below, within) in
     true≢false (sym (goes_on_cut pair.kind (drop k text) applies.continues) ∙ cut_at text k inside
@@ -137,10 +137,10 @@ passed_between tree site text prefix at is within passed none k pair lt applies 
     (cases_lt k (length prefix))
 
 -- nor anywhere, where the prefix has no separator
-pub passed_all : (tree : Content) (site : Option (List (List ℕ))) (text prefix : List ℕ) → prefix ≡ take (length prefix) text → length prefix ≤ length text
-    → ((k : ℕ) (pair : Pair) → length prefix ≤ k → Applies tree site text k pair → ⊥) → ((k : ℕ) → k < length prefix → is_separator (get_or prefix k 0) ≡ false)
-    → HasNoPair tree site text
-passed_all tree site text prefix is within passed none k pair applies = ⊎_elim
+pub passed_all : (tree : Content) (host_node : Option (List (List ℕ))) (text prefix : List ℕ) → prefix ≡ take (length prefix) text → length prefix ≤ length text
+    → ((k : ℕ) (pair : Pair) → length prefix ≤ k → Applies tree host_node text k pair → ⊥) → ((k : ℕ) → k < length prefix → is_separator (get_or prefix k 0) ≡ false)
+    → HasNoPair tree host_node text
+passed_all tree host_node text prefix is within passed none k pair applies = ⊎_elim
     (λ (below : k < length prefix).
     let inside : k < length text = omega (arith, below, within) in
     true≢false (sym (goes_on_cut pair.kind (drop k text) applies.continues) ∙ cut_at text k inside
@@ -149,15 +149,15 @@ passed_all tree site text prefix is within passed none k pair applies = ⊎_elim
     (cases_lt k (length prefix))
 
 -- the best pair of a prefix decides, where no longer prefix has one
-pub decides_here : (tree : Content) (site : Option (List (List ℕ))) (text prefix : List ℕ) (pair : Pair) → prefix ≡ take (length prefix) text → length prefix ≤ length text
-    → IsBest tree site prefix (drop (length prefix) text) (Some pair) → HasNoneBeyond tree site text (length prefix) → Decides tree site text (length prefix) pair
-decides_here tree site text prefix pair is within best beyond = record {
-  applies = record { within = within; has = subst (λ t. IsPair tree site t pair) is best.0; continues = best.1 };
+pub decides_here : (tree : Content) (host_node : Option (List (List ℕ))) (text prefix : List ℕ) (pair : Pair) → prefix ≡ take (length prefix) text → length prefix ≤ length text
+    → IsBest tree host_node prefix (drop (length prefix) text) (Some pair) → HasNoneBeyond tree host_node text (length prefix) → Decides tree host_node text (length prefix) pair
+decides_here tree host_node text prefix pair is within best beyond = record {
+  applies = record { within = within; has = subst (λ t. IsPair tree host_node t pair) is best.0; continues = best.1 };
   best = λ k other applies. ⊎_elim
       (λ (below : k < length prefix). inl below)
       (λ (above : length prefix ≤ k). ⊎_elim
       (λ (same : k ≡ length prefix).
-      inr (same, best.2 other (subst (λ t. IsPair tree site t other) (ap (λ n. take n text) same ∙ sym is) applies.has) (ap (λ n. goes_on_after_prefix other.kind (drop n text)) (sym same) ∙ applies.continues)))
+      inr (same, best.2 other (subst (λ t. IsPair tree host_node t other) (ap (λ n. take n text) same ∙ sym is) applies.has) (ap (λ n. goes_on_after_prefix other.kind (drop n text)) (sym same) ∙ applies.continues)))
       (λ (apart : k ≢ length prefix). absurd (beyond k other (omega (arith, above, apart)) applies))
       (cases_eq k (length prefix)))
       (cases_lt k (length prefix));

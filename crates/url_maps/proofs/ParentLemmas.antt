@@ -23,25 +23,25 @@ use Rattle.url_maps.proofs.PathLemmas.{IsReadBack, parent_of-kid, path_from_same
 
 -- ---- the rows of a patch
 
-record At (patch : patches.Rows) (q : List (List ℕ)) (row : PatchNode) : Type 0 where
+record At (patch : patches.PatchEntries) (q : List (List ℕ)) (row : PatchNode) : Type 0 where
   pub place : ℕ
   pub is : slice_get patch place ≡ Some (q, row)
 
-row_place : (patch : patches.Rows) (q : List (List ℕ)) (row : PatchNode) → patches.row_at patch q ≡ Some row → At patch q row
+row_place : (patch : patches.PatchEntries) (q : List (List ℕ)) (row : PatchNode) → patches.entry_at patch q ≡ Some row → At patch q row
 row_place [] q row is = cc
 row_place ((p, r) ∷ patch) q row is =
     ⊎_elim
     (λ (same : same_path q p ≡ true).
-    let found : Some r ≡ Some row = sym (ap (λ b. cond b (Some r) (patches.row_at patch q)) same) ∙ is in
+    let found : Some r ≡ Some row = sym (ap (λ b. cond b (Some r) (patches.entry_at patch q)) same) ∙ is in
     let one : r ≡ row = cc in
     record { place = 0; is = ap (λ x. Some (x, r)) (sym (path_from_same q p same)) ∙ ap (λ x. Some (q, x)) one })
     (λ (other : same_path q p ≡ false).
-    let rest = row_place patch q row (sym (ap (λ b. cond b (Some r) (patches.row_at patch q)) other) ∙ is) in
+    let rest = row_place patch q row (sym (ap (λ b. cond b (Some r) (patches.entry_at patch q)) other) ∙ is) in
     record { place = suc rest.place; is = rest.is })
     (cases_Bool (same_path q p))
 
 -- each of the first rows is settled
-abbrev pub AreSettled : Content → patches.Rows → ℕ → List (List (List ℕ)) → Type 0
+abbrev pub AreSettled : Content → patches.PatchEntries → ℕ → List (List (List ℕ)) → Type 0
 AreSettled tree patch n parents = (k : ℕ) (path : List (List ℕ)) (row : PatchNode) → k < n → slice_get patch k ≡ Some (path, row) → IsSettled tree path row parents
 
 was_not : (a b : Bool) → (a ≡ true → b ≡ true) → b ≡ false → a ≡ false
@@ -57,7 +57,7 @@ settled_on tree path row old new within is = record {
 some_same : {X : Type 0} (x y : X) → Some x ≡ Some y → x ≡ y
 some_same x y e = cc
 
-pub settled_more : (tree : Content) (patch : patches.Rows) (i : ℕ) (path : List (List ℕ)) (row : PatchNode) (old new : List (List (List ℕ))) → slice_get patch i ≡ Some (path, row)
+pub settled_more : (tree : Content) (patch : patches.PatchEntries) (i : ℕ) (path : List (List ℕ)) (row : PatchNode) (old new : List (List (List ℕ))) → slice_get patch i ≡ Some (path, row)
     → AreSettled tree patch i old → IsWithin old new → IsSettled tree path row new → AreSettled tree patch (i + 1) new
 settled_more tree patch i path row old new here so_far within one k q r below there =
     ⊎_elim
@@ -73,19 +73,19 @@ left_of (there.Node node) old = refl
 left_of there.Gone old = refl
 
 -- where each row is settled, the other nodes keep what their kids claim
-pub keeps_others : (tree : Content) (patch : patches.Rows) (n : ℕ) (parents : List (List (List ℕ))) → length patch ≤ n → AreSettled tree patch n parents → KeepsOthers tree patch parents
+pub keeps_others : (tree : Content) (patch : patches.PatchEntries) (n : ℕ) (parents : List (List (List ℕ))) → length patch ≤ n → AreSettled tree patch n parents → KeepsOthers tree patch parents
 keeps_others tree patch n parents end settled p t other =
-    let settled_at : (q : List (List ℕ)) (row : PatchNode) → patches.row_at patch q ≡ Some row → IsSettled tree q row parents = λ q row is.
+    let settled_at : (q : List (List ℕ)) (row : PatchNode) → patches.entry_at patch q ≡ Some row → IsSettled tree q row parents = λ q row is.
     let at = row_place patch q row is in
     let within = slice_get_within patch at.place (q, row) at.is in
     settled at.place q row (omega (arith, within, end)) at.is in
     let kids : named_kids tree p (kids_by (node_at tree) p) ≡ named_kids tree p (kids_by (patches.patching_at tree patch) p) =
-    elim (patches.row_at patch p) as (λ o. patches.row_at patch p ≡ o → named_kids tree p (kids_if (node_at tree p)) ≡ named_kids tree p (kids_if (patches.left_by o (node_at tree p)))) [
+    elim (patches.entry_at patch p) as (λ o. patches.entry_at patch p ≡ o → named_kids tree p (kids_if (node_at tree p)) ≡ named_kids tree p (kids_if (patches.left_by o (node_at tree p)))) [
       | None ↦ λ is. refl
       | Some row ↦ λ is. (settled_at p row is).kids other ∙ ap (λ o. named_kids tree p (kids_if o)) (sym (left_of row (node_at tree p)))
     ] refl in
     let claims : (name : List ℕ) → claims_by (node_at tree) (kid p name) t ≡ claims_by (patches.patching_at tree patch) (kid p name) t = λ name.
-    elim (patches.row_at patch (kid p name)) as (λ o. patches.row_at patch (kid p name) ≡ o
+    elim (patches.entry_at patch (kid p name)) as (λ o. patches.entry_at patch (kid p name) ≡ o
     → (is_path (kid p name) && option_map_or (λ (node : Node). node_claims_alias (kid p name) node t) (node_at tree (kid p name)) false) ≡ (is_path (kid p name) && option_map_or (λ (node : Node). node_claims_alias (kid p name) node t) (patches.left_by o (node_at tree (kid p name))) false)) [
       | None ↦ λ is. refl
       | Some row ↦ λ is.
@@ -97,7 +97,7 @@ keeps_others tree patch n parents end settled p t other =
     ap (option_map (kid p)) (first_in_named tree p t (kids_by (node_at tree) p) (kids_by (patches.patching_at tree patch) p) kids)
     ∙ ap (option_map (kid p)) (find_alike (λ name. claims_by (node_at tree) (kid p name) t) (λ name. claims_by (patches.patching_at tree patch) (kid p name) t) claims (kids_by (patches.patching_at tree patch) p))
 
-pub others_alike : (tree : Content) (patch : patches.Rows) (parents same : List (List (List ℕ))) → ((q : List (List ℕ)) → list_any (same_path q) same ≡ list_any (same_path q) parents) → KeepsOthers tree patch parents → KeepsOthers tree patch same
+pub others_alike : (tree : Content) (patch : patches.PatchEntries) (parents same : List (List (List ℕ))) → ((q : List (List ℕ)) → list_any (same_path q) same ≡ list_any (same_path q) parents) → KeepsOthers tree patch parents → KeepsOthers tree patch same
 others_alike tree patch parents same alike keeps p t other = keeps p t (sym (alike p) ∙ other)
 
 -- ---- one row

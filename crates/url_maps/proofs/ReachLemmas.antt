@@ -31,17 +31,17 @@ prefix_of (a ∷ path) (s ∷ q) h =
 -- ---- ancestors are there
 
 module _ (tree : Content) (good : IsTree (node_at tree)) where
-  ancestor : (site below : List (List ℕ)) → is_some (node_at tree (site ++ below)) ≡ true → is_some (node_at tree site) ≡ true
-  ancestor site [] there = ap (λ p. is_some (node_at tree p)) (sym (append-nil site)) ∙ there
-  ancestor site (s ∷ below) there =
-      good.parents site s (ancestor (kid site s) below (ap (λ p. is_some (node_at tree p)) (append_assoc site (s ∷ []) below) ∙ there))
+  ancestor : (host_node below : List (List ℕ)) → is_some (node_at tree (host_node ++ below)) ≡ true → is_some (node_at tree host_node) ≡ true
+  ancestor host_node [] there = ap (λ p. is_some (node_at tree p)) (sym (append-nil host_node)) ∙ there
+  ancestor host_node (s ∷ below) there =
+      good.parents host_node s (ancestor (kid host_node s) below (ap (λ p. is_some (node_at tree p)) (append_assoc host_node (s ∷ []) below) ∙ there))
 
-  first_there : (site below : List (List ℕ)) (n : ℕ) → is_some (node_at tree (site ++ below)) ≡ true → is_some (node_at tree (site ++ take n below)) ≡ true
-  first_there site below zero there = ap (λ p. is_some (node_at tree p)) (append-nil site) ∙ ancestor site below there
-  first_there site [] (suc n) there = there
-  first_there site (s ∷ below) (suc n) there =
-      ap (λ p. is_some (node_at tree p)) (sym (append_assoc site (s ∷ []) (take n below)))
-      ∙ first_there (kid site s) below n (ap (λ p. is_some (node_at tree p)) (append_assoc site (s ∷ []) below) ∙ there)
+  first_there : (host_node below : List (List ℕ)) (n : ℕ) → is_some (node_at tree (host_node ++ below)) ≡ true → is_some (node_at tree (host_node ++ take n below)) ≡ true
+  first_there host_node below zero there = ap (λ p. is_some (node_at tree p)) (append-nil host_node) ∙ ancestor host_node below there
+  first_there host_node [] (suc n) there = there
+  first_there host_node (s ∷ below) (suc n) there =
+      ap (λ p. is_some (node_at tree p)) (sym (append_assoc host_node (s ∷ []) (take n below)))
+      ∙ first_there (kid host_node s) below n (ap (λ p. is_some (node_at tree p)) (append_assoc host_node (s ∷ []) below) ∙ there)
 
   -- the parent of a path that a prefix of another's text spells is above that path
   abbrev pub AreParents : Type 0
@@ -52,14 +52,14 @@ module _ (tree : Content) (good : IsTree (node_at tree)) where
   AreWithinFirst = (path below : List (List ℕ)) (n most : ℕ) → IsTrue (is_path path) → n ≤ length (text_of path) → path_of (take n (text_of path)) ≡ Ok below → length below ≤ most → n ≤ length (text_of (take most path))
 
   -- no node of a path that is plain has a pattern
-  plain_first : (site below : List (List ℕ)) (n : ℕ) → n ≤ length below → IsPlain tree site (site ++ below) → has_match tree (site ++ take n below) ≡ false
-  plain_first site below n inside plain =
-      ap (has_match tree) (sym (take-append-add site below n)) ∙ plain (length site + n) (omega arith) (omega (arith, inside, length-append site below))
+  plain_first : (host_node below : List (List ℕ)) (n : ℕ) → n ≤ length below → IsPlain tree host_node (host_node ++ below) → has_match tree (host_node ++ take n below) ≡ false
+  plain_first host_node below n inside plain =
+      ap (has_match tree) (sym (take-append-add host_node below n)) ∙ plain (length host_node + n) (omega arith) (omega (arith, inside, length-append host_node below))
 
-  -- a mapping's node below the site is no deeper than the first one along a path that is missing or has a pattern
-  depth_is : (site path below : List (List ℕ)) (depth : ℕ) → depth < length path → IsBarredAt tree site path depth → is_some (node_at tree (site ++ below)) ≡ true → IsPlain tree site (site ++ below) → is_under path (parent_of below) ≡ true
+  -- a mapping's node below the host node is no deeper than the first one along a path that is missing or has a pattern
+  depth_is : (host_node path below : List (List ℕ)) (depth : ℕ) → depth < length path → IsBarredAt tree host_node path depth → is_some (node_at tree (host_node ++ below)) ≡ true → IsPlain tree host_node (host_node ++ below) → is_under path (parent_of below) ≡ true
       → length below ≤ depth
-  depth_is site path below depth inside none there plain under = ⊎_elim
+  depth_is host_node path below depth inside none there plain under = ⊎_elim
       (λ (large : depth < length below).
       let q = parent_of below in
       let prefix = prefix_of path q under in
@@ -67,33 +67,33 @@ module _ (tree : Content) (good : IsTree (node_at tree)) where
       let deep : depth ≤ length q = omega (arith, large, size) in
       let same : take depth below ≡ take depth path =
       sym (take-take depth (length below - 1) below (omega (arith, large))) ∙ ap (take depth) (sym prefix.same) ∙ take-take depth (length q) path deep in
-      let passes_it : is_passable tree (site ++ take depth below) ≡ true =
-      and_from _ _ (first_there site below depth there) (ap not (plain_first site below depth (omega (arith, large)) plain)) in
-      absurd (true≢false (sym passes_it ∙ ap (λ p. is_passable tree (site ++ p)) same ∙ none inside)))
+      let passes_it : is_passable tree (host_node ++ take depth below) ≡ true =
+      and_from _ _ (first_there host_node below depth there) (ap not (plain_first host_node below depth (omega (arith, large)) plain)) in
+      absurd (true≢false (sym passes_it ∙ ap (λ p. is_passable tree (host_node ++ p)) same ∙ none inside)))
       (λ small. small)
       (cases_lt depth (length below))
 
-  within_reach : IsReadBack → AreParents → AreWithinFirst → (site path below : List (List ℕ)) (depth k : ℕ) → is_path path ≡ true → is_path below ≡ true → IsBarredAt tree site path depth → is_some (node_at tree (site ++ below)) ≡ true → IsPlain tree site (site ++ below)
+  within_reach : IsReadBack → AreParents → AreWithinFirst → (host_node path below : List (List ℕ)) (depth k : ℕ) → is_path path ≡ true → is_path below ≡ true → IsBarredAt tree host_node path depth → is_some (node_at tree (host_node ++ below)) ≡ true → IsPlain tree host_node (host_node ++ below)
       → k ≤ length (text_of path) → take k (text_of path) ≡ text_below below → k ≤ length (text_of (take depth path))
-  within_reach read parents within site path [] depth k valid is none there plain inside same =
+  within_reach read parents within host_node path [] depth k valid is none there plain inside same =
       let size : length (take k (text_of path)) ≡ k = length-take-le k (text_of path) inside in omega (arith, size, ap length same)
-  within_reach read parents within site path (s ∷ below) depth k valid is none there plain inside same =
+  within_reach read parents within host_node path (s ∷ below) depth k valid is none there plain inside same =
       let reads : path_of (take k (text_of path)) ≡ Ok (s ∷ below) = ap path_of same ∙ read (s ∷ below) is in
       ⊎_elim
-      (λ (fewer : depth < length path). within path (s ∷ below) k depth valid inside reads (depth_is site path (s ∷ below) depth fewer none there plain (parents path (s ∷ below) k valid inside reads)))
+      (λ (fewer : depth < length path). within path (s ∷ below) k depth valid inside reads (depth_is host_node path (s ∷ below) depth fewer none there plain (parents path (s ∷ below) k valid inside reads)))
       (λ (all : length path ≤ depth). subst (λ p. k ≤ length (text_of p)) (sym (take_all depth path all)) inside)
       (cases_lt depth (length path))
 
-  pub none_beyond : IsReadBack → AreParents → AreWithinFirst → (site path : List (List ℕ)) (text : List ℕ) (depth : ℕ) → is_path path ≡ true → text_of path ≡ text → IsBarredAt tree site path depth
-      → HasNoMappingBeyond tree (Some site) text (length (text_of (take depth path)))
-  none_beyond read parents within site path text depth valid spelled none k pair beyond inside m =
-      let is = path_below site m.below (good.nodes (site ++ m.below) m.node m.there).is_a_path in
-      let le = within_reach read parents within site path m.below depth k valid is none (ap is_some m.there) m.plain (subst (λ t. k ≤ length t) (sym spelled) inside) (ap (take k) spelled ∙ m.text_is) in
+  pub none_beyond : IsReadBack → AreParents → AreWithinFirst → (host_node path : List (List ℕ)) (text : List ℕ) (depth : ℕ) → is_path path ≡ true → text_of path ≡ text → IsBarredAt tree host_node path depth
+      → HasNoMappingBeyond tree (Some host_node) text (length (text_of (take depth path)))
+  none_beyond read parents within host_node path text depth valid spelled none k pair beyond inside m =
+      let is = path_below host_node m.below (good.nodes (host_node ++ m.below) m.node m.there).is_a_path in
+      let le = within_reach read parents within host_node path m.below depth k valid is none (ap is_some m.there) m.plain (subst (λ t. k ≤ length t) (sym spelled) inside) (ap (take k) spelled ∙ m.text_is) in
       omega (arith, le, beyond)
 
--- no mapping at all, where the site has no node, or one with a pattern
-pub none_barred : (tree : Content) → IsTree (node_at tree) → (site : List (List ℕ)) (text : List ℕ) → is_passable tree site ≡ false → HasNoMappingBeyond tree (Some site) text 0
-none_barred tree good site text none k pair beyond inside m =
-    let there : is_some (node_at tree site) ≡ true = ancestor tree good site m.below (ap is_some m.there) in
-    let plain : has_match tree site ≡ false = ap (has_match tree) (sym (take-append_seam site m.below)) ∙ m.plain (length site) (omega arith) (omega (arith, length-append site m.below)) in
+-- no mapping at all, where the host node has no node, or one with a pattern
+pub none_barred : (tree : Content) → IsTree (node_at tree) → (host_node : List (List ℕ)) (text : List ℕ) → is_passable tree host_node ≡ false → HasNoMappingBeyond tree (Some host_node) text 0
+none_barred tree good host_node text none k pair beyond inside m =
+    let there : is_some (node_at tree host_node) ≡ true = ancestor tree good host_node m.below (ap is_some m.there) in
+    let plain : has_match tree host_node ≡ false = ap (has_match tree) (sym (take-append_seam host_node m.below)) ∙ m.plain (length host_node) (omega arith) (omega (arith, length-append host_node m.below)) in
     absurd (true≢false (sym (and_from _ _ there (ap not plain)) ∙ none))

@@ -14,7 +14,7 @@ use Rattle.url_maps.specs.declared.pairs.Pair.{Pair}
 use Rattle.url_maps.specs.declared.pairs.PairKind.{PairKind}
 use Rattle.url_maps.specs.declared.pairs.PairKind.TheVariants.{Alias, VanityPath}
 use Rattle.url_maps.specs.Answers.{alias_at, alias_with, answer_of, deciding_pair, earliest, is_without_pattern, map_answer, mapping_at, mapping_with, outcome, pair_at, pair_inside, pair_to, pair_with, sibling_with_alias, turn, vanity_at, vanity_nodes, vanity_with}
-use Rattle.url_maps.specs.Mappings.{internal_target, is_redirect, mapping_of, redirect_status, redirect_target, site_of, status_in, mapping_status}
+use Rattle.url_maps.specs.Mappings.{internal_target, is_redirect, mapping_of, redirect_status, redirect_target, host_node_of, status_in, mapping_status}
 use Rattle.url_maps.specs.Pairs.{goes_on_after_prefix}
 use Rattle.url_maps.specs.Search.{is_prefix_end, mapped_path}
 use Rattle.url_maps.specs.Turns.{most_turns, text_after}
@@ -67,13 +67,13 @@ either : (b : Bool) (o : Option Pair) → Redirects o → Redirects (cond b o No
 either true o redirects = redirects
 either false o redirects = tt
 
-path_redirects : (tree : Content) (site : List (List ℕ)) (o : Option (List (List ℕ))) → Redirects (option_and_then (mapping_at tree site) o)
-path_redirects tree site None = tt
-path_redirects tree site (Some path) = either (is_without_pattern tree site path) (option_map pair_to (option_and_then mapping_of (node_at tree path))) (node_redirects (node_at tree path))
+path_redirects : (tree : Content) (host_node : List (List ℕ)) (o : Option (List (List ℕ))) → Redirects (option_and_then (mapping_at tree host_node) o)
+path_redirects tree host_node None = tt
+path_redirects tree host_node (Some path) = either (is_without_pattern tree host_node path) (option_map pair_to (option_and_then mapping_of (node_at tree path))) (node_redirects (node_at tree path))
 
-mapping_redirects : (tree : Content) (site : Option (List (List ℕ))) (prefix : List ℕ) → Redirects (mapping_with tree site prefix)
+mapping_redirects : (tree : Content) (host_node : Option (List (List ℕ))) (prefix : List ℕ) → Redirects (mapping_with tree host_node prefix)
 mapping_redirects tree None prefix = tt
-mapping_redirects tree (Some site) prefix = path_redirects tree site (mapped_path site prefix)
+mapping_redirects tree (Some host_node) prefix = path_redirects tree host_node (mapped_path host_node prefix)
 
 inside_redirects : (kind : PairKind) (to : List (List ℕ) → List (List ℕ)) (o : Option (List (List ℕ))) → Redirects (option_map (λ path. pair_inside kind (to path)) o)
 inside_redirects kind to None = tt
@@ -91,13 +91,13 @@ first_redirects : (o p : Option Pair) → Redirects o → Redirects p → Redire
 first_redirects None p first second = second
 first_redirects (Some pair) p first second = first
 
-place_redirects : (tree : Content) (site : Option (List (List ℕ))) (text : List ℕ) (at : ℕ) → Redirects (pair_at tree site text at)
-place_redirects tree site text at =
+place_redirects : (tree : Content) (host_node : Option (List (List ℕ))) (text : List ℕ) (at : ℕ) → Redirects (pair_at tree host_node text at)
+place_redirects tree host_node text at =
     let prefix = take at text in
     let rest = drop at text in
     let vanity = cond (goes_on_after_prefix VanityPath rest) (vanity_with tree prefix) None in
-    either (is_prefix_end rest) (pair_with tree site prefix rest)
-    (first_redirects (mapping_with tree site prefix) (option_or (alias_with tree prefix) vanity) (mapping_redirects tree site prefix)
+    either (is_prefix_end rest) (pair_with tree host_node prefix rest)
+    (first_redirects (mapping_with tree host_node prefix) (option_or (alias_with tree prefix) vanity) (mapping_redirects tree host_node prefix)
     (first_redirects (alias_with tree prefix) vanity (alias_redirects tree (path_of prefix))
     (either (goes_on_after_prefix VanityPath rest) (vanity_with tree prefix) (vanity_redirects tree prefix (path_of prefix)))))
 
@@ -108,9 +108,9 @@ later_redirects : (at : ℕ) (o : Option Pair) (p : Option (ℕ × Pair)) → Re
 later_redirects at None p first second = second
 later_redirects at (Some pair) p first second = first
 
-decision_redirects : (tree : Content) (site : Option (List (List ℕ))) (text : List ℕ) (n : ℕ) → DecisionRedirects (deciding_pair tree site text n)
-decision_redirects tree site text zero = tt
-decision_redirects tree site text (suc at) = later_redirects at (pair_at tree site text at) (deciding_pair tree site text at) (place_redirects tree site text at) (decision_redirects tree site text at)
+decision_redirects : (tree : Content) (host_node : Option (List (List ℕ))) (text : List ℕ) (n : ℕ) → DecisionRedirects (deciding_pair tree host_node text n)
+decision_redirects tree host_node text zero = tt
+decision_redirects tree host_node text (suc at) = later_redirects at (pair_at tree host_node text at) (deciding_pair tree host_node text at) (place_redirects tree host_node text at) (decision_redirects tree host_node text at)
 
 -- an answer that leads away does so by a status of a redirect
 abbrev AnswerRedirects : MapAnswer → Type 0
@@ -125,10 +125,10 @@ turn_redirects : (text : List ℕ) (further : List ℕ → MapAnswer) (o : Optio
 turn_redirects text further None is rest = tt
 turn_redirects text further (Some (at, pair)) is rest = outcome_redirects pair.away (text_after pair at text) further is rest
 
-answer_redirects : (tree : Content) (n : ℕ) (site : Option (List (List ℕ))) (text : List ℕ) → AnswerRedirects (answer_of tree n site text)
-answer_redirects tree zero site text = tt
-answer_redirects tree (suc n) site text = turn_redirects text (answer_of tree n None) (deciding_pair tree site text (suc (length text))) (decision_redirects tree site text (suc (length text))) (answer_redirects tree n None)
+answer_redirects : (tree : Content) (n : ℕ) (host_node : Option (List (List ℕ))) (text : List ℕ) → AnswerRedirects (answer_of tree n host_node text)
+answer_redirects tree zero host_node text = tt
+answer_redirects tree (suc n) host_node text = turn_redirects text (answer_of tree n None) (deciding_pair tree host_node text (suc (length text))) (decision_redirects tree host_node text (suc (length text))) (answer_redirects tree n None)
 
 pub away_redirects : (tree : Content) (host : List ℕ) (port : ℕ) (text target : List ℕ) (status : ℕ) → map_answer tree host port text ≡ Away status target → is_redirect status ≡ true
 unfolding map_answer
-away_redirects tree host port text target status is = subst AnswerRedirects is (answer_redirects tree most_turns (Some (site_of host port)) text)
+away_redirects tree host port text target status is = subst AnswerRedirects is (answer_redirects tree most_turns (Some (host_node_of host port)) text)

@@ -52,14 +52,6 @@ pub or_else_none : (paths : List (List (List ℕ))) → or_else paths [] ≡ pat
 or_else_none [] = refl
 or_else_none (p ∷ paths) = refl
 
-pub or_else_empty : (paths others : List (List (List ℕ))) → length paths ≡ 0 → or_else paths others ≡ others
-or_else_empty [] others none = refl
-or_else_empty (p ∷ paths) others none = absurd (omega (arith, none))
-
-pub or_else_some : (paths others : List (List (List ℕ))) → (length paths ≡ 0 → ⊥) → or_else paths others ≡ paths
-or_else_some [] others some = absurd (some refl)
-or_else_some (p ∷ paths) others some = refl
-
 or_else_same : (paths : List (List (List ℕ))) → or_else paths paths ≡ paths
 or_else_same [] = refl
 or_else_same (p ∷ paths) = refl
@@ -318,10 +310,6 @@ last_no false b e = e
 first_no : (a b : Bool) → (a || b) ≡ false → a ≡ false
 first_no true b e = e
 first_no false b e = refl
-
-first_in : (a b c d : Bool) → ((a && b) || (a && d)) ≡ true → a ≡ true
-first_in true b c d e = refl
-first_in false b c d e = absurd (false≢true e)
 
 settle : (among : Bool) (row : Option (List (List (List ℕ)))) (before after : Option (List (List ℕ))) → (among ≡ false → before ≡ after)
     → option_map_or (λ paths. paths) row [] ≡ cond among (option_to_list after) [] → is_some row ≡ ((among && is_some before) || (among && is_some after))

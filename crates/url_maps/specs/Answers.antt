@@ -14,7 +14,7 @@ use Rattle.url_maps.specs.declared.pairs.Pair.{Pair}
 use Rattle.url_maps.specs.declared.pairs.PairKind.{PairKind}
 use Rattle.url_maps.specs.declared.pairs.PairKind.TheVariants.{Mapping, Alias, VanityPath}
 use Rattle.url_maps.specs.Aliases.{has_alias}
-use Rattle.url_maps.specs.Mappings.{has_match, mapping_of, site_of}
+use Rattle.url_maps.specs.Mappings.{has_match, mapping_of, host_node_of}
 use Rattle.url_maps.specs.Pairs.{goes_on_after_prefix}
 use Rattle.url_maps.specs.Search.{is_prefix_end, mapped_path}
 use Rattle.url_maps.specs.Turns.{most_turns, text_after}
@@ -22,20 +22,20 @@ use Rattle.url_maps.specs.VanityPaths.{has_vanity_path, vanity_page, vanity_cmp}
 
 -- ---- the pair of each kind with a prefix
 
--- whether no node from the site's down to the path has a pattern
+-- whether no node from the host node down to the path has a pattern
 abbrev pub is_without_pattern : Content → List (List ℕ) → List (List ℕ) → Bool
-is_without_pattern tree site path = list_all (λ depth. not (has_match tree (take depth path))) (range_with_len (length site) (length path + 1 - length site))
+is_without_pattern tree host_node path = list_all (λ depth. not (has_match tree (take depth path))) (range_with_len (length host_node) (length path + 1 - length host_node))
 
 abbrev pub pair_to : List ℕ × Option ℕ → Pair
 pair_to leads = record { kind = Mapping; target = leads.0; away = leads.1 }
 
 abbrev pub mapping_at : Content → List (List ℕ) → List (List ℕ) → Option Pair
-mapping_at tree site path = if is_without_pattern tree site path then option_map pair_to (option_and_then mapping_of (node_at tree path)) else None
+mapping_at tree host_node path = if is_without_pattern tree host_node path then option_map pair_to (option_and_then mapping_of (node_at tree path)) else None
 
 -- the mapping with a prefix
 abbrev pub mapping_with : Content → Option (List (List ℕ)) → List ℕ → Option Pair
 mapping_with tree None prefix = None
-mapping_with tree (Some site) prefix = option_and_then (mapping_at tree site) (mapped_path site prefix)
+mapping_with tree (Some host_node) prefix = option_and_then (mapping_at tree host_node) (mapped_path host_node prefix)
 
 -- the pair to a node
 abbrev pub pair_inside : PairKind → List (List ℕ) → Pair
@@ -79,16 +79,16 @@ vanity_with tree prefix = vanity_at tree prefix (path_of prefix)
 
 -- among those with a prefix, before the rest of a text
 abbrev pub pair_with : Content → Option (List (List ℕ)) → List ℕ → List ℕ → Option Pair
-pair_with tree site prefix rest = option_or (mapping_with tree site prefix) (option_or (alias_with tree prefix) (if goes_on_after_prefix VanityPath rest then vanity_with tree prefix else None))
+pair_with tree host_node prefix rest = option_or (mapping_with tree host_node prefix) (option_or (alias_with tree prefix) (if goes_on_after_prefix VanityPath rest then vanity_with tree prefix else None))
 
 -- among those whose prefix ends at a place of a text
 abbrev pub pair_at : Content → Option (List (List ℕ)) → List ℕ → ℕ → Option Pair
-pair_at tree site text at = if is_prefix_end (drop at text) then pair_with tree site (take at text) (drop at text) else None
+pair_at tree host_node text at = if is_prefix_end (drop at text) then pair_with tree host_node (take at text) (drop at text) else None
 
 -- among those whose prefix ends before a place: the one at the last place, and that place
 abbrev pub deciding_pair : Content → Option (List (List ℕ)) → List ℕ → ℕ → Option (ℕ × Pair)
-deciding_pair tree site text zero = None
-deciding_pair tree site text (suc at) = option_or (option_map (λ pair. (at, pair)) (pair_at tree site text at)) (deciding_pair tree site text at)
+deciding_pair tree host_node text zero = None
+deciding_pair tree host_node text (suc at) = option_or (option_map (λ pair. (at, pair)) (pair_at tree host_node text at)) (deciding_pair tree host_node text at)
 
 -- ---- the turns
 
@@ -102,9 +102,9 @@ turn text further (Some (at, pair)) = outcome pair.away (text_after pair at text
 
 -- the answer of so many turns
 abbrev pub answer_of : Content → ℕ → Option (List (List ℕ)) → List ℕ → MapAnswer
-answer_of tree zero site text = Inside text
-answer_of tree (suc n) site text = turn text (answer_of tree n None) (deciding_pair tree site text (suc (length text)))
+answer_of tree zero host_node text = Inside text
+answer_of tree (suc n) host_node text = turn text (answer_of tree n None) (deciding_pair tree host_node text (suc (length text)))
 
 -- what the tree maps the text to, for a host and a port
 unfoldable pub map_answer : Content → List ℕ → ℕ → List ℕ → MapAnswer
-map_answer tree host port text = answer_of tree most_turns (Some (site_of host port)) text
+map_answer tree host port text = answer_of tree most_turns (Some (host_node_of host port)) text

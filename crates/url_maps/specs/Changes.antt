@@ -20,7 +20,7 @@ abbrev pub claimants_over : ClaimRows → ClaimRows → List ℕ → List (List 
 claimants_over changed rows text = option_map_or (λ paths. paths) (lookup (bytes_eq text) changed) (claimants rows text)
 
 -- whether a node claims a text as its vanity path, in a tree with a patch over it
-abbrev pub patched_vanity_path : Content → patches.Rows → List (List ℕ) → List ℕ → Bool
+abbrev pub patched_vanity_path : Content → patches.PatchEntries → List (List ℕ) → List ℕ → Bool
 patched_vanity_path tree patch path text = option_map_or (λ node. node_claims_vanity_path node text) (patches.patching_at tree patch path) false
 
 -- The rows lead from claims to others: where a text has a row, those in it claim the text after, and no others; where it has none, those claim it who did before.
@@ -34,11 +34,11 @@ LeadsOn before after changed = (path : List (List ℕ)) → is_path path ≡ tru
     → option_map_or (λ paths. paths) (lookup (bytes_eq (text_of path)) changed) (option_to_list (first_claimant before (parent_of path) (text_of path))) ≡ option_to_list (first_claimant after (parent_of path) (text_of path))
 
 -- The nodes that claim a text without a row are after a patch as before it.
-abbrev pub LeavesOthers : Content → patches.Rows → ClaimRows → Type 0
+abbrev pub LeavesOthers : Content → patches.PatchEntries → ClaimRows → Type 0
 LeavesOthers tree patch changed = (text : List ℕ) (path : List (List ℕ)) → lookup (bytes_eq text) changed ≡ None → claims_vanity_path tree path text ≡ true → patches.patching_at tree patch path ≡ node_at tree path
 
 -- The change is the one that a patch of a tree makes.
-pub record IsChangeOf (tree : Content) (patch : patches.Rows) (change : Change) : Type 0 where
+pub record IsChangeOf (tree : Content) (patch : patches.PatchEntries) (change : Change) : Type 0 where
   pub aliases : LeadsOn (node_at tree) (patches.patching_at tree patch) change.aliases
   pub vanity_paths : AreChanged (claims_vanity_path tree) (patched_vanity_path tree patch) change.vanity_paths
   pub others : LeavesOthers tree patch change.vanity_paths

@@ -9,14 +9,14 @@ use Rattle.resource_tree.specs.Content.{Content, node_at, prop_at}
 use Rattle.url_maps.specs.Words.{mapping_texts, first_text, mapping_number}
 
 -- the name of the node with the mappings for a host and a port: the host in lower case, a dot and the port
-abbrev pub site_name : List ℕ → ℕ → List ℕ
-site_name host port = map to_ascii_lowercase host ++ 46 ∷ decimal port
+abbrev pub host_node_name : List ℕ → ℕ → List ℕ
+host_node_name host port = map to_ascii_lowercase host ++ 46 ∷ decimal port
 
 -- the path of that node
-abbrev pub site_of : List ℕ → ℕ → List (List ℕ)
-site_of host port = codes "etc" ∷ codes "map" ∷ codes "http" ∷ site_name host port ∷ []
+abbrev pub host_node_of : List ℕ → ℕ → List (List ℕ)
+host_node_of host port = codes "etc" ∷ codes "map" ∷ codes "http" ∷ host_node_name host port ∷ []
 
--- a slash before each segment: the text of a path below a site, empty for the site itself
+-- a slash before each segment: the text of a path below a host node, empty for the host node itself
 abbrev pub text_below : List (List ℕ) → List ℕ
 text_below path = flat_map (λ s. 47 ∷ s) path
 
@@ -24,9 +24,9 @@ text_below path = flat_map (λ s. 47 ∷ s) path
 unfoldable pub has_match : Content → List (List ℕ) → Bool
 has_match tree path = option_map_or (λ node. is_some (prop_at node (codes "sling:match"))) (node_at tree path) false
 
--- no node from the site's down to the path has a pattern
+-- no node from the host node down to the path has a pattern
 abbrev pub IsPlain : Content → List (List ℕ) → List (List ℕ) → Type 0
-IsPlain tree site path = (k : ℕ) → length site ≤ k → k ≤ length path → has_match tree (take k path) ≡ false
+IsPlain tree host_node path = (k : ℕ) → length host_node ≤ k → k ≤ length path → has_match tree (take k path) ≡ false
 
 -- the statuses of a redirect (RFC 9110, section 15.4)
 abbrev pub is_redirect : ℕ → Bool
@@ -56,12 +56,12 @@ redirect_target node = option_map (λ target. (target, Some (mapping_status node
 abbrev pub mapping_of : Node → Option (List ℕ × Option ℕ)
 mapping_of node = option_or (option_map (λ target. (target, None)) (internal_target node)) (redirect_target node)
 
--- A text has a mapping of a site: it is the text of the path below the site at which a node leads to the target. A node with a pattern, and all
+-- A text has a mapping of a host node: it is the text of the path below the host node at which a node leads to the target. A node with a pattern, and all
 -- below it, is passed over.
-pub record IsMapping (tree : Content) (site : List (List ℕ)) (text target : List ℕ) (away : Option ℕ) : Type 0 where
+pub record IsMapping (tree : Content) (host_node : List (List ℕ)) (text target : List ℕ) (away : Option ℕ) : Type 0 where
   pub below : List (List ℕ)
   pub text_is : text ≡ text_below below
   pub node : Node
-  pub there : node_at tree (site ++ below) ≡ Some node
-  pub plain : IsPlain tree site (site ++ below)
+  pub there : node_at tree (host_node ++ below) ≡ Some node
+  pub plain : IsPlain tree host_node (host_node ++ below)
   pub leads : mapping_of node ≡ Some (target, away)

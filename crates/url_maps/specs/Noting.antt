@@ -11,11 +11,11 @@ use Rattle.resource_tree.specs.Patches as patches
 use Rattle.url_maps.specs.Claims.{ClaimRows, IsLeader, IsLed, claimants, node_claims_vanity_path}
 
 -- those of some paths at which a patch has nothing
-abbrev pub kept : patches.Rows → List (List (List ℕ)) → List (List (List ℕ))
-kept patch paths = filter (λ path. is_none (patches.row_at patch path)) paths
+abbrev pub kept : patches.PatchEntries → List (List (List ℕ)) → List (List (List ℕ))
+kept patch paths = filter (λ path. is_none (patches.entry_at patch path)) paths
 
 -- the claimants of a text as a change has them so far
-abbrev pub noted : ClaimRows → patches.Rows → ClaimRows → List ℕ → List (List (List ℕ))
+abbrev pub noted : ClaimRows → patches.PatchEntries → ClaimRows → List ℕ → List (List (List ℕ))
 noted rows patch changed text = option_map_or (λ paths. paths) (lookup (bytes_eq text) changed) (kept patch (claimants rows text))
 
 -- whether a path is the one, if there is one
@@ -27,12 +27,12 @@ abbrev pub has_row : ClaimRows → List ℕ → Bool
 has_row changed text = is_some (lookup (bytes_eq text) changed)
 
 -- Texts are noted, with more who claim them.
-pub record Notes (rows : ClaimRows) (patch : patches.Rows) (who : List (List ℕ) → Bool) (texts : List ℕ → Bool) (old new : ClaimRows) : Type 0 where
+pub record Notes (rows : ClaimRows) (patch : patches.PatchEntries) (who : List (List ℕ) → Bool) (texts : List ℕ → Bool) (old new : ClaimRows) : Type 0 where
   pub claims : (text : List ℕ) (q : List (List ℕ)) → list_any (same_path q) (noted rows patch new text) ≡ (list_any (same_path q) (noted rows patch old text) || (who q && texts text))
   pub has : (text : List ℕ) → has_row new text ≡ (has_row old text || texts text)
 
 -- The texts that the node at a path claims before a patch, and those that it claims after it, are noted.
-pub record NotesRow (rows : ClaimRows) (patch : patches.Rows) (path : List (List ℕ)) (before after : List ℕ → Bool) (old new : ClaimRows) : Type 0 where
+pub record NotesRow (rows : ClaimRows) (patch : patches.PatchEntries) (path : List (List ℕ)) (before after : List ℕ → Bool) (old new : ClaimRows) : Type 0 where
   pub claims : (text : List ℕ) (q : List (List ℕ)) → list_any (same_path q) (noted rows patch new text) ≡ (list_any (same_path q) (noted rows patch old text) || (same_path q path && after text))
   pub has : (text : List ℕ) → has_row new text ≡ (has_row old text || (before text || after text))
 

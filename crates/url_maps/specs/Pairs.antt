@@ -9,10 +9,10 @@ use Rattle.url_maps.specs.Aliases.{IsAlias}
 use Rattle.url_maps.specs.Mappings.{IsMapping}
 use Rattle.url_maps.specs.VanityPaths.{IsVanityPath, vanity_page}
 
--- a mapping of a site, if there is one
+-- a mapping of a host node, if there is one
 abbrev pub HasMapping : Content → Option (List (List ℕ)) → List ℕ → Pair → Type 0
 HasMapping tree None prefix pair = ⊥
-HasMapping tree (Some site) prefix pair = IsMapping tree site prefix pair.target pair.away
+HasMapping tree (Some host_node) prefix pair = IsMapping tree host_node prefix pair.target pair.away
 
 -- the alias of a node
 pub record HasAlias (tree : Content) (prefix : List ℕ) (pair : Pair) : Type 0 where
@@ -29,13 +29,13 @@ pub record HasVanityPath (tree : Content) (prefix : List ℕ) (pair : Pair) : Ty
   pub inside : pair.away ≡ None
 
 abbrev pub IsPairOf : PairKind → Content → Option (List (List ℕ)) → List ℕ → Pair → Type 0
-IsPairOf Mapping tree site prefix pair = HasMapping tree site prefix pair
-IsPairOf Alias tree site prefix pair = HasAlias tree prefix pair
-IsPairOf VanityPath tree site prefix pair = HasVanityPath tree prefix pair
+IsPairOf Mapping tree host_node prefix pair = HasMapping tree host_node prefix pair
+IsPairOf Alias tree host_node prefix pair = HasAlias tree prefix pair
+IsPairOf VanityPath tree host_node prefix pair = HasVanityPath tree prefix pair
 
--- The tree has the pair with the prefix; its mappings are those of the site, if there is one.
+-- The tree has the pair with the prefix; its mappings are those of the host node, if there is one.
 abbrev pub IsPair : Content → Option (List (List ℕ)) → List ℕ → Pair → Type 0
-IsPair tree site prefix pair = IsPairOf pair.kind tree site prefix pair
+IsPair tree host_node prefix pair = IsPairOf pair.kind tree host_node prefix pair
 
 -- a text may go on after a prefix with a slash or a dot, after that of a vanity path with a dot alone
 abbrev pub goes_on_after_prefix : PairKind → List ℕ → Bool
@@ -45,9 +45,9 @@ goes_on_after_prefix Alias (b ∷ rest) = b == 46 || b == 47
 goes_on_after_prefix VanityPath (b ∷ rest) = b == 46
 
 -- the pair whose prefix ends at a place of a text applies to the text
-pub record Applies (tree : Content) (site : Option (List (List ℕ))) (text : List ℕ) (at : ℕ) (pair : Pair) : Type 0 where
+pub record Applies (tree : Content) (host_node : Option (List (List ℕ))) (text : List ℕ) (at : ℕ) (pair : Pair) : Type 0 where
   pub within : at ≤ length text
-  pub has : IsPair tree site (take at text) pair
+  pub has : IsPair tree host_node (take at text) pair
   pub continues : goes_on_after_prefix pair.kind (drop at text) ≡ true
 
 -- at a tie a mapping decides before an alias, and an alias before a vanity path
@@ -57,9 +57,9 @@ rank Alias = 1
 rank VanityPath = 2
 
 -- of the pairs that apply the one with the longest prefix decides
-pub record Decides (tree : Content) (site : Option (List (List ℕ))) (text : List ℕ) (at : ℕ) (pair : Pair) : Type 0 where
-  pub applies : Applies tree site text at pair
-  pub best : (k : ℕ) (other : Pair) → Applies tree site text k other → (k < at) ⊎ ((k ≡ at) × (rank pair.kind ≤ rank other.kind))
+pub record Decides (tree : Content) (host_node : Option (List (List ℕ))) (text : List ℕ) (at : ℕ) (pair : Pair) : Type 0 where
+  pub applies : Applies tree host_node text at pair
+  pub best : (k : ℕ) (other : Pair) → Applies tree host_node text k other → (k < at) ⊎ ((k ≡ at) × (rank pair.kind ≤ rank other.kind))
 
 abbrev pub HasNoPair : Content → Option (List (List ℕ)) → List ℕ → Type 0
-HasNoPair tree site text = (k : ℕ) (pair : Pair) → Applies tree site text k pair → ⊥
+HasNoPair tree host_node text = (k : ℕ) (pair : Pair) → Applies tree host_node text k pair → ⊥

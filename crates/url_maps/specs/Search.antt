@@ -1,11 +1,11 @@
--- What the functions of the search promise one another, and its words. A reader of the relation in Turns.antt needs none of it.
-use Rattle.std.specs.Prelude.{◌≡◌, ◌≤◌, ◌<◌, ◌⊎◌, ◌&&◌, ◌||◌, ◌==◌, ◌++◌, ℕ, Bool, true, false, is_none, is_some, not, find, List, [], ◌∷◌, Option, Some, None, Result, Ok, Err, length, option_map, slice_index, slice_index_or, take}
+-- What the functions of the search promise one another, and its words. A reader of the relation in Turns.antt needs none of it, and the
+-- answer in Answers.antt `is_prefix_end`, `below_host_node` and `mapped_path` alone.
+use Rattle.std.specs.Prelude.{◌≡◌, ◌≤◌, ◌<◌, ◌⊎◌, ◌&&◌, ◌||◌, ◌==◌, ◌++◌, ℕ, Bool, true, false, is_none, is_some, not, List, [], ◌∷◌, Option, Some, None, Result, Ok, Err, length, slice_index, take}
 use Rattle.std.specs.List.{list_any}
 use Rattle.std.specs.declared.cmp.Ordering.TheVariants.{Less}
 use Rattle.sp_base.specs.Paths.{path_of, path_or_none}
 use Rattle.sp_base.specs.declared.path.PathFault.{PathFault}
-use Rattle.resource_tree.specs.Content.{Content, kid, node_at, same_path}
-use Rattle.resource_tree.specs.Changes.{kids_at}
+use Rattle.resource_tree.specs.Content.{Content, node_at, same_path}
 use Rattle.url_maps.specs.declared.pairs.Pair.{Pair}
 use Rattle.url_maps.specs.declared.pairs.PairKind.{PairKind}
 use Rattle.url_maps.specs.declared.turns.MappingStep.{MappingStep}
@@ -18,8 +18,8 @@ use Rattle.url_maps.specs.VanityPaths.{vanity_cmp}
 
 -- the pair of a kind with a prefix, or that there is none
 abbrev pub IsOf : PairKind → Content → Option (List (List ℕ)) → List ℕ → Option Pair → Type 0
-IsOf kind tree site prefix (Some pair) = (pair.kind ≡ kind) × IsPair tree site prefix pair
-IsOf kind tree site prefix None = (pair : Pair) → pair.kind ≡ kind → IsPair tree site prefix pair → ⊥
+IsOf kind tree host_node prefix (Some pair) = (pair.kind ≡ kind) × IsPair tree host_node prefix pair
+IsOf kind tree host_node prefix None = (pair : Pair) → pair.kind ≡ kind → IsPair tree host_node prefix pair → ⊥
 
 -- whether no node is at a path
 abbrev pub is_free_at : Content → Result (List (List ℕ)) PathFault → Bool
@@ -29,14 +29,6 @@ is_free_at tree (Err e) = false
 -- whether a text spells a path at which no node is
 abbrev pub is_free : Content → List ℕ → Bool
 is_free tree text = is_free_at tree (path_of text)
-
--- the first kid of a node that is among some paths
-abbrev pub first_kid : Content → List (List ℕ) → List (List (List ℕ)) → Option (List (List ℕ))
-first_kid tree parent paths = option_map (kid parent) (find (λ name. list_any (same_path (kid parent name)) paths) (kids_at tree parent))
-
--- the first of some paths, the root where there is none
-abbrev pub first_path : List (List (List ℕ)) → List (List ℕ)
-first_path paths = slice_index_or paths 0 []
 
 -- a path is among others, and before each of them in the order of nodes with one vanity path
 pub record IsFirstPath (tree : Content) (paths : List (List (List ℕ))) (path : List (List ℕ)) : Type 0 where
@@ -50,20 +42,20 @@ is_prefix_end (b ∷ rest) = b == 46 || b == 47
 
 -- no mapping's prefix in a text has more bytes
 abbrev pub HasNoMappingBeyond : Content → Option (List (List ℕ)) → List ℕ → ℕ → Type 0
-HasNoMappingBeyond tree site text reach = (k : ℕ) (pair : Pair) → reach < k → k ≤ length text → HasMapping tree site (take k text) pair → ⊥
+HasNoMappingBeyond tree host_node text reach = (k : ℕ) (pair : Pair) → reach < k → k ≤ length text → HasMapping tree host_node (take k text) pair → ⊥
 
 -- a prefix of more bytes is none of a mapping
 abbrev pub IsBeyond : Content → Option (List (List ℕ)) → List ℕ → ℕ → Type 0
-IsBeyond tree site prefix reach = (pair : Pair) → reach < length prefix → HasMapping tree site prefix pair → ⊥
+IsBeyond tree host_node prefix reach = (pair : Pair) → reach < length prefix → HasMapping tree host_node prefix pair → ⊥
 
 -- whether a node is at a path, and that one without a pattern
 abbrev pub is_passable : Content → List (List ℕ) → Bool
 is_passable tree path = is_some (node_at tree path) && not (has_match tree path)
 
--- So many first segments of a path, unless they are all, lead to no node below a site, or to one with a pattern. The least such depth cuts
+-- So many first segments of a path, unless they are all, lead to no node below a host node, or to one with a pattern. The least such depth cuts
 -- the most off: a greater one would cost time, as more prefixes are looked up, and never change an answer.
 abbrev pub IsBarredAt : Content → List (List ℕ) → List (List ℕ) → ℕ → Type 0
-IsBarredAt tree site path depth = depth < length path → is_passable tree (site ++ take depth path) ≡ false
+IsBarredAt tree host_node path depth = depth < length path → is_passable tree (host_node ++ take depth path) ≡ false
 
 -- a byte before which a text may be cut
 abbrev pub is_separator : ℕ → Bool
@@ -76,36 +68,36 @@ IsLastSeparator text None = (k : ℕ) → k < length text → is_separator (slic
 
 -- the pair that decides among those with a prefix, before the rest of a text
 abbrev pub IsBest : Content → Option (List (List ℕ)) → List ℕ → List ℕ → Option Pair → Type 0
-IsBest tree site prefix rest (Some pair) = IsPair tree site prefix pair × (goes_on_after_prefix pair.kind rest ≡ true)
-    × ((other : Pair) → IsPair tree site prefix other → goes_on_after_prefix other.kind rest ≡ true → rank pair.kind ≤ rank other.kind)
-IsBest tree site prefix rest None = (other : Pair) → IsPair tree site prefix other → goes_on_after_prefix other.kind rest ≡ true → ⊥
+IsBest tree host_node prefix rest (Some pair) = IsPair tree host_node prefix pair × (goes_on_after_prefix pair.kind rest ≡ true)
+    × ((other : Pair) → IsPair tree host_node prefix other → goes_on_after_prefix other.kind rest ≡ true → rank pair.kind ≤ rank other.kind)
+IsBest tree host_node prefix rest None = (other : Pair) → IsPair tree host_node prefix other → goes_on_after_prefix other.kind rest ≡ true → ⊥
 
 -- no pair with a prefix of more bytes applies
 abbrev pub HasNoneBeyond : Content → Option (List (List ℕ)) → List ℕ → ℕ → Type 0
-HasNoneBeyond tree site text at = (k : ℕ) (pair : Pair) → at < k → Applies tree site text k pair → ⊥
+HasNoneBeyond tree host_node text at = (k : ℕ) (pair : Pair) → at < k → Applies tree host_node text k pair → ⊥
 
 -- what the pair that decides makes of a text
-pub record IsStep (tree : Content) (site : Option (List (List ℕ))) (text : List ℕ) (step : MappingStep) : Type 0 where
+pub record IsStep (tree : Content) (host_node : Option (List (List ℕ))) (text : List ℕ) (step : MappingStep) : Type 0 where
   pub at : ℕ
   pub pair : Pair
-  pub decides : Decides tree site text at pair
+  pub decides : Decides tree host_node text at pair
   pub text_is : step.text ≡ text_after pair at text
   pub away_is : step.away ≡ pair.away
 
 -- a turn, or that no pair applies
 abbrev pub IsTurn : Content → Option (List (List ℕ)) → List ℕ → Option MappingStep → Type 0
-IsTurn tree site text (Some step) = IsStep tree site text step
-IsTurn tree site text None = HasNoPair tree site text
+IsTurn tree host_node text (Some step) = IsStep tree host_node text step
+IsTurn tree host_node text None = HasNoPair tree host_node text
 
--- the path below a site that a prefix names, where there is one
-abbrev pub below_site : List (List ℕ) → Result (List (List ℕ)) PathFault → Option (List (List ℕ))
-below_site site (Ok below) = path_or_none (site ++ below)
-below_site site (Err e) = None
+-- the path below a host node that a prefix names, where there is one
+abbrev pub below_host_node : List (List ℕ) → Result (List (List ℕ)) PathFault → Option (List (List ℕ))
+below_host_node host_node (Ok below) = path_or_none (host_node ++ below)
+below_host_node host_node (Err e) = None
 
 abbrev pub mapped_path : List (List ℕ) → List ℕ → Option (List (List ℕ))
-mapped_path site [] = Some site
-mapped_path site (b ∷ []) = None
-mapped_path site (b ∷ c ∷ text) = below_site site (path_of (b ∷ c ∷ text))
+mapped_path host_node [] = Some host_node
+mapped_path host_node (b ∷ []) = None
+mapped_path host_node (b ∷ c ∷ text) = below_host_node host_node (path_of (b ∷ c ∷ text))
 
 -- the pair of a mapping's node, or that it leads nowhere
 abbrev pub IsMappingPair : Node → Option Pair → Type 0

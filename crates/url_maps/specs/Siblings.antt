@@ -87,5 +87,5 @@ abbrev pub IsWithin : List (List (List ℕ)) → List (List (List ℕ)) → Type
 IsWithin old new = (path : List (List ℕ)) → list_any (same_path path) old ≡ true → list_any (same_path path) new ≡ true
 
 -- where a node isn't among the parents, its kids that claim a text are the same before a patch and after it
-abbrev pub KeepsOthers : Content → patches.Rows → List (List (List ℕ)) → Type 0
+abbrev pub KeepsOthers : Content → patches.PatchEntries → List (List (List ℕ)) → Type 0
 KeepsOthers tree patch parents = (parent : List (List ℕ)) (text : List ℕ) → list_any (same_path parent) parents ≡ false → first_claimant (node_at tree) parent text ≡ first_claimant (patches.patching_at tree patch) parent text

@@ -1,7 +1,7 @@
 // The change of an index by a patch of the tree.
 ghost use Rattle.std.specs.Prelude.{◌≡◌, ℕ, List, IfOk, OnOk};
 ghost use Rattle.resource_tree.specs.Content.{Content, node_at};
-ghost use Rattle.resource_tree.specs.Patches.{Rows, patching_at};
+ghost use Rattle.resource_tree.specs.Patches.{PatchEntries, patching_at};
 ghost use Rattle.url_maps.specs.Claims.{IsIndexOf, claims_vanity_path};
 ghost use Rattle.url_maps.specs.Changes.{AreChanged, HasRoom, IsChangeOf, LeavesOthers, patched_vanity_path};
 ghost use Rattle.url_maps.specs.Noting.{NotesRow, left_vanity_path};
@@ -50,7 +50,7 @@ impl MapIndex {
     /// Changes the index, with no memory.
     pub fn take(&mut self, change: IndexChange)
         requires { HasRoom self.old change }
-        ensures { (tree after : Content) (patch : Rows) → IsIndexOf tree self.old → IsChangeOf tree patch change → ((path : List (List ℕ)) → node_at after path ≡ patching_at tree patch path) → IsIndexOf after self.new }
+        ensures { (tree after : Content) (patch : PatchEntries) → IsIndexOf tree self.old → IsChangeOf tree patch change → ((path : List (List ℕ)) → node_at after path ≡ patching_at tree patch path) → IsIndexOf after self.new }
     {
         let IndexChange {
             aliases,

@@ -3,7 +3,7 @@ ghost use Rattle.std.specs.Prelude.{◌≡◌, ◌++◌, ◌||◌, [], ℕ, List
 ghost use Rattle.std.specs.List.{list_any};
 ghost use Rattle.std.specs.Map.{lookup};
 ghost use Rattle.std.specs.Str.{bytes_eq};
-ghost use Rattle.resource_tree.specs.Patches.{patching_at, row_at};
+ghost use Rattle.resource_tree.specs.Patches.{patching_at, entry_at};
 ghost use Rattle.url_maps.specs.Claims.{claimants};
 ghost use Rattle.url_maps.specs.Noting.{LeadsRows, Notes, NotesRow, has_row, is_at_some, kept, noted};
 ghost use Rattle.url_maps.specs.Siblings.{PutsRows, or_else};

@@ -1,7 +1,7 @@
 // The mappings of a host and a port.
 ghost use Rattle.std.specs.Prelude.{◌≡◌, ◌↔◌, IfOk, IsTrue, Some};
 ghost use Rattle.sp_base.specs.Paths.{path_or_none};
-ghost use Rattle.url_maps.specs.Mappings.{IsPlain, has_match, redirect_status, site_of, mapping_status};
+ghost use Rattle.url_maps.specs.Mappings.{IsPlain, has_match, redirect_status, host_node_of, mapping_status};
 ghost use Rattle.url_maps.specs.Search.{IsBeyond, IsMappingPair, IsOf, mapped_path};
 
 use crate::pairs::{Pair, PairKind};
@@ -14,8 +14,8 @@ use std::alloc::Global;
 const FOUND: u16 = 302;
 
 // The path of the node with the mappings for a host and a port, where it may be one.
-pub(crate) fn site_of(alloc: Global, host: &str, port: u16) -> Mem<Option<Path>>
-    ensures { IfOk result (λ o. o ≡ path_or_none (site_of host.now port)) }
+pub(crate) fn host_node_of(alloc: Global, host: &str, port: u16) -> Mem<Option<Path>>
+    ensures { IfOk result (λ o. o ≡ path_or_none (host_node_of host.now port)) }
 {
     let mut name = host.to_ascii_lowercase(alloc)?;
     name.push_str(".")?;
@@ -27,12 +27,17 @@ pub(crate) fn site_of(alloc: Global, host: &str, port: u16) -> Mem<Option<Path>>
     }
 }
 
-// The pair of a mapping of a site, if there is a site and the tree has one with this prefix.
-fn mapping_of(alloc: Global, tree: &Tree, site: &Option<Path>, prefix: &str) -> Mem<Option<Pair>>
-    ensures { IfOk result (IsOf PairKind.Mapping tree.now site.now prefix.now) }
+// The pair of a mapping of a host node, if there is a host node and the tree has one with this prefix.
+fn mapping_of(
+    alloc: Global,
+    tree: &Tree,
+    host_node: &Option<Path>,
+    prefix: &str,
+) -> Mem<Option<Pair>>
+    ensures { IfOk result (IsOf PairKind.Mapping tree.now host_node.now prefix.now) }
 {
-    match site {
-        Some(site) => mapping_below(alloc, tree, site, prefix),
+    match host_node {
+        Some(host_node) => mapping_below(alloc, tree, host_node, prefix),
         None => Ok(None),
     }
 }
@@ -41,25 +46,25 @@ fn mapping_of(alloc: Global, tree: &Tree, site: &Option<Path>, prefix: &str) -> 
 pub(crate) fn mapping_within(
     alloc: Global,
     tree: &Tree,
-    site: &Option<Path>,
+    host_node: &Option<Path>,
     reach: usize,
     prefix: &str,
 ) -> Mem<Option<Pair>>
-    requires { IsBeyond tree.now site.now prefix.now reach }
-    ensures { IfOk result (IsOf PairKind.Mapping tree.now site.now prefix.now) }
+    requires { IsBeyond tree.now host_node.now prefix.now reach }
+    ensures { IfOk result (IsOf PairKind.Mapping tree.now host_node.now prefix.now) }
 {
     if prefix.len() > reach {
         return Ok(None);
     }
-    mapping_of(alloc, tree, site, prefix)
+    mapping_of(alloc, tree, host_node, prefix)
 }
 
-fn mapping_below(alloc: Global, tree: &Tree, site: &Path, prefix: &str) -> Mem<Option<Pair>>
-    ensures { IfOk result (IsOf PairKind.Mapping tree.now (Some site.now) prefix.now) }
+fn mapping_below(alloc: Global, tree: &Tree, host_node: &Path, prefix: &str) -> Mem<Option<Pair>>
+    ensures { IfOk result (IsOf PairKind.Mapping tree.now (Some host_node.now) prefix.now) }
 {
     a_path_and_its_text();
     let _ = tree.len();
-    let Some(path) = mapped_path(alloc, site, prefix)? else {
+    let Some(path) = mapped_path(alloc, host_node, prefix)? else {
         return Ok(None);
     };
     let Some(node) = tree.node(&path) else {
@@ -68,35 +73,35 @@ fn mapping_below(alloc: Global, tree: &Tree, site: &Path, prefix: &str) -> Mem<O
     let Some(pair) = pair_of(alloc, node)? else {
         return Ok(None);
     };
-    if !is_plain(alloc, tree, site, &path)? {
+    if !is_plain(alloc, tree, host_node, &path)? {
         return Ok(None);
     }
     Ok(Some(pair))
 }
 
-// The path below a site that a prefix names: the site for the empty one.
-fn mapped_path(alloc: Global, site: &Path, prefix: &str) -> Mem<Option<Path>>
-    ensures { IfOk result (λ o. o ≡ mapped_path site.now prefix.now) }
+// The path below a host node that a prefix names: the host node for the empty one.
+fn mapped_path(alloc: Global, host_node: &Path, prefix: &str) -> Mem<Option<Path>>
+    ensures { IfOk result (λ o. o ≡ mapped_path host_node.now prefix.now) }
 {
     if prefix.is_empty() {
-        return Ok(Some(site.duplicate(alloc)?));
+        return Ok(Some(host_node.duplicate(alloc)?));
     }
     if prefix == "/" {
         return Ok(None);
     }
     match Path::read(alloc, prefix) {
-        Ok(below) => site.join_or_none(alloc, &below),
+        Ok(below) => host_node.join_or_none(alloc, &below),
         Err(PathFault::NoMemory) => Err(NoMemory),
         Err(_) => Ok(None),
     }
 }
 
-// Whether no node from a site down to a path has a pattern.
-fn is_plain(alloc: Global, tree: &Tree, site: &Path, path: &Path) -> Mem<bool>
-    ensures { IfOk result (λ is. IsTrue is ↔ IsPlain tree.now site.now path.now) }
+// Whether no node from a host node down to a path has a pattern.
+fn is_plain(alloc: Global, tree: &Tree, host_node: &Path, path: &Path) -> Mem<bool>
+    ensures { IfOk result (λ is. IsTrue is ↔ IsPlain tree.now host_node.now path.now) }
 {
     let deepest = path.depth();
-    for depth in site.depth()..deepest + 1 {
+    for depth in host_node.depth()..deepest + 1 {
         if has_match(tree, &path.first(alloc, depth)?) {
             return Ok(false);
         }

@@ -6,30 +6,35 @@ use resource_tree::Tree;
 use sp_base::{Mem, NoMemory, Path, PathFault, a_path_and_its_text, the_prefixes_of_a_path};
 use std::alloc::Global;
 
-// The most bytes of the prefix of a mapping in a text: no mapping is below the first of the site and the text's segments that has no
+// The most bytes of the prefix of a mapping in a text: no mapping is below the first of the host node and the text's segments that has no
 // node, or one with a pattern.
-pub(crate) fn reach_of(alloc: Global, tree: &Tree, site: &Option<Path>, text: &str) -> Mem<usize>
-    ensures { IfOk result (HasNoMappingBeyond tree.now site.now text.now) }
+pub(crate) fn reach_of(
+    alloc: Global,
+    tree: &Tree,
+    host_node: &Option<Path>,
+    text: &str,
+) -> Mem<usize>
+    ensures { IfOk result (HasNoMappingBeyond tree.now host_node.now text.now) }
 {
-    match site {
-        Some(site) => reach_below(alloc, tree, site, text),
+    match host_node {
+        Some(host_node) => reach_below(alloc, tree, host_node, text),
         None => Ok(0),
     }
 }
 
-fn reach_below(alloc: Global, tree: &Tree, site: &Path, text: &str) -> Mem<usize>
-    ensures { IfOk result (HasNoMappingBeyond tree.now (Some site.now) text.now) }
+fn reach_below(alloc: Global, tree: &Tree, host_node: &Path, text: &str) -> Mem<usize>
+    ensures { IfOk result (HasNoMappingBeyond tree.now (Some host_node.now) text.now) }
 {
     a_path_and_its_text();
     the_prefixes_of_a_path();
     // `len` says that the parent of each node is there.
     let _ = tree.len();
-    if !is_plain_node(tree, site) {
+    if !is_plain_node(tree, host_node) {
         return Ok(0);
     }
     match Path::read(alloc, text) {
         Ok(path) => {
-            let depth = barred_at(alloc, tree, site, &path)?;
+            let depth = barred_at(alloc, tree, host_node, &path)?;
             Ok(path.first(alloc, depth)?.as_text().len())
         }
         Err(PathFault::NoMemory) => Err(NoMemory),
@@ -37,26 +42,26 @@ fn reach_below(alloc: Global, tree: &Tree, site: &Path, text: &str) -> Mem<usize
     }
 }
 
-// How many first segments of a path lead to no node below a site, or to one with a pattern, while fewer lead on: all, where all do.
-fn barred_at(alloc: Global, tree: &Tree, site: &Path, path: &Path) -> Mem<usize>
-    ensures { IfOk result (IsBarredAt tree.now site.now path.now) }
+// How many first segments of a path lead to no node below a host node, or to one with a pattern, while fewer lead on: all, where all do.
+fn barred_at(alloc: Global, tree: &Tree, host_node: &Path, path: &Path) -> Mem<usize>
+    ensures { IfOk result (IsBarredAt tree.now host_node.now path.now) }
 {
     let depth = path.depth();
     for n in 0..depth {
         let first = path.first(alloc, n + 1)?;
-        if !is_passable(alloc, tree, site, &first)? {
+        if !is_passable(alloc, tree, host_node, &first)? {
             return Ok(n + 1);
         }
     }
     Ok(depth)
 }
 
-fn is_passable(alloc: Global, tree: &Tree, site: &Path, below: &Path) -> Mem<bool>
-    ensures { IfOk result (λ is. is ≡ is_passable tree.now (site.now ++ below.now)) }
+fn is_passable(alloc: Global, tree: &Tree, host_node: &Path, below: &Path) -> Mem<bool>
+    ensures { IfOk result (λ is. is ≡ is_passable tree.now (host_node.now ++ below.now)) }
 {
     // `len` says that nodes are at paths alone.
     let _ = tree.len();
-    match site.join_or_none(alloc, below)? {
+    match host_node.join_or_none(alloc, below)? {
         Some(path) => Ok(is_plain_node(tree, &path)),
         None => Ok(false),
     }

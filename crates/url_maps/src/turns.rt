@@ -6,7 +6,7 @@ ghost use Rattle.url_maps.specs.Claims.{IsIndexOf};
 ghost use Rattle.url_maps.specs.Search.{IsBest, IsBeyond, IsLastSeparator, IsShorter, IsTurn, is_prefix_end, is_separator};
 ghost use Rattle.url_maps.specs.Turns.{IsMapped, target_ending};
 
-use crate::mappings::{mapping_within, site_of};
+use crate::mappings::{host_node_of, mapping_within};
 use crate::pairs::{Pair, PairKind};
 use crate::reach::reach_of;
 use crate::{MapAnswer, MapIndex, the_answer_is_mapped};
@@ -57,17 +57,17 @@ impl MapIndex {
         ensures { IfOk result (IsMapped tree.now host.now port text.now) }
     {
         let _ = tree.len();
-        let mut site = site_of(alloc, host, port)?;
+        let mut host_node = host_node_of(alloc, host, port)?;
         let mut text = TextBuf::of(alloc, text)?;
         for _ in 0..MOST_TURNS {
-            let Some(step) = self.step(alloc, tree, &site, text.text())? else {
+            let Some(step) = self.step(alloc, tree, &host_node, text.text())? else {
                 return Ok(MapAnswer::Inside(text));
             };
             if let Some(status) = step.away {
                 return Ok(MapAnswer::Away(status, step.text));
             }
             text = step.text;
-            site = None;
+            host_node = None;
         }
         Ok(MapAnswer::Inside(text))
     }
@@ -77,17 +77,17 @@ impl MapIndex {
         &self,
         alloc: Global,
         tree: &Tree,
-        site: &Option<Path>,
+        host_node: &Option<Path>,
         text: &str,
     ) -> Mem<Option<MappingStep>>
         requires { IsIndexOf tree.now self.now }
-        ensures { IfOk result (IsTurn tree.now site.now text.now) }
+        ensures { IfOk result (IsTurn tree.now host_node.now text.now) }
     {
-        let reach = reach_of(alloc, tree, site, text)?;
+        let reach = reach_of(alloc, tree, host_node, text)?;
         let mut prefix = text;
         loop {
             let rest = &text[prefix.len()..];
-            if let Some(pair) = self.best(alloc, tree, site, reach, prefix, rest)? {
+            if let Some(pair) = self.best(alloc, tree, host_node, reach, prefix, rest)? {
                 return Ok(Some(MappingStep {
                     text: text_after(alloc, &pair, rest)?,
                     away: pair.away,
@@ -105,17 +105,17 @@ impl MapIndex {
         &self,
         alloc: Global,
         tree: &Tree,
-        site: &Option<Path>,
+        host_node: &Option<Path>,
         reach: usize,
         prefix: &str,
         rest: &str,
     ) -> Mem<Option<Pair>>
         requires index { IsIndexOf tree.now self.now }
         requires cut { is_prefix_end rest.now ≡ true }
-        requires reach { IsBeyond tree.now site.now prefix.now reach }
-        ensures { IfOk result (IsBest tree.now site.now prefix.now rest.now) }
+        requires reach { IsBeyond tree.now host_node.now prefix.now reach }
+        ensures { IfOk result (IsBest tree.now host_node.now prefix.now rest.now) }
     {
-        if let Some(pair) = mapping_within(alloc, tree, site, reach, prefix)? {
+        if let Some(pair) = mapping_within(alloc, tree, host_node, reach, prefix)? {
             return Ok(Some(pair));
         }
         if let Some(pair) = self.alias_of(alloc, tree, prefix)? {

@@ -14,5 +14,5 @@ add_nodes-requires-clause-shallow c =
 pub returns : goal.returns
 returns c =
     let ms = members_view c.args.members.entries in
-    let added = rw (c.in_ok-make_room.ensures ∙ c.new-nodes.ensures, c.root.ensures) at c.in_ok-add_nodes.ensures in
+    let added = rw (c.new-nodes.ensures, c.root.ensures) at c.in_ok-add_nodes.ensures in
     is_map_of c.add_nodes.new.nodes (nodes_in [] (object ms)) c.len.ensures.ordered (λ q. added q ∙ over_none (nodes_in [] (object ms)) q)

@@ -1,5 +1,6 @@
-use Rattle.std.proofs.Common.{◌≡◌, ◌∙◌, List, IfOk, map, arith, sym, ap, subst}
+use Rattle.std.proofs.Common.{◌≡◌, ◌∙◌, Bor, List, IfOk, map, arith, sym, ap, subst}
 use Rattle.std.proofs.lemmas.List.{take_all}
+use Rattle.htl_expr.specs.declared.node.ExprNode.{ExprNode}
 use Rattle.htl_expr.specs.declared.out.Out.{Out}
 use Rattle.htl_expr.specs.declared.out.Out.TheVariants as out
 use Rattle.htl_expr.specs.Lent.{out_of_lent, plain_item, listed_texts}
@@ -8,6 +9,7 @@ use Rattle.htl_expr.specs.Value.{value, item_texts}
 use Rattle.htl_expr.proofs.Chains.{and_goes_on, or_goes_on, items_out, item_texts_are}
 use Rattle.htl_expr.proofs.Items.{one_item_more}
 use Rattle.htl_expr.proofs.Trees.{truth_out, compare_whole, and_whole, or_whole, choice_then, choice_else, items_go_on}
+use Rattle.htl_expr.proofs.value.+value.Goals.{value-then-is_true, value-else-is_true}
 use Rattle.htl_expr.proofs.value.+value.Goals as goal
 
 pub and_values-loop-operand-preserved : goal.and_values-loop-operand-preserved
@@ -43,27 +45,26 @@ list_value-returns-clause-value t c =
 pub list_value-returns-clause-operand : goal.list_value-returns-clause-operand
 list_value-returns-clause-operand t c = subst (λ (o : Out). HavePieces c.args.scope.now c.loop-item.pieces (listed_texts o)) (sym (items_out c.loop-item.values)) c.loop-item.invariant.2
 
-pub value-returns-in-And-clause-value : goal.value-returns-in-And-clause-value
-value-returns-in-And-clause-value t c =
+pub value-returns-in_ok-first-in-And-clause-value : goal.value-returns-in_ok-first-in-And-clause-value
+value-returns-in_ok-first-in-And-clause-value t c =
     let whole = and_whole c.args.scope.now c.value-in-And.new.scope c.args.node.now c.in-And.first c.get-in-And.result.now c.in-And.more c.as_slice-in-And.result.now _ c.value-in-And.ensures.scope c.in-And.is c.get-in-And.ensures c.as_slice-in-And.ensures c.in_ok-first-in-And.ensures.value in
     subst (λ (o : Out). IfOk c.and_values.result (λ v. out_of_lent v.value ≡ o)) whole c.and_values.ensures.value
 
-pub value-returns-in-Or-clause-value : goal.value-returns-in-Or-clause-value
-value-returns-in-Or-clause-value t c =
+pub value-returns-in_ok-first-in-Or-clause-value : goal.value-returns-in_ok-first-in-Or-clause-value
+value-returns-in_ok-first-in-Or-clause-value t c =
     let whole = or_whole c.args.scope.now c.value-in-Or.new.scope c.args.node.now c.in-Or.first c.get-in-Or.result.now c.in-Or.more c.as_slice-in-Or.result.now _ c.value-in-Or.ensures.scope c.in-Or.is c.get-in-Or.ensures c.as_slice-in-Or.ensures c.in_ok-first-in-Or.ensures.value in
     subst (λ (o : Out). IfOk c.or_values.result (λ v. out_of_lent v.value ≡ o)) whole c.or_values.ensures.value
 
-pub value-returns-then-is_true-clause-value : goal.value-returns-then-is_true-clause-value
-value-returns-then-is_true-clause-value t c =
-    let whole = choice_then c.args.scope.now c.value-in-Choice.new.scope c.args.node.now c.in-Choice.condition c.get-in-Choice.result.now c.in-Choice.a c.in-Choice.b c.get-then-is_true.result.now _ c.value-in-Choice.ensures.scope c.in-Choice.is c.get-in-Choice.ensures c.in_ok-condition-in-Choice.ensures.value (sym c.is_true.ensures ∙ c.if-is_true.true) c.get-then-is_true.ensures in
-    subst (λ (o : Out). IfOk c.value-then-is_true.result (λ v. out_of_lent v.value ≡ o)) whole c.value-then-is_true.ensures.value
+pub value-returns-after-is_true-clause-value : goal.value-returns-after-is_true-clause-value
+value-returns-after-is_true-clause-value t c =
+    let s = c.args.scope.now in
+    let whole : value c.value-in-Choice.new.scope c.get-in-Choice-2.result.now ≡ value s c.args.node.now = elim c.if-is_true.branch [
+      | value-then-is_true w ↦ choice_then s c.value-in-Choice.new.scope c.args.node.now c.in-Choice.condition c.get-in-Choice.result.now c.in-Choice.a c.in-Choice.b c.get-in-Choice-2.result.now _ c.value-in-Choice.ensures.scope c.in-Choice.is c.get-in-Choice.ensures c.in_ok-condition-in-Choice.ensures.value (sym c.is_true.ensures ∙ w.if-is_true.true) (c.get-in-Choice-2.ensures ∙ ap (λ (r : Bor ExprNode). r.now) w.chosen-is)
+      | value-else-is_true w ↦ choice_else s c.value-in-Choice.new.scope c.args.node.now c.in-Choice.condition c.get-in-Choice.result.now c.in-Choice.a c.in-Choice.b c.get-in-Choice-2.result.now _ c.value-in-Choice.ensures.scope c.in-Choice.is c.get-in-Choice.ensures c.in_ok-condition-in-Choice.ensures.value (sym c.is_true.ensures ∙ w.if-is_true.false) (c.get-in-Choice-2.ensures ∙ ap (λ (r : Bor ExprNode). r.now) w.chosen-is)
+    ] in
+    subst (λ (o : Out). IfOk c.value-in-Choice-2.result (λ v. out_of_lent v.value ≡ o)) whole c.value-in-Choice-2.ensures.value
 
-pub value-returns-clause-value : goal.value-returns-clause-value
-value-returns-clause-value t c =
-    let whole = choice_else c.args.scope.now c.value-in-Choice.new.scope c.args.node.now c.in-Choice.condition c.get-in-Choice.result.now c.in-Choice.a c.in-Choice.b c.get-else-is_true.result.now _ c.value-in-Choice.ensures.scope c.in-Choice.is c.get-in-Choice.ensures c.in_ok-condition-in-Choice.ensures.value (sym c.is_true.ensures ∙ c.if-is_true.false) c.get-else-is_true.ensures in
-    subst (λ (o : Out). IfOk c.value-else-is_true.result (λ v. out_of_lent v.value ≡ o)) whole c.value-else-is_true.ensures.value
-
-pub value-returns-in-Compare-clause-value : goal.value-returns-in-Compare-clause-value
-value-returns-in-Compare-clause-value t c =
+pub value-returns-in_ok-holds-in-Compare-clause-value : goal.value-returns-in_ok-holds-in-Compare-clause-value
+value-returns-in_ok-holds-in-Compare-clause-value t c =
     let whole = compare_whole c.args.scope.now c.value.new.scope c.args.node.now c.in-Compare.a c.in-Compare.b c.get-in-Compare.result.now c.get-in-Compare-2.result.now c.in-Compare.comparison (out_of_lent c.in_ok-a-in-Compare.a.value) c.in_ok-holds-in-Compare.holds c.value.ensures.scope c.in-Compare.is c.get-in-Compare.ensures c.get-in-Compare-2.ensures c.in_ok-a-in-Compare.ensures.value c.in_ok-holds-in-Compare.ensures.holds in
     ap out_of_lent c.of-in-Compare.ensures.value ∙ truth_out c.in_ok-holds-in-Compare.holds ∙ whole

@@ -1,6 +1,6 @@
 use Rattle.std.proofs.Common.{◌≤◌, length, sym, subst, arith}
 use Rattle.std.proofs.lemmas.List.{take_all}
-use Rattle.resource_tree.specs.Patches.{Rows}
+use Rattle.resource_tree.specs.Patches.{PatchEntries}
 use Rattle.publisher.proofs.ForgetLemmas.{AreClear, forgets_next, forgets_none, unpatched}
 use Rattle.publisher.proofs.changes.forget_patched.Goals as goal
 
@@ -16,4 +16,4 @@ pub returns-clause-unpatched : goal.returns-clause-unpatched
 returns-clause-unpatched c =
     let patch = c.args.patch.now in
     let end : length patch ≤ c.loop-place.place = omega (arith, c.loop-place-test.false, c.len-place-end.ensures.len) in
-    unpatched patch c.loop-place.templates (subst (λ (rows : Rows). AreClear rows c.loop-place.templates) (take_all c.loop-place.place patch end) c.loop-place.invariant.clear)
+    unpatched patch c.loop-place.templates (subst (λ (rows : PatchEntries). AreClear rows c.loop-place.templates) (take_all c.loop-place.place patch end) c.loop-place.invariant.clear)

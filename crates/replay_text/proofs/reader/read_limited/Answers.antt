@@ -1,7 +1,8 @@
 use Rattle.std.proofs.Common.{sym, subst}
 use Rattle.std.proofs.lemmas.Result.{IfErr-weaker}
 use Rattle.replay_text.specs.Scenario.{IsScenario}
-use Rattle.replay_text.specs.Reading.{Refuses, RefusesWithin}
+use Rattle.replay_text.specs.Languages.{RefusesWithin}
+use Rattle.replay_text.specs.Reading.{Refuses}
 use Rattle.replay_text.specs.declared.scenario.ScenarioFault.TheVariants.{Line}
 use Rattle.replay_text.proofs.Limits.{refuses_short, refuses_long, refuses_whole}
 use Rattle.replay_text.proofs.reader.read_limited.Goals as goal

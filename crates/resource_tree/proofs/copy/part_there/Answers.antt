@@ -6,7 +6,7 @@ use Rattle.std.proofs.lemmas.Bool.{false≢true}
 use Rattle.sp_base.specs.Paths.{is_path, path_or_none}
 use Rattle.resource_tree.specs.declared.patch.PatchNode.TheVariants as there
 use Rattle.resource_tree.specs.Content.{same_path, node_at}
-use Rattle.resource_tree.specs.Patches.{with_row}
+use Rattle.resource_tree.specs.Patches.{with_entry}
 use Rattle.resource_tree.specs.Moves.{path_there}
 use Rattle.resource_tree.proofs.PathThere.{path_is}
 use Rattle.resource_tree.proofs.PartThere.{is_there, put_there, fits_too, all_there}
@@ -22,7 +22,7 @@ pub loop-path-preserved : goal.loop-path-preserved
 loop-path-preserved c =
     let whole : Some c.in-Some.there ≡ path_or_none (path_there c.args.source.now c.args.target.now c.path-item.result) = sym c.in-Some.is ∙ c.in_ok-there.ensures in
     let was : node_at c.args.nodes.now.entries c.path-item.result ≡ Some c.in-Some-get.node.now = search rules in
-    let put : c.put.new.self ≡ with_row c.loop-path.part c.in-Some.there (there.Node c.in-Some-get.node.now) = search rules in
+    let put : c.put.new.self ≡ with_entry c.loop-path.part c.in-Some.there (there.Node c.in-Some-get.node.now) = search rules in
     let both = path_is (path_there c.args.source.now c.args.target.now c.path-item.result) c.in-Some.there whole in (
       λ q. put_there c.args.nodes.now.entries c.args.source.now c.args.target.now c.args.paths.now c.requires.all c.loop-path.path-index c.path-item.result c.loop-path-test.true c.path-item.is c.loop-path.part c.put.new.self
           c.in-Some.there c.in-Some-get.node.now q both.0 was (c.loop-path.invariant.0 q) put,

@@ -7,9 +7,9 @@ use Rattle.sp_base.specs.Paths.{is_path, path_or_none}
 use Rattle.resource_tree.specs.declared.patch.PatchNode.{PatchNode}
 use Rattle.resource_tree.specs.declared.patch.PatchNode.TheVariants as there
 use Rattle.resource_tree.specs.Content.{same_path, node_at}
-use Rattle.resource_tree.specs.Patches.{with_row}
+use Rattle.resource_tree.specs.Patches.{with_entry}
 use Rattle.resource_tree.specs.Moves.{path_there}
-use Rattle.resource_tree.proofs.Patching.{with_row-is}
+use Rattle.resource_tree.proofs.Patching.{with_entry-is}
 use Rattle.resource_tree.proofs.PathThere.{path_is}
 use Rattle.resource_tree.proofs.PartThere.{is_there, put_there, fits_too, all_there}
 use Rattle.tree_draft.proofs.copy.part_there.Goals as goal
@@ -24,8 +24,8 @@ pub loop-path-preserved : goal.loop-path-preserved
 loop-path-preserved c =
     let whole : Some c.in-Some.there ≡ path_or_none (path_there c.args.source.now c.args.target.now c.path-item.result) = sym c.in-Some.is ∙ c.in_ok-there.ensures in
     let was : node_at c.args.draft.now.content c.path-item.result ≡ Some c.in-Some-node.node = search rules in
-    let put : c.insert.new.self.entries ≡ with_row c.loop-path.part.entries c.in-Some.there (there.Node c.in-Some-node.node) =
-    c.in_ok-insert.ensures.entries ∙ with_row-is c.loop-path.part.entries c.in-Some.there c.of.result ∙ ap (λ (r : PatchNode). with_row c.loop-path.part.entries c.in-Some.there r) c.of.ensures ∙ ap (λ n. with_row c.loop-path.part.entries c.in-Some.there (there.Node n)) c.in_ok-node.ensures in
+    let put : c.insert.new.self.entries ≡ with_entry c.loop-path.part.entries c.in-Some.there (there.Node c.in-Some-node.node) =
+    c.in_ok-insert.ensures.entries ∙ with_entry-is c.loop-path.part.entries c.in-Some.there c.of.result ∙ ap (λ (r : PatchNode). with_entry c.loop-path.part.entries c.in-Some.there r) c.of.ensures ∙ ap (λ n. with_entry c.loop-path.part.entries c.in-Some.there (there.Node n)) c.in_ok-node.ensures in
     let both = path_is (path_there c.args.source.now c.args.target.now c.path-item.result) c.in-Some.there whole in (
       λ q. put_there c.args.draft.now.content c.args.source.now c.args.target.now c.args.paths.now c.requires.all c.loop-path.path-index c.path-item.result c.loop-path-test.true c.path-item.is c.loop-path.part.entries c.insert.new.self.entries
           c.in-Some.there c.in-Some-node.node q both.0 was (c.loop-path.invariant.0 q) put,

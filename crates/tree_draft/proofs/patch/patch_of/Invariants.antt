@@ -6,6 +6,6 @@ use Rattle.resource_tree.specs.Content.{by_path}
 use Rattle.resource_tree.specs.Patches.{patching}
 use Rattle.tree_draft.proofs.patch.patch_of.Given as goal
 
--- the rows that are left make of the tree with the patch over it what all make of the tree
+-- the entries that are left make of the tree with the patch over it what all make of the tree
 abbrev pub invariant-loop-path : goal.invariant-loop-path
-invariant-loop-path l = (patching (patching l.tree l.patch) l.path-iterator ≡ patching l.tree l.fn.rows.entries) × IsDistinct (eq_by_cmp by_path) (keys_of l.patch)
+invariant-loop-path l = (patching (patching l.tree l.patch) l.path-iterator ≡ patching l.tree l.fn.entries.entries) × IsDistinct (eq_by_cmp by_path) (keys_of l.patch)

@@ -1,6 +1,6 @@
 use Rattle.std.proofs.Common.{◌≤◌, length, sym, subst, arith}
 use Rattle.std.proofs.lemmas.List.{take_all}
-use Rattle.resource_tree.specs.Patches.{Rows}
+use Rattle.resource_tree.specs.Patches.{PatchEntries}
 use Rattle.url_maps.specs.Claims.{claims_vanity_path}
 use Rattle.url_maps.specs.Changes.{patched_vanity_path}
 use Rattle.url_maps.specs.Noting.{left_vanity_path}
@@ -18,7 +18,7 @@ returns-clause-others c =
     let patch = c.args.patch.now in
     let end : length patch ≤ c.loop-place.place = omega (arith, c.loop-place-test.false, c.len-place-end.ensures.len) in
     leaves_others c.args.index.now.vanity_paths.rows tree patch c.loop-place.change
-    (subst (λ (done : Rows). AreNoted c.args.index.now.vanity_paths.rows patch (claims_vanity_path tree) left_vanity_path done c.loop-place.change) (take_all c.loop-place.place patch end) c.loop-place.invariant)
+    (subst (λ (done : PatchEntries). AreNoted c.args.index.now.vanity_paths.rows patch (claims_vanity_path tree) left_vanity_path done c.loop-place.change) (take_all c.loop-place.place patch end) c.loop-place.invariant)
 
 pub returns-clause-changed : goal.returns-clause-changed
 returns-clause-changed c =
@@ -26,4 +26,4 @@ returns-clause-changed c =
     let patch = c.args.patch.now in
     let end : length patch ≤ c.loop-place.place = omega (arith, c.loop-place-test.false, c.len-place-end.ensures.len) in
     changed_by c.args.index.now.vanity_paths.rows patch (claims_vanity_path tree) (patched_vanity_path tree patch) left_vanity_path c.loop-place.change c.requires.vanity_paths c.len-place-end.ensures.once
-    (subst (λ (done : Rows). AreNoted c.args.index.now.vanity_paths.rows patch (claims_vanity_path tree) left_vanity_path done c.loop-place.change) (take_all c.loop-place.place patch end) c.loop-place.invariant) (after_vanity_path tree patch)
+    (subst (λ (done : PatchEntries). AreNoted c.args.index.now.vanity_paths.rows patch (claims_vanity_path tree) left_vanity_path done c.loop-place.change) (take_all c.loop-place.place patch end) c.loop-place.invariant) (after_vanity_path tree patch)

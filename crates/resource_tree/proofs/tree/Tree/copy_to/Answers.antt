@@ -7,7 +7,7 @@ use Rattle.resource_tree.specs.Content.{Content, node_at}
 use Rattle.resource_tree.specs.Changes.{change_at, with_kids, kids_at}
 use Rattle.resource_tree.specs.Patches.{patching}
 use Rattle.resource_tree.specs.Moves.{copy, copy_at, copy_fault, part, is_too_deep, path_there, target_fault}
-use Rattle.resource_tree.proofs.CopyParts.{any_same, length-rows}
+use Rattle.resource_tree.proofs.CopyParts.{any_same, length-entries}
 use Rattle.resource_tree.proofs.Copied.{IsFree, is_free, allowed, too_deep, too_many, node_at-copy, copy_is, IsGood-copy}
 use Rattle.resource_tree.proofs.tree.Tree.copy_to.Goals as goal
 
@@ -25,13 +25,13 @@ fits c =
 
 small : (c : goal.After-drop-parent-inside-2) → length c.self.inside.nodes.entries + length (part c.self.inside.nodes.entries c.args.source.now) ≤ 200000
 small c =
-    let rows = length-rows c.args.source.now c.args.target.now c.self.inside.nodes.entries c.in_ok-part.part c.self.invariant.ordered c.len.ensures.once c.in_ok-part.ensures.ok in
+    let entries = length-entries c.args.source.now c.args.target.now c.self.inside.nodes.entries c.in_ok-part.part c.self.invariant.ordered c.len.ensures.once c.in_ok-part.ensures.ok in
     let size = c.self.invariant.size in
     let test = c.if-len-saturating_sub.false in
     let k = c.len.ensures.len in
     let n = c.len-2.ensures.len in
     let left = c.saturating_sub.ensures in
-    omega (arith, rows, size, test, n, k, left)
+    omega (arith, entries, size, test, n, k, left)
 
 is_copied : (c : goal.After-drop-parent-inside-2) → c.set_kids.new.nodes.entries ≡ copy c.self.inside.nodes.entries c.args.source.now c.args.target.now
 is_copied c =
@@ -67,13 +67,13 @@ returns-then-len-saturating_sub-clause-err c = λ _.
     sym (any_same c.args.source.now (λ p. not (is_path (path_there c.args.source.now c.args.target.now p))) tree c.in_ok-paths.paths.items c.in_ok-paths.ensures)
     ∙ ap (list_any (λ p. not (is_path (path_there c.args.source.now c.args.target.now p)))) (sym c.deref.ensures.value)
     ∙ c.in_ok-part.ensures.fits in
-    let rows = length-rows c.args.source.now c.args.target.now tree c.in_ok-part.part c.self.invariant.ordered c.len.ensures.once c.in_ok-part.ensures.ok in
+    let entries = length-entries c.args.source.now c.args.target.now tree c.in_ok-part.part c.self.invariant.ordered c.len.ensures.once c.in_ok-part.ensures.ok in
     let size = c.self.invariant.size in
     let test = c.if-len-saturating_sub.true in
     let k = c.len.ensures.len in
     let n = c.len-2.ensures.len in
     let left = c.saturating_sub.ensures in
-    ap (λ (t : Content). copy_fault t c.args.source.now c.args.target.now) (sym c.self.view_is) ∙ too_many tree c.args.source.now c.args.target.now free_ fits_ (omega (arith, rows, size, test, n, k, left))
+    ap (λ (t : Content). copy_fault t c.args.source.now c.args.target.now) (sym c.self.view_is) ∙ too_many tree c.args.source.now c.args.target.now free_ fits_ (omega (arith, entries, size, test, n, k, left))
 
 pub returns-in_err-part-clause-err : goal.returns-in_err-part-clause-err
 returns-in_err-part-clause-err c =

@@ -6,7 +6,7 @@ use Rattle.resource_tree.specs.Patches.{patching}
 use Rattle.tree_draft.specs.Drafts.{IsCounted}
 use Rattle.tree_draft.proofs.draft.Draft.put_all.Given as goal
 
--- the rows that are left make of the content what all made of it at first
+-- the entries that are left make of the content what all made of it at first
 abbrev pub invariant-loop-path : goal.invariant-loop-path
 invariant-loop-path l =
-    (patching l.self.content l.path-iterator ≡ patching l.fn.self.content l.fn.rows.entries) × IsStrictlySortedBy by_path (keys_of l.self.content) × (IsCounted l.fn.self → IsCounted l.self) × (l.self.tree ≡ l.fn.self.tree)
+    (patching l.self.content l.path-iterator ≡ patching l.fn.self.content l.fn.entries.entries) × IsStrictlySortedBy by_path (keys_of l.self.content) × (IsCounted l.fn.self → IsCounted l.self) × (l.self.tree ≡ l.fn.self.tree)

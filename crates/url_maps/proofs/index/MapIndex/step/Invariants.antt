@@ -9,7 +9,7 @@ invariant-loop-pair l = record {
   text : shadow (Utf8 l.prefix);
   prefix : l.prefix ≡ take (length l.prefix) l.text;
   cut : is_prefix_end (drop (length l.prefix) l.text) ≡ true;
-  passed : HasNoneBeyond l.tree l.site l.text (length l.prefix);
+  passed : HasNoneBeyond l.tree l.host_node l.text (length l.prefix);
 }
 
 abbrev pub decreases-loop-pair : goal.decreases-loop-pair

@@ -1,5 +1,0 @@
-use Rattle.publisher.proofs.StatusLemmas.{not_allowed_fits}
-use Rattle.publisher.proofs.site.Site.answer.Goals as goal
-
-pub returns-clause-fits : goal.returns-clause-fits
-returns-clause-fits c = not_allowed_fits c.error_answer.result c.error_answer.ensures

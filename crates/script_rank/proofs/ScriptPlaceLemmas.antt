@@ -1,0 +1,175 @@
+-- The search at the script places alone gives what the search at each place gives.
+use Rattle.std.proofs.Common.{◌≡◌, ◌≤◌, ◌++◌, ◌==◌, ℕ, zero, suc, true, false, cond, List, [], ◌∷◌, Option, Some, None, Result, length, refl, sym, ◌∙◌, ap, subst, arith, codes, take}
+use Rattle.std.specs.Prelude.{flat_map, slice_get, IfOk}
+use Rattle.std.specs.List.{AllByRecursion, list_all}
+use Rattle.std.specs.Option.{option_or}
+use Rattle.std.proofs.lemmas.Bool.{and_parts}
+use Rattle.std.proofs.lemmas.Bool.Decides.{nat_tests}
+use Rattle.sp_base.specs.Paths.{checked, fault_of, is_path, unless_fault}
+use Rattle.sp_base.specs.declared.path.PathFault.{PathFault}
+use Rattle.resource_tree.specs.Content.{Content, IsGood, IsTree, name_of, node_at}
+use Rattle.type_chain.specs.Chain.{first_of}
+use Rattle.type_chain.specs.ScriptPlaces.{AreScriptPlacesOf, has_kids, script_place_at, script_places_of}
+use Rattle.type_chain.specs.Types.{path_with, places}
+use Rattle.type_chain.specs.declared.script_places.ScriptPlace.{ScriptPlace}
+use Rattle.type_chain.specs.declared.type_name.TypeName.{TypeName}
+use Rattle.url_split.specs.declared.decompose.Parts.{Parts}
+use Rattle.script_rank.specs.declared.naming.Naming.{Naming}
+use Rattle.script_rank.specs.declared.naming.Naming.TheVariants.{SelectorsAndExtension, Selectors, LabelAndExtension, Extension, Label, Method}
+use Rattle.script_rank.specs.Ranking.{IsOffered, after_slashes, spellings}
+use Rattle.script_rank.specs.Search.{at_naming, at_place, at_type, namings, script_at, search_result}
+use Rattle.script_rank.specs.ScriptPlaceSearch.{at_script_place, at_script_places, script_named, script_place_search}
+use Rattle.script_rank.proofs.NamingLemmas.{sound}
+use Rattle.script_rank.proofs.PlaceLemmas.{LackSlashes, path_lacks, script_none, script_same}
+
+-- ---- the first that there is
+
+append_or : {B : Type 0} (o p q r : Option B) → r ≡ option_or p q → option_or o r ≡ option_or (option_or o p) q
+append_or None p q r e = e
+append_or (Some x) p q r e = refl
+
+first_append : {A B : Type 0} (f : A → Option B) (xs ys : List A) → first_of f (xs ++ ys) ≡ option_or (first_of f xs) (first_of f ys)
+first_append f [] ys = refl
+first_append f (x ∷ xs) ys = append_or (f x) (first_of f xs) (first_of f ys) (first_of f (xs ++ ys)) (first_append f xs ys)
+
+first_same : {A B : Type 0} (f g : A → Option B) (xs : List A) → ((j : ℕ) (x : A) → slice_get xs j ≡ Some x → f x ≡ g x) → first_of f xs ≡ first_of g xs
+first_same f g [] same = refl
+first_same f g (x ∷ xs) same = ap (λ o. option_or o (first_of f xs)) (same 0 x refl) ∙ ap (option_or (g x)) (first_same f g xs (λ j y e. same (suc j) y e))
+
+first_none : {A B : Type 0} (f : A → Option B) (xs : List A) → ((j : ℕ) (x : A) → slice_get xs j ≡ Some x → f x ≡ None) → first_of f xs ≡ None
+first_none f [] none = refl
+first_none f (x ∷ xs) none = ap (λ o. option_or o (first_of f xs)) (none 0 x refl) ∙ first_none f xs (λ j y e. none (suc j) y e)
+
+-- ---- each spelling begins with a slash
+
+abbrev BeginsWithSlash : List ℕ → Type 0
+BeginsWithSlash text = (name : List ℕ) × (text ≡ 47 ∷ name)
+
+selectors_begin : (xs : List (List ℕ)) (k : ℕ) (rest : List ℕ) → 1 ≤ k → k ≤ length xs → BeginsWithSlash (flat_map (λ s. 47 ∷ s) (take k xs) ++ rest)
+selectors_begin xs zero rest some few = absurd (omega (arith, some))
+selectors_begin [] (suc k) rest some few = absurd (omega (arith, few))
+selectors_begin (x ∷ xs) (suc k) rest some few = (_, refl)
+
+selectors_alone : (xs : List (List ℕ)) (k : ℕ) → 1 ≤ k → k ≤ length xs → BeginsWithSlash (flat_map (λ s. 47 ∷ s) (take k xs))
+selectors_alone xs zero some few = absurd (omega (arith, some))
+selectors_alone [] (suc k) some few = absurd (omega (arith, few))
+selectors_alone (x ∷ xs) (suc k) some few = (_, refl)
+
+only : (x y : List ℕ) (j : ℕ) → slice_get (x ∷ []) j ≡ Some y → x ≡ y
+only x y zero e = cc
+only x y (suc j) e = absurd (cc)
+
+spelling_begins : (parts : Parts) (label : List ℕ) (naming : Naming) (j : ℕ) (s : List ℕ) → IsOffered parts naming → slice_get (spellings parts label naming) j ≡ Some s → BeginsWithSlash s
+spelling_begins parts label (SelectorsAndExtension k) zero s h e =
+    let same : after_slashes parts k ++ 46 ∷ parts.extension ≡ s = cc (e) in
+    subst BeginsWithSlash same (selectors_begin parts.selectors k (46 ∷ parts.extension) h.0 h.1)
+spelling_begins parts label (SelectorsAndExtension k) (suc j) s h e =
+    subst BeginsWithSlash (only (after_slashes parts k ++ 47 ∷ parts.extension) s j e) (selectors_begin parts.selectors k (47 ∷ parts.extension) h.0 h.1)
+spelling_begins parts label (Selectors k) j s h e = subst BeginsWithSlash (only (after_slashes parts k) s j e) (selectors_alone parts.selectors k h.0.0 h.0.1)
+spelling_begins parts label LabelAndExtension j s h e = subst BeginsWithSlash (only _ s j e) (_, refl)
+spelling_begins parts label Extension j s h e = subst BeginsWithSlash (only _ s j e) (_, refl)
+spelling_begins parts label Label j s h e = subst BeginsWithSlash (only _ s j e) (_, refl)
+spelling_begins parts label Method j s h e = subst BeginsWithSlash (only _ s j e) (_, refl)
+
+-- ---- at a place
+
+named_same : (tree : Content) (place : List (List ℕ)) (s : List ℕ) → LackSlashes place → BeginsWithSlash s → script_named tree place s ≡ script_at tree place s
+named_same tree place s lack begins =
+    ap (script_named tree place) begins.1 ∙ script_same tree place begins.0 lack ∙ ap (script_at tree place) (sym begins.1)
+
+named_none : (tree : Content) (place : List (List ℕ)) (s : List ℕ) → IsTree (node_at tree) → has_kids (node_at tree place) ≡ false → LackSlashes place → BeginsWithSlash s → script_at tree place s ≡ None
+named_none tree place s good none lack begins = ap (script_at tree place) begins.1 ∙ script_none tree place begins.0 good none lack
+
+module _ (tree : Content) (parts : Parts) (naming : Naming) (good : IsTree (node_at tree)) (offered : IsOffered parts naming) where
+  script_place_same : (label : List ℕ) (place : List (List ℕ)) → LackSlashes place
+      → at_script_place tree parts naming (record { label = label; place = place }) ≡ at_place tree (spellings parts label naming) place
+  unfolding at_script_place at_place
+  script_place_same label place lack =
+      first_same (script_named tree place) (script_at tree place) (spellings parts label naming) (λ j s e. named_same tree place s lack (spelling_begins parts label naming j s offered e))
+
+  place_none : (label : List ℕ) (place : List (List ℕ)) → LackSlashes place → has_kids (node_at tree place) ≡ false → at_place tree (spellings parts label naming) place ≡ None
+  unfolding at_place
+  place_none label place lack none =
+      first_none (script_at tree place) (spellings parts label naming) (λ j s e. named_none tree place s good none lack (spelling_begins parts label naming j s offered e))
+
+  or_none : (o : Option (List (List ℕ))) → option_or o None ≡ o
+  or_none None = refl
+  or_none (Some x) = refl
+
+  place_same : (label : List ℕ) (place : List (List ℕ)) → LackSlashes place → first_of (at_script_place tree parts naming) (script_place_at tree label place) ≡ at_place tree (spellings parts label naming) place
+  place_same label place lack =
+      elim (has_kids (node_at tree place)) as (λ t. has_kids (node_at tree place) ≡ t
+      → first_of (at_script_place tree parts naming) (cond t (record { label = label; place = place } ∷ []) []) ≡ at_place tree (spellings parts label naming) place) [
+        | true ↦ λ e. or_none _ ∙ script_place_same label place lack
+        | false ↦ λ e. sym (place_none label place lack e)
+      ] refl
+
+  places_same : (label : List ℕ) (list : List (List (List ℕ))) → AllByRecursion LackSlashes list
+      → first_of (at_script_place tree parts naming) (flat_map (script_place_at tree label) list) ≡ first_of (at_place tree (spellings parts label naming)) list
+  places_same label [] lack = refl
+  places_same label (place ∷ list) lack =
+      first_append (at_script_place tree parts naming) (script_place_at tree label place) (flat_map (script_place_at tree label) list)
+      ∙ ap (λ o. option_or o (first_of (at_script_place tree parts naming) (flat_map (script_place_at tree label) list))) (place_same label place lack.0)
+      ∙ ap (option_or (at_place tree (spellings parts label naming) place)) (places_same label list lack.1)
+
+  -- ---- at a type
+
+  unless_lacks : (fault : Option PathFault) (path : List (List ℕ)) → LackSlashes path → AllByRecursion LackSlashes (path_with (unless_fault fault path))
+  unless_lacks None path lack = (lack, tt)
+  unless_lacks (Some fault) path lack = tt
+
+  both_lack : (xs ys : List (List (List ℕ))) → AllByRecursion LackSlashes xs → AllByRecursion LackSlashes ys → AllByRecursion LackSlashes (xs ++ ys)
+  both_lack [] ys h k = k
+  both_lack (x ∷ xs) ys h k = (h.0, both_lack xs ys h.1 k)
+
+  places_lack : (type : TypeName) → is_path type.segs ≡ true → AllByRecursion LackSlashes (places type)
+  unfolding places
+  places_lack type path =
+      let lack = path_lacks type.segs path in
+      let apps = codes "apps" ∷ type.segs in
+      let libs = codes "libs" ∷ type.segs in
+      elim type.rooted as (λ t. AllByRecursion LackSlashes (cond t (type.segs ∷ []) (path_with (checked apps) ++ path_with (checked libs)))) [
+        | true ↦ (lack, tt)
+        | false ↦ both_lack (path_with (checked apps)) (path_with (checked libs)) (unless_lacks (fault_of apps) apps (refl, lack)) (unless_lacks (fault_of libs) libs (refl, lack))
+      ]
+
+  type_same : (type : TypeName) → is_path type.segs ≡ true → first_of (at_script_place tree parts naming) (script_places_of tree type) ≡ at_type tree parts naming type
+  unfolding script_places_of at_type
+  type_same type path = places_same (name_of type.segs) (places type) (places_lack type path)
+
+  types_same : (types : List TypeName) → list_all (λ type. is_path type.segs) types ≡ true
+      → first_of (at_script_place tree parts naming) (flat_map (script_places_of tree) types) ≡ first_of (at_type tree parts naming) types
+  types_same [] paths = refl
+  types_same (type ∷ types) paths =
+      let both = and_parts (is_path type.segs) (list_all (λ t. is_path t.segs) types) paths in
+      first_append (at_script_place tree parts naming) (script_places_of tree type) (flat_map (script_places_of tree) types)
+      ∙ ap (λ o. option_or o (first_of (at_script_place tree parts naming) (flat_map (script_places_of tree) types))) (type_same type both.0)
+      ∙ ap (option_or (at_type tree parts naming type)) (types_same types both.1)
+
+  script_places_same : (types : List TypeName) (script_places : List ScriptPlace) → AreScriptPlacesOf tree types script_places → at_script_places tree parts script_places naming ≡ at_naming tree types parts naming
+  unfolding at_script_places at_naming
+  script_places_same types script_places h = ap (first_of (at_script_place tree parts naming)) h.0 ∙ types_same types h.1
+
+search_same : (tree : Content) (types : List TypeName) (script_places : List ScriptPlace) (parts : Parts) → IsTree (node_at tree) → AreScriptPlacesOf tree types script_places
+    → script_place_search tree script_places parts ≡ search_result tree types parts
+unfolding search_result
+search_same tree types script_places parts good h =
+    first_same (at_script_places tree parts script_places) (at_naming tree types parts) (namings parts) (λ j naming e. script_places_same tree parts naming good (sound parts j naming e).1 types script_places h)
+
+same_answer : {E : Type 0} {P Q : Option (List (List ℕ))} (r : Result (Option (List (List ℕ))) E) → P ≡ Q → IfOk r (λ o. o ≡ P) → IfOk r (λ o. o ≡ Q)
+same_answer r e h = subst (λ answer. IfOk r (λ o. o ≡ answer)) e h
+
+-- so an answer of the search at script places is one of the search at each place
+pub answers_same : {E : Type 0} (tree : Content) (types : List TypeName) (script_places script_places' : List ScriptPlace) (parts : Parts) (r : Result (Option (List (List ℕ))) E) → IsGood tree → AreScriptPlacesOf tree types script_places
+    → script_places' ≡ script_places → IfOk r (λ o. o ≡ script_place_search tree script_places' parts) → IfOk r (λ o. o ≡ search_result tree types parts)
+answers_same tree types script_places script_places' parts r good h same value =
+    same_answer r (ap (λ s. script_place_search tree s parts) same ∙ search_same tree types script_places parts good.shape h) value
+
+-- without a script place there is no script
+none_from_zero : (n : ℕ) → (n == 0) ≡ true → n ≡ 0
+none_from_zero n e = grind (arith, nat_tests)
+
+pub no_script_place : (tree : Content) (script_places : List ScriptPlace) (parts : Parts) → (length script_places == 0) ≡ true → script_place_search tree script_places parts ≡ None
+unfolding at_script_places
+no_script_place tree [] parts e = first_none (at_script_places tree parts []) (namings parts) (λ j naming is. refl)
+no_script_place tree (script_place ∷ script_places) parts e = absurd (omega (arith, none_from_zero (length (script_place ∷ script_places)) e))

@@ -1,0 +1,6 @@
+use Rattle.std.proofs.Common.{◌∙◌, sym}
+use Rattle.script_rank.proofs.ScriptPlaceLemmas.{no_script_place}
+use Rattle.script_rank.proofs.ranking.script_place_search.Goals as goal
+
+pub returns-then-is_empty-clause-value : goal.returns-then-is_empty-clause-value
+returns-then-is_empty-clause-value c = sym (no_script_place c.args.tree.now c.args.script_places.now c.args.parts.now (sym c.is_empty.ensures ∙ c.if-is_empty.true))

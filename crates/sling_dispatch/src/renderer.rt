@@ -1,0 +1,25 @@
+//! The publisher as a front asks it.
+ghost use Rattle.sling_dispatch.specs.Runs.{published};
+
+use front::Renderer;
+use publisher::{Publisher, reads_change_nothing, statuses_are_short};
+use sp_base::{Answer, Ask, Mem};
+use std::alloc::Global;
+
+/// A publisher behind a front.
+#[derive(Drop)]
+pub struct PublisherRenderer {
+    pub publisher: Publisher,
+}
+
+impl Renderer for PublisherRenderer {
+    ghost publishing = { published };
+
+    ghost content = { λ renderer. renderer.publisher };
+
+    fn render(&mut self, alloc: Global, ask: &Ask) -> Mem<Answer> {
+        reads_change_nothing();
+        statuses_are_short();
+        self.publisher.answer(alloc, ask)
+    }
+}

@@ -1,6 +1,0 @@
-use Rattle.std.proofs.Common.{◌≡◌, ◌++◌, List, ℕ, Bor, drop, map}
-use Rattle.tree_draft.specs.Falls.{standing}
-use Rattle.tree_draft.proofs.kid_list.standing.Given as goal
-
-abbrev pub invariant-loop-place : goal.invariant-loop-place
-invariant-loop-place l = map (λ (w : Bor (List ℕ)). w.now) l.lent.items ++ standing l.falls l.place (drop l.place l.names) ≡ standing l.falls 0 l.names

@@ -30,7 +30,8 @@ use Rattle.content_json.proofs.KidLemmas.{and_true, all_at, kids_have, kids_with
 use Rattle.content_json.proofs.MapLemmas.{find_is_node_at, find_in_map, map_sorted}
 use Rattle.content_json.proofs.DistinctLemmas.{neither, kids_distinct}
 use Rattle.content_json.proofs.SizeLemmas.{length-nodes_in, object_fits, shallow_first, shallow_rest}
-use Rattle.content_json.proofs.InsertLemmas.{AreSorted, entries_of, get-member}
+use Rattle.content_json.specs.Members.{AreSorted, entries_of}
+use Rattle.content_json.proofs.InsertLemmas.{get-member}
 use Rattle.content_json.proofs.ReturnMembers.{first, second, option_or-none}
 use Rattle.content_json.proofs.ReturnNodes.{get_below, find_added, read_value}
 use Rattle.content_json.proofs.InOrder.{IsInOrder, AreInOrder}

@@ -10,7 +10,8 @@ use Rattle.serde_json.specs.Data.{Data, null, boolean, number, string, array, ob
 use Rattle.serde_json.specs.Read.{of_json, of_items, of_members, number_of, read, max_depth}
 use Rattle.sp_base.specs.Names.{by_name}
 use Rattle.content_json.specs.ContentOf.{json_of}
-use Rattle.content_json.proofs.InsertLemmas.{AreSorted, sorted-put}
+use Rattle.content_json.specs.Members.{AreSorted}
+use Rattle.content_json.proofs.InsertLemmas.{sorted-put}
 
 abbrev mutual
   pub IsInOrder : Data → Type 0

@@ -21,7 +21,7 @@ use Rattle.content_json.proofs.NodeLemmas.{node_at-append, none_at_parent}
 use Rattle.content_json.proofs.BelowLemmas.{is_at_or_below_split}
 use Rattle.content_json.proofs.MapLemmas.{find_in_map, map_sorted}
 use Rattle.content_json.proofs.SizeLemmas.{length-nodes_in}
-use Rattle.content_json.proofs.InsertLemmas.{AreSorted, entries_of}
+use Rattle.content_json.specs.Members.{AreSorted, entries_of}
 use Rattle.content_json.proofs.ReturnMembers.{first, second}
 use Rattle.content_json.proofs.ReturnNodes.{get_below}
 use Rattle.content_json.proofs.InOrder.{IsInOrder, AreInOrder}

@@ -23,7 +23,8 @@ use Rattle.content_json.specs.Written.{has_no_colon, keeps_kind}
 use Rattle.content_json.proofs.Under.{both, bytes_eq_itself}
 use Rattle.content_json.proofs.KidLemmas.{all_weaker}
 use Rattle.content_json.proofs.WrittenLemmas.{and_last}
-use Rattle.content_json.proofs.InsertLemmas.{same_name, tie_is, get-member, entries_of, AreSorted, AllMembers}
+use Rattle.content_json.specs.Members.{entries_of, AreSorted, AllMembers}
+use Rattle.content_json.proofs.InsertLemmas.{same_name, tie_is, get-member}
 use Rattle.content_json.proofs.ValueLemmas.{data_of, texts_back, value_back, value_no_object}
 use Rattle.content_json.proofs.ReturnMembers.{first, second, less_apart, option_or-none, members_of, members_sorted, IsMember, prop, order, kid, get_kid, get_prop, get_order_some, get_order_none}
 use Rattle.content_json.proofs.ReturnFaults.{Node-is, order_no_kid, order_no_prop}

@@ -8,6 +8,7 @@ ghost use Rattle.content_json.specs.ContentOf.{json_of, is_too_big, refused_by, 
 ghost use Rattle.content_json.specs.Steps.{is_sound};
 
 use crate::ContentFault;
+use crate::direct::nodes_of_text;
 use crate::fault::{Cause, Found};
 use crate::measure::room_beside;
 use crate::search::object_fault;
@@ -19,10 +20,10 @@ use std::alloc::Global;
 use std::hash::RandomState;
 
 /// The most nodes that content may have, the root among them.
-const MOST_NODES: usize = 200_000;
+pub(crate) const MOST_NODES: usize = 200_000;
 
 /// The most levels below the root.
-const MOST_LEVELS: usize = 64;
+pub(crate) const MOST_LEVELS: usize = 64;
 
 /// Reads content from a JSON text (RFC 8259) whose top is an object, the root. A member with an object is
 /// a kid, one with a text, an integer, a truth or an array of one kind of these a property, and one with
@@ -33,6 +34,11 @@ pub fn read_tree(alloc: Global, seeds: RandomState, bytes: &[u8]) -> Result<Tree
     ensures ok { IfOk result (λ tree. content bytes.now ≡ Ok tree) }
     ensures err { IfErr result (λ fault. fault ≢ ContentFault.NoMemory → content bytes.now ≡ Err fault) }
 {
+    if let Ok(text) = simdutf8::compat::from_utf8(bytes) {
+        if let Some(nodes) = nodes_of_text(alloc, seeds, text)? {
+            return Ok(Tree::of(nodes));
+        }
+    }
     let Value::Object(members) = json_of(alloc, bytes)? else {
         return Err(ContentFault::NotObject);
     };

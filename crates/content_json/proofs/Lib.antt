@@ -25,3 +25,4 @@ pub mod GoodLemmas
 pub mod LawLemmas
 pub mod FaultLemmas
 pub mod PathCount
+pub mod OpenObjectLemmas

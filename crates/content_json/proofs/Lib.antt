@@ -26,3 +26,4 @@ pub mod LawLemmas
 pub mod FaultLemmas
 pub mod PathCount
 pub mod OpenObjectLemmas
+pub mod ListedLemmas

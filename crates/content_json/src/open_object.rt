@@ -1,14 +1,10 @@
 // An object of content of which some members were read.
 ghost use Rattle.std.specs.Prelude.{◌≡◌, ◌++◌, [], ℕ, List, true, not, IfOk, IfSome, OnOk, map, filter};
-ghost use Rattle.std.specs.BTreeSet.{contains_by};
+ghost use Rattle.std.specs.BTreeSet.{contains_by, IsOrdered};
 ghost use Rattle.std.specs.Cmp.Lexicographic.{slice_cmp};
-ghost use Rattle.std.specs.List.{list_any};
-ghost use Rattle.std.specs.List.Sorted.{IsStrictlySortedBy};
 ghost use Rattle.std.specs.Ordering.{nat_cmp};
-ghost use Rattle.std.specs.Str.{bytes_eq};
 ghost use Rattle.serde_json.specs.Data.{Members, string};
 ghost use Rattle.serde_json.specs.View.{items_of};
-ghost use Rattle.sp_base.specs.Names.{by_name};
 ghost use Rattle.content_json.specs.Names.{is_kid};
 ghost use Rattle.content_json.specs.Faults.{names_kids};
 ghost use Rattle.content_json.specs.Direct.{texts_in, with_others};
@@ -117,9 +113,9 @@ fn kids_in_order<'a>(
     listed: &[&'a str],
     kids: &BTreeSet<&'a str>,
 ) -> Mem<Option<TextList>>
-    ensures ordered { IsStrictlySortedBy by_name (texts_in kids.now.keys) }
+    ensures ordered { IfOk result (λ found. IfSome found (λ _. IsOrdered (λ j k. slice_cmp nat_cmp j.now k.now) kids.now)) }
     ensures kids { IfOk result (λ found. IfSome found (λ names. names ≡ with_others (texts_in listed.now) (texts_in kids.now.keys))) }
-    ensures good { IfOk result (λ found. IfSome found (λ _. (ms : Members) → ((q : List ℕ) → list_any (bytes_eq q) (texts_in kids.now.keys) ≡ true → is_kid ms q ≡ true) → names_kids ms [] (items_of (map string (texts_in listed.now))) ≡ true)) }
+    ensures good { IfOk result (λ found. IfSome found (λ _. (ms : Members) → ((q : List ℕ) → contains_by (λ k. slice_cmp nat_cmp q k.now) kids.now ≡ true → is_kid ms q ≡ true) → names_kids ms [] (items_of (map string (texts_in listed.now))) ≡ true)) }
 {
     let mut first = BTreeSet::new(alloc);
     let mut names = TextList::new(alloc);
@@ -140,7 +136,8 @@ fn add_others<'a>(
     kids: &BTreeSet<&'a str>,
     first: &BTreeSet<&'a str>,
 ) -> Mem<()>
-    ensures { OnOk result (names.new ≡ names.old ++ filter (λ name. not (contains_by (λ k. slice_cmp nat_cmp name k.now) first.now)) (texts_in kids.now.keys)) }
+    ensures ordered { IsOrdered (λ j k. slice_cmp nat_cmp j.now k.now) kids.now }
+    ensures names { OnOk result (names.new ≡ names.old ++ filter (λ name. not (contains_by (λ k. slice_cmp nat_cmp name k.now) first.now)) (texts_in kids.now.keys)) }
 {
     for name in kids {
         if !first.contains(*name) {

@@ -27,3 +27,4 @@ pub mod FaultLemmas
 pub mod PathCount
 pub mod OpenObjectLemmas
 pub mod ListedLemmas
+pub mod OpenNodeLemmas

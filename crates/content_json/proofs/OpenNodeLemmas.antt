@@ -1,5 +1,5 @@
 -- What is held of an object's members makes its node.
-use Rattle.std.proofs.Common.{◌≡◌, ℕ, Bool, true, false, cond, not, ◌&&◌, ◌||◌, T, List, [], ◌∷◌, ◌++◌, Option, Some, None, map, unwrap_or, if◌then◌else◌, Bor, nat_cmp, refl, sym, ap, ◌∙◌, subst}
+use Rattle.std.proofs.Common.{◌≡◌, ℕ, true, false, cond, not, ◌||◌, T, List, [], ◌∷◌, Option, Some, None, map, unwrap_or, if◌then◌else◌, Bor, nat_cmp, refl, sym, ap, ◌∙◌, subst}
 use Rattle.std.specs.Prelude.{option_and_then}
 use Rattle.std.specs.BTreeSet.{contains_by, IsOrdered}
 use Rattle.std.specs.Cmp.Lexicographic.{slice_cmp, nat_list_cmp_total}
@@ -11,16 +11,16 @@ use Rattle.std.specs.Ordering.{is_eq, is_lt}
 use Rattle.std.specs.Str.{bytes_eq}
 use Rattle.std.specs.declared.cmp.Ordering.TheVariants.{Less}
 use Rattle.std.proofs.lemmas.Map.Text.{is_eq-slice_cmp}
-use Rattle.serde_json.specs.Data.{Data, null, boolean, number, string, array, object, Items, no_items, item, Members, no_members, member}
+use Rattle.serde_json.specs.Data.{Data, null, boolean, number, string, array, object, no_items, Members, no_members, member}
 use Rattle.serde_json.specs.Find.{as_str, as_array, get_member}
 use Rattle.serde_json.specs.View.{items_of}
 use Rattle.sp_base.specs.Names.{by_name}
-use Rattle.sp_base.specs.declared.value.Value.{Value}
+use Rattle.sp_base.proofs.PathLemmas.{both as both_hold}
 use Rattle.content_json.specs.declared.open_object.OpenObject.{OpenObject}
 use Rattle.content_json.specs.Names.{order_name, is_order, is_kid_member, kid_names, is_kid}
 use Rattle.content_json.specs.Lists.{item_list}
 use Rattle.content_json.specs.Faults.{names_kids, has_good_order, is_good_order}
-use Rattle.content_json.specs.Nodes.{add_props, node_of_members, order_names, kids_of}
+use Rattle.content_json.specs.Nodes.{add_props, kids_of}
 use Rattle.content_json.specs.Members.{AreSorted, entries_of}
 use Rattle.content_json.specs.Direct.{Holds, texts_array, texts_in, with_others}
 use Rattle.content_json.proofs.Under.{both}
@@ -55,27 +55,23 @@ same_names xs ys g h same =
     let alike = same_entries by_name nat_list_cmp_total same_name (named xs) (named ys) g h (λ q. find_named q xs ∙ ap (λ t. cond t (Some tt) None) (same q) ∙ sym (find_named q ys)) in
     sym (names_named xs) ∙ ap names_of alike ∙ names_named ys
 
-and_T : (a b : Bool) → T a → T b → T (a && b)
-and_T true b g h = h
-and_T false b g h = absurd g
-
 -- ---- the kids
 
 texts_below : (k : Bor (List ℕ)) (ks : List (Bor (List ℕ))) → AllByRecursion (λ y. slice_cmp nat_cmp k.now y.now ≡ Less) ks → T (below_all by_name k.now (named (texts_in ks)))
 texts_below k [] h = tt
-texts_below k (y ∷ ks) h = and_T (is_lt (by_name k.now y.now)) (below_all by_name k.now (named (texts_in ks))) (subst (λ o. T (is_lt o)) (sym h.0) tt) (texts_below k ks h.1)
+texts_below k (y ∷ ks) h = both_hold (is_lt (by_name k.now y.now)) (below_all by_name k.now (named (texts_in ks))) (subst (λ o. T (is_lt o)) (sym h.0) tt) (texts_below k ks h.1)
 
 texts_sorted : (ks : List (Bor (List ℕ))) → IsStrictlySortedBy (λ j k. slice_cmp nat_cmp j.now k.now) ks → T (is_sorted by_name (named (texts_in ks)))
 unfolding IsStrictlySortedBy
 texts_sorted [] h = tt
-texts_sorted (k ∷ ks) h = and_T (below_all by_name k.now (named (texts_in ks))) (is_sorted by_name (named (texts_in ks))) (texts_below k ks h.0) (texts_sorted ks h.1)
+texts_sorted (k ∷ ks) h = both_hold (below_all by_name k.now (named (texts_in ks))) (is_sorted by_name (named (texts_in ks))) (texts_below k ks h.0) (texts_sorted ks h.1)
 
 kids_below : (k : List ℕ) (ms : Members) → T (below_all by_name k (entries_of ms)) → T (below_all by_name k (named (kid_names ms)))
 kids_below k no_members h = tt
 kids_below k (member name d ms) h =
     let rest = kids_below k ms (second (is_lt (by_name k name)) (below_all by_name k (entries_of ms)) h) in
     elim (is_kid_member name d) as (λ t. T (below_all by_name k (named (if t then name ∷ kid_names ms else kid_names ms)))) [
-      | true ↦ and_T (is_lt (by_name k name)) (below_all by_name k (named (kid_names ms))) (first (is_lt (by_name k name)) (below_all by_name k (entries_of ms)) h) rest
+      | true ↦ both_hold (is_lt (by_name k name)) (below_all by_name k (named (kid_names ms))) (first (is_lt (by_name k name)) (below_all by_name k (entries_of ms)) h) rest
       | false ↦ rest
     ]
 
@@ -84,7 +80,7 @@ kids_sorted no_members h = tt
 kids_sorted (member name d ms) h =
     let rest = kids_sorted ms (second (below_all by_name name (entries_of ms)) (is_sorted by_name (entries_of ms)) h) in
     elim (is_kid_member name d) as (λ t. T (is_sorted by_name (named (if t then name ∷ kid_names ms else kid_names ms)))) [
-      | true ↦ and_T (below_all by_name name (named (kid_names ms))) (is_sorted by_name (named (kid_names ms)))
+      | true ↦ both_hold (below_all by_name name (named (kid_names ms))) (is_sorted by_name (named (kid_names ms)))
           (kids_below name ms (first (below_all by_name name (entries_of ms)) (is_sorted by_name (entries_of ms)) h)) rest
       | false ↦ rest
     ]

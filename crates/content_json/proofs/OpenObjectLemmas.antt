@@ -45,24 +45,25 @@ value_no_kid (string s) v h = refl
 value_no_kid (array ds) v h = refl
 value_no_kid (object ms) v h = absurd (cc)
 
-pub find_named : (q name : List ℕ) (v : Value) (d : Data) (props : List (List ℕ × Value)) → data_value d ≡ Some v
+pub find_put_value : (q name : List ℕ) (v : Value) (d : Data) (props : List (List ℕ × Value)) → data_value d ≡ Some v
     → find by_name q (entries.put by_name name v props) ≡ cond (bytes_eq q name) (data_value d) (find by_name q props)
-find_named q name v d props is =
+find_put_value q name v d props is =
     find-put by_name nat_list_cmp_total q name v props ∙ ap (λ t. cond t (Some v) (find by_name q props)) (tie_is q name) ∙ ap (λ o. cond (bytes_eq q name) o (find by_name q props)) (sym is)
+
+-- an array is no object
+order_no_kid : (o : Option Data) (ds es : Items) → unwrap_or o (array ds) ≡ array es → option_map_or is_object o false ≡ false
+order_no_kid None ds es e = refl
+order_no_kid (Some null) ds es e = refl
+order_no_kid (Some (boolean b)) ds es e = refl
+order_no_kid (Some (number n)) ds es e = refl
+order_no_kid (Some (string s)) ds es e = refl
+order_no_kid (Some (array xs)) ds es e = refl
+order_no_kid (Some (object xs)) ds es e = absurd (cc)
 
 module _ (before : OpenObject) (ms : Members) (h : Holds before ms) where
   -- no member that is a kid has the name
   pub no_kid : (name : List ℕ) → is_order name ≡ false → contains_by (λ k. slice_cmp nat_cmp name k.now) before.kids ≡ false → is_kid ms name ≡ false
   no_kid name other none = sym (ap (λ t. not t && is_kid ms name) other) ∙ sym (h.kids name) ∙ none
-
-  order_no_kid : (o : Option Data) (ds es : Items) → unwrap_or o (array ds) ≡ array es → option_map_or is_object o false ≡ false
-  order_no_kid None ds es e = refl
-  order_no_kid (Some null) ds es e = refl
-  order_no_kid (Some (boolean b)) ds es e = refl
-  order_no_kid (Some (number n)) ds es e = refl
-  order_no_kid (Some (string s)) ds es e = refl
-  order_no_kid (Some (array xs)) ds es e = refl
-  order_no_kid (Some (object xs)) ds es e = absurd (cc)
 
   pub order_is_no_kid : is_kid ms order_name ≡ false
   order_is_no_kid = order_no_kid (get_member order_name ms) _ _ h.order
@@ -74,7 +75,7 @@ module _ (before : OpenObject) (ms : Members) (h : Holds before ms) where
     there : (q : List ℕ) → bytes_eq q name ≡ false → get_member q (put name d ms) ≡ get_member q ms
     there q e = get-put q name d ms ∙ ap (λ t. cond t (Some d) (get_member q ms)) e
 
-    -- a property, or the name of a kid, or of a member that is neither
+    -- a property, a kid, or a member that is neither
     pub holds-put : is_order name ≡ false
         → ((q : List ℕ) → find by_name q after.props ≡ cond (bytes_eq q name) (data_value d) (find by_name q before.props))
         → ((q : List ℕ) → contains_by (λ k. slice_cmp nat_cmp q k.now) after.kids ≡ cond (bytes_eq q name) (is_object d) (contains_by (λ k. slice_cmp nat_cmp q k.now) before.kids))

@@ -17,5 +17,5 @@ invariant-loop-name l =
     (l.names ++ left ≡ texts_in l.listed)
     × ((q : List ℕ) → contains_by (λ k. slice_cmp nat_cmp q k.now) l.first ≡ list_any (bytes_eq q) l.names)
     × ((ms : Members) → ((q : List ℕ) → contains_by (λ k. slice_cmp nat_cmp q k.now) l.kids ≡ true → is_kid ms q ≡ true)
-      → (before : List (List ℕ)) × ((q : List ℕ) → contains_by (λ k. slice_cmp nat_cmp q k.now) l.first ≡ list_any (λ other. bytes_eq other q) before)
-        × (names_kids ms [] (items_of (map string (texts_in l.listed))) ≡ names_kids ms before (items_of (map string left))))
+    → (before : List (List ℕ)) × ((q : List ℕ) → contains_by (λ k. slice_cmp nat_cmp q k.now) l.first ≡ list_any (λ other. bytes_eq other q) before)
+    × (names_kids ms [] (items_of (map string (texts_in l.listed))) ≡ names_kids ms before (items_of (map string left))))

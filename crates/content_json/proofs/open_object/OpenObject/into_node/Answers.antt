@@ -1,8 +1,7 @@
-use Rattle.std.proofs.Common.{◌≡◌, ℕ, List, T, sym, ap, ◌∙◌, subst}
+use Rattle.std.proofs.Common.{ℕ, List, T, ◌∙◌, subst}
 use Rattle.std.specs.FinMap.Entries.{is_sorted}
 use Rattle.sp_base.specs.Names.{by_name}
 use Rattle.sp_base.specs.declared.value.Value.{Value}
-use Rattle.content_json.specs.Direct.{texts_in, with_others}
 use Rattle.content_json.proofs.OpenNodeLemmas.{props_are, kids_are, is_kid_from, good_order}
 use Rattle.content_json.proofs.open_object.OpenObject.into_node.Goals as goal
 

@@ -1,4 +1,4 @@
-use Rattle.std.proofs.Common.{◌≡◌, ℕ, List, Some, None, true, false, cond, Bor, nat_cmp, refl, sym, ap, ◌∙◌}
+use Rattle.std.proofs.Common.{◌≡◌, None, true, false, cond, nat_cmp, refl, sym, ap, ◌∙◌}
 use Rattle.std.specs.BTreeSet.{contains_by}
 use Rattle.std.specs.Cmp.Lexicographic.{slice_cmp}
 use Rattle.std.specs.FinMap.Entries.{find}
@@ -18,8 +18,8 @@ returns c = λ added kid ms h.
     let no_prop : find by_name name before.props ≡ None = not_there c.get.result _ c.get.ensures (sym c.is_some.ensures ∙ c.if-is_some.false) in (
       no_kid before ms h name other none,
       holds-put before ms h _ name _ other
-      (λ q. same_at (λ n. find by_name n before.props) q name None no_prop)
-      (λ q. c.in_ok-insert.ensures.updates.0 (record { ref_ptr = (0, 0); now = q })
-      ∙ ap (λ t. cond t true (contains_by (λ k. slice_cmp nat_cmp q k.now) before.kids)) (is_eq-slice_cmp name q ∙ bytes_eq_swapped name q))
-      refl,
+          (λ q. same_at (λ n. find by_name n before.props) q name None no_prop)
+          (λ q. c.in_ok-insert.ensures.updates.0 (record { ref_ptr = (0, 0); now = q })
+          ∙ ap (λ t. cond t true (contains_by (λ k. slice_cmp nat_cmp q k.now) before.kids)) (is_eq-slice_cmp name q ∙ bytes_eq_swapped name q))
+          refl,
     )

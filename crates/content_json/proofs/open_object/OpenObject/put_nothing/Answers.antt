@@ -1,4 +1,4 @@
-use Rattle.std.proofs.Common.{◌≡◌, ℕ, List, Some, None, true, false, not, cond, Bor, nat_cmp, refl, sym, ap, ◌∙◌}
+use Rattle.std.proofs.Common.{◌≡◌, None, false, not, nat_cmp, refl, sym, ap, ◌∙◌}
 use Rattle.std.specs.BTreeSet.{contains_by}
 use Rattle.std.specs.Cmp.Lexicographic.{slice_cmp}
 use Rattle.std.specs.FinMap.Entries.{find}
@@ -15,7 +15,7 @@ returns-then-not-contains c = λ free ms h.
     let no_prop : find by_name name before.props ≡ None = not_there c.get.result _ c.get.ensures (c.is_none.ensures ∙ ap not free) in (
       no_kid before ms h name other none,
       holds-put before ms h _ name _ other
-      (λ q. same_at (λ n. find by_name n before.props) q name None no_prop)
-      (λ q. same_at (λ n. contains_by (λ k. slice_cmp nat_cmp n k.now) before.kids) q name false none)
-      refl,
+          (λ q. same_at (λ n. find by_name n before.props) q name None no_prop)
+          (λ q. same_at (λ n. contains_by (λ k. slice_cmp nat_cmp n k.now) before.kids) q name false none)
+          refl,
     )

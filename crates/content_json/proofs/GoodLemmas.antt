@@ -157,7 +157,7 @@ other_alone true b = refl
 other_alone false b = refl
 
 -- a name is a kid's exactly where its member is an object
-kid_names_are : (name : List ℕ) (ms : Members) → AreSorted ms → list_any (bytes_eq name) (kid_names ms) ≡ (not (is_order name) && is_kid ms name)
+pub kid_names_are : (name : List ℕ) (ms : Members) → AreSorted ms → list_any (bytes_eq name) (kid_names ms) ≡ (not (is_order name) && is_kid ms name)
 kid_names_are name no_members s = sym (no_kid (is_order name))
 kid_names_are name (member k d ms) s =
     let below = first (below_all by_name k (entries_of ms)) (is_sorted by_name (entries_of ms)) s in

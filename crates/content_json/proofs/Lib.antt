@@ -26,3 +26,8 @@ pub mod LawLemmas
 pub mod FaultLemmas
 pub mod PathCount
 pub mod PutLemmas
+pub mod OpenObjectLemmas
+pub mod ListedLemmas
+pub mod OpenNodeLemmas
+pub mod ReadLemmas
+pub mod DirectLemmas

@@ -95,7 +95,7 @@ added_sorted name d props h =
       ]
     ]
 
-sorted_props : (ms : Members) (props : List (List ℕ × Value)) → T (is_sorted by_name props) → T (is_sorted by_name (add_props props ms))
+pub sorted_props : (ms : Members) (props : List (List ℕ × Value)) → T (is_sorted by_name props) → T (is_sorted by_name (add_props props ms))
 sorted_props no_members props h = h
 sorted_props (member name d ms) props h = sorted_props ms (with_member name d props) (added_sorted name d props h)
 

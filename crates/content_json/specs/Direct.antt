@@ -1,8 +1,11 @@
 -- What proofs and private functions need: the members of an object that is read token by token.
-use Rattle.std.specs.Prelude.{◌≡◌, ◌+◌, not, ◌&&◌, ◌||◌, ℕ, suc, map, length, List, Bool, true, false, Option, Some, None, option_and_then, unwrap_or, [], if◌then◌else◌}
+use Rattle.std.specs.Prelude.{◌≡◌, ◌+◌, not, ◌&&◌, ◌||◌, ◌++◌, ℕ, suc, map, filter, length, List, Bool, true, false, Option, Some, None, option_and_then, unwrap_or, [], if◌then◌else◌}
 use Rattle.std.specs.Cmp.Lexicographic.{slice_cmp}
 use Rattle.std.specs.Ordering.{nat_cmp}
+use Rattle.std.specs.Borrow.{Bor}
 use Rattle.std.specs.BTreeSet.{contains_by}
+use Rattle.std.specs.List.{list_any}
+use Rattle.std.specs.Str.{bytes_eq}
 use Rattle.std.specs.FinMap.Entries.{find}
 use Rattle.json.specs.Token.{Token}
 use Rattle.json.specs.Json as json
@@ -26,6 +29,14 @@ pub record IsFit (levels : ℕ) (name : List ℕ) (d : Data) : Type 0 where
   pub plain : (is_order name || is_content_name name) ≡ true
   pub faultless : member_fault name d ≡ None
   pub shallow : (if is_order name then false else is_deeper levels d) ≡ false
+
+-- the texts that are lent
+abbrev pub texts_in : List (Bor (List ℕ)) → List (List ℕ)
+texts_in names = map (λ name. name.now) names
+
+-- the first names, and those of others that aren't among them
+abbrev pub with_others : List (List ℕ) → List (List ℕ) → List (List ℕ)
+with_others first names = first ++ filter (λ name. not (list_any (bytes_eq name) first)) names
 
 -- the texts as an array
 abbrev pub texts_array : List (List ℕ) → Data

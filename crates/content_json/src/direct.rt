@@ -38,8 +38,9 @@ pub(crate) fn nodes_of_text(alloc: Global, seeds: RandomState, text: &str) -> Me
     if !whole || reader.next().is_some() {
         return Ok(None);
     }
-    // `len` says that the nodes stand in the order of their paths, so that equal look-ups make equal maps.
-    let _ = nodes.len();
+    if nodes.len() > MOST_NODES {
+        return Ok(None);
+    }
     Ok(Some(nodes))
 }
 

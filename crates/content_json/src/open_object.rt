@@ -1,4 +1,14 @@
 // An object of content of which some members were read.
+ghost use Rattle.std.specs.Prelude.{◌≡◌, ◌++◌, [], ℕ, List, true, not, IfOk, IfSome, OnOk, map, filter};
+ghost use Rattle.std.specs.BTreeSet.{contains_by, IsOrdered};
+ghost use Rattle.std.specs.Cmp.Lexicographic.{slice_cmp};
+ghost use Rattle.std.specs.Ordering.{nat_cmp};
+ghost use Rattle.serde_json.specs.Data.{Members, string};
+ghost use Rattle.serde_json.specs.View.{items_of};
+ghost use Rattle.content_json.specs.Names.{is_kid};
+ghost use Rattle.content_json.specs.Faults.{names_kids};
+ghost use Rattle.content_json.specs.Direct.{texts_in, with_others};
+
 use resource_tree::Node;
 use sp_base::{Mem, PropList, TextBuf, TextList, Value};
 use std::alloc::Global;
@@ -102,7 +112,11 @@ fn kids_in_order<'a>(
     alloc: Global,
     listed: &[&'a str],
     kids: &BTreeSet<&'a str>,
-) -> Mem<Option<TextList>> {
+) -> Mem<Option<TextList>>
+    ensures ordered { IfOk result (λ found. IfSome found (λ _. IsOrdered (λ j k. slice_cmp nat_cmp j.now k.now) kids.now)) }
+    ensures kids { IfOk result (λ found. IfSome found (λ names. names ≡ with_others (texts_in listed.now) (texts_in kids.now.keys))) }
+    ensures good { IfOk result (λ found. IfSome found (λ _. (ms : Members) → ((q : List ℕ) → contains_by (λ k. slice_cmp nat_cmp q k.now) kids.now ≡ true → is_kid ms q ≡ true) → names_kids ms [] (items_of (map string (texts_in listed.now))) ≡ true)) }
+{
     let mut first = BTreeSet::new(alloc);
     let mut names = TextList::new(alloc);
     for name in listed {
@@ -121,7 +135,10 @@ fn add_others<'a>(
     names: &mut TextList,
     kids: &BTreeSet<&'a str>,
     first: &BTreeSet<&'a str>,
-) -> Mem<()> {
+) -> Mem<()>
+    ensures ordered { IsOrdered (λ j k. slice_cmp nat_cmp j.now k.now) kids.now }
+    ensures names { OnOk result (names.new ≡ names.old ++ filter (λ name. not (contains_by (λ k. slice_cmp nat_cmp name k.now) first.now)) (texts_in kids.now.keys)) }
+{
     for name in kids {
         if !first.contains(*name) {
             names.push(TextBuf::of(alloc, name)?)?;

@@ -1,5 +1,5 @@
 // Reads content: the JSON, and then its nodes, or why it is refused.
-ghost use Rattle.std.specs.Prelude.{◌≡◌, ◌≢◌, None, Some, Ok, Err, [], false, is_some, IfOk, IfErr};
+ghost use Rattle.std.specs.Prelude.{◌≡◌, ◌≢◌, None, Some, Ok, Err, [], false, is_some, IfOk, IfErr, IfSome};
 ghost use Rattle.serde_json.specs.Data.{object};
 ghost use Rattle.serde_json.specs.View.{view, members_view};
 ghost use Rattle.content_json.specs.Faults.{fault_in};
@@ -34,10 +34,8 @@ pub fn read_tree(alloc: Global, seeds: RandomState, bytes: &[u8]) -> Result<Tree
     ensures ok { IfOk result (λ tree. content bytes.now ≡ Ok tree) }
     ensures err { IfErr result (λ fault. fault ≢ ContentFault.NoMemory → content bytes.now ≡ Err fault) }
 {
-    if let Ok(text) = simdutf8::compat::from_utf8(bytes) {
-        if let Some(nodes) = nodes_of_text(alloc, seeds, text)? {
-            return Ok(Tree::of(nodes));
-        }
+    if let Some(tree) = direct_tree(alloc, seeds, bytes)? {
+        return Ok(tree);
     }
     let Value::Object(members) = json_of(alloc, bytes)? else {
         return Err(ContentFault::NotObject);
@@ -47,6 +45,19 @@ pub fn read_tree(alloc: Global, seeds: RandomState, bytes: &[u8]) -> Result<Tree
     };
     let nodes = nodes_of(alloc, seeds, members, MOST_NODES.saturating_sub(room))?;
     Ok(Tree::of(nodes))
+}
+
+// The tree of content that is read straight from its tokens, where it can be.
+fn direct_tree(alloc: Global, seeds: RandomState, bytes: &[u8]) -> Mem<Option<Tree>>
+    ensures { IfOk result (λ found. IfSome found (λ tree. content bytes.now ≡ Ok tree)) }
+{
+    let Ok(text) = simdutf8::compat::from_utf8(bytes) else {
+        return Ok(None);
+    };
+    match nodes_of_text(alloc, seeds, text)? {
+        Some(nodes) => Ok(Some(Tree::of(nodes))),
+        None => Ok(None),
+    }
 }
 
 // The JSON that the bytes are.

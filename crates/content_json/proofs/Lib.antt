@@ -14,6 +14,7 @@ pub mod WrittenLemmas
 pub mod BelowLemmas
 pub mod InsertLemmas
 pub mod ValueLemmas
+pub mod TokenLemmas
 pub mod ReturnMembers
 pub mod ReturnFaults
 pub mod ReturnNodes

@@ -15,14 +15,10 @@ use Rattle.content_json.specs.declared.open_object.OpenObject.{OpenObject}
 use Rattle.content_json.specs.Names.{order_name, is_order, is_content_name, is_object, is_kid}
 use Rattle.content_json.specs.Lists.{data_value}
 use Rattle.content_json.specs.Direct.{Holds, texts_array}
-use Rattle.content_json.proofs.PutLemmas.{value_no_kid}
+use Rattle.content_json.proofs.PutLemmas.{not_order, value_no_kid}
 use Rattle.content_json.proofs.Under.{bytes_eq_itself}
 use Rattle.content_json.proofs.InsertLemmas.{get-put, sorted-put, tie_is}
 use Rattle.content_json.proofs.ReturnNodes.{read_value}
-
--- a name that may stand in content isn't `:order`
-pub no_order : (name : List ℕ) → is_content_name name ≡ true → is_order name ≡ false
-no_order name plain = ⊎_elim (λ e. absurd (true≢false (sym plain ∙ ap is_content_name (same_text name order_name (sym e))))) (λ e. e) (cases_Bool (is_order name))
 
 -- what isn't found through a reference isn't there
 pub not_there : {A : Type 0} (o : Option (Bor A)) (p : Option A) → option_copied o ≡ p → is_some o ≡ false → p ≡ None

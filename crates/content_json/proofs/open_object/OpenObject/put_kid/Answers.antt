@@ -6,14 +6,15 @@ use Rattle.sp_base.specs.Names.{by_name}
 use Rattle.std.proofs.lemmas.Map.Text.{is_eq-slice_cmp}
 use Rattle.content_json.proofs.OrderLemmas.{false_from_not}
 use Rattle.content_json.proofs.Under.{bytes_eq_swapped}
-use Rattle.content_json.proofs.OpenObjectLemmas.{no_order, not_there, same_at, no_kid, holds-put}
+use Rattle.content_json.proofs.PutLemmas.{not_order}
+use Rattle.content_json.proofs.OpenObjectLemmas.{not_there, same_at, no_kid, holds-put}
 use Rattle.content_json.proofs.open_object.OpenObject.put_kid.Goals as goal
 
 pub returns : goal.returns
 returns c = λ added kid ms h.
     let before = c.args.self.now in
     let name = c.args.name.now in
-    let other = no_order name c.requires.plain in
+    let other = not_order name c.requires.plain in
     let none : contains_by (λ k. slice_cmp nat_cmp name k.now) before.kids ≡ false = false_from_not _ (sym c.in_ok-insert.ensures.added ∙ added) in
     let no_prop : find by_name name before.props ≡ None = not_there c.get.result _ c.get.ensures (sym c.is_some.ensures ∙ c.if-is_some.false) in (
       no_kid before ms h name other none,

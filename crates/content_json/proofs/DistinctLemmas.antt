@@ -18,7 +18,8 @@ use Rattle.content_json.specs.Nodes.{order_names, kids_of}
 use Rattle.content_json.proofs.Under.{both, bytes_eq_swapped}
 use Rattle.content_json.proofs.OrderLemmas.{false_from_not}
 use Rattle.content_json.proofs.KidLemmas.{good_items}
-use Rattle.content_json.proofs.InsertLemmas.{AreSorted, entries_of, tie_is}
+use Rattle.content_json.specs.Members.{AreSorted, entries_of}
+use Rattle.content_json.proofs.InsertLemmas.{tie_is}
 use Rattle.content_json.proofs.ReturnMembers.{first, second, less_apart}
 
 all_weaker : {A : Type 0} (P Q : A → Type 0) → ((x : A) → P x → Q x) → (xs : List A) → AllByRecursion P xs → AllByRecursion Q xs

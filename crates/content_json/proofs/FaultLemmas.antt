@@ -17,7 +17,8 @@ use Rattle.content_json.specs.Faults.{here, in_member, own_fault, own_cause, has
 use Rattle.content_json.specs.Ways.{way_end, IsPlaced}
 use Rattle.content_json.proofs.Under.{bytes_eq_itself}
 use Rattle.content_json.proofs.NameLemmas.{none_of_both}
-use Rattle.content_json.proofs.InsertLemmas.{AreSorted, entries_of, get-member}
+use Rattle.content_json.specs.Members.{AreSorted, entries_of}
+use Rattle.content_json.proofs.InsertLemmas.{get-member}
 use Rattle.content_json.proofs.ReturnMembers.{first, second}
 use Rattle.content_json.proofs.ReturnNodes.{get_below}
 use Rattle.content_json.proofs.InOrder.{IsInOrder, AreInOrder}

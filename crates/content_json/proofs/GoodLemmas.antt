@@ -30,7 +30,8 @@ use Rattle.content_json.proofs.KidLemmas.{and_true, all_at, kids_have, kids_with
 use Rattle.content_json.proofs.MapLemmas.{find_is_node_at, find_in_map, map_sorted}
 use Rattle.content_json.proofs.DistinctLemmas.{neither, kids_distinct}
 use Rattle.content_json.proofs.SizeLemmas.{length-nodes_in, object_fits, shallow_first, shallow_rest}
-use Rattle.content_json.proofs.InsertLemmas.{AreSorted, entries_of, get-member}
+use Rattle.content_json.specs.Members.{AreSorted, entries_of}
+use Rattle.content_json.proofs.InsertLemmas.{get-member}
 use Rattle.content_json.proofs.ReturnMembers.{first, second, option_or-none}
 use Rattle.content_json.proofs.ReturnNodes.{get_below, find_added, read_value}
 use Rattle.content_json.proofs.InOrder.{IsInOrder, AreInOrder}
@@ -156,7 +157,7 @@ other_alone true b = refl
 other_alone false b = refl
 
 -- a name is a kid's exactly where its member is an object
-kid_names_are : (name : List ℕ) (ms : Members) → AreSorted ms → list_any (bytes_eq name) (kid_names ms) ≡ (not (is_order name) && is_kid ms name)
+pub kid_names_are : (name : List ℕ) (ms : Members) → AreSorted ms → list_any (bytes_eq name) (kid_names ms) ≡ (not (is_order name) && is_kid ms name)
 kid_names_are name no_members s = sym (no_kid (is_order name))
 kid_names_are name (member k d ms) s =
     let below = first (below_all by_name k (entries_of ms)) (is_sorted by_name (entries_of ms)) s in

@@ -10,7 +10,8 @@ use Rattle.serde_json.specs.Data.{Data, null, boolean, number, string, array, ob
 use Rattle.serde_json.specs.Read.{of_json, of_items, of_members, number_of, read, max_depth}
 use Rattle.sp_base.specs.Names.{by_name}
 use Rattle.content_json.specs.ContentOf.{json_of}
-use Rattle.content_json.proofs.InsertLemmas.{AreSorted, sorted-put}
+use Rattle.content_json.specs.Members.{AreSorted}
+use Rattle.content_json.proofs.InsertLemmas.{sorted-put}
 
 abbrev mutual
   pub IsInOrder : Data → Type 0
@@ -67,8 +68,11 @@ in_order_from : (o : Option json.Json) (d : Data) → option_and_then of_json o 
 in_order_from None d h = absurd (cc)
 in_order_from (Some j) d h = in_order_of j d h
 
+pub in_order_text : (text : List ℕ) (d : Data) → read text ≡ Some d → IsInOrder d
+in_order_text text d h = in_order_from (option_and_then (λ p. json.if_last p.0 p.1) (json.value max_depth (tokens text))) d h
+
 pub in_order_read : (bytes : List ℕ) (d : Data) → json_of bytes ≡ Some d → IsInOrder d
 in_order_read bytes d h = elim (is_utf8 bytes) as (λ t. (if t then read bytes else None) ≡ Some d → IsInOrder d) [
-  | true ↦ λ e. in_order_from (option_and_then (λ p. json.if_last p.0 p.1) (json.value max_depth (tokens bytes))) d e
+  | true ↦ λ e. in_order_text bytes d e
   | false ↦ λ e. absurd (cc)
 ] h

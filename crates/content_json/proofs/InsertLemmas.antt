@@ -14,6 +14,7 @@ use Rattle.std.proofs.lemmas.Bool.{cases_Bool, true≢false, false≢true}
 use Rattle.serde_json.specs.Data.{Data, Members, no_members, member, put}
 use Rattle.serde_json.specs.Find.{get_member}
 use Rattle.sp_base.specs.Names.{by_name}
+use Rattle.content_json.specs.Members.{entries_of, AreSorted, AllMembers}
 use Rattle.content_json.proofs.Under.{bytes_eq_itself}
 
 equal : (o : Ordering) → is_eq o ≡ true → o ≡ Equal
@@ -33,10 +34,6 @@ tie_is q k =
     (cases_Bool (eq_by_cmp by_name q k))
 
 -- ---- the members as entries
-
-abbrev pub entries_of : Members → List (List ℕ × Data)
-entries_of no_members = []
-entries_of (member k d ms) = (k, d) ∷ entries_of ms
 
 entries_of-put : (k : List ℕ) (d : Data) (ms : Members) → entries_of (put k d ms) ≡ entries.put by_name k d (entries_of ms)
 entries_of-put k d no_members = refl
@@ -66,20 +63,12 @@ pub get-member : (q k : List ℕ) (d : Data) (ms : Members) → get_member q (me
 get-member q k d ms =
     get_is_find q (member k d ms) ∙ ap (cond (eq_by_cmp by_name q k) (Some d)) (sym (get_is_find q ms)) ∙ ap (λ t. cond t (Some d) (get_member q ms)) (tie_is q k)
 
--- the names rise
-abbrev pub AreSorted : Members → Type 0
-AreSorted ms = T (is_sorted by_name (entries_of ms))
-
 pub sorted-put : (k : List ℕ) (d : Data) (ms : Members) → AreSorted ms → AreSorted (put k d ms)
 sorted-put k d ms h = subst (λ es. T (is_sorted by_name es)) (sym (entries_of-put k d ms)) (is_sorted-put by_name nat_list_cmp_total k d (entries_of ms) h)
 
 -- ---- what holds of each member
 
-abbrev pub AllMembers : (List ℕ → Data → Type 0) → Members → Type 0
-AllMembers P no_members = ⊤
-AllMembers P (member k d ms) = P k d × AllMembers P ms
-
-all-put : (P : List ℕ → Data → Type 0) (k : List ℕ) (d : Data) (ms : Members) → P k d → AllMembers P ms → AllMembers P (put k d ms)
+pub all-put : (P : List ℕ → Data → Type 0) (k : List ℕ) (d : Data) (ms : Members) → P k d → AllMembers P ms → AllMembers P (put k d ms)
 all-put P k d no_members p h = (p, tt)
 all-put P k d (member l e ms) p h =
     elim (by_name k l) as (λ o. by_name k l ≡ o → AllMembers P (match_ordering o (member k d (member l e ms)) (member l d ms) (member l e (put k d ms)))) [

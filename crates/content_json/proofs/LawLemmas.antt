@@ -18,7 +18,7 @@ use Rattle.content_json.specs.Names.{is_kid_member, kid_names}
 use Rattle.content_json.specs.Nodes.{nodes_in, order_names, kids_of}
 use Rattle.content_json.specs.ContentOf.{json_of, is_too_big, map_of, exceeds_limits, refused_by, unless_found, content_in, content}
 use Rattle.content_json.specs.Ways.{way_end, node_of_value}
-use Rattle.content_json.proofs.InsertLemmas.{AreSorted, entries_of}
+use Rattle.content_json.specs.Members.{AreSorted, entries_of}
 use Rattle.content_json.proofs.ReturnMembers.{first, second}
 use Rattle.content_json.proofs.InOrder.{IsInOrder, in_order_read}
 use Rattle.content_json.proofs.WayLemmas.{node_at_way, in_order_at}

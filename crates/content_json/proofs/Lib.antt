@@ -14,6 +14,7 @@ pub mod WrittenLemmas
 pub mod BelowLemmas
 pub mod InsertLemmas
 pub mod ValueLemmas
+pub mod TokenLemmas
 pub mod ReturnMembers
 pub mod ReturnFaults
 pub mod ReturnNodes
@@ -25,3 +26,9 @@ pub mod GoodLemmas
 pub mod LawLemmas
 pub mod FaultLemmas
 pub mod PathCount
+pub mod PutLemmas
+pub mod OpenObjectLemmas
+pub mod ListedLemmas
+pub mod OpenNodeLemmas
+pub mod ReadLemmas
+pub mod DirectLemmas

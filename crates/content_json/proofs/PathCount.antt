@@ -21,7 +21,7 @@ use Rattle.content_json.proofs.NodeLemmas.{node_at-append, none_at_parent}
 use Rattle.content_json.proofs.BelowLemmas.{is_at_or_below_split}
 use Rattle.content_json.proofs.MapLemmas.{find_in_map, map_sorted}
 use Rattle.content_json.proofs.SizeLemmas.{length-nodes_in}
-use Rattle.content_json.proofs.InsertLemmas.{AreSorted, entries_of}
+use Rattle.content_json.specs.Members.{AreSorted, entries_of}
 use Rattle.content_json.proofs.ReturnMembers.{first, second}
 use Rattle.content_json.proofs.ReturnNodes.{get_below}
 use Rattle.content_json.proofs.InOrder.{IsInOrder, AreInOrder}
@@ -165,9 +165,12 @@ mutual
       ∙ ap (λ b. b || list_any (λ e. nat_lt limit (length e.0)) (nodes_below path ms)) (too_long_unless limit (is_order name) (nodes_in (kid path name) d) (is_deeper levels d) (deep_in limit levels (kid path name) d (omega (arith, h, length-append path (name ∷ [])))))
       ∙ ap (λ b. (if is_order name then false else is_deeper levels d) || b) (deep_below limit levels path ms h)
 
+-- as many paths as are counted
+pub map_size : (ms : Members) → IsInOrder (object ms) → length (map_of (nodes_in [] (object ms))) ≡ suc (count_below ms)
+map_size ms h = map_length (nodes_in [] (object ms)) (apart_in [] (object ms) h) ∙ length-nodes_in [] (object ms)
+
 pub too_big_is : (ms : Members) → IsInOrder (object ms) → is_too_big ms ≡ exceeds_limits (map_of (nodes_in [] (object ms)))
 too_big_is ms h =
     let nodes = nodes_in [] (object ms) in
-    let size : suc (count_below ms) ≡ length (map_of nodes) = sym (map_length nodes (apart_in [] (object ms) h) ∙ length-nodes_in [] (object ms)) in
     let deep : is_deeper_below 64 ms ≡ list_any (λ e. nat_lt 64 (length e.0)) (map_of nodes) = sym (any_path (λ path. nat_lt 64 (length path)) nodes ∙ deep_in 64 65 [] (object ms) refl) in
-    ap (λ n. nat_lt 200000 n || is_deeper_below 64 ms) size ∙ ap (λ b. nat_lt 200000 (length (map_of nodes)) || b) deep
+    ap (λ n. nat_lt 200000 n || is_deeper_below 64 ms) (sym (map_size ms h)) ∙ ap (λ b. nat_lt 200000 (length (map_of nodes)) || b) deep

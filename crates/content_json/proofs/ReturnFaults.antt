@@ -26,7 +26,8 @@ use Rattle.content_json.specs.Written.{has_no_colon, keeps_kind}
 use Rattle.content_json.proofs.Under.{both, bytes_eq_itself}
 use Rattle.content_json.proofs.KidLemmas.{or_left, or_right}
 use Rattle.content_json.proofs.WrittenLemmas.{and_last}
-use Rattle.content_json.proofs.InsertLemmas.{tie_is, AllMembers}
+use Rattle.content_json.specs.Members.{AllMembers}
+use Rattle.content_json.proofs.InsertLemmas.{tie_is}
 use Rattle.content_json.proofs.ValueLemmas.{items_from, value_faultless, value_shallow}
 use Rattle.content_json.proofs.ReturnMembers.{members_of, IsMember, prop, order, kid, get_kid, get_order_some, get_order_none}
 

@@ -24,7 +24,8 @@ use Rattle.content_json.specs.Names.{order_name, is_order, is_content_name}
 use Rattle.content_json.specs.Written.{order_before, kids_json, has_no_colon, keeps_kind}
 use Rattle.content_json.proofs.Under.{both, bytes_eq_itself}
 use Rattle.content_json.proofs.KidLemmas.{and_true, or_left, or_right}
-use Rattle.content_json.proofs.InsertLemmas.{tie_is, get-put, AreSorted, sorted-insert_all, AllMembers, all-insert_all, insert_all}
+use Rattle.content_json.specs.Members.{AreSorted, AllMembers}
+use Rattle.content_json.proofs.InsertLemmas.{tie_is, get-put, sorted-insert_all, all-insert_all, insert_all}
 use Rattle.content_json.proofs.ValueLemmas.{items_from, data_of, texts_are, value_is}
 
 abbrev pub prop_entries : List (List ℕ × Value) → List (List ℕ × Data)

@@ -23,7 +23,8 @@ use Rattle.content_json.specs.Written.{has_no_colon, keeps_kind}
 use Rattle.content_json.proofs.Under.{both, bytes_eq_itself}
 use Rattle.content_json.proofs.KidLemmas.{all_weaker}
 use Rattle.content_json.proofs.WrittenLemmas.{and_last}
-use Rattle.content_json.proofs.InsertLemmas.{same_name, tie_is, get-member, entries_of, AreSorted, AllMembers}
+use Rattle.content_json.specs.Members.{entries_of, AreSorted, AllMembers}
+use Rattle.content_json.proofs.InsertLemmas.{same_name, tie_is, get-member}
 use Rattle.content_json.proofs.ValueLemmas.{data_of, texts_back, value_back, value_no_object}
 use Rattle.content_json.proofs.ReturnMembers.{first, second, less_apart, option_or-none, members_of, members_sorted, IsMember, prop, order, kid, get_kid, get_prop, get_order_some, get_order_none}
 use Rattle.content_json.proofs.ReturnFaults.{Node-is, order_no_kid, order_no_prop}
@@ -94,7 +95,7 @@ added_sorted name d props h =
       ]
     ]
 
-sorted_props : (ms : Members) (props : List (List ℕ × Value)) → T (is_sorted by_name props) → T (is_sorted by_name (add_props props ms))
+pub sorted_props : (ms : Members) (props : List (List ℕ × Value)) → T (is_sorted by_name props) → T (is_sorted by_name (add_props props ms))
 sorted_props no_members props h = h
 sorted_props (member name d ms) props h = sorted_props ms (with_member name d props) (added_sorted name d props h)
 

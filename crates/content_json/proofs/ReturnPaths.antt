@@ -22,7 +22,7 @@ use Rattle.content_json.proofs.Under.{bytes_eq_itself, same_path_is, same_path_i
 use Rattle.content_json.proofs.KidLemmas.{or_left, or_right, or_split, kid_names_have}
 use Rattle.content_json.proofs.NodeLemmas.{none_unless, node_at-append, none_in, none_at_parent}
 use Rattle.content_json.proofs.BelowLemmas.{below_kid}
-use Rattle.content_json.proofs.InsertLemmas.{entries_of, AreSorted, AllMembers}
+use Rattle.content_json.specs.Members.{entries_of, AreSorted, AllMembers}
 use Rattle.content_json.proofs.ValueLemmas.{data_of, value_no_nodes}
 use Rattle.content_json.proofs.ReturnMembers.{first, second, members_of, members_sorted, IsMember, prop, order, kid}
 use Rattle.content_json.proofs.ReturnFaults.{Returns, Node-is, kid_is_there, object_faultless, not_deeper_below}

@@ -16,7 +16,8 @@ use Rattle.content_json.specs.Steps.{is_at_or_below}
 use Rattle.content_json.specs.Ways.{way_end, node_of_value}
 use Rattle.content_json.proofs.Under.{same_path_itself, same_path_apart, bytes_eq_itself, bytes_eq_swapped}
 use Rattle.content_json.proofs.NodeLemmas.{node_at-append, none_unless, none_in}
-use Rattle.content_json.proofs.InsertLemmas.{AreSorted, entries_of, get-member}
+use Rattle.content_json.specs.Members.{AreSorted, entries_of}
+use Rattle.content_json.proofs.InsertLemmas.{get-member}
 use Rattle.content_json.proofs.ReturnMembers.{first, second, option_or-none}
 use Rattle.content_json.proofs.ReturnNodes.{get_below}
 use Rattle.content_json.proofs.InOrder.{IsInOrder, AreInOrder}

@@ -1,8 +1,10 @@
 pub mod Names
 pub mod Lists
 pub mod Faults
+pub mod Members
 pub mod Nodes
 pub mod Ways
 pub mod ContentOf
 pub mod Written
 pub mod Steps
+pub mod Direct

@@ -1,14 +1,17 @@
 //! Content as JSON: the tree that a JSON text stands for, or the first fault that it has, and the text that a tree is written as.
 #![tactic(auto)]
 
+mod direct;
 mod fault;
 mod kind;
 mod laws;
 mod measure;
 mod names;
+mod open_object;
 mod order;
 mod read;
 mod search;
+mod tokens;
 mod values;
 mod walk;
 mod write;

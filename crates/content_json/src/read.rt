@@ -1,5 +1,5 @@
 // Reads content: the JSON, and then its nodes, or why it is refused.
-ghost use Rattle.std.specs.Prelude.{◌≡◌, ◌≢◌, None, Some, Ok, Err, [], false, is_some, IfOk, IfErr};
+ghost use Rattle.std.specs.Prelude.{◌≡◌, ◌≢◌, None, Some, Ok, Err, [], false, is_some, IfOk, IfErr, IfSome};
 ghost use Rattle.serde_json.specs.Data.{object};
 ghost use Rattle.serde_json.specs.View.{view, members_view};
 ghost use Rattle.content_json.specs.Faults.{fault_in};
@@ -8,6 +8,7 @@ ghost use Rattle.content_json.specs.ContentOf.{json_of, is_too_big, refused_by, 
 ghost use Rattle.content_json.specs.Steps.{is_sound};
 
 use crate::ContentFault;
+use crate::direct::nodes_of_text;
 use crate::fault::{Cause, Found};
 use crate::measure::room_beside;
 use crate::search::object_fault;
@@ -19,10 +20,10 @@ use std::alloc::Global;
 use std::hash::RandomState;
 
 /// The most nodes that content may have, the root among them.
-const MOST_NODES: usize = 200_000;
+pub(crate) const MOST_NODES: usize = 200_000;
 
 /// The most levels below the root.
-const MOST_LEVELS: usize = 64;
+pub(crate) const MOST_LEVELS: usize = 64;
 
 /// Reads content from a JSON text (RFC 8259) whose top is an object, the root. A member with an object is
 /// a kid, one with a text, an integer, a truth or an array of one kind of these a property, and one with
@@ -33,6 +34,9 @@ pub fn read_tree(alloc: Global, seeds: RandomState, bytes: &[u8]) -> Result<Tree
     ensures ok { IfOk result (λ tree. content bytes.now ≡ Ok tree) }
     ensures err { IfErr result (λ fault. fault ≢ ContentFault.NoMemory → content bytes.now ≡ Err fault) }
 {
+    if let Some(tree) = direct_tree(alloc, seeds, bytes)? {
+        return Ok(tree);
+    }
     let Value::Object(members) = json_of(alloc, bytes)? else {
         return Err(ContentFault::NotObject);
     };
@@ -41,6 +45,19 @@ pub fn read_tree(alloc: Global, seeds: RandomState, bytes: &[u8]) -> Result<Tree
     };
     let nodes = nodes_of(alloc, seeds, members)?;
     Ok(Tree::of(nodes))
+}
+
+// The tree of content that is read straight from its tokens, where it can be.
+fn direct_tree(alloc: Global, seeds: RandomState, bytes: &[u8]) -> Mem<Option<Tree>>
+    ensures { IfOk result (λ found. IfSome found (λ tree. content bytes.now ≡ Ok tree)) }
+{
+    let Ok(text) = simdutf8::compat::from_utf8(bytes) else {
+        return Ok(None);
+    };
+    match nodes_of_text(alloc, seeds, text)? {
+        Some(nodes) => Ok(Some(Tree::of(nodes))),
+        None => Ok(None),
+    }
 }
 
 // The JSON that the bytes are.

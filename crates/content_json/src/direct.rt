@@ -1,0 +1,187 @@
+// Reads content straight from the tokens of its JSON into nodes, where it has no fault and replaces no kid.
+ghost use Rattle.std.specs.Prelude.{◌≡◌, ◌≤◌, ◌+◌, ◌∷◌, ℕ, List, [], Some, None, true, false, length, IfOk, IfSome, OnOk};
+ghost use Rattle.json.specs.Json as json;
+ghost use Rattle.serde_json.specs.Data.{Data, Members, no_members, object};
+ghost use Rattle.serde_json.specs.Read.{of_json, of_members, converted, read};
+ghost use Rattle.resource_tree.specs.Content.{node_at};
+ghost use Rattle.json.specs.Token.{begin_object};
+ghost use Rattle.json.specs.Reads.{token_of};
+ghost use Rattle.content_json.specs.Names.{is_content_name, order_name};
+ghost use Rattle.content_json.specs.ContentOf.{map_of};
+ghost use Rattle.content_json.specs.Faults.{fault_in};
+ghost use Rattle.content_json.specs.Nodes.{nodes_in, is_deeper_below};
+ghost use Rattle.content_json.specs.Steps.{is_sound, member_nodes, with_nodes_at};
+ghost use Rattle.content_json.specs.Direct.{Holds, AddsObject, AddsMembers, AddsMember, TakesIn};
+
+use crate::names::{is_order, is_plain};
+use crate::open_object::OpenObject;
+use crate::read::{MOST_LEVELS, MOST_NODES};
+use crate::tokens::{listed_texts, property};
+use crate::walk::kid_path;
+use json::{Reader, Scratch, Token};
+use resource_tree::NodeMap;
+use sp_base::{Mem, Path};
+use std::alloc::Global;
+use std::hash::RandomState;
+
+/// The nodes of sound content in which no kid is replaced by a later member of its name. Of other content there may be none.
+pub(crate) fn nodes_of_text(alloc: Global, seeds: RandomState, text: &str) -> Mem<Option<NodeMap>>
+    ensures { IfOk result (λ found. IfSome found (λ nodes. (ms : Members) × (read text.now ≡ Some (object ms)) × (is_sound ms ≡ true) × (nodes ≡ map_of (nodes_in [] (object ms))))) }
+{
+    let mut scratch = Scratch::new(alloc);
+    let mut reader = Reader::new(text, &mut scratch)?;
+    let Some(Token::BeginObject) = reader.next() else {
+        return Ok(None);
+    };
+    let mut nodes = NodeMap::new(alloc, seeds);
+    let whole = add_object(alloc, &mut reader, &mut nodes, Path::root(alloc), MOST_LEVELS)?;
+    if !whole || reader.next().is_some() {
+        return Ok(None);
+    }
+    if nodes.len() > MOST_NODES {
+        return Ok(None);
+    }
+    Ok(Some(nodes))
+}
+
+// Adds the node of an object after its opening brace, and each below it, if the object is sound and replaces no kid.
+#[cycle(direct)]
+fn add_object(
+    alloc: Global,
+    reader: &mut Reader<'_>,
+    nodes: &mut NodeMap,
+    path: Path,
+    levels: usize,
+) -> Mem<bool>
+    requires levels { length path + levels ≡ 64 }
+    ensures shorter { OnOk result (length reader.new ≤ length reader.old) }
+    ensures added { IfOk result (λ done. done ≡ true → AddsObject levels path nodes.old nodes.new reader.old reader.new) }
+{
+    let mut own = OpenObject::new(alloc);
+    let whole = add_members(alloc, reader, nodes, &path, levels, &mut own)?;
+    if !whole || nodes.len() >= MOST_NODES {
+        return Ok(false);
+    }
+    match own.into_node(alloc)? {
+        Some(node) => {
+            nodes.insert(path, node)?;
+            Ok(true)
+        }
+        None => Ok(false),
+    }
+}
+
+// Takes in the members up to the closing brace, and adds the nodes of those that are kids.
+#[cycle(direct)]
+fn add_members<'a>(
+    alloc: Global,
+    reader: &mut Reader<'a>,
+    nodes: &mut NodeMap,
+    path: &Path,
+    levels: usize,
+    parent: &mut OpenObject<'a>,
+) -> Mem<bool>
+    requires levels { length path.now + levels ≡ 64 }
+    requires fresh { Holds parent.old no_members }
+    ensures shorter { OnOk result (length reader.new ≤ length reader.old) }
+    ensures added { IfOk result (λ done. done ≡ true → AddsMembers levels path.now parent.new nodes.old nodes.new reader.old reader.new) }
+{
+    'members: loop {
+        let Ok(key) = reader.next_key() else {
+            return Ok(false);
+        };
+        let Some(name) = key else {
+            return Ok(true);
+        };
+        if !add_member(alloc, reader, nodes, path, levels, name, parent)? {
+            return Ok(false);
+        }
+    }
+}
+
+// Takes in the value of a member, and adds its nodes where it is a kid.
+#[cycle(direct)]
+fn add_member<'a>(
+    alloc: Global,
+    reader: &mut Reader<'a>,
+    nodes: &mut NodeMap,
+    path: &Path,
+    levels: usize,
+    name: &'a str,
+    parent: &mut OpenObject<'a>,
+) -> Mem<bool>
+    requires levels { length path.now + levels ≡ 64 }
+    ensures shorter { OnOk result (length reader.new ≤ length reader.old) }
+    ensures added { IfOk result (λ done. done ≡ true → AddsMember levels path.now name.now parent.old parent.new nodes.old nodes.new reader.old reader.new) }
+{
+    if is_order(name) {
+        return add_order(alloc, reader, parent);
+    }
+    if !is_plain(name) {
+        return Ok(false);
+    }
+    match reader.next() {
+        Some(Token::BeginObject) => add_kid(alloc, reader, nodes, path, levels, name, parent),
+        Some(Token::Null) => Ok(parent.put_nothing(name)),
+        Some(first) => add_property(alloc, reader, first, name, parent),
+        None => Ok(false),
+    }
+}
+
+// Takes in a member with an object, after its opening brace.
+#[cycle(direct)]
+fn add_kid<'a>(
+    alloc: Global,
+    reader: &mut Reader<'a>,
+    nodes: &mut NodeMap,
+    path: &Path,
+    levels: usize,
+    name: &'a str,
+    parent: &mut OpenObject<'a>,
+) -> Mem<bool>
+    requires levels { length path.now + levels ≡ 64 }
+    requires plain { is_content_name name.now ≡ true }
+    ensures shorter { OnOk result (length reader.new ≤ length reader.old) }
+    ensures added { IfOk result (λ done. done ≡ true → AddsMember levels path.now name.now parent.old parent.new nodes.old nodes.new (begin_object ∷ reader.old) reader.new) }
+{
+    if levels == 0 || !parent.put_kid(name)? {
+        return Ok(false);
+    }
+    let kid = kid_path(alloc, path, name)?;
+    add_object(alloc, reader, nodes, kid, levels - 1)
+}
+
+// Takes in what `:order` lists.
+fn add_order<'a>(alloc: Global, reader: &mut Reader<'a>, parent: &mut OpenObject<'a>) -> Mem<bool>
+    ensures shorter { OnOk result (length reader.new ≤ length reader.old) }
+    ensures added { IfOk result (λ done. done ≡ true → TakesIn order_name parent.old parent.new reader.old reader.new) }
+{
+    let Some(Token::BeginArray) = reader.next() else {
+        return Ok(false);
+    };
+    match listed_texts(alloc, reader)? {
+        Some(names) => {
+            parent.put_order(names);
+            Ok(true)
+        }
+        None => Ok(false),
+    }
+}
+
+// Takes in the value of a property that begins with this token.
+fn add_property<'a>(
+    alloc: Global,
+    reader: &mut Reader<'a>,
+    first: Token<'a>,
+    name: &'a str,
+    parent: &mut OpenObject<'a>,
+) -> Mem<bool>
+    requires plain { is_content_name name.now ≡ true }
+    ensures shorter { OnOk result (length reader.new ≤ length reader.old) }
+    ensures added { IfOk result (λ done. done ≡ true → TakesIn name.now parent.old parent.new (token_of first.entry ∷ reader.old) reader.new) }
+{
+    match property(alloc, reader, first)? {
+        Some(value) => parent.put_value(alloc, name, value),
+        None => Ok(false),
+    }
+}

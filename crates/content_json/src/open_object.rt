@@ -1,0 +1,148 @@
+// An object of content of which some members were read.
+ghost use Rattle.std.specs.Prelude.{◌≡◌, ◌++◌, [], ℕ, List, true, not, IfOk, IfSome, OnOk, map, filter};
+ghost use Rattle.std.specs.BTreeSet.{contains_by, IsOrdered};
+ghost use Rattle.std.specs.Cmp.Lexicographic.{slice_cmp};
+ghost use Rattle.std.specs.Ordering.{nat_cmp};
+ghost use Rattle.serde_json.specs.Data.{Members, string};
+ghost use Rattle.serde_json.specs.View.{items_of};
+ghost use Rattle.content_json.specs.Names.{is_kid};
+ghost use Rattle.content_json.specs.Faults.{names_kids};
+ghost use Rattle.content_json.specs.Direct.{texts_in, with_others};
+
+use resource_tree::Node;
+use sp_base::{Mem, PropList, TextBuf, TextList, Value};
+use std::alloc::Global;
+use std::collections::BTreeSet;
+
+/// How many properties are put in their order one by one where their names don't rise: more would take a time that grows with
+/// the square of their number.
+const MOST_OUT_OF_ORDER: usize = 64;
+
+/// What is kept of an object's members: the values of its properties, the names of its kids, and what `:order` lists.
+#[derive(Drop)]
+pub(crate) struct OpenObject<'a> {
+    props: PropList,
+    kids: BTreeSet<&'a str>,
+    order: Vec<&'a str>,
+}
+
+impl<'a> OpenObject<'a> {
+    ghost use Rattle.std.specs.Prelude.{◌≡◌, ℕ, List, Some, true, IfOk, IfSome, map};
+    ghost use Rattle.serde_json.specs.Data.{Data, null, object, Members, no_members};
+    ghost use Rattle.content_json.specs.Names.{is_content_name, order_name};
+    ghost use Rattle.content_json.specs.Lists.{data_value};
+    ghost use Rattle.content_json.specs.Faults.{has_good_order};
+    ghost use Rattle.content_json.specs.Nodes.{node_of_members};
+    ghost use Rattle.content_json.specs.Direct.{Holds, Gains, texts_array};
+
+    pub(crate) fn new(alloc: Global) -> OpenObject<'a>
+        ensures { Holds result no_members }
+    {
+        OpenObject {
+            props: PropList::new(alloc),
+            kids: BTreeSet::new(alloc),
+            order: Vec::new(alloc),
+        }
+    }
+
+    // Whether a property of this name would have to be put between too many others.
+    fn is_out_of_order(&self, name: &str) -> bool {
+        let n = self.props.len();
+        if n < MOST_OUT_OF_ORDER {
+            return false;
+        }
+        match self.props.at(n - 1) {
+            Some((last, _)) => name < last,
+            None => false,
+        }
+    }
+
+    /// Takes the value of a property in, unless it has the name of a kid or stands out of order.
+    pub(crate) fn put_value(&mut self, alloc: Global, name: &str, value: Value) -> Mem<bool>
+        requires plain { is_content_name name.now ≡ true }
+        ensures { IfOk result (λ done. done ≡ true → (d : Data) → data_value d ≡ Some value → Gains self.old self.new name.now d) }
+    {
+        if self.kids.contains(name) || self.is_out_of_order(name) {
+            return Ok(false);
+        }
+        self.props.put_named(TextBuf::of(alloc, name)?, value)?;
+        Ok(true)
+    }
+
+    /// Takes the name of a member in that is `null`, unless another member has it.
+    pub(crate) fn put_nothing(&mut self, name: &str) -> bool
+        requires plain { is_content_name name.now ≡ true }
+        ensures { result ≡ true → Gains self.old self.new name.now null }
+    {
+        !self.kids.contains(name) && self.props.get(name).is_none()
+    }
+
+    /// Takes the name of a kid in, unless another member has it.
+    pub(crate) fn put_kid(&mut self, name: &'a str) -> Mem<bool>
+        requires plain { is_content_name name.now ≡ true }
+        ensures { IfOk result (λ done. done ≡ true → (ms : Members) → Gains self.old self.new name.now (object ms)) }
+    {
+        if self.props.get(name).is_some() {
+            return Ok(false);
+        }
+        Ok(self.kids.insert(name)?)
+    }
+
+    /// Takes what `:order` lists in, in place of what it listed before.
+    pub(crate) fn put_order(&mut self, names: Vec<&'a str>)
+        ensures { Gains self.old self.new order_name (texts_array (map (λ name. name.now) names.entry.items)) }
+    {
+        self.order = names;
+    }
+
+    /// The node of the object, if `:order` lists names of kids, each once.
+    pub(crate) fn into_node(self, alloc: Global) -> Mem<Option<Node>>
+        ensures { IfOk result (λ found. IfSome found (λ node. (ms : Members) → Holds self.entry ms → (node ≡ node_of_members ms) × (has_good_order ms ≡ true))) }
+    {
+        let OpenObject { props, kids, order } = self;
+        match kids_in_order(alloc, &order, &kids)? {
+            Some(kids) => Ok(Some(Node { props, kids })),
+            None => Ok(None),
+        }
+    }
+}
+
+// The names of the kids, those first that are listed. There is no answer where a name is listed that is no kid's, or twice.
+fn kids_in_order<'a>(
+    alloc: Global,
+    listed: &[&'a str],
+    kids: &BTreeSet<&'a str>,
+) -> Mem<Option<TextList>>
+    ensures ordered { IfOk result (λ found. IfSome found (λ _. IsOrdered (λ j k. slice_cmp nat_cmp j.now k.now) kids.now)) }
+    ensures kids { IfOk result (λ found. IfSome found (λ names. names ≡ with_others (texts_in listed.now) (texts_in kids.now.keys))) }
+    ensures good { IfOk result (λ found. IfSome found (λ _. (ms : Members) → ((q : List ℕ) → contains_by (λ k. slice_cmp nat_cmp q k.now) kids.now ≡ true → is_kid ms q ≡ true) → names_kids ms [] (items_of (map string (texts_in listed.now))) ≡ true)) }
+{
+    let mut first = BTreeSet::new(alloc);
+    let mut names = TextList::new(alloc);
+    for name in listed {
+        if !kids.contains(*name) || !first.insert(*name)? {
+            return Ok(None);
+        }
+        names.push(TextBuf::of(alloc, name)?)?;
+    }
+    add_others(alloc, &mut names, kids, &first)?;
+    Ok(Some(names))
+}
+
+// Adds the names of the kids that aren't among the first.
+fn add_others<'a>(
+    alloc: Global,
+    names: &mut TextList,
+    kids: &BTreeSet<&'a str>,
+    first: &BTreeSet<&'a str>,
+) -> Mem<()>
+    ensures ordered { IsOrdered (λ j k. slice_cmp nat_cmp j.now k.now) kids.now }
+    ensures names { OnOk result (names.new ≡ names.old ++ filter (λ name. not (contains_by (λ k. slice_cmp nat_cmp name k.now) first.now)) (texts_in kids.now.keys)) }
+{
+    for name in kids {
+        if !first.contains(*name) {
+            names.push(TextBuf::of(alloc, name)?)?;
+        }
+    }
+    Ok(())
+}

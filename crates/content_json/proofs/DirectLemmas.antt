@@ -40,12 +40,12 @@ null_read depth ts = ap (converted of_json) (value_is depth (Token.null ∷ ts))
 pub leaf_added : (levels : ℕ) (path : List (List ℕ)) (name : List ℕ) (before after : OpenObject) (nodes : Content) (ts rest : List Token) → (is_order name || is_content_name name) ≡ true
     → TakesIn name before after ts rest → AddsMember levels path name before after nodes nodes ts rest
 leaf_added levels path name before after nodes ts rest plain is = record {
-    told = is.told;
-    read = subst (λ (depth : ℕ). converted of_json (value depth ts) ≡ Some (is.told, rest)) deep (is.read (levels + 61));
-    fit = fit-leaf levels name is.told plain is.faultless is.no_kid;
-    gains = is.gains;
-    nodes = λ q. sym (ap (λ more. with_nodes_at nodes more q) (no_nodes path name is.told is.no_kid));
-  }
+  told = is.told;
+  read = subst (λ (depth : ℕ). converted of_json (value depth ts) ≡ Some (is.told, rest)) deep (is.read (levels + 61));
+  fit = fit-leaf levels name is.told plain is.faultless is.no_kid;
+  gains = is.gains;
+  nodes = λ q. sym (ap (λ more. with_nodes_at nodes more q) (no_nodes path name is.told is.no_kid));
+}
   where
     deep : suc (levels + 61) ≡ levels + 62
     deep = omega arith
@@ -54,12 +54,12 @@ leaf_added levels path name before after nodes ts rest plain is = record {
 pub kid_added : (levels : ℕ) (path at : List (List ℕ)) (name : List ℕ) (before after : OpenObject) (old new : Content) (ts rest : List Token) → levels ≢ 0 → is_content_name name ≡ true → at ≡ kid path name
     → ((ms : Members) → Gains before after name (object ms)) → AddsObject (levels - 1) at old new ts rest → AddsMember levels path name before after old new (Token.begin_object ∷ ts) rest
 kid_added levels path at name before after old new ts rest some plain is gains inner = record {
-    told = object inner.found;
-    read = subst (λ (depth : ℕ). converted of_json (value depth (Token.begin_object ∷ ts)) ≡ Some (object inner.found, rest)) (deep levels some) (object_read (levels - 1 + 62) ts rest inner.found inner.read);
-    fit = fit-kid_below levels name inner.found plain inner.faultless some inner.shallow;
-    gains = gains inner.found;
-    nodes = λ q. inner.nodes q ∙ ap (λ p. with_nodes_at old (nodes_in p (object inner.found)) q) is ∙ sym (ap (λ more. with_nodes_at old more q) (kid_nodes path name (object inner.found) plain));
-  }
+  told = object inner.found;
+  read = subst (λ (depth : ℕ). converted of_json (value depth (Token.begin_object ∷ ts)) ≡ Some (object inner.found, rest)) (deep levels some) (object_read (levels - 1 + 62) ts rest inner.found inner.read);
+  fit = fit-kid_below levels name inner.found plain inner.faultless some inner.shallow;
+  gains = gains inner.found;
+  nodes = λ q. inner.nodes q ∙ ap (λ p. with_nodes_at old (nodes_in p (object inner.found)) q) is ∙ sym (ap (λ more. with_nodes_at old more q) (kid_nodes path name (object inner.found) plain));
+}
   where
     deep : (levels : ℕ) → levels ≢ 0 → suc (levels - 1 + 62) ≡ levels + 62
     deep levels h = omega (arith, h)
@@ -90,12 +90,12 @@ one_more levels path name before after old now next start ts rest left n found w
 pub all_read : (levels : ℕ) (path : List (List ℕ)) (parent : OpenObject) (old now : Content) (start ts rest : List Token) (n : ℕ) (found : Members)
     → AreRead levels path parent old now start ts n found → read_key ts ≡ Some (None, rest) → AddsMembers levels path parent old now start rest
 all_read levels path parent old now start ts rest n found was key = record {
-    found = found;
-    read = was.read ∙ members_over (value (levels + 62)) found n ts rest was.enough key;
-    fit = was.fit;
-    holds = was.holds;
-    nodes = was.nodes;
-  }
+  found = found;
+  read = was.read ∙ members_over (value (levels + 62)) found n ts rest was.enough key;
+  fit = was.fit;
+  holds = was.holds;
+  nodes = was.nodes;
+}
 
 -- ---- the object
 

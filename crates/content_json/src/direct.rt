@@ -15,12 +15,11 @@ ghost use Rattle.content_json.specs.Direct.{Holds, AddsObject, AddsMembers, Adds
 
 use crate::names::{is_order, is_plain};
 use crate::open_object::OpenObject;
-use crate::read::{MOST_LEVELS, MOST_NODES};
 use crate::tokens::{listed_texts, property};
 use crate::walk::kid_path;
 use json::{Reader, Scratch, Token};
-use resource_tree::NodeMap;
-use sp_base::{Mem, Path};
+use resource_tree::{MOST_NODES, NodeMap};
+use sp_base::{MOST_SEGMENTS, Mem, Path};
 use std::alloc::Global;
 use std::hash::RandomState;
 
@@ -34,7 +33,13 @@ pub(crate) fn nodes_of_text(alloc: Global, seeds: RandomState, text: &str) -> Me
         return Ok(None);
     };
     let mut nodes = NodeMap::new(alloc, seeds);
-    let whole = add_object(alloc, &mut reader, &mut nodes, Path::root(alloc), MOST_LEVELS)?;
+    let whole = add_object(
+        alloc,
+        &mut reader,
+        &mut nodes,
+        Path::root(alloc),
+        MOST_SEGMENTS,
+    )?;
     if !whole || reader.next().is_some() {
         return Ok(None);
     }

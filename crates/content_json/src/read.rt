@@ -13,17 +13,11 @@ use crate::fault::{Cause, Found};
 use crate::measure::room_beside;
 use crate::search::object_fault;
 use crate::walk::add_nodes;
-use resource_tree::{NodeMap, Tree};
+use resource_tree::{MOST_NODES, NodeMap, Tree};
 use serde_json::{Map, Value};
-use sp_base::{Mem, Path};
+use sp_base::{MOST_SEGMENTS, Mem, Path};
 use std::alloc::Global;
 use std::hash::RandomState;
-
-/// The most nodes that content may have, the root among them.
-pub(crate) const MOST_NODES: usize = 200_000;
-
-/// The most levels below the root.
-pub(crate) const MOST_LEVELS: usize = 64;
 
 /// Reads content from a JSON text (RFC 8259) whose top is an object, the root. A member with an object is
 /// a kid, one with a text, an integer, a truth or an array of one kind of these a property, and one with
@@ -40,9 +34,9 @@ pub fn read_tree(alloc: Global, seeds: RandomState, bytes: &[u8]) -> Result<Tree
     let Value::Object(members) = json_of(alloc, bytes)? else {
         return Err(ContentFault::NotObject);
     };
-    let Some(_room) = room_if_sound(alloc, &members)? else {
+    if !is_sound(alloc, &members)? {
         return Err(refusal(alloc, &members)?);
-    };
+    }
     let nodes = nodes_of(alloc, seeds, members)?;
     Ok(Tree::of(nodes))
 }
@@ -89,11 +83,11 @@ fn refused_by(found: Found) -> ContentFault
     }
 }
 
-// How many nodes more an object might have that has no fault and isn't too big: one look at each member tells.
-fn room_if_sound(alloc: Global, members: &Map<String, Value>) -> Mem<Option<usize>>
-    ensures { IfOk result (λ room. is_some room ≡ is_sound (members_view members.now.entries)) }
+// Whether an object has no fault and isn't too big: one look at each member tells.
+fn is_sound(alloc: Global, members: &Map<String, Value>) -> Mem<bool>
+    ensures { IfOk result (λ sound. sound ≡ is_sound (members_view members.now.entries)) }
 {
-    room_beside(alloc, members, MOST_NODES - 1, MOST_LEVELS)
+    Ok(room_beside(alloc, members, MOST_NODES - 1, MOST_SEGMENTS)?.is_some())
 }
 
 // Why an object that isn't sound is refused: its first fault, or else its size.

@@ -80,7 +80,7 @@ add_members-members-preserved t c =
     let lesser = c.in_ok-add_member.ensures.shorter in
     let fewer : length c.add_member.new.reader < length l.reader = omega (arith, less, lesser) in
     let more = one_more c.args.levels c.args.path.now k l.parent c.add_member.new.parent c.args.nodes.now l.nodes c.add_member.new.nodes c.args.reader.now l.reader c.next_key.new.self c.add_member.new.reader inv.0 inv.1
-        (record { enough = inv.2; read = inv.3; holds = inv.5; fit = inv.6; nodes = inv.7 }) key fewer is in
+    (record { enough = inv.2; read = inv.3; holds = inv.5; fit = inv.6; nodes = inv.7 }) key fewer is in
     let under = inv.4 in
     (inv.0 - 1, put k is.told inv.1, more.enough, more.read, omega (arith, fewer, under), more.holds, more.fit, more.nodes)
 

@@ -20,12 +20,12 @@ returns c =
     let is = c.in_ok-whole.ensures.added whole in
     let text = c.args.text.now in
     let first : tokens text ≡ begin_object ∷ c.next.new.self =
-        sym c.in_ok-reader.ensures.ok ∙ c.in-Some-BeginObject.ensures.value ∙ ap (λ t. token_of t ∷ c.next.new.self) c.in-Some-BeginObject.field-0-is in
+    sym c.in_ok-reader.ensures.ok ∙ c.in-Some-BeginObject.ensures.value ∙ ap (λ t. token_of t ∷ c.next.new.self) c.in-Some-BeginObject.field-0-is in
     let ended : c.add_object.new.reader ≡ [] = grind arith in
     let added = rw (c.new-nodes.ensures, c.root.ensures) at is.nodes in
     let seen : read text ≡ Some (object is.found) =
-        whole_read (value 127 (tokens text)) (object is.found) (ap (λ ts. converted of_json (value 127 ts)) first ∙ object_read 126 c.next.new.self c.add_object.new.reader is.found is.read ∙ ap (λ rest. Some (object is.found, rest)) ended) in
+    whole_read (value 127 (tokens text)) (object is.found) (ap (λ ts. converted of_json (value 127 ts)) first ∙ object_read 126 c.next.new.self c.add_object.new.reader is.found is.read ∙ ap (λ rest. Some (object is.found, rest)) ended) in
     let nodes : c.add_object.new.nodes ≡ map_of (nodes_in [] (object is.found)) =
-        is_map_of c.add_object.new.nodes (nodes_in [] (object is.found)) c.len.ensures.ordered (λ q. added q ∙ over_none (nodes_in [] (object is.found)) q) in
+    is_map_of c.add_object.new.nodes (nodes_in [] (object is.found)) c.len.ensures.ordered (λ q. added q ∙ over_none (nodes_in [] (object is.found)) q) in
     let few : length (map_of (nodes_in [] (object is.found))) ≤ 200000 = omega (arith, c.len.ensures.len, c.if-len-gt-MOST_NODES.false, ap length nodes) in
     (is.found, seen, sound_of is.found (in_order_text text (object is.found) seen) is.faultless is.shallow few, nodes)

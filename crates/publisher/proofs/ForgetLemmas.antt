@@ -73,16 +73,16 @@ not_a_text at path other =
     let name : name_of at ≡ codes "jcr:content" = sym (ap name_of (same_one (text_path path) at same)) ∙ name_of-kid path (codes "jcr:content") in
     true≢false (sym (ap (λ n. pointwise nat_eq n (codes "jcr:content")) name) ∙ other))
 
--- ---- those of a patch are forgotten, row by row
+-- ---- those of a patch are forgotten, entry by entry
 
--- no reading is kept of a script at whose text one of some rows stands
+-- no reading is kept of a script at whose text one of some entries stands
 abbrev pub AreClear : PatchEntries → Kept → Type 0
-AreClear rows kept = (path : List (List ℕ)) (reading : Reading) → reading_at kept path ≡ Some reading → list_any (λ (row : List (List ℕ) × PatchNode). same_path (text_path path) row.0) rows ≡ false
+AreClear entries kept = (path : List (List ℕ)) (reading : Reading) → reading_at kept path ≡ Some reading → list_any (λ (entry : List (List ℕ) × PatchNode). same_path (text_path path) entry.0) entries ≡ false
 
--- the readings after some rows of a patch
-pub record Forgets (first : Kept) (rows : PatchEntries) (kept : Kept) : Type 0 where
+-- the readings after some entries of a patch
+pub record Forgets (first : Kept) (entries : PatchEntries) (kept : Kept) : Type 0 where
   pub among : AreAmong first kept
-  pub clear : AreClear rows kept
+  pub clear : AreClear entries kept
 
 pub forgets_none : (kept : Kept) → Forgets kept [] kept
 forgets_none kept = record { among = λ path reading e. e; clear = λ path reading e. refl }
@@ -94,20 +94,20 @@ both_false false b e f = f
 any_next : {X : Type 0} (test : X → Bool) (xs : List X) (i : ℕ) (x : X) → slice_get xs i ≡ Some x → list_any test (take (i + 1) xs) ≡ (list_any test (take i xs) || test x)
 any_next test xs i x is = list_any_more test xs i x (slice_get_within xs i x is) ∙ ap (λ y. list_any test (take i xs) || test y) (get_or_from_slice_get xs i x x is)
 
-pub forgets_next : (first old new : Kept) (patch : PatchEntries) (i : ℕ) (at : List (List ℕ)) (row : PatchNode) → slice_get patch i ≡ Some (at, row) → Forgets first (take i patch) old → AreAmong old new
+pub forgets_next : (first old new : Kept) (patch : PatchEntries) (i : ℕ) (at : List (List ℕ)) (entry : PatchNode) → slice_get patch i ≡ Some (at, entry) → Forgets first (take i patch) old → AreAmong old new
     → ((path : List (List ℕ)) (reading : Reading) → reading_at new path ≡ Some reading → same_path (text_path path) at ≡ false) → Forgets first (take (i + 1) patch) new
-forgets_next first old new patch i at row is so_far fewer forgotten = record {
+forgets_next first old new patch i at entry is so_far fewer forgotten = record {
   among = λ path reading e. so_far.among path reading (fewer path reading e);
   clear = λ path reading e.
       let test = λ (r : List (List ℕ) × PatchNode). same_path (text_path path) r.0 in
-      any_next test patch i (at, row) is ∙ both_false (list_any test (take i patch)) (test (at, row)) (so_far.clear path reading (fewer path reading e)) (forgotten path reading e);
+      any_next test patch i (at, entry) is ∙ both_false (list_any test (take i patch)) (test (at, entry)) (so_far.clear path reading (fewer path reading e)) (forgotten path reading e);
 }
 
-lookup_of_none : (test : List (List ℕ) → Bool) (rows : PatchEntries) → list_any (λ (row : List (List ℕ) × PatchNode). test row.0) rows ≡ false → lookup test rows ≡ None
+lookup_of_none : (test : List (List ℕ) → Bool) (entries : PatchEntries) → list_any (λ (entry : List (List ℕ) × PatchNode). test entry.0) entries ≡ false → lookup test entries ≡ None
 lookup_of_none test [] none = refl
-lookup_of_none test (row ∷ rows) none =
-    let parts = or_parts (test row.0) (list_any (λ (r : List (List ℕ) × PatchNode). test r.0) rows) none in
-    ap (λ b. cond b (Some row.1) (lookup test rows)) parts.0 ∙ lookup_of_none test rows parts.1
+lookup_of_none test (entry ∷ entries) none =
+    let parts = or_parts (test entry.0) (list_any (λ (r : List (List ℕ) × PatchNode). test r.0) entries) none in
+    ap (λ b. cond b (Some entry.1) (lookup test entries)) parts.0 ∙ lookup_of_none test entries parts.1
 
 pub unpatched : (patch : PatchEntries) (kept : Kept) → AreClear patch kept → AreUnpatched patch kept
 unpatched patch kept clear path reading e = lookup_of_none (same_path (text_path path)) patch (clear path reading e)

@@ -16,4 +16,4 @@ pub returns-clause-unpatched : goal.returns-clause-unpatched
 returns-clause-unpatched c =
     let patch = c.args.patch.now in
     let end : length patch ≤ c.loop-place.place = omega (arith, c.loop-place-test.false, c.len-place-end.ensures.len) in
-    unpatched patch c.loop-place.templates (subst (λ (rows : PatchEntries). AreClear rows c.loop-place.templates) (take_all c.loop-place.place patch end) c.loop-place.invariant.clear)
+    unpatched patch c.loop-place.templates (subst (λ (entries : PatchEntries). AreClear entries c.loop-place.templates) (take_all c.loop-place.place patch end) c.loop-place.invariant.clear)

@@ -9,7 +9,7 @@ use Rattle.url_split.specs.Split.{at_greatest}
 use Rattle.overlay_merge.specs.declared.layers.Layer.{Layer}
 use Rattle.overlay_merge.specs.Roots.{is_overlay, is_override}
 
--- a layer, with the numbers of its own last segments and of those in common with the layer above
+-- a layer, with how far up it may be hidden itself, and how many last segments it has in common with the layer above
 abbrev pub make_layer : List (List ℕ) → ℕ → ℕ → Layer
 make_layer path own common = record { path = path; own = own; common = common }
 

@@ -50,7 +50,7 @@ fn reads_paths(rt: HostRuntime) {
     }
 }
 
-// The fault of a text that ends with so many of a piece.
+// The fault of a text that ends with a piece, repeated.
 fn fault_of_many(alloc: Global, start: &str, piece: &str, times: usize) -> Mem<Option<PathFault>> {
     let mut text = String::from_str(alloc, start)?;
     text.push_str(piece.repeat(alloc, times)?.as_str())?;

@@ -15,7 +15,6 @@ use Rattle.serde_json.specs.Data.{Data, null, boolean, number, string, array, ob
 use Rattle.serde_json.specs.Find.{as_str, as_array, get_member}
 use Rattle.serde_json.specs.View.{items_of}
 use Rattle.sp_base.specs.Names.{by_name}
-use Rattle.sp_base.proofs.PathLemmas.{both as both_hold}
 use Rattle.content_json.specs.declared.open_object.OpenObject.{OpenObject}
 use Rattle.content_json.specs.Names.{order_name, is_order, is_kid_member, kid_names, is_kid}
 use Rattle.content_json.specs.Lists.{item_list}
@@ -24,6 +23,7 @@ use Rattle.content_json.specs.Nodes.{add_props, kids_of}
 use Rattle.content_json.specs.Members.{AreSorted, entries_of}
 use Rattle.content_json.specs.Direct.{Holds, texts_array, texts_in, with_others}
 use Rattle.content_json.proofs.Under.{both}
+use Rattle.content_json.proofs.JoinLemmas.{both as both_hold}
 use Rattle.content_json.proofs.InsertLemmas.{same_name, tie_is}
 use Rattle.content_json.proofs.ReturnMembers.{first, second, option_or-none}
 use Rattle.content_json.proofs.ReturnNodes.{read_value, find_added, sorted_props}

@@ -63,11 +63,6 @@ fit-kid_below levels name ms plain faultless some shallow = record {
   shallow = shallow_member levels name (object ms) (ap (λ b. b || is_deeper_below (levels - 1) ms) (ne_eqb levels 0 some) ∙ shallow);
 }
 
-pub fit-kid : (levels : ℕ) (name : List ℕ) (ms : Members) → is_content_name name ≡ true → fault_in (object ms) ≡ None → is_deeper_below levels ms ≡ false → IsFit (levels + 1) name (object ms)
-fit-kid levels name ms plain faultless shallow =
-    let less : levels ≡ (levels + 1) - 1 = omega arith in
-    fit-kid_below (levels + 1) name ms plain faultless (λ none. omega (arith, none)) (ap (λ n. is_deeper_below n ms) (sym less) ∙ shallow)
-
 -- ---- members that are all fit
 
 neither_found : {A : Type 0} (a b : Option A) → a ≡ None → b ≡ None → option_or a b ≡ None

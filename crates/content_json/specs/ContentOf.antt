@@ -23,6 +23,7 @@ json_of bytes = if is_utf8 bytes then read bytes else None
 abbrev pub is_too_big : Members → Bool
 is_too_big ms = nat_lt most_nodes (suc (count_below ms)) || is_deeper_below most_segments ms
 
+-- the refusal for what was found against a value at a path
 abbrev pub refused_by : Cause → List (List ℕ) → ContentFault
 refused_by cause.BadName path = BadName path
 refused_by cause.BadNumber path = BadNumber path
@@ -43,6 +44,7 @@ abbrev pub unless_found : Option Found → Members → Result Content ContentFau
 unless_found (Some found) ms = Err (refused_by found.cause found.place)
 unless_found None ms = if is_too_big ms then Err TooBig else Ok (map_of (nodes_in [] (object ms)))
 
+-- the content of a JSON value, which must be an object
 abbrev pub content_in : Option Data → Result Content ContentFault
 content_in None = Err NotJson
 content_in (Some null) = Err NotObject
@@ -52,5 +54,6 @@ content_in (Some (string s)) = Err NotObject
 content_in (Some (array ds)) = Err NotObject
 content_in (Some (object ms)) = unless_found (fault_in (object ms)) ms
 
+-- the content of bytes
 abbrev pub content : List ℕ → Result Content ContentFault
 content bytes = content_in (json_of bytes)

@@ -17,6 +17,7 @@ abbrev pub names_kids : Members → List (List ℕ) → Items → Bool
 names_kids ms before no_items = true
 names_kids ms before (item d ds) = option_map_or (λ name. is_kid ms name && not (list_any (λ other. bytes_eq other name) before) && names_kids ms (name ∷ before) ds) (as_str d) false
 
+-- the value of `:order` is an array of distinct names of kids
 abbrev pub is_good_order : Members → Data → Bool
 is_good_order ms d = option_map_or (names_kids ms []) (as_array d) false
 

@@ -11,6 +11,7 @@ use Rattle.content_json.specs.declared.fault.Cause.TheVariants.{BadNumber, Mixed
 use Rattle.content_json.specs.declared.kind.Kind.{Kind}
 use Rattle.content_json.specs.declared.kind.Kind.TheVariants as kind
 
+-- the kind of an item, if it may be one
 abbrev pub item_kind : Data → Option Kind
 item_kind null = None
 item_kind (boolean b) = Some kind.Truth
@@ -19,6 +20,7 @@ item_kind (string s) = Some kind.Text
 item_kind (array ds) = None
 item_kind (object ms) = None
 
+-- an item is a text, a number or a truth, as the kind says
 abbrev pub is_of : Kind → Data → Bool
 is_of kind.Text d = is_some (as_str d)
 is_of kind.Long d = is_some (as_number d)
@@ -28,6 +30,7 @@ is_of kind.Truth d = is_some (as_bool d)
 abbrev pub as_long : Data → Option ℤ
 as_long d = option_and_then as_i64 (as_number d)
 
+-- a number, but not one of 64 bits with a sign
 abbrev pub is_bad_number : Data → Bool
 is_bad_number d = is_some (as_number d) && is_none (as_long d)
 
@@ -45,10 +48,12 @@ abbrev pub array_cause : Items → Option Cause
 array_cause no_items = None
 array_cause (item d ds) = option_map_or (λ k. items_cause k (item d ds)) (item_kind d) (Some MixedArray)
 
+-- the items as a list
 abbrev pub item_list : Items → List Data
 item_list no_items = []
 item_list (item d ds) = d ∷ item_list ds
 
+-- the items of a kind as the value of a property
 abbrev pub list_value : Kind → Items → Value
 list_value kind.Text ds = Texts (filter_map as_str (item_list ds))
 list_value kind.Long ds = Longs (filter_map as_long (item_list ds))

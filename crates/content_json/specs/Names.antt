@@ -10,6 +10,7 @@ use Rattle.sp_base.specs.Paths.{seg_ok}
 abbrev pub order_name : List ℕ
 order_name = codes ":order"
 
+-- the name of that member
 abbrev pub is_order : List ℕ → Bool
 is_order name = bytes_eq name order_name
 
@@ -17,10 +18,12 @@ is_order name = bytes_eq name order_name
 abbrev pub is_content_name : List ℕ → Bool
 is_content_name name = seg_ok name && not (slice_index name 0 == 58)
 
+-- a member has a name that may not stand in content, and is not `:order`
 abbrev pub has_bad_name : Members → Bool
 has_bad_name no_members = false
 has_bad_name (member name d ms) = not (is_order name || is_content_name name) || has_bad_name ms
 
+-- the value of a kid
 abbrev pub is_object : Data → Bool
 is_object d = is_some (as_object d)
 

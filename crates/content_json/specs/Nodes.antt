@@ -17,6 +17,7 @@ use Rattle.content_json.specs.Lists.{item_list, data_value}
 abbrev pub order_items : Members → Items
 order_items ms = unwrap_or (option_and_then as_array (get_member order_name ms)) no_items
 
+-- the texts among what `:order` lists
 abbrev pub order_names : Members → List (List ℕ)
 order_names ms = filter_map as_str (item_list (order_items ms))
 
@@ -33,6 +34,7 @@ abbrev pub add_props : List (List ℕ × Value) → Members → List (List ℕ �
 add_props props no_members = props
 add_props props (member name d ms) = add_props (with_member name d props) ms
 
+-- the node of an object with these members
 abbrev pub node_of_members : Members → Node
 node_of_members ms = record { props = add_props [] ms; kids = kids_of ms }
 

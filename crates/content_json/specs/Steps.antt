@@ -45,7 +45,7 @@ with_nodes_at tree nodes q = option_or (node_at nodes q) (node_at tree q)
 abbrev pub is_sound : Members → Bool
 is_sound ms = not (is_some (fault_in (object ms)) || is_too_big ms)
 
--- how many of so many nodes are left beside those of a value. There is no answer where it has a fault, more nodes, or one more levels below
+-- how many of n nodes are left beside those of a value. There is no answer where it has a fault, more nodes, or one more levels below
 abbrev pub room_after : ℕ → ℕ → Data → Option ℕ
 room_after most levels d = if is_some (fault_in d) || (nat_lt most (count_in d) || is_deeper levels d) then None else Some (most - count_in d)
 

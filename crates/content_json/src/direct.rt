@@ -6,6 +6,7 @@ ghost use Rattle.serde_json.specs.Read.{of_json, of_members, converted, read};
 ghost use Rattle.resource_tree.specs.Content.{node_at};
 ghost use Rattle.json.specs.Token.{begin_object};
 ghost use Rattle.json.specs.Reads.{token_of};
+ghost use Rattle.sp_base.specs.Paths.{most_segments};
 ghost use Rattle.content_json.specs.Names.{is_content_name, order_name};
 ghost use Rattle.content_json.specs.ContentOf.{map_of};
 ghost use Rattle.content_json.specs.Faults.{fault_in};
@@ -58,7 +59,7 @@ fn add_object(
     path: Path,
     levels: usize,
 ) -> Mem<bool>
-    requires levels { length path + levels ≡ 64 }
+    requires levels { length path + levels ≡ most_segments }
     ensures shorter { OnOk result (length reader.new ≤ length reader.old) }
     ensures added { IfOk result (λ done. done ≡ true → AddsObject levels path nodes.old nodes.new reader.old reader.new) }
 {
@@ -86,7 +87,7 @@ fn add_members<'a>(
     levels: usize,
     parent: &mut OpenObject<'a>,
 ) -> Mem<bool>
-    requires levels { length path.now + levels ≡ 64 }
+    requires levels { length path.now + levels ≡ most_segments }
     requires fresh { Holds parent.old no_members }
     ensures shorter { OnOk result (length reader.new ≤ length reader.old) }
     ensures added { IfOk result (λ done. done ≡ true → AddsMembers levels path.now parent.new nodes.old nodes.new reader.old reader.new) }
@@ -115,7 +116,7 @@ fn add_member<'a>(
     name: &'a str,
     parent: &mut OpenObject<'a>,
 ) -> Mem<bool>
-    requires levels { length path.now + levels ≡ 64 }
+    requires levels { length path.now + levels ≡ most_segments }
     ensures shorter { OnOk result (length reader.new ≤ length reader.old) }
     ensures added { IfOk result (λ done. done ≡ true → AddsMember levels path.now name.now parent.old parent.new nodes.old nodes.new reader.old reader.new) }
 {
@@ -144,7 +145,7 @@ fn add_kid<'a>(
     name: &'a str,
     parent: &mut OpenObject<'a>,
 ) -> Mem<bool>
-    requires levels { length path.now + levels ≡ 64 }
+    requires levels { length path.now + levels ≡ most_segments }
     requires plain { is_content_name name.now ≡ true }
     ensures shorter { OnOk result (length reader.new ≤ length reader.old) }
     ensures added { IfOk result (λ done. done ≡ true → AddsMember levels path.now name.now parent.old parent.new nodes.old nodes.new (begin_object ∷ reader.old) reader.new) }

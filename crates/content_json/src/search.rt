@@ -3,6 +3,7 @@
 ghost use Rattle.std.specs.Prelude.{◌≡◌, ◌∷◌, IfOk, IsTrue, false, take};
 ghost use Rattle.serde_json.specs.Data.{object};
 ghost use Rattle.serde_json.specs.View.{view, members_view};
+ghost use Rattle.sp_base.specs.Paths.{most_segments};
 ghost use Rattle.content_json.specs.Names.{has_bad_name, is_content_name};
 ghost use Rattle.content_json.specs.Faults.{own_fault, fault_in, fault_below, in_member, here};
 
@@ -12,7 +13,7 @@ use crate::names::{has_bad_name, is_order};
 use crate::order::has_good_order;
 use crate::walk::kid_path;
 use serde_json::{Map, Value};
-use sp_base::{Mem, NoMemory, Path, PathFault};
+use sp_base::{MOST_SEGMENTS, Mem, NoMemory, Path, PathFault};
 use std::alloc::Global;
 
 fn here(alloc: Global, cause: Cause) -> Found
@@ -37,10 +38,10 @@ fn out_of_memory(fault: PathFault) -> NoMemory
 // A name, and after it the first segments of a path, as many as fit.
 fn after_name(alloc: Global, name: &str, path: &Path) -> Mem<Path>
     requires { IsTrue (is_content_name name.now) }
-    ensures { IfOk result (λ made. made ≡ take 64 (name.now ∷ path.now)) }
+    ensures { IfOk result (λ made. made ≡ take most_segments (name.now ∷ path.now)) }
 {
     let top = kid_path(alloc, &Path::root(alloc), name)?;
-    let rest = path.first(alloc, 63)?;
+    let rest = path.first(alloc, MOST_SEGMENTS - 1)?;
     // `depth` says that these are segments of a path.
     let _ = rest.depth();
     match top.join(alloc, &rest) {

@@ -12,6 +12,7 @@ ghost use Rattle.serde_json.specs.Find.{as_str};
 ghost use Rattle.serde_json.specs.View.{view, items_view, members_view};
 ghost use Rattle.sp_base.specs.Names.{by_name};
 ghost use Rattle.resource_tree.specs.Content.{node_at, kid};
+ghost use Rattle.sp_base.specs.Paths.{most_segments};
 ghost use Rattle.content_json.specs.Names.{has_bad_name, is_content_name, is_order, is_kid_member};
 ghost use Rattle.content_json.specs.Lists.{item_list, data_value};
 ghost use Rattle.content_json.specs.Faults.{fault_in, fault_below};
@@ -78,7 +79,7 @@ fn kids_of(alloc: Global, members: &Map<String, Value>) -> Mem<TextList>
 // The path of a kid. Its name and the depth were looked at before.
 pub(crate) fn kid_path(alloc: Global, path: &Path, name: &str) -> Mem<Path>
     requires plain { is_content_name name.now ≡ true }
-    requires shallow { length path.now < 64 }
+    requires shallow { length path.now < most_segments }
     ensures { IfOk result (λ found. found ≡ kid path.now name.now) }
 {
     match path.child(alloc, name) {
@@ -97,7 +98,7 @@ pub(crate) fn add_nodes(
     members: Map<String, Value>,
 ) -> Mem<()>
     requires faultless { fault_in (object (members_view members.entries)) ≡ None }
-    requires shallow { is_deeper_below (64 - length path) (members_view members.entries) ≡ false }
+    requires shallow { is_deeper_below (most_segments - length path) (members_view members.entries) ≡ false }
     ensures { OnOk result ((q : List (List ℕ)) → node_at nodes.new q
         ≡ with_nodes_at nodes.old (nodes_in path (object (members_view members.entries))) q) }
 {
@@ -116,7 +117,7 @@ fn add_members(
 ) -> Mem<PropList>
     requires plain { has_bad_name (members_view members.entries) ≡ false }
     requires faultless { fault_below (members_view members.entries) ≡ None }
-    requires shallow { is_deeper_below (64 - length path.now) (members_view members.entries) ≡ false }
+    requires shallow { is_deeper_below (most_segments - length path.now) (members_view members.entries) ≡ false }
     ensures props { IfOk result (λ props. props ≡ add_props [] (members_view members.entries)) }
     ensures nodes { OnOk result ((q : List (List ℕ)) → node_at nodes.new q
         ≡ with_nodes_at nodes.old (nodes_below path.now (members_view members.entries)) q) }
@@ -140,7 +141,7 @@ fn add_member(
 ) -> Mem<()>
     requires plain { (is_order name || is_content_name name) ≡ true }
     requires faultless { member_fault name (view value) ≡ None }
-    requires shallow { (if is_order name then false else is_deeper (64 - length path.now) (view value)) ≡ false }
+    requires shallow { (if is_order name then false else is_deeper (most_segments - length path.now) (view value)) ≡ false }
     ensures props { OnOk result (props.new ≡ with_member name (view value) props.old) }
     ensures nodes { OnOk result ((q : List (List ℕ)) → node_at nodes.new q
         ≡ with_nodes_at nodes.old (member_nodes path.now name (view value)) q) }

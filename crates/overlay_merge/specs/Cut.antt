@@ -1,4 +1,5 @@
--- Which layers are cut, as a statement on single nodes, and which resources are merged (Apache Sling, "Resource Merger": sling:hideResource, sling:hideChildren).
+-- Which layers are cut, as a statement on single nodes, and which resources are merged (Apache Sling, "Resource Merger":
+-- sling:hideResource, sling:hideChildren).
 use Rattle.std.specs.Prelude.{◌≡◌, ◌⊎◌, ◌+◌, ◌-◌, ◌<◌, ◌≤◌, ◌++◌, ℕ, All, Any, true, false, List, ◌∷◌, Some, length, take}
 use Rattle.sp_base.specs.Paths.{is_path}
 use Rattle.resource_tree.specs.Content.{Content, kid, name_of}
@@ -7,17 +8,17 @@ use Rattle.overlay_merge.specs.declared.layers.Layer.{Layer}
 use Rattle.overlay_merge.specs.Layers.{layers_of}
 use Rattle.overlay_merge.specs.Hiding.{hides_kid_at, hides_resource_at, in_common, layer_is_cut}
 
--- the path so many steps above another
+-- the path n steps above another
 abbrev pub steps_above : ℕ → List (List ℕ) → List (List ℕ)
 steps_above steps path = take (length path - steps) path
 
--- the node at a path, or one at most so many steps above it, hides its resource
+-- the node at a path, or one at most n steps above it, hides its resource
 pub record HidesResource (tree : Content) (most : ℕ) (path : List (List ℕ)) : Type 0 where
   pub steps : ℕ
   pub near : steps ≤ most
   pub hides : hides_resource_at tree (steps_above steps path) ≡ true
 
--- a node above a path, at most so many steps, hides the kid through which the path goes on: the kid is one step nearer
+-- a node above a path, at most n steps, hides the kid through which the path goes on: the kid is one step nearer
 pub record HidesKid (tree : Content) (most : ℕ) (path : List (List ℕ)) : Type 0 where
   pub steps : ℕ
   pub near : steps < most

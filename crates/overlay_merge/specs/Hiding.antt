@@ -39,20 +39,23 @@ hiding_texts (Some (Truths bs)) = []
 abbrev pub text_stands_for : List ℕ → List ℕ → Bool
 text_stands_for name text = pointwise nat_eq text (codes "*") || pointwise nat_eq text name
 
+-- a value lists a name
 abbrev pub lists_name : Option Value → List ℕ → Bool
 lists_name value name = list_any (text_stands_for name) (hiding_texts value)
 
--- whether properties hide their resource, or a kid of it
+-- whether properties hide their resource
 abbrev pub hides_resource : List (List ℕ × Value) → Bool
 hides_resource props = is_value_true (find by_name (codes "sling:hideResource") props)
 
+-- whether properties hide a kid of their resource
 abbrev pub hides_kid : List ℕ → List (List ℕ × Value) → Bool
 hides_kid name props = lists_name (find by_name (codes "sling:hideChildren") props) name
 
--- whether the node at a path does
+-- whether the node at a path hides its resource
 abbrev pub hides_resource_at : Content → List (List ℕ) → Bool
 hides_resource_at tree path = option_map_or (λ node. hides_resource node.props) (node_at tree path) false
 
+-- whether the node at a path hides a kid
 abbrev pub hides_kid_at : Content → List (List ℕ) → List ℕ → Bool
 hides_kid_at tree path name = option_map_or (λ node. hides_kid name node.props) (node_at tree path) false
 
@@ -82,6 +85,7 @@ abbrev pub in_common : ℕ → List Layer → List (ℕ × List (List ℕ))
 in_common n [] = []
 in_common n (layer ∷ above) = (n, layer.path) ∷ in_common (min n layer.common) above
 
+-- a layer above has a node that hides its resource or the kid on the way, as far up as its last segments in common go
 abbrev pub is_hidden_by : Content → ℕ × List (List ℕ) → Bool
 is_hidden_by tree upper = hides_resource_within tree upper.0 upper.1 || hides_kid_within tree upper.0 upper.1
 
@@ -90,6 +94,7 @@ is_hidden_by tree upper = hides_resource_within tree upper.0 upper.1 || hides_ki
 unfoldable pub layer_is_cut : Content → Layer → List Layer → Bool
 layer_is_cut tree layer above = hides_resource_within tree layer.own layer.path || list_any (is_hidden_by tree) (in_common layer.common above)
 
+-- a resource as a list of at most one
 abbrev pub resource_list : Option Resource → List Resource
 resource_list None = []
 resource_list (Some res) = res ∷ []

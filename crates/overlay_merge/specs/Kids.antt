@@ -7,6 +7,7 @@ use Rattle.resource_tree.specs.Content.{Content, kid, node_at}
 use Rattle.resource_tree.specs.Seen.{Resource}
 use Rattle.overlay_merge.specs.Hiding.{merged_from}
 
+-- a name is among names
 abbrev pub has_text : List (List ℕ) → List ℕ → Bool
 has_text names name = list_any (pointwise nat_eq name) names
 
@@ -22,6 +23,7 @@ all_kids layers = fold with_kids_of [] layers
 abbrev pub is_merged_there : Content → List (List ℕ) → Bool
 is_merged_there tree path = not (length (merged_from tree path) == 0)
 
+-- those of a path's names at which something is left to be merged
 unfoldable pub kids_there : Content → List (List ℕ) → List (List ℕ) → List (List ℕ)
 kids_there tree path names = filter (λ name. is_merged_there tree (kid path name)) names
 

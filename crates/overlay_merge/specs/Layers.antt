@@ -9,6 +9,7 @@ use Rattle.url_split.specs.Split.{at_greatest}
 use Rattle.overlay_merge.specs.declared.layers.Layer.{Layer}
 use Rattle.overlay_merge.specs.Roots.{is_overlay, is_override}
 
+-- a layer, with how far up it may be hidden itself, and how many last segments it has in common with the layer above
 abbrev pub make_layer : List (List ℕ) → ℕ → ℕ → Layer
 make_layer path own common = record { path = path; own = own; common = common }
 
@@ -43,9 +44,11 @@ path_at place path n = path_or_none (place ++ drop n path)
 abbrev pub layer_by : Content → List (List ℕ) → ℕ × List ℕ → Option Layer
 layer_by tree path base = option_map (override_layer (length path - base.0)) (option_and_then (λ place. path_at place path base.0) (place_of tree base.1))
 
+-- the layer that a path is merged over, if there is one
 unfoldable pub layer_below : Content → List (List ℕ) → Option Layer
 layer_below tree path = option_and_then (layer_by tree path) (base_of tree path)
 
+-- a path is that of one of some layers
 abbrev pub has_layer : List Layer → List (List ℕ) → Bool
 has_layer layers path = list_any (λ layer. same_path layer.path path) layers
 

@@ -16,7 +16,7 @@ merge tree path (lowest ∷ more) = Some (record { path = path; props = merged_p
 abbrev pub without_roots : Resource → Resource
 without_roots res = record res { kids = filter (λ name. not (is_name_of_root name)) res.kids }
 
--- elsewhere the node is seen as it is
+-- elsewhere the node is seen as it is, but that the parent of the two roots doesn't list them
 abbrev pub unmerged : Content → List (List ℕ) → Option Resource
 unmerged tree path = if is_parent_of_roots path then option_map without_roots (res_at tree path) else res_at tree path
 
@@ -24,6 +24,7 @@ unmerged tree path = if is_parent_of_roots path then option_map without_roots (r
 unfoldable pub merged : Content → List (List ℕ) → Option Resource
 merged tree path = if is_merged_path path then merge tree path (merged_from tree path) else unmerged tree path
 
+-- the kids of a resource, if there is one
 abbrev pub kids_in : Option Resource → List (List ℕ)
 kids_in None = []
 kids_in (Some res) = res.kids

@@ -25,6 +25,7 @@ abbrev pub is_steering : List ℕ → Bool
 is_steering name = pointwise nat_eq (codes "sling:hideResource") name || (pointwise nat_eq (codes "sling:hideProperties") name
     || (pointwise nat_eq (codes "sling:hideChildren") name || pointwise nat_eq (codes "sling:orderBefore") name))
 
+-- the properties but for those
 abbrev pub without_steering : List (List ℕ × Value) → List (List ℕ × Value)
 without_steering props = where_key by_name (λ name. not (is_steering name)) props
 

@@ -4,16 +4,19 @@ use Rattle.std.specs.Cmp.Lexicographic.{pointwise}
 use Rattle.std.specs.Prelude.{nat_eq}
 use Rattle.sp_base.specs.Paths.{is_under, text_of}
 
--- the root of overlays, and that of overrides
+-- the root of overlays
 abbrev pub overlay_root : List (List ℕ)
 overlay_root = codes "mnt" ∷ codes "overlay" ∷ []
 
+-- the root of overrides
 abbrev pub override_root : List (List ℕ)
 override_root = codes "mnt" ∷ codes "override" ∷ []
 
+-- whether a path lies under the root of overlays
 abbrev pub is_overlay : List (List ℕ) → Bool
 is_overlay path = is_under path overlay_root
 
+-- whether a path lies under the root of overrides
 abbrev pub is_override : List (List ℕ) → Bool
 is_override path = is_under path override_root
 
@@ -25,5 +28,6 @@ is_merged_path path = is_overlay path || is_override path
 abbrev pub is_parent_of_roots : List (List ℕ) → Bool
 is_parent_of_roots path = pointwise nat_eq (text_of path) (codes "/mnt")
 
+-- the name of one of the two roots
 abbrev pub is_name_of_root : List ℕ → Bool
 is_name_of_root name = pointwise nat_eq name (codes "overlay") || pointwise nat_eq name (codes "override")

@@ -8,7 +8,7 @@ use Rattle.overlay_merge.specs.declared.order.Move.{Move}
 use Rattle.overlay_merge.specs.declared.slots.Slots.{Slots}
 use Rattle.overlay_merge.specs.Kids.{moved}
 
--- so many slots, each the one before the slot that was named last
+-- n slots, each the one before the slot that was named last
 abbrev pub walk : (ℕ → ℕ) → ℕ → ℕ → List ℕ
 walk before zero at = []
 walk before (suc n) at = before at ∷ walk before n (before at)
@@ -27,6 +27,7 @@ abbrev pub names_in : (ℕ → List ℕ) → (List ℕ → Option ℕ) → List 
 names_in held slot [] = []
 names_in held slot (s ∷ slots) = names_in held slot slots ++ slot_name held slot s
 
+-- a slot is among others
 abbrev pub IsIn : ℕ → List ℕ → Type 0
 IsIn t [] = ⊥
 IsIn t (s ∷ slots) = (s ≡ t) ⊎ IsIn t slots
@@ -36,7 +37,7 @@ abbrev pub AreApart : List ℕ → Type 0
 AreApart [] = Unit {0}
 AreApart (s ∷ slots) = AllByRecursion (λ t. t ≢ s) slots × AreApart slots
 
--- what holds of slots, of which there are so many beside the first, which is before and after all others
+-- what holds of n slots beside the first, which is before and after all others
 pub record AreSlots (before : ℕ → ℕ) (held : ℕ → List ℕ) (slot : List ℕ → Option ℕ) (n : ℕ) : Type 0 where
   pub within : AllByRecursion (λ s. (0 < s) × (s < suc n)) (walk before n 0)
   pub apart : AreApart (walk before n 0)
@@ -54,19 +55,24 @@ pub record IsPut (before : ℕ → ℕ) (held : ℕ → List ℕ) (slot : List �
 
 -- ---- of the type in the code
 
+-- the slot before each
 abbrev pub before_in : Slots → ℕ → ℕ
 before_in slots s = slice_index slots.before.items s
 
+-- the name that was put into a slot
 abbrev pub held_in : Slots → ℕ → List ℕ
 held_in slots s = (slice_index_or slots.held.items (s - 1) (record { ref_ptr = (0, 0); now = [] })).now
 
+-- the slot in which a name stands
 abbrev pub slot_in : Slots → List ℕ → Option ℕ
 slot_in slots name = get_by (λ k. slice_cmp nat_cmp name k.now) slots.places
 
+-- the lists of the type are slots
 pub record SlotsAreGood (slots : Slots) : Type 0 where
   pub size : length slots.before.items ≡ suc (length slots.held.items)
   pub are : AreSlots (before_in slots) (held_in slots) (slot_in slots) (length slots.held.items)
 
+-- a name is put into a slot of its own there, directly before a slot
 abbrev pub IsPutIn : Slots → Slots → ℕ → List ℕ → Type 0
 IsPutIn old new t name = IsPut (before_in old) (held_in old) (slot_in old) (before_in new) (held_in new) (slot_in new) (length old.held.items) t name
 

@@ -15,15 +15,19 @@ unfoldable pub last_below : ℕ → (ℕ → Bool) → ℕ
 last_below zero p = 0
 last_below (suc n) p = if p n then suc n else last_below n p
 
+-- one more than the depth of the deepest of the first n nodes along a path that hides its resource, and 0 where none does
 abbrev pub resource_depth : Content → List (List ℕ) → ℕ → ℕ
 resource_depth tree path n = last_below n (λ k. hides_resource_at tree (take k path))
 
+-- one more than the depth of the deepest of the first n nodes along a path that hides the next one, and 0 where none does
 abbrev pub kid_depth : Content → List (List ℕ) → ℕ → ℕ
 kid_depth tree path n = last_below n (λ k. hides_kid_at tree (take k path) (slice_index_or path k []))
 
+-- both along the whole path
 unfoldable pub hiding_depths : Content → List (List ℕ) → HidingDepths
 hiding_depths tree path = record { depth = length path; resource = resource_depth tree path (length path + 1); kid = kid_depth tree path (length path) }
 
+-- a layer with the depths along its path
 abbrev pub screened : Content → Layer → ScreenedLayer
 screened tree layer = record { layer = layer; hiding = hiding_depths tree layer.path }
 
@@ -31,19 +35,24 @@ screened tree layer = record { layer = layer; hiding = hiding_depths tree layer.
 abbrev pub reaches : HidingDepths → ℕ → ℕ → Bool
 reaches hiding n found = nat_lt (hiding.depth - n) found
 
+-- a layer has a node at most n steps above its path that hides something
 abbrev pub screens : ℕ → ScreenedLayer → Bool
 screens n upper = reaches upper.hiding n upper.hiding.resource || reaches upper.hiding n upper.hiding.kid
 
+-- one of the layers above hides, each within the least of the steps between
 unfoldable pub some_screens : ℕ → List ScreenedLayer → Bool
 some_screens n [] = false
 some_screens n (upper ∷ above) = screens n upper || some_screens (min n upper.layer.common) above
 
+-- the layer is hidden by a node of its own path, or by a layer above
 unfoldable pub is_screened : ScreenedLayer → List ScreenedLayer → Bool
 is_screened layer above = reaches layer.hiding layer.layer.own layer.hiding.resource || some_screens layer.layer.common above
 
+-- the resource that a layer adds, unless it is hidden
 abbrev pub unscreened : Content → ScreenedLayer → List ScreenedLayer → List Resource
 unscreened tree layer above = if is_screened layer above then [] else resource_list (res_at tree layer.layer.path)
 
+-- the resources that layers add
 unfoldable pub unscreened_of : Content → List ScreenedLayer → List Resource
 unscreened_of tree [] = []
 unscreened_of tree (layer ∷ above) = unscreened tree layer above ++ unscreened_of tree above

@@ -1,7 +1,8 @@
 // What the nodes along a path hide.
-ghost use Rattle.std.specs.Prelude.{◌≡◌, ◌<◌, ◌+◌, ◌∷◌, ◌++◌, [], IfOk, codes, map, length, slice_index_or, if◌then◌else◌};
+ghost use Rattle.std.specs.Prelude.{◌≡◌, ◌<◌, ◌≤◌, ◌+◌, ◌∷◌, ◌++◌, [], IfOk, codes, map, length, slice_index_or, if◌then◌else◌};
 ghost use Rattle.overlay_merge.specs.Walk.{hiding_depths};
 ghost use Rattle.std.specs.Option.{option_copied};
+ghost use Rattle.sp_base.specs.Paths.{most_segments};
 ghost use Rattle.overlay_merge.specs.Hiding.{lists_name, hides_kid, hides_resource, is_value_true, text_stands_for, hiding_texts};
 
 use resource_tree::Tree;
@@ -56,7 +57,7 @@ pub struct HidingDepths {
 
 // Notes a depth, if something is hidden there.
 fn latest(found: usize, k: usize, hides: bool) -> usize
-    requires { k < 65 }
+    requires { k ≤ most_segments }
     ensures { result ≡ (if hides then k + 1 else found) }
 {
     if hides { k + 1 } else { found }

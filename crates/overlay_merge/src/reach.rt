@@ -11,7 +11,7 @@ use resource_tree::Tree;
 use sp_base::{Mem, Path};
 use std::alloc::Global;
 
-/// Along a path of at most so many bytes a look for nodes costs more than what it saves: it may be cut in few places.
+/// The most bytes of a path along which a look for nodes costs more than what it saves: it may be cut in few places.
 const SHORT_PATH: usize = 128;
 
 // The number of segments of the deepest node at a path or above it: below it no node is the last of its line.

@@ -10,7 +10,7 @@ use std::alloc::Global;
 use std::collections::BTreeMap;
 
 /// Names, each in a slot. Slot 0 has none: it is before the first of them and after the last. A name that is moved takes a new slot, and
-/// leaves the old one behind.
+/// stands in the old one no more.
 #[derive(Drop)]
 pub(crate) struct Slots<'a> {
     /// The slot before each.

@@ -15,6 +15,7 @@ abbrev pub items_of : {A : Type 0} → (A → Json) → List A → Items
 items_of f [] = no_items
 items_of f (x ∷ xs) = item (f x) (items_of f xs)
 
+-- a number in decimal digits
 abbrev pub json_of_long : ℤ → Json
 json_of_long n = number (signed_decimal n)
 

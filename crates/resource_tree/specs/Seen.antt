@@ -18,5 +18,6 @@ Seen = List (List ℕ) → Option Resource
 abbrev pub res_of : List (List ℕ) → Node → Resource
 res_of path node = record { path = path; props = node.props; kids = node.kids }
 
+-- the node at a path as a resource, if there is one
 abbrev pub res_at : Content → List (List ℕ) → Option Resource
 res_at tree path = option_map (res_of path) (node_at tree path)

@@ -14,10 +14,11 @@ use Rattle.script_rank.specs.declared.naming.Naming.TheVariants.{SelectorsAndExt
 
 -- ---- names
 
+-- a request for html, which a script need not name
 abbrev pub is_html : Parts → Bool
 is_html parts = pointwise nat_eq parts.extension (codes "html")
 
--- how many selectors a name has, whether it has the extension, and whether it has the type's label
+-- how many selectors a name has
 abbrev pub selectors_in : Naming → ℕ
 selectors_in (SelectorsAndExtension k) = k
 selectors_in (Selectors k) = k
@@ -26,6 +27,7 @@ selectors_in Extension = 0
 selectors_in Label = 0
 selectors_in Method = 0
 
+-- whether a name has the extension
 abbrev pub has_extension : Naming → Bool
 has_extension (SelectorsAndExtension k) = true
 has_extension (Selectors k) = false
@@ -34,6 +36,7 @@ has_extension Extension = true
 has_extension Label = false
 has_extension Method = false
 
+-- whether a name has the type's label
 abbrev pub has_label : Naming → Bool
 has_label (SelectorsAndExtension k) = false
 has_label (Selectors k) = false
@@ -111,6 +114,7 @@ pub record Candidate (tree : Content) (chain : List TypeName) (parts : Parts) (p
 abbrev pub IsLessInTurn : Type 0 → Type 0 → Type 0 → Type 0
 IsLessInTurn less same rest = less ⊎ (same × rest)
 
+-- the first has it, and the second has not
 abbrev pub IsAbove : Bool → Bool → Type 0
 IsAbove a b = (a ≡ true) × (b ≡ false)
 
@@ -131,5 +135,6 @@ pub record IsFirstScript (tree : Content) (chain : List TypeName) (parts : Parts
   pub candidate : Candidate tree chain parts path key
   pub best : (other : List (List ℕ)) (k : Key) → Candidate tree chain parts other k → IsBetter k key → ⊥
 
+-- no script is a candidate
 abbrev pub HasNoCandidate : Content → List TypeName → Parts → Type 0
 HasNoCandidate tree chain parts = (path : List (List ℕ)) (key : Key) → Candidate tree chain parts path key → ⊥

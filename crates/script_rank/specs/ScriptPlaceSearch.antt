@@ -24,14 +24,18 @@ unfoldable pub script_below : Content → List (List ℕ) → List ℕ → Optio
 script_below tree place text = if length place == 0 then None
     else (if slice_index text 0 == 47 then script_in tree (child_of place (drop 1 text)) else None)
 
+-- the script at a script place that a spelling names
 abbrev pub script_named : Content → List (List ℕ) → List ℕ → Option (List (List ℕ))
 script_named tree place spelling = script_below tree place (spelling ++ codes ".html")
 
+-- the script by a naming at a script place: that of its first spelling that has one
 unfoldable pub at_script_place : Content → Parts → Naming → ScriptPlace → Option (List (List ℕ))
 at_script_place tree parts naming script_place = first_of (script_named tree script_place.place) (spellings parts script_place.label naming)
 
+-- the script by a naming at the first of the script places that has one
 unfoldable pub at_script_places : Content → Parts → List ScriptPlace → Naming → Option (List (List ℕ))
 at_script_places tree parts script_places naming = first_of (at_script_place tree parts naming) script_places
 
+-- the script by the first naming by which a script place has one
 abbrev pub script_place_search : Content → List ScriptPlace → Parts → Option (List (List ℕ))
 script_place_search tree script_places parts = first_of (at_script_places tree parts script_places) (namings parts)

@@ -18,6 +18,7 @@ unfoldable pub with_selectors : Bool → ℕ → List Naming
 with_selectors html zero = []
 with_selectors html (suc k) = SelectorsAndExtension (suc k) ∷ (if html then Selectors (suc k) ∷ with_selectors html k else with_selectors html k)
 
+-- the namings without selectors
 abbrev pub without_selectors : Bool → List Naming
 without_selectors html = LabelAndExtension ∷ Extension ∷ (if html then Label ∷ Method ∷ [] else [])
 
@@ -25,24 +26,31 @@ without_selectors html = LabelAndExtension ∷ Extension ∷ (if html then Label
 abbrev pub most_selectors : Parts → ℕ
 most_selectors parts = min (length parts.selectors) most_segments
 
+-- the namings that a request allows, the closest first
 abbrev pub namings : Parts → List Naming
 namings parts = if is_empty parts.extension then [] else with_selectors (is_html parts) (most_selectors parts) ++ without_selectors (is_html parts)
 
+-- the path, where a script is there
 abbrev pub script_in : Content → Result (List (List ℕ)) PathFault → Option (List (List ℕ))
 script_in tree (Ok path) = if is_script tree path then Some path else None
 script_in tree (Err e) = None
 
+-- the script at a place by a spelling
 unfoldable pub script_at : Content → List (List ℕ) → List ℕ → Option (List (List ℕ))
 script_at tree place spelling = script_in tree (path_of (text_of place ++ (spelling ++ codes ".html")))
 
+-- the script at a place by the first of some spellings that has one
 unfoldable pub at_place : Content → List (List ℕ) → List (List ℕ) → Option (List (List ℕ))
 at_place tree names place = first_of (script_at tree place) names
 
+-- the script by a naming at the first place of a type that has one
 unfoldable pub at_type : Content → Parts → Naming → TypeName → Option (List (List ℕ))
 at_type tree parts naming type = first_of (at_place tree (spellings parts (name_of type.segs) naming)) (places type)
 
+-- the script by a naming of the first type of a chain that has one
 unfoldable pub at_naming : Content → List TypeName → Parts → Naming → Option (List (List ℕ))
 at_naming tree chain parts naming = first_of (at_type tree parts naming) chain
 
+-- the script by the first naming by which the chain has one
 unfoldable pub search_result : Content → List TypeName → Parts → Option (List (List ℕ))
 search_result tree chain parts = first_of (at_naming tree chain parts) (namings parts)

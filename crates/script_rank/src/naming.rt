@@ -2,12 +2,12 @@
 ghost use Rattle.std.specs.Prelude.{◌≡◌, ◌++◌, IfOk, OnOk};
 ghost use Rattle.script_rank.specs.Search.{is_html, namings, with_selectors};
 
-use sp_base::Mem;
+use sp_base::{MOST_SEGMENTS, Mem};
 use std::alloc::Global;
 use url_split::Parts;
 
 /// The most selectors that a script is named after: a path has no more segments.
-const MOST_SELECTORS: usize = 64;
+const MOST_SELECTORS: usize = MOST_SEGMENTS;
 
 /// What of a request a script is named after.
 #[derive(Clone, Copy, Drop)]

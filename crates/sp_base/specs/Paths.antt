@@ -11,6 +11,7 @@ use Rattle.sp_base.specs.declared.path.PathFault.TheVariants.{NotAbsolute, Empty
 abbrev pub by_path : List (List ℕ) → List (List ℕ) → Ordering
 by_path = slice_cmp (slice_cmp nat_cmp)
 
+-- a segment without bytes
 abbrev pub is_empty : List ℕ → Bool
 is_empty seg = length seg == 0
 
@@ -26,10 +27,11 @@ longest_segment = 200
 abbrev pub most_segments : ℕ
 most_segments = 64
 
--- a segment has at most 200 bytes
+-- a segment has at most `longest_segment` bytes
 abbrev pub is_long : List ℕ → Bool
 is_long seg = nat_lt longest_segment (length seg)
 
+-- a segment with a slash in it, which is none of a path
 abbrev pub has_slash : List ℕ → Bool
 has_slash seg = list_any (λ b. b == 47) seg
 
@@ -37,7 +39,7 @@ has_slash seg = list_any (λ b. b == 47) seg
 abbrev pub seg_ok : List ℕ → Bool
 seg_ok name = not (is_empty name) && (not (is_dots name) && (not (is_long name) && not (has_slash name)))
 
--- segments that make a path: at most 64
+-- segments that make a path: at most `most_segments`
 abbrev pub is_path : List (List ℕ) → Bool
 is_path segs = list_all seg_ok segs && nat_le (length segs) most_segments
 
@@ -50,9 +52,11 @@ abbrev pub size_fault : Option ℕ → ℕ → Option PathFault
 size_fault (Some place) n = Some (LongSegment place)
 size_fault None n = if nat_lt most_segments n then Some TooDeep else None
 
+-- why segments are no path, where they are none
 abbrev pub fault_of : List (List ℕ) → Option PathFault
 fault_of segs = if list_any is_empty segs then Some EmptySegment else (if list_any is_dots segs then Some DotSegment else size_fault (position is_long segs) (length segs))
 
+-- the segments, or the fault where there is one
 abbrev pub unless_fault : Option PathFault → List (List ℕ) → Result (List (List ℕ)) PathFault
 unless_fault None segs = Ok segs
 unless_fault (Some fault) segs = Err fault
@@ -78,6 +82,7 @@ child_of segs name = checked (segs ++ pieces name)
 abbrev pub join_of : List (List ℕ) → List (List ℕ) → Result (List (List ℕ)) PathFault
 join_of segs rest = checked (segs ++ rest)
 
+-- the path without its last segment: the root's parent is the root
 abbrev pub parent_of : List (List ℕ) → List (List ℕ)
 parent_of segs = take (length segs - 1) segs
 
@@ -94,6 +99,7 @@ is_under path other = starts_with (pointwise nat_eq) path other
 abbrev pub is_mangled : List ℕ → List ℕ → Bool
 is_mangled mark seg = starts_with nat_eq seg mark && nat_lt (length mark) (length seg)
 
+-- a prefix in place of the mark at the beginning
 abbrev pub unmangled_by : List ℕ → List ℕ → List ℕ → List ℕ
 unmangled_by mark prefix seg = prefix ++ drop (length mark) seg
 
@@ -105,6 +111,7 @@ unmangled_seg seg = if is_mangled (codes "_jcr_") seg then unmangled_by (codes "
     else (if is_mangled (codes "_nt_") seg then unmangled_by (codes "_nt_") (codes "nt:") seg
     else (if is_mangled (codes "_cq_") seg then unmangled_by (codes "_cq_") (codes "cq:") seg else seg)))
 
+-- each segment with its namespace prefix as it stands in the repository
 abbrev pub unmangled : List (List ℕ) → List (List ℕ)
 unmangled segs = map unmangled_seg segs
 
@@ -112,6 +119,7 @@ unmangled segs = map unmangled_seg segs
 abbrev pub is_namespaced : List ℕ → List ℕ → Bool
 is_namespaced prefix seg = starts_with nat_eq seg prefix && nat_lt (length prefix) (length seg)
 
+-- a mark in place of the prefix at the beginning
 abbrev pub mangled_by : List ℕ → List ℕ → List ℕ → List ℕ
 mangled_by prefix mark seg = mark ++ drop (length prefix) seg
 
@@ -122,6 +130,7 @@ mangled_seg seg = if is_namespaced (codes "jcr:") seg then mangled_by (codes "jc
     else (if is_namespaced (codes "nt:") seg then mangled_by (codes "nt:") (codes "_nt_") seg
     else (if is_namespaced (codes "cq:") seg then mangled_by (codes "cq:") (codes "_cq_") seg else seg)))
 
+-- each segment with its namespace prefix as it stands in URLs
 abbrev pub mangled : List (List ℕ) → List (List ℕ)
 mangled segs = map mangled_seg segs
 

@@ -22,6 +22,7 @@ number_of word = if slice_index word 0 == 45
     then (if are_digits (drop 1 word) && nat_le (digits_value 10 (drop 1 word)) 9223372036854775808 then Some (neg_ℤ (pos (digits_value 10 (drop 1 word)))) else None)
     else (if are_digits word && nat_lt (digits_value 10 word) 9223372036854775808 then Some (pos (digits_value 10 word)) else None)
 
+-- only `true` is true
 abbrev pub truth_of : List ℕ → Bool
 truth_of word = pointwise nat_eq word (codes "true")
 
@@ -30,9 +31,11 @@ abbrev pub longs_at : Option ℕ → List (List ℕ) → Result (List ℤ) Value
 longs_at (Some place) words = Err (NotANumber place)
 longs_at None words = Ok (map (λ word. unwrap_or (number_of word) (pos 0)) words)
 
+-- words as numbers, or the first that is none
 abbrev pub longs_of : List (List ℕ) → Result (List ℤ) ValueFault
 longs_of words = longs_at (position (λ word. is_none (number_of word)) words) words
 
+-- a number as a value: there is none where the only word spells none
 abbrev pub long_value : Option ℤ → Result Value ValueFault
 long_value None = Err (NotANumber 0)
 long_value (Some n) = Ok (Long n)
@@ -43,6 +46,7 @@ one_of TextKind word = Ok (Text word)
 one_of LongKind word = long_value (number_of word)
 one_of TruthKind word = Ok (Truth (truth_of word))
 
+-- numbers as a list value, or their fault
 abbrev pub longs_value : Result (List ℤ) ValueFault → Result Value ValueFault
 longs_value (Ok ns) = Ok (Longs ns)
 longs_value (Err e) = Err e
@@ -53,6 +57,7 @@ many_of TextKind words = Ok (Texts words)
 many_of LongKind words = longs_value (longs_of words)
 many_of TruthKind words = Ok (Truths (map truth_of words))
 
+-- words as a single value: there must be just one
 abbrev pub single_of : HintKind → List (List ℕ) → Result Value ValueFault
 single_of kind [] = Err (WrongCount 0)
 single_of kind (word ∷ []) = one_of kind word

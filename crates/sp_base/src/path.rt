@@ -6,7 +6,7 @@ ghost use Rattle.std.specs.Ordering.{nat_cmp, eq_by_cmp};
 ghost use Rattle.std.proofs.lemmas.Cmp.{eq_by_cmp_equiv};
 ghost use Rattle.std.specs.Hash as fed;
 ghost use Rattle.sp_base.specs.PathExact.{fed_alike};
-ghost use Rattle.sp_base.specs.Paths.{seg_ok, path_of, child_of, join_of, parent_of, text_of, unmangled, mangled_of, is_under, is_path, fault_of, checked};
+ghost use Rattle.sp_base.specs.Paths.{most_segments, seg_ok, path_of, child_of, join_of, parent_of, text_of, unmangled, mangled_of, is_under, is_path, fault_of, checked};
 ghost use Rattle.sp_base.specs.PathTexts.{segs_in, spelled};
 ghost use Rattle.sp_base.specs.declared.path.PathFault.TheVariants.{NoMemory as no_memory};
 
@@ -111,7 +111,7 @@ impl Path {
 
         // A segment under a path of fewer than 64 is one segment more.
         ensures whole { IfOk result (λ p. IsTrue (seg_ok name.now) → p ≡ self.now ++ name.now ∷ []) }
-        ensures fits { IfErr result (λ e. IsTrue (seg_ok name.now) → length self.now < 64 → e ≡ PathFault.NoMemory) }
+        ensures fits { IfErr result (λ e. IsTrue (seg_ok name.now) → length self.now < most_segments → e ≡ PathFault.NoMemory) }
     {
         let fault = fault_after(self.depth(), name);
         made(fault, glued(alloc, self.text.as_str(), "/", name)?)

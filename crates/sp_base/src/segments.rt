@@ -1,7 +1,7 @@
 // The segments of a path: which texts are one, and what a text of segments spells.
 ghost use Rattle.std.specs.Prelude.{◌+◌, ◌-◌, ◌≤◌, ◌≡◌, ◌≢◌, ◌==◌, ◌∷◌, ◌++◌, List, ℕ, true, false, drop, take, length, IfOk, OnOk, IfSome, IfNone, option_copied, slice_get, string_bytes};
 ghost use Rattle.std.specs.List.{list_any, position, position_from, count_by};
-ghost use Rattle.sp_base.specs.Paths.{seg_ok, is_empty, is_dots, is_long, has_slash, pieces, size_fault, fault_of, is_mangled, unmangled_seg, unmangled, mangled_seg, mangled};
+ghost use Rattle.sp_base.specs.Paths.{most_segments, seg_ok, is_empty, is_dots, is_long, has_slash, pieces, size_fault, fault_of, is_mangled, unmangled_seg, unmangled, mangled_seg, mangled};
 ghost use Rattle.sp_base.specs.PathTexts.{segs_in, spelled, is_unfit, fault_after, text_under};
 
 use crate::{Mem, PathFault};
@@ -54,7 +54,7 @@ fn first_long(text: &str) -> Option<usize>
 
 // The place of the first long piece of a text, where others stand before them.
 fn long_after(before: usize, text: &str) -> Option<usize>
-    requires { before ≤ 64 }
+    requires { before ≤ most_segments }
     ensures { result ≡ position_from is_long before (pieces text.now) }
 {
     match first_long(text) {
@@ -70,7 +70,7 @@ fn count(text: &str) -> usize
 }
 
 pub fn size_fault(long: Option<usize>, before: usize, count: usize) -> Option<PathFault>
-    requires { before ≤ 64 }
+    requires { before ≤ most_segments }
     ensures { result ≡ size_fault long (before + count) }
 {
     match long {
@@ -98,7 +98,7 @@ fn has_unfit(text: &str) -> bool
 }
 
 fn first_fault(before: usize, text: &str) -> Option<PathFault>
-    requires { before ≤ 64 }
+    requires { before ≤ most_segments }
     ensures { result ≡ fault_after before (pieces text.now) }
 {
     if has_empty(text) {
@@ -112,7 +112,7 @@ fn first_fault(before: usize, text: &str) -> Option<PathFault>
 
 // Why segments of a path and the pieces of a text after them are no path. Most texts have no unfit piece, which one look tells.
 pub fn fault_after(before: usize, text: &str) -> Option<PathFault>
-    requires { before ≤ 64 }
+    requires { before ≤ most_segments }
     ensures { result ≡ fault_after before (pieces text.now) }
 {
     if has_unfit(text) {

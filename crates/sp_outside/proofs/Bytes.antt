@@ -1,8 +1,8 @@
 use Rattle.std.proofs.Common.{◌≡◌, ◌+◌, ◌≤◌, ◌++◌, ℕ, List, length, take, drop, sym, ◌∙◌, ap}
 use Rattle.std.proofs.lemmas.List.{take-append-drop, drop-drop, take_at, length-take-le}
 
--- Where the first n bytes at a place stand at the front of a buffer, what is left at the place is these and what is left
--- behind them.
+-- Where the first n bytes at a place stand at the beginning of a buffer, what is left at the place is these and what is left
+-- after them.
 pub rest_in_two : (bytes buffer into : List ℕ) (at n : ℕ) → n ≤ length (drop at bytes)
     → into ≡ take n (drop at bytes) ++ drop n buffer → drop at bytes ≡ take n into ++ drop (at + n) bytes
 rest_in_two bytes buffer into at n le e =

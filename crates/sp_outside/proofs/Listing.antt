@@ -225,7 +225,7 @@ not_true : (b : Bool) → (b ≡ true → ⊥) → b ≡ false
 not_true true none = absurd (none refl)
 not_true false none = refl
 
--- behind a name that isn't before the prefix and doesn't begin with it no name does
+-- after a name that isn't before the prefix and doesn't begin with it no name does
 none_behind : (prefix : List ℕ) (item : String Global × List ℕ) (rest : Held) → is_le (by_name prefix (string_bytes item.0)) ≡ true
     → has_prefix prefix (string_bytes item.0) ≡ false → AllByRecursion (λ other. string_cmp item.0 other ≡ Less) (keys_of rest)
     → filter (has_prefix prefix) (names_of rest) ≡ []

@@ -43,7 +43,7 @@ text_bytes text u = subst are_bytes u.1.1 (chars_bytes u.0 u.1.0)
 
 -- ---- the numbers of names
 
--- the number of a name of at most `n` bytes, after a number: its digits are its bytes, each one higher, and 0 behind its end
+-- the number of a name of at most `n` bytes, after a number: its digits are its bytes, each one higher, and 0 after its end
 abbrev rank : ℕ → ℕ → List ℕ → ℕ
 rank zero before name = before
 rank (suc n) before [] = rank n (before * 257) []

@@ -15,7 +15,7 @@ next count = min (count + 1) 18446744073709551615
 abbrev pub Rose : ℕ → ℕ → Type 0
 Rose before after = (before ≤ after) × (next before ≤ after)
 
--- Failed comes only where the count rose, and any other answer leaves the count.
+-- Failed comes only where the count rose, or stands at its end, and any other answer leaves the count.
 abbrev pub HasSourceCause : {T : Type 0} → ℕ → ℕ → Result T SourceFault → Type 0
 HasSourceCause before after (Ok _) = after ≡ before
 HasSourceCause before after (Err source_failed) = Rose before after

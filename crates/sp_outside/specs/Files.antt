@@ -9,9 +9,11 @@ use Rattle.sp_base.specs.Names.{by_name}
 use Rattle.sp_outside.specs.declared.disk.DiskFault.{DiskFault}
 use Rattle.sp_outside.specs.declared.disk.DiskFault.TheVariants.{Failed}
 
+-- files by their names
 abbrev pub Files : Type 0
 Files = FinMap by_name (List ℕ)
 
+-- the code of files, of which that of a type that holds them is made
 abbrev pub files_code : Coded Files
 files_code = code (coded_list coded_ℕ) (coded_list coded_ℕ)
 
@@ -39,6 +41,7 @@ without_file files name = remove files name
 abbrev pub told_with : Option Files → List ℕ → List ℕ → Option Files
 told_with told name bytes = option_map (λ files. with_file files name bytes) told
 
+-- the files without this one, where the disk tells its files
 abbrev pub told_without : Option Files → List ℕ → Option Files
 told_without told name = option_map (λ files. without_file files name) told
 

@@ -12,6 +12,7 @@ use Rattle.std.specs.declared.alloc.Global.{Global}
 use Rattle.sp_base.specs.Names.{by_name}
 use Rattle.sp_outside.specs.Files.{Files, IsName}
 
+-- the entries of the map, in its order
 abbrev pub Held : Type 0
 Held = List (String Global × List ℕ)
 
@@ -19,6 +20,7 @@ Held = List (String Global × List ℕ)
 abbrev pub named : Held → List (List ℕ × List ℕ)
 named held = map (λ e. (string_bytes e.0, e.1)) held
 
+-- the files that they are
 abbrev pub files_of : Held → Files
 files_of held = from_entries (named held)
 
@@ -27,7 +29,7 @@ pub record HasNames (held : Held) : Type 0 where
   pub rising : IsStrictlySortedBy string_cmp (keys_of held)
   pub sizes : All (λ key. IsName (string_bytes key)) (keys_of held)
 
--- the first place at which a name may stand that is after one and begins with a prefix: the prefix, or behind that name, whichever is later
+-- the first place at which a name may stand that is after one and begins with a prefix: the prefix, or right after that name, whichever is later
 abbrev pub IsFirstPlace : List ℕ → List ℕ → Bound (String Global) → Type 0
 IsFirstPlace prefix after (Included key) = (string_bytes key ≡ prefix) × (by_name after prefix ≡ Less)
 IsFirstPlace prefix after (Excluded key) = (string_bytes key ≡ after) × (is_lt (by_name after prefix) ≡ false)

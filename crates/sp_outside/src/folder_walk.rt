@@ -26,12 +26,24 @@ pub(crate) fn names_below<R: Files + AllocGlobal + Clone + Drop>(
         let Some(next) = folders.pop() else {
             return Ok(names);
         };
-        for entry in fs::read_dir(rt, next.as_str())? {
-            take_entry(alloc, entry, prefix, &mut folders, &mut names)?;
-        }
-        sync_folder(rt, next.as_str())?;
+        take_folder(rt, next.as_str(), prefix, &mut folders, &mut names)?;
     }
     Err(DiskFault::Failed)
+}
+
+// Notes what is in a folder, and syncs it.
+fn take_folder<R: Files + AllocGlobal + Clone + Drop>(
+    rt: &R,
+    folder: &str,
+    prefix: usize,
+    folders: &mut Vec<String>,
+    names: &mut NameIndex,
+) -> Result<(), DiskFault> {
+    let alloc = rt.alloc();
+    for entry in fs::read_dir(rt, folder)? {
+        take_entry(alloc, entry, prefix, folders, names)?;
+    }
+    sync_folder(rt, folder)
 }
 
 // How many bytes of a path below a folder stand before the name.

@@ -1,9 +1,7 @@
 //! The outside: the words that the program is started with, what it reads from and what it writes to, and the disk that keeps
 //! its files, each in memory and for real.
 //!
-//! Each object counts its faults. A call answers `Failed` only where that count rose in the call, and a call that answers
-//! anything else leaves it. The objects in memory tell what they hold, so that contracts can speak of it; the real ones
-//! tell nothing.
+//! The objects in memory tell what they hold, so that contracts can speak of it; the real ones tell nothing.
 #![tactic(auto)]
 
 mod disk;

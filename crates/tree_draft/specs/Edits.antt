@@ -14,10 +14,12 @@ edited_node (WithoutKid name) node = without_kid name node
 edited_node (Set name value) node = with_value name value node
 edited_node (Unset name) node = without_value name node
 
+-- 1 where it holds, and else 0
 abbrev pub one_if : Bool → ℕ
 one_if true = 1
 one_if false = 0
 
+-- the entry leaves a node
 abbrev pub is_node : PatchNode → Bool
 is_node (there.Node node) = true
 is_node there.Gone = false

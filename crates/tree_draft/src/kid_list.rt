@@ -132,7 +132,7 @@ pub(crate) fn copied(alloc: Global, names: &[&TextBuf]) -> Mem<TextList>
     Ok(list)
 }
 
-/// Copies of lent names, with one more after so many of them.
+/// Copies of lent names, with one more at a place among them.
 pub(crate) fn copied_with(
     alloc: Global,
     names: &[&TextBuf],

@@ -1,7 +1,6 @@
 //! Changes of a content that a tree doesn't know yet: a tree and what is to stand over it.
 //!
-//! A draft takes the changes that a tree takes, under the same contracts, costs what they change, and leaves the tree as it is. Once all
-//! are made, what it holds over the tree is a patch of the tree.
+//! Once all are made, what a draft holds over its tree is a patch of the tree.
 #![tactic(auto)]
 
 mod copy;

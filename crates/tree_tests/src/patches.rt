@@ -62,7 +62,7 @@ fn put_gone(alloc: Global, patch: &mut Patch, path: &Path) -> Result<(), Failed>
     Ok(())
 }
 
-// Room for so many rows is an allocation. Where it is refused, the tree is as it was.
+// Room for the entries of a patch is an allocation. Where it is refused, the tree is as it was.
 fn a_tree_without_room_is_as_it_was(alloc: Global, seeds: RandomState) -> Result<bool, Failed> {
     let tree = tree_of(alloc, seeds, &["/a", "/a/b"])?;
     let path = at(alloc, "/a/b")?;
@@ -89,7 +89,7 @@ fn a_node_is_made_with_its_properties(alloc: Global, seeds: RandomState) -> Resu
     Ok(is_listed(alloc, &tree, "/ /a /b* ")?)
 }
 
-// Puts rows for `/b`, `/a` and once more `/b`, which then stays.
+// Puts entries for `/b`, `/a` and once more `/b`, which then stays.
 fn put_again(alloc: Global, tree: &Tree, patch: &mut Patch) -> Result<(), Failed> {
     patch.put(at(alloc, "/b")?, PatchNode::Gone)?;
     patch.put(at(alloc, "/a")?, PatchNode::Gone)?;

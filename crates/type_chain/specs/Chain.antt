@@ -12,10 +12,11 @@ use Rattle.type_chain.specs.Types.{make_type, type_of, same_type, places}
 unfoldable pub type_text : List (List ℕ × Value) → List ℕ
 type_text props = unwrap_or (option_or (text_in props (codes "sling:resourceType")) (text_in props (codes "jcr:primaryType"))) (codes "nt:unstructured")
 
--- the text `sling:resourceSuperType` of properties, and of the node at a path
+-- the text `sling:resourceSuperType` of properties
 unfoldable pub own_super : List (List ℕ × Value) → Option (List ℕ)
 own_super props = text_in props (codes "sling:resourceSuperType")
 
+-- the text of the super type that the node at a path names
 unfoldable pub super_at : Content → List (List ℕ) → Option (List ℕ)
 super_at tree path = option_and_then (λ node. own_super node.props) (node_at tree path)
 
@@ -60,9 +61,11 @@ until_repeat (type ∷ types) = type ∷ before_first (same_type type) (until_re
 abbrev pub default_type : TypeName
 default_type = make_type false (codes "sling" ∷ codes "servlet" ∷ codes "default" ∷ [])
 
+-- a type is among others
 abbrev pub has_type : TypeName → List TypeName → Bool
 has_type type types = list_any (λ other. same_type other type) types
 
+-- types, and the default type after them unless it is among them
 abbrev pub with_default : List TypeName → List TypeName
 with_default types = if has_type default_type types then types else types ++ default_type ∷ []
 

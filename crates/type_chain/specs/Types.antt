@@ -5,6 +5,7 @@ use Rattle.sp_base.specs.declared.path.PathFault.{PathFault}
 use Rattle.resource_tree.specs.Content.{Content, node_at, same_path}
 use Rattle.type_chain.specs.declared.type_name.TypeName.{TypeName}
 
+-- the byte of a colon
 abbrev pub is_colon : ℕ → Bool
 is_colon b = b == 58
 
@@ -12,6 +13,7 @@ is_colon b = b == 58
 abbrev pub text_with_slashes : List ℕ → List ℕ
 text_with_slashes text = map (λ b. if is_colon b then 47 else b) text
 
+-- a type of these segments, rooted or not
 abbrev pub make_type : Bool → List (List ℕ) → TypeName
 make_type rooted segs = record { rooted = rooted; segs = segs }
 

@@ -97,7 +97,7 @@ notes_more rows patch who first old new texts i text within item so_far one = re
       ∙ ap (λ x. has_row first t || x) (ap (λ x. list_any (bytes_eq t) (take i texts) || bytes_eq t x) item ∙ sym (list_any_more (bytes_eq t) texts i text within));
 }
 
--- ---- one row
+-- ---- one entry
 
 pub notes_row : (rows : ClaimRows) (patch : patches.PatchEntries) (path : List (List ℕ)) (before after : List ℕ → Bool) (old mid new : ClaimRows) → Notes rows patch (is_at_some None) before old mid → Notes rows patch (is_at_some (Some path)) after mid new
     → NotesRow rows patch path before after old new
@@ -114,9 +114,9 @@ notes_row_alike rows patch path before other after another old new same alike is
   has = λ t. is.has t ∙ ap (λ b. has_row old t || (b || after t)) (same t) ∙ ap (λ b. has_row old t || (other t || b)) (alike t);
 }
 
--- ---- the first rows
+-- ---- the first entries
 
--- the rows of a patch so far are noted
+-- the entries of a patch so far are noted
 pub record AreNoted (rows : ClaimRows) (patch : patches.PatchEntries) (before : List (List ℕ) → List ℕ → Bool) (left : List (List ℕ) → PatchNode → List ℕ → Bool) (done : patches.PatchEntries) (changed : ClaimRows) : Type 0 where
   pub claims : (t : List ℕ) (q : List (List ℕ)) → list_any (same_path q) (noted rows patch changed t) ≡ (list_any (same_path q) (kept patch (claimants rows t)) || list_any (λ row. same_path q row.0 && left row.0 row.1 t) done)
   pub has : (t : List ℕ) → has_row changed t ≡ list_any (λ row. before row.0 t || left row.0 row.1 t) done
@@ -137,7 +137,7 @@ noted_next rows patch before left i path row old new is so_far one = record {
       one.has t ∙ ap (λ x. x || (before path t || left path row t)) (so_far.has t) ∙ sym (any_next test patch i (path, row) is);
 }
 
--- ---- all rows
+-- ---- all entries
 
 any_cond : (q p : List (List ℕ)) (b : Bool) (ps : List (List (List ℕ))) → list_any (same_path q) (cond b (p ∷ ps) ps) ≡ ((same_path q p && b) || list_any (same_path q) ps)
 any_cond q p true ps = ap (λ x. x || list_any (same_path q) ps) (and_one (same_path q p) true refl)
@@ -173,7 +173,7 @@ none_else q left t (row ∷ patch) is =
       | false ↦ λ e. none_else q left t patch e
     ] is
 
--- what the rows leave at a path
+-- what the entries leave at a path
 any_left : (q : List (List ℕ)) (left : List (List ℕ) → PatchNode → List ℕ → Bool) (t : List ℕ) (patch : patches.PatchEntries) → IsDistinct (eq_by_cmp by_path) (keys_of patch)
     → list_any (λ row. same_path q row.0 && left row.0 row.1 t) patch ≡ option_map_or (λ row. left q row t) (patches.entry_at patch q) false
 any_left q left t [] once = refl
@@ -192,7 +192,7 @@ any_left q left t (row ∷ patch) once =
     ∙ sym (ap (λ b. option_map_or (λ r. left q r t) (cond b (Some row.1) (patches.entry_at patch q)) false) other))
     (cases_Bool (same_path q row.0))
 
--- a row that passes no test
+-- an entry that passes no test
 row_fails : (q : List (List ℕ)) (test : List (List ℕ) → PatchNode → Bool) (patch : patches.PatchEntries) (row : PatchNode) → patches.entry_at patch q ≡ Some row → list_any (λ r. test r.0 r.1) patch ≡ false → test q row ≡ false
 row_fails q test [] row is none = cc
 row_fails q test (r ∷ patch) row is none =
@@ -216,7 +216,7 @@ unsettled : (before : Bool) (left : PatchNode → Bool) (row : Option PatchNode)
 unsettled before left None none = refl
 unsettled before left (Some r) none = first_false before (left r) (none r refl) ∙ sym (last_false before (left r) (none r refl))
 
--- the claims after all rows
+-- the claims after all entries
 pub changed_by : (rows : ClaimRows) (patch : patches.PatchEntries) (before after : List (List ℕ) → List ℕ → Bool) (left : List (List ℕ) → PatchNode → List ℕ → Bool) (changed : ClaimRows) → AreClaims before rows → IsDistinct (eq_by_cmp by_path) (keys_of patch)
     → AreNoted rows patch before left patch changed → ((q : List (List ℕ)) (t : List ℕ) → after q t ≡ option_map_or (λ row. left q row t) (patches.entry_at patch q) (before q t)) → AreChanged before after changed
 changed_by rows patch before after left changed claims once noted_all is t q =
@@ -234,7 +234,7 @@ changed_by rows patch before after left changed claims once noted_all is t q =
 
 -- ---- vanity paths
 
--- who claims a text without a row is in no row of the patch
+-- who claims a text without a row is in no entry of the patch
 pub leaves_others : (rows : ClaimRows) (tree : Content) (patch : patches.PatchEntries) (changed : ClaimRows) → AreNoted rows patch (claims_vanity_path tree) left_vanity_path patch changed → LeavesOthers tree patch changed
 leaves_others rows tree patch changed noted_all t q none claims =
     elim (patches.entry_at patch q) as (λ o. patches.entry_at patch q ≡ o → patches.left_by o (node_at tree q) ≡ node_at tree q) [

@@ -21,7 +21,7 @@ use Rattle.url_maps.proofs.AliasLemmas.{find_alike}
 use Rattle.url_maps.proofs.NamedLemmas.{first_in_named, words_claim}
 use Rattle.url_maps.proofs.PathLemmas.{IsReadBack, parent_of-kid, path_from_same, same_path_flips, same_path_self, texts_and_paths}
 
--- ---- the rows of a patch
+-- ---- the entries of a patch
 
 record At (patch : patches.PatchEntries) (q : List (List ℕ)) (row : PatchNode) : Type 0 where
   pub place : ℕ
@@ -40,7 +40,7 @@ row_place ((p, r) ∷ patch) q row is =
     record { place = suc rest.place; is = rest.is })
     (cases_Bool (same_path q p))
 
--- each of the first rows is settled
+-- each of the first entries is settled
 abbrev pub AreSettled : Content → patches.PatchEntries → ℕ → List (List (List ℕ)) → Type 0
 AreSettled tree patch n parents = (k : ℕ) (path : List (List ℕ)) (row : PatchNode) → k < n → slice_get patch k ≡ Some (path, row) → IsSettled tree path row parents
 
@@ -72,7 +72,7 @@ pub left_of : (row : PatchNode) (old : Option Node) → patches.left_by (Some ro
 left_of (there.Node node) old = refl
 left_of there.Gone old = refl
 
--- where each row is settled, the other nodes keep what their kids claim
+-- where each entry is settled, the other nodes keep what their kids claim
 pub keeps_others : (tree : Content) (patch : patches.PatchEntries) (n : ℕ) (parents : List (List (List ℕ))) → length patch ≤ n → AreSettled tree patch n parents → KeepsOthers tree patch parents
 keeps_others tree patch n parents end settled p t other =
     let settled_at : (q : List (List ℕ)) (row : PatchNode) → patches.entry_at patch q ≡ Some row → IsSettled tree q row parents = λ q row is.
@@ -100,7 +100,7 @@ keeps_others tree patch n parents end settled p t other =
 pub others_alike : (tree : Content) (patch : patches.PatchEntries) (parents same : List (List (List ℕ))) → ((q : List (List ℕ)) → list_any (same_path q) same ≡ list_any (same_path q) parents) → KeepsOthers tree patch parents → KeepsOthers tree patch same
 others_alike tree patch parents same alike keeps p t other = keeps p t (sym (alike p) ∙ other)
 
--- ---- one row
+-- ---- one entry
 
 -- two lists of texts that compare equal
 pub same_texts : (xs ys : List (List ℕ)) → pointwise (pointwise nat_eq) xs ys ≡ true → xs ≡ ys

@@ -26,9 +26,11 @@ use Rattle.url_maps.specs.VanityPaths.{has_vanity_path, vanity_page, vanity_cmp}
 abbrev pub is_without_pattern : Content → List (List ℕ) → List (List ℕ) → Bool
 is_without_pattern tree host_node path = list_all (λ depth. not (has_match tree (take depth path))) (range_with_len (length host_node) (length path + 1 - length host_node))
 
+-- the pair of a mapping
 abbrev pub pair_to : List ℕ × Option ℕ → Pair
 pair_to leads = record { kind = Mapping; target = leads.0; away = leads.1 }
 
+-- the pair of the mapping at a path, where no node from the host node down to it has a pattern
 abbrev pub mapping_at : Content → List (List ℕ) → List (List ℕ) → Option Pair
 mapping_at tree host_node path = if is_without_pattern tree host_node path then option_map pair_to (option_and_then mapping_of (node_at tree path)) else None
 
@@ -45,6 +47,7 @@ pair_inside kind path = record { kind = kind; target = text_of path; away = None
 abbrev pub sibling_with_alias : Content → List (List ℕ) → Option (List (List ℕ))
 sibling_with_alias tree path = option_map (kid (parent_of path)) (find (λ sibling. has_alias tree (kid (parent_of path) sibling) (name_of path)) (kids_at tree (parent_of path)))
 
+-- the alias that a path is, where no node is there
 abbrev pub alias_at : Content → Result (List (List ℕ)) PathFault → Option Pair
 alias_at tree (Ok path) = if is_none (node_at tree path) then option_map (pair_inside Alias) (sibling_with_alias tree path) else None
 alias_at tree (Err e) = None
@@ -67,6 +70,7 @@ abbrev pub earliest : Content → List (List (List ℕ)) → Option (List (List 
 earliest tree [] = None
 earliest tree (path ∷ paths) = Some (earlier tree path (earliest tree paths))
 
+-- the vanity path that a text is, where it spells a path at which no node is
 abbrev pub vanity_at : Content → List ℕ → Result (List (List ℕ)) PathFault → Option Pair
 vanity_at tree text (Ok at) = if is_none (node_at tree at) then option_map (λ path. pair_inside VanityPath (vanity_page path)) (earliest tree (vanity_nodes tree text)) else None
 vanity_at tree text (Err e) = None
@@ -92,15 +96,17 @@ deciding_pair tree host_node text (suc at) = option_or (option_map (λ pair. (at
 
 -- ---- the turns
 
+-- a text that leads away is answered with its status, and any other is looked at further
 abbrev pub outcome : Option ℕ → List ℕ → (List ℕ → MapAnswer) → MapAnswer
 outcome (Some status) text further = Away status text
 outcome None text further = further text
 
+-- a turn: what the pair that decides makes of a text; without one the text is the answer
 abbrev pub turn : List ℕ → (List ℕ → MapAnswer) → Option (ℕ × Pair) → MapAnswer
 turn text further None = Inside text
 turn text further (Some (at, pair)) = outcome pair.away (text_after pair at text) further
 
--- the answer of so many turns
+-- the answer of n turns
 abbrev pub answer_of : Content → ℕ → Option (List (List ℕ)) → List ℕ → MapAnswer
 answer_of tree zero host_node text = Inside text
 answer_of tree (suc n) host_node text = turn text (answer_of tree n None) (deciding_pair tree host_node text (suc (length text)))

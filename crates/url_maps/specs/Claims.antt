@@ -35,6 +35,7 @@ spells_alias path text alias = seg_ok alias && pointwise nat_eq text (text_of (k
 unfoldable pub node_claims_alias : List (List ℕ) → Node → List ℕ → Bool
 node_claims_alias path node text = not (length path == 0) && list_any (spells_alias path text) (mapping_texts (prop_at node (codes "sling:alias")))
 
+-- a path was read
 abbrev pub is_ok_path : Result (List (List ℕ)) PathFault → Bool
 is_ok_path (Ok path) = true
 is_ok_path (Err e) = false
@@ -51,6 +52,7 @@ node_claims_vanity_path node text = list_any (spells_vanity_path text) (mapping_
 unfoldable pub claims_alias : Content → List (List ℕ) → List ℕ → Bool
 claims_alias tree path text = option_map_or (λ node. node_claims_alias path node text) (node_at tree path) false
 
+-- and so for vanity paths
 unfoldable pub claims_vanity_path : Content → List (List ℕ) → List ℕ → Bool
 claims_vanity_path tree path text = option_map_or (λ node. node_claims_vanity_path node text) (node_at tree path) false
 

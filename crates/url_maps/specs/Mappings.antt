@@ -32,6 +32,7 @@ IsPlain tree host_node path = (k : ℕ) → length host_node ≤ k → k ≤ len
 abbrev pub is_redirect : ℕ → Bool
 is_redirect n = n == 301 || (n == 302 || (n == 303 || (n == 307 || n == 308)))
 
+-- the number as the status of a redirect, where it is one
 abbrev pub redirect_status : ℤ → Option ℕ
 redirect_status (pos n) = if is_redirect n then Some n else None
 redirect_status n = None
@@ -41,6 +42,7 @@ abbrev pub status_in : Option ℤ → ℕ
 status_in None = 302
 status_in (Some n) = option_map_or (λ s. s) (redirect_status n) 302
 
+-- the status of the redirect of a mapping's node
 abbrev pub mapping_status : Node → ℕ
 mapping_status node = status_in (mapping_number (prop_at node (codes "sling:status")))
 

@@ -36,7 +36,7 @@ pub record NotesRow (rows : ClaimRows) (patch : patches.PatchEntries) (path : Li
   pub claims : (text : List ℕ) (q : List (List ℕ)) → list_any (same_path q) (noted rows patch new text) ≡ (list_any (same_path q) (noted rows patch old text) || (same_path q path && after text))
   pub has : (text : List ℕ) → has_row new text ≡ (has_row old text || (before text || after text))
 
--- what the node that a row leaves at a path claims
+-- what the node that an entry leaves at a path claims
 abbrev pub left_vanity_path : List (List ℕ) → PatchNode → List ℕ → Bool
 left_vanity_path path row text = option_map_or (λ node. node_claims_vanity_path node text) (patches.left_by (Some row) None) false
 

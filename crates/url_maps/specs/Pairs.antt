@@ -28,6 +28,7 @@ pub record HasVanityPath (tree : Content) (prefix : List ℕ) (pair : Pair) : Ty
   pub target : pair.target ≡ text_of (vanity_page path)
   pub inside : pair.away ≡ None
 
+-- the tree has the pair, as one of this kind, with the prefix
 abbrev pub IsPairOf : PairKind → Content → Option (List (List ℕ)) → List ℕ → Pair → Type 0
 IsPairOf Mapping tree host_node prefix pair = HasMapping tree host_node prefix pair
 IsPairOf Alias tree host_node prefix pair = HasAlias tree prefix pair
@@ -61,5 +62,6 @@ pub record Decides (tree : Content) (host_node : Option (List (List ℕ))) (text
   pub applies : Applies tree host_node text at pair
   pub best : (k : ℕ) (other : Pair) → Applies tree host_node text k other → (k < at) ⊎ ((k ≡ at) × (rank pair.kind ≤ rank other.kind))
 
+-- no pair applies to a text
 abbrev pub HasNoPair : Content → Option (List (List ℕ)) → List ℕ → Type 0
 HasNoPair tree host_node text = (k : ℕ) (pair : Pair) → Applies tree host_node text k pair → ⊥

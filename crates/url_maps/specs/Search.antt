@@ -1,5 +1,5 @@
 -- What the functions of the search promise one another, and its words. A reader of the relation in Turns.antt needs none of it, and the
--- answer in Answers.antt `is_prefix_end`, `below_host_node` and `mapped_path` alone.
+-- answer in Answers.antt `is_prefix_end` and `mapped_path` alone.
 use Rattle.std.specs.Prelude.{◌≡◌, ◌≤◌, ◌<◌, ◌⊎◌, ◌&&◌, ◌||◌, ◌==◌, ◌++◌, ℕ, Bool, true, false, is_none, is_some, not, List, [], ◌∷◌, Option, Some, None, Result, Ok, Err, length, slice_index, take}
 use Rattle.std.specs.List.{list_any}
 use Rattle.std.specs.declared.cmp.Ordering.TheVariants.{Less}
@@ -52,8 +52,8 @@ IsBeyond tree host_node prefix reach = (pair : Pair) → reach < length prefix �
 abbrev pub is_passable : Content → List (List ℕ) → Bool
 is_passable tree path = is_some (node_at tree path) && not (has_match tree path)
 
--- So many first segments of a path, unless they are all, lead to no node below a host node, or to one with a pattern. The least such depth cuts
--- the most off: a greater one would cost time, as more prefixes are looked up, and never change an answer.
+-- The first segments of a path down to a depth, unless they are all, lead to no node below a host node, or to one with a pattern. The least such
+-- depth cuts the most off: a greater one would cost time, as more prefixes are looked up, and never change an answer.
 abbrev pub IsBarredAt : Content → List (List ℕ) → List (List ℕ) → ℕ → Type 0
 IsBarredAt tree host_node path depth = depth < length path → is_passable tree (host_node ++ take depth path) ≡ false
 
@@ -94,6 +94,7 @@ abbrev pub below_host_node : List (List ℕ) → Result (List (List ℕ)) PathFa
 below_host_node host_node (Ok below) = path_or_none (host_node ++ below)
 below_host_node host_node (Err e) = None
 
+-- the path of the node at which a prefix has its mapping: the host node, or one below it
 abbrev pub mapped_path : List (List ℕ) → List ℕ → Option (List (List ℕ))
 mapped_path host_node [] = Some host_node
 mapped_path host_node (b ∷ []) = None

@@ -65,7 +65,7 @@ named_kid tree path name = is_path (kid path name) && is_named (node_at tree (ki
 abbrev pub named_kids : Content → List (List ℕ) → List (List ℕ) → List (List ℕ)
 named_kids tree path names = filter (named_kid tree path) names
 
--- two lists begin with the same so many texts
+-- two lists begin with the same n texts
 pub record AreSameFirst (n : ℕ) (texts others : List (List ℕ)) : Type 0 where
   pub within : n ≤ length texts
   pub in_other : n ≤ length others
@@ -77,7 +77,7 @@ pub record AreSameLast (n : ℕ) (texts others : List (List ℕ)) : Type 0 where
   pub in_other : n ≤ length others
   pub same : drop (length texts - n) texts ≡ drop (length others - n) others
 
--- A row's node is among the parents unless the row leaves its kids with an alias, and its parent unless the row leaves its aliases.
+-- An entry's node is among the parents unless the entry leaves its kids with an alias, and its parent unless it leaves its aliases.
 pub record IsSettled (tree : Content) (path : List (List ℕ)) (row : PatchNode) (parents : List (List (List ℕ))) : Type 0 where
   pub kids : list_any (same_path path) parents ≡ false → named_kids tree path (kids_if (node_at tree path)) ≡ named_kids tree path (kids_if (patches.left_by (Some row) None))
   pub aliases : list_any (same_path (parent_of path)) parents ≡ false → alias_words (node_at tree path) ≡ alias_words (patches.left_by (Some row) None)

@@ -87,7 +87,7 @@ fn vanity_change(alloc: Global, index: &MapIndex, tree: &Tree, patch: &Patch) ->
     Ok(change)
 }
 
-// Notes what a row changes.
+// Notes what an entry changes.
 fn note_row(
     change: &mut ClaimsChange,
     alloc: Global,

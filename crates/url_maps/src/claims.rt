@@ -131,7 +131,7 @@ impl Claims {
         })
     }
 
-    // Makes room for so many more texts.
+    // Makes room for n more texts.
     pub(crate) fn make_room(&mut self, n: usize) -> Mem<()>
         ensures rows { self.new.rows ≡ self.old.rows }
         ensures ok { OnOk result (n ≤ self.new.room) }

@@ -26,7 +26,7 @@ pub(crate) fn changed_parents(alloc: Global, tree: &Tree, patch: &Patch) -> Mem<
     Ok(each_once(alloc, tree, parents.as_slice())?)
 }
 
-// Adds the node of a row, unless the row leaves its kids with an alias, and its parent, unless the row leaves its aliases.
+// Adds the node of an entry, unless the entry leaves its kids with an alias, and its parent, unless it leaves its aliases.
 fn push_changed(
     parents: &mut PathList,
     alloc: Global,
@@ -87,7 +87,7 @@ pub(crate) fn is_named(node: Option<&Node>) -> bool
     !alias_words(node).is_empty()
 }
 
-// The node that a row leaves at its path.
+// The node that an entry leaves at its path.
 pub(crate) fn left_by(row: &PatchNode) -> Option<&Node>
     ensures { option_copied result ≡ left_by (Some row.now) None }
 {

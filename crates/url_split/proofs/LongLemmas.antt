@@ -24,7 +24,7 @@ some_last false b e = e
 
 -- ---- the piece that is too long
 
--- the first piece has at least so many bytes
+-- the first piece has at least n bytes
 abbrev BeginsWith : ℕ → List (List ℕ) → Type 0
 BeginsWith n [] = ⊥
 BeginsWith n (piece ∷ parts) = n ≤ length piece
@@ -133,7 +133,7 @@ reached_shorter known text start shorter valid reached before =
 
 -- ---- the walk to that place
 
--- a text's last bytes, so many, have no slash
+-- a text's last n bytes have no slash
 pub record EndsInPiece (text : List ℕ) (n : ℕ) : Type 0 where
   pub front : List ℕ
   pub piece : List ℕ

@@ -4,6 +4,7 @@ use Rattle.std.specs.List.{list_any}
 use Rattle.url_split.specs.declared.decompose.Parts.{Parts}
 use Rattle.url_split.specs.Split.{is_dot, is_slash}
 
+-- not empty
 abbrev pub is_full : List ℕ → Bool
 is_full piece = not (length piece == 0)
 

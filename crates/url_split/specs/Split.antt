@@ -16,16 +16,19 @@ pub record Leads (known : List (List ℕ) → Bool) (text : List ℕ) (at : ℕ)
   pub reads : path_of (take at text) ≡ Ok path
   pub there : known path ≡ true
 
+-- the byte of a slash
 abbrev pub is_slash : ℕ → Bool
 is_slash b = b == 47
 
+-- the byte of a dot
 abbrev pub is_dot : ℕ → Bool
 is_dot b = b == 46
 
--- the last piece, which is the extension, and the pieces before it
+-- the last piece
 abbrev pub last_of : List (List ℕ) → List ℕ
 last_of pieces = slice_index_or pieces (length pieces - 1) []
 
+-- the pieces before the last one
 abbrev pub but_last : List (List ℕ) → List (List ℕ)
 but_last pieces = take (length pieces - 1) pieces
 
@@ -35,15 +38,17 @@ abbrev pub selectors_of : List ℕ → List (List ℕ)
 selectors_of [] = []
 selectors_of (dot ∷ rest) = filter (λ piece. not (length piece == 0)) (but_last (slice_split is_dot (before_first is_slash rest)))
 
+-- the last piece of that text, up to the next slash
 abbrev pub extension_of : List ℕ → List ℕ
 extension_of [] = []
 extension_of (dot ∷ rest) = last_of (slice_split is_dot (before_first is_slash rest))
 
+-- what begins with that slash
 abbrev pub suffix_of : List ℕ → List ℕ
 suffix_of [] = []
 suffix_of (dot ∷ rest) = drop (length (before_first is_slash rest)) rest
 
--- the decomposition of a text: the longest prefix that leads to a known path, and what follows it
+-- the decomposition of a text: the longest prefix, up to a dot or the end, that reads as a known path, and what follows it
 pub record IsSplit (known : List (List ℕ) → Bool) (text : List ℕ) (parts : Parts) : Type 0 where
   pub at : ℕ
   pub leads : Leads known text at parts.path
@@ -52,7 +57,7 @@ pub record IsSplit (known : List (List ℕ) → Bool) (text : List ℕ) (parts :
   pub extension : parts.extension ≡ extension_of (drop at text)
   pub suffix : parts.suffix ≡ suffix_of (drop at text)
 
--- no prefix leads to a known path
+-- no prefix up to a dot or the end reads as a known path
 abbrev pub IsLost : (List (List ℕ) → Bool) → List ℕ → Type 0
 IsLost known text = (k : ℕ) (path : List (List ℕ)) → Leads known text k path → ⊥
 
@@ -80,5 +85,6 @@ abbrev pub at_greatest : {A : Type 0} → (ℕ → Option A) → ℕ → Option 
 at_greatest f zero = None
 at_greatest f (suc n) = option_or (f n) (at_greatest f n)
 
+-- the decomposition of a text, if it has one
 unfoldable pub split_of : (List (List ℕ) → Bool) → List ℕ → Option Parts
 split_of known text = at_greatest (λ at. option_map (parts_at text at) (path_to known text at)) (suc (length text))

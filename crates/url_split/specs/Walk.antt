@@ -5,7 +5,7 @@ use Rattle.sp_base.specs.PathTexts.{spelled}
 use Rattle.sp_base.specs.Paths.{has_slash, is_long, is_path, is_under, parent_of, path_of}
 use Rattle.url_split.specs.Split.{Leads, is_slash}
 
--- a prefix of a text after which no cut but the text's end leads to a known path
+-- a prefix of a text after which no prefix up to a dot reads as a known path
 pub record IsReached (known : List (List ℕ) → Bool) (text start : List ℕ) : Type 0 where
   pub begins : start ≡ take (length start) text
   pub all : (k : ℕ) (path : List (List ℕ)) → length start ≤ k → k < length text → Leads known text k path → ⊥
@@ -14,7 +14,7 @@ pub record IsReached (known : List (List ℕ) → Bool) (text start : List ℕ) 
 abbrev pub HasParents : List ℕ → List (List ℕ) → Type 0
 HasParents text path = (k : ℕ) (read : List (List ℕ)) → k ≤ length text → path_of (take k text) ≡ Ok read → is_under path (parent_of read) ≡ true
 
--- so many bytes the first of some pieces have, as many as make a path, with a slash before each
+-- how many bytes the first of some pieces have with a slash before each, of which as many are taken as make a path
 pub record IsFitEnd (parts : List (List ℕ)) (end : ℕ) : Type 0 where
   pub many : ℕ
   pub fit : is_path (take many parts) ≡ true

@@ -101,7 +101,7 @@ fn parts_after(alloc: Global, path: Path, rest: &str) -> Mem<Parts>
 }
 
 fn cut_at_slash(text: &str) -> (&str, &str)
-    ensures front { result.0.now ≡ before_first is_slash text.now }
+    ensures prefix { result.0.now ≡ before_first is_slash text.now }
     ensures rest { text.now ≡ result.0.now ++ result.1.now }
 {
     match text.find('/') {

@@ -86,7 +86,7 @@ fn pieces_of(alloc: Global, text: &str) -> Result<Vec<&str>, AllocError>
     text.split('/').collect(alloc)
 }
 
-// A text up to the slash that stands after so many others, or all of it where there is none.
+// A text up to the slash that stands after n others, or all of it where there is none.
 fn before_slash(text: &str, n: usize) -> &str
     ensures { IsBeforeSlash n text.now result.now }
 {

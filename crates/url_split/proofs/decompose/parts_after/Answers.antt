@@ -26,7 +26,7 @@ returns-clause-selectors c =
     let count : vec_len c.in_ok-pieces.pieces ≡ length items = omega (arith, c.in_ok-pieces.pieces.ok) in
     c.in_ok-full_pieces.ensures
     ∙ ap (λ refs. full (map (λ piece. piece.now) refs)) (c.deref.ensures.value ∙ c.pop.ensures.rest ∙ ap (λ n. take (n - 1) items) count)
-    ∙ ap full (but_last-map (λ piece. piece.now) items ∙ ap but_last (c.in_ok-pieces.ensures ∙ ap (slice_split is_dot) c.cut_at_slash.ensures.front))
+    ∙ ap full (but_last-map (λ piece. piece.now) items ∙ ap but_last (c.in_ok-pieces.ensures ∙ ap (slice_split is_dot) c.cut_at_slash.ensures.prefix))
     ∙ ap selectors_of (sym dotted)
 
 pub returns-clause-extension : goal.returns-clause-extension
@@ -39,4 +39,4 @@ returns-clause-extension c =
     let same = rw last at c.unwrap_or-extension.ensures in
     c.in_ok-of-3.ensures ∙ ap (λ piece. piece.now) (same ∙ ap (λ n. get_or items (n - 1) c.unwrap_or-extension.result) count)
     ∙ last-map (λ piece. piece.now) items c.unwrap_or-extension.result some
-    ∙ ap last_of (c.in_ok-pieces.ensures ∙ ap (slice_split is_dot) c.cut_at_slash.ensures.front) ∙ ap extension_of (sym dotted)
+    ∙ ap last_of (c.in_ok-pieces.ensures ∙ ap (slice_split is_dot) c.cut_at_slash.ensures.prefix) ∙ ap extension_of (sym dotted)

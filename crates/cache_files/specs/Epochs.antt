@@ -11,6 +11,7 @@ use Rattle.docroot_format.specs.Texts.{epoch_text}
 use Rattle.cache_files.specs.declared.epoch.OpenFault.{OpenFault}
 use Rattle.cache_files.specs.declared.epoch.OpenFault.TheVariants.{Disk, Foreign, EpochEnd, NoMemory}
 
+-- the fault of an opening whose disk answers this
 abbrev pub open_fault : DiskFault → OpenFault
 open_fault Failed = Disk
 open_fault no_room = NoMemory

@@ -108,9 +108,11 @@ pub record OwesFault (farm : Farm) (w : RunState) (c : ℕ) (k : Line) (sky : Sk
 abbrev pub GivesDry : Bool → RunState → ℕ → Note → Type 0
 GivesDry dry w c note = ((m : Mood) → Allows dry m → GivesDue m w c (due_of_connection w c) note) × (IsTrue dry → ShowsLack w note)
 
+-- the same of notes, one after another, but for what they show
 abbrev pub ServesDry : Bool → RunState → ℕ → List Note → Type 0
 ServesDry dry w c notes = (m : Mood) → Allows dry m → Serves m w c notes
 
+-- the notes give all that is owed in such an event, and where one needs that mood a note shows it
 abbrev pub SettlesDry : Bool → RunState → ℕ → List Note → Type 0
 SettlesDry dry w c notes = ((m : Mood) → Allows dry m → Settles m w c notes) × IsWanting w (record { dry = dry }) notes
 
@@ -163,6 +165,7 @@ pub record Happened (Stands : RunState → Type 0) (w : RunState) (step : Step) 
   pub wanting : IsWanting (begun w (event_of step told turns ends) step) (record { dry = told.dry }) told.notes.items
   pub stands : Stands (after_event w (event_of step told turns ends))
 
+-- what was told is an event of this step, of each state of which the board was what is left
 abbrev pub BoardTells : Farm → Board → Board → Step → Told → Type 0
 BoardTells farm old new step told = (w : RunState) → BoardTied farm old w → Happened (BoardTied farm new) w step told
 

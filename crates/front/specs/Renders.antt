@@ -22,6 +22,7 @@ pub record Rendering : Type 0 where
   pub answer : Answer
   pub dry : Bool
 
+-- the rendering of the flight, if there is one
 abbrev pub rendering_of : Answer → Bool → Option Flying → List Rendering
 rendering_of answer dry None = []
 rendering_of answer dry (Some flying) = record { number = flying.number; request = flying.request; answer = answer; dry = dry } ∷ []
@@ -40,6 +41,7 @@ rendered_by w dry (Refused c) = []
 rendered_by w dry Idle = []
 rendered_by w dry Dry = []
 
+-- the same of notes, one after another
 abbrev pub renders_in : RunState → Bool → List Note → List Rendering
 renders_in w dry [] = []
 renders_in w dry (note ∷ notes) = rendered_by w dry note ++ renders_in (state_after_note w note) dry notes

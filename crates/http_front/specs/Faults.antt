@@ -3,6 +3,7 @@ use Rattle.std.specs.Prelude.{ℕ}
 use Rattle.http_front.specs.declared.fault.InFault.{InFault}
 use Rattle.http_front.specs.declared.fault.InFault.TheVariants.{BadHead, ManyHeaders, BadTarget, NoLength, BadLength, LongBody, LongHead, NoMemory}
 
+-- the status of a fault; Insufficient Storage where memory ran out (RFC 4918, section 11.5)
 abbrev pub fault_status : InFault → ℕ
 fault_status BadHead = 400
 fault_status ManyHeaders = 431

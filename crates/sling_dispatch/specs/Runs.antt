@@ -47,6 +47,7 @@ post_bytes host target form =
 
 -- ---- what lines do
 
+-- the flight that a line names: the one with a number, or the first that can be taken
 abbrev pub pick_of : Flight → Pick
 pick_of flight.First = First
 pick_of (flight.Numbered n) = Number n

@@ -9,6 +9,7 @@ use Rattle.cover_rules.specs.declared.stamp.Stamp.{Stamp}
 abbrev pub greatest_stamp : Stamp
 greatest_stamp = record { epoch = 18446744073709551615; count = 18446744073709551615 }
 
+-- a stamp that could be read, else the greatest
 abbrev pub stamp_or_greatest : Option (ℕ × ℕ) → Stamp
 stamp_or_greatest None = greatest_stamp
 stamp_or_greatest (Some stamp) = record { epoch = stamp.0; count = stamp.1 }

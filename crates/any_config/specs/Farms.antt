@@ -199,6 +199,10 @@ at_last_colon (c ∷ t) = cut_again c t (at_last_colon t)
 abbrev pub greatest_port : ℕ
 greatest_port = 65535
 
+-- the port of HTTP (RFC 9110, section 4.2.1)
+abbrev pub http_port : ℕ
+http_port = 80
+
 -- the glob of the whole text, or where it has a colon that of the part before its last one and the port
 abbrev pub host_cut : List ℕ → List ℕ → Option (List ℕ × List ℕ) → FarmOutcome (List GlobPiece × Option ℕ)
 host_cut name text None = glob name text >>= λ g. Ok (g, None)
@@ -229,19 +233,19 @@ name_or_localhost text = if is_host_name text then text else codes "localhost"
 
 -- the host and the port that are asked for a text, cut at its last colon
 abbrev pub asked_cut : List ℕ → Option (List ℕ × List ℕ) → List ℕ × ℕ
-asked_cut text None = (name_or_localhost text, 80)
-asked_cut text (Some cut) = (name_or_localhost cut.0, unwrap_or (decimal greatest_port cut.1) 80)
+asked_cut text None = (name_or_localhost text, http_port)
+asked_cut text (Some cut) = (name_or_localhost cut.0, unwrap_or (decimal greatest_port cut.1) http_port)
 
 -- those of a value: `localhost` and the port of HTTP where it is no word
 abbrev pub asked_in : AnyNode-F AnyNode → List ℕ × ℕ
 asked_in (AnyNode-F.Word text) = asked_cut text (at_last_colon text)
-asked_in (AnyNode-F.Pattern text) = (codes "localhost", 80)
-asked_in (AnyNode-F.Group ms) = (codes "localhost", 80)
+asked_in (AnyNode-F.Pattern text) = (codes "localhost", http_port)
+asked_in (AnyNode-F.Group ms) = (codes "localhost", http_port)
 
 -- the host and the port at which the publisher is asked: the first of the served ones where that is a name, else `localhost`, and
--- its port, else 80
+-- its port, else that of HTTP
 unfoldable pub asked : Members → List ℕ × ℕ
-asked [] = (codes "localhost", 80)
+asked [] = (codes "localhost", http_port)
 asked (m ∷ ms) = asked_in (out-AnyNode m.1)
 
 -- ---- the farm

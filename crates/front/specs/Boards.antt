@@ -7,6 +7,7 @@ use Rattle.std.specs.Option.{option_map}
 use Rattle.sp_base.specs.declared.answer.Answer.{Answer}
 use Rattle.sp_base.specs.declared.answer.Req.{Req}
 use Rattle.any_config.specs.declared.farm.Farm.{Farm}
+use Rattle.http_front.specs.Faults.{insufficient_storage}
 use Rattle.http_front.specs.Turns.{End}
 use Rattle.http_front.specs.declared.fault.InFault.{InFault}
 use Rattle.http_front.specs.declared.turn.Turn.{Turn}
@@ -122,7 +123,7 @@ first_point crowded admitted full = if crowded then Here 503 false else (if not 
 
 -- the same, or 507 where memory was wanting to find the point
 abbrev pub IsAnswering : Bool → Bool → Bool → Answering → Type 0
-IsAnswering crowded admitted full answering = (answering ≡ first_point crowded admitted full) ⊎ (answering ≡ Here 507 true)
+IsAnswering crowded admitted full answering = (answering ≡ first_point crowded admitted full) ⊎ (answering ≡ Here insufficient_storage true)
 
 -- one note was given, or none is owed, or the connection's end is
 abbrev pub ServedAs : Served → Farm → RunState → ℕ → Line → Sky → Type 0

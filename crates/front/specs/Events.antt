@@ -3,6 +3,7 @@ use Rattle.std.specs.Prelude.{◌≡◌, ◌+◌, ◌-◌, ◌++◌, ◌⊎◌, 
 use Rattle.std.specs.List.{find}
 use Rattle.std.specs.Map.{update}
 use Rattle.sp_base.specs.declared.answer.Answer.{Answer}
+use Rattle.http_front.specs.Faults.{insufficient_storage}
 use Rattle.http_front.specs.Turns.{End, SpellsTurns}
 use Rattle.http_front.specs.declared.turn.Turn.{Turn}
 use Rattle.connections.specs.Connections.{Connection, IsInPlaceOfDue, fed, fresh}
@@ -163,7 +164,7 @@ HappensBy w e (Lose pick) = LoseTo w e (picked pick is_any w.air)
 abbrev pub ShowsLack : RunState → Note → Type 0
 ShowsLack w (answered answer) = answer ≡ fixed_answer
 ShowsLack w (asked number c key) = ⊥
-ShowsLack w (Local c status) = status ≡ 507
+ShowsLack w (Local c status) = status ≡ insufficient_storage
 ShowsLack w (Rendered number answer) = answer ≡ fixed_answer
 ShowsLack w (Passed number) = ⊥
 ShowsLack w (Lost number) = ⊥

@@ -11,7 +11,7 @@ use Rattle.dispatch_rules.specs.Admission.{admits}
 use Rattle.dispatch_rules.specs.Asking.{publisher_ask}
 use Rattle.error_answers.specs.Errors.{error_answer}
 use Rattle.http_front.specs.Answers.{fixed_507}
-use Rattle.http_front.specs.Faults.{fault_status}
+use Rattle.http_front.specs.Faults.{fault_status, insufficient_storage}
 use Rattle.http_front.specs.declared.turn.Turn.{Turn}
 use Rattle.http_front.specs.declared.turn.Turn.TheVariants.{Continue, Whole}
 use Rattle.connections.specs.Slots.{Slot, Response, Awaits, IsWritten, local_response, request_slot, fault_slot, fixed_answer}
@@ -126,7 +126,7 @@ IsFirstPoint m w c request note (point ∷ later) = (PointApplies m w c request 
 -- the note treats the turn: by the first point that applies, or in a dry event by the fixed 507
 abbrev pub TreatedBy : Mood → RunState → ℕ → Turn → Note → Type 0
 TreatedBy m w c Continue note = ⊥
-TreatedBy m w c (Whole request) note = IsFirstPoint m w c request note points ⊎ (IsTrue m.dry × (note ≡ Local c 507))
+TreatedBy m w c (Whole request) note = IsFirstPoint m w c request note points ⊎ (IsTrue m.dry × (note ≡ Local c insufficient_storage))
 
 -- these bytes may be sent for the slot: its own, or in a dry event the fixed 507
 abbrev pub MaySend : Mood → Slot → List ℕ → Type 0
@@ -166,7 +166,7 @@ treated slot c = advanced (with_slot slot c)
 
 -- the slot of what the front answers by itself; where the connection is crowded, or with 507, it closes
 abbrev pub local_slot : Option Req → ℕ → Connection → Slot
-local_slot request status c = slot_for request (is_crowded c || status == 507) (local_response status)
+local_slot request status c = slot_for request (is_crowded c || status == insufficient_storage) (local_response status)
 
 -- the log with this entry more
 abbrev pub logged : Log → LogEntry → Log
@@ -208,7 +208,7 @@ published_for w request = w.publishing w.content (publisher_ask w.farm request)
 -- it, since by its contract none of the publisher's own answers has that (`IsNeverFixed`).
 abbrev pub content_rendered : RunState → Answer → Option Flying → Content
 content_rendered w answer None = w.content
-content_rendered w answer (Some flying) = if answer.status == 507 then w.content else (published_for w flying.request).content
+content_rendered w answer (Some flying) = if answer.status == insufficient_storage then w.content else (published_for w flying.request).content
 
 -- the state after a note
 abbrev pub state_after_note : RunState → Note → RunState

@@ -1,7 +1,7 @@
 //! Finds the head with which a stream begins, in its first bytes.
 ghost use Rattle.std.specs.Prelude.{◌≡◌, ◌≤◌, ℕ, IfOk, length};
 ghost use Rattle.http_front.specs.Turns.{longest_head, window};
-ghost use Rattle.http_front.specs.Fronts.{IsFront, IsStart, HoldsSomeHead};
+ghost use Rattle.http_front.specs.Fronts.{IsFront, IsStart, HoldsSomeHead, most_places};
 ghost use Rattle.http_front.specs.Heads.{AreWithin};
 
 use crate::fault::InFault;
@@ -59,7 +59,7 @@ fn window(stream: &[u8]) -> &[u8]
 // Most heads have fewer fields than there are places at hand. Those with more are read again with places for all.
 fn read_whole(alloc: Global, bytes: &[u8], places: &mut [HeaderSpan]) -> Mem<StreamStart>
     requires { length bytes.now ≤ longest_head }
-    ensures { IfOk result (IsFront bytes.now 8192) }
+    ensures { IfOk result (IsFront bytes.now most_places) }
 {
     match read_window(alloc, bytes, places)? {
         StreamStart::Whole(head, len) => Ok(StreamStart::Whole(head, len)),

@@ -28,7 +28,7 @@ failed s = Err s
 err_is : {A : Type 0} (s d : AnyStop) → failed {A = A} s ≡ failed {A = A} d → s ≡ d
 err_is s d e = cc
 
--- no byte of a run stands in front where the run is empty
+-- a text does not begin with a byte of a run where the run is empty
 run_empty : (run : Run) (t : List ℕ) → (run_len run t == 0) ≡ true → first_byte_passes (λ c. not (ends run c)) t ≡ false
 unfolding run_len
 run_empty run [] h = refl

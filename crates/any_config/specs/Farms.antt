@@ -39,6 +39,7 @@ FarmGives view (Err e) read = FarmFails e read
 
 -- ---- members and values
 
+-- the text is this name
 abbrev pub is_member_name : List ℕ → List ℕ → Bool
 is_member_name name text = pointwise nat_eq text name
 
@@ -51,6 +52,7 @@ member_value name (m ∷ ms) = if is_member_name name m.0 then Some m.1 else mem
 abbrev pub name_or : List ℕ → List ℕ → List ℕ
 name_or name group = if length name == 0 then group else name
 
+-- the members of a group; a pattern is not supported, and a word is of the wrong kind
 abbrev pub group_in : List ℕ → AnyNode-F AnyNode → FarmOutcome Members
 group_in name (AnyNode-F.Word text) = Err (BadKind name)
 group_in name (AnyNode-F.Pattern text) = Err (NotSupported name)
@@ -60,6 +62,7 @@ group_in name (AnyNode-F.Group ms) = Ok ms
 abbrev pub group_of : List ℕ → AnyNode → FarmOutcome Members
 group_of name value = group_in name (out-AnyNode value)
 
+-- the text of a word; a pattern is not supported, and a group is of the wrong kind
 abbrev pub member_word_in : List ℕ → AnyNode-F AnyNode → FarmOutcome (List ℕ)
 member_word_in name (AnyNode-F.Word text) = Ok text
 member_word_in name (AnyNode-F.Pattern text) = Err (NotSupported name)
@@ -69,6 +72,7 @@ member_word_in name (AnyNode-F.Group ms) = Err (BadKind name)
 abbrev pub member_word : List ℕ → AnyNode → FarmOutcome (List ℕ)
 member_word name value = member_word_in name (out-AnyNode value)
 
+-- the value, or the fault that it is missing
 abbrev pub or_missing : List ℕ → Option AnyNode → FarmOutcome AnyNode
 or_missing name None = Err (Missing name)
 or_missing name (Some value) = Ok value
@@ -77,6 +81,7 @@ or_missing name (Some value) = Ok value
 unfoldable pub needed_group : List ℕ → Members → FarmOutcome Members
 needed_group name ms = or_missing name (member_value name ms) >>= λ value. group_of name value
 
+-- the members of the group, none where there is no value
 abbrev pub group_or_none : List ℕ → Option AnyNode → FarmOutcome Members
 group_or_none name None = Ok []
 group_or_none name (Some value) = group_of name value
@@ -90,11 +95,13 @@ abbrev pub each_after : {A B : Type 0} → (A → FarmOutcome B) → List B → 
 each_after read found [] = Ok found
 each_after read found (x ∷ xs) = read x >>= λ y. each_after read (found ++ y ∷ []) xs
 
+-- the same from the first item on
 abbrev pub each : {A B : Type 0} → (A → FarmOutcome B) → List A → FarmOutcome (List B)
 each read xs = each_after read [] xs
 
 -- ---- numbers
 
+-- `0` to `9`
 abbrev pub is_config_digit : ℕ → Bool
 is_config_digit c = nat_le 48 c && nat_le c 57
 
@@ -108,10 +115,12 @@ unfoldable pub decimal : ℕ → List ℕ → Option ℕ
 decimal most [] = None
 decimal most (c ∷ t) = if c == 48 && not (length t == 0) then None else digits_after most 0 (c ∷ t)
 
+-- what is there, or the fault that the member is of the wrong kind
 abbrev pub or_bad : {A : Type 0} → List ℕ → Option A → FarmOutcome A
 or_bad name None = Err (BadKind name)
 or_bad name (Some x) = Ok x
 
+-- the number that a value writes, 0 without a value
 abbrev pub number_or_zero : List ℕ → ℕ → Option AnyNode → FarmOutcome ℕ
 number_or_zero name most None = Ok 0
 number_or_zero name most (Some value) = member_word name value >>= λ text. or_bad name (decimal most text)
@@ -122,6 +131,7 @@ member_number name most ms = number_or_zero name most (member_value name ms)
 
 -- ---- entries
 
+-- a glob that could be read, or the fault that the member is of the wrong kind
 abbrev pub glob_or_bad : List ℕ → Result (List GlobPiece) GlobFault → FarmOutcome (List GlobPiece)
 glob_or_bad name (Ok glob) = Ok glob
 glob_or_bad name (Err fault) = Err (BadKind name)
@@ -130,6 +140,7 @@ glob_or_bad name (Err fault) = Err (BadKind name)
 unfoldable pub glob : List ℕ → List ℕ → FarmOutcome (List GlobPiece)
 glob name text = glob_or_bad name (glob_of text)
 
+-- the glob that a value writes, none without a value
 abbrev pub glob_or_none : List ℕ → Option AnyNode → FarmOutcome (Option (List GlobPiece))
 glob_or_none name None = Ok None
 glob_or_none name (Some value) = member_word name value >>= λ text. glob name text >>= λ g. Ok (Some g)
@@ -138,6 +149,7 @@ glob_or_none name (Some value) = member_word name value >>= λ text. glob name t
 unfoldable pub glob_at : List ℕ → Members → FarmOutcome (Option (List GlobPiece))
 glob_at name ms = glob_or_none name (member_value name ms)
 
+-- `allow` or `deny`
 abbrev pub rule_type : List ℕ → FarmOutcome Bool
 rule_type text = if is_member_name (codes "allow") text then Ok true else (if is_member_name (codes "deny") text then Ok false else Err (BadKind (codes "type")))
 
@@ -178,6 +190,7 @@ abbrev pub cut_again : ℕ → List ℕ → Option (List ℕ × List ℕ) → Op
 cut_again c t (Some cut) = Some (c ∷ cut.0, cut.1)
 cut_again c t None = if c == 58 then Some ([], t) else None
 
+-- the two parts of a text, none where it has no colon
 abbrev pub at_last_colon : List ℕ → Option (List ℕ × List ℕ)
 at_last_colon [] = None
 at_last_colon (c ∷ t) = cut_again c t (at_last_colon t)
@@ -186,6 +199,11 @@ at_last_colon (c ∷ t) = cut_again c t (at_last_colon t)
 abbrev pub greatest_port : ℕ
 greatest_port = 65535
 
+-- the port of HTTP (RFC 9110, section 4.2.1)
+abbrev pub http_port : ℕ
+http_port = 80
+
+-- the glob of the whole text, or where it has a colon that of the part before its last one and the port
 abbrev pub host_cut : List ℕ → List ℕ → Option (List ℕ × List ℕ) → FarmOutcome (List GlobPiece × Option ℕ)
 host_cut name text None = glob name text >>= λ g. Ok (g, None)
 host_cut name text (Some cut) = do
@@ -209,31 +227,36 @@ is_host_byte c = is_letter_or_digit c || (c == 45 || (c == 95 || c == 46))
 abbrev pub is_host_name : List ℕ → Bool
 is_host_name text = not (length text == 0) && list_all is_host_byte text
 
+-- the text where it is a name, else `localhost`
 abbrev pub name_or_localhost : List ℕ → List ℕ
 name_or_localhost text = if is_host_name text then text else codes "localhost"
 
+-- the host and the port that are asked for a text, cut at its last colon
 abbrev pub asked_cut : List ℕ → Option (List ℕ × List ℕ) → List ℕ × ℕ
-asked_cut text None = (name_or_localhost text, 80)
-asked_cut text (Some cut) = (name_or_localhost cut.0, unwrap_or (decimal greatest_port cut.1) 80)
+asked_cut text None = (name_or_localhost text, http_port)
+asked_cut text (Some cut) = (name_or_localhost cut.0, unwrap_or (decimal greatest_port cut.1) http_port)
 
+-- those of a value: `localhost` and the port of HTTP where it is no word
 abbrev pub asked_in : AnyNode-F AnyNode → List ℕ × ℕ
 asked_in (AnyNode-F.Word text) = asked_cut text (at_last_colon text)
-asked_in (AnyNode-F.Pattern text) = (codes "localhost", 80)
-asked_in (AnyNode-F.Group ms) = (codes "localhost", 80)
+asked_in (AnyNode-F.Pattern text) = (codes "localhost", http_port)
+asked_in (AnyNode-F.Group ms) = (codes "localhost", http_port)
 
 -- the host and the port at which the publisher is asked: the first of the served ones where that is a name, else `localhost`, and
--- its port, else 80
+-- its port, else that of HTTP
 unfoldable pub asked : Members → List ℕ × ℕ
-asked [] = (codes "localhost", 80)
+asked [] = (codes "localhost", http_port)
 asked (m ∷ ms) = asked_in (out-AnyNode m.1)
 
 -- ---- the farm
 
+-- the members of the only farm; several are not supported
 abbrev pub only_in : Members → FarmOutcome Members
 only_in [] = Err (BadKind (codes "farms"))
 only_in (m ∷ []) = group_of (name_or m.0 (codes "farms")) m.1
 only_in (m ∷ n ∷ ms) = Err (NotSupported (codes "farms"))
 
+-- the members of a group, none of another value
 abbrev pub members_in : AnyNode-F AnyNode → Members
 members_in (AnyNode-F.Word text) = []
 members_in (AnyNode-F.Pattern text) = []
@@ -243,12 +266,15 @@ members_in (AnyNode-F.Group ms) = ms
 unfoldable pub only_farm : AnyNode → FarmOutcome Members
 only_farm top = needed_group (codes "farms") (members_in (out-AnyNode top)) >>= only_in
 
+-- the rules of the group of this name, which has to be there
 unfoldable pub needed_rules : List ℕ → Members → FarmOutcome (List Rule)
 needed_rules name ms = needed_group name ms >>= λ group. each (entry name rule) group
 
+-- the rules of the group of this name, none where it is missing
 unfoldable pub optional_rules : List ℕ → Members → FarmOutcome (List Rule)
 optional_rules name ms = optional_group name ms >>= λ group. each (entry name rule) group
 
+-- the entries of the filter, which has to be there
 unfoldable pub filters : Members → FarmOutcome (List Filter)
 filters ms = needed_group (codes "filter") ms >>= λ group. each (entry (codes "filter") filter) group
 

@@ -8,7 +8,7 @@ use Rattle.any_config.specs.Tokens.{comments_skipped, is_byte_at_front, is_confi
 use Rattle.any_config.specs.Read.{Members, deepest_group, ends_members, placed_answer}
 use Rattle.any_config.specs.Grammar.{IsValue, AreMembers}
 
--- whether a byte of this kind stands in front
+-- whether the text begins with a byte of this kind
 abbrev pub first_byte_passes : (ℕ → Bool) → List ℕ → Bool
 first_byte_passes test [] = false
 first_byte_passes test (c ∷ t) = test c
@@ -21,8 +21,8 @@ is_quote_mark c = c == 34 || c == 39
 abbrev pub begins_value : ℕ → Bool
 begins_value c = c == 123 || (is_quote_mark c || is_plain_byte c)
 
--- A member begins here, where so many groups may still open, and this is wrong with it: a slash without a name, a name or nothing before a byte that begins no
--- value, a mark that begins no text in quotes, a group too many.
+-- A member begins here, where groups may still nest to this depth, and this is wrong with it: a slash without a name, a name or nothing before a byte that begins
+-- no value, a mark that begins no text in quotes, a group nested too deep.
 pub data IsBroken : ℕ → List ℕ → AnyStop → Type 0 where
   slash : {depth : ℕ} {t : List ℕ} → is_byte_at_front 47 t ≡ true → first_byte_passes is_config_name_byte (drop 1 t) ≡ false → IsBroken depth t (stop.BadName (length t))
   no_value : {depth : ℕ} {t : List ℕ} (x : List ℕ × List ℕ) → member_name t ≡ Ok x → first_byte_passes begins_value x.1 ≡ false → IsBroken depth t (stop.BadName (length t))

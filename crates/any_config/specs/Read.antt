@@ -36,6 +36,7 @@ module _ (inner : List ℕ → TokenOutcome AnyNode) where
     m ← member t
     more_members k (found ++ m.0 ∷ []) (comments_skipped m.1))
 
+  -- all members from a place on, after its blanks and comments
   unfoldable pub members : List ℕ → TokenOutcome Members
   members t = more_members (length (comments_skipped t)) [] (comments_skipped t)
 
@@ -45,7 +46,7 @@ module _ (inner : List ℕ → TokenOutcome AnyNode) where
     ms ← members (drop 1 t)
     if is_byte_at_front 125 ms.1 then Ok (node.Group ms.0, drop 1 ms.1) else Err (stop.Unclosed (length t))
 
--- a group in a place where so many may still open
+-- a group in a place where groups may still nest this deep
 unfoldable pub group : ℕ → List ℕ → TokenOutcome AnyNode
 group zero t = Err (stop.TooDeep (length t))
 group (suc depth) t = opened (group depth) t

@@ -36,6 +36,7 @@ TokenGives view (Err e) read = TokenFails e read
 abbrev pub is_line_end : ℕ → Bool
 is_line_end c = c == 10 || c == 13
 
+-- a space, a tab, or the end of a line
 abbrev pub is_config_blank : ℕ → Bool
 is_config_blank c = c == 32 || (c == 9 || is_line_end c)
 
@@ -45,6 +46,7 @@ after_blanks_and_comments in_comment [] = []
 after_blanks_and_comments true (c ∷ t) = after_blanks_and_comments (not (is_line_end c)) t
 after_blanks_and_comments false (c ∷ t) = if c == 35 then after_blanks_and_comments true t else (if is_config_blank c then after_blanks_and_comments false t else c ∷ t)
 
+-- the same from a place outside of a comment on
 unfoldable pub comments_skipped : List ℕ → List ℕ
 comments_skipped t = after_blanks_and_comments false t
 
@@ -53,6 +55,7 @@ unfoldable pub is_byte_at_front : ℕ → List ℕ → Bool
 is_byte_at_front c [] = false
 is_byte_at_front c (d ∷ t) = d == c
 
+-- letters and digits of ASCII
 abbrev pub is_letter_or_digit : ℕ → Bool
 is_letter_or_digit c = (nat_le 65 c && nat_le c 90) || ((nat_le 97 c && nat_le c 122) || (nat_le 48 c && nat_le c 57))
 

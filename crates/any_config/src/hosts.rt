@@ -18,8 +18,8 @@ use std::alloc::Global;
 /// The greatest port.
 const GREATEST_PORT: u32 = 65_535;
 
-/// The port of HTTP.
-const HTTP_PORT: u16 = 80;
+/// The port of HTTP (RFC 9110, section 4.2.1).
+pub const HTTP_PORT: u16 = 80;
 
 // The text before its last colon, and the text after it.
 fn at_last_colon(text: &str) -> Option<(&str, &str)>

@@ -21,7 +21,7 @@ fn ends_members(text: &[u8]) -> bool
     text.is_empty() || is_at(b'}', text)
 }
 
-// A value of the member at which so many bytes are left.
+// A value of the member that begins where `at` bytes are left.
 #[cycle(reader)]
 #[tactic(auto, unfolding(crate::specs::Read::value))]
 fn value(alloc: Global, depth: usize, at: usize, text: &[u8]) -> Result<(AnyNode, &[u8]), AnyStop>

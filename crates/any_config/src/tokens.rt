@@ -181,7 +181,7 @@ fn quoted(alloc: Global, mark: u8, text: &[u8]) -> Result<(AnyNode, &[u8]), AnyS
     }
 }
 
-/// A value that is no group. Where there is none the fault is at the member, at which so many bytes are left.
+/// A value that is no group. Where there is none the fault is at the member, which begins where `at` bytes are left.
 #[tactic(auto, unfolding(crate::specs::Tokens::ungrouped_value))]
 pub fn leaf(alloc: Global, at: usize, text: &[u8]) -> Result<(AnyNode, &[u8]), AnyStop>
     ensures { TokenGives (λ x. (x.0, x.1.now)) result (spec.ungrouped_value at text.now) }

@@ -6,18 +6,19 @@ use Rattle.sp_outside.specs.Files.{Files, file_at, told_with}
 use Rattle.sp_outside.specs.declared.disk.DiskFault.{DiskFault}
 use Rattle.sp_outside.specs.declared.disk.DiskFault.TheVariants.{Failed, NoMemory as no_room}
 use Rattle.docroot_format.specs.Names.{epoch_name}
-use Rattle.docroot_format.specs.Readings.{epoch_of}
+use Rattle.docroot_format.specs.Readings.{epoch_of, greatest_number}
 use Rattle.docroot_format.specs.Texts.{epoch_text}
 use Rattle.cache_files.specs.declared.epoch.OpenFault.{OpenFault}
 use Rattle.cache_files.specs.declared.epoch.OpenFault.TheVariants.{Disk, Foreign, EpochEnd, NoMemory}
 
+-- the fault of an opening whose disk answers this
 abbrev pub open_fault : DiskFault → OpenFault
 open_fault Failed = Disk
 open_fault no_room = NoMemory
 
 -- the greatest number of a session
 abbrev pub last_epoch : ℕ
-last_epoch = 18446744073709551615
+last_epoch = greatest_number
 
 -- the number after one that was read
 abbrev pub after_epoch : Option ℕ → Result ℕ OpenFault

@@ -18,7 +18,8 @@ ghost use Rattle.cache_files.specs.Pages.{IsDropLeft, IsKey, IsPutLeft, IsStorab
 use docroot_format::{names_are_apart, texts_are_read_back, what_reads_is_its_text};
 use sp_outside::files_have_names;
 
-/// A session that is opened has a number above each stamp that earlier ones wrote, and the files then hold no later stamp than its own.
+/// A session that is opened has a number above each stamp in the files, and these then hold no stamp later than that, if they held none
+/// later than their own number before (`HasNoLaterStamp`).
 pub fn a_session_is_after_every_stamp()
     ensures above { (files : Files) (epoch : ℕ) (stamp : Stamp) → HasNoLaterStamp files → next_epoch files ≡ Ok epoch → HoldsStamp files stamp → stamp.epoch < epoch }
     ensures opened { (files : Files) (epoch : ℕ) → epoch < 2 ^ 64 → HasNoLaterStamp files → next_epoch files ≡ Ok epoch → HasNoLaterStamp (with_file files epoch_name (epoch_text epoch)) }

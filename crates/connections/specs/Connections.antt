@@ -30,10 +30,12 @@ pub data Due : Type 0 where
   Close : Due
   Nothing : Due
 
+-- what is due after all turns: the refusal of a fault, if they end by one
 abbrev pub due_at_end : End → Due
 due_at_end Waits = Nothing
 due_at_end (Breaks fault) = Refuse fault
 
+-- the next turn is due, or where there is none what is due after all turns
 abbrev pub due_at_turn : Option Turn → End → Due
 due_at_turn None ends = due_at_end ends
 due_at_turn (Some turn) ends = Treat turn
@@ -46,6 +48,7 @@ next_turn c = slice_get c.turns (length c.slots)
 abbrev pub due_unsent : Connection → Due
 due_unsent c = if c.over then Close else (if c.closing then Nothing else due_at_turn (next_turn c) c.ends)
 
+-- the next slot is due where it is answered
 abbrev pub due_at_slot : Option Slot → Connection → Due
 due_at_slot None c = due_unsent c
 due_at_slot (Some slot) c = if is_answered slot.response then Send slot else due_unsent c
@@ -66,12 +69,13 @@ IsInPlaceOfDue Nothing bytes = ⊥
 abbrev pub most_unsent : ℕ
 most_unsent = 64
 
--- the answers to so many of its requests are unsent that the next is refused
+-- the answers to `most_unsent` or more of its requests are unsent, so that the next is refused
 abbrev pub is_crowded : Connection → Bool
 is_crowded c = nat_le most_unsent (count_by (λ slot. is_final slot.response) (drop c.sent c.slots))
 
 -- ---- what happens to it
 
+-- a connection on which nothing came yet
 abbrev pub fresh : List ℕ → Connection
 fresh peer = record { peer = peer; stream = []; turns = []; ends = Waits; slots = []; sent = 0; closing = false; over = false }
 
@@ -79,6 +83,7 @@ fresh peer = record { peer = peer; stream = []; turns = []; ends = Waits; slots 
 abbrev pub with_slot : Slot → Connection → Connection
 with_slot slot c = record c { slots = c.slots ++ slot ∷ []; closing = c.closing || slot.closes }
 
+-- a connection whose next turn is this one: a Continue has its slot at once
 abbrev pub after_turn : Option Turn → Connection → Connection
 after_turn None c = c
 after_turn (Some Continue) c = with_slot interim_slot c
@@ -105,6 +110,7 @@ filled flight answer (slot ∷ slots) = if is_awaiting flight slot.response then
 abbrev pub with_landing : ℕ → Answer → Connection → Connection
 with_landing flight answer c = record c { slots = filled flight answer c.slots }
 
+-- the connection closes after these bytes of the slot, if there is one
 abbrev pub is_last_at : Option Slot → List ℕ → Bool
 is_last_at None bytes = false
 is_last_at (Some slot) bytes = is_last slot bytes

@@ -19,6 +19,7 @@ pub data Move : Type 0 where
   Sent : (sending : Sending) → Move
   Shut : Move
 
+-- the connection after what happened
 abbrev pub connection_after_move : Connection → Move → Connection
 connection_after_move c (Piece bytes turns ends) = fed bytes turns ends c
 connection_after_move c (Treatment slot) = advanced (with_slot slot c)
@@ -63,10 +64,12 @@ IsMove c (Landing flight answer) = Unit {0}
 IsMove c (Sent sending) = IsDueSending c sending
 IsMove c Shut = due c ≡ Close
 
+-- each of these may happen to the connection in the state that those before it left
 abbrev pub Follows : Connection → List Move → Type 0
 Follows c [] = Unit {0}
 Follows c (move ∷ moves) = IsMove c move × Follows (connection_after_move c move) moves
 
+-- the connection after all of these
 abbrev pub after_all : Connection → List Move → Connection
 after_all c [] = c
 after_all c (move ∷ moves) = after_all (connection_after_move c move) moves

@@ -6,11 +6,12 @@ use Rattle.sp_base.specs.declared.answer.Mark.TheVariants.{Plain}
 use Rattle.sp_base.specs.declared.answer.Req.{Req}
 use Rattle.error_answers.specs.Errors.{error_answer}
 use Rattle.http_front.specs.Answers.{answer_bytes, fixed_507, interim_100}
+use Rattle.http_front.specs.Faults.{insufficient_storage}
 use Rattle.connections.specs.declared.sending.Sending.{Sending}
 
 -- the answer in place of one for which no memory was there (RFC 4918, section 11.5): its status alone
 abbrev pub fixed_answer : Answer
-fixed_answer = record { status = 507; kind = []; location = []; mark = Plain; body = [] }
+fixed_answer = record { status = insufficient_storage; kind = []; location = []; mark = Plain; body = [] }
 
 -- What a slot is answered by: 100 Continue (RFC 9110, section 15.2.1), the fixed 507, what a flight will bring, or an answer.
 pub data Response : Type 0 where
@@ -28,7 +29,7 @@ pub record Slot : Type 0 where
 
 -- what is answered by a status alone: the answer of an error, or the fixed 507
 abbrev pub local_response : ℕ → Response
-local_response status = if status == 507 then Fixed else Says (error_answer status)
+local_response status = if status == insufficient_storage then Fixed else Says (error_answer status)
 
 -- it doesn't wait for a flight
 abbrev pub is_answered : Response → Bool

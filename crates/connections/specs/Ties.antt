@@ -13,6 +13,7 @@ use Rattle.connections.specs.Connections.{Connection}
 
 -- ---- replies
 
+-- it doesn't wait for a flight
 abbrev pub has_reply : Reply → Bool
 has_reply Interim = true
 has_reply Fixed = true
@@ -20,6 +21,7 @@ has_reply (Own status) = true
 has_reply (Awaits flight) = false
 has_reply (Says answer) = true
 
+-- it awaits this flight
 abbrev pub awaits : ℕ → Reply → Bool
 awaits flight Interim = false
 awaits flight Fixed = false
@@ -27,6 +29,7 @@ awaits flight (Own status) = false
 awaits flight (Awaits other) = nat_eq other flight
 awaits flight (Says answer) = false
 
+-- it answers a request, and is no interim response
 abbrev pub is_final_reply : Reply → Bool
 is_final_reply Interim = false
 is_final_reply Fixed = true
@@ -42,6 +45,7 @@ reply_bytes head_only closes (Own status) = answer_bytes head_only closes (error
 reply_bytes head_only closes (Awaits flight) = []
 reply_bytes head_only closes (Says answer) = answer_bytes head_only closes answer
 
+-- the bytes of the reply in its place
 abbrev pub place_bytes : AnswerPlace → List ℕ
 place_bytes place = reply_bytes place.head_only place.closes place.reply
 
@@ -85,12 +89,14 @@ pub record PlaceTied (place : AnswerPlace) (slot : Slot) : Type 0 where
   pub closes_is : place.closes ≡ slot.closes
   pub replies : ReplyTied place.reply slot.response
 
+-- each place is one that the slot at its position allows, and there are as many
 abbrev pub AllTied : List AnswerPlace → List Slot → Type 0
 AllTied [] [] = Unit {0}
 AllTied [] (slot ∷ slots) = ⊥
 AllTied (place ∷ places) [] = ⊥
 AllTied (place ∷ places) (slot ∷ slots) = PlaceTied place slot × AllTied places slots
 
+-- none of the slots waits for a flight
 abbrev pub AllAnswered : List Slot → Type 0
 AllAnswered [] = Unit {0}
 AllAnswered (slot ∷ slots) = (is_answered slot.response ≡ true) × AllAnswered slots

@@ -123,7 +123,7 @@ impl Outbox {
         }
     }
 
-    /// Whether the answers to so many requests are unsent that the next is refused.
+    /// Whether the answers to `MOST_UNSENT` or more requests are unsent, so that the next is refused.
     pub fn is_crowded(&self) -> bool
         ensures { (c : Connection) → Tied self.now c → result ≡ model.is_crowded c }
     {

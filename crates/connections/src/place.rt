@@ -5,7 +5,7 @@ ghost use Rattle.connections.specs.Slots as model;
 ghost use Rattle.connections.specs.Ties.{PlaceTied, ReplyTied, awaits as awaiting, is_final_reply, has_reply as answered, place_bytes};
 
 use error_answers::error_answer;
-use http_front::{answer_bytes, fixed_507, interim_100};
+use http_front::{INSUFFICIENT_STORAGE, answer_bytes, fixed_507, interim_100};
 use sp_base::{Answer, ByteBuf, Mark, Mem, Req};
 use std::alloc::Global;
 
@@ -155,7 +155,7 @@ fn is_fixed_answer(answer: &Answer) -> bool
 {
     let status = answer.status;
     let size = answer.body.bytes().len();
-    status == 507
+    status == INSUFFICIENT_STORAGE
         && answer.kind.text().is_empty()
         && answer.location.text().is_empty()
         && answer.mark == Mark::Plain

@@ -48,6 +48,7 @@ stat_folder level key = take (stat_depth_of level key) key.folder
 abbrev pub outdates : ℕ → Bool → Invalidation → PageKey → Bool
 outdates level auto inv key = not inv.only && (auto && is_under (parent_of (handle_of inv)) (stat_folder level key))
 
+-- the invalidation covers the page: it deletes or outdates it
 abbrev pub covers : ℕ → Bool → Invalidation → PageKey → Bool
 covers level auto inv key = deletes inv key || outdates level auto inv key
 

@@ -5,6 +5,7 @@ use Rattle.sp_base.specs.Paths.{mangled, parent_of, pieces, text_of}
 use Rattle.cover_rules.specs.declared.page.PageKey.{PageKey}
 use Rattle.cover_rules.specs.Names.{has_file_name}
 
+-- a `.` stands in the segment
 abbrev pub has_dot : List ℕ → Bool
 has_dot seg = list_any (λ b. b == 46) seg
 
@@ -32,5 +33,6 @@ page_key_of path = key_at (mangled path)
 abbrev pub page_path : PageKey → List (List ℕ)
 page_path key = key.folder ++ pieces key.file
 
+-- the text of a page's path
 abbrev pub page_text : PageKey → List ℕ
 page_text key = text_of (page_path key)

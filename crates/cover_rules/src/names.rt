@@ -1,6 +1,6 @@
 //! How long a segment's file name is.
 ghost use Rattle.std.specs.Prelude.{◌≡◌, ◌++◌, ◌≤◌, length};
-ghost use Rattle.cover_rules.specs.Names.{file_byte, file_name, is_plain_name_byte};
+ghost use Rattle.cover_rules.specs.Names.{file_byte, file_name, is_plain_name_byte, longest_page_name};
 ghost use Rattle.cover_rules.specs.Names as spec;
 ghost use Rattle.sp_base.specs.Paths.{mangled_seg};
 
@@ -25,7 +25,7 @@ fn width(b: u8) -> usize
 
 // How long the file name of a text is.
 fn name_length(text: &str) -> usize
-    requires { length text.now ≤ 200 }
+    requires { length text.now ≤ longest_page_name }
     ensures length { result ≡ length (file_name text.now) }
     ensures most { result ≤ 600 }
 {

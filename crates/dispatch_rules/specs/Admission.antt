@@ -16,16 +16,20 @@ use Rattle.dispatch_rules.specs.UrlParts.{stem, selectors, extension, suffix}
 abbrev pub request_host : Farm → Req → List ℕ
 request_host farm req = str_to_ascii_lowercase (if length req.host == 0 then farm.ask_host else req.host)
 
+-- the port that a request asks for: that of the farm where the request names no host
 abbrev pub request_port : Farm → Req → ℕ
 request_port farm req = if length req.host == 0 then farm.ask_port else req.port
 
+-- an entry without a port serves any
 abbrev pub has_port : Option ℕ → ℕ → Bool
 has_port None port = true
 has_port (Some own) port = own == port
 
+-- the entry, a glob and a port, is for this host and port
 abbrev pub serves : List ℕ → ℕ → (List GlobPiece × Option ℕ) → Bool
 serves host port entry = is_match entry.0 (chars host) && has_port entry.1 port
 
+-- an entry of the farm is for the host and the port of the request
 abbrev pub is_served : Farm → Req → Bool
 is_served farm req = list_any (serves (request_host farm req) (request_port farm req)) farm.hosts
 
@@ -43,5 +47,6 @@ abbrev pub applies : Req → Filter → Bool
 applies req entry = fits entry.line req.line && (fits entry.method req.method && (fits entry.url (text_of req.path) && (fits entry.path (stem (text_of req.path))
     && (fits entry.selectors (selectors (text_of req.path)) && (fits entry.extension (extension (text_of req.path)) && (fits entry.suffix (suffix (text_of req.path)) && fits entry.query (request_query req)))))))
 
+-- a host of the farm is asked, and the filter allows the request
 abbrev pub admits : Farm → Req → Bool
 admits farm req = is_served farm req && decision (applies req) (λ entry. entry.allow) farm.filter

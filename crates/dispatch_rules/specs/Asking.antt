@@ -12,6 +12,7 @@ abbrev pub text_or_none : Option (List ℕ) → List ℕ
 text_or_none None = []
 text_or_none (Some value) = if is_utf8 value then value else []
 
+-- the method is POST (RFC 9110, section 9.3.3)
 abbrev pub is_post_request : Req → Bool
 is_post_request req = pointwise nat_eq req.method (codes "POST")
 

@@ -22,6 +22,7 @@ ignores farm query = list_all (λ pair. allows farm.ignored (utf8_lossy (decode 
 abbrev pub is_shared : Farm → Req → Bool
 is_shared farm req = farm.authorized || is_none (field_of req.heads (codes "authorization"))
 
+-- the method is GET, the answer may be shared, and it depends on no parameter of the query
 abbrev pub may_keep : Farm → Req → Bool
 may_keep farm req = pointwise nat_eq req.method (codes "GET") && (is_shared farm req && ignores farm (unwrap_or req.query []))
 
@@ -37,11 +38,13 @@ cache_key farm req = if may_keep farm req then option_and_then (allowed_key farm
 abbrev pub is_auto : Farm → PageKey → Bool
 is_auto farm key = allows farm.auto (page_text key)
 
+-- the answer is not marked
 abbrev pub is_plain_mark : Mark → Bool
 is_plain_mark Plain = true
 is_plain_mark NoCache = false
 is_plain_mark NoStore = false
 is_plain_mark MustRevalidate = false
 
+-- an answer with status 200 and no mark
 abbrev pub is_storable : Answer → Bool
 is_storable answer = answer.status == 200 && is_plain_mark answer.mark

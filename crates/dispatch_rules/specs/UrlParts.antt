@@ -2,9 +2,11 @@
 use Rattle.std.specs.Prelude.{◌≡◌, ◌==◌, ◌+◌, ◌-◌, ℕ, Bool, not, List, [], drop, take, length, filter, flat_map, slice_get, unwrap_or, ◌∷◌}
 use Rattle.std.specs.List.{slice_split, before_first}
 
+-- `.`
 abbrev pub is_url_dot : ℕ → Bool
 is_url_dot b = b == 46
 
+-- `/`
 abbrev pub is_url_slash : ℕ → Bool
 is_url_slash b = b == 47
 
@@ -28,6 +30,7 @@ url_pieces text = slice_split is_url_dot (url_ending text)
 abbrev pub extension : List ℕ → List ℕ
 extension text = unwrap_or (slice_get (url_pieces text) (length (url_pieces text) - 1)) []
 
+-- a piece that isn't empty
 abbrev pub is_full_piece : List ℕ → Bool
 is_full_piece piece = not (length piece == 0)
 

@@ -105,7 +105,7 @@ stats a b small_a small_b e = (same_place (mangled a) (mangled b) (codes ".stat"
 low_glyph : (d : ℕ) → d < 16 → digit_glyph true d ≡ 37 → ⊥
 low_glyph d small e = grind (arith, nat_tests)
 
--- a byte taken off the front leaves the end
+-- without its first byte a text ends as before
 peel : (mark b : ℕ) (p : Bool) (xs t : List ℕ) → is_plain_name_byte b ≡ p → written p b ++ xs ≡ t ++ 37 ∷ mark ∷ [] → (rest : List ℕ) × (xs ≡ rest ++ 37 ∷ mark ∷ [])
 peel mark b true xs [] plain e = absurd (never_percent b plain (head_of_two b 37 xs (mark ∷ []) e).0)
 peel mark b true xs (c ∷ t) plain e = (t, (head_of_two b c xs (t ++ 37 ∷ mark ∷ []) e).1)
@@ -124,7 +124,7 @@ no_ending mark (b ∷ s) t e =
     let p = peel mark b (is_plain_name_byte b) (file_name s) t refl e in
     no_ending mark s p.0 p.1
 
--- a segment's name, and a folder's, taken off the front leave the end
+-- without a segment's name at its beginning, or a folder's, a text ends as before
 pub after_segment : (mark : ℕ) (s xs t : List ℕ) → file_name s ++ xs ≡ t ++ 37 ∷ mark ∷ [] → (rest : List ℕ) × (xs ≡ rest ++ 37 ∷ mark ∷ [])
 unfolding file_name
 after_segment mark [] xs t e = (t, e)

@@ -7,6 +7,7 @@ use Rattle.sp_outside.specs.declared.disk.DiskFault.TheVariants.{Failed, NoMemor
 use Rattle.docroot_format.specs.declared.fault.FileFault.{FileFault}
 use Rattle.docroot_format.specs.declared.fault.FileFault.TheVariants.{Disk, NoMemory}
 
+-- the fault of a call on files whose disk answers this
 abbrev pub disk_file_fault : DiskFault → FileFault
 disk_file_fault Failed = Disk
 disk_file_fault no_room = NoMemory

@@ -38,6 +38,7 @@ IsFolder folder = (mangled folder ≡ folder) × IsTrue (have_names folder)
 abbrev pub is_place : List (List ℕ) → List ℕ → Bool
 is_place folder file = have_names folder && (has_file_name file && nat_lt 0 (length file))
 
+-- where the number of the session stands
 abbrev pub epoch_name : List ℕ
 epoch_name = codes ".epoch"
 

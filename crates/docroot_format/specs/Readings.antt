@@ -3,9 +3,11 @@ use Rattle.std.specs.Prelude.{◌==◌, ◌&&◌, ◌+◌, ◌*◌, ◌-◌, ℕ
 use Rattle.std.specs.List.{list_all, starts_with}
 use Rattle.std.specs.Cmp.Lexicographic.{pointwise}
 
+-- `0` to `9`
 abbrev pub is_digit : ℕ → Bool
 is_digit b = nat_le 48 b && nat_le b 57
 
+-- the greatest number: 2^64 - 1
 abbrev pub greatest_number : ℕ
 greatest_number = 18446744073709551615
 
@@ -35,6 +37,7 @@ number_in_front text = if begins_number text then Some (digits_from 0 text) else
 unfoldable pub after_word : List ℕ → List ℕ → Option (List ℕ)
 after_word word text = if starts_with nat_eq text word then Some (drop (length word) text) else None
 
+-- the line feed with which such a file ends, and nothing else
 abbrev pub is_end : List ℕ → Bool
 is_end text = pointwise nat_eq text (codes "\n")
 
@@ -69,6 +72,7 @@ pub record HeadLine : Type 0 where
   pub size : ℕ
   pub kind : List ℕ
 
+-- the rest of a head after its stamp: the length and the media type of the body
 unfoldable pub body_of : (ℕ × ℕ) → List ℕ → Option HeadLine
 body_of stamp text = option_and_then (λ n. option_map (λ kind. record { epoch = stamp.0; count = stamp.1; size = n.0; kind = kind }) (option_and_then stored_kind (after_word (codes " ") n.1))) (option_and_then number_in_front (after_word (codes " ") text))
 

@@ -9,5 +9,6 @@ head_text epoch count size kind = codes "page 1 " ++ decimal epoch ++ codes " " 
 abbrev pub stat_text : ℕ → ℕ → List ℕ
 stat_text epoch count = codes "stat 1 " ++ decimal epoch ++ codes " " ++ decimal count ++ codes "\n"
 
+-- the number of a session
 abbrev pub epoch_text : ℕ → List ℕ
 epoch_text epoch = codes "epoch 1 " ++ decimal epoch ++ codes "\n"

@@ -1,5 +1,6 @@
 //! The names of the files of the docroot.
 ghost use Rattle.std.specs.Prelude.{◌≡◌, ◌≤◌, ◌++◌, ◌∷◌, [], IfOk, IsTrue, OnOk, length, string_bytes};
+ghost use Rattle.sp_base.specs.Paths.{most_segments};
 ghost use Rattle.sp_outside.specs.Files.{IsName};
 ghost use Rattle.cover_rules.specs.Names as file;
 ghost use Rattle.docroot_format.specs.Names as spec;
@@ -52,7 +53,7 @@ fn push_piece(name: &mut String, seg: &str) -> Mem<()>
 
 fn folder_name(alloc: Global, folder: &Path) -> Mem<String>
     ensures name { IfOk result (λ name. string_bytes name ≡ spec.folder_name folder.now) }
-    ensures deep { length folder.now ≤ 64 }
+    ensures deep { length folder.now ≤ most_segments }
 {
     // That a path has at most 64 segments is a clause of its depth.
     let _depth = folder.depth();

@@ -130,7 +130,7 @@ number-at n air f there =
     grind (arith, is)
 
 -- ---- the request that a flight is for
--- so many flights were asked, the one with this number among them; and if it is in the air, it is for this request
+-- `most` flights were asked, the one with number `n` among them; and if it is in the air, it is for this request
 pub record IsAskedFor (air : List Flying) (most n : ℕ) (request : Req) : Type 0 where
   pub within : n ≤ most
   pub same : (f : Flying) → flight_at n air ≡ Some f → f.request ≡ request

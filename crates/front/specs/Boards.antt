@@ -7,6 +7,7 @@ use Rattle.std.specs.Option.{option_map}
 use Rattle.sp_base.specs.declared.answer.Answer.{Answer}
 use Rattle.sp_base.specs.declared.answer.Req.{Req}
 use Rattle.any_config.specs.declared.farm.Farm.{Farm}
+use Rattle.http_front.specs.Faults.{insufficient_storage}
 use Rattle.http_front.specs.Turns.{End}
 use Rattle.http_front.specs.declared.fault.InFault.{InFault}
 use Rattle.http_front.specs.declared.turn.Turn.{Turn}
@@ -108,9 +109,11 @@ pub record OwesFault (farm : Farm) (w : RunState) (c : ℕ) (k : Line) (sky : Sk
 abbrev pub GivesDry : Bool → RunState → ℕ → Note → Type 0
 GivesDry dry w c note = ((m : Mood) → Allows dry m → GivesDue m w c (due_of_connection w c) note) × (IsTrue dry → ShowsLack w note)
 
+-- the same of notes, one after another, but for what they show
 abbrev pub ServesDry : Bool → RunState → ℕ → List Note → Type 0
 ServesDry dry w c notes = (m : Mood) → Allows dry m → Serves m w c notes
 
+-- the notes give all that is owed in such an event, and where one needs that mood a note shows it
 abbrev pub SettlesDry : Bool → RunState → ℕ → List Note → Type 0
 SettlesDry dry w c notes = ((m : Mood) → Allows dry m → Settles m w c notes) × IsWanting w (record { dry = dry }) notes
 
@@ -120,7 +123,7 @@ first_point crowded admitted full = if crowded then Here 503 false else (if not 
 
 -- the same, or 507 where memory was wanting to find the point
 abbrev pub IsAnswering : Bool → Bool → Bool → Answering → Type 0
-IsAnswering crowded admitted full answering = (answering ≡ first_point crowded admitted full) ⊎ (answering ≡ Here 507 true)
+IsAnswering crowded admitted full answering = (answering ≡ first_point crowded admitted full) ⊎ (answering ≡ Here insufficient_storage true)
 
 -- one note was given, or none is owed, or the connection's end is
 abbrev pub ServedAs : Served → Farm → RunState → ℕ → Line → Sky → Type 0
@@ -163,6 +166,7 @@ pub record Happened (Stands : RunState → Type 0) (w : RunState) (step : Step) 
   pub wanting : IsWanting (begun w (event_of step told turns ends) step) (record { dry = told.dry }) told.notes.items
   pub stands : Stands (after_event w (event_of step told turns ends))
 
+-- what was told is an event of this step, of each state of which the board was what is left
 abbrev pub BoardTells : Farm → Board → Board → Step → Told → Type 0
 BoardTells farm old new step told = (w : RunState) → BoardTied farm old w → Happened (BoardTied farm new) w step told
 

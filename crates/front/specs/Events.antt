@@ -3,6 +3,7 @@ use Rattle.std.specs.Prelude.{◌≡◌, ◌+◌, ◌-◌, ◌++◌, ◌⊎◌, 
 use Rattle.std.specs.List.{find}
 use Rattle.std.specs.Map.{update}
 use Rattle.sp_base.specs.declared.answer.Answer.{Answer}
+use Rattle.http_front.specs.Faults.{insufficient_storage}
 use Rattle.http_front.specs.Turns.{End, SpellsTurns}
 use Rattle.http_front.specs.declared.turn.Turn.{Turn}
 use Rattle.connections.specs.Connections.{Connection, IsInPlaceOfDue, fed, fresh}
@@ -27,6 +28,7 @@ pub record Event : Type 0 where
   pub turns : List Turn
   pub ends : End
 
+-- the notes that name a mood: in a dry one `Dry`
 abbrev pub mood_notes : Mood → List Note
 mood_notes m = if m.dry then Dry ∷ [] else []
 
@@ -50,6 +52,7 @@ abbrev pub gone : RunState → ℕ → Option Connection → RunState
 gone w c None = w
 gone w c (Some line) = record w { line = update nat_eq w.line c None; lines = w.lines - 1 }
 
+-- the state once a step has begun, before its notes
 abbrev pub begun : RunState → Event → Step → RunState
 begun w e (Opened c peer) = opened w c peer (w.line c)
 begun w e (Piece c bytes) = on_line w c (fed bytes e.turns e.ends)
@@ -74,21 +77,26 @@ is_picked First flying = true
 abbrev pub picked : Pick → (Flying → Bool) → List Flying → Option Flying
 picked pick can air = find (λ flying. is_picked pick flying && can flying) air
 
+-- the flight has an answer
 abbrev pub is_rendered : Flying → Bool
 is_rendered flying = is_some flying.rendered
 
+-- the flight has none yet
 abbrev pub is_unrendered : Flying → Bool
 is_unrendered flying = not (is_rendered flying)
 
+-- any flight
 abbrev pub is_any : Flying → Bool
 is_any flying = true
 
 -- ---- the notes of each step
 
+-- the notes of an opening: it does nothing where the connection is there, and is refused where there is no room
 abbrev pub opening : ℕ → ℕ → Option Connection → List Note
 opening c lines (Some line) = Idle ∷ []
 opening c lines None = if nat_le most_lines lines then Refused c ∷ [] else []
 
+-- the notes of a client that goes: it does nothing where the connection isn't there
 abbrev pub going : Option Connection → List Note
 going None = Idle ∷ []
 going (Some line) = []
@@ -98,6 +106,7 @@ pub record PieceFeeds (w : RunState) (e : Event) (c : ℕ) (bytes : List ℕ) (l
   pub spells : line.closing ≡ false → SpellsTurns (line.stream ++ bytes) (line.turns ++ e.turns) e.ends
   pub settles : Settles e.mood (on_line w c (fed bytes e.turns e.ends)) c e.body
 
+-- a piece does nothing where the connection isn't there
 abbrev pub PieceTo : RunState → Event → ℕ → List ℕ → Option Connection → Type 0
 PieceTo w e c bytes None = e.body ≡ Idle ∷ []
 PieceTo w e c bytes (Some line) = PieceFeeds w e c bytes line
@@ -125,14 +134,17 @@ pub record LeadsNotes (w : RunState) (m : Mood) (first : Note) (c : ℕ) (notes 
 abbrev pub MayLand : RunState → Mood → Flying → Answer → Note → Type 0
 MayLand w m flying answer note = note ≡ Passed flying.number
 
+-- a landing with this answer; it does nothing where the flight has none
 abbrev pub DeliverAs : RunState → Event → Flying → Option Answer → Type 0
 DeliverAs w e flying None = e.body ≡ Idle ∷ []
 DeliverAs w e flying (Some answer) = (note : Note) × MayLand w e.mood flying answer note × LeadsNotes w e.mood note flying.line e.body
 
+-- a landing of the flight; it does nothing where there is none
 abbrev pub DeliverTo : RunState → Event → Option Flying → Type 0
 DeliverTo w e None = e.body ≡ Idle ∷ []
 DeliverTo w e (Some flying) = DeliverAs w e flying flying.rendered
 
+-- a loss of the flight, and then what its connection is owed; it does nothing where there is none
 abbrev pub LoseTo : RunState → Event → Option Flying → Type 0
 LoseTo w e None = e.body ≡ Idle ∷ []
 LoseTo w e (Some flying) = LeadsNotes w e.mood (Lost flying.number) flying.line e.body
@@ -152,7 +164,7 @@ HappensBy w e (Lose pick) = LoseTo w e (picked pick is_any w.air)
 abbrev pub ShowsLack : RunState → Note → Type 0
 ShowsLack w (answered answer) = answer ≡ fixed_answer
 ShowsLack w (asked number c key) = ⊥
-ShowsLack w (Local c status) = status ≡ 507
+ShowsLack w (Local c status) = status ≡ insufficient_storage
 ShowsLack w (Rendered number answer) = answer ≡ fixed_answer
 ShowsLack w (Passed number) = ⊥
 ShowsLack w (Lost number) = ⊥
@@ -171,6 +183,7 @@ SomeShowsLack w (note ∷ notes) = ShowsLack w note ⊎ SomeShowsLack (state_aft
 abbrev pub IsWanting : RunState → Mood → List Note → Type 0
 IsWanting w m notes = IsTrue m.dry → SomeShowsLack w notes
 
+-- the event happens in this state: by its step, and it says that memory was wanting only where a note shows it
 abbrev pub Happens : RunState → Event → Type 0
 Happens w e = HappensBy w e e.step × IsWanting (begun w e e.step) e.mood e.body
 
@@ -179,6 +192,7 @@ abbrev pub Run : RunState → List Event → Type 0
 Run w [] = Unit {0}
 Run w (e ∷ events) = Happens w e × Run (after_event w e) events
 
+-- the state after events
 abbrev pub state_after_events : RunState → List Event → RunState
 state_after_events w [] = w
 state_after_events w (e ∷ events) = state_after_events (after_event w e) events

@@ -28,6 +28,7 @@ sent_by c m (Refused d) = []
 sent_by c m Idle = []
 sent_by c m Dry = []
 
+-- the same of notes, one after another
 abbrev pub sent_in : ℕ → Mood → List Note → List Sending
 sent_in c m notes = flat_map (sent_by c m) notes
 
@@ -42,6 +43,7 @@ opens_connection c (Render pick) notes = false
 opens_connection c (Deliver pick) notes = false
 opens_connection c (Lose pick) notes = false
 
+-- what was sent once further events have happened: where one opens the connection, it begins anew
 abbrev pub sent_after : ℕ → List Sending → List Event → List Sending
 sent_after c sent [] = sent
 sent_after c sent (e ∷ events) = sent_after c (if opens_connection c e.step e.body then [] else sent ++ sent_in c e.mood e.body) events
@@ -74,6 +76,7 @@ brought_by c (Render pick) notes = []
 brought_by c (Deliver pick) notes = []
 brought_by c (Lose pick) notes = []
 
+-- what came once further events have happened: where one opens the connection, it begins anew
 abbrev pub came_after : ℕ → List ℕ → List Event → List ℕ
 came_after c came [] = came
 came_after c came (e ∷ events) = came_after c (if opens_connection c e.step e.body then [] else came ++ brought_by c e.step e.body) events

@@ -12,6 +12,7 @@ use Rattle.front.specs.declared.line.Line.{Line}
 use Rattle.front.specs.declared.line.Taken.{Taken}
 use Rattle.front.specs.declared.line.Taken.TheVariants.{Request, Fault, Waiting, Over}
 
+-- how the turns of a stream end: by the fault, if there is one
 abbrev pub end_of : Option InFault → End
 end_of None = Waits
 end_of (Some fault) = Breaks fault
@@ -28,7 +29,7 @@ IsPaired [] = Unit {0}
 IsPaired (Continue ∷ turns) = IsReady turns × IsPaired turns
 IsPaired (Whole request ∷ turns) = IsPaired turns
 
--- so many of the turns are treated, and these are left
+-- the first `count` turns are treated, and these are left
 pub record Splits (turns : List Turn) (count : ℕ) (left : List Turn) : Type 0 where
   pub done : List Turn
   pub counted : length done ≡ count
@@ -85,6 +86,7 @@ begins_with_continue [] = false
 begins_with_continue (Continue ∷ turns) = true
 begins_with_continue (Whole request ∷ turns) = false
 
+-- what was taken is what is due of the connection, and this is what the line then is of it
 abbrev pub TakenAs : Taken → Connection → Line → Type 0
 TakenAs (Request request) c k = (due c ≡ Treat (Whole request)) × Owes k c
 TakenAs (Fault fault) c k = (due c ≡ Refuse fault) × Tied k.outbox c
@@ -98,6 +100,7 @@ owed (Fault fault) = 2
 owed Waiting = 0
 owed Over = 0
 
+-- at most how many notes a fault can still give
 abbrev pub fault_work : Option InFault → ℕ
 fault_work None = 0
 fault_work (Some fault) = 2

@@ -11,7 +11,7 @@ use Rattle.dispatch_rules.specs.Admission.{admits}
 use Rattle.dispatch_rules.specs.Asking.{publisher_ask}
 use Rattle.error_answers.specs.Errors.{error_answer}
 use Rattle.http_front.specs.Answers.{fixed_507}
-use Rattle.http_front.specs.Faults.{fault_status}
+use Rattle.http_front.specs.Faults.{fault_status, insufficient_storage}
 use Rattle.http_front.specs.declared.turn.Turn.{Turn}
 use Rattle.http_front.specs.declared.turn.Turn.TheVariants.{Continue, Whole}
 use Rattle.connections.specs.Slots.{Slot, Response, Awaits, IsWritten, local_response, request_slot, fault_slot, fixed_answer}
@@ -45,11 +45,13 @@ without number air = filter (λ flying. not (has_number number flying)) air
 abbrev pub with_rendered : Answer → Flying → Flying
 with_rendered answer flying = record flying { rendered = Some answer }
 
+-- the flight is rendered if it has this number
 abbrev pub with_rendered_at : ℕ → Answer → Flying → Flying
 with_rendered_at number answer flying = if has_number number flying then with_rendered answer flying else flying
 
 -- ---- what is owed
 
+-- what a connection is owed, nothing where it isn't there
 abbrev pub line_due : Option Connection → Due
 line_due None = Nothing
 line_due (Some c) = connection.due c
@@ -68,9 +70,11 @@ pub data Point : Type 0 where
   Full : Point
   Free : Point
 
+-- the points in their order
 abbrev pub points : List Point
 points = Crowded ∷ Hidden ∷ Full ∷ Free ∷ []
 
+-- the connection is there, and the answers to too many of its requests are unsent
 abbrev pub is_crowded_line : Option Connection → Bool
 is_crowded_line None = false
 is_crowded_line (Some c) = is_crowded c
@@ -79,9 +83,11 @@ is_crowded_line (Some c) = is_crowded c
 abbrev pub most_flights : ℕ
 most_flights = 256
 
+-- the most flights that are asked in a run
 abbrev pub most_numbers : ℕ
 most_numbers = 2 ^ 63
 
+-- no further flight is asked
 abbrev pub is_front_full : RunState → Bool
 is_front_full w = nat_le most_flights (length w.air) || nat_le most_numbers (flights_asked w.log.entries)
 
@@ -117,9 +123,10 @@ IsFirstPoint m w c request note (point ∷ later) = (PointApplies m w c request 
 
 -- ---- what a note gives
 
+-- the note treats the turn: by the first point that applies, or in a dry event by the fixed 507
 abbrev pub TreatedBy : Mood → RunState → ℕ → Turn → Note → Type 0
 TreatedBy m w c Continue note = ⊥
-TreatedBy m w c (Whole request) note = IsFirstPoint m w c request note points ⊎ (IsTrue m.dry × (note ≡ Local c 507))
+TreatedBy m w c (Whole request) note = IsFirstPoint m w c request note points ⊎ (IsTrue m.dry × (note ≡ Local c insufficient_storage))
 
 -- these bytes may be sent for the slot: its own, or in a dry event the fixed 507
 abbrev pub MaySend : Mood → Slot → List ℕ → Type 0
@@ -157,15 +164,19 @@ on_line w c change = record w { line = update nat_eq w.line c (option_map change
 abbrev pub treated : Slot → Connection → Connection
 treated slot c = advanced (with_slot slot c)
 
+-- the slot of what the front answers by itself; where the connection is crowded, or with 507, it closes
 abbrev pub local_slot : Option Req → ℕ → Connection → Slot
-local_slot request status c = slot_for request (is_crowded c || status == 507) (local_response status)
+local_slot request status c = slot_for request (is_crowded c || status == insufficient_storage) (local_response status)
 
+-- the log with this entry more
 abbrev pub logged : Log → LogEntry → Log
 logged log entry = record log { entries = entry ∷ log.entries }
 
+-- a flight that was just asked
 abbrev pub new_flight : ℕ → ℕ → Req → Flying
 new_flight number c request = record { number = number; line = c; request = request; rendered = None }
 
+-- a flight is asked for the request that is treated: its connection has a slot that awaits it, and the log an entry
 abbrev pub asked_by : RunState → ℕ → ℕ → Option PageKey → Option Req → RunState
 asked_by w number c key None = w
 asked_by w number c key (Some request) =
@@ -197,7 +208,7 @@ published_for w request = w.publishing w.content (publisher_ask w.farm request)
 -- it, since by its contract none of the publisher's own answers has that (`IsNeverFixed`).
 abbrev pub content_rendered : RunState → Answer → Option Flying → Content
 content_rendered w answer None = w.content
-content_rendered w answer (Some flying) = if answer.status == 507 then w.content else (published_for w flying.request).content
+content_rendered w answer (Some flying) = if answer.status == insufficient_storage then w.content else (published_for w flying.request).content
 
 -- the state after a note
 abbrev pub state_after_note : RunState → Note → RunState
@@ -213,6 +224,7 @@ state_after_note w (Refused c) = w
 state_after_note w Idle = w
 state_after_note w Dry = w
 
+-- the state after notes
 abbrev pub afters : RunState → List Note → RunState
 afters w [] = w
 afters w (note ∷ notes) = afters (state_after_note w note) notes

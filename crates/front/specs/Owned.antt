@@ -71,6 +71,7 @@ lost_by (Refused c) = []
 lost_by Idle = []
 lost_by Dry = []
 
+-- the same of notes, one after another
 abbrev pub lost_in : List Note → List ℕ
 lost_in notes = flat_map lost_by notes
 

@@ -6,6 +6,7 @@ use Rattle.sp_base.specs.declared.answer.Req.{Req}
 use Rattle.resource_tree.specs.Content.{Content}
 use Rattle.any_config.specs.declared.farm.Farm.{Farm}
 use Rattle.dispatch_rules.specs.Asking.{publisher_ask}
+use Rattle.http_front.specs.Faults.{insufficient_storage}
 use Rattle.front.specs.declared.flying.Flying.{Flying}
 use Rattle.front.specs.declared.note.Note.{Note}
 use Rattle.front.specs.declared.note.Note.TheVariants.{Answer as answered, Ask as asked, Local, Rendered, Passed, Lost, Sent, Shut, Refused, Idle, Dry}
@@ -22,6 +23,7 @@ pub record Rendering : Type 0 where
   pub answer : Answer
   pub dry : Bool
 
+-- the rendering of the flight, if there is one
 abbrev pub rendering_of : Answer → Bool → Option Flying → List Rendering
 rendering_of answer dry None = []
 rendering_of answer dry (Some flying) = record { number = flying.number; request = flying.request; answer = answer; dry = dry } ∷ []
@@ -40,6 +42,7 @@ rendered_by w dry (Refused c) = []
 rendered_by w dry Idle = []
 rendered_by w dry Dry = []
 
+-- the same of notes, one after another
 abbrev pub renders_in : RunState → Bool → List Note → List Rendering
 renders_in w dry [] = []
 renders_in w dry (note ∷ notes) = rendered_by w dry note ++ renders_in (state_after_note w note) dry notes
@@ -51,7 +54,7 @@ renders_of w (e ∷ events) = renders_in (begun w e e.step) e.mood.dry e.body ++
 
 -- none of the publisher's own answers has the status of the fixed one
 abbrev pub IsNeverFixed : Publishing → Type 0
-IsNeverFixed publishing = (content : Content) (ask : Ask) → (publishing content ask).answer.status ≢ 507
+IsNeverFixed publishing = (content : Content) (ask : Ask) → (publishing content ask).answer.status ≢ insufficient_storage
 
 -- Each answer is the publisher's to its request, asked by the farm, on the content that the renders before it left; or, exactly where
 -- memory was wanting, the fixed one, and then the content stays. The last content is that after them all.

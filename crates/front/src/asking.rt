@@ -4,7 +4,7 @@ ghost use Rattle.connections.specs.Slots.{fixed_answer as fixed};
 ghost use Rattle.front.specs.Publishers as spec;
 
 use any_config::Farm;
-use http_front::Target;
+use http_front::{INSUFFICIENT_STORAGE, Target};
 use sp_base::{Answer, Ask, ByteBuf, Mark, Mem, TextBuf};
 use std::alloc::Global;
 
@@ -28,7 +28,7 @@ pub(crate) fn fixed_answer(alloc: Global) -> Mem<Answer>
     ensures { IfOk result (λ a. a ≡ fixed) }
 {
     Ok(Answer {
-        status: 507,
+        status: INSUFFICIENT_STORAGE,
         kind: TextBuf::of(alloc, "")?,
         location: TextBuf::of(alloc, "")?,
         mark: Mark::Plain,

@@ -1,4 +1,4 @@
-//! The flights in the air.
+//! A flight: a request that was asked, and its answer.
 use sp_base::{Answer, Req};
 
 /// A flight in the air: a request that the publisher was asked for a connection, and its answer once it is rendered.

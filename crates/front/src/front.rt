@@ -4,6 +4,7 @@ ghost use Rattle.front.specs.declared.step.Step.TheVariants.{Direct, Render};
 ghost use Rattle.front.specs.Events.{Extends};
 ghost use Rattle.front.specs.Fronts.{IsGiven, BoardStands, TellsStep};
 ghost use Rattle.dispatch_rules.specs.Asking.{publisher_ask};
+ghost use Rattle.http_front.specs.Faults.{insufficient_storage};
 ghost use Rattle.front.specs.Publishers.{direct_answer};
 ghost use Rattle.front.specs.States.{start_of};
 
@@ -112,7 +113,7 @@ impl<R: Renderer + Drop> Front<R> {
         requires { at < length self.old.board.sky.flights.items }
         ensures ok { IfOk result (λ a. (flying : Flying) → slice_get self.old.board.sky.flights.items at ≡ Some flying → a ≡ (R.publishing (R.content self.old.renderer) (publisher_ask self.old.farm flying.request)).answer) }
         ensures after { OnOk result ((flying : Flying) → slice_get self.old.board.sky.flights.items at ≡ Some flying → R.content self.new.renderer ≡ (R.publishing (R.content self.old.renderer) (publisher_ask self.old.farm flying.request)).content) }
-        ensures status { IfOk result (λ a. a.status ≢ 507) }
+        ensures status { IfOk result (λ a. a.status ≢ insufficient_storage) }
         ensures unchanged { OnErr result (R.content self.new.renderer ≡ R.content self.old.renderer) }
         ensures farm { self.new.farm ≡ self.old.farm }
         ensures board { self.new.board ≡ self.old.board }

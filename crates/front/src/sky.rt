@@ -1,4 +1,4 @@
-//! The flights in the air.
+//! The flights in the air: which are there, and how many were asked.
 ghost use Rattle.std.specs.Prelude.{◌≡◌, ◌+◌, ◌<◌, ◌++◌, ◌∷◌, ◌&&◌, [], false, Some, IfOk, OnOk, length, position, remove, slice_get, slice_set};
 ghost use Rattle.front.specs.Boards.{is_full_sky};
 ghost use Rattle.front.specs.Events as events;

@@ -4,6 +4,7 @@ ghost use Rattle.connections.specs.Connections.{Connection};
 ghost use Rattle.connections.specs.Slots.{local_response, request_slot};
 ghost use Rattle.connections.specs.Ties.{ReplyTied};
 ghost use Rattle.dispatch_rules.specs.Admission as rules;
+ghost use Rattle.http_front.specs.Faults.{insufficient_storage};
 ghost use Rattle.front.specs.Boards.{GivesDry, IsAnswering, Meets, OwesRequest, is_full_sky};
 ghost use Rattle.front.specs.declared.treat.Answering.TheVariants as variant;
 ghost use Rattle.front.specs.Lines.{Holds, Owes, work_of};
@@ -16,6 +17,7 @@ use crate::sky::Sky;
 use any_config::Farm;
 use connections::{AnswerPlace, Reply};
 use dispatch_rules::admits;
+use http_front::INSUFFICIENT_STORAGE;
 use sp_base::{Mem, Req};
 use std::alloc::Global;
 
@@ -78,7 +80,7 @@ fn answering_of(alloc: Global, farm: &Farm, request: &Req, crowded: bool, sky: &
         return Answering::Here(503, false);
     }
     let Ok(admitted) = admits(alloc, farm, request) else {
-        return Answering::Here(507, true);
+        return Answering::Here(INSUFFICIENT_STORAGE, true);
     };
     if !admitted {
         return Answering::Here(404, false);
@@ -91,10 +93,10 @@ fn answering_of(alloc: Global, farm: &Farm, request: &Req, crowded: bool, sky: &
 
 // Answers a request with this status. Where the connection is crowded, or memory was wanting, it closes.
 fn turn_away(request: &Req, status: u16, crowded: bool, line: &mut Line) -> Mem<()>
-    ensures holds { OnOk result ((c : Connection) → Owes line.old c → Holds line.new (treated (request_slot request.now (crowded || status == 507) (local_response status)) c)) }
+    ensures holds { OnOk result ((c : Connection) → Owes line.old c → Holds line.new (treated (request_slot request.now (crowded || status == insufficient_storage) (local_response status)) c)) }
     ensures work { OnOk result (work_of line.new ≤ work_of line.old + 1) }
 {
-    let closes = crowded || status == 507;
+    let closes = crowded || status == INSUFFICIENT_STORAGE;
     let reply = local_reply(status);
     line.push(AnswerPlace::of_request(request, closes, reply))?;
     Ok(())
@@ -104,7 +106,7 @@ fn turn_away(request: &Req, status: u16, crowded: bool, line: &mut Line) -> Mem<
 pub(crate) fn local_reply(status: u16) -> Reply
     ensures { ReplyTied result (local_response status) }
 {
-    if status == 507 {
+    if status == INSUFFICIENT_STORAGE {
         Reply::Fixed
     } else {
         Reply::Own(status)

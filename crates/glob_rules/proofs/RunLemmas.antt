@@ -200,7 +200,7 @@ pub first_later : (run : List GlobPiece) (c : ℕ) (cs : List ℕ) → after_run
 unfolding after_first_run
 first_later run c cs h = sym (ap (λ (o : Option (List ℕ)). option_or o (after_first_run run cs)) h)
 
--- pieces, cut at a star: the list behind it is taken as the rest of a slice pattern
+-- pieces, cut at a star: the list after it is taken as the rest of a slice pattern
 star_and_next : (later : List GlobPiece) → IsAfterRun later → 0 < length later → later ≡ Star ∷ take (length later - 1) (drop 1 later)
 star_and_next [] star lt = absurd (omega arith)
 star_and_next (piece ∷ pieces) star lt =

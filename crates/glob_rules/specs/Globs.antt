@@ -21,6 +21,7 @@ stands_for AnyChar c = true
 stands_for (Literal d) c = c == d
 stands_for (Class class) c = in_class c class
 
+-- the piece is a star
 abbrev pub is_star : GlobPiece → Bool
 is_star Star = true
 is_star AnyChar = false
@@ -35,6 +36,7 @@ pub data Matches : List GlobPiece → List ℕ → Type 0 where
 
 -- The same as a test.
 
+-- no character is left
 abbrev pub is_empty_text : List ℕ → Bool
 is_empty_text [] = true
 is_empty_text (c ∷ cs) = false
@@ -49,9 +51,11 @@ abbrev pub at_first : GlobPiece → (List ℕ → Bool) → List ℕ → Bool
 at_first piece test [] = false
 at_first piece test (c ∷ cs) = stands_for piece c && test cs
 
+-- whether a piece takes a run of characters (a star any, another piece the first alone), and a test holds of those after it
 abbrev pub after_piece : GlobPiece → (List ℕ → Bool) → List ℕ → Bool
 after_piece piece test cs = if is_star piece then somewhere test cs else at_first piece test cs
 
+-- the glob matches the characters, from the first to the last
 unfoldable pub is_match : List GlobPiece → List ℕ → Bool
 is_match [] cs = is_empty_text cs
 is_match (piece ∷ pieces) cs = after_piece piece (is_match pieces) cs

@@ -24,6 +24,7 @@ is_negation c = c == 33 || c == 94
 abbrev pub plain_piece : ℕ → GlobPiece
 plain_piece c = if c == 42 then Star else (if c == 63 then AnyChar else Literal c)
 
+-- the range of characters from the one to the other
 abbrev pub range : ℕ → ℕ → CharRange
 range first last = record { first = first; last = last }
 

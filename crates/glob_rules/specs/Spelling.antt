@@ -23,7 +23,7 @@ pub data AreRanges : List ℕ → List CharRange → Type 0 where
   two_ends : {first last : ℕ} {cs : List ℕ} {ranges : List CharRange} → AreRanges cs ranges → AreRanges (first ∷ 45 ∷ last ∷ cs) (range first last ∷ ranges)
   alone : {c : ℕ} {cs : List ℕ} {ranges : List CharRange} → (GoesOn cs → ⊥) → AreRanges cs ranges → AreRanges (c ∷ cs) (range c c ∷ ranges)
 
--- What stands between `[` and `]` spells a class: `!` or `^` in front makes it that of all other characters.
+-- What stands between `[` and `]` spells a class: with `!` or `^` before the ranges it is that of all other characters.
 pub data IsClass : List ℕ → CharClass → Type 0 where
   others : {c : ℕ} {cs : List ℕ} {ranges : List CharRange} → is_negation c ≡ true → AreRanges cs ranges → IsClass (c ∷ cs) (record { negated = true; ranges = ranges })
   these : {cs : List ℕ} {ranges : List CharRange} → ((c : ℕ) (more : List ℕ) → cs ≡ c ∷ more → is_negation c ≡ false) → AreRanges cs ranges → IsClass cs (record { negated = false; ranges = ranges })
@@ -37,7 +37,7 @@ pub data Spells : List ℕ → List GlobPiece → Type 0 where
   class : {cs : List ℕ} {pieces : List GlobPiece} (inside rest : List ℕ) (class : CharClass) → NonePass is_close inside → IsClass inside class → cs ≡ inside ++ 93 ∷ rest → Spells rest pieces
       → Spells (91 ∷ cs) (Class class ∷ pieces)
 
--- a glob, and then a `[` that no `]` closes, with so many bytes before it
+-- a glob, and then a `[` that no `]` closes, at this place: the number of bytes before it
 pub record IsOpen (place : ℕ) (cs : List ℕ) : Type 0 where
   pub front : List ℕ
   pub glob : List GlobPiece

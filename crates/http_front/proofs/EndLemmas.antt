@@ -135,7 +135,7 @@ end_one s (Continue ∷ Whole r ∷ turns) e f x y =
 
 -- ---- at such an end
 
--- a run of a target's bytes stands at the front of each target that ends after it
+-- each target that ends after a run of a target's bytes begins with that run
 further : (front target after more : List ℕ) → AllPass is_uri_byte front → AllPass is_uri_byte target → front ++ more ≡ target ++ 32 ∷ after → (k : List ℕ) × AllPass is_uri_byte k × (target ≡ front ++ k)
 further [] target after more passes visible e = (target, visible, refl)
 further (b ∷ front) [] after more passes visible e = let pass = All-head Passes b front passes in absurd (cc)

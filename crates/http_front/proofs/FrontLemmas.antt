@@ -1,4 +1,4 @@
--- What the parser finds at the front of a stream.
+-- What the parser finds at the beginning of a stream.
 use Rattle.std.proofs.Common.{◌≡◌, ◌<◌, ◌≤◌, ◌+◌, ◌*◌, ℕ, true, List, [], ◌∷◌, ◌++◌, length, take, drop, sym, ◌∙◌, ap, subst, arith, length-append, flat_map, suc, Some}
 use Rattle.std.specs.Prelude.{All, IsUtf8}
 use Rattle.std.proofs.lemmas.Bool.Decides.{nat_tests}
@@ -130,7 +130,7 @@ fields_long (f ∷ fields) all =
 section_in : (h : RequestHead) → length (flat_map print_field h.fields) ≤ length (print_request h)
 section_in h = omega (arith, head_long h, length-append (flat_map print_field h.fields) (print_end h.last))
 
--- so many bytes don't hold more fields than 8,192
+-- bytes that are no more than a head may have don't hold more fields than 8,192
 pub room_is_enough : (bytes : List ℕ) → length bytes ≤ longest_head → RequestExceeds 8192 bytes → ⊥
 room_is_enough bytes small e =
     let front = e.0 in

@@ -50,7 +50,7 @@ front_same (x ∷ xs) (y ∷ ys) r q e l =
 none_some : {A : Type 0} (o : Option A) (x : A) → o ≡ None → o ≡ Some x → ⊥
 none_some o x n s = let no : ⊥ = cc (n, s) in no
 
--- ---- the head at the front
+-- ---- the head with which a stream begins
 
 pub begins_append : (s more : List ℕ) (h : RequestHead) (rest : List ℕ) → BeginsWith s h rest → BeginsWith (s ++ more) h (rest ++ more)
 begins_append s more h rest b = record { reads = ReadsRequest-append s h rest more b.reads; fits = b.fits }
@@ -58,7 +58,7 @@ begins_append s more h rest b = record { reads = ReadsRequest-append s h rest mo
 pub begins_same : (s more : List ℕ) (h k : RequestHead) (r q : List ℕ) → BeginsWith s h r → BeginsWith (s ++ more) k q → (h ≡ k) × (r ++ more ≡ q)
 begins_same s more h k r q b c = request_prefix_free s more h k r q b.reads c.reads
 
--- a head at the front stands in the window
+-- a head with which a stream begins stands in the window
 pub in_window : (s : List ℕ) (h : RequestHead) (rest : List ℕ) → BeginsWith s h rest → (after : List ℕ) × ReadsRequest (window s) h after
 in_window s h rest b =
     let n = longest_head in
@@ -130,7 +130,7 @@ stops_short s more a r (Breaks fault) x stops = ⊎_elim
     none)
     stops
 
--- ---- the request at the front
+-- ---- the request with which a stream begins
 
 whole_long : (a : AskedHead) (bytes : List ℕ) (request : Req) (rest more : List ℕ) → HasBody a bytes request rest → length (bytes ++ more) < a.body_length → ⊥
 whole_long a bytes request rest more body short =

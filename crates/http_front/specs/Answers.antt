@@ -23,6 +23,7 @@ field_line field = field.0 ++ codes ": " ++ field.1 ++ crlf_bytes
 abbrev pub unless_empty : List ℕ → List ℕ → List Field
 unless_empty name value = if length value == 0 then [] else (name, value) ∷ []
 
+-- a visible byte of ASCII, or a space
 abbrev pub is_printable : ℕ → Bool
 is_printable b = nat_le 32 b && nat_le b 126
 
@@ -59,6 +60,7 @@ is_without_content status = status == 204 || status == 304
 abbrev pub content_length : Bool → Answer → List ℕ
 content_length head_only a = if is_without_content a.status || (head_only && (length a.body == 0)) then [] else decimal (length a.body)
 
+-- the value of a Connection field (RFC 9112, section 9.6)
 abbrev pub connection : Bool → List ℕ
 connection close = if close then codes "close" else []
 

@@ -1,4 +1,4 @@
--- What is found at the front of a stream, in so many bytes as a head may have.
+-- What is found at the beginning of a stream, in as many bytes as a head may have. Only private functions and proofs cite this.
 use Rattle.std.specs.Prelude.{◌≡◌, ◌⊎◌, ◌<◌, ◌≤◌, ℕ, List, length, drop}
 use Rattle.httparse.specs.Grammar.{RequestHead, print_request, ReadsRequest, HasNoRequest, NeverHasRequest, MayBecomeRequest}
 use Rattle.httparse.specs.Spans.{RequestExceeds}
@@ -10,6 +10,10 @@ use Rattle.http_front.specs.declared.window.StreamStart.TheVariants.{Whole, Part
 use Rattle.http_front.specs.Heads.{request_parts_at, parts_of}
 use Rattle.http_front.specs.Turns.{BeginsAsking, BeginsRefused, AwaitsHead, HasNoHead, longest_head}
 
+-- places for as many fields as no head has
+abbrev pub most_places : ℕ
+most_places = 8192
+
 -- the first bytes hold this head, and its parts stand at these places
 pub record HoldsHead (bytes : List ℕ) (fields : List HeaderSpan) (spans : RequestSpans) (head : RequestHead) : Type 0 where
   pub reads : ReadsRequest bytes head (drop spans.len bytes)
@@ -17,16 +21,18 @@ pub record HoldsHead (bytes : List ℕ) (fields : List HeaderSpan) (spans : Requ
   pub len_fits : spans.len ≤ length bytes
   pub parts_are : request_parts_at bytes fields spans ≡ parts_of head
 
+-- the first bytes hold a head, and its parts stand at these places
 abbrev pub HoldsSomeHead : List ℕ → List HeaderSpan → RequestSpans → Type 0
 HoldsSomeHead bytes fields spans = (head : RequestHead) × HoldsHead bytes fields spans head
 
+-- what is found at the beginning of bytes, which are no more than a head may have, with room for this number of fields
 abbrev pub IsFront : List ℕ → ℕ → StreamStart → Type 0
 IsFront bytes room (Whole head len) = (0 < len) × (len ≤ length bytes) × BeginsAsking bytes head (drop len bytes)
 IsFront bytes room Partial = HasNoRequest bytes × MayBecomeRequest bytes
 IsFront bytes room (Refused fault) = BeginsRefused bytes fault ⊎ ((fault ≡ BadHead) × NeverHasRequest bytes)
 IsFront bytes room Crowded = RequestExceeds room bytes
 
--- what is found at the front of a whole stream
+-- what is found at the beginning of a whole stream
 abbrev pub IsStart : List ℕ → StreamStart → Type 0
 IsStart stream (Whole head len) = (0 < len) × (len ≤ length stream) × BeginsAsking stream head (drop len stream)
 IsStart stream Partial = AwaitsHead stream × (length stream < longest_head)

@@ -27,6 +27,7 @@ pub record Parts : Type 0 where
   pub minor : ℕ
   pub fields : List (List ℕ × List ℕ)
 
+-- the parts of a head that was parsed
 abbrev pub parts_of : RequestHead → Parts
 parts_of head = record { method = head.method; target = head.target; minor = head.minor; fields = map name_and_value head.fields }
 
@@ -34,6 +35,7 @@ parts_of head = record { method = head.method; target = head.target; minor = hea
 abbrev pub lowered : List ℕ × List ℕ → List ℕ × List ℕ
 lowered field = (str_to_ascii_lowercase field.0, field.1)
 
+-- all fields, with their names in lower case
 abbrev pub heads : Parts → List (List ℕ × List ℕ)
 heads p = map lowered p.fields
 
@@ -45,9 +47,11 @@ is_repeated name fields = nat_lt 1 (count_by (λ field. pointwise nat_eq field.0
 abbrev pub once_in : {A : Type 0} → List ℕ → (Option (List ℕ) → Option A) → List (List ℕ × List ℕ) → Option A
 once_in name reading fields = if is_repeated name fields then None else reading (field_of fields name)
 
+-- the host and the port that the Host field names (RFC 9110, section 7.2)
 abbrev pub asked_host : ℕ → List (List ℕ × List ℕ) → Option (List ℕ × ℕ)
 asked_host minor fields = once_in (codes "host") (host_of minor) fields
 
+-- the length that Content-Length tells (RFC 9110, section 8.6)
 abbrev pub body_length : List (List ℕ × List ℕ) → Option ℕ
 body_length fields = once_in (codes "content-length") length_of fields
 
@@ -59,6 +63,7 @@ has_transfer_coding fields = is_some (field_of fields (codes "transfer-encoding"
 abbrev pub most_fields : ℕ
 most_fields = 100
 
+-- the most bytes of a body
 abbrev pub longest_body : ℕ
 longest_body = 8388608
 
@@ -73,9 +78,11 @@ refusals minor target fields =
     ∷ (nat_lt longest_body (unwrap_or (body_length fields) 0), LongBody)
     ∷ []
 
+-- the fault of the first of these that applies
 unfoldable pub first_refusal : ℕ → List ℕ → List (List ℕ × List ℕ) → Option InFault
 first_refusal minor target fields = option_map (λ refusal. refusal.1) (find (λ refusal. refusal.0) (refusals minor target fields))
 
+-- the fault of a head, if it has one
 abbrev pub head_fault : Parts → Option InFault
 head_fault p = first_refusal p.minor p.target (heads p)
 
@@ -83,6 +90,7 @@ head_fault p = first_refusal p.minor p.target (heads p)
 abbrev pub asked_with : List ℕ × ℕ → Target → ℕ → Asked
 asked_with host target n = record { host = host.0; port = host.1; target = target; body_length = n }
 
+-- what a head asks for, where its host, its target and its length can be read
 unfoldable pub asked_of : ℕ → List ℕ → List (List ℕ × List ℕ) → Option Asked
 asked_of minor target fields = option_and_then (λ host. option_and_then (λ read. option_map (asked_with host read) (body_length fields)) (target_of target)) (asked_host minor fields)
 
@@ -90,6 +98,7 @@ asked_of minor target fields = option_and_then (λ host. option_and_then (λ rea
 abbrev pub is_closing : ℕ → List (List ℕ × List ℕ) → Bool
 is_closing minor fields = (minor == 0) || has_option (codes "close") (elements_named (codes "connection") fields)
 
+-- the same of the parts of a head
 abbrev pub closes_connection : Parts → Bool
 closes_connection p = is_closing p.minor p.fields
 
@@ -122,6 +131,7 @@ request_with method line minor asked fields close = record {
   close = close;
 }
 
+-- the head with what it asks for
 abbrev pub head_with : Parts → Asked → AskedHead
 head_with p asked = record {
   request = request_with p.method (request_line p.method p.target p.minor) p.minor asked (heads p) (closes_connection p);
@@ -138,6 +148,7 @@ pub record Asks (p : Parts) (head : AskedHead) : Type 0 where
 
 -- ---- a head as the bytes that hold it, and where its parts stand in them
 
+-- the parts that stand at these places of the bytes
 abbrev pub request_parts_at : List ℕ → List HeaderSpan → RequestSpans → Parts
 request_parts_at bytes fields spans = record {
   method = span_bytes bytes spans.method;
@@ -158,6 +169,7 @@ pub record AreTexts (p : Parts) : Type 0 where
   pub target : IsUtf8 p.target
   pub names : All (λ field. IsUtf8 field.0) p.fields
 
+-- a length that can be read and is no more than a body may have, else the fault
 abbrev pub within_limit : Option ℕ → Result ℕ InFault
 within_limit None = Err BadLength
 within_limit (Some n) = if nat_lt longest_body n then Err LongBody else Ok n

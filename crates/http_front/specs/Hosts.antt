@@ -20,9 +20,11 @@ port_number text = if is_number text then Some (digits_value 10 text) else None
 abbrev pub has_leading_zero : List ℕ → Bool
 has_leading_zero text = nat_lt 1 (length text) && (slice_index text 0 == 48)
 
+-- the greatest port
 abbrev pub greatest_port : ℕ
 greatest_port = 65535
 
+-- a number that is a port
 abbrev pub port_or_none : ℕ → Option ℕ
 port_or_none n = if nat_le n greatest_port then Some n else None
 
@@ -30,9 +32,11 @@ port_or_none n = if nat_le n greatest_port then Some n else None
 abbrev pub port_of : List ℕ → Option ℕ
 port_of text = if length text == 0 then Some 80 else (if has_leading_zero text then None else option_and_then port_or_none (port_number text))
 
+-- `:`
 abbrev pub is_port_colon : ℕ → Bool
 is_port_colon b = b == 58
 
+-- letters, digits, `-`, `_` and `.`
 abbrev pub is_asked_host_byte : ℕ → Bool
 is_asked_host_byte b = is_ascii_alphanumeric b || ((b == 45) || ((b == 95) || (b == 46)))
 

@@ -36,6 +36,7 @@ Left i more turns end = Continues i.phase (rest_of i ++ more) turns end
 abbrev pub StandsFor : Intake → List ℕ → List Turn → Type 0
 StandsFor i stream told = (more : List ℕ) (turns : List Turn) (end : End) → Left i more turns end → SpellsTurns (stream ++ more) (told ++ turns) end
 
+-- the fault of a phase, if it is that of a fault
 abbrev pub fault_in : Phase → Option InFault
 fault_in Heading = None
 fault_in (Body asked) = None
@@ -69,6 +70,7 @@ phase_weight Heading = 0
 phase_weight (Body asked) = 1
 phase_weight (Failed fault) = 0
 
+-- the same of an intake: it falls with each byte that a turn takes, too
 abbrev pub weight : Intake → ℕ
 weight i = 2 * length (rest_of i) + phase_weight i.phase
 
@@ -78,6 +80,7 @@ weight i = 2 * length (rest_of i) + phase_weight i.phase
 abbrev pub IntakeLeads : Intake → Intake → Type 0
 IntakeLeads old new = (more : List ℕ) (turns : List Turn) (end : End) → Left new more turns end → Left old more turns end
 
+-- what was left of the old one is this turn, and then what is left of the new one
 abbrev pub LeadsBy : Intake → Intake → Turn → Type 0
 LeadsBy old new turn = (more : List ℕ) (turns : List Turn) (end : End) → Left new more turns end → Left old more (turn ∷ turns) end
 
@@ -85,18 +88,19 @@ LeadsBy old new turn = (more : List ℕ) (turns : List Turn) (end : End) → Lef
 abbrev pub Stands : Intake → End → Type 0
 Stands i end = Left i [] [] end
 
+-- the phase is that in which a body is read
 abbrev pub IsBody : Phase → Type 0
 IsBody Heading = ⊥
 IsBody (Body asked) = Unit {0}
 IsBody (Failed fault) = ⊥
 
--- the head at the front has been read, or there is none yet
+-- the next head has been read, or there is none yet
 abbrev pub Advances : Intake → Intake → Advance → Type 0
 Advances old new Asked = LeadsBy old new Continue × (weight new < weight old)
 Advances old new Ready = IntakeLeads old new × IsBody new.phase × (weight new ≤ weight old)
 Advances old new Waiting = IntakeLeads old new × Stands old Waits
 
--- what stands at the front, and the phase: a head that asks for this, of so many bytes
+-- what the bytes that no turn has taken begin with, and the phase: a head of `len` bytes that asks for this
 pub record IsAtHead (i : Intake) (head : AskedHead) (len : ℕ) : Type 0 where
   pub heading : i.phase ≡ Heading
   pub some : 0 < len

@@ -1,4 +1,4 @@
--- What is lent, as the value that it is.
+-- What is lent, as the value that it is. Only private functions and proofs cite this.
 use Rattle.std.specs.Prelude.{ℕ, List}
 use Rattle.std.specs.Borrow.{Bor}
 

@@ -19,7 +19,7 @@ pub data End : Type 0 where
 abbrev pub longest_head : ℕ
 longest_head = 16384
 
--- the bytes at the front of a stream in which its next head has to stand
+-- the first bytes of a stream, in which its next head has to stand
 abbrev pub window : List ℕ → List ℕ
 window stream = take longest_head stream
 
@@ -64,7 +64,7 @@ pub record AwaitsBody (stream : List ℕ) : Type 0 where
   pub unasked : asked.awaits_continue ≡ false
   pub short : length rest < asked.body_length
 
--- No head is there, and none can come: the bytes begin none, however they go on; or so many are there that one would be too long. (Within
+-- No head is there, and none can come: the bytes begin none, however they go on; or they are at least as many as a head may have. (Within
 -- a target that no bytes can save both this and waiting are so: `MayBecomeRequest`.)
 abbrev pub HasNoHead : List ℕ → InFault → Type 0
 HasNoHead stream fault = ((fault ≡ BadHead) × NeverHasRequest (window stream)) ⊎ ((fault ≡ LongHead) × (AwaitsHead stream × (longest_head ≤ length stream)))

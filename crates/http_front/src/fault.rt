@@ -5,6 +5,9 @@ ghost use Rattle.http_front.specs.Faults.{fault_status};
 use sp_base::NoMemory as OutOfMemory;
 use std::alloc::{AllocError, AllocFailed};
 
+/// The status where no memory was there (RFC 4918, section 11.5).
+pub const INSUFFICIENT_STORAGE: u16 = 507;
+
 /// Why a stream is read no further. Of several that a head has the first counts.
 #[derive(Clone, Copy, PartialEq, Eq, Debug, Drop)]
 pub enum InFault {
@@ -36,7 +39,7 @@ impl InFault {
             InFault::NoLength => 411,
             InFault::LongBody => 413,
             InFault::ManyHeaders | InFault::LongHead => 431,
-            InFault::NoMemory => 507,
+            InFault::NoMemory => INSUFFICIENT_STORAGE,
         }
     }
 }

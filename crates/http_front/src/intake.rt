@@ -105,7 +105,7 @@ impl Intake {
         }
     }
 
-    // Reads the head at the front, unless one was read already.
+    // Reads the next head, unless one was read already.
     fn advance(&mut self, alloc: Global) -> Result<Advance, InFault>
         ensures ok { IfOk result (Advances self.old self.new) }
         ensures breaks { IfErr result (λ fault. fault ≢ NoMemory → Stands self.old (Breaks fault)) }
@@ -170,7 +170,7 @@ impl Intake {
     }
 }
 
-// Copies the bytes from a place on to the front, where there are as many before that place.
+// Copies the bytes from a place on to the beginning, where there are as many before that place.
 fn move_to_front(bytes: &mut [u8], start: usize)
     requires within { start ≤ length bytes.old }
     requires apart { length bytes.old ≤ start + start }

@@ -1,7 +1,7 @@
-//! Finds the head at the front of a stream, in its first bytes.
+//! Finds the head with which a stream begins, in its first bytes.
 ghost use Rattle.std.specs.Prelude.{◌≡◌, ◌≤◌, ℕ, IfOk, length};
 ghost use Rattle.http_front.specs.Turns.{longest_head, window};
-ghost use Rattle.http_front.specs.Fronts.{IsFront, IsStart, HoldsSomeHead};
+ghost use Rattle.http_front.specs.Fronts.{IsFront, IsStart, HoldsSomeHead, most_places};
 ghost use Rattle.http_front.specs.Heads.{AreWithin};
 
 use crate::fault::InFault;
@@ -13,10 +13,10 @@ use std::alloc::Global;
 
 const LONGEST_HEAD: usize = 16_384;
 
-// So many fields don't stand in as many bytes as a head may have.
+// No head has more fields: each takes three bytes at least.
 const MOST_PLACES: usize = 8_192;
 
-/// What stands at the front of a stream.
+/// What a stream begins with.
 #[derive(Drop)]
 pub enum StreamStart {
     /// A whole head, and the number of its bytes.
@@ -29,7 +29,7 @@ pub enum StreamStart {
     Crowded,
 }
 
-/// Reads the head at the front of a stream. The places are written over.
+/// Reads the head with which a stream begins. The places are written over.
 pub fn read_front(alloc: Global, stream: &[u8], places: &mut [HeaderSpan]) -> Mem<StreamStart>
     ensures { IfOk result (IsStart stream.now) }
 {
@@ -41,7 +41,7 @@ pub fn read_front(alloc: Global, stream: &[u8], places: &mut [HeaderSpan]) -> Me
         }
         StreamStart::Partial => Ok(StreamStart::Partial),
         StreamStart::Refused(fault) => Ok(StreamStart::Refused(fault)),
-        // There are places for as many fields as so many bytes can hold.
+        // There are places for as many fields as the window can hold.
         StreamStart::Crowded => Ok(StreamStart::Refused(InFault::BadHead)),
     }
 }
@@ -59,7 +59,7 @@ fn window(stream: &[u8]) -> &[u8]
 // Most heads have fewer fields than there are places at hand. Those with more are read again with places for all.
 fn read_whole(alloc: Global, bytes: &[u8], places: &mut [HeaderSpan]) -> Mem<StreamStart>
     requires { length bytes.now ≤ longest_head }
-    ensures { IfOk result (IsFront bytes.now 8192) }
+    ensures { IfOk result (IsFront bytes.now most_places) }
 {
     match read_window(alloc, bytes, places)? {
         StreamStart::Whole(head, len) => Ok(StreamStart::Whole(head, len)),
@@ -72,7 +72,7 @@ fn read_whole(alloc: Global, bytes: &[u8], places: &mut [HeaderSpan]) -> Mem<Str
     }
 }
 
-// Reads the head at the front of so many bytes as one may have. The places are written over.
+// Reads the head at the beginning of a window. The places are written over.
 fn read_window(alloc: Global, bytes: &[u8], places: &mut [HeaderSpan]) -> Mem<StreamStart>
     requires { length bytes.now ≤ longest_head }
     ensures { IfOk result (IsFront bytes.now (length places.old)) }

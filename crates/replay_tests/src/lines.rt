@@ -159,7 +159,7 @@ fn acts_are(alloc: Global, lines: &str, wanted: &str) -> bool {
     }
 }
 
-// Whether a scenario of these lines is refused behind so many newlines.
+// Whether a scenario of these lines is refused after this number of newlines.
 fn are_refused(alloc: Global, lines: &str, newlines: u64) -> bool {
     match scenario_of(alloc, lines) {
         Err(ScenarioFault::Line(found)) => found == newlines,

@@ -1,4 +1,4 @@
--- Blocks, and where a text with a block in front is refused.
+-- Blocks, and where a text that begins with a block is refused.
 use Rattle.std.proofs.Common.{◌≡◌, ◌≢◌, ◌+◌, ◌≤◌, ◌++◌, ℕ, List, [], ◌∷◌, codes, sym, ◌∙◌, ap, subst, refl, arith, length, take, drop, append_assoc, length-append}
 use Rattle.std.proofs.lemmas.List.{take_at, drop_at, length-drop}
 use Rattle.replay_text.specs.Lines.{newlines, text_of_lines, AreLines}
@@ -11,7 +11,7 @@ use Rattle.replay_text.proofs.LineLaws.{newlines-append, one_first_line, text_of
 use Rattle.replay_text.proofs.Refusals.{refused_end}
 use Rattle.replay_text.proofs.ReadingActs.{after_line}
 
--- ---- a language with a block in front
+-- ---- a language whose texts begin with a block
 
 behind_line_of : (Rest : List ℕ → Type 0) (line r : List ℕ) (block : List (List ℕ)) (rest : List ℕ) → newlines line ≡ 0 → line ≢ codes "."
     → AreLines block → HaveNoDot block → Rest rest → line ++ 10 ∷ r ≡ text_of_lines block ++ 46 ∷ 10 ∷ rest → BlockThen Rest r
@@ -53,7 +53,7 @@ have_newline Rest text one b =
 
 -- some text of the language, so that it has any
 module _ (Rest : List ℕ → Type 0) (some : List ℕ) (is : Rest some) where
-  -- lines of a block in front
+  -- a text that begins with lines of a block
   refused_after_lines : (block : List (List ℕ)) (rest : List ℕ) (n : ℕ) → AreLines block → HaveNoDot block
       → IsRefused (BlockThen Rest) rest n → IsRefused (BlockThen Rest) (text_of_lines block ++ rest) (length block + n)
   refused_after_lines [] rest n lines dots r = let same : n ≡ 0 + n = omega arith in subst (λ k. IsRefused (BlockThen Rest) rest k) same r
@@ -65,7 +65,7 @@ module _ (Rest : List ℕ → Type 0) (some : List ℕ) (is : Rest some) where
       subst (λ t. IsRefused (BlockThen Rest) t (length (l ∷ block) + n)) (sym (append_assoc l (10 ∷ text_of_lines block) rest))
       (subst (λ k. IsRefused (BlockThen Rest) (l ++ 10 ∷ (text_of_lines block ++ rest)) k) count outer)
 
-  -- a whole block in front
+  -- a text that begins with a whole block
   refused_after_block : (text : List ℕ) (at count n : ℕ) → EndsBlock text at count → IsRefused Rest (drop (at + 2) text) n
       → IsRefused (BlockThen Rest) text (n + (count + 1))
   refused_after_block text at count n b r =
@@ -84,7 +84,7 @@ module _ (Rest : List ℕ → Type 0) (some : List ℕ) (is : Rest some) where
   )
   refuses_after_block text at count NoMemory b r = tt
 
-  -- no block in front
+  -- a text that begins with no block
   pub refuses_no_block : (text : List ℕ) (count : ℕ) → EndsNoBlock text count → IsRefused (BlockThen Rest) text count × (count ≤ length text)
   refuses_no_block text count b =
       let whole = refused_after_lines b.block b.rest 0 b.are b.no_dot (refused_end (BlockThen Rest) b.rest b.one (have_newline Rest b.rest b.one)) in

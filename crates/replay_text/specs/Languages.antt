@@ -15,6 +15,7 @@ pub record IsRefusedBy (Text Prefix : List ℕ → Type 0) (bytes : List ℕ) (n
   pub first : (at : ℕ) → at < length bytes → Prefix (take at bytes) → (Prefix (take (at + 1) bytes) → ⊥) → newlines (take at bytes) ≡ n
   pub early : Prefix bytes → newlines bytes ≡ n
 
+-- the same, where a prefix is what begins a text of the language
 abbrev pub IsRefused : (List ℕ → Type 0) → List ℕ → ℕ → Type 0
 IsRefused Text bytes n = IsRefusedBy Text (IsPrefixIn Text) bytes n
 

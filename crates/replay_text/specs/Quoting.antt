@@ -43,12 +43,15 @@ IsNoDirect line = (target : List ℕ) → IsTrue (is_target target) → line ≢
 abbrev pub IsNoTargetOf : List ℕ → List ℕ → Type 0
 IsNoTargetOf word line = (c : ℕ) (target : List ℕ) → IsConnection c → IsTrue (is_target target) → line ≢ connection_text word c target
 
+-- `close` and a connection
 abbrev pub IsNoClose : List ℕ → Type 0
 IsNoClose line = (c : ℕ) → IsConnection c → line ≢ codes "close " ++ decimal c
 
+-- `bytes`, a connection, and some bytes in quotes
 abbrev pub IsNoBytes : List ℕ → Type 0
 IsNoBytes line = (c : ℕ) (bytes : List ℕ) → IsConnection c → AreBytes bytes → bytes ≢ [] → line ≢ connection_text (codes "bytes ") c (quotation bytes)
 
+-- `post`, a connection, a target, and bytes in quotes
 abbrev pub IsNoPost : List ℕ → Type 0
 IsNoPost line = (c : ℕ) (target body : List ℕ) → IsConnection c → IsTrue (is_target target) → AreBytes body
     → line ≢ connection_text (codes "post ") c (target ++ 32 ∷ quotation body)

@@ -104,6 +104,7 @@ pub record EndsNoBlock (text : List ℕ) (count : ℕ) : Type 0 where
   pub count_is : count ≡ length block
   pub small : count ≤ length text
 
+-- where the fault names a line, this holds of its number
 abbrev pub IfLine : ScenarioFault → (ℕ → Type 0) → Type 0
 IfLine (Line n) P = P n
 IfLine NoMemory P = Unit {0}

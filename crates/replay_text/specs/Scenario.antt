@@ -57,5 +57,6 @@ most = 67108864
 abbrev pub ReadsScenario : List ℕ → Scenario → Type 0
 ReadsScenario bytes s = SpellsScenario bytes s × (length bytes ≤ most)
 
+-- the text spells some scenario
 abbrev pub IsScenario : List ℕ → Type 0
 IsScenario text = (s : Scenario) × SpellsScenario text s

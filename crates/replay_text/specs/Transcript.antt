@@ -29,6 +29,7 @@ abbrev pub quotation_or_dash : List ℕ → List ℕ
 quotation_or_dash [] = codes "-"
 quotation_or_dash (b ∷ bytes) = quotation (b ∷ bytes)
 
+-- the word of a mark, or a dash where there is none
 abbrev pub mark_text : Mark → List ℕ
 mark_text Plain = codes "-"
 mark_text NoCache = codes "no-cache"
@@ -108,6 +109,7 @@ IsWritable (Refused c) = IsLineNumber c
 IsWritable Idle = Unit {0}
 IsWritable Dry = Unit {0}
 
+-- the same of each note
 abbrev pub AreWritable : List Note → Type 0
 AreWritable [] = Unit {0}
 AreWritable (note ∷ notes) = IsWritable note × AreWritable notes

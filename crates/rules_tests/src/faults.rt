@@ -88,7 +88,7 @@ fn members_in_their_order(rt: HostRuntime) {
     }
 }
 
-// So many groups, each in the one before it.
+// `depth` groups, each in the one before it.
 fn read_nested(alloc: Global, depth: usize) -> Result<(), AnyFault> {
     let mut text = "{".repeat(alloc, depth)?;
     text.push_str("}".repeat(alloc, depth)?.as_str())?;

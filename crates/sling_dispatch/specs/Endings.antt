@@ -28,6 +28,7 @@ pub record Told (T : Type 0) : Type 0 where
   pub faults_old : ℕ
   pub faults_new : ℕ
 
+-- what an object told before and after a call, with its counts of faults
 abbrev pub told_of : {T : Type 0} → Option T → Option T → ℕ → ℕ → Told T
 told_of old new faults_old faults_new = record { old = old; new = new; faults_old = faults_old; faults_new = faults_new }
 

@@ -17,10 +17,12 @@ abbrev pub farm_text : Option (List ℕ) → List ℕ
 farm_text None = STANDARD_FARM.now
 farm_text (Some bytes) = bytes
 
+-- a farm that could be read, or why the group gives none
 abbrev pub farm_in_group : Result Farm FarmFault → Result Farm FarmRefusal
 farm_in_group (Ok farm) = Ok farm
 farm_in_group (Err fault) = Err (NoFarm fault)
 
+-- the farm of a file that could be read, or why it gives none
 abbrev pub farm_in_file : Result AnyNode AnyFault → Result Farm FarmRefusal
 farm_in_file (Ok top) = farm_in_group (farm_of top)
 farm_in_file (Err fault) = Err (NoFile fault)

@@ -15,6 +15,7 @@ use Rattle.front.specs.declared.step.Pick.{Pick}
 use Rattle.front.specs.declared.step.Pick.TheVariants.{Number, First}
 use Rattle.front.specs.declared.step.Step.{Step}
 use Rattle.front.specs.declared.step.Step.TheVariants.{Opened, Piece, Gone, Direct, Render, Deliver, Lose}
+use Rattle.any_config.specs.Farms.{http_port}
 use Rattle.any_config.specs.declared.farm.Farm.{Farm}
 use Rattle.front.specs.Publishers.{Publishing}
 use Rattle.front.specs.Events.{Event, Run, notes_of}
@@ -29,7 +30,7 @@ head_line text = text ++ 13 ∷ 10 ∷ []
 
 -- the host that a farm's publisher is asked at, with its port where it isn't that of HTTP (RFC 9110, section 7.2)
 abbrev pub asked_publisher_host : Farm → List ℕ
-asked_publisher_host farm = farm.ask_host ++ (if farm.ask_port == 80 then [] else 58 ∷ decimal farm.ask_port)
+asked_publisher_host farm = farm.ask_host ++ (if farm.ask_port == http_port then [] else 58 ∷ decimal farm.ask_port)
 
 -- the field that names a host
 abbrev pub host_line : List ℕ → List ℕ
@@ -47,6 +48,7 @@ post_bytes host target form =
 
 -- ---- what lines do
 
+-- the flight that a line names: the one with a number, or the first that can be taken
 abbrev pub pick_of : Flight → Pick
 pick_of flight.First = First
 pick_of (flight.Numbered n) = Number n

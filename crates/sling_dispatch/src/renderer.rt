@@ -6,7 +6,7 @@ use publisher::{Publisher, reads_change_nothing, statuses_are_short};
 use sp_base::{Answer, Ask, Mem};
 use std::alloc::Global;
 
-/// A publisher behind a front.
+/// A publisher as the renderer of a front.
 #[derive(Drop)]
 pub struct PublisherRenderer {
     pub publisher: Publisher,

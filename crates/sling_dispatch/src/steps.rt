@@ -2,14 +2,11 @@
 ghost use Rattle.std.specs.Prelude.{◌≡◌, ◌++◌, IfOk, OnOk, codes};
 ghost use Rattle.sling_dispatch.specs.Runs as runs;
 
-use any_config::Farm;
+use any_config::{Farm, HTTP_PORT};
 use front::{Pick, Step};
 use replay_text::{EventLine, Flight};
 use sp_base::{ByteBuf, Mem};
 use std::alloc::Global;
-
-/// The port of HTTP.
-const HTTP_PORT: u16 = 80;
 
 /// The host that a farm's publisher is asked at, with its port where it isn't that of HTTP.
 pub fn asked_host(alloc: Global, farm: &Farm) -> Mem<Vec<u8>>

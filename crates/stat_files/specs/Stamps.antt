@@ -2,13 +2,14 @@
 use Rattle.std.specs.Prelude.{ℕ, List, Option, Some, None, option_map}
 use Rattle.sp_outside.specs.Files.{Files, file_at}
 use Rattle.docroot_format.specs.Names.{stat_name}
-use Rattle.docroot_format.specs.Readings.{stat_of}
+use Rattle.docroot_format.specs.Readings.{greatest_number, stat_of}
 use Rattle.cover_rules.specs.declared.stamp.Stamp.{Stamp}
 
 -- the greatest stamp, which outdates every page
 abbrev pub greatest_stamp : Stamp
-greatest_stamp = record { epoch = 18446744073709551615; count = 18446744073709551615 }
+greatest_stamp = record { epoch = greatest_number; count = greatest_number }
 
+-- a stamp that could be read, else the greatest
 abbrev pub stamp_or_greatest : Option (ℕ × ℕ) → Stamp
 stamp_or_greatest None = greatest_stamp
 stamp_or_greatest (Some stamp) = record { epoch = stamp.0; count = stamp.1 }

@@ -31,4 +31,4 @@ pub mod OpenObjectLemmas
 pub mod ListedLemmas
 pub mod OpenNodeLemmas
 pub mod ReadLemmas
-pub mod DirectLemmas
+pub mod FromTokensLemmas

@@ -3,7 +3,7 @@ use Rattle.std.proofs.Common.{◌≡◌, ℕ, Bool, true, false, cond, not, ◌|
 use Rattle.std.specs.List.{list_any}
 use Rattle.std.specs.Str.{bytes_eq}
 use Rattle.std.proofs.lemmas.List.Folds.{list_any-append}
-use Rattle.content_json.specs.Direct.{texts_in, with_others}
+use Rattle.content_json.specs.FromTokens.{texts_in, with_others}
 
 -- the texts that are left begin with this one
 pub texts_here : (xs : List (Bor (List ℕ))) (i : ℕ) (d : Bor (List ℕ)) → i < length xs → texts_in (drop i xs) ≡ (get_or xs i d).now ∷ texts_in (drop (i + 1) xs)

@@ -21,7 +21,7 @@ use Rattle.content_json.specs.Lists.{item_list}
 use Rattle.content_json.specs.Faults.{names_kids, has_good_order, is_good_order}
 use Rattle.content_json.specs.Nodes.{add_props, kids_of}
 use Rattle.content_json.specs.Members.{AreSorted, entries_of}
-use Rattle.content_json.specs.Direct.{Holds, texts_array, texts_in, with_others}
+use Rattle.content_json.specs.FromTokens.{Holds, texts_array, texts_in, with_others}
 use Rattle.content_json.proofs.Under.{both}
 use Rattle.content_json.proofs.JoinLemmas.{both as both_hold}
 use Rattle.content_json.proofs.InsertLemmas.{same_name, tie_is}

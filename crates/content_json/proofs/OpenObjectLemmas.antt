@@ -14,7 +14,7 @@ use Rattle.sp_base.specs.declared.value.Value.{Value}
 use Rattle.content_json.specs.declared.open_object.OpenObject.{OpenObject}
 use Rattle.content_json.specs.Names.{order_name, is_order, is_content_name, is_object, is_kid}
 use Rattle.content_json.specs.Lists.{data_value}
-use Rattle.content_json.specs.Direct.{Holds, texts_array}
+use Rattle.content_json.specs.FromTokens.{Holds, texts_array}
 use Rattle.content_json.proofs.PutLemmas.{not_order, value_no_kid}
 use Rattle.content_json.proofs.Under.{bytes_eq_itself}
 use Rattle.content_json.proofs.InsertLemmas.{get-put, sorted-put, tie_is}

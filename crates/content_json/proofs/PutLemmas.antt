@@ -19,7 +19,7 @@ use Rattle.content_json.specs.Nodes.{nodes_in, nodes_below, count_below, is_deep
 use Rattle.content_json.specs.ContentOf.{map_of}
 use Rattle.content_json.specs.Steps.{is_at_or_below, member_fault, member_nodes, with_nodes_at, is_sound}
 use Rattle.content_json.specs.Members.{AllMembers}
-use Rattle.content_json.specs.Direct.{IsFit}
+use Rattle.content_json.specs.FromTokens.{IsFit}
 use Rattle.content_json.proofs.Under.{is_at_or_below-one}
 use Rattle.content_json.proofs.NodeLemmas.{node_at-append, none_unless, none_in}
 use Rattle.content_json.proofs.KidLemmas.{or_right}

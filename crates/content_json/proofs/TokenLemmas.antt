@@ -10,7 +10,7 @@ use Rattle.serde_json.specs.View.{items_of}
 use Rattle.sp_base.specs.declared.value.Value.{Value}
 use Rattle.property_json.specs.PropertyJson.{has_longs}
 use Rattle.content_json.specs.Written.{keeps_kind}
-use Rattle.content_json.specs.Direct.{BeginWith}
+use Rattle.content_json.specs.FromTokens.{BeginWith}
 use Rattle.content_json.proofs.ValueLemmas.{items_from, data_of, value_back, value_faultless}
 
 -- the value that a token is by itself

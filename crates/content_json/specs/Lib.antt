@@ -7,4 +7,4 @@ pub mod Ways
 pub mod ContentOf
 pub mod Written
 pub mod Steps
-pub mod Direct
+pub mod FromTokens

@@ -1,8 +1,8 @@
 //! Content as JSON: the tree that a JSON text stands for, or the first fault that it has, and the text that a tree is written as.
 #![tactic(auto)]
 
-mod direct;
 mod fault;
+mod from_tokens;
 mod kind;
 mod laws;
 mod measure;

@@ -7,7 +7,7 @@ ghost use Rattle.serde_json.specs.Data.{Members, string};
 ghost use Rattle.serde_json.specs.View.{items_of};
 ghost use Rattle.content_json.specs.Names.{is_kid};
 ghost use Rattle.content_json.specs.Faults.{names_kids};
-ghost use Rattle.content_json.specs.Direct.{texts_in, with_others};
+ghost use Rattle.content_json.specs.FromTokens.{texts_in, with_others};
 
 use resource_tree::Node;
 use sp_base::{Mem, PropList, TextBuf, TextList, Value};
@@ -33,7 +33,7 @@ impl<'a> OpenObject<'a> {
     ghost use Rattle.content_json.specs.Lists.{data_value};
     ghost use Rattle.content_json.specs.Faults.{has_good_order};
     ghost use Rattle.content_json.specs.Nodes.{node_of_members};
-    ghost use Rattle.content_json.specs.Direct.{Holds, Gains, texts_array};
+    ghost use Rattle.content_json.specs.FromTokens.{Holds, Gains, texts_array, texts_in};
 
     pub(crate) fn new(alloc: Global) -> OpenObject<'a>
         ensures { Holds result no_members }
@@ -45,7 +45,7 @@ impl<'a> OpenObject<'a> {
         }
     }
 
-    // Whether a property of this name would have to be put between too many others.
+    // Whether MOST_OUT_OF_ORDER properties or more are held, and the last has a greater name.
     fn is_out_of_order(&self, name: &str) -> bool {
         let n = self.props.len();
         if n < MOST_OUT_OF_ORDER {
@@ -65,14 +65,14 @@ impl<'a> OpenObject<'a> {
         if self.kids.contains(name) || self.is_out_of_order(name) {
             return Ok(false);
         }
-        self.props.put_named(TextBuf::of(alloc, name)?, value)?;
+        self.props.put(alloc, name, value)?;
         Ok(true)
     }
 
-    /// Takes the name of a member in that is `null`, unless another member has it.
-    pub(crate) fn put_nothing(&mut self, name: &str) -> bool
+    /// Whether no property and no kid has a name, so that a member of this name that is `null` changes nothing.
+    pub(crate) fn lacks(&self, name: &str) -> bool
         requires plain { is_content_name name.now ≡ true }
-        ensures { result ≡ true → Gains self.old self.new name.now null }
+        ensures { result ≡ true → Gains self.now self.now name.now null }
     {
         !self.kids.contains(name) && self.props.get(name).is_none()
     }
@@ -90,7 +90,7 @@ impl<'a> OpenObject<'a> {
 
     /// Takes what `:order` lists in, in place of what it listed before.
     pub(crate) fn put_order(&mut self, names: Vec<&'a str>)
-        ensures { Gains self.old self.new order_name (texts_array (map (λ name. name.now) names.entry.items)) }
+        ensures { Gains self.old self.new order_name (texts_array (texts_in names.entry.items)) }
     {
         self.order = names;
     }

@@ -8,8 +8,8 @@ ghost use Rattle.content_json.specs.ContentOf.{json_of, is_too_big, refused_by, 
 ghost use Rattle.content_json.specs.Steps.{is_sound};
 
 use crate::ContentFault;
-use crate::direct::nodes_of_text;
 use crate::fault::{Cause, Found};
+use crate::from_tokens::nodes_of_text;
 use crate::measure::room_beside;
 use crate::search::object_fault;
 use crate::walk::add_nodes;
@@ -28,7 +28,7 @@ pub fn read_tree(alloc: Global, seeds: RandomState, bytes: &[u8]) -> Result<Tree
     ensures ok { IfOk result (λ tree. content bytes.now ≡ Ok tree) }
     ensures err { IfErr result (λ fault. fault ≢ ContentFault.NoMemory → content bytes.now ≡ Err fault) }
 {
-    if let Some(tree) = direct_tree(alloc, seeds, bytes)? {
+    if let Some(tree) = tree_from_tokens(alloc, seeds, bytes)? {
         return Ok(tree);
     }
     let Value::Object(members) = json_of(alloc, bytes)? else {
@@ -42,7 +42,7 @@ pub fn read_tree(alloc: Global, seeds: RandomState, bytes: &[u8]) -> Result<Tree
 }
 
 // The tree of content that is read straight from its tokens, where it can be.
-fn direct_tree(alloc: Global, seeds: RandomState, bytes: &[u8]) -> Mem<Option<Tree>>
+fn tree_from_tokens(alloc: Global, seeds: RandomState, bytes: &[u8]) -> Mem<Option<Tree>>
     ensures { IfOk result (λ found. IfSome found (λ tree. content bytes.now ≡ Ok tree)) }
 {
     let Ok(text) = simdutf8::compat::from_utf8(bytes) else {

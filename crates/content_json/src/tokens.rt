@@ -9,7 +9,7 @@ ghost use Rattle.serde_json.specs.Find.{of_integer};
 ghost use Rattle.serde_json.specs.Read.{of_items, converted, number_from, number_of};
 ghost use Rattle.serde_json.specs.View.{items_of};
 ghost use Rattle.property_json.specs.PropertyJson.{fits_i64};
-ghost use Rattle.content_json.specs.Direct.{BeginWith};
+ghost use Rattle.content_json.specs.FromTokens.{BeginWith, texts_in};
 
 use fast_float::Numeral;
 use json::{Reader, Token};
@@ -155,7 +155,7 @@ fn truths(alloc: Global, reader: &mut Reader<'_>, first: bool) -> Mem<Option<Val
 pub(crate) fn listed_texts<'a>(alloc: Global, reader: &mut Reader<'a>) -> Mem<Option<Vec<&'a str>>>
     ensures shorter { OnOk result (length reader.new ≤ length reader.old) }
     ensures read { IfOk result (λ texts. IfSome texts (λ found. (depth : ℕ) → converted of_items (json.items (json.value depth) (length reader.old) reader.old)
-        ≡ Some (items_of (map string (map (λ text. text.now) found.items)), reader.new))) }
+        ≡ Some (items_of (map string (texts_in found.items)), reader.new))) }
 {
     let mut found = Vec::new(alloc);
     'items: while !reader.take_end_array() {

@@ -31,6 +31,10 @@ fn answer(alloc: Global, seeds: RandomState, content: &[u8]) -> Mem<String> {
 
 // Each content, and how it is refused.
 const FAULTS: &str = r#"{ => NotJson
+{"a":1}} => NotJson
+{"a":1}, => NotJson
+{"a":1,} => NotJson
+{"a":{"b":1} => NotJson
 {"a":1e999} => NotJson
 [] => NotObject
 {} => reads
@@ -49,6 +53,11 @@ const FAULTS: &str = r#"{ => NotJson
 {"t":["a",1.5]} => BadNumber /t
 {"t":[{},1.5]} => MixedArray /t
 {"t":[1,"a"]} => MixedArray /t
+{"t":[1,null]} => MixedArray /t
+{"t":["a",null]} => MixedArray /t
+{"t":[-0]} => BadNumber /t
+{":order":["a"],":order":null,"a":{}} => BadOrder /
+{":order":[""],"a":{}} => BadOrder /
 {"t":[],"u":[true,false],"v":null} => reads
 {"b":{},":order":null} => BadOrder /
 {"b":{},":order":["c"]} => BadOrder /
@@ -79,6 +88,7 @@ fn node_text(alloc: Global, tree: &Tree, path: &str) -> Mem<String> {
         return Err(NoMemory);
     };
     let Some(node) = tree.node(&path) else {
+        text.push_str("no node")?;
         return Ok(text);
     };
     for place in 0..node.props.len() {
@@ -131,7 +141,10 @@ const NODES: &str =
 {"p":null,"q":[],"r":[-1,2],"s":["x",""]} at / => q=;r=-1+2+;s=x++;
 {"a\"b":{"p\\q":"\u00e9/"}} at /a"b => p\q=é/;
 {"é":{"x":true}} at /é => x=true;
-{"a":1,"a":{"x":1},"a":{"y":2}} at /a => y=2;"#;
+{"a":1,"a":{"x":1},"a":{"y":2}} at /a => y=2;
+{"a":{"b":{}},"a":{}} at /a/b => no node
+{"a":{},"a":null,"b":1} at / => b=1;
+{"a":{},"a":1} at / => a=1;"#;
 
 #[test]
 fn reads_nodes(rt: HostRuntime) -> Result<(), Fail> {

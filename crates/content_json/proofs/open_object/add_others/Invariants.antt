@@ -2,7 +2,7 @@ use Rattle.std.proofs.Common.{◌≡◌, ◌++◌, ℕ, List, not, filter}
 use Rattle.std.specs.BTreeSet.{contains_by}
 use Rattle.std.specs.Cmp.Lexicographic.{slice_cmp}
 use Rattle.std.specs.Ordering.{nat_cmp}
-use Rattle.content_json.specs.Direct.{texts_in}
+use Rattle.content_json.specs.FromTokens.{texts_in}
 use Rattle.content_json.proofs.open_object.add_others.Given as goal
 
 -- the names so far, and those of the kids that are left

@@ -9,7 +9,7 @@ use Rattle.serde_json.specs.Data.{string}
 use Rattle.serde_json.specs.View.{items_of}
 use Rattle.content_json.specs.Names.{is_kid}
 use Rattle.content_json.specs.Faults.{names_kids}
-use Rattle.content_json.specs.Direct.{texts_in}
+use Rattle.content_json.specs.FromTokens.{texts_in}
 use Rattle.content_json.proofs.ListedLemmas.{texts_here, one_more_listed, others_are}
 use Rattle.content_json.proofs.OrderLemmas.{names_kids-next, or_from_cond, false_from_not}
 use Rattle.content_json.proofs.Under.{bytes_eq_swapped}

@@ -7,7 +7,7 @@ use Rattle.serde_json.specs.Data.{Members, string}
 use Rattle.serde_json.specs.View.{items_of}
 use Rattle.content_json.specs.Names.{is_kid}
 use Rattle.content_json.specs.Faults.{names_kids}
-use Rattle.content_json.specs.Direct.{texts_in}
+use Rattle.content_json.specs.FromTokens.{texts_in}
 use Rattle.content_json.proofs.open_object.kids_in_order.Given as goal
 
 -- the names are those listed so far, the set has them, and where the rest is good, all is

@@ -11,8 +11,8 @@ use Rattle.content_json.proofs.InOrder.{in_order_text}
 use Rattle.content_json.proofs.MapLemmas.{is_map_of, over_none}
 use Rattle.content_json.proofs.PutLemmas.{sound_of}
 use Rattle.content_json.proofs.ReadLemmas.{whole_read}
-use Rattle.content_json.proofs.DirectLemmas.{object_read}
-use Rattle.content_json.proofs.direct.nodes_of_text.Goals as goal
+use Rattle.content_json.proofs.FromTokensLemmas.{object_read}
+use Rattle.content_json.proofs.from_tokens.nodes_of_text.Goals as goal
 
 pub returns : goal.returns
 returns c =

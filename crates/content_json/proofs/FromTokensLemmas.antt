@@ -14,7 +14,7 @@ use Rattle.content_json.specs.Faults.{has_good_order}
 use Rattle.content_json.specs.Nodes.{nodes_in, nodes_below, node_of_members}
 use Rattle.content_json.specs.Members.{AllMembers}
 use Rattle.content_json.specs.Steps.{member_nodes, with_nodes_at}
-use Rattle.content_json.specs.Direct.{IsFit, Holds, Gains, TakesIn, AddsMember, AddsMembers, AddsObject}
+use Rattle.content_json.specs.FromTokens.{IsFit, Holds, Gains, TakesIn, AddsMember, AddsMembers, AddsObject}
 use Rattle.content_json.proofs.InsertLemmas.{all-put}
 use Rattle.content_json.proofs.MapLemmas.{own_node}
 use Rattle.content_json.proofs.ReadLemmas.{converted-array, converted-object, member_read, members_over}

@@ -10,12 +10,12 @@ use Rattle.content_json.specs.ContentOf.{map_of}
 use Rattle.content_json.specs.Faults.{fault_in}
 use Rattle.content_json.specs.Nodes.{nodes_in, is_deeper_below}
 use Rattle.content_json.specs.Steps.{is_sound, member_nodes, with_nodes_at}
-use Rattle.content_json.specs.Direct.{Holds, AddsObject, AddsMembers, AddsMember, TakesIn}
-use Rattle.content_json.specs.Direct.{texts_array}
+use Rattle.content_json.specs.FromTokens.{Holds, AddsObject, AddsMembers, AddsMember, TakesIn}
+use Rattle.content_json.specs.FromTokens.{texts_array}
 use Rattle.serde_json.specs.Data.{string}
 use Rattle.serde_json.specs.View.{items_of}
-use Rattle.content_json.proofs.DirectLemmas.{array_read}
-use Rattle.content_json.proofs.direct.add_order.Goals as goal
+use Rattle.content_json.proofs.FromTokensLemmas.{array_read}
+use Rattle.content_json.proofs.from_tokens.add_order.Goals as goal
 
 pub returns-in-Some-clause-added : goal.returns-in-Some-clause-added
 returns-in-Some-clause-added c _ =

@@ -10,10 +10,10 @@ use Rattle.serde_json.specs.Data.{null, put}
 use Rattle.serde_json.specs.Read.{of_json, converted}
 use Rattle.resource_tree.specs.Content.{by_path}
 use Rattle.content_json.specs.Names.{order_name, is_order, is_content_name}
-use Rattle.content_json.specs.Direct.{TakesIn}
+use Rattle.content_json.specs.FromTokens.{TakesIn}
 use Rattle.content_json.proofs.PutLemmas.{member_fault-none}
-use Rattle.content_json.proofs.DirectLemmas.{AreRead, null_read, leaf_added, kid_added, one_more, all_read, object_added}
-use Rattle.content_json.proofs.direct.+direct.Goals as goal
+use Rattle.content_json.proofs.FromTokensLemmas.{AreRead, null_read, leaf_added, kid_added, one_more, all_read, object_added}
+use Rattle.content_json.proofs.from_tokens.+from_tokens.Goals as goal
 
 or_true : (a b : Bool) → b ≡ true → (a || b) ≡ true
 or_true true b h = refl
@@ -41,13 +41,13 @@ pub add_member-returns-in-Some-Null-clause-added : goal.add_member-returns-in-So
 add_member-returns-in-Some-Null-clause-added t c done =
     let first : c.args.reader.now ≡ Token.null ∷ c.next.new.self = c.in-Some-Null.ensures.value ∙ ap (λ t. token_of t ∷ c.next.new.self) c.in-Some-Null.field-0-is in
     let plain : is_content_name c.args.name.now ≡ true = grind arith in
-    leaf_added c.args.levels c.args.path.now c.args.name.now c.args.parent.now c.put_nothing.new.self c.args.nodes.now c.args.reader.now c.next.new.self (or_true (is_order c.args.name.now) (is_content_name c.args.name.now) plain)
+    leaf_added c.args.levels c.args.path.now c.args.name.now c.args.parent.now c.args.parent.now c.args.nodes.now c.args.reader.now c.next.new.self (or_true (is_order c.args.name.now) (is_content_name c.args.name.now) plain)
     (record {
       told = null;
       read = λ depth. ap (λ ts. converted of_json (value (suc depth) ts)) first ∙ null_read (suc depth) c.next.new.self;
       faultless = member_fault-none c.args.name.now null refl;
       no_kid = refl;
-      gains = c.put_nothing.ensures done;
+      gains = c.lacks.ensures done;
     })
 
 pub add_member-returns-in-Some : goal.add_member-returns-in-Some

@@ -6,8 +6,8 @@ use Rattle.resource_tree.specs.Content.{node_at}
 use Rattle.content_json.specs.Members.{AllMembers}
 use Rattle.content_json.specs.Nodes.{nodes_below}
 use Rattle.content_json.specs.Steps.{with_nodes_at}
-use Rattle.content_json.specs.Direct.{Holds, IsFit}
-use Rattle.content_json.proofs.direct.+direct.Given as goal
+use Rattle.content_json.specs.FromTokens.{Holds, IsFit}
+use Rattle.content_json.proofs.from_tokens.+from_tokens.Given as goal
 
 -- the levels that are left fall with each kid
 abbrev pub decreases-add_object : goal.decreases-add_object

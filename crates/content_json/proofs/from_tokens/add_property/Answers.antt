@@ -1,9 +1,9 @@
 use Rattle.std.proofs.Common.{◌∷◌, refl}
 use Rattle.std.proofs.lemmas.Result.{IfOk-weaker}
 use Rattle.json.specs.Reads.{token_of}
-use Rattle.content_json.specs.Direct.{BeginWith}
+use Rattle.content_json.specs.FromTokens.{BeginWith}
 use Rattle.content_json.proofs.PutLemmas.{value_no_kid, member_fault-none}
-use Rattle.content_json.proofs.direct.add_property.Goals as goal
+use Rattle.content_json.proofs.from_tokens.add_property.Goals as goal
 
 pub returns-in-Some-clause-added : goal.returns-in-Some-clause-added
 returns-in-Some-clause-added c =

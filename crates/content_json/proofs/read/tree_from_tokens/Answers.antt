@@ -11,7 +11,7 @@ use Rattle.content_json.specs.Steps.{is_sound}
 use Rattle.content_json.proofs.RoomLemmas.{neither_of}
 use Rattle.content_json.proofs.InOrder.{in_order_read}
 use Rattle.content_json.proofs.GoodLemmas.{good_content}
-use Rattle.content_json.proofs.read.direct_tree.Goals as goal
+use Rattle.content_json.proofs.read.tree_from_tokens.Goals as goal
 
 abbrev FromText : List ℕ → Content → Type 0
 FromText text nodes = (ms : Members) × (read text ≡ Some (object ms)) × (is_sound ms ≡ true) × (nodes ≡ map_of (nodes_in [] (object ms)))

@@ -5,7 +5,7 @@ use Rattle.std.specs.FinMap.Entries.{find}
 use Rattle.sp_base.specs.Names.{by_name}
 use Rattle.content_json.proofs.PutLemmas.{not_order}
 use Rattle.content_json.proofs.OpenObjectLemmas.{not_there, same_at, no_kid, holds-put}
-use Rattle.content_json.proofs.open_object.OpenObject.put_nothing.Goals as goal
+use Rattle.content_json.proofs.open_object.OpenObject.lacks.Goals as goal
 
 pub returns-then-not-contains : goal.returns-then-not-contains
 returns-then-not-contains c = λ free ms h.

@@ -12,7 +12,7 @@ ghost use Rattle.content_json.specs.ContentOf.{map_of};
 ghost use Rattle.content_json.specs.Faults.{fault_in};
 ghost use Rattle.content_json.specs.Nodes.{nodes_in, is_deeper_below};
 ghost use Rattle.content_json.specs.Steps.{is_sound, member_nodes, with_nodes_at};
-ghost use Rattle.content_json.specs.Direct.{Holds, AddsObject, AddsMembers, AddsMember, TakesIn};
+ghost use Rattle.content_json.specs.FromTokens.{Holds, AddsObject, AddsMembers, AddsMember, TakesIn};
 
 use crate::names::{is_order, is_plain};
 use crate::open_object::OpenObject;
@@ -24,7 +24,8 @@ use sp_base::{MOST_SEGMENTS, Mem, Path};
 use std::alloc::Global;
 use std::hash::RandomState;
 
-/// The nodes of sound content in which no kid is replaced by a later member of its name. Of other content there may be none.
+/// The nodes of sound content. There may be none where a member takes the place of a former one of its name, where a node has
+/// many properties of which one stands out of order, and of content that isn't sound.
 pub(crate) fn nodes_of_text(alloc: Global, seeds: RandomState, text: &str) -> Mem<Option<NodeMap>>
     ensures { IfOk result (λ found. IfSome found (λ nodes. (ms : Members) × (read text.now ≡ Some (object ms)) × (is_sound ms ≡ true) × (nodes ≡ map_of (nodes_in [] (object ms))))) }
 {
@@ -44,14 +45,16 @@ pub(crate) fn nodes_of_text(alloc: Global, seeds: RandomState, text: &str) -> Me
     if !whole || reader.next().is_some() {
         return Ok(None);
     }
+    // `add_object` stops before there are more; the length is what is shown of it.
     if nodes.len() > MOST_NODES {
         return Ok(None);
     }
     Ok(Some(nodes))
 }
 
-// Adds the node of an object after its opening brace, and each below it, if the object is sound and replaces no kid.
-#[cycle(direct)]
+// Adds the node of an object after its opening brace, and each below it, and answers whether it did. There may be `levels` more
+// levels below the object.
+#[cycle(from_tokens)]
 fn add_object(
     alloc: Global,
     reader: &mut Reader<'_>,
@@ -78,7 +81,7 @@ fn add_object(
 }
 
 // Takes in the members up to the closing brace, and adds the nodes of those that are kids.
-#[cycle(direct)]
+#[cycle(from_tokens)]
 fn add_members<'a>(
     alloc: Global,
     reader: &mut Reader<'a>,
@@ -106,7 +109,7 @@ fn add_members<'a>(
 }
 
 // Takes in the value of a member, and adds its nodes where it is a kid.
-#[cycle(direct)]
+#[cycle(from_tokens)]
 fn add_member<'a>(
     alloc: Global,
     reader: &mut Reader<'a>,
@@ -128,14 +131,14 @@ fn add_member<'a>(
     }
     match reader.next() {
         Some(Token::BeginObject) => add_kid(alloc, reader, nodes, path, levels, name, parent),
-        Some(Token::Null) => Ok(parent.put_nothing(name)),
+        Some(Token::Null) => Ok(parent.lacks(name)),
         Some(first) => add_property(alloc, reader, first, name, parent),
         None => Ok(false),
     }
 }
 
 // Takes in a member with an object, after its opening brace.
-#[cycle(direct)]
+#[cycle(from_tokens)]
 fn add_kid<'a>(
     alloc: Global,
     reader: &mut Reader<'a>,

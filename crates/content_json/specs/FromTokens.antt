@@ -47,7 +47,7 @@ pub record Holds (parent : OpenObject) (ms : Members) : Type 0 where
   pub sorted : AreSorted ms
   pub props : (q : List ℕ) → find by_name q parent.props ≡ (if is_order q then None else option_and_then data_value (get_member q ms))
   pub kids : (q : List ℕ) → contains_by (λ k. slice_cmp nat_cmp q k.now) parent.kids ≡ (not (is_order q) && is_kid ms q)
-  pub order : unwrap_or (get_member order_name ms) (texts_array []) ≡ texts_array (map (λ name. name.now) parent.order.items)
+  pub order : unwrap_or (get_member order_name ms) (texts_array []) ≡ texts_array (texts_in parent.order.items)
 
 -- one member more, which takes the place of no kid
 abbrev pub Gains : OpenObject → OpenObject → List ℕ → Data → Type 0

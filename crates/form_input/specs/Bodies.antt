@@ -9,10 +9,12 @@ pub record BodyPart : Type 0 where
   pub line : List ℕ
   pub content : List (List ℕ)
 
+-- the lines of parts, one after another
 abbrev pub part_lines : List BodyPart → List (List ℕ)
 part_lines [] = []
 part_lines (p ∷ more) = p.line ∷ (p.content ++ part_lines more)
 
+-- none of the lines is a boundary line
 abbrev pub are_plain : List ℕ → List (List ℕ) → Bool
 are_plain dash ls = list_all (λ line. is_plain_line (line_kind dash line)) ls
 

@@ -4,7 +4,7 @@ use Rattle.form_input.specs.declared.boundary.BoundaryLine.{BoundaryLine}
 use Rattle.form_input.specs.Lines.{lines, lines_left}
 use Rattle.form_input.specs.Multipart.{Section, Sections, sections}
 
--- the sections of what is left of a body of so many bytes
+-- the sections of what is left of a body of `end` bytes
 abbrev pub sections_left : List ℕ → ℕ → Option (List ℕ) → Sections
 sections_left dash end None = sections dash end []
 sections_left dash end (Some text) = sections dash (end - length text) (lines text)

@@ -11,6 +11,7 @@ use Rattle.form_input.specs.Multipart.{multipart_of, most_pairs}
 abbrev pub decoded_pair : List ℕ × List ℕ → List ℕ × List ℕ
 decoded_pair p = (utf8_lossy (decode p.0), utf8_lossy (decode p.1))
 
+-- what a body of the kind `application/x-www-form-urlencoded` reads as: at most 1,000 pairs
 abbrev pub urlencoded_of : List ℕ → Result (List (List ℕ × List ℕ)) FormFault
 urlencoded_of body = if nat_lt most_pairs (length (raw_pairs body)) then Err TooMany else Ok (map decoded_pair (raw_pairs body))
 
@@ -18,9 +19,11 @@ urlencoded_of body = if nat_lt most_pairs (length (raw_pairs body)) then Err Too
 abbrev pub longest_boundary : ℕ
 longest_boundary = 70
 
+-- a boundary has 1 byte at least and no more than the longest
 abbrev pub is_boundary : List ℕ → Bool
 is_boundary boundary = nat_lt 0 (length boundary) && nat_le (length boundary) longest_boundary
 
+-- what a multipart body reads as by the boundary that its type names
 abbrev pub by_boundary : Option (List ℕ) → List ℕ → Result (List (List ℕ × List ℕ)) FormFault
 by_boundary None body = Err NoBoundary
 by_boundary (Some boundary) body = if is_boundary boundary then multipart_of boundary body else Err NoBoundary

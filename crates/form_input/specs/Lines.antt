@@ -2,9 +2,11 @@
 use Rattle.std.specs.Prelude.{◌==◌, ◌&&◌, ℕ, Bool, if◌then◌else◌, List, [], ◌∷◌, ◌++◌, Option, Some, None}
 use Rattle.std.specs.List.{onto_first}
 
+-- CR and LF
 abbrev pub is_line_end_pair : ℕ → ℕ → Bool
 is_line_end_pair b c = b == 13 && c == 10
 
+-- the lines of a text, without their line ends
 unfoldable pub lines : List ℕ → List (List ℕ)
 lines [] = [] ∷ []
 lines (b ∷ []) = (b ∷ []) ∷ []

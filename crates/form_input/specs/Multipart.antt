@@ -17,14 +17,17 @@ dash_boundary boundary = codes "--" ++ boundary
 abbrev pub kind_after : List ℕ → LineKind
 kind_after rest = if list_all is_space_or_tab rest then Opening else (if bytes_eq (take 2 rest) (codes "--") && list_all is_space_or_tab (drop 2 rest) then Closing else Plain)
 
+-- what a line is: a boundary line begins with the bytes of the boundary
 abbrev pub line_kind : List ℕ → List ℕ → LineKind
 line_kind dash line = if bytes_eq (take (length dash) line) dash then kind_after (drop (length dash) line) else Plain
 
+-- whether a line of this kind is no boundary line
 abbrev pub is_plain_line : LineKind → Bool
 is_plain_line Opening = false
 is_plain_line Closing = false
 is_plain_line Plain = true
 
+-- whether it is the closing line
 abbrev pub is_closing_line : LineKind → Bool
 is_closing_line Opening = false
 is_closing_line Closing = true
@@ -51,6 +54,7 @@ unfoldable pub sections : List ℕ → ℕ → List (List ℕ) → Sections
 sections dash at [] = record { before = []; later = [] }
 sections dash at (line ∷ more) = with_line (line_kind dash line) at line (sections dash (at + length line + 2) more)
 
+-- the first text, where it is there, else the other
 abbrev pub first_some : Option (List ℕ) → Option (List ℕ) → Option (List ℕ)
 first_some None other = other
 first_some (Some text) other = Some text
@@ -60,6 +64,7 @@ unfoldable pub disposition_in : List (List ℕ) → Option (List ℕ)
 disposition_in [] = None
 disposition_in (line ∷ more) = if length line == 0 then None else first_some (after_name 58 (codes "content-disposition") line) (disposition_in more)
 
+-- the text of lines, where there is one at least
 abbrev pub text_of_some : List (List ℕ) → Option (List ℕ)
 text_of_some [] = None
 text_of_some (line ∷ more) = Some (joined (line ∷ more))
@@ -69,14 +74,17 @@ unfoldable pub value_in : List (List ℕ) → Option (List ℕ)
 value_in [] = None
 value_in (line ∷ more) = if length line == 0 then text_of_some more else value_in more
 
+-- a text, where it is in UTF-8
 abbrev pub if_utf8 : Option (List ℕ) → Option (List ℕ)
 if_utf8 None = None
 if_utf8 (Some text) = if is_utf8 text then Some text else None
 
+-- the name of a part by its Content-Disposition: that of one of `form-data`, in UTF-8
 abbrev pub part_name : Option (List ℕ) → Option (List ℕ)
 part_name None = None
 part_name (Some disposition) = if is_type (codes "form-data") disposition then if_utf8 (parameter (codes "name") disposition) else None
 
+-- a name and a value, where both are there
 abbrev pub both : Option (List ℕ) → Option (List ℕ) → Option (List ℕ × List ℕ)
 both None value = None
 both (Some name) None = None
@@ -90,6 +98,7 @@ pair_of content = both (part_name (disposition_in content)) (if_utf8 (value_in c
 abbrev pub most_pairs : ℕ
 most_pairs = 1000
 
+-- pairs before those of the rest, where it has no fault
 abbrev pub before_all : List (List ℕ × List ℕ) → Result (List (List ℕ × List ℕ)) FormFault → Result (List (List ℕ × List ℕ)) FormFault
 before_all pairs (Ok more) = Ok (pairs ++ more)
 before_all pairs (Err fault) = Err fault
@@ -99,7 +108,7 @@ abbrev pub with_part : ℕ → ℕ → Option (List ℕ × List ℕ) → Result 
 with_part n place None rest = Err (BadPart place)
 with_part n place (Some pair) rest = if n == most_pairs then Err TooMany else before_all (pair ∷ []) rest
 
--- the pairs of sections in a body of so many bytes, after n others: a part is a section that another follows, and the closing line ends them
+-- the pairs of sections in a body of `end` bytes, after n others: a part is a section that another follows, and the closing line ends them
 unfoldable pub pairs_of : ℕ → ℕ → List Section → Result (List (List ℕ × List ℕ)) FormFault
 pairs_of end n [] = Err (BadPart end)
 pairs_of end n (s ∷ []) = if s.closing then Ok [] else Err (BadPart end)

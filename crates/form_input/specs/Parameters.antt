@@ -9,10 +9,12 @@ use Rattle.form_input.specs.declared.parameters.Quoting.TheVariants.{Outside, In
 abbrev pub is_space_or_tab : ℕ → Bool
 is_space_or_tab b = if b == 32 then true else b == 9
 
+-- a text without the blanks that it begins with
 unfoldable pub after_blanks : List ℕ → List ℕ
 after_blanks [] = []
 after_blanks (b ∷ text) = if is_space_or_tab b then after_blanks text else b ∷ text
 
+-- a text without the blanks that it ends with
 unfoldable pub before_blanks : List ℕ → List ℕ
 before_blanks [] = []
 before_blanks (b ∷ text) = if is_space_or_tab b && length (before_blanks text) == 0 then [] else b ∷ before_blanks text
@@ -38,6 +40,7 @@ unfoldable pub parameter_pieces_from : Quoting → List ℕ → List (List ℕ)
 parameter_pieces_from quoting [] = [] ∷ []
 parameter_pieces_from quoting (b ∷ text) = if separates quoting b then [] ∷ parameter_pieces_from Outside text else onto_first b (parameter_pieces_from (quoting_step quoting b) text)
 
+-- the pieces of a text between semicolons that stand outside quotes
 abbrev pub parameter_pieces : List ℕ → List (List ℕ)
 parameter_pieces text = parameter_pieces_from Outside text
 
@@ -54,6 +57,7 @@ after_separator separator (b ∷ text) = if b == separator then Some text else N
 abbrev pub after_name : ℕ → List ℕ → List ℕ → Option (List ℕ)
 after_name separator name text = if str_eq_ignore_ascii_case (take (length name) text) name then after_separator separator (drop (length name) text) else None
 
+-- a byte before a word, where there is one
 abbrev pub with_byte : ℕ → Option (List ℕ) → Option (List ℕ)
 with_byte b None = None
 with_byte b (Some word) = Some (b ∷ word)
@@ -70,6 +74,7 @@ unquoted false (b ∷ text) = if b == 92 then unquoted true text
 abbrev pub parameter_word : List ℕ → Option (List ℕ)
 parameter_word text = if slice_index text 0 == 34 then unquoted false (drop 1 text) else Some (before_blanks text)
 
+-- the word of a parameter that was found, else the other
 abbrev pub word_or : Option (List ℕ) → Option (List ℕ) → Option (List ℕ)
 word_or None other = other
 word_or (Some text) other = parameter_word text

@@ -55,7 +55,7 @@ pub struct BoundaryLine<'a> {
     pub after: Option<&'a [u8]>,
 }
 
-/// The first boundary line of a text at the end of a body of so many bytes.
+/// The first boundary line of a text at the end of a body of `end` bytes.
 pub fn next_mark<'a>(dash: &[u8], end: usize, text: &'a [u8]) -> Option<BoundaryLine<'a>>
     requires { length text.now ≤ end }
     ensures some { IfSome result (λ m. IsMark dash.now end text.now m) }

@@ -186,7 +186,7 @@ const CAME_AGAIN: &[(&str, Option<&[&str]>)] = &[
     ("/p/e", None),
 ];
 
-// Whether these pairs, posted to /p, leave these nodes, and so many in all.
+// Whether these pairs, posted to /p, leave these nodes, and this number of them in all.
 fn leaves(
     alloc: Global,
     tree: &mut Tree,

@@ -44,6 +44,7 @@ pub record IsOver (seen : Seen) (res : Resource) (depth most : ℕ) : Type 0 whe
   pub fits : 1 < most → shown seen res most ≤ most_resources
   pub deeper : (k : ℕ) → most < k → most_resources < shown seen res k
 
+-- an answer is what it says it is
 abbrev pub Answers : Seen → Resource → ℕ → ℕ → JsonAnswer → Type 0
 Answers seen res depth most_bytes (Whole text) = IsWhole seen res depth most_bytes text
 Answers seen res depth most_bytes (Over most) = IsOver seen res depth most

@@ -13,6 +13,7 @@ use Rattle.resource_tree.specs.Seen.{Resource, Seen}
 use Rattle.property_json.specs.PropertyJson.{members_before}
 use Rattle.get_servlet.specs.declared.kids.Kid.{Kid}
 
+-- a resource and the path that it is seen at
 abbrev pub make_kid : List (List ℕ) → Resource → Kid
 make_kid path res = record { path = path; res = res }
 
@@ -52,6 +53,7 @@ resource_json seen (suc depth) path res = object (members_before res.props (memb
 unfoldable pub json_text : Seen → ℕ → Resource → List ℕ
 json_text seen depth res = print (json_tokens (resource_json seen depth res.path res))
 
+-- a count for a kid, 0 where there is none
 abbrev pub kid_count : (List (List ℕ) → Resource → ℕ) → Option Kid → ℕ
 kid_count count None = 0
 kid_count count (Some kid) = count kid.path kid.res
@@ -61,6 +63,7 @@ unfoldable pub shown_at : Seen → ℕ → List (List ℕ) → Resource → ℕ
 shown_at seen zero path res = 1
 shown_at seen (suc depth) path res = 1 + sum_by (λ name. kid_count (shown_at seen depth) (shown_kid seen path res name)) res.kids
 
+-- the same of a resource at its own path
 abbrev pub shown : Seen → Resource → ℕ → ℕ
 shown seen res depth = shown_at seen depth res.path res
 
@@ -68,7 +71,7 @@ shown seen res depth = shown_at seen depth res.path res
 abbrev pub most_resources : ℕ
 most_resources = 1000
 
--- the greatest depth up to this one that is 1 or shows at most so many
+-- the greatest depth up to this one that is 1 or shows at most 1,000 resources
 unfoldable pub greatest_fitting : (ℕ → ℕ) → ℕ → ℕ
 greatest_fitting count zero = 1
 greatest_fitting count (suc depth) = if nat_le (count (suc depth)) most_resources then suc depth else greatest_fitting count depth

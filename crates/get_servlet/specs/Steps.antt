@@ -71,6 +71,7 @@ abbrev pub Gathers : ℕ → Bool → List Kid → List Kid → Type 0
 Gathers most true found kids = (found ≡ kids) × (length kids ≤ most)
 Gathers most false found kids = most < length kids
 
+-- the same where nothing is kept of kids that are more
 abbrev pub GathersAll : ℕ → Option (List Kid) → List Kid → Type 0
 GathersAll most None kids = most < length kids
 GathersAll most (Some found) kids = (found ≡ kids) × (length kids ≤ most)

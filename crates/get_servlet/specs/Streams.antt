@@ -8,6 +8,7 @@ use Rattle.get_servlet.specs.declared.kids.Kid.{Kid}
 use Rattle.get_servlet.specs.declared.streams.Stream.{Stream}
 use Rattle.get_servlet.specs.Rendering.{lists_kid, kid_named}
 
+-- each byte is one of 0x20 to 0x7E
 abbrev pub is_printable_text : List ℕ → Bool
 is_printable_text text = list_all (λ b. nat_le 32 b && nat_le b 126) text
 
@@ -25,6 +26,7 @@ abbrev pub media_type_of : Option (List ℕ) → List ℕ
 media_type_of None = codes "application/octet-stream"
 media_type_of (Some text) = if is_media_type text then text else codes "application/octet-stream"
 
+-- a body with its media type
 abbrev pub make_stream : Option (List ℕ) → List ℕ → Stream
 make_stream kind body = record { kind = media_type_of kind; body = body }
 
@@ -32,6 +34,7 @@ make_stream kind body = record { kind = media_type_of kind; body = body }
 abbrev pub stream_in : List (List ℕ × Value) → Option Stream
 stream_in props = option_map (make_stream (text_in props (codes "jcr:mimeType"))) (text_in props (codes "jcr:data"))
 
+-- the stream of a kid's properties, where there is a kid
 abbrev pub kid_stream : Option Kid → Option Stream
 kid_stream None = None
 kid_stream (Some kid) = stream_in kid.res.props

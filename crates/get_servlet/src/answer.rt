@@ -6,11 +6,8 @@ ghost use Rattle.get_servlet.specs.Rendering.{resource_json};
 use crate::measure::depth_instead;
 use crate::writing::text_answer;
 use resource_tree::{Look, Res};
-use sp_base::{Mem, TextBuf};
+use sp_base::{MOST_SEGMENTS, Mem, TextBuf};
 use std::alloc::Global;
-
-/// The most segments of a path, below which there are no more levels.
-const MOST_LEVELS: u32 = 64;
 
 /// How many levels below a resource are asked for.
 #[derive(Clone, Copy, Drop)]
@@ -34,7 +31,7 @@ fn levels_of(depth: Depth) -> u32
 {
     match depth {
         Depth::Levels(levels) => levels,
-        Depth::Infinity => MOST_LEVELS,
+        Depth::Infinity => MOST_SEGMENTS as u32,
     }
 }
 

@@ -1,6 +1,7 @@
 //! Laws of the definitions, on functions that do nothing.
 ghost use Rattle.std.specs.Prelude.{◌≡◌, ◌≤◌, ◌↔◌, ℕ, List, Some};
 ghost use Rattle.json.specs.Json.{document};
+ghost use Rattle.sp_base.specs.Paths.{most_segments};
 ghost use Rattle.resource_tree.specs.Seen.{Resource, Seen};
 ghost use Rattle.get_servlet.specs.declared.answer.JsonAnswer.TheVariants.{Over};
 ghost use Rattle.get_servlet.specs.Answers.{json_answer, IsOver};
@@ -9,7 +10,7 @@ ghost use Rattle.get_servlet.specs.Rendering.{resource_json, json_text, shown};
 
 /// A path has at most 64 segments, so whoever asks for more levels is shown no more.
 pub fn sixty_four_levels_are_all()
-    ensures { (seen : Seen) (depth : ℕ) (res : Resource) → 64 ≤ depth → json_text seen depth res ≡ json_text seen 64 res }
+    ensures { (seen : Seen) (depth : ℕ) (res : Resource) → most_segments ≤ depth → json_text seen depth res ≡ json_text seen most_segments res }
 {}
 
 /// The resources that are shown are the objects in the JSON: no property is an object, and each resource is one.

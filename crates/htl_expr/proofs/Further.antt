@@ -11,7 +11,7 @@ left_of Memory = 0
 left_of (Unexpected left) = left
 left_of (TooDeep left) = left
 
--- at most so many bytes are left, by how many are left after what is read
+-- at most n bytes are left, by how many are left after what is read
 abbrev pub Within : {A : Type 0} → (A → ℕ) → ℕ → Result A ExprStop → Type 0
 Within size n (Ok x) = size x ≤ n
 Within size n (Err d) = left_of d ≤ n

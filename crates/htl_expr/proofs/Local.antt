@@ -58,7 +58,7 @@ IsAt Memory rest = ⊥
 IsAt (Unexpected left) rest = length rest ≡ left
 IsAt (TooDeep left) rest = (length rest ≡ left) × (begins nests rest ≡ true)
 
--- the same reason where so many bytes are left
+-- the same reason where `left` bytes are left
 abbrev pub moved : ExprStop → ℕ → ExprStop
 moved Memory left = Memory
 moved (Unexpected _) left = Unexpected left

@@ -7,7 +7,7 @@ use Rattle.htl_expr.proofs.Tools.{bind_ok, chosen, ok_is}
 use Rattle.htl_expr.proofs.Local.{bind_err, Same, nil_same, Kept, Failed, Local, err_is}
 use Rattle.htl_expr.proofs.LocalTokens.{blanks}
 
--- a byte in front, that makes what is after it
+-- a byte before the text, that makes what is after it
 body_ok : (b b' : Bool) (mark c : ℕ) (s : List ℕ) (make : List ℕ → List ℕ) (x r : List ℕ)
     → ((t : List ℕ) → string_from b mark (c ∷ t) ≡ (string_from b' mark t >>= λ y. Ok (make y.0, y.1)))
     → ((y q : List ℕ) → string_from b' mark s ≡ Ok (y, q) → Kept (string_from b' mark) s y q) → string_from b mark (c ∷ s) ≡ Ok (x, r) → Kept (string_from b mark) (c ∷ s) x r

@@ -58,7 +58,7 @@ module _ (levels : ℕ) where
   passed p (Err (Unexpected (suc (suc n)))) r-is h = absurd (grind (arith, nat_tests))
   passed p (Err (TooDeep n)) r-is h = absurd cc
 
-  -- the front with the colon
+  -- the prefix with the colon
   colon_taken : (s : List ℕ) (place : ℕ) → is_at 58 (drop place s) ≡ true → take (place + 1) s ≡ take place s ++ 58 ∷ []
   unfolding is_at
   colon_taken [] zero h = absurd cc

@@ -1,4 +1,4 @@
--- Each part is read before other texts too, which makes each front that reading passed a front of a text of the grammar.
+-- Each part is read before other texts too, which makes each prefix that reading passed a prefix of a text of the grammar.
 use Rattle.std.proofs.Common.{ℕ, suc, List, [], ◌∷◌}
 use Rattle.htl_expr.specs.declared.node.ExprNode.{ExprNode}
 use Rattle.htl_expr.specs.declared.node.ExprNode.TheVariants as n

@@ -121,7 +121,7 @@ module _ (levels : ℕ) where
   colon_head (c ∷ r) [] h e = absurd h
   colon_head (c ∷ r) (d ∷ z) h e = ap (λ (x : ℕ). eqb x 58) (sym h) ∙ e
 
-  -- the front of the byte at fault, by how many bytes are left
+  -- the length of the prefix before the byte at fault, by how many bytes are left
   front_len : (d : ExprStop) (s : List ℕ) (k : Left levels d s) (left : ℕ) → length k.rest ≡ left → length s - left ≡ length k.front
   front_len d s k left len = omega (arith, ap length k.parts, length-append k.front k.rest, len)
 

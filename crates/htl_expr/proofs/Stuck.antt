@@ -63,7 +63,7 @@ cut_of R s k q = record { front = q.front; rest = q.rest; more = q.more; parts =
 -- ---- what was read, and then a part at which reading stopped
 
 module _ (R Q : List ℕ → List ℕ → Type 0) (s m : List ℕ) (k : ℕ) where
-  -- the text with both fronts
+  -- the text with both prefixes
   behind : (P : List ℕ → Type 0) (front inner more z : List ℕ) → P (front ++ (inner ++ (more ++ z))) → P ((front ++ inner) ++ (more ++ z))
   behind P front inner more z x = subst P (sym (append_assoc front inner (more ++ z))) x
 

@@ -25,6 +25,7 @@ texts_of (texts.Truths list) = map truth_text list.now
 abbrev pub by_texts : List (List ℕ) → List (List ℕ) → Ordering
 by_texts = then_cmp (on length nat_cmp) (slice_cmp (slice_cmp nat_cmp))
 
+-- that is a total order
 pub by_texts_total : IsTotalOrder by_texts
 by_texts_total = then_total (on_total length nat_cmp_total) (lists_total nat_list_cmp_total)
 

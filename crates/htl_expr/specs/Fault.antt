@@ -20,7 +20,7 @@ passes (Err stop.Memory) = false
 passes (Err (stop.Unexpected left)) = nat_le left 1
 passes (Err (stop.TooDeep left)) = false
 
--- whether a colon after a text may belong to a field's name, where so many levels may nest
+-- whether a colon after a text may belong to a field's name, where `levels` levels may nest
 abbrev pub takes_colon : ℕ → List ℕ → Bool
 takes_colon levels t = passes (expression_read levels (t ++ colon_letter))
 
@@ -28,7 +28,7 @@ takes_colon levels t = passes (expression_read levels (t ++ colon_letter))
 abbrev pub fault_place : ℕ → List ℕ → ℕ → ℕ
 fault_place levels t place = if is_at 58 (drop place t) && takes_colon levels (take place t) then place + 1 else place
 
--- the answer of the reading, with its place counted from the front
+-- the answer of the reading, with its place counted from the beginning of the text
 abbrev pub expression_answer : ℕ → List ℕ → Result Expr ExprStop → Result Expr ExprFault
 expression_answer levels t (Ok e) = Ok e
 expression_answer levels t (Err stop.Memory) = Err NoMemory
@@ -60,7 +60,7 @@ pub record Agree (place : ℕ) (s t : List ℕ) : Type 0 where
   pub front : take place t ≡ take place s
   pub here : SameHead (drop place s) (drop place t)
 
--- no text that is the same up to and with this byte is an expression, where so many levels may nest
+-- no text that is the same up to and with this byte is an expression, where `levels` levels may nest
 pub record HasNone (levels : ℕ) (s : List ℕ) (place : ℕ) : Type 0 where
   pub within : place ≤ length s
   pub none : (t : List ℕ) (e : Expr) → Agree place s t → WholeWithin levels t e → ⊥

@@ -38,7 +38,7 @@ abbrev pub Passes : NameKind → List ℕ → List ℕ → Type 0
 Passes kind [] after = Unit {0}
 Passes kind (c ∷ w) after = (goes_on kind (c ∷ (w ++ after)) ≡ true) × Passes kind w after
 
--- the longest name at the front
+-- the longest name at the beginning
 pub record NameToken (kind : NameKind) (s w r : List ℕ) : Type 0 where
   pub after : List ℕ
   pub parts : s ≡ w ++ after
@@ -73,7 +73,7 @@ abbrev pub Sign : Bool → List ℕ → List ℕ → Type 0
 Sign true s t = s ≡ 45 ∷ t
 Sign false s t = s ≡ t
 
--- the longest number of 64 bits at the front
+-- the longest number of 64 bits at the beginning
 pub record Number (s : List ℕ) (k : ℤ) (r : List ℕ) : Type 0 where
   pub negative : Bool
   pub magnitude : ℕ
@@ -135,8 +135,8 @@ part_of And = Compare
 part_of Or = Both
 part_of Comma = Choice
 
--- `Reads part levels text tree rest`: the text begins with the part, which stands for the tree, and the rest is what is left after it;
--- so many more levels may nest. More reads the items after the first, each with its separator before it.
+-- `Reads part depth text tree rest`: the text begins with the part, which stands for the tree, and the rest is what is left after it;
+-- `depth` more levels may nest. `More` reads the items after the first, each with its separator before it.
 mutual
   pub data Reads : Part → ℕ → List ℕ → ExprNode → List ℕ → Type 0 where
     string : {depth : ℕ} {s w r : List ℕ} → String s w r → Reads Start depth s (n.Text w) r
@@ -210,12 +210,12 @@ pub data Options : List ℕ → Option (List ℕ) → Option Context → Type 0 
 abbrev pub nesting_limit : ℕ
 nesting_limit = 32
 
--- a choice in which so many levels may nest, or nothing
+-- a choice in which `levels` levels may nest, or nothing
 abbrev pub Tree : ℕ → List ℕ → Option ExprNode → List ℕ → Type 0
 Tree levels s None r = r ≡ s
 Tree levels s (Some e) r = Reads Choice levels s e r
 
--- the expression of a whole text in which so many levels may nest
+-- the expression of a whole text in which `levels` levels may nest
 pub record WholeWithin (levels : ℕ) (s : List ℕ) (e : Expr) : Type 0 where
   pub behind : List ℕ
   pub tree : Tree levels (blanks_skipped s) e.node behind

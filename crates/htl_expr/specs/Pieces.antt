@@ -14,6 +14,7 @@ piece_text scope (piece.Property name) = plain (codes ",") (property scope name.
 piece_text scope (piece.Text text) = text.now
 piece_text scope (piece.Long n) = signed_decimal n
 
+-- the texts of pieces
 abbrev pub piece_texts : Bindings → List ItemPiece → List (List ℕ)
 piece_texts scope pieces = map (piece_text scope) pieces
 
@@ -31,7 +32,7 @@ HavePieces scope [] texts = texts ≡ []
 HavePieces scope (pieces ∷ items) [] = ⊥
 HavePieces scope (pieces ∷ items) (text ∷ texts) = AreItemPieces scope pieces text × HavePieces scope items texts
 
--- so many texts in front are the same
+-- the texts before this place are the same
 abbrev pub AgreeUpTo : List (List ℕ) → List (List ℕ) → ℕ → Type 0
 AgreeUpTo xs ys place = (place ≤ length xs) × (place ≤ length ys) × (take place xs ≡ take place ys)
 

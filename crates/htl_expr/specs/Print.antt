@@ -1,4 +1,4 @@
--- How a value is printed. `run_len` and `first_reference` are needed by proofs and private functions alone.
+-- How a value is printed. `first_reference` is needed by proofs and private functions alone.
 use Rattle.std.specs.Prelude.{◌≡◌, ℕ, suc, is_some, ◌==◌, ◌||◌, Bool, true, not, if◌then◌else◌, List, [], ◌∷◌, ◌++◌, Option, Some, None, codes, flat_map, unwrap_or}
 use Rattle.std.specs.List.{list_all}
 use Rattle.std.specs.Fmt.{signed_decimal}
@@ -43,7 +43,7 @@ unfoldable pub reference_place : List ℕ → ℕ
 reference_place [] = 0
 reference_place (c ∷ t) = if is_some (reference c) then 0 else suc (reference_place t)
 
--- the reference of the byte in front
+-- the reference of the first byte
 unfoldable pub first_reference : List ℕ → Option (List ℕ)
 first_reference [] = None
 first_reference (c ∷ t) = reference c

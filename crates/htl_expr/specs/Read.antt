@@ -25,6 +25,7 @@ abbrev pub and_of : ExprNode → List ExprNode → ExprNode
 and_of e [] = e
 and_of e (f ∷ fs) = n.And e (f ∷ fs)
 
+-- and so it is where `||` stands between them
 abbrev pub or_of : ExprNode → List ExprNode → ExprNode
 or_of e [] = e
 or_of e (f ∷ fs) = n.Or e (f ∷ fs)
@@ -51,7 +52,7 @@ compares t = is_at 61 t || (is_at 33 t || (is_at 60 t || is_at 62 t))
 unfoldable pub or_equal : Comparison → Comparison → List ℕ → Comparison × List ℕ
 or_equal bare equal t = if is_at 61 (drop 1 t) then (equal, blanks_skipped (drop 1 (drop 1 t))) else (bare, blanks_skipped (drop 1 t))
 
--- the comparison at the front
+-- the comparison at the beginning
 unfoldable pub comparison : List ℕ → Outcome Comparison
 comparison t =
     if is_at 61 t then (second 61 t >>= λ r. Ok (Equal, r))
@@ -201,6 +202,7 @@ context_string t = if begins is_quote t then (do
 unfoldable pub join_option : List ℕ → Outcome (List ℕ)
 join_option t = literal (codes "join") t >>= λ a. expect 61 (blanks_skipped a) >>= λ b. string b
 
+-- `context` and the name of a context
 unfoldable pub context_option : List ℕ → Outcome Context
 context_option t = literal (codes "context") t >>= λ a. expect 61 (blanks_skipped a) >>= λ b. context_string b
 
@@ -217,7 +219,7 @@ options t = if is_at 64 t then (do
   o ← option (None, None) (blanks_skipped (drop 1 t))
   if is_at 44 o.1 then option o.0 (blanks_skipped (drop 1 o.1)) else Ok o) else Ok ((None, None), t)
 
--- nothing, or a choice in which so many levels may nest
+-- nothing, or a choice in which `levels` levels may nest
 unfoldable pub optional_choice : ℕ → List ℕ → Outcome (Option ExprNode)
 optional_choice levels t = if length t == 0 || is_at 64 t then Ok (None, t) else (choice levels (nesting levels) t >>= λ x. Ok (Some x.0, x.1))
 
@@ -225,7 +227,7 @@ optional_choice levels t = if length t == 0 || is_at 64 t then Ok (None, t) else
 abbrev pub expr_of : Option ExprNode → Given → Expr
 expr_of node given = record { node = node; join = given.0; context = given.1 }
 
--- the whole text, in which so many levels may nest
+-- the whole text, in which `levels` levels may nest
 unfoldable pub expression_read : ℕ → List ℕ → Result Expr ExprStop
 expression_read levels t = do
   x ← optional_choice levels (blanks_skipped t)

@@ -1,4 +1,4 @@
--- The tokens at the front of a text. A token is read with the blanks after it (HTL specification 1.4, "Expression Language").
+-- The tokens at the beginning of a text. A token is read with the blanks after it (HTL specification 1.4, "Expression Language").
 use Rattle.std.specs.Prelude.{◌≡◌, ◌<◌, ℕ, ℤ, pos, neg_ℤ, suc, ◌+◌, ◌*◌, ◌-◌, Bool, true, false, ◌||◌, ◌&&◌, if◌then◌else◌, ◌==◌, nat_le, List, [], ◌∷◌, ◌++◌, length, take, drop, Option, Some, None, Result, Ok, Err, slice_index}
 use Rattle.htl_expr.specs.declared.stop.ExprStop.{ExprStop}
 use Rattle.htl_expr.specs.declared.stop.ExprStop.TheVariants.{Memory, Unexpected, TooDeep}
@@ -44,6 +44,7 @@ is_at c (d ∷ t) = d == c
 abbrev pub is_expression_digit : ℕ → Bool
 is_expression_digit c = nat_le 48 c && nat_le c 57
 
+-- A to Z and a to z
 abbrev pub is_letter : ℕ → Bool
 is_letter c = (nat_le 65 c && nat_le c 90) || (nat_le 97 c && nat_le c 122)
 
@@ -70,7 +71,7 @@ goes_on Name t = begins is_word_byte t
 goes_on Field [] = false
 goes_on Field (c ∷ t) = is_word_byte c || (c == 58 && begins is_letter t)
 
--- how many bytes at the front belong to the name
+-- how many bytes at the beginning belong to the name
 unfoldable pub name_len : NameKind → List ℕ → ℕ
 name_len kind [] = 0
 name_len kind (c ∷ t) = if goes_on kind (c ∷ t) then suc (name_len kind t) else 0
@@ -129,11 +130,11 @@ unfoldable pub plain_quoted_len : ℕ → List ℕ → ℕ
 plain_quoted_len mark [] = 0
 plain_quoted_len mark (c ∷ t) = if c == mark || c == 92 then 0 else suc (plain_quoted_len mark t)
 
--- characters in front of what was read
+-- characters before what was read
 abbrev pub read_in_front : List ℕ → Outcome (List ℕ) → Outcome (List ℕ)
 read_in_front front o = o >>= λ x. Ok (front ++ x.0, x.1)
 
--- the character of an escape in front of what was read
+-- the character of an escape before what was read
 abbrev pub string_after_escape : Option ℕ → List ℕ → Outcome (List ℕ) → Outcome (List ℕ)
 string_after_escape None at rest = Err (Unexpected (length at))
 string_after_escape (Some d) at rest = read_in_front (d ∷ []) rest
@@ -157,7 +158,7 @@ unfoldable pub expression_digit_fits : ℕ → ℕ → List ℕ → Bool
 expression_digit_fits limit m [] = false
 expression_digit_fits limit m (c ∷ t) = is_expression_digit c && nat_le (m * 10 + (c - 48)) limit
 
--- the longest number at the front that fits
+-- the longest number at the beginning that fits
 unfoldable pub expression_digits_from : ℕ → ℕ → List ℕ → ℕ × List ℕ
 expression_digits_from limit m [] = (m, [])
 expression_digits_from limit m (c ∷ t) = if expression_digit_fits limit m (c ∷ t) then expression_digits_from limit (m * 10 + (c - 48)) t else (m, c ∷ t)

@@ -8,7 +8,7 @@ pub record Begins (front text : List ℕ) : Type 0 where
   pub rest : List ℕ
   pub parts : text ≡ front ++ rest
 
--- a text is not written, and would go beyond the limit unless memory lacks; what stood there stays in front
+-- a text is not written, and would go beyond the limit unless memory lacks; what stood there stays at the beginning
 abbrev pub Stopped : ℕ → WriteFault → List ℕ → List ℕ → List ℕ → Type 0
 Stopped most f old more new = Begins old new × (f ≢ NoMemory → (f ≡ TooLong) × (most < length (old ++ more)))
 

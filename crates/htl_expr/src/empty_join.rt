@@ -13,7 +13,7 @@ use crate::room::WriteFault;
 use sp_base::TextBuf;
 use std::alloc::Global;
 
-// Items with nothing between them, where they have at most so many bytes.
+// Items with nothing between them, where they have at most `most` bytes.
 fn joined(alloc: Global, most: usize, items: &[TextBuf]) -> Result<TextBuf, WriteFault>
     ensures ok { IfOk result (λ text. text ≡ spec.concatenation [] items.now) }
     ensures err { IfErr result (λ f. f ≢ WriteFault.NoMemory → (f ≡ WriteFault.TooLong) × (most < length (spec.concatenation [] items.now))) }

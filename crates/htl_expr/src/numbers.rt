@@ -27,7 +27,7 @@ fn next(limit: u64, magnitude: u64, text: &[u8]) -> Option<u64>
     }
 }
 
-/// The longest number at the front that fits.
+/// The longest number at the beginning that fits.
 #[tactic(auto, using(crate::proofs::Decimal::next_some, crate::proofs::Decimal::next_none))]
 fn digits_from(limit: u64, text: &str) -> (u64, &str)
     ensures value { spec.expression_digits_from limit 0 text.now ≡ (result.0, result.1.now) }

@@ -130,7 +130,7 @@ fn is_same_piece_at<'a>(
     is_same_piece(alloc, scope, &a[place], &b[place])
 }
 
-// How many pieces in front are the same, place by place.
+// How many of the first pieces are the same, place by place.
 fn same_in_front<'a>(
     alloc: Global,
     scope: &mut Evaluation<'a>,

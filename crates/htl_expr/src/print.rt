@@ -168,7 +168,7 @@ impl Expr {
         }
     }
 
-    /// Writes what the expression prints for a resource after what a text has, if they have at most so many bytes together.
+    /// Writes what the expression prints for a resource after what a text has, if they have at most `most` bytes together.
     pub fn write<'a>(
         &'a self,
         alloc: Global,

@@ -30,7 +30,7 @@ mark_apart n mark other h = go (eqb n mark) refl
 
 -- ---- what the search finds
 
--- what may stand in front of the closing brace, by where the text begins
+-- what may stand before the closing brace, by where the text begins
 abbrev From : Quotes → List ℕ → Type 0
 From q.Outside w = Inside w
 From (q.Inside mark) w = (u : List ℕ) × (v : List ℕ) × (w ≡ u ++ v) × Quotation mark u × Inside v

@@ -4,7 +4,7 @@ use Rattle.std.proofs.lemmas.List.{length-drop}
 use Rattle.memchr.specs.Find.{Nowhere, NoneBefore, Passes, is_byte}
 use Rattle.htl_text.specs.Template.{is_in_front, opens_expression, escapes, opening_len, plain_len}
 
--- "${" isn't in front where the first byte is another
+-- no text begins with "${" where its first byte is another
 not_dollar : (c : ℕ) (t : List ℕ) → (eqb c 36 ≡ true → ⊥) → opens_expression (c ∷ t) ≡ false
 unfolding opens_expression
 not_dollar c t other = go (eqb c 36) refl

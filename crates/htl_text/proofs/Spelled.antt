@@ -162,7 +162,7 @@ value_means n w t e i y (Err f) x =
     later n front (36 ∷ 123 ∷ (w ++ 125 ∷ t)) t f (λ ps. Value e ∷ ps) (ap (λ (u : List ℕ). 36 ∷ 123 ∷ u) (sym (append_assoc w (125 ∷ []) t))) (λ ps rest z. s.value i y z)
     (subst (λ (k : ℕ). First k t f) place x)
 
--- a fault at the front
+-- a fault at the beginning
 fault_here : (n all : ℕ) (f : TextFault) (t : List ℕ) → n + length (36 ∷ 123 ∷ t) ≡ all → value_at n (36 ∷ 123 ∷ t) ≡ Err f → Faults f n t → Meaning n (36 ∷ 123 ∷ t) (template_pieces all 0 (36 ∷ 123 ∷ t))
 fault_here n all f t e h x =
     let opening = 36 ∷ 123 ∷ t in
@@ -171,7 +171,7 @@ fault_here n all f t e h x =
     let here : First n opening f = record { front = []; behind = t; ps = []; parts = refl; spelling = s.end; faulty = subst (λ (k : ℕ). Faults f k t) none x } in
     subst (Meaning n opening) (sym (value_fails all opening f (opens_there t) (ap (λ (k : ℕ). value_at k opening) place ∙ h))) here
 
--- an expression that is closed at the front
+-- an expression that is closed at the beginning
 closed_means : Found → Only → (n all : ℕ) (w t : List ℕ) → Inside w → n + length (36 ∷ 123 ∷ (w ++ 125 ∷ t)) ≡ all → Meaning (n + (length w + 3)) t (template_pieces all 0 t)
     → Meaning n (36 ∷ 123 ∷ (w ++ 125 ∷ t)) (template_pieces all 0 (36 ∷ 123 ∷ (w ++ 125 ∷ t)))
 closed_means found only n all w t i e x = go (expression_of w) refl

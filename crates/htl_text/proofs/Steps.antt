@@ -1,4 +1,4 @@
--- Steps over the front of a template's text.
+-- Steps over the beginning of a template's text.
 use Rattle.std.proofs.Common.{◌≡◌, ◌<◌, ◌≤◌, ◌+◌, ◌-◌, ℕ, zero, suc, Bool, true, false, cond, ◌||◌, ◌&&◌, eqb, List, [], ◌∷◌, ◌++◌, take, drop, length, slice_index, codes, Some, Result, Ok, Err, refl, ap, sym, subst, ◌∙◌, rules, arith, append_assoc}
 use Rattle.std.specs.Str.{IsCharBoundary}
 use Rattle.std.proofs.lemmas.Bool.Decides.{nat_tests}
@@ -75,7 +75,7 @@ unfolding is_in_front
 at_less c [] h = absurd cc
 at_less c (d ∷ t) h = omega arith
 
--- "${" in front
+-- "${" at the beginning
 pub record Opening (t : List ℕ) : Type 0 where
   pub first : slice_index t 0 < 128
   pub second : is_in_front 123 (drop 1 t) ≡ true
@@ -133,7 +133,7 @@ index_drop (suc m) (c ∷ t) = index_drop m t
 pub closing_front : (t : List ℕ) (m : ℕ) → closing Outside 0 t ≡ Some m → slice_index (drop m t) 0 < 128
 closing_front t m h = let y = closing_byte t m h in rw (index_drop m t) (omega (arith, y))
 
--- "\${" in front
+-- "\${" at the beginning
 pub record Escape (t : List ℕ) : Type 0 where
   pub first : slice_index t 0 < 128
   pub less : length (drop 1 t) < length t

@@ -21,7 +21,7 @@ pub data Inside : List ℕ → Type 0 where
   byte : {c : ℕ} {t : List ℕ} → (c == 125) ≡ false → is_quote c ≡ false → Inside t → Inside (c ∷ t)
   string : {mark : ℕ} {w t : List ℕ} → is_quote mark ≡ true → Quotation mark w → Inside t → Inside (mark ∷ (w ++ t))
 
--- the pieces that stand in a text in front of a rest; no two of plain text stand side by side
+-- the pieces that stand in a text before a rest; no two of plain text stand side by side
 pub data SpellsTemplate : List ℕ → List TemplatePiece → List ℕ → Type 0 where
   end : {rest : List ℕ} → SpellsTemplate rest [] rest
   plain : {c : ℕ} {text rest : List ℕ} {ps : List TemplatePiece} → opens_expression (c ∷ text) ≡ false → escapes (c ∷ text) ≡ false → SpellsTemplate text ps rest → SpellsTemplate (c ∷ text) (text_in_front (c ∷ []) ps) rest

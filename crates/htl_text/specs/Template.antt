@@ -15,17 +15,17 @@ use Rattle.htl_text.specs.declared.piece.TemplatePiece.TheVariants.{Plain, Value
 use Rattle.htl_text.specs.declared.quotes.Quotes.{Quotes}
 use Rattle.htl_text.specs.declared.quotes.Quotes.TheVariants.{Outside, Inside, Escaped}
 
--- whether this byte is in front
+-- whether a text begins with this byte
 unfoldable pub is_in_front : ℕ → List ℕ → Bool
 is_in_front c [] = false
 is_in_front c (d ∷ t) = d == c
 
--- whether "${" is in front, which opens an expression
+-- whether a text begins with "${", which opens an expression
 unfoldable pub opens_expression : List ℕ → Bool
 opens_expression [] = false
 opens_expression (c ∷ t) = c == 36 && is_in_front 123 t
 
--- whether "\${" is in front, which writes "${"
+-- whether a text begins with "\${", which writes "${"
 unfoldable pub escapes : List ℕ → Bool
 escapes [] = false
 escapes (c ∷ t) = c == 92 && opens_expression t
@@ -61,29 +61,29 @@ closed_value place inside (Some n) = read_value place (drop 1 (drop n inside)) (
 unfoldable pub value_at : ℕ → List ℕ → Result (Expr × List ℕ) TextFault
 value_at place t = closed_value place (drop 2 t) (closing Outside 0 (drop 2 t))
 
--- plain text in front of pieces; no piece of plain text is empty, and no two stand side by side
+-- plain text before pieces; no piece of plain text is empty, and no two stand side by side
 abbrev pub text_in_front : List ℕ → List TemplatePiece → List TemplatePiece
 text_in_front [] ps = ps
 text_in_front (c ∷ t) [] = Plain (c ∷ t) ∷ []
 text_in_front (c ∷ t) (Plain more ∷ ps) = Plain (c ∷ (t ++ more)) ∷ ps
 text_in_front (c ∷ t) (Value e ∷ ps) = Plain (c ∷ t) ∷ (Value e ∷ ps)
 
--- plain text in front of the pieces of the rest
+-- plain text before the pieces of the rest
 abbrev pub with_plain : List ℕ → Result (List TemplatePiece) TextFault → Result (List TemplatePiece) TextFault
 with_plain t (Ok ps) = Ok (text_in_front t ps)
 with_plain t (Err fault) = Err fault
 
--- pieces in front of others
+-- pieces before others
 abbrev pub before : List TemplatePiece → Result (List TemplatePiece) TextFault → Result (List TemplatePiece) TextFault
 before front (Ok ps) = Ok (front ++ ps)
 before front (Err fault) = Err fault
 
--- an expression in front of the pieces of the rest
+-- an expression before the pieces of the rest
 abbrev pub with_expression : Result (Expr × List ℕ) TextFault → (List ℕ → Result (List TemplatePiece) TextFault) → Result (List TemplatePiece) TextFault
 with_expression (Ok x) more = before (Value x.0 ∷ []) (more x.1)
 with_expression (Err fault) more = Err fault
 
--- the pieces of a text at the end of a template of so many bytes; the first bytes to skip belong to the piece before
+-- the pieces of a text at the end of a template of `all` bytes; the first `skip` bytes belong to the piece before
 unfoldable pub template_pieces : ℕ → ℕ → List ℕ → Result (List TemplatePiece) TextFault
 template_pieces all skip [] = Ok []
 template_pieces all (suc skip) (c ∷ t) = template_pieces all skip t

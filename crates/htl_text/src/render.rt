@@ -10,15 +10,15 @@ use htl_expr::{Evaluation, Scope, WriteFault};
 use sp_base::TextBuf;
 use std::alloc::Global;
 
-/// The most bytes that a template may write.
-const MOST_BYTES: usize = 4_194_304;
+/// The most bytes that are rendered: of what a template writes, and of a representation.
+pub const MOST_RENDERED_BYTES: usize = 4_194_304;
 
 fn push_plain(text: &mut String, plain: &str) -> Result<(), RenderFault>
     requires { length (string_bytes text.old) ≤ spec.most_template_bytes }
     ensures ok { OnOk result ((string_bytes text.new ≡ string_bytes text.old ++ plain.now) × (length (string_bytes text.new) ≤ spec.most_template_bytes)) }
     ensures err { IfErr result (λ f. f ≢ RenderFault.NoMemory → (f ≡ RenderFault.TooLong) × (spec.most_template_bytes < length (string_bytes text.old ++ plain.now))) }
 {
-    if plain.len() > MOST_BYTES - text.as_str().len() {
+    if plain.len() > MOST_RENDERED_BYTES - text.as_str().len() {
         return Err(RenderFault::TooLong);
     }
     text.push_str(plain)?;
@@ -39,7 +39,12 @@ fn push_piece<'a>(
 {
     match piece {
         TemplatePiece::Plain(plain) => push_plain(text, plain.text()),
-        TemplatePiece::Value(expression) => match expression.write(alloc, text, scope, MOST_BYTES) {
+        TemplatePiece::Value(expression) => match expression.write(
+            alloc,
+            text,
+            scope,
+            MOST_RENDERED_BYTES,
+        ) {
             Ok(()) => Ok(()),
             Err(WriteFault::TooLong) => Err(RenderFault::TooLong),
             Err(WriteFault::NoMemory) => Err(RenderFault::NoMemory),

@@ -17,7 +17,7 @@ fn is_at(c: u8, text: &[u8]) -> bool
     }
 }
 
-/// Whether `${` stands in front.
+/// Whether the text begins with `${`.
 #[tactic(auto, unfolding(crate::specs::Template::opens_expression))]
 fn opens(text: &[u8]) -> bool
     ensures { result ≡ spec.opens_expression text.now }
@@ -28,7 +28,7 @@ fn opens(text: &[u8]) -> bool
     }
 }
 
-/// Whether `\${` stands in front.
+/// Whether the text begins with `\${`.
 #[tactic(auto, unfolding(crate::specs::Template::escapes))]
 fn escapes(text: &[u8]) -> bool
     ensures { result ≡ spec.escapes text.now }
@@ -84,7 +84,7 @@ fn plain_len(text: &[u8]) -> usize
     }
 }
 
-/// The plain text in front of the next expression, and the text from there on.
+/// The plain text before the next expression, and the text from there on.
 pub fn plain(alloc: Global, text: &str) -> Mem<(TextBuf, &str)>
     ensures pieces { IfOk result (λ d. (all : ℕ) → spec.with_plain d.0 (spec.template_pieces all 0 d.1.now) ≡ spec.template_pieces all 0 text.now) }
     ensures ends { IfOk result (λ d. (length d.1.now == 0) || spec.opens_expression d.1.now ≡ true) }

@@ -32,7 +32,7 @@ impl Model for Template {
     ghost view = { λ t. t.pieces };
 }
 
-/// The expression that opens in front, and the text after it.
+/// The expression that opens at the beginning, and the text after it.
 #[tactic(auto, unfolding(crate::specs::Template::value_at))]
 fn value(alloc: Global, place: usize, text: &str) -> Result<(Expr, &str), TextFault>
     requires { spec.opens_expression text.now ≡ true }

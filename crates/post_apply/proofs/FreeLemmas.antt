@@ -103,7 +103,7 @@ nothing_taken tree parent name good none = ap (λ b. b || is_some (node_at tree 
     by None is = refl
     by (Some node) is = absurd (true≢false (sym (good.shape.parents parent name (ap is_some is)) ∙ ap is_some none))
 
--- so not all numbers up to so many are taken
+-- so not all numbers up to this one are taken
 pub one_is_free : (tree : Content) (parent : List (List ℕ)) (name : List ℕ) → IsGood tree → most_taken tree parent < 2 ^ 64 → ((m : ℕ) → m < suc (most_taken tree parent) → is_taken tree parent (numbered name m) ≡ true) → ⊥
 one_is_free tree parent name good small all = by (node_at tree parent) refl
   where

@@ -26,6 +26,7 @@ carry_fault moves replaces tree from to =
     else (if is_under to from || is_under from to then Some (Tree IntoItself)
     else (if not replaces && is_some (node_at tree to) then Some (DestThere to) else None)))
 
+-- the content, unless there is a fault
 abbrev pub unless : Option ApplyFault → Content → ApplyOutcome Content
 unless None tree = Ok tree
 unless (Some fault) tree = Err fault

@@ -15,6 +15,7 @@ use Rattle.post_apply.specs.Posting.{content_after, posted}
 abbrev pub OperationsKeepContentGood : Type 0
 OperationsKeepContentGood = (op : Op) (tree : Content) → IsTrue (names_paths op) → IsGood tree → IsGood (content_after op tree)
 
+-- whether a tree's fault is that memory ran out
 abbrev pub tree_wants_memory : TreeFault → Bool
 tree_wants_memory (NoSuch path) = false
 tree_wants_memory RootFixed = false

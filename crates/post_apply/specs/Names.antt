@@ -14,12 +14,12 @@ is_taken tree parent name = has_prop_at tree parent name || is_some (node_at tre
 abbrev pub numbered : List ℕ → ℕ → List ℕ
 numbered name n = name ++ 95 ∷ decimal n
 
--- the first of so many numbers from `n` on with which the name isn't taken, or the one after them where it is taken with each
+-- the first of this many numbers from `n` on with which the name isn't taken, or the one after them where it is taken with each
 unfoldable pub free_number : Content → List (List ℕ) → List ℕ → ℕ → ℕ → ℕ
 free_number tree parent name n zero = n
 free_number tree parent name n (suc more) = if is_taken tree parent (numbered name n) then free_number tree parent name (n + 1) more else n
 
--- as many as the parent has kids and properties. Among so many numbers and one more one is free (`MadeNamesAreLeast` of Laws.antt)
+-- as many as the parent has kids and properties. Among one number more than that, one is free (`MadeNamesAreLeast` of Laws.antt)
 abbrev pub most_taken : Content → List (List ℕ) → ℕ
 most_taken tree parent = option_map_or (λ node. length node.kids + length node.props) (node_at tree parent) 0
 

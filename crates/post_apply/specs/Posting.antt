@@ -21,6 +21,7 @@ pub record Posted : Type 0 where
   pub content : Content
   pub report : PostReport
 
+-- a content with the report of the node at a path, and whether it is new
 abbrev pub reported : Bool → List (List ℕ) → Content → Posted
 reported created path content = record { content = content; report = record { created = created; path = path } }
 
@@ -31,6 +32,7 @@ pub record PostedNode : Type 0 where
   pub content : Content
   pub node : List (List ℕ)
 
+-- a content and the path of the node
 abbrev pub posted_node : Content → List (List ℕ) → PostedNode
 posted_node content node = record { content = content; node = node }
 
@@ -61,14 +63,17 @@ modified op at = do
   valued ← in_turn (set_at at.node) op.sets copied
   content_placed at.node op.place valued
 
+-- the modified node, with its report
 abbrev pub modify_at : ModifyOp → PostedNode → ApplyOutcome Posted
 modify_at op at = modified op at >>= λ after. Ok (reported (is_none (node_at at.content at.node)) at.node after)
 
+-- a change of the target or of a new node below it
 abbrev pub modify : ModifyOp → Content → ApplyOutcome Posted
 modify op tree = posted_node_of op.target op.fresh tree >>= modify_at op
 
 -- ---- the operations
 
+-- the target, taken away
 abbrev pub remove : List (List ℕ) → Content → ApplyOutcome Posted
 remove path tree = removed tree path >>= λ after. Ok (reported false path after)
 
@@ -89,5 +94,6 @@ abbrev pub content_after_post : Content → ApplyOutcome Posted → Content
 content_after_post tree (Ok done) = done.content
 content_after_post tree (Err fault) = tree
 
+-- the same for an operation
 abbrev pub content_after : Op → Content → Content
 content_after op tree = content_after_post tree (posted op tree)

@@ -18,6 +18,7 @@ untyped [] = Texts []
 untyped (word ∷ []) = Text word
 untyped (word ∷ next ∷ more) = Texts (word ∷ next ∷ more)
 
+-- the value that words have with a hint or without one
 abbrev pub hinted_value : Option Hint → List (List ℕ) → Result Value ValueFault
 hinted_value None words = Ok (untyped words)
 hinted_value (Some hint) words = typed_of hint words

@@ -19,14 +19,17 @@ pub record Entry : Type 0 where
   pub suffix : Suffix
   pub word : List ℕ
 
+-- a parameter's entry, where its name has a spot and a known suffix
 abbrev pub entry_by : Option Spot → Option Suffix → List ℕ → Option Entry
 entry_by None suffix word = None
 entry_by (Some spot) None word = None
 entry_by (Some spot) (Some suffix) word = Some (record { spot = spot; suffix = suffix; word = word })
 
+-- the entry of a parameter, seen from a node
 abbrev pub entry_of : List (List ℕ) → List ℕ × List ℕ → Option Entry
 entry_of node p = entry_by (spot_of node (path_text p.0)) (parameter_suffix p.0) p.1
 
+-- the entries of the content parameters, where `marked` says whether any name is marked
 abbrev pub entries_where : List (List ℕ) → Bool → List (List ℕ × List ℕ) → List Entry
 entries_where node marked pairs = filter_map (entry_of node) (content_where marked pairs)
 
@@ -34,6 +37,7 @@ entries_where node marked pairs = filter_map (entry_of node) (content_where mark
 abbrev pub entries : List (List ℕ) → List (List ℕ × List ℕ) → List Entry
 entries node pairs = entries_where node (any_marked pairs) pairs
 
+-- whether two suffixes are the same
 abbrev pub same_suffix : Suffix → Suffix → Bool
 same_suffix Plain Plain = true
 same_suffix TypeHint TypeHint = true
@@ -45,6 +49,7 @@ same_suffix ValueFrom ValueFrom = true
 same_suffix IgnoreBlanks IgnoreBlanks = true
 same_suffix s t = false
 
+-- the entries of one suffix
 abbrev pub with_suffix : Suffix → List Entry → List Entry
 with_suffix suffix es = filter (λ e. same_suffix suffix e.suffix) es
 
@@ -52,6 +57,7 @@ with_suffix suffix es = filter (λ e. same_suffix suffix e.suffix) es
 abbrev pub deleted_spots : List Entry → List Spot
 deleted_spots es = map (λ e. e.spot) (with_suffix Delete es)
 
+-- what is copied or moved, where its source has a spot
 abbrev pub carry_by : Option Spot → Spot → Option Carry
 carry_by None to = None
 carry_by (Some from) to = Some (record { from = from; to = to })
@@ -64,10 +70,12 @@ carry_of node e = carry_by (spot_of node e.word) e.spot
 abbrev pub carries : List (List ℕ) → Suffix → List Entry → List Carry
 carries node suffix es = filter_map (carry_of node) (with_suffix suffix es)
 
+-- whether two truths are the same
 abbrev pub same_bool : Bool → Bool → Bool
 same_bool true b = b
 same_bool false b = not b
 
+-- whether two spots are the same
 abbrev pub same_spot : Spot → Spot → Bool
 same_spot s t = same_bool s.at_target t.at_target && pointwise bytes_eq s.path t.path
 
@@ -84,6 +92,7 @@ is_of_spot spot suffix e = same_suffix suffix e.suffix && same_spot spot e.spot
 abbrev pub words_at : Spot → Suffix → List Entry → List (List ℕ)
 words_at spot suffix es = map (λ e. e.word) (filter (is_of_spot spot suffix) es)
 
+-- the first word, where there is one
 abbrev pub first_entry_text : List (List ℕ) → Option (List ℕ)
 first_entry_text [] = None
 first_entry_text (word ∷ more) = Some word
@@ -93,10 +102,12 @@ abbrev pub given : Option (List ℕ) → List (List ℕ × List ℕ) → List (L
 given None pairs own = own
 given (Some name) pairs own = words_of name pairs
 
+-- whether a word is there and is `true`
 abbrev pub is_word_true : Option (List ℕ) → Bool
 is_word_true None = false
 is_word_true (Some word) = bytes_eq word (codes "true")
 
+-- the words, without the empty ones where those are ignored
 abbrev pub without_blanks : Bool → List (List ℕ) → List (List ℕ)
 without_blanks ignores words = if ignores then filter (λ word. not (length word == 0)) words else words
 
@@ -106,6 +117,7 @@ lone_word [] = None
 lone_word (word ∷ []) = Some word
 lone_word (word ∷ next ∷ more) = None
 
+-- whether there is one word alone, which is empty
 abbrev pub is_one_blank : List (List ℕ) → Bool
 is_one_blank [] = false
 is_one_blank (word ∷ []) = length word == 0
@@ -122,6 +134,7 @@ set_words pairs es spot = defaulted (words_at spot DefaultValue es)
     (without_blanks (is_word_true (first_entry_text (words_at spot IgnoreBlanks es)))
     (given (first_entry_text (words_at spot ValueFrom es)) pairs (words_at spot Plain es)))
 
+-- what sets a spot to words, where there is one at least
 abbrev pub set_by : Spot → Option Hint → List (List ℕ) → Option PropSet
 set_by spot hint [] = None
 set_by spot hint (word ∷ more) = Some (record { spot = spot; hint = hint; words = word ∷ more })
@@ -130,6 +143,7 @@ set_by spot hint (word ∷ more) = Some (record { spot = spot; hint = hint; word
 abbrev pub hint_at : List Entry → Spot → Option Hint
 hint_at es spot = option_and_then hint_of (first_entry_text (words_at spot TypeHint es))
 
+-- what sets a spot, by all parameters and entries
 abbrev pub set_of : List (List ℕ × List ℕ) → List Entry → Spot → Option PropSet
 set_of pairs es spot = set_by spot (hint_at es spot) (set_words pairs es spot)
 

@@ -11,14 +11,17 @@ use Rattle.post_plan.specs.declared.fault.PlanFault.{PlanFault}
 use Rattle.post_plan.specs.declared.fault.PlanFault.TheVariants.{BadHint}
 use Rattle.post_plan.specs.Parameters.{parameter_suffix, any_marked, content_where}
 
+-- whether a word names a kind whose values are texts here
 abbrev pub is_text_word : List ℕ → Bool
 is_text_word word = bytes_eq word (codes "String") || (bytes_eq word (codes "Date") || (bytes_eq word (codes "Name") || (bytes_eq word (codes "Path") || bytes_eq word (codes "URI"))))
 
+-- the kind of value that a word names
 abbrev pub hint_kind : List ℕ → Option HintKind
 hint_kind word = if is_text_word word then Some Text
     else (if bytes_eq word (codes "Long") then Some Long
     else (if bytes_eq word (codes "Boolean") then Some Truth else None))
 
+-- the hint of a kind, for one value or for many
 abbrev pub hint_by : Bool → Option HintKind → Option Hint
 hint_by many None = None
 hint_by many (Some kind) = Some (record { kind = kind; many = many })
@@ -27,6 +30,7 @@ hint_by many (Some kind) = Some (record { kind = kind; many = many })
 abbrev pub hint_of : List ℕ → Option Hint
 hint_of word = if ends_with nat_eq word (codes "[]") then hint_by true (hint_kind (take (length word - 2) word)) else hint_by false (hint_kind word)
 
+-- whether the suffix is unknown, or is `@TypeHint` and its word names no hint
 abbrev pub is_bad_word : Option Suffix → List ℕ → Bool
 is_bad_word None word = true
 is_bad_word (Some Plain) word = false
@@ -42,8 +46,10 @@ is_bad_word (Some IgnoreBlanks) word = false
 abbrev pub bad_hint_where : Bool → List (List ℕ × List ℕ) → Option (List ℕ)
 bad_hint_where marked pairs = option_map (λ p. p.0) (find (λ p. is_bad_word (parameter_suffix p.0) p.1) (content_where marked pairs))
 
+-- the same among all parameters
 abbrev pub bad_hint : List (List ℕ × List ℕ) → Option (List ℕ)
 bad_hint pairs = bad_hint_where (any_marked pairs) pairs
 
+-- that parameter as a fault
 abbrev pub hint_fault : List (List ℕ × List ℕ) → Option PlanFault
 hint_fault pairs = option_map BadHint (bad_hint pairs)

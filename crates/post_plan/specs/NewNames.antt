@@ -16,6 +16,7 @@ squeezed run (b ∷ text) = if is_ascii_alphanumeric b then to_ascii_lowercase b
 abbrev pub longest_made : ℕ
 longest_made = 20
 
+-- a name, or `node` where it is empty
 abbrev pub or_node : List ℕ → List ℕ
 or_node name = if length name == 0 then codes "node" else name
 
@@ -36,13 +37,16 @@ unfoldable pub source_in : List (List ℕ) → List (List ℕ × List ℕ) → L
 source_in [] pairs = []
 source_in (name ∷ names) pairs = unwrap_or (full_word name pairs) (source_in names pairs)
 
+-- the word that a name is made from where no hint of it is given
 abbrev pub first_source : List (List ℕ × List ℕ) → List ℕ
 first_source pairs = source_in sources pairs
 
+-- the name made from the hint, where one is given, else from the sources
 abbrev pub hinted : Option (List ℕ) → List (List ℕ × List ℕ) → NameWish
 hinted (Some word) pairs = Hint (made_name word)
 hinted None pairs = Hint (made_name (first_source pairs))
 
+-- the name itself, where it is given, else one that is made
 abbrev pub name_wish : Option (List ℕ) → List (List ℕ × List ℕ) → NameWish
 name_wish (Some word) pairs = Exact word
 name_wish None pairs = hinted (first_word (codes ":nameHint") pairs) pairs
@@ -51,6 +55,7 @@ name_wish None pairs = hinted (first_word (codes ":nameHint") pairs) pairs
 abbrev pub wish_of : List (List ℕ × List ℕ) → NameWish
 wish_of pairs = name_wish (first_word (codes ":name") pairs) pairs
 
+-- the text of a wished name, be it given or made
 abbrev pub wished_name : NameWish → List ℕ
 wished_name (Exact name) = name
 wished_name (Hint name) = name

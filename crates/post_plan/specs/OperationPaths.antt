@@ -11,18 +11,23 @@ use Rattle.post_plan.specs.declared.operation.Op.{Op}
 use Rattle.post_plan.specs.declared.operation.Op.TheVariants.{Nop, Delete, Copy, Move, Modify}
 use Rattle.post_plan.specs.Plan.{plan_of}
 
+-- what a spot names is a path
 abbrev pub spot_has_path : Spot → Bool
 spot_has_path spot = is_path spot.path
 
+-- both ends of what a parameter copies or moves are paths
 abbrev pub carry_has_paths : Carry → Bool
 carry_has_paths carry = spot_has_path carry.from && spot_has_path carry.to
 
+-- what is set is at a path
 abbrev pub set_has_path : PropSet → Bool
 set_has_path set = spot_has_path set.spot
 
+-- all that a change of a node names are paths
 abbrev pub modify_has_paths : ModifyOp → Bool
 modify_has_paths op = is_path op.target && (list_all spot_has_path op.deletes && (list_all carry_has_paths op.moves && (list_all carry_has_paths op.copies && list_all set_has_path op.sets)))
 
+-- the node that is copied or moved and its goal are paths
 abbrev pub ends_are_paths : CarryOp → Bool
 ends_are_paths op = is_path op.from && is_path op.to
 

@@ -22,6 +22,7 @@ is_control name = starts_with nat_eq name (codes ":") || bytes_eq name (codes "_
 abbrev pub is_marked : List ℕ → Bool
 is_marked name = starts_with nat_eq name (codes "./")
 
+-- whether any parameter's name is marked
 abbrev pub any_marked : List (List ℕ × List ℕ) → Bool
 any_marked pairs = list_any (λ p. is_marked p.0) pairs
 
@@ -33,6 +34,7 @@ is_content marked name = not (is_control name) && (not marked || (is_marked name
 abbrev pub content_where : Bool → List (List ℕ × List ℕ) → List (List ℕ × List ℕ)
 content_where marked pairs = filter (λ p. is_content marked p.0) pairs
 
+-- the byte `@`, which begins a suffix
 abbrev pub is_at_sign : ℕ → Bool
 is_at_sign b = b == 64
 
@@ -40,6 +42,7 @@ is_at_sign b = b == 64
 abbrev pub path_text : List ℕ → List ℕ
 path_text name = if list_any is_at_sign name then before_last is_at_sign name else name
 
+-- the suffix of this name
 abbrev pub suffix_named : List ℕ → Option Suffix
 suffix_named s = if bytes_eq s (codes "TypeHint") then Some TypeHint
     else (if bytes_eq s (codes "DefaultValue") then Some DefaultValue

@@ -30,13 +30,16 @@ verb_named word = if bytes_eq word (codes "delete") then Some Delete
     else (if bytes_eq word (codes "move") then Some Move
     else (if bytes_eq word (codes "nop") then Some Nop else None)))
 
+-- the operation of a word, or a change without one
 abbrev pub verb_by : Option (List ℕ) → Option Verb
 verb_by None = Some Modify
 verb_by (Some word) = verb_named word
 
+-- what the parameters ask for
 abbrev pub verb_of : List (List ℕ × List ℕ) → Option Verb
 verb_of pairs = verb_by (first_word (codes ":operation") pairs)
 
+-- whether that copies or moves the node
 abbrev pub carries_node : Option Verb → Bool
 carries_node None = false
 carries_node (Some Modify) = false
@@ -45,6 +48,7 @@ carries_node (Some Copy) = true
 carries_node (Some Move) = true
 carries_node (Some Nop) = false
 
+-- whether that changes the node
 abbrev pub is_modify : Option Verb → Bool
 is_modify None = false
 is_modify (Some Modify) = true
@@ -53,9 +57,11 @@ is_modify (Some Copy) = false
 is_modify (Some Move) = false
 is_modify (Some Nop) = false
 
+-- the word of `:dest`, or an empty one
 abbrev pub dest_word : List (List ℕ × List ℕ) → List ℕ
 dest_word pairs = unwrap_or (first_word (codes ":dest") pairs) []
 
+-- whether `:replace` is `true`
 abbrev pub replaces : List (List ℕ × List ℕ) → Bool
 replaces pairs = bytes_eq (unwrap_or (first_word (codes ":replace") pairs) []) (codes "true")
 
@@ -67,13 +73,16 @@ is_numeral word = all_ascii_digits word && (not (length word == 0) && (length wo
 abbrev pub place_number : List ℕ → Option ℕ
 place_number word = if is_numeral word && nat_lt (digits_value 10 word) (2 ^ 64) then Some (digits_value 10 word) else None
 
+-- the place of a number
 abbrev pub place_at : Option ℕ → Option Place
 place_at None = None
 place_at (Some n) = Some (At n)
 
+-- the place before a sibling, where the name is one that a path may have
 abbrev pub place_before : List ℕ → Option Place
 place_before name = if seg_ok name then Some (Before name) else None
 
+-- the place after a sibling, where the name is one that a path may have
 abbrev pub place_after : List ℕ → Option Place
 place_after name = if seg_ok name then Some (After name) else None
 
@@ -84,13 +93,16 @@ place_named word = if bytes_eq word (codes "first") then Some First
     else (if starts_with nat_eq word (codes "before ") then place_before (drop 7 word)
     else (if starts_with nat_eq word (codes "after ") then place_after (drop 6 word) else place_at (place_number word))))
 
+-- the place of a word, where there is one
 abbrev pub place_by : Option (List ℕ) → Option Place
 place_by None = None
 place_by (Some word) = place_named word
 
+-- the place that the parameters ask for
 abbrev pub order_place : List (List ℕ × List ℕ) → Option Place
 order_place pairs = place_by (first_word (codes ":order") pairs)
 
+-- whether a word is there that names no place
 abbrev pub is_bad_order : Option (List ℕ) → Bool
 is_bad_order None = false
 is_bad_order (Some word) = is_none (place_named word)
@@ -103,6 +115,7 @@ fresh_wish star pairs = if star && is_modify (verb_of pairs) then Some (wish_of 
 abbrev pub relative_node : List (List ℕ) → Bool → List (List ℕ × List ℕ) → List (List ℕ)
 relative_node target star pairs = under target (option_map wished_name (fresh_wish star pairs))
 
+-- whether the parameter's word names what is copied or moved
 abbrev pub names_source : Option Suffix → Bool
 names_source None = false
 names_source (Some Plain) = false
@@ -133,14 +146,17 @@ abbrev pub bad_text : List (List ℕ) → Bool → Bool → Bool → List ℕ ×
 bad_text node bad_dest bad_name marked p = if bytes_eq p.0 (codes ":dest") then (if bad_dest then Some p.1 else None)
     else (if bytes_eq p.0 (codes ":name") then (if bad_name then Some p.1 else None) else (if is_content marked p.0 then bad_entry node p else None))
 
+-- the first text, where it is there, else the next
 abbrev pub or_next : Option (List ℕ) → Option (List ℕ) → Option (List ℕ)
 or_next None next = next
 or_next (Some text) next = Some text
 
+-- the first bad text of parameters
 unfoldable pub first_bad : (List ℕ × List ℕ → Option (List ℕ)) → List (List ℕ × List ℕ) → Option (List ℕ)
 first_bad bad [] = None
 first_bad bad (p ∷ more) = or_next (bad p) (first_bad bad more)
 
+-- a fault, where something is bad
 abbrev pub if_fault : Bool → PlanFault → Option PlanFault
 if_fault bad fault = if bad then Some fault else None
 
@@ -149,6 +165,7 @@ abbrev pub path_fault : List (List ℕ) → Bool → List (List ℕ × List ℕ)
 path_fault target star pairs = if is_reserved (relative_node target star pairs) then Some (BadPath (text_of (relative_node target star pairs)))
     else option_map BadPath (first_bad (bad_text (relative_node target star pairs) (is_bad_dest target pairs) (is_bad_wish (fresh_wish star pairs)) (any_marked pairs)) pairs)
 
+-- the first fault that is there
 abbrev pub first_plan_fault : List (Option PlanFault) → Option PlanFault
 first_plan_fault [] = None
 first_plan_fault (None ∷ more) = first_plan_fault more
@@ -162,6 +179,7 @@ faults target star pairs = if_fault (is_none (verb_of pairs)) BadOperation
     ∷ hint_fault pairs
     ∷ path_fault target star pairs ∷ []
 
+-- the change of a node that entries ask for
 abbrev pub modify_of : List (List ℕ) → Bool → List (List ℕ × List ℕ) → List Entry → List (List ℕ) → ModifyOp
 modify_of target star pairs es node = record {
   target = target;
@@ -173,9 +191,11 @@ modify_of target star pairs es node = record {
   place = order_place pairs;
 }
 
+-- the copy or the move of the target that the parameters ask for
 abbrev pub carry_operation : List (List ℕ) → List (List ℕ × List ℕ) → CarryOp
 carry_operation target pairs = record { from = target; to = unwrap_or (goal_of target (dest_word pairs)) []; replace = replaces pairs }
 
+-- the operation that the parameters ask for
 abbrev pub operation_by : Option Verb → List (List ℕ) → Bool → List (List ℕ × List ℕ) → Op
 operation_by None target star pairs = NopOperation target
 operation_by (Some Modify) target star pairs = ModifyOperation (modify_of target star pairs (entries (relative_node target star pairs) pairs) (relative_node target star pairs))
@@ -184,6 +204,7 @@ operation_by (Some Copy) target star pairs = CopyOperation (carry_operation targ
 operation_by (Some Move) target star pairs = MoveOperation (carry_operation target pairs)
 operation_by (Some Nop) target star pairs = NopOperation target
 
+-- the operation, or the fault that is there
 abbrev pub operation_unless_fault : Option PlanFault → Op → Result Op PlanFault
 operation_unless_fault (Some fault) operation = Err fault
 operation_unless_fault None operation = Ok operation

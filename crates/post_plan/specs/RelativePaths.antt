@@ -3,7 +3,7 @@ use Rattle.std.specs.Prelude.{◌==◌, ◌-◌, ◌+◌, ℕ, if◌then◌else�
 use Rattle.std.specs.Str.{bytes_eq}
 use Rattle.sp_base.specs.Paths.{seg_ok, pieces}
 
--- how a relative path goes: up from a node by so many segments, then down
+-- how a relative path goes: up from a node by a number of segments, then down
 pub record RelativePath : Type 0 where
   pub up : ℕ
   pub down : List (List ℕ)
@@ -12,15 +12,18 @@ pub record RelativePath : Type 0 where
 abbrev pub climbed : RelativePath → RelativePath
 climbed relative = if length relative.down == 0 then record { up = relative.up + 1; down = [] } else record { up = relative.up; down = take (length relative.down - 1) relative.down }
 
+-- `.` stays, `..` climbs, and a segment leads down
 abbrev pub relative_path_step : RelativePath → List ℕ → Option RelativePath
 relative_path_step relative piece = if bytes_eq piece (codes ".") then Some relative
     else (if bytes_eq piece (codes "..") then Some (climbed relative)
     else (if seg_ok piece then Some (record { up = relative.up; down = relative.down ++ piece ∷ [] }) else None))
 
+-- where pieces lead, one after another
 unfoldable pub relative_path_from : RelativePath → List (List ℕ) → Option RelativePath
 relative_path_from relative [] = Some relative
 relative_path_from relative (piece ∷ more) = option_and_then (λ next. relative_path_from next more) (relative_path_step relative piece)
 
+-- how the path of a text goes
 abbrev pub relative_path_of : List ℕ → Option RelativePath
 relative_path_of text = relative_path_from (record { up = 0; down = [] }) (pieces text)
 

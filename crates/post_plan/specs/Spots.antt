@@ -10,6 +10,7 @@ use Rattle.post_plan.specs.RelativePaths.{RelativePath, relative_path_of}
 abbrev pub led_to : List (List ℕ) → RelativePath → Option (List (List ℕ))
 led_to node relative = if nat_le relative.up (length node) then path_or_none (take (length node - relative.up) node ++ relative.down) else None
 
+-- whether a text begins with a slash
 abbrev pub is_absolute : List ℕ → Bool
 is_absolute text = starts_with nat_eq text (codes "/")
 
@@ -17,14 +18,17 @@ is_absolute text = starts_with nat_eq text (codes "/")
 abbrev pub ends_in_name : List ℕ → Bool
 ends_in_name text = seg_ok (slice_index_or (pieces text) (length (pieces text) - 1) [])
 
+-- the path that was read, where there is no fault
 abbrev pub ok_path : Result (List (List ℕ)) PathFault → Option (List (List ℕ))
 ok_path (Ok path) = Some path
 ok_path (Err fault) = None
 
+-- the spot at a whole path
 abbrev pub spot_there : Option (List (List ℕ)) → Option Spot
 spot_there None = None
 spot_there (Some path) = Some (record { at_target = false; path = path })
 
+-- the spot at a path below the node
 abbrev pub spot_below : Option (List (List ℕ)) → Option Spot
 spot_below None = None
 spot_below (Some path) = Some (record { at_target = true; path = path })
@@ -41,6 +45,7 @@ full_path node spot = if spot.at_target then node ++ spot.path else spot.path
 abbrev pub is_reserved : List (List ℕ) → Bool
 is_reserved path = is_under path (codes "mnt" ∷ codes "overlay" ∷ []) || is_under path (codes "mnt" ∷ codes "override" ∷ [])
 
+-- a spot, where it may be changed
 abbrev pub if_changeable : List (List ℕ) → Spot → Option Spot
 if_changeable node spot = if is_reserved (full_path node spot) then None else Some spot
 
@@ -56,12 +61,15 @@ spot_of node text = if ends_in_name text then option_and_then (if_changeable nod
 abbrev pub goes_under : List ℕ → Bool
 goes_under word = nat_lt 1 (length word) && ends_with nat_eq word (codes "/")
 
+-- the word without that slash
 abbrev pub word_without_slash : List ℕ → List ℕ
 word_without_slash word = if goes_under word then take (length word - 1) word else word
 
+-- the path that a goal's text names, seen from the target's parent
 abbrev pub goal_base : List (List ℕ) → List ℕ → Option (List (List ℕ))
 goal_base parent text = if is_absolute text then ok_path (path_of text) else (if ends_in_name text then option_and_then (led_to parent) (relative_path_of text) else None)
 
+-- a path, where it may be changed
 abbrev pub unless_reserved : Option (List (List ℕ)) → Option (List (List ℕ))
 unless_reserved None = None
 unless_reserved (Some path) = if is_reserved path then None else Some path
@@ -89,6 +97,7 @@ under parent (Some name) = parent ++ name ∷ []
 abbrev pub lead : List (List ℕ) → List ℕ
 lead path = flat_map (λ seg. 47 ∷ seg) path
 
+-- of two texts those that are there, but none where the first is not
 abbrev pub first_two : Option (List ℕ) → Option (List ℕ) → List (List ℕ)
 first_two None second = []
 first_two (Some first) None = first ∷ []

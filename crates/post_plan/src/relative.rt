@@ -7,7 +7,7 @@ use sp_base::{Mem, seg_ok};
 use std::alloc::Global;
 use std::marker::Model;
 
-/// Up from a node by so many segments, then down. The segments are lent by the text, which may have millions of them.
+/// Up from a node by a number of segments, then down. The segments are lent by the text, which may have millions of them.
 #[derive(Drop)]
 pub struct RelativePath<'a> {
     pub up: usize,

@@ -13,7 +13,7 @@ first_choice path depth some =
     ∙ reverse-append (map (choice path) (range_with_len 0 depth)) (choice path depth ∷ [])
     ∙ ap (λ n. choice path depth ∷ reverse (map (choice path) (range_with_len 0 n))) same
 
--- one more choice stands in front of the others
+-- one more choice stands before the others
 pub choices_more : (path : List ℕ) (depth : ℕ) (list new : List (List ℕ)) (text : List ℕ) → 0 < depth → text ≡ choice path depth → new ≡ list ++ text ∷ []
     → new ++ choices path (depth - 1) ≡ list ++ choices path depth
 choices_more path depth list new text some is e =

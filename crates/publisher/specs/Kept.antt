@@ -1,4 +1,4 @@
--- What a publisher keeps beside its tree: the readings of scripts, and the index of mappings. What is answered needs none of it: only the publisher's type and its proofs cite this.
+-- What a publisher keeps beside its tree: the readings of scripts, and the index of mappings. What is answered needs none of it: only private types and functions and proofs cite this.
 use Rattle.std.specs.Prelude.{◌≡◌, ℕ, Bool, List, Option, Some, None, IfSome, codes, option_map}
 use Rattle.std.specs.Map.{lookup}
 use Rattle.resource_tree.specs.Content.{Content, kid, same_path}
@@ -12,6 +12,7 @@ use Rattle.publisher.specs.Readings.{reading_of}
 abbrev pub Kept : Type 0
 Kept = List (List (List ℕ) × Reading)
 
+-- the reading that is kept at a path
 abbrev pub reading_at : Kept → List (List ℕ) → Option Reading
 reading_at kept path = lookup (same_path path) kept
 

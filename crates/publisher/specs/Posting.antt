@@ -93,6 +93,7 @@ report_location report = if report.created then mapped_location (text_of report.
 abbrev pub report_line : PostReport → List ℕ
 report_line report = decimal (report_status report) ++ codes " " ++ text_of report.path ++ 10 ∷ []
 
+-- the answer that tells of a POST's report
 abbrev pub report_answer : PostReport → Answer
 report_answer report = record {
   status = report_status report;

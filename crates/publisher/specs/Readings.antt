@@ -11,5 +11,6 @@ abbrev pub reading_in : Result (List TemplatePiece) TextFault → Reading
 reading_in (Ok pieces) = Parsed pieces
 reading_in (Err fault) = Refused
 
+-- the reading of a script's text
 abbrev pub reading_of : List ℕ → Reading
 reading_of text = reading_in (template_of text)

@@ -62,6 +62,7 @@ most_rendered_bytes = 4194304
 abbrev pub representation_of : List ℕ → Mark → List ℕ → Answer
 representation_of kind mark body = if nat_le (length body) most_rendered_bytes then answer_with_body 200 kind mark body else error_answer 500
 
+-- the media type of JSON
 abbrev pub json_kind : List ℕ
 json_kind = codes "application/json;charset=utf-8"
 
@@ -81,6 +82,7 @@ abbrev pub file_representation : Resource → Option Stream → Answer
 file_representation res None = error_answer 404
 file_representation res (Some stream) = representation_of stream.kind (mark_of res) stream.body
 
+-- whether the extension is `json`
 abbrev pub is_json : List ℕ → Bool
 is_json extension = pointwise nat_eq extension (codes "json")
 
@@ -97,6 +99,7 @@ default_answer seen parts res = if is_json parts.extension then json_to_depth se
 unfoldable pub script_for : Content → Parts → Resource → Option (List ℕ)
 script_for tree parts res = option_and_then (script_text tree) (first_script tree (chain_of tree res.props) parts)
 
+-- the media type of a script's output
 abbrev pub html_kind : List ℕ
 html_kind = codes "text/html;charset=utf-8"
 

@@ -12,6 +12,7 @@ use Rattle.publisher.specs.Rendering.{answer_by, seen}
 abbrev pub IsSeenAlone : Content → Parts → Resource → Type 0
 IsSeenAlone tree parts res = merged_alone tree parts.path ≡ Some res
 
+-- the answer of a resource by a script's text or without one, and 404 without a resource
 abbrev pub answer_seen : Option (List ℕ) → Content → Parts → Option Resource → Answer
 answer_seen script tree parts None = error_answer 404
 answer_seen script tree parts (Some res) = answer_by script (seen tree) parts res

@@ -15,6 +15,7 @@ use crate::scripts::script_representation;
 use crate::templates::{Templates, read};
 use error_answers::error_answer;
 use get_servlet::{JsonAnswer, Stream, json_of, stream_of};
+use htl_text::MOST_RENDERED_BYTES;
 use overlay_merge::{MergedView, is_merged_path, merged};
 use resource_tree::{Look, Res, Tree};
 use script_rank::{script_of, script_text};
@@ -22,16 +23,13 @@ use sp_base::{Answer, ByteBuf, Mark, Mem, Path, TextBuf};
 use std::alloc::Global;
 use url_split::Parts;
 
-/// The most bytes of a representation.
-const MOST_BYTES: usize = 4_194_304;
-
 const JSON_KIND: &str = "application/json;charset=utf-8";
 
 /// A representation, or an error where it is too long.
 pub(crate) fn representation_of(alloc: Global, kind: &str, mark: Mark, body: TextBuf) -> Mem<Answer>
     ensures { IfOk result (λ a. a ≡ representation_of kind.now mark body) }
 {
-    if body.text().len() > MOST_BYTES {
+    if body.text().len() > MOST_RENDERED_BYTES {
         return error_answer(alloc, 500);
     }
     answer_of(alloc, 200, kind, mark, ByteBuf::from(body))
@@ -57,7 +55,11 @@ fn json_to_depth<L: Look>(alloc: Global, look: &L, parts: &Parts, res: &Res) -> 
     let Some(depth) = depth_of(&parts.selectors) else {
         return error_answer(alloc, 400);
     };
-    json_representation(alloc, res, json_of(alloc, look, res, depth, MOST_BYTES)?)
+    json_representation(
+        alloc,
+        res,
+        json_of(alloc, look, res, depth, MOST_RENDERED_BYTES)?,
+    )
 }
 
 fn file_representation<L: Look>(alloc: Global, look: &L, res: &Res) -> Mem<Answer>

@@ -35,7 +35,7 @@ fn bytes_that_go_on_with_nothing(rt: HostRuntime) {
     }
 }
 
-// The place of the bracket that is too deep, in a piece of text so many times and another behind it.
+// The place of the bracket that is too deep, in a piece of text, repeated, and another after it.
 fn too_deep_in(
     alloc: Global,
     piece: &str,

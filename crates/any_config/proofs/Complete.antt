@@ -3,18 +3,18 @@ use Rattle.std.proofs.Common.{◌≡◌, ◌<◌, ◌≤◌, ℕ, zero, suc, tru
 use Rattle.std.proofs.lemmas.List.{append-nil}
 use Rattle.any_config.specs.declared.node.AnyNode.{AnyNode}
 use Rattle.any_config.specs.declared.node.AnyNode.TheVariants as node
-use Rattle.any_config.specs.Tokens.{comments_skipped, is_byte_at_front, member_name, ungrouped_value}
-use Rattle.any_config.specs.Read.{Members, ends_members, value, member, more_members, members, opened, group, file_read, placed_answer, any_of}
+use Rattle.any_config.specs.Tokens.{comments_skipped, begins_with_byte, member_name, ungrouped_value}
+use Rattle.any_config.specs.Read.{Members, ends_members, value, member, more_members, members, braced_group, group, file_read, placed_answer, any_of}
 use Rattle.any_config.specs.Grammar.{IsValue, AreMembers, IsFile}
 use Rattle.any_config.proofs.Progress.{leaf_any, skip_less, name_less, value_less, group_takes}
 
-single_is : (depth at a : ℕ) (t : List ℕ) (x : AnyNode × List ℕ) → is_byte_at_front 123 t ≡ false → ungrouped_value a t ≡ Ok x → value (group depth) at t ≡ Ok x
+single_is : (depth at a : ℕ) (t : List ℕ) (x : AnyNode × List ℕ) → begins_with_byte 123 t ≡ false → ungrouped_value a t ≡ Ok x → value (group depth) at t ≡ Ok x
 unfolding value
 single_is depth at a t x e h = rw e (leaf_any a at t x h)
 
-braces_is : (depth at : ℕ) (t inside : List ℕ) (ms : Members) → is_byte_at_front 123 t ≡ true → more_members (group depth) (length (comments_skipped (drop 1 t))) [] (comments_skipped (drop 1 t)) ≡ Ok (ms, inside) → is_byte_at_front 125 inside ≡ true
+braces_is : (depth at : ℕ) (t inside : List ℕ) (ms : Members) → begins_with_byte 123 t ≡ true → more_members (group depth) (length (comments_skipped (drop 1 t))) [] (comments_skipped (drop 1 t)) ≡ Ok (ms, inside) → begins_with_byte 125 inside ≡ true
     → value (group (suc depth)) at t ≡ Ok (node.Group ms, drop 1 inside)
-unfolding value group opened members
+unfolding value group braced_group members
 braces_is depth at t inside ms e h c = rw (e, h, c) refl
 
 ends_is : (depth k : ℕ) (found : Members) (t : List ℕ) → ends_members t ≡ true → more_members (group depth) k found t ≡ Ok (found ++ [], t)

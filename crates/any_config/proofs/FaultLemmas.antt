@@ -9,8 +9,8 @@ use Rattle.any_config.specs.declared.stop.AnyStop.TheVariants as stop
 use Rattle.any_config.specs.declared.any_fault.AnyFault.{AnyFault}
 use Rattle.any_config.specs.declared.tokens.Run.{Run}
 use Rattle.any_config.specs.declared.tokens.Run.TheVariants.{Name, Plain, Quoted}
-use Rattle.any_config.specs.Tokens.{TokenOutcome, ◌>>=◌, comments_skipped, is_byte_at_front, is_config_name_byte, is_plain_byte, ends, run_len, member_name, word, quoted, quoted_node, ungrouped_value}
-use Rattle.any_config.specs.Read.{Members, ends_members, value, member, more_members, members, opened, group, file_read, placed_answer, any_of}
+use Rattle.any_config.specs.Tokens.{TokenOutcome, ◌>>=◌, comments_skipped, begins_with_byte, is_config_name_byte, is_plain_byte, ends, run_len, member_name, word, quoted_value, quoted_node, ungrouped_value}
+use Rattle.any_config.specs.Read.{Members, ends_members, value, member, more_members, members, braced_group, group, file_read, placed_answer, any_of}
 use Rattle.any_config.specs.Grammar.{IsValue, AreMembers}
 use Rattle.any_config.specs.Faults.{first_byte_passes, is_quote_mark, begins_value, IsBroken, IsFirstBroken, IsStop, IsConfigFault}
 use Rattle.any_config.proofs.Progress.{bind_ok, ok_is, skip_less, name_less, value_less, member_less, group_takes}
@@ -56,39 +56,39 @@ plain_front [] = refl
 plain_front (c ∷ t) = double (is_plain_byte c)
 
 -- where there is no name
-name_stops : (t : List ℕ) (s : AnyStop) → member_name t ≡ Err s → (is_byte_at_front 47 t ≡ true) × (first_byte_passes is_config_name_byte (drop 1 t) ≡ false) × (stop.BadName (length t) ≡ s)
+name_stops : (t : List ℕ) (s : AnyStop) → member_name t ≡ Err s → (begins_with_byte 47 t ≡ true) × (first_byte_passes is_config_name_byte (drop 1 t) ≡ false) × (stop.BadName (length t) ≡ s)
 unfolding member_name
-name_stops t s h = go (is_byte_at_front 47 t) (run_len Name (drop 1 t) == 0) refl refl h
+name_stops t s h = go (begins_with_byte 47 t) (run_len Name (drop 1 t) == 0) refl refl h
   where
-    go : (p q : Bool) → is_byte_at_front 47 t ≡ p → (run_len Name (drop 1 t) == 0) ≡ q
+    go : (p q : Bool) → begins_with_byte 47 t ≡ p → (run_len Name (drop 1 t) == 0) ≡ q
         → cond {A = TokenOutcome (List ℕ)} p (cond {A = TokenOutcome (List ℕ)} q (Err (stop.BadName (length t))) (Ok (take (run_len Name (drop 1 t)) (drop 1 t), comments_skipped (drop (run_len Name (drop 1 t)) (drop 1 t))))) (Ok ([], t)) ≡ Err s
-        → (is_byte_at_front 47 t ≡ true) × (first_byte_passes is_config_name_byte (drop 1 t) ≡ false) × (stop.BadName (length t) ≡ s)
+        → (begins_with_byte 47 t ≡ true) × (first_byte_passes is_config_name_byte (drop 1 t) ≡ false) × (stop.BadName (length t) ≡ s)
     go true true ep eq e = (ep, sym (name_front (drop 1 t)) ∙ run_empty Name (drop 1 t) eq, err_is _ s e)
     go true false ep eq e = absurd cc
     go false q ep eq e = absurd cc
 
-name_broken : (t : List ℕ) → is_byte_at_front 47 t ≡ true → first_byte_passes is_config_name_byte (drop 1 t) ≡ false → member_name t ≡ Err (stop.BadName (length t))
+name_broken : (t : List ℕ) → begins_with_byte 47 t ≡ true → first_byte_passes is_config_name_byte (drop 1 t) ≡ false → member_name t ≡ Err (stop.BadName (length t))
 unfolding member_name
 name_broken t at none = rw (at, empty_run Name (drop 1 t) (name_front (drop 1 t) ∙ none)) refl
 
 -- where there is no value that is no group
-front_mark : (t : List ℕ) → is_byte_at_front 34 t ≡ false → is_byte_at_front 39 t ≡ false → first_byte_passes is_quote_mark t ≡ false
-unfolding is_byte_at_front
+front_mark : (t : List ℕ) → begins_with_byte 34 t ≡ false → begins_with_byte 39 t ≡ false → first_byte_passes is_quote_mark t ≡ false
+unfolding begins_with_byte
 front_mark [] p q = refl
 front_mark (c ∷ t) p q = rw (p, q) refl
 
-mark_front : (t : List ℕ) → is_byte_at_front 34 t || is_byte_at_front 39 t ≡ first_byte_passes is_quote_mark t
-unfolding is_byte_at_front
+mark_front : (t : List ℕ) → begins_with_byte 34 t || begins_with_byte 39 t ≡ first_byte_passes is_quote_mark t
+unfolding begins_with_byte
 mark_front [] = refl
 mark_front (c ∷ t) = refl
 
-value_front : (t : List ℕ) → is_byte_at_front 123 t ≡ false → is_byte_at_front 34 t ≡ false → is_byte_at_front 39 t ≡ false → first_byte_passes is_plain_byte t ≡ false → first_byte_passes begins_value t ≡ false
-unfolding is_byte_at_front
+value_front : (t : List ℕ) → begins_with_byte 123 t ≡ false → begins_with_byte 34 t ≡ false → begins_with_byte 39 t ≡ false → first_byte_passes is_plain_byte t ≡ false → first_byte_passes begins_value t ≡ false
+unfolding begins_with_byte
 value_front [] b p q w = refl
 value_front (c ∷ t) b p q w = rw (b, p, q, w) refl
 
-front_value : (t : List ℕ) → first_byte_passes begins_value t ≡ false → (is_byte_at_front 123 t ≡ false) × (is_byte_at_front 34 t ≡ false) × (is_byte_at_front 39 t ≡ false) × (first_byte_passes is_plain_byte t ≡ false)
-unfolding is_byte_at_front
+front_value : (t : List ℕ) → first_byte_passes begins_value t ≡ false → (begins_with_byte 123 t ≡ false) × (begins_with_byte 34 t ≡ false) × (begins_with_byte 39 t ≡ false) × (first_byte_passes is_plain_byte t ≡ false)
+unfolding begins_with_byte
 front_value [] h = (refl, refl, refl, refl)
 front_value (c ∷ t) h = go (c == 123) (c == 34) (c == 39) (is_plain_byte c) h
   where
@@ -99,14 +99,14 @@ front_value (c ∷ t) h = go (c == 123) (c == 34) (c == 39) (is_plain_byte c) h
     go false false false true e = absurd cc
     go false false false false e = (refl, refl, refl, refl)
 
-mark_no_brace : (t : List ℕ) → first_byte_passes is_quote_mark t ≡ true → is_byte_at_front 123 t ≡ false
-unfolding is_byte_at_front
+mark_no_brace : (t : List ℕ) → first_byte_passes is_quote_mark t ≡ true → begins_with_byte 123 t ≡ false
+unfolding begins_with_byte
 mark_no_brace [] h = absurd cc
 mark_no_brace (c ∷ t) h = grind (arith, nat_tests)
 
-quoted_stops : (mark : ℕ) (t : List ℕ) (s : AnyStop) → quoted mark t ≡ Err s → stop.BadQuote (length t) ≡ s
-unfolding quoted
-quoted_stops mark t s h = go (is_byte_at_front mark (drop (run_len (Quoted mark) (drop 1 t)) (drop 1 t)) && is_utf8 (take (run_len (Quoted mark) (drop 1 t)) (drop 1 t))) h
+quoted_stops : (mark : ℕ) (t : List ℕ) (s : AnyStop) → quoted_value mark t ≡ Err s → stop.BadQuote (length t) ≡ s
+unfolding quoted_value
+quoted_stops mark t s h = go (begins_with_byte mark (drop (run_len (Quoted mark) (drop 1 t)) (drop 1 t)) && is_utf8 (take (run_len (Quoted mark) (drop 1 t)) (drop 1 t))) h
   where
     go : (b : Bool) → cond {A = TokenOutcome AnyNode} b (Ok (quoted_node mark (take (run_len (Quoted mark) (drop 1 t)) (drop 1 t)), drop 1 (drop (run_len (Quoted mark) (drop 1 t)) (drop 1 t)))) (Err (stop.BadQuote (length t))) ≡ Err s
         → stop.BadQuote (length t) ≡ s
@@ -125,11 +125,11 @@ word_stops at t s h = go (run_len Plain t == 0) refl h
     go true eb e = (sym (plain_front t) ∙ run_empty Plain t eb, err_is _ s e)
     go false eb e = absurd cc
 
-leaf_stops : (at : ℕ) (t : List ℕ) (s : AnyStop) → is_byte_at_front 123 t ≡ false → ungrouped_value at t ≡ Err s → LeafStops at t s
+leaf_stops : (at : ℕ) (t : List ℕ) (s : AnyStop) → begins_with_byte 123 t ≡ false → ungrouped_value at t ≡ Err s → LeafStops at t s
 unfolding ungrouped_value
-leaf_stops at t s plain h = go (is_byte_at_front 34 t) (is_byte_at_front 39 t) refl refl h
+leaf_stops at t s plain h = go (begins_with_byte 34 t) (begins_with_byte 39 t) refl refl h
   where
-    go : (p q : Bool) → is_byte_at_front 34 t ≡ p → is_byte_at_front 39 t ≡ q → cond p (quoted 34 t) (cond q (quoted 39 t) (word at t)) ≡ Err s → LeafStops at t s
+    go : (p q : Bool) → begins_with_byte 34 t ≡ p → begins_with_byte 39 t ≡ q → cond p (quoted_value 34 t) (cond q (quoted_value 39 t) (word at t)) ≡ Err s → LeafStops at t s
     go true q ep eq e = inl (sym (mark_front t) ∙ rw ep refl, quoted_stops 34 t s e)
     go false true ep eq e = inl (sym (mark_front t) ∙ rw (ep, eq) refl, quoted_stops 39 t s e)
     go false false ep eq e = let w = word_stops at t s e in inr (value_front t plain ep eq w.0, w.1)
@@ -141,11 +141,11 @@ none_read x = Ok x
 no_value_of : (depth at : ℕ) (t : List ℕ) (s : AnyStop) → value (group depth) at t ≡ Err s → (n : AnyNode) (r : List ℕ) → IsValue depth t n r → ⊥
 no_value_of depth at t s h n r v = let both : none_read (n, r) ≡ failed s = sym (value_complete depth t n r v at) ∙ h in absurd cc
 
-value_leaf : (inner : List ℕ → TokenOutcome AnyNode) (at : ℕ) (t : List ℕ) → is_byte_at_front 123 t ≡ false → value inner at t ≡ ungrouped_value at t
+value_leaf : (inner : List ℕ → TokenOutcome AnyNode) (at : ℕ) (t : List ℕ) → begins_with_byte 123 t ≡ false → value inner at t ≡ ungrouped_value at t
 unfolding value
 value_leaf inner at t plain = rw plain refl
 
-leaf_broken : (depth : ℕ) (t : List ℕ) (x : List ℕ × List ℕ) (s : AnyStop) → member_name t ≡ Ok x → is_byte_at_front 123 x.1 ≡ false → ungrouped_value (length t) x.1 ≡ Err s → IsBroken depth t s
+leaf_broken : (depth : ℕ) (t : List ℕ) (x : List ℕ × List ℕ) (s : AnyStop) → member_name t ≡ Ok x → begins_with_byte 123 x.1 ≡ false → ungrouped_value (length t) x.1 ≡ Err s → IsBroken depth t s
 leaf_broken depth t x s named plain h = elim (leaf_stops (length t) x.1 s plain h) [
   | inl quote ↦ subst (IsBroken depth t) quote.1 (IsBroken.no_text x named quote.0 (no_value_of depth (length t) x.1 s (value_leaf (group depth) (length t) x.1 plain ∙ h)))
   | inr bare ↦ subst (IsBroken depth t) bare.1 (IsBroken.no_value x named bare.0)
@@ -154,13 +154,13 @@ leaf_broken depth t x s named plain h = elim (leaf_stops (length t) x.1 s plain 
 -- ---- where reading stops is first
 
 abbrev GroupStops : ℕ → Type 0
-GroupStops depth = (t : List ℕ) (x : List ℕ × List ℕ) (s : AnyStop) → ends_members t ≡ false → member_name t ≡ Ok x → is_byte_at_front 123 x.1 ≡ true → group depth x.1 ≡ Err s → IsFirstBroken depth t s
+GroupStops depth = (t : List ℕ) (x : List ℕ × List ℕ) (s : AnyStop) → ends_members t ≡ false → member_name t ≡ Ok x → begins_with_byte 123 x.1 ≡ true → group depth x.1 ≡ Err s → IsFirstBroken depth t s
 
 value_first : (depth : ℕ) → GroupStops depth → (t : List ℕ) (x : List ℕ × List ℕ) (s : AnyStop) → ends_members t ≡ false → member_name t ≡ Ok x → value (group depth) (length t) x.1 ≡ Err s → IsFirstBroken depth t s
 unfolding value
-value_first depth all t x s on named h = go (is_byte_at_front 123 x.1) refl h
+value_first depth all t x s on named h = go (begins_with_byte 123 x.1) refl h
   where
-    go : (b : Bool) → is_byte_at_front 123 x.1 ≡ b → cond b (group depth x.1) (ungrouped_value (length t) x.1) ≡ Err s → IsFirstBroken depth t s
+    go : (b : Bool) → begins_with_byte 123 x.1 ≡ b → cond b (group depth x.1) (ungrouped_value (length t) x.1) ≡ Err s → IsFirstBroken depth t s
     go true e f = all t x s on named e f
     go false e f = IsFirstBroken.broken on (leaf_broken depth t x s named e f)
 
@@ -203,23 +203,23 @@ members_end _ _ _ _ (AreMembers.more {depth} {t} {r} {m} {ms} x n inside e h v g
 one_more : (c : ℕ) (r : List ℕ) → (length (c ∷ r) == 0) ≡ false
 one_more c r = grind (arith, nat_tests)
 
-at_brace : (c : ℕ) (r : List ℕ) → ends_members (c ∷ r) ≡ true → is_byte_at_front 125 (c ∷ r) ≡ true
+at_brace : (c : ℕ) (r : List ℕ) → ends_members (c ∷ r) ≡ true → begins_with_byte 125 (c ∷ r) ≡ true
 unfolding ends_members
-at_brace c r e = sym (ap (λ (b : Bool). b || is_byte_at_front 125 (c ∷ r)) (one_more c r)) ∙ e
+at_brace c r e = sym (ap (λ (b : Bool). b || begins_with_byte 125 (c ∷ r)) (one_more c r)) ∙ e
 
-nothing_left : (r : List ℕ) → ends_members r ≡ true → is_byte_at_front 125 r ≡ false → r ≡ []
+nothing_left : (r : List ℕ) → ends_members r ≡ true → begins_with_byte 125 r ≡ false → r ≡ []
 unfolding ends_members
 nothing_left [] e plain = refl
 nothing_left (c ∷ r) e plain = absurd (let w = at_brace c r e in cc)
 
-opened_first : (depth : ℕ) → GroupStops depth → (t : List ℕ) (x : List ℕ × List ℕ) (s : AnyStop) → ends_members t ≡ false → member_name t ≡ Ok x → is_byte_at_front 123 x.1 ≡ true → opened (group depth) x.1 ≡ Err s → IsFirstBroken (suc depth) t s
-unfolding opened members
+opened_first : (depth : ℕ) → GroupStops depth → (t : List ℕ) (x : List ℕ × List ℕ) (s : AnyStop) → ends_members t ≡ false → member_name t ≡ Ok x → begins_with_byte 123 x.1 ≡ true → braced_group (group depth) x.1 ≡ Err s → IsFirstBroken (suc depth) t s
+unfolding braced_group members
 opened_first depth all t x s on named at h = elim (bind_err (more_members (group depth) (length (comments_skipped (drop 1 x.1))) [] (comments_skipped (drop 1 x.1))) _ s h) [
   | inl inner ↦ IsFirstBroken.within x on named at (members_first depth all (length (comments_skipped (drop 1 x.1))) [] (comments_skipped (drop 1 x.1)) s (omega arith) inner)
-  | inr ms ↦ go ms.0 (is_byte_at_front 125 ms.0.1) refl (members_sound depth (group_sound depth) (length (comments_skipped (drop 1 x.1))) [] (comments_skipped (drop 1 x.1)) ms.0 (omega arith) ms.1) ms.2
+  | inr ms ↦ go ms.0 (begins_with_byte 125 ms.0.1) refl (members_sound depth (group_sound depth) (length (comments_skipped (drop 1 x.1))) [] (comments_skipped (drop 1 x.1)) ms.0 (omega arith) ms.1) ms.2
 ]
   where
-    go : (y : Members × List ℕ) (b : Bool) → is_byte_at_front 125 y.1 ≡ b → (ms : Members) × (y.0 ≡ [] ++ ms) × AreMembers depth (comments_skipped (drop 1 x.1)) ms y.1
+    go : (y : Members × List ℕ) (b : Bool) → begins_with_byte 125 y.1 ≡ b → (ms : Members) × (y.0 ≡ [] ++ ms) × AreMembers depth (comments_skipped (drop 1 x.1)) ms y.1
         → cond {A = TokenOutcome AnyNode} b (Ok (node.Group y.0, drop 1 y.1)) (Err (stop.Unclosed (length x.1))) ≡ Err s → IsFirstBroken (suc depth) t s
     go y true e ms f = absurd cc
     go y false e ms f =
@@ -236,10 +236,10 @@ group_first (suc d) t x s on named at h = opened_first d (group_first d) t x s o
 leaf_of_mark : (depth at : ℕ) (t : List ℕ) → first_byte_passes is_quote_mark t ≡ true → ((n : AnyNode) (r : List ℕ) → IsValue depth t n r → ⊥) → value (group depth) at t ≡ Err (stop.BadQuote (length t))
 leaf_of_mark depth at t mark none = value_leaf (group depth) at t plain ∙ go (ungrouped_value at t) refl
   where
-    plain : is_byte_at_front 123 t ≡ false
+    plain : begins_with_byte 123 t ≡ false
     plain = mark_no_brace t mark
 
-    never : (is_byte_at_front 123 t ≡ false) × (is_byte_at_front 34 t ≡ false) × (is_byte_at_front 39 t ≡ false) × (first_byte_passes is_plain_byte t ≡ false) → ⊥
+    never : (begins_with_byte 123 t ≡ false) × (begins_with_byte 34 t ≡ false) × (begins_with_byte 39 t ≡ false) × (first_byte_passes is_plain_byte t ≡ false) → ⊥
     never (b, p, q, w) = let none_there : first_byte_passes is_quote_mark t ≡ false = front_mark t p q in absurd cc
 
     go : (o : TokenOutcome AnyNode) → ungrouped_value at t ≡ o → o ≡ Err (stop.BadQuote (length t))
@@ -263,7 +263,7 @@ member_unnamed : (inner : List ℕ → TokenOutcome AnyNode) (t : List ℕ) (s :
 unfolding member
 member_unnamed inner t s h = rw h refl
 
-deep_is : (at : ℕ) (t : List ℕ) → is_byte_at_front 123 t ≡ true → value (group zero) at t ≡ Err (stop.TooDeep (length t))
+deep_is : (at : ℕ) (t : List ℕ) → begins_with_byte 123 t ≡ true → value (group zero) at t ≡ Err (stop.TooDeep (length t))
 unfolding value group
 deep_is at t e = rw e refl
 
@@ -283,12 +283,12 @@ more_later : (inner : List ℕ → TokenOutcome AnyNode) (k : ℕ) (found : Memb
 unfolding more_members member
 more_later inner k found t rest x n s on named v h = rw (on, named, v) h
 
-value_opens : (depth at : ℕ) (t : List ℕ) (s : AnyStop) → is_byte_at_front 123 t ≡ true → more_members (group depth) (length (comments_skipped (drop 1 t))) [] (comments_skipped (drop 1 t)) ≡ Err s → value (group (suc depth)) at t ≡ Err s
-unfolding value group opened members
+value_opens : (depth at : ℕ) (t : List ℕ) (s : AnyStop) → begins_with_byte 123 t ≡ true → more_members (group depth) (length (comments_skipped (drop 1 t))) [] (comments_skipped (drop 1 t)) ≡ Err s → value (group (suc depth)) at t ≡ Err s
+unfolding value group braced_group members
 value_opens depth at t s e h = rw (e, h) refl
 
-value_unclosed : (depth at : ℕ) (t : List ℕ) (ms : Members) → is_byte_at_front 123 t ≡ true → more_members (group depth) (length (comments_skipped (drop 1 t))) [] (comments_skipped (drop 1 t)) ≡ Ok (ms, []) → value (group (suc depth)) at t ≡ Err (stop.Unclosed (length t))
-unfolding value group opened members is_byte_at_front
+value_unclosed : (depth at : ℕ) (t : List ℕ) (ms : Members) → begins_with_byte 123 t ≡ true → more_members (group depth) (length (comments_skipped (drop 1 t))) [] (comments_skipped (drop 1 t)) ≡ Ok (ms, []) → value (group (suc depth)) at t ≡ Err (stop.Unclosed (length t))
+unfolding value group braced_group members begins_with_byte
 value_unclosed depth at t ms e h = rw (e, h) refl
 
 first_read : (depth : ℕ) (t : List ℕ) (s : AnyStop) → IsFirstBroken depth t s → (k : ℕ) (found : Members) → length t ≤ k → more_members (group depth) k found t ≡ Err s
@@ -311,7 +311,7 @@ first_read _ _ _ (IsFirstBroken.unclosed {depth} {t} x ms on named at all) k fou
 
 -- ---- the file
 
-not_nil : (r : List ℕ) → (length r == 0) ≡ false → ends_members r ≡ true → is_byte_at_front 125 r ≡ true
+not_nil : (r : List ℕ) → (length r == 0) ≡ false → ends_members r ≡ true → begins_with_byte 125 r ≡ true
 unfolding ends_members
 not_nil [] plain e = absurd cc
 not_nil (c ∷ r) plain e = at_brace c r e
@@ -327,8 +327,8 @@ stop_found text s h = elim (bind_err (more_members (group 32) (length (comments_
     go y true e ms f = absurd cc
     go y false e ms f = subst (IsStop text) (err_is _ s f) (IsStop.surplus ms.0 y.1 ms.2 (not_nil y.1 e (members_end 32 (comments_skipped text) ms.0 y.1 ms.2)))
 
-brace_there : (r : List ℕ) → is_byte_at_front 125 r ≡ true → (length r == 0) ≡ false
-unfolding is_byte_at_front
+brace_there : (r : List ℕ) → begins_with_byte 125 r ≡ true → (length r == 0) ≡ false
+unfolding begins_with_byte
 brace_there [] h = absurd cc
 brace_there (c ∷ r) h = grind (arith, nat_tests)
 

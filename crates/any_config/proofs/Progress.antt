@@ -7,8 +7,8 @@ use Rattle.any_config.specs.declared.node.AnyNode.TheVariants as node
 use Rattle.any_config.specs.declared.stop.AnyStop.{AnyStop}
 use Rattle.any_config.specs.declared.stop.AnyStop.TheVariants.{BadName, BadQuote, Unclosed}
 use Rattle.any_config.specs.declared.tokens.Run.TheVariants.{Name, Plain, Quoted}
-use Rattle.any_config.specs.Tokens.{TokenOutcome, ◌>>=◌, after_blanks_and_comments, comments_skipped, is_line_end, is_config_blank, is_byte_at_front, run_len, member_name, word, quoted, quoted_node, ungrouped_value}
-use Rattle.any_config.specs.Read.{Members, ends_members, value, member, more_members, members, opened, group}
+use Rattle.any_config.specs.Tokens.{TokenOutcome, ◌>>=◌, after_blanks_and_comments, comments_skipped, is_line_end, is_config_blank, begins_with_byte, run_len, member_name, word, quoted_value, quoted_node, ungrouped_value}
+use Rattle.any_config.specs.Read.{Members, ends_members, value, member, more_members, members, braced_group, group}
 use Rattle.any_config.proofs.TokenLemmas.{run_within}
 
 -- the value of a step that did not fail
@@ -36,14 +36,14 @@ pub skip_less : (t : List ℕ) → length (comments_skipped t) ≤ length t
 unfolding comments_skipped
 skip_less t = blanks_less false t
 
-at_tail : (c : ℕ) (t : List ℕ) → is_byte_at_front c t ≡ true → length (drop 1 t) < length t
-unfolding is_byte_at_front
+at_tail : (c : ℕ) (t : List ℕ) → begins_with_byte c t ≡ true → length (drop 1 t) < length t
+unfolding begins_with_byte
 at_tail c [] h = absurd cc
 at_tail c (d ∷ t) h = omega arith
 
 pub name_less : (t : List ℕ) (x : List ℕ × List ℕ) → member_name t ≡ Ok x → length x.1 ≤ length t
 unfolding member_name
-name_less t x h = go (is_byte_at_front 47 t) (run_len Name (drop 1 t) == 0) h
+name_less t x h = go (begins_with_byte 47 t) (run_len Name (drop 1 t) == 0) h
   where
     go : (p q : Bool) → cond p (cond q (Err (BadName (length t))) (Ok (take (run_len Name (drop 1 t)) (drop 1 t), comments_skipped (drop (run_len Name (drop 1 t)) (drop 1 t))))) (Ok ([], t)) ≡ Ok x → length x.1 ≤ length t
     go true true e = absurd cc
@@ -55,18 +55,18 @@ name_less t x h = go (is_byte_at_front 47 t) (run_len Name (drop 1 t) == 0) h
 -- a leaf is one whatever its member is
 pub leaf_any : (a b : ℕ) (t : List ℕ) (x : AnyNode × List ℕ) → ungrouped_value a t ≡ Ok x → ungrouped_value b t ≡ Ok x
 unfolding ungrouped_value word
-leaf_any a b t x h = go (is_byte_at_front 34 t) (is_byte_at_front 39 t) (run_len Plain t == 0) h
+leaf_any a b t x h = go (begins_with_byte 34 t) (begins_with_byte 39 t) (run_len Plain t == 0) h
   where
-    go : (p q z : Bool) → cond p (quoted 34 t) (cond q (quoted 39 t) (cond z (Err (BadName a)) (Ok (node.Word (take (run_len Plain t) t), drop (run_len Plain t) t)))) ≡ Ok x
-        → cond p (quoted 34 t) (cond q (quoted 39 t) (cond z (Err (BadName b)) (Ok (node.Word (take (run_len Plain t) t), drop (run_len Plain t) t)))) ≡ Ok x
+    go : (p q z : Bool) → cond p (quoted_value 34 t) (cond q (quoted_value 39 t) (cond z (Err (BadName a)) (Ok (node.Word (take (run_len Plain t) t), drop (run_len Plain t) t)))) ≡ Ok x
+        → cond p (quoted_value 34 t) (cond q (quoted_value 39 t) (cond z (Err (BadName b)) (Ok (node.Word (take (run_len Plain t) t), drop (run_len Plain t) t)))) ≡ Ok x
     go true q z e = e
     go false true z e = e
     go false false true e = absurd cc
     go false false false e = e
 
-quoted_less : (mark : ℕ) (t : List ℕ) (x : AnyNode × List ℕ) → is_byte_at_front mark t ≡ true → quoted mark t ≡ Ok x → length x.1 < length t
-unfolding quoted
-quoted_less mark t x at h = go (is_byte_at_front mark (drop (run_len (Quoted mark) (drop 1 t)) (drop 1 t)) && is_utf8 (take (run_len (Quoted mark) (drop 1 t)) (drop 1 t))) h
+quoted_less : (mark : ℕ) (t : List ℕ) (x : AnyNode × List ℕ) → begins_with_byte mark t ≡ true → quoted_value mark t ≡ Ok x → length x.1 < length t
+unfolding quoted_value
+quoted_less mark t x at h = go (begins_with_byte mark (drop (run_len (Quoted mark) (drop 1 t)) (drop 1 t)) && is_utf8 (take (run_len (Quoted mark) (drop 1 t)) (drop 1 t))) h
   where
     go : (b : Bool) → cond b (Ok (quoted_node mark (take (run_len (Quoted mark) (drop 1 t)) (drop 1 t)), drop 1 (drop (run_len (Quoted mark) (drop 1 t)) (drop 1 t)))) (Err (BadQuote (length t))) ≡ Ok x → length x.1 < length t
     go true e =
@@ -93,9 +93,9 @@ word_less a t x h = go (run_len Plain t == 0) refl h
 
 pub leaf_less : (a : ℕ) (t : List ℕ) (x : AnyNode × List ℕ) → ungrouped_value a t ≡ Ok x → length x.1 < length t
 unfolding ungrouped_value
-leaf_less a t x h = go (is_byte_at_front 34 t) (is_byte_at_front 39 t) refl refl h
+leaf_less a t x h = go (begins_with_byte 34 t) (begins_with_byte 39 t) refl refl h
   where
-    go : (p q : Bool) → is_byte_at_front 34 t ≡ p → is_byte_at_front 39 t ≡ q → cond p (quoted 34 t) (cond q (quoted 39 t) (word a t)) ≡ Ok x → length x.1 < length t
+    go : (p q : Bool) → begins_with_byte 34 t ≡ p → begins_with_byte 39 t ≡ q → cond p (quoted_value 34 t) (cond q (quoted_value 39 t) (word a t)) ≡ Ok x → length x.1 < length t
     go true q ep eq e = quoted_less 34 t x ep e
     go false true ep eq e = quoted_less 39 t x eq e
     go false false ep eq e = word_less a t x e
@@ -106,7 +106,7 @@ Takes inner = (t : List ℕ) (x : AnyNode × List ℕ) → inner t ≡ Ok x → 
 
 pub value_less : (inner : List ℕ → TokenOutcome AnyNode) → Takes inner → (at : ℕ) (t : List ℕ) (x : AnyNode × List ℕ) → value inner at t ≡ Ok x → length x.1 < length t
 unfolding value
-value_less inner takes at t x h = go (is_byte_at_front 123 t) h
+value_less inner takes at t x h = go (begins_with_byte 123 t) h
   where
     go : (b : Bool) → cond b (inner t) (ungrouped_value at t) ≡ Ok x → length x.1 < length t
     go true e = takes t x e
@@ -132,13 +132,13 @@ more_less inner takes (suc k) found t y h = go (ends_members t) (λ f s. more_le
         let a = bind_ok (member inner t) (λ m. more_members inner k (found ++ m.0 ∷ []) (comments_skipped m.1)) y e in
         omega (arith, ih (found ++ a.0.0 ∷ []) (comments_skipped a.0.1) a.2, skip_less a.0.1, member_less inner takes t a.0 a.1)
 
-opened_less : (inner : List ℕ → TokenOutcome AnyNode) → Takes inner → Takes (opened inner)
-unfolding opened members
+opened_less : (inner : List ℕ → TokenOutcome AnyNode) → Takes inner → Takes (braced_group inner)
+unfolding braced_group members
 opened_less inner takes t x h =
     let a = bind_ok (more_members inner (length (comments_skipped (drop 1 t))) [] (comments_skipped (drop 1 t))) _ x h in
-    go a.0 (is_byte_at_front 125 a.0.1) refl (more_less inner takes _ _ _ a.0 a.1) a.2
+    go a.0 (begins_with_byte 125 a.0.1) refl (more_less inner takes _ _ _ a.0 a.1) a.2
   where
-    go : (ms : Members × List ℕ) (b : Bool) → is_byte_at_front 125 ms.1 ≡ b → length ms.1 ≤ length (comments_skipped (drop 1 t)) → cond b (Ok (node.Group ms.0, drop 1 ms.1)) (Err (Unclosed (length t))) ≡ Ok x → length x.1 < length t
+    go : (ms : Members × List ℕ) (b : Bool) → begins_with_byte 125 ms.1 ≡ b → length ms.1 ≤ length (comments_skipped (drop 1 t)) → cond b (Ok (node.Group ms.0, drop 1 ms.1)) (Err (Unclosed (length t))) ≡ Ok x → length x.1 < length t
     go ms true at le e =
         let same = ap (λ (z : AnyNode × List ℕ). length z.1) (ok_is _ x e) in
         omega (arith, same, le, at_tail 125 ms.1 at, skip_less (drop 1 t), length-drop 1 t)

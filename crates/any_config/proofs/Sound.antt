@@ -7,20 +7,20 @@ use Rattle.any_config.specs.declared.node.AnyNode.TheVariants as node
 use Rattle.any_config.specs.declared.stop.AnyStop.{AnyStop}
 use Rattle.any_config.specs.declared.stop.AnyStop.TheVariants as stop
 use Rattle.any_config.specs.declared.any_fault.AnyFault.{AnyFault}
-use Rattle.any_config.specs.Tokens.{◌>>=◌, comments_skipped, is_byte_at_front, member_name, ungrouped_value}
-use Rattle.any_config.specs.Read.{Members, ends_members, value, member, more_members, members, opened, group, file_read, placed_answer, any_of}
+use Rattle.any_config.specs.Tokens.{◌>>=◌, comments_skipped, begins_with_byte, member_name, ungrouped_value}
+use Rattle.any_config.specs.Read.{Members, ends_members, value, member, more_members, members, braced_group, group, file_read, placed_answer, any_of}
 use Rattle.any_config.specs.Grammar.{IsValue, AreMembers, IsFile}
 use Rattle.any_config.proofs.Progress.{bind_ok, done, ok_is, skip_less, member_less, group_takes}
 
 -- the groups that are read at a depth are values of the grammar
 abbrev pub AllValues : ℕ → Type 0
-AllValues depth = (t : List ℕ) (x : AnyNode × List ℕ) → is_byte_at_front 123 t ≡ true → group depth t ≡ Ok x → IsValue depth t x.0 x.1
+AllValues depth = (t : List ℕ) (x : AnyNode × List ℕ) → begins_with_byte 123 t ≡ true → group depth t ≡ Ok x → IsValue depth t x.0 x.1
 
 pub value_sound : (depth : ℕ) → AllValues depth → (at : ℕ) (t : List ℕ) (x : AnyNode × List ℕ) → value (group depth) at t ≡ Ok x → IsValue depth t x.0 x.1
 unfolding value
-value_sound depth all at t x h = go (is_byte_at_front 123 t) refl h
+value_sound depth all at t x h = go (begins_with_byte 123 t) refl h
   where
-    go : (b : Bool) → is_byte_at_front 123 t ≡ b → cond b (group depth t) (ungrouped_value at t) ≡ Ok x → IsValue depth t x.0 x.1
+    go : (b : Bool) → begins_with_byte 123 t ≡ b → cond b (group depth t) (ungrouped_value at t) ≡ Ok x → IsValue depth t x.0 x.1
     go true e f = all t x e f
     go false e f = IsValue.single at e f
 
@@ -59,14 +59,14 @@ members_sound depth all (suc k) found t y le h = go (ends_members t) refl (λ f 
         let rest = ih (found ++ a.0.0 ∷ []) (comments_skipped a.0.1) less a.2 in
         (a.0.0 ∷ rest.0, rest.1 ∙ append_assoc found (a.0.0 ∷ []) rest.0, member_sound depth all t a.0 rest.0 y.1 e a.1 rest.2)
 
-opened_sound : (depth : ℕ) → AllValues depth → (t : List ℕ) (x : AnyNode × List ℕ) → is_byte_at_front 123 t ≡ true → opened (group depth) t ≡ Ok x → IsValue (suc depth) t x.0 x.1
-unfolding opened members
+opened_sound : (depth : ℕ) → AllValues depth → (t : List ℕ) (x : AnyNode × List ℕ) → begins_with_byte 123 t ≡ true → braced_group (group depth) t ≡ Ok x → IsValue (suc depth) t x.0 x.1
+unfolding braced_group members
 opened_sound depth all t x at h =
     let a = bind_ok (more_members (group depth) (length (comments_skipped (drop 1 t))) [] (comments_skipped (drop 1 t))) _ x h in
     let ms = members_sound depth all (length (comments_skipped (drop 1 t))) [] (comments_skipped (drop 1 t)) a.0 (omega arith) a.1 in
-    go a.0 (is_byte_at_front 125 a.0.1) refl ms.0 ms.1 ms.2 a.2
+    go a.0 (begins_with_byte 125 a.0.1) refl ms.0 ms.1 ms.2 a.2
   where
-    go : (y : Members × List ℕ) (b : Bool) → is_byte_at_front 125 y.1 ≡ b → (ms : Members) → y.0 ≡ ms → AreMembers depth (comments_skipped (drop 1 t)) ms y.1
+    go : (y : Members × List ℕ) (b : Bool) → begins_with_byte 125 y.1 ≡ b → (ms : Members) → y.0 ≡ ms → AreMembers depth (comments_skipped (drop 1 t)) ms y.1
         → cond b (Ok (node.Group y.0, drop 1 y.1)) (Err (stop.Unclosed (length t))) ≡ Ok x → IsValue (suc depth) t x.0 x.1
     go y true e ms all_of inside f =
         let same = ok_is _ x f in

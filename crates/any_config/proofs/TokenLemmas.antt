@@ -6,7 +6,7 @@ use Rattle.std.proofs.lemmas.Str.{IsUtf8-from_ascii, IsUtf8-from_is_utf8, is_utf
 use Rattle.std.proofs.lemmas.Bool.Decides.{nat_tests}
 use Rattle.any_config.specs.declared.tokens.Run.{Run}
 use Rattle.any_config.specs.declared.tokens.Run.TheVariants.{Name, Plain, Quoted}
-use Rattle.any_config.specs.Tokens.{ends, run_len, is_config_name_byte, is_plain_byte, is_byte_at_front, quoted, quoted_node}
+use Rattle.any_config.specs.Tokens.{ends, run_len, is_config_name_byte, is_plain_byte, begins_with_byte, quoted_value, quoted_node}
 use Rattle.any_config.specs.declared.stop.AnyStop.TheVariants.{BadQuote}
 
 pub place_is : (n len : ℕ) → n ≤ len → (r : Option ℕ) → r ≡ cond (nat_lt n len) (Some n) None → MatchOption r (len ≡ n) (λ i. i ≡ n)
@@ -63,17 +63,17 @@ not_utf8 bs no_text = go (is_utf8 bs) refl
     go false e = refl
 
 -- what stands in quotes
-pub quoted_ok : (mark n : ℕ) (t inside bytes rest text out : List ℕ) → inside ≡ drop 1 t → n ≡ run_len (Quoted mark) inside → bytes ≡ take n inside → rest ≡ drop n inside → is_byte_at_front mark rest ≡ true → IsUtf8 bytes
-    → text ≡ bytes → out ≡ drop 1 rest → quoted mark t ≡ Ok (quoted_node mark text, out)
-unfolding quoted
+pub quoted_ok : (mark n : ℕ) (t inside bytes rest text out : List ℕ) → inside ≡ drop 1 t → n ≡ run_len (Quoted mark) inside → bytes ≡ take n inside → rest ≡ drop n inside → begins_with_byte mark rest ≡ true → IsUtf8 bytes
+    → text ≡ bytes → out ≡ drop 1 rest → quoted_value mark t ≡ Ok (quoted_node mark text, out)
+unfolding quoted_value
 quoted_ok mark n t inside bytes rest text out ei en eb er at u et eo =
     let a = rw (er, en, ei) at at in
     let v = rw (eb, en, ei) at (is_utf8-from_IsUtf8 bytes u) in
     rw (eo, et, eb, er, en, ei, a, v) refl
 
-pub quoted_bad : (mark n : ℕ) (t inside bytes rest : List ℕ) → inside ≡ drop 1 t → n ≡ run_len (Quoted mark) inside → bytes ≡ take n inside → rest ≡ drop n inside → is_byte_at_front mark rest ≡ true → ¬ (IsUtf8 bytes)
-    → quoted mark t ≡ Err (BadQuote (length t))
-unfolding quoted
+pub quoted_bad : (mark n : ℕ) (t inside bytes rest : List ℕ) → inside ≡ drop 1 t → n ≡ run_len (Quoted mark) inside → bytes ≡ take n inside → rest ≡ drop n inside → begins_with_byte mark rest ≡ true → ¬ (IsUtf8 bytes)
+    → quoted_value mark t ≡ Err (BadQuote (length t))
+unfolding quoted_value
 quoted_bad mark n t inside bytes rest ei en eb er at no_text =
     let a = rw (er, en, ei) at at in
     let v = rw (eb, en, ei) at (not_utf8 bytes no_text) in

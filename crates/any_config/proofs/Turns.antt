@@ -4,13 +4,13 @@ use Rattle.any_config.specs.declared.node.AnyNode.{AnyNode}
 use Rattle.any_config.specs.declared.stop.AnyStop.{AnyStop}
 use Rattle.any_config.specs.declared.stop.AnyStop.TheVariants.{Memory, BadName, BadQuote, TooDeep, Unclosed}
 use Rattle.any_config.specs.Tokens.{TokenOutcome, TokenFails, comments_skipped}
-use Rattle.any_config.specs.Read.{Members, ends_members, member, more_members, opened, group}
+use Rattle.any_config.specs.Read.{Members, ends_members, member, more_members, braced_group, group}
 
 pub group_zero : (depth : ℕ) (t : List ℕ) → depth ≡ 0 → group depth t ≡ Err (TooDeep (length t))
 unfolding group
 group_zero depth t e = rw e refl
 
-pub group_less : (depth : ℕ) (t : List ℕ) → depth ≢ 0 → group depth t ≡ opened (group (depth - 1)) t
+pub group_less : (depth : ℕ) (t : List ℕ) → depth ≢ 0 → group depth t ≡ braced_group (group (depth - 1)) t
 unfolding group
 group_less zero t h = absurd (h refl)
 group_less (suc d) t h = rw sub-one refl

@@ -244,9 +244,9 @@ asked_in (AnyNode-F.Group ms) = (codes "localhost", http_port)
 
 -- the host and the port at which the publisher is asked: the first of the served ones where that is a name, else `localhost`, and
 -- its port, else that of HTTP
-unfoldable pub asked : Members → List ℕ × ℕ
-asked [] = (codes "localhost", http_port)
-asked (m ∷ ms) = asked_in (out-AnyNode m.1)
+unfoldable pub publisher_address : Members → List ℕ × ℕ
+publisher_address [] = (codes "localhost", http_port)
+publisher_address (m ∷ ms) = asked_in (out-AnyNode m.1)
 
 -- ---- the farm
 
@@ -301,4 +301,4 @@ farm_of top = do
   hosts ← each served_host served
   entries ← filters farm
   cache ← needed_group (codes "cache") farm
-  with_cache hosts (asked served) entries cache
+  with_cache hosts (publisher_address served) entries cache

@@ -2,15 +2,15 @@
 use Rattle.std.specs.Prelude.{◌≡◌, ℕ, suc, true, false, List, [], ◌∷◌, Ok, drop}
 use Rattle.any_config.specs.declared.node.AnyNode.{AnyNode}
 use Rattle.any_config.specs.declared.node.AnyNode.TheVariants as node
-use Rattle.any_config.specs.Tokens.{is_byte_at_front, comments_skipped, member_name, ungrouped_value}
+use Rattle.any_config.specs.Tokens.{begins_with_byte, comments_skipped, member_name, ungrouped_value}
 use Rattle.any_config.specs.Read.{Members, deepest_group, ends_members}
 
 -- The number is how many more groups may open within one another.
 mutual
   -- a word or a text in quotes, or members between braces
   pub data IsValue : ℕ → List ℕ → AnyNode → List ℕ → Type 0 where
-    single : {depth : ℕ} {t r : List ℕ} {n : AnyNode} (at : ℕ) → is_byte_at_front 123 t ≡ false → ungrouped_value at t ≡ Ok (n, r) → IsValue depth t n r
-    braces : {depth : ℕ} {t r : List ℕ} {n : AnyNode} (ms : Members) (inside : List ℕ) → is_byte_at_front 123 t ≡ true → AreMembers depth (comments_skipped (drop 1 t)) ms inside → is_byte_at_front 125 inside ≡ true
+    single : {depth : ℕ} {t r : List ℕ} {n : AnyNode} (at : ℕ) → begins_with_byte 123 t ≡ false → ungrouped_value at t ≡ Ok (n, r) → IsValue depth t n r
+    braces : {depth : ℕ} {t r : List ℕ} {n : AnyNode} (ms : Members) (inside : List ℕ) → begins_with_byte 123 t ≡ true → AreMembers depth (comments_skipped (drop 1 t)) ms inside → begins_with_byte 125 inside ≡ true
         → n ≡ node.Group ms → r ≡ drop 1 inside → IsValue (suc depth) t n r
 
   -- names and their values up to a brace that closes, or to the text's end

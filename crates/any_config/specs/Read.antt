@@ -6,7 +6,7 @@ use Rattle.any_config.specs.declared.any_fault.AnyFault.{AnyFault}
 use Rattle.any_config.specs.declared.any_fault.AnyFault.TheVariants as fault
 use Rattle.any_config.specs.declared.node.AnyNode.{AnyNode}
 use Rattle.any_config.specs.declared.node.AnyNode.TheVariants as node
-use Rattle.any_config.specs.Tokens.{TokenOutcome, ◌>>=◌, comments_skipped, is_byte_at_front, member_name, ungrouped_value}
+use Rattle.any_config.specs.Tokens.{TokenOutcome, ◌>>=◌, comments_skipped, begins_with_byte, member_name, ungrouped_value}
 
 -- the names of a group and their values
 abbrev pub Members : Type 0
@@ -14,13 +14,13 @@ Members = List (List ℕ × AnyNode)
 
 -- members end at a `}` and at the end of the text
 unfoldable pub ends_members : List ℕ → Bool
-ends_members t = length t == 0 || is_byte_at_front 125 t
+ends_members t = length t == 0 || begins_with_byte 125 t
 
 -- Inside a group, `inner` reads the groups that it holds.
 module _ (inner : List ℕ → TokenOutcome AnyNode) where
   -- a value of the member that begins at a place
   unfoldable pub value : ℕ → List ℕ → TokenOutcome AnyNode
-  value at t = if is_byte_at_front 123 t then inner t else ungrouped_value at t
+  value at t = if begins_with_byte 123 t then inner t else ungrouped_value at t
 
   -- a name and its value, or a value alone
   unfoldable pub member : List ℕ → TokenOutcome (List ℕ × AnyNode)
@@ -41,15 +41,15 @@ module _ (inner : List ℕ → TokenOutcome AnyNode) where
   members t = more_members (length (comments_skipped t)) [] (comments_skipped t)
 
   -- a group from its `{` to its `}`
-  unfoldable pub opened : List ℕ → TokenOutcome AnyNode
-  opened t = do
+  unfoldable pub braced_group : List ℕ → TokenOutcome AnyNode
+  braced_group t = do
     ms ← members (drop 1 t)
-    if is_byte_at_front 125 ms.1 then Ok (node.Group ms.0, drop 1 ms.1) else Err (stop.Unclosed (length t))
+    if begins_with_byte 125 ms.1 then Ok (node.Group ms.0, drop 1 ms.1) else Err (stop.Unclosed (length t))
 
 -- a group in a place where groups may still nest this deep
 unfoldable pub group : ℕ → List ℕ → TokenOutcome AnyNode
 group zero t = Err (stop.TooDeep (length t))
-group (suc depth) t = opened (group depth) t
+group (suc depth) t = braced_group (group depth) t
 
 -- how many levels groups may nest
 abbrev pub deepest_group : ℕ

@@ -51,9 +51,9 @@ unfoldable pub comments_skipped : List ℕ → List ℕ
 comments_skipped t = after_blanks_and_comments false t
 
 -- whether the text begins with this byte
-unfoldable pub is_byte_at_front : ℕ → List ℕ → Bool
-is_byte_at_front c [] = false
-is_byte_at_front c (d ∷ t) = d == c
+unfoldable pub begins_with_byte : ℕ → List ℕ → Bool
+begins_with_byte c [] = false
+begins_with_byte c (d ∷ t) = d == c
 
 -- letters and digits of ASCII
 abbrev pub is_letter_or_digit : ℕ → Bool
@@ -80,7 +80,7 @@ run_len run t = position_or_len (ends run) t
 -- the name of a member, empty where it has none
 unfoldable pub member_name : List ℕ → TokenOutcome (List ℕ)
 member_name t =
-    if is_byte_at_front 47 t then (
+    if begins_with_byte 47 t then (
     if run_len Name (drop 1 t) == 0 then Err (BadName (length t))
     else Ok (take (run_len Name (drop 1 t)) (drop 1 t), comments_skipped (drop (run_len Name (drop 1 t)) (drop 1 t))))
     else Ok ([], t)
@@ -94,12 +94,12 @@ abbrev pub quoted_node : ℕ → List ℕ → AnyNode
 quoted_node mark text = if mark == 34 then node.Word text else node.Pattern text
 
 -- a text in quotes: UTF-8 up to the same mark, on one line
-unfoldable pub quoted : ℕ → List ℕ → TokenOutcome AnyNode
-quoted mark t =
-    if is_byte_at_front mark (drop (run_len (Quoted mark) (drop 1 t)) (drop 1 t)) && is_utf8 (take (run_len (Quoted mark) (drop 1 t)) (drop 1 t))
+unfoldable pub quoted_value : ℕ → List ℕ → TokenOutcome AnyNode
+quoted_value mark t =
+    if begins_with_byte mark (drop (run_len (Quoted mark) (drop 1 t)) (drop 1 t)) && is_utf8 (take (run_len (Quoted mark) (drop 1 t)) (drop 1 t))
     then Ok (quoted_node mark (take (run_len (Quoted mark) (drop 1 t)) (drop 1 t)), drop 1 (drop (run_len (Quoted mark) (drop 1 t)) (drop 1 t)))
     else Err (BadQuote (length t))
 
 -- a value that is no group
 unfoldable pub ungrouped_value : ℕ → List ℕ → TokenOutcome AnyNode
-ungrouped_value at t = if is_byte_at_front 34 t then quoted 34 t else (if is_byte_at_front 39 t then quoted 39 t else word at t)
+ungrouped_value at t = if begins_with_byte 34 t then quoted_value 34 t else (if begins_with_byte 39 t then quoted_value 39 t else word at t)

@@ -121,9 +121,9 @@ fn asked_text(text: &str) -> (&str, u16)
 }
 
 /// The host and the port at which the publisher is asked.
-#[tactic(auto, unfolding(crate::specs::Farms::asked))]
+#[tactic(auto, unfolding(crate::specs::Farms::publisher_address))]
 pub fn asked(served: &[Member]) -> (&str, u16)
-    ensures { (result.0.now, result.1) ≡ spec.asked served.now }
+    ensures { (result.0.now, result.1) ≡ spec.publisher_address served.now }
 {
     match served {
         [(_, AnyNode::Word(text)), ..] => asked_text(text.text()),

@@ -63,9 +63,9 @@ fn members(alloc: Global, depth: usize, text: &[u8]) -> Result<(AnyList, &[u8]),
 }
 
 #[cycle(reader)]
-#[tactic(auto, unfolding(crate::specs::Read::opened))]
+#[tactic(auto, unfolding(crate::specs::Read::braced_group))]
 fn opened(alloc: Global, depth: usize, text: &[u8]) -> Result<(AnyNode, &[u8]), AnyStop>
-    ensures { TokenGives (λ x. (x.0, x.1.now)) result (spec.opened (spec.group depth) text.now) }
+    ensures { TokenGives (λ x. (x.0, x.1.now)) result (spec.braced_group (spec.group depth) text.now) }
 {
     let (list, rest) = members(alloc, depth, tail(text))?;
     if !is_at(b'}', rest) {

@@ -77,9 +77,9 @@ fn run_len(run: Run, text: &[u8]) -> usize
     }
 }
 
-#[tactic(auto, unfolding(crate::specs::Tokens::is_byte_at_front))]
+#[tactic(auto, unfolding(crate::specs::Tokens::begins_with_byte))]
 pub fn is_at(c: u8, text: &[u8]) -> bool
-    ensures { result ≡ spec.is_byte_at_front c text.now }
+    ensures { result ≡ spec.begins_with_byte c text.now }
 {
     match text {
         [] => false,
@@ -166,9 +166,9 @@ fn quoted_node(mark: u8, text: TextBuf) -> AnyNode
     }
 }
 
-#[tactic(auto, unfolding(crate::specs::Tokens::quoted))]
+#[tactic(auto, unfolding(crate::specs::Tokens::quoted_value))]
 fn quoted(alloc: Global, mark: u8, text: &[u8]) -> Result<(AnyNode, &[u8]), AnyStop>
-    ensures { TokenGives (λ x. (x.0, x.1.now)) result (spec.quoted mark text.now) }
+    ensures { TokenGives (λ x. (x.0, x.1.now)) result (spec.quoted_value mark text.now) }
 {
     let inside = tail(text);
     let (bytes, rest) = inside.split_at(run_len(Run::Quoted(mark), inside));

@@ -9,7 +9,7 @@ use Rattle.http_front.specs.declared.turn.Turn.{Turn}
 use Rattle.http_front.specs.declared.turn.Turn.TheVariants.{Continue, Whole}
 use Rattle.connections.specs.declared.sending.Sending.{Sending}
 use Rattle.connections.specs.Slots.{Slot, MayAnswer, is_answered, is_last, interim_slot}
-use Rattle.connections.specs.Connections.{Connection, Close, Nothing, Send, advanced, after_turn, due, due_at_slot, due_at_turn, due_unsent, fed, filled, fresh, next_turn, with_landing, with_sent, with_slot}
+use Rattle.connections.specs.Connections.{Connection, Close, Nothing, Send, with_due_continue, after_turn, due, due_at_slot, due_at_turn, due_unsent, with_piece, slots_with_landing, fresh, next_turn, with_landing, with_sent, with_slot}
 use Rattle.connections.specs.Histories.{AnswersRun, Follows, IsDueSending, IsEndOr, Landing, Move, Piece, Sent, Shut, Treatment, after_all, sendings}
 use Rattle.connections.specs.Ties.{AllAnswered}
 use Rattle.connections.proofs.PlaceLemmas.{filled-past, length-filled}
@@ -128,29 +128,29 @@ told-where : (b : Bool) (c d : Connection) (sent : List Sending) → Told c sent
 told-where true c d sent here there = here
 told-where false c d sent here there = there
 
-told-advanced : (c : Connection) (sent : List Sending) → Told c sent → Told (advanced c) sent
+told-advanced : (c : Connection) (sent : List Sending) → Told c sent → Told (with_due_continue c) sent
 told-advanced c sent told = told-where c.closing c (after_turn (next_turn c) c) sent told (told-turn c sent (next_turn c) told)
 
-told-fed : (c : Connection) (sent : List Sending) (bytes : List ℕ) (turns : List Turn) (ends : End) → Told c sent → Told (fed bytes turns ends c) sent
+told-fed : (c : Connection) (sent : List Sending) (bytes : List ℕ) (turns : List Turn) (ends : End) → Told c sent → Told (with_piece bytes turns ends c) sent
 told-fed c sent bytes turns ends told =
     let more : Connection = record c { stream = c.stream ++ bytes; turns = c.turns ++ turns; ends = ends } in
-    told-where c.closing c (advanced more) sent told (told-advanced more sent (record { within = told.within; past = told.past }))
+    told-where c.closing c (with_due_continue more) sent told (told-advanced more sent (record { within = told.within; past = told.past }))
 
 told-landing : (c : Connection) (sent : List Sending) (n : ℕ) (a : Answer) → Told c sent → Told (with_landing n a c) sent
 told-landing c sent n a told =
     let within = told.within in
     let whole : take c.sent c.slots ++ drop c.sent c.slots ≡ c.slots = grind (arith, common_steps) in
-    let split : filled n a c.slots ≡ take c.sent c.slots ++ filled n a (drop c.sent c.slots) =
-    sym (ap (filled n a) whole) ∙ filled-past n a (take c.sent c.slots) (drop c.sent c.slots) (past-answered _ sent c.over told.past) in
+    let split : slots_with_landing n a c.slots ≡ take c.sent c.slots ++ slots_with_landing n a (drop c.sent c.slots) =
+    sym (ap (slots_with_landing n a) whole) ∙ filled-past n a (take c.sent c.slots) (drop c.sent c.slots) (past-answered _ sent c.over told.past) in
     let size : length (take c.sent c.slots) ≡ c.sent = grind (arith, common_steps) in
-    let cut : take c.sent (filled n a c.slots) ≡ take c.sent c.slots = rw split (take-exact (take c.sent c.slots) (filled n a (drop c.sent c.slots)) c.sent size).0 in
+    let cut : take c.sent (slots_with_landing n a c.slots) ≡ take c.sent c.slots = rw split (take-exact (take c.sent c.slots) (slots_with_landing n a (drop c.sent c.slots)) c.sent size).0 in
     record { within = omega (arith, length-filled n a c.slots); past = rw cut told.past }
 
 -- ---- all moves
 told-all : (c : Connection) (moves : List Move) (sent : List Sending) → Told c sent → Follows c moves → Told (after_all c moves) (sent ++ sendings moves)
 told-all c [] sent told follows = rw (append-nil sent) told
-told-all c (Piece bytes turns ends ∷ moves) sent told follows = told-all (fed bytes turns ends c) moves sent (told-fed c sent bytes turns ends told) follows.1
-told-all c (Treatment slot ∷ moves) sent told follows = told-all (advanced (with_slot slot c)) moves sent (told-advanced (with_slot slot c) sent (told-slot c sent slot told)) follows.1
+told-all c (Piece bytes turns ends ∷ moves) sent told follows = told-all (with_piece bytes turns ends c) moves sent (told-fed c sent bytes turns ends told) follows.1
+told-all c (Treatment slot ∷ moves) sent told follows = told-all (with_due_continue (with_slot slot c)) moves sent (told-advanced (with_slot slot c) sent (told-slot c sent slot told)) follows.1
 told-all c (Landing n a ∷ moves) sent told follows = told-all (with_landing n a c) moves sent (told-landing c sent n a told) follows.1
 told-all c (Sent x ∷ moves) sent told follows =
     let joined : (sent ++ x ∷ []) ++ sendings moves ≡ sent ++ x ∷ sendings moves = append_assoc sent (x ∷ []) (sendings moves) in

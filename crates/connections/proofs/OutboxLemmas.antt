@@ -11,9 +11,9 @@ use Rattle.connections.specs.declared.place.AnswerPlace.{AnswerPlace}
 use Rattle.connections.specs.declared.sending.Sending.{Sending}
 use Rattle.connections.specs.declared.place.Reply.{Reply}
 use Rattle.connections.specs.Slots.{IsInPlaceOf, Says, Slot, MayAnswer, is_answered, are_fixed_507}
-use Rattle.connections.specs.Connections.{Connection, Close, IsInPlaceOfDue, Send, due, due_at_slot, due_unsent, filled, with_landing, with_sent, with_slot}
+use Rattle.connections.specs.Connections.{Connection, Close, IsInPlaceOfDue, Send, due, due_at_slot, due_unsent, slots_with_landing, with_landing, with_sent, with_slot}
 use Rattle.connections.specs.Histories.{IsDueSending}
-use Rattle.connections.specs.Ties.{AllAnswered, AllTied, IsLeft, IsSendingOf, PlaceTied, ReplyTied, front_has_reply, has_reply, place_bytes}
+use Rattle.connections.specs.Ties.{AllAnswered, AllTied, IsLeft, IsSendingOf, PlaceTied, ReplyTied, first_has_reply, has_reply, place_bytes}
 use Rattle.connections.proofs.PlaceLemmas.{answered-tied, filled-past, filled_places, length-filled, tied-filled, tied-head, tied-none, tied-push, written-bytes, written-tied}
 
 -- ---- lists
@@ -139,10 +139,10 @@ due-by c o at e = by_over c.over refl
     by_over true is = rw is refl
     by_over false is = let going : c.over ≡ false = is in ap (λ b. cond b Close (due_at_slot (slice_get c.slots c.sent) c)) going ∙ ap (λ x. due_at_slot x c) at ∙ e
 
-pub held-waits : {places : List AnswerPlace} {closing over : Bool} {spare : List ℕ} (c : Connection) → IsLeft places closing over spare c → front_has_reply places ≡ false → due c ≡ due_unsent c
+pub held-waits : {places : List AnswerPlace} {closing over : Bool} {spare : List ℕ} (c : Connection) → IsLeft places closing over spare c → first_has_reply places ≡ false → due c ≡ due_unsent c
 held-waits {places} c left = by_places places left.unsent
   where
-    by_places : (ps : List AnswerPlace) → AllTied ps (drop c.sent c.slots) → front_has_reply ps ≡ false → due c ≡ due_unsent c
+    by_places : (ps : List AnswerPlace) → AllTied ps (drop c.sent c.slots) → first_has_reply ps ≡ false → due c ≡ due_unsent c
     by_places [] tied e = due-by c None (drop-end c.sent c.slots (tied-none _ tied)).0 refl
     by_places (p ∷ ps) tied e =
         let first = tied-head p ps (drop c.sent c.slots) tied in
@@ -155,10 +155,10 @@ pub filled-left : {places : List AnswerPlace} {closing over : Bool} {spare : Lis
 filled-left {places} c n r a says left =
     let within = left.within in
     let whole : take c.sent c.slots ++ drop c.sent c.slots ≡ c.slots = grind (arith, common_steps) in
-    let split : filled n a c.slots ≡ take c.sent c.slots ++ filled n a (drop c.sent c.slots) =
-    sym (ap (filled n a) whole) ∙ filled-past n a (take c.sent c.slots) (drop c.sent c.slots) left.past in
+    let split : slots_with_landing n a c.slots ≡ take c.sent c.slots ++ slots_with_landing n a (drop c.sent c.slots) =
+    sym (ap (slots_with_landing n a) whole) ∙ filled-past n a (take c.sent c.slots) (drop c.sent c.slots) left.past in
     let size : length (take c.sent c.slots) ≡ c.sent = grind (arith, common_steps) in
-    let cut = take-exact (take c.sent c.slots) (filled n a (drop c.sent c.slots)) c.sent size in
+    let cut = take-exact (take c.sent c.slots) (slots_with_landing n a (drop c.sent c.slots)) c.sent size in
     record {
       unsent = rw (split, cut.1) (tied-filled n r a places (drop c.sent c.slots) says left.unsent);
       within = omega (arith, length-filled n a c.slots);

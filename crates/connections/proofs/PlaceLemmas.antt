@@ -10,7 +10,7 @@ use Rattle.connections.specs.declared.place.Reply.{Reply}
 use Rattle.connections.specs.declared.place.Reply.TheVariants.{Interim, Fixed, Own, Awaits, Says}
 use Rattle.connections.specs.Slots.{Slot, Response, IsWritten, is_answered, is_awaiting, is_final}
 use Rattle.connections.specs.Slots as model
-use Rattle.connections.specs.Connections.{filled}
+use Rattle.connections.specs.Connections.{slots_with_landing}
 use Rattle.connections.specs.Ties.{ReplyTied, PlaceTied, AllTied, AllAnswered, has_reply, awaits, is_final_reply, reply_bytes, place_bytes}
 
 -- ---- a reply and a response
@@ -94,13 +94,13 @@ abbrev pub filled_places : ℕ → Reply → List AnswerPlace → List AnswerPla
 filled_places n r [] = []
 filled_places n r (x ∷ xs) = cond (awaits n x.reply) (record x { reply = r } ∷ xs) (x ∷ filled_places n r xs)
 
-pub tied-filled : (n : ℕ) (r : Reply) (a : Answer) (xs : List AnswerPlace) (ys : List Slot) → ReplyTied r (model.Says a) → AllTied xs ys → AllTied (filled_places n r xs) (filled n a ys)
+pub tied-filled : (n : ℕ) (r : Reply) (a : Answer) (xs : List AnswerPlace) (ys : List Slot) → ReplyTied r (model.Says a) → AllTied xs ys → AllTied (filled_places n r xs) (slots_with_landing n a ys)
 tied-filled n r a [] [] says all = tt
 tied-filled n r a [] (y ∷ ys) says all = absurd all
 tied-filled n r a (x ∷ xs) [] says all = absurd all
 tied-filled n r a (x ∷ xs) (y ∷ ys) says all = by_test (awaits n x.reply) refl (tied-filled n r a xs ys says all.1)
   where
-    by_test : (t : Bool) → awaits n x.reply ≡ t → AllTied (filled_places n r xs) (filled n a ys) → AllTied (filled_places n r (x ∷ xs)) (filled n a (y ∷ ys))
+    by_test : (t : Bool) → awaits n x.reply ≡ t → AllTied (filled_places n r xs) (slots_with_landing n a ys) → AllTied (filled_places n r (x ∷ xs)) (slots_with_landing n a (y ∷ ys))
     by_test true e rest =
         let there : is_awaiting n y.response ≡ true = awaiting-tied n x.reply y.response all.0.replies ∙ e in
         rw (e, there) (record { head_only_is = all.0.head_only_is; closes_is = all.0.closes_is; replies = says }, all.1)
@@ -115,15 +115,15 @@ not-awaiting n (model.Awaits m) e = absurd (let no : ⊥ = cc in no)
 not-awaiting n (model.Says a) e = refl
 
 -- a landing passes over the slots that are answered
-pub filled-past : (n : ℕ) (a : Answer) (xs ys : List Slot) → AllAnswered xs → filled n a (xs ++ ys) ≡ xs ++ filled n a ys
+pub filled-past : (n : ℕ) (a : Answer) (xs ys : List Slot) → AllAnswered xs → slots_with_landing n a (xs ++ ys) ≡ xs ++ slots_with_landing n a ys
 filled-past n a [] ys all = refl
 filled-past n a (x ∷ xs) ys all = rw (not-awaiting n x.response all.0) (ap (λ zs. x ∷ zs) (filled-past n a xs ys all.1))
 
-pub length-filled : (n : ℕ) (a : Answer) (xs : List Slot) → length (filled n a xs) ≡ length xs
+pub length-filled : (n : ℕ) (a : Answer) (xs : List Slot) → length (slots_with_landing n a xs) ≡ length xs
 length-filled n a [] = refl
 length-filled n a (x ∷ xs) = by_test (is_awaiting n x.response) refl (length-filled n a xs)
   where
-    by_test : (t : Bool) → is_awaiting n x.response ≡ t → length (filled n a xs) ≡ length xs → length (filled n a (x ∷ xs)) ≡ suc (length xs)
+    by_test : (t : Bool) → is_awaiting n x.response ≡ t → length (slots_with_landing n a xs) ≡ length xs → length (slots_with_landing n a (x ∷ xs)) ≡ suc (length xs)
     by_test true e rest = rw e refl
     by_test false e rest = rw e (ap suc rest)
 

@@ -9,7 +9,7 @@ use Rattle.http_front.specs.declared.fault.InFault.{InFault}
 use Rattle.http_front.specs.declared.turn.Turn.{Turn}
 use Rattle.http_front.specs.declared.turn.Turn.TheVariants.{Continue, Whole}
 use Rattle.connections.specs.Slots.{Fixed, Says, Slot, interim_slot, is_answered, is_awaiting, local_response}
-use Rattle.connections.specs.Connections.{Close, Connection, Due, Nothing, Refuse, Send, Treat, advanced, after_turn, due, due_at_slot, due_at_turn, due_unsent, fed, filled, fresh, next_turn, with_answer, with_landing, with_sent, with_slot}
+use Rattle.connections.specs.Connections.{Close, Connection, Due, Nothing, Refuse, Send, Treat, with_due_continue, after_turn, due, due_at_slot, due_at_turn, due_unsent, with_piece, slots_with_landing, fresh, next_turn, with_answer, with_landing, with_sent, with_slot}
 use Rattle.connections.specs.Histories.{AreOfTurns, Follows, IsEndOr, IsOfEnd, IsOfFault, IsOfTurn, IsSlotOf, Landing, Move, Piece, Sent, Shut, Treatment, after_all}
 
 -- the slots are those of turns, and none closes the connection
@@ -76,32 +76,32 @@ end-waits : (n : ℕ) (ends : End) (s : Slot) → IsOfEnd ends s → is_awaiting
 end-waits n Waits s is = absurd is
 end-waits n (Breaks fault) s is = ap (λ (r : Slot). is_awaiting n r.response) is ∙ local-waits n (fault_status fault)
 
-filled-none : (n : ℕ) (a : Answer) (slots : List Slot) → slots ≡ [] → filled n a slots ≡ []
+filled-none : (n : ℕ) (a : Answer) (slots : List Slot) → slots ≡ [] → slots_with_landing n a slots ≡ []
 filled-none n a slots e = rw e refl
 
 end-or-map : (b : Bool) (slots others : List Slot) (P Q : Type 0) → IsEndOr b slots P → (slots ≡ [] → others ≡ []) → (P → Q) → IsEndOr b others Q
 end-or-map true slots others P Q here none next = none here
 end-or-map false slots others P Q here none next = next here
 
-filled-are : (n : ℕ) (a : Answer) (turns : List Turn) (ends : End) (slots : List Slot) → AreOfTurns turns ends slots → AreOfTurns turns ends (filled n a slots)
+filled-are : (n : ℕ) (a : Answer) (turns : List Turn) (ends : End) (slots : List Slot) → AreOfTurns turns ends slots → AreOfTurns turns ends (slots_with_landing n a slots)
 filled-are n a turns ends [] all = tt
 filled-are n a [] ends (s ∷ slots) all = by_test (is_awaiting n s.response) refl
   where
-    by_test : (t : Bool) → is_awaiting n s.response ≡ t → AreOfTurns [] ends (cond (is_awaiting n s.response) (with_answer a s ∷ slots) (s ∷ filled n a slots))
+    by_test : (t : Bool) → is_awaiting n s.response ≡ t → AreOfTurns [] ends (cond (is_awaiting n s.response) (with_answer a s ∷ slots) (s ∷ slots_with_landing n a slots))
     by_test true e = absurd (let waits : is_awaiting n s.response ≡ false = end-waits n ends s all.0 in let no : ⊥ = cc in no)
     by_test false e = rw e (all.0, filled-none n a slots all.1)
 filled-are n a (t ∷ turns) ends (s ∷ slots) all = by_test (is_awaiting n s.response) refl (filled-are n a turns ends slots)
   where
-    by_test : (b : Bool) → is_awaiting n s.response ≡ b → (AreOfTurns turns ends slots → AreOfTurns turns ends (filled n a slots)) → AreOfTurns (t ∷ turns) ends (cond (is_awaiting n s.response) (with_answer a s ∷ slots) (s ∷ filled n a slots))
+    by_test : (b : Bool) → is_awaiting n s.response ≡ b → (AreOfTurns turns ends slots → AreOfTurns turns ends (slots_with_landing n a slots)) → AreOfTurns (t ∷ turns) ends (cond (is_awaiting n s.response) (with_answer a s ∷ slots) (s ∷ slots_with_landing n a slots))
     by_test true e rest = rw e (of-turn-filled n a t s e all.0, all.1)
-    by_test false e rest = rw e (all.0, end-or-map s.closes slots (filled n a slots) _ _ all.1 (filled-none n a slots) rest)
+    by_test false e rest = rw e (all.0, end-or-map s.closes slots (slots_with_landing n a slots) _ _ all.1 (filled-none n a slots) rest)
 
-filled-open : (n : ℕ) (a : Answer) (turns : List Turn) (slots : List Slot) → Open turns slots → Open turns (filled n a slots)
+filled-open : (n : ℕ) (a : Answer) (turns : List Turn) (slots : List Slot) → Open turns slots → Open turns (slots_with_landing n a slots)
 filled-open n a turns [] open_ = tt
 filled-open n a [] (s ∷ slots) open_ = absurd open_
 filled-open n a (t ∷ turns) (s ∷ slots) open_ = by_test (is_awaiting n s.response) refl (filled-open n a turns slots open_.2)
   where
-    by_test : (b : Bool) → is_awaiting n s.response ≡ b → Open turns (filled n a slots) → Open (t ∷ turns) (cond (is_awaiting n s.response) (with_answer a s ∷ slots) (s ∷ filled n a slots))
+    by_test : (b : Bool) → is_awaiting n s.response ≡ b → Open turns (slots_with_landing n a slots) → Open (t ∷ turns) (cond (is_awaiting n s.response) (with_answer a s ∷ slots) (s ∷ slots_with_landing n a slots))
     by_test true e rest = rw e (of-turn-filled n a t s e open_.0, open_.1, open_.2)
     by_test false e rest = rw e (open_.0, open_.1, rest)
 
@@ -120,7 +120,7 @@ last-cons : (s : Slot) (slots : List Slot) → LastCloses slots → LastCloses (
 last-cons s [] last = absurd last
 last-cons s (t ∷ slots) last = last
 
-last-filled : (n : ℕ) (a : Answer) (slots : List Slot) → LastCloses slots → LastCloses (filled n a slots)
+last-filled : (n : ℕ) (a : Answer) (slots : List Slot) → LastCloses slots → LastCloses (slots_with_landing n a slots)
 last-filled n a [] last = absurd last
 last-filled n a (s ∷ []) last = by_test (is_awaiting n s.response)
   where
@@ -129,9 +129,9 @@ last-filled n a (s ∷ []) last = by_test (is_awaiting n s.response)
     by_test false = last
 last-filled n a (s ∷ t ∷ slots) last = by_test (is_awaiting n s.response) (last-filled n a (t ∷ slots) last)
   where
-    by_test : (b : Bool) → LastCloses (filled n a (t ∷ slots)) → LastCloses (cond b (with_answer a s ∷ t ∷ slots) (s ∷ filled n a (t ∷ slots)))
+    by_test : (b : Bool) → LastCloses (slots_with_landing n a (t ∷ slots)) → LastCloses (cond b (with_answer a s ∷ t ∷ slots) (s ∷ slots_with_landing n a (t ∷ slots)))
     by_test true rest = last
-    by_test false rest = last-cons s (filled n a (t ∷ slots)) rest
+    by_test false rest = last-cons s (slots_with_landing n a (t ∷ slots)) rest
 
 -- ---- one move
 record Good (c : Connection) : Type 0 where
@@ -248,7 +248,7 @@ good-after c None good going is = good
 good-after c (Some Continue) good going is = good-turn c Continue interim_slot good (record { going = going; next = is }) refl
 good-after c (Some (Whole request)) good going is = good
 
-good-advanced : (c : Connection) → Good c → Good (advanced c)
+good-advanced : (c : Connection) → Good c → Good (with_due_continue c)
 good-advanced c good = good-where c.closing c (after_turn (next_turn c) c) good (λ going. good-after c (next_turn c) good going refl)
 
 good-more : (c : Connection) (bytes : List ℕ) (turns : List Turn) (ends : End) → Good c → c.closing ≡ false → Good (record c { stream = c.stream ++ bytes; turns = c.turns ++ turns; ends = ends })
@@ -256,16 +256,16 @@ good-more c bytes turns ends good going =
     let open_ = open-more c.turns turns c.slots (good.open_ going) in
     record { are = open-are (c.turns ++ turns) ends c.slots open_; open_ = λ e. open_; last = good.last }
 
-good-fed : (c : Connection) (bytes : List ℕ) (turns : List Turn) (ends : End) → Good c → Good (fed bytes turns ends c)
-good-fed c bytes turns ends good = good-where c.closing c (advanced (record c { stream = c.stream ++ bytes; turns = c.turns ++ turns; ends = ends })) good (λ going. good-advanced _ (good-more c bytes turns ends good going))
+good-fed : (c : Connection) (bytes : List ℕ) (turns : List Turn) (ends : End) → Good c → Good (with_piece bytes turns ends c)
+good-fed c bytes turns ends good = good-where c.closing c (with_due_continue (record c { stream = c.stream ++ bytes; turns = c.turns ++ turns; ends = ends })) good (λ going. good-advanced _ (good-more c bytes turns ends good going))
 
 good-landing : (c : Connection) (n : ℕ) (a : Answer) → Good c → Good (with_landing n a c)
 good-landing c n a good = record { are = filled-are n a c.turns c.ends c.slots good.are; open_ = λ e. filled-open n a c.turns c.slots (good.open_ e); last = λ e. last-filled n a c.slots (good.last e) }
 
 good-all : (c : Connection) (moves : List Move) → Good c → Follows c moves → Good (after_all c moves)
 good-all c [] good follows = good
-good-all c (Piece bytes turns ends ∷ moves) good follows = good-all (fed bytes turns ends c) moves (good-fed c bytes turns ends good) follows.1
-good-all c (Treatment slot ∷ moves) good follows = good-all (advanced (with_slot slot c)) moves (good-advanced (with_slot slot c) (good-treatment c slot good follows.0)) follows.1
+good-all c (Piece bytes turns ends ∷ moves) good follows = good-all (with_piece bytes turns ends c) moves (good-fed c bytes turns ends good) follows.1
+good-all c (Treatment slot ∷ moves) good follows = good-all (with_due_continue (with_slot slot c)) moves (good-advanced (with_slot slot c) (good-treatment c slot good follows.0)) follows.1
 good-all c (Landing n a ∷ moves) good follows = good-all (with_landing n a c) moves (good-landing c n a good) follows.1
 good-all c (Sent x ∷ moves) good follows = good-all (with_sent x.bytes c) moves (record { are = good.are; open_ = good.open_; last = good.last }) follows.1
 good-all c (Shut ∷ moves) good follows = good-all c moves good follows.1

@@ -90,25 +90,25 @@ after_turn (Some Continue) c = with_slot interim_slot c
 after_turn (Some (Whole request)) c = c
 
 -- a sender that waits for 100 Continue gets it without being asked, unless the connection closes before
-abbrev pub advanced : Connection → Connection
-advanced c = if c.closing then c else after_turn (next_turn c) c
+abbrev pub with_due_continue : Connection → Connection
+with_due_continue c = if c.closing then c else after_turn (next_turn c) c
 
 -- More bytes came, with which the stream spells these turns too and ends so. After the turn that closes the connection none is read.
-abbrev pub fed : List ℕ → List Turn → End → Connection → Connection
-fed bytes turns ends c = if c.closing then c else advanced (record c { stream = c.stream ++ bytes; turns = c.turns ++ turns; ends = ends })
+abbrev pub with_piece : List ℕ → List Turn → End → Connection → Connection
+with_piece bytes turns ends c = if c.closing then c else with_due_continue (record c { stream = c.stream ++ bytes; turns = c.turns ++ turns; ends = ends })
 
 -- the slot has this answer
 abbrev pub with_answer : Answer → Slot → Slot
 with_answer answer slot = record slot { response = Says answer }
 
 -- the first slot that awaits the flight has its answer
-abbrev pub filled : ℕ → Answer → List Slot → List Slot
-filled flight answer [] = []
-filled flight answer (slot ∷ slots) = if is_awaiting flight slot.response then with_answer answer slot ∷ slots else slot ∷ filled flight answer slots
+abbrev pub slots_with_landing : ℕ → Answer → List Slot → List Slot
+slots_with_landing flight answer [] = []
+slots_with_landing flight answer (slot ∷ slots) = if is_awaiting flight slot.response then with_answer answer slot ∷ slots else slot ∷ slots_with_landing flight answer slots
 
 -- a flight has landed
 abbrev pub with_landing : ℕ → Answer → Connection → Connection
-with_landing flight answer c = record c { slots = filled flight answer c.slots }
+with_landing flight answer c = record c { slots = slots_with_landing flight answer c.slots }
 
 -- the connection closes after these bytes of the slot, if there is one
 abbrev pub is_last_at : Option Slot → List ℕ → Bool

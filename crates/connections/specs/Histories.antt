@@ -8,7 +8,7 @@ use Rattle.http_front.specs.declared.turn.Turn.{Turn}
 use Rattle.http_front.specs.declared.turn.Turn.TheVariants.{Continue, Whole}
 use Rattle.connections.specs.declared.sending.Sending.{Sending}
 use Rattle.connections.specs.Slots.{Slot, Response, MayAnswer, is_answered, is_last, local_response, request_slot, fault_slot, interim_slot}
-use Rattle.connections.specs.Connections.{Connection, Due, Send, Treat, Refuse, Close, Nothing, due, fed, with_slot, advanced, with_landing, with_sent}
+use Rattle.connections.specs.Connections.{Connection, Due, Send, Treat, Refuse, Close, Nothing, due, with_piece, with_slot, with_due_continue, with_landing, with_sent}
 
 -- What happens to a connection: bytes come, with the turns that they add; a turn or a fault gets its slot; a flight lands; a slot is
 -- sent; it is shut.
@@ -21,8 +21,8 @@ pub data Move : Type 0 where
 
 -- the connection after what happened
 abbrev pub connection_after_move : Connection → Move → Connection
-connection_after_move c (Piece bytes turns ends) = fed bytes turns ends c
-connection_after_move c (Treatment slot) = advanced (with_slot slot c)
+connection_after_move c (Piece bytes turns ends) = with_piece bytes turns ends c
+connection_after_move c (Treatment slot) = with_due_continue (with_slot slot c)
 connection_after_move c (Landing flight answer) = with_landing flight answer c
 connection_after_move c (Sent sending) = with_sent sending.bytes c
 connection_after_move c Shut = c

@@ -50,9 +50,9 @@ abbrev pub place_bytes : AnswerPlace → List ℕ
 place_bytes place = reply_bytes place.head_only place.closes place.reply
 
 -- the first place has its reply
-abbrev pub front_has_reply : List AnswerPlace → Bool
-front_has_reply [] = false
-front_has_reply (place ∷ places) = has_reply place.reply
+abbrev pub first_has_reply : List AnswerPlace → Bool
+first_has_reply [] = false
+first_has_reply (place ∷ places) = has_reply place.reply
 
 -- what is sent for the place: its bytes; or the spare ones, and then memory was wanting unless the fixed 507 is its own
 abbrev pub IsSendingOf : AnswerPlace → List ℕ → Sending → Type 0
@@ -114,8 +114,8 @@ pub record IsLeft (places : List AnswerPlace) (closing over : Bool) (spare : Lis
   pub spare_is : over ≡ false → spare ≡ fixed_507
 
 -- the outbox is what is left of the connection
-abbrev pub Tied : Outbox → Connection → Type 0
-Tied outbox c = IsLeft outbox.places.items outbox.closing outbox.over outbox.spare c
+abbrev pub OutboxTied : Outbox → Connection → Type 0
+OutboxTied outbox c = IsLeft outbox.places.items outbox.closing outbox.over outbox.spare c
 
 -- how many places an outbox has
 abbrev pub unsent_count : Outbox → ℕ

@@ -6,7 +6,7 @@ ghost use Rattle.connections.specs.Slots.{Says, Slot};
 ghost use Rattle.connections.specs.Connections as model;
 ghost use Rattle.connections.specs.Connections.{Connection, IsInPlaceOfDue, due, due_unsent, fresh, with_landing, with_sent, with_slot};
 ghost use Rattle.connections.specs.Histories.{IsDueSending};
-ghost use Rattle.connections.specs.Ties.{IsSendingOf, PlaceTied, ReplyTied, Tied, awaits, is_final_reply, front_has_reply, unsent_count};
+ghost use Rattle.connections.specs.Ties.{IsSendingOf, PlaceTied, ReplyTied, OutboxTied, awaits, is_final_reply, first_has_reply, unsent_count};
 
 use crate::place::{AnswerPlace, Reply};
 use crate::sending::Sending;
@@ -34,7 +34,7 @@ pub struct Outbox {
 impl Outbox {
     /// The outbox of a new connection. It takes the room of the fixed 507.
     pub fn new(alloc: Global) -> Mem<Outbox>
-        ensures { IfOk result (λ outbox. (peer : List ℕ) → Tied outbox (fresh peer)) }
+        ensures { IfOk result (λ outbox. (peer : List ℕ) → OutboxTied outbox (fresh peer)) }
     {
         Ok(Outbox {
             places: VecDeque::new(alloc),
@@ -46,9 +46,9 @@ impl Outbox {
 
     /// Gives the next turn its place. After a refusal nothing has changed.
     pub fn push(&mut self, place: AnswerPlace) -> Mem<()>
-        ensures ok { OnOk result ((c : Connection) (slot : Slot) → Tied self.old c → PlaceTied place slot → Tied self.new (with_slot slot c)) }
+        ensures ok { OnOk result ((c : Connection) (slot : Slot) → OutboxTied self.old c → PlaceTied place slot → OutboxTied self.new (with_slot slot c)) }
         ensures more { OnOk result (unsent_count self.new ≡ unsent_count self.old + 1) }
-        ensures err { OnErr result ((c : Connection) → Tied self.old c → Tied self.new c) }
+        ensures err { OnErr result ((c : Connection) → OutboxTied self.old c → OutboxTied self.new c) }
     {
         let closes = place.closes;
         self.places.push_back(place)?;
@@ -59,10 +59,10 @@ impl Outbox {
     /// What is sent next, if anything can be: the next place's answer; or in place of another the fixed 507, exactly where memory is
     /// wanting. None where the connection is over or the next place waits.
     pub fn send(&mut self, alloc: Global) -> Option<Sending>
-        ensures sends { IfSome result (λ sending. (c : Connection) → Tied self.old c → IsDueSending c sending × Tied self.new (with_sent sending.bytes c)) }
-        ensures dry { IfSome result (λ sending. (c : Connection) → Tied self.old c → IsTrue sending.dry → IsInPlaceOfDue (due c) sending.bytes) }
+        ensures sends { IfSome result (λ sending. (c : Connection) → OutboxTied self.old c → IsDueSending c sending × OutboxTied self.new (with_sent sending.bytes c)) }
+        ensures dry { IfSome result (λ sending. (c : Connection) → OutboxTied self.old c → IsTrue sending.dry → IsInPlaceOfDue (due c) sending.bytes) }
         ensures fewer { OnSome result (unsent_count self.new + 1 ≡ unsent_count self.old) }
-        ensures waits { IfNone result ((c : Connection) → Tied self.old c → due c ≡ due_unsent c) }
+        ensures waits { IfNone result ((c : Connection) → OutboxTied self.old c → due c ≡ due_unsent c) }
         ensures same { IfNone result (self.new ≡ self.old) }
     {
         if self.over || !self.is_ready() {
@@ -76,7 +76,7 @@ impl Outbox {
 
     // Whether the next place has its answer.
     fn is_ready(&self) -> bool
-        ensures { result ≡ front_has_reply self.now.places.items }
+        ensures { result ≡ first_has_reply self.now.places.items }
     {
         match self.places.front() {
             Some(place) => place.reply.has_reply(),
@@ -115,7 +115,7 @@ impl Outbox {
 
     /// Gives the first place that awaits this flight its answer. Where none does, nothing changes.
     pub fn fill(&mut self, flight: u64, reply: Reply)
-        ensures filled { (c : Connection) (answer : models.Answer) → ReplyTied reply (Says answer) → Tied self.old c → Tied self.new (with_landing flight answer c) }
+        ensures filled { (c : Connection) (answer : models.Answer) → ReplyTied reply (Says answer) → OutboxTied self.old c → OutboxTied self.new (with_landing flight answer c) }
         ensures same { unsent_count self.new ≡ unsent_count self.old }
     {
         if let Some(at) = awaiting_place(&self.places, flight) {
@@ -125,7 +125,7 @@ impl Outbox {
 
     /// Whether the answers to `MOST_UNSENT` or more requests are unsent, so that the next is refused.
     pub fn is_crowded(&self) -> bool
-        ensures { (c : Connection) → Tied self.now c → result ≡ model.is_crowded c }
+        ensures { (c : Connection) → OutboxTied self.now c → result ≡ model.is_crowded c }
     {
         self.unsent_requests() >= MOST_UNSENT
     }
@@ -141,14 +141,14 @@ impl Outbox {
 
     /// Whether no further turn gets a place.
     pub fn is_closing(&self) -> bool
-        ensures { (c : Connection) → Tied self.now c → result ≡ c.closing }
+        ensures { (c : Connection) → OutboxTied self.now c → result ≡ c.closing }
     {
         self.closing
     }
 
     /// Whether all is sent, so that the connection is to be shut.
     pub fn is_over(&self) -> bool
-        ensures { (c : Connection) → Tied self.now c → result ≡ c.over }
+        ensures { (c : Connection) → OutboxTied self.now c → result ≡ c.over }
     {
         self.over
     }

@@ -14,7 +14,7 @@ use Rattle.content_json.specs.Faults.{has_good_order}
 use Rattle.content_json.specs.Nodes.{nodes_in, nodes_below, node_of_members}
 use Rattle.content_json.specs.Members.{AllMembers}
 use Rattle.content_json.specs.Steps.{member_nodes, with_nodes_at}
-use Rattle.content_json.specs.FromTokens.{IsFit, Holds, Gains, TakesIn, AddsMember, AddsMembers, AddsObject}
+use Rattle.content_json.specs.FromTokens.{IsFit, HoldsMembers, Gains, TakesIn, AddsMember, AddsMembers, AddsObject}
 use Rattle.content_json.proofs.InsertLemmas.{all-put}
 use Rattle.content_json.proofs.MapLemmas.{own_node}
 use Rattle.content_json.proofs.ReadLemmas.{converted-array, converted-object, member_read, members_over}
@@ -71,7 +71,7 @@ pub record AreRead (levels : ℕ) (path : List (List ℕ)) (parent : OpenObject)
   pub enough : length ts ≤ n
   pub read : converted (λ js. of_members js no_members) (members (value (levels + 62)) (length start) start) ≡ converted (λ js. of_members js found) (members (value (levels + 62)) n ts)
   pub fit : AllMembers (IsFit levels) found
-  pub holds : Holds parent found
+  pub holds : HoldsMembers parent found
   pub nodes : (q : List (List ℕ)) → node_at now q ≡ with_nodes_at old (nodes_below path found) q
 
 pub one_more : (levels : ℕ) (path : List (List ℕ)) (name : List ℕ) (before after : OpenObject) (old now next : Content) (start ts rest left : List Token) (n : ℕ) (found : Members)

@@ -21,7 +21,7 @@ use Rattle.content_json.specs.Lists.{item_list}
 use Rattle.content_json.specs.Faults.{names_kids, has_good_order, is_good_order}
 use Rattle.content_json.specs.Nodes.{add_props, kids_of}
 use Rattle.content_json.specs.Members.{AreSorted, entries_of}
-use Rattle.content_json.specs.FromTokens.{Holds, texts_array, texts_in, with_others}
+use Rattle.content_json.specs.FromTokens.{HoldsMembers, texts_array, texts_in, with_others}
 use Rattle.content_json.proofs.Under.{both}
 use Rattle.content_json.proofs.JoinLemmas.{both as both_hold}
 use Rattle.content_json.proofs.InsertLemmas.{same_name, tie_is}
@@ -115,7 +115,7 @@ order_good ms (Some (object xs)) names e good = absurd (cc)
 
 -- ---- the node
 
-module _ (parent : OpenObject) (ms : Members) (h : Holds parent ms) where
+module _ (parent : OpenObject) (ms : Members) (h : HoldsMembers parent ms) where
   pub props_are : T (is_sorted by_name parent.props) → parent.props ≡ add_props [] ms
   props_are sorted =
       same_entries by_name nat_list_cmp_total same_name parent.props (add_props [] ms) sorted (sorted_props ms [] tt)

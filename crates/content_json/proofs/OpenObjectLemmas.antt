@@ -14,7 +14,7 @@ use Rattle.sp_base.specs.declared.value.Value.{Value}
 use Rattle.content_json.specs.declared.open_object.OpenObject.{OpenObject}
 use Rattle.content_json.specs.Names.{order_name, is_order, is_content_name, is_object, is_kid}
 use Rattle.content_json.specs.Lists.{data_value}
-use Rattle.content_json.specs.FromTokens.{Holds, texts_array}
+use Rattle.content_json.specs.FromTokens.{HoldsMembers, texts_array}
 use Rattle.content_json.proofs.PutLemmas.{not_order, value_no_kid}
 use Rattle.content_json.proofs.Under.{bytes_eq_itself}
 use Rattle.content_json.proofs.InsertLemmas.{get-put, sorted-put, tie_is}
@@ -48,7 +48,7 @@ order_no_kid (Some (string s)) ds es e = refl
 order_no_kid (Some (array xs)) ds es e = refl
 order_no_kid (Some (object xs)) ds es e = absurd (cc)
 
-module _ (before : OpenObject) (ms : Members) (h : Holds before ms) where
+module _ (before : OpenObject) (ms : Members) (h : HoldsMembers before ms) where
   -- no member that is a kid has the name
   pub no_kid : (name : List ℕ) → is_order name ≡ false → contains_by (λ k. slice_cmp nat_cmp name k.now) before.kids ≡ false → is_kid ms name ≡ false
   no_kid name other none = sym (ap (λ t. not t && is_kid ms name) other) ∙ sym (h.kids name) ∙ none
@@ -67,7 +67,7 @@ module _ (before : OpenObject) (ms : Members) (h : Holds before ms) where
     pub holds-put : is_order name ≡ false
         → ((q : List ℕ) → find by_name q after.props ≡ cond (bytes_eq q name) (data_value d) (find by_name q before.props))
         → ((q : List ℕ) → contains_by (λ k. slice_cmp nat_cmp q k.now) after.kids ≡ cond (bytes_eq q name) (is_object d) (contains_by (λ k. slice_cmp nat_cmp q k.now) before.kids))
-        → after.order ≡ before.order → Holds after (put name d ms)
+        → after.order ≡ before.order → HoldsMembers after (put name d ms)
     holds-put other props kids order = record {
       sorted = sorted-put name d ms h.sorted;
       props = λ q. props q ∙ ⊎_elim
@@ -96,7 +96,7 @@ module _ (before : OpenObject) (ms : Members) (h : Holds before ms) where
     other q e = get-put q order_name d ms ∙ ap (λ t. cond t (Some d) (get_member q ms)) e
 
     -- `:order`
-    pub holds-order : after.props ≡ before.props → after.kids ≡ before.kids → d ≡ texts_array (map (λ name. name.now) after.order.items) → Holds after (put order_name d ms)
+    pub holds-order : after.props ≡ before.props → after.kids ≡ before.kids → d ≡ texts_array (map (λ name. name.now) after.order.items) → HoldsMembers after (put order_name d ms)
     holds-order props kids order = record {
       sorted = sorted-put order_name d ms h.sorted;
       props = λ q. ap (find by_name q) props ∙ h.props q ∙ ⊎_elim

@@ -43,7 +43,7 @@ abbrev pub texts_array : List (List ℕ) → Data
 texts_array texts = array (items_of (map string texts))
 
 -- what is kept of an object is of these members: the values of its properties, the names of its kids, what `:order` lists
-pub record Holds (parent : OpenObject) (ms : Members) : Type 0 where
+pub record HoldsMembers (parent : OpenObject) (ms : Members) : Type 0 where
   pub sorted : AreSorted ms
   pub props : (q : List ℕ) → find by_name q parent.props ≡ (if is_order q then None else option_and_then data_value (get_member q ms))
   pub kids : (q : List ℕ) → contains_by (λ k. slice_cmp nat_cmp q k.now) parent.kids ≡ (not (is_order q) && is_kid ms q)
@@ -51,7 +51,7 @@ pub record Holds (parent : OpenObject) (ms : Members) : Type 0 where
 
 -- one member more, which takes the place of no kid
 abbrev pub Gains : OpenObject → OpenObject → List ℕ → Data → Type 0
-Gains before after name d = (ms : Members) → Holds before ms → (is_kid ms name ≡ false) × Holds after (put name d ms)
+Gains before after name d = (ms : Members) → HoldsMembers before ms → (is_kid ms name ≡ false) × HoldsMembers after (put name d ms)
 
 -- these tokens begin with the value of a property, before the rest
 pub record BeginWith (ts rest : List Token) (value : Value) : Type 0 where
@@ -81,7 +81,7 @@ pub record AddsMembers (levels : ℕ) (path : List (List ℕ)) (after : OpenObje
   pub found : Members
   pub read : converted (λ js. of_members js no_members) (json.members (json.value (levels + 62)) (length ts) ts) ≡ Some (found, rest)
   pub fit : AllMembers (IsFit levels) found
-  pub holds : Holds after found
+  pub holds : HoldsMembers after found
   pub nodes : (q : List (List ℕ)) → node_at new q ≡ with_nodes_at old (nodes_below path found) q
 
 -- and with an object after its opening brace: it has no fault, and its nodes are added

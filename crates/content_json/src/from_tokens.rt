@@ -12,7 +12,7 @@ ghost use Rattle.content_json.specs.ContentOf.{map_of};
 ghost use Rattle.content_json.specs.Faults.{fault_in};
 ghost use Rattle.content_json.specs.Nodes.{nodes_in, is_deeper_below};
 ghost use Rattle.content_json.specs.Steps.{is_sound, member_nodes, with_nodes_at};
-ghost use Rattle.content_json.specs.FromTokens.{Holds, AddsObject, AddsMembers, AddsMember, TakesIn};
+ghost use Rattle.content_json.specs.FromTokens.{HoldsMembers, AddsObject, AddsMembers, AddsMember, TakesIn};
 
 use crate::names::{is_order, is_plain};
 use crate::open_object::OpenObject;
@@ -91,7 +91,7 @@ fn add_members<'a>(
     parent: &mut OpenObject<'a>,
 ) -> Mem<bool>
     requires levels { length path.now + levels ≡ most_segments }
-    requires fresh { Holds parent.old no_members }
+    requires fresh { HoldsMembers parent.old no_members }
     ensures shorter { OnOk result (length reader.new ≤ length reader.old) }
     ensures added { IfOk result (λ done. done ≡ true → AddsMembers levels path.now parent.new nodes.old nodes.new reader.old reader.new) }
 {

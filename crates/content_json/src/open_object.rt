@@ -33,10 +33,10 @@ impl<'a> OpenObject<'a> {
     ghost use Rattle.content_json.specs.Lists.{data_value};
     ghost use Rattle.content_json.specs.Faults.{has_good_order};
     ghost use Rattle.content_json.specs.Nodes.{node_of_members};
-    ghost use Rattle.content_json.specs.FromTokens.{Holds, Gains, texts_array, texts_in};
+    ghost use Rattle.content_json.specs.FromTokens.{HoldsMembers, Gains, texts_array, texts_in};
 
     pub(crate) fn new(alloc: Global) -> OpenObject<'a>
-        ensures { Holds result no_members }
+        ensures { HoldsMembers result no_members }
     {
         OpenObject {
             props: PropList::new(alloc),
@@ -97,7 +97,7 @@ impl<'a> OpenObject<'a> {
 
     /// The node of the object, if `:order` lists names of kids, each once.
     pub(crate) fn into_node(self, alloc: Global) -> Mem<Option<Node>>
-        ensures { IfOk result (λ found. IfSome found (λ node. (ms : Members) → Holds self.entry ms → (node ≡ node_of_members ms) × (has_good_order ms ≡ true))) }
+        ensures { IfOk result (λ found. IfSome found (λ node. (ms : Members) → HoldsMembers self.entry ms → (node ≡ node_of_members ms) × (has_good_order ms ≡ true))) }
     {
         let OpenObject { props, kids, order } = self;
         match kids_in_order(alloc, &order, &kids)? {

@@ -7,8 +7,8 @@ use Rattle.std.proofs.lemmas.List.Folds.{list_any-append, list_all-append}
 use Rattle.std.proofs.lemmas.Option.{slice_get-get_or}
 use Rattle.std.specs.List.{list_any, list_all}
 use Rattle.sp_base.specs.declared.path.PathFault.{PathFault}
-use Rattle.sp_base.specs.Paths.{has_slash, is_long, mangled, mangled_of, parent_of, pieces, text_of}
-use Rattle.sp_base.specs.PathTexts.{lack_slashes, segs_in, spelled}
+use Rattle.sp_base.specs.Paths.{has_slash, is_long, mangled_segs, mangled_of, parent_of, pieces, text_of}
+use Rattle.sp_base.specs.PathTexts.{lack_slashes, segs_in, spelling_of}
 use Rattle.cover_rules.specs.declared.page.PageKey.{PageKey}
 use Rattle.cover_rules.specs.Names.{has_file_name}
 use Rattle.cover_rules.specs.Pages.{has_dot, is_file, is_page, key_at, last_segment, page_key_of, page_path, page_text}
@@ -46,10 +46,10 @@ nots true b t h = refl
 nots false b t h = h
 
 -- the spelling of folders has a dot where one of them does
-pub dots : (segs : List (List ℕ)) → has_dot (spelled segs) ≡ not (list_all (λ seg. not (has_dot seg)) segs)
+pub dots : (segs : List (List ℕ)) → has_dot (spelling_of segs) ≡ not (list_all (λ seg. not (has_dot seg)) segs)
 dots [] = refl
 dots (seg ∷ segs) =
-    list_any-append (λ b. b == 46) seg (spelled segs) ∙ nots (has_dot seg) (list_all (λ s. not (has_dot s)) segs) (has_dot (spelled segs)) (dots segs)
+    list_any-append (λ b. b == 46) seg (spelling_of segs) ∙ nots (has_dot seg) (list_all (λ s. not (has_dot s)) segs) (has_dot (spelling_of segs)) (dots segs)
 
 and_false : (a b : Bool) → b ≡ false → (a && b) ≡ false
 and_false true b h = h
@@ -70,27 +70,27 @@ not_false : (b : Bool) → not b ≡ false → b ≡ true
 not_false true h = refl
 not_false false h = sym h
 
-pub dotted_folder : (segs : List (List ℕ)) → has_dot (spelled (parent_of segs)) ≡ true → is_page segs ≡ false
+pub dotted_folder : (segs : List (List ℕ)) → has_dot (spelling_of (parent_of segs)) ≡ true → is_page segs ≡ false
 dotted_folder segs h =
     second_false (is_file (last_segment segs)) (list_all (λ seg. not (has_dot seg)) (parent_of segs)) (list_all has_file_name segs)
     (not_true (list_all (λ seg. not (has_dot seg)) (parent_of segs)) (sym (dots (parent_of segs)) ∙ h))
 
-pub a_page : (segs : List (List ℕ)) → is_file (last_segment segs) ≡ true → list_all has_file_name segs ≡ true → has_dot (spelled (parent_of segs)) ≡ false → is_page segs ≡ true
+pub a_page : (segs : List (List ℕ)) → is_file (last_segment segs) ≡ true → list_all has_file_name segs ≡ true → has_dot (spelling_of (parent_of segs)) ≡ false → is_page segs ≡ true
 a_page segs f n d =
     all_true (is_file (last_segment segs)) (list_all (λ seg. not (has_dot seg)) (parent_of segs)) (list_all has_file_name segs) f
     (not_false (list_all (λ seg. not (has_dot seg)) (parent_of segs)) (sym (dots (parent_of segs)) ∙ d)) n
 
 -- the text of a page's path
-text_full : (segs : List (List ℕ)) (b : ℕ) (text : List ℕ) → spelled segs ≡ b ∷ text → text_of segs ≡ spelled segs
+text_full : (segs : List (List ℕ)) (b : ℕ) (text : List ℕ) → spelling_of segs ≡ b ∷ text → text_of segs ≡ spelling_of segs
 text_full [] b text e = absurd (cc (e))
 text_full (seg ∷ segs) b text e = refl
 
-text_behind : (folder more : List (List ℕ)) (text : List ℕ) → spelled more ≡ 47 ∷ text → text_of (folder ++ more) ≡ spelled folder ++ 47 ∷ text
+text_behind : (folder more : List (List ℕ)) (text : List ℕ) → spelling_of more ≡ 47 ∷ text → text_of (folder ++ more) ≡ spelling_of folder ++ 47 ∷ text
 text_behind [] more text e = text_full more 47 text e ∙ e
 text_behind (seg ∷ folder) more text e =
-    flat_map-append (λ s. 47 ∷ s) (seg ∷ folder) more ∙ ap (λ (t : List ℕ). spelled (seg ∷ folder) ++ t) e
+    flat_map-append (λ s. 47 ∷ s) (seg ∷ folder) more ∙ ap (λ (t : List ℕ). spelling_of (seg ∷ folder) ++ t) e
 
-pub page_text_is : (key : PageKey) → spelled (pieces key.file) ≡ 47 ∷ key.file → page_text key ≡ spelled key.folder ++ 47 ∷ key.file
+pub page_text_is : (key : PageKey) → spelling_of (pieces key.file) ≡ 47 ∷ key.file → page_text key ≡ spelling_of key.folder ++ 47 ∷ key.file
 page_text_is key e = text_behind key.folder (pieces key.file) key.file e
 
 pub root_lacks : (path : List (List ℕ)) → length path ≡ 0 → page_key_of path ≡ None
@@ -107,10 +107,10 @@ any_long (seg ∷ segs) h =
       | false ↦ λ e k. and_false (has_file_name seg) (list_all has_file_name segs) (any_long segs k)
     ] refl h
 
-pub unmangled_lacks : (path : List (List ℕ)) (e : PathFault) → (list_any is_long (mangled path) ≡ false → mangled_of path ≡ Ok (mangled path)) → mangled_of path ≡ Err e → page_key_of path ≡ None
+pub unmangled_lacks : (path : List (List ℕ)) (e : PathFault) → (list_any is_long (mangled_segs path) ≡ false → mangled_of path ≡ Ok (mangled_segs path)) → mangled_of path ≡ Err e → page_key_of path ≡ None
 unmangled_lacks path e fits err =
-    elim (list_any is_long (mangled path)) as (λ t. list_any is_long (mangled path) ≡ t → page_key_of path ≡ None) [
-      | true ↦ λ long. no_key (mangled path) (no_names (mangled path) (any_long (mangled path) long))
+    elim (list_any is_long (mangled_segs path)) as (λ t. list_any is_long (mangled_segs path) ≡ t → page_key_of path ≡ None) [
+      | true ↦ λ long. no_key (mangled_segs path) (no_names (mangled_segs path) (any_long (mangled_segs path) long))
       | false ↦ λ short. absurd (cc (fits short, err))
     ] refl
 
@@ -122,7 +122,7 @@ front_and_last segs h =
     let all : length segs - 1 + 1 ≡ length segs = omega arith in
     ap (λ o. parent_of segs ++ unwrap_or o [] ∷ []) at ∙ sym more ∙ ap (λ n. take n segs) all ∙ take_all (length segs) segs (omega arith)
 
-one_piece : (seg : List ℕ) → segs_in (spelled (seg ∷ [])) ≡ seg ∷ [] → pieces seg ≡ seg ∷ []
+one_piece : (seg : List ℕ) → segs_in (spelling_of (seg ∷ [])) ≡ seg ∷ [] → pieces seg ≡ seg ∷ []
 unfolding segs_in
 one_piece seg e = ap pieces (sym (append-nil seg)) ∙ e
 
@@ -143,7 +143,7 @@ some_segment : (segs : List (List ℕ)) → is_page segs ≡ true → 0 < length
 some_segment [] h = absurd (cc (h))
 some_segment (seg ∷ segs) h = omega arith
 
-pub own_path : (segs : List (List ℕ)) (key : PageKey) → lack_slashes segs ≡ true → ((path : List (List ℕ)) → lack_slashes path ≡ true → segs_in (spelled path) ≡ path)
+pub own_path : (segs : List (List ℕ)) (key : PageKey) → lack_slashes segs ≡ true → ((path : List (List ℕ)) → lack_slashes path ≡ true → segs_in (spelling_of path) ≡ path)
     → key_at segs ≡ Some key → page_path key ≡ segs
 own_path segs key lacks back h =
     let f = fields_of segs key h in

@@ -5,7 +5,7 @@ use Rattle.std.proofs.lemmas.List.{length-map, length-take, take_more, take_all,
 use Rattle.std.proofs.lemmas.List.Sums.{prefix_len-le-length}
 use Rattle.std.specs.Cmp.Lexicographic.{bytes_decides}
 use Rattle.std.specs.List.{list_any, list_all, prefix_len, take_while}
-use Rattle.sp_base.specs.Paths.{is_long, is_under, mangled, mangled_seg, parent_of}
+use Rattle.sp_base.specs.Paths.{is_long, is_under, mangled_segs, mangled_seg, parent_of}
 use Rattle.cover_rules.specs.declared.page.PageKey.{PageKey}
 use Rattle.cover_rules.specs.declared.invalidation.Invalidation.{Invalidation}
 use Rattle.cover_rules.specs.Names.{has_file_name}
@@ -48,7 +48,7 @@ lineage_whole path =
     ∙ take_all (length path + 1) (lineage path) (omega (arith, length-lineage path))
 
 -- names of mangled segments
-pub prefix_mangled : (segs : List (List ℕ)) → prefix_len (λ seg. has_file_name (mangled_seg seg)) segs ≡ prefix_len has_file_name (mangled segs)
+pub prefix_mangled : (segs : List (List ℕ)) → prefix_len (λ seg. has_file_name (mangled_seg seg)) segs ≡ prefix_len has_file_name (mangled_segs segs)
 prefix_mangled [] = refl
 prefix_mangled (seg ∷ segs) = ap (λ n. cond (has_file_name (mangled_seg seg)) (1 + n) 0) (prefix_mangled segs)
 
@@ -70,13 +70,13 @@ none_long (seg ∷ segs) = elim (has_file_name seg) as (λ t. has_file_name seg 
 ] refl
 
 -- the first segments of a path that have names
-pub first_named : (path : List (List ℕ)) (most n : ℕ) → n ≡ prefix_len has_file_name (take most (mangled path)) → mangled (take n path) ≡ take_while has_file_name (take most (mangled path))
+pub first_named : (path : List (List ℕ)) (most n : ℕ) → n ≡ prefix_len has_file_name (take most (mangled_segs path)) → mangled_segs (take n path) ≡ take_while has_file_name (take most (mangled_segs path))
 first_named path most n e =
-    let fewer = prefix_len-le-length has_file_name (take most (mangled path)) in
-    sym (take-map mangled_seg n path) ∙ sym (take_first (mangled path) n most (omega (arith, fewer, length-take most (mangled path)))) ∙ ap (λ k. take k (take most (mangled path))) e
+    let fewer = prefix_len-le-length has_file_name (take most (mangled_segs path)) in
+    sym (take-map mangled_seg n path) ∙ sym (take_first (mangled_segs path) n most (omega (arith, fewer, length-take most (mangled_segs path)))) ∙ ap (λ k. take k (take most (mangled_segs path))) e
 
-pub first_fits : (path : List (List ℕ)) (most n : ℕ) → n ≡ prefix_len has_file_name (take most (mangled path)) → list_any is_long (mangled (take n path)) ≡ false
-first_fits path most n e = ap (list_any is_long) (first_named path most n e) ∙ none_long (take most (mangled path))
+pub first_fits : (path : List (List ℕ)) (most n : ℕ) → n ≡ prefix_len has_file_name (take most (mangled_segs path)) → list_any is_long (mangled_segs (take n path)) ≡ false
+first_fits path most n e = ap (list_any is_long) (first_named path most n e) ∙ none_long (take most (mangled_segs path))
 
 -- what a folder begins with
 pub begins_is : (path first : List (List ℕ)) → is_under path first ≡ true → first ≡ take (length first) path

@@ -7,8 +7,8 @@ use Rattle.std.proofs.lemmas.Iterator.{YieldsList}
 use Rattle.std.specs.Iterator.{AlwaysYields, Yields}
 use Rattle.std.specs.Cmp.Lexicographic.{bytes_decides, pointwise}
 use Rattle.std.specs.Option.{MatchOption}
-use Rattle.sp_base.specs.Paths.{has_slash, mangled, mangled_seg}
-use Rattle.sp_base.specs.PathTexts.{lack_slashes, spelled}
+use Rattle.sp_base.specs.Paths.{has_slash, mangled_segs, mangled_seg}
+use Rattle.sp_base.specs.PathTexts.{lack_slashes, spelling_of}
 use Rattle.cover_rules.specs.declared.page.PageKey.{PageKey}
 use Rattle.cover_rules.specs.declared.walk.Rest.{Rest}
 use Rattle.cover_rules.specs.declared.walk.Rest.TheVariants.{Folder, File}
@@ -87,7 +87,7 @@ folder_differs rest text file seg more is some lacks none e =
 pub leaves_next : (key : PageKey) (prefix front : List ℕ) (rest more : Rest) → 0 < length front → Leaves key prefix rest → LeavesNext key.file front rest more → Leaves key (prefix ++ front) more
 leaves_next key prefix front (Folder text) (Folder more) some h n = h ∙ ap (λ (t : List ℕ). prefix ++ t) n ∙ sym (append_assoc prefix front more.now)
 leaves_next key prefix front (Folder text) (File more) some h n =
-    let folder : spelled key.folder ≡ prefix = h ∙ ap (λ (t : List ℕ). prefix ++ t) n.0 ∙ append-nil prefix in (
+    let folder : spelling_of key.folder ≡ prefix = h ∙ ap (λ (t : List ℕ). prefix ++ t) n.0 ∙ append-nil prefix in (
       ap (λ (t : List ℕ). t ++ 47 ∷ key.file) folder ∙ ap (λ (t : List ℕ). prefix ++ t) n.1 ∙ sym (append_assoc prefix front more.now),
       omega (arith, ap length folder, length-append prefix front),
     )
@@ -100,16 +100,16 @@ whole key prefix (Folder text) h = ap (λ (t : List ℕ). t ++ 47 ∷ key.file) 
 whole key prefix (File text) h = h.0
 
 -- the spelling of the segments so far, and of one more
-spelled_more : (segs : List (List ℕ)) (seg : List ℕ) (later : List (List ℕ)) → spelled (mangled (segs ++ seg ∷ later)) ≡ spelled (mangled segs) ++ (47 ∷ mangled_seg seg ++ spelled (mangled later))
-spelled_more segs seg later = ap spelled (map-append mangled_seg segs (seg ∷ later)) ∙ flat_map-append (λ s. 47 ∷ s) (mangled segs) (mangled (seg ∷ later))
+spelled_more : (segs : List (List ℕ)) (seg : List ℕ) (later : List (List ℕ)) → spelling_of (mangled_segs (segs ++ seg ∷ later)) ≡ spelling_of (mangled_segs segs) ++ (47 ∷ mangled_seg seg ++ spelling_of (mangled_segs later))
+spelled_more segs seg later = ap spelling_of (map-append mangled_seg segs (seg ∷ later)) ∙ flat_map-append (λ s. 47 ∷ s) (mangled_segs segs) (mangled_segs (seg ∷ later))
 
-pub along : (key : PageKey) (seen : List (Bor (List ℕ))) (seg : Bor (List ℕ)) (rest more : Rest) → Leaves key (spelled (mangled (map (λ s. s.now) seen))) rest
-    → LeavesNext key.file (47 ∷ mangled_seg seg.now) rest more → Leaves key (spelled (mangled (map (λ s. s.now) (seen ++ seg ∷ [])))) more
+pub along : (key : PageKey) (seen : List (Bor (List ℕ))) (seg : Bor (List ℕ)) (rest more : Rest) → Leaves key (spelling_of (mangled_segs (map (λ s. s.now) seen))) rest
+    → LeavesNext key.file (47 ∷ mangled_seg seg.now) rest more → Leaves key (spelling_of (mangled_segs (map (λ s. s.now) (seen ++ seg ∷ [])))) more
 along key seen seg rest more h n =
     let segs = map (λ s. s.now) seen in
-    let spelling : spelled (mangled segs) ++ 47 ∷ mangled_seg seg.now ≡ spelled (mangled (map (λ s. s.now) (seen ++ seg ∷ []))) =
-    ap (λ (t : List ℕ). spelled (mangled segs) ++ 47 ∷ t) (sym (append-nil (mangled_seg seg.now))) ∙ sym (spelled_more segs seg.now []) ∙ ap (λ (all : List (List ℕ)). spelled (mangled all)) (sym (map-append (λ s. s.now) seen (seg ∷ []))) in
-    subst (λ (t : List ℕ). Leaves key t more) spelling (leaves_next key (spelled (mangled segs)) (47 ∷ mangled_seg seg.now) rest more (omega arith) h n)
+    let spelling : spelling_of (mangled_segs segs) ++ 47 ∷ mangled_seg seg.now ≡ spelling_of (mangled_segs (map (λ s. s.now) (seen ++ seg ∷ []))) =
+    ap (λ (t : List ℕ). spelling_of (mangled_segs segs) ++ 47 ∷ t) (sym (append-nil (mangled_seg seg.now))) ∙ sym (spelled_more segs seg.now []) ∙ ap (λ (all : List (List ℕ)). spelling_of (mangled_segs all)) (sym (map-append (λ s. s.now) seen (seg ∷ []))) in
+    subst (λ (t : List ℕ). Leaves key t more) spelling (leaves_next key (spelling_of (mangled_segs segs)) (47 ∷ mangled_seg seg.now) rest more (omega arith) h n)
 
 lacking_middle : (segs later : List (List ℕ)) (seg : List ℕ) → lack_slashes (segs ++ seg ∷ later) ≡ true → has_slash seg ≡ false
 lacking_middle [] later seg h = first_lacks (has_slash seg) (lack_slashes later) h where
@@ -120,17 +120,17 @@ lacking_middle (s ∷ segs) later seg h = lacking_middle segs later seg (and_sec
 
 -- and the page's path isn't the handle's any further
 pub astray : (key : PageKey) (seen : List (Bor (List ℕ))) (seg : Bor (List ℕ)) (rest : Rest) (all later : List (List ℕ)) → lack_slashes all ≡ true → all ≡ map (λ s. s.now) (seen ++ seg ∷ []) ++ later
-    → Leaves key (spelled (mangled (map (λ s. s.now) seen))) rest → (has_slash seg.now ≡ false → (more : List ℕ) → left_text key.file rest ≢ 47 ∷ mangled_seg seg.now ++ more)
-    → Lacks key (spelled (mangled all))
+    → Leaves key (spelling_of (mangled_segs (map (λ s. s.now) seen))) rest → (has_slash seg.now ≡ false → (more : List ℕ) → left_text key.file rest ≢ 47 ∷ mangled_seg seg.now ++ more)
+    → Lacks key (spelling_of (mangled_segs all))
 astray key seen seg rest all later lacks is h none more e =
     let segs = map (λ s. s.now) seen in
     let parts : all ≡ segs ++ seg.now ∷ later = is ∙ ap (λ (l : List (List ℕ)). l ++ later) (map-append (λ s. s.now) seen (seg ∷ [])) ∙ append_assoc segs (seg.now ∷ []) later in
     let slashless = lacking_middle segs later seg.now (ap lack_slashes (sym parts) ∙ lacks) in
-    let spelling = ap (λ (l : List (List ℕ)). spelled (mangled l)) parts ∙ spelled_more segs seg.now later in
-    none slashless (spelled (mangled later) ++ more)
-    (same_after (spelled (mangled segs)) (left_text key.file rest) (47 ∷ mangled_seg seg.now ++ (spelled (mangled later) ++ more))
-    (sym (whole key (spelled (mangled segs)) rest h) ∙ e ∙ ap (λ (t : List ℕ). t ++ more) spelling ∙ append_assoc (spelled (mangled segs)) (47 ∷ mangled_seg seg.now ++ spelled (mangled later)) more
-    ∙ ap (λ (t : List ℕ). spelled (mangled segs) ++ 47 ∷ t) (append_assoc (mangled_seg seg.now) (spelled (mangled later)) more)))
+    let spelling = ap (λ (l : List (List ℕ)). spelling_of (mangled_segs l)) parts ∙ spelled_more segs seg.now later in
+    none slashless (spelling_of (mangled_segs later) ++ more)
+    (same_after (spelling_of (mangled_segs segs)) (left_text key.file rest) (47 ∷ mangled_seg seg.now ++ (spelling_of (mangled_segs later) ++ more))
+    (sym (whole key (spelling_of (mangled_segs segs)) rest h) ∙ e ∙ ap (λ (t : List ℕ). t ++ more) spelling ∙ append_assoc (spelling_of (mangled_segs segs)) (47 ∷ mangled_seg seg.now ++ spelling_of (mangled_segs later)) more
+    ∙ ap (λ (t : List ℕ). spelling_of (mangled_segs segs) ++ 47 ∷ t) (append_assoc (mangled_seg seg.now) (spelling_of (mangled_segs later)) more)))
 
 -- the items of an iterator so far, and the next, begin its list
 pub yields_next : {S A B : Type 0} (steps : S → Option A → S → Type 0) (v : A → B) (s t u : S) (xs : List A) (x : A) (all : List B)
@@ -154,7 +154,7 @@ unslashed : (b : Bool) → (not b && true) ≡ true → b ≡ false
 unslashed true h = sym h
 unslashed false h = refl
 
-pub mangled_lacks : (seg : List ℕ) → ((path : List (List ℕ)) → lack_slashes path ≡ true → lack_slashes (mangled path) ≡ true) → has_slash seg ≡ false → has_slash (mangled_seg seg) ≡ false
+pub mangled_lacks : (seg : List ℕ) → ((path : List (List ℕ)) → lack_slashes path ≡ true → lack_slashes (mangled_segs path) ≡ true) → has_slash seg ≡ false → has_slash (mangled_seg seg) ≡ false
 mangled_lacks seg law h = unslashed (has_slash (mangled_seg seg)) (law (seg ∷ []) (ap (λ b. not b && true) h))
 
 pub lacking_take : (segs : List (List ℕ)) (n : ℕ) → lack_slashes segs ≡ true → lack_slashes (take n segs) ≡ true

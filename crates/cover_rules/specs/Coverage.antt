@@ -2,7 +2,7 @@
 use Rattle.std.specs.Prelude.{◌==◌, ◌&&◌, ◌||◌, ◌++◌, ℕ, Bool, true, false, not, nat_eq, min, if◌then◌else◌, List, [], ◌∷◌, codes, take, length, map}
 use Rattle.std.specs.List.{starts_with, take_while}
 use Rattle.std.specs.Cmp.Lexicographic.{pointwise}
-use Rattle.sp_base.specs.Paths.{mangled, is_under, parent_of, text_of}
+use Rattle.sp_base.specs.Paths.{mangled_segs, is_under, parent_of, text_of}
 use Rattle.cover_rules.specs.declared.page.PageKey.{PageKey}
 use Rattle.cover_rules.specs.declared.invalidation.Action.{Action}
 use Rattle.cover_rules.specs.declared.invalidation.Action.TheVariants.{Activate, Deactivate, Delete}
@@ -12,7 +12,7 @@ use Rattle.cover_rules.specs.Pages.{page_path, page_text}
 
 -- the handle as URLs spell it
 abbrev pub handle_of : Invalidation → List (List ℕ)
-handle_of inv = mangled inv.handle
+handle_of inv = mangled_segs inv.handle
 
 -- the page at exactly the handle
 abbrev pub is_handle : List (List ℕ) → PageKey → Bool

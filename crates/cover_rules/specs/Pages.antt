@@ -1,7 +1,7 @@
 -- Where a page of the cache stands, and which path is a page's (Adobe Dispatcher manual, "Specifying the Cache Directory").
 use Rattle.std.specs.Prelude.{◌==◌, ◌&&◌, ◌++◌, ◌-◌, ℕ, Bool, not, if◌then◌else◌, List, [], ◌∷◌, Option, Some, None, length, slice_get, slice_index, unwrap_or}
 use Rattle.std.specs.List.{list_any, list_all}
-use Rattle.sp_base.specs.Paths.{mangled, parent_of, pieces, text_of}
+use Rattle.sp_base.specs.Paths.{mangled_segs, parent_of, pieces, text_of}
 use Rattle.cover_rules.specs.declared.page.PageKey.{PageKey}
 use Rattle.cover_rules.specs.Names.{has_file_name}
 
@@ -27,7 +27,7 @@ key_at segs = if is_page segs then Some (record { folder = parent_of segs; file 
 
 -- the key of the page at a path, however its segments are spelled
 abbrev pub page_key_of : List (List ℕ) → Option PageKey
-page_key_of path = key_at (mangled path)
+page_key_of path = key_at (mangled_segs path)
 
 -- the path of a page: its file in its folder
 abbrev pub page_path : PageKey → List (List ℕ)

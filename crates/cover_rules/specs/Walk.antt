@@ -1,13 +1,13 @@
 -- What is left of a page's path after a handle's. Only proofs and private functions need this.
 use Rattle.std.specs.Prelude.{◌≡◌, ◌≢◌, ◌<◌, ◌++◌, ◌∷◌, [], ℕ, List, length}
-use Rattle.sp_base.specs.PathTexts.{spelled}
+use Rattle.sp_base.specs.PathTexts.{spelling_of}
 use Rattle.cover_rules.specs.declared.page.PageKey.{PageKey}
 use Rattle.cover_rules.specs.declared.walk.Rest.{Rest}
 use Rattle.cover_rules.specs.declared.walk.Rest.TheVariants.{Folder, File}
 
 -- a page's path with a slash before each segment
 abbrev pub page_spelling : PageKey → List ℕ
-page_spelling key = spelled key.folder ++ 47 ∷ key.file
+page_spelling key = spelling_of key.folder ++ 47 ∷ key.file
 
 -- the text that is left
 abbrev pub left_text : List ℕ → Rest → List ℕ
@@ -16,8 +16,8 @@ left_text file (File text) = text.now
 
 -- a page's path begins with a prefix, which ends in its folder, or which goes on into its file
 abbrev pub Leaves : PageKey → List ℕ → Rest → Type 0
-Leaves key prefix (Folder text) = spelled key.folder ≡ prefix ++ text.now
-Leaves key prefix (File text) = (page_spelling key ≡ prefix ++ text.now) × (length (spelled key.folder) < length prefix)
+Leaves key prefix (Folder text) = spelling_of key.folder ≡ prefix ++ text.now
+Leaves key prefix (File text) = (page_spelling key ≡ prefix ++ text.now) × (length (spelling_of key.folder) < length prefix)
 
 -- it doesn't begin with the prefix
 abbrev pub Lacks : PageKey → List ℕ → Type 0

@@ -1,7 +1,7 @@
 //! What follows from the definitions of keys and coverage: laws, on functions that do nothing.
 ghost use Rattle.std.specs.Prelude.{◌≡◌, ◌↔◌, ℕ, Bool, List, IsTrue, true, Some, Contains, take};
 ghost use Rattle.std.specs.List.{list_all};
-ghost use Rattle.sp_base.specs.Paths.{is_path, mangled, unmangled, parent_of};
+ghost use Rattle.sp_base.specs.Paths.{is_path, mangled_segs, unmangled_segs, parent_of};
 ghost use Rattle.cover_rules.specs.declared.page.PageKey.{PageKey};
 ghost use Rattle.cover_rules.specs.declared.invalidation.Action.{Action};
 ghost use Rattle.cover_rules.specs.declared.invalidation.Invalidation.{Invalidation};
@@ -13,8 +13,8 @@ use sp_base::{mangling_and_unmangling, segments_and_their_spelling};
 
 /// A page has one key, however the path of a request is spelled, and it is the key of the key's own path.
 pub fn a_page_has_one_key()
-    ensures unmangled { (path : List (List ℕ)) → page_key_of (unmangled path) ≡ page_key_of path }
-    ensures mangled { (path : List (List ℕ)) → page_key_of (mangled path) ≡ page_key_of path }
+    ensures unmangled { (path : List (List ℕ)) → page_key_of (unmangled_segs path) ≡ page_key_of path }
+    ensures mangled { (path : List (List ℕ)) → page_key_of (mangled_segs path) ≡ page_key_of path }
     ensures own { (path : List (List ℕ)) (key : PageKey) → IsTrue (is_path path) → page_key_of path ≡ Some key → page_key_of (page_path key) ≡ Some key }
 {
     mangling_and_unmangling();
@@ -23,8 +23,8 @@ pub fn a_page_has_one_key()
 
 /// What an invalidation covers doesn't depend on how its handle is spelled.
 pub fn the_spelling_of_a_handle()
-    ensures unmangled { (level : ℕ) (auto only : Bool) (action : Action) (handle : List (List ℕ)) (key : PageKey) → covers level auto (record { action = action; handle = unmangled handle; only = only }) key ≡ covers level auto (record { action = action; handle = handle; only = only }) key }
-    ensures mangled { (level : ℕ) (auto only : Bool) (action : Action) (handle : List (List ℕ)) (key : PageKey) → covers level auto (record { action = action; handle = mangled handle; only = only }) key ≡ covers level auto (record { action = action; handle = handle; only = only }) key }
+    ensures unmangled { (level : ℕ) (auto only : Bool) (action : Action) (handle : List (List ℕ)) (key : PageKey) → covers level auto (record { action = action; handle = unmangled_segs handle; only = only }) key ≡ covers level auto (record { action = action; handle = handle; only = only }) key }
+    ensures mangled { (level : ℕ) (auto only : Bool) (action : Action) (handle : List (List ℕ)) (key : PageKey) → covers level auto (record { action = action; handle = mangled_segs handle; only = only }) key ≡ covers level auto (record { action = action; handle = handle; only = only }) key }
 {
     mangling_and_unmangling();
 }

@@ -1,7 +1,7 @@
 //! Which .stat files an invalidation touches.
 ghost use Rattle.std.specs.Prelude.{◌≡◌, IfOk, take};
 ghost use Rattle.std.specs.List.{prefix_len, take_while};
-ghost use Rattle.sp_base.specs.Paths.{mangled};
+ghost use Rattle.sp_base.specs.Paths.{mangled_segs};
 ghost use Rattle.cover_rules.specs.Coverage as spec;
 ghost use Rattle.cover_rules.specs.Names as name;
 
@@ -25,7 +25,7 @@ pub fn touched(alloc: Global, level: usize, inv: &Invalidation) -> Mem<PathList>
 
 // The first segments of a path, mangled, as far as they have file names.
 fn named(alloc: Global, path: &Path, most: usize) -> Mem<Path>
-    ensures { IfOk result (λ p. p ≡ take_while name.has_file_name (take most (mangled path.now))) }
+    ensures { IfOk result (λ p. p ≡ take_while name.has_file_name (take most (mangled_segs path.now))) }
 {
     mangling_and_unmangling();
     let first = path.first(alloc, name_count(path, most))?;
@@ -42,7 +42,7 @@ fn named(alloc: Global, path: &Path, most: usize) -> Mem<Path>
 
 // How many of a path's first segments have file names.
 fn name_count(path: &Path, most: usize) -> usize
-    ensures { result ≡ prefix_len name.has_file_name (take most (mangled path.now)) }
+    ensures { result ≡ prefix_len name.has_file_name (take most (mangled_segs path.now)) }
 {
     match path.relative() {
         Some(rest) => rest

@@ -1,7 +1,7 @@
 //! How far a page's path goes along a handle's, read off their texts.
 ghost use Rattle.std.specs.Prelude.{◌≡◌, ◌≢◌, ◌∷◌, ◌++◌, [], ℕ, List, IfNone, IfSome, false, take};
-ghost use Rattle.sp_base.specs.Paths.{has_slash, mangled, mangled_seg};
-ghost use Rattle.sp_base.specs.PathTexts.{spelled};
+ghost use Rattle.sp_base.specs.Paths.{has_slash, mangled_segs, mangled_seg};
+ghost use Rattle.sp_base.specs.PathTexts.{spelling_of};
 ghost use Rattle.cover_rules.specs.Walk.{Lacks, Leaves, LeavesNext, left_text};
 
 use crate::PageKey;
@@ -18,8 +18,8 @@ pub enum Rest<'a> {
 
 /// What is left of a page's path after the first segments of a handle, where it begins with them.
 pub fn after<'a>(handle: &Path, n: usize, key: &'a PageKey) -> Option<Rest<'a>>
-    ensures some { IfSome result (λ rest. Leaves key.now (spelled (mangled (take n handle.now))) rest) }
-    ensures none { IfNone result (Lacks key.now (spelled (mangled (take n handle.now)))) }
+    ensures some { IfSome result (λ rest. Leaves key.now (spelling_of (mangled_segs (take n handle.now))) rest) }
+    ensures none { IfNone result (Lacks key.now (spelling_of (mangled_segs (take n handle.now)))) }
 {
     segments_and_their_spelling();
     let mut rest = Rest::Folder(key.folder.spelling().as_bytes());

@@ -2,4 +2,4 @@ pub mod UrlParts
 pub mod Admission
 pub mod Caching
 pub mod Asking
-pub mod Seen
+pub mod RequestParts

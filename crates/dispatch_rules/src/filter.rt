@@ -3,7 +3,7 @@ ghost use Rattle.std.specs.Prelude.{◌≡◌, [], IfOk, drop, option_map, strin
 ghost use Rattle.std.specs.Str.Lossy.{utf8_lossy};
 ghost use Rattle.glob_rules.specs.Rules.{decision};
 ghost use Rattle.dispatch_rules.specs.Admission as spec;
-ghost use Rattle.dispatch_rules.specs.Seen.{applies_to};
+ghost use Rattle.dispatch_rules.specs.RequestParts.{applies_to};
 ghost use Rattle.dispatch_rules.specs.UrlParts.{IsDotted};
 
 use crate::caching::query_bytes;
@@ -14,7 +14,7 @@ use std::alloc::Global;
 
 /// The parts of a request that an entry asks about.
 #[derive(Clone, Copy, Drop)]
-pub struct Seen<'a> {
+pub struct RequestParts<'a> {
     pub line: &'a str,
     pub method: &'a str,
     pub url: &'a str,
@@ -32,7 +32,7 @@ pub fn filter_allows(alloc: Global, filter: &FilterList, req: &Req) -> Mem<bool>
     let url = req.path.as_text();
     let selectors = dotted_selectors(alloc, url)?;
     let query = String::from_utf8_lossy(alloc, query_bytes(req))?;
-    let seen = Seen {
+    let seen = RequestParts {
         line: req.line.text(),
         method: req.method.text(),
         url,
@@ -55,7 +55,7 @@ fn without_dot(text: &str) -> &str
     }
 }
 
-fn last_says(filter: &FilterList, seen: &Seen) -> bool
+fn last_says(filter: &FilterList, seen: &RequestParts) -> bool
     ensures { result ≡ decision (applies_to seen.now) (λ entry. entry.allow) filter.now }
 {
     let entries = filter.as_slice();
@@ -70,7 +70,7 @@ fn last_says(filter: &FilterList, seen: &Seen) -> bool
     false
 }
 
-fn applies(entry: &Filter, seen: &Seen) -> bool
+fn applies(entry: &Filter, seen: &RequestParts) -> bool
     ensures { result ≡ applies_to seen.now entry.now }
 {
     fits(&entry.line, seen.line)

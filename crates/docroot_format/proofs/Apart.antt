@@ -7,7 +7,7 @@ use Rattle.std.proofs.lemmas.Bool.Decides.{nat_tests}
 use Rattle.std.proofs.lemmas.List.{append_cancel_right, append-nil}
 use Rattle.std.proofs.lemmas.List.Splits.{slice_split_at, slice_split_none}
 use Rattle.std.proofs.lemmas.List.Folds.{list_all-append}
-use Rattle.sp_base.specs.Paths.{mangled, pieces}
+use Rattle.sp_base.specs.Paths.{mangled_segs, pieces}
 use Rattle.cover_rules.specs.Names.{is_plain_name_byte, file_byte, file_name}
 use Rattle.cover_rules.specs.Pages.{is_file}
 use Rattle.docroot_format.specs.Names.{are_bytes, body_name, folder_name, head_name, stat_name, epoch_name, is_file_name_byte}
@@ -98,8 +98,8 @@ bodies a b x y small_a small_b small_x small_y e =
 pub heads : (a b : List (List ℕ)) (x y : List ℕ) → AllByRecursion are_bytes a → AllByRecursion are_bytes b → are_bytes x → are_bytes y → head_name a x ≡ head_name b y → (a ≡ b) × (x ≡ y)
 heads a b x y small_a small_b small_x small_y e = bodies a b x y small_a small_b small_x small_y (append_cancel_right (body_name a x) (body_name b y) (codes "%h") e)
 
-pub stats : (a b : List (List ℕ)) → AllByRecursion are_bytes a → AllByRecursion are_bytes b → stat_name a ≡ stat_name b → mangled a ≡ mangled b
-stats a b small_a small_b e = (same_place (mangled a) (mangled b) (codes ".stat") (codes ".stat") (all_mangled a small_a) (all_mangled b small_b) refl refl e).0
+pub stats : (a b : List (List ℕ)) → AllByRecursion are_bytes a → AllByRecursion are_bytes b → stat_name a ≡ stat_name b → mangled_segs a ≡ mangled_segs b
+stats a b small_a small_b e = (same_place (mangled_segs a) (mangled_segs b) (codes ".stat") (codes ".stat") (all_mangled a small_a) (all_mangled b small_b) refl refl e).0
 
 -- no file's name ends in `%` and one byte, as a head's does
 low_glyph : (d : ℕ) → d < 16 → digit_glyph true d ≡ 37 → ⊥
@@ -175,6 +175,6 @@ dot_not_head a b rest y small_a small_b ok file e =
 
 pub epoch_not_stat : (a : List (List ℕ)) → AllByRecursion are_bytes a → stat_name a ≢ epoch_name
 epoch_not_stat a small e =
-    let last : codes ".stat" ≡ codes ".epoch" = (same_place (mangled a) [] (codes ".stat") (codes ".epoch") (all_mangled a small) tt refl refl e).1 in
+    let last : codes ".stat" ≡ codes ".epoch" = (same_place (mangled_segs a) [] (codes ".stat") (codes ".epoch") (all_mangled a small) tt refl refl e).1 in
     let letter : 115 ≡ 101 = ap (λ l. get_or l 1 0) last in
     omega (arith, letter)

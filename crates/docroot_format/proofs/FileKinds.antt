@@ -7,7 +7,7 @@ use Rattle.std.proofs.lemmas.Bool.Decides.{nat_tests}
 use Rattle.std.proofs.lemmas.List.{append-nil, length-append}
 use Rattle.std.proofs.lemmas.Option.{unwrap_or-slice_get}
 use Rattle.std.proofs.Math.Seq.{get_or-append_seam}
-use Rattle.sp_base.specs.Paths.{is_dots, is_empty, is_path, mangled, pieces}
+use Rattle.sp_base.specs.Paths.{is_dots, is_empty, is_path, mangled_segs, pieces}
 use Rattle.cover_rules.specs.declared.page.PageKey.{PageKey}
 use Rattle.cover_rules.specs.Names.{file_name}
 use Rattle.cover_rules.specs.Pages.{last_segment, page_key_of}
@@ -74,7 +74,7 @@ head_is_page_file path key folder own =
 pub stat_is_stat_file : (folder : List (List ℕ)) → IsTrue (is_path folder) → IsTrue (is_stat_file (stat_name folder))
 stat_is_stat_file folder ok =
     both _ _ (inside_segments (stat_name folder) (stat_inside folder ok))
-    (ap (λ piece. pointwise nat_eq piece (codes ".stat")) (last_piece (mangled folder) (codes ".stat") refl))
+    (ap (λ piece. pointwise nat_eq piece (codes ".stat")) (last_piece (mangled_segs folder) (codes ".stat") refl))
 
 pub page_no_stat : (name : List ℕ) → IsTrue (is_page_file name) → is_stat_file name ≡ false
 page_no_stat name page = not_true (is_stat_file name) (λ stat.
@@ -109,7 +109,7 @@ before_last rest n e = ap (λ k. get_or (rest ++ beside_ending) k 0) (sym e) ∙
 
 pub stat_not_beside : (folder : List (List ℕ)) (rest : List ℕ) → stat_name folder ≢ rest ++ beside_ending
 stat_not_beside folder rest e =
-    let last = after_folder 116 (mangled folder) (codes ".stat") rest e in
+    let last = after_folder 116 (mangled_segs folder) (codes ".stat") rest e in
     let long : 5 ≡ length (last.0 ++ beside_ending) = ap length last.1 in
     let letter : 97 ≡ 37 = ap (λ l. get_or l 3 0) last.1 ∙ before_last last.0 3 (omega (arith, long, length-append last.0 beside_ending)) in
     omega (arith, letter)

@@ -3,7 +3,7 @@ use Rattle.std.proofs.Common.{◌≡◌, ◌≤◌, ◌<◌, ◌+◌, ◌-◌, �
 use Rattle.std.proofs.lemmas.List.{length-map, take-map}
 use Rattle.std.proofs.lemmas.Option.{unwrap_or-slice_get}
 use Rattle.std.specs.List.{list_all, prefix_len, take_while}
-use Rattle.sp_base.specs.Paths.{mangled, mangled_seg, parent_of}
+use Rattle.sp_base.specs.Paths.{mangled_segs, mangled_seg, parent_of}
 use Rattle.cover_rules.specs.declared.invalidation.Invalidation.{Invalidation}
 use Rattle.cover_rules.specs.declared.page.PageKey.{PageKey}
 use Rattle.cover_rules.specs.Names.{has_file_name}
@@ -12,7 +12,7 @@ use Rattle.cover_rules.specs.Coverage.{handle_of, lineage, stat_depth_of, stat_f
 use Rattle.docroot_format.specs.Names.{IsFolder, have_names}
 use Rattle.docroot_format.proofs.PagePlaces.{all_taken, both, page_has_folder}
 
-taken : (segs : List (List ℕ)) (n : ℕ) → mangled segs ≡ segs → mangled (take n segs) ≡ take n segs
+taken : (segs : List (List ℕ)) (n : ℕ) → mangled_segs segs ≡ segs → mangled_segs (take n segs) ≡ take n segs
 taken segs n e = sym (take-map mangled_seg n segs) ∙ ap (take n) e
 
 folder_taken : (folder : List (List ℕ)) (n : ℕ) → IsFolder folder → IsFolder (take n folder)
@@ -23,29 +23,29 @@ key_is : (segs : List (List ℕ)) (key : PageKey) (test : Bool) → cond test (S
 key_is segs key true e = let same : key ≡ record { folder = parent_of segs; file = last_segment segs } = cc (e) in (ap (λ (k : PageKey). k.folder) same, ap (λ (k : PageKey). k.file) same)
 key_is segs key false e = absurd cc
 
-page_is : (path : List (List ℕ)) (key : PageKey) → page_key_of path ≡ Some key → (key.folder ≡ parent_of (mangled path)) × (key.file ≡ last_segment (mangled path))
+page_is : (path : List (List ℕ)) (key : PageKey) → page_key_of path ≡ Some key → (key.folder ≡ parent_of (mangled_segs path)) × (key.file ≡ last_segment (mangled_segs path))
 unfolding key_at
-page_is path key e = key_is (mangled path) key (is_page (mangled path)) e
+page_is path key e = key_is (mangled_segs path) key (is_page (mangled_segs path)) e
 
-pub page_folder : (path : List (List ℕ)) (key : PageKey) → mangled (mangled path) ≡ mangled path → page_key_of path ≡ Some key → IsFolder key.folder
+pub page_folder : (path : List (List ℕ)) (key : PageKey) → mangled_segs (mangled_segs path) ≡ mangled_segs path → page_key_of path ≡ Some key → IsFolder key.folder
 page_folder path key again e = (
-  subst (λ (f : List (List ℕ)). mangled f ≡ f) (sym (page_is path key e).0) (taken (mangled path) (length (mangled path) - 1) again),
+  subst (λ (f : List (List ℕ)). mangled_segs f ≡ f) (sym (page_is path key e).0) (taken (mangled_segs path) (length (mangled_segs path) - 1) again),
   page_has_folder path key e,
 )
 
-pub page_stat_folder : (level : ℕ) (path : List (List ℕ)) (key : PageKey) → mangled (mangled path) ≡ mangled path → page_key_of path ≡ Some key → IsFolder (stat_folder level key)
+pub page_stat_folder : (level : ℕ) (path : List (List ℕ)) (key : PageKey) → mangled_segs (mangled_segs path) ≡ mangled_segs path → page_key_of path ≡ Some key → IsFolder (stat_folder level key)
 page_stat_folder level path key again e = folder_taken key.folder (stat_depth_of level key) (page_folder path key again e)
 
-segment_is : (segs : List (List ℕ)) (n : ℕ) → mangled segs ≡ segs → mangled_seg (get_or segs n []) ≡ get_or segs n []
+segment_is : (segs : List (List ℕ)) (n : ℕ) → mangled_segs segs ≡ segs → mangled_seg (get_or segs n []) ≡ get_or segs n []
 segment_is [] n e = refl
 segment_is (seg ∷ segs) zero e = ap (λ (l : List (List ℕ)). get_or l 0 []) e
 segment_is (seg ∷ segs) (suc n) e = segment_is segs n (ap (λ (l : List (List ℕ)). drop 1 l) e)
 
-last_is : (segs : List (List ℕ)) → mangled segs ≡ segs → mangled (last_segment segs ∷ []) ≡ last_segment segs ∷ []
-last_is segs e = subst (λ (seg : List ℕ). mangled (seg ∷ []) ≡ seg ∷ []) (sym (unwrap_or-slice_get segs (length segs - 1) [])) (ap (λ (seg : List ℕ). seg ∷ []) (segment_is segs (length segs - 1) e))
+last_is : (segs : List (List ℕ)) → mangled_segs segs ≡ segs → mangled_segs (last_segment segs ∷ []) ≡ last_segment segs ∷ []
+last_is segs e = subst (λ (seg : List ℕ). mangled_segs (seg ∷ []) ≡ seg ∷ []) (sym (unwrap_or-slice_get segs (length segs - 1) [])) (ap (λ (seg : List ℕ). seg ∷ []) (segment_is segs (length segs - 1) e))
 
-pub page_file : (path : List (List ℕ)) (key : PageKey) → mangled (mangled path) ≡ mangled path → page_key_of path ≡ Some key → mangled (key.file ∷ []) ≡ key.file ∷ []
-page_file path key again e = subst (λ (f : List ℕ). mangled (f ∷ []) ≡ f ∷ []) (sym (page_is path key e).1) (last_is (mangled path) again)
+pub page_file : (path : List (List ℕ)) (key : PageKey) → mangled_segs (mangled_segs path) ≡ mangled_segs path → page_key_of path ≡ Some key → mangled_segs (key.file ∷ []) ≡ key.file ∷ []
+page_file path key again e = subst (λ (f : List ℕ). mangled_segs (f ∷ []) ≡ f ∷ []) (sym (page_is path key e).1) (last_is (mangled_segs path) again)
 
 -- ---- the folders that an invalidation touches
 
@@ -82,10 +82,10 @@ by_scope : (only : Bool) (path folder : List (List ℕ)) → IsFolder path → C
 by_scope true path folder f has = absurd (omega (arith, has.1))
 by_scope false path folder f has = of_lineage path folder f has
 
-pub touched_folder : (level : ℕ) (inv : Invalidation) (folder : List (List ℕ)) → mangled (handle_of inv) ≡ handle_of inv → Contains (touched_of level inv) folder → IsFolder folder
+pub touched_folder : (level : ℕ) (inv : Invalidation) (folder : List (List ℕ)) → mangled_segs (handle_of inv) ≡ handle_of inv → Contains (touched_of level inv) folder → IsFolder folder
 touched_folder level inv folder again has =
     let above = parent_of (handle_of inv) in
     let first = take level above in
     let path = take_while has_file_name first in
-    let kept : mangled path ≡ path = taken first (prefix_len has_file_name first) (taken above level (taken (handle_of inv) (length (handle_of inv) - 1) again)) in
+    let kept : mangled_segs path ≡ path = taken first (prefix_len has_file_name first) (taken above level (taken (handle_of inv) (length (handle_of inv) - 1) again)) in
     by_scope inv.only path folder (kept, named first) has

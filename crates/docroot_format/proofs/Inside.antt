@@ -8,7 +8,7 @@ use Rattle.std.proofs.lemmas.Bool.Decides.{nat_tests}
 use Rattle.std.proofs.lemmas.List.Splits.{slice_split_at, slice_split_none}
 use Rattle.std.proofs.lemmas.List.Folds.{list_all-append}
 use Rattle.std.proofs.lemmas.List.{length-append}
-use Rattle.sp_base.specs.Paths.{has_slash, is_empty, is_dots, is_long, is_namespaced, is_path, mangled, mangled_by, mangled_seg, parent_of, seg_ok}
+use Rattle.sp_base.specs.Paths.{has_slash, is_empty, is_dots, is_long, is_namespaced, is_path, mangled_segs, mangled_by, mangled_seg, parent_of, seg_ok}
 use Rattle.cover_rules.specs.declared.page.PageKey.{PageKey}
 use Rattle.cover_rules.specs.Pages.{is_file, is_page, key_at, last_segment, page_key_of}
 use Rattle.cover_rules.specs.Names.{is_plain_name_byte, file_byte, file_name}
@@ -154,10 +154,10 @@ mangled_named seg ok =
     (chosen_named (is_namespaced (codes "nt:") seg) (mangled_by (codes "nt:") (codes "_nt_") seg) _ (marked_named (drop 1 (mangled_by (codes "nt:") (codes "_nt_") seg)))
     (chosen_named (is_namespaced (codes "cq:") seg) (mangled_by (codes "cq:") (codes "_cq_") seg) _ (marked_named (drop 1 (mangled_by (codes "cq:") (codes "_cq_") seg))) ok)))
 
-all_named : (segs : List (List ℕ)) → list_all is_named segs ≡ true → list_all is_named (mangled segs) ≡ true
+all_named : (segs : List (List ℕ)) → list_all is_named segs ≡ true → list_all is_named (mangled_segs segs) ≡ true
 all_named [] ok = refl
 all_named (seg ∷ segs) ok =
-    both (is_named (mangled_seg seg)) (list_all is_named (mangled segs)) (mangled_named seg (first_of (is_named seg) (list_all is_named segs) ok))
+    both (is_named (mangled_seg seg)) (list_all is_named (mangled_segs segs)) (mangled_named seg (first_of (is_named seg) (list_all is_named segs) ok))
     (all_named segs (second_of (is_named seg) (list_all is_named segs) ok))
 
 ok_name : (seg : List ℕ) → is_named seg ≡ true → is_segment (file_name seg) ≡ true
@@ -198,7 +198,7 @@ from_key segs key false page e = absurd (true≢false (sym (ap is_there e)))
 
 pub key_file : (path : List (List ℕ)) (key : PageKey) → page_key_of path ≡ Some key → is_file key.file ≡ true
 unfolding key_at
-key_file path key e = from_key (mangled path) key (is_page (mangled path)) refl e
+key_file path key e = from_key (mangled_segs path) key (is_page (mangled_segs path)) refl e
 
 page_segment : (file : List ℕ) → is_file file ≡ true → is_segment (file_name file) ≡ true
 page_segment file e = segment_name file (file_some_bytes file e) (file_no_dots file e)
@@ -220,7 +220,7 @@ head_inside path key folder e =
     ∙ folder_inside key.folder (file_name key.file ++ codes "%h") (segs_named key.folder (first_of _ _ folder)) (inside_last (file_name key.file ++ codes "%h") (head_segment key.file (key_file path key e)))
 
 pub stat_inside : (folder : List (List ℕ)) → IsTrue (is_path folder) → IsTrue (is_inside (stat_name folder))
-stat_inside folder ok = folder_inside (mangled folder) (codes ".stat") (all_named folder (segs_named folder (first_of _ _ ok))) refl
+stat_inside folder ok = folder_inside (mangled_segs folder) (codes ".stat") (all_named folder (segs_named folder (first_of _ _ ok))) refl
 
 pub epoch_inside : IsTrue (is_inside epoch_name)
 epoch_inside = refl

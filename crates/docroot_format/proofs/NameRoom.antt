@@ -4,7 +4,7 @@ use Rattle.std.specs.Borrow.{Bor}
 use Rattle.std.proofs.lemmas.Grind.{flat_map-append}
 use Rattle.std.proofs.lemmas.List.{append-nil, length-append, length-map, map-append}
 use Rattle.std.proofs.lemmas.List.Folds.{list_all-append}
-use Rattle.sp_base.specs.Paths.{is_path, mangled, mangled_seg}
+use Rattle.sp_base.specs.Paths.{is_path, mangled_segs, mangled_seg}
 use Rattle.sp_outside.specs.Files.{IsName}
 use Rattle.cover_rules.specs.Names.{file_byte, file_name, has_file_name}
 use Rattle.docroot_format.specs.Names.{folder_name, have_names}
@@ -35,18 +35,18 @@ piece_room folder seg more e deep =
 
 -- the same of the pieces of a text, mangled
 pub next_room : (name : List ℕ) (seen : List (Bor (List ℕ))) (seg : Bor (List ℕ)) (more all : List (List ℕ)) → all ≡ map (λ s. s.now) (seen ++ seg ∷ []) ++ more
-    → name ≡ folder_name (mangled (map (λ s. s.now) seen)) → have_names (mangled all) ≡ true → length all ≤ 64 → length name + length (file_name (mangled_seg seg.now)) < 12869
+    → name ≡ folder_name (mangled_segs (map (λ s. s.now) seen)) → have_names (mangled_segs all) ≡ true → length all ≤ 64 → length name + length (file_name (mangled_seg seg.now)) < 12869
 next_room name seen seg more all parts is e deep =
     let before = map (λ (s : Bor (List ℕ)). s.now) seen in
-    let cut : mangled all ≡ mangled before ++ mangled_seg seg.now ∷ mangled more =
-    ap mangled (parts ∙ ap (λ (l : List (List ℕ)). l ++ more) (map-append (λ (s : Bor (List ℕ)). s.now) seen (seg ∷ [])) ∙ sym (append_both before (seg.now ∷ []) more))
+    let cut : mangled_segs all ≡ mangled_segs before ++ mangled_seg seg.now ∷ mangled_segs more =
+    ap mangled_segs (parts ∙ ap (λ (l : List (List ℕ)). l ++ more) (map-append (λ (s : Bor (List ℕ)). s.now) seen (seg ∷ [])) ∙ sym (append_both before (seg.now ∷ []) more))
     ∙ map-append mangled_seg before (seg.now ∷ more) in
-    let many : length (mangled before ++ mangled_seg seg.now ∷ mangled more) ≤ 64 = subst (λ (l : List (List ℕ)). length l ≤ 64) cut (omega (arith, deep, length-map all mangled_seg)) in
+    let many : length (mangled_segs before ++ mangled_seg seg.now ∷ mangled_segs more) ≤ 64 = subst (λ (l : List (List ℕ)). length l ≤ 64) cut (omega (arith, deep, length-map all mangled_seg)) in
     subst (λ (n : List ℕ). length n + length (file_name (mangled_seg seg.now)) < 12869) (sym is)
-    (piece_room (mangled before) (mangled_seg seg.now) (mangled more) (subst (λ (l : List (List ℕ)). have_names l ≡ true) cut e) many)
+    (piece_room (mangled_segs before) (mangled_seg seg.now) (mangled_segs more) (subst (λ (l : List (List ℕ)). have_names l ≡ true) cut e) many)
 
-pub folder_few : (name : List ℕ) (folder : List (List ℕ)) → name ≡ folder_name (mangled folder) → have_names (mangled folder) ≡ true → length folder ≤ 64 → length name ≤ 12864
-folder_few name folder is e deep = omega (arith, deep, ap length is, folder_len (mangled folder) e, length-map folder mangled_seg)
+pub folder_few : (name : List ℕ) (folder : List (List ℕ)) → name ≡ folder_name (mangled_segs folder) → have_names (mangled_segs folder) ≡ true → length folder ≤ 64 → length name ≤ 12864
+folder_few name folder is e deep = omega (arith, deep, ap length is, folder_len (mangled_segs folder) e, length-map folder mangled_seg)
 
 -- a mangled segment's file name is that of its two parts
 pub both_parts : (mark rest seg : List ℕ) → mark ++ rest ≡ seg → file_name mark ++ file_name rest ≡ file_name seg
@@ -87,11 +87,11 @@ folder_more seen seg =
     ap folder_name (map-append (λ (s : Bor (List ℕ)). s.now) seen (seg ∷ [])) ∙ named_more before seg.now
 
 pub mangled_more : (seen : List (Bor (List ℕ))) (seg : Bor (List ℕ))
-    → folder_name (mangled (map (λ s. s.now) (seen ++ seg ∷ []))) ≡ folder_name (mangled (map (λ s. s.now) seen)) ++ (file_name (mangled_seg seg.now) ++ 47 ∷ [])
+    → folder_name (mangled_segs (map (λ s. s.now) (seen ++ seg ∷ []))) ≡ folder_name (mangled_segs (map (λ s. s.now) seen)) ++ (file_name (mangled_seg seg.now) ++ 47 ∷ [])
 mangled_more seen seg =
     let before = map (λ (s : Bor (List ℕ)). s.now) seen in
-    ap (λ (l : List (List ℕ)). folder_name (mangled l)) (map-append (λ (s : Bor (List ℕ)). s.now) seen (seg ∷ []))
-    ∙ ap folder_name (map-append mangled_seg before (seg.now ∷ [])) ∙ named_more (mangled before) (mangled_seg seg.now)
+    ap (λ (l : List (List ℕ)). folder_name (mangled_segs l)) (map-append (λ (s : Bor (List ℕ)). s.now) seen (seg ∷ []))
+    ∙ ap folder_name (map-append mangled_seg before (seg.now ∷ [])) ∙ named_more (mangled_segs before) (mangled_seg seg.now)
 
 pub stat_is_name : (name new : List ℕ) → new ≡ name ++ codes ".stat" → length name ≤ 12864 → IsName new
 stat_is_name name new e room =

@@ -5,7 +5,7 @@ use Rattle.std.specs.Prelude.{not}
 use Rattle.std.proofs.lemmas.Bool.{true≢false}
 use Rattle.std.proofs.lemmas.Bool.Decides.{nat_tests}
 use Rattle.std.proofs.lemmas.Option.{unwrap_or-slice_get}
-use Rattle.sp_base.specs.Paths.{mangled, parent_of}
+use Rattle.sp_base.specs.Paths.{mangled_segs, parent_of}
 use Rattle.cover_rules.specs.declared.page.PageKey.{PageKey}
 use Rattle.cover_rules.specs.Names.{has_file_name}
 use Rattle.cover_rules.specs.Pages.{has_dot, is_file, is_page, key_at, last_segment, page_key_of}
@@ -65,7 +65,7 @@ from_key segs key false page e = absurd (true≢false (sym (ap is_there e)))
 
 pub page_has_place : (path : List (List ℕ)) (key : PageKey) → page_key_of path ≡ Some key → is_place key.folder key.file ≡ true
 unfolding key_at
-page_has_place path key e = from_key (mangled path) key (is_page (mangled path)) refl e
+page_has_place path key e = from_key (mangled_segs path) key (is_page (mangled_segs path)) refl e
 
 pub page_has_folder : (path : List (List ℕ)) (key : PageKey) → page_key_of path ≡ Some key → have_names key.folder ≡ true
 page_has_folder path key e = first_of (have_names key.folder) _ (page_has_place path key e)

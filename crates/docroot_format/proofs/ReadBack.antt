@@ -4,7 +4,7 @@ use Rattle.std.specs.Fmt.{decimal}
 use Rattle.std.proofs.lemmas.Bool.Decides.{nat_tests}
 use Rattle.std.proofs.lemmas.Fmt.{decimal_by_steps, decimal_digit}
 use Rattle.std.proofs.lemmas.List.{length-append, take_at, drop_at}
-use Rattle.docroot_format.specs.Readings.{is_digit, digit_fits, digits_from, begins_number, number_in_front, after_word, is_end, stamp_of, stat_of, epoch_of, is_kind, stored_kind, HeadLine, body_of, head_of, greatest_number}
+use Rattle.docroot_format.specs.Readings.{is_digit, digit_fits, digits_from, begins_number, leading_number, after_word, is_end, stamp_of, stat_of, epoch_of, is_kind, stored_kind, HeadLine, body_of, head_of, greatest_number}
 use Rattle.docroot_format.specs.Texts.{head_text, stat_text, epoch_text}
 use Rattle.docroot_format.proofs.NameLemmas.{append_both}
 
@@ -71,8 +71,8 @@ begins zero t short none =
     ∙ ap (λ b. is_digit 48 && not (nat_eq 48 48 && b)) none
 begins (suc n) t short none = begins_from (decimal (suc n)) t (decimal_by_steps HasFirst one_first more_first (suc n) short (omega arith))
 
-pub number_read : (n : ℕ) (t : List ℕ) → n < 2 ^ 64 → is_digit (slice_index t 0) ≡ false → number_in_front (decimal n ++ t) ≡ Some (n, t)
-unfolding number_in_front
+pub number_read : (n : ℕ) (t : List ℕ) → n < 2 ^ 64 → is_digit (slice_index t 0) ≡ false → leading_number (decimal n ++ t) ≡ Some (n, t)
+unfolding leading_number
 number_read n t short none =
     ap (λ b. cond b (Some (digits_from 0 (decimal n ++ t))) None) (begins n t short none)
     ∙ ap Some (digits_read n t short ∙ ends n t none)
@@ -84,7 +84,7 @@ stamp_read : (e c : ℕ) (t : List ℕ) → e < 2 ^ 64 → c < 2 ^ 64 → is_dig
     → stamp_of (decimal e ++ (codes " " ++ (decimal c ++ t))) ≡ Some ((e, c), t)
 unfolding stamp_of after_word
 stamp_read e c t short_e short_c none =
-    ap (option_and_then (λ p. option_and_then (λ rest. option_map (pair p.0) (number_in_front rest)) (after_word (codes " ") p.1)))
+    ap (option_and_then (λ p. option_and_then (λ rest. option_map (pair p.0) (leading_number rest)) (after_word (codes " ") p.1)))
     (number_read e (codes " " ++ (decimal c ++ t)) short_e refl)
     ∙ ap (option_map (pair e)) (number_read c t short_c none)
 

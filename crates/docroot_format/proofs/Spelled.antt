@@ -7,7 +7,7 @@ use Rattle.std.proofs.lemmas.Bool.{cases_Bool, true≢false}
 use Rattle.std.proofs.lemmas.Bool.Decides.{nat_tests}
 use Rattle.std.proofs.lemmas.Fmt.{decimal_digit, decimal_step}
 use Rattle.std.proofs.lemmas.List.{take-append-drop}
-use Rattle.docroot_format.specs.Readings.{is_digit, digit_fits, digits_from, begins_number, number_in_front, after_word, is_end, stamp_of, stat_of, epoch_of, is_kind, stored_kind, HeadLine, body_of, head_of, greatest_number}
+use Rattle.docroot_format.specs.Readings.{is_digit, digit_fits, digits_from, begins_number, leading_number, after_word, is_end, stamp_of, stat_of, epoch_of, is_kind, stored_kind, HeadLine, body_of, head_of, greatest_number}
 use Rattle.docroot_format.specs.Texts.{head_text, stat_text, epoch_text}
 use Rattle.docroot_format.proofs.NameLemmas.{append_both}
 use Rattle.docroot_format.proofs.ReadBack.{digit, ends}
@@ -63,8 +63,8 @@ no_digit_after true true e is = absurd (true≢false (sym e))
 no_digit_after true false e is = refl
 no_digit_after false next e is = absurd (true≢false (sym is))
 
-number_spelled : (t : List ℕ) (p : ℕ × List ℕ) → number_in_front t ≡ Some p → t ≡ decimal p.0 ++ p.1
-unfolding number_in_front
+number_spelled : (t : List ℕ) (p : ℕ × List ℕ) → leading_number t ≡ Some p → t ≡ decimal p.0 ++ p.1
+unfolding leading_number
 number_spelled [] p e = absurd (cc (e))
 number_spelled (b ∷ t) p e =
     let s = some_of (begins_number (b ∷ t)) (digits_from 0 (b ∷ t)) p e in
@@ -118,9 +118,9 @@ nested a b c d e = append_both a b (c ++ (d ++ e)) ∙ append_both (a ++ b) c (d
 stamp_spelled : (text : List ℕ) (s : (ℕ × ℕ) × List ℕ) → stamp_of text ≡ Some s → text ≡ decimal s.0.0 ++ (codes " " ++ (decimal s.0.1 ++ s.1))
 unfolding stamp_of
 stamp_spelled text s e =
-    let a = then_some _ (number_in_front text) s e in
+    let a = then_some _ (leading_number text) s e in
     let b = then_some _ (after_word (codes " ") a.first.1) s a.next in
-    let c = map_some _ (number_in_front b.first) s b.next in
+    let c = map_some _ (leading_number b.first) s b.next in
     number_spelled text a.first a.is
     ∙ ap (λ t. decimal a.first.0 ++ t) (word_spelled (codes " ") a.first.1 b.first b.is)
     ∙ ap (λ t. decimal a.first.0 ++ (codes " " ++ t)) (number_spelled b.first c.first c.is)
@@ -141,8 +141,8 @@ stat_spelled text epoch count e =
 pub epoch_spelled : (text : List ℕ) (epoch : ℕ) → epoch_of text ≡ Some epoch → text ≡ epoch_text epoch
 unfolding epoch_of
 epoch_spelled text epoch e =
-    let a = then_some _ (option_and_then number_in_front (after_word (codes "epoch 1 ") text)) epoch e in
-    let b = then_some number_in_front (after_word (codes "epoch 1 ") text) a.first a.is in
+    let a = then_some _ (option_and_then leading_number (after_word (codes "epoch 1 ") text)) epoch e in
+    let b = then_some leading_number (after_word (codes "epoch 1 ") text) a.first a.is in
     let s = some_of (is_end a.first.1 && nat_lt 0 a.first.0) a.first.0 epoch a.next in
     word_spelled (codes "epoch 1 ") text b.first b.is
     ∙ ap (λ t. codes "epoch 1 " ++ t) (number_spelled b.first a.first b.next)
@@ -162,8 +162,8 @@ digits_most (b ∷ t) m small = ⊎_elim
     (λ (e : is_digit b && nat_le (m * 10 + (b - 48)) greatest_number ≡ false). rw e small)
     (cases_Bool (is_digit b && nat_le (m * 10 + (b - 48)) greatest_number))
 
-number_most : (t : List ℕ) (p : ℕ × List ℕ) → number_in_front t ≡ Some p → p.0 < 2 ^ 64
-unfolding number_in_front
+number_most : (t : List ℕ) (p : ℕ × List ℕ) → leading_number t ≡ Some p → p.0 < 2 ^ 64
+unfolding leading_number
 number_most t p e = subst (λ (q : ℕ × List ℕ). q.0 < 2 ^ 64) (some_of (begins_number t) (digits_from 0 t) p e).1 (digits_most t 0 (omega arith))
 
 above_zero : (n : ℕ) → nat_lt 0 n ≡ true → 0 < n
@@ -172,8 +172,8 @@ above_zero n e = grind (arith, nat_tests)
 pub epoch_most : (text : List ℕ) (epoch : ℕ) → epoch_of text ≡ Some epoch → (0 < epoch) × (epoch < 2 ^ 64)
 unfolding epoch_of
 epoch_most text epoch e =
-    let a = then_some _ (option_and_then number_in_front (after_word (codes "epoch 1 ") text)) epoch e in
-    let b = then_some number_in_front (after_word (codes "epoch 1 ") text) a.first a.is in
+    let a = then_some _ (option_and_then leading_number (after_word (codes "epoch 1 ") text)) epoch e in
+    let b = then_some leading_number (after_word (codes "epoch 1 ") text) a.first a.is in
     let s = some_of (is_end a.first.1 && nat_lt 0 a.first.0) a.first.0 epoch a.next in (
       subst (λ n. 0 < n) s.1 (above_zero a.first.0 (second_of (is_end a.first.1) (nat_lt 0 a.first.0) s.0)),
       subst (λ n. n < 2 ^ 64) s.1 (number_most b.first a.first b.next),
@@ -194,8 +194,8 @@ body_spelled : (stamp : ℕ × ℕ) (text : List ℕ) (line : HeadLine) → body
     → (text ≡ codes " " ++ (decimal line.size ++ (codes " " ++ (line.kind ++ codes "\n")))) × ((stamp.0 ≡ line.epoch) × (stamp.1 ≡ line.count))
 unfolding body_of
 body_spelled stamp text line e =
-    let a = then_some _ (option_and_then number_in_front (after_word (codes " ") text)) line e in
-    let b = then_some number_in_front (after_word (codes " ") text) a.first a.is in
+    let a = then_some _ (option_and_then leading_number (after_word (codes " ") text)) line e in
+    let b = then_some leading_number (after_word (codes " ") text) a.first a.is in
     let c = map_some _ (option_and_then stored_kind (after_word (codes " ") a.first.1)) line a.next in
     let d = then_some stored_kind (after_word (codes " ") a.first.1) c.first c.is in (
       word_spelled (codes " ") text b.first b.is

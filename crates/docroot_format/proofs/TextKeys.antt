@@ -4,8 +4,8 @@ use Rattle.std.proofs.lemmas.Bool.{and_parts}
 use Rattle.std.proofs.lemmas.Option.{unwrap_or-slice_get}
 use Rattle.std.specs.List.{AllByRecursion}
 use lib.Utf8.{scalar, scalars, scalar_cases, encode, encodes}
-use Rattle.sp_base.specs.Paths.{is_namespaced, mangled, mangled_by, mangled_seg, parent_of}
-use Rattle.sp_base.specs.PathTexts.{spelled}
+use Rattle.sp_base.specs.Paths.{is_namespaced, mangled_segs, mangled_by, mangled_seg, parent_of}
+use Rattle.sp_base.specs.PathTexts.{spelling_of}
 use Rattle.cover_rules.specs.declared.page.PageKey.{PageKey}
 use Rattle.cover_rules.specs.Pages.{is_page, key_at, last_segment, page_key_of}
 use Rattle.docroot_format.specs.Names.{IsTextKey, are_bytes}
@@ -45,12 +45,12 @@ chars_bytes (c ∷ cs) e = let p = and_parts _ _ e in both_bytes (encode c) (enc
 pub text_bytes : (text : List ℕ) → IsUtf8 text → are_bytes text
 text_bytes text u = subst are_bytes u.1.1 (chars_bytes u.0 u.1.0)
 
-segments_bytes : (segs : List (List ℕ)) → are_bytes (spelled segs) → AllByRecursion are_bytes segs
+segments_bytes : (segs : List (List ℕ)) → are_bytes (spelling_of segs) → AllByRecursion are_bytes segs
 segments_bytes [] p = tt
-segments_bytes (seg ∷ segs) p = (first_bytes seg (spelled segs) p.1, segments_bytes segs (last_bytes seg (spelled segs) p.1))
+segments_bytes (seg ∷ segs) p = (first_bytes seg (spelling_of segs) p.1, segments_bytes segs (last_bytes seg (spelling_of segs) p.1))
 
-pub spelled_bytes : (segs : List (List ℕ)) → IsUtf8 (spelled segs) → AllByRecursion are_bytes segs
-spelled_bytes segs u = segments_bytes segs (text_bytes (spelled segs) u)
+pub spelled_bytes : (segs : List (List ℕ)) → IsUtf8 (spelling_of segs) → AllByRecursion are_bytes segs
+spelled_bytes segs u = segments_bytes segs (text_bytes (spelling_of segs) u)
 
 -- ---- the key of a path
 
@@ -85,7 +85,7 @@ mangled_bytes seg p =
     (chosen_bytes (is_namespaced (codes "nt:") seg) _ _ (marked_bytes (codes "nt:") (codes "_nt_") seg nt p)
     (chosen_bytes (is_namespaced (codes "cq:") seg) _ _ (marked_bytes (codes "cq:") (codes "_cq_") seg cq p) p)))
 
-pub all_mangled : (segs : List (List ℕ)) → AllByRecursion are_bytes segs → AllByRecursion are_bytes (mangled segs)
+pub all_mangled : (segs : List (List ℕ)) → AllByRecursion are_bytes segs → AllByRecursion are_bytes (mangled_segs segs)
 all_mangled [] p = tt
 all_mangled (seg ∷ segs) p = (mangled_bytes seg p.0, all_mangled segs p.1)
 
@@ -107,4 +107,4 @@ at_key segs key false p e = absurd cc
 
 pub key_bytes : (path : List (List ℕ)) (key : PageKey) → AllByRecursion are_bytes path → page_key_of path ≡ Some key → IsTextKey key
 unfolding key_at
-key_bytes path key p e = at_key (mangled path) key (is_page (mangled path)) (all_mangled path p) e
+key_bytes path key p e = at_key (mangled_segs path) key (is_page (mangled_segs path)) (all_mangled path p) e

@@ -2,7 +2,7 @@
 use Rattle.std.specs.Prelude.{◌≡◌, ◌<◌, ◌==◌, ◌||◌, ◌&&◌, ◌++◌, ◌∷◌, [], ℕ, Bool, IsTrue, not, List, codes, flat_map, length, nat_eq, nat_lt, slice_index}
 use Rattle.std.specs.Cmp.Lexicographic.{pointwise}
 use Rattle.std.specs.List.{AllByRecursion, list_all}
-use Rattle.sp_base.specs.Paths.{is_dots, is_empty, mangled, pieces}
+use Rattle.sp_base.specs.Paths.{is_dots, is_empty, mangled_segs, pieces}
 use Rattle.cover_rules.specs.declared.page.PageKey.{PageKey}
 use Rattle.cover_rules.specs.Names.{file_name, has_file_name, is_plain_name_byte}
 use Rattle.cover_rules.specs.Pages.{last_segment}
@@ -24,7 +24,7 @@ head_name folder file = body_name folder file ++ codes "%h"
 
 -- where a folder's stamp stands
 abbrev pub stat_name : List (List ℕ) → List ℕ
-stat_name folder = folder_name (mangled folder) ++ codes ".stat"
+stat_name folder = folder_name (mangled_segs folder) ++ codes ".stat"
 
 -- each of the mangled segments has a file name
 abbrev pub have_names : List (List ℕ) → Bool
@@ -32,7 +32,7 @@ have_names segs = list_all has_file_name segs
 
 -- a folder of the docroot: a mangled path whose segments have file names
 abbrev pub IsFolder : List (List ℕ) → Type 0
-IsFolder folder = (mangled folder ≡ folder) × IsTrue (have_names folder)
+IsFolder folder = (mangled_segs folder ≡ folder) × IsTrue (have_names folder)
 
 -- a folder and a file in which a page may stand
 abbrev pub is_place : List (List ℕ) → List ℕ → Bool

@@ -30,8 +30,8 @@ abbrev pub begins_number : List ℕ → Bool
 begins_number text = is_digit (slice_index text 0) && not (slice_index text 0 == 48 && is_digit (slice_index text 1))
 
 -- the number at the beginning of a text, and what is left
-unfoldable pub number_in_front : List ℕ → Option (ℕ × List ℕ)
-number_in_front text = if begins_number text then Some (digits_from 0 text) else None
+unfoldable pub leading_number : List ℕ → Option (ℕ × List ℕ)
+leading_number text = if begins_number text then Some (digits_from 0 text) else None
 
 -- what is left after a word at the beginning
 unfoldable pub after_word : List ℕ → List ℕ → Option (List ℕ)
@@ -43,7 +43,7 @@ is_end text = pointwise nat_eq text (codes "\n")
 
 -- the stamp at the beginning of a text, epoch and count, and what is left
 unfoldable pub stamp_of : List ℕ → Option ((ℕ × ℕ) × List ℕ)
-stamp_of text = option_and_then (λ e. option_and_then (λ rest. option_map (λ c. ((e.0, c.0), c.1)) (number_in_front rest)) (after_word (codes " ") e.1)) (number_in_front text)
+stamp_of text = option_and_then (λ e. option_and_then (λ rest. option_map (λ c. ((e.0, c.0), c.1)) (leading_number rest)) (after_word (codes " ") e.1)) (leading_number text)
 
 -- the stamp that a .stat file holds
 unfoldable pub stat_of : List ℕ → Option (ℕ × ℕ)
@@ -51,7 +51,7 @@ stat_of text = option_and_then (λ s. if is_end s.1 then Some s.0 else None) (op
 
 -- the epoch that a file holds, from 1 on
 unfoldable pub epoch_of : List ℕ → Option ℕ
-epoch_of text = option_and_then (λ e. if is_end e.1 && nat_lt 0 e.0 then Some e.0 else None) (option_and_then number_in_front (after_word (codes "epoch 1 ") text))
+epoch_of text = option_and_then (λ e. if is_end e.1 && nat_lt 0 e.0 then Some e.0 else None) (option_and_then leading_number (after_word (codes "epoch 1 ") text))
 
 -- the most bytes of a media type in a head
 abbrev pub longest_kind : ℕ
@@ -74,7 +74,7 @@ pub record HeadLine : Type 0 where
 
 -- the rest of a head after its stamp: the length and the media type of the body
 unfoldable pub body_of : (ℕ × ℕ) → List ℕ → Option HeadLine
-body_of stamp text = option_and_then (λ n. option_map (λ kind. record { epoch = stamp.0; count = stamp.1; size = n.0; kind = kind }) (option_and_then stored_kind (after_word (codes " ") n.1))) (option_and_then number_in_front (after_word (codes " ") text))
+body_of stamp text = option_and_then (λ n. option_map (λ kind. record { epoch = stamp.0; count = stamp.1; size = n.0; kind = kind }) (option_and_then stored_kind (after_word (codes " ") n.1))) (option_and_then leading_number (after_word (codes " ") text))
 
 -- the head that bytes are
 unfoldable pub head_of : List ℕ → Option HeadLine

@@ -4,7 +4,7 @@ ghost use Rattle.cover_rules.specs.declared.page.PageKey.{PageKey};
 ghost use Rattle.cover_rules.specs.declared.invalidation.Invalidation.{Invalidation};
 ghost use Rattle.cover_rules.specs.Coverage.{stat_folder, touched_of};
 ghost use Rattle.cover_rules.specs.Pages.{page_key_of, page_path};
-ghost use Rattle.sp_base.specs.Paths.{is_path, mangled};
+ghost use Rattle.sp_base.specs.Paths.{is_path, mangled_segs};
 ghost use Rattle.std.specs.List.{AllByRecursion};
 ghost use Rattle.docroot_format.specs.Names.{beside_ending, body_name, epoch_name, have_names, head_name, is_inside, is_page_file, is_place, is_stat_file, stat_name, IsFolder, IsTextKey, are_bytes};
 ghost use Rattle.docroot_format.specs.Readings.{HeadLine, epoch_of, head_of, is_kind, stat_of};
@@ -23,11 +23,11 @@ pub fn a_page_has_files()
 /// and each folder that an invalidation touches. Each of their segments has a file name. A folder has one .stat file however it is spelled.
 pub fn folders_are_mangled()
     ensures page { (path : List (List ℕ)) (key : PageKey) → page_key_of path ≡ Some key → IsFolder key.folder }
-    ensures file { (path : List (List ℕ)) (key : PageKey) → page_key_of path ≡ Some key → mangled (key.file ∷ []) ≡ key.file ∷ [] }
+    ensures file { (path : List (List ℕ)) (key : PageKey) → page_key_of path ≡ Some key → mangled_segs (key.file ∷ []) ≡ key.file ∷ [] }
     ensures stat { (level : ℕ) (path : List (List ℕ)) (key : PageKey) → page_key_of path ≡ Some key → IsFolder (stat_folder level key) }
     ensures touched { (level : ℕ) (inv : Invalidation) (folder : List (List ℕ)) → Contains (touched_of level inv) folder → IsFolder folder }
-    ensures names { (folder : List (List ℕ)) → IsFolder folder → IsTrue (have_names (mangled folder)) }
-    ensures one { (folder : List (List ℕ)) → stat_name (mangled folder) ≡ stat_name folder }
+    ensures names { (folder : List (List ℕ)) → IsFolder folder → IsTrue (have_names (mangled_segs folder)) }
+    ensures one { (folder : List (List ℕ)) → stat_name (mangled_segs folder) ≡ stat_name folder }
 {
     mangling_and_unmangling();
 }
@@ -82,7 +82,7 @@ pub fn names_lie_in_the_docroot()
 pub fn names_are_apart()
     ensures bodies { (key other : PageKey) → IsTextKey key → IsTextKey other → body_name key.folder key.file ≡ body_name other.folder other.file → key ≡ other }
     ensures heads { (key other : PageKey) → IsTextKey key → IsTextKey other → head_name key.folder key.file ≡ head_name other.folder other.file → key ≡ other }
-    ensures stats { (folder other : List (List ℕ)) → AllByRecursion are_bytes folder → AllByRecursion are_bytes other → stat_name folder ≡ stat_name other → mangled folder ≡ mangled other }
+    ensures stats { (folder other : List (List ℕ)) → AllByRecursion are_bytes folder → AllByRecursion are_bytes other → stat_name folder ≡ stat_name other → mangled_segs folder ≡ mangled_segs other }
     ensures head { (key other : PageKey) → IsTextKey key → IsTextKey other → head_name key.folder key.file ≢ body_name other.folder other.file }
     ensures stat_body { (folder : List (List ℕ)) (key : PageKey) → AllByRecursion are_bytes folder → IsTextKey key → page_key_of (page_path key) ≡ Some key → stat_name folder ≢ body_name key.folder key.file }
     ensures stat_head { (folder : List (List ℕ)) (key : PageKey) → AllByRecursion are_bytes folder → IsTextKey key → page_key_of (page_path key) ≡ Some key → stat_name folder ≢ head_name key.folder key.file }

@@ -54,9 +54,9 @@ fn begins_number(text: &[u8]) -> bool
     }
 }
 
-#[tactic(auto, unfolding(crate::specs::Readings::number_in_front))]
+#[tactic(auto, unfolding(crate::specs::Readings::leading_number))]
 pub(crate) fn number(text: &[u8]) -> Option<(u64, &[u8])>
-    ensures { option_map (λ p. (p.0, p.1.now)) result ≡ spec.number_in_front text.now }
+    ensures { option_map (λ p. (p.0, p.1.now)) result ≡ spec.leading_number text.now }
 {
     if begins_number(text) {
         Some(digits(text))

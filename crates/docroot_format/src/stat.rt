@@ -1,6 +1,6 @@
 //! The name and the text of a folder's stamp, in room of a fixed size, so that writing a stamp takes no memory.
 ghost use Rattle.std.specs.Prelude.{◌≡◌, ◌<◌, ◌≤◌, ◌+◌, ◌++◌, ◌∷◌, [], IsTrue, decimal, length};
-ghost use Rattle.sp_base.specs.Paths.{mangled, mangled_seg};
+ghost use Rattle.sp_base.specs.Paths.{mangled_segs, mangled_seg};
 ghost use Rattle.sp_outside.specs.Files.{IsName};
 ghost use Rattle.cover_rules.specs.Names as file;
 ghost use Rattle.docroot_format.specs.Names as spec;
@@ -56,8 +56,8 @@ fn push_piece(name: &mut StatName, seg: &str)
 // Adds the file names of a folder's segments, a slash after each.
 fn push_folder(name: &mut StatName, folder: &Path)
     requires empty { name.old.bytes ≡ [] }
-    requires named { IsTrue (spec.have_names (mangled folder.now)) }
-    ensures name { name.new.bytes ≡ spec.folder_name (mangled folder.now) }
+    requires named { IsTrue (spec.have_names (mangled_segs folder.now)) }
+    ensures name { name.new.bytes ≡ spec.folder_name (mangled_segs folder.now) }
     ensures few { length name.new.bytes ≤ 12864 }
 {
     // That a path has at most 64 segments is a clause of its depth.
@@ -72,7 +72,7 @@ fn push_folder(name: &mut StatName, folder: &Path)
 
 /// The name of the file of a folder's stamp, which is of the folder's mangled segments: each has a file name of at most 200 bytes.
 pub fn stat_name(folder: &Path) -> StatName
-    requires { IsTrue (spec.have_names (mangled folder.now)) }
+    requires { IsTrue (spec.have_names (mangled_segs folder.now)) }
     ensures name { result.bytes ≡ spec.stat_name folder.now }
     ensures fits { IsName result.bytes }
 {

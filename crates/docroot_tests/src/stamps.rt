@@ -1,6 +1,6 @@
 //! Worked rows, and each call with its disk call failing, before and after its change.
 ghost use Rattle.std.specs.Prelude.{IfSome, IsTrue};
-ghost use Rattle.sp_base.specs.Paths.{mangled};
+ghost use Rattle.sp_base.specs.Paths.{mangled_segs};
 ghost use Rattle.docroot_format.specs.Names.{have_names};
 
 use cover_rules::Stamp;
@@ -15,7 +15,7 @@ const STAT: &str = "content/.stat";
 
 // The folder `/content`, whose segment's file name is `content`.
 fn content(alloc: Global) -> Option<Path>
-    ensures { IfSome result (λ folder. IsTrue (have_names (mangled folder))) }
+    ensures { IfSome result (λ folder. IsTrue (have_names (mangled_segs folder))) }
 {
     match Path::read(alloc, "/content") {
         Ok(folder) => Some(folder),
@@ -25,7 +25,7 @@ fn content(alloc: Global) -> Option<Path>
 
 // The folder `/content/jcr:content`, whose segments' file names are `content` and `_jcr_content`.
 fn below_content(alloc: Global) -> Option<Path>
-    ensures { IfSome result (λ folder. IsTrue (have_names (mangled folder))) }
+    ensures { IfSome result (λ folder. IsTrue (have_names (mangled_segs folder))) }
 {
     match Path::read(alloc, "/content/jcr:content") {
         Ok(folder) => Some(folder),

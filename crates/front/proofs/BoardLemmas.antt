@@ -13,8 +13,8 @@ use Rattle.any_config.specs.declared.farm.Farm.{Farm}
 use Rattle.connections.specs.Connections.{Connection, with_landing}
 use Rattle.front.specs.Boards.{AllGiven, BoardTied, FirstThen, Landing, LineTied, LinesTied, Meets, ServesDry, SettlesDry, SkyTied}
 use Rattle.front.specs.Events.{SomeShowsLack}
-use Rattle.front.specs.Lines.{Holds}
-use Rattle.front.specs.Moves.{GivesDue, Serves, state_after_note, afters, due_of_connection}
+use Rattle.front.specs.Lines.{LineHolds}
+use Rattle.front.specs.Moves.{GivesDue, Serves, state_after_note, state_after_notes, due_of_connection}
 use Rattle.front.specs.States.{RunState}
 use Rattle.front.specs.declared.board.Board.{Board}
 use Rattle.front.specs.declared.line.Line.{Line}
@@ -50,7 +50,7 @@ is-none (Some a) e = absurd (let no : ⊥ = cc in no)
 pub record Opened (k : Line) (line : Option Connection) : Type 0 where
   pub connection : Connection
   pub open_is : line ≡ Some connection
-  pub holds : Holds k connection
+  pub holds : LineHolds k connection
 
 pub tied-some : (o : Option Line) (line : Option Connection) (k : Line) → LineTied o line → o ≡ Some k → Opened k line
 tied-some None line k tied e = absurd (let no : ⊥ = cc in no)
@@ -69,7 +69,7 @@ meets b w c k tied here =
 
 -- the line is the new one in both, and the others are as before
 pub lines-after : (old new : BTreeMap ℕ Line) (w v : RunState) (c : ℕ) (k : Line) (m : Connection) → LinesTied old w → get nat_cmp new c ≡ Some k → ((q : ℕ) → q ≢ c → get nat_cmp new q ≡ get nat_cmp old q)
-    → btree_map_len new ≡ btree_map_len old → v.line c ≡ Some m → Holds k m → Frame c w v → LinesTied new v
+    → btree_map_len new ≡ btree_map_len old → v.line c ≡ Some m → LineHolds k m → Frame c w v → LinesTied new v
 lines-after old new w v c k m tied here others count is holds frame = record {
   each = λ q. ⊎_elim
       (λ at. rw (← at, here, is) holds)
@@ -94,20 +94,20 @@ pub calm-wanting : {P : Type 0} (dry : Bool) → dry ≡ false → IsTrue dry �
 calm-wanting dry calm wanting = absurd (let no : ⊥ = cc in no)
 
 -- ---- a connection is given all that it is owed
-dry-frame : (dry : Bool) (w : RunState) (c : ℕ) (notes : List Note) (m : Connection) → ServesDry dry w c notes → (afters w notes).line c ≡ Some m → Frame c w (afters w notes)
+dry-frame : (dry : Bool) (w : RunState) (c : ℕ) (notes : List Note) (m : Connection) → ServesDry dry w c notes → (state_after_notes w notes).line c ≡ Some m → Frame c w (state_after_notes w notes)
 dry-frame dry w c notes m serves is = serves-frame (record { dry = dry }) w c notes m (serves (record { dry = dry }) (λ x. x)) is
 
 lines-given : {farm : Farm} (b : Board) (w : RunState) (c : ℕ) (k j : Line) (sky : Sky) (lines : BTreeMap ℕ Line) (told : Told) (over : Bool) → BoardTied farm b w → Some k ≡ get nat_cmp b.lines c
-    → AllGiven told over farm w c j sky → WritesThrough nat_cmp (nat_cmp c) b.lines j lines → LinesTied lines (afters w told.notes.items)
+    → AllGiven told over farm w c j sky → WritesThrough nat_cmp (nat_cmp c) b.lines j lines → LinesTied lines (state_after_notes w told.notes.items)
 lines-given b w c k j sky lines told over tied here all writes =
     let given = all.given in
     let updates = writes.3 (some-there _ k (sym here)) in
     let frame = dry-frame told.dry w c told.notes.items given.meets.connection given.serves given.meets.open_is in
-    lines-after b.lines lines w (afters w told.notes.items) c j given.meets.connection tied.lines updates.1 (λ q other. updates.2 q (at-other c q other)) writes.2 given.meets.open_is given.meets.holds frame
+    lines-after b.lines lines w (state_after_notes w told.notes.items) c j given.meets.connection tied.lines updates.1 (λ q other. updates.2 q (at-other c q other)) writes.2 given.meets.open_is given.meets.holds frame
 
 pub settled-quiet : {farm : Farm} (b : Board) (w : RunState) (c : ℕ) (k j : Line) (sky : Sky) (lines : BTreeMap ℕ Line) (told : Told) (over : Bool) → BoardTied farm b w → Some k ≡ get nat_cmp b.lines c
     → ((u : RunState) → Meets farm u c k b.sky → AllGiven told over farm u c j sky) → over ≡ false → WritesThrough nat_cmp (nat_cmp c) b.lines j lines
-    → SettlesDry told.dry w c told.notes.items × BoardTied farm (record { lines = lines; sky = sky }) (afters w told.notes.items)
+    → SettlesDry told.dry w c told.notes.items × BoardTied farm (record { lines = lines; sky = sky }) (state_after_notes w told.notes.items)
 settled-quiet {farm} b w c k j sky lines told over tied here serves stays writes =
     let all = subst (λ o. AllGiven told o farm w c j sky) stays (serves w (meets b w c k tied (sym here))) in (
       (λ m allows. record { serves = all.given.serves m allows; idle = all.then_due }, all.given.wanting),
@@ -137,15 +137,15 @@ pub settled-over : {farm : Farm} (b : Board) (w : RunState) (c : ℕ) (k j : Lin
     → ((u : RunState) → Meets farm u c k b.sky → AllGiven told over farm u c j sky) → over ≡ true → WritesThrough nat_cmp (nat_cmp c) b.lines j lines
     → Updates nat_cmp lines left c None → (o : Option Line) → o ≡ get nat_cmp lines c → btree_map_len left + (if is_some o then 1 else 0) ≡ btree_map_len lines
     → all.notes.items ≡ told.notes.items ++ Shut c ∷ [] → all.dry ≡ (told.dry || false)
-    → SettlesDry all.dry w c all.notes.items × BoardTied farm (record { lines = left; sky = sky }) (afters w all.notes.items)
+    → SettlesDry all.dry w c all.notes.items × BoardTied farm (record { lines = left; sky = sky }) (state_after_notes w all.notes.items)
 settled-over {farm} b w c k j sky lines left told all over tied here serves ends writes updates o was len notes dry =
     let given = subst (λ x. AllGiven told x farm w c j sky) ends (serves w (meets b w c k tied (sym here))) in
-    let v = afters w told.notes.items in
+    let v = state_after_notes w told.notes.items in
     let mid = lines-given b w c k j sky lines told true tied here given writes in
     let there = some-there _ k (sym here) in
     let some : o ≡ Some j = was ∙ (writes.3 there).1 in
     let fewer : btree_map_len left + 1 ≡ btree_map_len lines = one-fewer o j _ _ some len in
-    let end : afters w all.notes.items ≡ state_after_note v (Shut c) = ap (afters w) notes ∙ afters-push w told.notes.items (Shut c) in
+    let end : state_after_notes w all.notes.items ≡ state_after_note v (Shut c) = ap (state_after_notes w) notes ∙ afters-push w told.notes.items (Shut c) in
     let same_dry : all.dry ≡ told.dry = dry ∙ or-false told.dry in
     let size : v.lines ≡ btree_map_len lines = sym mid.count in (
       (
@@ -169,7 +169,7 @@ settled-over {farm} b w c k j sky lines left told all over tied here serves ends
 pub landed : {farm : Farm} (b g h : Board) (w v : RunState) (c number : ℕ) (answer : Answer) (first : Note) (told all : Told) → Landing farm b w v c number answer
     → ((q : ℕ) (o : Option Connection) → LineTied (get nat_cmp b.lines q) o → LineTied (get nat_cmp g.lines q) (cond (nat_eq q c) (option_map (with_landing number answer) o) o))
     → btree_map_len g.lines ≡ btree_map_len b.lines → g.sky ≡ b.sky
-    → ((u : RunState) → BoardTied farm g u → SettlesDry told.dry u c told.notes.items × BoardTied farm h (afters u told.notes.items)) → all.notes.items ≡ first ∷ told.notes.items → all.dry ≡ told.dry
+    → ((u : RunState) → BoardTied farm g u → SettlesDry told.dry u c told.notes.items × BoardTied farm h (state_after_notes u told.notes.items)) → all.notes.items ≡ first ∷ told.notes.items → all.dry ≡ told.dry
     → FirstThen first farm v c all h
 landed {farm} b g h w v c number answer first told all landing fill count sky settled notes dry =
     let lines : LinesTied g.lines v = record {

@@ -7,7 +7,7 @@ use Rattle.http_front.specs.declared.turn.Turn.{Turn}
 use Rattle.http_front.specs.declared.turn.Turn.TheVariants.{Continue, Whole}
 use Rattle.sp_base.specs.declared.answer.Answer.{Answer}
 use Rattle.connections.specs.Slots.{Slot, interim_slot, is_awaiting}
-use Rattle.connections.specs.Connections.{Connection, advanced, after_turn, fed, filled, fresh, next_turn, with_answer, with_slot}
+use Rattle.connections.specs.Connections.{Connection, with_due_continue, after_turn, with_piece, slots_with_landing, fresh, next_turn, with_answer, with_slot}
 use Rattle.connections.specs.Histories.{Landing, Move, Shut as ShutMove, Sent as SentMove, Piece as PieceMove, Treatment, after_all, connection_after_move}
 use Rattle.connections.specs.declared.sending.Sending.{Sending}
 use Rattle.front.specs.Histories.{some_closes}
@@ -28,25 +28,25 @@ closing-turn None d is = is
 closing-turn (Some Continue) d is = closing-slot interim_slot d is
 closing-turn (Some (Whole request)) d is = is
 
-closing-advanced : (d : Connection) → IsClosing d → IsClosing (advanced d)
+closing-advanced : (d : Connection) → IsClosing d → IsClosing (with_due_continue d)
 closing-advanced d is = by_test d.closing
   where
     by_test : (b : Bool) → IsClosing (if b then d else after_turn (next_turn d) d)
     by_test true = is
     by_test false = closing-turn (next_turn d) d is
 
-closing-fed : (bytes : List ℕ) (turns : List Turn) (ends : End) (d : Connection) → IsClosing d → IsClosing (fed bytes turns ends d)
+closing-fed : (bytes : List ℕ) (turns : List Turn) (ends : End) (d : Connection) → IsClosing d → IsClosing (with_piece bytes turns ends d)
 closing-fed bytes turns ends d is = by_test d.closing
   where
-    by_test : (b : Bool) → IsClosing (if b then d else advanced (longer bytes turns ends d))
+    by_test : (b : Bool) → IsClosing (if b then d else with_due_continue (longer bytes turns ends d))
     by_test true = is
     by_test false = closing-advanced (longer bytes turns ends d) is
 
-closing-filled : (n : ℕ) (answer : Answer) (slots : List Slot) → some_closes (filled n answer slots) ≡ some_closes slots
+closing-filled : (n : ℕ) (answer : Answer) (slots : List Slot) → some_closes (slots_with_landing n answer slots) ≡ some_closes slots
 closing-filled n answer [] = refl
 closing-filled n answer (s ∷ slots) = by_test (is_awaiting n s.response) (closing-filled n answer slots)
   where
-    by_test : (b : Bool) → some_closes (filled n answer slots) ≡ some_closes slots → some_closes (cond b (with_answer answer s ∷ slots) (s ∷ filled n answer slots)) ≡ some_closes (s ∷ slots)
+    by_test : (b : Bool) → some_closes (slots_with_landing n answer slots) ≡ some_closes slots → some_closes (cond b (with_answer answer s ∷ slots) (s ∷ slots_with_landing n answer slots)) ≡ some_closes (s ∷ slots)
     by_test true rest = refl
     by_test false rest = ap (λ b. s.closes || b) rest
 

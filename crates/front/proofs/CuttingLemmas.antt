@@ -6,7 +6,7 @@ use Rattle.http_front.specs.Turns.{SpellsTurns}
 use Rattle.connections.specs.Slots.{Awaits, Fixed, Interim, IsWritten, MayAnswer, Response, Says, Slot, is_last}
 use Rattle.connections.specs.Histories.{AnswersRun, IsEndOr}
 use Rattle.connections.specs.declared.sending.Sending.{Sending}
-use Rattle.front.specs.Cuttings.{AreAnsweredAlike, AreCalm, CuttingsAgree, OneBegins, bytes_sent}
+use Rattle.front.specs.Cuttings.{AreAnsweredAlike, HaveNoDrySending, CuttingsAgree, OneBegins, bytes_sent}
 use Rattle.front.specs.Events.{Event, Run}
 use Rattle.front.specs.Histories.{AnswersWhatCame, came_since_opened, sent_since_opened}
 use Rattle.front.specs.Publishers.{Publishing}
@@ -61,7 +61,7 @@ same-bytes : (x y : Slot) (s t : Sending) → x ≡ y → MayAnswer x s → MayA
 same-bytes x y s t same one two calm quiet =
     written-same y y.response s.bytes t.bytes (subst (λ (z : Slot). IsWritten z z.response s.bytes) same (calm-written x s calm one)) (calm-written y t quiet two)
 
-begins-bytes : (xs ys : List Slot) (sent other : List Sending) → AnswersRun xs sent → AnswersRun ys other → AreAnsweredAlike xs ys → AreCalm sent → AreCalm other → OneBegins (bytes_sent sent) (bytes_sent other)
+begins-bytes : (xs ys : List Slot) (sent other : List Sending) → AnswersRun xs sent → AnswersRun ys other → AreAnsweredAlike xs ys → HaveNoDrySending sent → HaveNoDrySending other → OneBegins (bytes_sent sent) (bytes_sent other)
 begins-bytes xs ys [] other one two same calm quiet = inl (bytes_sent other, refl)
 begins-bytes xs ys (s ∷ sent) [] one two same calm quiet = inr (bytes_sent (s ∷ sent), refl)
 begins-bytes [] ys (s ∷ sent) (t ∷ other) one two same calm quiet = absurd one
@@ -71,7 +71,7 @@ begins-bytes (x ∷ xs) (y ∷ ys) (s ∷ sent) (t ∷ other) one two same calm 
     (by_last (is_last x s.bytes) (is_last y t.bytes) one.1 two.1 (begins-bytes xs ys sent other))
   where
     by_last : (p q : Bool) → IsEndOr p sent (AnswersRun xs sent) → IsEndOr q other (AnswersRun ys other)
-        → (AnswersRun xs sent → AnswersRun ys other → AreAnsweredAlike xs ys → AreCalm sent → AreCalm other → OneBegins (bytes_sent sent) (bytes_sent other)) → OneBegins (bytes_sent sent) (bytes_sent other)
+        → (AnswersRun xs sent → AnswersRun ys other → AreAnsweredAlike xs ys → HaveNoDrySending sent → HaveNoDrySending other → OneBegins (bytes_sent sent) (bytes_sent other)) → OneBegins (bytes_sent sent) (bytes_sent other)
     by_last true q ended next rest = inl (bytes_sent other, ap (λ xs. bytes_sent xs ++ bytes_sent other) (sym ended))
     by_last false true next ended rest = inr (bytes_sent sent, ap (λ xs. bytes_sent xs ++ bytes_sent sent) (sym ended))
     by_last false false first second rest = rest first second same.1 calm.1 quiet.1

@@ -10,15 +10,15 @@ use Rattle.http_front.specs.Turns.{End, SpellsTurns}
 use Rattle.http_front.specs.declared.turn.Turn.{Turn}
 use Rattle.http_front.specs.declared.turn.Turn.TheVariants.{Continue, Whole}
 use Rattle.connections.specs.Slots.{IsWritten, Slot}
-use Rattle.connections.specs.Connections.{Close, Connection, Due, Nothing, Refuse, Send, Treat, fed}
+use Rattle.connections.specs.Connections.{Close, Connection, Due, Nothing, Refuse, Send, Treat, with_piece}
 use Rattle.front.specs.declared.flying.Flying.{Flying}
 use Rattle.front.specs.declared.note.Note.{Note}
 use Rattle.front.specs.declared.note.Note.TheVariants.{Answer as answered, Lost, Passed, Rendered, Sent}
 use Rattle.front.specs.declared.step.Step.{Step}
 use Rattle.front.specs.declared.step.Step.TheVariants as step
-use Rattle.front.specs.Determined.{AreCalmEvents, CalmRunsAreOne, CalmStreamsEndAlike, EndAlike, LeaveNoEndOpen, IsEndLeftOpen, IsEndLeftOpenOf, IsSameEnd, IsSameEndOf, event_notes, event_steps}
-use Rattle.front.specs.Events.{DeliverAs, DeliverTo, Event, HappensBy, IsOrFixed, LeadsNotes, LoseTo, PieceTo, RenderTo, Run, after_event, begun, is_any, is_rendered, is_unrendered, mood_notes, notes_of, picked}
-use Rattle.front.specs.Moves.{GivesDue, IsFirstPoint, MaySend, Mood, Serves, Settles, afters, due_of_connection, on_line, points, state_after_note}
+use Rattle.front.specs.Determined.{HaveNoDryEvent, RunsWithoutDryEventsAreOne, StreamsWithoutDryEventsEndAlike, EndAlike, LeaveNoEndOpen, IsEndLeftOpen, IsEndLeftOpenOf, IsSameEnd, IsSameEndOf, event_notes, event_steps}
+use Rattle.front.specs.Events.{DeliverAs, DeliverTo, Event, HappensBy, IsOrFixed, LeadsNotes, LoseTo, PieceTo, RenderTo, Run, after_event, state_before_notes, is_any, is_rendered, is_unrendered, mood_notes, notes_of, picked_flight}
+use Rattle.front.specs.Moves.{GivesDue, IsFirstPoint, MaySend, Mood, Serves, Settles, state_after_notes, due_of_connection, on_line, points, state_after_note}
 use Rattle.front.specs.States.{RunState, start_of}
 use Rattle.front.proofs.CuttingLemmas.{written-same}
 use Rattle.front.proofs.PastLemmas.{fed-closed}
@@ -59,14 +59,14 @@ gives-one m n w c Close x y calm quiet a b = a ∙ sym b
 gives-one m n w c Nothing x y calm quiet a b = absurd a
 
 -- ---- all that a connection is owed
-serves-one : (m n : Mood) (w : RunState) (c : ℕ) (xs ys : List Note) → m.dry ≡ false → n.dry ≡ false → Serves m w c xs → Serves n w c ys → due_of_connection (afters w xs) c ≡ Nothing → due_of_connection (afters w ys) c ≡ Nothing → xs ≡ ys
+serves-one : (m n : Mood) (w : RunState) (c : ℕ) (xs ys : List Note) → m.dry ≡ false → n.dry ≡ false → Serves m w c xs → Serves n w c ys → due_of_connection (state_after_notes w xs) c ≡ Nothing → due_of_connection (state_after_notes w ys) c ≡ Nothing → xs ≡ ys
 serves-one m n w c [] [] calm quiet a b idle still = refl
 serves-one m n w c [] (y ∷ ys) calm quiet a b idle still = absurd (subst (λ owed. GivesDue n w c owed y) idle b.0)
 serves-one m n w c (x ∷ xs) [] calm quiet a b idle still = absurd (subst (λ owed. GivesDue m w c owed x) still a.0)
 serves-one m n w c (x ∷ xs) (y ∷ ys) calm quiet a b idle still =
     let same : y ≡ x = gives-one n m w c (due_of_connection w c) y x quiet calm b.0 a.0 in
     let serves : Serves n (state_after_note w x) c ys = subst (λ note. Serves n (state_after_note w note) c ys) same b.1 in
-    let ends : due_of_connection (afters (state_after_note w x) ys) c ≡ Nothing = subst (λ note. due_of_connection (afters (state_after_note w note) ys) c ≡ Nothing) same still in
+    let ends : due_of_connection (state_after_notes (state_after_note w x) ys) c ≡ Nothing = subst (λ note. due_of_connection (state_after_notes (state_after_note w note) ys) c ≡ Nothing) same still in
     let rest = serves-one m n (state_after_note w x) c xs ys calm quiet a.1 serves idle ends in
     λ i. sym same i ∷ rest i
 
@@ -87,7 +87,7 @@ wanted-one m n a b wanted calm quiet (inr dry) y = absurd (let wants : m.dry ≡
 -- two events of one step have the same notes and leave the same state
 pub record IsOneEvent (w : RunState) (e f : Event) (s : Step) : Type 0 where
   pub body : e.body ≡ f.body
-  pub state : begun w e s ≡ begun w f s
+  pub state : state_before_notes w e s ≡ state_before_notes w f s
 
 on-none : (w : RunState) (c : ℕ) (g h : Connection → Connection) → w.line c ≡ None → on_line w c g ≡ on_line w c h
 on-none w c g h none = ap (λ o. record w { line = update nat_eq w.line c o }) (ap (option_map g) none ∙ sym (ap (option_map h) none))
@@ -107,19 +107,19 @@ turns-one law stream turns a b end last one two =
 
 piece-one : Beginnings → (w : RunState) (e f : Event) (c : ℕ) (bytes : List ℕ) (at : Option Connection) → w.line c ≡ at → IsSameEndOf at e.ends f.ends → e.mood.dry ≡ false → f.mood.dry ≡ false → PieceTo w e c bytes at → PieceTo w f c bytes at
     → IsOneEvent w e f (step.Piece c bytes)
-piece-one law w e f c bytes None line ends calm quiet a b = record { body = a ∙ sym b; state = on-none w c (fed bytes e.turns e.ends) (fed bytes f.turns f.ends) line }
+piece-one law w e f c bytes None line ends calm quiet a b = record { body = a ∙ sym b; state = on-none w c (with_piece bytes e.turns e.ends) (with_piece bytes f.turns f.ends) line }
 piece-one law w e f c bytes (Some k) line ends calm quiet a b =
-    let same = on-some w c (fed bytes e.turns e.ends) (fed bytes f.turns f.ends) k line (by_closing k.closing refl) in
+    let same = on-some w c (with_piece bytes e.turns e.ends) (with_piece bytes f.turns f.ends) k line (by_closing k.closing refl) in
     record {
-      body = settles-one e.mood f.mood (on_line w c (fed bytes e.turns e.ends)) c e.body f.body calm quiet a.settles (subst (λ v. Settles f.mood v c f.body) (sym same) b.settles);
+      body = settles-one e.mood f.mood (on_line w c (with_piece bytes e.turns e.ends)) c e.body f.body calm quiet a.settles (subst (λ v. Settles f.mood v c f.body) (sym same) b.settles);
       state = same;
     }
   where
-    by_closing : (closing : Bool) → k.closing ≡ closing → fed bytes e.turns e.ends k ≡ fed bytes f.turns f.ends k
+    by_closing : (closing : Bool) → k.closing ≡ closing → with_piece bytes e.turns e.ends k ≡ with_piece bytes f.turns f.ends k
     by_closing true is = fed-closed bytes e.turns e.ends k is ∙ sym (fed-closed bytes f.turns f.ends k is)
     by_closing false is =
         let turns : e.turns ≡ f.turns = turns-one law (k.stream ++ bytes) k.turns e.turns f.turns e.ends f.ends (a.spells is) (b.spells is) in
-        ap (λ ts. fed bytes ts e.ends k) turns ∙ ap (λ end. fed bytes f.turns end k) (ends is)
+        ap (λ ts. with_piece bytes ts e.ends k) turns ∙ ap (λ end. with_piece bytes f.turns end k) (ends is)
 
 render-one : (w : RunState) (e f : Event) (flying : Option Flying) → e.mood.dry ≡ false → f.mood.dry ≡ false → RenderTo w e flying → RenderTo w f flying → e.body ≡ f.body
 render-one w e f None calm quiet a b = a ∙ sym b
@@ -145,9 +145,9 @@ step-one law w e f (step.Opened c peer) ends calm quiet a b = record { body = a 
 step-one law w e f (step.Piece c bytes) ends calm quiet a b = piece-one law w e f c bytes (w.line c) refl ends calm quiet a b
 step-one law w e f (step.Gone c) ends calm quiet a b = record { body = a ∙ sym b; state = refl }
 step-one law w e f (step.Direct target) ends calm quiet a b = record { body = a.2 ∙ ap (λ answer. answered answer ∷ []) (wanted-one e.mood f.mood a.0 b.0 _ calm quiet a.1 b.1) ∙ sym b.2; state = refl }
-step-one law w e f (step.Render pick) ends calm quiet a b = record { body = render-one w e f (picked pick is_unrendered w.air) calm quiet a b; state = refl }
-step-one law w e f (step.Deliver pick) ends calm quiet a b = record { body = delivers-one w e f (picked pick is_rendered w.air) calm quiet a b; state = refl }
-step-one law w e f (step.Lose pick) ends calm quiet a b = record { body = loses-one w e f (picked pick is_any w.air) calm quiet a b; state = refl }
+step-one law w e f (step.Render pick) ends calm quiet a b = record { body = render-one w e f (picked_flight pick is_unrendered w.air) calm quiet a b; state = refl }
+step-one law w e f (step.Deliver pick) ends calm quiet a b = record { body = delivers-one w e f (picked_flight pick is_rendered w.air) calm quiet a b; state = refl }
+step-one law w e f (step.Lose pick) ends calm quiet a b = record { body = loses-one w e f (picked_flight pick is_any w.air) calm quiet a b; state = refl }
 
 -- ---- a run
 calm-notes : (e : Event) → e.mood.dry ≡ false → notes_of e ≡ e.body
@@ -156,9 +156,9 @@ calm-notes e calm =
     ap (λ notes. e.body ++ notes) none ∙ append-nil e.body
 
 state-one : (w : RunState) (e f : Event) → e.step ≡ f.step → IsOneEvent w e f e.step → after_event w e ≡ after_event w f
-state-one w e f same event = ap (λ v. afters v e.body) event.state ∙ ap (λ notes. afters (begun w f e.step) notes) event.body ∙ ap (λ s. afters (begun w f s) f.body) same
+state-one w e f same event = ap (λ v. state_after_notes v e.body) event.state ∙ ap (λ notes. state_after_notes (state_before_notes w f e.step) notes) event.body ∙ ap (λ s. state_after_notes (state_before_notes w f s) f.body) same
 
-run-one : Beginnings → (w : RunState) (a b : List Event) → Run w a → Run w b → event_steps a ≡ event_steps b → EndAlike w a b → AreCalmEvents a → AreCalmEvents b → event_notes a ≡ event_notes b
+run-one : Beginnings → (w : RunState) (a b : List Event) → Run w a → Run w b → event_steps a ≡ event_steps b → EndAlike w a b → HaveNoDryEvent a → HaveNoDryEvent b → event_notes a ≡ event_notes b
 run-one law w [] [] one two steps ends calm quiet = refl
 run-one law w [] (f ∷ b) one two steps ends calm quiet = absurd (let no : ⊥ = cc in no)
 run-one law w (e ∷ a) [] one two steps ends calm quiet = absurd (let no : ⊥ = cc in no)
@@ -171,7 +171,7 @@ run-one law w (e ∷ a) (f ∷ b) one two steps ends calm quiet =
     let notes : notes_of e ≡ notes_of f = calm-notes e calm.0 ∙ event.body ∙ sym (calm-notes f quiet.0) in
     λ i. notes i ∷ rest i
 
-pub calm-runs : Beginnings → CalmRunsAreOne
+pub calm-runs : Beginnings → RunsWithoutDryEventsAreOne
 calm-runs law publishing farm content a b = run-one law (start_of publishing farm content) a b
 
 -- ---- where streams end alike
@@ -195,7 +195,7 @@ step-ends law one w e f (step.Render pick) closed a b = tt
 step-ends law one w e f (step.Deliver pick) closed a b = tt
 step-ends law one w e f (step.Lose pick) closed a b = tt
 
-run-ends : Beginnings → OneEnd → (w : RunState) (a b : List Event) → Run w a → Run w b → event_steps a ≡ event_steps b → AreCalmEvents a → AreCalmEvents b → LeaveNoEndOpen w a → EndAlike w a b
+run-ends : Beginnings → OneEnd → (w : RunState) (a b : List Event) → Run w a → Run w b → event_steps a ≡ event_steps b → HaveNoDryEvent a → HaveNoDryEvent b → LeaveNoEndOpen w a → EndAlike w a b
 run-ends law end w [] b one two steps calm quiet closed = tt
 run-ends law end w (e ∷ a) [] one two steps calm quiet closed = tt
 run-ends law end w (e ∷ a) (f ∷ b) one two steps calm quiet closed =
@@ -206,5 +206,5 @@ run-ends law end w (e ∷ a) (f ∷ b) one two steps calm quiet closed =
     let event = step-one law w e f e.step alike calm.0 quiet.0 one.0.0 happens in
     (alike, run-ends law end (after_event w e) a b one.1 (subst (λ v. Run v b) (sym (state-one w e f same event)) two.1) more calm.1 quiet.1 closed.1)
 
-pub calm-ends : Beginnings → OneEnd → CalmStreamsEndAlike
+pub calm-ends : Beginnings → OneEnd → StreamsWithoutDryEventsEndAlike
 calm-ends law end publishing farm content a b = run-ends law end (start_of publishing farm content) a b

@@ -7,7 +7,7 @@ use Rattle.error_answers.specs.Errors.{error_answer}
 use Rattle.http_front.specs.declared.turn.Turn.{Turn}
 use Rattle.http_front.specs.declared.turn.Turn.TheVariants.{Continue, Whole}
 use Rattle.connections.specs.Slots.{Awaits, Fixed, Interim, Response, Says, Slot, interim_slot, is_awaiting, local_response}
-use Rattle.connections.specs.Connections.{filled, with_answer}
+use Rattle.connections.specs.Connections.{slots_with_landing, with_answer}
 use Rattle.front.specs.Owned.{AreEach, ByStatus, Treating}
 
 pub each-map : (P Q : Treating → Req → Response → Type 0) → ((treating : Treating) (request : Req) (response : Response) → P treating request response → Q treating request response)
@@ -78,19 +78,19 @@ local-answered n status = by_test (status == 507)
     by_test true = refl
     by_test false = refl
 
-filled-none : (n : ℕ) (a : Answer) (slots : List Slot) → slots ≡ [] → filled n a slots ≡ []
+filled-none : (n : ℕ) (a : Answer) (slots : List Slot) → slots ≡ [] → slots_with_landing n a slots ≡ []
 filled-none n a slots e = rw e refl
 
-pub length-filled : (n : ℕ) (a : Answer) (slots : List Slot) → length (filled n a slots) ≡ length slots
+pub length-filled : (n : ℕ) (a : Answer) (slots : List Slot) → length (slots_with_landing n a slots) ≡ length slots
 length-filled n a [] = refl
 length-filled n a (s ∷ slots) = by_test (is_awaiting n s.response) (length-filled n a slots)
   where
-    by_test : (b : Bool) → length (filled n a slots) ≡ length slots → length (cond b (with_answer a s ∷ slots) (s ∷ filled n a slots)) ≡ length (s ∷ slots)
+    by_test : (b : Bool) → length (slots_with_landing n a slots) ≡ length slots → length (cond b (with_answer a s ∷ slots) (s ∷ slots_with_landing n a slots)) ≡ length (s ∷ slots)
     by_test true rest = refl
     by_test false rest = omega (arith, rest)
 
 pub each-filled : (P Q : Treating → Req → Response → Type 0) (n : ℕ) (a : Answer) → ((treating : Treating) (request : Req) (response : Response) → P treating request response → Q treating request response)
-    → ((treating : Treating) (request : Req) → P treating request (Awaits n) → Q treating request (Says a)) → (treatings : List Treating) (turns : List Turn) (slots : List Slot) → AreEach P treatings turns slots → AreEach Q treatings turns (filled n a slots)
+    → ((treating : Treating) (request : Req) → P treating request (Awaits n) → Q treating request (Says a)) → (treatings : List Treating) (turns : List Turn) (slots : List Slot) → AreEach P treatings turns slots → AreEach Q treatings turns (slots_with_landing n a slots)
 each-filled P Q n a next lands treatings turns [] all = all
 each-filled P Q n a next lands treatings [] (s ∷ slots) all =
     let still : is_awaiting n s.response ≡ false = ap (is_awaiting n) all.response_is ∙ local-answered n all.status in
@@ -102,7 +102,7 @@ each-filled P Q n a next lands treatings (Continue ∷ turns) (s ∷ slots) all 
 each-filled P Q n a next lands [] (Whole r ∷ turns) (s ∷ slots) all = absurd all
 each-filled P Q n a next lands (x ∷ treatings) (Whole r ∷ turns) (s ∷ slots) all = by_test (is_awaiting n s.response) refl (each-filled P Q n a next lands treatings turns slots all.1)
   where
-    by_test : (b : Bool) → is_awaiting n s.response ≡ b → AreEach Q treatings turns (filled n a slots) → AreEach Q (x ∷ treatings) (Whole r ∷ turns) (cond (is_awaiting n s.response) (with_answer a s ∷ slots) (s ∷ filled n a slots))
+    by_test : (b : Bool) → is_awaiting n s.response ≡ b → AreEach Q treatings turns (slots_with_landing n a slots) → AreEach Q (x ∷ treatings) (Whole r ∷ turns) (cond (is_awaiting n s.response) (with_answer a s ∷ slots) (s ∷ slots_with_landing n a slots))
     by_test true e rest =
         let waits : P x r (Awaits n) = subst (P x r) (awaiting-is n s.response e) all.0 in
         rw e (lands x r waits, each-map P Q next treatings turns slots all.1)

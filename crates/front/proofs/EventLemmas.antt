@@ -12,12 +12,12 @@ use Rattle.sp_base.specs.declared.answer.Answer.{Answer}
 use Rattle.any_config.specs.declared.farm.Farm.{Farm}
 use Rattle.error_answers.specs.Errors.{error_answer}
 use Rattle.http_front.specs.Turns.{Waits}
-use Rattle.connections.specs.Connections.{fed, fresh}
-use Rattle.front.specs.Boards.{BoardTied, FirstThen, Happened, Landing, ReadAt, SettlesDry, SkyTied, event_of}
-use Rattle.front.specs.Events.{DeliverAs, DeliverTo, Event, IsWanting, LeadsNotes, LoseTo, PieceTo, SomeShowsLack, after_event, gone, going, is_any, is_picked, is_rendered, most_lines, opened, opening, picked}
-use Rattle.front.specs.Lines.{Holds}
+use Rattle.connections.specs.Connections.{with_piece, fresh}
+use Rattle.front.specs.Boards.{BoardTied, FirstThen, IsToldEvent, Landing, ReadAt, SettlesDry, SkyTied, event_of}
+use Rattle.front.specs.Events.{DeliverAs, DeliverTo, Event, IsWanting, LeadsNotes, LoseTo, PieceTo, SomeShowsLack, after_event, state_after_going, going, is_any, is_picked, is_rendered, most_lines, state_after_opening, opening, picked_flight}
+use Rattle.front.specs.Lines.{LineHolds}
 use Rattle.connections.specs.Slots.{fixed_answer}
-use Rattle.front.specs.Moves.{state_after_note, afters, Settles, answer_in, flight_at, on_line, over_with, without}
+use Rattle.front.specs.Moves.{state_after_note, state_after_notes, Settles, answer_in, flight_at, on_line, over_with, without}
 use Rattle.front.specs.States.{LogEntry, Landed, Lost as lost_entry, Passed as passed_fate, RunState, flights_asked}
 use Rattle.front.specs.declared.board.Board.{Board}
 use Rattle.front.specs.declared.flying.Flying.{Flying}
@@ -43,26 +43,26 @@ full-opening c lines full = rw full refl
 free-opening : (c lines : ℕ) → nat_le most_lines lines ≡ false → opening c lines None ≡ []
 free-opening c lines free = rw free refl
 
-full-opened : (w : RunState) (c : ℕ) (peer : List ℕ) → nat_le most_lines w.lines ≡ true → opened w c peer None ≡ w
+full-opened : (w : RunState) (c : ℕ) (peer : List ℕ) → nat_le most_lines w.lines ≡ true → state_after_opening w c peer None ≡ w
 full-opened w c peer full = rw full refl
 
-free-opened : (w : RunState) (c : ℕ) (peer : List ℕ) → nat_le most_lines w.lines ≡ false → opened w c peer None ≡ record w { line = update nat_eq w.line c (Some (fresh peer)); lines = w.lines + 1 }
+free-opened : (w : RunState) (c : ℕ) (peer : List ℕ) → nat_le most_lines w.lines ≡ false → state_after_opening w c peer None ≡ record w { line = update nat_eq w.line c (Some (fresh peer)); lines = w.lines + 1 }
 free-opened w c peer free = rw free refl
 
-pub opened-full : {farm : Farm} (b : Board) (w : RunState) (c : ℕ) (peer : List ℕ) (told : Told) → BoardTied farm b w → get nat_cmp b.lines c ≡ None → most_lines ≤ btree_map_len b.lines → told.notes.items ≡ Refused c ∷ [] → told.dry ≡ false → Happened (BoardTied farm b) w (Opened c peer) told
+pub opened-full : {farm : Farm} (b : Board) (w : RunState) (c : ℕ) (peer : List ℕ) (told : Told) → BoardTied farm b w → get nat_cmp b.lines c ≡ None → most_lines ≤ btree_map_len b.lines → told.notes.items ≡ Refused c ∷ [] → told.dry ≡ false → IsToldEvent (BoardTied farm b) w (Opened c peer) told
 opened-full {farm} b w c peer told tied absent many notes calm =
     let none : w.line c ≡ None = tied-none _ _ (tied.lines.each c) absent in
     let full : nat_le most_lines w.lines ≡ true = grind (arith, many, tied.lines.count) in
-    let state : afters (opened w c peer (w.line c)) told.notes.items ≡ w = ap (afters (opened w c peer (w.line c))) notes ∙ ap (opened w c peer) none ∙ full-opened w c peer full in
+    let state : state_after_notes (state_after_opening w c peer (w.line c)) told.notes.items ≡ w = ap (state_after_notes (state_after_opening w c peer (w.line c))) notes ∙ ap (state_after_opening w c peer) none ∙ full-opened w c peer full in
     record { turns = []; ends = Waits; happens = notes ∙ sym (ap (opening c w.lines) none ∙ full-opening c w.lines full); wanting = calm-wanting told.dry calm; stands = subst (BoardTied farm b) (sym state) tied }
 
 pub opened-new : {farm : Farm} (b : Board) (w : RunState) (c : ℕ) (peer : List ℕ) (k : Line) (lines : BTreeMap ℕ Line) (told : Told) → BoardTied farm b w → get nat_cmp b.lines c ≡ None → btree_map_len b.lines < most_lines
-    → Holds k (fresh peer) → Updates nat_cmp b.lines lines c (Some k) → btree_map_len lines ≡ btree_map_len b.lines + 1 → told.notes.items ≡ [] → told.dry ≡ false → Happened (BoardTied farm (record { lines = lines; sky = b.sky })) w (Opened c peer) told
+    → LineHolds k (fresh peer) → Updates nat_cmp b.lines lines c (Some k) → btree_map_len lines ≡ btree_map_len b.lines + 1 → told.notes.items ≡ [] → told.dry ≡ false → IsToldEvent (BoardTied farm (record { lines = lines; sky = b.sky })) w (Opened c peer) told
 opened-new {farm} b w c peer k lines told tied absent few holds updates more notes calm =
     let none : w.line c ≡ None = tied-none _ _ (tied.lines.each c) absent in
     let free : nat_le most_lines w.lines ≡ false = grind (arith, few, tied.lines.count) in
     let v : RunState = record w { line = update nat_eq w.line c (Some (fresh peer)); lines = w.lines + 1 } in
-    let state : afters (opened w c peer (w.line c)) told.notes.items ≡ v = ap (afters (opened w c peer (w.line c))) notes ∙ ap (opened w c peer) none ∙ free-opened w c peer free in
+    let state : state_after_notes (state_after_opening w c peer (w.line c)) told.notes.items ≡ v = ap (state_after_notes (state_after_opening w c peer (w.line c))) notes ∙ ap (state_after_opening w c peer) none ∙ free-opened w c peer free in
     record {
       turns = [];
       ends = Waits;
@@ -83,13 +83,13 @@ opened-new {farm} b w c peer k lines told tied absent few holds updates more not
 
 -- ---- bytes come
 pub piece-there : {farm : Farm} (b g h : Board) (w : RunState) (c : ℕ) (bytes : List ℕ) (told : Told) → BoardTied farm b w → ReadAt b g c bytes
-    → ((u : RunState) → BoardTied farm g u → SettlesDry told.dry u c told.notes.items × BoardTied farm h (afters u told.notes.items)) → Happened (BoardTied farm h) w (Piece c bytes) told
+    → ((u : RunState) → BoardTied farm g u → SettlesDry told.dry u c told.notes.items × BoardTied farm h (state_after_notes u told.notes.items)) → IsToldEvent (BoardTied farm h) w (Piece c bytes) told
 piece-there {farm} b g h w c bytes told tied read settled =
     let line = tied-some _ _ read.before (tied.lines.each c) read.before_is in
     let got = read.reads line.connection line.holds in
     let e : Event = event_of (Piece c bytes) told got.turns got.ends in
-    let v = on_line w c (fed bytes got.turns got.ends) in
-    let now : v.line c ≡ Some (fed bytes got.turns got.ends line.connection) = update_here w.line c _ ∙ ap (option_map (fed bytes got.turns got.ends)) line.open_is in
+    let v = on_line w c (with_piece bytes got.turns got.ends) in
+    let now : v.line c ≡ Some (with_piece bytes got.turns got.ends line.connection) = update_here w.line c _ ∙ ap (option_map (with_piece bytes got.turns got.ends)) line.open_is in
     let frame : Frame c w v = record { others = λ d apart. update_apart w.line c _ d apart; lines = refl } in
     let fed_tied : BoardTied farm g v = record {
       farm_is = tied.farm_is;
@@ -105,16 +105,16 @@ piece-there {farm} b g h w c bytes told tied read settled =
       stands = done.1;
     }
 
-pub piece-none : {farm : Farm} (b : Board) (w : RunState) (c : ℕ) (bytes : List ℕ) (told : Told) → BoardTied farm b w → is_some (get nat_cmp b.lines c) ≡ false → told.notes.items ≡ Idle ∷ [] → told.dry ≡ false → Happened (BoardTied farm b) w (Piece c bytes) told
+pub piece-none : {farm : Farm} (b : Board) (w : RunState) (c : ℕ) (bytes : List ℕ) (told : Told) → BoardTied farm b w → is_some (get nat_cmp b.lines c) ≡ false → told.notes.items ≡ Idle ∷ [] → told.dry ≡ false → IsToldEvent (BoardTied farm b) w (Piece c bytes) told
 piece-none {farm} b w c bytes told tied absent notes calm =
     let none : w.line c ≡ None = tied-none _ _ (tied.lines.each c) (is-none _ absent) in
     let e : Event = event_of (Piece c bytes) told [] Waits in
-    let v = on_line w c (fed bytes [] Waits) in
+    let v = on_line w c (with_piece bytes [] Waits) in
     let same : (q : ℕ) → v.line q ≡ w.line q = λ q. ⊎_elim
-    (λ at. subst (λ x. v.line x ≡ w.line x) at (update_here w.line c _ ∙ ap (option_map (fed bytes [] Waits)) none ∙ sym none))
+    (λ at. subst (λ x. v.line x ≡ w.line x) at (update_here w.line c _ ∙ ap (option_map (with_piece bytes [] Waits)) none ∙ sym none))
     (λ apart. update_apart w.line c _ q (λ x. apart (sym x)))
     (cases_eq c q) in
-    let state : after_event w e ≡ v = ap (afters v) notes in
+    let state : after_event w e ≡ v = ap (state_after_notes v) notes in
     record {
       turns = [];
       ends = Waits;
@@ -129,13 +129,13 @@ piece-none {farm} b w c bytes told tied absent notes calm =
 
 -- ---- a connection is gone
 pub gone-there : {farm : Farm} (b : Board) (w : RunState) (c : ℕ) (lines : BTreeMap ℕ Line) (o : Option Line) (told : Told) → BoardTied farm b w → is_some (get nat_cmp b.lines c) ≡ true → Updates nat_cmp b.lines lines c None
-    → o ≡ get nat_cmp b.lines c → btree_map_len lines + (if is_some o then 1 else 0) ≡ btree_map_len b.lines → told.notes.items ≡ [] → told.dry ≡ false → Happened (BoardTied farm (record { lines = lines; sky = b.sky })) w (Gone c) told
+    → o ≡ get nat_cmp b.lines c → btree_map_len lines + (if is_some o then 1 else 0) ≡ btree_map_len b.lines → told.notes.items ≡ [] → told.dry ≡ false → IsToldEvent (BoardTied farm (record { lines = lines; sky = b.sky })) w (Gone c) told
 gone-there {farm} b w c lines o told tied there updates was len notes calm =
     let some = some-of _ there in
     let fewer = one-fewer o some.0 _ _ (was ∙ some.1) len in
     let line = tied-some _ _ some.0 (tied.lines.each c) some.1 in
     let v : RunState = record w { line = update nat_eq w.line c None; lines = w.lines - 1 } in
-    let state : afters (gone w c (w.line c)) told.notes.items ≡ v = ap (afters (gone w c (w.line c))) notes ∙ ap (gone w c) line.open_is in
+    let state : state_after_notes (state_after_going w c (w.line c)) told.notes.items ≡ v = ap (state_after_notes (state_after_going w c (w.line c))) notes ∙ ap (state_after_going w c) line.open_is in
     record {
       turns = [];
       ends = Waits;
@@ -148,10 +148,10 @@ gone-there {farm} b w c lines o told tied there updates was len notes calm =
       });
     }
 
-pub gone-none : {farm : Farm} (b : Board) (w : RunState) (c : ℕ) (told : Told) → BoardTied farm b w → is_some (get nat_cmp b.lines c) ≡ false → told.notes.items ≡ Idle ∷ [] → told.dry ≡ false → Happened (BoardTied farm b) w (Gone c) told
+pub gone-none : {farm : Farm} (b : Board) (w : RunState) (c : ℕ) (told : Told) → BoardTied farm b w → is_some (get nat_cmp b.lines c) ≡ false → told.notes.items ≡ Idle ∷ [] → told.dry ≡ false → IsToldEvent (BoardTied farm b) w (Gone c) told
 gone-none {farm} b w c told tied absent notes calm =
     let none : w.line c ≡ None = tied-none _ _ (tied.lines.each c) (is-none _ absent) in
-    let state : afters (gone w c (w.line c)) told.notes.items ≡ w = ap (afters (gone w c (w.line c))) notes ∙ ap (gone w c) none in
+    let state : state_after_notes (state_after_going w c (w.line c)) told.notes.items ≡ w = ap (state_after_notes (state_after_going w c (w.line c))) notes ∙ ap (state_after_going w c) none in
     record {
       turns = [];
       ends = Waits;
@@ -176,14 +176,14 @@ flight-there : (sky : Sky) (w : RunState) (at : ℕ) (f : Flying) → SkyTied sk
 flight-there sky w at f tied here = ap (flight_at f.number) (sym tied.air) ∙ (place 0 sky.flights.items sky.asked at f tied.rising here).at
 
 picked-there : (sky : Sky) (w : RunState) (pick : Pick) (can : Flying → Bool) (at : ℕ) (f : Flying) → SkyTied sky w → position (λ flying. is_picked pick flying && can flying) sky.flights.items ≡ Some at
-    → slice_get sky.flights.items at ≡ Some f → picked pick can w.air ≡ Some f
+    → slice_get sky.flights.items at ≡ Some f → picked_flight pick can w.air ≡ Some f
 picked-there sky w pick can at f tied found here = ap (find (λ flying. is_picked pick flying && can flying)) (sym tied.air) ∙ (found-some _ _ at found).1 ∙ here
 
-pub picked-none : (sky : Sky) (w : RunState) (pick : Pick) (can : Flying → Bool) → SkyTied sky w → position (λ flying. is_picked pick flying && can flying) sky.flights.items ≡ None → picked pick can w.air ≡ None
+pub picked-none : (sky : Sky) (w : RunState) (pick : Pick) (can : Flying → Bool) → SkyTied sky w → position (λ flying. is_picked pick flying && can flying) sky.flights.items ≡ None → picked_flight pick can w.air ≡ None
 picked-none sky w pick can tied none = ap (find (λ flying. is_picked pick flying && can flying)) (sym tied.air) ∙ found-none (λ flying. is_picked pick flying && can flying) sky.flights.items none
 
 pub delivered-none : {farm : Farm} (b : Board) (w : RunState) (pick : Pick) (told : Told) → BoardTied farm b w → position (λ flying. is_picked pick flying && is_rendered flying) b.sky.flights.items ≡ None → told.notes.items ≡ Idle ∷ [] → told.dry ≡ false
-    → Happened (BoardTied farm b) w (Deliver pick) told
+    → IsToldEvent (BoardTied farm b) w (Deliver pick) told
 delivered-none {farm} b w pick told tied none notes calm =
     let e : Event = event_of (Deliver pick) told [] Waits in
     record {
@@ -191,11 +191,11 @@ delivered-none {farm} b w pick told tied none notes calm =
       ends = Waits;
       happens = subst (DeliverTo w e) (sym (picked-none b.sky w pick is_rendered tied.sky none)) notes;
       wanting = calm-wanting told.dry calm;
-      stands = subst (BoardTied farm b) (sym (ap (afters w) notes)) tied;
+      stands = subst (BoardTied farm b) (sym (ap (state_after_notes w) notes)) tied;
     }
 
 pub lost-none : {farm : Farm} (b : Board) (w : RunState) (pick : Pick) (told : Told) → BoardTied farm b w → position (λ flying. is_picked pick flying && is_any flying) b.sky.flights.items ≡ None → told.notes.items ≡ Idle ∷ [] → told.dry ≡ false
-    → Happened (BoardTied farm b) w (Lose pick) told
+    → IsToldEvent (BoardTied farm b) w (Lose pick) told
 lost-none {farm} b w pick told tied none notes calm =
     let e : Event = event_of (Lose pick) told [] Waits in
     record {
@@ -203,21 +203,21 @@ lost-none {farm} b w pick told tied none notes calm =
       ends = Waits;
       happens = subst (LoseTo w e) (sym (picked-none b.sky w pick is_any tied.sky none)) notes;
       wanting = calm-wanting told.dry calm;
-      stands = subst (BoardTied farm b) (sym (ap (afters w) notes)) tied;
+      stands = subst (BoardTied farm b) (sym (ap (state_after_notes w) notes)) tied;
     }
 
 -- a first note, and then what the connection is owed
-leads : {farm : Farm} (w v : RunState) (first : Note) (c : ℕ) (told : Told) (h : Board) → state_after_note w first ≡ v → FirstThen first farm v c told h → LeadsNotes w (record { dry = told.dry }) first c told.notes.items × BoardTied farm h (afters w told.notes.items) × IsWanting w (record { dry = told.dry }) told.notes.items
+leads : {farm : Farm} (w v : RunState) (first : Note) (c : ℕ) (told : Told) (h : Board) → state_after_note w first ≡ v → FirstThen first farm v c told h → LeadsNotes w (record { dry = told.dry }) first c told.notes.items × BoardTied farm h (state_after_notes w told.notes.items) × IsWanting w (record { dry = told.dry }) told.notes.items
 leads {farm} w v first c told h is led = (
   record { rest = led.rest; begins = led.begins; settles = subst (λ u. Settles (record { dry = told.dry }) u c led.rest) (sym is) (led.settles.0 (record { dry = told.dry }) (λ x. x)) },
-  subst (BoardTied farm h) (sym (ap (afters w) led.begins ∙ ap (λ u. afters u led.rest) is)) led.board_is,
+  subst (BoardTied farm h) (sym (ap (state_after_notes w) led.begins ∙ ap (λ u. state_after_notes u led.rest) is)) led.board_is,
   λ wanting. subst (SomeShowsLack w) (sym led.begins) (inr (subst (λ u. SomeShowsLack u led.rest) (sym is) (led.settles.1 wanting))),
 )
 
 pub delivered : {farm : Farm} (b h : Board) (sky : Sky) (w : RunState) (pick : Pick) (at : ℕ) (f : Flying) (answer : Answer) (told : Told) → BoardTied farm b w
     → position (λ flying. is_picked pick flying && is_rendered flying) b.sky.flights.items ≡ Some at → slice_get b.sky.flights.items at ≡ Some f → f.rendered ≡ Some answer
     → sky.flights.items ≡ remove b.sky.flights.items at → sky.asked ≡ b.sky.asked
-    → ((u v : RunState) → Landing farm (record { lines = b.lines; sky = sky }) u v f.line f.number answer → FirstThen (Passed f.number) farm v f.line told h) → Happened (BoardTied farm h) w (Deliver pick) told
+    → ((u v : RunState) → Landing farm (record { lines = b.lines; sky = sky }) u v f.line f.number answer → FirstThen (Passed f.number) farm v f.line told h) → IsToldEvent (BoardTied farm h) w (Deliver pick) told
 delivered {farm} b h sky w pick at f answer told tied found here rendered flights asked finished =
     let e : Event = event_of (Deliver pick) told [] Waits in
     let there = flight-there b.sky w at f tied.sky here in
@@ -245,7 +245,7 @@ delivered {farm} b h sky w pick at f answer told tied found here rendered flight
 pub lost : {farm : Farm} (b h : Board) (sky : Sky) (w : RunState) (pick : Pick) (at : ℕ) (f : Flying) (told : Told) → BoardTied farm b w
     → position (λ flying. is_picked pick flying && is_any flying) b.sky.flights.items ≡ Some at → slice_get b.sky.flights.items at ≡ Some f
     → sky.flights.items ≡ remove b.sky.flights.items at → sky.asked ≡ b.sky.asked
-    → ((u v : RunState) → Landing farm (record { lines = b.lines; sky = sky }) u v f.line f.number (error_answer 502) → FirstThen (Lost f.number) farm v f.line told h) → Happened (BoardTied farm h) w (Lose pick) told
+    → ((u v : RunState) → Landing farm (record { lines = b.lines; sky = sky }) u v f.line f.number (error_answer 502) → FirstThen (Lost f.number) farm v f.line told h) → IsToldEvent (BoardTied farm h) w (Lose pick) told
 lost {farm} b h sky w pick at f told tied found here flights asked finished =
     let e : Event = event_of (Lose pick) told [] Waits in
     let there = flight-there b.sky w at f tied.sky here in

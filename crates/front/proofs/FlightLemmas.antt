@@ -12,7 +12,7 @@ use Rattle.resource_tree.specs.Content.{Content}
 use Rattle.any_config.specs.declared.farm.Farm.{Farm}
 use Rattle.error_answers.specs.Errors.{error_answer}
 use Rattle.connections.specs.Slots.{Says, fixed_answer}
-use Rattle.connections.specs.Connections.{Connection, fed, fresh, with_landing}
+use Rattle.connections.specs.Connections.{Connection, with_piece, fresh, with_landing}
 use Rattle.connections.specs.Connections as connection
 use Rattle.connections.specs.declared.sending.Sending.{Sending}
 use Rattle.front.specs.declared.flying.Flying.{Flying}
@@ -20,9 +20,9 @@ use Rattle.front.specs.declared.note.Note.{Note}
 use Rattle.front.specs.declared.note.Note.TheVariants.{Answer as answered, Rendered, Passed, Lost, Refused, Idle}
 use Rattle.front.specs.declared.step.Step.{Step}
 use Rattle.front.specs.declared.step.Step.TheVariants as step
-use Rattle.front.specs.Events.{DeliverAs, DeliverTo, Event, HappensBy, LeadsNotes, LoseTo, PieceTo, RenderTo, Run, after_event, begun, gone, going, is_any, is_rendered, is_unrendered, most_lines, opened, opening, picked, state_after_events}
+use Rattle.front.specs.Events.{DeliverAs, DeliverTo, Event, HappensBy, LeadsNotes, LoseTo, PieceTo, RenderTo, Run, after_event, state_before_notes, state_after_going, going, is_any, is_rendered, is_unrendered, most_lines, state_after_opening, opening, picked_flight, state_after_events}
 use Rattle.front.specs.Histories.{brought_by, came_after, came_since_opened, is_idle, opens_connection, sent_after, sent_by, sent_in, sent_since_opened}
-use Rattle.front.specs.Moves.{Mood, Settles, afters, answer_in, flight_at, on_line, over_with, state_after_note, without}
+use Rattle.front.specs.Moves.{Mood, Settles, state_after_notes, answer_in, flight_at, on_line, over_with, state_after_note, without}
 use Rattle.front.specs.Owned.{AnswersAreOwn, AreOwnAnswers, IsOfFlight, IsOfRequest, Outcomes, Treating, WasLost, WasRendered, treated_after, treated_since_opened, losses_of, lost_in, treated_by, treated_in}
 use Rattle.front.specs.Publishers.{Publishing}
 use Rattle.front.specs.Renders.{rendering_of, renders_in, renders_of}
@@ -47,22 +47,22 @@ own-came w c outcomes treatings came more sent none own = subst (λ xs. Own w c 
 
 -- ---- what a connection is owed
 settles-own : (m : Mood) (w : RunState) (c d : ℕ) (outcomes : Outcomes) (treatings : List Treating) (came : List ℕ) (sent : List Sending) (notes : List Note) → Held w c came sent → Numbered w → Own w c outcomes treatings came sent → Settles m w d notes
-    → Own (afters w notes) c outcomes (treatings ++ treated_in c notes) came (sent ++ sent_in c m notes)
+    → Own (state_after_notes w notes) c outcomes (treatings ++ treated_in c notes) came (sent ++ sent_in c m notes)
 settles-own m w c d outcomes treatings came sent notes held numbered own settles = ⊎_elim here there (cases_eq d c)
   where
-    here : d ≡ c → Own (afters w notes) c outcomes (treatings ++ treated_in c notes) came (sent ++ sent_in c m notes)
+    here : d ≡ c → Own (state_after_notes w notes) c outcomes (treatings ++ treated_in c notes) came (sent ++ sent_in c m notes)
     here same =
         let at : Settles m w c notes = subst (λ x. Settles m w x notes) same settles in
         serves-owns m w c outcomes treatings came sent notes held numbered own at.serves
 
-    there : d ≢ c → Own (afters w notes) c outcomes (treatings ++ treated_in c notes) came (sent ++ sent_in c m notes)
+    there : d ≢ c → Own (state_after_notes w notes) c outcomes (treatings ++ treated_in c notes) came (sent ++ sent_in c m notes)
     there apart =
         let other : c ≢ d = λ e. apart (sym e) in
         let kept = serves-apart m w c d notes other settles.serves in
         let elsewhere = serves-elsewhere m w c d outcomes notes other numbered own.air_is settles.serves in
-        own-as (afters w notes) c outcomes treatings (treatings ++ treated_in c notes) came sent (sent ++ sent_in c m notes)
+        own-as (state_after_notes w notes) c outcomes treatings (treatings ++ treated_in c notes) came sent (sent ++ sent_in c m notes)
         (sym (append-nil treatings) ∙ ap (λ fs. treatings ++ fs) (sym elsewhere.none)) (sym (append-nil sent) ∙ ap (λ xs. sent ++ xs) (sym kept.none))
-        (own-moved w (afters w notes) c outcomes outcomes treatings came sent kept.line elsewhere.moves own)
+        (own-moved w (state_after_notes w notes) c outcomes outcomes treatings came sent kept.line elsewhere.moves own)
 
 -- nothing is owed
 own-quiet : (w : RunState) (c : ℕ) (outcomes : Outcomes) (treatings : List Treating) (came : List ℕ) (sent : List Sending) → Own w c outcomes treatings came sent → Own w c outcomes (treatings ++ []) (came ++ []) (sent ++ [])
@@ -73,15 +73,15 @@ abbrev pub then_treated : ℕ → List Treating → Event → Step → List Trea
 then_treated c treatings e s = if opens_connection c s e.body then [] else treatings ++ treated_in c e.body
 
 abbrev OwnBy : RunState → Event → ℕ → Outcomes → List Treating → List ℕ → List Sending → Step → Type 0
-OwnBy v e c outcomes treatings came sent s = Own (afters v e.body) c outcomes (then_treated c treatings e s) (then_came c came e s) (then_sent c sent e s)
+OwnBy v e c outcomes treatings came sent s = Own (state_after_notes v e.body) c outcomes (then_treated c treatings e s) (then_came c came e s) (then_sent c sent e s)
 
 idle-own : (m : Mood) (v : RunState) (c : ℕ) (outcomes : Outcomes) (treatings : List Treating) (came more : List ℕ) (sent : List Sending) (notes : List Note) → Own v c outcomes treatings came sent → more ≡ [] → notes ≡ Idle ∷ []
-    → Own (afters v notes) c outcomes (treatings ++ treated_in c notes) (came ++ more) (sent ++ sent_in c m notes)
+    → Own (state_after_notes v notes) c outcomes (treatings ++ treated_in c notes) (came ++ more) (sent ++ sent_in c m notes)
 idle-own m v c outcomes treatings came more sent notes own none is =
     rw is (own-came v c outcomes (treatings ++ []) came more (sent ++ []) none (own-as v c outcomes treatings (treatings ++ []) came sent (sent ++ []) (sym (append-nil treatings)) (sym (append-nil sent)) own))
 
 opened-own : (w : RunState) (e : Event) (c d : ℕ) (peer : List ℕ) (outcomes : Outcomes) (treatings : List Treating) (came : List ℕ) (sent : List Sending) (at : Option Connection) → Own w c outcomes treatings came sent → e.body ≡ opening d w.lines at
-    → OwnBy (opened w d peer at) e c outcomes treatings came sent (step.Opened d peer)
+    → OwnBy (state_after_opening w d peer at) e c outcomes treatings came sent (step.Opened d peer)
 opened-own w e c d peer outcomes treatings came sent (Some k) own is = rw is (own-quiet w c outcomes treatings came sent own)
 opened-own w e c d peer outcomes treatings came sent None own is = by_room (nat_le most_lines w.lines) is
   where
@@ -109,15 +109,15 @@ opened-own w e c d peer outcomes treatings came sent None own is = by_room (nat_
     by_room false is = free is
 
 piece-own : (w : RunState) (e : Event) (c d : ℕ) (bytes : List ℕ) (outcomes : Outcomes) (treatings : List Treating) (came : List ℕ) (sent : List Sending) (at : Option Connection) → w.line d ≡ at → Kept w c came sent → Own w c outcomes treatings came sent
-    → PieceTo w e d bytes at → Own (afters (on_line w d (fed bytes e.turns e.ends)) e.body) c outcomes (treatings ++ treated_in c e.body) (came ++ brought_by c (step.Piece d bytes) e.body) (sent ++ sent_in c e.mood e.body)
+    → PieceTo w e d bytes at → Own (state_after_notes (on_line w d (with_piece bytes e.turns e.ends)) e.body) c outcomes (treatings ++ treated_in c e.body) (came ++ brought_by c (step.Piece d bytes) e.body) (sent ++ sent_in c e.mood e.body)
 piece-own w e c d bytes outcomes treatings came sent None line kept own is = idle-own e.mood v c outcomes treatings came (brought_by c (step.Piece d bytes) e.body) sent e.body now (piece-idle c d bytes e.body is) is
   where
     v : RunState
-    v = on_line w d (fed bytes e.turns e.ends)
+    v = on_line w d (with_piece bytes e.turns e.ends)
 
     same : v.line c ≡ w.line c
     same = ⊎_elim
-        (λ x. subst (λ y. v.line y ≡ w.line y) x (update_here w.line d _ ∙ ap (option_map (fed bytes e.turns e.ends)) line ∙ sym line))
+        (λ x. subst (λ y. v.line y ≡ w.line y) x (update_here w.line d _ ∙ ap (option_map (with_piece bytes e.turns e.ends)) line ∙ sym line))
         (λ other. update_apart w.line d _ c (λ x. other (sym x)))
         (cases_eq d c)
 
@@ -127,7 +127,7 @@ piece-own w e c d bytes outcomes treatings came sent (Some k) line kept own feed
     settles-own e.mood v c d outcomes treatings all sent e.body (piece-read w e c d bytes came sent k busy line feeds.spells kept.held) kept.numbered (⊎_elim here apart (cases_eq d c)) feeds.settles
   where
     v : RunState
-    v = on_line w d (fed bytes e.turns e.ends)
+    v = on_line w d (with_piece bytes e.turns e.ends)
 
     all : List ℕ
     all = came ++ brought_by c (step.Piece d bytes) e.body
@@ -140,11 +140,11 @@ piece-own w e c d bytes outcomes treatings came sent (Some k) line kept own feed
 
     here : d ≡ c → Own v c outcomes treatings all sent
     here x =
-        let now : v.line d ≡ Some (fed bytes e.turns e.ends k) = update_here w.line d _ ∙ ap (option_map (fed bytes e.turns e.ends)) line in
+        let now : v.line d ≡ Some (with_piece bytes e.turns e.ends k) = update_here w.line d _ ∙ ap (option_map (with_piece bytes e.turns e.ends)) line in
         let before : Owns w outcomes treatings k = own.here k (sym (ap w.line x) ∙ line) in
-        let fed_owns : Owns w outcomes treatings (fed bytes e.turns e.ends k) = owns-fed w outcomes treatings bytes e.turns e.ends k before in
-        let owns : Owns v outcomes treatings (fed bytes e.turns e.ends k) = record { each = fed_owns.each; room = fed_owns.room } in
-        own-one v c outcomes treatings all sent (fed bytes e.turns e.ends k) (subst (λ y. v.line y ≡ Some (fed bytes e.turns e.ends k)) x now) owns own.air_is
+        let fed_owns : Owns w outcomes treatings (with_piece bytes e.turns e.ends k) = owns-fed w outcomes treatings bytes e.turns e.ends k before in
+        let owns : Owns v outcomes treatings (with_piece bytes e.turns e.ends k) = record { each = fed_owns.each; room = fed_owns.room } in
+        own-one v c outcomes treatings all sent (with_piece bytes e.turns e.ends k) (subst (λ y. v.line y ≡ Some (with_piece bytes e.turns e.ends k)) x now) owns own.air_is
 
     apart : d ≢ c → Own v c outcomes treatings all sent
     apart other =
@@ -152,7 +152,7 @@ piece-own w e c d bytes outcomes treatings came sent (Some k) line kept own feed
         own-came v c outcomes treatings came (brought_by c (step.Piece d bytes) e.body) sent (rw (busy, test) refl) (own-moved w v c outcomes outcomes treatings came sent (update_apart w.line d _ c (λ x. other (sym x))) moves own)
 
 gone-own : (w : RunState) (e : Event) (c d : ℕ) (outcomes : Outcomes) (treatings : List Treating) (came : List ℕ) (sent : List Sending) (at : Option Connection) → w.line d ≡ at → Kept w c came sent → Own w c outcomes treatings came sent → e.body ≡ going at
-    → Own (afters (gone w d at) e.body) c outcomes (treatings ++ treated_in c e.body) (came ++ []) (sent ++ sent_in c e.mood e.body)
+    → Own (state_after_notes (state_after_going w d at) e.body) c outcomes (treatings ++ treated_in c e.body) (came ++ []) (sent ++ sent_in c e.mood e.body)
 gone-own w e c d outcomes treatings came sent None line kept own is = idle-own e.mood w c outcomes treatings came [] sent e.body own refl is
 gone-own w e c d outcomes treatings came sent (Some k) line kept own is = rw is (own-came v c outcomes (treatings ++ []) came [] (sent ++ []) refl (⊎_elim same apart (cases_eq d c)))
   where
@@ -178,18 +178,18 @@ leads-own : (m : Mood) (w : RunState) (first : Note) (c : ℕ) (outcomes all : O
     → Own w c outcomes treatings came sent → state_after_note w first ≡ over_with w f.number answer entry (Some f) → flights_asked (entry ∷ w.log.entries) ≡ flights_asked w.log.entries → sent_by c m first ≡ [] → treated_by c first ≡ []
     → Moved w.air (flights_asked w.log.entries) outcomes (without f.number w.air) (flights_asked w.log.entries) all
     → ((k : ℕ) (request : Req) → f.number ≡ k → IsAskedFor w.air (flights_asked w.log.entries) k request → IsOfFlight all k request (Says answer)) → LeadsNotes w m first f.line notes
-    → Own (afters w notes) c all (treatings ++ treated_in c notes) (came ++ []) (sent ++ sent_in c m notes)
+    → Own (state_after_notes w notes) c all (treatings ++ treated_in c notes) (came ++ []) (sent ++ sent_in c m notes)
 leads-own m w first c outcomes all treatings came sent f answer entry notes kept own is same unsent untreated flies good leads =
     let settles : Settles m v f.line leads.rest = subst (λ u. Settles m u f.line leads.rest) is leads.settles in
     let numbered : Numbered v = over-numbered w f.number answer entry (Some f) same kept.numbered in
     let held : Held v c came sent = over-held w c came sent f answer entry kept.held in
     let done = settles-own m v c f.line all treatings came sent leads.rest held numbered (⊎_elim (here (w.line f.line) refl) apart (cases_eq f.line c)) settles in
-    let state : afters v leads.rest ≡ afters w notes = sym (ap (afters w) leads.begins ∙ ap (λ u. afters u leads.rest) is) in
+    let state : state_after_notes v leads.rest ≡ state_after_notes w notes = sym (ap (state_after_notes w) leads.begins ∙ ap (λ u. state_after_notes u leads.rest) is) in
     let told : sent_in c m leads.rest ≡ sent_in c m notes = ap (λ xs. xs ++ sent_in c m leads.rest) (sym unsent) ∙ sym (ap (sent_in c m) leads.begins) in
     let asked : treated_in c leads.rest ≡ treated_in c notes = ap (λ xs. xs ++ treated_in c leads.rest) (sym untreated) ∙ sym (ap (treated_in c) leads.begins) in
-    own-came (afters w notes) c all (treatings ++ treated_in c notes) came [] (sent ++ sent_in c m notes) refl
+    own-came (state_after_notes w notes) c all (treatings ++ treated_in c notes) came [] (sent ++ sent_in c m notes) refl
     (subst (λ u. Own u c all (treatings ++ treated_in c notes) came (sent ++ sent_in c m notes)) state
-    (own-as (afters v leads.rest) c all (treatings ++ treated_in c leads.rest) (treatings ++ treated_in c notes) came (sent ++ sent_in c m leads.rest) (sent ++ sent_in c m notes) (ap (λ xs. treatings ++ xs) asked) (ap (λ xs. sent ++ xs) told) done))
+    (own-as (state_after_notes v leads.rest) c all (treatings ++ treated_in c leads.rest) (treatings ++ treated_in c notes) came (sent ++ sent_in c m leads.rest) (sent ++ sent_in c m notes) (ap (λ xs. treatings ++ xs) asked) (ap (λ xs. sent ++ xs) told) done))
   where
     v : RunState
     v = over_with w f.number answer entry (Some f)
@@ -213,7 +213,7 @@ leads-own m w first c outcomes all treatings came sent f answer entry notes kept
     apart other = own-moved w v c outcomes all treatings came sent (update_apart w.line f.line _ c (λ x. other (sym x))) moves own
 
 deliver-own : (w : RunState) (e : Event) (c : ℕ) (outcomes : Outcomes) (treatings : List Treating) (came : List ℕ) (sent : List Sending) (f : Flying) (answer : Option Answer) → f.rendered ≡ answer → flight_at f.number w.air ≡ Some f → Kept w c came sent
-    → Own w c outcomes treatings came sent → DeliverAs w e f answer → Own (afters w e.body) c outcomes (treatings ++ treated_in c e.body) (came ++ []) (sent ++ sent_in c e.mood e.body)
+    → Own w c outcomes treatings came sent → DeliverAs w e f answer → Own (state_after_notes w e.body) c outcomes (treatings ++ treated_in c e.body) (came ++ []) (sent ++ sent_in c e.mood e.body)
 deliver-own w e c outcomes treatings came sent f None has there kept own is = idle-own e.mood w c outcomes treatings came [] sent e.body own refl is
 deliver-own w e c outcomes treatings came sent f (Some answer) has there kept own to =
     let leads : LeadsNotes w e.mood (Passed f.number) f.line e.body = subst (λ note. LeadsNotes w e.mood note f.line e.body) to.1 to.2 in
@@ -230,7 +230,7 @@ deliver-own w e c outcomes treatings came sent f (Some answer) has there kept ow
         subst (λ a. IsOfFlight outcomes k request (Says a)) (sym given) (inl (subst (λ r. WasRendered outcomes.renders k r answer) (asked.same f here) was, flying-unlost outcomes w.air (flights_asked w.log.entries) k f own.air_is here))
 
 delivers-own : (w : RunState) (e : Event) (c : ℕ) (outcomes : Outcomes) (treatings : List Treating) (came : List ℕ) (sent : List Sending) (flying : Option Flying) → ((f : Flying) → flying ≡ Some f → flight_at f.number w.air ≡ Some f) → Kept w c came sent
-    → Own w c outcomes treatings came sent → DeliverTo w e flying → Own (afters w e.body) c outcomes (treatings ++ treated_in c e.body) (came ++ []) (sent ++ sent_in c e.mood e.body)
+    → Own w c outcomes treatings came sent → DeliverTo w e flying → Own (state_after_notes w e.body) c outcomes (treatings ++ treated_in c e.body) (came ++ []) (sent ++ sent_in c e.mood e.body)
 delivers-own w e c outcomes treatings came sent None there kept own is = idle-own e.mood w c outcomes treatings came [] sent e.body own refl is
 delivers-own w e c outcomes treatings came sent (Some f) there kept own to = deliver-own w e c outcomes treatings came sent f f.rendered refl (there f refl) kept own to
 
@@ -242,10 +242,10 @@ losses-none outcomes = ap (λ ns. record { renders = outcomes.renders; losses = 
 
 -- the flight that is lost in the event is among those that were
 loses-own : (w : RunState) (e : Event) (c : ℕ) (outcomes : Outcomes) (treatings : List Treating) (came : List ℕ) (sent : List Sending) (flying : Option Flying) → ((f : Flying) → flying ≡ Some f → flight_at f.number w.air ≡ Some f) → Kept w c came sent
-    → Own w c outcomes treatings came sent → LoseTo w e flying → Own (afters w e.body) c (with_losses outcomes (lost_in e.body)) (treatings ++ treated_in c e.body) (came ++ []) (sent ++ sent_in c e.mood e.body)
+    → Own w c outcomes treatings came sent → LoseTo w e flying → Own (state_after_notes w e.body) c (with_losses outcomes (lost_in e.body)) (treatings ++ treated_in c e.body) (came ++ []) (sent ++ sent_in c e.mood e.body)
 loses-own w e c outcomes treatings came sent None there kept own is =
     let none : with_losses outcomes (lost_in e.body) ≡ outcomes = ap (λ notes. with_losses outcomes (lost_in notes)) is ∙ losses-none outcomes in
-    subst (λ os. Own (afters w e.body) c os (treatings ++ treated_in c e.body) (came ++ []) (sent ++ sent_in c e.mood e.body)) (sym none) (idle-own e.mood w c outcomes treatings came [] sent e.body own refl is)
+    subst (λ os. Own (state_after_notes w e.body) c os (treatings ++ treated_in c e.body) (came ++ []) (sent ++ sent_in c e.mood e.body)) (sym none) (idle-own e.mood w c outcomes treatings came [] sent e.body own refl is)
 loses-own w e c outcomes treatings came sent (Some f) there kept own to =
     let at = there f refl in
     let all : Outcomes = with_losses outcomes (f.number ∷ []) in
@@ -254,14 +254,14 @@ loses-own w e c outcomes treatings came sent (Some f) there kept own to =
     let good : (k : ℕ) (request : Req) → f.number ≡ k → IsAskedFor w.air (flights_asked w.log.entries) k request → IsOfFlight all k request (Says (error_answer 502)) =
     λ k request same asked. inr (subst (WasLost all.losses) same (record { before = outcomes.losses; later = []; is = refl }), refl) in
     let done = leads-own e.mood w (Lost f.number) c outcomes all treatings came sent f (error_answer 502) _ e.body kept own (ap (over_with w f.number _ _) at) refl refl refl moves good to in
-    subst (λ ns. Own (afters w e.body) c (with_losses outcomes ns) (treatings ++ treated_in c e.body) (came ++ []) (sent ++ sent_in c e.mood e.body)) (sym told) done
+    subst (λ ns. Own (state_after_notes w e.body) c (with_losses outcomes ns) (treatings ++ treated_in c e.body) (came ++ []) (sent ++ sent_in c e.mood e.body)) (sym told) done
 
 -- what is rendered in the event is among what was rendered
 render-own : (w : RunState) (e : Event) (c : ℕ) (outcomes : Outcomes) (treatings : List Treating) (came : List ℕ) (sent : List Sending) (flying : Option Flying) → ((f : Flying) → flying ≡ Some f → flight_at f.number w.air ≡ Some f)
-    → Own w c outcomes treatings came sent → RenderTo w e flying → Own (afters w e.body) c (with_renders outcomes (renders_in w e.mood.dry e.body)) (treatings ++ treated_in c e.body) (came ++ []) (sent ++ sent_in c e.mood e.body)
+    → Own w c outcomes treatings came sent → RenderTo w e flying → Own (state_after_notes w e.body) c (with_renders outcomes (renders_in w e.mood.dry e.body)) (treatings ++ treated_in c e.body) (came ++ []) (sent ++ sent_in c e.mood e.body)
 render-own w e c outcomes treatings came sent None there own is =
     let none : with_renders outcomes (renders_in w e.mood.dry e.body) ≡ outcomes = ap (λ notes. with_renders outcomes (renders_in w e.mood.dry notes)) is ∙ renders-none outcomes in
-    subst (λ rs. Own (afters w e.body) c rs (treatings ++ treated_in c e.body) (came ++ []) (sent ++ sent_in c e.mood e.body)) (sym none) (idle-own e.mood w c outcomes treatings came [] sent e.body own refl is)
+    subst (λ rs. Own (state_after_notes w e.body) c rs (treatings ++ treated_in c e.body) (came ++ []) (sent ++ sent_in c e.mood e.body)) (sym none) (idle-own e.mood w c outcomes treatings came [] sent e.body own refl is)
 render-own w e c outcomes treatings came sent (Some f) there own to =
     let at = there f refl in
     let told : renders_in w e.mood.dry (Rendered f.number to.0 ∷ []) ≡ record { number = f.number; request = f.request; answer = to.0; dry = e.mood.dry } ∷ [] = ap (λ o. rendering_of to.0 e.mood.dry o ++ []) at in
@@ -271,30 +271,30 @@ render-own w e c outcomes treatings came sent (Some f) there own to =
     rw (to.2, told) (own-quiet v c _ treatings came sent now)
 
 direct-own : (w : RunState) (e : Event) (c : ℕ) (outcomes : Outcomes) (treatings : List Treating) (came : List ℕ) (sent : List Sending) (answer : Answer) → Own w c outcomes treatings came sent → e.body ≡ answered answer ∷ []
-    → Own (afters w e.body) c outcomes (treatings ++ treated_in c e.body) (came ++ []) (sent ++ sent_in c e.mood e.body)
+    → Own (state_after_notes w e.body) c outcomes (treatings ++ treated_in c e.body) (came ++ []) (sent ++ sent_in c e.mood e.body)
 direct-own w e c outcomes treatings came sent answer own is = rw is (own-quiet w c outcomes treatings came sent own)
 
 -- what became of flights, after the event
 abbrev outcomes_then : RunState → Event → Step → Outcomes → Outcomes
-outcomes_then w e s outcomes = with_renders (with_losses outcomes (lost_in e.body)) (renders_in (begun w e s) e.mood.dry e.body)
+outcomes_then w e s outcomes = with_renders (with_losses outcomes (lost_in e.body)) (renders_in (state_before_notes w e s) e.mood.dry e.body)
 
 abbrev OwnThen : RunState → Event → ℕ → Outcomes → List Treating → List ℕ → List Sending → Step → Type 0
-OwnThen w e c outcomes treatings came sent s = OwnBy (begun w e s) e c (outcomes_then w e s outcomes) treatings came sent s
+OwnThen w e c outcomes treatings came sent s = OwnBy (state_before_notes w e s) e c (outcomes_then w e s outcomes) treatings came sent s
 
 -- an event in which no flight is rendered, by what was lost in it
-unrendered-own : (w : RunState) (e : Event) (c : ℕ) (outcomes : Outcomes) (treatings : List Treating) (came : List ℕ) (sent : List Sending) (s : Step) → IsStillStep s → HappensBy w e s → OwnBy (begun w e s) e c (with_losses outcomes (lost_in e.body)) treatings came sent s
+unrendered-own : (w : RunState) (e : Event) (c : ℕ) (outcomes : Outcomes) (treatings : List Treating) (came : List ℕ) (sent : List Sending) (s : Step) → IsStillStep s → HappensBy w e s → OwnBy (state_before_notes w e s) e c (with_losses outcomes (lost_in e.body)) treatings came sent s
     → OwnThen w e c outcomes treatings came sent s
 unrendered-own w e c outcomes treatings came sent s still happens own =
     let lost : Outcomes = with_losses outcomes (lost_in e.body) in
-    let none : with_renders lost (renders_in (begun w e s) e.mood.dry e.body) ≡ lost = ap (with_renders lost) (still-renders (begun w e s) e.mood.dry e.body (step-still w e s still happens)) ∙ renders-none lost in
-    subst (λ os. OwnBy (begun w e s) e c os treatings came sent s) (sym none) own
+    let none : with_renders lost (renders_in (state_before_notes w e s) e.mood.dry e.body) ≡ lost = ap (with_renders lost) (still-renders (state_before_notes w e s) e.mood.dry e.body (step-still w e s still happens)) ∙ renders-none lost in
+    subst (λ os. OwnBy (state_before_notes w e s) e c os treatings came sent s) (sym none) own
 
 -- one in which none is lost either
-still-own : (w : RunState) (e : Event) (c : ℕ) (outcomes : Outcomes) (treatings : List Treating) (came : List ℕ) (sent : List Sending) (s : Step) → IsStillStep s → IsKeepingStep s → HappensBy w e s → OwnBy (begun w e s) e c outcomes treatings came sent s
+still-own : (w : RunState) (e : Event) (c : ℕ) (outcomes : Outcomes) (treatings : List Treating) (came : List ℕ) (sent : List Sending) (s : Step) → IsStillStep s → IsKeepingStep s → HappensBy w e s → OwnBy (state_before_notes w e s) e c outcomes treatings came sent s
     → OwnThen w e c outcomes treatings came sent s
 still-own w e c outcomes treatings came sent s still keeps happens own =
     let none : with_losses outcomes (lost_in e.body) ≡ outcomes = ap (with_losses outcomes) (step-lost w e s keeps happens) ∙ losses-none outcomes in
-    unrendered-own w e c outcomes treatings came sent s still happens (subst (λ os. OwnBy (begun w e s) e c os treatings came sent s) (sym none) own)
+    unrendered-own w e c outcomes treatings came sent s still happens (subst (λ os. OwnBy (state_before_notes w e s) e c os treatings came sent s) (sym none) own)
 
 step-own : (w : RunState) (e : Event) (c : ℕ) (outcomes : Outcomes) (treatings : List Treating) (came : List ℕ) (sent : List Sending) (s : Step) → Kept w c came sent → Own w c outcomes treatings came sent → HappensBy w e s → OwnThen w e c outcomes treatings came sent s
 step-own w e c outcomes treatings came sent (step.Opened d peer) kept own is = still-own w e c outcomes treatings came sent (step.Opened d peer) tt tt is (opened-own w e c d peer outcomes treatings came sent (w.line d) own is)
@@ -304,11 +304,11 @@ step-own w e c outcomes treatings came sent (step.Direct target) kept own to = s
 step-own w e c outcomes treatings came sent (step.Render pick) kept own to =
     let none : with_losses outcomes (lost_in e.body) ≡ outcomes = ap (with_losses outcomes) (step-lost w e (step.Render pick) tt to) ∙ losses-none outcomes in
     subst (λ os. OwnBy w e c (with_renders os (renders_in w e.mood.dry e.body)) treatings came sent (step.Render pick)) (sym none)
-    (render-own w e c outcomes treatings came sent (picked pick is_unrendered w.air) (λ f found. picked-at w _ f kept.numbered found) own to)
+    (render-own w e c outcomes treatings came sent (picked_flight pick is_unrendered w.air) (λ f found. picked-at w _ f kept.numbered found) own to)
 step-own w e c outcomes treatings came sent (step.Deliver pick) kept own to =
-    still-own w e c outcomes treatings came sent (step.Deliver pick) tt tt to (delivers-own w e c outcomes treatings came sent (picked pick is_rendered w.air) (λ f found. picked-at w _ f kept.numbered found) kept own to)
+    still-own w e c outcomes treatings came sent (step.Deliver pick) tt tt to (delivers-own w e c outcomes treatings came sent (picked_flight pick is_rendered w.air) (λ f found. picked-at w _ f kept.numbered found) kept own to)
 step-own w e c outcomes treatings came sent (step.Lose pick) kept own to =
-    unrendered-own w e c outcomes treatings came sent (step.Lose pick) tt to (loses-own w e c outcomes treatings came sent (picked pick is_any w.air) (λ f found. picked-at w _ f kept.numbered found) kept own to)
+    unrendered-own w e c outcomes treatings came sent (step.Lose pick) tt to (loses-own w e c outcomes treatings came sent (picked_flight pick is_any w.air) (λ f found. picked-at w _ f kept.numbered found) kept own to)
 
 -- ---- a run
 abbrev outcomes_after : Outcomes → RunState → List Event → Outcomes
@@ -316,7 +316,7 @@ outcomes_after outcomes w events = record { renders = outcomes.renders ++ render
 
 outcomes-more : (outcomes : Outcomes) (w : RunState) (e : Event) (events : List Event) → outcomes_after (outcomes_then w e e.step outcomes) (after_event w e) events ≡ outcomes_after outcomes w (e ∷ events)
 outcomes-more outcomes w e events =
-    ap (λ rs. record { renders = rs; losses = (outcomes.losses ++ lost_in e.body) ++ losses_of events }) (append_assoc outcomes.renders (renders_in (begun w e e.step) e.mood.dry e.body) (renders_of (after_event w e) events))
+    ap (λ rs. record { renders = rs; losses = (outcomes.losses ++ lost_in e.body) ++ losses_of events }) (append_assoc outcomes.renders (renders_in (state_before_notes w e e.step) e.mood.dry e.body) (renders_of (after_event w e) events))
     ∙ ap (λ ns. record { renders = outcomes.renders ++ renders_of w (e ∷ events); losses = ns }) (append_assoc outcomes.losses (lost_in e.body) (losses_of events))
 
 outcomes-none : (outcomes : Outcomes) (w : RunState) → outcomes_after outcomes w [] ≡ outcomes

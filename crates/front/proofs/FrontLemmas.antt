@@ -11,12 +11,12 @@ use Rattle.dispatch_rules.specs.Asking.{publisher_ask}
 use Rattle.http_front.specs.Turns.{Waits}
 use Rattle.connections.specs.Connections.{Connection}
 use Rattle.front.specs.Boards.{BoardTells, NotesGiven, Meets, ReadAt, ServedAs, SkyTied, event_of}
-use Rattle.front.specs.Events.{Event, Extends, IsOrFixed, RenderTo, SomeShowsLack, is_picked, is_unrendered, mood_notes, picked}
+use Rattle.front.specs.Events.{Event, Extends, IsOrFixed, RenderTo, SomeShowsLack, is_picked, is_unrendered, mood_notes, picked_flight}
 use Rattle.front.specs.Fronts.{IsGiven, BoardStands, TellsStep}
-use Rattle.front.specs.Lines.{Holds, LineReads}
-use Rattle.front.specs.Moves.{Mood, Serves, state_after_note, afters, content_rendered, flight_at, published_for, with_rendered, with_rendered_at}
+use Rattle.front.specs.Lines.{LineHolds, LineReads}
+use Rattle.front.specs.Moves.{Mood, Serves, state_after_note, state_after_notes, content_rendered, flight_at, published_for, with_rendered, with_rendered_at}
 use Rattle.connections.specs.Slots.{fixed_answer}
-use Rattle.front.specs.Publishers.{Published, Publishing, direct_answer}
+use Rattle.front.specs.Publishers.{Publication, Publishing, direct_answer}
 use Rattle.front.specs.States.{RunState}
 use Rattle.front.specs.declared.board.Board.{Board}
 use Rattle.front.specs.declared.flying.Flying.{Flying}
@@ -40,7 +40,7 @@ ok-map (Err e) p f = tt
 
 -- ---- a line that is there reads
 pub read-at : (b : Board) (lines : BTreeMap ℕ Line) (c : ℕ) (bytes : List ℕ) (k j : Line) → Some k ≡ get nat_cmp b.lines c → WritesThrough nat_cmp (nat_cmp c) b.lines j lines
-    → ((m : Connection) → Holds k m → LineReads bytes m j) → ReadAt b (record { lines = lines; sky = b.sky }) c bytes
+    → ((m : Connection) → LineHolds k m → LineReads bytes m j) → ReadAt b (record { lines = lines; sky = b.sky }) c bytes
 read-at b lines c bytes k j here writes reads =
     let updates = writes.3 (some-there _ k (sym here)) in
     record {
@@ -73,12 +73,12 @@ given-none told w c k sky none calm meets = rw none (record { serves = λ m allo
 pub given-more : {farm : Farm} (told next : Told) (w : RunState) (c : ℕ) (k j : Line) (sky new : Sky) (note : Note) (dry : Bool) → NotesGiven told.dry told.notes.items farm w c k sky
     → ((u : RunState) → Meets farm u c k sky → ServedAs (Said note dry) farm u c j new) → next.notes.items ≡ told.notes.items ++ note ∷ [] → next.dry ≡ (told.dry || dry) → NotesGiven next.dry next.notes.items farm w c j new
 given-more {farm} told next w c k j sky new note dry given served notes dried =
-    let one = served (afters w told.notes.items) given.meets in
+    let one = served (state_after_notes w told.notes.items) given.meets in
     record {
       serves = λ m allows. subst (Serves m w c) (sym notes)
           (serves-push m w c told.notes.items note (given.serves m (λ is. allows (sym-true (or-left told.dry dry is)))) (one.0.0 m (λ is. allows (sym-true (or-right told.dry dry is)))));
       wanting = λ is. subst (SomeShowsLack w) (sym notes) (shows-push w told.notes.items note (or-either told.dry dry given.wanting one.0.1 (sym dried ∙ is)));
-      meets = subst (λ u. Meets farm u c j new) (sym (ap (afters w) notes ∙ afters-push w told.notes.items note)) one.1;
+      meets = subst (λ u. Meets farm u c j new) (sym (ap (state_after_notes w) notes ∙ afters-push w told.notes.items note)) one.1;
     }
   where
     sym-true : IsTrue (told.dry || dry) → IsTrue next.dry
@@ -104,7 +104,7 @@ direct-event p content later farm other b h target answer dry told same_content 
       ends = Waits;
       happens = (answer, or, notes);
       wanting = λ dry. subst (SomeShowsLack w) (sym notes) (inl (fixed-wanting (record { dry = told.dry }) answer _ or dry));
-      stands = subst (BoardStands p later other h) (sym (ap (afters w) notes)) (record {
+      stands = subst (BoardStands p later other h) (sym (ap (state_after_notes w) notes)) (record {
         publishing_is = stands.publishing_is;
         content_is = stands.content_is ∙ sym same_content;
         board_is = rw (same_farm, same_board) stands.board_is;
@@ -116,13 +116,13 @@ pub render-none : (p : Publishing) (content : Content) (farm : Farm) (b : Board)
     → TellsStep (BoardStands p content farm b) (BoardStands p content farm b) (Render pick) told
 render-none p content farm b pick told none notes calm = λ w stands.
     let e : Event = event_of (Render pick) told [] Waits in
-    let no : picked pick is_unrendered w.air ≡ None = ap (picked pick is_unrendered) (sym stands.board_is.sky.air) ∙ found-none (λ flying. is_picked pick flying && is_unrendered flying) b.sky.flights.items none in
+    let no : picked_flight pick is_unrendered w.air ≡ None = ap (picked_flight pick is_unrendered) (sym stands.board_is.sky.air) ∙ found-none (λ flying. is_picked pick flying && is_unrendered flying) b.sky.flights.items none in
     record {
       turns = [];
       ends = Waits;
       happens = subst (RenderTo w e) (sym no) notes;
       wanting = calm-wanting told.dry calm;
-      stands = subst (BoardStands p content farm b) (sym (ap (afters w) notes)) stands;
+      stands = subst (BoardStands p content farm b) (sym (ap (state_after_notes w) notes)) stands;
     }
 
 sky-rendered : (old new : Sky) (w : RunState) (at : ℕ) (f : Flying) (answer : Answer) → SkyTied old w → slice_get old.flights.items at ≡ Some f → new.flights.items ≡ slice_set old.flights.items at (with_rendered answer f) → new.asked ≡ old.asked
@@ -134,11 +134,11 @@ sky-rendered old new w at f answer tied here flights asked = record {
 }
 
 -- what was given for the flight's request: the answer, or the fixed one, and the content after it
-pub record Renders (given : Published) (content later : Content) (answer : Answer) (dry : Bool) : Type 0 where
+pub record Renders (given : Publication) (content later : Content) (answer : Answer) (dry : Bool) : Type 0 where
   pub answer_is : IsOrFixed (record { dry = dry }) answer given.answer
   pub content_is : later ≡ (if answer.status == 507 then content else given.content)
 
-pub renders : {E : Type 0} (r : Result Answer E) (given : Published) (content later : Content) (answer : Answer) (dry : Bool) → IsGiven r answer dry → IfOk r (λ a. a ≡ given.answer) → IfOk r (λ a. a.status ≢ 507) → OnOk r (later ≡ given.content)
+pub renders : {E : Type 0} (r : Result Answer E) (given : Publication) (content later : Content) (answer : Answer) (dry : Bool) → IsGiven r answer dry → IfOk r (λ a. a ≡ given.answer) → IfOk r (λ a. a.status ≢ 507) → OnOk r (later ≡ given.content)
     → OnErr r (later ≡ content) → Renders given content later answer dry
 renders (Ok a) given content later answer dry gives ok status moves stays =
     let other : (answer.status == 507) ≡ false = rw gives.0 (ne_eqb a.status 507 status) in
@@ -164,7 +164,7 @@ render-event p content later farm other b mid h pick at n answer copy dry told s
     let there = get-within b.sky.flights.items at found_at.0 in
     let f = there.0 in
     let here : slice_get mid.sky.flights.items at ≡ Some f = ap (λ (x : Board). slice_get x.sky.flights.items at) same_board ∙ there.1 in
-    let some : picked pick is_unrendered w.air ≡ Some f = ap (picked pick is_unrendered) (sym stands.board_is.sky.air) ∙ found_at.1 ∙ there.1 in
+    let some : picked_flight pick is_unrendered w.air ≡ Some f = ap (picked_flight pick is_unrendered) (sym stands.board_is.sky.air) ∙ found_at.1 ∙ there.1 in
     let wanted : published_for w f.request ≡ p content (publisher_ask farm f.request) = rw (stands.publishing_is, stands.content_is, stands.board_is.farm_is) refl in
     let gives : Renders (published_for w f.request) w.content later answer told.dry = rw (wanted, dried, stands.content_is) (given f there.1) in
     let note : told.notes.items ≡ Rendered f.number answer ∷ [] = notes ∙ ap (λ x. Rendered x answer ∷ []) (number f here) in
@@ -178,7 +178,7 @@ render-event p content later farm other b mid h pick at n answer copy dry told s
       ends = Waits;
       happens = subst (RenderTo w e) (sym some) (answer, gives.answer_is, note);
       wanting = λ dry. subst (SomeShowsLack w) (sym note) (inl (fixed-wanting (record { dry = told.dry }) answer _ gives.answer_is dry));
-      stands = subst (BoardStands p later other h) (sym (ap (afters w) note)) (record {
+      stands = subst (BoardStands p later other h) (sym (ap (state_after_notes w) note)) (record {
         publishing_is = stands.publishing_is;
         content_is = ap (content_rendered w answer) number_is ∙ sym gives.content_is;
         board_is = record {

@@ -16,7 +16,7 @@ use Rattle.http_front.specs.Faults.{fault_status}
 use Rattle.http_front.specs.declared.fault.InFault.{InFault}
 use Rattle.http_front.specs.declared.turn.Turn.TheVariants.{Continue, Whole}
 use Rattle.connections.specs.Slots.{Slot, Awaits, request_slot}
-use Rattle.connections.specs.Connections.{Connection, Due, Send, Treat, Refuse, Close, Nothing, fed, fresh, is_crowded, with_landing, with_sent}
+use Rattle.connections.specs.Connections.{Connection, Due, Send, Treat, Refuse, Close, Nothing, with_piece, fresh, is_crowded, with_landing, with_sent}
 use Rattle.connections.specs.Connections as connection
 use Rattle.connections.specs.Histories.{IsMove, Landing, Sent as SentMove, Treatment}
 use Rattle.connections.specs.Histories as history
@@ -26,13 +26,13 @@ use Rattle.front.specs.declared.note.Note.{Note}
 use Rattle.front.specs.declared.note.Note.TheVariants.{Ask as asked, Local, Rendered, Passed, Lost, Sent, Shut, Refused, Idle}
 use Rattle.front.specs.declared.step.Step.{Step}
 use Rattle.front.specs.declared.step.Step.TheVariants as step
-use Rattle.front.specs.Events.{DeliverAs, DeliverTo, Event, HappensBy, LeadsNotes, LoseTo, PieceTo, RenderTo, Run, after_event, state_after_events, begun, gone, going, is_any, is_rendered, is_unrendered, most_lines, opened, opening, picked}
+use Rattle.front.specs.Events.{DeliverAs, DeliverTo, Event, HappensBy, LeadsNotes, LoseTo, PieceTo, RenderTo, Run, after_event, state_after_events, state_before_notes, state_after_going, going, is_any, is_rendered, is_unrendered, most_lines, state_after_opening, opening, picked_flight}
 use Rattle.front.specs.Histories.{brought_by, came_after, is_idle, opens_connection, sent_after, sent_by, sent_in}
 use Rattle.front.proofs.MoveLemmas.{serves-busy}
 use Rattle.front.proofs.PastLemmas.{Last, Past, last-now, past-as, past-fed, past-fresh, past-move, same-landing, same-sent, same-treated}
 use Rattle.any_config.specs.declared.farm.Farm.{Farm}
 use Rattle.http_front.specs.Turns.{SpellsTurns}
-use Rattle.front.specs.Moves.{GivesDue, IsFirstPoint, Mood, Serves, Settles, state_after_note, afters, asked_by, due_of_connection, flight_at, has_number, line_due, local_slot, new_flight, on_line, over_with, points, request_of, treated, with_rendered, with_rendered_at, without}
+use Rattle.front.specs.Moves.{GivesDue, IsFirstPoint, Mood, Serves, Settles, state_after_note, state_after_notes, state_after_ask, due_of_connection, flight_at, has_number, line_due, local_slot, new_flight, on_line, over_with, points, request_of, with_turn_slot, with_rendered, with_rendered_at, without}
 use Rattle.front.specs.Publishers.{Publishing}
 use Rattle.front.specs.Boards.{AreRising}
 use Rattle.front.specs.States.{LogEntry, RunState, flights_asked, start_of}
@@ -60,28 +60,28 @@ held-same w v c came a b line same held = subst (λ xs. Held v c came xs) same (
 })
 
 -- ---- a note that is owed
-slot-held : (w v : RunState) (c : ℕ) (d : Connection) (came : List ℕ) (sent : List Sending) (slot : Slot) → Past d came sent → IsMove d (Treatment slot) → v.line c ≡ Some (treated slot d) → Held v c came (sent ++ [])
-slot-held w v c d came sent slot past may is = held-one v c (treated slot d) came (sent ++ []) is (past-move d came sent (Treatment slot) past may (same-treated slot d))
+slot-held : (w v : RunState) (c : ℕ) (d : Connection) (came : List ℕ) (sent : List Sending) (slot : Slot) → Past d came sent → IsMove d (Treatment slot) → v.line c ≡ Some (with_turn_slot slot d) → Held v c came (sent ++ [])
+slot-held w v c d came sent slot past may is = held-one v c (with_turn_slot slot d) came (sent ++ []) is (past-move d came sent (Treatment slot) past may (same-treated slot d))
 
 local-held : (w : RunState) (c : ℕ) (d : Connection) (came : List ℕ) (sent : List Sending) (request : Req) (status : ℕ) → w.line c ≡ Some d → connection.due d ≡ Treat (Whole request) → Past d came sent → Held (state_after_note w (Local c status)) c came (sent ++ [])
 local-held w c d came sent request status is owed past =
     let some : request_of (due_of_connection w c) ≡ Some request = ap request_of (ap line_due is ∙ owed) in
     let slot = local_slot (Some request) status d in
-    let now : (state_after_note w (Local c status)).line c ≡ Some (treated slot d) = update_here w.line c _ ∙ ap (option_map (λ line. treated (local_slot (request_of (due_of_connection w c)) status line) line)) is ∙ ap (λ r. Some (treated (local_slot r status d) d)) some in
+    let now : (state_after_note w (Local c status)).line c ≡ Some (with_turn_slot slot d) = update_here w.line c _ ∙ ap (option_map (λ line. with_turn_slot (local_slot (request_of (due_of_connection w c)) status line) line)) is ∙ ap (λ r. Some (with_turn_slot (local_slot r status d) d)) some in
     slot-held w (state_after_note w (Local c status)) c d came sent slot past (rw owed (_, _, refl)) now
 
 refused-held : (w : RunState) (c : ℕ) (d : Connection) (came : List ℕ) (sent : List Sending) (fault : InFault) → w.line c ≡ Some d → connection.due d ≡ Refuse fault → Past d came sent → Held (state_after_note w (Local c (fault_status fault))) c came (sent ++ [])
 refused-held w c d came sent fault is owed past =
     let none : request_of (due_of_connection w c) ≡ None = ap request_of (ap line_due is ∙ owed) in
     let slot = local_slot None (fault_status fault) d in
-    let now : (state_after_note w (Local c (fault_status fault))).line c ≡ Some (treated slot d) = update_here w.line c _ ∙ ap (option_map (λ line. treated (local_slot (request_of (due_of_connection w c)) (fault_status fault) line) line)) is ∙ ap (λ r. Some (treated (local_slot r (fault_status fault) d) d)) none in
+    let now : (state_after_note w (Local c (fault_status fault))).line c ≡ Some (with_turn_slot slot d) = update_here w.line c _ ∙ ap (option_map (λ line. with_turn_slot (local_slot (request_of (due_of_connection w c)) (fault_status fault) line) line)) is ∙ ap (λ r. Some (with_turn_slot (local_slot r (fault_status fault) d) d)) none in
     slot-held w (state_after_note w (Local c (fault_status fault))) c d came sent slot past (rw owed refl) now
 
 asked-held : (w : RunState) (c n : ℕ) (key : Option PageKey) (d : Connection) (came : List ℕ) (sent : List Sending) (request : Req) → w.line c ≡ Some d → connection.due d ≡ Treat (Whole request) → Past d came sent → Held (state_after_note w (asked n c key)) c came (sent ++ [])
 asked-held w c n key d came sent request is owed past =
     let some : request_of (due_of_connection w c) ≡ Some request = ap request_of (ap line_due is ∙ owed) in
     let slot = request_slot request false (Awaits n) in
-    let now : (state_after_note w (asked n c key)).line c ≡ Some (treated slot d) = ap (λ r. (asked_by w n c key r).line c) some ∙ update_here w.line c _ ∙ ap (option_map (treated slot)) is in
+    let now : (state_after_note w (asked n c key)).line c ≡ Some (with_turn_slot slot d) = ap (λ r. (state_after_ask w n c key r).line c) some ∙ update_here w.line c _ ∙ ap (option_map (with_turn_slot slot)) is in
     slot-held w (state_after_note w (asked n c key)) c d came sent slot past (rw owed (false, Awaits n, refl)) now
 
 sent-here : (m : Mood) (c : ℕ) (bytes : List ℕ) → sent_by c m (Sent c bytes) ≡ record { bytes = bytes; dry = m.dry } ∷ []
@@ -122,12 +122,12 @@ pub line-held : (m : Mood) (w : RunState) (c : ℕ) (came : List ℕ) (sent : Li
 line-held m w c came sent note None is held gives = absurd gives
 line-held m w c came sent note (Some d) is held gives = gives-held m w c d came sent (connection.due d) note is refl (held.here d is) gives
 
-serves-held : (m : Mood) (w : RunState) (c : ℕ) (came : List ℕ) (sent : List Sending) (notes : List Note) → Held w c came sent → Serves m w c notes → Held (afters w notes) c came (sent ++ sent_in c m notes)
+serves-held : (m : Mood) (w : RunState) (c : ℕ) (came : List ℕ) (sent : List Sending) (notes : List Note) → Held w c came sent → Serves m w c notes → Held (state_after_notes w notes) c came (sent ++ sent_in c m notes)
 serves-held m w c came sent [] held serves = held-same w w c came sent (sent ++ []) refl (sym (append-nil sent)) held
 serves-held m w c came sent (note ∷ notes) held serves =
     let one = line-held m w c came sent note (w.line c) refl held serves.0 in
     let rest = serves-held m (state_after_note w note) c came (sent ++ sent_by c m note) notes one serves.1 in
-    let v = afters (state_after_note w note) notes in
+    let v = state_after_notes (state_after_note w note) notes in
     held-same v v c came ((sent ++ sent_by c m note) ++ sent_in c m notes) (sent ++ sent_in c m (note ∷ notes)) refl (append_assoc sent (sent_by c m note) (sent_in c m notes)) rest
 
 -- ---- notes on another connection
@@ -138,7 +138,7 @@ pub record Apart (w v : RunState) (c : ℕ) (sent : List Sending) : Type 0 where
 local-apart : (w : RunState) (c d status : ℕ) (m : Mood) → c ≢ d → Apart w (state_after_note w (Local d status)) c (sent_by c m (Local d status))
 local-apart w c d status m apart = record { line = update_apart w.line d _ c apart; none = refl }
 
-asked-apart : (w : RunState) (c n d : ℕ) (key : Option PageKey) (request : Option Req) → c ≢ d → (asked_by w n d key request).line c ≡ w.line c
+asked-apart : (w : RunState) (c n d : ℕ) (key : Option PageKey) (request : Option Req) → c ≢ d → (state_after_ask w n d key request).line c ≡ w.line c
 asked-apart w c n d key None apart = refl
 asked-apart w c n d key (Some request) apart = update_apart w.line d _ c apart
 
@@ -160,7 +160,7 @@ gives-apart m w c d (Refuse fault) note apart gives = rw gives (local-apart w c 
 gives-apart m w c d Close note apart gives = rw gives (record { line = update_apart w.line d None c apart; none = refl })
 gives-apart m w c d Nothing note apart gives = absurd gives
 
-pub serves-apart : (m : Mood) (w : RunState) (c d : ℕ) (notes : List Note) → c ≢ d → Serves m w d notes → Apart w (afters w notes) c (sent_in c m notes)
+pub serves-apart : (m : Mood) (w : RunState) (c d : ℕ) (notes : List Note) → c ≢ d → Serves m w d notes → Apart w (state_after_notes w notes) c (sent_in c m notes)
 serves-apart m w c d [] apart serves = record { line = refl; none = refl }
 serves-apart m w c d (note ∷ notes) apart serves =
     let one = gives-apart m w c d (due_of_connection w d) note apart serves.0 in
@@ -187,7 +187,7 @@ rising-rendered least n answer (f ∷ air) most rising = by_test (has_number n f
     by_test true rest = (rising.0, rest)
     by_test false rest = (rising.0, rest)
 
-asked-numbered : (w : RunState) (c : ℕ) (key : Option PageKey) (request : Option Req) → Numbered w → Numbered (asked_by w (flights_asked w.log.entries + 1) c key request)
+asked-numbered : (w : RunState) (c : ℕ) (key : Option PageKey) (request : Option Req) → Numbered w → Numbered (state_after_ask w (flights_asked w.log.entries + 1) c key request)
 asked-numbered w c key None numbered = numbered
 asked-numbered w c key (Some request) numbered = rising-push 0 w.air (flights_asked w.log.entries) (new_flight (flights_asked w.log.entries + 1) c request) numbered (omega arith)
 
@@ -207,7 +207,7 @@ gives-numbered m w c (Refuse fault) note numbered gives = rw gives numbered
 gives-numbered m w c Close note numbered gives = rw gives numbered
 gives-numbered m w c Nothing note numbered gives = absurd gives
 
-pub serves-numbered : (m : Mood) (w : RunState) (c : ℕ) (notes : List Note) → Numbered w → Serves m w c notes → Numbered (afters w notes)
+pub serves-numbered : (m : Mood) (w : RunState) (c : ℕ) (notes : List Note) → Numbered w → Serves m w c notes → Numbered (state_after_notes w notes)
 serves-numbered m w c [] numbered serves = numbered
 serves-numbered m w c (note ∷ notes) numbered serves = serves-numbered m (state_after_note w note) c notes (gives-numbered m w c (due_of_connection w c) note numbered serves.0) serves.1
 
@@ -236,10 +236,10 @@ kept-same : (w v : RunState) (c : ℕ) (came : List ℕ) (sent : List Sending) �
 kept-same w v c came sent line numbered kept = record { held = held-same w v c came sent (sent ++ []) line (sym (append-nil sent)) kept.held; still = still-same w v c line kept.still; numbered = numbered }
 
 -- the connection d is given all that it is owed
-pub settles-kept : (m : Mood) (w : RunState) (c d : ℕ) (came : List ℕ) (sent : List Sending) (notes : List Note) → Held w c came sent → (c ≢ d → IsStill w c) → Numbered w → Settles m w d notes → Kept (afters w notes) c came (sent ++ sent_in c m notes)
+pub settles-kept : (m : Mood) (w : RunState) (c d : ℕ) (came : List ℕ) (sent : List Sending) (notes : List Note) → Held w c came sent → (c ≢ d → IsStill w c) → Numbered w → Settles m w d notes → Kept (state_after_notes w notes) c came (sent ++ sent_in c m notes)
 settles-kept m w c d came sent notes held still numbered settles = ⊎_elim here there (cases_eq d c)
   where
-    here : d ≡ c → Kept (afters w notes) c came (sent ++ sent_in c m notes)
+    here : d ≡ c → Kept (state_after_notes w notes) c came (sent ++ sent_in c m notes)
     here same =
         let at : Settles m w c notes = subst (λ x. Settles m w x notes) same settles in
         record {
@@ -248,17 +248,17 @@ settles-kept m w c d came sent notes held still numbered settles = ⊎_elim here
           numbered = serves-numbered m w c notes numbered at.serves;
         }
 
-    there : d ≢ c → Kept (afters w notes) c came (sent ++ sent_in c m notes)
+    there : d ≢ c → Kept (state_after_notes w notes) c came (sent ++ sent_in c m notes)
     there apart =
         let other : c ≢ d = λ e. apart (sym e) in
         let kept = serves-apart m w c d notes other settles.serves in
         record {
-          held = held-same w (afters w notes) c came sent (sent ++ sent_in c m notes) kept.line (sym (append-nil sent) ∙ ap (λ xs. sent ++ xs) (sym kept.none)) held;
-          still = still-same w (afters w notes) c kept.line (still other);
+          held = held-same w (state_after_notes w notes) c came sent (sent ++ sent_in c m notes) kept.line (sym (append-nil sent) ∙ ap (λ xs. sent ++ xs) (sym kept.none)) held;
+          still = still-same w (state_after_notes w notes) c kept.line (still other);
           numbered = serves-numbered m w d notes numbered settles.serves;
         }
 
-idle-kept : (m : Mood) (w v : RunState) (c : ℕ) (came : List ℕ) (sent : List Sending) (notes : List Note) → v.line c ≡ w.line c → Numbered v → Kept w c came sent → notes ≡ Idle ∷ [] → Kept (afters v notes) c came (sent ++ sent_in c m notes)
+idle-kept : (m : Mood) (w v : RunState) (c : ℕ) (came : List ℕ) (sent : List Sending) (notes : List Note) → v.line c ≡ w.line c → Numbered v → Kept w c came sent → notes ≡ Idle ∷ [] → Kept (state_after_notes v notes) c came (sent ++ sent_in c m notes)
 idle-kept m w v c came sent notes line numbered kept is = rw is (kept-same w v c came sent line numbered kept)
 
 fresh-still : (peer : List ℕ) (d : Connection) → fresh peer ≡ d → connection.due d ≡ Nothing
@@ -272,14 +272,14 @@ abbrev pub then_sent : ℕ → List Sending → Event → Step → List Sending
 then_sent c sent e s = if opens_connection c s e.body then [] else sent ++ sent_in c e.mood e.body
 
 abbrev KeptBy : RunState → Event → ℕ → List ℕ → List Sending → Step → RunState → Type 0
-KeptBy w e c came sent s v = Kept (afters v e.body) c (then_came c came e s) (then_sent c sent e s)
+KeptBy w e c came sent s v = Kept (state_after_notes v e.body) c (then_came c came e s) (then_sent c sent e s)
 
 -- nothing came in it
 came-none : (w : RunState) (c : ℕ) (came : List ℕ) (sent : List Sending) → Kept w c came sent → Kept w c (came ++ []) sent
 came-none w c came sent kept = subst (λ xs. Kept w c xs sent) (sym (append-nil came)) kept
 
 opened-kept : (w : RunState) (e : Event) (c d : ℕ) (peer : List ℕ) (came : List ℕ) (sent : List Sending) (at : Option Connection) → w.line d ≡ at → Kept w c came sent → e.body ≡ opening d w.lines at
-    → KeptBy w e c came sent (step.Opened d peer) (opened w d peer at)
+    → KeptBy w e c came sent (step.Opened d peer) (state_after_opening w d peer at)
 opened-kept w e c d peer came sent (Some k) line kept is = rw is (came-none w c came (sent ++ []) (kept-same w w c came sent refl kept.numbered kept))
 opened-kept w e c d peer came sent None line kept is = by_room (nat_le most_lines w.lines) is
   where
@@ -314,18 +314,18 @@ pub piece-idle : (c d : ℕ) (bytes : List ℕ) (notes : List Note) → notes �
 piece-idle c d bytes notes is = rw is refl
 
 pub piece-read : (w : RunState) (e : Event) (c d : ℕ) (bytes came : List ℕ) (sent : List Sending) (k : Connection) → list_any is_idle e.body ≡ false → w.line d ≡ Some k → (k.closing ≡ false → SpellsTurns (k.stream ++ bytes) (k.turns ++ e.turns) e.ends) → Held w c came sent
-    → Held (on_line w d (fed bytes e.turns e.ends)) c (came ++ brought_by c (step.Piece d bytes) e.body) sent
+    → Held (on_line w d (with_piece bytes e.turns e.ends)) c (came ++ brought_by c (step.Piece d bytes) e.body) sent
 piece-read w e c d bytes came sent k busy line spells held = rw busy (⊎_elim here apart (cases_eq d c))
   where
     v : RunState
-    v = on_line w d (fed bytes e.turns e.ends)
+    v = on_line w d (with_piece bytes e.turns e.ends)
 
     here : d ≡ c → Held v c (came ++ (if nat_eq d c then bytes else [])) sent
     here same =
         let test : nat_eq d c ≡ true = eq-eqb d c same in
-        let now : v.line d ≡ Some (fed bytes e.turns e.ends k) = update_here w.line d _ ∙ ap (option_map (fed bytes e.turns e.ends)) line in
+        let now : v.line d ≡ Some (with_piece bytes e.turns e.ends k) = update_here w.line d _ ∙ ap (option_map (with_piece bytes e.turns e.ends)) line in
         let past : Past k came sent = held.here k (sym (ap w.line same) ∙ line) in
-        let there = held-one v d (fed bytes e.turns e.ends k) (came ++ bytes) sent now (past-fed k came sent bytes e.turns e.ends spells past) in
+        let there = held-one v d (with_piece bytes e.turns e.ends k) (came ++ bytes) sent now (past-fed k came sent bytes e.turns e.ends spells past) in
         rw test (subst (λ y. Held v y (came ++ bytes) sent) same there)
 
     apart : d ≢ c → Held v c (came ++ (if nat_eq d c then bytes else [])) sent
@@ -334,11 +334,11 @@ piece-read w e c d bytes came sent k busy line spells held = rw busy (⊎_elim h
         rw test (subst (λ xs. Held v c xs sent) (sym (append-nil came)) (held-same w v c came sent sent (update_apart w.line d _ c (λ x. other (sym x))) refl held))
 
 piece-kept : (w : RunState) (e : Event) (c d : ℕ) (bytes came : List ℕ) (sent : List Sending) (at : Option Connection) → w.line d ≡ at → Kept w c came sent → PieceTo w e d bytes at
-    → Kept (afters (on_line w d (fed bytes e.turns e.ends)) e.body) c (came ++ brought_by c (step.Piece d bytes) e.body) (sent ++ sent_in c e.mood e.body)
+    → Kept (state_after_notes (on_line w d (with_piece bytes e.turns e.ends)) e.body) c (came ++ brought_by c (step.Piece d bytes) e.body) (sent ++ sent_in c e.mood e.body)
 piece-kept w e c d bytes came sent None line kept is = idle-kept e.mood w v c all sent e.body same kept.numbered now is
   where
     v : RunState
-    v = on_line w d (fed bytes e.turns e.ends)
+    v = on_line w d (with_piece bytes e.turns e.ends)
 
     all : List ℕ
     all = came ++ brought_by c (step.Piece d bytes) e.body
@@ -351,15 +351,15 @@ piece-kept w e c d bytes came sent None line kept is = idle-kept e.mood w v c al
 
     same : v.line c ≡ w.line c
     same = ⊎_elim
-        (λ x. subst (λ y. v.line y ≡ w.line y) x (update_here w.line d _ ∙ ap (option_map (fed bytes e.turns e.ends)) line ∙ sym line))
+        (λ x. subst (λ y. v.line y ≡ w.line y) x (update_here w.line d _ ∙ ap (option_map (with_piece bytes e.turns e.ends)) line ∙ sym line))
         (λ other. update_apart w.line d _ c (λ x. other (sym x)))
         (cases_eq d c)
 piece-kept w e c d bytes came sent (Some k) line kept feeds =
-    settles-kept e.mood (on_line w d (fed bytes e.turns e.ends)) c d (came ++ brought_by c (step.Piece d bytes) e.body) sent e.body
+    settles-kept e.mood (on_line w d (with_piece bytes e.turns e.ends)) c d (came ++ brought_by c (step.Piece d bytes) e.body) sent e.body
     (piece-read w e c d bytes came sent k (serves-busy e.mood _ d e.body feeds.settles.serves) line feeds.spells kept.held)
-    (λ other. still-same w (on_line w d (fed bytes e.turns e.ends)) c (update_apart w.line d _ c other) kept.still) kept.numbered feeds.settles
+    (λ other. still-same w (on_line w d (with_piece bytes e.turns e.ends)) c (update_apart w.line d _ c other) kept.still) kept.numbered feeds.settles
 
-gone-kept : (w : RunState) (e : Event) (c d : ℕ) (came : List ℕ) (sent : List Sending) (at : Option Connection) → w.line d ≡ at → Kept w c came sent → e.body ≡ going at → Kept (afters (gone w d at) e.body) c came (sent ++ sent_in c e.mood e.body)
+gone-kept : (w : RunState) (e : Event) (c d : ℕ) (came : List ℕ) (sent : List Sending) (at : Option Connection) → w.line d ≡ at → Kept w c came sent → e.body ≡ going at → Kept (state_after_notes (state_after_going w d at) e.body) c came (sent ++ sent_in c e.mood e.body)
 gone-kept w e c d came sent None line kept is = idle-kept e.mood w w c came sent e.body refl kept.numbered kept is
 gone-kept w e c d came sent (Some k) line kept is = rw is (⊎_elim same apart (cases_eq d c))
   where
@@ -377,7 +377,7 @@ gone-kept w e c d came sent (Some k) line kept is = rw is (⊎_elim same apart (
     apart : d ≢ c → Kept v c came (sent ++ [])
     apart other = kept-same w v c came sent (update_apart w.line d None c (λ x. other (sym x))) kept.numbered kept
 
-render-kept : (w : RunState) (e : Event) (c : ℕ) (came : List ℕ) (sent : List Sending) (flying : Option Flying) → Kept w c came sent → RenderTo w e flying → Kept (afters w e.body) c came (sent ++ sent_in c e.mood e.body)
+render-kept : (w : RunState) (e : Event) (c : ℕ) (came : List ℕ) (sent : List Sending) (flying : Option Flying) → Kept w c came sent → RenderTo w e flying → Kept (state_after_notes w e.body) c came (sent ++ sent_in c e.mood e.body)
 render-kept w e c came sent None kept is = idle-kept e.mood w w c came sent e.body refl kept.numbered kept is
 render-kept w e c came sent (Some f) kept to = rw to.2 (kept-same w (state_after_note w (Rendered f.number to.0)) c came sent refl (rising-rendered 0 f.number to.0 w.air (flights_asked w.log.entries) kept.numbered) kept)
 
@@ -397,42 +397,42 @@ over-held w c came sent f answer entry held = ⊎_elim (moved (w.line f.line) re
 
 -- a flight is over, and its connection is given what it is owed
 leads-kept : (m : Mood) (w : RunState) (first : Note) (c : ℕ) (came : List ℕ) (sent : List Sending) (f : Flying) (answer : Answer) (entry : LogEntry) (notes : List Note) → Kept w c came sent → state_after_note w first ≡ over_with w f.number answer entry (Some f)
-    → flights_asked (entry ∷ w.log.entries) ≡ flights_asked w.log.entries → sent_by c m first ≡ [] → LeadsNotes w m first f.line notes → Kept (afters w notes) c came (sent ++ sent_in c m notes)
+    → flights_asked (entry ∷ w.log.entries) ≡ flights_asked w.log.entries → sent_by c m first ≡ [] → LeadsNotes w m first f.line notes → Kept (state_after_notes w notes) c came (sent ++ sent_in c m notes)
 leads-kept m w first c came sent f answer entry notes kept is same none leads =
     let settles : Settles m v f.line leads.rest = subst (λ u. Settles m u f.line leads.rest) is leads.settles in
     let numbered : Numbered v = over-numbered w f.number answer entry (Some f) same kept.numbered in
     let done = settles-kept m v c f.line came sent leads.rest (over-held w c came sent f answer entry kept.held) (λ other. still-same w v c (update_apart w.line f.line _ c other) kept.still) numbered settles in
-    let state : afters v leads.rest ≡ afters w notes = sym (ap (afters w) leads.begins ∙ ap (λ u. afters u leads.rest) is) in
+    let state : state_after_notes v leads.rest ≡ state_after_notes w notes = sym (ap (state_after_notes w) leads.begins ∙ ap (λ u. state_after_notes u leads.rest) is) in
     let all : sent_in c m leads.rest ≡ sent_in c m notes = ap (λ xs. xs ++ sent_in c m leads.rest) (sym none) ∙ sym (ap (sent_in c m) leads.begins) in
-    subst (λ u. Kept u c came (sent ++ sent_in c m notes)) state (subst (λ xs. Kept (afters v leads.rest) c came (sent ++ xs)) all done)
+    subst (λ u. Kept u c came (sent ++ sent_in c m notes)) state (subst (λ xs. Kept (state_after_notes v leads.rest) c came (sent ++ xs)) all done)
   where
     v : RunState
     v = over_with w f.number answer entry (Some f)
 
-deliver-kept : (w : RunState) (e : Event) (c : ℕ) (came : List ℕ) (sent : List Sending) (f : Flying) (answer : Option Answer) → flight_at f.number w.air ≡ Some f → Kept w c came sent → DeliverAs w e f answer → Kept (afters w e.body) c came (sent ++ sent_in c e.mood e.body)
+deliver-kept : (w : RunState) (e : Event) (c : ℕ) (came : List ℕ) (sent : List Sending) (f : Flying) (answer : Option Answer) → flight_at f.number w.air ≡ Some f → Kept w c came sent → DeliverAs w e f answer → Kept (state_after_notes w e.body) c came (sent ++ sent_in c e.mood e.body)
 deliver-kept w e c came sent f None there kept is = idle-kept e.mood w w c came sent e.body refl kept.numbered kept is
 deliver-kept w e c came sent f (Some answer) there kept to =
     let leads : LeadsNotes w e.mood (Passed f.number) f.line e.body = subst (λ note. LeadsNotes w e.mood note f.line e.body) to.1 to.2 in
     leads-kept e.mood w (Passed f.number) c came sent f _ _ e.body kept (ap (over_with w f.number _ _) there) refl refl leads
 
 delivers-kept : (w : RunState) (e : Event) (c : ℕ) (came : List ℕ) (sent : List Sending) (flying : Option Flying) → ((f : Flying) → flying ≡ Some f → flight_at f.number w.air ≡ Some f) → Kept w c came sent → DeliverTo w e flying
-    → Kept (afters w e.body) c came (sent ++ sent_in c e.mood e.body)
+    → Kept (state_after_notes w e.body) c came (sent ++ sent_in c e.mood e.body)
 delivers-kept w e c came sent None there kept is = idle-kept e.mood w w c came sent e.body refl kept.numbered kept is
 delivers-kept w e c came sent (Some f) there kept to = deliver-kept w e c came sent f f.rendered (there f refl) kept to
 
 loses-kept : (w : RunState) (e : Event) (c : ℕ) (came : List ℕ) (sent : List Sending) (flying : Option Flying) → ((f : Flying) → flying ≡ Some f → flight_at f.number w.air ≡ Some f) → Kept w c came sent → LoseTo w e flying
-    → Kept (afters w e.body) c came (sent ++ sent_in c e.mood e.body)
+    → Kept (state_after_notes w e.body) c came (sent ++ sent_in c e.mood e.body)
 loses-kept w e c came sent None there kept is = idle-kept e.mood w w c came sent e.body refl kept.numbered kept is
 loses-kept w e c came sent (Some f) there kept to = leads-kept e.mood w (Lost f.number) c came sent f _ _ e.body kept (ap (over_with w f.number _ _) (there f refl)) refl refl to
 
-pub by-step : (w : RunState) (e : Event) (c : ℕ) (came : List ℕ) (sent : List Sending) (s : Step) → Kept w c came sent → HappensBy w e s → KeptBy w e c came sent s (begun w e s)
+pub by-step : (w : RunState) (e : Event) (c : ℕ) (came : List ℕ) (sent : List Sending) (s : Step) → Kept w c came sent → HappensBy w e s → KeptBy w e c came sent s (state_before_notes w e s)
 by-step w e c came sent (step.Opened d peer) kept is = opened-kept w e c d peer came sent (w.line d) refl kept is
 by-step w e c came sent (step.Piece d bytes) kept to = piece-kept w e c d bytes came sent (w.line d) refl kept to
 by-step w e c came sent (step.Gone d) kept is = came-none _ c came _ (gone-kept w e c d came sent (w.line d) refl kept is)
 by-step w e c came sent (step.Direct target) kept to = came-none _ c came _ (rw to.2 (kept-same w w c came sent refl kept.numbered kept))
-by-step w e c came sent (step.Render pick) kept to = came-none _ c came _ (render-kept w e c came sent (picked pick is_unrendered w.air) kept to)
-by-step w e c came sent (step.Deliver pick) kept to = came-none _ c came _ (delivers-kept w e c came sent (picked pick is_rendered w.air) (λ f found. picked-at w _ f kept.numbered found) kept to)
-by-step w e c came sent (step.Lose pick) kept to = came-none _ c came _ (loses-kept w e c came sent (picked pick is_any w.air) (λ f found. picked-at w _ f kept.numbered found) kept to)
+by-step w e c came sent (step.Render pick) kept to = came-none _ c came _ (render-kept w e c came sent (picked_flight pick is_unrendered w.air) kept to)
+by-step w e c came sent (step.Deliver pick) kept to = came-none _ c came _ (delivers-kept w e c came sent (picked_flight pick is_rendered w.air) (λ f found. picked-at w _ f kept.numbered found) kept to)
+by-step w e c came sent (step.Lose pick) kept to = came-none _ c came _ (loses-kept w e c came sent (picked_flight pick is_any w.air) (λ f found. picked-at w _ f kept.numbered found) kept to)
 
 pub run-kept : (w : RunState) (events : List Event) (c : ℕ) (came : List ℕ) (sent : List Sending) → Kept w c came sent → Run w events → Kept (state_after_events w events) c (came_after c came events) (sent_after c sent events)
 run-kept w [] c came sent kept run = kept

@@ -9,12 +9,12 @@ use Rattle.http_front.specs.declared.turn.Turn.{Turn}
 use Rattle.http_front.specs.declared.turn.Turn.TheVariants.{Continue, Whole}
 use Rattle.sp_base.specs.declared.answer.Answer.{Answer}
 use Rattle.connections.specs.Slots.{Slot, interim_slot, is_awaiting}
-use Rattle.connections.specs.Connections.{Close, Connection, Nothing, Treat, advanced, after_turn, due, due_at_turn, due_unsent, filled, fresh, next_turn, with_answer, with_landing, with_sent, with_slot, IsInPlaceOfDue}
+use Rattle.connections.specs.Connections.{Close, Connection, Nothing, Treat, with_due_continue, after_turn, due, due_at_turn, due_unsent, slots_with_landing, fresh, next_turn, with_answer, with_landing, with_sent, with_slot, IsInPlaceOfDue}
 use Rattle.connections.specs.Histories.{IsDueSending}
 use Rattle.connections.specs.declared.sending.Sending.{Sending}
-use Rattle.connections.specs.Ties.{Tied}
+use Rattle.connections.specs.Ties.{OutboxTied}
 use Rattle.connections.specs.declared.outbox.Outbox.{Outbox}
-use Rattle.front.specs.Lines.{Holds, IsPaired, LineKeeps, Owes, LineReads, Splits, TellsTurns, TellsOn, begins_with_continue, end_of}
+use Rattle.front.specs.Lines.{LineHolds, IsPaired, LineKeeps, Owes, LineReads, Splits, TellsTurns, TellsOn, begins_with_continue, end_of}
 use Rattle.front.specs.declared.line.Line.{Line}
 
 -- ---- turns that are left
@@ -60,7 +60,7 @@ pub record SameStream (c d : Connection) : Type 0 where
   pub count : length d.slots ≡ length c.slots
   pub ends : d.ends ≡ c.ends
 
-pub holds-same : (k : Line) (o : Outbox) (c d : Connection) → Holds k c → SameStream c d → Tied o d → Holds (record k { outbox = o }) d
+pub holds-same : (k : Line) (o : Outbox) (c d : Connection) → LineHolds k c → SameStream c d → OutboxTied o d → LineHolds (record k { outbox = o }) d
 holds-same k o c d holds same tied = record {
   keeps = record {
     tied = tied;
@@ -76,19 +76,19 @@ holds-same k o c d holds same tied = record {
   ready = λ stays. holds.ready (sym same.closing ∙ stays);
 }
 
-pub length-filled : (n : ℕ) (a : Answer) (slots : List Slot) → length (filled n a slots) ≡ length slots
+pub length-filled : (n : ℕ) (a : Answer) (slots : List Slot) → length (slots_with_landing n a slots) ≡ length slots
 length-filled n a [] = refl
 length-filled n a (s ∷ slots) = by_test (is_awaiting n s.response) (length-filled n a slots)
   where
-    by_test : (b : Bool) → length (filled n a slots) ≡ length slots → length (cond b (with_answer a s ∷ slots) (s ∷ filled n a slots)) ≡ suc (length slots)
+    by_test : (b : Bool) → length (slots_with_landing n a slots) ≡ length slots → length (cond b (with_answer a s ∷ slots) (s ∷ slots_with_landing n a slots)) ≡ suc (length slots)
     by_test true same = refl
     by_test false same = ap suc same
 
-pub fill-holds : (k : Line) (o : Outbox) (c : Connection) (n : ℕ) (a : Answer) → Holds k c → Tied o (with_landing n a c) → Holds (record k { outbox = o }) (with_landing n a c)
+pub fill-holds : (k : Line) (o : Outbox) (c : Connection) (n : ℕ) (a : Answer) → LineHolds k c → OutboxTied o (with_landing n a c) → LineHolds (record k { outbox = o }) (with_landing n a c)
 fill-holds k o c n a holds tied = holds-same k o c (with_landing n a c) holds (record { closing = refl; stream = refl; turns = refl; count = length-filled n a c.slots; ends = refl }) tied
 
 -- ---- a 100 Continue
-advanced-open : (c : Connection) (turn : Option Turn) → c.closing ≡ false → next_turn c ≡ turn → advanced c ≡ after_turn turn c
+advanced-open : (c : Connection) (turn : Option Turn) → c.closing ≡ false → next_turn c ≡ turn → with_due_continue c ≡ after_turn turn c
 advanced-open c turn stays next = ap (λ b. cond b c (after_turn (next_turn c) c)) stays ∙ ap (λ t. after_turn t c) next
 
 pub popped-continue : (old new : List Turn) → begins_with_continue old ≡ true → new ≡ drop 1 old → old ≡ Continue ∷ new
@@ -96,14 +96,14 @@ popped-continue [] new begins rest = absurd (let no : ⊥ = cc in no)
 popped-continue (Continue ∷ old) new begins rest = ap (λ turns. Continue ∷ turns) (sym rest)
 popped-continue (Whole request ∷ old) new begins rest = absurd (let no : ⊥ = cc in no)
 
-pub advance-continue : (k j : Line) (c : Connection) → c.closing ≡ false → j.intake ≡ k.intake → j.fault ≡ k.fault → k.turns.items ≡ Continue ∷ j.turns.items → Tied j.outbox (with_slot interim_slot c) → LineKeeps k c
-    → Holds j (advanced c)
+pub advance-continue : (k j : Line) (c : Connection) → c.closing ≡ false → j.intake ≡ k.intake → j.fault ≡ k.fault → k.turns.items ≡ Continue ∷ j.turns.items → OutboxTied j.outbox (with_slot interim_slot c) → LineKeeps k c
+    → LineHolds j (with_due_continue c)
 advance-continue k j c stays intake fault first tied keeps =
     let reads = keeps.reads stays in
     let splits : Splits c.turns (length c.slots) (Continue ∷ j.turns.items) = rw first at reads.splits in
     let paired : IsPaired (Continue ∷ j.turns.items) = rw first at reads.paired in
-    let is : advanced c ≡ with_slot interim_slot c = advanced-open c (Some Continue) stays (split-head _ _ _ splits) in
-    subst (Holds j) (sym is) (record {
+    let is : with_due_continue c ≡ with_slot interim_slot c = advanced-open c (Some Continue) stays (split-head _ _ _ splits) in
+    subst (LineHolds j) (sym is) (record {
       keeps = record {
         tied = tied;
         reads = λ still. record {
@@ -117,10 +117,10 @@ advance-continue k j c stays intake fault first tied keeps =
     })
 
 -- a connection that closes is as it was, whatever turns are left of it
-pub advance-closing : (k j : Line) (c : Connection) → c.closing ≡ true → j.outbox ≡ k.outbox → LineKeeps k c → Holds j (advanced c)
+pub advance-closing : (k j : Line) (c : Connection) → c.closing ≡ true → j.outbox ≡ k.outbox → LineKeeps k c → LineHolds j (with_due_continue c)
 advance-closing k j c closes outbox keeps =
-    let is : advanced c ≡ c = ap (λ b. cond b c (after_turn (next_turn c) c)) closes in
-    subst (Holds j) (sym is) (record {
+    let is : with_due_continue c ≡ c = ap (λ b. cond b c (after_turn (next_turn c) c)) closes in
+    subst (LineHolds j) (sym is) (record {
       keeps = record { tied = rw outbox keeps.tied; reads = λ stays. absurd (let no : ⊥ = cc in no) };
       ready = λ stays. absurd (let no : ⊥ = cc in no);
     })
@@ -136,7 +136,7 @@ pub popped-none : (old new : List Turn) → old ≡ new → new ≡ drop 1 old �
 popped-none [] new same rest = refl
 popped-none (turn ∷ old) new same rest = absurd (let no : ⊥ = omega (arith, ap (λ (ts : List Turn). length ts) (same ∙ rest)) in no)
 
-pub holds-as : (k j : Line) (c : Connection) → j.intake ≡ k.intake → j.turns.items ≡ k.turns.items → j.fault ≡ k.fault → j.outbox ≡ k.outbox → Holds k c → Holds j c
+pub holds-as : (k j : Line) (c : Connection) → j.intake ≡ k.intake → j.turns.items ≡ k.turns.items → j.fault ≡ k.fault → j.outbox ≡ k.outbox → LineHolds k c → LineHolds j c
 holds-as k j c intake turns fault outbox holds = record {
   keeps = record {
     tied = rw outbox holds.keeps.tied;
@@ -153,7 +153,7 @@ holds-as k j c intake turns fault outbox holds = record {
 }
 
 pub take-request : (k j : Line) (c : Connection) (request : _) → c.over ≡ false → c.closing ≡ false → due c ≡ due_unsent c → k.turns.items ≡ Whole request ∷ j.turns.items → j.intake ≡ k.intake → j.fault ≡ k.fault → j.outbox ≡ k.outbox
-    → Holds k c → (due c ≡ Treat (Whole request)) × Owes j c
+    → LineHolds k c → (due c ≡ Treat (Whole request)) × Owes j c
 take-request k j c request lasts stays unsent first intake fault outbox holds =
     let reads = holds.keeps.reads stays in
     let splits : Splits c.turns (length c.slots) (Whole request ∷ j.turns.items) = rw first at reads.splits in
@@ -168,14 +168,14 @@ take-request k j c request lasts stays unsent first intake fault outbox holds =
       },
     )
 
-pub take-none : (k : Line) (c : Connection) → c.over ≡ false → c.closing ≡ false → due c ≡ due_unsent c → k.turns.items ≡ [] → Holds k c → due c ≡ due_at_turn None (end_of k.fault)
+pub take-none : (k : Line) (c : Connection) → c.over ≡ false → c.closing ≡ false → due c ≡ due_unsent c → k.turns.items ≡ [] → LineHolds k c → due c ≡ due_at_turn None (end_of k.fault)
 take-none k c lasts stays unsent none holds =
     let reads = holds.keeps.reads stays in
     let splits : Splits c.turns (length c.slots) [] = rw none at reads.splits in
     due-open c None lasts stays unsent (split-head _ _ _ splits) ∙ ap (due_at_turn None) reads.ends
 
 -- ---- a turn gets its place
-pub push-owed : (k j : Line) (c : Connection) (slot : Slot) → Owes k c → j.intake ≡ k.intake → j.fault ≡ k.fault → j.turns ≡ k.turns → Tied j.outbox (with_slot slot c) → LineKeeps j (with_slot slot c)
+pub push-owed : (k j : Line) (c : Connection) (slot : Slot) → Owes k c → j.intake ≡ k.intake → j.fault ≡ k.fault → j.turns ≡ k.turns → OutboxTied j.outbox (with_slot slot c) → LineKeeps j (with_slot slot c)
 push-owed k j c slot owes intake fault turns tied = record {
   tied = tied;
   reads = λ stays. record {
@@ -190,20 +190,20 @@ or-closes : (b d : Bool) → d ≡ true → (b || d) ≡ false → ⊥
 or-closes true d e f = cc
 or-closes false d e f = cc
 
-pub push-fault : (j : Line) (c : Connection) (slot : Slot) → slot.closes ≡ true → Tied j.outbox (with_slot slot c) → LineKeeps j (with_slot slot c)
+pub push-fault : (j : Line) (c : Connection) (slot : Slot) → slot.closes ≡ true → OutboxTied j.outbox (with_slot slot c) → LineKeeps j (with_slot slot c)
 push-fault j c slot closes tied = record { tied = tied; reads = λ stays. absurd (or-closes c.closing slot.closes closes stays) }
 
 -- ---- bytes come
-pub read-closing : (k : Line) (c : Connection) (bytes : List ℕ) → c.closing ≡ true → Holds k c → LineReads bytes c k
+pub read-closing : (k : Line) (c : Connection) (bytes : List ℕ) → c.closing ≡ true → LineHolds k c → LineReads bytes c k
 read-closing k c bytes closes holds = record {
   turns = [];
   ends = c.ends;
   spells = λ stays. absurd (let no : ⊥ = cc in no);
-  holds = subst (Holds k) (sym (ap (λ b. cond b c (advanced (record c { stream = c.stream ++ bytes; turns = c.turns ++ []; ends = c.ends }))) closes)) holds;
+  holds = subst (LineHolds k) (sym (ap (λ b. cond b c (with_due_continue (record c { stream = c.stream ++ bytes; turns = c.turns ++ []; ends = c.ends }))) closes)) holds;
 }
 
-pub read-open : (k j m : Line) (i : Intake) (c : Connection) (bytes : List ℕ) → c.closing ≡ false → Holds k c → StandsFor i (c.stream ++ bytes) c.turns → TellsTurns i k.turns.items j.intake j.turns.items j.fault → j.outbox ≡ k.outbox
-    → ((d : Connection) → LineKeeps j d → Holds m (advanced d)) → LineReads bytes c m
+pub read-open : (k j m : Line) (i : Intake) (c : Connection) (bytes : List ℕ) → c.closing ≡ false → LineHolds k c → StandsFor i (c.stream ++ bytes) c.turns → TellsTurns i k.turns.items j.intake j.turns.items j.fault → j.outbox ≡ k.outbox
+    → ((d : Connection) → LineKeeps j d → LineHolds m (with_due_continue d)) → LineReads bytes c m
 read-open k j m i c bytes stays holds stands tells outbox advances =
     let reads = holds.keeps.reads stays in
     let tied = holds.keeps.tied in
@@ -223,7 +223,7 @@ read-open k j m i c bytes stays holds stands tells outbox advances =
       turns = tells.turns;
       ends = end_of j.fault;
       spells = λ still. spells;
-      holds = subst (Holds m) (sym (ap (λ b. cond b c (advanced fed_c)) stays)) (advances fed_c keeps);
+      holds = subst (LineHolds m) (sym (ap (λ b. cond b c (with_due_continue fed_c)) stays)) (advances fed_c keeps);
     }
 
 -- ---- turns are told
@@ -248,7 +248,7 @@ tells_end i j m before after_ fault on keeps ends = record {
 }
 
 -- ---- a new line, and what is sent
-pub new-holds : (k : Line) (peer : List ℕ) → StandsFor k.intake [] [] → k.turns.items ≡ [] → k.fault ≡ None → Tied k.outbox (fresh peer) → Holds k (fresh peer)
+pub new-holds : (k : Line) (peer : List ℕ) → StandsFor k.intake [] [] → k.turns.items ≡ [] → k.fault ≡ None → OutboxTied k.outbox (fresh peer) → LineHolds k (fresh peer)
 new-holds k peer stands none whole tied = record {
   keeps = record {
     tied = tied;
@@ -262,12 +262,12 @@ new-holds k peer stands none whole tied = record {
   ready = λ stays. rw none tt;
 }
 
-pub send-dry : (k : Line) (sent : Option Sending) → IfSome sent (λ s. (m : Connection) → Tied k.outbox m → IsTrue s.dry → IsInPlaceOfDue (due m) s.bytes) → IfSome sent (λ s. (m : Connection) → Holds k m → IsTrue s.dry → IsInPlaceOfDue (due m) s.bytes)
+pub send-dry : (k : Line) (sent : Option Sending) → IfSome sent (λ s. (m : Connection) → OutboxTied k.outbox m → IsTrue s.dry → IsInPlaceOfDue (due m) s.bytes) → IfSome sent (λ s. (m : Connection) → LineHolds k m → IsTrue s.dry → IsInPlaceOfDue (due m) s.bytes)
 send-dry k None shows = tt
 send-dry k (Some s) shows = λ m holds dry. shows m holds.keeps.tied dry
 
-pub send-holds : (k : Line) (o : Outbox) (sent : Option Sending) → IfSome sent (λ s. (m : Connection) → Tied k.outbox m → IsDueSending m s × Tied o (with_sent s.bytes m))
-    → IfSome sent (λ s. (m : Connection) → Holds k m → IsDueSending m s × Holds (record k { outbox = o }) (with_sent s.bytes m))
+pub send-holds : (k : Line) (o : Outbox) (sent : Option Sending) → IfSome sent (λ s. (m : Connection) → OutboxTied k.outbox m → IsDueSending m s × OutboxTied o (with_sent s.bytes m))
+    → IfSome sent (λ s. (m : Connection) → LineHolds k m → IsDueSending m s × LineHolds (record k { outbox = o }) (with_sent s.bytes m))
 send-holds k o None sends = tt
 send-holds k o (Some s) sends = λ m holds.
     let sent = sends m holds.keeps.tied in

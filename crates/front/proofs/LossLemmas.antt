@@ -10,7 +10,7 @@ use Rattle.front.specs.declared.note.Note.{Note}
 use Rattle.front.specs.declared.note.Note.TheVariants.{Refused}
 use Rattle.front.specs.declared.step.Step.{Step}
 use Rattle.front.specs.declared.step.Step.TheVariants as step
-use Rattle.front.specs.Events.{DeliverAs, DeliverTo, Event, HappensBy, PieceTo, RenderTo, going, is_rendered, is_unrendered, most_lines, opening, picked}
+use Rattle.front.specs.Events.{DeliverAs, DeliverTo, Event, HappensBy, PieceTo, RenderTo, going, is_rendered, is_unrendered, most_lines, opening, picked_flight}
 use Rattle.front.specs.Moves.{GivesDue, IsFirstPoint, Mood, Serves, due_of_connection, points, state_after_note}
 use Rattle.front.specs.Owned.{lost_by, lost_in}
 use Rattle.front.specs.States.{RunState}
@@ -80,6 +80,6 @@ step-lost w e (step.Opened c peer) keeps is = opening-lost w c (w.line c) e.body
 step-lost w e (step.Piece c bytes) keeps to = piece-lost w e c bytes (w.line c) to
 step-lost w e (step.Gone c) keeps is = going-lost (w.line c) e.body is
 step-lost w e (step.Direct target) keeps to = rw to.2 refl
-step-lost w e (step.Render pick) keeps to = render-lost w e (picked pick is_unrendered w.air) to
-step-lost w e (step.Deliver pick) keeps to = delivers-lost w e (picked pick is_rendered w.air) to
+step-lost w e (step.Render pick) keeps to = render-lost w e (picked_flight pick is_unrendered w.air) to
+step-lost w e (step.Deliver pick) keeps to = delivers-lost w e (picked_flight pick is_rendered w.air) to
 step-lost w e (step.Lose pick) keeps to = absurd keeps

@@ -15,20 +15,20 @@ use Rattle.front.specs.declared.note.Note.TheVariants.{Answer as answered, Ask a
 use Rattle.front.specs.declared.step.Step.{Step}
 use Rattle.front.specs.declared.step.Step.TheVariants as step
 use Rattle.front.specs.States.{RunState, LogEntry}
-use Rattle.front.specs.Events.{DeliverAs, DeliverTo, Event, HappensBy, LeadsNotes, LoseTo, PieceTo, ShowsLack, SomeShowsLack, begun, gone, going, is_any, is_rendered, most_lines, opened, opening, picked}
+use Rattle.front.specs.Events.{DeliverAs, DeliverTo, Event, HappensBy, LeadsNotes, LoseTo, PieceTo, ShowsLack, SomeShowsLack, state_before_notes, state_after_going, going, is_any, is_rendered, most_lines, state_after_opening, opening, picked_flight}
 use Rattle.front.specs.Histories.{is_idle}
-use Rattle.front.specs.Moves.{Mood, GivesDue, IsFirstPoint, points, Serves, state_after_note, afters, asked_by, due_of_connection, flight_at, over_with, request_of}
+use Rattle.front.specs.Moves.{Mood, GivesDue, IsFirstPoint, points, Serves, state_after_note, state_after_notes, state_after_ask, due_of_connection, flight_at, over_with, request_of}
 
-pub afters-push : (w : RunState) (notes : List Note) (note : Note) → afters w (notes ++ note ∷ []) ≡ state_after_note (afters w notes) note
+pub afters-push : (w : RunState) (notes : List Note) (note : Note) → state_after_notes w (notes ++ note ∷ []) ≡ state_after_note (state_after_notes w notes) note
 afters-push w [] note = refl
 afters-push w (n ∷ notes) note = afters-push (state_after_note w n) notes note
 
-pub serves-push : (m : Mood) (w : RunState) (c : ℕ) (notes : List Note) (note : Note) → Serves m w c notes → GivesDue m (afters w notes) c (due_of_connection (afters w notes) c) note → Serves m w c (notes ++ note ∷ [])
+pub serves-push : (m : Mood) (w : RunState) (c : ℕ) (notes : List Note) (note : Note) → Serves m w c notes → GivesDue m (state_after_notes w notes) c (due_of_connection (state_after_notes w notes) c) note → Serves m w c (notes ++ note ∷ [])
 serves-push m w c [] note serves gives = (gives, tt)
 serves-push m w c (n ∷ notes) note serves gives = (serves.0, serves-push m (state_after_note w n) c notes note serves.1 gives)
 
 -- one of the notes shows that memory was wanting, with one note more
-pub shows-push : (w : RunState) (notes : List Note) (note : Note) → SomeShowsLack w notes ⊎ ShowsLack (afters w notes) note → SomeShowsLack w (notes ++ note ∷ [])
+pub shows-push : (w : RunState) (notes : List Note) (note : Note) → SomeShowsLack w notes ⊎ ShowsLack (state_after_notes w notes) note → SomeShowsLack w (notes ++ note ∷ [])
 shows-push w [] note (inl none) = absurd none
 shows-push w [] note (inr here) = inl here
 shows-push w (n ∷ notes) note (inl (inl first)) = inl first
@@ -47,7 +47,7 @@ same w = record { publishing = refl; farm = refl; content = refl }
 chain : (u v w : RunState) → SameContent u v → SameContent v w → SameContent u w
 chain u v w f g = record { publishing = g.publishing ∙ f.publishing; farm = g.farm ∙ f.farm; content = g.content ∙ f.content }
 
-asked-same : (w : RunState) (number c : ℕ) (key : Option PageKey) (request : Option Req) → SameContent w (asked_by w number c key request)
+asked-same : (w : RunState) (number c : ℕ) (key : Option PageKey) (request : Option Req) → SameContent w (state_after_ask w number c key request)
 asked-same w number c key None = same w
 asked-same w number c key (Some request) = record { publishing = refl; farm = refl; content = refl }
 
@@ -82,7 +82,7 @@ after-same w (Refused c) is = same w
 after-same w Idle is = same w
 after-same w Dry is = same w
 
-opened-same : (w : RunState) (c : ℕ) (peer : List ℕ) (line : Option Connection) → SameContent w (opened w c peer line)
+opened-same : (w : RunState) (c : ℕ) (peer : List ℕ) (line : Option Connection) → SameContent w (state_after_opening w c peer line)
 opened-same w c peer (Some line) = same w
 opened-same w c peer None = by_test (nat_le most_lines w.lines)
   where
@@ -90,11 +90,11 @@ opened-same w c peer None = by_test (nat_le most_lines w.lines)
     by_test true = same w
     by_test false = record { publishing = refl; farm = refl; content = refl }
 
-gone-same : (w : RunState) (c : ℕ) (line : Option Connection) → SameContent w (gone w c line)
+gone-same : (w : RunState) (c : ℕ) (line : Option Connection) → SameContent w (state_after_going w c line)
 gone-same w c None = same w
 gone-same w c (Some line) = record { publishing = refl; farm = refl; content = refl }
 
-begun-same : (w : RunState) (e : Event) (s : Step) → SameContent w (begun w e s)
+begun-same : (w : RunState) (e : Event) (s : Step) → SameContent w (state_before_notes w e s)
 begun-same w e (step.Opened c peer) = opened-same w c peer (w.line c)
 begun-same w e (step.Piece c bytes) = record { publishing = refl; farm = refl; content = refl }
 begun-same w e (step.Gone c) = gone-same w c (w.line c)
@@ -108,9 +108,9 @@ abbrev pub AreStillNotes : List Note → Type 0
 AreStillNotes [] = Unit {0}
 AreStillNotes (note ∷ notes) = IsStillNote note × AreStillNotes notes
 
-pub afters-same : (w : RunState) (notes : List Note) → AreStillNotes notes → SameContent w (afters w notes)
+pub afters-same : (w : RunState) (notes : List Note) → AreStillNotes notes → SameContent w (state_after_notes w notes)
 afters-same w [] are = same w
-afters-same w (n ∷ notes) are = chain w (state_after_note w n) (afters (state_after_note w n) notes) (after-same w n are.0) (afters-same (state_after_note w n) notes are.1)
+afters-same w (n ∷ notes) are = chain w (state_after_note w n) (state_after_notes (state_after_note w n) notes) (after-same w n are.0) (afters-same (state_after_note w n) notes are.1)
 
 first-still : (m : Mood) (w : RunState) (c : ℕ) (request : Req) (note : Note) → IsFirstPoint m w c request note points → IsStillNote note
 first-still m w c request note (inl crowded) = rw crowded.1 tt
@@ -205,12 +205,12 @@ step-still w e (step.Piece c bytes) still to = piece-still w e c bytes (w.line c
 step-still w e (step.Gone c) still is = going-still (w.line c) e.body is
 step-still w e (step.Direct target) still to = rw to.2 (tt, tt)
 step-still w e (step.Render pick) still to = absurd still
-step-still w e (step.Deliver pick) still to = delivers-still w e (picked pick is_rendered w.air) to
-step-still w e (step.Lose pick) still to = loses-still w e (picked pick is_any w.air) to
+step-still w e (step.Deliver pick) still to = delivers-still w e (picked_flight pick is_rendered w.air) to
+step-still w e (step.Lose pick) still to = loses-still w e (picked_flight pick is_any w.air) to
 
 -- an event that renders no flight leaves the content
-pub step-same : (w : RunState) (e : Event) (s : Step) → IsStillStep s → HappensBy w e s → SameContent w (afters (begun w e s) e.body)
-step-same w e s still happens = chain w (begun w e s) (afters (begun w e s) e.body) (begun-same w e s) (afters-same (begun w e s) e.body (step-still w e s still happens))
+pub step-same : (w : RunState) (e : Event) (s : Step) → IsStillStep s → HappensBy w e s → SameContent w (state_after_notes (state_before_notes w e s) e.body)
+step-same w e s still happens = chain w (state_before_notes w e s) (state_after_notes (state_before_notes w e s) e.body) (begun-same w e s) (afters-same (state_before_notes w e s) e.body (step-still w e s still happens))
 
 -- ---- what notes on one connection leave alone
 pub record Frame (c : ℕ) (w v : RunState) : Type 0 where
@@ -223,7 +223,7 @@ frame-more c u v w f g = record {
   lines = g.lines ∙ f.lines;
 }
 
-asked-frame : (w : RunState) (number c : ℕ) (key : Option PageKey) (request : Option Req) → Frame c w (asked_by w number c key request)
+asked-frame : (w : RunState) (number c : ℕ) (key : Option PageKey) (request : Option Req) → Frame c w (state_after_ask w number c key request)
 asked-frame w number c key None = record { others = λ d apart. refl; lines = refl }
 asked-frame w number c key (Some request) = record { others = λ d apart. update_apart w.line c _ d apart; lines = refl }
 
@@ -248,11 +248,11 @@ gives-frame m w c Close note gives = inl gives
 gives-frame m w c Nothing note gives = absurd gives
 
 -- a connection that is shut is owed nothing, so no note follows
-shut-last : (m : Mood) (w : RunState) (c : ℕ) (notes : List Note) (k : Connection) → w.line c ≡ None → Serves m w c notes → (afters w notes).line c ≡ Some k → ⊥
+shut-last : (m : Mood) (w : RunState) (c : ℕ) (notes : List Note) (k : Connection) → w.line c ≡ None → Serves m w c notes → (state_after_notes w notes).line c ≡ Some k → ⊥
 shut-last m w c [] k none serves some = let no : ⊥ = cc in no
 shut-last m w c (n ∷ notes) k none serves some = rw none at serves.0
 
-pub serves-frame : (m : Mood) (w : RunState) (c : ℕ) (notes : List Note) (k : Connection) → Serves m w c notes → (afters w notes).line c ≡ Some k → Frame c w (afters w notes)
+pub serves-frame : (m : Mood) (w : RunState) (c : ℕ) (notes : List Note) (k : Connection) → Serves m w c notes → (state_after_notes w notes).line c ≡ Some k → Frame c w (state_after_notes w notes)
 serves-frame m w c [] k serves some = record { others = λ d apart. refl; lines = refl }
 serves-frame m w c (n ∷ notes) k serves some =
     ⊎_elim

@@ -12,14 +12,14 @@ use Rattle.http_front.specs.declared.fault.InFault.{InFault}
 use Rattle.http_front.specs.declared.turn.Turn.{Turn}
 use Rattle.http_front.specs.declared.turn.Turn.TheVariants.{Continue, Whole}
 use Rattle.connections.specs.Slots.{Awaits, Says, Slot, interim_slot, is_answered, is_awaiting, local_response, request_slot}
-use Rattle.connections.specs.Connections.{Close, Connection, Due, Nothing, Refuse, Send, Treat, advanced, after_turn, due_at_slot, due_at_turn, due_unsent, fed, next_turn, with_landing, with_sent, with_slot}
+use Rattle.connections.specs.Connections.{Close, Connection, Due, Nothing, Refuse, Send, Treat, with_due_continue, after_turn, due_at_slot, due_at_turn, due_unsent, with_piece, next_turn, with_landing, with_sent, with_slot}
 use Rattle.connections.specs.Connections as connection
 use Rattle.connections.specs.declared.sending.Sending.{Sending}
 use Rattle.front.specs.declared.flying.Flying.{Flying}
 use Rattle.front.specs.declared.note.Note.{Note}
 use Rattle.front.specs.declared.note.Note.TheVariants.{Ask as asked, Local, Sent, Shut}
 use Rattle.front.specs.Histories.{sent_by, sent_in}
-use Rattle.front.specs.Moves.{GivesDue, IsFirstPoint, Mood, Serves, state_after_note, afters, asked_by, due_of_connection, line_due, local_slot, points, request_of, treated}
+use Rattle.front.specs.Moves.{GivesDue, IsFirstPoint, Mood, Serves, state_after_note, state_after_notes, state_after_ask, due_of_connection, line_due, local_slot, points, request_of, with_turn_slot}
 use Rattle.front.specs.Owned.{AreEach, ByFlight, ByStatus, IsOfFlight, Outcomes, Treating, treated_by, treated_in}
 use Rattle.front.specs.States.{RunState, flights_asked}
 use Rattle.front.proofs.AirLemmas.{Agrees, IsAskedFor, IsOfAir, IsOver, Moved, air-moved, asked-new, moved-asked, moved-same, moved-then}
@@ -131,7 +131,7 @@ owns-turn w outcomes treatings d None next owns = owns
 owns-turn w outcomes treatings d (Some Continue) next owns = owns-interim w outcomes treatings d next owns
 owns-turn w outcomes treatings d (Some (Whole request)) next owns = owns
 
-pub owns-advanced : (w : RunState) (outcomes : Outcomes) (treatings : List Treating) (d : Connection) → Owns w outcomes treatings d → Owns w outcomes treatings (advanced d)
+pub owns-advanced : (w : RunState) (outcomes : Outcomes) (treatings : List Treating) (d : Connection) → Owns w outcomes treatings d → Owns w outcomes treatings (with_due_continue d)
 owns-advanced w outcomes treatings d owns = by_test d.closing
   where
     by_test : (b : Bool) → Owns w outcomes treatings (if b then d else after_turn (next_turn d) d)
@@ -139,14 +139,14 @@ owns-advanced w outcomes treatings d owns = by_test d.closing
     by_test false = owns-turn w outcomes treatings d (next_turn d) refl owns
 
 owns-request : (w : RunState) (outcomes : Outcomes) (treatings : List Treating) (d : Connection) (treating : Treating) (request : Req) (slot : Slot) → next_turn d ≡ Some (Whole request)
-    → IsOfAir w.air (flights_asked w.log.entries) outcomes treating request slot.response → Owns w outcomes treatings d → Owns w outcomes (treatings ++ treating ∷ []) (treated slot d)
+    → IsOfAir w.air (flights_asked w.log.entries) outcomes treating request slot.response → Owns w outcomes treatings d → Owns w outcomes (treatings ++ treating ∷ []) (with_turn_slot slot d)
 owns-request w outcomes treatings d treating request slot next is owns = owns-advanced w outcomes (treatings ++ treating ∷ []) (with_slot slot d) (record {
   each = each-push (IsOfAir w.air (flights_asked w.log.entries) outcomes) treatings d.turns d.slots treating request slot owns.each next is;
   room = λ stays. omega (arith, some-within d.turns (length d.slots) (Whole request) next, length-append d.slots (slot ∷ []));
 })
 
 owns-fault : (w : RunState) (outcomes : Outcomes) (treatings : List Treating) (d : Connection) (slot : Slot) (status : ℕ) → next_turn d ≡ None → d.closing ≡ false → slot.closes ≡ true → slot.response ≡ local_response status → Owns w outcomes treatings d
-    → Owns w outcomes (treatings ++ ByStatus status ∷ []) (treated slot d)
+    → Owns w outcomes (treatings ++ ByStatus status ∷ []) (with_turn_slot slot d)
 owns-fault w outcomes treatings d slot status next stays closes is owns = owns-advanced w outcomes (treatings ++ ByStatus status ∷ []) (with_slot slot d) (record {
   each = each-fault (IsOfAir w.air (flights_asked w.log.entries) outcomes) treatings d.turns d.slots slot status owns.each next (owns.room stays) is;
   room = λ open_. absurd (or-true d.closing (ap (λ b. d.closing || b) (sym closes) ∙ open_));
@@ -176,10 +176,10 @@ local-owns w c d outcomes treatings came sent request status is owed own =
     let some : request_of (due_of_connection w c) ≡ Some request = ap request_of (ap line_due is ∙ owed) in
     let slot = local_slot (Some request) status d in
     let v = state_after_note w (Local c status) in
-    let now : v.line c ≡ Some (treated slot d) = update_here w.line c _ ∙ ap (option_map (λ line. treated (local_slot (request_of (due_of_connection w c)) status line) line)) is ∙ ap (λ r. Some (treated (local_slot r status d) d)) some in
+    let now : v.line c ≡ Some (with_turn_slot slot d) = update_here w.line c _ ∙ ap (option_map (λ line. with_turn_slot (local_slot (request_of (due_of_connection w c)) status line) line)) is ∙ ap (λ r. Some (with_turn_slot (local_slot r status d) d)) some in
     let before : Owns v outcomes treatings d = owns-moved w v outcomes outcomes treatings d (moved-same w.air (flights_asked w.log.entries) outcomes own.air_is) (own.here d is) in
-    let owns : Owns v outcomes (treatings ++ ByStatus status ∷ []) (treated slot d) = owns-request v outcomes treatings d (ByStatus status) request slot (turn-next (next_turn d) d.ends (Whole request) next.0) refl before in
-    own-one v c outcomes _ came (sent ++ []) (treated slot d) now (subst (λ fs. Owns v outcomes fs (treated slot d)) (sym (treated-here treatings c status)) owns) own.air_is
+    let owns : Owns v outcomes (treatings ++ ByStatus status ∷ []) (with_turn_slot slot d) = owns-request v outcomes treatings d (ByStatus status) request slot (turn-next (next_turn d) d.ends (Whole request) next.0) refl before in
+    own-one v c outcomes _ came (sent ++ []) (with_turn_slot slot d) now (subst (λ fs. Owns v outcomes fs (with_turn_slot slot d)) (sym (treated-here treatings c status)) owns) own.air_is
 
 refused-owns : (w : RunState) (c : ℕ) (d : Connection) (outcomes : Outcomes) (treatings : List Treating) (came : List ℕ) (sent : List Sending) (fault : InFault) (status : ℕ) → w.line c ≡ Some d → connection.due d ≡ Refuse fault → Own w c outcomes treatings came sent
     → Own (state_after_note w (Local c status)) c outcomes (treatings ++ treated_by c (Local c status)) came (sent ++ [])
@@ -188,10 +188,10 @@ refused-owns w c d outcomes treatings came sent fault status is owed own =
     let none : request_of (due_of_connection w c) ≡ None = ap request_of (ap line_due is ∙ owed) in
     let slot = local_slot None status d in
     let v = state_after_note w (Local c status) in
-    let now : v.line c ≡ Some (treated slot d) = update_here w.line c _ ∙ ap (option_map (λ line. treated (local_slot (request_of (due_of_connection w c)) status line) line)) is ∙ ap (λ r. Some (treated (local_slot r status d) d)) none in
+    let now : v.line c ≡ Some (with_turn_slot slot d) = update_here w.line c _ ∙ ap (option_map (λ line. with_turn_slot (local_slot (request_of (due_of_connection w c)) status line) line)) is ∙ ap (λ r. Some (with_turn_slot (local_slot r status d) d)) none in
     let before : Owns v outcomes treatings d = owns-moved w v outcomes outcomes treatings d (moved-same w.air (flights_asked w.log.entries) outcomes own.air_is) (own.here d is) in
-    let owns : Owns v outcomes (treatings ++ ByStatus status ∷ []) (treated slot d) = owns-fault v outcomes treatings d slot status (fault-next (next_turn d) d.ends fault next.0) next.1 refl refl before in
-    own-one v c outcomes _ came (sent ++ []) (treated slot d) now (subst (λ fs. Owns v outcomes fs (treated slot d)) (sym (treated-here treatings c status)) owns) own.air_is
+    let owns : Owns v outcomes (treatings ++ ByStatus status ∷ []) (with_turn_slot slot d) = owns-fault v outcomes treatings d slot status (fault-next (next_turn d) d.ends fault next.0) next.1 refl refl before in
+    own-one v c outcomes _ came (sent ++ []) (with_turn_slot slot d) now (subst (λ fs. Owns v outcomes fs (with_turn_slot slot d)) (sym (treated-here treatings c status)) owns) own.air_is
 
 asked-owns : (w : RunState) (c : ℕ) (d : Connection) (outcomes : Outcomes) (treatings : List Treating) (came : List ℕ) (sent : List Sending) (request : Req) → w.line c ≡ Some d → connection.due d ≡ Treat (Whole request) → Numbered w → Own w c outcomes treatings came sent
     → Own (state_after_note w (asked (flights_asked w.log.entries + 1) c None)) c outcomes (treatings ++ treated_by c (asked (flights_asked w.log.entries + 1) c None)) came (sent ++ [])
@@ -200,13 +200,13 @@ asked-owns w c d outcomes treatings came sent request is owed numbered own =
     let n = flights_asked w.log.entries + 1 in
     let some : request_of (due_of_connection w c) ≡ Some request = ap request_of (ap line_due is ∙ owed) in
     let slot = request_slot request false (Awaits n) in
-    let v = asked_by w n c None (Some request) in
-    let now : v.line c ≡ Some (treated slot d) = update_here w.line c _ ∙ ap (option_map (treated slot)) is in
+    let v = state_after_ask w n c None (Some request) in
+    let now : v.line c ≡ Some (with_turn_slot slot d) = update_here w.line c _ ∙ ap (option_map (with_turn_slot slot)) is in
     let moves : Moves w outcomes v outcomes = moved-asked w.air (flights_asked w.log.entries) c request outcomes numbered own.air_is in
     let before : Owns v outcomes treatings d = owns-moved w v outcomes outcomes treatings d moves (own.here d is) in
-    let owns : Owns v outcomes (treatings ++ ByFlight n ∷ []) (treated slot d) = owns-request v outcomes treatings d (ByFlight n) request slot (turn-next (next_turn d) d.ends (Whole request) next.0) (refl, asked-new w.air (flights_asked w.log.entries) c request numbered) before in
-    let done : Own v c outcomes (treatings ++ treated_by c (asked n c None)) came (sent ++ []) = own-one v c outcomes _ came (sent ++ []) (treated slot d) now (subst (λ fs. Owns v outcomes fs (treated slot d)) (sym (asked-here treatings c n None)) owns) moves.air_is in
-    subst (λ r. Own (asked_by w n c None r) c outcomes (treatings ++ treated_by c (asked n c None)) came (sent ++ [])) (sym some) done
+    let owns : Owns v outcomes (treatings ++ ByFlight n ∷ []) (with_turn_slot slot d) = owns-request v outcomes treatings d (ByFlight n) request slot (turn-next (next_turn d) d.ends (Whole request) next.0) (refl, asked-new w.air (flights_asked w.log.entries) c request numbered) before in
+    let done : Own v c outcomes (treatings ++ treated_by c (asked n c None)) came (sent ++ []) = own-one v c outcomes _ came (sent ++ []) (with_turn_slot slot d) now (subst (λ fs. Owns v outcomes fs (with_turn_slot slot d)) (sym (asked-here treatings c n None)) owns) moves.air_is in
+    subst (λ r. Own (state_after_ask w n c None r) c outcomes (treatings ++ treated_by c (asked n c None)) came (sent ++ [])) (sym some) done
 
 first-owns : (m : Mood) (w : RunState) (c : ℕ) (d : Connection) (outcomes : Outcomes) (treatings : List Treating) (came : List ℕ) (sent : List Sending) (request : Req) (note : Note) → w.line c ≡ Some d → connection.due d ≡ Treat (Whole request) → Numbered w
     → Own w c outcomes treatings came sent → IsFirstPoint m w c request note points → Own (state_after_note w note) c outcomes (treatings ++ treated_by c note) came (sent ++ sent_by c m note)
@@ -249,13 +249,13 @@ line-owns m w c outcomes treatings came sent note (Some d) is held numbered own 
 
 -- all that the connection is owed
 pub serves-owns : (m : Mood) (w : RunState) (c : ℕ) (outcomes : Outcomes) (treatings : List Treating) (came : List ℕ) (sent : List Sending) (notes : List Note) → Held w c came sent → Numbered w → Own w c outcomes treatings came sent → Serves m w c notes
-    → Own (afters w notes) c outcomes (treatings ++ treated_in c notes) came (sent ++ sent_in c m notes)
+    → Own (state_after_notes w notes) c outcomes (treatings ++ treated_in c notes) came (sent ++ sent_in c m notes)
 serves-owns m w c outcomes treatings came sent [] held numbered own serves = subst (λ fs. Own w c outcomes fs came (sent ++ [])) (sym (append-nil treatings)) (subst (λ xs. Own w c outcomes treatings came xs) (sym (append-nil sent)) own)
 serves-owns m w c outcomes treatings came sent (note ∷ notes) held numbered own serves =
     let one = line-owns m w c outcomes treatings came sent note (w.line c) refl held numbered own serves.0 in
     let held_next = line-held m w c came sent note (w.line c) refl held serves.0 in
     let rest = serves-owns m (state_after_note w note) c outcomes (treatings ++ treated_by c note) came (sent ++ sent_by c m note) notes held_next (gives-numbered m w c (due_of_connection w c) note numbered serves.0) one serves.1 in
-    let v = afters (state_after_note w note) notes in
+    let v = state_after_notes (state_after_note w note) notes in
     subst (λ fs. Own v c outcomes fs came (sent ++ sent_in c m (note ∷ notes))) (append_assoc treatings (treated_by c note) (treated_in c notes))
     (subst (λ xs. Own v c outcomes ((treatings ++ treated_by c note) ++ treated_in c notes) came xs) (append_assoc sent (sent_by c m note) (sent_in c m notes)) rest)
 
@@ -275,7 +275,7 @@ pub record Elsewhere (w v : RunState) (outcomes : Outcomes) (treatings : List Tr
   pub none : treatings ≡ []
   pub moves : Moves w outcomes v outcomes
 
-asked-elsewhere : (w : RunState) (d : ℕ) (outcomes : Outcomes) (request : Option Req) → Numbered w → Agrees outcomes w.air (flights_asked w.log.entries) → Moves w outcomes (asked_by w (flights_asked w.log.entries + 1) d None request) outcomes
+asked-elsewhere : (w : RunState) (d : ℕ) (outcomes : Outcomes) (request : Option Req) → Numbered w → Agrees outcomes w.air (flights_asked w.log.entries) → Moves w outcomes (state_after_ask w (flights_asked w.log.entries + 1) d None request) outcomes
 asked-elsewhere w d outcomes None numbered air_is = moved-same w.air (flights_asked w.log.entries) outcomes air_is
 asked-elsewhere w d outcomes (Some request) numbered air_is = moved-asked w.air (flights_asked w.log.entries) d request outcomes numbered air_is
 
@@ -299,14 +299,14 @@ gives-elsewhere m w c d outcomes (Refuse fault) note apart numbered air_is gives
 gives-elsewhere m w c d outcomes Close note apart numbered air_is gives = rw gives (record { none = refl; moves = moved-same w.air (flights_asked w.log.entries) outcomes air_is })
 gives-elsewhere m w c d outcomes Nothing note apart numbered air_is gives = absurd gives
 
-pub serves-elsewhere : (m : Mood) (w : RunState) (c d : ℕ) (outcomes : Outcomes) (notes : List Note) → c ≢ d → Numbered w → Agrees outcomes w.air (flights_asked w.log.entries) → Serves m w d notes → Elsewhere w (afters w notes) outcomes (treated_in c notes)
+pub serves-elsewhere : (m : Mood) (w : RunState) (c d : ℕ) (outcomes : Outcomes) (notes : List Note) → c ≢ d → Numbered w → Agrees outcomes w.air (flights_asked w.log.entries) → Serves m w d notes → Elsewhere w (state_after_notes w notes) outcomes (treated_in c notes)
 serves-elsewhere m w c d outcomes [] apart numbered air_is serves = record { none = refl; moves = moved-same w.air (flights_asked w.log.entries) outcomes air_is }
 serves-elsewhere m w c d outcomes (note ∷ notes) apart numbered air_is serves =
     let one = gives-elsewhere m w c d outcomes (due_of_connection w d) note apart numbered air_is serves.0 in
     let rest = serves-elsewhere m (state_after_note w note) c d outcomes notes apart (gives-numbered m w d (due_of_connection w d) note numbered serves.0) one.moves.air_is serves.1 in
     record {
       none = ap (λ xs. xs ++ treated_in c notes) one.none ∙ rest.none;
-      moves = moved-then w.air (state_after_note w note).air (afters (state_after_note w note) notes).air (flights_asked w.log.entries) (flights_asked (state_after_note w note).log.entries) (flights_asked (afters (state_after_note w note) notes).log.entries) outcomes outcomes outcomes one.moves rest.moves;
+      moves = moved-then w.air (state_after_note w note).air (state_after_notes (state_after_note w note) notes).air (flights_asked w.log.entries) (flights_asked (state_after_note w note).log.entries) (flights_asked (state_after_notes (state_after_note w note) notes).log.entries) outcomes outcomes outcomes one.moves rest.moves;
     }
 
 -- ---- a flight has landed
@@ -323,10 +323,10 @@ owns-landed w v outcomes all treatings n answer d moves good owns = record {
     lands (ByFlight k) request is = good k request is.0 is.1
 
 -- ---- more bytes
-pub owns-fed : (w : RunState) (outcomes : Outcomes) (treatings : List Treating) (bytes : List ℕ) (turns : List Turn) (ends : End) (d : Connection) → Owns w outcomes treatings d → Owns w outcomes treatings (fed bytes turns ends d)
+pub owns-fed : (w : RunState) (outcomes : Outcomes) (treatings : List Treating) (bytes : List ℕ) (turns : List Turn) (ends : End) (d : Connection) → Owns w outcomes treatings d → Owns w outcomes treatings (with_piece bytes turns ends d)
 owns-fed w outcomes treatings bytes turns ends d owns = by_test d.closing refl
   where
-    by_test : (b : Bool) → d.closing ≡ b → Owns w outcomes treatings (if b then d else advanced (longer bytes turns ends d))
+    by_test : (b : Bool) → d.closing ≡ b → Owns w outcomes treatings (if b then d else with_due_continue (longer bytes turns ends d))
     by_test true e = owns
     by_test false e =
         let room = owns.room e in

@@ -10,7 +10,7 @@ use Rattle.http_front.specs.declared.turn.Turn.{Turn}
 use Rattle.http_front.specs.declared.turn.Turn.TheVariants.{Continue, Whole}
 use Rattle.sp_base.specs.declared.answer.Answer.{Answer}
 use Rattle.connections.specs.Slots.{Slot, interim_slot}
-use Rattle.connections.specs.Connections.{Connection, Due, Send, advanced, after_turn, fed, fresh, next_turn, with_landing, with_sent, with_slot}
+use Rattle.connections.specs.Connections.{Connection, Due, Send, with_due_continue, after_turn, with_piece, fresh, next_turn, with_landing, with_sent, with_slot}
 use Rattle.connections.specs.Connections as connection
 use Rattle.connections.specs.Histories.{Follows, IsMove, Landing, Move, Shut as ShutMove, Sent as SentMove, Piece as PieceMove, Treatment, after_all, sendings}
 use Rattle.connections.specs.Histories as history
@@ -47,15 +47,15 @@ same-turn None d = same-here d
 same-turn (Some Continue) d = same-slot interim_slot d
 same-turn (Some (Whole request)) d = same-here d
 
-same-advanced : (d : Connection) → Same d (advanced d)
+same-advanced : (d : Connection) → Same d (with_due_continue d)
 same-advanced d = by_test d.closing
   where
     by_test : (b : Bool) → Same d (if b then d else after_turn (next_turn d) d)
     by_test true = same-here d
     by_test false = same-turn (next_turn d) d
 
-pub same-treated : (slot : Slot) (d : Connection) → Same d (advanced (with_slot slot d))
-same-treated slot d = same-then d (with_slot slot d) (advanced (with_slot slot d)) (same-slot slot d) (same-advanced (with_slot slot d))
+pub same-treated : (slot : Slot) (d : Connection) → Same d (with_due_continue (with_slot slot d))
+same-treated slot d = same-then d (with_slot slot d) (with_due_continue (with_slot slot d)) (same-slot slot d) (same-advanced (with_slot slot d))
 
 pub same-sent : (bytes : List ℕ) (d : Connection) → Same d (with_sent bytes d)
 same-sent bytes d = record { stream = refl; turns = refl; ends = refl; closing = λ e. e }
@@ -67,10 +67,10 @@ same-landing flight answer d = record { stream = refl; turns = refl; ends = refl
 abbrev pub longer : List ℕ → List Turn → End → Connection → Connection
 longer bytes turns ends d = record d { stream = d.stream ++ bytes; turns = d.turns ++ turns; ends = ends }
 
-pub fed-closed : (bytes : List ℕ) (turns : List Turn) (ends : End) (d : Connection) → d.closing ≡ true → fed bytes turns ends d ≡ d
+pub fed-closed : (bytes : List ℕ) (turns : List Turn) (ends : End) (d : Connection) → d.closing ≡ true → with_piece bytes turns ends d ≡ d
 fed-closed bytes turns ends d e = rw e refl
 
-fed-open : (bytes : List ℕ) (turns : List Turn) (ends : End) (d : Connection) → d.closing ≡ false → fed bytes turns ends d ≡ advanced (longer bytes turns ends d)
+fed-open : (bytes : List ℕ) (turns : List Turn) (ends : End) (d : Connection) → d.closing ≡ false → with_piece bytes turns ends d ≡ with_due_continue (longer bytes turns ends d)
 fed-open bytes turns ends d e = rw e refl
 
 -- ---- the stream of no bytes
@@ -190,7 +190,7 @@ read-open d v bytes came sent turns ends same still spells past =
       read = λ e. refl;
     }
 
-past-read : (d : Connection) (came : List ℕ) (sent : List Sending) (bytes : List ℕ) (turns : List Turn) (ends : End) → Past d came sent → FedRead d (fed bytes turns ends d) bytes came → Past (fed bytes turns ends d) (came ++ bytes) sent
+past-read : (d : Connection) (came : List ℕ) (sent : List Sending) (bytes : List ℕ) (turns : List Turn) (ends : End) → Past d came sent → FedRead d (with_piece bytes turns ends d) bytes came → Past (with_piece bytes turns ends d) (came ++ bytes) sent
 past-read d came sent bytes turns ends past now = record {
   peer = past.peer;
   moves = past.moves ++ PieceMove bytes turns ends ∷ [];
@@ -203,12 +203,12 @@ past-read d came sent bytes turns ends past now = record {
   read = now.read;
 }
 
-pub past-fed : (d : Connection) (came : List ℕ) (sent : List Sending) (bytes : List ℕ) (turns : List Turn) (ends : End) → (d.closing ≡ false → SpellsTurns (d.stream ++ bytes) (d.turns ++ turns) ends) → Past d came sent → Past (fed bytes turns ends d) (came ++ bytes) sent
+pub past-fed : (d : Connection) (came : List ℕ) (sent : List Sending) (bytes : List ℕ) (turns : List Turn) (ends : End) → (d.closing ≡ false → SpellsTurns (d.stream ++ bytes) (d.turns ++ turns) ends) → Past d came sent → Past (with_piece bytes turns ends d) (came ++ bytes) sent
 past-fed d came sent bytes turns ends spells past = past-read d came sent bytes turns ends past (by_test d.closing refl)
   where
-    by_test : (b : Bool) → d.closing ≡ b → FedRead d (fed bytes turns ends d) bytes came
-    by_test true e = read-closed d (fed bytes turns ends d) bytes came sent (fed-closed bytes turns ends d e) e past
-    by_test false e = read-open d (fed bytes turns ends d) bytes came sent turns ends (subst (λ v. Same (longer bytes turns ends d) v) (sym (fed-open bytes turns ends d e)) (same-advanced (longer bytes turns ends d))) e (spells e) past
+    by_test : (b : Bool) → d.closing ≡ b → FedRead d (with_piece bytes turns ends d) bytes came
+    by_test true e = read-closed d (with_piece bytes turns ends d) bytes came sent (fed-closed bytes turns ends d e) e past
+    by_test false e = read-open d (with_piece bytes turns ends d) bytes came sent turns ends (subst (λ v. Same (longer bytes turns ends d) v) (sym (fed-open bytes turns ends d e)) (same-advanced (longer bytes turns ends d))) e (spells e) past
 
 -- ---- what a connection was at last
 -- it is shut, or gone: what it was when nothing more could be sent

@@ -7,14 +7,14 @@ use Rattle.sp_base.specs.declared.answer.Answer.{Answer}
 use Rattle.resource_tree.specs.Content.{Content}
 use Rattle.any_config.specs.declared.farm.Farm.{Farm}
 use Rattle.dispatch_rules.specs.Asking.{publisher_ask}
-use Rattle.connections.specs.Connections.{Connection, fed, fresh}
+use Rattle.connections.specs.Connections.{Connection, with_piece, fresh}
 use Rattle.front.specs.declared.flying.Flying.{Flying}
 use Rattle.front.specs.declared.note.Note.{Note}
 use Rattle.front.specs.declared.note.Note.TheVariants.{Answer as answered, Ask as asked, Local, Rendered, Passed, Lost, Sent, Shut, Refused, Idle, Dry}
 use Rattle.front.specs.declared.step.Step.{Step}
 use Rattle.front.specs.declared.step.Step.TheVariants as step
-use Rattle.front.specs.Events.{DeliverAs, DeliverTo, Event, HappensBy, IsOrFixed, LeadsNotes, LoseTo, PieceTo, RenderTo, Run, after_event, state_after_events, begun, gone, going, is_any, is_rendered, is_unrendered, most_lines, opened, opening, picked}
-use Rattle.front.specs.Moves.{Mood, Settles, state_after_note, afters, content_rendered, flight_at, on_line, over_with, published_for}
+use Rattle.front.specs.Events.{DeliverAs, DeliverTo, Event, HappensBy, IsOrFixed, LeadsNotes, LoseTo, PieceTo, RenderTo, Run, after_event, state_after_events, state_before_notes, state_after_going, going, is_any, is_rendered, is_unrendered, most_lines, state_after_opening, opening, picked_flight}
+use Rattle.front.specs.Moves.{Mood, Settles, state_after_note, state_after_notes, content_rendered, flight_at, on_line, over_with, published_for}
 use Rattle.front.specs.Publishers.{Publishing}
 use Rattle.front.specs.Renders.{ArePublished, IsNeverFixed, Rendering, rendered_by, rendering_of, renders_in, renders_of}
 use Rattle.front.specs.States.{LogEntry, RunState, flights_asked, start_of}
@@ -46,8 +46,8 @@ From w renders last = ArePublished w.publishing w.farm w.content renders last
 from-same : (w v : RunState) (renders : List Rendering) (last : Content) → SameContent w v → From v renders last → From w renders last
 from-same w v renders last same from = rw (← same.publishing, ← same.farm, ← same.content) from
 
-from-still : (w : RunState) (e : Event) (s : Step) (renders : List Rendering) (last : Content) → IsStillStep s → HappensBy w e s → From (afters (begun w e s) e.body) renders last → From w (renders_in (begun w e s) e.mood.dry e.body ++ renders) last
-from-still w e s renders last still happens from = rw (still-renders (begun w e s) e.mood.dry e.body (step-still w e s still happens)) (from-same w (afters (begun w e s) e.body) renders last (step-same w e s still happens) from)
+from-still : (w : RunState) (e : Event) (s : Step) (renders : List Rendering) (last : Content) → IsStillStep s → HappensBy w e s → From (state_after_notes (state_before_notes w e s) e.body) renders last → From w (renders_in (state_before_notes w e s) e.mood.dry e.body ++ renders) last
+from-still w e s renders last still happens from = rw (still-renders (state_before_notes w e s) e.mood.dry e.body (step-still w e s still happens)) (from-same w (state_after_notes (state_before_notes w e s) e.body) renders last (step-same w e s still happens) from)
 
 -- ---- an event with one
 render-from : (w : RunState) (dry : Bool) (f : Flying) (answer : Answer) (renders : List Rendering) (last : Content) → IsNeverFixed w.publishing → flight_at f.number w.air ≡ Some f → IsOrFixed (record { dry = dry }) answer (published_for w f.request).answer
@@ -62,7 +62,7 @@ render-from w dry f answer renders last never there (inr fixed) from =
     inr (fixed.0, fixed.1, subst (λ x. ArePublished w.publishing w.farm x renders last) stays from)
 
 from-render : (w : RunState) (e : Event) (flying : Option Flying) (renders : List Rendering) (last : Content) → IsNeverFixed w.publishing → ((f : Flying) → flying ≡ Some f → flight_at f.number w.air ≡ Some f) → RenderTo w e flying
-    → From (afters w e.body) renders last → From w (renders_in w e.mood.dry e.body ++ renders) last
+    → From (state_after_notes w e.body) renders last → From w (renders_in w e.mood.dry e.body ++ renders) last
 from-render w e None renders last never there to from =
     let stays : From w renders last = rw to at from in
     rw to stays
@@ -74,81 +74,81 @@ from-render w e (Some f) renders last never there to from =
 
 -- ---- the flights keep numbers of their own
 leads-numbered : (m : Mood) (w : RunState) (first : Note) (f : Flying) (answer : Answer) (entry : LogEntry) (notes : List Note) → Numbered w → state_after_note w first ≡ over_with w f.number answer entry (Some f) → flights_asked (entry ∷ w.log.entries) ≡ flights_asked w.log.entries
-    → LeadsNotes w m first f.line notes → Numbered (afters w notes)
+    → LeadsNotes w m first f.line notes → Numbered (state_after_notes w notes)
 leads-numbered m w first f answer entry notes numbered is same leads =
     let v = over_with w f.number answer entry (Some f) in
     let settles : Settles m v f.line leads.rest = subst (λ u. Settles m u f.line leads.rest) is leads.settles in
     let over : Numbered v = over-numbered w f.number answer entry (Some f) same numbered in
-    subst Numbered (sym (ap (afters w) leads.begins ∙ ap (λ u. afters u leads.rest) is)) (serves-numbered m v f.line leads.rest over settles.serves)
+    subst Numbered (sym (ap (state_after_notes w) leads.begins ∙ ap (λ u. state_after_notes u leads.rest) is)) (serves-numbered m v f.line leads.rest over settles.serves)
 
-idle-numbered : (w : RunState) (notes : List Note) → Numbered w → notes ≡ Idle ∷ [] → Numbered (afters w notes)
+idle-numbered : (w : RunState) (notes : List Note) → Numbered w → notes ≡ Idle ∷ [] → Numbered (state_after_notes w notes)
 idle-numbered w notes numbered is = rw is numbered
 
-opened-numbered : (w : RunState) (c : ℕ) (peer : List ℕ) (line : Option Connection) (notes : List Note) → Numbered w → notes ≡ opening c w.lines line → Numbered (afters (opened w c peer line) notes)
+opened-numbered : (w : RunState) (c : ℕ) (peer : List ℕ) (line : Option Connection) (notes : List Note) → Numbered w → notes ≡ opening c w.lines line → Numbered (state_after_notes (state_after_opening w c peer line) notes)
 opened-numbered w c peer (Some k) notes numbered is = rw is numbered
 opened-numbered w c peer None notes numbered is = by_room (nat_le most_lines w.lines) is
   where
-    by_room : (full : Bool) → notes ≡ (if full then Refused c ∷ [] else []) → Numbered (afters (if full then w else record w { line = update nat_eq w.line c (Some (fresh peer)); lines = w.lines + 1 }) notes)
+    by_room : (full : Bool) → notes ≡ (if full then Refused c ∷ [] else []) → Numbered (state_after_notes (if full then w else record w { line = update nat_eq w.line c (Some (fresh peer)); lines = w.lines + 1 }) notes)
     by_room true is = rw is numbered
     by_room false is = rw is numbered
 
-piece-numbered : (w : RunState) (e : Event) (c : ℕ) (bytes : List ℕ) (line : Option Connection) → Numbered w → PieceTo w e c bytes line → Numbered (afters (on_line w c (fed bytes e.turns e.ends)) e.body)
-piece-numbered w e c bytes None numbered to = idle-numbered (on_line w c (fed bytes e.turns e.ends)) e.body numbered to
-piece-numbered w e c bytes (Some k) numbered to = serves-numbered e.mood (on_line w c (fed bytes e.turns e.ends)) c e.body numbered to.settles.serves
+piece-numbered : (w : RunState) (e : Event) (c : ℕ) (bytes : List ℕ) (line : Option Connection) → Numbered w → PieceTo w e c bytes line → Numbered (state_after_notes (on_line w c (with_piece bytes e.turns e.ends)) e.body)
+piece-numbered w e c bytes None numbered to = idle-numbered (on_line w c (with_piece bytes e.turns e.ends)) e.body numbered to
+piece-numbered w e c bytes (Some k) numbered to = serves-numbered e.mood (on_line w c (with_piece bytes e.turns e.ends)) c e.body numbered to.settles.serves
 
-gone-numbered : (w : RunState) (c : ℕ) (line : Option Connection) (notes : List Note) → Numbered w → notes ≡ going line → Numbered (afters (gone w c line) notes)
+gone-numbered : (w : RunState) (c : ℕ) (line : Option Connection) (notes : List Note) → Numbered w → notes ≡ going line → Numbered (state_after_notes (state_after_going w c line) notes)
 gone-numbered w c None notes numbered is = rw is numbered
 gone-numbered w c (Some k) notes numbered is = rw is numbered
 
-render-numbered : (w : RunState) (e : Event) (flying : Option Flying) → Numbered w → RenderTo w e flying → Numbered (afters w e.body)
+render-numbered : (w : RunState) (e : Event) (flying : Option Flying) → Numbered w → RenderTo w e flying → Numbered (state_after_notes w e.body)
 render-numbered w e None numbered to = idle-numbered w e.body numbered to
 render-numbered w e (Some f) numbered to = rw to.2 (rising-rendered 0 f.number to.0 w.air (flights_asked w.log.entries) numbered)
 
-deliver-numbered : (w : RunState) (e : Event) (f : Flying) (answer : Option Answer) → flight_at f.number w.air ≡ Some f → Numbered w → DeliverAs w e f answer → Numbered (afters w e.body)
+deliver-numbered : (w : RunState) (e : Event) (f : Flying) (answer : Option Answer) → flight_at f.number w.air ≡ Some f → Numbered w → DeliverAs w e f answer → Numbered (state_after_notes w e.body)
 deliver-numbered w e f None there numbered to = idle-numbered w e.body numbered to
 deliver-numbered w e f (Some answer) there numbered to =
     let leads : LeadsNotes w e.mood (Passed f.number) f.line e.body = subst (λ note. LeadsNotes w e.mood note f.line e.body) to.1 to.2 in
     leads-numbered e.mood w (Passed f.number) f _ _ e.body numbered (ap (over_with w f.number _ _) there) refl leads
 
-delivers-numbered : (w : RunState) (e : Event) (flying : Option Flying) → ((f : Flying) → flying ≡ Some f → flight_at f.number w.air ≡ Some f) → Numbered w → DeliverTo w e flying → Numbered (afters w e.body)
+delivers-numbered : (w : RunState) (e : Event) (flying : Option Flying) → ((f : Flying) → flying ≡ Some f → flight_at f.number w.air ≡ Some f) → Numbered w → DeliverTo w e flying → Numbered (state_after_notes w e.body)
 delivers-numbered w e None there numbered to = idle-numbered w e.body numbered to
 delivers-numbered w e (Some f) there numbered to = deliver-numbered w e f f.rendered (there f refl) numbered to
 
-loses-numbered : (w : RunState) (e : Event) (flying : Option Flying) → ((f : Flying) → flying ≡ Some f → flight_at f.number w.air ≡ Some f) → Numbered w → LoseTo w e flying → Numbered (afters w e.body)
+loses-numbered : (w : RunState) (e : Event) (flying : Option Flying) → ((f : Flying) → flying ≡ Some f → flight_at f.number w.air ≡ Some f) → Numbered w → LoseTo w e flying → Numbered (state_after_notes w e.body)
 loses-numbered w e None there numbered to = idle-numbered w e.body numbered to
 loses-numbered w e (Some f) there numbered to = leads-numbered e.mood w (Lost f.number) f _ _ e.body numbered (ap (over_with w f.number _ _) (there f refl)) refl to
 
-step-numbered : (w : RunState) (e : Event) (s : Step) → Numbered w → HappensBy w e s → Numbered (afters (begun w e s) e.body)
+step-numbered : (w : RunState) (e : Event) (s : Step) → Numbered w → HappensBy w e s → Numbered (state_after_notes (state_before_notes w e s) e.body)
 step-numbered w e (step.Opened c peer) numbered is = opened-numbered w c peer (w.line c) e.body numbered is
 step-numbered w e (step.Piece c bytes) numbered to = piece-numbered w e c bytes (w.line c) numbered to
 step-numbered w e (step.Gone c) numbered is = gone-numbered w c (w.line c) e.body numbered is
 step-numbered w e (step.Direct target) numbered to = rw to.2 numbered
-step-numbered w e (step.Render pick) numbered to = render-numbered w e (picked pick is_unrendered w.air) numbered to
-step-numbered w e (step.Deliver pick) numbered to = delivers-numbered w e (picked pick is_rendered w.air) (λ f found. picked-at w _ f numbered found) numbered to
-step-numbered w e (step.Lose pick) numbered to = loses-numbered w e (picked pick is_any w.air) (λ f found. picked-at w _ f numbered found) numbered to
+step-numbered w e (step.Render pick) numbered to = render-numbered w e (picked_flight pick is_unrendered w.air) numbered to
+step-numbered w e (step.Deliver pick) numbered to = delivers-numbered w e (picked_flight pick is_rendered w.air) (λ f found. picked-at w _ f numbered found) numbered to
+step-numbered w e (step.Lose pick) numbered to = loses-numbered w e (picked_flight pick is_any w.air) (λ f found. picked-at w _ f numbered found) numbered to
 
 -- ---- a run
-from-step : (w : RunState) (e : Event) (s : Step) (renders : List Rendering) (last : Content) → IsNeverFixed w.publishing → Numbered w → HappensBy w e s → From (afters (begun w e s) e.body) renders last
-    → From w (renders_in (begun w e s) e.mood.dry e.body ++ renders) last
+from-step : (w : RunState) (e : Event) (s : Step) (renders : List Rendering) (last : Content) → IsNeverFixed w.publishing → Numbered w → HappensBy w e s → From (state_after_notes (state_before_notes w e s) e.body) renders last
+    → From w (renders_in (state_before_notes w e s) e.mood.dry e.body ++ renders) last
 from-step w e (step.Opened d peer) renders last never numbered happens from = from-still w e (step.Opened d peer) renders last tt happens from
 from-step w e (step.Piece d bytes) renders last never numbered happens from = from-still w e (step.Piece d bytes) renders last tt happens from
 from-step w e (step.Gone d) renders last never numbered happens from = from-still w e (step.Gone d) renders last tt happens from
 from-step w e (step.Direct target) renders last never numbered happens from = from-still w e (step.Direct target) renders last tt happens from
-from-step w e (step.Render pick) renders last never numbered happens from = from-render w e (picked pick is_unrendered w.air) renders last never (λ f found. picked-at w _ f numbered found) happens from
+from-step w e (step.Render pick) renders last never numbered happens from = from-render w e (picked_flight pick is_unrendered w.air) renders last never (λ f found. picked-at w _ f numbered found) happens from
 from-step w e (step.Deliver pick) renders last never numbered happens from = from-still w e (step.Deliver pick) renders last tt happens from
 from-step w e (step.Lose pick) renders last never numbered happens from = from-still w e (step.Lose pick) renders last tt happens from
 
 -- a publisher stays in a run
-step-publishing : (w : RunState) (e : Event) (s : Step) → HappensBy w e s → (afters (begun w e s) e.body).publishing ≡ w.publishing
+step-publishing : (w : RunState) (e : Event) (s : Step) → HappensBy w e s → (state_after_notes (state_before_notes w e s) e.body).publishing ≡ w.publishing
 step-publishing w e (step.Opened d peer) happens = (step-same w e (step.Opened d peer) tt happens).publishing
 step-publishing w e (step.Piece d bytes) happens = (step-same w e (step.Piece d bytes) tt happens).publishing
 step-publishing w e (step.Gone d) happens = (step-same w e (step.Gone d) tt happens).publishing
 step-publishing w e (step.Direct target) happens = (step-same w e (step.Direct target) tt happens).publishing
-step-publishing w e (step.Render pick) happens = by_flying (picked pick is_unrendered w.air) happens
+step-publishing w e (step.Render pick) happens = by_flying (picked_flight pick is_unrendered w.air) happens
   where
-    by_flying : (flying : Option Flying) → RenderTo w e flying → (afters w e.body).publishing ≡ w.publishing
-    by_flying None to = ap (λ notes. (afters w notes).publishing) to
-    by_flying (Some f) to = ap (λ notes. (afters w notes).publishing) to.2
+    by_flying : (flying : Option Flying) → RenderTo w e flying → (state_after_notes w e.body).publishing ≡ w.publishing
+    by_flying None to = ap (λ notes. (state_after_notes w notes).publishing) to
+    by_flying (Some f) to = ap (λ notes. (state_after_notes w notes).publishing) to.2
 step-publishing w e (step.Deliver pick) happens = (step-same w e (step.Deliver pick) tt happens).publishing
 step-publishing w e (step.Lose pick) happens = (step-same w e (step.Lose pick) tt happens).publishing
 

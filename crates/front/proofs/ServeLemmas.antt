@@ -12,8 +12,8 @@ use Rattle.connections.specs.Connections.{Connection, Due, IsInPlaceOfDue, Send,
 use Rattle.connections.specs.Histories.{IsDueSending}
 use Rattle.connections.specs.declared.sending.Sending.{Sending}
 use Rattle.front.specs.Boards.{GivesDry, IsAnswering, Meets, OwesRequest, SkyTied, is_full_sky}
-use Rattle.front.specs.Lines.{Holds, Owes}
-use Rattle.front.specs.Moves.{Mood, GivesDue, IsFirstPoint, state_after_note, asked_by, points, due_of_connection, line_due, is_crowded_line, is_front_full, local_slot, new_flight, request_of, treated}
+use Rattle.front.specs.Lines.{LineHolds, Owes}
+use Rattle.front.specs.Moves.{Mood, GivesDue, IsFirstPoint, state_after_note, state_after_ask, points, due_of_connection, line_due, is_crowded_line, is_front_full, local_slot, new_flight, request_of, with_turn_slot}
 use Rattle.front.specs.States.{RunState, flights_asked}
 use Rattle.front.specs.declared.line.Line.{Line}
 use Rattle.front.specs.declared.note.Note.{Note}
@@ -34,8 +34,8 @@ due-gives : (m : Mood) (w : RunState) (c : ℕ) (owed : Due) (note : Note) → d
 due-gives m w c owed note is gives = subst (λ d. GivesDue m w c d note) (sym is) gives
 
 -- ---- something is sent
-pub given-sent : {farm : Farm} (w : RunState) (c : ℕ) (k j : Line) (sky : Sky) (sending : Sending) → Meets farm w c k sky → ((m : Connection) → Holds k m → IsDueSending m sending × Holds j (with_sent sending.bytes m))
-    → ((m : Connection) → Holds k m → IsTrue sending.dry → IsInPlaceOfDue (due m) sending.bytes) → GivesDry sending.dry w c (Sent c sending.bytes) × Meets farm (state_after_note w (Sent c sending.bytes)) c j sky
+pub given-sent : {farm : Farm} (w : RunState) (c : ℕ) (k j : Line) (sky : Sky) (sending : Sending) → Meets farm w c k sky → ((m : Connection) → LineHolds k m → IsDueSending m sending × LineHolds j (with_sent sending.bytes m))
+    → ((m : Connection) → LineHolds k m → IsTrue sending.dry → IsInPlaceOfDue (due m) sending.bytes) → GivesDry sending.dry w c (Sent c sending.bytes) × Meets farm (state_after_note w (Sent c sending.bytes)) c j sky
 given-sent {farm} w c k j sky sending meets sends shows =
     let m = meets.connection in
     let sent = sends m meets.holds in
@@ -90,7 +90,7 @@ away-fixed false true false dry status (inl is) wanting = absurd (let at : Here 
 away-fixed crowded admitted full dry status (inr is) wanting = let same : status ≡ 507 = cc in same
 
 pub given-away : {farm : Farm} (w : RunState) (c status : ℕ) (k j : Line) (sky : Sky) (request : Req) (crowded dry : Bool) → (owes : OwesRequest farm w c k sky request) → crowded ≡ is_crowded owes.connection
-    → IsAnswering crowded (admits farm request) (is_full_sky sky) (Here status dry) → ((m : Connection) → Owes k m → Holds j (treated (request_slot request (crowded || status == 507) (local_response status)) m))
+    → IsAnswering crowded (admits farm request) (is_full_sky sky) (Here status dry) → ((m : Connection) → Owes k m → LineHolds j (with_turn_slot (request_slot request (crowded || status == 507) (local_response status)) m))
     → GivesDry dry w c (Local c status) × Meets farm (state_after_note w (Local c status)) c j sky
 given-away {farm} w c status k j sky request crowded dry owes is_crowd answering holds =
     let m = owes.connection in
@@ -99,9 +99,9 @@ given-away {farm} w c status k j sky request crowded dry owes is_crowd answering
     let line_crowd : is_crowded_line (w.line c) ≡ crowded = crowded-is w c m owes.open_is ∙ sym is_crowd in (
       (λ mood allows. due-gives mood w c _ _ owed (away-owed w c status request crowded (admits farm request) (is_full_sky sky) dry line_crowd (ap (λ x. admits x request) owes.farm_is) (full-is sky w owes.sky_is) answering mood allows), away-fixed crowded (admits farm request) (is_full_sky sky) dry status answering),
       record {
-        connection = treated (request_slot request (crowded || status == 507) (local_response status)) m;
-        open_is = update_here w.line c _ ∙ ap (option_map (λ line. treated (local_slot (request_of (due_of_connection w c)) status line) line)) owes.open_is
-            ∙ ap (λ r. Some (treated (local_slot r status m) m)) some ∙ ap (λ b. Some (treated (request_slot request (b || status == 507) (local_response status)) m)) (sym is_crowd);
+        connection = with_turn_slot (request_slot request (crowded || status == 507) (local_response status)) m;
+        open_is = update_here w.line c _ ∙ ap (option_map (λ line. with_turn_slot (local_slot (request_of (due_of_connection w c)) status line) line)) owes.open_is
+            ∙ ap (λ r. Some (with_turn_slot (local_slot r status m) m)) some ∙ ap (λ b. Some (with_turn_slot (request_slot request (b || status == 507) (local_response status)) m)) (sym is_crowd);
         holds = holds m owes.owes;
         sky_is = sky-same sky w _ owes.sky_is refl refl;
         farm_is = owes.farm_is;
@@ -119,7 +119,7 @@ flight-owed crowded admitted full (inr is) = absurd (let no : ⊥ = cc in no)
 -- ---- a flight is asked
 pub given-ask : {farm : Farm} (w : RunState) (c n : ℕ) (k j : Line) (sky new : Sky) (request : Req) (crowded : Bool) → (owes : OwesRequest farm w c k sky request) → crowded ≡ is_crowded owes.connection
     → IsAnswering crowded (admits farm request) (is_full_sky sky) InFlight → n ≡ sky.asked + 1
-    → new.asked ≡ sky.asked + 1 → new.flights.items ≡ sky.flights.items ++ new_flight (sky.asked + 1) c request ∷ [] → ((m : Connection) → Owes k m → Holds j (treated (request_slot request false (Awaits n)) m))
+    → new.asked ≡ sky.asked + 1 → new.flights.items ≡ sky.flights.items ++ new_flight (sky.asked + 1) c request ∷ [] → ((m : Connection) → Owes k m → LineHolds j (with_turn_slot (request_slot request false (Awaits n)) m))
     → GivesDry false w c (asked n c None) × Meets farm (state_after_note w (asked n c None)) c j new
 given-ask {farm} w c n k j sky new request crowded owes is_crowd answering number counted flights holds =
     let m = owes.connection in
@@ -130,11 +130,11 @@ given-ask {farm} w c n k j sky new request crowded owes is_crowd answering numbe
     let admitted : admits w.farm request ≡ true = ap (λ x. admits x request) owes.farm_is ∙ passes.1 in
     let free : is_front_full w ≡ false = full-is sky w owes.sky_is ∙ passes.2 in
     let next : asked n c None ≡ asked (flights_asked w.log.entries + 1) c None = ap (λ x. asked x c None) (number ∙ ap (λ x. x + 1) owes.sky_is.asked) in
-    let is : state_after_note w (asked n c None) ≡ asked_by w n c None (Some request) = ap (asked_by w n c None) some in (
+    let is : state_after_note w (asked n c None) ≡ state_after_ask w n c None (Some request) = ap (state_after_ask w n c None) some in (
       (λ mood allows. due-gives mood w c _ _ owed (inl (inr (λ crowd. let no : ⊥ = cc in no, inr (λ hidden. let no : ⊥ = cc in no, inr (λ full. let no : ⊥ = cc in no, inl (tt, next)))))), λ wanting. absurd (let no : ⊥ = cc in no)),
       subst (λ v. Meets farm v c j new) (sym is) (record {
-        connection = treated (request_slot request false (Awaits n)) m;
-        open_is = update_here w.line c _ ∙ ap (option_map (treated (request_slot request false (Awaits n)))) owes.open_is;
+        connection = with_turn_slot (request_slot request false (Awaits n)) m;
+        open_is = update_here w.line c _ ∙ ap (option_map (with_turn_slot (request_slot request false (Awaits n)))) owes.open_is;
         holds = holds m owes.owes;
         sky_is = record {
           air = flights ∙ ap (λ x. sky.flights.items ++ new_flight x c request ∷ []) (sym number) ∙ ap (λ air. air ++ new_flight n c request ∷ []) owes.sky_is.air;

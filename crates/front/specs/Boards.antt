@@ -14,7 +14,7 @@ use Rattle.http_front.specs.declared.turn.Turn.{Turn}
 use Rattle.http_front.specs.declared.turn.Turn.TheVariants.{Whole}
 use Rattle.connections.specs.Connections.{Connection, Close, Nothing, Refuse, Treat, due_unsent, with_landing}
 use Rattle.connections.specs.Connections as model
-use Rattle.connections.specs.Ties.{Tied}
+use Rattle.connections.specs.Ties.{OutboxTied}
 use Rattle.front.specs.declared.board.Board.{Board}
 use Rattle.front.specs.declared.flying.Flying.{Flying}
 use Rattle.front.specs.declared.line.Line.{Line}
@@ -26,9 +26,9 @@ use Rattle.front.specs.declared.serve.Served.TheVariants.{Said, Quiet, Ended}
 use Rattle.front.specs.declared.sky.Sky.{Sky}
 use Rattle.front.specs.declared.step.Step.{Step}
 use Rattle.front.specs.declared.told.Told.{Told}
-use Rattle.front.specs.Events.{Event, HappensBy, IsWanting, ShowsLack, after_event, begun}
-use Rattle.front.specs.Lines.{Holds, Owes, LineReads}
-use Rattle.front.specs.Moves.{Mood, GivesDue, Serves, Settles, state_after_note, afters, due_of_connection, most_flights, most_numbers}
+use Rattle.front.specs.Events.{Event, HappensBy, IsWanting, ShowsLack, after_event, state_before_notes}
+use Rattle.front.specs.Lines.{LineHolds, Owes, LineReads}
+use Rattle.front.specs.Moves.{Mood, GivesDue, Serves, Settles, state_after_note, state_after_notes, due_of_connection, most_flights, most_numbers}
 use Rattle.front.specs.States.{RunState, flights_asked}
 
 -- ---- flights
@@ -55,7 +55,7 @@ abbrev pub LineTied : Option Line → Option Connection → Type 0
 LineTied None None = Unit {0}
 LineTied None (Some c) = ⊥
 LineTied (Some k) None = ⊥
-LineTied (Some k) (Some c) = Holds k c
+LineTied (Some k) (Some c) = LineHolds k c
 
 -- each connection has its line
 pub record LinesTied (lines : BTreeMap ℕ Line) (w : RunState) : Type 0 where
@@ -78,7 +78,7 @@ Allows dry m = IsTrue dry → IsTrue m.dry
 pub record Meets (farm : Farm) (w : RunState) (c : ℕ) (k : Line) (sky : Sky) : Type 0 where
   pub connection : Connection
   pub open_is : w.line c ≡ Some connection
-  pub holds : Holds k connection
+  pub holds : LineHolds k connection
   pub sky_is : SkyTied sky w
   pub farm_is : w.farm ≡ farm
 
@@ -101,7 +101,7 @@ pub record OwesFault (farm : Farm) (w : RunState) (c : ℕ) (k : Line) (sky : Sk
   pub connection : Connection
   pub open_is : w.line c ≡ Some connection
   pub due_is : model.due connection ≡ Refuse fault
-  pub tied : Tied k.outbox connection
+  pub tied : OutboxTied k.outbox connection
   pub sky_is : SkyTied sky w
   pub farm_is : w.farm ≡ farm
 
@@ -141,7 +141,7 @@ IsLess Ended left before = Unit {0}
 pub record NotesGiven (dry : Bool) (notes : List Note) (farm : Farm) (w : RunState) (c : ℕ) (k : Line) (sky : Sky) : Type 0 where
   pub serves : ServesDry dry w c notes
   pub wanting : IsWanting w (record { dry = dry }) notes
-  pub meets : Meets farm (afters w notes) c k sky
+  pub meets : Meets farm (state_after_notes w notes) c k sky
 
 -- the end is owed, or nothing
 abbrev pub end_or_nothing : Bool → model.Due
@@ -150,7 +150,7 @@ end_or_nothing over = if over then Close else Nothing
 -- all that is owed was given, but for the end
 pub record AllGiven (told : Told) (over : Bool) (farm : Farm) (w : RunState) (c : ℕ) (k : Line) (sky : Sky) : Type 0 where
   pub given : NotesGiven told.dry told.notes.items farm w c k sky
-  pub then_due : due_of_connection (afters w told.notes.items) c ≡ end_or_nothing over
+  pub then_due : due_of_connection (state_after_notes w told.notes.items) c ≡ end_or_nothing over
 
 -- ---- whole events
 
@@ -159,16 +159,16 @@ abbrev pub event_of : Step → Told → List Turn → End → Event
 event_of step told turns ends = record { step = step; body = told.notes.items; mood = record { dry = told.dry }; turns = turns; ends = ends }
 
 -- what was told is an event of this step
-pub record Happened (Stands : RunState → Type 0) (w : RunState) (step : Step) (told : Told) : Type 0 where
+pub record IsToldEvent (Stands : RunState → Type 0) (w : RunState) (step : Step) (told : Told) : Type 0 where
   pub turns : List Turn
   pub ends : End
   pub happens : HappensBy w (event_of step told turns ends) step
-  pub wanting : IsWanting (begun w (event_of step told turns ends) step) (record { dry = told.dry }) told.notes.items
+  pub wanting : IsWanting (state_before_notes w (event_of step told turns ends) step) (record { dry = told.dry }) told.notes.items
   pub stands : Stands (after_event w (event_of step told turns ends))
 
 -- what was told is an event of this step, of each state of which the board was what is left
 abbrev pub BoardTells : Farm → Board → Board → Step → Told → Type 0
-BoardTells farm old new step told = (w : RunState) → BoardTied farm old w → Happened (BoardTied farm new) w step told
+BoardTells farm old new step told = (w : RunState) → BoardTied farm old w → IsToldEvent (BoardTied farm new) w step told
 
 -- the line at this number has read the bytes, and the others are as before
 pub record ReadAt (old new : Board) (c : ℕ) (bytes : List ℕ) : Type 0 where
@@ -179,7 +179,7 @@ pub record ReadAt (old new : Board) (c : ℕ) (bytes : List ℕ) : Type 0 where
   pub others : (q : ℕ) → q ≢ c → get nat_cmp new.lines q ≡ get nat_cmp old.lines q
   pub count : btree_map_len new.lines ≡ btree_map_len old.lines
   pub sky : new.sky ≡ old.sky
-  pub reads : (connection : Connection) → Holds before connection → LineReads bytes connection line
+  pub reads : (connection : Connection) → LineHolds before connection → LineReads bytes connection line
 
 -- the flight is out of the air, and its connection isn't told yet
 pub record Landing (farm : Farm) (board : Board) (w v : RunState) (c number : ℕ) (answer : Answer) : Type 0 where
@@ -194,4 +194,4 @@ pub record FirstThen (first : Note) (farm : Farm) (v : RunState) (c : ℕ) (told
   pub rest : List Note
   pub begins : told.notes.items ≡ first ∷ rest
   pub settles : SettlesDry told.dry v c rest
-  pub board_is : BoardTied farm board (afters v rest)
+  pub board_is : BoardTied farm board (state_after_notes v rest)

@@ -18,9 +18,9 @@ abbrev pub bytes_sent : List Sending → List ℕ
 bytes_sent sent = flat_map (λ (sending : Sending). sending.bytes) sent
 
 -- memory was wanting in no event in which one of them was sent
-abbrev pub AreCalm : List Sending → Type 0
-AreCalm [] = Unit {0}
-AreCalm (sending ∷ sent) = (sending.dry ≡ false) × AreCalm sent
+abbrev pub HaveNoDrySending : List Sending → Type 0
+HaveNoDrySending [] = Unit {0}
+HaveNoDrySending (sending ∷ sent) = (sending.dry ≡ false) × HaveNoDrySending sent
 
 -- wherever the slots of both are answered they are the same: the same answer, with its body or without, after which the connection
 -- closes or doesn't
@@ -36,7 +36,7 @@ pub record AreCutAlike (came more : List ℕ) (sent other : List Sending) : Type
   pub one : AnswersWhatCame came sent
   pub two : AnswersWhatCame (came ++ more) other
   pub turns : (x : AnswersWhatCame came sent) (y : AnswersWhatCame (came ++ more) other) → OneBegins x.answers.turns y.answers.turns
-  pub bytes : (x : AnswersWhatCame came sent) (y : AnswersWhatCame (came ++ more) other) → AreAnsweredAlike x.answers.slots y.answers.slots → AreCalm sent → AreCalm other → OneBegins (bytes_sent sent) (bytes_sent other)
+  pub bytes : (x : AnswersWhatCame came sent) (y : AnswersWhatCame (came ++ more) other) → AreAnsweredAlike x.answers.slots y.answers.slots → HaveNoDrySending sent → HaveNoDrySending other → OneBegins (bytes_sent sent) (bytes_sent other)
 
 -- How a stream was cut into pieces changes no byte that is sent, in one run or in two, whether the connections are open, shut or gone.
 abbrev pub CuttingsAgree : Type 0

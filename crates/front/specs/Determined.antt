@@ -43,14 +43,14 @@ abbrev pub event_notes : List Event → List (List Note)
 event_notes events = map notes_of events
 
 -- in no event memory was wanting
-abbrev pub AreCalmEvents : List Event → Type 0
-AreCalmEvents [] = Unit {0}
-AreCalmEvents (e ∷ events) = (e.mood.dry ≡ false) × AreCalmEvents events
+abbrev pub HaveNoDryEvent : List Event → Type 0
+HaveNoDryEvent [] = Unit {0}
+HaveNoDryEvent (e ∷ events) = (e.mood.dry ≡ false) × HaveNoDryEvent events
 
 -- Two runs of the same steps in which memory isn't wanting have the same notes, if the streams end alike.
-abbrev pub CalmRunsAreOne : Type 0
-CalmRunsAreOne = (publishing : Publishing) (farm : Farm) (content : Content) (a b : List Event) → Run (start_of publishing farm content) a → Run (start_of publishing farm content) b → event_steps a ≡ event_steps b → EndAlike (start_of publishing farm content) a b
-    → AreCalmEvents a → AreCalmEvents b → event_notes a ≡ event_notes b
+abbrev pub RunsWithoutDryEventsAreOne : Type 0
+RunsWithoutDryEventsAreOne = (publishing : Publishing) (farm : Farm) (content : Content) (a b : List Event) → Run (start_of publishing farm content) a → Run (start_of publishing farm content) b → event_steps a ≡ event_steps b → EndAlike (start_of publishing farm content) a b
+    → HaveNoDryEvent a → HaveNoDryEvent b → event_notes a ≡ event_notes b
 
 -- ---- where streams end alike
 
@@ -77,6 +77,6 @@ LeaveNoEndOpen w (e ∷ events) = (IsEndLeftOpen w e.step e.turns → ⊥) × Le
 
 -- In two runs of the same steps in which memory isn't wanting the streams end alike, if in the first none that is still read ends within
 -- such a target after any event.
-abbrev pub CalmStreamsEndAlike : Type 0
-CalmStreamsEndAlike = (publishing : Publishing) (farm : Farm) (content : Content) (a b : List Event) → Run (start_of publishing farm content) a → Run (start_of publishing farm content) b → event_steps a ≡ event_steps b
-    → AreCalmEvents a → AreCalmEvents b → LeaveNoEndOpen (start_of publishing farm content) a → EndAlike (start_of publishing farm content) a b
+abbrev pub StreamsWithoutDryEventsEndAlike : Type 0
+StreamsWithoutDryEventsEndAlike = (publishing : Publishing) (farm : Farm) (content : Content) (a b : List Event) → Run (start_of publishing farm content) a → Run (start_of publishing farm content) b → event_steps a ≡ event_steps b
+    → HaveNoDryEvent a → HaveNoDryEvent b → LeaveNoEndOpen (start_of publishing farm content) a → EndAlike (start_of publishing farm content) a b

@@ -6,7 +6,7 @@ use Rattle.sp_base.specs.declared.answer.Answer.{Answer}
 use Rattle.http_front.specs.Faults.{insufficient_storage}
 use Rattle.http_front.specs.Turns.{End, SpellsTurns}
 use Rattle.http_front.specs.declared.turn.Turn.{Turn}
-use Rattle.connections.specs.Connections.{Connection, IsInPlaceOfDue, fed, fresh}
+use Rattle.connections.specs.Connections.{Connection, IsInPlaceOfDue, with_piece, fresh}
 use Rattle.front.specs.declared.flying.Flying.{Flying}
 use Rattle.front.specs.declared.step.Pick.{Pick}
 use Rattle.front.specs.declared.step.Pick.TheVariants.{Number, First}
@@ -17,7 +17,7 @@ use Rattle.front.specs.declared.note.Note.TheVariants.{Answer as answered, Ask a
 use Rattle.connections.specs.Slots.{fixed_answer}
 use Rattle.front.specs.Publishers.{direct_answer}
 use Rattle.front.specs.States.{RunState}
-use Rattle.front.specs.Moves.{Mood, Settles, state_after_note, afters, due_of_connection, on_line, has_number, published_for}
+use Rattle.front.specs.Moves.{Mood, Settles, state_after_note, state_after_notes, due_of_connection, on_line, has_number, published_for}
 
 -- An event: its step, its notes but for those that name its mood, and the mood. Of a piece it tells which further turns its
 -- connection's stream now spells, and how they end.
@@ -43,28 +43,28 @@ abbrev pub most_lines : ℕ
 most_lines = 256
 
 -- the connection is there, where there is room
-abbrev pub opened : RunState → ℕ → List ℕ → Option Connection → RunState
-opened w c peer (Some line) = w
-opened w c peer None = if nat_le most_lines w.lines then w else record w { line = update nat_eq w.line c (Some (fresh peer)); lines = w.lines + 1 }
+abbrev pub state_after_opening : RunState → ℕ → List ℕ → Option Connection → RunState
+state_after_opening w c peer (Some line) = w
+state_after_opening w c peer None = if nat_le most_lines w.lines then w else record w { line = update nat_eq w.line c (Some (fresh peer)); lines = w.lines + 1 }
 
 -- the connection isn't there any more
-abbrev pub gone : RunState → ℕ → Option Connection → RunState
-gone w c None = w
-gone w c (Some line) = record w { line = update nat_eq w.line c None; lines = w.lines - 1 }
+abbrev pub state_after_going : RunState → ℕ → Option Connection → RunState
+state_after_going w c None = w
+state_after_going w c (Some line) = record w { line = update nat_eq w.line c None; lines = w.lines - 1 }
 
 -- the state once a step has begun, before its notes
-abbrev pub begun : RunState → Event → Step → RunState
-begun w e (Opened c peer) = opened w c peer (w.line c)
-begun w e (Piece c bytes) = on_line w c (fed bytes e.turns e.ends)
-begun w e (Gone c) = gone w c (w.line c)
-begun w e (Direct target) = w
-begun w e (Render pick) = w
-begun w e (Deliver pick) = w
-begun w e (Lose pick) = w
+abbrev pub state_before_notes : RunState → Event → Step → RunState
+state_before_notes w e (Opened c peer) = state_after_opening w c peer (w.line c)
+state_before_notes w e (Piece c bytes) = on_line w c (with_piece bytes e.turns e.ends)
+state_before_notes w e (Gone c) = state_after_going w c (w.line c)
+state_before_notes w e (Direct target) = w
+state_before_notes w e (Render pick) = w
+state_before_notes w e (Deliver pick) = w
+state_before_notes w e (Lose pick) = w
 
 -- the state after an event
 abbrev pub after_event : RunState → Event → RunState
-after_event w e = afters (begun w e e.step) e.body
+after_event w e = state_after_notes (state_before_notes w e e.step) e.body
 
 -- ---- the flight that a step takes
 
@@ -74,8 +74,8 @@ is_picked (Number number) flying = has_number number flying
 is_picked First flying = true
 
 -- the first flight that is asked for and can be taken: with `First` the one with the least number
-abbrev pub picked : Pick → (Flying → Bool) → List Flying → Option Flying
-picked pick can air = find (λ flying. is_picked pick flying && can flying) air
+abbrev pub picked_flight : Pick → (Flying → Bool) → List Flying → Option Flying
+picked_flight pick can air = find (λ flying. is_picked pick flying && can flying) air
 
 -- the flight has an answer
 abbrev pub is_rendered : Flying → Bool
@@ -104,7 +104,7 @@ going (Some line) = []
 -- The stream spells these turns now too, and ends so, unless it is read no further; and the connection gets what it is owed.
 pub record PieceFeeds (w : RunState) (e : Event) (c : ℕ) (bytes : List ℕ) (line : Connection) : Type 0 where
   pub spells : line.closing ≡ false → SpellsTurns (line.stream ++ bytes) (line.turns ++ e.turns) e.ends
-  pub settles : Settles e.mood (on_line w c (fed bytes e.turns e.ends)) c e.body
+  pub settles : Settles e.mood (on_line w c (with_piece bytes e.turns e.ends)) c e.body
 
 -- a piece does nothing where the connection isn't there
 abbrev pub PieceTo : RunState → Event → ℕ → List ℕ → Option Connection → Type 0
@@ -155,9 +155,9 @@ HappensBy w e (Opened c peer) = e.body ≡ opening c w.lines (w.line c)
 HappensBy w e (Piece c bytes) = PieceTo w e c bytes (w.line c)
 HappensBy w e (Gone c) = e.body ≡ going (w.line c)
 HappensBy w e (Direct target) = DirectTo w e target
-HappensBy w e (Render pick) = RenderTo w e (picked pick is_unrendered w.air)
-HappensBy w e (Deliver pick) = DeliverTo w e (picked pick is_rendered w.air)
-HappensBy w e (Lose pick) = LoseTo w e (picked pick is_any w.air)
+HappensBy w e (Render pick) = RenderTo w e (picked_flight pick is_unrendered w.air)
+HappensBy w e (Deliver pick) = DeliverTo w e (picked_flight pick is_rendered w.air)
+HappensBy w e (Lose pick) = LoseTo w e (picked_flight pick is_any w.air)
 
 -- The note shows that memory was wanting: it gives the fixed 507 as an answer, as what is rendered or as a request's own, or it sends
 -- that in place of what is due to be sent.
@@ -185,7 +185,7 @@ IsWanting w m notes = IsTrue m.dry → SomeShowsLack w notes
 
 -- the event happens in this state: by its step, and it says that memory was wanting only where a note shows it
 abbrev pub Happens : RunState → Event → Type 0
-Happens w e = HappensBy w e e.step × IsWanting (begun w e e.step) e.mood e.body
+Happens w e = HappensBy w e e.step × IsWanting (state_before_notes w e e.step) e.mood e.body
 
 -- a run: each event happens in the state that those before it left
 abbrev pub Run : RunState → List Event → Type 0
@@ -200,7 +200,7 @@ state_after_events w (e ∷ events) = state_after_events (after_event w e) event
 -- ---- what a call of the front adds
 
 -- an event with this step and these notes, after which the front stands for what it left
-pub record Extended (Stands : RunState → Type 0) (w : RunState) (step : Step) (notes : List Note) : Type 0 where
+pub record FurtherEvent (Stands : RunState → Type 0) (w : RunState) (step : Step) (notes : List Note) : Type 0 where
   pub event : Event
   pub step_is : event.step ≡ step
   pub notes_are : notes_of event ≡ notes
@@ -209,4 +209,4 @@ pub record Extended (Stands : RunState → Type 0) (w : RunState) (step : Step) 
 
 -- Each run that the front stood for goes on with one event more.
 pub record Extends (Before After : RunState → Type 0) (step : Step) (notes : List Note) : Type 0 where
-  pub extended : (w : RunState) → Before w → Extended After w step notes
+  pub extended : (w : RunState) → Before w → FurtherEvent After w step notes

@@ -6,7 +6,7 @@ use Rattle.sp_base.specs.declared.answer.Answer.{Answer}
 use Rattle.front.specs.declared.board.Board.{Board}
 use Rattle.front.specs.declared.step.Step.{Step}
 use Rattle.front.specs.declared.told.Told.{Told}
-use Rattle.front.specs.Boards.{BoardTied, Happened}
+use Rattle.front.specs.Boards.{BoardTied, IsToldEvent}
 use Rattle.connections.specs.Slots.{fixed_answer}
 use Rattle.front.specs.Publishers.{Publishing}
 use Rattle.front.specs.States.{RunState}
@@ -19,7 +19,7 @@ pub record BoardStands (publishing : Publishing) (content : Content) (farm : Far
 
 -- what was told is an event of this step, of each state that was stood for
 abbrev pub TellsStep : (RunState → Type 0) → (RunState → Type 0) → Step → Told → Type 0
-TellsStep Before After step told = (w : RunState) → Before w → Happened After w step told
+TellsStep Before After step told = (w : RunState) → Before w → IsToldEvent After w step told
 
 -- the answer that was made, or in place of none the fixed one
 abbrev pub IsGiven : {E : Type 0} → Result Answer E → Answer → Bool → Type 0

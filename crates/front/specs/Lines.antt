@@ -6,8 +6,8 @@ use Rattle.http_front.specs.declared.fault.InFault.{InFault}
 use Rattle.http_front.specs.declared.intake.Intake.{Intake}
 use Rattle.http_front.specs.declared.turn.Turn.{Turn}
 use Rattle.http_front.specs.declared.turn.Turn.TheVariants.{Continue, Whole}
-use Rattle.connections.specs.Connections.{Connection, Treat, Refuse, Close, Nothing, due, fed}
-use Rattle.connections.specs.Ties.{Tied, unsent_count}
+use Rattle.connections.specs.Connections.{Connection, Treat, Refuse, Close, Nothing, due, with_piece}
+use Rattle.connections.specs.Ties.{OutboxTied, unsent_count}
 use Rattle.front.specs.declared.line.Line.{Line}
 use Rattle.front.specs.declared.line.Taken.{Taken}
 use Rattle.front.specs.declared.line.Taken.TheVariants.{Request, Fault, Waiting, Over}
@@ -44,17 +44,17 @@ pub record ReadsOn (k : Line) (c : Connection) : Type 0 where
 
 -- the line is what is left of the connection, but that a 100 Continue may be owed
 pub record LineKeeps (k : Line) (c : Connection) : Type 0 where
-  pub tied : Tied k.outbox c
+  pub tied : OutboxTied k.outbox c
   pub reads : c.closing ≡ false → ReadsOn k c
 
 -- the line is what is left of the connection
-pub record Holds (k : Line) (c : Connection) : Type 0 where
+pub record LineHolds (k : Line) (c : Connection) : Type 0 where
   pub keeps : LineKeeps k c
   pub ready : c.closing ≡ false → IsReady k.turns.items
 
 -- the same, but that a slot is owed for the turn that was taken
 pub record Owes (k : Line) (c : Connection) : Type 0 where
-  pub tied : Tied k.outbox c
+  pub tied : OutboxTied k.outbox c
   pub told : StandsFor k.intake c.stream c.turns
   pub splits : Splits c.turns (length c.slots + 1) k.turns.items
   pub ends : c.ends ≡ end_of k.fault
@@ -65,7 +65,7 @@ pub record LineReads (bytes : List ℕ) (c : Connection) (k : Line) : Type 0 whe
   pub turns : List Turn
   pub ends : End
   pub spells : c.closing ≡ false → SpellsTurns (c.stream ++ bytes) (c.turns ++ turns) ends
-  pub holds : Holds k (fed bytes turns ends c)
+  pub holds : LineHolds k (with_piece bytes turns ends c)
 
 -- further turns are told, and then the stream ends so
 pub record TellsTurns (old : Intake) (before : List Turn) (new : Intake) (after : List Turn) (fault : Option InFault) : Type 0 where
@@ -89,16 +89,16 @@ begins_with_continue (Whole request ∷ turns) = false
 -- what was taken is what is due of the connection, and this is what the line then is of it
 abbrev pub TakenAs : Taken → Connection → Line → Type 0
 TakenAs (Request request) c k = (due c ≡ Treat (Whole request)) × Owes k c
-TakenAs (Fault fault) c k = (due c ≡ Refuse fault) × Tied k.outbox c
-TakenAs Waiting c k = (due c ≡ Nothing) × Holds k c
-TakenAs Over c k = (due c ≡ Close) × Holds k c
+TakenAs (Fault fault) c k = (due c ≡ Refuse fault) × OutboxTied k.outbox c
+TakenAs Waiting c k = (due c ≡ Nothing) × LineHolds k c
+TakenAs Over c k = (due c ≡ Close) × LineHolds k c
 
 -- by how much less work is left after it
-abbrev pub owed : Taken → ℕ
-owed (Request request) = 2
-owed (Fault fault) = 2
-owed Waiting = 0
-owed Over = 0
+abbrev pub taken_work : Taken → ℕ
+taken_work (Request request) = 2
+taken_work (Fault fault) = 2
+taken_work Waiting = 0
+taken_work Over = 0
 
 -- at most how many notes a fault can still give
 abbrev pub fault_work : Option InFault → ℕ

@@ -15,12 +15,12 @@ use Rattle.http_front.specs.Faults.{fault_status, insufficient_storage}
 use Rattle.http_front.specs.declared.turn.Turn.{Turn}
 use Rattle.http_front.specs.declared.turn.Turn.TheVariants.{Continue, Whole}
 use Rattle.connections.specs.Slots.{Slot, Response, Awaits, IsWritten, local_response, request_slot, fault_slot, fixed_answer}
-use Rattle.connections.specs.Connections.{Connection, Due, Send, Treat, Refuse, Close, Nothing, advanced, is_crowded, with_slot, with_landing, with_sent}
+use Rattle.connections.specs.Connections.{Connection, Due, Send, Treat, Refuse, Close, Nothing, with_due_continue, is_crowded, with_slot, with_landing, with_sent}
 use Rattle.connections.specs.Connections as connection
 use Rattle.front.specs.declared.flying.Flying.{Flying}
 use Rattle.front.specs.declared.note.Note.{Note}
 use Rattle.front.specs.declared.note.Note.TheVariants.{Answer as answered, Ask as asked, Local, Rendered, Passed, Lost, Sent, Shut, Refused, Idle, Dry}
-use Rattle.front.specs.Publishers.{Published}
+use Rattle.front.specs.Publishers.{Publication}
 use Rattle.front.specs.States.{RunState, Log, LogEntry, Asked, Landed, Lost as lost_entry, Passed as passed_fate, flights_asked}
 
 -- what an event allows: in a dry one memory was wanting
@@ -161,29 +161,29 @@ abbrev pub on_line : RunState → ℕ → (Connection → Connection) → RunSta
 on_line w c change = record w { line = update nat_eq w.line c (option_map change (w.line c)) }
 
 -- the turn that is treated has its slot, and the sender that waits next has its 100 Continue
-abbrev pub treated : Slot → Connection → Connection
-treated slot c = advanced (with_slot slot c)
+abbrev pub with_turn_slot : Slot → Connection → Connection
+with_turn_slot slot c = with_due_continue (with_slot slot c)
 
 -- the slot of what the front answers by itself; where the connection is crowded, or with 507, it closes
 abbrev pub local_slot : Option Req → ℕ → Connection → Slot
 local_slot request status c = slot_for request (is_crowded c || status == insufficient_storage) (local_response status)
 
 -- the log with this entry more
-abbrev pub logged : Log → LogEntry → Log
-logged log entry = record log { entries = entry ∷ log.entries }
+abbrev pub log_with_entry : Log → LogEntry → Log
+log_with_entry log entry = record log { entries = entry ∷ log.entries }
 
 -- a flight that was just asked
 abbrev pub new_flight : ℕ → ℕ → Req → Flying
 new_flight number c request = record { number = number; line = c; request = request; rendered = None }
 
 -- a flight is asked for the request that is treated: its connection has a slot that awaits it, and the log an entry
-abbrev pub asked_by : RunState → ℕ → ℕ → Option PageKey → Option Req → RunState
-asked_by w number c key None = w
-asked_by w number c key (Some request) =
+abbrev pub state_after_ask : RunState → ℕ → ℕ → Option PageKey → Option Req → RunState
+state_after_ask w number c key None = w
+state_after_ask w number c key (Some request) =
     record w {
-      line = update nat_eq w.line c (option_map (treated (request_slot request false (Awaits number))) (w.line c));
+      line = update nat_eq w.line c (option_map (with_turn_slot (request_slot request false (Awaits number))) (w.line c));
       air = w.air ++ new_flight number c request ∷ [];
-      log = logged w.log (Asked number key);
+      log = log_with_entry w.log (Asked number key);
     }
 
 -- a flight is out of the air, and its connection has this answer
@@ -193,7 +193,7 @@ over_with w number answer entry (Some flying) =
     record w {
       line = update nat_eq w.line flying.line (option_map (with_landing number answer) (w.line flying.line));
       air = without number w.air;
-      log = logged w.log entry;
+      log = log_with_entry w.log entry;
     }
 
 -- the answer that a flight was rendered
@@ -201,7 +201,7 @@ abbrev pub answer_in : Option Flying → Answer
 answer_in flying = unwrap_or (option_and_then (λ f. f.rendered) flying) fixed_answer
 
 -- what the publisher gives for a request of a client, asked by the farm, on the content of this moment
-abbrev pub published_for : RunState → Req → Published
+abbrev pub published_for : RunState → Req → Publication
 published_for w request = w.publishing w.content (publisher_ask w.farm request)
 
 -- The content after a flight is rendered: what the publisher leaves; but the fixed answer stands where it did nothing. Its status tells
@@ -213,8 +213,8 @@ content_rendered w answer (Some flying) = if answer.status == insufficient_stora
 -- the state after a note
 abbrev pub state_after_note : RunState → Note → RunState
 state_after_note w (answered answer) = w
-state_after_note w (asked number c key) = asked_by w number c key (request_of (due_of_connection w c))
-state_after_note w (Local c status) = on_line w c (λ line. treated (local_slot (request_of (due_of_connection w c)) status line) line)
+state_after_note w (asked number c key) = state_after_ask w number c key (request_of (due_of_connection w c))
+state_after_note w (Local c status) = on_line w c (λ line. with_turn_slot (local_slot (request_of (due_of_connection w c)) status line) line)
 state_after_note w (Rendered number answer) = record w { content = content_rendered w answer (flight_at number w.air); air = map (with_rendered_at number answer) w.air }
 state_after_note w (Passed number) = over_with w number (answer_in (flight_at number w.air)) (Landed number (answer_in (flight_at number w.air)) passed_fate) (flight_at number w.air)
 state_after_note w (Lost number) = over_with w number (error_answer 502) (lost_entry number) (flight_at number w.air)
@@ -225,9 +225,9 @@ state_after_note w Idle = w
 state_after_note w Dry = w
 
 -- the state after notes
-abbrev pub afters : RunState → List Note → RunState
-afters w [] = w
-afters w (note ∷ notes) = afters (state_after_note w note) notes
+abbrev pub state_after_notes : RunState → List Note → RunState
+state_after_notes w [] = w
+state_after_notes w (note ∷ notes) = state_after_notes (state_after_note w note) notes
 
 -- each note gives the connection what it is owed then
 abbrev pub Serves : Mood → RunState → ℕ → List Note → Type 0
@@ -237,4 +237,4 @@ Serves m w c (note ∷ notes) = GivesDue m w c (due_of_connection w c) note × S
 -- the notes give a connection all that it is owed, and no other
 pub record Settles (m : Mood) (w : RunState) (c : ℕ) (notes : List Note) : Type 0 where
   pub serves : Serves m w c notes
-  pub idle : due_of_connection (afters w notes) c ≡ Nothing
+  pub idle : due_of_connection (state_after_notes w notes) c ≡ Nothing

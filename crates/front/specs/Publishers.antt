@@ -9,13 +9,13 @@ use Rattle.http_front.specs.Targets.{target_of}
 use Rattle.error_answers.specs.Errors.{error_answer}
 
 -- what a publisher gives: the answer to a request, and the content after it
-pub record Published : Type 0 where
+pub record Publication : Type 0 where
   pub answer : Answer
   pub content : Content
 
 -- a publisher: what it gives for a request on a content
 abbrev pub Publishing : Type 0
-Publishing = Content → Ask → Published
+Publishing = Content → Ask → Publication
 
 -- what the publisher is asked for a target alone: a GET of it (RFC 9110, section 9.3.1) at the farm's host
 abbrev pub get_of : Farm → Target → Ask

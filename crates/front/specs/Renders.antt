@@ -13,7 +13,7 @@ use Rattle.front.specs.declared.note.Note.TheVariants.{Answer as answered, Ask a
 use Rattle.connections.specs.Slots.{fixed_answer}
 use Rattle.front.specs.Publishers.{Publishing}
 use Rattle.front.specs.States.{RunState}
-use Rattle.front.specs.Events.{Event, after_event, begun}
+use Rattle.front.specs.Events.{Event, after_event, state_before_notes}
 use Rattle.front.specs.Moves.{state_after_note, flight_at}
 
 -- A flight was rendered: its number, its request, its answer, and whether memory was wanting in that event.
@@ -50,7 +50,7 @@ renders_in w dry (note ∷ notes) = rendered_by w dry note ++ renders_in (state_
 -- the renders of a run that begins in this state, one after another
 abbrev pub renders_of : RunState → List Event → List Rendering
 renders_of w [] = []
-renders_of w (e ∷ events) = renders_in (begun w e e.step) e.mood.dry e.body ++ renders_of (after_event w e) events
+renders_of w (e ∷ events) = renders_in (state_before_notes w e e.step) e.mood.dry e.body ++ renders_of (after_event w e) events
 
 -- none of the publisher's own answers has the status of the fixed one
 abbrev pub IsNeverFixed : Publishing → Type 0

@@ -9,7 +9,7 @@ ghost use Rattle.connections.specs.Ties.{ReplyTied};
 ghost use Rattle.connections.specs.Connections.{Connection, with_landing};
 ghost use Rattle.front.specs.Boards.{BoardTells, BoardTied, FirstThen, Landing, LineTied, ReadAt, SettlesDry};
 ghost use Rattle.front.specs.declared.step.Step.TheVariants.{Opened, Piece, Gone, Deliver, Lose};
-ghost use Rattle.front.specs.Moves.{afters};
+ghost use Rattle.front.specs.Moves.{state_after_notes};
 ghost use Rattle.front.specs.States.{RunState};
 
 use crate::flying::Flying;
@@ -48,7 +48,7 @@ impl Board {
 
     // Gives a connection all that it is owed.
     fn settle(&mut self, alloc: Global, farm: &Farm, c: u32) -> Mem<Told>
-        ensures { IfOk result (λ told. (w : RunState) → BoardTied farm.now self.old w → SettlesDry told.dry w c told.notes.items × BoardTied farm.now self.new (afters w told.notes.items)) }
+        ensures { IfOk result (λ told. (w : RunState) → BoardTied farm.now self.old w → SettlesDry told.dry w c told.notes.items × BoardTied farm.now self.new (state_after_notes w told.notes.items)) }
     {
         let Some(line) = self.lines.get_mut(&c) else {
             return Ok(Told::nothing(alloc));

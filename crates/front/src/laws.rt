@@ -5,7 +5,7 @@ ghost use Rattle.any_config.specs.declared.farm.Farm as models;
 ghost use Rattle.connections.specs.Connections.{Connection};
 ghost use Rattle.connections.specs.Histories.{AnswersRun, AreOfTurns};
 ghost use Rattle.front.specs.Cuttings.{CuttingsAgree};
-ghost use Rattle.front.specs.Determined.{CalmRunsAreOne, CalmStreamsEndAlike};
+ghost use Rattle.front.specs.Determined.{RunsWithoutDryEventsAreOne, StreamsWithoutDryEventsEndAlike};
 ghost use Rattle.front.specs.Events.{Event, Happens, Run, after_event, state_after_events};
 ghost use Rattle.front.specs.Histories.{AnswersWhatCame, HasReadAll, came_since_opened, sent_since_opened};
 ghost use Rattle.front.specs.Owned.{AnswersAreOwn};
@@ -82,8 +82,8 @@ pub fn renders_are_published()
 {}
 
 /// A run in which memory isn't wanting is determined by its steps, the publisher, the farm, the content and how the streams end.
-pub fn calm_runs_are_determined()
-    ensures { CalmRunsAreOne }
+pub fn runs_without_dry_events_are_determined()
+    ensures { RunsWithoutDryEventsAreOne }
 {
     the_turns_of_a_beginning();
 }
@@ -92,8 +92,8 @@ pub fn calm_runs_are_determined()
 /// end alike, if in the first no stream that is still read ends, after any event, within a target that isn't UTF-8 and can't become it,
 /// with its bytes or with the first 16,384 of the next head's. (There a bad head may be told at once or later, and at 16,384 bytes a bad
 /// head or a long one. After one such end, on any connection, nothing is said of the others.)
-pub fn calm_streams_end_alike()
-    ensures { CalmStreamsEndAlike }
+pub fn streams_without_dry_events_end_alike()
+    ensures { StreamsWithoutDryEventsEndAlike }
 {
     the_turns_of_a_beginning();
     the_end_of_a_stream();

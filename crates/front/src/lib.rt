@@ -20,8 +20,8 @@ pub use flying::Flying;
 pub use front::Front;
 pub use laws::{
     a_cutting_changes_no_byte, a_cutting_changes_no_turn, answers_are_of_their_own_requests,
-    calm_runs_are_determined, calm_streams_end_alike, connections_are_answered_in_order,
-    events_extend, renders_are_published,
+    connections_are_answered_in_order, events_extend, renders_are_published,
+    runs_without_dry_events_are_determined, streams_without_dry_events_end_alike,
 };
 pub use note::{Note, NoteList};
 pub use renderer::Renderer;

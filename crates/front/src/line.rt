@@ -6,11 +6,11 @@ ghost use Rattle.http_front.specs.declared.turn.Turn.{Turn};
 ghost use Rattle.sp_base.specs.declared.answer.Answer as models;
 ghost use Rattle.connections.specs.Slots.{Says, Slot};
 ghost use Rattle.connections.specs.Connections as model;
-ghost use Rattle.connections.specs.Connections.{Connection, IsInPlaceOfDue, advanced, due, due_unsent, fresh, with_landing, with_sent, with_slot};
+ghost use Rattle.connections.specs.Connections.{Connection, IsInPlaceOfDue, with_due_continue, due, due_unsent, fresh, with_landing, with_sent, with_slot};
 ghost use Rattle.connections.specs.Histories.{IsDueSending};
-ghost use Rattle.connections.specs.Ties.{PlaceTied, ReplyTied, Tied};
+ghost use Rattle.connections.specs.Ties.{PlaceTied, ReplyTied, OutboxTied};
 ghost use Rattle.front.specs.Lines as lines;
-ghost use Rattle.front.specs.Lines.{Holds, LineKeeps, Owes, LineReads, TakenAs, TellsTurns, owed, work_of};
+ghost use Rattle.front.specs.Lines.{LineHolds, LineKeeps, Owes, LineReads, TakenAs, TellsTurns, taken_work, work_of};
 
 use connections::{AnswerPlace, Outbox, Reply, Sending};
 use http_front::{InFault, Intake, Turn};
@@ -42,7 +42,7 @@ pub(crate) enum Taken {
 impl Line {
     /// A connection of which nothing came.
     pub(crate) fn new(alloc: Global) -> Mem<Line>
-        ensures { IfOk result (λ line. (peer : List ℕ) → Holds line (fresh peer)) }
+        ensures { IfOk result (λ line. (peer : List ℕ) → LineHolds line (fresh peer)) }
     {
         Ok(Line {
             intake: Intake::new(alloc)?,
@@ -54,7 +54,7 @@ impl Line {
 
     /// Takes the next bytes of its stream, unless that is read no further.
     pub(crate) fn read(&mut self, alloc: Global, bytes: &[u8]) -> Mem<()>
-        ensures { OnOk result ((c : Connection) → Holds self.old c → LineReads bytes.now c self.new) }
+        ensures { OnOk result ((c : Connection) → LineHolds self.old c → LineReads bytes.now c self.new) }
     {
         if self.outbox.is_closing() {
             return Ok(());
@@ -67,7 +67,7 @@ impl Line {
 
     // A sender that waits next for 100 Continue gets it. Once the connection closes, the turns that came after are let go.
     fn advance(&mut self) -> Mem<()>
-        ensures holds { OnOk result ((c : Connection) → LineKeeps self.old c → Holds self.new (advanced c)) }
+        ensures holds { OnOk result ((c : Connection) → LineKeeps self.old c → LineHolds self.new (with_due_continue c)) }
         ensures work { OnOk result (work_of self.new ≤ work_of self.old) }
     {
         if self.outbox.is_closing() {
@@ -84,9 +84,9 @@ impl Line {
 
     /// What is sent next, if anything can be.
     pub(crate) fn send(&mut self, alloc: Global) -> Option<Sending>
-        ensures sends { IfSome result (λ sending. (c : Connection) → Holds self.old c → IsDueSending c sending × Holds self.new (with_sent sending.bytes c)) }
-        ensures dry { IfSome result (λ sending. (c : Connection) → Holds self.old c → IsTrue sending.dry → IsInPlaceOfDue (due c) sending.bytes) }
-        ensures waits { IfNone result ((c : Connection) → Holds self.old c → due c ≡ due_unsent c) }
+        ensures sends { IfSome result (λ sending. (c : Connection) → LineHolds self.old c → IsDueSending c sending × LineHolds self.new (with_sent sending.bytes c)) }
+        ensures dry { IfSome result (λ sending. (c : Connection) → LineHolds self.old c → IsTrue sending.dry → IsInPlaceOfDue (due c) sending.bytes) }
+        ensures waits { IfNone result ((c : Connection) → LineHolds self.old c → due c ≡ due_unsent c) }
         ensures less { OnSome result (work_of self.new < work_of self.old) }
         ensures same { IfNone result (self.new ≡ self.old) }
     {
@@ -95,8 +95,8 @@ impl Line {
 
     /// Takes the next turn, where nothing can be sent. A slot is owed for it.
     pub(crate) fn take(&mut self) -> Taken
-        ensures taken { (c : Connection) → Holds self.old c → due c ≡ due_unsent c → TakenAs result c self.new }
-        ensures less { work_of self.new + owed result ≤ work_of self.old }
+        ensures taken { (c : Connection) → LineHolds self.old c → due c ≡ due_unsent c → TakenAs result c self.new }
+        ensures less { work_of self.new + taken_work result ≤ work_of self.old }
     {
         if self.outbox.is_over() {
             return Taken::Over;
@@ -116,8 +116,8 @@ impl Line {
 
     /// Gives the turn that was taken its place.
     pub(crate) fn push(&mut self, place: AnswerPlace) -> Mem<()>
-        ensures request { OnOk result ((c : Connection) (slot : Slot) → PlaceTied place slot → Owes self.old c → Holds self.new (advanced (with_slot slot c))) }
-        ensures fault { OnOk result ((c : Connection) (slot : Slot) → PlaceTied place slot → slot.closes ≡ true → Tied self.old.outbox c → Holds self.new (advanced (with_slot slot c))) }
+        ensures request { OnOk result ((c : Connection) (slot : Slot) → PlaceTied place slot → Owes self.old c → LineHolds self.new (with_due_continue (with_slot slot c))) }
+        ensures fault { OnOk result ((c : Connection) (slot : Slot) → PlaceTied place slot → slot.closes ≡ true → OutboxTied self.old.outbox c → LineHolds self.new (with_due_continue (with_slot slot c))) }
         ensures work { OnOk result (work_of self.new ≤ work_of self.old + 1) }
     {
         self.outbox.push(place)?;
@@ -127,13 +127,13 @@ impl Line {
 
     /// Gives the slot that awaits this flight its answer.
     pub(crate) fn fill(&mut self, flight: u64, reply: Reply)
-        ensures { (c : Connection) (answer : models.Answer) → ReplyTied reply (Says answer) → Holds self.old c → Holds self.new (with_landing flight answer c) }
+        ensures { (c : Connection) (answer : models.Answer) → ReplyTied reply (Says answer) → LineHolds self.old c → LineHolds self.new (with_landing flight answer c) }
     {
         self.outbox.fill(flight, reply);
     }
 
     pub(crate) fn is_crowded(&self) -> bool
-        ensures { (c : Connection) → Tied self.now.outbox c → result ≡ model.is_crowded c }
+        ensures { (c : Connection) → OutboxTied self.now.outbox c → result ≡ model.is_crowded c }
     {
         self.outbox.is_crowded()
     }

@@ -7,8 +7,8 @@ ghost use Rattle.dispatch_rules.specs.Admission as rules;
 ghost use Rattle.http_front.specs.Faults.{insufficient_storage};
 ghost use Rattle.front.specs.Boards.{GivesDry, IsAnswering, Meets, OwesRequest, is_full_sky};
 ghost use Rattle.front.specs.declared.treat.Answering.TheVariants as variant;
-ghost use Rattle.front.specs.Lines.{Holds, Owes, work_of};
-ghost use Rattle.front.specs.Moves.{state_after_note, treated};
+ghost use Rattle.front.specs.Lines.{LineHolds, Owes, work_of};
+ghost use Rattle.front.specs.Moves.{state_after_note, with_turn_slot};
 ghost use Rattle.front.specs.States.{RunState};
 
 use crate::line::Line;
@@ -93,7 +93,7 @@ fn answering_of(alloc: Global, farm: &Farm, request: &Req, crowded: bool, sky: &
 
 // Answers a request with this status. Where the connection is crowded, or memory was wanting, it closes.
 fn turn_away(request: &Req, status: u16, crowded: bool, line: &mut Line) -> Mem<()>
-    ensures holds { OnOk result ((c : Connection) → Owes line.old c → Holds line.new (treated (request_slot request.now (crowded || status == insufficient_storage) (local_response status)) c)) }
+    ensures holds { OnOk result ((c : Connection) → Owes line.old c → LineHolds line.new (with_turn_slot (request_slot request.now (crowded || status == insufficient_storage) (local_response status)) c)) }
     ensures work { OnOk result (work_of line.new ≤ work_of line.old + 1) }
 {
     let closes = crowded || status == INSUFFICIENT_STORAGE;

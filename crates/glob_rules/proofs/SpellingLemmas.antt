@@ -11,7 +11,7 @@ use Rattle.glob_rules.specs.declared.piece.CharRange.{CharRange}
 use Rattle.glob_rules.specs.declared.piece.CharClass.{CharClass}
 use Rattle.glob_rules.specs.declared.piece.GlobPiece.{GlobPiece}
 use Rattle.glob_rules.specs.declared.piece.GlobPiece.TheVariants.{Star, AnyChar, Literal, Class}
-use Rattle.glob_rules.specs.Reading.{is_open, is_close, is_negation, plain_piece, range, ranges_of, class_of, pieces_from, unclosed, unless_unclosed, glob_of}
+use Rattle.glob_rules.specs.Reading.{is_open, is_close, is_negation, plain_piece, range, ranges_of, class_of, pieces_from, unclosed_class, unless_unclosed, glob_of}
 use Rattle.glob_rules.specs.Spelling.{GoesOn, AreRanges, IsClass, Spells, IsOpen, IsFault}
 use Rattle.glob_rules.proofs.ReadLemmas.{closes, class_piece, stays_unclosed}
 
@@ -96,7 +96,7 @@ plain_spells c cs pieces apart later = go (c == 42) (c == 63) refl refl
     go false true ep eq = subst (λ (n : ℕ). Spells (n ∷ cs) (AnyChar ∷ pieces)) (sym (equals c 63 eq)) (Spells.any later)
     go false false ep eq = Spells.literal (rw (ep, eq, apart) refl) later
 
-told : (n : ℕ) (cs : List ℕ) → length cs ≤ n → Told cs (unclosed None cs)
+told : (n : ℕ) (cs : List ℕ) → length cs ≤ n → Told cs (unclosed_class None cs)
 told n [] le = Spells.nothing
 told zero (c ∷ cs) le = absurd (omega (arith, le))
 told (suc n) (c ∷ cs) le = go (λ rest less. told n rest less) (is_open c) refl
@@ -119,21 +119,21 @@ told (suc n) (c ∷ cs) le = go (λ rest less. told n rest less) (is_open c) ref
       never,
     )
 
-    by_cut : ((rest : List ℕ) → length rest ≤ n → Told rest (unclosed None rest)) → c ≡ 91 → Cut cs → Told (c ∷ cs) (unclosed (Some (c ∷ cs)) cs)
+    by_cut : ((rest : List ℕ) → length rest ≤ n → Told rest (unclosed_class None rest)) → c ≡ 91 → Cut cs → Told (c ∷ cs) (unclosed_class (Some (c ∷ cs)) cs)
     by_cut ih is (Cut.closed inside rest e none) =
         let less : length rest ≤ n = omega (arith, le, ap length e, length-append inside (93 ∷ rest)) in
-        let same : unclosed (Some (c ∷ cs)) cs ≡ unclosed None rest = ap (unclosed (Some (c ∷ cs))) e ∙ closes (c ∷ cs) inside rest none in
-        subst (Told (c ∷ cs)) (sym same) (class inside rest is e none (unclosed None rest) (ih rest less))
+        let same : unclosed_class (Some (c ∷ cs)) cs ≡ unclosed_class None rest = ap (unclosed_class (Some (c ∷ cs))) e ∙ closes (c ∷ cs) inside rest none in
+        subst (Told (c ∷ cs)) (sym same) (class inside rest is e none (unclosed_class None rest) (ih rest less))
     by_cut ih is (Cut.open_ none) =
         subst (Told (c ∷ cs)) (sym (stays_unclosed (c ∷ cs) cs none)) ([], [], cs, ap (λ (m : ℕ). m ∷ cs) is, ap (λ (m : ℕ). m ∷ cs) is, Spells.nothing, none)
 
-    go : ((rest : List ℕ) → length rest ≤ n → Told rest (unclosed None rest)) → (b : Bool) → is_open c ≡ b → Told (c ∷ cs) (unclosed (cond b (Some (c ∷ cs)) None) cs)
+    go : ((rest : List ℕ) → length rest ≤ n → Told rest (unclosed_class None rest)) → (b : Bool) → is_open c ≡ b → Told (c ∷ cs) (unclosed_class (cond b (Some (c ∷ cs)) None) cs)
     go ih true is = by_cut ih (equals c 91 is) (cut cs)
-    go ih false is = plain is (unclosed None cs) (ih cs (omega (arith, le)))
+    go ih false is = plain is (unclosed_class None cs) (ih cs (omega (arith, le)))
 
 -- what is spelled is read
 abbrev IsRead : List ℕ → List GlobPiece → Type 0
-IsRead cs glob = (unclosed None cs ≡ None) × (pieces_from None cs ≡ glob)
+IsRead cs glob = (unclosed_class None cs ≡ None) × (pieces_from None cs ≡ glob)
 
 plain_read : (c : ℕ) (cs : List ℕ) (glob : List GlobPiece) → is_open c ≡ false → IsRead cs glob → IsRead (c ∷ cs) (plain_piece c ∷ glob)
 plain_read c cs glob apart (ended, pieces) = (rw apart ended, rw apart (ap (λ (l : List GlobPiece). plain_piece c ∷ l) pieces))
@@ -150,7 +150,7 @@ complete _ _ (Spells.literal {c} {cs} {pieces} plain later) =
     subst (λ (p : GlobPiece). IsRead (c ∷ cs) (p ∷ pieces)) piece (plain_read c cs pieces open_ (complete cs pieces later))
 complete _ _ (Spells.class {cs} {pieces} inside rest class none is e later) =
     let ih = complete rest pieces later in (
-      ap (unclosed (Some (91 ∷ cs))) e ∙ closes (91 ∷ cs) inside rest none ∙ ih.0,
+      ap (unclosed_class (Some (91 ∷ cs))) e ∙ closes (91 ∷ cs) inside rest none ∙ ih.0,
       ap (pieces_from (Some [])) e ∙ class_piece [] inside rest none ∙ ap (λ (k : CharClass). Class k ∷ pieces_from None rest) (class_complete inside class is)
           ∙ ap (λ (l : List GlobPiece). Class class ∷ l) ih.1,
     )
@@ -167,7 +167,7 @@ Answers cs (Err NoMemory) = ⊥
 Answers cs (Err (OpenClass place)) = IsOpen place cs
 
 answered : (text : List ℕ) → IsUtf8 text → Answers (chars text) (glob_of text)
-answered text u = go (unclosed None (chars text)) (told (length (chars text)) (chars text) (omega arith))
+answered text u = go (unclosed_class None (chars text)) (told (length (chars text)) (chars text) (omega arith))
   where
     go : (o : Option (List ℕ)) → Told (chars text) o → Answers (chars text) (unless_unclosed o text)
     go None spelled = spelled

@@ -47,10 +47,10 @@ pieces_from None (c ∷ cs) = if is_open c then pieces_from (Some []) cs else pl
 pieces_from (Some inside) (c ∷ cs) = if is_close c then Class (class_of inside) ∷ pieces_from None cs else pieces_from (Some (inside ++ c ∷ [])) cs
 
 -- what stands from a `[` on that no `]` closes; a `[` inside a class is a character of it
-abbrev pub unclosed : Option (List ℕ) → List ℕ → Option (List ℕ)
-unclosed rest [] = rest
-unclosed None (c ∷ cs) = unclosed (if is_open c then Some (c ∷ cs) else None) cs
-unclosed (Some rest) (c ∷ cs) = unclosed (if is_close c then None else Some rest) cs
+abbrev pub unclosed_class : Option (List ℕ) → List ℕ → Option (List ℕ)
+unclosed_class rest [] = rest
+unclosed_class None (c ∷ cs) = unclosed_class (if is_open c then Some (c ∷ cs) else None) cs
+unclosed_class (Some rest) (c ∷ cs) = unclosed_class (if is_close c then None else Some rest) cs
 
 -- the pieces, unless a class is open; its `[` is placed by the bytes before it
 abbrev pub unless_unclosed : Option (List ℕ) → List ℕ → Result (List GlobPiece) GlobFault
@@ -59,4 +59,4 @@ unless_unclosed (Some rest) text = Err (OpenClass (length text - length (encode_
 
 -- what a text reads as: the pieces of a glob, or the fault
 abbrev pub glob_of : List ℕ → Result (List GlobPiece) GlobFault
-glob_of text = unless_unclosed (unclosed None (chars text)) text
+glob_of text = unless_unclosed (unclosed_class None (chars text)) text

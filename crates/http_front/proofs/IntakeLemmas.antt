@@ -11,7 +11,7 @@ use Rattle.http_front.specs.declared.intake.Phase.TheVariants.{Heading, Body, Fa
 use Rattle.http_front.specs.declared.turn.Turn.{Turn}
 use Rattle.http_front.specs.declared.turn.Turn.TheVariants.{Continue, Whole}
 use Rattle.http_front.specs.Turns.{End, Waits, Breaks, longest_head, BeginsAsking, BeginsRefused, HasBody, with_body, AwaitsHead, AwaitsBody, HasNoHead, Stops, BeginsWithRequest, SpellsTurns}
-use Rattle.http_front.specs.Intakes.{TurnsFollow, Continues, Left, Keeps, Ends, IntakeLeads, Stands, rest_of}
+use Rattle.http_front.specs.Intakes.{TurnsFollow, Continues, RemainderSpells, Keeps, Ends, IntakeLeads, Stands, rest_of}
 use Rattle.http_front.proofs.TurnLemmas.{begins_append, never_grows, window_full}
 
 append_nil : {A : Type 0} (xs : List A) → xs ++ [] ≡ xs
@@ -88,7 +88,7 @@ ends i end nothing = λ stream told stands.
 -- ---- the steps, in the words of the code
 
 pub leads_failed : (old : Intake) (rest : List ℕ) (fault : InFault) → old.phase ≡ Heading → BeginsRefused (rest_of old) fault ⊎ HasNoHead (rest_of old) fault
-    → (more : List ℕ) (turns : List Turn) (end : End) → Continues (Failed fault) (rest ++ more) turns end → Left old more turns end
+    → (more : List ℕ) (turns : List Turn) (end : End) → Continues (Failed fault) (rest ++ more) turns end → RemainderSpells old more turns end
 leads_failed old rest fault heading stops = λ more turns end l.
     subst (λ p. Continues p (rest_of old ++ more) turns end) (sym heading)
     (subst (λ ts. SpellsTurns (rest_of old ++ more) ts end) (sym l.0) (subst (Stops (rest_of old ++ more)) (sym l.1) (fault_stays (rest_of old) more fault stops)))
@@ -102,14 +102,14 @@ stands_waiting old heading awaits short =
     (subst (λ s. Stops s Waits) (sym (append_nil (rest_of old))) (inl (awaits, short)))
 
 pub leads_asked : (old : Intake) (rest : List ℕ) (a : AskedHead) (len : ℕ) → old.phase ≡ Heading → rest ≡ drop len (rest_of old) → BeginsAsking (rest_of old) a (drop len (rest_of old))
-    → a.awaits_continue ≡ true → (more : List ℕ) (turns : List Turn) (end : End) → Continues (Body a) (rest ++ more) turns end → Left old more (Continue ∷ turns) end
+    → a.awaits_continue ≡ true → (more : List ℕ) (turns : List Turn) (end : End) → Continues (Body a) (rest ++ more) turns end → RemainderSpells old more (Continue ∷ turns) end
 leads_asked old rest a len heading is begins waits = λ more turns end f.
     subst (λ p. Continues p (rest_of old ++ more) (Continue ∷ turns) end) (sym heading)
     (asked (rest_of old) more a (drop len (rest_of old)) turns end begins waits (subst (λ r. TurnsFollow a (r ++ more) turns end) is f))
 
 pub leads_body : (old : Intake) (phase : Phase) (rest : List ℕ) (a : AskedHead) (request : Req) → old.phase ≡ Body a → phase ≡ Heading → rest ≡ drop a.body_length (rest_of old)
     → a.body_length ≤ length (rest_of old) → request ≡ with_body a (take a.body_length (rest_of old))
-    → (more : List ℕ) (turns : List Turn) (end : End) → Continues phase (rest ++ more) turns end → Left old more (Whole request ∷ turns) end
+    → (more : List ℕ) (turns : List Turn) (end : End) → Continues phase (rest ++ more) turns end → RemainderSpells old more (Whole request ∷ turns) end
 leads_body old phase rest a request body heading is fits made = λ more turns end l.
     let s : SpellsTurns (rest ++ more) turns end = subst (λ p. Continues p (rest ++ more) turns end) heading l in
     subst (λ p. Continues p (rest_of old ++ more) (Whole request ∷ turns) end) (sym body)

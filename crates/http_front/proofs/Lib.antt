@@ -6,7 +6,7 @@ pub mod HostLemmas
 pub mod HeadLemmas
 pub mod TurnLemmas
 pub mod EndLemmas
-pub mod FrontLemmas
+pub mod ParserLemmas
 pub mod StartLemmas
 pub mod IntakeLemmas
 pub mod ValueLemmas

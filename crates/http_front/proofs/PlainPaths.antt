@@ -11,8 +11,8 @@ use Rattle.std.proofs.lemmas.Bool.Decides.{nat_tests}
 use Rattle.std.proofs.lemmas.List.Folds.{list_any-append}
 use Rattle.percent_encoding.specs.Percent.{percent_decode}
 use Rattle.percent_encoding.proofs.PercentLemmas.{percent_decode-nil, percent_decode_not_percent}
-use Rattle.sp_base.specs.Paths.{path_of, is_mangled, unmangled_by, unmangled_seg, unmangled}
-use Rattle.sp_base.specs.PathTexts.{spelled}
+use Rattle.sp_base.specs.Paths.{path_of, is_mangled, unmangled_by, unmangled_seg, unmangled_segs}
+use Rattle.sp_base.specs.PathTexts.{spelling_of}
 use Rattle.http_front.specs.declared.target.Target.{Target}
 use Rattle.http_front.specs.PathReading.{is_percent, is_underscore, path_and_slash}
 use Rattle.http_front.specs.Targets.{path_bytes, ends_in_slash, without_slash, utf8_text, path_of_bytes, query_of, with_path, begins_with_slash, target_of}
@@ -46,11 +46,11 @@ plain_seg (b ∷ seg) e =
     ∙ ap (λ t. cond t (unmangled_by (codes "_cq_") (codes "cq:") (b ∷ seg)) (b ∷ seg)) (unmarked (codes "cq_") b seg first)
 
 -- a path without an underscore has no mark
-pub plain_path : (segs : List (List ℕ)) → list_any is_underscore (spelled segs) ≡ false → unmangled segs ≡ segs
+pub plain_path : (segs : List (List ℕ)) → list_any is_underscore (spelling_of segs) ≡ false → unmangled_segs segs ≡ segs
 plain_path [] e = refl
 plain_path (seg ∷ segs) e =
-    let parts = or_parts (list_any is_underscore (47 ∷ seg)) (list_any is_underscore (spelled segs)) (sym (list_any-append is_underscore (47 ∷ seg) (spelled segs)) ∙ e) in
-    ap (λ s. s ∷ unmangled segs) (plain_seg seg parts.0) ∙ ap (λ rest. seg ∷ rest) (plain_path segs parts.1)
+    let parts = or_parts (list_any is_underscore (47 ∷ seg)) (list_any is_underscore (spelling_of segs)) (sym (list_any-append is_underscore (47 ∷ seg) (spelling_of segs)) ∙ e) in
+    ap (λ s. s ∷ unmangled_segs segs) (plain_seg seg parts.0) ∙ ap (λ rest. seg ∷ rest) (plain_path segs parts.1)
 
 -- a text says the path that its bytes spell, and bytes that are no text say none
 pub text_says : (text bytes : List ℕ) → text ≡ bytes → IsUtf8 bytes → path_and_slash text ≡ option_and_then path_and_slash (utf8_text bytes)
@@ -63,11 +63,11 @@ no_text_says bytes other = ap (option_and_then path_and_slash) (is_no_text bytes
 abbrev pub with_query : Option (List ℕ) → List (List ℕ) × Bool → Target
 with_query query read = record { path = read.0; slash = read.1; query = query }
 
-same_parts : (o : Option (List (List ℕ))) (slash : Bool) (query : Option (List ℕ)) → option_map (with_query query) (option_map (λ path. (unmangled path, slash)) o) ≡ option_map (λ path. with_query query (unmangled path, slash)) o
+same_parts : (o : Option (List (List ℕ))) (slash : Bool) (query : Option (List ℕ)) → option_map (with_query query) (option_map (λ path. (unmangled_segs path, slash)) o) ≡ option_map (λ path. with_query query (unmangled_segs path, slash)) o
 same_parts None slash query = refl
 same_parts (Some path) slash query = refl
 
-told : (b : Bool) (bytes : List ℕ) (query : Option (List ℕ)) → option_map (with_query query) (option_and_then path_and_slash (cond b (Some bytes) None)) ≡ option_map (λ path. with_query query (unmangled path, ends_in_slash bytes)) (option_and_then (λ text. result_ok (path_of (without_slash text))) (cond b (Some bytes) None))
+told : (b : Bool) (bytes : List ℕ) (query : Option (List ℕ)) → option_map (with_query query) (option_and_then path_and_slash (cond b (Some bytes) None)) ≡ option_map (λ path. with_query query (unmangled_segs path, ends_in_slash bytes)) (option_and_then (λ text. result_ok (path_of (without_slash text))) (cond b (Some bytes) None))
 told true bytes query = same_parts (result_ok (path_of (without_slash bytes))) (ends_in_slash bytes) query
 told false bytes query = refl
 

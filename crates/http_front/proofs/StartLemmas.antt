@@ -7,7 +7,7 @@ use Rattle.http_front.specs.declared.fault.InFault.TheVariants.{BadHead, LongHea
 use Rattle.http_front.specs.declared.head.AskedHead.{AskedHead}
 use Rattle.http_front.specs.declared.window.StreamStart.{StreamStart}
 use Rattle.http_front.specs.declared.window.StreamStart.TheVariants.{Partial, Crowded}
-use Rattle.http_front.specs.Fronts.{IsStart}
+use Rattle.http_front.specs.StreamBeginnings.{IsStart}
 use Rattle.http_front.specs.Turns.{longest_head, window, BeginsWith, BeginsAsking, BeginsRefused, AwaitsHead, HasNoHead}
 use Rattle.http_front.proofs.TurnLemmas.{begins_append}
 

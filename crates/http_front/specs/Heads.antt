@@ -32,12 +32,12 @@ abbrev pub parts_of : RequestHead → Parts
 parts_of head = record { method = head.method; target = head.target; minor = head.minor; fields = map name_and_value head.fields }
 
 -- the fields with their names in lower case, since the case of a name doesn't count (RFC 9110, section 5.1)
-abbrev pub lowered : List ℕ × List ℕ → List ℕ × List ℕ
-lowered field = (str_to_ascii_lowercase field.0, field.1)
+abbrev pub lower_case_field : List ℕ × List ℕ → List ℕ × List ℕ
+lower_case_field field = (str_to_ascii_lowercase field.0, field.1)
 
 -- all fields, with their names in lower case
 abbrev pub heads : Parts → List (List ℕ × List ℕ)
-heads p = map lowered p.fields
+heads p = map lower_case_field p.fields
 
 -- two fields have the name
 abbrev pub is_repeated : List ℕ → List (List ℕ × List ℕ) → Bool

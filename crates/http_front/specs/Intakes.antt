@@ -28,13 +28,13 @@ abbrev pub rest_of : Intake → List ℕ
 rest_of i = drop i.start i.buffer.items
 
 -- what an intake has still to tell, if these bytes come
-abbrev pub Left : Intake → List ℕ → List Turn → End → Type 0
-Left i more turns end = Continues i.phase (rest_of i ++ more) turns end
+abbrev pub RemainderSpells : Intake → List ℕ → List Turn → End → Type 0
+RemainderSpells i more turns end = Continues i.phase (rest_of i ++ more) turns end
 
 -- The intake has been given the bytes of the stream, and has told these turns of it: whatever comes, what is left completes them to
 -- the turns of the whole stream.
 abbrev pub StandsFor : Intake → List ℕ → List Turn → Type 0
-StandsFor i stream told = (more : List ℕ) (turns : List Turn) (end : End) → Left i more turns end → SpellsTurns (stream ++ more) (told ++ turns) end
+StandsFor i stream told = (more : List ℕ) (turns : List Turn) (end : End) → RemainderSpells i more turns end → SpellsTurns (stream ++ more) (told ++ turns) end
 
 -- the fault of a phase, if it is that of a fault
 abbrev pub fault_in : Phase → Option InFault
@@ -78,15 +78,15 @@ weight i = 2 * length (rest_of i) + phase_weight i.phase
 
 -- what is left of the new one is what is left of the old one
 abbrev pub IntakeLeads : Intake → Intake → Type 0
-IntakeLeads old new = (more : List ℕ) (turns : List Turn) (end : End) → Left new more turns end → Left old more turns end
+IntakeLeads old new = (more : List ℕ) (turns : List Turn) (end : End) → RemainderSpells new more turns end → RemainderSpells old more turns end
 
 -- what was left of the old one is this turn, and then what is left of the new one
 abbrev pub LeadsBy : Intake → Intake → Turn → Type 0
-LeadsBy old new turn = (more : List ℕ) (turns : List Turn) (end : End) → Left new more turns end → Left old more (turn ∷ turns) end
+LeadsBy old new turn = (more : List ℕ) (turns : List Turn) (end : End) → RemainderSpells new more turns end → RemainderSpells old more (turn ∷ turns) end
 
 -- nothing is left
 abbrev pub Stands : Intake → End → Type 0
-Stands i end = Left i [] [] end
+Stands i end = RemainderSpells i [] [] end
 
 -- the phase is that in which a body is read
 abbrev pub IsBody : Phase → Type 0

@@ -1,12 +1,12 @@
 pub mod Targets
 pub mod PathReading
 pub mod Answers
-pub mod Lent
+pub mod LentHosts
 pub mod Hosts
 pub mod Heads
 pub mod Faults
 pub mod Turns
 pub mod OpenEnds
-pub mod Fronts
+pub mod StreamBeginnings
 pub mod Intakes
 pub mod FieldValues

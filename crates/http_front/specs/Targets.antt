@@ -5,7 +5,7 @@ use Rattle.std.specs.Option.{option_map}
 use Rattle.std.specs.Result.{result_ok}
 use Rattle.std.specs.Str.{is_utf8}
 use Rattle.percent_encoding.specs.Percent.{percent_decode}
-use Rattle.sp_base.specs.Paths.{path_of, unmangled}
+use Rattle.sp_base.specs.Paths.{path_of, unmangled_segs}
 use Rattle.http_front.specs.declared.target.Target.{Target}
 
 -- a `?` ends the path
@@ -39,7 +39,7 @@ path_of_bytes bytes = option_and_then (λ text. result_ok (path_of (without_slas
 
 -- a target with this path
 abbrev pub with_path : List ℕ → List (List ℕ) → Target
-with_path target path = record { path = unmangled path; slash = ends_in_slash (path_bytes target); query = query_of target }
+with_path target path = record { path = unmangled_segs path; slash = ends_in_slash (path_bytes target); query = query_of target }
 
 -- the first byte is a slash, as it stands (RFC 9112, section 3.2.1: the origin form)
 abbrev pub begins_with_slash : List ℕ → Bool

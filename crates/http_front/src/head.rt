@@ -5,7 +5,7 @@ ghost use Rattle.std.specs.Str.{str_to_ascii_lowercase};
 ghost use Rattle.httparse.specs.Spans.{IsHeaderWithin, header_bytes, span_bytes};
 ghost use Rattle.sp_base.specs.Fields.{field_of};
 ghost use Rattle.http_front.specs.declared.fault.InFault.TheVariants.{NoMemory};
-ghost use Rattle.http_front.specs.Lent.{lent};
+ghost use Rattle.http_front.specs.LentHosts.{lent_host};
 ghost use Rattle.http_front.specs.Heads as spec;
 
 use crate::fault::InFault;
@@ -179,7 +179,7 @@ fn version_of(minor: u8) -> &'static str
 fn lowered(alloc: Global, bytes: &[u8], fields: &[HeaderSpan]) -> Mem<HeadList>
     requires within { All (IsHeaderWithin (length bytes.now)) fields.now }
     requires names { All (λ field. IsUtf8 field.0) (map (header_bytes bytes.now) fields.now) }
-    ensures { IfOk result (λ heads. heads ≡ map spec.lowered (map (header_bytes bytes.now) fields.now)) }
+    ensures { IfOk result (λ heads. heads ≡ map spec.lower_case_field (map (header_bytes bytes.now) fields.now)) }
 {
     let mut heads = Vec::with_capacity(alloc, fields.len())?;
     for field in fields {
@@ -212,7 +212,7 @@ fn is_repeated(heads: &HeadList, name: &str) -> bool
 }
 
 fn asked_host(minor: u8, heads: &HeadList) -> Option<(&[u8], u16)>
-    ensures value { option_map lent result ≡ spec.asked_host minor heads.now }
+    ensures value { option_map lent_host result ≡ spec.asked_host minor heads.now }
     ensures text { IfSome result (λ host. IsUtf8 host.0.now) }
 {
     if is_repeated(heads, "host") {

@@ -4,7 +4,7 @@ ghost use Rattle.std.specs.List.{before_first, list_all};
 ghost use Rattle.std.specs.Char.{is_ascii_digit};
 ghost use Rattle.std.specs.Str.Parse.{digits_value};
 ghost use Rattle.http_front.specs.Hosts as spec;
-ghost use Rattle.http_front.specs.Lent.{lent};
+ghost use Rattle.http_front.specs.LentHosts.{lent_host};
 
 const MOST_DIGITS: usize = 18;
 
@@ -14,7 +14,7 @@ const USUAL_PORT: u16 = 80;
 
 /// The host of a request, from its Host field: its name and its port.
 pub fn host_of(minor: u8, value: Option<&[u8]>) -> Option<(&[u8], u16)>
-    ensures value { option_map lent result ≡ spec.host_of minor (option_copied value.entry) }
+    ensures value { option_map lent_host result ≡ spec.host_of minor (option_copied value.entry) }
     ensures text { IfSome result (λ host. IsUtf8 host.0.now) }
 {
     match value {
@@ -25,7 +25,7 @@ pub fn host_of(minor: u8, value: Option<&[u8]>) -> Option<(&[u8], u16)>
 }
 
 fn host_in(value: &[u8]) -> Option<(&[u8], u16)>
-    ensures value { option_map lent result ≡ spec.host_in value.now }
+    ensures value { option_map lent_host result ≡ spec.host_in value.now }
     ensures text { IfSome result (λ host. IsUtf8 host.0.now) }
 {
     let (name, port) = cut(value);

@@ -4,7 +4,7 @@ ghost use Rattle.std.specs.List.{before_first, list_any};
 ghost use Rattle.std.specs.Option.{option_map, option_and_then};
 ghost use Rattle.std.specs.Result.{result_ok};
 ghost use Rattle.percent_encoding.specs.Percent.{percent_decode as decoding};
-ghost use Rattle.sp_base.specs.Paths.{path_of, unmangled};
+ghost use Rattle.sp_base.specs.Paths.{path_of, unmangled_segs};
 ghost use Rattle.http_front.specs.PathReading.{is_percent, is_underscore, path_and_slash};
 ghost use Rattle.http_front.specs.Targets.{is_question_mark, query_of, begins_with_slash, ends_in_slash, without_slash as trimmed, utf8_text, target_of};
 
@@ -117,7 +117,7 @@ fn without_slash(text: &str) -> (&str, bool)
 
 // The path that a text spells, with its namespace prefixes as they stand in the repository.
 fn unmangled_path(alloc: Global, text: &str) -> Mem<Option<Path>>
-    ensures { IfOk result (λ o. o ≡ option_map unmangled (result_ok (path_of text.now))) }
+    ensures { IfOk result (λ o. o ≡ option_map unmangled_segs (result_ok (path_of text.now))) }
 {
     match Path::read(alloc, text) {
         Ok(path) => Ok(Some(unmangled(alloc, path)?)),
@@ -129,7 +129,7 @@ fn unmangled_path(alloc: Global, text: &str) -> Mem<Option<Path>>
 // The path with its namespace prefixes as they stand in the repository. Each mark of mangling begins with an underscore, and most paths
 // have none.
 fn unmangled(alloc: Global, path: Path) -> Mem<Path>
-    ensures { IfOk result (λ p. p ≡ unmangled path) }
+    ensures { IfOk result (λ p. p ≡ unmangled_segs path) }
 {
     if has_underscore(path.spelling()) {
         path.unmangled(alloc)

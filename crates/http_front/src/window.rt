@@ -1,7 +1,7 @@
 //! Finds the head with which a stream begins, in its first bytes.
 ghost use Rattle.std.specs.Prelude.{◌≡◌, ◌≤◌, ℕ, IfOk, length};
 ghost use Rattle.http_front.specs.Turns.{longest_head, window};
-ghost use Rattle.http_front.specs.Fronts.{IsFront, IsStart, HoldsSomeHead, most_places};
+ghost use Rattle.http_front.specs.StreamBeginnings.{IsWindowStart, IsStart, HoldsSomeHead, most_places};
 ghost use Rattle.http_front.specs.Heads.{AreWithin};
 
 use crate::fault::InFault;
@@ -59,7 +59,7 @@ fn window(stream: &[u8]) -> &[u8]
 // Most heads have fewer fields than there are places at hand. Those with more are read again with places for all.
 fn read_whole(alloc: Global, bytes: &[u8], places: &mut [HeaderSpan]) -> Mem<StreamStart>
     requires { length bytes.now ≤ longest_head }
-    ensures { IfOk result (IsFront bytes.now most_places) }
+    ensures { IfOk result (IsWindowStart bytes.now most_places) }
 {
     match read_window(alloc, bytes, places)? {
         StreamStart::Whole(head, len) => Ok(StreamStart::Whole(head, len)),
@@ -75,7 +75,7 @@ fn read_whole(alloc: Global, bytes: &[u8], places: &mut [HeaderSpan]) -> Mem<Str
 // Reads the head at the beginning of a window. The places are written over.
 fn read_window(alloc: Global, bytes: &[u8], places: &mut [HeaderSpan]) -> Mem<StreamStart>
     requires { length bytes.now ≤ longest_head }
-    ensures { IfOk result (IsFront bytes.now (length places.old)) }
+    ensures { IfOk result (IsWindowStart bytes.now (length places.old)) }
 {
     match parse_request(bytes, places) {
         Ok(Status::Complete(head)) => whole(alloc, bytes, &places[..head.headers], &head),
@@ -94,7 +94,7 @@ fn whole(
     requires small { length bytes.now ≤ longest_head }
     requires within { AreWithin bytes.now fields.now spans.now }
     requires holds { HoldsSomeHead bytes.now fields.now spans.now }
-    ensures { (room : ℕ) → IfOk result (IsFront bytes.now room) }
+    ensures { (room : ℕ) → IfOk result (IsWindowStart bytes.now room) }
 {
     match read_head(alloc, bytes, fields, spans) {
         Ok(head) => Ok(StreamStart::Whole(head, spans.len)),

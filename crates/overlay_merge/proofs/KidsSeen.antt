@@ -18,7 +18,7 @@ use Rattle.overlay_merge.specs.Layers.{has_node, layers_of}
 use Rattle.overlay_merge.specs.Hiding.{merged_from}
 use Rattle.overlay_merge.specs.Cut.{HasRoomFor, NoLayerIsCut}
 use Rattle.overlay_merge.specs.Kids.{has_text, is_merged_there, wish_at}
-use Rattle.overlay_merge.specs.Merged.{has_resource, kids_in, merge, merged, unmerged, without_roots}
+use Rattle.overlay_merge.specs.Merged.{has_resource, kids_in, merge, merged_resource, unmerged_resource, without_roots}
 use Rattle.overlay_merge.specs.Properties.{without_steering}
 use Rattle.overlay_merge.proofs.LawLemmas.{kid-parts}
 use Rattle.overlay_merge.proofs.MergedLemmas.{has_merged, has_unmerged}
@@ -40,7 +40,7 @@ has_merge : (tree : Content) (path : List (List ℕ)) (layers : List Resource) (
 has_merge tree path [] name has = absurd (false≢true has)
 has_merge tree path (lowest ∷ more) name has = (kid-parts tree path (lowest ∷ more) name has).0
 
-merged_kid : (tree : Content) (path : List (List ℕ)) (name : List ℕ) → is_merged_path path ≡ true → has_text (kids_in (merged tree path)) name ≡ true → has_resource tree (kid path name) ≡ true
+merged_kid : (tree : Content) (path : List (List ℕ)) (name : List ℕ) → is_merged_path path ≡ true → has_text (kids_in (merged_resource tree path)) name ≡ true → has_resource tree (kid path name) ≡ true
 merged_kid tree path name is has =
     has_merged tree (kid path name) (kid_merged path name (merged_deep path is) ∙ is)
     ∙ has_merge tree path (merged_from tree path) name (ap (λ o. has_text (kids_in o) name) (sym (merged_is tree path is)) ∙ has)
@@ -92,17 +92,17 @@ node_kids tree path name false (Some node) good at has =
     let kept = kept_has false node.kids name has in
     (sym ((good.nodes path node at).kids name) ∙ kept.0, kept.1)
 
-plain_kid : (tree : Content) (path : List (List ℕ)) (name : List ℕ) → IsTree (node_at tree) → is_merged_path path ≡ false → has_text (kids_in (merged tree path)) name ≡ true
+plain_kid : (tree : Content) (path : List (List ℕ)) (name : List ℕ) → IsTree (node_at tree) → is_merged_path path ≡ false → has_text (kids_in (merged_resource tree path)) name ≡ true
     → has_resource tree (kid path name) ≡ true
-unfolding merged
+unfolding merged_resource
 plain_kid tree path name good plain has =
     let found = node_kids tree path name (is_parent_of_roots path) (node_at tree path) good refl
-    (sym (ap (λ t. has_text (kids_in (cond t (merge tree path (merged_from tree path)) (unmerged tree path))) name) plain) ∙ has) in
+    (sym (ap (λ t. has_text (kids_in (cond t (merge tree path (merged_from tree path)) (unmerged_resource tree path))) name) plain) ∙ has) in
     ⊎_elim (λ (root : is_merged_path (kid path name) ≡ true). let kid_is = root_kid path name plain root in absurd (found.1 kid_is.0 kid_is.1))
     (λ (other : is_merged_path (kid path name) ≡ false). has_unmerged tree (kid path name) other ∙ found.0) (cases_Bool (is_merged_path (kid path name)))
 
 -- at each kid of what is seen something is seen
-pub kid_seen : (tree : Content) (path : List (List ℕ)) (name : List ℕ) → IsTree (node_at tree) → has_text (kids_in (merged tree path)) name ≡ true → has_resource tree (kid path name) ≡ true
+pub kid_seen : (tree : Content) (path : List (List ℕ)) (name : List ℕ) → IsTree (node_at tree) → has_text (kids_in (merged_resource tree path)) name ≡ true → has_resource tree (kid path name) ≡ true
 kid_seen tree path name good has =
     ⊎_elim (λ (is : is_merged_path path ≡ true). merged_kid tree path name is has) (λ (plain : is_merged_path path ≡ false). plain_kid tree path name good plain has) (cases_Bool (is_merged_path path))
 
@@ -112,7 +112,7 @@ pub only_node : (tree : Content) (path : List (List ℕ)) (lower upper : List La
     → layers_of tree path ≡ lower ++ layer ∷ upper → has_node tree lower ≡ false → has_node tree upper ≡ false → res_at tree layer.path ≡ Some res → is_sorted by_name res.props ≡ true
     → NoLayerIsCut tree path → All (λ (name : List ℕ). NoLayerIsCut tree (kid path name)) res.kids → All (λ (name : List ℕ). HasRoomFor tree path name) res.kids
     → All (λ (name : List ℕ). wish_at tree (kid res.path name) ≡ None) res.kids
-    → merged tree path ≡ Some (record { path = path; props = without_steering res.props; kids = res.kids })
+    → merged_resource tree path ≡ Some (record { path = path; props = without_steering res.props; kids = res.kids })
 only_node tree path lower upper layer res good valid is layers low up there sorted left kids_left_too room none =
     only_layer tree path lower upper layer res valid is layers low up (left lower upper layer layers) there sorted
     ∙ ap (λ kids. Some (record { path = path; props = without_steering res.props; kids = kids }))

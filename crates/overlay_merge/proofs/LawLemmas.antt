@@ -13,14 +13,14 @@ use Rattle.resource_tree.specs.Seen.{Resource, res_at}
 use Rattle.overlay_merge.specs.declared.layers.Layer.{Layer}
 use Rattle.overlay_merge.specs.Roots.{is_merged_path, is_parent_of_roots}
 use Rattle.overlay_merge.specs.Hiding.{layer_is_cut, resource_list, merged_from, uncut_of}
-use Rattle.overlay_merge.specs.Kids.{all_kids, has_text, is_merged_there, layers_kids, kids_there, moved, moved_from, ordered_by, wish_at}
-use Rattle.overlay_merge.specs.Merged.{merge, merged, unmerged, without_roots}
+use Rattle.overlay_merge.specs.Kids.{all_kids, has_text, is_merged_there, layers_kids, kids_there, names_after_move, names_after_move_from, ordered_by, wish_at}
+use Rattle.overlay_merge.specs.Merged.{merge, merged_resource, unmerged_resource, without_roots}
 use Rattle.overlay_merge.proofs.KidLemmas.{has-all_kids}
 
-pub unmerged_is : (tree : Content) (path : List (List ℕ)) → is_merged_path path ≡ false → is_parent_of_roots path ≡ false → merged tree path ≡ res_at tree path
-unfolding merged
+pub unmerged_is : (tree : Content) (path : List (List ℕ)) → is_merged_path path ≡ false → is_parent_of_roots path ≡ false → merged_resource tree path ≡ res_at tree path
+unfolding merged_resource
 unmerged_is tree path plain other =
-    ap (λ t. cond t (merge tree path (merged_from tree path)) (unmerged tree path)) plain ∙ ap (λ t. cond t (option_map without_roots (res_at tree path)) (res_at tree path)) other
+    ap (λ t. cond t (merge tree path (merged_from tree path)) (unmerged_resource tree path)) plain ∙ ap (λ t. cond t (option_map without_roots (res_at tree path)) (res_at tree path)) other
 
 pub cut_is : (tree : Content) (layer : Layer) (above : List Layer) → layer_is_cut tree layer above ≡ true → uncut_of tree (layer ∷ above) ≡ uncut_of tree above
 unfolding uncut_of
@@ -28,7 +28,7 @@ cut_is tree layer above cut = ap (λ t. cond t [] (resource_list (res_at tree la
 
 -- ---- moves
 
-moved_at : (names : List (List ℕ)) (name other : List ℕ) (o : Option ℕ) → position (pointwise nat_eq name) names ≡ o → IsPermutation names (moved_from name other names o)
+moved_at : (names : List (List ℕ)) (name other : List ℕ) (o : Option ℕ) → position (pointwise nat_eq name) names ≡ o → IsPermutation names (names_after_move_from name other names o)
 moved_at names name other None is = IsPermutation-refl names
 moved_at names name other (Some at) is =
     let found = position-Some (pointwise nat_eq name) names at name is in
@@ -39,11 +39,11 @@ moved_at names name other (Some at) is =
       | false ↦ IsPermutation-refl names
     ]
 
-moved-reorders : (names : List (List ℕ)) (name : List ℕ) (wish : Option (List ℕ)) → IsPermutation names (moved name wish names)
-unfolding moved
+moved-reorders : (names : List (List ℕ)) (name : List ℕ) (wish : Option (List ℕ)) → IsPermutation names (names_after_move name wish names)
+unfolding names_after_move
 moved-reorders names name None = IsPermutation-refl names
 moved-reorders names name (Some other) =
-    elim (pointwise nat_eq name other) as (λ t. IsPermutation names (cond t names (moved_from name other names (position (pointwise nat_eq name) names)))) [
+    elim (pointwise nat_eq name other) as (λ t. IsPermutation names (cond t names (names_after_move_from name other names (position (pointwise nat_eq name) names)))) [
       | true ↦ IsPermutation-refl names
       | false ↦ moved_at names name other (position (pointwise nat_eq name) names) refl
     ]
@@ -56,7 +56,7 @@ fold-reorders step names (x ∷ xs) each = IsPermutation-trans names (step names
 ordered-reorders : (tree : Content) (names : List (List ℕ)) (layer : Resource) → IsPermutation names (ordered_by tree names layer)
 unfolding ordered_by
 ordered-reorders tree names layer =
-    fold-reorders (λ so_far name. moved name (wish_at tree (kid layer.path name)) so_far) names layer.kids (λ so_far name. moved-reorders so_far name (wish_at tree (kid layer.path name)))
+    fold-reorders (λ so_far name. names_after_move name (wish_at tree (kid layer.path name)) so_far) names layer.kids (λ so_far name. moved-reorders so_far name (wish_at tree (kid layer.path name)))
 
 pub kids-reorder : (tree : Content) (path : List (List ℕ)) (layers : List Resource) → IsPermutation (kids_there tree path (all_kids layers)) (layers_kids tree path layers)
 unfolding layers_kids

@@ -7,7 +7,7 @@ use Rattle.resource_tree.specs.Seen.{Resource, res_of}
 use Rattle.resource_tree.specs.declared.nodes.Node.{Node}
 use Rattle.overlay_merge.specs.Roots.{is_merged_path, is_parent_of_roots}
 use Rattle.overlay_merge.specs.Hiding.{merged_from}
-use Rattle.overlay_merge.specs.Merged.{has_resource, merge, merged, unmerged, without_roots}
+use Rattle.overlay_merge.specs.Merged.{has_resource, merge, merged_resource, unmerged_resource, without_roots}
 
 pub not_zero : (n : ℕ) → 0 < n → (n == 0) ≡ false
 not_zero n some = grind (arith, nat_tests)
@@ -23,10 +23,10 @@ some_unmerged false path (Some node) = refl
 some_unmerged false path None = refl
 
 pub has_merged : (tree : Content) (path : List (List ℕ)) → is_merged_path path ≡ true → has_resource tree path ≡ not (length (merged_from tree path) == 0)
-unfolding has_resource merged
-has_merged tree path is = ap (λ t. is_some (cond t (merge tree path (merged_from tree path)) (unmerged tree path))) is ∙ some_merge tree path (merged_from tree path)
+unfolding has_resource merged_resource
+has_merged tree path is = ap (λ t. is_some (cond t (merge tree path (merged_from tree path)) (unmerged_resource tree path))) is ∙ some_merge tree path (merged_from tree path)
 
 pub has_unmerged : (tree : Content) (path : List (List ℕ)) → is_merged_path path ≡ false → has_resource tree path ≡ is_some (node_at tree path)
-unfolding has_resource merged
+unfolding has_resource merged_resource
 has_unmerged tree path is =
-    ap (λ t. is_some (cond t (merge tree path (merged_from tree path)) (unmerged tree path))) is ∙ some_unmerged (is_parent_of_roots path) path (node_at tree path)
+    ap (λ t. is_some (cond t (merge tree path (merged_from tree path)) (unmerged_resource tree path))) is ∙ some_unmerged (is_parent_of_roots path) path (node_at tree path)

@@ -7,7 +7,7 @@ use Rattle.std.proofs.lemmas.Bool.{cond-true, le-ltb, lt-ltb, or_parts, or_from}
 use Rattle.std.proofs.lemmas.List.Folds.{list_any-append}
 use Rattle.std.proofs.lemmas.List.Elements.{filter-append}
 use Rattle.std.proofs.Math.Seq.{take-append_seam, drop-append_seam}
-use Rattle.overlay_merge.specs.Kids.{has_text, moved, moved_from}
+use Rattle.overlay_merge.specs.Kids.{has_text, names_after_move, names_after_move_from}
 
 -- the names but for one
 abbrev pub but : List ℕ → List (List ℕ) → List (List ℕ)
@@ -70,8 +70,8 @@ has_at xs y ys =
 pub moved_at : (name other : List ℕ) (names front back above below : List (List ℕ)) → pointwise nat_eq name other ≡ false
     → names ≡ front ++ name ∷ back → list_any (pointwise nat_eq name) front ≡ false → list_any (pointwise nat_eq name) back ≡ false
     → names ≡ above ++ other ∷ below → list_any (pointwise nat_eq other) above ≡ false
-    → moved name (Some other) names ≡ but name above ++ name ∷ (other ∷ but name below)
-unfolding moved
+    → names_after_move name (Some other) names ≡ but name above ++ name ∷ (other ∷ but name below)
+unfolding names_after_move
 moved_at name other names front back above below differ name_at front_lacks back_lacks other_at above_lacks =
     let at : position (pointwise nat_eq name) names ≡ Some (length front) = ap (position (pointwise nat_eq name)) name_at ∙ position_at (pointwise nat_eq name) front name back front_lacks (self name) in
     let has : has_text names other ≡ true = ap (λ l. has_text l other) other_at ∙ has_at above other below in
@@ -82,17 +82,17 @@ moved_at name other names front back above below differ name_at front_lacks back
     ap (λ l. remove l (length front)) name_at ∙ removed front name back ∙ sym (ap (but name) name_at ∙ but_one name front back front_lacks back_lacks) ∙ left_names in
     let where_other : position (pointwise nat_eq other) (but name above ++ (other ∷ but name below)) ≡ Some (length (but name above)) =
     position_at (pointwise nat_eq other) (but name above) other (but name below) (none_but (pointwise nat_eq other) name above above_lacks) (self other) in
-    ap (λ b. cond b names (moved_from name other names (position (pointwise nat_eq name) names))) differ
-    ∙ ap (moved_from name other names) at
+    ap (λ b. cond b names (names_after_move_from name other names (position (pointwise nat_eq name) names))) differ
+    ∙ ap (names_after_move_from name other names) at
     ∙ ap (λ b. cond b (insert (remove names (length front)) (unwrap_or (position (pointwise nat_eq other) (remove names (length front))) (length (remove names (length front)))) name) names) has
     ∙ ap (λ l. insert l (unwrap_or (position (pointwise nat_eq other) l) (length l)) name) left
     ∙ ap (λ o. insert (but name above ++ (other ∷ but name below)) (unwrap_or o (length (but name above ++ (other ∷ but name below)))) name) where_other
     ∙ inserted (but name above) (other ∷ but name below) name
 
 -- nothing moves where the two are one
-pub moved_same : (name other : List ℕ) (names : List (List ℕ)) → pointwise nat_eq name other ≡ true → moved name (Some other) names ≡ names
-unfolding moved
-moved_same name other names same = ap (λ b. cond b names (moved_from name other names (position (pointwise nat_eq name) names))) same
+pub moved_same : (name other : List ℕ) (names : List (List ℕ)) → pointwise nat_eq name other ≡ true → names_after_move name (Some other) names ≡ names
+unfolding names_after_move
+moved_same name other names same = ap (λ b. cond b names (names_after_move_from name other names (position (pointwise nat_eq name) names))) same
 
 no_place : {X : Type 0} (p : X → Bool) (xs : List X) → list_any p xs ≡ false → position_or_len p xs ≡ length xs
 no_place p [] none = refl
@@ -106,24 +106,24 @@ position_none : {X : Type 0} (p : X → Bool) (xs : List X) → list_any p xs �
 position_none p xs none = ap (λ n. cond (nat_lt n (length xs)) (Some n) None) (no_place p xs none) ∙ ap (λ b. cond b (Some (length xs)) None) (le-self (length xs))
 
 -- nor where the name isn't there
-pub moved_none : (name other : List ℕ) (names : List (List ℕ)) → list_any (pointwise nat_eq name) names ≡ false → moved name (Some other) names ≡ names
-unfolding moved
+pub moved_none : (name other : List ℕ) (names : List (List ℕ)) → list_any (pointwise nat_eq name) names ≡ false → names_after_move name (Some other) names ≡ names
+unfolding names_after_move
 moved_none name other names none =
-    elim (pointwise nat_eq name other) as (λ b. cond b names (moved_from name other names (position (pointwise nat_eq name) names)) ≡ names) [
+    elim (pointwise nat_eq name other) as (λ b. cond b names (names_after_move_from name other names (position (pointwise nat_eq name) names)) ≡ names) [
       | true ↦ refl
-      | false ↦ ap (moved_from name other names) (position_none (pointwise nat_eq name) names none)
+      | false ↦ ap (names_after_move_from name other names) (position_none (pointwise nat_eq name) names none)
     ]
 
-unless_there : (name other : List ℕ) (names : List (List ℕ)) (o : Option ℕ) → has_text names other ≡ false → moved_from name other names o ≡ names
+unless_there : (name other : List ℕ) (names : List (List ℕ)) (o : Option ℕ) → has_text names other ≡ false → names_after_move_from name other names o ≡ names
 unless_there name other names None none = refl
 unless_there name other names (Some at) none =
     ap (λ b. cond b (insert (remove names at) (unwrap_or (position (pointwise nat_eq other) (remove names at)) (length (remove names at))) name) names) none
 
 -- nor where the other isn't
-pub moved_nowhere : (name other : List ℕ) (names : List (List ℕ)) → has_text names other ≡ false → moved name (Some other) names ≡ names
-unfolding moved
+pub moved_nowhere : (name other : List ℕ) (names : List (List ℕ)) → has_text names other ≡ false → names_after_move name (Some other) names ≡ names
+unfolding names_after_move
 moved_nowhere name other names none =
-    elim (pointwise nat_eq name other) as (λ b. cond b names (moved_from name other names (position (pointwise nat_eq name) names)) ≡ names) [
+    elim (pointwise nat_eq name other) as (λ b. cond b names (names_after_move_from name other names (position (pointwise nat_eq name) names)) ≡ names) [
       | true ↦ refl
       | false ↦ unless_there name other names (position (pointwise nat_eq name) names) none
     ]

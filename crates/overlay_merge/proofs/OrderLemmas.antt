@@ -10,15 +10,15 @@ use Rattle.std.proofs.lemmas.Map.Keys.{IsDistinct-cons, IsDistinct-head, IsDisti
 use Rattle.resource_tree.specs.Content.{Content, IsTree, node_at}
 use Rattle.resource_tree.specs.Seen.{Resource, res_at}
 use Rattle.overlay_merge.specs.declared.order.Move.{Move}
-use Rattle.overlay_merge.specs.Kids.{all_kids, has_text, kids_there, moved, with_kids_of}
-use Rattle.overlay_merge.specs.Slots.{moved_by}
+use Rattle.overlay_merge.specs.Kids.{all_kids, has_text, kids_there, names_after_move, with_kids_of}
+use Rattle.overlay_merge.specs.Slots.{names_after_moves}
 use Rattle.overlay_merge.specs.Walk.{AreNodesOf}
 use Rattle.overlay_merge.proofs.KidLemmas.{node_of}
 
-pub pushed : (old new : List Move) (m : Move) → new ≡ old ++ m ∷ [] → (names : List (List ℕ)) → moved_by new names ≡ moved m.name.now (Some m.other.now) (moved_by old names)
+pub pushed : (old new : List Move) (m : Move) → new ≡ old ++ m ∷ [] → (names : List (List ℕ)) → names_after_moves new names ≡ names_after_move m.name.now (Some m.other.now) (names_after_moves old names)
 pushed old new m is names =
-    let f = λ (so_far : List (List ℕ)) (step : Move). moved step.name.now (Some step.other.now) so_far in
-    ap (λ l. moved_by l names) is ∙ fold-append f names old (m ∷ [])
+    let f = λ (so_far : List (List ℕ)) (step : Move). names_after_move step.name.now (Some step.other.now) so_far in
+    ap (λ l. names_after_moves l names) is ∙ fold-append f names old (m ∷ [])
 
 -- ---- no kid is twice among the kids of layers
 

@@ -4,7 +4,7 @@ use Rattle.std.specs.Prelude.{flat_map}
 use Rattle.std.specs.List.{onto_first}
 use Rattle.std.proofs.lemmas.Bool.Decides.{nat_tests}
 use Rattle.std.proofs.lemmas.List.Splits.{length-slice_split}
-use Rattle.sp_base.specs.Paths.{checked, child_of, fault_of, is_empty, is_path, path_of, path_or_none, pieces, text_of, unless_fault}
+use Rattle.sp_base.specs.Paths.{path_or_fault, child_of, fault_of, is_empty, is_path, path_of, path_or_none, pieces, text_of, unless_fault}
 use Rattle.sp_base.specs.declared.path.PathFault.{PathFault}
 use Rattle.overlay_merge.specs.Layers.{path_at}
 
@@ -65,11 +65,11 @@ ok_of : (fault : Option PathFault) (segs path : List (List ℕ)) → unless_faul
 ok_of None segs path e = cc
 ok_of (Some fault) segs path e = absurd (cc)
 
-reads : (empty : Bool) (parts path : List (List ℕ)) (seg : List ℕ) → cond empty (Ok []) (checked parts) ≡ Ok (seg ∷ path) → checked (seg ∷ path) ≡ Ok (seg ∷ path)
+reads : (empty : Bool) (parts path : List (List ℕ)) (seg : List ℕ) → cond empty (Ok []) (path_or_fault parts) ≡ Ok (seg ∷ path) → path_or_fault (seg ∷ path) ≡ Ok (seg ∷ path)
 reads true parts path seg e = absurd (cc)
-reads false parts path seg e = let same = ok_of (fault_of parts) parts (seg ∷ path) e in sym (ap checked same) ∙ e
+reads false parts path seg e = let same = ok_of (fault_of parts) parts (seg ∷ path) e in sym (ap path_or_fault same) ∙ e
 
-checked_path : (path : List (List ℕ)) → 0 < length path → path_of (text_of path) ≡ Ok path → checked path ≡ Ok path
+checked_path : (path : List (List ℕ)) → 0 < length path → path_of (text_of path) ≡ Ok path → path_or_fault path ≡ Ok path
 checked_path [] some e = absurd (omega (arith, some))
 checked_path (seg ∷ segs) some e = reads (is_empty (seg ++ flat_map (λ s. 47 ∷ s) segs)) (pieces (seg ++ flat_map (λ s. 47 ∷ s) segs)) segs seg e
 
@@ -86,7 +86,7 @@ module _ (place path : List (List ℕ)) (n : ℕ) where
       → child_of place rest ≡ Err fault → None ≡ path_at place path n
   not_rebased rest fault law rest_is made =
       let whole = place ++ drop n path in
-      let refused : checked whole ≡ Err fault = ap (λ ps. checked (place ++ ps)) (sym rest_is) ∙ made in
+      let refused : path_or_fault whole ≡ Err fault = ap (λ ps. path_or_fault (place ++ ps)) (sym rest_is) ∙ made in
       let size : length whole ≡ length place + length (drop n path) = length-append place (drop n path) in
       let piece : 0 < length (drop n path) = rw (sym rest_is) (some_piece rest) in
       elim (is_path whole) as (λ t. is_path whole ≡ t → None ≡ cond t (Some whole) None) [

@@ -22,8 +22,8 @@ use Rattle.overlay_merge.specs.Roots.{is_merged_path}
 use Rattle.overlay_merge.specs.Layers.{has_node, layers_of}
 use Rattle.overlay_merge.specs.Hiding.{lists_name, layer_is_cut, resource_list, merged_from, uncut, uncut_of}
 use Rattle.overlay_merge.specs.Properties.{is_steering, lower_properties_left, merged_props, put_all, with_layer, without_steering}
-use Rattle.overlay_merge.specs.Kids.{all_kids, has_text, is_merged_there, layers_kids, kids_there, moved, ordered_by, wish_at, with_kids_of}
-use Rattle.overlay_merge.specs.Merged.{merge, merged, unmerged}
+use Rattle.overlay_merge.specs.Kids.{all_kids, has_text, is_merged_there, layers_kids, kids_there, names_after_move, ordered_by, wish_at, with_kids_of}
+use Rattle.overlay_merge.specs.Merged.{merge, merged_resource, unmerged_resource}
 use Rattle.overlay_merge.specs.Cut.{IsOfLayer}
 use Rattle.overlay_merge.proofs.DescentLemmas.{no_node_merged}
 use Rattle.overlay_merge.proofs.LawLemmas.{kid-parts, kids-reorder}
@@ -96,9 +96,9 @@ all_of_layers tree path = all_if (IsOfLayer tree path) (is_path path) (uncut_of 
 
 -- ---- what is merged
 
-pub merged_is : (tree : Content) (path : List (List ℕ)) → is_merged_path path ≡ true → merged tree path ≡ merge tree path (merged_from tree path)
-unfolding merged
-merged_is tree path is = ap (λ t. cond t (merge tree path (merged_from tree path)) (unmerged tree path)) is
+pub merged_is : (tree : Content) (path : List (List ℕ)) → is_merged_path path ≡ true → merged_resource tree path ≡ merge tree path (merged_from tree path)
+unfolding merged_resource
+merged_is tree path is = ap (λ t. cond t (merge tree path (merged_from tree path)) (unmerged_resource tree path)) is
 
 record Made (tree : Content) (path : List (List ℕ)) (layers : List Resource) (res : Resource) : Type 0 where
   props : res.props ≡ merged_props layers
@@ -115,7 +115,7 @@ IsOfSome tree path property = (layer : Resource) × IsOfLayer tree path layer ×
 abbrev pub IsKidOfSome : Content → List (List ℕ) → List ℕ → Type 0
 IsKidOfSome tree path name = (layer : Resource) × IsOfLayer tree path layer × (has_text layer.kids name ≡ true)
 
-pub seen_property : (tree : Content) (path : List (List ℕ)) (res : Resource) → is_merged_path path ≡ true → merged tree path ≡ Some res → All (IsOfSome tree path) res.props
+pub seen_property : (tree : Content) (path : List (List ℕ)) (res : Resource) → is_merged_path path ≡ true → merged_resource tree path ≡ Some res → All (IsOfSome tree path) res.props
 seen_property tree path res is e =
     let layers = merged_from tree path in
     let made_is = made tree path layers res (sym (merged_is tree path is) ∙ e) in
@@ -132,7 +132,7 @@ some_layer tree path (layer ∷ layers) name all some =
     some_layer tree path layers name (tail_of (IsOfLayer tree path) layer layers all) (sym (ap (λ t. t || list_any (λ (l : Resource). has_text l.kids name) layers) none) ∙ some))
     (cases_Bool (has_text layer.kids name))
 
-pub seen_kid : (tree : Content) (path : List (List ℕ)) (res : Resource) (name : List ℕ) → is_merged_path path ≡ true → merged tree path ≡ Some res → has_text res.kids name ≡ true
+pub seen_kid : (tree : Content) (path : List (List ℕ)) (res : Resource) (name : List ℕ) → is_merged_path path ≡ true → merged_resource tree path ≡ Some res → has_text res.kids name ≡ true
     → IsKidOfSome tree path name
 seen_kid tree path res name is e has =
     let layers = merged_from tree path in
@@ -202,7 +202,7 @@ none_of tree (layer ∷ layers) rest none =
 
 pub only_layer : (tree : Content) (path : List (List ℕ)) (lower upper : List Layer) (layer : Layer) (res : Resource) → is_path path ≡ true → is_merged_path path ≡ true
     → layers_of tree path ≡ lower ++ layer ∷ upper → has_node tree lower ≡ false → has_node tree upper ≡ false → layer_is_cut tree layer upper ≡ false → res_at tree layer.path ≡ Some res → is_sorted by_name res.props ≡ true
-    → merged tree path ≡ Some (record { path = path; props = without_steering res.props; kids = layers_kids tree path (res ∷ []) })
+    → merged_resource tree path ≡ Some (record { path = path; props = without_steering res.props; kids = layers_kids tree path (res ∷ []) })
 unfolding merged_from uncut_of
 only_layer tree path lower upper layer res valid is layers low up uncut_is there sorted =
     let from : merged_from tree path ≡ res ∷ [] =
@@ -224,11 +224,11 @@ pub only_kids : (tree : Content) (path : List (List ℕ)) (res : Resource) → I
 only_kids tree path res = subst (λ names. IsPermutation (kids_there tree path names) (layers_kids tree path (res ∷ []))) (one_kids res) (kids-reorder tree path (res ∷ []))
 
 unmoved_by : (tree : Content) (path names kids : List (List ℕ)) → All (λ name. wish_at tree (kid path name) ≡ None) kids
-    → fold (λ so_far name. moved name (wish_at tree (kid path name)) so_far) names kids ≡ names
-unfolding moved
+    → fold (λ so_far name. names_after_move name (wish_at tree (kid path name)) so_far) names kids ≡ names
+unfolding names_after_move
 unmoved_by tree path names [] none = refl
 unmoved_by tree path names (name ∷ kids) none =
-    ap (λ wish. fold (λ so_far n. moved n (wish_at tree (kid path n)) so_far) (moved name wish names) kids) (head_of (λ n. wish_at tree (kid path n) ≡ None) name kids none)
+    ap (λ wish. fold (λ so_far n. names_after_move n (wish_at tree (kid path n)) so_far) (names_after_move name wish names) kids) (head_of (λ n. wish_at tree (kid path n) ≡ None) name kids none)
     ∙ unmoved_by tree path names kids (tail_of (λ n. wish_at tree (kid path n) ≡ None) name kids none)
 
 pub same_kids : (tree : Content) (path : List (List ℕ)) (res : Resource) → All (λ name. is_merged_there tree (kid path name) ≡ true) res.kids

@@ -8,7 +8,7 @@ use Rattle.std.specs.Cmp.Lexicographic.{pointwise, same_text, nat_list_eq_equiv}
 use Rattle.std.proofs.lemmas.Bool.{cases_Bool, eq-eqb, ne_eqb, or_from}
 use Rattle.std.proofs.lemmas.List.Folds.{list_any-append}
 use Rattle.std.proofs.lemmas.List.Elements.{filter-append}
-use Rattle.overlay_merge.specs.Kids.{moved}
+use Rattle.overlay_merge.specs.Kids.{names_after_move}
 use Rattle.overlay_merge.specs.Slots.{AreApart, AreSlots, IsIn, IsPut, is_slot, slot_name, names_in, walk}
 use Rattle.overlay_merge.proofs.MoveLemmas.{but, but_none, moved_at}
 
@@ -255,7 +255,7 @@ module _ (before : ℕ → ℕ) (held : ℕ → List ℕ) (slot : List ℕ → O
 
   -- before another
   pub put_before : (other : List ℕ) (t u : ℕ) → IsPut before held slot after holds stands n t name → pointwise nat_eq name other ≡ false → slot other ≡ Some t → slot name ≡ Some u
-      → Puts after holds stands (suc n) (moved name (Some other) (names_in held slot (walk before n 0)))
+      → Puts after holds stands (suc n) (names_after_move name (Some other) (names_in held slot (walk before n 0)))
   put_before other t u put differ there_other there_name =
       let slots = walk before n 0 in
       let Within = λ (s : ℕ). (0 < s) × (s < suc n) in

@@ -6,7 +6,7 @@ use Rattle.std.proofs.lemmas.Bool.{or_from}
 use Rattle.std.proofs.lemmas.List.{reverse-append}
 use Rattle.std.proofs.lemmas.Map.Keys.{apart_from_distinct}
 use Rattle.std.specs.Cmp.Lexicographic.{nat_list_eq_equiv, pointwise}
-use Rattle.overlay_merge.specs.Kids.{moved}
+use Rattle.overlay_merge.specs.Kids.{names_after_move}
 use Rattle.overlay_merge.specs.declared.slots.Slots.{Slots}
 use Rattle.overlay_merge.specs.Slots.{AreSlots, SlotsAreGood, IsPutIn, before_in, held_in, slot_name, names_in, names_of, slot_in, walk}
 use Rattle.overlay_merge.proofs.MoveLemmas.{moved_none, moved_nowhere}
@@ -33,18 +33,18 @@ added old new name good put size more fresh =
     kept new (length old.held.items) (names_of old ++ name ∷ []) size more p.good p.names_are
 
 pub moved_before : (old new : Slots) (name other : List ℕ) (t u : ℕ) → SlotsAreGood old → IsPutIn old new t name → length new.before.items ≡ suc (length new.held.items) → length new.held.items ≡ suc (length old.held.items)
-    → pointwise nat_eq name other ≡ false → slot_in old other ≡ Some t → slot_in old name ≡ Some u → Kept new (moved name (Some other) (names_of old))
+    → pointwise nat_eq name other ≡ false → slot_in old other ≡ Some t → slot_in old name ≡ Some u → Kept new (names_after_move name (Some other) (names_of old))
 unfolding names_of
 moved_before old new name other t u good put size more differ there_other there_name =
     let p = put_before (before_in old) (held_in old) (slot_in old) (before_in new) (held_in new) (slot_in new) (length old.held.items) name good.are other t u put differ there_other there_name in
-    kept new (length old.held.items) (moved name (Some other) (names_of old)) size more p.good p.names_are
+    kept new (length old.held.items) (names_after_move name (Some other) (names_of old)) size more p.good p.names_are
 
-pub name_unknown : (slots : Slots) (name other : List ℕ) → slot_in slots name ≡ None → names_of slots ≡ moved name (Some other) (names_of slots)
+pub name_unknown : (slots : Slots) (name other : List ℕ) → slot_in slots name ≡ None → names_of slots ≡ names_after_move name (Some other) (names_of slots)
 unfolding names_of
 name_unknown slots name other none =
     sym (moved_none name other (names_of slots) (names_lack_unknown (held_in slots) (slot_in slots) name (walk (before_in slots) (length slots.held.items) 0) none))
 
-pub other_unknown : (slots : Slots) (name other : List ℕ) → slot_in slots other ≡ None → names_of slots ≡ moved name (Some other) (names_of slots)
+pub other_unknown : (slots : Slots) (name other : List ℕ) → slot_in slots other ≡ None → names_of slots ≡ names_after_move name (Some other) (names_of slots)
 unfolding names_of
 other_unknown slots name other none =
     sym (moved_nowhere name other (names_of slots) (names_lack_unknown (held_in slots) (slot_in slots) other (walk (before_in slots) (length slots.held.items) 0) none))

@@ -13,7 +13,7 @@ use Rattle.overlay_merge.specs.declared.layers.Layer.{Layer}
 use Rattle.overlay_merge.specs.declared.hiding.HidingDepths.{HidingDepths}
 use Rattle.overlay_merge.specs.declared.uncut.ScreenedLayer.{ScreenedLayer}
 use Rattle.overlay_merge.specs.Hiding.{hides_kid, hides_kid_at, hides_kid_within, hides_resource, hides_resource_at, hides_resource_within, in_common, layer_is_cut, is_hidden_by, is_within, resource_list, merged_from, some_below, uncut, uncut_of}
-use Rattle.overlay_merge.specs.Walk.{hiding_depths, is_screened, kid_depth, last_below, reaches, resource_depth, screened, screens, some_screens, unscreened_of}
+use Rattle.overlay_merge.specs.Walk.{hiding_depths, is_screened, kid_depth, last_below, reaches, resource_depth, screened_layer, screens, some_screens, unscreened_resources}
 use Rattle.overlay_merge.proofs.PathLemmas.{none_from}
 
 -- ---- the last number that has a property
@@ -84,29 +84,29 @@ kid_reaches : (tree : Content) (n : ℕ) (path : List (List ℕ)) → reaches (h
 unfolding hiding_depths
 kid_reaches tree n path = sym (some_within path n (length path) (λ k. hides_kid_at tree (take k path) (slice_index_or path k [])))
 
-screens_is : (tree : Content) (n : ℕ) (layer : Layer) → screens n (screened tree layer) ≡ is_hidden_by tree (n, layer.path)
+screens_is : (tree : Content) (n : ℕ) (layer : Layer) → screens n (screened_layer tree layer) ≡ is_hidden_by tree (n, layer.path)
 screens_is tree n layer =
     ap (λ t. t || reaches (hiding_depths tree layer.path) n (hiding_depths tree layer.path).kid) (resource_reaches tree n layer.path)
     ∙ ap (λ t. hides_resource_within tree n layer.path || t) (kid_reaches tree n layer.path)
 
-some_screens-is : (tree : Content) (n : ℕ) (above : List Layer) → some_screens n (map (screened tree) above) ≡ list_any (is_hidden_by tree) (in_common n above)
+some_screens-is : (tree : Content) (n : ℕ) (above : List Layer) → some_screens n (map (screened_layer tree) above) ≡ list_any (is_hidden_by tree) (in_common n above)
 unfolding some_screens
 some_screens-is tree n [] = refl
 some_screens-is tree n (layer ∷ above) =
-    ap (λ t. t || some_screens (min n layer.common) (map (screened tree) above)) (screens_is tree n layer)
+    ap (λ t. t || some_screens (min n layer.common) (map (screened_layer tree) above)) (screens_is tree n layer)
     ∙ ap (λ t. is_hidden_by tree (n, layer.path) || t) (some_screens-is tree (min n layer.common) above)
 
-is_screened-is : (tree : Content) (layer : Layer) (above : List Layer) → is_screened (screened tree layer) (map (screened tree) above) ≡ layer_is_cut tree layer above
+is_screened-is : (tree : Content) (layer : Layer) (above : List Layer) → is_screened (screened_layer tree layer) (map (screened_layer tree) above) ≡ layer_is_cut tree layer above
 unfolding is_screened layer_is_cut
 is_screened-is tree layer above =
-    ap (λ t. t || some_screens layer.common (map (screened tree) above)) (resource_reaches tree layer.own layer.path)
+    ap (λ t. t || some_screens layer.common (map (screened_layer tree) above)) (resource_reaches tree layer.own layer.path)
     ∙ ap (λ t. hides_resource_within tree layer.own layer.path || t) (some_screens-is tree layer.common above)
 
-pub unscreened_of-is : (tree : Content) (layers : List Layer) → unscreened_of tree (map (screened tree) layers) ≡ uncut_of tree layers
-unfolding unscreened_of uncut_of
+pub unscreened_of-is : (tree : Content) (layers : List Layer) → unscreened_resources tree (map (screened_layer tree) layers) ≡ uncut_of tree layers
+unfolding unscreened_resources uncut_of
 unscreened_of-is tree [] = refl
 unscreened_of-is tree (layer ∷ above) =
-    ap (λ t. cond t [] (resource_list (res_at tree layer.path)) ++ unscreened_of tree (map (screened tree) above)) (is_screened-is tree layer above)
+    ap (λ t. cond t [] (resource_list (res_at tree layer.path)) ++ unscreened_resources tree (map (screened_layer tree) above)) (is_screened-is tree layer above)
     ∙ ap (λ more. uncut tree layer above ++ more) (unscreened_of-is tree above)
 
 -- ---- the notes of a walk
@@ -134,10 +134,10 @@ hiding_is tree path d r k e f g =
     ap (λ n. make_depths n r k) e ∙ ap (λ n. make_depths (length path) n k) f ∙ ap (make_depths (length path) (resource_depth tree path (length path + 1))) g
 
 pub merged_from-is : (tree : Content) (path : List (List ℕ)) (layers : List Layer) (list : List ScreenedLayer) (res : List Resource) → is_path path ≡ true
-    → layers ≡ layers_of tree path → list ≡ map (screened tree) layers → res ≡ unscreened_of tree list → res ≡ merged_from tree path
+    → layers ≡ layers_of tree path → list ≡ map (screened_layer tree) layers → res ≡ unscreened_resources tree list → res ≡ merged_from tree path
 unfolding merged_from
 merged_from-is tree path layers list res valid layers_is list_is is =
-    is ∙ ap (unscreened_of tree) list_is ∙ unscreened_of-is tree layers ∙ ap (uncut_of tree) layers_is ∙ sym (ap (λ t. cond t (uncut_of tree (layers_of tree path)) []) valid)
+    is ∙ ap (unscreened_resources tree) list_is ∙ unscreened_of-is tree layers ∙ ap (uncut_of tree) layers_is ∙ sym (ap (λ t. cond t (uncut_of tree (layers_of tree path)) []) valid)
 
 pub not_merged : (tree : Content) (path : List (List ℕ)) → is_path path ≡ false → merged_from tree path ≡ []
 unfolding merged_from

@@ -32,19 +32,19 @@ abbrev pub wish_at : Content → List (List ℕ) → Option (List ℕ)
 wish_at tree path = option_and_then (λ node. text_in node.props (codes "sling:orderBefore")) (node_at tree path)
 
 -- the names with one of them, which stands at a place, moved directly before another
-abbrev pub moved_from : List ℕ → List ℕ → List (List ℕ) → Option ℕ → List (List ℕ)
-moved_from name other names None = names
-moved_from name other names (Some at) = if has_text names other
+abbrev pub names_after_move_from : List ℕ → List ℕ → List (List ℕ) → Option ℕ → List (List ℕ)
+names_after_move_from name other names None = names
+names_after_move_from name other names (Some at) = if has_text names other
     then insert (remove names at) (unwrap_or (position (pointwise nat_eq other) (remove names at)) (length (remove names at))) name else names
 
 -- the names with one of them directly before another; where one of the two isn't among them, or both are one, nothing moves
-unfoldable pub moved : List ℕ → Option (List ℕ) → List (List ℕ) → List (List ℕ)
-moved name None names = names
-moved name (Some other) names = if pointwise nat_eq name other then names else moved_from name other names (position (pointwise nat_eq name) names)
+unfoldable pub names_after_move : List ℕ → Option (List ℕ) → List (List ℕ) → List (List ℕ)
+names_after_move name None names = names
+names_after_move name (Some other) names = if pointwise nat_eq name other then names else names_after_move_from name other names (position (pointwise nat_eq name) names)
 
 -- each kid of a layer moved to where it wishes to stand, one after the other
 unfoldable pub ordered_by : Content → List (List ℕ) → Resource → List (List ℕ)
-ordered_by tree names layer = fold (λ so_far name. moved name (wish_at tree (kid layer.path name)) so_far) names layer.kids
+ordered_by tree names layer = fold (λ so_far name. names_after_move name (wish_at tree (kid layer.path name)) so_far) names layer.kids
 
 -- the kids of layers at a path, the lowest layer first
 unfoldable pub layers_kids : Content → List (List ℕ) → List Resource → List (List ℕ)

@@ -17,12 +17,12 @@ abbrev pub without_roots : Resource → Resource
 without_roots res = record res { kids = filter (λ name. not (is_name_of_root name)) res.kids }
 
 -- elsewhere the node is seen as it is, but that the parent of the two roots doesn't list them
-abbrev pub unmerged : Content → List (List ℕ) → Option Resource
-unmerged tree path = if is_parent_of_roots path then option_map without_roots (res_at tree path) else res_at tree path
+abbrev pub unmerged_resource : Content → List (List ℕ) → Option Resource
+unmerged_resource tree path = if is_parent_of_roots path then option_map without_roots (res_at tree path) else res_at tree path
 
 -- what is seen at a path
-unfoldable pub merged : Content → List (List ℕ) → Option Resource
-merged tree path = if is_merged_path path then merge tree path (merged_from tree path) else unmerged tree path
+unfoldable pub merged_resource : Content → List (List ℕ) → Option Resource
+merged_resource tree path = if is_merged_path path then merge tree path (merged_from tree path) else unmerged_resource tree path
 
 -- the kids of a resource, if there is one
 abbrev pub kids_in : Option Resource → List (List ℕ)
@@ -31,7 +31,7 @@ kids_in (Some res) = res.kids
 
 -- whether a resource is seen at a path
 unfoldable pub has_resource : Content → List (List ℕ) → Bool
-has_resource tree path = is_some (merged tree path)
+has_resource tree path = is_some (merged_resource tree path)
 
 -- the same resource without its kids
 abbrev pub without_kids : Resource → Resource
@@ -39,4 +39,4 @@ without_kids res = record res { kids = [] }
 
 -- what is seen at a path, without its kids where resources are merged
 unfoldable pub merged_alone : Content → List (List ℕ) → Option Resource
-merged_alone tree path = if is_merged_path path then option_map without_kids (merged tree path) else merged tree path
+merged_alone tree path = if is_merged_path path then option_map without_kids (merged_resource tree path) else merged_resource tree path

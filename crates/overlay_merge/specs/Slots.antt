@@ -6,7 +6,7 @@ use Rattle.std.specs.Ordering.{nat_cmp}
 use Rattle.std.specs.Cmp.Lexicographic.{pointwise, slice_cmp}
 use Rattle.overlay_merge.specs.declared.order.Move.{Move}
 use Rattle.overlay_merge.specs.declared.slots.Slots.{Slots}
-use Rattle.overlay_merge.specs.Kids.{moved}
+use Rattle.overlay_merge.specs.Kids.{names_after_move}
 
 -- n slots, each the one before the slot that was named last
 abbrev pub walk : (ℕ → ℕ) → ℕ → ℕ → List ℕ
@@ -81,5 +81,5 @@ unfoldable pub names_of : Slots → List (List ℕ)
 names_of slots = names_in (held_in slots) (slot_in slots) (walk (before_in slots) (length slots.held.items) 0)
 
 -- names with moves made, one after the other
-abbrev pub moved_by : List Move → List (List ℕ) → List (List ℕ)
-moved_by moves names = fold (λ so_far (m : Move). moved m.name.now (Some m.other.now) so_far) names moves
+abbrev pub names_after_moves : List Move → List (List ℕ) → List (List ℕ)
+names_after_moves moves names = fold (λ so_far (m : Move). names_after_move m.name.now (Some m.other.now) so_far) names moves

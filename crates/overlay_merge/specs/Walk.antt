@@ -28,8 +28,8 @@ unfoldable pub hiding_depths : Content → List (List ℕ) → HidingDepths
 hiding_depths tree path = record { depth = length path; resource = resource_depth tree path (length path + 1); kid = kid_depth tree path (length path) }
 
 -- a layer with the depths along its path
-abbrev pub screened : Content → Layer → ScreenedLayer
-screened tree layer = record { layer = layer; hiding = hiding_depths tree layer.path }
+abbrev pub screened_layer : Content → Layer → ScreenedLayer
+screened_layer tree layer = record { layer = layer; hiding = hiding_depths tree layer.path }
 
 -- whether one of the first segments that were noted is at most n steps above the path
 abbrev pub reaches : HidingDepths → ℕ → ℕ → Bool
@@ -49,13 +49,13 @@ unfoldable pub is_screened : ScreenedLayer → List ScreenedLayer → Bool
 is_screened layer above = reaches layer.hiding layer.layer.own layer.hiding.resource || some_screens layer.layer.common above
 
 -- the resource that a layer adds, unless it is hidden
-abbrev pub unscreened : Content → ScreenedLayer → List ScreenedLayer → List Resource
-unscreened tree layer above = if is_screened layer above then [] else resource_list (res_at tree layer.layer.path)
+abbrev pub unscreened_resource : Content → ScreenedLayer → List ScreenedLayer → List Resource
+unscreened_resource tree layer above = if is_screened layer above then [] else resource_list (res_at tree layer.layer.path)
 
 -- the resources that layers add
-unfoldable pub unscreened_of : Content → List ScreenedLayer → List Resource
-unscreened_of tree [] = []
-unscreened_of tree (layer ∷ above) = unscreened tree layer above ++ unscreened_of tree above
+unfoldable pub unscreened_resources : Content → List ScreenedLayer → List Resource
+unscreened_resources tree [] = []
+unscreened_resources tree (layer ∷ above) = unscreened_resource tree layer above ++ unscreened_resources tree above
 
 -- each is a node of the tree as it is
 abbrev pub AreNodesOf : Content → List Resource → Type 0

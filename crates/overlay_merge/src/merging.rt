@@ -2,7 +2,7 @@
 ghost use Rattle.std.specs.Prelude.{◌≡◌, IfOk, not, filter, option_map};
 ghost use Rattle.overlay_merge.specs.Hiding.{merged_from};
 ghost use Rattle.overlay_merge.specs.Roots.{is_name_of_root};
-ghost use Rattle.overlay_merge.specs.Merged.{has_resource, kids_in, merge, merged, merged_alone, unmerged, without_kids};
+ghost use Rattle.overlay_merge.specs.Merged.{has_resource, kids_in, merge, merged_resource, merged_alone, unmerged_resource, without_kids};
 
 use crate::kids::kids_of;
 use crate::properties::merged_props;
@@ -27,7 +27,7 @@ fn kids_but_roots(alloc: Global, kids: &[TextBuf]) -> Mem<TextList>
 
 // The node at a path as it is, but for the roots among its kids.
 fn unmerged<'a>(alloc: Global, tree: &'a Tree, path: &Path) -> Mem<Option<Res<'a>>>
-    ensures { IfOk result (λ o. o ≡ unmerged tree.now path.now) }
+    ensures { IfOk result (λ o. o ≡ unmerged_resource tree.now path.now) }
 {
     let Some(node) = tree.node(path) else {
         return Ok(None);
@@ -55,9 +55,9 @@ fn merge<'a>(alloc: Global, tree: &'a Tree, path: &Path) -> Mem<Option<Res<'a>>>
 }
 
 /// The resource that is seen at a path: under `/mnt/overlay` and `/mnt/override` the merged one, elsewhere the node as it is.
-#[tactic(auto, unfolding(crate::specs::Merged::merged))]
+#[tactic(auto, unfolding(crate::specs::Merged::merged_resource))]
 pub fn merged<'a>(alloc: Global, tree: &'a Tree, path: &Path) -> Mem<Option<Res<'a>>>
-    ensures { IfOk result (λ o. o ≡ merged tree.now path.now) }
+    ensures { IfOk result (λ o. o ≡ merged_resource tree.now path.now) }
 {
     if is_merged_path(path) {
         merge(alloc, tree, path)
@@ -81,7 +81,7 @@ fn merge_alone<'a>(alloc: Global, tree: &'a Tree, path: &Path) -> Mem<Option<Res
 
 /// The resource that is seen at a path, for its properties alone: where resources are merged its kids, which cost a look at each,
 /// are left out.
-#[tactic(auto, unfolding(crate::specs::Merged::merged, crate::specs::Merged::merged_alone))]
+#[tactic(auto, unfolding(crate::specs::Merged::merged_resource, crate::specs::Merged::merged_alone))]
 pub fn merged_alone<'a>(alloc: Global, tree: &'a Tree, path: &Path) -> Mem<Option<Res<'a>>>
     ensures { IfOk result (λ o. o ≡ merged_alone tree.now path.now) }
 {
@@ -104,7 +104,7 @@ fn kids_copied(alloc: Global, kids: &[TextBuf]) -> Mem<TextList>
 
 /// The names of the kids of the resource that is seen at a path, none where there is no resource.
 pub fn merged_kids(alloc: Global, tree: &Tree, path: &Path) -> Mem<TextList>
-    ensures { IfOk result (λ kids. kids ≡ kids_in (merged tree.now path.now)) }
+    ensures { IfOk result (λ kids. kids ≡ kids_in (merged_resource tree.now path.now)) }
 {
     match merged(alloc, tree, path)? {
         Some(res) => kids_copied(alloc, res.kids()),

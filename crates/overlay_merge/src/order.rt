@@ -3,8 +3,8 @@ ghost use Rattle.std.specs.Prelude.{◌≡◌, ℕ, List, nat_eq, IfOk, OnOk, fo
 ghost use Rattle.std.specs.Cmp.Lexicographic.{pointwise};
 ghost use Rattle.std.specs.List.{IsDistinct};
 ghost use Rattle.resource_tree.specs.Content.{kid};
-ghost use Rattle.overlay_merge.specs.Kids.{moved, ordered_by, wish_at};
-ghost use Rattle.overlay_merge.specs.Slots.{SlotsAreGood, moved_by, names_of};
+ghost use Rattle.overlay_merge.specs.Kids.{names_after_move, ordered_by, wish_at};
+ghost use Rattle.overlay_merge.specs.Slots.{SlotsAreGood, names_after_moves, names_of};
 
 use crate::slots::{Slots, slots_of};
 use resource_tree::{Res, Tree};
@@ -34,9 +34,9 @@ fn wish_of<'a>(alloc: Global, tree: &'a Tree, path: &Path, name: &str) -> Mem<Op
 }
 
 // Adds the move of a name, if it wishes one.
-#[tactic(auto, unfolding(crate::specs::Kids::moved))]
+#[tactic(auto, unfolding(crate::specs::Kids::names_after_move))]
 fn push_move<'a>(moves: &mut Vec<Move<'a>>, name: &'a str, wish: Option<&'a TextBuf>) -> Mem<()>
-    ensures { OnOk result ((names : List (List ℕ)) → moved_by moves.new.items names ≡ moved name.entry.now (option_copied wish.entry) (moved_by moves.old.items names)) }
+    ensures { OnOk result ((names : List (List ℕ)) → names_after_moves moves.new.items names ≡ names_after_move name.entry.now (option_copied wish.entry) (names_after_moves moves.old.items names)) }
 {
     if let Some(other) = wish {
         let other = other.text();
@@ -53,7 +53,7 @@ fn add_moves<'a>(
     layer: &'a Res<'_>,
     moves: &mut Vec<Move<'a>>,
 ) -> Mem<()>
-    ensures { OnOk result ((names : List (List ℕ)) → moved_by moves.new.items names ≡ ordered_by tree.entry.now (moved_by moves.old.items names) layer.entry.now) }
+    ensures { OnOk result ((names : List (List ℕ)) → names_after_moves moves.new.items names ≡ ordered_by tree.entry.now (names_after_moves moves.old.items names) layer.entry.now) }
 {
     for name in layer.kids() {
         let wish = wish_of(alloc, tree, layer.path(), name.text())?;
@@ -68,7 +68,7 @@ pub(crate) fn moves_of<'a>(
     tree: &'a Tree,
     layers: &'a [Res<'_>],
 ) -> Mem<Vec<Move<'a>>>
-    ensures { IfOk result (λ moves. (names : List (List ℕ)) → moved_by moves.items names ≡ fold (ordered_by tree.now) names layers.now) }
+    ensures { IfOk result (λ moves. (names : List (List ℕ)) → names_after_moves moves.items names ≡ fold (ordered_by tree.now) names layers.now) }
 {
     let mut moves = Vec::new(alloc);
     for layer in layers {
@@ -80,7 +80,7 @@ pub(crate) fn moves_of<'a>(
 fn move_all<'a>(slots: &mut Slots<'a>, moves: &[Move<'a>]) -> Mem<()>
     requires { SlotsAreGood slots.old }
     ensures good { OnOk result (SlotsAreGood slots.new) }
-    ensures names { OnOk result (names_of slots.new ≡ moved_by moves.now (names_of slots.old)) }
+    ensures names { OnOk result (names_of slots.new ≡ names_after_moves moves.now (names_of slots.old)) }
 {
     for step in moves {
         slots.move_before(step.name, step.other)?;
@@ -95,7 +95,7 @@ pub(crate) fn ordered<'a>(
     moves: &[Move<'a>],
 ) -> Mem<Vec<TextBuf>>
     requires { IsDistinct (pointwise nat_eq) names.now }
-    ensures { IfOk result (λ list. list.items ≡ moved_by moves.now names.now) }
+    ensures { IfOk result (λ list. list.items ≡ names_after_moves moves.now names.now) }
 {
     let mut slots = slots_of(alloc, names)?;
     move_all(&mut slots, moves)?;

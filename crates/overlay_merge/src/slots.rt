@@ -2,7 +2,7 @@
 ghost use Rattle.std.specs.Prelude.{◌≡◌, ◌<◌, ◌≤◌, ◌++◌, ◌∷◌, [], suc, false, IfOk, OnOk, Some, length, nat_eq, option_copied, option_to_list};
 ghost use Rattle.std.specs.List.{IsDistinct, list_any};
 ghost use Rattle.std.specs.Cmp.Lexicographic.{pointwise};
-ghost use Rattle.overlay_merge.specs.Kids.{moved};
+ghost use Rattle.overlay_merge.specs.Kids.{names_after_move};
 ghost use Rattle.overlay_merge.specs.Slots.{SlotsAreGood, IsPutIn, held_in, slot_name, names_of, slot_in};
 
 use sp_base::{Mem, TextBuf};
@@ -68,7 +68,7 @@ impl<'a> Slots<'a> {
     pub(crate) fn move_before(&mut self, name: &'a str, other: &str) -> Mem<()>
         requires { SlotsAreGood self.old }
         ensures good { OnOk result (SlotsAreGood self.new) }
-        ensures names { OnOk result (names_of self.new ≡ moved name.entry.now (Some other.now) (names_of self.old)) }
+        ensures names { OnOk result (names_of self.new ≡ names_after_move name.entry.now (Some other.now) (names_of self.old)) }
     {
         if name == other {
             return Ok(());

@@ -1,7 +1,7 @@
 // The layers that aren't cut.
 ghost use Rattle.std.specs.Prelude.{◌≡◌, ◌++◌, IfOk, OnOk, map, option_map};
 ghost use Rattle.overlay_merge.specs.Hiding.{resource_list, merged_from};
-ghost use Rattle.overlay_merge.specs.Walk.{AreNodesOf, is_screened, reaches, screened, screens, some_screens, unscreened, unscreened_of};
+ghost use Rattle.overlay_merge.specs.Walk.{AreNodesOf, is_screened, reaches, screened_layer, screens, some_screens, unscreened_resource, unscreened_resources};
 
 use crate::Layer;
 use crate::hiding::{HidingDepths, hiding_depths};
@@ -53,7 +53,7 @@ fn is_screened(layer: &ScreenedLayer, above: &[ScreenedLayer]) -> bool
 }
 
 fn screened_layers(alloc: Global, tree: &Tree, layers: Vec<Layer>) -> Mem<Vec<ScreenedLayer>>
-    ensures { IfOk result (λ list. list.items ≡ map (screened tree.now) layers.items) }
+    ensures { IfOk result (λ list. list.items ≡ map (screened_layer tree.now) layers.items) }
 {
     let mut list = Vec::new(alloc);
     for layer in layers {
@@ -71,7 +71,7 @@ fn add_unscreened<'a>(
     above: &[ScreenedLayer],
     list: &mut Vec<Res<'a>>,
 ) -> Mem<()>
-    ensures { OnOk result (list.new.items ≡ list.old.items ++ unscreened tree.entry.now layer.now above.now) }
+    ensures { OnOk result (list.new.items ≡ list.old.items ++ unscreened_resource tree.entry.now layer.now above.now) }
 {
     if is_screened(layer, above) {
         return Ok(());
@@ -82,9 +82,9 @@ fn add_unscreened<'a>(
     Ok(())
 }
 
-#[tactic(auto, unfolding(crate::specs::Walk::unscreened_of))]
+#[tactic(auto, unfolding(crate::specs::Walk::unscreened_resources))]
 fn unscreened_of<'a>(alloc: Global, tree: &'a Tree, layers: &[ScreenedLayer]) -> Mem<Vec<Res<'a>>>
-    ensures { IfOk result (λ list. list.items ≡ unscreened_of tree.now layers.now) }
+    ensures { IfOk result (λ list. list.items ≡ unscreened_resources tree.now layers.now) }
 {
     let mut list = Vec::new(alloc);
     for k in 0..layers.len() {

@@ -15,9 +15,9 @@ pub struct MergedView<'a> {
 }
 
 impl Look for MergedView<'_> {
-    ghost use Rattle.overlay_merge.specs.Merged.{merged};
+    ghost use Rattle.overlay_merge.specs.Merged.{merged_resource};
 
-    ghost seen = { λ view. merged view.tree.now };
+    ghost seen = { λ view. merged_resource view.tree.now };
 
     /// The merged resource at the path.
     fn res(&self, alloc: Global, path: &Path) -> Mem<Option<Res<'_>>> {

@@ -9,7 +9,7 @@ use Rattle.sp_base.specs.declared.answer.Answer.{Answer}
 use Rattle.resource_tree.specs.Content.{Content}
 use Rattle.resource_tree.specs.Seen.{Resource}
 use Rattle.overlay_merge.specs.Roots.{is_merged_path}
-use Rattle.overlay_merge.specs.Merged.{merged, merged_alone, without_kids}
+use Rattle.overlay_merge.specs.Merged.{merged_resource, merged_alone, without_kids}
 use Rattle.url_split.specs.declared.decompose.Parts.{Parts}
 use Rattle.publisher.specs.declared.templates.Reading.{Reading}
 use Rattle.publisher.specs.declared.templates.Reading.TheVariants.{Parsed, Refused}
@@ -20,13 +20,13 @@ use Rattle.publisher.specs.SeenAlone.{IsSeenAlone, answer_seen, seen_answer}
 -- the whole resource, of which the other is all but the kids
 pub record Whole (tree : Content) (path : List (List ℕ)) (res : Resource) : Type 0 where
   pub whole : Resource
-  pub seen_is : merged tree path ≡ Some whole
+  pub seen_is : merged_resource tree path ≡ Some whole
   pub same : res ≡ record whole { kids = res.kids }
 
 some-same : (a b : Resource) → Some a ≡ Some b → a ≡ b
 some-same a b e = cc
 
-whole-of : (tree : Content) (path : List (List ℕ)) (res : Resource) (is : Option Resource) → merged tree path ≡ is → option_map without_kids is ≡ Some res → Whole tree path res
+whole-of : (tree : Content) (path : List (List ℕ)) (res : Resource) (is : Option Resource) → merged_resource tree path ≡ is → option_map without_kids is ≡ Some res → Whole tree path res
 whole-of tree path res None at e = absurd (let no : ⊥ = cc in no)
 whole-of tree path res (Some whole) at e =
     let same : without_kids whole ≡ res = some-same (without_kids whole) res e in
@@ -36,14 +36,14 @@ pub alone-whole : (tree : Content) (path : List (List ℕ)) (res : Resource) →
 unfolding merged_alone
 alone-whole tree path res is = by_root (is_merged_path path) is
   where
-    by_root : (b : Bool) → (if b then option_map without_kids (merged tree path) else merged tree path) ≡ Some res → Whole tree path res
-    by_root true e = whole-of tree path res (merged tree path) refl e
+    by_root : (b : Bool) → (if b then option_map without_kids (merged_resource tree path) else merged_resource tree path) ≡ Some res → Whole tree path res
+    by_root true e = whole-of tree path res (merged_resource tree path) refl e
     by_root false e = record { whole = res; seen_is = e; same = refl }
 
 -- elsewhere than under the two roots it is the whole one
-pub alone-unmerged : (tree : Content) (path : List (List ℕ)) (res : Resource) → is_merged_path path ≡ false → merged_alone tree path ≡ Some res → merged tree path ≡ Some res
+pub alone-unmerged : (tree : Content) (path : List (List ℕ)) (res : Resource) → is_merged_path path ≡ false → merged_alone tree path ≡ Some res → merged_resource tree path ≡ Some res
 unfolding merged_alone
-alone-unmerged tree path res outside is = sym (ap (λ b. if b then option_map without_kids (merged tree path) else merged tree path) outside) ∙ is
+alone-unmerged tree path res outside is = sym (ap (λ b. if b then option_map without_kids (merged_resource tree path) else merged_resource tree path) outside) ∙ is
 
 -- a script asks for nothing but properties and the path
 same-written : (whole : Resource) (kids : List (List ℕ)) (reading : Reading) → script_representation (record whole { kids = kids }) reading ≡ script_representation whole reading
@@ -67,12 +67,12 @@ none-of None e = refl
 none-of (Some whole) e = absurd (let no : ⊥ = cc in no)
 
 -- nothing is seen where nothing is seen without kids
-pub alone-none : (tree : Content) (path : List (List ℕ)) → merged_alone tree path ≡ None → merged tree path ≡ None
+pub alone-none : (tree : Content) (path : List (List ℕ)) → merged_alone tree path ≡ None → merged_resource tree path ≡ None
 unfolding merged_alone
 alone-none tree path is = by_root (is_merged_path path) is
   where
-    by_root : (b : Bool) → (if b then option_map without_kids (merged tree path) else merged tree path) ≡ None → merged tree path ≡ None
-    by_root true e = none-of (merged tree path) e
+    by_root : (b : Bool) → (if b then option_map without_kids (merged_resource tree path) else merged_resource tree path) ≡ None → merged_resource tree path ≡ None
+    by_root true e = none-of (merged_resource tree path) e
     by_root false e = e
 
 reading-same : (a b : Reading) → Some a ≡ Some b → a ≡ b

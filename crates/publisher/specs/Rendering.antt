@@ -9,7 +9,7 @@ use Rattle.sp_base.specs.declared.answer.Mark.{Mark}
 use Rattle.sp_base.specs.declared.answer.Mark.TheVariants.{Plain, NoCache, NoStore, MustRevalidate}
 use Rattle.resource_tree.specs.Content.{Content, name_of}
 use Rattle.resource_tree.specs.Seen.{Resource, Seen}
-use Rattle.overlay_merge.specs.Merged.{merged, has_resource}
+use Rattle.overlay_merge.specs.Merged.{merged_resource, has_resource}
 use Rattle.url_maps.specs.Answers.{map_answer}
 use Rattle.url_maps.specs.declared.answer.MapAnswer.{MapAnswer}
 use Rattle.url_maps.specs.declared.answer.MapAnswer.TheVariants.{Inside, Away}
@@ -119,7 +119,7 @@ answer_by None seen parts res = default_answer seen parts res
 
 -- what is seen at a path: the merged resource. Types and scripts are looked up among the tree's own nodes.
 abbrev pub seen : Content → Seen
-seen tree = merged tree
+seen tree = merged_resource tree
 
 -- the answer of what is seen at a path, by the script that ranks first for it
 abbrev pub resource_answer : Content → Parts → Option Resource → Answer

@@ -2,7 +2,7 @@
 use Rattle.std.proofs.Common.{◌≡◌, ◌≢◌, ◌+◌, ◌≤◌, ◌++◌, ℕ, List, [], ◌∷◌, codes, sym, ◌∙◌, ap, subst, refl, arith, length, take, drop, append_assoc, length-append}
 use Rattle.std.proofs.lemmas.List.{take_at, drop_at, length-drop}
 use Rattle.replay_text.specs.Lines.{newlines, text_of_lines, AreLines}
-use Rattle.replay_text.specs.Languages.{IsRefused}
+use Rattle.replay_text.specs.Languages.{IsRefusedAt}
 use Rattle.replay_text.specs.Scenario.{HaveNoDot, IsBlock}
 use Rattle.replay_text.specs.Reading.{BlockThen, EndsBlock, EndsNoBlock, Refuses, fault_further, FirstLine}
 use Rattle.replay_text.specs.declared.scenario.ScenarioFault.{ScenarioFault}
@@ -55,26 +55,26 @@ have_newline Rest text one b =
 module _ (Rest : List ℕ → Type 0) (some : List ℕ) (is : Rest some) where
   -- a text that begins with lines of a block
   refused_after_lines : (block : List (List ℕ)) (rest : List ℕ) (n : ℕ) → AreLines block → HaveNoDot block
-      → IsRefused (BlockThen Rest) rest n → IsRefused (BlockThen Rest) (text_of_lines block ++ rest) (length block + n)
-  refused_after_lines [] rest n lines dots r = let same : n ≡ 0 + n = omega arith in subst (λ k. IsRefused (BlockThen Rest) rest k) same r
+      → IsRefusedAt (BlockThen Rest) rest n → IsRefusedAt (BlockThen Rest) (text_of_lines block ++ rest) (length block + n)
+  refused_after_lines [] rest n lines dots r = let same : n ≡ 0 + n = omega arith in subst (λ k. IsRefusedAt (BlockThen Rest) rest k) same r
   refused_after_lines (l ∷ block) rest n lines dots r =
       let inner = refused_after_lines block rest n lines.1 dots.1 r in
       let outer = after_line (BlockThen Rest) (BlockThen Rest) l (text_of_lines block ++ rest) (length block + n) lines.0 (behind_line Rest l lines.0 dots.0)
       (before_line Rest l lines.0 dots.0) (codes "." ++ 10 ∷ some) (before_dot Rest some is) inner in
       let count : 1 + (length block + n) ≡ length (l ∷ block) + n = omega arith in
-      subst (λ t. IsRefused (BlockThen Rest) t (length (l ∷ block) + n)) (sym (append_assoc l (10 ∷ text_of_lines block) rest))
-      (subst (λ k. IsRefused (BlockThen Rest) (l ++ 10 ∷ (text_of_lines block ++ rest)) k) count outer)
+      subst (λ t. IsRefusedAt (BlockThen Rest) t (length (l ∷ block) + n)) (sym (append_assoc l (10 ∷ text_of_lines block) rest))
+      (subst (λ k. IsRefusedAt (BlockThen Rest) (l ++ 10 ∷ (text_of_lines block ++ rest)) k) count outer)
 
   -- a text that begins with a whole block
-  refused_after_block : (text : List ℕ) (at count n : ℕ) → EndsBlock text at count → IsRefused Rest (drop (at + 2) text) n
-      → IsRefused (BlockThen Rest) text (n + (count + 1))
+  refused_after_block : (text : List ℕ) (at count n : ℕ) → EndsBlock text at count → IsRefusedAt Rest (drop (at + 2) text) n
+      → IsRefusedAt (BlockThen Rest) text (n + (count + 1))
   refused_after_block text at count n b r =
       let rest = drop (at + 2) text in
       let dot = after_line (BlockThen Rest) Rest (codes ".") rest n refl (behind_dot Rest) (before_dot Rest) some is r in
       let whole = refused_after_lines b.block (46 ∷ 10 ∷ rest) (1 + n) b.is_block.are b.is_block.no_dot dot in
       let lines : length b.block + (1 + n) ≡ n + (count + 1) = omega (arith, b.count_is) in
-      subst (λ t. IsRefused (BlockThen Rest) t (n + (count + 1))) (sym b.text_is)
-      (subst (λ k. IsRefused (BlockThen Rest) (text_of_lines b.block ++ 46 ∷ 10 ∷ rest) k) lines whole)
+      subst (λ t. IsRefusedAt (BlockThen Rest) t (n + (count + 1))) (sym b.text_is)
+      (subst (λ k. IsRefusedAt (BlockThen Rest) (text_of_lines b.block ++ 46 ∷ 10 ∷ rest) k) lines whole)
 
   pub refuses_after_block : (text : List ℕ) (at count : ℕ) (fault : ScenarioFault) → EndsBlock text at count → Refuses Rest (drop (at + 2) text) fault
       → Refuses (BlockThen Rest) text (fault_further fault (count + 1))
@@ -85,12 +85,12 @@ module _ (Rest : List ℕ → Type 0) (some : List ℕ) (is : Rest some) where
   refuses_after_block text at count NoMemory b r = tt
 
   -- a text that begins with no block
-  pub refuses_no_block : (text : List ℕ) (count : ℕ) → EndsNoBlock text count → IsRefused (BlockThen Rest) text count × (count ≤ length text)
+  pub refuses_no_block : (text : List ℕ) (count : ℕ) → EndsNoBlock text count → IsRefusedAt (BlockThen Rest) text count × (count ≤ length text)
   refuses_no_block text count b =
       let whole = refused_after_lines b.block b.rest 0 b.are b.no_dot (refused_end (BlockThen Rest) b.rest b.one (have_newline Rest b.rest b.one)) in
       let lines : length b.block + 0 ≡ count = omega (arith, b.count_is) in (
-        subst (λ t. IsRefused (BlockThen Rest) t count) (sym b.text_is)
-            (subst (λ k. IsRefused (BlockThen Rest) (text_of_lines b.block ++ b.rest) k) lines whole),
+        subst (λ t. IsRefusedAt (BlockThen Rest) t count) (sym b.text_is)
+            (subst (λ k. IsRefusedAt (BlockThen Rest) (text_of_lines b.block ++ b.rest) k) lines whole),
         b.small,
       )
 

@@ -1,7 +1,7 @@
 -- A whole scenario, from its head on.
 use Rattle.std.proofs.Common.{◌≡◌, ◌≢◌, ◌+◌, ◌≤◌, ◌++◌, ℕ, List, [], ◌∷◌, codes, sym, ◌∙◌, ap, subst, refl, arith, length, take, drop, append_assoc, ⊎_elim}
 use Rattle.replay_text.specs.Lines.{newlines, text_of_lines}
-use Rattle.replay_text.specs.Languages.{IsRefused}
+use Rattle.replay_text.specs.Languages.{IsRefusedAt}
 use Rattle.replay_text.specs.Scenario.{act_lines, SpellsScenario, IsScenario}
 use Rattle.replay_text.specs.Reading.{SpellsBody, SpellsTail, IsTail, IsContentBody, IsContent, EndsBlock, Refuses, fault_further, FirstLine, LacksLine}
 use Rattle.replay_text.specs.declared.scenario.ScenarioFault.{ScenarioFault}
@@ -90,13 +90,13 @@ before_content r b = (r, b, refl)
 
 -- a text that lacks the first line which each text of the language has
 pub refused_first : (A : List ℕ → Type 0) (want text : List ℕ) → newlines want ≡ 0
-    → ((t : List ℕ) → A t → (r : List ℕ) × (t ≡ want ++ 10 ∷ r)) → LacksLine want text → IsRefused A text 0
+    → ((t : List ℕ) → A t → (r : List ℕ) × (t ≡ want ++ 10 ∷ r)) → LacksLine want text → IsRefusedAt A text 0
 refused_first A want text one has lacks = ⊎_elim
     (λ (none : newlines text ≡ 0). refused_end A text none (λ h.
     let w = has text h in
     absurd (omega (arith, ap newlines w.1, newlines-append want (10 ∷ w.0), none))))
     (λ (l : (line : List ℕ) × (rest : List ℕ) × FirstLine text line rest × (line ≢ want)).
-    subst (λ t. IsRefused A t 0) (sym l.2.is) (refused_line A l.0 l.1 l.2.one (λ r h.
+    subst (λ t. IsRefusedAt A t 0) (sym l.2.is) (refused_line A l.0 l.1 l.2.one (λ r h.
     let w = has (l.0 ++ 10 ∷ r) h in
     l.3 (one_first_line l.0 want r w.0 l.2.one one w.1).0)))
     lacks
@@ -107,23 +107,23 @@ scenario_has_first t (s, p) = (codes "content" ++ 10 ∷ text_of_lines (p.block 
 content_has_first : (t : List ℕ) → IsContent t → (r : List ℕ) × (t ≡ codes "content" ++ 10 ∷ r)
 content_has_first t (body, b, e) = (body, e)
 
-pub refused_at_first : (text : List ℕ) → LacksLine (codes "scenario 1") text → IsRefused IsScenario text 0
+pub refused_at_first : (text : List ℕ) → LacksLine (codes "scenario 1") text → IsRefusedAt IsScenario text 0
 refused_at_first text l = refused_first IsScenario (codes "scenario 1") text refl scenario_has_first l
 
-behind_head : (text rest : List ℕ) (n : ℕ) → text ≡ codes "scenario 1" ++ 10 ∷ rest → IsRefused IsContent rest n → IsRefused IsScenario text (1 + n)
-behind_head text rest n e h = subst (λ t. IsRefused IsScenario t (1 + n)) (sym e)
+behind_head : (text rest : List ℕ) (n : ℕ) → text ≡ codes "scenario 1" ++ 10 ∷ rest → IsRefusedAt IsContent rest n → IsRefusedAt IsScenario text (1 + n)
+behind_head text rest n e h = subst (λ t. IsRefusedAt IsScenario t (1 + n)) (sym e)
     (after_line IsScenario IsContent (codes "scenario 1") rest n refl behind_first before_first
     (codes "content" ++ 10 ∷ text_of_lines (codes "." ∷ act_lines [])) (before_content (text_of_lines (codes "." ∷ act_lines [])) some_body) h)
 
-pub refused_at_second : (text first : List ℕ) → text ≡ codes "scenario 1" ++ 10 ∷ first → LacksLine (codes "content") first → IsRefused IsScenario text 1
+pub refused_at_second : (text first : List ℕ) → text ≡ codes "scenario 1" ++ 10 ∷ first → LacksLine (codes "content") first → IsRefusedAt IsScenario text 1
 refused_at_second text first e l = behind_head text first 0 e (refused_first IsContent (codes "content") first refl content_has_first l)
 
 pub refused_in_body : (text first body : List ℕ) (n : ℕ) → text ≡ codes "scenario 1" ++ 10 ∷ first → first ≡ codes "content" ++ 10 ∷ body
-    → IsRefused IsContentBody body n → IsRefused IsScenario text (n + 2)
+    → IsRefusedAt IsContentBody body n → IsRefusedAt IsScenario text (n + 2)
 refused_in_body text first body n e k h =
     let r = after_line IsContent IsContentBody (codes "content") body n refl behind_content before_content (text_of_lines (codes "." ∷ act_lines [])) some_body h in
     let count : 1 + (1 + n) ≡ n + 2 = omega arith in
-    subst (λ m. IsRefused IsScenario text m) count (behind_head text first (1 + n) e (subst (λ t. IsRefused IsContent t (1 + n)) (sym k) r))
+    subst (λ m. IsRefusedAt IsScenario text m) count (behind_head text first (1 + n) e (subst (λ t. IsRefusedAt IsContent t (1 + n)) (sym k) r))
 
 pub refuses_in_body : (text first body : List ℕ) (fault : ScenarioFault) → text ≡ codes "scenario 1" ++ 10 ∷ first → first ≡ codes "content" ++ 10 ∷ body
     → Refuses IsContentBody body fault → Refuses IsScenario text (fault_further fault 2)

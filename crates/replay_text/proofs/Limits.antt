@@ -2,14 +2,14 @@ use Rattle.std.proofs.Common.{◌≡◌, ◌+◌, ◌<◌, ◌≤◌, ◌++◌, 
 use Rattle.std.proofs.lemmas.List.{append-nil, take-append-le, take-take, length-take, length-take-le}
 use Rattle.std.proofs.lemmas.Bool.{cases_lt}
 use Rattle.replay_text.specs.Lines.{newlines}
-use Rattle.replay_text.specs.Languages.{IsPrefixIn, IsRefused, IsRefusedWithin, RefusesWithin}
+use Rattle.replay_text.specs.Languages.{IsPrefixIn, IsRefusedAt, IsRefusedWithin, RefusesWithin}
 use Rattle.replay_text.specs.Reading.{Refuses}
 use Rattle.replay_text.specs.declared.scenario.ScenarioFault.{ScenarioFault}
 use Rattle.replay_text.specs.declared.scenario.ScenarioFault.TheVariants.{Line, NoMemory}
 use Rattle.replay_text.proofs.Refusals.{begins_front}
 
 -- a text that isn't too long is refused as ever
-pub within_short : (A : List ℕ → Type 0) (most : ℕ) (text : List ℕ) (n : ℕ) → length text ≤ most → IsRefused A text n → IsRefusedWithin most A text n
+pub within_short : (A : List ℕ → Type 0) (most : ℕ) (text : List ℕ) (n : ℕ) → length text ≤ most → IsRefusedAt A text n → IsRefusedWithin most A text n
 within_short A most text n short r = record {
   none = λ h. r.none h.0;
   first = λ at lt begins not. r.first at lt begins.0 (λ h. not (h, omega (arith, length-take (at + 1) text)));
@@ -33,7 +33,7 @@ within_long A most text n long first early = record {
   early = λ begins. absurd (omega (arith, begins.1));
 }
 
-pub long_refused : (A : List ℕ → Type 0) (most : ℕ) (text : List ℕ) (n : ℕ) → most < length text → IsRefused A (take most text) n
+pub long_refused : (A : List ℕ → Type 0) (most : ℕ) (text : List ℕ) (n : ℕ) → most < length text → IsRefusedAt A (take most text) n
     → IsRefusedWithin most A text n
 long_refused A most text n long r =
     let size : length (take most text) ≡ most = length-take-le most text (omega arith) in
@@ -73,7 +73,7 @@ pub refuses_long : (A : List ℕ → Type 0) (most : ℕ) (text : List ℕ) (fau
     → RefusesWithin most A text fault
 refuses_long A most text (Line n) long r = (
   (λ rest none. long_refused A most (text ++ rest) n (omega (arith, length-append text rest))
-      (subst (λ t. IsRefused A t n) (sym (long_front most text rest long)) r.0)),
+      (subst (λ t. IsRefusedAt A t n) (sym (long_front most text rest long)) r.0)),
   omega (arith, r.1, length-take most text),
 )
 refuses_long A most text NoMemory long r = tt

@@ -2,8 +2,8 @@
 use Rattle.std.proofs.Common.{◌≡◌, ◌++◌, ◌&&◌, ◌∙◌, ℕ, zero, suc, Bool, true, false, List, [], ◌∷◌, Some, None, sym, ap, refl, take, if◌then◌else◌}
 use Rattle.std.specs.Prelude.{IsTrue}
 use Rattle.std.specs.List.{list_all}
-use Rattle.sp_base.specs.Paths.{is_path, mangled, parent_of, pieces, text_of}
-use Rattle.sp_base.specs.PathTexts.{spelled, lack_slashes, segs_in}
+use Rattle.sp_base.specs.Paths.{is_path, mangled_segs, parent_of, pieces, text_of}
+use Rattle.sp_base.specs.PathTexts.{spelling_of, lack_slashes, segs_in}
 use Rattle.cover_rules.specs.Pages.{is_page, key_at, last_segment, page_key_of, page_path, page_text}
 use Rattle.cover_rules.specs.declared.page.PageKey.{PageKey}
 use Rattle.replay_text.specs.Transcript.{IsPage}
@@ -33,30 +33,30 @@ chosen : (t : Bool) (made key : PageKey) → (if t then Some made else None) ≡
 chosen true made key e = cc
 chosen false made key e = cc
 
-folder_is : (path : List (List ℕ)) (key : PageKey) → page_key_of path ≡ Some key → key.folder ≡ parent_of (mangled path)
+folder_is : (path : List (List ℕ)) (key : PageKey) → page_key_of path ≡ Some key → key.folder ≡ parent_of (mangled_segs path)
 unfolding key_at
 folder_is path key e =
-    let made : PageKey = record { folder = parent_of (mangled path); file = last_segment (mangled path) } in
-    ap (λ (k : PageKey). k.folder) (sym (chosen (is_page (mangled path)) made key e))
+    let made : PageKey = record { folder = parent_of (mangled_segs path); file = last_segment (mangled_segs path) } in
+    ap (λ (k : PageKey). k.folder) (sym (chosen (is_page (mangled_segs path)) made key e))
 
 -- a path that isn't the root is spelled by its segments alone
-spelled_by : (folder segs : List (List ℕ)) (text : List ℕ) → spelled segs ≡ 47 ∷ text → text_of (folder ++ segs) ≡ spelled (folder ++ segs)
+spelled_by : (folder segs : List (List ℕ)) (text : List ℕ) → spelling_of segs ≡ 47 ∷ text → text_of (folder ++ segs) ≡ spelling_of (folder ++ segs)
 spelled_by [] [] text e = cc
 spelled_by [] (seg ∷ segs) text e = refl
 spelled_by (seg ∷ folder) segs text e = refl
 
 pub keys_tell : ((path : List (List ℕ)) (key : PageKey) → IsTrue (is_path path) → page_key_of path ≡ Some key → page_key_of (page_path key) ≡ Some key)
     → ((path : List (List ℕ)) → IsTrue (is_path path) → IsTrue (lack_slashes path))
-    → ((path : List (List ℕ)) → IsTrue (lack_slashes path) → IsTrue (lack_slashes (mangled path)))
+    → ((path : List (List ℕ)) → IsTrue (lack_slashes path) → IsTrue (lack_slashes (mangled_segs path)))
     → ((text : List ℕ) → IsTrue (lack_slashes (pieces text)))
-    → ((path : List (List ℕ)) → IsTrue (lack_slashes path) → segs_in (spelled path) ≡ path)
-    → ((text : List ℕ) → spelled (pieces text) ≡ 47 ∷ text)
+    → ((path : List (List ℕ)) → IsTrue (lack_slashes path) → segs_in (spelling_of path) ≡ path)
+    → ((text : List ℕ) → spelling_of (pieces text) ≡ 47 ∷ text)
     → KeysTell
 keys_tell own of_path of_mangled of_pieces back whole k l p q e =
     let lacks : (key : PageKey) → IsPage (Some key) → lack_slashes (page_path key) ≡ true = λ key is.
-    let folder : lack_slashes (parent_of (mangled is.0)) ≡ true = all-take _ _ (mangled is.0) (of_mangled is.0 (of_path is.0 is.1)) in
+    let folder : lack_slashes (parent_of (mangled_segs is.0)) ≡ true = all-take _ _ (mangled_segs is.0) (of_mangled is.0 (of_path is.0 is.1)) in
     all-append _ key.folder (pieces key.file) (ap lack_slashes (folder_is is.0 key is.2) ∙ folder) (of_pieces key.file) in
-    let text : (key : PageKey) → page_text key ≡ spelled (page_path key) = λ key. spelled_by key.folder (pieces key.file) key.file (whole key.file) in
+    let text : (key : PageKey) → page_text key ≡ spelling_of (page_path key) = λ key. spelled_by key.folder (pieces key.file) key.file (whole key.file) in
     let paths : page_path k ≡ page_path l =
     sym (back (page_path k) (lacks k p)) ∙ ap segs_in (sym (text k) ∙ e ∙ text l) ∙ back (page_path l) (lacks l q) in
     let keys : Some k ≡ Some l = sym (own p.0 k p.1 p.2) ∙ ap page_key_of paths ∙ own q.0 l q.1 q.2 in

@@ -1,7 +1,7 @@
 use Rattle.std.proofs.Common.{◌≡◌, ◌≢◌, ◌+◌, ◌≤◌, ◌++◌, ℕ, List, [], ◌∷◌, codes, map, take, sym, ◌∙◌, ap, subst, refl, arith, length, append_assoc, length-append}
 use Rattle.std.proofs.lemmas.List.{take_at}
 use Rattle.replay_text.specs.Lines.{newlines, text_of_lines}
-use Rattle.replay_text.specs.Languages.{IsRefused}
+use Rattle.replay_text.specs.Languages.{IsRefusedAt}
 use Rattle.replay_text.specs.Scenario.{AreActs, act_lines}
 use Rattle.replay_text.specs.EventLines.{line_of, IsEventLine}
 use Rattle.replay_text.specs.Reading.{FirstLine, Acts, SpellsActs}
@@ -15,7 +15,7 @@ pub record Passed (text rest : List ℕ) (before : ℕ) : Type 0 where
   pub acts : List EventLine
   pub are : AreActs acts
   pub text_is : text ≡ text_of_lines (map line_of acts) ++ rest
-  pub refused : (n : ℕ) → IsRefused Acts rest n → IsRefused Acts text (before + n)
+  pub refused : (n : ℕ) → IsRefusedAt Acts rest n → IsRefusedAt Acts text (before + n)
   pub small : before + length rest ≤ length text
 
 pub passed_none : (text : List ℕ) → Passed text text 0
@@ -23,21 +23,21 @@ passed_none text = record {
   acts = [];
   are = tt;
   text_is = refl;
-  refused = λ n r. let count : n ≡ 0 + n = omega arith in subst (λ k. IsRefused Acts text k) count r;
+  refused = λ n r. let count : n ≡ 0 + n = omega arith in subst (λ k. IsRefusedAt Acts text k) count r;
   small = omega arith;
 }
 
 -- a text is refused one line later than what stands after its first line
 pub after_line : (A B : List ℕ → Type 0) (line rest : List ℕ) (n : ℕ) → newlines line ≡ 0
     → ((r : List ℕ) → A (line ++ 10 ∷ r) → B r) → ((r : List ℕ) → B r → A (line ++ 10 ∷ r)) → (w : List ℕ) → B w
-    → IsRefused B rest n → IsRefused A (line ++ 10 ∷ rest) (1 + n)
+    → IsRefusedAt B rest n → IsRefusedAt A (line ++ 10 ∷ rest) (1 + n)
 after_line A B line rest n one to from w b refused =
     let front = line ++ 10 ∷ [] in
     let whole : (r : List ℕ) → front ++ r ≡ line ++ 10 ∷ r = λ r. append_assoc line (10 ∷ []) r in
-    let r0 : IsRefused A (front ++ rest) (newlines front + n) = refused_behind A B front rest n
+    let r0 : IsRefusedAt A (front ++ rest) (newlines front + n) = refused_behind A B front rest n
     (λ r h. to r (subst A (whole r) h)) (λ r h. subst A (sym (whole r)) (from r h)) w b refused in
     let count : newlines front + n ≡ 1 + n = omega (arith, newlines-append line (10 ∷ [])) in
-    subst (λ t. IsRefused A t (1 + n)) (whole rest) (subst (λ k. IsRefused A (front ++ rest) k) count r0)
+    subst (λ t. IsRefusedAt A t (1 + n)) (whole rest) (subst (λ k. IsRefusedAt A (front ++ rest) k) count r0)
 
 are_push : (acts : List EventLine) (act : EventLine) → AreActs acts → IsEventLine act → AreActs (acts ++ act ∷ [])
 are_push [] act oks ok = (ok, tt)
@@ -61,9 +61,9 @@ passed_act text rest line after act before p f ok e =
           ∙ sym (append_assoc front (line_of act ++ 10 ∷ []) after) ∙ ap (λ t. t ++ after) (sym (lines_push p.acts act));
       refused = λ n h.
           let r = after_line Acts Acts (line_of act) after n one (behind_act act ok) (before_acts act ok) (text_of_lines (act_lines [])) no_acts h in
-          let r1 : IsRefused Acts text (before + (1 + n)) = p.refused (1 + n) (subst (λ t. IsRefused Acts t (1 + n)) (sym here) r) in
+          let r1 : IsRefusedAt Acts text (before + (1 + n)) = p.refused (1 + n) (subst (λ t. IsRefusedAt Acts t (1 + n)) (sym here) r) in
           let count : before + (1 + n) ≡ before + 1 + n = omega arith in
-          subst (λ k. IsRefused Acts text k) count r1;
+          subst (λ k. IsRefusedAt Acts text k) count r1;
       small =
           let size = ap length here in
           let parts = length-append (line_of act) (10 ∷ after) in
@@ -86,25 +86,25 @@ passed_all text rest line after before at p f e none size =
     )
 
 pub refused_past_end : (text rest line after : List ℕ) (before : ℕ) → Passed text rest before
-    → FirstLine rest line after → line ≡ 101 ∷ 110 ∷ 100 ∷ [] → after ≢ [] → IsRefused Acts text (before + 1)
+    → FirstLine rest line after → line ≡ 101 ∷ 110 ∷ 100 ∷ [] → after ≢ [] → IsRefusedAt Acts text (before + 1)
 refused_past_end text rest line after before p f e some =
     let here : rest ≡ 101 ∷ 110 ∷ 100 ∷ 10 ∷ after = f.is ∙ ap (λ l. l ++ 10 ∷ after) e in
     let r = after_line Acts IsNothing (101 ∷ 110 ∷ 100 ∷ []) after 0 refl behind_end before_end [] refl (refused_more after some) in
-    p.refused 1 (subst (λ t. IsRefused Acts t 1) (sym here) r)
+    p.refused 1 (subst (λ t. IsRefusedAt Acts t 1) (sym here) r)
 
 pub refused_at_line : (text rest line after : List ℕ) (before : ℕ) → Passed text rest before
     → FirstLine rest line after → ((act : EventLine) → IsEventLine act → line ≢ line_of act) → line ≢ 101 ∷ 110 ∷ 100 ∷ []
-    → IsRefused Acts text before
+    → IsRefusedAt Acts text before
 refused_at_line text rest line after before p f no_act no_end =
     let r = refused_line Acts line after f.one (neither_act_nor_end line f.one no_act no_end) in
     let count : before + 0 ≡ before = omega arith in
-    subst (λ k. IsRefused Acts text k) count (p.refused 0 (subst (λ t. IsRefused Acts t 0) (sym f.is) r))
+    subst (λ k. IsRefusedAt Acts text k) count (p.refused 0 (subst (λ t. IsRefusedAt Acts t 0) (sym f.is) r))
 
 pub refused_at_end : (text rest : List ℕ) (before : ℕ) → Passed text rest before → newlines rest ≡ 0
-    → IsRefused Acts text before
+    → IsRefusedAt Acts text before
 refused_at_end text rest before p one =
     let count : before + 0 ≡ before = omega arith in
-    subst (λ k. IsRefused Acts text k) count (p.refused 0 (refused_end Acts rest one (acts_have_newline rest one)))
+    subst (λ k. IsRefusedAt Acts text k) count (p.refused 0 (refused_end Acts rest one (acts_have_newline rest one)))
 
 pub passed_within : (text rest : List ℕ) (before : ℕ) → Passed text rest before → before ≤ length text
 passed_within text rest before p = omega (arith, p.small)

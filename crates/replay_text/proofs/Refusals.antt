@@ -3,7 +3,7 @@ use Rattle.std.proofs.lemmas.List.{take-append-drop, take-append-le}
 use Rattle.std.proofs.lemmas.Bool.{cases_lt}
 use Rattle.std.proofs.Math.Seq.{take-append-add}
 use Rattle.replay_text.specs.Lines.{newlines}
-use Rattle.replay_text.specs.Languages.{IsPrefixIn, IsRefused}
+use Rattle.replay_text.specs.Languages.{IsPrefixIn, IsRefusedAt}
 use Rattle.replay_text.proofs.LineLaws.{newlines-append, newlines-take}
 
 -- a prefix of a text of the language begins one
@@ -19,7 +19,7 @@ take_past k j front rest e = ap (λ n. take n (front ++ rest)) e ∙ take-append
 -- Where a text of A that begins with a prefix goes on as a text of B, the refusal is B's, after the newlines of the prefix.
 pub refused_behind : (A B : List ℕ → Type 0) (front rest : List ℕ) (n : ℕ)
     → ((r : List ℕ) → A (front ++ r) → B r) → ((r : List ℕ) → B r → A (front ++ r)) → (w : List ℕ) → B w
-    → IsRefused B rest n → IsRefused A (front ++ rest) (newlines front + n)
+    → IsRefusedAt B rest n → IsRefusedAt A (front ++ rest) (newlines front + n)
 refused_behind A B front rest n to from w b refused = record {
   none = λ h. refused.none (to rest h);
   first = λ at lt begins not. ⊎_elim
@@ -47,7 +47,7 @@ refused_behind A B front rest n to from w b refused = record {
 
 -- A text is refused in its first line where no text of the language has that line.
 pub refused_line : (A : List ℕ → Type 0) (line rest : List ℕ) → newlines line ≡ 0 → ((r : List ℕ) → A (line ++ 10 ∷ r) → ⊥)
-    → IsRefused A (line ++ 10 ∷ rest) 0
+    → IsRefusedAt A (line ++ 10 ∷ rest) 0
 refused_line A line rest none bad = record {
   none = λ h. bad rest h;
   first = λ at lt begins not. ⊎_elim
@@ -69,7 +69,7 @@ refused_line A line rest none bad = record {
 }
 
 -- A text that ends in its first line is refused there.
-pub refused_end : (A : List ℕ → Type 0) (text : List ℕ) → newlines text ≡ 0 → (A text → ⊥) → IsRefused A text 0
+pub refused_end : (A : List ℕ → Type 0) (text : List ℕ) → newlines text ≡ 0 → (A text → ⊥) → IsRefusedAt A text 0
 refused_end A text none bad = record {
   none = bad;
   first = λ at lt begins not. newlines-take at text none;
@@ -80,7 +80,7 @@ refused_end A text none bad = record {
 abbrev pub IsNothing : List ℕ → Type 0
 IsNothing text = text ≡ []
 
-pub refused_more : (text : List ℕ) → text ≢ [] → IsRefused IsNothing text 0
+pub refused_more : (text : List ℕ) → text ≢ [] → IsRefusedAt IsNothing text 0
 refused_more [] some = absurd (some refl)
 refused_more (b ∷ text) some = record {
   none = λ h. cc;

@@ -3,7 +3,7 @@ use Rattle.std.proofs.Common.{◌≡◌, ◌≢◌, ◌+◌, ◌-◌, ◌<◌, �
 use Rattle.std.proofs.lemmas.List.{take_all, take-take, take-append-le}
 use Rattle.std.proofs.lemmas.Bool.{cases_eq, cases_lt}
 use Rattle.replay_text.specs.Lines.{newlines, text_of_lines}
-use Rattle.replay_text.specs.Languages.{IsPrefixIn, IsRefused}
+use Rattle.replay_text.specs.Languages.{IsPrefixIn, IsRefusedAt}
 use Rattle.replay_text.specs.EventLines.{line_of}
 use Rattle.replay_text.specs.Scenario.{AreActs, IsActs, IsFarm, act_lines}
 use Rattle.replay_text.specs.Reading.{BlockThen, FarmThenActs, IsTail, SpellsActs, SpellsTail, SpellsFarm, EndsBlock, Refuses, fault_further, LacksLine, Acts}
@@ -20,7 +20,7 @@ use Rattle.replay_text.proofs.BlockLaws.{before_dot}
 -- ---- a language, or a text that begins with a line
 
 -- A text is refused in its first line where a prefix within that line begins no text of the language.
-refused_there : (A : List ℕ → Type 0) (text : List ℕ) (n : ℕ) → IsRefused A text n → IsPrefixIn A [] → n ≢ 0 → (k : ℕ) → k ≤ length text
+refused_there : (A : List ℕ → Type 0) (text : List ℕ) (n : ℕ) → IsRefusedAt A text n → IsPrefixIn A [] → n ≢ 0 → (k : ℕ) → k ≤ length text
     → newlines (take k text) ≡ 0 → (IsPrefixIn A (take k text) → ⊥) → ⊥
 refused_there A text n r start apart zero le one not = not start
 refused_there A text n r start apart (suc k) le one not =
@@ -52,7 +52,7 @@ prefix_lacks want text k more r one (inr l) e = ⊎_elim
     (cases_lt k (length l.0 + 1))
 
 -- such a text is refused in its first line
-first_line_zero : (A : List ℕ → Type 0) (text : List ℕ) (n k : ℕ) → IsRefused A text n → IsPrefixIn A [] → k ≤ length text
+first_line_zero : (A : List ℕ → Type 0) (text : List ℕ) (n k : ℕ) → IsRefusedAt A text n → IsPrefixIn A [] → k ≤ length text
     → newlines (take k text) ≡ 0 → (n ≢ 0 → IsPrefixIn A (take k text) → ⊥) → n ≡ 0
 first_line_zero A text n k r start le one not = ⊎_elim
     (λ (same : n ≡ 0). same)
@@ -61,7 +61,7 @@ first_line_zero A text n k r start le one not = ⊎_elim
 
 -- A text of another language that begins with a line which isn't there changes no refusal.
 pub refused_or : (A B : List ℕ → Type 0) (want text : List ℕ) (n : ℕ) → newlines want ≡ 0 → ((t : List ℕ) → B t → (r : List ℕ) × (t ≡ want ++ 10 ∷ r))
-    → IsPrefixIn A [] → LacksLine want text → IsRefused A text n → IsRefused (λ t. A t ⊎ B t) text n
+    → IsPrefixIn A [] → LacksLine want text → IsRefusedAt A text n → IsRefusedAt (λ t. A t ⊎ B t) text n
 refused_or A B want text n one has start lacks r = record {
   none = ⊎_elim (λ (a : A text). r.none a) (λ (b : B text). lacks_it want text (has text b).0 one lacks (has text b).1);
   first = λ at lt begins not. ⊎_elim
@@ -117,7 +117,7 @@ refuses_farm text block (Line n) e r =
     let whole = after_line IsTail (BlockThen Acts) (codes "farm") block n refl behind_farm before_farm (codes "." ++ 10 ∷ text_of_lines (act_lines []))
     (before_dot Acts (text_of_lines (act_lines [])) no_acts) r.0 in
     let count : 1 + n ≡ n + 1 = omega arith in
-    (subst (λ t. IsRefused IsTail t (n + 1)) (sym e) (subst (λ k. IsRefused IsTail (codes "farm" ++ 10 ∷ block) k) count whole), omega (arith, r.1, ap length e))
+    (subst (λ t. IsRefusedAt IsTail t (n + 1)) (sym e) (subst (λ k. IsRefusedAt IsTail (codes "farm" ++ 10 ∷ block) k) count whole), omega (arith, r.1, ap length e))
 refuses_farm text block NoMemory e r = tt
 
 -- ---- what a tail spells

@@ -16,8 +16,8 @@ pub record IsRefusedBy (Text Prefix : List ℕ → Type 0) (bytes : List ℕ) (n
   pub early : Prefix bytes → newlines bytes ≡ n
 
 -- the same, where a prefix is what begins a text of the language
-abbrev pub IsRefused : (List ℕ → Type 0) → List ℕ → ℕ → Type 0
-IsRefused Text bytes n = IsRefusedBy Text (IsPrefixIn Text) bytes n
+abbrev pub IsRefusedAt : (List ℕ → Type 0) → List ℕ → ℕ → Type 0
+IsRefusedAt Text bytes n = IsRefusedBy Text (IsPrefixIn Text) bytes n
 
 -- the same where a text has at most `most` bytes: a longer one is refused at the byte past them
 abbrev pub IsRefusedWithin : ℕ → (List ℕ → Type 0) → List ℕ → ℕ → Type 0

@@ -2,7 +2,7 @@
 -- of the theorem needs none of it.
 use Rattle.std.specs.Prelude.{◌≡◌, ◌≢◌, ◌⊎◌, ◌+◌, ◌≤◌, ◌++◌, ℕ, List, ◌∷◌, length, take, drop, codes, Option}
 use Rattle.replay_text.specs.Lines.{newlines, text_of_lines, AreLines}
-use Rattle.replay_text.specs.Languages.{IsRefused}
+use Rattle.replay_text.specs.Languages.{IsRefusedAt}
 use Rattle.replay_text.specs.Scenario.{AreActs, HaveNoDot, IsActs, IsBlock, IsFarm, act_lines}
 use Rattle.replay_text.specs.declared.event_line.EventLine.{EventLine}
 use Rattle.replay_text.specs.declared.scenario.Scenario.{Scenario}
@@ -30,7 +30,7 @@ pub record SpellsActs (text bytes : List ℕ) : Type 0 where
 
 -- the fault names the line at which the text is refused
 abbrev pub Refuses : (List ℕ → Type 0) → List ℕ → ScenarioFault → Type 0
-Refuses Text bytes (Line n) = IsRefused Text bytes n × (n ≤ length bytes)
+Refuses Text bytes (Line n) = IsRefusedAt Text bytes n × (n ≤ length bytes)
 Refuses Text bytes NoMemory = Unit {0}
 
 -- a block, and after its dot a text of the language

@@ -50,12 +50,12 @@ abbrev pub IsSpelled : Scenario → Type 0
 IsSpelled s = (text : List ℕ) × SpellsScenario text s
 
 -- the greatest length of a scenario
-abbrev pub most : ℕ
-most = 67108864
+abbrev pub longest_scenario : ℕ
+longest_scenario = 67108864
 
 -- the bytes spell the scenario, within the length allowed
 abbrev pub ReadsScenario : List ℕ → Scenario → Type 0
-ReadsScenario bytes s = SpellsScenario bytes s × (length bytes ≤ most)
+ReadsScenario bytes s = SpellsScenario bytes s × (length bytes ≤ longest_scenario)
 
 -- the text spells some scenario
 abbrev pub IsScenario : List ℕ → Type 0

@@ -1,7 +1,7 @@
 //! Laws of the definitions, on functions that do nothing.
 ghost use Rattle.std.specs.Prelude.{◌≡◌, ℕ, List};
 ghost use Rattle.replay_text.specs.Languages.{IsRefusedWithin};
-ghost use Rattle.replay_text.specs.Scenario.{SpellsScenario, IsScenario, most};
+ghost use Rattle.replay_text.specs.Scenario.{SpellsScenario, IsScenario, longest_scenario};
 ghost use Rattle.replay_text.specs.Transcript.{transcript, EventsAreWritable};
 ghost use Rattle.front.specs.declared.note.Note.{Note};
 ghost use Rattle.replay_text.specs.Written.{scenario_text};
@@ -17,7 +17,7 @@ pub fn one_reading()
 
 /// A text is refused at one line.
 pub fn one_refusal()
-    ensures { (text : List ℕ) (n m : ℕ) → IsRefusedWithin most IsScenario text n → IsRefusedWithin most IsScenario text m → n ≡ m }
+    ensures { (text : List ℕ) (n m : ℕ) → IsRefusedWithin longest_scenario IsScenario text n → IsRefusedWithin longest_scenario IsScenario text m → n ≡ m }
 {}
 
 /// A scenario has one text.

@@ -3,7 +3,7 @@ ghost use Rattle.std.specs.Prelude.{[], ◌≡◌, ◌≢◌, ◌+◌, ◌≤◌
 ghost use Rattle.replay_text.specs.Lines.{newlines, text_of_lines, AreLines};
 ghost use Rattle.replay_text.specs.EventLines.{line_of, IsEventLine};
 ghost use Rattle.replay_text.specs.declared.event_line.EventLine as models;
-ghost use Rattle.replay_text.specs.Scenario.{AreActs, act_lines, SpellsScenario, IsScenario, ReadsScenario, most};
+ghost use Rattle.replay_text.specs.Scenario.{AreActs, act_lines, SpellsScenario, IsScenario, ReadsScenario, longest_scenario};
 ghost use Rattle.replay_text.specs.Languages.{RefusesWithin};
 ghost use Rattle.replay_text.specs.Reading.{Refuses, SpellsActs, SpellsBody, SpellsTail, SpellsFarm, IsContentBody, IsTail, BlockThen, EndsBlock, EndsNoBlock, IfLine, fault_further, Acts};
 ghost use Rattle.replay_text.specs.declared.scenario.ScenarioFault.TheVariants.{Line, NoMemory as no_memory};
@@ -188,7 +188,7 @@ fn read_limited(alloc: Global, text: &[u8], limit: usize) -> Result<Scenario, Sc
 /// The scenario that bytes spell, or the line at which they are refused. The bytes are all that there are, or at least one more than a scenario may have.
 pub fn read_scenario(alloc: Global, bytes: &[u8]) -> Result<Scenario, ScenarioFault>
     ensures ok { IfOk result (λ s. ReadsScenario bytes.now s) }
-    ensures err { IfErr result (RefusesWithin most IsScenario bytes.now) }
+    ensures err { IfErr result (RefusesWithin longest_scenario IsScenario bytes.now) }
 {
     read_limited(alloc, bytes, LONGEST_SCENARIO)
 }

@@ -5,7 +5,7 @@ use Rattle.std.specs.List.{list_any, position, onto_first}
 use Rattle.std.proofs.lemmas.List.{length-take}
 use Rattle.std.proofs.lemmas.Bool.Decides.{nat_tests}
 use borrow.Author.Tests.{ltb-false}
-use Rattle.sp_base.specs.Paths.{is_empty, is_dots, is_long, pieces, fault_of, unless_fault, size_fault, checked, path_of, text_of}
+use Rattle.sp_base.specs.Paths.{is_empty, is_dots, is_long, pieces, fault_of, unless_fault, size_fault, path_or_fault, path_of, text_of}
 use Rattle.sp_base.specs.declared.path.PathFault.{PathFault}
 use Rattle.sp_base.specs.declared.path.PathFault.TheVariants.{NotAbsolute, EmptySegment, DotSegment, TooDeep}
 use Rattle.resource_tree.specs.Content.{Content, name_of}
@@ -34,7 +34,7 @@ no_fault : (fault : Option PathFault) (segs path : List (List ℕ)) → unless_f
 no_fault None segs path h = refl
 no_fault (Some fault) segs path h = absurd (cc)
 
-checked-short : (segs path : List (List ℕ)) → checked segs ≡ Ok path → length segs ≤ 64
+checked-short : (segs path : List (List ℕ)) → path_or_fault segs ≡ Ok path → length segs ≤ 64
 checked-short segs path e =
     pieces_fit (list_any is_empty segs) (list_any is_dots segs) (position is_long segs) (length segs) (no_fault (fault_of segs) segs path e)
 
@@ -66,9 +66,9 @@ root-slashes : (text : List ℕ) → is_empty text ≡ true → slashes text ≡
 root-slashes [] e = refl
 root-slashes (b ∷ text) e = absurd (omega (arith, zero_test (length (b ∷ text)) e))
 
-rest-slashes : (text : List ℕ) (p : List (List ℕ)) → (if is_empty text then Ok [] else checked (pieces text)) ≡ Ok p → 1 + slashes text ≤ 64
+rest-slashes : (text : List ℕ) (p : List (List ℕ)) → (if is_empty text then Ok [] else path_or_fault (pieces text)) ≡ Ok p → 1 + slashes text ≤ 64
 rest-slashes text p e =
-    elim (is_empty text) as (λ t. is_empty text ≡ t → (if t then Ok [] else checked (pieces text)) ≡ Ok p → 1 + slashes text ≤ 64) [
+    elim (is_empty text) as (λ t. is_empty text ≡ t → (if t then Ok [] else path_or_fault (pieces text)) ≡ Ok p → 1 + slashes text ≤ 64) [
       | true ↦ λ none h. omega (arith, root-slashes text none)
       | false ↦ λ some h. omega (arith, checked-short (pieces text) p h, pieces-length text)
     ] refl e
@@ -76,7 +76,7 @@ rest-slashes text p e =
 read-slashes : (text : List ℕ) (p : List (List ℕ)) → path_of text ≡ Ok p → slashes text ≤ 64
 read-slashes [] p e = absurd (cc)
 read-slashes (b ∷ text) p e =
-    elim (is_slash b) as (λ t. (if t then (if is_empty text then Ok [] else checked (pieces text)) else Err NotAbsolute) ≡ Ok p → cond t (1 + slashes text) (slashes text) ≤ 64) [
+    elim (is_slash b) as (λ t. (if t then (if is_empty text then Ok [] else path_or_fault (pieces text)) else Err NotAbsolute) ≡ Ok p → cond t (1 + slashes text) (slashes text) ≤ 64) [
       | true ↦ λ h. rest-slashes text p h
       | false ↦ λ h. absurd (cc)
     ] e

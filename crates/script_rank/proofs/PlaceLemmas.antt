@@ -6,7 +6,7 @@ use Rattle.std.specs.Option.{IfNone, MatchOption}
 use Rattle.std.specs.List.{AllByRecursion, list_all, list_any, onto_first}
 use Rattle.std.proofs.lemmas.Bool.{and_parts, true≢false}
 use Rattle.std.proofs.lemmas.Bool.Decides.{nat_tests}
-use Rattle.sp_base.specs.Paths.{checked, child_of, fault_of, has_slash, is_dots, is_empty, is_long, is_path, path_of, pieces, seg_ok, text_of, unless_fault}
+use Rattle.sp_base.specs.Paths.{path_or_fault, child_of, fault_of, has_slash, is_dots, is_empty, is_long, is_path, path_of, pieces, seg_ok, text_of, unless_fault}
 use Rattle.sp_base.specs.declared.path.PathFault.{PathFault}
 use Rattle.sp_base.specs.declared.path.PathFault.TheVariants.{EmptySegment}
 use Rattle.resource_tree.specs.Content.{Content, IsTree, kid, node_at}
@@ -78,7 +78,7 @@ reads_below : (seg : List ℕ) (segs : List (List ℕ)) (name : List ℕ) → La
 reads_below seg segs name lack =
     let text = (seg ++ spelled segs) ++ 47 ∷ name in
     let same : pieces text ≡ (seg ∷ segs) ++ pieces name = first_drop _ _ (pieces-below (seg ∷ segs) name lack) in
-    ap (λ t. if t then Ok [] else checked (pieces text)) (full (seg ++ spelled segs) name) ∙ ap checked same
+    ap (λ t. if t then Ok [] else path_or_fault (pieces text)) (full (seg ++ spelled segs) name) ∙ ap path_or_fault same
 
 root_none : (tree : Content) (name : List ℕ) → script_in tree (path_of (text_of [] ++ 47 ∷ name)) ≡ None
 root_none tree name = ap (λ t. script_in tree (if t then Ok [] else Err EmptySegment)) (full [] name)
@@ -144,7 +144,7 @@ has_pieces (b ∷ text) =
       | false ↦ onto-pieces b (pieces text)
     ]
 
-none_at_pieces : (tree : Content) (place more : List (List ℕ)) → IsTree (node_at tree) → has_kids (node_at tree place) ≡ false → HasPieces more → script_in tree (checked (place ++ more)) ≡ None
+none_at_pieces : (tree : Content) (place more : List (List ℕ)) → IsTree (node_at tree) → has_kids (node_at tree place) ≡ false → HasPieces more → script_in tree (path_or_fault (place ++ more)) ≡ None
 none_at_pieces tree place [] good none has = absurd has
 none_at_pieces tree place (name ∷ rest) good none has =
     none_at tree (fault_of (place ++ name ∷ rest)) (place ++ name ∷ rest) (none_below good place name rest none)

@@ -5,7 +5,7 @@ use Rattle.std.specs.List.{AllByRecursion, list_all}
 use Rattle.std.specs.Option.{option_or}
 use Rattle.std.proofs.lemmas.Bool.{and_parts}
 use Rattle.std.proofs.lemmas.Bool.Decides.{nat_tests}
-use Rattle.sp_base.specs.Paths.{checked, fault_of, is_path, unless_fault}
+use Rattle.sp_base.specs.Paths.{path_or_fault, fault_of, is_path, unless_fault}
 use Rattle.sp_base.specs.declared.path.PathFault.{PathFault}
 use Rattle.resource_tree.specs.Content.{Content, IsGood, IsTree, name_of, node_at}
 use Rattle.type_chain.specs.Chain.{first_of}
@@ -128,9 +128,9 @@ module _ (tree : Content) (parts : Parts) (naming : Naming) (good : IsTree (node
       let lack = path_lacks type.segs path in
       let apps = codes "apps" ∷ type.segs in
       let libs = codes "libs" ∷ type.segs in
-      elim type.rooted as (λ t. AllByRecursion LackSlashes (cond t (type.segs ∷ []) (path_with (checked apps) ++ path_with (checked libs)))) [
+      elim type.rooted as (λ t. AllByRecursion LackSlashes (cond t (type.segs ∷ []) (path_with (path_or_fault apps) ++ path_with (path_or_fault libs)))) [
         | true ↦ (lack, tt)
-        | false ↦ both_lack (path_with (checked apps)) (path_with (checked libs)) (unless_lacks (fault_of apps) apps (refl, lack)) (unless_lacks (fault_of libs) libs (refl, lack))
+        | false ↦ both_lack (path_with (path_or_fault apps)) (path_with (path_or_fault libs)) (unless_lacks (fault_of apps) apps (refl, lack)) (unless_lacks (fault_of libs) libs (refl, lack))
       ]
 
   type_same : (type : TypeName) → is_path type.segs ≡ true → first_of (at_script_place tree parts naming) (script_places_of tree type) ≡ at_type tree parts naming type

@@ -1,6 +1,6 @@
 -- The transcript of a scenario in which memory isn't wanting.
 use Rattle.std.proofs.Common.{◌≡◌, ◌++◌, ℕ, List, [], ◌∷◌, Ok, map, refl, ap, sym, subst, ◌∙◌, append-nil}
-use Rattle.front.specs.Determined.{CalmRunsAreOne, event_steps}
+use Rattle.front.specs.Determined.{RunsWithoutDryEventsAreOne, event_steps}
 use Rattle.front.specs.Events.{Run}
 use Rattle.front.specs.States.{start_of}
 use Rattle.replay_text.specs.EventLines.{IsEventLine, line_of}
@@ -8,8 +8,8 @@ use Rattle.replay_text.specs.Lines.{text_of_lines}
 use Rattle.replay_text.specs.Scenario.{IsActs}
 use Rattle.replay_text.specs.Transcript.{transcript}
 use Rattle.replay_text.specs.declared.event_line.EventLine.{EventLine}
-use Rattle.sling_dispatch.specs.CalmSessions.{CalmSessionsAreOne}
-use Rattle.sling_dispatch.specs.Runs.{asked_publisher_host, published, step_of}
+use Rattle.sling_dispatch.specs.SessionsWithoutDryEvents.{SessionsWithoutDryEventsAreOne}
+use Rattle.sling_dispatch.specs.Runs.{asked_publisher_host, sling_publisher, step_of}
 
 -- the first of acts is told by their bytes
 abbrev pub TellsFirst : Type 0
@@ -26,7 +26,7 @@ acts-one law bytes (x ∷ a) b one two =
     let rest = acts-one law (text_of_lines (map line_of a)) a found.0 (record { are = one.are.1; bytes_are = refl }) found.2 in
     ap (λ acts. x ∷ acts) rest ∙ sym found.1
 
-pub calm-sessions : TellsFirst → CalmRunsAreOne → CalmSessionsAreOne
+pub calm-sessions : TellsFirst → RunsWithoutDryEventsAreOne → SessionsWithoutDryEventsAreOne
 calm-sessions first runs s a b one two ends calm quiet =
     let trees : Ok one.tree ≡ Ok two.tree = sym one.reads ∙ two.reads in
     let tree : one.tree ≡ two.tree = cc in
@@ -35,5 +35,5 @@ calm-sessions first runs s a b one two ends calm quiet =
     let all : one.made ++ [] ≡ two.made ++ [] = acts-one first s.acts (one.made ++ []) (two.made ++ []) one.acts two.acts in
     let made : one.made ≡ two.made = sym (append-nil one.made) ∙ all ∙ append-nil two.made in
     let steps : event_steps a ≡ event_steps b = one.steps ∙ ap (λ acts. map (step_of (asked_publisher_host one.farm)) acts) made ∙ ap (λ f. map (step_of (asked_publisher_host f)) two.made) farm ∙ sym two.steps in
-    let run : Run (start_of published one.farm one.tree) b = subst (λ f. Run (start_of published f one.tree) b) (sym farm) (subst (λ t. Run (start_of published two.farm t) b) (sym tree) two.run) in
-    ap transcript (runs published one.farm one.tree a b one.run run steps ends calm quiet)
+    let run : Run (start_of sling_publisher one.farm one.tree) b = subst (λ f. Run (start_of sling_publisher f one.tree) b) (sym farm) (subst (λ t. Run (start_of sling_publisher two.farm t) b) (sym tree) two.run) in
+    ap transcript (runs sling_publisher one.farm one.tree a b one.run run steps ends calm quiet)

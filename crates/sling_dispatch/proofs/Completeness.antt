@@ -1,7 +1,7 @@
 use Rattle.std.proofs.Common.{◌≡◌, ◌<◌, ◌⊎◌, inl, inr, ℕ, List, Some, IfSome, Err, subst, refl, arith, sym, ◌∙◌, ap}
 use Rattle.content_json.specs.ContentOf.{content as content_of}
 use Rattle.replay_text.specs.Languages.{IsRefusedWithin}
-use Rattle.replay_text.specs.Scenario.{SpellsScenario, IsScenario, ReadsScenario, most}
+use Rattle.replay_text.specs.Scenario.{SpellsScenario, IsScenario, ReadsScenario, longest_scenario}
 use Rattle.sling_dispatch.specs.Endings.{Told, RunCall, Means, IsDue, IsReplay, HasNotFailed, HasFailed, HasContent, HasFarm}
 use Rattle.sling_dispatch.specs.Farms.{farm_in, farm_text}
 use Rattle.replay_text.specs.declared.scenario.Scenario.{Scenario}
@@ -38,7 +38,7 @@ complete one c sink bytes s Usage m is told reads has farm bs cs bk ck = absurd 
 complete one c sink bytes s SourceFailed m is told reads has farm bs cs bk ck = absurd (both_failed_and_not c.source bs cs m.0.1)
 complete one c sink bytes s SinkFailed m is told reads has farm bs cs bk ck = absurd (both_failed_and_not sink bk ck m.3)
 complete one c sink bytes s Refused m is told reads has farm bs cs bk ck =
-    let r = subst (λ o. IfSome o (λ t. IsRefusedWithin most IsScenario t m.0)) told m.1.0.2 in
+    let r = subst (λ o. IfSome o (λ t. IsRefusedWithin longest_scenario IsScenario t m.0)) told m.1.0.2 in
     absurd (r.none ((s, reads.0), reads.1))
 complete one c sink bytes s ContentRefused m is told reads has farm bs cs bk ck =
     let r = subst (λ o. IfSome o (λ t. (x : Scenario) × ReadsScenario t x × (content_of x.content ≡ Err m.0))) told m.1.0.2 in

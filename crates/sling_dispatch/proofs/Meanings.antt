@@ -1,13 +1,13 @@
 use Rattle.std.proofs.Common.{◌≡◌, ◌≢◌, ◌≤◌, ◌+◌, ◌++◌, inl, inr, ⊎_elim, arith, ℕ, List, Option, Some, None, IfSome, IfOk, OnErr, Result, Ok, Err, false, length, take, sym, ◌∙◌, ap, subst}
 use Rattle.std.proofs.lemmas.List.{append-nil}
 use Rattle.std.proofs.lemmas.Bool.{cases_lt}
-use Rattle.sp_outside.specs.Told.{added, before_taking, IsAtEnd}
+use Rattle.sp_outside.specs.Told.{held_after, before_taking, IsAtEnd}
 use Rattle.content_json.specs.ContentOf.{content as content_of}
 use Rattle.content_json.specs.declared.fault.ContentFault.{ContentFault}
 use Rattle.content_json.specs.declared.fault.ContentFault.TheVariants.{NoMemory as no_memory}
 use Rattle.replay_text.specs.Languages.{IsRefusedWithin}
 use Rattle.sling_dispatch.specs.Streams.{IsReadOut}
-use Rattle.replay_text.specs.Scenario.{IsScenario, ReadsScenario, most}
+use Rattle.replay_text.specs.Scenario.{IsScenario, ReadsScenario, longest_scenario}
 use Rattle.sling_dispatch.specs.Endings.{Told, RunCall, IsRunOf, Writing, Nothing, UsageLine, SourceLine, RefusalLine, ContentLine, FarmLine, Events, output_of, HasWritten, Means, IsDue, HasContent, IsReplay, HasNotFailed, IsUntouched}
 use Rattle.sling_dispatch.specs.InnerEndings.{IsDueIn, IsDueOf, IsContentOr, IsFarmOr, TellsText, IsDueAt}
 use Rattle.sling_dispatch.specs.Farms.{farm_in, farm_text, lacks_memory}
@@ -36,11 +36,11 @@ out_of_memory D due sink e not_failed = (Nothing, due, (0, e ∙ sym (added-noth
 pub told_line : (D : Writing → Type 0) (w : Writing) (good ending : Ending) (text : List ℕ) (sink : Told (List ℕ)) → D w
     → (HasWritten sink w → Means D good sink) → text ≡ output_of w → TellsText good text ending sink → Means D ending sink
 told_line D w good ending text sink due whole e (inl t) =
-    subst (λ x. Means D x sink) (sym t.0) (whole (t.1 ∙ ap (added sink.old) e, t.2))
+    subst (λ x. Means D x sink) (sym t.0) (whole (t.1 ∙ ap (held_after sink.old) e, t.2))
 told_line D w good ending text sink due whole e (inr (inl t)) =
-    subst (λ x. Means D x sink) (sym t.0) (w, due, (t.1.0, t.1.1 ∙ ap (λ s. added sink.old (take t.1.0 s)) e), t.2)
+    subst (λ x. Means D x sink) (sym t.0) (w, due, (t.1.0, t.1.1 ∙ ap (λ s. held_after sink.old (take t.1.0 s)) e), t.2)
 told_line D w good ending text sink due whole e (inr (inr t)) =
-    subst (λ x. Means D x sink) (sym t.0) (w, due, (t.1.0, t.1.1 ∙ ap (λ s. added sink.old (take t.1.0 s)) e), t.2)
+    subst (λ x. Means D x sink) (sym t.0) (w, due, (t.1.0, t.1.1 ∙ ap (λ s. held_after sink.old (take t.1.0 s)) e), t.2)
 
 -- The same of a text for which memory may have run out.
 pub told_made : {T E : Type 0} (items : T → List ℕ) (D : Writing → Type 0) (w : Writing) (good ending : Ending) (line : Result T E)
@@ -95,16 +95,16 @@ in_text text s reads (FarmLine refusal) d = (d.2, s, reads, d.0, d.1)
 in_text text s reads (Events t events) d =
     let same = sym d.0 in (subst (ReadsScenario text) same reads, subst (λ (x : Scenario). IsRunOf x events) same d.1)
 
-told_refused : (text : List ℕ) (before : ℕ) (old new : Option (List ℕ)) → old ≡ before_taking text new → (length text ≤ most → IsAtEnd new)
-    → IsDueAt text (RefusalLine before) → IfSome old (λ bytes. IsRefusedWithin most IsScenario bytes before)
-told_refused text before old None e end r = subst (λ o. IfSome o (λ bytes. IsRefusedWithin most IsScenario bytes before)) (sym e) tt
+told_refused : (text : List ℕ) (before : ℕ) (old new : Option (List ℕ)) → old ≡ before_taking text new → (length text ≤ longest_scenario → IsAtEnd new)
+    → IsDueAt text (RefusalLine before) → IfSome old (λ bytes. IsRefusedWithin longest_scenario IsScenario bytes before)
+told_refused text before old None e end r = subst (λ o. IfSome o (λ bytes. IsRefusedWithin longest_scenario IsScenario bytes before)) (sym e) tt
 told_refused text before old (Some rest) e end r =
-    subst (λ o. IfSome o (λ bytes. IsRefusedWithin most IsScenario bytes before)) (sym e) (r rest end)
+    subst (λ o. IfSome o (λ bytes. IsRefusedWithin longest_scenario IsScenario bytes before)) (sym e) (r rest end)
 
 -- a text that was read up to one byte past the limit is all of the source, or that many bytes of it
-read_out : (text : List ℕ) (old new : Option (List ℕ)) → old ≡ before_taking text new → (length text ≤ most → IsAtEnd new) → length text ≤ most + 1
-    → IsReadOut (most + 1) old new
-read_out text old new e end within = ⊎_elim (λ long. inr (text, e, omega (arith, long, within))) (λ short. inl (end short)) (cases_lt most (length text))
+read_out : (text : List ℕ) (old new : Option (List ℕ)) → old ≡ before_taking text new → (length text ≤ longest_scenario → IsAtEnd new) → length text ≤ longest_scenario + 1
+    → IsReadOut (longest_scenario + 1) old new
+read_out text old new e end within = ⊎_elim (λ long. inr (text, e, omega (arith, long, within))) (λ short. inl (end short)) (cases_lt longest_scenario (length text))
 
 told : (Q : List ℕ → Type 0) (text : List ℕ) (old new : Option (List ℕ)) → old ≡ before_taking text new → IsAtEnd new → Q text → IfSome old Q
 told Q text old None e end q = subst (λ o. IfSome o Q) (sym e) tt
@@ -114,7 +114,7 @@ told Q text old (Some rest) e end q =
 
 -- what may be written of the text that was read may be written by the call
 pub due_of_source : (c : RunCall) (text : List ℕ) → IsReplay c.words → HasNotFailed c.source
-    → c.source.old ≡ before_taking text c.source.new → (length text ≤ most → IsAtEnd c.source.new) → length text ≤ most + 1 → (w : Writing) → IsDueAt text w → IsDue c w
+    → c.source.old ≡ before_taking text c.source.new → (length text ≤ longest_scenario → IsAtEnd c.source.new) → length text ≤ longest_scenario + 1 → (w : Writing) → IsDueAt text w → IsDue c w
 due_of_source c text is not_failed e end within Nothing d = tt
 due_of_source c text is not_failed e end within UsageLine d = absurd d
 due_of_source c text is not_failed e end within SourceLine d = absurd d

@@ -1,7 +1,7 @@
 use Rattle.std.proofs.Common.{◌≡◌, ◌≤◌, ◌+◌, ◌++◌, ℕ, List, [], ◌∷◌, Option, Ok, Err, inl, inr, length, map, suc, take, sym, ◌∙◌, ap, subst, refl, arith, append_assoc, length-append}
 use Rattle.std.proofs.lemmas.List.{take_all, append-nil}
 use Rattle.std.proofs.Math.Seq.{take-append-add}
-use Rattle.sp_outside.specs.Told.{added}
+use Rattle.sp_outside.specs.Told.{held_after}
 use Rattle.sp_outside.specs.Causes.{HasSinkCause}
 use Rattle.sp_outside.specs.declared.sink.SinkFault.{SinkFault}
 use Rattle.sp_outside.specs.declared.sink.SinkFault.TheVariants.{Failed as sink_failed, NoMemory as sink_memory}
@@ -9,7 +9,7 @@ use Rattle.resource_tree.specs.Content.{Content}
 use Rattle.content_json.specs.ContentOf.{content as content_of}
 use Rattle.any_config.specs.declared.farm.Farm.{Farm}
 use Rattle.sling_dispatch.specs.Farms.{farm_in, farm_text}
-use Rattle.front.specs.Events.{Event, Extended, Happens, Run, after_event, state_after_events, notes_of}
+use Rattle.front.specs.Events.{Event, FurtherEvent, Happens, Run, after_event, state_after_events, notes_of}
 use Rattle.front.specs.States.{RunState, start_of}
 use Rattle.front.specs.declared.note.Note.{Note}
 use Rattle.replay_text.specs.EventLines.{line_of, IsEventLine}
@@ -18,7 +18,7 @@ use Rattle.replay_text.specs.Scenario.{IsActs}
 use Rattle.replay_text.specs.Transcript.{event_text, transcript_from, transcript}
 use Rattle.replay_text.specs.declared.event_line.EventLine.{EventLine}
 use Rattle.replay_text.specs.declared.scenario.Scenario.{Scenario}
-use Rattle.sling_dispatch.specs.Runs.{IsSession, asked_publisher_host, published, step_of, told_of_events}
+use Rattle.sling_dispatch.specs.Runs.{IsSession, asked_publisher_host, sling_publisher, step_of, told_of_events}
 use Rattle.sling_dispatch.specs.Fronts.{IsNext}
 use Rattle.sling_dispatch.specs.Endings.{Writing, Events, Told, told_of, HasWrittenPrefix}
 use Rattle.sling_dispatch.specs.InnerEndings.{AreActLines, IsDueOf, TellsText, ending_by, PlaysAll}
@@ -63,14 +63,14 @@ pub record Played (tree : Content) (farm : Farm) (acts rest : List ℕ) (count :
   pub left_are : IsActs rest left
   pub events : List Event
   pub steps : map (λ (e : Event). e.step) events ≡ map (step_of (asked_publisher_host farm)) made
-  pub run : Run (start_of published farm tree) events
+  pub run : Run (start_of sling_publisher farm tree) events
   pub count_is : length events ≡ count
-  pub stands : Stands (state_after_events (start_of published farm tree) events)
+  pub stands : Stands (state_after_events (start_of sling_publisher farm tree) events)
   pub sent : List ℕ
-  pub written : new ≡ added old sent
+  pub written : new ≡ held_after old sent
   pub text_is : told_of_events events ≡ sent ++ gathered
 
-pub played_none : (tree : Content) (farm : Farm) (acts : List ℕ) (Stands : RunState → Type 0) (old : Option (List ℕ)) → AreActLines acts → Stands (start_of published farm tree)
+pub played_none : (tree : Content) (farm : Farm) (acts : List ℕ) (Stands : RunState → Type 0) (old : Option (List ℕ)) → AreActLines acts → Stands (start_of sling_publisher farm tree)
     → Played tree farm acts acts 0 Stands old old []
 played_none tree farm acts Stands old are stands = record {
   made = [];
@@ -99,7 +99,7 @@ pub played_next : Goes → Leaves → FirstIsTold → (tree : Content) (farm : F
 played_next goes leaves told_first tree farm acts rest after count Stands After old new gathered text p x =
     let host = asked_publisher_host farm in
     let first = told_first rest after p.left x.act p.left_are x.is_line x.lines_are in
-    let w = start_of published farm tree in
+    let w = start_of sling_publisher farm tree in
     let next = x.extends.extended (state_after_events w p.events) p.stands in
     let event = next.event in
     let events = p.events ++ event ∷ [] in
@@ -128,7 +128,7 @@ next_shorter Stands After host rest after count text x = omega (arith, ap length
 
 -- more of the lines were sent
 pub played_sent : (tree : Content) (farm : Farm) (acts rest : List ℕ) (count : ℕ) (Stands : RunState → Type 0) (old mid new : Option (List ℕ)) (gathered sent left : List ℕ)
-    → Played tree farm acts rest count Stands old mid gathered → new ≡ added mid sent → sent ++ left ≡ gathered → Played tree farm acts rest count Stands old new left
+    → Played tree farm acts rest count Stands old mid gathered → new ≡ held_after mid sent → sent ++ left ≡ gathered → Played tree farm acts rest count Stands old new left
 played_sent tree farm acts rest count Stands old mid new gathered sent left p e same = record {
   made = p.made;
   left = p.left;
@@ -140,13 +140,13 @@ played_sent tree farm acts rest count Stands old mid new gathered sent left p e 
   count_is = p.count_is;
   stands = p.stands;
   sent = p.sent ++ sent;
-  written = e ∙ ap (λ m. added m sent) p.written ∙ added-added old p.sent sent;
+  written = e ∙ ap (λ m. held_after m sent) p.written ∙ added-added old p.sent sent;
   text_is = p.text_is ∙ ap (λ t. p.sent ++ t) (sym same) ∙ sym (append_assoc p.sent sent left);
 }
 
 session_of : (tree : Content) (farm : Farm) (acts : List ℕ) (made left : List EventLine) (events : List Event) (s : Scenario) → s.acts ≡ acts → content_of s.content ≡ Ok tree
     → farm_in (farm_text s.farm) ≡ Ok farm → IsActs acts (made ++ left) → map (λ (e : Event). e.step) events ≡ map (step_of (asked_publisher_host farm)) made
-    → Run (start_of published farm tree) events → IsSession s left events
+    → Run (start_of sling_publisher farm tree) events → IsSession s left events
 session_of tree farm acts made left events s same reads farm_reads are steps run = record {
   tree = tree;
   reads = reads;
@@ -160,7 +160,7 @@ session_of tree farm acts made left events s same reads farm_reads are steps run
 
 -- only a prefix of what was gathered was written
 prefix_due : (tree : Content) (farm : Farm) (acts rest : List ℕ) (count k : ℕ) (Stands : RunState → Type 0) (mid : Option (List ℕ)) (gathered : List ℕ) (sink : Told (List ℕ))
-    → Played tree farm acts rest count Stands sink.old mid gathered → sink.new ≡ added mid (take k gathered) → (s : Scenario) → s.acts ≡ acts
+    → Played tree farm acts rest count Stands sink.old mid gathered → sink.new ≡ held_after mid (take k gathered) → (s : Scenario) → s.acts ≡ acts
     → content_of s.content ≡ Ok tree → farm_in (farm_text s.farm) ≡ Ok farm → (w : Writing) × IsDueOf s w × HasWrittenPrefix sink w
 prefix_due tree farm acts rest count k Stands mid gathered sink p e s same reads farm_reads =
     let long = length p.sent in (
@@ -168,14 +168,14 @@ prefix_due tree farm acts rest count k Stands mid gathered sink p e s same reads
       (refl, (p.left, session_of tree farm acts p.made p.left p.events s same reads farm_reads p.acts_are p.steps p.run)),
       (
         long + k,
-        e ∙ ap (λ m. added m (take k gathered)) p.written ∙ added-added sink.old p.sent (take k gathered)
-            ∙ ap (added sink.old) (sym (take-append-add p.sent gathered k) ∙ ap (take (long + k)) (sym p.text_is)),
+        e ∙ ap (λ m. held_after m (take k gathered)) p.written ∙ added-added sink.old p.sent (take k gathered)
+            ∙ ap (held_after sink.old) (sym (take-append-add p.sent gathered k) ∙ ap (take (long + k)) (sym p.text_is)),
       ),
     )
 
 -- the sink failed, or lacked memory, while it was to take what was gathered
 pub broken_off : (tree : Content) (farm : Farm) (acts rest : List ℕ) (count k : ℕ) (Stands : RunState → Type 0) (mid : Option (List ℕ)) (gathered : List ℕ) (fault : SinkFault)
-    (sink : Told (List ℕ)) → Played tree farm acts rest count Stands sink.old mid gathered → sink.new ≡ added mid (take k gathered)
+    (sink : Told (List ℕ)) → Played tree farm acts rest count Stands sink.old mid gathered → sink.new ≡ held_after mid (take k gathered)
     → HasSinkCause {T = Unit {0}} sink.faults_old sink.faults_new (Err fault) → PlaysAll tree farm acts (ending_by fault) sink
 broken_off tree farm acts rest count k Stands mid gathered sink_failed sink p e cause = λ s same reads farm_reads.
     let x = prefix_due tree farm acts rest count k Stands mid gathered sink p e s same reads farm_reads in (x.0, x.1, x.2, cause)
@@ -189,7 +189,7 @@ pub played_stopped : (tree : Content) (farm : Farm) (acts rest : List ℕ) (coun
 played_stopped tree farm acts rest count Stands mid gathered ending sink p (inl t) =
     subst (λ x. PlaysAll tree farm acts x sink) (sym t.0)
     (broken_off tree farm acts rest count (length gathered) Stands mid gathered sink_memory sink p
-    (t.1 ∙ ap (added mid) (sym (take_all (length gathered) gathered (omega arith)))) t.2)
+    (t.1 ∙ ap (held_after mid) (sym (take_all (length gathered) gathered (omega arith)))) t.2)
 played_stopped tree farm acts rest count Stands mid gathered ending sink p (inr (inl t)) =
     subst (λ x. PlaysAll tree farm acts x sink) (sym t.0) (broken_off tree farm acts rest count t.1.0 Stands mid gathered sink_failed sink p t.1.1 t.2)
 played_stopped tree farm acts rest count Stands mid gathered ending sink p (inr (inr t)) =
@@ -216,7 +216,7 @@ played_all tree farm acts rest count Stands mid gathered ending sink whole p (in
       p.events,
       (refl, (p.left, session)),
       subst (λ (left : List EventLine). IsSession s left p.events) (none_left rest p.left p.left_are whole) session,
-      (t.1 ∙ ap (λ m. added m gathered) p.written ∙ added-added sink.old p.sent gathered ∙ ap (added sink.old) (sym p.text_is), t.2),
+      (t.1 ∙ ap (λ m. held_after m gathered) p.written ∙ added-added sink.old p.sent gathered ∙ ap (held_after sink.old) (sym p.text_is), t.2),
     ))
 played_all tree farm acts rest count Stands mid gathered ending sink whole p (inr (inl t)) =
     subst (λ x. PlaysAll tree farm acts x sink) (sym t.0) (broken_off tree farm acts rest count t.1.0 Stands mid gathered sink_failed sink p t.1.1 t.2)

@@ -24,8 +24,8 @@ use Rattle.front.specs.declared.note.Note.TheVariants.{Answer as answered, Ask a
 use Rattle.front.specs.declared.step.Pick.{Pick}
 use Rattle.front.specs.declared.step.Step.{Step}
 use Rattle.front.specs.declared.step.Step.TheVariants as step
-use Rattle.front.specs.Events.{Event, Extended, DeliverAs, DeliverTo, Happens, HappensBy, IsOrFixed, LeadsNotes, LoseTo, PieceTo, RenderTo, Run, after_event, state_after_events, begun, gone, going, is_any, is_picked, is_rendered, is_unrendered, mood_notes, most_lines, notes_of, opened, opening, picked}
-use Rattle.front.specs.Moves.{GivesDue, IsFirstPoint, Mood, Serves, state_after_note, afters, asked_by, due_of_connection, flight_at, has_number, is_front_full, over_with, points, request_of, with_rendered_at, without}
+use Rattle.front.specs.Events.{Event, FurtherEvent, DeliverAs, DeliverTo, Happens, HappensBy, IsOrFixed, LeadsNotes, LoseTo, PieceTo, RenderTo, Run, after_event, state_after_events, state_before_notes, state_after_going, going, is_any, is_picked, is_rendered, is_unrendered, mood_notes, most_lines, notes_of, state_after_opening, opening, picked_flight}
+use Rattle.front.specs.Moves.{GivesDue, IsFirstPoint, Mood, Serves, state_after_note, state_after_notes, state_after_ask, due_of_connection, flight_at, has_number, is_front_full, over_with, points, request_of, with_rendered_at, without}
 use Rattle.connections.specs.Slots.{fixed_answer}
 use Rattle.front.specs.Publishers.{Publishing, answer_to, direct_answer, get_of}
 use Rattle.dispatch_rules.specs.Asking.{publisher_ask}
@@ -36,7 +36,7 @@ use Rattle.replay_text.specs.declared.scenario.Scenario.{Scenario}
 use Rattle.replay_text.specs.EventLines.{IsEventLine}
 use Rattle.replay_text.specs.Scenario.{AreActs}
 use Rattle.replay_text.specs.Transcript.{AreWritable, EventsAreWritable, IsLineNumber, IsWritable}
-use Rattle.sling_dispatch.specs.Runs.{IsSession, published, step_of}
+use Rattle.sling_dispatch.specs.Runs.{IsSession, sling_publisher, step_of}
 
 -- ---- lists of notes
 pub both_writable : (a b : List Note) → AreWritable a → AreWritable b → AreWritable (a ++ b)
@@ -62,7 +62,7 @@ AllFit (f ∷ air) = Fits f × AllFit air
 pub record StateFits (w : RunState) : Type 0 where
   pub asked_is : flights_asked w.log.entries ≤ 9223372036854775808
   pub air : AllFit w.air
-  pub publishing_is : w.publishing ≡ published
+  pub publishing_is : w.publishing ≡ sling_publisher
 
 all-push : (air : List Flying) (f : Flying) → AllFit air → Fits f → AllFit (air ++ f ∷ [])
 all-push [] f all fits = (fits, tt)
@@ -100,7 +100,7 @@ over-fits w n a entry (Some f) fits same = record { asked_is = rw same fits.aske
 keeps-fits : (w v : RunState) → StateFits w → v.air ≡ w.air → v.log ≡ w.log → v.publishing ≡ w.publishing → StateFits v
 keeps-fits w v fits air log publishing = record { asked_is = rw log fits.asked_is; air = rw air fits.air; publishing_is = publishing ∙ fits.publishing_is }
 
-asked-fits : (w : RunState) (n c : ℕ) (key : Option PageKey) (request : Option Req) → StateFits w → n ≡ flights_asked w.log.entries + 1 → n ≤ 9223372036854775808 → c < 4294967296 → StateFits (asked_by w n c key request)
+asked-fits : (w : RunState) (n c : ℕ) (key : Option PageKey) (request : Option Req) → StateFits w → n ≡ flights_asked w.log.entries + 1 → n ≤ 9223372036854775808 → c < 4294967296 → StateFits (state_after_ask w n c key request)
 asked-fits w n c key None fits number most small = fits
 asked-fits w n c key (Some request) fits number most small = record {
   asked_is = rw (← number) most;
@@ -151,7 +151,7 @@ gives-fits m w c Nothing note fits small gives = absurd gives
 
 pub record NotesFit (w : RunState) (notes : List Note) : Type 0 where
   pub writable : AreWritable notes
-  pub state : StateFits (afters w notes)
+  pub state : StateFits (state_after_notes w notes)
 
 serves-fit : (m : Mood) (w : RunState) (c : ℕ) (notes : List Note) → StateFits w → c < 4294967296 → Serves m w c notes → NotesFit w notes
 serves-fit m w c [] fits small serves = record { writable = tt; state = fits }
@@ -165,7 +165,7 @@ idle-fits w notes fits is = rw is (record { writable = (tt, tt); state = fits })
 
 -- ---- events
 module _ (short : (tree : Content) (ask : Ask) → (rendered tree ask).status < 1000) (error : (status : ℕ) → (error_answer status).status ≡ status) where
-  answer_short : (farm : Farm) (content : Content) (target : Option Target) → (answer_to published farm content target).status < 65536
+  answer_short : (farm : Farm) (content : Content) (target : Option Target) → (answer_to sling_publisher farm content target).status < 65536
   answer_short farm content (Some target) = omega (arith, short content (get_of farm target))
   answer_short farm content None = omega (arith, error 400)
 
@@ -183,7 +183,7 @@ module _ (short : (tree : Content) (ask : Ask) → (rendered tree ask).status < 
   StepFits (step.Deliver pick) = Unit {0}
   StepFits (step.Lose pick) = Unit {0}
 
-  opened_fits : (w : RunState) (c : ℕ) (peer : List ℕ) (notes : List Note) (at : Option Connection) → StateFits w → c < 4294967296 → notes ≡ opening c w.lines at → NotesFit (opened w c peer at) notes
+  opened_fits : (w : RunState) (c : ℕ) (peer : List ℕ) (notes : List Note) (at : Option Connection) → StateFits w → c < 4294967296 → notes ≡ opening c w.lines at → NotesFit (state_after_opening w c peer at) notes
   opened_fits w c peer notes (Some k) fits small is = idle-fits w notes fits is
   opened_fits w c peer notes None fits small is = by_test (nat_le most_lines w.lines) is
     where
@@ -191,11 +191,11 @@ module _ (short : (tree : Content) (ask : Ask) → (rendered tree ask).status < 
       by_test true is = rw is (record { writable = (small, tt); state = fits })
       by_test false is = rw is (record { writable = tt; state = keeps-fits w _ fits refl refl refl })
 
-  gone_fits : (w : RunState) (c : ℕ) (notes : List Note) (at : Option Connection) → StateFits w → notes ≡ going at → NotesFit (gone w c at) notes
+  gone_fits : (w : RunState) (c : ℕ) (notes : List Note) (at : Option Connection) → StateFits w → notes ≡ going at → NotesFit (state_after_going w c at) notes
   gone_fits w c notes None fits is = idle-fits w notes fits is
   gone_fits w c notes (Some k) fits is = rw is (record { writable = tt; state = keeps-fits w _ fits refl refl refl })
 
-  piece_fits : (w : RunState) (e : Event) (c : ℕ) (bytes : List ℕ) (at : Option Connection) → StateFits (begun w e (step.Piece c bytes)) → c < 4294967296 → PieceTo w e c bytes at → NotesFit (begun w e (step.Piece c bytes)) e.body
+  piece_fits : (w : RunState) (e : Event) (c : ℕ) (bytes : List ℕ) (at : Option Connection) → StateFits (state_before_notes w e (step.Piece c bytes)) → c < 4294967296 → PieceTo w e c bytes at → NotesFit (state_before_notes w e (step.Piece c bytes)) e.body
   piece_fits w e c bytes None fits small is = idle-fits _ e.body fits is
   piece_fits w e c bytes (Some k) fits small feeds = serves-fit e.mood _ c e.body fits small feeds.settles.serves
 
@@ -231,19 +231,19 @@ module _ (short : (tree : Content) (ask : Ask) → (rendered tree ask).status < 
       let here = each f refl in
       leads_fit w e.mood (Lost f.number) f.line e.body (omega (arith, here.number)) (over-fits w f.number _ _ (flight_at f.number w.air) fits refl) here.line to
 
-  picked_fits : (pick : Pick) (can : Flying → Bool) (air : List Flying) → AllFit air → (f : Flying) → picked pick can air ≡ Some f → Fits f
+  picked_fits : (pick : Pick) (can : Flying → Bool) (air : List Flying) → AllFit air → (f : Flying) → picked_flight pick can air ≡ Some f → Fits f
   picked_fits pick can air all f found = found-fits (λ flying. is_picked pick flying && can flying) air f all found
 
-  by_step : (w : RunState) (e : Event) (s : Step) → StateFits w → StepFits s → HappensBy w e s → NotesFit (begun w e s) e.body
+  by_step : (w : RunState) (e : Event) (s : Step) → StateFits w → StepFits s → HappensBy w e s → NotesFit (state_before_notes w e s) e.body
   by_step w e (step.Opened c peer) fits small is = opened_fits w c peer e.body (w.line c) fits small is
   by_step w e (step.Piece c bytes) fits small to = piece_fits w e c bytes (w.line c) (keeps-fits w _ fits refl refl refl) small to
   by_step w e (step.Gone c) fits small is = gone_fits w c e.body (w.line c) fits is
   by_step w e (step.Direct target) fits small to =
       let wanted : (direct_answer w.publishing w.farm w.content target).status < 65536 = rw fits.publishing_is (answer_short w.farm w.content (target_of target)) in
       rw to.2 (record { writable = (or_fixed_short e.mood to.0 _ wanted to.1, tt); state = fits })
-  by_step w e (step.Render pick) fits small to = render_fits w e (picked pick is_unrendered w.air) fits (picked_fits pick is_unrendered w.air fits.air) to
-  by_step w e (step.Deliver pick) fits small to = delivers_fit w e (picked pick is_rendered w.air) fits (picked_fits pick is_rendered w.air fits.air) to
-  by_step w e (step.Lose pick) fits small to = loses_fit w e (picked pick is_any w.air) fits (picked_fits pick is_any w.air fits.air) to
+  by_step w e (step.Render pick) fits small to = render_fits w e (picked_flight pick is_unrendered w.air) fits (picked_fits pick is_unrendered w.air fits.air) to
+  by_step w e (step.Deliver pick) fits small to = delivers_fit w e (picked_flight pick is_rendered w.air) fits (picked_fits pick is_rendered w.air fits.air) to
+  by_step w e (step.Lose pick) fits small to = loses_fit w e (picked_flight pick is_any w.air) fits (picked_fits pick is_any w.air fits.air) to
 
   abbrev AllStepsFit : List Event → Type 0
   AllStepsFit [] = Unit {0}

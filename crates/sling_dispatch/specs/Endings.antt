@@ -1,14 +1,14 @@
 -- How a run may end, and what each ending says of the source and the sink.
 use Rattle.std.specs.Prelude.{false, ◌≡◌, ◌≢◌, ◌≤◌, ◌+◌, ◌++◌, ◌⊎◌, ℕ, List, [], ◌∷◌, Option, IfSome, Ok, Err, codes, take}
 use Rattle.std.specs.Fmt.{decimal}
-use Rattle.sp_outside.specs.Told.{added, IsAtEnd}
+use Rattle.sp_outside.specs.Told.{held_after, IsAtEnd}
 use Rattle.sp_outside.specs.Causes.{Rose}
 use Rattle.resource_tree.specs.Content.{Content}
 use Rattle.content_json.specs.ContentOf.{content as content_of}
 use Rattle.content_json.specs.declared.fault.ContentFault.{ContentFault}
 use Rattle.content_json.specs.declared.fault.ContentFault.TheVariants.{NoMemory as no_memory}
 use Rattle.replay_text.specs.Languages.{IsRefusedWithin}
-use Rattle.replay_text.specs.Scenario.{IsScenario, ReadsScenario, most}
+use Rattle.replay_text.specs.Scenario.{IsScenario, ReadsScenario, longest_scenario}
 use Rattle.sling_dispatch.specs.Runs.{IsSession, told_of_events}
 use Rattle.sling_dispatch.specs.Streams.{IsReadOut}
 use Rattle.sling_dispatch.specs.Farms.{farm_in, farm_text, lacks_memory}
@@ -66,11 +66,11 @@ output_of (Events s events) = told_of_events events
 
 -- the whole text was written
 abbrev pub HasWritten : Told (List ℕ) → Writing → Type 0
-HasWritten sink w = (sink.new ≡ added sink.old (output_of w)) × HasNotFailed sink
+HasWritten sink w = (sink.new ≡ held_after sink.old (output_of w)) × HasNotFailed sink
 
 -- a prefix of it was
 abbrev pub HasWrittenPrefix : Told (List ℕ) → Writing → Type 0
-HasWrittenPrefix sink w = (n : ℕ) × (sink.new ≡ added sink.old (take n (output_of w)))
+HasWrittenPrefix sink w = (n : ℕ) × (sink.new ≡ held_after sink.old (take n (output_of w)))
 
 -- What each ending says of the sink, where IsDue says what may be written.
 abbrev pub Means : (Writing → Type 0) → Ending → Told (List ℕ) → Type 0
@@ -118,7 +118,7 @@ abbrev pub IsDue : RunCall → Writing → Type 0
 IsDue c Nothing = Unit {0}
 IsDue c UsageLine = (IsReplay c.words → ⊥) × IsUntouched c.source
 IsDue c SourceLine = IsReplay c.words × HasFailed c.source
-IsDue c (RefusalLine before) = Replays c (λ bytes. IsRefusedWithin most IsScenario bytes before) × IsReadOut (most + 1) c.source.old c.source.new
+IsDue c (RefusalLine before) = Replays c (λ bytes. IsRefusedWithin longest_scenario IsScenario bytes before) × IsReadOut (longest_scenario + 1) c.source.old c.source.new
 IsDue c (ContentLine fault) = Replays c (λ bytes. (s : Scenario) × ReadsScenario bytes s × (content_of s.content ≡ Err fault)) × IsAtEnd c.source.new
     × (fault ≢ no_memory)
 IsDue c (FarmLine refusal) = Replays c (λ bytes. (s : Scenario) × ReadsScenario bytes s × HasContent s × (farm_in (farm_text s.farm) ≡ Err refusal))

@@ -1,6 +1,6 @@
 -- Scaffolding: what the private functions of the run promise, for proofs alone. A reader of the theorem needs none of it.
 use Rattle.std.specs.Prelude.{◌≡◌, ◌≢◌, ◌≤◌, ◌++◌, ◌⊎◌, ℕ, List, [], Option, Result, Ok, Err, length, take, false}
-use Rattle.sp_outside.specs.Told.{added}
+use Rattle.sp_outside.specs.Told.{held_after}
 use Rattle.sp_outside.specs.Causes.{Rose}
 use Rattle.sp_outside.specs.declared.sink.SinkFault.{SinkFault}
 use Rattle.sp_outside.specs.declared.sink.SinkFault.TheVariants.{Failed as sink_failed, NoMemory as sink_memory}
@@ -9,7 +9,7 @@ use Rattle.content_json.specs.ContentOf.{content as content_of}
 use Rattle.content_json.specs.declared.fault.ContentFault.{ContentFault}
 use Rattle.content_json.specs.declared.fault.ContentFault.TheVariants.{NoMemory as no_memory}
 use Rattle.replay_text.specs.Languages.{IsRefusedWithin}
-use Rattle.replay_text.specs.Scenario.{IsActs, IsScenario, ReadsScenario, most}
+use Rattle.replay_text.specs.Scenario.{IsActs, IsScenario, ReadsScenario, longest_scenario}
 use Rattle.sling_dispatch.specs.Endings.{Told, HasNotFailed, HasFailed, Writing, Nothing, UsageLine, SourceLine, RefusalLine, ContentLine, FarmLine, Events, Means, HasContent, IsRunOf}
 use Rattle.sling_dispatch.specs.Farms.{farm_in, farm_text, lacks_memory}
 use Rattle.any_config.specs.declared.farm.Farm.{Farm}
@@ -26,7 +26,7 @@ abbrev pub IsDueAt : List ℕ → Writing → Type 0
 IsDueAt text Nothing = Unit {0}
 IsDueAt text UsageLine = ⊥
 IsDueAt text SourceLine = ⊥
-IsDueAt text (RefusalLine before) = (rest : List ℕ) → (length text ≤ most → rest ≡ []) → IsRefusedWithin most IsScenario (text ++ rest) before
+IsDueAt text (RefusalLine before) = (rest : List ℕ) → (length text ≤ longest_scenario → rest ≡ []) → IsRefusedWithin longest_scenario IsScenario (text ++ rest) before
 IsDueAt text (ContentLine fault) = (fault ≢ no_memory) × (s : Scenario) × ReadsScenario text s × (content_of s.content ≡ Err fault)
 IsDueAt text (FarmLine refusal) = (lacks_memory refusal ≡ false) × (s : Scenario) × ReadsScenario text s × HasContent s × (farm_in (farm_text s.farm) ≡ Err refusal)
 IsDueAt text (Events s events) = ReadsScenario text s × IsRunOf s events
@@ -73,9 +73,9 @@ IsFarmOr refusal (Events s events) = ⊥
 
 -- What came of writing a text, of which good was to be the ending: that, or the sink failed, or memory did.
 abbrev pub TellsText : Ending → List ℕ → Ending → Told (List ℕ) → Type 0
-TellsText good text ending sink = ((ending ≡ good) × (sink.new ≡ added sink.old text) × HasNotFailed sink)
-    ⊎ (((ending ≡ SinkFailed) × ((n : ℕ) × (sink.new ≡ added sink.old (take n text))) × HasFailed sink)
-    ⊎ ((ending ≡ NoMemory) × ((n : ℕ) × (sink.new ≡ added sink.old (take n text))) × HasNotFailed sink))
+TellsText good text ending sink = ((ending ≡ good) × (sink.new ≡ held_after sink.old text) × HasNotFailed sink)
+    ⊎ (((ending ≡ SinkFailed) × ((n : ℕ) × (sink.new ≡ held_after sink.old (take n text))) × HasFailed sink)
+    ⊎ ((ending ≡ NoMemory) × ((n : ℕ) × (sink.new ≡ held_after sink.old (take n text))) × HasNotFailed sink))
 
 -- how a run ends at a fault of its sink
 abbrev pub ending_by : SinkFault → Ending

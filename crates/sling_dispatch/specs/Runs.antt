@@ -68,8 +68,8 @@ step_of host (line.Lose flight) = Lose (pick_of flight)
 -- ---- sessions
 
 -- what the publisher gives: its answer, and what it leaves of the content
-abbrev pub published : Publishing
-published content ask = record { answer = rendered content ask; content = content_after_request content ask }
+abbrev pub sling_publisher : Publishing
+sling_publisher content ask = record { answer = rendered content ask; content = content_after_request content ask }
 
 -- the transcript of events
 abbrev pub told_of_events : List Event → List ℕ
@@ -85,4 +85,4 @@ pub record IsSession (s : Scenario) (left : List EventLine) (events : List Event
   pub made : List EventLine
   pub acts : IsActs s.acts (made ++ left)
   pub steps : map (λ (e : Event). e.step) events ≡ map (step_of (asked_publisher_host farm)) made
-  pub run : Run (start_of published farm tree) events
+  pub run : Run (start_of sling_publisher farm tree) events

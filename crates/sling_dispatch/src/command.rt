@@ -1,14 +1,14 @@
 //! The whole program over a command line: the words that it is given, and the status that it ends with.
 ghost use Rattle.std.specs.Prelude.{◌≡◌, ◌+◌, ℕ, List, map, IfOk, OnOk};
 ghost use Rattle.sling_dispatch.specs.declared.ending.Ending.{Ending};
-ghost use Rattle.replay_text.specs.Scenario.{most};
+ghost use Rattle.replay_text.specs.Scenario.{longest_scenario};
 ghost use Rattle.sling_dispatch.specs.Streams.{HasTaken};
 ghost use Rattle.sling_dispatch.specs.Endings.{Means, IsDue, AreWordsOf, told_of, ending_status};
 
 use crate::ending::Ending;
 use crate::program::run;
 use sp_base::{Items, Mem, NoMemory};
-use sp_outside::{Sink, Source, WordList, Words};
+use sp_outside::{CommandWords, Sink, Source, Words};
 use std::alloc::Global;
 use std::hash::RandomState;
 
@@ -20,7 +20,7 @@ pub fn command<W: Words, S: Source, K: Sink>(
     source: &mut S,
     sink: &mut K,
 ) -> u8
-    ensures taken { HasTaken (most + 1) (S.left source.old) (S.left source.new) }
+    ensures taken { HasTaken (longest_scenario + 1) (S.left source.old) (S.left source.new) }
     ensures ending { (words : List (List ℕ)) × AreWordsOf (W.told line.now) words × (e : Ending) × (result ≡ ending_status e) × Means
         (IsDue (record {
           words = words;
@@ -38,7 +38,7 @@ pub fn command<W: Words, S: Source, K: Sink>(
 }
 
 // The words of the command line.
-fn words_of<W: Words>(alloc: Global, line: &W) -> Mem<WordList>
+fn words_of<W: Words>(alloc: Global, line: &W) -> Mem<CommandWords>
     ensures { IfOk result (λ words. AreWordsOf (W.told line.now) words) }
 {
     let mut words = Items::new(alloc);
@@ -52,7 +52,7 @@ fn words_of<W: Words>(alloc: Global, line: &W) -> Mem<WordList>
 }
 
 // The same words, lent.
-fn slices_of(alloc: Global, words: &WordList) -> Mem<Vec<&[u8]>>
+fn slices_of(alloc: Global, words: &CommandWords) -> Mem<Vec<&[u8]>>
     ensures { IfOk result (λ slices. map (λ w. w.now) slices.items ≡ words.now) }
 {
     let mut slices = Vec::new(alloc);

@@ -9,23 +9,23 @@ ghost use Rattle.dispatch_rules.specs.UrlParts.{stem};
 ghost use Rattle.front.specs.Publishers.{direct_answer};
 ghost use Rattle.front.specs.Events.{Event, notes_of};
 ghost use Rattle.replay_text.specs.Scenario.{ReadsScenario};
-ghost use Rattle.sling_dispatch.specs.CalmSessions.{CalmSessionsAreOne};
+ghost use Rattle.sling_dispatch.specs.SessionsWithoutDryEvents.{SessionsWithoutDryEventsAreOne};
 ghost use Rattle.sling_dispatch.specs.Endings.{Told, RunCall, Means, IsDue, IsReplay, HasNotFailed, HasContent, HasFarm};
 ghost use Rattle.sling_dispatch.specs.declared.ending.Ending.{Ending};
 ghost use Rattle.sling_dispatch.specs.declared.ending.Ending.TheVariants.{Done, NoMemory};
 ghost use Rattle.sling_dispatch.specs.FilterParts.{SeesParts};
-ghost use Rattle.sling_dispatch.specs.Runs.{IsSession, published, told_of_events};
+ghost use Rattle.sling_dispatch.specs.Runs.{IsSession, sling_publisher, told_of_events};
 ghost use Rattle.replay_text.specs.declared.event_line.EventLine.{EventLine};
 ghost use Rattle.replay_text.specs.declared.scenario.Scenario.{Scenario};
 
-use front::calm_runs_are_determined;
+use front::runs_without_dry_events_are_determined;
 use publisher::statuses_are_short;
 use replay_text::{a_transcript_tells_its_events, acts_are_told_by_their_lines, one_reading};
 
 /// How the path of a target is escaped doesn't matter, apart from the slash that it begins with, nor which query follows.
 pub fn spellings_are_answered_alike()
     ensures { (farm : models.Farm) (content : Content) (a b : List ℕ) → begins_with_slash a ≡ begins_with_slash b → path_bytes a ≡ path_bytes b
-        → direct_answer published farm content a ≡ direct_answer published farm content b }
+        → direct_answer sling_publisher farm content a ≡ direct_answer sling_publisher farm content b }
 {}
 
 /// Where the words are right, the source's bytes are a scenario whose content and farm have a reading, and neither the source nor the
@@ -54,10 +54,10 @@ pub fn a_filter_sees_the_decomposition()
 {}
 
 /// A scenario has one transcript, where memory is wanting in no event and the streams end alike. (They do if in the first no stream that
-/// is still read ends within a target that isn't UTF-8 and can't become it: `front`'s law `calm_streams_end_alike`.)
-pub fn a_calm_session_has_one_transcript()
-    ensures { CalmSessionsAreOne }
+/// is still read ends within a target that isn't UTF-8 and can't become it: `front`'s law `streams_without_dry_events_end_alike`.)
+pub fn a_session_without_dry_events_has_one_transcript()
+    ensures { SessionsWithoutDryEventsAreOne }
 {
     acts_are_told_by_their_lines();
-    calm_runs_are_determined();
+    runs_without_dry_events_are_determined();
 }

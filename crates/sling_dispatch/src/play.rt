@@ -1,9 +1,9 @@
 //! Makes the events of a scenario, and writes its transcript in large parts.
 ghost use Rattle.std.specs.Prelude.{◌≡◌, ◌≢◌, ◌++◌, [], ℕ, List, IfOk, OnOk, OnErr, take, true, false};
-ghost use Rattle.sp_outside.specs.Told.{added};
+ghost use Rattle.sp_outside.specs.Told.{held_after};
 ghost use Rattle.sp_outside.specs.Causes.{HasSinkCause};
 ghost use Rattle.sling_dispatch.specs.Fronts.{IsNext};
-ghost use Rattle.sling_dispatch.specs.Runs.{published};
+ghost use Rattle.sling_dispatch.specs.Runs.{sling_publisher};
 ghost use Rattle.front.specs.Fronts.{BoardStands};
 ghost use Rattle.sling_dispatch.specs.Endings.{told_of};
 ghost use Rattle.sling_dispatch.specs.InnerEndings.{AreActLines, TellsText, ending_by, PlaysAll};
@@ -83,8 +83,8 @@ pub fn play<K: Sink>(
 // Puts a text after those gathered. They are written first where there would be too many bytes, and the text with them
 // where there is no memory to gather it.
 fn gather<K: Sink>(sink: &mut K, gathered: &mut Vec<u8>, text: &[u8]) -> Result<(), SinkFault>
-    ensures ok { OnOk result ((sent : List ℕ) × (K.held sink.new ≡ added (K.held sink.old) sent) × (sent ++ gathered.new.items ≡ gathered.old.items ++ text.now)) }
-    ensures err { OnErr result ((n : ℕ) × (K.held sink.new ≡ added (K.held sink.old) (take n (gathered.old.items ++ text.now)))) }
+    ensures ok { OnOk result ((sent : List ℕ) × (K.held sink.new ≡ held_after (K.held sink.old) sent) × (sent ++ gathered.new.items ≡ gathered.old.items ++ text.now)) }
+    ensures err { OnErr result ((n : ℕ) × (K.held sink.new ≡ held_after (K.held sink.old) (take n (gathered.old.items ++ text.now)))) }
     ensures cause { HasSinkCause (K.faults sink.old) (K.faults sink.new) result }
 {
     if keep(gathered, text) {
@@ -115,7 +115,7 @@ fn event_of<'a>(
     lines: &'a [u8],
 ) -> Mem<(Vec<u8>, &'a [u8])>
     requires { AreActLines lines.now × (lines.now ≢ []) }
-    ensures { IfOk result (λ p. IsNext (BoardStands published front.old.renderer.publisher front.old.farm front.old.board) (BoardStands published front.new.renderer.publisher front.new.farm front.new.board) host.now lines.now p.1.now event p.0.items) }
+    ensures { IfOk result (λ p. IsNext (BoardStands sling_publisher front.old.renderer.publisher front.old.farm front.old.board) (BoardStands sling_publisher front.new.renderer.publisher front.new.farm front.new.board) host.now lines.now p.1.now event p.0.items) }
 {
     acts_are_told_by_their_lines();
     let Some((act, rest)) = first_act(alloc, lines)? else {

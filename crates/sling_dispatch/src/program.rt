@@ -1,7 +1,7 @@
 //! The run: what the words say is done, from the source to the sink.
 ghost use Rattle.std.specs.Prelude.{◌≡◌, ◌≢◌, ◌↔◌, ◌++◌, ◌∷◌, ◌+◌, [], ℕ, List, Ok, Err, false, map, codes, IsTrue, IfOk, IfErr, OnErr};
 ghost use Rattle.sling_dispatch.specs.declared.ending.Ending.{Ending};
-ghost use Rattle.replay_text.specs.Scenario.{ReadsScenario, IsScenario, most};
+ghost use Rattle.replay_text.specs.Scenario.{ReadsScenario, IsScenario, longest_scenario};
 ghost use Rattle.replay_text.specs.Languages.{RefusesWithin};
 ghost use Rattle.sling_dispatch.specs.Streams.{HasTaken};
 ghost use Rattle.sling_dispatch.specs.Endings.{Means, IsDue, IsReplay, IsUntouched, told_of, ending_status};
@@ -31,7 +31,7 @@ pub fn run<S: Source, K: Sink>(
     source: &mut S,
     sink: &mut K,
 ) -> u8
-    ensures taken { HasTaken (most + 1) (S.left source.old) (S.left source.new) }
+    ensures taken { HasTaken (longest_scenario + 1) (S.left source.old) (S.left source.new) }
     ensures ending { (e : Ending) × (result ≡ ending_status e) × Means
         (IsDue (record {
           words = map (λ w. w.now) words.now;
@@ -49,7 +49,7 @@ fn ending<S: Source, K: Sink>(
     source: &mut S,
     sink: &mut K,
 ) -> Ending
-    ensures taken { HasTaken (most + 1) (S.left source.old) (S.left source.new) }
+    ensures taken { HasTaken (longest_scenario + 1) (S.left source.old) (S.left source.new) }
     ensures ending { Means
         (IsDue (record {
           words = map (λ w. w.now) words.now;
@@ -109,7 +109,7 @@ fn replay<K: Sink>(alloc: Global, seeds: RandomState, text: Vec<u8>, sink: &mut 
 // The scenario that a text spells, which is given up.
 fn scenario_of(alloc: Global, text: Vec<u8>) -> Result<Scenario, ScenarioFault>
     ensures ok { IfOk result (λ s. ReadsScenario text.items s) }
-    ensures err { IfErr result (RefusesWithin most IsScenario text.items) }
+    ensures err { IfErr result (RefusesWithin longest_scenario IsScenario text.items) }
 {
     read_scenario(alloc, &text)
 }

@@ -1,5 +1,5 @@
 //! The publisher as a front asks it.
-ghost use Rattle.sling_dispatch.specs.Runs.{published};
+ghost use Rattle.sling_dispatch.specs.Runs.{sling_publisher};
 
 use front::Renderer;
 use publisher::{Publisher, reads_change_nothing, statuses_are_short};
@@ -13,7 +13,7 @@ pub struct PublisherRenderer {
 }
 
 impl Renderer for PublisherRenderer {
-    ghost publishing = { published };
+    ghost publishing = { sling_publisher };
 
     ghost content = { λ renderer. renderer.publisher };
 

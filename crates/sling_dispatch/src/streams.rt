@@ -1,6 +1,6 @@
 //! Reads a source whole, and writes a text to a sink.
 ghost use Rattle.std.specs.Prelude.{◌≡◌, ◌≤◌, ◌<◌, ◌+◌, ◌^◌, ℕ, IfOk, OnOk, OnErr, length, take};
-ghost use Rattle.sp_outside.specs.Told.{added, before_taking, IsAtEnd};
+ghost use Rattle.sp_outside.specs.Told.{held_after, before_taking, IsAtEnd};
 ghost use Rattle.sp_outside.specs.Causes.{HasSinkCause};
 ghost use Rattle.sling_dispatch.specs.Streams.{HasTaken};
 ghost use Rattle.sling_dispatch.specs.InnerEndings.{HasReadCause};
@@ -59,8 +59,8 @@ pub fn read_whole<S: Source>(
 
 // Writes all of the bytes. After a fault a prefix of them was written.
 pub fn write_all<K: Sink>(sink: &mut K, bytes: &[u8]) -> Result<(), SinkFault>
-    ensures ok { OnOk result (K.held sink.new ≡ added (K.held sink.old) bytes.now) }
-    ensures err { OnErr result ((n : ℕ) × (K.held sink.new ≡ added (K.held sink.old) (take n bytes.now))) }
+    ensures ok { OnOk result (K.held sink.new ≡ held_after (K.held sink.old) bytes.now) }
+    ensures err { OnErr result ((n : ℕ) × (K.held sink.new ≡ held_after (K.held sink.old) (take n bytes.now))) }
     ensures cause { HasSinkCause (K.faults sink.old) (K.faults sink.new) result }
 {
     let mut at = 0;

@@ -4,8 +4,8 @@ use Rattle.std.proofs.lemmas.Bool.Decides.{nat_tests}
 use Rattle.std.proofs.lemmas.List.{take-append-drop, map-append, length-map}
 use Rattle.std.specs.Cmp.Lexicographic.{bytes_decides, pointwise}
 use Rattle.std.specs.List.{list_all, list_any, starts_with}
-use Rattle.sp_base.specs.Paths.{is_path, is_empty, is_long, seg_ok, mangled_of, unless_fault, is_mangled, is_namespaced, mangled_seg, mangled, unmangled_seg, unmangled, pieces}
-use Rattle.sp_base.specs.PathTexts.{spelled, segs_in}
+use Rattle.sp_base.specs.Paths.{is_path, is_empty, is_long, seg_ok, mangled_of, unless_fault, is_mangled, is_namespaced, mangled_seg, mangled_segs, unmangled_seg, unmangled_segs, pieces}
+use Rattle.sp_base.specs.PathTexts.{spelling_of, segs_in}
 use Rattle.sp_base.proofs.PathLemmas.{both, first, second, lacks_slash, lacks_of, is_not, or_first, or_second, true_test, small_back, no_fault, mangled_on, pieces_lack}
 use Rattle.sp_base.proofs.PathText.{spelled-more, pieces-spelled}
 
@@ -120,15 +120,15 @@ one_seg seg = unmangled_cases (λ s. mangled_seg (unmangled_seg s) ≡ mangled_s
     (λ x more. ap mangled_seg (nt_back x more) ∙ nt_mangled x more) (λ x more. ap mangled_seg (cq_back x more) ∙ cq_mangled x more)
     (λ e. ap mangled_seg e)
 
-pub back : (path : List (List ℕ)) → unmangled (mangled path) ≡ unmangled path
+pub back : (path : List (List ℕ)) → unmangled_segs (mangled_segs path) ≡ unmangled_segs path
 back [] = refl
 back (seg ∷ path) = λ i. back_seg seg i ∷ back path i
 
-pub again : (path : List (List ℕ)) → mangled (mangled path) ≡ mangled path
+pub again : (path : List (List ℕ)) → mangled_segs (mangled_segs path) ≡ mangled_segs path
 again [] = refl
 again (seg ∷ path) = λ i. again_seg seg i ∷ again path i
 
-pub one : (path : List (List ℕ)) → mangled (unmangled path) ≡ mangled path
+pub one : (path : List (List ℕ)) → mangled_segs (unmangled_segs path) ≡ mangled_segs path
 one [] = refl
 one (seg ∷ path) = λ i. one_seg seg i ∷ one path i
 
@@ -139,27 +139,27 @@ seg_lacks seg = mangled_cases (λ s. T (lacks_slash s) → T (lacks_slash (mangl
     (λ x more h. subst (λ (s : List ℕ). T (lacks_slash s)) (sym (nt_mangled x more)) h) (λ x more h. subst (λ (s : List ℕ). T (lacks_slash s)) (sym (cq_mangled x more)) h)
     (λ e h. subst (λ (s : List ℕ). T (lacks_slash s)) (sym e) h)
 
-pub mangled_lacks : (segs : List (List ℕ)) → T (list_all lacks_slash segs) → T (list_all lacks_slash (mangled segs))
+pub mangled_lacks : (segs : List (List ℕ)) → T (list_all lacks_slash segs) → T (list_all lacks_slash (mangled_segs segs))
 mangled_lacks [] h = tt
 mangled_lacks (seg ∷ segs) h = both _ _ (seg_lacks seg (first _ _ h)) (mangled_lacks segs (second _ _ h))
 
 -- the segments of the mangled text
-pub mangled_in : (text rest : List ℕ) → text ≡ spelled (mangled (pieces rest)) → (segs_in text ≡ mangled (pieces rest)) × (spelled (segs_in text) ≡ text)
+pub mangled_in : (text rest : List ℕ) → text ≡ spelling_of (mangled_segs (pieces rest)) → (segs_in text ≡ mangled_segs (pieces rest)) × (spelling_of (segs_in text) ≡ text)
 unfolding segs_in
 mangled_in text rest e =
-    let same : segs_in text ≡ mangled (pieces rest) = ap segs_in e ∙ ap (drop 1) (pieces-spelled (mangled (pieces rest)) (mangled_lacks (pieces rest) (pieces_lack rest))) in
-    (same, ap spelled same ∙ sym e)
+    let same : segs_in text ≡ mangled_segs (pieces rest) = ap segs_in e ∙ ap (drop 1) (pieces-spelled (mangled_segs (pieces rest)) (mangled_lacks (pieces rest) (pieces_lack rest))) in
+    (same, ap spelling_of same ∙ sym e)
 
 -- one piece more
-pub mangled-push : (seen : List (Bor (List ℕ))) (piece : Bor (List ℕ)) (text more : List ℕ) → text ≡ spelled (mangled (map (λ s. s.now) seen)) → more ≡ (text ++ 47 ∷ []) ++ mangled_seg piece.now
-    → more ≡ spelled (mangled (map (λ s. s.now) (seen ++ piece ∷ [])))
+pub mangled-push : (seen : List (Bor (List ℕ))) (piece : Bor (List ℕ)) (text more : List ℕ) → text ≡ spelling_of (mangled_segs (map (λ s. s.now) seen)) → more ≡ (text ++ 47 ∷ []) ++ mangled_seg piece.now
+    → more ≡ spelling_of (mangled_segs (map (λ s. s.now) (seen ++ piece ∷ [])))
 mangled-push seen piece text more e is =
     let segs = map (λ s. s.now) seen in
-    is ∙ ap (λ front. (front ++ 47 ∷ []) ++ mangled_seg piece.now) e ∙ sym (spelled-more (mangled segs) (mangled_seg piece.now))
-    ∙ ap spelled (sym (ap mangled (map-append (λ s. s.now) seen (piece ∷ [])) ∙ map-append mangled_seg segs (piece.now ∷ [])))
+    is ∙ ap (λ front. (front ++ 47 ∷ []) ++ mangled_seg piece.now) e ∙ sym (spelled-more (mangled_segs segs) (mangled_seg piece.now))
+    ∙ ap spelling_of (sym (ap mangled_segs (map-append (λ s. s.now) seen (piece ∷ [])) ∙ map-append mangled_seg segs (piece.now ∷ [])))
 
 -- segments without a slash are those of their spelling
-pub segs_back : (segs : List (List ℕ)) → T (list_all lacks_slash segs) → segs_in (spelled segs) ≡ segs
+pub segs_back : (segs : List (List ℕ)) → T (list_all lacks_slash segs) → segs_in (spelling_of segs) ≡ segs
 unfolding segs_in
 segs_back segs h = ap (drop 1) (pieces-spelled segs h)
 
@@ -179,12 +179,12 @@ ok_after seg = mangled_cases (λ s. T (seg_ok s) → is_long (mangled_seg s) ≡
     (λ x more h long. subst (λ (s : List ℕ). T (seg_ok s)) (sym (cq_mangled x more)) (full_ok 95 (codes "cq_" ++ x ∷ more) refl (lacks_of (codes "cq:" ++ x ∷ more) h) (ap is_long (sym (cq_mangled x more)) ∙ long)))
     (λ e h long. subst (λ (s : List ℕ). T (seg_ok s)) (sym e) h)
 
-all_after : (segs : List (List ℕ)) → T (list_all seg_ok segs) → list_any is_long (mangled segs) ≡ false → T (list_all seg_ok (mangled segs))
+all_after : (segs : List (List ℕ)) → T (list_all seg_ok segs) → list_any is_long (mangled_segs segs) ≡ false → T (list_all seg_ok (mangled_segs segs))
 all_after [] h long = tt
 all_after (seg ∷ segs) h long = both _ _ (ok_after seg (first _ _ h) (or_first _ _ long)) (all_after segs (second _ _ h) (or_second _ _ long))
 
-pub fits : (path : List (List ℕ)) → is_path path ≡ true → list_any is_long (mangled path) ≡ false → mangled_of path ≡ Ok (mangled path)
+pub fits : (path : List (List ℕ)) → is_path path ≡ true → list_any is_long (mangled_segs path) ≡ false → mangled_of path ≡ Ok (mangled_segs path)
 fits path h long =
     let t = true_test (is_path path) h in
-    let few : length (mangled path) ≤ 64 = omega (arith, small_back (length path) (second _ _ t), length-map path mangled_seg) in
-    ap (λ fault. unless_fault fault (mangled path)) (no_fault (mangled path) (all_after path (first _ _ t) long) few)
+    let few : length (mangled_segs path) ≤ 64 = omega (arith, small_back (length path) (second _ _ t), length-map path mangled_seg) in
+    ap (λ fault. unless_fault fault (mangled_segs path)) (no_fault (mangled_segs path) (all_after path (first _ _ t) long) few)

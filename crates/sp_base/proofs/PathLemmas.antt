@@ -8,7 +8,7 @@ use Rattle.std.specs.List.{list_all, list_any, position, position_from, onto_fir
 use Rattle.std.specs.Option.{MatchOption, IfNone}
 use Rattle.sp_base.specs.declared.path.PathFault.{PathFault}
 use Rattle.sp_base.specs.declared.path.PathFault.TheVariants.{EmptySegment, DotSegment, TooDeep}
-use Rattle.sp_base.specs.Paths.{seg_ok, is_empty, is_dots, is_long, has_slash, pieces, fault_of, size_fault, is_path, path_of, child_of, checked, unless_fault, is_mangled, unmangled_by, unmangled_seg}
+use Rattle.sp_base.specs.Paths.{seg_ok, is_empty, is_dots, is_long, has_slash, pieces, fault_of, size_fault, is_path, path_of, child_of, path_or_fault, unless_fault, is_mangled, unmangled_by, unmangled_seg}
 
 pub both : (a b : Bool) → T a → T b → T (a && b)
 both true b p q = q
@@ -137,8 +137,8 @@ path_from segs h none =
 pub test_eq : (a b : ℕ) → (a == b) ≡ true → a ≡ b
 test_eq a b e = grind (arith, nat_tests)
 
-pub of_pieces : (text rest : List ℕ) → text ≡ 47 ∷ rest → is_empty rest ≡ false → path_of text ≡ checked (pieces rest)
-of_pieces text rest e full = ap path_of e ∙ ap (λ t. cond t (Ok []) (checked (pieces rest))) full
+pub of_pieces : (text rest : List ℕ) → text ≡ 47 ∷ rest → is_empty rest ≡ false → path_of text ≡ path_or_fault (pieces rest)
+of_pieces text rest e full = ap path_of e ∙ ap (λ t. cond t (Ok []) (path_or_fault (pieces rest))) full
 
 -- a text without a slash is its one piece
 pub pieces_whole : (name : List ℕ) → has_slash name ≡ false → pieces name ≡ name ∷ []
@@ -193,7 +193,7 @@ pub child_fits : (segs : List (List ℕ)) (name : List ℕ) → is_path segs ≡
 child_fits segs name path ok less =
     let each = all-append seg_ok segs (name ∷ []) (first _ _ (true_test (is_path segs) path)) (both _ _ (true_test (seg_ok name) ok) tt) in
     let small : length (segs ++ name ∷ []) ≤ 64 = omega (arith, length-append segs (name ∷ []), less) in
-    ap (λ more. checked (segs ++ more)) (ok_whole name ok) ∙ ap (λ fault. unless_fault fault (segs ++ name ∷ [])) (no_fault (segs ++ name ∷ []) each small)
+    ap (λ more. path_or_fault (segs ++ more)) (ok_whole name ok) ∙ ap (λ fault. unless_fault fault (segs ++ name ∷ [])) (no_fault (segs ++ name ∷ []) each small)
 
 pub no_fault_left : (segs : List (List ℕ)) (name : List ℕ) (e : PathFault) → is_path segs ≡ true → child_of segs name ≡ Err e → seg_ok name ≡ true → length segs < 64 → ⊥
 no_fault_left segs name e path h ok less = cc (h, child_fits segs name path ok less)

@@ -8,7 +8,7 @@ use Rattle.std.specs.List.{list_all, onto_first, starts_with}
 use Rattle.std.specs.Ordering.{nat_cmp, ordering_then}
 use Rattle.std.specs.declared.cmp.Ordering.TheVariants.{Less, Equal, Greater}
 use Rattle.sp_base.specs.Paths.{pieces, by_path, is_under}
-use Rattle.sp_base.specs.PathTexts.{segs_in, spelled, text_order, byte_order, ends_segment, text_under}
+use Rattle.sp_base.specs.PathTexts.{segs_in, spelling_of, text_order, byte_order, ends_segment, text_under}
 use Rattle.sp_base.proofs.PathLemmas.{lacks_slash}
 use Rattle.sp_base.proofs.PathText.{pieces_of, pieces-spelled}
 
@@ -60,7 +60,7 @@ pieces_order [] (y ∷ b) = end_below y (y == 47) (pieces b) (some_piece b)
 pieces_order (x ∷ a) [] = above_end x (x == 47) (pieces a) (some_piece a)
 pieces_order (x ∷ a) (y ∷ b) = step x y (pieces a) (pieces b) (text_order a b) (some_piece a) (some_piece b) (pieces_order a b)
 
-pub paths_order : (a b : List ℕ) → spelled (segs_in a) ≡ a → spelled (segs_in b) ≡ b → text_order a b ≡ by_path (segs_in a) (segs_in b)
+pub paths_order : (a b : List ℕ) → spelling_of (segs_in a) ≡ a → spelling_of (segs_in b) ≡ b → text_order a b ≡ by_path (segs_in a) (segs_in b)
 paths_order a b e f =
     sym (pieces_order a b) ∙ ap (λ parts. by_path parts (pieces b)) (pieces_of a e) ∙ ap (λ parts. by_path ([] ∷ segs_in a) parts) (pieces_of b f)
 
@@ -106,14 +106,14 @@ pieces_under (x ∷ a) (y ∷ b) =
     under_step x y (pieces a) (pieces b) (text_under a b) (some_piece a) (some_piece b) (pieces_under a b)
     ∙ sym (moved (y == x) (starts_with nat_eq a b) (ends_segment (drop (length b) a)))
 
-pub paths_under : (a b : List ℕ) → spelled (segs_in a) ≡ a → spelled (segs_in b) ≡ b → text_under a b ≡ is_under (segs_in a) (segs_in b)
+pub paths_under : (a b : List ℕ) → spelling_of (segs_in a) ≡ a → spelling_of (segs_in b) ≡ b → text_under a b ≡ is_under (segs_in a) (segs_in b)
 paths_under a b e f =
     sym (pieces_under a b) ∙ ap (λ parts. starts_with (pointwise nat_eq) parts (pieces b)) (pieces_of a e) ∙ ap (λ parts. starts_with (pointwise nat_eq) ([] ∷ segs_in a) parts) (pieces_of b f)
 
 -- and so for segments without a slash
-pub segments_under : (path other : List (List ℕ)) → T (list_all lacks_slash path) → T (list_all lacks_slash other) → text_under (spelled path) (spelled other) ≡ is_under path other
+pub segments_under : (path other : List (List ℕ)) → T (list_all lacks_slash path) → T (list_all lacks_slash other) → text_under (spelling_of path) (spelling_of other) ≡ is_under path other
 segments_under path other h k =
-    sym (pieces_under (spelled path) (spelled other)) ∙ ap (λ parts. starts_with (pointwise nat_eq) parts (pieces (spelled other))) (pieces-spelled path h)
+    sym (pieces_under (spelling_of path) (spelling_of other)) ∙ ap (λ parts. starts_with (pointwise nat_eq) parts (pieces (spelling_of other))) (pieces-spelled path h)
     ∙ ap (λ parts. starts_with (pointwise nat_eq) ([] ∷ path) parts) (pieces-spelled other k)
 
 -- the order of what is left of two texts

@@ -8,8 +8,8 @@ use Rattle.std.proofs.lemmas.Option.{slice_get-get_or}
 use Rattle.std.specs.List.{list_all, onto_first}
 use Rattle.sp_base.specs.declared.path.PathFault.{PathFault}
 use Rattle.sp_base.specs.declared.path.PathFault.TheVariants.{NotAbsolute}
-use Rattle.sp_base.specs.Paths.{has_slash, is_empty, pieces, seg_ok, is_path, path_of, text_of, checked, unless_fault, fault_of, path_or_none}
-use Rattle.sp_base.specs.PathTexts.{segs_in, spelled}
+use Rattle.sp_base.specs.Paths.{has_slash, is_empty, pieces, seg_ok, is_path, path_of, text_of, path_or_fault, unless_fault, fault_of, path_or_none}
+use Rattle.sp_base.specs.PathTexts.{segs_in, spelling_of}
 use Rattle.sp_base.proofs.PathLemmas.{lacks_slash, pieces_whole, pieces_lack, path_from, path_pieces, path_ok, made_is, no_fault, small_back, second, true_test, test_eq}
 use Rattle.sp_base.proofs.PathText.{pieces-spelled, spelled-pieces}
 
@@ -70,17 +70,17 @@ last_lacking text none = ap (λ ps. slice_get (drop 1 ps) (length (drop 1 ps) - 
 -- ---- paths and their texts
 
 -- the pieces of a path are without a fault
-pub checked_path : (segs : List (List ℕ)) → is_path segs ≡ true → checked segs ≡ Ok segs
+pub checked_path : (segs : List (List ℕ)) → is_path segs ≡ true → path_or_fault segs ≡ Ok segs
 checked_path segs h = ap (λ fault. unless_fault fault segs) (no_fault segs (path_ok segs h) (small_back (length segs) (second _ _ (true_test (is_path segs) h))))
 
 not_none : (n : ℕ) → (suc n == 0) ≡ false
 not_none n = grind (arith, nat_tests)
 
-read_full : (seg : List ℕ) (segs : List (List ℕ)) → seg_ok seg ≡ true → is_path (seg ∷ segs) ≡ true → cond (is_empty (seg ++ spelled segs)) (Ok []) (checked (pieces (seg ++ spelled segs))) ≡ Ok (seg ∷ segs)
+read_full : (seg : List ℕ) (segs : List (List ℕ)) → seg_ok seg ≡ true → is_path (seg ∷ segs) ≡ true → cond (is_empty (seg ++ spelling_of segs)) (Ok []) (path_or_fault (pieces (seg ++ spelling_of segs))) ≡ Ok (seg ∷ segs)
 read_full [] segs ok h = absurd (true_test _ ok)
 read_full (b ∷ seg) segs ok h =
-    let some : is_empty (b ∷ seg ++ spelled segs) ≡ false = not_none (length (seg ++ spelled segs)) in
-    ap (λ t. cond t (Ok []) (checked (pieces (b ∷ seg ++ spelled segs)))) some ∙ ap checked (ap (drop 1) (pieces-spelled ((b ∷ seg) ∷ segs) (path_pieces ((b ∷ seg) ∷ segs) h))) ∙ checked_path ((b ∷ seg) ∷ segs) h
+    let some : is_empty (b ∷ seg ++ spelling_of segs) ≡ false = not_none (length (seg ++ spelling_of segs)) in
+    ap (λ t. cond t (Ok []) (path_or_fault (pieces (b ∷ seg ++ spelling_of segs)))) some ∙ ap path_or_fault (ap (drop 1) (pieces-spelled ((b ∷ seg) ∷ segs) (path_pieces ((b ∷ seg) ∷ segs) h))) ∙ checked_path ((b ∷ seg) ∷ segs) h
 
 head_ok : (a b : Bool) → T (a && b) → a ≡ true
 head_ok true b h = refl
@@ -93,11 +93,11 @@ read_back (seg ∷ segs) h = read_full seg segs (head_ok (seg_ok seg) (list_all 
 made_text : (fault : Option PathFault) (segs path : List (List ℕ)) (text : List ℕ) → unless_fault fault segs ≡ Ok path → text_of segs ≡ text → text_of path ≡ text
 made_text fault segs path text e h = ap text_of (made_is fault segs path e) ∙ h
 
-full_text : (ps : List (List ℕ)) (text : List ℕ) → 0 < length ps → spelled ps ≡ text → text_of ps ≡ text
+full_text : (ps : List (List ℕ)) (text : List ℕ) → 0 < length ps → spelling_of ps ≡ text → text_of ps ≡ text
 full_text [] text h e = absurd (omega (arith, h))
 full_text (p ∷ ps) text h e = e
 
-spells_rest : (empty : Bool) (rest : List ℕ) (path : List (List ℕ)) → is_empty rest ≡ empty → cond empty (Ok []) (checked (pieces rest)) ≡ Ok path → text_of path ≡ 47 ∷ rest
+spells_rest : (empty : Bool) (rest : List ℕ) (path : List (List ℕ)) → is_empty rest ≡ empty → cond empty (Ok []) (path_or_fault (pieces rest)) ≡ Ok path → text_of path ≡ 47 ∷ rest
 spells_rest true [] path is e = ap text_of (made_is None [] path e)
 spells_rest true (b ∷ rest) path is e = absurd (grind (arith, nat_tests))
 spells_rest false rest path is e = made_text (fault_of (pieces rest)) (pieces rest) path (47 ∷ rest) e (full_text (pieces rest) (47 ∷ rest) (some_piece rest) (spelled-pieces rest))
@@ -105,7 +105,7 @@ spells_rest false rest path is e = made_text (fault_of (pieces rest)) (pieces re
 pub spells_its_text : (text : List ℕ) (path : List (List ℕ)) → path_of text ≡ Ok path → text_of path ≡ text
 spells_its_text [] path e = absurd (cc e)
 spells_its_text (b ∷ rest) path e =
-    elim (b == 47) as (λ t. (b == 47) ≡ t → cond t (cond (is_empty rest) (Ok []) (checked (pieces rest))) (Err NotAbsolute) ≡ Ok path → text_of path ≡ b ∷ rest) [
+    elim (b == 47) as (λ t. (b == 47) ≡ t → cond t (cond (is_empty rest) (Ok []) (path_or_fault (pieces rest))) (Err NotAbsolute) ≡ Ok path → text_of path ≡ b ∷ rest) [
       | true ↦ λ is h. spells_rest (is_empty rest) rest path refl h ∙ ap (λ n. n ∷ rest) (sym (test_eq b 47 is))
       | false ↦ λ is h. absurd (cc h)
     ] refl e
@@ -114,14 +114,14 @@ valid_made : (fault : Option PathFault) (segs path : List (List ℕ)) → fault_
 valid_made None segs path none lacks e = ap is_path (made_is None segs path e) ∙ path_from segs lacks none
 valid_made (Some fault) segs path none lacks e = absurd (cc e)
 
-valid_rest : (empty : Bool) (rest : List ℕ) (path : List (List ℕ)) → cond empty (Ok []) (checked (pieces rest)) ≡ Ok path → is_path path ≡ true
+valid_rest : (empty : Bool) (rest : List ℕ) (path : List (List ℕ)) → cond empty (Ok []) (path_or_fault (pieces rest)) ≡ Ok path → is_path path ≡ true
 valid_rest true rest path e = ap is_path (made_is None [] path e)
 valid_rest false rest path e = valid_made (fault_of (pieces rest)) (pieces rest) path refl (pieces_lack rest) e
 
 pub reads_valid : (text : List ℕ) (path : List (List ℕ)) → path_of text ≡ Ok path → is_path path ≡ true
 reads_valid [] path e = absurd (cc e)
 reads_valid (b ∷ rest) path e =
-    elim (b == 47) as (λ t. cond t (cond (is_empty rest) (Ok []) (checked (pieces rest))) (Err NotAbsolute) ≡ Ok path → is_path path ≡ true) [
+    elim (b == 47) as (λ t. cond t (cond (is_empty rest) (Ok []) (path_or_fault (pieces rest))) (Err NotAbsolute) ≡ Ok path → is_path path ≡ true) [
       | true ↦ λ h. valid_rest (is_empty rest) rest path h
       | false ↦ λ h. absurd (cc h)
     ] e
@@ -130,9 +130,9 @@ reads_valid (b ∷ rest) path e =
 ok_err : (segs : List (List ℕ)) (e : PathFault) → Ok segs ≡ Err e → ⊥
 ok_err segs e h = cc h
 
-fault_left : (b : Bool) (segs : List (List ℕ)) (e : PathFault) → is_path segs ≡ b → checked segs ≡ Err e → None ≡ cond b (Some segs) None
+fault_left : (b : Bool) (segs : List (List ℕ)) (e : PathFault) → is_path segs ≡ b → path_or_fault segs ≡ Err e → None ≡ cond b (Some segs) None
 fault_left true segs e is h = absurd (ok_err segs e (sym (checked_path segs is) ∙ h))
 fault_left false segs e is h = refl
 
-pub no_path : (segs : List (List ℕ)) (e : PathFault) → checked segs ≡ Err e → None ≡ path_or_none segs
+pub no_path : (segs : List (List ℕ)) (e : PathFault) → path_or_fault segs ≡ Err e → None ≡ path_or_none segs
 no_path segs e h = fault_left (is_path segs) segs e refl h

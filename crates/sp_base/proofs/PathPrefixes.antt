@@ -8,8 +8,8 @@ use Rattle.std.proofs.lemmas.List.Concat.{flat_map-append}
 use Rattle.std.proofs.lemmas.List.Folds.{length-flat_map-take}
 use Rattle.std.specs.Cmp.Lexicographic.{bytes_decides, pointwise}
 use Rattle.std.specs.List.{list_all}
-use Rattle.sp_base.specs.Paths.{is_empty, pieces, is_path, path_of, parent_of, text_of, is_under, checked, fault_of, has_slash}
-use Rattle.sp_base.specs.PathTexts.{spelled}
+use Rattle.sp_base.specs.Paths.{is_empty, pieces, is_path, path_of, parent_of, text_of, is_under, path_or_fault, fault_of, has_slash}
+use Rattle.sp_base.specs.PathTexts.{spelling_of}
 use Rattle.sp_base.proofs.PathLemmas.{lacks_slash, path_pieces, made_is, all-append, all-take, both, not_is, is_not, first, second, or_first, or_second}
 use Rattle.sp_base.proofs.PathText.{pieces-spelled}
 
@@ -19,8 +19,8 @@ record IsEnd (segs : List (List ℕ)) (k : ℕ) : Type 0 where
   pub i : ℕ
   pub there : j < length segs
   pub within : i ≤ length (get_or segs j [])
-  pub is : take k (spelled segs) ≡ spelled (take j segs ++ take i (get_or segs j []) ∷ [])
-  pub size : k ≡ length (spelled (take j segs)) + 1 + i
+  pub is : take k (spelling_of segs) ≡ spelling_of (take j segs ++ take i (get_or segs j []) ∷ [])
+  pub size : k ≡ length (spelling_of (take j segs)) + 1 + i
 
 end_here : (seg : List ℕ) (segs : List (List ℕ)) (k i : ℕ) → k ≡ suc i → i ≤ length seg → IsEnd (seg ∷ segs) k
 end_here seg segs k i e h = record {
@@ -28,7 +28,7 @@ end_here seg segs k i e h = record {
   i = i;
   there = omega arith;
   within = h;
-  is = ap (λ n. take n (spelled (seg ∷ segs))) e ∙ ap (λ t. 47 ∷ t) (take-append-le i seg (spelled segs) h ∙ sym (append-nil (take i seg)));
+  is = ap (λ n. take n (spelling_of (seg ∷ segs))) e ∙ ap (λ t. 47 ∷ t) (take-append-le i seg (spelling_of segs) h ∙ sym (append-nil (take i seg)));
   size = omega (arith, e);
 }
 
@@ -38,16 +38,16 @@ end_later seg segs k n e r = record {
   i = r.i;
   there = omega (arith, r.there);
   within = r.within;
-  is = ap (λ m. take m (spelled (seg ∷ segs))) e ∙ ap (λ t. 47 ∷ t) (take-append-add seg (spelled segs) n ∙ ap (λ t. seg ++ t) r.is);
-  size = omega (arith, e, r.size, length-append seg (spelled (take r.j segs)));
+  is = ap (λ m. take m (spelling_of (seg ∷ segs))) e ∙ ap (λ t. 47 ∷ t) (take-append-add seg (spelling_of segs) n ∙ ap (λ t. seg ++ t) r.is);
+  size = omega (arith, e, r.size, length-append seg (spelling_of (take r.j segs)));
 }
 
-ends : (segs : List (List ℕ)) (k : ℕ) → 0 < k → k ≤ length (spelled segs) → IsEnd segs k
+ends : (segs : List (List ℕ)) (k : ℕ) → 0 < k → k ≤ length (spelling_of segs) → IsEnd segs k
 ends [] k some h = absurd (omega (arith, some, h))
 ends (seg ∷ segs) k some h = ⊎_elim
     (λ (less : k < length seg + 2). end_here seg segs k (k - 1) (omega (arith, some)) (omega (arith, less)))
     (λ (more : length seg + 2 ≤ k). end_later seg segs k (k - 1 - length seg) (omega (arith, more))
-    (ends segs (k - 1 - length seg) (omega (arith, more)) (omega (arith, h, length-append seg (spelled segs)))))
+    (ends segs (k - 1 - length seg) (omega (arith, more)) (omega (arith, h, length-append seg (spelling_of segs)))))
     (cases_lt k (length seg + 2))
 
 lacks-take : (n : ℕ) (seg : List ℕ) → has_slash seg ≡ false → has_slash (take n seg) ≡ false
@@ -67,17 +67,17 @@ end_lacks segs j i h =
     (both _ _ (is_not _ (lacks-take i (get_or segs j []) (lacks_at segs j (path_pieces segs h)))) tt)
 
 -- what is read of such a text: the root, of a slash alone, or its segments
-read_cases : (b : Bool) (qs path : List (List ℕ)) → cond b (Ok []) (checked qs) ≡ Ok path → ((b ≡ true) × (path ≡ [])) ⊎ (path ≡ qs)
+read_cases : (b : Bool) (qs path : List (List ℕ)) → cond b (Ok []) (path_or_fault qs) ≡ Ok path → ((b ≡ true) × (path ≡ [])) ⊎ (path ≡ qs)
 read_cases true qs path e = inl (refl, made_is None [] path e)
 read_cases false qs path e = inr (made_is (fault_of qs) qs path e)
 
 none_after : (rest : List ℕ) → is_empty rest ≡ true → length (47 ∷ rest) ≡ 1
 none_after rest e = grind (arith, nat_tests)
 
-read_of : (qs path : List (List ℕ)) → 0 < length qs → T (list_all lacks_slash qs) → path_of (spelled qs) ≡ Ok path → ((length (spelled qs) ≡ 1) × (path ≡ [])) ⊎ (path ≡ qs)
+read_of : (qs path : List (List ℕ)) → 0 < length qs → T (list_all lacks_slash qs) → path_of (spelling_of qs) ≡ Ok path → ((length (spelling_of qs) ≡ 1) × (path ≡ [])) ⊎ (path ≡ qs)
 read_of [] path some h e = absurd (omega (arith, some))
 read_of (q ∷ qs) path some h e =
-    let rest = q ++ spelled qs in
+    let rest = q ++ spelling_of qs in
     let parts : pieces rest ≡ q ∷ qs = ap (drop 1) (pieces-spelled (q ∷ qs) h) in
     ⊎_elim
     (λ (r : (is_empty rest ≡ true) × (path ≡ [])). inl (none_after rest r.0, r.1))
@@ -96,7 +96,7 @@ parent_end segs w =
     let n : length (segs ++ w ∷ []) - 1 ≡ length segs = omega (arith, length-append segs (w ∷ [])) in
     ap (λ m. take m (segs ++ w ∷ [])) n ∙ take-append_seam segs (w ∷ [])
 
-text_is : (segs : List (List ℕ)) → 0 < length segs → text_of segs ≡ spelled segs
+text_is : (segs : List (List ℕ)) → 0 < length segs → text_of segs ≡ spelling_of segs
 text_is [] h = absurd (omega (arith, h))
 text_is (seg ∷ segs) h = refl
 
@@ -109,13 +109,13 @@ record IsRead (path : List (List ℕ)) (k : ℕ) (read : List (List ℕ)) : Type
   pub end : IsEnd path k
   pub path_is : ((k ≡ 1) × (read ≡ [])) ⊎ (read ≡ take end.j path ++ take end.i (get_or path end.j []) ∷ [])
 
-read_by : (path : List (List ℕ)) (k : ℕ) (read : List (List ℕ)) → is_path path ≡ true → k ≤ length (spelled path) → IsEnd path k → path_of (take k (spelled path)) ≡ Ok read → IsRead path k read
+read_by : (path : List (List ℕ)) (k : ℕ) (read : List (List ℕ)) → is_path path ≡ true → k ≤ length (spelling_of path) → IsEnd path k → path_of (take k (spelling_of path)) ≡ Ok read → IsRead path k read
 read_by path k read h within r e =
     let qs = take r.j path ++ take r.i (get_or path r.j []) ∷ [] in
     record {
       end = r;
       path_is = ⊎_elim
-          (λ (root : (length (spelled qs) ≡ 1) × (read ≡ [])). inl (sym (length-take-le k (spelled path) within) ∙ ap length r.is ∙ root.0, root.1))
+          (λ (root : (length (spelling_of qs) ≡ 1) × (read ≡ [])). inl (sym (length-take-le k (spelling_of path) within) ∙ ap length r.is ∙ root.0, root.1))
           (λ (same : read ≡ qs). inr same)
           (read_of qs read (omega (arith, length-append (take r.j path) (take r.i (get_or path r.j []) ∷ []))) (end_lacks path r.j r.i h) (ap path_of (sym r.is) ∙ e));
     }
@@ -138,7 +138,7 @@ end_within path k n r less =
     let parts : take j (take n path) ≡ take j path = take-take j n path (omega (arith, less)) in
     let here : get_or (take n path) j [] ≡ get_or path j [] = get_or-take n path j [] less in
     let sum = length-flat_map-take (λ (s : List ℕ). 47 ∷ s) (take n path) j [] some in
-    omega (arith, sum, ap (λ segs. length (spelled segs)) parts, ap (λ (s : List ℕ). length (47 ∷ s)) here, r.size, r.within, ap length (text_is (take n path) (omega (arith, some))))
+    omega (arith, sum, ap (λ segs. length (spelling_of segs)) parts, ap (λ (s : List ℕ). length (47 ∷ s)) here, r.size, r.within, ap length (text_is (take n path) (omega (arith, some))))
 
 read_within : (path : List (List ℕ)) (k n : ℕ) (read : List (List ℕ)) → IsRead path k read → length read ≤ n → k ≤ length (text_of (take n path))
 read_within path k n read r few = ⊎_elim
@@ -169,24 +169,24 @@ prefix_within (seg ∷ segs) read (suc k) n h within e few =
 
 -- ---- the first segments
 
-spelled_parts : (path : List (List ℕ)) (n : ℕ) → spelled path ≡ spelled (take n path) ++ spelled (drop n path)
-spelled_parts path n = ap spelled (sym (take-append-drop n path)) ∙ flat_map-append (λ s. 47 ∷ s) (take n path) (drop n path)
+spelled_parts : (path : List (List ℕ)) (n : ℕ) → spelling_of path ≡ spelling_of (take n path) ++ spelling_of (drop n path)
+spelled_parts path n = ap spelling_of (sym (take-append-drop n path)) ∙ flat_map-append (λ s. 47 ∷ s) (take n path) (drop n path)
 
 pub first_begins : (path : List (List ℕ)) (n : ℕ) → 0 < n → text_of (take n path) ≡ take (length (text_of (take n path))) (text_of path)
 first_begins path zero h = absurd (omega (arith, h))
 first_begins [] (suc n) h = refl
 first_begins (seg ∷ segs) (suc n) h =
     let path = seg ∷ segs in
-    sym (ap (take (length (spelled (take (suc n) path)))) (spelled_parts path (suc n)) ∙ take-append_seam (spelled (take (suc n) path)) (spelled (drop (suc n) path)))
+    sym (ap (take (length (spelling_of (take (suc n) path)))) (spelled_parts path (suc n)) ∙ take-append_seam (spelling_of (take (suc n) path)) (spelling_of (drop (suc n) path)))
 
-seam : (text : List ℕ) (segs : List (List ℕ)) → length text < length (text ++ spelled segs) → get_or (text ++ spelled segs) (length text) 0 ≡ 47
+seam : (text : List ℕ) (segs : List (List ℕ)) → length text < length (text ++ spelling_of segs) → get_or (text ++ spelling_of segs) (length text) 0 ≡ 47
 seam text [] h = absurd (omega (arith, h, length-append text []))
-seam text (seg ∷ segs) h = get_or-append_seam text 47 (seg ++ spelled segs) 0
+seam text (seg ∷ segs) h = get_or-append_seam text 47 (seg ++ spelling_of segs) 0
 
 pub first_slash : (path : List (List ℕ)) (n : ℕ) → 0 < n → length (text_of (take n path)) < length (text_of path) → get_or (text_of path) (length (text_of (take n path))) 0 ≡ 47
 first_slash path zero h less = absurd (omega (arith, h))
 first_slash [] (suc n) h less = absurd (omega (arith, less))
 first_slash (seg ∷ segs) (suc n) h less =
     let path = seg ∷ segs in
-    let front = spelled (take (suc n) path) in
+    let front = spelling_of (take (suc n) path) in
     ap (λ t. get_or t (length front) 0) (spelled_parts path (suc n)) ∙ seam front (drop (suc n) path) (omega (arith, less, ap length (spelled_parts path (suc n))))

@@ -17,8 +17,8 @@ abbrev pub fault_after : ℕ → List (List ℕ) → Option PathFault
 fault_after before parts = if list_any is_empty parts then Some EmptySegment else (if list_any is_dots parts then Some DotSegment else size_fault (position_from is_long before parts) (before + length parts))
 
 -- a slash before each segment: a path's text in memory, empty for the root
-abbrev pub spelled : List (List ℕ) → List ℕ
-spelled segs = flat_map (λ s. 47 ∷ s) segs
+abbrev pub spelling_of : List (List ℕ) → List ℕ
+spelling_of segs = flat_map (λ s. 47 ∷ s) segs
 
 -- segments without a slash, which a text with a slash before each keeps apart
 abbrev pub lack_slashes : List (List ℕ) → Bool
@@ -31,7 +31,7 @@ segs_in text = drop 1 (pieces text)
 -- a text that spells a path
 pub record IsPathText (text : List ℕ) : Type 0 where
   pub valid : IsTrue (is_path (segs_in text))
-  pub whole : spelled (segs_in text) ≡ text
+  pub whole : spelling_of (segs_in text) ≡ text
 
 -- bytes that differ, where a slash is below every other
 abbrev pub byte_order : ℕ → ℕ → Ordering

@@ -62,8 +62,8 @@ unless_fault None segs = Ok segs
 unless_fault (Some fault) segs = Err fault
 
 -- the path of these pieces
-abbrev pub checked : List (List ℕ) → Result (List (List ℕ)) PathFault
-checked segs = unless_fault (fault_of segs) segs
+abbrev pub path_or_fault : List (List ℕ) → Result (List (List ℕ)) PathFault
+path_or_fault segs = unless_fault (fault_of segs) segs
 
 -- the pieces of a text between its slashes
 abbrev pub pieces : List ℕ → List (List ℕ)
@@ -72,15 +72,15 @@ pieces text = slice_split (λ b. b == 47) text
 -- the path that a text spells: `/`, or a slash before each segment
 abbrev pub path_of : List ℕ → Result (List (List ℕ)) PathFault
 path_of [] = Err NotAbsolute
-path_of (b ∷ text) = if b == 47 then (if is_empty text then Ok [] else checked (pieces text)) else Err NotAbsolute
+path_of (b ∷ text) = if b == 47 then (if is_empty text then Ok [] else path_or_fault (pieces text)) else Err NotAbsolute
 
 -- the path with a name after it
 abbrev pub child_of : List (List ℕ) → List ℕ → Result (List (List ℕ)) PathFault
-child_of segs name = checked (segs ++ pieces name)
+child_of segs name = path_or_fault (segs ++ pieces name)
 
 -- one path after another
 abbrev pub join_of : List (List ℕ) → List (List ℕ) → Result (List (List ℕ)) PathFault
-join_of segs rest = checked (segs ++ rest)
+join_of segs rest = path_or_fault (segs ++ rest)
 
 -- the path without its last segment: the root's parent is the root
 abbrev pub parent_of : List (List ℕ) → List (List ℕ)
@@ -112,8 +112,8 @@ unmangled_seg seg = if is_mangled (codes "_jcr_") seg then unmangled_by (codes "
     else (if is_mangled (codes "_cq_") seg then unmangled_by (codes "_cq_") (codes "cq:") seg else seg)))
 
 -- each segment with its namespace prefix as it stands in the repository
-abbrev pub unmangled : List (List ℕ) → List (List ℕ)
-unmangled segs = map unmangled_seg segs
+abbrev pub unmangled_segs : List (List ℕ) → List (List ℕ)
+unmangled_segs segs = map unmangled_seg segs
 
 -- the segment begins with a namespace prefix such as `jcr:`, and goes on
 abbrev pub is_namespaced : List ℕ → List ℕ → Bool
@@ -131,9 +131,9 @@ mangled_seg seg = if is_namespaced (codes "jcr:") seg then mangled_by (codes "jc
     else (if is_namespaced (codes "cq:") seg then mangled_by (codes "cq:") (codes "_cq_") seg else seg)))
 
 -- each segment with its namespace prefix as it stands in URLs
-abbrev pub mangled : List (List ℕ) → List (List ℕ)
-mangled segs = map mangled_seg segs
+abbrev pub mangled_segs : List (List ℕ) → List (List ℕ)
+mangled_segs segs = map mangled_seg segs
 
 -- the mangled path: a segment of 200 bytes may become too long
 abbrev pub mangled_of : List (List ℕ) → Result (List (List ℕ)) PathFault
-mangled_of segs = checked (mangled segs)
+mangled_of segs = path_or_fault (mangled_segs segs)

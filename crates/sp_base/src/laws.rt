@@ -1,8 +1,8 @@
 //! How paths and their texts belong together: laws of the definitions, on functions that do nothing.
 ghost use Rattle.std.specs.Prelude.{◌≡◌, ◌<◌, ◌≤◌, ℕ, List, IsTrue, true, false, Ok, ◌∷◌, length, take, slice_index};
 ghost use Rattle.std.specs.List.{list_any};
-ghost use Rattle.sp_base.specs.Paths.{is_long, is_path, is_under, parent_of, path_of, pieces, text_of, mangled, mangled_of, unmangled};
-ghost use Rattle.sp_base.specs.PathTexts.{lack_slashes, segs_in, spelled, text_under};
+ghost use Rattle.sp_base.specs.Paths.{is_long, is_path, is_under, parent_of, path_of, pieces, text_of, mangled_segs, mangled_of, unmangled_segs};
+ghost use Rattle.sp_base.specs.PathTexts.{lack_slashes, segs_in, spelling_of, text_under};
 
 /// The text of a path reads as that path, and a text that reads as a path is the path's text.
 pub fn a_path_and_its_text()
@@ -23,21 +23,21 @@ pub fn the_prefixes_of_a_path()
 /// Mangling and unmangling undo each other: of a path that is unmangled, unmangling gives its mangled form back, and however a
 /// path is spelled its mangled form is one.
 pub fn mangling_and_unmangling()
-    ensures back { (path : List (List ℕ)) → unmangled (mangled path) ≡ unmangled path }
-    ensures one { (path : List (List ℕ)) → mangled (unmangled path) ≡ mangled path }
-    ensures again { (path : List (List ℕ)) → mangled (mangled path) ≡ mangled path }
+    ensures back { (path : List (List ℕ)) → unmangled_segs (mangled_segs path) ≡ unmangled_segs path }
+    ensures one { (path : List (List ℕ)) → mangled_segs (unmangled_segs path) ≡ mangled_segs path }
+    ensures again { (path : List (List ℕ)) → mangled_segs (mangled_segs path) ≡ mangled_segs path }
 
     // A mangled path is one unless a segment grew too long.
-    ensures fits { (path : List (List ℕ)) → IsTrue (is_path path) → list_any is_long (mangled path) ≡ false → mangled_of path ≡ Ok (mangled path) }
+    ensures fits { (path : List (List ℕ)) → IsTrue (is_path path) → list_any is_long (mangled_segs path) ≡ false → mangled_of path ≡ Ok (mangled_segs path) }
 {}
 
 /// Whether a path is under another is read off their texts. The pieces of any text may stand for segments, as a page's file after its
 /// folder.
 pub fn segments_and_their_spelling()
-    ensures under { (path other : List (List ℕ)) → IsTrue (lack_slashes path) → IsTrue (lack_slashes other) → text_under (spelled path) (spelled other) ≡ is_under path other }
+    ensures under { (path other : List (List ℕ)) → IsTrue (lack_slashes path) → IsTrue (lack_slashes other) → text_under (spelling_of path) (spelling_of other) ≡ is_under path other }
     ensures path { (path : List (List ℕ)) → IsTrue (is_path path) → IsTrue (lack_slashes path) }
-    ensures mangled { (path : List (List ℕ)) → IsTrue (lack_slashes path) → IsTrue (lack_slashes (mangled path)) }
+    ensures mangled { (path : List (List ℕ)) → IsTrue (lack_slashes path) → IsTrue (lack_slashes (mangled_segs path)) }
     ensures pieces { (text : List ℕ) → IsTrue (lack_slashes (pieces text)) }
-    ensures back { (path : List (List ℕ)) → IsTrue (lack_slashes path) → segs_in (spelled path) ≡ path }
-    ensures spelled { (text : List ℕ) → spelled (pieces text) ≡ 47 ∷ text }
+    ensures back { (path : List (List ℕ)) → IsTrue (lack_slashes path) → segs_in (spelling_of path) ≡ path }
+    ensures spelled { (text : List ℕ) → spelling_of (pieces text) ≡ 47 ∷ text }
 {}

@@ -6,8 +6,8 @@ ghost use Rattle.std.specs.Ordering.{nat_cmp, eq_by_cmp};
 ghost use Rattle.std.proofs.lemmas.Cmp.{eq_by_cmp_equiv};
 ghost use Rattle.std.specs.Hash as fed;
 ghost use Rattle.sp_base.specs.PathExact.{fed_alike};
-ghost use Rattle.sp_base.specs.Paths.{most_segments, seg_ok, path_of, child_of, join_of, parent_of, text_of, unmangled, mangled_of, is_under, is_path, fault_of, checked};
-ghost use Rattle.sp_base.specs.PathTexts.{segs_in, spelled};
+ghost use Rattle.sp_base.specs.Paths.{most_segments, seg_ok, path_of, child_of, join_of, parent_of, text_of, unmangled_segs, mangled_of, is_under, is_path, fault_of, path_or_fault};
+ghost use Rattle.sp_base.specs.PathTexts.{segs_in, spelling_of};
 ghost use Rattle.sp_base.specs.declared.path.PathFault.TheVariants.{NoMemory as no_memory};
 
 use crate::order::text_order;
@@ -151,7 +151,7 @@ impl Path {
     /// The path with each segment `_P_Q` read as `P:Q`, where P is jcr, sling, nt or cq and Q is not empty: Sling's mangling of
     /// namespace prefixes in URLs.
     pub fn unmangled(&self, alloc: Global) -> Mem<Path>
-        ensures { IfOk result (λ p. p ≡ unmangled self.now) }
+        ensures { IfOk result (λ p. p ≡ unmangled_segs self.now) }
     {
         match after_slash(self.text.as_str()) {
             Some(rest) => Ok(Path {
@@ -204,7 +204,7 @@ impl Path {
 
     /// A slash before each segment: the text, but empty for the root.
     pub fn spelling(&self) -> &str
-        ensures spelled { result.now ≡ spelled self.now }
+        ensures spelled { result.now ≡ spelling_of self.now }
         ensures segments { segs_in result.now ≡ self.now }
     {
         self.text.as_str()
@@ -252,7 +252,7 @@ impl Eq for Path {
 
 // The text as std hashes one.
 impl Hash for Path {
-    ghost hash_input = { λ p. fed.str (spelled p) };
+    ghost hash_input = { λ p. fed.str (spelling_of p) };
 
     ghost respects_eq = { fed_alike };
 
@@ -290,8 +290,8 @@ impl Ord for Path {
 // The path that a text spells, unless there is a fault.
 fn made(fault: Option<PathFault>, text: String) -> Result<Path, PathFault>
     requires fault { fault ≡ fault_of (segs_in (string_bytes text)) }
-    requires whole { spelled (segs_in (string_bytes text)) ≡ string_bytes text }
-    ensures { result ≡ checked (segs_in (string_bytes text)) }
+    requires whole { spelling_of (segs_in (string_bytes text)) ≡ string_bytes text }
+    ensures { result ≡ path_or_fault (segs_in (string_bytes text)) }
 {
     match fault {
         Some(fault) => Err(fault),

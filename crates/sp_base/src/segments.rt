@@ -1,8 +1,8 @@
 // The segments of a path: which texts are one, and what a text of segments spells.
 ghost use Rattle.std.specs.Prelude.{◌+◌, ◌-◌, ◌≤◌, ◌≡◌, ◌≢◌, ◌==◌, ◌∷◌, ◌++◌, List, ℕ, true, false, drop, take, length, IfOk, OnOk, IfSome, IfNone, option_copied, slice_get, string_bytes};
 ghost use Rattle.std.specs.List.{list_any, position, position_from, count_by};
-ghost use Rattle.sp_base.specs.Paths.{most_segments, seg_ok, is_empty, is_dots, is_long, has_slash, pieces, size_fault, fault_of, is_mangled, unmangled_seg, unmangled, mangled_seg, mangled};
-ghost use Rattle.sp_base.specs.PathTexts.{segs_in, spelled, is_unfit, fault_after, text_under};
+ghost use Rattle.sp_base.specs.Paths.{most_segments, seg_ok, is_empty, is_dots, is_long, has_slash, pieces, size_fault, fault_of, is_mangled, unmangled_seg, unmangled_segs, mangled_seg, mangled_segs};
+ghost use Rattle.sp_base.specs.PathTexts.{segs_in, spelling_of, is_unfit, fault_after, text_under};
 
 use crate::{Mem, PathFault};
 use std::alloc::Global;
@@ -172,7 +172,7 @@ pub fn glued(alloc: Global, front: &str, mark: &str, back: &str) -> Mem<String>
 
 // The first pieces, a slash before each.
 pub fn first_pieces(alloc: Global, text: &str, n: usize) -> Mem<String>
-    ensures { IfOk result (λ t. string_bytes t ≡ spelled (take n (pieces text.now))) }
+    ensures { IfOk result (λ t. string_bytes t ≡ spelling_of (take n (pieces text.now))) }
 {
     let mut front = String::with_capacity(alloc, text.len().saturating_add(1))?;
     for piece in text.split('/').take(n) {
@@ -184,7 +184,7 @@ pub fn first_pieces(alloc: Global, text: &str, n: usize) -> Mem<String>
 
 // The pieces with their namespace prefixes as they stand in the repository, a slash before each.
 pub fn pieces_unmangled(alloc: Global, text: &str) -> Mem<String>
-    ensures { IfOk result (λ t. string_bytes t ≡ spelled (unmangled (pieces text.now))) }
+    ensures { IfOk result (λ t. string_bytes t ≡ spelling_of (unmangled_segs (pieces text.now))) }
 {
     let mut plain = String::with_capacity(alloc, text.len().saturating_add(1))?;
     for piece in text.split('/') {
@@ -214,7 +214,7 @@ pub fn mangled_parts(seg: &str) -> (&str, &str)
 
 // The pieces with their namespace prefixes as they stand in URLs, a slash before each.
 pub fn pieces_mangled(alloc: Global, text: &str) -> Mem<String>
-    ensures { IfOk result (λ t. string_bytes t ≡ spelled (mangled (pieces text.now))) }
+    ensures { IfOk result (λ t. string_bytes t ≡ spelling_of (mangled_segs (pieces text.now))) }
 {
     let mut spelling = String::with_capacity(alloc, text.len().saturating_add(1))?;
     for piece in text.split('/') {
@@ -227,7 +227,7 @@ pub fn pieces_mangled(alloc: Global, text: &str) -> Mem<String>
 
 // Why the segments of a text are no path.
 pub fn fault_in(text: &str) -> Option<PathFault>
-    requires { spelled (segs_in text.now) ≡ text.now }
+    requires { spelling_of (segs_in text.now) ≡ text.now }
     ensures { result ≡ fault_of (segs_in text.now) }
 {
     match after_slash(text) {

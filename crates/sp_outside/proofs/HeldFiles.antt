@@ -19,37 +19,37 @@ use Rattle.std.specs.declared.cmp.Ordering.TheVariants.{Less, Equal, Greater}
 use Rattle.std.specs.declared.string.String.{String}
 use Rattle.std.specs.declared.alloc.Global.{Global}
 use Rattle.sp_base.specs.Names.{by_name}
-use Rattle.sp_outside.specs.MemoryFiles.{Held, named, files_of}
+use Rattle.sp_outside.specs.MemoryFiles.{MemoryEntries, entries_by_bytes, files_of}
 use Rattle.sp_outside.specs.Files.{file_at, with_file, without_file}
 
 pub same_name : IsAntisymmetric by_name
 same_name = slice_cmp-IsAntisymmetric nat_cmp-IsAntisymmetric
 
-found : (name : List ℕ) (held : Held) → lookup (is_at (λ (k : String Global). slice_cmp nat_cmp name (string_bytes k))) held ≡ find by_name name (named held)
+found : (name : List ℕ) (held : MemoryEntries) → lookup (is_at (λ (k : String Global). slice_cmp nat_cmp name (string_bytes k))) held ≡ find by_name name (entries_by_bytes held)
 found name [] = refl
 found name (e ∷ held) = ap (cond (eq_by_cmp by_name name (string_bytes e.0)) (Some e.1)) (found name held)
 
 -- a look-up in the map is one in its entries
-pub held_at : (name : List ℕ) (held : Held) → lookup (is_at (λ (k : String Global). slice_cmp nat_cmp name (string_bytes k))) held ≡ file_at (files_of held) name
-held_at name held = found name held ∙ sym (get-from_entries nat_list_cmp_total (named held) name)
+pub held_at : (name : List ℕ) (held : MemoryEntries) → lookup (is_at (λ (k : String Global). slice_cmp nat_cmp name (string_bytes k))) held ≡ file_at (files_of held) name
+held_at name held = found name held ∙ sym (get-from_entries nat_list_cmp_total (entries_by_bytes held) name)
 
-named_insert : (key : String Global) (bytes : List ℕ) (held : Held) → named (insert_entry string_cmp held key bytes) ≡ put by_name (string_bytes key) bytes (named held)
+named_insert : (key : String Global) (bytes : List ℕ) (held : MemoryEntries) → entries_by_bytes (insert_entry string_cmp held key bytes) ≡ put by_name (string_bytes key) bytes (entries_by_bytes held)
 named_insert key bytes [] = refl
 named_insert key bytes (e ∷ held) =
-    elim (string_cmp key e.0) as (λ o. named (match_ordering o ((key, bytes) ∷ e ∷ held) ((e.0, bytes) ∷ held) (e ∷ insert_entry string_cmp held key bytes))
-    ≡ by_order o ((string_bytes key, bytes) ∷ named (e ∷ held)) ((string_bytes e.0, bytes) ∷ named held) ((string_bytes e.0, e.1) ∷ put by_name (string_bytes key) bytes (named held))) [
+    elim (string_cmp key e.0) as (λ o. entries_by_bytes (match_ordering o ((key, bytes) ∷ e ∷ held) ((e.0, bytes) ∷ held) (e ∷ insert_entry string_cmp held key bytes))
+    ≡ by_order o ((string_bytes key, bytes) ∷ entries_by_bytes (e ∷ held)) ((string_bytes e.0, bytes) ∷ entries_by_bytes held) ((string_bytes e.0, e.1) ∷ put by_name (string_bytes key) bytes (entries_by_bytes held))) [
       | Less ↦ refl
       | Equal ↦ refl
       | Greater ↦ ap (λ rest. (string_bytes e.0, e.1) ∷ rest) (named_insert key bytes held)
     ]
 
 -- a write at a name is one in the map
-pub held_with : (key : String Global) (bytes : List ℕ) (held : Held) → files_of (insert_entry string_cmp held key bytes) ≡ with_file (files_of held) (string_bytes key) bytes
+pub held_with : (key : String Global) (bytes : List ℕ) (held : MemoryEntries) → files_of (insert_entry string_cmp held key bytes) ≡ with_file (files_of held) (string_bytes key) bytes
 held_with key bytes held = same_map nat_list_cmp_total same_name _ _ (λ q.
-    get-from_entries nat_list_cmp_total (named (insert_entry string_cmp held key bytes)) q
+    get-from_entries nat_list_cmp_total (entries_by_bytes (insert_entry string_cmp held key bytes)) q
     ∙ ap (find by_name q) (named_insert key bytes held)
-    ∙ find-put by_name nat_list_cmp_total q (string_bytes key) bytes (named held)
-    ∙ ap (cond (eq_by_cmp by_name q (string_bytes key)) (Some bytes)) (sym (get-from_entries nat_list_cmp_total (named held) q))
+    ∙ find-put by_name nat_list_cmp_total q (string_bytes key) bytes (entries_by_bytes held)
+    ∙ ap (cond (eq_by_cmp by_name q (string_bytes key)) (Some bytes)) (sym (get-from_entries nat_list_cmp_total (entries_by_bytes held) q))
     ∙ sym (get-insert nat_list_cmp_total (files_of held) (string_bytes key) bytes q))
 
 pub equal : (o : Ordering) → is_eq o ≡ true → o ≡ Equal
@@ -64,21 +64,21 @@ find_is name (e ∷ es) = ap (cond (eq_by_cmp by_name name e.0) (Some e.1)) (fin
 abbrev pub is_key : List ℕ → String Global → Bool
 is_key name = is_at (λ key. slice_cmp nat_cmp name (string_bytes key))
 
-named_without : (name : List ℕ) (held : Held) → named (remove_entry (is_key name) held) ≡ remove_entry (eq_by_cmp by_name name) (named held)
+named_without : (name : List ℕ) (held : MemoryEntries) → entries_by_bytes (remove_entry (is_key name) held) ≡ remove_entry (eq_by_cmp by_name name) (entries_by_bytes held)
 named_without name [] = refl
 named_without name (e ∷ held) =
-    elim (is_key name e.0) as (λ b. named (cond b held (e ∷ remove_entry (is_key name) held))
-    ≡ cond b (named held) ((string_bytes e.0, e.1) ∷ remove_entry (eq_by_cmp by_name name) (named held))) [
+    elim (is_key name e.0) as (λ b. entries_by_bytes (cond b held (e ∷ remove_entry (is_key name) held))
+    ≡ cond b (entries_by_bytes held) ((string_bytes e.0, e.1) ∷ remove_entry (eq_by_cmp by_name name) (entries_by_bytes held))) [
       | true ↦ refl
       | false ↦ ap (λ rest. (string_bytes e.0, e.1) ∷ rest) (named_without name held)
     ]
 
-above : (key : String Global) (held : Held) → AllByRecursion (λ other. string_cmp key other ≡ Less) (keys_of held)
-    → AllByRecursion (λ other. by_name (string_bytes key) other ≡ Less) (keys_of (named held))
+above : (key : String Global) (held : MemoryEntries) → AllByRecursion (λ other. string_cmp key other ≡ Less) (keys_of held)
+    → AllByRecursion (λ other. by_name (string_bytes key) other ≡ Less) (keys_of (entries_by_bytes held))
 above key [] h = h
 above key (e ∷ held) h = (h.0, above key held h.1)
 
-pub names_rise : (held : Held) → IsStrictlySortedBy string_cmp (keys_of held) → IsStrictlySortedBy by_name (keys_of (named held))
+pub names_rise : (held : MemoryEntries) → IsStrictlySortedBy string_cmp (keys_of held) → IsStrictlySortedBy by_name (keys_of (entries_by_bytes held))
 unfolding IsStrictlySortedBy
 names_rise [] h = h
 names_rise (e ∷ held) h = (above e.0 held h.0, names_rise held h.1)
@@ -87,14 +87,14 @@ one_name : (name x y : List ℕ) → eq_by_cmp by_name name x ≡ true → eq_by
 one_name name x y e = ap (λ n. eq_by_cmp by_name n y) (same_name name x (equal (by_name name x) e))
 
 -- a removal at a name is one in the map
-pub held_without : (name : List ℕ) (held : Held) → IsStrictlySortedBy string_cmp (keys_of held)
+pub held_without : (name : List ℕ) (held : MemoryEntries) → IsStrictlySortedBy string_cmp (keys_of held)
     → files_of (remove_entry (is_key name) held) ≡ without_file (files_of held) name
 held_without name held rising = same_map nat_list_cmp_total same_name _ _ (λ q.
-    get-from_entries nat_list_cmp_total (named (remove_entry (is_key name) held)) q
+    get-from_entries nat_list_cmp_total (entries_by_bytes (remove_entry (is_key name) held)) q
     ∙ ap (find by_name q) (named_without name held)
-    ∙ find_is q (remove_entry (eq_by_cmp by_name name) (named held))
-    ∙ lookup-remove_entry (eq_by_cmp_equiv nat_list_cmp_total) (eq_by_cmp by_name name) (one_name name) q (named held)
-    (IsDistinct-from_sorted by_name (keys_of (named held)) (names_rise held rising))
-    ∙ ap (λ b. cond b None (lookup (eq_by_cmp by_name q) (named held))) ((eq_by_cmp_equiv nat_list_cmp_total).symm name q)
-    ∙ ap (cond (eq_by_cmp by_name q name) None) (sym (find_is q (named held)) ∙ sym (get-from_entries nat_list_cmp_total (named held) q))
+    ∙ find_is q (remove_entry (eq_by_cmp by_name name) (entries_by_bytes held))
+    ∙ lookup-remove_entry (eq_by_cmp_equiv nat_list_cmp_total) (eq_by_cmp by_name name) (one_name name) q (entries_by_bytes held)
+    (IsDistinct-from_sorted by_name (keys_of (entries_by_bytes held)) (names_rise held rising))
+    ∙ ap (λ b. cond b None (lookup (eq_by_cmp by_name q) (entries_by_bytes held))) ((eq_by_cmp_equiv nat_list_cmp_total).symm name q)
+    ∙ ap (cond (eq_by_cmp by_name q name) None) (sym (find_is q (entries_by_bytes held)) ∙ sym (get-from_entries nat_list_cmp_total (entries_by_bytes held) q))
     ∙ sym (get-remove nat_list_cmp_total (files_of held) name q))

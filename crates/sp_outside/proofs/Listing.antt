@@ -25,12 +25,12 @@ use Rattle.std.proofs.lemmas.List.Kept.{IsStrictlySortedBy-filter}
 use Rattle.std.proofs.lemmas.List.Elements.{filter-append, filter_passes, All-filter, All-take}
 use Rattle.sp_base.specs.Names.{by_name}
 use Rattle.sp_outside.specs.Files.{Files, IsName, IsListing, has_prefix, names_after}
-use Rattle.sp_outside.specs.MemoryFiles.{Held, IsFirstPlace, named, files_of}
+use Rattle.sp_outside.specs.MemoryFiles.{MemoryEntries, IsFirstPlace, entries_by_bytes, files_of}
 use Rattle.sp_outside.proofs.HeldFiles.{same_name}
 use Rattle.sp_outside.proofs.Prefixes.{after_both, behind_both, prefix_between, prefix_first}
 
 -- the names of entries, in their order
-abbrev pub names_of : Held → List (List ℕ)
+abbrev pub names_of : MemoryEntries → List (List ℕ)
 names_of held = map (λ e. string_bytes e.0) held
 
 both : (a b : Bool) → T a → T b → T (a && b)
@@ -53,37 +53,37 @@ less Greater p = absurd p
 is_less : (o : Ordering) → o ≡ Less → T (is_lt o)
 is_less o e = subst (λ r. T (is_lt r)) (sym e) tt
 
-below : (key : String Global) (held : Held) → AllByRecursion (λ other. string_cmp key other ≡ Less) (keys_of held)
-    → T (below_all by_name (string_bytes key) (named held))
+below : (key : String Global) (held : MemoryEntries) → AllByRecursion (λ other. string_cmp key other ≡ Less) (keys_of held)
+    → T (below_all by_name (string_bytes key) (entries_by_bytes held))
 below key [] h = tt
 below key (e ∷ held) h = both _ _ (is_less _ h.0) (below key held h.1)
 
-sorted_named : (held : Held) → IsStrictlySortedBy string_cmp (keys_of held) → T (is_sorted by_name (named held))
+sorted_named : (held : MemoryEntries) → IsStrictlySortedBy string_cmp (keys_of held) → T (is_sorted by_name (entries_by_bytes held))
 unfolding IsStrictlySortedBy
 sorted_named [] h = tt
 sorted_named (e ∷ held) h = both _ _ (below e.0 held h.0) (sorted_named held h.1)
 
-entries_held : (held : Held) → IsStrictlySortedBy string_cmp (keys_of held) → entries (files_of held) ≡ named held
+entries_held : (held : MemoryEntries) → IsStrictlySortedBy string_cmp (keys_of held) → entries (files_of held) ≡ entries_by_bytes held
 entries_held held rising =
     let sorted = sorted_named held rising in
-    ap entries (same_map nat_list_cmp_total same_name (files_of held) (from_sorted (named held)) (λ q.
-    get-from_entries nat_list_cmp_total (named held) q ∙ sym (get-from_sorted by_name (named held) q sorted)))
-    ∙ entries-from_sorted by_name (named held) sorted
+    ap entries (same_map nat_list_cmp_total same_name (files_of held) (from_sorted (entries_by_bytes held)) (λ q.
+    get-from_entries nat_list_cmp_total (entries_by_bytes held) q ∙ sym (get-from_sorted by_name (entries_by_bytes held) q sorted)))
+    ∙ entries-from_sorted by_name (entries_by_bytes held) sorted
 
-named_names : (held : Held) → map (λ e. e.0) (named held) ≡ names_of held
+named_names : (held : MemoryEntries) → map (λ e. e.0) (entries_by_bytes held) ≡ names_of held
 named_names [] = refl
 named_names (e ∷ held) = ap (λ rest. string_bytes e.0 ∷ rest) (named_names held)
 
-pub keys_held : (held : Held) → IsStrictlySortedBy string_cmp (keys_of held) → keys (files_of held) ≡ names_of held
+pub keys_held : (held : MemoryEntries) → IsStrictlySortedBy string_cmp (keys_of held) → keys (files_of held) ≡ names_of held
 keys_held held rising = ap (map (λ (e : List ℕ × List ℕ). e.0)) (entries_held held rising) ∙ named_names held
 
-pub sizes_held : (held : Held) → All (λ key. IsName (string_bytes key)) (keys_of held) → All IsName (names_of held)
+pub sizes_held : (held : MemoryEntries) → All (λ key. IsName (string_bytes key)) (keys_of held) → All IsName (names_of held)
 sizes_held [] h k d lt = absurd (omega (arith, lt))
 sizes_held (e ∷ held) h zero d lt = h zero e.0 (omega arith)
 sizes_held (e ∷ held) h (suc k) d lt = sizes_held held (λ j x l. h (suc j) x (omega (arith, l))) k d (omega (arith, lt))
 
 -- names are texts
-pub texts_held : (held : Held) → All IsUtf8 (names_of held)
+pub texts_held : (held : MemoryEntries) → All IsUtf8 (names_of held)
 texts_held [] k d lt = absurd (omega (arith, lt))
 texts_held (e ∷ held) zero d lt = IsUtf8-string_bytes e.0
 texts_held (e ∷ held) (suc k) d lt = texts_held held k d (omega (arith, lt))
@@ -131,7 +131,7 @@ place_first prefix after (Excluded place) is key e =
     (sym (ap (λ p. is_lt (by_name p (string_bytes key))) is.0) ∙ first_true _ _ e)
 place_first prefix after Unbounded is key e = absurd is
 
-ranged : (prefix after : List ℕ) (start : Bound (String Global)) → IsFirstPlace prefix after start → (held : Held)
+ranged : (prefix after : List ℕ) (start : Bound (String Global)) → IsFirstPlace prefix after start → (held : MemoryEntries)
     → filter (wanted prefix after) (names_of held) ≡ filter (has_prefix prefix) (names_of (filter (in_range start) held))
 ranged prefix after start is [] = refl
 ranged prefix after start is (e ∷ held) =
@@ -154,7 +154,7 @@ ranged prefix after start is (e ∷ held) =
     ]
 
 -- the names wanted are those with the prefix among the names of the range
-pub after_held : (prefix after : List ℕ) (start : Bound (String Global)) (held range : Held) → IsStrictlySortedBy string_cmp (keys_of held)
+pub after_held : (prefix after : List ℕ) (start : Bound (String Global)) (held range : MemoryEntries) → IsStrictlySortedBy string_cmp (keys_of held)
     → IsFirstPlace prefix after start → range ≡ filter (in_range start) held
     → names_after (files_of held) prefix after ≡ filter (has_prefix prefix) (names_of range)
 after_held prefix after start held range rising is ranges =
@@ -187,18 +187,18 @@ one_more prefix items item names is =
     ∙ with_last (has_prefix prefix (name_in item)) names (name_in item)
 
 -- a loop that ends with as many names as were asked for
-pub enough : (prefix : List ℕ) (range rest : Held) (items : Seen) (names : List (List ℕ)) (most : ℕ) → range ≡ map deref_pair items ++ rest
+pub enough : (prefix : List ℕ) (range rest : MemoryEntries) (items : Seen) (names : List (List ℕ)) (most : ℕ) → range ≡ map deref_pair items ++ rest
     → names ≡ filter (has_prefix prefix) (map name_in items) → length names ≤ most → most ≤ length names
     → names ≡ take most (filter (has_prefix prefix) (names_of range))
 enough prefix range rest items names most parts is few many =
-    sym (ap (λ (r : Held). take most (filter (has_prefix prefix) (names_of r))) parts
+    sym (ap (λ (r : MemoryEntries). take most (filter (has_prefix prefix) (names_of r))) parts
     ∙ ap (λ ns. take most (filter (has_prefix prefix) ns)) (map-append (λ (e : String Global × List ℕ). string_bytes e.0) (map deref_pair items) rest)
     ∙ ap (take most) (filter-append (has_prefix prefix) (names_of (map deref_pair items)) (names_of rest))
     ∙ ap (λ ns. take most (ns ++ filter (has_prefix prefix) (names_of rest))) (sym (is ∙ ap (filter (has_prefix prefix)) (seen items)))
     ∙ take_at names (filter (has_prefix prefix) (names_of rest)) most (omega (arith, few, many)))
 
 -- a loop that ends with the range
-pub all_names : (prefix : List ℕ) (range : Held) (items : Seen) (names : List (List ℕ)) (most : ℕ) → map deref_pair items ≡ range
+pub all_names : (prefix : List ℕ) (range : MemoryEntries) (items : Seen) (names : List (List ℕ)) (most : ℕ) → map deref_pair items ≡ range
     → names ≡ filter (has_prefix prefix) (map name_in items) → length names ≤ most
     → names ≡ take most (filter (has_prefix prefix) (names_of range))
 all_names prefix range items names most parts is few =
@@ -206,7 +206,7 @@ all_names prefix range items names most parts is few =
     whole ∙ sym (take_all most (filter (has_prefix prefix) (names_of range)) (subst (λ (ns : List (List ℕ)). length ns ≤ most) whole few))
 
 -- the keys of a range rise
-range_keys : (start : Bound (String Global)) (held : Held) → keys_of (filter (in_range start) held) ≡ filter (range_contains string_cmp start Unbounded) (keys_of held)
+range_keys : (start : Bound (String Global)) (held : MemoryEntries) → keys_of (filter (in_range start) held) ≡ filter (range_contains string_cmp start Unbounded) (keys_of held)
 range_keys start [] = refl
 range_keys start (e ∷ held) =
     elim (range_contains string_cmp start Unbounded e.0) as (λ b. keys_of (cond b (e ∷ filter (in_range start) held) (filter (in_range start) held))
@@ -215,7 +215,7 @@ range_keys start (e ∷ held) =
       | false ↦ range_keys start held
     ]
 
-rest_above : (seen : Held) (item : String Global × List ℕ) (rest : Held) → IsStrictlySortedBy string_cmp (keys_of (seen ++ item ∷ rest))
+rest_above : (seen : MemoryEntries) (item : String Global × List ℕ) (rest : MemoryEntries) → IsStrictlySortedBy string_cmp (keys_of (seen ++ item ∷ rest))
     → AllByRecursion (λ other. string_cmp item.0 other ≡ Less) (keys_of rest)
 unfolding IsStrictlySortedBy
 rest_above [] item rest h = h.0
@@ -226,7 +226,7 @@ not_true true none = absurd (none refl)
 not_true false none = refl
 
 -- after a name that isn't before the prefix and doesn't begin with it no name does
-none_behind : (prefix : List ℕ) (item : String Global × List ℕ) (rest : Held) → is_le (by_name prefix (string_bytes item.0)) ≡ true
+none_behind : (prefix : List ℕ) (item : String Global × List ℕ) (rest : MemoryEntries) → is_le (by_name prefix (string_bytes item.0)) ≡ true
     → has_prefix prefix (string_bytes item.0) ≡ false → AllByRecursion (λ other. string_cmp item.0 other ≡ Less) (keys_of rest)
     → filter (has_prefix prefix) (names_of rest) ≡ []
 none_behind prefix item [] le lacks above = refl
@@ -236,15 +236,15 @@ none_behind prefix item (e ∷ rest) le lacks above =
     ap (λ b. cond b (string_bytes e.0 ∷ filter (has_prefix prefix) (names_of rest)) (filter (has_prefix prefix) (names_of rest))) none
     ∙ none_behind prefix item rest le lacks above.1
 
-in_seen : (start : Bound (String Global)) (held seen : Held) (item : String Global × List ℕ) (rest : Held)
+in_seen : (start : Bound (String Global)) (held seen : MemoryEntries) (item : String Global × List ℕ) (rest : MemoryEntries)
     → filter (in_range start) held ≡ seen ++ item ∷ rest → in_range start item ≡ true
 in_seen start held seen item rest parts =
     let passes = filter_passes (in_range start) held (length seen) item
-    (subst (λ (r : Held). length seen < length r) (sym parts) (omega (arith, length-append seen (item ∷ rest)))) in
-    sym (ap (in_range start) (ap (λ (r : Held). get_or r (length seen) item) parts ∙ get_or-append_seam seen item rest item)) ∙ passes
+    (subst (λ (r : MemoryEntries). length seen < length r) (sym parts) (omega (arith, length-append seen (item ∷ rest)))) in
+    sym (ap (in_range start) (ap (λ (r : MemoryEntries). get_or r (length seen) item) parts ∙ get_or-append_seam seen item rest item)) ∙ passes
 
 -- a loop that ends at a name that doesn't begin with the prefix
-pub lacking : (prefix after : List ℕ) (start : Bound (String Global)) (held range : Held) (items : Seen) (item : String Global × List ℕ) (rest : Held) (names : List (List ℕ)) (most : ℕ)
+pub lacking : (prefix after : List ℕ) (start : Bound (String Global)) (held range : MemoryEntries) (items : Seen) (item : String Global × List ℕ) (rest : MemoryEntries) (names : List (List ℕ)) (most : ℕ)
     → IsStrictlySortedBy string_cmp (keys_of held) → IsFirstPlace prefix after start → range ≡ filter (in_range start) held
     → range ≡ map deref_pair items ++ item ∷ rest → has_prefix prefix (string_bytes item.0) ≡ false
     → names ≡ filter (has_prefix prefix) (map name_in items) → length names ≤ most
@@ -253,7 +253,7 @@ lacking prefix after start held range items item rest names most rising place ra
     let seen_items = map deref_pair items in
     let cut : filter (in_range start) held ≡ seen_items ++ item ∷ rest = sym ranges ∙ parts in
     let sorted : IsStrictlySortedBy string_cmp (keys_of (seen_items ++ item ∷ rest)) =
-    subst (λ (r : Held). IsStrictlySortedBy string_cmp (keys_of r)) cut
+    subst (λ (r : MemoryEntries). IsStrictlySortedBy string_cmp (keys_of r)) cut
     (subst (IsStrictlySortedBy string_cmp) (sym (range_keys start held)) (IsStrictlySortedBy-filter string_cmp (range_contains string_cmp start Unbounded) (keys_of held) rising)) in
     let le = place_first prefix after start place item.0 (in_seen start held seen_items item rest cut) in
     let none : filter (has_prefix prefix) (names_of (item ∷ rest)) ≡ [] =

@@ -13,19 +13,19 @@ use Rattle.sp_base.specs.Names.{by_name}
 use Rattle.sp_outside.specs.Files.{Files, IsName}
 
 -- the entries of the map, in its order
-abbrev pub Held : Type 0
-Held = List (String Global × List ℕ)
+abbrev pub MemoryEntries : Type 0
+MemoryEntries = List (String Global × List ℕ)
 
 -- the entries under their names' bytes
-abbrev pub named : Held → List (List ℕ × List ℕ)
-named held = map (λ e. (string_bytes e.0, e.1)) held
+abbrev pub entries_by_bytes : MemoryEntries → List (List ℕ × List ℕ)
+entries_by_bytes held = map (λ e. (string_bytes e.0, e.1)) held
 
 -- the files that they are
-abbrev pub files_of : Held → Files
-files_of held = from_entries (named held)
+abbrev pub files_of : MemoryEntries → Files
+files_of held = from_entries (entries_by_bytes held)
 
 -- the names rise, and each is one of a file
-pub record HasNames (held : Held) : Type 0 where
+pub record HasNames (held : MemoryEntries) : Type 0 where
   pub rising : IsStrictlySortedBy string_cmp (keys_of held)
   pub sizes : All (λ key. IsName (string_bytes key)) (keys_of held)
 

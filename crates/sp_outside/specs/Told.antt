@@ -2,9 +2,9 @@
 use Rattle.std.specs.Prelude.{◌≡◌, ◌++◌, ℕ, List, [], Option, Some, None, IfSome}
 
 -- what an object holds after bytes were added to it, where it tells
-abbrev pub added : Option (List ℕ) → List ℕ → Option (List ℕ)
-added None bytes = None
-added (Some held) bytes = Some (held ++ bytes)
+abbrev pub held_after : Option (List ℕ) → List ℕ → Option (List ℕ)
+held_after None bytes = None
+held_after (Some held) bytes = Some (held ++ bytes)
 
 -- what was left before bytes were taken from the beginning, where it tells
 abbrev pub before_taking : List ℕ → Option (List ℕ) → Option (List ℕ)

@@ -26,4 +26,4 @@ pub use real::{RealSink, RealSource};
 pub use real_disk::RealDisk;
 pub use sink::{Sink, SinkFault};
 pub use source::{Source, SourceFault};
-pub use words::{MemWords, RealWords, WordList, Words};
+pub use words::{CommandWords, MemWords, RealWords, Words};

@@ -1,6 +1,6 @@
 //! Sources and sinks in memory, which tell what they hold, and of which chosen calls fail.
 ghost use Rattle.std.specs.Prelude.{◌≡◌, ◌↔◌, ◌<◌, ◌≤◌, ◌+◌, ◌++◌, ℕ, List, [], Some, Err, IfOk, IfSome, OnErr, IsTrue, is_err, min, take, drop, length};
-ghost use Rattle.sp_outside.specs.Told.{added, before_taking};
+ghost use Rattle.sp_outside.specs.Told.{held_after, before_taking};
 ghost use Rattle.sp_outside.specs.Causes.{HasSourceCause, HasSinkCause};
 ghost use Rattle.sp_outside.specs.Memory.{fails_next, has_failed, source_after, sink_after};
 
@@ -180,7 +180,7 @@ impl Sink for MemSink {
         // What every sink promises.
         ensures some { IfOk result (λ n. 0 < n) }
         ensures within { IfOk result (λ n. n ≤ length bytes.now) }
-        ensures ok { IfOk result (λ n. Some self.new.held ≡ added (Some self.old.held) (take n bytes.now)) }
+        ensures ok { IfOk result (λ n. Some self.new.held ≡ held_after (Some self.old.held) (take n bytes.now)) }
         ensures err { OnErr result (Some self.new.held ≡ Some self.old.held) }
         ensures cause { HasSinkCause self.old.failed self.new.failed result }
     {

@@ -1,6 +1,6 @@
 //! Sinks: what is written to.
 ghost use Rattle.std.specs.Prelude.{◌≡◌, ◌<◌, ◌≤◌, ℕ, List, Option, IfOk, OnErr, take, length};
-ghost use Rattle.sp_outside.specs.Told.{added};
+ghost use Rattle.sp_outside.specs.Told.{held_after};
 ghost use Rattle.sp_outside.specs.Causes.{HasSinkCause};
 
 #[derive(Clone, Copy, PartialEq, Eq, Debug, Drop)]
@@ -22,7 +22,7 @@ pub trait Sink {
         requires { 0 < length bytes.now }
         ensures some { IfOk result (λ n. 0 < n) }
         ensures within { IfOk result (λ n. n ≤ length bytes.now) }
-        ensures ok { IfOk result (λ n. held self.new ≡ added (held self.old) (take n bytes.now)) }
+        ensures ok { IfOk result (λ n. held self.new ≡ held_after (held self.old) (take n bytes.now)) }
         ensures err { OnErr result (held self.new ≡ held self.old) }
         ensures cause { HasSinkCause (faults self.old) (faults self.new) result };
 }

@@ -6,7 +6,7 @@ use std::alloc::Global;
 use std::env::{Env, FillError};
 use std::marker::Model;
 
-pub type WordList = Items<ByteBuf>;
+pub type CommandWords = Items<ByteBuf>;
 
 /// The words of a command line, after the program's own name. A word is any bytes.
 pub trait Words {
@@ -21,7 +21,7 @@ pub trait Words {
 /// Words in memory.
 #[derive(Drop)]
 pub struct MemWords {
-    words: WordList,
+    words: CommandWords,
 }
 
 impl Model for MemWords {
@@ -33,7 +33,7 @@ impl Model for MemWords {
 }
 
 impl MemWords {
-    pub fn new(words: WordList) -> MemWords
+    pub fn new(words: CommandWords) -> MemWords
         ensures { result ≡ words }
     {
         MemWords { words }

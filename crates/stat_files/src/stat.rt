@@ -2,7 +2,7 @@
 ghost use Rattle.std.specs.Prelude.{◌≡◌, IfOk, IfErr, IfSome, OnOk, IsTrue, is_ok};
 ghost use Rattle.sp_outside.specs.Calls.{Get, Put, told_call};
 ghost use Rattle.sp_outside.specs.Files.{told_with};
-ghost use Rattle.sp_base.specs.Paths.{mangled};
+ghost use Rattle.sp_base.specs.Paths.{mangled_segs};
 ghost use Rattle.docroot_format.specs.Faults.{HasFileCause, IsLeftByFault};
 ghost use Rattle.docroot_format.specs.Names.{have_names};
 ghost use Rattle.docroot_format.specs.Names as name;
@@ -18,7 +18,7 @@ use std::alloc::Global;
 /// Gives a folder a stamp. Each of its segments, mangled, has a file name of at most 200 bytes. This takes no memory but what the disk's
 /// `put` takes.
 pub fn touch<D: Disk>(disk: &mut D, folder: &Path, stamp: Stamp) -> Result<(), FileFault>
-    requires { IsTrue (have_names (mangled folder.now)) }
+    requires { IsTrue (have_names (mangled_segs folder.now)) }
     ensures ok { OnOk result (D.files disk.new ≡ told_with (D.files disk.old) (name.stat_name folder.now) (text.stat_text stamp.epoch stamp.count)) }
     ensures err { IfErr result (IsLeftByFault (D.files disk.old) (told_with (D.files disk.old) (name.stat_name folder.now) (text.stat_text stamp.epoch stamp.count)) (D.files disk.new)) }
     ensures cause { HasFileCause (D.faults disk.old) (D.faults disk.new) result }
@@ -53,7 +53,7 @@ pub fn stamp_of<D: Disk>(
     disk: &mut D,
     folder: &Path,
 ) -> Result<Option<Stamp>, FileFault>
-    requires { IsTrue (have_names (mangled folder.now)) }
+    requires { IsTrue (have_names (mangled_segs folder.now)) }
     ensures value { IfOk result (λ stamp. IfSome (D.files disk.old) (λ files. stamp ≡ stamp_at files folder.now)) }
     ensures same { D.files disk.new ≡ D.files disk.old }
     ensures cause { HasFileCause (D.faults disk.old) (D.faults disk.new) result }

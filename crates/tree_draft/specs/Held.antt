@@ -5,11 +5,11 @@ use Rattle.resource_tree.specs.declared.patch.PatchNode.{PatchNode}
 use Rattle.resource_tree.specs.declared.patch.PatchNode.TheVariants as there
 
 -- what is to stand at a path where a draft holds a node, or none
-abbrev pub entry_of : Option Node → PatchNode
-entry_of None = there.Gone
-entry_of (Some node) = there.Node node
+abbrev pub patch_entry : Option Node → PatchNode
+patch_entry None = there.Gone
+patch_entry (Some node) = there.Node node
 
 -- the node of an entry
-abbrev pub node_of : PatchNode → Option Node
-node_of there.Gone = None
-node_of (there.Node node) = Some node
+abbrev pub entry_node : PatchNode → Option Node
+entry_node there.Gone = None
+entry_node (there.Node node) = Some node

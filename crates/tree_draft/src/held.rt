@@ -67,11 +67,11 @@ pub(crate) struct HeldEntry {
 
 impl Model for HeldEntry {
     ghost use Rattle.resource_tree.specs.declared.patch.PatchNode.{PatchNode};
-    ghost use Rattle.tree_draft.specs.Held.{entry_of};
+    ghost use Rattle.tree_draft.specs.Held.{patch_entry};
 
     ghost Value = { PatchNode };
 
-    ghost view = { λ r. entry_of r.held };
+    ghost view = { λ r. patch_entry r.held };
 }
 
 impl HeldEntry {
@@ -116,20 +116,20 @@ impl HeldEntry {
 
     /// The node, where it isn't gone.
     pub(crate) fn held(&self) -> Option<&HeldNode>
-        ensures { option_copied result ≡ spec.node_of self.now }
+        ensures { option_copied result ≡ spec.entry_node self.now }
     {
         self.held.as_ref()
     }
 
     pub(crate) fn into_held(self) -> Option<HeldNode>
-        ensures { result ≡ spec.node_of self }
+        ensures { result ≡ spec.entry_node self }
     {
         self.held
     }
 
     /// The node's properties, where it isn't gone.
     pub(crate) fn into_props(self) -> Option<PropList>
-        ensures { result ≡ option_map (λ n. n.props) (spec.node_of self) }
+        ensures { result ≡ option_map (λ n. n.props) (spec.entry_node self) }
     {
         match self.held {
             Some(node) => Some(node.into_props()),

@@ -11,7 +11,7 @@ use std::marker::Model;
 
 /// Who lends the node.
 #[derive(Drop)]
-pub(crate) enum Seen<'a> {
+pub(crate) enum LentNode<'a> {
     Kept(&'a Node),
     Changed(&'a HeldNode),
 }
@@ -19,16 +19,16 @@ pub(crate) enum Seen<'a> {
 /// A node that a draft shows. Contracts see it as the node.
 #[derive(Drop)]
 pub struct DraftNode<'a> {
-    seen: Seen<'a>,
+    seen: LentNode<'a>,
 }
 
 impl<'a> Model for DraftNode<'a> {
     ghost use Rattle.resource_tree.specs.declared.nodes.Node.{Node};
-    ghost use Rattle.tree_draft.specs.Shown.{node_seen};
+    ghost use Rattle.tree_draft.specs.Shown.{lent_node};
 
     ghost Value = { Node };
 
-    ghost view = { λ n. node_seen n.seen };
+    ghost view = { λ n. lent_node n.seen };
 }
 
 impl<'a> DraftNode<'a> {
@@ -36,7 +36,7 @@ impl<'a> DraftNode<'a> {
         ensures { result ≡ node.now }
     {
         DraftNode {
-            seen: Seen::Kept(node),
+            seen: LentNode::Kept(node),
         }
     }
 
@@ -44,7 +44,7 @@ impl<'a> DraftNode<'a> {
         ensures { result ≡ node.now }
     {
         DraftNode {
-            seen: Seen::Changed(node),
+            seen: LentNode::Changed(node),
         }
     }
 
@@ -52,8 +52,8 @@ impl<'a> DraftNode<'a> {
         ensures { result.now ≡ self.now.props }
     {
         match self.seen {
-            Seen::Kept(node) => &node.props,
-            Seen::Changed(node) => &node.props,
+            LentNode::Kept(node) => &node.props,
+            LentNode::Changed(node) => &node.props,
         }
     }
 
@@ -62,8 +62,8 @@ impl<'a> DraftNode<'a> {
         ensures { IfOk result (λ kids. map (λ name. name.now) kids.items ≡ self.now.kids) }
     {
         match self.seen {
-            Seen::Kept(node) => lent_names(alloc, node.kids.as_slice()),
-            Seen::Changed(node) => node.kids.lent(alloc),
+            LentNode::Kept(node) => lent_names(alloc, node.kids.as_slice()),
+            LentNode::Changed(node) => node.kids.lent(alloc),
         }
     }
 

@@ -1,6 +1,6 @@
 -- Resource types, and the places of a type (Apache Sling, "Resource types", "Servlets and Scripts").
 use Rattle.std.specs.Prelude.{◌==◌, ◌&&◌, ℕ, Bool, true, false, not, is_some, if◌then◌else◌, List, [], ◌∷◌, ◌++◌, Option, Some, None, option_and_then, Result, Ok, Err, codes, find, map, slice_index}
-use Rattle.sp_base.specs.Paths.{path_of, checked}
+use Rattle.sp_base.specs.Paths.{path_of, path_or_fault}
 use Rattle.sp_base.specs.declared.path.PathFault.{PathFault}
 use Rattle.resource_tree.specs.Content.{Content, node_at, same_path}
 use Rattle.type_chain.specs.declared.type_name.TypeName.{TypeName}
@@ -45,7 +45,7 @@ path_with (Err e) = []
 unfoldable pub places : TypeName → List (List (List ℕ))
 places type =
     if type.rooted then type.segs ∷ []
-    else path_with (checked (codes "apps" ∷ type.segs)) ++ path_with (checked (codes "libs" ∷ type.segs))
+    else path_with (path_or_fault (codes "apps" ∷ type.segs)) ++ path_with (path_or_fault (codes "libs" ∷ type.segs))
 
 -- the first place of the type that a text names at which there is a node
 unfoldable pub place_of : Content → List ℕ → Option (List (List ℕ))

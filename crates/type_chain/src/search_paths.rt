@@ -1,6 +1,6 @@
 //! The places of a type below the search paths.
 ghost use Rattle.std.specs.Prelude.{◌≡◌, ◌≢◌, ◌∷◌, ◌++◌, true, IfOk, IfErr, OnOk, Ok, Err, find, is_some};
-ghost use Rattle.sp_base.specs.Paths.{checked, seg_ok};
+ghost use Rattle.sp_base.specs.Paths.{path_or_fault, seg_ok};
 ghost use Rattle.resource_tree.specs.Content.{node_at};
 ghost use Rattle.type_chain.specs.Types.{path_with, place_of, places};
 
@@ -28,7 +28,7 @@ pub fn places(alloc: Global, name: &TypeName) -> Mem<PathList>
 // Adds the place below a search path, where it is not too deep.
 fn add_place(alloc: Global, list: &mut PathList, top: &str, segs: &Path) -> Mem<()>
     requires { seg_ok top.now ≡ true }
-    ensures { OnOk result (list.new ≡ list.old ++ path_with (checked (top.now ∷ segs.now))) }
+    ensures { OnOk result (list.new ≡ list.old ++ path_with (path_or_fault (top.now ∷ segs.now))) }
 {
     match place_below(alloc, top, segs) {
         Ok(place) => list.push(place),
@@ -39,8 +39,8 @@ fn add_place(alloc: Global, list: &mut PathList, top: &str, segs: &Path) -> Mem<
 
 fn place_below(alloc: Global, top: &str, segs: &Path) -> Result<Path, PathFault>
     requires { seg_ok top.now ≡ true }
-    ensures ok { IfOk result (λ p. checked (top.now ∷ segs.now) ≡ Ok p) }
-    ensures err { IfErr result (λ e. e ≢ PathFault.NoMemory → checked (top.now ∷ segs.now) ≡ Err e) }
+    ensures ok { IfOk result (λ p. path_or_fault (top.now ∷ segs.now) ≡ Ok p) }
+    ensures err { IfErr result (λ e. e ≢ PathFault.NoMemory → path_or_fault (top.now ∷ segs.now) ≡ Err e) }
 {
     Path::root(alloc).child(alloc, top)?.join(alloc, segs)
 }

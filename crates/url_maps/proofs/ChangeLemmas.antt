@@ -23,7 +23,7 @@ use Rattle.resource_tree.specs.Content.{Content, by_path, node_at, same_path}
 use Rattle.resource_tree.specs.Patches as patches
 use Rattle.url_maps.specs.Claims.{AreClaims, ClaimRows, claimants, claims_vanity_path, node_claims_vanity_path}
 use Rattle.url_maps.specs.Changes.{AreChanged, LeavesOthers, claimants_over, patched_vanity_path}
-use Rattle.url_maps.specs.Noting.{Notes, NotesRow, has_row, is_at_some, kept, left_vanity_path, noted}
+use Rattle.url_maps.specs.Noting.{Notes, NotesEntry, has_row, is_at_some, untouched_paths, left_vanity_path, claimants_so_far}
 use Rattle.url_maps.proofs.ClaimLemmas.{and_false, more_words, no_words, or_false, text_sym}
 use Rattle.url_maps.proofs.PathLemmas.{path_from_same}
 
@@ -50,29 +50,29 @@ or_true false b is = sym is
 
 -- a text is noted, with a path or without
 pub notes_one : (rows : ClaimRows) (patch : patches.PatchEntries) (text : List ℕ) (path : Option (List (List ℕ))) (old new : ClaimRows)
-    → ((t : List ℕ) → lookup (bytes_eq t) new ≡ cond (bytes_eq text t) (Some (noted rows patch old text ++ option_to_list path)) (lookup (bytes_eq t) old)) → Notes rows patch (is_at_some path) (λ t. bytes_eq t text) old new
+    → ((t : List ℕ) → lookup (bytes_eq t) new ≡ cond (bytes_eq text t) (Some (claimants_so_far rows patch old text ++ option_to_list path)) (lookup (bytes_eq t) old)) → Notes rows patch (is_at_some path) (λ t. bytes_eq t text) old new
 notes_one rows patch text path old new is = record {
   claims = λ t q.
       ⊎_elim
       (λ (same : bytes_eq text t ≡ true).
-      let row : lookup (bytes_eq t) new ≡ Some (noted rows patch old text ++ option_to_list path) = is t ∙ ap (λ b. cond b (Some (noted rows patch old text ++ option_to_list path)) (lookup (bytes_eq t) old)) same in
-      ap (λ o. list_any (same_path q) (option_map_or (λ paths. paths) o (kept patch (claimants rows t)))) row
-      ∙ list_any-append (same_path q) (noted rows patch old text) (option_to_list path)
-      ∙ ap (λ s. list_any (same_path q) (noted rows patch old s) || list_any (same_path q) (option_to_list path)) (same_text text t (sym same))
-      ∙ ap (λ x. list_any (same_path q) (noted rows patch old t) || x) (any_optional q path ∙ and_one (is_at_some path q) (bytes_eq t text) (text_sym t text ∙ same)))
+      let row : lookup (bytes_eq t) new ≡ Some (claimants_so_far rows patch old text ++ option_to_list path) = is t ∙ ap (λ b. cond b (Some (claimants_so_far rows patch old text ++ option_to_list path)) (lookup (bytes_eq t) old)) same in
+      ap (λ o. list_any (same_path q) (option_map_or (λ paths. paths) o (untouched_paths patch (claimants rows t)))) row
+      ∙ list_any-append (same_path q) (claimants_so_far rows patch old text) (option_to_list path)
+      ∙ ap (λ s. list_any (same_path q) (claimants_so_far rows patch old s) || list_any (same_path q) (option_to_list path)) (same_text text t (sym same))
+      ∙ ap (λ x. list_any (same_path q) (claimants_so_far rows patch old t) || x) (any_optional q path ∙ and_one (is_at_some path q) (bytes_eq t text) (text_sym t text ∙ same)))
       (λ (other : bytes_eq text t ≡ false).
-      let row : lookup (bytes_eq t) new ≡ lookup (bytes_eq t) old = is t ∙ ap (λ b. cond b (Some (noted rows patch old text ++ option_to_list path)) (lookup (bytes_eq t) old)) other in
-      ap (λ o. list_any (same_path q) (option_map_or (λ paths. paths) o (kept patch (claimants rows t)))) row
-      ∙ no_words (list_any (same_path q) (noted rows patch old t)) (is_at_some path q)
-      ∙ ap (λ b. list_any (same_path q) (noted rows patch old t) || (is_at_some path q && b)) (sym (text_sym t text ∙ other)))
+      let row : lookup (bytes_eq t) new ≡ lookup (bytes_eq t) old = is t ∙ ap (λ b. cond b (Some (claimants_so_far rows patch old text ++ option_to_list path)) (lookup (bytes_eq t) old)) other in
+      ap (λ o. list_any (same_path q) (option_map_or (λ paths. paths) o (untouched_paths patch (claimants rows t)))) row
+      ∙ no_words (list_any (same_path q) (claimants_so_far rows patch old t)) (is_at_some path q)
+      ∙ ap (λ b. list_any (same_path q) (claimants_so_far rows patch old t) || (is_at_some path q && b)) (sym (text_sym t text ∙ other)))
       (cases_Bool (bytes_eq text t));
   has = λ t.
       ⊎_elim
       (λ (same : bytes_eq text t ≡ true).
-      ap is_some (is t ∙ ap (λ b. cond b (Some (noted rows patch old text ++ option_to_list path)) (lookup (bytes_eq t) old)) same)
+      ap is_some (is t ∙ ap (λ b. cond b (Some (claimants_so_far rows patch old text ++ option_to_list path)) (lookup (bytes_eq t) old)) same)
       ∙ or_true (has_row old t) (bytes_eq t text) (text_sym t text ∙ same))
       (λ (other : bytes_eq text t ≡ false).
-      ap is_some (is t ∙ ap (λ b. cond b (Some (noted rows patch old text ++ option_to_list path)) (lookup (bytes_eq t) old)) other)
+      ap is_some (is t ∙ ap (λ b. cond b (Some (claimants_so_far rows patch old text ++ option_to_list path)) (lookup (bytes_eq t) old)) other)
       ∙ sym (ap (λ b. has_row old t || b) (text_sym t text ∙ other) ∙ or_false (has_row old t)))
       (cases_Bool (bytes_eq text t));
 }
@@ -81,7 +81,7 @@ notes_one rows patch text path old new is = record {
 
 pub notes_none : (rows : ClaimRows) (patch : patches.PatchEntries) (who : List (List ℕ) → Bool) (changed : ClaimRows) → Notes rows patch who (λ t. false) changed changed
 notes_none rows patch who changed = record {
-  claims = λ t q. no_words (list_any (same_path q) (noted rows patch changed t)) (who q);
+  claims = λ t q. no_words (list_any (same_path q) (claimants_so_far rows patch changed t)) (who q);
   has = λ t. sym (or_false (has_row changed t));
 }
 
@@ -90,8 +90,8 @@ pub notes_more : (rows : ClaimRows) (patch : patches.PatchEntries) (who : List (
     → Notes rows patch who (λ t. list_any (bytes_eq t) (take i texts)) first old → Notes rows patch who (λ t. bytes_eq t text) old new → Notes rows patch who (λ t. list_any (bytes_eq t) (take (i + 1) texts)) first new
 notes_more rows patch who first old new texts i text within item so_far one = record {
   claims = λ t q.
-      more_words (list_any (same_path q) (noted rows patch first t)) (who q) (list_any (same_path q) (noted rows patch old t)) (list_any (same_path q) (noted rows patch new t)) (bytes_eq t) texts i text within (so_far.claims t q)
-      (one.claims t q ∙ ap (λ x. list_any (same_path q) (noted rows patch old t) || (who q && bytes_eq t x)) item);
+      more_words (list_any (same_path q) (claimants_so_far rows patch first t)) (who q) (list_any (same_path q) (claimants_so_far rows patch old t)) (list_any (same_path q) (claimants_so_far rows patch new t)) (bytes_eq t) texts i text within (so_far.claims t q)
+      (one.claims t q ∙ ap (λ x. list_any (same_path q) (claimants_so_far rows patch old t) || (who q && bytes_eq t x)) item);
   has = λ t.
       one.has t ∙ ap (λ x. x || bytes_eq t text) (so_far.has t) ∙ or_assoc (has_row first t) (list_any (bytes_eq t) (take i texts)) (bytes_eq t text)
       ∙ ap (λ x. has_row first t || x) (ap (λ x. list_any (bytes_eq t) (take i texts) || bytes_eq t x) item ∙ sym (list_any_more (bytes_eq t) texts i text within));
@@ -100,17 +100,17 @@ notes_more rows patch who first old new texts i text within item so_far one = re
 -- ---- one entry
 
 pub notes_row : (rows : ClaimRows) (patch : patches.PatchEntries) (path : List (List ℕ)) (before after : List ℕ → Bool) (old mid new : ClaimRows) → Notes rows patch (is_at_some None) before old mid → Notes rows patch (is_at_some (Some path)) after mid new
-    → NotesRow rows patch path before after old new
+    → NotesEntry rows patch path before after old new
 notes_row rows patch path before after old mid new first last = record {
   claims = λ t q.
-      last.claims t q ∙ ap (λ x. x || (same_path q path && after t)) (first.claims t q ∙ or_false (list_any (same_path q) (noted rows patch old t)));
+      last.claims t q ∙ ap (λ x. x || (same_path q path && after t)) (first.claims t q ∙ or_false (list_any (same_path q) (claimants_so_far rows patch old t)));
   has = λ t. last.has t ∙ ap (λ x. x || after t) (first.has t) ∙ or_assoc (has_row old t) (before t) (after t);
 }
 
 pub notes_row_alike : (rows : ClaimRows) (patch : patches.PatchEntries) (path : List (List ℕ)) (before other after another : List ℕ → Bool) (old new : ClaimRows) → ((t : List ℕ) → before t ≡ other t) → ((t : List ℕ) → after t ≡ another t)
-    → NotesRow rows patch path before after old new → NotesRow rows patch path other another old new
+    → NotesEntry rows patch path before after old new → NotesEntry rows patch path other another old new
 notes_row_alike rows patch path before other after another old new same alike is = record {
-  claims = λ t q. is.claims t q ∙ ap (λ b. list_any (same_path q) (noted rows patch old t) || (same_path q path && b)) (alike t);
+  claims = λ t q. is.claims t q ∙ ap (λ b. list_any (same_path q) (claimants_so_far rows patch old t) || (same_path q path && b)) (alike t);
   has = λ t. is.has t ∙ ap (λ b. has_row old t || (b || after t)) (same t) ∙ ap (λ b. has_row old t || (other t || b)) (alike t);
 }
 
@@ -118,20 +118,20 @@ notes_row_alike rows patch path before other after another old new same alike is
 
 -- the entries of a patch so far are noted
 pub record AreNoted (rows : ClaimRows) (patch : patches.PatchEntries) (before : List (List ℕ) → List ℕ → Bool) (left : List (List ℕ) → PatchNode → List ℕ → Bool) (done : patches.PatchEntries) (changed : ClaimRows) : Type 0 where
-  pub claims : (t : List ℕ) (q : List (List ℕ)) → list_any (same_path q) (noted rows patch changed t) ≡ (list_any (same_path q) (kept patch (claimants rows t)) || list_any (λ row. same_path q row.0 && left row.0 row.1 t) done)
+  pub claims : (t : List ℕ) (q : List (List ℕ)) → list_any (same_path q) (claimants_so_far rows patch changed t) ≡ (list_any (same_path q) (untouched_paths patch (claimants rows t)) || list_any (λ row. same_path q row.0 && left row.0 row.1 t) done)
   pub has : (t : List ℕ) → has_row changed t ≡ list_any (λ row. before row.0 t || left row.0 row.1 t) done
 
 any_next : {X : Type 0} (test : X → Bool) (xs : List X) (i : ℕ) (x : X) → slice_get xs i ≡ Some x → list_any test (take (i + 1) xs) ≡ (list_any test (take i xs) || test x)
 any_next test xs i x is = list_any_more test xs i x (slice_get_within xs i x is) ∙ ap (λ y. list_any test (take i xs) || test y) (get_or_from_slice_get xs i x x is)
 
 pub noted_next : (rows : ClaimRows) (patch : patches.PatchEntries) (before : List (List ℕ) → List ℕ → Bool) (left : List (List ℕ) → PatchNode → List ℕ → Bool) (i : ℕ) (path : List (List ℕ)) (row : PatchNode) (old new : ClaimRows)
-    → slice_get patch i ≡ Some (path, row) → AreNoted rows patch before left (take i patch) old → NotesRow rows patch path (before path) (left path row) old new → AreNoted rows patch before left (take (i + 1) patch) new
+    → slice_get patch i ≡ Some (path, row) → AreNoted rows patch before left (take i patch) old → NotesEntry rows patch path (before path) (left path row) old new → AreNoted rows patch before left (take (i + 1) patch) new
 noted_next rows patch before left i path row old new is so_far one = record {
   claims = λ t q.
       let test = λ (r : List (List ℕ) × PatchNode). same_path q r.0 && left r.0 r.1 t in
       one.claims t q ∙ ap (λ x. x || (same_path q path && left path row t)) (so_far.claims t q)
-      ∙ or_assoc (list_any (same_path q) (kept patch (claimants rows t))) (list_any test (take i patch)) (same_path q path && left path row t)
-      ∙ ap (λ x. list_any (same_path q) (kept patch (claimants rows t)) || x) (sym (any_next test patch i (path, row) is));
+      ∙ or_assoc (list_any (same_path q) (untouched_paths patch (claimants rows t))) (list_any test (take i patch)) (same_path q path && left path row t)
+      ∙ ap (λ x. list_any (same_path q) (untouched_paths patch (claimants rows t)) || x) (sym (any_next test patch i (path, row) is));
   has = λ t.
       let test = λ (r : List (List ℕ) × PatchNode). before r.0 t || left r.0 r.1 t in
       one.has t ∙ ap (λ x. x || (before path t || left path row t)) (so_far.has t) ∙ sym (any_next test patch i (path, row) is);
@@ -222,7 +222,7 @@ pub changed_by : (rows : ClaimRows) (patch : patches.PatchEntries) (before after
 changed_by rows patch before after left changed claims once noted_all is t q =
     elim (lookup (bytes_eq t) changed) as (λ o. lookup (bytes_eq t) changed ≡ o → option_map_or (list_any (same_path q)) o (before q t) ≡ after q t) [
       | Some paths ↦ λ row.
-          sym (ap (λ o. list_any (same_path q) (option_map_or (λ ps. ps) o (kept patch (claimants rows t)))) row) ∙ noted_all.claims t q
+          sym (ap (λ o. list_any (same_path q) (option_map_or (λ ps. ps) o (untouched_paths patch (claimants rows t)))) row) ∙ noted_all.claims t q
           ∙ ap (λ x. x || list_any (λ r. same_path q r.0 && left r.0 r.1 t) patch) (any_filter q (λ p. is_none (patches.entry_at patch p)) (claimants rows t) ∙ ap (λ x. x && is_none (patches.entry_at patch q)) (claims t q))
           ∙ ap (λ x. (before q t && is_none (patches.entry_at patch q)) || x) (any_left q left t patch once)
           ∙ settled (before q t) (λ r. left q r t) (patches.entry_at patch q) ∙ sym (is q t)

@@ -19,7 +19,7 @@ use Rattle.resource_tree.specs.Content.{Content, IsTree, node_at, same_path}
 use Rattle.resource_tree.specs.Patches as patches
 use Rattle.url_maps.specs.Claims.{AreClaims, AreLed, ClaimRows, IsLeader, IsLed, claimants, claims_vanity_path, cmp_by}
 use Rattle.url_maps.specs.Changes.{AreChanged, LeavesOthers, claimants_over}
-use Rattle.url_maps.specs.Noting.{IsFirstOf, Leads, LeadsRow, LeadsRows, others}
+use Rattle.url_maps.specs.Noting.{IsFirstOf, PutsLeaderFirst, LeadsRow, LeadsRows, others}
 use Rattle.url_maps.specs.Search.{IsFirstPath}
 use Rattle.url_maps.specs.VanityPaths.{order_of, vanity_cmp, vanity_order}
 use Rattle.url_maps.proofs.ClaimLemmas.{or_false, text_sym}
@@ -89,15 +89,15 @@ law_first false true all = refl
 law_first false false all = refl
 
 -- the first before the others
-pub leads_by : (at : List (List ℕ) → Option Node) (paths new : List (List (List ℕ))) (first : List (List ℕ)) → IsFirstOf at paths first → new ≡ first ∷ others first paths → Leads at paths new
+pub leads_by : (at : List (List ℕ) → Option Node) (paths new : List (List (List ℕ))) (first : List (List ℕ)) → IsFirstOf at paths first → new ≡ first ∷ others first paths → PutsLeaderFirst at paths new
 leads_by at paths new first is_first is =
     let same : (q : List (List ℕ)) → list_any (same_path q) (first ∷ others first paths) ≡ list_any (same_path q) paths = λ q.
     ap (λ x. same_path q first || x) (any_filter q (λ p. not (same_path p first)) paths)
     ∙ law_first (same_path q first) (list_any (same_path q) paths) (λ one. ap (λ p. list_any (same_path p) paths) (path_from_same q first one) ∙ is_first.among) in
-    subst (Leads at paths) (sym is) (record { paths = same; led = λ other among. is_first.first other (sym (same other) ∙ among) })
+    subst (PutsLeaderFirst at paths) (sym is) (record { paths = same; led = λ other among. is_first.first other (sym (same other) ∙ among) })
 
 -- fewer than two paths
-pub leads_few : (at : List (List ℕ) → Option Node) (paths : List (List (List ℕ))) → length paths < 2 → Leads at paths paths
+pub leads_few : (at : List (List ℕ) → Option Node) (paths : List (List (List ℕ))) → length paths < 2 → PutsLeaderFirst at paths paths
 leads_few at [] few = record { paths = λ q. refl; led = tt }
 leads_few at (path ∷ []) few = record {
   paths = λ q. refl;
@@ -107,12 +107,12 @@ leads_few at (path ∷ other ∷ paths) few = absurd (omega (arith, few))
 
 -- ---- all rows
 
-row_more : (at : List (List ℕ) → Option Node) (b : Bool) (paths led : List (List (List ℕ))) (old new : Option (List (List (List ℕ)))) → Leads at paths led → LeadsRow at old new → LeadsRow at (cond b (Some paths) old) (cond b (Some led) new)
+row_more : (at : List (List ℕ) → Option Node) (b : Bool) (paths led : List (List (List ℕ))) (old new : Option (List (List (List ℕ)))) → PutsLeaderFirst at paths led → LeadsRow at old new → LeadsRow at (cond b (Some paths) old) (cond b (Some led) new)
 row_more at true paths led old new leads others = leads
 row_more at false paths led old new leads others = others
 
 -- one row more, before the others
-pub rows_led : (at : List (List ℕ) → Option Node) (done old new : ClaimRows) (text : List ℕ) (paths led : List (List (List ℕ))) → LeadsRows at done old → Leads at paths led
+pub rows_led : (at : List (List ℕ) → Option Node) (done old new : ClaimRows) (text : List ℕ) (paths led : List (List (List ℕ))) → LeadsRows at done old → PutsLeaderFirst at paths led
     → ((t : List ℕ) → lookup (bytes_eq t) new ≡ cond (bytes_eq text t) (Some led) (lookup (bytes_eq t) old)) → LeadsRows at ((text, paths) ∷ done) new
 rows_led at done old new text paths led so_far leads is t =
     subst (LeadsRow at (cond (bytes_eq t text) (Some paths) (lookup (bytes_eq t) done))) (sym (is t ∙ ap (λ b. cond b (Some led) (lookup (bytes_eq t) old)) (text_sym text t)))
@@ -146,13 +146,13 @@ row_none at None new leads none = refl
 row_none at (Some old) None leads none = absurd leads
 row_none at (Some old) (Some new) leads none = cc
 
-pub row_claims : (at : List (List ℕ) → Option Node) (old new : Option (List (List (List ℕ)))) → LeadsRow at old new → Leads at (option_map_or (λ paths. paths) old []) (option_map_or (λ paths. paths) new [])
+pub row_claims : (at : List (List ℕ) → Option Node) (old new : Option (List (List (List ℕ)))) → LeadsRow at old new → PutsLeaderFirst at (option_map_or (λ paths. paths) old []) (option_map_or (λ paths. paths) new [])
 row_claims at None None leads = record { paths = λ q. refl; led = tt }
 row_claims at None (Some new) leads = absurd leads
 row_claims at (Some old) None leads = absurd leads
 row_claims at (Some old) (Some new) leads = leads
 
-pub none_led : (at : List (List ℕ) → Option Node) (old new : List (List (List ℕ))) → Leads at old new → old ≡ [] → new ≡ []
+pub none_led : (at : List (List ℕ) → Option Node) (old new : List (List (List ℕ))) → PutsLeaderFirst at old new → old ≡ [] → new ≡ []
 none_led at old [] leads none = refl
 none_led at old (path ∷ new) leads none =
     absurd (true≢false (sym (ap (λ b. b || list_any (same_path path) new) (same_path_self path)) ∙ leads.paths path ∙ ap (list_any (same_path path)) none))

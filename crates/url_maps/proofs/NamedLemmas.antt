@@ -10,7 +10,7 @@ use Rattle.sp_base.specs.Paths.{is_path, path_or_none}
 use Rattle.resource_tree.specs.declared.nodes.Node.{Node}
 use Rattle.resource_tree.specs.Content.{Content, kid, node_at}
 use Rattle.url_maps.specs.Claims.{claims_by, node_claims_alias, spells_alias}
-use Rattle.url_maps.specs.Siblings.{AreSameFirst, AreSameLast, alias_words, is_named, named_kid, named_kids}
+use Rattle.url_maps.specs.Siblings.{AreSameFirst, AreSameLast, alias_words, is_aliased, is_aliased_kid, aliased_kids}
 use Rattle.url_maps.proofs.AliasLemmas.{not_root}
 use Rattle.url_maps.proofs.ClaimLemmas.{and_false}
 use Rattle.url_maps.proofs.SiblingLemmas.{a_path, not_a_path}
@@ -25,12 +25,12 @@ some_word test [] any = absurd (false≢true any)
 some_word test (w ∷ words) any = ap not (not_root (w ∷ words) (omega arith))
 
 -- a kid that claims a text has an alias
-pub claimant_named : (tree : Content) (p : List (List ℕ)) (name t : List ℕ) → claims_by (node_at tree) (kid p name) t ≡ true → named_kid tree p name ≡ true
+pub claimant_named : (tree : Content) (p : List (List ℕ)) (name t : List ℕ) → claims_by (node_at tree) (kid p name) t ≡ true → is_aliased_kid tree p name ≡ true
 claimant_named tree p name t claims =
     let q = kid p name in
     let parts = and_parts (is_path q) (option_map_or (λ (node : Node). node_claims_alias q node t) (node_at tree q) false) claims in
     let words = and_parts (not (length q == 0)) (list_any (spells_alias q t) (alias_words (node_at tree q))) (sym (words_claim q t (node_at tree q)) ∙ parts.1) in
-    ap (λ b. b && is_named (node_at tree q)) parts.0 ∙ some_word (spells_alias q t) (alias_words (node_at tree q)) words.1
+    ap (λ b. b && is_aliased (node_at tree q)) parts.0 ∙ some_word (spells_alias q t) (alias_words (node_at tree q)) words.1
 
 -- ---- what is found among those that pass
 
@@ -46,12 +46,12 @@ find_passing test pass all (x ∷ xs) =
     (cases_Bool (pass x))
 
 -- the first kid that claims a text is the same in lists with the same named kids
-pub first_in_named : (tree : Content) (p : List (List ℕ)) (t : List ℕ) (names others : List (List ℕ)) → named_kids tree p names ≡ named_kids tree p others
+pub first_in_named : (tree : Content) (p : List (List ℕ)) (t : List ℕ) (names others : List (List ℕ)) → aliased_kids tree p names ≡ aliased_kids tree p others
     → find (λ name. claims_by (node_at tree) (kid p name) t) names ≡ find (λ name. claims_by (node_at tree) (kid p name) t) others
 first_in_named tree p t names others same =
     let test : List ℕ → Bool = λ name. claims_by (node_at tree) (kid p name) t in
-    let all : (name : List ℕ) → test name ≡ true → named_kid tree p name ≡ true = λ name claims. claimant_named tree p name t claims in
-    find_passing test (named_kid tree p) all names ∙ ap (find test) same ∙ sym (find_passing test (named_kid tree p) all others)
+    let all : (name : List ℕ) → test name ≡ true → is_aliased_kid tree p name ≡ true = λ name claims. claimant_named tree p name t claims in
+    find_passing test (is_aliased_kid tree p) all names ∙ ap (find test) same ∙ sym (find_passing test (is_aliased_kid tree p) all others)
 
 -- ---- what two lists have in common
 
@@ -66,19 +66,19 @@ none_passes pass (x ∷ xs) none =
 cut_at : {X : Type 0} (pass : X → Bool) (n : ℕ) (xs : List X) → filter pass xs ≡ filter pass (take n xs) ++ filter pass (drop n xs)
 cut_at pass n xs = ap (filter pass) (sym (take-append-drop n xs)) ∙ filter-append pass (take n xs) (drop n xs)
 
-pub alike_after : (tree : Content) (p : List (List ℕ)) (n : ℕ) (names others : List (List ℕ)) → AreSameFirst n names others → named_kids tree p (drop n names) ≡ named_kids tree p (drop n others) → named_kids tree p names ≡ named_kids tree p others
+pub alike_after : (tree : Content) (p : List (List ℕ)) (n : ℕ) (names others : List (List ℕ)) → AreSameFirst n names others → aliased_kids tree p (drop n names) ≡ aliased_kids tree p (drop n others) → aliased_kids tree p names ≡ aliased_kids tree p others
 alike_after tree p n names others first rest =
-    let pass = named_kid tree p in
+    let pass = is_aliased_kid tree p in
     cut_at pass n names ∙ ap (λ l. filter pass l ++ filter pass (drop n names)) first.same ∙ ap (λ l. filter pass (take n others) ++ l) rest ∙ sym (cut_at pass n others)
 
 -- the named ones of a list of whose beginning none is named
 last_alone : {X : Type 0} (pass : X → Bool) (n : ℕ) (xs : List X) → list_any pass (take n xs) ≡ false → filter pass xs ≡ filter pass (drop n xs)
 last_alone pass n xs none = cut_at pass n xs ∙ ap (λ l. l ++ filter pass (drop n xs)) (none_passes pass (take n xs) none)
 
-pub alike_before : (tree : Content) (p : List (List ℕ)) (n : ℕ) (names others : List (List ℕ)) → AreSameLast n names others → list_any (named_kid tree p) (take (length names - n) names) ≡ false
-    → list_any (named_kid tree p) (take (length others - n) others) ≡ false → named_kids tree p names ≡ named_kids tree p others
+pub alike_before : (tree : Content) (p : List (List ℕ)) (n : ℕ) (names others : List (List ℕ)) → AreSameLast n names others → list_any (is_aliased_kid tree p) (take (length names - n) names) ≡ false
+    → list_any (is_aliased_kid tree p) (take (length others - n) others) ≡ false → aliased_kids tree p names ≡ aliased_kids tree p others
 alike_before tree p n names others last none no_other =
-    let pass = named_kid tree p in
+    let pass = is_aliased_kid tree p in
     last_alone pass (length names - n) names none ∙ ap (filter pass) last.same ∙ sym (last_alone pass (length others - n) others no_other)
 
 or_true : (a b : Bool) → a ≡ true → (a || b) ≡ true
@@ -106,13 +106,13 @@ pub last_more : (xs ys : List (List ℕ)) (i : ℕ) (x y : List ℕ) → i < len
 last_more xs ys i x y within in_other here there same so_far =
     one_before xs i x within here ∙ ap (λ z. z ∷ drop (length xs - i) xs) same ∙ ap (λ l. y ∷ l) so_far ∙ sym (one_before ys i y in_other there)
 
-pub named_is : (tree : Content) (p : List (List ℕ)) (name : List ℕ) (k : List (List ℕ)) → path_or_none (kid p name) ≡ Some k → is_named (node_at tree k) ≡ named_kid tree p name
+pub named_is : (tree : Content) (p : List (List ℕ)) (name : List ℕ) (k : List (List ℕ)) → path_or_none (kid p name) ≡ Some k → is_aliased (node_at tree k) ≡ is_aliased_kid tree p name
 named_is tree p name k some =
     let is = a_path (kid p name) k some in
-    ap (λ r. is_named (node_at tree r)) (sym is.0) ∙ sym (ap (λ b. b && is_named (node_at tree (kid p name))) is.1)
+    ap (λ r. is_aliased (node_at tree r)) (sym is.0) ∙ sym (ap (λ b. b && is_aliased (node_at tree (kid p name))) is.1)
 
-pub unnamed : (tree : Content) (p : List (List ℕ)) (name : List ℕ) → path_or_none (kid p name) ≡ None → named_kid tree p name ≡ false
-unnamed tree p name none = ap (λ b. b && is_named (node_at tree (kid p name))) (not_a_path (kid p name) none)
+pub unnamed : (tree : Content) (p : List (List ℕ)) (name : List ℕ) → path_or_none (kid p name) ≡ None → is_aliased_kid tree p name ≡ false
+unnamed tree p name none = ap (λ b. b && is_aliased (node_at tree (kid p name))) (not_a_path (kid p name) none)
 
 pub any_at : {X : Type 0} (test : X → Bool) (xs : List X) (i : ℕ) (x : X) → i < length xs → test (get_or xs i x) ≡ true → list_any test xs ≡ true
 any_at test [] i x within is = absurd (omega (arith, within))

@@ -16,7 +16,7 @@ use Rattle.resource_tree.specs.Content.{Content, kid, node_at, same_path}
 use Rattle.resource_tree.specs.Patches as patches
 use Rattle.url_maps.specs.Claims.{ClaimRows, claims_by, kids_by, node_claims_alias, spells_alias}
 use Rattle.url_maps.specs.Noting.{has_row}
-use Rattle.url_maps.specs.Siblings.{IsSettled, IsWithin, KeepsOthers, alias_words, kids_if, named_kids}
+use Rattle.url_maps.specs.Siblings.{IsSettled, IsWithin, KeepsOthers, alias_words, kids_if, aliased_kids}
 use Rattle.url_maps.proofs.AliasLemmas.{find_alike}
 use Rattle.url_maps.proofs.NamedLemmas.{first_in_named, words_claim}
 use Rattle.url_maps.proofs.PathLemmas.{IsReadBack, parent_of-kid, path_from_same, same_path_flips, same_path_self, texts_and_paths}
@@ -79,10 +79,10 @@ keeps_others tree patch n parents end settled p t other =
     let at = row_place patch q row is in
     let within = slice_get_within patch at.place (q, row) at.is in
     settled at.place q row (omega (arith, within, end)) at.is in
-    let kids : named_kids tree p (kids_by (node_at tree) p) ≡ named_kids tree p (kids_by (patches.patching_at tree patch) p) =
-    elim (patches.entry_at patch p) as (λ o. patches.entry_at patch p ≡ o → named_kids tree p (kids_if (node_at tree p)) ≡ named_kids tree p (kids_if (patches.left_by o (node_at tree p)))) [
+    let kids : aliased_kids tree p (kids_by (node_at tree) p) ≡ aliased_kids tree p (kids_by (patches.patching_at tree patch) p) =
+    elim (patches.entry_at patch p) as (λ o. patches.entry_at patch p ≡ o → aliased_kids tree p (kids_if (node_at tree p)) ≡ aliased_kids tree p (kids_if (patches.left_by o (node_at tree p)))) [
       | None ↦ λ is. refl
-      | Some row ↦ λ is. (settled_at p row is).kids other ∙ ap (λ o. named_kids tree p (kids_if o)) (sym (left_of row (node_at tree p)))
+      | Some row ↦ λ is. (settled_at p row is).kids other ∙ ap (λ o. aliased_kids tree p (kids_if o)) (sym (left_of row (node_at tree p)))
     ] refl in
     let claims : (name : List ℕ) → claims_by (node_at tree) (kid p name) t ≡ claims_by (patches.patching_at tree patch) (kid p name) t = λ name.
     elim (patches.entry_at patch (kid p name)) as (λ o. patches.entry_at patch (kid p name) ≡ o
@@ -136,7 +136,7 @@ first_no true b e = e
 first_no false b e = refl
 
 pub settled_row : (tree : Content) (path : List (List ℕ)) (row : PatchNode) (kids_stay aliases_stay : Bool) (old mid new : List (List (List ℕ)))
-    → (kids_stay ≡ true → named_kids tree path (kids_if (node_at tree path)) ≡ named_kids tree path (kids_if (patches.left_by (Some row) None))) → (aliases_stay ≡ true → alias_words (node_at tree path) ≡ alias_words (patches.left_by (Some row) None))
+    → (kids_stay ≡ true → aliased_kids tree path (kids_if (node_at tree path)) ≡ aliased_kids tree path (kids_if (patches.left_by (Some row) None))) → (aliases_stay ≡ true → alias_words (node_at tree path) ≡ alias_words (patches.left_by (Some row) None))
     → ((q : List (List ℕ)) → list_any (same_path q) mid ≡ (list_any (same_path q) old || (not kids_stay && same_path q path)))
     → ((q : List (List ℕ)) → list_any (same_path q) new ≡ (list_any (same_path q) mid || (not aliases_stay && same_path q (parent_of path)))) → IsSettled tree path row new
 settled_row tree path row kids_stay aliases_stay old mid new kids aliases first last = record {

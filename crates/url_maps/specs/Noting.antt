@@ -11,12 +11,12 @@ use Rattle.resource_tree.specs.Patches as patches
 use Rattle.url_maps.specs.Claims.{ClaimRows, IsLeader, IsLed, claimants, node_claims_vanity_path}
 
 -- those of some paths at which a patch has nothing
-abbrev pub kept : patches.PatchEntries → List (List (List ℕ)) → List (List (List ℕ))
-kept patch paths = filter (λ path. is_none (patches.entry_at patch path)) paths
+abbrev pub untouched_paths : patches.PatchEntries → List (List (List ℕ)) → List (List (List ℕ))
+untouched_paths patch paths = filter (λ path. is_none (patches.entry_at patch path)) paths
 
 -- the claimants of a text as a change has them so far
-abbrev pub noted : ClaimRows → patches.PatchEntries → ClaimRows → List ℕ → List (List (List ℕ))
-noted rows patch changed text = option_map_or (λ paths. paths) (lookup (bytes_eq text) changed) (kept patch (claimants rows text))
+abbrev pub claimants_so_far : ClaimRows → patches.PatchEntries → ClaimRows → List ℕ → List (List (List ℕ))
+claimants_so_far rows patch changed text = option_map_or (λ paths. paths) (lookup (bytes_eq text) changed) (untouched_paths patch (claimants rows text))
 
 -- whether a path is the one, if there is one
 abbrev pub is_at_some : Option (List (List ℕ)) → List (List ℕ) → Bool
@@ -28,12 +28,12 @@ has_row changed text = is_some (lookup (bytes_eq text) changed)
 
 -- Texts are noted, with more who claim them.
 pub record Notes (rows : ClaimRows) (patch : patches.PatchEntries) (who : List (List ℕ) → Bool) (texts : List ℕ → Bool) (old new : ClaimRows) : Type 0 where
-  pub claims : (text : List ℕ) (q : List (List ℕ)) → list_any (same_path q) (noted rows patch new text) ≡ (list_any (same_path q) (noted rows patch old text) || (who q && texts text))
+  pub claims : (text : List ℕ) (q : List (List ℕ)) → list_any (same_path q) (claimants_so_far rows patch new text) ≡ (list_any (same_path q) (claimants_so_far rows patch old text) || (who q && texts text))
   pub has : (text : List ℕ) → has_row new text ≡ (has_row old text || texts text)
 
 -- The texts that the node at a path claims before a patch, and those that it claims after it, are noted.
-pub record NotesRow (rows : ClaimRows) (patch : patches.PatchEntries) (path : List (List ℕ)) (before after : List ℕ → Bool) (old new : ClaimRows) : Type 0 where
-  pub claims : (text : List ℕ) (q : List (List ℕ)) → list_any (same_path q) (noted rows patch new text) ≡ (list_any (same_path q) (noted rows patch old text) || (same_path q path && after text))
+pub record NotesEntry (rows : ClaimRows) (patch : patches.PatchEntries) (path : List (List ℕ)) (before after : List ℕ → Bool) (old new : ClaimRows) : Type 0 where
+  pub claims : (text : List ℕ) (q : List (List ℕ)) → list_any (same_path q) (claimants_so_far rows patch new text) ≡ (list_any (same_path q) (claimants_so_far rows patch old text) || (same_path q path && after text))
   pub has : (text : List ℕ) → has_row new text ≡ (has_row old text || (before text || after text))
 
 -- what the node that an entry leaves at a path claims
@@ -52,7 +52,7 @@ abbrev pub others : List (List ℕ) → List (List (List ℕ)) → List (List (L
 others path paths = filter (λ q. not (same_path q path)) paths
 
 -- The paths are the same, maybe in another order, and led.
-pub record Leads (at : List (List ℕ) → Option Node) (old new : List (List (List ℕ))) : Type 0 where
+pub record PutsLeaderFirst (at : List (List ℕ) → Option Node) (old new : List (List (List ℕ))) : Type 0 where
   pub paths : (q : List (List ℕ)) → list_any (same_path q) new ≡ list_any (same_path q) old
   pub led : IsLed at new
 
@@ -61,7 +61,7 @@ abbrev pub LeadsRow : (List (List ℕ) → Option Node) → Option (List (List (
 LeadsRow at None None = ⊤
 LeadsRow at None (Some new) = ⊥
 LeadsRow at (Some old) None = ⊥
-LeadsRow at (Some old) (Some new) = Leads at old new
+LeadsRow at (Some old) (Some new) = PutsLeaderFirst at old new
 
 -- The same of each row.
 abbrev pub LeadsRows : (List (List ℕ) → Option Node) → ClaimRows → ClaimRows → Type 0

@@ -54,16 +54,16 @@ abbrev pub alias_words : Option Node → List (List ℕ)
 alias_words node = option_map_or (λ n. mapping_texts (prop_at n (codes "sling:alias"))) node []
 
 -- whether a node has an alias
-abbrev pub is_named : Option Node → Bool
-is_named node = not (length (alias_words node) == 0)
+abbrev pub is_aliased : Option Node → Bool
+is_aliased node = not (length (alias_words node) == 0)
 
 -- whether a node's kid of a name has an alias
-abbrev pub named_kid : Content → List (List ℕ) → List ℕ → Bool
-named_kid tree path name = is_path (kid path name) && is_named (node_at tree (kid path name))
+abbrev pub is_aliased_kid : Content → List (List ℕ) → List ℕ → Bool
+is_aliased_kid tree path name = is_path (kid path name) && is_aliased (node_at tree (kid path name))
 
 -- the kids with an alias among some names
-abbrev pub named_kids : Content → List (List ℕ) → List (List ℕ) → List (List ℕ)
-named_kids tree path names = filter (named_kid tree path) names
+abbrev pub aliased_kids : Content → List (List ℕ) → List (List ℕ) → List (List ℕ)
+aliased_kids tree path names = filter (is_aliased_kid tree path) names
 
 -- two lists begin with the same n texts
 pub record AreSameFirst (n : ℕ) (texts others : List (List ℕ)) : Type 0 where
@@ -79,7 +79,7 @@ pub record AreSameLast (n : ℕ) (texts others : List (List ℕ)) : Type 0 where
 
 -- An entry's node is among the parents unless the entry leaves its kids with an alias, and its parent unless it leaves its aliases.
 pub record IsSettled (tree : Content) (path : List (List ℕ)) (row : PatchNode) (parents : List (List (List ℕ))) : Type 0 where
-  pub kids : list_any (same_path path) parents ≡ false → named_kids tree path (kids_if (node_at tree path)) ≡ named_kids tree path (kids_if (patches.left_by (Some row) None))
+  pub kids : list_any (same_path path) parents ≡ false → aliased_kids tree path (kids_if (node_at tree path)) ≡ aliased_kids tree path (kids_if (patches.left_by (Some row) None))
   pub aliases : list_any (same_path (parent_of path)) parents ≡ false → alias_words (node_at tree path) ≡ alias_words (patches.left_by (Some row) None)
 
 -- paths are kept, and maybe more are added

@@ -4,7 +4,7 @@ ghost use Rattle.resource_tree.specs.Content.{Content, node_at};
 ghost use Rattle.resource_tree.specs.Patches.{PatchEntries, patching_at};
 ghost use Rattle.url_maps.specs.Claims.{IsIndexOf, claims_vanity_path};
 ghost use Rattle.url_maps.specs.Changes.{AreChanged, HasRoom, IsChangeOf, LeavesOthers, patched_vanity_path};
-ghost use Rattle.url_maps.specs.Noting.{NotesRow, left_vanity_path};
+ghost use Rattle.url_maps.specs.Noting.{NotesEntry, left_vanity_path};
 
 use crate::MapIndex;
 use crate::claimed::vanity_texts;
@@ -97,7 +97,7 @@ fn note_row(
     path: &Path,
     row: &PatchNode,
 ) -> Mem<()>
-    ensures { OnOk result (NotesRow index.now.vanity_paths.rows patch.now path.now (claims_vanity_path tree.now path.now) (left_vanity_path path.now row.now) change.old change.new) }
+    ensures { OnOk result (NotesEntry index.now.vanity_paths.rows patch.now path.now (claims_vanity_path tree.now path.now) (left_vanity_path path.now row.now) change.old change.new) }
 {
     let old = tree.node(path);
     let new = left_by(row);

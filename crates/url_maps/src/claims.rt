@@ -6,7 +6,7 @@ ghost use Rattle.resource_tree.specs.Content.{same_path};
 ghost use Rattle.resource_tree.specs.Patches.{patching_at};
 ghost use Rattle.url_maps.specs.Claims.{AddsClaims, claimants};
 ghost use Rattle.url_maps.specs.Changes.{claimants_over};
-ghost use Rattle.url_maps.specs.Noting.{Leads};
+ghost use Rattle.url_maps.specs.Noting.{PutsLeaderFirst};
 ghost use Rattle.url_maps.specs.Siblings.{HasParent, IsWithin};
 
 use crate::claims_change::ClaimsChange;
@@ -121,7 +121,7 @@ impl Claims {
 
     // Puts the path that leads before the others of its text, in each, in a tree with a patch over it.
     pub(crate) fn led(self, alloc: Global, tree: &Tree, patch: &Patch) -> Mem<Claims>
-        ensures { IfOk result (λ claims. (t : List ℕ) → Leads (patching_at tree.now patch.now) (claimants self.rows t) (claimants claims.rows t)) }
+        ensures { IfOk result (λ claims. (t : List ℕ) → PutsLeaderFirst (patching_at tree.now patch.now) (claimants self.rows t) (claimants claims.rows t)) }
     {
         let rows = ClaimsChange { rows: self.table };
         let led = rows.led(alloc, tree, patch)?;

@@ -5,7 +5,7 @@ ghost use Rattle.std.specs.Map.{lookup};
 ghost use Rattle.std.specs.Str.{bytes_eq};
 ghost use Rattle.resource_tree.specs.Patches.{patching_at, entry_at};
 ghost use Rattle.url_maps.specs.Claims.{claimants};
-ghost use Rattle.url_maps.specs.Noting.{LeadsRows, Notes, NotesRow, has_row, is_at_some, kept, noted};
+ghost use Rattle.url_maps.specs.Noting.{LeadsRows, Notes, NotesEntry, has_row, is_at_some, untouched_paths, claimants_so_far};
 ghost use Rattle.url_maps.specs.Siblings.{PutsRows, or_else};
 
 use crate::claims::Claims;
@@ -57,7 +57,7 @@ impl ClaimsChange {
         before: &TextList,
         after: &TextList,
     ) -> Mem<()>
-        ensures { OnOk result (NotesRow claims.now.rows patch.now path.now (λ t. list_any (bytes_eq t) before.now) (λ t. list_any (bytes_eq t) after.now) self.old self.new) }
+        ensures { OnOk result (NotesEntry claims.now.rows patch.now path.now (λ t. list_any (bytes_eq t) before.now) (λ t. list_any (bytes_eq t) after.now) self.old self.new) }
     {
         self.note_all(alloc, claims, patch, before.as_slice(), None)?;
         self.note_all(alloc, claims, patch, after.as_slice(), Some(path))?;
@@ -89,7 +89,7 @@ impl ClaimsChange {
         text: &str,
         path: Option<&Path>,
     ) -> Mem<()>
-        ensures { OnOk result ((t : List ℕ) → lookup (bytes_eq t) self.new ≡ cond (bytes_eq text.now t) (Some (noted claims.now.rows patch.now self.old text.now ++ option_to_list (option_copied path.entry))) (lookup (bytes_eq t) self.old)) }
+        ensures { OnOk result ((t : List ℕ) → lookup (bytes_eq t) self.new ≡ cond (bytes_eq text.now t) (Some (claimants_so_far claims.now.rows patch.now self.old text.now ++ option_to_list (option_copied path.entry))) (lookup (bytes_eq t) self.old)) }
     {
         let mut paths = self.take_noted(alloc, claims, patch, text)?;
         push_some(&mut paths, alloc, path)?;
@@ -105,7 +105,7 @@ impl ClaimsChange {
         patch: &Patch,
         text: &str,
     ) -> Mem<PathList>
-        ensures value { IfOk result (λ paths. paths ≡ noted claims.now.rows patch.now self.old text.now) }
+        ensures value { IfOk result (λ paths. paths ≡ claimants_so_far claims.now.rows patch.now self.old text.now) }
         ensures rest { OnOk result ((t : List ℕ) → lookup (bytes_eq t) self.new ≡ cond (bytes_eq text.now t) None (lookup (bytes_eq t) self.old)) }
     {
         match self.take(text) {
@@ -217,7 +217,7 @@ fn push_first(paths: &mut PathList, alloc: Global, path: Option<&Path>) -> Mem<(
 
 // Those of some paths at which a patch has nothing.
 fn kept(alloc: Global, paths: &[Path], patch: &Patch) -> Mem<PathList>
-    ensures { IfOk result (λ list. list ≡ kept patch.now paths.now) }
+    ensures { IfOk result (λ list. list ≡ untouched_paths patch.now paths.now) }
 {
     let mut list = PathList::new(alloc);
     for path in paths {

@@ -3,7 +3,7 @@ ghost use Rattle.std.specs.Prelude.{◌≡◌, ◌<◌, ◌∷◌, IfOk, cond, l
 ghost use Rattle.std.specs.Ordering.{is_lt};
 ghost use Rattle.resource_tree.specs.Patches.{patching_at};
 ghost use Rattle.url_maps.specs.Claims.{cmp_by};
-ghost use Rattle.url_maps.specs.Noting.{IsFirstOf, Leads, others};
+ghost use Rattle.url_maps.specs.Noting.{IsFirstOf, PutsLeaderFirst, others};
 ghost use Rattle.url_maps.specs.VanityPaths.{order_of};
 
 use crate::siblings::node_after;
@@ -15,7 +15,7 @@ use std::cmp::Ordering;
 
 // Puts the one of some paths before which none is before the others, in a tree with a patch over it.
 pub(crate) fn led(alloc: Global, tree: &Tree, patch: &Patch, paths: PathList) -> Mem<PathList>
-    ensures { IfOk result (Leads (patching_at tree.now patch.now) paths) }
+    ensures { IfOk result (PutsLeaderFirst (patching_at tree.now patch.now) paths) }
 {
     if paths.len() < 2 {
         return Ok(paths);

@@ -1,7 +1,7 @@
 // The kids of a node that have an alias, in two lists of kids.
 ghost use Rattle.std.specs.Prelude.{◌≡◌, IfOk, IsTrue};
 ghost use Rattle.std.specs.List.{list_any};
-ghost use Rattle.url_maps.specs.Siblings.{AreSameFirst, AreSameLast, named_kid, named_kids};
+ghost use Rattle.url_maps.specs.Siblings.{AreSameFirst, AreSameLast, is_aliased_kid, aliased_kids};
 
 use crate::parents::is_named;
 use resource_tree::Tree;
@@ -17,7 +17,7 @@ pub(crate) fn named_stay(
     names: &[TextBuf],
     others: &[TextBuf],
 ) -> Mem<bool>
-    ensures { IfOk result (λ stay. IsTrue stay → named_kids tree.now path.now names.now ≡ named_kids tree.now path.now others.now) }
+    ensures { IfOk result (λ stay. IsTrue stay → aliased_kids tree.now path.now names.now ≡ aliased_kids tree.now path.now others.now) }
 {
     let front = same_first(names, others);
     let rest = &names[front..];
@@ -33,7 +33,7 @@ fn stay_after(
     names: &[TextBuf],
     others: &[TextBuf],
 ) -> Mem<bool>
-    ensures { IfOk result (λ stay. IsTrue stay → named_kids tree.now path.now names.now ≡ named_kids tree.now path.now others.now) }
+    ensures { IfOk result (λ stay. IsTrue stay → aliased_kids tree.now path.now names.now ≡ aliased_kids tree.now path.now others.now) }
 {
     let back = same_last(names, others);
     let first = &names[..names.len() - back];
@@ -82,7 +82,7 @@ fn is_same(text: &TextBuf, other: &TextBuf) -> bool
 }
 
 fn has_named(alloc: Global, tree: &Tree, path: &Path, names: &[TextBuf]) -> Mem<bool>
-    ensures { IfOk result (λ has. has ≡ list_any (named_kid tree.now path.now) names.now) }
+    ensures { IfOk result (λ has. has ≡ list_any (is_aliased_kid tree.now path.now) names.now) }
 {
     for name in names {
         if is_named_kid(alloc, tree, path, name.text())? {
@@ -94,7 +94,7 @@ fn has_named(alloc: Global, tree: &Tree, path: &Path, names: &[TextBuf]) -> Mem<
 
 // Whether a node's kid of a name has an alias.
 fn is_named_kid(alloc: Global, tree: &Tree, path: &Path, name: &str) -> Mem<bool>
-    ensures { IfOk result (λ is. is ≡ named_kid tree.now path.now name.now) }
+    ensures { IfOk result (λ is. is ≡ is_aliased_kid tree.now path.now name.now) }
 {
     match path.child_or_none(alloc, name)? {
         Some(kid) => Ok(is_named(tree.node(&kid))),

@@ -3,7 +3,7 @@ ghost use Rattle.std.specs.Prelude.{◌≡◌, ◌||◌, ◌&&◌, ℕ, List, If
 ghost use Rattle.std.specs.List.{list_any};
 ghost use Rattle.resource_tree.specs.Content.{same_path};
 ghost use Rattle.resource_tree.specs.Patches.{left_by};
-ghost use Rattle.url_maps.specs.Siblings.{IsSettled, IsWithin, KeepsOthers, alias_words, is_named, kids_if};
+ghost use Rattle.url_maps.specs.Siblings.{IsSettled, IsWithin, KeepsOthers, alias_words, is_aliased, kids_if};
 
 use crate::claims_change::ClaimsChange;
 use crate::named_kids::named_stay;
@@ -82,7 +82,7 @@ fn alias_words(node: Option<&Node>) -> &[TextBuf]
 
 // Whether a node has an alias.
 pub(crate) fn is_named(node: Option<&Node>) -> bool
-    ensures { result ≡ is_named (option_copied node.entry) }
+    ensures { result ≡ is_aliased (option_copied node.entry) }
 {
     !alias_words(node).is_empty()
 }

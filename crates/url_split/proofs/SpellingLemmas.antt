@@ -11,7 +11,7 @@ use Rattle.std.specs.List.{list_all, list_any, onto_first, slice_split, before_f
 use Rattle.sp_base.specs.Paths.{path_of, text_of}
 use Rattle.url_split.specs.declared.decompose.Parts.{Parts}
 use Rattle.url_split.specs.Split.{IsSplit, is_dot, is_slash, last_of, but_last, selectors_of, extension_of, suffix_of}
-use Rattle.url_split.specs.Spelling.{is_full, is_word, dotted, SpellsParts}
+use Rattle.url_split.specs.Spelling.{is_full, is_word, dotted_text, SpellsParts}
 use Rattle.url_split.proofs.SplitLemmas.{no_more, cut_behind}
 
 both : (a b : Bool) → a ≡ true → b ≡ true → (a && b) ≡ true
@@ -53,17 +53,17 @@ words (b ∷ text) h =
       | false ↦ λ e. word_onto b (slice_split is_dot text) e (or_first _ _ h) (words text (or_second _ _ h))
     ] refl
 
-dotted-onto : (b : ℕ) (parts : List (List ℕ)) (text : List ℕ) → dotted parts ≡ 46 ∷ text → dotted (onto_first b parts) ≡ 46 ∷ b ∷ text
+dotted-onto : (b : ℕ) (parts : List (List ℕ)) (text : List ℕ) → dotted_text parts ≡ 46 ∷ text → dotted_text (onto_first b parts) ≡ 46 ∷ b ∷ text
 dotted-onto b [] text e = absurd (cc (e))
 dotted-onto b (part ∷ parts) text e =
-    let rest : part ++ dotted parts ≡ text = cc (e) in
+    let rest : part ++ dotted_text parts ≡ text = cc (e) in
     ap (λ more. 46 ∷ b ∷ more) rest
 
 -- a dot before each piece of a text is a dot and the text
-dotted_pieces : (text : List ℕ) → dotted (slice_split is_dot text) ≡ 46 ∷ text
+dotted_pieces : (text : List ℕ) → dotted_text (slice_split is_dot text) ≡ 46 ∷ text
 dotted_pieces [] = refl
 dotted_pieces (b ∷ text) =
-    elim (b == 46) as (λ t. (b == 46) ≡ t → dotted (cond t ([] ∷ slice_split is_dot text) (onto_first b (slice_split is_dot text))) ≡ 46 ∷ b ∷ text) [
+    elim (b == 46) as (λ t. (b == 46) ≡ t → dotted_text (cond t ([] ∷ slice_split is_dot text) (onto_first b (slice_split is_dot text))) ≡ 46 ∷ b ∷ text) [
       | true ↦ λ e. ap (λ more. 46 ∷ more) (dotted_pieces text) ∙ ap (λ n. 46 ∷ n ∷ text) (sym (test_eq b 46 e))
       | false ↦ λ e. dotted-onto b (slice_split is_dot text) text (dotted_pieces text)
     ] refl
@@ -122,12 +122,12 @@ before_and_after rest =
     (cases_lt n (length rest))
 
 given_back : (rest : List ℕ) →
-    46 ∷ rest ≡ dotted (but_last (slice_split is_dot (before_first is_slash rest)) ++ last_of (slice_split is_dot (before_first is_slash rest)) ∷ []) ++ drop (length (before_first is_slash rest)) rest
+    46 ∷ rest ≡ dotted_text (but_last (slice_split is_dot (before_first is_slash rest)) ++ last_of (slice_split is_dot (before_first is_slash rest)) ∷ []) ++ drop (length (before_first is_slash rest)) rest
 given_back rest =
     let front = before_first is_slash rest in
     let parts = slice_split is_dot front in
     let whole : front ++ drop (length front) rest ≡ rest = before_and_after rest in
-    sym (ap (λ ps. dotted ps ++ drop (length front) rest) (ends parts (some_piece front)) ∙ ap (λ t. t ++ drop (length front) rest) (dotted_pieces front) ∙ ap (λ t. 46 ∷ t) whole)
+    sym (ap (λ ps. dotted_text ps ++ drop (length front) rest) (ends parts (some_piece front)) ∙ ap (λ t. t ++ drop (length front) rest) (dotted_pieces front) ∙ ap (λ t. 46 ∷ t) whole)
 
 all_last : (parts : List (List ℕ)) → 0 < length parts → list_all is_word parts ≡ true → (list_all is_word (but_last parts) ≡ true) × (is_word (last_of parts) ≡ true)
 all_last parts some h =
@@ -166,7 +166,7 @@ spelled_after rest parts b selectors extension suffix = ⊎_elim
     let pieces = but_last (slice_split is_dot (before_first is_slash more)) in
     let last : parts.extension ≡ extension_of (46 ∷ more) = extension ∙ ap extension_of dot.1 in
     let end : parts.suffix ≡ suffix_of (46 ∷ more) = suffix ∙ ap suffix_of dot.1 in
-    inr (pieces, dot.1 ∙ given_back more ∙ ap (λ e. dotted (pieces ++ e ∷ []) ++ suffix_of (46 ∷ more)) (sym last) ∙ ap (λ t. dotted (pieces ++ parts.extension ∷ []) ++ t) (sym end), selectors ∙ ap selectors_of dot.1))
+    inr (pieces, dot.1 ∙ given_back more ∙ ap (λ e. dotted_text (pieces ++ e ∷ []) ++ suffix_of (46 ∷ more)) (sym last) ∙ ap (λ t. dotted_text (pieces ++ parts.extension ∷ []) ++ t) (sym end), selectors ∙ ap selectors_of dot.1))
     b
 
 -- the resource path's text and what the parts spell are the text

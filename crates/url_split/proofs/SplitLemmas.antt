@@ -7,7 +7,7 @@ use Rattle.std.proofs.Math.Seq.{drop-cons}
 use Rattle.std.proofs.lemmas.List.Sums.{position_or_len_is}
 use Rattle.std.specs.List.{before_first, slice_split}
 use Rattle.url_split.specs.Split.{IsCut, is_slash, is_dot, but_last, last_of}
-use Rattle.url_split.specs.Walk.{IsBehind}
+use Rattle.url_split.specs.Walk.{IsAfterPath}
 
 is_test : (b c : ℕ) → b ≡ c → (b == c) ≡ true
 is_test b c e = grind (arith, nat_tests)
@@ -24,7 +24,7 @@ cut_whole text none =
     sym (take_all (length text) text (omega arith))
     ∙ ap (λ n. take n text) (sym (position_or_len_is is_slash text (length text) 0 (omega arith) (λ i less. not_test (get_or text i 0) 47 (none i less)) (λ lt. absurd (omega (arith, lt)))))
 
-pub behind_none : (rest : List ℕ) → IsBehind rest → ((more : List ℕ) → rest ≢ 46 ∷ more) → rest ≡ []
+pub behind_none : (rest : List ℕ) → IsAfterPath rest → ((more : List ℕ) → rest ≢ 46 ∷ more) → rest ≡ []
 behind_none rest b none = ⊎_elim (λ e. e) (λ p. absurd (none p.0 p.1)) b
 
 pub no_more : (text : List ℕ) (k : ℕ) → length text ≤ k → drop k text ≡ []
@@ -34,7 +34,7 @@ no_more (b ∷ text) zero h = absurd (omega (arith, h))
 no_more (b ∷ text) (suc k) h = no_more text k (omega (arith, h))
 
 -- at a cut the rest begins with a dot, or is nothing
-pub cut_behind : (text : List ℕ) (k : ℕ) → IsCut text k → IsBehind (drop k text)
+pub cut_behind : (text : List ℕ) (k : ℕ) → IsCut text k → IsAfterPath (drop k text)
 cut_behind text k c = ⊎_elim
     (λ e. inl (no_more text k (omega (arith, e))))
     (λ p. inr (drop (suc k) text, drop-cons text k 0 p.0 ∙ ap (λ b. b ∷ drop (suc k) text) p.1))

@@ -10,8 +10,8 @@ use Rattle.std.proofs.lemmas.List.Concat.{flat_map-append}
 use Rattle.std.proofs.lemmas.List.Folds.{list_all-append}
 use Rattle.std.proofs.lemmas.List.Splits.{length-slice_split}
 use Rattle.std.proofs.lemmas.List.Sums.{count_by-le-length, sum_by-cons}
-use Rattle.sp_base.specs.Paths.{checked, fault_of, is_dots, is_empty, is_path, is_under, parent_of, path_of, has_slash, is_long, pieces, seg_ok, text_of, unless_fault}
-use Rattle.sp_base.specs.PathTexts.{spelled}
+use Rattle.sp_base.specs.Paths.{path_or_fault, fault_of, is_dots, is_empty, is_path, is_under, parent_of, path_of, has_slash, is_long, pieces, seg_ok, text_of, unless_fault}
+use Rattle.sp_base.specs.PathTexts.{spelling_of}
 use Rattle.sp_base.specs.declared.path.PathFault.{PathFault}
 use Rattle.sp_base.specs.declared.path.PathFault.TheVariants.{NotAbsolute}
 use Rattle.url_split.specs.Split.{IsCut, is_slash}
@@ -23,7 +23,7 @@ made_is : (o : Option PathFault) (segs path : List (List ℕ)) → unless_fault 
 made_is None segs path e = cc
 made_is (Some fault) segs path e = absurd (cc e)
 
-root_or_pieces : (b : Bool) (segs path : List (List ℕ)) → cond b (Ok []) (checked segs) ≡ Ok path → ((b ≡ true) × (path ≡ [])) ⊎ (path ≡ segs)
+root_or_pieces : (b : Bool) (segs path : List (List ℕ)) → cond b (Ok []) (path_or_fault segs) ≡ Ok path → ((b ≡ true) × (path ≡ [])) ⊎ (path ≡ segs)
 root_or_pieces true segs path e = inl (refl, cc)
 root_or_pieces false segs path e = inr (made_is (fault_of segs) segs path e)
 
@@ -38,7 +38,7 @@ pub record IsReadOf (b : ℕ) (rest : List ℕ) (path : List (List ℕ)) : Type 
 
 pub read_is : (b : ℕ) (rest : List ℕ) (path : List (List ℕ)) → path_of (b ∷ rest) ≡ Ok path → IsReadOf b rest path
 read_is b rest path e =
-    let parts = after_slash (b == 47) (cond (is_empty rest) (Ok []) (checked (pieces rest))) path e in
+    let parts = after_slash (b == 47) (cond (is_empty rest) (Ok []) (path_or_fault (pieces rest))) path e in
     record { slash = parts.0; path_is = root_or_pieces (is_empty rest) (pieces rest) path parts.1 }
 
 -- ---- slashes
@@ -189,14 +189,14 @@ fit_next f items i d within few fit ok =
     let size : length (take (i + 1) parts) ≤ 64 = omega (arith, few, length-take (i + 1) parts) in
     and_from (list_all seg_ok (take (i + 1) parts)) (nat_le (length (take (i + 1) parts)) 64) new (grind (arith, nat_tests))
 
-pub bytes_next : {A : Type 0} (f : A → List ℕ) (items : List A) (many i end : ℕ) (d : A) → many ≡ i → i < length items → end ≡ length (spelled (take many (map f items))) → end + (1 + length (f (get_or items i d))) ≡ length (spelled (take (many + 1) (map f items)))
+pub bytes_next : {A : Type 0} (f : A → List ℕ) (items : List A) (many i end : ℕ) (d : A) → many ≡ i → i < length items → end ≡ length (spelling_of (take many (map f items))) → end + (1 + length (f (get_or items i d))) ≡ length (spelling_of (take (many + 1) (map f items)))
 bytes_next f items many i end d same within is =
     let parts = map f items in
     let q = f (get_or items i d) in
-    let old : end ≡ length (spelled (take i parts)) = is ∙ ap (λ n. length (spelled (take n parts))) same in
-    let whole : length (spelled (take (i + 1) parts)) ≡ length (spelled (take i parts)) + length (spelled (q ∷ [])) =
-    ap (λ segs. length (spelled segs)) (next_of f items i d within) ∙ ap length (flat_map-append (λ s. 47 ∷ s) (take i parts) (q ∷ [])) ∙ length-append (spelled (take i parts)) (spelled (q ∷ [])) in
-    let goal_is : length (spelled (take (many + 1) parts)) ≡ length (spelled (take (i + 1) parts)) = ap (λ n. length (spelled (take (n + 1) parts))) same in
+    let old : end ≡ length (spelling_of (take i parts)) = is ∙ ap (λ n. length (spelling_of (take n parts))) same in
+    let whole : length (spelling_of (take (i + 1) parts)) ≡ length (spelling_of (take i parts)) + length (spelling_of (q ∷ [])) =
+    ap (λ segs. length (spelling_of segs)) (next_of f items i d within) ∙ ap length (flat_map-append (λ s. 47 ∷ s) (take i parts) (q ∷ [])) ∙ length-append (spelling_of (take i parts)) (spelling_of (q ∷ [])) in
+    let goal_is : length (spelling_of (take (many + 1) parts)) ≡ length (spelling_of (take (i + 1) parts)) = ap (λ n. length (spelling_of (take (n + 1) parts))) same in
     omega (arith, old, whole, goal_is, length-append q [])
 
 false_not : (b : Bool) → b ≡ false → b ≡ true → ⊥
@@ -248,15 +248,15 @@ parents_of_pieces text rest path end is fit path_is valid (suc n) read within e 
     parent_under 47 rest path read fit.many n path_is fit.ends valid (ap (λ t. path_of (take (suc n) t)) (sym is) ∙ e)
 
 -- the first pieces are spelled by a prefix of the text
-text_spelled : (segs : List (List ℕ)) → 0 < length (spelled segs) → text_of segs ≡ spelled segs
+text_spelled : (segs : List (List ℕ)) → 0 < length (spelling_of segs) → text_of segs ≡ spelling_of segs
 text_spelled [] some = absurd (omega (arith, some))
 text_spelled (seg ∷ segs) some = refl
 
-no_bytes : (segs : List (List ℕ)) → length (spelled segs) ≡ 0 → segs ≡ []
+no_bytes : (segs : List (List ℕ)) → length (spelling_of segs) ≡ 0 → segs ≡ []
 no_bytes [] e = refl
 no_bytes (seg ∷ segs) e = absurd (omega (arith, e))
 
-some_many : (parts : List (List ℕ)) (n end : ℕ) → end ≡ length (spelled (take n parts)) → 0 < end → 0 < n
+some_many : (parts : List (List ℕ)) (n end : ℕ) → end ≡ length (spelling_of (take n parts)) → 0 < end → 0 < n
 some_many [] zero end is some = absurd (omega (arith, is, some))
 some_many (p ∷ parts) zero end is some = absurd (omega (arith, is, some))
 some_many parts (suc n) end is some = omega arith
@@ -274,17 +274,17 @@ AreFirstTexts = (path : List (List ℕ)) (n : ℕ) → 0 < n → text_of (take n
 abbrev pub AreSlashed : Type 0
 AreSlashed = (path : List (List ℕ)) (n : ℕ) → 0 < n → length (text_of (take n path)) < length (text_of path) → get_or (text_of path) (length (text_of (take n path))) 0 ≡ 47
 
-whole_text : (text rest : List ℕ) → text ≡ 47 ∷ rest → spelled (pieces rest) ≡ 47 ∷ rest → text_of (pieces rest) ≡ text
+whole_text : (text rest : List ℕ) → text ≡ 47 ∷ rest → spelling_of (pieces rest) ≡ 47 ∷ rest → text_of (pieces rest) ≡ text
 whole_text text rest is spells = text_spelled (pieces rest) (omega (arith, ap length spells)) ∙ spells ∙ sym is
 
-pub front_is : (text rest : List ℕ) (end : ℕ) → text ≡ 47 ∷ rest → spelled (pieces rest) ≡ 47 ∷ rest → AreFirstTexts → (fit : IsFitEnd (pieces rest) end) → 0 < end → take end text ≡ text_of (take fit.many (pieces rest))
+pub front_is : (text rest : List ℕ) (end : ℕ) → text ≡ 47 ∷ rest → spelling_of (pieces rest) ≡ 47 ∷ rest → AreFirstTexts → (fit : IsFitEnd (pieces rest) end) → 0 < end → take end text ≡ text_of (take fit.many (pieces rest))
 front_is text rest end is spells first fit some =
     let front = take fit.many (pieces rest) in
     let size : length (text_of front) ≡ end = ap length (text_spelled front (omega (arith, fit.bytes, some))) ∙ sym fit.bytes in
     ap (λ t. take end t) (sym (whole_text text rest is spells)) ∙ ap (λ n. take n (text_of (pieces rest))) (sym size) ∙ sym (first (pieces rest) fit.many (some_many (pieces rest) fit.many end fit.bytes some))
 
 -- a slash follows it, unless it is the whole text
-pub front_slash : (text rest : List ℕ) (end : ℕ) → text ≡ 47 ∷ rest → spelled (pieces rest) ≡ 47 ∷ rest → AreSlashed → (fit : IsFitEnd (pieces rest) end) → 0 < end → end < length text → get_or text end 0 ≡ 47
+pub front_slash : (text rest : List ℕ) (end : ℕ) → text ≡ 47 ∷ rest → spelling_of (pieces rest) ≡ 47 ∷ rest → AreSlashed → (fit : IsFitEnd (pieces rest) end) → 0 < end → end < length text → get_or text end 0 ≡ 47
 front_slash text rest end is spells slash fit some less =
     let front = take fit.many (pieces rest) in
     let size : length (text_of front) ≡ end = ap length (text_spelled front (omega (arith, fit.bytes, some))) ∙ sym fit.bytes in
@@ -292,7 +292,7 @@ front_slash text rest end is spells slash fit some less =
     ap (λ t. get_or t end 0) (sym whole) ∙ ap (λ n. get_or (text_of (pieces rest)) n 0) (sym size)
     ∙ slash (pieces rest) fit.many (some_many (pieces rest) fit.many end fit.bytes some) (omega (arith, size, less, ap length whole))
 
-pub front_within : (text rest : List ℕ) (end : ℕ) → text ≡ 47 ∷ rest → spelled (pieces rest) ≡ 47 ∷ rest → AreFirstTexts → (fit : IsFitEnd (pieces rest) end) → 0 < end → end ≤ length text
+pub front_within : (text rest : List ℕ) (end : ℕ) → text ≡ 47 ∷ rest → spelling_of (pieces rest) ≡ 47 ∷ rest → AreFirstTexts → (fit : IsFitEnd (pieces rest) end) → 0 < end → end ≤ length text
 front_within text rest end is spells first fit some =
     let front = take fit.many (pieces rest) in
     let size : length (text_of front) ≡ end = ap length (text_spelled front (omega (arith, fit.bytes, some))) ∙ sym fit.bytes in

@@ -1,7 +1,7 @@
 -- What the functions of the decomposition promise one another; a reader of its definition needs none of it.
 use Rattle.std.specs.Prelude.{◌≡◌, ◌<◌, ◌≤◌, ◌+◌, ◌⊎◌, ◌++◌, ◌∷◌, [], ℕ, Bool, true, false, List, Option, Some, None, Ok, take, length, slice_index}
 use Rattle.std.specs.List.{count_by}
-use Rattle.sp_base.specs.PathTexts.{spelled}
+use Rattle.sp_base.specs.PathTexts.{spelling_of}
 use Rattle.sp_base.specs.Paths.{has_slash, is_long, is_path, is_under, parent_of, path_of}
 use Rattle.url_split.specs.Split.{Leads, is_slash}
 
@@ -18,7 +18,7 @@ HasParents text path = (k : ℕ) (read : List (List ℕ)) → k ≤ length text 
 pub record IsFitEnd (parts : List (List ℕ)) (end : ℕ) : Type 0 where
   pub many : ℕ
   pub fit : is_path (take many parts) ≡ true
-  pub bytes : end ≡ length (spelled (take many parts))
+  pub bytes : end ≡ length (spelling_of (take many parts))
   pub ends : (length parts ≤ many) ⊎ (is_path (take (many + 1) parts) ≡ false)
 
 -- a text up to the slash that stands after n others, or all of it where there is none
@@ -40,8 +40,8 @@ pub record IsBeforeLong (text start : List ℕ) : Type 0 where
   pub ends : (length start ≡ length text) ⊎ EndsInLong start
 
 -- nothing, or a text that begins with a dot
-abbrev pub IsBehind : List ℕ → Type 0
-IsBehind rest = (rest ≡ []) ⊎ ((more : List ℕ) × (rest ≡ 46 ∷ more))
+abbrev pub IsAfterPath : List ℕ → Type 0
+IsAfterPath rest = (rest ≡ []) ⊎ ((more : List ℕ) × (rest ≡ 46 ∷ more))
 
 -- what a text reads as: the path, where it spells one that is known
 abbrev pub IsReading : (List (List ℕ) → Bool) → List ℕ → Option (List (List ℕ)) → Type 0

@@ -2,7 +2,7 @@
 ghost use Rattle.std.specs.Prelude.{◌≡◌, ◌++◌, ◌∷◌, [], map, filter, not, ◌==◌, length, None, IsTrue, true, IfOk, IfSome, IfNone};
 ghost use Rattle.std.specs.List.{slice_split, before_first};
 ghost use Rattle.url_split.specs.Split.{IsSplit, IsLost, split_of, is_dot, is_slash, selectors_of, extension_of, suffix_of};
-ghost use Rattle.url_split.specs.Walk.{IsReading, IsBehind, IsReached};
+ghost use Rattle.url_split.specs.Walk.{IsReading, IsAfterPath, IsReached};
 
 use crate::Known;
 use crate::start::reached;
@@ -75,7 +75,7 @@ fn known_path<K: Known>(alloc: Global, known: &K, text: &str) -> Mem<Option<Path
 
 // The parts of what follows the resource path: nothing, or a text that begins with a dot.
 fn parts_after(alloc: Global, path: Path, rest: &str) -> Mem<Parts>
-    requires { IsBehind rest.now }
+    requires { IsAfterPath rest.now }
     ensures path { IfOk result (λ parts. parts.path ≡ path) }
     ensures selectors { IfOk result (λ parts. parts.selectors ≡ selectors_of rest.now) }
     ensures extension { IfOk result (λ parts. parts.extension ≡ extension_of rest.now) }

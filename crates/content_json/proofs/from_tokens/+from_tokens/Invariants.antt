@@ -6,7 +6,7 @@ use Rattle.resource_tree.specs.Content.{node_at}
 use Rattle.content_json.specs.Members.{AllMembers}
 use Rattle.content_json.specs.Nodes.{nodes_below}
 use Rattle.content_json.specs.Steps.{with_nodes_at}
-use Rattle.content_json.specs.FromTokens.{Holds, IsFit}
+use Rattle.content_json.specs.FromTokens.{HoldsMembers, IsFit}
 use Rattle.content_json.proofs.from_tokens.+from_tokens.Given as goal
 
 -- the levels that are left fall with each kid
@@ -27,7 +27,7 @@ abbrev pub invariant-add_members-members : goal.invariant-add_members-members
 invariant-add_members-members l =
     (n : ℕ) × (found : Members) × (length l.reader ≤ n)
     × (converted (λ js. of_members js no_members) (members (value (l.levels + 62)) (length l.initial.reader) l.initial.reader) ≡ converted (λ js. of_members js found) (members (value (l.levels + 62)) n l.reader))
-    × (length l.reader ≤ length l.initial.reader) × Holds l.parent found × AllMembers (IsFit l.levels) found
+    × (length l.reader ≤ length l.initial.reader) × HoldsMembers l.parent found × AllMembers (IsFit l.levels) found
     × ((q : List (List ℕ)) → node_at l.nodes q ≡ with_nodes_at l.initial.nodes (nodes_below l.path found) q)
 
 abbrev pub decreases-add_members-members : goal.decreases-add_members-members

@@ -10,7 +10,7 @@ use Rattle.content_json.specs.ContentOf.{map_of}
 use Rattle.content_json.specs.Faults.{fault_in}
 use Rattle.content_json.specs.Nodes.{nodes_in, is_deeper_below}
 use Rattle.content_json.specs.Steps.{is_sound, member_nodes, with_nodes_at}
-use Rattle.content_json.specs.FromTokens.{Holds, AddsObject, AddsMembers, AddsMember, TakesIn}
+use Rattle.content_json.specs.FromTokens.{HoldsMembers, AddsObject, AddsMembers, AddsMember, TakesIn}
 use Rattle.content_json.specs.FromTokens.{texts_array}
 use Rattle.serde_json.specs.Data.{string}
 use Rattle.serde_json.specs.View.{items_of}

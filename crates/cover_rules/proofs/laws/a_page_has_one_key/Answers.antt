@@ -1,5 +1,5 @@
 use Rattle.std.proofs.Common.{◌∙◌, sym, ap}
-use Rattle.sp_base.specs.Paths.{mangled}
+use Rattle.sp_base.specs.Paths.{mangled_segs}
 use Rattle.cover_rules.specs.Pages.{key_at}
 use Rattle.cover_rules.proofs.PageLemmas.{own_path}
 use Rattle.cover_rules.proofs.laws.a_page_has_one_key.Goals as goal
@@ -7,5 +7,5 @@ use Rattle.cover_rules.proofs.laws.a_page_has_one_key.Goals as goal
 pub returns-clause-own : goal.returns-clause-own
 returns-clause-own c = λ path key valid h.
     let law = c.segments_and_their_spelling.ensures in
-    let own = own_path (mangled path) key (law.mangled path (law.path path valid)) law.back h in
-    ap (λ p. key_at (mangled p)) own ∙ ap key_at (c.mangling_and_unmangling.ensures.again path) ∙ h
+    let own = own_path (mangled_segs path) key (law.mangled path (law.path path valid)) law.back h in
+    ap (λ p. key_at (mangled_segs p)) own ∙ ap key_at (c.mangling_and_unmangling.ensures.again path) ∙ h

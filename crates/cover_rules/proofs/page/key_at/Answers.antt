@@ -1,6 +1,6 @@
 use Rattle.std.proofs.Common.{◌≡◌, ◌∙◌, Some, true, false, sym, ap, List, ℕ}
 use Rattle.sp_base.specs.Paths.{parent_of}
-use Rattle.sp_base.specs.PathTexts.{spelled}
+use Rattle.sp_base.specs.PathTexts.{spelling_of}
 use Rattle.cover_rules.specs.declared.page.PageKey.{PageKey}
 use Rattle.cover_rules.specs.Pages.{has_dot, is_file, last_segment}
 use Rattle.cover_rules.proofs.PageLemmas.{no_key, a_key, no_file, no_names, dotted_folder, a_page}
@@ -15,12 +15,12 @@ returns-then-not-have_names c = sym (no_key c.args.path.now (no_names c.args.pat
 
 pub returns-then-has_dot : goal.returns-then-has_dot
 returns-then-has_dot c =
-    let folder = c.spelling.ensures.spelled ∙ ap spelled c.in_ok-folder.ensures in
+    let folder = c.spelling.ensures.spelled ∙ ap spelling_of c.in_ok-folder.ensures in
     sym (no_key c.args.path.now (dotted_folder c.args.path.now (ap has_dot (sym folder) ∙ sym c.if-has_dot.ensures)))
 
 pub returns : goal.returns
 returns c =
-    let folder = c.spelling.ensures.spelled ∙ ap spelled c.in_ok-folder.ensures in
+    let folder = c.spelling.ensures.spelled ∙ ap spelling_of c.in_ok-folder.ensures in
     let page = a_page c.args.path.now (ap is_file (sym c.last_segment-file.ensures) ∙ sym c.if-not-is_file.ensures) (sym c.if-not-have_names.ensures)
     (ap has_dot (sym folder) ∙ sym c.if-has_dot.ensures) in
     let file : c.in_ok-file.file ≡ last_segment c.args.path.now = c.in_ok-file.ensures ∙ c.last_segment-file.ensures in

@@ -1,6 +1,6 @@
 use Rattle.std.proofs.Common.{◌≡◌, ◌∙◌, sym, ap, arith, true, false}
 use Rattle.glob_rules.specs.Rules.{decision}
-use Rattle.dispatch_rules.specs.Seen.{applies_to}
+use Rattle.dispatch_rules.specs.RequestParts.{applies_to}
 use Rattle.dispatch_rules.proofs.EntryLemmas.{decides_here, passes_here}
 use Rattle.dispatch_rules.proofs.filter.last_says.Goals as goal
 

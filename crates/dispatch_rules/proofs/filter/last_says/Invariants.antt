@@ -1,6 +1,6 @@
 use Rattle.std.proofs.Common.{◌≡◌, ◌≤◌, length, take}
 use Rattle.glob_rules.specs.Rules.{decision}
-use Rattle.dispatch_rules.specs.Seen.{applies_to}
+use Rattle.dispatch_rules.specs.RequestParts.{applies_to}
 use Rattle.dispatch_rules.proofs.filter.last_says.Given as goal
 
 abbrev pub invariant-loop-left : goal.invariant-loop-left

@@ -1,5 +1,5 @@
 use Rattle.std.proofs.Common.{◌≡◌, [], codes, refl, ap, ◌∙◌}
-use Rattle.sp_base.specs.Paths.{mangled}
+use Rattle.sp_base.specs.Paths.{mangled_segs}
 use Rattle.cover_rules.specs.declared.page.PageKey.{PageKey}
 use Rattle.cover_rules.specs.Pages.{page_path}
 use Rattle.docroot_format.proofs.Inside.{key_file}
@@ -26,10 +26,10 @@ pub returns-clause-head : goal.returns-clause-head
 returns-clause-head c = λ key other text more. head_not_body key.folder other.folder key.file other.file text.0 more.0
 
 pub returns-clause-stat_body : goal.returns-clause-stat_body
-returns-clause-stat_body c = λ folder key text more own. dot_not_body (mangled folder) key.folder (codes "stat") key.file (all_mangled folder text) more.0 refl (key_file (page_path key) key own)
+returns-clause-stat_body c = λ folder key text more own. dot_not_body (mangled_segs folder) key.folder (codes "stat") key.file (all_mangled folder text) more.0 refl (key_file (page_path key) key own)
 
 pub returns-clause-stat_head : goal.returns-clause-stat_head
-returns-clause-stat_head c = λ folder key text more own. dot_not_head (mangled folder) key.folder (codes "stat") key.file (all_mangled folder text) more.0 refl (key_file (page_path key) key own)
+returns-clause-stat_head c = λ folder key text more own. dot_not_head (mangled_segs folder) key.folder (codes "stat") key.file (all_mangled folder text) more.0 refl (key_file (page_path key) key own)
 
 pub returns-clause-epoch_body : goal.returns-clause-epoch_body
 returns-clause-epoch_body c = λ key text own. dot_not_body [] key.folder (codes "epoch") key.file tt text.0 refl (key_file (page_path key) key own)

@@ -9,7 +9,7 @@ abbrev pub invariant-loop-c : goal.invariant-loop-c
 invariant-loop-c l = record {
   text : shadow (Utf8 l.rest);
   pieces : l.pieces.items ++ spec.pieces_from None (chars l.rest) ≡ spec.pieces_from None (chars l.text);
-  unclosed : spec.unclosed None (chars l.rest) ≡ spec.unclosed None (chars l.text);
+  unclosed : spec.unclosed_class None (chars l.rest) ≡ spec.unclosed_class None (chars l.text);
   within : length l.rest ≤ length l.text;
 }
 

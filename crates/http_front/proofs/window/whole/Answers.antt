@@ -1,4 +1,4 @@
-use Rattle.http_front.proofs.FrontLemmas.{texts, version, asking}
+use Rattle.http_front.proofs.ParserLemmas.{texts, version, asking}
 use Rattle.http_front.proofs.window.whole.Goals as goal
 
 pub read_head-requires-clause-texts : goal.read_head-requires-clause-texts

@@ -1,7 +1,7 @@
 use Rattle.std.proofs.Common.{◌≡◌, ◌∙◌, ◌++◌, ◌+◌, length, ap}
 use Rattle.std.proofs.lemmas.List.{append-nil}
 use Rattle.std.proofs.lemmas.Result.{on_ok_weaker, on_err_weaker}
-use Rattle.sp_outside.specs.Told.{added}
+use Rattle.sp_outside.specs.Told.{held_after}
 use Rattle.sling_dispatch.proofs.Writing.{sent_both, sent_prefix}
 use Rattle.sling_dispatch.proofs.play.gather.Goals as goal
 
@@ -12,8 +12,8 @@ returns-clause-ok g c =
     let new = g.K.Sink.held c.write_all-2.new.sink in
     let gathered = c.args.gathered.now.items in
     let text = c.args.text.now in
-    let first : mid ≡ added old gathered =
-    c.in_ok-write_all.ensures.ok ∙ ap (added old) (c.deref.ensures.value ∙ c.keep.ensures.not_kept c.if-keep.false) in
+    let first : mid ≡ held_after old gathered =
+    c.in_ok-write_all.ensures.ok ∙ ap (held_after old) (c.deref.ensures.value ∙ c.keep.ensures.not_kept c.if-keep.false) in
     on_ok_weaker c.write_all-2.result
     (λ e. (
       gathered ++ text,
@@ -29,8 +29,8 @@ returns-clause-err g c =
     let new = g.K.Sink.held c.write_all-2.new.sink in
     let gathered = c.args.gathered.now.items in
     let text = c.args.text.now in
-    let first : mid ≡ added old gathered =
-    c.in_ok-write_all.ensures.ok ∙ ap (added old) (c.deref.ensures.value ∙ c.keep.ensures.not_kept c.if-keep.false) in
+    let first : mid ≡ held_after old gathered =
+    c.in_ok-write_all.ensures.ok ∙ ap (held_after old) (c.deref.ensures.value ∙ c.keep.ensures.not_kept c.if-keep.false) in
     on_err_weaker c.write_all-2.result
     (λ e. (length gathered + e.0, sent_prefix old mid new gathered text e.0 first e.1))
     c.write_all-2.ensures.err

@@ -1,6 +1,6 @@
 use Rattle.std.proofs.Common.{◌∙◌, ◌≤◌, ◌++◌, ◌+◌, ◌∷◌, [], map, length, List, ℕ, subst, sym, ap, refl, codes}
 use Rattle.sp_outside.specs.Told.{before_taking, IsAtEnd}
-use Rattle.replay_text.specs.Scenario.{most}
+use Rattle.replay_text.specs.Scenario.{longest_scenario}
 use Rattle.sling_dispatch.specs.Endings.{told_of, RunCall, IsDue, UsageLine, SourceLine}
 use Rattle.sling_dispatch.specs.InnerEndings.{IsDueAt}
 use Rattle.sling_dispatch.specs.declared.ending.Ending.TheVariants.{Usage, SourceFailed}

@@ -2,7 +2,7 @@ use Rattle.std.proofs.Common.{lit<, ◌∙◌, ◌++◌, ap, string_bytes}
 use Rattle.std.proofs.lemmas.Iterator.{YieldsList-from_take}
 use Rattle.std.proofs.lemmas.Iterator.Consumers.{YieldsList-at, YieldsList-end}
 use Rattle.std.proofs.lemmas.Iterator.Splits.{YieldsList-from_str_split}
-use Rattle.sp_base.specs.PathTexts.{spelled}
+use Rattle.sp_base.specs.PathTexts.{spelling_of}
 use Rattle.sp_base.proofs.PathText.{spelled-push}
 use Rattle.sp_base.proofs.segments.first_pieces.Goals as goal
 
@@ -17,4 +17,4 @@ returns c =
     (YieldsList-at c.into_iter-piece-iterator.ensures.into_iter_gives
     (YieldsList-from_take c.args.n (YieldsList-at c.take-piece-items.ensures.source (YieldsList-from_str_split 47 c.args.text.now (lit< tt) c.split.ensures.text c.split.ensures.has_more c.split.ensures.pattern)) c.take-piece-items.ensures.count))
     c.loop-piece.yielded _ c.loop-piece.yielded_by _ _ c.in-None.is c.next.ensures.steps in
-    c.loop-piece.invariant ∙ ap spelled seen.0
+    c.loop-piece.invariant ∙ ap spelling_of seen.0

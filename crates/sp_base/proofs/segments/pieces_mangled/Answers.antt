@@ -1,8 +1,8 @@
 use Rattle.std.proofs.Common.{lit<, ◌∙◌, ◌++◌, ◌∷◌, [], ap, string_bytes, List, ℕ}
 use Rattle.std.proofs.lemmas.Iterator.Consumers.{YieldsList-at, YieldsList-end}
 use Rattle.std.proofs.lemmas.Iterator.Splits.{YieldsList-from_str_split}
-use Rattle.sp_base.specs.Paths.{mangled}
-use Rattle.sp_base.specs.PathTexts.{spelled}
+use Rattle.sp_base.specs.Paths.{mangled_segs}
+use Rattle.sp_base.specs.PathTexts.{spelling_of}
 use Rattle.sp_base.proofs.MangledLemmas.{mangled-push}
 use Rattle.sp_base.proofs.segments.pieces_mangled.Goals as goal
 
@@ -18,4 +18,4 @@ returns c =
     (YieldsList-at c.into_iter-piece-iterator.ensures.into_iter_gives
     (YieldsList-from_str_split 47 c.args.text.now (lit< tt) c.split-piece-items.ensures.text c.split-piece-items.ensures.has_more c.split-piece-items.ensures.pattern))
     c.loop-piece.yielded _ c.loop-piece.yielded_by _ _ c.in-None.is c.next.ensures.steps in
-    c.loop-piece.invariant ∙ ap (λ (segs : List (List ℕ)). spelled (mangled segs)) seen.0
+    c.loop-piece.invariant ∙ ap (λ (segs : List (List ℕ)). spelling_of (mangled_segs segs)) seen.0

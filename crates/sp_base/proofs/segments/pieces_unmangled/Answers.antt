@@ -1,8 +1,8 @@
 use Rattle.std.proofs.Common.{lit<, ◌∙◌, ◌++◌, ap, string_bytes, List, ℕ}
 use Rattle.std.proofs.lemmas.Iterator.Consumers.{YieldsList-at, YieldsList-end}
 use Rattle.std.proofs.lemmas.Iterator.Splits.{YieldsList-from_str_split}
-use Rattle.sp_base.specs.Paths.{unmangled, unmangled_seg}
-use Rattle.sp_base.specs.PathTexts.{spelled}
+use Rattle.sp_base.specs.Paths.{unmangled_segs, unmangled_seg}
+use Rattle.sp_base.specs.PathTexts.{spelling_of}
 use Rattle.sp_base.proofs.PathText.{unmangled-push}
 use Rattle.sp_base.proofs.segments.pieces_unmangled.Goals as goal
 
@@ -17,4 +17,4 @@ returns c =
     (YieldsList-at c.into_iter-piece-iterator.ensures.into_iter_gives
     (YieldsList-from_str_split 47 c.args.text.now (lit< tt) c.split-piece-items.ensures.text c.split-piece-items.ensures.has_more c.split-piece-items.ensures.pattern))
     c.loop-piece.yielded _ c.loop-piece.yielded_by _ _ c.in-None.is c.next.ensures.steps in
-    c.loop-piece.invariant ∙ ap (λ (segs : List (List ℕ)). spelled (unmangled segs)) seen.0
+    c.loop-piece.invariant ∙ ap (λ (segs : List (List ℕ)). spelling_of (unmangled_segs segs)) seen.0

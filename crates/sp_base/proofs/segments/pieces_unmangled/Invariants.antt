@@ -1,7 +1,7 @@
 use Rattle.std.proofs.Common.{◌≡◌, map, string_bytes}
-use Rattle.sp_base.specs.Paths.{unmangled}
-use Rattle.sp_base.specs.PathTexts.{spelled}
+use Rattle.sp_base.specs.Paths.{unmangled_segs}
+use Rattle.sp_base.specs.PathTexts.{spelling_of}
 use Rattle.sp_base.proofs.segments.pieces_unmangled.Given as goal
 
 abbrev pub invariant-loop-piece : goal.invariant-loop-piece
-invariant-loop-piece l = string_bytes l.plain ≡ spelled (unmangled (map (λ piece. piece.now) l.yielded))
+invariant-loop-piece l = string_bytes l.plain ≡ spelling_of (unmangled_segs (map (λ piece. piece.now) l.yielded))

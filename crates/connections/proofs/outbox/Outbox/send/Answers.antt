@@ -1,6 +1,6 @@
 use Rattle.std.proofs.Common.{◌≡◌, ◌||◌, ◌∷◌, ap, sym, ◌∙◌}
 use Rattle.connections.specs.Slots.{are_fixed_507}
-use Rattle.connections.specs.Ties.{front_has_reply}
+use Rattle.connections.specs.Ties.{first_has_reply}
 use Rattle.connections.proofs.OutboxLemmas.{held-waits, in-place-due, over-waits, sent-left}
 use Rattle.connections.proofs.outbox.Outbox.send.Goals as goal
 use Rattle.connections.proofs.outbox.Outbox.send.Goals.{then-self-via-then-self, then-self-via-else-self+then-not-is_ready}
@@ -17,7 +17,7 @@ returns-clause-sends c = λ m tied.
     let kept = c.sending-sending.ensures.kept in
     let place = c.in_ok-place.place in
     let places : c.args.self.now.places.items ≡ place ∷ c.sending-sending.new.self.places.items = c.in_ok-place.ensures.items ∙ ap (λ q. place ∷ q.items) (sym kept.0) in
-    let has = ap front_has_reply (sym places) ∙ sym c.is_ready.ensures ∙ c.if-not-is_ready.false in
+    let has = ap first_has_reply (sym places) ∙ sym c.is_ready.ensures ∙ c.if-not-is_ready.false in
     sent-left m place _ c.sending-sending.result _ _ _ tied places kept.1 c.if-self.false has c.sending-sending.ensures.sends c.sending-sending.ensures.spare
     (c.is_last-self.ensures ∙ ap (λ bytes. place.closes || are_fixed_507 bytes) c.bytes.ensures)
 
@@ -26,5 +26,5 @@ returns-clause-dry c = λ m tied dry.
     let kept = c.sending-sending.ensures.kept in
     let place = c.in_ok-place.place in
     let places : c.args.self.now.places.items ≡ place ∷ c.sending-sending.new.self.places.items = c.in_ok-place.ensures.items ∙ ap (λ q. place ∷ q.items) (sym kept.0) in
-    let has = ap front_has_reply (sym places) ∙ sym c.is_ready.ensures ∙ c.if-not-is_ready.false in
+    let has = ap first_has_reply (sym places) ∙ sym c.is_ready.ensures ∙ c.if-not-is_ready.false in
     in-place-due m place _ c.sending-sending.result tied places c.if-self.false has c.sending-sending.ensures.sends dry

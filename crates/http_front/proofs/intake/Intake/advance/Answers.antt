@@ -1,5 +1,5 @@
 use Rattle.std.proofs.Common.{subst}
-use Rattle.http_front.specs.Fronts.{IsStart}
+use Rattle.http_front.specs.StreamBeginnings.{IsStart}
 use Rattle.http_front.specs.Intakes.{rest_of}
 use Rattle.http_front.proofs.StartLemmas.{awaited}
 use Rattle.http_front.proofs.IntakeLemmas.{leads_failed, stands_failed, stands_waiting}

@@ -1,5 +1,5 @@
 use Rattle.std.proofs.Common.{length, ◌≡◌, ◌∙◌, ◌++◌, ◌∷◌, true, sym, ap, subst, string_bytes, List, ℕ}
-use Rattle.sp_base.specs.Paths.{fault_of, pieces, checked, child_of, is_path}
+use Rattle.sp_base.specs.Paths.{fault_of, pieces, path_or_fault, child_of, is_path}
 use Rattle.sp_base.specs.PathTexts.{segs_in, fault_after}
 use Rattle.sp_base.proofs.PathLemmas.{IfOk-from, IfErr-from, child_whole, no_fault_left}
 use Rattle.sp_base.proofs.PathFaults.{fault_after_is}
@@ -24,7 +24,7 @@ made-requires-clause-whole c =
 made_of : (c : goal.After-made) → c.made.result ≡ child_of c.args.self.now c.args.name.now
 made_of c =
     let text = c.in_ok-glued.ensures ∙ ap (λ (t : List ℕ). t ++ 47 ∷ c.args.name.now) c.as_str.ensures.value in
-    c.made.ensures ∙ ap checked ((child_text (string_bytes c.self.inside.text) c.args.name.now (string_bytes c.in_ok-glued.field-0) c.self.invariant.valid c.self.invariant.whole text).0
+    c.made.ensures ∙ ap path_or_fault ((child_text (string_bytes c.self.inside.text) c.args.name.now (string_bytes c.in_ok-glued.field-0) c.self.invariant.valid c.self.invariant.whole text).0
     ∙ ap (λ (segs : List (List ℕ)). segs ++ pieces c.args.name.now) c.self.view_is)
 
 pub returns-clause-ok : goal.returns-clause-ok

@@ -1,5 +1,5 @@
 use Rattle.std.proofs.Common.{length, ◌+◌, None, ◌≡◌, ◌∙◌, ◌++◌, sym, ap, string_bytes, List, ℕ}
-use Rattle.sp_base.specs.Paths.{fault_of, size_fault, checked, join_of}
+use Rattle.sp_base.specs.Paths.{fault_of, size_fault, path_or_fault, join_of}
 use Rattle.sp_base.specs.PathTexts.{segs_in}
 use Rattle.sp_base.proofs.PathLemmas.{IfOk-from, IfErr-from}
 use Rattle.sp_base.proofs.PathFaults.{fault_after_is, fault_after_path}
@@ -27,7 +27,7 @@ made_of c =
     let own = string_bytes c.self.inside.text in
     let more = string_bytes c.rest.inside.text in
     let text = c.in_ok-glued.ensures ∙ ap (λ (t : List ℕ). t ++ c.as_str-2.result.now) c.as_str.ensures.value ∙ ap (λ (t : List ℕ). own ++ t) c.as_str-2.ensures.value in
-    c.made.ensures ∙ ap checked ((joined_text own more (string_bytes c.in_ok-glued.field-0) c.self.invariant.valid c.rest.invariant.valid c.self.invariant.whole c.rest.invariant.whole text).0
+    c.made.ensures ∙ ap path_or_fault ((joined_text own more (string_bytes c.in_ok-glued.field-0) c.self.invariant.valid c.rest.invariant.valid c.self.invariant.whole c.rest.invariant.whole text).0
     ∙ ap (λ (segs : List (List ℕ)). segs ++ segs_in more) c.self.view_is ∙ ap (λ (segs : List (List ℕ)). c.args.self.now ++ segs) c.rest.view_is)
 
 pub returns-clause-ok : goal.returns-clause-ok

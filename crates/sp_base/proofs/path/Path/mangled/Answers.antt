@@ -1,6 +1,6 @@
 use Rattle.std.proofs.Common.{◌≡◌, ◌≢◌, ◌∷◌, ◌∙◌, Ok, sym, ap, subst, string_bytes, List, ℕ}
-use Rattle.sp_base.specs.Paths.{checked, mangled, mangled_of}
-use Rattle.sp_base.specs.PathTexts.{segs_in, spelled}
+use Rattle.sp_base.specs.Paths.{path_or_fault, mangled_segs, mangled_of}
+use Rattle.sp_base.specs.PathTexts.{segs_in, spelling_of}
 use Rattle.sp_base.proofs.PathLemmas.{IfOk-from, IfErr-from}
 use Rattle.sp_base.proofs.PathText.{segs_behind, root_segs}
 use Rattle.sp_base.proofs.MangledLemmas.{mangled_in}
@@ -11,13 +11,13 @@ made-requires-clause-whole c = (mangled_in (string_bytes c.in_ok-text-in-Some.te
 
 pub fault_in-requires : goal.fault_in-requires
 fault_in-requires c =
-    subst (λ (t : List ℕ). spelled (segs_in t) ≡ t) (sym c.as_str-in-Some.ensures.value) (mangled_in (string_bytes c.in_ok-text-in-Some.text) c.in-Some.rest.now c.in_ok-text-in-Some.ensures).1
+    subst (λ (t : List ℕ). spelling_of (segs_in t) ≡ t) (sym c.as_str-in-Some.ensures.value) (mangled_in (string_bytes c.in_ok-text-in-Some.text) c.in-Some.rest.now c.in_ok-text-in-Some.ensures).1
 
 made_of : (c : goal.After-made) → c.made.result ≡ mangled_of c.args.self.now
 made_of c =
     let own = segs_behind (string_bytes c.self.inside.text) c.in-Some.rest.now (sym c.as_str.ensures.value ∙ c.in-Some.ensures.some) in
-    c.made.ensures ∙ ap checked ((mangled_in (string_bytes c.in_ok-text-in-Some.text) c.in-Some.rest.now c.in_ok-text-in-Some.ensures).0
-    ∙ ap mangled (sym own ∙ c.self.view_is))
+    c.made.ensures ∙ ap path_or_fault ((mangled_in (string_bytes c.in_ok-text-in-Some.text) c.in-Some.rest.now c.in_ok-text-in-Some.ensures).0
+    ∙ ap mangled_segs (sym own ∙ c.self.view_is))
 
 pub returns-in_ok-text-in-Some-clause-ok : goal.returns-in_ok-text-in-Some-clause-ok
 returns-in_ok-text-in-Some-clause-ok c = IfOk-from c.made.result (λ p e. sym (made_of c) ∙ e)

@@ -1,5 +1,5 @@
 use Rattle.std.proofs.Common.{◌∙◌, Option, Some, None, IfNone, IfSome, sym, ap}
-use Rattle.sp_base.specs.PathTexts.{spelled}
+use Rattle.sp_base.specs.PathTexts.{spelling_of}
 use Rattle.sp_base.proofs.PathText.{segs_behind, root_segs}
 use Rattle.sp_base.proofs.path.Path.relative.Goals as goal
 
@@ -17,5 +17,5 @@ returns-clause-some c =
 
 pub returns-clause-none : goal.returns-clause-none
 returns-clause-none c =
-    let whole = ap spelled c.spelling.ensures.segments ∙ sym c.spelling.ensures.spelled in
+    let whole = ap spelling_of c.spelling.ensures.segments ∙ sym c.spelling.ensures.spelled in
     IfNone-map c.after_slash.result _ _ (λ none. sym c.spelling.ensures.segments ∙ root_segs c.spelling.result.now whole none) c.after_slash.ensures.none

@@ -5,14 +5,14 @@ use Rattle.std.specs.Map.{keys_of}
 use Rattle.std.proofs.lemmas.Map.Views.{All-map-remove_entry}
 use Rattle.sp_outside.specs.Files.{IsName, without_file}
 use Rattle.sp_outside.specs.DiskMemory.{DiskState}
-use Rattle.sp_outside.specs.MemoryFiles.{Held, files_of}
+use Rattle.sp_outside.specs.MemoryFiles.{MemoryEntries, files_of}
 use Rattle.sp_outside.proofs.HeldFiles.{held_without, is_key}
 use Rattle.sp_outside.proofs.mem_disk.MemDisk.erase.Goals as goal
 
 pub invariant_of-self : goal.invariant_of-self
 invariant_of-self c = record {
   rising = c.remove.ensures.ordered;
-  sizes = subst (λ (held : Held). All (λ key. IsName (string_bytes key)) (keys_of held)) (sym c.remove.ensures.entries)
+  sizes = subst (λ (held : MemoryEntries). All (λ key. IsName (string_bytes key)) (keys_of held)) (sym c.remove.ensures.entries)
       (All-map-remove_entry (is_key c.args.name.now) (λ e. e.0) (λ key. IsName (string_bytes key)) c.self.inside.files.entries c.self.invariant.sizes);
 }
 

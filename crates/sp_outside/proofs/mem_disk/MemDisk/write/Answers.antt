@@ -5,14 +5,14 @@ use Rattle.std.specs.Map.{keys_of}
 use Rattle.std.proofs.lemmas.Map.Views.{All-keys-insert_entry}
 use Rattle.sp_outside.specs.Files.{IsName, with_file}
 use Rattle.sp_outside.specs.DiskMemory.{DiskState}
-use Rattle.sp_outside.specs.MemoryFiles.{Held, files_of}
+use Rattle.sp_outside.specs.MemoryFiles.{MemoryEntries, files_of}
 use Rattle.sp_outside.proofs.HeldFiles.{held_with}
 use Rattle.sp_outside.proofs.mem_disk.MemDisk.write.Goals as goal
 
 pub invariant_of-self-2 : goal.invariant_of-self-2
 invariant_of-self-2 c = record {
   rising = c.in_ok-insert.ensures.ordered;
-  sizes = subst (λ (held : Held). All (λ key. IsName (string_bytes key)) (keys_of held)) (sym c.in_ok-insert.ensures.entries)
+  sizes = subst (λ (held : MemoryEntries). All (λ key. IsName (string_bytes key)) (keys_of held)) (sym c.in_ok-insert.ensures.entries)
       (All-keys-insert_entry string_cmp c.in_ok-name.name c.in_ok-bytes.bytes (λ key. IsName (string_bytes key)) c.self.inside.files.entries
       c.self.invariant.sizes (subst IsName (sym c.in_ok-name.ensures.ok) c.requires));
 }

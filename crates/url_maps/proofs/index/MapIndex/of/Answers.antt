@@ -4,7 +4,7 @@ use Rattle.resource_tree.specs.Content.{node_at}
 use Rattle.resource_tree.specs.Patches.{PatchEntries, patching_at}
 use Rattle.resource_tree.specs.Rows.{AreRowsOf}
 use Rattle.url_maps.specs.Claims.{claimants, claims_alias, claims_vanity_path, node_claims_alias, node_claims_vanity_path}
-use Rattle.url_maps.specs.Noting.{Leads}
+use Rattle.url_maps.specs.Noting.{PutsLeaderFirst}
 use Rattle.url_maps.proofs.ClaimLemmas.{alias_there, row_there, rows_more, vanity_path_there, whole_aliases, whole_vanity_paths}
 use Rattle.url_maps.proofs.index.MapIndex.of.Goals as goal
 
@@ -35,8 +35,8 @@ returns c =
     let rows = c.as_slice-rows.result.now in
     let are : AreRowsOf tree (map deref_pair rows) = subst (λ rs. AreRowsOf tree (map deref_pair rs)) (sym c.as_slice-rows.ensures.value) c.in_ok-all.ensures.rows in
     let old = whole_vanity_paths deref_pair tree c.loop-row.vanity_paths.rows rows c.loop-row.row-index are c.loop-row-test.false c.loop-row.invariant.vanity_paths in
-    let leads : (t : List ℕ) → Leads (node_at tree) (claimants c.loop-row.vanity_paths.rows t) (claimants c.in_ok-led.field-0.rows t) = λ t.
-    subst (λ (rs : PatchEntries). Leads (patching_at tree rs) (claimants c.loop-row.vanity_paths.rows t) (claimants c.in_ok-led.field-0.rows t)) c.new-unchanged.ensures (c.in_ok-led.ensures t) in
+    let leads : (t : List ℕ) → PutsLeaderFirst (node_at tree) (claimants c.loop-row.vanity_paths.rows t) (claimants c.in_ok-led.field-0.rows t) = λ t.
+    subst (λ (rs : PatchEntries). PutsLeaderFirst (patching_at tree rs) (claimants c.loop-row.vanity_paths.rows t) (claimants c.in_ok-led.field-0.rows t)) c.new-unchanged.ensures (c.in_ok-led.ensures t) in
     record {
       aliases = c.in_ok-first_siblings.ensures;
       vanity_paths = λ t q. (leads t).paths q ∙ old t q;

@@ -3,5 +3,5 @@ use Rattle.std.specs.Prelude.{ℕ, List}
 use Rattle.std.specs.Borrow.{Bor}
 
 -- a name that is lent, and a port
-abbrev pub lent : Bor (List ℕ) × ℕ → List ℕ × ℕ
-lent host = (host.0.now, host.1)
+abbrev pub lent_host : Bor (List ℕ) × ℕ → List ℕ × ℕ
+lent_host host = (host.0.now, host.1)

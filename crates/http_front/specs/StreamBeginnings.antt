@@ -26,11 +26,11 @@ abbrev pub HoldsSomeHead : List ℕ → List HeaderSpan → RequestSpans → Typ
 HoldsSomeHead bytes fields spans = (head : RequestHead) × HoldsHead bytes fields spans head
 
 -- what is found at the beginning of bytes, which are no more than a head may have, with room for this number of fields
-abbrev pub IsFront : List ℕ → ℕ → StreamStart → Type 0
-IsFront bytes room (Whole head len) = (0 < len) × (len ≤ length bytes) × BeginsAsking bytes head (drop len bytes)
-IsFront bytes room Partial = HasNoRequest bytes × MayBecomeRequest bytes
-IsFront bytes room (Refused fault) = BeginsRefused bytes fault ⊎ ((fault ≡ BadHead) × NeverHasRequest bytes)
-IsFront bytes room Crowded = RequestExceeds room bytes
+abbrev pub IsWindowStart : List ℕ → ℕ → StreamStart → Type 0
+IsWindowStart bytes room (Whole head len) = (0 < len) × (len ≤ length bytes) × BeginsAsking bytes head (drop len bytes)
+IsWindowStart bytes room Partial = HasNoRequest bytes × MayBecomeRequest bytes
+IsWindowStart bytes room (Refused fault) = BeginsRefused bytes fault ⊎ ((fault ≡ BadHead) × NeverHasRequest bytes)
+IsWindowStart bytes room Crowded = RequestExceeds room bytes
 
 -- what is found at the beginning of a whole stream
 abbrev pub IsStart : List ℕ → StreamStart → Type 0

@@ -15,7 +15,7 @@ use Rattle.httparse.specs.declared.spans.RequestSpans.{RequestSpans}
 use Rattle.http_front.specs.declared.fault.InFault.{InFault}
 use Rattle.http_front.specs.declared.head.AskedHead.{AskedHead}
 use Rattle.http_front.specs.Heads.{Parts, request_parts_at, AreWithin, AreTexts, Asks, head_fault}
-use Rattle.http_front.specs.Fronts.{HoldsHead, HoldsSomeHead}
+use Rattle.http_front.specs.StreamBeginnings.{HoldsHead, HoldsSomeHead}
 use Rattle.http_front.specs.Turns.{BeginsAsking, BeginsRefused, longest_head}
 
 token_is_ascii : (b : ℕ) → is_token_byte b ≡ true → b < 128

@@ -10,7 +10,7 @@ use Rattle.form_input.specs.declared.boundary.LineKind.TheVariants.{Opening, Clo
 use Rattle.form_input.specs.Multipart.{Sections, line_kind, is_plain_line, is_closing_line, sections, pair_of, with_part, pairs_of, dash_boundary, multipart_of}
 use Rattle.form_input.specs.Lines.{lines}
 use Rattle.form_input.specs.Bodies.{BodyPart, part_lines, are_plain, is_body_part}
-use Rattle.form_input.specs.BodyFaults.{bytes_of_lines, is_boundary_line, HasNoPart, LacksEnd, HasBadPart, HasTooMany, IsRefused}
+use Rattle.form_input.specs.BodyFaults.{bytes_of_lines, is_boundary_line, HasNoPart, LacksEnd, HasBadPart, HasTooMany, IsBodyFault}
 use Rattle.form_input.proofs.FormLemmas.{Pairs, part_section, end_of_sections, last_section}
 use Rattle.form_input.proofs.BodyLemmas.{and_left, and_right, opening_kind, opening_line, closing_line, place_after, plain_lines, no_lines, Begins}
 
@@ -166,7 +166,7 @@ module _ (boundary body : List ℕ) where
       after_preamble b.preamble (part_lines b.parts ++ h.next ∷ h.more) b.spells b.before
       ∙ read_full dash (length body) 0 (place_after dash 0 b.preamble) b.parts h.pairs (h.next ∷ h.more) b.opened (λ a. bounded dash a h.next h.more h.ended) b.each (omega arith) (omega (arith, many))
 
-  pub refused : (f : FormFault) → IsRefused boundary body f → multipart_of boundary body ≡ Err f
+  pub refused : (f : FormFault) → IsBodyFault boundary body f → multipart_of boundary body ≡ Err f
   refused WrongKind h = absurd h
   refused NoBoundary h = absurd h
   refused (BadPart place) (inl (at, inl none)) = no_part none ∙ ap (λ (n : ℕ). Err (BadPart n)) (sym at)

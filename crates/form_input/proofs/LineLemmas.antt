@@ -3,7 +3,7 @@ use Rattle.std.proofs.Common.{◌≡◌, ◌<◌, ◌≤◌, ◌+◌, ◌-◌, �
 use Rattle.std.proofs.lemmas.Bool.{eqb-true}
 use Rattle.std.specs.List.{onto_first}
 use Rattle.memchr.specs.Find.{OccursAt}
-use Rattle.form_input.specs.Lines.{is_line_end_pair, lines, joined, lines_left}
+use Rattle.form_input.specs.Lines.{is_line_end_pair, lines, lines_text, lines_left}
 
 -- CR LF
 abbrev pub line_end : List ℕ
@@ -118,24 +118,24 @@ has_first (b ∷ c ∷ t) = go (is_line_end_pair b c) refl
     go true e = record { first = []; more = lines t; is = is true e }
     go false e = let o = onto_cons b (lines (c ∷ t)) in record { first = o.0; more = o.1; is = is false e ∙ o.2 }
 
-joined_onto : (b : ℕ) (ls : List (List ℕ)) → joined (onto_first b ls) ≡ b ∷ joined ls
-unfolding joined
+joined_onto : (b : ℕ) (ls : List (List ℕ)) → lines_text (onto_first b ls) ≡ b ∷ lines_text ls
+unfolding lines_text
 joined_onto b [] = refl
 joined_onto b (l ∷ []) = refl
 joined_onto b (l ∷ m ∷ ls) = refl
 
-joined_first : (t : List ℕ) → joined ([] ∷ lines t) ≡ 13 ∷ 10 ∷ joined (lines t)
-unfolding joined
+joined_first : (t : List ℕ) → lines_text ([] ∷ lines t) ≡ 13 ∷ 10 ∷ lines_text (lines t)
+unfolding lines_text
 joined_first t = let h = has_first t in rw h.is refl
 
 -- the lines give the text back
-pub joined_lines : (t : List ℕ) → joined (lines t) ≡ t
-unfolding lines joined
+pub joined_lines : (t : List ℕ) → lines_text (lines t) ≡ t
+unfolding lines lines_text
 joined_lines [] = refl
 joined_lines (b ∷ []) = refl
 joined_lines (b ∷ c ∷ t) = go (is_line_end_pair b c) refl (joined_lines t) (joined_lines (c ∷ t))
   where
-    go : (x : Bool) → is_line_end_pair b c ≡ x → joined (lines t) ≡ t → joined (lines (c ∷ t)) ≡ c ∷ t → joined (cond x ([] ∷ lines t) (onto_first b (lines (c ∷ t)))) ≡ b ∷ c ∷ t
+    go : (x : Bool) → is_line_end_pair b c ≡ x → lines_text (lines t) ≡ t → lines_text (lines (c ∷ t)) ≡ c ∷ t → lines_text (cond x ([] ∷ lines t) (onto_first b (lines (c ∷ t)))) ≡ b ∷ c ∷ t
     go true e here ih = let both = line_end_is b c e in joined_first t ∙ rw (both.0, both.1) (ap (λ (s : List ℕ). 13 ∷ 10 ∷ s) here)
     go false e here ih = joined_onto b (lines (c ∷ t)) ∙ ap (λ (s : List ℕ). b ∷ s) ih
 

@@ -9,7 +9,7 @@ use Rattle.form_input.specs.declared.boundary.LineKind.TheVariants.{Opening, Clo
 use Rattle.form_input.specs.Multipart.{line_kind, is_closing_line, pair_of, dash_boundary, multipart_of}
 use Rattle.form_input.specs.Lines.{lines}
 use Rattle.form_input.specs.Bodies.{BodyPart, part_lines, are_plain, is_body_part}
-use Rattle.form_input.specs.BodyFaults.{bytes_of_lines, is_boundary_line, BeginsWithPairs, IsRefused}
+use Rattle.form_input.specs.BodyFaults.{bytes_of_lines, is_boundary_line, BeginsWithPairs, IsBodyFault}
 use Rattle.form_input.proofs.FormLemmas.{Pairs}
 use Rattle.form_input.proofs.BodyLemmas.{only}
 use Rattle.form_input.proofs.FaultLemmas.{refused}
@@ -177,24 +177,24 @@ module _ (boundary body : List ℕ) where
   abbrev dash : List ℕ
   dash = dash_boundary boundary
 
-  same_fault : (f g : FormFault) → multipart_of boundary body ≡ Err f → IsRefused boundary body g → IsRefused boundary body f
+  same_fault : (f g : FormFault) → multipart_of boundary body ≡ Err f → IsBodyFault boundary body g → IsBodyFault boundary body f
   same_fault f g e h =
       let both : ◌≡◌ {A = Result Pairs FormFault} (Err g) (Err f) = sym (refused boundary body g h) ∙ e in
       let same : g ≡ f = cc in
-      subst (λ (x : FormFault). IsRefused boundary body x) same h
+      subst (λ (x : FormFault). IsBodyFault boundary body x) same h
 
   whole : (preamble : List (List ℕ)) (next : List ℕ) (more : List (List ℕ)) (pairs : Pairs) (left : List (List ℕ)) → lines body ≡ preamble ++ next ∷ more → are_plain dash preamble ≡ true → Parted dash (next ∷ more) pairs left → BeginsWithPairs boundary (lines body) pairs left
   whole preamble next more pairs left spells plain w = record { preamble = preamble; parts = w.parts; spells = spells ∙ ap (λ (l : List (List ℕ)). preamble ++ l) w.spells; before = plain; opened = w.opened; each = w.each }
 
-  pub cause : (f : FormFault) → multipart_of boundary body ≡ Err f → IsRefused boundary body f
+  pub cause : (f : FormFault) → multipart_of boundary body ≡ Err f → IsBodyFault boundary body f
   unfolding whole
   cause f e = go (reading dash 0 (lines body) (omega arith))
     where
-      go : Reading dash 0 (lines body) → IsRefused boundary body f
+      go : Reading dash 0 (lines body) → IsBodyFault boundary body f
       go (inl plain) = same_fault f (BadPart (length body)) e (inl (refl, inl plain))
       go (inr b) = by_tail b.tail
         where
-          by_tail : Tail dash 0 (b.next ∷ b.more) → IsRefused boundary body f
+          by_tail : Tail dash 0 (b.next ∷ b.more) → IsBodyFault boundary body f
           by_tail (inl w) =
               let whole_is = whole b.preamble b.next b.more w.pairs (w.closing ∷ w.epilogue) b.spells b.plain w.parted in
               let few = w.few in

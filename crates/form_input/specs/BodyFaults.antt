@@ -60,9 +60,9 @@ pub record HasTooMany (boundary body : List ℕ) : Type 0 where
   pub many : length pairs ≡ most_pairs + 1
 
 -- what a body is refused for: it has no end, told at the end of the body, or a part has no pair, told at its boundary line; or there are too many
-abbrev pub IsRefused : List ℕ → List ℕ → FormFault → Type 0
-IsRefused boundary body WrongKind = ⊥
-IsRefused boundary body NoBoundary = ⊥
-IsRefused boundary body (BadPart place) = ((place ≡ length body) × (HasNoPart boundary body ⊎ LacksEnd boundary body)) ⊎ HasBadPart boundary body place
-IsRefused boundary body TooMany = HasTooMany boundary body
-IsRefused boundary body NoMemory = ⊥
+abbrev pub IsBodyFault : List ℕ → List ℕ → FormFault → Type 0
+IsBodyFault boundary body WrongKind = ⊥
+IsBodyFault boundary body NoBoundary = ⊥
+IsBodyFault boundary body (BadPart place) = ((place ≡ length body) × (HasNoPart boundary body ⊎ LacksEnd boundary body)) ⊎ HasBadPart boundary body place
+IsBodyFault boundary body TooMany = HasTooMany boundary body
+IsBodyFault boundary body NoMemory = ⊥

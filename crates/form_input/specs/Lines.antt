@@ -13,10 +13,10 @@ lines (b ∷ []) = (b ∷ []) ∷ []
 lines (b ∷ c ∷ text) = if is_line_end_pair b c then [] ∷ lines text else onto_first b (lines (c ∷ text))
 
 -- the lines with CR LF between each two
-unfoldable pub joined : List (List ℕ) → List ℕ
-joined [] = []
-joined (line ∷ []) = line
-joined (line ∷ next ∷ more) = line ++ 13 ∷ 10 ∷ joined (next ∷ more)
+unfoldable pub lines_text : List (List ℕ) → List ℕ
+lines_text [] = []
+lines_text (line ∷ []) = line
+lines_text (line ∷ next ∷ more) = line ++ 13 ∷ 10 ∷ lines_text (next ∷ more)
 
 -- the lines of what is left of a text, where no line or a text is left
 abbrev pub lines_left : Option (List ℕ) → List (List ℕ)

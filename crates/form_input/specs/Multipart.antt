@@ -6,7 +6,7 @@ use Rattle.form_input.specs.declared.fault.FormFault.{FormFault}
 use Rattle.form_input.specs.declared.fault.FormFault.TheVariants.{BadPart, TooMany}
 use Rattle.form_input.specs.declared.boundary.LineKind.{LineKind}
 use Rattle.form_input.specs.declared.boundary.LineKind.TheVariants.{Opening, Closing, Plain}
-use Rattle.form_input.specs.Lines.{lines, joined}
+use Rattle.form_input.specs.Lines.{lines, lines_text}
 use Rattle.form_input.specs.Parameters.{is_space_or_tab, is_type, after_name, parameter}
 
 -- the bytes that begin a boundary line: `--` and the boundary
@@ -67,7 +67,7 @@ disposition_in (line ∷ more) = if length line == 0 then None else first_some (
 -- the text of lines, where there is one at least
 abbrev pub text_of_some : List (List ℕ) → Option (List ℕ)
 text_of_some [] = None
-text_of_some (line ∷ more) = Some (joined (line ∷ more))
+text_of_some (line ∷ more) = Some (lines_text (line ∷ more))
 
 -- the body of a part: what follows the first empty line
 unfoldable pub value_in : List (List ℕ) → Option (List ℕ)

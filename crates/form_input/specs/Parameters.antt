@@ -20,8 +20,8 @@ before_blanks [] = []
 before_blanks (b ∷ text) = if is_space_or_tab b && length (before_blanks text) == 0 then [] else b ∷ before_blanks text
 
 -- a text without the blanks around it
-abbrev pub trimmed : List ℕ → List ℕ
-trimmed text = before_blanks (after_blanks text)
+abbrev pub trimmed_text : List ℕ → List ℕ
+trimmed_text text = before_blanks (after_blanks text)
 
 -- where the next byte stands: a quote opens and closes quotes, and in them a backslash takes the next byte with it
 abbrev pub quoting_step : Quoting → ℕ → Quoting
@@ -46,7 +46,7 @@ parameter_pieces text = parameter_pieces_from Outside text
 
 -- whether the type, which is the first piece, is this word, without case
 abbrev pub is_type : List ℕ → List ℕ → Bool
-is_type word text = str_eq_ignore_ascii_case (trimmed (slice_index_or (parameter_pieces text) 0 [])) word
+is_type word text = str_eq_ignore_ascii_case (trimmed_text (slice_index_or (parameter_pieces text) 0 [])) word
 
 -- what follows a separator
 abbrev pub after_separator : ℕ → List ℕ → Option (List ℕ)
@@ -63,16 +63,16 @@ with_byte b None = None
 with_byte b (Some word) = Some (b ∷ word)
 
 -- the word that stands before a closing quote, where nothing but blanks follows it
-unfoldable pub unquoted : Bool → List ℕ → Option (List ℕ)
-unquoted escaped [] = None
-unquoted true (b ∷ text) = with_byte b (unquoted false text)
-unquoted false (b ∷ text) = if b == 92 then unquoted true text
+unfoldable pub word_in_quotes : Bool → List ℕ → Option (List ℕ)
+word_in_quotes escaped [] = None
+word_in_quotes true (b ∷ text) = with_byte b (word_in_quotes false text)
+word_in_quotes false (b ∷ text) = if b == 92 then word_in_quotes true text
     else (if b == 34 then (if list_all is_space_or_tab text then Some [] else None)
-    else with_byte b (unquoted false text))
+    else with_byte b (word_in_quotes false text))
 
 -- the word of a parameter, plain or in quotes
 abbrev pub parameter_word : List ℕ → Option (List ℕ)
-parameter_word text = if slice_index text 0 == 34 then unquoted false (drop 1 text) else Some (before_blanks text)
+parameter_word text = if slice_index text 0 == 34 then word_in_quotes false (drop 1 text) else Some (before_blanks text)
 
 -- the word of a parameter that was found, else the other
 abbrev pub word_or : Option (List ℕ) → Option (List ℕ) → Option (List ℕ)

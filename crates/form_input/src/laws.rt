@@ -2,9 +2,9 @@
 ghost use Rattle.std.specs.Prelude.{◌≡◌, ℕ, List, Ok, Err};
 ghost use Rattle.form_input.specs.declared.fault.FormFault.{FormFault};
 ghost use Rattle.form_input.specs.Bodies.{HasPairs};
-ghost use Rattle.form_input.specs.BodyFaults.{IsRefused};
+ghost use Rattle.form_input.specs.BodyFaults.{IsBodyFault};
 ghost use Rattle.form_input.specs.FormLaws.{FormsAreRefusedForCauses};
-ghost use Rattle.form_input.specs.Lines.{joined, lines};
+ghost use Rattle.form_input.specs.Lines.{lines_text, lines};
 ghost use Rattle.form_input.specs.Multipart.{multipart_of};
 
 /// A body reads as pairs exactly where it is a preamble, parts that each stand after a boundary line and have such a pair, a closing
@@ -12,14 +12,14 @@ ghost use Rattle.form_input.specs.Multipart.{multipart_of};
 pub fn the_parts_are_the_body()
     ensures found { (boundary body : List ℕ) (pairs : List (List ℕ × List ℕ)) → multipart_of boundary body ≡ Ok pairs → HasPairs boundary body pairs }
     ensures only { (boundary body : List ℕ) (pairs : List (List ℕ × List ℕ)) → HasPairs boundary body pairs → multipart_of boundary body ≡ Ok pairs }
-    ensures lines { (body : List ℕ) → joined (lines body) ≡ body }
+    ensures lines { (body : List ℕ) → lines_text (lines body) ≡ body }
 {}
 
 /// A body is refused exactly for the first fault of its lines: after a preamble and parts that each have a pair comes a part without one, one
 /// that no boundary line ends, or the 1,001st with a pair; or there is no boundary line.
 pub fn bodies_are_refused_for_their_first_fault()
-    ensures found { (boundary body : List ℕ) (fault : FormFault) → multipart_of boundary body ≡ Err fault → IsRefused boundary body fault }
-    ensures only { (boundary body : List ℕ) (fault : FormFault) → IsRefused boundary body fault → multipart_of boundary body ≡ Err fault }
+    ensures found { (boundary body : List ℕ) (fault : FormFault) → multipart_of boundary body ≡ Err fault → IsBodyFault boundary body fault }
+    ensures only { (boundary body : List ℕ) (fault : FormFault) → IsBodyFault boundary body fault → multipart_of boundary body ≡ Err fault }
 {}
 
 /// What a form is refused for is a cause of its own: by definition none is out of memory.

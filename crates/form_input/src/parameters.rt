@@ -152,9 +152,9 @@ pub fn after_name<'a>(separator: u8, name: &[u8], text: &'a [u8]) -> Option<&'a 
 }
 
 // The word before a closing quote.
-#[tactic(auto, using(crate::proofs::ParameterLemmas::before_word_more, crate::proofs::ParameterLemmas::before_word_none), unfolding(crate::specs::Parameters::unquoted))]
+#[tactic(auto, using(crate::proofs::ParameterLemmas::before_word_more, crate::proofs::ParameterLemmas::before_word_none), unfolding(crate::specs::Parameters::word_in_quotes))]
 fn unquoted(alloc: Global, text: &[u8]) -> Result<Option<Vec<u8>>, AllocError>
-    ensures { IfOk result (λ o. option_map (λ v. v.items) o ≡ spec.unquoted false text.now) }
+    ensures { IfOk result (λ o. option_map (λ v. v.items) o ≡ spec.word_in_quotes false text.now) }
 {
     let mut word = Vec::new(alloc);
     let mut escaped = false;

@@ -7,7 +7,7 @@ use Rattle.std.proofs.lemmas.List.Concat.{flat_map-append, length-flat_map}
 use Rattle.std.proofs.lemmas.List.Sums.{sum_by-cons, sum_by-append, sum_by-le-sum_by, sum_by-take-le}
 use Rattle.resource_tree.specs.Seen.{Resource, Seen}
 use Rattle.get_servlet.specs.declared.kids.Kid.{Kid}
-use Rattle.get_servlet.specs.Rendering.{shown_kid, kid_count, shown_at, shown, greatest_fitting}
+use Rattle.get_servlet.specs.Rendering.{shown_kid, kid_count, shown_at, shown_count, greatest_fitting}
 use Rattle.get_servlet.specs.Steps.{kid_list, kids_under, shown_kids, next_level, shown_among}
 use Rattle.get_servlet.specs.Answers.{IsOver}
 
@@ -49,11 +49,11 @@ shown_at-grows seen zero path res = omega (arith, shown_at-top seen zero path re
 shown_at-grows seen (suc depth) path res =
     omega (arith, shown_at-deep seen (suc depth) depth path res refl, shown_at-deep seen (suc (suc depth)) (suc depth) path res refl, shown_below-grows seen depth (shown_at-grows seen depth) path res res.kids)
 
-pub shown-grows : (seen : Seen) (res : Resource) (low high : ℕ) → low ≤ high → shown seen res low ≤ shown seen res high
-shown-grows seen res low zero le = let e : low ≡ 0 = omega arith in omega (arith, ap (shown seen res) e)
+pub shown-grows : (seen : Seen) (res : Resource) (low high : ℕ) → low ≤ high → shown_count seen res low ≤ shown_count seen res high
+shown-grows seen res low zero le = let e : low ≡ 0 = omega arith in omega (arith, ap (shown_count seen res) e)
 shown-grows seen res low (suc high) le =
     ⊎_elim (λ lt. omega (arith, shown-grows seen res low high (omega (arith, lt)), shown_at-grows seen high res.path res))
-    (λ ge. let e : low ≡ suc high = omega (arith, ge) in omega (arith, ap (shown seen res) e)) (cases_lt low (suc high))
+    (λ ge. let e : low ≡ suc high = omega (arith, ge) in omega (arith, ap (shown_count seen res) e)) (cases_lt low (suc high))
 
 one_either : (b : Bool) (n : ℕ) → n ≡ cond b n n
 one_either true n = refl
@@ -73,8 +73,8 @@ greatest_is count most (suc depth) least le fits deeper =
     (λ ge. greatest_here count most depth (omega (arith, ge)) fits)
     (cases_lt most (suc depth))
 
-pub greatest_from_over : (seen : Seen) (res : Resource) (depth most : ℕ) → IsOver seen res depth most → most ≡ greatest_fitting (shown seen res) depth
-greatest_from_over seen res depth most over = greatest_is (shown seen res) most depth over.least (omega (arith, over.below)) over.fits over.deeper
+pub greatest_from_over : (seen : Seen) (res : Resource) (depth most : ℕ) → IsOver seen res depth most → most ≡ greatest_fitting (shown_count seen res) depth
+greatest_from_over seen res depth most over = greatest_is (shown_count seen res) most depth over.least (omega (arith, over.below)) over.fits over.deeper
 
 -- all levels fit
 pub all_fit : (count : ℕ → ℕ) (depth : ℕ) → 1 ≤ depth → count depth ≤ 1000 → depth ≡ greatest_fitting count depth
@@ -82,10 +82,10 @@ all_fit count zero some le = absurd (omega (arith, some))
 all_fit count (suc depth) some le = greatest_here count (suc depth) depth refl (λ _. le)
 
 -- the next level does not
-pub stops : (seen : Seen) (res : Resource) (depth most : ℕ) → 1 ≤ most → most < depth → (1 < most → shown seen res most ≤ 1000) → 1000 < shown seen res (most + 1)
-    → most ≡ greatest_fitting (shown seen res) depth
+pub stops : (seen : Seen) (res : Resource) (depth most : ℕ) → 1 ≤ most → most < depth → (1 < most → shown_count seen res most ≤ 1000) → 1000 < shown_count seen res (most + 1)
+    → most ≡ greatest_fitting (shown_count seen res) depth
 stops seen res depth most least below fits next =
-    greatest_is (shown seen res) most depth least (omega (arith, below)) fits (λ k lt. omega (arith, next, shown-grows seen res (most + 1) k (omega (arith, lt))))
+    greatest_is (shown_count seen res) most depth least (omega (arith, below)) fits (λ k lt. omega (arith, next, shown-grows seen res (most + 1) k (omega (arith, lt))))
 
 -- ---- a level at a time
 
@@ -136,21 +136,21 @@ among_none seen depth = refl
 
 -- the kids at this depth, and the room beside the resources above them
 pub record IsLevel (seen : Seen) (res : Resource) (reached room : ℕ) (level : List Kid) : Type 0 where
-  pub counts : (more : ℕ) → shown seen res (reached + more) + room ≡ 1000 + shown_among seen more level
+  pub counts : (more : ℕ) → shown_count seen res (reached + more) + room ≡ 1000 + shown_among seen more level
   pub fits : length level ≤ room
 
 pub first_level : (seen : Seen) (res : Resource) (path : List (List ℕ)) (level : List Kid) → path ≡ res.path → level ≡ shown_kids seen path res → length level ≤ 999 → IsLevel seen res 1 999 level
 first_level seen res path level at is le = record {
   counts = λ more.
       let same : suc more ≡ 1 + more = omega arith in
-      omega (arith, shown_at-kids seen more res.path res, ap (shown seen res) same, ap (shown_among seen more) (is ∙ ap (λ p. shown_kids seen p res) at));
+      omega (arith, shown_at-kids seen more res.path res, ap (shown_count seen res) same, ap (shown_among seen more) (is ∙ ap (λ p. shown_kids seen p res) at));
   fits = le;
 }
 
 pub first_over : (seen : Seen) (res : Resource) (path : List (List ℕ)) (depth : ℕ) → path ≡ res.path → 1 < depth → 999 < length (shown_kids seen path res)
-    → 1 ≡ greatest_fitting (shown seen res) depth
+    → 1 ≡ greatest_fitting (shown_count seen res) depth
 first_over seen res path depth at deep over =
-    greatest_is (shown seen res) 1 depth (omega arith) (omega (arith, deep)) (λ lt. absurd (omega (arith, lt)))
+    greatest_is (shown_count seen res) 1 depth (omega arith) (omega (arith, deep)) (λ lt. absurd (omega (arith, lt)))
     (λ k lt. omega (arith, over, shown_at-kids seen 0 res.path res, among_top seen (shown_kids seen res.path res), ap (λ p. length (shown_kids seen p res)) at, shown-grows seen res 1 k (omega (arith, lt))))
 
 pub level_more : (seen : Seen) (res : Resource) (reached room left : ℕ) (level next : List Kid) → IsLevel seen res reached room level → left + length level ≡ room
@@ -158,17 +158,17 @@ pub level_more : (seen : Seen) (res : Resource) (reached room left : ℕ) (level
 level_more seen res reached room left level next is less more le = record {
   counts = λ n.
       let same : reached + 1 + n ≡ reached + suc n = omega arith in
-      omega (arith, less, ap (shown seen res) same, is.counts (suc n), among_deep seen n level, ap (shown_among seen n) more);
+      omega (arith, less, ap (shown_count seen res) same, is.counts (suc n), among_deep seen n level, ap (shown_among seen n) more);
   fits = le;
 }
 
-pub level_fits : (seen : Seen) (res : Resource) (reached room : ℕ) (level : List Kid) → IsLevel seen res reached room level → shown seen res reached ≤ 1000
+pub level_fits : (seen : Seen) (res : Resource) (reached room : ℕ) (level : List Kid) → IsLevel seen res reached room level → shown_count seen res reached ≤ 1000
 level_fits seen res reached room level is =
     let same : reached + 0 ≡ reached = omega arith in
-    omega (arith, is.counts 0, is.fits, among_top seen level, ap (shown seen res) same)
+    omega (arith, is.counts 0, is.fits, among_top seen level, ap (shown_count seen res) same)
 
 pub level_over : (seen : Seen) (res : Resource) (depth reached room left : ℕ) (level : List Kid) → IsLevel seen res reached room level → 1 ≤ reached → reached < depth
-    → left + length level ≡ room → left < length (next_level seen level) → reached ≡ greatest_fitting (shown seen res) depth
+    → left + length level ≡ room → left < length (next_level seen level) → reached ≡ greatest_fitting (shown_count seen res) depth
 level_over seen res depth reached room left level is least below less over =
     stops seen res depth reached least below (λ _. level_fits seen res reached room level is)
     (omega (arith, less, over, is.counts 1, among_deep seen 0 level, among_top seen (next_level seen level)))
@@ -178,11 +178,11 @@ is_nil [] e = refl
 is_nil (x ∷ xs) e = absurd (omega (arith, e))
 
 pub none_deeper : (seen : Seen) (res : Resource) (depth reached room : ℕ) (level : List Kid) → IsLevel seen res reached room level → length level ≡ 0 → 1 ≤ reached → reached ≤ depth
-    → depth ≡ greatest_fitting (shown seen res) depth
+    → depth ≡ greatest_fitting (shown_count seen res) depth
 none_deeper seen res depth reached room level is none least le =
     let same : reached + (depth - reached) ≡ depth = omega (arith, le) in
-    all_fit (shown seen res) depth (omega (arith, least, le))
-    (omega (arith, is.counts (depth - reached), ap (shown_among seen (depth - reached)) (is_nil level none), among_none seen (depth - reached), ap (shown seen res) same))
+    all_fit (shown_count seen res) depth (omega (arith, least, le))
+    (omega (arith, is.counts (depth - reached), ap (shown_among seen (depth - reached)) (is_nil level none), among_none seen (depth - reached), ap (shown_count seen res) same))
 
 -- ---- the names of a resource's kids
 

@@ -64,8 +64,8 @@ shown_at seen zero path res = 1
 shown_at seen (suc depth) path res = 1 + sum_by (λ name. kid_count (shown_at seen depth) (shown_kid seen path res name)) res.kids
 
 -- the same of a resource at its own path
-abbrev pub shown : Seen → Resource → ℕ → ℕ
-shown seen res depth = shown_at seen depth res.path res
+abbrev pub shown_count : Seen → Resource → ℕ → ℕ
+shown_count seen res depth = shown_at seen depth res.path res
 
 -- the most resources that a text of a depth above 1 shows
 abbrev pub most_resources : ℕ

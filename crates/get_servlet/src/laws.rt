@@ -6,7 +6,7 @@ ghost use Rattle.resource_tree.specs.Seen.{Resource, Seen};
 ghost use Rattle.get_servlet.specs.declared.answer.JsonAnswer.TheVariants.{Over};
 ghost use Rattle.get_servlet.specs.Answers.{json_answer, IsOver};
 ghost use Rattle.get_servlet.specs.Objects.{objects_in, HasLongs, HaveLongs};
-ghost use Rattle.get_servlet.specs.Rendering.{resource_json, json_text, shown};
+ghost use Rattle.get_servlet.specs.Rendering.{resource_json, json_text, shown_count};
 
 /// A path has at most 64 segments, so whoever asks for more levels is shown no more.
 pub fn sixty_four_levels_are_all()
@@ -15,7 +15,7 @@ pub fn sixty_four_levels_are_all()
 
 /// The resources that are shown are the objects in the JSON: no property is an object, and each resource is one.
 pub fn shown_are_the_objects()
-    ensures { (seen : Seen) (depth : ℕ) (res : Resource) → shown seen res depth ≡ objects_in (resource_json seen depth res.path res) }
+    ensures { (seen : Seen) (depth : ℕ) (res : Resource) → shown_count seen res depth ≡ objects_in (resource_json seen depth res.path res) }
 {}
 
 /// The text is a JSON text (RFC 8259) of the very value, whatever the depth.

@@ -1,6 +1,6 @@
 // Counts the resources that a JSON text shows, level by level, up to the most that it may show: each is looked up once.
 ghost use Rattle.std.specs.Prelude.{◌≡◌, ◌<◌, ◌++◌, IfOk, OnOk, option_map};
-ghost use Rattle.get_servlet.specs.Rendering.{shown_kid, shown, greatest_fitting};
+ghost use Rattle.get_servlet.specs.Rendering.{shown_kid, shown_count, greatest_fitting};
 ghost use Rattle.get_servlet.specs.Steps.{kid_list, shown_kids, next_level, Gathers, GathersAll, depth_instead};
 
 use crate::kids::{Kid, shown_kid};
@@ -70,7 +70,7 @@ fn next_level<'a, L: Look>(
 // The greatest depth up to this one that is 1 or shows at most 1,000 resources.
 fn greatest_fitting<L: Look>(alloc: Global, look: &L, res: &Res<'_>, depth: u32) -> Mem<u32>
     requires deep { 1 < depth }
-    ensures { IfOk result (λ most. most ≡ greatest_fitting (shown (L.seen look.now) res.now) depth) }
+    ensures { IfOk result (λ most. most ≡ greatest_fitting (shown_count (L.seen look.now) res.now) depth) }
 {
     let mut room = MOST_SHOWN - 1;
     let mut level = Vec::new(alloc);
@@ -97,7 +97,7 @@ pub(crate) fn depth_instead<L: Look>(
     res: &Res<'_>,
     depth: u32,
 ) -> Mem<Option<u32>>
-    ensures { IfOk result (λ instead. instead ≡ depth_instead (shown (L.seen look.now) res.now) depth) }
+    ensures { IfOk result (λ instead. instead ≡ depth_instead (shown_count (L.seen look.now) res.now) depth) }
 {
     if depth <= 1 {
         return Ok(None);

@@ -9,7 +9,7 @@ use Rattle.std.proofs.lemmas.Grind.{common_steps, flat_map-append}
 use Rattle.htl_expr.specs.declared.expression.Context.{Context}
 use Rattle.htl_expr.specs.declared.expression.Context.TheVariants as context
 use Rattle.htl_expr.specs.Print.{reference, html_escape, reference_place, first_reference, is_inert, IsInert, in_context}
-use Rattle.htl_expr.specs.Writing.{Begins, Stopped}
+use Rattle.htl_expr.specs.Writing.{Begins, IsStopped}
 use Rattle.htl_expr.specs.declared.room.WriteFault.{WriteFault}
 use Rattle.htl_expr.proofs.Writing.{begins_more, begins_later, longer}
 
@@ -167,14 +167,14 @@ escaped_longer (b ∷ t) = let l = length-append (html_escape b) (flat_map html_
 
 -- a run doesn't fit
 pub run_stops_at : (n most : ℕ) (f : WriteFault) (old before new rest plain run : List ℕ) → n ≡ reference_place rest → run ≡ take n rest → before ++ flat_map html_escape rest ≡ old ++ flat_map html_escape plain → Begins old before
-    → Stopped most f before run new → Stopped most f old (flat_map html_escape plain) new
+    → IsStopped most f before run new → IsStopped most f old (flat_map html_escape plain) new
 run_stops_at n most f old before new rest plain run en er inv b w =
     let rest_is : flat_map html_escape rest ≡ run ++ flat_map html_escape (drop (reference_place rest) rest) = run_step rest ∙ rw (er, en) refl in
     (begins_later old before new b w.0, λ known. let x = w.1 known in (x.0, rw inv at (longer most before run _ (flat_map html_escape rest) rest_is x.1)))
 
 -- a reference doesn't fit
 pub reference_stops_at : (n most : ℕ) (f : WriteFault) (old before run_written new rest plain run behind reference : List ℕ) → n ≡ reference_place rest → run ≡ take n rest → behind ≡ drop n rest → first_reference behind ≡ Some reference
-    → run_written ≡ before ++ run → before ++ flat_map html_escape rest ≡ old ++ flat_map html_escape plain → Begins old before → Stopped most f run_written reference new → Stopped most f old (flat_map html_escape plain) new
+    → run_written ≡ before ++ run → before ++ flat_map html_escape rest ≡ old ++ flat_map html_escape plain → Begins old before → IsStopped most f run_written reference new → IsStopped most f old (flat_map html_escape plain) new
 reference_stops_at n most f old before run_written new rest plain run behind reference en er eb some ew inv b w =
     let later = flat_map html_escape (drop 1 behind) in
     let rest_is : flat_map html_escape rest ≡ run ++ (reference ++ later) = run_step rest ∙ rw (er, en) (ap (λ (l : List ℕ). take (reference_place rest) rest ++ l) (ap (flat_map html_escape) (sym (rw en at eb)) ∙ (marked behind reference some).written)) in

@@ -5,7 +5,7 @@ use Rattle.htl_expr.specs.declared.node.Comparison.{Comparison}
 use Rattle.htl_expr.specs.declared.node.Comparison.TheVariants.{Equal, NotEqual, Below, Above, AtMost, AtLeast}
 use Rattle.htl_expr.specs.declared.expression.Context.TheVariants.{Text, Unsafe}
 use Rattle.htl_expr.specs.declared.tokens.NameKind.{NameKind}
-use Rattle.htl_expr.specs.Tokens.{Outcome, ◌>>=◌, blanks_skipped, is_at, begins, is_first, is_expression_digit, is_quote, name_len, read_name, expect, second, literal, unescape, string_after_escape, read_in_front, string_from, string, expression_digit_fits, expression_digits_from, limit, digits, signed_number}
+use Rattle.htl_expr.specs.Tokens.{Outcome, ◌>>=◌, blanks_skipped, is_at, begins, is_first, is_expression_digit, is_quote, name_len, read_name, expect, second, literal, unescape, string_after_escape, read_with_prefix, string_from, string, expression_digit_fits, expression_digits_from, limit, digits, signed_number}
 use Rattle.htl_expr.specs.Read as spec
 use Rattle.htl_expr.proofs.TokensAgain.{skip-short}
 use Rattle.htl_expr.proofs.Further.{Goes, goes_bind, goes_if, goes_ok, goes_refuse, goes_more, behind, bytes, drop-short, skip_drop-short}
@@ -38,7 +38,7 @@ name_keeps kind t = goes_if behind (length t) (begins is_first t) _ _ _ _ (λ e.
 
 -- ---- strings
 
-front_keeps : (w : List ℕ) (n : ℕ) (o : Outcome (List ℕ)) → Keeps behind n o → Keeps behind n (read_in_front w o)
+front_keeps : (w : List ℕ) (n : ℕ) (o : Outcome (List ℕ)) → Keeps behind n o → Keeps behind n (read_with_prefix w o)
 front_keeps w n o g = goes_bind behind behind n o o _ _ g (λ x. pair_keeps (w ++ x.0) x.1)
 
 string_from_keeps : (is_escaped : Bool) (mark : ℕ) (t : List ℕ) → Keeps behind (length t) (string_from is_escaped mark t)

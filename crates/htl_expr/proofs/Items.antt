@@ -11,7 +11,7 @@ use Rattle.htl_expr.specs.declared.pieces.ItemPiece.TheVariants as piece
 use Rattle.htl_expr.specs.Print.{concatenation, plain}
 use Rattle.htl_expr.specs.Value.{property, resource, field, text_or_nothing}
 use Rattle.htl_expr.specs.Lent.{is_list, property_item, listed_texts, KnowsItself}
-use Rattle.htl_expr.specs.Pieces.{piece_text, AreItemPieces, HavePieces}
+use Rattle.htl_expr.specs.Pieces.{item_piece_text, AreItemPieces, HavePieces}
 use Rattle.htl_expr.proofs.PieceLemmas.{alone, of_all, one_more, as_many, at_place}
 
 -- one item more, and its pieces, where the texts of the items are what is put together
@@ -50,7 +50,7 @@ only_item (out.Long n) zero one lt = absurd cc
 only_item (out.Text text) zero one lt = absurd cc
 
 -- a list without items has the text of an empty piece
-pub empty_literal : (scope : Bindings) (v : Out) (text : ItemPiece) → is_list v ≡ true → listed_texts v ≡ [] → piece_text scope text ≡ [] → AreItemPieces scope (text ∷ []) (plain (codes ",") v)
+pub empty_literal : (scope : Bindings) (v : Out) (text : ItemPiece) → is_list v ≡ true → listed_texts v ≡ [] → item_piece_text scope text ≡ [] → AreItemPieces scope (text ∷ []) (plain (codes ",") v)
 empty_literal scope v text list none empty = alone scope text (plain (codes ",") v) (listed v list ∙ ap (concatenation (codes ",")) none ∙ sym empty)
 
 -- the text of a list literal is put together of the pieces of all of its items

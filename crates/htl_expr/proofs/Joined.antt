@@ -5,7 +5,7 @@ use Rattle.std.proofs.lemmas.List.{take_more}
 use Rattle.htl_expr.specs.declared.expression.Context.{Context}
 use Rattle.htl_expr.specs.declared.room.WriteFault.{WriteFault}
 use Rattle.htl_expr.specs.Print.{concatenation, in_context}
-use Rattle.htl_expr.specs.Writing.{Begins, Stopped}
+use Rattle.htl_expr.specs.Writing.{Begins, IsStopped}
 use Rattle.htl_expr.proofs.EscapeLemmas.{in_context_append}
 use Rattle.htl_expr.proofs.Writing.{begins_later, longer}
 
@@ -54,7 +54,7 @@ item_written context join before old mid new f xs i d lt none some m e =
 
 -- an item doesn't fit
 pub item_stops : {X : Type 0} (most : ℕ) (fault : WriteFault) (context : Option Context) (join before old mid new : List ℕ) (f : X → List ℕ) (xs : List X) (i : ℕ) (d : X) → i < length xs → (i ≡ 0 → before ≡ []) → (0 < i → before ≡ join)
-    → mid ≡ old ++ in_context context (concatenation join (map f (take i xs))) → Stopped most fault mid (in_context context (before ++ f (get_or xs i d))) new → Stopped most fault old (in_context context (concatenation join (map f xs))) new
+    → mid ≡ old ++ in_context context (concatenation join (map f (take i xs))) → IsStopped most fault mid (in_context context (before ++ f (get_or xs i d))) new → IsStopped most fault old (in_context context (concatenation join (map f xs))) new
 item_stops most fault context join before old mid new f xs i d lt none some m w =
     let item = in_context context (before ++ f (get_or xs i d)) in
     let same = item_written context join before old mid (mid ++ item) f xs i d lt none some m refl in
@@ -70,6 +70,6 @@ item_written_is context join before old mid new f xs i x lt is none some m e =
     item_written context join before old mid new f xs i x lt none some m (subst (λ y. new ≡ mid ++ in_context context (before ++ f y)) is e)
 
 pub item_stops_is : {X : Type 0} (most : ℕ) (fault : WriteFault) (context : Option Context) (join before old mid new : List ℕ) (f : X → List ℕ) (xs : List X) (i : ℕ) (x : X) → i < length xs → x ≡ get_or xs i x → (i ≡ 0 → before ≡ []) → (0 < i → before ≡ join)
-    → mid ≡ old ++ in_context context (concatenation join (map f (take i xs))) → Stopped most fault mid (in_context context (before ++ f x)) new → Stopped most fault old (in_context context (concatenation join (map f xs))) new
+    → mid ≡ old ++ in_context context (concatenation join (map f (take i xs))) → IsStopped most fault mid (in_context context (before ++ f x)) new → IsStopped most fault old (in_context context (concatenation join (map f xs))) new
 item_stops_is most fault context join before old mid new f xs i x lt is none some m w =
-    item_stops most fault context join before old mid new f xs i x lt none some m (subst (λ y. Stopped most fault mid (in_context context (before ++ f y)) new) is w)
+    item_stops most fault context join before old mid new f xs i x lt none some m (subst (λ y. IsStopped most fault mid (in_context context (before ++ f y)) new) is w)

@@ -7,7 +7,7 @@ use Rattle.htl_expr.specs.declared.tokens.NameKind.{NameKind}
 use Rattle.htl_expr.specs.declared.tokens.NameKind.TheVariants.{Name, Field}
 use Rattle.htl_expr.specs.declared.node.Comparison.{Comparison}
 use Rattle.htl_expr.specs.declared.node.Comparison.TheVariants.{Equal, NotEqual, Below, Above, AtMost, AtLeast}
-use Rattle.htl_expr.specs.Tokens.{Outcome, ◌>>=◌, blanks_skipped, is_at, is_blank, begins, expect, second, literal, goes_on, run, name_len, read_name, is_expression_digit, is_letter, is_word_byte, is_first, digits, expression_digits_from, expression_digit_fits, limit, signed, signed_number}
+use Rattle.htl_expr.specs.Tokens.{Outcome, ◌>>=◌, blanks_skipped, is_at, is_blank, begins, expect, second, literal, goes_on, run, name_len, read_name, is_expression_digit, is_letter, is_word_byte, is_first, digits, expression_digits_from, expression_digit_fits, limit, signed_value, signed_number}
 use Rattle.htl_expr.specs.Read.{comparison, or_equal, between}
 use Rattle.htl_expr.specs.Grammar.{Passes}
 use Rattle.htl_expr.specs.Fault.{nests, SameHead}
@@ -218,8 +218,8 @@ local_digits_at most m = record { ok = ok; err = λ d s e. absurd cc }
 local_digits : (negative : Bool) → Local (digits negative)
 unfolding digits
 local_digits negative =
-    local_if (begins is_expression_digit) (λ s. digits_at (limit negative) 0 s >>= λ x. Ok (signed negative x.0, blanks_skipped x.1)) refuse (head_same is_expression_digit)
-    (local_bind (digits_at (limit negative) 0) (λ k t. Ok (signed negative k, blanks_skipped t)) (local_digits_at (limit negative) 0) (λ k. local_skip (got (signed negative k)) (local_pure (signed negative k)))) local_refuse
+    local_if (begins is_expression_digit) (λ s. digits_at (limit negative) 0 s >>= λ x. Ok (signed_value negative x.0, blanks_skipped x.1)) refuse (head_same is_expression_digit)
+    (local_bind (digits_at (limit negative) 0) (λ k t. Ok (signed_value negative k, blanks_skipped t)) (local_digits_at (limit negative) 0) (λ k. local_skip (got (signed_value negative k)) (local_pure (signed_value negative k)))) local_refuse
 
 pub local_number : Local signed_number
 unfolding signed_number

@@ -6,11 +6,11 @@ use Rattle.std.specs.Cmp.Lexicographic.{pointwise}
 use Rattle.htl_expr.specs.declared.pieces.ItemPiece.{ItemPiece}
 use Rattle.htl_expr.specs.Bindings.{Bindings}
 use Rattle.htl_expr.specs.Print.{concatenation}
-use Rattle.htl_expr.specs.Pieces.{piece_text, piece_texts, with_commas, AreItemPieces, HavePieces, AgreeUpTo, DifferAt}
+use Rattle.htl_expr.specs.Pieces.{item_piece_text, piece_texts, with_commas, AreItemPieces, HavePieces, AgreeUpTo, DifferAt}
 
 -- a piece alone has the text of what it is a piece of
-pub alone : (scope : Bindings) (piece : ItemPiece) (text : List ℕ) → text ≡ piece_text scope piece → AreItemPieces scope (piece ∷ []) text
-alone scope piece text is = ap (λ (l : List ℕ). codes "," ++ l) is ∙ sym (append-nil (codes "," ++ piece_text scope piece))
+pub alone : (scope : Bindings) (piece : ItemPiece) (text : List ℕ) → text ≡ item_piece_text scope piece → AreItemPieces scope (piece ∷ []) text
+alone scope piece text is = ap (λ (l : List ℕ). codes "," ++ l) is ∙ sym (append-nil (codes "," ++ item_piece_text scope piece))
 
 -- texts with a comma before each, one after the other
 commas_append : (xs ys : List (List ℕ)) → with_commas (xs ++ ys) ≡ with_commas xs ++ with_commas ys
@@ -33,7 +33,7 @@ commas_of_all scope (ps ∷ items) (t ∷ texts) known =
     ap (λ (l : List ℕ). l ++ with_commas texts) known.0
     ∙ ap (λ (l : List ℕ). with_commas (piece_texts scope ps) ++ l) (commas_of_all scope items texts known.1)
     ∙ sym (commas_append (piece_texts scope ps) (piece_texts scope all))
-    ∙ ap with_commas (sym (map_append (piece_text scope) ps all))
+    ∙ ap with_commas (sym (map_append (item_piece_text scope) ps all))
 
 -- the text of a list literal is put together of the pieces of its items
 pub of_all : (scope : Bindings) (items : List (List ItemPiece)) (texts : List (List ℕ)) (pieces : List ItemPiece) → 0 < length items → HavePieces scope items texts → pieces ≡ flat_map (λ (ps : List ItemPiece). ps) items

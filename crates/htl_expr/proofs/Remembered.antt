@@ -13,7 +13,7 @@ use Rattle.std.specs.Cmp.Lexicographic.{slice_cmp, pointwise, pointwise_decides,
 use Rattle.htl_expr.specs.Bindings.{Bindings}
 use Rattle.htl_expr.specs.declared.numbered.Aspect.{Aspect}
 use Rattle.htl_expr.specs.declared.scope.Scope.{Scope}
-use Rattle.htl_expr.specs.ComparedValue.{by_texts, number_in, TellsApart, AreNumbered, Keeps}
+use Rattle.htl_expr.specs.ComparedValue.{by_texts, number_in, TellsApart, AreNumbered, KeepsNumbers}
 use Rattle.htl_expr.specs.Lent.{property_item}
 use Rattle.htl_expr.specs.Remembered.{compared_by, Knows, RemembersJoined, RemembersItemTexts}
 use Rattle.htl_expr.specs.Print.{plain}
@@ -52,7 +52,7 @@ weaker P Q None f h = tt
 weaker P Q (Some n) f h = f n h
 
 -- a compared value that is given a number
-pub keeps_more : (old new : Table) (compared : List (List ℕ)) (next : ℕ) → Updates by_texts old new compared (Some next) → number_in old.entries compared ≡ None → Keeps old.entries new.entries
+pub keeps_more : (old new : Table) (compared : List (List ℕ)) (next : ℕ) → Updates by_texts old new compared (Some next) → number_in old.entries compared ≡ None → KeepsNumbers old.entries new.entries
 keeps_more old new compared next updates none texts number has = updates.0 texts ∙ chosen (is_at (by_texts compared) texts) refl
   where
     chosen : (t : Bool) → is_at (by_texts compared) texts ≡ t → cond t (Some next) (number_in old.entries texts) ≡ Some number
@@ -92,7 +92,7 @@ numbered_more old new compared next updates known = (
     below texts (Some n) e = bound texts n (one_of old new compared next updates texts n e)
 
 -- what is known of a name stays known
-pub known_still : (scope : Bindings) (of_it : Aspect) (old new : Numbers) (known : BTreeMap (List ℕ) ℕ) → Keeps old new → Knows scope of_it old known → Knows scope of_it new known
+pub known_still : (scope : Bindings) (of_it : Aspect) (old new : Numbers) (known : BTreeMap (List ℕ) ℕ) → KeepsNumbers old new → Knows scope of_it old known → Knows scope of_it new known
 known_still scope of_it old new known keeps knows name =
     weaker (λ n. number_in old (compared_by scope of_it name) ≡ Some n) (λ n. number_in new (compared_by scope of_it name) ≡ Some n) (get by_name known name) (keeps (compared_by scope of_it name)) (knows name)
 

@@ -1,7 +1,7 @@
 -- Steps of reading a string.
 use Rattle.std.proofs.Common.{◌≡◌, ◌<◌, ◌≤◌, ℕ, suc, Bool, true, false, cond, ◌||◌, eqb, List, [], ◌∷◌, ◌++◌, take, drop, length, slice_index, Option, Some, None, Ok, Err, refl, ap, sym, ◌∙◌, arith, append_assoc}
 use Rattle.std.proofs.lemmas.Bool.Decides.{nat_tests}
-use Rattle.htl_expr.specs.Tokens.{Outcome, ◌>>=◌, is_at, is_quote, blanks_skipped, unescape, escape, escape_of, string_after_escape, plain_quoted_len, read_in_front, string_from, Fails, done}
+use Rattle.htl_expr.specs.Tokens.{Outcome, ◌>>=◌, is_at, is_quote, blanks_skipped, unescape, escape, escape_of, string_after_escape, plain_quoted_len, read_with_prefix, string_from, Fails, done}
 use Rattle.std.specs.Str.{IsCharBoundary}
 use Rattle.std.proofs.lemmas.List.{append-nil, length-drop}
 use Rattle.htl_expr.specs.declared.stop.ExprStop.{ExprStop}
@@ -10,37 +10,37 @@ use Rattle.htl_expr.specs.declared.stop.ExprStop.TheVariants.{Memory, Unexpected
 pub ok_is : {A : Type 0} (x y : A) → done x ≡ done y → x ≡ y
 ok_is x y e = cc
 
-pub in_front_twice : (a b : List ℕ) (o : Outcome (List ℕ)) → read_in_front a (read_in_front b o) ≡ read_in_front (a ++ b) o
+pub in_front_twice : (a b : List ℕ) (o : Outcome (List ℕ)) → read_with_prefix a (read_with_prefix b o) ≡ read_with_prefix (a ++ b) o
 in_front_twice a b (Ok x) = ap (λ (l : List ℕ). Ok (l, x.1)) (sym (append_assoc a b x.0))
 in_front_twice a b (Err e) = refl
 
-pub in_front_nil : (o : Outcome (List ℕ)) → read_in_front [] o ≡ o
+pub in_front_nil : (o : Outcome (List ℕ)) → read_with_prefix [] o ≡ o
 in_front_nil (Ok x) = refl
 in_front_nil (Err e) = refl
 
-pub plain_step : (mark : ℕ) (t : List ℕ) → string_from false mark t ≡ read_in_front (take (plain_quoted_len mark t) t) (string_from false mark (drop (plain_quoted_len mark t) t))
+pub plain_step : (mark : ℕ) (t : List ℕ) → string_from false mark t ≡ read_with_prefix (take (plain_quoted_len mark t) t) (string_from false mark (drop (plain_quoted_len mark t) t))
 unfolding plain_quoted_len string_from
 plain_step mark [] = refl
 plain_step mark (c ∷ t) = go (eqb c mark) (eqb c 92) refl refl (plain_step mark t)
   where
-    go : (a b : Bool) → eqb c mark ≡ a → eqb c 92 ≡ b → string_from false mark t ≡ read_in_front (take (plain_quoted_len mark t) t) (string_from false mark (drop (plain_quoted_len mark t) t))
-        → cond a (Ok ([], blanks_skipped t)) (cond b (string_from true mark t) (read_in_front (c ∷ []) (string_from false mark t)))
-        ≡ read_in_front (take (cond (a || b) 0 (suc (plain_quoted_len mark t))) (c ∷ t)) (string_from false mark (drop (cond (a || b) 0 (suc (plain_quoted_len mark t))) (c ∷ t)))
+    go : (a b : Bool) → eqb c mark ≡ a → eqb c 92 ≡ b → string_from false mark t ≡ read_with_prefix (take (plain_quoted_len mark t) t) (string_from false mark (drop (plain_quoted_len mark t) t))
+        → cond a (Ok ([], blanks_skipped t)) (cond b (string_from true mark t) (read_with_prefix (c ∷ []) (string_from false mark t)))
+        ≡ read_with_prefix (take (cond (a || b) 0 (suc (plain_quoted_len mark t))) (c ∷ t)) (string_from false mark (drop (cond (a || b) 0 (suc (plain_quoted_len mark t))) (c ∷ t)))
     go true b ea eb ih = rw ea refl
     go false true ea eb ih = rw (ea, eb) (sym (in_front_nil (string_from true mark t)))
-    go false false ea eb ih = ap (read_in_front (c ∷ [])) ih ∙ in_front_twice (c ∷ []) (take (plain_quoted_len mark t) t) (string_from false mark (drop (plain_quoted_len mark t) t))
+    go false false ea eb ih = ap (read_with_prefix (c ∷ [])) ih ∙ in_front_twice (c ∷ []) (take (plain_quoted_len mark t) t) (string_from false mark (drop (plain_quoted_len mark t) t))
 
 pub closes : (mark : ℕ) (t : List ℕ) → is_at mark t ≡ true → string_from false mark t ≡ Ok ([], blanks_skipped (drop 1 t))
 unfolding is_at string_from
 closes mark [] h = absurd cc
 closes mark (c ∷ t) h = rw h refl
 
-pub escape_step : (mark : ℕ) (t : List ℕ) → string_from true mark t ≡ (escape t >>= λ d. read_in_front (d.0 ∷ []) (string_from false mark d.1))
+pub escape_step : (mark : ℕ) (t : List ℕ) → string_from true mark t ≡ (escape t >>= λ d. read_with_prefix (d.0 ∷ []) (string_from false mark d.1))
 unfolding string_from escape
 escape_step mark [] = refl
 escape_step mark (c ∷ t) = go (unescape c)
   where
-    go : (o : Option ℕ) → string_after_escape o (c ∷ t) (string_from false mark t) ≡ (escape_of o (c ∷ t) >>= λ d. read_in_front (d.0 ∷ []) (string_from false mark d.1))
+    go : (o : Option ℕ) → string_after_escape o (c ∷ t) (string_from false mark t) ≡ (escape_of o (c ∷ t) >>= λ d. read_with_prefix (d.0 ∷ []) (string_from false mark d.1))
     go None = refl
     go (Some d) = refl
 
@@ -113,29 +113,29 @@ escape_shorter (d ∷ t) c later x = go (unescape d) x
 
 -- one turn: the plain bytes are taken over
 module _ (mark n : ℕ) (found front rest after found' : List ℕ) (whole : Outcome (List ℕ)) (len : n ≡ plain_quoted_len mark rest) (front_is : front ≡ take n rest) (after_is : after ≡ drop n rest)
-    (found_is : found' ≡ found ++ front) (before : read_in_front found (string_from false mark rest) ≡ whole) where
-  taken : read_in_front found' (string_from false mark after) ≡ whole
+    (found_is : found' ≡ found ++ front) (before : read_with_prefix found (string_from false mark rest) ≡ whole) where
+  taken : read_with_prefix found' (string_from false mark after) ≡ whole
   taken =
       rw (found_is, front_is, after_is, len)
-      (sym (in_front_twice found (take (plain_quoted_len mark rest) rest) (string_from false mark (drop (plain_quoted_len mark rest) rest))) ∙ ap (read_in_front found) (sym (plain_step mark rest)) ∙ before)
+      (sym (in_front_twice found (take (plain_quoted_len mark rest) rest) (string_from false mark (drop (plain_quoted_len mark rest) rest))) ∙ ap (read_with_prefix found) (sym (plain_step mark rest)) ∙ before)
 
   pub closes_is : is_at mark after ≡ true → whole ≡ Ok (found', blanks_skipped (drop 1 after))
-  closes_is h = sym taken ∙ ap (read_in_front found') (closes mark after h) ∙ ap (λ (l : List ℕ). Ok (l, blanks_skipped (drop 1 after))) (append-nil found')
+  closes_is h = sym taken ∙ ap (read_with_prefix found') (closes mark after h) ∙ ap (λ (l : List ℕ). Ok (l, blanks_skipped (drop 1 after))) (append-nil found')
 
   pub stops_is : is_at mark after ≡ false → is_at 92 after ≡ false → whole ≡ Err (Unexpected (length after))
   stops_is h k =
       let nil : after ≡ [] = after_is ∙ ap (λ (m : ℕ). drop m rest) len ∙ stops_at mark rest (rw (after_is, len) at h) (rw (after_is, len) at k) in
-      sym taken ∙ rw nil (ap (read_in_front found') (ended mark))
+      sym taken ∙ rw nil (ap (read_with_prefix found') (ended mark))
 
-  escapes : is_at mark after ≡ false → is_at 92 after ≡ true → whole ≡ read_in_front found' (escape (drop 1 after) >>= λ d. read_in_front (d.0 ∷ []) (string_from false mark d.1))
-  escapes h k = sym taken ∙ ap (read_in_front found') (backslash mark after h k ∙ escape_step mark (drop 1 after))
+  escapes : is_at mark after ≡ false → is_at 92 after ≡ true → whole ≡ read_with_prefix found' (escape (drop 1 after) >>= λ d. read_with_prefix (d.0 ∷ []) (string_from false mark d.1))
+  escapes h k = sym taken ∙ ap (read_with_prefix found') (backslash mark after h k ∙ escape_step mark (drop 1 after))
 
   pub escape_fails : (e : ExprStop) → is_at mark after ≡ false → is_at 92 after ≡ true → Fails e (escape (drop 1 after)) → Fails e whole
   escape_fails Memory h k f = tt
   escape_fails (Unexpected m) h k f = escapes h k ∙ rw f refl
   escape_fails (TooDeep m) h k f = escapes h k ∙ rw f refl
 
-  pub escape_is : (c : ℕ) (later : List ℕ) → is_at mark after ≡ false → is_at 92 after ≡ true → escape (drop 1 after) ≡ Ok (c, later) → read_in_front (found' ++ c ∷ []) (string_from false mark later) ≡ whole
+  pub escape_is : (c : ℕ) (later : List ℕ) → is_at mark after ≡ false → is_at 92 after ≡ true → escape (drop 1 after) ≡ Ok (c, later) → read_with_prefix (found' ++ c ∷ []) (string_from false mark later) ≡ whole
   escape_is c later h k e = sym (in_front_twice found' (c ∷ []) (string_from false mark later)) ∙ sym (escapes h k ∙ rw e refl)
 
   pub escape_less : (c : ℕ) (later : List ℕ) → is_at 92 after ≡ true → escape (drop 1 after) ≡ Ok (c, later) → length later < length rest

@@ -4,7 +4,7 @@ use Rattle.std.proofs.lemmas.List.{take_at, drop_at, length-append}
 use Rattle.std.proofs.lemmas.Bool.Decides.{nat_tests}
 use Rattle.htl_expr.specs.declared.tokens.NameKind.{NameKind}
 use Rattle.htl_expr.specs.declared.node.Comparison.{Comparison}
-use Rattle.htl_expr.specs.Tokens.{blanks_skipped, is_at, begins, is_blank, expect, second, name_len, goes_on, read_name, string, string_from, is_expression_digit, is_first, is_quote, expression_digits_from, digits, signed_number, limit, signed}
+use Rattle.htl_expr.specs.Tokens.{blanks_skipped, is_at, begins, is_blank, expect, second, name_len, goes_on, read_name, string, string_from, is_expression_digit, is_first, is_quote, expression_digits_from, digits, signed_number, limit, signed_value}
 use Rattle.htl_expr.specs.Read.{comparison, compares, or_equal}
 use Rattle.htl_expr.specs.Grammar.{Byte, Operator, Bare, NameToken, String, StringBody, Passes, Digits, Number, Sign, Compares}
 use Rattle.htl_expr.specs.Grammar as g
@@ -86,7 +86,7 @@ digits_from_again most m [] _ _ (g.none e) = refl
 digits_from_again most m (c ∷ s) _ _ (g.none e) = rw e refl
 digits_from_again most m _ k after (g.digit e d) = rw e (digits_from_again most _ _ k after d)
 
-digits_again : (negative : Bool) (t : List ℕ) (m : ℕ) (after : List ℕ) → begins is_expression_digit t ≡ true → Digits (limit negative) 0 t m after → digits negative t ≡ Ok (signed negative m, blanks_skipped after)
+digits_again : (negative : Bool) (t : List ℕ) (m : ℕ) (after : List ℕ) → begins is_expression_digit t ≡ true → Digits (limit negative) 0 t m after → digits negative t ≡ Ok (signed_value negative m, blanks_skipped after)
 unfolding digits
 digits_again negative t m after h d = rw (h, digits_from_again (limit negative) 0 t m after d) refl
 

@@ -42,5 +42,5 @@ abbrev pub AreNumbered : List (List (List ℕ) × ℕ) → ℕ → Type 0
 AreNumbered numbers next = TellsApart numbers × ((texts : List (List ℕ)) → IfSome (number_in numbers texts) (λ number. number < next))
 
 -- what has a number keeps it
-abbrev pub Keeps : List (List (List ℕ) × ℕ) → List (List (List ℕ) × ℕ) → Type 0
-Keeps old new = (texts : List (List ℕ)) (number : ℕ) → number_in old texts ≡ Some number → number_in new texts ≡ Some number
+abbrev pub KeepsNumbers : List (List (List ℕ) × ℕ) → List (List (List ℕ) × ℕ) → Type 0
+KeepsNumbers old new = (texts : List (List ℕ)) (number : ℕ) → number_in old texts ≡ Some number → number_in new texts ≡ Some number

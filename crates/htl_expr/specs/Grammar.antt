@@ -9,7 +9,7 @@ use Rattle.htl_expr.specs.declared.tokens.NameKind.TheVariants.{Name, Field}
 use Rattle.htl_expr.specs.declared.expression.Context.{Context}
 use Rattle.htl_expr.specs.declared.expression.Context.TheVariants.{Text, Unsafe}
 use Rattle.htl_expr.specs.declared.expression.Expr.{Expr}
-use Rattle.htl_expr.specs.Tokens.{blanks_skipped, is_at, begins, goes_on, is_expression_digit, is_first, is_quote, unescape, expression_digit_fits, limit, signed}
+use Rattle.htl_expr.specs.Tokens.{blanks_skipped, is_at, begins, goes_on, is_expression_digit, is_first, is_quote, unescape, expression_digit_fits, limit, signed_value}
 use Rattle.htl_expr.specs.Read.{access_of, and_of, or_of, word_node, object_of}
 
 -- ---- tokens, each with the blanks after it
@@ -82,7 +82,7 @@ pub record Number (s : List ℕ) (k : ℤ) (r : List ℕ) : Type 0 where
   pub sign : Sign negative s inside
   pub first : begins is_expression_digit inside ≡ true
   pub body : Digits (limit negative) 0 inside magnitude after
-  pub value : k ≡ signed negative magnitude
+  pub value : k ≡ signed_value negative magnitude
   pub rest : r ≡ blanks_skipped after
 
 -- "==" | "!=" | "<" | ">" | "<=" | ">="
@@ -186,17 +186,17 @@ pub record ContextString (s : List ℕ) (c : Context) (r : List ℕ) : Type 0 wh
 pub record Join (s w r : List ℕ) : Type 0 where
   pub behind_word : List ℕ
   pub behind_sign : List ℕ
-  pub word : Literal (codes "join") s behind_word
-  pub sign : Byte 61 behind_word behind_sign
-  pub value : String behind_sign w r
+  pub word : Literal (codes "join") s after_literal
+  pub sign : Byte 61 after_literal after_sign
+  pub value : String after_sign w r
 
 -- "context" "=" ('text' | 'unsafe')
 pub record InContext (s : List ℕ) (c : Context) (r : List ℕ) : Type 0 where
   pub behind_word : List ℕ
   pub behind_sign : List ℕ
-  pub word : Literal (codes "context") s behind_word
-  pub sign : Byte 61 behind_word behind_sign
-  pub value : ContextString behind_sign c r
+  pub word : Literal (codes "context") s after_literal
+  pub sign : Byte 61 after_literal after_sign
+  pub value : ContextString after_sign c r
 
 -- "@" and each option once at most, up to the text's end
 pub data Options : List ℕ → Option (List ℕ) → Option Context → Type 0 where
@@ -218,8 +218,8 @@ Tree levels s (Some e) r = Reads Choice levels s e r
 -- the expression of a whole text in which `levels` levels may nest
 pub record WholeWithin (levels : ℕ) (s : List ℕ) (e : Expr) : Type 0 where
   pub behind : List ℕ
-  pub tree : Tree levels (blanks_skipped s) e.node behind
-  pub options : Options behind e.join e.context
+  pub tree : Tree levels (blanks_skipped s) e.node after_tree
+  pub options : Options after_tree e.join e.context
 
 -- the expression of a whole text
 abbrev pub Whole : List ℕ → Expr → Type 0

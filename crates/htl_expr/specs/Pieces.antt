@@ -9,14 +9,14 @@ use Rattle.htl_expr.specs.Print.{plain}
 use Rattle.htl_expr.specs.Value.{property}
 
 -- the text of a piece for a resource
-abbrev pub piece_text : Bindings → ItemPiece → List ℕ
-piece_text scope (piece.Property name) = plain (codes ",") (property scope name.now)
-piece_text scope (piece.Text text) = text.now
-piece_text scope (piece.Long n) = signed_decimal n
+abbrev pub item_piece_text : Bindings → ItemPiece → List ℕ
+item_piece_text scope (piece.Property name) = plain (codes ",") (property scope name.now)
+item_piece_text scope (piece.Text text) = text.now
+item_piece_text scope (piece.Long n) = signed_decimal n
 
 -- the texts of pieces
 abbrev pub piece_texts : Bindings → List ItemPiece → List (List ℕ)
-piece_texts scope pieces = map (piece_text scope) pieces
+piece_texts scope pieces = map (item_piece_text scope) pieces
 
 -- texts with a comma before each
 abbrev pub with_commas : List (List ℕ) → List ℕ

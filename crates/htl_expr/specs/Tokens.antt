@@ -131,13 +131,13 @@ plain_quoted_len mark [] = 0
 plain_quoted_len mark (c ∷ t) = if c == mark || c == 92 then 0 else suc (plain_quoted_len mark t)
 
 -- characters before what was read
-abbrev pub read_in_front : List ℕ → Outcome (List ℕ) → Outcome (List ℕ)
-read_in_front front o = o >>= λ x. Ok (front ++ x.0, x.1)
+abbrev pub read_with_prefix : List ℕ → Outcome (List ℕ) → Outcome (List ℕ)
+read_with_prefix front o = o >>= λ x. Ok (front ++ x.0, x.1)
 
 -- the character of an escape before what was read
 abbrev pub string_after_escape : Option ℕ → List ℕ → Outcome (List ℕ) → Outcome (List ℕ)
 string_after_escape None at rest = Err (Unexpected (length at))
-string_after_escape (Some d) at rest = read_in_front (d ∷ []) rest
+string_after_escape (Some d) at rest = read_with_prefix (d ∷ []) rest
 
 -- a string up to the mark that closes it; the flag says that a backslash stands before
 unfoldable pub string_from : Bool → ℕ → List ℕ → Outcome (List ℕ)
@@ -146,7 +146,7 @@ string_from true mark (c ∷ t) = string_after_escape (unescape c) (c ∷ t) (st
 string_from false mark (c ∷ t) =
     if c == mark then Ok ([], blanks_skipped t)
     else if c == 92 then string_from true mark t
-    else read_in_front (c ∷ []) (string_from false mark t)
+    else read_with_prefix (c ∷ []) (string_from false mark t)
 
 -- a string from its mark on
 unfoldable pub string : List ℕ → Outcome (List ℕ)
@@ -172,12 +172,12 @@ abbrev pub limit : Bool → ℕ
 limit negative = if negative then 9223372036854775808 else 9223372036854775807
 
 -- a magnitude with its sign
-abbrev pub signed : Bool → ℕ → ℤ
-signed negative m = if negative then neg_ℤ (pos m) else pos m
+abbrev pub signed_value : Bool → ℕ → ℤ
+signed_value negative m = if negative then neg_ℤ (pos m) else pos m
 
 -- one digit at least
 unfoldable pub digits : Bool → List ℕ → Outcome ℤ
-digits negative t = if begins is_expression_digit t then (let x = expression_digits_from (limit negative) 0 t in Ok (signed negative x.0, blanks_skipped x.1)) else Err (Unexpected (length t))
+digits negative t = if begins is_expression_digit t then (let x = expression_digits_from (limit negative) 0 t in Ok (signed_value negative x.0, blanks_skipped x.1)) else Err (Unexpected (length t))
 
 -- digits with a minus or without one
 unfoldable pub signed_number : List ℕ → Outcome ℤ

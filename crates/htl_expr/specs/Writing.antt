@@ -9,13 +9,13 @@ pub record Begins (front text : List ℕ) : Type 0 where
   pub parts : text ≡ front ++ rest
 
 -- a text is not written, and would go beyond the limit unless memory lacks; what stood there stays at the beginning
-abbrev pub Stopped : ℕ → WriteFault → List ℕ → List ℕ → List ℕ → Type 0
-Stopped most f old more new = Begins old new × (f ≢ NoMemory → (f ≡ TooLong) × (most < length (old ++ more)))
+abbrev pub IsStopped : ℕ → WriteFault → List ℕ → List ℕ → List ℕ → Type 0
+IsStopped most f old more new = Begins old new × (f ≢ NoMemory → (f ≡ TooLong) × (most < length (old ++ more)))
 
 -- a text is written after what stood there, within the limit, or is not
 abbrev pub Wrote : {A : Type 0} → ℕ → Result A WriteFault → List ℕ → List ℕ → List ℕ → Type 0
 Wrote most (Ok _) old more new = (new ≡ old ++ more) × (length new ≤ most)
-Wrote most (Err f) old more new = Stopped most f old more new
+Wrote most (Err f) old more new = IsStopped most f old more new
 
 -- the text of a text
 abbrev pub itself : List ℕ → List ℕ

@@ -1,7 +1,7 @@
 //! Numbers by which compared values are told apart.
 
 ghost use Rattle.std.specs.Prelude.{◌≡◌, [], IfOk, Some, None};
-ghost use Rattle.htl_expr.specs.ComparedValue.{number_in, Keeps, TellsApart};
+ghost use Rattle.htl_expr.specs.ComparedValue.{number_in, KeepsNumbers, TellsApart};
 
 use crate::compared_value::ComparedValue;
 use sp_base::{Mem, NoMemory};
@@ -42,7 +42,7 @@ impl<'a> Classes<'a> {
     fn add(&mut self, compared: ComparedValue<'a>) -> Mem<u64>
         requires { number_in self.old compared ≡ None }
         ensures number { IfOk result (λ number. number_in self.new compared.entry ≡ Some number) }
-        ensures kept { Keeps self.old self.new }
+        ensures kept { KeepsNumbers self.old self.new }
     {
         let number = self.next;
         let Some(next) = number.checked_add(1) else {
@@ -63,7 +63,7 @@ impl<'a> Classes<'a> {
     /// The number of a compared value. Those that have one keep it.
     pub(crate) fn number(&mut self, compared: ComparedValue<'a>) -> Mem<u64>
         ensures number { IfOk result (λ number. number_in self.new compared.entry ≡ Some number) }
-        ensures kept { Keeps self.old self.new }
+        ensures kept { KeepsNumbers self.old self.new }
     {
         match self.known(&compared) {
             Some(number) => Ok(number),

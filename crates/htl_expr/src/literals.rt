@@ -3,7 +3,7 @@
 ghost use Rattle.std.specs.Prelude.{◌≡◌, ◌<◌, ◌++◌, IfOk, [], nat_eq, length, get_or, codes};
 ghost use Rattle.std.specs.Cmp.Lexicographic.{pointwise};
 ghost use Rattle.htl_expr.specs.Lent.{out_of_lent, listed_texts, IsOperand};
-ghost use Rattle.htl_expr.specs.Pieces.{piece_text, piece_texts, with_commas, HavePieces};
+ghost use Rattle.htl_expr.specs.Pieces.{item_piece_text, piece_texts, with_commas, HavePieces};
 ghost use Rattle.htl_expr.specs.Value as spec;
 
 use crate::evaluation::Evaluation;
@@ -19,7 +19,7 @@ use std::alloc::Global;
 #[tactic(auto, using(crate::proofs::SameItems::get_or_of_map))]
 fn stored_item<'a>(scope: &Scope<'a>, name: &TextBuf, place: usize) -> ItemPiece<'a>
     requires { place < length (listed_texts (spec.property scope.now name.now)) }
-    ensures { piece_text scope.now result ≡ get_or (listed_texts (spec.property scope.now name.now)) place [] }
+    ensures { item_piece_text scope.now result ≡ get_or (listed_texts (spec.property scope.now name.now)) place [] }
 {
     match scope.props.get(name.text()) {
         Some(Value::Texts(texts)) => ItemPiece::Text(texts.as_slice()[place].text()),
@@ -39,7 +39,7 @@ fn property_piece<'a>(
 ) -> ItemPiece<'a>
     requires items { items ≡ length (listed_texts (spec.property scope.now name.now)) }
     requires within { place < items }
-    ensures { piece_text scope.now result ≡ get_or (listed_texts (spec.property scope.now name.now)) place [] }
+    ensures { item_piece_text scope.now result ≡ get_or (listed_texts (spec.property scope.now name.now)) place [] }
 {
     if items == 1 {
         ItemPiece::Property(name)

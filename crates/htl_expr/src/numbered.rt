@@ -2,7 +2,7 @@
 
 ghost use Rattle.std.specs.Prelude.{◌≡◌, ◌∷◌, [], IfOk, Some, nat_eq};
 ghost use Rattle.std.specs.Cmp.Lexicographic.{pointwise};
-ghost use Rattle.htl_expr.specs.ComparedValue.{number_in, Keeps};
+ghost use Rattle.htl_expr.specs.ComparedValue.{number_in, KeepsNumbers};
 ghost use Rattle.htl_expr.specs.Remembered.{compared_by, Knows};
 
 use crate::classes::Classes;
@@ -47,7 +47,7 @@ fn new_number<'a>(
     requires { Knows scope.now aspect classes.old known.old }
     ensures number { IfOk result (λ number. number_in classes.new (compared_by scope.now aspect name.now) ≡ Some number) }
     ensures known { Knows scope.now aspect classes.new known.new }
-    ensures kept { Keeps classes.old classes.new }
+    ensures kept { KeepsNumbers classes.old classes.new }
 {
     let compared = compared_value(alloc, scope, aspect, name)?;
     let number = classes.number(compared)?;
@@ -67,7 +67,7 @@ fn number<'a>(
     requires { Knows scope.now aspect classes.old known.old }
     ensures number { IfOk result (λ number. number_in classes.new (compared_by scope.now aspect name.now) ≡ Some number) }
     ensures known { Knows scope.now aspect classes.new known.new }
-    ensures kept { Keeps classes.old classes.new }
+    ensures kept { KeepsNumbers classes.old classes.new }
 {
     match known.get(name).copied() {
         Some(number) => Ok(number),
@@ -88,7 +88,7 @@ pub(crate) fn has_one_number<'a>(
     requires { Knows scope.now aspect classes.old known.old }
     ensures same { IfOk result (λ same. same ≡ pointwise (pointwise nat_eq) (compared_by scope.now aspect a.now) (compared_by scope.now aspect b.now)) }
     ensures known { Knows scope.now aspect classes.new known.new }
-    ensures kept { Keeps classes.old classes.new }
+    ensures kept { KeepsNumbers classes.old classes.new }
 {
     let first = number(alloc, scope, aspect, classes, known, a)?;
     let second = number(alloc, scope, aspect, classes, known, b)?;

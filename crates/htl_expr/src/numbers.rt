@@ -50,7 +50,7 @@ fn limit(is_negative: bool) -> u64
 
 fn signed(is_negative: bool, magnitude: u64) -> i64
     requires { magnitude ≤ spec.limit is_negative }
-    ensures { result ≡ spec.signed is_negative magnitude }
+    ensures { result ≡ spec.signed_value is_negative magnitude }
 {
     if !is_negative {
         magnitude as i64

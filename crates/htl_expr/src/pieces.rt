@@ -3,7 +3,7 @@
 ghost use Rattle.std.specs.Prelude.{◌≡◌, ◌<◌, ◌+◌, ◌∷◌, ◌++◌, [], List, IfOk, OnOk, nat_eq, length, get_or, flat_map, codes, string_bytes, true};
 ghost use Rattle.std.specs.Cmp.Lexicographic.{pointwise};
 ghost use Rattle.htl_expr.specs.declared.pieces.ItemPiece.{ItemPiece};
-ghost use Rattle.htl_expr.specs.Pieces.{piece_text, piece_texts, with_commas, AgreeUpTo, DifferAt};
+ghost use Rattle.htl_expr.specs.Pieces.{item_piece_text, piece_texts, with_commas, AgreeUpTo, DifferAt};
 
 use crate::evaluation::Evaluation;
 use crate::lists::long_text;
@@ -50,7 +50,7 @@ fn has_text<'a>(
     piece: &ItemPiece<'a>,
     text: &str,
 ) -> Mem<bool>
-    ensures same { IfOk result (λ same. same ≡ pointwise nat_eq (piece_text scope.old piece.now) text.now) }
+    ensures same { IfOk result (λ same. same ≡ pointwise nat_eq (item_piece_text scope.old piece.now) text.now) }
     ensures scope { scope.new ≡ scope.old }
 {
     match piece {
@@ -68,7 +68,7 @@ fn is_same_piece<'a>(
     a: &ItemPiece<'a>,
     b: &ItemPiece<'a>,
 ) -> Mem<bool>
-    ensures same { IfOk result (λ same. same ≡ pointwise nat_eq (piece_text scope.old a.now) (piece_text scope.old b.now)) }
+    ensures same { IfOk result (λ same. same ≡ pointwise nat_eq (item_piece_text scope.old a.now) (item_piece_text scope.old b.now)) }
     ensures scope { scope.new ≡ scope.old }
 {
     match (a, b) {
@@ -86,7 +86,7 @@ fn is_same_piece<'a>(
 
 // How many bytes a piece has.
 fn piece_len<'a>(alloc: Global, scope: &mut Evaluation<'a>, piece: &ItemPiece<'a>) -> Mem<usize>
-    ensures len { IfOk result (λ len. len ≡ length (piece_text scope.old piece.now)) }
+    ensures len { IfOk result (λ len. len ≡ length (item_piece_text scope.old piece.now)) }
     ensures scope { scope.new ≡ scope.old }
 {
     match piece {
@@ -103,7 +103,7 @@ fn push_piece<'a>(
     scope: &mut Evaluation<'a>,
     piece: &ItemPiece<'a>,
 ) -> Mem<()>
-    ensures text { OnOk result (string_bytes text.new ≡ string_bytes text.old ++ piece_text scope.old piece.now) }
+    ensures text { OnOk result (string_bytes text.new ≡ string_bytes text.old ++ item_piece_text scope.old piece.now) }
     ensures scope { scope.new ≡ scope.old }
 {
     match piece {

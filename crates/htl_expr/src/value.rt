@@ -3,7 +3,7 @@
 ghost use Rattle.std.specs.Prelude.{◌≡◌, IfOk, map, if◌then◌else◌, not, true, false};
 ghost use Rattle.htl_expr.specs.Value as spec;
 ghost use Rattle.htl_expr.specs.Lent.{out_of_lent, plain_item, property_item, listed_texts, is_list, IsOperand};
-ghost use Rattle.htl_expr.specs.Pieces.{piece_text, AreItemPieces, HavePieces};
+ghost use Rattle.htl_expr.specs.Pieces.{item_piece_text, AreItemPieces, HavePieces};
 ghost use Rattle.htl_expr.specs.declared.out.Out.TheVariants as out;
 
 use crate::compare::operands_compare;
@@ -102,7 +102,7 @@ fn or_values<'a>(
 // The piece that a value is which is no list.
 fn value_piece<'a>(scope: &Evaluation<'a>, value: &Lent<'a>) -> ItemPiece<'a>
     requires { is_list (out_of_lent value.now) ≡ false }
-    ensures { piece_text scope.now result ≡ plain_item value.now }
+    ensures { item_piece_text scope.now result ≡ plain_item value.now }
 {
     // Only the contract needs the scope.
     let _ = scope;

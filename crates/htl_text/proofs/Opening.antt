@@ -2,14 +2,14 @@
 use Rattle.std.proofs.Common.{◌≡◌, ◌<◌, ◌≤◌, ◌+◌, ◌-◌, ℕ, zero, suc, Bool, true, false, cond, ◌||◌, ◌&&◌, eqb, List, [], ◌∷◌, drop, length, refl, ap, sym, ◌∙◌, arith}
 use Rattle.std.proofs.lemmas.List.{length-drop}
 use Rattle.memchr.specs.Find.{Nowhere, NoneBefore, Passes, is_byte}
-use Rattle.htl_text.specs.Template.{is_in_front, opens_expression, escapes, opening_len, plain_len}
+use Rattle.htl_text.specs.Template.{begins_with_byte, opens_expression, escapes, opening_len, plain_len}
 
 -- no text begins with "${" where its first byte is another
 not_dollar : (c : ℕ) (t : List ℕ) → (eqb c 36 ≡ true → ⊥) → opens_expression (c ∷ t) ≡ false
 unfolding opens_expression
 not_dollar c t other = go (eqb c 36) refl
   where
-    go : (b : Bool) → eqb c 36 ≡ b → (b && is_in_front 123 t) ≡ false
+    go : (b : Bool) → eqb c 36 ≡ b → (b && begins_with_byte 123 t) ≡ false
     go true e = absurd (other e)
     go false e = refl
 

@@ -10,7 +10,7 @@ use Rattle.htl_text.specs.declared.fault.TextFault.TheVariants.{Unclosed, BadExp
 use Rattle.htl_text.specs.declared.piece.TemplatePiece.{TemplatePiece}
 use Rattle.htl_text.specs.declared.piece.TemplatePiece.TheVariants.{Value}
 use Rattle.htl_text.specs.declared.quotes.Quotes.TheVariants.{Outside}
-use Rattle.htl_text.specs.Template.{is_in_front, opens_expression, escapes, closing, read_value, value_at, text_in_front, with_plain, before, template_pieces, template_of}
+use Rattle.htl_text.specs.Template.{begins_with_byte, opens_expression, escapes, closing, read_value, value_at, pieces_after_plain, with_plain, before, template_pieces, template_of}
 use Rattle.htl_text.specs.Spelling.{Inside, SpellsTemplate, HasNoExpr, Faults, IsFirstOpening}
 use Rattle.htl_text.specs.Spelling as s
 use Rattle.htl_text.proofs.Closed.{byte_is, closed, never_closes, none_closes, value_is, value_open}
@@ -31,8 +31,8 @@ both : (a b : Bool) → (a && b) ≡ true → (a ≡ true) × (b ≡ true)
 both true b h = (refl, h)
 both false b h = absurd cc
 
-at_is : (c : ℕ) (t : List ℕ) → is_in_front c t ≡ true → t ≡ c ∷ drop 1 t
-unfolding is_in_front
+at_is : (c : ℕ) (t : List ℕ) → begins_with_byte c t ≡ true → t ≡ c ∷ drop 1 t
+unfolding begins_with_byte
 at_is c [] h = absurd cc
 at_is c (d ∷ t) h = ap (λ (x : ℕ). x ∷ t) (byte_is d c h)
 
@@ -40,7 +40,7 @@ opens_at : (t : List ℕ) → opens_expression t ≡ true → t ≡ 36 ∷ 123 �
 unfolding opens_expression
 opens_at [] h = absurd cc
 opens_at (c ∷ t) h =
-    let b = both (eqb c 36) (is_in_front 123 t) h in
+    let b = both (eqb c 36) (begins_with_byte 123 t) h in
     ap (λ (x : ℕ). x ∷ t) (byte_is c 36 b.0) ∙ ap (λ (u : List ℕ). 36 ∷ u) (at_is 123 t b.1)
 
 escapes_at : (t : List ℕ) → escapes t ≡ true → t ≡ 92 ∷ 36 ∷ 123 ∷ drop 3 t
@@ -51,7 +51,7 @@ escapes_at (c ∷ t) h =
     ap (λ (x : ℕ). x ∷ t) (byte_is c 92 b.0) ∙ ap (λ (u : List ℕ). 92 ∷ u) (opens_at t b.1)
 
 opens_there : (t : List ℕ) → opens_expression (36 ∷ 123 ∷ t) ≡ true
-unfolding opens_expression is_in_front
+unfolding opens_expression begins_with_byte
 opens_there t = refl
 
 -- ---- what is spelled is read
@@ -69,7 +69,7 @@ unfolding template_pieces
 plain_read all c t a b = rw (a, b) refl
 
 escaped_read : (all : ℕ) (t : List ℕ) → template_pieces all 0 (92 ∷ 36 ∷ 123 ∷ t) ≡ with_plain (codes "${") (template_pieces all 0 t)
-unfolding template_pieces opens_expression escapes is_in_front
+unfolding template_pieces opens_expression escapes begins_with_byte
 escaped_read all t = refl
 
 value_read : (all : ℕ) (w t : List ℕ) (e : Expr) → Inside w → expression_of w ≡ Ok e → template_pieces all 0 (36 ∷ 123 ∷ (w ++ 125 ∷ t)) ≡ before (Value e ∷ []) (template_pieces all 0 t)
@@ -80,9 +80,9 @@ value_read all w t e x h =
 spelled_on : Only → (all : ℕ) (text : List ℕ) (ps : List TemplatePiece) (rest : List ℕ) → SpellsTemplate text ps rest → Carries all text ps rest
 spelled_on only all _ _ _ s.end = (λ h. h, λ f h. h)
 spelled_on only all _ _ rest (s.plain {c = c} {text = t} {ps = ps} a b x) =
-    carries all (c ∷ t) t ps (text_in_front (c ∷ []) ps) rest (with_plain (c ∷ [])) (plain_read all c t a b) refl (λ f. refl) (spelled_on only all t ps rest x)
+    carries all (c ∷ t) t ps (pieces_after_plain (c ∷ []) ps) rest (with_plain (c ∷ [])) (plain_read all c t a b) refl (λ f. refl) (spelled_on only all t ps rest x)
 spelled_on only all _ _ rest (s.escape {text = t} {ps = ps} x) =
-    carries all (92 ∷ 36 ∷ 123 ∷ t) t ps (text_in_front (codes "${") ps) rest (with_plain (codes "${")) (escaped_read all t) refl (λ f. refl) (spelled_on only all t ps rest x)
+    carries all (92 ∷ 36 ∷ 123 ∷ t) t ps (pieces_after_plain (codes "${") ps) rest (with_plain (codes "${")) (escaped_read all t) refl (λ f. refl) (spelled_on only all t ps rest x)
 spelled_on only all _ _ rest (s.value {inside = w} {text = t} {e = e} {ps = ps} i y x) =
     carries all (36 ∷ 123 ∷ (w ++ 125 ∷ t)) t ps (Value e ∷ ps) rest (before (Value e ∷ [])) (value_read all w t e i (only w e y)) refl (λ f. refl) (spelled_on only all t ps rest x)
 
@@ -147,11 +147,11 @@ later n w text after f g e spell x =
 
 plain_means : (n c : ℕ) (t : List ℕ) → opens_expression (c ∷ t) ≡ false → escapes (c ∷ t) ≡ false → (r : Read) → Meaning (n + 1) t r → Meaning n (c ∷ t) (with_plain (c ∷ []) r)
 plain_means n c t a b (Ok ps) x = s.plain a b x
-plain_means n c t a b (Err f) x = later n (c ∷ []) (c ∷ t) t f (text_in_front (c ∷ [])) refl (λ ps rest y. s.plain a b y) x
+plain_means n c t a b (Err f) x = later n (c ∷ []) (c ∷ t) t f (pieces_after_plain (c ∷ [])) refl (λ ps rest y. s.plain a b y) x
 
 escaped_means : (n : ℕ) (t : List ℕ) (r : Read) → Meaning (n + 3) t r → Meaning n (92 ∷ 36 ∷ 123 ∷ t) (with_plain (codes "${") r)
 escaped_means n t (Ok ps) x = s.escape x
-escaped_means n t (Err f) x = later n (92 ∷ 36 ∷ 123 ∷ []) (92 ∷ 36 ∷ 123 ∷ t) t f (text_in_front (codes "${")) refl (λ ps rest y. s.escape y) x
+escaped_means n t (Err f) x = later n (92 ∷ 36 ∷ 123 ∷ []) (92 ∷ 36 ∷ 123 ∷ t) t f (pieces_after_plain (codes "${")) refl (λ ps rest y. s.escape y) x
 
 value_means : (n : ℕ) (w t : List ℕ) (e : Expr) → Inside w → Whole w e → (r : Read) → Meaning (n + (length w + 3)) t r → Meaning n (36 ∷ 123 ∷ (w ++ 125 ∷ t)) (before (Value e ∷ []) r)
 value_means n w t e i y (Ok ps) x = s.value i y x

@@ -8,15 +8,15 @@ use Rattle.htl_text.specs.declared.piece.TemplatePiece.{TemplatePiece}
 use Rattle.htl_text.specs.declared.piece.TemplatePiece.TheVariants.{Plain, Value}
 use Rattle.htl_text.specs.declared.quotes.Quotes.{Quotes}
 use Rattle.htl_text.specs.declared.quotes.Quotes.TheVariants.{Outside, Inside, Escaped}
-use Rattle.htl_text.specs.Template.{is_in_front, opens_expression, escapes, quotes_step, closes_expression, closing, text_in_front, with_plain, template_pieces, plain_len}
+use Rattle.htl_text.specs.Template.{begins_with_byte, opens_expression, escapes, quotes_step, closes_expression, closing, pieces_after_plain, with_plain, template_pieces, plain_len}
 
 written_nil : (r : Result (List TemplatePiece) TextFault) → with_plain [] r ≡ r
 written_nil (Ok ps) = refl
 written_nil (Err f) = refl
 
-in_front_twice : (a b : List ℕ) (ps : List TemplatePiece) → text_in_front a (text_in_front b ps) ≡ text_in_front (a ++ b) ps
+in_front_twice : (a b : List ℕ) (ps : List TemplatePiece) → pieces_after_plain a (pieces_after_plain b ps) ≡ pieces_after_plain (a ++ b) ps
 in_front_twice [] b ps = refl
-in_front_twice (c ∷ a) [] ps = ap (λ (l : List ℕ). text_in_front (c ∷ l) ps) (sym (append-nil a))
+in_front_twice (c ∷ a) [] ps = ap (λ (l : List ℕ). pieces_after_plain (c ∷ l) ps) (sym (append-nil a))
 in_front_twice (c ∷ a) (d ∷ b) [] = refl
 in_front_twice (c ∷ a) (d ∷ b) (Plain more ∷ ps) = ap (λ (l : List ℕ). Plain (c ∷ l) ∷ ps) (sym (append_assoc a (d ∷ b) more))
 in_front_twice (c ∷ a) (d ∷ b) (Value e ∷ ps) = refl
@@ -65,27 +65,27 @@ closing_at quotes n (c ∷ t) m h = go (closes_expression quotes c) refl h (clos
     go true e h' ih = let same : n ≡ m = cc in let none : m - n ≡ 0 = omega (arith, same) in (omega (arith, same), omega (arith, none), rw none (found quotes e))
     go false e h' ih = let x = ih h' in let more : m - n ≡ suc (m - (n + 1)) = omega (arith, x.0) in (omega (arith, x.0), omega (arith, more, x.1), rw more x.2)
 
-at_front : (c : ℕ) (t : List ℕ) → c < 128 → is_in_front c t ≡ true → slice_index t 0 < 128
-unfolding is_in_front
+at_front : (c : ℕ) (t : List ℕ) → c < 128 → begins_with_byte c t ≡ true → slice_index t 0 < 128
+unfolding begins_with_byte
 at_front c [] lt h = absurd cc
 at_front c (d ∷ t) lt h = grind (arith, nat_tests)
 
-at_less : (c : ℕ) (t : List ℕ) → is_in_front c t ≡ true → length (drop 1 t) < length t
-unfolding is_in_front
+at_less : (c : ℕ) (t : List ℕ) → begins_with_byte c t ≡ true → length (drop 1 t) < length t
+unfolding begins_with_byte
 at_less c [] h = absurd cc
 at_less c (d ∷ t) h = omega arith
 
 -- "${" at the beginning
 pub record Opening (t : List ℕ) : Type 0 where
   pub first : slice_index t 0 < 128
-  pub second : is_in_front 123 (drop 1 t) ≡ true
+  pub second : begins_with_byte 123 (drop 1 t) ≡ true
 
 pub opening : (t : List ℕ) → opens_expression t ≡ true → Opening t
 unfolding opens_expression
 opening [] h = absurd cc
-opening (c ∷ t) h = go (eqb c 36) (is_in_front 123 t) refl refl h
+opening (c ∷ t) h = go (eqb c 36) (begins_with_byte 123 t) refl refl h
   where
-    go : (a b : Bool) → eqb c 36 ≡ a → is_in_front 123 t ≡ b → (a && b) ≡ true → Opening (c ∷ t)
+    go : (a b : Bool) → eqb c 36 ≡ a → begins_with_byte 123 t ≡ b → (a && b) ≡ true → Opening (c ∷ t)
     go true true ea eb e = record { first = grind (arith, nat_tests); second = eb }
     go true false ea eb e = absurd cc
     go false b ea eb e = absurd cc
@@ -154,7 +154,7 @@ unfolding escapes opens_expression
 not_opening [] h = absurd cc
 not_opening (c ∷ t) h = go (eqb c 92) (eqb c 36) refl refl h
   where
-    go : (a b : Bool) → eqb c 92 ≡ a → eqb c 36 ≡ b → (a && opens_expression t) ≡ true → (b && is_in_front 123 t) ≡ false
+    go : (a b : Bool) → eqb c 92 ≡ a → eqb c 36 ≡ b → (a && opens_expression t) ≡ true → (b && begins_with_byte 123 t) ≡ false
     go true true ea eb e = absurd (grind (arith, nat_tests))
     go true false ea eb e = refl
     go false b ea eb e = absurd cc

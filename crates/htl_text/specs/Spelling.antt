@@ -7,7 +7,7 @@ use Rattle.htl_text.specs.declared.fault.TextFault.{TextFault}
 use Rattle.htl_text.specs.declared.fault.TextFault.TheVariants.{Unclosed, BadExpr, NoMemory}
 use Rattle.htl_text.specs.declared.piece.TemplatePiece.{TemplatePiece}
 use Rattle.htl_text.specs.declared.piece.TemplatePiece.TheVariants.{Value}
-use Rattle.htl_text.specs.Template.{opens_expression, escapes, text_in_front}
+use Rattle.htl_text.specs.Template.{opens_expression, escapes, pieces_after_plain}
 
 -- what stands after a quote mark, up to and with the same mark; a backslash takes the next byte with it
 pub data Quotation (mark : ℕ) : List ℕ → Type 0 where
@@ -24,33 +24,33 @@ pub data Inside : List ℕ → Type 0 where
 -- the pieces that stand in a text before a rest; no two of plain text stand side by side
 pub data SpellsTemplate : List ℕ → List TemplatePiece → List ℕ → Type 0 where
   end : {rest : List ℕ} → SpellsTemplate rest [] rest
-  plain : {c : ℕ} {text rest : List ℕ} {ps : List TemplatePiece} → opens_expression (c ∷ text) ≡ false → escapes (c ∷ text) ≡ false → SpellsTemplate text ps rest → SpellsTemplate (c ∷ text) (text_in_front (c ∷ []) ps) rest
-  escape : {text rest : List ℕ} {ps : List TemplatePiece} → SpellsTemplate text ps rest → SpellsTemplate (92 ∷ 36 ∷ 123 ∷ text) (text_in_front (codes "${") ps) rest
+  plain : {c : ℕ} {text rest : List ℕ} {ps : List TemplatePiece} → opens_expression (c ∷ text) ≡ false → escapes (c ∷ text) ≡ false → SpellsTemplate text ps rest → SpellsTemplate (c ∷ text) (pieces_after_plain (c ∷ []) ps) rest
+  escape : {text rest : List ℕ} {ps : List TemplatePiece} → SpellsTemplate text ps rest → SpellsTemplate (92 ∷ 36 ∷ 123 ∷ text) (pieces_after_plain (codes "${") ps) rest
   value : {inside text rest : List ℕ} {e : Expr} {ps : List TemplatePiece} → Inside inside → Whole inside e → SpellsTemplate text ps rest → SpellsTemplate (36 ∷ 123 ∷ (inside ++ 125 ∷ text)) (Value e ∷ ps) rest
 
 -- no "}" closes what stands after "${"
 abbrev pub NeverCloses : List ℕ → Type 0
-NeverCloses behind = (inside text : List ℕ) → behind ≡ inside ++ 125 ∷ text → Inside inside → ⊥
+NeverCloses after_opening = (inside text : List ℕ) → after_opening ≡ inside ++ 125 ∷ text → Inside inside → ⊥
 
 -- what stands after "${" up to its "}" is no expression
-pub record HasNoExpr (behind : List ℕ) : Type 0 where
+pub record HasNoExpr (after_opening : List ℕ) : Type 0 where
   pub inside : List ℕ
   pub text : List ℕ
-  pub parts : behind ≡ inside ++ 125 ∷ text
+  pub parts : after_opening ≡ inside ++ 125 ∷ text
   pub closed : Inside inside
   pub none : (e : Expr) → Whole inside e → ⊥
 
 -- the fault of an expression by its place and by what stands after its "${"
 abbrev pub Faults : TextFault → ℕ → List ℕ → Type 0
-Faults (Unclosed n) place behind = (n ≡ place) × NeverCloses behind
-Faults (BadExpr n) place behind = (n ≡ place) × HasNoExpr behind
-Faults NoMemory place behind = ⊥
+Faults (Unclosed n) place after_opening = (n ≡ place) × NeverCloses after_opening
+Faults (BadExpr n) place after_opening = (n ≡ place) × HasNoExpr after_opening
+Faults NoMemory place after_opening = ⊥
 
 -- the first fault of a text: that of an expression which opens after pieces
 pub record IsFirstOpening (fault : TextFault) (text : List ℕ) : Type 0 where
   pub front : List ℕ
   pub behind : List ℕ
   pub ps : List TemplatePiece
-  pub parts : text ≡ front ++ 36 ∷ 123 ∷ behind
-  pub spelling : SpellsTemplate text ps (36 ∷ 123 ∷ behind)
-  pub faulty : Faults fault (length front) behind
+  pub parts : text ≡ front ++ 36 ∷ 123 ∷ after_opening
+  pub spelling : SpellsTemplate text ps (36 ∷ 123 ∷ after_opening)
+  pub faulty : Faults fault (length front) after_opening

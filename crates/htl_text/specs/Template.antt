@@ -16,14 +16,14 @@ use Rattle.htl_text.specs.declared.quotes.Quotes.{Quotes}
 use Rattle.htl_text.specs.declared.quotes.Quotes.TheVariants.{Outside, Inside, Escaped}
 
 -- whether a text begins with this byte
-unfoldable pub is_in_front : ℕ → List ℕ → Bool
-is_in_front c [] = false
-is_in_front c (d ∷ t) = d == c
+unfoldable pub begins_with_byte : ℕ → List ℕ → Bool
+begins_with_byte c [] = false
+begins_with_byte c (d ∷ t) = d == c
 
 -- whether a text begins with "${", which opens an expression
 unfoldable pub opens_expression : List ℕ → Bool
 opens_expression [] = false
-opens_expression (c ∷ t) = c == 36 && is_in_front 123 t
+opens_expression (c ∷ t) = c == 36 && begins_with_byte 123 t
 
 -- whether a text begins with "\${", which writes "${"
 unfoldable pub escapes : List ℕ → Bool
@@ -62,15 +62,15 @@ unfoldable pub value_at : ℕ → List ℕ → Result (Expr × List ℕ) TextFau
 value_at place t = closed_value place (drop 2 t) (closing Outside 0 (drop 2 t))
 
 -- plain text before pieces; no piece of plain text is empty, and no two stand side by side
-abbrev pub text_in_front : List ℕ → List TemplatePiece → List TemplatePiece
-text_in_front [] ps = ps
-text_in_front (c ∷ t) [] = Plain (c ∷ t) ∷ []
-text_in_front (c ∷ t) (Plain more ∷ ps) = Plain (c ∷ (t ++ more)) ∷ ps
-text_in_front (c ∷ t) (Value e ∷ ps) = Plain (c ∷ t) ∷ (Value e ∷ ps)
+abbrev pub pieces_after_plain : List ℕ → List TemplatePiece → List TemplatePiece
+pieces_after_plain [] ps = ps
+pieces_after_plain (c ∷ t) [] = Plain (c ∷ t) ∷ []
+pieces_after_plain (c ∷ t) (Plain more ∷ ps) = Plain (c ∷ (t ++ more)) ∷ ps
+pieces_after_plain (c ∷ t) (Value e ∷ ps) = Plain (c ∷ t) ∷ (Value e ∷ ps)
 
 -- plain text before the pieces of the rest
 abbrev pub with_plain : List ℕ → Result (List TemplatePiece) TextFault → Result (List TemplatePiece) TextFault
-with_plain t (Ok ps) = Ok (text_in_front t ps)
+with_plain t (Ok ps) = Ok (pieces_after_plain t ps)
 with_plain t (Err fault) = Err fault
 
 -- pieces before others
@@ -108,7 +108,7 @@ plain_len (c ∷ t) = if opens_expression (c ∷ t) || escapes (c ∷ t) then 0 
 
 -- a text as one piece, or as none where it is empty
 abbrev pub plain_pieces : List ℕ → List TemplatePiece
-plain_pieces t = text_in_front t []
+plain_pieces t = pieces_after_plain t []
 
 -- what a piece writes
 abbrev pub piece_text : Scope → TemplatePiece → List ℕ

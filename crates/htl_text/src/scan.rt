@@ -7,9 +7,9 @@ use memchr::memchr;
 use sp_base::{Mem, TextBuf};
 use std::alloc::Global;
 
-#[tactic(auto, unfolding(crate::specs::Template::is_in_front))]
+#[tactic(auto, unfolding(crate::specs::Template::begins_with_byte))]
 fn is_at(c: u8, text: &[u8]) -> bool
-    ensures { result ≡ spec.is_in_front c text.now }
+    ensures { result ≡ spec.begins_with_byte c text.now }
 {
     match text {
         [] => false,

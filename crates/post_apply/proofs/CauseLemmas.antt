@@ -20,12 +20,12 @@ use Rattle.post_plan.specs.declared.operation.Op.TheVariants.{Nop, Delete, Copy,
 use Rattle.post_apply.specs.declared.fault.ApplyFault.{ApplyFault}
 use Rattle.post_apply.specs.declared.fault.ApplyFault.TheVariants.{Tree}
 use Rattle.post_apply.specs.Laws.{tree_wants_memory, wants_memory}
-use Rattle.post_apply.specs.Steps.{ApplyOutcome, ◌>>=◌, in_turn, made, or_too_deep, path_of_spot, changed_unless_fault, with_node, with_nodes_below, with_way}
-use Rattle.post_apply.specs.Removals.{delete_at, deleted, removed, without_property}
+use Rattle.post_apply.specs.Steps.{ApplyOutcome, ◌>>=◌, in_turn, creation_outcome, or_too_deep, path_of_spot, changed_unless_fault, with_node, with_nodes_below, with_way}
+use Rattle.post_apply.specs.Removals.{delete_at, deletion_outcome, removal_outcome, without_property}
 use Rattle.post_apply.specs.Values.{named_outcome, put_at, put_on_way, set_at, hinted_value}
-use Rattle.post_apply.specs.Carries.{bring, bring_node, bring_value, carried, carry_at, carry_fault, carry_node, ends_at_root, given_way, content_left, property_at, replacing, unless}
+use Rattle.post_apply.specs.Carries.{bring, bring_node, bring_value, carry_outcome, carry_at, carry_fault, carry_node, ends_at_root, outcome_without_goal, content_left, property_at, replacement_outcome, unless}
 use Rattle.post_apply.specs.Names.{name_given}
-use Rattle.post_apply.specs.Posting.{PostedNode, carry, modified, modify, modify_at, content_placed, posted, posted_node, posted_node_of}
+use Rattle.post_apply.specs.Posting.{PostedNode, carry, modify_outcome, modify, modify_at, content_placed, post_outcome, posted_node, posted_node_of}
 
 -- ---- faults of the tree
 
@@ -101,11 +101,11 @@ unfolding in_turn
 turns step told [] tree = tt
 turns step told (x ∷ more) tree = chained (step tree x) (in_turn step more) (told tree x) (λ t. turns step told more t)
 
-made_told : (tree : Content) (path : List (List ℕ)) → Told (made tree path)
+made_told : (tree : Content) (path : List (List ℕ)) → Told (creation_outcome tree path)
 made_told tree path = unless_tree (create_fault tree path) (creation tree path empty_node) (create_known tree path)
 
 node_told : (tree : Content) (path : List (List ℕ)) → Told (with_node tree path)
-node_told tree path = by_test (is_some (node_at tree path)) (okay tree) (made tree path) tt (made_told tree path)
+node_told tree path = by_test (is_some (node_at tree path)) (okay tree) (creation_outcome tree path) tt (made_told tree path)
 
 below_told : (names path : List (List ℕ)) (tree : Content) → Told (with_nodes_below path names tree)
 unfolding with_nodes_below
@@ -122,14 +122,14 @@ deep_told None = refl
 spot_told : (node : List (List ℕ)) (spot : Spot) → Told (path_of_spot node spot)
 spot_told node spot = by_test spot.at_target (or_too_deep (path_or_none (node ++ spot.path))) (okay spot.path) (deep_told _) tt
 
-removed_told : (tree : Content) (path : List (List ℕ)) → Told (removed tree path)
+removed_told : (tree : Content) (path : List (List ℕ)) → Told (removal_outcome tree path)
 removed_told tree path = unless_tree (fixed_fault tree path) (removal tree path) (fixed_known tree path)
 
-deleted_told : (tree : Content) (path : List (List ℕ)) → Told (deleted tree path)
-deleted_told tree path = by_test (is_some (node_at tree path)) (removed tree path) (okay (without_property tree path)) (removed_told tree path) tt
+deleted_told : (tree : Content) (path : List (List ℕ)) → Told (deletion_outcome tree path)
+deleted_told tree path = by_test (is_some (node_at tree path)) (removal_outcome tree path) (okay (without_property tree path)) (removed_told tree path) tt
 
 delete_told : (node : List (List ℕ)) (tree : Content) (spot : Spot) → Told (delete_at node tree spot)
-delete_told node tree spot = chained (path_of_spot node spot) (deleted tree) (spot_told node spot) (λ path. deleted_told tree path)
+delete_told node tree spot = chained (path_of_spot node spot) (deletion_outcome tree) (spot_told node spot) (λ path. deleted_told tree path)
 
 put_told : (tree : Content) (path : List (List ℕ)) (value : Value) → Told (put_at tree path value)
 put_told tree path value =
@@ -150,15 +150,15 @@ set_told node tree set =
 
 -- ---- copies and moves
 
-carried_told : (moves : Bool) (from to : List (List ℕ)) (tree : Content) → Told (carried moves from to tree)
+carried_told : (moves : Bool) (from to : List (List ℕ)) (tree : Content) → Told (carry_outcome moves from to tree)
 carried_told false from to tree = unless_tree (copy_fault tree from to) (copy tree from to) (copy_known tree from to)
 carried_told true from to tree = unless_tree (move_fault tree from to) (relocation tree from to) (move_known tree from to)
 
-given_told : (tree : Content) (to : List (List ℕ)) → Told (given_way tree to)
-given_told tree to = by_test (is_some (node_at tree to)) (removed tree to) (okay tree) (removed_told tree to) tt
+given_told : (tree : Content) (to : List (List ℕ)) → Told (outcome_without_goal tree to)
+given_told tree to = by_test (is_some (node_at tree to)) (removal_outcome tree to) (okay tree) (removed_told tree to) tt
 
-replacing_told : (moves : Bool) (from to : List (List ℕ)) (tree : Content) → Told (replacing moves from to tree)
-replacing_told moves from to tree = chained (given_way tree to) (carried moves from to) (given_told tree to) (λ t. carried_told moves from to t)
+replacing_told : (moves : Bool) (from to : List (List ℕ)) (tree : Content) → Told (replacement_outcome moves from to tree)
+replacing_told moves from to tree = chained (outcome_without_goal tree to) (carry_outcome moves from to) (given_told tree to) (λ t. carried_told moves from to t)
 
 abbrev Begun : Option ApplyFault → Type 0
 Begun o = IfSome o (λ (f : ApplyFault). wants_memory f ≡ false)
@@ -178,7 +178,7 @@ carry_known moves replaces tree from to =
 
 carry_node_told : (moves replaces : Bool) (from to : List (List ℕ)) (tree : Content) → Told (carry_node moves replaces from to tree)
 carry_node_told moves replaces from to tree =
-    chained (unless (carry_fault moves replaces tree from to) tree) (replacing moves from to) (begun_told (carry_fault moves replaces tree from to) tree (carry_known moves replaces tree from to)) (λ t. replacing_told moves from to t)
+    chained (unless (carry_fault moves replaces tree from to) tree) (replacement_outcome moves from to) (begun_told (carry_fault moves replaces tree from to) tree (carry_known moves replaces tree from to)) (λ t. replacing_told moves from to t)
 
 value_told : (moves : Bool) (from to : List (List ℕ)) (value : Option Value) (tree : Content) → Told (bring_value moves from to value tree)
 value_told moves from to None tree = tt
@@ -186,8 +186,8 @@ value_told moves from to (Some value) tree = chained (with_way (parent_of to) tr
 
 bring_node_told : (moves : Bool) (from to : List (List ℕ)) (tree : Content) → Told (bring_node moves from to tree)
 bring_node_told moves from to tree =
-    chained (unless (carry_fault moves true tree from to) tree) (λ begun. with_way (parent_of to) begun >>= λ ready. replacing moves from to ready) (begun_told (carry_fault moves true tree from to) tree (carry_known moves true tree from to)) (λ t.
-    chained (with_way (parent_of to) t) (λ ready. replacing moves from to ready) (way_told (parent_of to) t) (λ ready. replacing_told moves from to ready))
+    chained (unless (carry_fault moves true tree from to) tree) (λ begun. with_way (parent_of to) begun >>= λ ready. replacement_outcome moves from to ready) (begun_told (carry_fault moves true tree from to) tree (carry_known moves true tree from to)) (λ t.
+    chained (with_way (parent_of to) t) (λ ready. replacement_outcome moves from to ready) (way_told (parent_of to) t) (λ ready. replacing_told moves from to ready))
 
 bring_told : (moves : Bool) (from to : List (List ℕ)) (tree : Content) → Told (bring moves from to tree)
 bring_told moves from to tree =
@@ -204,10 +204,10 @@ placed_told : (node : List (List ℕ)) (place : Option Place) (tree : Content) �
 placed_told node None tree = tt
 placed_told node (Some place) tree = unless_tree (order_fault tree node place) (reordering tree node place) (order_known tree node place)
 
-modified_told : (op : ModifyOp) (at : PostedNode) → Told (modified op at)
+modified_told : (op : ModifyOp) (at : PostedNode) → Told (modify_outcome op at)
 modified_told op at =
-    chained (with_way at.node at.content) _ (way_told at.node at.content) (λ made.
-    chained (in_turn (delete_at at.node) op.deletes made) _ (turns (delete_at at.node) (delete_told at.node) op.deletes made) (λ less.
+    chained (with_way at.node at.content) _ (way_told at.node at.content) (λ creation_outcome.
+    chained (in_turn (delete_at at.node) op.deletes creation_outcome) _ (turns (delete_at at.node) (delete_told at.node) op.deletes creation_outcome) (λ less.
     chained (in_turn (carry_at true at.node) op.moves less) _ (turns (carry_at true at.node) (carry_told true at.node) op.moves less) (λ moved.
     chained (in_turn (carry_at false at.node) op.copies moved) _ (turns (carry_at false at.node) (carry_told false at.node) op.copies moved) (λ copied.
     chained (in_turn (set_at at.node) op.sets copied) _ (turns (set_at at.node) (set_told at.node) op.sets copied) (λ valued. placed_told at.node op.place valued)))))
@@ -219,11 +219,11 @@ posted_node_told target (Some wish) tree =
     chained (or_too_deep (path_or_none (kid target (name_given above target wish)))) (λ path. okay (posted_node above path)) (deep_told _) (λ path. tt))
 
 modify_told : (op : ModifyOp) (tree : Content) → Told (modify op tree)
-modify_told op tree = chained (posted_node_of op.target op.fresh tree) (modify_at op) (posted_node_told op.target op.fresh tree) (λ at. chained (modified op at) _ (modified_told op at) (λ t. tt))
+modify_told op tree = chained (posted_node_of op.target op.fresh tree) (modify_at op) (posted_node_told op.target op.fresh tree) (λ at. chained (modify_outcome op at) _ (modified_told op at) (λ t. tt))
 
-pub posted_told : (op : Op) (tree : Content) → Told (posted op tree)
+pub posted_told : (op : Op) (tree : Content) → Told (post_outcome op tree)
 posted_told (Nop path) tree = tt
-posted_told (Delete path) tree = chained (removed tree path) _ (removed_told tree path) (λ t. tt)
+posted_told (Delete path) tree = chained (removal_outcome tree path) _ (removed_told tree path) (λ t. tt)
 posted_told (Copy op) tree = chained (carry_node false op.replace op.from op.to tree) _ (carry_node_told false op.replace op.from op.to tree) (λ t. tt)
 posted_told (Move op) tree = chained (carry_node true op.replace op.from op.to tree) _ (carry_node_told true op.replace op.from op.to tree) (λ t. tt)
 posted_told (Modify op) tree = modify_told op tree

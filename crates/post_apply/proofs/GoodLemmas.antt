@@ -40,12 +40,12 @@ use Rattle.post_plan.specs.declared.operation.Op.TheVariants.{Nop, Delete, Copy,
 use Rattle.post_plan.specs.OperationPaths.{carry_has_paths, names_paths, set_has_path, spot_has_path}
 use Rattle.post_apply.specs.declared.fault.ApplyFault.{ApplyFault}
 use Rattle.post_apply.specs.declared.fault.ApplyFault.TheVariants.{Tree}
-use Rattle.post_apply.specs.Steps.{ApplyOutcome, ◌>>=◌, in_turn, made, or_too_deep, path_of_spot, changed_unless_fault, with_node, with_nodes_below, with_way}
-use Rattle.post_apply.specs.Removals.{delete_at, deleted, removed, without_property}
+use Rattle.post_apply.specs.Steps.{ApplyOutcome, ◌>>=◌, in_turn, creation_outcome, or_too_deep, path_of_spot, changed_unless_fault, with_node, with_nodes_below, with_way}
+use Rattle.post_apply.specs.Removals.{delete_at, deletion_outcome, removal_outcome, without_property}
 use Rattle.post_apply.specs.Values.{named_outcome, put_at, put_on_way, set_at, hinted_value}
-use Rattle.post_apply.specs.Carries.{bring, bring_node, bring_value, carried, carry_at, carry_fault, carry_node, given_way, content_left, property_at, replacing, unless}
+use Rattle.post_apply.specs.Carries.{bring, bring_node, bring_value, carry_outcome, carry_at, carry_fault, carry_node, outcome_without_goal, content_left, property_at, replacement_outcome, unless}
 use Rattle.post_apply.specs.Names.{name_given}
-use Rattle.post_apply.specs.Posting.{Posted, PostedNode, carry, content_after, content_after_post, modified, modify, modify_at, content_placed, posted, remove, posted_node, posted_node_of}
+use Rattle.post_apply.specs.Posting.{PostEffect, PostedNode, carry, content_after, content_after_post, modify_outcome, modify, modify_at, content_placed, post_outcome, remove, posted_node, posted_node_of}
 
 -- ---- paths
 
@@ -134,14 +134,14 @@ turns step fits keeps (x ∷ more) tree all good =
 no_names : HasSegmentNames []
 no_names name there_ = absurd (false≢true there_)
 
-good_made : (tree : Content) (path : List (List ℕ)) → is_path path ≡ true → IsGood tree → Good (made tree path)
+good_made : (tree : Content) (path : List (List ℕ)) → is_path path ≡ true → IsGood tree → Good (creation_outcome tree path)
 good_made tree path valid good =
     unless_tree (create_fault tree path) (creation tree path empty_node) (λ allowed.
     IsGood-creation (creation tree path empty_node) tree path [] good allowed valid no_names refl
     (sorted-change_at _ (parent_of path) (with_kid (name_of path)) (sorted-insert_entry by_path by_path_total tree path empty_node good.ordered)))
 
 good_node : (tree : Content) (path : List (List ℕ)) → is_path path ≡ true → IsGood tree → Good (with_node tree path)
-good_node tree path valid good = if_test (is_some (node_at tree path)) (okay tree) (made tree path) (λ _. good) (λ _. good_made tree path valid good)
+good_node tree path valid good = if_test (is_some (node_at tree path)) (okay tree) (creation_outcome tree path) (λ _. good) (λ _. good_made tree path valid good)
 
 good_below : (names path : List (List ℕ)) (tree : Content) → is_path (path ++ names) ≡ true → IsGood tree → Good (with_nodes_below path names tree)
 unfolding with_nodes_below
@@ -177,7 +177,7 @@ sorted-removal tree path sorted =
     subst (λ (ks : List (List (List ℕ))). IsStrictlySortedBy by_path ks) (sym (keys_of-filter (λ p. not (is_under p path)) (change_at tree (parent_of path) (without_kid (name_of path)))))
     (IsStrictlySortedBy-filter by_path (λ p. not (is_under p path)) (keys_of (change_at tree (parent_of path) (without_kid (name_of path)))) (sorted-change_at tree (parent_of path) (without_kid (name_of path)) sorted))
 
-good_removed : (tree : Content) (path : List (List ℕ)) → IsGood tree → Good (removed tree path)
+good_removed : (tree : Content) (path : List (List ℕ)) → IsGood tree → Good (removal_outcome tree path)
 good_removed tree path good =
     unless_tree (fixed_fault tree path) (removal tree path) (λ allowed. IsGood-removal (removal tree path) tree path good (can_move tree path allowed) refl (sorted-removal tree path good.ordered))
 
@@ -194,11 +194,11 @@ good_without tree path good = go (has_prop_at tree (parent_of path) (name_of pat
         (sorted-change_at tree (parent_of path) (without_value (name_of path)) good.ordered)
     go false has = good
 
-good_deleted : (tree : Content) (path : List (List ℕ)) → IsGood tree → Good (deleted tree path)
-good_deleted tree path good = if_test (is_some (node_at tree path)) (removed tree path) (okay (without_property tree path)) (λ _. good_removed tree path good) (λ _. good_without tree path good)
+good_deleted : (tree : Content) (path : List (List ℕ)) → IsGood tree → Good (deletion_outcome tree path)
+good_deleted tree path good = if_test (is_some (node_at tree path)) (removal_outcome tree path) (okay (without_property tree path)) (λ _. good_removed tree path good) (λ _. good_without tree path good)
 
 good_delete_at : (node : List (List ℕ)) (tree : Content) (spot : Spot) → spot_has_path spot ≡ true → IsGood tree → Good (delete_at node tree spot)
-good_delete_at node tree spot valid good = at_spot node spot (deleted tree) valid (λ path _. good_deleted tree path good)
+good_delete_at node tree spot valid good = at_spot node spot (deletion_outcome tree) valid (λ path _. good_deleted tree path good)
 
 -- ---- values
 
@@ -242,19 +242,19 @@ good_move tree from to good allowed =
     let fits = no_fault (is_too_deep tree from to) TooDeep None parts.1 in
     IsGood-relocation tree from to good (may_go tree from to parts.0) fits.0 (relocation tree from to) refl
 
-good_carried : (moves : Bool) (from to : List (List ℕ)) (tree : Content) → IsGood tree → Good (carried moves from to tree)
+good_carried : (moves : Bool) (from to : List (List ℕ)) (tree : Content) → IsGood tree → Good (carry_outcome moves from to tree)
 good_carried false from to tree good = unless_tree (copy_fault tree from to) (copy tree from to) (good_copy tree from to good)
 good_carried true from to tree good = unless_tree (move_fault tree from to) (relocation tree from to) (good_move tree from to good)
 
-good_given : (tree : Content) (to : List (List ℕ)) → IsGood tree → Good (given_way tree to)
-good_given tree to good = if_test (is_some (node_at tree to)) (removed tree to) (okay tree) (λ _. good_removed tree to good) (λ _. good)
+good_given : (tree : Content) (to : List (List ℕ)) → IsGood tree → Good (outcome_without_goal tree to)
+good_given tree to good = if_test (is_some (node_at tree to)) (removal_outcome tree to) (okay tree) (λ _. good_removed tree to good) (λ _. good)
 
-good_replacing : (moves : Bool) (from to : List (List ℕ)) (tree : Content) → IsGood tree → Good (replacing moves from to tree)
-good_replacing moves from to tree good = chained (given_way tree to) (carried moves from to) (good_given tree to good) (λ t g. good_carried moves from to t g)
+good_replacing : (moves : Bool) (from to : List (List ℕ)) (tree : Content) → IsGood tree → Good (replacement_outcome moves from to tree)
+good_replacing moves from to tree good = chained (outcome_without_goal tree to) (carry_outcome moves from to) (good_given tree to good) (λ t g. good_carried moves from to t g)
 
 good_carry_node : (moves replaces : Bool) (from to : List (List ℕ)) (tree : Content) → IsGood tree → Good (carry_node moves replaces from to tree)
 good_carry_node moves replaces from to tree good =
-    chained (unless (carry_fault moves replaces tree from to) tree) (replacing moves from to) (unless_begun (carry_fault moves replaces tree from to) tree good) (λ t g. good_replacing moves from to t g)
+    chained (unless (carry_fault moves replaces tree from to) tree) (replacement_outcome moves from to) (unless_begun (carry_fault moves replaces tree from to) tree good) (λ t g. good_replacing moves from to t g)
 
 good_left : (moves : Bool) (from : List (List ℕ)) (tree : Content) → IsGood tree → IsGood (content_left moves from tree)
 good_left true from tree good = good_without tree from good
@@ -267,8 +267,8 @@ good_value moves from to (Some value) tree valid good =
 
 good_bring_node : (moves : Bool) (from to : List (List ℕ)) (tree : Content) → is_path to ≡ true → IsGood tree → Good (bring_node moves from to tree)
 good_bring_node moves from to tree valid good =
-    chained (unless (carry_fault moves true tree from to) tree) (λ begun. with_way (parent_of to) begun >>= λ ready. replacing moves from to ready) (unless_begun (carry_fault moves true tree from to) tree good) (λ t g.
-    chained (with_way (parent_of to) t) (λ ready. replacing moves from to ready) (good_way (parent_of to) t (parent_path to valid) g) (λ ready h. good_replacing moves from to ready h))
+    chained (unless (carry_fault moves true tree from to) tree) (λ begun. with_way (parent_of to) begun >>= λ ready. replacement_outcome moves from to ready) (unless_begun (carry_fault moves true tree from to) tree good) (λ t g.
+    chained (with_way (parent_of to) t) (λ ready. replacement_outcome moves from to ready) (good_way (parent_of to) t (parent_path to valid) g) (λ ready h. good_replacing moves from to ready h))
 
 good_bring : (moves : Bool) (from to : List (List ℕ)) (tree : Content) → is_path to ≡ true → IsGood tree → Good (bring moves from to tree)
 good_bring moves from to tree valid good =
@@ -298,14 +298,14 @@ good_placed node (Some place) tree good =
 
 -- ---- the operations
 
-good_modified : (op : ModifyOp) (at : PostedNode) → names_paths (Modify op) ≡ true → is_path at.node ≡ true → IsGood at.content → Good (modified op at)
+good_modified : (op : ModifyOp) (at : PostedNode) → names_paths (Modify op) ≡ true → is_path at.node ≡ true → IsGood at.content → Good (modify_outcome op at)
 good_modified op at all valid good =
     let rest = (both (is_path op.target) _ all).1 in
     let deletes = both (list_all spot_has_path op.deletes) _ rest in
     let moves = both (list_all carry_has_paths op.moves) _ deletes.1 in
     let copies = both (list_all carry_has_paths op.copies) (list_all set_has_path op.sets) moves.1 in
-    chained (with_way at.node at.content) _ (good_way at.node at.content valid good) (λ made a.
-    chained (in_turn (delete_at at.node) op.deletes made) _ (turns (delete_at at.node) spot_has_path (λ t x f g. good_delete_at at.node t x f g) op.deletes made deletes.0 a) (λ less b.
+    chained (with_way at.node at.content) _ (good_way at.node at.content valid good) (λ creation_outcome a.
+    chained (in_turn (delete_at at.node) op.deletes creation_outcome) _ (turns (delete_at at.node) spot_has_path (λ t x f g. good_delete_at at.node t x f g) op.deletes creation_outcome deletes.0 a) (λ less b.
     chained (in_turn (carry_at true at.node) op.moves less) _ (turns (carry_at true at.node) carry_has_paths (λ t x f g. good_carry_at true at.node t x f g) op.moves less moves.0 b) (λ moved c.
     chained (in_turn (carry_at false at.node) op.copies moved) _ (turns (carry_at false at.node) carry_has_paths (λ t x f g. good_carry_at false at.node t x f g) op.copies moved copies.0 c) (λ copied d.
     chained (in_turn (set_at at.node) op.sets copied) _ (turns (set_at at.node) set_has_path (λ t x f g. good_set at.node t x f g) op.sets copied copies.1 d) (λ valued e. good_placed at.node op.place valued e)))))
@@ -313,7 +313,7 @@ good_modified op at all valid good =
 abbrev GoodPostedNode : PostedNode → Type 0
 GoodPostedNode at = IsGood at.content × (is_path at.node ≡ true)
 
-abbrev GoodPosted : Posted → Type 0
+abbrev GoodPosted : PostEffect → Type 0
 GoodPosted done = IsGood done.content
 
 good_posted_node : (target : List (List ℕ)) (fresh : Option NameWish) (tree : Content) → is_path target ≡ true → IsGood tree → IfOk (posted_node_of target fresh tree) GoodPostedNode
@@ -325,15 +325,15 @@ good_posted_node target (Some wish) tree valid good =
 good_modify : (op : ModifyOp) (tree : Content) → names_paths (Modify op) ≡ true → IsGood tree → IfOk (modify op tree) GoodPosted
 good_modify op tree all good =
     followed GoodPostedNode GoodPosted (posted_node_of op.target op.fresh tree) (modify_at op) (good_posted_node op.target op.fresh tree (both (is_path op.target) _ all).0 good) (λ at g.
-    followed (λ (t : Content). IsGood t) GoodPosted (modified op at) _ (good_modified op at all g.1 g.0) (λ t h. h))
+    followed (λ (t : Content). IsGood t) GoodPosted (modify_outcome op at) _ (good_modified op at all g.1 g.0) (λ t h. h))
 
 good_remove : (path : List (List ℕ)) (tree : Content) → IsGood tree → IfOk (remove path tree) GoodPosted
-good_remove path tree good = followed (λ (t : Content). IsGood t) GoodPosted (removed tree path) _ (good_removed tree path good) (λ t h. h)
+good_remove path tree good = followed (λ (t : Content). IsGood t) GoodPosted (removal_outcome tree path) _ (good_removed tree path good) (λ t h. h)
 
 good_carry : (moves : Bool) (op : CarryOp) (tree : Content) → IsGood tree → IfOk (carry moves op tree) GoodPosted
 good_carry moves op tree good = followed (λ (t : Content). IsGood t) GoodPosted (carry_node moves op.replace op.from op.to tree) _ (good_carry_node moves op.replace op.from op.to tree good) (λ t h. h)
 
-pub good_posted : (op : Op) (tree : Content) → names_paths op ≡ true → IsGood tree → IfOk (posted op tree) GoodPosted
+pub good_posted : (op : Op) (tree : Content) → names_paths op ≡ true → IsGood tree → IfOk (post_outcome op tree) GoodPosted
 good_posted (Nop path) tree all good = good
 good_posted (Delete path) tree all good = good_remove path tree good
 good_posted (Copy op) tree all good = good_carry false op tree good
@@ -341,8 +341,8 @@ good_posted (Move op) tree all good = good_carry true op tree good
 good_posted (Modify op) tree all good = good_modify op tree all good
 
 pub good_after : (op : Op) (tree : Content) → names_paths op ≡ true → IsGood tree → IsGood (content_after op tree)
-good_after op tree all good = go (posted op tree) (good_posted op tree all good)
+good_after op tree all good = go (post_outcome op tree) (good_posted op tree all good)
   where
-    go : (o : ApplyOutcome Posted) → IfOk o GoodPosted → IsGood (content_after_post tree o)
+    go : (o : ApplyOutcome PostEffect) → IfOk o GoodPosted → IsGood (content_after_post tree o)
     go (Ok done) g = g
     go (Err fault) g = good

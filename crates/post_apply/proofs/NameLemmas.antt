@@ -7,7 +7,7 @@ use Rattle.resource_tree.specs.declared.nodes.Node.{Node}
 use Rattle.resource_tree.specs.Content.{Content, node_at}
 use Rattle.tree_draft.specs.Drafts.{DraftedContent, IsSound}
 use Rattle.post_apply.specs.Marks.{MarksTaken}
-use Rattle.post_apply.specs.Names.{free_number, is_taken, numbered}
+use Rattle.post_apply.specs.Names.{free_number, is_taken, numbered_name}
 
 -- no node is where no path leads
 pub no_path : (draft : DraftedContent) (path : List (List ℕ)) → IsSound draft → None ≡ path_or_none path → is_some (node_at draft.content path) ≡ false
@@ -25,7 +25,7 @@ less : (n most : ℕ) → n < most → most - n ≡ suc (most - (n + 1))
 less n most below = omega (arith, below)
 
 -- a number that is taken is passed over
-pub passed : (tree : Content) (parent : List (List ℕ)) (name : List ℕ) (n most : ℕ) → n < most → is_taken tree parent (numbered name n) ≡ true
+pub passed : (tree : Content) (parent : List (List ℕ)) (name : List ℕ) (n most : ℕ) → n < most → is_taken tree parent (numbered_name name n) ≡ true
     → free_number tree parent name n (most - n) ≡ free_number tree parent name (n + 1) (most - (n + 1))
 unfolding free_number
 passed tree parent name n most below taken =
@@ -37,7 +37,7 @@ pub passed_marked : (tree : Content) (parent : List (List ℕ)) (name : List ℕ
 passed_marked tree parent name n most marks below taken marked = passed tree parent name n most below (taken n marked)
 
 -- the first that isn't taken
-pub found : (tree : Content) (parent : List (List ℕ)) (name : List ℕ) (n most : ℕ) → n < most → is_taken tree parent (numbered name n) ≡ false
+pub found : (tree : Content) (parent : List (List ℕ)) (name : List ℕ) (n most : ℕ) → n < most → is_taken tree parent (numbered_name name n) ≡ false
     → free_number tree parent name n (most - n) ≡ n
 unfolding free_number
 found tree parent name n most below free =

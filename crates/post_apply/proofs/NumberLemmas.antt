@@ -16,7 +16,7 @@ use Rattle.std.proofs.lemmas.Str.Parse.{numerals_by_value, tells_digits}
 use Rattle.resource_tree.specs.declared.nodes.Node.{Node}
 use Rattle.resource_tree.specs.Content.{node_at}
 use Rattle.tree_draft.specs.Drafts.{DraftedContent}
-use Rattle.post_apply.specs.Names.{free_number, most_taken, numbered}
+use Rattle.post_apply.specs.Names.{free_number, most_taken, numbered_name}
 
 no_plus : (word : List ℕ) → slice_index word 0 ≢ 43 → without_leading_plus word ≡ word
 no_plus word plus = by (slice_index word 0 == 43) refl
@@ -42,15 +42,15 @@ listed_lent lent i item name within is same =
 
 -- the name with that number, where it is made
 pub free_given : {E : Type 0} (draft : DraftedContent) (parent : List (List ℕ)) (name : List ℕ) (most : ℕ) (r : Result (List ℕ) E) → most ≡ most_taken draft.content parent
-    → IfOk r (λ t. t ≡ numbered name (free_number draft.content parent name 0 most)) → IfOk r (λ t. t ≡ numbered name (free_number draft.content parent name 0 (most_taken draft.content parent)))
-free_given draft parent name most (Ok t) is made = made ∙ ap (λ m. numbered name (free_number draft.content parent name 0 m)) is
+    → IfOk r (λ t. t ≡ numbered_name name (free_number draft.content parent name 0 most)) → IfOk r (λ t. t ≡ numbered_name name (free_number draft.content parent name 0 (most_taken draft.content parent)))
+free_given draft parent name most (Ok t) is made = made ∙ ap (λ m. numbered_name name (free_number draft.content parent name 0 m)) is
 free_given draft parent name most (Err e) is made = tt
 
 -- where no node is, no number is taken
 pub none_taken : (draft : DraftedContent) (parent : List (List ℕ)) → node_at draft.content parent ≡ None → 0 ≡ most_taken draft.content parent
 none_taken draft parent none = sym (ap (λ o. option_map_or (λ (n : Node). length n.kids + length n.props) o 0) none)
 
-pub zero_given : {E : Type 0} (draft : DraftedContent) (parent : List (List ℕ)) (name : List ℕ) (r : Result (List ℕ) E) → IfOk r (λ t. t ≡ numbered name 0) → IfOk r (λ t. t ≡ numbered name (free_number draft.content parent name 0 0))
+pub zero_given : {E : Type 0} (draft : DraftedContent) (parent : List (List ℕ)) (name : List ℕ) (r : Result (List ℕ) E) → IfOk r (λ t. t ≡ numbered_name name 0) → IfOk r (λ t. t ≡ numbered_name name (free_number draft.content parent name 0 0))
 unfolding free_number
 zero_given draft parent name (Ok t) made = made
 zero_given draft parent name (Err e) made = tt

@@ -10,7 +10,7 @@ use Rattle.post_plan.specs.declared.spot.Carry.{Carry}
 use Rattle.post_apply.specs.declared.fault.ApplyFault.{ApplyFault}
 use Rattle.post_apply.specs.declared.fault.ApplyFault.TheVariants.{Tree, DestThere}
 use Rattle.post_apply.specs.Steps.{ApplyOutcome, ◌>>=◌, path_of_spot, changed_unless_fault, with_way}
-use Rattle.post_apply.specs.Removals.{removed, without_property}
+use Rattle.post_apply.specs.Removals.{removal_outcome, without_property}
 use Rattle.post_apply.specs.Values.{put_at}
 
 -- whether one of the ends is the root, which isn't moved and is no goal
@@ -32,21 +32,21 @@ unless None tree = Ok tree
 unless (Some fault) tree = Err fault
 
 -- the content without a node at the goal
-abbrev pub given_way : Content → List (List ℕ) → ApplyOutcome Content
-given_way tree to = if is_some (node_at tree to) then removed tree to else Ok tree
+abbrev pub outcome_without_goal : Content → List (List ℕ) → ApplyOutcome Content
+outcome_without_goal tree to = if is_some (node_at tree to) then removal_outcome tree to else Ok tree
 
 -- the node at the goal too, or there instead; all other faults of the tree
-abbrev pub carried : Bool → List (List ℕ) → List (List ℕ) → Content → ApplyOutcome Content
-carried false from to tree = changed_unless_fault (copy_fault tree from to) (copy tree from to)
-carried true from to tree = changed_unless_fault (move_fault tree from to) (relocation tree from to)
+abbrev pub carry_outcome : Bool → List (List ℕ) → List (List ℕ) → Content → ApplyOutcome Content
+carry_outcome false from to tree = changed_unless_fault (copy_fault tree from to) (copy tree from to)
+carry_outcome true from to tree = changed_unless_fault (move_fault tree from to) (relocation tree from to)
 
 -- a node in the place of what stands at the goal, last among its siblings
-abbrev pub replacing : Bool → List (List ℕ) → List (List ℕ) → Content → ApplyOutcome Content
-replacing moves from to tree = given_way tree to >>= carried moves from to
+abbrev pub replacement_outcome : Bool → List (List ℕ) → List (List ℕ) → Content → ApplyOutcome Content
+replacement_outcome moves from to tree = outcome_without_goal tree to >>= carry_outcome moves from to
 
 -- a node that an operation copies or moves
 abbrev pub carry_node : Bool → Bool → List (List ℕ) → List (List ℕ) → Content → ApplyOutcome Content
-carry_node moves replaces from to tree = unless (carry_fault moves replaces tree from to) tree >>= replacing moves from to
+carry_node moves replaces from to tree = unless (carry_fault moves replaces tree from to) tree >>= replacement_outcome moves from to
 
 -- ---- what a parameter copies or moves
 
@@ -68,7 +68,7 @@ abbrev pub bring_node : Bool → List (List ℕ) → List (List ℕ) → Content
 bring_node moves from to tree = do
   begun ← unless (carry_fault moves true tree from to) tree
   ready ← with_way (parent_of to) begun
-  replacing moves from to ready
+  replacement_outcome moves from to ready
 
 -- the node at a path, else the property there; nothing where neither is there
 abbrev pub bring : Bool → List (List ℕ) → List (List ℕ) → Content → ApplyOutcome Content

@@ -8,8 +8,8 @@ use Rattle.post_plan.specs.declared.operation.NameWish.TheVariants.{Hint}
 use Rattle.post_plan.specs.OperationPaths.{names_paths}
 use Rattle.post_apply.specs.declared.fault.ApplyFault.{ApplyFault}
 use Rattle.post_apply.specs.declared.fault.ApplyFault.TheVariants.{Tree, Value, DestThere, NoMemory}
-use Rattle.post_apply.specs.Names.{is_taken, most_taken, name_given, numbered}
-use Rattle.post_apply.specs.Posting.{content_after, posted}
+use Rattle.post_apply.specs.Names.{is_taken, most_taken, name_given, numbered_name}
+use Rattle.post_apply.specs.Posting.{content_after, post_outcome}
 
 -- an operation whose paths are paths leaves a good content good
 abbrev pub OperationsKeepContentGood : Type 0
@@ -36,13 +36,13 @@ wants_memory NoMemory = true
 
 -- what an operation is refused for is never out of memory
 abbrev pub RefusalsHaveCauses : Type 0
-RefusalsHaveCauses = (op : Op) (tree : Content) → IfErr (posted op tree) (λ fault. wants_memory fault ≡ false)
+RefusalsHaveCauses = (op : Op) (tree : Content) → IfErr (post_outcome op tree) (λ fault. wants_memory fault ≡ false)
 
 -- what is made of a hint isn't taken; it is the hint where that isn't, and else has the least number with which it isn't
 pub record IsMadeName (tree : Content) (parent : List (List ℕ)) (hint made : List ℕ) : Type 0 where
   pub free : is_taken tree parent made ≡ false
   pub bare : is_taken tree parent hint ≡ false → made ≡ hint
-  pub least : is_taken tree parent hint ≡ true → (n : ℕ) × (made ≡ numbered hint n) × ((m : ℕ) → m < n → is_taken tree parent (numbered hint m) ≡ true)
+  pub least : is_taken tree parent hint ≡ true → (n : ℕ) × (made ≡ numbered_name hint n) × ((m : ℕ) → m < n → is_taken tree parent (numbered_name hint m) ≡ true)
 
 -- in a good content a new node gets such a name, below a node with fewer than 2^64 kids and properties: no node in memory has more
 abbrev pub MadeNamesAreLeast : Type 0

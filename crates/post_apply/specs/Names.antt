@@ -11,13 +11,13 @@ abbrev pub is_taken : Content → List (List ℕ) → List ℕ → Bool
 is_taken tree parent name = has_prop_at tree parent name || is_some (node_at tree (kid parent name))
 
 -- a name, `_` and a number
-abbrev pub numbered : List ℕ → ℕ → List ℕ
-numbered name n = name ++ 95 ∷ decimal n
+abbrev pub numbered_name : List ℕ → ℕ → List ℕ
+numbered_name name n = name ++ 95 ∷ decimal n
 
 -- the first of this many numbers from `n` on with which the name isn't taken, or the one after them where it is taken with each
 unfoldable pub free_number : Content → List (List ℕ) → List ℕ → ℕ → ℕ → ℕ
 free_number tree parent name n zero = n
-free_number tree parent name n (suc more) = if is_taken tree parent (numbered name n) then free_number tree parent name (n + 1) more else n
+free_number tree parent name n (suc more) = if is_taken tree parent (numbered_name name n) then free_number tree parent name (n + 1) more else n
 
 -- as many as the parent has kids and properties. Among one number more than that, one is free (`MadeNamesAreLeast` of Laws.antt)
 abbrev pub most_taken : Content → List (List ℕ) → ℕ
@@ -25,7 +25,7 @@ most_taken tree parent = option_map_or (λ node. length node.kids + length node.
 
 -- a made name, with the least number where it is taken
 abbrev pub free_name : Content → List (List ℕ) → List ℕ → List ℕ
-free_name tree parent name = if is_taken tree parent name then numbered name (free_number tree parent name 0 (most_taken tree parent)) else name
+free_name tree parent name = if is_taken tree parent name then numbered_name name (free_number tree parent name 0 (most_taken tree parent)) else name
 
 -- the name of a new node below a parent
 abbrev pub name_given : Content → List (List ℕ) → NameWish → List ℕ

@@ -11,19 +11,19 @@ use Rattle.post_plan.specs.declared.operation.Op.{Op}
 use Rattle.post_plan.specs.declared.operation.Op.TheVariants.{Nop, Delete, Copy, Move, Modify}
 use Rattle.post_apply.specs.declared.report.PostReport.{PostReport}
 use Rattle.post_apply.specs.Steps.{ApplyOutcome, ◌>>=◌, in_turn, or_too_deep, changed_unless_fault, with_way}
-use Rattle.post_apply.specs.Removals.{delete_at, removed}
+use Rattle.post_apply.specs.Removals.{delete_at, removal_outcome}
 use Rattle.post_apply.specs.Values.{set_at}
 use Rattle.post_apply.specs.Carries.{carry_at, carry_node}
 use Rattle.post_apply.specs.Names.{name_given}
 
 -- the content after a POST that isn't refused, and its report
-pub record Posted : Type 0 where
+pub record PostEffect : Type 0 where
   pub content : Content
   pub report : PostReport
 
 -- a content with the report of the node at a path, and whether it is new
-abbrev pub reported : Bool → List (List ℕ) → Content → Posted
-reported created path content = record { content = content; report = record { created = created; path = path } }
+abbrev pub posted_with_report : Bool → List (List ℕ) → Content → PostEffect
+posted_with_report created path content = record { content = content; report = record { created = created; path = path } }
 
 -- ---- a node is made or modified
 
@@ -54,8 +54,8 @@ content_placed node None tree = Ok tree
 content_placed node (Some place) tree = changed_unless_fault (order_fault tree node place) (reordering tree node place)
 
 -- the node and all above it are made, and then come removals, moves, copies, values and the node's place
-abbrev pub modified : ModifyOp → PostedNode → ApplyOutcome Content
-modified op at = do
+abbrev pub modify_outcome : ModifyOp → PostedNode → ApplyOutcome Content
+modify_outcome op at = do
   made ← with_way at.node at.content
   less ← in_turn (delete_at at.node) op.deletes made
   moved ← in_turn (carry_at true at.node) op.moves less
@@ -64,36 +64,36 @@ modified op at = do
   content_placed at.node op.place valued
 
 -- the modified node, with its report
-abbrev pub modify_at : ModifyOp → PostedNode → ApplyOutcome Posted
-modify_at op at = modified op at >>= λ after. Ok (reported (is_none (node_at at.content at.node)) at.node after)
+abbrev pub modify_at : ModifyOp → PostedNode → ApplyOutcome PostEffect
+modify_at op at = modify_outcome op at >>= λ after. Ok (posted_with_report (is_none (node_at at.content at.node)) at.node after)
 
 -- a change of the target or of a new node below it
-abbrev pub modify : ModifyOp → Content → ApplyOutcome Posted
+abbrev pub modify : ModifyOp → Content → ApplyOutcome PostEffect
 modify op tree = posted_node_of op.target op.fresh tree >>= modify_at op
 
 -- ---- the operations
 
 -- the target, taken away
-abbrev pub remove : List (List ℕ) → Content → ApplyOutcome Posted
-remove path tree = removed tree path >>= λ after. Ok (reported false path after)
+abbrev pub remove : List (List ℕ) → Content → ApplyOutcome PostEffect
+remove path tree = removal_outcome tree path >>= λ after. Ok (posted_with_report false path after)
 
 -- a copy, or a move
-abbrev pub carry : Bool → CarryOp → Content → ApplyOutcome Posted
-carry moves op tree = carry_node moves op.replace op.from op.to tree >>= λ after. Ok (reported (is_none (node_at tree op.to)) op.to after)
+abbrev pub carry : Bool → CarryOp → Content → ApplyOutcome PostEffect
+carry moves op tree = carry_node moves op.replace op.from op.to tree >>= λ after. Ok (posted_with_report (is_none (node_at tree op.to)) op.to after)
 
 -- what a POST gives, or the first cause for which it is refused
-abbrev pub posted : Op → Content → ApplyOutcome Posted
-posted (Nop path) tree = Ok (reported false path tree)
-posted (Delete path) tree = remove path tree
-posted (Copy op) tree = carry false op tree
-posted (Move op) tree = carry true op tree
-posted (Modify op) tree = modify op tree
+abbrev pub post_outcome : Op → Content → ApplyOutcome PostEffect
+post_outcome (Nop path) tree = Ok (posted_with_report false path tree)
+post_outcome (Delete path) tree = remove path tree
+post_outcome (Copy op) tree = carry false op tree
+post_outcome (Move op) tree = carry true op tree
+post_outcome (Modify op) tree = modify op tree
 
 -- the content after a POST: as before where it is refused
-abbrev pub content_after_post : Content → ApplyOutcome Posted → Content
+abbrev pub content_after_post : Content → ApplyOutcome PostEffect → Content
 content_after_post tree (Ok done) = done.content
 content_after_post tree (Err fault) = tree
 
 -- the same for an operation
 abbrev pub content_after : Op → Content → Content
-content_after op tree = content_after_post tree (posted op tree)
+content_after op tree = content_after_post tree (post_outcome op tree)

@@ -32,12 +32,12 @@ changed_unless_fault (Some fault) changed = Err (Tree fault)
 -- ---- nodes that are made
 
 -- a new node, without properties and kids
-abbrev pub made : Content → List (List ℕ) → ApplyOutcome Content
-made tree path = changed_unless_fault (create_fault tree path) (creation tree path empty_node)
+abbrev pub creation_outcome : Content → List (List ℕ) → ApplyOutcome Content
+creation_outcome tree path = changed_unless_fault (create_fault tree path) (creation tree path empty_node)
 
 -- a node at the path, new where none is there
 abbrev pub with_node : Content → List (List ℕ) → ApplyOutcome Content
-with_node tree path = if is_some (node_at tree path) then Ok tree else made tree path
+with_node tree path = if is_some (node_at tree path) then Ok tree else creation_outcome tree path
 
 -- the nodes to which names lead from a path, one below the other, new where they aren't there
 unfoldable pub with_nodes_below : List (List ℕ) → List (List ℕ) → Content → ApplyOutcome Content

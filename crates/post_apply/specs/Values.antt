@@ -13,14 +13,14 @@ use Rattle.post_apply.specs.declared.fault.ApplyFault.TheVariants.{Tree, Value a
 use Rattle.post_apply.specs.Steps.{ApplyOutcome, ◌>>=◌, path_of_spot, changed_unless_fault, with_way}
 
 -- without a hint one word is a text, and more are a list of texts
-abbrev pub untyped : List (List ℕ) → Value
-untyped [] = Texts []
-untyped (word ∷ []) = Text word
-untyped (word ∷ next ∷ more) = Texts (word ∷ next ∷ more)
+abbrev pub untyped_value : List (List ℕ) → Value
+untyped_value [] = Texts []
+untyped_value (word ∷ []) = Text word
+untyped_value (word ∷ next ∷ more) = Texts (word ∷ next ∷ more)
 
 -- the value that words have with a hint or without one
 abbrev pub hinted_value : Option Hint → List (List ℕ) → Result Value ValueFault
-hinted_value None words = Ok (untyped words)
+hinted_value None words = Ok (untyped_value words)
 hinted_value (Some hint) words = typed_of hint words
 
 -- a fault is told with the property's name

@@ -54,8 +54,8 @@ fn check(
 // Takes a node at the goal away, where one is there.
 fn give_way(alloc: Global, draft: &mut Draft, to: &Path) -> Result<(), ApplyFault>
     requires { IsSound draft.old }
-    ensures ok { OnOk result (spec.given_way draft.old.content to.now ≡ Ok draft.new.content) }
-    ensures err { IfErr result (λ e. e ≢ ApplyFault.NoMemory → spec.given_way draft.old.content to.now ≡ Err e) }
+    ensures ok { OnOk result (spec.outcome_without_goal draft.old.content to.now ≡ Ok draft.new.content) }
+    ensures err { IfErr result (λ e. e ≢ ApplyFault.NoMemory → spec.outcome_without_goal draft.old.content to.now ≡ Err e) }
     ensures follows { OnOk result (DraftFollows draft.old draft.new) }
 {
     if draft.node(to).is_none() {
@@ -73,8 +73,8 @@ fn carried(
     to: &Path,
 ) -> Result<(), ApplyFault>
     requires { IsSound draft.old }
-    ensures ok { OnOk result (spec.carried moves from.now to.now draft.old.content ≡ Ok draft.new.content) }
-    ensures err { IfErr result (λ e. e ≢ ApplyFault.NoMemory → spec.carried moves from.now to.now draft.old.content ≡ Err e) }
+    ensures ok { OnOk result (spec.carry_outcome moves from.now to.now draft.old.content ≡ Ok draft.new.content) }
+    ensures err { IfErr result (λ e. e ≢ ApplyFault.NoMemory → spec.carry_outcome moves from.now to.now draft.old.content ≡ Err e) }
     ensures follows { OnOk result (DraftFollows draft.old draft.new) }
 {
     if moves {
@@ -93,8 +93,8 @@ fn replace(
     to: &Path,
 ) -> Result<(), ApplyFault>
     requires { IsSound draft.old }
-    ensures ok { OnOk result (spec.replacing moves from.now to.now draft.old.content ≡ Ok draft.new.content) }
-    ensures err { IfErr result (λ e. e ≢ ApplyFault.NoMemory → spec.replacing moves from.now to.now draft.old.content ≡ Err e) }
+    ensures ok { OnOk result (spec.replacement_outcome moves from.now to.now draft.old.content ≡ Ok draft.new.content) }
+    ensures err { IfErr result (λ e. e ≢ ApplyFault.NoMemory → spec.replacement_outcome moves from.now to.now draft.old.content ≡ Err e) }
     ensures follows { OnOk result (DraftFollows draft.old draft.new) }
 {
     give_way(alloc, draft, to)?;

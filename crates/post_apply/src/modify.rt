@@ -54,8 +54,8 @@ fn new_posted_node(
 // Makes the node and all above it, and then removes, moves, copies, sets and orders.
 fn modified(alloc: Global, draft: &mut Draft, op: &ModifyOp, node: &Path) -> Result<(), ApplyFault>
     requires { IsSound draft.old }
-    ensures ok { OnOk result (spec.modified op.now (spec.posted_node draft.old.content node.now) ≡ Ok draft.new.content) }
-    ensures err { IfErr result (λ e. e ≢ ApplyFault.NoMemory → spec.modified op.now (spec.posted_node draft.old.content node.now) ≡ Err e) }
+    ensures ok { OnOk result (spec.modify_outcome op.now (spec.posted_node draft.old.content node.now) ≡ Ok draft.new.content) }
+    ensures err { IfErr result (λ e. e ≢ ApplyFault.NoMemory → spec.modify_outcome op.now (spec.posted_node draft.old.content node.now) ≡ Err e) }
     ensures follows { OnOk result (DraftFollows draft.old draft.new) }
 {
     make_way(alloc, draft, node)?;

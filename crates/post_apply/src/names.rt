@@ -27,7 +27,7 @@ fn is_taken(alloc: Global, draft: &Draft, parent: &Path, name: &str) -> Mem<bool
 }
 
 fn numbered(alloc: Global, name: &str, n: usize) -> Mem<TextBuf>
-    ensures { IfOk result (λ t. t ≡ spec.numbered name.now n) }
+    ensures { IfOk result (λ t. t ≡ spec.numbered_name name.now n) }
 {
     Ok(TextBuf::from(format!(in alloc; "{name}_{n}")?))
 }
@@ -44,7 +44,7 @@ fn first_free(
 ) -> Mem<TextBuf>
     requires sound { IsSound draft.now }
     requires marks { MarksTaken draft.now.content parent.now name.now marks.now }
-    ensures { IfOk result (λ t. t ≡ spec.numbered name.now (spec.free_number draft.now.content parent.now name.now 0 most)) }
+    ensures { IfOk result (λ t. t ≡ spec.numbered_name name.now (spec.free_number draft.now.content parent.now name.now 0 most)) }
 {
     for n in 0..most {
         if is_marked(marks, n) {
@@ -61,7 +61,7 @@ fn first_free(
 // A name with the least number with which it isn't taken: at most as many as the parent has kids and properties.
 fn free_numbered(alloc: Global, draft: &Draft, parent: &Path, name: &str) -> Mem<TextBuf>
     requires { IsSound draft.now }
-    ensures { IfOk result (λ t. t ≡ spec.numbered name.now (spec.free_number draft.now.content parent.now name.now 0 (spec.most_taken draft.now.content parent.now))) }
+    ensures { IfOk result (λ t. t ≡ spec.numbered_name name.now (spec.free_number draft.now.content parent.now name.now 0 (spec.most_taken draft.now.content parent.now))) }
 {
     let Some(node) = draft.node(parent) else {
         return numbered(alloc, name, 0);

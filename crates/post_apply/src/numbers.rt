@@ -34,7 +34,7 @@ fn after_name<'a>(name: &str, made: &'a str) -> Option<&'a str>
 
 // The number with which a name was made of another.
 fn number_in(name: &str, made: &str) -> Option<usize>
-    ensures { IfSome result (λ n. made.now ≡ spec.numbered name.now n) }
+    ensures { IfSome result (λ n. made.now ≡ spec.numbered_name name.now n) }
 {
     number_of(after_name(name, made)?)
 }

@@ -43,8 +43,8 @@ fn delete(alloc: Global, draft: &mut Draft, path: &Path) -> Result<PostReport, A
 
 fn post(alloc: Global, draft: &mut Draft, op: &Op) -> Result<PostReport, ApplyFault>
     requires { IsSound draft.old }
-    ensures ok { IfOk result (λ report. spec.posted op.now draft.old.content ≡ Ok (record { content = draft.new.content; report = report })) }
-    ensures err { IfErr result (λ e. e ≢ ApplyFault.NoMemory → spec.posted op.now draft.old.content ≡ Err e) }
+    ensures ok { IfOk result (λ report. spec.post_outcome op.now draft.old.content ≡ Ok (record { content = draft.new.content; report = report })) }
+    ensures err { IfErr result (λ e. e ≢ ApplyFault.NoMemory → spec.post_outcome op.now draft.old.content ≡ Err e) }
     ensures follows { OnOk result (DraftFollows draft.old draft.new) }
 {
     match op {
@@ -58,8 +58,8 @@ fn post(alloc: Global, draft: &mut Draft, op: &Op) -> Result<PostReport, ApplyFa
 
 /// What an operation puts over a tree, which stays as it is, or the first cause for which it is refused. It costs what it changes.
 pub fn patch_of(alloc: Global, tree: &Tree, op: &Op) -> Result<Planned, ApplyFault>
-    ensures ok { IfOk result (λ p. spec.posted op.now tree.now ≡ Ok (record { content = patching tree.now p.patch; report = p.report })) }
-    ensures err { IfErr result (λ e. e ≢ ApplyFault.NoMemory → spec.posted op.now tree.now ≡ Err e) }
+    ensures ok { IfOk result (λ p. spec.post_outcome op.now tree.now ≡ Ok (record { content = patching tree.now p.patch; report = p.report })) }
+    ensures err { IfErr result (λ e. e ≢ ApplyFault.NoMemory → spec.post_outcome op.now tree.now ≡ Err e) }
     ensures good { IfOk result (λ p. IsGood (patching tree.now p.patch)) }
 {
     let mut draft = Draft::new(alloc, tree);
@@ -70,8 +70,8 @@ pub fn patch_of(alloc: Global, tree: &Tree, op: &Op) -> Result<Planned, ApplyFau
 
 /// Does an operation on a tree, all of it or nothing.
 pub fn apply(alloc: Global, tree: &mut Tree, op: &Op) -> Result<PostReport, ApplyFault>
-    ensures ok { IfOk result (λ report. spec.posted op.now tree.old ≡ Ok (record { content = tree.new; report = report })) }
-    ensures err { IfErr result (λ e. e ≢ ApplyFault.NoMemory → spec.posted op.now tree.old ≡ Err e) }
+    ensures ok { IfOk result (λ report. spec.post_outcome op.now tree.old ≡ Ok (record { content = tree.new; report = report })) }
+    ensures err { IfErr result (λ e. e ≢ ApplyFault.NoMemory → spec.post_outcome op.now tree.old ≡ Err e) }
     ensures unchanged { OnErr result (tree.new ≡ tree.old) }
 {
     let Planned { patch, report } = patch_of(alloc, tree, op)?;

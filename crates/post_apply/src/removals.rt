@@ -44,8 +44,8 @@ pub fn clear(alloc: Global, draft: &mut Draft, path: &Path) -> Result<(), ApplyF
 // Takes the node or the property at a path away, where one is there.
 fn delete(alloc: Global, draft: &mut Draft, path: &Path) -> Result<(), ApplyFault>
     requires { IsSound draft.old }
-    ensures ok { OnOk result (spec.deleted draft.old.content path.now ≡ Ok draft.new.content) }
-    ensures err { IfErr result (λ e. e ≢ ApplyFault.NoMemory → spec.deleted draft.old.content path.now ≡ Err e) }
+    ensures ok { OnOk result (spec.deletion_outcome draft.old.content path.now ≡ Ok draft.new.content) }
+    ensures err { IfErr result (λ e. e ≢ ApplyFault.NoMemory → spec.deletion_outcome draft.old.content path.now ≡ Err e) }
     ensures follows { OnOk result (DraftFollows draft.old draft.new) }
 {
     if draft.node(path).is_some() {

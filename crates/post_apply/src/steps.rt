@@ -4,8 +4,8 @@ ghost use Rattle.sp_base.specs.Paths.{seg_ok};
 ghost use Rattle.tree_draft.specs.Drafts.{DraftFollows, IsSound};
 ghost use Rattle.resource_tree.specs.Changes.{order_fault, reordering, set_fault, update};
 ghost use Rattle.post_apply.specs.Steps as step;
-ghost use Rattle.post_apply.specs.Removals.{removed};
-ghost use Rattle.post_apply.specs.Carries.{carried};
+ghost use Rattle.post_apply.specs.Removals.{removal_outcome};
+ghost use Rattle.post_apply.specs.Carries.{carry_outcome};
 ghost use Rattle.post_apply.specs.Posting.{content_placed};
 
 use crate::ApplyFault;
@@ -17,8 +17,8 @@ use tree_draft::Draft;
 /// Makes a node without properties and kids.
 pub fn make(alloc: Global, draft: &mut Draft, path: &Path) -> Result<(), ApplyFault>
     requires { IsSound draft.old }
-    ensures ok { OnOk result (step.made draft.old.content path.now ≡ Ok draft.new.content) }
-    ensures err { IfErr result (λ e. e ≢ ApplyFault.NoMemory → step.made draft.old.content path.now ≡ Err e) }
+    ensures ok { OnOk result (step.creation_outcome draft.old.content path.now ≡ Ok draft.new.content) }
+    ensures err { IfErr result (λ e. e ≢ ApplyFault.NoMemory → step.creation_outcome draft.old.content path.now ≡ Err e) }
     ensures follows { OnOk result (DraftFollows draft.old draft.new) }
 {
     draft.create(alloc, path)?;
@@ -28,8 +28,8 @@ pub fn make(alloc: Global, draft: &mut Draft, path: &Path) -> Result<(), ApplyFa
 /// Removes a node and all below it.
 pub fn remove(alloc: Global, draft: &mut Draft, path: &Path) -> Result<(), ApplyFault>
     requires { IsSound draft.old }
-    ensures ok { OnOk result (removed draft.old.content path.now ≡ Ok draft.new.content) }
-    ensures err { IfErr result (λ e. e ≢ ApplyFault.NoMemory → removed draft.old.content path.now ≡ Err e) }
+    ensures ok { OnOk result (removal_outcome draft.old.content path.now ≡ Ok draft.new.content) }
+    ensures err { IfErr result (λ e. e ≢ ApplyFault.NoMemory → removal_outcome draft.old.content path.now ≡ Err e) }
     ensures follows { OnOk result (DraftFollows draft.old draft.new) }
 {
     draft.remove(alloc, path)?;
@@ -67,8 +67,8 @@ pub fn place(
 /// Copies a node and all below it.
 pub fn copy(alloc: Global, draft: &mut Draft, from: &Path, to: &Path) -> Result<(), ApplyFault>
     requires { IsSound draft.old }
-    ensures ok { OnOk result (carried false from.now to.now draft.old.content ≡ Ok draft.new.content) }
-    ensures err { IfErr result (λ e. e ≢ ApplyFault.NoMemory → carried false from.now to.now draft.old.content ≡ Err e) }
+    ensures ok { OnOk result (carry_outcome false from.now to.now draft.old.content ≡ Ok draft.new.content) }
+    ensures err { IfErr result (λ e. e ≢ ApplyFault.NoMemory → carry_outcome false from.now to.now draft.old.content ≡ Err e) }
     ensures follows { OnOk result (DraftFollows draft.old draft.new) }
 {
     draft.copy_to(alloc, from, to)?;
@@ -78,8 +78,8 @@ pub fn copy(alloc: Global, draft: &mut Draft, from: &Path, to: &Path) -> Result<
 /// Moves a node and all below it.
 pub fn relocate(alloc: Global, draft: &mut Draft, from: &Path, to: &Path) -> Result<(), ApplyFault>
     requires { IsSound draft.old }
-    ensures ok { OnOk result (carried true from.now to.now draft.old.content ≡ Ok draft.new.content) }
-    ensures err { IfErr result (λ e. e ≢ ApplyFault.NoMemory → carried true from.now to.now draft.old.content ≡ Err e) }
+    ensures ok { OnOk result (carry_outcome true from.now to.now draft.old.content ≡ Ok draft.new.content) }
+    ensures err { IfErr result (λ e. e ≢ ApplyFault.NoMemory → carry_outcome true from.now to.now draft.old.content ≡ Err e) }
     ensures follows { OnOk result (DraftFollows draft.old draft.new) }
 {
     draft.move_to(alloc, from, to)?;

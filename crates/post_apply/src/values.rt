@@ -11,14 +11,14 @@ use crate::ApplyFault;
 use crate::spots::path_of_spot;
 use crate::steps::set;
 use crate::way::make_way;
-use post_plan::{PropSet, WordList};
+use post_plan::{LentWords, PropSet};
 use resource_tree::TreeFault;
 use sp_base::{Hint, HintKind, Mem, Path, TextBuf, Value, ValueFault};
 use std::alloc::Global;
 use tree_draft::Draft;
 
-fn untyped(alloc: Global, words: &WordList) -> Mem<Value>
-    ensures { IfOk result (λ v. v ≡ spec.untyped words.now) }
+fn untyped(alloc: Global, words: &LentWords) -> Mem<Value>
+    ensures { IfOk result (λ v. v ≡ spec.untyped_value words.now) }
 {
     match words.lone() {
         Some(word) => Ok(Value::Text(TextBuf::of(alloc, word)?)),
@@ -27,7 +27,7 @@ fn untyped(alloc: Global, words: &WordList) -> Mem<Value>
 }
 
 // The value of words by a hint. Words that stay texts are copied once.
-fn hinted(alloc: Global, hint: Hint, words: &WordList) -> Result<Value, ValueFault>
+fn hinted(alloc: Global, hint: Hint, words: &LentWords) -> Result<Value, ValueFault>
     ensures ok { IfOk result (λ v. typed_of hint words.now ≡ Ok v) }
     ensures err { IfErr result (λ e. e ≢ ValueFault.NoMemory → typed_of hint words.now ≡ Err e) }
 {
@@ -39,7 +39,7 @@ fn hinted(alloc: Global, hint: Hint, words: &WordList) -> Result<Value, ValueFau
 }
 
 // The value of one word.
-fn one_text(alloc: Global, words: &WordList) -> Result<Value, ValueFault>
+fn one_text(alloc: Global, words: &LentWords) -> Result<Value, ValueFault>
     ensures ok { IfOk result (λ v. single_of HintKind.Text words.now ≡ Ok v) }
     ensures err { IfErr result (λ e. e ≢ ValueFault.NoMemory → single_of HintKind.Text words.now ≡ Err e) }
 {
@@ -49,7 +49,7 @@ fn one_text(alloc: Global, words: &WordList) -> Result<Value, ValueFault>
     }
 }
 
-fn value_of(alloc: Global, hint: Option<Hint>, words: &WordList) -> Result<Value, ValueFault>
+fn value_of(alloc: Global, hint: Option<Hint>, words: &LentWords) -> Result<Value, ValueFault>
     ensures ok { IfOk result (λ v. spec.hinted_value hint words.now ≡ Ok v) }
     ensures err { IfErr result (λ e. e ≢ ValueFault.NoMemory → spec.hinted_value hint words.now ≡ Err e) }
 {
@@ -64,7 +64,7 @@ fn named_value(
     alloc: Global,
     name: &str,
     hint: Option<Hint>,
-    words: &WordList,
+    words: &LentWords,
 ) -> Result<Value, ApplyFault>
     ensures ok { IfOk result (λ v. spec.named_outcome name.now (spec.hinted_value hint words.now) ≡ Ok v) }
     ensures err { IfErr result (λ e. e ≢ ApplyFault.NoMemory → spec.named_outcome name.now (spec.hinted_value hint words.now) ≡ Err e) }

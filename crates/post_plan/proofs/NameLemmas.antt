@@ -4,44 +4,44 @@ use Rattle.std.proofs.Math.Seq.{take-append_seam}
 use Rattle.std.proofs.lemmas.List.{append-nil, take_all, take_rest}
 use Rattle.std.proofs.lemmas.Bool.Decides.{nat_tests}
 use Rattle.std.specs.Char.{is_ascii_alphanumeric, to_ascii_lowercase}
-use Rattle.post_plan.specs.NewNames.{squeezed}
+use Rattle.post_plan.specs.NewNames.{name_bytes}
 
 -- the name of a word's first bytes, and the rest of them
 pub record IsSqueezed (word name : List ℕ) (run : Bool) (rest : List ℕ) : Type 0 where
-  pub same : squeezed false word ≡ name ++ squeezed run rest
+  pub same : name_bytes false word ≡ name ++ name_bytes run rest
   pub few : length name ≤ 20
 
 pub letter : (word name more : List ℕ) (run : Bool) (b : ℕ) (rest : List ℕ) → IsSqueezed word name run (b ∷ rest) → is_ascii_alphanumeric b ≡ true → (length name ≡ 20 → ⊥) → more ≡ name ++ to_ascii_lowercase b ∷ [] → IsSqueezed word more false rest
-unfolding squeezed
+unfolding name_bytes
 letter word name more run b rest inv is other em =
     let few = inv.few in
-    let here : squeezed run (b ∷ rest) ≡ to_ascii_lowercase b ∷ squeezed false rest = rw is refl in
+    let here : name_bytes run (b ∷ rest) ≡ to_ascii_lowercase b ∷ name_bytes false rest = rw is refl in
     record {
-      same = rw em (inv.same ∙ ap (λ (t : List ℕ). name ++ t) here ∙ sym (append_assoc name (to_ascii_lowercase b ∷ []) (squeezed false rest)));
+      same = rw em (inv.same ∙ ap (λ (t : List ℕ). name ++ t) here ∙ sym (append_assoc name (to_ascii_lowercase b ∷ []) (name_bytes false rest)));
       few = rw em (rw length-append (omega (arith, few, other)));
     }
 
 pub begins_run : (word name more : List ℕ) (b : ℕ) (rest : List ℕ) → IsSqueezed word name false (b ∷ rest) → is_ascii_alphanumeric b ≡ false → (length name ≡ 20 → ⊥) → more ≡ name ++ 95 ∷ [] → IsSqueezed word more true rest
-unfolding squeezed
+unfolding name_bytes
 begins_run word name more b rest inv is other em =
     let few = inv.few in
-    let here : squeezed false (b ∷ rest) ≡ 95 ∷ squeezed true rest = rw is refl in
+    let here : name_bytes false (b ∷ rest) ≡ 95 ∷ name_bytes true rest = rw is refl in
     record {
-      same = rw em (inv.same ∙ ap (λ (t : List ℕ). name ++ t) here ∙ sym (append_assoc name (95 ∷ []) (squeezed true rest)));
+      same = rw em (inv.same ∙ ap (λ (t : List ℕ). name ++ t) here ∙ sym (append_assoc name (95 ∷ []) (name_bytes true rest)));
       few = rw em (rw length-append (omega (arith, few, other)));
     }
 
 pub goes_on_run : (word name : List ℕ) (b : ℕ) (rest : List ℕ) → IsSqueezed word name true (b ∷ rest) → is_ascii_alphanumeric b ≡ false → IsSqueezed word name true rest
-unfolding squeezed
+unfolding name_bytes
 goes_on_run word name b rest inv is =
-    let here : squeezed true (b ∷ rest) ≡ squeezed true rest = rw is refl in
+    let here : name_bytes true (b ∷ rest) ≡ name_bytes true rest = rw is refl in
     record { same = inv.same ∙ ap (λ (t : List ℕ). name ++ t) here; few = inv.few }
 
-pub full : (word name : List ℕ) (run : Bool) (rest : List ℕ) → IsSqueezed word name run rest → length name ≡ 20 → name ≡ take 20 (squeezed false word)
-full word name run rest inv n = sym (ap (take 20) inv.same ∙ rw (← n) (take-append_seam name (squeezed run rest)))
+pub full : (word name : List ℕ) (run : Bool) (rest : List ℕ) → IsSqueezed word name run rest → length name ≡ 20 → name ≡ take 20 (name_bytes false word)
+full word name run rest inv n = sym (ap (take 20) inv.same ∙ rw (← n) (take-append_seam name (name_bytes run rest)))
 
-pub ended : (word name : List ℕ) (run : Bool) → IsSqueezed word name run [] → name ≡ take 20 (squeezed false word)
-unfolding squeezed
+pub ended : (word name : List ℕ) (run : Bool) → IsSqueezed word name run [] → name ≡ take 20 (name_bytes false word)
+unfolding name_bytes
 ended word name run inv =
     let few = inv.few in
     sym (ap (take 20) (inv.same ∙ append-nil name) ∙ take_all 20 name few)
@@ -63,7 +63,7 @@ goes_on_at word name run [] some inv is running = absurd (omega (arith, some))
 goes_on_at word name true (b ∷ t) some inv is running = rw take_rest (goes_on_run word name b t inv is)
 goes_on_at word name false (b ∷ t) some inv is running = absurd cc
 
-pub ended_at : (word name : List ℕ) (run : Bool) (rest : List ℕ) → length rest < 1 → IsSqueezed word name run rest → name ≡ take 20 (squeezed false word)
+pub ended_at : (word name : List ℕ) (run : Bool) (rest : List ℕ) → length rest < 1 → IsSqueezed word name run rest → name ≡ take 20 (name_bytes false word)
 ended_at word name run [] none inv = ended word name run inv
 ended_at word name run (b ∷ t) none inv = absurd (omega (arith, none))
 

@@ -18,7 +18,7 @@ use Rattle.post_plan.specs.declared.verb.Verb.TheVariants.{Modify, Delete, Copy,
 use Rattle.post_plan.specs.Parameters.{any_marked, content_where, path_text, parameter_suffix}
 use Rattle.post_plan.specs.RelativePaths.{RelativePath, relative_path_of}
 use Rattle.post_plan.specs.Spots.{any_spot, full_path, goal_at, goal_base, goal_of, goes_under, ends_in_name, if_changeable, is_absolute, is_reserved, led_to, ok_path, own_name, relative_spot, spot_below, spot_of, spot_there, unless_reserved, word_without_slash}
-use Rattle.post_plan.specs.Entries.{Entry, carries, carry_by, carry_of as entry_carry, deleted_spots, distinct, entries, entry_by, entry_of, hint_at, same_spot, same_suffix, set_by, set_of, set_words, sets, with_suffix}
+use Rattle.post_plan.specs.Entries.{Entry, carries, carry_by, carry_of as entry_carry, deleted_spots, distinct, entries, entry_by, parameter_entry, hint_at, same_spot, same_suffix, set_by, set_of, set_words, sets, with_suffix}
 use Rattle.post_plan.specs.Plan.{carry_operation, dest_word, faults, first_plan_fault, relative_node, operation_by, plan_of, operation_unless_fault, verb_of}
 use Rattle.post_plan.specs.OperationPaths.{AsksForPaths, carry_has_paths, ends_are_paths, names_paths, set_has_path, spot_has_path}
 
@@ -148,7 +148,7 @@ module _ (valid : (text : List ℕ) (path : List (List ℕ)) → path_of text �
   abbrev entry_has_path : Entry → Bool
   entry_has_path e = spot_has_path e.spot
 
-  entry_has : (node : List (List ℕ)) (p : List ℕ × List ℕ) → IfSome (entry_of node p) (λ (e : Entry). entry_has_path e ≡ true)
+  entry_has : (node : List (List ℕ)) (p : List ℕ × List ℕ) → IfSome (parameter_entry node p) (λ (e : Entry). entry_has_path e ≡ true)
   entry_has node p = go (spot_of node (path_text p.0)) (spot_has node (path_text p.0)) (parameter_suffix p.0)
     where
       go : (o : Option Spot) → HasPathIf o → (s : Option Suffix) → IfSome (entry_by o s p.1) (λ (e : Entry). entry_has_path e ≡ true)
@@ -158,7 +158,7 @@ module _ (valid : (text : List ℕ) (path : List (List ℕ)) → path_of text �
 
   entries_have : (node : List (List ℕ)) (pairs : List (List ℕ × List ℕ)) → list_all entry_has_path (entries node pairs) ≡ true
   entries_have node pairs =
-      all_picked (λ _. true) entry_has_path (entry_of node) (λ p _. entry_has node p) (content_where (any_marked pairs) pairs) (all_true (content_where (any_marked pairs) pairs))
+      all_picked (λ _. true) entry_has_path (parameter_entry node) (λ p _. entry_has node p) (content_where (any_marked pairs) pairs) (all_true (content_where (any_marked pairs) pairs))
 
   deletes_have : (es : List Entry) → list_all entry_has_path es ≡ true → list_all spot_has_path (deleted_spots es) ≡ true
   deletes_have es all = all_mapped (λ (e : Entry). e.spot) spot_has_path (with_suffix DeleteSuffix es) (all_kept entry_has_path (λ e. same_suffix DeleteSuffix e.suffix) es all)

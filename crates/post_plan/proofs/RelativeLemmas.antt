@@ -4,7 +4,7 @@ use Rattle.std.specs.Prelude.{option_and_then}
 use Rattle.std.specs.Str.{bytes_eq}
 use Rattle.std.proofs.lemmas.List.{length-map, take-map}
 use Rattle.sp_base.specs.Paths.{seg_ok, pieces}
-use Rattle.post_plan.specs.RelativePaths.{RelativePath, climbed, relative_path_step, relative_path_from}
+use Rattle.post_plan.specs.RelativePaths.{RelativePath, relative_parent, relative_path_step, relative_path_from}
 
 and_right : (x y : Bool) → x && y ≡ true → y ≡ true
 and_right true y h = h
@@ -27,7 +27,7 @@ lent names = map (λ (n : Bor (List ℕ)). n.now) names
 
 -- `..` after a segment takes it back
 pub climbs_back : (up : ℕ) (names rest : List (Bor (List ℕ))) → (length names == 0) ≡ false → rest ≡ take (length names - 1) names
-    → record { up = up; down = map (λ (n : Bor (List ℕ)). n.now) rest } ≡ climbed (record { up = up; down = map (λ (n : Bor (List ℕ)). n.now) names })
+    → record { up = up; down = map (λ (n : Bor (List ℕ)). n.now) rest } ≡ relative_parent (record { up = up; down = map (λ (n : Bor (List ℕ)). n.now) names })
 climbs_back up names rest some is =
     let len : length (lent names) ≡ length names = length-map names (λ (n : Bor (List ℕ)). n.now) in
     let less : lent rest ≡ take (length names - 1) (lent names) = ap lent is ∙ sym (take-map (λ (n : Bor (List ℕ)). n.now) (length names - 1) names) in
@@ -35,7 +35,7 @@ climbs_back up names rest some is =
     ap (λ (d : List (List ℕ)). (let r : RelativePath = record { up = up; down = d } in r)) (less ∙ ap (λ (n : ℕ). take (n - 1) (lent names)) (sym len)) in
     back ∙ sym (ap (λ (b : Bool). cond {A = RelativePath} b (record { up = up + 1; down = [] }) (record { up = up; down = take (length (lent names) - 1) (lent names) })) (ap (λ (n : ℕ). n == 0) len ∙ some))
 
-climbs : (relative : RelativePath) → (climbed relative).up ≤ relative.up + 1
+climbs : (relative : RelativePath) → (relative_parent relative).up ≤ relative.up + 1
 climbs relative = go (length relative.down == 0)
   where
     go : (b : Bool) → (cond {A = RelativePath} b (record { up = relative.up + 1; down = [] }) (record { up = relative.up; down = take (length relative.down - 1) relative.down })).up ≤ relative.up + 1
@@ -46,9 +46,9 @@ climbs relative = go (length relative.down == 0)
 up_step : (relative next : RelativePath) (piece : List ℕ) → relative_path_step relative piece ≡ Some next → next.up ≤ relative.up + length piece
 up_step relative next piece e = go (bytes_eq piece (codes ".")) (bytes_eq piece (codes "..")) (seg_ok piece) refl e
   where
-    go : (p q r : Bool) → bytes_eq piece (codes "..") ≡ q → cond {A = Option RelativePath} p (Some relative) (cond {A = Option RelativePath} q (Some (climbed relative)) (cond {A = Option RelativePath} r (Some (record { up = relative.up; down = relative.down ++ piece ∷ [] })) None)) ≡ Some next → next.up ≤ relative.up + length piece
+    go : (p q r : Bool) → bytes_eq piece (codes "..") ≡ q → cond {A = Option RelativePath} p (Some relative) (cond {A = Option RelativePath} q (Some (relative_parent relative)) (cond {A = Option RelativePath} r (Some (record { up = relative.up; down = relative.down ++ piece ∷ [] })) None)) ≡ Some next → next.up ≤ relative.up + length piece
     go true q r eq f = let same = ap (λ (w : RelativePath). w.up) (some_is relative next f) in omega (arith, same)
-    go false true r eq f = let same = ap (λ (w : RelativePath). w.up) (some_is (climbed relative) next f) in omega (arith, same, climbs relative, dots_length piece eq)
+    go false true r eq f = let same = ap (λ (w : RelativePath). w.up) (some_is (relative_parent relative) next f) in omega (arith, same, climbs relative, dots_length piece eq)
     go false false true eq f = let same = ap (λ (w : RelativePath). w.up) (some_is (record { up = relative.up; down = relative.down ++ piece ∷ [] }) next f) in omega (arith, same)
     go false false false eq f = absurd cc
 

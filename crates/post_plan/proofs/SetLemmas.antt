@@ -9,26 +9,26 @@ use Rattle.std.proofs.lemmas.Option.{slice_get-get_or}
 use Rattle.std.proofs.lemmas.List.Folds.{list_any-append}
 use Rattle.post_plan.specs.declared.spot.Spot.{Spot}
 use Rattle.post_plan.specs.declared.operation.PropSet.{PropSet}
-use Rattle.post_plan.specs.Entries.{Entry, same_spot, distinct, set_of, sets, set_here, sets_from, is_named}
+use Rattle.post_plan.specs.Entries.{Entry, same_spot, distinct, set_of, sets, set_here, sets_from, is_spot_named}
 
 pub same_path : (s t : List (List ℕ)) → eq_by_cmp (slice_cmp (slice_cmp nat_cmp)) s t ≡ pointwise bytes_eq s t
 same_path s t = sym (lists_ties (slice_cmp nat_cmp) texts_ties s t)
 
 -- whether no entry names the spot
 abbrev fresh : List Entry → Spot → Bool
-fresh es spot = not (is_named spot es)
+fresh es spot = not (is_spot_named spot es)
 
 or_false : (b : Bool) → b || false ≡ b
 or_false true = refl
 or_false false = refl
 
-named_push : (before : List Entry) (e : Entry) (spot : Spot) → is_named spot (before ++ e ∷ []) ≡ is_named spot before || same_spot e.spot spot
-named_push before e spot = list_any-append (λ f. same_spot f.spot spot) before (e ∷ []) ∙ ap (λ (b : Bool). is_named spot before || b) (or_false (same_spot e.spot spot))
+named_push : (before : List Entry) (e : Entry) (spot : Spot) → is_spot_named spot (before ++ e ∷ []) ≡ is_spot_named spot before || same_spot e.spot spot
+named_push before e spot = list_any-append (λ f. same_spot f.spot spot) before (e ∷ []) ∙ ap (λ (b : Bool). is_spot_named spot before || b) (or_false (same_spot e.spot spot))
 
 -- those that neither an entry of a list nor one more names
 fresh_push : (before : List Entry) (e : Entry) (spots : List Spot) → filter (fresh (before ++ e ∷ [])) spots ≡ filter (fresh before) (filter (λ t. not (same_spot e.spot t)) spots)
 fresh_push before e [] = refl
-fresh_push before e (t ∷ spots) = ap (λ (b : Bool). cond (not b) (t ∷ all) all) (named_push before e t) ∙ go (is_named t before) (same_spot e.spot t) refl refl (fresh_push before e spots)
+fresh_push before e (t ∷ spots) = ap (λ (b : Bool). cond (not b) (t ∷ all) all) (named_push before e t) ∙ go (is_spot_named t before) (same_spot e.spot t) refl refl (fresh_push before e spots)
   where
     all : List Spot
     all = filter (fresh (before ++ e ∷ [])) spots
@@ -39,7 +39,7 @@ fresh_push before e (t ∷ spots) = ap (λ (b : Bool). cond (not b) (t ∷ all) 
     kept : Bool → List Spot
     kept b = cond (not b) (t ∷ filter (fresh before) others) (filter (fresh before) others)
 
-    go : (n s : Bool) → is_named t before ≡ n → same_spot e.spot t ≡ s → all ≡ filter (fresh before) others → cond (not (n || s)) (t ∷ all) all ≡ filter (fresh before) (cond (not s) (t ∷ others) others)
+    go : (n s : Bool) → is_spot_named t before ≡ n → same_spot e.spot t ≡ s → all ≡ filter (fresh before) others → cond (not (n || s)) (t ∷ all) all ≡ filter (fresh before) (cond (not s) (t ∷ others) others)
     go true true en es ih = ih
     go true false en es ih = ih ∙ ap kept (sym en)
     go false true en es ih = ih
@@ -64,7 +64,7 @@ take_more (f ∷ es) (suc n) e here = ap (λ (l : List Entry). f ∷ l) (take_mo
 from_is : (pairs : List (List ℕ × List ℕ)) (es before later : List Entry) → sets_from pairs es before later ≡ filter_map (set_of pairs es) (filter (fresh before) (distinct (map (λ e. e.spot) later)))
 unfolding sets_from distinct
 from_is pairs es before [] = refl
-from_is pairs es before (e ∷ later) = go (is_named e.spot before) refl (from_is pairs es (before ++ e ∷ []) later ∙ ap (filter_map (set_of pairs es)) (fresh_push before e (distinct (map (λ f. f.spot) later))))
+from_is pairs es before (e ∷ later) = go (is_spot_named e.spot before) refl (from_is pairs es (before ++ e ∷ []) later ∙ ap (filter_map (set_of pairs es)) (fresh_push before e (distinct (map (λ f. f.spot) later))))
   where
     rest : List Spot
     rest = filter (fresh before) (filter (λ t. not (same_spot e.spot t)) (distinct (map (λ f. f.spot) later)))
@@ -72,8 +72,8 @@ from_is pairs es before (e ∷ later) = go (is_named e.spot before) refl (from_i
     kept : Bool → List PropSet
     kept b = filter_map (set_of pairs es) (cond (not b) (e.spot ∷ rest) rest)
 
-    go : (b : Bool) → is_named e.spot before ≡ b → sets_from pairs es (before ++ e ∷ []) later ≡ filter_map (set_of pairs es) rest
-        → cons_option (cond b None (set_of pairs es e.spot)) (sets_from pairs es (before ++ e ∷ []) later) ≡ kept (is_named e.spot before)
+    go : (b : Bool) → is_spot_named e.spot before ≡ b → sets_from pairs es (before ++ e ∷ []) later ≡ filter_map (set_of pairs es) rest
+        → cons_option (cond b None (set_of pairs es e.spot)) (sets_from pairs es (before ++ e ∷ []) later) ≡ kept (is_spot_named e.spot before)
     go true en ih = ih ∙ ap kept (sym en)
     go false en ih = ap (cons_option (set_of pairs es e.spot)) ih ∙ ap kept (sym en)
 

@@ -26,12 +26,12 @@ entry_by (Some spot) None word = None
 entry_by (Some spot) (Some suffix) word = Some (record { spot = spot; suffix = suffix; word = word })
 
 -- the entry of a parameter, seen from a node
-abbrev pub entry_of : List (List ℕ) → List ℕ × List ℕ → Option Entry
-entry_of node p = entry_by (spot_of node (path_text p.0)) (parameter_suffix p.0) p.1
+abbrev pub parameter_entry : List (List ℕ) → List ℕ × List ℕ → Option Entry
+parameter_entry node p = entry_by (spot_of node (path_text p.0)) (parameter_suffix p.0) p.1
 
 -- the entries of the content parameters, where `marked` says whether any name is marked
 abbrev pub entries_where : List (List ℕ) → Bool → List (List ℕ × List ℕ) → List Entry
-entries_where node marked pairs = filter_map (entry_of node) (content_where marked pairs)
+entries_where node marked pairs = filter_map (parameter_entry node) (content_where marked pairs)
 
 -- the content parameters of a form, seen from a node
 abbrev pub entries : List (List ℕ) → List (List ℕ × List ℕ) → List Entry
@@ -98,9 +98,9 @@ first_entry_text [] = None
 first_entry_text (word ∷ more) = Some word
 
 -- its own words, or those of the parameter that `@ValueFrom` names
-abbrev pub given : Option (List ℕ) → List (List ℕ × List ℕ) → List (List ℕ) → List (List ℕ)
-given None pairs own = own
-given (Some name) pairs own = words_of name pairs
+abbrev pub words_or_source : Option (List ℕ) → List (List ℕ × List ℕ) → List (List ℕ) → List (List ℕ)
+words_or_source None pairs own = own
+words_or_source (Some name) pairs own = words_of name pairs
 
 -- whether a word is there and is `true`
 abbrev pub is_word_true : Option (List ℕ) → Bool
@@ -124,15 +124,15 @@ is_one_blank (word ∷ []) = length word == 0
 is_one_blank (word ∷ next ∷ more) = false
 
 -- one empty word that is left gives way to defaults
-abbrev pub defaulted : List (List ℕ) → List (List ℕ) → List (List ℕ)
-defaulted [] words = words
-defaulted (default ∷ more) words = if is_one_blank words then default ∷ more else words
+abbrev pub words_or_defaults : List (List ℕ) → List (List ℕ) → List (List ℕ)
+words_or_defaults [] words = words
+words_or_defaults (default ∷ more) words = if is_one_blank words then default ∷ more else words
 
 -- the words that a spot is set to
 abbrev pub set_words : List (List ℕ × List ℕ) → List Entry → Spot → List (List ℕ)
-set_words pairs es spot = defaulted (words_at spot DefaultValue es)
+set_words pairs es spot = words_or_defaults (words_at spot DefaultValue es)
     (without_blanks (is_word_true (first_entry_text (words_at spot IgnoreBlanks es)))
-    (given (first_entry_text (words_at spot ValueFrom es)) pairs (words_at spot Plain es)))
+    (words_or_source (first_entry_text (words_at spot ValueFrom es)) pairs (words_at spot Plain es)))
 
 -- what sets a spot to words, where there is one at least
 abbrev pub set_by : Spot → Option Hint → List (List ℕ) → Option PropSet
@@ -152,12 +152,12 @@ abbrev pub sets : List (List ℕ × List ℕ) → List Entry → List PropSet
 sets pairs es = filter_map (set_of pairs es) (distinct (map (λ e. e.spot) es))
 
 -- whether any of these names a spot
-abbrev pub is_named : Spot → List Entry → Bool
-is_named spot es = list_any (λ e. same_spot e.spot spot) es
+abbrev pub is_spot_named : Spot → List Entry → Bool
+is_spot_named spot es = list_any (λ e. same_spot e.spot spot) es
 
 -- what a parameter sets, where those before it don't name its spot
 abbrev pub set_here : List (List ℕ × List ℕ) → List Entry → List Entry → Entry → Option PropSet
-set_here pairs es before e = if is_named e.spot before then None else set_of pairs es e.spot
+set_here pairs es before e = if is_spot_named e.spot before then None else set_of pairs es e.spot
 
 -- the properties that later parameters set, where these stand before them
 unfoldable pub sets_from : List (List ℕ × List ℕ) → List Entry → List Entry → List Entry → List PropSet

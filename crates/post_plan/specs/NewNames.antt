@@ -7,10 +7,10 @@ use Rattle.post_plan.specs.declared.operation.NameWish.TheVariants.{Exact, Hint}
 use Rattle.post_plan.specs.Parameters.{first_word, words_of}
 
 -- ASCII letters in lower case and digits; each run of other bytes is one `_`
-unfoldable pub squeezed : Bool → List ℕ → List ℕ
-squeezed run [] = []
-squeezed run (b ∷ text) = if is_ascii_alphanumeric b then to_ascii_lowercase b ∷ squeezed false text
-    else (if run then squeezed true text else 95 ∷ squeezed true text)
+unfoldable pub name_bytes : Bool → List ℕ → List ℕ
+name_bytes run [] = []
+name_bytes run (b ∷ text) = if is_ascii_alphanumeric b then to_ascii_lowercase b ∷ name_bytes false text
+    else (if run then name_bytes true text else 95 ∷ name_bytes true text)
 
 -- the most bytes of a made name
 abbrev pub longest_made : ℕ
@@ -22,7 +22,7 @@ or_node name = if length name == 0 then codes "node" else name
 
 -- the name that is made from a word
 abbrev pub made_name : List ℕ → List ℕ
-made_name word = or_node (take longest_made (squeezed false word))
+made_name word = or_node (take longest_made (name_bytes false word))
 
 -- the parameters whose words a name is made from
 abbrev pub sources : List (List ℕ)
@@ -42,14 +42,14 @@ abbrev pub first_source : List (List ℕ × List ℕ) → List ℕ
 first_source pairs = source_in sources pairs
 
 -- the name made from the hint, where one is given, else from the sources
-abbrev pub hinted : Option (List ℕ) → List (List ℕ × List ℕ) → NameWish
-hinted (Some word) pairs = Hint (made_name word)
-hinted None pairs = Hint (made_name (first_source pairs))
+abbrev pub hinted_wish : Option (List ℕ) → List (List ℕ × List ℕ) → NameWish
+hinted_wish (Some word) pairs = Hint (made_name word)
+hinted_wish None pairs = Hint (made_name (first_source pairs))
 
 -- the name itself, where it is given, else one that is made
 abbrev pub name_wish : Option (List ℕ) → List (List ℕ × List ℕ) → NameWish
 name_wish (Some word) pairs = Exact word
-name_wish None pairs = hinted (first_word (codes ":nameHint") pairs) pairs
+name_wish None pairs = hinted_wish (first_word (codes ":nameHint") pairs) pairs
 
 -- the name of a new node: `:name`, else one made from `:nameHint`, else from the first word, not empty, of the sources
 abbrev pub wish_of : List (List ℕ × List ℕ) → NameWish

@@ -9,13 +9,13 @@ pub record RelativePath : Type 0 where
   pub down : List (List ℕ)
 
 -- `..` takes back the last segment, or goes up
-abbrev pub climbed : RelativePath → RelativePath
-climbed relative = if length relative.down == 0 then record { up = relative.up + 1; down = [] } else record { up = relative.up; down = take (length relative.down - 1) relative.down }
+abbrev pub relative_parent : RelativePath → RelativePath
+relative_parent relative = if length relative.down == 0 then record { up = relative.up + 1; down = [] } else record { up = relative.up; down = take (length relative.down - 1) relative.down }
 
 -- `.` stays, `..` climbs, and a segment leads down
 abbrev pub relative_path_step : RelativePath → List ℕ → Option RelativePath
 relative_path_step relative piece = if bytes_eq piece (codes ".") then Some relative
-    else (if bytes_eq piece (codes "..") then Some (climbed relative)
+    else (if bytes_eq piece (codes "..") then Some (relative_parent relative)
     else (if seg_ok piece then Some (record { up = relative.up; down = relative.down ++ piece ∷ [] }) else None))
 
 -- where pieces lead, one after another

@@ -35,7 +35,7 @@ fn entry_of<'a>(
     name: &str,
     word: &'a str,
 ) -> Mem<Option<Entry<'a>>>
-    ensures { IfOk result (λ o. o ≡ spec.entry_of node.now (name.now, word.now)) }
+    ensures { IfOk result (λ o. o ≡ spec.parameter_entry node.now (name.now, word.now)) }
 {
     let Some(spot) = spot_of(alloc, node, path_text(name))? else {
         return Ok(None);

@@ -1,5 +1,5 @@
 //! The operations.
-use crate::{CarryList, Spot, SpotList, WordList};
+use crate::{CarryList, LentWords, Spot, SpotList};
 use resource_tree::Place;
 use sp_base::{Hint, Items, Path, TextBuf};
 
@@ -8,7 +8,7 @@ use sp_base::{Hint, Items, Path, TextBuf};
 pub struct PropSet<'a> {
     pub spot: Spot,
     pub hint: Option<Hint>,
-    pub words: WordList<'a>,
+    pub words: LentWords<'a>,
 }
 
 pub type SetList<'a> = Items<PropSet<'a>>;

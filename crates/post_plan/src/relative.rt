@@ -26,7 +26,7 @@ impl<'a> Model for RelativePath<'a> {
 #[tactic(auto, using(crate::proofs::RelativeLemmas::climbs_back))]
 fn climbed<'a>(relative: RelativePath<'a>) -> RelativePath<'a>
     requires { relative.up + 1 < 2 ^ 64 }
-    ensures { result ≡ spec.climbed relative.entry }
+    ensures { result ≡ spec.relative_parent relative.entry }
 {
     let RelativePath { up, mut down } = relative;
     if down.is_empty() {

@@ -11,7 +11,7 @@ use crate::groups::{copy_of, same_suffix};
 use crate::hints::hint_of;
 use crate::suffix::Suffix;
 use crate::words::words_of;
-use crate::{PropSet, SetList, Spot, WordList};
+use crate::{LentWords, PropSet, SetList, Spot};
 use sp_base::{Hint, Mem, Path, TextBuf};
 use std::alloc::Global;
 
@@ -60,10 +60,10 @@ fn words_at<'a>(
     spot: &Spot,
     suffix: Suffix,
     entries: &[Entry<'a>],
-) -> Mem<WordList<'a>>
+) -> Mem<LentWords<'a>>
     ensures { IfOk result (λ words. words ≡ spec.words_at spot.now suffix entries.now) }
 {
-    let mut words = WordList::new(alloc);
+    let mut words = LentWords::new(alloc);
     for entry in entries {
         if is_at(spot, suffix, entry) {
             words.push(entry.word)?;
@@ -81,10 +81,10 @@ fn is_true(word: Option<&str>) -> bool
     }
 }
 
-fn full_words<'a>(alloc: Global, words: &WordList<'a>) -> Mem<WordList<'a>>
+fn full_words<'a>(alloc: Global, words: &LentWords<'a>) -> Mem<LentWords<'a>>
     ensures { IfOk result (λ l. l ≡ spec.without_blanks true words.now) }
 {
-    let mut full = WordList::new(alloc);
+    let mut full = LentWords::new(alloc);
     for word in words.as_slice() {
         if !word.is_empty() {
             full.push(word)?;
@@ -93,7 +93,7 @@ fn full_words<'a>(alloc: Global, words: &WordList<'a>) -> Mem<WordList<'a>>
     Ok(full)
 }
 
-fn without_blanks<'a>(alloc: Global, ignores: bool, words: WordList<'a>) -> Mem<WordList<'a>>
+fn without_blanks<'a>(alloc: Global, ignores: bool, words: LentWords<'a>) -> Mem<LentWords<'a>>
     ensures { IfOk result (λ l. l ≡ spec.without_blanks ignores words.entry) }
 {
     if ignores {
@@ -103,7 +103,7 @@ fn without_blanks<'a>(alloc: Global, ignores: bool, words: WordList<'a>) -> Mem<
     }
 }
 
-fn is_one_blank(words: &WordList) -> bool
+fn is_one_blank(words: &LentWords) -> bool
     ensures { result ≡ spec.is_one_blank words.now }
 {
     match words.lone() {
@@ -112,8 +112,8 @@ fn is_one_blank(words: &WordList) -> bool
     }
 }
 
-fn defaulted<'a>(defaults: WordList<'a>, words: WordList<'a>) -> WordList<'a>
-    ensures { result ≡ spec.defaulted defaults.entry words.entry }
+fn defaulted<'a>(defaults: LentWords<'a>, words: LentWords<'a>) -> LentWords<'a>
+    ensures { result ≡ spec.words_or_defaults defaults.entry words.entry }
 {
     if !defaults.is_empty() && is_one_blank(&words) {
         defaults
@@ -128,8 +128,8 @@ fn given<'a>(
     pairs: &'a [(TextBuf, TextBuf)],
     spot: &Spot,
     entries: &[Entry<'a>],
-) -> Mem<WordList<'a>>
-    ensures { IfOk result (λ l. l ≡ spec.given (spec.first_entry_text (spec.words_at spot.now Suffix.ValueFrom entries.now)) pairs.now (spec.words_at spot.now Suffix.Plain entries.now)) }
+) -> Mem<LentWords<'a>>
+    ensures { IfOk result (λ l. l ≡ spec.words_or_source (spec.first_entry_text (spec.words_at spot.now Suffix.ValueFrom entries.now)) pairs.now (spec.words_at spot.now Suffix.Plain entries.now)) }
 {
     match first_at(spot, Suffix::ValueFrom, entries) {
         Some(name) => words_of(alloc, name, pairs),
@@ -143,7 +143,7 @@ fn set_words<'a>(
     pairs: &'a [(TextBuf, TextBuf)],
     entries: &[Entry<'a>],
     spot: &Spot,
-) -> Mem<WordList<'a>>
+) -> Mem<LentWords<'a>>
     ensures { IfOk result (λ l. l ≡ spec.set_words pairs.now entries.now spot.now) }
 {
     let words = given(alloc, pairs, spot, entries)?;
@@ -182,7 +182,7 @@ fn set_of<'a>(
 }
 
 fn names_any(spot: &Spot, entries: &[Entry]) -> bool
-    ensures { result ≡ spec.is_named spot.now entries.now }
+    ensures { result ≡ spec.is_spot_named spot.now entries.now }
 {
     entries.iter().any(|entry| same_spot(&entry.spot, spot))
 }

@@ -8,11 +8,11 @@ use std::marker::Model;
 
 /// Words in their order, lent by the form: `@ValueFrom` may name one long word for each of many properties.
 #[derive(Drop)]
-pub struct WordList<'a> {
+pub struct LentWords<'a> {
     words: Vec<&'a str>,
 }
 
-impl<'a> Model for WordList<'a> {
+impl<'a> Model for LentWords<'a> {
     ghost use Rattle.std.specs.Prelude.{List, ℕ, map};
 
     ghost Value = { List (List ℕ) };
@@ -20,11 +20,11 @@ impl<'a> Model for WordList<'a> {
     ghost view = { λ l. map (λ word. word.now) l.words.items };
 }
 
-impl<'a> WordList<'a> {
-    pub fn new(alloc: Global) -> WordList<'a>
+impl<'a> LentWords<'a> {
+    pub fn new(alloc: Global) -> LentWords<'a>
         ensures { result ≡ [] }
     {
-        WordList {
+        LentWords {
             words: Vec::new(alloc),
         }
     }

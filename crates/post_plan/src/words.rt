@@ -2,7 +2,7 @@
 ghost use Rattle.std.specs.Prelude.{◌≡◌, IfOk, option_copied};
 ghost use Rattle.post_plan.specs.Parameters as spec;
 
-use crate::WordList;
+use crate::LentWords;
 use sp_base::{Mem, TextBuf};
 use std::alloc::Global;
 
@@ -60,10 +60,14 @@ pub fn is_content(marked: bool, name: &str) -> bool
 }
 
 /// All words of the parameters of this name.
-pub fn words_of<'a>(alloc: Global, name: &str, pairs: &'a [(TextBuf, TextBuf)]) -> Mem<WordList<'a>>
+pub fn words_of<'a>(
+    alloc: Global,
+    name: &str,
+    pairs: &'a [(TextBuf, TextBuf)],
+) -> Mem<LentWords<'a>>
     ensures { IfOk result (λ words. words ≡ spec.words_of name.now pairs.now) }
 {
-    let mut words = WordList::new(alloc);
+    let mut words = LentWords::new(alloc);
     for (named, word) in pairs {
         if named.text() == name {
             words.push(word.text())?;

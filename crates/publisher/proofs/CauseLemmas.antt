@@ -17,7 +17,7 @@ use Rattle.post_plan.specs.Plan.{carries_node, dest_word, faults, first_plan_fau
 use Rattle.post_plan.specs.declared.fault.PlanFault.{PlanFault}
 use Rattle.post_plan.specs.declared.fault.PlanFault.TheVariants.{BadOperation, NoDest, BadOrder, BadHint, BadPath}
 use Rattle.post_apply.specs.Laws.{RefusalsHaveCauses, wants_memory}
-use Rattle.post_apply.specs.Posting.{Posted, posted}
+use Rattle.post_apply.specs.Posting.{PostEffect, post_outcome}
 use Rattle.post_apply.specs.declared.fault.ApplyFault.{ApplyFault}
 use Rattle.post_apply.specs.declared.fault.ApplyFault.TheVariants.{Tree, Value, DestThere, NoMemory as NoMemoryOfOperation}
 use Rattle.publisher.specs.declared.refusal.Refusal.{Refusal}
@@ -126,7 +126,7 @@ fault_cause (Value name fault) e = refl
 fault_cause (DestThere path) e = refl
 fault_cause NoMemoryOfOperation e = absurd cc
 
-operation_cause : (r : Result Posted ApplyFault) → IfErr r (λ (e : ApplyFault). wants_memory e ≡ false) → IfErr r (λ (e : ApplyFault). is_cause (of_operation e) ≡ true)
+operation_cause : (r : Result PostEffect ApplyFault) → IfErr r (λ (e : ApplyFault). wants_memory e ≡ false) → IfErr r (λ (e : ApplyFault). is_cause (of_operation e) ≡ true)
 operation_cause (Ok done) was = tt
 operation_cause (Err fault) was = fault_cause fault was
 
@@ -138,10 +138,10 @@ posting_cause forms causes tree ask text =
     followed (or_bad_request (post_target tree text ask.slash)) _ (target_cause (post_target tree text ask.slash)) (λ target.
     followed (or_refused of_form (form_of ask.kind ask.body)) _ (refused_so of_form (form_of ask.kind ask.body) (read_cause (form_of ask.kind ask.body) (forms ask.kind ask.body))) (λ pairs.
     followed (or_refused of_plan (plan_of target.path target.star pairs)) _ (refused_so of_plan (plan_of target.path target.star pairs) (plan_cause target.path target.star pairs)) (λ op.
-    refused_so of_operation (posted op tree) (operation_cause (posted op tree) (causes op tree)))))
+    refused_so of_operation (post_outcome op tree) (operation_cause (post_outcome op tree) (causes op tree)))))
 
 pub posting_has_cause : FormsAreRefusedForCauses → RefusalsHaveCauses → PostsAreRefusedForCauses
-posting_has_cause forms causes tree ask text is = go (subst (λ (o : PostOutcome Posted). HasCause o) is (posting_cause forms causes tree ask text))
+posting_has_cause forms causes tree ask text is = go (subst (λ (o : PostOutcome PostEffect). HasCause o) is (posting_cause forms causes tree ask text))
   where
     go : false ≡ true → ⊥
     go e = absurd cc

@@ -20,7 +20,7 @@ use Rattle.resource_tree.specs.declared.nodes.Node.{Node}
 use Rattle.resource_tree.specs.declared.patch.PatchNode.{PatchNode}
 use Rattle.script_rank.specs.Ranking.{node_of, script_text}
 use Rattle.publisher.specs.declared.templates.Reading.{Reading}
-use Rattle.publisher.specs.Kept.{AreAmong, AreReadings, AreUnpatched, Kept, reading_at, text_path}
+use Rattle.publisher.specs.Kept.{AreAmong, AreReadings, AreUnpatched, KeptReadings, reading_at, text_path}
 use Rattle.publisher.specs.Readings.{reading_of}
 
 -- ---- paths
@@ -55,11 +55,11 @@ among_by true old reading e = absurd (none_is reading e)
 among_by false old reading e = (refl, e)
 
 -- the readings but the one of a script
-abbrev pub IsWithout : Kept → Kept → List (List ℕ) → Type 0
+abbrev pub IsWithout : KeptReadings → KeptReadings → List (List ℕ) → Type 0
 IsWithout old new script = (path : List (List ℕ)) → reading_at new path ≡ cond (same_path script path) None (reading_at old path)
 
 -- the script whose text stands at a path is forgotten
-pub text_without : (old new : Kept) (at path : List (List ℕ)) (reading : Reading) → IsWithout old new (parent_of at) → reading_at new path ≡ Some reading → same_path (text_path path) at ≡ false
+pub text_without : (old new : KeptReadings) (at path : List (List ℕ)) (reading : Reading) → IsWithout old new (parent_of at) → reading_at new path ≡ Some reading → same_path (text_path path) at ≡ false
 text_without old new at path reading is e =
     let apart = (among_by (same_path (parent_of at) path) (reading_at old path) reading (sym (is path) ∙ e)).0 in
     false_from_ne_true (same_path (text_path path) at) (λ same.
@@ -76,15 +76,15 @@ not_a_text at path other =
 -- ---- those of a patch are forgotten, entry by entry
 
 -- no reading is kept of a script at whose text one of some entries stands
-abbrev pub AreClear : PatchEntries → Kept → Type 0
+abbrev pub AreClear : PatchEntries → KeptReadings → Type 0
 AreClear entries kept = (path : List (List ℕ)) (reading : Reading) → reading_at kept path ≡ Some reading → list_any (λ (entry : List (List ℕ) × PatchNode). same_path (text_path path) entry.0) entries ≡ false
 
 -- the readings after some entries of a patch
-pub record Forgets (first : Kept) (entries : PatchEntries) (kept : Kept) : Type 0 where
+pub record Forgets (first : KeptReadings) (entries : PatchEntries) (kept : KeptReadings) : Type 0 where
   pub among : AreAmong first kept
   pub clear : AreClear entries kept
 
-pub forgets_none : (kept : Kept) → Forgets kept [] kept
+pub forgets_none : (kept : KeptReadings) → Forgets kept [] kept
 forgets_none kept = record { among = λ path reading e. e; clear = λ path reading e. refl }
 
 both_false : (a b : Bool) → a ≡ false → b ≡ false → (a || b) ≡ false
@@ -94,7 +94,7 @@ both_false false b e f = f
 any_next : {X : Type 0} (test : X → Bool) (xs : List X) (i : ℕ) (x : X) → slice_get xs i ≡ Some x → list_any test (take (i + 1) xs) ≡ (list_any test (take i xs) || test x)
 any_next test xs i x is = list_any_more test xs i x (slice_get_within xs i x is) ∙ ap (λ y. list_any test (take i xs) || test y) (get_or_from_slice_get xs i x x is)
 
-pub forgets_next : (first old new : Kept) (patch : PatchEntries) (i : ℕ) (at : List (List ℕ)) (entry : PatchNode) → slice_get patch i ≡ Some (at, entry) → Forgets first (take i patch) old → AreAmong old new
+pub forgets_next : (first old new : KeptReadings) (patch : PatchEntries) (i : ℕ) (at : List (List ℕ)) (entry : PatchNode) → slice_get patch i ≡ Some (at, entry) → Forgets first (take i patch) old → AreAmong old new
     → ((path : List (List ℕ)) (reading : Reading) → reading_at new path ≡ Some reading → same_path (text_path path) at ≡ false) → Forgets first (take (i + 1) patch) new
 forgets_next first old new patch i at entry is so_far fewer forgotten = record {
   among = λ path reading e. so_far.among path reading (fewer path reading e);
@@ -109,7 +109,7 @@ lookup_of_none test (entry ∷ entries) none =
     let parts = or_parts (test entry.0) (list_any (λ (r : List (List ℕ) × PatchNode). test r.0) entries) none in
     ap (λ b. cond b (Some entry.1) (lookup test entries)) parts.0 ∙ lookup_of_none test entries parts.1
 
-pub unpatched : (patch : PatchEntries) (kept : Kept) → AreClear patch kept → AreUnpatched patch kept
+pub unpatched : (patch : PatchEntries) (kept : KeptReadings) → AreClear patch kept → AreUnpatched patch kept
 unpatched patch kept clear path reading e = lookup_of_none (same_path (text_path path)) patch (clear path reading e)
 
 -- ---- a script whose text stays is read as before
@@ -123,7 +123,7 @@ unfolding script_text
 same_script tree after path same =
     ap (option_and_then (λ (node : Node). text_in node.props (codes "jcr:data"))) (node_of_text tree after (text_path path) (fault_of (text_path path)) same)
 
-pub still_readings : (tree after : Content) (patch : PatchEntries) (old new : Kept) → AreReadings tree old → AreAmong old new → AreUnpatched patch new
+pub still_readings : (tree after : Content) (patch : PatchEntries) (old new : KeptReadings) → AreReadings tree old → AreAmong old new → AreUnpatched patch new
     → ((path : List (List ℕ)) → node_at after path ≡ patching_at tree patch path) → AreReadings after new
 still_readings tree after patch old new are fewer clear look_ups path reading e =
     let same : node_at after (text_path path) ≡ node_at tree (text_path path) = look_ups (text_path path) ∙ ap (λ o. left_by o (node_at tree (text_path path))) (clear path reading e) in

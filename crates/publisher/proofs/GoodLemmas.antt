@@ -22,13 +22,13 @@ use Rattle.post_plan.specs.declared.operation.Op.{Op}
 use Rattle.post_plan.specs.declared.fault.PlanFault.{PlanFault}
 use Rattle.post_plan.specs.OperationPaths.{AsksForPaths, names_paths}
 use Rattle.post_plan.specs.Plan.{plan_of}
-use Rattle.post_apply.specs.Posting.{Posted, content_after_post, posted}
+use Rattle.post_apply.specs.Posting.{PostEffect, content_after_post, post_outcome}
 use Rattle.post_apply.specs.Laws.{OperationsKeepContentGood}
 use Rattle.post_apply.specs.declared.fault.ApplyFault.{ApplyFault}
 use Rattle.publisher.specs.declared.refusal.Refusal.{Refusal}
 use Rattle.publisher.specs.declared.targets.PostTarget.{PostTarget}
 use Rattle.publisher.specs.Refusals.{of_form, of_operation, of_plan}
-use Rattle.publisher.specs.Posting.{PostOutcome, ◌>>=◌, ends_in_star, named_path, or_bad_request, or_refused, path_in, posting, posting_content, starred, target_at, post_target}
+use Rattle.publisher.specs.Posting.{PostOutcome, ◌>>=◌, ends_in_star, named_path, or_bad_request, or_refused, path_in, posting, posting_content, star_target, target_at, post_target}
 use Rattle.publisher.specs.Rendering.{content_after_request, is_post, mapping, posted_content}
 use Rattle.publisher.specs.PostLaws.{RequestsKeepContentGood}
 
@@ -109,7 +109,7 @@ module _ (valid : (text : List ℕ) (path : List (List ℕ)) → path_of text �
 
   target_is : (tree : Content) (text : List ℕ) (slash : Bool) → HasPathIf (post_target tree text slash)
   target_is tree text slash =
-      by_test (ends_in_star text) (starred text) (option_map (target_at slash) (named_path tree text)) (at_parent (path_in text) (spelled_is text))
+      by_test (ends_in_star text) (star_target text) (option_map (target_at slash) (named_path tree text)) (at_parent (path_in text) (spelled_is text))
       (at_path slash (named_path tree text) (or_other (split_of (has_resource tree) text) (path_in text) (split_is (has_resource tree) text) (spelled_is text)))
 
   asked_is : (o : Option PostTarget) → HasPathIf o → IfOk (or_bad_request o) (λ (t : PostTarget). is_path t.path ≡ true)
@@ -126,22 +126,22 @@ module _ (valid : (text : List ℕ) (path : List (List ℕ)) → path_of text �
         go (Ok op) e = paths target.path target.star pairs op is e
         go (Err fault) e = tt
 
-    done_is : (op : Op) (tree : Content) → names_paths op ≡ true → IsGood tree → IfOk (posted op tree) (λ (done : Posted). IsGood done.content)
-    done_is op tree all good = go (posted op tree) (keeps op tree all good)
+    done_is : (op : Op) (tree : Content) → names_paths op ≡ true → IsGood tree → IfOk (post_outcome op tree) (λ (done : PostEffect). IsGood done.content)
+    done_is op tree all good = go (post_outcome op tree) (keeps op tree all good)
       where
-        go : (r : Result Posted ApplyFault) → IsGood (content_after_post tree r) → IfOk r (λ (done : Posted). IsGood done.content)
+        go : (r : Result PostEffect ApplyFault) → IsGood (content_after_post tree r) → IfOk r (λ (done : PostEffect). IsGood done.content)
         go (Ok done) is = is
         go (Err fault) is = tt
 
-    posting_is : (tree : Content) (ask : Ask) (text : List ℕ) → IsGood tree → IfOk (posting tree ask text) (λ (done : Posted). IsGood done.content)
+    posting_is : (tree : Content) (ask : Ask) (text : List ℕ) → IsGood tree → IfOk (posting tree ask text) (λ (done : PostEffect). IsGood done.content)
     unfolding posting
     posting_is tree ask text good =
-        followed (λ (t : PostTarget). is_path t.path ≡ true) (λ (done : Posted). IsGood done.content) (or_bad_request (post_target tree text ask.slash)) _ (asked_is (post_target tree text ask.slash) (target_is tree text ask.slash)) (λ target is.
-        followed (λ (pairs : List (List ℕ × List ℕ)). pairs ≡ pairs) (λ (done : Posted). IsGood done.content) (or_refused of_form (form_of ask.kind ask.body)) _ (any_is _) (λ pairs _.
-        followed (λ (op : Op). names_paths op ≡ true) (λ (done : Posted). IsGood done.content) (or_refused of_plan (plan_of target.path target.star pairs)) _ (taken_on (λ (op : Op). names_paths op ≡ true) of_plan (plan_of target.path target.star pairs) (planned_is target pairs is)) (λ op all.
-        taken_on (λ (done : Posted). IsGood done.content) of_operation (posted op tree) (done_is op tree all good))))
+        followed (λ (t : PostTarget). is_path t.path ≡ true) (λ (done : PostEffect). IsGood done.content) (or_bad_request (post_target tree text ask.slash)) _ (asked_is (post_target tree text ask.slash) (target_is tree text ask.slash)) (λ target is.
+        followed (λ (pairs : List (List ℕ × List ℕ)). pairs ≡ pairs) (λ (done : PostEffect). IsGood done.content) (or_refused of_form (form_of ask.kind ask.body)) _ (any_is _) (λ pairs _.
+        followed (λ (op : Op). names_paths op ≡ true) (λ (done : PostEffect). IsGood done.content) (or_refused of_plan (plan_of target.path target.star pairs)) _ (taken_on (λ (op : Op). names_paths op ≡ true) of_plan (plan_of target.path target.star pairs) (planned_is target pairs is)) (λ op all.
+        taken_on (λ (done : PostEffect). IsGood done.content) of_operation (post_outcome op tree) (done_is op tree all good))))
 
-    left_good : (tree : Content) (r : PostOutcome Posted) → IsGood tree → IfOk r (λ (done : Posted). IsGood done.content) → IsGood (posting_content tree r)
+    left_good : (tree : Content) (r : PostOutcome PostEffect) → IsGood tree → IfOk r (λ (done : PostEffect). IsGood done.content) → IsGood (posting_content tree r)
     left_good tree (Ok done) good is = is
     left_good tree (Err refusal) good is = good
 

@@ -8,11 +8,11 @@ use Rattle.resource_tree.specs.Content.{Content}
 use Rattle.url_maps.specs.declared.answer.MapAnswer.{MapAnswer}
 use Rattle.url_maps.specs.declared.answer.MapAnswer.TheVariants.{Inside, Away}
 use Rattle.error_answers.specs.Errors.{error_answer}
-use Rattle.post_apply.specs.Posting.{Posted}
+use Rattle.post_apply.specs.Posting.{PostEffect}
 use Rattle.publisher.specs.Errors.{redirect}
 use Rattle.publisher.specs.Posting.{PostOutcome, posting, posting_answer, posting_content}
 use Rattle.publisher.proofs.RenderingLemmas.{read_is}
-use Rattle.publisher.specs.Rendering.{content_after_request, is_post, is_read, mapped_answer, mapping, posted_answer, posted_content, rendered}
+use Rattle.publisher.specs.Rendering.{content_after_request, is_post, is_read, mapped_answer, mapping, posted_answer, posted_content, answer_to_request}
 
 -- ---- methods
 
@@ -41,7 +41,7 @@ created_by : (created : Bool) → status_by created ≢ 200 → status_by create
 created_by true one other = other refl
 created_by false one other = one refl
 
-outcome_keeps : (tree : Content) (outcome : PostOutcome Posted) → (posting_answer outcome).status ≢ 200 → (posting_answer outcome).status ≢ 201 → posting_content tree outcome ≡ tree
+outcome_keeps : (tree : Content) (outcome : PostOutcome PostEffect) → (posting_answer outcome).status ≢ 200 → (posting_answer outcome).status ≢ 201 → posting_content tree outcome ≡ tree
 outcome_keeps tree (Ok done) one other = absurd (created_by done.report.created one other)
 outcome_keeps tree (Err refusal) one other = refl
 
@@ -49,25 +49,25 @@ posted_keeps : (tree : Content) (ask : Ask) (answer : MapAnswer) → (posted_ans
 posted_keeps tree ask (Inside text) one other = outcome_keeps tree (posting tree ask text) one other
 posted_keeps tree ask (Away status target) one other = refl
 
-post_is : (tree : Content) (ask : Ask) → is_post ask.method ≡ true → rendered tree ask ≡ posted_answer tree ask (mapping tree ask)
-unfolding rendered
+post_is : (tree : Content) (ask : Ask) → is_post ask.method ≡ true → answer_to_request tree ask ≡ posted_answer tree ask (mapping tree ask)
+unfolding answer_to_request
 post_is tree ask post =
     ap (λ b. cond b (mapped_answer tree (mapping tree ask)) (cond (is_post ask.method) (posted_answer tree ask (mapping tree ask)) (error_answer 405))) (post_is_no_read ask.method post)
     ∙ ap (λ b. cond b (posted_answer tree ask (mapping tree ask)) (error_answer 405)) post
 
-keeps_by : (post : Bool) (tree : Content) (ask : Ask) → is_post ask.method ≡ post → (rendered tree ask).status ≢ 200 → (rendered tree ask).status ≢ 201 → cond post (posted_content tree ask (mapping tree ask)) tree ≡ tree
+keeps_by : (post : Bool) (tree : Content) (ask : Ask) → is_post ask.method ≡ post → (answer_to_request tree ask).status ≢ 200 → (answer_to_request tree ask).status ≢ 201 → cond post (posted_content tree ask (mapping tree ask)) tree ≡ tree
 keeps_by true tree ask is one other =
     let same = post_is tree ask is in
     posted_keeps tree ask (mapping tree ask) (λ e. one (ap (λ a. a.status) same ∙ e)) (λ e. other (ap (λ a. a.status) same ∙ e))
 keeps_by false tree ask is one other = refl
 
-pub refusals_keep : (tree : Content) (ask : Ask) → (rendered tree ask).status ≢ 200 → (rendered tree ask).status ≢ 201 → content_after_request tree ask ≡ tree
+pub refusals_keep : (tree : Content) (ask : Ask) → (answer_to_request tree ask).status ≢ 200 → (answer_to_request tree ask).status ≢ 201 → content_after_request tree ask ≡ tree
 unfolding content_after_request
 refusals_keep tree ask one other = keeps_by (is_post ask.method) tree ask refl one other
 
 -- ---- requests that are mapped away
 
-pub away_answer : (tree : Content) (ask : Ask) (status : ℕ) (target : List ℕ) → (is_read ask.method || is_post ask.method) ≡ true → mapping tree ask ≡ Away status target → rendered tree ask ≡ redirect status target
+pub away_answer : (tree : Content) (ask : Ask) (status : ℕ) (target : List ℕ) → (is_read ask.method || is_post ask.method) ≡ true → mapping tree ask ≡ Away status target → answer_to_request tree ask ≡ redirect status target
 away_answer tree ask status target asks away =
     ⊎_elim
     (λ (read : is_read ask.method ≡ true). read_is tree ask read ∙ ap (mapped_answer tree) away)

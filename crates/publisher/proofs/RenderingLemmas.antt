@@ -26,7 +26,7 @@ use Rattle.error_answers.specs.Errors.{error_answer}
 use Rattle.publisher.specs.Errors.{answer_with_body}
 use Rattle.publisher.specs.Depths.{depth_of}
 use Rattle.overlay_merge.specs.Merged.{has_resource}
-use Rattle.publisher.specs.Rendering.{seen, is_read, mark_of, most_rendered_bytes, representation_of, json_representation, json_to_depth, file_representation, is_json, is_bare, default_answer, script_for, scope_of, script_representation, answer_by, resource_answer, split_answer, text_answer, mapping, mapped_answer, is_post, posted_answer, rendered}
+use Rattle.publisher.specs.Rendering.{seen_resources, is_read, mark_of, most_rendered_bytes, representation_of, json_representation, json_to_depth, file_representation, is_json, is_bare, default_answer, script_for, scope_of, script_representation, answer_by, resource_answer, split_answer, text_answer, mapping, mapped_answer, is_post, posted_answer, answer_to_request}
 
 -- ---- a representation isn't too long
 
@@ -53,9 +53,9 @@ json_fits res (Whole text) = page_fits _ (mark_of res) text
 json_fits res (Over most) = λ e. absurd (omega (arith, e))
 json_fits res TooLong = error_fits 500 (λ h. absurd (omega (arith, h)))
 
-depth_fits : (seen : Seen) (res : Resource) (depth : Option Depth) → Fits (json_to_depth seen res depth)
-depth_fits seen res None = error_fits 400 (λ h. absurd (omega (arith, h)))
-depth_fits seen res (Some depth) = json_fits res (json_answer seen res (levels_of depth) most_rendered_bytes)
+depth_fits : (seen_resources : Seen) (res : Resource) (depth : Option Depth) → Fits (json_to_depth seen_resources res depth)
+depth_fits seen_resources res None = error_fits 400 (λ h. absurd (omega (arith, h)))
+depth_fits seen_resources res (Some depth) = json_fits res (json_answer seen_resources res (levels_of depth) most_rendered_bytes)
 
 missing_fits : Fits (error_answer 404)
 missing_fits = error_fits 404 (λ h. absurd (omega (arith, h)))
@@ -64,26 +64,26 @@ file_fits : (res : Resource) (stream : Option Stream) → Fits (file_representat
 file_fits res None = missing_fits
 file_fits res (Some stream) = page_fits stream.kind (mark_of res) stream.body
 
-default_fits : (seen : Seen) (parts : Parts) (res : Resource) → Fits (default_answer seen parts res)
-default_fits seen parts res =
-    either (is_json parts.extension) _ _ (depth_fits seen res (depth_of parts.selectors))
-    (either (is_bare parts) _ _ (file_fits res (stream_of seen res)) missing_fits)
+default_fits : (seen_resources : Seen) (parts : Parts) (res : Resource) → Fits (default_answer seen_resources parts res)
+default_fits seen_resources parts res =
+    either (is_json parts.extension) _ _ (depth_fits seen_resources res (depth_of parts.selectors))
+    (either (is_bare parts) _ _ (file_fits res (stream_of seen_resources res)) missing_fits)
 
 script_fits : (res : Resource) (reading : Reading) → Fits (script_representation res reading)
 script_fits res (Parsed pieces) = page_fits _ (mark_of res) (written_by (scope_of res) pieces)
 script_fits res Refused = error_fits 500 (λ h. absurd (omega (arith, h)))
 
-by_fits : (text : Option (List ℕ)) (seen : Seen) (parts : Parts) (res : Resource) → Fits (answer_by text seen parts res)
-by_fits (Some text) seen parts res = script_fits res (reading_of text)
-by_fits None seen parts res = default_fits seen parts res
+by_fits : (text : Option (List ℕ)) (seen_resources : Seen) (parts : Parts) (res : Resource) → Fits (answer_by text seen_resources parts res)
+by_fits (Some text) seen_resources parts res = script_fits res (reading_of text)
+by_fits None seen_resources parts res = default_fits seen_resources parts res
 
 resource_fits : (tree : Content) (parts : Parts) (res : Option Resource) → Fits (resource_answer tree parts res)
 resource_fits tree parts None = missing_fits
-resource_fits tree parts (Some res) = by_fits (script_for tree parts res) (seen tree) parts res
+resource_fits tree parts (Some res) = by_fits (script_for tree parts res) (seen_resources tree) parts res
 
 found_fits : (tree : Content) (parts : Option Parts) → Fits (split_answer tree parts)
 found_fits tree None = missing_fits
-found_fits tree (Some parts) = resource_fits tree parts (seen tree parts.path)
+found_fits tree (Some parts) = resource_fits tree parts (seen_resources tree parts.path)
 
 pub text_fits : (tree : Content) (text : List ℕ) → Fits (text_answer tree text)
 text_fits tree text = found_fits tree (split_of (has_resource tree) text)
@@ -93,11 +93,11 @@ mapped_fits tree (Inside text) = text_fits tree text
 mapped_fits tree (Away status target) = λ e. omega arith
 
 -- what is asked by a GET or a HEAD
-pub read_is : (tree : Content) (ask : Ask) → is_read ask.method ≡ true → rendered tree ask ≡ mapped_answer tree (mapping tree ask)
-unfolding rendered
+pub read_is : (tree : Content) (ask : Ask) → is_read ask.method ≡ true → answer_to_request tree ask ≡ mapped_answer tree (mapping tree ask)
+unfolding answer_to_request
 read_is tree ask read = ap (λ b. cond b (mapped_answer tree (mapping tree ask)) (cond (is_post ask.method) (posted_answer tree ask (mapping tree ask)) (error_answer 405))) read
 
-pub rendered_fits : (tree : Content) (ask : Ask) → is_read ask.method ≡ true → (rendered tree ask).status ≡ 200 → length (rendered tree ask).body ≤ 4194304
+pub rendered_fits : (tree : Content) (ask : Ask) → is_read ask.method ≡ true → (answer_to_request tree ask).status ≡ 200 → length (answer_to_request tree ask).body ≤ 4194304
 rendered_fits tree ask read = subst Fits (sym (read_is tree ask read)) (mapped_fits tree (mapping tree ask))
 
 -- ---- what is answered has at most 4,194,304 bytes, where its status is 200
@@ -109,7 +109,7 @@ fits_as (Err e) x fits is = tt
 
 -- ---- the host, the port and the path alone count
 
-pub same_reading : (tree : Content) (a b : Ask) → is_read a.method ≡ true → is_read b.method ≡ true → a.host ≡ b.host → a.port ≡ b.port → a.path ≡ b.path → rendered tree a ≡ rendered tree b
+pub same_reading : (tree : Content) (a b : Ask) → is_read a.method ≡ true → is_read b.method ≡ true → a.host ≡ b.host → a.port ≡ b.port → a.path ≡ b.path → answer_to_request tree a ≡ answer_to_request tree b
 same_reading tree a b first second host port path =
     let same : mapping tree a ≡ mapping tree b = λ i. map_answer tree (host i) (port i) (text_of (path i)) in
     read_is tree a first ∙ ap (mapped_answer tree) same ∙ sym (read_is tree b second)

@@ -21,7 +21,7 @@ use Rattle.publisher.specs.Errors.{answer_with_body}
 use Rattle.publisher.specs.Readings.{reading_in}
 use Rattle.overlay_merge.specs.Merged.{has_resource}
 use Rattle.publisher.proofs.RenderingLemmas.{read_is}
-use Rattle.publisher.specs.Rendering.{seen, answer_by, html_kind, is_read, mark_of, most_rendered_bytes, rendered, representation_of, resource_answer, scope_of, script_for, script_representation, split_answer, mapped_answer, mapping}
+use Rattle.publisher.specs.Rendering.{seen_resources, answer_by, html_kind, is_read, mark_of, most_rendered_bytes, answer_to_request, representation_of, resource_answer, scope_of, script_for, script_representation, split_answer, mapped_answer, mapping}
 
 -- the search gives the script that ranks first, where one does
 pub found_first : (tree : Content) (chain : List TypeName) (parts : Parts) (script : List (List ℕ)) (found : Option (List (List ℕ)))
@@ -38,21 +38,21 @@ written_body true mark body is ok = refl
 written_body false mark body is ok = absurd (omega (arith, ok))
 
 -- the answer to a request that is mapped
-pub mapped_is : (tree : Content) (ask : Ask) (answer : MapAnswer) → is_read ask.method ≡ true → mapping tree ask ≡ answer → rendered tree ask ≡ mapped_answer tree answer
+pub mapped_is : (tree : Content) (ask : Ask) (answer : MapAnswer) → is_read ask.method ≡ true → mapping tree ask ≡ answer → answer_to_request tree ask ≡ mapped_answer tree answer
 mapped_is tree ask answer read mapped = read_is tree ask read ∙ ap (mapped_answer tree) mapped
 
 -- the answer of a resource by its first script
 pub answer_is : (tree : Content) (ask : Ask) (mapped : List ℕ) (parts : Parts) (res : Resource) (script : List (List ℕ)) (text : List ℕ) (pieces : List TemplatePiece)
-    → is_read ask.method ≡ true → mapping tree ask ≡ Inside mapped → split_of (has_resource tree) mapped ≡ Some parts → seen tree parts.path ≡ Some res
+    → is_read ask.method ≡ true → mapping tree ask ≡ Inside mapped → split_of (has_resource tree) mapped ≡ Some parts → seen_resources tree parts.path ≡ Some res
     → search_result tree (chain_of tree res.props) parts ≡ Some script → script_text tree script ≡ Some text → template_of text ≡ Ok pieces
-    → rendered tree ask ≡ representation_of html_kind (mark_of res) (written_by (scope_of res) pieces)
+    → answer_to_request tree ask ≡ representation_of html_kind (mark_of res) (written_by (scope_of res) pieces)
 unfolding script_for
 answer_is tree ask mapped parts res script text pieces read inside split there first is spelled =
     mapped_is tree ask (Inside mapped) read inside
     ∙ ap (split_answer tree) split
     ∙ ap (resource_answer tree parts) there
-    ∙ ap (λ o. answer_by (option_and_then (script_text tree) o) (seen tree) parts res) first
-    ∙ ap (λ o. answer_by o (seen tree) parts res) is
+    ∙ ap (λ o. answer_by (option_and_then (script_text tree) o) (seen_resources tree) parts res) first
+    ∙ ap (λ o. answer_by o (seen_resources tree) parts res) is
     ∙ ap (λ r. script_representation res (reading_in r)) spelled
 
 pub body_is : (answer : Answer) (mark : Mark) (body : List ℕ) → answer ≡ representation_of html_kind mark body → answer.status ≡ 200 → answer.body ≡ body

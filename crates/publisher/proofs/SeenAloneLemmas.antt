@@ -14,7 +14,7 @@ use Rattle.url_split.specs.declared.decompose.Parts.{Parts}
 use Rattle.publisher.specs.declared.templates.Reading.{Reading}
 use Rattle.publisher.specs.declared.templates.Reading.TheVariants.{Parsed, Refused}
 use Rattle.publisher.specs.Readings.{reading_of}
-use Rattle.publisher.specs.Rendering.{answer_by, resource_answer, script_for, script_representation, seen}
+use Rattle.publisher.specs.Rendering.{answer_by, resource_answer, script_for, script_representation, seen_resources}
 use Rattle.publisher.specs.SeenAlone.{IsSeenAlone, answer_seen, seen_answer}
 
 -- the whole resource, of which the other is all but the kids
@@ -55,12 +55,12 @@ written-whole tree parts res text reading alone read =
     let at = alone-whole tree parts.path res alone in
     ap (λ r. script_representation r reading) at.same ∙ same-written at.whole res.kids reading ∙ ap (script_representation at.whole) read ∙ sym (ap (answer_seen (Some text) tree parts) at.seen_is)
 
-pub script-whole : (tree : Content) (parts : Parts) (res : Resource) → IsSeenAlone tree parts res → (script : Option (List ℕ)) → script_for tree parts res ≡ script → resource_answer tree parts (seen tree parts.path) ≡ seen_answer script tree parts
+pub script-whole : (tree : Content) (parts : Parts) (res : Resource) → IsSeenAlone tree parts res → (script : Option (List ℕ)) → script_for tree parts res ≡ script → resource_answer tree parts (seen_resources tree parts.path) ≡ seen_answer script tree parts
 unfolding script_for
 script-whole tree parts res alone script is =
     let at = alone-whole tree parts.path res alone in
     let for_whole : script_for tree parts at.whole ≡ script = sym (ap (script_for tree parts) at.same) ∙ is in
-    ap (resource_answer tree parts) at.seen_is ∙ ap (λ s. answer_by s (seen tree) parts at.whole) for_whole ∙ sym (ap (answer_seen script tree parts) at.seen_is)
+    ap (resource_answer tree parts) at.seen_is ∙ ap (λ s. answer_by s (seen_resources tree) parts at.whole) for_whole ∙ sym (ap (answer_seen script tree parts) at.seen_is)
 
 none-of : (is : Option Resource) → option_map without_kids is ≡ None → is ≡ None
 none-of None e = refl

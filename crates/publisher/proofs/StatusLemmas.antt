@@ -28,7 +28,7 @@ use Rattle.error_answers.specs.Errors.{error_answer}
 use Rattle.publisher.specs.Errors.{answer_with_body}
 use Rattle.publisher.specs.Depths.{depth_of}
 use Rattle.overlay_merge.specs.Merged.{has_resource}
-use Rattle.publisher.specs.Rendering.{seen, is_read, mark_of, most_rendered_bytes, representation_of, json_representation, json_to_depth, file_representation, is_json, is_bare, default_answer, script_for, scope_of, script_representation, answer_by, resource_answer, split_answer, mapping, mapped_answer, is_post, posted_answer, rendered}
+use Rattle.publisher.specs.Rendering.{seen_resources, is_read, mark_of, most_rendered_bytes, representation_of, json_representation, json_to_depth, file_representation, is_json, is_bare, default_answer, script_for, scope_of, script_representation, answer_by, resource_answer, split_answer, mapping, mapped_answer, is_post, posted_answer, answer_to_request}
 use Rattle.resource_tree.specs.declared.faults.TreeFault.{TreeFault}
 use Rattle.resource_tree.specs.declared.faults.TreeFault.TheVariants.{NoSuch, RootFixed, IntoItself, Exists, Taken, NoSibling, TooDeep, FullTree, NoMemory as NoMemoryOfTree}
 use Rattle.form_input.specs.Forms.{form_of}
@@ -37,7 +37,7 @@ use Rattle.form_input.specs.declared.fault.FormFault.TheVariants.{WrongKind, NoB
 use Rattle.post_plan.specs.Plan.{plan_of}
 use Rattle.post_plan.specs.declared.fault.PlanFault.{PlanFault}
 use Rattle.post_plan.specs.declared.fault.PlanFault.TheVariants.{BadOperation, NoDest, BadOrder, BadHint, BadPath, NoMemory as NoMemoryOfPlan}
-use Rattle.post_apply.specs.Posting.{Posted, posted}
+use Rattle.post_apply.specs.Posting.{PostEffect, post_outcome}
 use Rattle.post_apply.specs.declared.fault.ApplyFault.{ApplyFault}
 use Rattle.post_apply.specs.declared.fault.ApplyFault.TheVariants.{Tree, Value, DestThere, NoMemory as NoMemoryOfOperation}
 use Rattle.publisher.specs.declared.refusal.Refusal.{Refusal}
@@ -66,9 +66,9 @@ json_short res (Whole text) = representation_short _ (mark_of res) text
 json_short res (Over most) = omega arith
 json_short res TooLong = error_short 500 (omega arith)
 
-depth_short : (seen : Seen) (res : Resource) (depth : Option Depth) → Short (json_to_depth seen res depth)
-depth_short seen res None = error_short 400 (omega arith)
-depth_short seen res (Some depth) = json_short res (json_answer seen res (levels_of depth) most_rendered_bytes)
+depth_short : (seen_resources : Seen) (res : Resource) (depth : Option Depth) → Short (json_to_depth seen_resources res depth)
+depth_short seen_resources res None = error_short 400 (omega arith)
+depth_short seen_resources res (Some depth) = json_short res (json_answer seen_resources res (levels_of depth) most_rendered_bytes)
 
 missing_short : Short (error_answer 404)
 missing_short = error_short 404 (omega arith)
@@ -77,26 +77,26 @@ file_short : (res : Resource) (stream : Option Stream) → Short (file_represent
 file_short res None = missing_short
 file_short res (Some stream) = representation_short stream.kind (mark_of res) stream.body
 
-default_short : (seen : Seen) (parts : Parts) (res : Resource) → Short (default_answer seen parts res)
-default_short seen parts res =
-    either (is_json parts.extension) _ _ (depth_short seen res (depth_of parts.selectors))
-    (either (is_bare parts) _ _ (file_short res (stream_of seen res)) missing_short)
+default_short : (seen_resources : Seen) (parts : Parts) (res : Resource) → Short (default_answer seen_resources parts res)
+default_short seen_resources parts res =
+    either (is_json parts.extension) _ _ (depth_short seen_resources res (depth_of parts.selectors))
+    (either (is_bare parts) _ _ (file_short res (stream_of seen_resources res)) missing_short)
 
 script_short : (res : Resource) (reading : Reading) → Short (script_representation res reading)
 script_short res (Parsed pieces) = representation_short _ (mark_of res) (written_by (scope_of res) pieces)
 script_short res Refused = error_short 500 (omega arith)
 
-by_short : (text : Option (List ℕ)) (seen : Seen) (parts : Parts) (res : Resource) → Short (answer_by text seen parts res)
-by_short (Some text) seen parts res = script_short res (reading_of text)
-by_short None seen parts res = default_short seen parts res
+by_short : (text : Option (List ℕ)) (seen_resources : Seen) (parts : Parts) (res : Resource) → Short (answer_by text seen_resources parts res)
+by_short (Some text) seen_resources parts res = script_short res (reading_of text)
+by_short None seen_resources parts res = default_short seen_resources parts res
 
 resource_short : (tree : Content) (parts : Parts) (res : Option Resource) → Short (resource_answer tree parts res)
 resource_short tree parts None = missing_short
-resource_short tree parts (Some res) = by_short (script_for tree parts res) (seen tree) parts res
+resource_short tree parts (Some res) = by_short (script_for tree parts res) (seen_resources tree) parts res
 
 split_short : (tree : Content) (parts : Option Parts) → Short (split_answer tree parts)
 split_short tree None = missing_short
-split_short tree (Some parts) = resource_short tree parts (seen tree parts.path)
+split_short tree (Some parts) = resource_short tree parts (seen_resources tree parts.path)
 
 redirect_short : (status : ℕ) → is_redirect status ≡ true → status ≤ 500
 redirect_short status is = grind (arith, nat_tests)
@@ -169,10 +169,10 @@ posting_short tree ask text =
     next_short _ _ (target_short (post_target tree text ask.slash)) (λ target.
     next_short _ _ (refused_short of_form (form_of ask.kind ask.body) form_short) (λ pairs.
     next_short _ _ (refused_short of_plan (plan_of target.path target.star pairs) plan_short) (λ operation.
-    refused_short of_operation (posted operation tree) operation_short)))
+    refused_short of_operation (post_outcome operation tree) operation_short)))
 
 pub refused_is : (tree : Content) (ask : Ask) (text : List ℕ) (status : ℕ) → posting tree ask text ≡ Err (Status status) → IsErrorStatus status
-refused_is tree ask text status is = subst (λ (outcome : PostOutcome Posted). IsErrorOutcome outcome) is (posting_short tree ask text)
+refused_is tree ask text status is = subst (λ (outcome : PostOutcome PostEffect). IsErrorOutcome outcome) is (posting_short tree ask text)
 
 status_apart : (status : ℕ) → Status status ≡ NoMemory → ⊥
 status_apart status e = cc
@@ -197,7 +197,7 @@ refusal_short : (refusal : Refusal) → IsErrorRefusal refusal → Short (refusa
 refusal_short (Status status) error = error_short status error.1
 refusal_short NoMemory error = error_short 500 (omega arith)
 
-outcome_short : (outcome : PostOutcome Posted) → IsErrorOutcome outcome → Short (posting_answer outcome)
+outcome_short : (outcome : PostOutcome PostEffect) → IsErrorOutcome outcome → Short (posting_answer outcome)
 outcome_short (Ok done) short = report_short done.report.created
 outcome_short (Err refusal) short = refusal_short refusal short
 
@@ -211,8 +211,8 @@ posted_short tree ask (Away status target) away = redirect_short status (away st
 abbrev pub AwayRedirects : Type 0
 AwayRedirects = (tree : Content) (host : List ℕ) (port : ℕ) (text target : List ℕ) (status : ℕ) → map_answer tree host port text ≡ Away status target → is_redirect status ≡ true
 
-pub rendered_short : AwayRedirects → (tree : Content) (ask : Ask) → Short (rendered tree ask)
-unfolding rendered
+pub rendered_short : AwayRedirects → (tree : Content) (ask : Ask) → Short (answer_to_request tree ask)
+unfolding answer_to_request
 rendered_short away tree ask =
     let leads = λ (status : ℕ) (target : List ℕ). away tree ask.host ask.port (text_of ask.path) target status in
     either (is_read ask.method) _ _ (mapped_short tree (mapping tree ask) leads)

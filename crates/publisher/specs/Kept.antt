@@ -9,20 +9,20 @@ use Rattle.publisher.specs.declared.templates.Reading.{Reading}
 use Rattle.publisher.specs.Readings.{reading_of}
 
 -- readings at the paths of scripts
-abbrev pub Kept : Type 0
-Kept = List (List (List ℕ) × Reading)
+abbrev pub KeptReadings : Type 0
+KeptReadings = List (List (List ℕ) × Reading)
 
 -- the reading that is kept at a path
-abbrev pub reading_at : Kept → List (List ℕ) → Option Reading
+abbrev pub reading_at : KeptReadings → List (List ℕ) → Option Reading
 reading_at kept path = lookup (same_path path) kept
 
 -- each reading that is kept is that of the script at its path
-abbrev pub AreReadings : Content → Kept → Type 0
+abbrev pub AreReadings : Content → KeptReadings → Type 0
 AreReadings tree kept = (path : List (List ℕ)) (reading : Reading) → reading_at kept path ≡ Some reading
     → option_map reading_of (script_text tree path) ≡ Some reading
 
 -- no reading is kept that wasn't before
-abbrev pub AreAmong : Kept → Kept → Type 0
+abbrev pub AreAmong : KeptReadings → KeptReadings → Type 0
 AreAmong old new = (path : List (List ℕ)) (reading : Reading) → reading_at new path ≡ Some reading → reading_at old path ≡ Some reading
 
 -- where the text of a script stands
@@ -30,7 +30,7 @@ abbrev pub text_path : List (List ℕ) → List (List ℕ)
 text_path path = kid path (codes "jcr:content")
 
 -- no reading is kept of a script at whose text a patch has something
-abbrev pub AreUnpatched : PatchEntries → Kept → Type 0
+abbrev pub AreUnpatched : PatchEntries → KeptReadings → Type 0
 AreUnpatched patch kept = (path : List (List ℕ)) (reading : Reading) → reading_at kept path ≡ Some reading → entry_at patch (text_path path) ≡ None
 
 -- an index that is kept is the tree's

@@ -14,7 +14,7 @@ use Rattle.url_split.specs.declared.decompose.Parts.{Parts}
 use Rattle.url_split.specs.Split.{split_of}
 use Rattle.form_input.specs.Forms.{form_of}
 use Rattle.post_plan.specs.Plan.{plan_of}
-use Rattle.post_apply.specs.Posting.{Posted, posted}
+use Rattle.post_apply.specs.Posting.{PostEffect, post_outcome}
 use Rattle.post_apply.specs.declared.report.PostReport.{PostReport}
 use Rattle.error_answers.specs.Errors.{error_answer}
 use Rattle.publisher.specs.declared.refusal.Refusal.{Refusal}
@@ -56,12 +56,12 @@ abbrev pub named_path : Content → List ℕ → Option (List (List ℕ))
 named_path tree text = option_or (option_map (λ (parts : Parts). parts.path) (split_of (has_resource tree) text)) (path_in text)
 
 -- a new node is wished below the path before the last segment
-abbrev pub starred : List ℕ → Option PostTarget
-starred text = option_map (λ path. target_at true (parent_of path)) (path_in text)
+abbrev pub star_target : List ℕ → Option PostTarget
+star_target text = option_map (λ path. target_at true (parent_of path)) (path_in text)
 
 -- the target of a text: a new node below it is wished where its last segment is `*`, and else where a slash stood at its end
 abbrev pub post_target : Content → List ℕ → Bool → Option PostTarget
-post_target tree text slash = if ends_in_star text then starred text else option_map (target_at slash) (named_path tree text)
+post_target tree text slash = if ends_in_star text then star_target text else option_map (target_at slash) (named_path tree text)
 
 -- the target, or Bad Request where there is none (RFC 9110, section 15.5.1)
 abbrev pub or_bad_request : Option PostTarget → PostOutcome PostTarget
@@ -72,12 +72,12 @@ or_bad_request None = Err (Status 400)
 
 -- what a POST to a text gives: its target, its form, the operation that the form asks for, and what that makes of the content; or the first
 -- cause for which it is refused
-unfoldable pub posting : Content → Ask → List ℕ → PostOutcome Posted
+unfoldable pub posting : Content → Ask → List ℕ → PostOutcome PostEffect
 posting tree ask text = do
   target ← or_bad_request (post_target tree text ask.slash)
   pairs ← or_refused of_form (form_of ask.kind ask.body)
   operation ← or_refused of_plan (plan_of target.path target.star pairs)
-  or_refused of_operation (posted operation tree)
+  or_refused of_operation (post_outcome operation tree)
 
 -- ---- what it is answered
 
@@ -109,11 +109,11 @@ refusal_answer (Status status) = error_answer status
 refusal_answer NoMemory = error_answer 500
 
 -- the answer to a POST
-abbrev pub posting_answer : PostOutcome Posted → Answer
+abbrev pub posting_answer : PostOutcome PostEffect → Answer
 posting_answer (Ok done) = report_answer done.report
 posting_answer (Err refusal) = refusal_answer refusal
 
 -- the content after a POST: as before where it is refused
-abbrev pub posting_content : Content → PostOutcome Posted → Content
+abbrev pub posting_content : Content → PostOutcome PostEffect → Content
 posting_content tree (Ok done) = done.content
 posting_content tree (Err refusal) = tree

@@ -74,8 +74,8 @@ json_representation res TooLong = error_answer 500
 
 -- a resource as JSON at the depth that is asked for, if one is
 abbrev pub json_to_depth : Seen → Resource → Option Depth → Answer
-json_to_depth seen res None = error_answer 400
-json_to_depth seen res (Some depth) = json_representation res (json_answer seen res (levels_of depth) most_rendered_bytes)
+json_to_depth seen_resources res None = error_answer 400
+json_to_depth seen_resources res (Some depth) = json_representation res (json_answer seen_resources res (levels_of depth) most_rendered_bytes)
 
 -- the content of a file
 abbrev pub file_representation : Resource → Option Stream → Answer
@@ -92,8 +92,8 @@ is_bare parts = length parts.selectors == 0 && (length parts.extension == 0 && l
 
 -- the answer of the default GET servlet: with the extension `json` the resource as JSON, without extension, selectors and suffix its stream
 abbrev pub default_answer : Seen → Parts → Resource → Answer
-default_answer seen parts res = if is_json parts.extension then json_to_depth seen res (depth_of parts.selectors)
-    else (if is_bare parts then file_representation res (stream_of seen res) else error_answer 404)
+default_answer seen_resources parts res = if is_json parts.extension then json_to_depth seen_resources res (depth_of parts.selectors)
+    else (if is_bare parts then file_representation res (stream_of seen_resources res) else error_answer 404)
 
 -- the text of the script that ranks first for a resource, if there is one
 unfoldable pub script_for : Content → Parts → Resource → Option (List ℕ)
@@ -114,22 +114,22 @@ script_representation res Refused = error_answer 500
 
 -- the answer of a resource: what the script's template writes, or without a script the answer of the default GET servlet
 abbrev pub answer_by : Option (List ℕ) → Seen → Parts → Resource → Answer
-answer_by (Some text) seen parts res = script_representation res (reading_of text)
-answer_by None seen parts res = default_answer seen parts res
+answer_by (Some text) seen_resources parts res = script_representation res (reading_of text)
+answer_by None seen_resources parts res = default_answer seen_resources parts res
 
 -- what is seen at a path: the merged resource. Types and scripts are looked up among the tree's own nodes.
-abbrev pub seen : Content → Seen
-seen tree = merged_resource tree
+abbrev pub seen_resources : Content → Seen
+seen_resources tree = merged_resource tree
 
 -- the answer of what is seen at a path, by the script that ranks first for it
 abbrev pub resource_answer : Content → Parts → Option Resource → Answer
 resource_answer tree parts None = error_answer 404
-resource_answer tree parts (Some res) = answer_by (script_for tree parts res) (seen tree) parts res
+resource_answer tree parts (Some res) = answer_by (script_for tree parts res) (seen_resources tree) parts res
 
 -- the answer to a path that was taken apart, if it names a resource
 abbrev pub split_answer : Content → Option Parts → Answer
 split_answer tree None = error_answer 404
-split_answer tree (Some parts) = resource_answer tree parts (seen tree parts.path)
+split_answer tree (Some parts) = resource_answer tree parts (seen_resources tree parts.path)
 
 -- what the text of a request's path is mapped to, for the host and the port that it asks
 abbrev pub mapping : Content → Ask → MapAnswer
@@ -159,8 +159,8 @@ posted_content tree ask (Inside text) = posting_content tree (posting tree ask t
 posted_content tree ask (Away status target) = tree
 
 -- the answer to a request: the text of the path is mapped; another method than GET, HEAD and POST isn't allowed
-unfoldable pub rendered : Content → Ask → Answer
-rendered tree ask = if is_read ask.method then mapped_answer tree (mapping tree ask)
+unfoldable pub answer_to_request : Content → Ask → Answer
+answer_to_request tree ask = if is_read ask.method then mapped_answer tree (mapping tree ask)
     else (if is_post ask.method then posted_answer tree ask (mapping tree ask) else error_answer 405)
 
 -- the content after a request: no other method than POST changes it

@@ -1,6 +1,6 @@
 //! What a publisher holds: a content tree, what is kept beside it, and the answers by both.
 ghost use Rattle.std.specs.Prelude.{◌≡◌, ◌≤◌, ◌||◌, IfOk, IsTrue, OnOk, OnErr, length, true};
-ghost use Rattle.publisher.specs.Rendering.{seen, mapped_answer, mapping, text_answer, resource_answer, rendered, content_after_request, is_post, is_read, most_rendered_bytes};
+ghost use Rattle.publisher.specs.Rendering.{seen_resources, mapped_answer, mapping, text_answer, resource_answer, answer_to_request, content_after_request, is_post, is_read, most_rendered_bytes};
 
 use crate::errors::redirect;
 use crate::kept_index::mapped;
@@ -68,9 +68,9 @@ impl HeldContent {
     }
 
     /// What a request is answered.
-    #[tactic(auto, unfolding(crate::specs::Rendering::rendered, crate::specs::Rendering::content_after_request))]
+    #[tactic(auto, unfolding(crate::specs::Rendering::answer_to_request, crate::specs::Rendering::content_after_request))]
     pub(crate) fn answer(&mut self, alloc: Global, ask: &Ask) -> Mem<Answer>
-        ensures ok { IfOk result (λ a. a ≡ rendered self.old.tree ask.now) }
+        ensures ok { IfOk result (λ a. a ≡ answer_to_request self.old.tree ask.now) }
         ensures after { OnOk result (self.new.tree ≡ content_after_request self.old.tree ask.now) }
         ensures unchanged { OnErr result (self.new.tree ≡ self.old.tree) }
         ensures fits { IfOk result (λ a. a.status ≡ 200 → length a.body ≤ most_rendered_bytes) }
@@ -124,7 +124,7 @@ impl HeldContent {
 
     // The answer of the resource that the parts of a URL name.
     fn named(&mut self, alloc: Global, parts: &Parts) -> Mem<Answer>
-        ensures answer { IfOk result (λ a. a ≡ resource_answer self.old.tree parts.now (seen self.old.tree parts.now.path)) }
+        ensures answer { IfOk result (λ a. a ≡ resource_answer self.old.tree parts.now (seen_resources self.old.tree parts.now.path)) }
         ensures unchanged { self.new ≡ self.old }
     {
         match merged_alone(alloc, &self.tree, &parts.path)? {

@@ -17,7 +17,7 @@ ghost use Rattle.htl_text.specs.Template.{template_output as written_by};
 ghost use Rattle.error_answers.specs.Errors.{error_answer};
 ghost use Rattle.publisher.specs.Errors.{redirect};
 ghost use Rattle.publisher.specs.PostLaws.{PostsAreRefusedForCauses, RequestsKeepContentGood};
-ghost use Rattle.publisher.specs.Rendering.{content_after_request, is_post, is_read, rendered, scope_of, seen, most_rendered_bytes};
+ghost use Rattle.publisher.specs.Rendering.{content_after_request, is_post, is_read, answer_to_request, scope_of, seen_resources, most_rendered_bytes};
 
 use form_input::forms_are_refused_for_causes;
 use htl_text::the_pieces_are_the_text;
@@ -30,7 +30,7 @@ use url_split::the_split_is_the_longest;
 
 /// A GET and a HEAD of one path are answered alike at one host and port, whatever body they bring.
 pub fn reads_depend_on_host_port_and_path()
-    ensures { (tree : Content) (a b : Ask) → is_read a.method ≡ true → is_read b.method ≡ true → a.host ≡ b.host → a.port ≡ b.port → a.path ≡ b.path → rendered tree a ≡ rendered tree b }
+    ensures { (tree : Content) (a b : Ask) → is_read a.method ≡ true → is_read b.method ≡ true → a.host ≡ b.host → a.port ≡ b.port → a.path ≡ b.path → answer_to_request tree a ≡ answer_to_request tree b }
 {}
 
 /// A GET and a HEAD change nothing (RFC 9110, section 9.2.1).
@@ -40,7 +40,7 @@ pub fn reads_change_nothing()
 
 /// What is answered neither 200 nor 201 changes nothing: a POST is done whole or not at all.
 pub fn refusals_change_nothing()
-    ensures { (tree : Content) (ask : Ask) → (rendered tree ask).status ≢ 200 → (rendered tree ask).status ≢ 201 → content_after_request tree ask ≡ tree }
+    ensures { (tree : Content) (ask : Ask) → (answer_to_request tree ask).status ≢ 200 → (answer_to_request tree ask).status ≢ 201 → content_after_request tree ask ≡ tree }
 {}
 
 /// Whatever the request, the content after it is one that a tree has.
@@ -64,13 +64,13 @@ pub fn posts_are_refused_for_causes()
 
 /// A representation has at most 4,194,304 bytes. (That a 200 to a POST has no more either is a clause of `Publisher::answer`.)
 pub fn representations_fit()
-    ensures { (tree : Content) (ask : Ask) → is_read ask.method ≡ true → (rendered tree ask).status ≡ 200 → length (rendered tree ask).body ≤ most_rendered_bytes }
+    ensures { (tree : Content) (ask : Ask) → is_read ask.method ≡ true → (answer_to_request tree ask).status ≡ 200 → length (answer_to_request tree ask).body ≤ most_rendered_bytes }
 {}
 
 /// Every status has three digits at most, and none is 507 (Insufficient Storage): out of memory is no answer of the content.
 pub fn statuses_are_short()
-    ensures rendered { (tree : Content) (ask : Ask) → (rendered tree ask).status < 1000 }
-    ensures memory { (tree : Content) (ask : Ask) → (rendered tree ask).status ≢ 507 }
+    ensures rendered { (tree : Content) (ask : Ask) → (answer_to_request tree ask).status < 1000 }
+    ensures memory { (tree : Content) (ask : Ask) → (answer_to_request tree ask).status ≢ 507 }
     ensures error { (status : ℕ) → (error_answer status).status ≡ status }
 {
     away_is_a_redirect();
@@ -80,7 +80,7 @@ pub fn statuses_are_short()
 /// nothing.
 pub fn what_leads_away_is_a_redirect()
     ensures answer { (tree : Content) (ask : Ask) (status : ℕ) (target : List ℕ) → IsGood tree → (is_read ask.method || is_post ask.method) ≡ true
-        → IsMapped tree ask.host ask.port (text_of ask.path) (Away status target) → rendered tree ask ≡ redirect status target }
+        → IsMapped tree ask.host ask.port (text_of ask.path) (Away status target) → answer_to_request tree ask ≡ redirect status target }
     ensures content { (tree : Content) (ask : Ask) (status : ℕ) (target : List ℕ) → IsGood tree
         → IsMapped tree ask.host ask.port (text_of ask.path) (Away status target) → content_after_request tree ask ≡ tree }
 {
@@ -92,9 +92,9 @@ pub fn what_leads_away_is_a_redirect()
 pub fn a_script_writes_its_pieces()
     ensures { (tree : Content) (ask : Ask) (mapped : List ℕ) (parts : Parts) (res : Resource) (script : List (List ℕ)) (text : List ℕ) (pieces : List TemplatePiece)
         → IsGood tree → is_read ask.method ≡ true → IsMapped tree ask.host ask.port (text_of ask.path) (Inside mapped)
-        → IsSplit (has_resource tree) mapped parts → seen tree parts.path ≡ Some res
+        → IsSplit (has_resource tree) mapped parts → seen_resources tree parts.path ≡ Some res
         → IsFirstScript tree (chain_of tree res.props) parts script → script_text tree script ≡ Some text → SpellsTemplate text pieces []
-        → (rendered tree ask).status ≡ 200 → (rendered tree ask).body ≡ written_by (scope_of res) pieces }
+        → (answer_to_request tree ask).status ≡ 200 → (answer_to_request tree ask).body ≡ written_by (scope_of res) pieces }
 {
     the_answer_is_mapped();
     the_split_is_the_longest();

@@ -4,7 +4,7 @@ ghost use Rattle.get_servlet.specs.Streams.{stream_of};
 ghost use Rattle.publisher.specs.Depths.{depth_of};
 ghost use Rattle.script_rank.specs.Ranking.{script_text};
 ghost use Rattle.publisher.specs.Kept.{AreReadings};
-ghost use Rattle.publisher.specs.Rendering.{representation_of, json_representation, json_to_depth, file_representation, is_bare, default_answer, resource_answer, seen};
+ghost use Rattle.publisher.specs.Rendering.{representation_of, json_representation, json_to_depth, file_representation, is_bare, default_answer, resource_answer, seen_resources};
 ghost use Rattle.publisher.specs.SeenAlone.{IsSeenAlone, seen_answer};
 
 use crate::choices::choices_text;
@@ -148,7 +148,7 @@ pub(crate) fn resource_answer(
 ) -> Mem<Answer>
     requires kept { AreReadings tree.now templates.old }
     requires seen { IsSeenAlone tree.now parts.now res.now }
-    ensures answer { IfOk result (λ a. a ≡ resource_answer tree.now parts.now (seen tree.now parts.now.path)) }
+    ensures answer { IfOk result (λ a. a ≡ resource_answer tree.now parts.now (seen_resources tree.now parts.now.path)) }
     ensures kept { AreReadings tree.now templates.new }
 {
     match script_of(alloc, tree, res.props(), parts)? {

@@ -1,7 +1,7 @@
 //! The publisher: a content tree, what is kept beside it, and the answer to a request.
 ghost use Rattle.std.specs.Prelude.{◌≡◌, ◌≤◌, IfOk, OnOk, OnErr, length};
 ghost use Rattle.resource_tree.specs.Content.{IsGood};
-ghost use Rattle.publisher.specs.Rendering.{rendered, content_after_request, most_rendered_bytes};
+ghost use Rattle.publisher.specs.Rendering.{answer_to_request, content_after_request, most_rendered_bytes};
 
 use crate::held_content::HeldContent;
 use resource_tree::Tree;
@@ -50,7 +50,7 @@ impl Publisher {
 
     /// What a request is answered. A POST that isn't refused changes the tree.
     pub fn answer(&mut self, alloc: Global, ask: &Ask) -> Mem<Answer>
-        ensures ok { IfOk result (λ a. a ≡ rendered self.old ask.now) }
+        ensures ok { IfOk result (λ a. a ≡ answer_to_request self.old ask.now) }
         ensures after { OnOk result (self.new ≡ content_after_request self.old ask.now) }
         ensures unchanged { OnErr result (self.new ≡ self.old) }
         ensures good { IsGood self.new }

@@ -43,7 +43,7 @@ fn named_path(alloc: Global, tree: &Tree, text: &str) -> Mem<Option<Path>>
 
 // A new node below the path before the last segment of a text.
 fn starred(alloc: Global, text: &str) -> Mem<Option<PostTarget>>
-    ensures { IfOk result (λ o. o ≡ spec.starred text.now) }
+    ensures { IfOk result (λ o. o ≡ spec.star_target text.now) }
 {
     match path_in(alloc, text)? {
         Some(path) => Ok(Some(PostTarget {

@@ -29,9 +29,9 @@ pub(crate) struct Templates {
 impl Model for Templates {
     ghost use Rattle.std.specs.Coded.{codes};
     ghost use Rattle.htl_expr.specs.contracts.node.ExprNode as node;
-    ghost use Rattle.publisher.specs.Kept.{Kept};
+    ghost use Rattle.publisher.specs.Kept.{KeptReadings};
 
-    ghost Value = { Kept };
+    ghost Value = { KeptReadings };
 
     ghost coded = { Prim.hlevel (codes, node.the_row.coded) };
 

@@ -5,14 +5,14 @@ use Rattle.sp_base.specs.Paths.{unmangled_segs}
 use Rattle.resource_tree.specs.Content.{Content}
 use Rattle.error_answers.specs.Errors.{error_answer}
 use Rattle.any_config.specs.declared.farm.Farm.{Farm}
-use Rattle.publisher.specs.Rendering.{rendered}
+use Rattle.publisher.specs.Rendering.{answer_to_request}
 use Rattle.sling_dispatch.specs.Runs.{sling_publisher}
 use Rattle.http_front.specs.Targets.{begins_with_slash, path_bytes, ends_in_slash, path_of_bytes, with_path}
 use Rattle.front.specs.Publishers.{get_of, answer_to, direct_answer}
 
 -- the answer to a target by its decoded path alone
 answer_at : Farm → Content → Bool → Option (List (List ℕ)) → Answer
-answer_at farm content slash (Some path) = rendered content (get_of farm (record { path = unmangled_segs path; slash = slash; query = None }))
+answer_at farm content slash (Some path) = answer_to_request content (get_of farm (record { path = unmangled_segs path; slash = slash; query = None }))
 answer_at farm content slash None = error_answer 400
 
 answer_is : (farm : Farm) (content : Content) (target : List ℕ) (path : Option (List (List ℕ)))

@@ -9,7 +9,7 @@ use Rattle.sp_base.specs.declared.answer.Req.{Req}
 use Rattle.resource_tree.specs.Content.{Content}
 use Rattle.error_answers.specs.Errors.{error_answer}
 use Rattle.any_config.specs.declared.farm.Farm.{Farm}
-use Rattle.publisher.specs.Rendering.{rendered}
+use Rattle.publisher.specs.Rendering.{answer_to_request}
 use Rattle.cover_rules.specs.declared.page.PageKey.{PageKey}
 use Rattle.http_front.specs.Faults.{fault_status}
 use Rattle.http_front.specs.declared.fault.InFault.{InFault}
@@ -164,7 +164,7 @@ idle-fits : (w : RunState) (notes : List Note) → StateFits w → notes ≡ Idl
 idle-fits w notes fits is = rw is (record { writable = (tt, tt); state = fits })
 
 -- ---- events
-module _ (short : (tree : Content) (ask : Ask) → (rendered tree ask).status < 1000) (error : (status : ℕ) → (error_answer status).status ≡ status) where
+module _ (short : (tree : Content) (ask : Ask) → (answer_to_request tree ask).status < 1000) (error : (status : ℕ) → (error_answer status).status ≡ status) where
   answer_short : (farm : Farm) (content : Content) (target : Option Target) → (answer_to sling_publisher farm content target).status < 65536
   answer_short farm content (Some target) = omega (arith, short content (get_of farm target))
   answer_short farm content None = omega (arith, error 400)

@@ -3,7 +3,7 @@ use Rattle.std.specs.Prelude.{◌≡◌, ◌==◌, ◌++◌, if◌then◌else◌
 use Rattle.std.specs.Fmt.{decimal}
 use Rattle.resource_tree.specs.Content.{Content}
 use Rattle.content_json.specs.ContentOf.{content as content_of}
-use Rattle.publisher.specs.Rendering.{rendered, content_after_request}
+use Rattle.publisher.specs.Rendering.{answer_to_request, content_after_request}
 use Rattle.replay_text.specs.declared.event_line.EventLine.{EventLine}
 use Rattle.replay_text.specs.declared.event_line.EventLine.TheVariants as line
 use Rattle.replay_text.specs.declared.event_line.Flight.{Flight}
@@ -69,7 +69,7 @@ step_of host (line.Lose flight) = Lose (pick_of flight)
 
 -- what the publisher gives: its answer, and what it leaves of the content
 abbrev pub sling_publisher : Publishing
-sling_publisher content ask = record { answer = rendered content ask; content = content_after_request content ask }
+sling_publisher content ask = record { answer = answer_to_request content ask; content = content_after_request content ask }
 
 -- the transcript of events
 abbrev pub told_of_events : List Event → List ℕ

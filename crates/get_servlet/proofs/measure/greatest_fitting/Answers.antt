@@ -1,7 +1,7 @@
 use Rattle.std.proofs.Common.{◌≡◌, ◌+◌, ◌-◌, ◌≤◌, ◌++◌, List, length, subst, sym, ◌∙◌, ap, arith}
 use Rattle.std.proofs.lemmas.Bool.{eqb-true}
 use Rattle.get_servlet.specs.declared.kids.Kid.{Kid}
-use Rattle.get_servlet.specs.Rendering.{shown}
+use Rattle.get_servlet.specs.Rendering.{shown_count}
 use Rattle.get_servlet.specs.Steps.{shown_kids, next_level}
 use Rattle.get_servlet.proofs.CountLemmas.{all_fit, first_level, first_over, level_more, level_fits, level_over, none_deeper}
 use Rattle.get_servlet.proofs.measure.greatest_fitting.Goals as goal
@@ -60,5 +60,5 @@ returns g c =
     let seen = g.L.Look.seen c.args.look.now in
     let res = c.args.res.now in
     let end : c.loop-reached.reached ≡ c.args.depth = omega (arith, c.loop-reached.auto, c.loop-reached-test.false, c.requires.deep) in
-    all_fit (shown seen res) c.args.depth (omega (arith, c.requires.deep))
-    (subst (λ n. shown seen res n ≤ 1000) end (level_fits seen res c.loop-reached.reached c.loop-reached.room c.loop-reached.level.items c.loop-reached.invariant))
+    all_fit (shown_count seen res) c.args.depth (omega (arith, c.requires.deep))
+    (subst (λ n. shown_count seen res n ≤ 1000) end (level_fits seen res c.loop-reached.reached c.loop-reached.room c.loop-reached.level.items c.loop-reached.invariant))

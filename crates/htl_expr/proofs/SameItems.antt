@@ -8,7 +8,7 @@ use Rattle.std.proofs.lemmas.Slice.Eq.{bytes_eq-Decides}
 use Rattle.htl_expr.specs.declared.out.Out.{Out}
 use Rattle.htl_expr.specs.declared.out.Out.TheVariants as out
 use Rattle.htl_expr.specs.Print.{plain}
-use Rattle.htl_expr.specs.Lent.{is_list, is_text, listed_texts}
+use Rattle.htl_expr.specs.Lent.{is_list, is_lent_text, listed_texts}
 use Rattle.htl_expr.specs.Value.{is_same}
 
 pub unequal_lengths : {X : Type 0} (same : X → X → Bool) (xs ys : List X) → length xs ≢ length ys → pointwise same xs ys ≡ false
@@ -35,7 +35,7 @@ same_lists (out.Truth a) b e f = absurd cc
 same_lists (out.Long a) b e f = absurd cc
 same_lists (out.Text a) b e f = absurd cc
 
-pub same_texts : (a b : Out) → is_text a ≡ true → is_text b ≡ true → is_same a b ≡ pointwise nat_eq (plain (codes ",") a) (plain (codes ",") b)
+pub same_texts : (a b : Out) → is_lent_text a ≡ true → is_lent_text b ≡ true → is_same a b ≡ pointwise nat_eq (plain (codes ",") a) (plain (codes ",") b)
 same_texts (out.Text a) (out.Text b) e f = refl
 same_texts (out.Text a) out.Nothing e f = absurd cc
 same_texts (out.Text a) (out.Truth b) e f = absurd cc

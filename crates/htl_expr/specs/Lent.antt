@@ -42,9 +42,9 @@ is_list (out.List texts) = true
 is_list _ = false
 
 -- whether a value is a text
-abbrev pub is_text : Out → Bool
-is_text (out.Text text) = true
-is_text _ = false
+abbrev pub is_lent_text : Out → Bool
+is_lent_text (out.Text text) = true
+is_lent_text _ = false
 
 -- the text of the property of this name as an item of a list literal
 abbrev pub property_item : Bindings → List ℕ → List ℕ

@@ -119,7 +119,7 @@ pub(crate) fn is_same(a: &Lent, b: &Lent) -> bool
 
 /// Whether a value is a text.
 pub(crate) fn is_text(value: &Lent) -> bool
-    ensures { result ≡ lent.is_text (out_of_lent value.now) }
+    ensures { result ≡ lent.is_lent_text (out_of_lent value.now) }
 {
     matches!(value, Lent::Text(_))
 }

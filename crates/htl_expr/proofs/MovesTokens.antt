@@ -275,22 +275,22 @@ abbrev pub JoinOf : List ℕ → List ℕ → List ℕ → Type 0
 JoinOf w s r = Join s w r
 
 pub join_of : (w s r : List ℕ) → Then (Literal (codes "join")) (Then (Byte 61) (StringOf w)) s r → Join s w r
-join_of w s r x = record { behind_word = x.0; behind_sign = x.2.0; word = x.1; sign = x.2.1; value = x.2.2 }
+join_of w s r x = record { after_literal = x.0; after_sign = x.2.0; word = x.1; sign = x.2.1; value = x.2.2 }
 
 pub join_steps : (s w r : List ℕ) → Join s w r → Steps (JoinOf w) s r
 join_steps s w r x =
     steps_map (Then (Literal (codes "join")) (Then (Byte 61) (StringOf w))) (JoinOf w) s r (join_of w)
-    (steps_steps (Literal (codes "join")) (Then (Byte 61) (StringOf w)) s x.behind_word r (literal_steps (codes "join") s x.behind_word x.word)
-    (steps_steps (Byte 61) (StringOf w) x.behind_word x.behind_sign r (byte_steps 61 x.behind_word x.behind_sign x.sign) (string_steps x.behind_sign w r x.value)))
+    (steps_steps (Literal (codes "join")) (Then (Byte 61) (StringOf w)) s x.after_literal r (literal_steps (codes "join") s x.after_literal x.word)
+    (steps_steps (Byte 61) (StringOf w) x.after_literal x.after_sign r (byte_steps 61 x.after_literal x.after_sign x.sign) (string_steps x.after_sign w r x.value)))
 
 abbrev pub InContextOf : Context → List ℕ → List ℕ → Type 0
 InContextOf c s r = InContext s c r
 
 pub in_context_of : (c : Context) (s r : List ℕ) → Then (Literal (codes "context")) (Then (Byte 61) (ContextStringOf c)) s r → InContext s c r
-in_context_of c s r x = record { behind_word = x.0; behind_sign = x.2.0; word = x.1; sign = x.2.1; value = x.2.2 }
+in_context_of c s r x = record { after_literal = x.0; after_sign = x.2.0; word = x.1; sign = x.2.1; value = x.2.2 }
 
 pub in_context_steps : (s : List ℕ) (c : Context) (r : List ℕ) → InContext s c r → Steps (InContextOf c) s r
 in_context_steps s c r x =
     steps_map (Then (Literal (codes "context")) (Then (Byte 61) (ContextStringOf c))) (InContextOf c) s r (in_context_of c)
-    (steps_steps (Literal (codes "context")) (Then (Byte 61) (ContextStringOf c)) s x.behind_word r (literal_steps (codes "context") s x.behind_word x.word)
-    (steps_steps (Byte 61) (ContextStringOf c) x.behind_word x.behind_sign r (byte_steps 61 x.behind_word x.behind_sign x.sign) (context_string_steps x.behind_sign c r x.value)))
+    (steps_steps (Literal (codes "context")) (Then (Byte 61) (ContextStringOf c)) s x.after_literal r (literal_steps (codes "context") s x.after_literal x.word)
+    (steps_steps (Byte 61) (ContextStringOf c) x.after_literal x.after_sign r (byte_steps 61 x.after_literal x.after_sign x.sign) (context_string_steps x.after_sign c r x.value)))

@@ -226,7 +226,7 @@ module _ (levels : ℕ) where
   whole_of : (t : List ℕ) → Text (blanks_skipped t) [] → (e : Expr) × WholeWithin levels t e
   whole_of t x =
       let o = to_end x.0 [] x.2 refl in
-      (spec.expr_of x.1.0 (o.0, o.1), record { behind = x.0; tree = x.1.1; options = o.2 })
+      (spec.expr_of x.1.0 (o.0, o.1), record { after_tree = x.0; tree = x.1.1; options = o.2 })
 
   finish : (s : List ℕ) (k : ℕ) → Stuck Text (blanks_skipped s) k → MayGoOn levels s (length s - k)
   finish s k q =

@@ -30,12 +30,12 @@ context_string_again s c r x =
 join_again : (s w r : List ℕ) → Join s w r → spec.join_option s ≡ Ok (w, r)
 unfolding spec.join_option
 join_again s w r x =
-    rw (x.word.parts, literal_again (codes "join") x.word.after, sym x.word.rest, again.expect_again 61 x.behind_word x.behind_sign x.sign) (again.string_again x.behind_sign w r x.value)
+    rw (x.word.parts, literal_again (codes "join") x.word.after, sym x.word.rest, again.expect_again 61 x.after_literal x.after_sign x.sign) (again.string_again x.after_sign w r x.value)
 
 in_context_again : (s : List ℕ) (c : Context) (r : List ℕ) → InContext s c r → spec.context_option s ≡ Ok (c, r)
 unfolding spec.context_option
 in_context_again s c r x =
-    rw (x.word.parts, literal_again (codes "context") x.word.after, sym x.word.rest, again.expect_again 61 x.behind_word x.behind_sign x.sign) (context_string_again x.behind_sign c r x.value)
+    rw (x.word.parts, literal_again (codes "context") x.word.after, sym x.word.rest, again.expect_again 61 x.after_literal x.after_sign x.sign) (context_string_again x.after_sign c r x.value)
 
 join_at : (s w r : List ℕ) → Join s w r → is_at 106 s ≡ true
 unfolding is_at
@@ -91,4 +91,4 @@ module _ (levels : ℕ) where
 
   pub read_again : (s : List ℕ) (e : Expr) → WholeWithin levels s e → spec.expression_read levels s ≡ Ok e
   unfolding spec.expression_read
-  read_again s e w = rw (first_tree (blanks_skipped s) e.node w.behind w.tree (options_stop w.behind e.join e.context w.options), options_again w.behind e.join e.context w.options) refl
+  read_again s e w = rw (first_tree (blanks_skipped s) e.node w.after_tree w.tree (options_stop w.after_tree e.join e.context w.options), options_again w.after_tree e.join e.context w.options) refl

@@ -57,8 +57,8 @@ join_sound s p e =
     let a = bind_ok (literal (codes "join") s) (λ a. expect 61 (blanks_skipped a) >>= λ b. string b) p e in
     let b = bind_ok (expect 61 (blanks_skipped a.0)) (λ b. string b) p a.2 in
     record {
-      behind_word = blanks_skipped a.0;
-      behind_sign = b.0;
+      after_literal = blanks_skipped a.0;
+      after_sign = b.0;
       word = record { after = a.0; parts = literal_parts (codes "join") s a.0 a.1; rest = refl };
       sign = expect_sound 61 (blanks_skipped a.0) b.0 b.1;
       value = string_sound b.0 p b.2;
@@ -70,8 +70,8 @@ in_context_sound s p e =
     let a = bind_ok (literal (codes "context") s) (λ a. expect 61 (blanks_skipped a) >>= λ b. spec.context_string b) p e in
     let b = bind_ok (expect 61 (blanks_skipped a.0)) (λ b. spec.context_string b) p a.2 in
     record {
-      behind_word = blanks_skipped a.0;
-      behind_sign = b.0;
+      after_literal = blanks_skipped a.0;
+      after_sign = b.0;
       word = record { after = a.0; parts = literal_parts (codes "context") s a.0 a.1; rest = refl };
       sign = expect_sound 61 (blanks_skipped a.0) b.0 b.1;
       value = context_string_sound b.0 p b.2;
@@ -154,6 +154,6 @@ module _ (levels : ℕ) where
       let x = bind_ok (spec.optional_choice levels (blanks_skipped s)) (λ x. spec.options x.1 >>= λ o. cond (eqb (length o.1) 0) (Ok (spec.expr_of x.0 o.0)) (Err (Unexpected (length o.1)))) e w in
       let o = bind_ok (spec.options x.0.1) (λ o. cond (eqb (length o.1) 0) (Ok (spec.expr_of x.0.0 o.0)) (Err (Unexpected (length o.1)))) e x.2 in
       elim (chosen (eqb (length o.0.1) 0) _ _ _ o.2) [
-        | inl h ↦ subst (λ (y : Expr). WholeWithin levels s y) (ok_is _ _ h.1) (record { behind = x.0.1; tree = first_sound (blanks_skipped s) x.0 x.1; options = options_sound x.0.1 o.0 o.1 (nil_of o.0.1 h.0) })
+        | inl h ↦ subst (λ (y : Expr). WholeWithin levels s y) (ok_is _ _ h.1) (record { after_tree = x.0.1; tree = first_sound (blanks_skipped s) x.0 x.1; options = options_sound x.0.1 o.0 o.1 (nil_of o.0.1 h.0) })
         | inr h ↦ absurd (let z = h.1 in cc)
       ]

@@ -184,16 +184,16 @@ pub record ContextString (s : List ℕ) (c : Context) (r : List ℕ) : Type 0 wh
 
 -- "join" "=" string
 pub record Join (s w r : List ℕ) : Type 0 where
-  pub behind_word : List ℕ
-  pub behind_sign : List ℕ
+  pub after_literal : List ℕ
+  pub after_sign : List ℕ
   pub word : Literal (codes "join") s after_literal
   pub sign : Byte 61 after_literal after_sign
   pub value : String after_sign w r
 
 -- "context" "=" ('text' | 'unsafe')
 pub record InContext (s : List ℕ) (c : Context) (r : List ℕ) : Type 0 where
-  pub behind_word : List ℕ
-  pub behind_sign : List ℕ
+  pub after_literal : List ℕ
+  pub after_sign : List ℕ
   pub word : Literal (codes "context") s after_literal
   pub sign : Byte 61 after_literal after_sign
   pub value : ContextString after_sign c r
@@ -217,7 +217,7 @@ Tree levels s (Some e) r = Reads Choice levels s e r
 
 -- the expression of a whole text in which `levels` levels may nest
 pub record WholeWithin (levels : ℕ) (s : List ℕ) (e : Expr) : Type 0 where
-  pub behind : List ℕ
+  pub after_tree : List ℕ
   pub tree : Tree levels (blanks_skipped s) e.node after_tree
   pub options : Options after_tree e.join e.context
 

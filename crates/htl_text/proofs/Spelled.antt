@@ -108,22 +108,22 @@ fault_read found NoMemory place t x = absurd x
 
 pub first_is_read : Found → Only → (text : List ℕ) (f : TextFault) → IsFirstOpening f text → template_of text ≡ Err f
 first_is_read found only text f x =
-    let opening = 36 ∷ 123 ∷ x.behind in
+    let opening = 36 ∷ 123 ∷ x.after_opening in
     let size : length text ≡ length x.front + length opening = ap length x.parts ∙ length-append x.front opening in
     let place : length text - length opening ≡ length x.front = omega (arith, size) in
     (spelled_on only (length text) text x.ps opening x.spelling).1 f
-    (value_fails (length text) opening f (opens_there x.behind) (ap (λ (k : ℕ). value_at k opening) place ∙ fault_read found f (length x.front) x.behind x.faulty))
+    (value_fails (length text) opening f (opens_there x.after_opening) (ap (λ (k : ℕ). value_at k opening) place ∙ fault_read found f (length x.front) x.after_opening x.faulty))
 
 -- ---- what is read is spelled
 
 -- the first fault of a text that begins at a place
 record First (n : ℕ) (text : List ℕ) (fault : TextFault) : Type 0 where
   front : List ℕ
-  behind : List ℕ
+  after_opening : List ℕ
   ps : List TemplatePiece
-  parts : text ≡ front ++ 36 ∷ 123 ∷ behind
-  spelling : SpellsTemplate text ps (36 ∷ 123 ∷ behind)
-  faulty : Faults fault (n + length front) behind
+  parts : text ≡ front ++ 36 ∷ 123 ∷ after_opening
+  spelling : SpellsTemplate text ps (36 ∷ 123 ∷ after_opening)
+  faulty : Faults fault (n + length front) after_opening
 
 -- what a reading says of the text
 abbrev Meaning : ℕ → List ℕ → Read → Type 0
@@ -138,11 +138,11 @@ later n w text after f g e spell x =
     let place : (n + length w) + length x.front ≡ n + length (w ++ x.front) = omega (arith, size) in
     record {
       front = w ++ x.front;
-      behind = x.behind;
+      after_opening = x.after_opening;
       ps = g x.ps;
-      parts = e ∙ ap (λ (t : List ℕ). w ++ t) x.parts ∙ sym (append_assoc w x.front (36 ∷ 123 ∷ x.behind));
-      spelling = spell x.ps (36 ∷ 123 ∷ x.behind) x.spelling;
-      faulty = subst (λ (k : ℕ). Faults f k x.behind) place x.faulty;
+      parts = e ∙ ap (λ (t : List ℕ). w ++ t) x.parts ∙ sym (append_assoc w x.front (36 ∷ 123 ∷ x.after_opening));
+      spelling = spell x.ps (36 ∷ 123 ∷ x.after_opening) x.spelling;
+      faulty = subst (λ (k : ℕ). Faults f k x.after_opening) place x.faulty;
     }
 
 plain_means : (n c : ℕ) (t : List ℕ) → opens_expression (c ∷ t) ≡ false → escapes (c ∷ t) ≡ false → (r : Read) → Meaning (n + 1) t r → Meaning n (c ∷ t) (with_plain (c ∷ []) r)
@@ -168,7 +168,7 @@ fault_here n all f t e h x =
     let opening = 36 ∷ 123 ∷ t in
     let place : all - length opening ≡ n = omega (arith, e) in
     let none : n ≡ n + 0 = omega arith in
-    let here : First n opening f = record { front = []; behind = t; ps = []; parts = refl; spelling = s.end; faulty = subst (λ (k : ℕ). Faults f k t) none x } in
+    let here : First n opening f = record { front = []; after_opening = t; ps = []; parts = refl; spelling = s.end; faulty = subst (λ (k : ℕ). Faults f k t) none x } in
     subst (Meaning n opening) (sym (value_fails all opening f (opens_there t) (ap (λ (k : ℕ). value_at k opening) place ∙ h))) here
 
 -- an expression that is closed at the beginning
@@ -243,4 +243,4 @@ pub fault_is_first : Found → Only → (text : List ℕ) (f : TextFault) → te
 fault_is_first found only text f e =
     let x = whole_means found only text (Err f) e in
     let same : 0 + length x.front ≡ length x.front = omega arith in
-    record { front = x.front; behind = x.behind; ps = x.ps; parts = x.parts; spelling = x.spelling; faulty = subst (λ (k : ℕ). Faults f k x.behind) same x.faulty }
+    record { front = x.front; after_opening = x.after_opening; ps = x.ps; parts = x.parts; spelling = x.spelling; faulty = subst (λ (k : ℕ). Faults f k x.after_opening) same x.faulty }

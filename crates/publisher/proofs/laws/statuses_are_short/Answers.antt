@@ -4,7 +4,7 @@ use Rattle.publisher.proofs.laws.statuses_are_short.Goals as goal
 
 pub returns : goal.returns
 returns c = record {
-  answer_to_request = λ tree ask. below_1000 (answer_to_request tree ask).status (rendered_short c.away_is_a_redirect.ensures tree ask);
+  rendered = λ tree ask. below_1000 (answer_to_request tree ask).status (rendered_short c.away_is_a_redirect.ensures tree ask);
   memory = λ tree ask. not_507 (answer_to_request tree ask).status (rendered_short c.away_is_a_redirect.ensures tree ask);
   error = errors_short;
 }

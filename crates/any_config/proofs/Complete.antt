@@ -1,9 +1,10 @@
 -- What is of the grammar is read.
 use Rattle.std.proofs.Common.{◌≡◌, ◌<◌, ◌≤◌, ℕ, zero, suc, true, false, List, [], ◌∷◌, ◌++◌, drop, length, Ok, refl, ap, sym, ◌∙◌, arith, append_assoc}
 use Rattle.std.proofs.lemmas.List.{append-nil}
+use Rattle.sp_base.specs.Bytes.{begins_with_byte}
 use Rattle.any_config.specs.declared.node.AnyNode.{AnyNode}
 use Rattle.any_config.specs.declared.node.AnyNode.TheVariants as node
-use Rattle.any_config.specs.Tokens.{comments_skipped, begins_with_byte, member_name, ungrouped_value}
+use Rattle.any_config.specs.Tokens.{comments_skipped, member_name, ungrouped_value}
 use Rattle.any_config.specs.Read.{Members, ends_members, value, member, more_members, members, braced_group, group, file_read, placed_answer, any_of}
 use Rattle.any_config.specs.Grammar.{IsValue, AreMembers, IsFile}
 use Rattle.any_config.proofs.Progress.{leaf_any, skip_less, name_less, value_less, group_takes}

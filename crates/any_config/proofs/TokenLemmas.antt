@@ -4,9 +4,10 @@ use Rattle.std.specs.List.{position_or_len}
 use Rattle.std.specs.Str.{is_utf8}
 use Rattle.std.proofs.lemmas.Str.{IsUtf8-from_ascii, IsUtf8-from_is_utf8, is_utf8-from_IsUtf8}
 use Rattle.std.proofs.lemmas.Bool.Decides.{nat_tests}
+use Rattle.sp_base.specs.Bytes.{begins_with_byte}
 use Rattle.any_config.specs.declared.tokens.Run.{Run}
 use Rattle.any_config.specs.declared.tokens.Run.TheVariants.{Name, Plain, Quoted}
-use Rattle.any_config.specs.Tokens.{ends, run_len, is_config_name_byte, is_plain_byte, begins_with_byte, quoted_value, quoted_node}
+use Rattle.any_config.specs.Tokens.{ends, run_len, is_config_name_byte, is_plain_byte, quoted_value, quoted_node}
 use Rattle.any_config.specs.declared.stop.AnyStop.TheVariants.{BadQuote}
 
 pub place_is : (n len : ℕ) → n ≤ len → (r : Option ℕ) → r ≡ cond (nat_lt n len) (Some n) None → MatchOption r (len ≡ n) (λ i. i ≡ n)

@@ -2,6 +2,7 @@
 use Rattle.std.specs.Prelude.{◌≡◌, ℕ, ◌+◌, ◌*◌, ◌-◌, Bool, true, false, not, ◌||◌, ◌&&◌, if◌then◌else◌, ◌==◌, nat_eq, nat_le, List, [], ◌∷◌, ◌++◌, length, Option, Some, None, unwrap_or, Result, Ok, Err, codes}
 use Rattle.std.specs.List.{list_all}
 use Rattle.std.specs.Cmp.Lexicographic.{pointwise}
+use Rattle.sp_base.specs.Limits.{greatest_port, http_port}
 use Rattle.glob_rules.specs.declared.piece.GlobPiece.{GlobPiece}
 use Rattle.glob_rules.specs.declared.rule.Rule.{Rule}
 use Rattle.glob_rules.specs.declared.fault.GlobFault.{GlobFault}
@@ -194,14 +195,6 @@ cut_again c t None = if c == 58 then Some ([], t) else None
 abbrev pub at_last_colon : List ℕ → Option (List ℕ × List ℕ)
 at_last_colon [] = None
 at_last_colon (c ∷ t) = cut_again c t (at_last_colon t)
-
--- the greatest port
-abbrev pub greatest_port : ℕ
-greatest_port = 65535
-
--- the port of HTTP (RFC 9110, section 4.2.1)
-abbrev pub http_port : ℕ
-http_port = 80
 
 -- the glob of the whole text, or where it has a colon that of the part before its last one and the port
 abbrev pub host_cut : List ℕ → List ℕ → Option (List ℕ × List ℕ) → FarmOutcome (List GlobPiece × Option ℕ)

@@ -1,10 +1,11 @@
 -- Why bytes are no file dispatcher.any (Adobe Dispatcher manual, "Configuring Dispatcher"): all members before the fault are whole, and the one in which it lies is not. Places are told by the bytes that are left there.
 use Rattle.std.specs.Prelude.{◌≡◌, ℕ, zero, suc, Bool, true, false, ◌||◌, ◌==◌, List, [], ◌∷◌, length, drop, Ok, Err}
+use Rattle.sp_base.specs.Bytes.{begins_with_byte}
 use Rattle.any_config.specs.declared.stop.AnyStop.{AnyStop}
 use Rattle.any_config.specs.declared.stop.AnyStop.TheVariants as stop
 use Rattle.any_config.specs.declared.any_fault.AnyFault.{AnyFault}
 use Rattle.any_config.specs.declared.node.AnyNode.{AnyNode}
-use Rattle.any_config.specs.Tokens.{comments_skipped, begins_with_byte, is_config_name_byte, is_plain_byte, member_name}
+use Rattle.any_config.specs.Tokens.{comments_skipped, is_config_name_byte, is_plain_byte, member_name}
 use Rattle.any_config.specs.Read.{Members, deepest_group, ends_members, placed_answer}
 use Rattle.any_config.specs.Grammar.{IsValue, AreMembers}
 

@@ -1,8 +1,9 @@
 -- The grammar of a file dispatcher.any (Adobe Dispatcher manual, "Configuring Dispatcher"), by the text that is left after each part. Blanks and comments after a part belong to it.
 use Rattle.std.specs.Prelude.{◌≡◌, ℕ, suc, true, false, List, [], ◌∷◌, Ok, drop}
+use Rattle.sp_base.specs.Bytes.{begins_with_byte}
 use Rattle.any_config.specs.declared.node.AnyNode.{AnyNode}
 use Rattle.any_config.specs.declared.node.AnyNode.TheVariants as node
-use Rattle.any_config.specs.Tokens.{begins_with_byte, comments_skipped, member_name, ungrouped_value}
+use Rattle.any_config.specs.Tokens.{comments_skipped, member_name, ungrouped_value}
 use Rattle.any_config.specs.Read.{Members, deepest_group, ends_members}
 
 -- The number is how many more groups may open within one another.

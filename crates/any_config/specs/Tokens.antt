@@ -2,6 +2,7 @@
 use Rattle.std.specs.Prelude.{◌≡◌, ℕ, Bool, true, false, not, ◌||◌, ◌&&◌, if◌then◌else◌, ◌==◌, nat_le, List, [], ◌∷◌, length, take, drop, Result, Ok, Err}
 use Rattle.std.specs.List.{position_or_len}
 use Rattle.std.specs.Str.{is_utf8}
+use Rattle.sp_base.specs.Bytes.{begins_with_byte}
 use Rattle.any_config.specs.declared.stop.AnyStop.{AnyStop}
 use Rattle.any_config.specs.declared.stop.AnyStop.TheVariants.{Memory, BadName, BadQuote, TooDeep, Unclosed}
 use Rattle.any_config.specs.declared.tokens.Run.{Run}
@@ -49,11 +50,6 @@ after_blanks_and_comments false (c ∷ t) = if c == 35 then after_blanks_and_com
 -- the same from a place outside of a comment on
 unfoldable pub comments_skipped : List ℕ → List ℕ
 comments_skipped t = after_blanks_and_comments false t
-
--- whether the text begins with this byte
-unfoldable pub begins_with_byte : ℕ → List ℕ → Bool
-begins_with_byte c [] = false
-begins_with_byte c (d ∷ t) = d == c
 
 -- letters and digits of ASCII
 abbrev pub is_letter_or_digit : ℕ → Bool

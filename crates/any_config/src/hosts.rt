@@ -1,6 +1,7 @@
 //! The hosts of a farm.
 ghost use Rattle.std.specs.Prelude.{◌≡◌, codes, [], IfOk, MatchOption, Some, None};
 ghost use Rattle.std.specs.List.{list_all};
+ghost use Rattle.sp_base.specs.Limits.{greatest_port};
 ghost use Rattle.any_config.specs.Farms as spec;
 ghost use Rattle.any_config.specs.Tokens.{is_letter_or_digit};
 ghost use Rattle.any_config.specs.Farms.{FarmGives};
@@ -12,14 +13,8 @@ use crate::members::{Member, word_of};
 use crate::node::AnyNode;
 use crate::numbers::decimal;
 use glob_rules::Glob;
-use sp_base::{Mem, TextBuf};
+use sp_base::{GREATEST_PORT, HTTP_PORT, Mem, TextBuf};
 use std::alloc::Global;
-
-/// The greatest port.
-const GREATEST_PORT: u32 = 65_535;
-
-/// The port of HTTP (RFC 9110, section 4.2.1).
-pub const HTTP_PORT: u16 = 80;
 
 // The text before its last colon, and the text after it.
 fn at_last_colon(text: &str) -> Option<(&str, &str)>
@@ -32,9 +27,9 @@ fn at_last_colon(text: &str) -> Option<(&str, &str)>
 }
 
 fn port(text: &str) -> Option<u16>
-    ensures { result ≡ spec.decimal spec.greatest_port text.now }
+    ensures { result ≡ spec.decimal greatest_port text.now }
 {
-    match decimal(GREATEST_PORT, text.as_bytes()) {
+    match decimal(u32::from(GREATEST_PORT), text.as_bytes()) {
         None => None,
         Some(n) => Some(n as u16),
     }

@@ -21,7 +21,6 @@ pub use farm::{Farm, Filter, FilterList, HostList};
 pub use farm_fault::FarmFault;
 pub use farm_reader::farm_of;
 pub use glob_rules::{Glob, GlobFault, Rule, RuleList};
-pub use hosts::HTTP_PORT;
 pub use laws::{a_fault_is_the_first, the_reading_is_the_grammar};
 pub use node::{AnyList, AnyNode};
 pub use reader::{DEEPEST_GROUP, read_any};

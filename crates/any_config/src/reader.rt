@@ -7,8 +7,8 @@ ghost use Rattle.any_config.specs.Read.{any_of};
 use crate::any_fault::AnyFault;
 use crate::node::{AnyList, AnyNode};
 use crate::stop::AnyStop;
-use crate::tokens::{is_at, leaf, name, skip, tail};
-use sp_base::TextBuf;
+use crate::tokens::{leaf, name, skip, tail};
+use sp_base::{TextBuf, begins_with_byte};
 use std::alloc::Global;
 
 /// How many groups may be open at a place.
@@ -18,7 +18,7 @@ pub const DEEPEST_GROUP: usize = 32;
 fn ends_members(text: &[u8]) -> bool
     ensures { result ≡ spec.ends_members text.now }
 {
-    text.is_empty() || is_at(b'}', text)
+    text.is_empty() || begins_with_byte(b'}', text)
 }
 
 // A value of the member that begins where `at` bytes are left.
@@ -27,7 +27,7 @@ fn ends_members(text: &[u8]) -> bool
 fn value(alloc: Global, depth: usize, at: usize, text: &[u8]) -> Result<(AnyNode, &[u8]), AnyStop>
     ensures { TokenGives (λ x. (x.0, x.1.now)) result (spec.value (spec.group depth) at text.now) }
 {
-    if is_at(b'{', text) {
+    if begins_with_byte(b'{', text) {
         group(alloc, depth, text)
     } else {
         leaf(alloc, at, text)
@@ -68,7 +68,7 @@ fn opened(alloc: Global, depth: usize, text: &[u8]) -> Result<(AnyNode, &[u8]), 
     ensures { TokenGives (λ x. (x.0, x.1.now)) result (spec.braced_group (spec.group depth) text.now) }
 {
     let (list, rest) = members(alloc, depth, tail(text))?;
-    if !is_at(b'}', rest) {
+    if !begins_with_byte(b'}', rest) {
         return Err(AnyStop::Unclosed(text.len()));
     }
     Ok((AnyNode::Group(list), tail(rest)))

@@ -6,7 +6,7 @@ ghost use Rattle.any_config.specs.Tokens.{TokenGives};
 
 use crate::node::AnyNode;
 use crate::stop::AnyStop;
-use sp_base::{Mem, TextBuf};
+use sp_base::{Mem, TextBuf, begins_with_byte};
 use std::alloc::Global;
 
 /// What the first bytes may belong to.
@@ -77,16 +77,6 @@ fn run_len(run: Run, text: &[u8]) -> usize
     }
 }
 
-#[tactic(auto, unfolding(crate::specs::Tokens::begins_with_byte))]
-pub fn is_at(c: u8, text: &[u8]) -> bool
-    ensures { result ≡ spec.begins_with_byte c text.now }
-{
-    match text {
-        [] => false,
-        [d, ..] => *d == c,
-    }
-}
-
 /// The bytes from the first one on that is neither a blank nor in a comment.
 #[tactic(auto, unfolding(crate::specs::Tokens::comments_skipped))]
 pub fn skip(text: &[u8]) -> &[u8]
@@ -132,7 +122,7 @@ fn text_of(alloc: Global, bytes: &[u8]) -> Mem<TextBuf>
 pub fn name(alloc: Global, text: &[u8]) -> Result<(TextBuf, &[u8]), AnyStop>
     ensures { TokenGives (λ x. (x.0, x.1.now)) result (spec.member_name text.now) }
 {
-    if !is_at(b'/', text) {
+    if !begins_with_byte(b'/', text) {
         return Ok((TextBuf::of(alloc, "")?, text));
     }
     let behind = tail(text);
@@ -172,7 +162,7 @@ fn quoted(alloc: Global, mark: u8, text: &[u8]) -> Result<(AnyNode, &[u8]), AnyS
 {
     let inside = tail(text);
     let (bytes, rest) = inside.split_at(run_len(Run::Quoted(mark), inside));
-    if !is_at(mark, rest) {
+    if !begins_with_byte(mark, rest) {
         return Err(AnyStop::BadQuote(text.len()));
     }
     match str::from_utf8(bytes) {
@@ -186,9 +176,9 @@ fn quoted(alloc: Global, mark: u8, text: &[u8]) -> Result<(AnyNode, &[u8]), AnyS
 pub fn leaf(alloc: Global, at: usize, text: &[u8]) -> Result<(AnyNode, &[u8]), AnyStop>
     ensures { TokenGives (λ x. (x.0, x.1.now)) result (spec.ungrouped_value at text.now) }
 {
-    if is_at(b'"', text) {
+    if begins_with_byte(b'"', text) {
         quoted(alloc, b'"', text)
-    } else if is_at(b'\'', text) {
+    } else if begins_with_byte(b'\'', text) {
         quoted(alloc, b'\'', text)
     } else {
         word(alloc, at, text)

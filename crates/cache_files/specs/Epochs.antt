@@ -1,12 +1,13 @@
 -- The number of a session, which .epoch counts.
 use Rattle.std.specs.Prelude.{◌==◌, ◌+◌, ◌≡◌, ◌⊎◌, ◌∷◌, [], ℕ, true, false, List, Option, Some, None, Result, Ok, Err, IfSome, if◌then◌else◌, option_and_then, unwrap_or}
+use Rattle.sp_base.specs.Limits.{greatest_u64}
 use Rattle.sp_outside.specs.Causes.{Rose}
 use Rattle.sp_outside.specs.Calls.{Call, Get, Put, told_calls}
 use Rattle.sp_outside.specs.Files.{Files, file_at, told_with}
 use Rattle.sp_outside.specs.declared.disk.DiskFault.{DiskFault}
 use Rattle.sp_outside.specs.declared.disk.DiskFault.TheVariants.{Failed, NoMemory as no_room}
 use Rattle.docroot_format.specs.Names.{epoch_name}
-use Rattle.docroot_format.specs.Readings.{epoch_of, greatest_number}
+use Rattle.docroot_format.specs.Readings.{epoch_of}
 use Rattle.docroot_format.specs.Texts.{epoch_text}
 use Rattle.cache_files.specs.declared.epoch.OpenFault.{OpenFault}
 use Rattle.cache_files.specs.declared.epoch.OpenFault.TheVariants.{Disk, Foreign, EpochEnd, NoMemory}
@@ -18,7 +19,7 @@ open_fault no_room = NoMemory
 
 -- the greatest number of a session
 abbrev pub last_epoch : ℕ
-last_epoch = greatest_number
+last_epoch = greatest_u64
 
 -- the number after one that was read
 abbrev pub after_epoch : Option ℕ → Result ℕ OpenFault

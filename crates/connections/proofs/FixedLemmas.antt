@@ -13,12 +13,14 @@ use Rattle.std.proofs.lemmas.Fmt.{digits_decimal, decimal_injective}
 use Rattle.std.proofs.lemmas.List.{append_assoc, append_cancel_left}
 use Rattle.std.proofs.lemmas.List.Folds.{list_any-append}
 use Rattle.std.proofs.lemmas.Str.Parse.{IsNumeralModel, numerals_by_value, tells_all_ascii_digits}
+use Rattle.location_field.specs.Location.{location_of}
+use Rattle.sp_base.specs.Bytes.{is_visible_ascii}
 use Rattle.error_answers.specs.Errors.{error_answer, phrase_of}
 use Rattle.percent_encoding.specs.Percent.{percent_encode_byte}
 use Rattle.sp_base.specs.declared.answer.Answer.{Answer}
 use Rattle.sp_base.specs.declared.answer.Mark.{Mark}
 use Rattle.sp_base.specs.declared.answer.Mark.TheVariants.{Plain, NoCache, NoStore, MustRevalidate}
-use Rattle.http_front.specs.Answers.{Field, allowed_methods, answer_bytes, answer_content, connection, content_length, directive_of, field_line, fields_of, fixed_507, is_visible, is_without_content, location_of, plain_value, status_line, unless_empty}
+use Rattle.http_front.specs.Answers.{Field, allowed_methods, answer_bytes, answer_content, connection, content_length, directive_of, field_line, fields_of, fixed_507, is_without_content, plain_value, status_line, unless_empty}
 use Rattle.connections.specs.Slots.{fixed_answer, are_fixed_507}
 use Rattle.connections.proofs.OutboxLemmas.{are_fixed_507-fixed}
 
@@ -178,7 +180,7 @@ plain_none (b ∷ v) e = absurd (let no : ⊥ = cc in no)
 location_none : (v : List ℕ) → location_of v ≡ [] → v ≡ []
 unfolding location_of percent_encode_byte
 location_none [] e = refl
-location_none (b ∷ v) e = absurd (by_test (is_visible b) (flat_map (λ x. if is_visible x then x ∷ [] else percent_encode_byte x) v) e)
+location_none (b ∷ v) e = absurd (by_test (is_visible_ascii b) (flat_map (λ x. if is_visible_ascii x then x ∷ [] else percent_encode_byte x) v) e)
   where
     by_test : (t : Bool) (more : List ℕ) → (if t then b ∷ [] else percent_encode_byte b) ++ more ≡ [] → ⊥
     by_test true more is = let no : ⊥ = cc in no

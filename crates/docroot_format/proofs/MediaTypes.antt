@@ -5,6 +5,7 @@ use Rattle.std.specs.Prelude.{IsAscii}
 use Rattle.std.proofs.lemmas.Bool.{true≢false}
 use Rattle.std.proofs.lemmas.Bool.Decides.{nat_tests}
 use Rattle.std.proofs.lemmas.Str.{IsUtf8-from_ascii}
+use Rattle.sp_base.specs.Bytes.{is_printable_ascii}
 use Rattle.docroot_format.specs.Readings.{is_kind, longest_kind}
 
 second_true : (a b : Bool) → a && b ≡ true → b ≡ true
@@ -18,7 +19,7 @@ first_true false b e = absurd (true≢false (sym e))
 small : (b : ℕ) → nat_le 32 b && nat_le b 126 ≡ true → b < 128
 small b e = grind (arith, nat_tests)
 
-ascii : (bs : List ℕ) → list_all (λ b. nat_le 32 b && nat_le b 126) bs ≡ true → IsAscii bs
+ascii : (bs : List ℕ) → list_all is_printable_ascii bs ≡ true → IsAscii bs
 ascii [] e zero = omega arith
 ascii [] e (suc i) = omega arith
 ascii (b ∷ bs) e zero = small b (first_true _ _ e)

@@ -7,7 +7,8 @@ use Rattle.std.proofs.lemmas.Bool.{cases_Bool, true≢false}
 use Rattle.std.proofs.lemmas.Bool.Decides.{nat_tests}
 use Rattle.std.proofs.lemmas.Fmt.{decimal_digit, decimal_step}
 use Rattle.std.proofs.lemmas.List.{take-append-drop}
-use Rattle.docroot_format.specs.Readings.{is_digit, digit_fits, digits_from, begins_number, leading_number, after_word, is_end, stamp_of, stat_of, epoch_of, is_kind, stored_kind, HeadLine, body_of, head_of, greatest_number}
+use Rattle.sp_base.specs.Limits.{greatest_u64}
+use Rattle.docroot_format.specs.Readings.{is_digit, digit_fits, digits_from, begins_number, leading_number, after_word, is_end, stamp_of, stat_of, epoch_of, is_kind, stored_kind, HeadLine, body_of, head_of}
 use Rattle.docroot_format.specs.Texts.{head_text, stat_text, epoch_text}
 use Rattle.docroot_format.proofs.NameLemmas.{append_both}
 use Rattle.docroot_format.proofs.ReadBack.{digit, ends}
@@ -26,7 +27,7 @@ digits_spelled : (t : List ℕ) (m : ℕ) → 1 ≤ m → decimal m ++ t ≡ dec
 unfolding digit_fits digits_from
 digits_spelled [] m some = refl
 digits_spelled (b ∷ t) m some = ⊎_elim
-    (λ (e : is_digit b && nat_le (m * 10 + (b - 48)) greatest_number ≡ true).
+    (λ (e : is_digit b && nat_le (m * 10 + (b - 48)) greatest_u64 ≡ true).
     let small : b - 48 < 10 = grind (arith, nat_tests) in
     let is : 48 + (b - 48) ≡ b = grind (arith, nat_tests) in
     let short : m * 10 + (b - 48) < 2 ^ 64 = grind (arith, nat_tests) in
@@ -34,8 +35,8 @@ digits_spelled (b ∷ t) m some = ⊎_elim
     ∙ ap (λ x. (decimal m ++ x ∷ []) ++ t) (sym is)
     ∙ ap (λ d. d ++ t) (sym (digit_spelled m (b - 48) some small short))
     ∙ digits_spelled t (m * 10 + (b - 48)) (omega (arith, some))))
-    (λ (e : is_digit b && nat_le (m * 10 + (b - 48)) greatest_number ≡ false). rw e refl)
-    (cases_Bool (is_digit b && nat_le (m * 10 + (b - 48)) greatest_number))
+    (λ (e : is_digit b && nat_le (m * 10 + (b - 48)) greatest_u64 ≡ false). rw e refl)
+    (cases_Bool (is_digit b && nat_le (m * 10 + (b - 48)) greatest_u64))
 
 first_spelled : (k : ℕ) (t : List ℕ) → k < 10 → (k ≡ 0 → is_digit (slice_index t 0) ≡ false)
     → (48 + k) ∷ t ≡ decimal (digits_from 0 ((48 + k) ∷ t)).0 ++ (digits_from 0 ((48 + k) ∷ t)).1
@@ -156,11 +157,11 @@ digits_most : (t : List ℕ) (m : ℕ) → m < 2 ^ 64 → (digits_from m t).0 < 
 unfolding digit_fits digits_from
 digits_most [] m small = small
 digits_most (b ∷ t) m small = ⊎_elim
-    (λ (e : is_digit b && nat_le (m * 10 + (b - 48)) greatest_number ≡ true).
+    (λ (e : is_digit b && nat_le (m * 10 + (b - 48)) greatest_u64 ≡ true).
     let short : m * 10 + (b - 48) < 2 ^ 64 = grind (arith, nat_tests) in
     rw e (digits_most t (m * 10 + (b - 48)) short))
-    (λ (e : is_digit b && nat_le (m * 10 + (b - 48)) greatest_number ≡ false). rw e small)
-    (cases_Bool (is_digit b && nat_le (m * 10 + (b - 48)) greatest_number))
+    (λ (e : is_digit b && nat_le (m * 10 + (b - 48)) greatest_u64 ≡ false). rw e small)
+    (cases_Bool (is_digit b && nat_le (m * 10 + (b - 48)) greatest_u64))
 
 number_most : (t : List ℕ) (p : ℕ × List ℕ) → leading_number t ≡ Some p → p.0 < 2 ^ 64
 unfolding leading_number

@@ -2,19 +2,17 @@
 use Rattle.std.specs.Prelude.{◌==◌, ◌&&◌, ◌+◌, ◌*◌, ◌-◌, ℕ, Bool, false, not, nat_eq, nat_le, nat_lt, if◌then◌else◌, List, [], ◌∷◌, Option, Some, None, option_and_then, option_map, codes, drop, take, length, slice_index}
 use Rattle.std.specs.List.{list_all, starts_with}
 use Rattle.std.specs.Cmp.Lexicographic.{pointwise}
+use Rattle.sp_base.specs.Bytes.{is_printable_ascii}
+use Rattle.sp_base.specs.Limits.{greatest_u64, longest_media_type}
 
 -- `0` to `9`
 abbrev pub is_digit : ℕ → Bool
 is_digit b = nat_le 48 b && nat_le b 57
 
--- the greatest number: 2^64 - 1
-abbrev pub greatest_number : ℕ
-greatest_number = 18446744073709551615
-
 -- the text begins with a digit that fits after a number
 unfoldable pub digit_fits : ℕ → List ℕ → Bool
 digit_fits n [] = false
-digit_fits n (b ∷ text) = is_digit b && nat_le (n * 10 + (b - 48)) greatest_number
+digit_fits n (b ∷ text) = is_digit b && nat_le (n * 10 + (b - 48)) greatest_u64
 
 -- the longest number at the beginning that fits, after one that was read, and what is left
 unfoldable pub digits_from : ℕ → List ℕ → ℕ × List ℕ
@@ -53,13 +51,9 @@ stat_of text = option_and_then (λ s. if is_end s.1 then Some s.0 else None) (op
 unfoldable pub epoch_of : List ℕ → Option ℕ
 epoch_of text = option_and_then (λ e. if is_end e.1 && nat_lt 0 e.0 then Some e.0 else None) (option_and_then leading_number (after_word (codes "epoch 1 ") text))
 
--- the most bytes of a media type in a head
-abbrev pub longest_kind : ℕ
-longest_kind = 100
-
 -- a media type: printable bytes of ASCII
 abbrev pub is_kind : List ℕ → Bool
-is_kind kind = nat_le (length kind) longest_kind && list_all (λ b. nat_le 32 b && nat_le b 126) kind
+is_kind kind = nat_le (length kind) longest_media_type && list_all is_printable_ascii kind
 
 -- a media type up to the end of the line
 unfoldable pub stored_kind : List ℕ → Option (List ℕ)

@@ -1,12 +1,11 @@
 //! Heads of pages as they are read.
 ghost use Rattle.std.specs.Prelude.{◌≡◌, ◌&&◌, Some, None, nat_le, option_map, if◌then◌else◌};
 ghost use Rattle.std.specs.List.{list_all};
+ghost use Rattle.sp_base.specs.Bytes.{is_printable_ascii};
 ghost use Rattle.docroot_format.specs.Readings as spec;
 
 use crate::readings::{after_word, is_end, number, stamp};
-
-/// The most bytes of a media type in a head.
-const LONGEST_KIND: usize = 100;
+use sp_base::LONGEST_MEDIA_TYPE;
 
 /// What the head of a page says.
 #[derive(Clone, Copy, Drop)]
@@ -20,16 +19,16 @@ pub struct PageHead<'a> {
 }
 
 fn is_printable(kind: &[u8]) -> bool
-    ensures { result ≡ list_all (λ b. nat_le 32 b && nat_le b 126) kind.now }
+    ensures { result ≡ list_all is_printable_ascii kind.now }
 {
-    kind.iter().all(|b| *b >= 32 && *b <= 126)
+    kind.iter().all(|b| *b >= b' ' && *b <= b'~')
 }
 
 // A media type: printable bytes of ASCII.
 fn is_kind(kind: &[u8]) -> bool
     ensures { result ≡ spec.is_kind kind.now }
 {
-    kind.len() <= LONGEST_KIND && is_printable(kind)
+    kind.len() <= LONGEST_MEDIA_TYPE && is_printable(kind)
 }
 
 #[tactic(auto, using(crate::proofs::MediaTypes::kind_is_utf8))]

@@ -1,6 +1,8 @@
 -- The content of a resource that is a file (JCR 2.0, nt:file), and its media type.
 use Rattle.std.specs.Prelude.{◌==◌, ◌&&◌, ◌-◌, ℕ, Bool, not, nat_le, if◌then◌else◌, List, Option, Some, None, option_map, codes, length, slice_index}
 use Rattle.std.specs.List.{list_all}
+use Rattle.sp_base.specs.Bytes.{is_printable_ascii}
+use Rattle.sp_base.specs.Limits.{longest_media_type}
 use Rattle.sp_base.specs.Properties.{text_in}
 use Rattle.sp_base.specs.declared.value.Value.{Value}
 use Rattle.resource_tree.specs.Seen.{Resource, Seen}
@@ -8,15 +10,11 @@ use Rattle.get_servlet.specs.declared.kids.Kid.{Kid}
 use Rattle.get_servlet.specs.declared.streams.Stream.{Stream}
 use Rattle.get_servlet.specs.Rendering.{lists_kid, kid_named}
 
--- each byte is one of 0x20 to 0x7E
+-- each byte is a printable one of ASCII
 abbrev pub is_printable_text : List ℕ → Bool
-is_printable_text text = list_all (λ b. nat_le 32 b && nat_le b 126) text
+is_printable_text text = list_all is_printable_ascii text
 
--- the most bytes of a media type
-abbrev pub longest_media_type : ℕ
-longest_media_type = 100
-
--- a text that may be sent as a media type: 1 to 100 bytes of 0x20 to 0x7E, the first and the last no spaces
+-- a text that may be sent as a media type: 1 to `longest_media_type` printable bytes, the first and the last no spaces
 abbrev pub is_media_type : List ℕ → Bool
 is_media_type text = not (length text == 0) && (nat_le (length text) longest_media_type && (is_printable_text text
     && (not (slice_index text 0 == 32) && not (slice_index text (length text - 1) == 32))))

@@ -5,11 +5,8 @@ ghost use Rattle.get_servlet.specs.Streams.{is_printable_text, is_media_type, me
 
 use crate::kids::{kid_named, lists_kid};
 use resource_tree::{Look, Res};
-use sp_base::{Mem, TextBuf};
+use sp_base::{LONGEST_MEDIA_TYPE, Mem, TextBuf};
 use std::alloc::Global;
-
-/// The most bytes of a media type.
-const MOST_KIND_BYTES: usize = 100;
 
 /// The content of a file, and its media type.
 #[derive(Drop)]
@@ -24,12 +21,12 @@ fn is_printable(text: &str) -> bool
     text.as_bytes().iter().all(|b| *b >= b' ' && *b <= b'~')
 }
 
-// Whether a text may be sent as a media type: 1 to 100 printable bytes, the first and the last no spaces.
+// Whether a text may be sent as a media type: 1 to `LONGEST_MEDIA_TYPE` printable bytes, the first and the last no spaces.
 fn is_media_type(text: &str) -> bool
     ensures { result ≡ is_media_type text.now }
 {
     let bytes = text.as_bytes();
-    if bytes.is_empty() || bytes.len() > MOST_KIND_BYTES || !is_printable(text) {
+    if bytes.is_empty() || bytes.len() > LONGEST_MEDIA_TYPE || !is_printable(text) {
         return false;
     }
     bytes[0] != b' ' && bytes[bytes.len() - 1] != b' '

@@ -1,13 +1,14 @@
 -- What is in the grammar is read.
 use Rattle.std.proofs.Common.{◌≡◌, ℕ, ℤ, zero, suc, ◌<◌, ◌≤◌, Bool, true, false, eqb, List, [], ◌∷◌, ◌++◌, length, Ok, refl, ap, ◌∙◌, rules, arith, append_assoc}
 use Rattle.std.proofs.lemmas.List.{append-nil}
+use Rattle.sp_base.specs.Bytes.{begins_with_byte}
 use Rattle.htl_expr.specs.declared.node.ExprNode.{ExprNode}
 use Rattle.htl_expr.specs.declared.node.ExprNode.TheVariants as n
 use Rattle.htl_expr.specs.declared.node.Comparison.{Comparison}
 use Rattle.htl_expr.specs.declared.tokens.NameKind.TheVariants.{Name, Field}
 use Rattle.htl_expr.specs.declared.reader.Inside.{Inside}
 use Rattle.htl_expr.specs.declared.reader.Inside.TheVariants as i
-use Rattle.htl_expr.specs.Tokens.{Outcome, done, is_at, begins, is_expression_digit, is_first, is_quote}
+use Rattle.htl_expr.specs.Tokens.{Outcome, done, begins, is_expression_digit, is_first, is_quote}
 use Rattle.htl_expr.specs.Read as spec
 use Rattle.htl_expr.specs.Grammar.{Byte, NameToken, String, Number, Sign, Compares, Separator, And, Or, Comma, Separates, Part, part_of, Choice, Either, Both, Compare, Operand, Atom, Start, Items, Reads, More, Access, Accesses}
 use Rattle.htl_expr.specs.Grammar as g
@@ -24,10 +25,10 @@ Stops Start r = Unit {0}
 Stops Atom r = NoAccess r
 Stops Operand r = NoAccess r
 Stops Compare r = NoAccess r × (spec.compares r ≡ false)
-Stops Both r = NoAccess r × (spec.compares r ≡ false) × (is_at 38 r ≡ false)
-Stops Either r = NoAccess r × (spec.compares r ≡ false) × (is_at 38 r ≡ false) × (is_at 124 r ≡ false)
-Stops Choice r = NoAccess r × (spec.compares r ≡ false) × (is_at 38 r ≡ false) × (is_at 124 r ≡ false) × (is_at 63 r ≡ false)
-Stops Items r = is_at 93 r ≡ true
+Stops Both r = NoAccess r × (spec.compares r ≡ false) × (begins_with_byte 38 r ≡ false)
+Stops Either r = NoAccess r × (spec.compares r ≡ false) × (begins_with_byte 38 r ≡ false) × (begins_with_byte 124 r ≡ false)
+Stops Choice r = NoAccess r × (spec.compares r ≡ false) × (begins_with_byte 38 r ≡ false) × (begins_with_byte 124 r ≡ false) × (begins_with_byte 63 r ≡ false)
+Stops Items r = begins_with_byte 93 r ≡ true
 
 -- ---- what was read is taken off
 
@@ -76,7 +77,7 @@ more_stops P sep depth s _ _ op last (g.more o x m) = op s _ o
 
 -- ---- each part, where its own parts are read
 
-leaf_start : (depth : ℕ) (inner : Inside → List ℕ → Outcome ExprNode) (s : List ℕ) → is_at 40 s ≡ false → is_at 91 s ≡ false → spec.start depth inner s ≡ spec.leaf depth s
+leaf_start : (depth : ℕ) (inner : Inside → List ℕ → Outcome ExprNode) (s : List ℕ) → begins_with_byte 40 s ≡ false → begins_with_byte 91 s ≡ false → spec.start depth inner s ≡ spec.leaf depth s
 unfolding spec.start
 leaf_start depth inner s a b = rw (a, b) refl
 
@@ -95,16 +96,16 @@ named_leaf depth s w r x =
 
 -- ---- a part doesn't begin with a byte that begins no token of it
 
-sign_not_at : (d : ℕ) (s : List ℕ) (negative : Bool) (t : List ℕ) → eqb 45 d ≡ false → is_expression_digit d ≡ false → Sign negative s t → begins is_expression_digit t ≡ true → is_at d s ≡ false
-unfolding is_at
+sign_not_at : (d : ℕ) (s : List ℕ) (negative : Bool) (t : List ℕ) → eqb 45 d ≡ false → is_expression_digit d ≡ false → Sign negative s t → begins is_expression_digit t ≡ true → begins_with_byte d s ≡ false
+unfolding begins_with_byte
 sign_not_at d s true t a b e h = rw e a
 sign_not_at d s false t a b e h = rw e (again.not_at is_expression_digit d t h b)
 
-number_not_at : (d : ℕ) (s : List ℕ) (k : ℤ) (r : List ℕ) → eqb 45 d ≡ false → is_expression_digit d ≡ false → Number s k r → is_at d s ≡ false
+number_not_at : (d : ℕ) (s : List ℕ) (k : ℤ) (r : List ℕ) → eqb 45 d ≡ false → is_expression_digit d ≡ false → Number s k r → begins_with_byte d s ≡ false
 number_not_at d s k r a b x = sign_not_at d s x.negative x.inside a b x.sign x.first
 
-byte_not_at : (c d : ℕ) (s r : List ℕ) → eqb c d ≡ false → Byte c s r → is_at d s ≡ false
-unfolding is_at
+byte_not_at : (c d : ℕ) (s r : List ℕ) → eqb c d ≡ false → Byte c s r → begins_with_byte d s ≡ false
+unfolding begins_with_byte
 byte_not_at c d s r a b = rw b.parts a
 
 pub record Strange (d : ℕ) : Type 0 where
@@ -115,7 +116,7 @@ pub record Strange (d : ℕ) : Type 0 where
   pub round : eqb 40 d ≡ false
   pub square : eqb 91 d ≡ false
 
-start_at : (d : ℕ) (part : Part) (depth : ℕ) (s : List ℕ) (e : ExprNode) (r : List ℕ) → Strange d → part ≡ Start → Reads part depth s e r → is_at d s ≡ false
+start_at : (d : ℕ) (part : Part) (depth : ℕ) (s : List ℕ) (e : ExprNode) (r : List ℕ) → Strange d → part ≡ Start → Reads part depth s e r → begins_with_byte d s ≡ false
 start_at d _ _ s _ _ x eq (g.string w) = again.not_at is_quote d s (again.string_begins _ _ _ w) x.quote
 start_at d _ _ s _ _ x eq (g.number w) = number_not_at d s _ _ x.minus x.digit w
 start_at d _ _ s _ _ x eq (g.name w o) = again.not_at is_first d s w.first x.first
@@ -140,7 +141,7 @@ strange_not = record { quote = refl; minus = refl; digit = refl; first = refl; r
 strange_close : Strange 93
 strange_close = record { quote = refl; minus = refl; digit = refl; first = refl; round = refl; square = refl }
 
-atom_at : (depth : ℕ) (s : List ℕ) (e : ExprNode) (r : List ℕ) → Reads Atom depth s e r → is_at 33 s ≡ false
+atom_at : (depth : ℕ) (s : List ℕ) (e : ExprNode) (r : List ℕ) → Reads Atom depth s e r → begins_with_byte 33 s ≡ false
 atom_at depth s _ r (g.atom x fs) = start_at 33 _ _ _ _ _ strange_not refl x
 
 abbrev pub NotItems : Part → Type 0
@@ -157,7 +158,7 @@ foreign_close = record { strange = strange_close; mark = refl }
 pub foreign_options : Foreign 64
 foreign_options = record { strange = record { quote = refl; minus = refl; digit = refl; first = refl; round = refl; square = refl }; mark = refl }
 
-pub part_at : (d : ℕ) (part : Part) (depth : ℕ) (s : List ℕ) (e : ExprNode) (r : List ℕ) → Foreign d → Reads part depth s e r → NotItems part → is_at d s ≡ false
+pub part_at : (d : ℕ) (part : Part) (depth : ℕ) (s : List ℕ) (e : ExprNode) (r : List ℕ) → Foreign d → Reads part depth s e r → NotItems part → begins_with_byte d s ≡ false
 part_at d _ depth s _ r x (g.string w) ni = start_at d Start depth s _ r x.strange refl (g.string w)
 part_at d _ depth s _ r x (g.number w) ni = start_at d Start depth s _ r x.strange refl (g.number w)
 part_at d _ depth s _ r x (g.name w o) ni = start_at d Start depth s _ r x.strange refl (g.name w o)
@@ -224,8 +225,8 @@ access_turn : (depth k : ℕ) (found : List (List ℕ)) (s f r2 r : List ℕ) (f
 unfolding spec.accesses
 access_turn depth k found s f r2 r fs at x y = rw (at, x) (y ∙ ap (λ (l : List (List ℕ)). done (l, r)) (append_assoc found (f ∷ []) fs))
 
-no_dot : (s r1 : List ℕ) → Byte 91 s r1 → is_at 46 s ≡ false
-unfolding is_at
+no_dot : (s r1 : List ℕ) → Byte 91 s r1 → begins_with_byte 46 s ≡ false
+unfolding begins_with_byte
 no_dot s r1 b = rw b.parts refl
 
 access_begins : (depth : ℕ) (s f r : List ℕ) → Access depth s f r → spec.access_at s ≡ true
@@ -268,7 +269,7 @@ module _ (depth : ℕ) (inner : Inside → List ℕ → Outcome ExprNode) where
   unfolding spec.operand
   not_again s r1 r e b x = rw (again.at_here 33 s r1 b, x) refl
 
-  bare_again : (s r : List ℕ) (e : ExprNode) → is_at 33 s ≡ false → spec.atom depth inner s ≡ Ok (e, r) → spec.operand depth inner s ≡ Ok (e, r)
+  bare_again : (s r : List ℕ) (e : ExprNode) → begins_with_byte 33 s ≡ false → spec.atom depth inner s ≡ Ok (e, r) → spec.operand depth inner s ≡ Ok (e, r)
   unfolding spec.operand
   bare_again s r e at x = rw at x
 
@@ -293,15 +294,15 @@ module _ (depth : ℕ) (inner : Inside → List ℕ → Outcome ExprNode) where
   unfolding spec.choice spec.other_choice
   choice_again s r1 r2 r3 r4 r c a b x q y colon z = rw (x, again.at_here 63 r1 r2 q, y, again.at_here 58 r3 r4 colon, z) refl
 
-  only_again : (s r : List ℕ) (e : ExprNode) → spec.either depth inner s ≡ Ok (e, r) → is_at 63 r ≡ false → spec.choice depth inner s ≡ Ok (e, r)
+  only_again : (s r : List ℕ) (e : ExprNode) → spec.either depth inner s ≡ Ok (e, r) → begins_with_byte 63 r ≡ false → spec.choice depth inner s ≡ Ok (e, r)
   unfolding spec.choice
   only_again s r e x at = rw (x, at) refl
 
-  no_items_again : (s : List ℕ) → is_at 93 s ≡ true → spec.items depth inner s ≡ Ok (n.List [], s)
+  no_items_again : (s : List ℕ) → begins_with_byte 93 s ≡ true → spec.items depth inner s ≡ Ok (n.List [], s)
   unfolding spec.items
   no_items_again s at = rw at refl
 
-  items_again : (s r1 r : List ℕ) (e : ExprNode) (es : List ExprNode) → is_at 93 s ≡ false → spec.choice depth inner s ≡ Ok (e, r1) → spec.chain (spec.choice depth inner) 44 (length r1) (e ∷ []) r1 ≡ Ok ((e ∷ []) ++ es, r)
+  items_again : (s r1 r : List ℕ) (e : ExprNode) (es : List ExprNode) → begins_with_byte 93 s ≡ false → spec.choice depth inner s ≡ Ok (e, r1) → spec.chain (spec.choice depth inner) 44 (length r1) (e ∷ []) r1 ≡ Ok ((e ∷ []) ++ es, r)
       → spec.items depth inner s ≡ Ok (n.List (e ∷ es), r)
   unfolding spec.items
   items_again s r1 r e es at x y = rw (at, x, y) refl
@@ -312,7 +313,7 @@ nested_again depth which c s r1 r e b x = rw (again.behind c s r1 b) x
 
 -- ---- chains
 
-separator_here : (sep : Separator) (s r : List ℕ) → Separates sep s r → is_at (byte_of sep) s ≡ true
+separator_here : (sep : Separator) (s r : List ℕ) → Separates sep s r → begins_with_byte (byte_of sep) s ≡ true
 separator_here And s r o = again.operator_here 38 38 s r o
 separator_here Or s r o = again.operator_here 124 124 s r o
 separator_here Comma s r o = again.at_here 44 s r o
@@ -322,7 +323,7 @@ between_again And s r o = again.second_again 38 38 s r o
 between_again Or s r o = again.second_again 124 124 s r o
 between_again Comma s r o = again.expect_again 44 s r o
 
-chain_stop : (item : List ℕ → Outcome ExprNode) (c k : ℕ) (found : List ExprNode) (s : List ℕ) → is_at c s ≡ false → spec.chain item c k found s ≡ Ok (found ++ [], s)
+chain_stop : (item : List ℕ → Outcome ExprNode) (c k : ℕ) (found : List ExprNode) (s : List ℕ) → begins_with_byte c s ≡ false → spec.chain item c k found s ≡ Ok (found ++ [], s)
 unfolding spec.chain
 chain_stop item c zero found s at = rw append-nil refl
 chain_stop item c (suc k) found s at = rw (at, append-nil) refl
@@ -348,7 +349,7 @@ parse Items depth = spec.items depth (spec.nesting depth)
 
 -- what stands after the parts of a line
 compares_operand : (s : List ℕ) (op : Comparison) (r : List ℕ) → Compares s op r → Stops Operand s
-unfolding is_at spec.access_at
+unfolding begins_with_byte spec.access_at
 compares_operand s _ r (g.equal o) = rw o.parts refl
 compares_operand s _ r (g.not_equal o) = rw o.parts refl
 compares_operand s _ r (g.at_most o) = rw o.parts refl
@@ -357,44 +358,44 @@ compares_operand s _ r (g.below o) = rw o.parts refl
 compares_operand s _ r (g.above o) = rw o.parts refl
 
 question_either : (s r : List ℕ) → Byte 63 s r → Stops Either s
-unfolding is_at spec.access_at spec.compares
+unfolding begins_with_byte spec.access_at spec.compares
 question_either s r b = rw b.parts (refl, refl, refl, refl)
 
 colon_choice : (s r : List ℕ) → Byte 58 s r → Stops Choice s
-unfolding is_at spec.access_at spec.compares
+unfolding begins_with_byte spec.access_at spec.compares
 colon_choice s r b = rw b.parts (refl, refl, refl, refl, refl)
 
 close_choice : (s r : List ℕ) → Byte 41 s r → Stops Choice s
-unfolding is_at spec.access_at spec.compares
+unfolding begins_with_byte spec.access_at spec.compares
 close_choice s r b = rw b.parts (refl, refl, refl, refl, refl)
 
-end_choice : (s : List ℕ) → is_at 93 s ≡ true → Stops Choice s
-unfolding is_at spec.access_at spec.compares
+end_choice : (s : List ℕ) → begins_with_byte 93 s ≡ true → Stops Choice s
+unfolding begins_with_byte spec.access_at spec.compares
 end_choice [] h = absurd cc
 end_choice (c ∷ s) h = let e : c ≡ 93 = eqb_is c 93 h in rw e (refl, refl, refl, refl, refl)
 
 comma_choice : (s r : List ℕ) → Separates Comma s r → Stops Choice s
-unfolding is_at spec.access_at spec.compares
+unfolding begins_with_byte spec.access_at spec.compares
 comma_choice s r b = rw b.parts (refl, refl, refl, refl, refl)
 
 and_compare : (s r : List ℕ) → Separates And s r → Stops Compare s
-unfolding is_at spec.access_at spec.compares
+unfolding begins_with_byte spec.access_at spec.compares
 and_compare s r o = rw o.parts (refl, refl)
 
 or_both : (s r : List ℕ) → Separates Or s r → Stops Both s
-unfolding is_at spec.access_at spec.compares
+unfolding begins_with_byte spec.access_at spec.compares
 or_both s r o = rw o.parts (refl, refl, refl)
 
-no_comma : (s : List ℕ) → is_at 93 s ≡ true → is_at 44 s ≡ false
-unfolding is_at
+no_comma : (s : List ℕ) → begins_with_byte 93 s ≡ true → begins_with_byte 44 s ≡ false
+unfolding begins_with_byte
 no_comma [] h = absurd cc
 no_comma (c ∷ s) h = let e : c ≡ 93 = eqb_is c 93 h in rw e refl
 
 -- what stands after the items of a chain
 abbrev Behind : Separator → List ℕ → Type 0
-Behind And r = Stops Compare r × (is_at 38 r ≡ false)
-Behind Or r = Stops Both r × (is_at 124 r ≡ false)
-Behind Comma r = Stops Choice r × (is_at 44 r ≡ false)
+Behind And r = Stops Compare r × (begins_with_byte 38 r ≡ false)
+Behind Or r = Stops Both r × (begins_with_byte 124 r ≡ false)
+Behind Comma r = Stops Choice r × (begins_with_byte 44 r ≡ false)
 
 behind_stops : (sep : Separator) (r : List ℕ) → Behind sep r → Stops (part_of sep) r
 behind_stops And r b = b.0

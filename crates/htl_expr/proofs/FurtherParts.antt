@@ -1,6 +1,7 @@
 -- Each line of the grammar, read with one level more.
 use Rattle.std.proofs.Common.{◌≡◌, ℕ, zero, suc, ◌≤◌, ◌<◌, Bool, true, false, ◌||◌, eqb, List, [], ◌∷◌, ◌++◌, drop, length, Option, Some, None, Ok, Err, refl, ap, arith, rules}
 use Rattle.std.proofs.lemmas.List.{length-append}
+use Rattle.sp_base.specs.Bytes.{begins_with_byte}
 use Rattle.htl_expr.specs.declared.stop.ExprStop.{ExprStop}
 use Rattle.htl_expr.specs.declared.stop.ExprStop.TheVariants.{Memory, Unexpected, TooDeep}
 use Rattle.htl_expr.specs.declared.node.ExprNode.{ExprNode}
@@ -9,7 +10,7 @@ use Rattle.htl_expr.specs.declared.expression.Expr.{Expr}
 use Rattle.htl_expr.specs.declared.tokens.NameKind.TheVariants.{Name, Field}
 use Rattle.htl_expr.specs.declared.reader.Inside.{Inside}
 use Rattle.htl_expr.specs.declared.reader.Inside.TheVariants.{Choice, Operand, Items}
-use Rattle.htl_expr.specs.Tokens.{Outcome, ◌>>=◌, blanks_skipped, is_at, begins, is_expression_digit, is_quote, expect, string}
+use Rattle.htl_expr.specs.Tokens.{Outcome, ◌>>=◌, blanks_skipped, begins, is_expression_digit, is_quote, expect, string}
 use Rattle.htl_expr.specs.Read as spec
 use Rattle.htl_expr.proofs.TokensAgain.{skip-short}
 use Rattle.htl_expr.proofs.Local.{IsAt, Local}
@@ -17,8 +18,8 @@ use Rattle.htl_expr.proofs.LocalParts.{deeper, local_deeper}
 use Rattle.htl_expr.proofs.Further.{left_of, Within, Goes, goes_bind, goes_if, goes_ok, goes_refuse, goes_deep, goes_more, behind, bytes, skip_drop-short, skip_drop-less}
 use Rattle.htl_expr.proofs.FurtherTokens.{Keeps, expect_keeps, between_keeps, pair_keeps, name_keeps, string_keeps, number_keeps, comparison_keeps, options_keeps}
 
-some_at : (c : ℕ) (t : List ℕ) → is_at c t ≡ true → 0 < length t
-unfolding is_at
+some_at : (c : ℕ) (t : List ℕ) → begins_with_byte c t ≡ true → 0 < length t
+unfolding begins_with_byte
 some_at c [] e = absurd cc
 some_at c (d ∷ t) e = omega arith
 
@@ -40,7 +41,7 @@ bracket_goes (suc depth) t some =
 access_goes : (depth : ℕ) (t : List ℕ) → 0 < length t → Goes behind (length t) (spec.access depth t) (spec.access (suc depth) t)
 unfolding spec.access
 access_goes depth t some =
-    goes_if behind (length t) (is_at 46 t) _ _ _ _ (λ e. goes_more behind (length (blanks_skipped (drop 1 t))) (length t) _ _ (skip_drop-short 1 t) (name_keeps Field (blanks_skipped (drop 1 t)))) (λ e. bracket_goes depth t some)
+    goes_if behind (length t) (begins_with_byte 46 t) _ _ _ _ (λ e. goes_more behind (length (blanks_skipped (drop 1 t))) (length t) _ _ (skip_drop-short 1 t) (name_keeps Field (blanks_skipped (drop 1 t)))) (λ e. bracket_goes depth t some)
 
 either_true : (a b : Bool) (m : ℕ) → (a ≡ true → 0 < m) → (b ≡ true → 0 < m) → (a || b) ≡ true → 0 < m
 either_true true b m first second e = first refl
@@ -48,7 +49,7 @@ either_true false b m first second e = second e
 
 access_some : (t : List ℕ) → spec.access_at t ≡ true → 0 < length t
 unfolding spec.access_at
-access_some t e = either_true (is_at 46 t) (is_at 91 t) (length t) (some_at 46 t) (some_at 91 t) e
+access_some t e = either_true (begins_with_byte 46 t) (begins_with_byte 91 t) (length t) (some_at 46 t) (some_at 91 t) e
 
 accesses_goes : (depth k : ℕ) (found : List (List ℕ)) (t : List ℕ) → Goes behind (length t) (spec.accesses depth k found t) (spec.accesses (suc depth) k found t)
 unfolding spec.accesses
@@ -75,7 +76,7 @@ leaf_goes : (depth : ℕ) (t : List ℕ) → Goes behind (length t) (spec.leaf d
 unfolding spec.leaf
 leaf_goes depth t =
     goes_if behind (length t) (begins is_quote t) _ _ _ _ (λ e. goes_bind behind behind (length t) _ _ _ _ (string_keeps t) (λ x. pair_keeps (n.Text x.0) x.1))
-    (λ e. goes_if behind (length t) (is_at 45 t || begins is_expression_digit t) _ _ _ _ (λ h. goes_bind behind behind (length t) _ _ _ _ (number_keeps t) (λ x. pair_keeps (n.Long x.0) x.1)) (λ h. name_goes depth t))
+    (λ e. goes_if behind (length t) (begins_with_byte 45 t || begins is_expression_digit t) _ _ _ _ (λ h. goes_bind behind behind (length t) _ _ _ _ (number_keeps t) (λ x. pair_keeps (n.Long x.0) x.1)) (λ h. name_goes depth t))
 
 -- ---- chains
 
@@ -83,13 +84,13 @@ chain_goes : (item other : List ℕ → Outcome ExprNode) → ((t : List ℕ) �
 unfolding spec.chain
 chain_goes item other goes c zero found t = pair_keeps found t
 chain_goes item other goes c (suc k) found t =
-    goes_if behind (length t) (is_at c t) _ _ _ _
+    goes_if behind (length t) (begins_with_byte c t) _ _ _ _
     (λ e. goes_bind bytes behind (length t) _ _ _ _ (between_keeps c t) (λ r. goes_bind behind behind (length r) _ _ _ _ (goes r) (λ x. chain_goes item other goes c k (found ++ x.0 ∷ []) x.1))) (λ e. pair_keeps found t)
 
 -- ---- the lines, over what nests
 
 module _ (depth : ℕ) (inner more : Inside → List ℕ → Outcome ExprNode) (nests : (which : Inside) (t : List ℕ) → 0 < length t → Goes behind (length t) (inner which t) (more which t)) where
-  at_goes : (which : Inside) (c : ℕ) (t : List ℕ) → is_at c t ≡ true → Goes behind (length t) (inner which t) (more which t)
+  at_goes : (which : Inside) (c : ℕ) (t : List ℕ) → begins_with_byte c t ≡ true → Goes behind (length t) (inner which t) (more which t)
   at_goes which c t e = nests which t (some_at c t e)
 
   closing_keeps : (c : ℕ) (e : ExprNode) (t : List ℕ) → Keeps behind (length t) (expect c t >>= λ r. Ok (e, r))
@@ -98,8 +99,8 @@ module _ (depth : ℕ) (inner more : Inside → List ℕ → Outcome ExprNode) (
   start_goes : (t : List ℕ) → Goes behind (length t) (spec.start depth inner t) (spec.start (suc depth) more t)
   unfolding spec.start
   start_goes t =
-      goes_if behind (length t) (is_at 40 t) _ _ _ _ (λ e. goes_bind behind behind (length t) _ _ _ _ (at_goes Choice 40 t e) (λ x. closing_keeps 41 x.0 x.1))
-      (λ e. goes_if behind (length t) (is_at 91 t) _ _ _ _ (λ h. goes_bind behind behind (length t) _ _ _ _ (at_goes Items 91 t h) (λ x. closing_keeps 93 x.0 x.1)) (λ h. leaf_goes depth t))
+      goes_if behind (length t) (begins_with_byte 40 t) _ _ _ _ (λ e. goes_bind behind behind (length t) _ _ _ _ (at_goes Choice 40 t e) (λ x. closing_keeps 41 x.0 x.1))
+      (λ e. goes_if behind (length t) (begins_with_byte 91 t) _ _ _ _ (λ h. goes_bind behind behind (length t) _ _ _ _ (at_goes Items 91 t h) (λ x. closing_keeps 93 x.0 x.1)) (λ h. leaf_goes depth t))
 
   atom_goes : (t : List ℕ) → Goes behind (length t) (spec.atom depth inner t) (spec.atom (suc depth) more t)
   unfolding spec.atom
@@ -109,7 +110,7 @@ module _ (depth : ℕ) (inner more : Inside → List ℕ → Outcome ExprNode) (
 
   operand_goes : (t : List ℕ) → Goes behind (length t) (spec.operand depth inner t) (spec.operand (suc depth) more t)
   unfolding spec.operand
-  operand_goes t = goes_if behind (length t) (is_at 33 t) _ _ _ _ (λ e. goes_bind behind behind (length t) _ _ _ _ (at_goes Operand 33 t e) (λ x. pair_keeps (n.Not x.0) x.1)) (λ e. atom_goes t)
+  operand_goes t = goes_if behind (length t) (begins_with_byte 33 t) _ _ _ _ (λ e. goes_bind behind behind (length t) _ _ _ _ (at_goes Operand 33 t e) (λ x. pair_keeps (n.Not x.0) x.1)) (λ e. atom_goes t)
 
   compare_goes : (t : List ℕ) → Goes behind (length t) (spec.compare depth inner t) (spec.compare (suc depth) more t)
   unfolding spec.compare
@@ -133,20 +134,20 @@ module _ (depth : ℕ) (inner more : Inside → List ℕ → Outcome ExprNode) (
 
   other_goes : (t : List ℕ) → Goes behind (length t) (spec.other_choice depth inner t) (spec.other_choice (suc depth) more t)
   unfolding spec.other_choice
-  other_goes t = goes_if behind (length t) (is_at 58 t) _ _ _ _ (λ e. at_goes Choice 58 t e) (λ e. goes_refuse behind (length t) (length t) (omega arith))
+  other_goes t = goes_if behind (length t) (begins_with_byte 58 t) _ _ _ _ (λ e. at_goes Choice 58 t e) (λ e. goes_refuse behind (length t) (length t) (omega arith))
 
   choice_goes : (t : List ℕ) → Goes behind (length t) (spec.choice depth inner t) (spec.choice (suc depth) more t)
   unfolding spec.choice
   choice_goes t =
       goes_bind behind behind (length t) _ _ _ _ (either_goes t)
-      (λ c. goes_if behind (length c.1) (is_at 63 c.1) _ _ _ _
+      (λ c. goes_if behind (length c.1) (begins_with_byte 63 c.1) _ _ _ _
       (λ e. goes_bind behind behind (length c.1) _ _ _ _ (at_goes Choice 63 c.1 e) (λ a. goes_bind behind behind (length a.1) _ _ _ _ (other_goes a.1) (λ b. pair_keeps (n.Choice c.0 a.0 b.0) b.1)))
       (λ e. goes_ok behind (length c.1) c (omega arith)))
 
   items_goes : (t : List ℕ) → Goes behind (length t) (spec.items depth inner t) (spec.items (suc depth) more t)
   unfolding spec.items
   items_goes t =
-      goes_if behind (length t) (is_at 93 t) _ _ _ _ (λ e. pair_keeps (n.List []) t)
+      goes_if behind (length t) (begins_with_byte 93 t) _ _ _ _ (λ e. pair_keeps (n.List []) t)
       (λ e. goes_bind behind behind (length t) _ _ _ _ (choice_goes t)
       (λ x. goes_bind behind behind (length x.1) _ _ _ _ (chain_goes (spec.choice depth inner) (spec.choice (suc depth) more) choice_goes 44 (length x.1) (x.0 ∷ []) x.1) (λ xs. pair_keeps (n.List xs.0) xs.1)))
 
@@ -187,7 +188,7 @@ nothing e = 0
 first_goes : (levels : ℕ) (t : List ℕ) → Goes behind (length t) (spec.optional_choice levels t) (spec.optional_choice (suc levels) t)
 unfolding spec.optional_choice
 first_goes levels t =
-    goes_if behind (length t) (eqb (length t) 0 || is_at 64 t) _ _ _ _ (λ e. pair_keeps None t)
+    goes_if behind (length t) (eqb (length t) 0 || begins_with_byte 64 t) _ _ _ _ (λ e. pair_keeps None t)
     (λ e. goes_bind behind behind (length t) _ _ _ _ (choice_goes levels (spec.nesting levels) (spec.nesting (suc levels)) (nesting_goes levels) t) (λ x. pair_keeps (Some x.0) x.1))
 
 pub read_goes : (levels : ℕ) (s : List ℕ) → Goes nothing (length s) (spec.expression_read levels s) (spec.expression_read (suc levels) s)

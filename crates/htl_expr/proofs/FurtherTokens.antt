@@ -1,11 +1,12 @@
 -- Tokens and options nest nothing, so one level more changes nothing of them.
 use Rattle.std.proofs.Common.{ℕ, ◌≤◌, ◌+◌, ◌*◌, ◌-◌, Bool, true, false, cond, ◌&&◌, eqb, List, [], ◌∷◌, ◌++◌, drop, length, slice_index, Option, Some, None, is_none, Result, Ok, codes, arith}
+use Rattle.sp_base.specs.Bytes.{begins_with_byte}
 use Rattle.htl_expr.specs.declared.stop.ExprStop.{ExprStop}
 use Rattle.htl_expr.specs.declared.node.Comparison.{Comparison}
 use Rattle.htl_expr.specs.declared.node.Comparison.TheVariants.{Equal, NotEqual, Below, Above, AtMost, AtLeast}
 use Rattle.htl_expr.specs.declared.expression.Context.TheVariants.{Text, Unsafe}
 use Rattle.htl_expr.specs.declared.tokens.NameKind.{NameKind}
-use Rattle.htl_expr.specs.Tokens.{Outcome, ◌>>=◌, blanks_skipped, is_at, begins, is_first, is_expression_digit, is_quote, name_len, read_name, expect, second, literal, unescape, string_after_escape, read_with_prefix, string_from, string, expression_digit_fits, expression_digits_from, limit, digits, signed_number}
+use Rattle.htl_expr.specs.Tokens.{Outcome, ◌>>=◌, blanks_skipped, begins, is_first, is_expression_digit, is_quote, name_len, read_name, expect, second, literal, unescape, string_after_escape, read_with_prefix, string_from, string, expression_digit_fits, expression_digits_from, limit, digits, signed_number}
 use Rattle.htl_expr.specs.Read as spec
 use Rattle.htl_expr.proofs.TokensAgain.{skip-short}
 use Rattle.htl_expr.proofs.Further.{Goes, goes_bind, goes_if, goes_ok, goes_refuse, goes_more, behind, bytes, drop-short, skip_drop-short}
@@ -19,7 +20,7 @@ here t = omega arith
 
 pub expect_keeps : (c : ℕ) (t : List ℕ) → Keeps bytes (length t) (expect c t)
 unfolding expect
-expect_keeps c t = goes_if bytes (length t) (is_at c t) _ _ _ _ (λ e. goes_ok bytes (length t) (blanks_skipped (drop 1 t)) (skip_drop-short 1 t)) (λ e. goes_refuse bytes (length t) (length t) (here t))
+expect_keeps c t = goes_if bytes (length t) (begins_with_byte c t) _ _ _ _ (λ e. goes_ok bytes (length t) (blanks_skipped (drop 1 t)) (skip_drop-short 1 t)) (λ e. goes_refuse bytes (length t) (length t) (here t))
 
 pub second_keeps : (c : ℕ) (t : List ℕ) → Keeps bytes (length t) (second c t)
 unfolding second
@@ -81,13 +82,13 @@ digits_keeps negative t =
 
 pub number_keeps : (t : List ℕ) → Keeps behind (length t) (signed_number t)
 unfolding signed_number
-number_keeps t = goes_if behind (length t) (is_at 45 t) _ _ _ _ (λ e. goes_more behind (length (drop 1 t)) (length t) _ _ (drop-short 1 t) (digits_keeps true (drop 1 t))) (λ e. digits_keeps false t)
+number_keeps t = goes_if behind (length t) (begins_with_byte 45 t) _ _ _ _ (λ e. goes_more behind (length (drop 1 t)) (length t) _ _ (drop-short 1 t) (digits_keeps true (drop 1 t))) (λ e. digits_keeps false t)
 
 -- ---- comparisons
 
 or_equal-short : (bare equal : Comparison) (t : List ℕ) → length (spec.or_equal bare equal t).1 ≤ length t
 unfolding spec.or_equal
-or_equal-short bare equal t = go (is_at 61 (drop 1 t))
+or_equal-short bare equal t = go (begins_with_byte 61 (drop 1 t))
   where
     go : (b : Bool) → length (cond {A = Comparison × List ℕ} b (equal, blanks_skipped (drop 1 (drop 1 t))) (bare, blanks_skipped (drop 1 t))).1 ≤ length t
     go true = omega (arith, skip_drop-short 1 (drop 1 t), drop-short 1 t)
@@ -96,21 +97,21 @@ or_equal-short bare equal t = go (is_at 61 (drop 1 t))
 pub comparison_keeps : (t : List ℕ) → Keeps behind (length t) (spec.comparison t)
 unfolding spec.comparison
 comparison_keeps t =
-    goes_if behind (length t) (is_at 61 t) _ _ _ _ (λ e. goes_bind bytes behind (length t) _ _ _ _ (second_keeps 61 t) (λ r. pair_keeps Equal r))
-    (λ e. goes_if behind (length t) (is_at 33 t) _ _ _ _ (λ h. goes_bind bytes behind (length t) _ _ _ _ (second_keeps 61 t) (λ r. pair_keeps NotEqual r))
-    (λ h. goes_if behind (length t) (is_at 60 t) _ _ _ _ (λ k. goes_ok behind (length t) _ (or_equal-short Below AtMost t)) (λ k. goes_ok behind (length t) _ (or_equal-short Above AtLeast t))))
+    goes_if behind (length t) (begins_with_byte 61 t) _ _ _ _ (λ e. goes_bind bytes behind (length t) _ _ _ _ (second_keeps 61 t) (λ r. pair_keeps Equal r))
+    (λ e. goes_if behind (length t) (begins_with_byte 33 t) _ _ _ _ (λ h. goes_bind bytes behind (length t) _ _ _ _ (second_keeps 61 t) (λ r. pair_keeps NotEqual r))
+    (λ h. goes_if behind (length t) (begins_with_byte 60 t) _ _ _ _ (λ k. goes_ok behind (length t) _ (or_equal-short Below AtMost t)) (λ k. goes_ok behind (length t) _ (or_equal-short Above AtLeast t))))
 
 -- ---- options
 
 literal_keeps : (w t : List ℕ) → Keeps bytes (length t) (literal w t)
 unfolding literal
 literal_keeps [] t = goes_ok bytes (length t) t (here t)
-literal_keeps (c ∷ w) t = goes_if bytes (length t) (is_at c t) _ _ _ _ (λ e. goes_more bytes (length (drop 1 t)) (length t) _ _ (drop-short 1 t) (literal_keeps w (drop 1 t))) (λ e. goes_refuse bytes (length t) (length t) (here t))
+literal_keeps (c ∷ w) t = goes_if bytes (length t) (begins_with_byte c t) _ _ _ _ (λ e. goes_more bytes (length (drop 1 t)) (length t) _ _ (drop-short 1 t) (literal_keeps w (drop 1 t))) (λ e. goes_refuse bytes (length t) (length t) (here t))
 
 context_word_keeps : (t : List ℕ) → Keeps behind (length t) (spec.context_word t)
 unfolding spec.context_word
 context_word_keeps t =
-    goes_if behind (length t) (is_at 116 t) _ _ _ _ (λ e. goes_bind bytes behind (length t) _ _ _ _ (literal_keeps (codes "text") t) (λ r. pair_keeps Text r))
+    goes_if behind (length t) (begins_with_byte 116 t) _ _ _ _ (λ e. goes_bind bytes behind (length t) _ _ _ _ (literal_keeps (codes "text") t) (λ r. pair_keeps Text r))
     (λ e. goes_bind bytes behind (length t) _ _ _ _ (literal_keeps (codes "unsafe") t) (λ r. pair_keeps Unsafe r))
 
 context_string_keeps : (t : List ℕ) → Keeps behind (length t) (spec.context_string t)
@@ -130,15 +131,15 @@ given_keeps word value t keeps =
 option_keeps : (given : spec.Given) (t : List ℕ) → Keeps behind (length t) (spec.option given t)
 unfolding spec.option spec.join_option spec.context_option
 option_keeps given t =
-    goes_if behind (length t) (is_none given.0 && is_at 106 t) _ _ _ _ (λ e. goes_bind behind behind (length t) _ _ _ _ (given_keeps (codes "join") string t string_keeps) (λ x. pair_keeps (Some x.0, given.1) x.1))
-    (λ e. goes_if behind (length t) (is_none given.1 && is_at 99 t) _ _ _ _ (λ h. goes_bind behind behind (length t) _ _ _ _ (given_keeps (codes "context") spec.context_string t context_string_keeps) (λ x. pair_keeps (given.0, Some x.0) x.1))
+    goes_if behind (length t) (is_none given.0 && begins_with_byte 106 t) _ _ _ _ (λ e. goes_bind behind behind (length t) _ _ _ _ (given_keeps (codes "join") string t string_keeps) (λ x. pair_keeps (Some x.0, given.1) x.1))
+    (λ e. goes_if behind (length t) (is_none given.1 && begins_with_byte 99 t) _ _ _ _ (λ h. goes_bind behind behind (length t) _ _ _ _ (given_keeps (codes "context") spec.context_string t context_string_keeps) (λ x. pair_keeps (given.0, Some x.0) x.1))
     (λ h. goes_refuse behind (length t) (length t) (here t)))
 
 pub options_keeps : (t : List ℕ) → Keeps behind (length t) (spec.options t)
 unfolding spec.options
 options_keeps t =
-    goes_if behind (length t) (is_at 64 t) _ _ _ _
+    goes_if behind (length t) (begins_with_byte 64 t) _ _ _ _
     (λ e. goes_more behind (length (blanks_skipped (drop 1 t))) (length t) _ _ (skip_drop-short 1 t)
     (goes_bind behind behind (length (blanks_skipped (drop 1 t))) _ _ _ _ (option_keeps (None, None) (blanks_skipped (drop 1 t)))
-    (λ o. goes_if behind (length o.1) (is_at 44 o.1) _ _ _ _ (λ h. goes_more behind (length (blanks_skipped (drop 1 o.1))) (length o.1) _ _ (skip_drop-short 1 o.1) (option_keeps o.0 (blanks_skipped (drop 1 o.1)))) (λ h. goes_ok behind (length o.1) o (here o.1)))))
+    (λ o. goes_if behind (length o.1) (begins_with_byte 44 o.1) _ _ _ _ (λ h. goes_more behind (length (blanks_skipped (drop 1 o.1))) (length o.1) _ _ (skip_drop-short 1 o.1) (option_keeps o.0 (blanks_skipped (drop 1 o.1)))) (λ h. goes_ok behind (length o.1) o (here o.1)))))
     (λ e. pair_keeps (None, None) t)

@@ -2,13 +2,14 @@
 use Rattle.std.proofs.Common.{◌≡◌, ◌≢◌, ℕ, zero, suc, ◌+◌, ◌-◌, ◌<◌, ◌≤◌, Bool, true, cond, ◌&&◌, List, [], ◌∷◌, ◌++◌, take, drop, length, Result, Ok, Err, refl, ap, sym, subst, ◌∙◌, ◌⊎◌, inl, inr, arith}
 use Rattle.std.proofs.lemmas.List.{length-append}
 use Rattle.std.proofs.Math.Seq.{drop-nil}
+use Rattle.sp_base.specs.Bytes.{begins_with_byte}
 use Rattle.htl_expr.specs.declared.stop.ExprStop.{ExprStop}
 use Rattle.htl_expr.specs.declared.stop.ExprStop.TheVariants.{Memory, Unexpected, TooDeep}
 use Rattle.htl_expr.specs.declared.expression.Expr.{Expr}
 use Rattle.htl_expr.specs.declared.expression.ExprFault.{ExprFault}
 use Rattle.htl_expr.specs.declared.expression.ExprFault.TheVariants as fault
 use Rattle.htl_expr.specs.declared.expression.ExprFault.TheVariants.{NoMemory}
-use Rattle.htl_expr.specs.Tokens.{is_at, begins}
+use Rattle.htl_expr.specs.Tokens.{begins}
 use Rattle.htl_expr.specs.Read.{expression_read}
 use Rattle.htl_expr.specs.Grammar.{nesting_limit, WholeWithin}
 use Rattle.htl_expr.specs.Fault.{nests, SameHead, Agree, HasNone, HasSome, MayGoOn, colon_letter, passes, takes_colon, fault_place, IsExpressionFault}
@@ -159,7 +160,7 @@ same_place : (more levels : ℕ) (s : List ℕ) (left : ℕ) → expression_read
 unfolding up
 same_place zero levels s left r = refl
 same_place (suc more) levels s left r =
-    ap (λ (b : Bool). cond (is_at 58 (drop (length s - left) s) && b) ((length s - left) + 1) (length s - left)) (same_takes (up more levels) s (length s - left) (more_here (up more levels) s left (more_unexpected more levels s left r)))
+    ap (λ (b : Bool). cond (begins_with_byte 58 (drop (length s - left) s) && b) ((length s - left) + 1) (length s - left)) (same_takes (up more levels) s (length s - left) (more_here (up more levels) s left (more_unexpected more levels s left r)))
     ∙ same_place more levels s left r
 
 none_less : (levels deeper : ℕ) (s : List ℕ) (place : ℕ) → levels ≤ deeper → HasNone deeper s place → HasNone levels s place

@@ -1,9 +1,10 @@
 -- What was read, or why nothing was, depends on no byte after the next one, but for a letter after a colon.
 use Rattle.std.proofs.Common.{◌≡◌, ℕ, Bool, true, false, cond, ◌||◌, ◌&&◌, eqb, List, [], ◌∷◌, ◌++◌, drop, length, Result, Ok, Err, refl, ap, sym, subst, ◌∙◌, ◌⊎◌, inl, inr, append_assoc}
+use Rattle.sp_base.specs.Bytes.{begins_with_byte}
 use Rattle.htl_expr.specs.declared.stop.ExprStop.{ExprStop}
 use Rattle.htl_expr.specs.declared.stop.ExprStop.TheVariants.{Memory, Unexpected, TooDeep}
 use Rattle.htl_expr.specs.declared.tokens.NameKind.TheVariants.{Field}
-use Rattle.htl_expr.specs.Tokens.{Outcome, ◌>>=◌, is_at, begins, goes_on, is_letter, is_word_byte}
+use Rattle.htl_expr.specs.Tokens.{Outcome, ◌>>=◌, begins, goes_on, is_letter, is_word_byte}
 use Rattle.htl_expr.specs.Fault.{SameHead, nests}
 use Rattle.htl_expr.proofs.Tools.{bind_ok, chosen, ok_is}
 
@@ -36,8 +37,8 @@ pub head_in : (front r z : List ℕ) → Same r z → Same (front ++ r) (front +
 head_in [] r z h = h
 head_in (c ∷ front) r z h = same_behind c (front ++ r) (front ++ z) (front_same front r z h.0)
 
-pub at_same : (c : ℕ) (r z : List ℕ) → Same r z → is_at c z ≡ is_at c r
-unfolding is_at
+pub at_same : (c : ℕ) (r z : List ℕ) → Same r z → begins_with_byte c z ≡ begins_with_byte c r
+unfolding begins_with_byte
 at_same c [] [] h = refl
 at_same c [] (d ∷ z) h = absurd h.0
 at_same c (d ∷ r) [] h = absurd h.0

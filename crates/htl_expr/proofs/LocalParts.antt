@@ -1,13 +1,14 @@
 -- The same of each part.
 use Rattle.std.proofs.Common.{◌≡◌, ℕ, zero, suc, ◌<◌, Bool, true, false, cond, ◌||◌, eqb, List, [], ◌∷◌, ◌++◌, drop, length, Option, Some, None, Result, Ok, Err, refl, ap, ◌∙◌, ◌⊎◌, inl, inr, arith}
 use Rattle.std.proofs.lemmas.List.{length-append}
+use Rattle.sp_base.specs.Bytes.{begins_with_byte}
 use Rattle.htl_expr.specs.declared.stop.ExprStop.{ExprStop}
 use Rattle.htl_expr.specs.declared.node.ExprNode.{ExprNode}
 use Rattle.htl_expr.specs.declared.node.ExprNode.TheVariants as n
 use Rattle.htl_expr.specs.declared.tokens.NameKind.TheVariants.{Name, Field}
 use Rattle.htl_expr.specs.declared.reader.Inside.{Inside}
 use Rattle.htl_expr.specs.declared.reader.Inside.TheVariants.{Choice, Operand, Items}
-use Rattle.htl_expr.specs.Tokens.{Outcome, ◌>>=◌, blanks_skipped, is_at, begins, is_expression_digit, is_quote, read_name, expect, string, signed_number}
+use Rattle.htl_expr.specs.Tokens.{Outcome, ◌>>=◌, blanks_skipped, begins, is_expression_digit, is_quote, read_name, expect, string, signed_number}
 use Rattle.htl_expr.specs.Read as spec
 use Rattle.htl_expr.proofs.Tools.{bind_ok, chosen}
 use Rattle.htl_expr.proofs.TokensRead.{expect_sound, second_sound}
@@ -37,7 +38,7 @@ local_bracketed depth = go (eqb depth 0)
   where
     go : (b : Bool) → Local (guarded 91 (λ t. cond b (too_deep t) (inside_brackets t)))
     go true = local_deep 91 refl
-    go false = local_if (is_at 91) inside_brackets refuse (at_same 91) local_inside local_refuse
+    go false = local_if (begins_with_byte 91) inside_brackets refuse (at_same 91) local_inside local_refuse
 
 either_first : {A : Type 0} (a b : Bool) (x y z : A) → cond a x (cond b y z) ≡ cond (a || b) (cond a x y) z
 either_first true b x y z = refl
@@ -47,9 +48,9 @@ either_first false false x y z = refl
 local_first_access : (depth : ℕ) → Local (spec.first_access depth)
 unfolding spec.first_access spec.access spec.access_at
 local_first_access depth =
-    local_ext (λ t. cond (is_at 46 t) (read_name Field (blanks_skipped (drop 1 t))) (guarded 91 (spec.bracket_access depth) t)) (λ t. cond (is_at 46 t || is_at 91 t) (cond (is_at 46 t) (read_name Field (blanks_skipped (drop 1 t))) (spec.bracket_access depth t)) (refuse t))
-    (λ t. either_first (is_at 46 t) (is_at 91 t) (read_name Field (blanks_skipped (drop 1 t))) (spec.bracket_access depth t) (refuse t))
-    (local_if (is_at 46) (λ t. read_name Field (blanks_skipped (drop 1 t))) (guarded 91 (spec.bracket_access depth)) (at_same 46) (local_drop (λ t. read_name Field (blanks_skipped t)) (local_skip (read_name Field) (local_name Field))) (local_bracketed depth))
+    local_ext (λ t. cond (begins_with_byte 46 t) (read_name Field (blanks_skipped (drop 1 t))) (guarded 91 (spec.bracket_access depth) t)) (λ t. cond (begins_with_byte 46 t || begins_with_byte 91 t) (cond (begins_with_byte 46 t) (read_name Field (blanks_skipped (drop 1 t))) (spec.bracket_access depth t)) (refuse t))
+    (λ t. either_first (begins_with_byte 46 t) (begins_with_byte 91 t) (read_name Field (blanks_skipped (drop 1 t))) (spec.bracket_access depth t) (refuse t))
+    (local_if (begins_with_byte 46) (λ t. read_name Field (blanks_skipped (drop 1 t))) (guarded 91 (spec.bracket_access depth)) (at_same 46) (local_drop (λ t. read_name Field (blanks_skipped t)) (local_skip (read_name Field) (local_name Field))) (local_bracketed depth))
 
 first_access-short : (depth : ℕ) (t : List ℕ) (x : List ℕ) (r : List ℕ) → spec.access_at t ≡ true → spec.first_access depth t ≡ Ok (x, r) → length r < length t
 first_access-short depth t x r at e = access-short depth t x r (first_access_sound depth t (x, r) e)
@@ -77,13 +78,13 @@ abbrev all_accesses : ℕ → List ℕ → Outcome (List (List ℕ))
 all_accesses depth t = spec.accesses depth (length t) [] t
 
 local_accesses : (depth : ℕ) → Local (all_accesses depth)
-unfolding is_at spec.access_at
+unfolding begins_with_byte spec.access_at
 local_accesses depth = local_ext (whole_loop spec.access_at (spec.first_access depth) []) (all_accesses depth) (λ t. accesses_loop depth (length t) [] t)
     (local_loop spec.access_at (spec.first_access depth) access_same refl (local_first_access depth) (first_access-short depth) [])
 
 -- ---- chains
 
-between-short : (c : ℕ) (t r : List ℕ) → is_at c t ≡ true → spec.between c t ≡ Ok r → length r < length t
+between-short : (c : ℕ) (t r : List ℕ) → begins_with_byte c t ≡ true → spec.between c t ≡ Ok r → length r < length t
 between-short c t r at e = elim (chosen (eqb c 44) _ _ _ e) [
   | inl h ↦ byte-short c t r (expect_sound c t r h.1)
   | inr h ↦ operator-short c c t r (second_sound c c t r at h.1)
@@ -96,7 +97,7 @@ module _ (c : ℕ) (item : List ℕ → Outcome ExprNode) (local : Local item) w
   local_turn : Local turn
   local_turn = local_step (spec.between c) item (local_between c) local
 
-  turn-short : (t : List ℕ) (x : ExprNode) (r : List ℕ) → is_at c t ≡ true → turn t ≡ Ok (x, r) → length r < length t
+  turn-short : (t : List ℕ) (x : ExprNode) (r : List ℕ) → begins_with_byte c t ≡ true → turn t ≡ Ok (x, r) → length r < length t
   turn-short t x r at e =
       let op = bind_ok (spec.between c t) item (x, r) e in
       let k = local.ok op.0 x r op.2 in
@@ -106,21 +107,21 @@ module _ (c : ℕ) (item : List ℕ → Outcome ExprNode) (local : Local item) w
   regroup (Ok r) f = refl
   regroup (Err d) f = refl
 
-  chain_loop : (k : ℕ) (found : List ExprNode) (t : List ℕ) → loop (is_at c) turn k found t ≡ spec.chain item c k found t
+  chain_loop : (k : ℕ) (found : List ExprNode) (t : List ℕ) → loop (begins_with_byte c) turn k found t ≡ spec.chain item c k found t
   unfolding loop spec.chain
   chain_loop zero found t = refl
   chain_loop (suc k) found t =
-      ap (λ (o : Outcome (List ExprNode)). cond (is_at c t) o (Ok (found, t)))
-      (under (turn t) (λ x. loop (is_at c) turn k (found ++ x.0 ∷ []) x.1) (λ x. spec.chain item c k (found ++ x.0 ∷ []) x.1) (λ x. chain_loop k (found ++ x.0 ∷ []) x.1)
+      ap (λ (o : Outcome (List ExprNode)). cond (begins_with_byte c t) o (Ok (found, t)))
+      (under (turn t) (λ x. loop (begins_with_byte c) turn k (found ++ x.0 ∷ []) x.1) (λ x. spec.chain item c k (found ++ x.0 ∷ []) x.1) (λ x. chain_loop k (found ++ x.0 ∷ []) x.1)
       ∙ regroup (spec.between c t) (λ x. spec.chain item c k (found ++ x.0 ∷ []) x.1))
 
   local_chain : (found : List ExprNode) → Local (λ t. spec.chain item c (length t) found t)
-  unfolding is_at
-  local_chain found = local_ext (whole_loop (is_at c) turn found) (λ t. spec.chain item c (length t) found t) (λ t. chain_loop (length t) found t) (local_loop (is_at c) turn (at_same c) refl local_turn turn-short found)
+  unfolding begins_with_byte
+  local_chain found = local_ext (whole_loop (begins_with_byte c) turn found) (λ t. spec.chain item c (length t) found t) (λ t. chain_loop (length t) found t) (local_loop (begins_with_byte c) turn (at_same c) refl local_turn turn-short found)
 
 -- ---- parts
 
-number_same : (r z : List ℕ) → Same r z → (is_at 45 z || begins is_expression_digit z) ≡ (is_at 45 r || begins is_expression_digit r)
+number_same : (r z : List ℕ) → Same r z → (begins_with_byte 45 z || begins is_expression_digit z) ≡ (begins_with_byte 45 r || begins is_expression_digit r)
 number_same r z h = rw (at_same 45 r z h, head_same is_expression_digit r z h) refl
 
 compares_same : (r z : List ℕ) → Same r z → spec.compares z ≡ spec.compares r
@@ -139,7 +140,7 @@ local_leaf : (depth : ℕ) → Local (spec.leaf depth)
 unfolding spec.leaf
 local_leaf depth =
     local_if (begins is_quote) (λ t. string t >>= λ x. Ok (n.Text x.0, x.1)) _ (head_same is_quote) (local_bind string (λ w t. Ok (n.Text w, t)) local_string (λ w. local_pure (n.Text w)))
-    (local_if (λ t. is_at 45 t || begins is_expression_digit t) (λ t. signed_number t >>= λ x. Ok (n.Long x.0, x.1)) (spec.name_or_object depth) number_same (local_bind signed_number (λ k t. Ok (n.Long k, t)) local_number (λ k. local_pure (n.Long k))) (local_named depth))
+    (local_if (λ t. begins_with_byte 45 t || begins is_expression_digit t) (λ t. signed_number t >>= λ x. Ok (n.Long x.0, x.1)) (spec.name_or_object depth) number_same (local_bind signed_number (λ k t. Ok (n.Long k, t)) local_number (λ k. local_pure (n.Long k))) (local_named depth))
 
 -- A choice is read at a colon only after one that was read, so never where no level is left.
 abbrev Other : (Inside → List ℕ → Outcome ExprNode) → Type 0
@@ -161,7 +162,7 @@ module _ (depth : ℕ) (inner : Inside → List ℕ → Outcome ExprNode) (local
   local_start : Local (spec.start depth inner)
   unfolding spec.start closing
   local_start =
-      local_guarded 40 (inner Choice) (closing 41) (λ t. cond (is_at 91 t) (inner Items t >>= λ x. closing 93 x.0 x.1) (spec.leaf depth t)) (local Choice 40 refl) (local_closing 41)
+      local_guarded 40 (inner Choice) (closing 41) (λ t. cond (begins_with_byte 91 t) (inner Items t >>= λ x. closing 93 x.0 x.1) (spec.leaf depth t)) (local Choice 40 refl) (local_closing 41)
       (local_guarded 91 (inner Items) (closing 93) (spec.leaf depth) (local Items 91 refl) (local_closing 93) (local_leaf depth))
 
   local_atom : Local (spec.atom depth inner)
@@ -203,12 +204,12 @@ module _ (depth : ℕ) (inner : Inside → List ℕ → Outcome ExprNode) (local
   local_others l c a = local_bind (guarded 58 (inner Choice)) (λ b t. Ok (n.Choice c a b, t)) l (λ b. local_pure (n.Choice c a b))
 
   abbrev branches : ExprNode → List ℕ → Outcome ExprNode
-  branches c t = cond (is_at 63 t) (inner Choice t >>= λ a. others c a.0 a.1) (Ok (c, t))
+  branches c t = cond (begins_with_byte 63 t) (inner Choice t >>= λ a. others c a.0 a.1) (Ok (c, t))
 
   local_branches : Other inner → (c : ExprNode) → Local (branches c)
   local_branches (inl l) c = local_guarded 63 (inner Choice) (others c) (got c) (local Choice 63 refl) (local_others l c) (local_pure c)
   local_branches (inr never) c =
-      local_ext (λ t. cond (is_at 63 t) (inner Choice t >>= λ a. got a.0 a.1) (Ok (c, t))) (branches c) (λ t. never_is (is_at 63 t) (inner Choice t) (λ a. got a.0 a.1) (λ a. others c a.0 a.1) (Ok (c, t)) (never t))
+      local_ext (λ t. cond (begins_with_byte 63 t) (inner Choice t >>= λ a. got a.0 a.1) (Ok (c, t))) (branches c) (λ t. never_is (begins_with_byte 63 t) (inner Choice t) (λ a. got a.0 a.1) (λ a. others c a.0 a.1) (Ok (c, t)) (never t))
       (local_guarded 63 (inner Choice) got (got c) (local Choice 63 refl) local_pure (local_pure c))
 
   local_choice : Local (spec.choice depth inner)
@@ -224,7 +225,7 @@ module _ (depth : ℕ) (inner : Inside → List ℕ → Outcome ExprNode) (local
 
   local_items : Local (spec.items depth inner)
   unfolding spec.items more_items
-  local_items = local_if (is_at 93) (got (n.List [])) (λ t. spec.choice depth inner t >>= λ x. more_items x.0 x.1) (at_same 93) (local_pure (n.List [])) (local_bind (spec.choice depth inner) more_items local_choice local_more_items)
+  local_items = local_if (begins_with_byte 93) (got (n.List [])) (λ t. spec.choice depth inner t >>= λ x. more_items x.0 x.1) (at_same 93) (local_pure (n.List [])) (local_bind (spec.choice depth inner) more_items local_choice local_more_items)
 
   local_level : (which : Inside) → Local (spec.level depth inner which)
   local_level Choice = local_choice
@@ -236,7 +237,7 @@ deeper depth which t = spec.level depth (spec.nesting depth) which t
 
 local_behind : (d : ℕ) (which : Inside) (c : ℕ) → Local (deeper d which) → Local (guarded c (spec.nesting (suc d) which))
 unfolding spec.nesting
-local_behind d which c l = local_if (is_at c) (λ t. deeper d which (blanks_skipped (drop 1 t))) refuse (at_same c) (local_drop (λ t. deeper d which (blanks_skipped t)) (local_skip (deeper d which) l)) local_refuse
+local_behind d which c l = local_if (begins_with_byte c) (λ t. deeper d which (blanks_skipped (drop 1 t))) refuse (at_same c) (local_drop (λ t. deeper d which (blanks_skipped t)) (local_skip (deeper d which) l)) local_refuse
 
 local_zero : (which : Inside) (c : ℕ) → nests c ≡ true → Local (guarded c (spec.nesting zero which))
 unfolding spec.nesting

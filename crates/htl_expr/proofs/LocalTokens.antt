@@ -1,13 +1,14 @@
 -- The same of each token.
 use Rattle.std.proofs.Common.{◌≡◌, ℕ, ◌+◌, ◌*◌, ◌-◌, Bool, true, false, cond, ◌||◌, ◌&&◌, eqb, nat_le, List, [], ◌∷◌, ◌++◌, take, drop, length, Result, Ok, Err, refl, ap, sym, subst, ◌∙◌, inl, inr, append_assoc}
 use Rattle.std.proofs.lemmas.List.{take-append-drop, take_at, drop_at}
+use Rattle.sp_base.specs.Bytes.{begins_with_byte}
 use Rattle.htl_expr.specs.declared.stop.ExprStop.{ExprStop}
 use Rattle.htl_expr.specs.declared.stop.ExprStop.TheVariants.{Unexpected, TooDeep}
 use Rattle.htl_expr.specs.declared.tokens.NameKind.{NameKind}
 use Rattle.htl_expr.specs.declared.tokens.NameKind.TheVariants.{Name, Field}
 use Rattle.htl_expr.specs.declared.node.Comparison.{Comparison}
 use Rattle.htl_expr.specs.declared.node.Comparison.TheVariants.{Equal, NotEqual, Below, Above, AtMost, AtLeast}
-use Rattle.htl_expr.specs.Tokens.{Outcome, ◌>>=◌, blanks_skipped, is_at, is_blank, begins, expect, second, literal, goes_on, run, name_len, read_name, is_expression_digit, is_letter, is_word_byte, is_first, digits, expression_digits_from, expression_digit_fits, limit, signed_value, signed_number}
+use Rattle.htl_expr.specs.Tokens.{Outcome, ◌>>=◌, blanks_skipped, is_blank, begins, expect, second, literal, goes_on, run, name_len, read_name, is_expression_digit, is_letter, is_word_byte, is_first, digits, expression_digits_from, expression_digit_fits, limit, signed_value, signed_number}
 use Rattle.htl_expr.specs.Read.{comparison, or_equal, between}
 use Rattle.htl_expr.specs.Grammar.{Passes}
 use Rattle.htl_expr.specs.Fault.{nests, SameHead}
@@ -66,10 +67,10 @@ abbrev pub too_deep : {A : Type 0} → List ℕ → Outcome A
 too_deep s = Err (TooDeep (length s))
 
 abbrev pub guarded : {A : Type 0} → ℕ → (List ℕ → Outcome A) → List ℕ → Outcome A
-guarded c f s = cond (is_at c s) (f s) (refuse s)
+guarded c f s = cond (begins_with_byte c s) (f s) (refuse s)
 
-at_begins : (test : ℕ → Bool) (c : ℕ) (s : List ℕ) → test c ≡ true → is_at c s ≡ true → begins test s ≡ true
-unfolding begins is_at
+at_begins : (test : ℕ → Bool) (c : ℕ) (s : List ℕ) → test c ≡ true → begins_with_byte c s ≡ true → begins test s ≡ true
+unfolding begins begins_with_byte
 at_begins test c [] t e = absurd cc
 at_begins test c (d ∷ s) t e = ap test (eqb_is d c e) ∙ t
 
@@ -77,19 +78,19 @@ pub local_deep : {A : Type 0} (c : ℕ) → nests c ≡ true → Local (guarded 
 local_deep {A = A} c n = record { ok = ok; err = err }
   where
     ok : (s : List ℕ) (x : A) (r : List ℕ) → guarded {A = A} c too_deep s ≡ Ok (x, r) → Kept (guarded {A = A} c too_deep) s x r
-    ok s x r e = elim (chosen (is_at c s) _ _ _ e) [
+    ok s x r e = elim (chosen (begins_with_byte c s) _ _ _ e) [
       | inl h ↦ absurd (let w = h.1 in cc)
       | inr h ↦ absurd (let w = h.1 in cc)
     ]
 
     err : (d : ExprStop) (s : List ℕ) → guarded {A = A} c too_deep s ≡ Err d → Failed (guarded {A = A} c too_deep) d s
-    err d s e = elim (chosen (is_at c s) _ _ _ e) [
+    err d s e = elim (chosen (begins_with_byte c s) _ _ _ e) [
       | inl h ↦
           subst (λ (b : ExprStop). Failed (guarded {A = A} c too_deep) b s) (err_is {A = A} (TooDeep (length s)) d h.1)
-          (record { front = []; rest = s; parts = refl; left = (refl, at_begins nests c s n h.0); same = λ z w. (let t : is_at c z ≡ true = at_same c s z w ∙ h.0 in rw t refl) })
+          (record { front = []; rest = s; parts = refl; left = (refl, at_begins nests c s n h.0); same = λ z w. (let t : begins_with_byte c z ≡ true = at_same c s z w ∙ h.0 in rw t refl) })
       | inr h ↦
           subst (λ (b : ExprStop). Failed (guarded {A = A} c too_deep) b s) (err_is {A = A} (Unexpected (length s)) d h.1)
-          (record { front = []; rest = s; parts = refl; left = refl; same = λ z w. (let t : is_at c z ≡ false = at_same c s z w ∙ h.0 in rw t refl) })
+          (record { front = []; rest = s; parts = refl; left = refl; same = λ z w. (let t : begins_with_byte c z ≡ false = at_same c s z w ∙ h.0 in rw t refl) })
     ]
 
 guarded_is : {A B : Type 0} (b : Bool) (o : Outcome A) (s : List ℕ) (h : A × List ℕ → Outcome B) (other : Outcome B) → cond b (cond b o (refuse s) >>= h) other ≡ cond b (o >>= h) other
@@ -98,10 +99,10 @@ guarded_is false o s h other = refl
 
 -- what is looked for only where the byte stands
 pub local_guarded : {A B : Type 0} (c : ℕ) (f : List ℕ → Outcome A) (g : A → List ℕ → Outcome B) (h : List ℕ → Outcome B) → Local (guarded c f) → ((x : A) → Local (g x)) → Local h
-    → Local (λ s. cond (is_at c s) (f s >>= λ x. g x.0 x.1) (h s))
+    → Local (λ s. cond (begins_with_byte c s) (f s >>= λ x. g x.0 x.1) (h s))
 local_guarded c f g h lf lg lh =
-    local_ext (λ s. cond (is_at c s) (guarded c f s >>= λ x. g x.0 x.1) (h s)) (λ s. cond (is_at c s) (f s >>= λ x. g x.0 x.1) (h s)) (λ s. guarded_is (is_at c s) (f s) s (λ x. g x.0 x.1) (h s))
-    (local_if (is_at c) (λ s. guarded c f s >>= λ x. g x.0 x.1) h (at_same c) (local_bind (guarded c f) g lf lg) lh)
+    local_ext (λ s. cond (begins_with_byte c s) (guarded c f s >>= λ x. g x.0 x.1) (h s)) (λ s. cond (begins_with_byte c s) (f s >>= λ x. g x.0 x.1) (h s)) (λ s. guarded_is (begins_with_byte c s) (f s) s (λ x. g x.0 x.1) (h s))
+    (local_if (begins_with_byte c) (λ s. guarded c f s >>= λ x. g x.0 x.1) h (at_same c) (local_bind (guarded c f) g lf lg) lh)
 
 -- ---- bytes, operators and words
 
@@ -125,8 +126,8 @@ tagged_if false o p = refl
 
 pub local_expect : (c : ℕ) → Local (λ s. tagged (expect c s))
 unfolding expect
-local_expect c = local_ext (λ s. cond (is_at c s) (one (blanks_skipped (drop 1 s))) (refuse s)) (λ s. tagged (cond (is_at c s) (Ok (blanks_skipped (drop 1 s))) (Err (Unexpected (length s))))) (λ s. tagged_if (is_at c s) (Ok (blanks_skipped (drop 1 s))) (Err (Unexpected (length s))))
-    (local_if (is_at c) (λ s. one (blanks_skipped (drop 1 s))) refuse (at_same c) (local_drop (λ s. one (blanks_skipped s)) (local_skip one (local_pure tt))) local_refuse)
+local_expect c = local_ext (λ s. cond (begins_with_byte c s) (one (blanks_skipped (drop 1 s))) (refuse s)) (λ s. tagged (cond (begins_with_byte c s) (Ok (blanks_skipped (drop 1 s))) (Err (Unexpected (length s))))) (λ s. tagged_if (begins_with_byte c s) (Ok (blanks_skipped (drop 1 s))) (Err (Unexpected (length s))))
+    (local_if (begins_with_byte c) (λ s. one (blanks_skipped (drop 1 s))) refuse (at_same c) (local_drop (λ s. one (blanks_skipped s)) (local_skip one (local_pure tt))) local_refuse)
 
 pub local_second : (c : ℕ) → Local (λ s. tagged (second c s))
 unfolding second
@@ -139,8 +140,8 @@ local_between c = local_ext (λ s. cond (eqb c 44) (tagged (expect c s)) (tagged
 pub local_literal : (w : List ℕ) → Local (λ s. tagged (literal w s))
 unfolding literal
 local_literal [] = local_pure tt
-local_literal (c ∷ w) = local_ext (λ s. cond (is_at c s) (tagged (literal w (drop 1 s))) (refuse s)) (λ s. tagged (cond (is_at c s) (literal w (drop 1 s)) (Err (Unexpected (length s))))) (λ s. tagged_if (is_at c s) (literal w (drop 1 s)) (Err (Unexpected (length s))))
-    (local_if (is_at c) (λ s. tagged (literal w (drop 1 s))) refuse (at_same c) (local_drop (λ s. tagged (literal w s)) (local_literal w)) local_refuse)
+local_literal (c ∷ w) = local_ext (λ s. cond (begins_with_byte c s) (tagged (literal w (drop 1 s))) (refuse s)) (λ s. tagged (cond (begins_with_byte c s) (literal w (drop 1 s)) (Err (Unexpected (length s))))) (λ s. tagged_if (begins_with_byte c s) (literal w (drop 1 s)) (Err (Unexpected (length s))))
+    (local_if (begins_with_byte c) (λ s. tagged (literal w (drop 1 s))) refuse (at_same c) (local_drop (λ s. tagged (literal w s)) (local_literal w)) local_refuse)
 
 -- ---- names
 
@@ -223,16 +224,16 @@ local_digits negative =
 
 pub local_number : Local signed_number
 unfolding signed_number
-local_number = local_if (is_at 45) (λ s. digits true (drop 1 s)) (digits false) (at_same 45) (local_drop (digits true) (local_digits true)) (local_digits false)
+local_number = local_if (begins_with_byte 45) (λ s. digits true (drop 1 s)) (digits false) (at_same 45) (local_drop (digits true) (local_digits true)) (local_digits false)
 
 -- ---- comparisons
 
 local_or_equal : (bare equal : Comparison) → Local (λ s. Ok (or_equal bare equal s))
 unfolding or_equal
 local_or_equal bare equal =
-    local_ext (λ s. cond (is_at 61 (drop 1 s)) (got equal (blanks_skipped (drop 1 (drop 1 s)))) (got bare (blanks_skipped (drop 1 s)))) (λ s. Ok (cond (is_at 61 (drop 1 s)) (equal, blanks_skipped (drop 1 (drop 1 s))) (bare, blanks_skipped (drop 1 s)))) (λ s. go (is_at 61 (drop 1 s)) _ _)
-    (local_drop (λ s. cond (is_at 61 s) (got equal (blanks_skipped (drop 1 s))) (got bare (blanks_skipped s)))
-    (local_if (is_at 61) (λ s. got equal (blanks_skipped (drop 1 s))) (λ s. got bare (blanks_skipped s)) (at_same 61) (local_drop (λ s. got equal (blanks_skipped s)) (local_skip (got equal) (local_pure equal))) (local_skip (got bare) (local_pure bare))))
+    local_ext (λ s. cond (begins_with_byte 61 (drop 1 s)) (got equal (blanks_skipped (drop 1 (drop 1 s)))) (got bare (blanks_skipped (drop 1 s)))) (λ s. Ok (cond (begins_with_byte 61 (drop 1 s)) (equal, blanks_skipped (drop 1 (drop 1 s))) (bare, blanks_skipped (drop 1 s)))) (λ s. go (begins_with_byte 61 (drop 1 s)) _ _)
+    (local_drop (λ s. cond (begins_with_byte 61 s) (got equal (blanks_skipped (drop 1 s))) (got bare (blanks_skipped s)))
+    (local_if (begins_with_byte 61) (λ s. got equal (blanks_skipped (drop 1 s))) (λ s. got bare (blanks_skipped s)) (at_same 61) (local_drop (λ s. got equal (blanks_skipped s)) (local_skip (got equal) (local_pure equal))) (local_skip (got bare) (local_pure bare))))
   where
     go : (b : Bool) (p q : Comparison × List ℕ) → ◌≡◌ {A = Outcome Comparison} (cond b (Ok p) (Ok q)) (Ok (cond b p q))
     go true p q = refl
@@ -241,6 +242,6 @@ local_or_equal bare equal =
 pub local_comparison : Local comparison
 unfolding comparison
 local_comparison =
-    local_if (is_at 61) (λ s. second 61 s >>= λ r. Ok (Equal, r)) _ (at_same 61) (local_step (second 61) (got Equal) (local_second 61) (local_pure Equal))
-    (local_if (is_at 33) (λ s. second 61 s >>= λ r. Ok (NotEqual, r)) _ (at_same 33) (local_step (second 61) (got NotEqual) (local_second 61) (local_pure NotEqual))
-    (local_if (is_at 60) (λ s. Ok (or_equal Below AtMost s)) (λ s. Ok (or_equal Above AtLeast s)) (at_same 60) (local_or_equal Below AtMost) (local_or_equal Above AtLeast)))
+    local_if (begins_with_byte 61) (λ s. second 61 s >>= λ r. Ok (Equal, r)) _ (at_same 61) (local_step (second 61) (got Equal) (local_second 61) (local_pure Equal))
+    (local_if (begins_with_byte 33) (λ s. second 61 s >>= λ r. Ok (NotEqual, r)) _ (at_same 33) (local_step (second 61) (got NotEqual) (local_second 61) (local_pure NotEqual))
+    (local_if (begins_with_byte 60) (λ s. Ok (or_equal Below AtMost s)) (λ s. Ok (or_equal Above AtLeast s)) (at_same 60) (local_or_equal Below AtMost) (local_or_equal Above AtLeast)))

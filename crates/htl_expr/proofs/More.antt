@@ -2,10 +2,10 @@
 use Rattle.std.proofs.Common.{◌≡◌, ℕ, zero, suc, ◌+◌, ◌-◌, Bool, true, false, cond, ◌&&◌, List, [], ◌∷◌, ◌++◌, take, drop, length, Result, Ok, Err, refl, ap, sym, subst, ◌∙◌, arith, append_assoc}
 use Rattle.std.proofs.lemmas.List.{append-nil, length-append, take_at}
 use Rattle.std.proofs.lemmas.Bool.Decides.{nat_tests}
+use Rattle.sp_base.specs.Bytes.{begins_with_byte}
 use Rattle.htl_expr.specs.declared.stop.ExprStop.{ExprStop}
 use Rattle.htl_expr.specs.declared.stop.ExprStop.TheVariants.{Memory, Unexpected, TooDeep}
 use Rattle.htl_expr.specs.declared.expression.Expr.{Expr}
-use Rattle.htl_expr.specs.Tokens.{is_at}
 use Rattle.htl_expr.specs.Read.{expression_read}
 use Rattle.htl_expr.specs.Grammar.{WholeWithin}
 use Rattle.htl_expr.specs.Fault.{colon_letter, passes, takes_colon, fault_place, MayGoOn}
@@ -59,8 +59,8 @@ module _ (levels : ℕ) where
   passed p (Err (TooDeep n)) r-is h = absurd cc
 
   -- the prefix with the colon
-  colon_taken : (s : List ℕ) (place : ℕ) → is_at 58 (drop place s) ≡ true → take (place + 1) s ≡ take place s ++ 58 ∷ []
-  unfolding is_at
+  colon_taken : (s : List ℕ) (place : ℕ) → begins_with_byte 58 (drop place s) ≡ true → take (place + 1) s ≡ take place s ++ 58 ∷ []
+  unfolding begins_with_byte
   colon_taken [] zero h = absurd cc
   colon_taken [] (suc n) h = absurd cc
   colon_taken (c ∷ s) zero h = ap (λ (d : ℕ). d ∷ []) (eqb_is c 58 h)
@@ -71,16 +71,16 @@ module _ (levels : ℕ) where
   both_true false b e = absurd cc
 
   pub more_left : (s : List ℕ) (left : ℕ) → expression_read levels s ≡ Err (Unexpected left) → MayGoOn levels s (fault_place levels s (length s - left))
-  more_left s left e = go (is_at 58 (drop place s) && takes_colon levels (take place s)) refl
+  more_left s left e = go (begins_with_byte 58 (drop place s) && takes_colon levels (take place s)) refl
     where
       place : ℕ
       place = length s - left
 
-      behind : Begun (take place s ++ 58 ∷ []) → is_at 58 (drop place s) ≡ true → MayGoOn levels s (place + 1)
+      behind : Begun (take place s ++ 58 ∷ []) → begins_with_byte 58 (drop place s) ≡ true → MayGoOn levels s (place + 1)
       behind b at = record { more = b.more; tree = b.tree; whole = subst (λ (l : List ℕ). WholeWithin levels (l ++ b.more) b.tree) (sym (colon_taken s place at)) b.whole }
 
-      go : (b : Bool) → (is_at 58 (drop place s) && takes_colon levels (take place s)) ≡ b → MayGoOn levels s (cond b (place + 1) place)
+      go : (b : Bool) → (begins_with_byte 58 (drop place s) && takes_colon levels (take place s)) ≡ b → MayGoOn levels s (cond b (place + 1) place)
       go false h = more_here s left e
       go true h =
-          let both = both_true (is_at 58 (drop place s)) (takes_colon levels (take place s)) h in
+          let both = both_true (begins_with_byte 58 (drop place s)) (takes_colon levels (take place s)) h in
           behind (passed (take place s) (expression_read levels (take place s ++ colon_letter)) refl both.1) both.0

@@ -1,12 +1,13 @@
 -- Each token is read before other texts too.
 use Rattle.std.proofs.Common.{◌≡◌, ℕ, ℤ, Bool, true, false, ◌||◌, ◌&&◌, eqb, List, [], ◌∷◌, ◌++◌, codes, refl, ap, sym, subst, ◌∙◌, inl, inr, arith, append_assoc}
 use Rattle.std.proofs.lemmas.Bool.Decides.{nat_tests}
+use Rattle.sp_base.specs.Bytes.{begins_with_byte}
 use Rattle.htl_expr.specs.declared.tokens.NameKind.{NameKind}
 use Rattle.htl_expr.specs.declared.tokens.NameKind.TheVariants.{Name, Field}
 use Rattle.htl_expr.specs.declared.node.Comparison.{Comparison}
 use Rattle.htl_expr.specs.declared.node.Comparison.TheVariants.{Equal, NotEqual, Below, Above, AtMost, AtLeast}
 use Rattle.htl_expr.specs.declared.expression.Context.{Context}
-use Rattle.htl_expr.specs.Tokens.{blanks_skipped, is_at, begins, goes_on, is_letter, is_first, is_expression_digit, is_word_byte, expression_digit_fits, limit}
+use Rattle.htl_expr.specs.Tokens.{blanks_skipped, begins, goes_on, is_letter, is_first, is_expression_digit, is_word_byte, expression_digit_fits, limit}
 use Rattle.htl_expr.specs.Fault.{SameHead}
 use Rattle.htl_expr.specs.Grammar.{Byte, Operator, Bare, Passes, NameToken, StringBody, String, Digits, Sign, Number, Compares, Literal, ContextString, context_text, Join, InContext}
 use Rattle.htl_expr.specs.Grammar as g
@@ -31,8 +32,8 @@ operator_steps c d s r b =
       same = λ z h. record { after = (blanks b.after).front ++ z; parts = refl; rest = sym ((blanks b.after).over z (near_clear (blanks_skipped b.after) z h)) };
     })
 
-no_equal : (r z : List ℕ) → Near r z → is_at 61 r ≡ false → is_at 61 z ≡ false
-unfolding is_at
+no_equal : (r z : List ℕ) → Near r z → begins_with_byte 61 r ≡ false → begins_with_byte 61 z ≡ false
+unfolding begins_with_byte
 no_equal [] [] (inl h) e = refl
 no_equal [] (d ∷ z) (inl h) e = absurd h
 no_equal (c ∷ r) [] (inl h) e = absurd h

@@ -2,11 +2,12 @@
 use Rattle.std.proofs.Common.{◌≡◌, ℕ, ◌+◌, ◌-◌, ◌≤◌, Bool, true, false, cond, ◌||◌, ◌&&◌, eqb, List, [], ◌∷◌, ◌++◌, take, drop, length, Result, Ok, Err, refl, ap, sym, subst, ◌∙◌, arith, append_assoc}
 use Rattle.std.proofs.lemmas.List.{length-append, take-append-drop, take_at, drop_at}
 use Rattle.std.proofs.lemmas.Bool.Decides.{nat_tests}
+use Rattle.sp_base.specs.Bytes.{begins_with_byte}
 use Rattle.htl_expr.specs.declared.stop.ExprStop.{ExprStop}
 use Rattle.htl_expr.specs.declared.stop.ExprStop.TheVariants.{Memory, Unexpected, TooDeep}
 use Rattle.htl_expr.specs.declared.expression.Expr.{Expr}
 use Rattle.htl_expr.specs.declared.tokens.NameKind.TheVariants.{Field}
-use Rattle.htl_expr.specs.Tokens.{is_at, begins, goes_on, is_letter, is_word_byte}
+use Rattle.htl_expr.specs.Tokens.{begins, goes_on, is_letter, is_word_byte}
 use Rattle.htl_expr.specs.Read.{expression_read}
 use Rattle.htl_expr.specs.Grammar.{WholeWithin}
 use Rattle.htl_expr.specs.Fault.{nests, SameHead, Agree, HasNone, colon_letter, passes, takes_colon, fault_place}
@@ -20,15 +21,15 @@ module _ (levels : ℕ) where
   abbrev IsRefused : List ℕ → Type 0
   IsRefused t = (d : ExprStop) × (expression_read levels t ≡ Err d)
 
-  no_colon : (r z : List ℕ) → is_at 58 r ≡ false → SameHead r z → Same r z
-  unfolding is_at goes_on
+  no_colon : (r z : List ℕ) → begins_with_byte 58 r ≡ false → SameHead r z → Same r z
+  unfolding begins_with_byte goes_on
   no_colon [] [] n h = (tt, λ e. e)
   no_colon [] (d ∷ z) n h = absurd h
   no_colon (c ∷ r) [] n h = absurd h
   no_colon (c ∷ r) (d ∷ z) n h = (h, λ e. (let a : goes_on Field (c ∷ z) ≡ true = ap (λ (x : ℕ). is_word_byte x || (eqb x 58 && begins is_letter z)) h ∙ e in let b : (is_word_byte c || (false && begins is_letter z)) ≡ true = ap (λ (y : Bool). is_word_byte c || (y && begins is_letter z)) (sym n) ∙ a in ap (λ (y : Bool). is_word_byte c || (y && begins is_letter r)) n ∙ b))
 
-  colon_same : (z : List ℕ) → is_at 58 z ≡ true → Same colon_letter z
-  unfolding is_at goes_on begins
+  colon_same : (z : List ℕ) → begins_with_byte 58 z ≡ true → Same colon_letter z
+  unfolding begins_with_byte goes_on begins
   colon_same [] e = absurd cc
   colon_same (c ∷ z) e = (sym (eqb_is c 58 e), λ _. refl)
 
@@ -68,7 +69,7 @@ module _ (levels : ℕ) where
   rest_len front (Unexpected left) begin rest e i p = rw i (grind (arith, nat_tests))
   rest_len front (TooDeep left) begin rest e i p = deep_rest front begin rest e i.1
 
-  colon_refused : (front z : List ℕ) → takes_colon levels front ≡ false → is_at 58 z ≡ true → IsRefused (front ++ z)
+  colon_refused : (front z : List ℕ) → takes_colon levels front ≡ false → begins_with_byte 58 z ≡ true → IsRefused (front ++ z)
   colon_refused front z alone at = go (expression_read levels (front ++ colon_letter)) refl alone
     where
       by_fault : (d : ExprStop) → Left levels d (front ++ colon_letter) → passes (Err d) ≡ false → IsRefused (front ++ z)
@@ -102,11 +103,11 @@ module _ (levels : ℕ) where
           let f = refused z near in
           only_err levels t f.0 (ap (expression_read levels) t_is ∙ f.1) e w
 
-  none_plain : (d : ExprStop) (s : List ℕ) (k : Left levels d s) → is_at 58 k.rest ≡ false → HasNone levels s (length k.front)
+  none_plain : (d : ExprStop) (s : List ℕ) (k : Left levels d s) → begins_with_byte 58 k.rest ≡ false → HasNone levels s (length k.front)
   none_plain d s k plain = none_from s k.front k.rest k.parts (λ z h. (moved d (length z), k.same z (no_colon k.rest z plain h)))
 
   -- after a colon that may belong to a name
-  none_behind : (d : ExprStop) (s : List ℕ) (k : Left levels d s) → is_at 58 k.rest ≡ true → HasNone levels s (length k.front + 1)
+  none_behind : (d : ExprStop) (s : List ℕ) (k : Left levels d s) → begins_with_byte 58 k.rest ≡ true → HasNone levels s (length k.front + 1)
   none_behind d s k at =
       let u = drop 1 k.rest in
       let front = k.front ++ 58 ∷ [] in
@@ -115,8 +116,8 @@ module _ (levels : ℕ) where
       subst (HasNone levels s) (length-append k.front (58 ∷ []))
       (none_from s front u parts (λ z h. (moved d (length (58 ∷ z)), ap (expression_read levels) (append_assoc k.front (58 ∷ []) z) ∙ k.same (58 ∷ z) (subst (λ (t : List ℕ). Same t (58 ∷ z)) (sym rest_is) (same_behind 58 u z h)))))
 
-  colon_head : (r z : List ℕ) → SameHead r z → is_at 58 r ≡ true → is_at 58 z ≡ true
-  unfolding is_at
+  colon_head : (r z : List ℕ) → SameHead r z → begins_with_byte 58 r ≡ true → begins_with_byte 58 z ≡ true
+  unfolding begins_with_byte
   colon_head [] z h e = absurd cc
   colon_head (c ∷ r) [] h e = absurd h
   colon_head (c ∷ r) (d ∷ z) h e = ap (λ (x : ℕ). eqb x 58) (sym h) ∙ e
@@ -125,27 +126,27 @@ module _ (levels : ℕ) where
   front_len : (d : ExprStop) (s : List ℕ) (k : Left levels d s) (left : ℕ) → length k.rest ≡ left → length s - left ≡ length k.front
   front_len d s k left len = omega (arith, ap length k.parts, length-append k.front k.rest, len)
 
-  place_is : (d : ExprStop) (s : List ℕ) (k : Left levels d s) → fault_place levels s (length k.front) ≡ cond (is_at 58 k.rest && takes_colon levels k.front) (length k.front + 1) (length k.front)
+  place_is : (d : ExprStop) (s : List ℕ) (k : Left levels d s) → fault_place levels s (length k.front) ≡ cond (begins_with_byte 58 k.rest && takes_colon levels k.front) (length k.front + 1) (length k.front)
   place_is d s k =
       let front_is : take (length k.front) s ≡ k.front = ap (λ (q : List ℕ). take (length k.front) q) k.parts ∙ take_at k.front k.rest (length k.front) refl in
       let rest_is : drop (length k.front) s ≡ k.rest = ap (λ (q : List ℕ). drop (length k.front) q) k.parts ∙ drop_at k.front k.rest (length k.front) refl in
-      ap (λ (q : List ℕ). cond (is_at 58 q && takes_colon levels (take (length k.front) s)) (length k.front + 1) (length k.front)) rest_is ∙ ap (λ (q : List ℕ). cond (is_at 58 k.rest && takes_colon levels q) (length k.front + 1) (length k.front)) front_is
+      ap (λ (q : List ℕ). cond (begins_with_byte 58 q && takes_colon levels (take (length k.front) s)) (length k.front + 1) (length k.front)) rest_is ∙ ap (λ (q : List ℕ). cond (begins_with_byte 58 k.rest && takes_colon levels q) (length k.front + 1) (length k.front)) front_is
 
   pub none_left : (s : List ℕ) (left : ℕ) → expression_read levels s ≡ Err (Unexpected left) → HasNone levels s (fault_place levels s (length s - left))
   none_left s left e =
       let len : length s - left ≡ length k.front = front_len (Unexpected left) s k left k.left in
-      subst (HasNone levels s) (sym (ap (fault_place levels s) len ∙ place_is (Unexpected left) s k)) (go (is_at 58 k.rest) (takes_colon levels k.front) refl refl)
+      subst (HasNone levels s) (sym (ap (fault_place levels s) len ∙ place_is (Unexpected left) s k)) (go (begins_with_byte 58 k.rest) (takes_colon levels k.front) refl refl)
     where
       k : Left levels (Unexpected left) s
       k = failed levels (Unexpected left) s e
 
-      go : (a b : Bool) → is_at 58 k.rest ≡ a → takes_colon levels k.front ≡ b → HasNone levels s (cond (a && b) (length k.front + 1) (length k.front))
+      go : (a b : Bool) → begins_with_byte 58 k.rest ≡ a → takes_colon levels k.front ≡ b → HasNone levels s (cond (a && b) (length k.front + 1) (length k.front))
       go false b a-is b-is = none_plain (Unexpected left) s k a-is
       go true false a-is b-is = none_from s k.front k.rest k.parts (λ z h. colon_refused k.front z b-is (colon_head k.rest z h a-is))
       go true true a-is b-is = none_behind (Unexpected left) s k a-is
 
-  deep_plain : (rest : List ℕ) → begins nests rest ≡ true → is_at 58 rest ≡ false
-  unfolding begins is_at
+  deep_plain : (rest : List ℕ) → begins nests rest ≡ true → begins_with_byte 58 rest ≡ false
+  unfolding begins begins_with_byte
   deep_plain [] e = absurd cc
   deep_plain (c ∷ rest) e = grind (arith, nat_tests)
 

@@ -3,7 +3,8 @@ use Rattle.std.proofs.Common.{◌≡◌, ◌<◌, ◌≤◌, ◌+◌, ℕ, suc, 
 use Rattle.std.specs.Str.{IsCharBoundary}
 use Rattle.std.proofs.lemmas.List.{get_or-drop}
 use Rattle.std.proofs.lemmas.Bool.Decides.{nat_tests}
-use Rattle.htl_expr.specs.Tokens.{begins, is_at, is_blank, is_word_byte, blanks_skipped, goes_on, name_len, AreAscii}
+use Rattle.sp_base.specs.Bytes.{begins_with_byte}
+use Rattle.htl_expr.specs.Tokens.{begins, is_blank, is_word_byte, blanks_skipped, goes_on, name_len, AreAscii}
 use Rattle.htl_expr.specs.declared.tokens.NameKind.{NameKind}
 use Rattle.htl_expr.specs.declared.tokens.NameKind.TheVariants.{Name, Field}
 
@@ -61,8 +62,8 @@ name_less Field [] h = absurd cc
 name_less Name (c ∷ t) h = refl
 name_less Field (c ∷ t) h = refl
 
-pub at_front : (c : ℕ) (t : List ℕ) → is_at c t ≡ true → slice_index t 0 ≡ c
-unfolding is_at
+pub at_front : (c : ℕ) (t : List ℕ) → begins_with_byte c t ≡ true → slice_index t 0 ≡ c
+unfolding begins_with_byte
 at_front c [] h = absurd cc
 at_front c (d ∷ t) h = search rules
 
@@ -70,20 +71,20 @@ pub some_of : (t : List ℕ) → (eqb (length t) 0) ≡ false → 0 < length t
 some_of [] h = absurd cc
 some_of (c ∷ t) h = omega arith
 
-pub front_ascii : (c : ℕ) (t : List ℕ) → c < 128 → is_at c t ≡ true → slice_index t 0 < 128
+pub front_ascii : (c : ℕ) (t : List ℕ) → c < 128 → begins_with_byte c t ≡ true → slice_index t 0 < 128
 front_ascii c t lt h = rw (at_front c t h) lt
 
-pub ascii_first : (w t : List ℕ) → AreAscii w → 1 ≤ length w → is_at (slice_index w 0) t ≡ true → slice_index t 0 < 128
+pub ascii_first : (w t : List ℕ) → AreAscii w → 1 ≤ length w → begins_with_byte (slice_index w 0) t ≡ true → slice_index t 0 < 128
 ascii_first [] t a le h = absurd (omega arith)
 ascii_first (c ∷ w) t a le h = front_ascii c t a.0 h
 
 pub drop_more : (text rest : List ℕ) (len : ℕ) → rest ≡ drop len text → drop 1 rest ≡ drop (len + 1) text
 drop_more text rest len e = rw e (drop-drop 1 len text)
 
-pub minus_ascii : (t : List ℕ) → is_at 45 t ≡ true → slice_index t 0 < 128
+pub minus_ascii : (t : List ℕ) → begins_with_byte 45 t ≡ true → slice_index t 0 < 128
 minus_ascii t h = front_ascii 45 t (search rules) h
 
-pub colon_boundary : (t : List ℕ) (i : ℕ) → i ≤ length t → is_at 58 (drop i t) ≡ true → IsCharBoundary t i
+pub colon_boundary : (t : List ℕ) (i : ℕ) → i ≤ length t → begins_with_byte 58 (drop i t) ≡ true → IsCharBoundary t i
 colon_boundary t i le h =
     let at : i + 0 ≡ i = omega arith in
     let here : slice_index t i ≡ 58 = ap (slice_index t) (sym at) ∙ sym (get_or-drop i t 0 0) ∙ at_front 58 (drop i t) h in

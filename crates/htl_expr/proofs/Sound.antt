@@ -1,12 +1,13 @@
 -- What is read is in the grammar.
 use Rattle.std.proofs.Common.{◌≡◌, ℕ, zero, suc, true, cond, ◌||◌, eqb, List, [], ◌∷◌, ◌++◌, drop, length, Option, Some, None, Ok, refl, ap, sym, subst, ◌∙◌, inl, inr, append_assoc}
 use Rattle.std.proofs.lemmas.List.{append-nil}
+use Rattle.sp_base.specs.Bytes.{begins_with_byte}
 use Rattle.htl_expr.specs.declared.node.ExprNode.{ExprNode}
 use Rattle.htl_expr.specs.declared.node.ExprNode.TheVariants as n
 use Rattle.htl_expr.specs.declared.tokens.NameKind.TheVariants.{Name, Field}
 use Rattle.htl_expr.specs.declared.reader.Inside.{Inside}
 use Rattle.htl_expr.specs.declared.reader.Inside.TheVariants as i
-use Rattle.htl_expr.specs.Tokens.{Outcome, ◌>>=◌, blanks_skipped, is_at, begins, expect, string, signed_number, read_name, is_expression_digit, is_quote}
+use Rattle.htl_expr.specs.Tokens.{Outcome, ◌>>=◌, blanks_skipped, begins, expect, string, signed_number, read_name, is_expression_digit, is_quote}
 use Rattle.htl_expr.specs.Read as spec
 use Rattle.htl_expr.specs.Grammar.{Byte, Operator, Separator, And, Or, Comma, Separates, Part, part_of, Choice, Either, Both, Compare, Operand, Atom, Start, Items, Reads, More, Access, Accesses}
 use Rattle.htl_expr.specs.Grammar as g
@@ -34,19 +35,19 @@ Inner depth inner = (which : Inside) (s : List ℕ) (p : ExprNode × List ℕ) �
 
 -- ---- what is made of what stands deeper, by cases on the depth
 
-not_deeper : (depth : ℕ) (s : List ℕ) (p : ExprNode × List ℕ) → is_at 33 s ≡ true → Deeper i.Operand depth s p → Gave Operand depth s (n.Not p.0, p.1)
+not_deeper : (depth : ℕ) (s : List ℕ) (p : ExprNode × List ℕ) → begins_with_byte 33 s ≡ true → Deeper i.Operand depth s p → Gave Operand depth s (n.Not p.0, p.1)
 not_deeper zero s p at h = absurd h
 not_deeper (suc d) s p at h = g.not (byte 33 s at) h
 
-inside_deeper : (depth : ℕ) (s : List ℕ) (p : ExprNode × List ℕ) (r : List ℕ) → is_at 40 s ≡ true → Deeper i.Choice depth s p → Byte 41 p.1 r → Gave Start depth s (p.0, r)
+inside_deeper : (depth : ℕ) (s : List ℕ) (p : ExprNode × List ℕ) (r : List ℕ) → begins_with_byte 40 s ≡ true → Deeper i.Choice depth s p → Byte 41 p.1 r → Gave Start depth s (p.0, r)
 inside_deeper zero s p r at h close = absurd h
 inside_deeper (suc d) s p r at h close = g.inside (byte 40 s at) h close
 
-list_deeper : (depth : ℕ) (s : List ℕ) (p : ExprNode × List ℕ) (r : List ℕ) → is_at 91 s ≡ true → Deeper i.Items depth s p → Byte 93 p.1 r → Gave Start depth s (p.0, r)
+list_deeper : (depth : ℕ) (s : List ℕ) (p : ExprNode × List ℕ) (r : List ℕ) → begins_with_byte 91 s ≡ true → Deeper i.Items depth s p → Byte 93 p.1 r → Gave Start depth s (p.0, r)
 list_deeper zero s p r at h close = absurd h
 list_deeper (suc d) s p r at h close = g.list (byte 91 s at) h close
 
-choice_deeper : (depth : ℕ) (s : List ℕ) (c a b : ExprNode × List ℕ) → Gave Either depth s c → is_at 63 c.1 ≡ true → Deeper i.Choice depth c.1 a → is_at 58 a.1 ≡ true → Deeper i.Choice depth a.1 b
+choice_deeper : (depth : ℕ) (s : List ℕ) (c a b : ExprNode × List ℕ) → Gave Either depth s c → begins_with_byte 63 c.1 ≡ true → Deeper i.Choice depth c.1 a → begins_with_byte 58 a.1 ≡ true → Deeper i.Choice depth a.1 b
     → Gave Choice depth s (n.Choice c.0 a.0 b.0, b.1)
 choice_deeper zero s c a b first at h at' h' = absurd h
 choice_deeper (suc d) s c a b first at h at' h' = g.choice first (byte 63 c.1 at) h (byte 58 a.1 at') h'
@@ -58,7 +59,7 @@ byte_of And = 38
 byte_of Or = 124
 byte_of Comma = 44
 
-pub between_sound : (sep : Separator) (s r : List ℕ) → is_at (byte_of sep) s ≡ true → spec.between (byte_of sep) s ≡ Ok r → Separates sep s r
+pub between_sound : (sep : Separator) (s r : List ℕ) → begins_with_byte (byte_of sep) s ≡ true → spec.between (byte_of sep) s ≡ Ok r → Separates sep s r
 between_sound And s r at e = second_sound 38 38 s r at e
 between_sound Or s r at e = second_sound 124 124 s r at e
 between_sound Comma s r at e = expect_sound 44 s r e
@@ -71,7 +72,7 @@ chain_sound : (sep : Separator) (depth : ℕ) (item : List ℕ → Outcome ExprN
 unfolding spec.chain
 chain_sound sep depth item zero found t p ih e = subst (Longer sep depth found t) (ok_is _ _ e) ([], sym (append-nil found), g.end)
 chain_sound sep depth item (suc k) found t p ih e =
-    elim (chosen (is_at (byte_of sep) t) _ _ _ e) [
+    elim (chosen (begins_with_byte (byte_of sep) t) _ _ _ e) [
       | inl h ↦
           let op = bind_ok (spec.between (byte_of sep) t) (λ r. item r >>= λ x. spec.chain item (byte_of sep) k (found ++ x.0 ∷ []) x.1) p h.1 in
           let one = bind_ok (item op.0) (λ x. spec.chain item (byte_of sep) k (found ++ x.0 ∷ []) x.1) p op.2 in
@@ -80,7 +81,7 @@ chain_sound sep depth item (suc k) found t p ih e =
       | inr h ↦ subst (Longer sep depth found t) (ok_is _ _ h.1) ([], sym (append-nil found), g.end)
     ]
 
-bracketed_sound : (depth : ℕ) (t : List ℕ) (x : List ℕ × List ℕ) → is_at 91 t ≡ true → spec.bracket_access depth t ≡ Ok x → Access depth t x.0 x.1
+bracketed_sound : (depth : ℕ) (t : List ℕ) (x : List ℕ × List ℕ) → begins_with_byte 91 t ≡ true → spec.bracket_access depth t ≡ Ok x → Access depth t x.0 x.1
 unfolding spec.bracket_access
 bracketed_sound zero t x at e = absurd cc
 bracketed_sound (suc d) t x at e =
@@ -96,7 +97,7 @@ bracketed_sound (suc d) t x at e =
 pub access_sound : (depth : ℕ) (t : List ℕ) (x : List ℕ × List ℕ) → spec.access_at t ≡ true → spec.access depth t ≡ Ok x → Access depth t x.0 x.1
 unfolding spec.access spec.access_at
 access_sound depth t x at e =
-    elim (chosen (is_at 46 t) _ _ _ e) [
+    elim (chosen (begins_with_byte 46 t) _ _ _ e) [
       | inl h ↦ g.field (byte 46 t h.0) (name_sound Field (blanks_skipped (drop 1 t)) x h.1)
       | inr h ↦ bracketed_sound depth t x (rw h.0 at at) h.1
     ]
@@ -146,7 +147,7 @@ leaf_sound depth s p e =
           let w = bind_ok (string s) (λ x. Ok (n.Text x.0, x.1)) p h.1 in
           subst (Gave Start depth s) (ok_is _ _ w.2) (g.string (string_sound s w.0 w.1))
       | inr h ↦
-          elim (chosen (is_at 45 s || begins is_expression_digit s) _ _ _ h.1) [
+          elim (chosen (begins_with_byte 45 s || begins is_expression_digit s) _ _ _ h.1) [
             | inl k ↦
                 let w = bind_ok (signed_number s) (λ x. Ok (n.Long x.0, x.1)) p k.1 in
                 subst (Gave Start depth s) (ok_is _ _ w.2) (g.number (number_sound s w.0 w.1))
@@ -160,14 +161,14 @@ module _ (depth : ℕ) (inner : Inside → List ℕ → Outcome ExprNode) (deepe
   pub start_sound : Sound Start depth (spec.start depth inner)
   unfolding spec.start
   start_sound s p e =
-      elim (chosen (is_at 40 s) _ _ _ e) [
+      elim (chosen (begins_with_byte 40 s) _ _ _ e) [
         | inl h ↦
             let x = bind_ok (inner i.Choice s) (λ x. expect 41 x.1 >>= λ r. Ok (x.0, r)) p h.1 in
             let close = bind_ok (expect 41 x.0.1) (λ r. Ok (x.0.0, r)) p x.2 in
             subst (Gave Start depth s) (ok_is _ _ close.2)
             (inside_deeper depth s x.0 close.0 h.0 (deeper i.Choice s x.0 x.1) (expect_sound 41 x.0.1 close.0 close.1))
         | inr h ↦
-            elim (chosen (is_at 91 s) _ _ _ h.1) [
+            elim (chosen (begins_with_byte 91 s) _ _ _ h.1) [
               | inl k ↦
                   let x = bind_ok (inner i.Items s) (λ x. expect 93 x.1 >>= λ r. Ok (x.0, r)) p k.1 in
                   let close = bind_ok (expect 93 x.0.1) (λ r. Ok (x.0.0, r)) p x.2 in
@@ -189,7 +190,7 @@ module _ (depth : ℕ) (inner : Inside → List ℕ → Outcome ExprNode) (deepe
   pub operand_sound : Sound Operand depth (spec.operand depth inner)
   unfolding spec.operand
   operand_sound s p e =
-      elim (chosen (is_at 33 s) _ _ _ e) [
+      elim (chosen (begins_with_byte 33 s) _ _ _ e) [
         | inl h ↦
             let x = bind_ok (inner i.Operand s) (λ x. Ok (n.Not x.0, x.1)) p h.1 in
             subst (Gave Operand depth s) (ok_is _ _ x.2) (not_deeper depth s x.0 h.0 (deeper i.Operand s x.0 x.1))
@@ -227,12 +228,12 @@ module _ (depth : ℕ) (inner : Inside → List ℕ → Outcome ExprNode) (deepe
   pub choice_sound : Sound Choice depth (spec.choice depth inner)
   unfolding spec.choice spec.other_choice
   choice_sound s p e =
-      let c = bind_ok (spec.either depth inner s) (λ c. cond (is_at 63 c.1) (inner i.Choice c.1 >>= λ a. spec.other_choice depth inner a.1 >>= λ b. Ok (n.Choice c.0 a.0 b.0, b.1)) (Ok c)) p e in
-      elim (chosen (is_at 63 c.0.1) _ _ _ c.2) [
+      let c = bind_ok (spec.either depth inner s) (λ c. cond (begins_with_byte 63 c.1) (inner i.Choice c.1 >>= λ a. spec.other_choice depth inner a.1 >>= λ b. Ok (n.Choice c.0 a.0 b.0, b.1)) (Ok c)) p e in
+      elim (chosen (begins_with_byte 63 c.0.1) _ _ _ c.2) [
         | inl h ↦
             let a = bind_ok (inner i.Choice c.0.1) (λ a. spec.other_choice depth inner a.1 >>= λ b. Ok (n.Choice c.0.0 a.0 b.0, b.1)) p h.1 in
             let b = bind_ok (spec.other_choice depth inner a.0.1) (λ b. Ok (n.Choice c.0.0 a.0.0 b.0, b.1)) p a.2 in
-            elim (chosen (is_at 58 a.0.1) _ _ _ b.1) [
+            elim (chosen (begins_with_byte 58 a.0.1) _ _ _ b.1) [
               | inl k ↦ subst (Gave Choice depth s) (ok_is _ _ b.2) (choice_deeper depth s c.0 a.0 b.0 (either_sound s c.0 c.1) h.0 (deeper i.Choice c.0.1 a.0 a.1) k.0 (deeper i.Choice a.0.1 b.0 k.1))
               | inr k ↦ absurd cc
             ]
@@ -242,7 +243,7 @@ module _ (depth : ℕ) (inner : Inside → List ℕ → Outcome ExprNode) (deepe
   pub items_sound : Sound Items depth (spec.items depth inner)
   unfolding spec.items
   items_sound s p e =
-      elim (chosen (is_at 93 s) _ _ _ e) [
+      elim (chosen (begins_with_byte 93 s) _ _ _ e) [
         | inl h ↦ subst (Gave Items depth s) (ok_is _ _ h.1) g.no_items
         | inr h ↦
             let x = bind_ok (spec.choice depth inner s) (λ x. spec.chain (spec.choice depth inner) 44 (length x.1) (x.0 ∷ []) x.1 >>= λ xs. Ok (n.List xs.0, xs.1)) p h.1 in

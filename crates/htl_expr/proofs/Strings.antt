@@ -1,9 +1,10 @@
 -- Steps of reading a string.
 use Rattle.std.proofs.Common.{◌≡◌, ◌<◌, ◌≤◌, ℕ, suc, Bool, true, false, cond, ◌||◌, eqb, List, [], ◌∷◌, ◌++◌, take, drop, length, slice_index, Option, Some, None, Ok, Err, refl, ap, sym, ◌∙◌, arith, append_assoc}
 use Rattle.std.proofs.lemmas.Bool.Decides.{nat_tests}
-use Rattle.htl_expr.specs.Tokens.{Outcome, ◌>>=◌, is_at, is_quote, blanks_skipped, unescape, escape, escape_of, string_after_escape, plain_quoted_len, read_with_prefix, string_from, Fails, done}
+use Rattle.htl_expr.specs.Tokens.{Outcome, ◌>>=◌, is_quote, blanks_skipped, unescape, escape, escape_of, string_after_escape, plain_quoted_len, read_with_prefix, string_from, Fails, done}
 use Rattle.std.specs.Str.{IsCharBoundary}
 use Rattle.std.proofs.lemmas.List.{append-nil, length-drop}
+use Rattle.sp_base.specs.Bytes.{begins_with_byte}
 use Rattle.htl_expr.specs.declared.stop.ExprStop.{ExprStop}
 use Rattle.htl_expr.specs.declared.stop.ExprStop.TheVariants.{Memory, Unexpected, TooDeep}
 
@@ -30,8 +31,8 @@ plain_step mark (c ∷ t) = go (eqb c mark) (eqb c 92) refl refl (plain_step mar
     go false true ea eb ih = rw (ea, eb) (sym (in_front_nil (string_from true mark t)))
     go false false ea eb ih = ap (read_with_prefix (c ∷ [])) ih ∙ in_front_twice (c ∷ []) (take (plain_quoted_len mark t) t) (string_from false mark (drop (plain_quoted_len mark t) t))
 
-pub closes : (mark : ℕ) (t : List ℕ) → is_at mark t ≡ true → string_from false mark t ≡ Ok ([], blanks_skipped (drop 1 t))
-unfolding is_at string_from
+pub closes : (mark : ℕ) (t : List ℕ) → begins_with_byte mark t ≡ true → string_from false mark t ≡ Ok ([], blanks_skipped (drop 1 t))
+unfolding begins_with_byte string_from
 closes mark [] h = absurd cc
 closes mark (c ∷ t) h = rw h refl
 
@@ -44,19 +45,19 @@ escape_step mark (c ∷ t) = go (unescape c)
     go None = refl
     go (Some d) = refl
 
-pub backslash : (mark : ℕ) (t : List ℕ) → is_at mark t ≡ false → is_at 92 t ≡ true → string_from false mark t ≡ string_from true mark (drop 1 t)
-unfolding is_at string_from
+pub backslash : (mark : ℕ) (t : List ℕ) → begins_with_byte mark t ≡ false → begins_with_byte 92 t ≡ true → string_from false mark t ≡ string_from true mark (drop 1 t)
+unfolding begins_with_byte string_from
 backslash mark [] n h = absurd cc
 backslash mark (c ∷ t) n h = rw (n, h) refl
 
-pub stops_at : (mark : ℕ) (t : List ℕ) → is_at mark (drop (plain_quoted_len mark t) t) ≡ false → is_at 92 (drop (plain_quoted_len mark t) t) ≡ false → drop (plain_quoted_len mark t) t ≡ []
-unfolding plain_quoted_len is_at
+pub stops_at : (mark : ℕ) (t : List ℕ) → begins_with_byte mark (drop (plain_quoted_len mark t) t) ≡ false → begins_with_byte 92 (drop (plain_quoted_len mark t) t) ≡ false → drop (plain_quoted_len mark t) t ≡ []
+unfolding plain_quoted_len begins_with_byte
 stops_at mark [] n h = refl
 stops_at mark (c ∷ t) n h = go (eqb c mark) (eqb c 92) refl refl n h (λ x y. stops_at mark t x y)
   where
-    go : (a b : Bool) → eqb c mark ≡ a → eqb c 92 ≡ b → is_at mark (drop (cond (a || b) 0 (suc (plain_quoted_len mark t))) (c ∷ t)) ≡ false
-        → is_at 92 (drop (cond (a || b) 0 (suc (plain_quoted_len mark t))) (c ∷ t)) ≡ false
-        → (is_at mark (drop (plain_quoted_len mark t) t) ≡ false → is_at 92 (drop (plain_quoted_len mark t) t) ≡ false → drop (plain_quoted_len mark t) t ≡ []) → drop (cond (a || b) 0 (suc (plain_quoted_len mark t))) (c ∷ t) ≡ []
+    go : (a b : Bool) → eqb c mark ≡ a → eqb c 92 ≡ b → begins_with_byte mark (drop (cond (a || b) 0 (suc (plain_quoted_len mark t))) (c ∷ t)) ≡ false
+        → begins_with_byte 92 (drop (cond (a || b) 0 (suc (plain_quoted_len mark t))) (c ∷ t)) ≡ false
+        → (begins_with_byte mark (drop (plain_quoted_len mark t) t) ≡ false → begins_with_byte 92 (drop (plain_quoted_len mark t) t) ≡ false → drop (plain_quoted_len mark t) t ≡ []) → drop (cond (a || b) 0 (suc (plain_quoted_len mark t))) (c ∷ t) ≡ []
     go true b ea eb n' h' rec = absurd (let x : eqb c mark ≡ false = n' in cc)
     go false true ea eb n' h' rec = absurd (let x : eqb c 92 ≡ false = h' in cc)
     go false false ea eb n' h' rec = rec n' h'
@@ -97,8 +98,8 @@ plain_within mark (c ∷ t) = go (eqb c mark || eqb c 92) (plain_within mark t)
 pub plain_boundary : (mark : ℕ) (t : List ℕ) → mark < 128 → IsCharBoundary t (plain_quoted_len mark t)
 plain_boundary mark t m = (plain_within mark t, λ lt big. let small = plain_end mark t m lt in omega arith)
 
-backslash_less : (t : List ℕ) → is_at 92 t ≡ true → length (drop 1 t) < length t
-unfolding is_at
+backslash_less : (t : List ℕ) → begins_with_byte 92 t ≡ true → length (drop 1 t) < length t
+unfolding begins_with_byte
 backslash_less [] x = absurd cc
 backslash_less (d ∷ t) x = omega arith
 
@@ -119,26 +120,26 @@ module _ (mark n : ℕ) (found front rest after found' : List ℕ) (whole : Outc
       rw (found_is, front_is, after_is, len)
       (sym (in_front_twice found (take (plain_quoted_len mark rest) rest) (string_from false mark (drop (plain_quoted_len mark rest) rest))) ∙ ap (read_with_prefix found) (sym (plain_step mark rest)) ∙ before)
 
-  pub closes_is : is_at mark after ≡ true → whole ≡ Ok (found', blanks_skipped (drop 1 after))
+  pub closes_is : begins_with_byte mark after ≡ true → whole ≡ Ok (found', blanks_skipped (drop 1 after))
   closes_is h = sym taken ∙ ap (read_with_prefix found') (closes mark after h) ∙ ap (λ (l : List ℕ). Ok (l, blanks_skipped (drop 1 after))) (append-nil found')
 
-  pub stops_is : is_at mark after ≡ false → is_at 92 after ≡ false → whole ≡ Err (Unexpected (length after))
+  pub stops_is : begins_with_byte mark after ≡ false → begins_with_byte 92 after ≡ false → whole ≡ Err (Unexpected (length after))
   stops_is h k =
       let nil : after ≡ [] = after_is ∙ ap (λ (m : ℕ). drop m rest) len ∙ stops_at mark rest (rw (after_is, len) at h) (rw (after_is, len) at k) in
       sym taken ∙ rw nil (ap (read_with_prefix found') (ended mark))
 
-  escapes : is_at mark after ≡ false → is_at 92 after ≡ true → whole ≡ read_with_prefix found' (escape (drop 1 after) >>= λ d. read_with_prefix (d.0 ∷ []) (string_from false mark d.1))
+  escapes : begins_with_byte mark after ≡ false → begins_with_byte 92 after ≡ true → whole ≡ read_with_prefix found' (escape (drop 1 after) >>= λ d. read_with_prefix (d.0 ∷ []) (string_from false mark d.1))
   escapes h k = sym taken ∙ ap (read_with_prefix found') (backslash mark after h k ∙ escape_step mark (drop 1 after))
 
-  pub escape_fails : (e : ExprStop) → is_at mark after ≡ false → is_at 92 after ≡ true → Fails e (escape (drop 1 after)) → Fails e whole
+  pub escape_fails : (e : ExprStop) → begins_with_byte mark after ≡ false → begins_with_byte 92 after ≡ true → Fails e (escape (drop 1 after)) → Fails e whole
   escape_fails Memory h k f = tt
   escape_fails (Unexpected m) h k f = escapes h k ∙ rw f refl
   escape_fails (TooDeep m) h k f = escapes h k ∙ rw f refl
 
-  pub escape_is : (c : ℕ) (later : List ℕ) → is_at mark after ≡ false → is_at 92 after ≡ true → escape (drop 1 after) ≡ Ok (c, later) → read_with_prefix (found' ++ c ∷ []) (string_from false mark later) ≡ whole
+  pub escape_is : (c : ℕ) (later : List ℕ) → begins_with_byte mark after ≡ false → begins_with_byte 92 after ≡ true → escape (drop 1 after) ≡ Ok (c, later) → read_with_prefix (found' ++ c ∷ []) (string_from false mark later) ≡ whole
   escape_is c later h k e = sym (in_front_twice found' (c ∷ []) (string_from false mark later)) ∙ sym (escapes h k ∙ rw e refl)
 
-  pub escape_less : (c : ℕ) (later : List ℕ) → is_at 92 after ≡ true → escape (drop 1 after) ≡ Ok (c, later) → length later < length rest
+  pub escape_less : (c : ℕ) (later : List ℕ) → begins_with_byte 92 after ≡ true → escape (drop 1 after) ≡ Ok (c, later) → length later < length rest
   escape_less c later k e =
       let a : length (drop 1 after) < length after = backslash_less after k in
       let b : length after ≤ length rest = rw after_is (omega (arith, length-drop n rest)) in

@@ -1,11 +1,12 @@
 -- Each line of the grammar in which reading stopped can be completed, at any depth.
 use Rattle.std.proofs.Common.{◌≡◌, ℕ, zero, suc, true, cond, List, [], ◌∷◌, drop, length, Ok, Err, refl, ◌⊎◌, inl, inr}
+use Rattle.sp_base.specs.Bytes.{begins_with_byte}
 use Rattle.htl_expr.specs.declared.stop.ExprStop.{ExprStop}
 use Rattle.htl_expr.specs.declared.node.ExprNode.{ExprNode}
 use Rattle.htl_expr.specs.declared.node.ExprNode.TheVariants as n
 use Rattle.htl_expr.specs.declared.reader.Inside.{Inside}
 use Rattle.htl_expr.specs.declared.reader.Inside.TheVariants as i
-use Rattle.htl_expr.specs.Tokens.{Outcome, ◌>>=◌, blanks_skipped, is_at, begins, expect, goes_on}
+use Rattle.htl_expr.specs.Tokens.{Outcome, ◌>>=◌, blanks_skipped, begins, expect, goes_on}
 use Rattle.htl_expr.specs.Read as spec
 use Rattle.htl_expr.specs.Grammar.{Byte, And, Or, Comma, Part, Choice, Either, Both, Compare, Operand, Atom, Start, Items, Reads, More}
 use Rattle.htl_expr.specs.Grammar as g
@@ -30,12 +31,12 @@ abbrev InnerSticks : ℕ → (Inside → List ℕ → Outcome ExprNode) → Type
 InnerSticks depth inner = (which : Inside) (s : List ℕ) (d : ExprStop) (k : ℕ) → inner which s ≡ Err d → At d k → DeepStuck which depth s k
 
 -- after the byte that nests it
-deep_late : (c : ℕ) (s : List ℕ) (k : ℕ) (R : List ℕ → List ℕ → Type 0) → is_at c s ≡ true → Stuck R (blanks_skipped (drop 1 s)) k → Late (Then (Byte c) R) s k
+deep_late : (c : ℕ) (s : List ℕ) (k : ℕ) (R : List ℕ → List ℕ → Type 0) → begins_with_byte c s ≡ true → Stuck R (blanks_skipped (drop 1 s)) k → Late (Then (Byte c) R) s k
 deep_late c s k R at q =
     let b = byte c s at in
     steps_late (Byte c) R s (blanks_skipped (drop 1 s)) k (byte_steps c s (blanks_skipped (drop 1 s)) b) (byte-short c s (blanks_skipped (drop 1 s)) b) q
 
-not_stuck : (depth : ℕ) (s : List ℕ) (k : ℕ) → is_at 33 s ≡ true → DeepStuck i.Operand depth s k → Stuck (SomePart Operand depth) s k
+not_stuck : (depth : ℕ) (s : List ℕ) (k : ℕ) → begins_with_byte 33 s ≡ true → DeepStuck i.Operand depth s k → Stuck (SomePart Operand depth) s k
 not_stuck zero s k at q = stuck_map (SomePart Start 0) (SomePart Operand 0) s k (λ s' r' x. part.atom_operand 0 s' r' (part.start_atom 0 s' r' x)) (start_missing 0 s k q)
 not_stuck (suc d) s k at q = stuck_map (Then (Byte 33) (SomePart Operand d)) (SomePart Operand (suc d)) s k (λ s' r' x. (n.Not x.2.0, g.not x.1 x.2.1)) (deep_late 33 s k (SomePart Operand d) at q).stuck
 
@@ -43,13 +44,13 @@ not_stuck (suc d) s k at q = stuck_map (Then (Byte 33) (SomePart Operand d)) (So
 
 module _ (begin close : ℕ) (inside : Part) (close_plain : (z : List ℕ) → Plain (close ∷ z)) (make : (d : ℕ) (s r : List ℕ) → Then (Byte begin) (Then (SomePart inside d) (Byte close)) s r → SomePart Start (suc d) s r) where
   -- a bracket is open
-  opened : (d : ℕ) (s : List ℕ) (k : ℕ) → is_at begin s ≡ true → Stuck (Then (SomePart inside d) (Byte close)) (blanks_skipped (drop 1 s)) k → Stuck (SomePart Start (suc d)) s k
+  opened : (d : ℕ) (s : List ℕ) (k : ℕ) → begins_with_byte begin s ≡ true → Stuck (Then (SomePart inside d) (Byte close)) (blanks_skipped (drop 1 s)) k → Stuck (SomePart Start (suc d)) s k
   opened d s k at q = stuck_map (Then (Byte begin) (Then (SomePart inside d) (Byte close))) (SomePart Start (suc d)) s k (make d) (deep_late begin s k (Then (SomePart inside d) (Byte close)) at q).stuck
 
-  pub inside_stuck : (d : ℕ) (s : List ℕ) (k : ℕ) → is_at begin s ≡ true → Stuck (SomePart inside d) (blanks_skipped (drop 1 s)) k → Stuck (SomePart Start (suc d)) s k
+  pub inside_stuck : (d : ℕ) (s : List ℕ) (k : ℕ) → begins_with_byte begin s ≡ true → Stuck (SomePart inside d) (blanks_skipped (drop 1 s)) k → Stuck (SomePart Start (suc d)) s k
   inside_stuck d s k at q = opened d s k at (stuck_then (SomePart inside d) (Byte close) (blanks_skipped (drop 1 s)) k (close ∷ []) q (λ z p. close_plain z) (λ z p. byte_of close z (plain_settled z p)))
 
-  pub close_stuck : (d : ℕ) (s : List ℕ) (x : ExprNode × List ℕ) (stop : ExprStop) (k : ℕ) → is_at begin s ≡ true → Reads inside d (blanks_skipped (drop 1 s)) x.0 x.1 → expect close x.1 ≡ Err stop → At stop k → Stuck (SomePart Start (suc d)) s k
+  pub close_stuck : (d : ℕ) (s : List ℕ) (x : ExprNode × List ℕ) (stop : ExprStop) (k : ℕ) → begins_with_byte begin s ≡ true → Reads inside d (blanks_skipped (drop 1 s)) x.0 x.1 → expect close x.1 ≡ Err stop → At stop k → Stuck (SomePart Start (suc d)) s k
   close_stuck d s x stop k at q e a =
       opened d s k at (moves_stuck (SomePart inside d) (Byte close) (blanks_skipped (drop 1 s)) x.1 k (moves_some inside d (blanks_skipped (drop 1 s)) x.0 x.1 q) (byte_missing close close_plain x.1 stop k e a))
 
@@ -59,19 +60,19 @@ round_of d s r x = (x.2.1.0, g.inside x.1 x.2.1.1 x.2.2)
 square_of : (d : ℕ) (s r : List ℕ) → Then (Byte 91) (Then (SomePart Items d) (Byte 93)) s r → SomePart Start (suc d) s r
 square_of d s r x = (x.2.1.0, g.list x.1 x.2.1.1 x.2.2)
 
-round_stuck : (depth : ℕ) (s : List ℕ) (k : ℕ) → is_at 40 s ≡ true → DeepStuck i.Choice depth s k → Stuck (SomePart Start depth) s k
+round_stuck : (depth : ℕ) (s : List ℕ) (k : ℕ) → begins_with_byte 40 s ≡ true → DeepStuck i.Choice depth s k → Stuck (SomePart Start depth) s k
 round_stuck zero s k at q = start_missing 0 s k q
 round_stuck (suc d) s k at q = inside_stuck 40 41 Choice round_plain round_of d s k at q
 
-square_stuck : (depth : ℕ) (s : List ℕ) (k : ℕ) → is_at 91 s ≡ true → DeepStuck i.Items depth s k → Stuck (SomePart Start depth) s k
+square_stuck : (depth : ℕ) (s : List ℕ) (k : ℕ) → begins_with_byte 91 s ≡ true → DeepStuck i.Items depth s k → Stuck (SomePart Start depth) s k
 square_stuck zero s k at q = start_missing 0 s k q
 square_stuck (suc d) s k at q = inside_stuck 91 93 Items square_plain square_of d s k at q
 
-round_close : (depth : ℕ) (s : List ℕ) (x : ExprNode × List ℕ) (stop : ExprStop) (k : ℕ) → is_at 40 s ≡ true → sound.Deeper i.Choice depth s x → expect 41 x.1 ≡ Err stop → At stop k → Stuck (SomePart Start depth) s k
+round_close : (depth : ℕ) (s : List ℕ) (x : ExprNode × List ℕ) (stop : ExprStop) (k : ℕ) → begins_with_byte 40 s ≡ true → sound.Deeper i.Choice depth s x → expect 41 x.1 ≡ Err stop → At stop k → Stuck (SomePart Start depth) s k
 round_close zero s x stop k at q e a = absurd q
 round_close (suc d) s x stop k at q e a = close_stuck 40 41 Choice round_plain round_of d s x stop k at q e a
 
-square_close : (depth : ℕ) (s : List ℕ) (x : ExprNode × List ℕ) (stop : ExprStop) (k : ℕ) → is_at 91 s ≡ true → sound.Deeper i.Items depth s x → expect 93 x.1 ≡ Err stop → At stop k → Stuck (SomePart Start depth) s k
+square_close : (depth : ℕ) (s : List ℕ) (x : ExprNode × List ℕ) (stop : ExprStop) (k : ℕ) → begins_with_byte 91 s ≡ true → sound.Deeper i.Items depth s x → expect 93 x.1 ≡ Err stop → At stop k → Stuck (SomePart Start depth) s k
 square_close zero s x stop k at q e a = absurd q
 square_close (suc d) s x stop k at q e a = close_stuck 91 93 Items square_plain square_of d s x stop k at q e a
 
@@ -90,12 +91,12 @@ colon_plain z = (refl, refl, refl)
 one_colon : (d : ℕ) (z : List ℕ) → Plain z → Colon d (58 ∷ operand z) z
 one_colon d z p = (operand z, byte_of 58 (operand z) (operand_settled z), part.one_choice d z p)
 
-with_condition : (d : ℕ) (s : List ℕ) (c : ExprNode × List ℕ) (k : ℕ) → Reads Either (suc d) s c.0 c.1 → is_at 63 c.1 ≡ true → Stuck (Branches d) (blanks_skipped (drop 1 c.1)) k → Stuck (SomePart Choice (suc d)) s k
+with_condition : (d : ℕ) (s : List ℕ) (c : ExprNode × List ℕ) (k : ℕ) → Reads Either (suc d) s c.0 c.1 → begins_with_byte 63 c.1 ≡ true → Stuck (Branches d) (blanks_skipped (drop 1 c.1)) k → Stuck (SomePart Choice (suc d)) s k
 with_condition d s c k x at q =
     stuck_map (Then (SomePart Either (suc d)) (Then (Byte 63) (Branches d))) (SomePart Choice (suc d)) s k (λ s' r' y. (n.Choice y.1.0 y.2.2.1.0 y.2.2.2.2.0, g.choice y.1.1 y.2.1 y.2.2.1.1 y.2.2.2.1 y.2.2.2.2.1))
     (moves_stuck (SomePart Either (suc d)) (Then (Byte 63) (Branches d)) s c.1 k (moves_some Either (suc d) s c.0 c.1 x) (deep_late 63 c.1 k (Branches d) at q))
 
-first_stuck : (depth : ℕ) (s : List ℕ) (c : ExprNode × List ℕ) (k : ℕ) → Reads Either depth s c.0 c.1 → is_at 63 c.1 ≡ true → DeepStuck i.Choice depth c.1 k → Stuck (SomePart Choice depth) s k
+first_stuck : (depth : ℕ) (s : List ℕ) (c : ExprNode × List ℕ) (k : ℕ) → Reads Either depth s c.0 c.1 → begins_with_byte 63 c.1 ≡ true → DeepStuck i.Choice depth c.1 k → Stuck (SomePart Choice depth) s k
 first_stuck zero s c k x at q = stuck_map (SomePart Either 0) (SomePart Choice 0) s k (part.either_choice 0) (moves_end (SomePart Either 0) s c.1 k (moves_some Either 0 s c.0 c.1 x) q)
 first_stuck (suc d) s c k x at q = with_condition d s c k x at (stuck_then (SomePart Choice d) (Colon d) (blanks_skipped (drop 1 c.1)) k (58 ∷ 39 ∷ 39 ∷ []) q (λ z p. colon_plain z) (one_colon d))
 
@@ -106,9 +107,9 @@ colon_missing d m k e = record {
 }
 
 abbrev OtherStuck : ℕ → List ℕ → ℕ → Type 0
-OtherStuck depth m k = (length m ≡ k) ⊎ ((is_at 58 m ≡ true) × DeepStuck i.Choice depth m k)
+OtherStuck depth m k = (length m ≡ k) ⊎ ((begins_with_byte 58 m ≡ true) × DeepStuck i.Choice depth m k)
 
-second_stuck : (depth : ℕ) (s : List ℕ) (c a : ExprNode × List ℕ) (k : ℕ) → Reads Either depth s c.0 c.1 → is_at 63 c.1 ≡ true → sound.Deeper i.Choice depth c.1 a → OtherStuck depth a.1 k → Stuck (SomePart Choice depth) s k
+second_stuck : (depth : ℕ) (s : List ℕ) (c a : ExprNode × List ℕ) (k : ℕ) → Reads Either depth s c.0 c.1 → begins_with_byte 63 c.1 ≡ true → sound.Deeper i.Choice depth c.1 a → OtherStuck depth a.1 k → Stuck (SomePart Choice depth) s k
 second_stuck zero s c a k x at y o = absurd y
 second_stuck (suc d) s c a k x at y (inl e) =
     with_condition d s c k x at (moves_stuck (SomePart Choice d) (Colon d) (blanks_skipped (drop 1 c.1)) a.1 k (moves_some Choice d (blanks_skipped (drop 1 c.1)) a.0 a.1 y) (colon_missing d a.1 k e))
@@ -120,7 +121,7 @@ second_stuck (suc d) s c a k x at y (inr o) =
 module _ (depth : ℕ) (inner : Inside → List ℕ → Outcome ExprNode) (deeper : sound.Inner depth inner) (sticks : InnerSticks depth inner) where
   start_stuck : Sticks Start depth (spec.start depth inner)
   unfolding spec.start
-  start_stuck s d k e a = elim (chosen (is_at 40 s) _ _ _ e) [
+  start_stuck s d k e a = elim (chosen (begins_with_byte 40 s) _ _ _ e) [
     | inl h ↦
         elim (bind_err (inner i.Choice s) (λ x. expect 41 x.1 >>= λ r. Ok (x.0, r)) d h.1) [
           | inl at ↦ round_stuck depth s k h.0 (sticks i.Choice s d k at a)
@@ -131,7 +132,7 @@ module _ (depth : ℕ) (inner : Inside → List ℕ → Outcome ExprNode) (deepe
               ]
         ]
     | inr h ↦
-        elim (chosen (is_at 91 s) _ _ _ h.1) [
+        elim (chosen (begins_with_byte 91 s) _ _ _ h.1) [
           | inl j ↦
               elim (bind_err (inner i.Items s) (λ x. expect 93 x.1 >>= λ r. Ok (x.0, r)) d j.1) [
                 | inl at ↦ square_stuck depth s k j.0 (sticks i.Items s d k at a)
@@ -160,7 +161,7 @@ module _ (depth : ℕ) (inner : Inside → List ℕ → Outcome ExprNode) (deepe
 
   operand_stuck : Sticks Operand depth (spec.operand depth inner)
   unfolding spec.operand
-  operand_stuck s d k e a = elim (chosen (is_at 33 s) _ _ _ e) [
+  operand_stuck s d k e a = elim (chosen (begins_with_byte 33 s) _ _ _ e) [
     | inl h ↦
         elim (bind_err (inner i.Operand s) (λ x. Ok (n.Not x.0, x.1)) d h.1) [
           | inl at ↦ not_stuck depth s k h.0 (sticks i.Operand s d k at a)
@@ -229,18 +230,18 @@ module _ (depth : ℕ) (inner : Inside → List ℕ → Outcome ExprNode) (deepe
 
   other_stuck : (m : List ℕ) (d : ExprStop) (k : ℕ) → spec.other_choice depth inner m ≡ Err d → At d k → OtherStuck depth m k
   unfolding spec.other_choice
-  other_stuck m d k e a = elim (chosen (is_at 58 m) _ _ _ e) [
+  other_stuck m d k e a = elim (chosen (begins_with_byte 58 m) _ _ _ e) [
     | inl h ↦ inr (h.0, sticks i.Choice m d k h.1 a)
     | inr h ↦ inl (at_length (length m) d k h.1 a)
   ]
 
   choice_stuck : Sticks Choice depth (spec.choice depth inner)
   unfolding spec.choice
-  choice_stuck s d k e a = elim (bind_err (spec.either depth inner s) (λ c. cond (is_at 63 c.1) (inner i.Choice c.1 >>= λ x. spec.other_choice depth inner x.1 >>= λ y. Ok (n.Choice c.0 x.0 y.0, y.1)) (Ok c)) d e) [
+  choice_stuck s d k e a = elim (bind_err (spec.either depth inner s) (λ c. cond (begins_with_byte 63 c.1) (inner i.Choice c.1 >>= λ x. spec.other_choice depth inner x.1 >>= λ y. Ok (n.Choice c.0 x.0 y.0, y.1)) (Ok c)) d e) [
     | inl at ↦ stuck_map (SomePart Either depth) (SomePart Choice depth) s k (part.either_choice depth) (either_stuck s d k at a)
     | inr c ↦
         let first = sound.either_sound depth inner deeper s c.0 c.1 in
-        elim (chosen (is_at 63 c.0.1) _ _ _ c.2) [
+        elim (chosen (begins_with_byte 63 c.0.1) _ _ _ c.2) [
           | inl h ↦
               elim (bind_err (inner i.Choice c.0.1) (λ x. spec.other_choice depth inner x.1 >>= λ y. Ok (n.Choice c.0.0 x.0 y.0, y.1)) d h.1) [
                 | inl at ↦ first_stuck depth s c.0 k first h.0 (sticks i.Choice c.0.1 d k at a)
@@ -256,7 +257,7 @@ module _ (depth : ℕ) (inner : Inside → List ℕ → Outcome ExprNode) (deepe
 
   items_stuck : Sticks Items depth (spec.items depth inner)
   unfolding spec.items
-  items_stuck s d k e a = elim (chosen (is_at 93 s) _ _ _ e) [
+  items_stuck s d k e a = elim (chosen (begins_with_byte 93 s) _ _ _ e) [
     | inl h ↦ absurd (let y = h.1 in cc)
     | inr h ↦
         elim (bind_err (spec.choice depth inner s) (λ x. spec.chain (spec.choice depth inner) 44 (length x.1) (x.0 ∷ []) x.1 >>= λ xs. Ok (n.List xs.0, xs.1)) d h.1) [

@@ -1,10 +1,11 @@
 -- Accesses, operands and chains in which reading stopped can be completed.
 use Rattle.std.proofs.Common.{◌≡◌, ℕ, zero, suc, true, ◌||◌, eqb, List, [], ◌∷◌, ◌++◌, drop, length, Option, Some, None, Ok, Err, refl, inl, inr}
+use Rattle.sp_base.specs.Bytes.{begins_with_byte}
 use Rattle.htl_expr.specs.declared.stop.ExprStop.{ExprStop}
 use Rattle.htl_expr.specs.declared.node.ExprNode.{ExprNode}
 use Rattle.htl_expr.specs.declared.node.ExprNode.TheVariants as n
 use Rattle.htl_expr.specs.declared.tokens.NameKind.TheVariants.{Name}
-use Rattle.htl_expr.specs.Tokens.{Outcome, ◌>>=◌, blanks_skipped, is_at, begins, goes_on, is_expression_digit, is_quote, is_first, expect, read_name, signed_number, string}
+use Rattle.htl_expr.specs.Tokens.{Outcome, ◌>>=◌, blanks_skipped, begins, goes_on, is_expression_digit, is_quote, is_first, expect, read_name, signed_number, string}
 use Rattle.htl_expr.specs.Read as spec
 use Rattle.htl_expr.specs.Grammar.{Byte, NameToken, String, Separator, And, Or, Comma, Separates, Part, part_of, Choice, Either, Both, Compare, Operand, Atom, Start, Reads, More, Access, Accesses}
 use Rattle.htl_expr.specs.Grammar as g
@@ -56,7 +57,7 @@ access_missing depth t k e = record {
   later = λ z p. inr (dot_plain (95 ∷ z));
 }
 
-bracketed_stuck : (depth : ℕ) (t : List ℕ) (d : ExprStop) (k : ℕ) → is_at 91 t ≡ true → spec.bracket_access depth t ≡ Err d → At d k → Late (SomeAccess depth) t k
+bracketed_stuck : (depth : ℕ) (t : List ℕ) (d : ExprStop) (k : ℕ) → begins_with_byte 91 t ≡ true → spec.bracket_access depth t ≡ Err d → At d k → Late (SomeAccess depth) t k
 unfolding spec.bracket_access
 bracketed_stuck zero t d k at e a = access_missing zero t k (at_depth (length t) d k e a)
 bracketed_stuck (suc depth) t d k at e a = elim (chosen (eqb (suc depth) 0) _ _ _ e) [
@@ -81,7 +82,7 @@ bracketed_stuck (suc depth) t d k at e a = elim (chosen (eqb (suc depth) 0) _ _ 
 
 access_stuck : (depth : ℕ) (t : List ℕ) (d : ExprStop) (k : ℕ) → spec.access_at t ≡ true → spec.access depth t ≡ Err d → At d k → Late (SomeAccess depth) t k
 unfolding spec.access spec.access_at
-access_stuck depth t d k at e a = elim (chosen (is_at 46 t) _ _ _ e) [
+access_stuck depth t d k at e a = elim (chosen (begins_with_byte 46 t) _ _ _ e) [
   | inl h ↦
       let b = byte 46 t h.0 in
       late_map (Then (Byte 46) SomeField) (SomeAccess depth) t k (λ s' r' x. (x.2.0, g.field x.1 x.2.1))
@@ -186,7 +187,7 @@ leaf_stuck depth s d k e a = elim (chosen (begins is_quote s) _ _ _ e) [
         | inr at ↦ absurd (let x = at.2 in cc)
       ]
   | inr h ↦
-      elim (chosen (is_at 45 s || begins is_expression_digit s) _ _ _ h.1) [
+      elim (chosen (begins_with_byte 45 s || begins is_expression_digit s) _ _ _ h.1) [
         | inl j ↦
             elim (bind_err (signed_number s) (λ x. Ok (n.Long x.0, x.1)) d j.1) [
               | inl at ↦ stuck_map SomeNumber (SomePart Start depth) s k (λ s' r' x. (n.Long x.0, g.number x.1)) (number_stuck s d k j.0 at a)
@@ -206,12 +207,12 @@ quiet_or : Quiet 124
 unfolding goes_on
 quiet_or t = refl
 
-between_stuck : (sep : Separator) (Q : List ℕ → List ℕ → Type 0) → ((z : List ℕ) → Plain z → Q (operand z) z) → (m : List ℕ) (d : ExprStop) (k : ℕ) → is_at (byte_of sep) m ≡ true → spec.between (byte_of sep) m ≡ Err d → At d k
+between_stuck : (sep : Separator) (Q : List ℕ → List ℕ → Type 0) → ((z : List ℕ) → Plain z → Q (operand z) z) → (m : List ℕ) (d : ExprStop) (k : ℕ) → begins_with_byte (byte_of sep) m ≡ true → spec.between (byte_of sep) m ≡ Err d → At d k
     → Late (Then (Separates sep) Q) m k
 unfolding expect
 between_stuck And Q one m d k at e a = second_missing 38 38 quiet_and Q one m d k at e a
 between_stuck Or Q one m d k at e a = second_missing 124 124 quiet_or Q one m d k at e a
-between_stuck Comma Q one m d k at e a = elim (chosen (is_at 44 m) _ _ _ e) [
+between_stuck Comma Q one m d k at e a = elim (chosen (begins_with_byte 44 m) _ _ _ e) [
   | inl h ↦ absurd (let x = h.1 in cc)
   | inr h ↦ absurd (let x = h.0 in cc)
 ]
@@ -230,7 +231,7 @@ module _ (sep : Separator) (depth : ℕ) (item : List ℕ → Outcome ExprNode) 
   pub chain_stuck : (fuel : ℕ) (found : List ExprNode) (t : List ℕ) (d : ExprStop) (k : ℕ) → spec.chain item (byte_of sep) fuel found t ≡ Err d → At d k → Late (SomeMore sep depth) t k
   unfolding spec.chain
   chain_stuck zero found t d k e a = absurd cc
-  chain_stuck (suc fuel) found t d k e a = elim (chosen (is_at (byte_of sep) t) _ _ _ e) [
+  chain_stuck (suc fuel) found t d k e a = elim (chosen (begins_with_byte (byte_of sep) t) _ _ _ e) [
     | inl h ↦
         elim (bind_err (spec.between (byte_of sep) t) (λ r. item r >>= λ x. spec.chain item (byte_of sep) fuel (found ++ x.0 ∷ []) x.1) d h.1) [
           | inl at ↦ late_map (Then (Separates sep) (SomePart (part_of sep) depth)) (SomeMore sep depth) t k single (between_stuck sep (SomePart (part_of sep) depth) one t d k h.0 at a)

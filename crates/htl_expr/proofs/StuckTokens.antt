@@ -1,10 +1,11 @@
 -- Where a token is missing or was cut, it can be completed.
 use Rattle.std.proofs.Common.{◌≡◌, ℕ, ℤ, Bool, true, false, ◌||◌, eqb, List, [], ◌∷◌, ◌++◌, drop, length, Option, Some, None, Ok, Err, refl, ap, sym, subst, inl, inr}
+use Rattle.sp_base.specs.Bytes.{begins_with_byte}
 use Rattle.htl_expr.specs.declared.stop.ExprStop.{ExprStop}
 use Rattle.htl_expr.specs.declared.tokens.NameKind.TheVariants.{Field}
 use Rattle.htl_expr.specs.declared.node.Comparison.{Comparison}
 use Rattle.htl_expr.specs.declared.node.Comparison.TheVariants.{Equal, NotEqual}
-use Rattle.htl_expr.specs.Tokens.{is_at, begins, goes_on, is_first, is_expression_digit, is_quote, expect, second, read_name, unescape, string_after_escape, string, string_from, digits, signed_number, expression_digit_fits, limit}
+use Rattle.htl_expr.specs.Tokens.{begins, goes_on, is_first, is_expression_digit, is_quote, expect, second, read_name, unescape, string_after_escape, string, string_from, digits, signed_number, expression_digit_fits, limit}
 use Rattle.htl_expr.specs.Read as spec
 use Rattle.htl_expr.specs.Fault.{SameHead}
 use Rattle.htl_expr.specs.Grammar.{Byte, Operator, NameToken, StringBody, String, Number, Compares}
@@ -24,7 +25,7 @@ operator_of c d z e = record { after = z; parts = refl; rest = sym e }
 
 pub expect_missing : (c : ℕ) (m : List ℕ) (d : ExprStop) (k : ℕ) → expect c m ≡ Err d → At d k → length m ≡ k
 unfolding expect
-expect_missing c m d k e a = elim (chosen (is_at c m) _ _ _ e) [
+expect_missing c m d k e a = elim (chosen (begins_with_byte c m) _ _ _ e) [
   | inl h ↦ absurd (let x = h.1 in cc)
   | inr h ↦ at_length (length m) d k h.1 a
 ]
@@ -43,7 +44,7 @@ pub operand_settled : (z : List ℕ) → Settled (operand z)
 operand_settled z = settled_at 39 (39 ∷ z) refl
 
 -- an operator whose second byte is missing, before an operand
-pub second_missing : (c d : ℕ) → Quiet c → (Q : List ℕ → List ℕ → Type 0) → ((z : List ℕ) → Plain z → Q (operand z) z) → (m : List ℕ) (stop : ExprStop) (k : ℕ) → is_at c m ≡ true → second d m ≡ Err stop → At stop k → Late (Then (Operator c d) Q) m k
+pub second_missing : (c d : ℕ) → Quiet c → (Q : List ℕ → List ℕ → Type 0) → ((z : List ℕ) → Plain z → Q (operand z) z) → (m : List ℕ) (stop : ExprStop) (k : ℕ) → begins_with_byte c m ≡ true → second d m ≡ Err stop → At stop k → Late (Then (Operator c d) Q) m k
 unfolding second
 second_missing c d quiet Q one m stop k at e a = record {
   stuck = record {
@@ -169,9 +170,9 @@ minus_one z p = (
   },
 )
 
-pub number_stuck : (s : List ℕ) (d : ExprStop) (k : ℕ) → (is_at 45 s || begins is_expression_digit s) ≡ true → signed_number s ≡ Err d → At d k → Stuck SomeNumber s k
+pub number_stuck : (s : List ℕ) (d : ExprStop) (k : ℕ) → (begins_with_byte 45 s || begins is_expression_digit s) ≡ true → signed_number s ≡ Err d → At d k → Stuck SomeNumber s k
 unfolding signed_number digits
-number_stuck s d k at e a = elim (chosen (is_at 45 s) _ _ _ e) [
+number_stuck s d k at e a = elim (chosen (begins_with_byte 45 s) _ _ _ e) [
   | inl h ↦
       elim (chosen (begins is_expression_digit (drop 1 s)) _ _ _ h.1) [
         | inl j ↦ absurd (let x = j.1 in cc)
@@ -205,21 +206,21 @@ quiet_not t = refl
 
 pub comparison_stuck : (Q : List ℕ → List ℕ → Type 0) → ((z : List ℕ) → Plain z → Q (operand z) z) → (m : List ℕ) (d : ExprStop) (k : ℕ) → spec.comparison m ≡ Err d → At d k → Late (Then SomeCompares Q) m k
 unfolding spec.comparison
-comparison_stuck Q one m d k e a = elim (chosen (is_at 61 m) _ _ _ e) [
+comparison_stuck Q one m d k e a = elim (chosen (begins_with_byte 61 m) _ _ _ e) [
   | inl h ↦
       elim (bind_err (second 61 m) (λ r. Ok (Equal, r)) d h.1) [
         | inl at ↦ late_map (Then (Operator 61 61) Q) (Then SomeCompares Q) m k (λ s' r' x. (x.0, (Equal, g.equal x.1), x.2)) (second_missing 61 61 quiet_equal Q one m d k h.0 at a)
         | inr at ↦ absurd (let x = at.2 in cc)
       ]
   | inr h ↦
-      elim (chosen (is_at 33 m) _ _ _ h.1) [
+      elim (chosen (begins_with_byte 33 m) _ _ _ h.1) [
         | inl j ↦
             elim (bind_err (second 61 m) (λ r. Ok (NotEqual, r)) d j.1) [
               | inl at ↦ late_map (Then (Operator 33 61) Q) (Then SomeCompares Q) m k (λ s' r' x. (x.0, (NotEqual, g.not_equal x.1), x.2)) (second_missing 33 61 quiet_not Q one m d k j.0 at a)
               | inr at ↦ absurd (let x = at.2 in cc)
             ]
         | inr j ↦
-            elim (chosen (is_at 60 m) _ _ _ j.1) [
+            elim (chosen (begins_with_byte 60 m) _ _ _ j.1) [
               | inl l ↦ absurd (let x = l.1 in cc)
               | inr l ↦ absurd (let x = l.1 in cc)
             ]

@@ -1,12 +1,13 @@
 -- A whole text in which reading stopped can be completed.
 use Rattle.std.proofs.Common.{◌≡◌, ℕ, ◌-◌, true, cond, ◌||◌, eqb, List, [], ◌∷◌, ◌++◌, take, drop, length, Option, Some, None, Ok, Err, refl, ap, sym, subst, ◌∙◌, ◌⊎◌, inl, inr, arith, append_assoc}
 use Rattle.std.proofs.lemmas.List.{length-append, take_at}
+use Rattle.sp_base.specs.Bytes.{begins_with_byte}
 use Rattle.htl_expr.specs.declared.stop.ExprStop.{ExprStop}
 use Rattle.htl_expr.specs.declared.stop.ExprStop.TheVariants.{Unexpected}
 use Rattle.htl_expr.specs.declared.node.ExprNode.{ExprNode}
 use Rattle.htl_expr.specs.declared.expression.Context.{Context}
 use Rattle.htl_expr.specs.declared.expression.Expr.{Expr}
-use Rattle.htl_expr.specs.Tokens.{◌>>=◌, blanks_skipped, is_at, goes_on}
+use Rattle.htl_expr.specs.Tokens.{◌>>=◌, blanks_skipped, goes_on}
 use Rattle.htl_expr.specs.Read as spec
 use Rattle.htl_expr.specs.Grammar.{Byte, Join, InContext, Options, Tree, WholeWithin, Choice}
 use Rattle.htl_expr.specs.Grammar as g
@@ -40,7 +41,7 @@ to_end s r (join_context {w = w} {m = m} {c = c} b j comma x) e = (Some w, Some 
 to_end s r (context_join {m = m} {w = w} {c = c} b x comma j) e = (Some w, Some c, g.context_join b x comma (subst (λ (t : List ℕ). Join m w t) e j))
 
 -- after a byte that ends a name
-byte_late : (c : ℕ) (s : List ℕ) (k : ℕ) (Q : List ℕ → List ℕ → Type 0) → Quiet c → is_at c s ≡ true → Cut Q (blanks_skipped (drop 1 s)) k → Late (Then (Byte c) Q) s k
+byte_late : (c : ℕ) (s : List ℕ) (k : ℕ) (Q : List ℕ → List ℕ → Type 0) → Quiet c → begins_with_byte c s ≡ true → Cut Q (blanks_skipped (drop 1 s)) k → Late (Then (Byte c) Q) s k
 byte_late c s k Q quiet at q =
     let bl = blanks (drop 1 s) in
     let shape : (t : List ℕ) → c ∷ ((bl.front ++ q.front) ++ t) ≡ c ∷ (bl.front ++ (q.front ++ t)) = λ t. ap (λ (u : List ℕ). c ∷ u) (append_assoc bl.front q.front t) in
@@ -72,14 +73,14 @@ SomeOption s r = SomeJoin s r ⊎ SomeContext s r
 
 first_cut : (s : List ℕ) (d : ExprStop) (k : ℕ) → spec.option (None, None) s ≡ Err d → At d k → Cut SomeOption s k
 unfolding spec.option
-first_cut s d k e a = elim (chosen (is_at 106 s) _ _ _ e) [
+first_cut s d k e a = elim (chosen (begins_with_byte 106 s) _ _ _ e) [
   | inl h ↦
       elim (bind_err (spec.join_option s) (λ x. Ok ((Some x.0, None), x.1)) d h.1) [
         | inl at ↦ cut_map SomeJoin SomeOption s k (λ s' r' x. inl x) (join_cut s d k at a)
         | inr at ↦ absurd (let x = at.2 in cc)
       ]
   | inr h ↦
-      elim (chosen (is_at 99 s) _ _ _ h.1) [
+      elim (chosen (begins_with_byte 99 s) _ _ _ h.1) [
         | inl j ↦
             elim (bind_err (spec.context_option s) (λ x. Ok ((None, Some x.0), x.1)) d j.1) [
               | inl at ↦ cut_map SomeContext SomeOption s k (λ s' r' x. inr x) (context_cut s d k at a)
@@ -92,7 +93,7 @@ first_cut s d k e a = elim (chosen (is_at 106 s) _ _ _ e) [
 -- after a join, and after a context
 after_join : (w s : List ℕ) (d : ExprStop) (k : ℕ) → spec.option (Some w, None) s ≡ Err d → At d k → Cut SomeContext s k
 unfolding spec.option
-after_join w s d k e a = elim (chosen (is_at 99 s) _ _ _ e) [
+after_join w s d k e a = elim (chosen (begins_with_byte 99 s) _ _ _ e) [
   | inl j ↦
       elim (bind_err (spec.context_option s) (λ x. Ok ((Some w, Some x.0), x.1)) d j.1) [
         | inl at ↦ context_cut s d k at a
@@ -103,7 +104,7 @@ after_join w s d k e a = elim (chosen (is_at 99 s) _ _ _ e) [
 
 after_context : (c : Context) (s : List ℕ) (d : ExprStop) (k : ℕ) → spec.option (None, Some c) s ≡ Err d → At d k → Cut SomeJoin s k
 unfolding spec.option
-after_context c s d k e a = elim (chosen (is_at 106 s) _ _ _ e) [
+after_context c s d k e a = elim (chosen (begins_with_byte 106 s) _ _ _ e) [
   | inl h ↦
       elim (bind_err (spec.join_option s) (λ x. Ok ((Some x.0, Some c), x.1)) d h.1) [
         | inl at ↦ join_cut s d k at a
@@ -113,7 +114,7 @@ after_context c s d k e a = elim (chosen (is_at 106 s) _ _ _ e) [
 ]
 
 -- the second option after the first
-second_late : (t m : List ℕ) (given : spec.Given) (rest : List ℕ) (d : ExprStop) (k : ℕ) → Byte 64 t m → whole.Adds (None, None) m given rest → is_at 44 rest ≡ true → spec.option given (blanks_skipped (drop 1 rest)) ≡ Err d → At d k → Late SomeOptions t k
+second_late : (t m : List ℕ) (given : spec.Given) (rest : List ℕ) (d : ExprStop) (k : ℕ) → Byte 64 t m → whole.Adds (None, None) m given rest → begins_with_byte 44 rest ≡ true → spec.option given (blanks_skipped (drop 1 rest)) ≡ Err d → At d k → Late SomeOptions t k
 second_late t m _ rest d k b (whole.joins {w = w} n j) at e a =
     late_map (Then (Then (Byte 64) (JoinOf w)) (Then (Byte 44) SomeContext)) SomeOptions t k (λ s' r' x. join_context x.1.1 x.1.2 x.2.1 x.2.2.1)
     (moves_late (Then (Byte 64) (JoinOf w)) (Then (Byte 44) SomeContext) t rest k
@@ -131,13 +132,13 @@ one_option s r (m, b, inr c) = context b c.1
 
 options_stuck : (t : List ℕ) (d : ExprStop) (k : ℕ) → spec.options t ≡ Err d → At d k → Late SomeOptions t k
 unfolding spec.options
-options_stuck t d k e a = elim (chosen (is_at 64 t) _ _ _ e) [
+options_stuck t d k e a = elim (chosen (begins_with_byte 64 t) _ _ _ e) [
   | inl h ↦
       let m = blanks_skipped (drop 1 t) in
-      elim (bind_err (spec.option (None, None) m) (λ o. cond (is_at 44 o.1) (spec.option o.0 (blanks_skipped (drop 1 o.1))) (Ok o)) d h.1) [
+      elim (bind_err (spec.option (None, None) m) (λ o. cond (begins_with_byte 44 o.1) (spec.option o.0 (blanks_skipped (drop 1 o.1))) (Ok o)) d h.1) [
         | inl at ↦ late_map (Then (Byte 64) SomeOption) SomeOptions t k one_option (byte_late 64 t k SomeOption quiet_options h.0 (first_cut m d k at a))
         | inr o ↦
-            elim (chosen (is_at 44 o.0.1) _ _ _ o.2) [
+            elim (chosen (begins_with_byte 44 o.0.1) _ _ _ o.2) [
               | inl j ↦ second_late t m o.0.0 o.0.1 d k (byte 64 t h.0) (whole.option_sound (None, None) m o.0 o.1) j.0 j.1 a
               | inr j ↦ absurd (let x = j.1 in cc)
             ]
@@ -169,12 +170,12 @@ Moved t q = Moves SomeOptions t q.1
 
 options_moves : (t : List ℕ) (p : spec.Given × List ℕ) → spec.options t ≡ Ok p → Moved t p
 unfolding spec.options
-options_moves t p e = elim (chosen (is_at 64 t) _ _ _ e) [
+options_moves t p e = elim (chosen (begins_with_byte 64 t) _ _ _ e) [
   | inl h ↦
       let m = blanks_skipped (drop 1 t) in
-      let o = bind_ok (spec.option (None, None) m) (λ o. cond (is_at 44 o.1) (spec.option o.0 (blanks_skipped (drop 1 o.1))) (Ok o)) p h.1 in
+      let o = bind_ok (spec.option (None, None) m) (λ o. cond (begins_with_byte 44 o.1) (spec.option o.0 (blanks_skipped (drop 1 o.1))) (Ok o)) p h.1 in
       let one = whole.option_sound (None, None) m o.0 o.1 in
-      elim (chosen (is_at 44 o.0.1) _ _ _ o.2) [
+      elim (chosen (begins_with_byte 44 o.0.1) _ _ _ o.2) [
         | inl j ↦ second_moves t m o.0.1 (blanks_skipped (drop 1 o.0.1)) o.0.0 p.0 p.1 (byte 64 t h.0) one (byte 44 o.0.1 j.0) (whole.option_sound o.0.0 (blanks_skipped (drop 1 o.0.1)) p j.1)
         | inr j ↦ subst (Moved t) (ok_is _ _ j.1) (first_moves t m o.0.0 o.0.1 (byte 64 t h.0) one)
       ]
@@ -193,7 +194,7 @@ module _ (levels : ℕ) where
 
   tree_stuck : (s : List ℕ) (d : ExprStop) (k : ℕ) → spec.optional_choice levels s ≡ Err d → At d k → Stuck SomeTree s k
   unfolding spec.optional_choice
-  tree_stuck s d k e a = elim (chosen (eqb (length s) 0 || is_at 64 s) _ _ _ e) [
+  tree_stuck s d k e a = elim (chosen (eqb (length s) 0 || begins_with_byte 64 s) _ _ _ e) [
     | inl h ↦ absurd (let x = h.1 in cc)
     | inr h ↦
         elim (bind_err (spec.choice levels (spec.nesting levels) s) (λ x. Ok (Some x.0, x.1)) d h.1) [

@@ -2,9 +2,10 @@
 use Rattle.std.proofs.Common.{◌≡◌, ℕ, ℤ, suc, ◌<◌, ◌≤◌, Bool, true, false, cond, ◌||◌, eqb, List, [], ◌∷◌, ◌++◌, drop, length, Ok, refl, ap, ◌∙◌, rules, arith}
 use Rattle.std.proofs.lemmas.List.{take_at, drop_at, length-append}
 use Rattle.std.proofs.lemmas.Bool.Decides.{nat_tests}
+use Rattle.sp_base.specs.Bytes.{begins_with_byte}
 use Rattle.htl_expr.specs.declared.tokens.NameKind.{NameKind}
 use Rattle.htl_expr.specs.declared.node.Comparison.{Comparison}
-use Rattle.htl_expr.specs.Tokens.{blanks_skipped, is_at, begins, is_blank, expect, second, name_len, goes_on, read_name, string, string_from, is_expression_digit, is_first, is_quote, expression_digits_from, digits, signed_number, limit, signed_value}
+use Rattle.htl_expr.specs.Tokens.{blanks_skipped, begins, is_blank, expect, second, name_len, goes_on, read_name, string, string_from, is_expression_digit, is_first, is_quote, expression_digits_from, digits, signed_number, limit, signed_value}
 use Rattle.htl_expr.specs.Read.{comparison, compares, or_equal}
 use Rattle.htl_expr.specs.Grammar.{Byte, Operator, Bare, NameToken, String, StringBody, Passes, Digits, Number, Sign, Compares}
 use Rattle.htl_expr.specs.Grammar as g
@@ -22,13 +23,13 @@ apart test c d holds other = go (eqb c d) refl
     go false e = refl
 
 -- a text whose first byte passes a test doesn't begin with a byte that fails it
-pub not_at : (test : ℕ → Bool) (d : ℕ) (s : List ℕ) → begins test s ≡ true → test d ≡ false → is_at d s ≡ false
-unfolding begins is_at
+pub not_at : (test : ℕ → Bool) (d : ℕ) (s : List ℕ) → begins test s ≡ true → test d ≡ false → begins_with_byte d s ≡ false
+unfolding begins begins_with_byte
 not_at test d [] h other = refl
 not_at test d (c ∷ s) h other = apart test c d h other
 
-pub at_here : (c : ℕ) (s r : List ℕ) → Byte c s r → is_at c s ≡ true
-unfolding is_at
+pub at_here : (c : ℕ) (s r : List ℕ) → Byte c s r → begins_with_byte c s ≡ true
+unfolding begins_with_byte
 at_here c s r b = rw b.parts (eqb_same c)
 
 pub behind : (c : ℕ) (s r : List ℕ) → Byte c s r → blanks_skipped (drop 1 s) ≡ r
@@ -38,8 +39,8 @@ pub expect_again : (c : ℕ) (s r : List ℕ) → Byte c s r → expect c s ≡ 
 unfolding expect
 expect_again c s r b = rw (at_here c s r b, behind c s r b) refl
 
-pub operator_here : (c d : ℕ) (s r : List ℕ) → Operator c d s r → is_at c s ≡ true
-unfolding is_at
+pub operator_here : (c d : ℕ) (s r : List ℕ) → Operator c d s r → begins_with_byte c s ≡ true
+unfolding begins_with_byte
 operator_here c d s r b = rw b.parts (eqb_same c)
 
 pub second_again : (c d : ℕ) (s r : List ℕ) → Operator c d s r → second d s ≡ Ok r
@@ -91,7 +92,7 @@ unfolding digits
 digits_again negative t m after h d = rw (h, digits_from_again (limit negative) 0 t m after d) refl
 
 number_by : (s : List ℕ) (negative : Bool) (t : List ℕ) → Sign negative s t → begins is_expression_digit t ≡ true → signed_number s ≡ digits negative t
-unfolding signed_number is_at
+unfolding signed_number begins_with_byte
 number_by s true t sign h = rw sign refl
 number_by s false t sign h = rw (sign, not_at is_expression_digit 45 t h refl) refl
 
@@ -99,12 +100,12 @@ pub number_again : (s : List ℕ) (k : ℤ) (r : List ℕ) → Number s k r → 
 number_again s k r x =
     number_by s x.negative x.inside x.sign x.first ∙ digits_again x.negative x.inside x.magnitude x.after x.first x.body ∙ rw (x.value, x.rest) refl
 
-sign_begins : (s : List ℕ) (negative : Bool) (t : List ℕ) → Sign negative s t → begins is_expression_digit t ≡ true → (is_at 45 s || begins is_expression_digit s) ≡ true
-unfolding is_at
+sign_begins : (s : List ℕ) (negative : Bool) (t : List ℕ) → Sign negative s t → begins is_expression_digit t ≡ true → (begins_with_byte 45 s || begins is_expression_digit s) ≡ true
+unfolding begins_with_byte
 sign_begins s true t sign h = rw sign refl
 sign_begins s false t sign h = rw (sign, not_at is_expression_digit 45 t h refl) h
 
-pub number_begins : (s : List ℕ) (k : ℤ) (r : List ℕ) → Number s k r → (is_at 45 s || begins is_expression_digit s) ≡ true
+pub number_begins : (s : List ℕ) (k : ℤ) (r : List ℕ) → Number s k r → (begins_with_byte 45 s || begins is_expression_digit s) ≡ true
 number_begins s k r x = sign_begins s x.negative x.inside x.sign x.first
 
 sign_starts : (test : ℕ → Bool) (s : List ℕ) (negative : Bool) (t : List ℕ) → test 45 ≡ false → ((c : ℕ) → is_expression_digit c ≡ true → test c ≡ false) → Sign negative s t → begins is_expression_digit t ≡ true → begins test s ≡ false
@@ -134,7 +135,7 @@ begins_other test other (c ∷ s) all h = all c h
 -- ---- comparisons
 
 pub compares_again : (s : List ℕ) (op : Comparison) (r : List ℕ) → Compares s op r → compares s ≡ true
-unfolding compares is_at
+unfolding compares begins_with_byte
 compares_again s _ r (g.equal o) = rw o.parts refl
 compares_again s _ r (g.not_equal o) = rw o.parts refl
 compares_again s _ r (g.at_most o) = rw o.parts refl
@@ -143,7 +144,7 @@ compares_again s _ r (g.below o) = rw o.parts refl
 compares_again s _ r (g.above o) = rw o.parts refl
 
 pub comparison_again : (s : List ℕ) (op : Comparison) (r : List ℕ) → Compares s op r → comparison s ≡ Ok (op, r)
-unfolding comparison is_at or_equal
+unfolding comparison begins_with_byte or_equal
 comparison_again s _ r (g.equal o) =
     let two = second_again 61 61 s r o in
     let two' : second 61 (61 ∷ 61 ∷ o.after) ≡ Ok r = rw o.parts at two in

@@ -1,10 +1,11 @@
 -- What is read of a token is that token.
 use Rattle.std.proofs.Common.{◌≡◌, ℕ, ℤ, suc, ◌+◌, ◌*◌, ◌-◌, Bool, true, false, cond, eqb, List, [], ◌∷◌, ◌++◌, take, drop, Option, Some, None, Ok, refl, ap, sym, subst, ◌∙◌, inl, inr, rules}
 use Rattle.std.proofs.lemmas.List.{take-append-drop}
+use Rattle.sp_base.specs.Bytes.{begins_with_byte}
 use Rattle.htl_expr.specs.declared.tokens.NameKind.{NameKind}
 use Rattle.htl_expr.specs.declared.node.Comparison.{Comparison}
 use Rattle.htl_expr.specs.declared.node.Comparison.TheVariants.{Equal, NotEqual, Below, Above, AtMost, AtLeast}
-use Rattle.htl_expr.specs.Tokens.{blanks_skipped, is_at, begins, expect, second, name_len, goes_on, read_name, string, string_from, string_after_escape, unescape, is_expression_digit, is_first, is_quote, expression_digit_fits, expression_digits_from, digits, signed_number, limit}
+use Rattle.htl_expr.specs.Tokens.{blanks_skipped, begins, expect, second, name_len, goes_on, read_name, string, string_from, string_after_escape, unescape, is_expression_digit, is_first, is_quote, expression_digit_fits, expression_digits_from, digits, signed_number, limit}
 use Rattle.htl_expr.specs.Read.{comparison, compares, or_equal}
 use Rattle.htl_expr.specs.Grammar.{Byte, Operator, Bare, NameToken, String, StringBody, Passes, Digits, Number, Sign, Compares}
 use Rattle.htl_expr.specs.Grammar as g
@@ -13,23 +14,23 @@ use Rattle.htl_expr.proofs.Tools.{bind_ok, chosen, ok_is}
 pub eqb_is : (a b : ℕ) → eqb a b ≡ true → a ≡ b
 eqb_is a b e = search rules
 
-pub byte_at : (c : ℕ) (s : List ℕ) → is_at c s ≡ true → s ≡ c ∷ drop 1 s
-unfolding is_at
+pub byte_at : (c : ℕ) (s : List ℕ) → begins_with_byte c s ≡ true → s ≡ c ∷ drop 1 s
+unfolding begins_with_byte
 byte_at c [] e = absurd cc
 byte_at c (d ∷ s) e = ap (λ (x : ℕ). x ∷ s) (eqb_is d c e)
 
-pub byte : (c : ℕ) (s : List ℕ) → is_at c s ≡ true → Byte c s (blanks_skipped (drop 1 s))
+pub byte : (c : ℕ) (s : List ℕ) → begins_with_byte c s ≡ true → Byte c s (blanks_skipped (drop 1 s))
 byte c s e = record { after = drop 1 s; parts = byte_at c s e; rest = refl }
 
 pub expect_sound : (c : ℕ) (s r : List ℕ) → expect c s ≡ Ok r → Byte c s r
 unfolding expect
 expect_sound c s r e =
-    elim (chosen (is_at c s) _ _ _ e) [
+    elim (chosen (begins_with_byte c s) _ _ _ e) [
       | inl h ↦ subst (Byte c s) (ok_is _ _ h.1) (byte c s h.0)
       | inr h ↦ absurd cc
     ]
 
-pub second_sound : (c d : ℕ) (s r : List ℕ) → is_at c s ≡ true → second d s ≡ Ok r → Operator c d s r
+pub second_sound : (c d : ℕ) (s r : List ℕ) → begins_with_byte c s ≡ true → second d s ≡ Ok r → Operator c d s r
 unfolding second
 second_sound c d s r at e =
     let b = expect_sound d (drop 1 s) r e in
@@ -136,7 +137,7 @@ digits_sound negative s t p sign e =
 pub number_sound : (s : List ℕ) (p : ℤ × List ℕ) → signed_number s ≡ Ok p → Number s p.0 p.1
 unfolding signed_number
 number_sound s p e =
-    elim (chosen (is_at 45 s) _ _ _ e) [
+    elim (chosen (begins_with_byte 45 s) _ _ _ e) [
       | inl h ↦ digits_sound true s (drop 1 s) p (byte_at 45 s h.0) h.1
       | inr h ↦ digits_sound false s s p refl h.1
     ]
@@ -144,11 +145,11 @@ number_sound s p e =
 abbrev IsCompared : List ℕ → Comparison × List ℕ → Type 0
 IsCompared s q = Compares s q.0 q.1
 
-or_equal_sound : (s : List ℕ) (c : ℕ) (bare wide : Comparison) (p : Comparison × List ℕ) → is_at c s ≡ true → ((r : List ℕ) → Operator c 61 s r → Compares s wide r) → ((r : List ℕ) → Bare c s r → Compares s bare r)
+or_equal_sound : (s : List ℕ) (c : ℕ) (bare wide : Comparison) (p : Comparison × List ℕ) → begins_with_byte c s ≡ true → ((r : List ℕ) → Operator c 61 s r → Compares s wide r) → ((r : List ℕ) → Bare c s r → Compares s bare r)
     → or_equal bare wide s ≡ p → IsCompared s p
 unfolding or_equal
 or_equal_sound s c bare wide p at with_equal alone e =
-    elim (chosen (is_at 61 (drop 1 s)) _ _ _ e) [
+    elim (chosen (begins_with_byte 61 (drop 1 s)) _ _ _ e) [
       | inl h ↦
           subst (IsCompared s) h.1
           (with_equal (blanks_skipped (drop 1 (drop 1 s))) (record { after = drop 1 (drop 1 s); parts = byte_at c s at ∙ ap (λ (t : List ℕ). c ∷ t) (byte_at 61 (drop 1 s) h.0); rest = refl }))
@@ -158,17 +159,17 @@ or_equal_sound s c bare wide p at with_equal alone e =
 pub comparison_sound : (s : List ℕ) (p : Comparison × List ℕ) → compares s ≡ true → comparison s ≡ Ok p → Compares s p.0 p.1
 unfolding comparison compares
 comparison_sound s p at e =
-    elim (chosen (is_at 61 s) _ _ _ e) [
+    elim (chosen (begins_with_byte 61 s) _ _ _ e) [
       | inl h ↦
           let o = bind_ok (second 61 s) (λ r. Ok (Equal, r)) p h.1 in
           subst (IsCompared s) (ok_is _ _ o.2) (g.equal (second_sound 61 61 s o.0 h.0 o.1))
       | inr h ↦
-          elim (chosen (is_at 33 s) _ _ _ h.1) [
+          elim (chosen (begins_with_byte 33 s) _ _ _ h.1) [
             | inl k ↦
                 let o = bind_ok (second 61 s) (λ r. Ok (NotEqual, r)) p k.1 in
                 subst (IsCompared s) (ok_is _ _ o.2) (g.not_equal (second_sound 33 61 s o.0 k.0 o.1))
             | inr k ↦
-                elim (chosen (is_at 60 s) _ _ _ k.1) [
+                elim (chosen (begins_with_byte 60 s) _ _ _ k.1) [
                   | inl l ↦ or_equal_sound s 60 Below AtMost p l.0 (λ r o. g.at_most o) (λ r o. g.below o) (ok_is _ _ l.1)
                   | inr l ↦ or_equal_sound s 62 Above AtLeast p (rw (h.0, k.0, l.0) at at) (λ r o. g.at_least o) (λ r o. g.above o) (ok_is _ _ l.1)
                 ]

@@ -1,11 +1,12 @@
 -- One turn of each loop of the reader.
 use Rattle.std.proofs.Common.{◌≡◌, ◌≢◌, ℕ, zero, suc, ◌+◌, ◌-◌, ◌<◌, true, List, [], ◌∷◌, ◌++◌, drop, Ok, refl, arith, sub-one}
+use Rattle.sp_base.specs.Bytes.{begins_with_byte}
 use Rattle.htl_expr.specs.declared.node.ExprNode.{ExprNode}
 use Rattle.htl_expr.specs.declared.reader.Inside.{Inside}
-use Rattle.htl_expr.specs.Tokens.{Outcome, is_at, blanks_skipped}
+use Rattle.htl_expr.specs.Tokens.{Outcome, blanks_skipped}
 use Rattle.htl_expr.specs.Read.{chain, between, nesting, level, accesses, access, access_at}
 
-pub chain_more : (item : List ℕ → Outcome ExprNode) (c n i : ℕ) (found : List ExprNode) (t r : List ℕ) (x : ExprNode) (after : List ℕ) → i < n → is_at c t ≡ true → between c t ≡ Ok r → item r ≡ Ok (x, after)
+pub chain_more : (item : List ℕ → Outcome ExprNode) (c n i : ℕ) (found : List ExprNode) (t r : List ℕ) (x : ExprNode) (after : List ℕ) → i < n → begins_with_byte c t ≡ true → between c t ≡ Ok r → item r ≡ Ok (x, after)
     → chain item c (n - (i + 1)) (found ++ x ∷ []) after ≡ chain item c (n - i) found t
 unfolding chain
 chain_more item c n i found t r x after lt at op e =

@@ -1,10 +1,11 @@
 -- An expression of the grammar is what its text is read as.
 use Rattle.std.proofs.Common.{◌≡◌, ℕ, true, false, ◌||◌, eqb, List, [], ◌∷◌, ◌++◌, length, Option, Some, None, Ok, codes, refl, sym, rules}
+use Rattle.sp_base.specs.Bytes.{begins_with_byte}
 use Rattle.htl_expr.specs.declared.node.ExprNode.{ExprNode}
 use Rattle.htl_expr.specs.declared.expression.Context.{Context}
 use Rattle.htl_expr.specs.declared.expression.Context.TheVariants.{Text, Unsafe}
 use Rattle.htl_expr.specs.declared.expression.Expr.{Expr}
-use Rattle.htl_expr.specs.Tokens.{blanks_skipped, is_at, begins, expect, literal}
+use Rattle.htl_expr.specs.Tokens.{blanks_skipped, begins, expect, literal}
 use Rattle.htl_expr.specs.Read as spec
 use Rattle.htl_expr.specs.Grammar.{Byte, Literal, ContextString, context_text, Join, InContext, Options, Tree, WholeWithin, Reads, Choice}
 use Rattle.htl_expr.specs.Grammar as g
@@ -12,12 +13,12 @@ use Rattle.htl_expr.proofs.TokensAgain as again
 use Rattle.htl_expr.proofs.Complete.{complete, part_at, part_some, foreign_options, Stops}
 
 literal_again : (w r : List ℕ) → literal w (w ++ r) ≡ Ok r
-unfolding literal is_at
+unfolding literal begins_with_byte
 literal_again [] r = refl
 literal_again (c ∷ w) r = rw (again.eqb_same c) (literal_again w r)
 
 context_word_again : (c : Context) (t : List ℕ) → spec.context_word (context_text c ++ t) ≡ Ok (c, t)
-unfolding spec.context_word is_at
+unfolding spec.context_word begins_with_byte
 context_word_again Text t = rw (literal_again (codes "text") t) refl
 context_word_again Unsafe t = rw (literal_again (codes "unsafe") t) refl
 
@@ -37,12 +38,12 @@ unfolding spec.context_option
 in_context_again s c r x =
     rw (x.word.parts, literal_again (codes "context") x.word.after, sym x.word.rest, again.expect_again 61 x.after_literal x.after_sign x.sign) (context_string_again x.after_sign c r x.value)
 
-join_at : (s w r : List ℕ) → Join s w r → is_at 106 s ≡ true
-unfolding is_at
+join_at : (s w r : List ℕ) → Join s w r → begins_with_byte 106 s ≡ true
+unfolding begins_with_byte
 join_at s w r x = rw x.word.parts refl
 
-context_at : (s : List ℕ) (c : Context) (r : List ℕ) → InContext s c r → (is_at 106 s ≡ false) × (is_at 99 s ≡ true)
-unfolding is_at
+context_at : (s : List ℕ) (c : Context) (r : List ℕ) → InContext s c r → (begins_with_byte 106 s ≡ false) × (begins_with_byte 99 s ≡ true)
+unfolding begins_with_byte
 context_at s c r x = rw x.word.parts (refl, refl)
 
 option_join : (context : Option Context) (s w r : List ℕ) → Join s w r → spec.option (None, context) s ≡ Ok ((Some w, context), r)
@@ -58,7 +59,7 @@ unfolding spec.option
 option_second w s c r x = rw ((context_at s c r x).1, in_context_again s c r x) refl
 
 options_again : (s : List ℕ) (join : Option (List ℕ)) (context : Option Context) → Options s join context → spec.options s ≡ Ok ((join, context), [])
-unfolding spec.options is_at
+unfolding spec.options begins_with_byte
 options_again _ _ _ g.none = refl
 options_again s _ _ (g.join at j) = rw (again.at_here 64 s _ at, again.behind 64 s _ at, option_join None _ _ [] j) refl
 options_again s _ _ (g.context at c) = rw (again.at_here 64 s _ at, again.behind 64 s _ at, option_context _ _ [] c) refl
@@ -67,16 +68,16 @@ options_again s _ _ (g.join_context at j comma c) =
 options_again s _ _ (g.context_join at c comma j) =
     rw (again.at_here 64 s _ at, again.behind 64 s _ at, option_context _ _ _ c, again.at_here 44 _ _ comma, again.behind 44 _ _ comma) (option_join (Some _) _ _ [] j)
 
-nil_stops : Stops Choice [] × ((eqb (length {A = ℕ} []) 0 || is_at 64 []) ≡ true)
-unfolding is_at spec.access_at spec.compares
+nil_stops : Stops Choice [] × ((eqb (length {A = ℕ} []) 0 || begins_with_byte 64 []) ≡ true)
+unfolding begins_with_byte spec.access_at spec.compares
 nil_stops = ((refl, refl, refl, refl, refl), refl)
 
-at_stops : (s r : List ℕ) → Byte 64 s r → Stops Choice s × ((eqb (length s) 0 || is_at 64 s) ≡ true)
-unfolding is_at spec.access_at spec.compares
+at_stops : (s r : List ℕ) → Byte 64 s r → Stops Choice s × ((eqb (length s) 0 || begins_with_byte 64 s) ≡ true)
+unfolding begins_with_byte spec.access_at spec.compares
 at_stops s r b = rw b.parts ((refl, refl, refl, refl, refl), search rules)
 
 -- options or the end follow a tree
-options_stop : (s : List ℕ) (join : Option (List ℕ)) (context : Option Context) → Options s join context → Stops Choice s × ((eqb (length s) 0 || is_at 64 s) ≡ true)
+options_stop : (s : List ℕ) (join : Option (List ℕ)) (context : Option Context) → Options s join context → Stops Choice s × ((eqb (length s) 0 || begins_with_byte 64 s) ≡ true)
 options_stop _ _ _ g.none = nil_stops
 options_stop s _ _ (g.join at j) = at_stops s _ at
 options_stop s _ _ (g.context at c) = at_stops s _ at
@@ -84,7 +85,7 @@ options_stop s _ _ (g.join_context at j comma c) = at_stops s _ at
 options_stop s _ _ (g.context_join at c comma j) = at_stops s _ at
 
 module _ (levels : ℕ) where
-  first_tree : (s : List ℕ) (tree : Option ExprNode) (r : List ℕ) → Tree levels s tree r → Stops Choice r × ((eqb (length r) 0 || is_at 64 r) ≡ true) → spec.optional_choice levels s ≡ Ok (tree, r)
+  first_tree : (s : List ℕ) (tree : Option ExprNode) (r : List ℕ) → Tree levels s tree r → Stops Choice r × ((eqb (length r) 0 || begins_with_byte 64 r) ≡ true) → spec.optional_choice levels s ≡ Ok (tree, r)
   unfolding spec.optional_choice
   first_tree s None r e st = rw (sym e, st.1) refl
   first_tree s (Some e) r x st = rw (part_some Choice levels s e r x tt, part_at 64 Choice levels s e r foreign_options x tt, complete Choice levels s e r x st.0) refl

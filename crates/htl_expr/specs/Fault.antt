@@ -1,11 +1,12 @@
 -- What a text is read as, and the place where it leaves the grammar. `colon_letter`, `passes`, `takes_colon` and `fault_place` are needed by `expression_of` and private functions alone.
 use Rattle.std.specs.Prelude.{◌≡◌, ℕ, suc, ◌+◌, ◌-◌, ◌≤◌, Bool, true, false, nat_le, ◌&&◌, ◌||◌, ◌==◌, if◌then◌else◌, List, [], ◌∷◌, ◌++◌, length, take, drop, Result, Ok, Err}
+use Rattle.sp_base.specs.Bytes.{begins_with_byte}
 use Rattle.htl_expr.specs.declared.stop.ExprStop.{ExprStop}
 use Rattle.htl_expr.specs.declared.stop.ExprStop.TheVariants as stop
 use Rattle.htl_expr.specs.declared.expression.Expr.{Expr}
 use Rattle.htl_expr.specs.declared.expression.ExprFault.{ExprFault}
 use Rattle.htl_expr.specs.declared.expression.ExprFault.TheVariants.{NoMemory, Unexpected, TooDeep}
-use Rattle.htl_expr.specs.Tokens.{is_at, begins}
+use Rattle.htl_expr.specs.Tokens.{begins}
 use Rattle.htl_expr.specs.Read.{expression_read}
 use Rattle.htl_expr.specs.Grammar.{nesting_limit, WholeWithin}
 
@@ -26,7 +27,7 @@ takes_colon levels t = passes (expression_read levels (t ++ colon_letter))
 
 -- where a colon may belong to a field's name, the byte after it is the one that doesn't fit
 abbrev pub fault_place : ℕ → List ℕ → ℕ → ℕ
-fault_place levels t place = if is_at 58 (drop place t) && takes_colon levels (take place t) then place + 1 else place
+fault_place levels t place = if begins_with_byte 58 (drop place t) && takes_colon levels (take place t) then place + 1 else place
 
 -- the answer of the reading, with its place counted from the beginning of the text
 abbrev pub expression_answer : ℕ → List ℕ → Result Expr ExprStop → Result Expr ExprFault

@@ -1,5 +1,6 @@
 -- The grammar of an expression, line by line. A text is read from a token on, up to the next token (HTL specification 1.4, "Expression Language").
 use Rattle.std.specs.Prelude.{◌≡◌, ◌+◌, ◌*◌, ◌-◌, ℕ, ℤ, suc, Bool, true, false, List, [], ◌∷◌, ◌++◌, Option, Some, None, ◌==◌, codes}
+use Rattle.sp_base.specs.Bytes.{begins_with_byte}
 use Rattle.htl_expr.specs.declared.node.ExprNode.{ExprNode}
 use Rattle.htl_expr.specs.declared.node.ExprNode.TheVariants as n
 use Rattle.htl_expr.specs.declared.node.Comparison.{Comparison}
@@ -9,7 +10,7 @@ use Rattle.htl_expr.specs.declared.tokens.NameKind.TheVariants.{Name, Field}
 use Rattle.htl_expr.specs.declared.expression.Context.{Context}
 use Rattle.htl_expr.specs.declared.expression.Context.TheVariants.{Text, Unsafe}
 use Rattle.htl_expr.specs.declared.expression.Expr.{Expr}
-use Rattle.htl_expr.specs.Tokens.{blanks_skipped, is_at, begins, goes_on, is_expression_digit, is_first, is_quote, unescape, expression_digit_fits, limit, signed_value}
+use Rattle.htl_expr.specs.Tokens.{blanks_skipped, begins, goes_on, is_expression_digit, is_first, is_quote, unescape, expression_digit_fits, limit, signed_value}
 use Rattle.htl_expr.specs.Read.{access_of, and_of, or_of, word_node, object_of}
 
 -- ---- tokens, each with the blanks after it
@@ -30,7 +31,7 @@ pub record Operator (c d : ℕ) (s r : List ℕ) : Type 0 where
 pub record Bare (c : ℕ) (s r : List ℕ) : Type 0 where
   pub after : List ℕ
   pub parts : s ≡ c ∷ after
-  pub longest : is_at 61 after ≡ false
+  pub longest : begins_with_byte 61 after ≡ false
   pub rest : r ≡ blanks_skipped after
 
 -- each byte goes on with the name, where `after` stands after it

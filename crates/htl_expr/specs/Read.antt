@@ -1,6 +1,7 @@
 -- Reading an expression from left to right, with the first fault that is met.
 use Rattle.std.specs.Prelude.{ℕ, zero, suc, Bool, true, false, nat_eq, if◌then◌else◌, ◌==◌, ◌||◌, ◌&&◌, List, [], ◌∷◌, ◌++◌, length, drop, Option, Some, None, is_none, Result, Ok, Err, codes, slice_index}
 use Rattle.std.specs.Cmp.Lexicographic.{pointwise}
+use Rattle.sp_base.specs.Bytes.{begins_with_byte}
 use Rattle.htl_expr.specs.declared.stop.ExprStop.{ExprStop}
 use Rattle.htl_expr.specs.declared.stop.ExprStop.TheVariants.{Unexpected, TooDeep}
 use Rattle.htl_expr.specs.declared.node.ExprNode.{ExprNode}
@@ -13,7 +14,7 @@ use Rattle.htl_expr.specs.declared.expression.Expr.{Expr}
 use Rattle.htl_expr.specs.declared.tokens.NameKind.TheVariants.{Name, Field}
 use Rattle.htl_expr.specs.declared.reader.Inside.{Inside}
 use Rattle.htl_expr.specs.declared.reader.Inside.TheVariants.{Choice, Operand, Items}
-use Rattle.htl_expr.specs.Tokens.{Outcome, ◌>>=◌, blanks_skipped, is_at, begins, is_expression_digit, is_quote, read_name, expect, second, literal, string, signed_number}
+use Rattle.htl_expr.specs.Tokens.{Outcome, ◌>>=◌, blanks_skipped, begins, is_expression_digit, is_quote, read_name, expect, second, literal, string, signed_number}
 
 -- without accesses there is no node for them
 abbrev pub access_of : ExprNode → List (List ℕ) → ExprNode
@@ -46,18 +47,18 @@ object_of w = if is_text w (codes "properties") then Some n.Property else (if is
 
 -- a comparison begins with one of these bytes
 unfoldable pub compares : List ℕ → Bool
-compares t = is_at 61 t || (is_at 33 t || (is_at 60 t || is_at 62 t))
+compares t = begins_with_byte 61 t || (begins_with_byte 33 t || (begins_with_byte 60 t || begins_with_byte 62 t))
 
 -- `<` or `<=`, `>` or `>=`
 unfoldable pub or_equal : Comparison → Comparison → List ℕ → Comparison × List ℕ
-or_equal bare equal t = if is_at 61 (drop 1 t) then (equal, blanks_skipped (drop 1 (drop 1 t))) else (bare, blanks_skipped (drop 1 t))
+or_equal bare equal t = if begins_with_byte 61 (drop 1 t) then (equal, blanks_skipped (drop 1 (drop 1 t))) else (bare, blanks_skipped (drop 1 t))
 
 -- the comparison at the beginning
 unfoldable pub comparison : List ℕ → Outcome Comparison
 comparison t =
-    if is_at 61 t then (second 61 t >>= λ r. Ok (Equal, r))
-    else if is_at 33 t then (second 61 t >>= λ r. Ok (NotEqual, r))
-    else if is_at 60 t then Ok (or_equal Below AtMost t)
+    if begins_with_byte 61 t then (second 61 t >>= λ r. Ok (Equal, r))
+    else if begins_with_byte 33 t then (second 61 t >>= λ r. Ok (NotEqual, r))
+    else if begins_with_byte 60 t then Ok (or_equal Below AtMost t)
     else Ok (or_equal Above AtLeast t)
 
 -- ---- items after the first; each turn takes a byte, so the count of bytes is enough
@@ -69,14 +70,14 @@ between c t = if c == 44 then expect c t else second c t
 -- items and what stands between them, up to a byte that begins no separator
 unfoldable pub chain : (List ℕ → Outcome ExprNode) → ℕ → ℕ → List ExprNode → List ℕ → Outcome (List ExprNode)
 chain item c zero found t = Ok (found, t)
-chain item c (suc k) found t = if is_at c t then (do
+chain item c (suc k) found t = if begins_with_byte c t then (do
   r ← between c t
   x ← item r
   chain item c k (found ++ x.0 ∷ []) x.1) else Ok (found, t)
 
 -- an access begins with a dot or a bracket
 unfoldable pub access_at : List ℕ → Bool
-access_at t = is_at 46 t || is_at 91 t
+access_at t = begins_with_byte 46 t || begins_with_byte 91 t
 
 -- ---- the lines of the grammar, where `depth` more levels may nest
 
@@ -88,7 +89,7 @@ module _ (depth : ℕ) where
     Ok (s.0, r))
 
   unfoldable pub access : List ℕ → Outcome (List ℕ)
-  access t = if is_at 46 t then read_name Field (blanks_skipped (drop 1 t)) else bracket_access t
+  access t = if begins_with_byte 46 t then read_name Field (blanks_skipped (drop 1 t)) else bracket_access t
 
   unfoldable pub accesses : ℕ → List (List ℕ) → List ℕ → Outcome (List (List ℕ))
   accesses zero found t = Ok (found, t)
@@ -107,18 +108,18 @@ module _ (depth : ℕ) where
   unfoldable pub leaf : List ℕ → Outcome ExprNode
   leaf t =
       if begins is_quote t then (string t >>= λ x. Ok (n.Text x.0, x.1))
-      else if is_at 45 t || begins is_expression_digit t then (signed_number t >>= λ x. Ok (n.Long x.0, x.1))
+      else if begins_with_byte 45 t || begins is_expression_digit t then (signed_number t >>= λ x. Ok (n.Long x.0, x.1))
       else name_or_object t
 
   -- Inside, what nests is read; the text begins at the byte that nests it.
   module _ (inner : Inside → List ℕ → Outcome ExprNode) where
     unfoldable pub start : List ℕ → Outcome ExprNode
     start t =
-        if is_at 40 t then (do
+        if begins_with_byte 40 t then (do
           x ← inner Choice t
           r ← expect 41 x.1
           Ok (x.0, r))
-        else if is_at 91 t then (do
+        else if begins_with_byte 91 t then (do
           x ← inner Items t
           r ← expect 93 x.1
           Ok (x.0, r))
@@ -131,7 +132,7 @@ module _ (depth : ℕ) where
       Ok (access_of x.0 fs.0, fs.1)
 
     unfoldable pub operand : List ℕ → Outcome ExprNode
-    operand t = if is_at 33 t then (inner Operand t >>= λ x. Ok (n.Not x.0, x.1)) else atom t
+    operand t = if begins_with_byte 33 t then (inner Operand t >>= λ x. Ok (n.Not x.0, x.1)) else atom t
 
     unfoldable pub compare : List ℕ → Outcome ExprNode
     compare t = do
@@ -154,19 +155,19 @@ module _ (depth : ℕ) where
       Ok (or_of x.0 xs.0, xs.1)
 
     unfoldable pub other_choice : List ℕ → Outcome ExprNode
-    other_choice t = if is_at 58 t then inner Choice t else Err (Unexpected (length t))
+    other_choice t = if begins_with_byte 58 t then inner Choice t else Err (Unexpected (length t))
 
     unfoldable pub choice : List ℕ → Outcome ExprNode
     choice t = do
       c ← either t
-      if is_at 63 c.1 then (do
+      if begins_with_byte 63 c.1 then (do
         a ← inner Choice c.1
         b ← other_choice a.1
         Ok (n.Choice c.0 a.0 b.0, b.1)) else Ok c
 
     -- the items of a list, up to the bracket that closes it
     unfoldable pub items : List ℕ → Outcome ExprNode
-    items t = if is_at 93 t then Ok (n.List [], t) else (do
+    items t = if begins_with_byte 93 t then Ok (n.List [], t) else (do
       x ← choice t
       xs ← chain choice 44 (length x.1) (x.0 ∷ []) x.1
       Ok (n.List xs.0, xs.1))
@@ -189,7 +190,7 @@ Given = Option (List ℕ) × Option Context
 
 -- `text` or `unsafe`
 unfoldable pub context_word : List ℕ → Outcome Context
-context_word t = if is_at 116 t then (literal (codes "text") t >>= λ r. Ok (Text, r)) else (literal (codes "unsafe") t >>= λ r. Ok (Unsafe, r))
+context_word t = if begins_with_byte 116 t then (literal (codes "text") t >>= λ r. Ok (Text, r)) else (literal (codes "unsafe") t >>= λ r. Ok (Unsafe, r))
 
 -- `'text'` or `'unsafe'` with either mark
 unfoldable pub context_string : List ℕ → Outcome Context
@@ -209,19 +210,19 @@ context_option t = literal (codes "context") t >>= λ a. expect 61 (blanks_skipp
 -- an option that isn't given yet
 unfoldable pub option : Given → List ℕ → Outcome Given
 option given t =
-    if is_none given.0 && is_at 106 t then (join_option t >>= λ x. Ok ((Some x.0, given.1), x.1))
-    else if is_none given.1 && is_at 99 t then (context_option t >>= λ x. Ok ((given.0, Some x.0), x.1))
+    if is_none given.0 && begins_with_byte 106 t then (join_option t >>= λ x. Ok ((Some x.0, given.1), x.1))
+    else if is_none given.1 && begins_with_byte 99 t then (context_option t >>= λ x. Ok ((given.0, Some x.0), x.1))
     else Err (Unexpected (length t))
 
 -- each option once at most
 unfoldable pub options : List ℕ → Outcome Given
-options t = if is_at 64 t then (do
+options t = if begins_with_byte 64 t then (do
   o ← option (None, None) (blanks_skipped (drop 1 t))
-  if is_at 44 o.1 then option o.0 (blanks_skipped (drop 1 o.1)) else Ok o) else Ok ((None, None), t)
+  if begins_with_byte 44 o.1 then option o.0 (blanks_skipped (drop 1 o.1)) else Ok o) else Ok ((None, None), t)
 
 -- nothing, or a choice in which `levels` levels may nest
 unfoldable pub optional_choice : ℕ → List ℕ → Outcome (Option ExprNode)
-optional_choice levels t = if length t == 0 || is_at 64 t then Ok (None, t) else (choice levels (nesting levels) t >>= λ x. Ok (Some x.0, x.1))
+optional_choice levels t = if length t == 0 || begins_with_byte 64 t then Ok (None, t) else (choice levels (nesting levels) t >>= λ x. Ok (Some x.0, x.1))
 
 -- an expression of a tree and the options that are given
 abbrev pub expr_of : Option ExprNode → Given → Expr

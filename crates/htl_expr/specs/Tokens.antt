@@ -1,5 +1,6 @@
 -- The tokens at the beginning of a text. A token is read with the blanks after it (HTL specification 1.4, "Expression Language").
 use Rattle.std.specs.Prelude.{◌≡◌, ◌<◌, ℕ, ℤ, pos, neg_ℤ, suc, ◌+◌, ◌*◌, ◌-◌, Bool, true, false, ◌||◌, ◌&&◌, if◌then◌else◌, ◌==◌, nat_le, List, [], ◌∷◌, ◌++◌, length, take, drop, Option, Some, None, Result, Ok, Err, slice_index}
+use Rattle.sp_base.specs.Bytes.{begins_with_byte}
 use Rattle.htl_expr.specs.declared.stop.ExprStop.{ExprStop}
 use Rattle.htl_expr.specs.declared.stop.ExprStop.TheVariants.{Memory, Unexpected, TooDeep}
 use Rattle.htl_expr.specs.declared.tokens.NameKind.{NameKind}
@@ -34,11 +35,6 @@ is_blank c = c == 32 || (c == 9 || (c == 10 || c == 13))
 unfoldable pub blanks_skipped : List ℕ → List ℕ
 blanks_skipped [] = []
 blanks_skipped (c ∷ t) = if is_blank c then blanks_skipped t else c ∷ t
-
--- whether the text begins with this byte
-unfoldable pub is_at : ℕ → List ℕ → Bool
-is_at c [] = false
-is_at c (d ∷ t) = d == c
 
 -- digits and letters are those of ASCII
 abbrev pub is_expression_digit : ℕ → Bool
@@ -90,7 +86,7 @@ read_name kind t = if begins is_first t then Ok (run kind t) else Err (Unexpecte
 
 -- one byte
 unfoldable pub expect : ℕ → List ℕ → Result (List ℕ) ExprStop
-expect c t = if is_at c t then Ok (blanks_skipped (drop 1 t)) else Err (Unexpected (length t))
+expect c t = if begins_with_byte c t then Ok (blanks_skipped (drop 1 t)) else Err (Unexpected (length t))
 
 -- an operator of two bytes, of which the first is there
 unfoldable pub second : ℕ → List ℕ → Result (List ℕ) ExprStop
@@ -99,7 +95,7 @@ second c t = expect c (drop 1 t)
 -- a word byte by byte
 unfoldable pub literal : List ℕ → List ℕ → Result (List ℕ) ExprStop
 literal [] t = Ok t
-literal (c ∷ w) t = if is_at c t then literal w (drop 1 t) else Err (Unexpected (length t))
+literal (c ∷ w) t = if begins_with_byte c t then literal w (drop 1 t) else Err (Unexpected (length t))
 
 -- each byte is a character of its own
 abbrev pub AreAscii : List ℕ → Type 0
@@ -181,4 +177,4 @@ digits negative t = if begins is_expression_digit t then (let x = expression_dig
 
 -- digits with a minus or without one
 unfoldable pub signed_number : List ℕ → Outcome ℤ
-signed_number t = if is_at 45 t then digits true (drop 1 t) else digits false t
+signed_number t = if begins_with_byte 45 t then digits true (drop 1 t) else digits false t

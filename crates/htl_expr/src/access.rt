@@ -1,13 +1,14 @@
 //! Accesses: `.name` and `["name"]`.
 
 ghost use Rattle.std.specs.Prelude.{◌≡◌, [], length, IfOk, Ok, true, false};
+ghost use Rattle.sp_base.specs.Bytes.{begins_with_byte};
 ghost use Rattle.htl_expr.specs.Read as spec;
 ghost use Rattle.htl_expr.specs.Tokens as tokens;
 ghost use Rattle.htl_expr.specs.Tokens.{Gives};
 
 use crate::node::ExprNode;
 use crate::stop::ExprStop;
-use crate::tokens::{NameKind, behind, expect, is_at, name, string};
+use crate::tokens::{NameKind, begins_with_byte, behind, expect, name, string};
 use sp_base::{TextBuf, TextList};
 use sqlite_items::Boxed;
 use std::alloc::{AllocError, Global};
@@ -25,12 +26,12 @@ pub fn access_of(alloc: Global, e: ExprNode, fields: TextList) -> Result<ExprNod
 fn access_at(text: &str) -> bool
     ensures { result ≡ spec.access_at text.now }
 {
-    is_at(b'.', text) || is_at(b'[', text)
+    begins_with_byte(b'.', text) || begins_with_byte(b'[', text)
 }
 
 #[tactic(auto, unfolding(crate::specs::Read::bracket_access))]
 fn bracket_access(alloc: Global, depth: u32, text: &str) -> Result<(TextBuf, &str), ExprStop>
-    requires { tokens.is_at 91 text.now ≡ true }
+    requires { begins_with_byte 91 text.now ≡ true }
     ensures { Gives (λ x. (x.0, x.1.now)) result (spec.bracket_access depth text.now) }
 {
     if depth == 0 {
@@ -46,7 +47,7 @@ fn access(alloc: Global, depth: u32, text: &str) -> Result<(TextBuf, &str), Expr
     requires { spec.access_at text.now ≡ true }
     ensures { Gives (λ x. (x.0, x.1.now)) result (spec.access depth text.now) }
 {
-    if is_at(b'.', text) {
+    if begins_with_byte(b'.', text) {
         name(alloc, NameKind::Field, behind(b'.', text))
     } else {
         bracket_access(alloc, depth, text)

@@ -1,7 +1,7 @@
 //! A whole expression.
 
 ghost use Rattle.std.specs.Prelude.{◌≡◌, ◌≢◌, ◌≤◌, IfOk, IfErr, Ok, Err, take, drop, length};
-ghost use Rattle.htl_expr.specs.Tokens.{Gives, is_at};
+ghost use Rattle.htl_expr.specs.Tokens.{Gives};
 ghost use Rattle.htl_expr.specs.Read as spec;
 ghost use Rattle.htl_expr.specs.Grammar.{nesting_limit, Whole};
 ghost use Rattle.htl_expr.specs.declared.expression.Expr.{Expr};
@@ -12,7 +12,7 @@ use crate::options::{Options, read_options};
 use crate::reader::first;
 use crate::stop::ExprStop;
 use crate::tokens::skip;
-use sp_base::{Mem, NoMemory, TextBuf};
+use sp_base::{Mem, NoMemory, TextBuf, begins_with_byte};
 use std::alloc::Global;
 
 /// Why a text is no expression. A place is counted in bytes from 0.
@@ -38,16 +38,6 @@ pub struct Expr {
     pub(crate) node: Option<ExprNode>,
     pub(crate) join: Option<TextBuf>,
     pub(crate) context: Option<Context>,
-}
-
-#[tactic(auto, unfolding(crate::specs::Tokens::is_at))]
-fn colon_at(text: &[u8]) -> bool
-    ensures { result ≡ is_at 58 text.now }
-{
-    match text {
-        [] => false,
-        [c, ..] => *c == b':',
-    }
 }
 
 #[tactic(auto, unfolding(crate::specs::Read::expression_read))]
@@ -86,7 +76,7 @@ fn place_of(alloc: Global, text: &str, place: usize) -> Mem<usize>
     requires { place ≤ length text.now }
     ensures { IfOk result (λ p. p ≡ fault_place nesting_limit text.now place) }
 {
-    if !colon_at(&text.as_bytes()[place..]) {
+    if !begins_with_byte(b':', &text.as_bytes()[place..]) {
         return Ok(place);
     }
     let (front, _rest) = text.split_at(place);

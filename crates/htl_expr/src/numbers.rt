@@ -5,7 +5,7 @@ ghost use Rattle.htl_expr.specs.Tokens as spec;
 ghost use Rattle.htl_expr.specs.Tokens.{Gives};
 
 use crate::stop::ExprStop;
-use crate::tokens::{digit_at, is_at, is_digit, skip, tail};
+use crate::tokens::{begins_with_byte, digit_at, is_digit, skip, tail};
 
 #[tactic(auto, unfolding(crate::specs::Tokens::expression_digit_fits))]
 fn next(limit: u64, magnitude: u64, text: &[u8]) -> Option<u64>
@@ -76,7 +76,7 @@ fn digits(is_negative: bool, text: &str) -> Result<(i64, &str), ExprStop>
 pub fn number(text: &str) -> Result<(i64, &str), ExprStop>
     ensures { Gives (λ x. (x.0, x.1.now)) result (spec.signed_number text.now) }
 {
-    if is_at(b'-', text) {
+    if begins_with_byte(b'-', text) {
         digits(true, tail(text))
     } else {
         digits(false, text)

@@ -7,7 +7,7 @@ ghost use Rattle.htl_expr.specs.Tokens.{Gives};
 
 use crate::expression::Context;
 use crate::stop::ExprStop;
-use crate::tokens::{behind, expect, is_at, is_quote, literal, skip, string, tail};
+use crate::tokens::{begins_with_byte, behind, expect, is_quote, literal, skip, string, tail};
 use sp_base::TextBuf;
 use std::alloc::Global;
 
@@ -22,7 +22,7 @@ pub struct Options {
 fn context_word(text: &str) -> Result<(Context, &str), ExprStop>
     ensures { Gives (λ x. (x.0, x.1.now)) result (spec.context_word text.now) }
 {
-    if is_at(b't', text) {
+    if begins_with_byte(b't', text) {
         let rest = literal(b"text", text)?;
         Ok((Context::Text, rest))
     } else {
@@ -77,11 +77,11 @@ fn read_option<'a>(
     ensures { Gives (λ x. ((x.0.join, x.0.context), x.1.now)) result (spec.option (given.join, given.context) text.now) }
 {
     let Options { join, context } = given;
-    if join.is_none() && is_at(b'j', text) {
+    if join.is_none() && begins_with_byte(b'j', text) {
         let (word, rest) = join_option(alloc, text)?;
         let join = Some(word);
         Ok((Options { join, context }, rest))
-    } else if context.is_none() && is_at(b'c', text) {
+    } else if context.is_none() && begins_with_byte(b'c', text) {
         let (word, rest) = context_option(text)?;
         let context = Some(word);
         Ok((Options { join, context }, rest))
@@ -99,11 +99,11 @@ pub fn read_options(alloc: Global, text: &str) -> Result<(Options, &str), ExprSt
         join: None,
         context: None,
     };
-    if !is_at(b'@', text) {
+    if !begins_with_byte(b'@', text) {
         return Ok((none, text));
     }
     let (given, rest) = read_option(alloc, none, behind(b'@', text))?;
-    if is_at(b',', rest) {
+    if begins_with_byte(b',', rest) {
         read_option(alloc, given, behind(b',', rest))
     } else {
         Ok((given, rest))

@@ -11,7 +11,7 @@ use crate::node::{Comparison, ExprNode};
 use crate::numbers::number;
 use crate::stop::ExprStop;
 use crate::tokens::{
-    NameKind, behind, digit_at, expect, is_at, name, quote_at, second, skip, string, tail,
+    NameKind, begins_with_byte, behind, digit_at, expect, name, quote_at, second, skip, string, tail,
 };
 use sp_base::TextBuf;
 use sqlite_items::{Boxed, Items as NodeList};
@@ -59,7 +59,7 @@ fn word_of(word: TextBuf) -> ExprNode
 fn compares(text: &str) -> bool
     ensures { result ≡ spec.compares text.now }
 {
-    is_at(b'=', text) || (is_at(b'!', text) || (is_at(b'<', text) || is_at(b'>', text)))
+    begins_with_byte(b'=', text) || (begins_with_byte(b'!', text) || (begins_with_byte(b'<', text) || begins_with_byte(b'>', text)))
 }
 
 /// `<` or `<=`, `>` or `>=`.
@@ -69,7 +69,7 @@ fn or_equal(bare: Comparison, equal: Comparison, text: &str) -> (Comparison, &st
     ensures { (result.0, result.1.now) ≡ spec.or_equal bare equal text.now }
 {
     let rest = tail(text);
-    if is_at(b'=', rest) {
+    if begins_with_byte(b'=', rest) {
         (equal, behind(b'=', rest))
     } else {
         (bare, skip(rest))
@@ -81,13 +81,13 @@ fn comparison(text: &str) -> Result<(Comparison, &str), ExprStop>
     requires { spec.compares text.now ≡ true }
     ensures { Gives (λ x. (x.0, x.1.now)) result (spec.comparison text.now) }
 {
-    if is_at(b'=', text) {
+    if begins_with_byte(b'=', text) {
         let rest = second(b'=', text)?;
         Ok((Comparison::Equal, rest))
-    } else if is_at(b'!', text) {
+    } else if begins_with_byte(b'!', text) {
         let rest = second(b'=', text)?;
         Ok((Comparison::NotEqual, rest))
-    } else if is_at(b'<', text) {
+    } else if begins_with_byte(b'<', text) {
         Ok(or_equal(Comparison::Below, Comparison::AtMost, text))
     } else {
         Ok(or_equal(Comparison::Above, Comparison::AtLeast, text))
@@ -118,7 +118,7 @@ fn leaf(alloc: Global, depth: u32, text: &str) -> Result<(ExprNode, &str), ExprS
     if quote_at(text) {
         let (s, rest) = string(alloc, text)?;
         Ok((ExprNode::Text(s), rest))
-    } else if is_at(b'-', text) || digit_at(text) {
+    } else if begins_with_byte(b'-', text) || digit_at(text) {
         let (n, rest) = number(text)?;
         Ok((ExprNode::Long(n), rest))
     } else {
@@ -154,11 +154,11 @@ fn nesting(
 fn start(alloc: Global, depth: u32, text: &str) -> Result<(ExprNode, &str), ExprStop>
     ensures { Gives (λ x. (x.0, x.1.now)) result (spec.start depth (spec.nesting depth) text.now) }
 {
-    if is_at(b'(', text) {
+    if begins_with_byte(b'(', text) {
         let (e, rest) = nesting(alloc, depth, Inside::Choice, text)?;
         let rest = expect(b')', rest)?;
         Ok((e, rest))
-    } else if is_at(b'[', text) {
+    } else if begins_with_byte(b'[', text) {
         let (e, rest) = nesting(alloc, depth, Inside::Items, text)?;
         let rest = expect(b']', rest)?;
         Ok((e, rest))
@@ -182,7 +182,7 @@ fn atom(alloc: Global, depth: u32, text: &str) -> Result<(ExprNode, &str), ExprS
 fn operand(alloc: Global, depth: u32, text: &str) -> Result<(ExprNode, &str), ExprStop>
     ensures { Gives (λ x. (x.0, x.1.now)) result (spec.operand depth (spec.nesting depth) text.now) }
 {
-    if is_at(b'!', text) {
+    if begins_with_byte(b'!', text) {
         let (e, rest) = nesting(alloc, depth, Inside::Operand, text)?;
         return Ok((ExprNode::Not(Boxed::new(alloc, e)?), rest));
     }
@@ -219,7 +219,7 @@ fn more_compares(
     let mut found = NodeList::new(alloc);
     let mut rest = text;
     for _turn in 0..text.len() {
-        if !is_at(b'&', rest) {
+        if !begins_with_byte(b'&', rest) {
             return Ok((found, rest));
         }
         let after = second(b'&', rest)?;
@@ -249,7 +249,7 @@ fn more_boths(alloc: Global, depth: u32, text: &str) -> Result<(NodeList<ExprNod
     let mut found = NodeList::new(alloc);
     let mut rest = text;
     for _turn in 0..text.len() {
-        if !is_at(b'|', rest) {
+        if !begins_with_byte(b'|', rest) {
             return Ok((found, rest));
         }
         let after = second(b'|', rest)?;
@@ -275,7 +275,7 @@ fn either(alloc: Global, depth: u32, text: &str) -> Result<(ExprNode, &str), Exp
 fn other_choice(alloc: Global, depth: u32, text: &str) -> Result<(ExprNode, &str), ExprStop>
     ensures { Gives (λ x. (x.0, x.1.now)) result (spec.other_choice depth (spec.nesting depth) text.now) }
 {
-    if is_at(b':', text) {
+    if begins_with_byte(b':', text) {
         nesting(alloc, depth, Inside::Choice, text)
     } else {
         Err(ExprStop::Unexpected(text.len()))
@@ -288,7 +288,7 @@ fn choice(alloc: Global, depth: u32, text: &str) -> Result<(ExprNode, &str), Exp
     ensures { Gives (λ x. (x.0, x.1.now)) result (spec.choice depth (spec.nesting depth) text.now) }
 {
     let (c, rest) = either(alloc, depth, text)?;
-    if !is_at(b'?', rest) {
+    if !begins_with_byte(b'?', rest) {
         return Ok((c, rest));
     }
     let (a, rest) = nesting(alloc, depth, Inside::Choice, rest)?;
@@ -318,7 +318,7 @@ fn more_items(
     found.push(first)?;
     let mut rest = text;
     for _turn in 0..text.len() {
-        if !is_at(b',', rest) {
+        if !begins_with_byte(b',', rest) {
             return Ok((found, rest));
         }
         let after = expect(b',', rest)?;
@@ -335,7 +335,7 @@ fn more_items(
 fn items(alloc: Global, depth: u32, text: &str) -> Result<(ExprNode, &str), ExprStop>
     ensures { Gives (λ x. (x.0, x.1.now)) result (spec.items depth (spec.nesting depth) text.now) }
 {
-    if is_at(b']', text) {
+    if begins_with_byte(b']', text) {
         return Ok((ExprNode::List(NodeList::new(alloc)), text));
     }
     let (first, rest) = choice(alloc, depth, text)?;
@@ -351,7 +351,7 @@ const NESTING_LIMIT: u32 = 32;
 pub fn first(alloc: Global, text: &str) -> Result<(Option<ExprNode>, &str), ExprStop>
     ensures { Gives (λ x. (x.0, x.1.now)) result (spec.optional_choice nesting_limit text.now) }
 {
-    if text.is_empty() || is_at(b'@', text) {
+    if text.is_empty() || begins_with_byte(b'@', text) {
         return Ok((None, text));
     }
     let (e, rest) = choice(alloc, NESTING_LIMIT, text)?;

@@ -2,6 +2,7 @@
 
 ghost use Rattle.std.specs.Prelude.{◌≡◌, ◌≤◌, ◌<◌, ◌++◌, ℕ, List, length, drop, take, slice_index, IfOk, Ok, true, false, MatchOption};
 ghost use Rattle.std.specs.Str.{IsCharBoundary};
+ghost use Rattle.sp_base.specs.Bytes.{begins_with_byte};
 ghost use Rattle.htl_expr.specs.Tokens as spec;
 ghost use Rattle.htl_expr.specs.Tokens.{Gives, AreAscii};
 
@@ -123,14 +124,10 @@ pub fn quote_at(text: &str) -> bool
     }
 }
 
-#[tactic(auto, unfolding(crate::specs::Tokens::is_at))]
-pub fn is_at(c: u8, text: &str) -> bool
-    ensures { result ≡ spec.is_at c text.now }
+pub fn begins_with_byte(c: u8, text: &str) -> bool
+    ensures { result ≡ begins_with_byte c text.now }
 {
-    match text.as_bytes() {
-        [] => false,
-        [d, ..] => *d == c,
-    }
+    sp_base::begins_with_byte(c, text.as_bytes())
 }
 
 #[tactic(auto, using(crate::proofs::Scan::blank_front, crate::proofs::Scan::blank_more, crate::proofs::Scan::blank_less, crate::proofs::Scan::blank_none))]
@@ -147,7 +144,7 @@ pub fn skip(text: &str) -> &str
 /// What stands after a byte that is there.
 pub fn behind(c: u8, text: &str) -> &str
     requires ascii { c < 128 }
-    requires there { spec.is_at c text.now ≡ true }
+    requires there { begins_with_byte c text.now ≡ true }
     ensures { result.now ≡ spec.blanks_skipped (drop 1 text.now) }
 {
     skip(tail(text))
@@ -158,7 +155,7 @@ pub fn expect(c: u8, text: &str) -> Result<&str, ExprStop>
     requires { c < 128 }
     ensures { Gives (λ r. r.now) result (spec.expect c text.now) }
 {
-    if is_at(c, text) {
+    if begins_with_byte(c, text) {
         Ok(behind(c, text))
     } else {
         Err(ExprStop::Unexpected(text.len()))
@@ -183,7 +180,7 @@ pub fn literal<'a>(word: &[u8], text: &'a str) -> Result<&'a str, ExprStop>
     let mut rest = text;
     let mut left = word;
     while let [c, later @ ..] = left {
-        if !is_at(*c, rest) {
+        if !begins_with_byte(*c, rest) {
             return Err(ExprStop::Unexpected(rest.len()));
         }
         rest = tail(rest);
@@ -290,10 +287,10 @@ fn string_from(alloc: Global, mark: u8, text: &str) -> Result<(TextBuf, &str), E
     loop {
         let (plain, after) = rest.split_at(plain_len(mark, rest.as_bytes()));
         found.push_str(plain)?;
-        if is_at(mark, after) {
+        if begins_with_byte(mark, after) {
             return Ok((TextBuf::from(found), behind(mark, after)));
         }
-        if !is_at(b'\\', after) {
+        if !begins_with_byte(b'\\', after) {
             return Err(ExprStop::Unexpected(after.len()));
         }
         let (c, later) = escape(tail(after))?;

@@ -1,8 +1,9 @@
 -- The search of "${" by its first byte.
 use Rattle.std.proofs.Common.{◌≡◌, ◌<◌, ◌≤◌, ◌+◌, ◌-◌, ℕ, zero, suc, Bool, true, false, cond, ◌||◌, ◌&&◌, eqb, List, [], ◌∷◌, drop, length, refl, ap, sym, ◌∙◌, arith}
 use Rattle.std.proofs.lemmas.List.{length-drop}
+use Rattle.sp_base.specs.Bytes.{begins_with_byte}
 use Rattle.memchr.specs.Find.{Nowhere, NoneBefore, Passes, is_byte}
-use Rattle.htl_text.specs.Template.{begins_with_byte, opens_expression, escapes, opening_len, plain_len}
+use Rattle.htl_text.specs.Template.{opens_expression, escapes, opening_len, plain_len}
 
 -- no text begins with "${" where its first byte is another
 not_dollar : (c : ℕ) (t : List ℕ) → (eqb c 36 ≡ true → ⊥) → opens_expression (c ∷ t) ≡ false

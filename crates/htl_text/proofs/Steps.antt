@@ -3,12 +3,13 @@ use Rattle.std.proofs.Common.{◌≡◌, ◌<◌, ◌≤◌, ◌+◌, ◌-◌, �
 use Rattle.std.specs.Str.{IsCharBoundary}
 use Rattle.std.proofs.lemmas.Bool.Decides.{nat_tests}
 use Rattle.std.proofs.lemmas.List.{append-nil, length-drop}
+use Rattle.sp_base.specs.Bytes.{begins_with_byte}
 use Rattle.htl_text.specs.declared.fault.TextFault.{TextFault}
 use Rattle.htl_text.specs.declared.piece.TemplatePiece.{TemplatePiece}
 use Rattle.htl_text.specs.declared.piece.TemplatePiece.TheVariants.{Plain, Value}
 use Rattle.htl_text.specs.declared.quotes.Quotes.{Quotes}
 use Rattle.htl_text.specs.declared.quotes.Quotes.TheVariants.{Outside, Inside, Escaped}
-use Rattle.htl_text.specs.Template.{begins_with_byte, opens_expression, escapes, quotes_step, closes_expression, closing, pieces_after_plain, with_plain, template_pieces, plain_len}
+use Rattle.htl_text.specs.Template.{opens_expression, escapes, quotes_step, closes_expression, closing, pieces_after_plain, with_plain, template_pieces, plain_len}
 
 written_nil : (r : Result (List TemplatePiece) TextFault) → with_plain [] r ≡ r
 written_nil (Ok ps) = refl

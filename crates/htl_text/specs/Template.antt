@@ -3,6 +3,7 @@
 -- have `Inside` of Spelling.antt.
 use Rattle.std.specs.Prelude.{ℕ, zero, suc, ◌+◌, ◌-◌, Bool, false, ◌||◌, ◌&&◌, ◌==◌, if◌then◌else◌, List, [], ◌∷◌, ◌++◌, length, take, drop, codes, Option, Some, None, Result, Ok, Err}
 use Rattle.std.specs.List.{flat_map}
+use Rattle.sp_base.specs.Bytes.{begins_with_byte}
 use Rattle.htl_expr.specs.declared.expression.Expr.{Expr}
 use Rattle.htl_expr.specs.declared.expression.ExprFault.{ExprFault}
 use Rattle.htl_expr.specs.declared.scope.Scope.{Scope}
@@ -14,11 +15,6 @@ use Rattle.htl_text.specs.declared.piece.TemplatePiece.{TemplatePiece}
 use Rattle.htl_text.specs.declared.piece.TemplatePiece.TheVariants.{Plain, Value}
 use Rattle.htl_text.specs.declared.quotes.Quotes.{Quotes}
 use Rattle.htl_text.specs.declared.quotes.Quotes.TheVariants.{Outside, Inside, Escaped}
-
--- whether a text begins with this byte
-unfoldable pub begins_with_byte : ℕ → List ℕ → Bool
-begins_with_byte c [] = false
-begins_with_byte c (d ∷ t) = d == c
 
 -- whether a text begins with "${", which opens an expression
 unfoldable pub opens_expression : List ℕ → Bool
@@ -114,10 +110,6 @@ plain_pieces t = pieces_after_plain t []
 abbrev pub piece_text : Scope → TemplatePiece → List ℕ
 piece_text scope (Plain t) = t
 piece_text scope (Value e) = print scope e
-
--- how many bytes a template may write
-abbrev pub most_template_bytes : ℕ
-most_template_bytes = 4194304
 
 -- the text of a template: what its pieces write, one after another
 abbrev pub template_output : Scope → List TemplatePiece → List ℕ

@@ -12,5 +12,4 @@ mod template;
 pub use fault::{RenderFault, TextFault};
 pub use laws::the_pieces_are_the_text;
 pub use piece::TemplatePiece;
-pub use render::MOST_RENDERED_BYTES;
 pub use template::Template;

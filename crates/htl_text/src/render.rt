@@ -1,22 +1,20 @@
 //! The text that a template writes.
 
 ghost use Rattle.std.specs.Prelude.{◌≡◌, ◌≢◌, ◌<◌, ◌≤◌, ◌++◌, IfOk, IfErr, OnOk, string_bytes, length};
+ghost use Rattle.sp_base.specs.Limits.{most_rendered_bytes};
 ghost use Rattle.htl_text.specs.Template as spec;
 
 use crate::fault::RenderFault;
 use crate::piece::TemplatePiece;
 use crate::template::Template;
 use htl_expr::{Evaluation, Scope, WriteFault};
-use sp_base::TextBuf;
+use sp_base::{MOST_RENDERED_BYTES, TextBuf};
 use std::alloc::Global;
 
-/// The most bytes that are rendered: of what a template writes, and of a representation.
-pub const MOST_RENDERED_BYTES: usize = 4_194_304;
-
 fn push_plain(text: &mut String, plain: &str) -> Result<(), RenderFault>
-    requires { length (string_bytes text.old) ≤ spec.most_template_bytes }
-    ensures ok { OnOk result ((string_bytes text.new ≡ string_bytes text.old ++ plain.now) × (length (string_bytes text.new) ≤ spec.most_template_bytes)) }
-    ensures err { IfErr result (λ f. f ≢ RenderFault.NoMemory → (f ≡ RenderFault.TooLong) × (spec.most_template_bytes < length (string_bytes text.old ++ plain.now))) }
+    requires { length (string_bytes text.old) ≤ most_rendered_bytes }
+    ensures ok { OnOk result ((string_bytes text.new ≡ string_bytes text.old ++ plain.now) × (length (string_bytes text.new) ≤ most_rendered_bytes)) }
+    ensures err { IfErr result (λ f. f ≢ RenderFault.NoMemory → (f ≡ RenderFault.TooLong) × (most_rendered_bytes < length (string_bytes text.old ++ plain.now))) }
 {
     if plain.len() > MOST_RENDERED_BYTES - text.as_str().len() {
         return Err(RenderFault::TooLong);
@@ -32,9 +30,9 @@ fn push_piece<'a>(
     scope: &mut Evaluation<'a>,
     piece: &'a TemplatePiece,
 ) -> Result<(), RenderFault>
-    requires { length (string_bytes text.old) ≤ spec.most_template_bytes }
-    ensures ok { OnOk result ((string_bytes text.new ≡ string_bytes text.old ++ spec.piece_text scope.old piece.now) × (length (string_bytes text.new) ≤ spec.most_template_bytes)) }
-    ensures err { IfErr result (λ f. f ≢ RenderFault.NoMemory → (f ≡ RenderFault.TooLong) × (spec.most_template_bytes < length (string_bytes text.old ++ spec.piece_text scope.old piece.now))) }
+    requires { length (string_bytes text.old) ≤ most_rendered_bytes }
+    ensures ok { OnOk result ((string_bytes text.new ≡ string_bytes text.old ++ spec.piece_text scope.old piece.now) × (length (string_bytes text.new) ≤ most_rendered_bytes)) }
+    ensures err { IfErr result (λ f. f ≢ RenderFault.NoMemory → (f ≡ RenderFault.TooLong) × (most_rendered_bytes < length (string_bytes text.old ++ spec.piece_text scope.old piece.now))) }
     ensures scope { scope.new ≡ scope.old }
 {
     match piece {
@@ -55,8 +53,8 @@ fn push_piece<'a>(
 impl Template {
     /// The text that the template writes for a resource, where it has at most 4,194,304 bytes.
     pub fn render<'a>(&'a self, alloc: Global, scope: &Scope<'a>) -> Result<TextBuf, RenderFault>
-        ensures ok { IfOk result (λ text. (text ≡ spec.template_output scope.now self.now) × (length text ≤ spec.most_template_bytes)) }
-        ensures err { IfErr result (λ f. f ≢ RenderFault.NoMemory → (f ≡ RenderFault.TooLong) × (spec.most_template_bytes < length (spec.template_output scope.now self.now))) }
+        ensures ok { IfOk result (λ text. (text ≡ spec.template_output scope.now self.now) × (length text ≤ most_rendered_bytes)) }
+        ensures err { IfErr result (λ f. f ≢ RenderFault.NoMemory → (f ≡ RenderFault.TooLong) × (most_rendered_bytes < length (spec.template_output scope.now self.now))) }
     {
         let mut text = String::new(alloc);
         let mut evaluation = Evaluation::of(alloc, scope);

@@ -4,18 +4,8 @@ ghost use Rattle.std.specs.Prelude.{◌≡◌, ◌<◌, ◌≤◌, ◌||◌, ◌
 ghost use Rattle.htl_text.specs.Template as spec;
 
 use memchr::memchr;
-use sp_base::{Mem, TextBuf};
+use sp_base::{Mem, TextBuf, begins_with_byte};
 use std::alloc::Global;
-
-#[tactic(auto, unfolding(crate::specs::Template::begins_with_byte))]
-fn is_at(c: u8, text: &[u8]) -> bool
-    ensures { result ≡ spec.begins_with_byte c text.now }
-{
-    match text {
-        [] => false,
-        [d, ..] => *d == c,
-    }
-}
 
 /// Whether the text begins with `${`.
 #[tactic(auto, unfolding(crate::specs::Template::opens_expression))]
@@ -24,7 +14,7 @@ fn opens(text: &[u8]) -> bool
 {
     match text {
         [] => false,
-        [c, rest @ ..] => *c == b'$' && is_at(b'{', rest),
+        [c, rest @ ..] => *c == b'$' && begins_with_byte(b'{', rest),
     }
 }
 

@@ -1,6 +1,5 @@
 pub mod PlainPaths
 pub mod TargetLemmas
-pub mod LocationLemmas
 pub mod FieldLemmas
 pub mod HostLemmas
 pub mod HeadLemmas

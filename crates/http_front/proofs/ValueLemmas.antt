@@ -7,12 +7,14 @@ use Rattle.std.proofs.lemmas.Bool.Decides.{nat_tests}
 use Rattle.std.proofs.lemmas.Fmt.{decimal_is_IsNumeral}
 use Rattle.std.proofs.lemmas.List.Elements.{All-nil, All-cons, All-append, All-weaker}
 use Rattle.std.proofs.lemmas.Str.Parse.{tells_digits}
+use Rattle.location_field.specs.Location.{location_of}
+use Rattle.sp_base.specs.Bytes.{is_printable_ascii, is_visible_ascii}
 use Rattle.percent_encoding.specs.Percent.{percent_encode_byte}
 use Rattle.percent_encoding.proofs.PercentLemmas.{IsEscapeByte, All-percent_encode_byte}
 use Rattle.sp_base.specs.declared.answer.Answer.{Answer}
 use Rattle.sp_base.specs.declared.answer.Mark.{Mark}
 use Rattle.sp_base.specs.declared.answer.Mark.TheVariants.{Plain, NoCache, NoStore, MustRevalidate}
-use Rattle.http_front.specs.Answers.{is_printable, is_visible, plain_value, location_of, unless_empty, allowed_methods, directive_of, is_without_content, content_length, connection}
+use Rattle.http_front.specs.Answers.{plain_value, unless_empty, allowed_methods, directive_of, is_without_content, content_length, connection}
 use Rattle.http_front.specs.FieldValues.{IsPrintable, IsVisible, StaysInItsLine, ValuesStayInTheirLines}
 
 and_first : (a b : Bool) → (a && b) ≡ true → a ≡ true
@@ -23,21 +25,21 @@ and_second : (a b : Bool) → (a && b) ≡ true → b ≡ true
 and_second true b h = h
 and_second false b h = absurd (cc)
 
-tested : (b : ℕ) → is_printable b ≡ true → IsPrintable b
+tested : (b : ℕ) → is_printable_ascii b ≡ true → IsPrintable b
 tested b h = (grind (arith, nat_tests), grind (arith, nat_tests))
 
-all_tested : (text : List ℕ) → list_all is_printable text ≡ true → All IsPrintable text
+all_tested : (text : List ℕ) → list_all is_printable_ascii text ≡ true → All IsPrintable text
 all_tested [] h = All-nil IsPrintable
 all_tested (b ∷ text) h = All-cons IsPrintable b text (tested b (and_first _ _ h)) (all_tested text (and_second _ _ h))
 
-plain_byte : (b : ℕ) → IsPrintable (if is_printable b then b else 32)
+plain_byte : (b : ℕ) → IsPrintable (if is_printable_ascii b then b else 32)
 plain_byte b =
-    elim (is_printable b) as (λ t. is_printable b ≡ t → IsPrintable (cond t b 32)) [
+    elim (is_printable_ascii b) as (λ t. is_printable_ascii b ≡ t → IsPrintable (cond t b 32)) [
       | true ↦ λ e. tested b e
       | false ↦ λ e. (omega arith, omega arith)
     ] refl
 
-plain_all : (text : List ℕ) → All IsPrintable (map (λ b. if is_printable b then b else 32) text)
+plain_all : (text : List ℕ) → All IsPrintable (map (λ b. if is_printable_ascii b then b else 32) text)
 plain_all [] = All-nil IsPrintable
 plain_all (b ∷ text) = All-cons IsPrintable _ _ (plain_byte b) (plain_all text)
 
@@ -48,17 +50,17 @@ plain_printable text = plain_all text
 escape_visible : (b : ℕ) → IsEscapeByte b → IsVisible b
 escape_visible b h = (grind (arith), grind (arith))
 
-seen_byte : (b : ℕ) → is_visible b ≡ true → IsVisible b
+seen_byte : (b : ℕ) → is_visible_ascii b ≡ true → IsVisible b
 seen_byte b h = (grind (arith, nat_tests), grind (arith, nat_tests))
 
-location_byte : (b : ℕ) → All IsVisible (if is_visible b then b ∷ [] else percent_encode_byte b)
+location_byte : (b : ℕ) → All IsVisible (if is_visible_ascii b then b ∷ [] else percent_encode_byte b)
 location_byte b =
-    elim (is_visible b) as (λ t. is_visible b ≡ t → All IsVisible (cond t (b ∷ []) (percent_encode_byte b))) [
+    elim (is_visible_ascii b) as (λ t. is_visible_ascii b ≡ t → All IsVisible (cond t (b ∷ []) (percent_encode_byte b))) [
       | true ↦ λ e. All-cons IsVisible b [] (seen_byte b e) (All-nil IsVisible)
       | false ↦ λ e. All-weaker IsEscapeByte IsVisible escape_visible (percent_encode_byte b) (All-percent_encode_byte b)
     ] refl
 
-location_all : (text : List ℕ) → All IsVisible (flat_map (λ b. if is_visible b then b ∷ [] else percent_encode_byte b) text)
+location_all : (text : List ℕ) → All IsVisible (flat_map (λ b. if is_visible_ascii b then b ∷ [] else percent_encode_byte b) text)
 location_all [] = All-nil IsVisible
 location_all (b ∷ text) = All-append IsVisible _ _ (location_byte b) (location_all text)
 

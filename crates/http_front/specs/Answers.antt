@@ -1,8 +1,9 @@
 -- An answer as bytes (RFC 9112, sections 4 to 6): a status line, field lines, an empty line, and the body.
 use Rattle.std.specs.Prelude.{◌==◌, ◌&&◌, ◌||◌, ◌++◌, ℕ, Bool, nat_le, if◌then◌else◌, List, [], ◌∷◌, codes, decimal, flat_map, length, map}
+use Rattle.location_field.specs.Location.{location_of}
+use Rattle.sp_base.specs.Bytes.{is_printable_ascii}
 use Rattle.httparse.specs.Ascii.{crlf_bytes}
 use Rattle.error_answers.specs.Errors.{phrase_of}
-use Rattle.percent_encoding.specs.Percent.{percent_encode_byte}
 use Rattle.sp_base.specs.declared.answer.Answer.{Answer}
 use Rattle.sp_base.specs.declared.answer.Mark.{Mark}
 use Rattle.sp_base.specs.declared.answer.Mark.TheVariants.{Plain, NoCache, NoStore, MustRevalidate}
@@ -23,22 +24,9 @@ field_line field = field.0 ++ codes ": " ++ field.1 ++ crlf_bytes
 abbrev pub unless_empty : List ℕ → List ℕ → List Field
 unless_empty name value = if length value == 0 then [] else (name, value) ∷ []
 
--- a visible byte of ASCII, or a space
-abbrev pub is_printable : ℕ → Bool
-is_printable b = nat_le 32 b && nat_le b 126
-
 -- a text as a field's value: any byte but the printable ones of ASCII is a space, so that none ends the line (RFC 9110, section 5.5)
 unfoldable pub plain_value : List ℕ → List ℕ
-plain_value text = map (λ b. if is_printable b then b else 32) text
-
--- a visible byte of ASCII
-abbrev pub is_visible : ℕ → Bool
-is_visible b = nat_le 33 b && nat_le b 126
-
--- The value of a Location field (RFC 9110, section 10.2.2): each byte that isn't visible is percent-encoded, as a URI reference may
--- not hold it (RFC 3986, section 2.1).
-unfoldable pub location_of : List ℕ → List ℕ
-location_of text = flat_map (λ b. if is_visible b then b ∷ [] else percent_encode_byte b) text
+plain_value text = map (λ b. if is_printable_ascii b then b else 32) text
 
 -- the Cache-Control directive of a mark (RFC 9111, section 5.2.2)
 abbrev pub directive_of : Mark → List ℕ

@@ -3,6 +3,7 @@ use Rattle.std.specs.Prelude.{◌==◌, ◌&&◌, ◌||◌, ◌+◌, ℕ, Bool, 
 use Rattle.std.specs.List.{before_first, list_all}
 use Rattle.std.specs.Char.{is_ascii_alphanumeric, is_ascii_digit}
 use Rattle.std.specs.Str.Parse.{digits_value}
+use Rattle.sp_base.specs.Limits.{greatest_port, http_port}
 
 -- the most digits of a number
 abbrev pub most_digits : ℕ
@@ -20,17 +21,13 @@ port_number text = if is_number text then Some (digits_value 10 text) else None
 abbrev pub has_leading_zero : List ℕ → Bool
 has_leading_zero text = nat_lt 1 (length text) && (slice_index text 0 == 48)
 
--- the greatest port
-abbrev pub greatest_port : ℕ
-greatest_port = 65535
-
 -- a number that is a port
 abbrev pub port_or_none : ℕ → Option ℕ
 port_or_none n = if nat_le n greatest_port then Some n else None
 
--- the port that a text writes: 80 where it is empty
+-- the port that a text writes: that of HTTP where it is empty
 abbrev pub port_of : List ℕ → Option ℕ
-port_of text = if length text == 0 then Some 80 else (if has_leading_zero text then None else option_and_then port_or_none (port_number text))
+port_of text = if length text == 0 then Some http_port else (if has_leading_zero text then None else option_and_then port_or_none (port_number text))
 
 -- `:`
 abbrev pub is_port_colon : ℕ → Bool
@@ -53,7 +50,7 @@ host_in value =
 -- The host of a request, from its Host field: one that is no host, and none in HTTP/1.1, make no request (RFC 9112, section 3.2). A
 -- request of HTTP/1.0 may name none, and its host is then empty.
 abbrev pub host_of : ℕ → Option (List ℕ) → Option (List ℕ × ℕ)
-host_of minor None = if minor == 0 then Some ([], 80) else None
+host_of minor None = if minor == 0 then Some ([], http_port) else None
 host_of minor (Some value) = host_in value
 
 -- The length of a request's body, from its Content-Length field: 0 where there is none (RFC 9112, section 6.3).

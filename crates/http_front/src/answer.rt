@@ -1,16 +1,14 @@
 //! Writes answers as bytes (RFC 9112, sections 4 to 6).
 ghost use Rattle.std.specs.Prelude.{◌≡◌, ◌++◌, IfOk, OnOk, flat_map, string_bytes, if◌then◌else◌};
 ghost use Rattle.std.specs.Fmt.{decimal};
+ghost use Rattle.sp_base.specs.Bytes.{is_printable_ascii};
 ghost use Rattle.httparse.specs.Ascii.{crlf_bytes};
 ghost use Rattle.http_front.specs.Answers as spec;
 
 use error_answers::phrase_of;
-use percent_encoding::{AsciiSet, CONTROLS, ascii_set, percent_encode};
-use sp_base::{Answer, ByteBuf, Mark, Mem, TextBuf};
+use location_field::location_of;
+use sp_base::{Answer, ByteBuf, Mark, Mem};
 use std::alloc::Global;
-
-// The bytes of ASCII that are escaped: the controls, and the space. Those above ASCII are escaped whatever the set.
-const UNSEEN: AsciiSet = ascii_set!(CONTROLS.add(b' '));
 
 // Room for the head of most answers.
 const HEAD_ROOM: usize = 256;
@@ -136,17 +134,9 @@ fn plain_value(alloc: Global, text: &str) -> Mem<Vec<u8>>
 }
 
 fn printable_or_space(b: u8) -> u8
-    ensures { result ≡ (if spec.is_printable b then b else 32) }
+    ensures { result ≡ (if is_printable_ascii b then b else 32) }
 {
     if b >= b' ' && b <= b'~' { b } else { b' ' }
-}
-
-fn location_of(alloc: Global, location: &str) -> Mem<TextBuf>
-    ensures { IfOk result (λ text. text ≡ spec.location_of location.now) }
-{
-    let mut text = String::with_capacity(alloc, location.len())?;
-    percent_encode(location.as_bytes(), UNSEEN).append_to(&mut text)?;
-    Ok(TextBuf::from(text))
 }
 
 fn allowed_methods(status: u16) -> &'static str

@@ -6,11 +6,9 @@ ghost use Rattle.std.specs.Str.Parse.{digits_value};
 ghost use Rattle.http_front.specs.Hosts as spec;
 ghost use Rattle.http_front.specs.LentHosts.{lent_host};
 
+use sp_base::{GREATEST_PORT, HTTP_PORT};
+
 const MOST_DIGITS: usize = 18;
-
-const GREATEST_PORT: usize = 65535;
-
-const USUAL_PORT: u16 = 80;
 
 /// The host of a request, from its Host field: its name and its port.
 pub fn host_of(minor: u8, value: Option<&[u8]>) -> Option<(&[u8], u16)>
@@ -19,7 +17,7 @@ pub fn host_of(minor: u8, value: Option<&[u8]>) -> Option<(&[u8], u16)>
 {
     match value {
         Some(value) => host_in(value),
-        None if minor == 0 => Some((b"", USUAL_PORT)),
+        None if minor == 0 => Some((b"", HTTP_PORT)),
         None => None,
     }
 }
@@ -77,13 +75,13 @@ fn port_of(text: &[u8]) -> Option<u16>
     ensures { result ≡ spec.port_of text.now }
 {
     if text.is_empty() {
-        return Some(USUAL_PORT);
+        return Some(HTTP_PORT);
     }
     if text.len() > 1 && text[0] == b'0' {
         return None;
     }
     let number = number_of(text)?;
-    if number <= GREATEST_PORT {
+    if number <= usize::from(GREATEST_PORT) {
         Some(number as u16)
     } else {
         None

@@ -1,6 +1,7 @@
 -- What every answer has, and what an answer depends on.
 use Rattle.std.proofs.Common.{◌≡◌, ◌≢◌, ◌≤◌, ℕ, Bool, true, false, cond, List, Option, Some, None, Result, Ok, Err, IfOk, length, nat_le, refl, sym, ◌∙◌, ap, subst, arith}
 use Rattle.std.proofs.lemmas.Bool.Decides.{nat_tests}
+use Rattle.sp_base.specs.Limits.{most_rendered_bytes}
 use Rattle.sp_base.specs.Paths.{text_of}
 use Rattle.sp_base.specs.declared.answer.Answer.{Answer}
 use Rattle.sp_base.specs.declared.answer.Ask.{Ask}
@@ -26,12 +27,12 @@ use Rattle.error_answers.specs.Errors.{error_answer}
 use Rattle.publisher.specs.Errors.{answer_with_body}
 use Rattle.publisher.specs.Depths.{depth_of}
 use Rattle.overlay_merge.specs.Merged.{has_resource}
-use Rattle.publisher.specs.Rendering.{seen_resources, is_read, mark_of, most_rendered_bytes, representation_of, json_representation, json_to_depth, file_representation, is_json, is_bare, default_answer, script_for, scope_of, script_representation, answer_by, resource_answer, split_answer, text_answer, mapping, mapped_answer, is_post, posted_answer, answer_to_request}
+use Rattle.publisher.specs.Rendering.{seen_resources, is_read, mark_of, representation_of, json_representation, json_to_depth, file_representation, is_json, is_bare, default_answer, script_for, scope_of, script_representation, answer_by, resource_answer, split_answer, text_answer, mapping, mapped_answer, is_post, posted_answer, answer_to_request}
 
 -- ---- a representation isn't too long
 
 abbrev pub Fits : Answer → Type 0
-Fits a = a.status ≡ 200 → length a.body ≤ 4194304
+Fits a = a.status ≡ 200 → length a.body ≤ most_rendered_bytes
 
 pub error_fits : (status : ℕ) → status ≢ 200 → Fits (error_answer status)
 unfolding error_answer
@@ -41,12 +42,12 @@ either : (b : Bool) (x y : Answer) → Fits x → Fits y → Fits (cond b x y)
 either true x y p q = p
 either false x y p q = q
 
-page_by : (b : Bool) (kind : List ℕ) (mark : Mark) (body : List ℕ) → nat_le (length body) 4194304 ≡ b → Fits (cond b (answer_with_body 200 kind mark body) (error_answer 500))
+page_by : (b : Bool) (kind : List ℕ) (mark : Mark) (body : List ℕ) → nat_le (length body) most_rendered_bytes ≡ b → Fits (cond b (answer_with_body 200 kind mark body) (error_answer 500))
 page_by true kind mark body small e = grind (arith, nat_tests)
 page_by false kind mark body small e = error_fits 500 (λ h. absurd (omega (arith, h))) e
 
 page_fits : (kind : List ℕ) (mark : Mark) (body : List ℕ) → Fits (representation_of kind mark body)
-page_fits kind mark body = page_by (nat_le (length body) 4194304) kind mark body refl
+page_fits kind mark body = page_by (nat_le (length body) most_rendered_bytes) kind mark body refl
 
 json_fits : (res : Resource) (answer : JsonAnswer) → Fits (json_representation res answer)
 json_fits res (Whole text) = page_fits _ (mark_of res) text
@@ -97,13 +98,13 @@ pub read_is : (tree : Content) (ask : Ask) → is_read ask.method ≡ true → a
 unfolding answer_to_request
 read_is tree ask read = ap (λ b. cond b (mapped_answer tree (mapping tree ask)) (cond (is_post ask.method) (posted_answer tree ask (mapping tree ask)) (error_answer 405))) read
 
-pub rendered_fits : (tree : Content) (ask : Ask) → is_read ask.method ≡ true → (answer_to_request tree ask).status ≡ 200 → length (answer_to_request tree ask).body ≤ 4194304
+pub rendered_fits : (tree : Content) (ask : Ask) → is_read ask.method ≡ true → (answer_to_request tree ask).status ≡ 200 → length (answer_to_request tree ask).body ≤ most_rendered_bytes
 rendered_fits tree ask read = subst Fits (sym (read_is tree ask read)) (mapped_fits tree (mapping tree ask))
 
 -- ---- what is answered has at most 4,194,304 bytes, where its status is 200
 
 -- an answer that is this one
-pub fits_as : {E : Type 0} (r : Result Answer E) (x : Answer) → Fits x → IfOk r (λ a. a ≡ x) → IfOk r (λ a. a.status ≡ 200 → length a.body ≤ 4194304)
+pub fits_as : {E : Type 0} (r : Result Answer E) (x : Answer) → Fits x → IfOk r (λ a. a ≡ x) → IfOk r (λ a. a.status ≡ 200 → length a.body ≤ most_rendered_bytes)
 fits_as (Ok a) x fits is = subst Fits (sym is) fits
 fits_as (Err e) x fits is = tt
 

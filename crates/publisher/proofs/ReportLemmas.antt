@@ -5,6 +5,7 @@ use Rattle.std.specs.List.{list_all}
 use Rattle.std.proofs.lemmas.Bool.{and_parts}
 use Rattle.std.proofs.lemmas.Fmt.{length-decimal-le}
 use Rattle.std.proofs.lemmas.Bool.Decides.{nat_tests}
+use Rattle.sp_base.specs.Limits.{most_rendered_bytes}
 use Rattle.sp_base.specs.Paths.{has_slash, is_dots, is_empty, is_long, is_path, seg_ok, text_of}
 use Rattle.post_apply.specs.declared.report.PostReport.{PostReport}
 use Rattle.publisher.specs.Posting.{report_line, report_status}
@@ -36,12 +37,12 @@ status_short : (created : Bool) → length (decimal (if created then 201 else 20
 status_short true = length-decimal-le 3 201 (omega arith) (omega arith) (omega arith)
 status_short false = length-decimal-le 3 200 (omega arith) (omega arith) (omega arith)
 
-line_of : (status space text end : List ℕ) → length status ≤ 3 → length space ≡ 1 → length text ≤ 12864 → length end ≡ 1 → length (status ++ space ++ text ++ end) ≤ 4194304
+line_of : (status space text end : List ℕ) → length status ≤ 3 → length space ≡ 1 → length text ≤ 12864 → length end ≡ 1 → length (status ++ space ++ text ++ end) ≤ most_rendered_bytes
 line_of status space text end few one short last =
     let first : length (status ++ space ++ text ++ end) ≡ length (status ++ space ++ text) + length end = length-append (status ++ space ++ text) end in
     let second : length (status ++ space ++ text) ≡ length (status ++ space) + length text = length-append (status ++ space) text in
     let third : length (status ++ space) ≡ length status + length space = length-append status space in
     omega (arith, few, one, short, last, first, second, third)
 
-pub line_short : (report : PostReport) → is_path report.path ≡ true → length (report_line report) ≤ 4194304
+pub line_short : (report : PostReport) → is_path report.path ≡ true → length (report_line report) ≤ most_rendered_bytes
 line_short report is = line_of (decimal (report_status report)) (codes " ") (text_of report.path) (10 ∷ []) (status_short report.created) refl (text_short report.path is) refl

@@ -1,6 +1,7 @@
 -- What a script writes, from the relations that tell which script it is and what its text spells.
 use Rattle.std.proofs.Common.{◌≡◌, ℕ, Bool, true, false, cond, List, Option, Some, None, Ok, IfSome, IfNone, length, nat_le, refl, sym, ◌∙◌, ap, arith}
 use Rattle.std.specs.Prelude.{option_and_then}
+use Rattle.sp_base.specs.Limits.{most_rendered_bytes}
 use Rattle.sp_base.specs.declared.answer.Answer.{Answer}
 use Rattle.sp_base.specs.declared.answer.Ask.{Ask}
 use Rattle.sp_base.specs.declared.answer.Mark.{Mark}
@@ -21,7 +22,7 @@ use Rattle.publisher.specs.Errors.{answer_with_body}
 use Rattle.publisher.specs.Readings.{reading_in}
 use Rattle.overlay_merge.specs.Merged.{has_resource}
 use Rattle.publisher.proofs.RenderingLemmas.{read_is}
-use Rattle.publisher.specs.Rendering.{seen_resources, answer_by, html_kind, is_read, mark_of, most_rendered_bytes, answer_to_request, representation_of, resource_answer, scope_of, script_for, script_representation, split_answer, mapped_answer, mapping}
+use Rattle.publisher.specs.Rendering.{seen_resources, answer_by, html_kind, is_read, mark_of, answer_to_request, representation_of, resource_answer, scope_of, script_for, script_representation, split_answer, mapped_answer, mapping}
 
 -- the search gives the script that ranks first, where one does
 pub found_first : (tree : Content) (chain : List TypeName) (parts : Parts) (script : List (List ℕ)) (found : Option (List (List ℕ)))

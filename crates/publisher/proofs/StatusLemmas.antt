@@ -8,6 +8,7 @@ use Rattle.sp_base.specs.declared.answer.Mark.{Mark}
 use Rattle.resource_tree.specs.Content.{Content}
 use Rattle.resource_tree.specs.Seen.{Resource, Seen}
 use Rattle.std.proofs.lemmas.Bool.Decides.{nat_tests}
+use Rattle.sp_base.specs.Limits.{most_rendered_bytes}
 use Rattle.url_maps.specs.Answers.{map_answer}
 use Rattle.url_maps.specs.Mappings.{is_redirect}
 use Rattle.url_maps.specs.declared.answer.MapAnswer.{MapAnswer}
@@ -28,7 +29,7 @@ use Rattle.error_answers.specs.Errors.{error_answer}
 use Rattle.publisher.specs.Errors.{answer_with_body}
 use Rattle.publisher.specs.Depths.{depth_of}
 use Rattle.overlay_merge.specs.Merged.{has_resource}
-use Rattle.publisher.specs.Rendering.{seen_resources, is_read, mark_of, most_rendered_bytes, representation_of, json_representation, json_to_depth, file_representation, is_json, is_bare, default_answer, script_for, scope_of, script_representation, answer_by, resource_answer, split_answer, mapping, mapped_answer, is_post, posted_answer, answer_to_request}
+use Rattle.publisher.specs.Rendering.{seen_resources, is_read, mark_of, representation_of, json_representation, json_to_depth, file_representation, is_json, is_bare, default_answer, script_for, scope_of, script_representation, answer_by, resource_answer, split_answer, mapping, mapped_answer, is_post, posted_answer, answer_to_request}
 use Rattle.resource_tree.specs.declared.faults.TreeFault.{TreeFault}
 use Rattle.resource_tree.specs.declared.faults.TreeFault.TheVariants.{NoSuch, RootFixed, IntoItself, Exists, Taken, NoSibling, TooDeep, FullTree, NoMemory as NoMemoryOfTree}
 use Rattle.form_input.specs.Forms.{form_of}
@@ -179,14 +180,14 @@ status_apart status e = cc
 
 -- what is refused has no 200
 pub refused_fits : {E : Type 0} (r : Result Answer E) (tree : Content) (ask : Ask) (text : List ℕ) (refusal : Refusal) (status : ℕ) → refusal ≡ Status status
-    → (refusal ≢ NoMemory → posting tree ask text ≡ Err refusal) → IfOk r (λ a. a ≡ error_answer status) → IfOk r (λ a. a.status ≡ 200 → length a.body ≤ 4194304)
+    → (refusal ≢ NoMemory → posting tree ask text ≡ Err refusal) → IfOk r (λ a. a ≡ error_answer status) → IfOk r (λ a. a.status ≡ 200 → length a.body ≤ most_rendered_bytes)
 refused_fits r tree ask text refusal status is refused answer =
     let outcome : posting tree ask text ≡ Err (Status status) = refused (λ e. status_apart status (sym is ∙ e)) ∙ ap (λ (e : Refusal). Err e) is in
     let error = refused_is tree ask text status outcome in
     fits_as r (error_answer status) (error_fits status (λ ok. absurd (omega (arith, ok, error.0)))) answer
 
 -- nor has what isn't allowed
-pub not_allowed_fits : {E : Type 0} (r : Result Answer E) → IfOk r (λ a. a ≡ error_answer 405) → IfOk r (λ a. a.status ≡ 200 → length a.body ≤ 4194304)
+pub not_allowed_fits : {E : Type 0} (r : Result Answer E) → IfOk r (λ a. a ≡ error_answer 405) → IfOk r (λ a. a.status ≡ 200 → length a.body ≤ most_rendered_bytes)
 not_allowed_fits r answer = fits_as r (error_answer 405) (error_fits 405 (λ ok. absurd (omega (arith, ok)))) answer
 
 report_short : (created : Bool) → (if created then 201 else 200) ≤ 500

@@ -3,7 +3,7 @@ use Rattle.std.specs.Prelude.{ℕ, List, []}
 use Rattle.sp_base.specs.declared.answer.Answer.{Answer}
 use Rattle.sp_base.specs.declared.answer.Mark.{Mark}
 use Rattle.sp_base.specs.declared.answer.Mark.TheVariants.{Plain}
-use Rattle.url_maps.specs.Locations.{mapped_location}
+use Rattle.location_field.specs.Location.{location_of}
 
 -- an answer with a media type and a body
 abbrev pub answer_with_body : ℕ → List ℕ → Mark → List ℕ → Answer
@@ -11,4 +11,4 @@ answer_with_body status kind mark body = record { status = status; kind = kind; 
 
 -- a redirect to a target (RFC 9110, section 15.4): its location, and no representation
 abbrev pub redirect : ℕ → List ℕ → Answer
-redirect status target = record { status = status; kind = []; location = mapped_location target; mark = Plain; body = [] }
+redirect status target = record { status = status; kind = []; location = location_of target; mark = Plain; body = [] }

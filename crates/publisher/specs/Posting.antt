@@ -9,7 +9,7 @@ use Rattle.sp_base.specs.declared.answer.Ask.{Ask}
 use Rattle.sp_base.specs.declared.answer.Mark.TheVariants.{Plain}
 use Rattle.resource_tree.specs.Content.{Content}
 use Rattle.overlay_merge.specs.Merged.{has_resource}
-use Rattle.url_maps.specs.Locations.{mapped_location}
+use Rattle.location_field.specs.Location.{location_of}
 use Rattle.url_split.specs.declared.decompose.Parts.{Parts}
 use Rattle.url_split.specs.Split.{split_of}
 use Rattle.form_input.specs.Forms.{form_of}
@@ -87,7 +87,7 @@ report_status report = if report.created then 201 else 200
 
 -- the place of a new node (RFC 9110, section 10.2.2)
 abbrev pub report_location : PostReport → List ℕ
-report_location report = if report.created then mapped_location (text_of report.path) else []
+report_location report = if report.created then location_of (text_of report.path) else []
 
 -- the status code and the path in a line of text
 abbrev pub report_line : PostReport → List ℕ

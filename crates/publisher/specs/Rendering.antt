@@ -1,6 +1,7 @@
 -- What the publisher answers: the first of these that applies.
 use Rattle.std.specs.Prelude.{◌==◌, ◌&&◌, ◌||◌, ℕ, Bool, nat_eq, nat_le, if◌then◌else◌, List, Option, Some, None, option_and_then, codes, length}
 use Rattle.std.specs.Cmp.Lexicographic.{pointwise}
+use Rattle.sp_base.specs.Limits.{most_rendered_bytes}
 use Rattle.sp_base.specs.Paths.{text_of}
 use Rattle.sp_base.specs.Properties.{text_in}
 use Rattle.sp_base.specs.declared.answer.Answer.{Answer}
@@ -54,11 +55,7 @@ mark_in (Some name) = mark_named name
 abbrev pub mark_of : Resource → Mark
 mark_of res = mark_in (text_in res.props (codes "sp:mark"))
 
--- the most bytes of a representation
-abbrev pub most_rendered_bytes : ℕ
-most_rendered_bytes = 4194304
-
--- a representation of at most 4,194,304 bytes; a longer one is an error
+-- a representation of at most `most_rendered_bytes` bytes; a longer one is an error
 abbrev pub representation_of : List ℕ → Mark → List ℕ → Answer
 representation_of kind mark body = if nat_le (length body) most_rendered_bytes then answer_with_body 200 kind mark body else error_answer 500
 

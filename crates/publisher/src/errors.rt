@@ -4,7 +4,7 @@ ghost use Rattle.publisher.specs.Errors.{answer_with_body, redirect};
 
 use sp_base::{Answer, ByteBuf, Mark, Mem, TextBuf};
 use std::alloc::Global;
-use url_maps::location_of;
+use location_field::location_of;
 
 /// An answer with a media type and a body.
 pub(crate) fn answer_of(

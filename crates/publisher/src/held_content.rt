@@ -1,6 +1,7 @@
 //! What a publisher holds: a content tree, what is kept beside it, and the answers by both.
 ghost use Rattle.std.specs.Prelude.{◌≡◌, ◌≤◌, ◌||◌, IfOk, IsTrue, OnOk, OnErr, length, true};
-ghost use Rattle.publisher.specs.Rendering.{seen_resources, mapped_answer, mapping, text_answer, resource_answer, answer_to_request, content_after_request, is_post, is_read, most_rendered_bytes};
+ghost use Rattle.sp_base.specs.Limits.{most_rendered_bytes};
+ghost use Rattle.publisher.specs.Rendering.{seen_resources, mapped_answer, mapping, text_answer, resource_answer, answer_to_request, content_after_request, is_post, is_read};
 
 use crate::errors::redirect;
 use crate::kept_index::mapped;

@@ -1,5 +1,6 @@
 //! Laws of the rendering, on functions that do nothing.
 ghost use Rattle.std.specs.Prelude.{◌≡◌, ◌≢◌, ◌≤◌, ◌<◌, ◌||◌, [], ℕ, List, Some, true, length};
+ghost use Rattle.sp_base.specs.Limits.{most_rendered_bytes};
 ghost use Rattle.sp_base.specs.Paths.{text_of};
 ghost use Rattle.sp_base.specs.declared.answer.Ask.{Ask};
 ghost use Rattle.resource_tree.specs.Content.{Content, IsGood};
@@ -17,7 +18,7 @@ ghost use Rattle.htl_text.specs.Template.{template_output as written_by};
 ghost use Rattle.error_answers.specs.Errors.{error_answer};
 ghost use Rattle.publisher.specs.Errors.{redirect};
 ghost use Rattle.publisher.specs.PostLaws.{PostsAreRefusedForCauses, RequestsKeepContentGood};
-ghost use Rattle.publisher.specs.Rendering.{content_after_request, is_post, is_read, answer_to_request, scope_of, seen_resources, most_rendered_bytes};
+ghost use Rattle.publisher.specs.Rendering.{content_after_request, is_post, is_read, answer_to_request, scope_of, seen_resources};
 
 use form_input::forms_are_refused_for_causes;
 use htl_text::the_pieces_are_the_text;

@@ -1,9 +1,9 @@
 //! What a POST puts over the tree, and what it is answered.
 ghost use Rattle.std.specs.Prelude.{◌≡◌, ◌≢◌, ◌≤◌, IfOk, IfErr, Ok, Err, length};
+ghost use Rattle.sp_base.specs.Limits.{most_rendered_bytes};
 ghost use Rattle.resource_tree.specs.Content.{IsGood};
 ghost use Rattle.resource_tree.specs.Patches.{patching};
 ghost use Rattle.publisher.specs.Posting as spec;
-ghost use Rattle.publisher.specs.Rendering.{most_rendered_bytes};
 
 use crate::refusal::Refusal;
 use crate::targets::{PostTarget, target_of};
@@ -13,7 +13,7 @@ use post_plan::plan;
 use resource_tree::Tree;
 use sp_base::{Answer, Ask, ByteBuf, Mark, Mem, TextBuf};
 use std::alloc::Global;
-use url_maps::location_of;
+use location_field::location_of;
 
 fn or_bad_request(target: Option<PostTarget>) -> Result<PostTarget, Refusal>
     ensures ok { IfOk result (λ t. spec.or_bad_request target ≡ Ok t) }

@@ -1,9 +1,10 @@
 //! POSTs, which change the tree.
 ghost use Rattle.std.specs.Prelude.{◌≡◌, ◌≤◌, IfOk, IsTrue, OnOk, OnErr, length};
+ghost use Rattle.sp_base.specs.Limits.{most_rendered_bytes};
 ghost use Rattle.resource_tree.specs.Content.{IsGood};
 ghost use Rattle.resource_tree.specs.Patches.{patching};
 ghost use Rattle.publisher.specs.Posting.{posting, posting_answer, posting_content, report_answer};
-ghost use Rattle.publisher.specs.Rendering.{mapping, posted_answer, posted_content, most_rendered_bytes};
+ghost use Rattle.publisher.specs.Rendering.{mapping, posted_answer, posted_content};
 
 use crate::errors::redirect;
 use crate::held_content::HeldContent;

@@ -15,11 +15,10 @@ use crate::scripts::script_representation;
 use crate::templates::{Templates, read};
 use error_answers::error_answer;
 use get_servlet::{JsonAnswer, Stream, json_of, stream_of};
-use htl_text::MOST_RENDERED_BYTES;
 use overlay_merge::{MergedView, is_merged_path, merged};
 use resource_tree::{Look, Res, Tree};
 use script_rank::{script_of, script_text};
-use sp_base::{Answer, ByteBuf, Mark, Mem, Path, TextBuf};
+use sp_base::{Answer, ByteBuf, MOST_RENDERED_BYTES, Mark, Mem, Path, TextBuf};
 use std::alloc::Global;
 use url_split::Parts;
 

@@ -1,7 +1,8 @@
 //! The publisher: a content tree, what is kept beside it, and the answer to a request.
 ghost use Rattle.std.specs.Prelude.{◌≡◌, ◌≤◌, IfOk, OnOk, OnErr, length};
+ghost use Rattle.sp_base.specs.Limits.{most_rendered_bytes};
 ghost use Rattle.resource_tree.specs.Content.{IsGood};
-ghost use Rattle.publisher.specs.Rendering.{answer_to_request, content_after_request, most_rendered_bytes};
+ghost use Rattle.publisher.specs.Rendering.{answer_to_request, content_after_request};
 
 use crate::held_content::HeldContent;
 use resource_tree::Tree;

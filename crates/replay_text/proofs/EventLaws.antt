@@ -5,9 +5,10 @@ use Rattle.std.specs.List.{list_all}
 use Rattle.std.specs.Fmt.{decimal}
 use Rattle.std.proofs.lemmas.Bool.Decides.{nat_tests}
 use Rattle.std.proofs.lemmas.Fmt.{decimal_injective}
+use Rattle.sp_base.specs.Bytes.{is_visible_ascii}
 use Rattle.replay_text.specs.Lines.{newlines}
 use Rattle.replay_text.specs.Transcript.{hex, quoted_byte, quotation}
-use Rattle.replay_text.specs.EventLines.{is_visible_byte, is_target, flight_text, line_of, IsFlight, IsConnection, IsEventLine}
+use Rattle.replay_text.specs.EventLines.{is_target, flight_text, line_of, IsFlight, IsConnection, IsEventLine}
 use Rattle.replay_text.specs.declared.event_line.EventLine.{EventLine}
 use Rattle.replay_text.specs.declared.event_line.EventLine.TheVariants.{Direct, Open, Close, Bytes, Get, Post, Render, Deliver, Lose}
 use Rattle.replay_text.specs.declared.event_line.Flight.{Flight}
@@ -19,18 +20,18 @@ use Rattle.replay_text.proofs.WordLemmas.{one_first_word, target_no_blank}
 
 -- ---- no newline within
 
-visible_is_no_newline : (b : ℕ) → is_visible_byte b ≡ true → eqb b 10 ≡ false
+visible_is_no_newline : (b : ℕ) → is_visible_ascii b ≡ true → eqb b 10 ≡ false
 visible_is_no_newline b e = grind (arith, nat_tests)
 
-newlines-visible : (text : List ℕ) → list_all is_visible_byte text ≡ true → newlines text ≡ 0
+newlines-visible : (text : List ℕ) → list_all is_visible_ascii text ≡ true → newlines text ≡ 0
 newlines-visible [] e = refl
 newlines-visible (b ∷ text) e =
-    let parts = both_true (is_visible_byte b) (list_all is_visible_byte text) e in
+    let parts = both_true (is_visible_ascii b) (list_all is_visible_ascii text) e in
     let apart = visible_is_no_newline b parts.0 in
     rw apart (omega (arith, newlines-visible text parts.1))
 
 newlines-target : (text : List ℕ) → is_target text ≡ true → newlines text ≡ 0
-newlines-target text is = newlines-visible text (both_true (not (eqb (length text) 0)) (list_all is_visible_byte text) is).1
+newlines-target text is = newlines-visible text (both_true (not (eqb (length text) 0)) (list_all is_visible_ascii text) is).1
 
 above_is_no_newline : (b : ℕ) → 11 ≤ b → eqb b 10 ≡ false
 above_is_no_newline b le = grind (arith, nat_tests)

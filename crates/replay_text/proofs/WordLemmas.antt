@@ -11,8 +11,9 @@ use Rattle.std.proofs.lemmas.List.Sums.{AllPass-from_list_all, list_all-from_All
 use Rattle.std.specs.List.{list_all}
 use Rattle.std.specs.Option.{MatchOption}
 use Rattle.std.specs.Fmt.{decimal}
+use Rattle.sp_base.specs.Bytes.{is_visible_ascii}
 use Rattle.replay_text.specs.Quoting.{not_blank, connection_text}
-use Rattle.replay_text.specs.EventLines.{is_visible_byte, is_target, flight_text, IsFlight, IsConnection}
+use Rattle.replay_text.specs.EventLines.{is_target, flight_text, IsFlight, IsConnection}
 use Rattle.replay_text.specs.declared.event_line.Flight.{Flight}
 use Rattle.replay_text.specs.declared.event_line.Flight.TheVariants.{First, Numbered}
 
@@ -102,7 +103,7 @@ one_connection word line rest other c d is_c is_d e f =
     (one_first_word (decimal c) (decimal d) rest other (decimal_no_blank c is_c) (decimal_no_blank d is_d)
     (same_after word (decimal c ++ 32 ∷ rest) (decimal d ++ 32 ∷ other) (sym e ∙ f))).1
 
-visible_not_blank : (b : ℕ) → is_visible_byte b ≡ true → not_blank b ≡ true
+visible_not_blank : (b : ℕ) → is_visible_ascii b ≡ true → not_blank b ≡ true
 visible_not_blank b e = not_blank_from b (grind (arith, nat_tests))
   where
     not_blank_from : (b : ℕ) → 33 ≤ b → not_blank b ≡ true
@@ -111,7 +112,7 @@ visible_not_blank b e = not_blank_from b (grind (arith, nat_tests))
 -- no target has a blank
 pub target_no_blank : (text : List ℕ) → is_target text ≡ true → list_all not_blank text ≡ true
 target_no_blank text is = list_all-from_AllPass not_blank text (λ k d lt.
-    visible_not_blank (get_or text k d) (AllPass-from_list_all is_visible_byte text (and_second (not (length text == 0)) (list_all is_visible_byte text) is) k d lt))
+    visible_not_blank (get_or text k d) (AllPass-from_list_all is_visible_ascii text (and_second (not (length text == 0)) (list_all is_visible_ascii text) is) k d lt))
   where
     and_second : (a b : Bool) → (a && b) ≡ true → b ≡ true
     and_second true b e = e

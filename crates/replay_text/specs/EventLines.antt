@@ -2,19 +2,16 @@
 use Rattle.std.specs.Prelude.{◌≢◌, ◌≤◌, ◌<◌, ◌++◌, ◌&&◌, ◌==◌, ℕ, Bool, not, nat_le, List, [], ◌∷◌, codes, IsTrue, length}
 use Rattle.std.specs.List.{list_all}
 use Rattle.std.specs.Fmt.{decimal}
+use Rattle.sp_base.specs.Bytes.{is_visible_ascii}
 use Rattle.replay_text.specs.Transcript.{quotation}
 use Rattle.replay_text.specs.declared.event_line.EventLine.{EventLine}
 use Rattle.replay_text.specs.declared.event_line.EventLine.TheVariants.{Direct, Open, Close, Bytes, Get, Post, Render, Deliver, Lose}
 use Rattle.replay_text.specs.declared.event_line.Flight.{Flight}
 use Rattle.replay_text.specs.declared.event_line.Flight.TheVariants.{First, Numbered}
 
--- a visible byte of ASCII
-abbrev pub is_visible_byte : ℕ → Bool
-is_visible_byte b = nat_le 33 b && nat_le b 126
-
 -- a target: one or more visible bytes
 abbrev pub is_target : List ℕ → Bool
-is_target text = not (length text == 0) && list_all is_visible_byte text
+is_target text = not (length text == 0) && list_all is_visible_ascii text
 
 -- a flight: the first there is, or that of a number
 abbrev pub flight_text : Flight → List ℕ

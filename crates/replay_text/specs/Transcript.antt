@@ -1,6 +1,7 @@
 -- How events are written.
 use Rattle.std.specs.Prelude.{◌≡◌, ◌+◌, ◌<◌, ◌/◌, ◌%◌, ◌++◌, ◌==◌, ◌&&◌, ℕ, if◌then◌else◌, nat_lt, nat_le, List, [], ◌∷◌, codes, flat_map, Option, Some, None, IsTrue}
 use Rattle.std.specs.Fmt.{decimal}
+use Rattle.sp_base.specs.Bytes.{is_printable_ascii}
 use Rattle.sp_base.specs.declared.answer.Answer.{Answer}
 use Rattle.sp_base.specs.declared.answer.Mark.{Mark}
 use Rattle.sp_base.specs.declared.answer.Mark.TheVariants.{Plain, NoCache, NoStore, MustRevalidate}
@@ -18,7 +19,7 @@ hex n = if nat_lt n 10 then 48 + n else 87 + n
 abbrev pub quoted_byte : ℕ → List ℕ
 quoted_byte b = if b == 34 then 92 ∷ 34 ∷ [] else (if b == 92 then 92 ∷ 92 ∷ [] else
     (if b == 13 then codes "\\r" else (if b == 10 then codes "\\n" else (if b == 9 then codes "\\t" else
-    (if nat_le 32 b && nat_le b 126 then b ∷ [] else codes "\\x" ++ hex (b / 16) ∷ hex (b % 16) ∷ [])))))
+    (if is_printable_ascii b then b ∷ [] else codes "\\x" ++ hex (b / 16) ∷ hex (b % 16) ∷ [])))))
 
 -- a quoted text
 abbrev pub quotation : List ℕ → List ℕ

@@ -62,7 +62,7 @@ fn after_byte(text: &[u8], b: u8) -> Option<&[u8]>
         b'\r' => text.strip_prefix(b"\\r"),
         b'\n' => text.strip_prefix(b"\\n"),
         b'\t' => text.strip_prefix(b"\\t"),
-        32..=126 => text.strip_prefix(&[b]),
+        b' '..=b'~' => text.strip_prefix(&[b]),
         _ => text.strip_prefix(&[b'\\', b'x', hex_digit(b / 16), hex_digit(b % 16)]),
     }
 }

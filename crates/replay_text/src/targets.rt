@@ -1,16 +1,17 @@
 //! Targets and peers: visible bytes of ASCII.
 ghost use Rattle.std.specs.Prelude.{◌≡◌, ◌≢◌, ℕ, List, IfOk, IfSome, IfNone, IsTrue};
 ghost use Rattle.std.specs.List.{list_all};
-ghost use Rattle.replay_text.specs.EventLines.{is_visible_byte, is_target};
+ghost use Rattle.sp_base.specs.Bytes.{is_visible_ascii};
+ghost use Rattle.replay_text.specs.EventLines.{is_target};
 
 use sp_base::{Mem, TextBuf};
 use std::alloc::Global;
 use std::str;
 
 fn all_visible(text: &[u8]) -> bool
-    ensures { result ≡ list_all is_visible_byte text.now }
+    ensures { result ≡ list_all is_visible_ascii text.now }
 {
-    text.iter().all(|b| *b >= 33 && *b <= 126)
+    text.iter().all(|b| *b >= b'!' && *b <= b'~')
 }
 
 fn is_target_text(text: &[u8]) -> bool
@@ -20,7 +21,7 @@ fn is_target_text(text: &[u8]) -> bool
 }
 
 fn visible_text(alloc: Global, bytes: &[u8]) -> Mem<TextBuf>
-    requires { IsTrue (list_all is_visible_byte bytes.now) }
+    requires { IsTrue (list_all is_visible_ascii bytes.now) }
     ensures { IfOk result (λ t. t ≡ bytes.now) }
 {
     match str::from_utf8(bytes) {

@@ -39,7 +39,7 @@ fn push_escaped(out: &mut Vec<u8>, b: u8) -> Mem<()>
         b'\r' => push(out, b"\\r"),
         b'\n' => push(out, b"\\n"),
         b'\t' => push(out, b"\\t"),
-        32..=126 => Ok(out.push(b)?),
+        b' '..=b'~' => Ok(out.push(b)?),
         _ => push(out, &[b'\\', b'x', hex_digit(b / 16), hex_digit(b % 16)]),
     }
 }

@@ -5,7 +5,8 @@ use resource_tree::{Patch, PatchNode, Tree, TreeFault};
 use sp_base::{NoMemory, Path, PathFault, TextBuf, Value};
 use std::alloc::{AllocError, Global};
 use std::hash::RandomState;
-use url_maps::{MapAnswer, MapIndex, location_of, map_in};
+use location_field::location_of;
+use url_maps::{MapAnswer, MapIndex, map_in};
 
 fn map_to(alloc: Global, tree: &mut Tree, path: &str, target: &str) -> Result<(), Failed> {
     let path = Path::read(alloc, path)?;

@@ -1,4 +1,5 @@
 use Rattle.std.proofs.Common.{◌≡◌, ◌<◌, ◌⊎◌, inl, inr, ℕ, List, Some, IfSome, Err, subst, refl, arith, sym, ◌∙◌, ap}
+use Rattle.sp_base.specs.Limits.{greatest_u64}
 use Rattle.content_json.specs.ContentOf.{content as content_of}
 use Rattle.replay_text.specs.Languages.{IsRefusedWithin}
 use Rattle.replay_text.specs.Scenario.{SpellsScenario, IsScenario, ReadsScenario, longest_scenario}
@@ -12,7 +13,7 @@ use Rattle.sling_dispatch.specs.declared.ending.Ending.TheVariants.{Done, Usage,
 abbrev IsOneReading : Type 0
 IsOneReading = (text : List ℕ) (s t : Scenario) → SpellsScenario text s → SpellsScenario text t → s ≡ t
 
-both_failed_and_not : (o : Told (List ℕ)) → o.faults_old < 18446744073709551615 → HasNotFailed o → HasFailed o → ⊥
+both_failed_and_not : (o : Told (List ℕ)) → o.faults_old < greatest_u64 → HasNotFailed o → HasFailed o → ⊥
 both_failed_and_not o below not_failed failed = omega (arith, not_failed, failed)
 
 -- a text whose content has a reading isn't refused for its content
@@ -31,7 +32,7 @@ farm_reads one bytes s t reads has other refusal e =
 
 pub complete : IsOneReading → (c : RunCall) (sink : Told (List ℕ)) (bytes : List ℕ) (s : Scenario) (ending : Ending) → Means (IsDue c) ending sink
     → IsReplay c.words → c.source.old ≡ Some bytes → ReadsScenario bytes s → HasContent s → HasFarm s
-    → c.source.faults_old < 18446744073709551615 → HasNotFailed c.source → sink.faults_old < 18446744073709551615 → HasNotFailed sink
+    → c.source.faults_old < greatest_u64 → HasNotFailed c.source → sink.faults_old < greatest_u64 → HasNotFailed sink
     → (ending ≡ Done) ⊎ (ending ≡ NoMemory)
 complete one c sink bytes s Done m is told reads has farm bs cs bk ck = inl refl
 complete one c sink bytes s Usage m is told reads has farm bs cs bk ck = absurd (m.0.0 is)

@@ -15,7 +15,7 @@ use Rattle.front.specs.declared.step.Pick.{Pick}
 use Rattle.front.specs.declared.step.Pick.TheVariants.{Number, First}
 use Rattle.front.specs.declared.step.Step.{Step}
 use Rattle.front.specs.declared.step.Step.TheVariants.{Opened, Piece, Gone, Direct, Render, Deliver, Lose}
-use Rattle.any_config.specs.Farms.{http_port}
+use Rattle.sp_base.specs.Limits.{http_port}
 use Rattle.any_config.specs.declared.farm.Farm.{Farm}
 use Rattle.front.specs.Publishers.{Publishing}
 use Rattle.front.specs.Events.{Event, Run, notes_of}

@@ -1,5 +1,6 @@
 //! Laws of the definitions, on functions that do nothing.
 ghost use Rattle.std.specs.Prelude.{◌≡◌, ◌⊎◌, ◌<◌, ℕ, Bool, List, Some, length, map};
+ghost use Rattle.sp_base.specs.Limits.{greatest_u64};
 ghost use Rattle.resource_tree.specs.Content.{Content};
 ghost use Rattle.http_front.specs.Targets.{begins_with_slash, path_bytes};
 ghost use Rattle.any_config.specs.declared.farm.Farm as models;
@@ -33,7 +34,7 @@ pub fn spellings_are_answered_alike()
 pub fn complete()
     ensures { (c : RunCall) (sink : Told (List ℕ)) (bytes : List ℕ) (s : Scenario) (ending : Ending) → Means (IsDue c) ending sink
         → IsReplay c.words → c.source.old ≡ Some bytes → ReadsScenario bytes s → HasContent s → HasFarm s
-        → c.source.faults_old < 18446744073709551615 → HasNotFailed c.source → sink.faults_old < 18446744073709551615 → HasNotFailed sink
+        → c.source.faults_old < greatest_u64 → HasNotFailed c.source → sink.faults_old < greatest_u64 → HasNotFailed sink
         → (ending ≡ Done) ⊎ (ending ≡ NoMemory) }
 {
     one_reading();

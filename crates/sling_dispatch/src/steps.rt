@@ -2,7 +2,7 @@
 ghost use Rattle.std.specs.Prelude.{◌≡◌, ◌++◌, IfOk, OnOk, codes};
 ghost use Rattle.sling_dispatch.specs.Runs as runs;
 
-use any_config::{Farm, HTTP_PORT};
+use any_config::Farm;
 use front::{Pick, Step};
 use replay_text::{EventLine, Flight};
 use sp_base::{ByteBuf, Mem};

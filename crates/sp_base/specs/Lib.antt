@@ -1,3 +1,5 @@
+pub mod Bytes
+pub mod Limits
 pub mod Names
 pub mod Properties
 pub mod PropertyPlaces

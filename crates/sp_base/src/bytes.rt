@@ -1,5 +1,6 @@
 //! Bytes that contracts see as a list of numbers.
 ghost use Rattle.std.specs.Prelude.{◌≡◌, IfOk};
+ghost use Rattle.sp_base.specs.Bytes as spec;
 
 use crate::{Mem, TextBuf};
 use std::alloc::Global;
@@ -51,5 +52,16 @@ impl From<TextBuf> for ByteBuf {
         ByteBuf {
             bytes: text.into_bytes(),
         }
+    }
+}
+
+/// Whether a text begins with this byte.
+#[tactic(auto, unfolding(crate::specs::Bytes::begins_with_byte))]
+pub fn begins_with_byte(c: u8, text: &[u8]) -> bool
+    ensures { result ≡ spec.begins_with_byte c text.now }
+{
+    match text {
+        [] => false,
+        [d, ..] => *d == c,
     }
 }

@@ -6,6 +6,7 @@ mod bytes;
 mod hint;
 mod items;
 mod laws;
+mod limits;
 mod memory;
 mod order;
 mod path;
@@ -17,13 +18,14 @@ mod typed;
 mod value;
 
 pub use answer::{Answer, Ask, Mark, Req};
-pub use bytes::ByteBuf;
+pub use bytes::{ByteBuf, begins_with_byte};
 pub use hint::{Hint, HintKind, ValueFault};
 pub use items::{CallList, HeadList, Items, LongList, NameList, PathList, TextList, TruthList};
 pub use laws::{
     a_path_and_its_text, mangling_and_unmangling, segments_and_their_spelling,
     the_prefixes_of_a_path,
 };
+pub use limits::{GREATEST_PORT, HTTP_PORT, LONGEST_MEDIA_TYPE, MOST_RENDERED_BYTES};
 pub use memory::{Mem, NoMemory};
 pub use path::{Path, PathFault};
 pub use property_list::PropList;

@@ -1,5 +1,6 @@
 -- When a call of the outside may answer that it failed.
 use Rattle.std.specs.Prelude.{◌≡◌, ◌+◌, ◌≤◌, ℕ, Result, Ok, Err, min}
+use Rattle.sp_base.specs.Limits.{greatest_u64}
 use Rattle.sp_outside.specs.declared.source.SourceFault.{SourceFault}
 use Rattle.sp_outside.specs.declared.source.SourceFault.TheVariants.{Failed as source_failed}
 use Rattle.sp_outside.specs.declared.sink.SinkFault.{SinkFault}
@@ -7,11 +8,11 @@ use Rattle.sp_outside.specs.declared.sink.SinkFault.TheVariants.{Failed as sink_
 use Rattle.sp_outside.specs.declared.disk.DiskFault.{DiskFault}
 use Rattle.sp_outside.specs.declared.disk.DiskFault.TheVariants.{Failed as disk_failed, NoMemory as no_room}
 
--- one more, in a count that stands still at the end of its type
+-- one more, in a count that stands still at `greatest_u64`
 abbrev pub next : ℕ → ℕ
-next count = min (count + 1) 18446744073709551615
+next count = min (count + 1) greatest_u64
 
--- a count of faults rose, or stands at the end of its type
+-- a count of faults rose, or stands at `greatest_u64`
 abbrev pub Rose : ℕ → ℕ → Type 0
 Rose before after = (before ≤ after) × (next before ≤ after)
 

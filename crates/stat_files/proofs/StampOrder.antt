@@ -3,6 +3,7 @@ use Rattle.std.proofs.Common.{◌≡◌, ◌⊎◌, ◌<◌, ◌^◌, ◌&&◌, 
 use Rattle.std.proofs.lemmas.Bool.{cases_eq, cases_lt}
 use Rattle.std.proofs.lemmas.Bool.Decides.{nat_tests}
 use Rattle.std.specs.List.{AllByRecursion}
+use Rattle.sp_base.specs.Limits.{greatest_u64}
 use Rattle.cover_rules.specs.declared.stamp.Stamp.{Stamp}
 use Rattle.docroot_format.specs.Names.{are_bytes}
 use Rattle.stat_files.specs.Outdated.{is_older}
@@ -57,7 +58,7 @@ one stamp other = elim (of_numbers stamp.epoch stamp.count other.epoch other.cou
 ]
 
 greatest_last : (e c : ℕ) → e < 18446744073709551616 → c < 18446744073709551616
-    → nat_lt 18446744073709551615 e || (nat_eq 18446744073709551615 e && nat_lt 18446744073709551615 c) ≡ false
+    → nat_lt greatest_u64 e || (nat_eq greatest_u64 e && nat_lt greatest_u64 c) ≡ false
 greatest_last e c p q = grind (arith, nat_tests)
 
 -- no stamp is newer than the greatest

@@ -1,13 +1,14 @@
 -- The stamps of folders, as the files of the docroot hold them (Adobe Dispatcher manual, "Invalidating Files by Folder Level").
 use Rattle.std.specs.Prelude.{ℕ, List, Option, Some, None, option_map}
+use Rattle.sp_base.specs.Limits.{greatest_u64}
 use Rattle.sp_outside.specs.Files.{Files, file_at}
 use Rattle.docroot_format.specs.Names.{stat_name}
-use Rattle.docroot_format.specs.Readings.{greatest_number, stat_of}
+use Rattle.docroot_format.specs.Readings.{stat_of}
 use Rattle.cover_rules.specs.declared.stamp.Stamp.{Stamp}
 
 -- the greatest stamp, which outdates every page
 abbrev pub greatest_stamp : Stamp
-greatest_stamp = record { epoch = greatest_number; count = greatest_number }
+greatest_stamp = record { epoch = greatest_u64; count = greatest_u64 }
 
 -- a stamp that could be read, else the greatest
 abbrev pub stamp_or_greatest : Option (ℕ × ℕ) → Stamp

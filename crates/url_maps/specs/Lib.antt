@@ -10,4 +10,3 @@ pub mod Noting
 pub mod Siblings
 pub mod Search
 pub mod Answers
-pub mod Locations

@@ -11,7 +11,6 @@ mod claims_change;
 mod index;
 mod laws;
 mod leaders;
-mod locations;
 mod mappings;
 mod named_kids;
 mod pairs;
@@ -31,5 +30,4 @@ pub use laws::{
     of_nodes_with_one_vanity_path_the_greatest_order_is_named,
     of_siblings_with_one_alias_the_first_is_named, the_answer_is_mapped,
 };
-pub use locations::location_of;
 pub use turns::map_in;

@@ -1,5 +1,5 @@
 use Rattle.std.proofs.Common.{◌≡◌, ◌∙◌, rules, true}
-use Rattle.any_config.specs.Tokens.{begins_with_byte}
+use Rattle.sp_base.specs.Bytes.{begins_with_byte}
 use Rattle.any_config.proofs.TokenLemmas.{quoted_ok, quoted_bad}
 use Rattle.any_config.proofs.tokens.quoted.Goals as goal
 

@@ -1,4 +1,5 @@
 use Rattle.std.proofs.Common.{◌∙◌, rules, sym}
+use Rattle.sp_base.specs.Bytes.{begins_with_byte}
 use Rattle.htl_expr.specs.Read.{compare, both, choice, nesting}
 use Rattle.htl_expr.proofs.Turns.{chain_more, nested_less}
 use Rattle.htl_expr.proofs.reader.+reader.Goals as goal
@@ -6,19 +7,19 @@ use Rattle.htl_expr.proofs.reader.+reader.Goals as goal
 pub more_boths-loop-turn-preserved : goal.more_boths-loop-turn-preserved
 more_boths-loop-turn-preserved t c =
     let same =
-    chain_more (both c.args.depth (nesting c.args.depth)) 124 _ _ c.loop-turn.found c.loop-turn.rest.now _ _ _ c.loop-turn-test.true (sym c.if-not-is_at.ensures) c.in_ok-after.ensures c.in_ok-x.ensures ∙ c.loop-turn.invariant.1 in
+    chain_more (both c.args.depth (nesting c.args.depth)) 124 _ _ c.loop-turn.found c.loop-turn.rest.now _ _ _ c.loop-turn-test.true (sym c.if-not-begins_with_byte.ensures) c.in_ok-after.ensures c.in_ok-x.ensures ∙ c.loop-turn.invariant.1 in
     (search rules, rw c.in_ok-push.ensures.ok same)
 
 pub more_compares-loop-turn-preserved : goal.more_compares-loop-turn-preserved
 more_compares-loop-turn-preserved t c =
     let same =
-    chain_more (compare c.args.depth (nesting c.args.depth)) 38 _ _ c.loop-turn.found c.loop-turn.rest.now _ _ _ c.loop-turn-test.true (sym c.if-not-is_at.ensures) c.in_ok-after.ensures c.in_ok-x.ensures ∙ c.loop-turn.invariant.1 in
+    chain_more (compare c.args.depth (nesting c.args.depth)) 38 _ _ c.loop-turn.found c.loop-turn.rest.now _ _ _ c.loop-turn-test.true (sym c.if-not-begins_with_byte.ensures) c.in_ok-after.ensures c.in_ok-x.ensures ∙ c.loop-turn.invariant.1 in
     (search rules, rw c.in_ok-push.ensures.ok same)
 
 pub more_items-loop-turn-preserved : goal.more_items-loop-turn-preserved
 more_items-loop-turn-preserved t c =
     let same =
-    chain_more (choice c.args.depth (nesting c.args.depth)) 44 _ _ c.loop-turn.found c.loop-turn.rest.now _ _ _ c.loop-turn-test.true (sym c.if-not-is_at.ensures) c.in_ok-after.ensures c.in_ok-x.ensures ∙ c.loop-turn.invariant.1 in
+    chain_more (choice c.args.depth (nesting c.args.depth)) 44 _ _ c.loop-turn.found c.loop-turn.rest.now _ _ _ c.loop-turn-test.true (sym c.if-not-begins_with_byte.ensures) c.in_ok-after.ensures c.in_ok-x.ensures ∙ c.loop-turn.invariant.1 in
     (search rules, rw c.in_ok-push-2.ensures.ok same)
 
 pub nesting-returns-in-Choice : goal.nesting-returns-in-Choice

@@ -1,9 +1,9 @@
 use Rattle.std.proofs.Common.{◌++◌, ◌∙◌, ap}
-use Rattle.url_maps.proofs.LocationLemmas.{location_is}
+use Rattle.location_field.proofs.LocationLemmas.{location_is}
 use Rattle.percent_encoding.specs.Iter.{encoded_text}
 use Rattle.percent_encoding.specs.Percent.{percent_encode}
-use Rattle.url_maps.specs.declared.locations.TheConstants.{UNSEEN}
-use Rattle.url_maps.proofs.locations.location_of.Goals as goal
+use Rattle.location_field.specs.declared.location.TheConstants.{UNSEEN}
+use Rattle.location_field.proofs.location.location_of.Goals as goal
 
 pub returns : goal.returns
 returns c =

@@ -3,20 +3,21 @@ use Rattle.std.proofs.Common.{◌≡◌, ◌≤◌, ℕ, Bool, true, false, List
 use Rattle.std.specs.Prelude.{◌||◌, ◌&&◌, not, nat_le, nat_lt, flat_map, if◌then◌else◌}
 use Rattle.std.proofs.lemmas.Bool.{agree_below_at, cases_lt}
 use Rattle.std.proofs.lemmas.Bool.Decides.{nat_tests}
+use Rattle.sp_base.specs.Bytes.{is_visible_ascii}
 use Rattle.percent_encoding.specs.AsciiSet.{contains, should_percent_encode}
 use Rattle.percent_encoding.specs.Percent.{encode_byte, percent_encode, percent_encode_byte}
-use Rattle.url_maps.specs.declared.locations.TheConstants.{UNSEEN}
-use Rattle.url_maps.specs.Locations.{is_visible_octet, mapped_location}
+use Rattle.location_field.specs.declared.location.TheConstants.{UNSEEN}
+use Rattle.location_field.specs.Location.{location_of}
 
 and_false : (x : Bool) → (x && false) ≡ false
 and_false true = refl
 and_false false = refl
 
-escapes_is : (b : ℕ) → should_percent_encode UNSEEN b ≡ not (is_visible_octet b)
+escapes_is : (b : ℕ) → should_percent_encode UNSEEN b ≡ not (is_visible_ascii b)
 unfolding should_percent_encode
 escapes_is b =
     ⊎_elim
-    (λ below. agree_below_at (should_percent_encode UNSEEN) (λ n. not (is_visible_octet n)) 128 b refl below)
+    (λ below. agree_below_at (should_percent_encode UNSEEN) (λ n. not (is_visible_ascii n)) 128 b refl below)
     (λ (above : 128 ≤ b).
     let not_ascii : nat_lt b 128 ≡ false = grind (arith, nat_tests) in
     let not_seen : nat_le b 126 ≡ false = grind (arith, nat_tests) in
@@ -27,9 +28,9 @@ turned : (v : Bool) (x y : List ℕ) → (if not v then x else y) ≡ (if v then
 turned true x y = refl
 turned false x y = refl
 
-byte_is : (b : ℕ) → encode_byte UNSEEN b ≡ (if is_visible_octet b then b ∷ [] else percent_encode_byte b)
-byte_is b = ap (λ x. if x then percent_encode_byte b else b ∷ []) (escapes_is b) ∙ turned (is_visible_octet b) (percent_encode_byte b) (b ∷ [])
+byte_is : (b : ℕ) → encode_byte UNSEEN b ≡ (if is_visible_ascii b then b ∷ [] else percent_encode_byte b)
+byte_is b = ap (λ x. if x then percent_encode_byte b else b ∷ []) (escapes_is b) ∙ turned (is_visible_ascii b) (percent_encode_byte b) (b ∷ [])
 
-pub location_is : (text : List ℕ) → percent_encode UNSEEN text ≡ mapped_location text
-unfolding percent_encode mapped_location
+pub location_is : (text : List ℕ) → percent_encode UNSEEN text ≡ location_of text
+unfolding percent_encode location_of
 location_is text = λ i. flat_map (λ b. byte_is b i) text

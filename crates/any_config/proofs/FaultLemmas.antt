@@ -48,13 +48,13 @@ double : (b : Bool) → not (not b) ≡ b
 double true = refl
 double false = refl
 
-name_front : (t : List ℕ) → first_byte_passes (λ c. not (ends Name c)) t ≡ first_byte_passes is_config_name_byte t
-name_front [] = refl
-name_front (c ∷ t) = double (is_config_name_byte c)
+name_prefix : (t : List ℕ) → first_byte_passes (λ c. not (ends Name c)) t ≡ first_byte_passes is_config_name_byte t
+name_prefix [] = refl
+name_prefix (c ∷ t) = double (is_config_name_byte c)
 
-plain_front : (t : List ℕ) → first_byte_passes (λ c. not (ends Plain c)) t ≡ first_byte_passes is_plain_byte t
-plain_front [] = refl
-plain_front (c ∷ t) = double (is_plain_byte c)
+plain_prefix : (t : List ℕ) → first_byte_passes (λ c. not (ends Plain c)) t ≡ first_byte_passes is_plain_byte t
+plain_prefix [] = refl
+plain_prefix (c ∷ t) = double (is_plain_byte c)
 
 -- where there is no name
 name_stops : (t : List ℕ) (s : AnyStop) → member_name t ≡ Err s → (begins_with_byte 47 t ≡ true) × (first_byte_passes is_config_name_byte (drop 1 t) ≡ false) × (stop.BadName (length t) ≡ s)
@@ -64,34 +64,34 @@ name_stops t s h = go (begins_with_byte 47 t) (run_len Name (drop 1 t) == 0) ref
     go : (p q : Bool) → begins_with_byte 47 t ≡ p → (run_len Name (drop 1 t) == 0) ≡ q
         → cond {A = TokenOutcome (List ℕ)} p (cond {A = TokenOutcome (List ℕ)} q (Err (stop.BadName (length t))) (Ok (take (run_len Name (drop 1 t)) (drop 1 t), comments_skipped (drop (run_len Name (drop 1 t)) (drop 1 t))))) (Ok ([], t)) ≡ Err s
         → (begins_with_byte 47 t ≡ true) × (first_byte_passes is_config_name_byte (drop 1 t) ≡ false) × (stop.BadName (length t) ≡ s)
-    go true true ep eq e = (ep, sym (name_front (drop 1 t)) ∙ run_empty Name (drop 1 t) eq, err_is _ s e)
+    go true true ep eq e = (ep, sym (name_prefix (drop 1 t)) ∙ run_empty Name (drop 1 t) eq, err_is _ s e)
     go true false ep eq e = absurd cc
     go false q ep eq e = absurd cc
 
 name_broken : (t : List ℕ) → begins_with_byte 47 t ≡ true → first_byte_passes is_config_name_byte (drop 1 t) ≡ false → member_name t ≡ Err (stop.BadName (length t))
 unfolding member_name
-name_broken t at none = rw (at, empty_run Name (drop 1 t) (name_front (drop 1 t) ∙ none)) refl
+name_broken t at none = rw (at, empty_run Name (drop 1 t) (name_prefix (drop 1 t) ∙ none)) refl
 
 -- where there is no value that is no group
-front_mark : (t : List ℕ) → begins_with_byte 34 t ≡ false → begins_with_byte 39 t ≡ false → first_byte_passes is_quote_mark t ≡ false
+prefix_mark : (t : List ℕ) → begins_with_byte 34 t ≡ false → begins_with_byte 39 t ≡ false → first_byte_passes is_quote_mark t ≡ false
 unfolding begins_with_byte
-front_mark [] p q = refl
-front_mark (c ∷ t) p q = rw (p, q) refl
+prefix_mark [] p q = refl
+prefix_mark (c ∷ t) p q = rw (p, q) refl
 
-mark_front : (t : List ℕ) → begins_with_byte 34 t || begins_with_byte 39 t ≡ first_byte_passes is_quote_mark t
+mark_prefix : (t : List ℕ) → begins_with_byte 34 t || begins_with_byte 39 t ≡ first_byte_passes is_quote_mark t
 unfolding begins_with_byte
-mark_front [] = refl
-mark_front (c ∷ t) = refl
+mark_prefix [] = refl
+mark_prefix (c ∷ t) = refl
 
-value_front : (t : List ℕ) → begins_with_byte 123 t ≡ false → begins_with_byte 34 t ≡ false → begins_with_byte 39 t ≡ false → first_byte_passes is_plain_byte t ≡ false → first_byte_passes begins_value t ≡ false
+value_prefix : (t : List ℕ) → begins_with_byte 123 t ≡ false → begins_with_byte 34 t ≡ false → begins_with_byte 39 t ≡ false → first_byte_passes is_plain_byte t ≡ false → first_byte_passes begins_value t ≡ false
 unfolding begins_with_byte
-value_front [] b p q w = refl
-value_front (c ∷ t) b p q w = rw (b, p, q, w) refl
+value_prefix [] b p q w = refl
+value_prefix (c ∷ t) b p q w = rw (b, p, q, w) refl
 
-front_value : (t : List ℕ) → first_byte_passes begins_value t ≡ false → (begins_with_byte 123 t ≡ false) × (begins_with_byte 34 t ≡ false) × (begins_with_byte 39 t ≡ false) × (first_byte_passes is_plain_byte t ≡ false)
+prefix_value : (t : List ℕ) → first_byte_passes begins_value t ≡ false → (begins_with_byte 123 t ≡ false) × (begins_with_byte 34 t ≡ false) × (begins_with_byte 39 t ≡ false) × (first_byte_passes is_plain_byte t ≡ false)
 unfolding begins_with_byte
-front_value [] h = (refl, refl, refl, refl)
-front_value (c ∷ t) h = go (c == 123) (c == 34) (c == 39) (is_plain_byte c) h
+prefix_value [] h = (refl, refl, refl, refl)
+prefix_value (c ∷ t) h = go (c == 123) (c == 34) (c == 39) (is_plain_byte c) h
   where
     go : (b p q w : Bool) → (b || ((p || q) || w)) ≡ false → (b ≡ false) × (p ≡ false) × (q ≡ false) × (w ≡ false)
     go true p q w e = absurd cc
@@ -123,7 +123,7 @@ unfolding word
 word_stops at t s h = go (run_len Plain t == 0) refl h
   where
     go : (b : Bool) → (run_len Plain t == 0) ≡ b → cond {A = TokenOutcome AnyNode} b (Err (stop.BadName at)) (Ok (node.Word (take (run_len Plain t) t), drop (run_len Plain t) t)) ≡ Err s → (first_byte_passes is_plain_byte t ≡ false) × (stop.BadName at ≡ s)
-    go true eb e = (sym (plain_front t) ∙ run_empty Plain t eb, err_is _ s e)
+    go true eb e = (sym (plain_prefix t) ∙ run_empty Plain t eb, err_is _ s e)
     go false eb e = absurd cc
 
 leaf_stops : (at : ℕ) (t : List ℕ) (s : AnyStop) → begins_with_byte 123 t ≡ false → ungrouped_value at t ≡ Err s → LeafStops at t s
@@ -131,9 +131,9 @@ unfolding ungrouped_value
 leaf_stops at t s plain h = go (begins_with_byte 34 t) (begins_with_byte 39 t) refl refl h
   where
     go : (p q : Bool) → begins_with_byte 34 t ≡ p → begins_with_byte 39 t ≡ q → cond p (quoted_value 34 t) (cond q (quoted_value 39 t) (word at t)) ≡ Err s → LeafStops at t s
-    go true q ep eq e = inl (sym (mark_front t) ∙ rw ep refl, quoted_stops 34 t s e)
-    go false true ep eq e = inl (sym (mark_front t) ∙ rw (ep, eq) refl, quoted_stops 39 t s e)
-    go false false ep eq e = let w = word_stops at t s e in inr (value_front t plain ep eq w.0, w.1)
+    go true q ep eq e = inl (sym (mark_prefix t) ∙ rw ep refl, quoted_stops 34 t s e)
+    go false true ep eq e = inl (sym (mark_prefix t) ∙ rw (ep, eq) refl, quoted_stops 39 t s e)
+    go false false ep eq e = let w = word_stops at t s e in inr (value_prefix t plain ep eq w.0, w.1)
 
 -- no text in quotes is spelled where none is read
 abbrev none_read : AnyNode × List ℕ → TokenOutcome AnyNode
@@ -241,20 +241,20 @@ leaf_of_mark depth at t mark none = value_leaf (group depth) at t plain ∙ go (
     plain = mark_no_brace t mark
 
     never : (begins_with_byte 123 t ≡ false) × (begins_with_byte 34 t ≡ false) × (begins_with_byte 39 t ≡ false) × (first_byte_passes is_plain_byte t ≡ false) → ⊥
-    never (b, p, q, w) = let none_there : first_byte_passes is_quote_mark t ≡ false = front_mark t p q in absurd cc
+    never (b, p, q, w) = let none_there : first_byte_passes is_quote_mark t ≡ false = prefix_mark t p q in absurd cc
 
     go : (o : TokenOutcome AnyNode) → ungrouped_value at t ≡ o → o ≡ Err (stop.BadQuote (length t))
     go (Ok x) e = absurd (none x.0 x.1 (IsValue.single at plain e))
     go (Err s) e = elim (leaf_stops at t s plain e) [
       | inl quote ↦ ap failed (sym quote.1)
-      | inr bare ↦ absurd (never (front_value t bare.0))
+      | inr bare ↦ absurd (never (prefix_value t bare.0))
     ]
 
 leaf_of_none : (inner : List ℕ → TokenOutcome AnyNode) (at : ℕ) (t : List ℕ) → first_byte_passes begins_value t ≡ false → value inner at t ≡ Err (stop.BadName at)
 unfolding value ungrouped_value word
 leaf_of_none inner at t none =
-    let w = front_value t none in
-    rw (w.0, w.1, w.2, empty_run Plain t (plain_front t ∙ w.3)) refl
+    let w = prefix_value t none in
+    rw (w.0, w.1, w.2, empty_run Plain t (plain_prefix t ∙ w.3)) refl
 
 member_of : (inner : List ℕ → TokenOutcome AnyNode) (t : List ℕ) (x : List ℕ × List ℕ) (s : AnyStop) → member_name t ≡ Ok x → value inner (length t) x.1 ≡ Err s → member inner t ≡ Err s
 unfolding member

@@ -23,8 +23,8 @@ last_colon (c ∷ t) zero lt e h =
     ∙ ap (λ (b : Bool). cond b (Some ([], t)) None) (equals c e)
 last_colon (c ∷ t) (suc k) lt e h = ap (cut_again c t) (last_colon t k (omega arith) e (λ i l m. h (suc i) (omega arith) (omega arith)))
 
-pub front_is : (k : ℕ) (t : List ℕ) → slice_range t 0 k ≡ take k t
-front_is k t = let z : k - 0 ≡ k = omega arith in ap (λ (n : ℕ). take n t) z
+pub prefix_is : (k : ℕ) (t : List ℕ) → slice_range t 0 k ≡ take k t
+prefix_is k t = let z : k - 0 ≡ k = omega arith in ap (λ (n : ℕ). take n t) z
 
 pub back_is : (k : ℕ) (t : List ℕ) → drop (k + 1) t ≡ drop (suc k) t
 back_is k t = let n : k + 1 ≡ suc k = omega arith in ap (λ (m : ℕ). drop m t) n

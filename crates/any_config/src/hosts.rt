@@ -39,10 +39,10 @@ fn port(text: &str) -> Option<u16>
 fn host(alloc: Global, name: &str, text: &str) -> Result<(Glob, Option<u16>), FarmFault>
     ensures { FarmGives (λ h. h) result (spec.host name.now text.now) }
 {
-    let Some((front, back)) = at_last_colon(text) else {
+    let Some((prefix, back)) = at_last_colon(text) else {
         return Ok((glob(alloc, name, text)?, None));
     };
-    let glob = glob(alloc, name, front)?;
+    let glob = glob(alloc, name, prefix)?;
     match port(back) {
         Some(n) => Ok((glob, Some(n))),
         None => Err(FarmFault::BadKind(TextBuf::of(alloc, name)?)),
@@ -111,7 +111,7 @@ fn asked_text(text: &str) -> (&str, u16)
 {
     match at_last_colon(text) {
         None => (name_or_localhost(text), HTTP_PORT),
-        Some((front, back)) => (name_or_localhost(front), port(back).unwrap_or(HTTP_PORT)),
+        Some((prefix, back)) => (name_or_localhost(prefix), port(back).unwrap_or(HTTP_PORT)),
     }
 }
 

@@ -125,12 +125,12 @@ pub fn name(alloc: Global, text: &[u8]) -> Result<(TextBuf, &[u8]), AnyStop>
     if !begins_with_byte(b'/', text) {
         return Ok((TextBuf::of(alloc, "")?, text));
     }
-    let behind = tail(text);
-    let len = run_len(Run::Name, behind);
+    let remainder = tail(text);
+    let len = run_len(Run::Name, remainder);
     if len == 0 {
         return Err(AnyStop::BadName(text.len()));
     }
-    let (bytes, rest) = behind.split_at(len);
+    let (bytes, rest) = remainder.split_at(len);
     Ok((text_of(alloc, bytes)?, skip(rest)))
 }
 

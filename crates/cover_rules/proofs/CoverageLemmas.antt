@@ -39,14 +39,14 @@ and_left false b h = h
 same_byte : (b : ℕ) → nat_eq b b ≡ true
 same_byte b = grind (arith, nat_tests)
 
-starts_cancel : (front l m : List ℕ) → starts_with nat_eq (front ++ l) (front ++ m) ≡ starts_with nat_eq l m
+starts_cancel : (beginning l m : List ℕ) → starts_with nat_eq (beginning ++ l) (beginning ++ m) ≡ starts_with nat_eq l m
 starts_cancel [] l m = refl
-starts_cancel (b ∷ front) l m = ap (λ t. t && starts_with nat_eq (front ++ l) (front ++ m)) (same_byte b) ∙ starts_cancel front l m
+starts_cancel (b ∷ beginning) l m = ap (λ t. t && starts_with nat_eq (beginning ++ l) (beginning ++ m)) (same_byte b) ∙ starts_cancel beginning l m
 
-under_cancel : (front l m : List ℕ) → text_under (front ++ l) (front ++ m) ≡ text_under l m
+under_cancel : (beginning l m : List ℕ) → text_under (beginning ++ l) (beginning ++ m) ≡ text_under l m
 under_cancel [] l m = refl
-under_cancel (b ∷ front) l m =
-    ap (λ t. (t && starts_with nat_eq (front ++ l) (front ++ m)) && ends_segment (drop (length (front ++ m)) (front ++ l))) (same_byte b) ∙ under_cancel front l m
+under_cancel (b ∷ beginning) l m =
+    ap (λ t. (t && starts_with nat_eq (beginning ++ l) (beginning ++ m)) && ends_segment (drop (length (beginning ++ m)) (beginning ++ l))) (same_byte b) ∙ under_cancel beginning l m
 
 starts_is : (text prefix : List ℕ) → starts_with nat_eq text prefix ≡ true → text ≡ prefix ++ drop (length prefix) text
 starts_is text prefix h =

@@ -85,13 +85,13 @@ text_full : (segs : List (List ℕ)) (b : ℕ) (text : List ℕ) → spelling_of
 text_full [] b text e = absurd (cc (e))
 text_full (seg ∷ segs) b text e = refl
 
-text_behind : (folder more : List (List ℕ)) (text : List ℕ) → spelling_of more ≡ 47 ∷ text → text_of (folder ++ more) ≡ spelling_of folder ++ 47 ∷ text
-text_behind [] more text e = text_full more 47 text e ∙ e
-text_behind (seg ∷ folder) more text e =
+text_after : (folder more : List (List ℕ)) (text : List ℕ) → spelling_of more ≡ 47 ∷ text → text_of (folder ++ more) ≡ spelling_of folder ++ 47 ∷ text
+text_after [] more text e = text_full more 47 text e ∙ e
+text_after (seg ∷ folder) more text e =
     flat_map-append (λ s. 47 ∷ s) (seg ∷ folder) more ∙ ap (λ (t : List ℕ). spelling_of (seg ∷ folder) ++ t) e
 
 pub page_text_is : (key : PageKey) → spelling_of (pieces key.file) ≡ 47 ∷ key.file → page_text key ≡ spelling_of key.folder ++ 47 ∷ key.file
-page_text_is key e = text_behind key.folder (pieces key.file) key.file e
+page_text_is key e = text_after key.folder (pieces key.file) key.file e
 
 pub root_lacks : (path : List (List ℕ)) → length path ≡ 0 → page_key_of path ≡ None
 unfolding key_at
@@ -115,8 +115,8 @@ unmangled_lacks path e fits err =
     ] refl
 
 -- the key's own path
-front_and_last : (segs : List (List ℕ)) → 0 < length segs → parent_of segs ++ last_segment segs ∷ [] ≡ segs
-front_and_last segs h =
+prefix_and_last : (segs : List (List ℕ)) → 0 < length segs → parent_of segs ++ last_segment segs ∷ [] ≡ segs
+prefix_and_last segs h =
     let at : slice_get segs (length segs - 1) ≡ Some (get_or segs (length segs - 1) []) = slice_get-get_or segs (length segs - 1) [] (omega arith) in
     let more = take_more segs (length segs - 1) [] (omega arith) in
     let all : length segs - 1 + 1 ≡ length segs = omega arith in
@@ -128,7 +128,7 @@ one_piece seg e = ap pieces (sym (append-nil seg)) ∙ e
 
 last_lacks : (segs : List (List ℕ)) → 0 < length segs → lack_slashes segs ≡ true → lack_slashes (last_segment segs ∷ []) ≡ true
 last_lacks segs some h =
-    and_right (lack_slashes (parent_of segs)) _ (sym (list_all-append (λ seg. not (has_slash seg)) (parent_of segs) (last_segment segs ∷ [])) ∙ ap lack_slashes (front_and_last segs some) ∙ h)
+    and_right (lack_slashes (parent_of segs)) _ (sym (list_all-append (λ seg. not (has_slash seg)) (parent_of segs) (last_segment segs ∷ [])) ∙ ap lack_slashes (prefix_and_last segs some) ∙ h)
 
 key_fields : (segs : List (List ℕ)) (key : PageKey) (b : Bool) → is_page segs ≡ b → cond b (Some (record { folder = parent_of segs; file = last_segment segs })) None ≡ Some key
     → (is_page segs ≡ true) × (key.folder ≡ parent_of segs) × (key.file ≡ last_segment segs)
@@ -150,4 +150,4 @@ own_path segs key lacks back h =
     let some = some_segment segs f.0 in
     let piece = one_piece (last_segment segs) (back (last_segment segs ∷ []) (last_lacks segs some lacks)) in
     ap (λ (folder : List (List ℕ)). folder ++ pieces key.file) f.1 ∙ ap (λ (file : List ℕ). parent_of segs ++ pieces file) f.2
-    ∙ ap (λ (more : List (List ℕ)). parent_of segs ++ more) piece ∙ front_and_last segs some
+    ∙ ap (λ (more : List (List ℕ)). parent_of segs ++ more) piece ∙ prefix_and_last segs some

@@ -22,9 +22,9 @@ pub tail_is : (b : ℕ) (xs ys : List ℕ) → b ∷ xs ≡ b ∷ ys → xs ≡ 
 tail_is b xs ys e = cc (e)
 
 -- what begins alike goes on alike
-pub same_after : (front xs ys : List ℕ) → front ++ xs ≡ front ++ ys → xs ≡ ys
+pub same_after : (beginning xs ys : List ℕ) → beginning ++ xs ≡ beginning ++ ys → xs ≡ ys
 same_after [] xs ys e = e
-same_after (b ∷ front) xs ys e = same_after front xs ys (cc (e))
+same_after (b ∷ beginning) xs ys e = same_after beginning xs ys (cc (e))
 
 -- a text without the second part of a prefix after the first lacks the prefix
 pub not_after : (text mark back rest more seg : List ℕ) → text ≡ mark ++ rest → mark ++ back ≡ seg → ((r : List ℕ) → rest ≢ back ++ r) → text ≡ seg ++ more → ⊥
@@ -84,16 +84,16 @@ folder_differs rest text file seg more is some lacks none e =
           none next.0 (λ i. first i ∷ next.1 i)
 
 -- a step along the handle
-pub leaves_next : (key : PageKey) (prefix front : List ℕ) (rest more : Rest) → 0 < length front → Leaves key prefix rest → LeavesNext key.file front rest more → Leaves key (prefix ++ front) more
-leaves_next key prefix front (Folder text) (Folder more) some h n = h ∙ ap (λ (t : List ℕ). prefix ++ t) n ∙ sym (append_assoc prefix front more.now)
-leaves_next key prefix front (Folder text) (File more) some h n =
+pub leaves_next : (key : PageKey) (prefix beginning : List ℕ) (rest more : Rest) → 0 < length beginning → Leaves key prefix rest → LeavesNext key.file beginning rest more → Leaves key (prefix ++ beginning) more
+leaves_next key prefix beginning (Folder text) (Folder more) some h n = h ∙ ap (λ (t : List ℕ). prefix ++ t) n ∙ sym (append_assoc prefix beginning more.now)
+leaves_next key prefix beginning (Folder text) (File more) some h n =
     let folder : spelling_of key.folder ≡ prefix = h ∙ ap (λ (t : List ℕ). prefix ++ t) n.0 ∙ append-nil prefix in (
-      ap (λ (t : List ℕ). t ++ 47 ∷ key.file) folder ∙ ap (λ (t : List ℕ). prefix ++ t) n.1 ∙ sym (append_assoc prefix front more.now),
-      omega (arith, ap length folder, length-append prefix front),
+      ap (λ (t : List ℕ). t ++ 47 ∷ key.file) folder ∙ ap (λ (t : List ℕ). prefix ++ t) n.1 ∙ sym (append_assoc prefix beginning more.now),
+      omega (arith, ap length folder, length-append prefix beginning),
     )
-leaves_next key prefix front (File text) (Folder more) some h n = absurd n
-leaves_next key prefix front (File text) (File more) some h n =
-    (h.0 ∙ ap (λ (t : List ℕ). prefix ++ t) n ∙ sym (append_assoc prefix front more.now), omega (arith, h.1, length-append prefix front))
+leaves_next key prefix beginning (File text) (Folder more) some h n = absurd n
+leaves_next key prefix beginning (File text) (File more) some h n =
+    (h.0 ∙ ap (λ (t : List ℕ). prefix ++ t) n ∙ sym (append_assoc prefix beginning more.now), omega (arith, h.1, length-append prefix beginning))
 
 pub whole : (key : PageKey) (prefix : List ℕ) (rest : Rest) → Leaves key prefix rest → page_spelling key ≡ prefix ++ left_text key.file rest
 whole key prefix (Folder text) h = ap (λ (t : List ℕ). t ++ 47 ∷ key.file) h ∙ append_assoc prefix text.now (47 ∷ key.file)

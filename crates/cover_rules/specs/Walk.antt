@@ -25,7 +25,7 @@ Lacks key prefix = (more : List ℕ) → page_spelling key ≢ prefix ++ more
 
 -- one segment more
 abbrev pub LeavesNext : List ℕ → List ℕ → Rest → Rest → Type 0
-LeavesNext file front (Folder text) (Folder more) = text.now ≡ front ++ more.now
-LeavesNext file front (Folder text) (File more) = (text.now ≡ []) × (47 ∷ file ≡ front ++ more.now)
-LeavesNext file front (File text) (File more) = text.now ≡ front ++ more.now
-LeavesNext file front (File text) (Folder more) = ⊥
+LeavesNext file beginning (Folder text) (Folder more) = text.now ≡ beginning ++ more.now
+LeavesNext file beginning (Folder text) (File more) = (text.now ≡ []) × (47 ∷ file ≡ beginning ++ more.now)
+LeavesNext file beginning (File text) (File more) = text.now ≡ beginning ++ more.now
+LeavesNext file beginning (File text) (Folder more) = ⊥

@@ -23,14 +23,14 @@ pub uncut : (c : ℕ) (text : List ℕ) → ((i : ℕ) → i < length text → g
 uncut c text none =
     position_or_len_is (λ b. b == c) text (length text) 0 (omega arith) (λ i less. not_test (get_or text i 0) c (none i less)) (λ lt. absurd (omega (arith, lt)))
 
-pub front_of : (c : ℕ) (text : List ℕ) (k : ℕ) → position_or_len (λ b. b == c) text ≡ k → take k text ≡ before_first (λ b. b == c) text
-front_of c text k e = ap (λ n. take n text) (sym e)
+pub prefix_of : (c : ℕ) (text : List ℕ) (k : ℕ) → position_or_len (λ b. b == c) text ≡ k → take k text ≡ before_first (λ b. b == c) text
+prefix_of c text k e = ap (λ n. take n text) (sym e)
 
-pub whole_front : (c : ℕ) (text : List ℕ) → position_or_len (λ b. b == c) text ≡ length text → text ≡ before_first (λ b. b == c) text
-whole_front c text e = sym (take_all (length text) text (omega arith)) ∙ front_of c text (length text) e
+pub whole_prefix : (c : ℕ) (text : List ℕ) → position_or_len (λ b. b == c) text ≡ length text → text ≡ before_first (λ b. b == c) text
+whole_prefix c text e = sym (take_all (length text) text (omega arith)) ∙ prefix_of c text (length text) e
 
-pub front_length : (c : ℕ) (text : List ℕ) (k : ℕ) → k ≤ length text → position_or_len (λ b. b == c) text ≡ k → length (before_first (λ b. b == c) text) ≡ k
-front_length c text k le e = omega (arith, ap length (sym (front_of c text k e)), length-take k text)
+pub prefix_length : (c : ℕ) (text : List ℕ) (k : ℕ) → k ≤ length text → position_or_len (λ b. b == c) text ≡ k → length (before_first (λ b. b == c) text) ≡ k
+prefix_length c text k le e = omega (arith, ap length (sym (prefix_of c text k e)), length-take k text)
 
 pub none_left : (text : List ℕ) (k : ℕ) → length text ≤ k → drop k text ≡ []
 none_left [] zero h = refl

@@ -57,13 +57,13 @@ module _ (dash : List ℕ) where
   place_after at (line ∷ more) = place_after (at + length line + 2) more
 
   -- lines that are no boundary lines stand before the sections of the rest
-  pub plain_lines : (at : ℕ) (front rest : List (List ℕ)) → are_plain dash front ≡ true
-      → ◌≡◌ {A = Sections} (sections dash at (front ++ rest)) (record { before = front ++ (sections dash (place_after at front) rest).before; later = (sections dash (place_after at front) rest).later })
+  pub plain_lines : (at : ℕ) (prefix rest : List (List ℕ)) → are_plain dash prefix ≡ true
+      → ◌≡◌ {A = Sections} (sections dash at (prefix ++ rest)) (record { before = prefix ++ (sections dash (place_after at prefix) rest).before; later = (sections dash (place_after at prefix) rest).later })
   unfolding place_after
   plain_lines at [] rest e = refl
-  plain_lines at (line ∷ front) rest e =
-      let ih = plain_lines (at + length line + 2) front rest (and_right (is_plain_line (line_kind dash line)) _ e) in
-      plain_line at line (front ++ rest) (plain_kind (line_kind dash line) (and_left (is_plain_line (line_kind dash line)) _ e))
+  plain_lines at (line ∷ prefix) rest e =
+      let ih = plain_lines (at + length line + 2) prefix rest (and_right (is_plain_line (line_kind dash line)) _ e) in
+      plain_line at line (prefix ++ rest) (plain_kind (line_kind dash line) (and_left (is_plain_line (line_kind dash line)) _ e))
       ∙ ap (λ (s : Sections). record { before = line ∷ s.before; later = s.later }) ih
 
   -- the sections of parts and a closing line begin with a boundary line
@@ -120,7 +120,7 @@ module _ (dash : List ℕ) where
     plain : are_plain dash preamble ≡ true
     opened : list_all (is_body_part dash) parts ≡ true
     closed : is_closing_line (line_kind dash closing) ≡ true
-    front : (sections dash at ls).before ≡ preamble
+    prefix : (sections dash at ls).before ≡ preamble
     each : map (λ (p : BodyPart). pair_of p.content) parts ≡ map Some pairs
     few : n + length pairs ≤ 1000
 
@@ -179,7 +179,7 @@ module _ (dash : List ℕ) where
             plain = rw k w.plain;
             opened = w.opened;
             closed = w.closed;
-            front = ap (λ (s : Sections). s.before) here ∙ ap (λ (ls : List (List ℕ)). line ∷ ls) w.front;
+            prefix = ap (λ (s : Sections). s.before) here ∙ ap (λ (ls : List (List ℕ)). line ∷ ls) w.prefix;
             each = w.each;
             few = w.few;
           }
@@ -197,7 +197,7 @@ module _ (dash : List ℕ) where
             plain = refl;
             opened = refl;
             closed = rw k refl;
-            front = ap (λ (s : Sections). s.before) here;
+            prefix = ap (λ (s : Sections). s.before) here;
             each = rw nil refl;
             few = rw nil (omega (arith, small));
           }
@@ -227,8 +227,8 @@ module _ (dash : List ℕ) where
                 plain = refl;
                 opened = opened_part line w.preamble w.parts k w.plain w.opened;
                 closed = w.closed;
-                front = ap (λ (s : Sections). s.before) here;
-                each = each_part line w.preamble w.parts p.pair p.rest pairs (ap pair_of (sym w.front) ∙ p.has) w.each p.all;
+                prefix = ap (λ (s : Sections). s.before) here;
+                each = each_part line w.preamble w.parts p.pair p.rest pairs (ap pair_of (sym w.prefix) ∙ p.has) w.each p.all;
                 few = few_part n p.pair p.rest pairs p.all w.few;
               }
 

@@ -4,12 +4,12 @@ use Rattle.std.proofs.Math.Seq.{take-append_seam}
 use Rattle.std.proofs.lemmas.List.{append-nil}
 use Rattle.form_input.specs.Lines.{lines, lines_left}
 use Rattle.form_input.specs.Multipart.{Section, Sections, line_kind, is_plain_line, is_closing_line, with_line, sections}
-use Rattle.form_input.specs.Boundaries.{sections_left, with_lines, front_of, IsEnded, IsPassed}
+use Rattle.form_input.specs.Boundaries.{sections_left, with_lines, prefix_of, IsEnded, IsPassed}
 use Rattle.std.proofs.lemmas.Bool.Decides.{nat_tests}
 use Rattle.form_input.proofs.LineLemmas.{lines_append}
 
 pub passed_nothing : (dash : List ℕ) (end : ℕ) (whole : List ℕ) → IsPassed dash end whole whole
-passed_nothing dash end whole = record { front = []; done = []; parts = refl; ended = inl (refl, refl); same = refl }
+passed_nothing dash end whole = record { prefix = []; done = []; parts = refl; ended = inl (refl, refl); same = refl }
 
 -- the sections from a line on
 first_line : (dash : List ℕ) (end : ℕ) (rest line : List ℕ) (more : List (List ℕ)) → lines rest ≡ line ∷ more
@@ -25,8 +25,8 @@ plain_line false closing at line s e = absurd cc
 twice : (done : List (List ℕ)) (line : List ℕ) (s : Sections) → with_lines done (with_lines (line ∷ []) s) ≡ with_lines (done ++ line ∷ []) s
 twice done line s = ap (λ (b : List (List ℕ)). record { before = b; later = s.later }) (sym (append_assoc done (line ∷ []) s.before))
 
-ended_more : (front line : List ℕ) (done : List (List ℕ)) → lines line ≡ line ∷ [] → IsEnded front done → IsEnded (front ++ (line ++ 13 ∷ 10 ∷ [])) (done ++ line ∷ [])
-ended_more front line done alone e = elim e as (λ _. IsEnded (front ++ (line ++ 13 ∷ 10 ∷ [])) (done ++ line ∷ [])) [
+ended_more : (prefix line : List ℕ) (done : List (List ℕ)) → lines line ≡ line ∷ [] → IsEnded prefix done → IsEnded (prefix ++ (line ++ 13 ∷ 10 ∷ [])) (done ++ line ∷ [])
+ended_more prefix line done alone e = elim e as (λ _. IsEnded (prefix ++ (line ++ 13 ∷ 10 ∷ [])) (done ++ line ∷ [])) [
   | inl none ↦ inr (line, rw none.0 refl, rw none.1 (sym alone))
   | inr some ↦ inr (some.0 ++ 13 ∷ 10 ∷ line, rw (some.1, append_assoc, append_assoc) refl, rw some.2 (sym (lines_append some.0 line ∙ ap (λ (ls : List (List ℕ)). lines some.0 ++ ls) alone)))
 ]
@@ -36,13 +36,13 @@ pub passed_line : (dash : List ℕ) (end : ℕ) (whole rest line more : List ℕ
     → is_plain_line (line_kind dash line) ≡ true → length whole ≤ end → IsPassed dash end whole rest → IsPassed dash end whole more
 passed_line dash end whole rest line more first alone parts plain within p =
     let size : length rest ≡ length line + suc (suc (length more)) = rw parts (rw length-append refl) in
-    let whole_size : length whole ≡ length p.front + length rest = rw p.parts (length-append p.front rest) in
+    let whole_size : length whole ≡ length p.prefix + length rest = rw p.parts (length-append p.prefix rest) in
     let at : end - length rest + length line + 2 ≡ end - length more = omega (arith, size, whole_size, within) in
     record {
-      front = p.front ++ (line ++ 13 ∷ 10 ∷ []);
+      prefix = p.prefix ++ (line ++ 13 ∷ 10 ∷ []);
       done = p.done ++ line ∷ [];
       parts = p.parts ∙ rw (parts, append_assoc, append_assoc) refl;
-      ended = ended_more p.front line p.done alone p.ended;
+      ended = ended_more p.prefix line p.done alone p.ended;
       same = p.same ∙ ap (with_lines p.done) (first_line dash end rest line (lines more) first ∙ plain_line (is_plain_line (line_kind dash line)) (is_closing_line (line_kind dash line)) (end - length rest) line _ plain ∙ rw at refl) ∙ twice p.done line _;
     }
 
@@ -65,36 +65,36 @@ left_after dash end rest line (Some more) within parts =
 not_less : (n : ℕ) → nat_lt (suc (suc n)) 2 ≡ false
 not_less n = grind (arith, nat_tests)
 
-front_lines : (front rest : List ℕ) (done : List (List ℕ)) → IsEnded front done → lines_left (front_of (front ++ rest) (length rest)) ≡ done
-front_lines front rest done e = elim e as (λ _. lines_left (front_of (front ++ rest) (length rest)) ≡ done) [
-  | inl none ↦ let size : length (front ++ rest) - length rest ≡ 0 = rw none.0 (omega arith) in rw (size, none.1) refl
+prefix_lines : (prefix rest : List ℕ) (done : List (List ℕ)) → IsEnded prefix done → lines_left (prefix_of (prefix ++ rest) (length rest)) ≡ done
+prefix_lines prefix rest done e = elim e as (λ _. lines_left (prefix_of (prefix ++ rest) (length rest)) ≡ done) [
+  | inl none ↦ let size : length (prefix ++ rest) - length rest ≡ 0 = rw none.0 (omega arith) in rw (size, none.1) refl
   | inr some ↦
-      let long : length front ≡ length some.0 + 2 = rw some.1 (length-append some.0 (13 ∷ 10 ∷ [])) in
-      let all : length (front ++ rest) ≡ length front + length rest = length-append front rest in
-      let size : length (front ++ rest) - length rest ≡ suc (suc (length some.0)) = omega (arith, long, all) in
+      let long : length prefix ≡ length some.0 + 2 = rw some.1 (length-append some.0 (13 ∷ 10 ∷ [])) in
+      let all : length (prefix ++ rest) ≡ length prefix + length rest = length-append prefix rest in
+      let size : length (prefix ++ rest) - length rest ≡ suc (suc (length some.0)) = omega (arith, long, all) in
       let less : suc (suc (length some.0)) - 2 ≡ length some.0 = omega arith in
       let more : nat_lt (suc (suc (length some.0))) 2 ≡ false = not_less (length some.0) in
-      let same : front ++ rest ≡ some.0 ++ (13 ∷ 10 ∷ rest) = rw (some.1, append_assoc) refl in
-      let cut : take (length some.0) (front ++ rest) ≡ some.0 = rw same (take-append_seam some.0 (13 ∷ 10 ∷ rest)) in
+      let same : prefix ++ rest ≡ some.0 ++ (13 ∷ 10 ∷ rest) = rw (some.1, append_assoc) refl in
+      let cut : take (length some.0) (prefix ++ rest) ≡ some.0 = rw same (take-append_seam some.0 (13 ∷ 10 ∷ rest)) in
       rw (size, more, less) (ap lines cut ∙ sym some.2)
 ]
 
 -- the boundary line that was reached, and the lines before it
-pub record Reached (dash : List ℕ) (end : ℕ) (whole : List ℕ) (front after : Option (List ℕ)) (place : ℕ) (closing : Bool) : Type 0 where
-  pub before : (sections_left dash end (Some whole)).before ≡ lines_left front
+pub record Reached (dash : List ℕ) (end : ℕ) (whole : List ℕ) (prefix after : Option (List ℕ)) (place : ℕ) (closing : Bool) : Type 0 where
+  pub before : (sections_left dash end (Some whole)).before ≡ lines_left prefix
   pub later : (sections_left dash end (Some whole)).later ≡ record { place = place; closing = closing; content = (sections_left dash end after).before } ∷ (sections_left dash end after).later
 
 pub reached : (dash : List ℕ) (end : ℕ) (whole rest line : List ℕ) (after : Option (List ℕ)) → lines rest ≡ line ∷ lines_left after → ((more : List ℕ) → after ≡ Some more → rest ≡ line ++ 13 ∷ 10 ∷ more)
     → is_plain_line (line_kind dash line) ≡ false → length whole ≤ end → IsPassed dash end whole rest
-    → Reached dash end whole (front_of whole (length rest)) after (end - length rest) (is_closing_line (line_kind dash line))
+    → Reached dash end whole (prefix_of whole (length rest)) after (end - length rest) (is_closing_line (line_kind dash line))
 reached dash end whole rest line after first parts plain within p =
-    let whole_size : length whole ≡ length p.front + length rest = rw p.parts (length-append p.front rest) in
+    let whole_size : length whole ≡ length p.prefix + length rest = rw p.parts (length-append p.prefix rest) in
     let here = first_line dash end rest line (lines_left after) first
     ∙ mark_line (is_plain_line (line_kind dash line)) (is_closing_line (line_kind dash line)) (end - length rest) line (sections dash (end - length rest + length line + 2) (lines_left after)) plain
     ∙ ap (λ (s : Sections). record { before = []; later = record { place = end - length rest; closing = is_closing_line (line_kind dash line); content = s.before } ∷ s.later }) (left_after dash end rest line after (omega (arith, whole_size, within)) parts) in
     let all = p.same ∙ ap (with_lines p.done) here in
     record {
-      before = ap (λ (s : Sections). s.before) all ∙ append-nil p.done ∙ sym (rw p.parts (front_lines p.front rest p.done p.ended));
+      before = ap (λ (s : Sections). s.before) all ∙ append-nil p.done ∙ sym (rw p.parts (prefix_lines p.prefix rest p.done p.ended));
       later = ap (λ (s : Sections). s.later) all;
     }
 

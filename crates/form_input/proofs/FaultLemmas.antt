@@ -15,10 +15,10 @@ use Rattle.form_input.proofs.FormLemmas.{Pairs, part_section, end_of_sections, l
 use Rattle.form_input.proofs.BodyLemmas.{and_left, and_right, opening_kind, opening_line, closing_line, place_after, plain_lines, no_lines, Begins}
 
 module _ (dash : List ℕ) where
-  place_append : (at : ℕ) (front rest : List (List ℕ)) → place_after dash at (front ++ rest) ≡ place_after dash (place_after dash at front) rest
+  place_append : (at : ℕ) (prefix rest : List (List ℕ)) → place_after dash at (prefix ++ rest) ≡ place_after dash (place_after dash at prefix) rest
   unfolding place_after
   place_append at [] rest = refl
-  place_append at (line ∷ front) rest = place_append (at + length line + 2) front rest
+  place_append at (line ∷ prefix) rest = place_append (at + length line + 2) prefix rest
 
   place_is : (at : ℕ) (ls : List (List ℕ)) → place_after dash at ls ≡ at + bytes_of_lines ls
   unfolding place_after bytes_of_lines

@@ -19,16 +19,16 @@ line_end_is b c e = go (eqb b 13) refl e
 is_line_end_at : (b c : ℕ) → b ≡ 13 → c ≡ 10 → is_line_end_pair b c ≡ true
 is_line_end_at b c eb ec = rw (eb, ec) refl
 
-reads_front : (b c : ℕ) (t : List ℕ) → b ≡ 13 → c ≡ 10 → (j : ℕ) → j < 2 → slice_index (b ∷ c ∷ t) (0 + j) ≡ slice_index line_end j
-reads_front b c t eb ec zero low = eb
-reads_front b c t eb ec (suc zero) low = ec
-reads_front b c t eb ec (suc (suc j)) low = absurd (omega (arith, low))
+reads_prefix : (b c : ℕ) (t : List ℕ) → b ≡ 13 → c ≡ 10 → (j : ℕ) → j < 2 → slice_index (b ∷ c ∷ t) (0 + j) ≡ slice_index line_end j
+reads_prefix b c t eb ec zero low = eb
+reads_prefix b c t eb ec (suc zero) low = ec
+reads_prefix b c t eb ec (suc (suc j)) low = absurd (omega (arith, low))
 
-occurs_front : (b c : ℕ) (t : List ℕ) → is_line_end_pair b c ≡ true → OccursAt (b ∷ c ∷ t) line_end 0
-occurs_front b c t e = let both = line_end_is b c e in record { fits = omega arith; reads = reads_front b c t both.0 both.1 }
+occurs_prefix : (b c : ℕ) (t : List ℕ) → is_line_end_pair b c ≡ true → OccursAt (b ∷ c ∷ t) line_end 0
+occurs_prefix b c t e = let both = line_end_is b c e in record { fits = omega arith; reads = reads_prefix b c t both.0 both.1 }
 
-front_occurs : (b c : ℕ) (t : List ℕ) → OccursAt (b ∷ c ∷ t) line_end 0 → is_line_end_pair b c ≡ true
-front_occurs b c t o = is_line_end_at b c (o.reads 0 (omega arith)) (o.reads 1 (omega arith))
+prefix_occurs : (b c : ℕ) (t : List ℕ) → OccursAt (b ∷ c ∷ t) line_end 0 → is_line_end_pair b c ≡ true
+prefix_occurs b c t o = is_line_end_at b c (o.reads 0 (omega arith)) (o.reads 1 (omega arith))
 
 occurs_later : (b : ℕ) (t : List ℕ) (k : ℕ) → OccursAt t line_end k → OccursAt (b ∷ t) line_end (suc k)
 occurs_later b t k o = record {
@@ -50,7 +50,7 @@ lines_alone (b ∷ []) none = refl
 lines_alone (b ∷ c ∷ t) none = go (is_line_end_pair b c) refl (lines_alone (c ∷ t) (λ k o. none (suc k) (occurs_later b (c ∷ t) k o)))
   where
     go : (x : Bool) → is_line_end_pair b c ≡ x → lines (c ∷ t) ≡ (c ∷ t) ∷ [] → cond x ([] ∷ lines t) (onto_first b (lines (c ∷ t))) ≡ (b ∷ c ∷ t) ∷ []
-    go true e ih = absurd (none 0 (occurs_front b c t e))
+    go true e ih = absurd (none 0 (occurs_prefix b c t e))
     go false e ih = ap (onto_first b) ih
 
 -- a text is cut at its first line end
@@ -64,7 +64,7 @@ unfolding lines
 cut_at k [] o none = absurd (let f = o.fits in omega (arith, f))
 cut_at k (b ∷ []) o none = absurd (let f = o.fits in omega (arith, f))
 cut_at zero (b ∷ c ∷ t) o none =
-    let e = front_occurs b c t o in
+    let e = prefix_occurs b c t o in
     let both = line_end_is b c e in
     record { split = go (is_line_end_pair b c) e; alone = refl; parts = rw (both.0, both.1) refl }
   where
@@ -86,7 +86,7 @@ cut_at (suc k) (b ∷ c ∷ t) o none = go (is_line_end_pair b c) refl k (cut_at
     alone (suc k) e ih = shut (is_line_end_pair b c) (take k t) e ∙ ap (onto_first b) ih
 
     go : (x : Bool) → is_line_end_pair b c ≡ x → (k : ℕ) → Cut k (c ∷ t) → Cut (suc k) (b ∷ c ∷ t)
-    go true e k ih = absurd (none 0 (omega arith) (occurs_front b c t e))
+    go true e k ih = absurd (none 0 (omega arith) (occurs_prefix b c t e))
     go false e k ih =
         let next : suc k + 2 ≡ suc (k + 2) = omega arith in
         record {

@@ -28,35 +28,35 @@ before_last_word (c ∷ t) b e = rw (before_last_word t b e, nonempty t b) (go (
     go false = refl
 
 -- bytes before the first piece
-abbrev pub with_front : List ℕ → List (List ℕ) → List (List ℕ)
-with_front front [] = front ∷ []
-with_front front (piece ∷ more) = (front ++ piece) ∷ more
+abbrev pub with_prefix : List ℕ → List (List ℕ) → List (List ℕ)
+with_prefix prefix [] = prefix ∷ []
+with_prefix prefix (piece ∷ more) = (prefix ++ piece) ∷ more
 
-with_front_onto : (front : List ℕ) (b : ℕ) (ps : List (List ℕ)) → with_front front (onto_first b ps) ≡ with_front (front ++ b ∷ []) ps
-with_front_onto front b [] = refl
-with_front_onto front b (p ∷ ps) = ap (λ (s : List ℕ). s ∷ ps) (sym (append_assoc front (b ∷ []) p))
+with_prefix_onto : (prefix : List ℕ) (b : ℕ) (ps : List (List ℕ)) → with_prefix prefix (onto_first b ps) ≡ with_prefix (prefix ++ b ∷ []) ps
+with_prefix_onto prefix b [] = refl
+with_prefix_onto prefix b (p ∷ ps) = ap (λ (s : List ℕ). s ∷ ps) (sym (append_assoc prefix (b ∷ []) p))
 
-pub with_front_none : (quoting : Quoting) (t : List ℕ) → with_front [] (parameter_pieces_from quoting t) ≡ parameter_pieces_from quoting t
+pub with_prefix_none : (quoting : Quoting) (t : List ℕ) → with_prefix [] (parameter_pieces_from quoting t) ≡ parameter_pieces_from quoting t
 unfolding parameter_pieces_from
-with_front_none quoting [] = refl
-with_front_none quoting (b ∷ t) = go (separates quoting b) (parameter_pieces_from (quoting_step quoting b) t)
+with_prefix_none quoting [] = refl
+with_prefix_none quoting (b ∷ t) = go (separates quoting b) (parameter_pieces_from (quoting_step quoting b) t)
   where
-    go : (x : Bool) (ps : List (List ℕ)) → with_front [] (cond x ([] ∷ parameter_pieces_from Outside t) (onto_first b ps)) ≡ cond x ([] ∷ parameter_pieces_from Outside t) (onto_first b ps)
+    go : (x : Bool) (ps : List (List ℕ)) → with_prefix [] (cond x ([] ∷ parameter_pieces_from Outside t) (onto_first b ps)) ≡ cond x ([] ∷ parameter_pieces_from Outside t) (onto_first b ps)
     go true ps = refl
     go false [] = refl
     go false (p ∷ ps) = refl
 
-pub piece_goes_on : (quoting : Quoting) (front : List ℕ) (b : ℕ) (t : List ℕ) → separates quoting b ≡ false → with_front front (parameter_pieces_from quoting (b ∷ t)) ≡ with_front (front ++ b ∷ []) (parameter_pieces_from (quoting_step quoting b) t)
+pub piece_goes_on : (quoting : Quoting) (prefix : List ℕ) (b : ℕ) (t : List ℕ) → separates quoting b ≡ false → with_prefix prefix (parameter_pieces_from quoting (b ∷ t)) ≡ with_prefix (prefix ++ b ∷ []) (parameter_pieces_from (quoting_step quoting b) t)
 unfolding parameter_pieces_from
-piece_goes_on quoting front b t e = rw e (with_front_onto front b (parameter_pieces_from (quoting_step quoting b) t))
+piece_goes_on quoting prefix b t e = rw e (with_prefix_onto prefix b (parameter_pieces_from (quoting_step quoting b) t))
 
-pub piece_ends : (quoting : Quoting) (front : List ℕ) (b : ℕ) (t : List ℕ) → separates quoting b ≡ true → with_front front (parameter_pieces_from quoting (b ∷ t)) ≡ front ∷ parameter_pieces t
+pub piece_ends : (quoting : Quoting) (prefix : List ℕ) (b : ℕ) (t : List ℕ) → separates quoting b ≡ true → with_prefix prefix (parameter_pieces_from quoting (b ∷ t)) ≡ prefix ∷ parameter_pieces t
 unfolding parameter_pieces_from
-piece_ends quoting front b t e = rw e (ap (λ (s : List ℕ). s ∷ parameter_pieces_from Outside t) (append-nil front))
+piece_ends quoting prefix b t e = rw e (ap (λ (s : List ℕ). s ∷ parameter_pieces_from Outside t) (append-nil prefix))
 
-pub piece_last : (quoting : Quoting) (front : List ℕ) → with_front front (parameter_pieces_from quoting []) ≡ front ∷ []
+pub piece_last : (quoting : Quoting) (prefix : List ℕ) → with_prefix prefix (parameter_pieces_from quoting []) ≡ prefix ∷ []
 unfolding parameter_pieces_from
-piece_last quoting front = ap (λ (s : List ℕ). s ∷ []) (append-nil front)
+piece_last quoting prefix = ap (λ (s : List ℕ). s ∷ []) (append-nil prefix)
 
 pub before_word_more : (word : List ℕ) (b : ℕ) (o : Option (List ℕ)) → before_word word (with_byte b o) ≡ before_word (word ++ b ∷ []) o
 before_word_more word b None = refl
@@ -84,7 +84,7 @@ ends_in_blank rest text some blank inv =
 
 -- how far the first piece goes: the bytes before a place, and the pieces from there on
 abbrev pub ReadTo : Quoting → ℕ → List ℕ → Type 0
-ReadTo quoting at text = with_front (take at text) (parameter_pieces_from quoting (drop at text)) ≡ parameter_pieces text
+ReadTo quoting at text = with_prefix (take at text) (parameter_pieces_from quoting (drop at text)) ≡ parameter_pieces text
 
 pub read_separator : (quoting : Quoting) (at : ℕ) (text : List ℕ) → at < length text → separates quoting (get_or text at 0) ≡ true → ReadTo quoting at text → parameter_pieces text ≡ take at text ∷ parameter_pieces (drop (at + 1) text)
 read_separator quoting at text low e inv =
@@ -94,8 +94,8 @@ read_separator quoting at text low e inv =
 pub read_byte : (quoting : Quoting) (at : ℕ) (text : List ℕ) → at < length text → separates quoting (get_or text at 0) ≡ false → ReadTo quoting at text → ReadTo (quoting_step quoting (get_or text at 0)) (at + 1) text
 read_byte quoting at text low e inv =
     let split = drop_more text at 0 low in
-    let front = take_more text at 0 low in
-    rw front (sym (piece_goes_on quoting (take at text) (get_or text at 0) (drop (at + 1) text) e) ∙ rw (← split) inv)
+    let prefix = take_more text at 0 low in
+    rw prefix (sym (piece_goes_on quoting (take at text) (get_or text at 0) (drop (at + 1) text) e) ∙ rw (← split) inv)
 
 pub read_all : (quoting : Quoting) (at : ℕ) (text : List ℕ) → length text ≤ at → ReadTo quoting at text → parameter_pieces text ≡ text ∷ []
 read_all quoting at text low inv =

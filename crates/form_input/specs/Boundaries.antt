@@ -15,19 +15,19 @@ with_lines done s = record { before = done ++ s.before; later = s.later }
 
 -- these bytes are these lines, each ended
 abbrev pub IsEnded : List ℕ → List (List ℕ) → Type 0
-IsEnded front done = ((front ≡ []) × (done ≡ [])) ⊎ ((text : List ℕ) × (front ≡ text ++ 13 ∷ 10 ∷ []) × (done ≡ lines text))
+IsEnded prefix done = ((prefix ≡ []) × (done ≡ [])) ⊎ ((text : List ℕ) × (prefix ≡ text ++ 13 ∷ 10 ∷ []) × (done ≡ lines text))
 
 -- a part of what is left was read
 pub record IsPassed (dash : List ℕ) (end : ℕ) (whole rest : List ℕ) : Type 0 where
-  pub front : List ℕ
+  pub prefix : List ℕ
   pub done : List (List ℕ)
-  pub parts : whole ≡ front ++ rest
-  pub ended : IsEnded front done
+  pub parts : whole ≡ prefix ++ rest
+  pub ended : IsEnded prefix done
   pub same : sections_left dash end (Some whole) ≡ with_lines done (sections_left dash end (Some rest))
 
 -- the text before the last bytes, without its last line end, where there are lines
-abbrev pub front_of : List ℕ → ℕ → Option (List ℕ)
-front_of text left = if nat_lt (length text - left) 2 then None else Some (take (length text - left - 2) text)
+abbrev pub prefix_of : List ℕ → ℕ → Option (List ℕ)
+prefix_of text left = if nat_lt (length text - left) 2 then None else Some (take (length text - left - 2) text)
 
 -- the sections from a boundary line on
 abbrev pub from_mark : List ℕ → ℕ → BoundaryLine → List Section

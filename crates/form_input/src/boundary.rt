@@ -1,7 +1,7 @@
 //! The boundary lines of a multipart body.
 ghost use Rattle.std.specs.Prelude.{◌≡◌, ◌<◌, ◌≤◌, [], Some, length, option_copied, IfSome, IfNone};
 ghost use Rattle.form_input.specs.Multipart.{kind_after, line_kind, is_plain_line, is_closing_line};
-ghost use Rattle.form_input.specs.Boundaries.{IsMark, front_of, sections_left};
+ghost use Rattle.form_input.specs.Boundaries.{IsMark, prefix_of, sections_left};
 
 use crate::lines::{LINE_END, next_line};
 use crate::parameters::all_blank;
@@ -104,7 +104,7 @@ fn is_closing(kind: LineKind) -> bool
 // The lines before the last bytes, without their last line end.
 fn before(text: &[u8], left: usize) -> Option<&[u8]>
     requires { left ≤ length text.now }
-    ensures { option_copied result ≡ front_of text.now left }
+    ensures { option_copied result ≡ prefix_of text.now left }
 {
     let passed = text.len() - left;
     if passed < LINE_END.len() {

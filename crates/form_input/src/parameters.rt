@@ -143,8 +143,8 @@ pub fn after_name<'a>(separator: u8, name: &[u8], text: &'a [u8]) -> Option<&'a 
     if name.len() > text.len() {
         return None;
     }
-    let (front, rest) = text.split_at(name.len());
-    if same_word(front, name) {
+    let (prefix, rest) = text.split_at(name.len());
+    if same_word(prefix, name) {
         after_separator(separator, rest)
     } else {
         None

@@ -212,20 +212,20 @@ pub greedy_at : (left run later : List GlobPiece) (cs : List ℕ) → left ≡ r
 greedy_at left run later cs parts plain star lt =
     ap (λ (l : List GlobPiece). is_match (Star ∷ l) cs) (parts ∙ ap (λ (l : List GlobPiece). run ++ l) (star_and_next later star lt)) ∙ greedy run (take (length later - 1) (drop 1 later)) cs plain
 
-pub front_at : (left run later : List GlobPiece) (cs : List ℕ) → left ≡ run ++ later → IsRun run → IsAfterRun later → 0 < length later
+pub prefix_at : (left run later : List GlobPiece) (cs : List ℕ) → left ≡ run ++ later → IsRun run → IsAfterRun later → 0 < length later
     → is_match left cs ≡ then_match (Star ∷ take (length later - 1) (drop 1 later)) (after_run run cs)
-front_at left run later cs parts plain star lt =
+prefix_at left run later cs parts plain star lt =
     ap (λ (l : List GlobPiece). is_match l cs) (parts ∙ ap (λ (l : List GlobPiece). run ++ l) (star_and_next later star lt)) ∙ run_then run (Star ∷ take (length later - 1) (drop 1 later)) cs plain
 
-pub front_fails : (left run later : List GlobPiece) (cs : List ℕ) → left ≡ run ++ later → IsRun run → after_run run cs ≡ None → is_match left cs ≡ false
-front_fails left run later cs parts plain none = ap (λ (l : List GlobPiece). is_match l cs) parts ∙ run_then run later cs plain ∙ ap (then_match later) none
+pub prefix_fails : (left run later : List GlobPiece) (cs : List ℕ) → left ≡ run ++ later → IsRun run → after_run run cs ≡ None → is_match left cs ≡ false
+prefix_fails left run later cs parts plain none = ap (λ (l : List GlobPiece). is_match l cs) parts ∙ run_then run later cs plain ∙ ap (then_match later) none
 
 nil_is : (later : List GlobPiece) → length later < 1 → later ≡ []
 nil_is [] lt = refl
 nil_is (piece ∷ pieces) lt = absurd (omega arith)
 
-pub front_whole : (left run later : List GlobPiece) (cs rest : List ℕ) → left ≡ run ++ later → length later < 1 → IsRun run → after_run run cs ≡ Some rest → is_match left cs ≡ is_empty_text rest
-front_whole left run later cs rest parts nil plain some =
+pub prefix_whole : (left run later : List GlobPiece) (cs rest : List ℕ) → left ≡ run ++ later → length later < 1 → IsRun run → after_run run cs ≡ Some rest → is_match left cs ≡ is_empty_text rest
+prefix_whole left run later cs rest parts nil plain some =
     ap (λ (l : List GlobPiece). is_match l cs) (parts ∙ ap (λ (l : List GlobPiece). run ++ l) (nil_is later nil)) ∙ run_then run [] cs plain ∙ ap (then_match []) some ∙ over rest
 
 pub drop_past : (run : List GlobPiece) (i : ℕ) → length run ≤ i → drop i run ≡ []

@@ -86,7 +86,7 @@ cut (c ∷ cs) = go (is_close c) refl (cut cs)
 -- what is left of a text that spells a glob, or that a class leaves open
 abbrev Told : List ℕ → Option (List ℕ) → Type 0
 Told cs None = Spells cs (pieces_from None cs)
-Told cs (Some rest) = (front : List ℕ) × (glob : List GlobPiece) × (inside : List ℕ) × (cs ≡ front ++ 91 ∷ inside) × (rest ≡ 91 ∷ inside) × Spells front glob × NonePass is_close inside
+Told cs (Some rest) = (prefix : List ℕ) × (glob : List GlobPiece) × (inside : List ℕ) × (cs ≡ prefix ++ 91 ∷ inside) × (rest ≡ 91 ∷ inside) × Spells prefix glob × NonePass is_close inside
 
 plain_spells : (c : ℕ) (cs : List ℕ) (pieces : List GlobPiece) → is_open c ≡ false → Spells cs pieces → Spells (c ∷ cs) (plain_piece c ∷ pieces)
 plain_spells c cs pieces apart later = go (c == 42) (c == 63) refl refl
@@ -103,19 +103,19 @@ told (suc n) (c ∷ cs) le = go (λ rest less. told n rest less) (is_open c) ref
   where
     plain : is_open c ≡ false → (o : Option (List ℕ)) → Told cs o → Told (c ∷ cs) o
     plain is None later = rw is (plain_spells c cs (pieces_from None cs) is later)
-    plain is (Some rest) (front, glob, inside, parts, same, spelled, none) = (c ∷ front, plain_piece c ∷ glob, inside, ap (λ (l : List ℕ). c ∷ l) parts, same, plain_spells c front glob is spelled, none)
+    plain is (Some rest) (prefix, glob, inside, parts, same, spelled, none) = (c ∷ prefix, plain_piece c ∷ glob, inside, ap (λ (l : List ℕ). c ∷ l) parts, same, plain_spells c prefix glob is spelled, none)
 
     class : (inside rest : List ℕ) → c ≡ 91 → cs ≡ inside ++ 93 ∷ rest → NonePass is_close inside → (o : Option (List ℕ)) → Told rest o → Told (c ∷ cs) o
     class inside rest is e none None later =
         let pieces : pieces_from None (91 ∷ cs) ≡ Class (class_of inside) ∷ pieces_from None rest = ap (pieces_from (Some [])) e ∙ class_piece [] inside rest none in
         rw (is, pieces) (Spells.class inside rest (class_of inside) none (class_sound inside) e later)
-    class inside rest is e none (Some left) (front, glob, after, parts, same, spelled, never) = (
-      91 ∷ (inside ++ 93 ∷ front),
+    class inside rest is e none (Some left) (prefix, glob, after, parts, same, spelled, never) = (
+      91 ∷ (inside ++ 93 ∷ prefix),
       Class (class_of inside) ∷ glob,
       after,
-      rw (is, e, parts) (ap (λ (l : List ℕ). 91 ∷ l) (sym (append_assoc inside (93 ∷ front) (91 ∷ after)))),
+      rw (is, e, parts) (ap (λ (l : List ℕ). 91 ∷ l) (sym (append_assoc inside (93 ∷ prefix) (91 ∷ after)))),
       same,
-      Spells.class inside front (class_of inside) none (class_sound inside) refl spelled,
+      Spells.class inside prefix (class_of inside) none (class_sound inside) refl spelled,
       never,
     )
 
@@ -171,11 +171,11 @@ answered text u = go (unclosed_class None (chars text)) (told (length (chars tex
   where
     go : (o : Option (List ℕ)) → Told (chars text) o → Answers (chars text) (unless_unclosed o text)
     go None spelled = spelled
-    go (Some rest) (front, glob, inside, parts, same, spelled, none) =
-        let whole : length text ≡ length (encode_utf8_all front) + length (encode_utf8_all rest) =
-        ap length (sym (encodes-chars text u) ∙ ap encode_utf8_all (parts ∙ ap (λ (l : List ℕ). front ++ l) (sym same)) ∙ encode_append front rest) ∙ length-append (encode_utf8_all front) (encode_utf8_all rest)
+    go (Some rest) (prefix, glob, inside, parts, same, spelled, none) =
+        let whole : length text ≡ length (encode_utf8_all prefix) + length (encode_utf8_all rest) =
+        ap length (sym (encodes-chars text u) ∙ ap encode_utf8_all (parts ∙ ap (λ (l : List ℕ). prefix ++ l) (sym same)) ∙ encode_append prefix rest) ∙ length-append (encode_utf8_all prefix) (encode_utf8_all rest)
         in
-        record { front = front; glob = glob; inside = inside; parts = parts; spelled = spelled; none = none; here = omega (arith, whole) }
+        record { prefix = prefix; glob = glob; inside = inside; parts = parts; spelled = spelled; none = none; here = omega (arith, whole) }
 
 is_only : (text : List ℕ) (glob : List GlobPiece) → Spells (chars text) glob → glob_of text ≡ Ok glob
 is_only text glob spelled =

@@ -39,13 +39,13 @@ pub data Spells : List ℕ → List GlobPiece → Type 0 where
 
 -- a glob, and then a `[` that no `]` closes, at this place: the number of bytes before it
 pub record IsOpen (place : ℕ) (cs : List ℕ) : Type 0 where
-  pub front : List ℕ
+  pub prefix : List ℕ
   pub glob : List GlobPiece
   pub inside : List ℕ
-  pub parts : cs ≡ front ++ 91 ∷ inside
-  pub spelled : Spells front glob
+  pub parts : cs ≡ prefix ++ 91 ∷ inside
+  pub spelled : Spells prefix glob
   pub none : NonePass is_close inside
-  pub here : place ≡ length (encode_utf8_all front)
+  pub here : place ≡ length (encode_utf8_all prefix)
 
 -- the characters spell no glob, since a class is open at this place
 abbrev pub IsFault : GlobFault → List ℕ → Type 0

@@ -104,8 +104,8 @@ fn range_end(first: char, later: &str) -> (char, &str)
     ensures value { spec.ranges_of (first ∷ chars later.now) ≡ spec.range first result.0 ∷ spec.ranges_of (chars result.1.now) }
     ensures shorter { length result.1.now ≤ length later.now }
 {
-    if let Some(('-', behind)) = first_char(later)
-        && let Some((last, after)) = first_char(behind)
+    if let Some(('-', remainder)) = first_char(later)
+        && let Some((last, after)) = first_char(remainder)
     {
         return (last, after);
     }

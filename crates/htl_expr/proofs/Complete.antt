@@ -236,10 +236,10 @@ access_begins _ s f r (g.bracket b w c) = rw (no_dot s _ b, again.at_here 91 s _
 
 access_again : (depth : ℕ) (s f r : List ℕ) → Access depth s f r → spec.access depth s ≡ Ok (f, r)
 unfolding spec.access spec.bracket_access
-access_again _ s f r (g.field b x) = rw (again.at_here 46 s _ b, again.behind 46 s _ b) (again.name_again Field _ f r x)
+access_again _ s f r (g.field b x) = rw (again.at_here 46 s _ b, again.remainder 46 s _ b) (again.name_again Field _ f r x)
 access_again _ s f r (g.bracket {depth = d} b w c) =
     let deep : eqb (suc d) 0 ≡ false = search rules in
-    rw (no_dot s _ b, deep, again.behind 91 s _ b, again.string_again _ f _ w, again.expect_again 93 _ r c) refl
+    rw (no_dot s _ b, deep, again.remainder 91 s _ b, again.string_again _ f _ w, again.expect_again 93 _ r c) refl
 
 first_again : (depth : ℕ) (s f r : List ℕ) → Access depth s f r → spec.first_access depth s ≡ Ok (f, r)
 unfolding spec.first_access
@@ -309,7 +309,7 @@ module _ (depth : ℕ) (inner : Inside → List ℕ → Outcome ExprNode) where
 
 nested_again : (depth : ℕ) (which : Inside) (c : ℕ) (s r1 r : List ℕ) (e : ExprNode) → Byte c s r1 → spec.level depth (spec.nesting depth) which r1 ≡ Ok (e, r) → spec.nesting (suc depth) which s ≡ Ok (e, r)
 unfolding spec.nesting
-nested_again depth which c s r1 r e b x = rw (again.behind c s r1 b) x
+nested_again depth which c s r1 r e b x = rw (again.remainder c s r1 b) x
 
 -- ---- chains
 
@@ -392,23 +392,23 @@ no_comma [] h = absurd cc
 no_comma (c ∷ s) h = let e : c ≡ 93 = eqb_is c 93 h in rw e refl
 
 -- what stands after the items of a chain
-abbrev Behind : Separator → List ℕ → Type 0
-Behind And r = Stops Compare r × (begins_with_byte 38 r ≡ false)
-Behind Or r = Stops Both r × (begins_with_byte 124 r ≡ false)
-Behind Comma r = Stops Choice r × (begins_with_byte 44 r ≡ false)
+abbrev After : Separator → List ℕ → Type 0
+After And r = Stops Compare r × (begins_with_byte 38 r ≡ false)
+After Or r = Stops Both r × (begins_with_byte 124 r ≡ false)
+After Comma r = Stops Choice r × (begins_with_byte 44 r ≡ false)
 
-behind_stops : (sep : Separator) (r : List ℕ) → Behind sep r → Stops (part_of sep) r
-behind_stops And r b = b.0
-behind_stops Or r b = b.0
-behind_stops Comma r b = b.0
+after_stops : (sep : Separator) (r : List ℕ) → After sep r → Stops (part_of sep) r
+after_stops And r b = b.0
+after_stops Or r b = b.0
+after_stops Comma r b = b.0
 
 separates_stops : (sep : Separator) (s r : List ℕ) → Separates sep s r → Stops (part_of sep) s
 separates_stops And = and_compare
 separates_stops Or = or_both
 separates_stops Comma = comma_choice
 
-next_stops : (sep : Separator) (depth : ℕ) (s : List ℕ) (es : List ExprNode) (r : List ℕ) → Behind sep r → More sep depth s es r → Stops (part_of sep) s
-next_stops sep depth s es r b m = more_stops (Stops (part_of sep)) sep depth s es r (separates_stops sep) (behind_stops sep r b) m
+next_stops : (sep : Separator) (depth : ℕ) (s : List ℕ) (es : List ExprNode) (r : List ℕ) → After sep r → More sep depth s es r → Stops (part_of sep) s
+next_stops sep depth s es r b m = more_stops (Stops (part_of sep)) sep depth s es r (separates_stops sep) (after_stops sep r b) m
 
 mutual
   pub complete : (part : Part) (depth : ℕ) (s : List ℕ) (e : ExprNode) (r : List ℕ) → Reads part depth s e r → Stops part r → parse part depth s ≡ Ok (e, r)
@@ -447,7 +447,7 @@ mutual
       (nested_again d i.Choice 63 _ _ _ _ b (complete _ d _ _ _ y (colon_choice _ _ c))) c (nested_again d i.Choice 58 _ _ r _ c (complete _ d _ _ r z st))
   complete _ depth s e r (g.only x) st = only_again depth (spec.nesting depth) s r e (complete _ depth s e r x (st.0, st.1, st.2, st.3)) st.4
 
-  compares_again : (depth k : ℕ) (found : List ExprNode) (s : List ℕ) (es : List ExprNode) (r : List ℕ) → More And depth s es r → Behind And r → length s ≤ k
+  compares_again : (depth k : ℕ) (found : List ExprNode) (s : List ℕ) (es : List ExprNode) (r : List ℕ) → More And depth s es r → After And r → length s ≤ k
       → spec.chain (spec.compare depth (spec.nesting depth)) 38 k found s ≡ Ok (found ++ es, r)
   compares_again depth k found s _ _ g.end st le = chain_stop (spec.compare depth (spec.nesting depth)) 38 k found s st.1
   compares_again depth zero found s _ r (g.more o x m) st le = absurd (omega (arith, separates-short And _ _ o))
@@ -455,7 +455,7 @@ mutual
       chain_turn And (spec.compare depth (spec.nesting depth)) k found s _ _ r _ _ o (complete Compare depth _ _ _ x (next_stops And depth _ _ r st m))
       (compares_again depth k (found ++ _ ∷ []) _ _ r m st (omega (arith, separates-short And _ _ o, reads-short _ _ _ _ _ x)))
 
-  boths_again : (depth k : ℕ) (found : List ExprNode) (s : List ℕ) (es : List ExprNode) (r : List ℕ) → More Or depth s es r → Behind Or r → length s ≤ k
+  boths_again : (depth k : ℕ) (found : List ExprNode) (s : List ℕ) (es : List ExprNode) (r : List ℕ) → More Or depth s es r → After Or r → length s ≤ k
       → spec.chain (spec.both depth (spec.nesting depth)) 124 k found s ≡ Ok (found ++ es, r)
   boths_again depth k found s _ _ g.end st le = chain_stop (spec.both depth (spec.nesting depth)) 124 k found s st.1
   boths_again depth zero found s _ r (g.more o x m) st le = absurd (omega (arith, separates-short Or _ _ o))
@@ -463,7 +463,7 @@ mutual
       chain_turn Or (spec.both depth (spec.nesting depth)) k found s _ _ r _ _ o (complete Both depth _ _ _ x (next_stops Or depth _ _ r st m))
       (boths_again depth k (found ++ _ ∷ []) _ _ r m st (omega (arith, separates-short Or _ _ o, reads-short _ _ _ _ _ x)))
 
-  choices_again : (depth k : ℕ) (found : List ExprNode) (s : List ℕ) (es : List ExprNode) (r : List ℕ) → More Comma depth s es r → Behind Comma r → length s ≤ k
+  choices_again : (depth k : ℕ) (found : List ExprNode) (s : List ℕ) (es : List ExprNode) (r : List ℕ) → More Comma depth s es r → After Comma r → length s ≤ k
       → spec.chain (spec.choice depth (spec.nesting depth)) 44 k found s ≡ Ok (found ++ es, r)
   choices_again depth k found s _ _ g.end st le = chain_stop (spec.choice depth (spec.nesting depth)) 44 k found s st.1
   choices_again depth zero found s _ r (g.more o x m) st le = absurd (omega (arith, separates-short Comma _ _ o))

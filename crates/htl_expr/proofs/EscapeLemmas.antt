@@ -82,26 +82,26 @@ run_end (c ∷ t) lt = go (reference c) refl (run_end t) lt
     go (Some r) e ih less = marked_low c r e
     go None e ih less = ih (omega (arith, less))
 
-pub drop_less : (n : ℕ) (t behind : List ℕ) → behind ≡ drop n t → length behind ≤ length t
-drop_less n t behind e = let l : length behind ≡ length t - n = rw e (length-drop n t) in omega (arith, l)
+pub drop_less : (n : ℕ) (t remainder : List ℕ) → remainder ≡ drop n t → length remainder ≤ length t
+drop_less n t remainder e = let l : length remainder ≡ length t - n = rw e (length-drop n t) in omega (arith, l)
 
 pub run_boundary : (t : List ℕ) → IsCharBoundary t (reference_place t)
 run_boundary t = (run_within t, λ lt big. let small = run_end t lt in omega (arith, small, big))
 
 -- the last run is written
-pub run_ends : (n : ℕ) (old before new rest plain run behind : List ℕ) → n ≡ reference_place rest → run ≡ take n rest → behind ≡ drop n rest → first_reference behind ≡ None → new ≡ before ++ run
+pub run_ends : (n : ℕ) (old before new rest plain run remainder : List ℕ) → n ≡ reference_place rest → run ≡ take n rest → remainder ≡ drop n rest → first_reference remainder ≡ None → new ≡ before ++ run
     → before ++ flat_map html_escape rest ≡ old ++ flat_map html_escape plain → new ≡ old ++ flat_map html_escape plain
-run_ends n old before new rest plain run behind en er eb none ew inv =
+run_ends n old before new rest plain run remainder en er eb none ew inv =
     let done = rw (eb, en) at none in
     let last : flat_map html_escape rest ≡ run = run_step rest ∙ rw (run_stops rest done, er, en) (append-nil (take (reference_place rest) rest)) in
     ew ∙ sym (ap (λ (l : List ℕ). before ++ l) last) ∙ inv
 
 -- a run is written, and a reference after it
-pub run_goes_on : (n : ℕ) (old before run_written new rest plain run behind reference : List ℕ) → n ≡ reference_place rest → run ≡ take n rest → behind ≡ drop n rest → first_reference behind ≡ Some reference
-    → run_written ≡ before ++ run → new ≡ run_written ++ reference → before ++ flat_map html_escape rest ≡ old ++ flat_map html_escape plain → new ++ flat_map html_escape (drop 1 behind) ≡ old ++ flat_map html_escape plain
-run_goes_on n old before run_written new rest plain run behind reference en er eb some ew en' inv =
-    let later = flat_map html_escape (drop 1 behind) in
-    let rest_is : flat_map html_escape rest ≡ run ++ (reference ++ later) = run_step rest ∙ rw (er, en) (ap (λ (l : List ℕ). take (reference_place rest) rest ++ l) (ap (flat_map html_escape) (sym (rw en at eb)) ∙ (marked behind reference some).written)) in
+pub run_goes_on : (n : ℕ) (old before run_written new rest plain run remainder reference : List ℕ) → n ≡ reference_place rest → run ≡ take n rest → remainder ≡ drop n rest → first_reference remainder ≡ Some reference
+    → run_written ≡ before ++ run → new ≡ run_written ++ reference → before ++ flat_map html_escape rest ≡ old ++ flat_map html_escape plain → new ++ flat_map html_escape (drop 1 remainder) ≡ old ++ flat_map html_escape plain
+run_goes_on n old before run_written new rest plain run remainder reference en er eb some ew en' inv =
+    let later = flat_map html_escape (drop 1 remainder) in
+    let rest_is : flat_map html_escape rest ≡ run ++ (reference ++ later) = run_step rest ∙ rw (er, en) (ap (λ (l : List ℕ). take (reference_place rest) rest ++ l) (ap (flat_map html_escape) (sym (rw en at eb)) ∙ (marked remainder reference some).written)) in
     rw (en', ew) (append_assoc (before ++ run) reference later ∙ append_assoc before run (reference ++ later) ∙ sym (ap (λ (l : List ℕ). before ++ l) rest_is)) ∙ inv
 
 reference_inert : (b : ℕ) → list_all is_inert (html_escape b) ≡ true
@@ -173,10 +173,10 @@ run_stops_at n most f old before new rest plain run en er inv b w =
     (begins_later old before new b w.0, λ known. let x = w.1 known in (x.0, rw inv at (longer most before run _ (flat_map html_escape rest) rest_is x.1)))
 
 -- a reference doesn't fit
-pub reference_stops_at : (n most : ℕ) (f : WriteFault) (old before run_written new rest plain run behind reference : List ℕ) → n ≡ reference_place rest → run ≡ take n rest → behind ≡ drop n rest → first_reference behind ≡ Some reference
+pub reference_stops_at : (n most : ℕ) (f : WriteFault) (old before run_written new rest plain run remainder reference : List ℕ) → n ≡ reference_place rest → run ≡ take n rest → remainder ≡ drop n rest → first_reference remainder ≡ Some reference
     → run_written ≡ before ++ run → before ++ flat_map html_escape rest ≡ old ++ flat_map html_escape plain → Begins old before → IsStopped most f run_written reference new → IsStopped most f old (flat_map html_escape plain) new
-reference_stops_at n most f old before run_written new rest plain run behind reference en er eb some ew inv b w =
-    let later = flat_map html_escape (drop 1 behind) in
-    let rest_is : flat_map html_escape rest ≡ run ++ (reference ++ later) = run_step rest ∙ rw (er, en) (ap (λ (l : List ℕ). take (reference_place rest) rest ++ l) (ap (flat_map html_escape) (sym (rw en at eb)) ∙ (marked behind reference some).written)) in
+reference_stops_at n most f old before run_written new rest plain run remainder reference en er eb some ew inv b w =
+    let later = flat_map html_escape (drop 1 remainder) in
+    let rest_is : flat_map html_escape rest ≡ run ++ (reference ++ later) = run_step rest ∙ rw (er, en) (ap (λ (l : List ℕ). take (reference_place rest) rest ++ l) (ap (flat_map html_escape) (sym (rw en at eb)) ∙ (marked remainder reference some).written)) in
     let same : run_written ++ (reference ++ later) ≡ old ++ flat_map html_escape plain = ap (λ (l : List ℕ). l ++ (reference ++ later)) ew ∙ append_assoc before run (reference ++ later) ∙ ap (λ (l : List ℕ). before ++ l) (sym rest_is) ∙ inv in
     (begins_later old run_written new (begins_more old before run run_written b ew) w.0, λ known. let x = w.1 known in (x.0, rw same at (longer most run_written reference later (reference ++ later) refl x.1)))

@@ -77,8 +77,8 @@ goes_more size m n o p le g = record { further = g.further; within = within_less
 
 -- ---- how many bytes are left
 
-abbrev pub behind : {A : Type 0} → A × List ℕ → ℕ
-behind x = length x.1
+abbrev pub remainder : {A : Type 0} → A × List ℕ → ℕ
+remainder x = length x.1
 
 abbrev pub bytes : List ℕ → ℕ
 bytes t = length t

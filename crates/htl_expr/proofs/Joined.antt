@@ -16,10 +16,10 @@ further_push : {X : Type 0} (join : List ℕ) (f : X → List ℕ) (ts : List X)
 further_push join f [] x = append-nil (join ++ f x)
 further_push join f (t ∷ ts) x = ap (λ (l : List ℕ). (join ++ f t) ++ l) (further_push join f ts x) ∙ sym (append_assoc (join ++ f t) (further join f ts) (join ++ f x))
 
-further_front : {X : Type 0} (join : List ℕ) (f : X → List ℕ) (n : ℕ) (xs : List X) → further join f xs ≡ further join f (take n xs) ++ further join f (drop n xs)
-further_front join f zero xs = refl
-further_front join f (suc n) [] = refl
-further_front join f (suc n) (x ∷ xs) = ap (λ (l : List ℕ). (join ++ f x) ++ l) (further_front join f n xs) ∙ sym (append_assoc (join ++ f x) (further join f (take n xs)) (further join f (drop n xs)))
+further_prefix : {X : Type 0} (join : List ℕ) (f : X → List ℕ) (n : ℕ) (xs : List X) → further join f xs ≡ further join f (take n xs) ++ further join f (drop n xs)
+further_prefix join f zero xs = refl
+further_prefix join f (suc n) [] = refl
+further_prefix join f (suc n) (x ∷ xs) = ap (λ (l : List ℕ). (join ++ f x) ++ l) (further_prefix join f n xs) ∙ sym (append_assoc (join ++ f x) (further join f (take n xs)) (further join f (drop n xs)))
 
 joined_push : {X : Type 0} (join before : List ℕ) (f : X → List ℕ) (ts : List X) (x : X) → (length ts ≡ 0 → before ≡ []) → (0 < length ts → before ≡ join)
     → concatenation join (map f (ts ++ x ∷ [])) ≡ concatenation join (map f ts) ++ (before ++ f x)
@@ -28,10 +28,10 @@ joined_push join before f (t ∷ ts) x none some =
     let is = some (omega arith) in
     rw is (ap (λ (l : List ℕ). f t ++ l) (further_push join f ts x) ∙ sym (append_assoc (f t) (further join f ts) (join ++ f x)))
 
-joined_front : {X : Type 0} (join : List ℕ) (f : X → List ℕ) (n : ℕ) (xs : List X) → Begins (concatenation join (map f (take n xs))) (concatenation join (map f xs))
-joined_front join f zero xs = record { rest = concatenation join (map f xs); parts = refl }
-joined_front join f (suc n) [] = record { rest = []; parts = refl }
-joined_front join f (suc n) (x ∷ xs) = record { rest = further join f (drop n xs); parts = ap (λ (l : List ℕ). f x ++ l) (further_front join f n xs) ∙ sym (append_assoc (f x) (further join f (take n xs)) (further join f (drop n xs))) }
+joined_prefix : {X : Type 0} (join : List ℕ) (f : X → List ℕ) (n : ℕ) (xs : List X) → Begins (concatenation join (map f (take n xs))) (concatenation join (map f xs))
+joined_prefix join f zero xs = record { rest = concatenation join (map f xs); parts = refl }
+joined_prefix join f (suc n) [] = record { rest = []; parts = refl }
+joined_prefix join f (suc n) (x ∷ xs) = record { rest = further join f (drop n xs); parts = ap (λ (l : List ℕ). f x ++ l) (further_prefix join f n xs) ∙ sym (append_assoc (f x) (further join f (take n xs)) (further join f (drop n xs))) }
 
 taken : {X : Type 0} (i : ℕ) (xs : List X) → i < length xs → length (take i xs) ≡ i
 taken zero xs lt = refl
@@ -48,9 +48,9 @@ joined_more join before f xs i d lt none some =
 pub item_written : {X : Type 0} (context : Option Context) (join before old mid new : List ℕ) (f : X → List ℕ) (xs : List X) (i : ℕ) (d : X) → i < length xs → (i ≡ 0 → before ≡ []) → (0 < i → before ≡ join)
     → mid ≡ old ++ in_context context (concatenation join (map f (take i xs))) → new ≡ mid ++ in_context context (before ++ f (get_or xs i d)) → new ≡ old ++ in_context context (concatenation join (map f (take (i + 1) xs)))
 item_written context join before old mid new f xs i d lt none some m e =
-    let front = in_context context (concatenation join (map f (take i xs))) in
+    let leading = in_context context (concatenation join (map f (take i xs))) in
     let item = in_context context (before ++ f (get_or xs i d)) in
-    e ∙ ap (λ (l : List ℕ). l ++ item) m ∙ append_assoc old front item ∙ ap (λ (l : List ℕ). old ++ l) (sym (in_context_append context (concatenation join (map f (take i xs))) (before ++ f (get_or xs i d))) ∙ ap (in_context context) (sym (joined_more join before f xs i d lt none some)))
+    e ∙ ap (λ (l : List ℕ). l ++ item) m ∙ append_assoc old leading item ∙ ap (λ (l : List ℕ). old ++ l) (sym (in_context_append context (concatenation join (map f (take i xs))) (before ++ f (get_or xs i d))) ∙ ap (in_context context) (sym (joined_more join before f xs i d lt none some)))
 
 -- an item doesn't fit
 pub item_stops : {X : Type 0} (most : ℕ) (fault : WriteFault) (context : Option Context) (join before old mid new : List ℕ) (f : X → List ℕ) (xs : List X) (i : ℕ) (d : X) → i < length xs → (i ≡ 0 → before ≡ []) → (0 < i → before ≡ join)
@@ -58,7 +58,7 @@ pub item_stops : {X : Type 0} (most : ℕ) (fault : WriteFault) (context : Optio
 item_stops most fault context join before old mid new f xs i d lt none some m w =
     let item = in_context context (before ++ f (get_or xs i d)) in
     let same = item_written context join before old mid (mid ++ item) f xs i d lt none some m refl in
-    let b = joined_front join f (i + 1) xs in
+    let b = joined_prefix join f (i + 1) xs in
     let parts = ap (in_context context) b.parts ∙ in_context_append context (concatenation join (map f (take (i + 1) xs))) b.rest in (
       begins_later old mid new (record { rest = in_context context (concatenation join (map f (take i xs))); parts = m }) w.0,
       λ known. let y = w.1 known in (y.0, longer most old (in_context context (concatenation join (map f (take (i + 1) xs)))) (in_context context b.rest) (in_context context (concatenation join (map f xs))) parts (rw same at y.1)),

@@ -61,34 +61,34 @@ deepens levels deeper s e le w =
 
 -- ---- texts that agree
 
-pub agree_front : (place : ℕ) (front a b : List ℕ) → place < length front → Agree place (front ++ a) (front ++ b)
-agree_front place [] a b lt = absurd (omega (arith, lt))
-agree_front zero (c ∷ front) a b lt = record { front = refl; here = refl }
-agree_front (suc place) (c ∷ front) a b lt =
-    let k = agree_front place front a b (omega (arith, lt)) in
-    record { front = ap (λ (t : List ℕ). c ∷ t) k.front; here = k.here }
+pub agree_prefix : (place : ℕ) (leading a b : List ℕ) → place < length leading → Agree place (leading ++ a) (leading ++ b)
+agree_prefix place [] a b lt = absurd (omega (arith, lt))
+agree_prefix zero (c ∷ leading) a b lt = record { leading = refl; here = refl }
+agree_prefix (suc place) (c ∷ leading) a b lt =
+    let k = agree_prefix place leading a b (omega (arith, lt)) in
+    record { leading = ap (λ (t : List ℕ). c ∷ t) k.leading; here = k.here }
 
 -- with what stands before a later byte
 pub agree_take : (place later : ℕ) (s more : List ℕ) → place < later → place < length s → Agree place s (take later s ++ more)
 agree_take place later [] more lt some = absurd (omega (arith, some))
 agree_take zero zero (c ∷ s) more lt some = absurd (omega (arith, lt))
-agree_take zero (suc later) (c ∷ s) more lt some = record { front = refl; here = refl }
+agree_take zero (suc later) (c ∷ s) more lt some = record { leading = refl; here = refl }
 agree_take (suc place) zero (c ∷ s) more lt some = absurd (omega (arith, lt))
 agree_take (suc place) (suc later) (c ∷ s) more lt some =
     let k = agree_take place later s more (omega (arith, lt)) (omega (arith, some)) in
-    record { front = ap (λ (t : List ℕ). c ∷ t) k.front; here = k.here }
+    record { leading = ap (λ (t : List ℕ). c ∷ t) k.leading; here = k.here }
 
 same_head : (s : List ℕ) → SameHead s s
 same_head [] = tt
 same_head (c ∷ s) = refl
 
 pub agree_same : (place : ℕ) (s : List ℕ) → Agree place s s
-agree_same place s = record { front = refl; here = same_head (drop place s) }
+agree_same place s = record { leading = refl; here = same_head (drop place s) }
 
 -- ---- a byte that nests too deep
 
 deep_within : (levels : ℕ) (s : List ℕ) (left : ℕ) → expression_read levels s ≡ Err (TooDeep left) → left ≤ length s
-deep_within levels s left e = let k = failed levels (TooDeep left) s e in omega (arith, ap length k.parts, length-append k.front k.rest, k.left.0)
+deep_within levels s left e = let k = failed levels (TooDeep left) s e in omega (arith, ap length k.parts, length-append k.leading k.rest, k.left.0)
 
 -- what is read up to a later byte
 later_some : (levels : ℕ) (s : List ℕ) (place later : ℕ) → place < later → place < length s → MayGoOn levels s later → HasSome levels s place
@@ -114,9 +114,9 @@ letter_nests zero e = absurd cc
 letter_nests (suc zero) e = absurd cc
 letter_nests (suc (suc k)) e = let nil : drop k [] ≡ [] = drop-nil k in let n = ap (begins nests) (sym nil) ∙ e in absurd cc
 
-drop_front : (front r : List ℕ) (k : ℕ) → drop (length front + k) (front ++ r) ≡ drop k r
-drop_front [] r k = (let e : length {A = ℕ} [] + k ≡ k = omega arith in ap (λ (n : ℕ). drop n r) e)
-drop_front (c ∷ front) r k = (let e : length (c ∷ front) + k ≡ suc (length front + k) = omega arith in ap (λ (n : ℕ). drop n (c ∷ (front ++ r))) e ∙ drop_front front r k)
+drop_prefix : (leading r : List ℕ) (k : ℕ) → drop (length leading + k) (leading ++ r) ≡ drop k r
+drop_prefix [] r k = (let e : length {A = ℕ} [] + k ≡ k = omega arith in ap (λ (n : ℕ). drop n r) e)
+drop_prefix (c ∷ leading) r k = (let e : length (c ∷ leading) + k ≡ suc (length leading + k) = omega arith in ap (λ (n : ℕ). drop n (c ∷ (leading ++ r))) e ∙ drop_prefix leading r k)
 
 lt_or_le : (a b : ℕ) → (a < b) ⊎ (b ≤ a)
 lt_or_le a zero = inr (omega arith)
@@ -128,18 +128,18 @@ lt_or_le (suc a) (suc b) = elim (lt_or_le a b) [
 
 -- where what stands before a colon may go on, nothing nests too deep in it, nor does the colon or a letter
 letter_not_deep : (levels : ℕ) (s : List ℕ) (place : ℕ) → MayGoOn levels s place → (k : ℕ) → expression_read levels (take place s ++ colon_letter) ≡ Err (TooDeep k) → ⊥
-letter_not_deep levels s place m k r = elim (lt_or_le deep (length front)) [
-  | inl lt ↦ (none_deep levels u k r).none (front ++ m.more) m.tree (agree_front deep front colon_letter m.more lt) m.whole
+letter_not_deep levels s place m k r = elim (lt_or_le deep (length leading)) [
+  | inl lt ↦ (none_deep levels u k r).none (leading ++ m.more) m.tree (agree_prefix deep leading colon_letter m.more lt) m.whole
   | inr le ↦
-      let split : deep ≡ length front + (deep - length front) = omega (arith, le) in
-      letter_nests (deep - length front) (ap (begins nests) (sym (ap (λ (n : ℕ). drop n u) split ∙ drop_front front colon_letter (deep - length front))) ∙ nests_deep levels u k r)
+      let split : deep ≡ length leading + (deep - length leading) = omega (arith, le) in
+      letter_nests (deep - length leading) (ap (begins nests) (sym (ap (λ (n : ℕ). drop n u) split ∙ drop_prefix leading colon_letter (deep - length leading))) ∙ nests_deep levels u k r)
 ]
   where
-    front : List ℕ
-    front = take place s
+    leading : List ℕ
+    leading = take place s
 
     u : List ℕ
-    u = front ++ colon_letter
+    u = leading ++ colon_letter
 
     deep : ℕ
     deep = length u - k

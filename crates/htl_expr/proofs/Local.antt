@@ -25,17 +25,17 @@ begins_same test [] (d ∷ z) h = absurd h
 begins_same test (d ∷ r) [] h = absurd h
 begins_same test (d ∷ r) (b ∷ z) h = ap test (sym h)
 
-pub front_same : (front r z : List ℕ) → SameHead r z → SameHead (front ++ r) (front ++ z)
-front_same [] r z h = h
-front_same (c ∷ front) r z h = refl
+pub prefix_same : (leading r z : List ℕ) → SameHead r z → SameHead (leading ++ r) (leading ++ z)
+prefix_same [] r z h = h
+prefix_same (c ∷ leading) r z h = refl
 
-pub same_behind : (c : ℕ) (r z : List ℕ) → SameHead r z → Same (c ∷ r) (c ∷ z)
+pub same_after : (c : ℕ) (r z : List ℕ) → SameHead r z → Same (c ∷ r) (c ∷ z)
 unfolding goes_on
-same_behind c r z h = (refl, λ e. ap (λ (b : Bool). is_word_byte c || (eqb c 58 && b)) (sym (begins_same is_letter r z h)) ∙ e)
+same_after c r z h = (refl, λ e. ap (λ (b : Bool). is_word_byte c || (eqb c 58 && b)) (sym (begins_same is_letter r z h)) ∙ e)
 
-pub head_in : (front r z : List ℕ) → Same r z → Same (front ++ r) (front ++ z)
+pub head_in : (leading r z : List ℕ) → Same r z → Same (leading ++ r) (leading ++ z)
 head_in [] r z h = h
-head_in (c ∷ front) r z h = same_behind c (front ++ r) (front ++ z) (front_same front r z h.0)
+head_in (c ∷ leading) r z h = same_after c (leading ++ r) (leading ++ z) (prefix_same leading r z h.0)
 
 pub at_same : (c : ℕ) (r z : List ℕ) → Same r z → begins_with_byte c z ≡ begins_with_byte c r
 unfolding begins_with_byte
@@ -66,16 +66,16 @@ moved (Unexpected _) left = Unexpected left
 moved (TooDeep _) left = TooDeep left
 
 pub record Kept {A : Type 0} (f : List ℕ → Outcome A) (s : List ℕ) (x : A) (r : List ℕ) : Type 0 where
-  pub front : List ℕ
-  pub parts : s ≡ front ++ r
-  pub same : (z : List ℕ) → Same r z → f (front ++ z) ≡ Ok (x, z)
+  pub leading : List ℕ
+  pub parts : s ≡ leading ++ r
+  pub same : (z : List ℕ) → Same r z → f (leading ++ z) ≡ Ok (x, z)
 
 pub record Failed {A : Type 0} (f : List ℕ → Outcome A) (d : ExprStop) (s : List ℕ) : Type 0 where
-  pub front : List ℕ
+  pub leading : List ℕ
   pub rest : List ℕ
-  pub parts : s ≡ front ++ rest
+  pub parts : s ≡ leading ++ rest
   pub left : IsAt d rest
-  pub same : (z : List ℕ) → Same rest z → f (front ++ z) ≡ Err (moved d (length z))
+  pub same : (z : List ℕ) → Same rest z → f (leading ++ z) ≡ Err (moved d (length z))
 
 pub record Local {A : Type 0} (f : List ℕ → Outcome A) : Type 0 where
   pub ok : (s : List ℕ) (x : A) (r : List ℕ) → f s ≡ Ok (x, r) → Kept f s x r
@@ -83,8 +83,8 @@ pub record Local {A : Type 0} (f : List ℕ → Outcome A) : Type 0 where
 
 pub local_ext : {A : Type 0} (f h : List ℕ → Outcome A) → ((s : List ℕ) → f s ≡ h s) → Local f → Local h
 local_ext f h eq l = record {
-  ok = λ s x r e. (let k = l.ok s x r (eq s ∙ e) in record { front = k.front; parts = k.parts; same = λ z w. sym (eq (k.front ++ z)) ∙ k.same z w });
-  err = λ d s e. (let k = l.err d s (eq s ∙ e) in record { front = k.front; rest = k.rest; parts = k.parts; left = k.left; same = λ z w. sym (eq (k.front ++ z)) ∙ k.same z w });
+  ok = λ s x r e. (let k = l.ok s x r (eq s ∙ e) in record { leading = k.leading; parts = k.parts; same = λ z w. sym (eq (k.leading ++ z)) ∙ k.same z w });
+  err = λ d s e. (let k = l.err d s (eq s ∙ e) in record { leading = k.leading; rest = k.rest; parts = k.parts; left = k.left; same = λ z w. sym (eq (k.leading ++ z)) ∙ k.same z w });
 }
 
 pub local_bind : {A B : Type 0} (f : List ℕ → Outcome A) (h : A → List ℕ → Outcome B) → Local f → ((x : A) → Local (h x)) → Local (λ s. f s >>= λ x. h x.0 x.1)
@@ -94,21 +94,21 @@ local_bind f h lf lh = record {
       let k = lf.ok s b.0.0 b.0.1 b.1 in
       let l = (lh b.0.0).ok b.0.1 y r b.2 in
       record {
-        front = k.front ++ l.front;
-        parts = k.parts ∙ ap (λ (t : List ℕ). k.front ++ t) l.parts ∙ sym (append_assoc k.front l.front r);
-        same = λ z w. rw (append_assoc k.front l.front z, k.same (l.front ++ z) (subst (λ (t : List ℕ). Same t (l.front ++ z)) (sym l.parts) (head_in l.front r z w))) (l.same z w);
+        leading = k.leading ++ l.leading;
+        parts = k.parts ∙ ap (λ (t : List ℕ). k.leading ++ t) l.parts ∙ sym (append_assoc k.leading l.leading r);
+        same = λ z w. rw (append_assoc k.leading l.leading z, k.same (l.leading ++ z) (subst (λ (t : List ℕ). Same t (l.leading ++ z)) (sym l.parts) (head_in l.leading r z w))) (l.same z w);
       });
   err = λ d s e. elim (bind_err (f s) (λ x. h x.0 x.1) d e) [
     | inl at ↦ (let k = lf.err d s at in
-        record { front = k.front; rest = k.rest; parts = k.parts; left = k.left; same = λ z w. rw (k.same z w) refl })
+        record { leading = k.leading; rest = k.rest; parts = k.parts; left = k.left; same = λ z w. rw (k.same z w) refl })
     | inr at ↦ (let q = lf.ok s at.0.0 at.0.1 at.1 in
         let k = (lh at.0.0).err d at.0.1 at.2 in
         record {
-          front = q.front ++ k.front;
+          leading = q.leading ++ k.leading;
           rest = k.rest;
-          parts = q.parts ∙ ap (λ (t : List ℕ). q.front ++ t) k.parts ∙ sym (append_assoc q.front k.front k.rest);
+          parts = q.parts ∙ ap (λ (t : List ℕ). q.leading ++ t) k.parts ∙ sym (append_assoc q.leading k.leading k.rest);
           left = k.left;
-          same = λ z w. rw (append_assoc q.front k.front z, q.same (k.front ++ z) (subst (λ (t : List ℕ). Same t (k.front ++ z)) (sym k.parts) (head_in k.front k.rest z w))) (k.same z w);
+          same = λ z w. rw (append_assoc q.leading k.leading z, q.same (k.leading ++ z) (subst (λ (t : List ℕ). Same t (k.leading ++ z)) (sym k.parts) (head_in k.leading k.rest z w))) (k.same z w);
         })
   ];
 }
@@ -119,7 +119,7 @@ got x r = Ok (x, r)
 pub local_pure : {A : Type 0} (y : A) → Local (got y)
 local_pure y = record {
   ok = λ s x r e. (let p = ok_is (y, s) (x, r) e in
-      record { front = []; parts = ap (λ q. q.1) p; same = λ z w. ap (λ q. got q.0 z) p });
+      record { leading = []; parts = ap (λ q. q.1) p; same = λ z w. ap (λ q. got q.0 z) p });
   err = λ d s e. absurd cc;
 }
 
@@ -133,30 +133,30 @@ pub local_refuse : {A : Type 0} → Local (refuse {A = A})
 local_refuse {A = A} = record {
   ok = λ s x r e. absurd cc;
   err = λ d s e. subst (λ (b : ExprStop). Failed (refuse {A = A}) b s) (err_is {A = A} (Unexpected (length s)) d e)
-      (record { front = []; rest = s; parts = refl; left = refl; same = λ z w. refl });
+      (record { leading = []; rest = s; parts = refl; left = refl; same = λ z w. refl });
 }
 
 -- a choice by a test of the next byte
 pub local_if : {A : Type 0} (test : List ℕ → Bool) (f h : List ℕ → Outcome A) → ((r z : List ℕ) → Same r z → test z ≡ test r) → Local f → Local h → Local (λ s. cond (test s) (f s) (h s))
 local_if {A = A} test f h sees lf lh = record { ok = ok; err = err }
   where
-    seen : (b : Bool) (s front r z : List ℕ) → s ≡ front ++ r → test s ≡ b → Same r z → test (front ++ z) ≡ b
-    seen b s front r z parts e w = sees (front ++ r) (front ++ z) (head_in front r z w) ∙ ap test (sym parts) ∙ e
+    seen : (b : Bool) (s leading r z : List ℕ) → s ≡ leading ++ r → test s ≡ b → Same r z → test (leading ++ z) ≡ b
+    seen b s leading r z parts e w = sees (leading ++ r) (leading ++ z) (head_in leading r z w) ∙ ap test (sym parts) ∙ e
 
     ok : (s : List ℕ) (x : A) (r : List ℕ) → cond (test s) (f s) (h s) ≡ Ok (x, r) → Kept (λ t. cond (test t) (f t) (h t)) s x r
     ok s x r e = elim (chosen (test s) _ _ _ e) [
       | inl w ↦ (let k = lf.ok s x r w.1 in
-          record { front = k.front; parts = k.parts; same = λ z q. (let t : test (k.front ++ z) ≡ true = seen true s k.front r z k.parts w.0 q in rw t (k.same z q)) })
+          record { leading = k.leading; parts = k.parts; same = λ z q. (let t : test (k.leading ++ z) ≡ true = seen true s k.leading r z k.parts w.0 q in rw t (k.same z q)) })
       | inr w ↦ (let k = lh.ok s x r w.1 in
-          record { front = k.front; parts = k.parts; same = λ z q. (let t : test (k.front ++ z) ≡ false = seen false s k.front r z k.parts w.0 q in rw t (k.same z q)) })
+          record { leading = k.leading; parts = k.parts; same = λ z q. (let t : test (k.leading ++ z) ≡ false = seen false s k.leading r z k.parts w.0 q in rw t (k.same z q)) })
     ]
 
     err : (d : ExprStop) (s : List ℕ) → cond (test s) (f s) (h s) ≡ Err d → Failed (λ t. cond (test t) (f t) (h t)) d s
     err d s e = elim (chosen (test s) _ _ _ e) [
       | inl w ↦ (let k = lf.err d s w.1 in
-          record { front = k.front; rest = k.rest; parts = k.parts; left = k.left; same = λ z q. (let t : test (k.front ++ z) ≡ true = seen true s k.front k.rest z k.parts w.0 q in rw t (k.same z q)) })
+          record { leading = k.leading; rest = k.rest; parts = k.parts; left = k.left; same = λ z q. (let t : test (k.leading ++ z) ≡ true = seen true s k.leading k.rest z k.parts w.0 q in rw t (k.same z q)) })
       | inr w ↦ (let k = lh.err d s w.1 in
-          record { front = k.front; rest = k.rest; parts = k.parts; left = k.left; same = λ z q. (let t : test (k.front ++ z) ≡ false = seen false s k.front k.rest z k.parts w.0 q in rw t (k.same z q)) })
+          record { leading = k.leading; rest = k.rest; parts = k.parts; left = k.left; same = λ z q. (let t : test (k.leading ++ z) ≡ false = seen false s k.leading k.rest z k.parts w.0 q in rw t (k.same z q)) })
     ]
 
 pub local_fixed : {A : Type 0} (b : Bool) (f h : List ℕ → Outcome A) → Local f → Local h → Local (λ t. cond b (f t) (h t))
@@ -169,19 +169,19 @@ pub local_drop : {A : Type 0} (f : List ℕ → Outcome A) → Local f → Local
 local_drop {A = A} f l = record { ok = ok; err = err }
   where
     ok : (s : List ℕ) (x : A) (r : List ℕ) → f (drop 1 s) ≡ Ok (x, r) → Kept (λ t. f (drop 1 t)) s x r
-    ok [] x r e = (let k = l.ok [] x r e in nil x r k.front k.parts k.same)
+    ok [] x r e = (let k = l.ok [] x r e in nil x r k.leading k.parts k.same)
       where
-        nil : (x' : A) (r' front : List ℕ) → [] ≡ front ++ r' → ((z : List ℕ) → Same r' z → f (front ++ z) ≡ Ok (x', z)) → Kept (λ t. f (drop 1 t)) [] x' r'
-        nil x' [] [] p same = record { front = []; parts = refl; same = λ z w. (let e : z ≡ [] = nil_same z w in rw e (same [] (tt, λ h. h))) }
+        nil : (x' : A) (r' leading : List ℕ) → [] ≡ leading ++ r' → ((z : List ℕ) → Same r' z → f (leading ++ z) ≡ Ok (x', z)) → Kept (λ t. f (drop 1 t)) [] x' r'
+        nil x' [] [] p same = record { leading = []; parts = refl; same = λ z w. (let e : z ≡ [] = nil_same z w in rw e (same [] (tt, λ h. h))) }
         nil x' (c ∷ r') [] p same = absurd cc
-        nil x' r' (c ∷ front) p same = absurd cc
-    ok (c ∷ s) x r e = (let k = l.ok s x r e in record { front = c ∷ k.front; parts = ap (λ (t : List ℕ). c ∷ t) k.parts; same = k.same })
+        nil x' r' (c ∷ leading) p same = absurd cc
+    ok (c ∷ s) x r e = (let k = l.ok s x r e in record { leading = c ∷ k.leading; parts = ap (λ (t : List ℕ). c ∷ t) k.parts; same = k.same })
 
     err : (d : ExprStop) (s : List ℕ) → f (drop 1 s) ≡ Err d → Failed (λ t. f (drop 1 t)) d s
-    err d [] e = (let k = l.err d [] e in nil k.front k.rest k.parts k.left k.same)
+    err d [] e = (let k = l.err d [] e in nil k.leading k.rest k.parts k.left k.same)
       where
-        nil : (front rest : List ℕ) → [] ≡ front ++ rest → IsAt d rest → ((z : List ℕ) → Same rest z → f (front ++ z) ≡ Err (moved d (length z))) → Failed (λ t. f (drop 1 t)) d []
-        nil [] [] p left same = record { front = []; rest = []; parts = refl; left = left; same = λ z w. (let e : z ≡ [] = nil_same z w in rw e (same [] (tt, λ h. h))) }
+        nil : (leading rest : List ℕ) → [] ≡ leading ++ rest → IsAt d rest → ((z : List ℕ) → Same rest z → f (leading ++ z) ≡ Err (moved d (length z))) → Failed (λ t. f (drop 1 t)) d []
+        nil [] [] p left same = record { leading = []; rest = []; parts = refl; left = left; same = λ z w. (let e : z ≡ [] = nil_same z w in rw e (same [] (tt, λ h. h))) }
         nil [] (c ∷ rest) p left same = absurd cc
-        nil (c ∷ front) rest p left same = absurd cc
-    err d (c ∷ s) e = (let k = l.err d s e in record { front = c ∷ k.front; rest = k.rest; parts = ap (λ (t : List ℕ). c ∷ t) k.parts; left = k.left; same = k.same })
+        nil (c ∷ leading) rest p left same = absurd cc
+    err d (c ∷ s) e = (let k = l.err d s e in record { leading = c ∷ k.leading; rest = k.rest; parts = ap (λ (t : List ℕ). c ∷ t) k.parts; left = k.left; same = k.same })

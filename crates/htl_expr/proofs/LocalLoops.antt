@@ -15,16 +15,16 @@ module _ {A : Type 0} (test : List ℕ → Bool) (item : List ℕ → Outcome A)
   whole_loop found t = loop (length t) found t
 
   record LoopKept (found : List A) (s : List ℕ) (xs : List A) (r : List ℕ) : Type 0 where
-    pub front : List ℕ
-    pub parts : s ≡ front ++ r
-    pub same : (z : List ℕ) (j : ℕ) → Same r z → length (front ++ z) ≤ j → loop j found (front ++ z) ≡ Ok (xs, z)
+    pub leading : List ℕ
+    pub parts : s ≡ leading ++ r
+    pub same : (z : List ℕ) (j : ℕ) → Same r z → length (leading ++ z) ≤ j → loop j found (leading ++ z) ≡ Ok (xs, z)
 
   record LoopFailed (d : ExprStop) (found : List A) (s : List ℕ) : Type 0 where
-    pub front : List ℕ
+    pub leading : List ℕ
     pub rest : List ℕ
-    pub parts : s ≡ front ++ rest
+    pub parts : s ≡ leading ++ rest
     pub left : IsAt d rest
-    pub same : (z : List ℕ) (j : ℕ) → Same rest z → length (front ++ z) ≤ j → loop j found (front ++ z) ≡ Err (moved d (length z))
+    pub same : (z : List ℕ) (j : ℕ) → Same rest z → length (leading ++ z) ≤ j → loop j found (leading ++ z) ≡ Err (moved d (length z))
 
   loop_stops : (j : ℕ) (found : List A) (z : List ℕ) → test z ≡ false → loop j found z ≡ Ok (found, z)
   unfolding loop
@@ -41,53 +41,53 @@ module _ {A : Type 0} (test : List ℕ → Bool) (item : List ℕ → Outcome A)
 
   module _ (sees : (r z : List ℕ) → Same r z → test z ≡ test r) (nil : test [] ≡ false) (local : Local item) (shrinks : (t : List ℕ) (x : A) (r : List ℕ) → test t ≡ true → item t ≡ Ok (x, r) → length r < length t) where
     stop_kept : (found : List A) (s : List ℕ) → test s ≡ false → LoopKept found s found s
-    stop_kept found s e = record { front = []; parts = refl; same = λ z j h le. loop_stops j found z (sees s z h ∙ e) }
+    stop_kept found s e = record { leading = []; parts = refl; same = λ z j h le. loop_stops j found z (sees s z h ∙ e) }
 
     -- one turn, before what the others make of any text that begins alike
-    again : (found : List A) (s : List ℕ) (x : A) (q rest z front : List ℕ) (j : ℕ) (o : Outcome (List A)) (k : Kept item s x q) → test s ≡ true → item s ≡ Ok (x, q) → q ≡ front ++ rest → Same rest z
-        → length ((k.front ++ front) ++ z) ≤ j → ((i : ℕ) → length (front ++ z) ≤ i → loop i (found ++ x ∷ []) (front ++ z) ≡ o) → loop j found ((k.front ++ front) ++ z) ≡ o
-    again found s x q rest z front zero o k e i p h le others =
-        absurd (omega (arith, length-append (k.front ++ front) z, length-append k.front front, shrinks s x q e i, ap length k.parts, length-append k.front q))
-    again found s x q rest z front (suc j) o k e i p h le others =
-        let near : Same q (front ++ z) = subst (λ (t : List ℕ). Same t (front ++ z)) (sym p) (head_in front rest z h) in
-        let seen : test (k.front ++ (front ++ z)) ≡ true = sees (k.front ++ q) (k.front ++ (front ++ z)) (head_in k.front q (front ++ z) near) ∙ ap test (sym k.parts) ∙ e in
-        rw (append_assoc k.front front z) (loop_turns j found (k.front ++ (front ++ z)) x (front ++ z) o seen (k.same (front ++ z) near)
-        (others j (omega (arith, length-append (k.front ++ front) z, length-append k.front front, length-append front z, shrinks s x q e i, ap length k.parts, length-append k.front q))))
+    again : (found : List A) (s : List ℕ) (x : A) (q rest z leading : List ℕ) (j : ℕ) (o : Outcome (List A)) (k : Kept item s x q) → test s ≡ true → item s ≡ Ok (x, q) → q ≡ leading ++ rest → Same rest z
+        → length ((k.leading ++ leading) ++ z) ≤ j → ((i : ℕ) → length (leading ++ z) ≤ i → loop i (found ++ x ∷ []) (leading ++ z) ≡ o) → loop j found ((k.leading ++ leading) ++ z) ≡ o
+    again found s x q rest z leading zero o k e i p h le others =
+        absurd (omega (arith, length-append (k.leading ++ leading) z, length-append k.leading leading, shrinks s x q e i, ap length k.parts, length-append k.leading q))
+    again found s x q rest z leading (suc j) o k e i p h le others =
+        let near : Same q (leading ++ z) = subst (λ (t : List ℕ). Same t (leading ++ z)) (sym p) (head_in leading rest z h) in
+        let seen : test (k.leading ++ (leading ++ z)) ≡ true = sees (k.leading ++ q) (k.leading ++ (leading ++ z)) (head_in k.leading q (leading ++ z) near) ∙ ap test (sym k.parts) ∙ e in
+        rw (append_assoc k.leading leading z) (loop_turns j found (k.leading ++ (leading ++ z)) x (leading ++ z) o seen (k.same (leading ++ z) near)
+        (others j (omega (arith, length-append (k.leading ++ leading) z, length-append k.leading leading, length-append leading z, shrinks s x q e i, ap length k.parts, length-append k.leading q))))
 
     turn_kept : (found : List A) (s : List ℕ) (x : A) (q : List ℕ) (xs : List A) (r : List ℕ) → test s ≡ true → item s ≡ Ok (x, q) → LoopKept (found ++ x ∷ []) q xs r → LoopKept found s xs r
     turn_kept found s x q xs r e i l =
         let k = local.ok s x q i in
         record {
-          front = k.front ++ l.front;
-          parts = k.parts ∙ ap (λ (t : List ℕ). k.front ++ t) l.parts ∙ sym (append_assoc k.front l.front r);
-          same = λ z j h le. again found s x q r z l.front j (Ok (xs, z)) k e i l.parts h le (λ m w. l.same z m h w);
+          leading = k.leading ++ l.leading;
+          parts = k.parts ∙ ap (λ (t : List ℕ). k.leading ++ t) l.parts ∙ sym (append_assoc k.leading l.leading r);
+          same = λ z j h le. again found s x q r z l.leading j (Ok (xs, z)) k e i l.parts h le (λ m w. l.same z m h w);
         }
 
     turn_failed : (d : ExprStop) (found : List A) (s : List ℕ) (x : A) (q : List ℕ) → test s ≡ true → item s ≡ Ok (x, q) → LoopFailed d (found ++ x ∷ []) q → LoopFailed d found s
     turn_failed d found s x q e i l =
         let k = local.ok s x q i in
         record {
-          front = k.front ++ l.front;
+          leading = k.leading ++ l.leading;
           rest = l.rest;
-          parts = k.parts ∙ ap (λ (t : List ℕ). k.front ++ t) l.parts ∙ sym (append_assoc k.front l.front l.rest);
+          parts = k.parts ∙ ap (λ (t : List ℕ). k.leading ++ t) l.parts ∙ sym (append_assoc k.leading l.leading l.rest);
           left = l.left;
-          same = λ z j h le. again found s x q l.rest z l.front j (Err (moved d (length z))) k e i l.parts h le (λ m w. l.same z m h w);
+          same = λ z j h le. again found s x q l.rest z l.leading j (Err (moved d (length z))) k e i l.parts h le (λ m w. l.same z m h w);
         }
 
     item_failed : (d : ExprStop) (found : List A) (s : List ℕ) → test s ≡ true → 0 < length s → Failed item d s → LoopFailed d found s
-    item_failed d found s e some k = record { front = k.front; rest = k.rest; parts = k.parts; left = k.left; same = fails }
+    item_failed d found s e some k = record { leading = k.leading; rest = k.rest; parts = k.parts; left = k.left; same = fails }
       where
-        first : (front rest z : List ℕ) → Same rest z → 0 < length (front ++ rest) → 0 < length (front ++ z)
+        first : (leading rest z : List ℕ) → Same rest z → 0 < length (leading ++ rest) → 0 < length (leading ++ z)
         first [] [] z h lt = absurd (omega arith)
         first [] (c ∷ rest) [] h lt = absurd h.0
         first [] (c ∷ rest) (b ∷ z) h lt = omega arith
-        first (c ∷ front) rest z h lt = omega arith
+        first (c ∷ leading) rest z h lt = omega arith
 
-        fails : (z : List ℕ) (j : ℕ) → Same k.rest z → length (k.front ++ z) ≤ j → loop j found (k.front ++ z) ≡ Err (moved d (length z))
-        fails z zero h le = absurd (let lt : 0 < length (k.front ++ z) = first k.front k.rest z h (rw k.parts at some) in omega arith)
+        fails : (z : List ℕ) (j : ℕ) → Same k.rest z → length (k.leading ++ z) ≤ j → loop j found (k.leading ++ z) ≡ Err (moved d (length z))
+        fails z zero h le = absurd (let lt : 0 < length (k.leading ++ z) = first k.leading k.rest z h (rw k.parts at some) in omega arith)
         fails z (suc j) h le =
-            let seen : test (k.front ++ z) ≡ true = sees (k.front ++ k.rest) (k.front ++ z) (head_in k.front k.rest z h) ∙ ap test (sym k.parts) ∙ e in
-            loop_fails j found (k.front ++ z) (moved d (length z)) seen (k.same z h)
+            let seen : test (k.leading ++ z) ≡ true = sees (k.leading ++ k.rest) (k.leading ++ z) (head_in k.leading k.rest z h) ∙ ap test (sym k.parts) ∙ e in
+            loop_fails j found (k.leading ++ z) (moved d (length z)) seen (k.same z h)
 
     seen_some : (s : List ℕ) → test s ≡ true → 0 < length s
     seen_some [] e = absurd cc
@@ -120,8 +120,8 @@ module _ {A : Type 0} (test : List ℕ → Bool) (item : List ℕ → Outcome A)
     local_loop found = record {
       ok = λ s xs r e.
           (let k = loop_ok (length s) found s xs r (omega arith) e in
-          record { front = k.front; parts = k.parts; same = λ z h. k.same z (length (k.front ++ z)) h (omega arith) });
+          record { leading = k.leading; parts = k.parts; same = λ z h. k.same z (length (k.leading ++ z)) h (omega arith) });
       err = λ d s e.
           (let k = loop_err d (length s) found s (omega arith) e in
-          record { front = k.front; rest = k.rest; parts = k.parts; left = k.left; same = λ z h. k.same z (length (k.front ++ z)) h (omega arith) });
+          record { leading = k.leading; rest = k.rest; parts = k.parts; left = k.left; same = λ z h. k.same z (length (k.leading ++ z)) h (omega arith) });
     }

@@ -135,13 +135,13 @@ module _ (levels : ℕ) where
 
   -- the reason for which a text is not read, and the texts that are not read for the same
   pub record Left (d : ExprStop) (s : List ℕ) : Type 0 where
-    pub front : List ℕ
+    pub leading : List ℕ
     pub rest : List ℕ
-    pub parts : s ≡ front ++ rest
+    pub parts : s ≡ leading ++ rest
     pub left : IsAt d rest
-    pub same : (z : List ℕ) → Same rest z → spec.expression_read levels (front ++ z) ≡ Err (moved d (length z))
+    pub same : (z : List ℕ) → Same rest z → spec.expression_read levels (leading ++ z) ≡ Err (moved d (length z))
 
   pub failed : (d : ExprStop) (s : List ℕ) → spec.expression_read levels s ≡ Err d → Left d s
   failed d s e =
       let k = local_text.err d s (alone_err (text s) d (read_is s ∙ e)) in
-      record { front = k.front; rest = k.rest; parts = k.parts; left = k.left; same = λ z w. sym (read_is (k.front ++ z)) ∙ ap alone (k.same z w) }
+      record { leading = k.leading; rest = k.rest; parts = k.parts; left = k.left; same = λ z w. sym (read_is (k.leading ++ z)) ∙ ap alone (k.same z w) }

@@ -101,7 +101,7 @@ module _ (c : ℕ) (item : List ℕ → Outcome ExprNode) (local : Local item) w
   turn-short t x r at e =
       let op = bind_ok (spec.between c t) item (x, r) e in
       let k = local.ok op.0 x r op.2 in
-      omega (arith, between-short c t op.0 at op.1, ap length k.parts, length-append k.front r)
+      omega (arith, between-short c t op.0 at op.1, ap length k.parts, length-append k.leading r)
 
   regroup : (o : Result (List ℕ) ExprStop) (f : ExprNode × List ℕ → Outcome (List ExprNode)) → ((o >>= λ r. item r) >>= f) ≡ (o >>= λ r. item r >>= f)
   regroup (Ok r) f = refl
@@ -235,9 +235,9 @@ module _ (depth : ℕ) (inner : Inside → List ℕ → Outcome ExprNode) (local
 abbrev pub deeper : ℕ → Inside → List ℕ → Outcome ExprNode
 deeper depth which t = spec.level depth (spec.nesting depth) which t
 
-local_behind : (d : ℕ) (which : Inside) (c : ℕ) → Local (deeper d which) → Local (guarded c (spec.nesting (suc d) which))
+local_after : (d : ℕ) (which : Inside) (c : ℕ) → Local (deeper d which) → Local (guarded c (spec.nesting (suc d) which))
 unfolding spec.nesting
-local_behind d which c l = local_if (begins_with_byte c) (λ t. deeper d which (blanks_skipped (drop 1 t))) refuse (at_same c) (local_drop (λ t. deeper d which (blanks_skipped t)) (local_skip (deeper d which) l)) local_refuse
+local_after d which c l = local_if (begins_with_byte c) (λ t. deeper d which (blanks_skipped (drop 1 t))) refuse (at_same c) (local_drop (λ t. deeper d which (blanks_skipped t)) (local_skip (deeper d which) l)) local_refuse
 
 local_zero : (which : Inside) (c : ℕ) → nests c ≡ true → Local (guarded c (spec.nesting zero which))
 unfolding spec.nesting
@@ -250,7 +250,7 @@ none_nested t x e = cc
 pub local_deeper : (depth : ℕ) (which : Inside) → Local (deeper depth which)
 local_deeper zero which = local_level zero (spec.nesting zero) local_zero (inr none_nested) which
 local_deeper (suc d) which =
-    local_level (suc d) (spec.nesting (suc d)) (λ which' c nest. local_behind d which' c (local_deeper d which')) (inl (local_behind d Choice 58 (local_deeper d Choice))) which
+    local_level (suc d) (spec.nesting (suc d)) (λ which' c nest. local_after d which' c (local_deeper d which')) (inl (local_after d Choice 58 (local_deeper d Choice))) which
 
 pub local_tree : (levels : ℕ) → Local (spec.choice levels (spec.nesting levels))
 local_tree levels = local_deeper levels Choice

@@ -15,7 +15,7 @@ body_ok b b' mark c s make x r step ih e =
     let w = bind_ok (string_from b' mark s) (λ y. Ok (make y.0, y.1)) (x, r) (sym (step s) ∙ e) in
     let k = ih w.0.0 w.0.1 w.1 in
     subst (λ (q : List ℕ × List ℕ). Kept (string_from b mark) (c ∷ s) q.0 q.1) (ok_is _ _ w.2)
-    (record { front = c ∷ k.front; parts = ap (λ (t : List ℕ). c ∷ t) k.parts; same = λ z h. step (k.front ++ z) ∙ ap (λ (o : Outcome (List ℕ)). o >>= λ y. done (make y.0, y.1)) (k.same z h) })
+    (record { leading = c ∷ k.leading; parts = ap (λ (t : List ℕ). c ∷ t) k.parts; same = λ z h. step (k.leading ++ z) ∙ ap (λ (o : Outcome (List ℕ)). o >>= λ y. done (make y.0, y.1)) (k.same z h) })
 
 body_err : (b b' : Bool) (mark c : ℕ) (s : List ℕ) (make : List ℕ → List ℕ) (d : ExprStop)
     → ((t : List ℕ) → string_from b mark (c ∷ t) ≡ (string_from b' mark t >>= λ y. Ok (make y.0, y.1)))
@@ -23,7 +23,7 @@ body_err : (b b' : Bool) (mark c : ℕ) (s : List ℕ) (make : List ℕ → List
 body_err b b' mark c s make d step ih e =
     elim (bind_err (string_from b' mark s) (λ y. done (make y.0, y.1)) d (sym (step s) ∙ e)) [
       | inl at ↦ (let k = ih at in
-          record { front = c ∷ k.front; rest = k.rest; parts = ap (λ (t : List ℕ). c ∷ t) k.parts; left = k.left; same = λ z h. step (k.front ++ z) ∙ ap (λ (o : Outcome (List ℕ)). o >>= λ y. done (make y.0, y.1)) (k.same z h) })
+          record { leading = c ∷ k.leading; rest = k.rest; parts = ap (λ (t : List ℕ). c ∷ t) k.parts; left = k.left; same = λ z h. step (k.leading ++ z) ∙ ap (λ (o : Outcome (List ℕ)). o >>= λ y. done (make y.0, y.1)) (k.same z h) })
       | inr at ↦ absurd (let z = at.2 in cc)
     ]
 
@@ -40,7 +40,7 @@ closed mark c s x r m e =
     let bl = blanks s in
     let e' : got_text [] (blanks_skipped s) ≡ got_text x r = rw m at e in
     subst (λ (q : List ℕ × List ℕ). Kept (string_from false mark) (c ∷ s) q.0 q.1) (ok_is _ _ e')
-    (record { front = c ∷ bl.front; parts = ap (λ (t : List ℕ). c ∷ t) bl.parts; same = λ z h. rw (m, bl.same z h) refl })
+    (record { leading = c ∷ bl.leading; parts = ap (λ (t : List ℕ). c ∷ t) bl.parts; same = λ z h. rw (m, bl.same z h) refl })
 
 step_escape : (mark c d : ℕ) → unescape c ≡ Some d → (t : List ℕ) → string_from true mark (c ∷ t) ≡ (string_from false mark t >>= λ y. Ok (d ∷ y.0, y.1))
 unfolding string_from
@@ -88,13 +88,13 @@ close_no mark c s d m e = let e' : got_text [] (blanks_skipped s) ≡ Err d = rw
 string_err : (b : Bool) (mark : ℕ) (d : ExprStop) (s : List ℕ) → string_from b mark s ≡ Err d → Failed (string_from b mark) d s
 string_err b mark d [] e =
     subst (λ (k : ExprStop). Failed (string_from b mark) k []) (err_is {A = List ℕ} (Unexpected 0) d (sym (at_end b mark) ∙ e))
-    (record { front = []; rest = []; parts = refl; left = refl; same = λ z h. (let k : z ≡ [] = nil_same z h in rw k (at_end b mark)) })
+    (record { leading = []; rest = []; parts = refl; left = refl; same = λ z h. (let k : z ≡ [] = nil_same z h in rw k (at_end b mark)) })
 string_err true mark d (c ∷ s) e = go (unescape c) refl (λ w. string_err false mark d s w)
   where
     go : (o : Option ℕ) → unescape c ≡ o → (string_from false mark s ≡ Err d → Failed (string_from false mark) d s) → Failed (string_from true mark) d (c ∷ s)
     go None u ih =
         subst (λ (k : ExprStop). Failed (string_from true mark) k (c ∷ s)) (err_is {A = List ℕ} (Unexpected (length (c ∷ s))) d (sym (no_escape mark c s u) ∙ e))
-        (record { front = []; rest = c ∷ s; parts = refl; left = refl; same = λ z h. stays_at mark c s z u h })
+        (record { leading = []; rest = c ∷ s; parts = refl; left = refl; same = λ z h. stays_at mark c s z u h })
     go (Some b) u ih = body_err true false mark c s (λ y. b ∷ y) d (step_escape mark c b u) ih e
 string_err false mark d (c ∷ s) e = go (eqb c mark) (eqb c 92) refl refl (λ b w. string_err b mark d s w)
   where
@@ -112,7 +112,7 @@ local_string = record { ok = ok; err = err }
     ok (c ∷ s) x r e = elim (chosen (is_quote c) _ _ _ e) [
       | inl h ↦
           let k = string_ok false c s x r h.1 in
-          record { front = c ∷ k.front; parts = ap (λ (t : List ℕ). c ∷ t) k.parts; same = λ z w. rw h.0 (k.same z w) }
+          record { leading = c ∷ k.leading; parts = ap (λ (t : List ℕ). c ∷ t) k.parts; same = λ z w. rw h.0 (k.same z w) }
       | inr h ↦ absurd cc
     ]
 
@@ -123,12 +123,12 @@ local_string = record { ok = ok; err = err }
     err : (d : ExprStop) (s : List ℕ) → string s ≡ Err d → Failed string d s
     err d [] e =
         subst (λ (k : ExprStop). Failed string k []) (err_is {A = List ℕ} (Unexpected 0) d e)
-        (record { front = []; rest = []; parts = refl; left = refl; same = λ z h. (let k : z ≡ [] = nil_same z h in rw k refl) })
+        (record { leading = []; rest = []; parts = refl; left = refl; same = λ z h. (let k : z ≡ [] = nil_same z h in rw k refl) })
     err d (c ∷ s) e = elim (chosen (is_quote c) _ _ _ e) [
       | inl h ↦
           let k = string_err false c d s h.1 in
-          record { front = c ∷ k.front; rest = k.rest; parts = ap (λ (t : List ℕ). c ∷ t) k.parts; left = k.left; same = λ z w. rw h.0 (k.same z w) }
+          record { leading = c ∷ k.leading; rest = k.rest; parts = ap (λ (t : List ℕ). c ∷ t) k.parts; left = k.left; same = λ z w. rw h.0 (k.same z w) }
       | inr h ↦
           subst (λ (k : ExprStop). Failed string k (c ∷ s)) (err_is {A = List ℕ} (Unexpected (length (c ∷ s))) d h.1)
-          (record { front = []; rest = c ∷ s; parts = refl; left = refl; same = λ z w. refused c s z h.0 w })
+          (record { leading = []; rest = c ∷ s; parts = refl; left = refl; same = λ z w. refused c s z h.0 w })
     ]

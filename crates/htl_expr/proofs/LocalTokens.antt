@@ -15,18 +15,18 @@ use Rattle.htl_expr.specs.Fault.{nests, SameHead}
 use Rattle.htl_expr.proofs.Tools.{chosen, ok_is}
 use Rattle.htl_expr.proofs.TokensRead.{eqb_is, passes_run, ends_run}
 use Rattle.htl_expr.proofs.TokensAgain.{name_len-is}
-use Rattle.htl_expr.proofs.Local.{Same, begins_same, front_same, head_in, head_same, at_same, nil_same, Kept, Failed, Local, local_ext, local_bind, local_pure, local_refuse, local_if, local_fixed, local_drop, got, refuse, err_is}
+use Rattle.htl_expr.proofs.Local.{Same, begins_same, prefix_same, head_in, head_same, at_same, nil_same, Kept, Failed, Local, local_ext, local_bind, local_pure, local_refuse, local_if, local_fixed, local_drop, got, refuse, err_is}
 
 -- ---- blanks
 
 pub record Blanks (u : List ℕ) : Type 0 where
-  pub front : List ℕ
-  pub parts : u ≡ front ++ blanks_skipped u
-  pub same : (z : List ℕ) → Same (blanks_skipped u) z → blanks_skipped (front ++ z) ≡ z
+  pub leading : List ℕ
+  pub parts : u ≡ leading ++ blanks_skipped u
+  pub same : (z : List ℕ) → Same (blanks_skipped u) z → blanks_skipped (leading ++ z) ≡ z
 
 pub blanks : (u : List ℕ) → Blanks u
 unfolding blanks_skipped
-blanks [] = record { front = []; parts = refl; same = λ z h. (let e : z ≡ [] = nil_same z h in rw e refl) }
+blanks [] = record { leading = []; parts = refl; same = λ z h. (let e : z ≡ [] = nil_same z h in rw e refl) }
 blanks (c ∷ u) = go (is_blank c) refl (blanks u)
   where
     here : (z : List ℕ) → is_blank c ≡ false → Same (c ∷ u) z → blanks_skipped z ≡ z
@@ -35,9 +35,9 @@ blanks (c ∷ u) = go (is_blank c) refl (blanks u)
 
     go : (b : Bool) → is_blank c ≡ b → Blanks u → Blanks (c ∷ u)
     go true e ih = (let k : blanks_skipped (c ∷ u) ≡ blanks_skipped u = rw e refl in
-        record { front = c ∷ ih.front; parts = rw k (ap (λ (t : List ℕ). c ∷ t) ih.parts); same = λ z h. (let h' : Same (blanks_skipped u) z = rw k at h in rw e (ih.same z h')) })
+        record { leading = c ∷ ih.leading; parts = rw k (ap (λ (t : List ℕ). c ∷ t) ih.parts); same = λ z h. (let h' : Same (blanks_skipped u) z = rw k at h in rw e (ih.same z h')) })
     go false e ih = (let k : blanks_skipped (c ∷ u) ≡ c ∷ u = rw e refl in
-        record { front = []; parts = rw k refl; same = λ z h. (let h' : Same (c ∷ u) z = rw k at h in here z e h') })
+        record { leading = []; parts = rw k refl; same = λ z h. (let h' : Same (c ∷ u) z = rw k at h in here z e h') })
 
 pub local_skip : {A : Type 0} (f : List ℕ → Outcome A) → Local f → Local (λ s. f (blanks_skipped s))
 local_skip f l = record {
@@ -45,19 +45,19 @@ local_skip f l = record {
       (let k = l.ok (blanks_skipped s) x r e in
       let bl = blanks s in
       record {
-        front = bl.front ++ k.front;
-        parts = bl.parts ∙ ap (λ (t : List ℕ). bl.front ++ t) k.parts ∙ sym (append_assoc bl.front k.front r);
-        same = λ z w. rw (append_assoc bl.front k.front z, bl.same (k.front ++ z) (subst (λ (t : List ℕ). Same t (k.front ++ z)) (sym k.parts) (head_in k.front r z w))) (k.same z w);
+        leading = bl.leading ++ k.leading;
+        parts = bl.parts ∙ ap (λ (t : List ℕ). bl.leading ++ t) k.parts ∙ sym (append_assoc bl.leading k.leading r);
+        same = λ z w. rw (append_assoc bl.leading k.leading z, bl.same (k.leading ++ z) (subst (λ (t : List ℕ). Same t (k.leading ++ z)) (sym k.parts) (head_in k.leading r z w))) (k.same z w);
       });
   err = λ d s e.
       (let k = l.err d (blanks_skipped s) e in
       let bl = blanks s in
       record {
-        front = bl.front ++ k.front;
+        leading = bl.leading ++ k.leading;
         rest = k.rest;
-        parts = bl.parts ∙ ap (λ (t : List ℕ). bl.front ++ t) k.parts ∙ sym (append_assoc bl.front k.front k.rest);
+        parts = bl.parts ∙ ap (λ (t : List ℕ). bl.leading ++ t) k.parts ∙ sym (append_assoc bl.leading k.leading k.rest);
         left = k.left;
-        same = λ z w. rw (append_assoc bl.front k.front z, bl.same (k.front ++ z) (subst (λ (t : List ℕ). Same t (k.front ++ z)) (sym k.parts) (head_in k.front k.rest z w))) (k.same z w);
+        same = λ z w. rw (append_assoc bl.leading k.leading z, bl.same (k.leading ++ z) (subst (λ (t : List ℕ). Same t (k.leading ++ z)) (sym k.parts) (head_in k.leading k.rest z w))) (k.same z w);
       });
 }
 
@@ -87,10 +87,10 @@ local_deep {A = A} c n = record { ok = ok; err = err }
     err d s e = elim (chosen (begins_with_byte c s) _ _ _ e) [
       | inl h ↦
           subst (λ (b : ExprStop). Failed (guarded {A = A} c too_deep) b s) (err_is {A = A} (TooDeep (length s)) d h.1)
-          (record { front = []; rest = s; parts = refl; left = (refl, at_begins nests c s n h.0); same = λ z w. (let t : begins_with_byte c z ≡ true = at_same c s z w ∙ h.0 in rw t refl) })
+          (record { leading = []; rest = s; parts = refl; left = (refl, at_begins nests c s n h.0); same = λ z w. (let t : begins_with_byte c z ≡ true = at_same c s z w ∙ h.0 in rw t refl) })
       | inr h ↦
           subst (λ (b : ExprStop). Failed (guarded {A = A} c too_deep) b s) (err_is {A = A} (Unexpected (length s)) d h.1)
-          (record { front = []; rest = s; parts = refl; left = refl; same = λ z w. (let t : begins_with_byte c z ≡ false = at_same c s z w ∙ h.0 in rw t refl) })
+          (record { leading = []; rest = s; parts = refl; left = refl; same = λ z w. (let t : begins_with_byte c z ≡ false = at_same c s z w ∙ h.0 in rw t refl) })
     ]
 
 guarded_is : {A B : Type 0} (b : Bool) (o : Outcome A) (s : List ℕ) (h : A × List ℕ → Outcome B) (other : Outcome B) → cond b (cond b o (refuse s) >>= h) other ≡ cond b (o >>= h) other
@@ -161,7 +161,7 @@ step_same Field c r z h = ap (λ (b : Bool). is_word_byte c || (eqb c 58 && b)) 
 
 passes_same : (kind : NameKind) (w r z : List ℕ) → SameHead r z → Passes kind w r → Passes kind w z
 passes_same kind [] r z h p = tt
-passes_same kind (c ∷ w) r z h p = (step_same kind c (w ++ r) (w ++ z) (front_same w r z h) ∙ p.0, passes_same kind w r z h p.1)
+passes_same kind (c ∷ w) r z h p = (step_same kind c (w ++ r) (w ++ z) (prefix_same w r z h) ∙ p.0, passes_same kind w r z h p.1)
 
 abbrev run_of : NameKind → List ℕ → Outcome (List ℕ)
 run_of kind s = Ok (run kind s)
@@ -175,13 +175,13 @@ local_run kind = record { ok = ok; err = λ d s e. absurd cc }
         let u = drop (name_len kind s) s in
         let bl = blanks u in
         record {
-          front = w ++ bl.front;
-          parts = sym (take-append-drop (name_len kind s) s) ∙ ap (λ (t : List ℕ). w ++ t) bl.parts ∙ sym (append_assoc w bl.front (blanks_skipped u));
+          leading = w ++ bl.leading;
+          parts = sym (take-append-drop (name_len kind s) s) ∙ ap (λ (t : List ℕ). w ++ t) bl.parts ∙ sym (append_assoc w bl.leading (blanks_skipped u));
           same = λ z h.
-              (let near : Same u (bl.front ++ z) = subst (λ (t : List ℕ). Same t (bl.front ++ z)) (sym bl.parts) (head_in bl.front (blanks_skipped u) z h) in
-              let stops : goes_on kind (bl.front ++ z) ≡ false = goes_same kind u (bl.front ++ z) near (ends_run kind s) in
-              let passes : Passes kind w (bl.front ++ z) = passes_same kind w u (bl.front ++ z) near.0 (passes_run kind s) in
-              rw (append_assoc w bl.front z, name_len-is kind w (bl.front ++ z) passes stops, take_at w (bl.front ++ z) (length w) refl, drop_at w (bl.front ++ z) (length w) refl, bl.same z h) refl);
+              (let near : Same u (bl.leading ++ z) = subst (λ (t : List ℕ). Same t (bl.leading ++ z)) (sym bl.parts) (head_in bl.leading (blanks_skipped u) z h) in
+              let stops : goes_on kind (bl.leading ++ z) ≡ false = goes_same kind u (bl.leading ++ z) near (ends_run kind s) in
+              let passes : Passes kind w (bl.leading ++ z) = passes_same kind w u (bl.leading ++ z) near.0 (passes_run kind s) in
+              rw (append_assoc w bl.leading z, name_len-is kind w (bl.leading ++ z) passes stops, take_at w (bl.leading ++ z) (length w) refl, drop_at w (bl.leading ++ z) (length w) refl, bl.same z h) refl);
         }
 
     ok : (s : List ℕ) (x : List ℕ) (r : List ℕ) → run_of kind s ≡ Ok (x, r) → Kept (run_of kind) s x r
@@ -198,7 +198,7 @@ digits_at most m s = Ok (expression_digits_from most m s)
 
 digits_kept : (most m : ℕ) (s : List ℕ) → Kept (digits_at most m) s (expression_digits_from most m s).0 (expression_digits_from most m s).1
 unfolding expression_digits_from expression_digit_fits
-digits_kept most m [] = record { front = []; parts = refl; same = λ z h. (let e : z ≡ [] = nil_same z h in rw e refl) }
+digits_kept most m [] = record { leading = []; parts = refl; same = λ z h. (let e : z ≡ [] = nil_same z h in rw e refl) }
 digits_kept most m (c ∷ s) = go (expression_digit_fits most m (c ∷ s)) refl (digits_kept most (m * 10 + (c - 48)) s)
   where
     here : (z : List ℕ) → expression_digit_fits most m (c ∷ s) ≡ false → Same (c ∷ s) z → digits_at most m z ≡ Ok (m, z)
@@ -207,8 +207,8 @@ digits_kept most m (c ∷ s) = go (expression_digit_fits most m (c ∷ s)) refl 
 
     go : (b : Bool) → expression_digit_fits most m (c ∷ s) ≡ b → Kept (digits_at most (m * 10 + (c - 48))) s (expression_digits_from most (m * 10 + (c - 48)) s).0 (expression_digits_from most (m * 10 + (c - 48)) s).1
         → Kept (digits_at most m) (c ∷ s) (cond b (expression_digits_from most (m * 10 + (c - 48)) s) (m, c ∷ s)).0 (cond b (expression_digits_from most (m * 10 + (c - 48)) s) (m, c ∷ s)).1
-    go true e k = record { front = c ∷ k.front; parts = ap (λ (t : List ℕ). c ∷ t) k.parts; same = λ z h. rw e (k.same z h) }
-    go false e k = record { front = []; parts = refl; same = λ z h. here z e h }
+    go true e k = record { leading = c ∷ k.leading; parts = ap (λ (t : List ℕ). c ∷ t) k.parts; same = λ z h. rw e (k.same z h) }
+    go false e k = record { leading = []; parts = refl; same = λ z h. here z e h }
 
 local_digits_at : (most m : ℕ) → Local (digits_at most m)
 local_digits_at most m = record { ok = ok; err = λ d s e. absurd cc }

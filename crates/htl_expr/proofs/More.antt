@@ -23,10 +23,10 @@ module _ (levels : ℕ) where
   -- ---- a colon that may belong to a field's name
 
   -- a text of the grammar that begins with these bytes
-  record Begun (front : List ℕ) : Type 0 where
+  record Begun (leading : List ℕ) : Type 0 where
     more : List ℕ
     tree : Expr
-    whole : WholeWithin levels (front ++ more) tree
+    whole : WholeWithin levels (leading ++ more) tree
 
   -- with the letter after the colon the text goes on
   with_letter : (p : List ℕ) (m : MayGoOn levels (p ++ colon_letter) (length (p ++ colon_letter) - 0)) → Begun (p ++ 58 ∷ [])
@@ -43,8 +43,8 @@ module _ (levels : ℕ) where
       let t = p ++ colon_letter in
       let parts : t ≡ (p ++ 58 ∷ []) ++ 98 ∷ [] = sym (append_assoc p (58 ∷ []) (98 ∷ [])) in
       let len : length t - 1 ≡ length (p ++ 58 ∷ []) = omega (arith, length-append p colon_letter, length-append p (58 ∷ [])) in
-      let front : take (length t - 1) t ≡ p ++ 58 ∷ [] = ap (λ (n : ℕ). take n t) len ∙ ap (λ (l : List ℕ). take (length (p ++ 58 ∷ [])) l) parts ∙ take_at (p ++ 58 ∷ []) (98 ∷ []) (length (p ++ 58 ∷ [])) refl in
-      record { more = m.more; tree = m.tree; whole = subst (λ (l : List ℕ). WholeWithin levels (l ++ m.more) m.tree) front m.whole }
+      let leading : take (length t - 1) t ≡ p ++ 58 ∷ [] = ap (λ (n : ℕ). take n t) len ∙ ap (λ (l : List ℕ). take (length (p ++ 58 ∷ [])) l) parts ∙ take_at (p ++ 58 ∷ []) (98 ∷ []) (length (p ++ 58 ∷ [])) refl in
+      record { more = m.more; tree = m.tree; whole = subst (λ (l : List ℕ). WholeWithin levels (l ++ m.more) m.tree) leading m.whole }
 
   whole_letter : (p : List ℕ) (e : Expr) → WholeWithin levels (p ++ colon_letter) e → Begun (p ++ 58 ∷ [])
   whole_letter p e w = record { more = 98 ∷ []; tree = e; whole = subst (λ (l : List ℕ). WholeWithin levels l e) (sym (append_assoc p (58 ∷ []) (98 ∷ []))) w }
@@ -76,11 +76,11 @@ module _ (levels : ℕ) where
       place : ℕ
       place = length s - left
 
-      behind : Begun (take place s ++ 58 ∷ []) → begins_with_byte 58 (drop place s) ≡ true → MayGoOn levels s (place + 1)
-      behind b at = record { more = b.more; tree = b.tree; whole = subst (λ (l : List ℕ). WholeWithin levels (l ++ b.more) b.tree) (sym (colon_taken s place at)) b.whole }
+      remainder : Begun (take place s ++ 58 ∷ []) → begins_with_byte 58 (drop place s) ≡ true → MayGoOn levels s (place + 1)
+      remainder b at = record { more = b.more; tree = b.tree; whole = subst (λ (l : List ℕ). WholeWithin levels (l ++ b.more) b.tree) (sym (colon_taken s place at)) b.whole }
 
       go : (b : Bool) → (begins_with_byte 58 (drop place s) && takes_colon levels (take place s)) ≡ b → MayGoOn levels s (cond b (place + 1) place)
       go false h = more_here s left e
       go true h =
           let both = both_true (begins_with_byte 58 (drop place s)) (takes_colon levels (take place s)) h in
-          behind (passed (take place s) (expression_read levels (take place s ++ colon_letter)) refl both.1) both.0
+          remainder (passed (take place s) (expression_read levels (take place s ++ colon_letter)) refl both.1) both.0

@@ -85,29 +85,29 @@ colon_near false true r z h e = letter_near r z h e
 colon_near false false r z h e = refl
 
 -- after a byte the text may go on as it likes, but a letter after a colon
-pub field_behind : (c : ℕ) (r z : List ℕ) → Near r z → goes_on Field (c ∷ r) ≡ false → goes_on Field (c ∷ z) ≡ false
+pub field_after : (c : ℕ) (r z : List ℕ) → Near r z → goes_on Field (c ∷ r) ≡ false → goes_on Field (c ∷ z) ≡ false
 unfolding goes_on
-field_behind c r z h e = colon_near (is_word_byte c) (eqb c 58) r z h e
+field_after c r z h e = colon_near (is_word_byte c) (eqb c 58) r z h e
 
-pub near_in : (m front r z : List ℕ) → m ≡ front ++ r → Near r z → Near m (front ++ z)
+pub near_in : (m leading r z : List ℕ) → m ≡ leading ++ r → Near r z → Near m (leading ++ z)
 near_in m [] r z e f = subst (λ (q : List ℕ). Near q z) (sym e) f
-near_in m (c ∷ front) r z e f = inl (subst (λ (q : List ℕ). SameHead q (c ∷ (front ++ z))) (sym e) refl)
+near_in m (c ∷ leading) r z e f = inl (subst (λ (q : List ℕ). SameHead q (c ∷ (leading ++ z))) (sym e) refl)
 
-pub clear_in : (m front r z : List ℕ) → m ≡ front ++ r → Clear r z → Clear m (front ++ z)
+pub clear_in : (m leading r z : List ℕ) → m ≡ leading ++ r → Clear r z → Clear m (leading ++ z)
 clear_in m [] r z e f = subst (λ (q : List ℕ). Clear q z) (sym e) f
-clear_in m (c ∷ front) r z e f = inl (subst (λ (q : List ℕ). SameHead q (c ∷ (front ++ z))) (sym e) refl)
+clear_in m (c ∷ leading) r z e f = inl (subst (λ (q : List ℕ). SameHead q (c ∷ (leading ++ z))) (sym e) refl)
 
 -- after a prefix of what stands there
-pub fits_in : (m front r z : List ℕ) → m ≡ front ++ r → Fits r z → Fits m (front ++ z)
+pub fits_in : (m leading r z : List ℕ) → m ≡ leading ++ r → Fits r z → Fits m (leading ++ z)
 fits_in m [] r z e f = subst (λ (q : List ℕ). Fits q z) (sym e) f
-fits_in m (c ∷ front) r z e f =
-    subst (λ (q : List ℕ). Fits q (c ∷ (front ++ z))) (sym e) (inl (refl, field_behind c (front ++ r) (front ++ z) (near_in (front ++ r) front r z refl (fits_near r z f))))
+fits_in m (c ∷ leading) r z e f =
+    subst (λ (q : List ℕ). Fits q (c ∷ (leading ++ z))) (sym e) (inl (refl, field_after c (leading ++ r) (leading ++ z) (near_in (leading ++ r) leading r z refl (fits_near r z f))))
 
 -- the same, where a byte stands before
-pub fits_behind : (m front r z : List ℕ) → m ≡ front ++ r → length r < length m → Near r z → Fits m (front ++ z)
-fits_behind m [] r z e lt f = absurd (omega (arith, ap length e))
-fits_behind m (c ∷ front) r z e lt f =
-    subst (λ (q : List ℕ). Fits q (c ∷ (front ++ z))) (sym e) (inl (refl, field_behind c (front ++ r) (front ++ z) (near_in (front ++ r) front r z refl f)))
+pub fits_after : (m leading r z : List ℕ) → m ≡ leading ++ r → length r < length m → Near r z → Fits m (leading ++ z)
+fits_after m [] r z e lt f = absurd (omega (arith, ap length e))
+fits_after m (c ∷ leading) r z e lt f =
+    subst (λ (q : List ℕ). Fits q (c ∷ (leading ++ z))) (sym e) (inl (refl, field_after c (leading ++ r) (leading ++ z) (near_in (leading ++ r) leading r z refl f)))
 
 word_plain : (z : List ℕ) → Plain z → begins is_word_byte z ≡ false
 unfolding begins
@@ -135,9 +135,9 @@ plain_ends Field z p = field_plain z p
 -- ---- blanks
 
 pub record Blanks (u : List ℕ) : Type 0 where
-  pub front : List ℕ
-  pub parts : u ≡ front ++ blanks_skipped u
-  pub over : (z : List ℕ) → Clear (blanks_skipped u) z → blanks_skipped (front ++ z) ≡ z
+  pub leading : List ℕ
+  pub parts : u ≡ leading ++ blanks_skipped u
+  pub over : (z : List ℕ) → Clear (blanks_skipped u) z → blanks_skipped (leading ++ z) ≡ z
 
 head_settled : (c : ℕ) (u z : List ℕ) → is_blank c ≡ false → Clear (c ∷ u) z → Settled z
 head_settled c u [] e (inl h) = absurd h
@@ -152,46 +152,46 @@ nil_settled z (inr p) = p
 
 pub blanks : (u : List ℕ) → Blanks u
 unfolding blanks_skipped
-blanks [] = record { front = []; parts = refl; over = nil_settled }
+blanks [] = record { leading = []; parts = refl; over = nil_settled }
 blanks (c ∷ u) = go (is_blank c) refl (blanks u)
   where
     go : (b : Bool) → is_blank c ≡ b → Blanks u → Blanks (c ∷ u)
     go true e ih = (let k : blanks_skipped (c ∷ u) ≡ blanks_skipped u = rw e refl in
-        record { front = c ∷ ih.front; parts = rw k (ap (λ (t : List ℕ). c ∷ t) ih.parts); over = λ z h. (let h' : Clear (blanks_skipped u) z = rw k at h in rw e (ih.over z h')) })
+        record { leading = c ∷ ih.leading; parts = rw k (ap (λ (t : List ℕ). c ∷ t) ih.parts); over = λ z h. (let h' : Clear (blanks_skipped u) z = rw k at h in rw e (ih.over z h')) })
     go false e ih = (let k : blanks_skipped (c ∷ u) ≡ c ∷ u = rw e refl in
-        record { front = []; parts = rw k refl; over = λ z h. (let h' : Clear (c ∷ u) z = rw k at h in head_settled c u z e h') })
+        record { leading = []; parts = rw k refl; over = λ z h. (let h' : Clear (c ∷ u) z = rw k at h in head_settled c u z e h') })
 
 -- ---- steps
 
 -- what was read, before any text that may stand after it
 pub record Moves (R : List ℕ → List ℕ → Type 0) (s r : List ℕ) : Type 0 where
-  pub front : List ℕ
-  pub parts : s ≡ front ++ r
-  pub same : (z : List ℕ) → Fits r z → R (front ++ z) z
+  pub leading : List ℕ
+  pub parts : s ≡ leading ++ r
+  pub same : (z : List ℕ) → Fits r z → R (leading ++ z) z
 
 -- the same of what ends in no name or number
 pub record Steps (R : List ℕ → List ℕ → Type 0) (s r : List ℕ) : Type 0 where
-  pub front : List ℕ
-  pub parts : s ≡ front ++ r
-  pub same : (z : List ℕ) → Near r z → R (front ++ z) z
+  pub leading : List ℕ
+  pub parts : s ≡ leading ++ r
+  pub same : (z : List ℕ) → Near r z → R (leading ++ z) z
 
 -- the same of what ends in blanks, where any token may follow
 pub record Jumps (R : List ℕ → List ℕ → Type 0) (s r : List ℕ) : Type 0 where
-  pub front : List ℕ
-  pub parts : s ≡ front ++ r
-  pub same : (z : List ℕ) → Clear r z → R (front ++ z) z
+  pub leading : List ℕ
+  pub parts : s ≡ leading ++ r
+  pub same : (z : List ℕ) → Clear r z → R (leading ++ z) z
 
 pub steps_of : (R : List ℕ → List ℕ → Type 0) (s r : List ℕ) → Jumps R s r → Steps R s r
-steps_of R s r a = record { front = a.front; parts = a.parts; same = λ z h. a.same z (near_clear r z h) }
+steps_of R s r a = record { leading = a.leading; parts = a.parts; same = λ z h. a.same z (near_clear r z h) }
 
 pub moves_of : (R T : List ℕ → List ℕ → Type 0) (s r : List ℕ) → ((s' r' : List ℕ) → R s' r' → T s' r') → Steps R s r → Moves T s r
-moves_of R T s r make a = record { front = a.front; parts = a.parts; same = λ z h. make (a.front ++ z) z (a.same z (fits_near r z h)) }
+moves_of R T s r make a = record { leading = a.leading; parts = a.parts; same = λ z h. make (a.leading ++ z) z (a.same z (fits_near r z h)) }
 
 pub moves_map : (R T : List ℕ → List ℕ → Type 0) (s r : List ℕ) → ((s' r' : List ℕ) → R s' r' → T s' r') → Moves R s r → Moves T s r
-moves_map R T s r make a = record { front = a.front; parts = a.parts; same = λ z h. make (a.front ++ z) z (a.same z h) }
+moves_map R T s r make a = record { leading = a.leading; parts = a.parts; same = λ z h. make (a.leading ++ z) z (a.same z h) }
 
 pub steps_map : (R T : List ℕ → List ℕ → Type 0) (s r : List ℕ) → ((s' r' : List ℕ) → R s' r' → T s' r') → Steps R s r → Steps T s r
-steps_map R T s r make a = record { front = a.front; parts = a.parts; same = λ z h. make (a.front ++ z) z (a.same z h) }
+steps_map R T s r make a = record { leading = a.leading; parts = a.parts; same = λ z h. make (a.leading ++ z) z (a.same z h) }
 
 -- one after another
 abbrev pub Then : (List ℕ → List ℕ → Type 0) → (List ℕ → List ℕ → Type 0) → List ℕ → List ℕ → Type 0
@@ -199,9 +199,9 @@ Then R Q s r = (m : List ℕ) × R s m × Q m r
 
 pub moves_then : (R Q : List ℕ → List ℕ → Type 0) (s m r : List ℕ) → Moves R s m → Moves Q m r → Moves (Then R Q) s r
 moves_then R Q s m r a b = record {
-  front = a.front ++ b.front;
-  parts = a.parts ∙ ap (λ (t : List ℕ). a.front ++ t) b.parts ∙ sym (append_assoc a.front b.front r);
-  same = λ z h. (b.front ++ z, subst (λ (q : List ℕ). R q (b.front ++ z)) (sym (append_assoc a.front b.front z)) (a.same (b.front ++ z) (fits_in m b.front r z b.parts h)), b.same z h);
+  leading = a.leading ++ b.leading;
+  parts = a.parts ∙ ap (λ (t : List ℕ). a.leading ++ t) b.parts ∙ sym (append_assoc a.leading b.leading r);
+  same = λ z h. (b.leading ++ z, subst (λ (q : List ℕ). R q (b.leading ++ z)) (sym (append_assoc a.leading b.leading z)) (a.same (b.leading ++ z) (fits_in m b.leading r z b.parts h)), b.same z h);
 }
 
 pub steps_then : (R Q : List ℕ → List ℕ → Type 0) (s m r : List ℕ) → Steps R s m → Moves Q m r → Moves (Then R Q) s r
@@ -209,17 +209,17 @@ steps_then R Q s m r a b = moves_then R Q s m r (moves_of R R s m (λ s' r' x. x
 
 pub steps_steps : (R Q : List ℕ → List ℕ → Type 0) (s m r : List ℕ) → Steps R s m → Steps Q m r → Steps (Then R Q) s r
 steps_steps R Q s m r a b = record {
-  front = a.front ++ b.front;
-  parts = a.parts ∙ ap (λ (t : List ℕ). a.front ++ t) b.parts ∙ sym (append_assoc a.front b.front r);
-  same = λ z h. (b.front ++ z, subst (λ (q : List ℕ). R q (b.front ++ z)) (sym (append_assoc a.front b.front z)) (a.same (b.front ++ z) (near_in m b.front r z b.parts h)), b.same z h);
+  leading = a.leading ++ b.leading;
+  parts = a.parts ∙ ap (λ (t : List ℕ). a.leading ++ t) b.parts ∙ sym (append_assoc a.leading b.leading r);
+  same = λ z h. (b.leading ++ z, subst (λ (q : List ℕ). R q (b.leading ++ z)) (sym (append_assoc a.leading b.leading z)) (a.same (b.leading ++ z) (near_in m b.leading r z b.parts h)), b.same z h);
 }
 
 pub at_steps : (R : List ℕ → List ℕ → Type 0) (s s' r r' : List ℕ) → s ≡ s' → r ≡ r' → Steps R s' r' → Steps R s r
-at_steps R s s' r r' e f a = record { front = a.front; parts = e ∙ a.parts ∙ ap (λ (t : List ℕ). a.front ++ t) (sym f); same = λ z h. a.same z (subst (λ (q : List ℕ). Near q z) f h) }
+at_steps R s s' r r' e f a = record { leading = a.leading; parts = e ∙ a.parts ∙ ap (λ (t : List ℕ). a.leading ++ t) (sym f); same = λ z h. a.same z (subst (λ (q : List ℕ). Near q z) f h) }
 
 pub at_jumps : (R : List ℕ → List ℕ → Type 0) (s s' r r' : List ℕ) → s ≡ s' → r ≡ r' → Jumps R s' r' → Jumps R s r
-at_jumps R s s' r r' e f a = record { front = a.front; parts = e ∙ a.parts ∙ ap (λ (t : List ℕ). a.front ++ t) (sym f); same = λ z h. a.same z (subst (λ (q : List ℕ). Clear q z) f h) }
+at_jumps R s s' r r' e f a = record { leading = a.leading; parts = e ∙ a.parts ∙ ap (λ (t : List ℕ). a.leading ++ t) (sym f); same = λ z h. a.same z (subst (λ (q : List ℕ). Clear q z) f h) }
 
 -- nothing is read
 pub none_moves : (R : List ℕ → List ℕ → Type 0) (s : List ℕ) → ((z : List ℕ) → R z z) → Moves R s s
-none_moves R s make = record { front = []; parts = refl; same = λ z h. make z }
+none_moves R s make = record { leading = []; parts = refl; same = λ z h. make z }

@@ -16,9 +16,9 @@ use Rattle.htl_expr.proofs.Moves.{Plain, Near, Fits, near_clear, fits_near, fits
 pub byte_jumps : (c : ℕ) (s r : List ℕ) → Byte c s r → Jumps (Byte c) s r
 byte_jumps c s r b =
     at_jumps (Byte c) s (c ∷ b.after) r (blanks_skipped b.after) b.parts b.rest (record {
-      front = c ∷ (blanks b.after).front;
+      leading = c ∷ (blanks b.after).leading;
       parts = ap (λ (t : List ℕ). c ∷ t) (blanks b.after).parts;
-      same = λ z h. record { after = (blanks b.after).front ++ z; parts = refl; rest = sym ((blanks b.after).over z h) };
+      same = λ z h. record { after = (blanks b.after).leading ++ z; parts = refl; rest = sym ((blanks b.after).over z h) };
     })
 
 pub byte_steps : (c : ℕ) (s r : List ℕ) → Byte c s r → Steps (Byte c) s r
@@ -27,9 +27,9 @@ byte_steps c s r b = steps_of (Byte c) s r (byte_jumps c s r b)
 pub operator_steps : (c d : ℕ) (s r : List ℕ) → Operator c d s r → Steps (Operator c d) s r
 operator_steps c d s r b =
     at_steps (Operator c d) s (c ∷ d ∷ b.after) r (blanks_skipped b.after) b.parts b.rest (record {
-      front = c ∷ d ∷ (blanks b.after).front;
+      leading = c ∷ d ∷ (blanks b.after).leading;
       parts = ap (λ (t : List ℕ). c ∷ d ∷ t) (blanks b.after).parts;
-      same = λ z h. record { after = (blanks b.after).front ++ z; parts = refl; rest = sym ((blanks b.after).over z (near_clear (blanks_skipped b.after) z h)) };
+      same = λ z h. record { after = (blanks b.after).leading ++ z; parts = refl; rest = sym ((blanks b.after).over z (near_clear (blanks_skipped b.after) z h)) };
     })
 
 no_equal : (r z : List ℕ) → Near r z → begins_with_byte 61 r ≡ false → begins_with_byte 61 z ≡ false
@@ -45,9 +45,9 @@ bare_steps : (c : ℕ) (s r : List ℕ) → Bare c s r → Steps (Bare c) s r
 bare_steps c s r b =
     let bl = blanks b.after in
     at_steps (Bare c) s (c ∷ b.after) r (blanks_skipped b.after) b.parts b.rest (record {
-      front = c ∷ bl.front;
+      leading = c ∷ bl.leading;
       parts = ap (λ (t : List ℕ). c ∷ t) bl.parts;
-      same = λ z h. record { after = bl.front ++ z; parts = refl; longest = no_equal b.after (bl.front ++ z) (near_in b.after bl.front (blanks_skipped b.after) z bl.parts h) b.longest; rest = sym (bl.over z (near_clear (blanks_skipped b.after) z h)) };
+      same = λ z h. record { after = bl.leading ++ z; parts = refl; longest = no_equal b.after (bl.leading ++ z) (near_in b.after bl.leading (blanks_skipped b.after) z bl.parts h) b.longest; rest = sym (bl.over z (near_clear (blanks_skipped b.after) z h)) };
     })
 
 abbrev pub ComparesOf : Comparison → List ℕ → List ℕ → Type 0
@@ -64,14 +64,14 @@ compares_steps s _ r (g.above o) = steps_map (Bare 62) (ComparesOf Above) s r (�
 -- ---- strings
 
 record QuoteMoves (mark : ℕ) (s w after : List ℕ) : Type 0 where
-  front : List ℕ
-  parts : s ≡ front ++ after
-  same : (z : List ℕ) → StringBody mark (front ++ z) w z
+  leading : List ℕ
+  parts : s ≡ leading ++ after
+  same : (z : List ℕ) → StringBody mark (leading ++ z) w z
 
 quote_moves : (mark : ℕ) (s w after : List ℕ) → StringBody mark s w after → QuoteMoves mark s w after
-quote_moves mark _ _ after g.closes = record { front = mark ∷ []; parts = refl; same = λ z. g.closes }
-quote_moves mark _ _ after (g.plain {c = c} a b q) = (let k = quote_moves mark _ _ after q in record { front = c ∷ k.front; parts = ap (λ (t : List ℕ). c ∷ t) k.parts; same = λ z. g.plain a b (k.same z) })
-quote_moves mark _ _ after (g.escape {c = c} e q) = (let k = quote_moves mark _ _ after q in record { front = 92 ∷ c ∷ k.front; parts = ap (λ (t : List ℕ). 92 ∷ c ∷ t) k.parts; same = λ z. g.escape e (k.same z) })
+quote_moves mark _ _ after g.closes = record { leading = mark ∷ []; parts = refl; same = λ z. g.closes }
+quote_moves mark _ _ after (g.plain {c = c} a b q) = (let k = quote_moves mark _ _ after q in record { leading = c ∷ k.leading; parts = ap (λ (t : List ℕ). c ∷ t) k.parts; same = λ z. g.plain a b (k.same z) })
+quote_moves mark _ _ after (g.escape {c = c} e q) = (let k = quote_moves mark _ _ after q in record { leading = 92 ∷ c ∷ k.leading; parts = ap (λ (t : List ℕ). 92 ∷ c ∷ t) k.parts; same = λ z. g.escape e (k.same z) })
 
 abbrev pub StringOf : List ℕ → List ℕ → List ℕ → Type 0
 StringOf w s r = String s w r
@@ -81,9 +81,9 @@ string_steps s w r x =
     let k = quote_moves x.mark x.inside w x.after x.body in
     let bl = blanks x.after in
     at_steps (StringOf w) s (x.mark ∷ x.inside) r (blanks_skipped x.after) x.parts x.rest (record {
-      front = x.mark ∷ (k.front ++ bl.front);
-      parts = ap (λ (t : List ℕ). x.mark ∷ t) (k.parts ∙ ap (λ (t : List ℕ). k.front ++ t) bl.parts ∙ sym (append_assoc k.front bl.front (blanks_skipped x.after)));
-      same = λ z h. record { mark = x.mark; inside = k.front ++ (bl.front ++ z); after = bl.front ++ z; parts = ap (λ (t : List ℕ). x.mark ∷ t) (append_assoc k.front bl.front z); is_mark = x.is_mark; body = k.same (bl.front ++ z); rest = sym (bl.over z (near_clear (blanks_skipped x.after) z h)) };
+      leading = x.mark ∷ (k.leading ++ bl.leading);
+      parts = ap (λ (t : List ℕ). x.mark ∷ t) (k.parts ∙ ap (λ (t : List ℕ). k.leading ++ t) bl.parts ∙ sym (append_assoc k.leading bl.leading (blanks_skipped x.after)));
+      same = λ z h. record { mark = x.mark; inside = k.leading ++ (bl.leading ++ z); after = bl.leading ++ z; parts = ap (λ (t : List ℕ). x.mark ∷ t) (append_assoc k.leading bl.leading z); is_mark = x.is_mark; body = k.same (bl.leading ++ z); rest = sym (bl.over z (near_clear (blanks_skipped x.after) z h)) };
     })
 
 -- ---- names
@@ -144,17 +144,17 @@ pub name_moves : (kind : NameKind) (s w r : List ℕ) → NameToken kind s w r �
 name_moves kind s w r x =
     let bl = blanks x.after in
     record {
-      front = w ++ bl.front;
-      parts = x.parts ∙ ap (λ (q : List ℕ). w ++ q) (bl.parts ∙ ap (λ (q : List ℕ). bl.front ++ q) (sym x.rest)) ∙ sym (append_assoc w bl.front r);
+      leading = w ++ bl.leading;
+      parts = x.parts ∙ ap (λ (q : List ℕ). w ++ q) (bl.parts ∙ ap (λ (q : List ℕ). bl.leading ++ q) (sym x.rest)) ∙ sym (append_assoc w bl.leading r);
       same = λ z h.
           (let h' : Fits (blanks_skipped x.after) z = subst (λ (q : List ℕ). Fits q z) x.rest h in
-          let whole : Fits x.after (bl.front ++ z) = fits_in x.after bl.front (blanks_skipped x.after) z bl.parts h' in
+          let whole : Fits x.after (bl.leading ++ z) = fits_in x.after bl.leading (blanks_skipped x.after) z bl.parts h' in
           record {
-            after = bl.front ++ z;
-            parts = append_assoc w bl.front z;
-            first = rw (append_assoc w bl.front z) (first_before kind w x.after (bl.front ++ z) (subst (λ (q : List ℕ). begins is_first q ≡ true) x.parts x.first) x.longest);
-            passes = passes_before kind w x.after (bl.front ++ z) x.longest x.passes;
-            longest = ends_fit kind x.after (bl.front ++ z) whole x.longest;
+            after = bl.leading ++ z;
+            parts = append_assoc w bl.leading z;
+            first = rw (append_assoc w bl.leading z) (first_before kind w x.after (bl.leading ++ z) (subst (λ (q : List ℕ). begins is_first q ≡ true) x.parts x.first) x.longest);
+            passes = passes_before kind w x.after (bl.leading ++ z) x.longest x.passes;
+            longest = ends_fit kind x.after (bl.leading ++ z) whole x.longest;
             rest = sym (bl.over z (near_clear (blanks_skipped x.after) z (fits_near (blanks_skipped x.after) z h')));
           });
     }
@@ -178,14 +178,14 @@ digits_end most m r z (inl h) e = fits_same most m r z h.0 ∙ e
 digits_end most m r z (inr p) e = no_digit most m z p
 
 record DigitMoves (most m : ℕ) (s : List ℕ) (k : ℕ) (after : List ℕ) : Type 0 where
-  front : List ℕ
-  parts : s ≡ front ++ after
-  same : (z : List ℕ) → Fits after z → Digits most m (front ++ z) k z
+  leading : List ℕ
+  parts : s ≡ leading ++ after
+  same : (z : List ℕ) → Fits after z → Digits most m (leading ++ z) k z
 
 digit_moves : (most m : ℕ) (s : List ℕ) (k : ℕ) (after : List ℕ) → Digits most m s k after → DigitMoves most m s k after
 unfolding expression_digit_fits
-digit_moves most m s _ _ (g.none e) = record { front = []; parts = refl; same = λ z h. g.none (digits_end most m s z h e) }
-digit_moves most m _ k after (g.digit {c = c} {s = s} e d) = (let i = digit_moves most _ s k after d in record { front = c ∷ i.front; parts = ap (λ (t : List ℕ). c ∷ t) i.parts; same = λ z h. g.digit e (i.same z h) })
+digit_moves most m s _ _ (g.none e) = record { leading = []; parts = refl; same = λ z h. g.none (digits_end most m s z h e) }
+digit_moves most m _ k after (g.digit {c = c} {s = s} e d) = (let i = digit_moves most _ s k after d in record { leading = c ∷ i.leading; parts = ap (λ (t : List ℕ). c ∷ t) i.parts; same = λ z h. g.digit e (i.same z h) })
 
 first_fits : (negative : Bool) (c : ℕ) (s : List ℕ) → is_expression_digit c ≡ true → expression_digit_fits (limit negative) 0 (c ∷ s) ≡ true
 unfolding expression_digit_fits
@@ -195,7 +195,7 @@ first_fits false c s h = grind (arith, nat_tests)
 -- the digits of a number, of which one at least stands there
 record FirstDigit (negative : Bool) (s : List ℕ) (k : ℕ) (after : List ℕ) : Type 0 where
   moves : DigitMoves (limit negative) 0 s k after
-  begin : (z : List ℕ) → begins is_expression_digit (moves.front ++ z) ≡ true
+  begin : (z : List ℕ) → begins is_expression_digit (moves.leading ++ z) ≡ true
 
 first_digit : (negative : Bool) (s : List ℕ) (k : ℕ) (after : List ℕ) → begins is_expression_digit s ≡ true → Digits (limit negative) 0 s k after → FirstDigit negative s k after
 unfolding begins expression_digit_fits
@@ -203,7 +203,7 @@ first_digit negative [] _ _ h (g.none e) = absurd cc
 first_digit negative (c ∷ s) _ _ h (g.none e) = absurd (let x = first_fits negative c s h in cc)
 first_digit negative _ k after h (g.digit {c = c} {s = s} e d) =
     (let i = digit_moves (limit negative) _ s k after d in
-    record { moves = record { front = c ∷ i.front; parts = ap (λ (t : List ℕ). c ∷ t) i.parts; same = λ z f. g.digit e (i.same z f) }; begin = λ z. h })
+    record { moves = record { leading = c ∷ i.leading; parts = ap (λ (t : List ℕ). c ∷ t) i.parts; same = λ z f. g.digit e (i.same z f) }; begin = λ z. h })
 
 abbrev minus : Bool → List ℕ
 minus true = 45 ∷ []
@@ -225,21 +225,21 @@ number_moves s k r x =
     let f = first_digit x.negative x.inside x.magnitude x.after x.first x.body in
     let bl = blanks x.after in
     let sign = minus x.negative in
-    let shape : (z : List ℕ) → (sign ++ (f.moves.front ++ bl.front)) ++ z ≡ sign ++ (f.moves.front ++ (bl.front ++ z)) = λ z. append_assoc sign (f.moves.front ++ bl.front) z ∙ ap (λ (t : List ℕ). sign ++ t) (append_assoc f.moves.front bl.front z) in
+    let shape : (z : List ℕ) → (sign ++ (f.moves.leading ++ bl.leading)) ++ z ≡ sign ++ (f.moves.leading ++ (bl.leading ++ z)) = λ z. append_assoc sign (f.moves.leading ++ bl.leading) z ∙ ap (λ (t : List ℕ). sign ++ t) (append_assoc f.moves.leading bl.leading z) in
     record {
-      front = sign ++ (f.moves.front ++ bl.front);
-      parts = minus_is x.negative s x.inside x.sign ∙ ap (λ (t : List ℕ). sign ++ t) (f.moves.parts ∙ ap (λ (t : List ℕ). f.moves.front ++ t) (bl.parts ∙ ap (λ (t : List ℕ). bl.front ++ t) (sym x.rest))) ∙ sym (shape r);
+      leading = sign ++ (f.moves.leading ++ bl.leading);
+      parts = minus_is x.negative s x.inside x.sign ∙ ap (λ (t : List ℕ). sign ++ t) (f.moves.parts ∙ ap (λ (t : List ℕ). f.moves.leading ++ t) (bl.parts ∙ ap (λ (t : List ℕ). bl.leading ++ t) (sym x.rest))) ∙ sym (shape r);
       same = λ z h.
           (let h' : Fits (blanks_skipped x.after) z = subst (λ (q : List ℕ). Fits q z) x.rest h in
           subst (λ (t : List ℕ). Number t k z) (sym (shape z))
           (record {
             negative = x.negative;
             magnitude = x.magnitude;
-            inside = f.moves.front ++ (bl.front ++ z);
-            after = bl.front ++ z;
-            sign = minus_sign x.negative (f.moves.front ++ (bl.front ++ z));
-            first = f.begin (bl.front ++ z);
-            body = f.moves.same (bl.front ++ z) (fits_in x.after bl.front (blanks_skipped x.after) z bl.parts h');
+            inside = f.moves.leading ++ (bl.leading ++ z);
+            after = bl.leading ++ z;
+            sign = minus_sign x.negative (f.moves.leading ++ (bl.leading ++ z));
+            first = f.begin (bl.leading ++ z);
+            body = f.moves.same (bl.leading ++ z) (fits_in x.after bl.leading (blanks_skipped x.after) z bl.parts h');
             value = x.value;
             rest = sym (bl.over z (near_clear (blanks_skipped x.after) z (fits_near (blanks_skipped x.after) z h')));
           }));
@@ -251,9 +251,9 @@ pub literal_jumps : (w s r : List ℕ) → Literal w s r → Jumps (Literal w) s
 literal_jumps w s r b =
     let bl = blanks b.after in
     at_jumps (Literal w) s (w ++ b.after) r (blanks_skipped b.after) b.parts b.rest (record {
-      front = w ++ bl.front;
-      parts = ap (λ (t : List ℕ). w ++ t) bl.parts ∙ sym (append_assoc w bl.front (blanks_skipped b.after));
-      same = λ z h. record { after = bl.front ++ z; parts = append_assoc w bl.front z; rest = sym (bl.over z h) };
+      leading = w ++ bl.leading;
+      parts = ap (λ (t : List ℕ). w ++ t) bl.parts ∙ sym (append_assoc w bl.leading (blanks_skipped b.after));
+      same = λ z h. record { after = bl.leading ++ z; parts = append_assoc w bl.leading z; rest = sym (bl.over z h) };
     })
 
 pub literal_steps : (w s r : List ℕ) → Literal w s r → Steps (Literal w) s r
@@ -267,9 +267,9 @@ context_string_steps s c r x =
     let bl = blanks x.after in
     let w = context_text c in
     at_steps (ContextStringOf c) s (x.mark ∷ (w ++ x.mark ∷ x.after)) r (blanks_skipped x.after) x.parts x.rest (record {
-      front = x.mark ∷ (w ++ x.mark ∷ bl.front);
-      parts = ap (λ (t : List ℕ). x.mark ∷ t) (ap (λ (t : List ℕ). w ++ x.mark ∷ t) bl.parts ∙ sym (append_assoc w (x.mark ∷ bl.front) (blanks_skipped x.after)));
-      same = λ z h. record { mark = x.mark; after = bl.front ++ z; parts = ap (λ (t : List ℕ). x.mark ∷ t) (append_assoc w (x.mark ∷ bl.front) z); is_mark = x.is_mark; rest = sym (bl.over z (near_clear (blanks_skipped x.after) z h)) };
+      leading = x.mark ∷ (w ++ x.mark ∷ bl.leading);
+      parts = ap (λ (t : List ℕ). x.mark ∷ t) (ap (λ (t : List ℕ). w ++ x.mark ∷ t) bl.parts ∙ sym (append_assoc w (x.mark ∷ bl.leading) (blanks_skipped x.after)));
+      same = λ z h. record { mark = x.mark; after = bl.leading ++ z; parts = ap (λ (t : List ℕ). x.mark ∷ t) (append_assoc w (x.mark ∷ bl.leading) z); is_mark = x.is_mark; rest = sym (bl.over z (near_clear (blanks_skipped x.after) z h)) };
     })
 
 abbrev pub JoinOf : List ℕ → List ℕ → List ℕ → Type 0

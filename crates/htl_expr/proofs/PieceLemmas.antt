@@ -64,8 +64,8 @@ one_more scope [] (t ∷ texts) pieces text known are = absurd cc
 one_more scope (ps ∷ items) [] pieces text known are = absurd known
 one_more scope (ps ∷ items) (t ∷ texts) pieces text known are = (known.0, one_more scope items texts pieces text known.1 are)
 
-same_behind : (c : ℕ) (x y : List ℕ) → c ∷ x ≡ c ∷ y → x ≡ y
-same_behind c x y e = cc
+same_after : (c : ℕ) (x y : List ℕ) → c ∷ x ≡ c ∷ y → x ≡ y
+same_after c x y e = cc
 
 flat_append : (xs ys : List (List ItemPiece)) → flat_map (λ (ps : List ItemPiece). ps) (xs ++ ys) ≡ flat_map (λ (ps : List ItemPiece). ps) xs ++ flat_map (λ (ps : List ItemPiece). ps) ys
 flat_append [] ys = refl
@@ -92,17 +92,17 @@ halves (x ∷ xs) (y ∷ ys) us vs n e =
 
 commas_differ : (xs ys : List (List ℕ)) (n : ℕ) → n < length xs → n < length ys → take n xs ≡ take n ys → pointwise nat_eq (get_or xs n []) (get_or ys n []) ≡ false → length (get_or xs n []) ≡ length (get_or ys n [])
     → with_commas xs ≡ with_commas ys → ⊥
-commas_differ [] ys n lt more front differ len e = absurd (omega (arith, lt))
-commas_differ (x ∷ xs) [] n lt more front differ len e = absurd (omega (arith, more))
-commas_differ (x ∷ xs) (y ∷ ys) zero lt more front differ len e =
+commas_differ [] ys n lt more leading differ len e = absurd (omega (arith, lt))
+commas_differ (x ∷ xs) [] n lt more leading differ len e = absurd (omega (arith, more))
+commas_differ (x ∷ xs) (y ∷ ys) zero lt more leading differ len e =
     let same = halves (codes "," ++ x) (codes "," ++ y) (with_commas xs) (with_commas ys) (ap suc len) e in
-    clash (pointwise nat_eq x y) ((bytes_eq-Decides x y).1 (same_behind 44 x y same.0)) differ
+    clash (pointwise nat_eq x y) ((bytes_eq-Decides x y).1 (same_after 44 x y same.0)) differ
   where
     clash : (b : Bool) → b ≡ true → b ≡ false → ⊥
     clash b e f = cc
-commas_differ (x ∷ xs) (y ∷ ys) (suc n) lt more front differ len e =
-    let same : x ≡ y = heads x y (take n xs) (take n ys) front in
-    let rest : take n xs ≡ take n ys = tails x y (take n xs) (take n ys) front in
+commas_differ (x ∷ xs) (y ∷ ys) (suc n) lt more leading differ len e =
+    let same : x ≡ y = heads x y (take n xs) (take n ys) leading in
+    let rest : take n xs ≡ take n ys = tails x y (take n xs) (take n ys) leading in
     let both = halves (codes "," ++ x) (codes "," ++ y) (with_commas xs) (with_commas ys) (ap (λ (l : List ℕ). length (codes "," ++ l)) same) e in
     commas_differ xs ys n (omega (arith, lt)) (omega (arith, more)) rest differ len both.1
   where
@@ -144,5 +144,5 @@ longer_by_piece texts i len more new lt known is sum =
 
 -- one place more at which the pieces are the same
 pub agree_more : (xs ys : List (List ℕ)) (i : ℕ) → i < length xs → i < length ys → pointwise nat_eq (get_or xs i []) (get_or ys i []) ≡ true → take i xs ≡ take i ys → take (i + 1) xs ≡ take (i + 1) ys
-agree_more xs ys i lt more same front =
-    take_more xs i [] lt ∙ ap (λ (l : List (List ℕ)). l ++ get_or xs i [] ∷ []) front ∙ ap (λ (t : List ℕ). take i ys ++ t ∷ []) ((bytes_eq-Decides (get_or xs i []) (get_or ys i [])).0 same) ∙ sym (take_more ys i [] more)
+agree_more xs ys i lt more same leading =
+    take_more xs i [] lt ∙ ap (λ (l : List (List ℕ)). l ++ get_or xs i [] ∷ []) leading ∙ ap (λ (t : List ℕ). take i ys ++ t ∷ []) ((bytes_eq-Decides (get_or xs i []) (get_or ys i [])).0 same) ∙ sym (take_more ys i [] more)

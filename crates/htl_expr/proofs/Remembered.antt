@@ -32,12 +32,12 @@ texts_decide = pointwise_decides bytes_eq-Decides
 
 -- compared values at one place of the order are one
 texts_told : (x y : List (List ℕ)) → begins_with_byte (by_texts x) y ≡ true → x ≡ y
-texts_told x y e = (texts_decide x y).0 (lists_ties (slice_cmp nat_cmp) texts_ties x y ∙ behind (nat_cmp (length x) (length y)) (slice_cmp (slice_cmp nat_cmp) x y) e)
+texts_told x y e = (texts_decide x y).0 (lists_ties (slice_cmp nat_cmp) texts_ties x y ∙ remainder (nat_cmp (length x) (length y)) (slice_cmp (slice_cmp nat_cmp) x y) e)
   where
-    behind : (o rest : Ordering) → is_eq (ordering_then o rest) ≡ true → is_eq rest ≡ true
-    behind Less rest e = absurd cc
-    behind Equal rest e = e
-    behind Greater rest e = absurd cc
+    remainder : (o rest : Ordering) → is_eq (ordering_then o rest) ≡ true → is_eq rest ≡ true
+    remainder Less rest e = absurd cc
+    remainder Equal rest e = e
+    remainder Greater rest e = absurd cc
 
 some_is : (x y : ℕ) → Some x ≡ Some y → x ≡ y
 some_is x y e = cc

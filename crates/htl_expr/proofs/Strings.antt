@@ -11,13 +11,13 @@ use Rattle.htl_expr.specs.declared.stop.ExprStop.TheVariants.{Memory, Unexpected
 pub ok_is : {A : Type 0} (x y : A) → done x ≡ done y → x ≡ y
 ok_is x y e = cc
 
-pub in_front_twice : (a b : List ℕ) (o : Outcome (List ℕ)) → read_with_prefix a (read_with_prefix b o) ≡ read_with_prefix (a ++ b) o
-in_front_twice a b (Ok x) = ap (λ (l : List ℕ). Ok (l, x.1)) (sym (append_assoc a b x.0))
-in_front_twice a b (Err e) = refl
+pub in_prefix_twice : (a b : List ℕ) (o : Outcome (List ℕ)) → read_with_prefix a (read_with_prefix b o) ≡ read_with_prefix (a ++ b) o
+in_prefix_twice a b (Ok x) = ap (λ (l : List ℕ). Ok (l, x.1)) (sym (append_assoc a b x.0))
+in_prefix_twice a b (Err e) = refl
 
-pub in_front_nil : (o : Outcome (List ℕ)) → read_with_prefix [] o ≡ o
-in_front_nil (Ok x) = refl
-in_front_nil (Err e) = refl
+pub in_prefix_nil : (o : Outcome (List ℕ)) → read_with_prefix [] o ≡ o
+in_prefix_nil (Ok x) = refl
+in_prefix_nil (Err e) = refl
 
 pub plain_step : (mark : ℕ) (t : List ℕ) → string_from false mark t ≡ read_with_prefix (take (plain_quoted_len mark t) t) (string_from false mark (drop (plain_quoted_len mark t) t))
 unfolding plain_quoted_len string_from
@@ -28,8 +28,8 @@ plain_step mark (c ∷ t) = go (eqb c mark) (eqb c 92) refl refl (plain_step mar
         → cond a (Ok ([], blanks_skipped t)) (cond b (string_from true mark t) (read_with_prefix (c ∷ []) (string_from false mark t)))
         ≡ read_with_prefix (take (cond (a || b) 0 (suc (plain_quoted_len mark t))) (c ∷ t)) (string_from false mark (drop (cond (a || b) 0 (suc (plain_quoted_len mark t))) (c ∷ t)))
     go true b ea eb ih = rw ea refl
-    go false true ea eb ih = rw (ea, eb) (sym (in_front_nil (string_from true mark t)))
-    go false false ea eb ih = ap (read_with_prefix (c ∷ [])) ih ∙ in_front_twice (c ∷ []) (take (plain_quoted_len mark t) t) (string_from false mark (drop (plain_quoted_len mark t) t))
+    go false true ea eb ih = rw (ea, eb) (sym (in_prefix_nil (string_from true mark t)))
+    go false false ea eb ih = ap (read_with_prefix (c ∷ [])) ih ∙ in_prefix_twice (c ∷ []) (take (plain_quoted_len mark t) t) (string_from false mark (drop (plain_quoted_len mark t) t))
 
 pub closes : (mark : ℕ) (t : List ℕ) → begins_with_byte mark t ≡ true → string_from false mark t ≡ Ok ([], blanks_skipped (drop 1 t))
 unfolding begins_with_byte string_from
@@ -113,12 +113,12 @@ escape_shorter (d ∷ t) c later x = go (unescape d) x
     go (Some b) y = let z : t ≡ later = ap (λ (q : ℕ × List ℕ). q.1) (ok_is _ _ y) in omega (arith, ap (λ (l : List ℕ). length l) z)
 
 -- one turn: the plain bytes are taken over
-module _ (mark n : ℕ) (found front rest after found' : List ℕ) (whole : Outcome (List ℕ)) (len : n ≡ plain_quoted_len mark rest) (front_is : front ≡ take n rest) (after_is : after ≡ drop n rest)
-    (found_is : found' ≡ found ++ front) (before : read_with_prefix found (string_from false mark rest) ≡ whole) where
+module _ (mark n : ℕ) (found leading rest after found' : List ℕ) (whole : Outcome (List ℕ)) (len : n ≡ plain_quoted_len mark rest) (prefix_is : leading ≡ take n rest) (after_is : after ≡ drop n rest)
+    (found_is : found' ≡ found ++ leading) (before : read_with_prefix found (string_from false mark rest) ≡ whole) where
   taken : read_with_prefix found' (string_from false mark after) ≡ whole
   taken =
-      rw (found_is, front_is, after_is, len)
-      (sym (in_front_twice found (take (plain_quoted_len mark rest) rest) (string_from false mark (drop (plain_quoted_len mark rest) rest))) ∙ ap (read_with_prefix found) (sym (plain_step mark rest)) ∙ before)
+      rw (found_is, prefix_is, after_is, len)
+      (sym (in_prefix_twice found (take (plain_quoted_len mark rest) rest) (string_from false mark (drop (plain_quoted_len mark rest) rest))) ∙ ap (read_with_prefix found) (sym (plain_step mark rest)) ∙ before)
 
   pub closes_is : begins_with_byte mark after ≡ true → whole ≡ Ok (found', blanks_skipped (drop 1 after))
   closes_is h = sym taken ∙ ap (read_with_prefix found') (closes mark after h) ∙ ap (λ (l : List ℕ). Ok (l, blanks_skipped (drop 1 after))) (append-nil found')
@@ -137,7 +137,7 @@ module _ (mark n : ℕ) (found front rest after found' : List ℕ) (whole : Outc
   escape_fails (TooDeep m) h k f = escapes h k ∙ rw f refl
 
   pub escape_is : (c : ℕ) (later : List ℕ) → begins_with_byte mark after ≡ false → begins_with_byte 92 after ≡ true → escape (drop 1 after) ≡ Ok (c, later) → read_with_prefix (found' ++ c ∷ []) (string_from false mark later) ≡ whole
-  escape_is c later h k e = sym (in_front_twice found' (c ∷ []) (string_from false mark later)) ∙ sym (escapes h k ∙ rw e refl)
+  escape_is c later h k e = sym (in_prefix_twice found' (c ∷ []) (string_from false mark later)) ∙ sym (escapes h k ∙ rw e refl)
 
   pub escape_less : (c : ℕ) (later : List ℕ) → begins_with_byte 92 after ≡ true → escape (drop 1 after) ≡ Ok (c, later) → length later < length rest
   escape_less c later k e =

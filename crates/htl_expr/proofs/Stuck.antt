@@ -4,7 +4,7 @@ use Rattle.htl_expr.specs.declared.stop.ExprStop.{ExprStop}
 use Rattle.htl_expr.specs.declared.stop.ExprStop.TheVariants.{Memory, Unexpected, TooDeep}
 use Rattle.htl_expr.specs.declared.tokens.NameKind.TheVariants.{Field}
 use Rattle.htl_expr.specs.Tokens.{goes_on}
-use Rattle.htl_expr.proofs.Moves.{Plain, plain_fresh, Clear, Near, Fits, near_clear, fits_near, near_in, fits_in, fits_behind, clear_in, Moves, Steps, Jumps, Then}
+use Rattle.htl_expr.proofs.Moves.{Plain, plain_fresh, Clear, Near, Fits, near_clear, fits_near, near_in, fits_in, fits_after, clear_in, Moves, Steps, Jumps, Then}
 
 -- reading stopped where k bytes were left
 abbrev pub At : ExprStop → ℕ → Type 0
@@ -24,64 +24,64 @@ at_depth m (TooDeep n) k e a = (let same : m ≡ n = cc in same ∙ a)
 
 -- The text is a prefix and what is left; the prefix with more after it is complete.
 pub record Stuck (R : List ℕ → List ℕ → Type 0) (s : List ℕ) (k : ℕ) : Type 0 where
-  pub front : List ℕ
+  pub leading : List ℕ
   pub rest : List ℕ
   pub more : List ℕ
-  pub parts : s ≡ front ++ rest
+  pub parts : s ≡ leading ++ rest
   pub left : length rest ≡ k
-  pub near : (z : List ℕ) → Plain z → Near s (front ++ (more ++ z))
-  pub ends : (z : List ℕ) → Plain z → R (front ++ (more ++ z)) z
+  pub near : (z : List ℕ) → Plain z → Near s (leading ++ (more ++ z))
+  pub ends : (z : List ℕ) → Plain z → R (leading ++ (more ++ z)) z
 
 -- and what is made of the text may stand after a name
 pub record Late (R : List ℕ → List ℕ → Type 0) (s : List ℕ) (k : ℕ) : Type 0 where
   pub stuck : Stuck R s k
-  pub later : (z : List ℕ) → Plain z → Fits s (stuck.front ++ (stuck.more ++ z))
+  pub later : (z : List ℕ) → Plain z → Fits s (stuck.leading ++ (stuck.more ++ z))
 
 -- and what is made of the text may stand after blanks, as a word may
 pub record Cut (R : List ℕ → List ℕ → Type 0) (s : List ℕ) (k : ℕ) : Type 0 where
-  pub front : List ℕ
+  pub leading : List ℕ
   pub rest : List ℕ
   pub more : List ℕ
-  pub parts : s ≡ front ++ rest
+  pub parts : s ≡ leading ++ rest
   pub left : length rest ≡ k
-  pub clear : (z : List ℕ) → Plain z → Clear s (front ++ (more ++ z))
-  pub ends : (z : List ℕ) → Plain z → R (front ++ (more ++ z)) z
+  pub clear : (z : List ℕ) → Plain z → Clear s (leading ++ (more ++ z))
+  pub ends : (z : List ℕ) → Plain z → R (leading ++ (more ++ z)) z
 
 pub stuck_map : (R T : List ℕ → List ℕ → Type 0) (s : List ℕ) (k : ℕ) → ((s' r' : List ℕ) → R s' r' → T s' r') → Stuck R s k → Stuck T s k
-stuck_map R T s k make q = record { front = q.front; rest = q.rest; more = q.more; parts = q.parts; left = q.left; near = q.near; ends = λ z p. make (q.front ++ (q.more ++ z)) z (q.ends z p) }
+stuck_map R T s k make q = record { leading = q.leading; rest = q.rest; more = q.more; parts = q.parts; left = q.left; near = q.near; ends = λ z p. make (q.leading ++ (q.more ++ z)) z (q.ends z p) }
 
 pub late_map : (R T : List ℕ → List ℕ → Type 0) (s : List ℕ) (k : ℕ) → ((s' r' : List ℕ) → R s' r' → T s' r') → Late R s k → Late T s k
 unfolding stuck_map
 late_map R T s k make q = record { stuck = stuck_map R T s k make q.stuck; later = q.later }
 
 pub cut_map : (R T : List ℕ → List ℕ → Type 0) (s : List ℕ) (k : ℕ) → ((s' r' : List ℕ) → R s' r' → T s' r') → Cut R s k → Cut T s k
-cut_map R T s k make q = record { front = q.front; rest = q.rest; more = q.more; parts = q.parts; left = q.left; clear = q.clear; ends = λ z p. make (q.front ++ (q.more ++ z)) z (q.ends z p) }
+cut_map R T s k make q = record { leading = q.leading; rest = q.rest; more = q.more; parts = q.parts; left = q.left; clear = q.clear; ends = λ z p. make (q.leading ++ (q.more ++ z)) z (q.ends z p) }
 
 pub cut_of : (R : List ℕ → List ℕ → Type 0) (s : List ℕ) (k : ℕ) → Stuck R s k → Cut R s k
-cut_of R s k q = record { front = q.front; rest = q.rest; more = q.more; parts = q.parts; left = q.left; clear = λ z p. near_clear s (q.front ++ (q.more ++ z)) (q.near z p); ends = q.ends }
+cut_of R s k q = record { leading = q.leading; rest = q.rest; more = q.more; parts = q.parts; left = q.left; clear = λ z p. near_clear s (q.leading ++ (q.more ++ z)) (q.near z p); ends = q.ends }
 
 -- ---- what was read, and then a part at which reading stopped
 
 module _ (R Q : List ℕ → List ℕ → Type 0) (s m : List ℕ) (k : ℕ) where
   -- the text with both prefixes
-  behind : (P : List ℕ → Type 0) (front inner more z : List ℕ) → P (front ++ (inner ++ (more ++ z))) → P ((front ++ inner) ++ (more ++ z))
-  behind P front inner more z x = subst P (sym (append_assoc front inner (more ++ z))) x
+  remainder : (P : List ℕ → Type 0) (leading inner more z : List ℕ) → P (leading ++ (inner ++ (more ++ z))) → P ((leading ++ inner) ++ (more ++ z))
+  remainder P leading inner more z x = subst P (sym (append_assoc leading inner (more ++ z))) x
 
-  parts_of : (front inner rest : List ℕ) → s ≡ front ++ m → m ≡ inner ++ rest → s ≡ (front ++ inner) ++ rest
-  parts_of front inner rest e f = e ∙ ap (λ (t : List ℕ). front ++ t) f ∙ sym (append_assoc front inner rest)
+  parts_of : (leading inner rest : List ℕ) → s ≡ leading ++ m → m ≡ inner ++ rest → s ≡ (leading ++ inner) ++ rest
+  parts_of leading inner rest e f = e ∙ ap (λ (t : List ℕ). leading ++ t) f ∙ sym (append_assoc leading inner rest)
 
   pub moves_stuck : Moves R s m → Late Q m k → Stuck (Then R Q) s k
   moves_stuck a late =
       let q = late.stuck in
-      let t : List ℕ → List ℕ = λ z. q.front ++ (q.more ++ z) in
+      let t : List ℕ → List ℕ = λ z. q.leading ++ (q.more ++ z) in
       record {
-        front = a.front ++ q.front;
+        leading = a.leading ++ q.leading;
         rest = q.rest;
         more = q.more;
-        parts = parts_of a.front q.front q.rest a.parts q.parts;
+        parts = parts_of a.leading q.leading q.rest a.parts q.parts;
         left = q.left;
-        near = λ z p. behind (Near s) a.front q.front q.more z (near_in s a.front m (t z) a.parts (fits_near m (t z) (late.later z p)));
-        ends = λ z p. behind (λ (w : List ℕ). Then R Q w z) a.front q.front q.more z (t z, a.same (t z) (late.later z p), q.ends z p);
+        near = λ z p. remainder (Near s) a.leading q.leading q.more z (near_in s a.leading m (t z) a.parts (fits_near m (t z) (late.later z p)));
+        ends = λ z p. remainder (λ (w : List ℕ). Then R Q w z) a.leading q.leading q.more z (t z, a.same (t z) (late.later z p), q.ends z p);
       }
 
   pub moves_late : Moves R s m → Late Q m k → Late (Then R Q) s k
@@ -90,20 +90,20 @@ module _ (R Q : List ℕ → List ℕ → Type 0) (s m : List ℕ) (k : ℕ) whe
       let q = late.stuck in
       record {
         stuck = moves_stuck a late;
-        later = λ z p. behind (Fits s) a.front q.front q.more z (fits_in s a.front m (q.front ++ (q.more ++ z)) a.parts (late.later z p));
+        later = λ z p. remainder (Fits s) a.leading q.leading q.more z (fits_in s a.leading m (q.leading ++ (q.more ++ z)) a.parts (late.later z p));
       }
 
   pub steps_stuck : Steps R s m → Stuck Q m k → Stuck (Then R Q) s k
   steps_stuck a q =
-      let t : List ℕ → List ℕ = λ z. q.front ++ (q.more ++ z) in
+      let t : List ℕ → List ℕ = λ z. q.leading ++ (q.more ++ z) in
       record {
-        front = a.front ++ q.front;
+        leading = a.leading ++ q.leading;
         rest = q.rest;
         more = q.more;
-        parts = parts_of a.front q.front q.rest a.parts q.parts;
+        parts = parts_of a.leading q.leading q.rest a.parts q.parts;
         left = q.left;
-        near = λ z p. behind (Near s) a.front q.front q.more z (near_in s a.front m (t z) a.parts (q.near z p));
-        ends = λ z p. behind (λ (w : List ℕ). Then R Q w z) a.front q.front q.more z (t z, a.same (t z) (q.near z p), q.ends z p);
+        near = λ z p. remainder (Near s) a.leading q.leading q.more z (near_in s a.leading m (t z) a.parts (q.near z p));
+        ends = λ z p. remainder (λ (w : List ℕ). Then R Q w z) a.leading q.leading q.more z (t z, a.same (t z) (q.near z p), q.ends z p);
       }
 
   -- where what was read has a byte
@@ -111,39 +111,39 @@ module _ (R Q : List ℕ → List ℕ → Type 0) (s m : List ℕ) (k : ℕ) whe
   unfolding steps_stuck
   steps_late a lt q = record {
     stuck = steps_stuck a q;
-    later = λ z p. behind (Fits s) a.front q.front q.more z (fits_behind s a.front m (q.front ++ (q.more ++ z)) a.parts lt (q.near z p));
+    later = λ z p. remainder (Fits s) a.leading q.leading q.more z (fits_after s a.leading m (q.leading ++ (q.more ++ z)) a.parts lt (q.near z p));
   }
 
   pub jumps_cut : Jumps R s m → Cut Q m k → Cut (Then R Q) s k
   jumps_cut a q =
-      let t : List ℕ → List ℕ = λ z. q.front ++ (q.more ++ z) in
+      let t : List ℕ → List ℕ = λ z. q.leading ++ (q.more ++ z) in
       record {
-        front = a.front ++ q.front;
+        leading = a.leading ++ q.leading;
         rest = q.rest;
         more = q.more;
-        parts = parts_of a.front q.front q.rest a.parts q.parts;
+        parts = parts_of a.leading q.leading q.rest a.parts q.parts;
         left = q.left;
-        clear = λ z p. behind (Clear s) a.front q.front q.more z (clear_in s a.front m (t z) a.parts (q.clear z p));
-        ends = λ z p. behind (λ (w : List ℕ). Then R Q w z) a.front q.front q.more z (t z, a.same (t z) (q.clear z p), q.ends z p);
+        clear = λ z p. remainder (Clear s) a.leading q.leading q.more z (clear_in s a.leading m (t z) a.parts (q.clear z p));
+        ends = λ z p. remainder (λ (w : List ℕ). Then R Q w z) a.leading q.leading q.more z (t z, a.same (t z) (q.clear z p), q.ends z p);
       }
 
 -- ---- a part at which reading stopped, and then one that a text spells
 
 pub stuck_then : (R Q : List ℕ → List ℕ → Type 0) (s : List ℕ) (k : ℕ) (tail : List ℕ) → Stuck R s k → ((z : List ℕ) → Plain z → Plain (tail ++ z)) → ((z : List ℕ) → Plain z → Q (tail ++ z) z) → Stuck (Then R Q) s k
 stuck_then R Q s k tail q plain make = record {
-  front = q.front;
+  leading = q.leading;
   rest = q.rest;
   more = q.more ++ tail;
   parts = q.parts;
   left = q.left;
-  near = λ z p. subst (λ (w : List ℕ). Near s (q.front ++ w)) (sym (append_assoc q.more tail z)) (q.near (tail ++ z) (plain z p));
-  ends = λ z p. (tail ++ z, subst (λ (w : List ℕ). R (q.front ++ w) (tail ++ z)) (sym (append_assoc q.more tail z)) (q.ends (tail ++ z) (plain z p)), make z p);
+  near = λ z p. subst (λ (w : List ℕ). Near s (q.leading ++ w)) (sym (append_assoc q.more tail z)) (q.near (tail ++ z) (plain z p));
+  ends = λ z p. (tail ++ z, subst (λ (w : List ℕ). R (q.leading ++ w) (tail ++ z)) (sym (append_assoc q.more tail z)) (q.ends (tail ++ z) (plain z p)), make z p);
 }
 
 -- ---- reading stopped after what is complete
 
 pub moves_end : (R : List ℕ → List ℕ → Type 0) (s m : List ℕ) (k : ℕ) → Moves R s m → length m ≡ k → Stuck R s k
-moves_end R s m k a e = record { front = a.front; rest = m; more = []; parts = a.parts; left = e; near = λ z p. near_in s a.front m z a.parts (inr (plain_fresh z p)); ends = λ z p. a.same z (inr p) }
+moves_end R s m k a e = record { leading = a.leading; rest = m; more = []; parts = a.parts; left = e; near = λ z p. near_in s a.leading m z a.parts (inr (plain_fresh z p)); ends = λ z p. a.same z (inr p) }
 
 -- ---- a byte that ends a name
 

@@ -102,7 +102,7 @@ first_stuck (suc d) s c k x at q = with_condition d s c k x at (stuck_then (Some
 
 colon_missing : (d : ℕ) (m : List ℕ) (k : ℕ) → length m ≡ k → Late (Colon d) m k
 colon_missing d m k e = record {
-  stuck = record { front = []; rest = m; more = 58 ∷ 39 ∷ 39 ∷ []; parts = refl; left = e; near = λ z p. fits_near m (58 ∷ operand z) (inr (colon_plain z)); ends = one_colon d };
+  stuck = record { leading = []; rest = m; more = 58 ∷ 39 ∷ 39 ∷ []; parts = refl; left = e; near = λ z p. fits_near m (58 ∷ operand z) (inr (colon_plain z)); ends = one_colon d };
   later = λ z p. inr (colon_plain z);
 }
 

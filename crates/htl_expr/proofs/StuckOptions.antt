@@ -20,11 +20,11 @@ use Rattle.htl_expr.proofs.StuckTokens.{operand, operand_settled, empty_string, 
 
 -- the part of a word that was read, and the rest of it
 record Unread (w s : List ℕ) (k : ℕ) : Type 0 where
-  front : List ℕ
+  leading : List ℕ
   tail : List ℕ
   rest : List ℕ
-  word : w ≡ front ++ tail
-  parts : s ≡ front ++ rest
+  word : w ≡ leading ++ tail
+  parts : s ≡ leading ++ rest
   left : length rest ≡ k
 
 unread : (w s : List ℕ) (d : ExprStop) (k : ℕ) → literal w s ≡ Err d → At d k → Unread w s k
@@ -33,22 +33,22 @@ unread [] s d k e a = absurd cc
 unread (c ∷ w) s d k e a = elim (chosen (begins_with_byte c s) _ _ _ e) [
   | inl h ↦
       let i = unread w (drop 1 s) d k h.1 a in
-      record { front = c ∷ i.front; tail = i.tail; rest = i.rest; word = ap (λ (t : List ℕ). c ∷ t) i.word; parts = byte_at c s h.0 ∙ ap (λ (t : List ℕ). c ∷ t) i.parts; left = i.left }
-  | inr h ↦ record { front = []; tail = c ∷ w; rest = s; word = refl; parts = refl; left = at_length (length s) d k h.1 a }
+      record { leading = c ∷ i.leading; tail = i.tail; rest = i.rest; word = ap (λ (t : List ℕ). c ∷ t) i.word; parts = byte_at c s h.0 ∙ ap (λ (t : List ℕ). c ∷ t) i.parts; left = i.left }
+  | inr h ↦ record { leading = []; tail = c ∷ w; rest = s; word = refl; parts = refl; left = at_length (length s) d k h.1 a }
 ]
 
 -- the word stands there whole
-word_whole : (w s : List ℕ) (k : ℕ) (i : Unread w s k) (z : List ℕ) → i.front ++ (i.tail ++ z) ≡ w ++ z
-word_whole w s k i z = sym (append_assoc i.front i.tail z) ∙ ap (λ (t : List ℕ). t ++ z) (sym i.word)
+word_whole : (w s : List ℕ) (k : ℕ) (i : Unread w s k) (z : List ℕ) → i.leading ++ (i.tail ++ z) ≡ w ++ z
+word_whole w s k i z = sym (append_assoc i.leading i.tail z) ∙ ap (λ (t : List ℕ). t ++ z) (sym i.word)
 
 -- a word, and then a part that a text spells
 word_cut : (c : ℕ) (w s : List ℕ) (d : ExprStop) (k : ℕ) (Q : List ℕ → List ℕ → Type 0) (more : List ℕ) → ((z : List ℕ) → Settled ((c ∷ w) ++ z)) → ((z : List ℕ) → Settled (more ++ z)) → ((z : List ℕ) → Plain z → Q (more ++ z) z)
     → literal (c ∷ w) s ≡ Err d → At d k → Cut (Then (Literal (c ∷ w)) Q) s k
 word_cut c w s d k Q more first settled make e a =
     let i = unread (c ∷ w) s d k e a in
-    let shape : (z : List ℕ) → i.front ++ ((i.tail ++ more) ++ z) ≡ (c ∷ w) ++ (more ++ z) = λ z. ap (λ (t : List ℕ). i.front ++ t) (append_assoc i.tail more z) ∙ word_whole (c ∷ w) s k i (more ++ z) in
+    let shape : (z : List ℕ) → i.leading ++ ((i.tail ++ more) ++ z) ≡ (c ∷ w) ++ (more ++ z) = λ z. ap (λ (t : List ℕ). i.leading ++ t) (append_assoc i.tail more z) ∙ word_whole (c ∷ w) s k i (more ++ z) in
     record {
-      front = i.front;
+      leading = i.leading;
       rest = i.rest;
       more = i.tail ++ more;
       parts = i.parts;
@@ -62,7 +62,7 @@ word_cut c w s d k Q more first settled make e a =
 -- "=" and the value that a text spells, where neither stands
 sign_cut : (Q : List ℕ → List ℕ → Type 0) (more m : List ℕ) (d : ExprStop) (k : ℕ) → ((z : List ℕ) → Settled (more ++ z)) → ((z : List ℕ) → Plain z → Q (more ++ z) z) → expect 61 m ≡ Err d → At d k → Cut (Then (Byte 61) Q) m k
 sign_cut Q more m d k settled make e a = record {
-  front = [];
+  leading = [];
   rest = m;
   more = 61 ∷ more;
   parts = refl;
@@ -74,15 +74,15 @@ sign_cut Q more m d k settled make e a = record {
 -- an option: its word, "=" and its value
 module _ (A : Type 0) (c : ℕ) (w more : List ℕ) (Q : List ℕ → List ℕ → Type 0) (value : List ℕ → Result (A × List ℕ) ExprStop) (first : (z : List ℕ) → Settled ((c ∷ w) ++ z)) (settled : (z : List ℕ) → Settled (more ++ z))
     (make : (z : List ℕ) → Plain z → Q (more ++ z) z) (sticks : (s : List ℕ) (d : ExprStop) (k : ℕ) → value s ≡ Err d → At d k → Cut Q s k) where
-  abbrev Behind : List ℕ → List ℕ → Type 0
-  Behind = Then (Byte 61) Q
+  abbrev After : List ℕ → List ℕ → Type 0
+  After = Then (Byte 61) Q
 
   sign_settled : (z : List ℕ) → Settled ((61 ∷ more) ++ z)
   sign_settled z = settled_at 61 (more ++ z) refl
 
-  pub option_missing : (s : List ℕ) (k : ℕ) → length s ≡ k → Cut (Then (Literal (c ∷ w)) Behind) s k
+  pub option_missing : (s : List ℕ) (k : ℕ) → length s ≡ k → Cut (Then (Literal (c ∷ w)) After) s k
   option_missing s k e = record {
-    front = [];
+    leading = [];
     rest = s;
     more = (c ∷ w) ++ (61 ∷ more);
     parts = refl;
@@ -91,16 +91,16 @@ module _ (A : Type 0) (c : ℕ) (w more : List ℕ) (Q : List ℕ → List ℕ �
     ends = λ z p. ((61 ∷ more) ++ z, record { after = (61 ∷ more) ++ z; parts = append_assoc (c ∷ w) (61 ∷ more) z; rest = sym (sign_settled z) }, (more ++ z, byte_of 61 (more ++ z) (settled z), make z p));
   }
 
-  pub option_cut : (s : List ℕ) (d : ExprStop) (k : ℕ) → (literal (c ∷ w) s >>= λ a. expect 61 (blanks_skipped a) >>= λ b. value b) ≡ Err d → At d k → Cut (Then (Literal (c ∷ w)) Behind) s k
+  pub option_cut : (s : List ℕ) (d : ExprStop) (k : ℕ) → (literal (c ∷ w) s >>= λ a. expect 61 (blanks_skipped a) >>= λ b. value b) ≡ Err d → At d k → Cut (Then (Literal (c ∷ w)) After) s k
   option_cut s d k e a = elim (bind_err (literal (c ∷ w) s) (λ x. expect 61 (blanks_skipped x) >>= λ b. value b) d e) [
-    | inl at ↦ word_cut c w s d k Behind (61 ∷ more) first sign_settled (λ z p. (more ++ z, byte_of 61 (more ++ z) (settled z), make z p)) at a
+    | inl at ↦ word_cut c w s d k After (61 ∷ more) first sign_settled (λ z p. (more ++ z, byte_of 61 (more ++ z) (settled z), make z p)) at a
     | inr x ↦
         let word : Literal (c ∷ w) s (blanks_skipped x.0) = record { after = x.0; parts = whole.literal_parts (c ∷ w) s x.0 x.1; rest = refl } in
         elim (bind_err (expect 61 (blanks_skipped x.0)) (λ b. value b) d x.2) [
-          | inl at ↦ jumps_cut (Literal (c ∷ w)) Behind s (blanks_skipped x.0) k (literal_jumps (c ∷ w) s (blanks_skipped x.0) word) (sign_cut Q more (blanks_skipped x.0) d k settled make at a)
+          | inl at ↦ jumps_cut (Literal (c ∷ w)) After s (blanks_skipped x.0) k (literal_jumps (c ∷ w) s (blanks_skipped x.0) word) (sign_cut Q more (blanks_skipped x.0) d k settled make at a)
           | inr b ↦
               let sign = expect_sound 61 (blanks_skipped x.0) b.0 b.1 in
-              jumps_cut (Literal (c ∷ w)) Behind s (blanks_skipped x.0) k (literal_jumps (c ∷ w) s (blanks_skipped x.0) word)
+              jumps_cut (Literal (c ∷ w)) After s (blanks_skipped x.0) k (literal_jumps (c ∷ w) s (blanks_skipped x.0) word)
               (jumps_cut (Byte 61) Q (blanks_skipped x.0) b.0 k (byte_jumps 61 (blanks_skipped x.0) b.0 sign) (sticks b.0 d k b.2 a))
         ]
   ]
@@ -146,7 +146,7 @@ context_settled : (z : List ℕ) → Settled (context_more ++ z)
 context_settled z = settled_at 39 (codes "text" ++ 39 ∷ z) refl
 
 context_string_missing : (s : List ℕ) (k : ℕ) → length s ≡ k → Cut SomeContextString s k
-context_string_missing s k e = record { front = []; rest = s; more = context_more; parts = refl; left = e; clear = λ z p. inr (context_settled z); ends = any_context }
+context_string_missing s k e = record { leading = []; rest = s; more = context_more; parts = refl; left = e; clear = λ z p. inr (context_settled z); ends = any_context }
 
 -- the word after the mark was cut
 context_word_cut : (c : ℕ) (s : List ℕ) (context : Context) (d : ExprStop) (k : ℕ) → is_quote c ≡ true → literal (context_text context) s ≡ Err d → At d k → Cut SomeContextString (c ∷ s) k
@@ -154,7 +154,7 @@ context_word_cut c s context d k quote e a =
     let w = context_text context in
     let i = unread w s d k e a in
     record {
-      front = c ∷ i.front;
+      leading = c ∷ i.leading;
       rest = i.rest;
       more = i.tail ++ c ∷ [];
       parts = ap (λ (t : List ℕ). c ∷ t) i.parts;
@@ -165,7 +165,7 @@ context_word_cut c s context d k quote e a =
         record {
           mark = c;
           after = z;
-          parts = ap (λ (t : List ℕ). c ∷ t) (ap (λ (t : List ℕ). i.front ++ t) (append_assoc i.tail (c ∷ []) z) ∙ word_whole w s k i (c ∷ z));
+          parts = ap (λ (t : List ℕ). c ∷ t) (ap (λ (t : List ℕ). i.leading ++ t) (append_assoc i.tail (c ∷ []) z) ∙ word_whole w s k i (c ∷ z));
           is_mark = quote;
           rest = sym (plain_settled z p);
         },
@@ -174,7 +174,7 @@ context_word_cut c s context d k quote e a =
 
 context_close_cut : (c : ℕ) (s : List ℕ) (x : Context × List ℕ) (k : ℕ) → is_quote c ≡ true → s ≡ context_text x.0 ++ x.1 → length x.1 ≡ k → Cut SomeContextString (c ∷ s) k
 context_close_cut c s x k quote parts e = record {
-  front = c ∷ context_text x.0;
+  leading = c ∷ context_text x.0;
   rest = x.1;
   more = c ∷ [];
   parts = ap (λ (t : List ℕ). c ∷ t) parts;

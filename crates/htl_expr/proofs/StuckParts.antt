@@ -46,7 +46,7 @@ dot_plain z = (refl, refl, refl)
 access_missing : (depth : ℕ) (t : List ℕ) (k : ℕ) → length t ≡ k → Late (SomeAccess depth) t k
 access_missing depth t k e = record {
   stuck = record {
-    front = [];
+    leading = [];
     rest = t;
     more = 46 ∷ 95 ∷ [];
     parts = refl;
@@ -156,7 +156,7 @@ pub one_choice : (depth : ℕ) (z : List ℕ) → Plain z → SomePart Choice de
 one_choice depth z p = either_choice depth (operand z) z (both_either depth (operand z) z (one_both depth z p))
 
 pub start_missing : (depth : ℕ) (s : List ℕ) (k : ℕ) → length s ≡ k → Stuck (SomePart Start depth) s k
-start_missing depth s k e = record { front = []; rest = s; more = 39 ∷ 39 ∷ []; parts = refl; left = e; near = λ z p. inr (refl, refl, refl); ends = one_start depth }
+start_missing depth s k e = record { leading = []; rest = s; more = 39 ∷ 39 ∷ []; parts = refl; left = e; near = λ z p. inr (refl, refl, refl); ends = one_start depth }
 
 object_stuck : (depth : ℕ) (s w m : List ℕ) (o : Option (List ℕ → ExprNode)) (d : ExprStop) (k : ℕ) → spec.object_of w ≡ o → NameToken Name s w m → spec.name_or_object_of depth o w m ≡ Err d → At d k → Stuck (SomePart Start depth) s k
 object_stuck depth s w m None d k o t e a = absurd cc

@@ -32,7 +32,7 @@ expect_missing c m d k e a = elim (chosen (begins_with_byte c m) _ _ _ e) [
 
 pub byte_missing : (c : ℕ) → ((z : List ℕ) → Plain (c ∷ z)) → (m : List ℕ) (d : ExprStop) (k : ℕ) → expect c m ≡ Err d → At d k → Late (Byte c) m k
 byte_missing c plain m d k e a = record {
-  stuck = record { front = []; rest = m; more = c ∷ []; parts = refl; left = expect_missing c m d k e a; near = λ z p. fits_near m (c ∷ z) (inr (plain z)); ends = λ z p. byte_of c z (plain_settled z p) };
+  stuck = record { leading = []; rest = m; more = c ∷ []; parts = refl; left = expect_missing c m d k e a; near = λ z p. fits_near m (c ∷ z) (inr (plain z)); ends = λ z p. byte_of c z (plain_settled z p) };
   later = λ z p. inr (plain z);
 }
 
@@ -48,7 +48,7 @@ pub second_missing : (c d : ℕ) → Quiet c → (Q : List ℕ → List ℕ → 
 unfolding second
 second_missing c d quiet Q one m stop k at e a = record {
   stuck = record {
-    front = c ∷ [];
+    leading = c ∷ [];
     rest = drop 1 m;
     more = d ∷ 39 ∷ 39 ∷ [];
     parts = byte_at c m at;
@@ -72,25 +72,25 @@ Body true mark s z = (w : List ℕ) × StringBody mark (92 ∷ s) w z
 Body false mark s z = (w : List ℕ) × StringBody mark s w z
 
 record Unclosed (b : Bool) (mark : ℕ) (s : List ℕ) (k : ℕ) : Type 0 where
-  front : List ℕ
+  leading : List ℕ
   rest : List ℕ
   more : List ℕ
-  parts : s ≡ front ++ rest
+  parts : s ≡ leading ++ rest
   left : length rest ≡ k
-  ends : (z : List ℕ) → Body b mark (front ++ (more ++ z)) z
+  ends : (z : List ℕ) → Body b mark (leading ++ (more ++ z)) z
 
 unclosed : (b : Bool) (mark : ℕ) (s : List ℕ) (d : ExprStop) (k : ℕ) → string_from b mark s ≡ Err d → At d k → Unclosed b mark s k
 unfolding string_from unescape
-unclosed true mark [] d k e a = record { front = []; rest = []; more = 110 ∷ mark ∷ []; parts = refl; left = at_length 0 d k e a; ends = λ z. (10 ∷ [], g.escape refl g.closes) }
-unclosed false mark [] d k e a = record { front = []; rest = []; more = mark ∷ []; parts = refl; left = at_length 0 d k e a; ends = λ z. ([], g.closes) }
+unclosed true mark [] d k e a = record { leading = []; rest = []; more = 110 ∷ mark ∷ []; parts = refl; left = at_length 0 d k e a; ends = λ z. (10 ∷ [], g.escape refl g.closes) }
+unclosed false mark [] d k e a = record { leading = []; rest = []; more = mark ∷ []; parts = refl; left = at_length 0 d k e a; ends = λ z. ([], g.closes) }
 unclosed true mark (c ∷ s) d k e a = go (unescape c) refl e (λ w. unclosed false mark s d k w a)
   where
     go : (o : Option ℕ) → unescape c ≡ o → string_after_escape o (c ∷ s) (string_from false mark s) ≡ Err d → (string_from false mark s ≡ Err d → Unclosed false mark s k) → Unclosed true mark (c ∷ s) k
-    go None u w ih = record { front = []; rest = c ∷ s; more = 110 ∷ mark ∷ []; parts = refl; left = at_length (length (c ∷ s)) d k w a; ends = λ z. (10 ∷ [], g.escape refl g.closes) }
+    go None u w ih = record { leading = []; rest = c ∷ s; more = 110 ∷ mark ∷ []; parts = refl; left = at_length (length (c ∷ s)) d k w a; ends = λ z. (10 ∷ [], g.escape refl g.closes) }
     go (Some x) u w ih = elim (bind_err (string_from false mark s) (λ y. Ok ((x ∷ []) ++ y.0, y.1)) d w) [
       | inl at ↦
           let i = ih at in
-          record { front = c ∷ i.front; rest = i.rest; more = i.more; parts = ap (λ (t : List ℕ). c ∷ t) i.parts; left = i.left; ends = λ z. (x ∷ (i.ends z).0, g.escape u (i.ends z).1) }
+          record { leading = c ∷ i.leading; rest = i.rest; more = i.more; parts = ap (λ (t : List ℕ). c ∷ t) i.parts; left = i.left; ends = λ z. (x ∷ (i.ends z).0, g.escape u (i.ends z).1) }
       | inr at ↦ absurd (let y = at.2 in cc)
     ]
 unclosed false mark (c ∷ s) d k e a = elim (chosen (eqb c mark) _ _ _ e) [
@@ -99,12 +99,12 @@ unclosed false mark (c ∷ s) d k e a = elim (chosen (eqb c mark) _ _ _ e) [
       elim (chosen (eqb c 92) _ _ _ h.1) [
         | inl j ↦
             let i = unclosed true mark s d k j.1 a in
-            record { front = c ∷ i.front; rest = i.rest; more = i.more; parts = ap (λ (t : List ℕ). c ∷ t) i.parts; left = i.left; ends = λ z. ((i.ends z).0, subst (λ (b : ℕ). StringBody mark (b ∷ (i.front ++ (i.more ++ z))) (i.ends z).0 z) (sym (eqb_is c 92 j.0)) (i.ends z).1) }
+            record { leading = c ∷ i.leading; rest = i.rest; more = i.more; parts = ap (λ (t : List ℕ). c ∷ t) i.parts; left = i.left; ends = λ z. ((i.ends z).0, subst (λ (b : ℕ). StringBody mark (b ∷ (i.leading ++ (i.more ++ z))) (i.ends z).0 z) (sym (eqb_is c 92 j.0)) (i.ends z).1) }
         | inr j ↦
             elim (bind_err (string_from false mark s) (λ x. Ok ((c ∷ []) ++ x.0, x.1)) d j.1) [
               | inl at ↦
                   let i = unclosed false mark s d k at a in
-                  record { front = c ∷ i.front; rest = i.rest; more = i.more; parts = ap (λ (t : List ℕ). c ∷ t) i.parts; left = i.left; ends = λ z. (c ∷ (i.ends z).0, g.plain h.0 j.0 (i.ends z).1) }
+                  record { leading = c ∷ i.leading; rest = i.rest; more = i.more; parts = ap (λ (t : List ℕ). c ∷ t) i.parts; left = i.left; ends = λ z. (c ∷ (i.ends z).0, g.plain h.0 j.0 (i.ends z).1) }
               | inr at ↦ absurd (let y = at.2 in cc)
             ]
       ]
@@ -114,7 +114,7 @@ pub empty_string : (z : List ℕ) → Plain z → String (operand z) [] z
 empty_string z p = record { mark = 39; inside = 39 ∷ z; after = z; parts = refl; is_mark = refl; body = g.closes; rest = sym (plain_settled z p) }
 
 string_missing : (s : List ℕ) (k : ℕ) → length s ≡ k → Stuck SomeString s k
-string_missing s k e = record { front = []; rest = s; more = 39 ∷ 39 ∷ []; parts = refl; left = e; near = λ z p. inr (refl, refl, refl); ends = λ z p. ([], empty_string z p) }
+string_missing s k e = record { leading = []; rest = s; more = 39 ∷ 39 ∷ []; parts = refl; left = e; near = λ z p. inr (refl, refl, refl); ends = λ z p. ([], empty_string z p) }
 
 pub string_stuck : (s : List ℕ) (d : ExprStop) (k : ℕ) → string s ≡ Err d → At d k → Stuck SomeString s k
 unfolding string
@@ -123,13 +123,13 @@ string_stuck (c ∷ s) d k e a = elim (chosen (is_quote c) _ _ _ e) [
   | inl h ↦
       let i = unclosed false c s d k h.1 a in
       record {
-        front = c ∷ i.front;
+        leading = c ∷ i.leading;
         rest = i.rest;
         more = i.more;
         parts = ap (λ (t : List ℕ). c ∷ t) i.parts;
         left = i.left;
         near = λ z p. inl refl;
-        ends = λ z p. ((i.ends z).0, record { mark = c; inside = i.front ++ (i.more ++ z); after = z; parts = refl; is_mark = h.0; body = (i.ends z).1; rest = sym (plain_settled z p) });
+        ends = λ z p. ((i.ends z).0, record { mark = c; inside = i.leading ++ (i.more ++ z); after = z; parts = refl; is_mark = h.0; body = (i.ends z).1; rest = sym (plain_settled z p) });
       }
   | inr h ↦ string_missing (c ∷ s) k (at_length (length (c ∷ s)) d k h.1 a)
 ]
@@ -147,7 +147,7 @@ pub field_stuck : (s : List ℕ) (d : ExprStop) (k : ℕ) → read_name Field s 
 unfolding read_name
 field_stuck s d k e a = elim (chosen (begins is_first s) _ _ _ e) [
   | inl h ↦ absurd (let x = h.1 in cc)
-  | inr h ↦ record { front = []; rest = s; more = 95 ∷ []; parts = refl; left = at_length (length s) d k h.1 a; near = λ z p. inr (refl, refl, refl); ends = λ z p. (95 ∷ [], one_field z p) }
+  | inr h ↦ record { leading = []; rest = s; more = 95 ∷ []; parts = refl; left = at_length (length s) d k h.1 a; near = λ z p. inr (refl, refl, refl); ends = λ z p. (95 ∷ [], one_field z p) }
 ]
 
 abbrev pub SomeNumber : List ℕ → List ℕ → Type 0
@@ -177,7 +177,7 @@ number_stuck s d k at e a = elim (chosen (begins_with_byte 45 s) _ _ _ e) [
       elim (chosen (begins is_expression_digit (drop 1 s)) _ _ _ h.1) [
         | inl j ↦ absurd (let x = j.1 in cc)
         | inr j ↦ record {
-          front = 45 ∷ [];
+          leading = 45 ∷ [];
           rest = drop 1 s;
           more = 49 ∷ [];
           parts = byte_at 45 s h.0;

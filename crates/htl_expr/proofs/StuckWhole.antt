@@ -44,20 +44,20 @@ to_end s r (context_join {m = m} {w = w} {c = c} b x comma j) e = (Some w, Some 
 byte_late : (c : ℕ) (s : List ℕ) (k : ℕ) (Q : List ℕ → List ℕ → Type 0) → Quiet c → begins_with_byte c s ≡ true → Cut Q (blanks_skipped (drop 1 s)) k → Late (Then (Byte c) Q) s k
 byte_late c s k Q quiet at q =
     let bl = blanks (drop 1 s) in
-    let shape : (t : List ℕ) → c ∷ ((bl.front ++ q.front) ++ t) ≡ c ∷ (bl.front ++ (q.front ++ t)) = λ t. ap (λ (u : List ℕ). c ∷ u) (append_assoc bl.front q.front t) in
+    let shape : (t : List ℕ) → c ∷ ((bl.leading ++ q.leading) ++ t) ≡ c ∷ (bl.leading ++ (q.leading ++ t)) = λ t. ap (λ (u : List ℕ). c ∷ u) (append_assoc bl.leading q.leading t) in
     record {
       stuck = record {
-        front = c ∷ (bl.front ++ q.front);
+        leading = c ∷ (bl.leading ++ q.leading);
         rest = q.rest;
         more = q.more;
-        parts = byte_at c s at ∙ ap (λ (t : List ℕ). c ∷ t) (bl.parts ∙ ap (λ (t : List ℕ). bl.front ++ t) q.parts) ∙ sym (shape q.rest);
+        parts = byte_at c s at ∙ ap (λ (t : List ℕ). c ∷ t) (bl.parts ∙ ap (λ (t : List ℕ). bl.leading ++ t) q.parts) ∙ sym (shape q.rest);
         left = q.left;
-        near = λ z p. inl (subst (λ (t : List ℕ). SameHead t (c ∷ ((bl.front ++ q.front) ++ (q.more ++ z)))) (sym (byte_at c s at)) refl);
+        near = λ z p. inl (subst (λ (t : List ℕ). SameHead t (c ∷ ((bl.leading ++ q.leading) ++ (q.more ++ z)))) (sym (byte_at c s at)) refl);
         ends = λ z p.
-            (let t = q.front ++ (q.more ++ z) in
-            (t, record { after = bl.front ++ t; parts = shape (q.more ++ z); rest = sym (bl.over t (q.clear z p)) }, q.ends z p));
+            (let t = q.leading ++ (q.more ++ z) in
+            (t, record { after = bl.leading ++ t; parts = shape (q.more ++ z); rest = sym (bl.over t (q.clear z p)) }, q.ends z p));
       };
-      later = λ z p. fits_quiet c s ((bl.front ++ q.front) ++ (q.more ++ z)) quiet (byte_at c s at);
+      later = λ z p. fits_quiet c s ((bl.leading ++ q.leading) ++ (q.more ++ z)) quiet (byte_at c s at);
     }
 
 quiet_options : Quiet 64
@@ -233,12 +233,12 @@ module _ (levels : ℕ) where
   finish s k q =
       let bl = blanks s in
       let more = q.more ++ [] in
-      let parts : s ≡ (bl.front ++ q.front) ++ q.rest = bl.parts ∙ ap (λ (t : List ℕ). bl.front ++ t) q.parts ∙ sym (append_assoc bl.front q.front q.rest) in
-      let len : length s - k ≡ length (bl.front ++ q.front) = omega (arith, ap length parts, length-append (bl.front ++ q.front) q.rest, q.left) in
-      let front_is : take (length s - k) s ≡ bl.front ++ q.front = ap (λ (i : ℕ). take i s) len ∙ ap (λ (t : List ℕ). take (length (bl.front ++ q.front)) t) parts ∙ take_at (bl.front ++ q.front) q.rest (length (bl.front ++ q.front)) refl in
-      let text_is : take (length s - k) s ++ more ≡ bl.front ++ (q.front ++ more) = ap (λ (t : List ℕ). t ++ more) front_is ∙ append_assoc bl.front q.front more in
-      let behind : blanks_skipped (take (length s - k) s ++ more) ≡ q.front ++ more = ap blanks_skipped text_is ∙ bl.over (q.front ++ more) (near_clear (blanks_skipped s) (q.front ++ more) (q.near [] tt)) in
-      let x = whole_of (take (length s - k) s ++ more) (subst (λ (t : List ℕ). Text t []) (sym behind) (q.ends [] tt)) in
+      let parts : s ≡ (bl.leading ++ q.leading) ++ q.rest = bl.parts ∙ ap (λ (t : List ℕ). bl.leading ++ t) q.parts ∙ sym (append_assoc bl.leading q.leading q.rest) in
+      let len : length s - k ≡ length (bl.leading ++ q.leading) = omega (arith, ap length parts, length-append (bl.leading ++ q.leading) q.rest, q.left) in
+      let prefix_is : take (length s - k) s ≡ bl.leading ++ q.leading = ap (λ (i : ℕ). take i s) len ∙ ap (λ (t : List ℕ). take (length (bl.leading ++ q.leading)) t) parts ∙ take_at (bl.leading ++ q.leading) q.rest (length (bl.leading ++ q.leading)) refl in
+      let text_is : take (length s - k) s ++ more ≡ bl.leading ++ (q.leading ++ more) = ap (λ (t : List ℕ). t ++ more) prefix_is ∙ append_assoc bl.leading q.leading more in
+      let remainder : blanks_skipped (take (length s - k) s ++ more) ≡ q.leading ++ more = ap blanks_skipped text_is ∙ bl.over (q.leading ++ more) (near_clear (blanks_skipped s) (q.leading ++ more) (q.near [] tt)) in
+      let x = whole_of (take (length s - k) s ++ more) (subst (λ (t : List ℕ). Text t []) (sym remainder) (q.ends [] tt)) in
       record { more = more; tree = x.0; whole = x.1 }
 
   -- what stands before the byte at which reading stopped may go on

@@ -32,12 +32,12 @@ pub at_here : (c : ℕ) (s r : List ℕ) → Byte c s r → begins_with_byte c s
 unfolding begins_with_byte
 at_here c s r b = rw b.parts (eqb_same c)
 
-pub behind : (c : ℕ) (s r : List ℕ) → Byte c s r → blanks_skipped (drop 1 s) ≡ r
-behind c s r b = rw (b.parts, b.rest) refl
+pub remainder : (c : ℕ) (s r : List ℕ) → Byte c s r → blanks_skipped (drop 1 s) ≡ r
+remainder c s r b = rw (b.parts, b.rest) refl
 
 pub expect_again : (c : ℕ) (s r : List ℕ) → Byte c s r → expect c s ≡ Ok r
 unfolding expect
-expect_again c s r b = rw (at_here c s r b, behind c s r b) refl
+expect_again c s r b = rw (at_here c s r b, remainder c s r b) refl
 
 pub operator_here : (c d : ℕ) (s r : List ℕ) → Operator c d s r → begins_with_byte c s ≡ true
 unfolding begins_with_byte

@@ -61,12 +61,12 @@ option_second w s c r x = rw ((context_at s c r x).1, in_context_again s c r x) 
 options_again : (s : List ℕ) (join : Option (List ℕ)) (context : Option Context) → Options s join context → spec.options s ≡ Ok ((join, context), [])
 unfolding spec.options begins_with_byte
 options_again _ _ _ g.none = refl
-options_again s _ _ (g.join at j) = rw (again.at_here 64 s _ at, again.behind 64 s _ at, option_join None _ _ [] j) refl
-options_again s _ _ (g.context at c) = rw (again.at_here 64 s _ at, again.behind 64 s _ at, option_context _ _ [] c) refl
+options_again s _ _ (g.join at j) = rw (again.at_here 64 s _ at, again.remainder 64 s _ at, option_join None _ _ [] j) refl
+options_again s _ _ (g.context at c) = rw (again.at_here 64 s _ at, again.remainder 64 s _ at, option_context _ _ [] c) refl
 options_again s _ _ (g.join_context at j comma c) =
-    rw (again.at_here 64 s _ at, again.behind 64 s _ at, option_join None _ _ _ j, again.at_here 44 _ _ comma, again.behind 44 _ _ comma) (option_second _ _ _ [] c)
+    rw (again.at_here 64 s _ at, again.remainder 64 s _ at, option_join None _ _ _ j, again.at_here 44 _ _ comma, again.remainder 44 _ _ comma) (option_second _ _ _ [] c)
 options_again s _ _ (g.context_join at c comma j) =
-    rw (again.at_here 64 s _ at, again.behind 64 s _ at, option_context _ _ _ c, again.at_here 44 _ _ comma, again.behind 44 _ _ comma) (option_join (Some _) _ _ [] j)
+    rw (again.at_here 64 s _ at, again.remainder 64 s _ at, option_context _ _ _ c, again.at_here 44 _ _ comma, again.remainder 44 _ _ comma) (option_join (Some _) _ _ [] j)
 
 nil_stops : Stops Choice [] × ((eqb (length {A = ℕ} []) 0 || begins_with_byte 64 []) ≡ true)
 unfolding begins_with_byte spec.access_at spec.compares

@@ -58,7 +58,7 @@ SameHead (c ∷ r) (d ∷ z) = c ≡ d
 
 -- the texts have the same bytes up to this one, and this one too, or both end here
 pub record Agree (place : ℕ) (s t : List ℕ) : Type 0 where
-  pub front : take place t ≡ take place s
+  pub leading : take place t ≡ take place s
   pub here : SameHead (drop place s) (drop place t)
 
 -- no text that is the same up to and with this byte is an expression, where `levels` levels may nest

@@ -128,7 +128,7 @@ plain_quoted_len mark (c ∷ t) = if c == mark || c == 92 then 0 else suc (plain
 
 -- characters before what was read
 abbrev pub read_with_prefix : List ℕ → Outcome (List ℕ) → Outcome (List ℕ)
-read_with_prefix front o = o >>= λ x. Ok (front ++ x.0, x.1)
+read_with_prefix leading o = o >>= λ x. Ok (leading ++ x.0, x.1)
 
 -- the character of an escape before what was read
 abbrev pub string_after_escape : Option ℕ → List ℕ → Outcome (List ℕ) → Outcome (List ℕ)

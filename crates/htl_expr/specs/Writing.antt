@@ -4,9 +4,9 @@ use Rattle.htl_expr.specs.declared.room.WriteFault.{WriteFault}
 use Rattle.htl_expr.specs.declared.room.WriteFault.TheVariants.{TooLong, NoMemory}
 
 -- a text that begins with another
-pub record Begins (front text : List ℕ) : Type 0 where
+pub record Begins (leading text : List ℕ) : Type 0 where
   pub rest : List ℕ
-  pub parts : text ≡ front ++ rest
+  pub parts : text ≡ leading ++ rest
 
 -- a text is not written, and would go beyond the limit unless memory lacks; what stood there stays at the beginning
 abbrev pub IsStopped : ℕ → WriteFault → List ℕ → List ℕ → List ℕ → Type 0

@@ -8,7 +8,7 @@ ghost use Rattle.htl_expr.specs.Tokens.{Gives};
 
 use crate::node::ExprNode;
 use crate::stop::ExprStop;
-use crate::tokens::{NameKind, begins_with_byte, behind, expect, name, string};
+use crate::tokens::{NameKind, begins_with_byte, remainder, expect, name, string};
 use sp_base::{TextBuf, TextList};
 use sqlite_items::Boxed;
 use std::alloc::{AllocError, Global};
@@ -37,7 +37,7 @@ fn bracket_access(alloc: Global, depth: u32, text: &str) -> Result<(TextBuf, &st
     if depth == 0 {
         return Err(ExprStop::TooDeep(text.len()));
     }
-    let (s, rest) = string(alloc, behind(b'[', text))?;
+    let (s, rest) = string(alloc, remainder(b'[', text))?;
     let rest = expect(b']', rest)?;
     Ok((s, rest))
 }
@@ -48,7 +48,7 @@ fn access(alloc: Global, depth: u32, text: &str) -> Result<(TextBuf, &str), Expr
     ensures { Gives (λ x. (x.0, x.1.now)) result (spec.access depth text.now) }
 {
     if begins_with_byte(b'.', text) {
-        name(alloc, NameKind::Field, behind(b'.', text))
+        name(alloc, NameKind::Field, remainder(b'.', text))
     } else {
         bracket_access(alloc, depth, text)
     }

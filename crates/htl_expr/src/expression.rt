@@ -58,10 +58,10 @@ fn whole(alloc: Global, text: &str) -> Result<Expr, ExprStop>
 }
 
 /// Whether a colon after a text may belong to a field's name: a letter after it is then read.
-fn takes_colon(alloc: Global, front: &str) -> Mem<bool>
-    ensures { IfOk result (λ takes. takes ≡ takes_colon nesting_limit front.now) }
+fn takes_colon(alloc: Global, leading: &str) -> Mem<bool>
+    ensures { IfOk result (λ takes. takes ≡ takes_colon nesting_limit leading.now) }
 {
-    let mut text = String::from_str(alloc, front)?;
+    let mut text = String::from_str(alloc, leading)?;
     text.push_str(":b")?;
     match whole(alloc, text.as_str()) {
         Ok(_) => Ok(true),
@@ -79,8 +79,8 @@ fn place_of(alloc: Global, text: &str, place: usize) -> Mem<usize>
     if !begins_with_byte(b':', &text.as_bytes()[place..]) {
         return Ok(place);
     }
-    let (front, _rest) = text.split_at(place);
-    if takes_colon(alloc, front)? {
+    let (leading, _rest) = text.split_at(place);
+    if takes_colon(alloc, leading)? {
         Ok(place + 1)
     } else {
         Ok(place)

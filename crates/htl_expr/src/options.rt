@@ -7,7 +7,7 @@ ghost use Rattle.htl_expr.specs.Tokens.{Gives};
 
 use crate::expression::Context;
 use crate::stop::ExprStop;
-use crate::tokens::{begins_with_byte, behind, expect, is_quote, literal, skip, string, tail};
+use crate::tokens::{begins_with_byte, remainder, expect, is_quote, literal, skip, string, tail};
 use sp_base::TextBuf;
 use std::alloc::Global;
 
@@ -102,9 +102,9 @@ pub fn read_options(alloc: Global, text: &str) -> Result<(Options, &str), ExprSt
     if !begins_with_byte(b'@', text) {
         return Ok((none, text));
     }
-    let (given, rest) = read_option(alloc, none, behind(b'@', text))?;
+    let (given, rest) = read_option(alloc, none, remainder(b'@', text))?;
     if begins_with_byte(b',', rest) {
-        read_option(alloc, given, behind(b',', rest))
+        read_option(alloc, given, remainder(b',', rest))
     } else {
         Ok((given, rest))
     }

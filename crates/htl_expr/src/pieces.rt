@@ -131,7 +131,7 @@ fn is_same_piece_at<'a>(
 }
 
 // How many of the first pieces are the same, place by place.
-fn same_in_front<'a>(
+fn same_in_prefix<'a>(
     alloc: Global,
     scope: &mut Evaluation<'a>,
     a: &[ItemPiece<'a>],
@@ -271,7 +271,7 @@ pub(crate) fn have_same_text<'a>(
     ensures same { IfOk result (λ same. same ≡ pointwise nat_eq (with_commas (piece_texts scope.old a.now)) (with_commas (piece_texts scope.old b.now))) }
     ensures scope { scope.new ≡ scope.old }
 {
-    let place = same_in_front(alloc, scope, a, b)?;
+    let place = same_in_prefix(alloc, scope, a, b)?;
     if place == a.len() && place == b.len() {
         return Ok(true);
     }

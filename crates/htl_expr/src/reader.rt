@@ -11,7 +11,7 @@ use crate::node::{Comparison, ExprNode};
 use crate::numbers::number;
 use crate::stop::ExprStop;
 use crate::tokens::{
-    NameKind, begins_with_byte, behind, digit_at, expect, name, quote_at, second, skip, string, tail,
+    NameKind, begins_with_byte, remainder, digit_at, expect, name, quote_at, second, skip, string, tail,
 };
 use sp_base::TextBuf;
 use sqlite_items::{Boxed, Items as NodeList};
@@ -70,13 +70,13 @@ fn or_equal(bare: Comparison, equal: Comparison, text: &str) -> (Comparison, &st
 {
     let rest = tail(text);
     if begins_with_byte(b'=', rest) {
-        (equal, behind(b'=', rest))
+        (equal, remainder(b'=', rest))
     } else {
         (bare, skip(rest))
     }
 }
 
-#[tactic(auto, using(crate::proofs::Scan::front_ascii), unfolding(crate::specs::Read::comparison, crate::specs::Read::compares))]
+#[tactic(auto, using(crate::proofs::Scan::prefix_ascii), unfolding(crate::specs::Read::comparison, crate::specs::Read::compares))]
 fn comparison(text: &str) -> Result<(Comparison, &str), ExprStop>
     requires { spec.compares text.now ≡ true }
     ensures { Gives (λ x. (x.0, x.1.now)) result (spec.comparison text.now) }
@@ -150,7 +150,7 @@ fn nesting(
 }
 
 #[cycle(reader)]
-#[tactic(auto, using(crate::proofs::Scan::front_ascii), unfolding(crate::specs::Read::start))]
+#[tactic(auto, using(crate::proofs::Scan::prefix_ascii), unfolding(crate::specs::Read::start))]
 fn start(alloc: Global, depth: u32, text: &str) -> Result<(ExprNode, &str), ExprStop>
     ensures { Gives (λ x. (x.0, x.1.now)) result (spec.start depth (spec.nesting depth) text.now) }
 {
@@ -178,7 +178,7 @@ fn atom(alloc: Global, depth: u32, text: &str) -> Result<(ExprNode, &str), ExprS
 }
 
 #[cycle(reader)]
-#[tactic(auto, using(crate::proofs::Scan::front_ascii), unfolding(crate::specs::Read::operand))]
+#[tactic(auto, using(crate::proofs::Scan::prefix_ascii), unfolding(crate::specs::Read::operand))]
 fn operand(alloc: Global, depth: u32, text: &str) -> Result<(ExprNode, &str), ExprStop>
     ensures { Gives (λ x. (x.0, x.1.now)) result (spec.operand depth (spec.nesting depth) text.now) }
 {
@@ -208,7 +208,7 @@ fn compare(alloc: Global, depth: u32, text: &str) -> Result<(ExprNode, &str), Ex
 
 /// The operands after the first one and their `&&`.
 #[cycle(reader)]
-#[tactic(auto, using(crate::proofs::Scan::front_ascii), unfolding(crate::specs::Read::chain))]
+#[tactic(auto, using(crate::proofs::Scan::prefix_ascii), unfolding(crate::specs::Read::chain))]
 fn more_compares(
     alloc: Global,
     depth: u32,
@@ -242,7 +242,7 @@ fn both(alloc: Global, depth: u32, text: &str) -> Result<(ExprNode, &str), ExprS
 
 /// The operands after the first one and their `||`.
 #[cycle(reader)]
-#[tactic(auto, using(crate::proofs::Scan::front_ascii), unfolding(crate::specs::Read::chain))]
+#[tactic(auto, using(crate::proofs::Scan::prefix_ascii), unfolding(crate::specs::Read::chain))]
 fn more_boths(alloc: Global, depth: u32, text: &str) -> Result<(NodeList<ExprNode>, &str), ExprStop>
     ensures { Gives (λ x. (x.0, x.1.now)) result (spec.chain (spec.both depth (spec.nesting depth)) 124 (length text.now) [] text.now) }
 {
@@ -271,7 +271,7 @@ fn either(alloc: Global, depth: u32, text: &str) -> Result<(ExprNode, &str), Exp
 }
 
 #[cycle(reader)]
-#[tactic(auto, using(crate::proofs::Scan::front_ascii), unfolding(crate::specs::Read::other_choice))]
+#[tactic(auto, using(crate::proofs::Scan::prefix_ascii), unfolding(crate::specs::Read::other_choice))]
 fn other_choice(alloc: Global, depth: u32, text: &str) -> Result<(ExprNode, &str), ExprStop>
     ensures { Gives (λ x. (x.0, x.1.now)) result (spec.other_choice depth (spec.nesting depth) text.now) }
 {
@@ -283,7 +283,7 @@ fn other_choice(alloc: Global, depth: u32, text: &str) -> Result<(ExprNode, &str
 }
 
 #[cycle(reader)]
-#[tactic(auto, using(crate::proofs::Scan::front_ascii), unfolding(crate::specs::Read::choice))]
+#[tactic(auto, using(crate::proofs::Scan::prefix_ascii), unfolding(crate::specs::Read::choice))]
 fn choice(alloc: Global, depth: u32, text: &str) -> Result<(ExprNode, &str), ExprStop>
     ensures { Gives (λ x. (x.0, x.1.now)) result (spec.choice depth (spec.nesting depth) text.now) }
 {

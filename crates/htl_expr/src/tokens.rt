@@ -130,7 +130,7 @@ pub fn begins_with_byte(c: u8, text: &str) -> bool
     sp_base::begins_with_byte(c, text.as_bytes())
 }
 
-#[tactic(auto, using(crate::proofs::Scan::blank_front, crate::proofs::Scan::blank_more, crate::proofs::Scan::blank_less, crate::proofs::Scan::blank_none))]
+#[tactic(auto, using(crate::proofs::Scan::blank_prefix, crate::proofs::Scan::blank_more, crate::proofs::Scan::blank_less, crate::proofs::Scan::blank_none))]
 pub fn skip(text: &str) -> &str
     ensures { result.now ≡ spec.blanks_skipped text.now }
 {
@@ -142,7 +142,7 @@ pub fn skip(text: &str) -> &str
 }
 
 /// What stands after a byte that is there.
-pub fn behind(c: u8, text: &str) -> &str
+pub fn remainder(c: u8, text: &str) -> &str
     requires ascii { c < 128 }
     requires there { begins_with_byte c text.now ≡ true }
     ensures { result.now ≡ spec.blanks_skipped (drop 1 text.now) }
@@ -156,7 +156,7 @@ pub fn expect(c: u8, text: &str) -> Result<&str, ExprStop>
     ensures { Gives (λ r. r.now) result (spec.expect c text.now) }
 {
     if begins_with_byte(c, text) {
-        Ok(behind(c, text))
+        Ok(remainder(c, text))
     } else {
         Err(ExprStop::Unexpected(text.len()))
     }
@@ -202,7 +202,7 @@ fn goes_on(kind: NameKind, text: &[u8]) -> bool
     }
 }
 
-#[tactic(auto, using(crate::proofs::Scan::name_front, crate::proofs::Scan::run_more, crate::proofs::Scan::run_none, crate::proofs::Scan::name_less))]
+#[tactic(auto, using(crate::proofs::Scan::name_prefix, crate::proofs::Scan::run_more, crate::proofs::Scan::run_none, crate::proofs::Scan::name_less))]
 fn name_len(kind: NameKind, text: &str) -> usize
     ensures value { result ≡ spec.name_len kind text.now }
     ensures boundary { IsCharBoundary text.now result }
@@ -224,8 +224,8 @@ pub fn name(alloc: Global, kind: NameKind, text: &str) -> Result<(TextBuf, &str)
     if !first_at(text) {
         return Err(ExprStop::Unexpected(text.len()));
     }
-    let (front, rest) = text.split_at(name_len(kind, text));
-    Ok((TextBuf::of(alloc, front)?, skip(rest)))
+    let (leading, rest) = text.split_at(name_len(kind, text));
+    Ok((TextBuf::of(alloc, leading)?, skip(rest)))
 }
 
 #[tactic(auto, unfolding(crate::specs::Tokens::unescape))]
@@ -288,7 +288,7 @@ fn string_from(alloc: Global, mark: u8, text: &str) -> Result<(TextBuf, &str), E
         let (plain, after) = rest.split_at(plain_len(mark, rest.as_bytes()));
         found.push_str(plain)?;
         if begins_with_byte(mark, after) {
-            return Ok((TextBuf::from(found), behind(mark, after)));
+            return Ok((TextBuf::from(found), remainder(mark, after)));
         }
         if !begins_with_byte(b'\\', after) {
             return Err(ExprStop::Unexpected(after.len()));

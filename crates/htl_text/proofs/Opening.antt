@@ -47,25 +47,25 @@ returns_all rest text none within inv =
     omega (arith, all, end, within, inv)
 
 -- the next "$" opens an expression
-pub returns_open : (n : ℕ) (rest front text : List ℕ) → NoneBefore (Passes (is_byte 36) rest) 0 (length rest) n → front ≡ drop n rest → opens_expression front ≡ true → length rest ≤ length text
-    → opening_len text ≡ (length text - length rest) + opening_len rest → length text - length front ≡ opening_len text
-returns_open n rest front text first ef e within inv =
+pub returns_open : (n : ℕ) (rest prefix text : List ℕ) → NoneBefore (Passes (is_byte 36) rest) 0 (length rest) n → prefix ≡ drop n rest → opens_expression prefix ≡ true → length rest ≤ length text
+    → opening_len text ≡ (length text - length rest) + opening_len rest → length text - length prefix ≡ opening_len text
+returns_open n rest prefix text first ef e within inv =
     let below = first.high in
     let plain = passed n rest (omega (arith, below)) first.before in
-    let left : length front ≡ length rest - n = rw ef (length-drop n rest) in
+    let left : length prefix ≡ length rest - n = rw ef (length-drop n rest) in
     let none : opening_len (drop n rest) ≡ 0 = opens_there (drop n rest) (rw ef at e) in
     omega (arith, below, plain, left, none, within, inv)
 
 -- the next "$" opens none
-pub goes_on : (n : ℕ) (rest front later text : List ℕ) → NoneBefore (Passes (is_byte 36) rest) 0 (length rest) n → front ≡ drop n rest → opens_expression front ≡ false → later ≡ drop 1 front → length rest ≤ length text
+pub goes_on : (n : ℕ) (rest prefix later text : List ℕ) → NoneBefore (Passes (is_byte 36) rest) 0 (length rest) n → prefix ≡ drop n rest → opens_expression prefix ≡ false → later ≡ drop 1 prefix → length rest ≤ length text
     → opening_len text ≡ (length text - length rest) + opening_len rest → (length later ≤ length text) × (opening_len text ≡ (length text - length later) + opening_len later)
-goes_on n rest front later text first ef e el within inv =
+goes_on n rest prefix later text first ef e el within inv =
     let below = first.high in
     let plain = passed n rest (omega (arith, below)) first.before in
-    let left : length front ≡ length rest - n = rw ef (length-drop n rest) in
-    let fewer : length later ≡ length front - 1 = rw el (length-drop 1 front) in
-    let shut : opening_len front ≡ suc (opening_len later) = rw el (passed_dollar front (omega (arith, left, below)) e) in
-    let same : opening_len (drop n rest) ≡ opening_len front = rw ef refl in
+    let left : length prefix ≡ length rest - n = rw ef (length-drop n rest) in
+    let fewer : length later ≡ length prefix - 1 = rw el (length-drop 1 prefix) in
+    let shut : opening_len prefix ≡ suc (opening_len later) = rw el (passed_dollar prefix (omega (arith, left, below)) e) in
+    let same : opening_len (drop n rest) ≡ opening_len prefix = rw ef refl in
     (omega (arith, left, fewer, within), omega (arith, below, plain, left, fewer, shut, same, within, inv))
 
 stays_shut : (m : ℕ) (t : List ℕ) → opening_len t ≡ suc m → opens_expression t ≡ false
@@ -126,15 +126,15 @@ opening_within (c ∷ t) = go (opens_expression (c ∷ t)) (opening_within t)
     go false ih = omega (arith, ih)
 
 -- the answer where a backslash stands before "${"
-pub ends_escape : (n : ℕ) (t front : List ℕ) → n ≡ opening_len t → 0 < n → front ≡ drop (n - 1) t → escapes front ≡ true → n - 1 ≡ plain_len t
-ends_escape zero t front en some ef e = absurd (omega (arith, some))
-ends_escape (suc m) t front en some ef e =
+pub ends_escape : (n : ℕ) (t prefix : List ℕ) → n ≡ opening_len t → 0 < n → prefix ≡ drop (n - 1) t → escapes prefix ≡ true → n - 1 ≡ plain_len t
+ends_escape zero t prefix en some ef e = absurd (omega (arith, some))
+ends_escape (suc m) t prefix en some ef e =
     let less : suc m - 1 ≡ m = omega arith in
     rw less (sym (plain_before m t (sym en) ∙ ap (λ (b : Bool). cond b m (suc m)) (sym (ap escapes (rw less at ef)) ∙ e)))
 
 -- the answer where none does
-pub ends_open : (n : ℕ) (t front : List ℕ) → n ≡ opening_len t → 0 < n → front ≡ drop (n - 1) t → escapes front ≡ false → n ≡ plain_len t
-ends_open zero t front en some ef e = absurd (omega (arith, some))
-ends_open (suc m) t front en some ef e =
+pub ends_open : (n : ℕ) (t prefix : List ℕ) → n ≡ opening_len t → 0 < n → prefix ≡ drop (n - 1) t → escapes prefix ≡ false → n ≡ plain_len t
+ends_open zero t prefix en some ef e = absurd (omega (arith, some))
+ends_open (suc m) t prefix en some ef e =
     let less : suc m - 1 ≡ m = omega arith in
     sym (plain_before m t (sym en) ∙ ap (λ (b : Bool). cond b m (suc m)) (sym (ap escapes (rw less at ef)) ∙ e))

@@ -42,9 +42,9 @@ drop_back (suc n) (c ∷ t) =
     rw more (drop_back n t)
 
 -- what stands after an expression ends the text
-record Behind (t behind : List ℕ) : Type 0 where
+record After (t remainder : List ℕ) : Type 0 where
   n : ℕ
-  same : behind ≡ drop n t
+  same : remainder ≡ drop n t
 
 abbrev found : Expr × List ℕ → Result (Expr × List ℕ) TextFault
 found x = Ok x
@@ -52,15 +52,15 @@ found x = Ok x
 ok_of : (x y : Expr × List ℕ) → found x ≡ found y → x ≡ y
 ok_of x y e = cc
 
-value_behind : (place c : ℕ) (t : List ℕ) (e : Expr) (behind : List ℕ) → value_at place (c ∷ t) ≡ Ok (e, behind) → Behind t behind
+value_after : (place c : ℕ) (t : List ℕ) (e : Expr) (remainder : List ℕ) → value_at place (c ∷ t) ≡ Ok (e, remainder) → After t remainder
 unfolding value_at
-value_behind place c t e behind h = go (closing Outside 0 (drop 1 t)) h
+value_after place c t e remainder h = go (closing Outside 0 (drop 1 t)) h
   where
-    in_text : (n : ℕ) (r : Result Expr ExprFault) → read_value place (drop 1 (drop n (drop 1 t))) r ≡ Ok (e, behind) → Behind t behind
+    in_text : (n : ℕ) (r : Result Expr ExprFault) → read_value place (drop 1 (drop n (drop 1 t))) r ≡ Ok (e, remainder) → After t remainder
     in_text n (Ok read) x = record { n = 1 + n + 1; same = sym (ap (λ (q : Expr × List ℕ). q.1) (ok_of _ _ x)) ∙ ap (drop 1) (drop-drop n 1 t) ∙ drop-drop 1 (1 + n) t }
     in_text n (Err f) x = absurd cc
 
-    go : (o : Option ℕ) → closed_value place (drop 1 t) o ≡ Ok (e, behind) → Behind t behind
+    go : (o : Option ℕ) → closed_value place (drop 1 t) o ≡ Ok (e, remainder) → After t remainder
     go None x = absurd cc
     go (Some n) x = in_text n (expression_of (take n (drop 1 t))) x
 
@@ -68,13 +68,13 @@ not_nothing : opens_expression [] ≡ true → ⊥
 unfolding opens_expression
 not_nothing h = absurd cc
 
-pub value_follows : (all : ℕ) (t : List ℕ) (e : Expr) (behind : List ℕ) → opens_expression t ≡ true → value_at (all - length t) t ≡ Ok (e, behind) → template_pieces all 0 t ≡ before (Value e ∷ []) (template_pieces all 0 behind)
+pub value_follows : (all : ℕ) (t : List ℕ) (e : Expr) (remainder : List ℕ) → opens_expression t ≡ true → value_at (all - length t) t ≡ Ok (e, remainder) → template_pieces all 0 t ≡ before (Value e ∷ []) (template_pieces all 0 remainder)
 unfolding template_pieces
-value_follows all [] e behind h x = absurd (not_nothing h)
-value_follows all (c ∷ t) e behind h x =
-    let b = value_behind (all - length (c ∷ t)) c t e behind x in
-    let rest : drop (length t - length behind) t ≡ behind = rw b.same (drop_back b.n t) in
-    rw (h, x) (ap (before (Value e ∷ [])) (skipped all (length t - length behind) t ∙ ap (template_pieces all 0) rest))
+value_follows all [] e remainder h x = absurd (not_nothing h)
+value_follows all (c ∷ t) e remainder h x =
+    let b = value_after (all - length (c ∷ t)) c t e remainder x in
+    let rest : drop (length t - length remainder) t ≡ remainder = rw b.same (drop_back b.n t) in
+    rw (h, x) (ap (before (Value e ∷ [])) (skipped all (length t - length remainder) t ∙ ap (template_pieces all 0) rest))
 
 pub value_fails : (all : ℕ) (t : List ℕ) (f : TextFault) → opens_expression t ≡ true → value_at (all - length t) t ≡ Err f → template_pieces all 0 t ≡ Err f
 unfolding template_pieces
@@ -85,30 +85,30 @@ pub opens_is : (t : List ℕ) → (eqb (length t) 0 || opens_expression t) ≡ t
 opens_is t h e = rw e at h
 
 -- nothing is left
-pub read_ends : (all : ℕ) (old new : List TemplatePiece) (front behind rest text : List ℕ) → eqb (length behind) 0 ≡ true → ((n : ℕ) → with_plain front (template_pieces n 0 behind) ≡ template_pieces n 0 rest)
-    → new ≡ old ++ plain_pieces front → before old (template_pieces all 0 rest) ≡ template_pieces all 0 text → template_pieces all 0 text ≡ Ok new
+pub read_ends : (all : ℕ) (old new : List TemplatePiece) (prefix remainder rest text : List ℕ) → eqb (length remainder) 0 ≡ true → ((n : ℕ) → with_plain prefix (template_pieces n 0 remainder) ≡ template_pieces n 0 rest)
+    → new ≡ old ++ plain_pieces prefix → before old (template_pieces all 0 rest) ≡ template_pieces all 0 text → template_pieces all 0 text ≡ Ok new
 unfolding template_pieces
-read_ends all old new front [] rest text e plain en inv = sym inv ∙ ap (before old) (sym (plain all)) ∙ ap Ok (sym en)
-read_ends all old new front (c ∷ t) rest text e plain en inv = absurd (grind (arith))
+read_ends all old new prefix [] rest text e plain en inv = sym inv ∙ ap (before old) (sym (plain all)) ∙ ap Ok (sym en)
+read_ends all old new prefix (c ∷ t) rest text e plain en inv = absurd (grind (arith))
 
 -- an expression is left, which has a fault
-pub read_fails : (all place : ℕ) (old : List TemplatePiece) (front behind rest text : List ℕ) (f : TextFault) → opens_expression behind ≡ true → place ≡ all - length behind → value_at place behind ≡ Err f
-    → ((n : ℕ) → with_plain front (template_pieces n 0 behind) ≡ template_pieces n 0 rest) → before old (template_pieces all 0 rest) ≡ template_pieces all 0 text → template_pieces all 0 text ≡ Err f
-read_fails all place old front behind rest text f h ep x plain inv =
-    let fails = value_fails all behind f h (rw ep at x) in
-    sym inv ∙ ap (before old) (sym (plain all)) ∙ ap (λ (r : Read). before old (with_plain front r)) fails
+pub read_fails : (all place : ℕ) (old : List TemplatePiece) (prefix remainder rest text : List ℕ) (f : TextFault) → opens_expression remainder ≡ true → place ≡ all - length remainder → value_at place remainder ≡ Err f
+    → ((n : ℕ) → with_plain prefix (template_pieces n 0 remainder) ≡ template_pieces n 0 rest) → before old (template_pieces all 0 rest) ≡ template_pieces all 0 text → template_pieces all 0 text ≡ Err f
+read_fails all place old prefix remainder rest text f h ep x plain inv =
+    let fails = value_fails all remainder f h (rw ep at x) in
+    sym inv ∙ ap (before old) (sym (plain all)) ∙ ap (λ (r : Read). before old (with_plain prefix r)) fails
 
 -- an expression is left, and a text after it
-pub read_more : (all place : ℕ) (old mid new : List TemplatePiece) (front behind after rest text : List ℕ) (e : Expr) → opens_expression behind ≡ true → place ≡ all - length behind → value_at place behind ≡ Ok (e, after)
-    → ((n : ℕ) → with_plain front (template_pieces n 0 behind) ≡ template_pieces n 0 rest) → mid ≡ old ++ plain_pieces front → new ≡ mid ++ Value e ∷ [] → before old (template_pieces all 0 rest) ≡ template_pieces all 0 text
+pub read_more : (all place : ℕ) (old mid new : List TemplatePiece) (prefix remainder after rest text : List ℕ) (e : Expr) → opens_expression remainder ≡ true → place ≡ all - length remainder → value_at place remainder ≡ Ok (e, after)
+    → ((n : ℕ) → with_plain prefix (template_pieces n 0 remainder) ≡ template_pieces n 0 rest) → mid ≡ old ++ plain_pieces prefix → new ≡ mid ++ Value e ∷ [] → before old (template_pieces all 0 rest) ≡ template_pieces all 0 text
     → before new (template_pieces all 0 after) ≡ template_pieces all 0 text
-read_more all place old mid new front behind after rest text e h ep x plain em en inv =
-    let follows = value_follows all behind e after h (rw ep at x) in
+read_more all place old mid new prefix remainder after rest text e h ep x plain em en inv =
+    let follows = value_follows all remainder e after h (rw ep at x) in
     let later = template_pieces all 0 after in
     rw (en, em) (
-    sym (before_twice (old ++ plain_pieces front) (Value e ∷ []) later)
-    ∙ sym (before_twice old (plain_pieces front) (before (Value e ∷ []) later))
-    ∙ ap (before old) (sym (plain_before front e later) ∙ ap (with_plain front) (sym follows) ∙ plain all)
+    sym (before_twice (old ++ plain_pieces prefix) (Value e ∷ []) later)
+    ∙ sym (before_twice old (plain_pieces prefix) (before (Value e ∷ []) later))
+    ∙ ap (before old) (sym (plain_before prefix e later) ∙ ap (with_plain prefix) (sym follows) ∙ plain all)
     ∙ inv)
 
 -- what the pieces so far and one more write is too long already

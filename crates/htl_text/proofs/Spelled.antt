@@ -110,21 +110,21 @@ fault_read found NoMemory place t x = absurd x
 pub first_is_read : Found → Only → (text : List ℕ) (f : TextFault) → IsFirstOpening f text → template_of text ≡ Err f
 first_is_read found only text f x =
     let opening = 36 ∷ 123 ∷ x.after_opening in
-    let size : length text ≡ length x.front + length opening = ap length x.parts ∙ length-append x.front opening in
-    let place : length text - length opening ≡ length x.front = omega (arith, size) in
+    let size : length text ≡ length x.prefix + length opening = ap length x.parts ∙ length-append x.prefix opening in
+    let place : length text - length opening ≡ length x.prefix = omega (arith, size) in
     (spelled_on only (length text) text x.ps opening x.spelling).1 f
-    (value_fails (length text) opening f (opens_there x.after_opening) (ap (λ (k : ℕ). value_at k opening) place ∙ fault_read found f (length x.front) x.after_opening x.faulty))
+    (value_fails (length text) opening f (opens_there x.after_opening) (ap (λ (k : ℕ). value_at k opening) place ∙ fault_read found f (length x.prefix) x.after_opening x.faulty))
 
 -- ---- what is read is spelled
 
 -- the first fault of a text that begins at a place
 record First (n : ℕ) (text : List ℕ) (fault : TextFault) : Type 0 where
-  front : List ℕ
+  prefix : List ℕ
   after_opening : List ℕ
   ps : List TemplatePiece
-  parts : text ≡ front ++ 36 ∷ 123 ∷ after_opening
+  parts : text ≡ prefix ++ 36 ∷ 123 ∷ after_opening
   spelling : SpellsTemplate text ps (36 ∷ 123 ∷ after_opening)
-  faulty : Faults fault (n + length front) after_opening
+  faulty : Faults fault (n + length prefix) after_opening
 
 -- what a reading says of the text
 abbrev Meaning : ℕ → List ℕ → Read → Type 0
@@ -135,13 +135,13 @@ Meaning n text (Err f) = First n text f
 later : (n : ℕ) (w text after : List ℕ) (f : TextFault) (g : List TemplatePiece → List TemplatePiece) → text ≡ w ++ after → ((ps : List TemplatePiece) (rest : List ℕ) → SpellsTemplate after ps rest → SpellsTemplate text (g ps) rest)
     → First (n + length w) after f → First n text f
 later n w text after f g e spell x =
-    let size = length-append w x.front in
-    let place : (n + length w) + length x.front ≡ n + length (w ++ x.front) = omega (arith, size) in
+    let size = length-append w x.prefix in
+    let place : (n + length w) + length x.prefix ≡ n + length (w ++ x.prefix) = omega (arith, size) in
     record {
-      front = w ++ x.front;
+      prefix = w ++ x.prefix;
       after_opening = x.after_opening;
       ps = g x.ps;
-      parts = e ∙ ap (λ (t : List ℕ). w ++ t) x.parts ∙ sym (append_assoc w x.front (36 ∷ 123 ∷ x.after_opening));
+      parts = e ∙ ap (λ (t : List ℕ). w ++ t) x.parts ∙ sym (append_assoc w x.prefix (36 ∷ 123 ∷ x.after_opening));
       spelling = spell x.ps (36 ∷ 123 ∷ x.after_opening) x.spelling;
       faulty = subst (λ (k : ℕ). Faults f k x.after_opening) place x.faulty;
     }
@@ -157,10 +157,10 @@ escaped_means n t (Err f) x = later n (92 ∷ 36 ∷ 123 ∷ []) (92 ∷ 36 ∷ 
 value_means : (n : ℕ) (w t : List ℕ) (e : Expr) → Inside w → Whole w e → (r : Read) → Meaning (n + (length w + 3)) t r → Meaning n (36 ∷ 123 ∷ (w ++ 125 ∷ t)) (before (Value e ∷ []) r)
 value_means n w t e i y (Ok ps) x = s.value i y x
 value_means n w t e i y (Err f) x =
-    let front = 36 ∷ 123 ∷ (w ++ 125 ∷ []) in
+    let prefix = 36 ∷ 123 ∷ (w ++ 125 ∷ []) in
     let size = length-append w (125 ∷ []) in
-    let place : n + (length w + 3) ≡ n + length front = omega (arith, size) in
-    later n front (36 ∷ 123 ∷ (w ++ 125 ∷ t)) t f (λ ps. Value e ∷ ps) (ap (λ (u : List ℕ). 36 ∷ 123 ∷ u) (sym (append_assoc w (125 ∷ []) t))) (λ ps rest z. s.value i y z)
+    let place : n + (length w + 3) ≡ n + length prefix = omega (arith, size) in
+    later n prefix (36 ∷ 123 ∷ (w ++ 125 ∷ t)) t f (λ ps. Value e ∷ ps) (ap (λ (u : List ℕ). 36 ∷ 123 ∷ u) (sym (append_assoc w (125 ∷ []) t))) (λ ps rest z. s.value i y z)
     (subst (λ (k : ℕ). First k t f) place x)
 
 -- a fault at the beginning
@@ -169,7 +169,7 @@ fault_here n all f t e h x =
     let opening = 36 ∷ 123 ∷ t in
     let place : all - length opening ≡ n = omega (arith, e) in
     let none : n ≡ n + 0 = omega arith in
-    let here : First n opening f = record { front = []; after_opening = t; ps = []; parts = refl; spelling = s.end; faulty = subst (λ (k : ℕ). Faults f k t) none x } in
+    let here : First n opening f = record { prefix = []; after_opening = t; ps = []; parts = refl; spelling = s.end; faulty = subst (λ (k : ℕ). Faults f k t) none x } in
     subst (Meaning n opening) (sym (value_fails all opening f (opens_there t) (ap (λ (k : ℕ). value_at k opening) place ∙ h))) here
 
 -- an expression that is closed at the beginning
@@ -209,8 +209,8 @@ escape_means n all size t e le ih =
     let place : (n + 3) + length t ≡ all = omega (arith, e) in
     subst (Meaning n (92 ∷ 36 ∷ 123 ∷ t)) (sym (escaped_read all t)) (escaped_means n t (template_pieces all 0 t) (ih (n + 3) t le place))
 
-front_means : Found → Only → (n all size c : ℕ) (t : List ℕ) → n + length (c ∷ t) ≡ all → length t ≤ size → Follows all size → Meaning n (c ∷ t) (template_pieces all 0 (c ∷ t))
-front_means found only n all size c t e le ih = go (opens_expression (c ∷ t)) (escapes (c ∷ t)) refl refl
+prefix_means : Found → Only → (n all size c : ℕ) (t : List ℕ) → n + length (c ∷ t) ≡ all → length t ≤ size → Follows all size → Meaning n (c ∷ t) (template_pieces all 0 (c ∷ t))
+prefix_means found only n all size c t e le ih = go (opens_expression (c ∷ t)) (escapes (c ∷ t)) refl refl
   where
     go : (a b : Bool) → opens_expression (c ∷ t) ≡ a → escapes (c ∷ t) ≡ b → Meaning n (c ∷ t) (template_pieces all 0 (c ∷ t))
     go true b ea eb =
@@ -232,7 +232,7 @@ front_means found only n all size c t e le ih = go (opens_expression (c ∷ t)) 
 means : Found → Only → (all size : ℕ) → Follows all size
 means found only all size n [] le e = subst (Meaning n []) (sym (pieces_end all)) s.end
 means found only all zero n (c ∷ t) le e = absurd (omega (arith, le))
-means found only all (suc size) n (c ∷ t) le e = front_means found only n all size c t e (omega (arith, le)) (means found only all size)
+means found only all (suc size) n (c ∷ t) le e = prefix_means found only n all size c t e (omega (arith, le)) (means found only all size)
 
 whole_means : Found → Only → (text : List ℕ) (r : Read) → template_of text ≡ r → Meaning 0 text r
 whole_means found only text r e = subst (Meaning 0 text) e (means found only (length text) (length text) 0 text (omega arith) (omega arith))
@@ -243,5 +243,5 @@ read_is_spelled found only text ps e = whole_means found only text (Ok ps) e
 pub fault_is_first : Found → Only → (text : List ℕ) (f : TextFault) → template_of text ≡ Err f → IsFirstOpening f text
 fault_is_first found only text f e =
     let x = whole_means found only text (Err f) e in
-    let same : 0 + length x.front ≡ length x.front = omega arith in
-    record { front = x.front; after_opening = x.after_opening; ps = x.ps; parts = x.parts; spelling = x.spelling; faulty = subst (λ (k : ℕ). Faults f k x.after_opening) same x.faulty }
+    let same : 0 + length x.prefix ≡ length x.prefix = omega arith in
+    record { prefix = x.prefix; after_opening = x.after_opening; ps = x.ps; parts = x.parts; spelling = x.spelling; faulty = subst (λ (k : ℕ). Faults f k x.after_opening) same x.faulty }

@@ -15,15 +15,15 @@ written_nil : (r : Result (List TemplatePiece) TextFault) → with_plain [] r �
 written_nil (Ok ps) = refl
 written_nil (Err f) = refl
 
-in_front_twice : (a b : List ℕ) (ps : List TemplatePiece) → pieces_after_plain a (pieces_after_plain b ps) ≡ pieces_after_plain (a ++ b) ps
-in_front_twice [] b ps = refl
-in_front_twice (c ∷ a) [] ps = ap (λ (l : List ℕ). pieces_after_plain (c ∷ l) ps) (sym (append-nil a))
-in_front_twice (c ∷ a) (d ∷ b) [] = refl
-in_front_twice (c ∷ a) (d ∷ b) (Plain more ∷ ps) = ap (λ (l : List ℕ). Plain (c ∷ l) ∷ ps) (sym (append_assoc a (d ∷ b) more))
-in_front_twice (c ∷ a) (d ∷ b) (Value e ∷ ps) = refl
+in_prefix_twice : (a b : List ℕ) (ps : List TemplatePiece) → pieces_after_plain a (pieces_after_plain b ps) ≡ pieces_after_plain (a ++ b) ps
+in_prefix_twice [] b ps = refl
+in_prefix_twice (c ∷ a) [] ps = ap (λ (l : List ℕ). pieces_after_plain (c ∷ l) ps) (sym (append-nil a))
+in_prefix_twice (c ∷ a) (d ∷ b) [] = refl
+in_prefix_twice (c ∷ a) (d ∷ b) (Plain more ∷ ps) = ap (λ (l : List ℕ). Plain (c ∷ l) ∷ ps) (sym (append_assoc a (d ∷ b) more))
+in_prefix_twice (c ∷ a) (d ∷ b) (Value e ∷ ps) = refl
 
 pub written_twice : (a b : List ℕ) (r : Result (List TemplatePiece) TextFault) → with_plain a (with_plain b r) ≡ with_plain (a ++ b) r
-written_twice a b (Ok ps) = ap Ok (in_front_twice a b ps)
+written_twice a b (Ok ps) = ap Ok (in_prefix_twice a b ps)
 written_twice a b (Err f) = refl
 
 -- bytes that belong to the piece before are passed over
@@ -66,10 +66,10 @@ closing_at quotes n (c ∷ t) m h = go (closes_expression quotes c) refl h (clos
     go true e h' ih = let same : n ≡ m = cc in let none : m - n ≡ 0 = omega (arith, same) in (omega (arith, same), omega (arith, none), rw none (found quotes e))
     go false e h' ih = let x = ih h' in let more : m - n ≡ suc (m - (n + 1)) = omega (arith, x.0) in (omega (arith, x.0), omega (arith, more, x.1), rw more x.2)
 
-at_front : (c : ℕ) (t : List ℕ) → c < 128 → begins_with_byte c t ≡ true → slice_index t 0 < 128
+at_prefix : (c : ℕ) (t : List ℕ) → c < 128 → begins_with_byte c t ≡ true → slice_index t 0 < 128
 unfolding begins_with_byte
-at_front c [] lt h = absurd cc
-at_front c (d ∷ t) lt h = grind (arith, nat_tests)
+at_prefix c [] lt h = absurd cc
+at_prefix c (d ∷ t) lt h = grind (arith, nat_tests)
 
 at_less : (c : ℕ) (t : List ℕ) → begins_with_byte c t ≡ true → length (drop 1 t) < length t
 unfolding begins_with_byte
@@ -95,7 +95,7 @@ pub opens_first : (t : List ℕ) → opens_expression t ≡ true → slice_index
 opens_first t h = (opening t h).first
 
 pub opens_second : (t : List ℕ) → opens_expression t ≡ true → slice_index (drop 1 t) 0 < 128
-opens_second t h = at_front 123 (drop 1 t) (omega arith) (opening t h).second
+opens_second t h = at_prefix 123 (drop 1 t) (omega arith) (opening t h).second
 
 first_less : (t : List ℕ) → length (drop 1 t) ≤ length t
 first_less [] = omega arith
@@ -131,8 +131,8 @@ index_drop zero t = refl
 index_drop (suc m) [] = refl
 index_drop (suc m) (c ∷ t) = index_drop m t
 
-pub closing_front : (t : List ℕ) (m : ℕ) → closing Outside 0 t ≡ Some m → slice_index (drop m t) 0 < 128
-closing_front t m h = let y = closing_byte t m h in rw (index_drop m t) (omega (arith, y))
+pub closing_prefix : (t : List ℕ) (m : ℕ) → closing Outside 0 t ≡ Some m → slice_index (drop m t) 0 < 128
+closing_prefix t m h = let y = closing_byte t m h in rw (index_drop m t) (omega (arith, y))
 
 -- "\${" at the beginning
 pub record Escape (t : List ℕ) : Type 0 where
@@ -209,27 +209,27 @@ plain_boundary t = (plain_within t, λ lt big. let small = subst (λ (x : ℕ). 
     there n l lt = rw (length-drop n l) (omega (arith, lt))
 
 -- what is left is nothing, or an expression opens
-pub stops_is : (n : ℕ) (rest behind : List ℕ) → n ≡ plain_len rest → behind ≡ drop n rest → escapes behind ≡ false → (eqb (length behind) 0 || opens_expression behind) ≡ true
-stops_is n rest behind en eb none = go (eqb (length behind) 0) (opens_expression behind) refl refl (rw (eb, en) (plain_stops rest))
+pub stops_is : (n : ℕ) (rest remainder : List ℕ) → n ≡ plain_len rest → remainder ≡ drop n rest → escapes remainder ≡ false → (eqb (length remainder) 0 || opens_expression remainder) ≡ true
+stops_is n rest remainder en eb none = go (eqb (length remainder) 0) (opens_expression remainder) refl refl (rw (eb, en) (plain_stops rest))
   where
-    go : (a b : Bool) → eqb (length behind) 0 ≡ a → opens_expression behind ≡ b → (eqb (length behind) 0 || (opens_expression behind || escapes behind)) ≡ true → (a || b) ≡ true
+    go : (a b : Bool) → eqb (length remainder) 0 ≡ a → opens_expression remainder ≡ b → (eqb (length remainder) 0 || (opens_expression remainder || escapes remainder)) ≡ true → (a || b) ≡ true
     go true b ea eo h = refl
     go false true ea eo h = refl
     go false false ea eo h = rw (ea, eo, none) at h
 
-pub less_is : (n : ℕ) (rest behind : List ℕ) → behind ≡ drop n rest → length behind ≤ length rest
-less_is n rest behind e = rw e (drop_less n rest)
+pub less_is : (n : ℕ) (rest remainder : List ℕ) → remainder ≡ drop n rest → length remainder ≤ length rest
+less_is n rest remainder e = rw e (drop_less n rest)
 
 -- a text with more at its end is written before what is left
-pub plain_is : (n : ℕ) (old new front behind rest text : List ℕ) → n ≡ plain_len rest → front ≡ take n rest → behind ≡ drop n rest → new ≡ old ++ front
-    → ((all : ℕ) → with_plain old (template_pieces all 0 rest) ≡ template_pieces all 0 text) → (all : ℕ) → with_plain new (template_pieces all 0 behind) ≡ template_pieces all 0 text
-plain_is n old new front behind rest text en ef eb ew inv all =
+pub plain_is : (n : ℕ) (old new prefix remainder rest text : List ℕ) → n ≡ plain_len rest → prefix ≡ take n rest → remainder ≡ drop n rest → new ≡ old ++ prefix
+    → ((all : ℕ) → with_plain old (template_pieces all 0 rest) ≡ template_pieces all 0 text) → (all : ℕ) → with_plain new (template_pieces all 0 remainder) ≡ template_pieces all 0 text
+plain_is n old new prefix remainder rest text en ef eb ew inv all =
     rw (ew, ef, eb, en) (sym (written_twice old (take (plain_len rest) rest) (template_pieces all 0 (drop (plain_len rest) rest))) ∙ ap (with_plain old) (sym (plain_step all rest)) ∙ inv all)
 
-pub escape_is : (old new behind text : List ℕ) → escapes behind ≡ true → new ≡ old ++ codes "${" → ((all : ℕ) → with_plain old (template_pieces all 0 behind) ≡ template_pieces all 0 text)
-    → (all : ℕ) → with_plain new (template_pieces all 0 (drop 1 (drop 1 (drop 1 behind)))) ≡ template_pieces all 0 text
-escape_is old new behind text h ew inv all =
-    rw ew (sym (written_twice old (codes "${") (template_pieces all 0 (drop 1 (drop 1 (drop 1 behind))))) ∙ ap (with_plain old) (sym (escape_step all behind h)) ∙ inv all)
+pub escape_is : (old new remainder text : List ℕ) → escapes remainder ≡ true → new ≡ old ++ codes "${" → ((all : ℕ) → with_plain old (template_pieces all 0 remainder) ≡ template_pieces all 0 text)
+    → (all : ℕ) → with_plain new (template_pieces all 0 (drop 1 (drop 1 (drop 1 remainder)))) ≡ template_pieces all 0 text
+escape_is old new remainder text h ew inv all =
+    rw ew (sym (written_twice old (codes "${") (template_pieces all 0 (drop 1 (drop 1 (drop 1 remainder))))) ∙ ap (with_plain old) (sym (escape_step all remainder h)) ∙ inv all)
 
 pub escape_less : (t : List ℕ) → escapes t ≡ true → length (drop 1 (drop 1 (drop 1 t))) < length t
 escape_less t h = let a = (escape t h).less in let b = first_less (drop 1 t) in let c = first_less (drop 1 (drop 1 t)) in omega (arith, a, b, c)

@@ -48,9 +48,9 @@ Faults NoMemory place after_opening = ⊥
 
 -- the first fault of a text: that of an expression which opens after pieces
 pub record IsFirstOpening (fault : TextFault) (text : List ℕ) : Type 0 where
-  pub front : List ℕ
+  pub prefix : List ℕ
   pub after_opening : List ℕ
   pub ps : List TemplatePiece
-  pub parts : text ≡ front ++ 36 ∷ 123 ∷ after_opening
+  pub parts : text ≡ prefix ++ 36 ∷ 123 ∷ after_opening
   pub spelling : SpellsTemplate text ps (36 ∷ 123 ∷ after_opening)
-  pub faulty : Faults fault (length front) after_opening
+  pub faulty : Faults fault (length prefix) after_opening

@@ -45,8 +45,8 @@ closing quotes n (c ∷ t) = if closes_expression quotes c then Some n else clos
 
 -- what stands between the braces as an expression, and the text after it
 abbrev pub read_value : ℕ → List ℕ → Result Expr ExprFault → Result (Expr × List ℕ) TextFault
-read_value place behind (Ok e) = Ok (e, behind)
-read_value place behind (Err fault) = Err (BadExpr place)
+read_value place remainder (Ok e) = Ok (e, remainder)
+read_value place remainder (Err fault) = Err (BadExpr place)
 
 -- the same, by the place of the byte that closes it
 abbrev pub closed_value : ℕ → List ℕ → Option ℕ → Result (Expr × List ℕ) TextFault
@@ -71,8 +71,8 @@ with_plain t (Err fault) = Err fault
 
 -- pieces before others
 abbrev pub before : List TemplatePiece → Result (List TemplatePiece) TextFault → Result (List TemplatePiece) TextFault
-before front (Ok ps) = Ok (front ++ ps)
-before front (Err fault) = Err fault
+before prefix (Ok ps) = Ok (prefix ++ ps)
+before prefix (Err fault) = Err fault
 
 -- an expression before the pieces of the rest
 abbrev pub with_expression : Result (Expr × List ℕ) TextFault → (List ℕ → Result (List TemplatePiece) TextFault) → Result (List TemplatePiece) TextFault
@@ -84,7 +84,7 @@ unfoldable pub template_pieces : ℕ → ℕ → List ℕ → Result (List Templ
 template_pieces all skip [] = Ok []
 template_pieces all (suc skip) (c ∷ t) = template_pieces all skip t
 template_pieces all zero (c ∷ t) =
-    if opens_expression (c ∷ t) then with_expression (value_at (all - length (c ∷ t)) (c ∷ t)) (λ behind. template_pieces all (length t - length behind) t)
+    if opens_expression (c ∷ t) then with_expression (value_at (all - length (c ∷ t)) (c ∷ t)) (λ remainder. template_pieces all (length t - length remainder) t)
     else (if escapes (c ∷ t) then with_plain (codes "${") (template_pieces all 2 t)
     else with_plain (c ∷ []) (template_pieces all 0 t))
 

@@ -53,11 +53,11 @@ fn opening_len(text: &[u8]) -> usize
 {
     let mut rest = text;
     while let Some(len) = memchr(b'$', rest) {
-        let front = from(len, rest);
-        if opens(front) {
-            return text.len() - front.len();
+        let prefix = from(len, rest);
+        if opens(prefix) {
+            return text.len() - prefix.len();
         }
-        rest = from(1, front);
+        rest = from(1, prefix);
     }
     text.len()
 }
@@ -83,12 +83,12 @@ pub fn plain(alloc: Global, text: &str) -> Mem<(TextBuf, &str)>
     let mut plain = String::new(alloc);
     let mut rest = text;
     loop {
-        let (front, behind) = rest.split_at(plain_len(rest.as_bytes()));
-        plain.push_str(front)?;
-        if !escapes(behind.as_bytes()) {
-            return Ok((TextBuf::from(plain), behind));
+        let (prefix, remainder) = rest.split_at(plain_len(rest.as_bytes()));
+        plain.push_str(prefix)?;
+        if !escapes(remainder.as_bytes()) {
+            return Ok((TextBuf::from(plain), remainder));
         }
         plain.push_str("${")?;
-        rest = tail(tail(tail(behind)));
+        rest = tail(tail(tail(remainder)));
     }
 }

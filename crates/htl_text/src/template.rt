@@ -44,9 +44,9 @@ fn value(alloc: Global, place: usize, text: &str) -> Result<(Expr, &str), TextFa
     match closing(inside.as_bytes()) {
         None => Err(TextFault::Unclosed(place)),
         Some(len) => {
-            let (front, behind) = inside.split_at(len);
-            match Expr::read(alloc, front) {
-                Ok(e) => Ok((e, tail(behind))),
+            let (prefix, remainder) = inside.split_at(len);
+            match Expr::read(alloc, prefix) {
+                Ok(e) => Ok((e, tail(remainder))),
                 Err(ExprFault::NoMemory) => Err(TextFault::NoMemory),
                 Err(ExprFault::Unexpected(_)) => Err(TextFault::BadExpr(place)),
                 Err(ExprFault::TooDeep(_)) => Err(TextFault::BadExpr(place)),
@@ -73,13 +73,13 @@ impl Template {
         let mut pieces = Items::new(alloc);
         let mut rest = text;
         loop {
-            let (front, behind) = plain(alloc, rest)?;
-            push_plain(&mut pieces, front)?;
-            if behind.is_empty() {
+            let (prefix, remainder) = plain(alloc, rest)?;
+            push_plain(&mut pieces, prefix)?;
+            if remainder.is_empty() {
                 return Ok(Template { pieces });
             }
-            let place = text.len().saturating_sub(behind.len());
-            let (expression, after) = value(alloc, place, behind)?;
+            let place = text.len().saturating_sub(remainder.len());
+            let (expression, after) = value(alloc, place, remainder)?;
             pieces.push(TemplatePiece::Value(expression))?;
             rest = after;
         }

@@ -30,8 +30,8 @@ before_none p xs e =
     sym (take_all n xs (ltb-false n (length xs) (no_first _ n e)))
 
 -- a text that ends in a slash is what stands before it, and the slash
-ends_behind : (text : List ℕ) → ends_in_slash text ≡ true → text ≡ take (length text - 1) text ++ 47 ∷ []
-ends_behind text e =
+ends_after : (text : List ℕ) → ends_in_slash text ≡ true → text ≡ take (length text - 1) text ++ 47 ∷ []
+ends_after text e =
     let n = length text - 1 in
     let long : 1 < length text = grind (arith, nat_tests) in
     let last : get_or text n 0 ≡ 47 = grind (arith, nat_tests) in
@@ -41,7 +41,7 @@ ends_behind text e =
 
 -- a text that isn't one with a slash after it doesn't end in one
 pub ends_otherwise : (text : List ℕ) → ((front : List ℕ) → text ≢ front ++ 47 ∷ []) → ends_in_slash text ≡ false
-ends_otherwise text other = not_true (ends_in_slash text) (λ e. other (take (length text - 1) text) (ends_behind text e))
+ends_otherwise text other = not_true (ends_in_slash text) (λ e. other (take (length text - 1) text) (ends_after text e))
 
 -- the slash alone is the root, whose slash stays
 pub slash_alone : (text front : List ℕ) → text ≡ front ++ 47 ∷ [] → length front ≡ 0 → ends_in_slash text ≡ false

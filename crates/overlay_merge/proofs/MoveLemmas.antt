@@ -67,24 +67,24 @@ has_at xs y ys =
     ∙ elim (list_any (pointwise nat_eq y) xs) as (λ b. (b || true) ≡ true) [ true ↦ refl | false ↦ refl ]
 
 -- a name that is there once is moved directly before another
-pub moved_at : (name other : List ℕ) (names front back above below : List (List ℕ)) → pointwise nat_eq name other ≡ false
-    → names ≡ front ++ name ∷ back → list_any (pointwise nat_eq name) front ≡ false → list_any (pointwise nat_eq name) back ≡ false
+pub moved_at : (name other : List ℕ) (names beginning back above below : List (List ℕ)) → pointwise nat_eq name other ≡ false
+    → names ≡ beginning ++ name ∷ back → list_any (pointwise nat_eq name) beginning ≡ false → list_any (pointwise nat_eq name) back ≡ false
     → names ≡ above ++ other ∷ below → list_any (pointwise nat_eq other) above ≡ false
     → names_after_move name (Some other) names ≡ but name above ++ name ∷ (other ∷ but name below)
 unfolding names_after_move
-moved_at name other names front back above below differ name_at front_lacks back_lacks other_at above_lacks =
-    let at : position (pointwise nat_eq name) names ≡ Some (length front) = ap (position (pointwise nat_eq name)) name_at ∙ position_at (pointwise nat_eq name) front name back front_lacks (self name) in
+moved_at name other names beginning back above below differ name_at prefix_lacks back_lacks other_at above_lacks =
+    let at : position (pointwise nat_eq name) names ≡ Some (length beginning) = ap (position (pointwise nat_eq name)) name_at ∙ position_at (pointwise nat_eq name) beginning name back prefix_lacks (self name) in
     let has : has_text names other ≡ true = ap (λ l. has_text l other) other_at ∙ has_at above other below in
     let left_names : but name names ≡ but name above ++ (other ∷ but name below) =
     ap (but name) other_at ∙ filter-append (λ q. not (pointwise nat_eq name q)) above (other ∷ below)
     ∙ ap (λ b. but name above ++ cond (not b) (other ∷ but name below) (but name below)) differ in
-    let left : remove names (length front) ≡ but name above ++ (other ∷ but name below) =
-    ap (λ l. remove l (length front)) name_at ∙ removed front name back ∙ sym (ap (but name) name_at ∙ but_one name front back front_lacks back_lacks) ∙ left_names in
+    let left : remove names (length beginning) ≡ but name above ++ (other ∷ but name below) =
+    ap (λ l. remove l (length beginning)) name_at ∙ removed beginning name back ∙ sym (ap (but name) name_at ∙ but_one name beginning back prefix_lacks back_lacks) ∙ left_names in
     let where_other : position (pointwise nat_eq other) (but name above ++ (other ∷ but name below)) ≡ Some (length (but name above)) =
     position_at (pointwise nat_eq other) (but name above) other (but name below) (none_but (pointwise nat_eq other) name above above_lacks) (self other) in
     ap (λ b. cond b names (names_after_move_from name other names (position (pointwise nat_eq name) names))) differ
     ∙ ap (names_after_move_from name other names) at
-    ∙ ap (λ b. cond b (insert (remove names (length front)) (unwrap_or (position (pointwise nat_eq other) (remove names (length front))) (length (remove names (length front)))) name) names) has
+    ∙ ap (λ b. cond b (insert (remove names (length beginning)) (unwrap_or (position (pointwise nat_eq other) (remove names (length beginning))) (length (remove names (length beginning)))) name) names) has
     ∙ ap (λ l. insert l (unwrap_or (position (pointwise nat_eq other) l) (length l)) name) left
     ∙ ap (λ o. insert (but name above ++ (other ∷ but name below)) (unwrap_or o (length (but name above ++ (other ∷ but name below)))) name) where_other
     ∙ inserted (but name above) (other ∷ but name below) name

@@ -14,13 +14,13 @@ use Rattle.overlay_merge.proofs.MoveLemmas.{but, but_none, moved_at}
 
 -- ---- what holds of each of some slots
 
-all_parts : (P : ℕ → Type 0) (front back : List ℕ) → AllByRecursion P (front ++ back) → AllByRecursion P front × AllByRecursion P back
+all_parts : (P : ℕ → Type 0) (beginning back : List ℕ) → AllByRecursion P (beginning ++ back) → AllByRecursion P beginning × AllByRecursion P back
 all_parts P [] back h = (tt, h)
-all_parts P (s ∷ front) back h = let r = all_parts P front back h.1 in ((h.0, r.0), r.1)
+all_parts P (s ∷ beginning) back h = let r = all_parts P beginning back h.1 in ((h.0, r.0), r.1)
 
-all_insert : (P : ℕ → Type 0) (front : List ℕ) (x : ℕ) (back : List ℕ) → AllByRecursion P (front ++ back) → P x → AllByRecursion P (front ++ x ∷ back)
+all_insert : (P : ℕ → Type 0) (beginning : List ℕ) (x : ℕ) (back : List ℕ) → AllByRecursion P (beginning ++ back) → P x → AllByRecursion P (beginning ++ x ∷ back)
 all_insert P [] x back h p = (p, h)
-all_insert P (s ∷ front) x back h p = (h.0, all_insert P front x back h.1 p)
+all_insert P (s ∷ beginning) x back h p = (h.0, all_insert P beginning x back h.1 p)
 
 all_from : (P Q : ℕ → Type 0) → ((s : ℕ) → P s → Q s) → (slots : List ℕ) → AllByRecursion P slots → AllByRecursion Q slots
 all_from P Q f [] h = tt
@@ -41,35 +41,35 @@ all_at P t (s ∷ slots) h is =
 -- ---- where a slot is
 
 record Around (t : ℕ) (slots : List ℕ) : Type 0 where
-  front : List ℕ
+  beginning : List ℕ
   back : List ℕ
-  is : slots ≡ front ++ t ∷ back
+  is : slots ≡ beginning ++ t ∷ back
 
 around : (t : ℕ) (slots : List ℕ) → IsIn t slots → Around t slots
 around t [] h = elim h [ ]
 around t (s ∷ slots) h =
     elim h [
-      | inl e ↦ record { front = []; back = slots; is = ap (λ u. u ∷ slots) e }
-      | inr more ↦ let r = around t slots more in record { front = s ∷ r.front; back = r.back; is = ap (λ l. s ∷ l) r.is }
+      | inl e ↦ record { beginning = []; back = slots; is = ap (λ u. u ∷ slots) e }
+      | inr more ↦ let r = around t slots more in record { beginning = s ∷ r.beginning; back = r.back; is = ap (λ l. s ∷ l) r.is }
     ]
 
-in_insert : (t : ℕ) (front : List ℕ) (x : ℕ) (back : List ℕ) → IsIn t (front ++ back) → IsIn t (front ++ x ∷ back)
+in_insert : (t : ℕ) (beginning : List ℕ) (x : ℕ) (back : List ℕ) → IsIn t (beginning ++ back) → IsIn t (beginning ++ x ∷ back)
 in_insert t [] x back h = inr h
-in_insert t (s ∷ front) x back h = elim h [ inl e ↦ inl e | inr more ↦ inr (in_insert t front x back more) ]
+in_insert t (s ∷ beginning) x back h = elim h [ inl e ↦ inl e | inr more ↦ inr (in_insert t beginning x back more) ]
 
-in_new : (front : List ℕ) (x : ℕ) (back : List ℕ) → IsIn x (front ++ x ∷ back)
+in_new : (beginning : List ℕ) (x : ℕ) (back : List ℕ) → IsIn x (beginning ++ x ∷ back)
 in_new [] x back = inl refl
-in_new (s ∷ front) x back = inr (in_new front x back)
+in_new (s ∷ beginning) x back = inr (in_new beginning x back)
 
-apart_insert : (front : List ℕ) (x : ℕ) (back : List ℕ) → AllByRecursion (λ s. s ≢ x) (front ++ back) → AreApart (front ++ back) → AreApart (front ++ x ∷ back)
+apart_insert : (beginning : List ℕ) (x : ℕ) (back : List ℕ) → AllByRecursion (λ s. s ≢ x) (beginning ++ back) → AreApart (beginning ++ back) → AreApart (beginning ++ x ∷ back)
 apart_insert [] x back fresh h = (fresh, h)
-apart_insert (s ∷ front) x back fresh h = (all_insert (λ t. t ≢ s) front x back h.0 (λ e. fresh.0 (sym e)), apart_insert front x back fresh.1 h.1)
+apart_insert (s ∷ beginning) x back fresh h = (all_insert (λ t. t ≢ s) beginning x back h.0 (λ e. fresh.0 (sym e)), apart_insert beginning x back fresh.1 h.1)
 
-apart_around : (front : List ℕ) (t : ℕ) (back : List ℕ) → AreApart (front ++ t ∷ back) → AllByRecursion (λ s. s ≢ t) front × AllByRecursion (λ s. s ≢ t) back
+apart_around : (beginning : List ℕ) (t : ℕ) (back : List ℕ) → AreApart (beginning ++ t ∷ back) → AllByRecursion (λ s. s ≢ t) beginning × AllByRecursion (λ s. s ≢ t) back
 apart_around [] t back h = (tt, h.0)
-apart_around (s ∷ front) t back h =
-    let r = apart_around front t back h.1 in
-    (((λ e. (all_parts (λ u. u ≢ s) front (t ∷ back) h.0).1.0 (sym e)), r.0), r.1)
+apart_around (s ∷ beginning) t back h =
+    let r = apart_around beginning t back h.1 in
+    (((λ e. (all_parts (λ u. u ≢ s) beginning (t ∷ back) h.0).1.0 (sym e)), r.0), r.1)
 
 -- ---- the walk from slot to slot
 
@@ -101,16 +101,16 @@ module _ (before after : ℕ → ℕ) (n t : ℕ) (to_new : after t ≡ suc n) (
   links_new [] all h = tt
   links_new (s ∷ slots) all h = (from_new ∙ h.0, links_keep s slots all.0 all.1 h.1)
 
-  links_after : (at : ℕ) (front back : List ℕ) → IsOther n t at → AllByRecursion (IsOther n t) front → AllByRecursion (IsOther n t) back → Links before at (front ++ t ∷ back) → Links after at (front ++ t ∷ (suc n ∷ back))
+  links_after : (at : ℕ) (beginning back : List ℕ) → IsOther n t at → AllByRecursion (IsOther n t) beginning → AllByRecursion (IsOther n t) back → Links before at (beginning ++ t ∷ back) → Links after at (beginning ++ t ∷ (suc n ∷ back))
   links_after at [] back ok allf allb h = (others at ok.0 ok.1 ∙ h.0, (to_new, links_new back allb h.1))
-  links_after at (s ∷ front) back ok allf allb h = (others at ok.0 ok.1 ∙ h.0, links_after s front back allf.0 allf.1 allb h.1)
+  links_after at (s ∷ beginning) back ok allf allb h = (others at ok.0 ok.1 ∙ h.0, links_after s beginning back allf.0 allf.1 allb h.1)
 
 -- ---- the names in slots
 
-names-append : (held : ℕ → List ℕ) (slot : List ℕ → Option ℕ) (front back : List ℕ) → names_in held slot (front ++ back) ≡ names_in held slot back ++ names_in held slot front
+names-append : (held : ℕ → List ℕ) (slot : List ℕ → Option ℕ) (beginning back : List ℕ) → names_in held slot (beginning ++ back) ≡ names_in held slot back ++ names_in held slot beginning
 names-append held slot [] back = sym (append-nil (names_in held slot back))
-names-append held slot (s ∷ front) back =
-    ap (λ l. l ++ slot_name held slot s) (names-append held slot front back) ∙ append_assoc (names_in held slot back) (names_in held slot front) (slot_name held slot s)
+names-append held slot (s ∷ beginning) back =
+    ap (λ l. l ++ slot_name held slot s) (names-append held slot beginning back) ∙ append_assoc (names_in held slot back) (names_in held slot beginning) (slot_name held slot s)
 
 self_slot : (s : ℕ) → is_slot (Some s) s ≡ true
 self_slot s = eq-eqb s s refl
@@ -130,12 +130,12 @@ pub another_slot : (slot : List ℕ → Option ℕ) (name : List ℕ) (t s : ℕ
 another_slot slot name t s stands differ = ap (λ o. is_slot o s) stands ∙ ne_eqb t s differ
 
 -- the names round a slot in which one stands
-names_around : (held : ℕ → List ℕ) (slot : List ℕ → Option ℕ) (front : List ℕ) (s : ℕ) (back : List ℕ) (name : List ℕ) → held s ≡ name → slot name ≡ Some s
-    → names_in held slot (front ++ s ∷ back) ≡ names_in held slot back ++ name ∷ names_in held slot front
-names_around held slot front s back name holds stands =
-    names-append held slot front (s ∷ back)
-    ∙ ap (λ l. (names_in held slot back ++ l) ++ names_in held slot front) (name_here held slot s name holds stands)
-    ∙ append_assoc (names_in held slot back) (name ∷ []) (names_in held slot front)
+names_around : (held : ℕ → List ℕ) (slot : List ℕ → Option ℕ) (beginning : List ℕ) (s : ℕ) (back : List ℕ) (name : List ℕ) → held s ≡ name → slot name ≡ Some s
+    → names_in held slot (beginning ++ s ∷ back) ≡ names_in held slot back ++ name ∷ names_in held slot beginning
+names_around held slot beginning s back name holds stands =
+    names-append held slot beginning (s ∷ back)
+    ∙ ap (λ l. (names_in held slot back ++ l) ++ names_in held slot beginning) (name_here held slot s name holds stands)
+    ∙ append_assoc (names_in held slot back) (name ∷ []) (names_in held slot beginning)
 
 one_lacks : (held : ℕ → List ℕ) (slot : List ℕ → Option ℕ) (q : List ℕ) (s : ℕ) → is_slot (slot q) s ≡ false → list_any (pointwise nat_eq q) (slot_name held slot s) ≡ false
 one_lacks held slot q s elsewhere =
@@ -204,25 +204,25 @@ module _ (before : ℕ → ℕ) (held : ℕ → List ℕ) (slot : List ℕ → O
   some_is : (a b : ℕ) → Some a ≡ Some b → a ≡ b
   some_is a b e = cc
 
-  slots_put : (front back : List ℕ) → AreSlots before held slot n → walk before n 0 ≡ front ++ back → walk after (suc n) 0 ≡ front ++ suc n ∷ back → AreSlots after holds stands (suc n)
-  slots_put front back good was is =
+  slots_put : (beginning back : List ℕ) → AreSlots before held slot n → walk before n 0 ≡ beginning ++ back → walk after (suc n) 0 ≡ beginning ++ suc n ∷ back → AreSlots after holds stands (suc n)
+  slots_put beginning back good was is =
       let Within = λ (s : ℕ). (0 < s) × (s < suc n) in
       let Wider = λ (s : ℕ). (0 < s) × (s < suc (suc n)) in
-      let within : AllByRecursion Within (front ++ back) = subst (AllByRecursion Within) was good.within in
-      let fresh : AllByRecursion (λ s. s ≢ suc n) (front ++ back) = all_from Within (λ s. s ≢ suc n) (λ s h e. absurd (omega (arith, e, h.1))) (front ++ back) within in
-      let wider : AllByRecursion Wider (front ++ back) = all_from Within Wider (λ s h. (h.0, omega (arith, h.1))) (front ++ back) within in
+      let within : AllByRecursion Within (beginning ++ back) = subst (AllByRecursion Within) was good.within in
+      let fresh : AllByRecursion (λ s. s ≢ suc n) (beginning ++ back) = all_from Within (λ s. s ≢ suc n) (λ s h e. absurd (omega (arith, e, h.1))) (beginning ++ back) within in
+      let wider : AllByRecursion Wider (beginning ++ back) = all_from Within Wider (λ s h. (h.0, omega (arith, h.1))) (beginning ++ back) within in
       record {
-        within = subst (AllByRecursion Wider) (sym is) (all_insert Wider front (suc n) back wider (omega arith, omega arith));
-        apart = subst AreApart (sym is) (apart_insert front (suc n) back fresh (subst AreApart was good.apart));
+        within = subst (AllByRecursion Wider) (sym is) (all_insert Wider beginning (suc n) back wider (omega arith, omega arith));
+        apart = subst AreApart (sym is) (apart_insert beginning (suc n) back fresh (subst AreApart was good.apart));
         there = λ q s found.
             ⊎_elim
             (λ (same : pointwise nat_eq name q ≡ true).
             let here : suc n ≡ s = some_is (suc n) s (sym (put.stands_new q same) ∙ found) in
-            ((ap holds (sym here) ∙ put.holds_new ∙ same_text name q (sym same)), subst (λ l. IsIn s l) (sym is) (subst (λ u. IsIn u (front ++ suc n ∷ back)) here (in_new front (suc n) back))))
+            ((ap holds (sym here) ∙ put.holds_new ∙ same_text name q (sym same)), subst (λ l. IsIn s l) (sym is) (subst (λ u. IsIn u (beginning ++ suc n ∷ back)) here (in_new beginning (suc n) back))))
             (λ (differ : pointwise nat_eq name q ≡ false).
             let old = good.there q s (sym (put.stands_others q differ) ∙ found) in
             let at = all_at Within s (walk before n 0) good.within old.1 in
-            ((put.holds_others s at.0 at.1 ∙ old.0), subst (λ l. IsIn s l) (sym is) (in_insert s front (suc n) back (subst (λ l. IsIn s l) was old.1))))
+            ((put.holds_others s at.0 at.1 ∙ old.0), subst (λ l. IsIn s l) (sym is) (in_insert s beginning (suc n) back (subst (λ l. IsIn s l) was old.1))))
             (cases_Bool (pointwise nat_eq name q));
       }
 
@@ -263,38 +263,38 @@ module _ (before : ℕ → ℕ) (held : ℕ → List ℕ) (slot : List ℕ → O
       let m = good.there name u there_name in
       let at = around t slots o.1 in
       let was = around u slots m.1 in
-      let apart_o = apart_around at.front t at.back (subst AreApart at.is good.apart) in
-      let apart_m = apart_around was.front u was.back (subst AreApart was.is good.apart) in
-      let within = all_parts Within at.front (t ∷ at.back) (subst (AllByRecursion Within) at.is good.within) in
+      let apart_o = apart_around at.beginning t at.back (subst AreApart at.is good.apart) in
+      let apart_m = apart_around was.beginning u was.back (subst AreApart was.is good.apart) in
+      let within = all_parts Within at.beginning (t ∷ at.back) (subst (AllByRecursion Within) at.is good.within) in
       let low : 0 ≢ t = λ e. absurd (omega (arith, e, within.1.0.0)) in
-      let links : Links after 0 (at.front ++ t ∷ (suc n ∷ at.back)) =
-      links_after before after n t put.to_new put.from_new put.others 0 at.front at.back (omega arith, low) (others_in n t at.front within.0 apart_o.0) (others_in n t at.back within.1.1 apart_o.1)
+      let links : Links after 0 (at.beginning ++ t ∷ (suc n ∷ at.back)) =
+      links_after before after n t put.to_new put.from_new put.others 0 at.beginning at.back (omega arith, low) (others_in n t at.beginning within.0 apart_o.0) (others_in n t at.back within.1.1 apart_o.1)
       (subst (Links before 0) at.is (links_walk before n 0)) in
-      let len : length (at.front ++ t ∷ (suc n ∷ at.back)) ≡ suc n =
+      let len : length (at.beginning ++ t ∷ (suc n ∷ at.back)) ≡ suc n =
       let l : length slots ≡ n = length-walk before n 0 in
-      let l2 : length slots ≡ length at.front + length (t ∷ at.back) = ap length at.is ∙ length-append at.front (t ∷ at.back) in
-      let l3 = length-append at.front (t ∷ (suc n ∷ at.back)) in
+      let l2 : length slots ≡ length at.beginning + length (t ∷ at.back) = ap length at.is ∙ length-append at.beginning (t ∷ at.back) in
+      let l3 = length-append at.beginning (t ∷ (suc n ∷ at.back)) in
       omega (arith, l, l2, l3) in
-      let is : walk after (suc n) 0 ≡ at.front ++ t ∷ (suc n ∷ at.back) = walk_is (at.front ++ t ∷ (suc n ∷ at.back)) len links in
+      let is : walk after (suc n) 0 ≡ at.beginning ++ t ∷ (suc n ∷ at.back) = walk_is (at.beginning ++ t ∷ (suc n ∷ at.back)) len links in
       let above = names_in held slot at.back in
-      let below = names_in held slot at.front in
+      let below = names_in held slot at.beginning in
       let other_stands : slot_name holds stands t ≡ other ∷ [] =
       one_less before held slot after holds stands n t name put t within.1.0.0 within.1.0.1 ∙ ap (but name) (name_here held slot t other o.0 there_other) ∙ ap (λ b. cond (not b) (other ∷ []) []) differ in
       record {
-        good = slots_put before held slot after holds stands n t name put (at.front ++ t ∷ []) at.back good (at.is ∙ sym (append_assoc at.front (t ∷ []) at.back)) (is ∙ sym (append_assoc at.front (t ∷ []) (suc n ∷ at.back)));
+        good = slots_put before held slot after holds stands n t name put (at.beginning ++ t ∷ []) at.back good (at.is ∙ sym (append_assoc at.beginning (t ∷ []) at.back)) (is ∙ sym (append_assoc at.beginning (t ∷ []) (suc n ∷ at.back)));
         names_are =
-            ap (names_in holds stands) is ∙ names-append holds stands at.front (t ∷ (suc n ∷ at.back))
-            ∙ ap (λ l. ((l ++ slot_name holds stands (suc n)) ++ slot_name holds stands t) ++ names_in holds stands at.front) (names_less before held slot after holds stands n t name put at.back within.1.1)
-            ∙ ap (λ l. ((but name above ++ l) ++ slot_name holds stands t) ++ names_in holds stands at.front) (new_here before held slot after holds stands n t name put)
-            ∙ ap (λ l. ((but name above ++ name ∷ []) ++ l) ++ names_in holds stands at.front) other_stands
-            ∙ ap (λ l. ((but name above ++ name ∷ []) ++ other ∷ []) ++ l) (names_less before held slot after holds stands n t name put at.front within.0)
+            ap (names_in holds stands) is ∙ names-append holds stands at.beginning (t ∷ (suc n ∷ at.back))
+            ∙ ap (λ l. ((l ++ slot_name holds stands (suc n)) ++ slot_name holds stands t) ++ names_in holds stands at.beginning) (names_less before held slot after holds stands n t name put at.back within.1.1)
+            ∙ ap (λ l. ((but name above ++ l) ++ slot_name holds stands t) ++ names_in holds stands at.beginning) (new_here before held slot after holds stands n t name put)
+            ∙ ap (λ l. ((but name above ++ name ∷ []) ++ l) ++ names_in holds stands at.beginning) other_stands
+            ∙ ap (λ l. ((but name above ++ name ∷ []) ++ other ∷ []) ++ l) (names_less before held slot after holds stands n t name put at.beginning within.0)
             ∙ append_assoc (but name above ++ name ∷ []) (other ∷ []) (but name below)
             ∙ append_assoc (but name above) (name ∷ []) (other ∷ but name below)
-            ∙ sym (moved_at name other (names_in held slot slots) (names_in held slot was.back) (names_in held slot was.front) above below differ
-            (ap (names_in held slot) was.is ∙ names_around held slot was.front u was.back name m.0 there_name)
+            ∙ sym (moved_at name other (names_in held slot slots) (names_in held slot was.back) (names_in held slot was.beginning) above below differ
+            (ap (names_in held slot) was.is ∙ names_around held slot was.beginning u was.back name m.0 there_name)
             (names_lack_elsewhere held slot name u was.back there_name apart_m.1)
-            (names_lack_elsewhere held slot name u was.front there_name apart_m.0)
-            (ap (names_in held slot) at.is ∙ names_around held slot at.front t at.back other o.0 there_other)
+            (names_lack_elsewhere held slot name u was.beginning there_name apart_m.0)
+            (ap (names_in held slot) at.is ∙ names_around held slot at.beginning t at.back other o.0 there_other)
             (names_lack_elsewhere held slot other t at.back there_other apart_o.1));
       }
 

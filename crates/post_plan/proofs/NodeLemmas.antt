@@ -8,10 +8,10 @@ use Rattle.sp_base.specs.Paths.{text_of}
 use Rattle.post_plan.specs.declared.spot.Spot.{Spot}
 use Rattle.post_plan.specs.Spots.{under, lead, first_two, is_reserved, led_to, full_path, if_changeable}
 
-pub get_front : {A : Type 0} (xs ys : List A) (n : ℕ) → n < length xs → slice_get (xs ++ ys) n ≡ slice_get xs n
-get_front [] ys n lt = absurd (omega (arith, lt))
-get_front (x ∷ xs) ys zero lt = refl
-get_front (x ∷ xs) ys (suc n) lt = get_front xs ys n (omega (arith, lt))
+pub get_prefix : {A : Type 0} (xs ys : List A) (n : ℕ) → n < length xs → slice_get (xs ++ ys) n ≡ slice_get xs n
+get_prefix [] ys n lt = absurd (omega (arith, lt))
+get_prefix (x ∷ xs) ys zero lt = refl
+get_prefix (x ∷ xs) ys (suc n) lt = get_prefix xs ys n (omega (arith, lt))
 
 pub get_back : {A : Type 0} (xs ys : List A) (n : ℕ) → length xs ≤ n → slice_get (xs ++ ys) n ≡ slice_get ys (n - length xs)
 get_back [] ys n le = let e : n ≡ n - 0 = omega arith in ap (slice_get ys) e
@@ -20,8 +20,8 @@ get_back (x ∷ xs) ys (suc n) le = let e : n - length xs ≡ suc n - length (x 
 
 -- a segment of the parent
 pub seg_of_parent : (parent rest : List (List ℕ)) (name : Option (List ℕ)) (n : ℕ) → n < length parent → slice_get parent n ≡ slice_get (under parent name ++ rest) n
-seg_of_parent parent rest None n lt = sym (get_front parent rest n lt)
-seg_of_parent parent rest (Some name) n lt = sym (ap (λ (l : List (List ℕ)). slice_get l n) (append_assoc parent (name ∷ []) rest) ∙ get_front parent (name ∷ rest) n lt)
+seg_of_parent parent rest None n lt = sym (get_prefix parent rest n lt)
+seg_of_parent parent rest (Some name) n lt = sym (ap (λ (l : List (List ℕ)). slice_get l n) (append_assoc parent (name ∷ []) rest) ∙ get_prefix parent (name ∷ rest) n lt)
 
 pub seg_of_rest : (parent rest : List (List ℕ)) (n : ℕ) → length parent ≤ n → slice_get rest (n - length parent) ≡ slice_get (parent ++ rest) n
 seg_of_rest parent rest n le = sym (get_back parent rest n le)
@@ -63,8 +63,8 @@ led_under parent down name up some =
     let len : length (parent ++ name ∷ []) ≡ length parent + 1 = omega (arith, length-append parent (name ∷ [])) in
     let test : nat_le (up - 1) (length parent) ≡ nat_le up (length parent + 1) = grind (arith, nat_tests) in
     let index : length parent + 1 - up ≡ length parent - (up - 1) = omega arith in
-    let front : take (length parent - (up - 1)) (parent ++ name ∷ []) ≡ take (length parent - (up - 1)) parent = take-append-le (length parent - (up - 1)) parent (name ∷ []) (omega arith) in
-    rw (len, index, front, test) refl
+    let prefix : take (length parent - (up - 1)) (parent ++ name ∷ []) ≡ take (length parent - (up - 1)) parent = take-append-le (length parent - (up - 1)) parent (name ∷ []) (omega arith) in
+    rw (len, index, prefix, test) refl
 
 pub reserved_alone : (node rest : List (List ℕ)) (b : Bool) → b ≡ is_reserved (node ++ rest) → rest ≡ [] → b ≡ is_reserved node
 reserved_alone node rest b e none = e ∙ ap (λ (l : List (List ℕ)). is_reserved (node ++ l)) none ∙ ap is_reserved (append-nil node)

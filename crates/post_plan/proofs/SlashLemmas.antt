@@ -11,16 +11,16 @@ and_false : (a b : Bool) → b ≡ false → a && b ≡ false
 and_false true b e = e
 and_false false b e = refl
 
-pub slash_lacking : (word : List ℕ) → ((front : List ℕ) → word ≢ front ++ 47 ∷ []) → word ≡ word_without_slash word
+pub slash_lacking : (word : List ℕ) → ((prefix : List ℕ) → word ≢ prefix ++ 47 ∷ []) → word ≡ word_without_slash word
 slash_lacking word none =
     let lacks : ends_with nat_eq word (codes "/") ≡ false = sym (ends_text false (47 ∷ []) word none) in
     ap (λ (b : Bool). cond b (take (length word - 1) word) word) (sym (and_false (nat_lt 1 (length word)) (ends_with nat_eq word (codes "/")) lacks))
 
-seam : (front back : List ℕ) → drop (length front) (front ++ back) ≡ back
+seam : (prefix back : List ℕ) → drop (length prefix) (prefix ++ back) ≡ back
 seam [] back = refl
-seam (c ∷ front) back = seam front back
+seam (c ∷ prefix) back = seam prefix back
 
-ends : (word front : List ℕ) → word ≡ front ++ 47 ∷ [] → ends_with nat_eq word (codes "/") ≡ true
-ends word front e =
-    let len : length word - 1 ≡ length front = omega (arith, ap length e, length-append front (47 ∷ [])) in
-    ap (λ (l : List ℕ). pointwise nat_eq (codes "/") l) (ap (λ (n : ℕ). drop n word) len ∙ ap (drop (length front)) e ∙ seam front (47 ∷ []))
+ends : (word prefix : List ℕ) → word ≡ prefix ++ 47 ∷ [] → ends_with nat_eq word (codes "/") ≡ true
+ends word prefix e =
+    let len : length word - 1 ≡ length prefix = omega (arith, ap length e, length-append prefix (47 ∷ [])) in
+    ap (λ (l : List ℕ). pointwise nat_eq (codes "/") l) (ap (λ (n : ℕ). drop n word) len ∙ ap (drop (length prefix)) e ∙ seam prefix (47 ∷ []))

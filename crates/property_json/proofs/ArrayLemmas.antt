@@ -29,11 +29,11 @@ pub wrote_more : {A : Type 0} (f : A → Json) (old mid new : Written) (n : ℕ)
     → new.tokens ≡ mid.tokens ++ json_tokens (f x) → new.before ≡ mid.before → Wrote f old new (n + 1) xs
 wrote_more {A = A} f old mid new n xs x w lt is e b =
     let g = λ (y : A). json_tokens (f y) in
-    let front = flat_map g (take n xs) in
+    let prefix = flat_map g (take n xs) in
     record {
-      tokens = e ∙ ap (λ ts. ts ++ g x) w.tokens ∙ append_assoc old.tokens (Token.begin_array ∷ front) (g x)
+      tokens = e ∙ ap (λ ts. ts ++ g x) w.tokens ∙ append_assoc old.tokens (Token.begin_array ∷ prefix) (g x)
           ∙ ap (λ ts. old.tokens ++ (Token.begin_array ∷ ts))
-          (ap (λ ts. front ++ ts) (sym (append-nil (g x))) ∙ sym (flat_map-append g (take n xs) (x ∷ []))
+          (ap (λ ts. prefix ++ ts) (sym (append-nil (g x))) ∙ sym (flat_map-append g (take n xs) (x ∷ []))
           ∙ ap (flat_map g) (ap (λ y. take n xs ++ y ∷ []) is ∙ sym (take_more xs n x lt)));
       before = b ∙ w.before;
     }
@@ -67,15 +67,15 @@ pub property_more : (old mid key new : Written) (ps : List (List ℕ × Value)) 
     → Adds key new (json_tokens (json_of_value value)) → Adds old new (property_tokens (take (i + 1) ps))
 property_more old mid key new ps i name value a at k b v =
     let js = json_tokens (json_of_value value) in
-    let front = property_tokens (take i ps) in
+    let prefix = property_tokens (take i ps) in
     let within = slice_get_within ps i (name, value) (sym at) in
     let item = get_or_from_slice_get ps i (name, value) (name, value) (sym at) in
-    let more : property_tokens (take (i + 1) ps) ≡ front ++ (Token.key name ∷ js) =
+    let more : property_tokens (take (i + 1) ps) ≡ prefix ++ (Token.key name ∷ js) =
     ap property_tokens (take_more ps i (name, value) within ∙ ap (λ p. take i ps ++ p ∷ []) item)
-    ∙ property_tokens-append (take i ps) ((name, value) ∷ []) ∙ ap (λ ts. front ++ ts) (append-nil (Token.key name ∷ js)) in
+    ∙ property_tokens-append (take i ps) ((name, value) ∷ []) ∙ ap (λ ts. prefix ++ ts) (append-nil (Token.key name ∷ js)) in
     record {
       tokens = v.tokens ∙ ap (λ ts. ts ++ js) (k ∙ ap (λ ts. ts ++ Token.key name ∷ []) a.tokens)
-          ∙ append_assoc (old.tokens ++ front) (Token.key name ∷ []) js ∙ append_assoc old.tokens front (Token.key name ∷ js)
+          ∙ append_assoc (old.tokens ++ prefix) (Token.key name ∷ []) js ∙ append_assoc old.tokens prefix (Token.key name ∷ js)
           ∙ ap (λ ts. old.tokens ++ ts) (sym more);
       before = v.before ∙ b ∙ a.before;
     }

@@ -8,10 +8,10 @@ use Rattle.replay_text.proofs.LineLaws.{newlines-append, one_first_line}
 use Rattle.replay_text.proofs.EventLaws.{newlines-line_of, event_is_not_end, one_event}
 
 -- after an act come acts
-pub behind_act : (act : EventLine) → IsEventLine act → (r : List ℕ) → Acts (line_of act ++ 10 ∷ r) → Acts r
-behind_act act ok r ([], oks, e) =
+pub after_act : (act : EventLine) → IsEventLine act → (r : List ℕ) → Acts (line_of act ++ 10 ∷ r) → Acts r
+after_act act ok r ([], oks, e) =
     absurd (event_is_not_end act (one_first_line (line_of act) (codes "end") r [] (newlines-line_of act ok) refl e).0)
-behind_act act ok r (a ∷ acts, oks, e) =
+after_act act ok r (a ∷ acts, oks, e) =
     let same = one_first_line (line_of act) (line_of a) r (text_of_lines (act_lines acts)) (newlines-line_of act ok) (newlines-line_of a oks.0) e in
     (acts, oks.1, same.1)
 
@@ -21,9 +21,9 @@ before_acts act ok r (acts, oks, e) = (act ∷ acts, (ok, oks), ap (λ t. line_o
 pub no_acts : Acts (text_of_lines (act_lines []))
 no_acts = ([], tt, refl)
 
-pub behind_end : (r : List ℕ) → Acts (codes "end" ++ 10 ∷ r) → r ≡ []
-behind_end r ([], oks, e) = cc
-behind_end r (a ∷ acts, oks, e) =
+pub after_end : (r : List ℕ) → Acts (codes "end" ++ 10 ∷ r) → r ≡ []
+after_end r ([], oks, e) = cc
+after_end r (a ∷ acts, oks, e) =
     absurd (event_is_not_end a (sym (one_first_line (codes "end") (line_of a) r (text_of_lines (act_lines acts)) refl (newlines-line_of a oks.0) e).0))
 
 pub before_end : (r : List ℕ) → r ≡ [] → Acts (codes "end" ++ 10 ∷ r)

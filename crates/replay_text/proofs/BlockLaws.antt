@@ -13,15 +13,15 @@ use Rattle.replay_text.proofs.ReadingActs.{after_line}
 
 -- ---- a language whose texts begin with a block
 
-behind_line_of : (Rest : List ℕ → Type 0) (line r : List ℕ) (block : List (List ℕ)) (rest : List ℕ) → newlines line ≡ 0 → line ≢ codes "."
+after_line_of : (Rest : List ℕ → Type 0) (line r : List ℕ) (block : List (List ℕ)) (rest : List ℕ) → newlines line ≡ 0 → line ≢ codes "."
     → AreLines block → HaveNoDot block → Rest rest → line ++ 10 ∷ r ≡ text_of_lines block ++ 46 ∷ 10 ∷ rest → BlockThen Rest r
-behind_line_of Rest line r [] rest one other lines dots goes e = absurd (other (one_first_line line (codes ".") r rest one refl e).0)
-behind_line_of Rest line r (l ∷ block) rest one other lines dots goes e =
+after_line_of Rest line r [] rest one other lines dots goes e = absurd (other (one_first_line line (codes ".") r rest one refl e).0)
+after_line_of Rest line r (l ∷ block) rest one other lines dots goes e =
     let tail = one_first_line line l r (text_of_lines block ++ 46 ∷ 10 ∷ rest) one lines.0 (e ∙ append_assoc l (10 ∷ text_of_lines block) (46 ∷ 10 ∷ rest)) in
     record { block = block; are = lines.1; no_dot = dots.1; rest = rest; goes_on = goes; text_is = tail.1 }
 
-behind_line : (Rest : List ℕ → Type 0) (line : List ℕ) → newlines line ≡ 0 → line ≢ codes "." → (r : List ℕ) → BlockThen Rest (line ++ 10 ∷ r) → BlockThen Rest r
-behind_line Rest line one other r b = behind_line_of Rest line r b.block b.rest one other b.are b.no_dot b.goes_on b.text_is
+rest_line : (Rest : List ℕ → Type 0) (line : List ℕ) → newlines line ≡ 0 → line ≢ codes "." → (r : List ℕ) → BlockThen Rest (line ++ 10 ∷ r) → BlockThen Rest r
+rest_line Rest line one other r b = after_line_of Rest line r b.block b.rest one other b.are b.no_dot b.goes_on b.text_is
 
 before_line : (Rest : List ℕ → Type 0) (line : List ℕ) → newlines line ≡ 0 → line ≢ codes "." → (r : List ℕ) → BlockThen Rest r → BlockThen Rest (line ++ 10 ∷ r)
 before_line Rest line one other r b = record {
@@ -33,14 +33,14 @@ before_line Rest line one other r b = record {
   text_is = ap (λ t. line ++ 10 ∷ t) b.text_is ∙ sym (append_assoc line (10 ∷ text_of_lines b.block) (46 ∷ 10 ∷ b.rest));
 }
 
-behind_dot_of : (Rest : List ℕ → Type 0) (r : List ℕ) (block : List (List ℕ)) (rest : List ℕ)
+after_dot_of : (Rest : List ℕ → Type 0) (r : List ℕ) (block : List (List ℕ)) (rest : List ℕ)
     → AreLines block → HaveNoDot block → Rest rest → codes "." ++ 10 ∷ r ≡ text_of_lines block ++ 46 ∷ 10 ∷ rest → Rest r
-behind_dot_of Rest r [] rest lines dots goes e = subst Rest (sym (one_first_line (codes ".") (codes ".") r rest refl refl e).1) goes
-behind_dot_of Rest r (l ∷ block) rest lines dots goes e =
+after_dot_of Rest r [] rest lines dots goes e = subst Rest (sym (one_first_line (codes ".") (codes ".") r rest refl refl e).1) goes
+after_dot_of Rest r (l ∷ block) rest lines dots goes e =
     absurd (dots.0 (sym (one_first_line (codes ".") l r (text_of_lines block ++ 46 ∷ 10 ∷ rest) refl lines.0 (e ∙ append_assoc l (10 ∷ text_of_lines block) (46 ∷ 10 ∷ rest))).0))
 
-behind_dot : (Rest : List ℕ → Type 0) (r : List ℕ) → BlockThen Rest (codes "." ++ 10 ∷ r) → Rest r
-behind_dot Rest r b = behind_dot_of Rest r b.block b.rest b.are b.no_dot b.goes_on b.text_is
+after_dot : (Rest : List ℕ → Type 0) (r : List ℕ) → BlockThen Rest (codes "." ++ 10 ∷ r) → Rest r
+after_dot Rest r b = after_dot_of Rest r b.block b.rest b.are b.no_dot b.goes_on b.text_is
 
 pub before_dot : (Rest : List ℕ → Type 0) (r : List ℕ) → Rest r → BlockThen Rest (codes "." ++ 10 ∷ r)
 before_dot Rest r goes = record { block = []; are = tt; no_dot = tt; rest = r; goes_on = goes; text_is = refl }
@@ -59,7 +59,7 @@ module _ (Rest : List ℕ → Type 0) (some : List ℕ) (is : Rest some) where
   refused_after_lines [] rest n lines dots r = let same : n ≡ 0 + n = omega arith in subst (λ k. IsRefusedAt (BlockThen Rest) rest k) same r
   refused_after_lines (l ∷ block) rest n lines dots r =
       let inner = refused_after_lines block rest n lines.1 dots.1 r in
-      let outer = after_line (BlockThen Rest) (BlockThen Rest) l (text_of_lines block ++ rest) (length block + n) lines.0 (behind_line Rest l lines.0 dots.0)
+      let outer = after_line (BlockThen Rest) (BlockThen Rest) l (text_of_lines block ++ rest) (length block + n) lines.0 (rest_line Rest l lines.0 dots.0)
       (before_line Rest l lines.0 dots.0) (codes "." ++ 10 ∷ some) (before_dot Rest some is) inner in
       let count : 1 + (length block + n) ≡ length (l ∷ block) + n = omega arith in
       subst (λ t. IsRefusedAt (BlockThen Rest) t (length (l ∷ block) + n)) (sym (append_assoc l (10 ∷ text_of_lines block) rest))
@@ -70,7 +70,7 @@ module _ (Rest : List ℕ → Type 0) (some : List ℕ) (is : Rest some) where
       → IsRefusedAt (BlockThen Rest) text (n + (count + 1))
   refused_after_block text at count n b r =
       let rest = drop (at + 2) text in
-      let dot = after_line (BlockThen Rest) Rest (codes ".") rest n refl (behind_dot Rest) (before_dot Rest) some is r in
+      let dot = after_line (BlockThen Rest) Rest (codes ".") rest n refl (after_dot Rest) (before_dot Rest) some is r in
       let whole = refused_after_lines b.block (46 ∷ 10 ∷ rest) (1 + n) b.is_block.are b.is_block.no_dot dot in
       let lines : length b.block + (1 + n) ≡ n + (count + 1) = omega (arith, b.count_is) in
       subst (λ t. IsRefusedAt (BlockThen Rest) t (n + (count + 1))) (sym b.text_is)

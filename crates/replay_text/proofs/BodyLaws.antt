@@ -59,8 +59,8 @@ pub some_body : IsContentBody (text_of_lines (codes "." ∷ act_lines []))
 some_body = before_dot IsTail (text_of_lines (act_lines [])) some_tail
 
 -- the head
-pub behind_first : (r : List ℕ) → IsScenario (codes "scenario 1" ++ 10 ∷ r) → IsContent r
-behind_first r (s, p) =
+pub rest_first : (r : List ℕ) → IsScenario (codes "scenario 1" ++ 10 ∷ r) → IsContent r
+rest_first r (s, p) =
     let body = text_of_lines (p.block ++ codes "." ∷ (p.farm_lines ++ act_lines p.acts)) in
     let rest = (one_first_line (codes "scenario 1") (codes "scenario 1") r (codes "content" ++ 10 ∷ body) refl refl p.text_is).1 in
     let spells : SpellsBody body s = record { block = p.block; content = p.content; farm_lines = p.farm_lines; farm = p.farm; acts = p.acts; acts_are = p.acts_are; text_is = refl } in
@@ -82,8 +82,8 @@ before_first r (body, b, e) =
     let p = body_spelled body b in
     (p.0, scenario_of_body (codes "scenario 1" ++ 10 ∷ r) body p.0 p.1 (ap (λ t. codes "scenario 1" ++ 10 ∷ t) e))
 
-pub behind_content : (r : List ℕ) → IsContent (codes "content" ++ 10 ∷ r) → IsContentBody r
-behind_content r (body, b, e) = subst IsContentBody (sym (one_first_line (codes "content") (codes "content") r body refl refl e).1) b
+pub after_content : (r : List ℕ) → IsContent (codes "content" ++ 10 ∷ r) → IsContentBody r
+after_content r (body, b, e) = subst IsContentBody (sym (one_first_line (codes "content") (codes "content") r body refl refl e).1) b
 
 pub before_content : (r : List ℕ) → IsContentBody r → IsContent (codes "content" ++ 10 ∷ r)
 before_content r b = (r, b, refl)
@@ -110,20 +110,20 @@ content_has_first t (body, b, e) = (body, e)
 pub refused_at_first : (text : List ℕ) → LacksLine (codes "scenario 1") text → IsRefusedAt IsScenario text 0
 refused_at_first text l = refused_first IsScenario (codes "scenario 1") text refl scenario_has_first l
 
-behind_head : (text rest : List ℕ) (n : ℕ) → text ≡ codes "scenario 1" ++ 10 ∷ rest → IsRefusedAt IsContent rest n → IsRefusedAt IsScenario text (1 + n)
-behind_head text rest n e h = subst (λ t. IsRefusedAt IsScenario t (1 + n)) (sym e)
-    (after_line IsScenario IsContent (codes "scenario 1") rest n refl behind_first before_first
+after_head : (text rest : List ℕ) (n : ℕ) → text ≡ codes "scenario 1" ++ 10 ∷ rest → IsRefusedAt IsContent rest n → IsRefusedAt IsScenario text (1 + n)
+after_head text rest n e h = subst (λ t. IsRefusedAt IsScenario t (1 + n)) (sym e)
+    (after_line IsScenario IsContent (codes "scenario 1") rest n refl rest_first before_first
     (codes "content" ++ 10 ∷ text_of_lines (codes "." ∷ act_lines [])) (before_content (text_of_lines (codes "." ∷ act_lines [])) some_body) h)
 
 pub refused_at_second : (text first : List ℕ) → text ≡ codes "scenario 1" ++ 10 ∷ first → LacksLine (codes "content") first → IsRefusedAt IsScenario text 1
-refused_at_second text first e l = behind_head text first 0 e (refused_first IsContent (codes "content") first refl content_has_first l)
+refused_at_second text first e l = after_head text first 0 e (refused_first IsContent (codes "content") first refl content_has_first l)
 
 pub refused_in_body : (text first body : List ℕ) (n : ℕ) → text ≡ codes "scenario 1" ++ 10 ∷ first → first ≡ codes "content" ++ 10 ∷ body
     → IsRefusedAt IsContentBody body n → IsRefusedAt IsScenario text (n + 2)
 refused_in_body text first body n e k h =
-    let r = after_line IsContent IsContentBody (codes "content") body n refl behind_content before_content (text_of_lines (codes "." ∷ act_lines [])) some_body h in
+    let r = after_line IsContent IsContentBody (codes "content") body n refl after_content before_content (text_of_lines (codes "." ∷ act_lines [])) some_body h in
     let count : 1 + (1 + n) ≡ n + 2 = omega arith in
-    subst (λ m. IsRefusedAt IsScenario text m) count (behind_head text first (1 + n) e (subst (λ t. IsRefusedAt IsContent t (1 + n)) (sym k) r))
+    subst (λ m. IsRefusedAt IsScenario text m) count (after_head text first (1 + n) e (subst (λ t. IsRefusedAt IsContent t (1 + n)) (sym k) r))
 
 pub refuses_in_body : (text first body : List ℕ) (fault : ScenarioFault) → text ≡ codes "scenario 1" ++ 10 ∷ first → first ≡ codes "content" ++ 10 ∷ body
     → Refuses IsContentBody body fault → Refuses IsScenario text (fault_further fault 2)

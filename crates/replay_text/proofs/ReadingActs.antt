@@ -7,8 +7,8 @@ use Rattle.replay_text.specs.EventLines.{line_of, IsEventLine}
 use Rattle.replay_text.specs.Reading.{FirstLine, Acts, SpellsActs}
 use Rattle.replay_text.specs.declared.event_line.EventLine.{EventLine}
 use Rattle.replay_text.proofs.LineLaws.{newlines-append, text_of_lines-append}
-use Rattle.replay_text.proofs.Refusals.{refused_behind, refused_line, refused_end, refused_more, IsNothing}
-use Rattle.replay_text.proofs.ActLaws.{behind_act, before_acts, no_acts, behind_end, before_end, neither_act_nor_end, acts_have_newline}
+use Rattle.replay_text.proofs.Refusals.{refused_after, refused_line, refused_end, refused_more, IsNothing}
+use Rattle.replay_text.proofs.ActLaws.{after_act, before_acts, no_acts, after_end, before_end, neither_act_nor_end, acts_have_newline}
 
 -- the reader has before some lines, which are those of acts
 pub record Passed (text rest : List ℕ) (before : ℕ) : Type 0 where
@@ -34,7 +34,7 @@ pub after_line : (A B : List ℕ → Type 0) (line rest : List ℕ) (n : ℕ) �
 after_line A B line rest n one to from w b refused =
     let front = line ++ 10 ∷ [] in
     let whole : (r : List ℕ) → front ++ r ≡ line ++ 10 ∷ r = λ r. append_assoc line (10 ∷ []) r in
-    let r0 : IsRefusedAt A (front ++ rest) (newlines front + n) = refused_behind A B front rest n
+    let r0 : IsRefusedAt A (front ++ rest) (newlines front + n) = refused_after A B front rest n
     (λ r h. to r (subst A (whole r) h)) (λ r h. subst A (sym (whole r)) (from r h)) w b refused in
     let count : newlines front + n ≡ 1 + n = omega (arith, newlines-append line (10 ∷ [])) in
     subst (λ t. IsRefusedAt A t (1 + n)) (whole rest) (subst (λ k. IsRefusedAt A (front ++ rest) k) count r0)
@@ -60,7 +60,7 @@ passed_act text rest line after act before p f ok e =
       text_is = p.text_is ∙ ap (λ t. front ++ t) (here ∙ sym (append_assoc (line_of act) (10 ∷ []) after))
           ∙ sym (append_assoc front (line_of act ++ 10 ∷ []) after) ∙ ap (λ t. t ++ after) (sym (lines_push p.acts act));
       refused = λ n h.
-          let r = after_line Acts Acts (line_of act) after n one (behind_act act ok) (before_acts act ok) (text_of_lines (act_lines [])) no_acts h in
+          let r = after_line Acts Acts (line_of act) after n one (after_act act ok) (before_acts act ok) (text_of_lines (act_lines [])) no_acts h in
           let r1 : IsRefusedAt Acts text (before + (1 + n)) = p.refused (1 + n) (subst (λ t. IsRefusedAt Acts t (1 + n)) (sym here) r) in
           let count : before + (1 + n) ≡ before + 1 + n = omega arith in
           subst (λ k. IsRefusedAt Acts text k) count r1;
@@ -89,7 +89,7 @@ pub refused_past_end : (text rest line after : List ℕ) (before : ℕ) → Pass
     → FirstLine rest line after → line ≡ 101 ∷ 110 ∷ 100 ∷ [] → after ≢ [] → IsRefusedAt Acts text (before + 1)
 refused_past_end text rest line after before p f e some =
     let here : rest ≡ 101 ∷ 110 ∷ 100 ∷ 10 ∷ after = f.is ∙ ap (λ l. l ++ 10 ∷ after) e in
-    let r = after_line Acts IsNothing (101 ∷ 110 ∷ 100 ∷ []) after 0 refl behind_end before_end [] refl (refused_more after some) in
+    let r = after_line Acts IsNothing (101 ∷ 110 ∷ 100 ∷ []) after 0 refl after_end before_end [] refl (refused_more after some) in
     p.refused 1 (subst (λ t. IsRefusedAt Acts t 1) (sym here) r)
 
 pub refused_at_line : (text rest line after : List ℕ) (before : ℕ) → Passed text rest before

@@ -17,10 +17,10 @@ pub take_past : (k j : ℕ) (front rest : List ℕ) → k ≡ length front + j �
 take_past k j front rest e = ap (λ n. take n (front ++ rest)) e ∙ take-append-add front rest j
 
 -- Where a text of A that begins with a prefix goes on as a text of B, the refusal is B's, after the newlines of the prefix.
-pub refused_behind : (A B : List ℕ → Type 0) (front rest : List ℕ) (n : ℕ)
+pub refused_after : (A B : List ℕ → Type 0) (front rest : List ℕ) (n : ℕ)
     → ((r : List ℕ) → A (front ++ r) → B r) → ((r : List ℕ) → B r → A (front ++ r)) → (w : List ℕ) → B w
     → IsRefusedAt B rest n → IsRefusedAt A (front ++ rest) (newlines front + n)
-refused_behind A B front rest n to from w b refused = record {
+refused_after A B front rest n to from w b refused = record {
   none = λ h. refused.none (to rest h);
   first = λ at lt begins not. ⊎_elim
       (λ (le : at < length front). absurd (not

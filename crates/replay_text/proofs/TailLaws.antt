@@ -94,9 +94,9 @@ acts_without_farm r ([], oks, e) = cc
 acts_without_farm r (a ∷ acts, oks, e) =
     event_is_not_farm a (sym (one_first_line (codes "farm") (line_of a) r (text_of_lines (act_lines acts)) refl (newlines-line_of a oks.0) e).0)
 
-behind_farm : (r : List ℕ) → IsTail (codes "farm" ++ 10 ∷ r) → BlockThen Acts r
-behind_farm r (inl acts) = absurd (acts_without_farm r acts)
-behind_farm r (inr (rest, b, e)) = subst (BlockThen Acts) (sym (one_first_line (codes "farm") (codes "farm") r rest refl refl e).1) b
+after_farm : (r : List ℕ) → IsTail (codes "farm" ++ 10 ∷ r) → BlockThen Acts r
+after_farm r (inl acts) = absurd (acts_without_farm r acts)
+after_farm r (inr (rest, b, e)) = subst (BlockThen Acts) (sym (one_first_line (codes "farm") (codes "farm") r rest refl refl e).1) b
 
 before_farm : (r : List ℕ) → BlockThen Acts r → IsTail (codes "farm" ++ 10 ∷ r)
 before_farm r b = inr (r, b, refl)
@@ -114,7 +114,7 @@ refuses_acts text NoMemory lacks r = tt
 pub refuses_farm : (text block : List ℕ) (fault : ScenarioFault) → text ≡ codes "farm" ++ 10 ∷ block → Refuses (BlockThen Acts) block fault
     → Refuses IsTail text (fault_further fault 1)
 refuses_farm text block (Line n) e r =
-    let whole = after_line IsTail (BlockThen Acts) (codes "farm") block n refl behind_farm before_farm (codes "." ++ 10 ∷ text_of_lines (act_lines []))
+    let whole = after_line IsTail (BlockThen Acts) (codes "farm") block n refl after_farm before_farm (codes "." ++ 10 ∷ text_of_lines (act_lines []))
     (before_dot Acts (text_of_lines (act_lines [])) no_acts) r.0 in
     let count : 1 + n ≡ n + 1 = omega arith in
     (subst (λ t. IsRefusedAt IsTail t (n + 1)) (sym e) (subst (λ k. IsRefusedAt IsTail (codes "farm" ++ 10 ∷ block) k) count whole), omega (arith, r.1, ap length e))

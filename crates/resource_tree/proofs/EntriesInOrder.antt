@@ -162,9 +162,9 @@ module _ {K X : Type 0} (R : K → K → Ordering) where
 
 -- ---- entries that are added in any order
 
-all_at : {K X : Type 0} (P : K → Type 0) (front : List (K × X)) (e : K × X) (back : List (K × X)) → AllByRecursion P (keys_of (front ++ e ∷ back)) → P e.0
+all_at : {K X : Type 0} (P : K → Type 0) (beginning : List (K × X)) (e : K × X) (back : List (K × X)) → AllByRecursion P (keys_of (beginning ++ e ∷ back)) → P e.0
 all_at P [] e back h = h.0
-all_at P (f ∷ front) e back h = all_at P front e back h.1
+all_at P (f ∷ beginning) e back h = all_at P beginning e back h.1
 
 none_parts : {X : Type 0} (b : Bool) (x : X) (o : Option X) → cond b (Some x) o ≡ None → (b ≡ false) × (o ≡ None)
 none_parts true x o e = absurd (true≢false (ap is_some e))

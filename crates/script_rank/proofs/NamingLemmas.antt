@@ -182,11 +182,11 @@ first r xs = record { at = 0; here = refl }
 later : (r x : Naming) (xs : List Naming) → Has r xs → Has r (x ∷ xs)
 later r x xs h = record { at = suc h.at; here = h.here }
 
-behind : (html : Bool) (k : ℕ) (rest : List Naming) (r : Naming) → Has r rest → Has r (from html k rest)
+remainder : (html : Bool) (k : ℕ) (rest : List Naming) (r : Naming) → Has r rest → Has r (from html k rest)
 unfolding with_selectors
-behind html zero rest r h = h
-behind true (suc k) rest r h = later r _ _ (later r _ _ (behind true k rest r h))
-behind false (suc k) rest r h = later r _ _ (behind false k rest r h)
+remainder html zero rest r h = h
+remainder true (suc k) rest r h = later r _ _ (later r _ _ (remainder true k rest r h))
+remainder false (suc k) rest r h = later r _ _ (remainder false k rest r h)
 
 has_both : (html : Bool) (n : ℕ) (rest : List Naming) (k : ℕ) → 1 ≤ k → k ≤ n → Has (SelectorsAndExtension k) (from html n rest)
 unfolding with_selectors
@@ -212,11 +212,11 @@ among : (parts : Parts) (html : Bool) (r : Naming) → is_html parts ≡ html �
 among parts html (SelectorsAndExtension k) is h few = has_both html (most_selectors parts) (without_selectors html) k h.0 (omega (arith, h.1, few))
 among parts true (Selectors k) is h few = has_selectors (most_selectors parts) (without_selectors true) k h.0.0 (omega (arith, h.0.1, few))
 among parts false (Selectors k) is h few = let yes = h.1 in absurd (cc (is, yes))
-among parts html LabelAndExtension is h few = behind html (most_selectors parts) (without_selectors html) _ (first _ _)
-among parts html Extension is h few = behind html (most_selectors parts) (without_selectors html) _ (later _ _ _ (first _ _))
-among parts true Label is h few = behind true (most_selectors parts) (without_selectors true) _ (later _ _ _ (later _ _ _ (first _ _)))
+among parts html LabelAndExtension is h few = remainder html (most_selectors parts) (without_selectors html) _ (first _ _)
+among parts html Extension is h few = remainder html (most_selectors parts) (without_selectors html) _ (later _ _ _ (first _ _))
+among parts true Label is h few = remainder true (most_selectors parts) (without_selectors true) _ (later _ _ _ (later _ _ _ (first _ _)))
 among parts false Label is h few = absurd (cc (is, h))
-among parts true Method is h few = behind true (most_selectors parts) (without_selectors true) _ (later _ _ _ (later _ _ _ (later _ _ _ (first _ _))))
+among parts true Method is h few = remainder true (most_selectors parts) (without_selectors true) _ (later _ _ _ (later _ _ _ (later _ _ _ (first _ _))))
 among parts false Method is h few = absurd (cc (is, h))
 
 full : (n : ℕ) → 0 < n → (n == 0) ≡ false
@@ -229,9 +229,9 @@ complete parts r asked offered few =
 
 -- ---- the namings that are added one by one
 
-pub with_selectors-done : (html : Bool) (front : List Naming) → front ++ with_selectors html 0 ≡ front
+pub with_selectors-done : (html : Bool) (prefix : List Naming) → prefix ++ with_selectors html 0 ≡ prefix
 unfolding with_selectors
-with_selectors-done html front = append-nil front
+with_selectors-done html prefix = append-nil prefix
 
 with_selectors-less : (html : Bool) (n k : ℕ) → n ≡ suc k
     → with_selectors html n ≡ SelectorsAndExtension n ∷ (if html then Selectors n ∷ with_selectors html k else with_selectors html k)
@@ -240,19 +240,19 @@ with_selectors-less html n k e =
     ap (with_selectors html) e
     ∙ sym (ap (λ m. SelectorsAndExtension m ∷ (if html then Selectors m ∷ with_selectors html k else with_selectors html k)) e)
 
-pub with_both : (html : Bool) (front : List Naming) (n : ℕ) → html ≡ true → 0 < n
-    → ((front ++ SelectorsAndExtension n ∷ []) ++ Selectors n ∷ []) ++ with_selectors html (n - 1) ≡ front ++ with_selectors html n
-with_both html front n is some =
-    append_assoc (front ++ SelectorsAndExtension n ∷ []) (Selectors n ∷ []) (with_selectors html (n - 1))
-    ∙ append_assoc front (SelectorsAndExtension n ∷ []) (Selectors n ∷ with_selectors html (n - 1))
-    ∙ ap (λ more. front ++ SelectorsAndExtension n ∷ more)
+pub with_both : (html : Bool) (prefix : List Naming) (n : ℕ) → html ≡ true → 0 < n
+    → ((prefix ++ SelectorsAndExtension n ∷ []) ++ Selectors n ∷ []) ++ with_selectors html (n - 1) ≡ prefix ++ with_selectors html n
+with_both html prefix n is some =
+    append_assoc (prefix ++ SelectorsAndExtension n ∷ []) (Selectors n ∷ []) (with_selectors html (n - 1))
+    ∙ append_assoc prefix (SelectorsAndExtension n ∷ []) (Selectors n ∷ with_selectors html (n - 1))
+    ∙ ap (λ more. prefix ++ SelectorsAndExtension n ∷ more)
     (sym (ap (λ t. if t then Selectors n ∷ with_selectors html (n - 1) else with_selectors html (n - 1)) is))
-    ∙ ap (λ more. front ++ more) (sym (with_selectors-less html n (n - 1) (omega (arith, some))))
+    ∙ ap (λ more. prefix ++ more) (sym (with_selectors-less html n (n - 1) (omega (arith, some))))
 
-pub with_one : (html : Bool) (front : List Naming) (n : ℕ) → html ≡ false → 0 < n
-    → (front ++ SelectorsAndExtension n ∷ []) ++ with_selectors html (n - 1) ≡ front ++ with_selectors html n
-with_one html front n is some =
-    append_assoc front (SelectorsAndExtension n ∷ []) (with_selectors html (n - 1))
-    ∙ ap (λ more. front ++ SelectorsAndExtension n ∷ more)
+pub with_one : (html : Bool) (prefix : List Naming) (n : ℕ) → html ≡ false → 0 < n
+    → (prefix ++ SelectorsAndExtension n ∷ []) ++ with_selectors html (n - 1) ≡ prefix ++ with_selectors html n
+with_one html prefix n is some =
+    append_assoc prefix (SelectorsAndExtension n ∷ []) (with_selectors html (n - 1))
+    ∙ ap (λ more. prefix ++ SelectorsAndExtension n ∷ more)
     (sym (ap (λ t. if t then Selectors n ∷ with_selectors html (n - 1) else with_selectors html (n - 1)) is))
-    ∙ ap (λ more. front ++ more) (sym (with_selectors-less html n (n - 1) (omega (arith, some))))
+    ∙ ap (λ more. prefix ++ more) (sym (with_selectors-less html n (n - 1) (omega (arith, some))))

@@ -26,8 +26,8 @@ parts_after mark seg (x ∷ more) e long = (x, more, e)
 
 split_mark : (mark seg : List ℕ) → is_mangled mark seg ≡ true → (x : ℕ) × (more : List ℕ) × (seg ≡ mark ++ x ∷ more)
 split_mark mark seg h =
-    let front : mark ≡ take (length mark) seg = (bytes_decides mark (take (length mark) seg)).0 (and_first (starts_with nat_eq seg mark) _ h) in
-    parts_after mark seg (drop (length mark) seg) (sym (take-append-drop (length mark) seg) ∙ ap (λ (t : List ℕ). t ++ drop (length mark) seg) (sym front))
+    let leading : mark ≡ take (length mark) seg = (bytes_decides mark (take (length mark) seg)).0 (and_first (starts_with nat_eq seg mark) _ h) in
+    parts_after mark seg (drop (length mark) seg) (sym (take-append-drop (length mark) seg) ∙ ap (λ (t : List ℕ). t ++ drop (length mark) seg) (sym leading))
     (and_second (starts_with nat_eq seg mark) _ h)
 
 then_is : {A : Type 0} (b : Bool) (x y : A) → b ≡ true → cond b x y ≡ x
@@ -155,7 +155,7 @@ pub mangled-push : (seen : List (Bor (List ℕ))) (piece : Bor (List ℕ)) (text
     → more ≡ spelling_of (mangled_segs (map (λ s. s.now) (seen ++ piece ∷ [])))
 mangled-push seen piece text more e is =
     let segs = map (λ s. s.now) seen in
-    is ∙ ap (λ front. (front ++ 47 ∷ []) ++ mangled_seg piece.now) e ∙ sym (spelled-more (mangled_segs segs) (mangled_seg piece.now))
+    is ∙ ap (λ leading. (leading ++ 47 ∷ []) ++ mangled_seg piece.now) e ∙ sym (spelled-more (mangled_segs segs) (mangled_seg piece.now))
     ∙ ap spelling_of (sym (ap mangled_segs (map-append (λ s. s.now) seen (piece ∷ [])) ∙ map-append mangled_seg segs (piece.now ∷ [])))
 
 -- segments without a slash are those of their spelling

@@ -203,14 +203,14 @@ lacks_mark : (mark seg : List ℕ) → ((rest : List ℕ) → seg ≢ mark ++ re
 lacks_mark mark seg lacks =
     let k = length mark in
     elim (starts_with nat_eq seg mark) as (λ b. starts_with nat_eq seg mark ≡ b → b ≡ false) [
-      | true ↦ λ e. absurd (lacks (drop k seg) (sym (take-append-drop k seg) ∙ ap (λ front. front ++ drop k seg) (sym ((bytes_decides mark (take k seg)).0 e))))
+      | true ↦ λ e. absurd (lacks (drop k seg) (sym (take-append-drop k seg) ∙ ap (λ leading. leading ++ drop k seg) (sym ((bytes_decides mark (take k seg)).0 e))))
       | false ↦ λ e. refl
     ] refl
 
 has_mark : (mark seg : List ℕ) → seg ≡ mark ++ drop (length mark) seg → starts_with nat_eq seg mark ≡ true
 has_mark mark seg e =
-    let front : mark ≡ take (length mark) seg = sym (ap (take (length mark)) e ∙ take_at mark (drop (length mark) seg) (length mark) refl) in
-    (bytes_decides mark (take (length mark) seg)).1 front
+    let leading : mark ≡ take (length mark) seg = sym (ap (take (length mark)) e ∙ take_at mark (drop (length mark) seg) (length mark) refl) in
+    (bytes_decides mark (take (length mark) seg)).1 leading
 
 at_most : (m n : ℕ) → n ≤ m → nat_lt m n ≡ false
 at_most m n h = grind (arith, nat_tests)

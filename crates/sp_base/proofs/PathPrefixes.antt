@@ -188,5 +188,5 @@ first_slash path zero h less = absurd (omega (arith, h))
 first_slash [] (suc n) h less = absurd (omega (arith, less))
 first_slash (seg ∷ segs) (suc n) h less =
     let path = seg ∷ segs in
-    let front = spelling_of (take (suc n) path) in
-    ap (λ t. get_or t (length front) 0) (spelled_parts path (suc n)) ∙ seam front (drop (suc n) path) (omega (arith, less, ap length (spelled_parts path (suc n))))
+    let leading = spelling_of (take (suc n) path) in
+    ap (λ t. get_or t (length leading) 0) (spelled_parts path (suc n)) ∙ seam leading (drop (suc n) path) (omega (arith, less, ap length (spelled_parts path (suc n))))

@@ -24,15 +24,15 @@ spelled-pieces (b ∷ text) =
     ] refl
 
 -- and segments that are spelled are the pieces after the first slash
-front_piece : (seg rest : List ℕ) (parts : List (List ℕ)) → has_slash seg ≡ false → pieces rest ≡ [] ∷ parts → pieces (seg ++ rest) ≡ seg ∷ parts
-front_piece [] rest parts h e = e
-front_piece (b ∷ seg) rest parts h e =
-    ap (λ t. cond t ([] ∷ pieces (seg ++ rest)) (onto_first b (pieces (seg ++ rest)))) (or_first _ _ h) ∙ ap (onto_first b) (front_piece seg rest parts (or_second _ _ h) e)
+prefix_piece : (seg rest : List ℕ) (parts : List (List ℕ)) → has_slash seg ≡ false → pieces rest ≡ [] ∷ parts → pieces (seg ++ rest) ≡ seg ∷ parts
+prefix_piece [] rest parts h e = e
+prefix_piece (b ∷ seg) rest parts h e =
+    ap (λ t. cond t ([] ∷ pieces (seg ++ rest)) (onto_first b (pieces (seg ++ rest)))) (or_first _ _ h) ∙ ap (onto_first b) (prefix_piece seg rest parts (or_second _ _ h) e)
 
 pub pieces-spelled : (segs : List (List ℕ)) → T (list_all lacks_slash segs) → pieces (spelling_of segs) ≡ [] ∷ segs
 pieces-spelled [] h = refl
 pieces-spelled (seg ∷ segs) h =
-    ap (λ parts. [] ∷ parts) (front_piece seg (spelling_of segs) segs (not_is _ (first (lacks_slash seg) _ h)) (pieces-spelled segs (second (lacks_slash seg) _ h)))
+    ap (λ parts. [] ∷ parts) (prefix_piece seg (spelling_of segs) segs (not_is _ (first (lacks_slash seg) _ h)) (pieces-spelled segs (second (lacks_slash seg) _ h)))
 
 pub segs_in-spelled : (segs : List (List ℕ)) → is_path segs ≡ true → segs_in (spelling_of segs) ≡ segs
 unfolding segs_in
@@ -68,9 +68,9 @@ pub none_in : segs_in [] ≡ []
 unfolding segs_in
 none_in = refl
 
-pub segs_behind : (text rest : List ℕ) → text ≡ 47 ∷ rest → segs_in text ≡ pieces rest
+pub segs_after : (text rest : List ℕ) → text ≡ 47 ∷ rest → segs_in text ≡ pieces rest
 unfolding segs_in
-segs_behind text rest e = ap segs_in e
+segs_after text rest e = ap segs_in e
 
 root_or_slash : (segs : List (List ℕ)) (text : List ℕ) → spelling_of segs ≡ text → ((rest : List ℕ) → text ≢ 47 ∷ rest) → text ≡ []
 root_or_slash [] text e none = sym e
@@ -104,14 +104,14 @@ pub child_text : (own name text : List ℕ) → is_path (segs_in own) ≡ true �
     → (segs_in text ≡ segs_in own ++ pieces name) × (spelling_of (segs_in text) ≡ text)
 child_text own name text h e is =
     spelled-join (segs_in own) (pieces name) text (path_pieces (segs_in own) h) (pieces_lack name)
-    (is ∙ ap (λ front. front ++ 47 ∷ name) (sym e) ∙ ap (λ more. spelling_of (segs_in own) ++ more) (sym (spelled-pieces name)))
+    (is ∙ ap (λ leading. leading ++ 47 ∷ name) (sym e) ∙ ap (λ more. spelling_of (segs_in own) ++ more) (sym (spelled-pieces name)))
 
 -- one path's text after another's
 pub joined_text : (own rest text : List ℕ) → is_path (segs_in own) ≡ true → is_path (segs_in rest) ≡ true → spelling_of (segs_in own) ≡ own → spelling_of (segs_in rest) ≡ rest → text ≡ own ++ rest
     → (segs_in text ≡ segs_in own ++ segs_in rest) × (spelling_of (segs_in text) ≡ text)
 joined_text own rest text h k e f is =
     spelled-join (segs_in own) (segs_in rest) text (path_pieces (segs_in own) h) (path_pieces (segs_in rest) k)
-    (is ∙ ap (λ front. front ++ rest) (sym e) ∙ ap (λ more. spelling_of (segs_in own) ++ more) (sym f))
+    (is ∙ ap (λ leading. leading ++ rest) (sym e) ∙ ap (λ more. spelling_of (segs_in own) ++ more) (sym f))
 
 -- one segment more
 pub spelled-more : (segs : List (List ℕ)) (seg : List ℕ) → spelling_of (segs ++ seg ∷ []) ≡ (spelling_of segs ++ 47 ∷ []) ++ seg
@@ -120,11 +120,11 @@ spelled-more segs seg = sym (flat_map_more (λ s. 47 ∷ s) [] segs seg) ∙ sym
 pub spelled-push : (seen : List (Bor (List ℕ))) (piece : Bor (List ℕ)) (text more : List ℕ) → text ≡ spelling_of (map (λ s. s.now) seen) → more ≡ (text ++ 47 ∷ []) ++ piece.now
     → more ≡ spelling_of (map (λ s. s.now) (seen ++ piece ∷ []))
 spelled-push seen piece text more e is =
-    is ∙ ap (λ front. (front ++ 47 ∷ []) ++ piece.now) e ∙ sym (spelled-more (map (λ s. s.now) seen) piece.now) ∙ ap spelling_of (sym (map-append (λ s. s.now) seen (piece ∷ [])))
+    is ∙ ap (λ leading. (leading ++ 47 ∷ []) ++ piece.now) e ∙ sym (spelled-more (map (λ s. s.now) seen) piece.now) ∙ ap spelling_of (sym (map-append (λ s. s.now) seen (piece ∷ [])))
 
 pub unmangled-push : (seen : List (Bor (List ℕ))) (piece : Bor (List ℕ)) (text more : List ℕ) → text ≡ spelling_of (unmangled_segs (map (λ s. s.now) seen)) → more ≡ (text ++ 47 ∷ []) ++ unmangled_seg piece.now
     → more ≡ spelling_of (unmangled_segs (map (λ s. s.now) (seen ++ piece ∷ [])))
 unmangled-push seen piece text more e is =
     let segs = map (λ s. s.now) seen in
-    is ∙ ap (λ front. (front ++ 47 ∷ []) ++ unmangled_seg piece.now) e ∙ sym (spelled-more (unmangled_segs segs) (unmangled_seg piece.now))
+    is ∙ ap (λ leading. (leading ++ 47 ∷ []) ++ unmangled_seg piece.now) e ∙ sym (spelled-more (unmangled_segs segs) (unmangled_seg piece.now))
     ∙ ap spelling_of (sym (ap unmangled_segs (map-append (λ s. s.now) seen (piece ∷ [])) ∙ map-append unmangled_seg segs (piece.now ∷ [])))

@@ -77,13 +77,13 @@ pub before_more : (name : List ℕ) (es : Props) (i : ℕ) (d : List ℕ × Valu
 before_more name es i d s lt is greater = rw (add-one) (before_to name es i d s lt is (less_back name d.0 greater))
 
 -- the names from one on that is after this one are after it
-pub behind_from : (name : List ℕ) (es : Props) (i : ℕ) (d : List ℕ × Value) → T (is_sorted by_name es) → i < length es → d ≡ get_or es i d
+pub after_from : (name : List ℕ) (es : Props) (i : ℕ) (d : List ℕ × Value) → T (is_sorted by_name es) → i < length es → d ≡ get_or es i d
     → by_name name d.0 ≡ Less → T (below_all by_name name (drop i es))
-behind_from name [] i d s lt is less = absurd (omega (arith, lt))
-behind_from name (e ∷ es) zero d s lt is less =
+after_from name [] i d s lt is less = absurd (omega (arith, lt))
+after_from name (e ∷ es) zero d s lt is less =
     let here = ap (λ (p : List ℕ × Value). by_name name p.0) (sym is) ∙ less in
     both _ _ (is_less _ here) (below_less name e.0 es here (first _ _ s))
-behind_from name (e ∷ es) (suc i) d s lt is less = behind_from name es i d (second _ _ s) (omega (arith, lt)) is less
+after_from name (e ∷ es) (suc i) d s lt is less = after_from name es i d (second _ _ s) (omega (arith, lt)) is less
 
 before_name : (es : Props) (i : ℕ) (d : List ℕ × Value) → T (is_sorted by_name es) → i < length es → d ≡ get_or es i d → all_before d.0 (take i es)
 before_name [] i d s lt is = absurd (omega (arith, lt))
@@ -115,89 +115,89 @@ found_at name es i (key, value) s lt is tie =
     }
 
 -- look-ups, writes and removals at a place
-find_front : (name : List ℕ) (front rest : Props) → all_before name front → find by_name name (front ++ rest) ≡ find by_name name rest
-find_front name [] rest h = refl
-find_front name (e ∷ front) rest h =
-    ap (λ o. cond (is_eq o) (Some e.1) (find by_name name (front ++ rest))) (greater_back e.0 name (less_is _ (first _ _ h)))
-    ∙ find_front name front rest (second _ _ h)
+find_prefix : (name : List ℕ) (leading rest : Props) → all_before name leading → find by_name name (leading ++ rest) ≡ find by_name name rest
+find_prefix name [] rest h = refl
+find_prefix name (e ∷ leading) rest h =
+    ap (λ o. cond (is_eq o) (Some e.1) (find by_name name (leading ++ rest))) (greater_back e.0 name (less_is _ (first _ _ h)))
+    ∙ find_prefix name leading rest (second _ _ h)
 
-find_behind : (name : List ℕ) (rest : Props) → T (below_all by_name name rest) → find by_name name rest ≡ None
-find_behind name [] h = refl
-find_behind name (e ∷ rest) h =
-    ap (λ o. cond (is_eq o) (Some e.1) (find by_name name rest)) (less_is _ (first _ _ h)) ∙ find_behind name rest (second _ _ h)
+find_after : (name : List ℕ) (rest : Props) → T (below_all by_name name rest) → find by_name name rest ≡ None
+find_after name [] h = refl
+find_after name (e ∷ rest) h =
+    ap (λ o. cond (is_eq o) (Some e.1) (find by_name name rest)) (less_is _ (first _ _ h)) ∙ find_after name rest (second _ _ h)
 
-put_front : (name : List ℕ) (value : Value) (front rest : Props) → all_before name front → put by_name name value (front ++ rest) ≡ front ++ put by_name name value rest
-put_front name value [] rest h = refl
-put_front name value (e ∷ front) rest h =
-    ap (λ o. by_order o ((name, value) ∷ e ∷ (front ++ rest)) ((e.0, value) ∷ (front ++ rest)) (e ∷ put by_name name value (front ++ rest)))
+put_prefix : (name : List ℕ) (value : Value) (leading rest : Props) → all_before name leading → put by_name name value (leading ++ rest) ≡ leading ++ put by_name name value rest
+put_prefix name value [] rest h = refl
+put_prefix name value (e ∷ leading) rest h =
+    ap (λ o. by_order o ((name, value) ∷ e ∷ (leading ++ rest)) ((e.0, value) ∷ (leading ++ rest)) (e ∷ put by_name name value (leading ++ rest)))
     (greater_back e.0 name (less_is _ (first _ _ h)))
-    ∙ ap (λ es. e ∷ es) (put_front name value front rest (second _ _ h))
+    ∙ ap (λ es. e ∷ es) (put_prefix name value leading rest (second _ _ h))
 
-put_behind : (name : List ℕ) (value : Value) (rest : Props) → T (below_all by_name name rest) → put by_name name value rest ≡ (name, value) ∷ rest
-put_behind name value [] h = refl
-put_behind name value (e ∷ rest) h =
+put_after : (name : List ℕ) (value : Value) (rest : Props) → T (below_all by_name name rest) → put by_name name value rest ≡ (name, value) ∷ rest
+put_after name value [] h = refl
+put_after name value (e ∷ rest) h =
     ap (λ o. by_order o ((name, value) ∷ e ∷ rest) ((e.0, value) ∷ rest) (e ∷ put by_name name value rest)) (less_is _ (first _ _ h))
 
 abbrev is_other : List ℕ → List ℕ → Bool
 is_other name key = not (eq_by_cmp by_name name key)
 
-others_front : (name : List ℕ) (front rest : Props) → all_before name front → where_key by_name (is_other name) (front ++ rest) ≡ front ++ where_key by_name (is_other name) rest
-others_front name [] rest h = refl
-others_front name (e ∷ front) rest h =
-    ap (λ o. cond (not (is_eq o)) (e ∷ where_key by_name (is_other name) (front ++ rest)) (where_key by_name (is_other name) (front ++ rest)))
+others_prefix : (name : List ℕ) (leading rest : Props) → all_before name leading → where_key by_name (is_other name) (leading ++ rest) ≡ leading ++ where_key by_name (is_other name) rest
+others_prefix name [] rest h = refl
+others_prefix name (e ∷ leading) rest h =
+    ap (λ o. cond (not (is_eq o)) (e ∷ where_key by_name (is_other name) (leading ++ rest)) (where_key by_name (is_other name) (leading ++ rest)))
     (greater_back e.0 name (less_is _ (first _ _ h)))
-    ∙ ap (λ es. e ∷ es) (others_front name front rest (second _ _ h))
+    ∙ ap (λ es. e ∷ es) (others_prefix name leading rest (second _ _ h))
 
-others_behind : (name : List ℕ) (rest : Props) → T (below_all by_name name rest) → where_key by_name (is_other name) rest ≡ rest
-others_behind name [] h = refl
-others_behind name (e ∷ rest) h =
+others_after : (name : List ℕ) (rest : Props) → T (below_all by_name name rest) → where_key by_name (is_other name) rest ≡ rest
+others_after name [] h = refl
+others_after name (e ∷ rest) h =
     ap (λ o. cond (not (is_eq o)) (e ∷ where_key by_name (is_other name) rest) (where_key by_name (is_other name) rest)) (less_is _ (first _ _ h))
-    ∙ ap (λ es. e ∷ es) (others_behind name rest (second _ _ h))
+    ∙ ap (λ es. e ∷ es) (others_after name rest (second _ _ h))
 
-sorted_rest : (front rest : Props) → T (is_sorted by_name (front ++ rest)) → T (is_sorted by_name rest)
+sorted_rest : (leading rest : Props) → T (is_sorted by_name (leading ++ rest)) → T (is_sorted by_name rest)
 sorted_rest [] rest h = h
-sorted_rest (e ∷ front) rest h = sorted_rest front rest (second _ _ h)
+sorted_rest (e ∷ leading) rest h = sorted_rest leading rest (second _ _ h)
 
 pub find_at : (name : List ℕ) (es : Props) (i : ℕ) → (p : IsAt name es i) → find by_name name es ≡ Some p.value
 find_at name es i p =
-    ap (find by_name name) p.parts ∙ find_front name (take i es) ((name, p.value) ∷ drop (i + 1) es) p.before
+    ap (find by_name name) p.parts ∙ find_prefix name (take i es) ((name, p.value) ∷ drop (i + 1) es) p.before
     ∙ ap (λ o. cond (is_eq o) (Some p.value) (find by_name name (drop (i + 1) es))) (tied_itself total name)
 
 pub find_gap : (name : List ℕ) (es : Props) (i : ℕ) → IsGap name es i → find by_name name es ≡ None
 find_gap name es i p =
-    ap (find by_name name) (sym (take-append-drop i es)) ∙ find_front name (take i es) (drop i es) p.before ∙ find_behind name (drop i es) p.behind
+    ap (find by_name name) (sym (take-append-drop i es)) ∙ find_prefix name (take i es) (drop i es) p.before ∙ find_after name (drop i es) p.remainder
 
 pub put_at : (name : List ℕ) (value : Value) (es : Props) (i : ℕ) → IsAt name es i → put by_name name value es ≡ take i es ++ (name, value) ∷ drop (i + 1) es
 put_at name value es i p =
-    ap (put by_name name value) p.parts ∙ put_front name value (take i es) ((name, p.value) ∷ drop (i + 1) es) p.before
+    ap (put by_name name value) p.parts ∙ put_prefix name value (take i es) ((name, p.value) ∷ drop (i + 1) es) p.before
     ∙ ap (λ o. take i es ++ by_order o ((name, value) ∷ (name, p.value) ∷ drop (i + 1) es) ((name, value) ∷ drop (i + 1) es)
     ((name, p.value) ∷ put by_name name value (drop (i + 1) es))) (tied_itself total name)
 
 pub put_gap : (name : List ℕ) (value : Value) (es : Props) (i : ℕ) → IsGap name es i → put by_name name value es ≡ take i es ++ (name, value) ∷ drop i es
 put_gap name value es i p =
-    ap (put by_name name value) (sym (take-append-drop i es)) ∙ put_front name value (take i es) (drop i es) p.before
-    ∙ ap (λ rest. take i es ++ rest) (put_behind name value (drop i es) p.behind)
+    ap (put by_name name value) (sym (take-append-drop i es)) ∙ put_prefix name value (take i es) (drop i es) p.before
+    ∙ ap (λ rest. take i es ++ rest) (put_after name value (drop i es) p.remainder)
 
 pub others_at : (name : List ℕ) (es : Props) (i : ℕ) → IsAt name es i → T (is_sorted by_name es)
     → where_key by_name (is_other name) es ≡ take i es ++ drop (i + 1) es
 others_at name es i p s =
     let rest = drop (i + 1) es in
     let sorted = sorted_rest (take i es) ((name, p.value) ∷ rest) (subst (λ list. T (is_sorted by_name list)) p.parts s) in
-    ap (where_key by_name (is_other name)) p.parts ∙ others_front name (take i es) ((name, p.value) ∷ rest) p.before
+    ap (where_key by_name (is_other name)) p.parts ∙ others_prefix name (take i es) ((name, p.value) ∷ rest) p.before
     ∙ ap (λ o. take i es ++ cond (not (is_eq o)) ((name, p.value) ∷ where_key by_name (is_other name) rest) (where_key by_name (is_other name) rest)) (tied_itself total name)
-    ∙ ap (λ list. take i es ++ list) (others_behind name rest (first _ _ sorted))
+    ∙ ap (λ list. take i es ++ list) (others_after name rest (first _ _ sorted))
 
 pub others_gap : (name : List ℕ) (es : Props) (i : ℕ) → IsGap name es i → where_key by_name (is_other name) es ≡ es
 others_gap name es i p =
-    ap (where_key by_name (is_other name)) (sym (take-append-drop i es)) ∙ others_front name (take i es) (drop i es) p.before
-    ∙ ap (λ rest. take i es ++ rest) (others_behind name (drop i es) p.behind) ∙ take-append-drop i es
+    ap (where_key by_name (is_other name)) (sym (take-append-drop i es)) ∙ others_prefix name (take i es) (drop i es) p.before
+    ∙ ap (λ rest. take i es ++ rest) (others_after name (drop i es) p.remainder) ∙ take-append-drop i es
 
 pub set_at : (name : List ℕ) (value : Value) (es : Props) (i : ℕ) (d : List ℕ × Value) → IsAt name es i → d ≡ get_or es i d
     → set es i (d.0, value) ≡ put by_name name value es
 set_at name value es i d p is =
     ap (λ (e : List ℕ × Value). set es i (e.0, value)) (p.item d is)
     ∙ sym (take-append-drop i (set es i (name, value)))
-    ∙ ap (λ front. front ++ drop i (set es i (name, value))) (take-set es i (name, value))
+    ∙ ap (λ leading. leading ++ drop i (set es i (name, value))) (take-set es i (name, value))
     ∙ ap (λ rest. take i es ++ rest) (drop-set es i (name, value) p.within) ∙ sym (put_at name value es i p)
 
 pub value_at : (name : List ℕ) (es : Props) (i : ℕ) (d : List ℕ × Value) → IsAt name es i → d ≡ get_or es i d → Some d.1 ≡ find by_name name es

@@ -22,4 +22,4 @@ pub record IsAt (name : List ℕ) (props : List (List ℕ × Value)) (place : �
 pub record IsGap (name : List ℕ) (props : List (List ℕ × Value)) (place : ℕ) : Type 0 where
   pub within : place ≤ length props
   pub before : all_before name (take place props)
-  pub behind : T (below_all by_name name (drop place props))
+  pub remainder : T (below_all by_name name (drop place props))

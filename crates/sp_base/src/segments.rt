@@ -157,15 +157,15 @@ pub fn piece_at(text: &str, n: usize) -> Option<&str>
     text.split('/').nth(n)
 }
 
-pub fn glued(alloc: Global, front: &str, mark: &str, back: &str) -> Mem<String>
-    ensures { IfOk result (λ t. string_bytes t ≡ front.now ++ (mark.now ++ back.now)) }
+pub fn glued(alloc: Global, leading: &str, mark: &str, back: &str) -> Mem<String>
+    ensures { IfOk result (λ t. string_bytes t ≡ leading.now ++ (mark.now ++ back.now)) }
 {
-    let length = front
+    let length = leading
         .len()
         .saturating_add(mark.len())
         .saturating_add(back.len());
     let mut text = String::with_capacity(alloc, length)?;
-    text.push_str(front)?;
+    text.push_str(leading)?;
     add_both(&mut text, mark, back)?;
     Ok(text)
 }
@@ -174,12 +174,12 @@ pub fn glued(alloc: Global, front: &str, mark: &str, back: &str) -> Mem<String>
 pub fn first_pieces(alloc: Global, text: &str, n: usize) -> Mem<String>
     ensures { IfOk result (λ t. string_bytes t ≡ spelling_of (take n (pieces text.now))) }
 {
-    let mut front = String::with_capacity(alloc, text.len().saturating_add(1))?;
+    let mut leading = String::with_capacity(alloc, text.len().saturating_add(1))?;
     for piece in text.split('/').take(n) {
-        front.push_str("/")?;
-        front.push_str(piece)?;
+        leading.push_str("/")?;
+        leading.push_str(piece)?;
     }
-    Ok(front)
+    Ok(leading)
 }
 
 // The pieces with their namespace prefixes as they stand in the repository, a slash before each.

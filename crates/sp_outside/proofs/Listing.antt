@@ -27,7 +27,7 @@ use Rattle.sp_base.specs.Names.{by_name}
 use Rattle.sp_outside.specs.Files.{Files, IsName, IsListing, has_prefix, names_after}
 use Rattle.sp_outside.specs.MemoryFiles.{MemoryEntries, IsFirstPlace, entries_by_bytes, files_of}
 use Rattle.sp_outside.proofs.HeldFiles.{same_name}
-use Rattle.sp_outside.proofs.Prefixes.{after_both, behind_both, prefix_between, prefix_first}
+use Rattle.sp_outside.proofs.Prefixes.{after_both, rest_both, prefix_between, prefix_first}
 
 -- the names of entries, in their order
 abbrev pub names_of : MemoryEntries → List (List ℕ)
@@ -127,7 +127,7 @@ place_first : (prefix after : List ℕ) (start : Bound (String Global)) → IsFi
 place_first prefix after (Included place) is key e =
     sym (ap (λ p. is_le (by_name p (string_bytes key))) is.0) ∙ first_true _ _ e
 place_first prefix after (Excluded place) is key e =
-    behind_both after prefix (string_bytes key) (by_name after prefix) refl is.1
+    rest_both after prefix (string_bytes key) (by_name after prefix) refl is.1
     (sym (ap (λ p. is_lt (by_name p (string_bytes key))) is.0) ∙ first_true _ _ e)
 place_first prefix after Unbounded is key e = absurd is
 
@@ -226,15 +226,15 @@ not_true true none = absurd (none refl)
 not_true false none = refl
 
 -- after a name that isn't before the prefix and doesn't begin with it no name does
-none_behind : (prefix : List ℕ) (item : String Global × List ℕ) (rest : MemoryEntries) → is_le (by_name prefix (string_bytes item.0)) ≡ true
+none_after : (prefix : List ℕ) (item : String Global × List ℕ) (rest : MemoryEntries) → is_le (by_name prefix (string_bytes item.0)) ≡ true
     → has_prefix prefix (string_bytes item.0) ≡ false → AllByRecursion (λ other. string_cmp item.0 other ≡ Less) (keys_of rest)
     → filter (has_prefix prefix) (names_of rest) ≡ []
-none_behind prefix item [] le lacks above = refl
-none_behind prefix item (e ∷ rest) le lacks above =
+none_after prefix item [] le lacks above = refl
+none_after prefix item (e ∷ rest) le lacks above =
     let none : has_prefix prefix (string_bytes e.0) ≡ false = not_true _ (λ has.
     true≢false (sym (prefix_between prefix (string_bytes item.0) (string_bytes e.0) le (ap is_lt above.0) has) ∙ lacks)) in
     ap (λ b. cond b (string_bytes e.0 ∷ filter (has_prefix prefix) (names_of rest)) (filter (has_prefix prefix) (names_of rest))) none
-    ∙ none_behind prefix item rest le lacks above.1
+    ∙ none_after prefix item rest le lacks above.1
 
 in_seen : (start : Bound (String Global)) (held seen : MemoryEntries) (item : String Global × List ℕ) (rest : MemoryEntries)
     → filter (in_range start) held ≡ seen ++ item ∷ rest → in_range start item ≡ true
@@ -258,7 +258,7 @@ lacking prefix after start held range items item rest names most rising place ra
     let le = place_first prefix after start place item.0 (in_seen start held seen_items item rest cut) in
     let none : filter (has_prefix prefix) (names_of (item ∷ rest)) ≡ [] =
     ap (λ b. cond b (string_bytes item.0 ∷ filter (has_prefix prefix) (names_of rest)) (filter (has_prefix prefix) (names_of rest))) lacks
-    ∙ none_behind prefix item rest le lacks (rest_above seen_items item rest sorted) in
+    ∙ none_after prefix item rest le lacks (rest_above seen_items item rest sorted) in
     let whole : names ≡ filter (has_prefix prefix) (names_of range) =
     is ∙ ap (filter (has_prefix prefix)) (seen items) ∙ sym (ap (filter (has_prefix prefix)) (ap names_of parts
     ∙ map-append (λ (e : String Global × List ℕ). string_bytes e.0) seen_items (item ∷ rest))

@@ -89,9 +89,9 @@ lt_less Equal e = absurd (true≢false (sym e))
 lt_less Greater e = absurd (true≢false (sym e))
 
 -- and one after a name that isn't before a prefix isn't before the prefix either
-pub behind_both : (after prefix name : List ℕ) (o : Ordering) → by_name after prefix ≡ o → is_lt o ≡ false → is_lt (by_name after name) ≡ true → is_le (by_name prefix name) ≡ true
-behind_both after prefix name Less e none lt = absurd (true≢false none)
-behind_both after prefix name Equal e none lt = ap is_le (ap (λ n. by_name n name) (sym (same_name after prefix e)) ∙ lt_less _ lt)
-behind_both after prefix name Greater e none lt =
+pub rest_both : (after prefix name : List ℕ) (o : Ordering) → by_name after prefix ≡ o → is_lt o ≡ false → is_lt (by_name after name) ≡ true → is_le (by_name prefix name) ≡ true
+rest_both after prefix name Less e none lt = absurd (true≢false none)
+rest_both after prefix name Equal e none lt = ap is_le (ap (λ n. by_name n name) (sym (same_name after prefix e)) ∙ lt_less _ lt)
+rest_both after prefix name Greater e none lt =
     let turned : by_name prefix after ≡ Less = nat_list_cmp_total.antisymm prefix after ∙ ap ordering_reverse e in
     ap is_le (nat_list_cmp_total.trans prefix after name turned (lt_less _ lt))

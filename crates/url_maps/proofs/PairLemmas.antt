@@ -166,8 +166,8 @@ decides_here tree host_node text prefix pair is within best beyond = record {
 pub shorter_prefix : (text prefix front : List ℕ) → prefix ≡ take (length prefix) text → front ≡ take (length front) prefix → length front < length prefix → front ≡ take (length front) text
 shorter_prefix text prefix front is cut less = cut ∙ ap (take (length front)) is ∙ take-take (length front) (length prefix) text (omega (arith, less))
 
-pub front_cut : (text prefix front : List ℕ) → prefix ≡ take (length prefix) text → length prefix ≤ length text → length front < length prefix → is_separator (get_or prefix (length front) 0) ≡ true → is_prefix_end (drop (length front) text) ≡ true
-front_cut text prefix front is within less separator =
+pub prefix_cut : (text prefix front : List ℕ) → prefix ≡ take (length prefix) text → length prefix ≤ length text → length front < length prefix → is_separator (get_or prefix (length front) 0) ≡ true → is_prefix_end (drop (length front) text) ≡ true
+prefix_cut text prefix front is within less separator =
     cut_at text (length front) (omega (arith, within, less)) ∙ ap is_separator (sym (ap (λ t. get_or t (length front) 0) is ∙ get_or-take (length prefix) text (length front) 0 less)) ∙ separator
 
 pub within_text : (text prefix : List ℕ) → prefix ≡ take (length prefix) text → length prefix ≤ length text

@@ -19,9 +19,9 @@ pub(crate) fn named_stay(
 ) -> Mem<bool>
     ensures { IfOk result (λ stay. IsTrue stay → aliased_kids tree.now path.now names.now ≡ aliased_kids tree.now path.now others.now) }
 {
-    let front = same_first(names, others);
-    let rest = &names[front..];
-    let other_rest = &others[front..];
+    let common = same_first(names, others);
+    let rest = &names[common..];
+    let other_rest = &others[common..];
     Ok(stay_after(alloc, tree, path, rest, other_rest)?)
 }
 

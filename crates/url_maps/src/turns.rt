@@ -94,7 +94,7 @@ impl MapIndex {
                 }));
             }
             match shorter(prefix) {
-                Some(front) => prefix = front,
+                Some(shorter) => prefix = shorter,
                 None => return Ok(None),
             }
         }

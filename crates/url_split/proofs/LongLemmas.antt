@@ -67,12 +67,12 @@ onto_long : (b : ℕ) (parts : List (List ℕ)) → list_any is_long parts ≡ t
 onto_long b [] h = absurd (false≢true h)
 onto_long b (piece ∷ parts) h = or_grown (is_long piece) (is_long (b ∷ piece)) (list_any is_long parts) (λ is. longer piece (b ∷ piece) is (omega arith)) h
 
-long_piece : (front long more : List ℕ) → has_slash long ≡ false → is_long long ≡ true → list_any is_long (pieces (front ++ (long ++ more))) ≡ true
+long_piece : (leading long more : List ℕ) → has_slash long ≡ false → is_long long ≡ true → list_any is_long (pieces (leading ++ (long ++ more))) ≡ true
 long_piece [] long more one is = begins_long long (pieces (long ++ more)) is (first_bytes long more one)
-long_piece (b ∷ front) long more one is =
-    elim (is_slash b) as (λ t. list_any is_long (cond t ([] ∷ pieces (front ++ (long ++ more))) (onto_first b (pieces (front ++ (long ++ more))))) ≡ true) [
-      | true ↦ some_last (is_long []) (list_any is_long (pieces (front ++ (long ++ more)))) (long_piece front long more one is)
-      | false ↦ onto_long b (pieces (front ++ (long ++ more))) (long_piece front long more one is)
+long_piece (b ∷ leading) long more one is =
+    elim (is_slash b) as (λ t. list_any is_long (cond t ([] ∷ pieces (leading ++ (long ++ more))) (onto_first b (pieces (leading ++ (long ++ more))))) ≡ true) [
+      | true ↦ some_last (is_long []) (list_any is_long (pieces (leading ++ (long ++ more)))) (long_piece leading long more one is)
+      | false ↦ onto_long b (pieces (leading ++ (long ++ more))) (long_piece leading long more one is)
     ]
 
 -- ---- no path has one
@@ -89,30 +89,30 @@ no_long (seg ∷ parts) all some =
       | false ↦ λ is e. no_long parts ok.1 e
     ] refl some
 
-many_bytes : (front long more : List ℕ) → is_long long ≡ true → 200 < length (front ++ (long ++ more))
-many_bytes front long more is =
+many_bytes : (leading long more : List ℕ) → is_long long ≡ true → 200 < length (leading ++ (long ++ more))
+many_bytes leading long more is =
     let size : 200 < length long = grind (arith, nat_tests) in
-    omega (arith, size, length-append front (long ++ more), length-append long more)
+    omega (arith, size, length-append leading (long ++ more), length-append long more)
 
 few_bytes : (rest : List ℕ) → is_empty rest ≡ true → length rest ≡ 0
 few_bytes rest e = grind (arith, nat_tests)
 
-no_path_read : AreValid → (front long more : List ℕ) → has_slash long ≡ false → is_long long ≡ true → (path : List (List ℕ)) → path_of (front ++ (long ++ more)) ≡ Ok path → ⊥
+no_path_read : AreValid → (leading long more : List ℕ) → has_slash long ≡ false → is_long long ≡ true → (path : List (List ℕ)) → path_of (leading ++ (long ++ more)) ≡ Ok path → ⊥
 no_path_read valid [] [] more one is path reads = let size : 200 < 0 = grind (arith, nat_tests) in omega (arith, size)
 no_path_read valid [] (b ∷ long) more one is path reads = true≢false (sym (read_is b (long ++ more) path reads).slash ∙ no_first (is_slash b) (has_slash long) one)
-no_path_read valid (b ∷ front) long more one is path reads =
-    let rest = front ++ (long ++ more) in
+no_path_read valid (b ∷ leading) long more one is path reads =
+    let rest = leading ++ (long ++ more) in
     ⊎_elim
-    (λ (root : (is_empty rest ≡ true) × (path ≡ [])). omega (arith, few_bytes rest root.0, many_bytes front long more is))
+    (λ (root : (is_empty rest ≡ true) × (path ≡ [])). omega (arith, few_bytes rest root.0, many_bytes leading long more is))
     (λ (same : path ≡ pieces rest).
     let all = (and_parts (list_all seg_ok path) _ (valid (b ∷ rest) path reads)).0 in
-    no_long (pieces rest) (ap (list_all seg_ok) (sym same) ∙ all) (long_piece front long more one is))
+    no_long (pieces rest) (ap (list_all seg_ok) (sym same) ∙ all) (long_piece leading long more one is))
     (read_is b rest path reads).path_is
 
 -- ---- where the walk back begins
 
-front_of : (text start : List ℕ) (k : ℕ) → start ≡ take (length start) text → length start ≤ k → take k text ≡ start ++ drop (length start) (take k text)
-front_of text start k begins le =
+prefix_of : (text start : List ℕ) (k : ℕ) → start ≡ take (length start) text → length start ≤ k → take k text ≡ start ++ drop (length start) (take k text)
+prefix_of text start k begins le =
     sym (take-append-drop (length start) (take k text)) ∙ ap (λ t. t ++ drop (length start) (take k text)) (take-take (length start) k text le ∙ sym begins)
 
 pub reached_shorter : (known : List (List ℕ) → Bool) (text start shorter : List ℕ) → AreValid → IsReached known text start → IsBeforeLong start shorter → IsReached known text shorter
@@ -126,8 +126,8 @@ reached_shorter known text start shorter valid reached before =
           (λ (whole : length shorter ≡ length start). reached.all k path (omega (arith, whole, lo)) hi leads)
           (λ (long : EndsInLong shorter).
           let more = drop (length shorter) (take k text) in
-          let is : take k text ≡ long.front ++ (long.long ++ more) = front_of text shorter k begins lo ∙ ap (λ t. t ++ more) long.text_is ∙ append_assoc long.front long.long more in
-          no_path_read valid long.front long.long more long.one_piece long.too_long path (ap path_of (sym is) ∙ leads.reads))
+          let is : take k text ≡ long.leading ++ (long.long ++ more) = prefix_of text shorter k begins lo ∙ ap (λ t. t ++ more) long.text_is ∙ append_assoc long.leading long.long more in
+          no_path_read valid long.leading long.long more long.one_piece long.too_long path (ap path_of (sym is) ∙ leads.reads))
           before.ends;
     }
 
@@ -135,14 +135,14 @@ reached_shorter known text start shorter valid reached before =
 
 -- a text's last n bytes have no slash
 pub record EndsInPiece (text : List ℕ) (n : ℕ) : Type 0 where
-  pub front : List ℕ
+  pub leading : List ℕ
   pub piece : List ℕ
-  pub text_is : text ≡ front ++ piece
+  pub text_is : text ≡ leading ++ piece
   pub one_piece : has_slash piece ≡ false
   pub size : n ≡ length piece
 
 pub ends_new : (text : List ℕ) → EndsInPiece text 0
-ends_new text = record { front = text; piece = []; text_is = sym (append-nil text); one_piece = refl; size = refl }
+ends_new text = record { leading = text; piece = []; text_is = sym (append-nil text); one_piece = refl; size = refl }
 
 slashless : (piece : List ℕ) (b : ℕ) → has_slash piece ≡ false → is_slash b ≡ false → has_slash (piece ++ b ∷ []) ≡ false
 slashless [] b none other = ap (λ t. t || false) other
@@ -156,9 +156,9 @@ pub ends_more : (bytes : List ℕ) (at n : ℕ) → at < length bytes → get_or
 ends_more bytes at n within other ends =
     let b = get_or bytes at 0 in
     record {
-      front = ends.front;
+      leading = ends.leading;
       piece = ends.piece ++ b ∷ [];
-      text_is = take_more bytes at 0 within ∙ ap (λ t. t ++ b ∷ []) ends.text_is ∙ append_assoc ends.front ends.piece (b ∷ []);
+      text_is = take_more bytes at 0 within ∙ ap (λ t. t ++ b ∷ []) ends.text_is ∙ append_assoc ends.leading ends.piece (b ∷ []);
       one_piece = slashless ends.piece b ends.one_piece (no_slash b other);
       size = omega (arith, ends.size, length-append ends.piece (b ∷ []));
     }

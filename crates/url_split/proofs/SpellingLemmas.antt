@@ -12,7 +12,7 @@ use Rattle.sp_base.specs.Paths.{path_of, text_of}
 use Rattle.url_split.specs.declared.decompose.Parts.{Parts}
 use Rattle.url_split.specs.Split.{IsSplit, is_dot, is_slash, last_of, but_last, selectors_of, extension_of, suffix_of}
 use Rattle.url_split.specs.Spelling.{is_full, is_word, dotted_text, SpellsParts}
-use Rattle.url_split.proofs.SplitLemmas.{no_more, cut_behind}
+use Rattle.url_split.proofs.SplitLemmas.{no_more, cut_after}
 
 both : (a b : Bool) → a ≡ true → b ≡ true → (a && b) ≡ true
 both true b p q = q
@@ -94,16 +94,16 @@ IsSlashed text = (text ≡ []) ⊎ ((more : List ℕ) × (text ≡ 47 ∷ more))
 rest_slashed : (text : List ℕ) → IsSlashed (drop (length (before_first is_slash text)) text)
 rest_slashed text =
     let n = position_or_len is_slash text in
-    let front = before_first is_slash text in
+    let leading = before_first is_slash text in
     ⊎_elim
     (λ (less : n < length text).
     let slash = test_eq (get_or text n 0) 47 (passes_at_first is_slash text 0 less) in
     inr (
       after_first is_slash text,
-      ap (drop (length front)) (split_at_first is_slash text 0 less) ∙ drop-append_seam front (get_or text n 0 ∷ after_first is_slash text)
+      ap (drop (length leading)) (split_at_first is_slash text 0 less) ∙ drop-append_seam leading (get_or text n 0 ∷ after_first is_slash text)
           ∙ ap (λ b. b ∷ after_first is_slash text) slash,
     ))
-    (λ (whole : length text ≤ n). inl (no_more text (length front) (omega (arith, whole, length-take n text))))
+    (λ (whole : length text ≤ n). inl (no_more text (length leading) (omega (arith, whole, length-take n text))))
     (cases_lt n (length text))
 
 -- ---- the parts of what follows a resource path
@@ -124,10 +124,10 @@ before_and_after rest =
 given_back : (rest : List ℕ) →
     46 ∷ rest ≡ dotted_text (but_last (slice_split is_dot (before_first is_slash rest)) ++ last_of (slice_split is_dot (before_first is_slash rest)) ∷ []) ++ drop (length (before_first is_slash rest)) rest
 given_back rest =
-    let front = before_first is_slash rest in
-    let parts = slice_split is_dot front in
-    let whole : front ++ drop (length front) rest ≡ rest = before_and_after rest in
-    sym (ap (λ ps. dotted_text ps ++ drop (length front) rest) (ends parts (some_piece front)) ∙ ap (λ t. t ++ drop (length front) rest) (dotted_pieces front) ∙ ap (λ t. 46 ∷ t) whole)
+    let leading = before_first is_slash rest in
+    let parts = slice_split is_dot leading in
+    let whole : leading ++ drop (length leading) rest ≡ rest = before_and_after rest in
+    sym (ap (λ ps. dotted_text ps ++ drop (length leading) rest) (ends parts (some_piece leading)) ∙ ap (λ t. t ++ drop (length leading) rest) (dotted_pieces leading) ∙ ap (λ t. 46 ∷ t) whole)
 
 all_last : (parts : List (List ℕ)) → 0 < length parts → list_all is_word parts ≡ true → (list_all is_word (but_last parts) ≡ true) × (is_word (last_of parts) ≡ true)
 all_last parts some h =
@@ -152,9 +152,9 @@ pub record AreParts (rest : List ℕ) (selectors : List (List ℕ)) (extension s
 are_parts : (rest : List ℕ) → AreParts rest (selectors_of rest) (extension_of rest) (suffix_of rest)
 are_parts [] = record { selectors_are = refl; extension_is = refl; suffix_is = inl refl }
 are_parts (dot ∷ rest) =
-    let front = before_first is_slash rest in
-    let w = all_last (slice_split is_dot front) (some_piece front) (words front (before_lacks rest)) in
-    record { selectors_are = full_words (but_last (slice_split is_dot front)) w.0; extension_is = w.1; suffix_is = rest_slashed rest }
+    let leading = before_first is_slash rest in
+    let w = all_last (slice_split is_dot leading) (some_piece leading) (words leading (before_lacks rest)) in
+    record { selectors_are = full_words (but_last (slice_split is_dot leading)) w.0; extension_is = w.1; suffix_is = rest_slashed rest }
 
 -- ---- the parts of a decomposition
 
@@ -176,7 +176,7 @@ parts_spell spelled known text parts split =
     let rest = drop split.at text in (
       rest,
       sym (take-append-drop split.at text) ∙ ap (λ t. t ++ rest) (sym (spelled (take split.at text) parts.path split.leads.reads)),
-      spelled_after rest parts (cut_behind text split.at split.leads.cut) split.selectors split.extension split.suffix,
+      spelled_after rest parts (cut_after text split.at split.leads.cut) split.selectors split.extension split.suffix,
     )
 
 pub selectors_are : (known : List (List ℕ) → Bool) (text : List ℕ) (parts : Parts) → IsSplit known text parts → list_all (λ piece. is_full piece && is_word piece) parts.selectors ≡ true

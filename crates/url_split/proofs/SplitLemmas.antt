@@ -15,8 +15,8 @@ is_test b c e = grind (arith, nat_tests)
 not_test : (b c : ℕ) → b ≢ c → (b == c) ≡ false
 not_test b c e = grind (arith, nat_tests)
 
-pub cut_front : (text : List ℕ) (k : ℕ) → k < length text → get_or text k 0 ≡ 47 → ((i : ℕ) → i < k → get_or text i 0 ≢ 47) → take k text ≡ before_first is_slash text
-cut_front text k lt here before =
+pub cut_prefix : (text : List ℕ) (k : ℕ) → k < length text → get_or text k 0 ≡ 47 → ((i : ℕ) → i < k → get_or text i 0 ≢ 47) → take k text ≡ before_first is_slash text
+cut_prefix text k lt here before =
     ap (λ n. take n text) (sym (position_or_len_is is_slash text k 0 (omega arith) (λ i less. not_test (get_or text i 0) 47 (before i less)) (λ _. is_test (get_or text k 0) 47 here)))
 
 pub cut_whole : (text : List ℕ) → ((i : ℕ) → i < length text → get_or text i 0 ≢ 47) → text ≡ before_first is_slash text
@@ -24,8 +24,8 @@ cut_whole text none =
     sym (take_all (length text) text (omega arith))
     ∙ ap (λ n. take n text) (sym (position_or_len_is is_slash text (length text) 0 (omega arith) (λ i less. not_test (get_or text i 0) 47 (none i less)) (λ lt. absurd (omega (arith, lt)))))
 
-pub behind_none : (rest : List ℕ) → IsAfterPath rest → ((more : List ℕ) → rest ≢ 46 ∷ more) → rest ≡ []
-behind_none rest b none = ⊎_elim (λ e. e) (λ p. absurd (none p.0 p.1)) b
+pub after_none : (rest : List ℕ) → IsAfterPath rest → ((more : List ℕ) → rest ≢ 46 ∷ more) → rest ≡ []
+after_none rest b none = ⊎_elim (λ e. e) (λ p. absurd (none p.0 p.1)) b
 
 pub no_more : (text : List ℕ) (k : ℕ) → length text ≤ k → drop k text ≡ []
 no_more [] zero h = refl
@@ -34,8 +34,8 @@ no_more (b ∷ text) zero h = absurd (omega (arith, h))
 no_more (b ∷ text) (suc k) h = no_more text k (omega (arith, h))
 
 -- at a cut the rest begins with a dot, or is nothing
-pub cut_behind : (text : List ℕ) (k : ℕ) → IsCut text k → IsAfterPath (drop k text)
-cut_behind text k c = ⊎_elim
+pub cut_after : (text : List ℕ) (k : ℕ) → IsCut text k → IsAfterPath (drop k text)
+cut_after text k c = ⊎_elim
     (λ e. inl (no_more text k (omega (arith, e))))
     (λ p. inr (drop (suc k) text, drop-cons text k 0 p.0 ∙ ap (λ b. b ∷ drop (suc k) text) p.1))
     c
@@ -44,10 +44,10 @@ get_or-take-lt : (text : List ℕ) (n i : ℕ) → i < n → get_or (take n text
 get_or-take-lt text n i lt = get_or-take n text i 0 lt
 
 -- the next cut from the end: the last dot of a prefix
-pub next_cut : (known : List (List ℕ) → Bool) (text front : List ℕ) (at : ℕ) → front ≡ take (length front) text → length front ≤ length text
-    → at < length front → get_or front at 0 ≡ 46 → IsCut text at
-next_cut known text front at is within lt dot =
-    let same : get_or text at 0 ≡ 46 = sym (get_or-take-lt text (length front) at lt) ∙ ap (λ t. get_or t at 0) (sym is) ∙ dot in
+pub next_cut : (known : List (List ℕ) → Bool) (text leading : List ℕ) (at : ℕ) → leading ≡ take (length leading) text → length leading ≤ length text
+    → at < length leading → get_or leading at 0 ≡ 46 → IsCut text at
+next_cut known text leading at is within lt dot =
+    let same : get_or text at 0 ≡ 46 = sym (get_or-take-lt text (length leading) at lt) ∙ ap (λ t. get_or t at 0) (sym is) ∙ dot in
     inr (omega arith, same)
 
 -- the last piece, and those before it, read off a list of references
@@ -62,5 +62,5 @@ pub some_piece : {A : Type 0} (f : A → List ℕ) (xs : List A) (text : List �
 some_piece f xs text e =
     omega (arith, ap length e, length-map xs f, length-slice_split is_dot text)
 
-pub suffix_is : (rest front suffix : List ℕ) → rest ≡ front ++ suffix → suffix ≡ drop (length front) rest
-suffix_is rest front suffix e = sym (ap (drop (length front)) e ∙ drop_at front suffix (length front) refl)
+pub suffix_is : (rest leading suffix : List ℕ) → rest ≡ leading ++ suffix → suffix ≡ drop (length leading) rest
+suffix_is rest leading suffix e = sym (ap (drop (length leading)) e ∙ drop_at leading suffix (length leading) refl)

@@ -277,26 +277,26 @@ AreSlashed = (path : List (List ℕ)) (n : ℕ) → 0 < n → length (text_of (t
 whole_text : (text rest : List ℕ) → text ≡ 47 ∷ rest → spelling_of (pieces rest) ≡ 47 ∷ rest → text_of (pieces rest) ≡ text
 whole_text text rest is spells = text_spelled (pieces rest) (omega (arith, ap length spells)) ∙ spells ∙ sym is
 
-pub front_is : (text rest : List ℕ) (end : ℕ) → text ≡ 47 ∷ rest → spelling_of (pieces rest) ≡ 47 ∷ rest → AreFirstTexts → (fit : IsFitEnd (pieces rest) end) → 0 < end → take end text ≡ text_of (take fit.many (pieces rest))
-front_is text rest end is spells first fit some =
-    let front = take fit.many (pieces rest) in
-    let size : length (text_of front) ≡ end = ap length (text_spelled front (omega (arith, fit.bytes, some))) ∙ sym fit.bytes in
+pub prefix_is : (text rest : List ℕ) (end : ℕ) → text ≡ 47 ∷ rest → spelling_of (pieces rest) ≡ 47 ∷ rest → AreFirstTexts → (fit : IsFitEnd (pieces rest) end) → 0 < end → take end text ≡ text_of (take fit.many (pieces rest))
+prefix_is text rest end is spells first fit some =
+    let leading = take fit.many (pieces rest) in
+    let size : length (text_of leading) ≡ end = ap length (text_spelled leading (omega (arith, fit.bytes, some))) ∙ sym fit.bytes in
     ap (λ t. take end t) (sym (whole_text text rest is spells)) ∙ ap (λ n. take n (text_of (pieces rest))) (sym size) ∙ sym (first (pieces rest) fit.many (some_many (pieces rest) fit.many end fit.bytes some))
 
 -- a slash follows it, unless it is the whole text
-pub front_slash : (text rest : List ℕ) (end : ℕ) → text ≡ 47 ∷ rest → spelling_of (pieces rest) ≡ 47 ∷ rest → AreSlashed → (fit : IsFitEnd (pieces rest) end) → 0 < end → end < length text → get_or text end 0 ≡ 47
-front_slash text rest end is spells slash fit some less =
-    let front = take fit.many (pieces rest) in
-    let size : length (text_of front) ≡ end = ap length (text_spelled front (omega (arith, fit.bytes, some))) ∙ sym fit.bytes in
+pub prefix_slash : (text rest : List ℕ) (end : ℕ) → text ≡ 47 ∷ rest → spelling_of (pieces rest) ≡ 47 ∷ rest → AreSlashed → (fit : IsFitEnd (pieces rest) end) → 0 < end → end < length text → get_or text end 0 ≡ 47
+prefix_slash text rest end is spells slash fit some less =
+    let leading = take fit.many (pieces rest) in
+    let size : length (text_of leading) ≡ end = ap length (text_spelled leading (omega (arith, fit.bytes, some))) ∙ sym fit.bytes in
     let whole = whole_text text rest is spells in
     ap (λ t. get_or t end 0) (sym whole) ∙ ap (λ n. get_or (text_of (pieces rest)) n 0) (sym size)
     ∙ slash (pieces rest) fit.many (some_many (pieces rest) fit.many end fit.bytes some) (omega (arith, size, less, ap length whole))
 
-pub front_within : (text rest : List ℕ) (end : ℕ) → text ≡ 47 ∷ rest → spelling_of (pieces rest) ≡ 47 ∷ rest → AreFirstTexts → (fit : IsFitEnd (pieces rest) end) → 0 < end → end ≤ length text
-front_within text rest end is spells first fit some =
-    let front = take fit.many (pieces rest) in
-    let size : length (text_of front) ≡ end = ap length (text_spelled front (omega (arith, fit.bytes, some))) ∙ sym fit.bytes in
-    omega (arith, size, ap length (front_is text rest end is spells first fit some), length-take end text)
+pub prefix_within : (text rest : List ℕ) (end : ℕ) → text ≡ 47 ∷ rest → spelling_of (pieces rest) ≡ 47 ∷ rest → AreFirstTexts → (fit : IsFitEnd (pieces rest) end) → 0 < end → end ≤ length text
+prefix_within text rest end is spells first fit some =
+    let leading = take fit.many (pieces rest) in
+    let size : length (text_of leading) ≡ end = ap length (text_spelled leading (omega (arith, fit.bytes, some))) ∙ sym fit.bytes in
+    omega (arith, size, ap length (prefix_is text rest end is spells first fit some), length-take end text)
 
 slash_is : (b : ℕ) → is_slash b ≡ true → b ≡ 47
 slash_is b e = grind (arith, nat_tests)

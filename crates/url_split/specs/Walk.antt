@@ -28,9 +28,9 @@ pub record IsBeforeSlash (n : ℕ) (text start : List ℕ) : Type 0 where
 
 -- a text whose last bytes, more than a segment has, have no slash
 pub record EndsInLong (text : List ℕ) : Type 0 where
-  pub front : List ℕ
+  pub leading : List ℕ
   pub long : List ℕ
-  pub text_is : text ≡ front ++ long
+  pub text_is : text ≡ leading ++ long
   pub one_piece : has_slash long ≡ false
   pub too_long : is_long long ≡ true
 

@@ -7,15 +7,15 @@ use std::alloc::{AllocError, Global};
 
 const TIMES: usize = 100_000;
 
-fn repeated(alloc: Global, front: &str, piece: &str, end: &str) -> Result<String, AllocError> {
-    let mut text = String::from_str(alloc, front)?;
+fn repeated(alloc: Global, prefix: &str, piece: &str, end: &str) -> Result<String, AllocError> {
+    let mut text = String::from_str(alloc, prefix)?;
     text.push_str(piece.repeat(alloc, TIMES)?.as_str())?;
     text.push_str(end)?;
     Ok(text)
 }
 
-fn read(alloc: Global, front: &str, piece: &str, end: &str) -> Result<Expr, Failed> {
-    let text = repeated(alloc, front, piece, end)?;
+fn read(alloc: Global, prefix: &str, piece: &str, end: &str) -> Result<Expr, Failed> {
+    let text = repeated(alloc, prefix, piece, end)?;
     Ok(Expr::read(alloc, text.as_str())?)
 }
 
@@ -34,8 +34,8 @@ const LONG: &[(&str, &str, &str, &str)] = &[
 ];
 
 fn expressions_are_printed(alloc: Global, scope: &Scope<'_>) -> Result<bool, Failed> {
-    for (front, piece, end, wanted) in LONG {
-        let e = read(alloc, *front, *piece, *end)?;
+    for (prefix, piece, end, wanted) in LONG {
+        let e = read(alloc, *prefix, *piece, *end)?;
         if !is_printed(alloc, scope, &e, *wanted)? {
             return Ok(false);
         }

@@ -28,7 +28,7 @@ write_kids-loop-name-preserved t c =
     let name = c.name-item.result in
     let old = c.args.writer.now in
     let mid = c.loop-name.writer in
-    let front = kid_tokens tree path (take i names) in
+    let prefix = kid_tokens tree path (take i names) in
     let items = c.as_slice-name-items.result.now in
     let same = c.as_slice-name-items.ensures in
     let place = c.in_ok-kid.ensures ∙ ap (kid path) c.text.ensures in
@@ -38,8 +38,8 @@ write_kids-loop-name-preserved t c =
           let new = w.write_node.new.writer in
           let js = json_tokens (whole_at tree (kid path name)) in
           let below : Adds w.key.new.self new js = subst (λ p. Adds w.key.new.self new (json_tokens (whole_at tree p))) place w.in_ok-write_node.ensures.tokens in
-          let written : Adds old new (front ++ (Token.key name ∷ js)) =
-          more old mid new front (Token.key name ∷ js) c.loop-name.invariant.0
+          let written : Adds old new (prefix ++ (Token.key name ∷ js)) =
+          more old mid new prefix (Token.key name ∷ js) c.loop-name.invariant.0
           (more mid w.key.new.self new (Token.key name ∷ []) js (token mid w.key.new.self (Token.key name) key w.in_ok-key.ensures.room.0) below) in (
             subst (λ end. Adds old end (kid_tokens tree path (take (i + 1) names))) (sym w.writer-is)
                 (subst (Adds old new) (sym (kids_more tree path items names i name same (omega arith) c.name-item.is)) written),

@@ -20,7 +20,7 @@ returns c =
     ] in
     let adds = walked.0 in
     let before : end.before ≡ [] = adds.before ∙ c.new-writer.ensures.before ∙ c.new.ensures.items in
-    let bytes : c.from.result ≡ print end.tokens = c.from.ensures ∙ c.into_inner.ensures.items ∙ ap (λ (front : List ℕ). front ++ print end.tokens) before in
+    let bytes : c.from.result ≡ print end.tokens = c.from.ensures ∙ c.into_inner.ensures.items ∙ ap (λ (prefix : List ℕ). prefix ++ print end.tokens) before in
     let all : end.tokens ≡ json_tokens (whole_at tree []) = adds.tokens ∙ ap (λ ts. ts ++ json_tokens (whole_at tree [])) c.new-writer.ensures.tokens in
     record {
       value = bytes ∙ text_is tree start end c.new-writer.ensures.tokens adds;

@@ -1,17 +1,17 @@
 use Rattle.std.proofs.Common.{◌≡◌, ◌≤◌, ◌+◌, lit<, ◌∙◌, sym, ap, arith, drop, length, Some, None}
 use Rattle.std.proofs.lemmas.Str.Pattern.{find_char}
 use Rattle.dispatch_rules.specs.UrlParts.{stem}
-use Rattle.dispatch_rules.proofs.CutLemmas.{cut_at, uncut, front_length, none_left}
+use Rattle.dispatch_rules.proofs.CutLemmas.{cut_at, uncut, prefix_length, none_left}
 use Rattle.dispatch_rules.proofs.url_parts.after_dot.Goals as goal
 
 pub returns-in-Some : goal.returns-in-Some
 returns-in-Some c =
     let h = find_char 46 c.args.text.now (Some c.in-Some.at) c.in-Some.ensures.cases (lit< tt) in
-    let size : length (stem c.args.text.now) ≡ c.in-Some.at = front_length 46 c.args.text.now c.in-Some.at (omega (arith, h.0)) (cut_at 46 c.args.text.now c.in-Some.at h.0 h.1 h.2) in
+    let size : length (stem c.args.text.now) ≡ c.in-Some.at = prefix_length 46 c.args.text.now c.in-Some.at (omega (arith, h.0)) (cut_at 46 c.args.text.now c.in-Some.at h.0 h.1 h.2) in
     c.range_from.ensures.value ∙ ap (λ n. drop (n + 1) c.args.text.now) (sym size)
 
 pub returns-in-None : goal.returns-in-None
 returns-in-None c =
     let none = uncut 46 c.args.text.now (find_char 46 c.args.text.now None c.in-None.ensures.cases (lit< tt)) in
-    let size : length (stem c.args.text.now) ≡ length c.args.text.now = front_length 46 c.args.text.now (length c.args.text.now) (omega arith) none in
+    let size : length (stem c.args.text.now) ≡ length c.args.text.now = prefix_length 46 c.args.text.now (length c.args.text.now) (omega arith) none in
     sym (none_left c.args.text.now (length (stem c.args.text.now) + 1) (omega (arith, size)))

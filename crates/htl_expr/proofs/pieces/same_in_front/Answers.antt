@@ -2,7 +2,7 @@ use Rattle.std.proofs.Common.{◌<◌, length, arith, sym, ◌∙◌}
 use Rattle.std.proofs.lemmas.List.{length-map}
 use Rattle.htl_expr.specs.Pieces.{item_piece_text, piece_texts}
 use Rattle.htl_expr.proofs.PieceLemmas.{agree_more}
-use Rattle.htl_expr.proofs.pieces.same_in_front.Goals as goal
+use Rattle.htl_expr.proofs.pieces.same_in_prefix.Goals as goal
 
 pub loop-place-preserved : goal.loop-place-preserved
 loop-place-preserved c =

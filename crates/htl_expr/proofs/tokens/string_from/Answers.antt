@@ -1,6 +1,6 @@
 use Rattle.std.proofs.Common.{◌∙◌, sym, ap, rules, string_bytes, List, ℕ, ◌++◌}
 use Rattle.sp_base.specs.Bytes.{begins_with_byte}
-use Rattle.htl_expr.proofs.Scan.{front_ascii}
+use Rattle.htl_expr.proofs.Scan.{prefix_ascii}
 use Rattle.htl_expr.proofs.Strings.{plain_boundary, closes_is, stops_is, escape_fails, escape_is, escape_less}
 use Rattle.htl_expr.proofs.tokens.string_from.Goals as goal
 
@@ -9,7 +9,7 @@ split_at-requires c = rw (c.plain_len.ensures, c.as_bytes.ensures.value) (plain_
 
 pub returns-then-begins_with_byte : goal.returns-then-begins_with_byte
 returns-then-begins_with_byte c =
-    rw (c.from.ensures, c.behind.ensures)
+    rw (c.from.ensures, c.remainder.ensures)
     (closes_is c.args.mark c.plain_len.result _ _ c.loop-found.rest.now _ _ _ (rw c.as_bytes.ensures.value at c.plain_len.ensures) c.split_at.ensures.front c.split_at.ensures.back c.in_ok-push_str.ensures.bytes c.loop-found.invariant.1 (sym c.if-begins_with_byte.ensures))
 
 pub returns-then-not-begins_with_byte : goal.returns-then-not-begins_with_byte
@@ -17,7 +17,7 @@ returns-then-not-begins_with_byte c =
     stops_is c.args.mark c.plain_len.result _ _ c.loop-found.rest.now _ _ _ (rw c.as_bytes.ensures.value at c.plain_len.ensures) c.split_at.ensures.front c.split_at.ensures.back c.in_ok-push_str.ensures.bytes c.loop-found.invariant.1 (sym c.if-begins_with_byte.ensures) (sym c.if-not-begins_with_byte.ensures)
 
 pub tail-requires : goal.tail-requires
-tail-requires c = front_ascii 92 c.split_at.result.1.now (search rules) (sym c.if-not-begins_with_byte.ensures)
+tail-requires c = prefix_ascii 92 c.split_at.result.1.now (search rules) (sym c.if-not-begins_with_byte.ensures)
 
 pub returns-in_err-c : goal.returns-in_err-c
 returns-in_err-c c =

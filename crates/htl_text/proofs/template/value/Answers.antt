@@ -1,5 +1,5 @@
 use Rattle.std.proofs.Common.{sym}
-use Rattle.htl_text.proofs.Steps.{opens_first, opens_second, opens_less, closing_boundary, closing_front}
+use Rattle.htl_text.proofs.Steps.{opens_first, opens_second, opens_less, closing_boundary, closing_prefix}
 use Rattle.htl_text.proofs.template.value.Goals as goal
 
 pub tail-requires : goal.tail-requires
@@ -16,7 +16,7 @@ split_at-requires c =
 pub tail-requires-in-Ok : goal.tail-requires-in-Ok
 tail-requires-in-Ok c =
     let there = sym c.in-Some.ensures in
-    rw c.split_at.ensures.back (closing_front c.tail-inside.result.now c.in-Some.len (rw c.as_bytes.ensures.value at there))
+    rw c.split_at.ensures.back (closing_prefix c.tail-inside.result.now c.in-Some.len (rw c.as_bytes.ensures.value at there))
 
 pub returns-in-Ok-clause-less : goal.returns-in-Ok-clause-less
 returns-in-Ok-clause-less c = rw (c.tail-in-Ok.ensures, c.split_at.ensures.back, c.tail-inside.ensures, c.tail.ensures) (opens_less c.in-Some.len c.args.text.now c.requires)

@@ -9,15 +9,15 @@ pub loop-left-preserved : goal.loop-left-preserved
 loop-left-preserved c =
     let html = c.args.html in
     let left = c.loop-left.left in
-    let front = c.loop-left.list.items in
+    let prefix = c.loop-left.list.items in
     let fewer = with_selectors html (left - 1) in
     elim c.if-html.branch [
       | then-html+in_ok-push-2 w ↦
           ap (λ list. list.items ++ fewer) w.list-is ∙ ap (λ xs. xs ++ fewer) w.in_ok-push-2.ensures.items ∙ ap (λ xs. (xs ++ Selectors left ∷ []) ++ fewer) c.in_ok-push.ensures.items
-          ∙ with_both html front left w.if-html.true (omega arith) ∙ c.loop-left.invariant
+          ∙ with_both html prefix left w.if-html.true (omega arith) ∙ c.loop-left.invariant
       | else-html w ↦
           ap (λ list. list.items ++ fewer) w.list-is ∙ ap (λ xs. xs ++ fewer) c.in_ok-push.ensures.items
-          ∙ with_one html front left w.if-html.false (omega arith) ∙ c.loop-left.invariant
+          ∙ with_one html prefix left w.if-html.false (omega arith) ∙ c.loop-left.invariant
     ]
 
 pub returns : goal.returns

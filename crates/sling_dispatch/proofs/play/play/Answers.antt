@@ -30,20 +30,20 @@ loop-rest-preserved g c =
     let old = g.K.Sink.held c.args.sink.now in
     let mid = g.K.Sink.held l.sink in
     let before = BoardStands sling_publisher l.front.renderer.publisher l.front.farm l.front.board in
-    let behind = BoardStands sling_publisher c.event_of.new.front.renderer.publisher c.event_of.new.front.farm c.event_of.new.front.board in
+    let remainder = BoardStands sling_publisher c.event_of.new.front.renderer.publisher c.event_of.new.front.farm c.event_of.new.front.board in
     let text = c.in-Ok-event_of.text.items in
     let after = c.in-Ok-event_of.after.now in
-    let made : IsNext before behind (asked_publisher_host c.args.farm) l.rest.now after (l.event + 1) text
-    = subst (λ host. IsNext before behind host l.rest.now after (l.event + 1) text) (c.deref.ensures.value ∙ l.invariant.asked) c.in-Ok-event_of.ensures in
+    let made : IsNext before remainder (asked_publisher_host c.args.farm) l.rest.now after (l.event + 1) text
+    = subst (λ host. IsNext before remainder host l.rest.now after (l.event + 1) text) (c.deref.ensures.value ∙ l.invariant.asked) c.in-Ok-event_of.ensures in
     let next = played_next c.events_extend.ensures.run c.events_extend.ensures.state c.acts_are_told_by_their_lines.ensures.first c.args.publisher c.args.farm acts l.rest.now after
-    l.event before behind old mid l.gathered.items text l.invariant.played made in
+    l.event before remainder old mid l.gathered.items text l.invariant.played made in
     let e = c.in_default-gather.ensures.ok in
     let same = ap (λ t. l.gathered.items ++ t) c.deref-in-loop-rest.ensures.value in
     record {
-      played = played_sent c.args.publisher c.args.farm acts after (l.event + 1) behind old mid (g.K.Sink.held c.gather.new.sink)
+      played = played_sent c.args.publisher c.args.farm acts after (l.event + 1) remainder old mid (g.K.Sink.held c.gather.new.sink)
           (l.gathered.items ++ text) e.0 c.gather.new.gathered.items next e.1 (e.2 ∙ same);
       not_failed = c.in_default-gather.ensures.cause ∙ l.invariant.not_failed;
-      counted = omega (arith, l.invariant.counted, next_shorter before behind (asked_publisher_host c.args.farm) l.rest.now after (l.event + 1) text made);
+      counted = omega (arith, l.invariant.counted, next_shorter before remainder (asked_publisher_host c.args.farm) l.rest.now after (l.event + 1) text made);
       asked = c.in-Ok.ensures;
     }
 
@@ -67,19 +67,19 @@ returns-in-Err g c =
     let old = g.K.Sink.held c.args.sink.now in
     let mid = g.K.Sink.held l.sink in
     let before = BoardStands sling_publisher l.front.renderer.publisher l.front.farm l.front.board in
-    let behind = BoardStands sling_publisher c.event_of.new.front.renderer.publisher c.event_of.new.front.farm c.event_of.new.front.board in
+    let remainder = BoardStands sling_publisher c.event_of.new.front.renderer.publisher c.event_of.new.front.farm c.event_of.new.front.board in
     let text = c.in-Ok-event_of.text.items in
     let after = c.in-Ok-event_of.after.now in
     let sink = told_of old (g.K.Sink.held c.gather.new.sink) (g.K.Sink.faults c.args.sink.now) (g.K.Sink.faults c.gather.new.sink) in
-    let made : IsNext before behind (asked_publisher_host c.args.farm) l.rest.now after (l.event + 1) text
-    = subst (λ host. IsNext before behind host l.rest.now after (l.event + 1) text) (c.deref.ensures.value ∙ l.invariant.asked) c.in-Ok-event_of.ensures in
+    let made : IsNext before remainder (asked_publisher_host c.args.farm) l.rest.now after (l.event + 1) text
+    = subst (λ host. IsNext before remainder host l.rest.now after (l.event + 1) text) (c.deref.ensures.value ∙ l.invariant.asked) c.in-Ok-event_of.ensures in
     let next = played_next c.events_extend.ensures.run c.events_extend.ensures.state c.acts_are_told_by_their_lines.ensures.first c.args.publisher c.args.farm acts l.rest.now after
-    l.event before behind old mid l.gathered.items text l.invariant.played made in
+    l.event before remainder old mid l.gathered.items text l.invariant.played made in
     let e = c.in-Err.ensures.err in
     let same = ap (λ t. l.gathered.items ++ t) c.deref-in-loop-rest.ensures.value in
     let cause = subst (λ n. HasSinkCause {T = Unit {0}} n (g.K.Sink.faults c.gather.new.sink) (Err c.in-Err.fault)) l.invariant.not_failed c.in-Err.ensures.cause in
     subst (λ x. PlaysAll c.args.publisher c.args.farm acts x sink) (sym c.ending_by.ensures)
-    (broken_off c.args.publisher c.args.farm acts after (l.event + 1) e.0 behind mid (l.gathered.items ++ text) c.in-Err.fault sink next (e.1 ∙ ap (λ t. held_after mid (take e.0 t)) same) cause)
+    (broken_off c.args.publisher c.args.farm acts after (l.event + 1) e.0 remainder mid (l.gathered.items ++ text) c.in-Err.fault sink next (e.1 ∙ ap (λ t. held_after mid (take e.0 t)) same) cause)
 
 pub returns : goal.returns
 returns g c =

@@ -1,6 +1,6 @@
 use Rattle.std.proofs.Common.{◌+◌, ◌-◌, ◌/◌, ◌<◌, length, sym, ◌∙◌, ap, arith, List, ℕ}
 use Rattle.sp_base.specs.Properties.{by_name}
-use Rattle.sp_base.proofs.PropertyLemmas.{found_at, before_more, behind_from}
+use Rattle.sp_base.proofs.PropertyLemmas.{found_at, before_more, after_from}
 use Rattle.sp_base.proofs.property_list.place_of.Goals as goal
 
 pub returns-in-Equal-clause-found : goal.returns-in-Equal-clause-found
@@ -18,7 +18,7 @@ loop-low-preserved-in-Less c =
       ordered = omega arith;
       within = omega (arith, lt);
       before = c.loop-low.invariant.before;
-      behind = behind_from c.args.name.now c.args.props.now middle c.index-props-middle.result c.requires lt c.index-props-middle.is
+      remainder = after_from c.args.name.now c.args.props.now middle c.index-props-middle.result c.requires lt c.index-props-middle.is
           (ap (by_name c.args.name.now) (ap (λ (p : List ℕ × _). p.0) c.index-props-middle.is ∙ sym c.text.ensures) ∙ sym c.in-Less.ensures);
     }
 
@@ -31,5 +31,5 @@ loop-low-preserved c =
       within = c.loop-low.invariant.within;
       before = before_more c.args.name.now c.args.props.now middle c.index-props-middle.result c.requires lt c.index-props-middle.is
           (ap (by_name c.args.name.now) (ap (λ (p : List ℕ × _). p.0) c.index-props-middle.is ∙ sym c.text.ensures) ∙ sym c.in-Greater.ensures);
-      behind = c.loop-low.invariant.behind;
+      remainder = c.loop-low.invariant.remainder;
     }

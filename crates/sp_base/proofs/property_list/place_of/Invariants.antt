@@ -9,7 +9,7 @@ invariant-loop-low l = record {
   ordered : l.low ≤ l.high;
   within : l.high ≤ length l.props;
   before : all_before l.name (take l.low l.props);
-  behind : T (below_all by_name l.name (drop l.high l.props));
+  remainder : T (below_all by_name l.name (drop l.high l.props));
 }
 
 abbrev pub decreases-loop-low : goal.decreases-loop-low

@@ -8,8 +8,8 @@ use Rattle.sp_base.proofs.segments.first_pieces.Goals as goal
 
 pub loop-piece-preserved : goal.loop-piece-preserved
 loop-piece-preserved c =
-    spelled-push c.loop-piece.yielded c.in-Some.piece (string_bytes c.loop-piece.front) (string_bytes c.push_str-in-loop-piece.new.self) c.loop-piece.invariant
-    (c.in_ok-push_str-2.ensures.bytes ∙ ap (λ front. front ++ c.in-Some.piece.now) c.in_ok-push_str.ensures.bytes)
+    spelled-push c.loop-piece.yielded c.in-Some.piece (string_bytes c.loop-piece.leading) (string_bytes c.push_str-in-loop-piece.new.self) c.loop-piece.invariant
+    (c.in_ok-push_str-2.ensures.bytes ∙ ap (λ leading. leading ++ c.in-Some.piece.now) c.in_ok-push_str.ensures.bytes)
 
 pub returns : goal.returns
 returns c =

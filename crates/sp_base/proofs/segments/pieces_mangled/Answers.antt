@@ -9,7 +9,7 @@ use Rattle.sp_base.proofs.segments.pieces_mangled.Goals as goal
 pub loop-piece-preserved : goal.loop-piece-preserved
 loop-piece-preserved c =
     mangled-push c.loop-piece.yielded c.in-Some.piece (string_bytes c.loop-piece.spelling) (string_bytes c.add_both.new.text) c.loop-piece.invariant
-    (c.in_ok-add_both.ensures ∙ ap (λ (front : List ℕ). front ++ (c.mangled_parts.result.0.now ++ c.mangled_parts.result.1.now)) c.in_ok-push_str.ensures.bytes
+    (c.in_ok-add_both.ensures ∙ ap (λ (leading : List ℕ). leading ++ (c.mangled_parts.result.0.now ++ c.mangled_parts.result.1.now)) c.in_ok-push_str.ensures.bytes
     ∙ ap (λ (back : List ℕ). (string_bytes c.loop-piece.spelling ++ 47 ∷ []) ++ back) c.mangled_parts.ensures)
 
 pub returns : goal.returns

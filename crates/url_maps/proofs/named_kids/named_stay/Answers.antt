@@ -7,6 +7,6 @@ pub returns : goal.returns
 returns c = λ stay.
     let tree = c.args.tree.now in
     let path = c.args.path.now in
-    let n = c.same_first-front.result in
-    alike_after tree path n c.args.names.now c.args.others.now c.same_first-front.ensures
+    let n = c.same_first-common.result in
+    alike_after tree path n c.args.names.now c.args.others.now c.same_first-common.ensures
     (ap (aliased_kids tree path) (sym (rest_is n c.args.names.now)) ∙ c.in_ok-stay_after.ensures stay ∙ ap (aliased_kids tree path) (rest_is n c.args.others.now))

@@ -3,20 +3,20 @@ use Rattle.std.proofs.Common.{take, get_or, ◌-◌, ◌≡◌, ◌==◌, List, 
 use Rattle.std.specs.List.{slice_split}
 use Rattle.std.proofs.lemmas.Str.Pattern.{strip_prefix_char}
 use Rattle.url_split.specs.Split.{is_dot, selectors_of, extension_of, suffix_of, but_last, last_of}
-use Rattle.url_split.proofs.SplitLemmas.{behind_none, but_last-map, last-map, some_piece}
+use Rattle.url_split.proofs.SplitLemmas.{after_none, but_last-map, last-map, some_piece}
 use Rattle.url_split.proofs.decompose.parts_after.Goals as goal
 
 pub returns-in_default-clause-selectors : goal.returns-in_default-clause-selectors
 unfolding encode
-returns-in_default-clause-selectors c = c.new.ensures ∙ ap selectors_of (sym (behind_none c.args.rest.now c.requires c.in_default.ensures.cases))
+returns-in_default-clause-selectors c = c.new.ensures ∙ ap selectors_of (sym (after_none c.args.rest.now c.requires c.in_default.ensures.cases))
 
 pub returns-in_default-clause-extension : goal.returns-in_default-clause-extension
 unfolding encode
-returns-in_default-clause-extension c = c.in_ok-of.ensures ∙ ap extension_of (sym (behind_none c.args.rest.now c.requires c.in_default.ensures.cases))
+returns-in_default-clause-extension c = c.in_ok-of.ensures ∙ ap extension_of (sym (after_none c.args.rest.now c.requires c.in_default.ensures.cases))
 
 pub returns-in_default-clause-suffix : goal.returns-in_default-clause-suffix
 unfolding encode
-returns-in_default-clause-suffix c = c.in_ok-of-2.ensures ∙ ap suffix_of (sym (behind_none c.args.rest.now c.requires c.in_default.ensures.cases))
+returns-in_default-clause-suffix c = c.in_ok-of-2.ensures ∙ ap suffix_of (sym (after_none c.args.rest.now c.requires c.in_default.ensures.cases))
 
 pub returns-clause-selectors : goal.returns-clause-selectors
 returns-clause-selectors c =

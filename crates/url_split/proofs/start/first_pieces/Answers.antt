@@ -2,7 +2,7 @@ use Rattle.std.proofs.Common.{◌≡◌, ◌<◌, ◌-◌, Some, None, map, take
 use Rattle.std.proofs.lemmas.Str.Pattern.{strip_prefix_char}
 use Rattle.sp_base.specs.Paths.{path_of, pieces}
 use Rattle.url_split.specs.Walk.{IsFitEnd}
-use Rattle.url_split.proofs.StartLemmas.{front_is, front_slash, front_within, none_fit, one_path, parents_of_none, parents_of_pieces}
+use Rattle.url_split.proofs.StartLemmas.{prefix_is, prefix_slash, prefix_within, none_fit, one_path, parents_of_none, parents_of_pieces}
 use Rattle.url_split.proofs.start.first_pieces.Goals as goal
 
 pub returns-in_default : goal.returns-in_default
@@ -27,8 +27,8 @@ range-requires-clause-end_boundary c =
     let some : 0 < end = omega (arith, c.if-end-eq0.false) in
     let law = c.the_prefixes_of_a_path.ensures in
     let spells = c.segments_and_their_spelling.ensures.spelled rest in (
-      front_within text rest end is spells law.first fit some,
-      λ less high. absurd (omega (arith, high, front_slash text rest end is spells law.slash fit some less)),
+      prefix_within text rest end is spells law.first fit some,
+      λ less high. absurd (omega (arith, high, prefix_slash text rest end is spells law.slash fit some less)),
     )
 
 pub path_in-requires : goal.path_in-requires
@@ -40,9 +40,9 @@ path_in-requires c =
     let fit : IsFitEnd (pieces rest) end = subst (λ parts. IsFitEnd parts end) (ap (map (λ piece. piece.now)) c.deref.ensures.value ∙ c.in_ok-pieces.ensures) c.fit_end-end.ensures in
     let some : 0 < end = omega (arith, c.if-end-eq0.false) in
     let zero_off : end - 0 ≡ end = omega arith in
-    let front : c.range.result.now ≡ take end text = c.range.ensures.value ∙ ap (λ n. take n text) zero_off in
-    let whole = front_is text rest end is (c.segments_and_their_spelling.ensures.spelled rest) c.the_prefixes_of_a_path.ensures.first fit some in
-    (take fit.many (pieces rest), ap path_of (front ∙ whole) ∙ c.a_path_and_its_text.ensures.read (take fit.many (pieces rest)) fit.fit)
+    let leading : c.range.result.now ≡ take end text = c.range.ensures.value ∙ ap (λ n. take n text) zero_off in
+    let whole = prefix_is text rest end is (c.segments_and_their_spelling.ensures.spelled rest) c.the_prefixes_of_a_path.ensures.first fit some in
+    (take fit.many (pieces rest), ap path_of (leading ∙ whole) ∙ c.a_path_and_its_text.ensures.read (take fit.many (pieces rest)) fit.fit)
 
 pub returns : goal.returns
 returns c =
@@ -53,8 +53,8 @@ returns c =
     let fit : IsFitEnd (pieces rest) end = subst (λ parts. IsFitEnd parts end) (ap (map (λ piece. piece.now)) c.deref.ensures.value ∙ c.in_ok-pieces.ensures) c.fit_end-end.ensures in
     let some : 0 < end = omega (arith, c.if-end-eq0.false) in
     let zero_off : end - 0 ≡ end = omega arith in
-    let front : c.range.result.now ≡ take end text = c.range.ensures.value ∙ ap (λ n. take n text) zero_off in
-    let whole = front_is text rest end is (c.segments_and_their_spelling.ensures.spelled rest) c.the_prefixes_of_a_path.ensures.first fit some in
-    let reads = ap path_of (front ∙ whole) ∙ c.a_path_and_its_text.ensures.read (take fit.many (pieces rest)) fit.fit in
+    let leading : c.range.result.now ≡ take end text = c.range.ensures.value ∙ ap (λ n. take n text) zero_off in
+    let whole = prefix_is text rest end is (c.segments_and_their_spelling.ensures.spelled rest) c.the_prefixes_of_a_path.ensures.first fit some in
+    let reads = ap path_of (leading ∙ whole) ∙ c.a_path_and_its_text.ensures.read (take fit.many (pieces rest)) fit.fit in
     let path = c.in_ok-path_in.field-0 in
     parents_of_pieces text rest path end is fit (one_path path (take fit.many (pieces rest)) (path_of c.range.result.now) c.in_ok-path_in.ensures reads) c.a_path_and_its_text.ensures.valid

@@ -2,7 +2,7 @@ use Rattle.std.proofs.Common.{◌≡◌, ◌≢◌, ◌∷◌, ◌∙◌, Ok, sy
 use Rattle.sp_base.specs.Paths.{path_or_fault, mangled_segs, mangled_of}
 use Rattle.sp_base.specs.PathTexts.{segs_in, spelling_of}
 use Rattle.sp_base.proofs.PathLemmas.{IfOk-from, IfErr-from}
-use Rattle.sp_base.proofs.PathText.{segs_behind, root_segs}
+use Rattle.sp_base.proofs.PathText.{segs_after, root_segs}
 use Rattle.sp_base.proofs.MangledLemmas.{mangled_in}
 use Rattle.sp_base.proofs.path.Path.mangled.Goals as goal
 
@@ -15,7 +15,7 @@ fault_in-requires c =
 
 made_of : (c : goal.After-made) → c.made.result ≡ mangled_of c.args.self.now
 made_of c =
-    let own = segs_behind (string_bytes c.self.inside.text) c.in-Some.rest.now (sym c.as_str.ensures.value ∙ c.in-Some.ensures.some) in
+    let own = segs_after (string_bytes c.self.inside.text) c.in-Some.rest.now (sym c.as_str.ensures.value ∙ c.in-Some.ensures.some) in
     c.made.ensures ∙ ap path_or_fault ((mangled_in (string_bytes c.in_ok-text-in-Some.text) c.in-Some.rest.now c.in_ok-text-in-Some.ensures).0
     ∙ ap mangled_segs (sym own ∙ c.self.view_is))
 

@@ -1,6 +1,6 @@
 use Rattle.std.proofs.Common.{◌∙◌, Option, Some, None, IfNone, IfSome, sym, ap}
 use Rattle.sp_base.specs.PathTexts.{spelling_of}
-use Rattle.sp_base.proofs.PathText.{segs_behind, root_segs}
+use Rattle.sp_base.proofs.PathText.{segs_after, root_segs}
 use Rattle.sp_base.proofs.path.Path.relative.Goals as goal
 
 IfSome-map : {A : Type 0} (o : Option A) (P Q : A → Type 0) → ((x : A) → P x → Q x) → IfSome o P → IfSome o Q
@@ -13,7 +13,7 @@ IfNone-map (Some x) P Q f h = tt
 
 pub returns-clause-some : goal.returns-clause-some
 returns-clause-some c =
-    IfSome-map c.after_slash.result _ _ (λ rest e. sym (segs_behind c.spelling.result.now rest.now e) ∙ c.spelling.ensures.segments) c.after_slash.ensures.some
+    IfSome-map c.after_slash.result _ _ (λ rest e. sym (segs_after c.spelling.result.now rest.now e) ∙ c.spelling.ensures.segments) c.after_slash.ensures.some
 
 pub returns-clause-none : goal.returns-clause-none
 returns-clause-none c =

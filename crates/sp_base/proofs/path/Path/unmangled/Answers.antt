@@ -2,13 +2,13 @@ use Rattle.std.proofs.Common.{◌≡◌, ◌≢◌, ◌∷◌, ◌∙◌, sym, a
 use Rattle.sp_base.specs.Paths.{unmangled_segs}
 use Rattle.sp_base.specs.PathTexts.{segs_in, spelling_of}
 use Rattle.sp_base.proofs.PathLemmas.{unmangled_path}
-use Rattle.sp_base.proofs.PathText.{segs_behind, segs_of, spells, root_segs}
+use Rattle.sp_base.proofs.PathText.{segs_after, segs_of, spells, root_segs}
 use Rattle.sp_base.proofs.path.Path.unmangled.Goals as goal
 
 text_is : (c : goal.In_ok-pieces_unmangled-in-Some) → string_bytes c.in_ok-pieces_unmangled-in-Some.field-0 ≡ spelling_of (unmangled_segs (segs_in (string_bytes c.self.inside.text)))
 text_is c =
     c.in_ok-pieces_unmangled-in-Some.ensures
-    ∙ ap (λ (segs : List (List ℕ)). spelling_of (unmangled_segs segs)) (sym (segs_behind (string_bytes c.self.inside.text) c.in-Some.rest.now (sym c.as_str.ensures.value ∙ c.in-Some.ensures.some)))
+    ∙ ap (λ (segs : List (List ℕ)). spelling_of (unmangled_segs segs)) (sym (segs_after (string_bytes c.self.inside.text) c.in-Some.rest.now (sym c.as_str.ensures.value ∙ c.in-Some.ensures.some)))
 
 pub invariant_of-result : goal.invariant_of-result
 invariant_of-result c =

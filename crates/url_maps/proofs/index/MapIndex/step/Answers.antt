@@ -1,7 +1,7 @@
 use Rattle.std.proofs.Common.{rules, ◌≡◌, ◌∙◌, ◌++◌, ℕ, List, Some, None, ap, subst, refl, length, drop}
 use Rattle.url_maps.specs.Search.{IsBest}
 use Rattle.url_maps.specs.Turns.{target_ending}
-use Rattle.url_maps.proofs.PairLemmas.{decides_here, front_cut, passed_all, passed_between, passed_prefix, shorter_prefix, within_text}
+use Rattle.url_maps.proofs.PairLemmas.{decides_here, prefix_cut, passed_all, passed_between, passed_prefix, shorter_prefix, within_text}
 use Rattle.url_maps.proofs.index.MapIndex.step.Goals as goal
 
 pub returns-in-Some : goal.returns-in-Some
@@ -36,7 +36,7 @@ loop-pair-preserved c =
     record {
       text = search rules;
       prefix = shorter_prefix text prefix front inv.prefix c.in-Some-shorter.ensures.1 c.in-Some-shorter.ensures.0;
-      cut = front_cut text prefix front inv.prefix within c.in-Some-shorter.ensures.0 c.in-Some-shorter.ensures.2;
+      cut = prefix_cut text prefix front inv.prefix within c.in-Some-shorter.ensures.0 c.in-Some-shorter.ensures.2;
       passed = passed_between tree host_node text prefix (length front) inv.prefix within passed c.in-Some-shorter.ensures.3;
     }
 

@@ -8,7 +8,7 @@ ghost use Rattle.htl_expr.specs.Tokens.{Gives};
 
 use crate::node::ExprNode;
 use crate::stop::ExprStop;
-use crate::tokens::{NameKind, begins_with_byte, remainder, expect, name, string};
+use crate::tokens::{NameKind, begins_with_byte, expect, name, remainder, string};
 use sp_base::{TextBuf, TextList};
 use sqlite_items::Boxed;
 use std::alloc::{AllocError, Global};

@@ -7,7 +7,7 @@ ghost use Rattle.htl_expr.specs.Tokens.{Gives};
 
 use crate::expression::Context;
 use crate::stop::ExprStop;
-use crate::tokens::{begins_with_byte, remainder, expect, is_quote, literal, skip, string, tail};
+use crate::tokens::{begins_with_byte, expect, is_quote, literal, remainder, skip, string, tail};
 use sp_base::TextBuf;
 use std::alloc::Global;
 

@@ -11,7 +11,8 @@ use crate::node::{Comparison, ExprNode};
 use crate::numbers::number;
 use crate::stop::ExprStop;
 use crate::tokens::{
-    NameKind, begins_with_byte, remainder, digit_at, expect, name, quote_at, second, skip, string, tail,
+    NameKind, begins_with_byte, digit_at, expect, name, quote_at, remainder, second, skip, string,
+    tail,
 };
 use sp_base::TextBuf;
 use sqlite_items::{Boxed, Items as NodeList};
@@ -59,7 +60,9 @@ fn word_of(word: TextBuf) -> ExprNode
 fn compares(text: &str) -> bool
     ensures { result ≡ spec.compares text.now }
 {
-    begins_with_byte(b'=', text) || (begins_with_byte(b'!', text) || (begins_with_byte(b'<', text) || begins_with_byte(b'>', text)))
+    begins_with_byte(b'=', text)
+        || (begins_with_byte(b'!', text)
+            || (begins_with_byte(b'<', text) || begins_with_byte(b'>', text)))
 }
 
 /// `<` or `<=`, `>` or `>=`.

@@ -2,9 +2,9 @@
 ghost use Rattle.std.specs.Prelude.{◌≡◌, IfOk};
 ghost use Rattle.publisher.specs.Errors.{answer_with_body, redirect};
 
+use location_field::location_of;
 use sp_base::{Answer, ByteBuf, Mark, Mem, TextBuf};
 use std::alloc::Global;
-use location_field::location_of;
 
 /// An answer with a media type and a body.
 pub(crate) fn answer_of(

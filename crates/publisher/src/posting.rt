@@ -8,12 +8,12 @@ ghost use Rattle.publisher.specs.Posting as spec;
 use crate::refusal::Refusal;
 use crate::targets::{PostTarget, target_of};
 use form_input::read_form;
+use location_field::location_of;
 use post_apply::{Planned, PostReport, patch_of};
 use post_plan::plan;
 use resource_tree::Tree;
 use sp_base::{Answer, Ask, ByteBuf, Mark, Mem, TextBuf};
 use std::alloc::Global;
-use location_field::location_of;
 
 fn or_bad_request(target: Option<PostTarget>) -> Result<PostTarget, Refusal>
     ensures ok { IfOk result (λ t. spec.or_bad_request target ≡ Ok t) }

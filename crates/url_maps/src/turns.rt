@@ -94,7 +94,7 @@ impl MapIndex {
                 }));
             }
             match shorter(prefix) {
-                Some(shorter) => prefix = shorter,
+                Some(cut) => prefix = cut,
                 None => return Ok(None),
             }
         }

@@ -28,16 +28,16 @@ loop-pair-preserved c =
     let host_node = c.args.host_node.now in
     let text = c.args.text.now in
     let prefix = c.loop-pair.prefix.now in
-    let front = c.in-Some-shorter.front.now in
+    let shorter = c.in-Some-shorter.cut.now in
     let inv = c.loop-pair.invariant in
     let within = within_text text prefix inv.prefix in
     let none = subst (λ (r : List ℕ). IsBest tree host_node prefix r None) c.range_from-rest.ensures.value (subst (IsBest tree host_node prefix c.range_from-rest.result.now) c.in_default.is c.in_ok-pair.ensures) in
     let passed = passed_prefix tree host_node text prefix inv.prefix none inv.passed in
     record {
       text = search rules;
-      prefix = shorter_prefix text prefix front inv.prefix c.in-Some-shorter.ensures.1 c.in-Some-shorter.ensures.0;
-      cut = prefix_cut text prefix front inv.prefix within c.in-Some-shorter.ensures.0 c.in-Some-shorter.ensures.2;
-      passed = passed_between tree host_node text prefix (length front) inv.prefix within passed c.in-Some-shorter.ensures.3;
+      prefix = shorter_prefix text prefix shorter inv.prefix c.in-Some-shorter.ensures.1 c.in-Some-shorter.ensures.0;
+      cut = prefix_cut text prefix shorter inv.prefix within c.in-Some-shorter.ensures.0 c.in-Some-shorter.ensures.2;
+      passed = passed_between tree host_node text prefix (length shorter) inv.prefix within passed c.in-Some-shorter.ensures.3;
     }
 
 pub returns-in-None : goal.returns-in-None

@@ -45,6 +45,10 @@ fn reads_paths(rt: HostRuntime) {
     for text in GOOD_PATHS {
         assert!(rt; matches!(reads_whole(rt.alloc(), *text), Ok(true)));
     }
+}
+
+#[test]
+fn refuses_paths(rt: HostRuntime) {
     for (text, fault) in BAD_PATHS {
         assert!(rt; fault_of(rt.alloc(), *text) == Some(*fault));
     }

@@ -70,10 +70,14 @@ const UNCLOSED: &[(&str, usize)] = &[("a${", 1), ("é${", 2), ("$$ \\${}${1}${",
 const BAD_EXPRESSIONS: &[(&str, usize)] = &[("a${1+}${", 1), ("${1}$${x y}", 5)];
 
 #[test]
-fn first_faults_are_found(rt: HostRuntime) {
+fn unclosed_expressions_are_refused(rt: HostRuntime) {
     for (text, place) in UNCLOSED {
         assert!(rt; unclosed(rt.alloc(), *text) == Some(*place));
     }
+}
+
+#[test]
+fn bad_expressions_are_refused(rt: HostRuntime) {
     for (text, place) in BAD_EXPRESSIONS {
         assert!(rt; bad_expression(rt.alloc(), *text) == Some(*place));
     }

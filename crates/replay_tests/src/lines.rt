@@ -110,6 +110,10 @@ fn lines_of_events(rt: HostRuntime) {
     for row in LINES.lines() {
         assert!(rt; is_line(rt.alloc(), row));
     }
+}
+
+#[test]
+fn lines_of_no_event(rt: HostRuntime) {
     for line in NO_LINES.lines() {
         assert!(rt; matches!(is_read(rt.alloc(), line, None), Ok(true)));
     }

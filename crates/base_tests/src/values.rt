@@ -4,6 +4,7 @@ use sp_base::{
     TextList, TruthList, Value, ValueFault,
 };
 use std::alloc::Global;
+use test_values::push_field;
 
 fn is_text(alloc: Global, path: &Path, wanted: &str) -> Mem<bool> {
     Ok(path.text(alloc)?.text() == wanted)
@@ -216,12 +217,6 @@ fn keeps_properties(alloc: Global) -> Mem<bool> {
 
 fn keeps_bytes(alloc: Global) -> Mem<bool> {
     Ok(ByteBuf::of(alloc, b"ab")?.bytes() == b"ab".as_slice())
-}
-
-fn push_field(alloc: Global, fields: &mut HeadList, name: &str, value: &[u8]) -> Mem<()> {
-    let name = TextBuf::of(alloc, name)?;
-    let value = ByteBuf::of(alloc, value)?;
-    fields.push((name, value))
 }
 
 fn keeps_fields(alloc: Global) -> Mem<bool> {

@@ -1,9 +1,10 @@
 //! A stream, answers and a target, through the public calls. Streams in each cutting, heads that are refused and limits are stored runs (examples/runs).
 use http_front::{InFault, Intake, Turn, answer_bytes, read_target};
-use sp_base::{Answer, ByteBuf, Mark, Mem, NoMemory, Path, TextBuf};
+use sp_base::{Mark, Mem, NoMemory, Path};
 use std::alloc::Global;
 use std::str::from_utf8;
 use std::test::Fail;
+use test_values::answer_of;
 
 fn name_of(fault: InFault) -> &'static str {
     match fault {
@@ -104,43 +105,26 @@ fn tells_one_list_of_turns_byte_by_byte(rt: HostRuntime) -> Result<(), Fail> {
     Ok(())
 }
 
-fn answer(
-    alloc: Global,
-    status: u16,
-    kind: &str,
-    location: &str,
-    mark: Mark,
-    body: &str,
-) -> Mem<Answer> {
-    Ok(Answer {
-        status,
-        kind: TextBuf::of(alloc, kind)?,
-        location: TextBuf::of(alloc, location)?,
-        mark,
-        body: ByteBuf::of(alloc, body.as_bytes())?,
-    })
-}
-
 #[test]
 fn writes_answers(rt: HostRuntime) -> Result<(), Fail> {
     let alloc = rt.alloc();
     let html = "text/html;charset=utf-8";
-    let page = answer(alloc, 200, html, "", Mark::Plain, "<h1>A &amp; B</h1>")?;
+    let page = answer_of(alloc, 200, html, "", Mark::Plain, "<h1>A &amp; B</h1>")?;
     let whole: &[u8] =
         b"HTTP/1.1 200 OK\r\nContent-Type: text/html;charset=utf-8\r\nContent-Length: 18\r\n\r\n<h1>A &amp; B</h1>";
     assert!(rt; answer_bytes(alloc, false, false, &page)?.bytes() == whole);
     let head: &[u8] =
         b"HTTP/1.1 200 OK\r\nContent-Type: text/html;charset=utf-8\r\nContent-Length: 18\r\nConnection: close\r\n\r\n";
     assert!(rt; answer_bytes(alloc, true, true, &page)?.bytes() == head);
-    let moved = answer(alloc, 301, "", "/a b\r\nX: \u{e4}", Mark::NoStore, "")?;
+    let moved = answer_of(alloc, 301, "", "/a b\r\nX: \u{e4}", Mark::NoStore, "")?;
     let redirect: &[u8] =
         b"HTTP/1.1 301 Moved Permanently\r\nLocation: /a%20b%0D%0AX:%20%C3%A4\r\nCache-Control: no-store\r\nContent-Length: 0\r\n\r\n";
     assert!(rt; answer_bytes(alloc, false, false, &moved)?.bytes() == redirect);
-    let odd = answer(alloc, 405, "a\r\nb", "", Mark::MustRevalidate, "x")?;
+    let odd = answer_of(alloc, 405, "a\r\nb", "", Mark::MustRevalidate, "x")?;
     let refused: &[u8] =
         b"HTTP/1.1 405 Method Not Allowed\r\nContent-Type: a  b\r\nAllow: GET, HEAD, POST\r\nCache-Control: must-revalidate\r\nContent-Length: 1\r\n\r\nx";
     assert!(rt; answer_bytes(alloc, false, false, &odd)?.bytes() == refused);
-    let none = answer(alloc, 204, "", "", Mark::NoCache, "x")?;
+    let none = answer_of(alloc, 204, "", "", Mark::NoCache, "x")?;
     let empty: &[u8] = b"HTTP/1.1 204 No Content\r\nCache-Control: no-cache\r\n\r\n";
     assert!(rt; answer_bytes(alloc, false, false, &none)?.bytes() == empty);
     assert!(rt; InFault::LongBody.status() == 413);

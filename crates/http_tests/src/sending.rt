@@ -1,36 +1,8 @@
 //! Whole connections, by the bytes that are sent on them.
 use connections::{AnswerPlace, Outbox, Reply};
-use sp_base::{Answer, ByteBuf, HeadList, Mark, NoMemory, Path, PathFault, Req, TextBuf};
-use std::alloc::{AllocError, Global};
-use std::io;
-
-/// A refusal, or out of memory, where a test expects none.
-#[derive(Debug, Drop)]
-struct Failed;
-
-impl From<NoMemory> for Failed {
-    fn from(_fault: NoMemory) -> Failed {
-        Failed
-    }
-}
-
-impl From<AllocError> for Failed {
-    fn from(_fault: AllocError) -> Failed {
-        Failed
-    }
-}
-
-impl From<PathFault> for Failed {
-    fn from(_fault: PathFault) -> Failed {
-        Failed
-    }
-}
-
-impl From<io::Error> for Failed {
-    fn from(_fault: io::Error) -> Failed {
-        Failed
-    }
-}
+use sp_base::{Answer, ByteBuf, HeadList, Mark, Mem, Path, Req, TextBuf};
+use std::alloc::Global;
+use test_values::{Failed, answer_of};
 
 fn request(alloc: Global, method: &str, close: bool) -> Result<Req, Failed> {
     Ok(Req {
@@ -48,14 +20,8 @@ fn request(alloc: Global, method: &str, close: bool) -> Result<Req, Failed> {
     })
 }
 
-fn answer(alloc: Global, body: &str) -> Result<Answer, Failed> {
-    Ok(Answer {
-        status: 200,
-        kind: TextBuf::of(alloc, "text/plain")?,
-        location: TextBuf::of(alloc, "")?,
-        mark: Mark::Plain,
-        body: ByteBuf::of(alloc, body.as_bytes())?,
-    })
+fn answer(alloc: Global, body: &str) -> Mem<Answer> {
+    answer_of(alloc, 200, "text/plain", "", Mark::Plain, body)
 }
 
 // The place of a request that awaits a flight.

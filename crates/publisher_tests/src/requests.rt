@@ -1,40 +1,11 @@
 //! Requests of hosts and ports that no scenario asks for, and POSTs with the page after each. Other requests are asked through the program
 //! (examples/runs).
 use publisher::Publisher;
-use resource_tree::{Tree, TreeFault};
-use sp_base::{Ask, ByteBuf, NoMemory, Path, TextBuf, Value};
+use resource_tree::Tree;
+use sp_base::{Ask, ByteBuf, Path, TextBuf, Value};
 use std::alloc::Global;
 use std::hash::RandomState;
-use std::io;
-
-/// A refusal, or out of memory, where a test expects none.
-#[derive(Debug, Drop)]
-struct Failed;
-
-impl From<TreeFault> for Failed {
-    fn from(_fault: TreeFault) -> Failed {
-        Failed
-    }
-}
-
-impl From<NoMemory> for Failed {
-    fn from(_fault: NoMemory) -> Failed {
-        Failed
-    }
-}
-
-impl From<io::Error> for Failed {
-    fn from(_fault: io::Error) -> Failed {
-        Failed
-    }
-}
-
-fn at(alloc: Global, text: &str) -> Result<Path, Failed> {
-    match Path::read(alloc, text) {
-        Ok(path) => Ok(path),
-        Err(_) => Err(Failed),
-    }
-}
+use test_values::{Failed, path_at};
 
 // A question for the root that names no host.
 fn bare_ask(alloc: Global) -> Ask {
@@ -61,7 +32,7 @@ fn direct(
     ask.host = TextBuf::of(alloc, host)?;
     ask.port = port;
     ask.method = TextBuf::of(alloc, method)?;
-    ask.path = at(alloc, path)?;
+    ask.path = path_at(alloc, path)?;
     ask.kind = TextBuf::from(String::new(alloc));
     ask.body = ByteBuf::from(Vec::new(alloc));
     Ok(())
@@ -74,7 +45,7 @@ fn put_form(alloc: Global, ask: &mut Ask, form: &str) -> Result<(), Failed> {
 }
 
 fn create(alloc: Global, tree: &mut Tree, path: &str) -> Result<(), Failed> {
-    let path = at(alloc, path)?;
+    let path = path_at(alloc, path)?;
     Ok(tree.create(alloc, &path)?)
 }
 
@@ -95,13 +66,13 @@ fn create_all(alloc: Global, tree: &mut Tree) -> Result<(), Failed> {
 }
 
 fn map_inside(alloc: Global, tree: &mut Tree) -> Result<(), Failed> {
-    let path = at(alloc, "/etc/map/http/example.org.80")?;
+    let path = path_at(alloc, "/etc/map/http/example.org.80")?;
     let target = Value::Text(TextBuf::of(alloc, "/en")?);
     Ok(tree.set(alloc, &path, "sling:internalRedirect", target)?)
 }
 
 fn map_away(alloc: Global, tree: &mut Tree) -> Result<(), Failed> {
-    let path = at(alloc, "/etc/map/http/example.org.8080")?;
+    let path = path_at(alloc, "/etc/map/http/example.org.8080")?;
     let target = Value::Text(TextBuf::of(alloc, "/a b")?);
     Ok(tree.set(alloc, &path, "sling:redirect", target)?)
 }

@@ -4,7 +4,6 @@
 #[cfg(test)]
 mod expressions;
 #[cfg(test)]
-mod failed;
 #[cfg(test)]
 mod representations;
 #[cfg(test)]

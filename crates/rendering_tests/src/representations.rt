@@ -1,17 +1,10 @@
 //! The text of a resource, cut off by a limit. Depths, kids and streams are asked for through the program (examples/runs).
-use crate::failed::Failed;
 use get_servlet::{Depth, JsonAnswer, json_of};
 use resource_tree::{Look, Res, Tree};
 use sp_base::{Path, TextBuf, TruthList, Value};
 use std::alloc::Global;
 use std::hash::RandomState;
-
-fn at(alloc: Global, text: &str) -> Result<Path, Failed> {
-    match Path::read(alloc, text) {
-        Ok(path) => Ok(path),
-        Err(_) => Err(Failed),
-    }
-}
+use test_values::{Failed, path_at};
 
 // Whether an answer is this text, or refused as too long where there is none.
 fn is_told(answer: &JsonAnswer, wanted: Option<&str>) -> bool {
@@ -35,8 +28,8 @@ fn set_text(alloc: Global, tree: &mut Tree, path: &Path) -> Result<(), Failed> {
 
 // A node with properties, and one with a property below it.
 fn grow(alloc: Global, tree: &mut Tree) -> Result<(), Failed> {
-    let a = at(alloc, "/a")?;
-    let k = at(alloc, "/a/k")?;
+    let a = path_at(alloc, "/a")?;
+    let k = path_at(alloc, "/a/k")?;
     tree.create(alloc, &a)?;
     tree.create(alloc, &k)?;
     set_truths(alloc, tree, &a)?;
@@ -63,7 +56,7 @@ fn stops_at(alloc: Global, tree: &Tree, res: &Res<'_>, most_bytes: usize) -> Res
 }
 
 fn stops_at_each_limit(alloc: Global, tree: &Tree) -> Result<bool, Failed> {
-    let path = at(alloc, "/a")?;
+    let path = path_at(alloc, "/a")?;
     let Some(res) = tree.res(alloc, &path)? else {
         return Ok(false);
     };

@@ -1,9 +1,9 @@
 //! The longest page of a template, and where the faults are. What templates write is asked for through the program (examples/runs/templates).
-use crate::failed::Failed;
 use htl_expr::Scope;
 use htl_text::{RenderFault, Template, TextFault};
 use sp_base::PropList;
 use std::alloc::Global;
+use test_values::Failed;
 
 fn scope(props: &PropList) -> Scope<'_> {
     Scope {
@@ -24,12 +24,13 @@ fn longest_text(alloc: Global) -> Result<String, Failed> {
 }
 
 fn length_of(alloc: Global, scope: &Scope<'_>, text: &str) -> Result<usize, Failed> {
-    let template = Template::read(alloc, text)?;
-    Ok(template.render(alloc, scope)?.text().len())
+    let template = Template::read(alloc, text).or(Err(Failed))?;
+    let output = template.render(alloc, scope).or(Err(Failed))?;
+    Ok(output.text().len())
 }
 
 fn is_too_long(alloc: Global, scope: &Scope<'_>, text: &str) -> Result<bool, Failed> {
-    let template = Template::read(alloc, text)?;
+    let template = Template::read(alloc, text).or(Err(Failed))?;
     Ok(matches!(template.render(alloc, scope), Err(RenderFault::TooLong)))
 }
 

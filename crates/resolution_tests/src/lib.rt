@@ -2,7 +2,6 @@
 #![tactic(auto)]
 
 #[cfg(test)]
-mod failed;
 #[cfg(test)]
 mod mappings;
 #[cfg(test)]

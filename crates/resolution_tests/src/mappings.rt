@@ -1,11 +1,11 @@
 //! What texts are mapped to for hosts and ports, and the change of an index. Aliases and vanity paths are asked for through the program (examples/runs).
-use crate::failed::Failed;
 use crate::trees::make;
 use location_field::location_of;
 use resource_tree::{Patch, PatchNode, Tree, TreeFault};
 use sp_base::{NoMemory, Path, PathFault, TextBuf, Value};
 use std::alloc::{AllocError, Global};
 use std::hash::RandomState;
+use test_values::Failed;
 use url_maps::{MapAnswer, MapIndex, map_in};
 
 fn map_to(alloc: Global, tree: &mut Tree, path: &str, target: &str) -> Result<(), Failed> {

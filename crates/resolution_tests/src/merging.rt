@@ -1,11 +1,11 @@
 //! What is seen at the paths of merged resources. What they are is asked for through the program (examples/runs/overlays, merged, merging_rules).
-use crate::failed::Failed;
 use crate::trees::tree_of;
 use overlay_merge::{AlongView, MergedView, merged, merged_kids};
 use resource_tree::{Look, Tree};
 use sp_base::{Mem, NameList, Path};
 use std::alloc::Global;
 use std::hash::RandomState;
+use test_values::Failed;
 use url_split::Known;
 
 const TWO_LAYERS: &str =

@@ -1,11 +1,11 @@
 //! The first-ranked script of a chain, and of a resource. Each naming is asked for through the program (examples/runs/script_names, scripts).
-use crate::failed::Failed;
 use crate::trees::make;
 use resource_tree::Tree;
 use script_rank::{first_script, script_of};
 use sp_base::{Path, PropList, TextBuf, TextList, Value};
 use std::alloc::Global;
 use std::hash::RandomState;
+use test_values::{Failed, push_text};
 use type_chain::{TypeList, TypeName};
 use url_split::Parts;
 
@@ -43,11 +43,6 @@ fn chain_of(alloc: Global, types: &[&str]) -> Result<TypeList, Failed> {
         push_type(alloc, &mut chain, *text)?;
     }
     Ok(chain)
-}
-
-fn push_text(alloc: Global, list: &mut TextList, text: &str) -> Result<(), Failed> {
-    let text = TextBuf::of(alloc, text)?;
-    Ok(list.push(text)?)
 }
 
 fn texts_of(alloc: Global, texts: &[&str]) -> Result<TextList, Failed> {

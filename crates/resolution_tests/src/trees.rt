@@ -1,9 +1,9 @@
 //! Small trees, for the tests.
-use crate::failed::Failed;
 use resource_tree::Tree;
 use sp_base::{Path, TextBuf, Value, seg_ok};
 use std::alloc::Global;
 use std::hash::RandomState;
+use test_values::Failed;
 
 // Makes the node at the first segments of a path, where there is none.
 fn make_first(alloc: Global, tree: &mut Tree, path: &Path, depth: usize) -> Result<(), Failed> {

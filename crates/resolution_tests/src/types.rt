@@ -1,10 +1,10 @@
 //! A chain of types, and the places of types. Other chains are asked for through the program (examples/runs/type_chains).
-use crate::failed::Failed;
 use crate::trees::tree_of;
 use resource_tree::Tree;
 use sp_base::{Mem, Path};
 use std::alloc::Global;
 use std::hash::RandomState;
+use test_values::Failed;
 use type_chain::{chain, place_of};
 
 // Whether a resource has three types in its chain: its own, the one above, and `sling/servlet/default`.

@@ -4,6 +4,7 @@ use cover_rules::page_key;
 use dispatch_rules::{admits, ask_of, auto_of, key_of, may_flush, storable};
 use sp_base::{Answer, Ask, ByteBuf, HeadList, Mark, NoMemory, Path, PathFault, Req, TextBuf};
 use std::alloc::Global;
+use test_values::push_field;
 
 const SITE: &str = r#"/farms { /site {
   /virtualhosts { "www.example.com" "localhost" }
@@ -63,12 +64,6 @@ fn direct(
     req.query = None;
     req.heads = HeadList::new(alloc);
     Ok(())
-}
-
-fn push_field(alloc: Global, req: &mut Req, name: &str, value: &[u8]) -> Result<(), NoMemory> {
-    let name = TextBuf::of(alloc, name)?;
-    let value = ByteBuf::of(alloc, value)?;
-    req.heads.push((name, value))
 }
 
 // A method, a host, a path, and whether a request of these is admitted.
@@ -152,7 +147,7 @@ fn keeps_none_that_is_authorized(
     path: &str,
 ) -> Result<bool, PathFault> {
     direct(alloc, req, "GET", "localhost", path)?;
-    push_field(alloc, req, "authorization", b"x")?;
+    push_field(alloc, &mut req.heads, "authorization", b"x")?;
     Ok(has_key(alloc, farm, req, "-")?)
 }
 
@@ -187,7 +182,7 @@ fn ask_with_form(
 ) -> Result<Ask, PathFault> {
     direct(alloc, req, method, "localhost", "/content/en.html")?;
     req.body = ByteBuf::of(alloc, b"a=b")?;
-    push_field(alloc, req, "content-type", b"text/plain")?;
+    push_field(alloc, &mut req.heads, "content-type", b"text/plain")?;
     Ok(ask_of(alloc, farm, req)?)
 }
 

@@ -6,29 +6,7 @@ use resource_tree::{Look, Node, Place, Res, Tree, TreeFault};
 use sp_base::{Mem, NoMemory, Path, TextBuf, Value};
 use std::alloc::{AllocError, Global};
 use std::hash::RandomState;
-use std::io;
-
-/// A refusal, a lack of memory or of random numbers where a test expects none.
-#[derive(Debug, Drop)]
-pub(crate) struct Failed;
-
-impl From<TreeFault> for Failed {
-    fn from(_fault: TreeFault) -> Failed {
-        Failed
-    }
-}
-
-impl From<NoMemory> for Failed {
-    fn from(_fault: NoMemory) -> Failed {
-        Failed
-    }
-}
-
-impl From<io::Error> for Failed {
-    fn from(_fault: io::Error) -> Failed {
-        Failed
-    }
-}
+use test_values::Failed;
 
 pub(crate) fn at(alloc: Global, text: &str) -> Result<Path, TreeFault> {
     match Path::read(alloc, text) {

@@ -2,11 +2,12 @@
 ghost use Rattle.std.specs.Prelude.{◌≡◌, OnOk};
 ghost use Rattle.tree_draft.specs.Drafts.{DraftFollows, IsSound};
 
-use crate::changes::{Failed, at};
+use crate::changes::at;
 use crate::parts::{PARTS, is_listed, whole};
 use resource_tree::{Tree, TreeFault};
 use std::alloc::Global;
 use std::hash::RandomState;
+use test_values::Failed;
 use tree_draft::Draft;
 
 // A tree like this with what a draft of it holds put over it.

@@ -1,9 +1,10 @@
 // Parts of a tree that are copied or moved to another path, each with the whole tree compared.
-use crate::changes::{Failed, at, has_kids, is_told, set_title, tree_of};
+use crate::changes::{at, has_kids, is_told, set_title, tree_of};
 use resource_tree::{Node, Tree, TreeFault};
 use sp_base::{Path, Value};
 use std::alloc::{AllocError, Global};
 use std::hash::RandomState;
+use test_values::Failed;
 
 fn push_node(text: &mut String, path: &Path, node: &Node) -> Result<(), AllocError> {
     text.push_str(path.as_text())?;

@@ -3,12 +3,13 @@ ghost use Rattle.std.specs.Prelude.{IfOk};
 ghost use Rattle.resource_tree.specs.Content.{IsGood, HasSegmentNames};
 ghost use Rattle.resource_tree.specs.Patches.{patching};
 
-use crate::changes::{Failed, at, tree_of};
+use crate::changes::{at, tree_of};
 use crate::parts::{child, is_listed};
 use resource_tree::{Patch, PatchNode, Tree};
 use sp_base::{Mem, Path, PropList, Value};
 use std::alloc::Global;
 use std::hash::RandomState;
+use test_values::Failed;
 
 // The patch that sets a value of the node at a path.
 fn size_patch(alloc: Global, seeds: RandomState, tree: &Tree, path: &Path) -> Result<Patch, Failed>

@@ -1,9 +1,9 @@
 //! What is long and not deep is read, evaluated and dropped without a deep stack.
 
 use super::sample::Sample;
-use crate::failed::Failed;
 use htl_expr::{Expr, Scope};
 use std::alloc::{AllocError, Global};
+use test_values::Failed;
 
 const TIMES: usize = 100_000;
 
@@ -16,7 +16,7 @@ fn repeated(alloc: Global, prefix: &str, piece: &str, end: &str) -> Result<Strin
 
 fn read(alloc: Global, prefix: &str, piece: &str, end: &str) -> Result<Expr, Failed> {
     let text = repeated(alloc, prefix, piece, end)?;
-    Ok(Expr::read(alloc, text.as_str())?)
+    Expr::read(alloc, text.as_str()).or(Err(Failed))
 }
 
 fn is_printed(alloc: Global, scope: &Scope<'_>, e: &Expr, wanted: &str) -> Result<bool, Failed> {

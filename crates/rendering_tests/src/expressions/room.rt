@@ -1,9 +1,9 @@
 //! Writes within a limit.
 
 use super::sample::Sample;
-use crate::failed::Failed;
 use htl_expr::{Evaluation, Expr, Scope, WriteFault};
 use std::alloc::Global;
+use test_values::Failed;
 
 // Writes an expression for a resource of which nothing is found out yet.
 fn write<'a>(
@@ -22,7 +22,7 @@ fn is_refused(alloc: Global, page: &mut String, e: &Expr, scope: &Scope<'_>, roo
 }
 
 fn leaves_the_text(alloc: Global, scope: &Scope<'_>, text: &str) -> Result<bool, Failed> {
-    let e = Expr::read(alloc, text)?;
+    let e = Expr::read(alloc, text).or(Err(Failed))?;
     let mut page = String::from_str(alloc, "<p>")?;
     Ok(is_refused(alloc, &mut page, &e, scope, 5) && page.as_str() == "<p>")
 }
@@ -46,7 +46,7 @@ fn all_leave_the_text(alloc: Global, scope: &Scope<'_>) -> Result<bool, Failed> 
 }
 
 fn last_byte_of_the_room_is_written(alloc: Global, scope: &Scope<'_>) -> Result<bool, Failed> {
-    let e = Expr::read(alloc, "['<', 1]")?;
+    let e = Expr::read(alloc, "['<', 1]").or(Err(Failed))?;
     let mut page = String::from_str(alloc, "<p>")?;
     Ok(
         write(alloc, &mut page, &e, scope, 9).is_ok()

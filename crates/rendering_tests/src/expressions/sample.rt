@@ -1,14 +1,9 @@
 //! The resource of the tests.
 
-use crate::failed::Failed;
 use htl_expr::Scope;
 use sp_base::{LongList, PropList, TextBuf, TextList, TruthList, Value};
 use std::alloc::Global;
-
-fn push_text(alloc: Global, texts: &mut TextList, text: &str) -> Result<(), Failed> {
-    let text = TextBuf::of(alloc, text)?;
-    Ok(texts.push(text)?)
-}
+use test_values::{Failed, push_text};
 
 fn put_tags(alloc: Global, props: &mut PropList) -> Result<(), Failed> {
     let mut texts = TextList::new(alloc);

@@ -1,12 +1,12 @@
 //! The value and the text of an expression. More are printed through the program (examples/runs/expressions).
 
 use super::sample::Sample;
-use crate::failed::Failed;
 use htl_expr::{Expr, Out, Scope};
 use std::alloc::Global;
+use test_values::Failed;
 
 fn is_a_joined_list(alloc: Global, scope: &Scope<'_>) -> Result<bool, Failed> {
-    let e = Expr::read(alloc, "properties.longs @ join='; '")?;
+    let e = Expr::read(alloc, "properties.longs @ join='; '").or(Err(Failed))?;
     Ok(matches!(e.value(alloc, scope)?, Out::List(_)) && e.print(alloc, scope)?.text() == "7; 8")
 }
 

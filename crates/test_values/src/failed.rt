@@ -6,7 +6,7 @@ use std::io;
 
 /// A refusal, or a lack of memory or of random numbers, where a test expects none.
 #[derive(Debug, Drop)]
-pub(crate) struct Failed;
+pub struct Failed;
 
 impl From<AllocError> for Failed {
     fn from(_fault: AllocError) -> Failed {

@@ -14,6 +14,14 @@ use Rattle.cover_rules.specs.Pages.{last_segment}
 abbrev pub folder_name : List (List ℕ) → List ℕ
 folder_name segs = flat_map (λ seg. file_name seg ++ 47 ∷ []) segs
 
+-- the most bytes of a folder's name: 64 segments of at most 200 bytes, a slash after each
+abbrev pub longest_folder_name : ℕ
+longest_folder_name = 12864
+
+-- the most bytes of the name of a .stat file
+abbrev pub longest_stat_name : ℕ
+longest_stat_name = 12869
+
 -- where a page's body stands
 abbrev pub body_name : List (List ℕ) → List ℕ → List ℕ
 body_name folder file = folder_name folder ++ file_name file

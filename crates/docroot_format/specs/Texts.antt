@@ -9,6 +9,14 @@ head_text epoch count size kind = codes "page 1 " ++ decimal epoch ++ codes " " 
 abbrev pub stat_text : ℕ → ℕ → List ℕ
 stat_text epoch count = codes "stat 1 " ++ decimal epoch ++ codes " " ++ decimal count ++ codes "\n"
 
+-- the most digits of a number of 64 bits
+abbrev pub most_digits_of_u64 : ℕ
+most_digits_of_u64 = 20
+
+-- the most bytes of a stamp's text: two words, two numbers, and what parts and ends them
+abbrev pub longest_stat_text : ℕ
+longest_stat_text = 49
+
 -- the number of a session
 abbrev pub epoch_text : ℕ → List ℕ
 epoch_text epoch = codes "epoch 1 " ++ decimal epoch ++ codes "\n"

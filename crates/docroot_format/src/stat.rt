@@ -5,6 +5,7 @@ ghost use Rattle.sp_outside.specs.Files.{IsName};
 ghost use Rattle.cover_rules.specs.Names as file;
 ghost use Rattle.docroot_format.specs.Names as spec;
 ghost use Rattle.docroot_format.specs.Texts as text;
+ghost use Rattle.docroot_format.specs.Texts.{longest_stat_text, most_digits_of_u64};
 
 use crate::names::is_plain;
 use arrayvec::ArrayString;
@@ -21,7 +22,7 @@ pub type StatText = ArrayString<49>;
 // Adds what a byte is in a file's name.
 #[tactic(auto, unfolding(percent_encoding::specs::Percent::percent_encode_byte))]
 fn push_byte(name: &mut StatName, b: u8)
-    requires { length name.old.bytes + length (file.file_byte b) ≤ 12869 }
+    requires { length name.old.bytes + length (file.file_byte b) ≤ spec.longest_stat_name }
     ensures { name.new.bytes ≡ name.old.bytes ++ file.file_byte b }
 {
     if is_plain(b) {
@@ -34,7 +35,7 @@ fn push_byte(name: &mut StatName, b: u8)
 // Adds a segment's file name.
 #[tactic(auto, using(crate::proofs::NameLemmas::byte_more), unfolding(cover_rules::specs::Names::file_name))]
 fn push_segment(name: &mut StatName, seg: &str)
-    requires { length name.old.bytes + length (file.file_name seg.now) ≤ 12869 }
+    requires { length name.old.bytes + length (file.file_name seg.now) ≤ spec.longest_stat_name }
     ensures { name.new.bytes ≡ name.old.bytes ++ file.file_name seg.now }
 {
     for b in seg.as_bytes() {
@@ -44,7 +45,7 @@ fn push_segment(name: &mut StatName, seg: &str)
 
 // Adds the file name of a segment, and a slash.
 fn push_piece(name: &mut StatName, seg: &str)
-    requires { length name.old.bytes + length (file.file_name (mangled_seg seg.now)) < 12869 }
+    requires { length name.old.bytes + length (file.file_name (mangled_seg seg.now)) < spec.longest_stat_name }
     ensures { name.new.bytes ≡ name.old.bytes ++ (file.file_name (mangled_seg seg.now) ++ 47 ∷ []) }
 {
     let (mark, rest) = mangled_parts(seg);
@@ -58,7 +59,7 @@ fn push_folder(name: &mut StatName, folder: &Path)
     requires empty { name.old.bytes ≡ [] }
     requires named { IsTrue (spec.have_names (mangled_segs folder.now)) }
     ensures name { name.new.bytes ≡ spec.folder_name (mangled_segs folder.now) }
-    ensures few { length name.new.bytes ≤ 12864 }
+    ensures few { length name.new.bytes ≤ spec.longest_folder_name }
 {
     // That a path has at most 64 segments is a clause of its depth.
     let _depth = folder.depth();
@@ -83,9 +84,9 @@ pub fn stat_name(folder: &Path) -> StatName
 }
 
 fn push_number(text: &mut StatText, number: u64)
-    requires { length text.old.bytes + 20 ≤ 49 }
+    requires { length text.old.bytes + most_digits_of_u64 ≤ longest_stat_text }
     ensures digits { text.new.bytes ≡ text.old.bytes ++ decimal number }
-    ensures few { length text.new.bytes ≤ length text.old.bytes + 20 }
+    ensures few { length text.new.bytes ≤ length text.old.bytes + most_digits_of_u64 }
 {
     let mut digits = Buffer::new();
     text.push_str(digits.format(number));

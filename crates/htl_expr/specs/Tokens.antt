@@ -1,5 +1,6 @@
 -- The tokens at the beginning of a text. A token is read with the blanks after it (HTL specification 1.4, "Expression Language").
 use Rattle.std.specs.Prelude.{◌≡◌, ◌<◌, ℕ, ℤ, pos, neg_ℤ, suc, ◌+◌, ◌*◌, ◌-◌, Bool, true, false, ◌||◌, ◌&&◌, if◌then◌else◌, ◌==◌, nat_le, List, [], ◌∷◌, ◌++◌, length, take, drop, Option, Some, None, Result, Ok, Err, slice_index}
+use Rattle.sp_base.specs.Limits.{greatest_i64, least_i64_magnitude}
 use Rattle.sp_base.specs.Bytes.{begins_with_byte}
 use Rattle.htl_expr.specs.declared.stop.ExprStop.{ExprStop}
 use Rattle.htl_expr.specs.declared.stop.ExprStop.TheVariants.{Memory, Unexpected, TooDeep}
@@ -165,7 +166,7 @@ next_number limit m t = if expression_digit_fits limit m t then Some (m * 10 + (
 
 -- the greatest magnitude of a number of 64 bits with a minus or without one
 abbrev pub limit : Bool → ℕ
-limit negative = if negative then 9223372036854775808 else 9223372036854775807
+limit negative = if negative then least_i64_magnitude else greatest_i64
 
 -- a magnitude with its sign
 abbrev pub signed_value : Bool → ℕ → ℤ

@@ -10,7 +10,7 @@ const LONGEST_MADE: usize = 20;
 
 // The bytes of a word as those of a name, at most as many as one has.
 fn squeezed(alloc: Global, word: &str) -> Mem<String>
-    ensures { IfOk result (λ name. string_bytes name ≡ take 20 (spec.name_bytes false word.now)) }
+    ensures { IfOk result (λ name. string_bytes name ≡ take spec.longest_made (spec.name_bytes false word.now)) }
 {
     let mut name = String::new(alloc);
     let mut run = false;

@@ -7,8 +7,8 @@ use Rattle.std.proofs.lemmas.Bool.Decides.{nat_tests}
 use Rattle.std.proofs.lemmas.Fmt.{decimal_injective}
 use Rattle.sp_base.specs.Bytes.{is_visible_ascii}
 use Rattle.replay_text.specs.Lines.{newlines}
-use Rattle.replay_text.specs.Transcript.{hex, quoted_byte, quotation}
-use Rattle.replay_text.specs.EventLines.{is_target, flight_text, line_of, IsFlight, IsConnection, IsEventLine}
+use Rattle.replay_text.specs.Transcript.{hex, quoted_byte, quotation, IsConnectionNumber}
+use Rattle.replay_text.specs.EventLines.{is_target, flight_text, line_of, IsFlight, IsEventLine}
 use Rattle.replay_text.specs.declared.event_line.EventLine.{EventLine}
 use Rattle.replay_text.specs.declared.event_line.EventLine.TheVariants.{Direct, Open, Close, Bytes, Get, Post, Render, Deliver, Lose}
 use Rattle.replay_text.specs.declared.event_line.Flight.{Flight}
@@ -70,7 +70,7 @@ newlines-quoted (b ∷ bytes) =
 newlines-quotation : (bytes : List ℕ) → newlines (quotation bytes) ≡ 0
 newlines-quotation bytes = omega (arith, newlines-append (flat_map quoted_byte bytes) (34 ∷ []), newlines-quoted bytes)
 
-newlines-connection : (c : ℕ) (rest : List ℕ) → IsConnection c → newlines rest ≡ 0 → newlines (decimal c ++ 32 ∷ rest) ≡ 0
+newlines-connection : (c : ℕ) (rest : List ℕ) → IsConnectionNumber c → newlines rest ≡ 0 → newlines (decimal c ++ 32 ∷ rest) ≡ 0
 newlines-connection c rest is none = newlines-append (decimal c) (32 ∷ rest) ∙ omega (arith, newlines-decimal c (omega (arith, is)), none)
 
 newlines-flight : (f : Flight) → IsFlight f → newlines (flight_text f) ≡ 0
@@ -94,7 +94,7 @@ newlines-line_of (Lose flight) is = omega (arith, newlines-flight flight is)
 
 -- ---- a line tells its event
 
-one_connection : (c d : ℕ) (r s : List ℕ) → IsConnection c → IsConnection d → decimal c ++ 32 ∷ r ≡ decimal d ++ 32 ∷ s → (c ≡ d) × (r ≡ s)
+one_connection : (c d : ℕ) (r s : List ℕ) → IsConnectionNumber c → IsConnectionNumber d → decimal c ++ 32 ∷ r ≡ decimal d ++ 32 ∷ s → (c ≡ d) × (r ≡ s)
 one_connection c d r s p q e = one_number 32 c d r s refl (omega (arith, p)) (omega (arith, q)) e
 
 one_flight : (f g : Flight) → IsFlight f → IsFlight g → flight_text f ≡ flight_text g → f ≡ g

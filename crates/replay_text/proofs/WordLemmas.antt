@@ -11,9 +11,10 @@ use Rattle.std.proofs.lemmas.List.Sums.{AllPass-from_list_all, list_all-from_All
 use Rattle.std.specs.List.{list_all}
 use Rattle.std.specs.Option.{MatchOption}
 use Rattle.std.specs.Fmt.{decimal}
+use Rattle.replay_text.specs.Transcript.{IsConnectionNumber}
 use Rattle.sp_base.specs.Bytes.{is_visible_ascii}
 use Rattle.replay_text.specs.Quoting.{not_blank, connection_text}
-use Rattle.replay_text.specs.EventLines.{is_target, flight_text, IsFlight, IsConnection}
+use Rattle.replay_text.specs.EventLines.{is_target, flight_text, IsFlight}
 use Rattle.replay_text.specs.declared.event_line.Flight.{Flight}
 use Rattle.replay_text.specs.declared.event_line.Flight.TheVariants.{First, Numbered}
 
@@ -98,7 +99,7 @@ decimal_no_blank n small = digits_no_blank (decimal n) (decimal_is_IsNumeral n (
         ap (λ t. t && list_all not_blank ds) (not_blank_above c (omega (arith, digit_from_value c d.0))) ∙ digits_no_blank ds d.1
 
 -- a line about a connection goes on in one way
-pub one_connection : (word line rest other : List ℕ) (c d : ℕ) → IsConnection c → IsConnection d → line ≡ connection_text word c rest → line ≡ connection_text word d other → rest ≡ other
+pub one_connection : (word line rest other : List ℕ) (c d : ℕ) → IsConnectionNumber c → IsConnectionNumber d → line ≡ connection_text word c rest → line ≡ connection_text word d other → rest ≡ other
 one_connection word line rest other c d is_c is_d e f =
     (one_first_word (decimal c) (decimal d) rest other (decimal_no_blank c is_c) (decimal_no_blank d is_d)
     (same_after word (decimal c ++ 32 ∷ rest) (decimal d ++ 32 ∷ other) (sym e ∙ f))).1

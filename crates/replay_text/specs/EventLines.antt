@@ -3,7 +3,7 @@ use Rattle.std.specs.Prelude.{◌≢◌, ◌≤◌, ◌<◌, ◌++◌, ◌&&◌,
 use Rattle.std.specs.List.{list_all}
 use Rattle.std.specs.Fmt.{decimal}
 use Rattle.sp_base.specs.Bytes.{is_visible_ascii}
-use Rattle.replay_text.specs.Transcript.{quotation}
+use Rattle.replay_text.specs.Transcript.{quotation, IsConnectionNumber, IsFlightNumber}
 use Rattle.replay_text.specs.declared.event_line.EventLine.{EventLine}
 use Rattle.replay_text.specs.declared.event_line.EventLine.TheVariants.{Direct, Open, Close, Bytes, Get, Post, Render, Deliver, Lose}
 use Rattle.replay_text.specs.declared.event_line.Flight.{Flight}
@@ -38,20 +38,16 @@ AreBytes (b ∷ bytes) = (b < 256) × AreBytes bytes
 -- flights are numbered from 1, in 64 bits
 abbrev pub IsFlight : Flight → Type 0
 IsFlight First = Unit {0}
-IsFlight (Numbered n) = (1 ≤ n) × (n < 18446744073709551616)
-
--- connections have numbers of 32 bits
-abbrev pub IsConnection : ℕ → Type 0
-IsConnection c = c < 4294967296
+IsFlight (Numbered n) = (1 ≤ n) × IsFlightNumber n
 
 -- what it asks for can be asked for: peers and targets are visible bytes, and a piece has some bytes
 abbrev pub IsEventLine : EventLine → Type 0
 IsEventLine (Direct target) = IsTrue (is_target target)
-IsEventLine (Open c peer) = IsConnection c × IsTrue (is_target peer)
-IsEventLine (Close c) = IsConnection c
-IsEventLine (Bytes c bytes) = IsConnection c × AreBytes bytes × (bytes ≢ [])
-IsEventLine (Get c target) = IsConnection c × IsTrue (is_target target)
-IsEventLine (Post c target body) = IsConnection c × IsTrue (is_target target) × AreBytes body
+IsEventLine (Open c peer) = IsConnectionNumber c × IsTrue (is_target peer)
+IsEventLine (Close c) = IsConnectionNumber c
+IsEventLine (Bytes c bytes) = IsConnectionNumber c × AreBytes bytes × (bytes ≢ [])
+IsEventLine (Get c target) = IsConnectionNumber c × IsTrue (is_target target)
+IsEventLine (Post c target body) = IsConnectionNumber c × IsTrue (is_target target) × AreBytes body
 IsEventLine (Render flight) = IsFlight flight
 IsEventLine (Deliver flight) = IsFlight flight
 IsEventLine (Lose flight) = IsFlight flight

@@ -2,8 +2,8 @@
 -- alone. A reader of the theorem needs none of it.
 use Rattle.std.specs.Fmt.{decimal}
 use Rattle.std.specs.Prelude.{◌≢◌, ◌<◌, ◌+◌, ◌-◌, ◌*◌, ◌++◌, ◌==◌, ℕ, Bool, not, if◌then◌else◌, nat_lt, List, [], ◌∷◌, get_or, codes, IsTrue}
-use Rattle.replay_text.specs.Transcript.{quoted_byte, quotation}
-use Rattle.replay_text.specs.EventLines.{is_target, AreBytes, IsConnection, IsFlight, flight_text}
+use Rattle.replay_text.specs.Transcript.{quoted_byte, quotation, IsConnectionNumber}
+use Rattle.replay_text.specs.EventLines.{is_target, AreBytes, IsFlight, flight_text}
 use Rattle.replay_text.specs.declared.event_line.Flight.{Flight}
 
 -- the number that a hexadecimal digit stands for
@@ -41,19 +41,19 @@ IsNoDirect line = (target : List ℕ) → IsTrue (is_target target) → line ≢
 
 -- a word, a connection, and visible bytes
 abbrev pub IsNoTargetOf : List ℕ → List ℕ → Type 0
-IsNoTargetOf word line = (c : ℕ) (target : List ℕ) → IsConnection c → IsTrue (is_target target) → line ≢ connection_text word c target
+IsNoTargetOf word line = (c : ℕ) (target : List ℕ) → IsConnectionNumber c → IsTrue (is_target target) → line ≢ connection_text word c target
 
 -- `close` and a connection
 abbrev pub IsNoClose : List ℕ → Type 0
-IsNoClose line = (c : ℕ) → IsConnection c → line ≢ codes "close " ++ decimal c
+IsNoClose line = (c : ℕ) → IsConnectionNumber c → line ≢ codes "close " ++ decimal c
 
 -- `bytes`, a connection, and some bytes in quotes
 abbrev pub IsNoBytes : List ℕ → Type 0
-IsNoBytes line = (c : ℕ) (bytes : List ℕ) → IsConnection c → AreBytes bytes → bytes ≢ [] → line ≢ connection_text (codes "bytes ") c (quotation bytes)
+IsNoBytes line = (c : ℕ) (bytes : List ℕ) → IsConnectionNumber c → AreBytes bytes → bytes ≢ [] → line ≢ connection_text (codes "bytes ") c (quotation bytes)
 
 -- `post`, a connection, a target, and bytes in quotes
 abbrev pub IsNoPost : List ℕ → Type 0
-IsNoPost line = (c : ℕ) (target body : List ℕ) → IsConnection c → IsTrue (is_target target) → AreBytes body
+IsNoPost line = (c : ℕ) (target body : List ℕ) → IsConnectionNumber c → IsTrue (is_target target) → AreBytes body
     → line ≢ connection_text (codes "post ") c (target ++ 32 ∷ quotation body)
 
 -- a word and a flight

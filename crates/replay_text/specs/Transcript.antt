@@ -87,8 +87,8 @@ abbrev pub IsFlightNumber : ℕ → Type 0
 IsFlightNumber n = n < 18446744073709551616
 
 -- numbers of connections have 32 bits
-abbrev pub IsLineNumber : ℕ → Type 0
-IsLineNumber c = c < 4294967296
+abbrev pub IsConnectionNumber : ℕ → Type 0
+IsConnectionNumber c = c < 4294967296
 
 -- a key is that of the page at some path
 abbrev pub IsPage : Option PageKey → Type 0
@@ -99,14 +99,14 @@ IsPage (Some key) = (path : List (List ℕ)) × IsTrue (is_path path) × (page_k
 -- `/a`, and a file `c.html` in `/a/b`.
 abbrev pub IsWritable : Note → Type 0
 IsWritable (answered a) = IsStatus a.status
-IsWritable (Ask n c key) = IsFlightNumber n × IsLineNumber c × IsPage key
-IsWritable (Local c status) = IsLineNumber c × IsStatus status
+IsWritable (Ask n c key) = IsFlightNumber n × IsConnectionNumber c × IsPage key
+IsWritable (Local c status) = IsConnectionNumber c × IsStatus status
 IsWritable (Rendered n a) = IsFlightNumber n × IsStatus a.status
 IsWritable (Passed n) = IsFlightNumber n
 IsWritable (Lost n) = IsFlightNumber n
-IsWritable (Sent c bytes) = IsLineNumber c
-IsWritable (Shut c) = IsLineNumber c
-IsWritable (Refused c) = IsLineNumber c
+IsWritable (Sent c bytes) = IsConnectionNumber c
+IsWritable (Shut c) = IsConnectionNumber c
+IsWritable (Refused c) = IsConnectionNumber c
 IsWritable Idle = Unit {0}
 IsWritable Dry = Unit {0}
 

@@ -1,8 +1,8 @@
 //! What the lines of events ask for.
 ghost use Rattle.std.specs.Prelude.{◌≡◌, ◌≢◌, ◌↔◌, ◌++◌, ◌∷◌, [], ℕ, List, IfOk, IfSome, IfNone, IsTrue, codes};
-ghost use Rattle.replay_text.specs.EventLines.{is_target, line_of, AreBytes, IsConnection, IsEventLine};
+ghost use Rattle.replay_text.specs.EventLines.{is_target, line_of, AreBytes, IsEventLine};
 ghost use Rattle.replay_text.specs.Quoting.{connection_text, IsNoDirect, IsNoTargetOf, IsNoClose, IsNoBytes, IsNoPost, IsOfNoConnection, IsOfNoFlight};
-ghost use Rattle.replay_text.specs.Transcript.{quotation};
+ghost use Rattle.replay_text.specs.Transcript.{quotation, IsConnectionNumber};
 
 use crate::event_line::EventLine;
 use crate::event_reader::{after_word, connection, connection_after, first_word, flight_after};
@@ -26,7 +26,7 @@ fn direct_line(alloc: Global, line: &[u8]) -> Mem<Option<EventLine>>
 
 // A connection and a target after a word.
 fn target_after(alloc: Global, line: &[u8], word: &[u8]) -> Mem<Option<(u32, TextBuf)>>
-    ensures some { IfOk result (λ o. IfSome o (λ p. IsConnection p.0 × IsTrue (is_target p.1) × (line.now ≡ connection_text word.now p.0 p.1))) }
+    ensures some { IfOk result (λ o. IfSome o (λ p. IsConnectionNumber p.0 × IsTrue (is_target p.1) × (line.now ≡ connection_text word.now p.0 p.1))) }
     ensures none { IfOk result (λ o. IfNone o (IsNoTargetOf word.now line.now)) }
 {
     let Some((c, rest)) = connection_after(alloc, line, word)? else {

@@ -2,7 +2,8 @@
 ghost use Rattle.std.specs.Prelude.{◌≡◌, ◌≢◌, ◌<◌, ◌≤◌, ◌^◌, ◌++◌, ◌∷◌, [], ℕ, List, IfOk, IfSome, IfNone, IsTrue, codes};
 ghost use Rattle.std.specs.List.{list_all};
 ghost use Rattle.std.specs.Fmt.{decimal};
-ghost use Rattle.replay_text.specs.EventLines.{flight_text, line_of, IsFlight, IsConnection, IsEventLine};
+ghost use Rattle.replay_text.specs.Transcript.{IsConnectionNumber};
+ghost use Rattle.replay_text.specs.EventLines.{flight_text, line_of, IsFlight, IsEventLine};
 ghost use Rattle.replay_text.specs.Quoting.{not_blank, connection_text};
 
 use crate::event_line::Flight;
@@ -45,8 +46,8 @@ fn number(alloc: Global, word: &[u8]) -> Mem<Option<u64>>
 
 // The number of a connection that a word spells.
 pub fn connection(alloc: Global, word: &[u8]) -> Mem<Option<u32>>
-    ensures some { IfOk result (λ o. IfSome o (λ c. IsConnection c × (word.now ≡ decimal c))) }
-    ensures none { IfOk result (λ o. IfNone o ((c : ℕ) → IsConnection c → word.now ≢ decimal c)) }
+    ensures some { IfOk result (λ o. IfSome o (λ c. IsConnectionNumber c × (word.now ≡ decimal c))) }
+    ensures none { IfOk result (λ o. IfNone o ((c : ℕ) → IsConnectionNumber c → word.now ≢ decimal c)) }
 {
     let Some(n) = number(alloc, word)? else {
         return Ok(None);
@@ -101,8 +102,8 @@ pub fn connection_after<'a>(
     line: &'a [u8],
     word: &[u8],
 ) -> Mem<Option<(u32, &'a [u8])>>
-    ensures some { IfOk result (λ o. IfSome o (λ p. IsConnection p.0 × (line.now ≡ connection_text word.now p.0 p.1.now))) }
-    ensures none { IfOk result (λ o. IfNone o ((c : ℕ) (rest : List ℕ) → IsConnection c → line.now ≢ connection_text word.now c rest)) }
+    ensures some { IfOk result (λ o. IfSome o (λ p. IsConnectionNumber p.0 × (line.now ≡ connection_text word.now p.0 p.1.now))) }
+    ensures none { IfOk result (λ o. IfNone o ((c : ℕ) (rest : List ℕ) → IsConnectionNumber c → line.now ≢ connection_text word.now c rest)) }
 {
     let Some(after) = after_word(line, word) else {
         return Ok(None);

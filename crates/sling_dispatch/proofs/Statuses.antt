@@ -35,7 +35,7 @@ use Rattle.replay_text.specs.declared.event_line.EventLine.TheVariants as line
 use Rattle.replay_text.specs.declared.scenario.Scenario.{Scenario}
 use Rattle.replay_text.specs.EventLines.{IsEventLine}
 use Rattle.replay_text.specs.Scenario.{AreActs}
-use Rattle.replay_text.specs.Transcript.{AreWritable, EventsAreWritable, IsLineNumber, IsWritable}
+use Rattle.replay_text.specs.Transcript.{AreWritable, EventsAreWritable, IsConnectionNumber, IsWritable}
 use Rattle.sling_dispatch.specs.Runs.{IsSession, sling_publisher, step_of}
 
 -- ---- lists of notes

@@ -5,6 +5,14 @@ use Rattle.std.specs.Prelude.{ℕ}
 abbrev pub greatest_u64 : ℕ
 greatest_u64 = 18446744073709551615
 
+-- the greatest number of 64 bits with a sign: 2^63 - 1
+abbrev pub greatest_i64 : ℕ
+greatest_i64 = 9223372036854775807
+
+-- what the least of them has after its minus: 2^63
+abbrev pub least_i64_magnitude : ℕ
+least_i64_magnitude = 9223372036854775808
+
 -- the greatest port (RFC 9293, section 3.1)
 abbrev pub greatest_port : ℕ
 greatest_port = 65535

@@ -4,6 +4,7 @@ use Rattle.std.specs.List.{position}
 use Rattle.std.specs.Str.{all_ascii_digits}
 use Rattle.std.specs.Str.Parse.{digits_value}
 use Rattle.std.specs.Cmp.Lexicographic.{pointwise}
+use Rattle.sp_base.specs.Limits.{least_i64_magnitude}
 use Rattle.sp_base.specs.declared.value.Value.{Value}
 use Rattle.sp_base.specs.declared.value.Value.TheVariants.{Text, Long, Truth, Texts, Longs, Truths}
 use Rattle.sp_base.specs.declared.hint.Hint.{Hint}
@@ -19,8 +20,8 @@ are_digits ds = not (length ds == 0) && all_ascii_digits ds
 -- the number that a word spells: an optional minus and digits, within 64 bits
 abbrev pub number_of : List ℕ → Option ℤ
 number_of word = if slice_index word 0 == 45
-    then (if are_digits (drop 1 word) && nat_le (digits_value 10 (drop 1 word)) 9223372036854775808 then Some (neg_ℤ (pos (digits_value 10 (drop 1 word)))) else None)
-    else (if are_digits word && nat_lt (digits_value 10 word) 9223372036854775808 then Some (pos (digits_value 10 word)) else None)
+    then (if are_digits (drop 1 word) && nat_le (digits_value 10 (drop 1 word)) least_i64_magnitude then Some (neg_ℤ (pos (digits_value 10 (drop 1 word)))) else None)
+    else (if are_digits word && nat_lt (digits_value 10 word) least_i64_magnitude then Some (pos (digits_value 10 word)) else None)
 
 -- only `true` is true
 abbrev pub truth_of : List ℕ → Bool

@@ -16,9 +16,13 @@ pub struct Expr {
 }
 
 impl Model for Expr {
+    ghost use Rattle.std.specs.Coded.{codes};
+    ghost use Rattle.htl_syntax.specs.contracts.node.ExprNode as node;
     ghost use Rattle.htl_syntax.specs.declared.expression.Expression.{Expression};
 
     ghost Value = { Expression };
+
+    ghost coded = { Prim.hlevel (codes, node.the_row.coded) };
 
     ghost view = { λ e. e.expression };
 }

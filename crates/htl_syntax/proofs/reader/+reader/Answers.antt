@@ -1,5 +1,4 @@
 use Rattle.std.proofs.Common.{◌∙◌, rules, sym}
-use Rattle.sp_base.specs.Bytes.{begins_with_byte}
 use Rattle.htl_syntax.specs.Read.{compare, both, choice, nesting}
 use Rattle.htl_syntax.proofs.Turns.{chain_more, nested_less}
 use Rattle.htl_syntax.proofs.reader.+reader.Goals as goal

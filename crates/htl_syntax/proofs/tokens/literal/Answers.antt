@@ -1,5 +1,4 @@
 use Rattle.std.proofs.Common.{◌∙◌, sym}
-use Rattle.sp_base.specs.Bytes.{begins_with_byte}
 use Rattle.htl_syntax.proofs.Scan.{ascii_first}
 use Rattle.htl_syntax.proofs.tokens.literal.Goals as goal
 

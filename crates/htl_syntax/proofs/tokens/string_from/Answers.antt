@@ -1,5 +1,4 @@
 use Rattle.std.proofs.Common.{◌∙◌, sym, ap, rules, string_bytes, List, ℕ, ◌++◌}
-use Rattle.sp_base.specs.Bytes.{begins_with_byte}
 use Rattle.htl_syntax.proofs.Scan.{prefix_ascii}
 use Rattle.htl_syntax.proofs.Strings.{plain_boundary, closes_is, stops_is, escape_fails, escape_is, escape_less}
 use Rattle.htl_syntax.proofs.tokens.string_from.Goals as goal

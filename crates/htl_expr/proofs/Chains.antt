@@ -6,7 +6,7 @@ use Rattle.htl_expr.specs.declared.lent.Lent.TheVariants.{Items, rolls-Items}
 use Rattle.htl_expr.specs.declared.lent.Lent.TheOpen.{Lent-F}
 use Rattle.htl_expr.specs.declared.lent.Lent.TheFolds.{fold-roll-Lent}
 use Rattle.htl_expr.specs.declared.out.Out.TheVariants as out
-use Rattle.htl_expr.specs.declared.node.ExprNode.{ExprNode}
+use Rattle.htl_syntax.specs.declared.node.ExprNode.{ExprNode}
 use Rattle.htl_expr.specs.declared.out.Out.{Out}
 use Rattle.htl_expr.specs.Print.{plain}
 use Rattle.htl_expr.specs.Lent.{out_step, out_of_lent, plain_item}

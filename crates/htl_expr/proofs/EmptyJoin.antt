@@ -1,7 +1,7 @@
 -- A list that is joined by the empty text is put together before it is written.
 use Rattle.std.proofs.Common.{◌≡◌, ◌≢◌, ◌<◌, ◌≤◌, ◌-◌, ℕ, List, Option, Some, None, length, arith}
-use Rattle.htl_expr.specs.declared.expression.Context.{Context}
-use Rattle.htl_expr.specs.declared.expression.Context.TheVariants as context
+use Rattle.htl_syntax.specs.declared.expression.Context.{Context}
+use Rattle.htl_syntax.specs.declared.expression.Context.TheVariants as context
 use Rattle.htl_expr.specs.declared.room.WriteFault.{WriteFault}
 use Rattle.htl_expr.specs.declared.room.WriteFault.TheVariants.{TooLong, NoMemory}
 use Rattle.htl_expr.specs.Print.{in_context}

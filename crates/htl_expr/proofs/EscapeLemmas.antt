@@ -1,17 +1,21 @@
 -- A text is escaped run by run, and what is written is inert.
-use Rattle.std.proofs.Common.{◌≡◌, ℕ, suc, ◌<◌, ◌≤◌, ◌-◌, Bool, true, false, cond, List, [], ◌∷◌, ◌++◌, Option, Some, None, is_some, unwrap_or, length, take, drop, slice_index, inl, inr, refl, sym, ap, ap₂, ◌∙◌, arith, append-nil, append_assoc}
+use Rattle.std.proofs.Common.{◌≡◌, ℕ, suc, ◌<◌, ◌≤◌, ◌-◌, Bool, true, false, eqb, cond, List, [], ◌∷◌, ◌++◌, Option, Some, None, is_some, unwrap_or, length, take, drop, slice_index, inl, inr, refl, sym, ap, ap₂, ◌∙◌, arith, append-nil, append_assoc}
 use Rattle.std.specs.List.{flat_map, list_all}
 use Rattle.std.specs.Str.{IsCharBoundary}
 use Rattle.std.proofs.lemmas.Bool.{cases_lt, cases_eq}
 use Rattle.std.proofs.lemmas.List.{length-drop, length-append}
 use Rattle.std.proofs.lemmas.List.Folds.{list_all-append}
 use Rattle.std.proofs.lemmas.Grind.{common_steps, flat_map-append}
-use Rattle.htl_expr.specs.declared.expression.Context.{Context}
-use Rattle.htl_expr.specs.declared.expression.Context.TheVariants as context
+use Rattle.htl_syntax.specs.declared.expression.Context.{Context}
+use Rattle.htl_syntax.specs.declared.expression.Context.TheVariants as context
 use Rattle.htl_expr.specs.Print.{reference, html_escape, reference_place, first_reference, is_inert, IsInert, in_context}
 use Rattle.htl_expr.specs.Writing.{Begins, IsStopped}
 use Rattle.htl_expr.specs.declared.room.WriteFault.{WriteFault}
 use Rattle.htl_expr.proofs.Writing.{begins_more, begins_later, longer}
+
+pub some_of : (t : List ℕ) → (eqb (length t) 0) ≡ false → 0 < length t
+some_of [] h = absurd cc
+some_of (c ∷ t) h = omega arith
 
 escape_plain : (b : ℕ) → reference b ≡ None → html_escape b ≡ b ∷ []
 escape_plain b e = rw e refl

@@ -2,7 +2,7 @@
 use Rattle.std.proofs.Common.{◌≡◌, ◌<◌, ◌+◌, ℕ, zero, suc, List, [], ◌∷◌, ◌++◌, Option, length, take, drop, get_or, map, refl, sym, ap, subst, ◌∙◌, arith, append-nil, append_assoc}
 use Rattle.std.specs.List.{flat_map}
 use Rattle.std.proofs.lemmas.List.{take_more}
-use Rattle.htl_expr.specs.declared.expression.Context.{Context}
+use Rattle.htl_syntax.specs.declared.expression.Context.{Context}
 use Rattle.htl_expr.specs.declared.room.WriteFault.{WriteFault}
 use Rattle.htl_expr.specs.Print.{concatenation, in_context}
 use Rattle.htl_expr.specs.Writing.{Begins, IsStopped}

@@ -5,12 +5,11 @@ use Rattle.std.proofs.lemmas.Map.Lookups.{exact_bytes}
 use Rattle.std.proofs.lemmas.Map.Views.{tells_apart}
 use Rattle.std.proofs.lemmas.Slice.Eq.{bytes_eq-Decides}
 use Rattle.std.specs.Bool.{Decides}
-use Rattle.std.specs.BTreeMap.{BTreeMap, get, Updates, begins_with_byte}
+use Rattle.std.specs.BTreeMap.{BTreeMap, get, Updates, is_at}
 use Rattle.std.specs.Ordering.{nat_cmp, is_eq, ordering_then}
 use Rattle.std.specs.declared.cmp.Ordering.{Ordering}
 use Rattle.std.specs.declared.cmp.Ordering.TheVariants.{Less, Equal, Greater}
 use Rattle.std.specs.Cmp.Lexicographic.{slice_cmp, pointwise, pointwise_decides, lists_ties, texts_ties}
-use Rattle.sp_base.specs.Bytes.{begins_with_byte}
 use Rattle.htl_expr.specs.Bindings.{Bindings}
 use Rattle.htl_expr.specs.declared.numbered.Aspect.{Aspect}
 use Rattle.htl_expr.specs.declared.scope.Scope.{Scope}
@@ -31,7 +30,7 @@ texts_decide : (x y : List (List ℕ)) → Decides (pointwise (pointwise nat_eq)
 texts_decide = pointwise_decides bytes_eq-Decides
 
 -- compared values at one place of the order are one
-texts_told : (x y : List (List ℕ)) → begins_with_byte (by_texts x) y ≡ true → x ≡ y
+texts_told : (x y : List (List ℕ)) → is_at (by_texts x) y ≡ true → x ≡ y
 texts_told x y e = (texts_decide x y).0 (lists_ties (slice_cmp nat_cmp) texts_ties x y ∙ remainder (nat_cmp (length x) (length y)) (slice_cmp (slice_cmp nat_cmp) x y) e)
   where
     remainder : (o rest : Ordering) → is_eq (ordering_then o rest) ≡ true → is_eq rest ≡ true
@@ -54,18 +53,18 @@ weaker P Q (Some n) f h = f n h
 
 -- a compared value that is given a number
 pub keeps_more : (old new : Table) (compared : List (List ℕ)) (next : ℕ) → Updates by_texts old new compared (Some next) → number_in old.entries compared ≡ None → KeepsNumbers old.entries new.entries
-keeps_more old new compared next updates none texts number has = updates.0 texts ∙ chosen (begins_with_byte (by_texts compared) texts) refl
+keeps_more old new compared next updates none texts number has = updates.0 texts ∙ chosen (is_at (by_texts compared) texts) refl
   where
-    chosen : (t : Bool) → begins_with_byte (by_texts compared) texts ≡ t → cond t (Some next) (number_in old.entries texts) ≡ Some number
+    chosen : (t : Bool) → is_at (by_texts compared) texts ≡ t → cond t (Some next) (number_in old.entries texts) ≡ Some number
     chosen true e = absurd (clash number (number_in old.entries texts) has (ap (number_in old.entries) (sym (texts_told compared texts e)) ∙ none))
     chosen false e = has
 
 -- what has a number after a compared value was given one
 one_of : (old new : Table) (compared : List (List ℕ)) (next : ℕ) → Updates by_texts old new compared (Some next) → (texts : List (List ℕ)) (number : ℕ) → number_in new.entries texts ≡ Some number
     → ((compared ≡ texts) × (next ≡ number)) ⊎ (number_in old.entries texts ≡ Some number)
-one_of old new compared next updates texts number has = chosen (begins_with_byte (by_texts compared) texts) refl (sym (updates.0 texts) ∙ has)
+one_of old new compared next updates texts number has = chosen (is_at (by_texts compared) texts) refl (sym (updates.0 texts) ∙ has)
   where
-    chosen : (t : Bool) → begins_with_byte (by_texts compared) texts ≡ t → cond t (Some next) (number_in old.entries texts) ≡ Some number → ((compared ≡ texts) × (next ≡ number)) ⊎ (number_in old.entries texts ≡ Some number)
+    chosen : (t : Bool) → is_at (by_texts compared) texts ≡ t → cond t (Some next) (number_in old.entries texts) ≡ Some number → ((compared ≡ texts) × (next ≡ number)) ⊎ (number_in old.entries texts ≡ Some number)
     chosen true e h = inl (texts_told compared texts e, some_is next number h)
     chosen false e h = inr h
 
@@ -100,12 +99,12 @@ known_still scope of_it old new known keeps knows name =
 pub known_more : (scope : Bindings) (of_it : Aspect) (classes : Numbers) (old new : BTreeMap (List ℕ) ℕ) (name : List ℕ) (number : ℕ) → Updates by_name old new name (Some number)
     → number_in classes (compared_by scope of_it name) ≡ Some number → Knows scope of_it classes old → Knows scope of_it classes new
 known_more scope of_it classes old new name number updates is knows q =
-    subst (λ found. IfSome found IsRight) (sym (updates.0 q)) (chosen (begins_with_byte (by_name name) q) refl)
+    subst (λ found. IfSome found IsRight) (sym (updates.0 q)) (chosen (is_at (by_name name) q) refl)
   where
     IsRight : ℕ → Type 0
     IsRight n = number_in classes (compared_by scope of_it q) ≡ Some n
 
-    chosen : (t : Bool) → begins_with_byte (by_name name) q ≡ t → IfSome (cond t (Some number) (get by_name old q)) IsRight
+    chosen : (t : Bool) → is_at (by_name name) q ≡ t → IfSome (cond t (Some number) (get by_name old q)) IsRight
     chosen true e = ap (λ p. number_in classes (compared_by scope of_it p)) (sym (tells_apart exact_bytes name q e)) ∙ is
     chosen false e = knows q
 
@@ -137,24 +136,24 @@ one_text x y = alone (pointwise nat_eq x y)
 pub remembers_more_joined : (scope : Scope) (old new : BTreeMap (List ℕ) (List ℕ)) (name text : List ℕ) → Updates by_name old new name (Some text)
     → text ≡ plain [] (property scope name) → RemembersJoined scope old → RemembersJoined scope new
 remembers_more_joined scope old new name text updates is known q =
-    subst (λ found. IfSome found IsRight) (sym (updates.0 q)) (chosen (begins_with_byte (by_name name) q) refl)
+    subst (λ found. IfSome found IsRight) (sym (updates.0 q)) (chosen (is_at (by_name name) q) refl)
   where
     IsRight : List ℕ → Type 0
     IsRight t = t ≡ plain [] (property scope q)
 
-    chosen : (t : Bool) → begins_with_byte (by_name name) q ≡ t → IfSome (cond t (Some text) (get by_name old q)) IsRight
+    chosen : (t : Bool) → is_at (by_name name) q ≡ t → IfSome (cond t (Some text) (get by_name old q)) IsRight
     chosen true e = is ∙ ap (λ p. plain [] (property scope p)) (tells_apart exact_bytes name q e)
     chosen false e = known q
 
 pub remembers_more_items : (scope : Scope) (old new : BTreeMap (List ℕ) (List ℕ)) (name text : List ℕ) → Updates by_name old new name (Some text)
     → text ≡ property_item scope name → RemembersItemTexts scope old → RemembersItemTexts scope new
 remembers_more_items scope old new name text updates is known q =
-    subst (λ found. IfSome found IsRight) (sym (updates.0 q)) (chosen (begins_with_byte (by_name name) q) refl)
+    subst (λ found. IfSome found IsRight) (sym (updates.0 q)) (chosen (is_at (by_name name) q) refl)
   where
     IsRight : List ℕ → Type 0
     IsRight t = t ≡ property_item scope q
 
-    chosen : (t : Bool) → begins_with_byte (by_name name) q ≡ t → IfSome (cond t (Some text) (get by_name old q)) IsRight
+    chosen : (t : Bool) → is_at (by_name name) q ≡ t → IfSome (cond t (Some text) (get by_name old q)) IsRight
     chosen true e = is ∙ ap (property_item scope) (tells_apart exact_bytes name q e)
     chosen false e = known q
 

@@ -6,11 +6,11 @@ use Rattle.htl_expr.specs.declared.lent.Lent.{Lent}
 use Rattle.htl_expr.specs.declared.lent.Lent.TheVariants.{Truth, rolls-Truth}
 use Rattle.htl_expr.specs.declared.lent.Lent.TheOpen.{Lent-F}
 use Rattle.htl_expr.specs.declared.lent.Lent.TheFolds.{fold-roll-Lent}
-use Rattle.htl_expr.specs.declared.node.ExprNode.{ExprNode}
-use Rattle.htl_expr.specs.declared.node.ExprNode.TheVariants.{Compare, And, Or, Choice, rolls-Compare, rolls-And, rolls-Or, rolls-Choice}
-use Rattle.htl_expr.specs.declared.node.ExprNode.TheOpen.{ExprNode-F}
-use Rattle.htl_expr.specs.declared.node.ExprNode.TheFolds.{fold-roll-ExprNode}
-use Rattle.htl_expr.specs.declared.node.Comparison.{Comparison}
+use Rattle.htl_syntax.specs.declared.node.ExprNode.{ExprNode}
+use Rattle.htl_syntax.specs.declared.node.ExprNode.TheVariants.{Compare, And, Or, Choice, rolls-Compare, rolls-And, rolls-Or, rolls-Choice}
+use Rattle.htl_syntax.specs.declared.node.ExprNode.TheOpen.{ExprNode-F}
+use Rattle.htl_syntax.specs.declared.node.ExprNode.TheFolds.{fold-roll-ExprNode}
+use Rattle.htl_syntax.specs.declared.node.Comparison.{Comparison}
 use Rattle.htl_expr.specs.declared.out.Out.{Out}
 use Rattle.htl_expr.specs.declared.out.Out.TheVariants as out
 use Rattle.htl_expr.specs.declared.scope.Scope.{Scope}

@@ -6,9 +6,8 @@ use Rattle.std.specs.Ordering.{nat_cmp, on, then_cmp}
 use Rattle.std.proofs.lemmas.Cmp.{then_total, on_total, lists_total, nat_cmp_total, nat_list_cmp_total}
 use Rattle.std.specs.Cmp.{IsTotalOrder}
 use Rattle.std.specs.Cmp.Lexicographic.{slice_cmp}
-use Rattle.std.specs.BTreeMap.{begins_with_byte}
+use Rattle.std.specs.BTreeMap.{is_at}
 use Rattle.std.specs.Map.{lookup}
-use Rattle.sp_base.specs.Bytes.{begins_with_byte}
 use Rattle.htl_expr.specs.declared.compared_value.Texts.{Texts}
 use Rattle.htl_expr.specs.declared.compared_value.Texts.TheVariants as texts
 use Rattle.htl_expr.specs.Print.{truth_text}
@@ -32,7 +31,7 @@ by_texts_total = then_total (on_total length nat_cmp_total) (lists_total nat_lis
 
 -- the number that a compared value has in a table
 abbrev pub number_in : List (List (List ℕ) × ℕ) → List (List ℕ) → Option ℕ
-number_in numbers texts = lookup (begins_with_byte (by_texts texts)) numbers
+number_in numbers texts = lookup (is_at (by_texts texts)) numbers
 
 -- compared values that have one number are one
 abbrev pub TellsApart : List (List (List ℕ) × ℕ) → Type 0

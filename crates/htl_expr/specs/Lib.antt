@@ -1,12 +1,8 @@
 pub mod Bindings
 pub mod ComparedValue
-pub mod Fault
-pub mod Grammar
 pub mod Lent
 pub mod Pieces
 pub mod Print
-pub mod Read
 pub mod Remembered
-pub mod Tokens
 pub mod Value
 pub mod Writing

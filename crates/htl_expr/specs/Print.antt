@@ -4,8 +4,8 @@ use Rattle.std.specs.List.{list_all}
 use Rattle.std.specs.Fmt.{signed_decimal}
 use Rattle.htl_expr.specs.declared.out.Out.{Out}
 use Rattle.htl_expr.specs.declared.out.Out.TheVariants as out
-use Rattle.htl_expr.specs.declared.expression.Context.{Context}
-use Rattle.htl_expr.specs.declared.expression.Context.TheVariants as context
+use Rattle.htl_syntax.specs.declared.expression.Context.{Context}
+use Rattle.htl_syntax.specs.declared.expression.Context.TheVariants as context
 
 -- a truth as it is printed
 abbrev pub truth_text : Bool → List ℕ

@@ -10,11 +10,11 @@ use Rattle.sp_base.specs.declared.value.Value.TheVariants as stored
 use Rattle.htl_expr.specs.declared.out.Out.{Out}
 use Rattle.htl_expr.specs.declared.out.Out.TheVariants as out
 use Rattle.htl_expr.specs.declared.scope.Scope.{Scope}
-use Rattle.htl_expr.specs.declared.node.Comparison.{Comparison}
-use Rattle.htl_expr.specs.declared.node.Comparison.TheVariants.{Equal, NotEqual, Below, Above, AtMost, AtLeast}
-use Rattle.htl_expr.specs.declared.node.ExprNode.{ExprNode, fold-ExprNode}
-use Rattle.htl_expr.specs.declared.node.ExprNode.TheOpen.{ExprNode-F}
-use Rattle.htl_expr.specs.declared.expression.Expr.{Expr}
+use Rattle.htl_syntax.specs.declared.node.Comparison.{Comparison}
+use Rattle.htl_syntax.specs.declared.node.Comparison.TheVariants.{Equal, NotEqual, Below, Above, AtMost, AtLeast}
+use Rattle.htl_syntax.specs.declared.node.ExprNode.{ExprNode, fold-ExprNode}
+use Rattle.htl_syntax.specs.declared.node.ExprNode.TheOpen.{ExprNode-F}
+use Rattle.htl_syntax.specs.declared.expression.Expression.{Expression}
 use Rattle.htl_expr.specs.Print.{truth_text, plain, join_text, in_context}
 
 -- nothing, false, 0, the empty text and the empty list are false
@@ -122,9 +122,9 @@ value_or_nothing scope None = out.Nothing
 value_or_nothing scope (Some node) = value scope node
 
 -- the value of a whole expression; an empty one is nothing
-abbrev pub expr_value : Scope → Expr → Out
+abbrev pub expr_value : Scope → Expression → Out
 expr_value scope e = value_or_nothing scope e.node
 
 -- the text that a whole expression writes
-abbrev pub print : Scope → Expr → List ℕ
+abbrev pub print : Scope → Expression → List ℕ
 print scope e = in_context e.context (plain (join_text e.join) (expr_value scope e))

@@ -9,7 +9,7 @@ ghost use Rattle.htl_expr.specs.declared.out.Out.TheVariants as out;
 use crate::evaluation::Evaluation;
 use crate::lent::{Lent, Operand, is_list};
 use crate::literals::has_same_texts;
-use crate::node::Comparison;
+use htl_syntax::Comparison;
 use sp_base::Mem;
 use std::alloc::Global;
 

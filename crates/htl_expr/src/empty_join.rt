@@ -7,9 +7,9 @@ ghost use Rattle.htl_expr.specs.Writing.{Wrote};
 
 use crate::escape::push;
 use crate::evaluation::Evaluation;
-use crate::expression::Context;
 use crate::lists::push_texts;
 use crate::room::WriteFault;
+use htl_syntax::Context;
 use sp_base::TextBuf;
 use std::alloc::Global;
 

@@ -1,12 +1,11 @@
 //! How a text is written in a context.
 
-ghost use Rattle.std.specs.Prelude.{◌≡◌, ◌≤◌, string_bytes, flat_map, option_map, is_some, length};
+ghost use Rattle.std.specs.Prelude.{◌≡◌, ◌≤◌, ◌<◌, string_bytes, flat_map, option_map, is_some, length, drop, slice_index};
 ghost use Rattle.htl_expr.specs.Print as spec;
 ghost use Rattle.htl_expr.specs.Writing.{Wrote};
 
-use crate::expression::Context;
 use crate::room::{WriteFault, push_within};
-use crate::tokens::tail;
+use htl_syntax::Context;
 
 fn reference(c: u8) -> Option<&'static str>
     ensures { option_map (λ text. text.now) result ≡ spec.reference c }
@@ -52,6 +51,17 @@ fn first_reference(text: &[u8]) -> Option<&'static str>
         [] => None,
         [c, ..] => reference(*c),
     }
+}
+
+// All but the first byte, which is a character of its own.
+fn tail(text: &str) -> &str
+    requires { slice_index text.now 0 < 128 }
+    ensures { result.now ≡ drop 1 text.now }
+{
+    if text.is_empty() {
+        return text;
+    }
+    text.split_at(1).1
 }
 
 // Whole runs between the five characters are written, which are bytes of their own.

@@ -7,8 +7,8 @@ ghost use Rattle.htl_expr.specs.Print.{truth_text};
 ghost use Rattle.htl_expr.specs.Writing.{Wrote, itself};
 
 use crate::escape::push;
-use crate::expression::Context;
 use crate::room::WriteFault;
+use htl_syntax::Context;
 use sp_base::{Mem, TextBuf};
 use std::alloc::Global;
 

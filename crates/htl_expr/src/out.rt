@@ -5,10 +5,10 @@ ghost use Rattle.std.specs.Fmt.{signed_decimal};
 ghost use Rattle.htl_expr.specs.Print.{truth_text};
 ghost use Rattle.htl_expr.specs.Lent.{out_of_lent, plain_item};
 
-use crate::expression::Context;
 use crate::lent::Lent;
 use crate::lists::{long_text, truth_text};
 use crate::print::push_value;
+use htl_syntax::Context;
 use sp_base::{Mem, NoMemory, TextBuf, TextList};
 use std::alloc::Global;
 

@@ -9,12 +9,13 @@ ghost use Rattle.htl_expr.specs.Writing.{Wrote};
 use crate::empty_join::push_joined;
 use crate::escape::push;
 use crate::evaluation::Evaluation;
-use crate::expression::{Context, Expr};
+use crate::expression::Expr;
 use crate::lent::{Lent, Operand};
 use crate::lists::{long_text, push_longs, push_texts, push_truths, truth_text};
 use crate::room::WriteFault;
 use crate::scope::Scope;
 use crate::value::value;
+use htl_syntax::Context;
 use sp_base::{Mem, NoMemory, TextBuf};
 use std::alloc::Global;
 
@@ -151,7 +152,7 @@ impl Expr {
         ensures text { Wrote most result (string_bytes text.old) (print scope.old self.now) (string_bytes text.new) }
         ensures scope { scope.new ≡ scope.old }
     {
-        match &self.node {
+        match &self.expression.node {
             Some(node) => {
                 let operand = value(alloc, scope, node)?;
                 push_operand(
@@ -159,8 +160,8 @@ impl Expr {
                     alloc,
                     scope,
                     most,
-                    self.context,
-                    join_text(&self.join),
+                    self.expression.context,
+                    join_text(&self.expression.join),
                     &operand,
                 )
             }

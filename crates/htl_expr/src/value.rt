@@ -11,10 +11,10 @@ use crate::evaluation::Evaluation;
 use crate::expression::Expr;
 use crate::lent::{Lent, Operand, is_list, is_true};
 use crate::lists::truth_text;
-use crate::node::{Comparison, ExprNode};
 use crate::out::{Out, owned};
 use crate::pieces::{ItemPiece, all_pieces, piece_alone};
 use crate::scope::{Scope, property, resource};
+use htl_syntax::{Comparison, ExprNode};
 use sp_base::{Mem, TextBuf};
 use sqlite_items::Items;
 use std::alloc::Global;
@@ -307,7 +307,7 @@ impl Expr {
     pub fn value<'a>(&'a self, alloc: Global, scope: &Scope<'a>) -> Mem<Out>
         ensures { IfOk result (λ v. v ≡ spec.expr_value scope.now self.now) }
     {
-        match &self.node {
+        match &self.expression.node {
             Some(node) => {
                 let mut scope = Evaluation::of(alloc, scope);
                 owned(alloc, &value(alloc, &mut scope, node)?.value)

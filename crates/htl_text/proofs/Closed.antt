@@ -1,8 +1,8 @@
 -- Where a "}" closes an expression.
 use Rattle.std.proofs.Common.{◌≡◌, ◌+◌, ℕ, suc, Bool, true, false, cond, eqb, List, [], ◌∷◌, ◌++◌, length, Option, Some, None, Err, refl, ap, sym, subst, ◌∙◌, ◌⊎◌, inl, inr, rules, arith, append_assoc}
 use Rattle.std.proofs.lemmas.List.{length-append, take_at, drop_at}
-use Rattle.htl_expr.specs.Fault.{expression_of}
-use Rattle.htl_expr.specs.Tokens.{is_quote}
+use Rattle.htl_syntax.specs.Fault.{expression_of}
+use Rattle.htl_syntax.specs.Tokens.{is_quote}
 use Rattle.htl_text.specs.declared.fault.TextFault.{TextFault}
 use Rattle.htl_text.specs.declared.quotes.Quotes.{Quotes}
 use Rattle.htl_text.specs.declared.quotes.Quotes.TheVariants as q

@@ -4,9 +4,9 @@ use Rattle.std.proofs.Common.{drop-drop}
 use Rattle.std.specs.List.{flat_map}
 use Rattle.std.proofs.lemmas.List.{length-append}
 use Rattle.std.proofs.lemmas.List.Folds.{length-flat_map-take}
-use Rattle.htl_expr.specs.declared.expression.Expr.{Expr}
-use Rattle.htl_expr.specs.declared.expression.ExprFault.{ExprFault}
-use Rattle.htl_expr.specs.Fault.{expression_of}
+use Rattle.htl_syntax.specs.declared.expression.Expression.{Expression}
+use Rattle.htl_syntax.specs.declared.expression.ExprFault.{ExprFault}
+use Rattle.htl_syntax.specs.Fault.{expression_of}
 use Rattle.htl_text.specs.declared.fault.TextFault.{TextFault}
 use Rattle.htl_text.specs.declared.piece.TemplatePiece.{TemplatePiece}
 use Rattle.htl_text.specs.declared.piece.TemplatePiece.TheVariants.{Value}
@@ -22,7 +22,7 @@ before_twice a b (Ok ps) = ap Ok (sym (append_assoc a b ps))
 before_twice a b (Err f) = refl
 
 -- plain text before an expression is a piece of its own
-plain_before : (t : List ℕ) (e : Expr) (r : Read) → with_plain t (before (Value e ∷ []) r) ≡ before (plain_pieces t) (before (Value e ∷ []) r)
+plain_before : (t : List ℕ) (e : Expression) (r : Read) → with_plain t (before (Value e ∷ []) r) ≡ before (plain_pieces t) (before (Value e ∷ []) r)
 plain_before [] e (Ok ps) = refl
 plain_before (c ∷ t) e (Ok ps) = refl
 plain_before t e (Err f) = refl
@@ -46,18 +46,18 @@ record After (t remainder : List ℕ) : Type 0 where
   n : ℕ
   same : remainder ≡ drop n t
 
-abbrev found : Expr × List ℕ → Result (Expr × List ℕ) TextFault
+abbrev found : Expression × List ℕ → Result (Expression × List ℕ) TextFault
 found x = Ok x
 
-ok_of : (x y : Expr × List ℕ) → found x ≡ found y → x ≡ y
+ok_of : (x y : Expression × List ℕ) → found x ≡ found y → x ≡ y
 ok_of x y e = cc
 
-value_after : (place c : ℕ) (t : List ℕ) (e : Expr) (remainder : List ℕ) → value_at place (c ∷ t) ≡ Ok (e, remainder) → After t remainder
+value_after : (place c : ℕ) (t : List ℕ) (e : Expression) (remainder : List ℕ) → value_at place (c ∷ t) ≡ Ok (e, remainder) → After t remainder
 unfolding value_at
 value_after place c t e remainder h = go (closing Outside 0 (drop 1 t)) h
   where
-    in_text : (n : ℕ) (r : Result Expr ExprFault) → read_value place (drop 1 (drop n (drop 1 t))) r ≡ Ok (e, remainder) → After t remainder
-    in_text n (Ok read) x = record { n = 1 + n + 1; same = sym (ap (λ (q : Expr × List ℕ). q.1) (ok_of _ _ x)) ∙ ap (drop 1) (drop-drop n 1 t) ∙ drop-drop 1 (1 + n) t }
+    in_text : (n : ℕ) (r : Result Expression ExprFault) → read_value place (drop 1 (drop n (drop 1 t))) r ≡ Ok (e, remainder) → After t remainder
+    in_text n (Ok read) x = record { n = 1 + n + 1; same = sym (ap (λ (q : Expression × List ℕ). q.1) (ok_of _ _ x)) ∙ ap (drop 1) (drop-drop n 1 t) ∙ drop-drop 1 (1 + n) t }
     in_text n (Err f) x = absurd cc
 
     go : (o : Option ℕ) → closed_value place (drop 1 t) o ≡ Ok (e, remainder) → After t remainder
@@ -68,7 +68,7 @@ not_nothing : opens_expression [] ≡ true → ⊥
 unfolding opens_expression
 not_nothing h = absurd cc
 
-pub value_follows : (all : ℕ) (t : List ℕ) (e : Expr) (remainder : List ℕ) → opens_expression t ≡ true → value_at (all - length t) t ≡ Ok (e, remainder) → template_pieces all 0 t ≡ before (Value e ∷ []) (template_pieces all 0 remainder)
+pub value_follows : (all : ℕ) (t : List ℕ) (e : Expression) (remainder : List ℕ) → opens_expression t ≡ true → value_at (all - length t) t ≡ Ok (e, remainder) → template_pieces all 0 t ≡ before (Value e ∷ []) (template_pieces all 0 remainder)
 unfolding template_pieces
 value_follows all [] e remainder h x = absurd (not_nothing h)
 value_follows all (c ∷ t) e remainder h x =
@@ -99,7 +99,7 @@ read_fails all place old prefix remainder rest text f h ep x plain inv =
     sym inv ∙ ap (before old) (sym (plain all)) ∙ ap (λ (r : Read). before old (with_plain prefix r)) fails
 
 -- an expression is left, and a text after it
-pub read_more : (all place : ℕ) (old mid new : List TemplatePiece) (prefix remainder after rest text : List ℕ) (e : Expr) → opens_expression remainder ≡ true → place ≡ all - length remainder → value_at place remainder ≡ Ok (e, after)
+pub read_more : (all place : ℕ) (old mid new : List TemplatePiece) (prefix remainder after rest text : List ℕ) (e : Expression) → opens_expression remainder ≡ true → place ≡ all - length remainder → value_at place remainder ≡ Ok (e, after)
     → ((n : ℕ) → with_plain prefix (template_pieces n 0 remainder) ≡ template_pieces n 0 rest) → mid ≡ old ++ plain_pieces prefix → new ≡ mid ++ Value e ∷ [] → before old (template_pieces all 0 rest) ≡ template_pieces all 0 text
     → before new (template_pieces all 0 after) ≡ template_pieces all 0 text
 read_more all place old mid new prefix remainder after rest text e h ep x plain em en inv =

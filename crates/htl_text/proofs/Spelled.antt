@@ -2,10 +2,10 @@
 use Rattle.std.proofs.Common.{◌≡◌, ◌≤◌, ◌+◌, ◌-◌, ℕ, zero, suc, Bool, true, false, ◌&&◌, eqb, List, [], ◌∷◌, ◌++◌, drop, length, codes, Option, Some, None, Result, Ok, Err, refl, ap, sym, subst, ◌∙◌, arith, append_assoc}
 use Rattle.std.proofs.lemmas.List.{length-append}
 use Rattle.sp_base.specs.Bytes.{begins_with_byte}
-use Rattle.htl_expr.specs.declared.expression.Expr.{Expr}
-use Rattle.htl_expr.specs.declared.expression.ExprFault.{ExprFault}
-use Rattle.htl_expr.specs.Fault.{expression_of}
-use Rattle.htl_expr.specs.Grammar.{Whole}
+use Rattle.htl_syntax.specs.declared.expression.Expression.{Expression}
+use Rattle.htl_syntax.specs.declared.expression.ExprFault.{ExprFault}
+use Rattle.htl_syntax.specs.Fault.{expression_of}
+use Rattle.htl_syntax.specs.Grammar.{Whole}
 use Rattle.htl_text.specs.declared.fault.TextFault.{TextFault}
 use Rattle.htl_text.specs.declared.fault.TextFault.TheVariants.{Unclosed, BadExpr, NoMemory}
 use Rattle.htl_text.specs.declared.piece.TemplatePiece.{TemplatePiece}
@@ -22,11 +22,11 @@ Read = Result (List TemplatePiece) TextFault
 
 -- what is read as an expression is one by the grammar
 abbrev Found : Type 0
-Found = (text : List ℕ) (e : Expr) → expression_of text ≡ Ok e → Whole text e
+Found = (text : List ℕ) (e : Expression) → expression_of text ≡ Ok e → Whole text e
 
 -- an expression of the grammar is read as that one
 abbrev Only : Type 0
-Only = (text : List ℕ) (e : Expr) → Whole text e → expression_of text ≡ Ok e
+Only = (text : List ℕ) (e : Expression) → Whole text e → expression_of text ≡ Ok e
 
 both : (a b : Bool) → (a && b) ≡ true → (a ≡ true) × (b ≡ true)
 both true b h = (refl, h)
@@ -73,7 +73,7 @@ escaped_read : (all : ℕ) (t : List ℕ) → template_pieces all 0 (92 ∷ 36 �
 unfolding template_pieces opens_expression escapes begins_with_byte
 escaped_read all t = refl
 
-value_read : (all : ℕ) (w t : List ℕ) (e : Expr) → Inside w → expression_of w ≡ Ok e → template_pieces all 0 (36 ∷ 123 ∷ (w ++ 125 ∷ t)) ≡ before (Value e ∷ []) (template_pieces all 0 t)
+value_read : (all : ℕ) (w t : List ℕ) (e : Expression) → Inside w → expression_of w ≡ Ok e → template_pieces all 0 (36 ∷ 123 ∷ (w ++ 125 ∷ t)) ≡ before (Value e ∷ []) (template_pieces all 0 t)
 value_read all w t e x h =
     let text = 36 ∷ 123 ∷ (w ++ 125 ∷ t) in
     value_follows all text e t (opens_there (w ++ 125 ∷ t)) (value_is (all - length text) w t x ∙ ap (read_value (all - length text) t) h)
@@ -102,7 +102,7 @@ fault_read found (BadExpr n) place t x = ap (λ (u : List ℕ). value_at place (
     b : HasNoExpr t
     b = x.1
 
-    go : (r : Result Expr ExprFault) → expression_of b.inside ≡ r → read_value place b.text r ≡ Err (BadExpr n)
+    go : (r : Result Expression ExprFault) → expression_of b.inside ≡ r → read_value place b.text r ≡ Err (BadExpr n)
     go (Ok e) h = absurd (b.none e (found b.inside e h))
     go (Err g) h = ap (λ (k : ℕ). Err (BadExpr k)) (sym x.0)
 fault_read found NoMemory place t x = absurd x
@@ -154,7 +154,7 @@ escaped_means : (n : ℕ) (t : List ℕ) (r : Read) → Meaning (n + 3) t r → 
 escaped_means n t (Ok ps) x = s.escape x
 escaped_means n t (Err f) x = later n (92 ∷ 36 ∷ 123 ∷ []) (92 ∷ 36 ∷ 123 ∷ t) t f (pieces_after_plain (codes "${")) refl (λ ps rest y. s.escape y) x
 
-value_means : (n : ℕ) (w t : List ℕ) (e : Expr) → Inside w → Whole w e → (r : Read) → Meaning (n + (length w + 3)) t r → Meaning n (36 ∷ 123 ∷ (w ++ 125 ∷ t)) (before (Value e ∷ []) r)
+value_means : (n : ℕ) (w t : List ℕ) (e : Expression) → Inside w → Whole w e → (r : Read) → Meaning (n + (length w + 3)) t r → Meaning n (36 ∷ 123 ∷ (w ++ 125 ∷ t)) (before (Value e ∷ []) r)
 value_means n w t e i y (Ok ps) x = s.value i y x
 value_means n w t e i y (Err f) x =
     let prefix = 36 ∷ 123 ∷ (w ++ 125 ∷ []) in
@@ -180,10 +180,10 @@ closed_means found only n all w t i e x = go (expression_of w) refl
     text : List ℕ
     text = 36 ∷ 123 ∷ (w ++ 125 ∷ t)
 
-    go : (r : Result Expr ExprFault) → expression_of w ≡ r → Meaning n text (template_pieces all 0 text)
+    go : (r : Result Expression ExprFault) → expression_of w ≡ r → Meaning n text (template_pieces all 0 text)
     go (Ok v) h = subst (Meaning n text) (sym (value_read all w t v i h)) (value_means n w t v i (found w v h) (template_pieces all 0 t) x)
     go (Err g) h =
-        let none : (v : Expr) → Whole w v → ⊥ = λ v y. (let again = only w v y in absurd cc) in
+        let none : (v : Expression) → Whole w v → ⊥ = λ v y. (let again = only w v y in absurd cc) in
         fault_here n all (BadExpr n) (w ++ 125 ∷ t) e (value_is n w t i ∙ ap (read_value n t) h) (refl, record { inside = w; text = t; parts = refl; closed = i; none = none })
 
 -- what follows, up to a length, means what is read of it

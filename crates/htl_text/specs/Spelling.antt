@@ -1,8 +1,8 @@
 -- A template's pieces as a relation between whole texts, beside the reading from left to right (HTL specification 1.4, "Expression Language").
 use Rattle.std.specs.Prelude.{◌≡◌, ◌==◌, ℕ, true, false, List, [], ◌∷◌, ◌++◌, length, codes}
-use Rattle.htl_expr.specs.declared.expression.Expr.{Expr}
-use Rattle.htl_expr.specs.Grammar.{Whole}
-use Rattle.htl_expr.specs.Tokens.{is_quote}
+use Rattle.htl_syntax.specs.declared.expression.Expression.{Expression}
+use Rattle.htl_syntax.specs.Grammar.{Whole}
+use Rattle.htl_syntax.specs.Tokens.{is_quote}
 use Rattle.htl_text.specs.declared.fault.TextFault.{TextFault}
 use Rattle.htl_text.specs.declared.fault.TextFault.TheVariants.{Unclosed, BadExpr, NoMemory}
 use Rattle.htl_text.specs.declared.piece.TemplatePiece.{TemplatePiece}
@@ -26,7 +26,7 @@ pub data SpellsTemplate : List ℕ → List TemplatePiece → List ℕ → Type 
   end : {rest : List ℕ} → SpellsTemplate rest [] rest
   plain : {c : ℕ} {text rest : List ℕ} {ps : List TemplatePiece} → opens_expression (c ∷ text) ≡ false → escapes (c ∷ text) ≡ false → SpellsTemplate text ps rest → SpellsTemplate (c ∷ text) (pieces_after_plain (c ∷ []) ps) rest
   escape : {text rest : List ℕ} {ps : List TemplatePiece} → SpellsTemplate text ps rest → SpellsTemplate (92 ∷ 36 ∷ 123 ∷ text) (pieces_after_plain (codes "${") ps) rest
-  value : {inside text rest : List ℕ} {e : Expr} {ps : List TemplatePiece} → Inside inside → Whole inside e → SpellsTemplate text ps rest → SpellsTemplate (36 ∷ 123 ∷ (inside ++ 125 ∷ text)) (Value e ∷ ps) rest
+  value : {inside text rest : List ℕ} {e : Expression} {ps : List TemplatePiece} → Inside inside → Whole inside e → SpellsTemplate text ps rest → SpellsTemplate (36 ∷ 123 ∷ (inside ++ 125 ∷ text)) (Value e ∷ ps) rest
 
 -- no "}" closes what stands after "${"
 abbrev pub NeverCloses : List ℕ → Type 0
@@ -38,7 +38,7 @@ pub record HasNoExpr (after_opening : List ℕ) : Type 0 where
   pub text : List ℕ
   pub parts : after_opening ≡ inside ++ 125 ∷ text
   pub closed : Inside inside
-  pub none : (e : Expr) → Whole inside e → ⊥
+  pub none : (e : Expression) → Whole inside e → ⊥
 
 -- the fault of an expression by its place and by what stands after its "${"
 abbrev pub Faults : TextFault → ℕ → List ℕ → Type 0

@@ -4,10 +4,10 @@
 use Rattle.std.specs.Prelude.{ℕ, zero, suc, ◌+◌, ◌-◌, Bool, false, ◌||◌, ◌&&◌, ◌==◌, if◌then◌else◌, List, [], ◌∷◌, ◌++◌, length, take, drop, codes, Option, Some, None, Result, Ok, Err}
 use Rattle.std.specs.List.{flat_map}
 use Rattle.sp_base.specs.Bytes.{begins_with_byte}
-use Rattle.htl_expr.specs.declared.expression.Expr.{Expr}
-use Rattle.htl_expr.specs.declared.expression.ExprFault.{ExprFault}
+use Rattle.htl_syntax.specs.declared.expression.Expression.{Expression}
+use Rattle.htl_syntax.specs.declared.expression.ExprFault.{ExprFault}
 use Rattle.htl_expr.specs.declared.scope.Scope.{Scope}
-use Rattle.htl_expr.specs.Fault.{expression_of}
+use Rattle.htl_syntax.specs.Fault.{expression_of}
 use Rattle.htl_expr.specs.Value.{print}
 use Rattle.htl_text.specs.declared.fault.TextFault.{TextFault}
 use Rattle.htl_text.specs.declared.fault.TextFault.TheVariants.{Unclosed, BadExpr}
@@ -44,17 +44,17 @@ closing quotes n [] = None
 closing quotes n (c ∷ t) = if closes_expression quotes c then Some n else closing (quotes_step quotes c) (n + 1) t
 
 -- what stands between the braces as an expression, and the text after it
-abbrev pub read_value : ℕ → List ℕ → Result Expr ExprFault → Result (Expr × List ℕ) TextFault
+abbrev pub read_value : ℕ → List ℕ → Result Expression ExprFault → Result (Expression × List ℕ) TextFault
 read_value place remainder (Ok e) = Ok (e, remainder)
 read_value place remainder (Err fault) = Err (BadExpr place)
 
 -- the same, by the place of the byte that closes it
-abbrev pub closed_value : ℕ → List ℕ → Option ℕ → Result (Expr × List ℕ) TextFault
+abbrev pub closed_value : ℕ → List ℕ → Option ℕ → Result (Expression × List ℕ) TextFault
 closed_value place inside None = Err (Unclosed place)
 closed_value place inside (Some n) = read_value place (drop 1 (drop n inside)) (expression_of (take n inside))
 
 -- the expression that "${" opens at a place of the template, and the text after its "}"
-unfoldable pub value_at : ℕ → List ℕ → Result (Expr × List ℕ) TextFault
+unfoldable pub value_at : ℕ → List ℕ → Result (Expression × List ℕ) TextFault
 value_at place t = closed_value place (drop 2 t) (closing Outside 0 (drop 2 t))
 
 -- plain text before pieces; no piece of plain text is empty, and no two stand side by side
@@ -75,7 +75,7 @@ before prefix (Ok ps) = Ok (prefix ++ ps)
 before prefix (Err fault) = Err fault
 
 -- an expression before the pieces of the rest
-abbrev pub with_expression : Result (Expr × List ℕ) TextFault → (List ℕ → Result (List TemplatePiece) TextFault) → Result (List TemplatePiece) TextFault
+abbrev pub with_expression : Result (Expression × List ℕ) TextFault → (List ℕ → Result (List TemplatePiece) TextFault) → Result (List TemplatePiece) TextFault
 with_expression (Ok x) more = before (Value x.0 ∷ []) (more x.1)
 with_expression (Err fault) more = Err fault
 

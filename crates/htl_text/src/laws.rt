@@ -6,7 +6,7 @@ ghost use Rattle.htl_text.specs.declared.piece.TemplatePiece.{TemplatePiece};
 ghost use Rattle.htl_text.specs.Spelling.{SpellsTemplate, IsFirstOpening};
 ghost use Rattle.htl_text.specs.Template.{template_of};
 
-use htl_expr::the_reading_is_the_grammar;
+use htl_syntax::the_reading_is_the_grammar;
 
 /// The reading from left to right is the relation on whole texts: a text is read as the pieces that it spells and as no others, and a
 /// fault is that of the first expression that is not closed, or that is none by the grammar. The reading lacks no memory.

@@ -22,7 +22,7 @@ pub struct Template {
 impl Model for Template {
     ghost use Rattle.std.specs.Prelude.{List};
     ghost use Rattle.std.specs.Coded.{codes};
-    ghost use Rattle.htl_expr.specs.contracts.node.ExprNode as node;
+    ghost use Rattle.htl_syntax.specs.contracts.node.ExprNode as node;
     ghost use Rattle.htl_text.specs.declared.piece.TemplatePiece.{TemplatePiece};
 
     ghost Value = { List TemplatePiece };

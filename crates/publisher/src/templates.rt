@@ -28,7 +28,7 @@ pub(crate) struct Templates {
 
 impl Model for Templates {
     ghost use Rattle.std.specs.Coded.{codes};
-    ghost use Rattle.htl_expr.specs.contracts.node.ExprNode as node;
+    ghost use Rattle.htl_syntax.specs.contracts.node.ExprNode as node;
     ghost use Rattle.publisher.specs.Kept.{KeptReadings};
 
     ghost Value = { KeptReadings };

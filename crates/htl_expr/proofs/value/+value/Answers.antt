@@ -1,6 +1,6 @@
 use Rattle.std.proofs.Common.{◌≡◌, ◌∙◌, Bor, List, IfOk, map, arith, sym, ap, subst}
 use Rattle.std.proofs.lemmas.List.{take_all}
-use Rattle.htl_expr.specs.declared.node.ExprNode.{ExprNode}
+use Rattle.htl_syntax.specs.declared.node.ExprNode.{ExprNode}
 use Rattle.htl_expr.specs.declared.out.Out.{Out}
 use Rattle.htl_expr.specs.declared.out.Out.TheVariants as out
 use Rattle.htl_expr.specs.Lent.{out_of_lent, plain_item, listed_texts}

@@ -1,7 +1,0 @@
-use Rattle.std.proofs.Common.{sym}
-use Rattle.std.proofs.lemmas.Str.{IsCharBoundary-after_ascii}
-use Rattle.htl_expr.proofs.Scan.{some_of}
-use Rattle.htl_expr.proofs.tokens.tail.Goals as goal
-
-pub split_at-requires : goal.split_at-requires
-split_at-requires c = IsCharBoundary-after_ascii c.args.text.now 0 c.utf8.text (some_of c.args.text.now (sym c.if-is_empty.ensures)) c.requires

@@ -1,0 +1,120 @@
+//! A whole expression.
+
+ghost use Rattle.std.specs.Prelude.{◌≡◌, ◌≢◌, ◌≤◌, IfOk, IfErr, Ok, Err, take, drop, length};
+ghost use Rattle.htl_syntax.specs.Tokens.{Gives};
+ghost use Rattle.htl_syntax.specs.Read as spec;
+ghost use Rattle.htl_syntax.specs.Grammar.{nesting_limit, Whole};
+ghost use Rattle.htl_syntax.specs.declared.expression.Expression.{Expression};
+ghost use Rattle.htl_syntax.specs.Fault.{takes_colon, fault_place, expression_of, IsReadAs, IsExpressionFault};
+
+use crate::node::ExprNode;
+use crate::options::{Options, read_options};
+use crate::reader::first;
+use crate::stop::ExprStop;
+use crate::tokens::skip;
+use sp_base::{Mem, NoMemory, TextBuf, begins_with_byte};
+use std::alloc::Global;
+
+/// Why a text is no expression. A place is counted in bytes from 0.
+#[derive(Debug, Drop)]
+pub enum ExprFault {
+    /// No token of the grammar goes on with the byte at this place, or the text ends here.
+    Unexpected(usize),
+    /// The bracket, `!` or `?` at this place would nest deeper than 32.
+    TooDeep(usize),
+    NoMemory,
+}
+
+/// How the printed text is escaped.
+#[derive(Debug, Clone, Copy, Drop)]
+pub enum Context {
+    Text,
+    Unsafe,
+}
+
+/// An expression with its options.
+#[derive(Drop)]
+pub struct Expression {
+    pub node: Option<ExprNode>,
+    pub join: Option<TextBuf>,
+    pub context: Option<Context>,
+}
+
+#[tactic(auto, unfolding(crate::specs::Read::expression_read))]
+fn whole(alloc: Global, text: &str) -> Result<Expression, ExprStop>
+    ensures { Gives (λ e. e) result (spec.expression_read nesting_limit text.now) }
+{
+    let (node, rest) = first(alloc, skip(text))?;
+    let (Options { join, context }, rest) = read_options(alloc, rest)?;
+    if rest.is_empty() {
+        Ok(Expression {
+            node,
+            join,
+            context,
+        })
+    } else {
+        Err(ExprStop::Unexpected(rest.len()))
+    }
+}
+
+/// Whether a colon after a text may belong to a field's name: a letter after it is then read.
+fn takes_colon(alloc: Global, leading: &str) -> Mem<bool>
+    ensures { IfOk result (λ takes. takes ≡ takes_colon nesting_limit leading.now) }
+{
+    let mut text = String::from_str(alloc, leading)?;
+    text.push_str(":b")?;
+    match whole(alloc, text.as_str()) {
+        Ok(_) => Ok(true),
+        Err(ExprStop::Memory) => Err(NoMemory),
+        Err(ExprStop::Unexpected(left)) => Ok(left <= 1),
+        Err(ExprStop::TooDeep(_)) => Ok(false),
+    }
+}
+
+/// The place of a fault. Where a colon may belong to a field's name, the byte after it is the one that doesn't fit.
+fn place_of(alloc: Global, text: &str, place: usize) -> Mem<usize>
+    requires { place ≤ length text.now }
+    ensures { IfOk result (λ p. p ≡ fault_place nesting_limit text.now place) }
+{
+    if !begins_with_byte(b':', &text.as_bytes()[place..]) {
+        return Ok(place);
+    }
+    let (leading, _rest) = text.split_at(place);
+    if takes_colon(alloc, leading)? {
+        Ok(place + 1)
+    } else {
+        Ok(place)
+    }
+}
+
+impl Expression {
+    /// Reads an expression.
+    pub fn read(alloc: Global, text: &str) -> Result<Expression, ExprFault>
+        // Reading from left to right gives this expression, or this fault at this place.
+        ensures ok { IfOk result (λ e. expression_of text.now ≡ Ok e) }
+        ensures err { IfErr result (λ f. f ≢ ExprFault.NoMemory → expression_of text.now ≡ Err f) }
+
+        // What is read is in the grammar.
+        ensures found { IfOk result (λ e. Whole text.now e) }
+
+        // What is in the grammar is read, unless memory runs out.
+        ensures only { (e : Expression) → Whole text.now e → IsReadAs e result }
+
+        // The place of a fault is the first byte with which no expression goes on; it is TooDeep exactly where one would with one level more.
+        ensures fault { IfErr result (λ f. IsExpressionFault f text.now) }
+    {
+        match whole(alloc, text) {
+            Ok(e) => Ok(e),
+            Err(ExprStop::Memory) => Err(ExprFault::NoMemory),
+            Err(ExprStop::Unexpected(left)) => {
+                match place_of(alloc, text, text.len().saturating_sub(left)) {
+                    Ok(place) => Err(ExprFault::Unexpected(place)),
+                    Err(NoMemory) => Err(ExprFault::NoMemory),
+                }
+            }
+            Err(ExprStop::TooDeep(left)) => Err(ExprFault::TooDeep(
+                text.len().saturating_sub(left),
+            )),
+        }
+    }
+}

@@ -1,0 +1,111 @@
+//! Options: `@ join='..', context='..'`.
+
+ghost use Rattle.std.specs.Prelude.{◌≡◌, ◌<◌, Ok, Some, None, true, false, slice_index};
+ghost use Rattle.htl_syntax.specs.Read as spec;
+ghost use Rattle.htl_syntax.specs.Tokens as tokens;
+ghost use Rattle.htl_syntax.specs.Tokens.{Gives};
+
+use crate::expression::Context;
+use crate::stop::ExprStop;
+use crate::tokens::{begins_with_byte, expect, is_quote, literal, remainder, skip, string, tail};
+use sp_base::TextBuf;
+use std::alloc::Global;
+
+/// The options that were read.
+#[derive(Drop)]
+pub struct Options {
+    pub join: Option<TextBuf>,
+    pub context: Option<Context>,
+}
+
+#[tactic(auto, unfolding(crate::specs::Read::context_word))]
+fn context_word(text: &str) -> Result<(Context, &str), ExprStop>
+    ensures { Gives (λ x. (x.0, x.1.now)) result (spec.context_word text.now) }
+{
+    if begins_with_byte(b't', text) {
+        let rest = literal(b"text", text)?;
+        Ok((Context::Text, rest))
+    } else {
+        let rest = literal(b"unsafe", text)?;
+        Ok((Context::Unsafe, rest))
+    }
+}
+
+/// `'text'` or `'unsafe'` with either mark.
+#[tactic(auto, using(crate::proofs::Strings::quote_ascii), unfolding(crate::specs::Read::context_string, crate::specs::Tokens::begins))]
+fn context_string(text: &str) -> Result<(Context, &str), ExprStop>
+    ensures { Gives (λ x. (x.0, x.1.now)) result (spec.context_string text.now) }
+{
+    match text.as_bytes() {
+        [] => Err(ExprStop::Unexpected(0)),
+        [mark, ..] => {
+            if !is_quote(*mark) {
+                return Err(ExprStop::Unexpected(text.len()));
+            }
+            let (context, rest) = context_word(tail(text))?;
+            let rest = expect(*mark, rest)?;
+            Ok((context, rest))
+        }
+    }
+}
+
+#[tactic(auto, unfolding(crate::specs::Read::join_option))]
+fn join_option(alloc: Global, text: &str) -> Result<(TextBuf, &str), ExprStop>
+    ensures { Gives (λ x. (x.0, x.1.now)) result (spec.join_option text.now) }
+{
+    let rest = literal(b"join", text)?;
+    let rest = expect(b'=', skip(rest))?;
+    string(alloc, rest)
+}
+
+#[tactic(auto, unfolding(crate::specs::Read::context_option))]
+fn context_option(text: &str) -> Result<(Context, &str), ExprStop>
+    ensures { Gives (λ x. (x.0, x.1.now)) result (spec.context_option text.now) }
+{
+    let rest = literal(b"context", text)?;
+    let rest = expect(b'=', skip(rest))?;
+    context_string(rest)
+}
+
+/// An option that isn't given yet.
+#[tactic(auto, unfolding(crate::specs::Read::option))]
+fn read_option<'a>(
+    alloc: Global,
+    given: Options,
+    text: &'a str,
+) -> Result<(Options, &'a str), ExprStop>
+    ensures { Gives (λ x. ((x.0.join, x.0.context), x.1.now)) result (spec.option (given.join, given.context) text.now) }
+{
+    let Options { join, context } = given;
+    if join.is_none() && begins_with_byte(b'j', text) {
+        let (word, rest) = join_option(alloc, text)?;
+        let join = Some(word);
+        Ok((Options { join, context }, rest))
+    } else if context.is_none() && begins_with_byte(b'c', text) {
+        let (word, rest) = context_option(text)?;
+        let context = Some(word);
+        Ok((Options { join, context }, rest))
+    } else {
+        Err(ExprStop::Unexpected(text.len()))
+    }
+}
+
+/// Each option once at most.
+#[tactic(auto, unfolding(crate::specs::Read::options))]
+pub fn read_options(alloc: Global, text: &str) -> Result<(Options, &str), ExprStop>
+    ensures { Gives (λ x. ((x.0.join, x.0.context), x.1.now)) result (spec.options text.now) }
+{
+    let none = Options {
+        join: None,
+        context: None,
+    };
+    if !begins_with_byte(b'@', text) {
+        return Ok((none, text));
+    }
+    let (given, rest) = read_option(alloc, none, remainder(b'@', text))?;
+    if begins_with_byte(b',', rest) {
+        read_option(alloc, given, remainder(b',', rest))
+    } else {
+        Ok((given, rest))
+    }
+}

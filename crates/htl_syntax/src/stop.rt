@@ -1,0 +1,39 @@
+//! Why a text could not be read.
+
+ghost use Rattle.std.specs.Prelude.{◌≡◌};
+ghost use Rattle.htl_syntax.specs.declared.stop.ExprStop.TheVariants.{Memory};
+
+use sp_base::NoMemory;
+use std::alloc::{AllocError, AllocFailed};
+
+/// A place is given by how many bytes are left there.
+#[derive(Debug, Drop)]
+pub enum ExprStop {
+    Memory,
+    Unexpected(usize),
+    TooDeep(usize),
+}
+
+impl From<NoMemory> for ExprStop {
+    ghost from_gives = { λ _ e. e ≡ Memory };
+
+    fn from(_fault: NoMemory) -> ExprStop {
+        ExprStop::Memory
+    }
+}
+
+impl From<AllocError> for ExprStop {
+    ghost from_gives = { λ _ e. e ≡ Memory };
+
+    fn from(_fault: AllocError) -> ExprStop {
+        ExprStop::Memory
+    }
+}
+
+impl<T: Drop> From<AllocFailed<T>> for ExprStop {
+    ghost from_gives = { λ _ e. e ≡ Memory };
+
+    fn from(_fault: AllocFailed<T>) -> ExprStop {
+        ExprStop::Memory
+    }
+}

@@ -137,7 +137,7 @@ fn same_in_prefix<'a>(
     a: &[ItemPiece<'a>],
     b: &[ItemPiece<'a>],
 ) -> Mem<usize>
-    ensures front { IfOk result (AgreeUpTo (piece_texts scope.old a.now) (piece_texts scope.old b.now)) }
+    ensures agree { IfOk result (AgreeUpTo (piece_texts scope.old a.now) (piece_texts scope.old b.now)) }
     ensures differs { IfOk result (DifferAt (piece_texts scope.old a.now) (piece_texts scope.old b.now)) }
     ensures scope { scope.new ≡ scope.old }
 {

@@ -5,7 +5,7 @@ ghost use Rattle.sling_dispatch.specs.Runs as runs;
 use any_config::Farm;
 use front::{Pick, Step};
 use replay_text::{EventLine, Flight};
-use sp_base::{ByteBuf, Mem};
+use sp_base::{ByteBuf, HTTP_PORT, Mem};
 use std::alloc::Global;
 
 /// The host that a farm's publisher is asked at, with its port where it isn't that of HTTP.

@@ -1,4 +1,6 @@
 -- What the code keeps of a connection: the places of its answers that aren't sent yet.
+-- `has_reply`, `first_has_reply`, `is_final_reply`, `reply_bytes`, `place_bytes` and `IsSendingOf` are needed by private functions and proofs
+-- alone.
 use Rattle.std.specs.Prelude.{◌≡◌, ◌≤◌, ◌⊎◌, ℕ, Bool, true, false, not, nat_eq, List, [], ◌∷◌, drop, length, take}
 use Rattle.error_answers.specs.Errors.{error_answer}
 use Rattle.http_front.specs.Answers.{answer_bytes, fixed_507, interim_100}

@@ -56,7 +56,7 @@ abbrev pub first_has_reply : List AnswerPlace → Bool
 first_has_reply [] = false
 first_has_reply (place ∷ places) = has_reply place.reply
 
--- what is sent for the place: its bytes; or the spare ones, and then memory was wanting unless the fixed 507 is its own
+-- what is sent for the place: its bytes; or the spare ones, and then memory ran out unless the fixed 507 is its own
 abbrev pub IsSendingOf : AnswerPlace → List ℕ → Sending → Type 0
 IsSendingOf place spare sending = ((sending.dry ≡ false) × (sending.bytes ≡ place_bytes place)) ⊎ ((sending.dry ≡ not (are_fixed_507 (place_bytes place))) × (sending.bytes ≡ spare))
 

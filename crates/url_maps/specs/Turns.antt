@@ -1,4 +1,5 @@
--- What a tree maps a text to: turn by turn, the pair that decides puts its target in the place of its prefix.
+-- What a tree maps a text to: turn by turn, the pair that decides puts its target in the place of its prefix (Apache Sling, "Mappings for
+-- resource resolution"; the limit of turns is this project's own).
 use Rattle.std.specs.Prelude.{◌≡◌, ◌⊎◌, ◌++◌, ℕ, zero, suc, List, [], ◌∷◌, Option, Some, None, codes, drop}
 use Rattle.resource_tree.specs.Content.{Content}
 use Rattle.url_maps.specs.declared.answer.MapAnswer.{MapAnswer}

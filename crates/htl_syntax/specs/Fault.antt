@@ -1,4 +1,4 @@
--- What a text is read as, and the place where it leaves the grammar. `colon_letter`, `passes`, `takes_colon` and `fault_place` are needed by `expression_of` and private functions alone.
+-- What a text is read as, and the place where it leaves the grammar (`docs/htl/EXPRESSIONS.md`, "Faults"). `colon_letter`, `passes`, `takes_colon` and `fault_place` are needed by `expression_of` and private functions alone.
 use Rattle.std.specs.Prelude.{◌≡◌, ℕ, suc, ◌+◌, ◌-◌, ◌≤◌, Bool, true, false, nat_le, ◌&&◌, ◌||◌, ◌==◌, if◌then◌else◌, List, [], ◌∷◌, ◌++◌, length, take, drop, Result, Ok, Err}
 use Rattle.sp_base.specs.Bytes.{begins_with_byte}
 use Rattle.htl_syntax.specs.declared.stop.ExprStop.{ExprStop}

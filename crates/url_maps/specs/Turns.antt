@@ -39,7 +39,7 @@ abbrev pub Turns : Content → ℕ → Option (List (List ℕ)) → List ℕ →
 Turns tree zero host_node text answer = answer ≡ Inside text
 Turns tree (suc n) host_node text answer = (HasNoPair tree host_node text × (answer ≡ Inside text)) ⊎ Turn tree host_node text (Turns tree n None) answer
 
--- the most turns
+-- the most turns (`docs/DECISIONS.md`, "Mappings")
 abbrev pub most_turns : ℕ
 most_turns = 16
 

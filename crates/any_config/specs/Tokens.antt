@@ -1,4 +1,5 @@
 -- The tokens of a file dispatcher.any (Adobe Dispatcher manual, "Configuring Dispatcher"). A name is read with the blanks and comments after it.
+-- `TokenFails` and `TokenGives` are needed by private functions and proofs alone.
 use Rattle.std.specs.Prelude.{◌≡◌, ℕ, Bool, true, false, not, ◌||◌, ◌&&◌, if◌then◌else◌, ◌==◌, nat_le, List, [], ◌∷◌, length, take, drop, Result, Ok, Err}
 use Rattle.std.specs.List.{position_or_len}
 use Rattle.std.specs.Str.{is_utf8}

@@ -69,7 +69,7 @@ spare-fixed sending place spare now_spare over fixed kept over_is going =
     absurd (let no : ⊥ = cc in no))
     kept
 
--- the spare bytes are the place's own, or memory was wanting
+-- the spare bytes are the place's own, or memory ran out
 own-or-dry : (t dry : Bool) (place : AnswerPlace) (slot : Slot) (sending : Sending) → are_fixed_507 (place_bytes place) ≡ t → sending.dry ≡ not t → sending.bytes ≡ fixed_507 → PlaceTied place slot → has_reply place.reply ≡ true → MayAnswer slot sending
 own-or-dry true dry place slot sending own calm bytes tied has = inl (written-tied place slot sending.bytes tied has (bytes ∙ sym (same_text _ _ (sym own))))
 own-or-dry false dry place slot sending other wanting bytes tied has = inr (wanting, bytes)
@@ -106,7 +106,7 @@ sent-left {places} {closing} {over} {spare} c place rest sending now_closing now
       },
     )
 
--- ---- memory is wanting
+-- ---- memory runs out
 not-false : (t : Bool) → not t ≡ true → t ≡ false
 not-false true e = absurd (let no : ⊥ = cc in no)
 not-false false e = refl

@@ -59,7 +59,7 @@ IsWritten slot Fixed bytes = bytes ≡ fixed_507
 IsWritten slot (Awaits flight) bytes = ⊥
 IsWritten slot (Says answer) bytes = bytes ≡ answer_bytes slot.head_only slot.closes answer
 
--- What may be sent for a slot: its own bytes; or the fixed 507, where memory was wanting.
+-- What may be sent for a slot: its own bytes; or the fixed 507, where memory ran out.
 abbrev pub MayAnswer : Slot → Sending → Type 0
 MayAnswer slot sending = IsWritten slot slot.response sending.bytes ⊎ (IsTrue sending.dry × (sending.bytes ≡ fixed_507))
 

@@ -1,4 +1,6 @@
 -- What the code keeps of a connection: the places of its answers that aren't sent yet.
+-- `has_reply`, `first_has_reply`, `is_final_reply`, `reply_bytes`, `place_bytes` and `IsSendingOf` are needed by private functions and proofs
+-- alone.
 use Rattle.std.specs.Prelude.{◌≡◌, ◌≤◌, ◌⊎◌, ℕ, Bool, true, false, not, nat_eq, List, [], ◌∷◌, drop, length, take}
 use Rattle.error_answers.specs.Errors.{error_answer}
 use Rattle.http_front.specs.Answers.{answer_bytes, fixed_507, interim_100}
@@ -54,7 +56,7 @@ abbrev pub first_has_reply : List AnswerPlace → Bool
 first_has_reply [] = false
 first_has_reply (place ∷ places) = has_reply place.reply
 
--- what is sent for the place: its bytes; or the spare ones, and then memory was wanting unless the fixed 507 is its own
+-- what is sent for the place: its bytes; or the spare ones, and then memory ran out unless the fixed 507 is its own
 abbrev pub IsSendingOf : AnswerPlace → List ℕ → Sending → Type 0
 IsSendingOf place spare sending = ((sending.dry ≡ false) × (sending.bytes ≡ place_bytes place)) ⊎ ((sending.dry ≡ not (are_fixed_507 (place_bytes place))) × (sending.bytes ≡ spare))
 

@@ -56,8 +56,8 @@ impl Outbox {
         Ok(())
     }
 
-    /// What is sent next, if anything can be: the next place's answer; or in place of another the fixed 507, exactly where memory is
-    /// wanting. None where the connection is over or the next place waits.
+    /// What is sent next, if anything can be: the next place's answer; or in place of another the fixed 507, exactly where memory
+    /// runs out. None where the connection is over or the next place waits.
     pub fn send(&mut self, alloc: Global) -> Option<Sending>
         ensures sends { IfSome result (λ sending. (c : Connection) → OutboxTied self.old c → IsDueSending c sending × OutboxTied self.new (with_sent sending.bytes c)) }
         ensures dry { IfSome result (λ sending. (c : Connection) → OutboxTied self.old c → IsTrue sending.dry → IsInPlaceOfDue (due c) sending.bytes) }
@@ -84,7 +84,7 @@ impl Outbox {
         }
     }
 
-    // A place's answer, or the spare bytes, where these are its own or memory is wanting.
+    // A place's answer, or the spare bytes, where these are its own or memory runs out.
     fn sending(&mut self, alloc: Global, place: &AnswerPlace) -> Sending
         ensures sends { IsSendingOf place.now self.old.spare result }
         ensures kept { (self.new.places ≡ self.old.places) × (self.new.closing ≡ self.old.closing) × (self.new.over ≡ self.old.over) }

@@ -5,6 +5,6 @@ use sp_base::ByteBuf;
 #[derive(Drop)]
 pub struct Sending {
     pub bytes: ByteBuf,
-    /// Whether memory was wanting, so that the fixed 507 stands in place of another answer.
+    /// Whether memory ran out, so that the fixed 507 stands in place of another answer.
     pub dry: bool,
 }

@@ -57,7 +57,7 @@ pub name_and_path : (name : List ℕ) (rest : List (List ℕ)) → is_content_na
 name_and_path name rest plain path few =
     ap (λ o. unless_fault o (name ∷ rest)) (no_fault (name ∷ rest) (both _ _ (first (seg_ok name) _ (subst T (sym plain) tt)) (first (list_all seg_ok rest) _ (subst T (sym path) tt))) (omega (arith, few)))
 
--- where a path may be made memory alone can be wanting
+-- where a path may be made memory alone can run out
 pub memory_alone : (fault : PathFault) (made : Result (List (List ℕ)) PathFault) (path : List (List ℕ)) → made ≡ Ok path → (fault ≢ NoMemory → made ≡ Err fault) → fault ≡ NoMemory
 memory_alone NotAbsolute made path is h = absurd (let never = h (λ same. cc) in cc)
 memory_alone EmptySegment made path is h = absurd (let never = h (λ same. cc) in cc)

@@ -1,4 +1,5 @@
 -- The names of the files of the docroot.
+-- `longest_folder_name` and `longest_stat_name` are needed by private functions alone.
 use Rattle.std.specs.Prelude.{◌≡◌, ◌<◌, ◌==◌, ◌||◌, ◌&&◌, ◌++◌, ◌∷◌, [], ℕ, Bool, IsTrue, not, List, codes, flat_map, length, nat_eq, nat_lt, slice_index}
 use Rattle.std.specs.Cmp.Lexicographic.{pointwise}
 use Rattle.std.specs.List.{AllByRecursion, list_all}

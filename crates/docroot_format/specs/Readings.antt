@@ -1,4 +1,5 @@
 -- What bytes read as: a page's head, a folder's stamp, an epoch. A number is decimal digits without a leading zero, below 2^64.
+-- `next_of` is needed by private functions and proofs alone.
 use Rattle.std.specs.Prelude.{◌==◌, ◌&&◌, ◌+◌, ◌*◌, ◌-◌, ℕ, Bool, false, not, nat_eq, nat_le, nat_lt, if◌then◌else◌, List, [], ◌∷◌, Option, Some, None, option_and_then, option_map, codes, drop, take, length, slice_index}
 use Rattle.std.specs.List.{list_all, starts_with}
 use Rattle.std.specs.Cmp.Lexicographic.{pointwise}

@@ -1,4 +1,5 @@
 -- The texts of the files of the docroot but for bodies, as they are written.
+-- `most_digits_of_u64` and `longest_stat_text` are needed by private functions alone.
 use Rattle.std.specs.Prelude.{◌++◌, ℕ, List, codes, decimal}
 
 -- the head of a page: its stamp, the length of its body, and the body's media type

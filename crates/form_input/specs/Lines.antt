@@ -1,4 +1,5 @@
 -- The lines of a text, each but the last ended by CR LF; a CR or an LF alone is a byte of its line (RFC 2046, section 5.1.1).
+-- `lines_left` is needed by private functions and proofs alone.
 use Rattle.std.specs.Prelude.{◌==◌, ◌&&◌, ℕ, Bool, if◌then◌else◌, List, [], ◌∷◌, ◌++◌, Option, Some, None}
 use Rattle.std.specs.List.{onto_first}
 

@@ -1,4 +1,5 @@
 -- The value of a header field with parameters, `TYPE; NAME=WORD; NAME="WORD"` (RFC 9110, section 5.6.6; RFC 2183, section 2).
+-- `pieces_left` is needed by private functions and proofs alone.
 use Rattle.std.specs.Prelude.{◌==◌, ◌&&◌, ℕ, Bool, false, true, if◌then◌else◌, List, [], ◌∷◌, Option, Some, None, length, drop, take, slice_index, slice_index_or}
 use Rattle.std.specs.List.{list_all, onto_first}
 use Rattle.std.specs.Str.{str_eq_ignore_ascii_case}

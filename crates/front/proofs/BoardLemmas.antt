@@ -89,7 +89,7 @@ lines-without old new w v c tied updates fewer none others count = record {
   count = omega (arith, fewer, count, tied.count);
 }
 
--- ---- an event in which memory isn't wanting
+-- ---- an event in which memory doesn't run out
 pub calm-wanting : {P : Type 0} (dry : Bool) → dry ≡ false → IsTrue dry → P
 calm-wanting dry calm wanting = absurd (let no : ⊥ = cc in no)
 

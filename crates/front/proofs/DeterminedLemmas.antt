@@ -1,4 +1,4 @@
--- What happens in an event in which memory isn't wanting is determined by its step and by how the stream ends.
+-- What happens in an event in which memory doesn't run out is determined by its step and by how the stream ends.
 use Rattle.std.proofs.Common.{◌≡◌, ◌⊎◌, ℕ, ◌++◌, Bool, true, false, List, [], ◌∷◌, Option, Some, None, refl, ap, sym, subst, ◌∙◌, inl, inr, append-nil, ⊎_elim}
 use Rattle.std.specs.Prelude.{nat_eq}
 use Rattle.std.specs.Map.{update}

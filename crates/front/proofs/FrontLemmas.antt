@@ -89,7 +89,7 @@ pub either : {E : Type 0} (r : Result Answer E) (answer wanted : Answer) (dry : 
 either (Ok a) answer wanted dry given ok = inl (given.0 ∙ ok, given.1)
 either (Err e) answer wanted dry given ok = inr given
 
--- where memory is wanting the answer is the fixed one
+-- where memory runs out the answer is the fixed one
 fixed-wanting : (m : Mood) (answer wanted : Answer) → IsOrFixed m answer wanted → IsTrue m.dry → answer ≡ fixed_answer
 fixed-wanting m answer wanted (inl own) dry = absurd (let calm : m.dry ≡ false = own.1 in let no : ⊥ = cc in no)
 fixed-wanting m answer wanted (inr fixed) dry = fixed.0

@@ -27,7 +27,7 @@ pub serves-push : (m : Mood) (w : RunState) (c : ℕ) (notes : List Note) (note 
 serves-push m w c [] note serves gives = (gives, tt)
 serves-push m w c (n ∷ notes) note serves gives = (serves.0, serves-push m (state_after_note w n) c notes note serves.1 gives)
 
--- one of the notes shows that memory was wanting, with one note more
+-- one of the notes shows that memory ran out, with one note more
 pub shows-push : (w : RunState) (notes : List Note) (note : Note) → SomeShowsLack w notes ⊎ ShowsLack (state_after_notes w notes) note → SomeShowsLack w (notes ++ note ∷ [])
 shows-push w [] note (inl none) = absurd none
 shows-push w [] note (inr here) = inl here

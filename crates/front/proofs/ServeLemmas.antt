@@ -60,7 +60,7 @@ full-is sky w tied = rw (tied.air, tied.asked) refl
 crowded-is : (w : RunState) (c : ℕ) (m : Connection) → w.line c ≡ Some m → is_crowded_line (w.line c) ≡ is_crowded m
 crowded-is w c m is = ap is_crowded_line is
 
--- what the front answers itself is owed: by the first point, or since memory was wanting
+-- what the front answers itself is owed: by the first point, or since memory ran out
 away-owed : (w : RunState) (c status : ℕ) (request : Req) (crowded admitted full dry : Bool) → is_crowded_line (w.line c) ≡ crowded → admits w.farm request ≡ admitted → is_front_full w ≡ full → IsAnswering crowded admitted full (Here status dry)
     → (m : Mood) → (IsTrue dry → IsTrue m.dry) → IsFirstPoint m w c request (Local c status) points ⊎ (IsTrue m.dry × (Local c status ≡ Local c 507))
 away-owed w c status request true admitted full dry crowd may room (inl is) m allows =
@@ -81,7 +81,7 @@ away-owed w c status request crowded admitted full dry crowd may room (inr is) m
     let wanting : dry ≡ true = cc in
     inr (allows wanting, ap (Local c) same)
 
--- where memory was wanting to find the point, that is the fixed 507
+-- where there was no memory to find the point, that is the fixed 507
 away-fixed : (crowded admitted full dry : Bool) (status : ℕ) → IsAnswering crowded admitted full (Here status dry) → IsTrue dry → status ≡ 507
 away-fixed true admitted full dry status (inl is) wanting = absurd (let at : Here status dry ≡ Here 503 false = is in let no : ⊥ = cc in no)
 away-fixed false false full dry status (inl is) wanting = absurd (let at : Here status dry ≡ Here 404 false = is in let no : ⊥ = cc in no)

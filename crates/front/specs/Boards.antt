@@ -70,7 +70,7 @@ pub record BoardTied (farm : Farm) (board : Board) (w : RunState) : Type 0 where
 
 -- ---- one connection beside the flights
 
--- memory may have been wanting
+-- memory may have run out
 abbrev pub Allows : Bool → Mood → Type 0
 Allows dry m = IsTrue dry → IsTrue m.dry
 
@@ -105,7 +105,7 @@ pub record OwesFault (farm : Farm) (w : RunState) (c : ℕ) (k : Line) (sky : Sk
   pub sky_is : SkyTied sky w
   pub farm_is : w.farm ≡ farm
 
--- in such an event the note gives what is owed, and it shows that memory was wanting where it needs an event of that mood
+-- in such an event the note gives what is owed, and it shows that memory ran out where it needs an event of that mood
 abbrev pub GivesDry : Bool → RunState → ℕ → Note → Type 0
 GivesDry dry w c note = ((m : Mood) → Allows dry m → GivesDue m w c (due_of_connection w c) note) × (IsTrue dry → ShowsLack w note)
 
@@ -121,7 +121,7 @@ SettlesDry dry w c notes = ((m : Mood) → Allows dry m → Settles m w c notes)
 abbrev pub first_point : Bool → Bool → Bool → Answering
 first_point crowded admitted full = if crowded then Here 503 false else (if not admitted then Here 404 false else (if full then Here 503 false else InFlight))
 
--- the same, or 507 where memory was wanting to find the point
+-- the same, or 507 where there was no memory to find the point
 abbrev pub IsAnswering : Bool → Bool → Bool → Answering → Type 0
 IsAnswering crowded admitted full answering = (answering ≡ first_point crowded admitted full) ⊎ (answering ≡ Here insufficient_storage true)
 

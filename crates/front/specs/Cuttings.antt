@@ -17,7 +17,7 @@ OneBegins {A} one other = ((more : List A) × (other ≡ one ++ more)) ⊎ ((mor
 abbrev pub bytes_sent : List Sending → List ℕ
 bytes_sent sent = flat_map (λ (sending : Sending). sending.bytes) sent
 
--- memory was wanting in no event in which one of them was sent
+-- memory ran out in no event in which one of them was sent
 abbrev pub HaveNoDrySending : List Sending → Type 0
 HaveNoDrySending [] = Unit {0}
 HaveNoDrySending (sending ∷ sent) = (sending.dry ≡ false) × HaveNoDrySending sent

@@ -42,12 +42,12 @@ EndAlike w (e ∷ events) (f ∷ others) = IsSameEnd w e.step e.ends f.ends × E
 abbrev pub event_notes : List Event → List (List Note)
 event_notes events = map notes_of events
 
--- in no event memory was wanting
+-- in no event memory ran out
 abbrev pub HaveNoDryEvent : List Event → Type 0
 HaveNoDryEvent [] = Unit {0}
 HaveNoDryEvent (e ∷ events) = (e.mood.dry ≡ false) × HaveNoDryEvent events
 
--- Two runs of the same steps in which memory isn't wanting have the same notes, if the streams end alike.
+-- Two runs of the same steps in which memory doesn't run out have the same notes, if the streams end alike.
 abbrev pub RunsWithoutDryEventsAreOne : Type 0
 RunsWithoutDryEventsAreOne = (publishing : Publishing) (farm : Farm) (content : Content) (a b : List Event) → Run (start_of publishing farm content) a → Run (start_of publishing farm content) b → event_steps a ≡ event_steps b → EndAlike (start_of publishing farm content) a b
     → HaveNoDryEvent a → HaveNoDryEvent b → event_notes a ≡ event_notes b
@@ -75,7 +75,7 @@ abbrev pub LeaveNoEndOpen : RunState → List Event → Type 0
 LeaveNoEndOpen w [] = Unit {0}
 LeaveNoEndOpen w (e ∷ events) = (IsEndLeftOpen w e.step e.turns → ⊥) × LeaveNoEndOpen (after_event w e) events
 
--- In two runs of the same steps in which memory isn't wanting the streams end alike, if in the first none that is still read ends within
+-- In two runs of the same steps in which memory doesn't run out the streams end alike, if in the first none that is still read ends within
 -- such a target after any event.
 abbrev pub StreamsWithoutDryEventsEndAlike : Type 0
 StreamsWithoutDryEventsEndAlike = (publishing : Publishing) (farm : Farm) (content : Content) (a b : List Event) → Run (start_of publishing farm content) a → Run (start_of publishing farm content) b → event_steps a ≡ event_steps b

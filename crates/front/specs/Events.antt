@@ -159,7 +159,7 @@ HappensBy w e (Render pick) = RenderTo w e (picked_flight pick is_unrendered w.a
 HappensBy w e (Deliver pick) = DeliverTo w e (picked_flight pick is_rendered w.air)
 HappensBy w e (Lose pick) = LoseTo w e (picked_flight pick is_any w.air)
 
--- The note shows that memory was wanting: it gives the fixed 507 as an answer, as what is rendered or as a request's own, or it sends
+-- The note shows that memory ran out: it gives the fixed 507 as an answer, as what is rendered or as a request's own, or it sends
 -- that in place of what is due to be sent.
 abbrev pub ShowsLack : RunState → Note → Type 0
 ShowsLack w (answered answer) = answer ≡ fixed_answer
@@ -179,11 +179,11 @@ abbrev pub SomeShowsLack : RunState → List Note → Type 0
 SomeShowsLack w [] = ⊥
 SomeShowsLack w (note ∷ notes) = ShowsLack w note ⊎ SomeShowsLack (state_after_note w note) notes
 
--- an event says that memory was wanting only where one of its notes shows it
+-- an event says that memory ran out only where one of its notes shows it
 abbrev pub IsWanting : RunState → Mood → List Note → Type 0
 IsWanting w m notes = IsTrue m.dry → SomeShowsLack w notes
 
--- the event happens in this state: by its step, and it says that memory was wanting only where a note shows it
+-- the event happens in this state: by its step, and it says that memory ran out only where a note shows it
 abbrev pub Happens : RunState → Event → Type 0
 Happens w e = HappensBy w e e.step × IsWanting (state_before_notes w e e.step) e.mood e.body
 

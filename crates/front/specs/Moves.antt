@@ -23,7 +23,7 @@ use Rattle.front.specs.declared.note.Note.TheVariants.{Answer as answered, Ask a
 use Rattle.front.specs.Publishers.{Publication}
 use Rattle.front.specs.States.{RunState, Log, LogEntry, Asked, Landed, Lost as lost_entry, Passed as passed_fate, flights_asked}
 
--- what an event allows: in a dry one memory was wanting
+-- what an event allows: in a dry one memory ran out
 pub record Mood : Type 0 where
   pub dry : Bool
 

@@ -16,7 +16,7 @@ use Rattle.front.specs.States.{RunState}
 use Rattle.front.specs.Events.{Event, after_event, state_before_notes}
 use Rattle.front.specs.Moves.{state_after_note, flight_at}
 
--- A flight was rendered: its number, its request, its answer, and whether memory was wanting in that event.
+-- A flight was rendered: its number, its request, its answer, and whether memory ran out in that event.
 pub record Rendering : Type 0 where
   pub number : ℕ
   pub request : Req
@@ -57,7 +57,7 @@ abbrev pub IsNeverFixed : Publishing → Type 0
 IsNeverFixed publishing = (content : Content) (ask : Ask) → (publishing content ask).answer.status ≢ insufficient_storage
 
 -- Each answer is the publisher's to its request, asked by the farm, on the content that the renders before it left; or, exactly where
--- memory was wanting, the fixed one, and then the content stays. The last content is that after them all.
+-- memory ran out, the fixed one, and then the content stays. The last content is that after them all.
 abbrev pub ArePublished : Publishing → Farm → Content → List Rendering → Content → Type 0
 ArePublished publishing farm content [] last = last ≡ content
 ArePublished publishing farm content (rendering ∷ renders) last =

@@ -30,7 +30,7 @@ pub struct Front<R: Renderer + Drop> {
     board: Board,
 }
 
-/// An answer, and whether it is the fixed one since memory was wanting.
+/// An answer, and whether it is the fixed one since memory ran out.
 #[derive(Drop)]
 pub(crate) struct OrFixed {
     answer: Answer,
@@ -123,7 +123,7 @@ impl<R: Renderer + Drop> Front<R> {
     }
 }
 
-// The answer, or the fixed one where memory was wanting.
+// The answer, or the fixed one where memory ran out.
 fn or_fixed(alloc: Global, answer: Mem<Answer>) -> Mem<OrFixed>
     ensures { IfOk result (λ given. IsGiven answer given.answer given.dry) }
 {

@@ -54,7 +54,7 @@ pub fn a_cutting_changes_no_turn()
 
 /// How a stream was cut into pieces changes no byte that is sent. Of two connections, in one run or in two, open, shut or gone, on which
 /// the same bytes came, or on the second more: the turns that were read of the one begin those of the other, or the other way round; and
-/// where the same requests had the same answers, and memory wasn't wanting, so do the bytes that were sent. (The second may have sent
+/// where the same requests had the same answers, and memory didn't run out, so do the bytes that were sent. (The second may have sent
 /// fewer: its answers may be waited for, or it closed before.)
 pub fn a_cutting_changes_no_byte()
     ensures { CuttingsAgree }
@@ -75,20 +75,20 @@ pub fn answers_are_of_their_own_requests()
 }
 
 /// Whatever happens: each flight that was rendered has the publisher's answer, on the content that the renders before it left, or where
-/// memory was wanting the fixed one, which leaves the content; and the content of the moment is what they all left.
+/// memory ran out the fixed one, which leaves the content; and the content of the moment is what they all left.
 pub fn renders_are_published()
     ensures { (publishing : Publishing) (farm : models.Farm) (content : Content) (events : List Event) → IsNeverFixed publishing → Run (start_of publishing farm content) events
         → ArePublished publishing farm content (renders_of (start_of publishing farm content) events) (state_after_events (start_of publishing farm content) events).content }
 {}
 
-/// A run in which memory isn't wanting is determined by its steps, the publisher, the farm, the content and how the streams end.
+/// A run in which memory doesn't run out is determined by its steps, the publisher, the farm, the content and how the streams end.
 pub fn runs_without_dry_events_are_determined()
     ensures { RunsWithoutDryEventsAreOne }
 {
     the_turns_of_a_beginning();
 }
 
-/// In two runs of the same steps, before the same publisher and farm and on the same content, in which memory isn't wanting, the streams
+/// In two runs of the same steps, before the same publisher and farm and on the same content, in which memory doesn't run out, the streams
 /// end alike, if in the first no stream that is still read ends, after any event, within a target that isn't UTF-8 and can't become it,
 /// with its bytes or with the first 16,384 of the next head's. (There a bad head may be told at once or later, and at 16,384 bytes a bad
 /// head or a long one. After one such end, on any connection, nothing is said of the others.)

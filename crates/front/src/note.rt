@@ -25,7 +25,7 @@ pub enum Note {
     Refused(u32),
     /// The step does nothing.
     Idle,
-    /// Memory was wanting.
+    /// Memory ran out.
     Dry,
 }
 

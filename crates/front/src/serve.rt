@@ -19,7 +19,7 @@ use std::alloc::Global;
 /// What a connection was owed.
 #[derive(Drop)]
 pub(crate) enum Served {
-    /// This note, and whether memory was wanting.
+    /// This note, and whether memory ran out.
     Said(Note, bool),
     /// Nothing.
     Quiet,

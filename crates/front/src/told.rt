@@ -6,7 +6,7 @@ use crate::note::{Note, NoteList};
 use sp_base::Mem;
 use std::alloc::Global;
 
-/// The notes of a step but for the last, and whether memory was wanting.
+/// The notes of a step but for the last, and whether memory ran out.
 #[derive(Drop)]
 pub(crate) struct Told {
     pub(crate) notes: Vec<Note>,
@@ -35,7 +35,7 @@ impl Told {
         Ok(Told { notes, dry })
     }
 
-    /// A further note, and whether memory was wanting.
+    /// A further note, and whether memory ran out.
     pub(crate) fn push(&mut self, note: Note, dry: bool) -> Mem<()>
         ensures notes { OnOk result (self.new.notes.items ≡ self.old.notes.items ++ note ∷ []) }
         ensures dry { OnOk result (self.new.dry ≡ (self.old.dry || dry)) }
@@ -58,7 +58,7 @@ impl Told {
         Ok(Told { notes: all, dry })
     }
 
-    /// All notes: where memory was wanting, the last says so.
+    /// All notes: where memory ran out, the last says so.
     pub(crate) fn all(self) -> Mem<NoteList>
         ensures { IfOk result (λ notes. notes ≡ self.notes.items ++ mood_notes (record { dry = self.dry })) }
     {

@@ -24,13 +24,13 @@ use std::alloc::Global;
 /// How a request is answered.
 #[derive(Drop)]
 pub(crate) enum Answering {
-    /// By the front itself with this status, and whether memory was wanting.
+    /// By the front itself with this status, and whether memory ran out.
     Here(u16, bool),
     /// By a flight.
     InFlight,
 }
 
-/// The note of a request that has its place, and whether memory was wanting.
+/// The note of a request that has its place, and whether memory ran out.
 #[derive(Drop)]
 pub(crate) struct Treated {
     pub(crate) note: Note,
@@ -91,7 +91,7 @@ fn answering_of(alloc: Global, farm: &Farm, request: &Req, crowded: bool, sky: &
     Answering::InFlight
 }
 
-// Answers a request with this status. Where the connection is crowded, or memory was wanting, it closes.
+// Answers a request with this status. Where the connection is crowded, or memory ran out, it closes.
 fn turn_away(request: &Req, status: u16, crowded: bool, line: &mut Line) -> Mem<()>
     ensures holds { OnOk result ((c : Connection) → Owes line.old c → LineHolds line.new (with_turn_slot (request_slot request.now (crowded || status == insufficient_storage) (local_response status)) c)) }
     ensures work { OnOk result (work_of line.new ≤ work_of line.old + 1) }

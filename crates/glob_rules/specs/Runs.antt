@@ -1,4 +1,5 @@
 -- What the functions that match promise one another: a run is a part of a glob without a star.
+-- A reader of what a glob matches needs none of it.
 use Rattle.std.specs.Prelude.{◌≡◌, ℕ, false, if◌then◌else◌, List, [], ◌∷◌, Option, Some, None}
 use Rattle.std.specs.List.{list_any}
 use Rattle.std.specs.Option.{option_or}

@@ -1,4 +1,4 @@
--- How a value is printed. `first_reference` is needed by proofs and private functions alone.
+-- How a value is printed. `reference_place` and `first_reference` are needed by proofs and private functions alone.
 use Rattle.std.specs.Prelude.{◌≡◌, ℕ, suc, is_some, ◌==◌, ◌||◌, Bool, true, not, if◌then◌else◌, List, [], ◌∷◌, ◌++◌, Option, Some, None, codes, flat_map, unwrap_or}
 use Rattle.std.specs.List.{list_all}
 use Rattle.std.specs.Fmt.{signed_decimal}

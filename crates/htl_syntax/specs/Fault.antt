@@ -1,4 +1,4 @@
--- What a text is read as, and the place where it leaves the grammar. `colon_letter`, `passes`, `takes_colon` and `fault_place` are needed by `expression_of` and private functions alone.
+-- What a text is read as, and the place where it leaves the grammar (`docs/htl/EXPRESSIONS.md`, "Faults"). `colon_letter`, `passes`, `takes_colon` and `fault_place` are needed by `expression_of` and private functions alone.
 use Rattle.std.specs.Prelude.{◌≡◌, ℕ, suc, ◌+◌, ◌-◌, ◌≤◌, Bool, true, false, nat_le, ◌&&◌, ◌||◌, ◌==◌, if◌then◌else◌, List, [], ◌∷◌, ◌++◌, length, take, drop, Result, Ok, Err}
 use Rattle.sp_base.specs.Bytes.{begins_with_byte}
 use Rattle.htl_syntax.specs.declared.stop.ExprStop.{ExprStop}
@@ -47,7 +47,7 @@ IsReadAs e (Err NoMemory) = Unit {0}
 IsReadAs e (Err (Unexpected place)) = ⊥
 IsReadAs e (Err (TooDeep place)) = ⊥
 
--- ---- the place of a fault: the least byte with which no text of the grammar goes on
+-- ---- the place of a fault: the first byte with which no expression goes on
 
 -- both are empty, or begin with the same byte
 abbrev pub SameHead : List ℕ → List ℕ → Type 0
@@ -61,7 +61,7 @@ pub record Agree (place : ℕ) (s t : List ℕ) : Type 0 where
   pub leading : take place t ≡ take place s
   pub here : SameHead (drop place s) (drop place t)
 
--- no text that is the same up to and with this byte is an expression, where `levels` levels may nest
+-- no text that is the same up to and with this byte, or ends here too, is an expression, where `levels` levels may nest
 pub record HasNone (levels : ℕ) (s : List ℕ) (place : ℕ) : Type 0 where
   pub within : place ≤ length s
   pub none : (t : List ℕ) (e : Expression) → Agree place s t → WholeWithin levels t e → ⊥

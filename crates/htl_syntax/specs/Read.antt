@@ -1,4 +1,5 @@
--- Reading an expression from left to right, with the first fault that is met.
+-- Reading an expression from left to right, with the first fault that is met (HTL specification 1.4, "Expression Language"; `docs/htl/EXPRESSIONS.md`,
+-- "Faults").
 use Rattle.std.specs.Prelude.{ℕ, zero, suc, Bool, true, false, nat_eq, if◌then◌else◌, ◌==◌, ◌||◌, ◌&&◌, List, [], ◌∷◌, ◌++◌, length, drop, Option, Some, None, is_none, Result, Ok, Err, codes, slice_index}
 use Rattle.std.specs.Cmp.Lexicographic.{pointwise}
 use Rattle.sp_base.specs.Bytes.{begins_with_byte}

@@ -1,4 +1,5 @@
 -- The tokens at the beginning of a text. A token is read with the blanks after it (HTL specification 1.4, "Expression Language").
+-- `Fails`, `Gives`, `AreAscii`, `plain_quoted_len` and `next_number` are needed by private functions and proofs alone.
 use Rattle.std.specs.Prelude.{◌≡◌, ◌<◌, ℕ, ℤ, pos, neg_ℤ, suc, ◌+◌, ◌*◌, ◌-◌, Bool, true, false, ◌||◌, ◌&&◌, if◌then◌else◌, ◌==◌, nat_le, List, [], ◌∷◌, ◌++◌, length, take, drop, Option, Some, None, Result, Ok, Err, slice_index}
 use Rattle.sp_base.specs.Limits.{greatest_i64, least_i64_magnitude}
 use Rattle.sp_base.specs.Bytes.{begins_with_byte}

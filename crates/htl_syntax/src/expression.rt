@@ -18,7 +18,7 @@ use std::alloc::Global;
 /// Why a text is no expression. A place is counted in bytes from 0.
 #[derive(Debug, Drop)]
 pub enum ExprFault {
-    /// No token of the grammar goes on with the byte at this place, or the text ends here.
+    /// No expression goes on with the byte at this place, or the text ends here and is none.
     Unexpected(usize),
     /// The bracket, `!` or `?` at this place would nest deeper than 32.
     TooDeep(usize),

@@ -107,7 +107,7 @@ never_none w never = subst HasNoRequest (append_nil w) (never [])
     append_nil [] = refl
     append_nil (x ∷ xs) = ap (λ ys. x ∷ ys) (append_nil xs)
 
--- a stream that begins with a head stops only for want of its body
+-- a stream that begins with a head stops only where its body is not whole
 pub record Short (a : AskedHead) (bytes : List ℕ) : Type 0 where
   pub unasked : a.awaits_continue ≡ false
   pub short : length bytes < a.body_length

@@ -1,4 +1,5 @@
 -- What a whole request head asks for, and why one is refused (RFC 9110, RFC 9112).
+-- `request_parts_at`, `AreWithin`, `AreTexts`, `within_limit` and `length_or_fault` are needed by private functions and proofs alone.
 use Rattle.std.specs.Prelude.{◌≡◌, ◌==◌, ◌&&◌, ◌||◌, ◌++◌, ℕ, Bool, false, nat_eq, nat_lt, if◌then◌else◌, List, [], ◌∷◌, Option, Some, None, option_and_then, option_map, Result, Ok, Err, All, IsUtf8, codes, decimal, length, map, unwrap_or}
 use Rattle.std.specs.List.{count_by, find}
 use Rattle.std.specs.Cmp.Lexicographic.{pointwise}

@@ -1,4 +1,5 @@
 -- What an intake has still to tell of the bytes that it has been given, and which stream it stands for.
+-- `IntakeLeads`, `LeadsBy`, `IsBody`, `Advances` and `IsAtHead` are needed by private functions and proofs alone.
 use Rattle.std.specs.Prelude.{◌≡◌, ◌<◌, ◌+◌, ◌*◌, ◌++◌, ◌≤◌, ℕ, List, [], ◌∷◌, Option, Some, None, length, drop}
 use Rattle.http_front.specs.declared.fault.InFault.{InFault}
 use Rattle.http_front.specs.declared.head.AskedHead.{AskedHead}

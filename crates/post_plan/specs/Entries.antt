@@ -1,4 +1,5 @@
 -- What content parameters ask of the nodes and properties that they name (Apache Sling, "SlingPostServlet").
+-- `is_spot_named`, `set_here` and `sets_from` are needed by private functions and proofs alone.
 use Rattle.std.specs.Prelude.{◌==◌, ◌&&◌, ℕ, Bool, true, false, not, if◌then◌else◌, List, [], ◌∷◌, ◌++◌, Option, Some, None, option_and_then, codes, length, map, filter}
 use Rattle.std.specs.List.{cons_option, filter_map, list_any}
 use Rattle.std.specs.Str.{bytes_eq}

@@ -1,4 +1,5 @@
 -- Relative paths (RFC 3986, section 5.2.4).
+-- `later_pieces` is needed by private functions and proofs alone.
 use Rattle.std.specs.Prelude.{◌==◌, ◌-◌, ◌+◌, ℕ, if◌then◌else◌, List, [], ◌∷◌, ◌++◌, Option, Some, None, option_and_then, codes, length, take}
 use Rattle.std.specs.Str.{bytes_eq}
 use Rattle.sp_base.specs.Paths.{seg_ok, pieces}

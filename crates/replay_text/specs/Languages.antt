@@ -1,4 +1,5 @@
 -- At which line bytes are refused that are no text of a language.
+-- `IsRefusedAt` is needed by private functions and proofs alone.
 use Rattle.std.specs.Prelude.{◌≡◌, ◌+◌, ◌<◌, ◌≤◌, ◌++◌, ℕ, List, [], length, take}
 use Rattle.replay_text.specs.Lines.{newlines}
 use Rattle.replay_text.specs.declared.scenario.ScenarioFault.{ScenarioFault}

@@ -1,4 +1,4 @@
--- The transcript of a scenario in which memory isn't wanting.
+-- The transcript of a scenario in which memory doesn't run out.
 use Rattle.std.proofs.Common.{◌≡◌, ◌++◌, ℕ, List, [], ◌∷◌, Ok, map, refl, ap, sym, subst, ◌∙◌, append-nil}
 use Rattle.front.specs.Determined.{RunsWithoutDryEventsAreOne, event_steps}
 use Rattle.front.specs.Events.{Run}

@@ -6,6 +6,6 @@ use Rattle.front.specs.States.{start_of}
 use Rattle.replay_text.specs.declared.scenario.Scenario.{Scenario}
 use Rattle.sling_dispatch.specs.Runs.{IsSession, sling_publisher, told_of_events}
 
--- A scenario has one transcript, where memory is wanting in no event and the streams end alike.
+-- A scenario has one transcript, where memory runs out in no event and the streams end alike.
 abbrev pub SessionsWithoutDryEventsAreOne : Type 0
 SessionsWithoutDryEventsAreOne = (s : Scenario) (a b : List Event) (one : IsSession s [] a) → IsSession s [] b → EndAlike (start_of sling_publisher one.farm one.tree) a b → HaveNoDryEvent a → HaveNoDryEvent b → told_of_events a ≡ told_of_events b

@@ -54,7 +54,7 @@ pub fn a_filter_sees_the_decomposition()
     ensures { (known : List (List ℕ) → Bool) (text : List ℕ) (parts : split.Parts) (s : IsSplit known text parts) → s.at ≡ length (stem text) → SeesParts text parts }
 {}
 
-/// A scenario has one transcript, where memory is wanting in no event and the streams end alike. (They do if in the first no stream that
+/// A scenario has one transcript, where memory runs out in no event and the streams end alike. (They do if in the first no stream that
 /// is still read ends within a target that isn't UTF-8 and can't become it: `front`'s law `streams_without_dry_events_end_alike`.)
 pub fn a_session_without_dry_events_has_one_transcript()
     ensures { SessionsWithoutDryEventsAreOne }

@@ -1,4 +1,5 @@
 -- What a patch of a tree changes in its index.
+-- `claimants_over` is needed by private functions and proofs alone.
 use Rattle.std.specs.Prelude.{◌≡◌, ◌≤◌, ◌<◌, ℕ, Bool, true, false, List, Option, None, length, option_to_list}
 use Rattle.std.specs.List.{list_any}
 use Rattle.std.specs.Map.{lookup}

@@ -1,4 +1,5 @@
 -- The nodes that claim a text as their alias or their vanity path, by the text.
+-- `claims_alias`, `AddsClaims` and `ClaimsAreWithin` are needed by private functions, an invariant and proofs alone.
 use Rattle.std.specs.Prelude.{⊤, ◌≡◌, ◌<◌, ◌&&◌, ◌||◌, ◌==◌, [], ◌∷◌, ℕ, Bool, true, false, not, nat_eq, find, List, Option, Result, Ok, Err, codes, length, option_map, option_to_list}
 use Rattle.std.specs.Cmp.Lexicographic.{pointwise}
 use Rattle.std.specs.List.{list_any}

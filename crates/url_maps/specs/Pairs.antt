@@ -1,4 +1,5 @@
--- The pairs of a prefix and a target that a tree has, which of them apply to a text, and which one decides.
+-- The pairs of a prefix and a target that a tree has, which of them apply to a text, and which one decides (Apache Sling, "Mappings for
+-- resource resolution"; the order of kinds at a tie is this project's own).
 use Rattle.std.specs.Prelude.{◌≡◌, ◌≤◌, ◌<◌, ◌⊎◌, ◌||◌, ◌==◌, ℕ, Bool, true, List, [], ◌∷◌, Option, Some, None, drop, length, take}
 use Rattle.sp_base.specs.Paths.{text_of}
 use Rattle.resource_tree.specs.Content.{Content}

@@ -1,4 +1,5 @@
--- What a tree maps a text to: turn by turn, the pair that decides puts its target in the place of its prefix.
+-- What a tree maps a text to: turn by turn, the pair that decides puts its target in the place of its prefix (Apache Sling, "Mappings for
+-- resource resolution"; the limit of turns is this project's own).
 use Rattle.std.specs.Prelude.{◌≡◌, ◌⊎◌, ◌++◌, ℕ, zero, suc, List, [], ◌∷◌, Option, Some, None, codes, drop}
 use Rattle.resource_tree.specs.Content.{Content}
 use Rattle.url_maps.specs.declared.answer.MapAnswer.{MapAnswer}
@@ -38,7 +39,7 @@ abbrev pub Turns : Content → ℕ → Option (List (List ℕ)) → List ℕ →
 Turns tree zero host_node text answer = answer ≡ Inside text
 Turns tree (suc n) host_node text answer = (HasNoPair tree host_node text × (answer ≡ Inside text)) ⊎ Turn tree host_node text (Turns tree n None) answer
 
--- the most turns
+-- the most turns (`docs/DECISIONS.md`, "Mappings")
 abbrev pub most_turns : ℕ
 most_turns = 16
 

@@ -2,6 +2,7 @@
 use Rattle.std.specs.Prelude.{◌≡◌, ℕ, ◌+◌, ◌*◌, ◌-◌, Bool, true, false, not, ◌||◌, ◌&&◌, if◌then◌else◌, ◌==◌, nat_eq, nat_le, List, [], ◌∷◌, ◌++◌, length, Option, Some, None, unwrap_or, Result, Ok, Err, codes}
 use Rattle.std.specs.List.{list_all}
 use Rattle.std.specs.Cmp.Lexicographic.{pointwise}
+use Rattle.sp_base.specs.Bytes.{is_digit}
 use Rattle.sp_base.specs.Limits.{greatest_port, http_port}
 use Rattle.glob_rules.specs.declared.piece.GlobPiece.{GlobPiece}
 use Rattle.glob_rules.specs.declared.rule.Rule.{Rule}
@@ -102,14 +103,10 @@ each read xs = each_after read [] xs
 
 -- ---- numbers
 
--- `0` to `9`
-abbrev pub is_config_digit : ℕ → Bool
-is_config_digit c = nat_le 48 c && nat_le c 57
-
 -- the number with these digits more, where it is at most this
 abbrev pub digits_after : ℕ → ℕ → List ℕ → Option ℕ
 digits_after most n [] = Some n
-digits_after most n (c ∷ t) = if is_config_digit c && nat_le (n * 10 + (c - 48)) most then digits_after most (n * 10 + (c - 48)) t else None
+digits_after most n (c ∷ t) = if is_digit c && nat_le (n * 10 + (c - 48)) most then digits_after most (n * 10 + (c - 48)) t else None
 
 -- decimal digits without a leading zero
 unfoldable pub decimal : ℕ → List ℕ → Option ℕ

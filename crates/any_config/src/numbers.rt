@@ -1,5 +1,6 @@
 //! Numbers of a farm.
 ghost use Rattle.std.specs.Prelude.{◌≡◌, ◌≤◌, ◌<◌, ◌^◌, IfOk, IfSome};
+ghost use Rattle.sp_base.specs.Bytes.{is_digit};
 ghost use Rattle.any_config.specs.Farms as spec;
 ghost use Rattle.any_config.specs.Farms.{FarmGives};
 
@@ -9,7 +10,7 @@ use sp_base::TextBuf;
 use std::alloc::Global;
 
 fn is_digit(c: u8) -> bool
-    ensures { result ≡ spec.is_config_digit c }
+    ensures { result ≡ is_digit c }
 {
     c >= b'0' && c <= b'9'
 }

@@ -6,7 +6,7 @@ use Rattle.std.proofs.lemmas.List.Concat.{flat_map-append}
 use Rattle.std.proofs.lemmas.List.Elements.{filter-append}
 use Rattle.std.proofs.lemmas.List.Sums.{position_or_len_is}
 use Rattle.std.specs.List.{before_first, position_or_len}
-use Rattle.dispatch_rules.specs.UrlParts.{dotted_url_pieces, is_full_piece}
+use Rattle.sp_base.specs.Bytes.{is_full, dotted_text}
 
 is_test : (x c : ℕ) → x ≡ c → (x == c) ≡ true
 is_test x c e = grind (arith, nat_tests)
@@ -39,14 +39,14 @@ none_left (b ∷ text) zero h = absurd (omega arith)
 none_left (b ∷ text) (suc k) h = none_left text k (omega arith)
 
 -- one selector more
-pub dotted-push : (seen : List (Bor (List ℕ))) (piece : Bor (List ℕ)) (text more : List ℕ) → text ≡ dotted_url_pieces (filter is_full_piece (map (λ s. s.now) seen)) → more ≡ text ++ dotted_url_pieces (filter is_full_piece (piece.now ∷ []))
-    → more ≡ dotted_url_pieces (filter is_full_piece (map (λ s. s.now) (seen ++ piece ∷ [])))
+pub dotted-push : (seen : List (Bor (List ℕ))) (piece : Bor (List ℕ)) (text more : List ℕ) → text ≡ dotted_text (filter is_full (map (λ s. s.now) seen)) → more ≡ text ++ dotted_text (filter is_full (piece.now ∷ []))
+    → more ≡ dotted_text (filter is_full (map (λ s. s.now) (seen ++ piece ∷ [])))
 dotted-push seen piece text more e is =
     let segs = map (λ s. s.now) seen in
-    is ∙ ap (λ (t : List ℕ). t ++ dotted_url_pieces (filter is_full_piece (piece.now ∷ []))) e ∙ sym (flat_map-append (λ s. 46 ∷ s) (filter is_full_piece segs) (filter is_full_piece (piece.now ∷ [])))
-    ∙ ap dotted_url_pieces (sym (filter-append is_full_piece segs (piece.now ∷ []))) ∙ ap (λ (l : List (List ℕ)). dotted_url_pieces (filter is_full_piece l)) (sym (map-append (λ s. s.now) seen (piece ∷ [])))
+    is ∙ ap (λ (t : List ℕ). t ++ dotted_text (filter is_full (piece.now ∷ []))) e ∙ sym (flat_map-append (λ s. 46 ∷ s) (filter is_full segs) (filter is_full (piece.now ∷ [])))
+    ∙ ap dotted_text (sym (filter-append is_full segs (piece.now ∷ []))) ∙ ap (λ (l : List (List ℕ)). dotted_text (filter is_full l)) (sym (map-append (λ s. s.now) seen (piece ∷ [])))
 
 -- without its first dot
-pub undotted : (selectors : List (List ℕ)) (text : List ℕ) → text ≡ dotted_url_pieces selectors → ((rest : List ℕ) → text ≢ 46 ∷ rest) → [] ≡ drop 1 text
+pub undotted : (selectors : List (List ℕ)) (text : List ℕ) → text ≡ dotted_text selectors → ((rest : List ℕ) → text ≢ 46 ∷ rest) → [] ≡ drop 1 text
 undotted [] text e none = sym (ap (drop 1) e)
-undotted (s ∷ selectors) text e none = absurd (none (s ++ dotted_url_pieces selectors) e)
+undotted (s ∷ selectors) text e none = absurd (none (s ++ dotted_text selectors) e)

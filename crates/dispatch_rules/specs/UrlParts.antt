@@ -2,18 +2,11 @@
 -- `IsDotted` is needed by private functions and proofs alone.
 use Rattle.std.specs.Prelude.{◌≡◌, ◌==◌, ◌+◌, ◌-◌, ℕ, Bool, not, List, [], drop, take, length, filter, flat_map, slice_get, unwrap_or, ◌∷◌}
 use Rattle.std.specs.List.{slice_split, before_first}
-
--- `.`
-abbrev pub is_url_dot : ℕ → Bool
-is_url_dot b = b == 46
-
--- `/`
-abbrev pub is_url_slash : ℕ → Bool
-is_url_slash b = b == 47
+use Rattle.sp_base.specs.Bytes.{is_dot, is_slash, is_full, dotted_text}
 
 -- the text before its first dot
 abbrev pub stem : List ℕ → List ℕ
-stem text = before_first is_url_dot text
+stem text = before_first is_dot text
 
 -- the text after its first dot, empty where it has none
 abbrev pub after_dot : List ℕ → List ℕ
@@ -21,31 +14,23 @@ after_dot text = drop (length (stem text) + 1) text
 
 -- what of it stands before the next slash
 abbrev pub url_ending : List ℕ → List ℕ
-url_ending text = before_first is_url_slash (after_dot text)
+url_ending text = before_first is_slash (after_dot text)
 
 -- its pieces between dots
 abbrev pub url_pieces : List ℕ → List (List ℕ)
-url_pieces text = slice_split is_url_dot (url_ending text)
+url_pieces text = slice_split is_dot (url_ending text)
 
 -- the last piece is the extension
 abbrev pub extension : List ℕ → List ℕ
 extension text = unwrap_or (slice_get (url_pieces text) (length (url_pieces text) - 1)) []
 
--- a piece that isn't empty
-abbrev pub is_full_piece : List ℕ → Bool
-is_full_piece piece = not (length piece == 0)
-
--- a dot before each piece
-abbrev pub dotted_url_pieces : List (List ℕ) → List ℕ
-dotted_url_pieces selectors = flat_map (λ selector. 46 ∷ selector) selectors
-
 -- a text of pieces with a dot before each; only private functions need this
 abbrev pub IsDotted : List ℕ → Type 0
-IsDotted text = (url_pieces : List (List ℕ)) × (text ≡ dotted_url_pieces url_pieces)
+IsDotted text = (url_pieces : List (List ℕ)) × (text ≡ dotted_text url_pieces)
 
 -- the pieces before it that aren't empty are the selectors: a dot before each, but for the first
 abbrev pub selectors : List ℕ → List ℕ
-selectors text = drop 1 (dotted_url_pieces (filter is_full_piece (take (length (url_pieces text) - 1) (url_pieces text))))
+selectors text = drop 1 (dotted_text (filter is_full (take (length (url_pieces text) - 1) (url_pieces text))))
 
 -- what begins with the slash is the suffix
 abbrev pub suffix : List ℕ → List ℕ

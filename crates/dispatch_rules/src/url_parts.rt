@@ -1,6 +1,7 @@
 //! The parts of a path text that is cut at its first dot.
 ghost use Rattle.std.specs.Prelude.{◌≡◌, ◌∷◌, ◌++◌, ◌-◌, [], IfOk, OnOk, drop, filter, length, option_copied, slice_get, string_bytes, take};
 ghost use Rattle.std.specs.List.{before_first, slice_split};
+ghost use Rattle.sp_base.specs.Bytes.{is_dot, is_slash, is_full, dotted_text};
 ghost use Rattle.dispatch_rules.specs.UrlParts as spec;
 
 use sp_base::Mem;
@@ -26,7 +27,7 @@ fn after_dot(text: &str) -> &str
 }
 
 fn before_slash(text: &str) -> &str
-    ensures { result.now ≡ before_first spec.is_url_slash text.now }
+    ensures { result.now ≡ before_first is_slash text.now }
 {
     match text.find('/') {
         Some(at) => &text[..at],
@@ -35,7 +36,7 @@ fn before_slash(text: &str) -> &str
 }
 
 fn from_slash(text: &str) -> &str
-    ensures { result.now ≡ drop (length (before_first spec.is_url_slash text.now)) text.now }
+    ensures { result.now ≡ drop (length (before_first is_slash text.now)) text.now }
 {
     match text.find('/') {
         Some(at) => &text[at..],
@@ -44,13 +45,13 @@ fn from_slash(text: &str) -> &str
 }
 
 fn count(text: &str) -> usize
-    ensures { result ≡ length (slice_split spec.is_url_dot text.now) }
+    ensures { result ≡ length (slice_split is_dot text.now) }
 {
     text.split('.').count()
 }
 
 fn piece_at(text: &str, n: usize) -> Option<&str>
-    ensures { option_copied result ≡ slice_get (slice_split spec.is_url_dot text.now) n }
+    ensures { option_copied result ≡ slice_get (slice_split is_dot text.now) n }
 {
     text.split('.').nth(n)
 }
@@ -84,7 +85,7 @@ pub fn dotted_selectors(alloc: Global, text: &str) -> Mem<String>
 
 // The first pieces that aren't empty, a dot before each.
 fn full_pieces(alloc: Global, text: &str, n: usize) -> Mem<String>
-    ensures { IfOk result (λ t. string_bytes t ≡ spec.dotted_url_pieces (filter spec.is_full_piece (take n (slice_split spec.is_url_dot text.now)))) }
+    ensures { IfOk result (λ t. string_bytes t ≡ dotted_text (filter is_full (take n (slice_split is_dot text.now)))) }
 {
     let mut dotted = String::new(alloc);
     for piece in text.split('.').take(n) {
@@ -94,7 +95,7 @@ fn full_pieces(alloc: Global, text: &str, n: usize) -> Mem<String>
 }
 
 fn add_full(dotted: &mut String, piece: &str) -> Mem<()>
-    ensures { OnOk result (string_bytes dotted.new ≡ string_bytes dotted.old ++ spec.dotted_url_pieces (filter spec.is_full_piece (piece.now ∷ []))) }
+    ensures { OnOk result (string_bytes dotted.new ≡ string_bytes dotted.old ++ dotted_text (filter is_full (piece.now ∷ []))) }
 {
     if !piece.is_empty() {
         dotted.push_str(".")?;

@@ -1,7 +1,8 @@
 -- Steps of reading a number.
 use Rattle.std.proofs.Common.{◌≡◌, ◌<◌, ◌+◌, ◌-◌, ◌*◌, ℕ, Bool, true, false, cond, ◌&&◌, leb, List, [], ◌∷◌, drop, length, Some, None, refl, sym, arith}
+use Rattle.sp_base.specs.Bytes.{is_digit}
 use Rattle.sp_base.specs.Limits.{greatest_u64}
-use Rattle.docroot_format.specs.Readings.{is_digit, digit_fits, digits_from, next_of}
+use Rattle.docroot_format.specs.Readings.{digit_fits, digits_from, next_of}
 
 pub record Next (m n : ℕ) (t : List ℕ) : Type 0 where
   pub same : digits_from n (drop 1 t) ≡ digits_from m t

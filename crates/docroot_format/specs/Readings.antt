@@ -3,12 +3,8 @@
 use Rattle.std.specs.Prelude.{◌==◌, ◌&&◌, ◌+◌, ◌*◌, ◌-◌, ℕ, Bool, false, not, nat_eq, nat_le, nat_lt, if◌then◌else◌, List, [], ◌∷◌, Option, Some, None, option_and_then, option_map, codes, drop, take, length, slice_index}
 use Rattle.std.specs.List.{list_all, starts_with}
 use Rattle.std.specs.Cmp.Lexicographic.{pointwise}
-use Rattle.sp_base.specs.Bytes.{is_printable_ascii}
+use Rattle.sp_base.specs.Bytes.{is_printable_ascii, is_digit}
 use Rattle.sp_base.specs.Limits.{greatest_u64, longest_media_type}
-
--- `0` to `9`
-abbrev pub is_digit : ℕ → Bool
-is_digit b = nat_le 48 b && nat_le b 57
 
 -- the text begins with a digit that fits after a number
 unfoldable pub digit_fits : ℕ → List ℕ → Bool

@@ -1,14 +1,14 @@
 -- What is in the grammar is read.
 use Rattle.std.proofs.Common.{◌≡◌, ℕ, ℤ, zero, suc, ◌<◌, ◌≤◌, Bool, true, false, eqb, List, [], ◌∷◌, ◌++◌, length, Ok, refl, ap, ◌∙◌, rules, arith, append_assoc}
 use Rattle.std.proofs.lemmas.List.{append-nil}
-use Rattle.sp_base.specs.Bytes.{begins_with_byte}
+use Rattle.sp_base.specs.Bytes.{begins_with_byte, is_digit}
 use Rattle.htl_syntax.specs.declared.node.ExprNode.{ExprNode}
 use Rattle.htl_syntax.specs.declared.node.ExprNode.TheVariants as n
 use Rattle.htl_syntax.specs.declared.node.Comparison.{Comparison}
 use Rattle.htl_syntax.specs.declared.tokens.NameKind.TheVariants.{Name, Field}
 use Rattle.htl_syntax.specs.declared.reader.Inside.{Inside}
 use Rattle.htl_syntax.specs.declared.reader.Inside.TheVariants as i
-use Rattle.htl_syntax.specs.Tokens.{Outcome, done, begins, is_expression_digit, is_first, is_quote}
+use Rattle.htl_syntax.specs.Tokens.{Outcome, done, begins, is_first, is_quote}
 use Rattle.htl_syntax.specs.Read as spec
 use Rattle.htl_syntax.specs.Grammar.{Byte, NameToken, String, Number, Sign, Compares, Separator, And, Or, Comma, Separates, Part, part_of, Choice, Either, Both, Compare, Operand, Atom, Start, Items, Reads, More, Access, Accesses}
 use Rattle.htl_syntax.specs.Grammar as g
@@ -92,16 +92,16 @@ number_leaf depth s k r x = rw (again.number_starts is_quote s k r refl again.di
 named_leaf : (depth : ℕ) (s w r : List ℕ) → NameToken Name s w r → spec.leaf depth s ≡ spec.name_or_object_of depth (spec.object_of w) w r
 unfolding spec.leaf spec.name_or_object
 named_leaf depth s w r x =
-    rw (again.begins_other is_first is_quote s again.first_quote x.first, again.not_at is_first 45 s x.first refl, again.begins_other is_first is_expression_digit s again.digit_first x.first, again.name_again Name s w r x) refl
+    rw (again.begins_other is_first is_quote s again.first_quote x.first, again.not_at is_first 45 s x.first refl, again.begins_other is_first is_digit s again.digit_first x.first, again.name_again Name s w r x) refl
 
 -- ---- a part doesn't begin with a byte that begins no token of it
 
-sign_not_at : (d : ℕ) (s : List ℕ) (negative : Bool) (t : List ℕ) → eqb 45 d ≡ false → is_expression_digit d ≡ false → Sign negative s t → begins is_expression_digit t ≡ true → begins_with_byte d s ≡ false
+sign_not_at : (d : ℕ) (s : List ℕ) (negative : Bool) (t : List ℕ) → eqb 45 d ≡ false → is_digit d ≡ false → Sign negative s t → begins is_digit t ≡ true → begins_with_byte d s ≡ false
 unfolding begins_with_byte
 sign_not_at d s true t a b e h = rw e a
-sign_not_at d s false t a b e h = rw e (again.not_at is_expression_digit d t h b)
+sign_not_at d s false t a b e h = rw e (again.not_at is_digit d t h b)
 
-number_not_at : (d : ℕ) (s : List ℕ) (k : ℤ) (r : List ℕ) → eqb 45 d ≡ false → is_expression_digit d ≡ false → Number s k r → begins_with_byte d s ≡ false
+number_not_at : (d : ℕ) (s : List ℕ) (k : ℤ) (r : List ℕ) → eqb 45 d ≡ false → is_digit d ≡ false → Number s k r → begins_with_byte d s ≡ false
 number_not_at d s k r a b x = sign_not_at d s x.negative x.inside a b x.sign x.first
 
 byte_not_at : (c d : ℕ) (s r : List ℕ) → eqb c d ≡ false → Byte c s r → begins_with_byte d s ≡ false
@@ -111,7 +111,7 @@ byte_not_at c d s r a b = rw b.parts a
 pub record Strange (d : ℕ) : Type 0 where
   pub quote : is_quote d ≡ false
   pub minus : eqb 45 d ≡ false
-  pub digit : is_expression_digit d ≡ false
+  pub digit : is_digit d ≡ false
   pub first : is_first d ≡ false
   pub round : eqb 40 d ≡ false
   pub square : eqb 91 d ≡ false
@@ -186,9 +186,9 @@ first_passes : (c : ℕ) (s : List ℕ) → begins (λ d. true) (c ∷ s) ≡ tr
 unfolding begins
 first_passes c s = refl
 
-sign_some : (s : List ℕ) (negative : Bool) (t : List ℕ) → Sign negative s t → begins is_expression_digit t ≡ true → eqb (length s) 0 ≡ false
+sign_some : (s : List ℕ) (negative : Bool) (t : List ℕ) → Sign negative s t → begins is_digit t ≡ true → eqb (length s) 0 ≡ false
 sign_some s true t e h = rw e (begins_some (λ c. true) (45 ∷ t) (first_passes 45 t))
-sign_some s false t e h = rw e (begins_some is_expression_digit t h)
+sign_some s false t e h = rw e (begins_some is_digit t h)
 
 byte_some : (c : ℕ) (s r : List ℕ) → Byte c s r → eqb (length s) 0 ≡ false
 byte_some c s r b = rw b.parts (begins_some (λ c. true) (c ∷ b.after) (first_passes c b.after))

@@ -1,7 +1,7 @@
 -- Each line of the grammar, read with one level more.
 use Rattle.std.proofs.Common.{◌≡◌, ℕ, zero, suc, ◌≤◌, ◌<◌, Bool, true, false, ◌||◌, eqb, List, [], ◌∷◌, ◌++◌, drop, length, Option, Some, None, Ok, Err, refl, ap, arith, rules}
 use Rattle.std.proofs.lemmas.List.{length-append}
-use Rattle.sp_base.specs.Bytes.{begins_with_byte}
+use Rattle.sp_base.specs.Bytes.{begins_with_byte, is_digit}
 use Rattle.htl_syntax.specs.declared.stop.ExprStop.{ExprStop}
 use Rattle.htl_syntax.specs.declared.stop.ExprStop.TheVariants.{Memory, Unexpected, TooDeep}
 use Rattle.htl_syntax.specs.declared.node.ExprNode.{ExprNode}
@@ -10,7 +10,7 @@ use Rattle.htl_syntax.specs.declared.expression.Expression.{Expression}
 use Rattle.htl_syntax.specs.declared.tokens.NameKind.TheVariants.{Name, Field}
 use Rattle.htl_syntax.specs.declared.reader.Inside.{Inside}
 use Rattle.htl_syntax.specs.declared.reader.Inside.TheVariants.{Choice, Operand, Items}
-use Rattle.htl_syntax.specs.Tokens.{Outcome, ◌>>=◌, blanks_skipped, begins, is_expression_digit, is_quote, expect, string}
+use Rattle.htl_syntax.specs.Tokens.{Outcome, ◌>>=◌, blanks_skipped, begins, is_quote, expect, string}
 use Rattle.htl_syntax.specs.Read as spec
 use Rattle.htl_syntax.proofs.TokensAgain.{skip-short}
 use Rattle.htl_syntax.proofs.Local.{IsAt, Local}
@@ -76,7 +76,7 @@ leaf_goes : (depth : ℕ) (t : List ℕ) → Goes remainder (length t) (spec.lea
 unfolding spec.leaf
 leaf_goes depth t =
     goes_if remainder (length t) (begins is_quote t) _ _ _ _ (λ e. goes_bind remainder remainder (length t) _ _ _ _ (string_keeps t) (λ x. pair_keeps (n.Text x.0) x.1))
-    (λ e. goes_if remainder (length t) (begins_with_byte 45 t || begins is_expression_digit t) _ _ _ _ (λ h. goes_bind remainder remainder (length t) _ _ _ _ (number_keeps t) (λ x. pair_keeps (n.Long x.0) x.1)) (λ h. name_goes depth t))
+    (λ e. goes_if remainder (length t) (begins_with_byte 45 t || begins is_digit t) _ _ _ _ (λ h. goes_bind remainder remainder (length t) _ _ _ _ (number_keeps t) (λ x. pair_keeps (n.Long x.0) x.1)) (λ h. name_goes depth t))
 
 -- ---- chains
 

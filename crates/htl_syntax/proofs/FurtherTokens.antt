@@ -1,12 +1,12 @@
 -- Tokens and options nest nothing, so one level more changes nothing of them.
 use Rattle.std.proofs.Common.{ℕ, ◌≤◌, ◌+◌, ◌*◌, ◌-◌, Bool, true, false, cond, ◌&&◌, eqb, List, [], ◌∷◌, ◌++◌, drop, length, slice_index, Option, Some, None, is_none, Result, Ok, codes, arith}
-use Rattle.sp_base.specs.Bytes.{begins_with_byte}
+use Rattle.sp_base.specs.Bytes.{begins_with_byte, is_digit}
 use Rattle.htl_syntax.specs.declared.stop.ExprStop.{ExprStop}
 use Rattle.htl_syntax.specs.declared.node.Comparison.{Comparison}
 use Rattle.htl_syntax.specs.declared.node.Comparison.TheVariants.{Equal, NotEqual, Below, Above, AtMost, AtLeast}
 use Rattle.htl_syntax.specs.declared.expression.Context.TheVariants.{Text, Unsafe}
 use Rattle.htl_syntax.specs.declared.tokens.NameKind.{NameKind}
-use Rattle.htl_syntax.specs.Tokens.{Outcome, ◌>>=◌, blanks_skipped, begins, is_first, is_expression_digit, is_quote, name_len, read_name, expect, second, literal, unescape, string_after_escape, read_with_prefix, string_from, string, expression_digit_fits, expression_digits_from, limit, digits, signed_number}
+use Rattle.htl_syntax.specs.Tokens.{Outcome, ◌>>=◌, blanks_skipped, begins, is_first, is_quote, name_len, read_name, expect, second, literal, unescape, string_after_escape, read_with_prefix, string_from, string, expression_digit_fits, expression_digits_from, limit, digits, signed_number}
 use Rattle.htl_syntax.specs.Read as spec
 use Rattle.htl_syntax.proofs.TokensAgain.{skip-short}
 use Rattle.htl_syntax.proofs.Further.{Goes, goes_bind, goes_if, goes_ok, goes_refuse, goes_more, remainder, bytes, drop-short, skip_drop-short}
@@ -76,7 +76,7 @@ digits_from-short most m (c ∷ t) = go (expression_digit_fits most m (c ∷ t))
 digits_keeps : (negative : Bool) (t : List ℕ) → Keeps remainder (length t) (digits negative t)
 unfolding digits
 digits_keeps negative t =
-    goes_if remainder (length t) (begins is_expression_digit t) _ _ _ _
+    goes_if remainder (length t) (begins is_digit t) _ _ _ _
     (λ e. goes_ok remainder (length t) _ (omega (arith, skip-short (expression_digits_from (limit negative) 0 t).1, digits_from-short (limit negative) 0 t)))
     (λ e. goes_refuse remainder (length t) (length t) (here t))
 

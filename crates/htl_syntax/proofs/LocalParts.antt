@@ -1,14 +1,14 @@
 -- The same of each part.
 use Rattle.std.proofs.Common.{◌≡◌, ℕ, zero, suc, ◌<◌, Bool, true, false, cond, ◌||◌, eqb, List, [], ◌∷◌, ◌++◌, drop, length, Option, Some, None, Result, Ok, Err, refl, ap, ◌∙◌, ◌⊎◌, inl, inr, arith}
 use Rattle.std.proofs.lemmas.List.{length-append}
-use Rattle.sp_base.specs.Bytes.{begins_with_byte}
+use Rattle.sp_base.specs.Bytes.{begins_with_byte, is_digit}
 use Rattle.htl_syntax.specs.declared.stop.ExprStop.{ExprStop}
 use Rattle.htl_syntax.specs.declared.node.ExprNode.{ExprNode}
 use Rattle.htl_syntax.specs.declared.node.ExprNode.TheVariants as n
 use Rattle.htl_syntax.specs.declared.tokens.NameKind.TheVariants.{Name, Field}
 use Rattle.htl_syntax.specs.declared.reader.Inside.{Inside}
 use Rattle.htl_syntax.specs.declared.reader.Inside.TheVariants.{Choice, Operand, Items}
-use Rattle.htl_syntax.specs.Tokens.{Outcome, ◌>>=◌, blanks_skipped, begins, is_expression_digit, is_quote, read_name, expect, string, signed_number}
+use Rattle.htl_syntax.specs.Tokens.{Outcome, ◌>>=◌, blanks_skipped, begins, is_quote, read_name, expect, string, signed_number}
 use Rattle.htl_syntax.specs.Read as spec
 use Rattle.htl_syntax.proofs.Tools.{bind_ok, chosen}
 use Rattle.htl_syntax.proofs.TokensRead.{expect_sound, second_sound}
@@ -121,8 +121,8 @@ module _ (c : ℕ) (item : List ℕ → Outcome ExprNode) (local : Local item) w
 
 -- ---- parts
 
-number_same : (r z : List ℕ) → Same r z → (begins_with_byte 45 z || begins is_expression_digit z) ≡ (begins_with_byte 45 r || begins is_expression_digit r)
-number_same r z h = rw (at_same 45 r z h, head_same is_expression_digit r z h) refl
+number_same : (r z : List ℕ) → Same r z → (begins_with_byte 45 z || begins is_digit z) ≡ (begins_with_byte 45 r || begins is_digit r)
+number_same r z h = rw (at_same 45 r z h, head_same is_digit r z h) refl
 
 compares_same : (r z : List ℕ) → Same r z → spec.compares z ≡ spec.compares r
 unfolding spec.compares
@@ -140,7 +140,7 @@ local_leaf : (depth : ℕ) → Local (spec.leaf depth)
 unfolding spec.leaf
 local_leaf depth =
     local_if (begins is_quote) (λ t. string t >>= λ x. Ok (n.Text x.0, x.1)) _ (head_same is_quote) (local_bind string (λ w t. Ok (n.Text w, t)) local_string (λ w. local_pure (n.Text w)))
-    (local_if (λ t. begins_with_byte 45 t || begins is_expression_digit t) (λ t. signed_number t >>= λ x. Ok (n.Long x.0, x.1)) (spec.name_or_object depth) number_same (local_bind signed_number (λ k t. Ok (n.Long k, t)) local_number (λ k. local_pure (n.Long k))) (local_named depth))
+    (local_if (λ t. begins_with_byte 45 t || begins is_digit t) (λ t. signed_number t >>= λ x. Ok (n.Long x.0, x.1)) (spec.name_or_object depth) number_same (local_bind signed_number (λ k t. Ok (n.Long k, t)) local_number (λ k. local_pure (n.Long k))) (local_named depth))
 
 -- A choice is read at a colon only after one that was read, so never where no level is left.
 abbrev Other : (Inside → List ℕ → Outcome ExprNode) → Type 0

@@ -1,14 +1,14 @@
 -- The same of each token.
 use Rattle.std.proofs.Common.{◌≡◌, ℕ, ◌+◌, ◌*◌, ◌-◌, Bool, true, false, cond, ◌||◌, ◌&&◌, eqb, nat_le, List, [], ◌∷◌, ◌++◌, take, drop, length, Result, Ok, Err, refl, ap, sym, subst, ◌∙◌, inl, inr, append_assoc}
 use Rattle.std.proofs.lemmas.List.{take-append-drop, take_at, drop_at}
-use Rattle.sp_base.specs.Bytes.{begins_with_byte}
+use Rattle.sp_base.specs.Bytes.{begins_with_byte, is_digit}
 use Rattle.htl_syntax.specs.declared.stop.ExprStop.{ExprStop}
 use Rattle.htl_syntax.specs.declared.stop.ExprStop.TheVariants.{Unexpected, TooDeep}
 use Rattle.htl_syntax.specs.declared.tokens.NameKind.{NameKind}
 use Rattle.htl_syntax.specs.declared.tokens.NameKind.TheVariants.{Name, Field}
 use Rattle.htl_syntax.specs.declared.node.Comparison.{Comparison}
 use Rattle.htl_syntax.specs.declared.node.Comparison.TheVariants.{Equal, NotEqual, Below, Above, AtMost, AtLeast}
-use Rattle.htl_syntax.specs.Tokens.{Outcome, ◌>>=◌, blanks_skipped, is_blank, begins, expect, second, literal, goes_on, run, name_len, read_name, is_expression_digit, is_letter, is_word_byte, is_first, digits, expression_digits_from, expression_digit_fits, limit, signed_value, signed_number}
+use Rattle.htl_syntax.specs.Tokens.{Outcome, ◌>>=◌, blanks_skipped, is_blank, begins, expect, second, literal, goes_on, run, name_len, read_name, is_letter, is_word_byte, is_first, digits, expression_digits_from, expression_digit_fits, limit, signed_value, signed_number}
 use Rattle.htl_syntax.specs.Read.{comparison, or_equal, between}
 use Rattle.htl_syntax.specs.Grammar.{Passes}
 use Rattle.htl_syntax.specs.Fault.{nests, SameHead}
@@ -203,7 +203,7 @@ digits_kept most m (c ∷ s) = go (expression_digit_fits most m (c ∷ s)) refl 
   where
     here : (z : List ℕ) → expression_digit_fits most m (c ∷ s) ≡ false → Same (c ∷ s) z → digits_at most m z ≡ Ok (m, z)
     here [] e h = absurd h.0
-    here (d ∷ z) e h = (let k : expression_digit_fits most m (d ∷ z) ≡ false = ap (λ (x : ℕ). is_expression_digit x && nat_le (m * 10 + (x - 48)) most) (sym h.0) ∙ e in rw k refl)
+    here (d ∷ z) e h = (let k : expression_digit_fits most m (d ∷ z) ≡ false = ap (λ (x : ℕ). is_digit x && nat_le (m * 10 + (x - 48)) most) (sym h.0) ∙ e in rw k refl)
 
     go : (b : Bool) → expression_digit_fits most m (c ∷ s) ≡ b → Kept (digits_at most (m * 10 + (c - 48))) s (expression_digits_from most (m * 10 + (c - 48)) s).0 (expression_digits_from most (m * 10 + (c - 48)) s).1
         → Kept (digits_at most m) (c ∷ s) (cond b (expression_digits_from most (m * 10 + (c - 48)) s) (m, c ∷ s)).0 (cond b (expression_digits_from most (m * 10 + (c - 48)) s) (m, c ∷ s)).1
@@ -219,7 +219,7 @@ local_digits_at most m = record { ok = ok; err = λ d s e. absurd cc }
 local_digits : (negative : Bool) → Local (digits negative)
 unfolding digits
 local_digits negative =
-    local_if (begins is_expression_digit) (λ s. digits_at (limit negative) 0 s >>= λ x. Ok (signed_value negative x.0, blanks_skipped x.1)) refuse (head_same is_expression_digit)
+    local_if (begins is_digit) (λ s. digits_at (limit negative) 0 s >>= λ x. Ok (signed_value negative x.0, blanks_skipped x.1)) refuse (head_same is_digit)
     (local_bind (digits_at (limit negative) 0) (λ k t. Ok (signed_value negative k, blanks_skipped t)) (local_digits_at (limit negative) 0) (λ k. local_skip (got (signed_value negative k)) (local_pure (signed_value negative k)))) local_refuse
 
 pub local_number : Local signed_number

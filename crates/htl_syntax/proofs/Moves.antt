@@ -1,8 +1,9 @@
 -- What was read is read before other texts too: what may stand after it, and how that goes on.
 use Rattle.std.proofs.Common.{◌≡◌, ℕ, ◌<◌, Bool, true, false, ◌||◌, ◌&&◌, eqb, List, [], ◌∷◌, ◌++◌, length, refl, ap, sym, subst, ◌∙◌, ◌⊎◌, inl, inr, arith, append_assoc}
+use Rattle.sp_base.specs.Bytes.{is_digit}
 use Rattle.htl_syntax.specs.declared.tokens.NameKind.{NameKind}
 use Rattle.htl_syntax.specs.declared.tokens.NameKind.TheVariants.{Name, Field}
-use Rattle.htl_syntax.specs.Tokens.{blanks_skipped, begins, goes_on, is_blank, is_letter, is_first, is_expression_digit, is_word_byte}
+use Rattle.htl_syntax.specs.Tokens.{blanks_skipped, begins, goes_on, is_blank, is_letter, is_first, is_word_byte}
 use Rattle.htl_syntax.specs.Fault.{SameHead}
 use Rattle.htl_syntax.proofs.Local.{begins_same}
 
@@ -36,10 +37,10 @@ or_left true b e = absurd cc
 or_left false b e = refl
 
 pub letter_word : (c : ℕ) → is_word_byte c ≡ false → is_letter c ≡ false
-letter_word c e = or_left (is_letter c) (eqb c 95) (or_left (is_first c) (is_expression_digit c) e)
+letter_word c e = or_left (is_letter c) (eqb c 95) (or_left (is_first c) (is_digit c) e)
 
-pub digit_word : (c : ℕ) → is_word_byte c ≡ false → is_expression_digit c ≡ false
-digit_word c e = go (is_first c) (is_expression_digit c) e
+pub digit_word : (c : ℕ) → is_word_byte c ≡ false → is_digit c ≡ false
+digit_word c e = go (is_first c) (is_digit c) e
   where
     go : (a b : Bool) → (a || b) ≡ false → b ≡ false
     go true b w = absurd cc

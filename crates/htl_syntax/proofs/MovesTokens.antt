@@ -1,13 +1,13 @@
 -- Each token is read before other texts too.
 use Rattle.std.proofs.Common.{◌≡◌, ℕ, ℤ, Bool, true, false, ◌||◌, ◌&&◌, eqb, List, [], ◌∷◌, ◌++◌, codes, refl, ap, sym, subst, ◌∙◌, inl, inr, arith, append_assoc}
 use Rattle.std.proofs.lemmas.Bool.Decides.{nat_tests}
-use Rattle.sp_base.specs.Bytes.{begins_with_byte}
+use Rattle.sp_base.specs.Bytes.{begins_with_byte, is_digit}
 use Rattle.htl_syntax.specs.declared.tokens.NameKind.{NameKind}
 use Rattle.htl_syntax.specs.declared.tokens.NameKind.TheVariants.{Name, Field}
 use Rattle.htl_syntax.specs.declared.node.Comparison.{Comparison}
 use Rattle.htl_syntax.specs.declared.node.Comparison.TheVariants.{Equal, NotEqual, Below, Above, AtMost, AtLeast}
 use Rattle.htl_syntax.specs.declared.expression.Context.{Context}
-use Rattle.htl_syntax.specs.Tokens.{blanks_skipped, begins, goes_on, is_letter, is_first, is_expression_digit, is_word_byte, expression_digit_fits, limit}
+use Rattle.htl_syntax.specs.Tokens.{blanks_skipped, begins, goes_on, is_letter, is_first, is_word_byte, expression_digit_fits, limit}
 use Rattle.htl_syntax.specs.Fault.{SameHead}
 use Rattle.htl_syntax.specs.Grammar.{Byte, Operator, Bare, Passes, NameToken, StringBody, String, Digits, Sign, Number, Compares, Literal, ContextString, context_text, Join, InContext}
 use Rattle.htl_syntax.specs.Grammar as g
@@ -103,7 +103,7 @@ no_colon c r e h = or_right (is_word_byte c) (eqb c 58 && begins is_letter r) h 
 letter_goes_on : (r : List ℕ) → goes_on Field r ≡ false → begins is_letter r ≡ false
 unfolding begins goes_on
 letter_goes_on [] e = refl
-letter_goes_on (c ∷ r) e = letter (is_letter c) (eqb c 95) (is_expression_digit c) (field_word c r e)
+letter_goes_on (c ∷ r) e = letter (is_letter c) (eqb c 95) (is_digit c) (field_word c r e)
   where
     letter : (a b d : Bool) → ((a || b) || d) ≡ false → a ≡ false
     letter true b d e' = absurd cc
@@ -187,7 +187,7 @@ unfolding expression_digit_fits
 digit_moves most m s _ _ (g.none e) = record { leading = []; parts = refl; same = λ z h. g.none (digits_end most m s z h e) }
 digit_moves most m _ k after (g.digit {c = c} {s = s} e d) = (let i = digit_moves most _ s k after d in record { leading = c ∷ i.leading; parts = ap (λ (t : List ℕ). c ∷ t) i.parts; same = λ z h. g.digit e (i.same z h) })
 
-first_fits : (negative : Bool) (c : ℕ) (s : List ℕ) → is_expression_digit c ≡ true → expression_digit_fits (limit negative) 0 (c ∷ s) ≡ true
+first_fits : (negative : Bool) (c : ℕ) (s : List ℕ) → is_digit c ≡ true → expression_digit_fits (limit negative) 0 (c ∷ s) ≡ true
 unfolding expression_digit_fits
 first_fits true c s h = grind (arith, nat_tests)
 first_fits false c s h = grind (arith, nat_tests)
@@ -195,9 +195,9 @@ first_fits false c s h = grind (arith, nat_tests)
 -- the digits of a number, of which one at least stands there
 record FirstDigit (negative : Bool) (s : List ℕ) (k : ℕ) (after : List ℕ) : Type 0 where
   moves : DigitMoves (limit negative) 0 s k after
-  begin : (z : List ℕ) → begins is_expression_digit (moves.leading ++ z) ≡ true
+  begin : (z : List ℕ) → begins is_digit (moves.leading ++ z) ≡ true
 
-first_digit : (negative : Bool) (s : List ℕ) (k : ℕ) (after : List ℕ) → begins is_expression_digit s ≡ true → Digits (limit negative) 0 s k after → FirstDigit negative s k after
+first_digit : (negative : Bool) (s : List ℕ) (k : ℕ) (after : List ℕ) → begins is_digit s ≡ true → Digits (limit negative) 0 s k after → FirstDigit negative s k after
 unfolding begins expression_digit_fits
 first_digit negative [] _ _ h (g.none e) = absurd cc
 first_digit negative (c ∷ s) _ _ h (g.none e) = absurd (let x = first_fits negative c s h in cc)

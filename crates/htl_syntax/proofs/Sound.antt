@@ -1,13 +1,13 @@
 -- What is read is in the grammar.
 use Rattle.std.proofs.Common.{◌≡◌, ℕ, zero, suc, true, cond, ◌||◌, eqb, List, [], ◌∷◌, ◌++◌, drop, length, Option, Some, None, Ok, refl, ap, sym, subst, ◌∙◌, inl, inr, append_assoc}
 use Rattle.std.proofs.lemmas.List.{append-nil}
-use Rattle.sp_base.specs.Bytes.{begins_with_byte}
+use Rattle.sp_base.specs.Bytes.{begins_with_byte, is_digit}
 use Rattle.htl_syntax.specs.declared.node.ExprNode.{ExprNode}
 use Rattle.htl_syntax.specs.declared.node.ExprNode.TheVariants as n
 use Rattle.htl_syntax.specs.declared.tokens.NameKind.TheVariants.{Name, Field}
 use Rattle.htl_syntax.specs.declared.reader.Inside.{Inside}
 use Rattle.htl_syntax.specs.declared.reader.Inside.TheVariants as i
-use Rattle.htl_syntax.specs.Tokens.{Outcome, ◌>>=◌, blanks_skipped, begins, expect, string, signed_number, read_name, is_expression_digit, is_quote}
+use Rattle.htl_syntax.specs.Tokens.{Outcome, ◌>>=◌, blanks_skipped, begins, expect, string, signed_number, read_name, is_quote}
 use Rattle.htl_syntax.specs.Read as spec
 use Rattle.htl_syntax.specs.Grammar.{Byte, Operator, Separator, And, Or, Comma, Separates, Part, part_of, Choice, Either, Both, Compare, Operand, Atom, Start, Items, Reads, More, Access, Accesses}
 use Rattle.htl_syntax.specs.Grammar as g
@@ -147,7 +147,7 @@ leaf_sound depth s p e =
           let w = bind_ok (string s) (λ x. Ok (n.Text x.0, x.1)) p h.1 in
           subst (Gave Start depth s) (ok_is _ _ w.2) (g.string (string_sound s w.0 w.1))
       | inr h ↦
-          elim (chosen (begins_with_byte 45 s || begins is_expression_digit s) _ _ _ h.1) [
+          elim (chosen (begins_with_byte 45 s || begins is_digit s) _ _ _ h.1) [
             | inl k ↦
                 let w = bind_ok (signed_number s) (λ x. Ok (n.Long x.0, x.1)) p k.1 in
                 subst (Gave Start depth s) (ok_is _ _ w.2) (g.number (number_sound s w.0 w.1))

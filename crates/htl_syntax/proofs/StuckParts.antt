@@ -1,11 +1,11 @@
 -- Accesses, operands and chains in which reading stopped can be completed.
 use Rattle.std.proofs.Common.{◌≡◌, ℕ, zero, suc, true, ◌||◌, eqb, List, [], ◌∷◌, ◌++◌, drop, length, Option, Some, None, Ok, Err, refl, inl, inr}
-use Rattle.sp_base.specs.Bytes.{begins_with_byte}
+use Rattle.sp_base.specs.Bytes.{begins_with_byte, is_digit}
 use Rattle.htl_syntax.specs.declared.stop.ExprStop.{ExprStop}
 use Rattle.htl_syntax.specs.declared.node.ExprNode.{ExprNode}
 use Rattle.htl_syntax.specs.declared.node.ExprNode.TheVariants as n
 use Rattle.htl_syntax.specs.declared.tokens.NameKind.TheVariants.{Name}
-use Rattle.htl_syntax.specs.Tokens.{Outcome, ◌>>=◌, blanks_skipped, begins, goes_on, is_expression_digit, is_quote, is_first, expect, read_name, signed_number, string}
+use Rattle.htl_syntax.specs.Tokens.{Outcome, ◌>>=◌, blanks_skipped, begins, goes_on, is_quote, is_first, expect, read_name, signed_number, string}
 use Rattle.htl_syntax.specs.Read as spec
 use Rattle.htl_syntax.specs.Grammar.{Byte, NameToken, String, Separator, And, Or, Comma, Separates, Part, part_of, Choice, Either, Both, Compare, Operand, Atom, Start, Reads, More, Access, Accesses}
 use Rattle.htl_syntax.specs.Grammar as g
@@ -187,7 +187,7 @@ leaf_stuck depth s d k e a = elim (chosen (begins is_quote s) _ _ _ e) [
         | inr at ↦ absurd (let x = at.2 in cc)
       ]
   | inr h ↦
-      elim (chosen (begins_with_byte 45 s || begins is_expression_digit s) _ _ _ h.1) [
+      elim (chosen (begins_with_byte 45 s || begins is_digit s) _ _ _ h.1) [
         | inl j ↦
             elim (bind_err (signed_number s) (λ x. Ok (n.Long x.0, x.1)) d j.1) [
               | inl at ↦ stuck_map SomeNumber (SomePart Start depth) s k (λ s' r' x. (n.Long x.0, g.number x.1)) (number_stuck s d k j.0 at a)

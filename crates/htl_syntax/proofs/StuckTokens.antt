@@ -1,11 +1,11 @@
 -- Where a token is missing or was cut, it can be completed.
 use Rattle.std.proofs.Common.{◌≡◌, ℕ, ℤ, Bool, true, false, ◌||◌, eqb, List, [], ◌∷◌, ◌++◌, drop, length, Option, Some, None, Ok, Err, refl, ap, sym, subst, inl, inr}
-use Rattle.sp_base.specs.Bytes.{begins_with_byte}
+use Rattle.sp_base.specs.Bytes.{begins_with_byte, is_digit}
 use Rattle.htl_syntax.specs.declared.stop.ExprStop.{ExprStop}
 use Rattle.htl_syntax.specs.declared.tokens.NameKind.TheVariants.{Field}
 use Rattle.htl_syntax.specs.declared.node.Comparison.{Comparison}
 use Rattle.htl_syntax.specs.declared.node.Comparison.TheVariants.{Equal, NotEqual}
-use Rattle.htl_syntax.specs.Tokens.{begins, goes_on, is_first, is_expression_digit, is_quote, expect, second, read_name, unescape, string_after_escape, string, string_from, digits, signed_number, expression_digit_fits, limit}
+use Rattle.htl_syntax.specs.Tokens.{begins, goes_on, is_first, is_quote, expect, second, read_name, unescape, string_after_escape, string, string_from, digits, signed_number, expression_digit_fits, limit}
 use Rattle.htl_syntax.specs.Read as spec
 use Rattle.htl_syntax.specs.Fault.{SameHead}
 use Rattle.htl_syntax.specs.Grammar.{Byte, Operator, NameToken, StringBody, String, Number, Compares}
@@ -170,11 +170,11 @@ minus_one z p = (
   },
 )
 
-pub number_stuck : (s : List ℕ) (d : ExprStop) (k : ℕ) → (begins_with_byte 45 s || begins is_expression_digit s) ≡ true → signed_number s ≡ Err d → At d k → Stuck SomeNumber s k
+pub number_stuck : (s : List ℕ) (d : ExprStop) (k : ℕ) → (begins_with_byte 45 s || begins is_digit s) ≡ true → signed_number s ≡ Err d → At d k → Stuck SomeNumber s k
 unfolding signed_number digits
 number_stuck s d k at e a = elim (chosen (begins_with_byte 45 s) _ _ _ e) [
   | inl h ↦
-      elim (chosen (begins is_expression_digit (drop 1 s)) _ _ _ h.1) [
+      elim (chosen (begins is_digit (drop 1 s)) _ _ _ h.1) [
         | inl j ↦ absurd (let x = j.1 in cc)
         | inr j ↦ record {
           leading = 45 ∷ [];
@@ -187,8 +187,8 @@ number_stuck s d k at e a = elim (chosen (begins_with_byte 45 s) _ _ _ e) [
         }
       ]
   | inr h ↦
-      let begin : begins is_expression_digit s ≡ true = rw h.0 at at in
-      elim (chosen (begins is_expression_digit s) _ _ _ h.1) [
+      let begin : begins is_digit s ≡ true = rw h.0 at at in
+      elim (chosen (begins is_digit s) _ _ _ h.1) [
         | inl j ↦ absurd (let x = j.1 in cc)
         | inr j ↦ absurd (let x = j.0 in cc)
       ]

@@ -2,10 +2,10 @@
 use Rattle.std.proofs.Common.{◌≡◌, ℕ, ℤ, suc, ◌<◌, ◌≤◌, Bool, true, false, cond, ◌||◌, eqb, List, [], ◌∷◌, ◌++◌, drop, length, Ok, refl, ap, ◌∙◌, rules, arith}
 use Rattle.std.proofs.lemmas.List.{take_at, drop_at, length-append}
 use Rattle.std.proofs.lemmas.Bool.Decides.{nat_tests}
-use Rattle.sp_base.specs.Bytes.{begins_with_byte}
+use Rattle.sp_base.specs.Bytes.{begins_with_byte, is_digit}
 use Rattle.htl_syntax.specs.declared.tokens.NameKind.{NameKind}
 use Rattle.htl_syntax.specs.declared.node.Comparison.{Comparison}
-use Rattle.htl_syntax.specs.Tokens.{blanks_skipped, begins, is_blank, expect, second, name_len, goes_on, read_name, string, string_from, is_expression_digit, is_first, is_quote, expression_digits_from, digits, signed_number, limit, signed_value}
+use Rattle.htl_syntax.specs.Tokens.{blanks_skipped, begins, is_blank, expect, second, name_len, goes_on, read_name, string, string_from, is_first, is_quote, expression_digits_from, digits, signed_number, limit, signed_value}
 use Rattle.htl_syntax.specs.Read.{comparison, compares, or_equal}
 use Rattle.htl_syntax.specs.Grammar.{Byte, Operator, Bare, NameToken, String, StringBody, Passes, Digits, Number, Sign, Compares}
 use Rattle.htl_syntax.specs.Grammar as g
@@ -87,41 +87,41 @@ digits_from_again most m [] _ _ (g.none e) = refl
 digits_from_again most m (c ∷ s) _ _ (g.none e) = rw e refl
 digits_from_again most m _ k after (g.digit e d) = rw e (digits_from_again most _ _ k after d)
 
-digits_again : (negative : Bool) (t : List ℕ) (m : ℕ) (after : List ℕ) → begins is_expression_digit t ≡ true → Digits (limit negative) 0 t m after → digits negative t ≡ Ok (signed_value negative m, blanks_skipped after)
+digits_again : (negative : Bool) (t : List ℕ) (m : ℕ) (after : List ℕ) → begins is_digit t ≡ true → Digits (limit negative) 0 t m after → digits negative t ≡ Ok (signed_value negative m, blanks_skipped after)
 unfolding digits
 digits_again negative t m after h d = rw (h, digits_from_again (limit negative) 0 t m after d) refl
 
-number_by : (s : List ℕ) (negative : Bool) (t : List ℕ) → Sign negative s t → begins is_expression_digit t ≡ true → signed_number s ≡ digits negative t
+number_by : (s : List ℕ) (negative : Bool) (t : List ℕ) → Sign negative s t → begins is_digit t ≡ true → signed_number s ≡ digits negative t
 unfolding signed_number begins_with_byte
 number_by s true t sign h = rw sign refl
-number_by s false t sign h = rw (sign, not_at is_expression_digit 45 t h refl) refl
+number_by s false t sign h = rw (sign, not_at is_digit 45 t h refl) refl
 
 pub number_again : (s : List ℕ) (k : ℤ) (r : List ℕ) → Number s k r → signed_number s ≡ Ok (k, r)
 number_again s k r x =
     number_by s x.negative x.inside x.sign x.first ∙ digits_again x.negative x.inside x.magnitude x.after x.first x.body ∙ rw (x.value, x.rest) refl
 
-sign_begins : (s : List ℕ) (negative : Bool) (t : List ℕ) → Sign negative s t → begins is_expression_digit t ≡ true → (begins_with_byte 45 s || begins is_expression_digit s) ≡ true
+sign_begins : (s : List ℕ) (negative : Bool) (t : List ℕ) → Sign negative s t → begins is_digit t ≡ true → (begins_with_byte 45 s || begins is_digit s) ≡ true
 unfolding begins_with_byte
 sign_begins s true t sign h = rw sign refl
-sign_begins s false t sign h = rw (sign, not_at is_expression_digit 45 t h refl) h
+sign_begins s false t sign h = rw (sign, not_at is_digit 45 t h refl) h
 
-pub number_begins : (s : List ℕ) (k : ℤ) (r : List ℕ) → Number s k r → (begins_with_byte 45 s || begins is_expression_digit s) ≡ true
+pub number_begins : (s : List ℕ) (k : ℤ) (r : List ℕ) → Number s k r → (begins_with_byte 45 s || begins is_digit s) ≡ true
 number_begins s k r x = sign_begins s x.negative x.inside x.sign x.first
 
-sign_starts : (test : ℕ → Bool) (s : List ℕ) (negative : Bool) (t : List ℕ) → test 45 ≡ false → ((c : ℕ) → is_expression_digit c ≡ true → test c ≡ false) → Sign negative s t → begins is_expression_digit t ≡ true → begins test s ≡ false
+sign_starts : (test : ℕ → Bool) (s : List ℕ) (negative : Bool) (t : List ℕ) → test 45 ≡ false → ((c : ℕ) → is_digit c ≡ true → test c ≡ false) → Sign negative s t → begins is_digit t ≡ true → begins test s ≡ false
 unfolding begins
 sign_starts test s true t minus none sign h = rw sign minus
 sign_starts test s false [] minus none sign h = absurd cc
 sign_starts test s false (c ∷ t) minus none sign h = rw sign (none c h)
 
 -- a number begins with no byte of another kind
-pub number_starts : (test : ℕ → Bool) (s : List ℕ) (k : ℤ) (r : List ℕ) → test 45 ≡ false → ((c : ℕ) → is_expression_digit c ≡ true → test c ≡ false) → Number s k r → begins test s ≡ false
+pub number_starts : (test : ℕ → Bool) (s : List ℕ) (k : ℤ) (r : List ℕ) → test 45 ≡ false → ((c : ℕ) → is_digit c ≡ true → test c ≡ false) → Number s k r → begins test s ≡ false
 number_starts test s k r minus none x = sign_starts test s x.negative x.inside minus none x.sign x.first
 
-pub digit_quote : (c : ℕ) → is_expression_digit c ≡ true → is_quote c ≡ false
+pub digit_quote : (c : ℕ) → is_digit c ≡ true → is_quote c ≡ false
 digit_quote c h = grind (arith, nat_tests)
 
-pub digit_first : (c : ℕ) → is_first c ≡ true → is_expression_digit c ≡ false
+pub digit_first : (c : ℕ) → is_first c ≡ true → is_digit c ≡ false
 digit_first c h = grind (arith, nat_tests)
 
 pub first_quote : (c : ℕ) → is_first c ≡ true → is_quote c ≡ false

@@ -1,11 +1,11 @@
 -- What is read of a token is that token.
 use Rattle.std.proofs.Common.{◌≡◌, ℕ, ℤ, suc, ◌+◌, ◌*◌, ◌-◌, Bool, true, false, cond, eqb, List, [], ◌∷◌, ◌++◌, take, drop, Option, Some, None, Ok, refl, ap, sym, subst, ◌∙◌, inl, inr, rules}
 use Rattle.std.proofs.lemmas.List.{take-append-drop}
-use Rattle.sp_base.specs.Bytes.{begins_with_byte}
+use Rattle.sp_base.specs.Bytes.{begins_with_byte, is_digit}
 use Rattle.htl_syntax.specs.declared.tokens.NameKind.{NameKind}
 use Rattle.htl_syntax.specs.declared.node.Comparison.{Comparison}
 use Rattle.htl_syntax.specs.declared.node.Comparison.TheVariants.{Equal, NotEqual, Below, Above, AtMost, AtLeast}
-use Rattle.htl_syntax.specs.Tokens.{blanks_skipped, begins, expect, second, name_len, goes_on, read_name, string, string_from, string_after_escape, unescape, is_expression_digit, is_first, is_quote, expression_digit_fits, expression_digits_from, digits, signed_number, limit}
+use Rattle.htl_syntax.specs.Tokens.{blanks_skipped, begins, expect, second, name_len, goes_on, read_name, string, string_from, string_after_escape, unescape, is_first, is_quote, expression_digit_fits, expression_digits_from, digits, signed_number, limit}
 use Rattle.htl_syntax.specs.Read.{comparison, compares, or_equal}
 use Rattle.htl_syntax.specs.Grammar.{Byte, Operator, Bare, NameToken, String, StringBody, Passes, Digits, Number, Sign, Compares}
 use Rattle.htl_syntax.specs.Grammar as g
@@ -127,7 +127,7 @@ digits_from_sound most m (c ∷ s) = go (expression_digit_fits most m (c ∷ s))
 digits_sound : (negative : Bool) (s t : List ℕ) (p : ℤ × List ℕ) → Sign negative s t → digits negative t ≡ Ok p → Number s p.0 p.1
 unfolding digits
 digits_sound negative s t p sign e =
-    elim (chosen (begins is_expression_digit t) _ _ _ e) [
+    elim (chosen (begins is_digit t) _ _ _ e) [
       | inl h ↦
           subst (λ (q : ℤ × List ℕ). Number s q.0 q.1) (ok_is _ _ h.1)
           (record { negative = negative; magnitude = (expression_digits_from (limit negative) 0 t).0; inside = t; after = (expression_digits_from (limit negative) 0 t).1; sign = sign; first = h.0; body = digits_from_sound (limit negative) 0 t; value = refl; rest = refl })

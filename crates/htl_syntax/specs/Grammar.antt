@@ -1,6 +1,6 @@
 -- The grammar of an expression, line by line. A text is read from a token on, up to the next token (HTL specification 1.4, "Expression Language").
 use Rattle.std.specs.Prelude.{◌≡◌, ◌+◌, ◌*◌, ◌-◌, ℕ, ℤ, suc, Bool, true, false, List, [], ◌∷◌, ◌++◌, Option, Some, None, ◌==◌, codes}
-use Rattle.sp_base.specs.Bytes.{begins_with_byte}
+use Rattle.sp_base.specs.Bytes.{begins_with_byte, is_digit}
 use Rattle.htl_syntax.specs.declared.node.ExprNode.{ExprNode}
 use Rattle.htl_syntax.specs.declared.node.ExprNode.TheVariants as n
 use Rattle.htl_syntax.specs.declared.node.Comparison.{Comparison}
@@ -10,7 +10,7 @@ use Rattle.htl_syntax.specs.declared.tokens.NameKind.TheVariants.{Name, Field}
 use Rattle.htl_syntax.specs.declared.expression.Context.{Context}
 use Rattle.htl_syntax.specs.declared.expression.Context.TheVariants.{Text, Unsafe}
 use Rattle.htl_syntax.specs.declared.expression.Expression.{Expression}
-use Rattle.htl_syntax.specs.Tokens.{blanks_skipped, begins, goes_on, is_expression_digit, is_first, is_quote, unescape, expression_digit_fits, limit, signed_value}
+use Rattle.htl_syntax.specs.Tokens.{blanks_skipped, begins, goes_on, is_first, is_quote, unescape, expression_digit_fits, limit, signed_value}
 use Rattle.htl_syntax.specs.Read.{access_of, and_of, or_of, word_node, object_of}
 
 -- ---- tokens, each with the blanks after it
@@ -81,7 +81,7 @@ pub record Number (s : List ℕ) (k : ℤ) (r : List ℕ) : Type 0 where
   pub inside : List ℕ
   pub after : List ℕ
   pub sign : Sign negative s inside
-  pub first : begins is_expression_digit inside ≡ true
+  pub first : begins is_digit inside ≡ true
   pub body : Digits (limit negative) 0 inside magnitude after
   pub value : k ≡ signed_value negative magnitude
   pub rest : r ≡ blanks_skipped after

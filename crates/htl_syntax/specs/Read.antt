@@ -2,7 +2,7 @@
 -- "Faults").
 use Rattle.std.specs.Prelude.{ℕ, zero, suc, Bool, true, false, nat_eq, if◌then◌else◌, ◌==◌, ◌||◌, ◌&&◌, List, [], ◌∷◌, ◌++◌, length, drop, Option, Some, None, is_none, Result, Ok, Err, codes, slice_index}
 use Rattle.std.specs.Cmp.Lexicographic.{pointwise}
-use Rattle.sp_base.specs.Bytes.{begins_with_byte}
+use Rattle.sp_base.specs.Bytes.{begins_with_byte, is_digit}
 use Rattle.htl_syntax.specs.declared.stop.ExprStop.{ExprStop}
 use Rattle.htl_syntax.specs.declared.stop.ExprStop.TheVariants.{Unexpected, TooDeep}
 use Rattle.htl_syntax.specs.declared.node.ExprNode.{ExprNode}
@@ -15,7 +15,7 @@ use Rattle.htl_syntax.specs.declared.expression.Expression.{Expression}
 use Rattle.htl_syntax.specs.declared.tokens.NameKind.TheVariants.{Name, Field}
 use Rattle.htl_syntax.specs.declared.reader.Inside.{Inside}
 use Rattle.htl_syntax.specs.declared.reader.Inside.TheVariants.{Choice, Operand, Items}
-use Rattle.htl_syntax.specs.Tokens.{Outcome, ◌>>=◌, blanks_skipped, begins, is_expression_digit, is_quote, read_name, expect, second, literal, string, signed_number}
+use Rattle.htl_syntax.specs.Tokens.{Outcome, ◌>>=◌, blanks_skipped, begins, is_quote, read_name, expect, second, literal, string, signed_number}
 
 -- without accesses there is no node for them
 abbrev pub access_of : ExprNode → List (List ℕ) → ExprNode
@@ -109,7 +109,7 @@ module _ (depth : ℕ) where
   unfoldable pub leaf : List ℕ → Outcome ExprNode
   leaf t =
       if begins is_quote t then (string t >>= λ x. Ok (n.Text x.0, x.1))
-      else if begins_with_byte 45 t || begins is_expression_digit t then (signed_number t >>= λ x. Ok (n.Long x.0, x.1))
+      else if begins_with_byte 45 t || begins is_digit t then (signed_number t >>= λ x. Ok (n.Long x.0, x.1))
       else name_or_object t
 
   -- Inside, what nests is read; the text begins at the byte that nests it.

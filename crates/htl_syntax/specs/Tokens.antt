@@ -2,7 +2,7 @@
 -- `Fails`, `Gives`, `AreAscii`, `plain_quoted_len` and `next_number` are needed by private functions and proofs alone.
 use Rattle.std.specs.Prelude.{◌≡◌, ◌<◌, ℕ, ℤ, pos, neg_ℤ, suc, ◌+◌, ◌*◌, ◌-◌, Bool, true, false, ◌||◌, ◌&&◌, if◌then◌else◌, ◌==◌, nat_le, List, [], ◌∷◌, ◌++◌, length, take, drop, Option, Some, None, Result, Ok, Err, slice_index}
 use Rattle.sp_base.specs.Limits.{greatest_i64, least_i64_magnitude}
-use Rattle.sp_base.specs.Bytes.{begins_with_byte}
+use Rattle.sp_base.specs.Bytes.{begins_with_byte, is_digit}
 use Rattle.htl_syntax.specs.declared.stop.ExprStop.{ExprStop}
 use Rattle.htl_syntax.specs.declared.stop.ExprStop.TheVariants.{Memory, Unexpected, TooDeep}
 use Rattle.htl_syntax.specs.declared.tokens.NameKind.{NameKind}
@@ -38,10 +38,6 @@ unfoldable pub blanks_skipped : List ℕ → List ℕ
 blanks_skipped [] = []
 blanks_skipped (c ∷ t) = if is_blank c then blanks_skipped t else c ∷ t
 
--- digits and letters are those of ASCII
-abbrev pub is_expression_digit : ℕ → Bool
-is_expression_digit c = nat_le 48 c && nat_le c 57
-
 -- A to Z and a to z
 abbrev pub is_letter : ℕ → Bool
 is_letter c = (nat_le 65 c && nat_le c 90) || (nat_le 97 c && nat_le c 122)
@@ -52,7 +48,7 @@ is_first c = is_letter c || c == 95
 
 -- and goes on with letters, digits and "_"
 abbrev pub is_word_byte : ℕ → Bool
-is_word_byte c = is_first c || is_expression_digit c
+is_word_byte c = is_first c || is_digit c
 
 -- the marks that a string stands between
 abbrev pub is_quote : ℕ → Bool
@@ -154,7 +150,7 @@ string (c ∷ t) = if is_quote c then string_from false c t else Err (Unexpected
 -- whether the next byte is a digit with which the number still fits
 unfoldable pub expression_digit_fits : ℕ → ℕ → List ℕ → Bool
 expression_digit_fits limit m [] = false
-expression_digit_fits limit m (c ∷ t) = is_expression_digit c && nat_le (m * 10 + (c - 48)) limit
+expression_digit_fits limit m (c ∷ t) = is_digit c && nat_le (m * 10 + (c - 48)) limit
 
 -- the longest number at the beginning that fits
 unfoldable pub expression_digits_from : ℕ → ℕ → List ℕ → ℕ × List ℕ
@@ -175,7 +171,7 @@ signed_value negative m = if negative then neg_ℤ (pos m) else pos m
 
 -- one digit at least
 unfoldable pub digits : Bool → List ℕ → Outcome ℤ
-digits negative t = if begins is_expression_digit t then (let x = expression_digits_from (limit negative) 0 t in Ok (signed_value negative x.0, blanks_skipped x.1)) else Err (Unexpected (length t))
+digits negative t = if begins is_digit t then (let x = expression_digits_from (limit negative) 0 t in Ok (signed_value negative x.0, blanks_skipped x.1)) else Err (Unexpected (length t))
 
 -- digits with a minus or without one
 unfoldable pub signed_number : List ℕ → Outcome ℤ

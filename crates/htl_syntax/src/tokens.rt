@@ -2,7 +2,7 @@
 
 ghost use Rattle.std.specs.Prelude.{◌≡◌, ◌≤◌, ◌<◌, ◌++◌, ℕ, List, length, drop, take, slice_index, IfOk, Ok, true, false, MatchOption};
 ghost use Rattle.std.specs.Str.{IsCharBoundary};
-ghost use Rattle.sp_base.specs.Bytes.{begins_with_byte};
+ghost use Rattle.sp_base.specs.Bytes.{begins_with_byte, is_digit};
 ghost use Rattle.htl_syntax.specs.Tokens as spec;
 ghost use Rattle.htl_syntax.specs.Tokens.{Gives, AreAscii};
 
@@ -24,7 +24,7 @@ pub fn is_blank(c: u8) -> bool
 }
 
 pub fn is_digit(c: u8) -> bool
-    ensures { result ≡ spec.is_expression_digit c }
+    ensures { result ≡ is_digit c }
 {
     c >= b'0' && c <= b'9'
 }
@@ -76,7 +76,7 @@ fn blank_at(text: &str) -> bool
 
 #[tactic(auto, unfolding(crate::specs::Tokens::begins))]
 pub fn digit_at(text: &str) -> bool
-    ensures { result ≡ spec.begins spec.is_expression_digit text.now }
+    ensures { result ≡ spec.begins is_digit text.now }
 {
     match text.as_bytes() {
         [] => false,

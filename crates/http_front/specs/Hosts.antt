@@ -3,6 +3,7 @@ use Rattle.std.specs.Prelude.{◌==◌, ◌&&◌, ◌||◌, ◌+◌, ℕ, Bool, 
 use Rattle.std.specs.List.{before_first, list_all}
 use Rattle.std.specs.Char.{is_ascii_alphanumeric, is_ascii_digit}
 use Rattle.std.specs.Str.Parse.{digits_value}
+use Rattle.sp_base.specs.Bytes.{is_colon}
 use Rattle.sp_base.specs.Limits.{greatest_port, http_port}
 
 -- the most digits of a number
@@ -29,10 +30,6 @@ port_or_none n = if nat_le n greatest_port then Some n else None
 abbrev pub port_of : List ℕ → Option ℕ
 port_of text = if length text == 0 then Some http_port else (if has_leading_zero text then None else option_and_then port_or_none (port_number text))
 
--- `:`
-abbrev pub is_port_colon : ℕ → Bool
-is_port_colon b = b == 58
-
 -- letters, digits, `-`, `_` and `.`
 abbrev pub is_asked_host_byte : ℕ → Bool
 is_asked_host_byte b = is_ascii_alphanumeric b || ((b == 45) || ((b == 95) || (b == 46)))
@@ -44,7 +41,7 @@ is_asked_host_name text = nat_lt 0 (length text) && list_all is_asked_host_byte 
 -- a name, alone or with a colon and a port after it
 abbrev pub host_in : List ℕ → Option (List ℕ × ℕ)
 host_in value =
-    if is_asked_host_name (before_first is_port_colon value) then option_map (λ port. (before_first is_port_colon value, port)) (port_of (drop (length (before_first is_port_colon value) + 1) value))
+    if is_asked_host_name (before_first is_colon value) then option_map (λ port. (before_first is_colon value, port)) (port_of (drop (length (before_first is_colon value) + 1) value))
     else None
 
 -- The host of a request, from its Host field: one that is no host, and none in HTTP/1.1, make no request (RFC 9112, section 3.2). A

@@ -3,6 +3,7 @@ ghost use Rattle.std.specs.Prelude.{◌≡◌, ◌+◌, IfSome, IsTrue, IsUtf8, 
 ghost use Rattle.std.specs.List.{before_first, list_all};
 ghost use Rattle.std.specs.Char.{is_ascii_digit};
 ghost use Rattle.std.specs.Str.Parse.{digits_value};
+ghost use Rattle.sp_base.specs.Bytes.{is_colon};
 ghost use Rattle.http_front.specs.Hosts as spec;
 ghost use Rattle.http_front.specs.LentHosts.{lent_host};
 
@@ -38,8 +39,8 @@ fn host_in(value: &[u8]) -> Option<(&[u8], u16)>
 
 // What stands before the first colon, and what stands after it.
 fn cut(value: &[u8]) -> (&[u8], &[u8])
-    ensures name { result.0.now ≡ before_first spec.is_port_colon value.now }
-    ensures port { result.1.now ≡ drop (length (before_first spec.is_port_colon value.now) + 1) value.now }
+    ensures name { result.0.now ≡ before_first is_colon value.now }
+    ensures port { result.1.now ≡ drop (length (before_first is_colon value.now) + 1) value.now }
 {
     match first_colon(value) {
         Some(at) => (&value[..at], &value[at + 1..]),
@@ -48,7 +49,7 @@ fn cut(value: &[u8]) -> (&[u8], &[u8])
 }
 
 fn first_colon(value: &[u8]) -> Option<usize>
-    ensures { result ≡ position spec.is_port_colon value.now }
+    ensures { result ≡ position is_colon value.now }
 {
     value.iter().position(|b| *b == b':')
 }

@@ -4,9 +4,10 @@ use Rattle.std.specs.Prelude.{nat_le, option_and_then}
 use Rattle.std.proofs.lemmas.Bool.Decides.{nat_tests}
 use Rattle.std.proofs.lemmas.List.{take-append-le, append-nil}
 use Rattle.std.proofs.lemmas.List.Concat.{flat_map-append}
+use Rattle.sp_base.specs.PathTexts.{spelling_of}
 use Rattle.sp_base.specs.Paths.{text_of}
 use Rattle.post_plan.specs.declared.spot.Spot.{Spot}
-use Rattle.post_plan.specs.Spots.{under, lead, first_two, is_reserved, led_to, full_path, if_changeable}
+use Rattle.post_plan.specs.Spots.{under, first_two, is_reserved, led_to, full_path, if_changeable}
 
 pub get_prefix : {A : Type 0} (xs ys : List A) (n : ℕ) → n < length xs → slice_get (xs ++ ys) n ≡ slice_get xs n
 get_prefix [] ys n lt = absurd (omega (arith, lt))
@@ -45,15 +46,15 @@ reserved_by (a ∷ b ∷ path) = refl
 pub reserved_of : (path : List (List ℕ)) (first second : Option (List ℕ)) (b : Bool) → b ≡ is_reserved (first_two first second) → first ≡ slice_get path 0 → second ≡ slice_get path 1 → b ≡ is_reserved path
 reserved_of path first second b e f s = rw (e, f, s) (reserved_by path)
 
-pub text_of_child : (parent : List (List ℕ)) (name : List ℕ) → text_of (parent ++ name ∷ []) ≡ lead parent ++ 47 ∷ name
+pub text_of_child : (parent : List (List ℕ)) (name : List ℕ) → text_of (parent ++ name ∷ []) ≡ spelling_of parent ++ 47 ∷ name
 text_of_child [] name = append-nil (47 ∷ name)
-text_of_child (p ∷ parent) name = flat_map-append (λ s. 47 ∷ s) (p ∷ parent) (name ∷ []) ∙ ap (λ (l : List ℕ). lead (p ∷ parent) ++ l) (append-nil (47 ∷ name))
+text_of_child (p ∷ parent) name = flat_map-append (λ s. 47 ∷ s) (p ∷ parent) (name ∷ []) ∙ ap (λ (l : List ℕ). spelling_of (p ∷ parent) ++ l) (append-nil (47 ∷ name))
 
-pub lead_of : (parent : List (List ℕ)) → length parent ≢ 0 → text_of parent ≡ lead parent
+pub lead_of : (parent : List (List ℕ)) → length parent ≢ 0 → text_of parent ≡ spelling_of parent
 lead_of [] h = absurd (h refl)
 lead_of (p ∷ parent) h = refl
 
-pub lead_root : (parent : List (List ℕ)) → length parent ≡ 0 → [] ≡ lead parent
+pub lead_root : (parent : List (List ℕ)) → length parent ≡ 0 → [] ≡ spelling_of parent
 lead_root [] h = refl
 lead_root (p ∷ parent) h = absurd (omega (arith, h))
 

@@ -3,6 +3,7 @@ use Rattle.std.specs.Prelude.{◌==◌, ◌&&◌, ◌||◌, ◌^◌, ℕ, Bool, 
 use Rattle.std.specs.List.{starts_with}
 use Rattle.std.specs.Str.{bytes_eq, all_ascii_digits}
 use Rattle.std.specs.Str.Parse.{digits_value}
+use Rattle.form_input.specs.Multipart.{first_some}
 use Rattle.sp_base.specs.Paths.{seg_ok, text_of}
 use Rattle.resource_tree.specs.declared.places.Place.{Place}
 use Rattle.resource_tree.specs.declared.places.Place.TheVariants.{First, Last, Before, After, At}
@@ -146,15 +147,10 @@ abbrev pub bad_text : List (List ℕ) → Bool → Bool → Bool → List ℕ ×
 bad_text node bad_dest bad_name marked p = if bytes_eq p.0 (codes ":dest") then (if bad_dest then Some p.1 else None)
     else (if bytes_eq p.0 (codes ":name") then (if bad_name then Some p.1 else None) else (if is_content marked p.0 then bad_entry node p else None))
 
--- the first text, where it is there, else the next
-abbrev pub or_next : Option (List ℕ) → Option (List ℕ) → Option (List ℕ)
-or_next None next = next
-or_next (Some text) next = Some text
-
 -- the first bad text of parameters
 unfoldable pub first_bad : (List ℕ × List ℕ → Option (List ℕ)) → List (List ℕ × List ℕ) → Option (List ℕ)
 first_bad bad [] = None
-first_bad bad (p ∷ more) = or_next (bad p) (first_bad bad more)
+first_bad bad (p ∷ more) = first_some (bad p) (first_bad bad more)
 
 -- a fault, where something is bad
 abbrev pub if_fault : Bool → PlanFault → Option PlanFault

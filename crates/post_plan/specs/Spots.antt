@@ -1,7 +1,8 @@
 -- Paths in the names and words of parameters, relative to a node or absolute (Apache Sling, "SlingPostServlet"; RFC 3986, section 5.2.4).
--- `lead` and `first_two` are needed by private functions and proofs alone.
+-- `spelling_of` and `first_two` are needed by private functions and proofs alone.
 use Rattle.std.specs.Prelude.{◌==◌, ◌&&◌, ◌||◌, ◌-◌, ℕ, Bool, true, false, nat_eq, nat_le, nat_lt, if◌then◌else◌, List, [], ◌∷◌, ◌++◌, Option, Some, None, option_and_then, Result, Ok, Err, codes, flat_map, length, take, drop, slice_index_or}
 use Rattle.std.specs.List.{starts_with, ends_with}
+use Rattle.sp_base.specs.PathTexts.{spelling_of}
 use Rattle.sp_base.specs.Paths.{seg_ok, pieces, path_of, path_or_none, is_under, parent_of}
 use Rattle.sp_base.specs.declared.path.PathFault.{PathFault}
 use Rattle.post_plan.specs.declared.spot.Spot.{Spot}
@@ -93,10 +94,6 @@ goal_of target word = option_and_then (goal_at target word) (goal_base (parent_o
 abbrev pub under : List (List ℕ) → Option (List ℕ) → List (List ℕ)
 under parent None = parent
 under parent (Some name) = parent ++ name ∷ []
-
--- the text of a path before a further segment
-abbrev pub lead : List (List ℕ) → List ℕ
-lead path = flat_map (λ seg. 47 ∷ seg) path
 
 -- of two texts those that are there, but none where the first is not
 abbrev pub first_two : Option (List ℕ) → Option (List ℕ) → List (List ℕ)

@@ -1,5 +1,6 @@
 //! The node that names are relative to.
 ghost use Rattle.std.specs.Prelude.{◌≡◌, ◌++◌, IfOk, option_copied, option_map, slice_get};
+ghost use Rattle.sp_base.specs.PathTexts.{spelling_of};
 ghost use Rattle.sp_base.specs.Paths.{text_of};
 ghost use Rattle.post_plan.specs.NewNames.{wished_name};
 ghost use Rattle.post_plan.specs.Spots as spec;
@@ -100,7 +101,7 @@ pub fn node_of<'a>(target: &'a Path, wish: &'a Option<NameWish>) -> TargetNode<'
 // The text of a path before a further segment.
 #[tactic(auto, using(crate::proofs::NodeLemmas::lead_of, crate::proofs::NodeLemmas::lead_root))]
 fn parent_text(path: &Path) -> &str
-    ensures { result.now ≡ spec.lead path.now }
+    ensures { result.now ≡ spelling_of path.now }
 {
     if path.depth() == 0 {
         ""

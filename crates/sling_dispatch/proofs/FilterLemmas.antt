@@ -3,9 +3,10 @@ use Rattle.std.proofs.Common.{◌≡◌, ◌+◌, ◌-◌, ℕ, zero, suc, Bool,
 use Rattle.std.proofs.Math.Seq.{drop-nil}
 use Rattle.std.specs.Prelude.{slice_get, unwrap_or, slice_index_or}
 use Rattle.std.specs.List.{slice_split, before_first}
+use Rattle.sp_base.specs.Bytes.{is_dot, is_slash, is_full, dotted_text}
 use Rattle.url_split.specs.declared.decompose.Parts.{Parts}
 use Rattle.url_split.specs.Split.{IsSplit, selectors_of, extension_of, suffix_of}
-use Rattle.dispatch_rules.specs.UrlParts.{stem, after_dot, dotted_url_pieces, is_url_dot, is_url_slash, is_full_piece}
+use Rattle.dispatch_rules.specs.UrlParts.{stem, after_dot}
 use Rattle.sling_dispatch.specs.FilterParts.{SeesParts}
 
 one_more : (n : ℕ) (text : List ℕ) → drop (n + 1) text ≡ drop 1 (drop n text)
@@ -17,14 +18,14 @@ one_more (suc n) (b ∷ text) =
 
 -- the parts of what follows a dot
 abbrev ending_of : List ℕ → List (List ℕ)
-ending_of rest = slice_split is_url_dot (before_first is_url_slash rest)
+ending_of rest = slice_split is_dot (before_first is_slash rest)
 
 last_piece : (pieces : List (List ℕ)) (n : ℕ) → unwrap_or (slice_get pieces n) [] ≡ slice_index_or pieces n []
 last_piece [] n = refl
 last_piece (piece ∷ pieces) zero = refl
 last_piece (piece ∷ pieces) (suc n) = last_piece pieces n
 
-selectors_at : (rest : List ℕ) → drop 1 (dotted_url_pieces (filter is_full_piece (take (length (ending_of (drop 1 rest)) - 1) (ending_of (drop 1 rest))))) ≡ drop 1 (dotted_url_pieces (selectors_of rest))
+selectors_at : (rest : List ℕ) → drop 1 (dotted_text (filter is_full (take (length (ending_of (drop 1 rest)) - 1) (ending_of (drop 1 rest))))) ≡ drop 1 (dotted_text (selectors_of rest))
 selectors_at [] = refl
 selectors_at (dot ∷ rest) = refl
 
@@ -32,15 +33,15 @@ extension_at : (rest : List ℕ) → unwrap_or (slice_get (ending_of (drop 1 res
 extension_at [] = refl
 extension_at (dot ∷ rest) = last_piece (ending_of rest) (length (ending_of rest) - 1)
 
-suffix_at : (rest : List ℕ) → drop (length (before_first is_url_slash (drop 1 rest))) (drop 1 rest) ≡ suffix_of rest
+suffix_at : (rest : List ℕ) → drop (length (before_first is_slash (drop 1 rest))) (drop 1 rest) ≡ suffix_of rest
 suffix_at [] = refl
 suffix_at (dot ∷ rest) = refl
 
 pub sees : (known : List (List ℕ) → Bool) (text : List ℕ) (parts : Parts) (split : IsSplit known text parts) → split.at ≡ length (stem text) → SeesParts text parts
 sees known text parts split at = record {
-  selectors_are = ap (λ t. drop 1 (dotted_url_pieces (filter is_full_piece (take (length (ending_of t) - 1) (ending_of t))))) after ∙ selectors_at rest ∙ ap (λ l. drop 1 (dotted_url_pieces l)) (sym (split.selectors ∙ ap (λ n. selectors_of (drop n text)) at));
+  selectors_are = ap (λ t. drop 1 (dotted_text (filter is_full (take (length (ending_of t) - 1) (ending_of t))))) after ∙ selectors_at rest ∙ ap (λ l. drop 1 (dotted_text l)) (sym (split.selectors ∙ ap (λ n. selectors_of (drop n text)) at));
   extension_is = ap (λ t. unwrap_or (slice_get (ending_of t) (length (ending_of t) - 1)) []) after ∙ extension_at rest ∙ sym (split.extension ∙ ap (λ n. extension_of (drop n text)) at);
-  suffix_is = ap (λ t. drop (length (before_first is_url_slash t)) t) after ∙ suffix_at rest ∙ sym (split.suffix ∙ ap (λ n. suffix_of (drop n text)) at);
+  suffix_is = ap (λ t. drop (length (before_first is_slash t)) t) after ∙ suffix_at rest ∙ sym (split.suffix ∙ ap (λ n. suffix_of (drop n text)) at);
 }
   where
     rest : List ℕ

@@ -2,7 +2,8 @@
 use Rattle.std.proofs.Common.{◌≡◌, ◌++◌, ℕ, Bool, true, false, cond, List, [], ◌∷◌, map, refl, sym, ◌∙◌, ap}
 use Rattle.std.proofs.lemmas.List.Folds.{flat_map-map}
 use Rattle.std.specs.List.{slice_split, onto_first, join_by}
-use Rattle.type_chain.specs.Types.{is_colon, text_with_slashes}
+use Rattle.sp_base.specs.Bytes.{is_colon}
+use Rattle.type_chain.specs.Types.{text_with_slashes}
 
 abbrev with_slashes : List (List ℕ) → List ℕ
 with_slashes pieces = join_by (λ p. p) (47 ∷ []) pieces

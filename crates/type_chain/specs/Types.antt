@@ -1,13 +1,10 @@
 -- Resource types, and the places of a type (Apache Sling, "Resource types", "Servlets and Scripts").
 use Rattle.std.specs.Prelude.{◌==◌, ◌&&◌, ℕ, Bool, true, false, not, is_some, if◌then◌else◌, List, [], ◌∷◌, ◌++◌, Option, Some, None, option_and_then, Result, Ok, Err, codes, find, map, slice_index}
+use Rattle.sp_base.specs.Bytes.{is_colon}
 use Rattle.sp_base.specs.Paths.{path_of, path_or_fault}
 use Rattle.sp_base.specs.declared.path.PathFault.{PathFault}
 use Rattle.resource_tree.specs.Content.{Content, node_at, same_path}
 use Rattle.type_chain.specs.declared.type_name.TypeName.{TypeName}
-
--- the byte of a colon
-abbrev pub is_colon : ℕ → Bool
-is_colon b = b == 58
 
 -- a type's text, in which a colon is read as a slash
 abbrev pub text_with_slashes : List ℕ → List ℕ

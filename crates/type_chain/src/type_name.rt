@@ -1,9 +1,10 @@
 //! Resource types as texts name them.
 ghost use Rattle.std.specs.Prelude.{◌≡◌, IfOk, IsTrue, map, string_bytes};
 ghost use Rattle.std.specs.List.{slice_split};
+ghost use Rattle.sp_base.specs.Bytes.{is_colon};
 ghost use Rattle.sp_base.specs.Paths.{is_path, path_of};
 ghost use Rattle.resource_tree.specs.Content.{name_of};
-ghost use Rattle.type_chain.specs.Types.{is_colon, type_at_path, same_type, text_with_slashes, type_of};
+ghost use Rattle.type_chain.specs.Types.{type_at_path, same_type, text_with_slashes, type_of};
 
 use sp_base::{Items, Mem, NoMemory, Path, PathFault};
 use std::alloc::{AllocError, Global};

@@ -6,10 +6,11 @@ use Rattle.std.proofs.lemmas.Bool.{cases_Bool, false≢true, and_parts, and_from
 use Rattle.std.proofs.lemmas.Bool.Decides.{nat_tests}
 use Rattle.std.proofs.lemmas.List.{append-nil}
 use Rattle.std.proofs.lemmas.List.Folds.{list_all-append}
+use Rattle.sp_base.specs.PathTexts.{spelling_of}
 use Rattle.sp_base.specs.Paths.{is_path, path_of, path_or_none, seg_ok, text_of}
 use Rattle.resource_tree.specs.declared.nodes.Node.{Node}
 use Rattle.resource_tree.specs.Content.{Content, IsTree, node_at}
-use Rattle.url_maps.specs.Mappings.{IsMapping, IsPlain, mapping_of, text_below}
+use Rattle.url_maps.specs.Mappings.{IsMapping, IsPlain, mapping_of}
 use Rattle.url_maps.specs.declared.pairs.Pair.{Pair}
 use Rattle.url_maps.specs.declared.pairs.PairKind.TheVariants.{Mapping}
 use Rattle.url_maps.specs.Pairs.{IsPair, IsPairOf}
@@ -24,9 +25,9 @@ IsSpelled = (text : List ℕ) (path : List (List ℕ)) → path_of text ≡ Ok p
 pub record Mapped (host_node : List (List ℕ)) (prefix : List ℕ) (path : List (List ℕ)) : Type 0 where
   pub below : List (List ℕ)
   pub path_is : path ≡ host_node ++ below
-  pub text_is : prefix ≡ text_below below
+  pub text_is : prefix ≡ spelling_of below
 
-below_text : (below : List (List ℕ)) (b c : ℕ) (text : List ℕ) → text_of below ≡ b ∷ c ∷ text → b ∷ c ∷ text ≡ text_below below
+below_text : (below : List (List ℕ)) (b c : ℕ) (text : List ℕ) → text_of below ≡ b ∷ c ∷ text → b ∷ c ∷ text ≡ spelling_of below
 below_text [] b c text e = cc
 below_text (s ∷ below) b c text e = sym e
 
@@ -54,7 +55,7 @@ path_below host_node below valid =
     let fewer : length below ≤ 64 = omega (arith, size, length-append host_node below) in
     and_from (list_all seg_ok below) (nat_le (length below) 64) segments (grind (arith, nat_tests))
 
-pub mapped_back : IsReadBack → (host_node below : List (List ℕ)) → is_path (host_node ++ below) ≡ true → mapped_path host_node (text_below below) ≡ Some (host_node ++ below)
+pub mapped_back : IsReadBack → (host_node below : List (List ℕ)) → is_path (host_node ++ below) ≡ true → mapped_path host_node (spelling_of below) ≡ Some (host_node ++ below)
 mapped_back read host_node [] valid = ap (λ p. Some p) (sym (append-nil host_node))
 mapped_back read host_node ([] ∷ below) valid = absurd (false≢true (and_parts false (list_all seg_ok below) (and_parts (list_all seg_ok ([] ∷ below)) (nat_le (length ([] ∷ below)) 64) (path_below host_node ([] ∷ below) valid)).0).0)
 mapped_back read host_node ((c ∷ s) ∷ below) valid =

@@ -5,9 +5,10 @@ use Rattle.std.specs.Prelude.{IsTrue, is_some, nat_eq, not}
 use Rattle.std.specs.Cmp.Lexicographic.{pointwise, same_text}
 use Rattle.std.proofs.lemmas.Bool.{true≢false, false≢true, and_from, and_parts, cases_lt}
 use Rattle.std.proofs.lemmas.List.{length-take-le, take-take, take_all}
+use Rattle.sp_base.specs.PathTexts.{spelling_of}
 use Rattle.sp_base.specs.Paths.{is_path, is_under, parent_of, path_of, text_of}
 use Rattle.resource_tree.specs.Content.{Content, IsTree, kid, node_at}
-use Rattle.url_maps.specs.Mappings.{IsPlain, has_match, text_below}
+use Rattle.url_maps.specs.Mappings.{IsPlain, has_match}
 use Rattle.url_maps.specs.Search.{HasNoMappingBeyond, IsBarredAt, is_passable}
 use Rattle.url_maps.proofs.MappingLemmas.{path_below}
 use Rattle.url_maps.proofs.PathLemmas.{IsReadBack}
@@ -74,7 +75,7 @@ module _ (tree : Content) (good : IsTree (node_at tree)) where
       (cases_lt depth (length below))
 
   within_reach : IsReadBack → AreParents → AreWithinFirst → (host_node path below : List (List ℕ)) (depth k : ℕ) → is_path path ≡ true → is_path below ≡ true → IsBarredAt tree host_node path depth → is_some (node_at tree (host_node ++ below)) ≡ true → IsPlain tree host_node (host_node ++ below)
-      → k ≤ length (text_of path) → take k (text_of path) ≡ text_below below → k ≤ length (text_of (take depth path))
+      → k ≤ length (text_of path) → take k (text_of path) ≡ spelling_of below → k ≤ length (text_of (take depth path))
   within_reach read parents within host_node path [] depth k valid is none there plain inside same =
       let size : length (take k (text_of path)) ≡ k = length-take-le k (text_of path) inside in omega (arith, size, ap length same)
   within_reach read parents within host_node path (s ∷ below) depth k valid is none there plain inside same =

@@ -3,6 +3,7 @@ use Rattle.std.specs.Prelude.{◌≡◌, ◌≤◌, ◌||◌, ◌==◌, ℕ, ℤ
 use Rattle.std.specs.Option.{option_map_or, option_or}
 use Rattle.std.specs.Char.{to_ascii_lowercase}
 use Rattle.std.specs.Fmt.{decimal}
+use Rattle.sp_base.specs.PathTexts.{spelling_of}
 use Rattle.sp_base.specs.Properties.{text_in}
 use Rattle.resource_tree.specs.declared.nodes.Node.{Node}
 use Rattle.resource_tree.specs.Content.{Content, node_at, prop_at}
@@ -15,10 +16,6 @@ host_node_name host port = map to_ascii_lowercase host ++ 46 ∷ decimal port
 -- the path of that node
 abbrev pub host_node_of : List ℕ → ℕ → List (List ℕ)
 host_node_of host port = codes "etc" ∷ codes "map" ∷ codes "http" ∷ host_node_name host port ∷ []
-
--- a slash before each segment: the text of a path below a host node, empty for the host node itself
-abbrev pub text_below : List (List ℕ) → List ℕ
-text_below path = flat_map (λ s. 47 ∷ s) path
 
 -- whether the node at a path has a `sling:match`
 unfoldable pub has_match : Content → List (List ℕ) → Bool
@@ -62,7 +59,7 @@ mapping_of node = option_or (option_map (λ target. (target, None)) (internal_ta
 -- below it, is passed over.
 pub record IsMapping (tree : Content) (host_node : List (List ℕ)) (text target : List ℕ) (away : Option ℕ) : Type 0 where
   pub below : List (List ℕ)
-  pub text_is : text ≡ text_below below
+  pub text_is : text ≡ spelling_of below
   pub node : Node
   pub there : node_at tree (host_node ++ below) ≡ Some node
   pub plain : IsPlain tree host_node (host_node ++ below)

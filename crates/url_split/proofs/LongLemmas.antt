@@ -5,8 +5,8 @@ use Rattle.std.specs.List.{list_all, list_any, onto_first}
 use Rattle.std.proofs.lemmas.Bool.{and_parts, true≢false, false≢true}
 use Rattle.std.proofs.lemmas.Bool.Decides.{nat_tests}
 use Rattle.std.proofs.lemmas.List.{append-nil, length-take, take-append-drop, take_more, take-take}
+use Rattle.sp_base.specs.Bytes.{is_slash}
 use Rattle.sp_base.specs.Paths.{has_slash, is_empty, is_long, path_of, pieces, seg_ok}
-use Rattle.url_split.specs.Split.{is_slash}
 use Rattle.url_split.specs.Walk.{EndsInLong, IsBeforeLong, IsReached}
 use Rattle.url_split.proofs.StartLemmas.{AreValid, read_is, short_seg}
 

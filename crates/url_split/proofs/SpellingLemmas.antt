@@ -8,10 +8,11 @@ use Rattle.std.proofs.lemmas.List.Folds.{list_all-append}
 use Rattle.std.proofs.lemmas.List.Splits.{length-slice_split}
 use Rattle.std.proofs.lemmas.List.Sums.{fails_before_first, passes_at_first, split_at_first}
 use Rattle.std.specs.List.{list_all, list_any, onto_first, slice_split, before_first, after_first, position_or_len}
+use Rattle.sp_base.specs.Bytes.{is_dot, is_slash, is_full, dotted_text}
 use Rattle.sp_base.specs.Paths.{path_of, text_of}
 use Rattle.url_split.specs.declared.decompose.Parts.{Parts}
-use Rattle.url_split.specs.Split.{IsSplit, is_dot, is_slash, last_of, but_last, selectors_of, extension_of, suffix_of}
-use Rattle.url_split.specs.Spelling.{is_full, is_word, dotted_text, SpellsParts}
+use Rattle.url_split.specs.Split.{IsSplit, last_of, but_last, selectors_of, extension_of, suffix_of}
+use Rattle.url_split.specs.Spelling.{is_word, SpellsParts}
 use Rattle.url_split.proofs.SplitLemmas.{no_more, cut_after}
 
 both : (a b : Bool) → a ≡ true → b ≡ true → (a && b) ≡ true

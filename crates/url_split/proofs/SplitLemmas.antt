@@ -6,7 +6,8 @@ use Rattle.std.proofs.lemmas.List.Splits.{length-slice_split}
 use Rattle.std.proofs.Math.Seq.{drop-cons}
 use Rattle.std.proofs.lemmas.List.Sums.{position_or_len_is}
 use Rattle.std.specs.List.{before_first, slice_split}
-use Rattle.url_split.specs.Split.{IsCut, is_slash, is_dot, but_last, last_of}
+use Rattle.sp_base.specs.Bytes.{is_dot, is_slash}
+use Rattle.url_split.specs.Split.{IsCut, but_last, last_of}
 use Rattle.url_split.specs.Walk.{IsAfterPath}
 
 is_test : (b c : ℕ) → b ≡ c → (b == c) ≡ true

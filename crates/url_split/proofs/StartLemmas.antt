@@ -10,11 +10,12 @@ use Rattle.std.proofs.lemmas.List.Concat.{flat_map-append}
 use Rattle.std.proofs.lemmas.List.Folds.{list_all-append}
 use Rattle.std.proofs.lemmas.List.Splits.{length-slice_split}
 use Rattle.std.proofs.lemmas.List.Sums.{count_by-le-length, sum_by-cons}
+use Rattle.sp_base.specs.Bytes.{is_slash}
 use Rattle.sp_base.specs.Paths.{path_or_fault, fault_of, is_dots, is_empty, is_path, is_under, parent_of, path_of, has_slash, is_long, pieces, seg_ok, text_of, unless_fault}
 use Rattle.sp_base.specs.PathTexts.{spelling_of}
 use Rattle.sp_base.specs.declared.path.PathFault.{PathFault}
 use Rattle.sp_base.specs.declared.path.PathFault.TheVariants.{NotAbsolute}
-use Rattle.url_split.specs.Split.{IsCut, is_slash}
+use Rattle.url_split.specs.Split.{IsCut}
 use Rattle.url_split.specs.Walk.{HasParents, IsBeforeSlash, IsFitEnd, IsReached}
 
 -- ---- what a text reads as

@@ -2,6 +2,7 @@
 use Rattle.std.specs.Prelude.{◌≡◌, ◌==◌, ◌<◌, ◌⊎◌, ◌-◌, ◌||◌, ℕ, zero, suc, Bool, true, not, if◌then◌else◌, List, [], ◌∷◌, Option, Some, None, option_map, Result, Ok, Err, drop, take, length, filter, slice_index, slice_index_or}
 use Rattle.std.specs.Option.{option_or}
 use Rattle.std.specs.List.{slice_split, before_first}
+use Rattle.sp_base.specs.Bytes.{is_dot, is_slash}
 use Rattle.sp_base.specs.Paths.{path_of}
 use Rattle.sp_base.specs.declared.path.PathFault.{PathFault}
 use Rattle.url_split.specs.declared.decompose.Parts.{Parts}
@@ -15,14 +16,6 @@ pub record Leads (known : List (List ℕ) → Bool) (text : List ℕ) (at : ℕ)
   pub cut : IsCut text at
   pub reads : path_of (take at text) ≡ Ok path
   pub there : known path ≡ true
-
--- the byte of a slash
-abbrev pub is_slash : ℕ → Bool
-is_slash b = b == 47
-
--- the byte of a dot
-abbrev pub is_dot : ℕ → Bool
-is_dot b = b == 46
 
 -- the last piece
 abbrev pub last_of : List (List ℕ) → List ℕ

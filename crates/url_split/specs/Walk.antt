@@ -1,9 +1,10 @@
 -- What the functions of the decomposition promise one another; a reader of its definition needs none of it.
 use Rattle.std.specs.Prelude.{◌≡◌, ◌<◌, ◌≤◌, ◌+◌, ◌⊎◌, ◌++◌, ◌∷◌, [], ℕ, Bool, true, false, List, Option, Some, None, Ok, take, length, slice_index}
 use Rattle.std.specs.List.{count_by}
+use Rattle.sp_base.specs.Bytes.{is_slash}
 use Rattle.sp_base.specs.PathTexts.{spelling_of}
 use Rattle.sp_base.specs.Paths.{has_slash, is_long, is_path, is_under, parent_of, path_of}
-use Rattle.url_split.specs.Split.{Leads, is_slash}
+use Rattle.url_split.specs.Split.{Leads}
 
 -- a prefix of a text after which no prefix up to a dot reads as a known path
 pub record IsReached (known : List (List ℕ) → Bool) (text start : List ℕ) : Type 0 where

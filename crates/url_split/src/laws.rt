@@ -1,9 +1,10 @@
 //! What a decomposition is: laws of the definitions, on functions that do nothing.
 ghost use Rattle.std.specs.Prelude.{◌≡◌, ◌⊎◌, ◌&&◌, ◌++◌, ◌∷◌, [], ℕ, Bool, List, Some, IsTrue, IfSome, IfNone};
 ghost use Rattle.std.specs.List.{list_all};
+ghost use Rattle.sp_base.specs.Bytes.{is_full};
 ghost use Rattle.sp_base.specs.Paths.{text_of};
 ghost use Rattle.url_split.specs.Split.{IsLost, IsSplit, split_of};
-ghost use Rattle.url_split.specs.Spelling.{SpellsParts, is_full, is_word};
+ghost use Rattle.url_split.specs.Spelling.{SpellsParts, is_word};
 ghost use Rattle.url_split.specs.declared.decompose.Parts.{Parts};
 
 use sp_base::a_path_and_its_text;

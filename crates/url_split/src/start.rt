@@ -2,7 +2,7 @@
 ghost use Rattle.std.specs.Prelude.{◌≡◌, List, ℕ, Ok, map, IfOk};
 ghost use Rattle.sp_base.specs.Paths.{path_of};
 ghost use Rattle.std.specs.List.{slice_split};
-ghost use Rattle.url_split.specs.Split.{is_slash};
+ghost use Rattle.sp_base.specs.Bytes.{is_slash};
 ghost use Rattle.url_split.specs.Walk.{HasParents, IsBeforeLong, IsBeforeSlash, IsFitEnd, IsReached};
 
 use crate::Known;

@@ -1,18 +1,18 @@
 use Rattle.std.proofs.Common.{◌≡◌, ◌≤◌, lit<, ◌∙◌, sym, ap, arith, drop, length, Some, None}
 use Rattle.std.specs.List.{before_first}
 use Rattle.std.proofs.lemmas.Str.Pattern.{find_char}
-use Rattle.dispatch_rules.specs.UrlParts.{is_url_slash}
+use Rattle.sp_base.specs.Bytes.{is_slash}
 use Rattle.dispatch_rules.proofs.CutLemmas.{cut_at, uncut, prefix_length, none_left}
 use Rattle.dispatch_rules.proofs.url_parts.from_slash.Goals as goal
 
 pub returns-in-Some : goal.returns-in-Some
 returns-in-Some c =
     let h = find_char 47 c.args.text.now (Some c.in-Some.at) c.in-Some.ensures.cases (lit< tt) in
-    let size : length (before_first is_url_slash c.args.text.now) ≡ c.in-Some.at = prefix_length 47 c.args.text.now c.in-Some.at (omega (arith, h.0)) (cut_at 47 c.args.text.now c.in-Some.at h.0 h.1 h.2) in
+    let size : length (before_first is_slash c.args.text.now) ≡ c.in-Some.at = prefix_length 47 c.args.text.now c.in-Some.at (omega (arith, h.0)) (cut_at 47 c.args.text.now c.in-Some.at h.0 h.1 h.2) in
     c.range_from.ensures.value ∙ ap (λ n. drop n c.args.text.now) (sym size)
 
 pub returns-in-None : goal.returns-in-None
 returns-in-None c =
     let none = uncut 47 c.args.text.now (find_char 47 c.args.text.now None c.in-None.ensures.cases (lit< tt)) in
-    let size : length (before_first is_url_slash c.args.text.now) ≡ length c.args.text.now = prefix_length 47 c.args.text.now (length c.args.text.now) (omega arith) none in
-    sym (none_left c.args.text.now (length (before_first is_url_slash c.args.text.now)) (omega (arith, size)))
+    let size : length (before_first is_slash c.args.text.now) ≡ length c.args.text.now = prefix_length 47 c.args.text.now (length c.args.text.now) (omega arith) none in
+    sym (none_left c.args.text.now (length (before_first is_slash c.args.text.now)) (omega (arith, size)))

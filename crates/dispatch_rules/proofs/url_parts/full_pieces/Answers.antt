@@ -2,7 +2,7 @@ use Rattle.std.proofs.Common.{lit<, ◌∙◌, ap, filter, string_bytes, List, �
 use Rattle.std.proofs.lemmas.Iterator.{YieldsList-from_take}
 use Rattle.std.proofs.lemmas.Iterator.Consumers.{YieldsList-at, YieldsList-end}
 use Rattle.std.proofs.lemmas.Iterator.Splits.{YieldsList-from_str_split}
-use Rattle.dispatch_rules.specs.UrlParts.{dotted_url_pieces, is_full_piece}
+use Rattle.sp_base.specs.Bytes.{is_full, dotted_text}
 use Rattle.dispatch_rules.proofs.CutLemmas.{dotted-push}
 use Rattle.dispatch_rules.proofs.url_parts.full_pieces.Goals as goal
 
@@ -16,4 +16,4 @@ returns c =
     (YieldsList-at c.into_iter-piece-iterator.ensures.into_iter_gives
     (YieldsList-from_take c.args.n (YieldsList-at c.take-piece-items.ensures.source (YieldsList-from_str_split 46 c.args.text.now (lit< tt) c.split.ensures.text c.split.ensures.has_more c.split.ensures.pattern)) c.take-piece-items.ensures.count))
     c.loop-piece.yielded _ c.loop-piece.yielded_by _ _ c.in-None.is c.next.ensures.steps in
-    c.loop-piece.invariant ∙ ap (λ (segs : List (List ℕ)). dotted_url_pieces (filter is_full_piece segs)) seen.0
+    c.loop-piece.invariant ∙ ap (λ (segs : List (List ℕ)). dotted_text (filter is_full segs)) seen.0

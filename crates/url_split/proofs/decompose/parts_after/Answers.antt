@@ -2,7 +2,8 @@ use lib.Utf8.{encode}
 use Rattle.std.proofs.Common.{take, get_or, ◌-◌, ◌≡◌, ◌==◌, List, ℕ, Some, lit<, map, not, filter, length, vec_len, sym, ◌∙◌, ap, arith}
 use Rattle.std.specs.List.{slice_split}
 use Rattle.std.proofs.lemmas.Str.Pattern.{strip_prefix_char}
-use Rattle.url_split.specs.Split.{is_dot, selectors_of, extension_of, suffix_of, but_last, last_of}
+use Rattle.sp_base.specs.Bytes.{is_dot}
+use Rattle.url_split.specs.Split.{selectors_of, extension_of, suffix_of, but_last, last_of}
 use Rattle.url_split.proofs.SplitLemmas.{after_none, but_last-map, last-map, some_piece}
 use Rattle.url_split.proofs.decompose.parts_after.Goals as goal
 

@@ -1,6 +1,6 @@
 use Rattle.std.proofs.Common.{◌≡◌, ◌≤◌, take}
 use Rattle.std.specs.List.{count_by}
-use Rattle.url_split.specs.Split.{is_slash}
+use Rattle.sp_base.specs.Bytes.{is_slash}
 use Rattle.url_split.proofs.start.before_slash.Given as goal
 
 abbrev pub invariant-loop-at : goal.invariant-loop-at

@@ -120,9 +120,6 @@ node_tokens law tree path node good there = by (64 - length path) refl
 
 -- ---- what was written
 
-pub nothing : (old : Written) → Adds old old []
-nothing old = record { tokens = sym (append-nil old.tokens); before = refl }
-
 pub token : (old new : Written) (t : Token) → new.tokens ≡ old.tokens ++ t ∷ [] → new.before ≡ old.before → Adds old new (t ∷ [])
 token old new t e b = record { tokens = e; before = b }
 

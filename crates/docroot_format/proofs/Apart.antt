@@ -26,9 +26,6 @@ glyph c d small_c small_d e = grind (arith, nat_tests)
 halves : (b c : ℕ) → b < 256 → c < 256 → b / 16 % 16 ≡ c / 16 % 16 → b % 16 ≡ c % 16 → b ≡ c
 halves b c small_b small_c high low = omega (arith, small_b, small_c, high, low)
 
-first : List ℕ → ℕ
-first xs = get_or xs 0 0
-
 head_of_two : (x y : ℕ) (xs ys : List ℕ) → x ∷ xs ≡ y ∷ ys → (x ≡ y) × (xs ≡ ys)
 head_of_two x y xs ys e = (cc, cc)
 

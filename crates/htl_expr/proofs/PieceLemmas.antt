@@ -67,17 +67,6 @@ one_more scope (ps ∷ items) (t ∷ texts) pieces text known are = (known.0, on
 same_after : (c : ℕ) (x y : List ℕ) → c ∷ x ≡ c ∷ y → x ≡ y
 same_after c x y e = cc
 
-flat_append : (xs ys : List (List ItemPiece)) → flat_map (λ (ps : List ItemPiece). ps) (xs ++ ys) ≡ flat_map (λ (ps : List ItemPiece). ps) xs ++ flat_map (λ (ps : List ItemPiece). ps) ys
-flat_append [] ys = refl
-flat_append (x ∷ xs) ys = ap (λ (l : List ItemPiece). x ++ l) (flat_append xs ys) ∙ sym (append_assoc x (flat_map (λ (ps : List ItemPiece). ps) xs) (flat_map (λ (ps : List ItemPiece). ps) ys))
-
--- the pieces of one item more
-pub one_item_more : (items : List (List ItemPiece)) (i : ℕ) (x all new : List ItemPiece) → i < length items → x ≡ get_or items i x → all ≡ flat_map (λ (ps : List ItemPiece). ps) (take i items) → new ≡ all ++ x
-    → new ≡ flat_map (λ (ps : List ItemPiece). ps) (take (i + 1) items)
-one_item_more items i x all new lt is known pushed =
-    pushed ∙ ap (λ (l : List ItemPiece). l ++ x) known ∙ ap (λ (l : List ItemPiece). flat_map (λ (ps : List ItemPiece). ps) (take i items) ++ l) (sym (append-nil x)) ∙ sym (flat_append (take i items) (x ∷ []))
-    ∙ ap (flat_map (λ (ps : List ItemPiece). ps)) (ap (λ (l : List ItemPiece). take i items ++ l ∷ []) is ∙ sym (take_more items i x lt))
-
 -- texts that are as long come before the same only where they are the same
 halves : (xs ys us vs : List ℕ) → length xs ≡ length ys → xs ++ us ≡ ys ++ vs → (xs ≡ ys) × (us ≡ vs)
 halves [] [] us vs n e = (refl, e)

@@ -20,13 +20,6 @@ longer most old a b whole e lt =
     let m = length-append old a in
     omega (arith, l, m, lt)
 
--- the second of two texts is written, or doesn't fit
-pub second : {A : Type 0} (most : ℕ) (r : Result A WriteFault) (old a b mid new whole : List ℕ) → whole ≡ a ++ b → mid ≡ old ++ a → Wrote most r mid b new → Wrote most r old whole new
-second most (Ok u) old a b mid new whole e m w = (w.0 ∙ ap (λ (l : List ℕ). l ++ b) m ∙ append_assoc old a b ∙ ap (λ (l : List ℕ). old ++ l) (sym e), w.1)
-second most (Err f) old a b mid new whole e m w =
-    let same : mid ++ b ≡ old ++ whole = ap (λ (l : List ℕ). l ++ b) m ∙ append_assoc old a b ∙ ap (λ (l : List ℕ). old ++ l) (sym e) in
-    (begins_later old mid new (record { rest = a; parts = m }) w.0, λ known. let x = w.1 known in (x.0, rw same at x.1))
-
 -- a text that is longer when it is escaped doesn't fit
 pub no_room : (most : ℕ) (old more : List ℕ) → length old ≤ most → most - length old < length more → most < length (old ++ more)
 no_room most old more le lt = let l = length-append old more in omega (arith, l, le, lt)

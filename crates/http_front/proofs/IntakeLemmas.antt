@@ -41,18 +41,9 @@ fault_stays s more fault stops = ⊎_elim (λ refused. inl (refused_stays s more
 
 -- ---- after a head
 
-body_awaited : (s more : List ℕ) (a : AskedHead) (r : List ℕ) → BeginsAsking s a r → a.awaits_continue ≡ false → length (r ++ more) < a.body_length → AwaitsBody (s ++ more)
-body_awaited s more a r b unasked short = record { asked = a; rest = r ++ more; begins = asking_stays s more a r b; unasked = unasked; short = short }
-
 request_begins : (s more : List ℕ) (a : AskedHead) (r : List ℕ) (awaits : Bool) (request : Req) (rest : List ℕ) → BeginsAsking s a r → a.awaits_continue ≡ awaits → HasBody a (r ++ more) request rest
     → BeginsWithRequest (s ++ more) awaits request rest
 request_begins s more a r awaits request rest b is body = record { asked = a; bytes = r ++ more; begins = asking_stays s more a r b; awaits_is = is; body = body }
-
--- a head whose sender doesn't wait leads to what follows it
-pub ready : (s more : List ℕ) (a : AskedHead) (r : List ℕ) (turns : List Turn) (end : End) → BeginsAsking s a r → a.awaits_continue ≡ false → TurnsFollow a (r ++ more) turns end → SpellsTurns (s ++ more) turns end
-ready s more a r [] end b unasked f = subst (Stops (s ++ more)) (sym f.1) (inr (body_awaited s more a r b unasked f.0))
-ready s more a r (Continue ∷ turns) end b unasked f = absurd f
-ready s more a r (Whole request ∷ turns) end b unasked f = (f.0, request_begins s more a r false request f.0 b unasked f.1, f.2)
 
 -- a head whose sender waits is told of first
 pub asked : (s more : List ℕ) (a : AskedHead) (r : List ℕ) (turns : List Turn) (end : End) → BeginsAsking s a r → a.awaits_continue ≡ true → TurnsFollow a (r ++ more) turns end → SpellsTurns (s ++ more) (Continue ∷ turns) end
@@ -77,13 +68,6 @@ body_taken a rest more request turns end fits is spells =
     )
 
 -- ---- one step after another
-
-pub keeps : (old new : Intake) → IntakeLeads old new → Keeps old new
-keeps old new leads = λ stream told stands more turns end left. stands more turns end (leads more turns end left)
-
-pub ends : (i : Intake) (end : End) → Stands i end → Ends i end
-ends i end nothing = λ stream told stands.
-    subst (λ s. SpellsTurns s told end) (append_nil stream) (subst (λ all. SpellsTurns (stream ++ []) all end) (append_nil told) (stands [] [] end nothing))
 
 -- ---- the steps, in the words of the code
 

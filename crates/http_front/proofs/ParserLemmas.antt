@@ -49,14 +49,6 @@ holds bytes places spans head w at = record {
   parts_are = λ i. record { method = at.method i; target = at.path i; minor = at.version i; fields = at.fields i };
 }
 
-pub within : (bytes : List ℕ) (places : List HeaderSpan) (spans : RequestSpans) → IsRequestWithin bytes places spans → AreWithin bytes (take spans.headers places) spans
-within bytes places spans w = record {
-  method = (w.method.0, omega (arith, w.method.1, w.section.len_fits));
-  path = (w.path.0, omega (arith, w.path.1, w.section.len_fits));
-  fields_fit = All-weaker (IsHeaderWithin spans.len) (IsHeaderWithin (length bytes))
-      (λ h in_head. ((in_head.0.0, omega (arith, in_head.0.1, w.section.len_fits)), (in_head.1.0, omega (arith, in_head.1.1, w.section.len_fits)))) _ w.section.headers_fit;
-}
-
 -- a head takes a byte at least
 head_long : (h : RequestHead) → length (print_request h)
     ≡ length (print_blank h.blank) + (length h.method + (1 + (length h.target + (1 + (length (print_version h.minor) + (length (print_end h.line_end) + length (print_section h.fields h.last)))))))
@@ -92,15 +84,6 @@ asking bytes fields spans asked small holds asks = (
     asks = subst (λ p. Asks p asked) holds.1.parts_are asks;
   },
 )
-
-pub refused : (bytes : List ℕ) (fields : List HeaderSpan) (spans : RequestSpans) (fault : InFault) → length bytes ≤ longest_head → HoldsSomeHead bytes fields spans → head_fault (request_parts_at bytes fields spans) ≡ Some fault
-    → BeginsRefused bytes fault
-refused bytes fields spans fault small holds is = record {
-  head = holds.0;
-  rest = drop spans.len bytes;
-  begins = record { reads = holds.1.reads; fits = omega (arith, holds.1.len_is, holds.1.len_fits, small) };
-  refused = subst (λ p. head_fault p ≡ Some fault) holds.1.parts_are is;
-}
 
 -- ---- room
 

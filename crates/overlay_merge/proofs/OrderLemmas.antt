@@ -15,11 +15,6 @@ use Rattle.overlay_merge.specs.Slots.{names_after_moves}
 use Rattle.overlay_merge.specs.Walk.{AreNodesOf}
 use Rattle.overlay_merge.proofs.KidLemmas.{node_of}
 
-pub pushed : (old new : List Move) (m : Move) → new ≡ old ++ m ∷ [] → (names : List (List ℕ)) → names_after_moves new names ≡ names_after_move m.name.now (Some m.other.now) (names_after_moves old names)
-pushed old new m is names =
-    let f = λ (so_far : List (List ℕ)) (step : Move). names_after_move step.name.now (Some step.other.now) so_far in
-    ap (λ l. names_after_moves l names) is ∙ fold-append f names old (m ∷ [])
-
 -- ---- no kid is twice among the kids of layers
 
 each_both : {X : Type 0} (P : X → Type 0) (xs ys : List X) → AllByRecursion P xs → AllByRecursion P ys → AllByRecursion P (xs ++ ys)

@@ -26,38 +26,12 @@ is_path-first p r whole =
 pub drop_from : (path : List (List ℕ)) (n : ℕ) (seg : List ℕ) → n < length path → Some seg ≡ slice_get path n → drop n path ≡ seg ∷ drop (n + 1) path
 drop_from path n seg within is = drop_more path n [] within ∙ ap (λ (s : List ℕ). s ∷ drop (n + 1) path) (get_or_from_slice_get path n seg [] (sym is))
 
-path_is : (p b : List (List ℕ)) → Some b ≡ path_or_none p → (b ≡ p) × (is_path p ≡ true)
-path_is p b =
-    elim (is_path p) as (λ t. Some b ≡ cond t (Some p) None → (b ≡ p) × (t ≡ true)) [
-      | true ↦ λ e. (ap (λ o. unwrap_or o b) e, refl)
-      | false ↦ λ e. absurd (true≢false (ap is_some e))
-    ]
-
-no_path : (p : List (List ℕ)) → None ≡ path_or_none p → is_path p ≡ false
-no_path p =
-    elim (is_path p) as (λ t. None ≡ cond t (Some p) None → t ≡ false) [
-      | true ↦ λ e. absurd (false≢true (ap is_some e))
-      | false ↦ λ e. refl
-    ]
-
-no_path_from : (p : List (List ℕ)) → is_path p ≡ false → None ≡ path_or_none p
-no_path_from p e = ap (λ t. cond t (Some p) None) (sym e)
-
 pub path_from : (p : List (List ℕ)) → is_path p ≡ true → Some p ≡ path_or_none p
 path_from p e = ap (λ t. cond t (Some p) None) (sym e)
 
 module _ (whole path now : List (List ℕ)) (n : ℕ) (seg : List ℕ) (so_far : now ++ drop n path ≡ whole) (within : n < length path) (is : Some seg ≡ slice_get path n) where
   next : (now ++ seg ∷ []) ++ drop (n + 1) path ≡ whole
   next = append_assoc now (seg ∷ []) (drop (n + 1) path) ∙ ap (λ r. now ++ r) (sym (drop_from path n seg within is)) ∙ so_far
-
-  pub next_at : (longer : List (List ℕ)) → Some longer ≡ path_or_none (now ++ seg ∷ []) → (longer ++ drop (n + 1) path ≡ whole) × (is_path longer ≡ true)
-  next_at longer e =
-      let both = path_is (now ++ seg ∷ []) longer e in
-      (ap (λ p. p ++ drop (n + 1) path) both.0 ∙ next, ap is_path both.0 ∙ both.1)
-
-  pub none_at : None ≡ path_or_none (now ++ seg ∷ []) → None ≡ path_or_none whole
-  none_at e =
-      no_path_from whole (false_from_ne_true _ (λ valid. true≢false (sym (is_path-first (now ++ seg ∷ []) (drop (n + 1) path) (ap is_path next ∙ valid)) ∙ no_path (now ++ seg ∷ []) e)))
 
 all-drop : (n : ℕ) (path : List (List ℕ)) → list_all seg_ok path ≡ true → list_all seg_ok (drop n path) ≡ true
 all-drop zero path all = all

@@ -15,12 +15,3 @@ pub slash_lacking : (word : List ℕ) → ((prefix : List ℕ) → word ≢ pref
 slash_lacking word none =
     let lacks : ends_with nat_eq word (codes "/") ≡ false = sym (ends_text false (47 ∷ []) word none) in
     ap (λ (b : Bool). cond b (take (length word - 1) word) word) (sym (and_false (nat_lt 1 (length word)) (ends_with nat_eq word (codes "/")) lacks))
-
-seam : (prefix back : List ℕ) → drop (length prefix) (prefix ++ back) ≡ back
-seam [] back = refl
-seam (c ∷ prefix) back = seam prefix back
-
-ends : (word prefix : List ℕ) → word ≡ prefix ++ 47 ∷ [] → ends_with nat_eq word (codes "/") ≡ true
-ends word prefix e =
-    let len : length word - 1 ≡ length prefix = omega (arith, ap length e, length-append prefix (47 ∷ [])) in
-    ap (λ (l : List ℕ). pointwise nat_eq (codes "/") l) (ap (λ (n : ℕ). drop n word) len ∙ ap (drop (length prefix)) e ∙ seam prefix (47 ∷ []))

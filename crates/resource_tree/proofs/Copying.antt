@@ -78,9 +78,6 @@ module _ (from at now : List (List ℕ) → Option Node) (source above : List (L
   root_apart [] = refl
   root_apart (s ∷ p) = refl
 
-  outside : (q : List (List ℕ)) (k : List ℕ) → under (kid q k) ≡ false → under q ≡ false
-  outside q k apart = ⊎_elim (λ is. absurd (true≢false (sym (under_kid target q k is) ∙ apart))) (λ e. e) (cases_Bool (under q))
-
   there_above : IsSome (now above)
   there_above = ap is_some hangs.there
 

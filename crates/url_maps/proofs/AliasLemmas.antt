@@ -52,10 +52,6 @@ pub not_root : (q : List (List ℕ)) → 0 < length q → (length q == 0) ≡ fa
 not_root [] some = absurd (omega (arith, some))
 not_root (s ∷ q) some = grind (arith, nat_tests)
 
-pub some_from : (n : ℕ) → (n == 0) ≡ false → 0 < n
-some_from zero e = absurd (true≢false e)
-some_from (suc n) e = omega arith
-
 pub empty_from : {X : Type 0} (xs : List X) → length xs ≡ 0 → xs ≡ []
 empty_from [] e = refl
 empty_from (x ∷ xs) e = absurd (omega (arith, e))

@@ -81,14 +81,6 @@ alike_before tree p n names others last none no_other =
     let pass = is_aliased_kid tree p in
     last_alone pass (length names - n) names none ∙ ap (filter pass) last.same ∙ sym (last_alone pass (length others - n) others no_other)
 
-or_true : (a b : Bool) → a ≡ true → (a || b) ≡ true
-or_true true b e = refl
-or_true false b e = absurd (true≢false (sym e))
-
-or_last : (a b : Bool) → b ≡ true → (a || b) ≡ true
-or_last true b e = refl
-or_last false b e = e
-
 -- ---- what the looks at two lists have passed
 
 pub same_more : (xs ys : List (List ℕ)) (i : ℕ) (x y : List ℕ) → i < length xs → i < length ys → x ≡ get_or xs i x → y ≡ get_or ys i y → x ≡ y → take i xs ≡ take i ys → take (i + 1) xs ≡ take (i + 1) ys
@@ -113,11 +105,6 @@ named_is tree p name k some =
 
 pub unnamed : (tree : Content) (p : List (List ℕ)) (name : List ℕ) → path_or_none (kid p name) ≡ None → is_aliased_kid tree p name ≡ false
 unnamed tree p name none = ap (λ b. b && is_aliased (node_at tree (kid p name))) (not_a_path (kid p name) none)
-
-pub any_at : {X : Type 0} (test : X → Bool) (xs : List X) (i : ℕ) (x : X) → i < length xs → test (get_or xs i x) ≡ true → list_any test xs ≡ true
-any_at test [] i x within is = absurd (omega (arith, within))
-any_at test (y ∷ xs) zero x within is = or_true (test y) (list_any test xs) is
-any_at test (y ∷ xs) (suc i) x within is = or_last (test y) (list_any test xs) (any_at test xs i x (omega (arith, within)) is)
 
 pub not_so : (b : Bool) → not b ≡ true → b ≡ false
 not_so true e = absurd (false≢true e)

@@ -117,10 +117,6 @@ or_true : (a b : Bool) → a ≡ true → (a || b) ≡ true
 or_true true b e = refl
 or_true false b e = absurd (true≢false (sym e))
 
-or_last : (a b : Bool) → b ≡ true → (a || b) ≡ true
-or_last true b e = refl
-or_last false b e = e
-
 -- two paths, each pushed unless it is known
 pub pushed_within : (old mid new : List (List (List ℕ))) (a b : List (List ℕ) → Bool) → ((q : List (List ℕ)) → list_any (same_path q) mid ≡ (list_any (same_path q) old || a q)) → ((q : List (List ℕ)) → list_any (same_path q) new ≡ (list_any (same_path q) mid || b q)) → IsWithin old new
 pushed_within old mid new a b first last q had =

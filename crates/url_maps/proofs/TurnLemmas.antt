@@ -21,9 +21,6 @@ one_less : (n i : ℕ) → i < n → n - i ≡ suc (n - (i + 1))
 one_less n i within = omega (arith, within)
 
 module _ (tree : Content) (host_node : Option (List (List ℕ))) (text : List ℕ) (n i : ℕ) (within : i < n) where
-  abbrev Left : Option (List (List ℕ)) → List ℕ → MapAnswer → Type 0
-  Left = Turns tree (n - i)
-
   pub turns_end : HasNoPair tree host_node text → Turns tree (n - i) host_node text (Inside text)
   turns_end none = subst (λ m. Turns tree m host_node text (Inside text)) (sym (one_less n i within)) (inl (none, refl))
 

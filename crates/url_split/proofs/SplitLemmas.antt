@@ -62,6 +62,3 @@ last-map f xs d some =
 pub some_piece : {A : Type 0} (f : A → List ℕ) (xs : List A) (text : List ℕ) → map f xs ≡ slice_split is_dot text → 0 < length xs
 some_piece f xs text e =
     omega (arith, ap length e, length-map xs f, length-slice_split is_dot text)
-
-pub suffix_is : (rest leading suffix : List ℕ) → rest ≡ leading ++ suffix → suffix ≡ drop (length leading) rest
-suffix_is rest leading suffix e = sym (ap (drop (length leading)) e ∙ drop_at leading suffix (length leading) refl)

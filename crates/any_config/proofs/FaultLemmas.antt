@@ -8,8 +8,8 @@ use Rattle.any_config.specs.declared.node.AnyNode.TheVariants as node
 use Rattle.any_config.specs.declared.stop.AnyStop.{AnyStop}
 use Rattle.any_config.specs.declared.stop.AnyStop.TheVariants as stop
 use Rattle.any_config.specs.declared.any_fault.AnyFault.{AnyFault}
-use Rattle.any_config.specs.declared.tokens.Run.{Run}
-use Rattle.any_config.specs.declared.tokens.Run.TheVariants.{Name, Plain, Quoted}
+use Rattle.any_config.specs.declared.tokens.ByteRun.{ByteRun}
+use Rattle.any_config.specs.declared.tokens.ByteRun.TheVariants.{Name, Plain, Quoted}
 use Rattle.any_config.specs.Tokens.{TokenOutcome, ◌>>=◌, comments_skipped, is_config_name_byte, is_plain_byte, ends, run_len, member_name, word, quoted_value, quoted_node, ungrouped_value}
 use Rattle.any_config.specs.Read.{Members, ends_members, value, member, more_members, members, braced_group, group, file_read, placed_answer, any_of}
 use Rattle.any_config.specs.Grammar.{IsValue, AreMembers}
@@ -30,7 +30,7 @@ err_is : {A : Type 0} (s d : AnyStop) → failed {A = A} s ≡ failed {A = A} d 
 err_is s d e = cc
 
 -- a text does not begin with a byte of a run where the run is empty
-run_empty : (run : Run) (t : List ℕ) → (run_len run t == 0) ≡ true → first_byte_passes (λ c. not (ends run c)) t ≡ false
+run_empty : (run : ByteRun) (t : List ℕ) → (run_len run t == 0) ≡ true → first_byte_passes (λ c. not (ends run c)) t ≡ false
 unfolding run_len
 run_empty run [] h = refl
 run_empty run (c ∷ t) h = go (ends run c) refl
@@ -39,7 +39,7 @@ run_empty run (c ∷ t) h = go (ends run c) refl
     go true e = rw e refl
     go false e = absurd (grind (arith, nat_tests))
 
-empty_run : (run : Run) (t : List ℕ) → first_byte_passes (λ c. not (ends run c)) t ≡ false → (run_len run t == 0) ≡ true
+empty_run : (run : ByteRun) (t : List ℕ) → first_byte_passes (λ c. not (ends run c)) t ≡ false → (run_len run t == 0) ≡ true
 unfolding run_len
 empty_run run [] h = refl
 empty_run run (c ∷ t) h = rw h refl

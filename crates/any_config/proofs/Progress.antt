@@ -7,7 +7,7 @@ use Rattle.any_config.specs.declared.node.AnyNode.{AnyNode}
 use Rattle.any_config.specs.declared.node.AnyNode.TheVariants as node
 use Rattle.any_config.specs.declared.stop.AnyStop.{AnyStop}
 use Rattle.any_config.specs.declared.stop.AnyStop.TheVariants.{BadName, BadQuote, Unclosed}
-use Rattle.any_config.specs.declared.tokens.Run.TheVariants.{Name, Plain, Quoted}
+use Rattle.any_config.specs.declared.tokens.ByteRun.TheVariants.{Name, Plain, Quoted}
 use Rattle.any_config.specs.Tokens.{TokenOutcome, ◌>>=◌, after_blanks_and_comments, comments_skipped, is_line_end, is_config_blank, run_len, member_name, word, quoted_value, quoted_node, ungrouped_value}
 use Rattle.any_config.specs.Read.{Members, ends_members, value, member, more_members, members, braced_group, group}
 use Rattle.any_config.proofs.TokenLemmas.{run_within}

@@ -5,8 +5,8 @@ use Rattle.std.specs.Str.{is_utf8}
 use Rattle.std.proofs.lemmas.Str.{IsUtf8-from_ascii, IsUtf8-from_is_utf8, is_utf8-from_IsUtf8}
 use Rattle.std.proofs.lemmas.Bool.Decides.{nat_tests}
 use Rattle.sp_base.specs.Bytes.{begins_with_byte}
-use Rattle.any_config.specs.declared.tokens.Run.{Run}
-use Rattle.any_config.specs.declared.tokens.Run.TheVariants.{Name, Plain, Quoted}
+use Rattle.any_config.specs.declared.tokens.ByteRun.{ByteRun}
+use Rattle.any_config.specs.declared.tokens.ByteRun.TheVariants.{Name, Plain, Quoted}
 use Rattle.any_config.specs.Tokens.{ends, run_len, is_config_name_byte, is_plain_byte, quoted_value, quoted_node}
 use Rattle.any_config.specs.declared.stop.AnyStop.TheVariants.{BadQuote}
 
@@ -19,7 +19,7 @@ place_is n len le r e = go (nat_lt n len) refl r e
     go false t (Some i) x = absurd cc
     go false t None x = grind (arith, nat_tests)
 
-pub run_within : (run : Run) (t : List ℕ) → position_or_len (ends run) t ≤ length t
+pub run_within : (run : ByteRun) (t : List ℕ) → position_or_len (ends run) t ≤ length t
 run_within run [] = omega arith
 run_within run (c ∷ t) = go (ends run c) (run_within run t)
   where
@@ -34,7 +34,7 @@ name_ascii c h = grind (arith, nat_tests)
 plain_ascii : (c : ℕ) → not (is_plain_byte c) ≡ false → c < 128
 plain_ascii c h = grind (arith, nat_tests)
 
-run_ascii : (run : Run) → ((c : ℕ) → ends run c ≡ false → c < 128) → (t : List ℕ) (i : ℕ) → get_or (take (position_or_len (ends run) t) t) i 0 < 128
+run_ascii : (run : ByteRun) → ((c : ℕ) → ends run c ≡ false → c < 128) → (t : List ℕ) (i : ℕ) → get_or (take (position_or_len (ends run) t) t) i 0 < 128
 run_ascii run small [] i = omega arith
 run_ascii run small (c ∷ t) i = go (ends run c) refl (run_ascii run small t) i
   where

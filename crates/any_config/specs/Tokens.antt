@@ -6,8 +6,8 @@ use Rattle.std.specs.Str.{is_utf8}
 use Rattle.sp_base.specs.Bytes.{begins_with_byte}
 use Rattle.any_config.specs.declared.stop.AnyStop.{AnyStop}
 use Rattle.any_config.specs.declared.stop.AnyStop.TheVariants.{Memory, BadName, BadQuote, TooDeep, Unclosed}
-use Rattle.any_config.specs.declared.tokens.Run.{Run}
-use Rattle.any_config.specs.declared.tokens.Run.TheVariants.{Name, Plain, Quoted}
+use Rattle.any_config.specs.declared.tokens.ByteRun.{ByteRun}
+use Rattle.any_config.specs.declared.tokens.ByteRun.TheVariants.{Name, Plain, Quoted}
 use Rattle.any_config.specs.declared.node.AnyNode.{AnyNode}
 use Rattle.any_config.specs.declared.node.AnyNode.TheVariants as node
 
@@ -65,13 +65,13 @@ abbrev pub is_plain_byte : ℕ → Bool
 is_plain_byte c = is_config_name_byte c || (c == 58 || c == 42)
 
 -- whether a byte ends a run: of a name, of a plain word, of what stands in quotes
-abbrev pub ends : Run → ℕ → Bool
+abbrev pub ends : ByteRun → ℕ → Bool
 ends Name c = not (is_config_name_byte c)
 ends Plain c = not (is_plain_byte c)
 ends (Quoted mark) c = c == mark || is_line_end c
 
 -- how many of the first bytes belong to a run
-unfoldable pub run_len : Run → List ℕ → ℕ
+unfoldable pub run_len : ByteRun → List ℕ → ℕ
 run_len run t = position_or_len (ends run) t
 
 -- the name of a member, empty where it has none

@@ -11,7 +11,7 @@ use std::alloc::Global;
 
 /// What the first bytes may belong to.
 #[derive(Clone, Copy, Debug, Drop)]
-pub enum Run {
+pub enum ByteRun {
     Name,
     /// A word without quotes.
     Plain,
@@ -49,17 +49,17 @@ fn is_plain_byte(c: u8) -> bool
     is_name_byte(c) || (c == b':' || c == b'*')
 }
 
-fn ends(run: Run, c: u8) -> bool
+fn ends(run: ByteRun, c: u8) -> bool
     ensures { result ≡ spec.ends run c }
 {
     match run {
-        Run::Name => !is_name_byte(c),
-        Run::Plain => !is_plain_byte(c),
-        Run::Quoted(mark) => c == mark || is_line_end(c),
+        ByteRun::Name => !is_name_byte(c),
+        ByteRun::Plain => !is_plain_byte(c),
+        ByteRun::Quoted(mark) => c == mark || is_line_end(c),
     }
 }
 
-fn first_end(run: Run, text: &[u8]) -> Option<usize>
+fn first_end(run: ByteRun, text: &[u8]) -> Option<usize>
     ensures { result ≡ position (spec.ends run) text.now }
 {
     text.iter().position(|c| ends(run, *c))
@@ -67,7 +67,7 @@ fn first_end(run: Run, text: &[u8]) -> Option<usize>
 
 /// How many of the first bytes belong to a run.
 #[tactic(auto, unfolding(crate::specs::Tokens::run_len))]
-fn run_len(run: Run, text: &[u8]) -> usize
+fn run_len(run: ByteRun, text: &[u8]) -> usize
     ensures value { result ≡ spec.run_len run text.now }
     ensures within { result ≤ length text.now }
 {
@@ -126,7 +126,7 @@ pub fn name(alloc: Global, text: &[u8]) -> Result<(TextBuf, &[u8]), AnyStop>
         return Ok((TextBuf::of(alloc, "")?, text));
     }
     let remainder = tail(text);
-    let len = run_len(Run::Name, remainder);
+    let len = run_len(ByteRun::Name, remainder);
     if len == 0 {
         return Err(AnyStop::BadName(text.len()));
     }
@@ -138,7 +138,7 @@ pub fn name(alloc: Global, text: &[u8]) -> Result<(TextBuf, &[u8]), AnyStop>
 fn word(alloc: Global, at: usize, text: &[u8]) -> Result<(AnyNode, &[u8]), AnyStop>
     ensures { TokenGives (λ x. (x.0, x.1.now)) result (spec.word at text.now) }
 {
-    let len = run_len(Run::Plain, text);
+    let len = run_len(ByteRun::Plain, text);
     if len == 0 {
         return Err(AnyStop::BadName(at));
     }
@@ -161,7 +161,7 @@ fn quoted(alloc: Global, mark: u8, text: &[u8]) -> Result<(AnyNode, &[u8]), AnyS
     ensures { TokenGives (λ x. (x.0, x.1.now)) result (spec.quoted_value mark text.now) }
 {
     let inside = tail(text);
-    let (bytes, rest) = inside.split_at(run_len(Run::Quoted(mark), inside));
+    let (bytes, rest) = inside.split_at(run_len(ByteRun::Quoted(mark), inside));
     if !begins_with_byte(mark, rest) {
         return Err(AnyStop::BadQuote(text.len()));
     }

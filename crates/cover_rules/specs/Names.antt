@@ -19,6 +19,10 @@ file_name seg = flat_map file_byte seg
 abbrev pub longest_page_name : ℕ
 longest_page_name = 200
 
+-- the most bytes of the file name of a text of `longest_page_name` bytes: three for each
+abbrev pub longest_escaped_name : ℕ
+longest_escaped_name = 600
+
 -- the segment has a file name
 abbrev pub has_file_name : List ℕ → Bool
 has_file_name seg = nat_le (length (file_name seg)) longest_page_name

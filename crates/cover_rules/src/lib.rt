@@ -16,7 +16,7 @@ pub use invalidation::{Action, Invalidation};
 pub use laws::{
     a_page_has_one_key, a_touch_outdates_the_pages_of_its_folders, the_spelling_of_a_handle,
 };
-pub use names::{LONGEST_NAME, has_name};
+pub use names::{LONGEST_PAGE_NAME, has_name};
 pub use page::{PageKey, page_key};
 pub use stamp::Stamp;
 pub use touch::touched;

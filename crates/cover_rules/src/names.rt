@@ -1,13 +1,13 @@
 //! How long a segment's file name is.
 ghost use Rattle.std.specs.Prelude.{◌≡◌, ◌++◌, ◌≤◌, length};
-ghost use Rattle.cover_rules.specs.Names.{file_byte, file_name, is_plain_name_byte, longest_page_name};
+ghost use Rattle.cover_rules.specs.Names.{file_byte, file_name, is_plain_name_byte, longest_escaped_name, longest_page_name};
 ghost use Rattle.cover_rules.specs.Names as spec;
 ghost use Rattle.sp_base.specs.Paths.{mangled_seg};
 
 use sp_base::mangled_parts;
 
 /// The most bytes of a file name in the document root.
-pub const LONGEST_NAME: usize = 200;
+pub const LONGEST_PAGE_NAME: usize = 200;
 
 fn is_plain(b: u8) -> bool
     ensures { result ≡ is_plain_name_byte b }
@@ -27,7 +27,7 @@ fn width(b: u8) -> usize
 fn name_length(text: &str) -> usize
     requires { length text.now ≤ longest_page_name }
     ensures length { result ≡ length (file_name text.now) }
-    ensures most { result ≤ 600 }
+    ensures most { result ≤ longest_escaped_name }
 {
     let mut length = 0;
     for b in text.as_bytes() {
@@ -36,15 +36,15 @@ fn name_length(text: &str) -> usize
     length
 }
 
-/// Whether the file name of a mangled segment has at most `LONGEST_NAME` bytes. In a file name each byte but ASCII letters, digits,
+/// Whether the file name of a mangled segment has at most `LONGEST_PAGE_NAME` bytes. In a file name each byte but ASCII letters, digits,
 /// `.`, `_` and `-` is `%` and two capital hexadecimal digits.
 pub fn has_name(seg: &str) -> bool
     ensures { result ≡ spec.has_file_name seg.now }
 {
-    if seg.len() > LONGEST_NAME {
+    if seg.len() > LONGEST_PAGE_NAME {
         return false;
     }
-    name_length(seg) <= LONGEST_NAME
+    name_length(seg) <= LONGEST_PAGE_NAME
 }
 
 /// The same of a segment that isn't mangled yet.
@@ -52,8 +52,8 @@ pub fn has_mangled_name(seg: &str) -> bool
     ensures { result ≡ spec.has_file_name (mangled_seg seg.now) }
 {
     let (mark, rest) = mangled_parts(seg);
-    if mark.len() > LONGEST_NAME || rest.len() > LONGEST_NAME {
+    if mark.len() > LONGEST_PAGE_NAME || rest.len() > LONGEST_PAGE_NAME {
         return false;
     }
-    name_length(mark) + name_length(rest) <= LONGEST_NAME
+    name_length(mark) + name_length(rest) <= LONGEST_PAGE_NAME
 }

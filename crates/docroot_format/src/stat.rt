@@ -13,11 +13,17 @@ use itoa::Buffer;
 use percent_encoding::percent_encode_byte;
 use sp_base::{Path, mangled_parts};
 
-/// The name of a .stat file: 64 segments of at most 200 bytes, a slash after each, and `.stat`.
-pub type StatName = ArrayString<12_869>;
+// 64 segments of at most 200 bytes, a slash after each, and `.stat`.
+const LONGEST_STAT_NAME: usize = 12_869;
 
-/// The text of a .stat file: two words, two numbers of at most 20 digits, and what parts and ends them.
-pub type StatText = ArrayString<49>;
+// Two words, two numbers of at most 20 digits, and what parts and ends them.
+const LONGEST_STAT_TEXT: usize = 49;
+
+/// The name of a .stat file.
+pub type StatName = ArrayString<LONGEST_STAT_NAME>;
+
+/// The text of a .stat file.
+pub type StatText = ArrayString<LONGEST_STAT_TEXT>;
 
 // Adds what a byte is in a file's name.
 #[tactic(auto, unfolding(percent_encoding::specs::Percent::percent_encode_byte))]

@@ -9,7 +9,7 @@ use sp_base::{Mem, Path};
 use std::alloc::Global;
 
 /// The most resources that a text of more than one level shows.
-const MOST_SHOWN: usize = 1000;
+const MOST_RESOURCES: usize = 1000;
 
 // Adds the kid of a name to a level, where it is shown.
 fn add_kid<'a, L: Look>(
@@ -72,7 +72,7 @@ fn greatest_fitting<L: Look>(alloc: Global, look: &L, res: &Res<'_>, depth: u32)
     requires deep { 1 < depth }
     ensures { IfOk result (λ most. most ≡ greatest_fitting (shown_count (L.seen look.now) res.now) depth) }
 {
-    let mut room = MOST_SHOWN - 1;
+    let mut room = MOST_RESOURCES - 1;
     let mut level = Vec::new(alloc);
     if !add_kids(alloc, look, res.path(), res, &mut level, room)? {
         return Ok(1);

@@ -6,8 +6,8 @@ use Rattle.htl_syntax.specs.declared.node.ExprNode.{ExprNode}
 use Rattle.htl_syntax.specs.declared.node.ExprNode.TheVariants as n
 use Rattle.htl_syntax.specs.declared.node.Comparison.{Comparison}
 use Rattle.htl_syntax.specs.declared.tokens.NameKind.TheVariants.{Name, Field}
-use Rattle.htl_syntax.specs.declared.reader.Inside.{Inside}
-use Rattle.htl_syntax.specs.declared.reader.Inside.TheVariants as i
+use Rattle.htl_syntax.specs.declared.reader.Nested.{Nested}
+use Rattle.htl_syntax.specs.declared.reader.Nested.TheVariants as i
 use Rattle.htl_syntax.specs.Tokens.{Outcome, done, begins, is_first, is_quote}
 use Rattle.htl_syntax.specs.Read as spec
 use Rattle.htl_syntax.specs.Grammar.{Byte, NameToken, String, Number, Sign, Compares, Separator, And, Or, Comma, Separates, Part, part_of, Choice, Either, Both, Compare, Operand, Atom, Start, Items, Reads, More, Access, Accesses}
@@ -77,20 +77,20 @@ more_stops P sep depth s _ _ op last (g.more o x m) = op s _ o
 
 -- ---- each part, where its own parts are read
 
-leaf_start : (depth : ℕ) (inner : Inside → List ℕ → Outcome ExprNode) (s : List ℕ) → begins_with_byte 40 s ≡ false → begins_with_byte 91 s ≡ false → spec.start depth inner s ≡ spec.leaf depth s
+leaf_start : (depth : ℕ) (inner : Nested → List ℕ → Outcome ExprNode) (s : List ℕ) → begins_with_byte 40 s ≡ false → begins_with_byte 91 s ≡ false → spec.start depth inner s ≡ spec.primary depth s
 unfolding spec.start
 leaf_start depth inner s a b = rw (a, b) refl
 
-string_leaf : (depth : ℕ) (s w r : List ℕ) → String s w r → spec.leaf depth s ≡ Ok (n.Text w, r)
-unfolding spec.leaf
+string_leaf : (depth : ℕ) (s w r : List ℕ) → String s w r → spec.primary depth s ≡ Ok (n.Text w, r)
+unfolding spec.primary
 string_leaf depth s w r x = rw (again.string_begins s w r x, again.string_again s w r x) refl
 
-number_leaf : (depth : ℕ) (s : List ℕ) (k : ℤ) (r : List ℕ) → Number s k r → spec.leaf depth s ≡ Ok (n.Long k, r)
-unfolding spec.leaf
+number_leaf : (depth : ℕ) (s : List ℕ) (k : ℤ) (r : List ℕ) → Number s k r → spec.primary depth s ≡ Ok (n.Long k, r)
+unfolding spec.primary
 number_leaf depth s k r x = rw (again.number_starts is_quote s k r refl again.digit_quote x, again.number_begins s k r x, again.number_again s k r x) refl
 
-named_leaf : (depth : ℕ) (s w r : List ℕ) → NameToken Name s w r → spec.leaf depth s ≡ spec.name_or_object_of depth (spec.object_of w) w r
-unfolding spec.leaf spec.name_or_object
+named_leaf : (depth : ℕ) (s w r : List ℕ) → NameToken Name s w r → spec.primary depth s ≡ spec.name_or_object_of depth (spec.object_of w) w r
+unfolding spec.primary spec.name_or_object
 named_leaf depth s w r x =
     rw (again.begins_other is_first is_quote s again.first_quote x.first, again.not_at is_first 45 s x.first refl, again.begins_other is_first is_digit s again.digit_first x.first, again.name_again Name s w r x) refl
 
@@ -252,7 +252,7 @@ accesses_again depth (suc k) found s _ r (g.more a o) st le =
     access_turn depth k found s _ _ r _ (access_begins depth s _ _ a) (access_again depth s _ _ a)
     (accesses_again depth k (found ++ _ ∷ []) _ _ r o st (omega (arith, access-short _ _ _ _ a)))
 
-module _ (depth : ℕ) (inner : Inside → List ℕ → Outcome ExprNode) where
+module _ (depth : ℕ) (inner : Nested → List ℕ → Outcome ExprNode) where
   inside_start : (s r1 r2 r : List ℕ) (e : ExprNode) → Byte 40 s r1 → inner i.Choice s ≡ Ok (e, r2) → Byte 41 r2 r → spec.start depth inner s ≡ Ok (e, r)
   unfolding spec.start
   inside_start s r1 r2 r e b x close = rw (again.at_here 40 s r1 b, x, again.expect_again 41 r2 r close) refl
@@ -307,7 +307,7 @@ module _ (depth : ℕ) (inner : Inside → List ℕ → Outcome ExprNode) where
   unfolding spec.items
   items_again s r1 r e es at x y = rw (at, x, y) refl
 
-nested_again : (depth : ℕ) (which : Inside) (c : ℕ) (s r1 r : List ℕ) (e : ExprNode) → Byte c s r1 → spec.level depth (spec.nesting depth) which r1 ≡ Ok (e, r) → spec.nesting (suc depth) which s ≡ Ok (e, r)
+nested_again : (depth : ℕ) (which : Nested) (c : ℕ) (s r1 r : List ℕ) (e : ExprNode) → Byte c s r1 → spec.level depth (spec.nesting depth) which r1 ≡ Ok (e, r) → spec.nesting (suc depth) which s ≡ Ok (e, r)
 unfolding spec.nesting
 nested_again depth which c s r1 r e b x = rw (again.remainder c s r1 b) x
 

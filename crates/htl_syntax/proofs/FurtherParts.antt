@@ -8,8 +8,8 @@ use Rattle.htl_syntax.specs.declared.node.ExprNode.{ExprNode}
 use Rattle.htl_syntax.specs.declared.node.ExprNode.TheVariants as n
 use Rattle.htl_syntax.specs.declared.expression.Expression.{Expression}
 use Rattle.htl_syntax.specs.declared.tokens.NameKind.TheVariants.{Name, Field}
-use Rattle.htl_syntax.specs.declared.reader.Inside.{Inside}
-use Rattle.htl_syntax.specs.declared.reader.Inside.TheVariants.{Choice, Operand, Items}
+use Rattle.htl_syntax.specs.declared.reader.Nested.{Nested}
+use Rattle.htl_syntax.specs.declared.reader.Nested.TheVariants.{Choice, Operand, Items}
 use Rattle.htl_syntax.specs.Tokens.{Outcome, ◌>>=◌, blanks_skipped, begins, is_quote, expect, string}
 use Rattle.htl_syntax.specs.Read as spec
 use Rattle.htl_syntax.proofs.TokensAgain.{skip-short}
@@ -72,8 +72,8 @@ name_goes : (depth : ℕ) (t : List ℕ) → Goes remainder (length t) (spec.nam
 unfolding spec.name_or_object
 name_goes depth t = goes_bind remainder remainder (length t) _ _ _ _ (name_keeps Name t) (λ x. object_goes depth (spec.object_of x.0) x.0 x.1)
 
-leaf_goes : (depth : ℕ) (t : List ℕ) → Goes remainder (length t) (spec.leaf depth t) (spec.leaf (suc depth) t)
-unfolding spec.leaf
+leaf_goes : (depth : ℕ) (t : List ℕ) → Goes remainder (length t) (spec.primary depth t) (spec.primary (suc depth) t)
+unfolding spec.primary
 leaf_goes depth t =
     goes_if remainder (length t) (begins is_quote t) _ _ _ _ (λ e. goes_bind remainder remainder (length t) _ _ _ _ (string_keeps t) (λ x. pair_keeps (n.Text x.0) x.1))
     (λ e. goes_if remainder (length t) (begins_with_byte 45 t || begins is_digit t) _ _ _ _ (λ h. goes_bind remainder remainder (length t) _ _ _ _ (number_keeps t) (λ x. pair_keeps (n.Long x.0) x.1)) (λ h. name_goes depth t))
@@ -89,8 +89,8 @@ chain_goes item other goes c (suc k) found t =
 
 -- ---- the lines, over what nests
 
-module _ (depth : ℕ) (inner more : Inside → List ℕ → Outcome ExprNode) (nests : (which : Inside) (t : List ℕ) → 0 < length t → Goes remainder (length t) (inner which t) (more which t)) where
-  at_goes : (which : Inside) (c : ℕ) (t : List ℕ) → begins_with_byte c t ≡ true → Goes remainder (length t) (inner which t) (more which t)
+module _ (depth : ℕ) (inner more : Nested → List ℕ → Outcome ExprNode) (nests : (which : Nested) (t : List ℕ) → 0 < length t → Goes remainder (length t) (inner which t) (more which t)) where
+  at_goes : (which : Nested) (c : ℕ) (t : List ℕ) → begins_with_byte c t ≡ true → Goes remainder (length t) (inner which t) (more which t)
   at_goes which c t e = nests which t (some_at c t e)
 
   closing_keeps : (c : ℕ) (e : ExprNode) (t : List ℕ) → Keeps remainder (length t) (expect c t >>= λ r. Ok (e, r))
@@ -151,7 +151,7 @@ module _ (depth : ℕ) (inner more : Inside → List ℕ → Outcome ExprNode) (
       (λ e. goes_bind remainder remainder (length t) _ _ _ _ (choice_goes t)
       (λ x. goes_bind remainder remainder (length x.1) _ _ _ _ (chain_goes (spec.choice depth inner) (spec.choice (suc depth) more) choice_goes 44 (length x.1) (x.0 ∷ []) x.1) (λ xs. pair_keeps (n.List xs.0) xs.1)))
 
-  level_goes : (which : Inside) (t : List ℕ) → Goes remainder (length t) (spec.level depth inner which t) (spec.level (suc depth) more which t)
+  level_goes : (which : Nested) (t : List ℕ) → Goes remainder (length t) (spec.level depth inner which t) (spec.level (suc depth) more which t)
   level_goes Choice t = choice_goes t
   level_goes Operand t = operand_goes t
   level_goes Items t = items_goes t
@@ -159,7 +159,7 @@ module _ (depth : ℕ) (inner more : Inside → List ℕ → Outcome ExprNode) (
 -- ---- what nests
 
 -- a line without levels reads forward
-forward : (which : Inside) (s : List ℕ) → Within remainder (length s) (spec.level zero (spec.nesting zero) which s)
+forward : (which : Nested) (s : List ℕ) → Within remainder (length s) (spec.level zero (spec.nesting zero) which s)
 forward which s = go (deeper zero which s) refl
   where
     line : Local (deeper zero which)
@@ -174,7 +174,7 @@ forward which s = go (deeper zero which s) refl
     go (Ok x) e = (let k = line.ok s x.0 x.1 e in omega (arith, ap length k.parts, length-append k.leading x.1))
     go (Err d) e = (let k = line.err d s e in stops d k.leading k.rest k.parts k.left)
 
-nesting_goes : (depth : ℕ) (which : Inside) (t : List ℕ) → 0 < length t → Goes remainder (length t) (spec.nesting depth which t) (spec.nesting (suc depth) which t)
+nesting_goes : (depth : ℕ) (which : Nested) (t : List ℕ) → 0 < length t → Goes remainder (length t) (spec.nesting depth which t) (spec.nesting (suc depth) which t)
 unfolding spec.nesting
 nesting_goes zero which t some = goes_deep remainder (length (blanks_skipped (drop 1 t))) (length t) _ (forward which (blanks_skipped (drop 1 t))) (skip_drop-less t some)
 nesting_goes (suc depth) which t some =

@@ -6,8 +6,8 @@ use Rattle.htl_syntax.specs.declared.stop.ExprStop.{ExprStop}
 use Rattle.htl_syntax.specs.declared.node.ExprNode.{ExprNode}
 use Rattle.htl_syntax.specs.declared.node.ExprNode.TheVariants as n
 use Rattle.htl_syntax.specs.declared.tokens.NameKind.TheVariants.{Name, Field}
-use Rattle.htl_syntax.specs.declared.reader.Inside.{Inside}
-use Rattle.htl_syntax.specs.declared.reader.Inside.TheVariants.{Choice, Operand, Items}
+use Rattle.htl_syntax.specs.declared.reader.Nested.{Nested}
+use Rattle.htl_syntax.specs.declared.reader.Nested.TheVariants.{Choice, Operand, Items}
 use Rattle.htl_syntax.specs.Tokens.{Outcome, ◌>>=◌, blanks_skipped, begins, is_quote, read_name, expect, string, signed_number}
 use Rattle.htl_syntax.specs.Read as spec
 use Rattle.htl_syntax.proofs.Tools.{bind_ok, chosen}
@@ -136,14 +136,14 @@ local_named : (depth : ℕ) → Local (spec.name_or_object depth)
 unfolding spec.name_or_object
 local_named depth = local_bind (read_name Name) (λ w t. spec.name_or_object_of depth (spec.object_of w) w t) (local_name Name) (λ w. local_named_of depth (spec.object_of w) w)
 
-local_leaf : (depth : ℕ) → Local (spec.leaf depth)
-unfolding spec.leaf
+local_leaf : (depth : ℕ) → Local (spec.primary depth)
+unfolding spec.primary
 local_leaf depth =
     local_if (begins is_quote) (λ t. string t >>= λ x. Ok (n.Text x.0, x.1)) _ (head_same is_quote) (local_bind string (λ w t. Ok (n.Text w, t)) local_string (λ w. local_pure (n.Text w)))
     (local_if (λ t. begins_with_byte 45 t || begins is_digit t) (λ t. signed_number t >>= λ x. Ok (n.Long x.0, x.1)) (spec.name_or_object depth) number_same (local_bind signed_number (λ k t. Ok (n.Long k, t)) local_number (λ k. local_pure (n.Long k))) (local_named depth))
 
 -- A choice is read at a colon only after one that was read, so never where no level is left.
-abbrev Other : (Inside → List ℕ → Outcome ExprNode) → Type 0
+abbrev Other : (Nested → List ℕ → Outcome ExprNode) → Type 0
 Other inner = Local (guarded 58 (inner Choice)) ⊎ ((t : List ℕ) (x : ExprNode × List ℕ) → inner Choice t ≡ Ok x → ⊥)
 
 never_is : {A B : Type 0} (b : Bool) (o : Outcome A) (f h : A × List ℕ → Outcome B) (other : Outcome B) → ((x : A × List ℕ) → o ≡ Ok x → ⊥) → cond b (o >>= f) other ≡ cond b (o >>= h) other
@@ -151,7 +151,7 @@ never_is true (Ok x) f h other never = absurd (never x refl)
 never_is true (Err d) f h other never = refl
 never_is false o f h other never = refl
 
-module _ (depth : ℕ) (inner : Inside → List ℕ → Outcome ExprNode) (local : (which : Inside) (c : ℕ) → nests c ≡ true → Local (guarded c (inner which))) (other : Other inner) where
+module _ (depth : ℕ) (inner : Nested → List ℕ → Outcome ExprNode) (local : (which : Nested) (c : ℕ) → nests c ≡ true → Local (guarded c (inner which))) (other : Other inner) where
   closing : ℕ → ExprNode → List ℕ → Outcome ExprNode
   closing c e t = expect c t >>= λ r. Ok (e, r)
 
@@ -162,8 +162,8 @@ module _ (depth : ℕ) (inner : Inside → List ℕ → Outcome ExprNode) (local
   local_start : Local (spec.start depth inner)
   unfolding spec.start closing
   local_start =
-      local_guarded 40 (inner Choice) (closing 41) (λ t. cond (begins_with_byte 91 t) (inner Items t >>= λ x. closing 93 x.0 x.1) (spec.leaf depth t)) (local Choice 40 refl) (local_closing 41)
-      (local_guarded 91 (inner Items) (closing 93) (spec.leaf depth) (local Items 91 refl) (local_closing 93) (local_leaf depth))
+      local_guarded 40 (inner Choice) (closing 41) (λ t. cond (begins_with_byte 91 t) (inner Items t >>= λ x. closing 93 x.0 x.1) (spec.primary depth t)) (local Choice 40 refl) (local_closing 41)
+      (local_guarded 91 (inner Items) (closing 93) (spec.primary depth) (local Items 91 refl) (local_closing 93) (local_leaf depth))
 
   local_atom : Local (spec.atom depth inner)
   unfolding spec.atom
@@ -227,19 +227,19 @@ module _ (depth : ℕ) (inner : Inside → List ℕ → Outcome ExprNode) (local
   unfolding spec.items more_items
   local_items = local_if (begins_with_byte 93) (got (n.List [])) (λ t. spec.choice depth inner t >>= λ x. more_items x.0 x.1) (at_same 93) (local_pure (n.List [])) (local_bind (spec.choice depth inner) more_items local_choice local_more_items)
 
-  local_level : (which : Inside) → Local (spec.level depth inner which)
+  local_level : (which : Nested) → Local (spec.level depth inner which)
   local_level Choice = local_choice
   local_level Operand = local_operand
   local_level Items = local_items
 
-abbrev pub deeper : ℕ → Inside → List ℕ → Outcome ExprNode
+abbrev pub deeper : ℕ → Nested → List ℕ → Outcome ExprNode
 deeper depth which t = spec.level depth (spec.nesting depth) which t
 
-local_after : (d : ℕ) (which : Inside) (c : ℕ) → Local (deeper d which) → Local (guarded c (spec.nesting (suc d) which))
+local_after : (d : ℕ) (which : Nested) (c : ℕ) → Local (deeper d which) → Local (guarded c (spec.nesting (suc d) which))
 unfolding spec.nesting
 local_after d which c l = local_if (begins_with_byte c) (λ t. deeper d which (blanks_skipped (drop 1 t))) refuse (at_same c) (local_drop (λ t. deeper d which (blanks_skipped t)) (local_skip (deeper d which) l)) local_refuse
 
-local_zero : (which : Inside) (c : ℕ) → nests c ≡ true → Local (guarded c (spec.nesting zero which))
+local_zero : (which : Nested) (c : ℕ) → nests c ≡ true → Local (guarded c (spec.nesting zero which))
 unfolding spec.nesting
 local_zero which c nest = local_deep c nest
 
@@ -247,7 +247,7 @@ none_nested : (t : List ℕ) (x : ExprNode × List ℕ) → spec.nesting zero Ch
 unfolding spec.nesting
 none_nested t x e = cc
 
-pub local_deeper : (depth : ℕ) (which : Inside) → Local (deeper depth which)
+pub local_deeper : (depth : ℕ) (which : Nested) → Local (deeper depth which)
 local_deeper zero which = local_level zero (spec.nesting zero) local_zero (inr none_nested) which
 local_deeper (suc d) which =
     local_level (suc d) (spec.nesting (suc d)) (λ which' c nest. local_after d which' c (local_deeper d which')) (inl (local_after d Choice 58 (local_deeper d Choice))) which

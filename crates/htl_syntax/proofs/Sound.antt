@@ -5,8 +5,8 @@ use Rattle.sp_base.specs.Bytes.{begins_with_byte, is_digit}
 use Rattle.htl_syntax.specs.declared.node.ExprNode.{ExprNode}
 use Rattle.htl_syntax.specs.declared.node.ExprNode.TheVariants as n
 use Rattle.htl_syntax.specs.declared.tokens.NameKind.TheVariants.{Name, Field}
-use Rattle.htl_syntax.specs.declared.reader.Inside.{Inside}
-use Rattle.htl_syntax.specs.declared.reader.Inside.TheVariants as i
+use Rattle.htl_syntax.specs.declared.reader.Nested.{Nested}
+use Rattle.htl_syntax.specs.declared.reader.Nested.TheVariants as i
 use Rattle.htl_syntax.specs.Tokens.{Outcome, ◌>>=◌, blanks_skipped, begins, expect, string, signed_number, read_name, is_quote}
 use Rattle.htl_syntax.specs.Read as spec
 use Rattle.htl_syntax.specs.Grammar.{Byte, Operator, Separator, And, Or, Comma, Separates, Part, part_of, Choice, Either, Both, Compare, Operand, Atom, Start, Items, Reads, More, Access, Accesses}
@@ -20,18 +20,18 @@ Gave part depth s p = Reads part depth s p.0 p.1
 abbrev pub Sound : Part → ℕ → (List ℕ → Outcome ExprNode) → Type 0
 Sound part depth f = (s : List ℕ) (p : ExprNode × List ℕ) → f s ≡ Ok p → Gave part depth s p
 
-abbrev pub part_inside : Inside → Part
+abbrev pub part_inside : Nested → Part
 part_inside i.Choice = Choice
 part_inside i.Operand = Operand
 part_inside i.Items = Items
 
 -- one level deeper, after the byte that nests it
-abbrev pub Deeper : Inside → ℕ → List ℕ → ExprNode × List ℕ → Type 0
+abbrev pub Deeper : Nested → ℕ → List ℕ → ExprNode × List ℕ → Type 0
 Deeper which zero s p = ⊥
 Deeper which (suc depth) s p = Gave (part_inside which) depth (blanks_skipped (drop 1 s)) p
 
-abbrev pub Inner : ℕ → (Inside → List ℕ → Outcome ExprNode) → Type 0
-Inner depth inner = (which : Inside) (s : List ℕ) (p : ExprNode × List ℕ) → inner which s ≡ Ok p → Deeper which depth s p
+abbrev pub Inner : ℕ → (Nested → List ℕ → Outcome ExprNode) → Type 0
+Inner depth inner = (which : Nested) (s : List ℕ) (p : ExprNode × List ℕ) → inner which s ≡ Ok p → Deeper which depth s p
 
 -- ---- what is made of what stands deeper, by cases on the depth
 
@@ -139,8 +139,8 @@ named_sound depth s p e =
         let f = bind_ok (spec.first_access depth w.1) (λ f. Ok (make f.0, f.1)) p e' in
         subst (Gave Start depth s) (ok_is _ _ f.2) (g.object t o-is (first_access_sound depth w.1 f.0 f.1))
 
-leaf_sound : (depth : ℕ) → Sound Start depth (spec.leaf depth)
-unfolding spec.leaf
+leaf_sound : (depth : ℕ) → Sound Start depth (spec.primary depth)
+unfolding spec.primary
 leaf_sound depth s p e =
     elim (chosen (begins is_quote s) _ _ _ e) [
       | inl h ↦
@@ -157,7 +157,7 @@ leaf_sound depth s p e =
 
 -- ---- each part, where its own parts are sound
 
-module _ (depth : ℕ) (inner : Inside → List ℕ → Outcome ExprNode) (deeper : Inner depth inner) where
+module _ (depth : ℕ) (inner : Nested → List ℕ → Outcome ExprNode) (deeper : Inner depth inner) where
   pub start_sound : Sound Start depth (spec.start depth inner)
   unfolding spec.start
   start_sound s p e =

@@ -4,8 +4,8 @@ use Rattle.sp_base.specs.Bytes.{begins_with_byte}
 use Rattle.htl_syntax.specs.declared.stop.ExprStop.{ExprStop}
 use Rattle.htl_syntax.specs.declared.node.ExprNode.{ExprNode}
 use Rattle.htl_syntax.specs.declared.node.ExprNode.TheVariants as n
-use Rattle.htl_syntax.specs.declared.reader.Inside.{Inside}
-use Rattle.htl_syntax.specs.declared.reader.Inside.TheVariants as i
+use Rattle.htl_syntax.specs.declared.reader.Nested.{Nested}
+use Rattle.htl_syntax.specs.declared.reader.Nested.TheVariants as i
 use Rattle.htl_syntax.specs.Tokens.{Outcome, ◌>>=◌, blanks_skipped, begins, expect, goes_on}
 use Rattle.htl_syntax.specs.Read as spec
 use Rattle.htl_syntax.specs.Grammar.{Byte, And, Or, Comma, Part, Choice, Either, Both, Compare, Operand, Atom, Start, Items, Reads, More}
@@ -23,12 +23,12 @@ use Rattle.htl_syntax.proofs.StuckParts as part
 use Rattle.htl_syntax.proofs.StuckParts.{SomePart, Sticks, moves_some, SomeAccesses, accesses_stuck, SomeMore, chain_stuck, start_missing, leaf_stuck, square_plain, round_plain}
 
 -- one level deeper, after the byte that nests it; where none may nest, reading stopped at that byte
-abbrev DeepStuck : Inside → ℕ → List ℕ → ℕ → Type 0
+abbrev DeepStuck : Nested → ℕ → List ℕ → ℕ → Type 0
 DeepStuck which zero s k = length s ≡ k
 DeepStuck which (suc depth) s k = Stuck (SomePart (sound.part_inside which) depth) (blanks_skipped (drop 1 s)) k
 
-abbrev InnerSticks : ℕ → (Inside → List ℕ → Outcome ExprNode) → Type 0
-InnerSticks depth inner = (which : Inside) (s : List ℕ) (d : ExprStop) (k : ℕ) → inner which s ≡ Err d → At d k → DeepStuck which depth s k
+abbrev InnerSticks : ℕ → (Nested → List ℕ → Outcome ExprNode) → Type 0
+InnerSticks depth inner = (which : Nested) (s : List ℕ) (d : ExprStop) (k : ℕ) → inner which s ≡ Err d → At d k → DeepStuck which depth s k
 
 -- after the byte that nests it
 deep_late : (c : ℕ) (s : List ℕ) (k : ℕ) (R : List ℕ → List ℕ → Type 0) → begins_with_byte c s ≡ true → Stuck R (blanks_skipped (drop 1 s)) k → Late (Then (Byte c) R) s k
@@ -118,7 +118,7 @@ second_stuck (suc d) s c a k x at y (inr o) =
 
 -- ---- each line, where what stands deeper can be completed
 
-module _ (depth : ℕ) (inner : Inside → List ℕ → Outcome ExprNode) (deeper : sound.Inner depth inner) (sticks : InnerSticks depth inner) where
+module _ (depth : ℕ) (inner : Nested → List ℕ → Outcome ExprNode) (deeper : sound.Inner depth inner) (sticks : InnerSticks depth inner) where
   start_stuck : Sticks Start depth (spec.start depth inner)
   unfolding spec.start
   start_stuck s d k e a = elim (chosen (begins_with_byte 40 s) _ _ _ e) [
@@ -274,7 +274,7 @@ module _ (depth : ℕ) (inner : Inside → List ℕ → Outcome ExprNode) (deepe
         ]
   ]
 
-  pub level_stuck : (which : Inside) → Sticks (sound.part_inside which) depth (spec.level depth inner which)
+  pub level_stuck : (which : Nested) → Sticks (sound.part_inside which) depth (spec.level depth inner which)
   level_stuck i.Choice s d k e a = choice_stuck s d k e a
   level_stuck i.Operand s d k e a = operand_stuck s d k e a
   level_stuck i.Items s d k e a = items_stuck s d k e a

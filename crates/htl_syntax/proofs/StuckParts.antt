@@ -178,8 +178,8 @@ named_stuck depth s d k e a = elim (bind_err (read_name Name s) (λ x. spec.name
   | inr x ↦ object_stuck depth s x.0.0 x.0.1 (spec.object_of x.0.0) d k refl (name_sound Name s x.0 x.1) x.2 a
 ]
 
-pub leaf_stuck : (depth : ℕ) → Sticks Start depth (spec.leaf depth)
-unfolding spec.leaf
+pub leaf_stuck : (depth : ℕ) → Sticks Start depth (spec.primary depth)
+unfolding spec.primary
 leaf_stuck depth s d k e a = elim (chosen (begins is_quote s) _ _ _ e) [
   | inl h ↦
       elim (bind_err (string s) (λ x. Ok (n.Text x.0, x.1)) d h.1) [

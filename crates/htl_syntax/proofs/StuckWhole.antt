@@ -9,7 +9,7 @@ use Rattle.htl_syntax.specs.declared.expression.Context.{Context}
 use Rattle.htl_syntax.specs.declared.expression.Expression.{Expression}
 use Rattle.htl_syntax.specs.Tokens.{◌>>=◌, blanks_skipped, goes_on}
 use Rattle.htl_syntax.specs.Read as spec
-use Rattle.htl_syntax.specs.Grammar.{Byte, Join, InContext, Options, Tree, WholeWithin, Choice}
+use Rattle.htl_syntax.specs.Grammar.{Byte, Join, InContext, Options, TreeOrNothing, WholeWithin, Choice}
 use Rattle.htl_syntax.specs.Grammar as g
 use Rattle.htl_syntax.specs.Fault.{SameHead, MayGoOn}
 use Rattle.htl_syntax.proofs.Tools.{bind_ok, chosen, ok_is}
@@ -186,9 +186,9 @@ options_moves t p e = elim (chosen (begins_with_byte 64 t) _ _ _ e) [
 
 module _ (levels : ℕ) where
   abbrev SomeTree : List ℕ → List ℕ → Type 0
-  SomeTree s r = (o : Option ExprNode) × Tree levels s o r
+  SomeTree s r = (o : Option ExprNode) × TreeOrNothing levels s o r
 
-  tree_moves : (s : List ℕ) (o : Option ExprNode) (r : List ℕ) → Tree levels s o r → Moves SomeTree s r
+  tree_moves : (s : List ℕ) (o : Option ExprNode) (r : List ℕ) → TreeOrNothing levels s o r → Moves SomeTree s r
   tree_moves s None r x = subst (λ (t : List ℕ). Moves SomeTree s t) (sym x) (none_moves SomeTree s (λ z. (None, refl)))
   tree_moves s (Some e) r x = moves_map (ReadsOf Choice levels e) SomeTree s r (λ s' r' y. (Some e, y)) (reads_moves Choice levels s e r x)
 

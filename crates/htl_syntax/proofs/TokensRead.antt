@@ -67,12 +67,12 @@ name_sound kind s p e =
     ]
 
 -- after the mark, or after a backslash
-abbrev Inside : Bool → ℕ → List ℕ → List ℕ → List ℕ → Type 0
-Inside true mark s w after = StringBody mark (92 ∷ s) w after
-Inside false mark s w after = StringBody mark s w after
+abbrev Nested : Bool → ℕ → List ℕ → List ℕ → List ℕ → Type 0
+Nested true mark s w after = StringBody mark (92 ∷ s) w after
+Nested false mark s w after = StringBody mark s w after
 
 abbrev InsideOf : Bool → ℕ → List ℕ → List ℕ × List ℕ → Type 0
-InsideOf is_escaped mark s p = (after : List ℕ) × Inside is_escaped mark s p.0 after × (p.1 ≡ blanks_skipped after)
+InsideOf is_escaped mark s p = (after : List ℕ) × Nested is_escaped mark s p.0 after × (p.1 ≡ blanks_skipped after)
 
 string_from_sound : (is_escaped : Bool) (mark : ℕ) (s : List ℕ) (p : List ℕ × List ℕ) → string_from is_escaped mark s ≡ Ok p → InsideOf is_escaped mark s p
 unfolding string_from

@@ -2,7 +2,7 @@
 use Rattle.std.proofs.Common.{◌≡◌, ◌≢◌, ℕ, zero, suc, ◌+◌, ◌-◌, ◌<◌, true, List, [], ◌∷◌, ◌++◌, drop, Ok, refl, arith, sub-one}
 use Rattle.sp_base.specs.Bytes.{begins_with_byte}
 use Rattle.htl_syntax.specs.declared.node.ExprNode.{ExprNode}
-use Rattle.htl_syntax.specs.declared.reader.Inside.{Inside}
+use Rattle.htl_syntax.specs.declared.reader.Nested.{Nested}
 use Rattle.htl_syntax.specs.Tokens.{Outcome, blanks_skipped}
 use Rattle.htl_syntax.specs.Read.{chain, between, nesting, level, accesses, access, access_at}
 
@@ -20,7 +20,7 @@ access_more depth n i found t x after lt at e =
     let k : n - i ≡ suc (n - (i + 1)) = omega arith in
     rw (k, at, e) refl
 
-pub nested_less : (depth : ℕ) (which : Inside) (t : List ℕ) → depth ≢ 0 → nesting depth which t ≡ level (depth - 1) (nesting (depth - 1)) which (blanks_skipped (drop 1 t))
+pub nested_less : (depth : ℕ) (which : Nested) (t : List ℕ) → depth ≢ 0 → nesting depth which t ≡ level (depth - 1) (nesting (depth - 1)) which (blanks_skipped (drop 1 t))
 unfolding nesting
 nested_less zero which t h = absurd (h refl)
 nested_less (suc d) which t h = rw sub-one refl

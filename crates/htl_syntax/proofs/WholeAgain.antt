@@ -7,7 +7,7 @@ use Rattle.htl_syntax.specs.declared.expression.Context.TheVariants.{Text, Unsaf
 use Rattle.htl_syntax.specs.declared.expression.Expression.{Expression}
 use Rattle.htl_syntax.specs.Tokens.{blanks_skipped, begins, expect, literal}
 use Rattle.htl_syntax.specs.Read as spec
-use Rattle.htl_syntax.specs.Grammar.{Byte, Literal, ContextString, context_text, Join, InContext, Options, Tree, WholeWithin, Reads, Choice}
+use Rattle.htl_syntax.specs.Grammar.{Byte, Literal, ContextString, context_text, Join, InContext, Options, TreeOrNothing, WholeWithin, Reads, Choice}
 use Rattle.htl_syntax.specs.Grammar as g
 use Rattle.htl_syntax.proofs.TokensAgain as again
 use Rattle.htl_syntax.proofs.Complete.{complete, part_at, part_some, foreign_options, Stops}
@@ -85,7 +85,7 @@ options_stop s _ _ (g.join_context at j comma c) = at_stops s _ at
 options_stop s _ _ (g.context_join at c comma j) = at_stops s _ at
 
 module _ (levels : ℕ) where
-  first_tree : (s : List ℕ) (tree : Option ExprNode) (r : List ℕ) → Tree levels s tree r → Stops Choice r × ((eqb (length r) 0 || begins_with_byte 64 r) ≡ true) → spec.optional_choice levels s ≡ Ok (tree, r)
+  first_tree : (s : List ℕ) (tree : Option ExprNode) (r : List ℕ) → TreeOrNothing levels s tree r → Stops Choice r × ((eqb (length r) 0 || begins_with_byte 64 r) ≡ true) → spec.optional_choice levels s ≡ Ok (tree, r)
   unfolding spec.optional_choice
   first_tree s None r e st = rw (sym e, st.1) refl
   first_tree s (Some e) r x st = rw (part_some Choice levels s e r x tt, part_at 64 Choice levels s e r foreign_options x tt, complete Choice levels s e r x st.0) refl

@@ -8,7 +8,7 @@ use Rattle.htl_syntax.specs.declared.expression.Context.TheVariants.{Text, Unsaf
 use Rattle.htl_syntax.specs.declared.expression.Expression.{Expression}
 use Rattle.htl_syntax.specs.Tokens.{◌>>=◌, blanks_skipped, begins, is_quote, expect, literal, string}
 use Rattle.htl_syntax.specs.Read as spec
-use Rattle.htl_syntax.specs.Grammar.{Byte, Literal, ContextString, context_text, Join, InContext, Options, Tree, WholeWithin, Reads, Choice}
+use Rattle.htl_syntax.specs.Grammar.{Byte, Literal, ContextString, context_text, Join, InContext, Options, TreeOrNothing, WholeWithin, Reads, Choice}
 use Rattle.htl_syntax.specs.Grammar as g
 use Rattle.htl_syntax.proofs.Tools.{bind_ok, chosen, ok_is}
 use Rattle.htl_syntax.proofs.TokensRead.{byte, byte_at, expect_sound, string_sound}
@@ -137,7 +137,7 @@ nil_of (c ∷ s) e = absurd (let w : eqb (length (c ∷ s)) 0 ≡ false = search
 
 module _ (levels : ℕ) where
   abbrev HasTree : List ℕ → Option ExprNode × List ℕ → Type 0
-  HasTree s q = Tree levels s q.0 q.1
+  HasTree s q = TreeOrNothing levels s q.0 q.1
 
   pub first_sound : (s : List ℕ) (p : Option ExprNode × List ℕ) → spec.optional_choice levels s ≡ Ok p → HasTree s p
   unfolding spec.optional_choice

@@ -212,14 +212,14 @@ abbrev pub nesting_limit : ℕ
 nesting_limit = 32
 
 -- a choice in which `levels` levels may nest, or nothing
-abbrev pub Tree : ℕ → List ℕ → Option ExprNode → List ℕ → Type 0
-Tree levels s None r = r ≡ s
-Tree levels s (Some e) r = Reads Choice levels s e r
+abbrev pub TreeOrNothing : ℕ → List ℕ → Option ExprNode → List ℕ → Type 0
+TreeOrNothing levels s None r = r ≡ s
+TreeOrNothing levels s (Some e) r = Reads Choice levels s e r
 
 -- the expression of a whole text in which `levels` levels may nest
 pub record WholeWithin (levels : ℕ) (s : List ℕ) (e : Expression) : Type 0 where
   pub after_tree : List ℕ
-  pub tree : Tree levels (blanks_skipped s) e.node after_tree
+  pub tree : TreeOrNothing levels (blanks_skipped s) e.node after_tree
   pub options : Options after_tree e.join e.context
 
 -- the expression of a whole text

@@ -13,8 +13,8 @@ use Rattle.htl_syntax.specs.declared.expression.Context.{Context}
 use Rattle.htl_syntax.specs.declared.expression.Context.TheVariants.{Text, Unsafe}
 use Rattle.htl_syntax.specs.declared.expression.Expression.{Expression}
 use Rattle.htl_syntax.specs.declared.tokens.NameKind.TheVariants.{Name, Field}
-use Rattle.htl_syntax.specs.declared.reader.Inside.{Inside}
-use Rattle.htl_syntax.specs.declared.reader.Inside.TheVariants.{Choice, Operand, Items}
+use Rattle.htl_syntax.specs.declared.reader.Nested.{Nested}
+use Rattle.htl_syntax.specs.declared.reader.Nested.TheVariants.{Choice, Operand, Items}
 use Rattle.htl_syntax.specs.Tokens.{Outcome, ◌>>=◌, blanks_skipped, begins, is_quote, read_name, expect, second, literal, string, signed_number}
 
 -- without accesses there is no node for them
@@ -106,14 +106,14 @@ module _ (depth : ℕ) where
   unfoldable pub name_or_object : List ℕ → Outcome ExprNode
   name_or_object t = read_name Name t >>= λ x. name_or_object_of (object_of x.0) x.0 x.1
 
-  unfoldable pub leaf : List ℕ → Outcome ExprNode
-  leaf t =
+  unfoldable pub primary : List ℕ → Outcome ExprNode
+  primary t =
       if begins is_quote t then (string t >>= λ x. Ok (n.Text x.0, x.1))
       else if begins_with_byte 45 t || begins is_digit t then (signed_number t >>= λ x. Ok (n.Long x.0, x.1))
       else name_or_object t
 
-  -- Inside, what nests is read; the text begins at the byte that nests it.
-  module _ (inner : Inside → List ℕ → Outcome ExprNode) where
+  -- What nests is read; the text begins at the byte that nests it.
+  module _ (inner : Nested → List ℕ → Outcome ExprNode) where
     unfoldable pub start : List ℕ → Outcome ExprNode
     start t =
         if begins_with_byte 40 t then (do
@@ -124,7 +124,7 @@ module _ (depth : ℕ) where
           x ← inner Items t
           r ← expect 93 x.1
           Ok (x.0, r))
-        else leaf t
+        else primary t
 
     unfoldable pub atom : List ℕ → Outcome ExprNode
     atom t = do
@@ -173,13 +173,13 @@ module _ (depth : ℕ) where
       xs ← chain choice 44 (length x.1) (x.0 ∷ []) x.1
       Ok (n.List xs.0, xs.1))
 
-    abbrev pub level : Inside → List ℕ → Outcome ExprNode
+    abbrev pub level : Nested → List ℕ → Outcome ExprNode
     level Choice = choice
     level Operand = operand
     level Items = items
 
 -- what stands after the byte that nests it
-unfoldable pub nesting : ℕ → Inside → List ℕ → Outcome ExprNode
+unfoldable pub nesting : ℕ → Nested → List ℕ → Outcome ExprNode
 nesting zero which t = Err (TooDeep (length t))
 nesting (suc depth) which t = level depth (nesting depth) which (blanks_skipped (drop 1 t))
 

@@ -20,7 +20,7 @@ use std::alloc::{AllocError, Global};
 
 /// What nests: a choice in brackets or after a `?`, the operand of a `!`, the items of a list.
 #[derive(Debug, Clone, Copy, Drop)]
-pub enum Inside {
+pub enum Nested {
     Choice,
     Operand,
     Items,
@@ -114,9 +114,9 @@ fn name_or_object(alloc: Global, depth: u32, text: &str) -> Result<(ExprNode, &s
     }
 }
 
-#[tactic(auto, unfolding(crate::specs::Read::leaf))]
-fn leaf(alloc: Global, depth: u32, text: &str) -> Result<(ExprNode, &str), ExprStop>
-    ensures { Gives (λ x. (x.0, x.1.now)) result (spec.leaf depth text.now) }
+#[tactic(auto, unfolding(crate::specs::Read::primary))]
+fn primary(alloc: Global, depth: u32, text: &str) -> Result<(ExprNode, &str), ExprStop>
+    ensures { Gives (λ x. (x.0, x.1.now)) result (spec.primary depth text.now) }
 {
     if quote_at(text) {
         let (s, rest) = string(alloc, text)?;
@@ -135,7 +135,7 @@ fn leaf(alloc: Global, depth: u32, text: &str) -> Result<(ExprNode, &str), ExprS
 fn nesting(
     alloc: Global,
     depth: u32,
-    inside: Inside,
+    inside: Nested,
     text: &str,
 ) -> Result<(ExprNode, &str), ExprStop>
     requires { slice_index text.now 0 < 128 }
@@ -146,9 +146,9 @@ fn nesting(
     }
     let rest = skip(tail(text));
     match inside {
-        Inside::Choice => choice(alloc, depth - 1, rest),
-        Inside::Operand => operand(alloc, depth - 1, rest),
-        Inside::Items => items(alloc, depth - 1, rest),
+        Nested::Choice => choice(alloc, depth - 1, rest),
+        Nested::Operand => operand(alloc, depth - 1, rest),
+        Nested::Items => items(alloc, depth - 1, rest),
     }
 }
 
@@ -158,15 +158,15 @@ fn start(alloc: Global, depth: u32, text: &str) -> Result<(ExprNode, &str), Expr
     ensures { Gives (λ x. (x.0, x.1.now)) result (spec.start depth (spec.nesting depth) text.now) }
 {
     if begins_with_byte(b'(', text) {
-        let (e, rest) = nesting(alloc, depth, Inside::Choice, text)?;
+        let (e, rest) = nesting(alloc, depth, Nested::Choice, text)?;
         let rest = expect(b')', rest)?;
         Ok((e, rest))
     } else if begins_with_byte(b'[', text) {
-        let (e, rest) = nesting(alloc, depth, Inside::Items, text)?;
+        let (e, rest) = nesting(alloc, depth, Nested::Items, text)?;
         let rest = expect(b']', rest)?;
         Ok((e, rest))
     } else {
-        leaf(alloc, depth, text)
+        primary(alloc, depth, text)
     }
 }
 
@@ -186,7 +186,7 @@ fn operand(alloc: Global, depth: u32, text: &str) -> Result<(ExprNode, &str), Ex
     ensures { Gives (λ x. (x.0, x.1.now)) result (spec.operand depth (spec.nesting depth) text.now) }
 {
     if begins_with_byte(b'!', text) {
-        let (e, rest) = nesting(alloc, depth, Inside::Operand, text)?;
+        let (e, rest) = nesting(alloc, depth, Nested::Operand, text)?;
         return Ok((ExprNode::Not(Boxed::new(alloc, e)?), rest));
     }
     atom(alloc, depth, text)
@@ -279,7 +279,7 @@ fn other_choice(alloc: Global, depth: u32, text: &str) -> Result<(ExprNode, &str
     ensures { Gives (λ x. (x.0, x.1.now)) result (spec.other_choice depth (spec.nesting depth) text.now) }
 {
     if begins_with_byte(b':', text) {
-        nesting(alloc, depth, Inside::Choice, text)
+        nesting(alloc, depth, Nested::Choice, text)
     } else {
         Err(ExprStop::Unexpected(text.len()))
     }
@@ -294,7 +294,7 @@ fn choice(alloc: Global, depth: u32, text: &str) -> Result<(ExprNode, &str), Exp
     if !begins_with_byte(b'?', rest) {
         return Ok((c, rest));
     }
-    let (a, rest) = nesting(alloc, depth, Inside::Choice, rest)?;
+    let (a, rest) = nesting(alloc, depth, Nested::Choice, rest)?;
     let (b, rest) = other_choice(alloc, depth, rest)?;
     Ok((
         ExprNode::Choice(

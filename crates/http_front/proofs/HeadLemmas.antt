@@ -12,7 +12,7 @@ use Rattle.http_front.specs.declared.fault.InFault.TheVariants.{BadHead, ManyHea
 use Rattle.http_front.specs.declared.target.Target.{Target}
 use Rattle.http_front.specs.declared.head.Asked.{Asked}
 use Rattle.sp_base.specs.declared.answer.Req.{Req}
-use Rattle.http_front.specs.Heads.{asked_host, body_length, has_transfer_coding, first_refusal, asked_of, asked_with, length_or_fault, Parts, heads, closes_connection, is_closing, request_line, request_with, awaits_continue, Asks, within_limit, longest_body, most_fields}
+use Rattle.http_front.specs.Heads.{asked_host, body_length, has_transfer_coding, first_refusal, asked_of, asked_with, length_or_fault, HeadParts, heads, closes_connection, is_closing, request_line, request_with, awaits_continue, Asks, within_limit, longest_body, most_fields}
 use Rattle.std.specs.Prelude.{◌==◌, ◌||◌}
 use Rattle.std.proofs.lemmas.Bool.Decides.{nat_tests}
 use Rattle.http1.specs.declared.fields.KnownFields.{KnownFields}
@@ -85,7 +85,7 @@ unfolding asked_of length_or_fault after_target first
 asked_is minor target fields host read n h t l = rw (h, t, (length_fine (has_transfer_coding fields) (body_length fields) n l).1) refl
 
 -- what a head asks for, from what was read of it
-pub asks : (p : Parts) (method line target : List ℕ) (fields : List (List ℕ × List ℕ)) (asked : Asked) (close : Bool) → method ≡ p.method → target ≡ p.target → fields ≡ heads p
+pub asks : (p : HeadParts) (method line target : List ℕ) (fields : List (List ℕ × List ℕ)) (asked : Asked) (close : Bool) → method ≡ p.method → target ≡ p.target → fields ≡ heads p
     → line ≡ request_line method target p.minor → close ≡ closes_connection p → first_refusal p.minor target fields ≡ None → asked_of p.minor target fields ≡ Some asked
     → (request : Req) (await : Bool) → request ≡ request_with method line p.minor asked fields close → await ≡ awaits_continue p.minor asked.body_length fields
     → Asks p (record { request = request; body_length = asked.body_length; awaits_continue = await })

@@ -14,7 +14,7 @@ use Rattle.httparse.specs.declared.spans.HeaderSpan.{HeaderSpan}
 use Rattle.httparse.specs.declared.spans.RequestSpans.{RequestSpans}
 use Rattle.http_front.specs.declared.fault.InFault.{InFault}
 use Rattle.http_front.specs.declared.head.AskedHead.{AskedHead}
-use Rattle.http_front.specs.Heads.{Parts, request_parts_at, AreWithin, AreTexts, Asks, head_fault}
+use Rattle.http_front.specs.Heads.{HeadParts, request_parts_at, AreWithin, AreTexts, Asks, head_fault}
 use Rattle.http_front.specs.StreamBeginnings.{HoldsHead, HoldsSomeHead}
 use Rattle.http_front.specs.Turns.{BeginsAsking, BeginsRefused, longest_head}
 
@@ -37,7 +37,7 @@ texts bytes fields spans holds =
 
 -- and its version is 1.0 or 1.1
 pub version : (bytes : List ℕ) (fields : List HeaderSpan) (spans : RequestSpans) → HoldsSomeHead bytes fields spans → spans.version ≤ 1
-version bytes fields spans holds = subst (λ (p : Parts). p.minor ≤ 1) (sym holds.1.parts_are) holds.1.reads.0.minor
+version bytes fields spans holds = subst (λ (p : HeadParts). p.minor ≤ 1) (sym holds.1.parts_are) holds.1.reads.0.minor
 
 -- the parser's spans are such places
 pub holds : (bytes : List ℕ) (places : List HeaderSpan) (spans : RequestSpans) (head : RequestHead) → IsRequestWithin bytes places spans → IsRequestAt bytes places spans head

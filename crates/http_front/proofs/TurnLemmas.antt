@@ -9,7 +9,7 @@ use Rattle.http_front.specs.declared.fault.InFault.{InFault}
 use Rattle.http_front.specs.declared.head.AskedHead.{AskedHead}
 use Rattle.http_front.specs.declared.turn.Turn.{Turn}
 use Rattle.http_front.specs.declared.turn.Turn.TheVariants.{Continue, Whole}
-use Rattle.http_front.specs.Heads.{Parts, parts_of, head_fault, Asks, head_with}
+use Rattle.http_front.specs.Heads.{HeadParts, parts_of, head_fault, Asks, head_with}
 use Rattle.http_front.specs.Turns.{End, Waits, Breaks, longest_head, window, BeginsWith, BeginsAsking, BeginsRefused, HasBody, with_body, Stops, BeginsWithRequest, AwaitsAskedBody, SpellsTurns}
 
 -- ---- lists
@@ -82,7 +82,7 @@ window_full s more full = take-append-le longest_head s more full
 
 -- ---- what a head asks for
 
-pub asks_same : (p : Parts) (a b : AskedHead) → Asks p a → Asks p b → a ≡ b
+pub asks_same : (p : HeadParts) (a b : AskedHead) → Asks p a → Asks p b → a ≡ b
 asks_same p a b x y =
     let same : x.asked ≡ y.asked = cc (x.asked_is, y.asked_is) in
     x.head_is ∙ ap (head_with p) same ∙ sym y.head_is

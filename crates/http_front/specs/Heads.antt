@@ -22,14 +22,14 @@ use Rattle.http_front.specs.Hosts.{host_of, length_of}
 use Rattle.http_front.specs.Targets.{target_of}
 
 -- the parts of a head that count; a value stands without the blanks round it
-pub record Parts : Type 0 where
+pub record HeadParts : Type 0 where
   pub method : List ℕ
   pub target : List ℕ
   pub minor : ℕ
   pub fields : List (List ℕ × List ℕ)
 
 -- the parts of a head that was parsed
-abbrev pub parts_of : RequestHead → Parts
+abbrev pub parts_of : RequestHead → HeadParts
 parts_of head = record { method = head.method; target = head.target; minor = head.minor; fields = map name_and_value head.fields }
 
 -- the fields with their names in lower case, since the case of a name doesn't count (RFC 9110, section 5.1)
@@ -37,7 +37,7 @@ abbrev pub lower_case_field : List ℕ × List ℕ → List ℕ × List ℕ
 lower_case_field field = (str_to_ascii_lowercase field.0, field.1)
 
 -- all fields, with their names in lower case
-abbrev pub heads : Parts → List (List ℕ × List ℕ)
+abbrev pub heads : HeadParts → List (List ℕ × List ℕ)
 heads p = map lower_case_field p.fields
 
 -- two fields have the name
@@ -84,7 +84,7 @@ unfoldable pub first_refusal : ℕ → List ℕ → List (List ℕ × List ℕ) 
 first_refusal minor target fields = option_map (λ refusal. refusal.1) (find (λ refusal. refusal.0) (refusals minor target fields))
 
 -- the fault of a head, if it has one
-abbrev pub head_fault : Parts → Option InFault
+abbrev pub head_fault : HeadParts → Option InFault
 head_fault p = first_refusal p.minor p.target (heads p)
 
 -- where host, target and length can be read: what a head asks for
@@ -100,7 +100,7 @@ abbrev pub is_closing : ℕ → List (List ℕ × List ℕ) → Bool
 is_closing minor fields = (minor == 0) || has_option (codes "close") (elements_named (codes "connection") fields)
 
 -- the same of the parts of a head
-abbrev pub closes_connection : Parts → Bool
+abbrev pub closes_connection : HeadParts → Bool
 closes_connection p = is_closing p.minor p.fields
 
 -- the first Expect field asks for an interim answer (RFC 9110, section 10.1.1)
@@ -133,7 +133,7 @@ request_with method line minor asked fields close = record {
 }
 
 -- the head with what it asks for
-abbrev pub head_with : Parts → Asked → AskedHead
+abbrev pub head_with : HeadParts → Asked → AskedHead
 head_with p asked = record {
   request = request_with p.method (request_line p.method p.target p.minor) p.minor asked (heads p) (closes_connection p);
   body_length = asked.body_length;
@@ -141,7 +141,7 @@ head_with p asked = record {
 }
 
 -- nothing is wrong with a head, and this is what it asks for
-pub record Asks (p : Parts) (head : AskedHead) : Type 0 where
+pub record Asks (p : HeadParts) (head : AskedHead) : Type 0 where
   pub faultless : head_fault p ≡ None
   pub asked : Asked
   pub asked_is : asked_of p.minor p.target (heads p) ≡ Some asked
@@ -150,7 +150,7 @@ pub record Asks (p : Parts) (head : AskedHead) : Type 0 where
 -- ---- a head as the bytes that hold it, and where its parts stand in them
 
 -- the parts that stand at these places of the bytes
-abbrev pub request_parts_at : List ℕ → List HeaderSpan → RequestSpans → Parts
+abbrev pub request_parts_at : List ℕ → List HeaderSpan → RequestSpans → HeadParts
 request_parts_at bytes fields spans = record {
   method = span_bytes bytes spans.method;
   target = span_bytes bytes spans.path;
@@ -165,7 +165,7 @@ pub record AreWithin (bytes : List ℕ) (fields : List HeaderSpan) (spans : Requ
   pub fields_fit : All (IsHeaderWithin (length bytes)) fields
 
 -- method, target and names are UTF-8
-pub record AreTexts (p : Parts) : Type 0 where
+pub record AreTexts (p : HeadParts) : Type 0 where
   pub method : IsUtf8 p.method
   pub target : IsUtf8 p.target
   pub names : All (λ field. IsUtf8 field.0) p.fields

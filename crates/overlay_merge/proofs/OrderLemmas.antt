@@ -9,7 +9,7 @@ use Rattle.std.proofs.lemmas.List.Elements.{All-head, All-tail}
 use Rattle.std.proofs.lemmas.Map.Keys.{IsDistinct-cons, IsDistinct-head, IsDistinct-tail}
 use Rattle.resource_tree.specs.Content.{Content, IsTree, node_at}
 use Rattle.resource_tree.specs.Seen.{Resource, res_at}
-use Rattle.overlay_merge.specs.declared.order.Move.{Move}
+use Rattle.overlay_merge.specs.declared.order.KidMove.{KidMove}
 use Rattle.overlay_merge.specs.Kids.{all_kids, has_text, kids_there, names_after_move, with_kids_of}
 use Rattle.overlay_merge.specs.Slots.{names_after_moves}
 use Rattle.overlay_merge.specs.Walk.{AreNodesOf}

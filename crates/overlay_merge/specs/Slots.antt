@@ -4,7 +4,7 @@ use Rattle.std.specs.List.{AllByRecursion}
 use Rattle.std.specs.BTreeMap.{get_by}
 use Rattle.std.specs.Ordering.{nat_cmp}
 use Rattle.std.specs.Cmp.Lexicographic.{pointwise, slice_cmp}
-use Rattle.overlay_merge.specs.declared.order.Move.{Move}
+use Rattle.overlay_merge.specs.declared.order.KidMove.{KidMove}
 use Rattle.overlay_merge.specs.declared.slots.Slots.{Slots}
 use Rattle.overlay_merge.specs.Kids.{names_after_move}
 
@@ -81,5 +81,5 @@ unfoldable pub names_of : Slots → List (List ℕ)
 names_of slots = names_in (held_in slots) (slot_in slots) (walk (before_in slots) (length slots.held.items) 0)
 
 -- names with moves made, one after the other
-abbrev pub names_after_moves : List Move → List (List ℕ) → List (List ℕ)
-names_after_moves moves names = fold (λ so_far (m : Move). names_after_move m.name.now (Some m.other.now) so_far) names moves
+abbrev pub names_after_moves : List KidMove → List (List ℕ) → List (List ℕ)
+names_after_moves moves names = fold (λ so_far (m : KidMove). names_after_move m.name.now (Some m.other.now) so_far) names moves

@@ -13,7 +13,7 @@ use std::alloc::Global;
 
 /// A name that is moved directly before another.
 #[derive(Clone, Copy, Drop)]
-pub(crate) struct Move<'a> {
+pub(crate) struct KidMove<'a> {
     pub name: &'a str,
     pub other: &'a str,
 }
@@ -35,12 +35,12 @@ fn wish_of<'a>(alloc: Global, tree: &'a Tree, path: &Path, name: &str) -> Mem<Op
 
 // Adds the move of a name, if it wishes one.
 #[tactic(auto, unfolding(crate::specs::Kids::names_after_move))]
-fn push_move<'a>(moves: &mut Vec<Move<'a>>, name: &'a str, wish: Option<&'a TextBuf>) -> Mem<()>
+fn push_move<'a>(moves: &mut Vec<KidMove<'a>>, name: &'a str, wish: Option<&'a TextBuf>) -> Mem<()>
     ensures { OnOk result ((names : List (List ℕ)) → names_after_moves moves.new.items names ≡ names_after_move name.entry.now (option_copied wish.entry) (names_after_moves moves.old.items names)) }
 {
     if let Some(other) = wish {
         let other = other.text();
-        moves.push(Move { name, other })?;
+        moves.push(KidMove { name, other })?;
     }
     Ok(())
 }
@@ -51,7 +51,7 @@ fn add_moves<'a>(
     alloc: Global,
     tree: &'a Tree,
     layer: &'a Res<'_>,
-    moves: &mut Vec<Move<'a>>,
+    moves: &mut Vec<KidMove<'a>>,
 ) -> Mem<()>
     ensures { OnOk result ((names : List (List ℕ)) → names_after_moves moves.new.items names ≡ ordered_by tree.entry.now (names_after_moves moves.old.items names) layer.entry.now) }
 {
@@ -67,7 +67,7 @@ pub(crate) fn moves_of<'a>(
     alloc: Global,
     tree: &'a Tree,
     layers: &'a [Res<'_>],
-) -> Mem<Vec<Move<'a>>>
+) -> Mem<Vec<KidMove<'a>>>
     ensures { IfOk result (λ moves. (names : List (List ℕ)) → names_after_moves moves.items names ≡ fold (ordered_by tree.now) names layers.now) }
 {
     let mut moves = Vec::new(alloc);
@@ -77,7 +77,7 @@ pub(crate) fn moves_of<'a>(
     Ok(moves)
 }
 
-fn move_all<'a>(slots: &mut Slots<'a>, moves: &[Move<'a>]) -> Mem<()>
+fn move_all<'a>(slots: &mut Slots<'a>, moves: &[KidMove<'a>]) -> Mem<()>
     requires { SlotsAreGood slots.old }
     ensures good { OnOk result (SlotsAreGood slots.new) }
     ensures names { OnOk result (names_of slots.new ≡ names_after_moves moves.now (names_of slots.old)) }
@@ -92,7 +92,7 @@ fn move_all<'a>(slots: &mut Slots<'a>, moves: &[Move<'a>]) -> Mem<()>
 pub(crate) fn ordered<'a>(
     alloc: Global,
     names: &'a [TextBuf],
-    moves: &[Move<'a>],
+    moves: &[KidMove<'a>],
 ) -> Mem<Vec<TextBuf>>
     requires { IsDistinct (pointwise nat_eq) names.now }
     ensures { IfOk result (λ list. list.items ≡ names_after_moves moves.now names.now) }

@@ -6,9 +6,13 @@ use Rattle.sp_base.specs.Typed.{are_digits}
 use Rattle.get_servlet.specs.declared.answer.Depth.{Depth}
 use Rattle.get_servlet.specs.declared.answer.Depth.TheVariants.{Levels, Infinity}
 
--- at most nine digits, the first of several no zero
+-- the most digits of a depth
+abbrev pub most_depth_digits : ℕ
+most_depth_digits = 9
+
+-- at most `most_depth_digits` digits, the first of several no zero
 abbrev pub is_depth : List ℕ → Bool
-is_depth word = are_digits word && (nat_le (length word) 9 && (length word == 1 || not (slice_index word 0 == 48)))
+is_depth word = are_digits word && (nat_le (length word) most_depth_digits && (length word == 1 || not (slice_index word 0 == 48)))
 
 -- the number of levels that a selector spells
 abbrev pub levels_named : List ℕ → Option ℕ

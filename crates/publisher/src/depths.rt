@@ -8,6 +8,8 @@ ghost use Rattle.publisher.specs.Depths.{is_depth, levels_named, depth_named, de
 use get_servlet::Depth;
 use sp_base::TextList;
 
+const MOST_DEPTH_DIGITS: usize = 9;
+
 fn all_digits(word: &str) -> bool
     ensures { result ≡ list_all is_ascii_digit word.now }
 {
@@ -21,11 +23,11 @@ fn are_digits(word: &str) -> bool
     !word.is_empty() && all_digits(word)
 }
 
-// At most nine digits, the first of several no zero.
+// At most `MOST_DEPTH_DIGITS` digits, the first of several no zero.
 fn is_depth(word: &str) -> bool
     ensures { result ≡ is_depth word.now }
 {
-    if !are_digits(word) || word.len() > 9 {
+    if !are_digits(word) || word.len() > MOST_DEPTH_DIGITS {
         return false;
     }
     word.len() == 1 || word.as_bytes()[0] != b'0'

@@ -52,7 +52,7 @@ pub fn connection(alloc: Global, word: &[u8]) -> Mem<Option<u32>>
     let Some(n) = number(alloc, word)? else {
         return Ok(None);
     };
-    if n < 4_294_967_296 {
+    if n <= u64::from(u32::MAX) {
         Ok(Some(n as u32))
     } else {
         Ok(None)

@@ -13,10 +13,10 @@ fn digit_value(d: u8) -> u32
     ensures value { result ≡ unhex d }
     ensures small { result < 256 }
 {
-    if d < 58 {
-        u32::from(d.saturating_sub(48))
+    if d <= b'9' {
+        u32::from(d.saturating_sub(b'0'))
     } else {
-        u32::from(d.saturating_sub(87))
+        u32::from(d.saturating_sub(b'a' - 10))
     }
 }
 
@@ -33,9 +33,9 @@ fn named_byte(letter: u8, high: u8, low: u8) -> u32
 {
     match letter {
         b'"' | b'\\' => u32::from(letter),
-        b'r' => 13,
-        b'n' => 10,
-        b't' => 9,
+        b'r' => u32::from(b'\r'),
+        b'n' => u32::from(b'\n'),
+        b't' => u32::from(b'\t'),
         _ => 16 * digit_value(high) + digit_value(low),
     }
 }

@@ -26,7 +26,7 @@ pub fn hex_digit(n: u8) -> u8
     requires { n < 16 }
     ensures { result ≡ hex n }
 {
-    if n < 10 { 48 + n } else { 87 + n }
+    if n < 10 { b'0' + n } else { b'a' - 10 + n }
 }
 
 // A byte as it stands within quotes.

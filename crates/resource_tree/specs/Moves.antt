@@ -47,7 +47,7 @@ target_fault tree source target =
     else (if is_some (node_at tree target) then Some (Exists target)
     else (if has_prop_at tree (parent_of target) (name_of target) then Some (Taken target) else None)))))
 
--- why a part of the content doesn't fit: a path would be too long, or there would be more than 200,000 nodes
+-- why a part of the content doesn't fit: a path would be too long, or there would be more than `most_nodes` nodes
 abbrev pub part_size_fault : Content → List (List ℕ) → List (List ℕ) → Option TreeFault
 part_size_fault tree source target =
     if is_too_deep tree source target then Some TooDeep

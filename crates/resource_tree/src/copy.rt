@@ -93,7 +93,7 @@ fn kids_and(alloc: Global, kids: &[TextBuf], name: &str) -> Mem<TextList>
     Ok(TextList::from(more))
 }
 
-// The path at the target of one at the source or under it, if it has at most 64 segments.
+// The path at the target of one at the source or under it, if it has at most `MOST_SEGMENTS` segments.
 pub(crate) fn path_there(
     alloc: Global,
     source: &Path,

@@ -1,4 +1,5 @@
--- A path's text in memory, and how its order and its ancestors are read off it.
+-- A path's text in memory, and how its order and its ancestors are read off it. `is_unfit`, `fault_after`, `byte_order` and `text_order`
+-- are needed by private functions and proofs alone.
 use Rattle.std.specs.Prelude.{◌≡◌, ◌==◌, ◌&&◌, ◌||◌, ◌+◌, IsTrue, true, ℕ, Bool, nat_eq, not, if◌then◌else◌, List, [], ◌∷◌, Option, Some, drop, length, flat_map}
 use Rattle.std.specs.List.{list_any, list_all, position_from, starts_with}
 use Rattle.std.specs.Ordering.{nat_cmp}

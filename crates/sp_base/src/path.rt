@@ -109,7 +109,7 @@ impl Path {
         ensures ok { IfOk result (λ p. child_of self.now name.now ≡ Ok p) }
         ensures err { IfErr result (λ e. e ≢ PathFault.NoMemory → child_of self.now name.now ≡ Err e) }
 
-        // A segment under a path of fewer than 64 is one segment more.
+        // A segment under a path of fewer than `MOST_SEGMENTS` is one segment more.
         ensures whole { IfOk result (λ p. IsTrue (seg_ok name.now) → p ≡ self.now ++ name.now ∷ []) }
         ensures fits { IfErr result (λ e. IsTrue (seg_ok name.now) → length self.now < most_segments → e ≡ PathFault.NoMemory) }
     {
@@ -162,7 +162,7 @@ impl Path {
     }
 
     /// The path with each segment `P:Q` written `_P_Q`, where P is jcr, sling, nt or cq and Q is not empty, as in URLs. A segment of
-    /// 200 bytes grows too long.
+    /// `LONGEST_SEGMENT` bytes grows too long.
     pub fn mangled(&self, alloc: Global) -> Result<Path, PathFault>
         ensures ok { IfOk result (λ p. mangled_of self.now ≡ Ok p) }
         ensures err { IfErr result (λ e. e ≢ PathFault.NoMemory → mangled_of self.now ≡ Err e) }
@@ -210,7 +210,7 @@ impl Path {
         self.text.as_str()
     }
 
-    /// How many segments there are, at most 64.
+    /// How many segments there are, at most `MOST_SEGMENTS`.
     pub fn depth(&self) -> usize
         ensures depth { result ≡ length self.now }
         ensures valid { IsTrue (is_path self.now) }

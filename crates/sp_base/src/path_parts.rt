@@ -36,7 +36,7 @@ impl Path {
         }
     }
 
-    /// The segments of a further path after these, where there are at most 64 in all.
+    /// The segments of a further path after these, where there are at most `MOST_SEGMENTS` in all.
     pub fn join_or_none(&self, alloc: Global, rest: &Path) -> Mem<Option<Path>>
         ensures { IfOk result (λ o. o ≡ path_or_none (self.now ++ rest.now)) }
     {

@@ -25,7 +25,7 @@ fn has_slash(seg: &str) -> bool
     seg.as_bytes().iter().any(|b| *b == b'/')
 }
 
-/// Whether a name may be a segment of a path: not empty, neither `.` nor `..`, at most 200 bytes, and without a slash.
+/// Whether a name may be a segment of a path: not empty, neither `.` nor `..`, at most `LONGEST_SEGMENT` bytes, and without a slash.
 pub fn seg_ok(name: &str) -> bool
     ensures { result ≡ seg_ok name.now }
 {

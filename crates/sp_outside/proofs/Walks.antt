@@ -10,7 +10,7 @@ use Rattle.std.proofs.lemmas.Bool.Decides.{nat_tests}
 use Rattle.std.proofs.lemmas.Map.Views.{All-after_first}
 use lib.Utf8.{scalar, scalars, scalar_cases, encode, encodes}
 use Rattle.sp_base.specs.Names.{by_name}
-use Rattle.sp_outside.specs.Files.{IsEndlessWalk, IsListing, IsName, longest_name}
+use Rattle.sp_outside.specs.Files.{IsEndlessWalk, IsListing, IsName, longest_file_name}
 
 -- a text's bytes are below 256
 abbrev are_bytes : List ℕ → Type 0
@@ -105,7 +105,7 @@ later prefix after most names listing = All-after_first by_name after names list
 
 pub ends : (prefix : List ℕ) (most : ℕ) (after : ℕ → List ℕ) (lists : ℕ → List (List ℕ)) → IsEndlessWalk prefix most after lists → ⊥
 ends prefix most after lists walk =
-    no_end longest_name (λ k. after (k + 1))
+    no_end longest_file_name (λ k. after (k + 1))
     (λ k. text_bytes (after (k + 1)) (of_one IsUtf8 (lists k) (after (k + 1)) (walk.listed k).texts (walk.goes_on k)))
     (λ k. (of_one IsName (lists k) (after (k + 1)) (walk.listed k).sizes (walk.goes_on k)).1)
     (λ k. of_one (λ name. by_name (after (k + 1)) name ≡ Less) (lists (k + 1)) (after (k + 1 + 1)) (later prefix (after (k + 1)) most (lists (k + 1)) (walk.listed (k + 1))) (walk.goes_on (k + 1)))

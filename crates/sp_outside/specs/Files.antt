@@ -18,12 +18,12 @@ abbrev pub files_code : Coded Files
 files_code = code (coded_list coded_ℕ) (coded_list coded_ℕ)
 
 -- the most bytes of a file's name
-abbrev pub longest_name : ℕ
-longest_name = 16384
+abbrev pub longest_file_name : ℕ
+longest_file_name = 16384
 
--- a file's name has 1 to 16,384 bytes
+-- a file's name has 1 to `longest_file_name` bytes
 abbrev pub IsName : List ℕ → Type 0
-IsName name = (1 ≤ length name) × (length name ≤ longest_name)
+IsName name = (1 ≤ length name) × (length name ≤ longest_file_name)
 
 -- the bytes of the file of a name, where there is one
 abbrev pub file_at : Files → List ℕ → Option (List ℕ)

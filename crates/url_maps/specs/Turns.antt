@@ -27,7 +27,7 @@ leads (Some status) text further answer = answer ≡ Away status text
 leads None text further answer = further answer
 
 -- a turn in which a pair decides
-pub record Turn (tree : Content) (host_node : Option (List (List ℕ))) (text : List ℕ) (further : List ℕ → MapAnswer → Type 0) (answer : MapAnswer) : Type 0 where
+pub record MappingTurn (tree : Content) (host_node : Option (List (List ℕ))) (text : List ℕ) (further : List ℕ → MapAnswer → Type 0) (answer : MapAnswer) : Type 0 where
   pub at : ℕ
   pub pair : Pair
   pub decides : Decides tree host_node text at pair
@@ -37,7 +37,7 @@ pub record Turn (tree : Content) (host_node : Option (List (List ℕ))) (text : 
 -- last.
 abbrev pub Turns : Content → ℕ → Option (List (List ℕ)) → List ℕ → MapAnswer → Type 0
 Turns tree zero host_node text answer = answer ≡ Inside text
-Turns tree (suc n) host_node text answer = (HasNoPair tree host_node text × (answer ≡ Inside text)) ⊎ Turn tree host_node text (Turns tree n None) answer
+Turns tree (suc n) host_node text answer = (HasNoPair tree host_node text × (answer ≡ Inside text)) ⊎ MappingTurn tree host_node text (Turns tree n None) answer
 
 -- the most turns (`docs/DECISIONS.md`, "Mappings")
 abbrev pub most_turns : ℕ

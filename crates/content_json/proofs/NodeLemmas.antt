@@ -1,17 +1,14 @@
 -- Where the nodes of an object stand.
-use Rattle.std.proofs.Common.{◌≡◌, ℕ, Bool, true, false, cond, not, ◌&&◌, ◌||◌, ⊎_elim, List, [], ◌∷◌, ◌++◌, Option, Some, None, is_some, if◌then◌else◌, refl, sym, ap, ◌∙◌, subst}
-use Rattle.std.specs.List.{list_any}
+use Rattle.std.proofs.Common.{◌≡◌, ℕ, Bool, true, false, cond, ⊎_elim, List, [], ◌∷◌, ◌++◌, Some, None, if◌then◌else◌, refl, sym, ap, ◌∙◌}
 use Rattle.std.specs.Option.{option_or}
-use Rattle.std.specs.Str.{bytes_eq}
-use Rattle.std.specs.Cmp.Lexicographic.{same_text}
-use Rattle.std.proofs.lemmas.Bool.{cases_Bool, true≢false, false≢true}
+use Rattle.std.proofs.lemmas.Bool.{cases_Bool, true≢false}
 use Rattle.serde_json.specs.Data.{Data, null, boolean, number, string, array, object, Members, no_members, member}
 use Rattle.resource_tree.specs.declared.nodes.Node.{Node}
 use Rattle.resource_tree.specs.Content.{Content, node_at, same_path, kid}
-use Rattle.content_json.specs.Names.{is_order, is_kid_member, kid_names}
+use Rattle.content_json.specs.Names.{is_order}
 use Rattle.content_json.specs.Nodes.{nodes_in, nodes_below}
 use Rattle.content_json.specs.Steps.{is_at_or_below}
-use Rattle.content_json.proofs.Under.{same_path_is, same_path_itself, is_at_or_below_itself, is_at_or_below-parent, is_at_or_below-not_parent}
+use Rattle.content_json.proofs.Under.{same_path_is, is_at_or_below_itself, is_at_or_below-parent, is_at_or_below-not_parent}
 
 pub node_at-append : (a b : Content) (q : List (List ℕ)) → node_at (a ++ b) q ≡ option_or (node_at a q) (node_at b q)
 node_at-append [] b q = refl

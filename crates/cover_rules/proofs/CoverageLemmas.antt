@@ -14,7 +14,7 @@ use Rattle.cover_rules.specs.declared.walk.Rest.{Rest}
 use Rattle.cover_rules.specs.declared.walk.Rest.TheVariants.{Folder, File}
 use Rattle.cover_rules.specs.Pages.{page_path, page_text}
 use Rattle.cover_rules.specs.Coverage.{deletes, handle_of, is_handle, is_part_page, is_rendering, takes_below}
-use Rattle.cover_rules.specs.Walk.{Lacks, Leaves, left_text, page_spelling}
+use Rattle.cover_rules.specs.Walk.{Lacks, Leaves, page_spelling}
 use Rattle.cover_rules.proofs.PageLemmas.{page_text_is}
 use Rattle.cover_rules.proofs.WalkLemmas.{whole}
 

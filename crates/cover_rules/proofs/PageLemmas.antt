@@ -1,5 +1,5 @@
 -- Which mangled paths are those of pages, and the text of a page's path.
-use Rattle.std.proofs.Common.{ℕ, Bool, true, false, cond, not, ◌&&◌, ◌||◌, ◌==◌, List, [], ◌∷◌, ◌++◌, ◌-◌, ◌<◌, Option, Some, None, Ok, Err, ◌+◌, get_or, nat_lt, length, take, slice_get, unwrap_or, flat_map, refl, sym, ◌∙◌, ap, ◌≡◌, arith}
+use Rattle.std.proofs.Common.{ℕ, Bool, true, false, cond, not, ◌&&◌, ◌||◌, ◌==◌, List, [], ◌∷◌, ◌++◌, ◌-◌, ◌<◌, Some, None, Ok, Err, ◌+◌, get_or, length, take, slice_get, unwrap_or, refl, sym, ◌∙◌, ap, ◌≡◌, arith}
 use Rattle.std.proofs.lemmas.Bool.Decides.{nat_tests}
 use Rattle.std.proofs.lemmas.List.Concat.{flat_map-append}
 use Rattle.std.proofs.lemmas.List.{take_more, take_all, append-nil}

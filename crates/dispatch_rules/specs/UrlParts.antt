@@ -1,6 +1,6 @@
 -- The parts of a path text that a filter entry may ask about (Adobe Dispatcher manual, "Configuring Access to Content"): the text is cut at its first dot.
 -- `IsDotted` is needed by private functions and proofs alone.
-use Rattle.std.specs.Prelude.{◌≡◌, ◌==◌, ◌+◌, ◌-◌, ℕ, Bool, not, List, [], drop, take, length, filter, flat_map, slice_get, unwrap_or, ◌∷◌}
+use Rattle.std.specs.Prelude.{◌≡◌, ◌+◌, ◌-◌, ℕ, List, [], drop, take, length, filter, slice_get, unwrap_or}
 use Rattle.std.specs.List.{slice_split, before_first}
 use Rattle.sp_base.specs.Bytes.{is_dot, is_slash, is_full, dotted_text}
 

@@ -1,5 +1,5 @@
 -- The reading line by line is the relation on whole bodies.
-use Rattle.std.proofs.Common.{◌≡◌, ◌≢◌, ◌<◌, ◌≤◌, ◌+◌, ℕ, zero, suc, Bool, true, false, cond, not, ◌&&◌, eqb, List, [], ◌∷◌, ◌++◌, Option, Some, None, Result, Ok, Err, map, length, refl, ap, sym, ◌∙◌, arith, append_assoc}
+use Rattle.std.proofs.Common.{◌≡◌, ◌<◌, ◌≤◌, ◌+◌, ℕ, Bool, true, false, cond, not, ◌&&◌, eqb, List, [], ◌∷◌, ◌++◌, Option, Some, None, Result, Ok, Err, map, length, refl, ap, sym, ◌∙◌, arith, append_assoc}
 use Rattle.std.specs.List.{list_all}
 use Rattle.std.proofs.lemmas.Bool.Decides.{nat_tests}
 use Rattle.std.proofs.lemmas.List.{append-nil}
@@ -7,9 +7,9 @@ use Rattle.form_input.specs.declared.fault.FormFault.{FormFault}
 use Rattle.form_input.specs.declared.fault.FormFault.TheVariants.{BadPart, TooMany}
 use Rattle.form_input.specs.declared.boundary.LineKind.{LineKind}
 use Rattle.form_input.specs.declared.boundary.LineKind.TheVariants.{Opening, Closing, Plain}
-use Rattle.form_input.specs.Multipart.{Section, Sections, line_kind, is_plain_line, is_closing_line, with_line, sections, pair_of, before_all, with_part, pairs_of, dash_boundary, multipart_of}
+use Rattle.form_input.specs.Multipart.{Section, Sections, line_kind, is_plain_line, is_closing_line, sections, pair_of, before_all, with_part, pairs_of, dash_boundary, multipart_of}
 use Rattle.form_input.specs.Lines.{lines}
-use Rattle.form_input.specs.Bodies.{BodyPart, part_lines, are_plain, is_body_part, IsMultipart, HasPairs}
+use Rattle.form_input.specs.Bodies.{BodyPart, part_lines, are_plain, is_body_part, HasPairs}
 use Rattle.form_input.proofs.FormLemmas.{Pairs, closing_section, part_section, end_of_sections, last_section}
 
 pub and_left : (a b : Bool) → (a && b) ≡ true → a ≡ true

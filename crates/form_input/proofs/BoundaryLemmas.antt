@@ -1,9 +1,9 @@
 -- The sections of a body, line by line.
-use Rattle.std.proofs.Common.{◌≡◌, ◌<◌, ◌≤◌, ◌+◌, ◌-◌, ℕ, zero, suc, Bool, true, false, cond, List, [], ◌∷◌, ◌++◌, Option, Some, None, take, drop, length, refl, ap, sym, ◌∙◌, arith, append_assoc, length-append, inl, inr, nat_lt, ltb, subst, Bor, IfSome, option_copied}
+use Rattle.std.proofs.Common.{◌≡◌, ◌≤◌, ◌+◌, ◌-◌, ℕ, suc, Bool, true, false, cond, List, [], ◌∷◌, ◌++◌, Option, Some, None, take, length, refl, ap, sym, ◌∙◌, arith, append_assoc, length-append, inl, inr, nat_lt, subst, Bor, IfSome, option_copied}
 use Rattle.std.proofs.Math.Seq.{take-append_seam}
 use Rattle.std.proofs.lemmas.List.{append-nil}
 use Rattle.form_input.specs.Lines.{lines, lines_left}
-use Rattle.form_input.specs.Multipart.{Section, Sections, line_kind, is_plain_line, is_closing_line, with_line, sections}
+use Rattle.form_input.specs.Multipart.{Sections, line_kind, is_plain_line, is_closing_line, with_line, sections}
 use Rattle.form_input.specs.Boundaries.{sections_left, with_lines, prefix_of, IsEnded, IsPassed}
 use Rattle.std.proofs.lemmas.Bool.Decides.{nat_tests}
 use Rattle.form_input.proofs.LineLemmas.{lines_append}

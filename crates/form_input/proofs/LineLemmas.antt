@@ -1,9 +1,9 @@
 -- The lines of a text, and where it may be cut.
-use Rattle.std.proofs.Common.{◌≡◌, ◌<◌, ◌≤◌, ◌+◌, ◌-◌, ℕ, zero, suc, Bool, true, false, cond, ◌&&◌, eqb, List, [], ◌∷◌, ◌++◌, Option, Some, None, take, drop, length, slice_index, refl, ap, sym, ◌∙◌, arith, append_assoc}
+use Rattle.std.proofs.Common.{◌≡◌, ◌<◌, ◌+◌, ◌-◌, ℕ, zero, suc, Bool, true, false, cond, ◌&&◌, eqb, List, [], ◌∷◌, ◌++◌, take, drop, slice_index, refl, ap, ◌∙◌, arith}
 use Rattle.std.proofs.lemmas.Bool.{eqb-true}
 use Rattle.std.specs.List.{onto_first}
 use Rattle.memchr.specs.Find.{OccursAt}
-use Rattle.form_input.specs.Lines.{is_line_end_pair, lines, lines_text, lines_left}
+use Rattle.form_input.specs.Lines.{is_line_end_pair, lines, lines_text}
 
 -- CR LF
 abbrev pub line_end : List ℕ

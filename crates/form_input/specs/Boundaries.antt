@@ -1,5 +1,5 @@
 -- What the search for boundary lines promises; a reader of the definition of a form needs none of it.
-use Rattle.std.specs.Prelude.{◌≡◌, ◌⊎◌, ◌-◌, ◌<◌, ◌++◌, ℕ, List, [], ◌∷◌, Option, Some, None, nat_lt, if◌then◌else◌, length, take, option_copied}
+use Rattle.std.specs.Prelude.{◌≡◌, ◌⊎◌, ◌-◌, ◌++◌, ℕ, List, [], ◌∷◌, Option, Some, None, nat_lt, if◌then◌else◌, length, take, option_copied}
 use Rattle.form_input.specs.declared.boundary.BoundaryLine.{BoundaryLine}
 use Rattle.form_input.specs.Lines.{lines, lines_left}
 use Rattle.form_input.specs.Multipart.{Section, Sections, sections}

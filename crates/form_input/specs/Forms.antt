@@ -1,5 +1,5 @@
 -- What a form says, by the Content-Type of a request and its body (Apache Sling, "SlingPostServlet"; URL Standard, section 5; RFC 7578).
-use Rattle.std.specs.Prelude.{◌==◌, ◌&&◌, ◌||◌, ℕ, Bool, nat_lt, nat_le, if◌then◌else◌, List, [], Option, Some, None, Result, Ok, Err, codes, length, map}
+use Rattle.std.specs.Prelude.{◌==◌, ◌&&◌, ℕ, Bool, nat_lt, nat_le, if◌then◌else◌, List, [], Option, Some, None, Result, Ok, Err, codes, length, map}
 use Rattle.std.specs.Str.Lossy.{utf8_lossy}
 use Rattle.form_urlencoded.specs.Form.{raw_pairs, decode}
 use Rattle.form_input.specs.declared.fault.FormFault.{FormFault}

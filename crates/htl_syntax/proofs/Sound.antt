@@ -9,7 +9,7 @@ use Rattle.htl_syntax.specs.declared.reader.Nested.{Nested}
 use Rattle.htl_syntax.specs.declared.reader.Nested.TheVariants as i
 use Rattle.htl_syntax.specs.Tokens.{Outcome, ◌>>=◌, blanks_skipped, begins, expect, string, signed_number, read_name, is_quote}
 use Rattle.htl_syntax.specs.Read as spec
-use Rattle.htl_syntax.specs.Grammar.{Byte, Operator, Separator, And, Or, Comma, Separates, Part, part_of, Choice, Either, Both, Compare, Operand, Atom, Start, Items, Reads, More, Access, Accesses}
+use Rattle.htl_syntax.specs.Grammar.{Byte, Separator, And, Or, Comma, Separates, Part, part_of, Choice, Either, Both, Compare, Operand, Atom, Start, Items, Reads, More, Access, Accesses}
 use Rattle.htl_syntax.specs.Grammar as g
 use Rattle.htl_syntax.proofs.Tools.{bind_ok, chosen, ok_is}
 use Rattle.htl_syntax.proofs.TokensRead.{byte, expect_sound, second_sound, name_sound, string_sound, number_sound, comparison_sound}

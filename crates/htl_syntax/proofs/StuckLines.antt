@@ -8,7 +8,7 @@ use Rattle.htl_syntax.specs.declared.reader.Nested.{Nested}
 use Rattle.htl_syntax.specs.declared.reader.Nested.TheVariants as i
 use Rattle.htl_syntax.specs.Tokens.{Outcome, ◌>>=◌, blanks_skipped, begins, expect, goes_on}
 use Rattle.htl_syntax.specs.Read as spec
-use Rattle.htl_syntax.specs.Grammar.{Byte, And, Or, Comma, Part, Choice, Either, Both, Compare, Operand, Atom, Start, Items, Reads, More}
+use Rattle.htl_syntax.specs.Grammar.{Byte, And, Or, Comma, Part, Choice, Either, Both, Compare, Operand, Atom, Start, Items, Reads}
 use Rattle.htl_syntax.specs.Grammar as g
 use Rattle.htl_syntax.proofs.Tools.{chosen}
 use Rattle.htl_syntax.proofs.TokensRead.{byte, comparison_sound}

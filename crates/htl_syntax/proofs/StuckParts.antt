@@ -7,7 +7,7 @@ use Rattle.htl_syntax.specs.declared.node.ExprNode.TheVariants as n
 use Rattle.htl_syntax.specs.declared.tokens.NameKind.TheVariants.{Name}
 use Rattle.htl_syntax.specs.Tokens.{Outcome, ◌>>=◌, blanks_skipped, begins, goes_on, is_quote, is_first, expect, read_name, signed_number, string}
 use Rattle.htl_syntax.specs.Read as spec
-use Rattle.htl_syntax.specs.Grammar.{Byte, NameToken, String, Separator, And, Or, Comma, Separates, Part, part_of, Choice, Either, Both, Compare, Operand, Atom, Start, Reads, More, Access, Accesses}
+use Rattle.htl_syntax.specs.Grammar.{Byte, NameToken, Separator, And, Or, Comma, Separates, Part, part_of, Choice, Either, Both, Compare, Operand, Atom, Start, Reads, More, Access, Accesses}
 use Rattle.htl_syntax.specs.Grammar as g
 use Rattle.htl_syntax.proofs.Tools.{chosen}
 use Rattle.htl_syntax.proofs.TokensRead.{byte, name_sound, string_sound}

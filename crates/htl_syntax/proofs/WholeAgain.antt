@@ -7,7 +7,7 @@ use Rattle.htl_syntax.specs.declared.expression.Context.TheVariants.{Text, Unsaf
 use Rattle.htl_syntax.specs.declared.expression.Expression.{Expression}
 use Rattle.htl_syntax.specs.Tokens.{blanks_skipped, begins, expect, literal}
 use Rattle.htl_syntax.specs.Read as spec
-use Rattle.htl_syntax.specs.Grammar.{Byte, Literal, ContextString, context_text, Join, InContext, Options, TreeOrNothing, WholeWithin, Reads, Choice}
+use Rattle.htl_syntax.specs.Grammar.{Byte, ContextString, context_text, Join, InContext, Options, TreeOrNothing, WholeWithin, Choice}
 use Rattle.htl_syntax.specs.Grammar as g
 use Rattle.htl_syntax.proofs.TokensAgain as again
 use Rattle.htl_syntax.proofs.Complete.{complete, part_at, part_some, foreign_options, Stops}

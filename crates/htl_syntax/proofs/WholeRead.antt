@@ -8,7 +8,7 @@ use Rattle.htl_syntax.specs.declared.expression.Context.TheVariants.{Text, Unsaf
 use Rattle.htl_syntax.specs.declared.expression.Expression.{Expression}
 use Rattle.htl_syntax.specs.Tokens.{◌>>=◌, blanks_skipped, begins, is_quote, expect, literal, string}
 use Rattle.htl_syntax.specs.Read as spec
-use Rattle.htl_syntax.specs.Grammar.{Byte, Literal, ContextString, context_text, Join, InContext, Options, TreeOrNothing, WholeWithin, Reads, Choice}
+use Rattle.htl_syntax.specs.Grammar.{Byte, ContextString, context_text, Join, InContext, Options, TreeOrNothing, WholeWithin}
 use Rattle.htl_syntax.specs.Grammar as g
 use Rattle.htl_syntax.proofs.Tools.{bind_ok, chosen, ok_is}
 use Rattle.htl_syntax.proofs.TokensRead.{byte, byte_at, expect_sound, string_sound}

@@ -1,5 +1,5 @@
 -- What is left to tell after each step of an intake.
-use Rattle.std.proofs.Common.{◌≡◌, ◌<◌, ◌≤◌, ◌⊎◌, inl, inr, ℕ, Bool, true, false, List, [], ◌∷◌, ◌++◌, length, take, drop, refl, sym, ◌∙◌, ap, subst, arith, append_assoc, length-append, ⊎_elim}
+use Rattle.std.proofs.Common.{◌≡◌, ◌<◌, ◌≤◌, ◌⊎◌, inl, inr, ℕ, Bool, true, List, [], ◌∷◌, ◌++◌, length, take, drop, refl, sym, ◌∙◌, ap, subst, arith, append_assoc, length-append, ⊎_elim}
 use Rattle.std.proofs.lemmas.List.{take-append-drop, length-take-le}
 use Rattle.httparse.specs.Grammar.{HasNoRequest, MayBecomeRequest}
 use Rattle.sp_base.specs.declared.answer.Req.{Req}
@@ -10,8 +10,8 @@ use Rattle.http_front.specs.declared.intake.Phase.{Phase}
 use Rattle.http_front.specs.declared.intake.Phase.TheVariants.{Heading, Body, Failed}
 use Rattle.http_front.specs.declared.turn.Turn.{Turn}
 use Rattle.http_front.specs.declared.turn.Turn.TheVariants.{Continue, Whole}
-use Rattle.http_front.specs.Turns.{End, Waits, Breaks, longest_head, BeginsAsking, BeginsRefused, HasBody, with_body, AwaitsHead, AwaitsBody, HasNoHead, Stops, BeginsWithRequest, SpellsTurns}
-use Rattle.http_front.specs.Intakes.{TurnsFollow, Continues, RemainderSpells, Keeps, Ends, IntakeLeads, Stands, rest_of}
+use Rattle.http_front.specs.Turns.{End, Waits, Breaks, longest_head, BeginsAsking, BeginsRefused, HasBody, with_body, AwaitsHead, HasNoHead, Stops, BeginsWithRequest, SpellsTurns}
+use Rattle.http_front.specs.Intakes.{TurnsFollow, Continues, RemainderSpells, Stands, rest_of}
 use Rattle.http_front.proofs.TurnLemmas.{begins_append, never_grows, window_full}
 
 append_nil : {A : Type 0} (xs : List A) → xs ++ [] ≡ xs

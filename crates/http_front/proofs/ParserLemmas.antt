@@ -1,5 +1,5 @@
 -- What the parser finds at the beginning of a stream.
-use Rattle.std.proofs.Common.{◌≡◌, ◌<◌, ◌≤◌, ◌+◌, ◌*◌, ℕ, true, List, [], ◌∷◌, ◌++◌, length, take, drop, sym, ◌∙◌, ap, subst, arith, length-append, flat_map, suc, Some}
+use Rattle.std.proofs.Common.{◌≡◌, ◌<◌, ◌≤◌, ◌+◌, ◌*◌, ℕ, true, List, [], ◌∷◌, ◌++◌, length, take, drop, sym, ◌∙◌, ap, subst, arith, length-append, flat_map, suc}
 use Rattle.std.specs.Prelude.{All, IsUtf8}
 use Rattle.std.proofs.lemmas.Bool.Decides.{nat_tests}
 use Rattle.std.proofs.lemmas.List.Elements.{All-weaker, All-map, All-head}
@@ -9,14 +9,14 @@ use Rattle.httparse.specs.Grammar.{is_token_byte, IsToken, LineEnd, crlf, lf, pr
 use Rattle.httparse.specs.Grammar.{print_blank, print_version}
 use Rattle.httparse.proofs.GrammarLemmas.{print_request-append}
 use Rattle.httparse.proofs.PieceLemmas.{print_field-append}
-use Rattle.httparse.specs.Spans.{IsHeaderWithin, IsRequestWithin, IsRequestAt, RequestExceeds, name_and_value}
+use Rattle.httparse.specs.Spans.{IsRequestWithin, IsRequestAt, RequestExceeds, name_and_value}
 use Rattle.httparse.specs.declared.spans.HeaderSpan.{HeaderSpan}
 use Rattle.httparse.specs.declared.spans.RequestSpans.{RequestSpans}
 use Rattle.http_front.specs.declared.fault.InFault.{InFault}
 use Rattle.http_front.specs.declared.head.AskedHead.{AskedHead}
-use Rattle.http_front.specs.Heads.{HeadParts, request_parts_at, AreWithin, AreTexts, Asks, head_fault}
+use Rattle.http_front.specs.Heads.{HeadParts, request_parts_at, AreTexts, Asks}
 use Rattle.http_front.specs.StreamBeginnings.{HoldsHead, HoldsSomeHead}
-use Rattle.http_front.specs.Turns.{BeginsAsking, BeginsRefused, longest_head}
+use Rattle.http_front.specs.Turns.{BeginsAsking, longest_head}
 
 token_is_ascii : (b : ℕ) → is_token_byte b ≡ true → b < 128
 unfolding is_token_byte

@@ -25,18 +25,15 @@ and_second : (a b : Bool) → (a && b) ≡ true → b ≡ true
 and_second true b h = h
 and_second false b h = absurd (cc)
 
-tested : (b : ℕ) → is_printable_ascii b ≡ true → IsPrintable b
-tested b h = (grind (arith, nat_tests), grind (arith, nat_tests))
-
 all_tested : (text : List ℕ) → list_all is_printable_ascii text ≡ true → All IsPrintable text
 all_tested [] h = All-nil IsPrintable
-all_tested (b ∷ text) h = All-cons IsPrintable b text (tested b (and_first _ _ h)) (all_tested text (and_second _ _ h))
+all_tested (b ∷ text) h = All-cons IsPrintable b text (and_first _ _ h) (all_tested text (and_second _ _ h))
 
 plain_byte : (b : ℕ) → IsPrintable (if is_printable_ascii b then b else 32)
 plain_byte b =
     elim (is_printable_ascii b) as (λ t. is_printable_ascii b ≡ t → IsPrintable (cond t b 32)) [
-      | true ↦ λ e. tested b e
-      | false ↦ λ e. (omega arith, omega arith)
+      | true ↦ λ e. e
+      | false ↦ λ e. refl
     ] refl
 
 plain_all : (text : List ℕ) → All IsPrintable (map (λ b. if is_printable_ascii b then b else 32) text)
@@ -48,15 +45,12 @@ unfolding plain_value
 plain_printable text = plain_all text
 
 escape_visible : (b : ℕ) → IsEscapeByte b → IsVisible b
-escape_visible b h = (grind (arith), grind (arith))
-
-seen_byte : (b : ℕ) → is_visible_ascii b ≡ true → IsVisible b
-seen_byte b h = (grind (arith, nat_tests), grind (arith, nat_tests))
+escape_visible b h = grind (arith, nat_tests)
 
 location_byte : (b : ℕ) → All IsVisible (if is_visible_ascii b then b ∷ [] else percent_encode_byte b)
 location_byte b =
     elim (is_visible_ascii b) as (λ t. is_visible_ascii b ≡ t → All IsVisible (cond t (b ∷ []) (percent_encode_byte b))) [
-      | true ↦ λ e. All-cons IsVisible b [] (seen_byte b e) (All-nil IsVisible)
+      | true ↦ λ e. All-cons IsVisible b [] e (All-nil IsVisible)
       | false ↦ λ e. All-weaker IsEscapeByte IsVisible escape_visible (percent_encode_byte b) (All-percent_encode_byte b)
     ] refl
 
@@ -69,13 +63,13 @@ unfolding location_of
 location_visible text = location_all text
 
 visible_printable : (b : ℕ) → IsVisible b → IsPrintable b
-visible_printable b h = (omega (arith, h.0), h.1)
+visible_printable b h = grind (arith, nat_tests)
 
 digits_printable : (ds : List ℕ) → AllDigits 10 ds → All IsPrintable ds
 digits_printable [] h = All-nil IsPrintable
 digits_printable (d ∷ ds) h =
     let parts = tells_digits.parts d ds h in
-    All-cons IsPrintable d ds (grind (arith), grind (arith)) (digits_printable ds parts.1)
+    All-cons IsPrintable d ds (grind (arith, nat_tests)) (digits_printable ds parts.1)
 
 methods_printable : (status : ℕ) → All IsPrintable (allowed_methods status)
 methods_printable status =

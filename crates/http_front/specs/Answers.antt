@@ -1,5 +1,5 @@
 -- An answer as bytes (RFC 9112, sections 4 to 6): a status line, field lines, an empty line, and the body.
-use Rattle.std.specs.Prelude.{◌==◌, ◌&&◌, ◌||◌, ◌++◌, ℕ, Bool, nat_le, if◌then◌else◌, List, [], ◌∷◌, codes, decimal, flat_map, length, map}
+use Rattle.std.specs.Prelude.{◌==◌, ◌&&◌, ◌||◌, ◌++◌, ℕ, Bool, if◌then◌else◌, List, [], ◌∷◌, codes, decimal, flat_map, length, map}
 use Rattle.location_field.specs.Location.{location_of}
 use Rattle.sp_base.specs.Bytes.{is_printable_ascii}
 use Rattle.httparse.specs.Ascii.{crlf_bytes}

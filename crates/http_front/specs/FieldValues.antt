@@ -1,16 +1,17 @@
 -- Values of fields as they are sent: no byte of one ends its line, or begins another (RFC 9110, section 5.5).
-use Rattle.std.specs.Prelude.{◌≡◌, ◌<◌, ◌≤◌, ◌^◌, ℕ, Bool, codes, length}
+use Rattle.std.specs.Prelude.{◌≡◌, ◌<◌, ◌^◌, ℕ, Bool, true, codes, length}
 use Rattle.std.specs.List.{All}
+use Rattle.sp_base.specs.Bytes.{is_printable_ascii, is_visible_ascii}
 use Rattle.sp_base.specs.declared.answer.Answer.{Answer}
 use Rattle.http_front.specs.Answers.{Field, fields_of}
 
--- a printable byte of ASCII: visible, or a space
+-- a printable byte of ASCII
 abbrev pub IsPrintable : ℕ → Type 0
-IsPrintable b = (32 ≤ b) × (b ≤ 126)
+IsPrintable b = is_printable_ascii b ≡ true
 
 -- a visible byte of ASCII
 abbrev pub IsVisible : ℕ → Type 0
-IsVisible b = (33 ≤ b) × (b ≤ 126)
+IsVisible b = is_visible_ascii b ≡ true
 
 -- each byte of the value is printable, and that of a location visible, as in a URI reference (RFC 3986, section 2)
 abbrev pub StaysInItsLine : Field → Type 0

@@ -1,17 +1,15 @@
 -- Moves that are made one after the other.
-use Rattle.std.proofs.Common.{◌≡◌, ◌+◌, ◌<◌, ◌++◌, subst, ℕ, Bool, true, false, not, cond, List, [], ◌∷◌, Some, take, length, get_or, refl, sym, ◌∙◌, ap, arith}
+use Rattle.std.proofs.Common.{◌≡◌, ◌+◌, ◌++◌, subst, ℕ, Bool, true, false, not, cond, List, [], ◌∷◌, Some, refl, sym, ◌∙◌}
 use Rattle.std.specs.Prelude.{filter, fold, nat_eq}
 use Rattle.std.specs.List.{AllByRecursion, IsDistinct}
 use Rattle.std.specs.Cmp.Lexicographic.{nat_list_eq_equiv, pointwise}
 use Rattle.std.proofs.lemmas.Bool.{or_parts, not-true}
-use Rattle.std.proofs.lemmas.List.Sums.{fold-append, fold_more}
 use Rattle.std.proofs.lemmas.List.Elements.{All-head, All-tail}
 use Rattle.std.proofs.lemmas.Map.Keys.{IsDistinct-cons, IsDistinct-head, IsDistinct-tail}
 use Rattle.resource_tree.specs.Content.{Content, IsTree, node_at}
 use Rattle.resource_tree.specs.Seen.{Resource, res_at}
 use Rattle.overlay_merge.specs.declared.order.KidMove.{KidMove}
-use Rattle.overlay_merge.specs.Kids.{all_kids, has_text, kids_there, names_after_move, with_kids_of}
-use Rattle.overlay_merge.specs.Slots.{names_after_moves}
+use Rattle.overlay_merge.specs.Kids.{all_kids, has_text, kids_there, with_kids_of}
 use Rattle.overlay_merge.specs.Walk.{AreNodesOf}
 use Rattle.overlay_merge.proofs.KidLemmas.{node_of}
 

@@ -1,14 +1,12 @@
 -- Paths by their first segments.
-use Rattle.std.proofs.Common.{◌≡◌, ◌+◌, ◌-◌, ◌<◌, ◌≤◌, ◌&&◌, ℕ, true, false, cond, List, [], ◌∷◌, ◌++◌, drop, take, length, zero, suc, add-zero, refl, sym, ◌∙◌, ap, arith, ⊎_elim, Option, Some, None}
-use Rattle.std.specs.Prelude.{is_some, nat_eq, slice_get, slice_index_or, unwrap_or}
-use Rattle.std.specs.Option.{option_map_or}
+use Rattle.std.proofs.Common.{◌≡◌, ◌+◌, ◌-◌, ◌<◌, ◌≤◌, ℕ, true, false, cond, List, [], ◌∷◌, ◌++◌, drop, take, length, zero, suc, add-zero, refl, sym, ◌∙◌, ap, arith, ⊎_elim, Option, Some, None}
+use Rattle.std.specs.Prelude.{is_some, slice_get, slice_index_or}
 use Rattle.std.specs.List.{list_all}
-use Rattle.std.specs.Cmp.Lexicographic.{pointwise}
-use Rattle.std.proofs.lemmas.Bool.{and_parts, and_from, false≢true, true≢false, false_from_ne_true, leb-true, le-leb, cases_lt}
+use Rattle.std.proofs.lemmas.Bool.{and_parts, and_from, false≢true, true≢false, leb-true, le-leb, cases_lt}
 use Rattle.std.proofs.lemmas.List.{append_assoc, drop_more, take_more, length-append, length-drop}
 use Rattle.std.proofs.lemmas.List.Folds.{list_all-append}
 use Rattle.std.proofs.lemmas.Option.{get_or_from_slice_get}
-use Rattle.sp_base.specs.Paths.{is_path, is_under, path_or_none, seg_ok}
+use Rattle.sp_base.specs.Paths.{is_path, path_or_none, seg_ok}
 use Rattle.resource_tree.specs.Content.{Content, IsTree, kid, node_at}
 use Rattle.resource_tree.specs.declared.nodes.Node.{Node}
 

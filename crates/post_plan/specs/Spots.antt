@@ -1,8 +1,7 @@
 -- Paths in the names and words of parameters, relative to a node or absolute (Apache Sling, "SlingPostServlet"; RFC 3986, section 5.2.4).
 -- `spelling_of` and `first_two` are needed by private functions and proofs alone.
-use Rattle.std.specs.Prelude.{◌==◌, ◌&&◌, ◌||◌, ◌-◌, ℕ, Bool, true, false, nat_eq, nat_le, nat_lt, if◌then◌else◌, List, [], ◌∷◌, ◌++◌, Option, Some, None, option_and_then, Result, Ok, Err, codes, flat_map, length, take, drop, slice_index_or}
+use Rattle.std.specs.Prelude.{◌==◌, ◌&&◌, ◌||◌, ◌-◌, ℕ, Bool, true, false, nat_eq, nat_le, nat_lt, if◌then◌else◌, List, [], ◌∷◌, ◌++◌, Option, Some, None, option_and_then, Result, Ok, Err, codes, length, take, drop, slice_index_or}
 use Rattle.std.specs.List.{starts_with, ends_with}
-use Rattle.sp_base.specs.PathTexts.{spelling_of}
 use Rattle.sp_base.specs.Paths.{seg_ok, pieces, path_of, path_or_none, is_under, parent_of}
 use Rattle.sp_base.specs.declared.path.PathFault.{PathFault}
 use Rattle.post_plan.specs.declared.spot.Spot.{Spot}

@@ -3,7 +3,7 @@ use Rattle.std.proofs.Common.{◌≡◌, ◌≢◌, ◌+◌, ◌≤◌, ◌++◌
 use Rattle.std.proofs.lemmas.List.{take_at, drop_at, length-drop}
 use Rattle.replay_text.specs.Lines.{newlines, text_of_lines, AreLines}
 use Rattle.replay_text.specs.Languages.{IsRefusedAt}
-use Rattle.replay_text.specs.Scenario.{HaveNoDot, IsBlock}
+use Rattle.replay_text.specs.Scenario.{HaveNoDot}
 use Rattle.replay_text.specs.Reading.{BlockThen, EndsBlock, EndsNoBlock, Refuses, fault_further, FirstLine}
 use Rattle.replay_text.specs.declared.scenario.ScenarioFault.{ScenarioFault}
 use Rattle.replay_text.specs.declared.scenario.ScenarioFault.TheVariants.{Line, NoMemory}

@@ -1,5 +1,5 @@
 -- A whole scenario, from its head on.
-use Rattle.std.proofs.Common.{◌≡◌, ◌≢◌, ◌+◌, ◌≤◌, ◌++◌, ℕ, List, [], ◌∷◌, codes, sym, ◌∙◌, ap, subst, refl, arith, length, take, drop, append_assoc, ⊎_elim}
+use Rattle.std.proofs.Common.{◌≡◌, ◌≢◌, ◌+◌, ◌++◌, ℕ, List, [], ◌∷◌, codes, sym, ◌∙◌, ap, subst, refl, arith, length, take, drop, ⊎_elim}
 use Rattle.replay_text.specs.Lines.{newlines, text_of_lines}
 use Rattle.replay_text.specs.Languages.{IsRefusedAt}
 use Rattle.replay_text.specs.Scenario.{act_lines, SpellsScenario, IsScenario}

@@ -1,5 +1,5 @@
 -- The lines of events: what each asks for, and how it is spelled.
-use Rattle.std.specs.Prelude.{◌≢◌, ◌≤◌, ◌<◌, ◌++◌, ◌&&◌, ◌==◌, ℕ, Bool, not, nat_le, List, [], ◌∷◌, codes, IsTrue, length}
+use Rattle.std.specs.Prelude.{◌≢◌, ◌≤◌, ◌<◌, ◌++◌, ◌&&◌, ◌==◌, ℕ, Bool, not, List, [], ◌∷◌, codes, IsTrue, length}
 use Rattle.std.specs.List.{list_all}
 use Rattle.std.specs.Fmt.{decimal}
 use Rattle.sp_base.specs.Bytes.{is_visible_ascii}

@@ -1,6 +1,6 @@
 -- The numbers in the notes of a session fit, so its transcript tells its notes.
-use Rattle.std.proofs.Common.{◌≡◌, ◌+◌, ◌<◌, ◌≤◌, ◌++◌, ◌^◌, ◌||◌, ◌&&◌, ℕ, zero, suc, Bool, true, false, not, cond, List, [], ◌∷◌, Option, Some, None, map, length, take, refl, subst, sym, ap, ◌∙◌, arith, inl, inr, ⊎_elim}
-use Rattle.std.specs.Prelude.{IsTrue, nat_eq, nat_le, if◌then◌else◌, unwrap_or}
+use Rattle.std.proofs.Common.{◌≡◌, ◌+◌, ◌<◌, ◌≤◌, ◌++◌, ◌||◌, ◌&&◌, ℕ, Bool, true, false, not, cond, List, [], ◌∷◌, Option, Some, None, map, length, refl, subst, sym, ◌∙◌, arith, inl, inr}
+use Rattle.std.specs.Prelude.{nat_eq, nat_le, if◌then◌else◌}
 use Rattle.std.specs.List.{find}
 use Rattle.std.specs.Map.{update}
 use Rattle.sp_base.specs.declared.answer.Answer.{Answer}
@@ -24,18 +24,17 @@ use Rattle.front.specs.declared.note.Note.TheVariants.{Answer as answered, Ask a
 use Rattle.front.specs.declared.step.Pick.{Pick}
 use Rattle.front.specs.declared.step.Step.{Step}
 use Rattle.front.specs.declared.step.Step.TheVariants as step
-use Rattle.front.specs.Events.{Event, FurtherEvent, DeliverAs, DeliverTo, Happens, HappensBy, IsOrFixed, LeadsNotes, LoseTo, PieceTo, RenderTo, Run, after_event, state_after_events, state_before_notes, state_after_going, going, is_any, is_picked, is_rendered, is_unrendered, mood_notes, most_lines, notes_of, state_after_opening, opening, picked_flight}
-use Rattle.front.specs.Moves.{GivesDue, IsFirstPoint, Mood, Serves, state_after_note, state_after_notes, state_after_ask, due_of_connection, flight_at, has_number, is_front_full, over_with, points, request_of, with_rendered_at, without}
-use Rattle.connections.specs.Slots.{fixed_answer}
-use Rattle.front.specs.Publishers.{Publishing, answer_to, direct_answer, get_of}
+use Rattle.front.specs.Events.{Event, DeliverAs, DeliverTo, HappensBy, IsOrFixed, LeadsNotes, LoseTo, PieceTo, RenderTo, Run, after_event, state_before_notes, state_after_going, going, is_any, is_picked, is_rendered, is_unrendered, mood_notes, most_lines, notes_of, state_after_opening, opening, picked_flight}
+use Rattle.front.specs.Moves.{GivesDue, IsFirstPoint, Mood, Serves, state_after_note, state_after_notes, state_after_ask, due_of_connection, flight_at, has_number, over_with, points, request_of, with_rendered_at, without}
+use Rattle.front.specs.Publishers.{answer_to, direct_answer, get_of}
 use Rattle.dispatch_rules.specs.Asking.{publisher_ask}
-use Rattle.front.specs.States.{LogEntry, RunState, flights_asked, start_of}
+use Rattle.front.specs.States.{LogEntry, RunState, flights_asked}
 use Rattle.replay_text.specs.declared.event_line.EventLine.{EventLine}
 use Rattle.replay_text.specs.declared.event_line.EventLine.TheVariants as line
 use Rattle.replay_text.specs.declared.scenario.Scenario.{Scenario}
 use Rattle.replay_text.specs.EventLines.{IsEventLine}
 use Rattle.replay_text.specs.Scenario.{AreActs}
-use Rattle.replay_text.specs.Transcript.{AreWritable, EventsAreWritable, IsConnectionNumber, IsWritable}
+use Rattle.replay_text.specs.Transcript.{AreWritable, EventsAreWritable, IsWritable}
 use Rattle.sling_dispatch.specs.Runs.{IsSession, sling_publisher, step_of}
 
 -- ---- lists of notes

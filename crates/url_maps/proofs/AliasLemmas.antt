@@ -1,11 +1,11 @@
 -- From the claimants of a text to the node that it names by an alias, and back.
-use Rattle.std.proofs.Common.{◌≡◌, ◌<◌, ℕ, zero, suc, Bool, true, false, cond, List, [], ◌∷◌, Some, None, length, refl, sym, ◌∙◌, ap, ⊎_elim, arith}
+use Rattle.std.proofs.Common.{◌≡◌, ◌<◌, ℕ, Bool, true, false, cond, List, [], ◌∷◌, Some, None, length, refl, sym, ◌∙◌, ap, ⊎_elim, arith}
 use Rattle.std.specs.Prelude.{◌||◌, ◌&&◌, ◌==◌, not, nat_eq, codes, find}
 use Rattle.std.specs.Cmp.Lexicographic.{pointwise, same_text}
 use Rattle.std.specs.List.{list_any}
 use Rattle.std.specs.Option.{option_map_or}
 use Rattle.std.proofs.lemmas.Bool.Decides.{nat_tests}
-use Rattle.std.proofs.lemmas.Bool.{cases_Bool, true≢false, false≢true, and_parts}
+use Rattle.std.proofs.lemmas.Bool.{cases_Bool, false≢true, and_parts}
 use Rattle.sp_base.specs.Paths.{is_path, parent_of, seg_ok, text_of}
 use Rattle.resource_tree.specs.declared.nodes.Node.{Node}
 use Rattle.resource_tree.specs.Content.{Content, IsTree, kid, node_at, prop_at}

@@ -7,7 +7,6 @@ pub mod LeaderLemmas
 pub mod MappingLemmas
 pub mod PairLemmas
 pub mod TurnLemmas
-pub mod ShorterLemmas
 pub mod SiblingLemmas
 pub mod SharedLemmas
 pub mod ParentLemmas

@@ -1,5 +1,5 @@
 -- The mappings of a tree for a host and a port (Apache Sling, "Mappings for resource resolution", root level mappings).
-use Rattle.std.specs.Prelude.{◌≡◌, ◌≤◌, ◌||◌, ◌==◌, ℕ, ℤ, pos, Bool, false, is_some, if◌then◌else◌, List, [], ◌∷◌, ◌++◌, Option, Some, None, codes, flat_map, length, map, option_map, take}
+use Rattle.std.specs.Prelude.{◌≡◌, ◌≤◌, ◌||◌, ◌==◌, ℕ, ℤ, pos, Bool, false, is_some, if◌then◌else◌, List, [], ◌∷◌, ◌++◌, Option, Some, None, codes, length, map, option_map, take}
 use Rattle.std.specs.Option.{option_map_or, option_or}
 use Rattle.std.specs.Char.{to_ascii_lowercase}
 use Rattle.std.specs.Fmt.{decimal}

@@ -1,5 +1,5 @@
 -- What the parts of a decomposition spell.
-use Rattle.std.specs.Prelude.{◌≡◌, ◌==◌, ◌&&◌, ◌⊎◌, ◌++◌, ◌∷◌, [], ℕ, Bool, List, not, length, filter, flat_map}
+use Rattle.std.specs.Prelude.{◌≡◌, ◌&&◌, ◌⊎◌, ◌++◌, ◌∷◌, [], ℕ, Bool, List, not, filter}
 use Rattle.std.specs.List.{list_any}
 use Rattle.sp_base.specs.Bytes.{is_dot, is_slash, is_full, dotted_text}
 use Rattle.url_split.specs.declared.decompose.Parts.{Parts}

@@ -1,4 +1,4 @@
-use Rattle.std.proofs.Common.{◌≡◌, ◌≤◌, ◌+◌, lit<, ◌∙◌, sym, ap, arith, drop, length, Some, None}
+use Rattle.std.proofs.Common.{◌≡◌, ◌+◌, lit<, ◌∙◌, sym, ap, arith, drop, length, Some, None}
 use Rattle.std.proofs.lemmas.Str.Pattern.{find_char}
 use Rattle.dispatch_rules.specs.UrlParts.{stem}
 use Rattle.dispatch_rules.proofs.CutLemmas.{cut_at, uncut, prefix_length, none_left}

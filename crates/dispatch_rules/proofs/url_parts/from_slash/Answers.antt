@@ -1,4 +1,4 @@
-use Rattle.std.proofs.Common.{◌≡◌, ◌≤◌, lit<, ◌∙◌, sym, ap, arith, drop, length, Some, None}
+use Rattle.std.proofs.Common.{◌≡◌, lit<, ◌∙◌, sym, ap, arith, drop, length, Some, None}
 use Rattle.std.specs.List.{before_first}
 use Rattle.std.proofs.lemmas.Str.Pattern.{find_char}
 use Rattle.sp_base.specs.Bytes.{is_slash}

@@ -7,7 +7,7 @@ use Rattle.any_config.specs.declared.any_fault.AnyFault.{AnyFault}
 use Rattle.any_config.specs.declared.any_fault.AnyFault.TheVariants as fault
 use Rattle.any_config.specs.declared.node.AnyNode.{AnyNode}
 use Rattle.any_config.specs.declared.node.AnyNode.TheVariants as node
-use Rattle.any_config.specs.Tokens.{TokenOutcome, comments_skipped, member_name, ungrouped_value}
+use Rattle.any_config.specs.Tokens.{TokenOutcome, ◌>>=◌, comments_skipped, member_name, ungrouped_value}
 
 -- the names of a group and their values
 abbrev pub Members : Type 0

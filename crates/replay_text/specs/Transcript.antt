@@ -86,9 +86,13 @@ IsStatus status = status < 65536
 abbrev pub IsFlightNumber : ℕ → Type 0
 IsFlightNumber n = n < 18446744073709551616
 
+-- how many numbers a connection may have: 2^32
+abbrev pub connection_numbers : ℕ
+connection_numbers = 4294967296
+
 -- numbers of connections have 32 bits
 abbrev pub IsConnectionNumber : ℕ → Type 0
-IsConnectionNumber c = c < 4294967296
+IsConnectionNumber c = c < connection_numbers
 
 -- a key is that of the page at some path
 abbrev pub IsPage : Option PageKey → Type 0

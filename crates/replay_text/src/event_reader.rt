@@ -25,6 +25,9 @@ pub fn first_word(text: &[u8]) -> Option<(&[u8], &[u8])>
     None
 }
 
+// How many numbers a connection may have: 2^32.
+const CONNECTION_NUMBERS: u64 = 4_294_967_296;
+
 // The number that a word spells.
 fn number(alloc: Global, word: &[u8]) -> Mem<Option<u64>>
     ensures some { IfOk result (λ o. IfSome o (λ n. word.now ≡ decimal n)) }
@@ -52,7 +55,7 @@ pub fn connection(alloc: Global, word: &[u8]) -> Mem<Option<u32>>
     let Some(n) = number(alloc, word)? else {
         return Ok(None);
     };
-    if n <= u64::from(u32::MAX) {
+    if n < CONNECTION_NUMBERS {
         Ok(Some(n as u32))
     } else {
         Ok(None)

@@ -9,8 +9,8 @@ returns-in_default-clause-none c = λ m small e.
     let none = subst (λ o. IfNone o ((n : ℕ) → n < 18446744073709551616 → c.args.word.now ≡ decimal n → ⊥)) c.in_default.is c.in_ok-n.ensures.none in
     none m (omega (arith, small)) e
 
-pub returns-else-n-lt4294967296-clause-none : goal.returns-else-n-lt4294967296-clause-none
-returns-else-n-lt4294967296-clause-none c = λ m small e.
+pub returns-else-n-lt-CONNECTION_NUMBERS-clause-none : goal.returns-else-n-lt-CONNECTION_NUMBERS-clause-none
+returns-else-n-lt-CONNECTION_NUMBERS-clause-none c = λ m small e.
     let some : c.args.word.now ≡ decimal c.in-Some.n = subst (λ o. IfSome o (λ n. c.args.word.now ≡ decimal n)) c.in-Some.is c.in_ok-n.ensures.some in
     let bounded : c.in-Some.n < 18446744073709551616 = search rules in
-    omega (arith, small, decimal_injective m c.in-Some.n (omega (arith, small)) bounded (sym e ∙ some), c.if-n-lt4294967296.false)
+    omega (arith, small, decimal_injective m c.in-Some.n (omega (arith, small)) bounded (sym e ∙ some), c.if-n-lt-CONNECTION_NUMBERS.false)

@@ -6,7 +6,8 @@ use Rattle.std.proofs.lemmas.Bool.{true≢false}
 use Rattle.std.proofs.lemmas.Bool.Decides.{nat_tests}
 use Rattle.std.proofs.lemmas.Str.{IsUtf8-from_ascii}
 use Rattle.sp_base.specs.Bytes.{is_printable_ascii}
-use Rattle.docroot_format.specs.Readings.{is_kind, longest_kind}
+use Rattle.sp_base.specs.Limits.{longest_media_type}
+use Rattle.docroot_format.specs.Readings.{is_kind}
 
 second_true : (a b : Bool) → a && b ≡ true → b ≡ true
 second_true true b e = e
@@ -26,4 +27,4 @@ ascii (b ∷ bs) e zero = small b (first_true _ _ e)
 ascii (b ∷ bs) e (suc i) = ascii bs (second_true _ _ e) i
 
 pub kind_is_utf8 : (kind : List ℕ) → is_kind kind ≡ true → IsUtf8 kind
-kind_is_utf8 kind e = IsUtf8-from_ascii kind (ascii kind (second_true (nat_le (length kind) longest_kind) _ e))
+kind_is_utf8 kind e = IsUtf8-from_ascii kind (ascii kind (second_true (nat_le (length kind) longest_media_type) _ e))

@@ -25,8 +25,10 @@ fn longest_text(alloc: Global) -> Result<String, Failed> {
 
 fn length_of(alloc: Global, scope: &Scope<'_>, text: &str) -> Result<usize, Failed> {
     let template = Template::read(alloc, text).or(Err(Failed))?;
-    let output = template.render(alloc, scope).or(Err(Failed))?;
-    Ok(output.text().len())
+    match template.render(alloc, scope) {
+        Ok(output) => Ok(output.text().len()),
+        Err(_) => Err(Failed),
+    }
 }
 
 fn is_too_long(alloc: Global, scope: &Scope<'_>, text: &str) -> Result<bool, Failed> {

@@ -23,12 +23,18 @@ fn longest_text(alloc: Global) -> Result<String, Failed> {
     Ok(text)
 }
 
+fn output_length(
+    alloc: Global,
+    template: &Template,
+    scope: &Scope<'_>,
+) -> Result<usize, RenderFault> {
+    let output = template.render(alloc, scope)?;
+    Ok(output.text().len())
+}
+
 fn length_of(alloc: Global, scope: &Scope<'_>, text: &str) -> Result<usize, Failed> {
     let template = Template::read(alloc, text).or(Err(Failed))?;
-    match template.render(alloc, scope) {
-        Ok(output) => Ok(output.text().len()),
-        Err(_) => Err(Failed),
-    }
+    output_length(alloc, &template, scope).or(Err(Failed))
 }
 
 fn is_too_long(alloc: Global, scope: &Scope<'_>, text: &str) -> Result<bool, Failed> {

@@ -4,10 +4,11 @@ use Rattle.std.specs.Prelude.{option_and_then, unwrap_or}
 use Rattle.std.specs.List.{AllByRecursion}
 use Rattle.std.specs.Cmp.Lexicographic.{pointwise, bytes_decides}
 use Rattle.std.proofs.lemmas.Bool.{true≢false}
+use Rattle.sp_base.specs.Bytes.{AreBytes}
 use Rattle.sp_outside.specs.Files.{Files, file_at, with_file, without_file}
 use Rattle.cover_rules.specs.declared.page.PageKey.{PageKey}
 use Rattle.cover_rules.specs.declared.stamp.Stamp.{Stamp}
-use Rattle.docroot_format.specs.Names.{IsTextKey, are_bytes, epoch_name, head_name, stat_name}
+use Rattle.docroot_format.specs.Names.{IsTextKey, epoch_name, head_name, stat_name}
 use Rattle.docroot_format.specs.Readings.{HeadLine, epoch_of, head_of, stat_of}
 use Rattle.cache_files.specs.declared.head_note.HeadNote.{HeadNote}
 use Rattle.cache_files.specs.Epochs.{epoch_held}
@@ -22,14 +23,14 @@ abbrev pub NoHead : List ℕ → Type 0
 NoHead name = (key : PageKey) → IsKey key → IsTextKey key → head_name key.folder key.file ≢ name
 
 abbrev pub NoStat : List ℕ → Type 0
-NoStat name = (folder : List (List ℕ)) → AllByRecursion are_bytes folder → stat_name folder ≢ name
+NoStat name = (folder : List (List ℕ)) → AllByRecursion AreBytes folder → stat_name folder ≢ name
 
 -- a head of this name has no later stamp, nor has a .stat file
 abbrev HeadsKept : Files → List ℕ → Type 0
 HeadsKept new name = (key : PageKey) → IsKey key → IsTextKey key → head_name key.folder key.file ≡ name → (head : HeadNote) → head_at new key ≡ Some head → head.stamp.epoch ≤ epoch_held new
 
 abbrev StatsKept : Files → List ℕ → Type 0
-StatsKept new name = (folder : List (List ℕ)) → AllByRecursion are_bytes folder → stat_name folder ≡ name → (stamp : Stamp) → option_and_then stat_of (file_at new (stat_name folder)) ≡ Some (stamp.epoch, stamp.count)
+StatsKept new name = (folder : List (List ℕ)) → AllByRecursion AreBytes folder → stat_name folder ≡ name → (stamp : Stamp) → option_and_then stat_of (file_at new (stat_name folder)) ≡ Some (stamp.epoch, stamp.count)
     → stamp.epoch ≤ epoch_held new
 
 decide : (xs ys : List ℕ) → (xs ≡ ys) ⊎ (xs ≢ ys)

@@ -1,10 +1,11 @@
 -- The stamps that the files of the docroot hold, beside the number of the session.
 use Rattle.std.specs.Prelude.{◌≡◌, ◌⊎◌, ◌≤◌, ℕ, List, Some, option_and_then}
 use Rattle.std.specs.List.{AllByRecursion}
+use Rattle.sp_base.specs.Bytes.{AreBytes}
 use Rattle.sp_outside.specs.Files.{Files, file_at}
 use Rattle.cover_rules.specs.declared.page.PageKey.{PageKey}
 use Rattle.cover_rules.specs.declared.stamp.Stamp.{Stamp}
-use Rattle.docroot_format.specs.Names.{IsTextKey, are_bytes, stat_name}
+use Rattle.docroot_format.specs.Names.{IsTextKey, stat_name}
 use Rattle.docroot_format.specs.Readings.{stat_of}
 use Rattle.cache_files.specs.declared.head_note.HeadNote.{HeadNote}
 use Rattle.cache_files.specs.Epochs.{epoch_held}
@@ -16,7 +17,7 @@ IsPageStamp files stamp = (key : PageKey) × (IsKey key × (IsTextKey key × ((h
 
 -- the .stat file of a folder is of the form, and has this stamp
 abbrev pub IsFolderStamp : Files → Stamp → Type 0
-IsFolderStamp files stamp = (folder : List (List ℕ)) × (AllByRecursion are_bytes folder × (option_and_then stat_of (file_at files (stat_name folder)) ≡ Some (stamp.epoch, stamp.count)))
+IsFolderStamp files stamp = (folder : List (List ℕ)) × (AllByRecursion AreBytes folder × (option_and_then stat_of (file_at files (stat_name folder)) ≡ Some (stamp.epoch, stamp.count)))
 
 -- the files hold a stamp
 abbrev pub HoldsStamp : Files → Stamp → Type 0

@@ -1,11 +1,12 @@
 //! The number of a session is above each stamp of an earlier one: laws, on functions that do nothing.
 ghost use Rattle.std.specs.Prelude.{◌≡◌, ◌≢◌, ◌⊎◌, ◌<◌, ◌≤◌, ◌^◌, ℕ, List, Option, Some, Ok, IfSome, length};
 ghost use Rattle.std.specs.List.{AllByRecursion};
+ghost use Rattle.sp_base.specs.Bytes.{AreBytes};
 ghost use Rattle.sp_base.specs.declared.answer.Answer.{Answer};
 ghost use Rattle.sp_outside.specs.Calls.{Call};
 ghost use Rattle.sp_outside.specs.Files.{Files, file_at, with_file, without_file};
 ghost use Rattle.docroot_format.specs.declared.fault.FileFault.{FileFault};
-ghost use Rattle.docroot_format.specs.Names.{IsTextKey, are_bytes, body_name, epoch_name, head_name, stat_name};
+ghost use Rattle.docroot_format.specs.Names.{IsTextKey, body_name, epoch_name, head_name, stat_name};
 ghost use Rattle.docroot_format.specs.Texts.{epoch_text, head_text, stat_text};
 ghost use Rattle.cover_rules.specs.declared.page.PageKey.{PageKey};
 ghost use Rattle.cover_rules.specs.declared.stamp.Stamp.{Stamp};
@@ -34,7 +35,7 @@ pub fn no_stamp_is_later_than_the_session()
     ensures put { (files : Files) (key : PageKey) (stamp : Stamp) (answer : Answer) → IsKey key → IsTextKey key → IsStorable answer → stamp.epoch < 2 ^ 64 → stamp.count < 2 ^ 64 → length answer.body < 2 ^ 64
         → stamp.epoch ≤ epoch_held files → HasNoLaterStamp files → HasNoLaterStamp (files_with_page files key stamp answer) }
     ensures dropped { (files : Files) (key : PageKey) → IsKey key → IsTextKey key → HasNoLaterStamp files → HasNoLaterStamp (files_without_page files key) }
-    ensures touched { (files : Files) (folder : List (List ℕ)) (stamp : Stamp) → AllByRecursion are_bytes folder → stamp.epoch < 2 ^ 64 → stamp.count < 2 ^ 64
+    ensures touched { (files : Files) (folder : List (List ℕ)) (stamp : Stamp) → AllByRecursion AreBytes folder → stamp.epoch < 2 ^ 64 → stamp.count < 2 ^ 64
         → stamp.epoch ≤ epoch_held files → HasNoLaterStamp files → HasNoLaterStamp (with_file files (stat_name folder) (stat_text stamp.epoch stamp.count)) }
 
     // The same of what a put or a drop leaves that failed.

@@ -7,10 +7,11 @@ use Rattle.std.proofs.lemmas.Bool.Decides.{nat_tests}
 use Rattle.std.proofs.lemmas.List.{append_cancel_right, append-nil}
 use Rattle.std.proofs.lemmas.List.Splits.{slice_split_at, slice_split_none}
 use Rattle.std.proofs.lemmas.List.Folds.{list_all-append}
+use Rattle.sp_base.specs.Bytes.{AreBytes}
 use Rattle.sp_base.specs.Paths.{mangled_segs, pieces}
 use Rattle.cover_rules.specs.Names.{is_plain_name_byte, file_byte, file_name}
 use Rattle.cover_rules.specs.Pages.{is_file}
-use Rattle.docroot_format.specs.Names.{are_bytes, body_name, folder_name, head_name, stat_name, epoch_name, is_file_name_byte}
+use Rattle.docroot_format.specs.Names.{body_name, folder_name, head_name, stat_name, epoch_name, is_file_name_byte}
 use Rattle.docroot_format.proofs.NameLemmas.{append_both}
 use Rattle.docroot_format.proofs.Inside.{both, bytes_ok, file_first, first_byte, no_slash}
 use Rattle.docroot_format.proofs.TextKeys.{all_mangled}
@@ -47,7 +48,7 @@ some_written : (b : ℕ) (p : Bool) (xs : List ℕ) → written p b ++ xs ≡ []
 some_written b true xs e = absurd cc
 some_written b false xs e = absurd cc
 
-same_name : (s t : List ℕ) → are_bytes s → are_bytes t → file_name s ≡ file_name t → s ≡ t
+same_name : (s t : List ℕ) → AreBytes s → AreBytes t → file_name s ≡ file_name t → s ≡ t
 unfolding file_name
 same_name [] [] small_s small_t e = refl
 same_name [] (c ∷ t) small_s small_t e = absurd (some_written c (is_plain_name_byte c) (file_name t) (sym e))
@@ -72,7 +73,7 @@ some_last : (xs : List (List ℕ)) (x : List ℕ) → xs ++ x ∷ [] ≡ [] → 
 some_last [] x e = absurd cc
 some_last (y ∷ xs) x e = absurd cc
 
-same_pieces : (a b : List (List ℕ)) (x y : List ℕ) → AllByRecursion are_bytes a → AllByRecursion are_bytes b → map file_name a ++ x ∷ [] ≡ map file_name b ++ y ∷ [] → (a ≡ b) × (x ≡ y)
+same_pieces : (a b : List (List ℕ)) (x y : List ℕ) → AllByRecursion AreBytes a → AllByRecursion AreBytes b → map file_name a ++ x ∷ [] ≡ map file_name b ++ y ∷ [] → (a ≡ b) × (x ≡ y)
 same_pieces [] [] x y small_a small_b e = (refl, (lists x y [] [] e).0)
 same_pieces [] (t ∷ b) x y small_a small_b e = absurd (some_last (map file_name b) y (sym (lists x (file_name t) [] (map file_name b ++ y ∷ []) e).1))
 same_pieces (s ∷ a) [] x y small_a small_b e = absurd (some_last (map file_name a) x (lists (file_name s) y (map file_name a ++ x ∷ []) [] e).1)
@@ -81,21 +82,21 @@ same_pieces (s ∷ a) (t ∷ b) x y small_a small_b e =
     let rest = same_pieces a b x y small_a.1 small_b.1 one.1 in
     (ap (λ seg. seg ∷ a) (same_name s t small_a.0 small_b.0 one.0) ∙ ap (λ segs. t ∷ segs) rest.0, rest.1)
 
-same_place : (a b : List (List ℕ)) (x y : List ℕ) → AllByRecursion are_bytes a → AllByRecursion are_bytes b → list_all is_file_name_byte x ≡ true → list_all is_file_name_byte y ≡ true
+same_place : (a b : List (List ℕ)) (x y : List ℕ) → AllByRecursion AreBytes a → AllByRecursion AreBytes b → list_all is_file_name_byte x ≡ true → list_all is_file_name_byte y ≡ true
     → folder_name a ++ x ≡ folder_name b ++ y → (a ≡ b) × (x ≡ y)
 same_place a b x y small_a small_b ok_x ok_y e = same_pieces a b x y small_a small_b (sym (pieces_body a x ok_x) ∙ ap pieces e ∙ pieces_body b y ok_y)
 
 -- ---- the files of pages and folders
 
-pub bodies : (a b : List (List ℕ)) (x y : List ℕ) → AllByRecursion are_bytes a → AllByRecursion are_bytes b → are_bytes x → are_bytes y → body_name a x ≡ body_name b y → (a ≡ b) × (x ≡ y)
+pub bodies : (a b : List (List ℕ)) (x y : List ℕ) → AllByRecursion AreBytes a → AllByRecursion AreBytes b → AreBytes x → AreBytes y → body_name a x ≡ body_name b y → (a ≡ b) × (x ≡ y)
 bodies a b x y small_a small_b small_x small_y e =
     let place = same_place a b (file_name x) (file_name y) small_a small_b (bytes_ok x) (bytes_ok y) e in
     (place.0, same_name x y small_x small_y place.1)
 
-pub heads : (a b : List (List ℕ)) (x y : List ℕ) → AllByRecursion are_bytes a → AllByRecursion are_bytes b → are_bytes x → are_bytes y → head_name a x ≡ head_name b y → (a ≡ b) × (x ≡ y)
+pub heads : (a b : List (List ℕ)) (x y : List ℕ) → AllByRecursion AreBytes a → AllByRecursion AreBytes b → AreBytes x → AreBytes y → head_name a x ≡ head_name b y → (a ≡ b) × (x ≡ y)
 heads a b x y small_a small_b small_x small_y e = bodies a b x y small_a small_b small_x small_y (append_cancel_right (body_name a x) (body_name b y) (codes "%h") e)
 
-pub stats : (a b : List (List ℕ)) → AllByRecursion are_bytes a → AllByRecursion are_bytes b → stat_name a ≡ stat_name b → mangled_segs a ≡ mangled_segs b
+pub stats : (a b : List (List ℕ)) → AllByRecursion AreBytes a → AllByRecursion AreBytes b → stat_name a ≡ stat_name b → mangled_segs a ≡ mangled_segs b
 stats a b small_a small_b e = (same_place (mangled_segs a) (mangled_segs b) (codes ".stat") (codes ".stat") (all_mangled a small_a) (all_mangled b small_b) refl refl e).0
 
 -- no file's name ends in `%` and one byte, as a head's does
@@ -146,7 +147,7 @@ after_folder mark (seg ∷ folder) xs t e =
 pub head_bytes : (x : List ℕ) → list_all is_file_name_byte (file_name x ++ codes "%h") ≡ true
 head_bytes x = list_all-append is_file_name_byte (file_name x) (codes "%h") ∙ both _ _ (bytes_ok x) refl
 
-pub head_not_body : (a b : List (List ℕ)) (x y : List ℕ) → AllByRecursion are_bytes a → AllByRecursion are_bytes b → head_name a x ≢ body_name b y
+pub head_not_body : (a b : List (List ℕ)) (x y : List ℕ) → AllByRecursion AreBytes a → AllByRecursion AreBytes b → head_name a x ≢ body_name b y
 head_not_body a b x y small_a small_b e =
     no_ending 104 y (file_name x) (sym (same_place a b (file_name x ++ codes "%h") (file_name y) small_a small_b (head_bytes x) (bytes_ok y)
     (append_both (folder_name a) (file_name x) (codes "%h") ∙ e)).1)
@@ -159,18 +160,18 @@ no_dot (c ∷ y) more rest file e =
     let dot : c ≡ 46 = (first_byte c (is_plain_name_byte c) (file_name y ++ more) rest (append_both (file_byte c) (file_name y) more ∙ e)).0 in
     true≢false (sym (ap (λ b. nat_eq b 46) dot) ∙ file_first (c ∷ y) file)
 
-pub dot_not_body : (a b : List (List ℕ)) (rest y : List ℕ) → AllByRecursion are_bytes a → AllByRecursion are_bytes b → list_all is_file_name_byte (46 ∷ rest) ≡ true → is_file y ≡ true
+pub dot_not_body : (a b : List (List ℕ)) (rest y : List ℕ) → AllByRecursion AreBytes a → AllByRecursion AreBytes b → list_all is_file_name_byte (46 ∷ rest) ≡ true → is_file y ≡ true
     → folder_name a ++ 46 ∷ rest ≢ body_name b y
 dot_not_body a b rest y small_a small_b ok file e =
     no_dot y [] rest file (append-nil (file_name y) ∙ sym (same_place a b (46 ∷ rest) (file_name y) small_a small_b ok (bytes_ok y) e).1)
 
-pub dot_not_head : (a b : List (List ℕ)) (rest y : List ℕ) → AllByRecursion are_bytes a → AllByRecursion are_bytes b → list_all is_file_name_byte (46 ∷ rest) ≡ true → is_file y ≡ true
+pub dot_not_head : (a b : List (List ℕ)) (rest y : List ℕ) → AllByRecursion AreBytes a → AllByRecursion AreBytes b → list_all is_file_name_byte (46 ∷ rest) ≡ true → is_file y ≡ true
     → folder_name a ++ 46 ∷ rest ≢ head_name b y
 dot_not_head a b rest y small_a small_b ok file e =
     no_dot y (codes "%h") rest file (sym (same_place a b (46 ∷ rest) (file_name y ++ codes "%h") small_a small_b ok (head_bytes y)
     (e ∙ sym (append_both (folder_name b) (file_name y) (codes "%h")))).1)
 
-pub epoch_not_stat : (a : List (List ℕ)) → AllByRecursion are_bytes a → stat_name a ≢ epoch_name
+pub epoch_not_stat : (a : List (List ℕ)) → AllByRecursion AreBytes a → stat_name a ≢ epoch_name
 epoch_not_stat a small e =
     let last : codes ".stat" ≡ codes ".epoch" = (same_place (mangled_segs a) [] (codes ".stat") (codes ".epoch") (all_mangled a small) tt refl refl e).1 in
     let letter : 115 ≡ 101 = ap (λ l. get_or l 1 0) last in

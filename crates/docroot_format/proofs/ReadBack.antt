@@ -129,9 +129,9 @@ pub head_read : (e c n : ℕ) (kind : List ℕ) → e < 2 ^ 64 → c < 2 ^ 64 �
 unfolding head_of after_word
 head_read e c n kind short_e short_c short_n good =
     let rest : List ℕ = codes " " ++ (decimal n ++ (codes " " ++ (kind ++ codes "\n"))) in
-    let front : List ℕ = ((codes "page 1 " ++ decimal e) ++ codes " ") ++ decimal c in
-    ap head_of (sym (append_both (((front ++ codes " ") ++ decimal n) ++ codes " ") kind (codes "\n"))
-    ∙ flat front (codes " ") (decimal n) (codes " ") (kind ++ codes "\n")
+    let leading : List ℕ = ((codes "page 1 " ++ decimal e) ++ codes " ") ++ decimal c in
+    ap head_of (sym (append_both (((leading ++ codes " ") ++ decimal n) ++ codes " ") kind (codes "\n"))
+    ∙ flat leading (codes " ") (decimal n) (codes " ") (kind ++ codes "\n")
     ∙ flat (codes "page 1 ") (decimal e) (codes " ") (decimal c) rest)
     ∙ ap (option_and_then (λ s. body_of s.0 s.1)) (stamp_read e c rest short_e short_c refl)
     ∙ body_read (e, c) n kind short_n good

@@ -18,10 +18,10 @@ use Rattle.docroot_format.proofs.ReadBack.{digit, ends}
 
 digit_spelled : (m k : ℕ) → 1 ≤ m → k < 10 → m * 10 + k < 2 ^ 64 → decimal (m * 10 + k) ≡ decimal m ++ (48 + k) ∷ []
 digit_spelled m k some small short =
-    let front : (m * 10 + k) / 10 ≡ m = omega (arith, small) in
+    let leading : (m * 10 + k) / 10 ≡ m = omega (arith, small) in
     let last : (m * 10 + k) % 10 ≡ k = omega (arith, small) in
     decimal_step (m * 10 + k) (omega (arith, some)) short
-    ∙ ap (λ q. decimal q ++ (48 + (m * 10 + k) % 10) ∷ []) front
+    ∙ ap (λ q. decimal q ++ (48 + (m * 10 + k) % 10) ∷ []) leading
     ∙ ap (λ r. decimal m ++ (48 + r) ∷ []) last
 
 digits_spelled : (t : List ℕ) (m : ℕ) → 1 ≤ m → decimal m ++ t ≡ decimal (digits_from m t).0 ++ (digits_from m t).1

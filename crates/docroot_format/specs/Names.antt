@@ -1,8 +1,9 @@
 -- The names of the files of the docroot.
 -- `longest_folder_name` and `longest_stat_name` are needed by private functions alone.
-use Rattle.std.specs.Prelude.{◌≡◌, ◌<◌, ◌==◌, ◌||◌, ◌&&◌, ◌++◌, ◌∷◌, [], ℕ, Bool, IsTrue, not, List, codes, flat_map, length, nat_eq, nat_lt, slice_index}
+use Rattle.std.specs.Prelude.{◌≡◌, ◌==◌, ◌||◌, ◌&&◌, ◌++◌, ◌∷◌, [], ℕ, Bool, IsTrue, not, List, codes, flat_map, length, nat_eq, nat_lt, slice_index}
 use Rattle.std.specs.Cmp.Lexicographic.{pointwise}
 use Rattle.std.specs.List.{AllByRecursion, list_all}
+use Rattle.sp_base.specs.Bytes.{AreBytes}
 use Rattle.sp_base.specs.Paths.{is_dots, is_empty, mangled_segs, pieces}
 use Rattle.cover_rules.specs.declared.page.PageKey.{PageKey}
 use Rattle.cover_rules.specs.Names.{file_name, has_file_name, is_plain_name_byte}
@@ -79,10 +80,6 @@ is_stat_file name = has_segments name && pointwise nat_eq (last_segment (pieces 
 abbrev pub beside_ending : List ℕ
 beside_ending = codes "%t"
 
--- a segment's bytes, as of every text
-abbrev pub are_bytes : List ℕ → Type 0
-are_bytes seg = AllByRecursion (λ b. b < 256) seg
-
 -- the key of a page whose segments have bytes
 abbrev pub IsTextKey : PageKey → Type 0
-IsTextKey key = AllByRecursion are_bytes key.folder × are_bytes key.file
+IsTextKey key = AllByRecursion AreBytes key.folder × AreBytes key.file

@@ -1,12 +1,13 @@
 //! What follows from the definitions of names and texts: laws, on functions that do nothing.
 ghost use Rattle.std.specs.Prelude.{◌≡◌, ◌≢◌, ◌<◌, ◌^◌, ◌++◌, ◌∷◌, [], ℕ, List, Contains, IsTrue, Some, false};
+ghost use Rattle.sp_base.specs.Bytes.{AreBytes};
 ghost use Rattle.cover_rules.specs.declared.page.PageKey.{PageKey};
 ghost use Rattle.cover_rules.specs.declared.invalidation.Invalidation.{Invalidation};
 ghost use Rattle.cover_rules.specs.Coverage.{stat_folder, touched_of};
 ghost use Rattle.cover_rules.specs.Pages.{page_key_of, page_path};
 ghost use Rattle.sp_base.specs.Paths.{is_path, mangled_segs};
 ghost use Rattle.std.specs.List.{AllByRecursion};
-ghost use Rattle.docroot_format.specs.Names.{beside_ending, body_name, epoch_name, have_names, head_name, is_inside, is_page_file, is_place, is_stat_file, stat_name, IsFolder, IsTextKey, are_bytes};
+ghost use Rattle.docroot_format.specs.Names.{beside_ending, body_name, epoch_name, have_names, head_name, is_inside, is_page_file, is_place, is_stat_file, stat_name, IsFolder, IsTextKey};
 ghost use Rattle.docroot_format.specs.Readings.{HeadLine, epoch_of, head_of, is_kind, stat_of};
 ghost use Rattle.docroot_format.specs.Texts.{epoch_text, head_text, stat_text};
 
@@ -34,7 +35,7 @@ pub fn folders_are_mangled()
 
 /// The key of a page whose path is of texts is of texts.
 pub fn keys_are_of_texts()
-    ensures { (path : List (List ℕ)) (key : PageKey) → AllByRecursion are_bytes path → page_key_of path ≡ Some key → IsTextKey key }
+    ensures { (path : List (List ℕ)) (key : PageKey) → AllByRecursion AreBytes path → page_key_of path ≡ Some key → IsTextKey key }
 {}
 
 /// A key is of texts, as the laws on different keys want it.
@@ -47,7 +48,7 @@ pub fn a_key_is_of_texts(key: &PageKey)
 
 /// A path is of texts, as the laws on different folders want it.
 pub fn a_path_is_of_texts(path: &Path)
-    ensures { AllByRecursion are_bytes path.now }
+    ensures { AllByRecursion AreBytes path.now }
 {
     let _spelling = path.spelling().as_bytes();
 }
@@ -82,13 +83,13 @@ pub fn names_lie_in_the_docroot()
 pub fn names_are_apart()
     ensures bodies { (key other : PageKey) → IsTextKey key → IsTextKey other → body_name key.folder key.file ≡ body_name other.folder other.file → key ≡ other }
     ensures heads { (key other : PageKey) → IsTextKey key → IsTextKey other → head_name key.folder key.file ≡ head_name other.folder other.file → key ≡ other }
-    ensures stats { (folder other : List (List ℕ)) → AllByRecursion are_bytes folder → AllByRecursion are_bytes other → stat_name folder ≡ stat_name other → mangled_segs folder ≡ mangled_segs other }
+    ensures stats { (folder other : List (List ℕ)) → AllByRecursion AreBytes folder → AllByRecursion AreBytes other → stat_name folder ≡ stat_name other → mangled_segs folder ≡ mangled_segs other }
     ensures head { (key other : PageKey) → IsTextKey key → IsTextKey other → head_name key.folder key.file ≢ body_name other.folder other.file }
-    ensures stat_body { (folder : List (List ℕ)) (key : PageKey) → AllByRecursion are_bytes folder → IsTextKey key → page_key_of (page_path key) ≡ Some key → stat_name folder ≢ body_name key.folder key.file }
-    ensures stat_head { (folder : List (List ℕ)) (key : PageKey) → AllByRecursion are_bytes folder → IsTextKey key → page_key_of (page_path key) ≡ Some key → stat_name folder ≢ head_name key.folder key.file }
+    ensures stat_body { (folder : List (List ℕ)) (key : PageKey) → AllByRecursion AreBytes folder → IsTextKey key → page_key_of (page_path key) ≡ Some key → stat_name folder ≢ body_name key.folder key.file }
+    ensures stat_head { (folder : List (List ℕ)) (key : PageKey) → AllByRecursion AreBytes folder → IsTextKey key → page_key_of (page_path key) ≡ Some key → stat_name folder ≢ head_name key.folder key.file }
     ensures epoch_body { (key : PageKey) → IsTextKey key → page_key_of (page_path key) ≡ Some key → epoch_name ≢ body_name key.folder key.file }
     ensures epoch_head { (key : PageKey) → IsTextKey key → page_key_of (page_path key) ≡ Some key → epoch_name ≢ head_name key.folder key.file }
-    ensures epoch_stat { (folder : List (List ℕ)) → AllByRecursion are_bytes folder → stat_name folder ≢ epoch_name }
+    ensures epoch_stat { (folder : List (List ℕ)) → AllByRecursion AreBytes folder → stat_name folder ≢ epoch_name }
 {}
 
 /// The files of pages and the .stat files are told by their names: a page's body and head are page files, a folder's stamp is a .stat

@@ -136,11 +136,11 @@ end_one s (Continue ∷ Whole r ∷ turns) e f x y =
 -- ---- at such an end
 
 -- each target that ends after a run of a target's bytes begins with that run
-further : (front target after more : List ℕ) → AllPass is_uri_byte front → AllPass is_uri_byte target → front ++ more ≡ target ++ 32 ∷ after → (k : List ℕ) × AllPass is_uri_byte k × (target ≡ front ++ k)
+further : (leading target after more : List ℕ) → AllPass is_uri_byte leading → AllPass is_uri_byte target → leading ++ more ≡ target ++ 32 ∷ after → (k : List ℕ) × AllPass is_uri_byte k × (target ≡ leading ++ k)
 further [] target after more passes visible e = (target, visible, refl)
-further (b ∷ front) [] after more passes visible e = let pass = All-head Passes b front passes in absurd (cc)
-further (b ∷ front) (d ∷ target) after more passes visible e =
-    let later = further front target after more (All-tail Passes b front passes) (All-tail Passes d target visible) (cc) in
+further (b ∷ leading) [] after more passes visible e = let pass = All-head Passes b leading passes in absurd (cc)
+further (b ∷ leading) (d ∷ target) after more passes visible e =
+    let later = further leading target after more (All-tail Passes b leading passes) (All-tail Passes d target visible) (cc) in
     (later.0, later.1, cc)
 
 -- no bytes make a head of what ends within such a target

@@ -116,11 +116,11 @@ section_in h = omega (arith, head_long h, length-append (flat_map print_field h.
 -- bytes that are no more than a head may have don't hold more fields than 8,192
 pub room_is_enough : (bytes : List ℕ) → length bytes ≤ longest_head → RequestExceeds 8192 bytes → ⊥
 room_is_enough bytes small e =
-    let front = e.0 in
+    let leading = e.0 in
     let rest = e.1 in
     let head = e.3 in
-    let reads : ReadsRequest (front ++ print_end lf) head [] = e.4 in
+    let reads : ReadsRequest (leading ++ print_end lf) head [] = e.4 in
     let many : 8192 < length head.fields = e.5 in
-    let size : length (front ++ print_end lf) ≡ length (print_request head) + 0 = ap length reads.1 ∙ length-append (print_request head) [] in
-    let cut : length bytes ≡ length front + length rest = ap length e.2 ∙ length-append front rest in
-    omega (arith, small, many, size, cut, length-append front (print_end lf), section_in head, fields_long head.fields reads.0.fields)
+    let size : length (leading ++ print_end lf) ≡ length (print_request head) + 0 = ap length reads.1 ∙ length-append (print_request head) [] in
+    let cut : length bytes ≡ length leading + length rest = ap length e.2 ∙ length-append leading rest in
+    omega (arith, small, many, size, cut, length-append leading (print_end lf), section_in head, fields_long head.fields reads.0.fields)

@@ -1,3 +1,4 @@
+-- What stands before a place of a target, its last slash, and which bytes are a text.
 use Rattle.std.proofs.Common.{◌≡◌, ◌≢◌, ◌<◌, ◌+◌, ◌-◌, ◌++◌, ℕ, Bool, true, false, cond, List, [], ◌∷◌, Some, None, length, length-append, take, get_or, position, sym, ◌∙◌, ap, refl, arith}
 use Rattle.std.proofs.lemmas.Bool.{ltb-false}
 use Rattle.std.proofs.lemmas.Bool.Decides.{nat_tests}
@@ -40,13 +41,13 @@ ends_after text e =
     ∙ ap (λ b. take n text ++ b ∷ []) last
 
 -- a text that isn't one with a slash after it doesn't end in one
-pub ends_otherwise : (text : List ℕ) → ((front : List ℕ) → text ≢ front ++ 47 ∷ []) → ends_in_slash text ≡ false
+pub ends_otherwise : (text : List ℕ) → ((leading : List ℕ) → text ≢ leading ++ 47 ∷ []) → ends_in_slash text ≡ false
 ends_otherwise text other = not_true (ends_in_slash text) (λ e. other (take (length text - 1) text) (ends_after text e))
 
 -- the slash alone is the root, whose slash stays
-pub slash_alone : (text front : List ℕ) → text ≡ front ++ 47 ∷ [] → length front ≡ 0 → ends_in_slash text ≡ false
-slash_alone text front e none =
-    let one : length text ≡ 1 = ap length e ∙ length-append front (47 ∷ []) ∙ omega (arith, none) in
+pub slash_alone : (text leading : List ℕ) → text ≡ leading ++ 47 ∷ [] → length leading ≡ 0 → ends_in_slash text ≡ false
+slash_alone text leading e none =
+    let one : length text ≡ 1 = ap length e ∙ length-append leading (47 ∷ []) ∙ omega (arith, none) in
     not_true (ends_in_slash text) (λ h. let long : 1 < length text = grind (arith, nat_tests) in omega (arith, one, long))
 
 pub stays : (text : List ℕ) → ends_in_slash text ≡ false → text ≡ without_slash text

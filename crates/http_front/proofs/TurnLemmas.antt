@@ -37,14 +37,14 @@ take_whole (suc n) [] h = refl
 take_whole (suc n) (x ∷ xs) h = ap (λ zs. x ∷ zs) (take_whole n xs (omega (arith, h)))
 
 -- what stands before is one, where its length is
-front_same : (xs ys r q : List ℕ) → xs ++ r ≡ ys ++ q → length xs ≡ length ys → (xs ≡ ys) × (r ≡ q)
-front_same [] [] r q e l = (refl, e)
-front_same [] (y ∷ ys) r q e l = absurd (omega (arith, l))
-front_same (x ∷ xs) [] r q e l = absurd (omega (arith, l))
-front_same (x ∷ xs) (y ∷ ys) r q e l =
+leading_same : (xs ys r q : List ℕ) → xs ++ r ≡ ys ++ q → length xs ≡ length ys → (xs ≡ ys) × (r ≡ q)
+leading_same [] [] r q e l = (refl, e)
+leading_same [] (y ∷ ys) r q e l = absurd (omega (arith, l))
+leading_same (x ∷ xs) [] r q e l = absurd (omega (arith, l))
+leading_same (x ∷ xs) (y ∷ ys) r q e l =
     let head : x ≡ y = cc in
     let tail : xs ++ r ≡ ys ++ q = cc in
-    let rest = front_same xs ys r q tail (omega (arith, l)) in
+    let rest = leading_same xs ys r q tail (omega (arith, l)) in
     (λ i. head i ∷ rest.0 i, rest.1)
 
 none_some : {A : Type 0} (o : Option A) (x : A) → o ≡ None → o ≡ Some x → ⊥
@@ -148,7 +148,7 @@ request_same s more x y r q rest after b c =
     let joined : b.body.body ++ (rest ++ more) ≡ c.body.body ++ after =
     sym (append_assoc b.body.body rest more) ∙ ap (λ xs. xs ++ more) (sym b.body.joined) ∙ same.1 ∙ c.body.joined in
     let sizes : length b.body.body ≡ length c.body.body = b.body.whole ∙ ap (λ h. h.body_length) same.0 ∙ sym c.body.whole in
-    let cut = front_same b.body.body c.body.body (rest ++ more) after joined sizes in (
+    let cut = leading_same b.body.body c.body.body (rest ++ more) after joined sizes in (
       sym b.awaits_is ∙ ap (λ h. h.awaits_continue) same.0 ∙ c.awaits_is,
       b.body.request_is ∙ (λ i. with_body (same.0 i) (cut.0 i)) ∙ sym c.body.request_is,
       cut.1,

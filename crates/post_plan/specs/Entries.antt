@@ -4,6 +4,7 @@ use Rattle.std.specs.Prelude.{◌==◌, ◌&&◌, ℕ, Bool, true, false, not, i
 use Rattle.std.specs.List.{cons_option, filter_map, list_any}
 use Rattle.std.specs.Str.{bytes_eq}
 use Rattle.std.specs.Cmp.Lexicographic.{pointwise}
+use Rattle.sp_base.specs.Bytes.{first_text}
 use Rattle.sp_base.specs.declared.hint.Hint.{Hint}
 use Rattle.post_plan.specs.declared.suffix.Suffix.{Suffix}
 use Rattle.post_plan.specs.declared.suffix.Suffix.TheVariants.{Plain, TypeHint, DefaultValue, Delete, MoveFrom, CopyFrom, ValueFrom, IgnoreBlanks}
@@ -93,11 +94,6 @@ is_of_spot spot suffix e = same_suffix suffix e.suffix && same_spot spot e.spot
 abbrev pub words_at : Spot → Suffix → List Entry → List (List ℕ)
 words_at spot suffix es = map (λ e. e.word) (filter (is_of_spot spot suffix) es)
 
--- the first word, where there is one
-abbrev pub first_entry_text : List (List ℕ) → Option (List ℕ)
-first_entry_text [] = None
-first_entry_text (word ∷ more) = Some word
-
 -- its own words, or those of the parameter that `@ValueFrom` names
 abbrev pub words_or_source : Option (List ℕ) → List (List ℕ × List ℕ) → List (List ℕ) → List (List ℕ)
 words_or_source None pairs own = own
@@ -132,8 +128,8 @@ words_or_defaults (default ∷ more) words = if is_one_blank words then default 
 -- the words that a spot is set to
 abbrev pub set_words : List (List ℕ × List ℕ) → List Entry → Spot → List (List ℕ)
 set_words pairs es spot = words_or_defaults (words_at spot DefaultValue es)
-    (without_blanks (is_word_true (first_entry_text (words_at spot IgnoreBlanks es)))
-    (words_or_source (first_entry_text (words_at spot ValueFrom es)) pairs (words_at spot Plain es)))
+    (without_blanks (is_word_true (first_text (words_at spot IgnoreBlanks es)))
+    (words_or_source (first_text (words_at spot ValueFrom es)) pairs (words_at spot Plain es)))
 
 -- what sets a spot to words, where there is one at least
 abbrev pub set_by : Spot → Option Hint → List (List ℕ) → Option PropSet
@@ -142,7 +138,7 @@ set_by spot hint (word ∷ more) = Some (record { spot = spot; hint = hint; word
 
 -- the type that a spot's parameters ask for
 abbrev pub hint_at : List Entry → Spot → Option Hint
-hint_at es spot = option_and_then hint_of (first_entry_text (words_at spot TypeHint es))
+hint_at es spot = option_and_then hint_of (first_text (words_at spot TypeHint es))
 
 -- what sets a spot, by all parameters and entries
 abbrev pub set_of : List (List ℕ × List ℕ) → List Entry → Spot → Option PropSet

@@ -3,6 +3,7 @@ ghost use Rattle.std.specs.Prelude.{◌≡◌, ◌++◌, [], IfOk, OnOk, option_
 ghost use Rattle.std.specs.Cmp.Lexicographic.{pointwise};
 ghost use Rattle.std.specs.List.{cons_option};
 ghost use Rattle.std.specs.Str.{bytes_eq};
+ghost use Rattle.sp_base.specs.Bytes.{first_text};
 ghost use Rattle.post_plan.specs.Entries as spec;
 ghost use Rattle.post_plan.specs.Parameters.{words_of};
 
@@ -42,7 +43,7 @@ fn is_at(spot: &Spot, suffix: Suffix, entry: &Entry) -> bool
 
 // The word of the first parameter of a spot with a suffix.
 fn first_at<'a>(spot: &Spot, suffix: Suffix, entries: &[Entry<'a>]) -> Option<&'a str>
-    ensures { option_copied result ≡ spec.first_entry_text (spec.words_at spot.now suffix entries.now) }
+    ensures { option_copied result ≡ first_text (spec.words_at spot.now suffix entries.now) }
 {
     let mut rest = entries;
     while let [entry, more @ ..] = rest {
@@ -129,7 +130,7 @@ fn given<'a>(
     spot: &Spot,
     entries: &[Entry<'a>],
 ) -> Mem<LentWords<'a>>
-    ensures { IfOk result (λ l. l ≡ spec.words_or_source (spec.first_entry_text (spec.words_at spot.now Suffix.ValueFrom entries.now)) pairs.now (spec.words_at spot.now Suffix.Plain entries.now)) }
+    ensures { IfOk result (λ l. l ≡ spec.words_or_source (first_text (spec.words_at spot.now Suffix.ValueFrom entries.now)) pairs.now (spec.words_at spot.now Suffix.Plain entries.now)) }
 {
     match first_at(spot, Suffix::ValueFrom, entries) {
         Some(name) => words_of(alloc, name, pairs),

@@ -1,3 +1,4 @@
+-- Lines of acts and the acts that they tell, one act more or less.
 use Rattle.std.proofs.Common.{◌≡◌, ◌≢◌, ◌++◌, ℕ, List, [], ◌∷◌, codes, map, length, length-append, sym, ◌∙◌, ap, refl, arith}
 use Rattle.replay_text.specs.Lines.{newlines, text_of_lines}
 use Rattle.replay_text.specs.Scenario.{IsActs, act_lines}

@@ -3,8 +3,8 @@ use Rattle.std.proofs.Common.{◌≡◌, ◌≢◌, ◌/◌, ◌%◌, ◌<◌, �
 use Rattle.std.specs.Prelude.{flat_map, nat_le}
 use Rattle.std.proofs.lemmas.Bool.{cases_eq, cases_lt}
 use Rattle.std.proofs.lemmas.Bool.Decides.{nat_tests}
+use Rattle.sp_base.specs.Bytes.{AreBytes}
 use Rattle.replay_text.specs.Transcript.{hex, quoted_byte, quotation}
-use Rattle.replay_text.specs.EventLines.{AreBytes}
 use Rattle.replay_text.specs.Quoting.{unhex, escaped_byte, spelled_byte, BeginsNoByte}
 
 unhex_small : (n : ℕ) → n < 10 → unhex (hex n) ≡ n

@@ -1,3 +1,4 @@
+-- A text over the limit is refused as its allowed prefix is.
 use Rattle.std.proofs.Common.{◌≡◌, ◌+◌, ◌<◌, ◌≤◌, ◌++◌, ℕ, List, [], ◌∷◌, length, take, sym, ◌∙◌, ap, subst, refl, arith, ⊎_elim, length-append}
 use Rattle.std.proofs.lemmas.List.{append-nil, take-append-le, take-take, length-take, length-take-le}
 use Rattle.std.proofs.lemmas.Bool.{cases_lt}
@@ -6,7 +7,7 @@ use Rattle.replay_text.specs.Languages.{IsPrefixIn, IsRefusedAt, IsRefusedWithin
 use Rattle.replay_text.specs.Reading.{Refuses}
 use Rattle.replay_text.specs.declared.scenario.ScenarioFault.{ScenarioFault}
 use Rattle.replay_text.specs.declared.scenario.ScenarioFault.TheVariants.{Line, NoMemory}
-use Rattle.replay_text.proofs.Refusals.{begins_front}
+use Rattle.replay_text.proofs.Refusals.{begins_leading}
 
 -- a text that isn't too long is refused as ever
 pub within_short : (A : List ℕ → Type 0) (most : ℕ) (text : List ℕ) (n : ℕ) → length text ≤ most → IsRefusedAt A text n → IsRefusedWithin most A text n
@@ -49,7 +50,7 @@ pub long_whole : (A : List ℕ → Type 0) (most : ℕ) (text : List ℕ) → mo
 long_whole A most text long h = within_long A most text (newlines (take most text)) long
     (λ at less begins not.
     let next : take (at + 1) (take most text) ≡ take (at + 1) text = take-take (at + 1) most text (omega arith) in
-    absurd (not (subst (IsPrefixIn A) next (begins_front A (at + 1) (take most text) h))))
+    absurd (not (subst (IsPrefixIn A) next (begins_leading A (at + 1) (take most text) h))))
     (λ begins. refl)
 
 newlines_short : (text : List ℕ) → newlines text ≤ length text
@@ -66,14 +67,14 @@ refuses_short A most text (Line n) short r = (
 )
 refuses_short A most text NoMemory short r = tt
 
-long_front : (most : ℕ) (text rest : List ℕ) → most < length text → take most (text ++ rest) ≡ take most text
-long_front most text rest long = take-append-le most text rest (omega arith)
+long_leading : (most : ℕ) (text rest : List ℕ) → most < length text → take most (text ++ rest) ≡ take most text
+long_leading most text rest long = take-append-le most text rest (omega arith)
 
 pub refuses_long : (A : List ℕ → Type 0) (most : ℕ) (text : List ℕ) (fault : ScenarioFault) → most < length text → Refuses A (take most text) fault
     → RefusesWithin most A text fault
 refuses_long A most text (Line n) long r = (
   (λ rest none. long_refused A most (text ++ rest) n (omega (arith, length-append text rest))
-      (subst (λ t. IsRefusedAt A t n) (sym (long_front most text rest long)) r.0)),
+      (subst (λ t. IsRefusedAt A t n) (sym (long_leading most text rest long)) r.0)),
   omega (arith, r.1, length-take most text),
 )
 refuses_long A most text NoMemory long r = tt
@@ -81,7 +82,7 @@ refuses_long A most text NoMemory long r = tt
 pub refuses_whole : (A : List ℕ → Type 0) (most : ℕ) (text : List ℕ) → most < length text → A (take most text)
     → RefusesWithin most A text (Line (newlines (take most text)))
 refuses_whole A most text long h = (
-  (λ rest none. let same = long_front most text rest long in
+  (λ rest none. let same = long_leading most text rest long in
       subst (λ k. IsRefusedWithin most A (text ++ rest) (newlines k)) same
       (long_whole A most (text ++ rest) (omega (arith, length-append text rest)) (subst A (sym same) h))),
   omega (arith, newlines_short (take most text), length-take most text),

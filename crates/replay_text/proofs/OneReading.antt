@@ -1,3 +1,4 @@
+-- A text has one reading, and one line where it is refused.
 use Rattle.std.proofs.Common.{◌≡◌, ◌≢◌, ◌+◌, ◌≤◌, ◌++◌, ⊎_elim, ℕ, zero, suc, List, [], ◌∷◌, Option, Some, None, codes, map, length, take, sym, ◌∙◌, ap, subst, refl, arith}
 use Rattle.std.proofs.lemmas.List.{take_all}
 use Rattle.std.proofs.lemmas.Bool.{cases_eq}
@@ -13,21 +14,21 @@ use Rattle.replay_text.proofs.TailLaws.{dotted}
 use Rattle.replay_text.proofs.BodyLaws.{before_first, before_content, some_body}
 
 -- A text is refused at one line: the definition leaves no choice.
-not_not_front : (Text Front : List ℕ → Type 0) (bytes : List ℕ) (n m : ℕ) → IsRefusedBy Text Front bytes n → IsRefusedBy Text Front bytes m
-    → n ≢ m → Front [] → (k : ℕ) → k ≤ length bytes → (Front (take k bytes) → ⊥) → ⊥
-not_not_front Text Front bytes n m p q apart start zero le not = not start
-not_not_front Text Front bytes n m p q apart start (suc k) le not =
-    not_not_front Text Front bytes n m p q apart start k (omega arith) (λ here.
+not_not_leading : (Text Leading : List ℕ → Type 0) (bytes : List ℕ) (n m : ℕ) → IsRefusedBy Text Leading bytes n → IsRefusedBy Text Leading bytes m
+    → n ≢ m → Leading [] → (k : ℕ) → k ≤ length bytes → (Leading (take k bytes) → ⊥) → ⊥
+not_not_leading Text Leading bytes n m p q apart start zero le not = not start
+not_not_leading Text Leading bytes n m p q apart start (suc k) le not =
+    not_not_leading Text Leading bytes n m p q apart start k (omega arith) (λ here.
     let next : k + 1 ≡ suc k = omega arith in
-    let no : Front (take (k + 1) bytes) → ⊥ = λ h. not (subst (λ j. Front (take j bytes)) next h) in
+    let no : Leading (take (k + 1) bytes) → ⊥ = λ h. not (subst (λ j. Leading (take j bytes)) next h) in
     apart (sym (p.first k (omega arith) here no) ∙ q.first k (omega arith) here no))
 
-pub refused_once : (Text Front : List ℕ → Type 0) (bytes : List ℕ) (n m : ℕ) → Front [] → IsRefusedBy Text Front bytes n
-    → IsRefusedBy Text Front bytes m → n ≡ m
-refused_once Text Front bytes n m start p q = ⊎_elim
+pub refused_once : (Text Leading : List ℕ → Type 0) (bytes : List ℕ) (n m : ℕ) → Leading [] → IsRefusedBy Text Leading bytes n
+    → IsRefusedBy Text Leading bytes m → n ≡ m
+refused_once Text Leading bytes n m start p q = ⊎_elim
     (λ (same : n ≡ m). same)
-    (λ (apart : n ≢ m). absurd (not_not_front Text Front bytes n m p q apart start (length bytes) (omega arith) (λ here.
-    let all = subst Front (take_all (length bytes) bytes (omega arith)) here in
+    (λ (apart : n ≢ m). absurd (not_not_leading Text Leading bytes n m p q apart start (length bytes) (omega arith) (λ here.
+    let all = subst Leading (take_all (length bytes) bytes (omega arith)) here in
     apart (sym (p.early all) ∙ q.early all))))
     (cases_eq n m)
 

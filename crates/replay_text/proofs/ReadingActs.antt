@@ -1,3 +1,4 @@
+-- How far a reader of acts has come, and the line where it refuses.
 use Rattle.std.proofs.Common.{◌≡◌, ◌≢◌, ◌+◌, ◌≤◌, ◌++◌, ℕ, List, [], ◌∷◌, codes, map, take, sym, ◌∙◌, ap, subst, refl, arith, length, append_assoc, length-append}
 use Rattle.std.proofs.lemmas.List.{take_at}
 use Rattle.replay_text.specs.Lines.{newlines, text_of_lines}
@@ -32,12 +33,12 @@ pub after_line : (A B : List ℕ → Type 0) (line rest : List ℕ) (n : ℕ) �
     → ((r : List ℕ) → A (line ++ 10 ∷ r) → B r) → ((r : List ℕ) → B r → A (line ++ 10 ∷ r)) → (w : List ℕ) → B w
     → IsRefusedAt B rest n → IsRefusedAt A (line ++ 10 ∷ rest) (1 + n)
 after_line A B line rest n one to from w b refused =
-    let front = line ++ 10 ∷ [] in
-    let whole : (r : List ℕ) → front ++ r ≡ line ++ 10 ∷ r = λ r. append_assoc line (10 ∷ []) r in
-    let r0 : IsRefusedAt A (front ++ rest) (newlines front + n) = refused_after A B front rest n
+    let leading = line ++ 10 ∷ [] in
+    let whole : (r : List ℕ) → leading ++ r ≡ line ++ 10 ∷ r = λ r. append_assoc line (10 ∷ []) r in
+    let r0 : IsRefusedAt A (leading ++ rest) (newlines leading + n) = refused_after A B leading rest n
     (λ r h. to r (subst A (whole r) h)) (λ r h. subst A (sym (whole r)) (from r h)) w b refused in
-    let count : newlines front + n ≡ 1 + n = omega (arith, newlines-append line (10 ∷ [])) in
-    subst (λ t. IsRefusedAt A t (1 + n)) (whole rest) (subst (λ k. IsRefusedAt A (front ++ rest) k) count r0)
+    let count : newlines leading + n ≡ 1 + n = omega (arith, newlines-append line (10 ∷ [])) in
+    subst (λ t. IsRefusedAt A t (1 + n)) (whole rest) (subst (λ k. IsRefusedAt A (leading ++ rest) k) count r0)
 
 are_push : (acts : List EventLine) (act : EventLine) → AreActs acts → IsEventLine act → AreActs (acts ++ act ∷ [])
 are_push [] act oks ok = (ok, tt)
@@ -53,12 +54,12 @@ pub passed_act : (text rest line after : List ℕ) (act : EventLine) (before : �
 passed_act text rest line after act before p f ok e =
     let here : rest ≡ line_of act ++ 10 ∷ after = f.is ∙ ap (λ l. l ++ 10 ∷ after) e in
     let one : newlines (line_of act) ≡ 0 = sym (ap newlines e) ∙ f.one in
-    let front = text_of_lines (map line_of p.acts) in
+    let leading = text_of_lines (map line_of p.acts) in
     record {
       acts = p.acts ++ act ∷ [];
       are = are_push p.acts act p.are ok;
-      text_is = p.text_is ∙ ap (λ t. front ++ t) (here ∙ sym (append_assoc (line_of act) (10 ∷ []) after))
-          ∙ sym (append_assoc front (line_of act ++ 10 ∷ []) after) ∙ ap (λ t. t ++ after) (sym (lines_push p.acts act));
+      text_is = p.text_is ∙ ap (λ t. leading ++ t) (here ∙ sym (append_assoc (line_of act) (10 ∷ []) after))
+          ∙ sym (append_assoc leading (line_of act ++ 10 ∷ []) after) ∙ ap (λ t. t ++ after) (sym (lines_push p.acts act));
       refused = λ n h.
           let r = after_line Acts Acts (line_of act) after n one (after_act act ok) (before_acts act ok) (text_of_lines (act_lines [])) no_acts h in
           let r1 : IsRefusedAt Acts text (before + (1 + n)) = p.refused (1 + n) (subst (λ t. IsRefusedAt Acts t (1 + n)) (sym here) r) in
@@ -74,14 +75,14 @@ passed_act text rest line after act before p f ok e =
 pub passed_all : (text rest line after : List ℕ) (before at : ℕ) → Passed text rest before
     → FirstLine rest line after → line ≡ 101 ∷ 110 ∷ 100 ∷ [] → after ≡ [] → at + length rest ≡ length text → (at ≤ length text) × SpellsActs text (take at text)
 passed_all text rest line after before at p f e none size =
-    let front = text_of_lines (map line_of p.acts) in
+    let leading = text_of_lines (map line_of p.acts) in
     let end : rest ≡ text_of_lines (codes "end" ∷ []) = f.is ∙ ap (λ l. l ++ 10 ∷ after) e ∙ ap (λ t. 101 ∷ 110 ∷ 100 ∷ 10 ∷ t) none in
-    let long : length front ≡ at = omega (arith, ap length p.text_is, length-append front rest, size) in (
+    let long : length leading ≡ at = omega (arith, ap length p.text_is, length-append leading rest, size) in (
       omega (arith, size),
       record {
         acts = p.acts;
-        acts_are = record { are = p.are; bytes_are = ap (take at) p.text_is ∙ take_at front rest at long };
-        text_is = p.text_is ∙ ap (λ t. front ++ t) end ∙ sym (text_of_lines-append (map line_of p.acts) (codes "end" ∷ []));
+        acts_are = record { are = p.are; bytes_are = ap (take at) p.text_is ∙ take_at leading rest at long };
+        text_is = p.text_is ∙ ap (λ t. leading ++ t) end ∙ sym (text_of_lines-append (map line_of p.acts) (codes "end" ∷ []));
       },
     )
 

@@ -41,13 +41,13 @@ prefix_lacks want text k more r one (inr l) e = ⊎_elim
     (λ (le : k < length l.0 + 1).
     ap (λ t. newlines (take k t)) l.2.is ∙ ap newlines (take-append-le k l.0 (10 ∷ l.1) (omega arith)) ∙ newlines-take k l.0 l.2.one)
     (λ (ge : length l.0 + 1 ≤ k).
-    let front = l.0 ++ 10 ∷ [] in
+    let leading = l.0 ++ 10 ∷ [] in
     let j = k - (length l.0 + 1) in
-    let size : length front ≡ length l.0 + 1 = length-append l.0 (10 ∷ []) in
-    let whole : text ≡ front ++ l.1 = l.2.is ∙ sym (append_assoc l.0 (10 ∷ []) l.1) in
-    let here : take k text ≡ front ++ take j l.1 = ap (take k) whole ∙ take_past k j front l.1 (omega arith) in
+    let size : length leading ≡ length l.0 + 1 = length-append l.0 (10 ∷ []) in
+    let whole : text ≡ leading ++ l.1 = l.2.is ∙ sym (append_assoc l.0 (10 ∷ []) l.1) in
+    let here : take k text ≡ leading ++ take j l.1 = ap (take k) whole ∙ take_past k j leading l.1 (omega arith) in
     let line : l.0 ++ 10 ∷ (take j l.1 ++ more) ≡ want ++ 10 ∷ r = sym (append_assoc l.0 (10 ∷ []) (take j l.1 ++ more))
-    ∙ sym (append_assoc front (take j l.1) more) ∙ ap (λ t. t ++ more) (sym here) ∙ e in
+    ∙ sym (append_assoc leading (take j l.1) more) ∙ ap (λ t. t ++ more) (sym here) ∙ e in
     absurd (l.3 (one_first_line l.0 want (take j l.1 ++ more) r l.2.one one line).0))
     (cases_lt k (length l.0 + 1))
 
@@ -70,7 +70,7 @@ refused_or A B want text n one has start lacks r = record {
       let h = has (take at text ++ begins.0) b in
       let here = prefix_lacks want text at begins.0 h.0 one lacks h.1 in
       here ∙ sym (first_line_zero A text n at r start (omega arith) here
-      (λ apart front. apart (sym (r.first at lt front (λ h. not (h.0, inl h.1))) ∙ here))))
+      (λ apart leading. apart (sym (r.first at lt leading (λ h. not (h.0, inl h.1))) ∙ here))))
       begins.1;
   early = λ begins. ⊎_elim
       (λ (a : A (text ++ begins.0)). r.early (begins.0, a))
@@ -80,7 +80,7 @@ refused_or A B want text n one has start lacks r = record {
       let here = prefix_lacks want text (length text) begins.0 h.0 one lacks (ap (λ t. t ++ begins.0) all ∙ h.1) in
       let none : newlines text ≡ 0 = sym (ap newlines all) ∙ here in
       none ∙ sym (first_line_zero A text n (length text) r start (omega arith) here
-      (λ apart front. apart (sym (r.early (subst (IsPrefixIn A) all front)) ∙ none))))
+      (λ apart leading. apart (sym (r.early (subst (IsPrefixIn A) all leading)) ∙ none))))
       begins.1;
 }
 

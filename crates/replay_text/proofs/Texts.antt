@@ -1,3 +1,4 @@
+-- Visible bytes of ASCII are UTF-8.
 use Rattle.std.proofs.Common.{◌≡◌, ◌<◌, ℕ, true, List, get_or, arith}
 use Rattle.std.proofs.lemmas.Bool.Decides.{nat_tests}
 use Rattle.std.proofs.lemmas.List.Sums.{AllPass-from_list_all}

@@ -1,8 +1,8 @@
 -- The lines of events: what each asks for, and how it is spelled.
-use Rattle.std.specs.Prelude.{◌≢◌, ◌≤◌, ◌<◌, ◌++◌, ◌&&◌, ◌==◌, ℕ, Bool, not, List, [], ◌∷◌, codes, IsTrue, length}
+use Rattle.std.specs.Prelude.{◌≢◌, ◌≤◌, ◌++◌, ◌&&◌, ◌==◌, ℕ, Bool, not, List, [], ◌∷◌, codes, IsTrue, length}
 use Rattle.std.specs.List.{list_all}
 use Rattle.std.specs.Fmt.{decimal}
-use Rattle.sp_base.specs.Bytes.{is_visible_ascii}
+use Rattle.sp_base.specs.Bytes.{AreBytes, is_visible_ascii}
 use Rattle.replay_text.specs.Transcript.{quotation, IsConnectionNumber, IsFlightNumber}
 use Rattle.replay_text.specs.declared.event_line.EventLine.{EventLine}
 use Rattle.replay_text.specs.declared.event_line.EventLine.TheVariants.{Direct, Open, Close, Bytes, Get, Post, Render, Deliver, Lose}
@@ -29,11 +29,6 @@ line_of (Post c target body) = codes "post " ++ decimal c ++ 32 ∷ (target ++ 3
 line_of (Render flight) = codes "render " ++ flight_text flight
 line_of (Deliver flight) = codes "deliver " ++ flight_text flight
 line_of (Lose flight) = codes "lose " ++ flight_text flight
-
--- bytes have 8 bits
-abbrev pub AreBytes : List ℕ → Type 0
-AreBytes [] = Unit {0}
-AreBytes (b ∷ bytes) = (b < 256) × AreBytes bytes
 
 -- flights are numbered from 1, in 64 bits
 abbrev pub IsFlight : Flight → Type 0

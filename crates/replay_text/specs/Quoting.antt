@@ -2,8 +2,9 @@
 -- alone. A reader of the theorem needs none of it.
 use Rattle.std.specs.Fmt.{decimal}
 use Rattle.std.specs.Prelude.{◌≢◌, ◌<◌, ◌+◌, ◌-◌, ◌*◌, ◌++◌, ◌==◌, ℕ, Bool, not, if◌then◌else◌, nat_lt, List, [], ◌∷◌, get_or, codes, IsTrue}
+use Rattle.sp_base.specs.Bytes.{AreBytes}
 use Rattle.replay_text.specs.Transcript.{quoted_byte, quotation, IsConnectionNumber}
-use Rattle.replay_text.specs.EventLines.{is_target, AreBytes, IsFlight, flight_text}
+use Rattle.replay_text.specs.EventLines.{is_target, IsFlight, flight_text}
 use Rattle.replay_text.specs.declared.event_line.Flight.{Flight}
 
 -- the number that a hexadecimal digit stands for

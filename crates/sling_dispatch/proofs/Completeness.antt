@@ -1,3 +1,4 @@
+-- A text that spells a scenario is not refused.
 use Rattle.std.proofs.Common.{◌≡◌, ◌<◌, ◌⊎◌, inl, inr, ℕ, List, Some, IfSome, Err, subst, refl, arith, sym, ◌∙◌, ap}
 use Rattle.sp_base.specs.Limits.{greatest_u64}
 use Rattle.content_json.specs.ContentOf.{content as content_of}

@@ -1,3 +1,4 @@
+-- The answer to a target is told by its decoded path.
 use Rattle.std.proofs.Common.{◌≡◌, ◌∙◌, ℕ, Bool, true, false, cond, List, Option, Some, None, sym, ap, refl}
 use Rattle.std.specs.Option.{option_map}
 use Rattle.sp_base.specs.declared.answer.Answer.{Answer}

@@ -1,3 +1,4 @@
+-- What an ending means for what was written, at each step of the program.
 use Rattle.std.proofs.Common.{◌≡◌, ◌≢◌, ◌≤◌, ◌+◌, ◌++◌, inl, inr, ⊎_elim, arith, ℕ, List, Option, Some, None, IfSome, IfOk, OnErr, Result, Ok, Err, false, length, take, sym, ◌∙◌, ap, subst}
 use Rattle.std.proofs.lemmas.List.{append-nil}
 use Rattle.std.proofs.lemmas.Bool.{cases_lt}

@@ -1,3 +1,4 @@
+-- The events that were made so far are a run, and their lines were written or are gathered.
 use Rattle.std.proofs.Common.{◌≡◌, ◌≤◌, ◌+◌, ◌++◌, ℕ, List, [], ◌∷◌, Option, Ok, Err, inl, inr, length, map, suc, take, sym, ◌∙◌, ap, subst, refl, arith, append_assoc, length-append}
 use Rattle.std.proofs.lemmas.List.{take_all, append-nil}
 use Rattle.std.proofs.Math.Seq.{take-append-add}

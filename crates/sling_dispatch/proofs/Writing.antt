@@ -1,3 +1,4 @@
+-- What a sink holds after one text and then another, or a prefix of it.
 use Rattle.std.proofs.Common.{◌≡◌, ◌+◌, ◌-◌, ◌++◌, ℕ, List, [], Option, Some, None, length, take, drop, sym, ◌∙◌, ap, refl, arith, append_assoc}
 use Rattle.std.proofs.lemmas.List.{take-append-drop, take_rest, append-nil, drop-take, take-take}
 use Rattle.std.proofs.Math.Seq.{take-append-add}

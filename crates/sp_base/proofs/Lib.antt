@@ -7,3 +7,4 @@ pub mod PathFaults
 pub mod PathParts
 pub mod PathPrefixes
 pub mod MangledLemmas
+pub mod TextBytes

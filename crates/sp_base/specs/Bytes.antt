@@ -1,5 +1,10 @@
--- Bytes of texts: which a byte is, what begins a text, and the pieces between dots.
-use Rattle.std.specs.Prelude.{◌==◌, ◌&&◌, ℕ, Bool, false, not, nat_le, List, [], ◌∷◌, flat_map, length}
+-- Bytes of texts: which a byte is, what begins a text, the pieces between dots, and the first of texts.
+use Rattle.std.specs.Prelude.{◌<◌, ◌==◌, ◌&&◌, ℕ, Bool, false, not, nat_le, List, [], ◌∷◌, Option, Some, None, flat_map, length}
+use Rattle.std.specs.List.{AllByRecursion}
+
+-- bytes have 8 bits
+abbrev pub AreBytes : List ℕ → Type 0
+AreBytes bytes = AllByRecursion (λ b. b < 256) bytes
 
 -- the text begins with this byte
 unfoldable pub begins_with_byte : ℕ → List ℕ → Bool
@@ -37,3 +42,8 @@ is_full piece = not (length piece == 0)
 -- pieces with a dot before each
 abbrev pub dotted_text : List (List ℕ) → List ℕ
 dotted_text pieces = flat_map (λ piece. 46 ∷ piece) pieces
+
+-- the first of texts
+abbrev pub first_text : List (List ℕ) → Option (List ℕ)
+first_text [] = None
+first_text (text ∷ texts) = Some text

@@ -1,3 +1,4 @@
+-- What is left of bytes after the first of them were taken.
 use Rattle.std.proofs.Common.{◌≡◌, ◌+◌, ◌≤◌, ◌++◌, ℕ, List, length, take, drop, sym, ◌∙◌, ap}
 use Rattle.std.proofs.lemmas.List.{take-append-drop, drop-drop, take_at, length-take-le}
 

@@ -1,45 +1,17 @@
 -- A walk over names that rise ends: each name has a number, the number of its bytes as digits, and it rises with the name.
-use Rattle.std.proofs.Common.{◌≡◌, ◌≤◌, ◌<◌, ◌+◌, ◌*◌, ◌/◌, ◌%◌, ◌++◌, ◌⊎◌, ⊎_elim, inl, inr, ℕ, zero, suc, Bool, true, false, List, [], ◌∷◌, length, nat_eq, nat_lt, cond, IsUtf8, ltb-true, refl, sym, ap, subst, arith, add-one}
+use Rattle.std.proofs.Common.{◌≡◌, ◌≤◌, ◌<◌, ◌+◌, ◌*◌, ◌⊎◌, inl, inr, ℕ, zero, suc, Bool, true, false, List, [], ◌∷◌, length, nat_eq, nat_lt, cond, IsUtf8, refl, sym, ap, subst, arith, add-one}
 use Rattle.std.specs.Prelude.{Contains}
-use Rattle.std.specs.List.{All, AllByRecursion}
+use Rattle.std.specs.List.{All}
 use Rattle.std.specs.Ordering.{is_lt, ordering_then}
 use Rattle.std.specs.declared.cmp.Ordering.{Ordering}
 use Rattle.std.specs.declared.cmp.Ordering.TheVariants.{Less, Equal, Greater}
-use Rattle.std.proofs.lemmas.Bool.{and_parts, true≢false}
+use Rattle.std.proofs.lemmas.Bool.{true≢false}
 use Rattle.std.proofs.lemmas.Bool.Decides.{nat_tests}
 use Rattle.std.proofs.lemmas.Map.Views.{All-after_first}
-use lib.Utf8.{scalar, scalars, scalar_cases, encode, encodes}
+use Rattle.sp_base.specs.Bytes.{AreBytes}
 use Rattle.sp_base.specs.Names.{by_name}
+use Rattle.sp_base.proofs.TextBytes.{text_bytes}
 use Rattle.sp_outside.specs.Files.{IsEndlessWalk, IsListing, IsName, longest_file_name}
-
--- a text's bytes are below 256
-abbrev are_bytes : List ℕ → Type 0
-are_bytes text = AllByRecursion (λ b. b < 256) text
-
-both_bytes : (a b : List ℕ) → are_bytes a → are_bytes b → are_bytes (a ++ b)
-both_bytes [] b p q = q
-both_bytes (x ∷ a) b p q = (p.0, both_bytes a b p.1 q)
-
-below : (c : ℕ) → scalar c ≡ true → c < 1114112
-below c e = ⊎_elim (λ h. omega (arith, h)) (λ h. h.1) (scalar_cases c e)
-
-encoded : (c : ℕ) (one two three : Bool) → nat_lt c 128 ≡ one → nat_lt c 2048 ≡ two → nat_lt c 65536 ≡ three → c < 1114112
-    → are_bytes (cond one (c ∷ []) (cond two ((192 + c / 64) ∷ (128 + c % 64) ∷ []) (cond three ((224 + c / 4096) ∷ (128 + c / 64 % 64) ∷ (128 + c % 64) ∷ []) ((240 + c / 262144) ∷ (128 + c / 4096 % 64) ∷ (128 + c / 64 % 64) ∷ (128 + c % 64) ∷ []))))
-encoded c true two three e1 e2 e3 h = (omega (arith, ltb-true _ _ e1), tt)
-encoded c false true three e1 e2 e3 h = let l = ltb-true _ _ e2 in (omega (arith, l), (omega arith, tt))
-encoded c false false true e1 e2 e3 h = let l = ltb-true _ _ e3 in (omega (arith, l), (omega arith, (omega arith, tt)))
-encoded c false false false e1 e2 e3 h = (omega (arith, h), (omega arith, (omega arith, (omega arith, tt))))
-
-char_bytes : (c : ℕ) → scalar c ≡ true → are_bytes (encode c)
-unfolding encode
-char_bytes c e = encoded c (nat_lt c 128) (nat_lt c 2048) (nat_lt c 65536) refl refl refl (below c e)
-
-chars_bytes : (cs : List ℕ) → scalars cs ≡ true → are_bytes (encodes cs)
-chars_bytes [] e = tt
-chars_bytes (c ∷ cs) e = let p = and_parts _ _ e in both_bytes (encode c) (encodes cs) (char_bytes c p.0) (chars_bytes cs p.1)
-
-text_bytes : (text : List ℕ) → IsUtf8 text → are_bytes text
-text_bytes text u = subst are_bytes u.1.1 (chars_bytes u.0 u.1.0)
 
 -- ---- the numbers of names
 
@@ -50,7 +22,7 @@ rank (suc n) before [] = rank n (before * 257) []
 rank (suc n) before (b ∷ name) = rank n (before * 257 + (b + 1)) name
 
 -- after a lesser number each name has a lesser one
-after_less : (n before other : ℕ) (name next : List ℕ) → are_bytes name → before < other → rank n before name < rank n other next
+after_less : (n before other : ℕ) (name next : List ℕ) → AreBytes name → before < other → rank n before name < rank n other next
 after_less zero before other name next bytes lt = lt
 after_less (suc n) before other [] [] bytes lt = after_less n (before * 257) (other * 257) [] [] tt (omega (arith, lt))
 after_less (suc n) before other [] (b ∷ next) bytes lt = after_less n (before * 257) (other * 257 + (b + 1)) [] next tt (omega (arith, lt))
@@ -70,7 +42,7 @@ first_less false true rest h = inr (refl, h)
 first_less false false rest h = absurd (true≢false (sym (ap is_lt h)))
 
 -- a name that is after another has a greater number
-rank_rises : (n before : ℕ) (name next : List ℕ) → by_name name next ≡ Less → are_bytes name → length name ≤ n → length next ≤ n → rank n before name < rank n before next
+rank_rises : (n before : ℕ) (name next : List ℕ) → by_name name next ≡ Less → AreBytes name → length name ≤ n → length next ≤ n → rank n before name < rank n before next
 rank_rises n before [] [] less bytes few some = absurd (true≢false (sym (ap is_lt less)))
 rank_rises n before (a ∷ name) [] less bytes few some = absurd (true≢false (sym (ap is_lt less)))
 rank_rises zero before [] (b ∷ next) less bytes few some = absurd (omega (arith, some))
@@ -83,7 +55,7 @@ rank_rises (suc n) before (a ∷ name) (b ∷ next) less bytes few some = elim (
 ]
 
 -- in such a sequence the numbers rise at least by one
-ranks : (n : ℕ) (names : ℕ → List ℕ) → ((k : ℕ) → are_bytes (names k)) → ((k : ℕ) → length (names k) ≤ n) → ((k : ℕ) → by_name (names k) (names (k + 1)) ≡ Less) → (k : ℕ) → k ≤ rank n 0 (names k)
+ranks : (n : ℕ) (names : ℕ → List ℕ) → ((k : ℕ) → AreBytes (names k)) → ((k : ℕ) → length (names k) ≤ n) → ((k : ℕ) → by_name (names k) (names (k + 1)) ≡ Less) → (k : ℕ) → k ≤ rank n 0 (names k)
 ranks n names bytes few rises zero = omega arith
 ranks n names bytes few rises (suc k) =
     let more : rank n 0 (names k) < rank n 0 (names (suc k)) =
@@ -91,7 +63,7 @@ ranks n names bytes few rises (suc k) =
     omega (arith, ranks n names bytes few rises k, more)
 
 -- names of at most `n` bytes, each after the one before: there is no such sequence without an end
-no_end : (n : ℕ) (names : ℕ → List ℕ) → ((k : ℕ) → are_bytes (names k)) → ((k : ℕ) → length (names k) ≤ n) → ((k : ℕ) → by_name (names k) (names (k + 1)) ≡ Less) → ⊥
+no_end : (n : ℕ) (names : ℕ → List ℕ) → ((k : ℕ) → AreBytes (names k)) → ((k : ℕ) → length (names k) ≤ n) → ((k : ℕ) → by_name (names k) (names (k + 1)) ≡ Less) → ⊥
 no_end n names bytes few rises =
     let least : (k : ℕ) → k ≤ rank n 0 (names k) = ranks n names bytes few rises in
     omega (arith, least (rank n 1 []), after_less n 0 1 (names (rank n 1 [])) [] (bytes (rank n 1 [])) (omega arith))

@@ -1,12 +1,13 @@
 //! What follows from the definitions of stamps: laws, on functions that do nothing.
 ghost use Rattle.std.specs.Prelude.{◌≡◌, ◌≢◌, ◌⊎◌, ◌<◌, ◌≤◌, ◌^◌, ℕ, Bool, true, false, not, List, Some, None};
 ghost use Rattle.std.specs.List.{AllByRecursion};
+ghost use Rattle.sp_base.specs.Bytes.{AreBytes};
 ghost use Rattle.sp_outside.specs.Files.{Files, file_at, told_with, with_file};
 ghost use Rattle.sp_base.specs.Paths.{mangled_segs};
 ghost use Rattle.docroot_format.specs.Faults.{IsLeftByFault};
 ghost use Rattle.docroot_format.specs.declared.fault.FileFault.{FileFault};
 ghost use Rattle.docroot_format.specs.declared.fault.FileFault.TheVariants.{Disk as disk_failed};
-ghost use Rattle.docroot_format.specs.Names.{are_bytes, stat_name};
+ghost use Rattle.docroot_format.specs.Names.{stat_name};
 ghost use Rattle.docroot_format.specs.Readings.{stat_of};
 ghost use Rattle.docroot_format.specs.Texts.{stat_text};
 ghost use Rattle.cover_rules.specs.Coverage.{stat_folder};
@@ -60,7 +61,7 @@ pub fn what_outdates_a_page()
 pub fn a_touch_outdates_what_is_not_newer()
     ensures touched { (level : ℕ) (files : Files) (key : PageKey) (stamp page : Stamp) → stamp.epoch < 2 ^ 64 → stamp.count < 2 ^ 64
         → is_outdated level true (with_file files (stat_name (stat_folder level key)) (stat_text stamp.epoch stamp.count)) key page ≡ not (is_older stamp page) }
-    ensures beside { (level : ℕ) (auto : Bool) (files : Files) (key : PageKey) (folder : List (List ℕ)) (stamp page : Stamp) → AllByRecursion are_bytes key.folder → AllByRecursion are_bytes folder
+    ensures beside { (level : ℕ) (auto : Bool) (files : Files) (key : PageKey) (folder : List (List ℕ)) (stamp page : Stamp) → AllByRecursion AreBytes key.folder → AllByRecursion AreBytes folder
         → mangled_segs folder ≢ mangled_segs (stat_folder level key) → is_outdated level auto (with_file files (stat_name folder) (stat_text stamp.epoch stamp.count)) key page ≡ is_outdated level auto files key page }
 {
     a_stamp_is_read_back();

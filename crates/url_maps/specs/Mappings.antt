@@ -3,11 +3,12 @@ use Rattle.std.specs.Prelude.{◌≡◌, ◌≤◌, ◌||◌, ◌==◌, ℕ, ℤ
 use Rattle.std.specs.Option.{option_map_or, option_or}
 use Rattle.std.specs.Char.{to_ascii_lowercase}
 use Rattle.std.specs.Fmt.{decimal}
+use Rattle.sp_base.specs.Bytes.{first_text}
 use Rattle.sp_base.specs.PathTexts.{spelling_of}
 use Rattle.sp_base.specs.Properties.{text_in}
 use Rattle.resource_tree.specs.declared.nodes.Node.{Node}
 use Rattle.resource_tree.specs.Content.{Content, node_at, prop_at}
-use Rattle.url_maps.specs.Words.{mapping_texts, first_text, mapping_number}
+use Rattle.url_maps.specs.Words.{mapping_texts, mapping_number}
 
 -- the name of the node with the mappings for a host and a port: the host in lower case, a dot and the port
 abbrev pub host_node_name : List ℕ → ℕ → List ℕ

@@ -107,6 +107,6 @@ IsMappingPair node None = mapping_of node ≡ None
 
 -- the text up to its last dot or slash, if it has one
 abbrev pub IsShorter : List ℕ → Option (List ℕ) → Type 0
-IsShorter text (Some front) = (length front < length text) × (front ≡ take (length front) text) × (is_separator (slice_index text (length front)) ≡ true)
-    × ((k : ℕ) → length front < k → k < length text → is_separator (slice_index text k) ≡ false)
+IsShorter text (Some leading) = (length leading < length text) × (leading ≡ take (length leading) text) × (is_separator (slice_index text (length leading)) ≡ true)
+    × ((k : ℕ) → length leading < k → k < length text → is_separator (slice_index text k) ≡ false)
 IsShorter text None = (k : ℕ) → k < length text → is_separator (slice_index text k) ≡ false

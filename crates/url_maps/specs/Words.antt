@@ -16,11 +16,6 @@ mapping_texts (Some (Truth b)) = []
 mapping_texts (Some (Longs ns)) = []
 mapping_texts (Some (Truths bs)) = []
 
--- the first of some texts
-abbrev pub first_text : List (List ℕ) → Option (List ℕ)
-first_text [] = None
-first_text (t ∷ ts) = Some t
-
 -- a value that is a number
 abbrev pub mapping_number : Option Value → Option ℤ
 mapping_number None = None

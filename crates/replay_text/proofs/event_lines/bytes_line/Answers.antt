@@ -1,6 +1,6 @@
 use Rattle.std.proofs.Common.{◌≡◌, ◌++◌, ◌∙◌, [], ℕ, List, codes, sym, ap, subst}
 use Rattle.std.specs.Prelude.{IfNone, IfSome}
-use Rattle.replay_text.specs.EventLines.{AreBytes}
+use Rattle.sp_base.specs.Bytes.{AreBytes}
 use Rattle.replay_text.specs.Quoting.{connection_text, IsNoQuotation}
 use Rattle.replay_text.specs.Transcript.{quotation, IsConnectionNumber}
 use Rattle.replay_text.proofs.Escapes.{one_quoted}

@@ -1,6 +1,7 @@
 use Rattle.std.proofs.Common.{◌≡◌, ◌∷◌, ◌++◌, ℕ, List, codes, subst}
 use Rattle.std.specs.Prelude.{IfNone, IfSome, IsTrue}
-use Rattle.replay_text.specs.EventLines.{is_target, AreBytes}
+use Rattle.sp_base.specs.Bytes.{AreBytes}
+use Rattle.replay_text.specs.EventLines.{is_target}
 use Rattle.replay_text.specs.Quoting.{connection_text}
 use Rattle.replay_text.specs.Transcript.{quotation, IsConnectionNumber}
 use Rattle.replay_text.proofs.WordLemmas.{one_connection}

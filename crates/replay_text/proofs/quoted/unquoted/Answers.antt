@@ -1,7 +1,7 @@
 use Rattle.std.proofs.Common.{◌≡◌, ◌++◌, ◌∷◌, ◌∙◌, [], ap, sym, subst, drop}
 use Rattle.std.specs.Prelude.{flat_map}
 use Rattle.std.proofs.lemmas.Bool.{false≢true}
-use Rattle.replay_text.specs.EventLines.{AreBytes}
+use Rattle.sp_base.specs.Bytes.{AreBytes}
 use Rattle.replay_text.specs.Transcript.{quoted_byte}
 use Rattle.replay_text.proofs.Escapes.{AreBytes-snoc, spelled-snoc, goes_on}
 use Rattle.replay_text.proofs.quoted.unquoted.Goals as goal

@@ -1,6 +1,6 @@
 use Rattle.std.proofs.Common.{◌≡◌, ◌++◌, ◌∷◌, length}
 use Rattle.std.specs.Prelude.{flat_map}
-use Rattle.replay_text.specs.EventLines.{AreBytes}
+use Rattle.sp_base.specs.Bytes.{AreBytes}
 use Rattle.replay_text.specs.Transcript.{quoted_byte}
 use Rattle.replay_text.proofs.quoted.unquoted.Given as goal
 

@@ -6,7 +6,6 @@ use sp_base::{Mem, Path, PropList, TextBuf, TextList, Value};
 use std::alloc::Global;
 use std::hash::RandomState;
 use std::io;
-use test_values::{Failed, path_at};
 use type_chain::{TypeList, chain};
 use url_split::Parts;
 
@@ -21,27 +20,37 @@ const NODES: [&str; 7] = [
     "/apps/t/html.html/jcr:content",
 ];
 
-fn create(alloc: Global, tree: &mut Tree, path: &str) -> Result<(), Failed> {
-    let path = path_at(alloc, path)?;
-    Ok(tree.create(alloc, &path)?)
-}
-
-fn create_all(alloc: Global, tree: &mut Tree) -> Result<(), Failed> {
-    for path in &NODES {
-        create(alloc, tree, *path)?;
+fn create(alloc: Global, tree: &mut Tree, path: &str) -> bool {
+    match Path::read(alloc, path) {
+        Ok(path) => tree.create(alloc, &path).is_ok(),
+        Err(_) => false,
     }
-    Ok(())
 }
 
-fn put_script(alloc: Global, tree: &mut Tree) -> Result<(), Failed> {
-    let path = path_at(alloc, "/apps/t/html.html/jcr:content")?;
+fn create_all(alloc: Global, tree: &mut Tree) -> bool {
+    for path in &NODES {
+        if !create(alloc, tree, *path) {
+            return false;
+        }
+    }
+    true
+}
+
+fn put_script(alloc: Global, tree: &mut Tree) -> bool {
     let text = Value::Text(TextBuf::from(String::new(alloc)));
-    Ok(tree.set(alloc, &path, "jcr:data", text)?)
+    match Path::read(alloc, "/apps/t/html.html/jcr:content") {
+        Ok(path) => tree.set(alloc, &path, "jcr:data", text).is_ok(),
+        Err(_) => false,
+    }
 }
 
-fn put_type(alloc: Global, props: &mut PropList) -> Result<(), Failed> {
-    let name = TextBuf::of(alloc, "t")?;
-    Ok(props.put(alloc, "sling:resourceType", Value::Text(name))?)
+fn put_type(alloc: Global, props: &mut PropList) -> bool {
+    match TextBuf::of(alloc, "t") {
+        Ok(name) => props
+            .put(alloc, "sling:resourceType", Value::Text(name))
+            .is_ok(),
+        Err(_) => false,
+    }
 }
 
 // The parts of a request for the extension `html`.
@@ -73,17 +82,19 @@ fn are_named(kids: &TextList) -> bool {
     }
 }
 
-fn has_kids(alloc: Global, tree: &Tree) -> Result<bool, Failed> {
-    let path = path_at(alloc, "/mnt/overlay/t")?;
-    Ok(are_named(&merged_kids(alloc, tree, &path)?))
+fn has_kids(alloc: Global, tree: &Tree) -> bool {
+    match Path::read(alloc, "/mnt/overlay/t") {
+        Ok(path) => matches!(merged_kids(alloc, tree, &path), Ok(kids) if are_named(&kids)),
+        Err(_) => false,
+    }
 }
 
 fn answers(alloc: Global, tree: &mut Tree, props: &mut PropList) -> bool {
-    create_all(alloc, tree).is_ok()
-        && put_script(alloc, tree).is_ok()
-        && put_type(alloc, props).is_ok()
+    create_all(alloc, tree)
+        && put_script(alloc, tree)
+        && put_type(alloc, props)
         && matches!(has_chain(alloc, tree, props), Ok(true))
-        && matches!(has_kids(alloc, tree), Ok(true))
+        && has_kids(alloc, tree)
 }
 
 fn small_tree_answers(alloc: Global, seeds: RandomState) -> bool {

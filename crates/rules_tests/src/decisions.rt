@@ -5,7 +5,6 @@ use cover_rules::page_key;
 use dispatch_rules::{auto_of, key_of, may_flush, storable};
 use sp_base::{Answer, ByteBuf, HeadList, Mark, Mem, NoMemory, Path, PathFault, Req, TextBuf};
 use std::alloc::Global;
-use test_values::push_field;
 
 const SITE: &str = r#"/farms { /site {
   /virtualhosts { "www.example.com" "localhost" }
@@ -105,7 +104,8 @@ const STANDARD_KEYS: [Row; 6] = [
 ];
 
 fn keeps_none_that_is_authorized(alloc: Global, farm: &Farm, req: &mut Req) -> Mem<bool> {
-    push_field(alloc, &mut req.heads, "authorization", b"x")?;
+    let name = TextBuf::of(alloc, "authorization")?;
+    req.heads.push((name, ByteBuf::from(Vec::new(alloc))))?;
     Ok(key_of(alloc, farm, req)?.is_none())
 }
 

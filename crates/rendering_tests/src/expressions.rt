@@ -1,8 +1,60 @@
-//! Expressions through the real calls: a value, limits, lengths, and where the faults are. Tables of what they print, and of what has no reading,
-//! are stored runs of the program (`examples/runs/expressions`, `examples/runs/expressions_refused`).
+//! What the program doesn't ask for: the value of an expression and its text by themselves, and what a text is after a write that was refused.
+//! Tables of what expressions print are stored runs of the program (examples/runs/expressions).
+use htl_expr::{Evaluation, Expr, Out, Scope, WriteFault};
+use sp_base::PropList;
+use std::alloc::Global;
 
-mod faults;
-mod lengths;
-mod room;
-mod sample;
-mod values;
+fn scope(props: &PropList) -> Scope<'_> {
+    Scope {
+        props,
+        path: "/content/en",
+        name: "en",
+        kind: "s/page",
+    }
+}
+
+fn is_list(alloc: Global, scope: &Scope<'_>, e: &Expr, wanted: &str) -> bool {
+    matches!(e.value(alloc, scope), Ok(Out::List(_)))
+        && matches!(e.print(alloc, scope), Ok(text) if text.text() == wanted)
+}
+
+fn reads_as_list(alloc: Global, scope: &Scope<'_>, text: &str, wanted: &str) -> bool {
+    matches!(Expr::read(alloc, text), Ok(e) if is_list(alloc, scope, &e, wanted))
+}
+
+#[test]
+fn a_value_has_a_kind(rt: HostRuntime) {
+    let props = PropList::new(rt.alloc());
+    assert!(rt; reads_as_list(rt.alloc(), &scope(&props), "[7, 8] @ join='; '", "7; 8"));
+}
+
+// Writes an expression for a resource of which nothing is found out yet, where there is room for 5 bytes.
+fn is_too_long(alloc: Global, scope: &Scope<'_>, page: &mut String, e: &Expr) -> bool {
+    let mut evaluation = Evaluation::of(alloc, scope);
+    matches!(
+        e.write(alloc, page, &mut evaluation, 5),
+        Err(WriteFault::TooLong)
+    )
+}
+
+fn leaves_the_page(alloc: Global, scope: &Scope<'_>, e: &Expr) -> bool {
+    let mut page = String::new(alloc);
+    page.push_str("<p>").is_ok()
+        && is_too_long(alloc, scope, &mut page, e)
+        && page.as_str() == "<p>"
+}
+
+fn is_not_written(alloc: Global, scope: &Scope<'_>, text: &str) -> bool {
+    matches!(Expr::read(alloc, text), Ok(e) if leaves_the_page(alloc, scope, &e))
+}
+
+// Expressions that print more than 2 bytes.
+const LONGER: [&str; 4] = ["'<b>'", "['a', 'b']", "[1, [2, 3]]", "1 == 1"];
+
+#[test]
+fn a_refused_write_leaves_the_page(rt: HostRuntime) {
+    let props = PropList::new(rt.alloc());
+    for text in &LONGER {
+        assert!(rt; is_not_written(rt.alloc(), &scope(&props), *text));
+    }
+}

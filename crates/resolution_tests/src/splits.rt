@@ -4,7 +4,6 @@ ghost use Rattle.std.specs.Prelude.{◌≡◌, ◌==◌, length};
 use sp_base::{LONGEST_SEGMENT, MOST_SEGMENTS, Mem, Path};
 use std::alloc::{AllocError, Global};
 use std::cell::Cell;
-use std::test::Fail;
 use url_split::{Known, split};
 
 // Knows the root alone, and counts what is looked up.
@@ -37,27 +36,25 @@ fn longest_path(alloc: Global) -> Result<String, AllocError> {
     segment.as_str().repeat(alloc, MOST_SEGMENTS)
 }
 
-fn is_split_by_few_look_ups(alloc: Global, text: &str) -> Mem<bool> {
+fn is_split_by_few_look_ups(alloc: Global, known: &Counted, text: &str) -> bool {
+    matches!(split(alloc, known, text), Ok(None))
+        && known.look_ups.get() <= 1 + 2 * LONGEST_SEGMENT
+        && known.bytes.get() <= text.len() + 800 * LONGEST_SEGMENT
+}
+
+fn longest_path_is_split(alloc: Global, known: &Counted) -> bool {
+    match longest_path(alloc) {
+        Ok(text) => is_split_by_few_look_ups(alloc, known, text.as_str()),
+        Err(_) => false,
+    }
+}
+
+#[test]
+fn looks_up_no_more_than_the_reach(rt: HostRuntime) {
     let known = Counted {
         reach: 1,
         look_ups: Cell::new(0),
         bytes: Cell::new(0),
     };
-    Ok(
-        split(alloc, &known, text)?.is_none()
-            && known.look_ups.get() <= 1 + 2 * LONGEST_SEGMENT
-            && known.bytes.get() <= text.len() + 800 * LONGEST_SEGMENT,
-    )
-}
-
-#[test]
-fn looks_up_no_more_than_the_reach(rt: HostRuntime) -> Result<(), Fail> {
-    let text = longest_path(rt.alloc())?;
-    assert!(rt;
-        matches!(
-            is_split_by_few_look_ups(rt.alloc(), text.as_str()),
-            Ok(true)
-        )
-    );
-    Ok(())
+    assert!(rt; longest_path_is_split(rt.alloc(), &known));
 }

@@ -1,67 +1,47 @@
-//! Worked rows, through the public calls.
+//! Keys of pages, what an invalidation covers, and what it touches.
 use cover_rules::{Action, Invalidation, PageKey, covers, page_key, touched};
-use sp_base::{NoMemory, Path, PathFault, PathList};
-use std::alloc::{AllocError, Global};
+use sp_base::{Path, PathFault, PathList};
+use std::alloc::Global;
 
-// The folder and the file of a key, with a bar between them.
-fn shown(alloc: Global, key: &PageKey) -> Result<String, AllocError> {
-    let folder = key.folder.as_text();
-    let file = key.file.text();
-    format!(in alloc; "{folder}|{file}")
-}
-
-// Whether this is the key of a path; `-` where the path has none.
-fn has_key(alloc: Global, text: &str, wanted: &str) -> Result<bool, PathFault> {
-    let path = Path::read(alloc, text)?;
-    match page_key(alloc, &path)? {
-        Some(key) => Ok(shown(alloc, &key)?.as_str() == wanted),
-        None => Ok(wanted == "-"),
+fn is_key(key: &Option<PageKey>, folder: &str, file: &str) -> bool {
+    match key {
+        Some(key) => key.folder.as_text() == folder && key.file.text() == file,
+        None => file.is_empty(),
     }
 }
 
-const KEYS: &[(&str, &str)] = &[
-    ("/content/en.html", "/content|en.html"),
-    ("/en.a4.html", "/|en.a4.html"),
-    ("/a/jcr:content/x.json", "/a/_jcr_content|x.json"),
+fn has_key(alloc: Global, text: &str, folder: &str, file: &str) -> Result<bool, PathFault> {
+    let path = Path::read(alloc, text)?;
+    Ok(is_key(&page_key(alloc, &path)?, folder, file))
+}
+
+// A path, and the folder and the file of its page; nothing where it has none.
+const KEYS: [(&str, &str, &str); 9] = [
+    ("/content/en.html", "/content", "en.html"),
+    ("/en.a4.html", "/", "en.a4.html"),
+    ("/a/jcr:content/x.json", "/a/_jcr_content", "x.json"),
     (
         "/a/_jcr_content/sling:x.json",
-        "/a/_jcr_content|_sling_x.json",
+        "/a/_jcr_content",
+        "_sling_x.json",
     ),
-    ("/", "-"),
-    ("/content/en", "-"),
-    ("/content/.html", "-"),
-    ("/content/en.", "-"),
-    ("/a.b/en.html", "-"),
+    ("/", "", ""),
+    ("/content/en", "", ""),
+    ("/content/.html", "", ""),
+    ("/content/en.", "", ""),
+    ("/a.b/en.html", "", ""),
 ];
 
 #[test]
 fn finds_keys(rt: HostRuntime) {
-    for (text, key) in KEYS {
-        assert!(rt; matches!(has_key(rt.alloc(), *text, *key), Ok(true)));
+    for (text, folder, file) in &KEYS {
+        assert!(rt; matches!(has_key(rt.alloc(), *text, *folder, *file), Ok(true)));
     }
 }
 
-fn invalidation(
-    alloc: Global,
-    action: Action,
-    only: bool,
-    handle: &str,
-) -> Result<Invalidation, PathFault> {
-    let handle = Path::read(alloc, handle)?;
-    Ok(Invalidation {
-        action,
-        handle,
-        only,
-    })
-}
-
-// Whether an invalidation covers the page of a path.
 fn is_covered(alloc: Global, inv: &Invalidation, page: &str) -> Result<bool, PathFault> {
     let page = Path::read(alloc, page)?;
-    match page_key(alloc, &page)? {
-        Some(key) => Ok(covers(2, true, inv, &key)),
-        None => Ok(false),
-    }
+    Ok(matches!(page_key(alloc, &page)?, Some(key) if covers(2, true, inv, &key)))
 }
 
 fn covers_as_wanted(
@@ -72,12 +52,17 @@ fn covers_as_wanted(
     page: &str,
     wanted: bool,
 ) -> Result<bool, PathFault> {
-    let inv = invalidation(alloc, action, only, handle)?;
+    let handle = Path::read(alloc, handle)?;
+    let inv = Invalidation {
+        action,
+        handle,
+        only,
+    };
     Ok(is_covered(alloc, &inv, page)? == wanted)
 }
 
 // What was done, whether to the node alone, its path, a page, and whether it is covered.
-const COVERED: &[(Action, bool, &str, &str, bool)] = &[
+const COVERED: [(Action, bool, &str, &str, bool); 24] = [
     (
         Action::Activate,
         false,
@@ -190,57 +175,49 @@ const COVERED: &[(Action, bool, &str, &str, bool)] = &[
 
 #[test]
 fn covers_by_touch_and_by_name(rt: HostRuntime) {
-    for (action, only, handle, page, wanted) in COVERED {
+    for (action, only, handle, page, wanted) in &COVERED {
         let told = covers_as_wanted(rt.alloc(), *action, *only, *handle, *page, *wanted);
         assert!(rt; matches!(told, Ok(true)));
     }
 }
 
-fn push_folders(all: &mut String, folders: &PathList) -> Result<(), AllocError> {
-    for folder in folders.as_slice() {
-        all.push_str(folder.as_text())?;
-        all.push_str(" ")?;
+fn are_listed(folders: &PathList, wanted: &[&str]) -> bool {
+    if folders.len() != wanted.len() {
+        return false;
     }
-    Ok(())
+    for (folder, text) in folders.as_slice().iter().zip(wanted.iter()) {
+        if folder.as_text() != *text {
+            return false;
+        }
+    }
+    true
 }
 
-// Whether these folders, a space after each, are this text.
-fn are_listed(alloc: Global, folders: &PathList, wanted: &str) -> Result<bool, NoMemory> {
-    let mut all = String::new(alloc);
-    push_folders(&mut all, folders)?;
-    Ok(all.as_str() == wanted)
-}
-
-fn touches(
-    alloc: Global,
-    level: usize,
-    inv: &Invalidation,
-    wanted: &str,
-) -> Result<bool, NoMemory> {
-    let folders = touched(alloc, level, inv)?;
-    are_listed(alloc, &folders, wanted)
-}
-
-fn touches_of(alloc: Global, level: usize, handle: &str, wanted: &str) -> Result<bool, PathFault> {
-    let inv = invalidation(alloc, Action::Activate, false, handle)?;
-    Ok(touches(alloc, level, &inv, wanted)?)
+fn touches(alloc: Global, level: usize, handle: &str, wanted: &[&str]) -> Result<bool, PathFault> {
+    let handle = Path::read(alloc, handle)?;
+    let inv = Invalidation {
+        action: Action::Activate,
+        handle,
+        only: false,
+    };
+    Ok(are_listed(&touched(alloc, level, &inv)?, wanted))
 }
 
 // A folder whose name is longer in a file's name than that may be stands before `/b/c`.
 const LONG: &str = "/a/                                                                   /b/c";
 
 // The level, the handle, and the folders that are touched.
-const TOUCHED: &[(usize, &str, &str)] = &[
-    (2, "/content/site/en/p", "/ /content /content/site "),
-    (2, "/content/en", "/ /content "),
-    (2, "/jcr:a/b", "/ /_jcr_a "),
-    (2, "/", "/ "),
-    (9, LONG, "/ /a "),
+const TOUCHED: [(usize, &str, &[&str]); 5] = [
+    (2, "/content/site/en/p", &["/", "/content", "/content/site"]),
+    (2, "/content/en", &["/", "/content"]),
+    (2, "/jcr:a/b", &["/", "/_jcr_a"]),
+    (2, "/", &["/"]),
+    (9, LONG, &["/", "/a"]),
 ];
 
 #[test]
 fn touches_folders(rt: HostRuntime) {
-    for (level, handle, folders) in TOUCHED {
-        assert!(rt; matches!(touches_of(rt.alloc(), *level, *handle, *folders), Ok(true)));
+    for (level, handle, folders) in &TOUCHED {
+        assert!(rt; matches!(touches(rt.alloc(), *level, *handle, *folders), Ok(true)));
     }
 }

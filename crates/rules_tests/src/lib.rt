@@ -6,10 +6,4 @@ mod coverage;
 #[cfg(test)]
 mod decisions;
 #[cfg(test)]
-mod example;
-#[cfg(test)]
-mod farms;
-#[cfg(test)]
-mod faults;
-#[cfg(test)]
 mod globs;

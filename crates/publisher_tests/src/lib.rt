@@ -1,5 +1,0 @@
-//! Tests of calls of `publisher`, which are proved apart from it.
-#![tactic(auto)]
-
-#[cfg(test)]
-mod requests;

@@ -1,6 +1,6 @@
 //! Answers that the publisher doesn't give, as bytes. Those that it gives are stored runs (examples/runs).
 use http_front::answer_bytes;
-use sp_base::Mark;
+use sp_base::{Answer, Mark};
 use std::alloc::Global;
 use test_values::answer_of;
 
@@ -24,12 +24,14 @@ const ANSWERS: &[AnswerRow<'_>] = &[
     ),
 ];
 
+fn are_bytes(alloc: Global, answer: &Answer, wanted: &str) -> bool {
+    matches!(answer_bytes(alloc, false, false, answer), Ok(bytes) if bytes.bytes() == wanted.as_bytes())
+}
+
 fn is_written(alloc: Global, row: &AnswerRow<'_>) -> bool {
     let (status, kind, mark, body, wanted) = *row;
     match answer_of(alloc, status, kind, "", mark, body) {
-        Ok(answer) => {
-            matches!(answer_bytes(alloc, false, false, &answer), Ok(bytes) if bytes.bytes() == wanted.as_bytes())
-        }
+        Ok(answer) => are_bytes(alloc, &answer, wanted),
         Err(_) => false,
     }
 }

@@ -2,8 +2,6 @@
 #![tactic(auto)]
 
 #[cfg(test)]
-mod long_streams;
-#[cfg(test)]
 mod mem_disk;
 #[cfg(test)]
 mod real_disk;
@@ -11,3 +9,5 @@ mod real_disk;
 mod streams;
 #[cfg(test)]
 mod values;
+#[cfg(test)]
+mod words;

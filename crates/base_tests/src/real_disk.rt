@@ -3,7 +3,6 @@ use sp_base::Mem;
 use sp_outside::{Disk, DiskFault, LONGEST_FILE_NAME, RealDisk};
 use std::alloc::Global;
 use std::fs::{self, Files};
-use std::test::Fail;
 
 // The disk of a folder that isn't there yet.
 fn fresh<'a>(rt: &'a HostRuntime, folder: &str) -> Mem<RealDisk<&'a HostRuntime>> {
@@ -90,112 +89,124 @@ const LISTED: Rows<'_> = &[
 
 const NOTHING: Rows<'_> = &[("", "", 9, &[])];
 
-fn keeps_files_in_a_folder(rt: &HostRuntime) -> Mem<bool> {
-    let mut disk = fresh(rt, "disk_of_files")?;
-    Ok(
-        lists(rt.alloc(), &mut disk, NOTHING)
-            && lacks(rt.alloc(), &mut disk, &["a/x.html"])
-            && puts(&mut disk, &[("a/x.html", "1")])
-            && puts(&mut disk, FILES)
-            && holds(rt.alloc(), &mut disk, FILES)
-            && lists(rt.alloc(), &mut disk, LISTED),
-    )
+fn keeps_files<D: Disk>(alloc: Global, disk: &mut D) -> bool {
+    lists(alloc, disk, NOTHING)
+        && lacks(alloc, disk, &["a/x.html"])
+        && puts(disk, &[("a/x.html", "1")])
+        && puts(disk, FILES)
+        && holds(alloc, disk, FILES)
+        && lists(alloc, disk, LISTED)
+}
+
+fn keeps_files_in_a_folder(rt: &HostRuntime) -> bool {
+    match fresh(rt, "disk_of_files") {
+        Ok(mut disk) => keeps_files(rt.alloc(), &mut disk),
+        Err(_) => false,
+    }
 }
 
 // Puts files, and leaves half of another beside them, as a process that was killed between the write and the renaming.
-fn leaves_files(rt: &HostRuntime) -> Mem<bool> {
-    let mut before = fresh(rt, "disk_of_another")?;
-    Ok(puts(&mut before, FILES) && fs::write(rt, "disk_of_another/a/x.html%t", "half").is_ok())
+fn leaves_files(rt: &HostRuntime) -> bool {
+    match fresh(rt, "disk_of_another") {
+        Ok(mut before) => {
+            puts(&mut before, FILES) && fs::write(rt, "disk_of_another/a/x.html%t", "half").is_ok()
+        }
+        Err(_) => false,
+    }
 }
 
 fn is_absent(rt: &HostRuntime, name: &str) -> bool {
     matches!(fs::exists(rt, name), Ok(false))
 }
 
-fn finds_what_another_left(rt: &HostRuntime) -> Mem<bool> {
-    let mut disk = RealDisk::below(rt, "disk_of_another")?;
-    Ok(
-        holds(rt.alloc(), &mut disk, FILES)
-            && lacks(rt.alloc(), &mut disk, &["a/x.html%t"])
-            && puts(&mut disk, &[("a/x.html", "4")])
-            && holds(rt.alloc(), &mut disk, &[("a/x.html", "4")])
-            && disk.remove("a/x.html") == Ok(())
-            && lists(
-                rt.alloc(),
-                &mut disk,
-                &[("a", "", 9, &["a.html", "a/.stat"])],
-            )
-            && is_absent(rt, "disk_of_another/a/x.html")
-            && is_absent(rt, "disk_of_another/a/x.html%t"),
-    )
+fn finds_files<D: Disk>(alloc: Global, disk: &mut D) -> bool {
+    holds(alloc, disk, FILES)
+        && lacks(alloc, disk, &["a/x.html%t"])
+        && puts(disk, &[("a/x.html", "4")])
+        && holds(alloc, disk, &[("a/x.html", "4")])
+        && disk.remove("a/x.html") == Ok(())
+        && lists(alloc, disk, &[("a", "", 9, &["a.html", "a/.stat"])])
+}
+
+fn finds_what_another_left(rt: &HostRuntime) -> bool {
+    match RealDisk::below(rt, "disk_of_another") {
+        Ok(mut disk) => finds_files(rt.alloc(), &mut disk),
+        Err(_) => false,
+    }
 }
 
 #[test]
 fn keeps_and_finds_files(rt: HostRuntime) {
-    assert!(rt; matches!(keeps_files_in_a_folder(&rt), Ok(true)));
-    assert!(rt; matches!(leaves_files(&rt), Ok(true)));
-    assert!(rt; matches!(finds_what_another_left(&rt), Ok(true)));
+    assert!(rt; keeps_files_in_a_folder(&rt));
+    assert!(rt; leaves_files(&rt));
+    assert!(rt; finds_what_another_left(&rt));
+    assert!(rt; is_absent(&rt, "disk_of_another/a/x.html"));
+    assert!(rt; is_absent(&rt, "disk_of_another/a/x.html%t"));
 }
 
 // Each byte of ASCII that may stand in a name, and characters of two to four bytes.
-fn any_bytes(alloc: Global) -> Mem<String> {
-    let mut name = String::new(alloc);
-    for code in 1u8..128 {
-        if code != b'/' {
-            name.push(code as char)?;
-        }
+const ANY_BYTES: &str =
+    "\u{1}\u{2}\u{3}\u{4}\u{5}\u{6}\u{7}\u{8}\t\n\u{b}\u{c}\r\u{e}\u{f}\u{10}\u{11}\u{12}\u{13}\u{14}\u{15}\u{16}\u{17}\u{18}\u{19}\u{1a}\u{1b}\u{1c}\u{1d}\u{1e}\u{1f} !\"#$%&'()*+,-.0123456789:;<=>?@ABCDEFGHIJKLMNOPQRSTUVWXYZ[\\]^_`abcdefghijklmnopqrstuvwxyz{|}~\u{7f}\u{e9}\u{20ac}\u{1f600}";
+
+const ANY_FILE: &[(&str, &str)] = &[(ANY_BYTES, "all")];
+
+fn puts_any_file(rt: &HostRuntime) -> bool {
+    match fresh(rt, "disk_of_names") {
+        Ok(mut disk) => puts(&mut disk, ANY_FILE) && holds(rt.alloc(), &mut disk, ANY_FILE),
+        Err(_) => false,
     }
-    name.push_str("\u{e9}\u{20ac}\u{1f600}")?;
-    Ok(name)
 }
 
-fn keeps_files_of_names(rt: &HostRuntime, files: &[(&str, &str)], rows: Rows<'_>) -> Mem<bool> {
-    let mut disk = fresh(rt, "disk_of_names")?;
-    let is_kept = puts(&mut disk, files) && holds(rt.alloc(), &mut disk, files);
-    let mut other = RealDisk::below(rt, "disk_of_names")?;
-    Ok(is_kept && lists(rt.alloc(), &mut other, rows) && holds(rt.alloc(), &mut other, files))
-}
-
-fn keeps_names_of_any_bytes(rt: &HostRuntime) -> Mem<bool> {
-    let name = any_bytes(rt.alloc())?;
-    let text = name.as_str();
-    keeps_files_of_names(rt, &[(text, "all")], &[("", "", 9, &[text])])
+fn finds_any_file(rt: &HostRuntime) -> bool {
+    match RealDisk::below(rt, "disk_of_names") {
+        Ok(mut disk) => {
+            lists(rt.alloc(), &mut disk, &[("", "", 9, &[ANY_BYTES])])
+                && holds(rt.alloc(), &mut disk, ANY_FILE)
+        }
+        Err(_) => false,
+    }
 }
 
 const WAYS_OUT: &[&str] = &[
     "../x", "a/../x", "/x", "a//x", "a/", ".", "a/./x", "..", "x\0y", "x%t",
 ];
 
-fn lets_no_name_out(rt: &HostRuntime) -> Mem<bool> {
-    let mut disk = fresh(rt, "disk_of_ways_out")?;
-    Ok(
-        refuses(&mut disk, WAYS_OUT)
-            && lacks(rt.alloc(), &mut disk, WAYS_OUT)
-            && lists(rt.alloc(), &mut disk, NOTHING)
-            && is_absent(rt, "x"),
-    )
+fn lets_no_name_out(rt: &HostRuntime) -> bool {
+    match fresh(rt, "disk_of_ways_out") {
+        Ok(mut disk) => {
+            refuses(&mut disk, WAYS_OUT)
+                && lacks(rt.alloc(), &mut disk, WAYS_OUT)
+                && lists(rt.alloc(), &mut disk, NOTHING)
+        }
+        Err(_) => false,
+    }
 }
 
 #[test]
 fn keeps_names_in_their_folder(rt: HostRuntime) {
-    assert!(rt; matches!(keeps_names_of_any_bytes(&rt), Ok(true)));
-    assert!(rt; matches!(lets_no_name_out(&rt), Ok(true)));
+    assert!(rt; puts_any_file(&rt));
+    assert!(rt; finds_any_file(&rt));
+    assert!(rt; lets_no_name_out(&rt));
+    assert!(rt; is_absent(&rt, "x"));
 }
 
 const FILE_AND_FOLDER: &[(&str, &str)] = &[("file", "f"), ("folder/x", "x")];
 
 const FILES_AS_FOLDERS: &[&str] = &["file/x", "file/x/y", "folder"];
 
-fn refuses_files_as_folders(rt: &HostRuntime) -> Mem<bool> {
-    let mut disk = fresh(rt, "disk_of_folders")?;
-    Ok(
-        puts(&mut disk, FILE_AND_FOLDER)
-            && refuses(&mut disk, FILES_AS_FOLDERS)
-            && lacks(rt.alloc(), &mut disk, FILES_AS_FOLDERS)
-            && holds(rt.alloc(), &mut disk, FILE_AND_FOLDER)
-            && lists(rt.alloc(), &mut disk, &[("", "", 9, &["file", "folder/x"])])
-            && is_absent(rt, "disk_of_folders/folder%t"),
-    )
+fn refuses_folders<D: Disk>(alloc: Global, disk: &mut D) -> bool {
+    puts(disk, FILE_AND_FOLDER)
+        && refuses(disk, FILES_AS_FOLDERS)
+        && lacks(alloc, disk, FILES_AS_FOLDERS)
+        && holds(alloc, disk, FILE_AND_FOLDER)
+        && lists(alloc, disk, &[("", "", 9, &["file", "folder/x"])])
+}
+
+fn refuses_files_as_folders(rt: &HostRuntime) -> bool {
+    match fresh(rt, "disk_of_folders") {
+        Ok(mut disk) => refuses_folders(rt.alloc(), &mut disk),
+        Err(_) => false,
+    }
 }
 
 // A folder with links that lead to a file beside it, or to that file's folder.
@@ -223,23 +234,27 @@ fn is_still_secret(rt: &HostRuntime) -> bool {
 
 const BESIDE_LINKS: &[(&str, &str)] = &[("file", "in"), ("new", "in")];
 
-fn follows_no_links(rt: &HostRuntime) -> Mem<bool> {
-    let mut disk = fresh(rt, "disk_of_links")?;
-    Ok(
-        link_out(rt)
-            && lists(rt.alloc(), &mut disk, NOTHING)
-            && lacks(rt.alloc(), &mut disk, &["folder/x", "file"])
-            && refuses(&mut disk, &["folder/x"])
-            && puts(&mut disk, BESIDE_LINKS)
-            && holds(rt.alloc(), &mut disk, BESIDE_LINKS)
-            && is_still_secret(rt),
-    )
+fn passes_by_links<D: Disk>(alloc: Global, disk: &mut D) -> bool {
+    lists(alloc, disk, NOTHING)
+        && lacks(alloc, disk, &["folder/x", "file"])
+        && refuses(disk, &["folder/x"])
+        && puts(disk, BESIDE_LINKS)
+        && holds(alloc, disk, BESIDE_LINKS)
+}
+
+fn follows_no_links(rt: &HostRuntime) -> bool {
+    match fresh(rt, "disk_of_links") {
+        Ok(mut disk) => link_out(rt) && passes_by_links(rt.alloc(), &mut disk),
+        Err(_) => false,
+    }
 }
 
 #[test]
 fn takes_nothing_for_a_folder(rt: HostRuntime) {
-    assert!(rt; matches!(refuses_files_as_folders(&rt), Ok(true)));
-    assert!(rt; matches!(follows_no_links(&rt), Ok(true)));
+    assert!(rt; refuses_files_as_folders(&rt));
+    assert!(rt; is_absent(&rt, "disk_of_folders/folder%t"));
+    assert!(rt; follows_no_links(&rt));
+    assert!(rt; is_still_secret(&rt));
 }
 
 // A folder where the file beside would stand: no put of the file can be made.
@@ -271,27 +286,43 @@ fn removes_what_stands_after_all<D: Disk>(rt: &HostRuntime, disk: &mut D) -> boo
         && is_absent(rt, "disk_of_failures/a/x")
 }
 
-#[test]
-fn a_failed_change_leaves_what_is_held(rt: HostRuntime) -> Result<(), Fail> {
-    let mut disk = fresh(&rt, "disk_of_failures")?;
-    assert!(rt; keeps_what_cannot_be_put(&rt, &mut disk));
-    assert!(rt; lacks_what_cannot_be_removed(&rt, &mut disk));
-    assert!(rt; removes_what_stands_after_all(&rt, &mut disk));
-    Ok(())
+fn leaves_what_is_held(rt: &HostRuntime) -> bool {
+    match fresh(rt, "disk_of_failures") {
+        Ok(mut disk) => {
+            keeps_what_cannot_be_put(rt, &mut disk)
+                && lacks_what_cannot_be_removed(rt, &mut disk)
+                && removes_what_stands_after_all(rt, &mut disk)
+        }
+        Err(_) => false,
+    }
 }
 
-fn ends_in_a_slash(rt: &HostRuntime) -> Mem<bool> {
-    let mut before = fresh(rt, "disk_of_a_slash")?;
-    let is_put = puts(&mut before, &[("a/x", "1")]);
-    let mut disk = RealDisk::below(rt, "disk_of_a_slash/")?;
-    Ok(
-        is_put
-            && lists(rt.alloc(), &mut disk, &[("", "", 9, &["a/x"])])
-            && holds(rt.alloc(), &mut disk, &[("a/x", "1")]),
-    )
+#[test]
+fn a_failed_change_leaves_what_is_held(rt: HostRuntime) {
+    assert!(rt; leaves_what_is_held(&rt));
+}
+
+const ONE: &[(&str, &str)] = &[("a/x", "1")];
+
+fn puts_one(rt: &HostRuntime) -> bool {
+    match fresh(rt, "disk_of_a_slash") {
+        Ok(mut disk) => puts(&mut disk, ONE),
+        Err(_) => false,
+    }
+}
+
+fn finds_one(rt: &HostRuntime) -> bool {
+    match RealDisk::below(rt, "disk_of_a_slash/") {
+        Ok(mut disk) => {
+            lists(rt.alloc(), &mut disk, &[("", "", 9, &["a/x"])])
+                && holds(rt.alloc(), &mut disk, ONE)
+        }
+        Err(_) => false,
+    }
 }
 
 #[test]
 fn a_folder_may_end_in_a_slash(rt: HostRuntime) {
-    assert!(rt; matches!(ends_in_a_slash(&rt), Ok(true)));
+    assert!(rt; puts_one(&rt));
+    assert!(rt; finds_one(&rt));
 }

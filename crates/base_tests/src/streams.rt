@@ -1,4 +1,4 @@
-//! The objects in memory, and the real ones over fakes that fail.
+//! The objects in memory, and the real ones over fakes that take parts and fail.
 use sp_base::{ByteBuf, CallList, Mem};
 use sp_outside::{MemSink, MemSource, RealSink, RealSource, Sink, SinkFault, Source, SourceFault};
 use std::alloc::Global;
@@ -6,48 +6,69 @@ use std::cell::Cell;
 use std::fmt::Display;
 use std::io::{self, ErrorKind, Print, Read};
 
-fn gives_in_parts(alloc: Global) -> Mem<bool> {
-    let bytes = ByteBuf::of(alloc, b"abcdefghij")?;
-    let fails = CallList::from([3].to_vec(alloc)?);
-    let mut source = MemSource::in_parts(bytes, 6, fails);
-    let mut buffer = [0u8; 8];
-    Ok(
-        source.read(&mut buffer) == Ok(6)
-            && source.read(&mut buffer) == Ok(4)
-            && buffer.as_slice() == b"ghijef\0\0".as_slice()
-            && source.read(&mut buffer) == Err(SourceFault::Failed)
-            && source.read(&mut buffer) == Ok(0),
-    )
+fn fails_at(alloc: Global, call: u64) -> Mem<CallList> {
+    let mut fails = CallList::new(alloc);
+    fails.push(call)?;
+    Ok(fails)
 }
 
-fn takes_in_parts(alloc: Global) -> Mem<bool> {
-    let fails = CallList::from([2].to_vec(alloc)?);
-    let mut sink = MemSink::in_parts(alloc, 2, fails);
-    Ok(
-        sink.write(b"abc") == Ok(2)
-            && sink.write(b"c") == Err(SinkFault::Failed)
-            && sink.write(b"c") == Ok(1)
-            && sink.bytes() == b"abc".as_slice(),
-    )
+fn gives_letters(source: &mut MemSource) -> bool {
+    let mut buffer = [0u8; 8];
+    source.read(&mut buffer) == Ok(6)
+        && source.read(&mut buffer) == Ok(4)
+        && buffer.as_slice() == b"ghijef\0\0".as_slice()
+        && source.read(&mut buffer) == Err(SourceFault::Failed)
+        && source.read(&mut buffer) == Ok(0)
 }
 
-fn gives_all(alloc: Global) -> Mem<bool> {
-    let bytes = ByteBuf::of(alloc, b"abcdef")?;
-    let mut source = MemSource::new(bytes, CallList::new(alloc));
-    let mut buffer = [0u8; 8];
-    Ok(source.read(&mut buffer) == Ok(6) && source.read(&mut buffer) == Ok(0))
+fn gives_in_parts(alloc: Global) -> bool {
+    match (ByteBuf::of(alloc, b"abcdefghij"), fails_at(alloc, 3)) {
+        (Ok(bytes), Ok(fails)) => {
+            let mut source = MemSource::in_parts(bytes, 6, fails);
+            gives_letters(&mut source)
+        }
+        _ => false,
+    }
+}
+
+fn takes_letters(sink: &mut MemSink) -> bool {
+    sink.write(b"abc") == Ok(2)
+        && sink.write(b"c") == Err(SinkFault::Failed)
+        && sink.write(b"c") == Ok(1)
+        && sink.bytes() == b"abc".as_slice()
+}
+
+fn takes_in_parts(alloc: Global) -> bool {
+    match fails_at(alloc, 2) {
+        Ok(fails) => {
+            let mut sink = MemSink::in_parts(alloc, 2, fails);
+            takes_letters(&mut sink)
+        }
+        Err(_) => false,
+    }
+}
+
+fn gives_all(alloc: Global) -> bool {
+    match ByteBuf::of(alloc, b"abcdef") {
+        Ok(bytes) => {
+            let mut buffer = [0u8; 8];
+            let mut source = MemSource::new(bytes, CallList::new(alloc));
+            source.read(&mut buffer) == Ok(6)
+        }
+        Err(_) => false,
+    }
 }
 
 fn takes_all(alloc: Global) -> bool {
     let mut sink = MemSink::new(alloc, CallList::new(alloc));
-    sink.write(b"abc") == Ok(3) && sink.bytes() == b"abc".as_slice()
+    sink.write(b"abc") == Ok(3)
 }
 
 #[test]
 fn gives_and_takes(rt: HostRuntime) {
-    assert!(rt; matches!(gives_in_parts(rt.alloc()), Ok(true)));
-    assert!(rt; matches!(takes_in_parts(rt.alloc()), Ok(true)));
-    assert!(rt; matches!(gives_all(rt.alloc()), Ok(true)));
+    assert!(rt; gives_in_parts(rt.alloc()));
+    assert!(rt; takes_in_parts(rt.alloc()));
+    assert!(rt; gives_all(rt.alloc()));
     assert!(rt; takes_all(rt.alloc()));
 }
 
@@ -81,10 +102,26 @@ fn gives_what_is_read() -> bool {
         && buffer.as_slice() == b"a\0".as_slice()
 }
 
-// Takes a byte of the first write, fails at the second, and takes nothing of the third.
+const TAKEN_BYTES: usize = 64;
+
+// Takes at most five bytes at once and keeps them, fails at its second write, and takes nothing at its third.
 #[derive(Drop)]
 struct Printer {
+    taken: Cell<[u8; TAKEN_BYTES]>,
+    len: Cell<usize>,
     writes: Cell<u32>,
+}
+
+impl Printer {
+    fn take(&self, bytes: &[u8]) -> usize {
+        let mut taken = self.taken.get();
+        let at = self.len.get().min(TAKEN_BYTES);
+        let n = bytes.len().min(5).min(TAKEN_BYTES - at);
+        taken[at..at + n].copy_from_slice(&bytes[..n]);
+        self.len.set(at + n);
+        self.taken.set(taken);
+        n
+    }
 }
 
 impl Print for Printer {
@@ -103,25 +140,35 @@ impl Print for Printer {
     fn write_some(&self, bytes: &[u8]) -> io::Result<usize> {
         let writes = self.writes.get().saturating_add(1);
         self.writes.set(writes);
-        if writes == 2 {
-            return Err(ErrorKind::Other.into());
-        }
-        if writes == 3 {
-            Ok(0)
-        } else {
-            Ok(bytes.len().min(1))
+        match writes {
+            2 => Err(ErrorKind::Other.into()),
+            3 => Ok(0),
+            _ => Ok(self.take(bytes)),
         }
     }
 }
 
+fn has_taken(printer: &Printer, text: &[u8]) -> bool {
+    let taken = printer.taken.get();
+    let len = printer.len.get().min(TAKEN_BYTES);
+    &taken[..len] == text
+}
+
+fn prints_letters<S: Sink>(sink: &mut S) -> bool {
+    sink.write(b"abcdefgh") == Ok(5)
+        && sink.write(b"fgh") == Err(SinkFault::Failed)
+        && sink.write(b"fgh") == Err(SinkFault::Failed)
+        && sink.write(b"fgh") == Ok(3)
+}
+
 fn prints_what_is_written() -> bool {
-    let mut sink = RealSink::new(Printer {
+    let printer = Printer {
+        taken: Cell::new([0u8; TAKEN_BYTES]),
+        len: Cell::new(0),
         writes: Cell::new(0),
-    });
-    sink.write(b"abc") == Ok(1)
-        && sink.write(b"bc") == Err(SinkFault::Failed)
-        && sink.write(b"bc") == Err(SinkFault::Failed)
-        && sink.write(b"bc") == Ok(1)
+    };
+    let mut sink = RealSink::new(&printer);
+    prints_letters(&mut sink) && has_taken(&printer, b"abcdefgh")
 }
 
 #[test]

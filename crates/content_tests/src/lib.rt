@@ -2,6 +2,6 @@
 #![tactic(auto)]
 
 #[cfg(test)]
-mod content;
-#[cfg(test)]
 mod properties;
+#[cfg(test)]
+mod written;

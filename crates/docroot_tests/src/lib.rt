@@ -2,6 +2,10 @@
 #![tactic(auto)]
 
 #[cfg(test)]
+mod disks;
+#[cfg(test)]
 mod pages;
+#[cfg(test)]
+mod sessions;
 #[cfg(test)]
 mod stamps;

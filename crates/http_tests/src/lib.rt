@@ -2,6 +2,6 @@
 #![tactic(auto)]
 
 #[cfg(test)]
-mod requests;
+mod answers;
 #[cfg(test)]
 mod sending;

@@ -1,4 +1,6 @@
 //! Values as a test writes them.
+ghost use Rattle.std.specs.Prelude.{◌≡◌, IfOk};
+
 use crate::Failed;
 use sp_base::{Answer, ByteBuf, HeadList, Mark, Mem, Path, TextBuf, TextList};
 use std::alloc::Global;
@@ -29,7 +31,11 @@ pub fn answer_of(
     location: &str,
     mark: Mark,
     body: &str,
-) -> Mem<Answer> {
+) -> Mem<Answer>
+    ensures status { IfOk result (λ answer. answer.status ≡ status) }
+    ensures kind { IfOk result (λ answer. answer.kind ≡ kind.now) }
+    ensures mark { IfOk result (λ answer. answer.mark ≡ mark) }
+{
     Ok(Answer {
         status,
         kind: TextBuf::of(alloc, kind)?,

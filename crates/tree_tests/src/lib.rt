@@ -1,11 +1,13 @@
-//! Tests of calls of `resource_tree` and `tree_draft`, which are proved apart from them.
+//! Tests of calls of `resource_tree`, which are proved apart from it.
 #![tactic(auto)]
 
 #[cfg(test)]
 mod changes;
 #[cfg(test)]
-mod drafts;
+mod limits;
 #[cfg(test)]
-mod parts;
+mod nodes;
 #[cfg(test)]
 mod patches;
+#[cfg(test)]
+mod refusals;

@@ -3,7 +3,7 @@ use Rattle.sp_base.specs.declared.path.PathFault.{PathFault}
 use Rattle.sp_base.specs.Paths.{mangled_segs, path_of}
 use Rattle.cover_rules.specs.Names.{file_name}
 use Rattle.docroot_format.specs.Names.{have_names}
-use Rattle.docroot_tests.proofs.stamps.below_content.Goals as goal
+use Rattle.docroot_tests.proofs.stamps.folder.Goals as goal
 
 named : (folder : List (List ℕ)) → path_of (codes "/content/jcr:content") ≡ Ok folder → IsTrue (have_names (mangled_segs folder))
 unfolding file_name

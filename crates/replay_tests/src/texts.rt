@@ -1,0 +1,73 @@
+//! Scenarios that are written, and notes that the program doesn't make, worked out by hand from `docs/formats/FORMATS.md`.
+use cover_rules::{PageKey, page_key};
+use front::{Note, NoteList};
+use replay_text::{Scenario, read_scenario, write_notes, write_scenario};
+use sp_base::{Items, Mem, Path};
+use std::alloc::Global;
+
+const WITH_FARM: &str = "scenario 1
+content
+{}
+
+.
+farm
+/a { }
+.
+direct /a.json
+end
+";
+
+const SCENARIOS: &[&str] = &[
+    WITH_FARM,
+    "scenario 1\ncontent\n.\nfarm\n.\nend\n",
+    "scenario 1\ncontent\n.\nend\n",
+];
+
+fn is_written(alloc: Global, scenario: &Scenario, text: &str) -> bool {
+    matches!(write_scenario(alloc, scenario), Ok(bytes) if bytes.bytes() == text.as_bytes())
+}
+
+// Whether a text is a scenario that is written as it was read.
+fn is_written_again(alloc: Global, text: &str) -> bool {
+    match read_scenario(alloc, text.as_bytes()) {
+        Ok(scenario) => is_written(alloc, &scenario, text),
+        Err(_) => false,
+    }
+}
+
+#[test]
+fn scenarios_are_written(rt: HostRuntime) {
+    for text in SCENARIOS {
+        assert!(rt; is_written_again(rt.alloc(), *text));
+    }
+}
+
+fn key(alloc: Global, path: &str) -> Mem<Option<PageKey>> {
+    match Path::read(alloc, path) {
+        Ok(path) => page_key(alloc, &path),
+        Err(_) => Ok(None),
+    }
+}
+
+// A flight for a page of the cache, and that memory ran out.
+fn push_notes(alloc: Global, notes: &mut NoteList) -> Mem<()> {
+    let page = key(alloc, "/content/site/en.html")?;
+    notes.push(Note::Ask(u64::MAX, u32::MAX, page))?;
+    notes.push(Note::Dry)
+}
+
+const NOTES: &[u8] = b"@ 12\nask 18446744073709551615 4294967295 \"/content/site/en.html\"\ndry\n";
+
+fn are_written(alloc: Global, notes: &NoteList) -> bool {
+    matches!(write_notes(alloc, 12, notes.as_slice()), Ok(text) if text.as_slice() == NOTES)
+}
+
+fn notes_are_written(alloc: Global) -> bool {
+    let mut notes = Items::new(alloc);
+    push_notes(alloc, &mut notes).is_ok() && are_written(alloc, &notes)
+}
+
+#[test]
+fn lines_of_notes(rt: HostRuntime) {
+    assert!(rt; notes_are_written(rt.alloc()));
+}

@@ -1,0 +1,109 @@
+//! Parts that would make a tree too deep or too large.
+use crate::nodes::{creates_all, path_at};
+use crate::refusals::is_told;
+use resource_tree::Tree;
+use sp_base::Path;
+use std::alloc::Global;
+use std::hash::RandomState;
+use std::test::Fail;
+
+const DEEPEST: &str =
+    "/d/d/d/d/d/d/d/d/d/d/d/d/d/d/d/d/d/d/d/d/d/d/d/d/d/d/d/d/d/d/d/d/d/d/d/d/d/d/d/d/d/d/d/d/d/d/d/d/d/d/d/d/d/d/d/d/d/d/d/d/d/d/d/d";
+
+fn creates_first(alloc: Global, tree: &mut Tree, path: &Path, levels: usize) -> bool {
+    match path.first(alloc, levels) {
+        Ok(path) => tree.create(alloc, &path).is_ok(),
+        Err(_) => false,
+    }
+}
+
+// Makes the nodes above a path.
+fn creates_above(alloc: Global, tree: &mut Tree, path: &Path) -> bool {
+    for levels in 1..path.depth() {
+        if !creates_first(alloc, tree, path, levels) {
+            return false;
+        }
+    }
+    true
+}
+
+// Whether a part of two levels is refused at the deepest path.
+fn is_too_deep(alloc: Global, tree: &mut Tree, source: &Path, deepest: &Path) -> bool {
+    is_told(&tree.copy_to(alloc, source, deepest), "TooDeep")
+        && is_told(&tree.move_to(alloc, source, deepest), "TooDeep")
+}
+
+fn keeps_levels(alloc: Global, tree: &mut Tree) -> bool {
+    match (path_at(alloc, "/a"), path_at(alloc, DEEPEST)) {
+        (Some(source), Some(deepest)) => {
+            creates_all(alloc, tree, &["/a", "/a/b"])
+                && creates_above(alloc, tree, &deepest)
+                && is_too_deep(alloc, tree, &source, &deepest)
+        }
+        _ => false,
+    }
+}
+
+// Puts a copy of the part at the first path below it.
+fn doubles(alloc: Global, tree: &mut Tree, first: &Path, second: &Path, name: &str) -> bool {
+    match first.child(alloc, name) {
+        Ok(below) => {
+            tree.copy_to(alloc, first, second).is_ok()
+                && tree.move_to(alloc, second, &below).is_ok()
+        }
+        Err(_) => false,
+    }
+}
+
+const NAMES: &[&str] = &[
+    "a", "b", "c", "d", "e", "f", "g", "h", "i", "j", "k", "l", "m", "n", "o", "p", "q",
+];
+
+// Each turn doubles the part, to 131,072 nodes.
+fn doubles_all(alloc: Global, tree: &mut Tree, first: &Path, second: &Path) -> bool {
+    for name in NAMES {
+        if !doubles(alloc, tree, first, second, *name) {
+            return false;
+        }
+    }
+    true
+}
+
+fn is_only_moved(alloc: Global, tree: &mut Tree, first: &Path, second: &Path) -> bool {
+    is_told(&tree.copy_to(alloc, first, second), "FullTree")
+        && tree.move_to(alloc, first, second).is_ok()
+        && tree.len() == 131_073
+}
+
+fn keeps_nodes(alloc: Global, tree: &mut Tree) -> bool {
+    match (path_at(alloc, "/a"), path_at(alloc, "/b")) {
+        (Some(first), Some(second)) => {
+            creates_all(alloc, tree, &["/a"])
+                && doubles_all(alloc, tree, &first, &second)
+                && is_only_moved(alloc, tree, &first, &second)
+        }
+        _ => false,
+    }
+}
+
+fn has_levels(alloc: Global, seeds: RandomState) -> bool {
+    match Tree::new(alloc, seeds) {
+        Ok(mut tree) => keeps_levels(alloc, &mut tree),
+        Err(_) => false,
+    }
+}
+
+fn has_nodes(alloc: Global, seeds: RandomState) -> bool {
+    match Tree::new(alloc, seeds) {
+        Ok(mut tree) => keeps_nodes(alloc, &mut tree),
+        Err(_) => false,
+    }
+}
+
+#[test]
+fn a_part_grows_to_the_limits(rt: HostRuntime) -> Result<(), Fail> {
+    let seeds = RandomState::new(&rt)?;
+    assert!(rt; has_levels(rt.alloc(), seeds));
+    assert!(rt; has_nodes(rt.alloc(), seeds));
+    Ok(())
+}

@@ -1,0 +1,89 @@
+//! The tree that the tests change, and what stands in one.
+use resource_tree::Tree;
+use sp_base::{Path, TextBuf, Value};
+use std::alloc::Global;
+use std::hash::RandomState;
+
+/// The path of a text that spells one.
+pub(crate) fn path_at(alloc: Global, text: &str) -> Option<Path> {
+    Path::read(alloc, text).ok()
+}
+
+fn creates(alloc: Global, tree: &mut Tree, path: &str) -> bool {
+    match path_at(alloc, path) {
+        Some(path) => tree.create(alloc, &path).is_ok(),
+        None => false,
+    }
+}
+
+/// Makes nodes in their order.
+pub(crate) fn creates_all(alloc: Global, tree: &mut Tree, paths: &[&str]) -> bool {
+    for path in paths {
+        if !creates(alloc, tree, *path) {
+            return false;
+        }
+    }
+    true
+}
+
+fn sets_title(alloc: Global, tree: &mut Tree, path: &str) -> bool {
+    match path_at(alloc, path) {
+        Some(path) => tree.set(alloc, &path, "title", Value::Long(7)).is_ok(),
+        None => false,
+    }
+}
+
+const PATHS: &[&str] = &["/a", "/a/z", "/a/b", "/a/z/y", "/c", "/c/k"];
+
+/// The number of nodes of the tree that the tests change, with the root.
+pub(crate) const COUNT: usize = 7;
+
+fn filled(alloc: Global, mut tree: Tree) -> Option<Tree> {
+    if creates_all(alloc, &mut tree, PATHS) && sets_title(alloc, &mut tree, "/a/z") {
+        Some(tree)
+    } else {
+        None
+    }
+}
+
+/// The tree that the tests change; one of its nodes has a title.
+pub(crate) fn whole(alloc: Global, seeds: RandomState) -> Option<Tree> {
+    match Tree::new(alloc, seeds) {
+        Ok(tree) => filled(alloc, tree),
+        Err(_) => None,
+    }
+}
+
+// Whether these are the names of kids, each of one letter.
+fn are_names(kids: &[TextBuf], letters: &str) -> bool {
+    let mut both = kids.iter().zip(letters.as_bytes());
+    kids.len() == letters.len()
+        && both.all(|(kid, letter)| kid.text().as_bytes() == [*letter].as_slice())
+}
+
+/// A path, and the letters that are the names of its node's kids, or that no node is there.
+pub(crate) type Left<'a> = (&'a str, Option<&'a str>);
+
+fn is_left(tree: &Tree, path: &Path, letters: Option<&str>) -> bool {
+    match (tree.node(path), letters) {
+        (Some(node), Some(letters)) => are_names(node.kids.as_slice(), letters),
+        (None, None) => true,
+        _ => false,
+    }
+}
+
+fn is_left_at(alloc: Global, tree: &Tree, row: &Left<'_>) -> bool {
+    match path_at(alloc, row.0) {
+        Some(path) => is_left(tree, &path, row.1),
+        None => false,
+    }
+}
+
+pub(crate) fn are_left(alloc: Global, tree: &Tree, rows: &[Left<'_>]) -> bool {
+    for row in rows {
+        if !is_left_at(alloc, tree, row) {
+            return false;
+        }
+    }
+    true
+}

@@ -1,7 +1,7 @@
 //! The faults of a form in their order. The program answers each of them 400.
 use crate::forms::form;
 use form_input::Form;
-use post_plan::{PlanFault, plan};
+use post_plan::{Op, PlanFault, plan};
 use sp_base::Path;
 use std::alloc::Global;
 
@@ -16,11 +16,15 @@ fn name_of(fault: &PlanFault) -> &'static str {
     }
 }
 
-fn is_refused(alloc: Global, target: &Path, form: &Form, wanted: &str) -> bool {
-    match plan(alloc, target, false, form) {
+fn is_named(planned: &Result<Op<'_>, PlanFault>, wanted: &str) -> bool {
+    match planned {
         Ok(_) => false,
-        Err(fault) => name_of(&fault) == wanted,
+        Err(fault) => name_of(fault) == wanted,
     }
+}
+
+fn is_refused(alloc: Global, target: &Path, form: &Form, wanted: &str) -> bool {
+    is_named(&plan(alloc, target, false, form), wanted)
 }
 
 // Whether these pairs are refused so at the root.

@@ -1,13 +1,26 @@
 //! An operation that is done on a tree at once. What POSTs leave is shown through the program (examples/runs/post_operations and its neighbours).
 use crate::forms::form;
 use form_input::Form;
-use post_apply::{ApplyFault, apply};
-use post_plan::{Op, plan};
+use post_apply::{ApplyFault, PostReport, apply};
+use post_plan::plan;
 use resource_tree::Tree;
 use sp_base::{Path, Value, ValueFault};
 use std::alloc::Global;
 use std::hash::RandomState;
 use std::test::Fail;
+
+// A form asks for an operation here; where it doesn't, that is told as a lack of memory.
+fn post(
+    alloc: Global,
+    tree: &mut Tree,
+    target: &Path,
+    form: &Form,
+) -> Result<PostReport, ApplyFault> {
+    match &plan(alloc, target, false, form) {
+        Ok(op) => apply(alloc, tree, op),
+        Err(_) => Err(ApplyFault::NoMemory),
+    }
+}
 
 const NUMBER: &[(&str, &str)] = &[("n", "12"), ("n@TypeHint", "Long")];
 
@@ -18,16 +31,9 @@ fn is_twelve(tree: &Tree, path: &Path) -> bool {
     }
 }
 
-fn is_done(alloc: Global, tree: &mut Tree, target: &Path, op: &Op<'_>) -> bool {
-    match apply(alloc, tree, op) {
-        Ok(report) => report.created && report.path == *target && is_twelve(tree, target),
-        Err(_) => false,
-    }
-}
-
 fn is_made(alloc: Global, tree: &mut Tree, target: &Path, form: &Form) -> bool {
-    match plan(alloc, target, false, form) {
-        Ok(op) => is_done(alloc, tree, target, &op),
+    match post(alloc, tree, target, form) {
+        Ok(report) => report.created && report.path == *target && is_twelve(tree, target),
         Err(_) => false,
     }
 }
@@ -42,18 +48,11 @@ fn makes(alloc: Global, tree: &mut Tree, target: &str) -> bool {
 
 const NO_NUMBER: &[(&str, &str)] = &[("good", "1"), ("n", "abc"), ("n@TypeHint", "Long")];
 
-fn is_left(alloc: Global, tree: &mut Tree, target: &Path, op: &Op<'_>) -> bool {
+fn is_refused(alloc: Global, tree: &mut Tree, target: &Path, form: &Form) -> bool {
     matches!(
-        apply(alloc, tree, op),
+        post(alloc, tree, target, form),
         Err(ApplyFault::Value(_, ValueFault::NotANumber(0)))
     ) && tree.node(target).is_none()
-}
-
-fn is_refused(alloc: Global, tree: &mut Tree, target: &Path, form: &Form) -> bool {
-    match plan(alloc, target, false, form) {
-        Ok(op) => is_left(alloc, tree, target, &op),
-        Err(_) => false,
-    }
 }
 
 // Whether a word that is no number is refused, and no node is there then.

@@ -48,7 +48,7 @@ pub(crate) fn change(
         "remove" => tree.remove(alloc, path),
         "copy" => tree.copy_to(alloc, path, other),
         "move" => tree.move_to(alloc, path, other),
-        "set" => tree.set(alloc, path, name, Value::Truth(true)),
+        "set z" => tree.set(alloc, path, "z", Value::Truth(true)),
         "unset" => unset(alloc, tree, path, name),
         _ => order(alloc, tree, path, word, name),
     }

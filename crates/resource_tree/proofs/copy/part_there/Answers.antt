@@ -1,8 +1,10 @@
-use Rattle.std.proofs.Common.{◌≡◌, ◌∙◌, not, ap, refl, take, map, cond, length, arith, None}
+use Rattle.std.proofs.Common.{rules, ◌≡◌, ◌≢◌, ◌∙◌, ℕ, Bool, List, true, not, sym, ap, refl, take, map, cond, length, arith, None}
 use Rattle.std.specs.Prelude.{option_map, unwrap_or}
 use Rattle.std.specs.List.{list_any}
 use Rattle.std.proofs.Math.Seq.{take-length}
+use Rattle.std.proofs.lemmas.List.Folds.{list_any_at}
 use Rattle.sp_base.specs.Paths.{is_path}
+use Rattle.resource_tree.specs.declared.faults.TreeFault.TheVariants.{NoMemory, TooDeep}
 use Rattle.resource_tree.specs.declared.patch.PatchNode.TheVariants as there
 use Rattle.resource_tree.specs.Content.{same_path, node_at, empty_node}
 use Rattle.resource_tree.specs.Moves.{path_there}
@@ -30,3 +32,12 @@ returns-clause-ok c = λ q.
     c.loop-path.invariant.0 q
     ∙ ap (λ l. cond (list_any (same_path q) (map (path_there c.args.source.now c.args.target.now) l)) (option_map there.Node (node_at c.args.nodes.now.entries (path_there c.args.target.now c.args.source.now q))) None) all
     ∙ all_there c.args.nodes.now.entries c.args.source.now c.args.target.now q c.args.paths.now c.requires.all
+
+pub returns-in_err-put_copy-clause-err : goal.returns-in_err-put_copy-clause-err
+returns-in_err-put_copy-clause-err c =
+    let test : List (List ℕ) → Bool = λ p. not (is_path (path_there c.args.source.now c.args.target.now p)) in
+    let known : c.in_err-put_copy.field-0.0 ≢ NoMemory → (c.in_err-put_copy.field-0.0 ≡ TooDeep) × (list_any test c.args.paths.now ≡ true) =
+    λ other.
+    let both = c.in_err-put_copy.ensures.err other in
+    (both.0, list_any_at test c.args.paths.now c.loop-path.path-index c.path-item.result c.loop-path-test.true (ap test (sym c.path-item.is) ∙ ap not both.1)) in
+    search rules
